@@ -1,0 +1,6 @@
+pub mod Seq
+pub mod Names
+pub mod Flags
+pub mod Types
+pub mod Body
+pub mod Field

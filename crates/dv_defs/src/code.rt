@@ -1,0 +1,127 @@
+// Instructions, payloads and bodies.
+ghost use Rattle.std.specs.Prelude.{◌≡◌};
+
+use crate::{Chars, FieldRef, MethodRef, Seq, Ty};
+use std::alloc::AllocError;
+use std::marker::Model;
+
+/// The registers of an instruction: the first `count` of `first`, in the order of the format's operands.
+/// In the range form there are `count` neighbouring registers, which begin at the first of `first`.
+#[derive(Clone, Copy, PartialEq, Eq, Debug)]
+pub struct Regs {
+    pub count: u8,
+    pub first: [u16; 5],
+    pub range: bool,
+}
+
+/// An instruction with its operands. A part that its format lacks is 0.
+/// `off` counts units from the instruction's own address, `index` is a place in a pool of its body.
+#[derive(Clone, Copy, PartialEq, Eq, Debug)]
+pub struct Insn {
+    pub op: u8,
+    pub regs: Regs,
+    pub lit: i64,
+    pub off: i32,
+    pub index: u32,
+}
+
+/// The data of a switch or of fill-array-data. Targets count units from the address of the switch,
+/// and `width` is the size of an element in bytes.
+#[derive(PartialEq, Eq, Debug, Drop)]
+pub enum Payload {
+    Packed { first: i32, targets: Seq<i32> },
+    Sparse { keys: Seq<i32>, targets: Seq<i32> },
+    Data { width: u16, bytes: Seq<u8> },
+}
+
+impl Clone for Payload {
+    ghost is_clone = { λ x y. y ≡ x };
+
+    fn clone(&self) -> Result<Payload, AllocError> {
+        match self {
+            Payload::Packed { first, targets } => Ok(Payload::Packed {
+                first: *first,
+                targets: targets.clone()?,
+            }),
+            Payload::Sparse { keys, targets } => Ok(Payload::Sparse {
+                keys: keys.clone()?,
+                targets: targets.clone()?,
+            }),
+            Payload::Data { width, bytes } => Ok(Payload::Data {
+                width: *width,
+                bytes: bytes.clone()?,
+            }),
+        }
+    }
+}
+
+/// An exception handler: the place of its type in the body's types, or none where it catches all, and its address.
+#[derive(Clone, Copy, PartialEq, Eq, Debug)]
+pub struct Handler {
+    pub kind: Option<u32>,
+    pub at: u32,
+}
+
+/// A try entry: it covers the addresses from `start` up to and without `end`.
+#[derive(PartialEq, Eq, Debug, Drop)]
+pub struct Try {
+    pub start: u32,
+    pub end: u32,
+    pub handlers: Seq<Handler>,
+}
+
+impl Clone for Try {
+    ghost is_clone = { λ x y. y ≡ x };
+
+    fn clone(&self) -> Result<Try, AllocError> {
+        Ok(Try {
+            start: self.start,
+            end: self.end,
+            handlers: self.handlers.clone()?,
+        })
+    }
+}
+
+/// The code of a method: its units of 16 bits with try entries, and the pools that its instructions name.
+/// A body has at most 256 registers and 16,384 units, and each handler's kind is a place in its pool of types.
+/// It is raw where it was written as units.
+#[derive(PartialEq, Eq, Debug, Drop)]
+pub struct Body {
+    pub registers: u16,
+    pub units: Seq<u16>,
+    pub tries: Seq<Try>,
+    pub strings: Seq<Chars>,
+    pub types: Seq<Ty>,
+    pub fields: Seq<FieldRef>,
+    pub methods: Seq<MethodRef>,
+    pub raw: bool,
+}
+
+impl Model for Body {
+    ghost use Rattle.dv_defs.specs.Body.{BodyValue, IsBody};
+
+    ghost Value = { BodyValue };
+
+    ghost view = { λ b. record { registers = b.registers; units = b.units; tries = b.tries; strings = b.strings; types = b.types; fields = b.fields; methods = b.methods; raw = b.raw } };
+
+    ghost invariant = { λ b. IsBody b.registers b.units b.tries b.types };
+
+    ghost inverse = { λ b. record { registers = b.registers; units = b.units; tries = b.tries; strings = b.strings; types = b.types; fields = b.fields; methods = b.methods; raw = b.raw } };
+}
+
+impl Clone for Body {
+    ghost is_clone = { λ x y. y ≡ x };
+
+    fn clone(&self) -> Result<Body, AllocError> {
+        Ok(Body {
+            registers: self.registers,
+            units: self.units.clone()?,
+            tries: self.tries.clone()?,
+            strings: self.strings.clone()?,
+            types: self.types.clone()?,
+            fields: self.fields.clone()?,
+            methods: self.methods.clone()?,
+            raw: self.raw,
+        })
+    }
+}

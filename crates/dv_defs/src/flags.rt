@@ -1,0 +1,38 @@
+// The flags of classes, fields and methods.
+ghost use Rattle.std.specs.Prelude.{◌≡◌};
+
+/// A flag of a class, a field or a method, in the order in which flags are printed.
+/// In a set of flags, a `u32`, a flag is the bit of its place in this order.
+#[derive(Clone, Copy, PartialEq, Eq, Debug)]
+pub enum Flag {
+    Public,
+    Private,
+    Protected,
+    Static,
+    Final,
+    Synchronized,
+    Volatile,
+    Bridge,
+    Transient,
+    Varargs,
+    Native,
+    Interface,
+    Abstract,
+    Strictfp,
+    Synthetic,
+    Annotation,
+    Enum,
+    Constructor,
+    DeclaredSynchronized,
+}
+
+impl Flag {
+    ghost use Rattle.dv_defs.specs.Flags.{has_flag};
+
+    /// Whether the flag is among these flags.
+    pub fn is_in(self, flags: u32) -> bool
+        ensures { result ≡ has_flag flags self }
+    {
+        (flags >> self as u32) % 2 == 1
+    }
+}

@@ -1,0 +1,24 @@
+//! The types that the crates of the machine share, and the definitions over them.
+#![tactic(auto)]
+
+mod class;
+mod code;
+mod faults;
+mod flags;
+mod image;
+mod machine;
+mod names;
+mod run;
+mod seq;
+mod typing;
+
+pub use class::{ClassDef, FieldDef, Init, MethodDef};
+pub use code::{Body, Handler, Insn, Payload, Regs, Try};
+pub use faults::{Fault, LineError, LineKind, LinkError, LinkKind, Rule, Which};
+pub use flags::Flag;
+pub use image::{ClassInfo, FieldInfo, Image, MethodInfo};
+pub use machine::{Ask, Blocked, End, Frame, Kind, Level, Pending};
+pub use names::{Base, Chars, ClassId, FieldId, FieldRef, MethodId, MethodRef, Proto, Text, Ty};
+pub use run::{Ending, Entry, Limits, Named, Native, Next, Value, Why};
+pub use seq::Seq;
+pub use typing::{PendingType, RegState, RegType};

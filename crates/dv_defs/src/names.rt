@@ -1,0 +1,226 @@
+// Texts, ids, types and references to members.
+ghost use Rattle.std.specs.Prelude.{◌≡◌};
+
+use crate::Seq;
+use std::alloc::AllocError;
+use std::marker::Model;
+
+/// Bytes of a text, mostly UTF-8.
+#[derive(Clone, PartialEq, Eq, Debug, Drop)]
+pub struct Text {
+    bytes: Seq<u8>,
+}
+
+impl Model for Text {
+    ghost use Rattle.std.specs.Prelude.{List, ℕ};
+
+    ghost Value = { List ℕ };
+
+    ghost view = { λ t. t.bytes };
+
+    ghost inverse = { λ b. record { bytes = b } };
+}
+
+impl Text {
+    pub fn of(bytes: Vec<u8>) -> Text
+        ensures { result ≡ bytes.items }
+    {
+        Text {
+            bytes: Seq::of(bytes),
+        }
+    }
+
+    pub fn bytes(&self) -> &[u8]
+        ensures { result.now ≡ self.now }
+    {
+        self.bytes.items()
+    }
+}
+
+/// Units of 16 bits of a guest string.
+#[derive(Clone, PartialEq, Eq, Debug, Drop)]
+pub struct Chars {
+    units: Seq<u16>,
+}
+
+impl Model for Chars {
+    ghost use Rattle.std.specs.Prelude.{List, ℕ};
+
+    ghost Value = { List ℕ };
+
+    ghost view = { λ t. t.units };
+
+    ghost inverse = { λ b. record { units = b } };
+}
+
+impl Chars {
+    pub fn of(units: Vec<u16>) -> Chars
+        ensures { result ≡ units.items }
+    {
+        Chars {
+            units: Seq::of(units),
+        }
+    }
+
+    pub fn units(&self) -> &[u16]
+        ensures { result.now ≡ self.now }
+    {
+        self.units.items()
+    }
+}
+
+/// The place of a class in the image.
+#[derive(Clone, Copy, PartialEq, Eq, PartialOrd, Ord, Debug)]
+pub struct ClassId(pub u32);
+
+/// The place of a method in the image.
+#[derive(Clone, Copy, PartialEq, Eq, PartialOrd, Ord, Debug)]
+pub struct MethodId(pub u32);
+
+/// The place of a field in the image.
+#[derive(Clone, Copy, PartialEq, Eq, PartialOrd, Ord, Debug)]
+pub struct FieldId(pub u32);
+
+/// A type without dimensions: the primitive types without floats, and a class by its descriptor.
+#[derive(PartialEq, Eq, Debug, Drop)]
+pub enum Base {
+    Z,
+    B,
+    C,
+    S,
+    I,
+    J,
+    Class(Text),
+}
+
+impl Clone for Base {
+    ghost is_clone = { λ x y. y ≡ x };
+
+    fn clone(&self) -> Result<Base, AllocError> {
+        match self {
+            Base::Z => Ok(Base::Z),
+            Base::B => Ok(Base::B),
+            Base::C => Ok(Base::C),
+            Base::S => Ok(Base::S),
+            Base::I => Ok(Base::I),
+            Base::J => Ok(Base::J),
+            Base::Class(x) => Ok(Base::Class(x.clone()?)),
+        }
+    }
+}
+
+impl Base {
+    ghost use Rattle.dv_defs.specs.Field.{number_fits};
+
+    /// Whether the number is one of this primitive type's.
+    pub fn holds(&self, n: i64) -> bool
+        ensures { result ≡ number_fits self.now n }
+    {
+        match self {
+            Base::Z => 0 <= n && n <= 1,
+            Base::B => -128 <= n && n <= 127,
+            Base::C => 0 <= n && n <= 65535,
+            Base::S => -32768 <= n && n <= 32767,
+            Base::I => -2147483648 <= n && n <= 2147483647,
+            Base::J => true,
+            Base::Class(_) => false,
+        }
+    }
+}
+
+/// A type: an array where `dims`, its number of dimensions, isn't 0.
+#[derive(PartialEq, Eq, Debug, Drop)]
+pub struct Ty {
+    pub dims: u8,
+    pub base: Base,
+}
+
+impl Clone for Ty {
+    ghost is_clone = { λ x y. y ≡ x };
+
+    fn clone(&self) -> Result<Ty, AllocError> {
+        Ok(Ty {
+            dims: self.dims,
+            base: self.base.clone()?,
+        })
+    }
+}
+
+impl Ty {
+    ghost use Rattle.dv_defs.specs.Types.{is_class, is_reference};
+
+    /// Whether the type is a class or an array.
+    pub fn is_reference(&self) -> bool
+        ensures { result ≡ is_reference self.now }
+    {
+        self.dims > 0 || matches!(self.base, Base::Class(_))
+    }
+
+    /// Whether the type is the class of this descriptor.
+    pub fn is_class(&self, name: &[u8]) -> bool
+        ensures { result ≡ is_class name.now self.now }
+    {
+        match &self.base {
+            Base::Class(own) => self.dims == 0 && own.bytes() == name,
+            _ => false,
+        }
+    }
+}
+
+/// The types of a method's parameters, and of its result where it has one.
+#[derive(PartialEq, Eq, Debug, Drop)]
+pub struct Proto {
+    pub params: Seq<Ty>,
+    pub ret: Option<Ty>,
+}
+
+impl Clone for Proto {
+    ghost is_clone = { λ x y. y ≡ x };
+
+    fn clone(&self) -> Result<Proto, AllocError> {
+        Ok(Proto {
+            params: self.params.clone()?,
+            ret: self.ret.clone()?,
+        })
+    }
+}
+
+/// A field as an instruction names it.
+#[derive(PartialEq, Eq, Debug, Drop)]
+pub struct FieldRef {
+    pub class: Ty,
+    pub name: Text,
+    pub ty: Ty,
+}
+
+impl Clone for FieldRef {
+    ghost is_clone = { λ x y. y ≡ x };
+
+    fn clone(&self) -> Result<FieldRef, AllocError> {
+        Ok(FieldRef {
+            class: self.class.clone()?,
+            name: self.name.clone()?,
+            ty: self.ty.clone()?,
+        })
+    }
+}
+
+/// A method as an instruction names it.
+#[derive(PartialEq, Eq, Debug, Drop)]
+pub struct MethodRef {
+    pub class: Ty,
+    pub name: Text,
+    pub proto: Proto,
+}
+
+impl Clone for MethodRef {
+    ghost is_clone = { λ x y. y ≡ x };
+
+    fn clone(&self) -> Result<MethodRef, AllocError> {
+        Ok(MethodRef {
+            class: self.class.clone()?,
+            name: self.name.clone()?,
+            proto: self.proto.clone()?,
+        })
+    }
+}
