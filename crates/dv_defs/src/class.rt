@@ -28,6 +28,7 @@ impl Clone for Init {
 }
 
 const STRING: &[u8] = b"Ljava/lang/String;";
+
 const OBJECT: &[u8] = b"Ljava/lang/Object;";
 
 impl Init {

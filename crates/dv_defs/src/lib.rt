@@ -22,3 +22,6 @@ pub use names::{Base, Chars, ClassId, FieldId, FieldRef, MethodId, MethodRef, Pr
 pub use run::{Ending, Entry, Limits, Named, Native, Next, Value, Why};
 pub use seq::Seq;
 pub use typing::{PendingType, RegState, RegType};
+
+#[cfg(test)]
+mod tests;

@@ -1,0 +1,205 @@
+// Each call once, and what no clause says.
+use crate::*;
+use std::alloc::{AllocError, Global};
+use std::test::Fail;
+
+fn text(alloc: Global, bytes: &[u8]) -> Result<Text, AllocError> {
+    Ok(Text::of(Vec::from_slice(alloc, bytes)?))
+}
+
+fn class_of(alloc: Global, dims: u8, name: &[u8]) -> Result<Ty, AllocError> {
+    Ok(Ty {
+        dims,
+        base: Base::Class(text(alloc, name)?),
+    })
+}
+
+#[test]
+fn a_seq_keeps_its_items(rt: HostRuntime) -> Result<(), Fail> {
+    let mut seq = Seq::of(vec![in rt.alloc(); 1u8, 2]?);
+    seq.reserve(4)?;
+    seq.push(3)?;
+    assert_eq!(rt; seq.items(), [1, 2, 3].as_slice());
+    assert_eq!(rt; seq.len(), 3);
+    assert_eq!(rt; seq.pop(), Some(3));
+    assert!(rt; !seq.is_empty());
+    let items = seq.items_mut();
+    assert_eq!(rt; items.len(), 2);
+    items[0] = 9;
+    let copy = seq.clone()?;
+    assert_eq!(rt; copy, seq);
+    assert_eq!(rt; seq.into_vec().as_slice(), [9, 2].as_slice());
+    Ok(())
+}
+
+#[test]
+fn texts_and_chars_are_their_items(rt: HostRuntime) -> Result<(), Fail> {
+    let name = text(rt.alloc(), b"LMain;")?;
+    assert_eq!(rt; name.bytes(), b"LMain;".as_slice());
+    assert_eq!(rt; name.clone()?, name);
+    let chars = Chars::of(vec![in rt.alloc(); 0xd800u16, 0x41]?);
+    assert_eq!(rt; chars.units(), [0xd800, 0x41].as_slice());
+    assert_eq!(rt; chars.clone()?, chars);
+    Ok(())
+}
+
+#[test]
+fn flags_are_bits_in_printing_order(rt: HostRuntime) -> Result<(), Fail> {
+    let rows = [
+        (Flag::Public, 1),
+        (Flag::Private, 2),
+        (Flag::Static, 8),
+        (Flag::Final, 16),
+        (Flag::Native, 1024),
+        (Flag::Interface, 2048),
+        (Flag::Abstract, 4096),
+        (Flag::DeclaredSynchronized, 262144),
+    ];
+    for (flag, bit) in rows {
+        assert!(rt; flag.is_in(bit));
+        assert!(rt; !flag.is_in(!bit));
+    }
+    Ok(())
+}
+
+#[test]
+fn a_number_is_of_the_types_that_hold_it(rt: HostRuntime) -> Result<(), Fail> {
+    let rows = [
+        (Base::Z, 1, 2),
+        (Base::Z, 0, -1),
+        (Base::B, -128, 128),
+        (Base::B, 127, -129),
+        (Base::C, 65535, -1),
+        (Base::S, -32768, 32768),
+        (Base::I, 2147483647, 2147483648),
+        (Base::I, -2147483648, -2147483649),
+    ];
+    for (base, inside, outside) in rows {
+        assert!(rt; base.holds(inside));
+        assert!(rt; !base.holds(outside));
+    }
+    assert!(rt; Base::J.holds(i64::MIN));
+    assert!(rt; !Base::Class(text(rt.alloc(), b"LMain;")?).holds(0));
+    Ok(())
+}
+
+#[test]
+fn a_value_stands_on_a_static_field_that_it_fits(rt: HostRuntime) -> Result<(), Fail> {
+    let alloc = rt.alloc();
+    let string = class_of(alloc, 0, b"Ljava/lang/String;")?;
+    let object = class_of(alloc, 0, b"Ljava/lang/Object;")?;
+    let strings = class_of(alloc, 1, b"Ljava/lang/String;")?;
+    let int = Ty {
+        dims: 0,
+        base: Base::I,
+    };
+    let greeting = Init::Str(Chars::of(vec![in alloc; 0x68u16, 0x69]?));
+    assert!(rt; greeting.fits(&string) && greeting.fits(&object));
+    assert!(rt; !greeting.fits(&strings) && !greeting.fits(&int));
+    assert!(rt; Init::Null.fits(&strings) && !Init::Null.fits(&int));
+    assert!(rt; strings.is_reference() && !int.is_reference());
+    assert!(rt; object.is_class(b"Ljava/lang/Object;") && !strings.is_class(b"Ljava/lang/String;"));
+    assert!(rt; Init::Num(5).may_stand(&int, 8) && !Init::Num(5).may_stand(&int, 0));
+    assert!(rt; Init::Absent.may_stand(&int, 0) && !Init::Num(5).may_stand(&string, 8));
+    Ok(())
+}
+
+fn println_ref(alloc: Global) -> Result<MethodRef, AllocError> {
+    let mut params = Vec::new(alloc);
+    params.push(Ty {
+        dims: 0,
+        base: Base::I,
+    })?;
+    Ok(MethodRef {
+        class: class_of(alloc, 0, b"Ldvm/Console;")?,
+        name: text(alloc, b"println")?,
+        proto: Proto {
+            params: Seq::of(params),
+            ret: None,
+        },
+    })
+}
+
+fn small_body(alloc: Global) -> Result<Body, AllocError> {
+    let mut methods = Vec::new(alloc);
+    methods.push(println_ref(alloc)?)?;
+    Ok(Body {
+        registers: 1,
+        units: Seq::of(vec![in alloc; 0x1071u16, 0, 0, 0x000e]?),
+        tries: Seq::of(Vec::new(alloc)),
+        strings: Seq::of(Vec::new(alloc)),
+        types: Seq::of(Vec::new(alloc)),
+        fields: Seq::of(Vec::new(alloc)),
+        methods: Seq::of(methods),
+        raw: false,
+    })
+}
+
+#[test]
+fn a_class_is_cloned_whole(rt: HostRuntime) -> Result<(), Fail> {
+    let alloc = rt.alloc();
+    let mut fields = Vec::new(alloc);
+    fields.push(FieldDef {
+        name: text(alloc, b"total")?,
+        ty: Ty {
+            dims: 0,
+            base: Base::I,
+        },
+        flags: 8,
+        init: Init::Num(5),
+    })?;
+    let mut methods = Vec::new(alloc);
+    methods.push(MethodDef {
+        name: text(alloc, b"main")?,
+        proto: Proto {
+            params: Seq::of(Vec::new(alloc)),
+            ret: None,
+        },
+        flags: 8,
+        body: Some(small_body(alloc)?),
+    })?;
+    let class = ClassDef {
+        name: text(alloc, b"LMain;")?,
+        parent: Some(text(alloc, b"Ljava/lang/Object;")?),
+        interfaces: Seq::of(Vec::new(alloc)),
+        flags: 0,
+        fields: Seq::of(fields),
+        methods: Seq::of(methods),
+        line: 1,
+    };
+    assert_eq!(rt; class.clone()?, class);
+    Ok(())
+}
+
+#[test]
+fn a_frame_and_a_state_are_cloned_whole(rt: HostRuntime) -> Result<(), Fail> {
+    let alloc = rt.alloc();
+    let frame = Frame {
+        method: MethodId(3),
+        at: 4,
+        regs: Seq::of(vec![in alloc; Value::Undef, Value::Num(-1)]?),
+        result: Pending::Two(1, 2),
+        caught: Some(7),
+        this_pending: true,
+    };
+    let level = Level::Code(frame);
+    assert_eq!(rt; level.clone()?, level);
+    let mut regs = Vec::new(alloc);
+    regs.push(RegType::Class(class_of(alloc, 1, b"LMain;")?))?;
+    regs.push(RegType::Uninit(6))?;
+    let state = RegState {
+        regs: Seq::of(regs),
+        result: PendingType::One(RegType::Int),
+        caught: None,
+        this_pending: false,
+    };
+    assert_eq!(rt; state.clone()?, state);
+    Ok(())
+}
+
+#[test]
+fn want_of_memory_is_an_error_of_its_own(rt: HostRuntime) -> Result<(), Fail> {
+    assert_eq!(rt; LineError::from(AllocError), LineError::Memory);
+    assert_eq!(rt; LinkError::from(AllocError), LinkError::Memory);
+    Ok(())
+}
