@@ -1,5 +1,5 @@
 // The flags of classes, fields and methods.
-ghost use Rattle.std.specs.Prelude.{◌≡◌};
+ghost use Rattle.std.specs.Prelude.{◌≡◌, ◌^◌};
 
 /// A flag of a class, a field or a method, in the order in which flags are printed.
 /// In a set of flags, a `u32`, a flag is the bit of its place in this order.
@@ -27,7 +27,14 @@ pub enum Flag {
 }
 
 impl Flag {
-    ghost use Rattle.dv_defs.specs.Flags.{has_flag};
+    ghost use Rattle.dv_defs.specs.Flags.{place_of, has_flag};
+
+    /// The set of this flag alone.
+    pub fn bit(self) -> u32
+        ensures { result ≡ 2 ^ place_of self }
+    {
+        1 << self as u32
+    }
 
     /// Whether the flag is among these flags.
     pub fn is_in(self, flags: u32) -> bool

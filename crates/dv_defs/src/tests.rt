@@ -56,6 +56,7 @@ fn flags_are_bits_in_printing_order(rt: HostRuntime) -> Result<(), Fail> {
         (Flag::DeclaredSynchronized, 262144),
     ];
     for (flag, bit) in rows {
+        assert_eq!(rt; flag.bit(), bit);
         assert!(rt; flag.is_in(bit));
         assert!(rt; !flag.is_in(!bit));
     }
