@@ -1,0 +1,19 @@
+use Rattle.std.proofs.Common.{arith, ◌∙◌, ap, sym, length, take, ◌≤◌, subst, List, ℕ, IfSome, ◌≡◌, [], Ok, ◌+◌, length-append}
+use Rattle.std.proofs.lemmas.List.{length-take}
+use Rattle.dv_top.specs.Pieces.{ReadSoFar}
+use Rattle.dv_top.proofs.PieceLemmas.{read_more, read_all_at_end, read_all_past}
+use Rattle.dv_top.proofs.reading.read_all.Goals as goal
+
+pub returns-then-n-eq0-clause-all : goal.returns-then-n-eq0-clause-all
+returns-then-n-eq0-clause-all g c =
+    read_all_at_end _ _ _ c.read.invariant.1 (omega arith) (c.in_ok-n.ensures.end (ap Ok c.if-n-eq0.true))
+
+pub read-preserved : goal.read-preserved
+read-preserved g c =
+    let fits : c.in_ok-n.n ≤ length c.read-in-read.new.room = omega (arith, c.in_ok-n.ensures.fits, c.read-in-read.auto.room) in
+    let so = read_more _ _ _ c.read.text.items c.read-in-read.new.room c.in_ok-n.n c.read.invariant.1 fits c.in_ok-n.ensures.after c.in_ok-n.ensures.copied in
+    let size : length c.read.text.items + c.in_ok-n.n ≤ 8388609 = omega (arith, c.in_ok-n.ensures.fits, length-take c.min-most.result c.read.room) in
+    rw c.in_ok-extend_from_slice.ensures.items (omega (arith, length-append c.read.text.items (take c.in_ok-n.n c.read-in-read.new.room), length-take c.in_ok-n.n c.read-in-read.new.room), so, omega arith)
+
+pub returns-clause-all : goal.returns-clause-all
+returns-clause-all g c = read_all_past _ _ _ c.read.invariant.1 (omega arith)

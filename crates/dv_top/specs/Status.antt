@@ -1,0 +1,24 @@
+-- The numbers of the statuses.
+use Rattle.std.specs.Prelude.{ℕ, ◌≢◌}
+use Rattle.dv_top.specs.declared.status.Status.{Status}
+use Rattle.dv_top.specs.declared.status.Status.TheVariants as status
+
+abbrev pub code_of : Status → ℕ
+code_of status.Done = 0
+code_of status.Usage = 2
+code_of status.ReadFault = 3
+code_of status.WriteFault = 4
+code_of status.Refused = 6
+code_of status.HeapFull = 7
+code_of status.StackFull = 8
+code_of status.Blocked = 9
+code_of status.Spent = 10
+code_of status.NoMemory = 11
+code_of status.TooLarge = 13
+code_of status.NotBuilt = 14
+
+-- a status that tells what was found of the words and the text, and no fault from outside
+pub record IsFound (s : Status) : Type 0 where
+  pub no_read_fault : code_of s ≢ 3
+  pub no_write_fault : code_of s ≢ 4
+  pub no_want : code_of s ≢ 11

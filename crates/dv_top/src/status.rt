@@ -1,0 +1,57 @@
+// The exit status of a call.
+ghost use Rattle.std.specs.Prelude.{◌≡◌};
+
+use dv_defs::Ending;
+
+/// The exit status of a call, with the number that the system sees.
+#[derive(Clone, Copy, PartialEq, Eq, Debug)]
+pub enum Status {
+    /// The run ended as its thread returned.
+    Done = 0,
+    /// The words aren't read.
+    Usage = 2,
+    /// The source failed.
+    ReadFault = 3,
+    /// The sink failed.
+    WriteFault = 4,
+    /// The verifier refused the program.
+    Refused = 6,
+    /// The heap is full.
+    HeapFull = 7,
+    /// A thread's stack is full.
+    StackFull = 8,
+    /// No thread is runnable.
+    Blocked = 9,
+    /// The budget of steps or of printed bytes is spent.
+    Spent = 10,
+    /// Memory is wanting.
+    NoMemory = 11,
+    /// The text is too large.
+    TooLarge = 13,
+    /// The text has a form that isn't built yet.
+    NotBuilt = 14,
+}
+
+impl Status {
+    ghost use Rattle.dv_top.specs.Status.{code_of, IsFound};
+
+    /// The number of the status.
+    pub fn code(self) -> u8
+        ensures { result ≡ code_of self }
+    {
+        self as u8
+    }
+
+    /// The status of a run that ended so.
+    pub fn of(ending: Ending) -> Status
+        ensures { IsFound result }
+    {
+        match ending {
+            Ending::Done => Status::Done,
+            Ending::HeapFull(_) => Status::HeapFull,
+            Ending::StackFull(_) => Status::StackFull,
+            Ending::NoRunnable => Status::Blocked,
+            Ending::Steps | Ending::Output => Status::Spent,
+        }
+    }
+}

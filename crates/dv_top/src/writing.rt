@@ -1,0 +1,20 @@
+// Writes all of a text to a sink.
+ghost use Rattle.std.specs.Prelude.{◌≡◌, ◌≤◌, OnOk, OnErr};
+ghost use Rattle.dv_io.specs.Io.{HasRisen, after_write};
+ghost use Rattle.dv_top.specs.Pieces.{TookPart};
+
+use dv_io::{Failed, Sink};
+
+pub fn write_all<K: Sink>(sink: &mut K, text: &[u8]) -> Result<(), Failed>
+    ensures ok { OnOk result (K.taken sink.new ≡ after_write text.now (K.taken sink.old)) }
+    ensures part { TookPart (K.taken sink.old) (K.taken sink.new) text.now }
+    ensures count { K.faults sink.old ≤ K.faults sink.new }
+    ensures failed { OnErr result (HasRisen (K.faults sink.old) (K.faults sink.new)) }
+{
+    let mut at = 0;
+    'write: while at < text.len() {
+        let n = sink.write(&text[at..])?;
+        at += n;
+    }
+    Ok(())
+}
