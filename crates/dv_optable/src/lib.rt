@@ -1,0 +1,19 @@
+//! The table of Dalvik's opcodes: the name, format and family of each, whether its instruction can
+//! throw and whether it is local; which opcodes are those of floats; and the opcode of a name. Source:
+//! the pages "Dalvik bytecode" and "Dalvik executable instruction formats" of the Android documents.
+//! No function allocates.
+#![tactic(auto)]
+
+mod family;
+mod format;
+mod kind;
+mod row;
+mod table;
+#[cfg(test)]
+mod tests;
+
+pub use family::{Bin, Call, Family, Suffix, Test, Unary, Width};
+pub use format::Format;
+pub use kind::kind_of;
+pub use row::{Row, is_float, name_to_opcode, row_of};
+pub use table::table_rises;
