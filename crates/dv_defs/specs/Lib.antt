@@ -4,3 +4,5 @@ pub mod Flags
 pub mod Types
 pub mod Body
 pub mod Field
+pub mod Formats
+pub mod Spelling

@@ -1,0 +1,56 @@
+-- What a format's reader says of the instructions that stand in units.
+use Rattle.std.proofs.Common.{◌≡◌, ℕ, ◌+◌, ◌-◌, ◌%◌, ◌<◌, ◌≤◌, List, length, take, drop, get_or, Option, None, Some, MatchOption, refl, sym, ◌∙◌, ap, subst, arith, length-drop, add-zero}
+use Rattle.std.proofs.lemmas.List.{get_or-take, get_or-drop, length-take-le}
+use Rattle.dv_defs.specs.declared.code.Insn.{Insn}
+use Rattle.dv_defs.specs.Formats.{Format, units_of, format_at, size_at, size_by}
+use Rattle.dv_defs.specs.Spelling.{spelling, spelling_by, spelling_in}
+use Rattle.dv_defs.proofs.SpellingFormats.{begins}
+use Rattle.dv_defs.proofs.SpellingLaws.{Stands, stands, stands_by_opcode, unique_where_both_stand, units_of_positive}
+use Rattle.dv_units.specs.Reading.{StandAt, NoneStandsAt, IsReading, opcode_at}
+
+opcode_first : (units : List ℕ) (at : ℕ) → get_or (drop at units) 0 0 % 256 ≡ opcode_at units at
+opcode_first units at = ap (λ n. n % 256) (get_or-drop at units 0 0 ∙ ap (λ k. get_or units k 0) (add-zero at))
+
+-- an instruction that stands at an address
+pub record IsAt (i : Insn) (us units : List ℕ) (at : ℕ) : Type 0 where
+  pub opcode : i.op ≡ opcode_at units at
+  pub size : length us ≡ size_at (opcode_at units at)
+  pub room : size_at (opcode_at units at) ≤ length units - at
+
+pub is_at : (i : Insn) (us units : List ℕ) (at : ℕ) → spelling i ≡ Some us → StandAt us units at → IsAt i us units at
+is_at i us units at p e =
+    let (f, s) = stands i us (drop at units) p e in
+    let op : i.op ≡ opcode_at units at = s.opcode ∙ opcode_first units at in
+    let size : size_at (opcode_at units at) ≡ units_of f = ap size_by (sym (ap format_at op) ∙ s.format) in
+    record {
+      opcode = op;
+      size = s.size ∙ sym size;
+      room = omega (arith, size, s.whole, length-drop at units)
+    }
+
+-- what the reader of the opcode's format gives stands there
+pub reads_there : (f : Format) (i : Insn) (units : List ℕ) (at : ℕ) → format_at (opcode_at units at) ≡ Some f → spelling_in f i ≡ Some (take (units_of f) (drop at units)) → spelling i ≡ Some (take (units_of f) (drop at units))
+reads_there f i units at h p =
+    let first = get_or-take (units_of f) (drop at units) 0 0 (units_of_positive f) in
+    let op : i.op ≡ opcode_at units at = sym (begins f i _ p).1 ∙ ap (λ n. n % 256) first ∙ opcode_first units at in
+    ap (λ o. spelling_by o i) (ap format_at op ∙ h) ∙ p
+
+-- where the reader finds none, none stands there
+pub none_there : (f : Format) (units : List ℕ) (at : ℕ) → format_at (opcode_at units at) ≡ Some f → IsReading (spelling_in f) (take (units_of f) (drop at units)) None → NoneStandsAt units at
+none_there f units at h none i us p e =
+    none i (stands_by_opcode f i us (drop at units) (ap format_at (opcode_first units at) ∙ h) p e).units
+
+pub stands_there : (n : ℕ) (units : List ℕ) (at : ℕ) → n ≤ length units - at → StandAt (take n (drop at units)) units at
+stands_there n units at h = ap (λ k. take k (drop at units)) (sym (length-take-le n (drop at units) (omega (arith, length-drop at units))))
+
+-- one instruction alone stands there
+pub only_there : (i j : Insn) (us units : List ℕ) (at n : ℕ) → n ≡ size_at (opcode_at units at) → n ≤ length units - at → spelling i ≡ Some (take n (drop at units)) → spelling j ≡ Some us → StandAt us units at → (i ≡ j) × (n ≡ length us)
+only_there i j us units at n size h p q e =
+    (unique_where_both_stand i j _ us (drop at units) p (stands_there n units at h) q e, size ∙ sym (is_at j us units at q e).size)
+
+-- what a reader's answer says of the address
+pub from_reader : (f : Format) (o : Option Insn) (units rest : List ℕ) (at : ℕ) → rest ≡ drop at units → format_at (opcode_at units at) ≡ Some f → IsReading (spelling_in f) (take (units_of f) rest) o → MatchOption o (NoneStandsAt units at) (λ i. spelling i ≡ Some (take (units_of f) (drop at units)))
+from_reader f None units rest at e h r =
+    let P : List ℕ → Type 0 = λ us. IsReading (spelling_in f) (take (units_of f) us) None in
+    none_there f units at h (subst P e r)
+from_reader f (Some i) units rest at e h r = reads_there f i units at h (r ∙ ap (λ us. Some (take (units_of f) us)) e)

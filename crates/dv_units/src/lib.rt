@@ -1,0 +1,21 @@
+//! Dalvik instructions as 16-bit units: `encode` writes the units that spell an instruction, and `decode` reads the
+//! instruction that they spell. The formats are those of AOSP's page "Dalvik executable instruction formats".
+#![tactic(auto)]
+
+mod error;
+mod fields;
+mod format;
+mod laws;
+mod read;
+mod readers;
+mod shape;
+mod spelled;
+#[cfg(test)]
+mod tests;
+mod write;
+mod writers;
+
+pub use error::UnitError;
+pub use laws::{decode_of_encode, encode_of_decode, spellings_are_apart};
+pub use read::decode;
+pub use write::encode;
