@@ -1,5 +1,5 @@
 -- The rules of the table: each is computed over the whole table or all 256 opcodes, and then holds at each.
-use Rattle.std.proofs.Common.{◌≡◌, ℕ, suc, ◌+◌, ◌<◌, ◌&&◌, Bool, true, false, IsTrue, IsNone, IfSome, List, [], ◌∷◌, map, length, slice_index, slice_get, refl, sym, ◌∙◌, ap, ap₂, subst, arith, Option, Some, None, option_map, option_and_then, is_some, nat_lt, bytes_eq, Decides, if◌then◌else◌}
+use Rattle.std.proofs.Common.{◌≡◌, ℕ, suc, ◌+◌, ◌<◌, ◌&&◌, ◌||◌, ◌==◌, Bool, true, false, IsTrue, IsNone, IfSome, List, [], ◌∷◌, map, length, slice_index, slice_get, refl, sym, ◌∙◌, ap, ap₂, subst, arith, Option, Some, None, option_map, option_and_then, is_some, nat_lt, bytes_eq, Decides, if◌then◌else◌}
 use Rattle.std.proofs.lemmas.Bool.{ltb-true}
 use Rattle.std.proofs.lemmas.Option.{slice_get-map}
 use Rattle.std.proofs.lemmas.Slice.Eq.{bytes_eq-Decides}
@@ -7,7 +7,7 @@ use Rattle.std.specs.List.{range_with_len}
 use Rattle.std.specs.List.Sorted.{IsStrictlyIncreasing}
 use Rattle.std.specs.Prelude.{unwrap_or}
 use Rattle.dv_optable.specs.Families.{family_at, format_at, can_throw, is_local}
-use Rattle.dv_optable.specs.Table.{table, entry_at, Entry, opcode_named, opcode_in, float_at}
+use Rattle.dv_optable.specs.Table.{table, entry_at, Entry, opcode_named, opcode_in, float_at, is_return, IsPlain}
 use Rattle.dv_optable.specs.Row.{shown}
 use Rattle.dv_optable.specs.declared.row.Row.{Row}
 use Rattle.dv_optable.proofs.Rows.{agree, named_entry}
@@ -139,3 +139,37 @@ pub found-laws : (name : List ℕ) (found : Option ℕ) → found ≡ opcode_nam
 }
 found-laws name None same = record { opcode = same; named = tt }
 found-laws name (Some op) same = record { opcode = same; named = named-back name op (sym same) }
+
+-- ---- no two opcodes have one name
+
+name_of_entry : (a : ℕ) (e : Entry) → a < 256 → entry_at a ≡ Some e → opcode_named e.name ≡ Some a
+name_of_entry a e below is =
+    ap (option_and_then (λ e. opcode_named e.name)) (sym is)
+    ∙ (agree (λ op. option_and_then (λ e. opcode_named e.name) (entry_at op)) (λ op. option_map (λ e. op) (entry_at op)) 256 a all_named below
+    ∙ ap (option_map (λ e. a)) is)
+
+pub distinct_names : (a b : ℕ) (e f : Entry) → a < 256 → b < 256 → entry_at a ≡ Some e → entry_at b ≡ Some f → e.name ≡ f.name → a ≡ b
+distinct_names a b e f below_a below_b is_a is_b same =
+    some-injective a b (sym (name_of_entry a e below_a is_a) ∙ (ap opcode_named same ∙ name_of_entry b f below_b is_b))
+
+-- ---- local instructions
+
+abbrev breaks_rule : ℕ → Entry → Bool
+breaks_rule op e = e.local && (e.throws || (is_return op || op == 0x20))
+
+all_plain : map (λ op. unwrap_or (option_map (breaks_rule op) (entry_at op)) false) (range_with_len 0 256) ≡ map (λ op. false) (range_with_len 0 256)
+unfolding table entry_at
+all_plain = refl
+
+none_of : (throws return instance : Bool) → (throws || (return || instance)) ≡ false → (throws ≡ false) × (return ≡ false) × (instance ≡ false)
+none_of false false false h = (refl, refl, refl)
+none_of false false true h = absurd (cc)
+none_of false true i h = absurd (cc)
+none_of true r i h = absurd (cc)
+
+pub local_plain : (op : ℕ) (e : Entry) → op < 256 → entry_at op ≡ Some e → IsTrue e.local → IsPlain op e
+local_plain op e below is is_local =
+    let kept : breaks_rule op e ≡ false = ap (λ o. unwrap_or (option_map (breaks_rule op) o) false) (sym is) ∙ agree (λ op. unwrap_or (option_map (breaks_rule op) (entry_at op)) false) (λ op. false) 256 op all_plain below in
+    let rest : (e.throws || (is_return op || op == 0x20)) ≡ false = ap (λ l. l && (e.throws || (is_return op || op == 0x20))) (sym is_local) ∙ kept in
+    let parts = none_of e.throws (is_return op) (op == 0x20) rest in
+    record { no_throw = parts.0; no_return = parts.1; no_instance_of = parts.2 }

@@ -1,5 +1,5 @@
 -- The table of opcodes, as the page "Dalvik bytecode" of the Android documents has it, without those of floats.
-use Rattle.std.specs.Prelude.{ℕ, ◌-◌, ◌==◌, ◌||◌, nat_lt, Bool, true, false, List, [], ◌∷◌, map, Option, Some, None, find, codes, bytes_eq, if◌then◌else◌}
+use Rattle.std.specs.Prelude.{ℕ, ◌≡◌, ◌-◌, ◌==◌, ◌||◌, nat_lt, Bool, true, false, List, [], ◌∷◌, map, Option, Some, None, find, codes, bytes_eq, if◌then◌else◌}
 use Rattle.std.specs.Int.{is_in_range}
 use Rattle.dv_optable.specs.declared.format.Format.{Format}
 use Rattle.dv_optable.specs.declared.format.Format.TheVariants as f
@@ -211,6 +211,16 @@ table =
 -- the entry of an opcode, where it has one
 unfoldable pub entry_at : ℕ → Option Entry
 entry_at op = find (λ e. e.opcode == op) table
+
+-- return-void, return, return-wide, return-object
+abbrev pub is_return : ℕ → Bool
+is_return op = is_in_range 0x0e 0x11 op
+
+-- what a local instruction is: it can't throw, and is no return and no instance-of
+pub record IsPlain (op : ℕ) (e : Entry) : Type 0 where
+  pub no_throw : e.throws ≡ false
+  pub no_return : is_return op ≡ false
+  pub no_instance_of : (op == 0x20) ≡ false
 
 -- the first opcode with a name, in a list of names with their opcodes and in the table
 abbrev pub opcode_in : List (List ℕ × ℕ) → List ℕ → Option ℕ

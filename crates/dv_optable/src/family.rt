@@ -131,8 +131,7 @@ impl Bin {
 }
 
 impl Family {
-    /// Whether an instruction of the family can throw. Unlike in Dalvik an instance-of never does,
-    /// since its class was found before the program runs.
+    /// Whether an instruction of the family can throw. Unlike in Dalvik an instance-of never does.
     pub fn can_throw(self) -> bool
         ensures { result ≡ can_throw self }
     {
@@ -160,7 +159,26 @@ impl Family {
             | Family::IntTwo(operation)
             | Family::LongTwo(operation)
             | Family::IntLit(operation) => operation.divides(),
-            _ => false,
+            Family::Nop
+            | Family::Move(_)
+            | Family::MoveResult(_)
+            | Family::MoveException
+            | Family::ReturnVoid
+            | Family::Return(_)
+            | Family::Const
+            | Family::ConstWide
+            | Family::Goto
+            | Family::PackedSwitch
+            | Family::SparseSwitch
+            | Family::CmpLong
+            | Family::If(_)
+            | Family::IfZero(_)
+            | Family::IntUnary(_)
+            | Family::LongUnary(_)
+            | Family::IntToLong
+            | Family::LongToInt => false,
+            // Its class was found before the program runs.
+            Family::InstanceOf => false,
         }
     }
 
@@ -170,7 +188,7 @@ impl Family {
         ensures { result ≡ is_local self }
     {
         match self {
-            Family::ReturnVoid | Family::Return(_) | Family::InstanceOf => false,
+            Family::InstanceOf | Family::ReturnVoid | Family::Return(_) => false,
             _ => !self.can_throw(),
         }
     }

@@ -16,4 +16,4 @@ pub use family::{Bin, Call, Family, Suffix, Test, Unary, Width};
 pub use format::Format;
 pub use kind::kind_of;
 pub use row::{Row, is_float, name_to_opcode, row_of};
-pub use table::table_rises;
+pub use table::{local_rows_are_plain, names_are_distinct, table_rises};

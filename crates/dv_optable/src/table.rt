@@ -1,8 +1,8 @@
 //! The opcodes with their names and formats, from the page "Dalvik bytecode" of the Android documents.
 
-ghost use Rattle.std.specs.Prelude.{◌≡◌, map, length};
+ghost use Rattle.std.specs.Prelude.{◌≡◌, ◌<◌, ℕ, Some, IsTrue, map, length};
 ghost use Rattle.std.specs.List.Sorted.{IsStrictlyIncreasing};
-ghost use Rattle.dv_optable.specs.Table.{table};
+ghost use Rattle.dv_optable.specs.Table.{table, entry_at, Entry, IsPlain};
 
 use crate::format::Format;
 
@@ -199,4 +199,14 @@ pub(crate) static OPCODES: [Opcode; 182] = [
 pub fn table_rises()
     ensures count { length table ≡ 182 }
     ensures rising { IsStrictlyIncreasing (map (λ e. e.opcode) table) }
+{}
+
+/// Says by its clause that no two opcodes have one name; it does nothing.
+pub fn names_are_distinct()
+    ensures { (a b : ℕ) (e f : Entry) → a < 256 → b < 256 → entry_at a ≡ Some e → entry_at b ≡ Some f → e.name ≡ f.name → a ≡ b }
+{}
+
+/// Says by its clause that a local instruction can't throw, and is no return and no instance-of; it does nothing.
+pub fn local_rows_are_plain()
+    ensures { (op : ℕ) (e : Entry) → op < 256 → entry_at op ≡ Some e → IsTrue e.local → IsPlain op e }
 {}
