@@ -36,8 +36,8 @@ insn_eq-Decides i j =
 pub insn_eq_tells : (i j : Insn) → ((insn_eq i j ≡ true) × (i ≡ j)) ⊎ ((insn_eq i j ≡ false) × (i ≢ j))
 insn_eq_tells i j =
     elim (cases_Bool (insn_eq i j)) [
-      inl h ↦ inl (h, (insn_eq-Decides i j).0 h)
-    | inr h ↦ inr (h, λ e. false≢true (cc ((insn_eq-Decides i j).1 e)))
+      | inl h ↦ inl (h, (insn_eq-Decides i j).0 h)
+      | inr h ↦ inr (h, λ e. false≢true (cc ((insn_eq-Decides i j).1 e)))
     ]
 
 -- for goals on the form of an instruction and on numbers that fit

@@ -16,5 +16,5 @@ spelled_is i form t us vs p = record {
   form_of = grind (arith, form_tests);
   opcode = grind (arith, form_tests);
   fitting = grind (arith, form_tests);
-  units = grind (arith, form_tests)
+  units = grind (arith, form_tests);
 }

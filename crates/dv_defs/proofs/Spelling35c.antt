@@ -51,7 +51,7 @@ at_form a o c d e f g u b w v p hu hb hw ha hz hf =
     record {
       form = same_form _ _ _ _ _ _ _ _ (sym n.2) (sym n.0) (sym hb) (sym ws);
       few = rw n.0 (leb-true a 5 ha);
-      unused = rw (n.0, ws) hz
+      unused = rw (n.0, ws) hz;
     }
 
 pub fields_35c : (i : Insn) (u b w : ℕ) → spelling_35c i ≡ Some (u ∷ b ∷ w ∷ []) → Fields35c i u b w

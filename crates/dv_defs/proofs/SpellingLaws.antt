@@ -40,7 +40,7 @@ stands_in f i us rest s e =
       format = s.format;
       size = b.0;
       whole = omega (arith, ap length e, length-take (length us) rest);
-      units = s.units ∙ ap Some (e ∙ ap (λ n. take n rest) b.0)
+      units = s.units ∙ ap Some (e ∙ ap (λ n. take n rest) b.0);
     }
 
 pub stands : (i : Insn) (us rest : List ℕ) → spelling i ≡ Some us → us ≡ take (length us) rest → (f : Format) × Stands f i us rest

@@ -83,82 +83,92 @@ register i n = slice_index i.regs.first n
 -- 00op
 abbrev pub spelling_10x : Insn → Option (List ℕ)
 spelling_10x i =
-    spelled i (plain i.op (few []))
-        true
-        (unit 0 i.op ∷ [])
+    spelled i
+    (plain i.op (few []))
+    true
+    (unit 0 i.op ∷ [])
 
 -- BAop: vA, vB
 abbrev pub spelling_12x : Insn → Option (List ℕ)
 spelling_12x i =
     let a = register i 0 in
     let b = register i 1 in
-    spelled i (plain i.op (few (a ∷ b ∷ [])))
-        (fits 4 a && fits 4 b)
-        (unit (byte b a) i.op ∷ [])
+    spelled i
+    (plain i.op (few (a ∷ b ∷ [])))
+    (fits 4 a && fits 4 b)
+    (unit (byte b a) i.op ∷ [])
 
 -- BAop: vA, literal B
 abbrev pub spelling_11n : Insn → Option (List ℕ)
 spelling_11n i =
     let a = register i 0 in
-    spelled i (with_literal i.op (few (a ∷ [])) i.lit)
-        (fits 4 a && fits_signed 4 i.lit)
-        (unit (byte (complement 4 i.lit) a) i.op ∷ [])
+    spelled i
+    (with_literal i.op (few (a ∷ [])) i.lit)
+    (fits 4 a && fits_signed 4 i.lit)
+    (unit (byte (complement 4 i.lit) a) i.op ∷ [])
 
 -- AAop: vAA
 abbrev pub spelling_11x : Insn → Option (List ℕ)
 spelling_11x i =
     let a = register i 0 in
-    spelled i (plain i.op (few (a ∷ [])))
-        (fits 8 a)
-        (unit a i.op ∷ [])
+    spelled i
+    (plain i.op (few (a ∷ [])))
+    (fits 8 a)
+    (unit a i.op ∷ [])
 
 -- AAop: offset AA
 abbrev pub spelling_10t : Insn → Option (List ℕ)
 spelling_10t i =
-    spelled i (with_offset i.op (few []) i.off)
-        (fits_signed 8 i.off)
-        (unit (complement 8 i.off) i.op ∷ [])
+    spelled i
+    (with_offset i.op (few []) i.off)
+    (fits_signed 8 i.off)
+    (unit (complement 8 i.off) i.op ∷ [])
 
 -- 00op AAAA: offset AAAA
 abbrev pub spelling_20t : Insn → Option (List ℕ)
 spelling_20t i =
-    spelled i (with_offset i.op (few []) i.off)
-        (fits_signed 16 i.off)
-        (unit 0 i.op ∷ complement 16 i.off ∷ [])
+    spelled i
+    (with_offset i.op (few []) i.off)
+    (fits_signed 16 i.off)
+    (unit 0 i.op ∷ complement 16 i.off ∷ [])
 
 -- AAop BBBB: vAA, vBBBB
 abbrev pub spelling_22x : Insn → Option (List ℕ)
 spelling_22x i =
     let a = register i 0 in
     let b = register i 1 in
-    spelled i (plain i.op (few (a ∷ b ∷ [])))
-        (fits 8 a && fits 16 b)
-        (unit a i.op ∷ b ∷ [])
+    spelled i
+    (plain i.op (few (a ∷ b ∷ [])))
+    (fits 8 a && fits 16 b)
+    (unit a i.op ∷ b ∷ [])
 
 -- AAop BBBB: vAA, offset BBBB
 abbrev pub spelling_21t : Insn → Option (List ℕ)
 spelling_21t i =
     let a = register i 0 in
-    spelled i (with_offset i.op (few (a ∷ [])) i.off)
-        (fits 8 a && fits_signed 16 i.off)
-        (unit a i.op ∷ complement 16 i.off ∷ [])
+    spelled i
+    (with_offset i.op (few (a ∷ [])) i.off)
+    (fits 8 a && fits_signed 16 i.off)
+    (unit a i.op ∷ complement 16 i.off ∷ [])
 
 -- AAop BBBB: vAA, literal BBBB
 abbrev pub spelling_21s : Insn → Option (List ℕ)
 spelling_21s i =
     let a = register i 0 in
-    spelled i (with_literal i.op (few (a ∷ [])) i.lit)
-        (fits 8 a && fits_signed 16 i.lit)
-        (unit a i.op ∷ complement 16 i.lit ∷ [])
+    spelled i
+    (with_literal i.op (few (a ∷ [])) i.lit)
+    (fits 8 a && fits_signed 16 i.lit)
+    (unit a i.op ∷ complement 16 i.lit ∷ [])
 
 -- AAop BBBB: vAA, literal BBBB shifted left
 abbrev pub spelling_shifted : ℕ → Insn → Option (List ℕ)
 spelling_shifted shift i =
     let a = register i 0 in
     let literal = complement (shift + 16) i.lit in
-    spelled i (with_literal i.op (few (a ∷ [])) i.lit)
-        (fits 8 a && fits_signed (shift + 16) i.lit && nat_eq (literal % 2 ^ shift) 0)
-        (unit a i.op ∷ literal / 2 ^ shift ∷ [])
+    spelled i
+    (with_literal i.op (few (a ∷ [])) i.lit)
+    (fits 8 a && fits_signed (shift + 16) i.lit && nat_eq (literal % 2 ^ shift) 0)
+    (unit a i.op ∷ literal / 2 ^ shift ∷ [])
 
 -- const/high16 shifts by 16, const-wide/high16 by 48
 abbrev pub spelling_21h : Insn → Option (List ℕ)
@@ -168,9 +178,10 @@ spelling_21h i = if nat_eq i.op 0x15 then spelling_shifted 16 i else spelling_sh
 abbrev pub spelling_21c : Insn → Option (List ℕ)
 spelling_21c i =
     let a = register i 0 in
-    spelled i (with_index i.op (few (a ∷ [])) i.index)
-        (fits 8 a && fits 16 i.index)
-        (unit a i.op ∷ i.index ∷ [])
+    spelled i
+    (with_index i.op (few (a ∷ [])) i.index)
+    (fits 8 a && fits 16 i.index)
+    (unit a i.op ∷ i.index ∷ [])
 
 -- AAop CCBB: vAA, vBB, vCC
 abbrev pub spelling_23x : Insn → Option (List ℕ)
@@ -178,85 +189,95 @@ spelling_23x i =
     let a = register i 0 in
     let b = register i 1 in
     let c = register i 2 in
-    spelled i (plain i.op (few (a ∷ b ∷ c ∷ [])))
-        (fits 8 a && fits 8 b && fits 8 c)
-        (unit a i.op ∷ unit c b ∷ [])
+    spelled i
+    (plain i.op (few (a ∷ b ∷ c ∷ [])))
+    (fits 8 a && fits 8 b && fits 8 c)
+    (unit a i.op ∷ unit c b ∷ [])
 
 -- AAop CCBB: vAA, vBB, literal CC
 abbrev pub spelling_22b : Insn → Option (List ℕ)
 spelling_22b i =
     let a = register i 0 in
     let b = register i 1 in
-    spelled i (with_literal i.op (few (a ∷ b ∷ [])) i.lit)
-        (fits 8 a && fits 8 b && fits_signed 8 i.lit)
-        (unit a i.op ∷ unit (complement 8 i.lit) b ∷ [])
+    spelled i
+    (with_literal i.op (few (a ∷ b ∷ [])) i.lit)
+    (fits 8 a && fits 8 b && fits_signed 8 i.lit)
+    (unit a i.op ∷ unit (complement 8 i.lit) b ∷ [])
 
 -- BAop CCCC: vA, vB, offset CCCC
 abbrev pub spelling_22t : Insn → Option (List ℕ)
 spelling_22t i =
     let a = register i 0 in
     let b = register i 1 in
-    spelled i (with_offset i.op (few (a ∷ b ∷ [])) i.off)
-        (fits 4 a && fits 4 b && fits_signed 16 i.off)
-        (unit (byte b a) i.op ∷ complement 16 i.off ∷ [])
+    spelled i
+    (with_offset i.op (few (a ∷ b ∷ [])) i.off)
+    (fits 4 a && fits 4 b && fits_signed 16 i.off)
+    (unit (byte b a) i.op ∷ complement 16 i.off ∷ [])
 
 -- BAop CCCC: vA, vB, literal CCCC
 abbrev pub spelling_22s : Insn → Option (List ℕ)
 spelling_22s i =
     let a = register i 0 in
     let b = register i 1 in
-    spelled i (with_literal i.op (few (a ∷ b ∷ [])) i.lit)
-        (fits 4 a && fits 4 b && fits_signed 16 i.lit)
-        (unit (byte b a) i.op ∷ complement 16 i.lit ∷ [])
+    spelled i
+    (with_literal i.op (few (a ∷ b ∷ [])) i.lit)
+    (fits 4 a && fits 4 b && fits_signed 16 i.lit)
+    (unit (byte b a) i.op ∷ complement 16 i.lit ∷ [])
 
 -- BAop CCCC: vA, vB, index CCCC
 abbrev pub spelling_22c : Insn → Option (List ℕ)
 spelling_22c i =
     let a = register i 0 in
     let b = register i 1 in
-    spelled i (with_index i.op (few (a ∷ b ∷ [])) i.index)
-        (fits 4 a && fits 4 b && fits 16 i.index)
-        (unit (byte b a) i.op ∷ i.index ∷ [])
+    spelled i
+    (with_index i.op (few (a ∷ b ∷ [])) i.index)
+    (fits 4 a && fits 4 b && fits 16 i.index)
+    (unit (byte b a) i.op ∷ i.index ∷ [])
 
 -- 00op low high: offset of 32 bits
 abbrev pub spelling_30t : Insn → Option (List ℕ)
 spelling_30t i =
-    spelled i (with_offset i.op (few []) i.off)
-        (fits_signed 32 i.off)
-        (unit 0 i.op ∷ two_units (complement 32 i.off))
+    spelled i
+    (with_offset i.op (few []) i.off)
+    (fits_signed 32 i.off)
+    (unit 0 i.op ∷ two_units (complement 32 i.off))
 
 -- 00op AAAA BBBB: vAAAA, vBBBB
 abbrev pub spelling_32x : Insn → Option (List ℕ)
 spelling_32x i =
     let a = register i 0 in
     let b = register i 1 in
-    spelled i (plain i.op (few (a ∷ b ∷ [])))
-        (fits 16 a && fits 16 b)
-        (unit 0 i.op ∷ a ∷ b ∷ [])
+    spelled i
+    (plain i.op (few (a ∷ b ∷ [])))
+    (fits 16 a && fits 16 b)
+    (unit 0 i.op ∷ a ∷ b ∷ [])
 
 -- AAop low high: vAA, literal of 32 bits
 abbrev pub spelling_31i : Insn → Option (List ℕ)
 spelling_31i i =
     let a = register i 0 in
-    spelled i (with_literal i.op (few (a ∷ [])) i.lit)
-        (fits 8 a && fits_signed 32 i.lit)
-        (unit a i.op ∷ two_units (complement 32 i.lit))
+    spelled i
+    (with_literal i.op (few (a ∷ [])) i.lit)
+    (fits 8 a && fits_signed 32 i.lit)
+    (unit a i.op ∷ two_units (complement 32 i.lit))
 
 -- AAop low high: vAA, offset of 32 bits
 abbrev pub spelling_31t : Insn → Option (List ℕ)
 spelling_31t i =
     let a = register i 0 in
-    spelled i (with_offset i.op (few (a ∷ [])) i.off)
-        (fits 8 a && fits_signed 32 i.off)
-        (unit a i.op ∷ two_units (complement 32 i.off))
+    spelled i
+    (with_offset i.op (few (a ∷ [])) i.off)
+    (fits 8 a && fits_signed 32 i.off)
+    (unit a i.op ∷ two_units (complement 32 i.off))
 
 -- AAop low high: vAA, index of 32 bits
 abbrev pub spelling_31c : Insn → Option (List ℕ)
 spelling_31c i =
     let a = register i 0 in
-    spelled i (with_index i.op (few (a ∷ [])) i.index)
-        (fits 8 a && fits 32 i.index)
-        (unit a i.op ∷ two_units i.index)
+    spelled i
+    (with_index i.op (few (a ∷ [])) i.index)
+    (fits 8 a && fits 32 i.index)
+    (unit a i.op ∷ two_units i.index)
 
 -- AGop BBBB FEDC: the first A, at most 5, of vC, vD, vE, vF, vG, and index BBBB; the other nibbles are 0
 abbrev pub spelling_35c : Insn → Option (List ℕ)
@@ -269,26 +290,29 @@ spelling_35c i =
     let g = register i 4 in
     let words = c ∷ d ∷ e ∷ f ∷ g ∷ [] in
     let unused = drop a words in
-    spelled i (with_index i.op (record { count = a; first = words; range = false }) i.index)
-        (nat_le a 5 && all_zero unused && all_fit 4 words && fits 16 i.index)
-        (unit (byte a g) i.op ∷ i.index ∷ unit (byte f e) (byte d c) ∷ [])
+    spelled i
+    (with_index i.op (record { count = a; first = words; range = false }) i.index)
+    (nat_le a 5 && all_zero unused && all_fit 4 words && fits 16 i.index)
+    (unit (byte a g) i.op ∷ i.index ∷ unit (byte f e) (byte d c) ∷ [])
 
 -- AAop BBBB CCCC: AA words from vCCCC, and index BBBB; with AA 0, CCCC is 0
 abbrev pub spelling_3rc : Insn → Option (List ℕ)
 spelling_3rc i =
     let a = i.regs.count in
     let c = register i 0 in
-    spelled i (with_index i.op (neighbours c a) i.index)
-        (fits 8 a && fits 16 c && (nat_lt 0 a || nat_eq c 0) && fits 16 i.index)
-        (unit a i.op ∷ i.index ∷ c ∷ [])
+    spelled i
+    (with_index i.op (neighbours c a) i.index)
+    (fits 8 a && fits 16 c && (nat_lt 0 a || nat_eq c 0) && fits 16 i.index)
+    (unit a i.op ∷ i.index ∷ c ∷ [])
 
 -- AAop and four units: vAA, literal of 64 bits
 abbrev pub spelling_51l : Insn → Option (List ℕ)
 spelling_51l i =
     let a = register i 0 in
-    spelled i (with_literal i.op (few (a ∷ [])) i.lit)
-        (fits 8 a && fits_signed 64 i.lit)
-        (unit a i.op ∷ four_units (complement 64 i.lit))
+    spelled i
+    (with_literal i.op (few (a ∷ [])) i.lit)
+    (fits 8 a && fits_signed 64 i.lit)
+    (unit a i.op ∷ four_units (complement 64 i.lit))
 
 abbrev pub spelling_in : Format → Insn → Option (List ℕ)
 spelling_in F10x i = spelling_10x i

@@ -1,8 +1,8 @@
 -- What 35c spells, by the numbers in its units.
-use Rattle.std.proofs.Common.{◌≡◌, ℕ, ◌+◌, ◌*◌, ◌/◌, ◌%◌, ◌<◌, ◌≤◌, ◌^◌, Bool, true, false, ◌⊎◌, ⊎_elim, List, [], ◌∷◌, drop, Some, refl, sym, ap, ◌∙◌, arith}
+use Rattle.std.proofs.Common.{◌≡◌, ℕ, ◌+◌, ◌*◌, ◌/◌, ◌%◌, ◌<◌, ◌≤◌, ◌^◌, true, false, ◌⊎◌, ⊎_elim, List, [], ◌∷◌, drop, Some, arith}
 use Rattle.std.proofs.lemmas.Bool.Decides.{nat_tests}
 use Rattle.dv_defs.specs.declared.code.Insn.{Insn}
-use Rattle.dv_defs.specs.Spelling.{unit, all_zero, with_index, spelling_35c, insn_eq}
+use Rattle.dv_defs.specs.Spelling.{unit, all_zero, with_index, spelling_35c}
 use Rattle.dv_defs.proofs.InsnEq.{insn_eq_tells}
 use Rattle.dv_defs.proofs.Spelling35c.{fields_35c}
 

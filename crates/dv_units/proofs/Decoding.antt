@@ -1,11 +1,11 @@
 -- What a format's reader says of the instructions that stand in units.
-use Rattle.std.proofs.Common.{◌≡◌, ℕ, ◌+◌, ◌-◌, ◌%◌, ◌<◌, ◌≤◌, List, length, take, drop, get_or, Option, None, Some, MatchOption, refl, sym, ◌∙◌, ap, subst, arith, length-drop, add-zero}
+use Rattle.std.proofs.Common.{◌≡◌, ℕ, ◌-◌, ◌%◌, ◌≤◌, List, length, take, drop, get_or, Option, None, Some, MatchOption, sym, ◌∙◌, ap, subst, arith, length-drop, add-zero}
 use Rattle.std.proofs.lemmas.List.{get_or-take, get_or-drop, length-take-le}
 use Rattle.dv_defs.specs.declared.code.Insn.{Insn}
 use Rattle.dv_defs.specs.Formats.{Format, units_of, format_at, size_at, size_by}
 use Rattle.dv_defs.specs.Spelling.{spelling, spelling_by, spelling_in}
 use Rattle.dv_defs.proofs.SpellingFormats.{begins}
-use Rattle.dv_defs.proofs.SpellingLaws.{Stands, stands, stands_by_opcode, unique_where_both_stand, units_of_positive}
+use Rattle.dv_defs.proofs.SpellingLaws.{stands, stands_by_opcode, unique_where_both_stand, units_of_positive}
 use Rattle.dv_units.specs.Reading.{StandAt, NoneStandsAt, IsReading, opcode_at}
 
 opcode_first : (units : List ℕ) (at : ℕ) → get_or (drop at units) 0 0 % 256 ≡ opcode_at units at
@@ -25,7 +25,7 @@ is_at i us units at p e =
     record {
       opcode = op;
       size = s.size ∙ sym size;
-      room = omega (arith, size, s.whole, length-drop at units)
+      room = omega (arith, size, s.whole, length-drop at units);
     }
 
 -- what the reader of the opcode's format gives stands there

@@ -1,7 +1,7 @@
 -- What the table of opcodes says, by computation.
 use Rattle.std.specs.Prelude.{◌≡◌, ℕ, ◌<◌, Bool, true, false, not, ◌&&◌, ◌||◌, nat_eq, Option, Some, None, is_some, is_none, refl}
-use Rattle.std.proofs.Common.{◌⊎◌, inl, inr, ap, ◌∙◌, sym}
-use Rattle.std.proofs.lemmas.Bool.{agree_below_at, cases_Bool}
+use Rattle.std.proofs.Common.{◌⊎◌, inl, inr}
+use Rattle.std.proofs.lemmas.Bool.{agree_below_at}
 use Rattle.dv_defs.specs.Formats.{Format, format_at, is_float, is_unused, is_between}
 use Rattle.dv_units.specs.Built.{is_built}
 

@@ -2,28 +2,20 @@
 ghost use Rattle.std.specs.Prelude.{◌≡◌, ◌+◌, ◌-◌, ◌*◌, ◌/◌, ◌%◌, ◌^◌, ◌<◌, ◌≤◌, IsTrue, drop, length};
 ghost use Rattle.dv_defs.specs.Spelling.{all_fit, all_zero, byte, unit, complement, fits_signed};
 
-pub fn low_byte(unit: u16) -> u8
-    ensures { result ≡ unit % 256 }
+/// The high and the low byte of a unit.
+pub fn bytes(unit: u16) -> (u8, u8)
+    ensures high { result.0 ≡ unit / 256 }
+    ensures low { result.1 ≡ unit % 256 }
 {
-    (unit % 256) as u8
+    ((unit / 256) as u8, (unit % 256) as u8)
 }
 
-pub fn high_byte(unit: u16) -> u8
-    ensures { result ≡ unit / 256 }
+/// The high and the low nibble of a byte.
+pub fn nibbles(byte: u8) -> (u16, u16)
+    ensures high { result.0 ≡ byte / 16 }
+    ensures low { result.1 ≡ byte % 16 }
 {
-    (unit / 256) as u8
-}
-
-pub fn low_nibble(byte: u8) -> u8
-    ensures { result ≡ byte % 16 }
-{
-    byte % 16
-}
-
-pub fn high_nibble(byte: u8) -> u8
-    ensures { result ≡ byte / 16 }
-{
-    byte / 16
+    (u16::from(byte / 16), u16::from(byte % 16))
 }
 
 /// A byte of two nibbles.
@@ -84,7 +76,11 @@ pub fn complement(value: i64, bits: u32) -> u32
     ensures value { result ≡ complement bits value }
     ensures fits { result < 2 ^ bits }
 {
-    if value < 0 { (value + (1i64 << bits)) as u32 } else { value as u32 }
+    if value < 0 {
+        (value + (1i64 << bits)) as u32
+    } else {
+        value as u32
+    }
 }
 
 /// The signed number of which these are the `bits` bits of the two's complement.
@@ -95,5 +91,9 @@ pub fn signed(value: u32, bits: u32) -> i64
     ensures fits { IsTrue (fits_signed bits result) }
     ensures value { complement bits result ≡ value }
 {
-    if value < 1u32 << (bits - 1) { i64::from(value) } else { i64::from(value) - (1i64 << bits) }
+    if value < 1u32 << (bits - 1) {
+        i64::from(value)
+    } else {
+        i64::from(value) - (1i64 << bits)
+    }
 }

@@ -2,24 +2,25 @@
 ghost use Rattle.std.specs.Prelude.{◌≡◌, ℕ, ◌<◌, ◌++◌, List, length, take, drop, Some, IfOk, IsSome, IsTrue, IsOkUnless};
 ghost use Rattle.dv_defs.specs.declared.code.Insn.{Insn};
 ghost use Rattle.dv_defs.specs.Spelling.{spelling};
+ghost use Rattle.dv_defs.specs.Formats.{size_at};
 ghost use Rattle.dv_units.specs.Built.{is_built};
 ghost use Rattle.dv_units.specs.Laws.{SpellingsAreApart};
-ghost use Rattle.dv_units.specs.Reading.{StandAt};
+ghost use Rattle.dv_units.specs.Reading.{StandAt, opcode_at};
 
+use crate::UnitError;
 use crate::read::decode;
 use crate::write::encode;
-use crate::UnitError;
 use dv_defs::Insn;
 
 /// An instruction is determined by its spelling, and no spelling begins another.
 pub fn spellings_are_apart()
     ensures { SpellingsAreApart }
-{
-}
+{}
 
-/// Reads again what `encode` appends to `out`.
+/// Reads again what `encode` appends to `out`: the instruction itself.
 pub fn decode_of_encode(insn: &Insn, out: &mut Vec<u16>) -> Result<(Insn, u32), UnitError>
     ensures same { IfOk result (λ r. r.0 ≡ insn.now) }
+    ensures size { IfOk result (λ r. r.1 ≡ size_at insn.now.op) }
     ensures only_memory { IsTrue (is_built insn.now.op) → IsSome (spelling insn.now) → IsOkUnless result UnitError.Memory }
 {
     let at = out.len();
@@ -27,11 +28,13 @@ pub fn decode_of_encode(insn: &Insn, out: &mut Vec<u16>) -> Result<(Insn, u32), 
     decode(out, at)
 }
 
-/// Writes again what `decode` reads at `at`.
+/// Writes again what `decode` reads at `at`: the units that stand there.
 pub fn encode_of_decode(units: &[u16], at: usize, out: &mut Vec<u16>) -> Result<u32, UnitError>
     requires { at < length units.now }
     ensures same { IfOk result (λ n. out.new.items ≡ out.old.items ++ take n (drop at units.now)) }
-    ensures only_memory { (insn : Insn) (us : List ℕ) → spelling insn ≡ Some us → StandAt us units.now at → IsTrue (is_built insn.op) → IsOkUnless result UnitError.Memory }
+    ensures size { IfOk result (λ n. n ≡ size_at (opcode_at units.now at)) }
+    ensures only_memory { (insn : Insn) (us : List ℕ) → spelling insn ≡ Some us → StandAt us units.now at →
+        IsTrue (is_built insn.op) → IsOkUnless result UnitError.Memory }
 {
     let (insn, _) = decode(units, at)?;
     encode(&insn, out)

@@ -6,7 +6,7 @@ ghost use Rattle.dv_units.specs.Built.{standard, is_built, is_unbuilt};
 ghost use Rattle.dv_units.specs.Reading.{opcode_at, StandAt, NoneStandsAt};
 
 use crate::UnitError;
-use crate::fields::low_byte;
+use crate::fields::bytes;
 use crate::format::{Format, format_of};
 use crate::readers::read;
 use dv_defs::Insn;
@@ -36,27 +36,20 @@ pub fn decode(units: &[u16], at: usize) -> Result<(Insn, u32), UnitError>
     ensures built { OnOk result (IsTrue (is_built (opcode_at units.now at))) }
 
     // Each instruction that is spelled there is read.
-    ensures every {
-        (insn : Insn) (us : List ℕ) → spelling insn ≡ Some us → StandAt us units.now at →
-        IsTrue (is_built insn.op) → result ≡ Ok (insn, length us)
-    }
+    ensures every { (insn : Insn) (us : List ℕ) → spelling insn ≡ Some us → StandAt us units.now at →
+        IsTrue (is_built insn.op) → result ≡ Ok (insn, length us) }
 
     ensures unused { let op = opcode_at units.now at in (result ≡ Err (UnitError.Unused op)) ↔ IsTrue (is_unused op) }
     ensures float { let op = opcode_at units.now at in (result ≡ Err (UnitError.Float op)) ↔ IsTrue (is_float op) }
-    ensures not_built {
-        let op = opcode_at units.now at in (result ≡ Err (UnitError.NotBuilt op)) ↔ IsTrue (is_unbuilt op)
-    }
-    ensures cut {
-        let op = opcode_at units.now at in
-        (result ≡ Err UnitError.Cut) ↔ (IsTrue (is_built op) × (length units.now - at < size_at op))
-    }
-    ensures operand_range {
-        let op = opcode_at units.now at in
+    ensures not_built { let op = opcode_at units.now at in (result ≡ Err (UnitError.NotBuilt op)) ↔ IsTrue (is_unbuilt op) }
+    ensures cut { let op = opcode_at units.now at in
+        (result ≡ Err UnitError.Cut) ↔ (IsTrue (is_built op) × (length units.now - at < size_at op)) }
+    ensures operand_range { let op = opcode_at units.now at in
         (result ≡ Err UnitError.OperandRange) ↔
-        (IsTrue (is_built op) × (size_at op ≤ length units.now - at) × NoneStandsAt units.now at)
-    }
+        (IsTrue (is_built op) × (size_at op ≤ length units.now - at) × NoneStandsAt units.now at) }
 {
-    let format = format_of(low_byte(units[at]))?;
+    let (_, op) = bytes(units[at]);
+    let format = format_of(op)?;
     let size = format.units();
     if units.len() - at < size {
         return Err(UnitError::Cut);

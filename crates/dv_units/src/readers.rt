@@ -7,30 +7,38 @@ ghost use Rattle.dv_defs.specs.Spelling.{unit, spelling_in, spelling_10x, spelli
 ghost use Rattle.dv_units.specs.Built.{standard};
 ghost use Rattle.dv_units.specs.Reading.{IsReading};
 
-use crate::fields::{are_zero_from, high_byte, high_nibble, low_byte, low_nibble, signed};
+use crate::fields::{are_zero_from, bytes, nibbles, signed};
 use crate::format::Format;
-use crate::shape::{no_registers, one_register, plain, three_registers, two_registers, with_index, with_literal};
+use crate::shape::{
+    no_registers, one_register, plain, three_registers, two_registers, with_index, with_literal,
+};
 use dv_defs::{Insn, Regs};
 
 /// 10x, `00op`.
 fn read_10x(op: u8, high: u8) -> Option<Insn>
     ensures { IsReading spelling_10x (unit high op ∷ []) result }
 {
-    if high == 0 { Some(plain(op, no_registers())) } else { None }
+    if high == 0 {
+        Some(plain(op, no_registers()))
+    } else {
+        None
+    }
 }
 
 /// 12x, `BAop`.
 fn read_12x(op: u8, high: u8) -> Insn
     ensures { spelling_12x result ≡ Some (unit high op ∷ []) }
 {
-    plain(op, two_registers(low_nibble(high).into(), high_nibble(high).into()))
+    let (b, a) = nibbles(high);
+    plain(op, two_registers(a, b))
 }
 
 /// 11n, `BAop`.
 fn read_11n(op: u8, high: u8) -> Insn
     ensures { spelling_11n result ≡ Some (unit high op ∷ []) }
 {
-    with_literal(op, one_register(low_nibble(high).into()), signed(high_nibble(high).into(), 4))
+    let (b, a) = nibbles(high);
+    with_literal(op, one_register(a), signed(b.into(), 4))
 }
 
 /// 21s, `AAop BBBB`.
@@ -44,27 +52,35 @@ fn read_21s(op: u8, high: u8, literal: u16) -> Insn
 fn read_23x(op: u8, high: u8, sources: u16) -> Insn
     ensures { spelling_23x result ≡ Some (unit high op ∷ sources ∷ []) }
 {
-    plain(op, three_registers(high.into(), low_byte(sources).into(), high_byte(sources).into()))
+    let (c, b) = bytes(sources);
+    plain(op, three_registers(high.into(), b.into(), c.into()))
 }
 
-/// The registers of 35c with their words `G` and `FEDC`, in the order vC, vD, vE, vF, vG.
-fn five_words(fifth: u8, words: u16) -> [u16; 5]
-    ensures { result ≡ words % 256 % 16 ∷ words % 256 / 16 ∷ words / 256 % 16 ∷ words / 256 / 16 ∷ fifth ∷ [] }
+/// The words vC, vD, vE, vF and vG of 35c, from its parts `G` and `FEDC`.
+fn five_words(g: u16, words: u16) -> [u16; 5]
+    ensures { result ≡ words % 256 % 16 ∷ words % 256 / 16 ∷ words / 256 % 16 ∷ words / 256 / 16 ∷ g ∷ [] }
 {
-    let (low, high) = (low_byte(words), high_byte(words));
-    [low_nibble(low).into(), high_nibble(low).into(), low_nibble(high).into(), high_nibble(high).into(), fifth.into()]
+    let (high, low) = bytes(words);
+    let (f, e) = nibbles(high);
+    let (d, c) = nibbles(low);
+    [c, d, e, f, g]
 }
 
 /// 35c, `AGop BBBB FEDC`.
 fn read_35c(op: u8, high: u8, index: u16, words: u16) -> Option<Insn>
     ensures { IsReading spelling_35c (unit high op ∷ index ∷ words ∷ []) result }
 {
-    let count = high_nibble(high);
-    let first = five_words(low_nibble(high), words);
+    let count = high / 16;
+    let first = five_words(u16::from(high % 16), words);
     if count > 5 || !are_zero_from(&first, count) {
         return None;
     }
-    Some(with_index(op, Regs { count, first, range: false }, index.into()))
+    let regs = Regs {
+        count,
+        first,
+        range: false,
+    };
+    Some(with_index(op, regs, index.into()))
 }
 
 /// The instruction of a format that stands at the start of `units`.
@@ -73,7 +89,7 @@ pub fn read(format: Format, units: &[u16]) -> Option<Insn>
     requires whole { units_of (standard format) ≤ length units.now }
     ensures { IsReading (spelling_in (standard format)) (take (units_of (standard format)) units.now) result }
 {
-    let (op, high) = (low_byte(units[0]), high_byte(units[0]));
+    let (high, op) = bytes(units[0]);
     match format {
         Format::F10x => read_10x(op, high),
         Format::F12x => Some(read_12x(op, high)),

@@ -23,19 +23,28 @@ impl Spelled {
     pub fn one(first: u16) -> Spelled
         ensures { result ≡ first ∷ [] }
     {
-        Spelled { units: [first, 0, 0, 0, 0], len: 1 }
+        Spelled {
+            units: [first, 0, 0, 0, 0],
+            len: 1,
+        }
     }
 
     pub fn two(first: u16, second: u16) -> Spelled
         ensures { result ≡ first ∷ second ∷ [] }
     {
-        Spelled { units: [first, second, 0, 0, 0], len: 2 }
+        Spelled {
+            units: [first, second, 0, 0, 0],
+            len: 2,
+        }
     }
 
     pub fn three(first: u16, second: u16, third: u16) -> Spelled
         ensures { result ≡ first ∷ second ∷ third ∷ [] }
     {
-        Spelled { units: [first, second, third, 0, 0], len: 3 }
+        Spelled {
+            units: [first, second, third, 0, 0],
+            len: 3,
+        }
     }
 
     pub fn as_slice(&self) -> &[u16]

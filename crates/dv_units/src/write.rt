@@ -15,21 +15,15 @@ use dv_defs::Insn;
 /// By its opcode `Unused`, `Float` or `NotBuilt`; then `OperandRange` where the instruction has no spelling.
 #[tactic(auto, using(crate::proofs::Opcodes::opcode_kinds))]
 pub fn encode(insn: &Insn, out: &mut Vec<u16>) -> Result<u32, UnitError>
-    ensures written {
-        IfOk result (λ n. IsSomeAnd (spelling insn.now) (λ us. (out.new.items ≡ out.old.items ++ us) × (n ≡ length us)))
-    }
+    ensures written { IfOk result (λ n. IsSomeAnd (spelling insn.now) (λ us. (out.new.items ≡ out.old.items ++ us) × (n ≡ length us))) }
     ensures built { OnOk result (IsTrue (is_built insn.now.op)) }
     ensures unchanged { OnErr result (out.new.items ≡ out.old.items) }
 
     ensures unused { (result ≡ Err (UnitError.Unused insn.now.op)) ↔ IsTrue (is_unused insn.now.op) }
     ensures float { (result ≡ Err (UnitError.Float insn.now.op)) ↔ IsTrue (is_float insn.now.op) }
     ensures not_built { (result ≡ Err (UnitError.NotBuilt insn.now.op)) ↔ IsTrue (is_unbuilt insn.now.op) }
-    ensures operand_range {
-        (result ≡ Err UnitError.OperandRange) ↔ (IsTrue (is_built insn.now.op) × (spelling insn.now ≡ None))
-    }
-    ensures only_memory {
-        IsTrue (is_built insn.now.op) → IsSome (spelling insn.now) → IsOkUnless result UnitError.Memory
-    }
+    ensures operand_range { (result ≡ Err UnitError.OperandRange) ↔ (IsTrue (is_built insn.now.op) × (spelling insn.now ≡ None)) }
+    ensures only_memory { IsTrue (is_built insn.now.op) → IsSome (spelling insn.now) → IsOkUnless result UnitError.Memory }
 {
     let format = format_of(insn.op)?;
     let spelled = write(format, insn).ok_or(UnitError::OperandRange)?;

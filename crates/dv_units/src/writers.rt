@@ -5,7 +5,10 @@ ghost use Rattle.dv_units.specs.Built.{standard};
 
 use crate::fields::{are_nibbles, are_zero_from, byte, complement, fits_signed, unit};
 use crate::format::Format;
-use crate::shape::{has_form, no_registers, one_register, plain, three_registers, two_registers, with_index, with_literal};
+use crate::shape::{
+    has_form, no_registers, one_register, plain, three_registers, two_registers, with_index,
+    with_literal,
+};
 use crate::spelled::Spelled;
 use dv_defs::{Insn, Regs};
 
@@ -35,7 +38,10 @@ fn write_11n(insn: &Insn) -> Option<Spelled>
     ensures { result ≡ spelling_11n insn.now }
 {
     let [a, ..] = insn.regs.first;
-    if !has_form(insn, with_literal(insn.op, one_register(a), insn.lit)) || a >= 16 || !fits_signed(insn.lit, 4) {
+    if !has_form(insn, with_literal(insn.op, one_register(a), insn.lit))
+        || a >= 16
+        || !fits_signed(insn.lit, 4)
+    {
         return None;
     }
     let literal = complement(insn.lit, 4) as u16;
@@ -47,7 +53,10 @@ fn write_21s(insn: &Insn) -> Option<Spelled>
     ensures { result ≡ spelling_21s insn.now }
 {
     let [a, ..] = insn.regs.first;
-    if !has_form(insn, with_literal(insn.op, one_register(a), insn.lit)) || a >= 256 || !fits_signed(insn.lit, 16) {
+    if !has_form(insn, with_literal(insn.op, one_register(a), insn.lit))
+        || a >= 256
+        || !fits_signed(insn.lit, 16)
+    {
         return None;
     }
     let literal = complement(insn.lit, 16) as u16;
@@ -59,7 +68,11 @@ fn write_23x(insn: &Insn) -> Option<Spelled>
     ensures { result ≡ spelling_23x insn.now }
 {
     let [a, b, c, ..] = insn.regs.first;
-    if !has_form(insn, plain(insn.op, three_registers(a, b, c))) || a >= 256 || b >= 256 || c >= 256 {
+    if !has_form(insn, plain(insn.op, three_registers(a, b, c)))
+        || a >= 256
+        || b >= 256
+        || c >= 256
+    {
         return None;
     }
     Some(Spelled::two(unit(a, insn.op.into()), unit(c, b)))
@@ -72,8 +85,15 @@ fn write_35c(insn: &Insn) -> Option<Spelled>
     let count = insn.regs.count;
     let [c, d, e, f, g] = insn.regs.first;
     let words = [c, d, e, f, g];
-    let regs = Regs { count, first: words, range: false };
-    if !has_form(insn, with_index(insn.op, regs, insn.index)) || count > 5 || insn.index >= 0x1_0000 {
+    let regs = Regs {
+        count,
+        first: words,
+        range: false,
+    };
+    if !has_form(insn, with_index(insn.op, regs, insn.index))
+        || count > 5
+        || insn.index >= 0x1_0000
+    {
         return None;
     }
     if !are_zero_from(&words, count) || !are_nibbles(&words) {

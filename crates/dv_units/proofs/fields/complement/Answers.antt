@@ -1,4 +1,4 @@
-use Rattle.std.proofs.Common.{◌≡◌, ap, rules}
+use Rattle.std.proofs.Common.{ap, rules}
 use Rattle.dv_units.proofs.Numbers.{complement_of_negative}
 use Rattle.dv_units.proofs.fields.complement.Goals as goal
 use lib.IntN.{nat_abs}

@@ -6,8 +6,8 @@ use Rattle.dv_units.proofs.readers.read_35c.Goals.{then-count-gt5-via-then-count
 pub returns-then-count-gt5 : goal.returns-then-count-gt5
 returns-then-count-gt5 c =
     elim c.then-count-gt5.branch [
-      then-count-gt5-via-then-count-gt5 w ↦ refuses_35c _ _ _ _ c.ranges.op.fits (inl (search rules))
-    | then-count-gt5-via-else-count-gt5+then-not-are_zero_from w ↦ refuses_35c _ _ _ _ c.ranges.op.fits (inr (search rules))
+      | then-count-gt5-via-then-count-gt5 w ↦ refuses_35c _ _ _ _ c.ranges.op.fits (inl (search rules))
+      | then-count-gt5-via-else-count-gt5+then-not-are_zero_from w ↦ refuses_35c _ _ _ _ c.ranges.op.fits (inr (search rules))
     ]
 
 pub returns : goal.returns

@@ -1,0 +1,10 @@
+pub mod Steps
+pub mod Bytes
+pub mod Classes
+pub mod Types
+pub mod Protos
+pub mod Inverse
+pub mod Surrogates
+pub mod Fronts
+pub mod Places
+pub mod RoundTrip

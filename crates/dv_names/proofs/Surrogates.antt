@@ -1,0 +1,57 @@
+-- Units of UTF-16, one character after another.
+use Rattle.std.proofs.Common.{◌≡◌, ℕ, ◌+◌, ◌<◌, ◌≤◌, Bool, true, false, cond, List, [], ◌∷◌, ◌++◌, map, length, get_or, drop, Option, Some, None, ◌⊎◌, inl, inr, refl, sym, ap, ◌∙◌, arith}
+use Rattle.std.specs.Str.{encode_utf8_all}
+use Rattle.std.specs.Char.Utf16.{utf16_chars, surrogate_pair_char, lone_unit_char}
+use Rattle.std.proofs.lemmas.List.{append-nil, at_drop_more, at_drop_all, drop_more}
+use Rattle.dv_names.specs.Units.{or_mark, pair_char, lone_char, spelled, text_of}
+
+pair_cases : (t : Bool) (p c : ℕ) (xs ys : List (Option ℕ)) → cond t (Some p) None ≡ Some c → map or_mark (cond t (Some p ∷ xs) ys) ≡ c ∷ map or_mark xs
+pair_cases true p c xs ys e = let same : p ≡ c = cc in ap (λ z. z ∷ map or_mark xs) same
+pair_cases false p c xs ys e = absurd (cc)
+
+lone_cases : (t : Bool) (p : ℕ) (o : Option ℕ) (xs ys : List (Option ℕ)) → cond t (Some p) None ≡ None → map or_mark (cond t xs (o ∷ ys)) ≡ or_mark o ∷ map or_mark ys
+lone_cases true p o xs ys e = absurd (cc)
+lone_cases false p o xs ys e = refl
+
+pub spelled_pair : (u v c : ℕ) (us : List ℕ) → pair_char u v ≡ Some c → spelled (u ∷ v ∷ us) ≡ c ∷ spelled us
+unfolding utf16_chars
+spelled_pair u v c us e = pair_cases _ (surrogate_pair_char u v) c (utf16_chars us) (lone_unit_char u ∷ utf16_chars (v ∷ us)) e
+
+pub spelled_last : (u : ℕ) → spelled (u ∷ []) ≡ lone_char u ∷ spelled []
+unfolding utf16_chars
+spelled_last u = refl
+
+pub spelled_alone : (u v : ℕ) (us : List ℕ) → pair_char u v ≡ None → spelled (u ∷ v ∷ us) ≡ lone_char u ∷ spelled (v ∷ us)
+unfolding utf16_chars
+spelled_alone u v us e = lone_cases _ (surrogate_pair_char u v) (lone_unit_char u) (Some (surrogate_pair_char u v) ∷ utf16_chars us) (utf16_chars (v ∷ us)) e
+
+pub spelled_none : spelled [] ≡ []
+unfolding utf16_chars
+spelled_none = refl
+
+module _ (units : List ℕ) (at : ℕ) where
+  pub pair_at : (c : ℕ) → at + 1 < length units → pair_char (get_or units at 0) (get_or units (at + 1) 0) ≡ Some c → spelled (drop at units) ≡ c ∷ spelled (drop (at + 2) units)
+  pair_at c lt e =
+      let next : at + 1 + 1 ≡ at + 2 = omega arith in
+      at_drop_more spelled units at 0 (omega arith) ∙ ap (λ l. spelled (get_or units at 0 ∷ l)) (drop_more units (at + 1) 0 lt)
+      ∙ spelled_pair (get_or units at 0) (get_or units (at + 1) 0) c (drop (at + 1 + 1) units) e ∙ ap (λ i. c ∷ spelled (drop i units)) next
+
+  alone_before : at + 1 < length units → pair_char (get_or units at 0) (get_or units (at + 1) 0) ≡ None → spelled (get_or units at 0 ∷ drop (at + 1) units) ≡ lone_char (get_or units at 0) ∷ spelled (drop (at + 1) units)
+  alone_before lt e =
+      let more = drop_more units (at + 1) 0 lt in
+      ap (λ l. spelled (get_or units at 0 ∷ l)) more ∙ spelled_alone (get_or units at 0) (get_or units (at + 1) 0) (drop (at + 1 + 1) units) e
+      ∙ ap (λ l. lone_char (get_or units at 0) ∷ spelled l) (sym more)
+
+  alone_last : length units ≤ at + 1 → spelled (get_or units at 0 ∷ drop (at + 1) units) ≡ lone_char (get_or units at 0) ∷ spelled (drop (at + 1) units)
+  alone_last le =
+      at_drop_all (λ l. spelled (get_or units at 0 ∷ l)) units (at + 1) le ∙ spelled_last (get_or units at 0)
+      ∙ sym (at_drop_all (λ l. lone_char (get_or units at 0) ∷ spelled l) units (at + 1) le)
+
+  pub alone_at : at < length units → ((at + 1 < length units) × (pair_char (get_or units at 0) (get_or units (at + 1) 0) ≡ None)) ⊎ (length units ≤ at + 1)
+      → spelled (drop at units) ≡ lone_char (get_or units at 0) ∷ spelled (drop (at + 1) units)
+  alone_at lt (inl h) = at_drop_more spelled units at 0 lt ∙ alone_before h.0 h.1
+  alone_at lt (inr le) = at_drop_more spelled units at 0 lt ∙ alone_last le
+
+  -- no unit is left
+  pub all_made : (made : List ℕ) → length units ≤ at → made ++ text_of (drop at units) ≡ text_of units → made ≡ text_of units
+  all_made made le e = sym (append-nil made) ∙ ap (λ l. made ++ l) (sym (at_drop_all text_of units at le ∙ ap (λ l. encode_utf8_all l) spelled_none)) ∙ e

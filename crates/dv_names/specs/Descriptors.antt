@@ -1,0 +1,70 @@
+-- Types and prototypes as they are printed, and the texts that are descriptors.
+use Rattle.std.specs.Prelude.{◌≡◌, ℕ, ◌-◌, ◌≤◌, Bool, ◌&&◌, not, IsTrue, List, ◌∷◌, ◌++◌, [], length, take, drop, map, replicate, Option, Some, None, IfSome, nat_lt, ◌==◌, if◌then◌else◌, codes}
+use Rattle.std.specs.List.{All, list_any, list_all, flat_map, join_with_byte}
+use Rattle.dv_defs.specs.declared.names.Base.{Base}
+use Rattle.dv_defs.specs.declared.names.Base.TheVariants as base
+use Rattle.dv_defs.specs.declared.names.Ty.{Ty}
+use Rattle.dv_defs.specs.declared.names.Proto.{Proto}
+
+-- ---- printing
+
+-- a primitive type's letter, or a class's descriptor
+abbrev pub base_text : Base → List ℕ
+base_text base.Z = codes "Z"
+base_text base.B = codes "B"
+base_text base.C = codes "C"
+base_text base.S = codes "S"
+base_text base.I = codes "I"
+base_text base.J = codes "J"
+base_text (base.Class name) = name
+
+-- a bracket for each dimension, and the base
+abbrev pub descriptor : Ty → List ℕ
+descriptor t = replicate t.dims 91 ++ base_text t.base
+
+abbrev pub return_text : Option Ty → List ℕ
+return_text None = codes "V"
+return_text (Some t) = descriptor t
+
+-- the parameters in parentheses, and the result
+abbrev pub prototype : Proto → List ℕ
+prototype p = 40 ∷ (flat_map descriptor p.params ++ (41 ∷ return_text p.ret))
+
+-- ---- what is a descriptor
+
+-- what separates names, or ends a word of the text
+abbrev pub marks : List ℕ
+marks = codes ".;[/()<>:\"'#{},="
+
+-- a byte of a name: no mark, no blank and no control character
+abbrev pub is_name_byte : ℕ → Bool
+is_name_byte b = nat_lt 32 b && not (list_any (λ m. m == b) marks)
+
+abbrev pub is_name : List ℕ → Bool
+is_name w = nat_lt 0 (length w) && list_all is_name_byte w
+
+-- L, one or more names with slashes between, and a semicolon
+pub record IsClassName (text : List ℕ) : Type 0 where
+  pub first : List ℕ
+  pub others : List (List ℕ)
+  pub are_names : IsTrue (list_all is_name (first ∷ others))
+  pub spelled : text ≡ 76 ∷ (join_with_byte 47 (first ∷ others) ++ 59 ∷ [])
+
+abbrev pub IsBase : Base → Type 0
+IsBase (base.Class name) = IsClassName name
+IsBase b = Unit {0}
+
+abbrev pub IsType : Ty → Type 0
+IsType t = (t.dims ≤ 255) × IsBase t.base
+
+abbrev pub IsProto : Proto → Type 0
+IsProto p = All IsType p.params × IfSome p.ret IsType
+
+-- ---- the Java text
+
+abbrev pub dotted : ℕ → ℕ
+dotted b = if b == 47 then 46 else b
+
+-- the text without its first and its last byte, and with a dot for each slash
+abbrev pub java_text : List ℕ → List ℕ
+java_text class = map dotted (take (length class - 2) (drop 1 class))

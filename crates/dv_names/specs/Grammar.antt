@@ -1,0 +1,124 @@
+-- The grammar of types and prototypes, byte by byte, and why a text isn't of it.
+use Rattle.std.specs.Prelude.{◌≡◌, ℕ, suc, Bool, true, false, not, ◌||◌, List, [], ◌∷◌, Option, Some, None, is_some, Result, Ok, Err, nat_lt, ◌==◌, if◌then◌else◌}
+use Rattle.std.specs.Option.{option_and_then, option_map_or}
+use Rattle.dv_defs.specs.declared.names.Base.{Base}
+use Rattle.dv_defs.specs.declared.names.Base.TheVariants as base
+use Rattle.dv_names.specs.declared.error.NameError.{NameError}
+use Rattle.dv_names.specs.declared.error.NameError.TheVariants as error
+use Rattle.dv_names.specs.Descriptors.{is_name_byte}
+
+-- where a type stands
+pub data Place : Type 0 where
+  Alone : Place
+  Parameter : Place
+  Returned : Place
+
+-- what has been read, and so what may come
+pub data Mode : Type 0 where
+  -- nothing of a prototype
+  Open : Mode
+  -- whole parameters: one more, or their end
+  Parameters : Mode
+  -- all parameters: a type, or V
+  Return : Mode
+  -- so many brackets of a type
+  Array : Place → ℕ → Mode
+  -- a part of a class's descriptor, which ends within a name or before one
+  Name : Place → Bool → Mode
+  -- everything
+  Whole : Mode
+
+abbrev pub behind : Place → Mode
+behind Alone = Whole
+behind Parameter = Parameters
+behind Returned = Whole
+
+abbrev pub primitive_of : ℕ → Option Base
+primitive_of b =
+    if b == 90 then Some base.Z
+    else if b == 66 then Some base.B
+    else if b == 67 then Some base.C
+    else if b == 83 then Some base.S
+    else if b == 73 then Some base.I
+    else if b == 74 then Some base.J
+    else None
+
+-- F or D
+abbrev pub is_float : ℕ → Bool
+is_float b = (b == 70) || (b == 68)
+
+abbrev pub step_type : Place → ℕ → ℕ → Option Mode
+step_type p n b =
+    if b == 91 then (if nat_lt n 255 then Some (Array p (suc n)) else None)
+    else if is_some (primitive_of b) then Some (behind p)
+    else if b == 76 then Some (Name p false)
+    else None
+
+abbrev pub step_name : Place → Bool → ℕ → Option Mode
+step_name p within b =
+    if is_name_byte b then Some (Name p true)
+    else if not within then None
+    else if b == 47 then Some (Name p false)
+    else if b == 59 then Some (behind p)
+    else None
+
+-- what a byte makes of what has been read, unless nothing goes on so
+abbrev pub step : Mode → ℕ → Option Mode
+step Open b = if b == 40 then Some Parameters else None
+step Parameters b = if b == 41 then Some Return else step_type Parameter 0 b
+step Return b = if b == 86 then Some Whole else step_type Returned 0 b
+step (Array p n) b = step_type p n b
+step (Name p within) b = step_name p within b
+step Whole b = None
+
+-- what bytes make of it
+abbrev pub after : Mode → List ℕ → Option Mode
+after m [] = Some m
+after m (b ∷ bs) = option_and_then (λ n. after n bs) (step m b)
+
+-- whether a primitive type could come
+abbrev pub takes_type : Mode → Bool
+takes_type Open = false
+takes_type Parameters = true
+takes_type Return = true
+takes_type (Array p n) = true
+takes_type (Name p within) = false
+takes_type Whole = false
+
+-- the text ends at this place
+abbrev pub refused_end : Mode → ℕ → Option NameError
+refused_end Whole at = None
+refused_end m at = Some (error.BadDescriptor at)
+
+-- the byte at this place is no type's, where a primitive type could come
+abbrev pub no_type : ℕ → ℕ → NameError
+no_type b at = if is_float b then error.FloatType at else error.BadDescriptor at
+
+-- the byte at this place fits nothing
+abbrev pub refused_byte : Mode → ℕ → ℕ → NameError
+refused_byte m b at = if takes_type m then no_type b at else error.BadDescriptor at
+
+-- the first fault of what comes from this place on, if it has one
+unfoldable pub refusal : Mode → ℕ → List ℕ → Option NameError
+refusal m at [] = refused_end m at
+refusal m at (b ∷ bs) = option_map_or (λ n. refusal n (suc at) bs) (step m b) (Some (refused_byte m b at))
+
+abbrev pub type_refusal : List ℕ → Option NameError
+type_refusal text = refusal (Array Alone 0) 0 text
+
+abbrev pub proto_refusal : List ℕ → Option NameError
+proto_refusal text = refusal Open 0 text
+
+-- An answer is Ok where nothing is refused, and else that refusal, unless memory ran out.
+abbrev pub Refuses : NameError → Option NameError → Type 0
+Refuses error.Memory found = Unit {0}
+Refuses e found = found ≡ Some e
+
+abbrev pub Judges : {X : Type 0} → Result X NameError → Option NameError → Type 0
+Judges (Ok x) found = found ≡ None
+Judges (Err e) found = Refuses e found
+
+-- the answer is x, unless memory ran out
+abbrev pub Finds : {X : Type 0} → X → Result X NameError → Type 0
+Finds x (Ok y) = y ≡ x
+Finds x (Err e) = e ≡ error.Memory
