@@ -4,3 +4,4 @@ pub mod Spelling35c
 pub mod SpellingFormats
 pub mod SpellingLaws
 mod SpellingRows
+mod Facts

@@ -1,2 +1,7 @@
+pub mod AssemblyLemmas
+pub mod BodyLemmas
+pub mod Decimals
+pub mod FormLemmas
+pub mod LineLemmas
 pub mod PieceLemmas
 pub mod Sizes

@@ -1,21 +1,34 @@
--- How many units the instructions that are built have.
-use Rattle.std.proofs.Common.{◌≡◌, ℕ, ◌<◌, ◌≤◌, Bool, true, false, refl, ◌%◌, arith}
-use Rattle.std.specs.Prelude.{not, ◌||◌, ◌&&◌, nat_lt, nat_le, slice_index, List}
-use Rattle.std.proofs.lemmas.Bool.{agree_below_at, ltb-true, leb-true}
+-- The sizes of the instructions that are built.
+use Rattle.std.proofs.Common.{◌≡◌, ℕ, ◌<◌, ◌⊎◌, inl, inr, Bool, true, false, ◌||◌, nat_eq, arith, sym, subst, refl}
+use Rattle.std.proofs.lemmas.Bool.Decides.{nat_tests}
 use Rattle.dv_defs.specs.Formats.{format_at, size_at}
 use Rattle.dv_units.specs.Built.{is_built}
-use Rattle.dv_units.specs.Reading.{opcode_at}
 
-abbrev test : ℕ → Bool
-test op = not (is_built op) || nat_lt 0 (size_at op)
+one_of : (a b : Bool) → (a || b) ≡ true → (a ≡ true) ⊎ (b ≡ true)
+one_of true b is = inl refl
+one_of false b is = inr is
 
-from_test : (built few : Bool) → (not built || few) ≡ true → built ≡ true → few ≡ true
-from_test true few h b = h
-from_test false few h b = absurd (cc)
+has_size : (op n : ℕ) → 0 < size_at n → nat_eq op n ≡ true → 0 < size_at op
+has_size op n some is =
+    let same : op ≡ n = grind (arith, nat_tests) in
+    subst (λ m. 0 < size_at m) (sym same) some
 
--- an instruction that is built has one unit at least
-pub built_size : (units : List ℕ) (at : ℕ) → is_built (opcode_at units at) ≡ true → 0 < size_at (opcode_at units at)
+pub some_size : (op : ℕ) → is_built op ≡ true → 0 < size_at op
 unfolding is_built format_at
-built_size units at built =
-    let low : opcode_at units at < 256 = omega arith in
-    ltb-true _ _ (from_test _ _ (agree_below_at test (λ _. true) 256 (opcode_at units at) refl low) built)
+some_size op is =
+    elim (one_of _ _ is) [
+      | inr a ↦ has_size op 0x90 (omega arith) a
+      | inl is1 ↦ elim (one_of _ _ is1) [
+        | inr a ↦ has_size op 0x71 (omega arith) a
+        | inl is2 ↦ elim (one_of _ _ is2) [
+          | inr a ↦ has_size op 0x13 (omega arith) a
+          | inl is3 ↦ elim (one_of _ _ is3) [
+            | inr a ↦ has_size op 0x12 (omega arith) a
+            | inl is4 ↦ elim (one_of _ _ is4) [
+              | inr a ↦ has_size op 0x0e (omega arith) a
+              | inl is5 ↦ elim (one_of _ _ is5) [ inr a ↦ has_size op 0x01 (omega arith) a | inl a ↦ has_size op 0x00 (omega arith) a ]
+            ]
+          ]
+        ]
+      ]
+    ]

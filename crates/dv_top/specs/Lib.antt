@@ -1,3 +1,9 @@
+pub mod Assembly
+pub mod Image
+pub mod Laws
+pub mod Opcode
+pub mod Parts
 pub mod Pieces
 pub mod Status
+pub mod Straight
 pub mod Words

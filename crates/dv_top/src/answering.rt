@@ -1,5 +1,8 @@
 // From the words and the source to a status and the sink.
-ghost use Rattle.std.specs.Prelude.{◌≡◌, IsErrOf};
+ghost use Rattle.std.specs.Prelude.{◌≡◌, ℕ, List, IsErrOf, IfOk, MatchResult};
+ghost use Rattle.dv_top.specs.declared.instruction.Instruction.{Instruction};
+ghost use Rattle.dv_top.specs.Straight.{IsStraight};
+ghost use Rattle.dv_top.specs.Image.{image_of, IsLinked};
 ghost use Rattle.dv_io.specs.Io.{HasRisen};
 ghost use Rattle.dv_top.specs.Status.{code_of, IsFound};
 
@@ -101,7 +104,10 @@ fn reply_to_text(
 }
 
 /// Reads, assembles and links the straight text of a class.
-fn image_of(alloc: Global, class: &Text, text: &[u8]) -> Result<Image, Refusal> {
+fn image_of(alloc: Global, class: &Text, text: &[u8]) -> Result<Image, Refusal>
+    ensures linked { IfOk result (λ image. IsLinked class.now text.now image) }
+    ensures every { (registers : ℕ) (insns : List Instruction) → IsStraight class.now text.now registers insns → MatchResult result (λ image. image ≡ image_of class.now registers insns) (λ e. e ≡ Refusal.Memory) }
+{
     let straight = read_straight(alloc, text, class)?;
     let body = assemble(alloc, &straight)?;
     Ok(link(alloc, class, body)?)

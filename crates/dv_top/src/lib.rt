@@ -11,7 +11,11 @@ use std::thread::Threads;
 
 mod answering;
 mod assembling;
-mod line;
+mod cursor;
+mod forms;
+mod hexadecimal;
+mod instruction;
+mod laws;
 mod linking;
 mod machine;
 mod names;

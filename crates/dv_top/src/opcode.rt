@@ -1,6 +1,4 @@
-// The opcodes that are built, and the instructions that they make.
-use dv_defs::{Insn, Regs};
-
+// The opcodes that are built.
 /// An opcode of the Dalvik bytecode page that is built.
 #[derive(Clone, Copy, PartialEq, Eq, Debug)]
 pub enum Opcode {
@@ -25,43 +23,6 @@ impl Opcode {
             0x71 => Some(Opcode::InvokeStatic),
             0x90 => Some(Opcode::AddInt),
             _ => None,
-        }
-    }
-
-    /// The instruction without operands.
-    pub fn bare(self) -> Insn {
-        self.with(0, [0; 5], 0)
-    }
-
-    /// The instruction that puts a literal into a register.
-    pub fn constant(self, to: u16, lit: i64) -> Insn {
-        self.with(1, [to, 0, 0, 0, 0], lit)
-    }
-
-    /// The instruction over one register, which names the first member of its pool where it names one.
-    pub fn one(self, a: u16) -> Insn {
-        self.with(1, [a, 0, 0, 0, 0], 0)
-    }
-
-    pub fn two(self, a: u16, b: u16) -> Insn {
-        self.with(2, [a, b, 0, 0, 0], 0)
-    }
-
-    pub fn three(self, a: u16, b: u16, c: u16) -> Insn {
-        self.with(3, [a, b, c, 0, 0], 0)
-    }
-
-    fn with(self, count: u8, first: [u16; 5], lit: i64) -> Insn {
-        Insn {
-            op: self as u8,
-            regs: Regs {
-                count,
-                first,
-                range: false,
-            },
-            lit,
-            off: 0,
-            index: 0,
         }
     }
 }

@@ -1,9 +1,15 @@
 // Reads a straight text: one class with one straight main method.
-ghost use Rattle.std.specs.Prelude.{◌<◌, length, OnSome};
+ghost use Rattle.std.specs.Prelude.{◌≡◌, ℕ, ◌≤◌, List, IfOk, IfSome, MatchResult, IsTrue, ◌↔◌, sum_by};
+ghost use Rattle.dv_top.specs.declared.instruction.Instruction.{Instruction};
+ghost use Rattle.dv_top.specs.declared.straight.Refusal.TheVariants.{Memory};
+ghost use Rattle.dv_top.specs.Straight.{IsStraight, IsMain, header_of, text_before, size_of};
+ghost use Rattle.dv_top.specs.Parts.{IsBody};
 
-use crate::line::Line;
-use crate::opcode::Opcode;
-use dv_defs::{Insn, Text};
+use crate::cursor::Cursor;
+use crate::forms::instruction;
+use crate::instruction::Instruction;
+use crate::names::{CONSOLE, OBJECT};
+use dv_defs::{Seq, Text};
 use std::alloc::{AllocError, AllocFailed, Global};
 
 /// Why a text gives no program.
@@ -16,12 +22,16 @@ pub enum Refusal {
 }
 
 impl From<AllocError> for Refusal {
+    ghost from_gives = { λ _ e. e ≡ Memory };
+
     fn from(_: AllocError) -> Refusal {
         Refusal::Memory
     }
 }
 
 impl<T: Drop> From<AllocFailed<T>> for Refusal {
+    ghost from_gives = { λ _ e. e ≡ Memory };
+
     fn from(_: AllocFailed<T>) -> Refusal {
         Refusal::Memory
     }
@@ -31,138 +41,81 @@ impl<T: Drop> From<AllocFailed<T>> for Refusal {
 #[derive(Debug, Drop)]
 pub struct Straight {
     pub registers: u16,
-    pub insns: Vec<Insn>,
+    pub insns: Seq<Instruction>,
 }
 
-const OBJECT: &[u8] = b"Ljava/lang/Object;";
-
-const CONSOLE: &[u8] = b"Ldvm/Console;";
-
-const PRINTLN: &[u8] = b"}, Ldvm/Console;->println(I)V";
+/// The most units of 16 bits that a method has.
+const MOST_UNITS: usize = 16384;
 
 /// Reads the straight text of this class.
-pub fn read_straight(alloc: Global, text: &[u8], class: &Text) -> Result<Straight, Refusal> {
-    let mut reader = Reader { rest: text };
-    let registers = reader.header(class.bytes()).ok_or(Refusal::NotBuilt)?;
-    let insns = reader.body(alloc, registers)?;
-    Ok(Straight { registers, insns })
-}
-
-/// What is left to be read of a text.
-#[derive(Drop)]
-struct Reader<'a> {
-    rest: &'a [u8],
-}
-
-impl<'a> Reader<'a> {
-    /// The next line without its LF, where one is left.
-    fn line(&mut self) -> Option<&'a [u8]>
-        ensures { OnSome result (length self.new.rest.now < length self.old.rest.now) }
-    {
-        let length = self.rest.iter().position(|b| *b == b'\n')?;
-        let line = &self.rest[..length];
-        self.rest = &self.rest[length + 1..];
-        Some(line)
+pub fn read_straight(alloc: Global, text: &[u8], class: &Text) -> Result<Straight, Refusal>
+    ensures read { IfOk result (λ s. IsStraight class.now text.now s.registers s.insns) }
+    ensures every { (registers : ℕ) (insns : List Instruction) → IsStraight class.now text.now registers insns → MatchResult result (λ s. (s.registers ≡ registers) × (s.insns ≡ insns)) (λ e. e ≡ Refusal.Memory) }
+{
+    let class = class.bytes();
+    if class == OBJECT || class == CONSOLE {
+        return Err(Refusal::NotBuilt);
     }
-
-    fn expect(&mut self, line: &[u8]) -> Option<()> {
-        if self.line()? == line { Some(()) } else { None }
-    }
-
-    /// The lines before the instructions, which give the number of registers.
-    fn header(&mut self, class: &[u8]) -> Option<u16> {
-        if class == OBJECT || class == CONSOLE {
-            return None;
-        }
-        let mut begin = Line::new(self.line()?);
-        begin.skip(b".class ")?;
-        begin.skip(class)?;
-        begin.end()?;
-        self.expect(b".super Ljava/lang/Object;")?;
-        self.expect(b".method static main()V")?;
-        let mut registers = Line::new(self.line()?);
-        registers.skip(b".registers ")?;
-        let count = registers.count()?;
-        registers.end()?;
-        Some(count)
-    }
-
-    /// The instructions, the last of which is return-void, up to the line that ends the method and the text.
-    fn body(&mut self, alloc: Global, registers: u16) -> Result<Vec<Insn>, Refusal> {
-        let mut insns = Vec::new(alloc);
-        'lines: while let Some(line) = self.line() {
-            if Line::new(line).is(b".end method") {
-                return if self.rest.is_empty() && ends_with_return(&insns) {
-                    Ok(insns)
-                } else {
-                    Err(Refusal::NotBuilt)
-                };
-            }
-            insns.push(instruction(line, registers).ok_or(Refusal::NotBuilt)?)?;
-        }
+    let mut rest = Cursor::new(text);
+    let Some(registers) = header(&mut rest, class) else {
+        return Err(Refusal::NotBuilt);
+    };
+    let insns = body(alloc, rest, registers)?;
+    if is_main(&insns) {
+        Ok(Straight {
+            registers,
+            insns: Seq::of(insns),
+        })
+    } else {
         Err(Refusal::NotBuilt)
     }
 }
 
-fn ends_with_return(insns: &[Insn]) -> bool {
-    match insns {
-        [.., last] => last.op == Opcode::ReturnVoid as u8,
-        [] => false,
-    }
+/// Passes over the lines before the instructions, which give the number of registers, 16 at most.
+fn header(rest: &mut Cursor, class: &[u8]) -> Option<u16>
+    ensures found { IfSome result (λ n. (n ≤ 16) × (rest.old.rest.now ≡ text_before (header_of class.now n) rest.new.rest.now)) }
+    ensures every { (n : ℕ) (tail : List ℕ) → n ≤ 16 → rest.old.rest.now ≡ text_before (header_of class.now n) tail → (result ≡ Some n) × (rest.new.rest.now ≡ tail) }
+{
+    rest.skip(b".class ")?;
+    rest.skip(class)?;
+    rest.skip(b"\n.super Ljava/lang/Object;\n.method static main()V\n.registers ")?;
+    let count = rest.count()?;
+    rest.skip(b"\n")?;
+    if count <= 16 { Some(count) } else { None }
 }
 
-/// The instruction on a line.
-fn instruction(line: &[u8], registers: u16) -> Option<Insn> {
-    let mut rest = Line::new(line);
-    if rest.is(b"nop") {
-        return Some(Opcode::Nop.bare());
+/// The instructions up to the line that ends the method and the text.
+fn body(alloc: Global, mut rest: Cursor, registers: u16) -> Result<Vec<Instruction>, Refusal>
+    requires { registers ≤ 16 }
+    ensures read { IfOk result (λ insns. IsBody registers insns.items rest.entry.rest.now) }
+    ensures every { (insns : List Instruction) → IsBody registers insns rest.entry.rest.now → MatchResult result (λ found. found.items ≡ insns) (λ e. e ≡ Refusal.Memory) }
+{
+    let mut insns = Vec::new(alloc);
+    'lines: while let Some(line) = rest.line() {
+        if line == b".end method".as_slice() {
+            return match rest.is(b"") {
+                Some(()) => Ok(insns),
+                None => Err(Refusal::NotBuilt),
+            };
+        }
+        let Some(insn) = instruction(line, registers) else {
+            return Err(Refusal::NotBuilt);
+        };
+        insns.push(insn)?;
     }
-    if rest.is(b"return-void") {
-        return Some(Opcode::ReturnVoid.bare());
-    }
-    if rest.skip(b"const/4 ").is_some() {
-        return constant(Opcode::Const4, rest, registers);
-    }
-    if rest.skip(b"const/16 ").is_some() {
-        return constant(Opcode::Const16, rest, registers);
-    }
-    if rest.skip(b"move ").is_some() {
-        return move_int(rest, registers);
-    }
-    if rest.skip(b"add-int ").is_some() {
-        return add_int(rest, registers);
-    }
-    rest.skip(b"invoke-static {")?;
-    println_int(rest, registers)
+    Err(Refusal::NotBuilt)
 }
 
-fn constant(op: Opcode, mut rest: Line, registers: u16) -> Option<Insn> {
-    let to = rest.register(registers)?;
-    rest.skip(b", ")?;
-    Some(op.constant(to, rest.number()?))
+/// Whether the last instruction is return-void, and the units are few enough for a body.
+fn is_main(insns: &[Instruction]) -> bool
+    ensures { IsTrue result ↔ IsMain insns.now }
+{
+    insns.last() == Some(&Instruction::ReturnVoid) && is_short(insns)
 }
 
-fn move_int(mut rest: Line, registers: u16) -> Option<Insn> {
-    let to = rest.register(registers)?;
-    rest.skip(b", ")?;
-    let from = rest.register(registers)?;
-    rest.end()?;
-    Some(Opcode::Move.two(to, from))
-}
-
-fn add_int(mut rest: Line, registers: u16) -> Option<Insn> {
-    let to = rest.register(registers)?;
-    rest.skip(b", ")?;
-    let left = rest.register(registers)?;
-    rest.skip(b", ")?;
-    let right = rest.register(registers)?;
-    rest.end()?;
-    Some(Opcode::AddInt.three(to, left, right))
-}
-
-fn println_int(mut rest: Line, registers: u16) -> Option<Insn> {
-    let from = rest.register(registers)?;
-    rest.skip(PRINTLN)?;
-    rest.end()?;
-    Some(Opcode::InvokeStatic.one(from))
+/// Whether the units are few enough for a body.
+fn is_short(insns: &[Instruction]) -> bool
+    ensures { IsTrue result ↔ (sum_by size_of insns.now ≤ 16384) }
+{
+    insns.len() <= MOST_UNITS && insns.iter().map(|insn| insn.size()).sum::<usize>() <= MOST_UNITS
 }

@@ -50,7 +50,6 @@ enum Resolved {
 
 impl Code<'_> {
     /// The instruction at an address with its size in units, or the static rule that it breaks.
-    #[tactic(auto, using(crate::proofs::Sizes::built_size))]
     fn fetch(&self, at: usize) -> Result<(Resolved, usize), Rule>
         requires { at < length self.now.body.now.units }
         ensures { IfOk result (λ found. (0 < found.1) × (found.1 < 2 ^ 32)) }

@@ -1,0 +1,5 @@
+use Rattle.dv_machine.proofs.RunClasses as facts
+use Rattle.dv_machine.proofs.initialising.Goals as goal
+
+pub returns : goal.returns
+returns c = record { examples = facts.initialising }

@@ -1,0 +1,5 @@
+use Rattle.dv_machine.proofs.RunSeeded as facts
+use Rattle.dv_machine.proofs.seeded_runs.Goals as goal
+
+pub returns : goal.returns
+returns c = record { examples = facts.seeded_runs }

@@ -1,0 +1,77 @@
+-- What a finished run prints after all.
+use Rattle.std.specs.Prelude.{ℕ, suc, ◌++◌, Bool, true, false, List, [], ◌∷◌, drop, Option, Some, None, nat_eq, decimal, codes}
+use Rattle.dv_defs.specs.declared.names.Ty.{Ty}
+use Rattle.dv_defs.specs.declared.image.Image.{Image}
+use Rattle.dv_defs.specs.declared.run.Value.{Value}
+use Rattle.dv_defs.specs.declared.run.Value.TheVariants as v
+use Rattle.dv_defs.specs.declared.run.Ending.{Ending}
+use Rattle.dv_defs.specs.declared.run.Ending.TheVariants as ending
+use Rattle.dv_defs.specs.declared.machine.End.{End}
+use Rattle.dv_defs.specs.declared.machine.End.TheVariants as end
+use Rattle.dv_defs.specs.declared.machine.Blocked.{Blocked}
+use Rattle.dv_defs.specs.declared.machine.Blocked.TheVariants as blocked
+use Rattle.dv_defs.specs.Types.{class_in}
+use Rattle.dv_defs.specs.Pools.{name_at}
+use Rattle.dv_defs.specs.Heap.{Heap, cell_at}
+use Rattle.dv_machine.specs.State.{Thread, Machine, type_of}
+use Rattle.dv_machine.specs.Texts.{text_of, utf8}
+use Rattle.dv_machine.specs.Unwinding.{throwable_slot}
+use Rattle.dv_machine.specs.Running.{ending_of, blocked_thread}
+
+abbrev pub newline : List ℕ
+newline = 10 ∷ []
+
+abbrev pub ends_well : List ℕ → Bool
+ends_well [] = true
+ends_well (b ∷ bs) = elim bs [ [] ↦ nat_eq b 10 | c ∷ cs ↦ ends_well bs ]
+
+abbrev pub closed : List ℕ → List ℕ
+closed bs = elim (ends_well bs) [ true ↦ bs | false ↦ bs ++ newline ]
+
+-- java.lang.Error of Ljava/lang/Error;
+abbrev pub dotted : List ℕ → List ℕ
+dotted [] = []
+dotted (b ∷ bs) = elim (nat_eq b 59) [ true ↦ [] | false ↦ elim (nat_eq b 47) [ true ↦ 46 ∷ dotted bs | false ↦ b ∷ dotted bs ] ]
+
+abbrev pub java_text : List ℕ → List ℕ
+java_text name = dotted (drop 1 name)
+
+abbrev pub message : Image → Heap → ℕ → List ℕ
+message image heap o = of_value (cell_at heap o (throwable_slot image (codes "message")))
+  where
+    of_value : Value → List ℕ
+    of_value (v.Ref (suc s)) = codes ": " ++ utf8 (text_of heap (suc s))
+    of_value x = []
+
+abbrev pub class_text : Ty → List ℕ
+class_text t = elim (class_in t.base) [ None ↦ [] | Some name ↦ java_text name ]
+
+abbrev pub uncaught : Image → Heap → List Thread → ℕ → List ℕ
+uncaught image heap [] k = []
+uncaught image heap (t ∷ ts) k = of_end t.end ++ uncaught image heap ts (suc k)
+  where
+    of_end : End → List ℕ
+    of_end (end.Died o) = codes "#uncaught " ++ decimal k ++ codes " " ++ class_text (type_of image heap o) ++ message image heap o ++ newline
+    of_end e = []
+
+abbrev pub blocked_text : Image → Blocked → List ℕ
+blocked_text image blocked.Monitor = codes " monitor"
+blocked_text image blocked.Wait = codes " wait"
+blocked_text image (blocked.Class c) = codes " class " ++ name_at image c.0
+blocked_text image (blocked.Join u) = codes " join " ++ decimal u
+
+abbrev pub blocked_lines : Image → Machine → List Thread → ℕ → List ℕ
+blocked_lines image m [] k = []
+blocked_lines image m (t ∷ ts) k = elim (blocked_thread image m k t) [ None ↦ [] | Some b ↦ codes "#blocked " ++ decimal k ++ blocked_text image b ++ newline ] ++ blocked_lines image m ts (suc k)
+
+abbrev pub ending_lines : Image → Machine → Option Ending → List ℕ
+ending_lines image m None = []
+ending_lines image m (Some ending.Done) = codes "#end done" ++ newline
+ending_lines image m (Some (ending.HeapFull t)) = codes "#end heap full " ++ decimal t ++ newline
+ending_lines image m (Some (ending.StackFull t)) = codes "#end stack full " ++ decimal t ++ newline
+ending_lines image m (Some ending.NoRunnable) = blocked_lines image m m.threads 0 ++ codes "#end blocked" ++ newline
+ending_lines image m (Some ending.Steps) = codes "#end steps" ++ newline
+ending_lines image m (Some ending.Output) = codes "#end output" ++ newline
+
+abbrev pub final_text : Image → Machine → List ℕ
+final_text image m = closed m.shared.output ++ uncaught image m.shared.heap m.threads 0 ++ ending_lines image m (ending_of image m)

@@ -1,0 +1,93 @@
+-- How the examples write images. They leave out what no definition reads: lines, tables, the names of superclasses
+-- and interfaces, and the names of fields and methods in pools, which stand resolved.
+use Rattle.std.specs.Prelude.{ℕ, false, List, [], map, Option, Some, None}
+use Rattle.dv_defs.specs.declared.names.Base.TheVariants as base
+use Rattle.dv_defs.specs.declared.names.Ty.{Ty}
+use Rattle.dv_defs.specs.declared.names.ClassId.{ClassId}
+use Rattle.dv_defs.specs.declared.names.MethodId.{MethodId}
+use Rattle.dv_defs.specs.declared.names.FieldId.{FieldId}
+use Rattle.dv_defs.specs.declared.code.Body.{Body}
+use Rattle.dv_defs.specs.declared.code.Try.{Try}
+use Rattle.dv_defs.specs.declared.code.Handler.{Handler}
+use Rattle.dv_defs.specs.declared.class.Init.{Init}
+use Rattle.dv_defs.specs.declared.class.Init.TheVariants as init
+use Rattle.dv_defs.specs.declared.class.FieldDef.{FieldDef}
+use Rattle.dv_defs.specs.declared.class.MethodDef.{MethodDef}
+use Rattle.dv_defs.specs.declared.image.ClassInfo.{ClassInfo}
+use Rattle.dv_defs.specs.declared.image.FieldInfo.{FieldInfo}
+use Rattle.dv_defs.specs.declared.image.MethodInfo.{MethodInfo}
+use Rattle.dv_defs.specs.Types.{of_base}
+
+abbrev pub int : Ty
+int = of_base base.I
+
+abbrev pub long : Ty
+long = of_base base.J
+
+abbrev pub char : Ty
+char = of_base base.C
+
+abbrev pub boolean : Ty
+boolean = of_base base.Z
+
+abbrev pub byte : Ty
+byte = of_base base.B
+
+abbrev pub short : Ty
+short = of_base base.S
+
+-- a handler of the type at a place of the body's pool, and one that catches all
+abbrev pub catch_type : ℕ → ℕ → Handler
+catch_type kind to = record { kind = Some kind; at = to }
+
+abbrev pub catch_all : ℕ → Handler
+catch_all to = record { kind = None; at = to }
+
+abbrev pub entry_over : ℕ → ℕ → List Handler → Try
+entry_over start end handlers = record { start = start; end = end; handlers = handlers }
+
+-- registers, units, try entries, strings and types
+abbrev pub body_with : ℕ → List ℕ → List Try → List (List ℕ) → List Ty → Body
+body_with registers units tries strings types = record { registers = registers; units = units; tries = tries; strings = strings; types = types; fields = []; methods = []; raw = false }
+
+abbrev pub body : ℕ → List ℕ → Body
+body registers units = body_with registers units [] [] []
+
+-- name, parameters, result, flags: static 0x8, native 0x400, abstract 0x1000
+abbrev pub method : List ℕ → List Ty → Option Ty → ℕ → Option Body → MethodDef
+method name params ret flags b = record { name = name; proto = record { params = params; ret = ret }; flags = flags; body = b }
+
+abbrev pub field : List ℕ → Ty → ℕ → FieldDef
+field name t flags = record { name = name; ty = t; flags = flags; init = init.Absent }
+
+abbrev pub with_init : Init → FieldDef → FieldDef
+with_init i f = record { name = f.name; ty = f.ty; flags = f.flags; init = i }
+
+abbrev pub class_ids : List ℕ → List ClassId
+class_ids cs = map (λ c. record { 0 = c }) cs
+
+abbrev pub field_ids : List ℕ → List FieldId
+field_ids xs = map (λ x. record { 0 = x }) xs
+
+abbrev pub method_ids : List ℕ → List MethodId
+method_ids ms = map (λ m. record { 0 = m }) ms
+
+abbrev pub numbered : Option ℕ → Option ClassId
+numbered None = None
+numbered (Some c) = Some (record { 0 = c })
+
+-- name, superclass, interfaces, flags (final 0x10, interface 0x800), fields, methods, slots
+abbrev pub class : List ℕ → Option ℕ → List ℕ → ℕ → List FieldDef → List MethodDef → List ℕ → ClassInfo
+class name parent interfaces flags fields methods slots = record { def = record { name = name; parent = None; interfaces = []; flags = flags; fields = fields; methods = methods; line = 0 }; parent = numbered parent; interfaces = class_ids interfaces; slots = field_ids slots; table = [] }
+
+-- class and place, with the types, fields and methods that the body names
+abbrev pub info : ℕ → ℕ → List Ty → List ℕ → List ℕ → MethodInfo
+info c place types fields methods = record { class = record { 0 = c }; place = place; types = types; fields = field_ids fields; methods = method_ids methods }
+
+-- of a method without a body, or whose body names nothing
+abbrev pub bare : ℕ → ℕ → MethodInfo
+bare c place = info c place [] [] []
+
+-- class, place and first cell
+abbrev pub field_info : ℕ → ℕ → ℕ → FieldInfo
+field_info c place slot = record { class = record { 0 = c }; place = place; slot = slot }

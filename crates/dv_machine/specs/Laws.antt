@@ -1,0 +1,78 @@
+-- The laws of types, of transfer and demand, and of acceptance, as statements.
+use Rattle.std.specs.Prelude.{◌≡◌, ℕ, Bool, true, List, length, Some, None, All, IfSome}
+use Rattle.dv_defs.specs.declared.image.Image.{Image}
+use Rattle.dv_defs.specs.declared.typing.RegType.{RegType}
+use Rattle.dv_defs.specs.declared.typing.RegType.TheVariants as ty
+use Rattle.dv_defs.specs.declared.typing.RegState.{RegState}
+use Rattle.std.specs.Prelude.{◌≤◌, ◌<◌, ◌↔◌, ◌^◌, take}
+use Rattle.dv_defs.specs.Types.{is_reference}
+use Rattle.dv_defs.specs.Pools.{Method}
+use Rattle.dv_defs.specs.Spelling.{spelling}
+use Rattle.dv_defs.specs.Decoding.{Sized, insn_here}
+use Rattle.dv_defs.specs.Op.{Op}
+use Rattle.dv_defs.specs.Statics.{At}
+use Rattle.dv_defs.specs.RegTypes.{IsBelow}
+use Rattle.dv_defs.specs.Demands.{ok}
+use Rattle.dv_defs.specs.Transfer.{out}
+use Rattle.dv_defs.specs.Joins.{join_state}
+use Rattle.dv_defs.specs.Accepting.{Accepts}
+use Rattle.dv_machine.specs.WellTyped.{Typings}
+use Rattle.dv_machine.specs.Accepted.{IsHierarchy, IsOrder, IsTyped, FindsRightly}
+
+-- ---- instructions and units
+
+-- the first units are the spelling of the instruction
+pub record IsSpelledHere (us : List ℕ) (x : Sized) : Type 0 where
+  pub spelled : spelling x.insn ≡ Some (take x.size us)
+  pub whole : x.size ≤ length us
+
+-- an instruction stands where its spelling does
+abbrev pub DecodingInvertsSpelling : Type 0
+DecodingInvertsSpelling = (us : List ℕ) → All (λ u. u < 2 ^ 16) us → (x : Sized) → (insn_here us ≡ Some x) ↔ IsSpelledHere us x
+
+-- ---- order and join
+
+abbrev pub TypesAreOrdered : Type 0
+TypesAreOrdered = (image : Image) → IsHierarchy image → IsOrder image
+
+pub record IsStateOrder (image : Image) : Type 0 where
+  pub same : (s : RegState) → IsBelow image s s
+  pub trans : (s t u : RegState) → IsBelow image s t → IsBelow image t u → IsBelow image s u
+
+abbrev pub StatesAreOrdered : Type 0
+StatesAreOrdered = (image : Image) → IsHierarchy image → IsStateOrder image
+
+-- what a type names is a class or an array
+abbrev pub refers : RegType → Bool
+refers (ty.Class t) = is_reference t
+refers t = true
+
+pub record RefersRightly (s : RegState) : Type 0 where
+  pub regs : All (λ t. refers t ≡ true) s.regs
+  pub caught : IfSome s.caught (λ t. is_reference t ≡ true)
+
+-- the least state above two
+pub record IsJoin (image : Image) (s t j : RegState) : Type 0 where
+  pub first : IsBelow image s j
+  pub second : IsBelow image t j
+  pub least : (u : RegState) → IsBelow image s u → IsBelow image t u → IsBelow image j u
+
+abbrev pub JoinIsLeast : Type 0
+JoinIsLeast = (image : Image) → IsHierarchy image → (s t : RegState) → RefersRightly s → RefersRightly t → length s.regs ≡ length t.regs → IsJoin image s t (join_state image s t)
+
+-- ---- transfer and demand
+
+abbrev pub TransferIsMonotone : Type 0
+TransferIsMonotone = (image : Image) → IsHierarchy image → (m : Method) (at : ℕ) (op : Op) (s t : RegState) → IsBelow image s t → IsBelow image (out image m at op s) (out image m at op t)
+
+abbrev pub DemandIsAntitone : Type 0
+DemandIsAntitone = (image : Image) → IsHierarchy image → (m : Method) (x : At) (s t : RegState) → IsBelow image s t → ok image m x t ≡ None → ok image m x s ≡ None
+
+-- ---- acceptance and look-up
+
+-- each address that has a state keeps a record of what it owes
+abbrev pub AcceptanceGivesRecords : Type 0
+AcceptanceGivesRecords = (image : Image) → Accepts image → (T : Typings) × IsTyped image T
+
+abbrev pub LookUpsFind : Type 0
+LookUpsFind = (image : Image) → FindsRightly image

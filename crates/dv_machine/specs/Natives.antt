@@ -1,0 +1,82 @@
+-- The native methods of the boot classes.
+use Rattle.std.specs.Prelude.{ℕ, ◌+◌, ◌%◌, ◌++◌, Bool, true, false, List, [], ◌∷◌, length, take, drop, ℤ, pos, negsuc, Option, Some, None, slice_get, slice_index_or, nat_le, bytes_eq}
+use Rattle.dv_defs.specs.declared.run.Value.{Value}
+use Rattle.dv_defs.specs.declared.run.Value.TheVariants as v
+use Rattle.dv_defs.specs.declared.run.Named.TheVariants as named
+use Rattle.dv_defs.specs.declared.run.Native.{Native}
+use Rattle.dv_defs.specs.declared.run.Native.TheVariants as native
+use Rattle.dv_defs.specs.declared.machine.Pending.TheVariants as pending
+use Rattle.dv_defs.specs.declared.machine.Kind.{Kind}
+use Rattle.dv_defs.specs.declared.machine.Kind.TheVariants as kind
+use Rattle.dv_defs.specs.Numbers.{long_of, bits32}
+use Rattle.dv_defs.specs.Heap.{Heap, kind_of, newest, alloc_string, cells_at, length_of}
+use Rattle.dv_machine.specs.State.{truth, Left, Did, Throws, NoOutput, where_room, where_true, with_result, Here, onward, with_heap, with_output}
+use Rattle.dv_machine.specs.Mem.{on_object}
+use Rattle.dv_machine.specs.Texts.{text_of, utf8}
+use Rattle.dv_machine.specs.Threads.{wait_on, notify_on, notify_all_on, start_on, join_on, own_object, goes}
+use Rattle.std.specs.Fmt.{signed_decimal}
+
+-- a word as a number and as an object; the arguments were read before
+abbrev pub number_of : Value → ℤ
+number_of (v.Num n) = n
+number_of x = pos 0
+
+abbrev pub object_number : Value → ℕ
+object_number (v.Ref o) = o
+object_number x = 0
+
+abbrev pub half_of : Value → ℕ
+half_of (v.Lo n) = n
+half_of (v.Hi n) = n
+half_of x = 0
+
+-- an argument word by its place
+abbrev pub arg : List Value → ℕ → Value
+arg xs k = slice_index_or xs k v.Undef
+
+abbrev pub gives : Here → Value → Did Left
+gives h x = onward h h.shared (with_result h.frame h.next (pending.One x))
+
+abbrev pub gives_object : Here → Heap → Did Left
+gives_object h heap = onward h (with_heap h.shared heap) (with_result h.frame h.next (pending.One (v.Ref (newest heap))))
+
+abbrev pub new_text : Here → List ℕ → Did Left
+new_text h s = where_room (alloc_string h.shared.heap s) (gives_object h)
+
+abbrev pub char_at : Here → List ℕ → ℤ → Did Left
+char_at h s (negsuc n) = Throws named.IndexOutOfBounds
+char_at h s (pos k) = elim (slice_get s k) [ None ↦ Throws named.IndexOutOfBounds | Some c ↦ gives h (v.Num (pos c)) ]
+
+abbrev pub same_text : List ℕ → Option Kind → Bool
+same_text s (Some (kind.Str t)) = bytes_eq s t
+same_text s k = false
+
+abbrev pub units_of : List Value → List ℕ
+units_of [] = []
+units_of (x ∷ xs) = bits32 (number_of x) % 65536 ∷ units_of xs
+
+-- count units from start on, where the array has them
+abbrev pub some_chars : Here → ℕ → ℤ → ℤ → Did Left
+some_chars h o (pos start) (pos count) = where_true (nat_le (start + count) (length_of h.shared.heap o)) named.IndexOutOfBounds (new_text h (units_of (take count (drop start (cells_at h.shared.heap o)))))
+some_chars h o start count = Throws named.IndexOutOfBounds
+
+-- one printing step, whole or not at all
+abbrev pub printed : Here → List ℕ → Did Left
+printed h bs = elim (nat_le (length h.shared.output + length bs) h.limits.output) [ true ↦ goes h (with_output h.shared (h.shared.output ++ bs)) | false ↦ NoOutput ]
+
+-- a native with its argument words, the receiver's first
+abbrev pub native_step : Here → Native → List Value → Did Left
+native_step h native.Wait xs = wait_on h (object_number (arg xs 0))
+native_step h native.Notify xs = notify_on h (object_number (arg xs 0))
+native_step h native.NotifyAll xs = notify_all_on h (object_number (arg xs 0))
+native_step h native.Start xs = start_on h (object_number (arg xs 0))
+native_step h native.Join xs = join_on h (object_number (arg xs 0))
+native_step h native.CurrentThread xs = gives h (v.Ref (own_object h))
+native_step h native.Length xs = gives h (v.Num (pos (length (text_of h.shared.heap (object_number (arg xs 0))))))
+native_step h native.CharAt xs = char_at h (text_of h.shared.heap (object_number (arg xs 0))) (number_of (arg xs 1))
+native_step h native.Equals xs = gives h (truth (same_text (text_of h.shared.heap (object_number (arg xs 0))) (kind_of h.shared.heap (object_number (arg xs 1)))))
+native_step h native.Concat xs = on_object (λ o. new_text h (text_of h.shared.heap (object_number (arg xs 0)) ++ text_of h.shared.heap o)) (object_number (arg xs 1))
+native_step h native.OfLong xs = new_text h (signed_decimal (long_of (half_of (arg xs 0)) (half_of (arg xs 1))))
+native_step h native.OfChars xs = on_object (λ o. some_chars h o (number_of (arg xs 1)) (number_of (arg xs 2))) (object_number (arg xs 0))
+native_step h native.Print xs = on_object (λ o. printed h (utf8 (text_of h.shared.heap o))) (object_number (arg xs 0))
+native_step h native.Println xs = printed h (signed_decimal (number_of (arg xs 0)) ++ 10 ∷ [])

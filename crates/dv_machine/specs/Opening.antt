@@ -1,0 +1,127 @@
+-- The state in which a run begins.
+use Rattle.std.specs.Prelude.{ℕ, suc, Bool, true, false, ◌&&◌, List, [], ◌∷◌, ℤ, Option, Some, None, bytes_eq, codes}
+use Rattle.dv_defs.specs.declared.flags.Flag.TheVariants as flag
+use Rattle.dv_defs.specs.Flags.{has_flag}
+use Rattle.dv_defs.specs.Names.{string_name, thread_name, system_name, stream_name}
+use Rattle.dv_defs.specs.Types.{is_long}
+use Rattle.dv_defs.specs.RegTypes.{reg_types}
+use Rattle.dv_defs.specs.Pools.{Method, Field, field_at, name_at, supers, initialiser}
+use Rattle.dv_defs.specs.Numbers.{lo_of, hi_of}
+use Rattle.dv_defs.specs.Heap.{Heap, Cells, class_cells, fresh_cells, grown, newest, intern, Got, with_static}
+use Rattle.dv_defs.specs.Classes.{Fresh, InProgress, Ready, Classes, with_state}
+use Rattle.dv_machine.specs.Local.{const_value}
+use Rattle.dv_machine.specs.State.{Machine}
+use Rattle.dv_machine.specs.Calls.{entered_frame}
+use Rattle.dv_machine.specs.Unwinding.{number_named}
+use Rattle.dv_defs.specs.declared.names.Base.TheVariants as base
+use Rattle.dv_defs.specs.declared.names.Ty.{Ty}
+use Rattle.dv_defs.specs.declared.image.Image.{Image}
+use Rattle.dv_defs.specs.declared.image.ClassInfo.{ClassInfo}
+use Rattle.dv_defs.specs.declared.image.FieldInfo.{FieldInfo}
+use Rattle.dv_defs.specs.declared.run.Value.{Value}
+use Rattle.dv_defs.specs.declared.run.Value.TheVariants as v
+use Rattle.dv_defs.specs.declared.run.Limits.{Limits}
+use Rattle.dv_defs.specs.declared.machine.Frame.{Frame}
+use Rattle.dv_defs.specs.declared.machine.Level.{Level}
+use Rattle.dv_defs.specs.declared.machine.Level.TheVariants as level
+use Rattle.dv_defs.specs.declared.machine.Kind.{Kind}
+use Rattle.dv_defs.specs.declared.machine.Kind.TheVariants as kind
+use Rattle.dv_defs.specs.declared.machine.End.TheVariants as end
+use Rattle.dv_defs.specs.declared.class.Init.{Init}
+use Rattle.dv_defs.specs.declared.class.Init.TheVariants as init
+use Rattle.dv_defs.specs.declared.class.FieldDef.{FieldDef}
+
+-- uncounted, so never full
+abbrev pub made : Heap → Kind → Cells → Heap
+made heap k cells = grown heap k cells 0
+
+abbrev pub object_made : Image → Heap → List ℕ → Heap
+object_made image heap name = made heap (kind.Object (record { 0 = number_named image name })) (fresh_cells (class_cells image (number_named image name)))
+
+-- the cells of a static field before strings are made
+abbrev pub number_cells : Ty → ℤ → Cells
+number_cells t n = elim (is_long t) [ true ↦ v.Lo (lo_of n) ∷ v.Hi (hi_of n) ∷ [] | false ↦ const_value n ∷ [] ]
+
+abbrev pub first_cells : FieldDef → Cells
+first_cells x = elim (has_flag x.flags flag.Static) [ true ↦ by_init x.init | false ↦ [] ]
+  where
+    by_init : Init → Cells
+    by_init (init.Num n) = number_cells x.ty n
+    by_init i = fresh_cells (reg_types x.ty)
+
+abbrev pub field_cells : Image → List FieldInfo → ℕ → List Cells
+field_cells image [] k = []
+field_cells image (i ∷ is) k = elim (field_at image k) [ None ↦ [] | Some x ↦ first_cells x.def ] ∷ field_cells image is (suc k)
+
+abbrev pub string_of : Init → Option (List ℕ)
+string_of (init.Str s) = Some s
+string_of i = None
+
+abbrev pub interned_here : Heap → ℕ → Option Got → Heap
+interned_here heap k None = heap
+interned_here heap k (Some g) = with_static g.heap k 0 (v.Ref g.object)
+
+abbrev pub with_string : Heap → ℕ → Option (List ℕ) → Heap
+with_string heap k None = heap
+with_string heap k (Some s) = interned_here heap k (intern heap s)
+
+-- the strings of static fields, by class and field
+abbrev pub with_strings : Image → List FieldInfo → ℕ → Heap → Heap
+with_strings image [] k heap = heap
+with_strings image (i ∷ is) k heap = with_strings image is (suc k) (elim (field_at image k) [ None ↦ heap | Some x ↦ with_string heap k (string_of x.def.init) ])
+
+abbrev pub is_out : Image → Field → Bool
+is_out image x = bytes_eq (name_at image x.info.class.0) system_name && bytes_eq x.def.name (codes "out")
+
+-- System.out holds object 1
+abbrev pub with_out : Image → List FieldInfo → ℕ → Heap → Heap
+with_out image [] k heap = heap
+with_out image (i ∷ is) k heap = with_out image is (suc k) (elim (field_at image k) [ None ↦ heap | Some x ↦ elim (is_out image x) [ true ↦ with_static heap k 0 (v.Ref 1) | false ↦ heap ] ])
+
+abbrev pub empty_heap : Image → Heap
+empty_heap image = record { kinds = []; cells = []; statics = field_cells image image.fields 0; interned = []; class_objects = []; used = 0; limit = None }
+
+abbrev pub takes_array : Method → Bool
+takes_array m = elim m.def.proto.params [ [] ↦ false | p ∷ ps ↦ true ]
+
+abbrev pub array_made : Method → Heap → Heap
+array_made m heap = elim (takes_array m) [ true ↦ made heap (kind.Array (record { dims = 1; base = base.Class string_name })) [] | false ↦ heap ]
+
+abbrev pub counted_from : Limits → Heap → Heap
+counted_from l heap = record heap { used = 0; limit = Some l.heap }
+
+-- in this order: the object of System.out, thread 0's, the strings of static fields, main's array
+abbrev pub opening_heap : Image → Method → Limits → Heap
+opening_heap image m l = counted_from l (array_made m (with_strings image image.fields 0 (with_out image image.fields 0 (object_made image (object_made image (empty_heap image) stream_name) thread_name))))
+
+-- none of these classes declares an initialiser
+abbrev pub none_initialised : Image → List ℕ → Bool
+none_initialised image [] = true
+none_initialised image (c ∷ cs) = elim (initialiser image c) [ Some m ↦ false | None ↦ none_initialised image cs ]
+
+-- a class is born initialised where neither it nor a superclass declares an initialiser
+abbrev pub is_born : Image → ℕ → Bool
+is_born image c = none_initialised image (supers image c)
+
+abbrev pub first_states : Image → List ClassInfo → ℕ → Classes
+first_states image [] k = []
+first_states image (c ∷ cs) k = elim (is_born image k) [ true ↦ Ready | false ↦ Fresh ] ∷ first_states image cs (suc k)
+
+abbrev pub main_args : Method → Heap → List Value
+main_args m heap = elim (takes_array m) [ true ↦ v.Ref (newest heap) ∷ [] | false ↦ [] ]
+
+-- above main's frame stands a record of its class, where that isn't born initialised
+abbrev pub opening_levels : Method → Frame → Bool → List Level
+opening_levels m f true = level.Code f ∷ []
+opening_levels m f false = level.Init m.info.class false ∷ level.Code f ∷ []
+
+abbrev pub opening_states : Method → Classes → Bool → Classes
+opening_states m cs true = cs
+opening_states m cs false = with_state cs m.info.class.0 (InProgress 0)
+
+abbrev pub opened : Image → Limits → Method → Heap → Bool → Machine
+opened image l m heap born = record { threads = record { levels = opening_levels m (entered_frame m (main_args m heap) false) born; end = end.Living; object = 2 } ∷ []; shared = record { heap = heap; classes = opening_states m (first_states image image.classes 0) born; monitors = record { held = []; waits = [] }; output = [] }; steps = 0; stop = None; limits = l }
+
+-- the state in which a run of a main method begins
+abbrev pub opening : Image → Method → Limits → Machine
+opening image m l = opened image l m (opening_heap image m l) (is_born image m.info.class.0)

@@ -1,0 +1,100 @@
+-- The faults of a method as the examples find them: states are passed on over all instructions, again and again. Only
+-- the examples know of this; what a fault is is said by the least assignment.
+use Rattle.std.specs.Prelude.{ℕ, zero, suc, ◌++◌, true, false, List, [], ◌∷◌, length, replicate, Option, Some, None, slice_set, slice_index_or}
+use Rattle.dv_defs.specs.declared.faults.Rule.{Rule}
+use Rattle.dv_defs.specs.declared.faults.Rule.TheVariants as rule
+use Rattle.dv_defs.specs.declared.image.Image.{Image}
+use Rattle.dv_defs.specs.declared.typing.RegState.{RegState}
+use Rattle.dv_defs.specs.Tiling.{Tile}
+use Rattle.dv_defs.specs.Op.{Code, code_at, can_throw}
+use Rattle.dv_defs.specs.Statics.{At, fetch}
+use Rattle.dv_defs.specs.Demands.{ok}
+use Rattle.dv_defs.specs.Transfer.{entry_state, out}
+use Rattle.dv_defs.specs.Flow.{Catcher, targets, handlers_at, thrown_at, caught_state}
+use Rattle.dv_defs.specs.Joins.{join_state}
+use Rattle.dv_defs.specs.Accepting.{Place, static_places}
+
+-- by address
+abbrev pub States : Type 0
+States = List (Option RegState)
+
+abbrev pub state_at : States → ℕ → Option RegState
+state_at states at = slice_index_or states at None
+
+abbrev pub joined_at : Image → States → ℕ → RegState → States
+joined_at image states to s = slice_set states to (elim (state_at states to) [ None ↦ Some s | Some t ↦ Some (join_state image t s) ])
+
+-- where an instruction stands
+abbrev pub given : Image → ℕ → ℕ → RegState → States → States
+given image n to s states = elim (fetch image n to) [ None ↦ states | Some x ↦ joined_at image states to s ]
+
+abbrev pub given_all : Image → ℕ → List ℕ → RegState → States → States
+given_all image n [] s states = states
+given_all image n (to ∷ tos) s states = given_all image n tos s (given image n to s states)
+
+abbrev pub given_handlers : Image → ℕ → List Catcher → RegState → States → States
+given_handlers image n [] s states = states
+given_handlers image n (h ∷ hs) s states = given_handlers image n hs s (given image n h.to (caught_state s h) states)
+
+abbrev pub handled : Image → ℕ → ℕ → At → RegState → States → States
+handled image n at x s states = elim (can_throw x.op) [ true ↦ given_handlers image n (handlers_at image n (thrown_at at x)) s states | false ↦ states ]
+
+abbrev pub passed_on : Image → Code → ℕ → Option At → Option RegState → States → States
+passed_on image code at (Some x) (Some s) states = handled image code.method.id at x s (given_all image code.method.id (targets x) (out image code.method at x.op s) states)
+passed_on image code at x s states = states
+
+abbrev pub passed_over : Image → Code → List Tile → States → States
+passed_over image code [] states = states
+passed_over image code (t ∷ ts) states = passed_over image code ts (passed_on image code t.at (fetch image code.method.id t.at) (state_at states t.at) states)
+
+abbrev pub passes : Image → Code → ℕ → States → States
+passes image code zero states = states
+passes image code (suc n) states = passes image code n (passed_over image code code.tiles states)
+
+abbrev pub begun : Image → Code → States
+begun image code = Some (entry_state image code.method code.body.registers) ∷ replicate (length code.body.units) None
+
+-- an address with the rule that is broken there
+pub record Broken : Type 0 where
+  pub at : ℕ
+  pub rule : Rule
+
+abbrev pub broken_at : ℕ → Option Rule → List Broken
+broken_at at None = []
+broken_at at (Some r) = record { at = at; rule = r } ∷ []
+
+abbrev pub demanded : Image → Code → Option At → Option RegState → Option Rule
+demanded image code (Some x) (Some s) = ok image code.method x s
+demanded image code x s = None
+
+abbrev pub broken_in : Image → Code → States → List Tile → List Broken
+broken_in image code states [] = []
+broken_in image code states (t ∷ ts) = broken_at t.at (demanded image code (fetch image code.method.id t.at) (state_at states t.at)) ++ broken_in image code states ts
+
+abbrev pub static_broken : List Place → List Broken
+static_broken [] = []
+static_broken (p ∷ ps) = record { at = p.at; rule = rule.S p.rule } ∷ static_broken ps
+
+abbrev pub broken_by : Image → Code → List Place → List Broken
+broken_by image code (p ∷ ps) = static_broken (p ∷ ps)
+broken_by image code [] = broken_in image code (passes image code 6 (begun image code)) code.tiles
+
+abbrev pub broken_of : Image → Option Code → List Broken
+broken_of image None = []
+broken_of image (Some code) = broken_by image code (static_places image code)
+
+-- the faults of a method: its static ones, else those that six passes find
+abbrev pub faults_of : Image → ℕ → List Broken
+faults_of image n = broken_of image (code_at image n)
+
+-- of the methods below a number
+abbrev pub faults_below : Image → ℕ → List Broken
+faults_below image zero = []
+faults_below image (suc n) = faults_below image n ++ faults_of image n
+
+-- a static rule, and a typing rule, that is broken at an address
+abbrev pub S : ℕ → ℕ → Broken
+S n at = record { at = at; rule = rule.S n }
+
+abbrev pub V : ℕ → ℕ → Broken
+V n at = record { at = at; rule = rule.V n }

@@ -1,0 +1,171 @@
+-- A step of a thread: its layers, and what becomes of each outcome.
+use Rattle.std.specs.Prelude.{ℕ, suc, ◌++◌, Bool, true, false, List, [], ◌∷◌, Option, Some, None, Ok, Err, slice_get, slice_set}
+use Rattle.dv_defs.specs.declared.image.Image.{Image}
+use Rattle.dv_defs.specs.declared.run.Ending.{Ending}
+use Rattle.dv_defs.specs.declared.run.Ending.TheVariants as ending
+use Rattle.dv_defs.specs.declared.run.Named.TheVariants as named
+use Rattle.dv_defs.specs.declared.run.Why.TheVariants as why
+use Rattle.dv_defs.specs.declared.machine.Pending.TheVariants as pending
+use Rattle.dv_defs.specs.declared.machine.Frame.{Frame}
+use Rattle.dv_defs.specs.declared.machine.Level.{Level}
+use Rattle.dv_defs.specs.declared.machine.Level.TheVariants as level
+use Rattle.dv_defs.specs.declared.machine.End.{End}
+use Rattle.dv_defs.specs.declared.machine.End.TheVariants as end
+use Rattle.dv_defs.specs.declared.machine.Ask.{Ask}
+use Rattle.dv_defs.specs.declared.machine.Ask.TheVariants as ask
+use Rattle.dv_defs.specs.Pools.{Method, method_at, parent_at, initialiser}
+use Rattle.dv_defs.specs.Op.{Op, Enter, Exit, Invoke, ReturnVoid, Return, needs, is_local}
+use Rattle.dv_defs.specs.Statics.{At, fetch}
+use Rattle.dv_defs.specs.Flow.{handlers_at, is_exit}
+use Rattle.dv_defs.specs.Heap.{Heap, newest}
+use Rattle.dv_defs.specs.Classes.{ClassState, InProgress, Ready, ask_of, with_state}
+use Rattle.dv_machine.specs.State.{Thread, Machine, Left, Did, Go, Throws, ThrowsRef, NoWords, NoRoom, NoOutput, IsStuck, Reads, reading, reg_at, read_any, Here, left, onward, with_heap, with_classes, pushed}
+use Rattle.dv_machine.specs.Mem.{on_object, mem}
+use Rattle.dv_machine.specs.Local.{local}
+use Rattle.dv_machine.specs.Calls.{entered_frame, invoke, return_void, return_form}
+use Rattle.dv_machine.specs.Natives.{native_step}
+use Rattle.dv_machine.specs.Threads.{monitor_enter, monitor_exit}
+use Rattle.dv_machine.specs.Unwinding.{Caught, Flies, Lacking, unwind_record, handler_for, unwind_frame, Unwound, made_object, leaves}
+
+-- ---- a code level
+
+abbrev pub local_left : Here → Op → Did Left
+local_left h op = reading (local op h.frame h.next) (onward h h.shared)
+
+-- what an operation does once its class is ready
+abbrev pub act : Here → Op → Did Left
+act h (Invoke c ks g) = invoke h (native_step h) c ks g
+act h ReturnVoid = return_void h
+act h (Return w a) = return_form h w a
+act h (Enter a) = reading (read_any h.shared.heap (reg_at h.frame.regs a)) (on_object (monitor_enter h))
+act h (Exit a) = reading (read_any h.shared.heap (reg_at h.frame.regs a)) (on_object (monitor_exit h))
+act h op = elim (is_local op) [ true ↦ local_left h op | false ↦ mem h op ]
+
+-- a record of the class is pushed on these levels
+abbrev pub begun : Here → ℕ → List Level → Did Left
+begun h c ls = pushed h (with_classes h.shared (with_state h.shared.classes c (InProgress h.thread))) (level.Init (record { 0 = c }) false) ls
+
+-- `Init` of the class's number
+abbrev pub for_class : Here → List Level → ℕ → Ask → Did Left → Did Left
+for_class h ls c ask.Go go = go
+for_class h ls c ask.Begin go = begun h c ls
+for_class h ls c (ask.Wait u) go = left h h.shared ls
+for_class h ls c ask.Bad go = Throws named.NoClassDef
+
+abbrev pub with_ready : Here → Op → Option ℕ → Did Left
+with_ready h op None = act h op
+with_ready h op (Some c) = for_class h (level.Code h.frame ∷ h.rest) c (ask_of h.shared.classes c h.thread) (act h op)
+
+-- ---- a record
+
+-- the classes that a record looks at, in order
+abbrev pub prior : Image → ℕ → List ℕ
+prior image c = elim (parent_at image c) [ None ↦ [] | Some p ↦ p ∷ [] ]
+
+abbrev pub ended_record : Here → ℕ → ClassState → Did Left
+ended_record h c s = left h (with_classes h.shared (with_state h.shared.classes c s)) h.rest
+
+abbrev pub run_initialiser : Here → ℕ → Did Left
+run_initialiser h c = elim (initialiser h.image c) [ None ↦ ended_record h c Ready | Some m ↦ pushed h h.shared (level.Code (entered_frame m [] false)) (level.Init (record { 0 = c }) true ∷ h.rest) ]
+
+abbrev pub look_at : Here → ℕ → List ℕ → Did Left
+look_at h c [] = run_initialiser h c
+look_at h c (p ∷ ps) = for_class h (level.Init (record { 0 = c }) false ∷ h.rest) p (ask_of h.shared.classes p h.thread) (look_at h c ps)
+
+abbrev pub record_step : Here → ℕ → Bool → Did Left
+record_step h c true = ended_record h c Ready
+record_step h c false = look_at h c (prior h.image c)
+
+-- ---- what becomes of an outcome
+
+-- one thread's step has been done
+abbrev pub listed : Option Thread → List Thread
+listed None = []
+listed (Some t) = t ∷ []
+
+abbrev pub with_thread : Machine → ℕ → Thread → Left → Machine
+with_thread m t th l = record { threads = slice_set m.threads t th ++ listed l.started; shared = l.shared; steps = suc m.steps; stop = m.stop; limits = m.limits }
+
+-- only the stop and the count change
+abbrev pub stopped : Machine → Ending → Machine
+stopped m e = record { threads = m.threads; shared = m.shared; steps = suc m.steps; stop = Some e; limits = m.limits }
+
+abbrev pub end_after : List Level → End
+end_after [] = end.Returned
+end_after (l ∷ ls) = end.Living
+
+abbrev pub end_flying : ℕ → List Level → End
+end_flying o [] = end.Died o
+end_flying o (l ∷ ls) = end.Flying o
+
+abbrev pub gone_on : Machine → ℕ → Thread → Left → Machine
+gone_on m t th l = with_thread m t (record { levels = l.levels; end = end_after l.levels; object = th.object }) l
+
+abbrev pub flown : Machine → ℕ → Thread → ℕ → Left → Machine
+flown m t th o l = with_thread m t (record { levels = l.levels; end = end_flying o l.levels; object = th.object }) l
+
+-- a throwing step leaves the address, but monitor-exit's moves on first
+abbrev pub moved_on : Option At → List Level → List Level
+moved_on (Some x) (level.Code f ∷ ls) = elim (is_exit x.op) [ true ↦ level.Code (record { method = f.method; at = x.next; regs = f.regs; result = f.result; caught = f.caught; this_pending = f.this_pending }) ∷ ls | false ↦ level.Code f ∷ ls ]
+moved_on x ls = ls
+
+abbrev pub thrown : Machine → ℕ → Thread → Option At → Option Heap → Machine
+thrown m t th x None = stopped m (ending.HeapFull t)
+thrown m t th x (Some heap) = flown m t th (newest heap) (leaves (with_heap m.shared heap) (moved_on x th.levels))
+
+abbrev pub settled : Image → Machine → ℕ → Thread → Option At → Did Left → Reads Machine
+settled image m t th x (Go l) = Ok (gone_on m t th l)
+settled image m t th x (Throws n) = Ok (thrown m t th x (made_object image m.shared.heap n))
+settled image m t th x (ThrowsRef o) = Ok (flown m t th o (leaves m.shared th.levels))
+settled image m t th x NoWords = Ok (stopped m (ending.HeapFull t))
+settled image m t th x NoRoom = Ok (stopped m (ending.StackFull t))
+settled image m t th x NoOutput = Ok (stopped m ending.Output)
+settled image m t th x (IsStuck y) = Err y
+
+abbrev pub settled_flight : Machine → ℕ → Thread → Unwound → Reads Machine
+settled_flight m t th (Caught l) = Ok (gone_on m t th l)
+settled_flight m t th (Flies o l) = Ok (flown m t th o l)
+settled_flight m t th Lacking = Ok (stopped m (ending.HeapFull t))
+
+-- ---- a step
+
+abbrev pub here : Image → Machine → ℕ → Method → Frame → List Level → ℕ → Here
+here image m t own f ls next = record { image = image; limits = m.limits; threads = m.threads; thread = t; own = own; shared = m.shared; frame = f; rest = ls; next = next }
+
+-- a record's step sees no frame: this one stands in its place
+abbrev pub no_frame : Frame
+no_frame = record { method = record { 0 = 0 }; at = 0; regs = []; result = pending.None; caught = None; this_pending = false }
+
+abbrev pub no_method : Method
+no_method = record { id = 0; info = record { class = record { 0 = 0 }; place = 0; types = []; fields = []; methods = [] }; def = record { name = []; proto = record { params = []; ret = None }; flags = 0; body = None } }
+
+abbrev pub step_at : Image → Machine → ℕ → Thread → Method → Frame → List Level → Option At → Reads Machine
+step_at image m t th own f ls None = Err why.Instruction
+step_at image m t th own f ls (Some x) = settled image m t th (Some x) (with_ready (here image m t own f ls x.next) x.op (needs x.op))
+
+abbrev pub step_code : Image → Machine → ℕ → Thread → Frame → List Level → Option Method → Reads Machine
+step_code image m t th f ls None = Err why.Instruction
+step_code image m t th f ls (Some own) = step_at image m t th own f ls (fetch image f.method.0 f.at)
+
+abbrev pub step_flight : Image → Machine → ℕ → Thread → ℕ → List Level → Reads Machine
+step_flight image m t th o [] = Ok m
+step_flight image m t th o (level.Code f ∷ ls) = settled_flight m t th (unwind_frame (here image m t no_method f ls 0) f o (handler_for image m.shared.heap o (handlers_at image f.method.0 f.at)))
+step_flight image m t th o (level.Init c r ∷ ls) = settled_flight m t th (unwind_record (here image m t no_method no_frame ls 0) c.0 o)
+
+abbrev pub step_living : Image → Machine → ℕ → Thread → List Level → Reads Machine
+step_living image m t th [] = Ok m
+step_living image m t th (level.Code f ∷ ls) = step_code image m t th f ls (method_at image f.method.0)
+step_living image m t th (level.Init c r ∷ ls) = settled image m t th None (record_step (here image m t no_method no_frame ls 0) c.0 r)
+
+-- a thread that has ended, or is not there, stays as it is
+abbrev pub step_thread : Image → Machine → ℕ → Thread → End → Reads Machine
+step_thread image m t th end.Living = step_living image m t th th.levels
+step_thread image m t th (end.Flying o) = step_flight image m t th o th.levels
+step_thread image m t th e = Ok m
+
+abbrev pub step_of : Image → Machine → ℕ → Option Thread → Reads Machine
+step_of image m t None = Ok m
+step_of image m t (Some th) = step_thread image m t th th.end
+
+abbrev pub step : Image → Machine → ℕ → Reads Machine
+step image m t = step_of image m t (slice_get m.threads t)

@@ -1,0 +1,91 @@
+-- Monitors, waiting, starting and joining (JLS 17.1, 17.2).
+use Rattle.std.specs.Prelude.{ℕ, suc, Bool, true, false, List, [], ◌∷◌, length, Option, Some, None, slice_get, nat_eq, nat_lt, codes}
+use Rattle.dv_defs.specs.declared.image.Image.{Image}
+use Rattle.dv_defs.specs.declared.run.Value.TheVariants as v
+use Rattle.dv_defs.specs.declared.run.Named.TheVariants as named
+use Rattle.dv_defs.specs.declared.machine.Level.TheVariants as level
+use Rattle.dv_defs.specs.declared.machine.End.{End}
+use Rattle.dv_defs.specs.declared.machine.End.TheVariants as end
+use Rattle.dv_defs.specs.Pools.{Method, is_abstract, nearest, no_arguments}
+use Rattle.dv_defs.specs.Heap.{kind_of}
+use Rattle.dv_defs.specs.Monitors.{Wait, held_of, owner_of, entered, exited, waiting, notified_one, notified_all, entry_of, resumed}
+use Rattle.dv_machine.specs.State.{Thread, Shared, Left, Did, Go, Throws, where_true, gone, Here, onward, with_monitors}
+use Rattle.dv_machine.specs.Calls.{class_of_kind, entered_frame}
+
+-- a step of a thread that has to wait leaves the thread as it is
+abbrev pub stays : Here → Did Left
+stays h = onward h h.shared h.frame
+
+-- the instruction is done
+abbrev pub goes : Here → Shared → Did Left
+goes h sh = onward h sh (gone h.frame h.next h.frame.regs)
+
+abbrev pub free_or_mine : Here → Option ℕ → Bool
+free_or_mine h None = true
+free_or_mine h (Some t) = nat_eq t h.thread
+
+-- re-entrant
+abbrev pub monitor_enter : Here → ℕ → Did Left
+monitor_enter h o = elim (free_or_mine h (owner_of h.shared.monitors o)) [ true ↦ goes h (with_monitors h.shared (entered h.shared.monitors o h.thread 1)) | false ↦ stays h ]
+
+-- what only the owner does
+abbrev pub holding : Here → ℕ → (ℕ → Did Left) → Did Left
+holding h o go = elim (held_of h.shared.monitors o) [ None ↦ Throws named.IllegalMonitorState | Some x ↦ where_true (nat_eq x.thread h.thread) named.IllegalMonitorState (go x.count) ]
+
+abbrev pub monitor_exit : Here → ℕ → Did Left
+monitor_exit h o = holding h o (λ n. goes h (with_monitors h.shared (exited h.shared.monitors o)))
+
+-- the second step of a wait: notified, and the monitor is free
+abbrev pub taken_back : Here → Wait → Bool → Option ℕ → Did Left
+taken_back h w true None = goes h (with_monitors h.shared (resumed h.shared.monitors w))
+taken_back h w notified owner = stays h
+
+-- the first step gives the monitor up wholly and waits, the second takes it back as often as it was held
+abbrev pub wait_on : Here → ℕ → Did Left
+wait_on h o = elim (entry_of h.shared.monitors h.thread) [ Some w ↦ taken_back h w w.notified (owner_of h.shared.monitors w.object) | None ↦ holding h o (λ n. onward h (with_monitors h.shared (waiting h.shared.monitors o h.thread n)) h.frame) ]
+
+abbrev pub notify_on : Here → ℕ → Did Left
+notify_on h o = holding h o (λ n. goes h (with_monitors h.shared (notified_one h.shared.monitors o)))
+
+abbrev pub notify_all_on : Here → ℕ → Did Left
+notify_all_on h o = holding h o (λ n. goes h (with_monitors h.shared (notified_all h.shared.monitors o)))
+
+-- the thread of a Thread object, if it has one
+abbrev pub thread_from : List Thread → ℕ → ℕ → Option ℕ
+thread_from [] k o = None
+thread_from (t ∷ ts) k o = elim (nat_eq t.object o) [ true ↦ Some k | false ↦ thread_from ts (suc k) o ]
+
+abbrev pub thread_with : List Thread → ℕ → Option ℕ
+thread_with ts o = thread_from ts 0 o
+
+abbrev pub is_living : Option Thread → Bool
+is_living None = false
+is_living (Some t) = alive t.end
+  where
+    alive : End → Bool
+    alive end.Living = true
+    alive (end.Flying o) = true
+    alive e = false
+
+abbrev pub new_thread : ℕ → Method → Thread
+new_thread o m = record { levels = level.Code (entered_frame m (v.Ref o ∷ []) false) ∷ []; end = end.Living; object = o }
+
+abbrev pub started_on : Here → ℕ → Option Method → Did Left
+started_on h o None = Throws named.AbstractMethod
+started_on h o (Some m) = elim (is_abstract m) [ true ↦ Throws named.AbstractMethod | false ↦ Go (record { levels = level.Code (gone h.frame h.next h.frame.regs) ∷ h.rest; shared = h.shared; started = Some (new_thread o m) }) ]
+
+-- the run()V of an object's class
+abbrev pub run_method : Image → Option ℕ → Option Method
+run_method image None = None
+run_method image (Some c) = nearest image c (codes "run") no_arguments
+
+-- tested in this order: a thread of the object, the number of threads, an abstract run()V
+abbrev pub start_on : Here → ℕ → Did Left
+start_on h o = elim (thread_with h.threads o) [ Some u ↦ Throws named.IllegalThreadState | None ↦ where_true (nat_lt (length h.threads) h.limits.threads) named.OutOfMemory (started_on h o (run_method h.image (class_of_kind h.image (kind_of h.shared.heap o)))) ]
+
+-- goes on where the other thread has ended or was never started
+abbrev pub join_on : Here → ℕ → Did Left
+join_on h o = elim (thread_with h.threads o) [ None ↦ goes h h.shared | Some u ↦ elim (is_living (slice_get h.threads u)) [ true ↦ stays h | false ↦ goes h h.shared ] ]
+
+abbrev pub own_object : Here → ℕ
+own_object h = elim (slice_get h.threads h.thread) [ None ↦ 0 | Some t ↦ t.object ]

@@ -1,0 +1,17 @@
+// The laws of straight texts and of their bodies.
+ghost use Rattle.dv_top.specs.Laws.{IsReadOneWay, IsSpelledInItsSize, EachStandsAtItsAddress};
+
+/// A text is a straight text of a class in one way at most.
+pub fn one_way()
+    ensures { IsReadOneWay }
+{}
+
+/// An instruction has a spelling, of its size.
+pub fn spelled()
+    ensures { IsSpelledInItsSize }
+{}
+
+/// Each instruction of a body stands at its address, the sizes of those before it.
+pub fn addresses()
+    ensures { EachStandsAtItsAddress }
+{}
