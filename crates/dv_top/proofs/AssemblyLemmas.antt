@@ -1,10 +1,9 @@
 -- Instructions and their units.
-use Rattle.std.proofs.Common.{◌≡◌, ℕ, ◌+◌, ◌*◌, ◌^◌, ◌<◌, ◌≤◌, ◌⊎◌, inl, inr, ◌&&◌, Bool, true, false, ℤ, List, [], ◌∷◌, ◌++◌, length, take, drop, get_or, IsTrue, IsSome, IsSomeAnd, IsOkUnless, All, Option, Some, None, Result, Ok, Err, flat_map, sum_by, arith, ap, sym, ◌∙◌, refl, append_assoc, if◌then◌else◌, nat_lt, suc, zero, subst, length-append, is_some}
+use Rattle.std.proofs.Common.{◌≡◌, ℕ, ◌+◌, ◌<◌, ◌≤◌, inl, inr, ◌&&◌, Bool, true, List, [], ◌∷◌, ◌++◌, length, take, drop, get_or, IsSome, IsSomeAnd, All, Option, Some, None, flat_map, sum_by, arith, ap, sym, ◌∙◌, refl, if◌then◌else◌, suc, zero, length-append, is_some}
 use Rattle.std.specs.Option.{unwrap_or}
 use Rattle.std.proofs.Math.Seq.{drop-append-add, take-append_seam}
 use Rattle.std.proofs.lemmas.List.Sums.{sum_by-cons}
 use Rattle.std.proofs.lemmas.Bool.Decides.{nat_tests}
-use Rattle.std.proofs.lemmas.Grind.{common_steps}
 use Rattle.dv_defs.specs.declared.code.Insn.{Insn}
 use Rattle.dv_defs.specs.Formats.{format_at}
 use Rattle.dv_defs.specs.Spelling.{spelling, spelled, insn_eq, fits, fits_signed, unit, byte, complement}

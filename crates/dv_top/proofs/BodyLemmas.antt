@@ -1,5 +1,5 @@
 -- Lines of instructions that are read one after another.
-use Rattle.std.proofs.Common.{◌≡◌, ℕ, ◌+◌, ◌<◌, ◌≤◌, ◌⊎◌, inl, inr, ◌&&◌, not, nat_eq, ◌/◌, ◌%◌, Bool, true, false, List, [], ◌∷◌, ◌++◌, IsTrue, decimal, codes, arith, ap, sym, ◌∙◌, refl, append_assoc, append-nil, sum_by, length, get_or, suc, zero, subst, Option, Some, None, ℤ}
+use Rattle.std.proofs.Common.{◌≡◌, ℕ, ◌<◌, ◌≤◌, inl, inr, not, nat_eq, true, List, [], ◌∷◌, ◌++◌, decimal, codes, arith, ap, sym, ◌∙◌, refl, append_assoc, append-nil, sum_by, length, get_or, suc, zero, subst, Option, Some, None, ℤ}
 use Rattle.std.specs.List.{list_all, AllZip}
 use Rattle.std.proofs.lemmas.List.{append_cancel_left}
 use Rattle.std.proofs.lemmas.List.Folds.{list_all-append}

@@ -1,5 +1,5 @@
 -- A line is the line of one instruction at most.
-use Rattle.std.proofs.Common.{◌≡◌, ℕ, ◌+◌, ◌*◌, ◌/◌, ◌%◌, ◌<◌, ◌≤◌, ◌⊎◌, inl, inr, ℤ, pos, neg_ℤ, true, false, Bool, List, [], ◌∷◌, ◌++◌, IsTrue, decimal, codes, arith, ap, sym, ◌∙◌, Option, Some, None, IfSome, IfNone, nat_eq, get_or, if◌then◌else◌, refl, bytes_eq}
+use Rattle.std.proofs.Common.{◌≡◌, ℕ, ◌<◌, ◌≤◌, inl, inr, ℤ, pos, neg_ℤ, true, false, Bool, List, [], ◌++◌, IsTrue, decimal, codes, arith, ap, sym, ◌∙◌, Option, Some, None, IfSome, IfNone, nat_eq, get_or, if◌then◌else◌, refl, bytes_eq}
 use Rattle.std.specs.Option.{unwrap_or}
 use Rattle.std.proofs.lemmas.List.{append_cancel_left}
 use Rattle.std.proofs.lemmas.Bool.Decides.{Decides-eqb}

@@ -1,5 +1,5 @@
 -- Pieces that are read or written one after another.
-use Rattle.std.proofs.Common.{◌≡◌, ℕ, ◌+◌, ◌<◌, ◌≤◌, List, [], ◌∷◌, ◌++◌, length, take, drop, refl, ap, sym, ◌∙◌, append_assoc, arith, Option, Some, None, IfSome, length-append, length-drop, subst, Bool, true, false, ◌⊎◌, inl, inr, nat_lt, nat_eq}
+use Rattle.std.proofs.Common.{◌≡◌, ℕ, ◌+◌, ◌≤◌, List, [], ◌++◌, length, take, drop, refl, ap, sym, ◌∙◌, append_assoc, arith, Option, Some, None, IfSome, length-append, length-drop, subst}
 use Rattle.std.proofs.Math.Seq.{take-add}
 use Rattle.std.proofs.lemmas.List.{drop-drop, take_all, length-take-le}
 use Rattle.std.proofs.lemmas.Grind.{common_steps}

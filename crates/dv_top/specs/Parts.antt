@@ -1,5 +1,5 @@
 -- What the reader's parts find.
-use Rattle.std.specs.Prelude.{ℕ, ◌≡◌, Bool, true, ◌&&◌, not, nat_eq, nat_le, List, [], ◌∷◌, ◌++◌, codes, decimal}
+use Rattle.std.specs.Prelude.{ℕ, ◌≡◌, Bool, true, ◌&&◌, not, nat_eq, nat_le, List, [], ◌∷◌, ◌++◌, codes}
 use Rattle.std.specs.List.{list_all}
 use Rattle.dv_top.specs.declared.instruction.Instruction.{Instruction}
 use Rattle.dv_top.specs.Straight.{IsLine}

@@ -1,4 +1,6 @@
 // The top call over sources and sinks in memory.
+ghost use Rattle.std.specs.Prelude.{◌<◌};
+
 use super::*;
 use dv_io::{MemSink, MemSource, NoGate};
 use std::alloc::AllocError;

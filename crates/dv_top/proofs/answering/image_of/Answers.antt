@@ -1,6 +1,6 @@
-use Rattle.std.proofs.Common.{◌≡◌, ◌∙◌, ap, rules, List}
+use Rattle.std.proofs.Common.{◌≡◌, ◌∙◌, ap, rules}
 use Rattle.dv_top.specs.declared.straight.Refusal.TheVariants.{Memory}
-use Rattle.dv_top.specs.Image.{linked_of, image_of}
+use Rattle.dv_top.specs.Image.{linked_of}
 use Rattle.dv_top.specs.Assembly.{body_of}
 use Rattle.dv_top.proofs.BodyLemmas.{each_in_range}
 use Rattle.dv_top.proofs.answering.image_of.Goals as goal

@@ -1,4 +1,4 @@
-use Rattle.std.proofs.Common.{◌≡◌, ◌∙◌, ap, is_some}
+use Rattle.std.proofs.Common.{◌∙◌, ap, is_some}
 use Rattle.dv_defs.specs.Spelling.{spelling}
 use Rattle.dv_units.specs.Built.{is_built}
 use Rattle.dv_top.proofs.AssemblyLemmas.{appended, opcode_built}

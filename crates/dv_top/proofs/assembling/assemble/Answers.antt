@@ -1,4 +1,4 @@
-use Rattle.std.proofs.Common.{◌≡◌, ◌≤◌, ◌∙◌, ap, arith, List, All, length, subst, IsSome, sym, flat_map, []}
+use Rattle.std.proofs.Common.{◌≡◌, ◌∙◌, ap, arith, List, All, length, subst, IsSome, sym, flat_map, []}
 use Rattle.dv_defs.specs.Spelling.{spelling}
 use Rattle.dv_top.specs.declared.instruction.Instruction.{Instruction}
 use Rattle.dv_top.specs.Assembly.{insn_of, units_of}

@@ -1,5 +1,5 @@
-use Rattle.std.proofs.Common.{◌≡◌, ◌++◌, ◌∙◌, Some, ℤ, codes, refl}
-use Rattle.dv_top.specs.Straight.{register, IsNumber}
+use Rattle.std.proofs.Common.{◌++◌, ◌∙◌, codes, refl}
+use Rattle.dv_top.specs.Straight.{register}
 use Rattle.dv_top.proofs.forms.constant.Goals as goal
 
 pub returns-in_err-value-clause-every : goal.returns-in_err-value-clause-every

@@ -1,4 +1,4 @@
-use Rattle.std.proofs.Common.{◌≡◌, ℕ, ◌++◌, ◌∙◌, Some, codes, refl}
+use Rattle.std.proofs.Common.{ℕ, ◌++◌, ◌∙◌, codes}
 use Rattle.dv_top.specs.declared.instruction.Instruction.TheVariants.{Println}
 use Rattle.dv_top.specs.Straight.{register, IsLine}
 use Rattle.dv_top.proofs.FormLemmas.{none_holds}

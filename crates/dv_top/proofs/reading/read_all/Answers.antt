@@ -1,6 +1,5 @@
-use Rattle.std.proofs.Common.{arith, ◌∙◌, ap, sym, length, take, ◌≤◌, subst, List, ℕ, IfSome, ◌≡◌, [], Ok, ◌+◌, length-append}
+use Rattle.std.proofs.Common.{arith, ap, length, take, ◌≤◌, Ok, ◌+◌, length-append}
 use Rattle.std.proofs.lemmas.List.{length-take}
-use Rattle.dv_top.specs.Pieces.{ReadSoFar}
 use Rattle.dv_top.proofs.PieceLemmas.{read_more, read_all_at_end, read_all_past}
 use Rattle.dv_top.proofs.reading.read_all.Goals as goal
 

@@ -1,4 +1,4 @@
-use Rattle.std.proofs.Common.{◌≡◌, ◌≤◌, ◌-◌, length}
+use Rattle.std.proofs.Common.{◌≤◌, ◌-◌, length}
 use Rattle.dv_top.specs.Pieces.{ReadSoFar}
 use Rattle.dv_top.proofs.reading.read_all.Given as goal
 

@@ -2,7 +2,7 @@ use Rattle.std.proofs.Common.{◌≡◌, true, false, refl}
 use Rattle.dv_top.specs.declared.instruction.Instruction.{Instruction}
 use Rattle.dv_top.specs.Straight.{IsLine}
 use Rattle.dv_top.proofs.FormLemmas.{is_text, not_text, false_not_true, none_found}
-use Rattle.dv_top.proofs.BodyLemmas.{AreRead, line_read, end_read, only_read, none_on, none_left}
+use Rattle.dv_top.proofs.BodyLemmas.{line_read, end_read, only_read, none_on, none_left}
 use Rattle.dv_top.proofs.straight.body.Goals as goal
 
 pub returns-in-Some-is-clause-read : goal.returns-in-Some-is-clause-read

@@ -1,4 +1,4 @@
-use Rattle.std.proofs.Common.{◌≡◌, ◌≤◌, ◌++◌, ◌∷◌, [], codes, decimal, false, true}
+use Rattle.std.proofs.Common.{◌≡◌, ◌++◌, ◌∷◌, codes, decimal, false, true}
 use Rattle.dv_top.proofs.FormLemmas.{false_not_true}
 use Rattle.dv_top.proofs.BodyLemmas.{header_found}
 use Rattle.dv_top.proofs.straight.header.Goals as goal

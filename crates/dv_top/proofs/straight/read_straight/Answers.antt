@@ -1,4 +1,4 @@
-use Rattle.std.proofs.Common.{◌≡◌, ◌∙◌, sym, ap, subst, List, ℕ, refl, rules}
+use Rattle.std.proofs.Common.{◌≡◌, ◌∙◌, sym, ap, subst, List, refl, rules}
 use Rattle.dv_top.specs.declared.instruction.Instruction.{Instruction}
 use Rattle.dv_top.specs.declared.straight.Refusal.TheVariants.{Memory}
 use Rattle.dv_top.specs.Straight.{IsMain, header_of, text_before}

@@ -1,4 +1,4 @@
-use Rattle.std.proofs.Common.{◌≡◌, take, ◌∷◌, map, ◌==◌, if◌then◌else◌}
+use Rattle.std.proofs.Common.{◌≡◌, take, ◌∷◌, map, if◌then◌else◌}
 use Rattle.dv_top.specs.Words.{is_dot}
 use Rattle.dv_top.proofs.words.descriptor_of.Given as goal
 

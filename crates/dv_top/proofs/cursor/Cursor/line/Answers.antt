@@ -1,4 +1,4 @@
-use Rattle.std.proofs.Common.{◌≡◌, sym, true, rules, IfNone}
+use Rattle.std.proofs.Common.{◌≡◌, sym, true, rules}
 use Rattle.dv_top.specs.Parts.{is_one_line}
 use Rattle.dv_top.proofs.LineLemmas.{one_line_none, one_line_some, line_some}
 use Rattle.dv_top.proofs.cursor.Cursor.line.Goals as goal
