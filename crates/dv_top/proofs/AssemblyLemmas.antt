@@ -8,7 +8,6 @@ use Rattle.dv_defs.specs.declared.code.Insn.{Insn}
 use Rattle.dv_defs.specs.Formats.{format_at}
 use Rattle.dv_defs.specs.Spelling.{spelling, spelled, insn_eq, fits, fits_signed, unit, byte, complement}
 use Rattle.dv_defs.proofs.InsnEq.{insn_eq_tells}
-use Rattle.dv_units.specs.Built.{is_built}
 use Rattle.dv_top.specs.declared.instruction.Instruction.{Instruction}
 use Rattle.dv_top.specs.declared.instruction.Instruction.TheVariants.{Nop, ReturnVoid, Const4, Const16, Move, AddInt, Println}
 use Rattle.dv_top.specs.Straight.{IsInRange, size_of}
@@ -65,16 +64,6 @@ unfolding units_of
 length-units_of registers i few low =
     let s = spelled_insn registers i few low in
     ap (λ o. length (unwrap_or o [])) s.is ∙ s.size
-
-pub opcode_built : (i : Instruction) → is_built (insn_of i).op ≡ true
-unfolding is_built
-opcode_built Nop = refl
-opcode_built ReturnVoid = refl
-opcode_built (Const4 to value) = refl
-opcode_built (Const16 to value) = refl
-opcode_built (Move to from) = refl
-opcode_built (AddInt to left right) = refl
-opcode_built (Println from) = refl
 
 units_appended : (old new : List ℕ) (n : ℕ) (o : Option (List ℕ)) → IsSomeAnd o (λ us. (new ≡ old ++ us) × (n ≡ length us)) → new ≡ old ++ unwrap_or o []
 units_appended old new n (Some us) h = h.0

@@ -4,4 +4,3 @@ pub mod Decimals
 pub mod FormLemmas
 pub mod LineLemmas
 pub mod PieceLemmas
-pub mod Sizes

@@ -1,11 +1,12 @@
 -- What a format's reader says of the instructions that stand in units.
-use Rattle.std.proofs.Common.{◌≡◌, ℕ, ◌-◌, ◌%◌, ◌≤◌, List, length, take, drop, get_or, Option, None, Some, MatchOption, sym, ◌∙◌, ap, subst, arith, length-drop, add-zero}
+use Rattle.std.proofs.Common.{◌≡◌, ℕ, ◌-◌, ◌%◌, ◌≤◌, List, length, take, drop, get_or, Option, None, Some, true, is_some, MatchOption, sym, ◌∙◌, ap, subst, arith, length-drop, add-zero}
 use Rattle.std.proofs.lemmas.List.{get_or-take, get_or-drop, length-take-le}
 use Rattle.dv_defs.specs.declared.code.Insn.{Insn}
 use Rattle.dv_defs.specs.Formats.{Format, units_of, format_at, size_at, size_by}
 use Rattle.dv_defs.specs.Spelling.{spelling, spelling_by, spelling_in}
 use Rattle.dv_defs.proofs.SpellingFormats.{begins}
 use Rattle.dv_defs.proofs.SpellingLaws.{stands, stands_by_opcode, unique_where_both_stand, units_of_positive}
+use Rattle.dv_units.specs.Tables.{has_format}
 use Rattle.dv_units.specs.Reading.{StandAt, NoneStandsAt, IsReading, opcode_at}
 
 opcode_first : (units : List ℕ) (at : ℕ) → get_or (drop at units) 0 0 % 256 ≡ opcode_at units at
@@ -14,6 +15,7 @@ opcode_first units at = ap (λ n. n % 256) (get_or-drop at units 0 0 ∙ ap (λ 
 -- an instruction that stands at an address
 pub record IsAt (i : Insn) (us units : List ℕ) (at : ℕ) : Type 0 where
   pub opcode : i.op ≡ opcode_at units at
+  pub known : has_format (opcode_at units at) ≡ true
   pub size : length us ≡ size_at (opcode_at units at)
   pub room : size_at (opcode_at units at) ≤ length units - at
 
@@ -24,6 +26,7 @@ is_at i us units at p e =
     let size : size_at (opcode_at units at) ≡ units_of f = ap size_by (sym (ap format_at op) ∙ s.format) in
     record {
       opcode = op;
+      known = ap is_some (sym (ap format_at op) ∙ s.format);
       size = s.size ∙ sym size;
       room = omega (arith, size, s.whole, length-drop at units);
     }

@@ -1,3 +1,3 @@
-pub mod Built
+pub mod Tables
 pub mod Reading
 pub mod Laws

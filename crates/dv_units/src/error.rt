@@ -11,8 +11,6 @@ pub enum UnitError {
     Unused(u8),
     #[error("opcode {0:#04x} of a float instruction")]
     Float(u8),
-    #[error("opcode {0:#04x} is not built yet")]
-    NotBuilt(u8),
     #[error("the units end inside an instruction")]
     Cut,
     #[error("an operand does not fit its instruction")]

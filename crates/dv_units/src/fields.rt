@@ -1,6 +1,6 @@
 // The fields of units: bytes, nibbles and signed numbers.
-ghost use Rattle.std.specs.Prelude.{◌≡◌, ◌+◌, ◌-◌, ◌*◌, ◌/◌, ◌%◌, ◌^◌, ◌<◌, ◌≤◌, IsTrue, drop, length};
-ghost use Rattle.dv_defs.specs.Spelling.{all_fit, all_zero, byte, unit, complement, fits_signed};
+ghost use Rattle.std.specs.Prelude.{◌≡◌, ◌+◌, ◌-◌, ◌*◌, ◌/◌, ◌%◌, ◌^◌, ◌<◌, ◌≤◌, IsTrue, [], ◌∷◌, drop, length};
+ghost use Rattle.dv_defs.specs.Spelling.{all_fit, all_zero, byte, unit, complement, fits_signed, two_units, four_units};
 
 /// The high and the low byte of a unit.
 pub fn bytes(unit: u16) -> (u8, u8)
@@ -96,4 +96,74 @@ pub fn signed(value: u32, bits: u32) -> i64
     } else {
         i64::from(value) - (1i64 << bits)
     }
+}
+
+/// The same, for an offset.
+pub fn signed_offset(value: u32, bits: u32) -> i32
+    requires above { 1 ≤ bits }
+    requires below { bits ≤ 32 }
+    requires fits { value < 2 ^ bits }
+    ensures fits { IsTrue (fits_signed bits result) }
+    ensures value { complement bits result ≡ value }
+{
+    signed(value, bits) as i32
+}
+
+/// A signed number as the 64 bits of its two's complement.
+pub fn complement_64(value: i64) -> u64
+    ensures value { result ≡ complement 64 value }
+    ensures fits { IsTrue (fits_signed 64 value) }
+{
+    value.cast_unsigned()
+}
+
+/// The same, for a number of 32 bits.
+pub fn complement_32(value: i32) -> u32
+    ensures value { result ≡ complement 32 value }
+    ensures fits { IsTrue (fits_signed 32 value) }
+{
+    value.cast_unsigned()
+}
+
+/// The signed number of which these are the 64 bits of the two's complement.
+pub fn signed_64(value: u64) -> i64
+    ensures fits { IsTrue (fits_signed 64 result) }
+    ensures value { complement 64 result ≡ value }
+{
+    value.cast_signed()
+}
+
+/// A number of 32 bits in units, the low one first.
+pub fn two_units(value: u32) -> (u16, u16)
+    ensures { two_units value ≡ result.0 ∷ result.1 ∷ [] }
+{
+    ((value % 0x1_0000) as u16, (value / 0x1_0000) as u16)
+}
+
+/// The number of 32 bits in two units, the low one first.
+pub fn of_two_units(low: u16, high: u16) -> u32
+    ensures { two_units result ≡ low ∷ high ∷ [] }
+{
+    u32::from(high) * 0x1_0000 + u32::from(low)
+}
+
+/// A number of 64 bits in units, the lowest first.
+pub fn four_units(value: u64) -> [u16; 4]
+    ensures { result ≡ four_units value }
+{
+    [
+        (value % 0x1_0000) as u16,
+        (value / 0x1_0000 % 0x1_0000) as u16,
+        (value / 0x1_0000_0000 % 0x1_0000) as u16,
+        (value / 0x1_0000_0000_0000) as u16,
+    ]
+}
+
+/// The number of 64 bits in four units, the lowest first.
+pub fn of_four_units(a: u16, b: u16, c: u16, d: u16) -> u64
+    ensures { four_units result ≡ a ∷ b ∷ c ∷ d ∷ [] }
+{
+    let high = u64::from(d) * 0x1_0000 + u64::from(c);
+    let low = u64::from(b) * 0x1_0000 + u64::from(a);
+    high * 0x1_0000_0000 + low
 }

@@ -1,9 +1,9 @@
 // The laws of spelling, reading and writing.
-ghost use Rattle.std.specs.Prelude.{◌≡◌, ℕ, ◌<◌, ◌++◌, List, length, take, drop, Some, IfOk, IsSome, IsTrue, IsOkUnless};
+ghost use Rattle.std.specs.Prelude.{◌≡◌, ℕ, ◌<◌, ◌++◌, List, length, take, drop, Some, IfOk, IsSome, IsOkUnless};
 ghost use Rattle.dv_defs.specs.declared.code.Insn.{Insn};
 ghost use Rattle.dv_defs.specs.Spelling.{spelling};
 ghost use Rattle.dv_defs.specs.Formats.{size_at};
-ghost use Rattle.dv_units.specs.Built.{is_built};
+ghost use Rattle.dv_units.specs.Tables.{FormatsAgree, FloatsAgree};
 ghost use Rattle.dv_units.specs.Laws.{SpellingsAreApart};
 ghost use Rattle.dv_units.specs.Reading.{StandAt, opcode_at};
 
@@ -11,6 +11,12 @@ use crate::UnitError;
 use crate::read::decode;
 use crate::write::encode;
 use dv_defs::Insn;
+
+/// The table of opcodes and the standard's formats give each opcode the same format, and the same opcodes to floats.
+pub fn tables_agree()
+    ensures formats { FormatsAgree }
+    ensures floats { FloatsAgree }
+{}
 
 /// An instruction is determined by its spelling, and no spelling begins another.
 pub fn spellings_are_apart()
@@ -21,7 +27,7 @@ pub fn spellings_are_apart()
 pub fn decode_of_encode(insn: &Insn, out: &mut Vec<u16>) -> Result<(Insn, u32), UnitError>
     ensures same { IfOk result (λ r. r.0 ≡ insn.now) }
     ensures size { IfOk result (λ r. r.1 ≡ size_at insn.now.op) }
-    ensures only_memory { IsTrue (is_built insn.now.op) → IsSome (spelling insn.now) → IsOkUnless result UnitError.Memory }
+    ensures only_memory { IsSome (spelling insn.now) → IsOkUnless result UnitError.Memory }
 {
     let at = out.len();
     encode(insn, out)?;
@@ -34,7 +40,7 @@ pub fn encode_of_decode(units: &[u16], at: usize, out: &mut Vec<u16>) -> Result<
     ensures same { IfOk result (λ n. out.new.items ≡ out.old.items ++ take n (drop at units.now)) }
     ensures size { IfOk result (λ n. n ≡ size_at (opcode_at units.now at)) }
     ensures only_memory { (insn : Insn) (us : List ℕ) → spelling insn ≡ Some us → StandAt us units.now at →
-        IsTrue (is_built insn.op) → IsOkUnless result UnitError.Memory }
+        IsOkUnless result UnitError.Memory }
 {
     let (insn, _) = decode(units, at)?;
     encode(&insn, out)

@@ -16,6 +16,6 @@ mod write;
 mod writers;
 
 pub use error::UnitError;
-pub use laws::{decode_of_encode, encode_of_decode, spellings_are_apart};
+pub use laws::{decode_of_encode, encode_of_decode, spellings_are_apart, tables_agree};
 pub use read::decode;
 pub use write::encode;

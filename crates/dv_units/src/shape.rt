@@ -1,6 +1,6 @@
 // Instructions by the kinds of their operands.
 ghost use Rattle.std.specs.Prelude.{◌≡◌, [], ◌∷◌};
-ghost use Rattle.dv_defs.specs.Spelling.{few, plain, with_literal, with_index, insn_eq};
+ghost use Rattle.dv_defs.specs.Spelling.{few, neighbours, plain, with_literal, with_offset, with_index, insn_eq};
 
 use dv_defs::{Insn, Regs};
 
@@ -44,6 +44,16 @@ pub fn three_registers(a: u16, b: u16, c: u16) -> Regs
     }
 }
 
+pub fn neighbours(first: u16, count: u8) -> Regs
+    ensures { result ≡ neighbours first count }
+{
+    Regs {
+        count,
+        first: [first, 0, 0, 0, 0],
+        range: true,
+    }
+}
+
 pub fn plain(op: u8, regs: Regs) -> Insn
     ensures { result ≡ plain op regs }
 {
@@ -64,6 +74,18 @@ pub fn with_literal(op: u8, regs: Regs, lit: i64) -> Insn
         regs,
         lit,
         off: 0,
+        index: 0,
+    }
+}
+
+pub fn with_offset(op: u8, regs: Regs, off: i32) -> Insn
+    ensures { result ≡ with_offset op regs off }
+{
+    Insn {
+        op,
+        regs,
+        lit: 0,
+        off,
         index: 0,
     }
 }

@@ -47,6 +47,12 @@ impl Spelled {
         }
     }
 
+    pub fn five(units: [u16; 5]) -> Spelled
+        ensures { result ≡ units }
+    {
+        Spelled { units, len: 5 }
+    }
+
     pub fn as_slice(&self) -> &[u16]
         ensures { result.now ≡ self.now }
     {

@@ -1,4 +1,7 @@
-use crate::{UnitError, decode, decode_of_encode, encode, encode_of_decode, spellings_are_apart};
+use crate::{
+    UnitError, decode, decode_of_encode, encode, encode_of_decode, spellings_are_apart,
+    tables_agree,
+};
 use dv_defs::{Insn, Regs};
 use std::test::Fail;
 
@@ -17,22 +20,85 @@ fn insn(op: u8, count: u8, first: [u16; 5], lit: i64, index: u32) -> Insn {
     }
 }
 
-// Units and the instruction that they spell, worked by hand from the page on formats.
+/// An instruction with an offset.
+fn branch(op: u8, count: u8, first: [u16; 5], off: i32) -> Insn {
+    Insn {
+        off,
+        ..insn(op, count, first, 0, 0)
+    }
+}
+
+/// An invoke-static/range.
+fn range(count: u8, first: u16, index: u32) -> Insn {
+    Insn {
+        regs: Regs {
+            count,
+            first: [first, 0, 0, 0, 0],
+            range: true,
+        },
+        ..insn(0x77, 0, [0, 0, 0, 0, 0], 0, index)
+    }
+}
+
+// Units and the instruction that they spell, worked by hand from the page on formats: each format once at least.
 #[test]
 fn spells_both_ways(rt: HostRuntime) -> Result<(), Fail> {
-    let rows: [(&[u16], Insn); 11] = [
+    let rows: [(&[u16], Insn); 34] = [
         (&[0x0000], insn(0x00, 0, [0, 0, 0, 0, 0], 0, 0)),
         (&[0x000e], insn(0x0e, 0, [0, 0, 0, 0, 0], 0, 0)),
         (&[0x2101], insn(0x01, 2, [1, 2, 0, 0, 0], 0, 0)),
         (&[0xf112], insn(0x12, 1, [1, 0, 0, 0, 0], -1, 0)),
         (&[0x7012], insn(0x12, 1, [0, 0, 0, 0, 0], 7, 0)),
         (&[0x8f12], insn(0x12, 1, [15, 0, 0, 0, 0], -8, 0)),
+        (&[0x050a], insn(0x0a, 1, [5, 0, 0, 0, 0], 0, 0)),
+        (&[0xfe28], branch(0x28, 0, [0, 0, 0, 0, 0], -2)),
+        (&[0x0029, 0xfffe], branch(0x29, 0, [0, 0, 0, 0, 0], -2)),
+        (&[0x0102, 0x012c], insn(0x02, 2, [1, 300, 0, 0, 0], 0, 0)),
+        (&[0x0338, 0x0004], branch(0x38, 1, [3, 0, 0, 0, 0], 4)),
         (&[0x0313, 0xfffe], insn(0x13, 1, [3, 0, 0, 0, 0], -2, 0)),
         (
             &[0xff13, 0x7fff],
             insn(0x13, 1, [255, 0, 0, 0, 0], 32767, 0),
         ),
+        (&[0x0015, 0x0001], insn(0x15, 1, [0, 0, 0, 0, 0], 65536, 0)),
+        (
+            &[0x0115, 0x8000],
+            insn(0x15, 1, [1, 0, 0, 0, 0], -2147483648, 0),
+        ),
+        (
+            &[0x0219, 0xffff],
+            insn(0x19, 1, [2, 0, 0, 0, 0], -281474976710656, 0),
+        ),
+        (&[0x011a, 0x0005], insn(0x1a, 1, [1, 0, 0, 0, 0], 0, 5)),
         (&[0x0090, 0x0201], insn(0x90, 3, [0, 1, 2, 0, 0], 0, 0)),
+        (&[0x00d8, 0xff01], insn(0xd8, 2, [0, 1, 0, 0, 0], -1, 0)),
+        (&[0x2132, 0x0003], branch(0x32, 2, [1, 2, 0, 0, 0], 3)),
+        (&[0x21d0, 0xfffd], insn(0xd0, 2, [1, 2, 0, 0, 0], -3, 0)),
+        (&[0x2152, 0x0007], insn(0x52, 2, [1, 2, 0, 0, 0], 0, 7)),
+        (
+            &[0x002a, 0xfffe, 0xfffe],
+            branch(0x2a, 0, [0, 0, 0, 0, 0], -65538),
+        ),
+        (
+            &[0x0003, 0x0100, 0xffff],
+            insn(0x03, 2, [256, 65535, 0, 0, 0], 0, 0),
+        ),
+        (
+            &[0x0114, 0x5678, 0x1234],
+            insn(0x14, 1, [1, 0, 0, 0, 0], 0x12345678, 0),
+        ),
+        (
+            &[0x0017, 0xffff, 0xffff],
+            insn(0x17, 1, [0, 0, 0, 0, 0], -1, 0),
+        ),
+        (
+            &[0x002b, 0x0008, 0x0001],
+            branch(0x2b, 1, [0, 0, 0, 0, 0], 65544),
+        ),
+        (
+            &[0x011b, 0x0003, 0x0002],
+            insn(0x1b, 1, [1, 0, 0, 0, 0], 0, 0x20003),
+        ),
         (
             &[0x1071, 0x0005, 0x0000],
             insn(0x71, 1, [0, 0, 0, 0, 0], 0, 5),
@@ -40,6 +106,16 @@ fn spells_both_ways(rt: HostRuntime) -> Result<(), Fail> {
         (
             &[0x5571, 0x1234, 0x4321],
             insn(0x71, 5, [1, 2, 3, 4, 5], 0, 0x1234),
+        ),
+        (&[0x0477, 0x0009, 0x0002], range(4, 2, 9)),
+        (&[0x0077, 0x0009, 0x0000], range(0, 0, 9)),
+        (
+            &[0x0118, 0xdef0, 0x9abc, 0x5678, 0x1234],
+            insn(0x18, 1, [1, 0, 0, 0, 0], 0x1234_5678_9abc_def0, 0),
+        ),
+        (
+            &[0x0118, 0xfffe, 0xffff, 0xffff, 0xffff],
+            insn(0x18, 1, [1, 0, 0, 0, 0], -2, 0),
         ),
     ];
     for (units, insn) in rows {
@@ -55,16 +131,23 @@ fn spells_both_ways(rt: HostRuntime) -> Result<(), Fail> {
 
 #[test]
 fn refuses_units(rt: HostRuntime) -> Result<(), Fail> {
-    let rows: [(&[u16], UnitError); 9] = [
+    let rows: [(&[u16], UnitError); 16] = [
         (&[0x003e], UnitError::Unused(0x3e)),
         (&[0x00a6, 0x0000], UnitError::Float(0xa6)),
-        (&[0x0014], UnitError::NotBuilt(0x14)),
+        (&[0x0014], UnitError::Cut),
         (&[0x0090], UnitError::Cut),
         (&[0x5571, 0x1234], UnitError::Cut),
+        (&[0x0118, 0xdef0, 0x9abc, 0x5678], UnitError::Cut),
         (&[0x0100], UnitError::OperandRange),
+        (&[0x0200], UnitError::OperandRange),
+        (&[0x0300], UnitError::OperandRange),
+        (&[0x0129, 0x0001], UnitError::OperandRange),
+        (&[0x012a, 0x0001, 0x0000], UnitError::OperandRange),
+        (&[0x0103, 0x0001, 0x0000], UnitError::OperandRange),
         (&[0x0071, 0x0000, 0x0001], UnitError::OperandRange),
         (&[0x0171, 0x0000, 0x0000], UnitError::OperandRange),
         (&[0x6071, 0x0000, 0x0000], UnitError::OperandRange),
+        (&[0x0077, 0x0009, 0x0002], UnitError::OperandRange),
     ];
     for (units, error) in rows {
         assert!(rt; !units.is_empty());
@@ -78,7 +161,6 @@ fn refuses_opcodes(rt: HostRuntime) -> Result<(), Fail> {
     let rows = [
         (0x3e, UnitError::Unused(0x3e)),
         (0xa6, UnitError::Float(0xa6)),
-        (0x14, UnitError::NotBuilt(0x14)),
     ];
     for (op, error) in rows {
         let mut out = Vec::new(rt.alloc());
@@ -90,15 +172,36 @@ fn refuses_opcodes(rt: HostRuntime) -> Result<(), Fail> {
     Ok(())
 }
 
+// An instruction of each format with an operand that does not fit, or not in the form of its format.
 #[test]
 fn refuses_operands(rt: HostRuntime) -> Result<(), Fail> {
-    let nop = insn(0x00, 0, [0, 0, 0, 0, 0], 0, 0);
     let rows = [
+        branch(0x00, 0, [0, 0, 0, 0, 0], 1),
+        insn(0x01, 2, [0, 16, 0, 0, 0], 0, 0),
         insn(0x12, 1, [0, 0, 0, 0, 0], 8, 0),
         insn(0x12, 1, [16, 0, 0, 0, 0], 0, 0),
-        insn(0x01, 2, [0, 16, 0, 0, 0], 0, 0),
+        insn(0x0a, 1, [256, 0, 0, 0, 0], 0, 0),
+        branch(0x28, 0, [0, 0, 0, 0, 0], 128),
+        branch(0x29, 0, [0, 0, 0, 0, 0], 32768),
+        insn(0x02, 2, [256, 0, 0, 0, 0], 0, 0),
+        branch(0x38, 1, [3, 0, 0, 0, 0], -32769),
+        insn(0x13, 1, [0, 0, 0, 0, 0], 32768, 0),
+        insn(0x15, 1, [0, 0, 0, 0, 0], 65537, 0),
+        insn(0x19, 1, [0, 0, 0, 0, 0], 65536, 0),
+        insn(0x1a, 1, [0, 0, 0, 0, 0], 0, 65536),
+        insn(0x90, 3, [0, 0, 256, 0, 0], 0, 0),
+        insn(0xd8, 2, [0, 1, 0, 0, 0], -129, 0),
+        branch(0x32, 2, [1, 2, 0, 0, 0], 32768),
+        insn(0xd0, 2, [1, 2, 0, 0, 0], 32768, 0),
+        insn(0x52, 2, [1, 2, 0, 0, 0], 0, 65536),
+        insn(0x2a, 0, [0, 0, 0, 0, 0], 1, 0),
+        insn(0x03, 3, [0, 0, 0, 0, 0], 0, 0),
+        insn(0x14, 1, [1, 0, 0, 0, 0], 0x8000_0000, 0),
+        branch(0x2b, 1, [256, 0, 0, 0, 0], 2),
+        insn(0x1b, 1, [256, 0, 0, 0, 0], 0, 5),
         insn(0x71, 6, [0, 0, 0, 0, 0], 0, 5),
-        Insn { off: 1, ..nop },
+        range(0, 2, 9),
+        insn(0x18, 1, [256, 0, 0, 0, 0], 0, 0),
     ];
     for insn in rows {
         let mut out = vec![in rt.alloc(); 0x0000u16]?;
@@ -134,5 +237,6 @@ fn reads_back(rt: HostRuntime) -> Result<(), Fail> {
     assert_eq!(rt; encode_of_decode(&[0x000e, 0x2101], 1, &mut out), Ok(1));
     assert_eq!(rt; out.as_slice(), [0x0000, 0x0090, 0x0201, 0x2101].as_slice());
     spellings_are_apart();
+    tables_agree();
     Ok(())
 }

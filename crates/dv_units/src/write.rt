@@ -1,7 +1,7 @@
-ghost use Rattle.std.specs.Prelude.{◌≡◌, ◌↔◌, ◌++◌, length, None, IfOk, OnOk, OnErr, IsSome, IsSomeAnd, IsTrue, IsOkUnless};
+ghost use Rattle.std.specs.Prelude.{◌≡◌, ◌↔◌, ◌++◌, length, None, IfOk, OnErr, IsSome, IsSomeAnd, IsTrue, IsOkUnless};
 ghost use Rattle.dv_defs.specs.Formats.{is_unused, is_float};
 ghost use Rattle.dv_defs.specs.Spelling.{spelling};
-ghost use Rattle.dv_units.specs.Built.{is_built, is_unbuilt};
+ghost use Rattle.dv_units.specs.Tables.{has_format};
 
 use crate::UnitError;
 use crate::format::format_of;
@@ -12,18 +12,16 @@ use dv_defs::Insn;
 ///
 /// # Errors
 ///
-/// By its opcode `Unused`, `Float` or `NotBuilt`; then `OperandRange` where the instruction has no spelling.
+/// By its opcode `Unused` or `Float`; then `OperandRange` where the instruction has no spelling.
 #[tactic(auto, using(crate::proofs::Opcodes::opcode_kinds))]
 pub fn encode(insn: &Insn, out: &mut Vec<u16>) -> Result<u32, UnitError>
     ensures written { IfOk result (λ n. IsSomeAnd (spelling insn.now) (λ us. (out.new.items ≡ out.old.items ++ us) × (n ≡ length us))) }
-    ensures built { OnOk result (IsTrue (is_built insn.now.op)) }
     ensures unchanged { OnErr result (out.new.items ≡ out.old.items) }
 
     ensures unused { (result ≡ Err (UnitError.Unused insn.now.op)) ↔ IsTrue (is_unused insn.now.op) }
     ensures float { (result ≡ Err (UnitError.Float insn.now.op)) ↔ IsTrue (is_float insn.now.op) }
-    ensures not_built { (result ≡ Err (UnitError.NotBuilt insn.now.op)) ↔ IsTrue (is_unbuilt insn.now.op) }
-    ensures operand_range { (result ≡ Err UnitError.OperandRange) ↔ (IsTrue (is_built insn.now.op) × (spelling insn.now ≡ None)) }
-    ensures only_memory { IsTrue (is_built insn.now.op) → IsSome (spelling insn.now) → IsOkUnless result UnitError.Memory }
+    ensures operand_range { (result ≡ Err UnitError.OperandRange) ↔ (IsTrue (has_format insn.now.op) × (spelling insn.now ≡ None)) }
+    ensures only_memory { IsSome (spelling insn.now) → IsOkUnless result UnitError.Memory }
 {
     let format = format_of(insn.op)?;
     let spelled = write(format, insn).ok_or(UnitError::OperandRange)?;

@@ -15,7 +15,7 @@ read_again c =
     let (us, w) = written _ _ _ _ c.in_ok-encode.ensures.written in
     let at : c.len-at.result ≡ length c.args.out.now.items = omega arith in
     let stands : StandAt us c.deref.result.now c.len-at.result = rw (c.deref.ensures.value, at) w.stands in
-    c.decode.ensures.every c.args.insn.now us w.spelled stands c.in_ok-encode.ensures.built ∙
+    c.decode.ensures.every c.args.insn.now us w.spelled stands ∙
     ap (λ n. Ok (c.args.insn.now, n)) w.size
 
 pub returns-clause-same : goal.returns-clause-same
@@ -25,4 +25,4 @@ pub returns-clause-size : goal.returns-clause-size
 returns-clause-size c = rw (read_again c) refl
 
 pub returns-clause-only_memory : goal.returns-clause-only_memory
-returns-clause-only_memory c _ _ = rw (read_again c) (search rules)
+returns-clause-only_memory c _ = rw (read_again c) (search rules)
