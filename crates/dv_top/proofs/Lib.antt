@@ -4,3 +4,4 @@ pub mod Decimals
 pub mod FormLemmas
 pub mod LineLemmas
 pub mod PieceLemmas
+mod StraightRows

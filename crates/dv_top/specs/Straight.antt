@@ -60,7 +60,7 @@ pub record IsLine (registers : ℕ) (insn : Instruction) (line : List ℕ) : Typ
   pub in_range : IsInRange registers insn
   pub form : IsForm insn line
 
--- so many units
+-- how many units an instruction has
 abbrev pub size_of : Instruction → ℕ
 size_of insn.Nop = 1
 size_of insn.ReturnVoid = 1
