@@ -4,7 +4,8 @@ use Rattle.std.specs.Fmt.{digits}
 use Rattle.dv_defs.specs.Names.{object_name}
 use Rattle.dv_top.specs.declared.instruction.Instruction.{Instruction}
 use Rattle.dv_top.specs.declared.instruction.Instruction.TheVariants.{Const4, AddInt, Println, ReturnVoid}
-use Rattle.dv_top.specs.Straight.{console_name, IsStraight}
+use Rattle.dv_defs.specs.Names.{console_name}
+use Rattle.dv_top.specs.Straight.{IsStraight}
 
 sum_lines : List (List ℕ)
 sum_lines = codes "const/4 v0, 0x2" ∷ codes "const/4 v1, 0x3" ∷ codes "add-int v0, v0, v1" ∷ codes "invoke-static {v0}, Ldvm/Console;->println(I)V" ∷ codes "return-void" ∷ []
