@@ -24,3 +24,5 @@ pub mod Accepting
 pub mod Heap
 pub mod Monitors
 pub mod Classes
+pub mod Payloads
+pub mod Layout

@@ -1,9 +1,15 @@
 -- What a format's reader says of the instructions that stand in units.
-use Rattle.std.proofs.Common.{◌≡◌, ℕ, ◌-◌, ◌%◌, ◌≤◌, List, length, take, drop, get_or, Option, None, Some, true, is_some, MatchOption, sym, ◌∙◌, ap, subst, arith, length-drop, add-zero}
+use Rattle.std.proofs.Common.{◌≡◌, ℕ, ◌-◌, ◌%◌, ◌^◌, ◌<◌, ◌≤◌, zero, suc, refl, List, [], ◌∷◌, length, take, drop, get_or, Option, None, Some, true, is_some, MatchOption, sym, ◌∙◌, ap, subst, arith, length-drop, add-zero}
 use Rattle.std.proofs.lemmas.List.{get_or-take, get_or-drop, length-take-le}
 use Rattle.dv_defs.specs.declared.code.Insn.{Insn}
 use Rattle.dv_defs.specs.Formats.{Format, units_of, format_at, size_at, size_by}
-use Rattle.dv_defs.specs.Spelling.{spelling, spelling_by, spelling_in}
+use Rattle.std.proofs.lemmas.Bool.{lt-ltb}
+use mir.Syntax.{w16}
+use mir.Val.{Fits}
+use Rattle.dv_defs.specs.Decoding.{insn_here}
+use Rattle.dv_defs.specs.Spelling.{all_fit, spelling, spelling_by, spelling_in}
+use Rattle.dv_defs.proofs.DecodingFormats.{unit_parts}
+use Rattle.dv_defs.proofs.DecodingLaws.{no_insn_here, spelled_insn_here}
 use Rattle.dv_defs.proofs.SpellingFormats.{begins}
 use Rattle.dv_defs.proofs.SpellingLaws.{stands, stands_by_opcode, unique_where_both_stand, units_of_positive}
 use Rattle.dv_units.specs.Tables.{has_format}
@@ -57,3 +63,25 @@ from_reader f None units rest at e h r =
     let P : List ℕ → Type 0 = λ us. IsReading (spelling_in f) (take (units_of f) us) None in
     none_there f units at h (subst P e r)
 from_reader f (Some i) units rest at e h r = reads_there f i units at h (r ∙ ap (λ us. Some (take (units_of f) us)) e)
+
+-- the units of a slice are numbers of 16 bits
+pub units_fit : (us : List ℕ) → ((i : ℕ) → Fits w16 (get_or us i 0)) → all_fit 16 us ≡ true
+units_fit [] h = refl
+units_fit (u ∷ us) h =
+    let first : u < 2 ^ 16 = (h 0).fits in
+    cc (lt-ltb _ _ first, units_fit us (λ i. h (suc i)))
+
+fit_from : (n : ℕ) (us : List ℕ) → all_fit 16 us ≡ true → all_fit 16 (drop n us) ≡ true
+fit_from zero us t = t
+fit_from (suc n) [] t = refl
+fit_from (suc n) (u ∷ us) t = fit_from n us (unit_parts u us t).1
+
+pub none_here : (units : List ℕ) (at : ℕ) → all_fit 16 units ≡ true → NoneStandsAt units at → insn_here (drop at units) ≡ None
+none_here units at t none = no_insn_here (drop at units) (fit_from at units t) (λ i n k p. none i _ p (ap (λ m. take m (drop at units)) (sym (length-take-le n (drop at units) k))))
+
+pub here : (i : Insn) (n : ℕ) (units : List ℕ) (at : ℕ) → all_fit 16 units ≡ true → n ≤ length units - at → spelling i ≡ Some (take n (drop at units)) → insn_here (drop at units) ≡ Some (record { insn = i; size = n })
+here i n units at t h p = spelled_insn_here (drop at units) i n (fit_from at units t) (omega (arith, length-drop at units)) p
+
+-- where the units are too few for the opcode, no instruction stands
+pub none_cut : (units : List ℕ) (at n : ℕ) → size_at (opcode_at units at) ≡ n → length units - at < n → NoneStandsAt units at
+none_cut units at n e h = λ i us p s. (let a = is_at i us units at p s in omega (arith, a.room))

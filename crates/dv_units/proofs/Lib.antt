@@ -1,5 +1,4 @@
 pub mod Opcodes
 pub mod Numbers
-pub mod Calls35c
 pub mod Decoding
 pub mod Encoding

@@ -4,7 +4,7 @@ ghost use Rattle.dv_defs.specs.declared.code.Insn.{Insn};
 ghost use Rattle.dv_defs.specs.Spelling.{spelling};
 ghost use Rattle.dv_defs.specs.Formats.{size_at};
 ghost use Rattle.dv_units.specs.Tables.{FormatsAgree, FloatsAgree};
-ghost use Rattle.dv_units.specs.Laws.{SpellingsAreApart};
+ghost use Rattle.dv_units.specs.Laws.{SpellingsAreApart, ItemsAreApart, InsnHereIsSpelled, PayloadHereIsSpelled, TilingIsUnique, TilingIsFound};
 ghost use Rattle.dv_units.specs.Reading.{StandAt, opcode_at};
 
 use crate::UnitError;
@@ -21,6 +21,23 @@ pub fn tables_agree()
 /// An instruction is determined by its spelling, and no spelling begins another.
 pub fn spellings_are_apart()
     ensures { SpellingsAreApart }
+{}
+
+/// No spelling of an instruction or a payload begins that of another.
+pub fn items_are_apart()
+    ensures { ItemsAreApart }
+{}
+
+/// What the definitions compute from units is what is spelled there.
+pub fn units_spell_items()
+    ensures insns { InsnHereIsSpelled }
+    ensures payloads { PayloadHereIsSpelled }
+{}
+
+/// Units have one tiling at most, which the definition `tiling` computes.
+pub fn tiling_is_unique()
+    ensures unique { TilingIsUnique }
+    ensures found { TilingIsFound }
 {}
 
 /// Reads again what `encode` appends to `out`: the instruction itself.

@@ -16,6 +16,9 @@ mod write;
 mod writers;
 
 pub use error::UnitError;
-pub use laws::{decode_of_encode, encode_of_decode, spellings_are_apart, tables_agree};
+pub use laws::{
+    decode_of_encode, encode_of_decode, items_are_apart, spellings_are_apart, tables_agree,
+    tiling_is_unique, units_spell_items,
+};
 pub use read::decode;
 pub use write::encode;

@@ -1,7 +1,8 @@
-ghost use Rattle.std.specs.Prelude.{◌≡◌, ◌↔◌, ℕ, ◌-◌, ◌<◌, ◌≤◌, List, length, take, drop, Some, MatchOption, IfOk, IsTrue};
+ghost use Rattle.std.specs.Prelude.{◌≡◌, ◌↔◌, ℕ, ◌-◌, ◌<◌, ◌≤◌, List, length, take, drop, Some, None, MatchOption, IfOk, OnErr, IsTrue};
 ghost use Rattle.dv_defs.specs.declared.code.Insn.{Insn};
 ghost use Rattle.dv_defs.specs.Formats.{units_of, format_at, size_at, is_unused, is_float};
 ghost use Rattle.dv_defs.specs.Spelling.{spelling};
+ghost use Rattle.dv_defs.specs.Decoding.{insn_here};
 ghost use Rattle.dv_units.specs.Tables.{standard, has_format};
 ghost use Rattle.dv_units.specs.Reading.{opcode_at, StandAt, NoneStandsAt};
 
@@ -39,6 +40,10 @@ pub fn decode(units: &[u16], at: usize) -> Result<(Insn, u32), UnitError>
     // Each instruction that is spelled there is read.
     ensures every { (insn : Insn) (us : List ℕ) → spelling insn ≡ Some us → StandAt us units.now at →
         result ≡ Ok (insn, length us) }
+
+    // The same, as the definition that computes the instruction which stands there.
+    ensures here { IfOk result (λ r. insn_here (drop at units.now) ≡ Some (record { insn = r.0; size = r.1 })) }
+    ensures none_here { OnErr result (insn_here (drop at units.now) ≡ None) }
 
     ensures unused { let op = opcode_at units.now at in (result ≡ Err (UnitError.Unused op)) ↔ IsTrue (is_unused op) }
     ensures float { let op = opcode_at units.now at in (result ≡ Err (UnitError.Float op)) ↔ IsTrue (is_float op) }

@@ -238,5 +238,8 @@ fn reads_back(rt: HostRuntime) -> Result<(), Fail> {
     assert_eq!(rt; out.as_slice(), [0x0000, 0x0090, 0x0201, 0x2101].as_slice());
     spellings_are_apart();
     tables_agree();
+    items_are_apart();
+    units_spell_items();
+    tiling_is_unique();
     Ok(())
 }

@@ -1,5 +1,5 @@
 use Rattle.std.proofs.Common.{rules, inl, inr}
-use Rattle.dv_units.proofs.Calls35c.{refuses_35c, reads_35c}
+use Rattle.dv_defs.proofs.Calls35c.{refuses_35c, reads_35c}
 use Rattle.dv_units.proofs.readers.indexes.read_35c.Goals as goal
 use Rattle.dv_units.proofs.readers.indexes.read_35c.Goals.{then-count-gt5-via-then-count-gt5, then-count-gt5-via-else-count-gt5+then-not-are_zero_from}
 
