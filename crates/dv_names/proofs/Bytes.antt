@@ -1,33 +1,11 @@
 -- What one byte makes of what has been read.
-use Rattle.std.proofs.Common.{◌≡◌, ℕ, [], ◌∷◌, suc, ◌<◌, Bool, true, false, eqb, ltb, cond, Option, Some, None, ◌⊎◌, inl, inr, refl, sym, ap, ◌∙◌}
+use Rattle.std.proofs.Common.{◌≡◌, ℕ, [], ◌∷◌, suc, ◌<◌, eqb, ltb, cond, Option, Some, None, inl, inr, refl, sym, ap, ◌∙◌}
 use Rattle.std.specs.Option.{is_some}
 use Rattle.std.proofs.lemmas.Bool.{cond-true, cond-false, ne_eqb, lt-ltb, le-ltb, eq-eqb, cases_eq, cases_lt}
 use Rattle.dv_defs.specs.declared.names.Base.{Base}
 use Rattle.dv_defs.specs.declared.names.Base.TheVariants as base
-use Rattle.dv_names.specs.Descriptors.{is_name_byte, base_text, IsBase}
-use Rattle.dv_names.specs.Grammar.{Place, Mode, Array, Name, behind, primitive_of, step}
-
--- ---- names
-
-pub step_name_byte : (p : Place) (b : ℕ) (w : Bool) → is_name_byte b ≡ true → step (Name p w) b ≡ Some (Name p true)
-step_name_byte p b w e = cond-true (is_name_byte b) _ _ e
-
-pub step_slash : (p : Place) (b : ℕ) (w : Bool) → w ≡ true → b ≡ 47 → step (Name p w) b ≡ Some (Name p false)
-step_slash p b w e f = ap (λ v. step (Name p v) b) e ∙ ap (λ x. step (Name p true) x) f
-
-pub step_end : (p : Place) (b : ℕ) (w : Bool) → w ≡ true → b ≡ 59 → step (Name p w) b ≡ Some (behind p)
-step_end p b w e f = ap (λ v. step (Name p v) b) e ∙ ap (λ x. step (Name p true) x) f
-
--- within a name, and another byte than this; or before a name
-abbrev pub IsElse : Bool → ℕ → ℕ → Type 0
-IsElse w b mark = ((w ≡ true) × (b ≡ mark → ⊥)) ⊎ (w ≡ false)
-
-pub step_no_name : (p : Place) (b : ℕ) (w : Bool) → is_name_byte b ≡ false → IsElse w b 47 → IsElse w b 59 → step (Name p w) b ≡ None
-step_no_name p b false n e f = cond-false (is_name_byte b) _ _ n
-step_no_name p b true n (inl e) (inl f) =
-    cond-false (is_name_byte b) _ _ n ∙ cond-false (eqb b 47) _ _ (ne_eqb b 47 e.1) ∙ cond-false (eqb b 59) _ _ (ne_eqb b 59 f.1)
-step_no_name p b true n (inl e) (inr f) = absurd (cc)
-step_no_name p b true n (inr e) f = absurd (cc)
+use Rattle.dv_names.specs.Descriptors.{base_text, IsBase}
+use Rattle.dv_names.specs.Grammar.{Place, Before, Mode, Array, Name, primitive_of, step}
 
 -- ---- types
 
@@ -45,7 +23,7 @@ step_no_type p n b most none other =
 pub step_bracket : (p : Place) (n : ℕ) → n < 255 → step (Array p n) 91 ≡ Some (Array p (suc n))
 step_bracket p n lt = cond-true (ltb n 255) _ _ (lt-ltb n 255 lt)
 
-pub step_class : (p : Place) (n b : ℕ) → b ≡ 76 → step (Array p n) b ≡ Some (Name p false)
+pub step_class : (p : Place) (n b : ℕ) → b ≡ 76 → step (Array p n) b ≡ Some (Name p Before)
 step_class p n b e = ap (step (Array p n)) e
 
 -- ---- primitive types

@@ -1,48 +1,129 @@
 -- A class's descriptor, by its names and byte by byte.
-use Rattle.std.proofs.Common.{◌≡◌, ℕ, ◌<◌, Bool, true, false, ltb, List, [], ◌∷◌, ◌++◌, length, Some, None, ◌⊎◌, inl, inr, refl, sym, ap, ◌∙◌, arith}
+use Rattle.std.proofs.Common.{◌≡◌, ℕ, ◌<◌, true, false, ltb, eqb, List, [], ◌∷◌, ◌++◌, length, Some, None, inl, inr, refl, sym, ap, ◌∙◌, arith}
+use Rattle.std.specs.Prelude.{bytes_eq, codes}
 use Rattle.std.specs.List.{list_all, join_with_byte}
 use Rattle.std.specs.Option.{option_and_then}
 use Rattle.std.proofs.lemmas.List.{append_assoc}
-use Rattle.std.proofs.lemmas.Bool.{and_parts, and_from, ltb-true, lt-ltb, cases_Bool, cases_eq}
-use Rattle.dv_names.specs.Descriptors.{is_name_byte, is_name, IsClassName}
-use Rattle.dv_names.specs.Grammar.{Place, Alone, Mode, Array, Name, Whole, behind, step, after}
+use Rattle.std.proofs.lemmas.Slice.Eq.{bytes_eq-Decides}
+use Rattle.std.proofs.lemmas.Bool.{cond-true, cond-false, and_parts, and_from, or_cases, or_left, or_right, ltb-true, lt-ltb, eq-eqb, ne_eqb, cases_Bool, cases_eq}
+use Rattle.dv_names.specs.Descriptors.{is_name_byte, is_plain_name, is_special_name, is_name, IsClassName}
+use Rattle.dv_names.specs.Grammar.{Place, Alone, Part, Before, Within, Angle, Special, Mode, Array, Name, Whole, behind, step_behind, step, after}
 use Rattle.dv_names.proofs.Steps.{after_both}
-use Rattle.dv_names.proofs.Bytes.{step_name_byte, step_slash, step_end, step_no_name}
 
 -- ---- from names to bytes
 
-name_run : (p : Place) (w : Bool) (name : List ℕ) → list_all is_name_byte name ≡ true → (0 < length name) ⊎ (w ≡ true) → after (Name p w) name ≡ Some (Name p true)
-name_run p w [] are (inl some) = absurd (omega arith)
-name_run p w [] are (inr e) = ap (λ v. Some (Name p v)) e
-name_run p w (b ∷ name) are begun =
-    let parts = and_parts (is_name_byte b) (list_all is_name_byte name) are in
-    ap (option_and_then (λ n. after n name)) (step_name_byte p b w parts.0) ∙ name_run p true name parts.1 (inr refl)
+pub name_bytes_run : (p : Place) (w : List ℕ) → list_all is_name_byte w ≡ true → after (Name p Within) w ≡ Some (Name p Within)
+name_bytes_run p [] are = refl
+name_bytes_run p (b ∷ w) are =
+    let parts = and_parts (is_name_byte b) (list_all is_name_byte w) are in
+    ap (option_and_then (λ n. after n w)) (cond-true (is_name_byte b) _ _ parts.0) ∙ name_bytes_run p w parts.1
 
-pub names_run : (p : Place) (w : Bool) (first : List ℕ) (others : List (List ℕ)) → list_all is_name_byte first ≡ true → (0 < length first) ⊎ (w ≡ true) → list_all is_name others ≡ true
-    → after (Name p w) (join_with_byte 47 (first ∷ others) ++ 59 ∷ []) ≡ Some (behind p)
-names_run p w first [] are begun names = after_both first (59 ∷ []) (Name p w) (Name p true) (name_run p w first are begun)
-names_run p w first (next ∷ others) are begun names =
+pub plain_run : (p : Place) (w : List ℕ) → 0 < length w → list_all is_name_byte w ≡ true → after (Name p Before) w ≡ Some (Name p Within)
+plain_run p [] some are = absurd (omega arith)
+plain_run p (b ∷ w) some are =
+    let parts = and_parts (is_name_byte b) (list_all is_name_byte w) are in
+    ap (option_and_then (λ n. after n w)) (cond-true (is_name_byte b) _ _ parts.0) ∙ name_bytes_run p w parts.1
+
+pub special_run : (p : Place) (w : List ℕ) → is_special_name w ≡ true → after (Name p Before) w ≡ Some (Name p (Special []))
+special_run p w is =
+    elim (or_cases (bytes_eq w (codes "<init>")) (bytes_eq w (codes "<clinit>")) is) [
+      | inl e ↦ ap (after (Name p Before)) ((bytes_eq-Decides w (codes "<init>")).0 e)
+      | inr e ↦ ap (after (Name p Before)) ((bytes_eq-Decides w (codes "<clinit>")).0 e)
+    ]
+
+-- a whole name, which something follows that goes on no name
+pub name_run : (p : Place) (name more : List ℕ) (b : ℕ) → is_name name ≡ true → is_name_byte b ≡ false → after (Name p Before) (name ++ b ∷ more) ≡ after (Name p (Special [])) (b ∷ more)
+name_run p name more b is no_more =
+    elim (or_cases (is_plain_name name) (is_special_name name) is) [
+      | inl plain ↦
+          let parts = and_parts (ltb 0 (length name)) (list_all is_name_byte name) plain in
+          after_both name (b ∷ more) (Name p Before) (Name p Within) (plain_run p name (ltb-true 0 (length name) parts.0) parts.1)
+          ∙ ap (option_and_then (λ k. after k more)) (cond-false (is_name_byte b) _ _ no_more)
+      | inr special ↦ after_both name (b ∷ more) (Name p Before) (Name p (Special [])) (special_run p name special)
+    ]
+
+names_run : (p : Place) (first : List ℕ) (others : List (List ℕ)) → is_name first ≡ true → list_all is_name others ≡ true
+    → after (Name p Before) (join_with_byte 47 (first ∷ others) ++ 59 ∷ []) ≡ Some (behind p)
+names_run p first [] is names = name_run p first [] 59 is refl
+names_run p first (next ∷ others) is names =
     let both = and_parts (is_name next) (list_all is_name others) names in
-    let parts = and_parts (ltb 0 (length next)) (list_all is_name_byte next) both.0 in
     let rest = join_with_byte 47 (next ∷ others) in
-    ap (after (Name p w)) (append_assoc first (47 ∷ rest) (59 ∷ []))
-    ∙ after_both first (47 ∷ (rest ++ 59 ∷ [])) (Name p w) (Name p true) (name_run p w first are begun)
-    ∙ names_run p false next others parts.1 (inl (ltb-true 0 (length next) parts.0)) both.1
+    ap (after (Name p Before)) (append_assoc first (47 ∷ rest) (59 ∷ [])) ∙ name_run p first (rest ++ 59 ∷ []) 47 is refl ∙ names_run p next others both.0 both.1
 
 pub class_run : (p : Place) (n : ℕ) (text : List ℕ) → IsClassName text → after (Array p n) text ≡ Some (behind p)
 class_run p n text is =
     let both = and_parts (is_name is.first) (list_all is_name is.others) is.are_names in
-    let parts = and_parts (ltb 0 (length is.first)) (list_all is_name_byte is.first) both.0 in
-    ap (after (Array p n)) is.spelled ∙ names_run p false is.first is.others parts.1 (inl (ltb-true 0 (length is.first) parts.0)) both.1
+    ap (after (Array p n)) is.spelled ∙ names_run p is.first is.others both.0 both.1
+
+-- ---- what a byte is to a class's descriptor, wherever it stands
+
+-- what may be left of a name
+abbrev pub IsRest : Part → List ℕ → Type 0
+IsRest Before w = is_name w ≡ true
+IsRest Within w = list_all is_name_byte w ≡ true
+IsRest Angle w = is_special_name (60 ∷ w) ≡ true
+IsRest (Special rest) w = w ≡ rest
+
+pub data NameByte (w : Part) (b : ℕ) : Type 0 where
+  Goes : (v : Part) → ((p : Place) → step (Name p w) b ≡ Some (Name p v)) → ((rest : List ℕ) → IsRest v rest → IsRest w (b ∷ rest)) → NameByte w b
+  Slash : b ≡ 47 → IsRest w [] → ((p : Place) → step (Name p w) b ≡ Some (Name p Before)) → NameByte w b
+  Last : b ≡ 59 → IsRest w [] → ((p : Place) → step (Name p w) b ≡ Some (behind p)) → NameByte w b
+  Nowhere : ((p : Place) → step (Name p w) b ≡ None) → NameByte w b
+
+byte_behind : (w : Part) (b : ℕ) → IsRest w [] → ((p : Place) → step (Name p w) b ≡ step_behind p b) → NameByte w b
+byte_behind w b whole same =
+    elim (cases_eq b 47) [
+      | inl is ↦ Slash is whole (λ p. same p ∙ ap (step_behind p) is)
+      | inr ne ↦ elim (cases_eq b 59) [
+        | inl is ↦ Last is whole (λ p. same p ∙ ap (step_behind p) is)
+        | inr other ↦ Nowhere (λ p. same p ∙ cond-false (eqb b 47) _ _ (ne_eqb b 47 ne) ∙ cond-false (eqb b 59) _ _ (ne_eqb b 59 other))
+      ]
+    ]
+
+begins_plain : (b : ℕ) (rest : List ℕ) → is_name_byte b ≡ true → list_all is_name_byte rest ≡ true → is_name (b ∷ rest) ≡ true
+begins_plain b rest is are =
+    let some = lt-ltb 0 (length (b ∷ rest)) (omega arith) in
+    or_left (is_plain_name (b ∷ rest)) (is_special_name (b ∷ rest)) (and_from (ltb 0 (length (b ∷ rest))) (list_all is_name_byte (b ∷ rest)) some (and_from (is_name_byte b) (list_all is_name_byte rest) is are))
+
+begins_special : (b : ℕ) (rest : List ℕ) → b ≡ 60 → is_special_name (60 ∷ rest) ≡ true → is_name (b ∷ rest) ≡ true
+begins_special b rest e is = or_right (is_plain_name (b ∷ rest)) (is_special_name (b ∷ rest)) (ap (λ z. is_special_name (z ∷ rest)) e ∙ is)
+
+pub name_byte : (w : Part) (b : ℕ) → NameByte w b
+name_byte Before b =
+    elim (cases_Bool (is_name_byte b)) [
+      | inl is ↦ Goes Within (λ p. cond-true (is_name_byte b) _ _ is) (λ rest are. begins_plain b rest is are)
+      | inr plain ↦ elim (cases_eq b 60) [
+        | inl e ↦ Goes Angle (λ p. ap (step (Name p Before)) e) (λ rest is. begins_special b rest e is)
+        | inr ne ↦ Nowhere (λ p. cond-false (is_name_byte b) _ _ plain ∙ cond-false (eqb b 60) _ _ (ne_eqb b 60 ne))
+      ]
+    ]
+name_byte Within b =
+    elim (cases_Bool (is_name_byte b)) [
+      | inl is ↦ Goes Within (λ p. cond-true (is_name_byte b) _ _ is) (λ rest are. and_from (is_name_byte b) (list_all is_name_byte rest) is are)
+      | inr plain ↦ byte_behind Within b refl (λ p. cond-false (is_name_byte b) _ _ plain)
+    ]
+name_byte Angle b =
+    elim (cases_eq b 105) [
+      | inl e ↦ Goes (Special (codes "nit>")) (λ p. ap (step (Name p Angle)) e) (λ rest is i. is_special_name (60 ∷ e i ∷ is i))
+      | inr ni ↦ elim (cases_eq b 99) [
+        | inl e ↦ Goes (Special (codes "linit>")) (λ p. ap (step (Name p Angle)) e) (λ rest is i. is_special_name (60 ∷ e i ∷ is i))
+        | inr nc ↦ Nowhere (λ p. cond-false (eqb b 105) _ _ (ne_eqb b 105 ni) ∙ cond-false (eqb b 99) _ _ (ne_eqb b 99 nc))
+      ]
+    ]
+name_byte (Special []) b = byte_behind (Special []) b refl (λ p. refl)
+name_byte (Special (c ∷ more)) b =
+    elim (cases_eq b c) [
+      | inl e ↦ Goes (Special more) (λ p. cond-true (eqb b c) _ _ (eq-eqb b c e)) (λ rest is i. e i ∷ is i)
+      | inr ne ↦ Nowhere (λ p. cond-false (eqb b c) _ _ (ne_eqb b c ne))
+    ]
 
 -- ---- from bytes to names
 
--- what is left of a class's descriptor, within a name or before one
-record Rest (w : Bool) (text : List ℕ) : Type 0 where
+-- what is left of a class's descriptor
+record Rest (w : Part) (text : List ℕ) : Type 0 where
   first : List ℕ
   others : List (List ℕ)
-  bytes : list_all is_name_byte first ≡ true
-  begun : (0 < length first) ⊎ (w ≡ true)
+  is : IsRest w first
   names : list_all is_name others ≡ true
   spelled : text ≡ join_with_byte 47 (first ∷ others) ++ 59 ∷ []
 
@@ -50,35 +131,29 @@ more_spelled : (b : ℕ) (first : List ℕ) (others : List (List ℕ)) → b ∷
 more_spelled b first [] = refl
 more_spelled b first (next ∷ others) = refl
 
-more : (b : ℕ) (w : Bool) (text : List ℕ) → is_name_byte b ≡ true → Rest true text → Rest w (b ∷ text)
-more b w text is r = record {
+more : (w v : Part) (b : ℕ) (text : List ℕ) → ((rest : List ℕ) → IsRest v rest → IsRest w (b ∷ rest)) → Rest v text → Rest w (b ∷ text)
+more w v b text begins r = record {
   first = b ∷ r.first;
   others = r.others;
-  bytes = and_from (is_name_byte b) (list_all is_name_byte r.first) is r.bytes;
-  begun = inl (omega arith);
+  is = begins r.first r.is;
   names = r.names;
   spelled = ap (λ t. b ∷ t) r.spelled ∙ more_spelled b r.first r.others;
 }
 
-is_first_name : (text : List ℕ) (r : Rest false text) → is_name r.first ≡ true
-is_first_name text r = and_from (ltb 0 (length r.first)) (list_all is_name_byte r.first) (elim r.begun [ inl lt ↦ lt-ltb 0 (length r.first) lt | inr e ↦ absurd (cc) ]) r.bytes
-
-slash : (b : ℕ) (text : List ℕ) → b ≡ 47 → Rest false text → Rest true (b ∷ text)
-slash b text e r = record {
+slash : (w : Part) (b : ℕ) (text : List ℕ) → b ≡ 47 → IsRest w [] → Rest Before text → Rest w (b ∷ text)
+slash w b text e whole r = record {
   first = [];
   others = r.first ∷ r.others;
-  bytes = refl;
-  begun = inr refl;
-  names = and_from (is_name r.first) (list_all is_name r.others) (is_first_name text r) r.names;
+  is = whole;
+  names = and_from (is_name r.first) (list_all is_name r.others) r.is r.names;
   spelled = ap (λ c. c ∷ text) e ∙ ap (λ t. 47 ∷ t) r.spelled;
 }
 
-ends : (b : ℕ) (text : List ℕ) → b ≡ 59 → text ≡ [] → Rest true (b ∷ text)
-ends b text e none = record {
+ends : (w : Part) (b : ℕ) (text : List ℕ) → b ≡ 59 → IsRest w [] → text ≡ [] → Rest w (b ∷ text)
+ends w b text e whole none = record {
   first = [];
   others = [];
-  bytes = refl;
-  begun = inr refl;
+  is = whole;
   names = refl;
   spelled = ap (λ c. c ∷ text) e ∙ ap (λ t. 59 ∷ t) none;
 }
@@ -93,32 +168,23 @@ going m n b text e is = sym (ap (option_and_then (λ k. after k text)) e) ∙ is
 pub stuck : (m : Mode) (b : ℕ) (text : List ℕ) → step m b ≡ None → after m (b ∷ text) ≡ Some Whole → ⊥
 stuck m b text e is = let h : None ≡ Some Whole = sym (ap (option_and_then (λ k. after k text)) e) ∙ is in absurd (cc)
 
-other : (b : ℕ) (w : Bool) (text : List ℕ) → is_name_byte b ≡ false → ((v : Bool) → after (Name Alone v) text ≡ Some Whole → Rest v text)
+rest_by : (w : Part) (b : ℕ) (text : List ℕ) → NameByte w b → ((v : Part) → after (Name Alone v) text ≡ Some Whole → Rest v text)
     → after (Name Alone w) (b ∷ text) ≡ Some Whole → Rest w (b ∷ text)
-other b false text plain ih e = absurd (stuck (Name Alone false) b text (step_no_name Alone b false plain (inr refl) (inr refl)) e)
-other b true text plain ih e =
-    elim (cases_eq b 47) [
-      | inl s ↦ slash b text s (ih false (going (Name Alone true) (Name Alone false) b text (step_slash Alone b true refl s) e))
-      | inr ns ↦ elim (cases_eq b 59) [
-        | inl t ↦ ends b text t (none_left text (going (Name Alone true) Whole b text (step_end Alone b true refl t) e))
-        | inr nt ↦ absurd (stuck (Name Alone true) b text (step_no_name Alone b true plain (inl (refl, ns)) (inl (refl, nt))) e)
-      ]
-    ]
+rest_by w b text (Goes v goes begins) ih e = more w v b text begins (ih v (going (Name Alone w) (Name Alone v) b text (goes Alone) e))
+rest_by w b text (Slash is whole goes) ih e = slash w b text is whole (ih Before (going (Name Alone w) (Name Alone Before) b text (goes Alone) e))
+rest_by w b text (Last is whole goes) ih e = ends w b text is whole (none_left text (going (Name Alone w) Whole b text (goes Alone) e))
+rest_by w b text (Nowhere goes) ih e = absurd (stuck (Name Alone w) b text (goes Alone) e)
 
-rest_from : (text : List ℕ) (w : Bool) → after (Name Alone w) text ≡ Some Whole → Rest w text
+rest_from : (text : List ℕ) (w : Part) → after (Name Alone w) text ≡ Some Whole → Rest w text
 rest_from [] w e = absurd (cc)
-rest_from (b ∷ text) w e =
-    elim (cases_Bool (is_name_byte b)) [
-      | inl is ↦ more b w text is (rest_from text true (going (Name Alone w) (Name Alone true) b text (step_name_byte Alone b w is) e))
-      | inr plain ↦ other b w text plain (rest_from text) e
-    ]
+rest_from (b ∷ text) w e = rest_by w b text (name_byte w b) (rest_from text) e
 
-pub class_from : (b : ℕ) (text : List ℕ) → b ≡ 76 → after (Name Alone false) text ≡ Some Whole → IsClassName (b ∷ text)
+pub class_from : (b : ℕ) (text : List ℕ) → b ≡ 76 → after (Name Alone Before) text ≡ Some Whole → IsClassName (b ∷ text)
 class_from b text letter e =
-    let r = rest_from text false e in
+    let r = rest_from text Before e in
     record {
       first = r.first;
       others = r.others;
-      are_names = and_from (is_name r.first) (list_all is_name r.others) (is_first_name text r) r.names;
+      are_names = and_from (is_name r.first) (list_all is_name r.others) r.is r.names;
       spelled = ap (λ c. c ∷ text) letter ∙ ap (λ t. 76 ∷ t) r.spelled;
     }

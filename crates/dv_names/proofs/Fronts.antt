@@ -1,26 +1,26 @@
 -- What is read whole is the text of a type or a prototype.
-use Rattle.std.proofs.Common.{◌≡◌, ℕ, suc, ◌+◌, ◌<◌, ◌≤◌, Bool, true, false, eqb, ltb, List, [], ◌∷◌, ◌++◌, replicate, Option, Some, None, inl, inr, refl, sym, ap, ◌∙◌, arith}
+use Rattle.std.proofs.Common.{◌≡◌, ℕ, suc, ◌+◌, ◌<◌, ◌≤◌, eqb, ltb, List, [], ◌∷◌, ◌++◌, replicate, Option, Some, None, inl, inr, refl, sym, ap, ◌∙◌, arith}
 use Rattle.std.specs.Prelude.{IfSome}
 use Rattle.std.specs.Option.{option_and_then, is_some}
 use Rattle.std.specs.List.{All, flat_map}
 use Rattle.std.proofs.lemmas.List.{append_assoc, append-nil}
 use Rattle.std.proofs.lemmas.List.Elements.{All-nil, All-cons}
-use Rattle.std.proofs.lemmas.Bool.{cond-true, cond-false, ne_eqb, eq-eqb, le-ltb, cases_eq, cases_lt, cases_Bool}
+use Rattle.std.proofs.lemmas.Bool.{cond-true, cond-false, ne_eqb, eq-eqb, le-ltb, cases_eq, cases_lt}
 use Rattle.dv_defs.specs.declared.names.Base.{Base}
 use Rattle.dv_defs.specs.declared.names.Base.TheVariants as base
 use Rattle.dv_defs.specs.declared.names.Ty.{Ty}
-use Rattle.dv_names.specs.Descriptors.{base_text, descriptor, return_text, is_name_byte, IsBase, IsType}
+use Rattle.dv_names.specs.Descriptors.{base_text, descriptor, return_text, IsBase, IsType}
 use Rattle.dv_names.specs.Faults.{IsTypeText, IsProtoText}
-use Rattle.dv_names.specs.Grammar.{Place, Alone, Parameter, Returned, Mode, Open, Parameters, Return, Array, Name, Whole, behind, primitive_of, step, after}
-use Rattle.dv_names.proofs.Bytes.{step_bracket, step_class, step_no_type, step_name_byte, step_slash, step_end, step_no_name, primitive_text}
-use Rattle.dv_names.proofs.Classes.{class_from, none_left, going, stuck}
+use Rattle.dv_names.specs.Grammar.{Place, Alone, Parameter, Returned, Part, Before, Mode, Open, Parameters, Return, Array, Name, Whole, behind, primitive_of, step, after}
+use Rattle.dv_names.proofs.Bytes.{step_bracket, step_class, step_no_type, primitive_text}
+use Rattle.dv_names.proofs.Classes.{NameByte, Goes, Slash, Last, Nowhere, name_byte, class_from, none_left, going, stuck}
 
--- ---- what a byte is to a type and to a class's descriptor, wherever they stand
+-- ---- what a byte is to a type, wherever it stands
 
 data TypeByte (k b : ℕ) : Type 0 where
   Bracket : b ≡ 91 → k < 255 → ((p : Place) → step (Array p k) b ≡ Some (Array p (suc k))) → TypeByte k b
   Letter : (found : Base) → primitive_of b ≡ Some found → ((p : Place) → step (Array p k) b ≡ Some (behind p)) → TypeByte k b
-  Class : b ≡ 76 → ((p : Place) → step (Array p k) b ≡ Some (Name p false)) → TypeByte k b
+  Class : b ≡ 76 → ((p : Place) → step (Array p k) b ≡ Some (Name p Before)) → TypeByte k b
   Nothing : ((p : Place) → step (Array p k) b ≡ None) → TypeByte k b
 
 other_byte : (k b : ℕ) → (b ≡ 91 → ⊥) → (o : Option Base) → primitive_of b ≡ o → TypeByte k b
@@ -41,27 +41,6 @@ type_byte k b =
       ]
       | inr ne ↦ other_byte k b ne (primitive_of b) refl
     ]
-
-data NameByte (w : Bool) (b : ℕ) : Type 0 where
-  Within : ((p : Place) → step (Name p w) b ≡ Some (Name p true)) → NameByte w b
-  Slash : ((p : Place) → step (Name p w) b ≡ Some (Name p false)) → NameByte w b
-  Last : ((p : Place) → step (Name p w) b ≡ Some (behind p)) → NameByte w b
-  Nowhere : ((p : Place) → step (Name p w) b ≡ None) → NameByte w b
-
-no_name_byte : (w : Bool) (b : ℕ) → is_name_byte b ≡ false → NameByte w b
-no_name_byte false b plain = Nowhere (λ p. step_no_name p b false plain (inr refl) (inr refl))
-no_name_byte true b plain =
-    elim (cases_eq b 47) [
-      | inl is ↦ Slash (λ p. step_slash p b true refl is)
-      | inr ne ↦ elim (cases_eq b 59) [
-        | inl is ↦ Last (λ p. step_end p b true refl is)
-        | inr other ↦ Nowhere (λ p. step_no_name p b true plain (inl (refl, ne)) (inl (refl, other)))
-      ]
-    ]
-
-name_byte : (w : Bool) (b : ℕ) → NameByte w b
-name_byte w b =
-    elim (cases_Bool (is_name_byte b)) [ inl is ↦ Within (λ p. step_name_byte p b w is) | inr plain ↦ no_name_byte w b plain ]
 
 -- ---- a type alone
 
@@ -91,7 +70,7 @@ alone_by : (k b : ℕ) (text : List ℕ) → TypeByte k b → k ≤ 255 → (suc
 alone_by k b text (Bracket is lt goes) few ih e = bracket_alone k b text is (ih (omega arith) (going (Array Alone k) (Array Alone (suc k)) b text (goes Alone) e))
 alone_by k b text (Letter found is goes) few ih e = letter_alone k b text found few is (none_left text (going (Array Alone k) Whole b text (goes Alone) e))
 alone_by k b text (Class is goes) few ih e =
-    let name = class_from b text is (going (Array Alone k) (Name Alone false) b text (goes Alone) e) in
+    let name = class_from b text is (going (Array Alone k) (Name Alone Before) b text (goes Alone) e) in
     record { dims = 0; found = base.Class (b ∷ text); few = omega arith; is = name; spelled = refl }
 alone_by k b text (Nothing goes) few ih e = absurd (stuck (Array Alone k) b text (goes Alone) e)
 
@@ -132,17 +111,17 @@ module _ (T : List ℕ → Type 0) where
     tail = tail;
   }
 
-  module _ (p : Place) (b : ℕ) (text : List ℕ) (tail : after (behind p) text ≡ Some Whole → T text) (in_name : (w : Bool) → after (Name p w) text ≡ Some Whole → Cut T (Name Alone w) text) where
-    cut_name : (w : Bool) → NameByte w b → after (Name p w) (b ∷ text) ≡ Some Whole → Cut T (Name Alone w) (b ∷ text)
-    cut_name w (Within goes) e = longer (Name Alone w) (Name Alone true) b text (goes Alone) (in_name true (going (Name p w) (Name p true) b text (goes p) e))
-    cut_name w (Slash goes) e = longer (Name Alone w) (Name Alone false) b text (goes Alone) (in_name false (going (Name p w) (Name p false) b text (goes p) e))
-    cut_name w (Last goes) e = ended (Name Alone w) b text (goes Alone) (tail (going (Name p w) (behind p) b text (goes p) e))
+  module _ (p : Place) (b : ℕ) (text : List ℕ) (tail : after (behind p) text ≡ Some Whole → T text) (in_name : (w : Part) → after (Name p w) text ≡ Some Whole → Cut T (Name Alone w) text) where
+    cut_name : (w : Part) → NameByte w b → after (Name p w) (b ∷ text) ≡ Some Whole → Cut T (Name Alone w) (b ∷ text)
+    cut_name w (Goes v goes begins) e = longer (Name Alone w) (Name Alone v) b text (goes Alone) (in_name v (going (Name p w) (Name p v) b text (goes p) e))
+    cut_name w (Slash is whole goes) e = longer (Name Alone w) (Name Alone Before) b text (goes Alone) (in_name Before (going (Name p w) (Name p Before) b text (goes p) e))
+    cut_name w (Last is whole goes) e = ended (Name Alone w) b text (goes Alone) (tail (going (Name p w) (behind p) b text (goes p) e))
     cut_name w (Nowhere goes) e = absurd (stuck (Name p w) b text (goes p) e)
 
     cut_type : (k : ℕ) → TypeByte k b → ((j : ℕ) → after (Array p j) text ≡ Some Whole → Cut T (Array Alone j) text) → after (Array p k) (b ∷ text) ≡ Some Whole → Cut T (Array Alone k) (b ∷ text)
     cut_type k (Bracket is lt goes) in_type e = longer (Array Alone k) (Array Alone (suc k)) b text (goes Alone) (in_type (suc k) (going (Array p k) (Array p (suc k)) b text (goes p) e))
     cut_type k (Letter found is goes) in_type e = ended (Array Alone k) b text (goes Alone) (tail (going (Array p k) (behind p) b text (goes p) e))
-    cut_type k (Class is goes) in_type e = longer (Array Alone k) (Name Alone false) b text (goes Alone) (in_name false (going (Array p k) (Name p false) b text (goes p) e))
+    cut_type k (Class is goes) in_type e = longer (Array Alone k) (Name Alone Before) b text (goes Alone) (in_name Before (going (Array p k) (Name p Before) b text (goes p) e))
     cut_type k (Nothing goes) in_type e = absurd (stuck (Array p k) b text (goes p) e)
 
 -- ---- the result of a prototype
@@ -152,7 +131,7 @@ IsNone text = text ≡ []
 
 record ReturnCuts (text : List ℕ) : Type 0 where
   types : (k : ℕ) → after (Array Returned k) text ≡ Some Whole → Cut IsNone (Array Alone k) text
-  names : (w : Bool) → after (Name Returned w) text ≡ Some Whole → Cut IsNone (Name Alone w) text
+  names : (w : Part) → after (Name Returned w) text ≡ Some Whole → Cut IsNone (Name Alone w) text
 
 return_cuts : (text : List ℕ) → ReturnCuts text
 return_cuts [] = record { types = λ k e. absurd (cc); names = λ w e. absurd (cc) }
@@ -195,7 +174,7 @@ record ProtoTail (text : List ℕ) : Type 0 where
 record ProtoCuts (text : List ℕ) : Type 0 where
   tails : after Parameters text ≡ Some Whole → ProtoTail text
   types : (k : ℕ) → after (Array Parameter k) text ≡ Some Whole → Cut ProtoTail (Array Alone k) text
-  names : (w : Bool) → after (Name Parameter w) text ≡ Some Whole → Cut ProtoTail (Name Alone w) text
+  names : (w : Part) → after (Name Parameter w) text ≡ Some Whole → Cut ProtoTail (Name Alone w) text
 
 closed : (b : ℕ) (text : List ℕ) → b ≡ 41 → ReturnFrom text → ProtoTail (b ∷ text)
 closed b text is r = record {

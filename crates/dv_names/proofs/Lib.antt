@@ -1,6 +1,7 @@
 pub mod Steps
 pub mod Bytes
 pub mod Classes
+pub mod NamesAt
 pub mod Types
 pub mod Protos
 pub mod Inverse

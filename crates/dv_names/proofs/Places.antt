@@ -1,12 +1,15 @@
 -- A refusal stands where the longest front ends with which a text of the language begins.
-use Rattle.std.proofs.Common.{◌≡◌, ℕ, zero, suc, ◌+◌, ◌<◌, ◌≤◌, Bool, true, false, cond, eqb, List, [], ◌∷◌, ◌++◌, length, get_or, take, Option, Some, None, ◌⊎◌, inl, inr, refl, sym, ap, subst, ◌∙◌, arith}
-use Rattle.std.specs.Option.{option_and_then, option_map_or}
+use Rattle.std.proofs.Common.{◌≡◌, ℕ, zero, suc, ◌+◌, ◌<◌, ◌≤◌, Bool, true, false, cond, eqb, ltb, List, [], ◌∷◌, ◌++◌, length, get_or, take, Option, Some, None, ◌⊎◌, inl, inr, refl, sym, ap, subst, ◌∙◌, arith}
+use Rattle.std.specs.Prelude.{codes, IfSome, ◌==◌}
+use Rattle.std.specs.Option.{option_and_then, option_map_or, is_some}
+use Rattle.std.specs.List.{list_any}
 use Rattle.std.proofs.lemmas.List.{length-append, take_at, get_or_at}
-use Rattle.std.proofs.lemmas.Bool.{cases_lt, or_cases, eqb-true}
+use Rattle.std.proofs.lemmas.Bool.{cond-true, cond-false, eq-eqb, cases_lt, or_cases, or_parts, eqb-true}
 use Rattle.dv_names.specs.declared.error.NameError.{NameError}
 use Rattle.dv_names.specs.declared.error.NameError.TheVariants as error
+use Rattle.dv_names.specs.Descriptors.{is_name_byte}
 use Rattle.dv_names.specs.Faults.{IsTypeText, IsProtoText, Begins, IsLongest, IsFloatAt, FailsAt}
-use Rattle.dv_names.specs.Grammar.{Place, Alone, Parameter, Returned, Mode, Open, Parameters, Return, Array, Name, Whole, behind, is_float, takes_type, step, after, refusal, refused_end, refused_byte, type_refusal, proto_refusal, Refuses}
+use Rattle.dv_names.specs.Grammar.{Place, Alone, Parameter, Returned, Part, Before, Within, Angle, Special, Mode, Open, Parameters, Return, Array, Name, Whole, behind, primitive_of, is_float, takes_type, step, after, refusal, refused_end, refused_byte, type_refusal, proto_refusal, Refuses}
 use Rattle.dv_names.proofs.Steps.{after-append, after_both}
 use Rattle.dv_names.proofs.Types.{type_run}
 use Rattle.dv_names.proofs.Protos.{proto_run}
@@ -60,12 +63,19 @@ finish Alone = []
 finish Parameter = 41 ∷ 86 ∷ []
 finish Returned = []
 
+-- what may be left of a name
+live_name : Part → List ℕ
+live_name Before = 97 ∷ []
+live_name Within = []
+live_name Angle = codes "init>"
+live_name (Special rest) = rest
+
 live : Mode → List ℕ
 live Open = 40 ∷ 41 ∷ 86 ∷ []
 live Parameters = 41 ∷ 86 ∷ []
 live Return = 86 ∷ []
 live (Array p k) = 73 ∷ finish p
-live (Name p w) = 97 ∷ 59 ∷ finish p
+live (Name p w) = live_name w ++ 59 ∷ finish p
 live Whole = []
 
 finish_run : (p : Place) → after (behind p) (finish p) ≡ Some Whole
@@ -74,13 +84,24 @@ finish_run Alone = refl
 finish_run Parameter = refl
 finish_run Returned = refl
 
+special_live : (p : Place) (rest : List ℕ) → after (Name p (Special rest)) (rest ++ 59 ∷ finish p) ≡ Some Whole
+special_live p [] = finish_run p
+special_live p (b ∷ rest) = ap (option_and_then (λ n. after n (rest ++ 59 ∷ finish p))) (cond-true (eqb b b) _ _ (eq-eqb b b refl)) ∙ special_live p rest
+
+name_live : (p : Place) (w : Part) → after (Name p w) (live_name w ++ 59 ∷ finish p) ≡ Some Whole
+unfolding live_name
+name_live p Before = finish_run p
+name_live p Within = finish_run p
+name_live p Angle = finish_run p
+name_live p (Special rest) = special_live p rest
+
 live_run : (m : Mode) → after m (live m) ≡ Some Whole
 unfolding live
 live_run Open = refl
 live_run Parameters = refl
 live_run Return = refl
 live_run (Array p k) = finish_run p
-live_run (Name p w) = finish_run p
+live_run (Name p w) = name_live p w
 live_run Whole = refl
 
 -- ---- floats
@@ -113,20 +134,72 @@ int_run (Array p k) t = (behind p, refl)
 int_run (Name p w) t = absurd (cc)
 int_run Whole t = absurd (cc)
 
-name_float : (p : Place) (w : Bool) (b : ℕ) → is_float b ≡ true → step (Name p w) b ≡ None → ⊥
-name_float p w b float none =
+-- no I is still to come of a special name
+abbrev IsFine : Mode → Type 0
+IsFine (Name p (Special rest)) = list_any (λ c. 73 == c) rest ≡ false
+IsFine m = Unit {0}
+
+one_of : (t : Bool) (x y : Option Mode) → IfSome x IsFine → IfSome y IsFine → IfSome (cond t x y) IsFine
+one_of true x y f g = f
+one_of false x y f g = g
+
+behind_fine : (p : Place) → IsFine (behind p)
+behind_fine Alone = tt
+behind_fine Parameter = tt
+behind_fine Returned = tt
+
+type_fine : (p : Place) (n b : ℕ) → IfSome (step (Array p n) b) IsFine
+type_fine p n b = one_of (eqb b 91) _ _ (one_of (ltb n 255) _ None tt tt) (one_of (is_some (primitive_of b)) _ _ (behind_fine p) (one_of (eqb b 76) _ None tt tt))
+
+name_fine : (p : Place) (w : Part) (b : ℕ) → IsFine (Name p w) → IfSome (step (Name p w) b) IsFine
+name_fine p Before b fine = one_of (is_name_byte b) _ _ tt (one_of (eqb b 60) _ None tt tt)
+name_fine p Within b fine = one_of (is_name_byte b) _ _ tt (one_of (eqb b 47) _ _ tt (one_of (eqb b 59) _ None (behind_fine p) tt))
+name_fine p Angle b fine = one_of (eqb b 105) _ _ refl (one_of (eqb b 99) _ None refl tt)
+name_fine p (Special []) b fine = one_of (eqb b 47) _ _ tt (one_of (eqb b 59) _ None (behind_fine p) tt)
+name_fine p (Special (c ∷ rest)) b fine = one_of (eqb b c) _ None (or_parts (eqb 73 c) (list_any (λ z. 73 == z) rest) fine).1 tt
+
+step_fine : (m : Mode) (b : ℕ) → IsFine m → IfSome (step m b) IsFine
+step_fine Open b fine = one_of (eqb b 40) _ None tt tt
+step_fine Parameters b fine = one_of (eqb b 41) _ _ tt (type_fine Parameter 0 b)
+step_fine Return b fine = one_of (eqb b 86) _ _ tt (type_fine Returned 0 b)
+step_fine (Array p n) b fine = type_fine p n b
+step_fine (Name p w) b fine = name_fine p w b fine
+step_fine Whole b fine = tt
+
+fine_by : (o : Option Mode) (text : List ℕ) (n : Mode) → IfSome o IsFine → ((k : Mode) → IsFine k → after k text ≡ Some n → IsFine n) → option_and_then (λ k. after k text) o ≡ Some n → IsFine n
+fine_by None text n fine ih e = absurd (cc)
+fine_by (Some k) text n fine ih e = ih k fine e
+
+after_fine : (text : List ℕ) (m n : Mode) → IsFine m → after m text ≡ Some n → IsFine n
+after_fine [] m n fine e =
+    let same : m ≡ n = cc in
+    subst IsFine same fine
+after_fine (b ∷ text) m n fine e = fine_by (step m b) text n (step_fine m b fine) (λ k. after_fine text k n) e
+
+float_goes : (p : Place) (w : Part) (b : ℕ) → step (Name p w) 70 ≡ Some (Name p Within) → step (Name p w) 68 ≡ Some (Name p Within) → is_float b ≡ true → step (Name p w) b ≡ None → ⊥
+float_goes p w b f d float none =
     elim (or_cases (eqb b 70) (eqb b 68) float) [
-      | inl e ↦ (let h : Some (Name p true) ≡ None = ap (step (Name p w)) (sym (eqb-true b 70 e)) ∙ none in absurd (cc))
-      | inr e ↦ (let h : Some (Name p true) ≡ None = ap (step (Name p w)) (sym (eqb-true b 68 e)) ∙ none in absurd (cc))
+      | inl e ↦ (let h : Some (Name p Within) ≡ None = sym f ∙ ap (step (Name p w)) (sym (eqb-true b 70 e)) ∙ none in absurd (cc))
+      | inr e ↦ (let h : Some (Name p Within) ≡ None = sym d ∙ ap (step (Name p w)) (sym (eqb-true b 68 e)) ∙ none in absurd (cc))
     ]
 
-no_int : (n k : Mode) (b : ℕ) → takes_type n ≡ false → is_float b ≡ true → step n b ≡ None → after n (73 ∷ []) ≡ Some k → ⊥
-no_int Open k b t float none run = absurd (cc)
-no_int Parameters k b t float none run = absurd (cc)
-no_int Return k b t float none run = absurd (cc)
-no_int (Array p j) k b t float none run = absurd (cc)
-no_int (Name p w) k b t float none run = name_float p w b float none
-no_int Whole k b t float none run = absurd (cc)
+no_int_name : (p : Place) (w : Part) (k : Mode) (b : ℕ) → IsFine (Name p w) → is_float b ≡ true → step (Name p w) b ≡ None → after (Name p w) (73 ∷ []) ≡ Some k → ⊥
+no_int_name p Before k b fine float none run = float_goes p Before b refl refl float none
+no_int_name p Within k b fine float none run = float_goes p Within b refl refl float none
+no_int_name p Angle k b fine float none run = absurd (cc)
+no_int_name p (Special []) k b fine float none run = absurd (cc)
+no_int_name p (Special (c ∷ rest)) k b fine float none run =
+    let other = (or_parts (eqb 73 c) (list_any (λ z. 73 == z) rest) fine).0 in
+    let h : None ≡ Some k = sym (ap (option_and_then (λ n. Some n)) (cond-false (eqb 73 c) (Some (Name p (Special rest))) None other)) ∙ run in
+    absurd (cc)
+
+no_int : (n k : Mode) (b : ℕ) → IsFine n → takes_type n ≡ false → is_float b ≡ true → step n b ≡ None → after n (73 ∷ []) ≡ Some k → ⊥
+no_int Open k b fine t float none run = absurd (cc)
+no_int Parameters k b fine t float none run = absurd (cc)
+no_int Return k b fine t float none run = absurd (cc)
+no_int (Array p j) k b fine t float none run = absurd (cc)
+no_int (Name p w) k b fine t float none run = no_int_name p w k b fine float none run
+no_int Whole k b fine t float none run = absurd (cc)
 
 -- ---- a language that is read from a mode to the whole
 
@@ -140,7 +213,7 @@ past [] b rest (suc n) lt = (take n rest, refl)
 past (c ∷ front) b rest zero lt = absurd (omega arith)
 past (c ∷ front) b rest (suc n) lt = let r = past front b rest n (omega arith) in (r.0, ap (λ l. c ∷ l) r.1)
 
-module _ (Is : List ℕ → Type 0) (start : Mode) (reads : (text : List ℕ) → after start text ≡ Some Whole → Is text) (runs : (text : List ℕ) → Is text → after start text ≡ Some Whole) where
+module _ (Is : List ℕ → Type 0) (start : Mode) (fine : IsFine start) (reads : (text : List ℕ) → after start text ≡ Some Whole → Is text) (runs : (text : List ℕ) → Is text → after start text ≡ Some Whole) where
   begins : (front : List ℕ) (n : Mode) → after start front ≡ Some n → Begins Is front
   begins front n e = (live n, reads (front ++ live n) (after_both front (live n) start n e ∙ live_run n))
 
@@ -196,7 +269,7 @@ module _ (Is : List ℕ → Type 0) (start : Mode) (reads : (text : List ℕ) �
     no_float_at b others is none (inl takes) h =
         let r = reached (take (length front) text ++ 73 ∷ []) h.2 in
         let run_on = sym (ap (λ l. after start (l ++ 73 ∷ [])) front_is ∙ after_both front (73 ∷ []) start mode run) ∙ r.1 in
-        no_int mode r.0 b takes (sym (ap is_float (byte_is b others is)) ∙ h.1) none run_on
+        no_int mode r.0 b (after_fine front start mode fine run) takes (sym (ap is_float (byte_is b others is)) ∙ h.1) none run_on
     no_float_at b others is none (inr float) h =
         let clash : false ≡ true = sym float ∙ sym (ap is_float (byte_is b others is)) ∙ h.1 in
         absurd (cc)
@@ -241,7 +314,7 @@ proto_is_read : (text : List ℕ) → IsProtoText text → after Open text ≡ S
 proto_is_read text h = sym (ap (after Open) h.2) ∙ proto_run h.0 h.1
 
 pub type_fails : (text : List ℕ) (e : NameError) → Refuses e (type_refusal text) → FailsAt IsTypeText text e
-type_fails text e h = fails_by IsTypeText (Array Alone 0) type_text type_is_read text e h
+type_fails text e h = fails_by IsTypeText (Array Alone 0) tt type_text type_is_read text e h
 
 pub proto_fails : (text : List ℕ) (e : NameError) → Refuses e (proto_refusal text) → FailsAt IsProtoText text e
-proto_fails text e h = fails_by IsProtoText Open proto_text proto_is_read text e h
+proto_fails text e h = fails_by IsProtoText Open tt proto_text proto_is_read text e h

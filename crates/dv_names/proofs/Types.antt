@@ -1,5 +1,5 @@
 -- A type's descriptor, byte by byte.
-use Rattle.std.proofs.Common.{◌≡◌, ℕ, zero, suc, ◌+◌, ◌-◌, ◌<◌, ◌≤◌, false, List, [], ◌∷◌, ◌++◌, length, get_or, drop, replicate, Option, Some, None, refl, sym, ap, subst, ◌∙◌, arith}
+use Rattle.std.proofs.Common.{◌≡◌, ℕ, zero, suc, ◌+◌, ◌-◌, ◌<◌, ◌≤◌, List, [], ◌∷◌, ◌++◌, length, get_or, drop, replicate, Option, Some, None, refl, sym, ap, subst, ◌∙◌, arith}
 use Rattle.std.specs.Prelude.{slice_range}
 use Rattle.std.specs.Option.{option_and_then}
 use Rattle.std.proofs.lemmas.List.Edits.{between_more}
@@ -9,7 +9,7 @@ use Rattle.dv_defs.specs.declared.names.Ty.{Ty}
 use Rattle.dv_names.specs.declared.error.NameError.{NameError}
 use Rattle.dv_names.specs.declared.error.NameError.TheVariants as error
 use Rattle.dv_names.specs.Descriptors.{base_text, descriptor, IsBase, IsType, IsClassName}
-use Rattle.dv_names.specs.Grammar.{Place, Alone, Array, Name, Whole, behind, after, refusal, no_type, primitive_of, Refuses}
+use Rattle.dv_names.specs.Grammar.{Place, Alone, Before, Array, Name, Whole, behind, after, refusal, no_type, primitive_of, Refuses}
 use Rattle.dv_names.proofs.Steps.{after_both, parts, one, first_byte, refusal_from, refusal_here, refusal_end}
 use Rattle.dv_names.proofs.Bytes.{step_bracket, step_no_type, step_class, primitive_text}
 use Rattle.dv_names.proofs.Classes.{class_run, class_from}
@@ -72,16 +72,16 @@ module _ (text : List ℕ) (start at : ℕ) (before : start ≤ at) (within : at
       (letter.1, between_more text start at 0 before lt ∙ ap (λ l. l ++ get_or text at 0 ∷ []) brackets ∙ ap (λ l. replicate (at - start) 91 ++ l) (sym letter.0))
 
   module _ (lt : at < length text) (letter : get_or text at 0 ≡ 76) where
-    class_skip : (p : Place) → refusal (Array p 0) start (drop start text) ≡ refusal (Name p false) (at + 1) (drop (at + 1) text)
+    class_skip : (p : Place) → refusal (Array p 0) start (drop start text) ≡ refusal (Name p Before) (at + 1) (drop (at + 1) text)
     class_skip p =
-        let run : after (Array p (at - start)) (slice_range text at (at + 1)) ≡ Some (Name p false) =
+        let run : after (Array p (at - start)) (slice_range text at (at + 1)) ≡ Some (Name p Before) =
         ap (after (Array p (at - start))) (one text at lt) ∙ ap (option_and_then (λ m. Some m)) (step_class p (at - start) (get_or text at 0) letter) in
-        skip p ∙ refusal_from text at (at + 1) (Array p (at - start)) (Name p false) (omega arith) (omega arith) run
+        skip p ∙ refusal_from text at (at + 1) (Array p (at - start)) (Name p Before) (omega arith) (omega arith) run
 
-    pub class_refused : (e : NameError) → ((p : Place) → Refuses e (refusal (Name p false) (at + 1) (drop (at + 1) text))) → (p : Place) → Refuses e (refusal (Array p 0) start (drop start text))
+    pub class_refused : (e : NameError) → ((p : Place) → Refuses e (refusal (Name p Before) (at + 1) (drop (at + 1) text))) → (p : Place) → Refuses e (refusal (Array p 0) start (drop start text))
     class_refused e rest p = refuses_same e _ _ (class_skip p) (rest p)
 
-    pub class_spelled : (end : ℕ) → at + 1 < end → end ≤ length text → after (Name Alone false) (slice_range text (at + 1) end) ≡ Some Whole
+    pub class_spelled : (end : ℕ) → at + 1 < end → end ≤ length text → after (Name Alone Before) (slice_range text (at + 1) end) ≡ Some Whole
         → (name : List ℕ) → name ≡ slice_range text at end
         → IsClassName name × (slice_range text start end ≡ descriptor (record { dims = at - start; base = base.Class name }))
     class_spelled end past inside run name is =

@@ -1,5 +1,5 @@
 -- Types and prototypes as they are printed, and the texts that are descriptors.
-use Rattle.std.specs.Prelude.{◌≡◌, ℕ, ◌-◌, ◌≤◌, Bool, ◌&&◌, not, IsTrue, List, ◌∷◌, ◌++◌, [], length, take, drop, map, replicate, Option, Some, None, IfSome, nat_lt, ◌==◌, if◌then◌else◌, codes}
+use Rattle.std.specs.Prelude.{◌≡◌, ℕ, ◌-◌, ◌≤◌, Bool, ◌&&◌, ◌||◌, not, IsTrue, List, ◌∷◌, ◌++◌, [], length, take, drop, map, replicate, Option, Some, None, IfSome, nat_lt, ◌==◌, if◌then◌else◌, bytes_eq, codes}
 use Rattle.std.specs.List.{All, list_any, list_all, flat_map, join_with_byte}
 use Rattle.dv_defs.specs.declared.names.Base.{Base}
 use Rattle.dv_defs.specs.declared.names.Base.TheVariants as base
@@ -36,12 +36,19 @@ prototype p = 40 ∷ (flat_map descriptor p.params ++ (41 ∷ return_text p.ret)
 abbrev pub marks : List ℕ
 marks = codes ".;[/()<>:\"'#{},="
 
--- a byte of a name: no mark, no blank and no control character
+-- a byte of a plain name: no mark, no blank and no control character
 abbrev pub is_name_byte : ℕ → Bool
 is_name_byte b = nat_lt 32 b && not (list_any (λ m. m == b) marks)
 
+abbrev pub is_plain_name : List ℕ → Bool
+is_plain_name w = nat_lt 0 (length w) && list_all is_name_byte w
+
+-- the name of a constructor or of a class's initializer
+abbrev pub is_special_name : List ℕ → Bool
+is_special_name w = bytes_eq w (codes "<init>") || bytes_eq w (codes "<clinit>")
+
 abbrev pub is_name : List ℕ → Bool
-is_name w = nat_lt 0 (length w) && list_all is_name_byte w
+is_name w = is_plain_name w || is_special_name w
 
 -- L, one or more names with slashes between, and a semicolon
 pub record IsClassName (text : List ℕ) : Type 0 where

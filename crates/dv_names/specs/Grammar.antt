@@ -1,5 +1,5 @@
 -- The grammar of types and prototypes, byte by byte, and why a text isn't of it.
-use Rattle.std.specs.Prelude.{◌≡◌, ℕ, suc, Bool, true, false, not, ◌||◌, List, [], ◌∷◌, Option, Some, None, is_some, Result, Ok, Err, nat_lt, ◌==◌, if◌then◌else◌}
+use Rattle.std.specs.Prelude.{◌≡◌, ℕ, suc, Bool, true, false, ◌||◌, List, [], ◌∷◌, Option, Some, None, is_some, Result, Ok, Err, nat_lt, ◌==◌, if◌then◌else◌, codes}
 use Rattle.std.specs.Option.{option_and_then, option_map_or}
 use Rattle.dv_defs.specs.declared.names.Base.{Base}
 use Rattle.dv_defs.specs.declared.names.Base.TheVariants as base
@@ -13,6 +13,17 @@ pub data Place : Type 0 where
   Parameter : Place
   Returned : Place
 
+-- what has been read of a name of a class's descriptor
+pub data Part : Type 0 where
+  -- nothing
+  Before : Part
+  -- bytes of a plain name
+  Within : Part
+  -- `<`
+  Angle : Part
+  -- a front of `<init>` or `<clinit>`, of which these bytes are still to come
+  Special : List ℕ → Part
+
 -- what has been read, and so what may come
 pub data Mode : Type 0 where
   -- nothing of a prototype
@@ -23,8 +34,8 @@ pub data Mode : Type 0 where
   Return : Mode
   -- so many brackets of a type
   Array : Place → ℕ → Mode
-  -- a part of a class's descriptor, which ends within a name or before one
-  Name : Place → Bool → Mode
+  -- a part of a class's descriptor, which ends with this part of a name
+  Name : Place → Part → Mode
   -- everything
   Whole : Mode
 
@@ -51,16 +62,28 @@ abbrev pub step_type : Place → ℕ → ℕ → Option Mode
 step_type p n b =
     if b == 91 then (if nat_lt n 255 then Some (Array p (suc n)) else None)
     else if is_some (primitive_of b) then Some (behind p)
-    else if b == 76 then Some (Name p false)
+    else if b == 76 then Some (Name p Before)
     else None
 
-abbrev pub step_name : Place → Bool → ℕ → Option Mode
-step_name p within b =
-    if is_name_byte b then Some (Name p true)
-    else if not within then None
-    else if b == 47 then Some (Name p false)
+-- behind a whole name
+abbrev pub step_behind : Place → ℕ → Option Mode
+step_behind p b =
+    if b == 47 then Some (Name p Before)
     else if b == 59 then Some (behind p)
     else None
+
+abbrev pub step_name : Place → Part → ℕ → Option Mode
+step_name p Before b =
+    if is_name_byte b then Some (Name p Within)
+    else if b == 60 then Some (Name p Angle)
+    else None
+step_name p Within b = if is_name_byte b then Some (Name p Within) else step_behind p b
+step_name p Angle b =
+    if b == 105 then Some (Name p (Special (codes "nit>")))
+    else if b == 99 then Some (Name p (Special (codes "linit>")))
+    else None
+step_name p (Special []) b = step_behind p b
+step_name p (Special (c ∷ rest)) b = if b == c then Some (Name p (Special rest)) else None
 
 -- what a byte makes of what has been read, unless nothing goes on so
 abbrev pub step : Mode → ℕ → Option Mode
@@ -68,7 +91,7 @@ step Open b = if b == 40 then Some Parameters else None
 step Parameters b = if b == 41 then Some Return else step_type Parameter 0 b
 step Return b = if b == 86 then Some Whole else step_type Returned 0 b
 step (Array p n) b = step_type p n b
-step (Name p within) b = step_name p within b
+step (Name p part) b = step_name p part b
 step Whole b = None
 
 -- what bytes make of it
@@ -82,7 +105,7 @@ takes_type Open = false
 takes_type Parameters = true
 takes_type Return = true
 takes_type (Array p n) = true
-takes_type (Name p within) = false
+takes_type (Name p part) = false
 takes_type Whole = false
 
 -- the text ends at this place

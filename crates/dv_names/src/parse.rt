@@ -96,8 +96,8 @@ fn return_at(alloc: Global, text: &[u8], start: usize) -> Result<(Option<Ty>, us
 }
 
 /// The type whose descriptor the text is: a bracket for each dimension, and a primitive type's letter or a class's
-/// descriptor. That is `L`, one or more names with `/` between, and `;`. A name is one or more bytes that are no blank,
-/// no control character and none of ``.;[/()<>:"'#{},=``, so `L<init>;` is no class.
+/// descriptor. That is `L`, one or more names with `/` between, and `;`. A name is `<init>`, `<clinit>`, or one or more
+/// bytes that are no blank, no control character and none of ``.;[/()<>:"'#{},=``.
 pub fn parse_type(alloc: Global, text: &[u8]) -> Result<Ty, NameError>
     ensures exact { Judges result (type_refusal text.now) }
     ensures prints { IfOk result (λ t. IsType t × (descriptor t ≡ text.now)) }

@@ -63,6 +63,15 @@ fn types_are_read(rt: HostRuntime) -> Result<(), Fail> {
         ),
         (b"[LMain$I;".as_slice(), class_of(alloc, 1, b"LMain$I;")?),
         (b"L\xc3\xa9;".as_slice(), class_of(alloc, 0, b"L\xc3\xa9;")?),
+        (b"L<init>;".as_slice(), class_of(alloc, 0, b"L<init>;")?),
+        (
+            b"[La/<clinit>;".as_slice(),
+            class_of(alloc, 1, b"La/<clinit>;")?,
+        ),
+        (
+            b"L<clinit>/b;".as_slice(),
+            class_of(alloc, 0, b"L<clinit>/b;")?,
+        ),
     ];
     for (text, ty) in rows {
         assert_eq!(rt; print_type(alloc, &ty)?.bytes(), text);
@@ -91,7 +100,17 @@ fn other_texts_are_refused_at_the_first_byte_that_fits_no_type(
         (b"La//b;".as_slice(), NameError::BadDescriptor(3)),
         (b"La;x".as_slice(), NameError::BadDescriptor(3)),
         (b"La.b;".as_slice(), NameError::BadDescriptor(2)),
-        (b"L<init>;".as_slice(), NameError::BadDescriptor(1)),
+        (b"L<".as_slice(), NameError::BadDescriptor(2)),
+        (b"L<>;".as_slice(), NameError::BadDescriptor(2)),
+        (b"L<F".as_slice(), NameError::BadDescriptor(2)),
+        (b"L<foo>;".as_slice(), NameError::BadDescriptor(2)),
+        (b"L<inx;".as_slice(), NameError::BadDescriptor(4)),
+        (b"L<init;".as_slice(), NameError::BadDescriptor(6)),
+        (b"L<init>".as_slice(), NameError::BadDescriptor(7)),
+        (b"L<init>x;".as_slice(), NameError::BadDescriptor(7)),
+        (b"L<clinix>;".as_slice(), NameError::BadDescriptor(7)),
+        (b"La<init>;".as_slice(), NameError::BadDescriptor(2)),
+        (b"La/<c;".as_slice(), NameError::BadDescriptor(5)),
         (b"La b;".as_slice(), NameError::BadDescriptor(2)),
     ];
     for (text, error) in rows {
