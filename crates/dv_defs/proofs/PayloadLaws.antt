@@ -45,23 +45,23 @@ packed_size first targets = omega (arith, length_numbers targets)
 keys_of : (keys targets : List ℤ) → all_fit_signed keys ≡ true → signed_all (take (length keys) (map (complement 32) (keys ++ targets))) ≡ keys
 keys_of keys targets t =
     let e : take (length keys) (map (complement 32) (keys ++ targets)) ≡ map (complement 32) keys =
-        take-map (complement 32) (length keys) (keys ++ targets) ∙ ap (map (complement 32)) (take-append_seam keys targets) in
+    take-map (complement 32) (length keys) (keys ++ targets) ∙ ap (map (complement 32)) (take-append_seam keys targets) in
     ap signed_all e ∙ signed_back keys t
 
 targets_of : (keys targets : List ℤ) → all_fit_signed targets ≡ true → signed_all (drop (length keys) (map (complement 32) (keys ++ targets))) ≡ targets
 targets_of keys targets t =
     let size : length (map (complement 32) keys) ≡ length keys = length-map keys (complement 32) in
     let e : drop (length keys) (map (complement 32) (keys ++ targets)) ≡ map (complement 32) targets =
-        ap (drop (length keys)) (map-append (complement 32) keys targets) ∙
-        (ap (λ n. drop n (map (complement 32) keys ++ map (complement 32) targets)) (sym size) ∙ drop-append_seam (map (complement 32) keys) (map (complement 32) targets)) in
+    ap (drop (length keys)) (map-append (complement 32) keys targets) ∙
+    (ap (λ n. drop n (map (complement 32) keys ++ map (complement 32) targets)) (sym size) ∙ drop-append_seam (map (complement 32) keys) (map (complement 32) targets)) in
     ap signed_all e ∙ signed_back targets t
 
 sparse_here : (keys targets : List ℤ) (rest : List ℕ) → length targets ≡ length keys → all_fit_signed keys ≡ true → all_fit_signed targets ≡ true → payload_here (0x0200 ∷ length keys ∷ ((numbers_spelling keys ++ numbers_spelling targets) ++ rest)) ≡ sized_payload (payload.Sparse keys targets) (length keys * 4 + 2)
 sparse_here keys targets rest e f t =
     let size : length (keys ++ targets) ≡ length keys + length keys = omega (arith, length-append keys targets, e) in
     let read : doubles (length keys + length keys) ((numbers_spelling keys ++ numbers_spelling targets) ++ rest) ≡ Some (map (complement 32) (keys ++ targets)) =
-        ap (λ n. doubles n ((numbers_spelling keys ++ numbers_spelling targets) ++ rest)) (sym size) ∙
-        (ap (λ us. doubles (length (keys ++ targets)) (us ++ rest)) (sym (numbers_append keys targets)) ∙ doubles_of (keys ++ targets) rest) in
+    ap (λ n. doubles n ((numbers_spelling keys ++ numbers_spelling targets) ++ rest)) (sym size) ∙
+    (ap (λ us. doubles (length (keys ++ targets)) (us ++ rest)) (sym (numbers_append keys targets)) ∙ doubles_of (keys ++ targets) rest) in
     let k = keys_of keys targets f in
     let ts = targets_of keys targets t in
     ap (sparse_of (length keys)) read ∙
@@ -91,7 +91,7 @@ data_of_bytes width bytes rest w t =
     let front : take units us ≡ bytes_spelling bytes = ap (λ n. take n us) (sym (length_bytes bytes)) ∙ take-append_seam (bytes_spelling bytes) rest in
     let all : bytes_in (take units us) ≡ bytes ++ padding bytes = ap bytes_in front ∙ bytes_back bytes t in
     let zeros : list_all is_zero (drop (length bytes) (bytes_in (take units us))) ≡ true =
-        ap (λ xs. list_all is_zero (drop (length bytes) xs)) all ∙ (ap (list_all is_zero) (drop-append_seam bytes (padding bytes)) ∙ padding_is_zero bytes) in
+    ap (λ xs. list_all is_zero (drop (length bytes) xs)) all ∙ (ap (list_all is_zero) (drop-append_seam bytes (padding bytes)) ∙ padding_is_zero bytes) in
     let taken : take (length bytes) (bytes_in (take units us)) ≡ bytes = ap (take (length bytes)) all ∙ take-append_seam bytes (padding bytes) in
     data_fits (is_width width && nat_le units (length us)) width (length bytes) us units (both _ _ w room) ∙
     data_taken width (length bytes) (bytes_in (take units us)) bytes units zeros taken
@@ -147,7 +147,7 @@ packed_stands n us (Some (k ∷ ts)) b r =
     let more : suc (suc (suc n * 2)) ≡ n * 2 + 4 = omega arith in
     let fit : (fits 16 (length (signed_all ts)) && all_fit_signed (signed_all (k ∷ ts))) ≡ true = both _ _ (lt-ltb _ _ (omega (arith, count, b))) a.fit in
     let units : (0x0100 ∷ length (signed_all ts) ∷ numbers_spelling (signed_all (k ∷ ts))) ≡ take (n * 2 + 4) (0x0100 ∷ n ∷ us) =
-        cc (count, a.units) ∙ ap (λ m. take m (0x0100 ∷ n ∷ us)) more in
+    cc (count, a.units) ∙ ap (λ m. take m (0x0100 ∷ n ∷ us)) more in
     (omega (arith, a.room), where_it_fits _ _ _ fit units)
 
 sparse_stands : (n : ℕ) (us : List ℕ) (o : Option (List ℕ)) → n < 2 ^ 16 → ((xs : List ℕ) → o ≡ Some xs → AreRead (n + n) us xs) → IsPayloadHere (0x0200 ∷ n ∷ us) (sparse_of n o)
@@ -165,7 +165,7 @@ sparse_stands n us (Some xs) b r =
     let more : suc (suc ((n + n) * 2)) ≡ n * 4 + 2 = omega arith in
     let numbers : numbers_spelling keys ++ numbers_spelling targets ≡ take ((n + n) * 2) us = sym (numbers_append keys targets) ∙ (ap numbers_spelling (sym parts) ∙ a.units) in
     let units : (0x0200 ∷ length keys ∷ (numbers_spelling keys ++ numbers_spelling targets)) ≡ take (n * 4 + 2) (0x0200 ∷ n ∷ us) =
-        cc (count, numbers) ∙ ap (λ m. take m (0x0200 ∷ n ∷ us)) more in
+    cc (count, numbers) ∙ ap (λ m. take m (0x0200 ∷ n ∷ us)) more in
     (omega (arith, a.room), where_it_fits _ _ _ (both _ _ small (both _ _ same fits_both)) units)
 
 is_width_positive : (w : ℕ) → is_width w ≡ true → 0 < w
