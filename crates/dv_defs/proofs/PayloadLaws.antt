@@ -71,16 +71,16 @@ sparse_size : (keys targets : List ℤ) → length targets ≡ length keys → l
 sparse_size keys targets e = omega (arith, length-append (numbers_spelling keys) (numbers_spelling targets), length_numbers keys, length_numbers targets, e)
 
 -- data
-data_fits : (b : Bool) (width m : ℕ) (us : List ℕ) (units : ℕ) → b ≡ true → elim b [ true ↦ data_in width m (bytes_in (take units us)) units | false ↦ None ] ≡ data_in width m (bytes_in (take units us)) units
+pub data_fits : (b : Bool) (width m : ℕ) (us : List ℕ) (units : ℕ) → b ≡ true → elim b [ true ↦ data_in width m (bytes_in (take units us)) units | false ↦ None ] ≡ data_in width m (bytes_in (take units us)) units
 data_fits true width m us units e = refl
 data_fits false width m us units e = absurd (cc)
 
-data_taken : (width count : ℕ) (all bytes : List ℕ) (units : ℕ) → list_all is_zero (drop count all) ≡ true → take count all ≡ bytes → data_in width count all units ≡ sized_payload (payload.Data width bytes) (units + 4)
+pub data_taken : (width count : ℕ) (all bytes : List ℕ) (units : ℕ) → list_all is_zero (drop count all) ≡ true → take count all ≡ bytes → data_in width count all units ≡ sized_payload (payload.Data width bytes) (units + 4)
 data_taken width count all bytes units z e =
     let P : Bool → Option SizedPayload = λ b. elim b [ true ↦ Some (record { payload = payload.Data width (take count all); size = units + 4 }) | false ↦ None ] in
     ap P z ∙ same_sized (payload.Data width (take count all)) (payload.Data width bytes) _ _ (cc e) refl
 
-both : (a b : Bool) → a ≡ true → b ≡ true → (a && b) ≡ true
+pub both : (a b : Bool) → a ≡ true → b ≡ true → (a && b) ≡ true
 both a b h k = cc
 
 data_of_bytes : (width : ℕ) (bytes rest : List ℕ) → is_width width ≡ true → all_fit 8 bytes ≡ true → data_of width (length bytes) ((length bytes + 1) / 2) (bytes_spelling bytes ++ rest) ≡ sized_payload (payload.Data width bytes) ((length bytes + 1) / 2 + 4)
@@ -135,7 +135,7 @@ abbrev pub IsPayloadHere : List ℕ → Option SizedPayload → Type 0
 IsPayloadHere us (Some s) = (s.size ≤ length us) × (payload_spelling s.payload ≡ Some (take s.size us))
 IsPayloadHere us None = Unit {0}
 
-where_it_fits : (t : Bool) (us vs : List ℕ) → t ≡ true → us ≡ vs → where_fits t us ≡ Some vs
+pub where_it_fits : (t : Bool) (us vs : List ℕ) → t ≡ true → us ≡ vs → where_fits t us ≡ Some vs
 where_it_fits t us vs e h = cc
 
 packed_stands : (n : ℕ) (us : List ℕ) (o : Option (List ℕ)) → n < 2 ^ 16 → ((xs : List ℕ) → o ≡ Some xs → AreRead (suc n) us xs) → IsPayloadHere (0x0100 ∷ n ∷ us) (packed_of n o)
@@ -185,7 +185,7 @@ data_units width lo hi k units bytes us e bl bh h =
     let front : (0x0300 ∷ width ∷ (two_units k ++ bytes_spelling bytes)) ≡ take (suc (suc (suc (suc units)))) (0x0300 ∷ width ∷ lo ∷ hi ∷ us) = cc (low, high, h) in
     front ∙ ap (λ m. take m (0x0300 ∷ width ∷ lo ∷ hi ∷ us)) more
 
-data_spelled : (width lo hi k m units : ℕ) (us : List ℕ) → k ≡ lo + hi * 2 ^ 16 → m ≡ k * width → units ≡ (m + 1) / 2 → lo < 2 ^ 16 → hi < 2 ^ 16 → all_fit 16 (take units us) ≡ true → is_width width ≡ true → units ≤ length us → list_all is_zero (drop m (bytes_in (take units us))) ≡ true → data_spelling width (take m (bytes_in (take units us))) ≡ Some (take (units + 4) (0x0300 ∷ width ∷ lo ∷ hi ∷ us))
+pub data_spelled : (width lo hi k m units : ℕ) (us : List ℕ) → k ≡ lo + hi * 2 ^ 16 → m ≡ k * width → units ≡ (m + 1) / 2 → lo < 2 ^ 16 → hi < 2 ^ 16 → all_fit 16 (take units us) ≡ true → is_width width ≡ true → units ≤ length us → list_all is_zero (drop m (bytes_in (take units us))) ≡ true → data_spelling width (take m (bytes_in (take units us))) ≡ Some (take (units + 4) (0x0300 ∷ width ∷ lo ∷ hi ∷ us))
 data_spelled width lo hi k m units us e d h bl bh t w room z =
     let vs : List ℕ = take units us in
     let bytes : List ℕ = take m (bytes_in vs) in

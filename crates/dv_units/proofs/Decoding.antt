@@ -71,7 +71,7 @@ units_fit (u ∷ us) h =
     let first : u < 2 ^ 16 = (h 0).fits in
     cc (lt-ltb _ _ first, units_fit us (λ i. h (suc i)))
 
-fit_from : (n : ℕ) (us : List ℕ) → all_fit 16 us ≡ true → all_fit 16 (drop n us) ≡ true
+pub fit_from : (n : ℕ) (us : List ℕ) → all_fit 16 us ≡ true → all_fit 16 (drop n us) ≡ true
 fit_from zero us t = t
 fit_from (suc n) [] t = refl
 fit_from (suc n) (u ∷ us) t = fit_from n us (unit_parts u us t).1

@@ -2,3 +2,6 @@ pub mod Opcodes
 pub mod Numbers
 pub mod Decoding
 pub mod Encoding
+pub mod Headers
+pub mod PayloadParts
+pub mod PayloadsHere

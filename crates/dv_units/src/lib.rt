@@ -5,7 +5,11 @@
 mod error;
 mod fields;
 mod format;
+mod header;
 mod laws;
+mod payload_readers;
+mod payload_writers;
+mod payloads;
 mod read;
 mod readers;
 mod shape;
@@ -20,5 +24,6 @@ pub use laws::{
     decode_of_encode, encode_of_decode, items_are_apart, spellings_are_apart, tables_agree,
     tiling_is_unique, units_spell_items,
 };
+pub use payloads::{decode_payload, encode_payload, payload_size};
 pub use read::decode;
 pub use write::encode;

@@ -1,8 +1,10 @@
 use crate::{
-    UnitError, decode, decode_of_encode, encode, encode_of_decode, spellings_are_apart,
-    tables_agree,
+    UnitError, decode, decode_of_encode, decode_payload, encode, encode_of_decode, encode_payload,
+    items_are_apart, payload_size, spellings_are_apart, tables_agree, tiling_is_unique,
+    units_spell_items,
 };
-use dv_defs::{Insn, Regs};
+use dv_defs::{Insn, Payload, Regs, Seq};
+use std::alloc::{AllocError, Global};
 use std::test::Fail;
 
 /// An instruction with no offset and no range.
@@ -241,5 +243,130 @@ fn reads_back(rt: HostRuntime) -> Result<(), Fail> {
     items_are_apart();
     units_spell_items();
     tiling_is_unique();
+    Ok(())
+}
+
+fn packed(alloc: Global, first: i32, targets: &[i32]) -> Result<Payload, AllocError> {
+    Ok(Payload::Packed {
+        first,
+        targets: Seq::of(Vec::from_slice(alloc, targets)?),
+    })
+}
+
+fn sparse(alloc: Global, keys: &[i32], targets: &[i32]) -> Result<Payload, AllocError> {
+    Ok(Payload::Sparse {
+        keys: Seq::of(Vec::from_slice(alloc, keys)?),
+        targets: Seq::of(Vec::from_slice(alloc, targets)?),
+    })
+}
+
+fn data(alloc: Global, width: u16, bytes: &[u8]) -> Result<Payload, AllocError> {
+    Ok(Payload::Data {
+        width,
+        bytes: Seq::of(Vec::from_slice(alloc, bytes)?),
+    })
+}
+
+// Payloads and their units, worked by hand from the page on the bytecode.
+#[test]
+fn spells_payloads_both_ways(rt: HostRuntime) -> Result<(), Fail> {
+    let alloc = rt.alloc();
+    let rows: [(&[u16], Payload); 8] = [
+        (&[0x0100, 0x0000, 0x0005, 0x0000], packed(alloc, 5, &[])?),
+        (
+            &[
+                0x0100, 0x0002, 0xfffe, 0xffff, 0x0005, 0x0000, 0xfffd, 0xffff,
+            ],
+            packed(alloc, -2, &[5, -3])?,
+        ),
+        (
+            &[
+                0x0200, 0x0002, 0xffff, 0xffff, 0x0007, 0x0000, 0x0004, 0x0000, 0x0003, 0x0001,
+            ],
+            sparse(alloc, &[-1, 7], &[4, 65539])?,
+        ),
+        (
+            &[0x0300, 0x0001, 0x0003, 0x0000, 0x0201, 0x0003],
+            data(alloc, 1, &[1, 2, 3])?,
+        ),
+        (
+            &[0x0300, 0x0002, 0x0001, 0x0000, 0x1234],
+            data(alloc, 2, &[0x34, 0x12])?,
+        ),
+        (
+            &[0x0300, 0x0004, 0x0001, 0x0000, 0x5678, 0x1234],
+            data(alloc, 4, &[0x78, 0x56, 0x34, 0x12])?,
+        ),
+        (
+            &[
+                0x0300, 0x0008, 0x0001, 0x0000, 0x0201, 0x0403, 0x0605, 0x0807,
+            ],
+            data(alloc, 8, &[1, 2, 3, 4, 5, 6, 7, 8])?,
+        ),
+        (&[0x0300, 0x0008, 0x0000, 0x0000], data(alloc, 8, &[])?),
+    ];
+    for (units, payload) in &rows {
+        let mut out = vec![in alloc; 0x0000u16]?;
+        assert_eq!(rt;
+            encode_payload(payload, &mut out),
+            Ok(units.len()),
+            "{units:?}"
+        );
+        assert_eq!(rt; &out[1..], *units);
+        // A nop may stand before a payload.
+        assert!(rt; out.len() > 1 && out.len() < 100);
+        assert_eq!(rt;
+            decode(&out, 0),
+            Ok((insn(0x00, 0, [0, 0, 0, 0, 0], 0, 0), 1))
+        );
+        assert_eq!(rt; payload_size(&out, 1), Some(u32::try_from(units.len())?));
+        assert!(rt; decode_payload(alloc, &out, 1)? == *payload, "{units:?}");
+    }
+    Ok(())
+}
+
+#[test]
+fn refuses_units_of_no_payload(rt: HostRuntime) -> Result<(), Fail> {
+    let rows: [&[u16]; 10] = [
+        // The last byte isn't used, and not 0.
+        &[0x0300, 0x0001, 0x0001, 0x0000, 0x0100],
+        // No element has 3 bytes, or none.
+        &[0x0300, 0x0003, 0x0000, 0x0000],
+        &[0x0300, 0x0000, 0x0000, 0x0000],
+        // Cut.
+        &[0x0300, 0x0002, 0x0001, 0x0000],
+        &[0x0300, 0x0002, 0x0000],
+        &[0x0100, 0x0001, 0x0000, 0x0000, 0x0005],
+        &[0x0200, 0x0001, 0x0000, 0x0000, 0x0005],
+        &[0x0100],
+        // No mark of a payload.
+        &[0x0000, 0x0000, 0x0000, 0x0000],
+        &[0x0400, 0x0000, 0x0000, 0x0000],
+    ];
+    for units in rows {
+        assert!(rt; !units.is_empty() && units.len() < 100);
+        assert_eq!(rt; payload_size(units, 0), None, "{units:?}");
+        let read = decode_payload(rt.alloc(), units, 0);
+        assert!(rt; matches!(read, Err(UnitError::BadPayload)), "{units:?}");
+    }
+    Ok(())
+}
+
+#[test]
+fn refuses_payloads(rt: HostRuntime) -> Result<(), Fail> {
+    let alloc = rt.alloc();
+    let rows = [
+        data(alloc, 3, &[1, 2, 3])?,
+        data(alloc, 4, &[1, 2, 3])?,
+        sparse(alloc, &[1, 2], &[4])?,
+    ];
+    for payload in &rows {
+        let mut out = vec![in alloc; 0x0000u16]?;
+        assert_eq!(rt;
+            encode_payload(payload, &mut out),
+            Err(UnitError::BadPayload)
+        );
+        assert_eq!(rt; out.as_slice(), [0x0000].as_slice());
+    }
     Ok(())
 }
