@@ -10,7 +10,7 @@ use Rattle.dv_names.specs.Grammar.{Place, Before, Angle, Special, Return, Array,
 abbrev pub IsPart : List ℕ → ℕ → ℕ → Type 0
 IsPart text start end = (start < end) × (end ≤ length text)
 
--- what is left of the special name w
+-- the bytes w, which are what is left of a special name
 abbrev pub EndsWord : List ℕ → List ℕ → ℕ → Result ℕ NameError → Type 0
 EndsWord w text start found = MatchResult found
     (λ end. (end ≤ length text) × (start ≤ end) × (slice_range text start end ≡ w))

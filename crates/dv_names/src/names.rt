@@ -8,7 +8,7 @@ ghost use Rattle.dv_names.specs.Parts.{EndsWord, EndsSpecial, EndsName, EndsClas
 use crate::NameError;
 use dv_defs::Base;
 
-/// The characters that no name has, beside blanks and control characters.
+/// The characters that no plain name has, beside blanks and control characters.
 const MARKS: &[u8; 16] = b".;[/()<>:\"'#{},=";
 
 pub fn is_name_byte(byte: u8) -> bool
