@@ -312,9 +312,9 @@ fn spells_payloads_both_ways(rt: HostRuntime) -> Result<(), Fail> {
             Ok(units.len()),
             "{units:?}"
         );
+        assert!(rt; out.len() > 1 && out.len() < 100);
         assert_eq!(rt; &out[1..], *units);
         // A nop may stand before a payload.
-        assert!(rt; out.len() > 1 && out.len() < 100);
         assert_eq!(rt;
             decode(&out, 0),
             Ok((insn(0x00, 0, [0, 0, 0, 0, 0], 0, 0), 1))
