@@ -1,0 +1,1 @@
+-- What the laws speak of beside the statements of dv_machine.
