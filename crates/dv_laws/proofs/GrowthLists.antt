@@ -9,6 +9,9 @@ no e = absurd (cc)
 pub same_some : {A : Type 0} (x y : A) → Some x ≡ Some y → x ≡ y
 same_some x y e = cc
 
+pub nothing : {A : Type 0} (B : Type 0) (x : A) → None ≡ Some x → B
+nothing B x e = absurd (cc)
+
 pub get_front : {A : Type 0} (xs ys : List A) (k : ℕ) (x : A) → slice_get xs k ≡ Some x → slice_get (xs ++ ys) k ≡ Some x
 get_front [] ys k x e = absurd (cc)
 get_front (z ∷ xs) ys zero x e = e

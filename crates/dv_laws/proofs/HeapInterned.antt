@@ -42,7 +42,7 @@ base_is base.J base.J e = refl
 base_is (base.Class x) (base.Class y) e = ap base.Class ((bytes_eq-Decides x y).0 e)
 base_is a b e = no e
 
-ty_is : (a b : Ty) → ty_eq a b ≡ true → a ≡ b
+pub ty_is : (a b : Ty) → ty_eq a b ≡ true → a ≡ b
 ty_is a b e =
     let p = and_parts _ _ e in
     let made : ℕ → Base → Ty = λ n x. record { dims = n; base = x } in

@@ -9,3 +9,11 @@ pub mod HeapAdded
 pub mod HeapInterned
 pub mod Stores
 pub mod GrowthKeeps
+pub mod FlightUnder
+pub mod FlightHandlers
+pub mod FlightCallers
+pub mod GrowthThreads
+pub mod FlightMade
+pub mod FlightFlown
+pub mod RecordsStates
+pub mod FlightRises

@@ -4,3 +4,4 @@
 
 mod heap;
 mod threads;
+mod exceptions;

@@ -1,4 +1,5 @@
 // The laws of monitors and threads.
+ghost use Rattle.dv_machine.specs.StepLaws.{LeftIsWellTyped};
 ghost use Rattle.dv_laws.specs.MonitorLaws.{EnteringKeeps, ExitingKeeps, WaitingKeeps, NotifyingKeeps, ResumingKeeps};
 
 /// Monitors stay in order when one is entered or exited, when a thread waits, is notified, or takes its monitor back.
@@ -8,4 +9,10 @@ pub fn monitors_stay_fine()
     ensures waiting { WaitingKeeps }
     ensures notifying { NotifyingKeeps }
     ensures resuming { ResumingKeeps }
+{}
+
+/// What a step of one thread leaves in order leaves the state well typed, also where a thread was started.
+#[tactic(auto, using(crate::proofs::FlightRises::flight_top, crate::proofs::RecordsStates::begun_others))]
+pub fn left_states_are_well_typed()
+    ensures law { LeftIsWellTyped }
 {}

@@ -2,4 +2,4 @@ use Rattle.dv_laws.proofs.GrowthKeeps.{growth_keeps}
 use Rattle.dv_laws.proofs.heap.growth_keeps.Goals as goal
 
 pub returns : goal.returns
-returns c = growth_keeps
+returns c = record { law = growth_keeps }

@@ -1,0 +1,15 @@
+// The laws of exceptions in flight.
+ghost use Rattle.dv_machine.specs.StepLaws.{ThrowerIsHandled, CallersAreHandled, NeedersAreHandled, SettledIsWellTyped, SettledRecordIsWellTyped};
+
+/// Each frame that an exception may reach finds its handlers in order: the one that throws, its callers, and those below a record.
+pub fn handlers_are_found()
+    ensures thrower { ThrowerIsHandled }
+    ensures callers { CallersAreHandled }
+    ensures needers { NeedersAreHandled }
+{}
+
+/// What a step of an instruction or of a record does, settled, leaves a well-typed state.
+pub fn outcomes_are_settled()
+    ensures instruction { SettledIsWellTyped }
+    ensures record_of_class { SettledRecordIsWellTyped }
+{}
