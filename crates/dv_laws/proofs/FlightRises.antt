@@ -55,7 +55,7 @@ handler_found image heap o P (h ∷ hs) a to e = go (catches image heap o h.ty) 
 
 module _ (image : Image) (T : Typings) (heap : Heap) (t o : ℕ) where
   -- what holds below a flight holds without it
-  forgotten : (ls : List Level) → StackFine image T heap t (Some o) ls → StackFine image T heap t None ls
+  pub forgotten : (ls : List Level) → StackFine image T heap t (Some o) ls → StackFine image T heap t None ls
   forgotten [] k = k
   forgotten (level.Code f ∷ ls) k = (k.0, k.1, tt, forgotten ls k.3)
   forgotten (level.Init c r ∷ ls) k = (k.0, either_map _ _ _ _ (λ x. x) (forgotten ls) (is_opening image t c.0 ls) k.1)
@@ -65,7 +65,7 @@ module _ (image : Image) (T : Typings) (heap : Heap) (t o : ℕ) where
   flight_top (level.Init c r) ls k = k
 
   -- what stands below the level that is dropped
-  flying_on : (l : Level) (ls : List Level) → IsThrowable image heap o → IsCode (lowest (l ∷ ls)) → StackFine image T heap t (Some o) ls → ThreadFine image T heap t ls (end_flying o ls)
+  pub flying_on : (l : Level) (ls : List Level) → IsThrowable image heap o → IsCode (lowest (l ∷ ls)) → StackFine image T heap t (Some o) ls → ThreadFine image T heap t ls (end_flying o ls)
   flying_on l [] i c k = (refl, i)
   flying_on l (k ∷ ls) i c s = (lowest_rest l k ls c, i, flight_top k ls s)
 
@@ -75,7 +75,7 @@ object_there image heap (suc o) i = i
 
 module _ (image : Image) (T : Typings) (m : Machine) (t o : ℕ) (thread : Thread) (acc : Accepted image T) (w : WellTyped image T m) (has : slice_get m.threads t ≡ Some thread) (flying : thread.end ≡ end.Flying o) where
   -- a thread with an exception in flight doesn't wait
-  flying_quiet : entry_of m.shared.monitors t ≡ None
+  pub flying_quiet : entry_of m.shared.monitors t ≡ None
   flying_quiet = entry_none t m.shared.monitors.waits (λ k d l e. clash (waits k d l) e)
     where
       waits : All (WaitFine image m.threads m.shared) m.shared.monitors.waits
@@ -89,7 +89,7 @@ module _ (image : Image) (T : Typings) (m : Machine) (t o : ℕ) (thread : Threa
           let same : f.thread ≡ thread = same_some f.thread thread (sym f.has_thread ∙ ap (slice_get m.threads) e ∙ has) in
           no_living (sym flying ∙ sym (ap (λ (y : Thread). y.end) same) ∙ f.waits.running)
 
-  fine_at : (ls : List Level) → thread.levels ≡ ls → ThreadFine image T m.shared.heap t ls (end.Flying o)
+  pub fine_at : (ls : List Level) → thread.levels ≡ ls → ThreadFine image T m.shared.heap t ls (end.Flying o)
   fine_at ls e = subst (λ (k : List Level). ThreadFine image T m.shared.heap t k (end.Flying o)) e (subst (λ (x : End). ThreadFine image T m.shared.heap t thread.levels x) flying (w.each t thread has))
 
   module _ (f : Frame) (ls : List Level) (levels : thread.levels ≡ level.Code f ∷ ls) where
@@ -118,7 +118,7 @@ module _ (image : Image) (T : Typings) (m : Machine) (t o : ℕ) (thread : Threa
           started = λ x e. nothing _ x e;
         })
 
-    frame_flight : HoldsOf (WellTyped image T) (step_flight image m t thread o (level.Code f ∷ ls))
+    pub frame_flight : HoldsOf (WellTyped image T) (step_flight image m t thread o (level.Code f ∷ ls))
     frame_flight = go (handler_for image m.shared.heap o (handlers_at image f.method.0 f.at)) refl
       where
         go : (r : Option ℕ) → handler_for image m.shared.heap o (handlers_at image f.method.0 f.at) ≡ r → HoldsOf (WellTyped image T) (settled_flight m t thread (unwind_frame (here image m t no_method f ls 0) f o r))

@@ -17,3 +17,4 @@ pub mod FlightMade
 pub mod FlightFlown
 pub mod RecordsStates
 pub mod FlightRises
+pub mod FlightRecords

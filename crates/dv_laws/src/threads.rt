@@ -12,7 +12,6 @@ pub fn monitors_stay_fine()
 {}
 
 /// What a step of one thread leaves in order leaves the state well typed, also where a thread was started.
-#[tactic(auto, using(crate::proofs::FlightRises::flight_top, crate::proofs::RecordsStates::begun_others))]
 pub fn left_states_are_well_typed()
     ensures law { LeftIsWellTyped }
 {}
