@@ -1,1 +1,2 @@
 -- The proofs of the laws.
+pub mod RegistersWritten
