@@ -1,2 +1,3 @@
 -- The proofs of the laws.
 pub mod RegistersWritten
+pub mod RegistersMade
