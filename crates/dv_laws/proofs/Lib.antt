@@ -1,3 +1,5 @@
 -- The proofs of the laws.
 pub mod RegistersWritten
 pub mod RegistersMade
+pub mod Demanding
+pub mod ReturnsConstructed

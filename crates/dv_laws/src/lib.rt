@@ -2,4 +2,5 @@
 //! Each law is the contract of a function that does nothing.
 #![tactic(auto)]
 
+pub mod calls;
 pub mod registers;
