@@ -1,7 +1,7 @@
--- What a demand that holds says.
-use Rattle.std.proofs.Common.{◌≡◌, Bool, true, false, Option, Some, None, refl}
-use Rattle.std.specs.Prelude.{ℕ, ◌&&◌, ◌||◌, not}
-use Rattle.std.proofs.Common.{◌⊎◌, inl, inr}
+-- What demands and tests that hold say.
+use Rattle.std.proofs.Common.{◌≡◌, ◌≢◌, ◌⊎◌, inl, inr, ℕ, Bool, true, false, Option, Some, None, refl, arith}
+use Rattle.std.specs.Prelude.{◌&&◌, ◌||◌, not, nat_eq}
+use Rattle.std.proofs.lemmas.Grind.{common_steps}
 use Rattle.dv_defs.specs.Demands.{Demand, first, demand}
 
 pub no : {A : Type 0} → false ≡ true → A
@@ -26,3 +26,9 @@ either_true false b e = inr e
 pub not_true : (b : Bool) → not b ≡ true → b ≡ false
 not_true true e = no e
 not_true false e = refl
+
+pub eq_true : (a b : ℕ) → a ≡ b → nat_eq a b ≡ true
+eq_true a b e = grind (arith, common_steps)
+
+pub eq_false : (a b : ℕ) → a ≢ b → nat_eq a b ≡ false
+eq_false a b e = grind (arith, common_steps)

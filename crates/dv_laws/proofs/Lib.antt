@@ -3,3 +3,4 @@ pub mod RegistersWritten
 pub mod RegistersMade
 pub mod Demanding
 pub mod ReturnsConstructed
+pub mod ReadersPlain

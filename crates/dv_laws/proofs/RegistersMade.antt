@@ -19,17 +19,12 @@ use Rattle.dv_machine.specs.State.{reg_at}
 use Rattle.dv_machine.specs.Calls.{object_of, initialised}
 use Rattle.dv_machine.specs.Conforming.{Own, Conforms, Fits, IsOf, RegsConform, IsUninit, AreApart, IsGood}
 use Rattle.dv_machine.specs.StepLaws.{NewInstanceKeeps, ConstructorKeeps, OwnConstructorKeeps}
+use Rattle.dv_laws.proofs.Demanding.{eq_true, eq_false}
 use Rattle.dv_laws.proofs.RegistersWritten.{Source, old, plain, AreFrom, from_good, from_self, from_before, from_after, broken}
 
 pub of_fits : (image : Image) (heap : Heap) (o : ℕ) (t : Ty) → IsOf image heap o t → Fits image heap o t
 of_fits image heap zero t h = tt
 of_fits image heap (suc o) t h = h
-
-eq_true : (a b : ℕ) → a ≡ b → nat_eq a b ≡ true
-eq_true a b e = grind (arith, common_steps)
-
-eq_false : (a b : ℕ) → a ≢ b → nat_eq a b ≡ false
-eq_false a b e = grind (arith, common_steps)
 
 replaced_same : (a b : ℕ) (t : RegType) → a ≡ b → replaced a t (ty.Uninit b) ≡ t
 replaced_same a b t e = ap (λ z. elim z as (λ w. RegType) [ true ↦ t | false ↦ ty.Uninit b ]) (eq_true a b e)

@@ -3,4 +3,5 @@
 #![tactic(auto)]
 
 pub mod calls;
+pub mod local;
 pub mod registers;
