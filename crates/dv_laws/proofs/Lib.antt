@@ -4,3 +4,5 @@ pub mod RegistersMade
 pub mod Demanding
 pub mod ReturnsConstructed
 pub mod ReadersPlain
+pub mod ReadersWords
+pub mod CallsEntered

@@ -77,7 +77,7 @@ module _ (image : Image) (heap : Heap) (own : Own) where
   where_holds P true o e p = p
   where_holds P false o e p = no e
 
-  there_of : (o : ℕ) (t : Ty) → Fits image heap o t → IsThere image heap o
+  pub there_of : (o : ℕ) (t : Ty) → Fits image heap o t → IsThere image heap o
   there_of zero t h = tt
   there_of (suc o) t h = h.object
 
@@ -100,6 +100,13 @@ module _ (image : Image) (heap : Heap) (own : Own) where
   pub fits_more : IsOrder image → (o : ℕ) (s t : Ty) → assignable image s t ≡ true → Fits image heap o s → Fits image heap o t
   fits_more ord zero s t e h = tt
   fits_more ord (suc o) s t e h = record { object = h.object; fits = ord.fits_assignable _ s t h.fits e }
+
+  pub ref_conforms : IsOrder image → (x : Value) (s : RegType) (t : Ty) → is_ref s ≡ true → is_assignable image s t ≡ true → Conforms image heap own x s → Conforms image heap own x (ty.Class t)
+  ref_conforms ord v.Zero s t e a c = tt
+  ref_conforms ord (v.Ref o) (ty.Class d) t e a c = fits_more ord o d t a c
+  ref_conforms ord x ty.Zero t e a c = absurd c
+  ref_conforms ord x (ty.Class d) t e a c = absurd c
+  ref_conforms ord x s t e a c = no e
 
   pub ref_holds : IsOrder image → (x : Value) (s : RegType) (t : Ty) → is_ref s ≡ true → is_assignable image s t ≡ true → Conforms image heap own x s → HoldsOf (λ o. Fits image heap o t) (read_ref image heap t x)
   ref_holds ord v.Zero s t e a c = tt
