@@ -6,3 +6,5 @@ pub mod ReturnsConstructed
 pub mod ReadersPlain
 pub mod ReadersWords
 pub mod CallsEntered
+pub mod RegistersAbove
+pub mod LocalStill

@@ -1,4 +1,7 @@
 // The laws of reads, and of steps that touch one frame alone.
+ghost use Rattle.dv_machine.specs.WellTyped.{WellTyped, Typings};
+ghost use Rattle.dv_machine.specs.State.{Machine};
+ghost use Rattle.dv_defs.specs.declared.image.Image.{Image};
 ghost use Rattle.dv_laws.specs.Reading.{ReadsInt, KeepsInt, ReadsArgument, ReadsTwo, ReadsLong, ReadsReference, ReadsReferenceTo, KeepsObject, TestsBoth, TestsZero, MovesInt, MovesReference};
 
 /// That a number is read, as it is or by its value, where the verifier demanded one; it does nothing.
@@ -35,4 +38,9 @@ pub fn tests_words()
 pub fn moves_results()
     ensures int { MovesInt }
     ensures reference { MovesReference }
+{}
+
+/// try
+pub fn try_still()
+    ensures { (image : Image) (T : Typings) (m : Machine) → WellTyped image T m → WellTyped image T m }
 {}
