@@ -8,3 +8,6 @@ pub mod ReadersWords
 pub mod CallsEntered
 pub mod RegistersAbove
 pub mod LocalStill
+pub mod LocalStands
+pub mod LocalSteps
+pub mod LocalFine

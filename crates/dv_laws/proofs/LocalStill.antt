@@ -33,6 +33,10 @@ get_same xs i x y e =
     let l : i < length xs = slice_get_within xs i x e in
     slice_get-get_or (slice_set xs i y) i y (rw (length-set xs i y) l) ∙ ap Some (get_or-set_same xs i y y l)
 
+-- no entry of those that wait is the thread's
+abbrev pub IsQuiet : Image → Machine → ℕ → Type 0
+IsQuiet image m t = (w : Wait) → WaitFine image m.threads m.shared w → w.thread ≢ t
+
 module _ (image : Image) (T : Typings) (m : Machine) (t : ℕ) (thread : Thread) (has : slice_get m.threads t ≡ Some thread) (levels : List Level) where
   -- what such a step leaves
   abbrev pub same_shared : Left
@@ -68,11 +72,7 @@ module _ (image : Image) (T : Typings) (m : Machine) (t : ℕ) (thread : Thread)
       go (inl e) = ap (λ z. records c (levels_in z)) (ap (slice_get threads_after) e ∙ own_thread) ∙ n c ∙ ap (λ z. records c (levels_in z)) (sym (ap (slice_get m.threads) e ∙ has)) ∙ h u c
       go (inr d) = ap (λ z. records c (levels_in z)) (other_thread u d) ∙ h u c
 
-  -- no entry of those that wait is the thread's
-  abbrev pub IsQuiet : Type 0
-  IsQuiet = (w : Wait) → WaitFine image m.threads m.shared w → w.thread ≢ t
-
-  pub still : WellTyped image T m → IsQuiet → ThreadFine image T m.shared.heap t levels (end_after levels) → All (RefsFine image m.shared.heap) levels → ((c : ℕ) → records c levels ≡ records c thread.levels) → LeftFine image T m t thread same_shared
+  pub still : WellTyped image T m → IsQuiet image m t → ThreadFine image T m.shared.heap t levels (end_after levels) → All (RefsFine image m.shared.heap) levels → ((c : ℕ) → records c levels ≡ records c thread.levels) → LeftFine image T m t thread same_shared
   still h quiet fine refs n = record {
     keeps = λ o k e. e;
     levels = fine;

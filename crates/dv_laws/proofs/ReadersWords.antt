@@ -89,14 +89,14 @@ module _ (image : Image) (heap : Heap) where
 
   -- ---- one value
 
-  int_word : (x : Value) (own : Own) (t : RegType) → is_int t ≡ true → Conforms image heap own x t → IsWord x ty.Int
+  pub int_word : (x : Value) (own : Own) (t : RegType) → is_int t ≡ true → Conforms image heap own x t → IsWord x ty.Int
   int_word v.Zero own t e c = record { plain = λ u. u; conforms = λ o. tt; fine = tt }
   int_word (v.Num n) own t e c = record { plain = λ u. u; conforms = λ o. tt; fine = tt }
   int_word x own ty.Zero e c = absurd c
   int_word x own ty.Int e c = absurd c
   int_word x own t e c = no e
 
-  class_word : (x : Value) (t : Ty) → (own : Own) → Conforms image heap own x (ty.Class t) → IsWord x (ty.Class t)
+  pub class_word : (x : Value) (t : Ty) → (own : Own) → Conforms image heap own x (ty.Class t) → IsWord x (ty.Class t)
   class_word v.Zero t own c = record { plain = λ u. u; conforms = λ o. tt; fine = tt }
   class_word (v.Ref o) t own c = record { plain = λ u. u; conforms = λ p. c; fine = there_of image heap own o t c }
   class_word x t own c = absurd c

@@ -1,7 +1,5 @@
 // The laws of reads, and of steps that touch one frame alone.
-ghost use Rattle.dv_machine.specs.WellTyped.{WellTyped, Typings};
-ghost use Rattle.dv_machine.specs.State.{Machine};
-ghost use Rattle.dv_defs.specs.declared.image.Image.{Image};
+ghost use Rattle.dv_machine.specs.StepLaws.{LocalStepsAreFine};
 ghost use Rattle.dv_laws.specs.Reading.{ReadsInt, KeepsInt, ReadsArgument, ReadsTwo, ReadsLong, ReadsReference, ReadsReferenceTo, KeepsObject, TestsBoth, TestsZero, MovesInt, MovesReference};
 
 /// That a number is read, as it is or by its value, where the verifier demanded one; it does nothing.
@@ -40,7 +38,7 @@ pub fn moves_results()
     ensures reference { MovesReference }
 {}
 
-/// try
-pub fn try_still()
-    ensures { (image : Image) (T : Typings) (m : Machine) → WellTyped image T m → WellTyped image T m }
+/// That a step that touches one frame alone is fine: it isn't stuck, and leaves a frame in order and all else as it was; it does nothing.
+pub fn local_steps_are_fine()
+    ensures law { LocalStepsAreFine }
 {}
