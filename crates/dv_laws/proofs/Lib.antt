@@ -11,3 +11,4 @@ pub mod LocalStill
 pub mod LocalStands
 pub mod LocalSteps
 pub mod LocalFine
+pub mod CallsResolved

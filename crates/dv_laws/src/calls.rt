@@ -1,4 +1,5 @@
 // The laws of calls and returns.
+ghost use Rattle.std.specs.Prelude.{◌≡◌, ℕ};
 ghost use Rattle.dv_machine.specs.StepLaws.{EntryConforms};
 ghost use Rattle.dv_laws.specs.Reading.{ReadsValue, ReadsArguments, WordsPend};
 ghost use Rattle.dv_laws.specs.Returning.{ReturnedConforms};
@@ -26,4 +27,9 @@ pub fn words_pend()
 /// That arguments that conform to a method's types make a frame that conforms to its entry state; it does nothing.
 pub fn entry_conforms()
     ensures law { EntryConforms }
+{}
+
+/// try
+pub fn try_it()
+    ensures { (n : ℕ) → n ≡ n }
 {}
