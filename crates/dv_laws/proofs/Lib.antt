@@ -12,3 +12,4 @@ pub mod LocalStands
 pub mod LocalSteps
 pub mod LocalFine
 pub mod CallsResolved
+pub mod ReturnsBuilt

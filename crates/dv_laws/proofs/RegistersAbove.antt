@@ -20,7 +20,7 @@ use Rattle.dv_machine.specs.Conforming.{Own, Conforms, Fits, IsOf, IsUninit, IsG
 use Rattle.dv_machine.specs.Accepted.{IsOrder}
 use Rattle.dv_laws.proofs.Demanding.{no}
 
-same_number : (a b : ℕ) → nat_eq a b ≡ true → a ≡ b
+pub same_number : (a b : ℕ) → nat_eq a b ≡ true → a ≡ b
 same_number a b e = grind (arith, common_steps)
 
 -- what is under an uninitialised type is that type

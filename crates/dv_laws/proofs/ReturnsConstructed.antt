@@ -55,7 +55,7 @@ module _ (image : Image) (heap : Heap) (this : Option ℕ) (m : Method) (f : Fra
   constructed_conforms x t ex et c d i = absurd (cc)
 
 -- the demand of an invoke of a constructor asks for its receiver
-receiver_demanded : (image : Image) (m : Method) (s : RegState) (c : Call) (k : ℕ) (ks : List ℕ) (g : Method) → is_constructor g ≡ true → invoke_for image m s.regs c (k ∷ ks) g ≡ None → receiver_for image m g (type_at s.regs k) ≡ None
+pub receiver_demanded : (image : Image) (m : Method) (s : RegState) (c : Call) (k : ℕ) (ks : List ℕ) (g : Method) → is_constructor g ≡ true → invoke_for image m s.regs c (k ∷ ks) g ≡ None → receiver_for image m g (type_at s.regs k) ≡ None
 receiver_demanded image m s c k ks g e d =
     let instance : instance_call image m s.regs c (k ∷ ks) g ≡ None = subst (λ z. elim z as (λ w. Demand) [ true ↦ args_for image s.regs g.def.proto.params (k ∷ ks) | false ↦ instance_call image m s.regs c (k ∷ ks) g ] ≡ None) (not_static g e) d in
     let both : first (receiver_for image m g (type_at s.regs k)) (args_for image s.regs g.def.proto.params ks) ≡ None = subst (λ z. first (elim z as (λ w. Demand) [ true ↦ receiver_for image m g (type_at s.regs k) | false ↦ first (ref_to image s.regs k (own_type image g)) (super_for image m s.regs k c) ]) (args_for image s.regs g.def.proto.params ks) ≡ None) e instance in
