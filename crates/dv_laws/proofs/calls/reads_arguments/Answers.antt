@@ -1,0 +1,5 @@
+use Rattle.dv_laws.proofs.calls.reads_arguments.Goals as goal
+use Rattle.dv_laws.proofs.ReadersWords.{reads_arguments}
+
+pub returns : goal.returns
+returns c = record { law = reads_arguments }

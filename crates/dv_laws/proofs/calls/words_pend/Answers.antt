@@ -1,0 +1,5 @@
+use Rattle.dv_laws.proofs.calls.words_pend.Goals as goal
+use Rattle.dv_laws.proofs.ReadersWords.{words_pend}
+
+pub returns : goal.returns
+returns c = record { law = words_pend }

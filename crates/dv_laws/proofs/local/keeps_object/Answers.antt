@@ -1,0 +1,5 @@
+use Rattle.dv_laws.proofs.local.keeps_object.Goals as goal
+use Rattle.dv_laws.proofs.ReadersPlain.{keeps_object}
+
+pub returns : goal.returns
+returns c = record { law = keeps_object }

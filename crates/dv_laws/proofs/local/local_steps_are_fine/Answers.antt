@@ -1,0 +1,5 @@
+use Rattle.dv_laws.proofs.local.local_steps_are_fine.Goals as goal
+use Rattle.dv_laws.proofs.LocalFine.{local_steps_are_fine}
+
+pub returns : goal.returns
+returns c = record { law = local_steps_are_fine }

@@ -1,0 +1,5 @@
+use Rattle.dv_laws.proofs.local.moves_results.Goals as goal
+use Rattle.dv_laws.proofs.ReadersPlain.{moves_int, moves_reference}
+
+pub returns : goal.returns
+returns c = record { int = moves_int; reference = moves_reference }

@@ -1,0 +1,35 @@
+// The laws of calls and returns.
+ghost use Rattle.std.specs.Prelude.{◌≡◌, ℕ};
+ghost use Rattle.dv_machine.specs.StepLaws.{EntryConforms};
+ghost use Rattle.dv_laws.specs.Reading.{ReadsValue, ReadsArguments, WordsPend};
+ghost use Rattle.dv_laws.specs.Returning.{ReturnedConforms};
+
+/// That a caller's frame conforms to the state after its invoke once the call has returned; it does nothing.
+pub fn returned_conforms()
+    ensures law { ReturnedConforms }
+{}
+
+/// That a value of a declared type is read, with the words of that type, where the verifier demanded one; it does nothing.
+pub fn reads_value()
+    ensures law { ReadsValue }
+{}
+
+/// That the arguments of a call are read by the method's parameters where the verifier demanded such; it does nothing.
+pub fn reads_arguments()
+    ensures law { ReadsArguments }
+{}
+
+/// That the words of a result are pending as the result type says; it does nothing.
+pub fn words_pend()
+    ensures law { WordsPend }
+{}
+
+/// That arguments that conform to a method's types make a frame that conforms to its entry state; it does nothing.
+pub fn entry_conforms()
+    ensures law { EntryConforms }
+{}
+
+/// try
+pub fn try_it()
+    ensures { (n : ℕ) → n ≡ n }
+{}
