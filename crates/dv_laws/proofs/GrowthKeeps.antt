@@ -36,7 +36,7 @@ growth_keeps image T m after acc w g fine = record {
   in_progress = w.in_progress;
 }
 
-monitors_later : (image : Image) (threads : List Thread) (sh : Shared) (n : ℕ) → MonitorsFine image threads sh n → MonitorsFine image threads sh (suc n)
+pub monitors_later : (image : Image) (threads : List Thread) (sh : Shared) (n : ℕ) → MonitorsFine image threads sh n → MonitorsFine image threads sh (suc n)
 monitors_later image threads sh n m = record { waits = m.waits; held = All-weaker (HeldFine threads n) (HeldFine threads (suc n)) (λ h f. record { owner = f.owner; low = f.low; high = omega (arith, f.high) }) sh.monitors.held m.held; kept = All-weaker (λ (w : Wait). (1 ≤ w.kept) × (w.kept ≤ n)) (λ (w : Wait). (1 ≤ w.kept) × (w.kept ≤ suc n)) (λ w k. (k.0, omega (arith, k.1))) sh.monitors.waits m.kept; once = m.once; one_owner = m.one_owner }
 
 -- a step that only stops the run

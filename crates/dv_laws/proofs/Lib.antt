@@ -32,3 +32,4 @@ pub mod LocalSteps
 pub mod LocalFine
 pub mod CallsResolved
 pub mod ReturnsBuilt
+pub mod MonitorsSteps
