@@ -33,3 +33,5 @@ pub mod LocalFine
 pub mod CallsResolved
 pub mod ReturnsBuilt
 pub mod MonitorsSteps
+pub mod RecordsEntered
+pub mod RecordsFine
