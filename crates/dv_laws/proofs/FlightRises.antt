@@ -69,7 +69,7 @@ module _ (image : Image) (T : Typings) (heap : Heap) (t o : ℕ) where
   flying_on l [] i c k = (refl, i)
   flying_on l (k ∷ ls) i c s = (lowest_rest l k ls c, i, flight_top k ls s)
 
-object_there : (image : Image) (heap : Heap) (o : ℕ) → IsObject image heap o → IsThere image heap o
+pub object_there : (image : Image) (heap : Heap) (o : ℕ) → IsObject image heap o → IsThere image heap o
 object_there image heap zero i = tt
 object_there image heap (suc o) i = i
 

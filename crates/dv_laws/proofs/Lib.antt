@@ -35,3 +35,4 @@ pub mod ReturnsBuilt
 pub mod MonitorsSteps
 pub mod RecordsEntered
 pub mod RecordsFine
+pub mod RecordsStarted

@@ -1,5 +1,5 @@
 // The laws of monitors and threads.
-ghost use Rattle.dv_machine.specs.StepLaws.{LeftIsWellTyped, MonitorStepsAreFine, RecordsAreFine};
+ghost use Rattle.dv_machine.specs.StepLaws.{LeftIsWellTyped, MonitorStepsAreFine, RecordsAreFine, NewThreadIsFine};
 ghost use Rattle.dv_laws.specs.MonitorLaws.{EnteringKeeps, ExitingKeeps, WaitingKeeps, NotifyingKeeps, ResumingKeeps};
 
 /// Monitors stay in order when one is entered or exited, when a thread waits, is notified, or takes its monitor back.
@@ -24,4 +24,9 @@ pub fn monitor_steps_are_fine()
 /// A step of a class's record is fine.
 pub fn records_are_fine()
     ensures law { RecordsAreFine }
+{}
+
+/// A thread that is started, on an object whose class has a run method, is in order.
+pub fn new_threads_are_fine()
+    ensures law { NewThreadIsFine }
 {}
