@@ -1,13 +1,11 @@
 -- The exceptions that a step makes itself.
-use Rattle.std.proofs.Common.{◌≡◌, ◌⊎◌, inl, inr, ℕ, zero, suc, ◌+◌, List, [], ◌∷◌, Bool, true, false, not, Option, Some, None, refl, sym, ap, ◌∙◌, subst, arith}
+use Rattle.std.proofs.Common.{◌≡◌, ℕ, suc, ◌+◌, List, [], ◌∷◌, Bool, true, false, not, Option, Some, None, refl, sym, ap, ◌∙◌, subst, arith}
 use Rattle.std.specs.Prelude.{slice_get, bytes_eq}
 use Rattle.std.proofs.lemmas.Slice.Eq.{bytes_eq-Decides}
-use Rattle.dv_defs.specs.declared.names.Ty.{Ty}
 use Rattle.dv_defs.specs.declared.image.Image.{Image}
 use Rattle.dv_defs.specs.declared.image.ClassInfo.{ClassInfo}
 use Rattle.dv_defs.specs.declared.run.Named.{Named}
 use Rattle.dv_defs.specs.declared.run.Named.TheVariants as named
-use Rattle.dv_defs.specs.declared.machine.Kind.{Kind}
 use Rattle.dv_defs.specs.declared.machine.Kind.TheVariants as kind
 use Rattle.dv_defs.specs.Names.{throwable_name}
 use Rattle.dv_defs.specs.Types.{of_class}
@@ -15,7 +13,7 @@ use Rattle.dv_defs.specs.Pools.{class_named, find_from, name_of, name_at}
 use Rattle.dv_defs.specs.Order.{fits}
 use Rattle.dv_defs.specs.Heap.{Heap, kind_of, newest}
 use Rattle.dv_machine.specs.Unwinding.{number_named, exception_name, made_object}
-use Rattle.dv_machine.specs.Conforming.{is_string_or_class, IsOf}
+use Rattle.dv_machine.specs.Conforming.{is_string_or_class}
 use Rattle.dv_machine.specs.WellTyped.{Typings, IsThrowable, HeapFine}
 use Rattle.dv_machine.specs.Accepted.{Accepted}
 use Rattle.dv_machine.specs.StepLaws.{IsAdded}

@@ -1,6 +1,5 @@
 -- Strings and Class objects that are looked up first, then made.
-use Rattle.std.proofs.Common.{◌≡◌, ◌⊎◌, inl, inr, ℕ, zero, suc, ◌+◌, ◌<◌, ◌≤◌, List, [], ◌∷◌, ◌++◌, length, Bool, true, false, Option, Some, None, refl, sym, ap, ◌∙◌, subst, arith}
-use Rattle.std.specs.Prelude.{bytes_eq, All}
+use Rattle.std.proofs.Common.{◌≡◌, ◌⊎◌, inl, inr, ℕ, List, [], ◌∷◌, ◌++◌, Bool, true, false, Option, Some, None, refl, ap, ◌∙◌, subst}
 use Rattle.std.proofs.lemmas.Bool.{and_parts, eqb-true}
 use Rattle.std.proofs.lemmas.List.Elements.{All-push}
 use Rattle.std.proofs.lemmas.Slice.Eq.{bytes_eq-Decides}
@@ -11,9 +10,8 @@ use Rattle.dv_defs.specs.declared.image.Image.{Image}
 use Rattle.dv_defs.specs.declared.machine.Kind.{Kind}
 use Rattle.dv_defs.specs.declared.machine.Kind.TheVariants as kind
 use Rattle.dv_defs.specs.Types.{base_eq, ty_eq}
-use Rattle.dv_defs.specs.Heap.{Heap, Got, kind_of, has_room, grown, newest, grown_within, alloc_string, is_text, is_class_of, found_among, with_interned, with_class_object, intern, class_object}
-use Rattle.dv_machine.specs.WellTyped.{CellsFit, HeapFine}
-use Rattle.dv_machine.specs.Premises.{KeepsKinds}
+use Rattle.dv_defs.specs.Heap.{Heap, Got, kind_of, has_room, newest, grown_within, alloc_string, is_text, is_class_of, found_among, with_interned, with_class_object}
+use Rattle.dv_machine.specs.WellTyped.{HeapFine}
 use Rattle.dv_machine.specs.StepLaws.{IsAdded, StringIsInterned, ClassObjectIsGot}
 use Rattle.dv_laws.proofs.GrowthLists.{no, same_some}
 use Rattle.dv_laws.proofs.HeapCells.{fit_grown}

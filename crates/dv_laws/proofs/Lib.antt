@@ -9,7 +9,6 @@ pub mod HeapAdded
 pub mod HeapInterned
 pub mod Stores
 pub mod GrowthKeeps
-pub mod FlightUnder
 pub mod FlightHandlers
 pub mod FlightCallers
 pub mod GrowthThreads

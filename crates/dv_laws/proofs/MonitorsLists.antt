@@ -1,10 +1,10 @@
 -- Monitors and waits as lists: what holds of each, that none stands twice, and who owns.
-use Rattle.std.proofs.Common.{◌≡◌, ◌≢◌, ◌⊎◌, inl, inr, ℕ, zero, suc, ◌+◌, ◌-◌, ◌<◌, ◌≤◌, List, [], ◌∷◌, ◌++◌, length, Bool, true, false, Option, Some, None, refl, sym, ap, ◌∙◌, subst, arith}
+use Rattle.std.proofs.Common.{◌≡◌, ◌≢◌, ◌⊎◌, inl, inr, ℕ, zero, suc, ◌+◌, ◌-◌, ◌≤◌, List, [], ◌∷◌, ◌++◌, Bool, true, false, Option, Some, None, refl, sym, ap, ◌∙◌, subst, arith}
 use Rattle.std.specs.Prelude.{slice_get, nat_eq, nat_le, All}
 use Rattle.std.proofs.lemmas.Bool.{cases_eq, leb-false, eqb-true, eqb-false}
 use Rattle.std.proofs.lemmas.List.Elements.{All-nil, All-cons, All-head, All-tail, All-weaker}
-use Rattle.dv_defs.specs.Monitors.{Held, Wait, Monitors, held_in, entered_in, less_one, exited_in, given_up, as_notified, notify_first, notify_each, entry_in, without}
-use Rattle.dv_laws.proofs.GrowthLists.{no, same_some, eq_true, eq_false, all_at, all_from}
+use Rattle.dv_defs.specs.Monitors.{Held, Wait, held_in, entered_in, less_one, exited_in, given_up, as_notified, notify_first, notify_each, entry_in, without}
+use Rattle.dv_laws.proofs.GrowthLists.{same_some, eq_true, eq_false, all_at, all_from}
 
 -- ---- what holds of each
 

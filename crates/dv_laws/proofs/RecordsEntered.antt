@@ -1,27 +1,25 @@
 -- The first frame of a method without receiver or arguments, and of one with its receiver alone.
-use Rattle.std.proofs.Common.{◌≡◌, ◌≢◌, ℕ, zero, suc, ◌+◌, ◌-◌, ◌≤◌, ◌++◌, List, [], ◌∷◌, length, Bool, true, false, ◌&&◌, not, Option, Some, None, refl, sym, ap, ◌∙◌, subst, arith}
+use Rattle.std.proofs.Common.{◌≡◌, ℕ, ◌+◌, ◌-◌, ◌≤◌, ◌++◌, List, [], length, Bool, false, Option, Some, None, refl, sym, ap, ◌∙◌, subst, arith}
 use Rattle.std.specs.Prelude.{replicate, All}
-use Rattle.std.proofs.lemmas.List.{append-nil, length-append, length-replicate}
+use Rattle.std.proofs.lemmas.List.{length-append, length-replicate}
 use Rattle.std.proofs.lemmas.List.Elements.{All-append, All-replicate}
 use Rattle.dv_defs.specs.declared.code.Body.{Body}
 use Rattle.dv_defs.specs.declared.image.Image.{Image}
 use Rattle.dv_defs.specs.declared.run.Value.{Value}
 use Rattle.dv_defs.specs.declared.run.Value.TheVariants as v
-use Rattle.dv_defs.specs.declared.machine.Frame.{Frame}
 use Rattle.dv_defs.specs.declared.machine.Level.{Level}
 use Rattle.dv_defs.specs.declared.machine.Level.TheVariants as level
-use Rattle.dv_defs.specs.Pools.{Method, method_at, is_static, is_constructor, no_arguments}
+use Rattle.dv_defs.specs.Pools.{Method, method_at}
 use Rattle.dv_defs.specs.Op.{Code, code_at, code_of, with_body}
 use Rattle.dv_defs.specs.declared.typing.RegState.{RegState}
-use Rattle.dv_defs.specs.RegTypes.{Types, all_types}
-use Rattle.dv_defs.specs.Transfer.{arg_types, receiver_type, begins_uninitialised, entry_state}
+use Rattle.dv_defs.specs.Transfer.{arg_types, begins_uninitialised, entry_state}
 use Rattle.dv_defs.specs.Heap.{Heap}
 use Rattle.dv_machine.specs.Calls.{entered_frame, registers_of}
 use Rattle.dv_machine.specs.Conforming.{Own, IsGood, Conform, RefFine, RefsFine}
-use Rattle.dv_machine.specs.WellTyped.{Typings, own_of, IsFrame, IsPlaced, CodeFine, BelowCode, this_above}
+use Rattle.dv_machine.specs.WellTyped.{Typings, own_of, IsPlaced, CodeFine, BelowCode}
 use Rattle.dv_machine.specs.Accepted.{Accepted}
 use Rattle.dv_laws.proofs.CallsEntered.{entered_conforms}
-use Rattle.dv_laws.proofs.FlightUnder.{conform_up}
+use Rattle.dv_laws.proofs.RegistersAbove.{conform_above}
 
 -- the code of a method with a body
 pub record HasCode (image : Image) (m : Method) (b : Body) : Type 0 where
@@ -74,5 +72,5 @@ module _ (image : Image) (T : Typings) (acc : Accepted image T) (heap : Heap) (m
         has_method = there;
         state = l.state;
         has_state = l.has_state;
-        conform = conform_up image acc.order heap (own_of image this m) (entered_frame m xs false) _ l.state l.below (subst (λ (st : RegState). Conform image heap (own_of image this m) (entered_frame m xs false) st) same conform);
+        conform = conform_above image acc.order heap (own_of image this m) (entered_frame m xs false) _ l.state l.below (subst (λ (st : RegState). Conform image heap (own_of image this m) (entered_frame m xs false) st) same conform);
       }

@@ -1,35 +1,32 @@
 -- A step of a class's record is fine: it looks at the superclass, runs the initialiser, or ends.
-use Rattle.std.proofs.Common.{◌≡◌, ◌≢◌, ◌⊎◌, inl, inr, ℕ, zero, suc, ◌<◌, ◌≤◌, List, [], ◌∷◌, ◌++◌, length, Bool, true, false, ◌&&◌, not, Option, Some, None, refl, sym, ap, ◌∙◌, subst, arith}
-use Rattle.std.specs.Prelude.{slice_get, All, nat_eq, nat_le, bytes_eq}
+use Rattle.std.proofs.Common.{◌≡◌, ◌≢◌, ℕ, suc, ◌<◌, List, [], ◌∷◌, ◌++◌, length, Bool, true, false, ◌&&◌, not, Option, Some, None, refl, sym, ap, ◌∙◌, subst, arith}
+use Rattle.std.specs.Prelude.{slice_get, All, nat_eq, bytes_eq}
 use Rattle.std.proofs.lemmas.List.{length-set}
-use Rattle.std.proofs.lemmas.List.Elements.{All-cons, All-head, All-tail, All-nil}
-use Rattle.dv_defs.specs.declared.code.Body.{Body}
+use Rattle.std.proofs.lemmas.List.Elements.{All-cons, All-tail, All-nil}
 use Rattle.dv_defs.specs.declared.image.Image.{Image}
-use Rattle.dv_defs.specs.declared.run.Named.TheVariants as named
 use Rattle.dv_defs.specs.declared.machine.Frame.{Frame}
 use Rattle.dv_defs.specs.declared.machine.Level.{Level}
 use Rattle.dv_defs.specs.declared.machine.Level.TheVariants as level
-use Rattle.dv_defs.specs.declared.machine.End.{End}
 use Rattle.dv_defs.specs.declared.machine.End.TheVariants as end
 use Rattle.dv_defs.specs.declared.machine.Ask.{Ask}
 use Rattle.dv_defs.specs.declared.machine.Ask.TheVariants as ask
 use Rattle.dv_defs.specs.declared.names.Proto.{Proto}
 use Rattle.dv_defs.specs.declared.typing.RegType.TheVariants as ty
 use Rattle.dv_defs.specs.Names.{init_name}
-use Rattle.dv_defs.specs.Pools.{Method, parent_at, initialiser, is_static, is_constructor, is_of_object, own_type, no_arguments}
-use Rattle.dv_defs.specs.Order.{has_number, above, listed, interfaces_of}
+use Rattle.dv_defs.specs.Pools.{Method, parent_at, initialiser, is_static, is_of_object, own_type, no_arguments}
+use Rattle.dv_defs.specs.Order.{has_number, listed, interfaces_of}
 use Rattle.dv_defs.specs.RegTypes.{Types, all_types}
 use Rattle.dv_defs.specs.Transfer.{arg_types, begins_uninitialised}
 use Rattle.dv_defs.specs.Monitors.{Wait, entry_of}
 use Rattle.dv_defs.specs.Classes.{ClassState, Fresh, InProgress, Ready, Erroneous, Classes, state_at, asked, ask_of, with_state}
-use Rattle.dv_machine.specs.State.{Thread, Machine, Left, Did, Throws, NoRoom, Here, left, pushed, with_classes, regs_in, words_in}
+use Rattle.dv_machine.specs.State.{Thread, Machine, Left, Did, NoRoom, Here, left, pushed, with_classes}
 use Rattle.dv_machine.specs.Calls.{entered_frame}
 use Rattle.dv_machine.specs.Unwinding.{is_opening}
-use Rattle.dv_machine.specs.Step.{begun, for_class, prior, ended_record, run_initialiser, look_at, record_step, here, no_method, no_frame, end_after}
+use Rattle.dv_machine.specs.Step.{for_class, prior, ended_record, run_initialiser, look_at, record_step, here, no_method, no_frame, end_after}
 use Rattle.dv_machine.specs.Conforming.{IsGood, RefsFine}
-use Rattle.dv_machine.specs.WellTyped.{Typings, own_of, BelowCode, BelowRecord, StackFine, lowest, IsCode, ThreadFine, WaitFine, records, owed, WellTyped}
+use Rattle.dv_machine.specs.WellTyped.{Typings, own_of, BelowRecord, StackFine, lowest, IsCode, ThreadFine, WaitFine, records, owed, WellTyped}
 use Rattle.dv_machine.specs.Accepted.{Accepted}
-use Rattle.dv_machine.specs.Premises.{IsAtRecord, LeftFine, RecordDidFine}
+use Rattle.dv_machine.specs.Premises.{LeftFine, RecordDidFine}
 use Rattle.dv_machine.specs.StepLaws.{RecordsAreFine}
 use Rattle.dv_laws.proofs.GrowthLists.{nothing, same_some, eq_true}
 use Rattle.dv_laws.proofs.GrowthThreads.{records_after}

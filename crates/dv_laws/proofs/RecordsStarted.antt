@@ -1,17 +1,14 @@
 -- A thread that is started stands at the begin of its run method.
-use Rattle.std.proofs.Common.{◌≡◌, ◌≢◌, ◌⊎◌, inl, inr, ℕ, zero, suc, ◌+◌, ◌<◌, ◌≤◌, ◌++◌, List, [], ◌∷◌, length, Bool, true, false, ◌&&◌, not, Option, Some, None, refl, sym, ap, ◌∙◌, subst, arith}
-use Rattle.std.specs.Prelude.{slice_get, All, bytes_eq, codes, nat_eq}
+use Rattle.std.proofs.Common.{◌≡◌, ◌≢◌, ◌⊎◌, inl, inr, ℕ, zero, suc, ◌+◌, ◌<◌, ◌≤◌, ◌++◌, List, [], ◌∷◌, length, Bool, true, false, not, Option, Some, None, refl, sym, ap, ◌∙◌, subst, arith}
+use Rattle.std.specs.Prelude.{bytes_eq, codes, nat_eq}
 use Rattle.std.proofs.lemmas.Bool.{cases_lt, and_left, and_right, eqb-true}
-use Rattle.std.proofs.lemmas.Option.{slice_get_past, slice_get_within}
+use Rattle.std.proofs.lemmas.Option.{slice_get_past}
 use Rattle.std.proofs.lemmas.List.Elements.{All-cons, All-nil}
-use Rattle.std.proofs.lemmas.Slice.Eq.{bytes_eq-Decides}
 use Rattle.dv_defs.specs.declared.names.Ty.{Ty}
 use Rattle.dv_defs.specs.declared.names.Base.TheVariants as base
 use Rattle.dv_defs.specs.declared.names.Proto.{Proto}
 use Rattle.dv_defs.specs.declared.code.Body.{Body}
 use Rattle.dv_defs.specs.declared.image.Image.{Image}
-use Rattle.dv_defs.specs.declared.image.ClassInfo.{ClassInfo}
-use Rattle.dv_defs.specs.declared.run.Value.{Value}
 use Rattle.dv_defs.specs.declared.run.Value.TheVariants as v
 use Rattle.dv_defs.specs.declared.run.Native.{Native}
 use Rattle.dv_defs.specs.declared.machine.Level.TheVariants as level
@@ -21,13 +18,13 @@ use Rattle.dv_defs.specs.declared.typing.RegType.TheVariants as ty
 use Rattle.dv_defs.specs.Names.{object_name, class_name, string_name, thread_name, init_name}
 use Rattle.dv_defs.specs.Types.{of_class, ty_eq, is_reference, words_of_all}
 use Rattle.dv_defs.specs.Statics.{receiver_words, arg_words}
-use Rattle.dv_defs.specs.Pools.{Method, method_at, class_number, parent_of, parent_at, class_type, name_at, class_named, walk, supers, nearest, is_static, is_native, is_abstract, is_constructor, is_of_object, own_type, no_arguments, initialiser}
+use Rattle.dv_defs.specs.Pools.{Method, method_at, parent_of, class_type, name_at, class_named, walk, supers, nearest, is_static, is_native, is_abstract, is_constructor, is_of_object, own_type, no_arguments, initialiser}
 use Rattle.dv_defs.specs.Order.{has_number, both_found, class_under, extends, sub, fits}
 use Rattle.dv_defs.specs.RegTypes.{Types, type_at, all_types}
 use Rattle.dv_defs.specs.Transfer.{arg_types, receiver_type, begins_uninitialised}
-use Rattle.dv_defs.specs.Heap.{Heap, kind_of, kind_type}
+use Rattle.dv_defs.specs.Heap.{Heap, kind_type}
 use Rattle.dv_machine.specs.State.{reg_at}
-use Rattle.dv_machine.specs.Calls.{entered_frame, Signature, signature, is_signed, native_among, all_natives, native_of, class_of_kind}
+use Rattle.dv_machine.specs.Calls.{entered_frame, signature, native_among, all_natives, native_of, class_of_kind}
 use Rattle.dv_machine.specs.Threads.{new_thread, run_method}
 use Rattle.dv_machine.specs.Conforming.{Own, IsOf, Fits, IsGood, Conforms, IsUninit, RefFine, RefsFine}
 use Rattle.dv_machine.specs.WellTyped.{Typings, own_of}
@@ -158,12 +155,15 @@ module _ (image : Image) (T : Typings) (acc : Accepted image T) (heap : Heap) (n
 
   started : StartedFine image T heap n (new_thread o run)
   started = record {
-    thread = (tt, (
-      entered_code image T acc heap run body.0 near.0 body.1 (v.Ref o ∷ []) false [] (has_register image T acc run body.0 (code_there image run body.0 near.0 body.1) near.3 near.2) no_initialiser,
-      entered_placed image T acc heap run body.0 near.0 body.1 None (v.Ref o ∷ []) begins (subst (λ (ts : Types). IsGood image heap (own_of image None run) (v.Ref o ∷ []) ts) (sym (receiver_alone image run near.3 begins near.2)) (one_good image heap (own_of image None run) o (own_type image run) (fits_of image heap o (own_type image run) receiver_fits))),
+    thread = (
       tt,
-      tt,
-    ));
+      (
+        entered_code image T acc heap run body.0 near.0 body.1 (v.Ref o ∷ []) false [] (has_register image T acc run body.0 (code_there image run body.0 near.0 body.1) near.3 near.2) no_initialiser,
+        entered_placed image T acc heap run body.0 near.0 body.1 None (v.Ref o ∷ []) begins (subst (λ (ts : Types). IsGood image heap (own_of image None run) (v.Ref o ∷ []) ts) (sym (receiver_alone image run near.3 begins near.2)) (one_good image heap (own_of image None run) o (own_type image run) (fits_of image heap o (own_type image run) receiver_fits))),
+        tt,
+        tt,
+      ),
+    );
     refs = All-cons (RefsFine image heap) (level.Code (entered_frame run (v.Ref o ∷ []) false)) [] (refs_entered image heap run (v.Ref o ∷ []) false (All-cons (RefFine image heap) (v.Ref o) [] (object_there image heap o i.object) (All-nil (RefFine image heap)))) (All-nil (RefsFine image heap));
     object = i;
   }
