@@ -13,3 +13,4 @@ pub mod LocalSteps
 pub mod LocalFine
 pub mod CallsResolved
 pub mod ReturnsBuilt
+pub mod ReturnsFine

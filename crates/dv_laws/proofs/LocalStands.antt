@@ -63,6 +63,11 @@ stands image T m t thread h x s i =
 
 -- ---- the frames of the thread
 
+-- the lowest level is code, also with another frame on the same levels
+pub same_lowest : (f g : Frame) (ls : List Level) → IsCode (lowest (level.Code f ∷ ls)) → IsCode (lowest (level.Code g ∷ ls))
+same_lowest f g [] k = tt
+same_lowest f g (l ∷ ls) k = k
+
 module _ (image : Image) (T : Typings) (m : Machine) (t : ℕ) (thread : Thread) (own : Method) (f : Frame) (rest : List Level) (x : At) (s : RegState) (h : Stands image T m t thread own f rest x s) where
   living_fine : (e : End) → e ≡ end.Living → (ls : List Level) → ThreadFine image T m.shared.heap t ls e → IsCode (lowest ls) × StackFine image T m.shared.heap t None ls
   living_fine e q ls k = subst (ThreadFine image T m.shared.heap t ls) q k
@@ -82,11 +87,6 @@ module _ (image : Image) (T : Typings) (m : Machine) (t : ℕ) (thread : Thread)
   pub code_fine : CodeFine image T m.shared.heap f rest
   code_fine = stack_fine.1.0
 
-  -- the lowest level is code, also with another frame on the same levels
-  same_lowest : (g : Frame) (ls : List Level) → IsCode (lowest (level.Code f ∷ ls)) → IsCode (lowest (level.Code g ∷ ls))
-  same_lowest g [] k = tt
-  same_lowest g (l ∷ ls) k = k
-
   pub rest_lowest : (l : Level) (ls : List Level) → rest ≡ l ∷ ls → IsCode (lowest (l ∷ ls))
   rest_lowest l ls e = subst (λ z. IsCode (lowest (level.Code f ∷ z))) e stack_fine.0
 
@@ -102,7 +102,7 @@ module _ (image : Image) (T : Typings) (m : Machine) (t : ℕ) (thread : Thread)
   -- another frame of the same method in place of the thread's own
   pub replaced_fine : (g : Frame) (st : RegState) → g.method ≡ f.method → length g.regs ≡ length f.regs → Leads image (T f.method.0) st g.at → Conform image m.shared.heap (own_of image (this_above image rest) own) g st → ThreadFine image T m.shared.heap t (level.Code g ∷ rest) end.Living
   replaced_fine g st e n l c = (
-    same_lowest g rest stack_fine.0,
+    same_lowest f g rest stack_fine.0,
     (
       record {
         frame = record { code = code_fine.frame.code; has_code = ap (λ z. code_at image z.0) e ∙ code_fine.frame.has_code; registers = n ∙ code_fine.frame.registers };
