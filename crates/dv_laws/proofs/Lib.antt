@@ -14,3 +14,4 @@ pub mod LocalFine
 pub mod CallsResolved
 pub mod ReturnsBuilt
 pub mod ReturnsFine
+pub mod ReadersArrays
