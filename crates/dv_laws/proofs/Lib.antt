@@ -1,4 +1,23 @@
 -- The proofs of the laws.
+pub mod GrowthLists
+pub mod GrowthKinds
+pub mod MonitorsLists
+pub mod MonitorsFine
+pub mod MonitorsMoved
+pub mod HeapCells
+pub mod HeapAdded
+pub mod HeapInterned
+pub mod Stores
+pub mod GrowthKeeps
+pub mod FlightUnder
+pub mod FlightHandlers
+pub mod FlightCallers
+pub mod GrowthThreads
+pub mod FlightMade
+pub mod FlightFlown
+pub mod RecordsStates
+pub mod FlightRises
+pub mod FlightRecords
 pub mod RegistersWritten
 pub mod RegistersMade
 pub mod Demanding
@@ -15,3 +34,4 @@ pub mod CallsResolved
 pub mod ReturnsBuilt
 pub mod ReturnsFine
 pub mod ReadersArrays
+pub mod MonitorsSteps

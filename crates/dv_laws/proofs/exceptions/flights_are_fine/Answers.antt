@@ -1,0 +1,5 @@
+use Rattle.dv_laws.proofs.FlightRecords.{flights_are_fine}
+use Rattle.dv_laws.proofs.exceptions.flights_are_fine.Goals as goal
+
+pub returns : goal.returns
+returns c = record { law = flights_are_fine }

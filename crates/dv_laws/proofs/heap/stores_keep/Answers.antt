@@ -1,0 +1,8 @@
+use Rattle.dv_laws.proofs.Stores.{store_keeps, static_store_keeps}
+use Rattle.dv_laws.proofs.heap.stores_keep.Goals as goal
+
+pub returns-clause-cell : goal.returns-clause-cell
+returns-clause-cell c = store_keeps
+
+pub returns-clause-field : goal.returns-clause-field
+returns-clause-field c = static_store_keeps

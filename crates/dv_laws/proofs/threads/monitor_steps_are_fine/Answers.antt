@@ -1,0 +1,5 @@
+use Rattle.dv_laws.proofs.MonitorsSteps.{monitor_steps_are_fine}
+use Rattle.dv_laws.proofs.threads.monitor_steps_are_fine.Goals as goal
+
+pub returns : goal.returns
+returns c = record { law = monitor_steps_are_fine }
