@@ -1,1 +1,4 @@
 -- The proofs of the laws.
+pub mod OrderWalks
+pub mod OrderTypes
+pub mod OrderLaws

@@ -1,3 +1,7 @@
 //! The laws by which verified code never goes wrong, over the definitions of the tagged machine.
 //! Each law is the contract of a function that does nothing.
 #![tactic(auto)]
+
+mod order;
+
+pub use order::types_are_ordered;
