@@ -2,3 +2,4 @@
 pub mod OrderWalks
 pub mod OrderTypes
 pub mod OrderLaws
+pub mod OrderStates

@@ -1,1 +1,2 @@
 -- What the laws speak of beside the statements of dv_machine.
+pub mod Conformity

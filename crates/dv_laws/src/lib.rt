@@ -4,4 +4,4 @@
 
 mod order;
 
-pub use order::types_are_ordered;
+pub use order::{conformity_goes_up, states_are_ordered, types_are_ordered};
