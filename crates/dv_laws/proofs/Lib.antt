@@ -3,3 +3,4 @@ pub mod OrderWalks
 pub mod OrderTypes
 pub mod OrderLaws
 pub mod OrderStates
+pub mod BridgeLookUps

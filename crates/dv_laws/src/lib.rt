@@ -2,6 +2,8 @@
 //! Each law is the contract of a function that does nothing.
 #![tactic(auto)]
 
+mod bridge;
 mod order;
 
+pub use bridge::look_ups_find;
 pub use order::{conformity_goes_up, states_are_ordered, types_are_ordered};
