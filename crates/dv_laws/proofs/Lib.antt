@@ -4,3 +4,5 @@ pub mod OrderTypes
 pub mod OrderLaws
 pub mod OrderStates
 pub mod BridgeLookUps
+pub mod BridgeStatics
+pub mod BridgeRecords

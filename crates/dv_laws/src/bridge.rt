@@ -1,8 +1,14 @@
 // The laws of acceptance: what look-ups find, and the records that acceptance gives.
-ghost use Rattle.dv_machine.specs.Laws.{LookUpsFind};
+ghost use Rattle.dv_machine.specs.Laws.{AcceptanceGivesRecords, LookUpsFind};
 
 /// What look-ups find has the number, name, prototype and class that were asked for, in any image.
 #[tactic(auto, using(crate::proofs::BridgeLookUps::look_ups_find))]
 pub fn look_ups_find()
     ensures law { LookUpsFind }
+{}
+
+/// Acceptance gives a typing of each method, with what each address owes.
+#[tactic(auto, using(crate::proofs::BridgeRecords::acceptance_gives_records))]
+pub fn acceptance_gives_records()
+    ensures law { AcceptanceGivesRecords }
 {}
