@@ -6,3 +6,4 @@ pub mod OrderStates
 pub mod BridgeLookUps
 pub mod BridgeStatics
 pub mod BridgeRecords
+pub mod BridgeLaws

@@ -1,2 +1,3 @@
 -- What the laws speak of beside the statements of dv_machine.
 pub mod Conformity
+pub mod Bridge

@@ -1,5 +1,6 @@
 // The laws of acceptance: what look-ups find, and the records that acceptance gives.
 ghost use Rattle.dv_machine.specs.Laws.{AcceptanceGivesRecords, LookUpsFind};
+ghost use Rattle.dv_laws.specs.Bridge.{BridgeHolds};
 
 /// What look-ups find has the number, name, prototype and class that were asked for, in any image.
 #[tactic(auto, using(crate::proofs::BridgeLookUps::look_ups_find))]
@@ -11,4 +12,10 @@ pub fn look_ups_find()
 #[tactic(auto, using(crate::proofs::BridgeRecords::acceptance_gives_records))]
 pub fn acceptance_gives_records()
     ensures law { AcceptanceGivesRecords }
+{}
+
+/// A linked image that the verifier accepts is what the laws take.
+#[tactic(auto, using(crate::proofs::BridgeLaws::bridge_holds))]
+pub fn bridge_holds()
+    ensures law { BridgeHolds }
 {}
