@@ -1,5 +1,5 @@
 -- What look-ups find, of any image.
-use Rattle.std.proofs.Common.{◌≡◌, ◌⊎◌, inl, inr, ℕ, zero, suc, ◌+◌, List, [], ◌∷◌, Bool, true, false, ◌&&◌, not, Option, Some, None, refl, sym, ap, ◌∙◌, subst, arith}
+use Rattle.std.proofs.Common.{◌≡◌, ℕ, suc, ◌+◌, List, [], ◌∷◌, Bool, true, false, ◌&&◌, not, Option, Some, None, refl, sym, ap, ◌∙◌, subst, arith}
 use Rattle.std.specs.Prelude.{slice_get, nat_eq, bytes_eq, is_some}
 use Rattle.std.proofs.lemmas.Bool.{eqb-true, and_parts, not-true}
 use Rattle.dv_defs.specs.declared.names.Ty.{Ty}
@@ -14,7 +14,6 @@ use Rattle.dv_defs.specs.Names.{clinit_name}
 use Rattle.dv_defs.specs.Types.{ty_eq, same_types, same_result, same_proto}
 use Rattle.dv_defs.specs.Pools.{Method, Field, with_def, with_info, methods_of, method_at, with_field, with_field_info, fields_of, field_at, is_static, is_private, pick, declared_by, is_virtual_of, first_of_classes, nearest, no_arguments, is_initialiser, initialiser, supers}
 use Rattle.dv_defs.specs.Order.{has_number}
-use Rattle.dv_machine.specs.Accepted.{FindsRightly}
 use Rattle.dv_machine.specs.Laws.{LookUpsFind}
 use Rattle.dv_laws.proofs.OrderWalks.{no, has_head, by_second}
 use Rattle.dv_laws.proofs.OrderTypes.{ty_is, names_are}
@@ -85,7 +84,7 @@ declared image c good m e = picked image image.methods 0 (λ x. nat_eq x.info.cl
 
 -- ---- equal prototypes
 
-same_list : (ts us : List Ty) → same_types ts us ≡ true → ts ≡ us
+pub same_list : (ts us : List Ty) → same_types ts us ≡ true → ts ≡ us
 same_list [] [] e = refl
 same_list (t ∷ ts) (u ∷ us) e =
     let p = and_parts (ty_eq t u) (same_types ts us) e in

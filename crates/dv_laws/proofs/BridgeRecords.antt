@@ -1,18 +1,16 @@
 -- Acceptance gives a typing of each method, with what each address owes.
-use Rattle.std.proofs.Common.{◌≡◌, ◌≤◌, ℕ, zero, suc, List, [], ◌∷◌, Bool, true, false, Option, Some, None, refl, sym, ap, ◌∙◌, subst}
+use Rattle.std.proofs.Common.{◌≡◌, ◌≤◌, ℕ, List, ◌∷◌, Bool, true, false, Option, Some, None, refl, sym, subst}
 use Rattle.std.specs.Prelude.{is_some, All}
 use Rattle.dv_defs.specs.declared.image.Image.{Image}
-use Rattle.dv_defs.specs.declared.faults.Rule.{Rule}
-use Rattle.dv_defs.specs.declared.faults.Rule.TheVariants as rule
 use Rattle.dv_defs.specs.declared.typing.RegState.{RegState}
-use Rattle.dv_defs.specs.Op.{Code, code_at, can_throw}
+use Rattle.dv_defs.specs.Op.{Code, code_at}
 use Rattle.dv_defs.specs.Statics.{At, fetch, arg_words}
 use Rattle.dv_defs.specs.Demands.{Demand, first, demand, demands, goes_on, onward_ok, ok}
 use Rattle.dv_defs.specs.Transfer.{entry_state, out}
-use Rattle.dv_defs.specs.Flow.{Catcher, Typing, Leads, Flows, IsTyping, targets, jumps, handlers_at, thrown_at, caught_state}
+use Rattle.dv_defs.specs.Flow.{Catcher, Typing, Leads, Flows, targets, jumps, handlers_at, thrown_at, caught_state}
 use Rattle.dv_defs.specs.Accepting.{IsAcceptedMethod, Accepts}
 use Rattle.dv_machine.specs.WellTyped.{Typings}
-use Rattle.dv_machine.specs.Accepted.{IsFine, IsTyped}
+use Rattle.dv_machine.specs.Accepted.{IsFine}
 use Rattle.dv_machine.specs.Laws.{AcceptanceGivesRecords}
 use Rattle.dv_laws.proofs.BridgeLookUps.{method_id}
 use Rattle.dv_laws.proofs.BridgeStatics.{IsStatic, IsThere, IsCaught, code_is, is_static_body, has_room, fetched_rules, jumps_there, handlers_there, all_more}
@@ -78,8 +76,8 @@ typed_body image n code has a =
       entry = a.is_typing.closed.start;
       room = has_room image code static;
       each = λ at s h. (let (x, e, flows) = a.is_typing.closed.each at s h in
-        let there : fetch image n at ≡ Some x = subst (λ (z : ℕ). fetch image z at ≡ Some x) id e in
-        (x, there, address_fine image n at code a.typing x s has id static there flows (a.is_typing.good at s x h e)));
+          let there : fetch image n at ≡ Some x = subst (λ (z : ℕ). fetch image z at ≡ Some x) id e in
+          (x, there, address_fine image n at code a.typing x s has id static there flows (a.is_typing.good at s x h e)));
     }
 
 -- ---- an image
@@ -114,8 +112,11 @@ each_from image n at s T None none e = absurd (let q = none at in cc)
 each_from image n at s T (Some code) body e = let (x, there, fine) = body.each at s e in (code, x, body.has_code, there, fine)
 
 pub acceptance_gives_records : AcceptanceGivesRecords
-acceptance_gives_records image acc = (typings image acc, record {
-  entry = λ n code e. (typed_method image acc n code e).entry;
-  room = λ n code e. (typed_method image acc n code e).room;
-  each = λ n at s e. each_from image n at s (typings image acc n) (code_at image n) (typed_from image acc n (code_at image n) refl) e;
-})
+acceptance_gives_records image acc = (
+  typings image acc,
+  record {
+    entry = λ n code e. (typed_method image acc n code e).entry;
+    room = λ n code e. (typed_method image acc n code e).room;
+    each = λ n at s e. each_from image n at s (typings image acc n) (code_at image n) (typed_from image acc n (code_at image n) refl) e;
+  },
+)

@@ -1,16 +1,14 @@
 -- What a body owes that breaks no static rule: instructions at its targets and handlers, and registers for its arguments.
 use Rattle.std.proofs.Common.{◌≡◌, ◌≤◌, ◌⊎◌, inl, inr, ℕ, zero, suc, ◌+◌, List, [], ◌∷◌, ◌++◌, length, Bool, true, false, ◌&&◌, ◌||◌, Option, Some, None, Result, Ok, Err, refl, sym, ap, ◌∙◌, subst, arith}
 use Rattle.std.specs.Prelude.{slice_get, nat_eq, nat_lt, nat_le, is_some, map, All}
-use Rattle.std.specs.List.{list_all}
-use Rattle.std.proofs.lemmas.Bool.{eqb-true, leb-true, and_parts}
-use Rattle.dv_defs.specs.declared.names.Ty.{Ty}
+use Rattle.std.proofs.lemmas.Bool.{leb-true, and_parts}
 use Rattle.dv_defs.specs.declared.code.Insn.{Insn}
 use Rattle.dv_defs.specs.declared.code.Body.{Body}
 use Rattle.dv_defs.specs.declared.code.Try.{Try}
 use Rattle.dv_defs.specs.declared.code.Handler.{Handler}
 use Rattle.dv_defs.specs.declared.image.Image.{Image}
 use Rattle.dv_defs.specs.Pools.{Method, method_at}
-use Rattle.dv_defs.specs.Tiling.{Tile, Item, IsInsn, IsPayload, tiling, tiles_of, tile_at, insn_in, insn_at, begins_insn, begins_item}
+use Rattle.dv_defs.specs.Tiling.{Tile, Item, IsInsn, IsPayload, tiling, tiles_of, tile_at, insn_in, begins_insn, begins_item}
 use Rattle.dv_defs.specs.Op.{Op, Goto, IfBoth, IfZero, Switch, Case, Code, Resolved, with_body, code_of, code_at, op_of}
 use Rattle.dv_defs.specs.Statics.{At, unless, moves_on, registers_below, all_lead, leads_to_insn, op_rules, resolved_rules, insn_rules, at_of, sound_at, at_tile, fetch_in, fetch, arg_words}
 use Rattle.dv_defs.specs.Flow.{Catcher, catchers, handlers_of, handlers_in, handlers_at, jumps}

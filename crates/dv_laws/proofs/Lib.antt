@@ -7,3 +7,8 @@ pub mod BridgeLookUps
 pub mod BridgeStatics
 pub mod BridgeRecords
 pub mod BridgeLaws
+pub mod ExampleTests
+pub mod ExampleClasses
+pub mod ExampleMembers
+pub mod ExampleBoot
+pub mod Examples

@@ -1,5 +1,5 @@
 -- The order of states, and conformity along it.
-use Rattle.std.proofs.Common.{◌≡◌, ◌↔◌, ℕ, zero, suc, true, length, List, Bool, Option, Some, None, refl, sym, ◌∙◌, subst}
+use Rattle.std.proofs.Common.{◌≡◌, ℕ, zero, suc, true, length, List, Option, Some, None, refl, ◌∙◌, subst}
 use Rattle.std.proofs.lemmas.Bool.{eqb-true, eq-eqb}
 use Rattle.dv_defs.specs.declared.names.Ty.{Ty}
 use Rattle.dv_defs.specs.declared.image.Image.{Image}
@@ -7,7 +7,6 @@ use Rattle.dv_defs.specs.declared.run.Value.{Value}
 use Rattle.dv_defs.specs.declared.run.Value.TheVariants as v
 use Rattle.dv_defs.specs.declared.machine.Frame.{Frame}
 use Rattle.dv_defs.specs.declared.machine.Pending.{Pending}
-use Rattle.dv_defs.specs.declared.machine.Pending.TheVariants as pending
 use Rattle.dv_defs.specs.declared.typing.RegType.{RegType}
 use Rattle.dv_defs.specs.declared.typing.RegType.TheVariants as ty
 use Rattle.dv_defs.specs.declared.typing.PendingType.{PendingType}
@@ -17,9 +16,9 @@ use Rattle.dv_defs.specs.Heap.{Heap}
 use Rattle.dv_defs.specs.Order.{sub}
 use Rattle.dv_defs.specs.RegTypes.{Types, type_at, under, UnderPending, UnderCaught, IsBelow}
 use Rattle.dv_machine.specs.State.{reg_at}
-use Rattle.dv_machine.specs.Conforming.{Own, IsOf, Fits, Conforms, RegsConform, IsUninit, AreApart, IsGood, ResultConforms, CaughtConforms, Conform}
+use Rattle.dv_machine.specs.Conforming.{Own, IsOf, Fits, Conforms, IsUninit, AreApart, IsGood, ResultConforms, CaughtConforms, Conform}
 use Rattle.dv_machine.specs.Accepted.{IsOrder}
-use Rattle.dv_machine.specs.Laws.{IsStateOrder, StatesAreOrdered}
+use Rattle.dv_machine.specs.Laws.{StatesAreOrdered}
 use Rattle.dv_laws.specs.Conformity.{ValueConformityGoesUp, RegisterConformityGoesUp, FrameConformityGoesUp}
 use Rattle.dv_laws.proofs.OrderWalks.{no}
 use Rattle.dv_laws.proofs.OrderLaws.{types_are_ordered}

@@ -7,10 +7,13 @@ use Rattle.dv_defs.specs.declared.names.Base.{Base}
 use Rattle.dv_defs.specs.declared.names.Base.TheVariants as base
 use Rattle.dv_defs.specs.declared.names.Ty.{Ty}
 use Rattle.dv_defs.specs.declared.image.Image.{Image}
+use Rattle.dv_defs.specs.declared.typing.RegType.{RegType}
+use Rattle.dv_defs.specs.declared.typing.RegType.TheVariants as ty
 use Rattle.dv_defs.specs.Names.{object_name}
 use Rattle.dv_defs.specs.Types.{base_eq, ty_eq, class_in, is_array, is_class_base, is_reference, component}
 use Rattle.dv_defs.specs.Pools.{class_named, name_at}
 use Rattle.dv_defs.specs.Order.{ClassTest, both_found, class_under, under_class, under_base, under_type}
+use Rattle.dv_defs.specs.Joins.{same_type}
 use Rattle.dv_laws.proofs.OrderWalks.{no, either, by_first, by_second, named_inside, named_is}
 
 -- ---- equal types
@@ -55,6 +58,17 @@ names_equal a b = (bytes_eq-Decides a b).1
 
 pub names_are : (a b : List ℕ) → bytes_eq a b ≡ true → a ≡ b
 names_are a b = (bytes_eq-Decides a b).0
+
+pub reg_type_is : (s t : RegType) → same_type s t ≡ true → s ≡ t
+reg_type_is ty.Conflict ty.Conflict e = refl
+reg_type_is ty.Zero ty.Zero e = refl
+reg_type_is ty.Int ty.Int e = refl
+reg_type_is ty.LongLo ty.LongLo e = refl
+reg_type_is ty.LongHi ty.LongHi e = refl
+reg_type_is (ty.Class a) (ty.Class b) e = ap ty.Class (ty_is a b e)
+reg_type_is (ty.Uninit a) (ty.Uninit b) e = ap ty.Uninit (eqb-true a b e)
+reg_type_is ty.UninitThis ty.UninitThis e = refl
+reg_type_is s t e = no e
 
 -- ---- references
 

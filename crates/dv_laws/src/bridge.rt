@@ -1,6 +1,7 @@
 // The laws of acceptance: what look-ups find, and the records that acceptance gives.
 ghost use Rattle.dv_machine.specs.Laws.{AcceptanceGivesRecords, LookUpsFind};
 ghost use Rattle.dv_laws.specs.Bridge.{BridgeHolds};
+ghost use Rattle.dv_laws.specs.Example.{IsAccepted, calls_example, handlers_example};
 
 /// What look-ups find has the number, name, prototype and class that were asked for, in any image.
 #[tactic(auto, using(crate::proofs::BridgeLookUps::look_ups_find))]
@@ -18,4 +19,10 @@ pub fn acceptance_gives_records()
 #[tactic(auto, using(crate::proofs::BridgeLaws::bridge_holds))]
 pub fn bridge_holds()
     ensures law { BridgeHolds }
+{}
+
+/// Images with all boot classes and a small program are what the laws take.
+pub fn examples_are_accepted()
+    ensures calls { IsAccepted calls_example }
+    ensures handlers { IsAccepted handlers_example }
 {}

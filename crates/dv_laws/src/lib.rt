@@ -5,5 +5,5 @@
 mod bridge;
 mod order;
 
-pub use bridge::{acceptance_gives_records, bridge_holds, look_ups_find};
+pub use bridge::{acceptance_gives_records, bridge_holds, examples_are_accepted, look_ups_find};
 pub use order::{conformity_goes_up, states_are_ordered, types_are_ordered};
