@@ -12,3 +12,5 @@ pub mod ExampleClasses
 pub mod ExampleMembers
 pub mod ExampleBoot
 pub mod Examples
+pub mod OrderRegs
+pub mod OrderTransfer

@@ -56,7 +56,7 @@ module _ (image : Image) (ord : IsOrder image) where
 
   -- ---- states
 
-  pending_same : (r : PendingType) → UnderPending r r
+  pub pending_same : (r : PendingType) → UnderPending r r
   pending_same pend.None = tt
   pending_same (pend.One t) = refl
   pending_same pend.Long = refl

@@ -1,5 +1,5 @@
 // The laws of the order of types and of states.
-ghost use Rattle.dv_machine.specs.Laws.{TypesAreOrdered, StatesAreOrdered};
+ghost use Rattle.dv_machine.specs.Laws.{TypesAreOrdered, StatesAreOrdered, TransferIsMonotone};
 ghost use Rattle.dv_laws.specs.Conformity.{ValueConformityGoesUp, RegisterConformityGoesUp, FrameConformityGoesUp};
 
 /// Subtype is an order, and assignable, instance and fits go along it.
@@ -19,4 +19,9 @@ pub fn conformity_goes_up()
     ensures values { ValueConformityGoesUp }
     ensures registers { RegisterConformityGoesUp }
     ensures frames { FrameConformityGoesUp }
+{}
+
+/// A state above leads to a state above.
+pub fn transfer_is_monotone()
+    ensures law { TransferIsMonotone }
 {}
