@@ -12,24 +12,15 @@ use Rattle.dv_defs.specs.Accepting.{IsAcceptedMethod, Accepts}
 use Rattle.dv_machine.specs.WellTyped.{Typings}
 use Rattle.dv_machine.specs.Accepted.{IsFine}
 use Rattle.dv_machine.specs.Laws.{AcceptanceGivesRecords}
+use Rattle.dv_laws.proofs.BridgeDemands.{first_none, demand_none}
 use Rattle.dv_laws.proofs.BridgeLookUps.{method_id}
 use Rattle.dv_laws.proofs.BridgeStatics.{IsStatic, IsThere, IsCaught, code_is, is_static_body, has_room, fetched_rules, jumps_there, handlers_there, all_more}
 
--- ---- demands
-
-first_none : (d e : Demand) → first d e ≡ None → (d ≡ None) × (e ≡ None)
-first_none None e h = (refl, h)
-first_none (Some r) e h = absurd (cc)
-
-demand_none : (b : Bool) (n : ℕ) → demand b n ≡ None → b ≡ true
-demand_none true n e = refl
-demand_none false n e = absurd (cc)
+-- ---- edges
 
 found : (o : Option At) → is_some o ≡ true → (y : At) × (o ≡ Some y)
 found (Some y) e = (y, refl)
 found None e = absurd (cc)
-
--- ---- edges
 
 -- what is asked of the next address
 abbrev onward : Image → ℕ → At → Bool → Demand

@@ -3,6 +3,7 @@ pub mod OrderWalks
 pub mod OrderTypes
 pub mod OrderLaws
 pub mod OrderStates
+pub mod BridgeDemands
 pub mod BridgeLookUps
 pub mod BridgeStatics
 pub mod BridgeRecords
@@ -14,3 +15,6 @@ pub mod ExampleBoot
 pub mod Examples
 pub mod OrderRegs
 pub mod OrderTransfer
+pub mod OrderDemands
+pub mod OrderAntitone
+pub mod OrderSatisfied

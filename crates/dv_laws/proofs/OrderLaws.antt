@@ -63,7 +63,7 @@ fits_is image x t f = by_test (is_interface_type image t) refl f
     by_test true e u = inl (e, u)
     by_test false e u = inr (e, u)
 
-assignable_is : (image : Image) (s t : Ty) → assignable image s t ≡ true → ((is_interface_type image t ≡ true) × (is_reference s ≡ true)) ⊎ ((is_interface_type image t ≡ false) × (sub image s t ≡ true))
+pub assignable_is : (image : Image) (s t : Ty) → assignable image s t ≡ true → ((is_interface_type image t ≡ true) × (is_reference s ≡ true)) ⊎ ((is_interface_type image t ≡ false) × (sub image s t ≡ true))
 unfolding assignable
 assignable_is image s t f = by_test (is_interface_type image t) refl f
   where
@@ -78,6 +78,14 @@ first_chosen false c d e u = no e
 second_chosen : (b c d : Bool) → b ≡ false → d ≡ true → elim b [ true ↦ c | false ↦ d ] ≡ true
 second_chosen true c d e u = absurd (cc)
 second_chosen false c d e u = u
+
+pub assignable_open : (image : Image) (s t : Ty) → is_interface_type image t ≡ true → is_reference s ≡ true → assignable image s t ≡ true
+unfolding assignable
+assignable_open image s t e r = first_chosen (is_interface_type image t) (is_reference s) (sub image s t) e r
+
+pub assignable_closed : (image : Image) (s t : Ty) → is_interface_type image t ≡ false → sub image s t ≡ true → assignable image s t ≡ true
+unfolding assignable
+assignable_closed image s t e u = second_chosen (is_interface_type image t) (is_reference s) (sub image s t) e u
 
 fits_open : (image : Image) (x t : Ty) → is_interface_type image t ≡ true → is_reference x ≡ true → fits image x t ≡ true
 unfolding fits
@@ -191,7 +199,7 @@ module _ (image : Image) (h : IsHierarchy image) where
   unfolding sub
   sub_same s = type_same image (extends image) s s refl
 
-  sub_trans : (s t u : Ty) → sub image s t ≡ true → sub image t u ≡ true → sub image s u ≡ true
+  pub sub_trans : (s t u : Ty) → sub image s t ≡ true → sub image t u ≡ true → sub image s u ≡ true
   unfolding sub
   sub_trans s t u x y = type_trans image (extends image) (extends_order image h) s t u x y
 

@@ -1,5 +1,5 @@
 // The laws of the order of types and of states.
-ghost use Rattle.dv_machine.specs.Laws.{TypesAreOrdered, StatesAreOrdered, TransferIsMonotone};
+ghost use Rattle.dv_machine.specs.Laws.{TypesAreOrdered, StatesAreOrdered, TransferIsMonotone, DemandIsAntitone};
 ghost use Rattle.dv_laws.specs.Conformity.{ValueConformityGoesUp, RegisterConformityGoesUp, FrameConformityGoesUp};
 
 /// Subtype is an order, and assignable, instance and fits go along it.
@@ -24,4 +24,9 @@ pub fn conformity_goes_up()
 /// A state above leads to a state above.
 pub fn transfer_is_monotone()
     ensures law { TransferIsMonotone }
+{}
+
+/// An instruction that is satisfied with a state is satisfied with each below it.
+pub fn demand_is_antitone()
+    ensures law { DemandIsAntitone }
 {}
