@@ -54,3 +54,5 @@ pub mod OrderTransfer
 pub mod OrderDemands
 pub mod OrderAntitone
 pub mod OrderSatisfied
+pub mod CallsClasses
+pub mod CallsPushed

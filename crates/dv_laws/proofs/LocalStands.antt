@@ -12,7 +12,7 @@ use Rattle.dv_defs.specs.declared.typing.RegState.{RegState}
 use Rattle.dv_defs.specs.Parts.{Call}
 use Rattle.dv_defs.specs.Pools.{Method, method_at}
 use Rattle.dv_defs.specs.Op.{Op, Invoke, Code, code_at}
-use Rattle.dv_defs.specs.Statics.{At, fetch}
+use Rattle.dv_defs.specs.Statics.{At, fetch, op_rules}
 use Rattle.dv_defs.specs.Demands.{demands}
 use Rattle.dv_defs.specs.Transfer.{out}
 use Rattle.dv_defs.specs.Flow.{Leads, targets}
@@ -39,6 +39,10 @@ pub record Stands (image : Image) (T : Typings) (m : Machine) (t : ℕ) (thread 
   pub demand : demands image own x.op s ≡ None
   pub flows : All (Leads image (T f.method.0) (out image own f.at x.op s)) (targets x)
   pub conform : Conform image m.shared.heap (own_of image (this_above image rest) own) f s
+  pub code : Code
+  pub has_code : code_at image f.method.0 ≡ Some code
+  pub of_own : code.method ≡ own
+  pub rules : op_rules image code x.op ≡ []
   pub below : BelowCode image own rest
   pub rest_fine : StackFine image T m.shared.heap t None rest
 
@@ -57,6 +61,10 @@ stands image T m t thread h x s i =
       demand = subst (λ z. demands image z x.op s ≡ None) same i.fine.ok;
       flows = subst (λ z. All (Leads image (T h.frame.method.0) (out image z h.frame.at x.op s)) (targets x)) same i.fine.flows;
       conform = subst (λ (z : Shared). Conform image z.heap (own_of image (this_above image h.rest) h.own) h.frame s) shared i.conform;
+      code = i.code;
+      has_code = i.has_code;
+      of_own = same;
+      rules = i.fine.rules;
       below = i.below;
       rest_fine = subst (λ (z : Shared). StackFine image T z.heap t None h.rest) shared i.rest_fine;
     }
@@ -72,7 +80,7 @@ module _ (image : Image) (T : Typings) (m : Machine) (t : ℕ) (thread : Thread)
   living_fine : (e : End) → e ≡ end.Living → (ls : List Level) → ThreadFine image T m.shared.heap t ls e → IsCode (lowest ls) × StackFine image T m.shared.heap t None ls
   living_fine e q ls k = subst (ThreadFine image T m.shared.heap t ls) q k
 
-  stack_fine : IsCode (lowest (level.Code f ∷ rest)) × StackFine image T m.shared.heap t None (level.Code f ∷ rest)
+  pub stack_fine : IsCode (lowest (level.Code f ∷ rest)) × StackFine image T m.shared.heap t None (level.Code f ∷ rest)
   stack_fine = subst (λ ls. IsCode (lowest ls) × StackFine image T m.shared.heap t None ls) h.levels (living_fine thread.end h.living thread.levels (h.may.typed.each t thread h.has_thread))
 
   pub refs_fine : All (RefsFine image m.shared.heap) (level.Code f ∷ rest)
