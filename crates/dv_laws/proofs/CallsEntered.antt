@@ -48,7 +48,7 @@ pad_good : (image : Image) (heap : Heap) (own : Own) (n : ℕ) (xs : List Value)
 pad_good image heap own zero xs ts h = h
 pad_good image heap own (suc n) xs ts h = cons_good image heap own v.Undef ty.Conflict _ _ (λ u. u) tt (pad_good image heap own n xs ts h)
 
-registers_are : (m : Method) (b : Body) → m.def.body ≡ Some b → registers_of m ≡ b.registers
+pub registers_are : (m : Method) (b : Body) → m.def.body ≡ Some b → registers_of m ≡ b.registers
 registers_are m b e = ap (λ o. elim o as (λ w. ℕ) [ None ↦ 0 | Some c ↦ c.registers ]) e
 
 pub entered_conforms : (image : Image) (heap : Heap) (this : Option ℕ) (m : Method) (b : Body) (xs : List Value) → m.def.body ≡ Some b → IsGood image heap (own_of image this m) xs (arg_types image m) → Conform image heap (own_of image this m) (entered_frame m xs (begins_uninitialised image m)) (entry_state image m b.registers)

@@ -12,7 +12,7 @@ use Rattle.dv_defs.specs.declared.typing.RegState.{RegState}
 use Rattle.dv_defs.specs.Parts.{Call}
 use Rattle.dv_defs.specs.Pools.{Method, method_at}
 use Rattle.dv_defs.specs.Op.{Op, Invoke, Code, code_at}
-use Rattle.dv_defs.specs.Statics.{At, fetch}
+use Rattle.dv_defs.specs.Statics.{At, fetch, op_rules}
 use Rattle.dv_defs.specs.Demands.{demands}
 use Rattle.dv_defs.specs.Transfer.{out}
 use Rattle.dv_defs.specs.Flow.{Leads, targets}
@@ -39,6 +39,10 @@ pub record Stands (image : Image) (T : Typings) (m : Machine) (t : ℕ) (thread 
   pub demand : demands image own x.op s ≡ None
   pub flows : All (Leads image (T f.method.0) (out image own f.at x.op s)) (targets x)
   pub conform : Conform image m.shared.heap (own_of image (this_above image rest) own) f s
+  pub code : Code
+  pub has_code : code_at image f.method.0 ≡ Some code
+  pub of_own : code.method ≡ own
+  pub rules : op_rules image code x.op ≡ []
   pub below : BelowCode image own rest
   pub rest_fine : StackFine image T m.shared.heap t None rest
 
@@ -57,17 +61,26 @@ stands image T m t thread h x s i =
       demand = subst (λ z. demands image z x.op s ≡ None) same i.fine.ok;
       flows = subst (λ z. All (Leads image (T h.frame.method.0) (out image z h.frame.at x.op s)) (targets x)) same i.fine.flows;
       conform = subst (λ (z : Shared). Conform image z.heap (own_of image (this_above image h.rest) h.own) h.frame s) shared i.conform;
+      code = i.code;
+      has_code = i.has_code;
+      of_own = same;
+      rules = i.fine.rules;
       below = i.below;
       rest_fine = subst (λ (z : Shared). StackFine image T z.heap t None h.rest) shared i.rest_fine;
     }
 
 -- ---- the frames of the thread
 
+-- the lowest level is code, also with another frame on the same levels
+pub same_lowest : (f g : Frame) (ls : List Level) → IsCode (lowest (level.Code f ∷ ls)) → IsCode (lowest (level.Code g ∷ ls))
+same_lowest f g [] k = tt
+same_lowest f g (l ∷ ls) k = k
+
 module _ (image : Image) (T : Typings) (m : Machine) (t : ℕ) (thread : Thread) (own : Method) (f : Frame) (rest : List Level) (x : At) (s : RegState) (h : Stands image T m t thread own f rest x s) where
   living_fine : (e : End) → e ≡ end.Living → (ls : List Level) → ThreadFine image T m.shared.heap t ls e → IsCode (lowest ls) × StackFine image T m.shared.heap t None ls
   living_fine e q ls k = subst (ThreadFine image T m.shared.heap t ls) q k
 
-  stack_fine : IsCode (lowest (level.Code f ∷ rest)) × StackFine image T m.shared.heap t None (level.Code f ∷ rest)
+  pub stack_fine : IsCode (lowest (level.Code f ∷ rest)) × StackFine image T m.shared.heap t None (level.Code f ∷ rest)
   stack_fine = subst (λ ls. IsCode (lowest ls) × StackFine image T m.shared.heap t None ls) h.levels (living_fine thread.end h.living thread.levels (h.may.typed.each t thread h.has_thread))
 
   pub refs_fine : All (RefsFine image m.shared.heap) (level.Code f ∷ rest)
@@ -81,11 +94,6 @@ module _ (image : Image) (T : Typings) (m : Machine) (t : ℕ) (thread : Thread)
 
   pub code_fine : CodeFine image T m.shared.heap f rest
   code_fine = stack_fine.1.0
-
-  -- the lowest level is code, also with another frame on the same levels
-  same_lowest : (g : Frame) (ls : List Level) → IsCode (lowest (level.Code f ∷ ls)) → IsCode (lowest (level.Code g ∷ ls))
-  same_lowest g [] k = tt
-  same_lowest g (l ∷ ls) k = k
 
   pub rest_lowest : (l : Level) (ls : List Level) → rest ≡ l ∷ ls → IsCode (lowest (l ∷ ls))
   rest_lowest l ls e = subst (λ z. IsCode (lowest (level.Code f ∷ z))) e stack_fine.0
@@ -102,7 +110,7 @@ module _ (image : Image) (T : Typings) (m : Machine) (t : ℕ) (thread : Thread)
   -- another frame of the same method in place of the thread's own
   pub replaced_fine : (g : Frame) (st : RegState) → g.method ≡ f.method → length g.regs ≡ length f.regs → Leads image (T f.method.0) st g.at → Conform image m.shared.heap (own_of image (this_above image rest) own) g st → ThreadFine image T m.shared.heap t (level.Code g ∷ rest) end.Living
   replaced_fine g st e n l c = (
-    same_lowest g rest stack_fine.0,
+    same_lowest f g rest stack_fine.0,
     (
       record {
         frame = record { code = code_fine.frame.code; has_code = ap (λ z. code_at image z.0) e ∙ code_fine.frame.has_code; registers = n ∙ code_fine.frame.registers };

@@ -68,7 +68,7 @@ module _ (image : Image) (heap : Heap) (own : Own) where
 
   -- ---- references
 
-  tested_there : (good : Kind → Bool) (o : ℕ) (k : Kind) → kind_of heap (suc o) ≡ Some k → good k ≡ true → tested good heap (suc o) ≡ true
+  pub tested_there : (good : Kind → Bool) (o : ℕ) (k : Kind) → kind_of heap (suc o) ≡ Some k → good k ≡ true → tested good heap (suc o) ≡ true
   tested_there good o k e g =
       ap (λ z. elim z as (λ w. Bool) [ true ↦ true | false ↦ elim (kind_of heap (suc o)) as (λ w. Bool) [ None ↦ false | Some j ↦ good j ] ]) (eq_false (suc o) 0 (λ q. absurd (cc)))
       ∙ ap (λ z. elim z as (λ w. Bool) [ None ↦ false | Some j ↦ good j ]) e ∙ g

@@ -27,7 +27,7 @@ use Rattle.dv_defs.specs.Flow.{Leads, targets}
 use Rattle.dv_defs.specs.Heap.{Heap, kind_of, kind_type}
 use Rattle.dv_machine.specs.State.{reg_at}
 use Rattle.dv_machine.specs.Calls.{object_of}
-use Rattle.dv_machine.specs.Conforming.{Own, Conforms, IsOf, is_proper, is_string_or_class, Conform}
+use Rattle.dv_machine.specs.Conforming.{Own, Conforms, IsOf, IsThere, is_proper, is_string_or_class, Conform}
 use Rattle.dv_machine.specs.WellTyped.{Typings, own_of, called_on, this_above, IsPlaced, StackFine}
 use Rattle.dv_machine.specs.Accepted.{Accepted, IsOrder}
 use Rattle.dv_laws.specs.Returning.{IsBuilt}
@@ -64,7 +64,7 @@ module _ (image : Image) (T : Typings) (a : Accepted image T) (heap : Heap) wher
   exactly_is (Some b) c d e q = sym (some_same b c e) ∙ same_number b d q
 
   -- the receiver of a constructor's call, where the frames below have such too
-  receiver_proper : (this : Option ℕ) (m : Method) (n : ℕ) (g : Method) → method_at image n ≡ Some g → is_constructor g ≡ true → ((o : ℕ) → this ≡ Some o → IsProperAt image heap o) → (x : Value) (t : RegType) → Conforms image heap (own_of image this m) x t → receiver_for image m g t ≡ None → (o : ℕ) → object_of x ≡ Some o → IsProperAt image heap o
+  pub receiver_proper : (this : Option ℕ) (m : Method) (n : ℕ) (g : Method) → method_at image n ≡ Some g → is_constructor g ≡ true → ((o : ℕ) → this ≡ Some o → IsProperAt image heap o) → (x : Value) (t : RegType) → Conforms image heap (own_of image this m) x t → receiver_for image m g t ≡ None → (o : ℕ) → object_of x ≡ Some o → IsProperAt image heap o
   receiver_proper this m n g e k below (v.Uninit b p) (ty.Uninit d) c q o f = λ j w.
       let site : made_at image m d ≡ Some c.1.class = subst (λ z. made_at image m z ≡ Some c.1.class) c.0 c.1.is_site in
       let class : c.1.class ≡ g.info.class.0 = exactly_is (made_at image m d) c.1.class g.info.class.0 site (demanded _ _ q) in
@@ -74,6 +74,21 @@ module _ (image : Image) (T : Typings) (a : Accepted image T) (heap : Heap) wher
   receiver_proper this m n g e k below x (ty.Uninit d) c q o f = absurd c
   receiver_proper this m n g e k below x ty.UninitThis c q o f = absurd c
   receiver_proper this m n g e k below x t c q o f = absurd (cc)
+
+  receiver_kind : (this : Option ℕ) (m g : Method) (x : Value) (t : RegType) → Conforms image heap (own_of image this m) x t → receiver_for image m g t ≡ None → (o : ℕ) → object_of x ≡ Some o → (k : Kind) × (kind_of heap o ≡ Some k)
+  receiver_kind this m g (v.Uninit b p) (ty.Uninit d) c q o f = (_, ap (kind_of heap) (sym (some_same _ _ f)) ∙ c.1.has_kind)
+  receiver_kind this m g (v.UninitThis p) ty.UninitThis c q o f = (_, ap (kind_of heap) (sym (some_same _ _ f)) ∙ c.has_kind)
+  receiver_kind this m g x (ty.Uninit d) c q o f = absurd c
+  receiver_kind this m g x ty.UninitThis c q o f = absurd c
+  receiver_kind this m g x t c q o f = absurd (cc)
+
+  pub proper_there : (o : ℕ) (k : Kind) → kind_of heap o ≡ Some k → IsProperAt image heap o → IsThere image heap o
+  proper_there zero k e p = tt
+  proper_there (suc o) k e p = record { kind = k; has_kind = e; proper = p k e }
+
+  -- the receiver's object is there
+  pub receiver_there : (this : Option ℕ) (m : Method) (n : ℕ) (g : Method) → method_at image n ≡ Some g → is_constructor g ≡ true → ((o : ℕ) → this ≡ Some o → IsProperAt image heap o) → (x : Value) (t : RegType) → Conforms image heap (own_of image this m) x t → receiver_for image m g t ≡ None → (o : ℕ) → object_of x ≡ Some o → IsThere image heap o
+  receiver_there this m n g e k below x t c q o f = let w = receiver_kind this m g x t c q o f in proper_there o w.0 w.1 (receiver_proper this m n g e k below x t c q o f)
 
   -- a frame at an invoke, by its operation
   called_proper : (this : Option ℕ) (m : Method) (f : Frame) (s : RegState) → Conform image heap (own_of image this m) f s → ((o : ℕ) → this ≡ Some o → IsProperAt image heap o) → (op : Op) (next : ℕ) → demands image m op s ≡ None → ((c : Call) (ks : List ℕ) (g : Method) → op ≡ Invoke c ks g → (n : ℕ) × (method_at image n ≡ Some g)) → (o : ℕ) → called_on f (Some (record { op = op; next = next })) ≡ Some o → IsProperAt image heap o
@@ -86,7 +101,7 @@ module _ (image : Image) (T : Typings) (a : Accepted image T) (heap : Heap) wher
       by_test false e q = absurd (cc)
   called_proper this m f s h below op next d named o = λ q. absurd (cc)
 
-  invoke_named : (op : Op) (c : Call) (ks : List ℕ) (g : Method) → IsNamed image op → op ≡ Invoke c ks g → (n : ℕ) × (method_at image n ≡ Some g)
+  pub invoke_named : (op : Op) (c : Call) (ks : List ℕ) (g : Method) → IsNamed image op → op ≡ Invoke c ks g → (n : ℕ) × (method_at image n ≡ Some g)
   invoke_named op c ks g h e = subst (IsNamed image) e h
 
   -- the `this` of the frame above a stack in order

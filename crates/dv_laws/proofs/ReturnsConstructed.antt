@@ -62,7 +62,7 @@ receiver_demanded image m s c k ks g e d =
     (first_none _ _ both).0
 
 -- without a receiver there is no demand that holds
-no_receiver : (image : Image) (m : Method) (s : RegState) (c : Call) (g : Method) → is_constructor g ≡ true → invoke_for image m s.regs c [] g ≡ None → ⊥
+pub no_receiver : (image : Image) (m : Method) (s : RegState) (c : Call) (g : Method) → is_constructor g ≡ true → invoke_for image m s.regs c [] g ≡ None → ⊥
 no_receiver image m s c g e d =
     let instance : instance_call image m s.regs c [] g ≡ None = subst (λ z. elim z as (λ w. Demand) [ true ↦ args_for image s.regs g.def.proto.params [] | false ↦ instance_call image m s.regs c [] g ] ≡ None) (not_static g e) d in
     absurd (cc)

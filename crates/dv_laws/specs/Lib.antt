@@ -2,3 +2,6 @@
 pub mod MonitorLaws
 pub mod Returning
 pub mod Reading
+pub mod Conformity
+pub mod Bridge
+pub mod Example

@@ -1,5 +1,5 @@
 -- What the reads of a step give, where registers conform and the verifier's demand holds.
-use Rattle.std.specs.Prelude.{◌≡◌, ℕ, suc, true, Bool, List, length, Option, Some, None, ℤ, All}
+use Rattle.std.specs.Prelude.{◌≡◌, ℕ, zero, suc, true, Bool, List, length, Option, Some, None, ℤ, All}
 use Rattle.dv_defs.specs.declared.names.Ty.{Ty}
 use Rattle.dv_defs.specs.declared.image.Image.{Image}
 use Rattle.dv_defs.specs.declared.run.Value.{Value}
@@ -67,6 +67,33 @@ TestsBoth = (image : Image) (heap : Heap) (own : Own) (xs : List Value) (ts : Ty
 
 abbrev pub TestsZero : Type 0
 TestsZero = (image : Image) (heap : Heap) (own : Own) (xs : List Value) (ts : Types) (t : Test) (a : ℕ) → RegsConform image heap own xs ts → zero_for t ts a ≡ None → HoldsOf Anything (test_zero t (reg_at xs a))
+
+-- ---- arrays
+
+-- an array whose elements a test takes, and whose element type is an instance of the one that the verifier knows
+pub record IsArrayOf (image : Image) (heap : Heap) (good : Ty → Bool) (t : RegType) (o : ℕ) : Type 0 where
+  pub type : Ty
+  pub has_kind : kind_of heap o ≡ Some (kind.Array type)
+  pub takes : good (component type) ≡ true
+  pub under : (c : Ty) → t ≡ ty.Class c → instance image (component type) (component c) ≡ true
+
+-- null, or such an array
+abbrev pub IsArrayOrNull : Image → Heap → (Ty → Bool) → RegType → ℕ → Type 0
+IsArrayOrNull image heap good t zero = Unit {0}
+IsArrayOrNull image heap good t (suc o) = IsArrayOf image heap good t (suc o)
+
+-- what a test takes, it takes of each instance
+abbrev pub GoesDown : Image → (Ty → Bool) → Type 0
+GoesDown image good = (s t : Ty) → instance image s t ≡ true → good t ≡ true → good s ≡ true
+
+abbrev pub ReadsArray : Type 0
+ReadsArray = (image : Image) (heap : Heap) (own : Own) (xs : List Value) (ts : Types) (k : ℕ) (good : Ty → Bool) → IsOrder image → GoesDown image good → RegsConform image heap own xs ts → array ts k good ≡ None → HoldsOf (IsArrayOrNull image heap good (type_at ts k)) (read_array good heap (reg_at xs k))
+
+-- the tests of array instructions do so
+pub record ElementTestsGoDown (image : Image) : Type 0 where
+  pub any : GoesDown image any_type
+  pub suffix : (s : Suffix) → GoesDown image (is_of_suffix s)
+  pub fill : (width : ℕ) → GoesDown image (is_fill_type width)
 
 -- ---- values by a declared type, and arguments
 

@@ -1,6 +1,6 @@
 // The laws of calls and returns.
 ghost use Rattle.std.specs.Prelude.{◌≡◌, ℕ};
-ghost use Rattle.dv_machine.specs.StepLaws.{EntryConforms};
+ghost use Rattle.dv_machine.specs.StepLaws.{EntryConforms, ReturnsPop};
 ghost use Rattle.dv_laws.specs.Reading.{ReadsValue, ReadsArguments, WordsPend};
 ghost use Rattle.dv_laws.specs.Returning.{ReturnedConforms};
 
@@ -27,6 +27,11 @@ pub fn words_pend()
 /// That arguments that conform to a method's types make a frame that conforms to its entry state; it does nothing.
 pub fn entry_conforms()
     ensures law { EntryConforms }
+{}
+
+/// That a return is fine: it isn't stuck, and the caller's frame is in order after it; it does nothing.
+pub fn returns_pop()
+    ensures law { ReturnsPop }
 {}
 
 /// try

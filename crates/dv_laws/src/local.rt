@@ -1,6 +1,7 @@
 // The laws of reads, and of steps that touch one frame alone.
+ghost use Rattle.dv_defs.specs.declared.image.Image.{Image};
 ghost use Rattle.dv_machine.specs.StepLaws.{LocalStepsAreFine};
-ghost use Rattle.dv_laws.specs.Reading.{ReadsInt, KeepsInt, ReadsArgument, ReadsTwo, ReadsLong, ReadsReference, ReadsReferenceTo, KeepsObject, TestsBoth, TestsZero, MovesInt, MovesReference};
+ghost use Rattle.dv_laws.specs.Reading.{ReadsInt, KeepsInt, ReadsArgument, ReadsTwo, ReadsLong, ReadsReference, ReadsReferenceTo, ReadsArray, ElementTestsGoDown, KeepsObject, TestsBoth, TestsZero, MovesInt, MovesReference};
 
 /// That a number is read, as it is or by its value, where the verifier demanded one; it does nothing.
 pub fn reads_int()
@@ -19,6 +20,13 @@ pub fn reads_long()
 pub fn reads_reference()
     ensures any { ReadsReference }
     ensures to { ReadsReferenceTo }
+{}
+
+/// That an array whose elements a test takes is read where the verifier demanded one, and that the tests of array
+/// instructions take of each instance what they take of its type; it does nothing.
+pub fn reads_array()
+    ensures reads { ReadsArray }
+    ensures tests { (image : Image) → ElementTestsGoDown image }
 {}
 
 /// That an object is moved as it is where the verifier demanded one, uninitialised or not; it does nothing.
