@@ -21,7 +21,7 @@ use Rattle.dv_machine.specs.Premises.{HoldsOf}
 use Rattle.dv_laws.proofs.GrowthLists.{nothing, same_some}
 use Rattle.dv_laws.proofs.GrowthKinds.{either_map}
 use Rattle.dv_laws.proofs.GrowthThreads.{records_after, left_is_well_typed}
-use Rattle.dv_laws.proofs.MonitorsLists.{entry_none}
+use Rattle.dv_laws.proofs.MonitorsOwners.{entry_none}
 use Rattle.dv_laws.proofs.MonitorsMoved.{quiet_moved}
 use Rattle.dv_laws.proofs.FlightFlown.{flown_typed, lowest_top, lowest_rest, refs_of, records_of}
 

@@ -2,6 +2,7 @@
 pub mod GrowthLists
 pub mod GrowthKinds
 pub mod MonitorsLists
+pub mod MonitorsOwners
 pub mod MonitorsFine
 pub mod MonitorsMoved
 pub mod HeapCells

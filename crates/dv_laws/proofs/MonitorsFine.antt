@@ -7,7 +7,8 @@ use Rattle.dv_defs.specs.Monitors.{Held, Wait, Monitors, owner_of, waiting, as_n
 use Rattle.dv_machine.specs.State.{Thread, Shared, with_monitors}
 use Rattle.dv_machine.specs.WellTyped.{WaitFine, HeldFine, MonitorsFine}
 use Rattle.dv_laws.specs.MonitorLaws.{EnteringKeeps, ExitingKeeps, WaitingKeeps, NotifyingKeeps, ResumingKeeps}
-use Rattle.dv_laws.proofs.MonitorsLists.{all_entered, all_exited, all_given_up, all_notified_first, all_notified_each, all_without, AreOnce, object_key, thread_key, once_from, place_from, once_entered, once_exited, once_given_up, once_notified_first, once_notified_each, once_without, once_push, quiet_from, entry_none, entry_thread, entry_all, without_quiet, not_owner, entered_owner, exited_owner, given_up_owner, given_up_free, held_all, free_from, all_entered_free}
+use Rattle.dv_laws.proofs.MonitorsLists.{all_entered, all_exited, all_given_up, all_notified_first, all_notified_each, all_without, AreOnce, object_key, thread_key, once_from, place_from, once_entered, once_exited, once_given_up, once_notified_first, once_notified_each, once_without, once_push}
+use Rattle.dv_laws.proofs.MonitorsOwners.{quiet_from, entry_none, entry_thread, entry_all, without_quiet, not_owner, entered_owner, exited_owner, given_up_owner, given_up_free, held_all, free_from, all_entered_free}
 
 -- ---- the calls
 

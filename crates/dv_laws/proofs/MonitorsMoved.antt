@@ -26,7 +26,7 @@ use Rattle.dv_machine.specs.WellTyped.{IsWaiting, WaitFine, HeldFine, MonitorsFi
 use Rattle.dv_machine.specs.Premises.{KeepsKinds}
 use Rattle.dv_laws.proofs.GrowthLists.{get_front, set_there, set_other, all_at}
 use Rattle.dv_laws.proofs.GrowthKinds.{same_type}
-use Rattle.dv_laws.proofs.MonitorsLists.{quiet_from}
+use Rattle.dv_laws.proofs.MonitorsOwners.{quiet_from}
 
 abbrev interface_lands : Image → Method → Bool → Option Kind → Landing
 interface_lands image g b x = elim b [ true ↦ nearest_from image (class_of_kind image x) g | false ↦ Lacks named.ClassChange ]

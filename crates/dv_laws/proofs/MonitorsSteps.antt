@@ -28,7 +28,7 @@ use Rattle.dv_machine.specs.StepLaws.{MonitorStepsAreFine}
 use Rattle.dv_laws.proofs.GrowthLists.{nothing}
 use Rattle.dv_laws.proofs.GrowthKeeps.{monitors_later}
 use Rattle.dv_laws.proofs.GrowthThreads.{records_after}
-use Rattle.dv_laws.proofs.MonitorsLists.{entry_none}
+use Rattle.dv_laws.proofs.MonitorsOwners.{entry_none}
 use Rattle.dv_laws.proofs.MonitorsFine.{entering_keeps, exiting_keeps}
 use Rattle.dv_laws.proofs.MonitorsMoved.{quiet_moved}
 use Rattle.dv_laws.proofs.FlightFlown.{living_fine, records_of}

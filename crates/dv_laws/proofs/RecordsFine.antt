@@ -30,7 +30,7 @@ use Rattle.dv_machine.specs.Premises.{LeftFine, RecordDidFine}
 use Rattle.dv_machine.specs.StepLaws.{RecordsAreFine}
 use Rattle.dv_laws.proofs.GrowthLists.{nothing, same_some, eq_true}
 use Rattle.dv_laws.proofs.GrowthThreads.{records_after}
-use Rattle.dv_laws.proofs.MonitorsLists.{entry_none}
+use Rattle.dv_laws.proofs.MonitorsOwners.{entry_none}
 use Rattle.dv_laws.proofs.MonitorsMoved.{quiet_moved}
 use Rattle.dv_laws.proofs.FlightFlown.{lowest_rest, living_fine, refs_of, records_of}
 use Rattle.dv_laws.proofs.RecordsStates.{IsIdle, dropped_mine, dropped_others, begun_mine, begun_others}

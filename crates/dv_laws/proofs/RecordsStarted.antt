@@ -1,11 +1,9 @@
 -- A thread that is started stands at the begin of its run method.
-use Rattle.std.proofs.Common.{◌≡◌, ◌≢◌, ◌⊎◌, inl, inr, ℕ, zero, suc, ◌+◌, ◌<◌, ◌≤◌, ◌++◌, List, [], ◌∷◌, length, Bool, true, false, not, Option, Some, None, refl, sym, ap, ◌∙◌, subst, arith}
-use Rattle.std.specs.Prelude.{bytes_eq, codes, nat_eq}
-use Rattle.std.proofs.lemmas.Bool.{cases_lt, and_left, and_right, eqb-true}
-use Rattle.std.proofs.lemmas.Option.{slice_get_past}
+use Rattle.std.proofs.Common.{◌≡◌, ◌≢◌, ℕ, zero, suc, ◌+◌, ◌≤◌, ◌++◌, List, [], ◌∷◌, Bool, true, false, not, Option, Some, None, refl, sym, ap, ◌∙◌, subst, arith}
+use Rattle.std.specs.Prelude.{bytes_eq, codes}
+use Rattle.std.proofs.lemmas.Bool.{and_left, and_right}
 use Rattle.std.proofs.lemmas.List.Elements.{All-cons, All-nil}
 use Rattle.dv_defs.specs.declared.names.Ty.{Ty}
-use Rattle.dv_defs.specs.declared.names.Base.TheVariants as base
 use Rattle.dv_defs.specs.declared.names.Proto.{Proto}
 use Rattle.dv_defs.specs.declared.code.Body.{Body}
 use Rattle.dv_defs.specs.declared.image.Image.{Image}
@@ -13,73 +11,27 @@ use Rattle.dv_defs.specs.declared.run.Value.TheVariants as v
 use Rattle.dv_defs.specs.declared.run.Native.{Native}
 use Rattle.dv_defs.specs.declared.machine.Level.TheVariants as level
 use Rattle.dv_defs.specs.declared.machine.Kind.{Kind}
-use Rattle.dv_defs.specs.declared.machine.Kind.TheVariants as kind
 use Rattle.dv_defs.specs.declared.typing.RegType.TheVariants as ty
-use Rattle.dv_defs.specs.Names.{object_name, class_name, string_name, thread_name, init_name}
-use Rattle.dv_defs.specs.Types.{of_class, ty_eq, is_reference, words_of_all}
+use Rattle.dv_defs.specs.Names.{thread_name, init_name}
+use Rattle.dv_defs.specs.Types.{of_class, words_of_all}
 use Rattle.dv_defs.specs.Statics.{receiver_words, arg_words}
-use Rattle.dv_defs.specs.Pools.{Method, method_at, parent_of, class_type, name_at, class_named, walk, supers, nearest, is_static, is_native, is_abstract, is_constructor, is_of_object, own_type, no_arguments, initialiser}
-use Rattle.dv_defs.specs.Order.{has_number, both_found, class_under, extends, sub, fits}
+use Rattle.dv_defs.specs.Pools.{Method, method_at, name_at, supers, nearest, is_static, is_native, is_abstract, is_constructor, is_of_object, own_type, no_arguments, initialiser}
+use Rattle.dv_defs.specs.Order.{has_number}
 use Rattle.dv_defs.specs.RegTypes.{Types, type_at, all_types}
 use Rattle.dv_defs.specs.Transfer.{arg_types, receiver_type, begins_uninitialised}
-use Rattle.dv_defs.specs.Heap.{Heap, kind_type}
+use Rattle.dv_defs.specs.Heap.{Heap}
 use Rattle.dv_machine.specs.State.{reg_at}
 use Rattle.dv_machine.specs.Calls.{entered_frame, signature, native_among, all_natives, native_of, class_of_kind}
 use Rattle.dv_machine.specs.Threads.{new_thread, run_method}
 use Rattle.dv_machine.specs.Conforming.{Own, IsOf, Fits, IsGood, Conforms, IsUninit, RefFine, RefsFine}
 use Rattle.dv_machine.specs.WellTyped.{Typings, own_of}
-use Rattle.dv_machine.specs.Accepted.{Accepted, IsHierarchy}
+use Rattle.dv_machine.specs.Accepted.{Accepted}
 use Rattle.dv_machine.specs.Premises.{StartedFine}
 use Rattle.dv_machine.specs.StepLaws.{NewThreadIsFine}
-use Rattle.dv_laws.proofs.GrowthLists.{no, nothing, same_some}
-use Rattle.dv_laws.proofs.FlightMade.{class_name_is}
-use Rattle.dv_laws.proofs.FlightHandlers.{fits_reference}
+use Rattle.dv_laws.proofs.GrowthLists.{no, nothing}
+use Rattle.dv_laws.proofs.CallsClasses.{looked_up_fits}
 use Rattle.dv_laws.proofs.FlightRises.{object_there}
 use Rattle.dv_laws.proofs.RecordsEntered.{HasCode, code_there, refs_entered, entered_code, entered_placed}
-
--- ---- a class is under each class above it
-
-later_true : (a b : Bool) → b ≡ true → ◌≡◌ {A = Bool} (elim a [ true ↦ true | false ↦ b ]) true
-later_true true b e = refl
-later_true false b e = e
-
--- a class that is not there has none above it
-past_supers : (image : Image) (n c d : ℕ) → length image.classes ≤ c → has_number d (walk image n (Some c)) ≡ true → c ≡ d
-past_supers image zero c d l e = no e
-past_supers image (suc n) c d l e = one (subst (λ (p : Option ℕ). has_number d (c ∷ walk image n p) ≡ true) (ap parent_of (slice_get_past image.classes c l)) e)
-  where
-    only : (k : ℕ) → walk image k None ≡ []
-    only zero = refl
-    only (suc k) = refl
-
-    here : (b : Bool) → nat_eq c d ≡ b → ◌≡◌ {A = Bool} (elim b [ true ↦ true | false ↦ false ]) true → c ≡ d
-    here true s e = eqb-true c d s
-    here false s e = no e
-
-    one : has_number d (c ∷ walk image n None) ≡ true → c ≡ d
-    one e = here (nat_eq c d) refl (subst (λ (cs : List ℕ). has_number d (c ∷ cs) ≡ true) (only n) e)
-
-pub under_super : (image : Image) → IsHierarchy image → (c d : ℕ) → d < length image.classes → has_number d (supers image c) ≡ true → sub image (class_type image c) (class_type image d) ≡ true
-unfolding sub
-under_super image h c d l e = go (cases_lt c (length image.classes))
-  where
-    go : (c < length image.classes) ⊎ (length image.classes ≤ c) → sub image (class_type image c) (class_type image d) ≡ true
-    go (inl k) =
-        let found : class_under image (extends image) (base.Class (name_at image c)) (name_at image d) ≡ true = ap (λ (o : Option ℕ). both_found (extends image) o (class_named image (name_at image d))) (h.once c k) ∙ ap (both_found (extends image) (Some c)) (h.once d l) ∙ e in
-        later_true (ty_eq (class_type image c) (class_type image d)) _ (later_true (bytes_eq (name_at image d) object_name) _ found)
-    go (inr k) = absurd (omega (arith, k, l, past_supers image (length image.classes) c d k e))
-
--- ---- the class of an object
-
-abbrev FitsClass : Image → Kind → ℕ → Type 0
-FitsClass image k c = fits image (kind_type image k) (class_type image c) ≡ true
-
--- an object fits the class in which its methods are looked for
-fits_own : (image : Image) (T : Typings) → Accepted image T → (k : Kind) (c : ℕ) → is_reference (kind_type image k) ≡ true → class_of_kind image (Some k) ≡ Some c → FitsClass image k c
-fits_own image T acc (kind.Object d) c r e = subst (λ (n : ℕ). fits image (class_type image d.0) (class_type image n) ≡ true) (same_some d.0 c e) (acc.order.instance_fits _ _ r (acc.order.sub_instance _ _ (acc.order.same (class_type image d.0))))
-fits_own image T acc (kind.Array t) c r e = subst (λ (name : List ℕ). fits image t (of_class name) ≡ true) (sym (class_name_is image object_name c e)) (acc.order.object_fits t r)
-fits_own image T acc (kind.Str s) c r e = subst (λ (name : List ℕ). fits image (of_class string_name) (of_class name) ≡ true) (sym (class_name_is image string_name c e)) (acc.order.instance_fits _ _ r (acc.order.sub_instance _ _ (acc.order.same (of_class string_name))))
-fits_own image T acc (kind.ClassOf t) c r e = subst (λ (name : List ℕ). fits image (of_class class_name) (of_class name) ≡ true) (sym (class_name_is image class_name c e)) (acc.order.instance_fits _ _ r (acc.order.sub_instance _ _ (acc.order.same (of_class class_name))))
 
 -- ---- a method of this name is no native
 
@@ -145,7 +97,7 @@ module _ (image : Image) (T : Typings) (acc : Accepted image T) (heap : Heap) (n
 
   -- the object fits the class of the method
   receiver_fits : IsOf image heap o (own_type image run)
-  receiver_fits = record { object = i.object; fits = acc.order.fits_up _ (class_type image c) (own_type image run) (fits_own image T acc i.object.kind c (fits_reference image _ thread_name i.fits) own) (under_super image acc.hierarchy c run.info.class.0 (acc.pools.methods run.id run near.0) near.4) }
+  receiver_fits = looked_up_fits image T acc heap o (of_class thread_name) c run.info.class.0 refl i (ap (class_of_kind image) i.object.has_kind ∙ own) (acc.pools.methods run.id run near.0) near.4
 
   no_initialiser : initialiser image run.info.class.0 ≢ Some run
   no_initialiser e = no (sym near.3 ∙ (acc.finds.initialisers run.info.class.0 run e).1)
