@@ -35,7 +35,7 @@ TopThrows image [] = Unit {0}
 TopThrows image (level.Code g ∷ ls) = IsThrower image g
 TopThrows image (level.Init c r ∷ ls) = Unit {0}
 
-need_throws : (op : Op) (c : ℕ) → needs op ≡ Some c → (can_throw op ≡ true) × (is_exit op ≡ false)
+pub need_throws : (op : Op) (c : ℕ) → needs op ≡ Some c → (can_throw op ≡ true) × (is_exit op ≡ false)
 need_throws (New a d) c e = (refl, refl)
 need_throws (StaticGet s a x) c e = (refl, refl)
 need_throws (StaticPut s a x) c e = (refl, refl)
