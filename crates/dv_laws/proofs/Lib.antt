@@ -60,3 +60,5 @@ pub mod OrderSatisfied
 pub mod CallsClasses
 pub mod CallsPushed
 pub mod RecordsNeeded
+pub mod OpeningHeap
+pub mod OpeningState

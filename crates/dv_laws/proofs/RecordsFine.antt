@@ -41,10 +41,13 @@ use Rattle.dv_laws.proofs.RecordsEntered.{none_good, refs_entered, entered_code,
 abbrev receiver_by : Image → Method → Bool → Types
 receiver_by image m b = elim b [ true ↦ [] | false ↦ elim (begins_uninitialised image m) [ true ↦ ty.UninitThis ∷ [] | false ↦ ty.Class (own_type image m) ∷ [] ] ]
 
-static_args : (image : Image) (m : Method) → is_static m ≡ true → m.def.proto ≡ no_arguments → arg_types image m ≡ []
-static_args image m s p = ap (λ (b : Bool). receiver_by image m b ++ all_types m.def.proto.params) s ∙ ap (λ (q : Proto). all_types q.params) p
+pub static_types : (image : Image) (m : Method) → is_static m ≡ true → arg_types image m ≡ all_types m.def.proto.params
+static_types image m s = ap (λ (b : Bool). receiver_by image m b ++ all_types m.def.proto.params) s
 
-static_begins : (image : Image) (m : Method) → is_static m ≡ true → begins_uninitialised image m ≡ false
+static_args : (image : Image) (m : Method) → is_static m ≡ true → m.def.proto ≡ no_arguments → arg_types image m ≡ []
+static_args image m s p = static_types image m s ∙ ap (λ (q : Proto). all_types q.params) p
+
+pub static_begins : (image : Image) (m : Method) → is_static m ≡ true → begins_uninitialised image m ≡ false
 static_begins image m s = ap (λ (b : Bool). (not b && bytes_eq m.def.name init_name) && not (is_of_object image m)) s
 
 -- ---- a thread whose top level is a record

@@ -7,6 +7,7 @@ pub mod calls;
 pub mod exceptions;
 pub mod heap;
 pub mod local;
+pub mod opening;
 mod order;
 pub mod registers;
 pub mod threads;
