@@ -56,3 +56,4 @@ pub mod OrderAntitone
 pub mod OrderSatisfied
 pub mod CallsClasses
 pub mod CallsPushed
+pub mod CallsDispatched
