@@ -57,3 +57,5 @@ pub mod OrderSatisfied
 pub mod CallsClasses
 pub mod CallsPushed
 pub mod CallsDispatched
+pub mod CallsWords
+pub mod CallsInvoked
