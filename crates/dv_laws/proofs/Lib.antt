@@ -59,3 +59,4 @@ pub mod CallsPushed
 pub mod CallsDispatched
 pub mod CallsWords
 pub mod CallsInvoked
+pub mod CallsInstance
