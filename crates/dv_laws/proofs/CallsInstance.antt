@@ -37,7 +37,7 @@ use Rattle.dv_laws.proofs.CallsEntered.{code_is}
 use Rattle.dv_laws.proofs.CallsResolved.{is_named}
 use Rattle.dv_laws.proofs.ReturnsBuilt.{invoke_named}
 use Rattle.dv_laws.proofs.ReturnsFine.{read_did}
-use Rattle.dv_laws.proofs.ReadersPlain.{reads_reference_to}
+use Rattle.dv_laws.proofs.ReadersPlain.{reads_reference_to, holds_more}
 use Rattle.dv_laws.proofs.ReadersWords.{IsWord, reads_arguments}
 use Rattle.dv_laws.proofs.LocalStill.{IsQuiet}
 use Rattle.dv_laws.proofs.LocalStands.{Stands}
@@ -80,8 +80,8 @@ module _ (image : Image) (T : Typings) (m : Machine) (t : ℕ) (thread : Thread)
   here_it = here image m t own f rest x.next
 
   -- the demand of the invoke
-  pub demand : invoke_for image own s.regs c ks g ≡ None
-  demand = subst (λ z. demands image own z s ≡ None) e h.demand
+  pub invoke_demand : invoke_for image own s.regs c ks g ≡ None
+  invoke_demand = subst (λ z. demands image own z s ≡ None) e h.demand
 
   -- the invoke is one that its method allows
   allowed : fits_call image own c g ≡ true
@@ -103,7 +103,7 @@ module _ (image : Image) (T : Typings) (m : Machine) (t : ℕ) (thread : Thread)
     static_quiet = quiet_at image T m t thread own f rest x s h c ks g e (λ o w. none_some (sym (no_receiver_of c ks g static) ∙ w.has_receiver))
 
     static_demand : args_for image s.regs g.def.proto.params ks ≡ None
-    static_demand = subst (λ z. elim z as (λ w. Demand) [ true ↦ args_for image s.regs g.def.proto.params ks | false ↦ instance_call image own s.regs c ks g ] ≡ None) static demand
+    static_demand = subst (λ z. elim z as (λ w. Demand) [ true ↦ args_for image s.regs g.def.proto.params ks | false ↦ instance_call image own s.regs c ks g ] ≡ None) static invoke_demand
 
     static_lands : NativesDo image T m t thread own f rest x s h c ks g e → (ys : List Value) → AreWords image heap ys (all_types g.def.proto.params) → DidFine image T m t thread x (landed here_it (native_step here_it) (unless_abstract g) ys)
     static_lands natives ys w = by_test (is_abstract g) refl
@@ -133,7 +133,7 @@ module _ (image : Image) (T : Typings) (m : Machine) (t : ℕ) (thread : Thread)
 
     instance_demand : first (first (ref_to image s.regs k (own_type image g)) (super_for image own s.regs k c)) (args_for image s.regs g.def.proto.params js) ≡ None
     instance_demand =
-        let d = subst (λ z. invoke_for image own s.regs c z g ≡ None) is demand in
+        let d = subst (λ z. invoke_for image own s.regs c z g ≡ None) is invoke_demand in
         let i = subst (λ z. elim z as (λ w. Demand) [ true ↦ args_for image s.regs g.def.proto.params (k ∷ js) | false ↦ instance_call image own s.regs c (k ∷ js) g ] ≡ None) static d in
         subst (λ z. first (elim z as (λ w. Demand) [ true ↦ receiver_for image own g (type_at s.regs k) | false ↦ first (ref_to image s.regs k (own_type image g)) (super_for image own s.regs k c) ]) (args_for image s.regs g.def.proto.params js) ≡ None) plain i
 
@@ -196,3 +196,39 @@ module _ (image : Image) (T : Typings) (m : Machine) (t : ℕ) (thread : Thread)
 
         not_wait : (a b : Method) → a ≡ b → native_of image a ≡ None → native_of image b ≡ Some native.Wait → ⊥
         not_wait a b e n u = none_some (sym n ∙ ap (native_of image) e ∙ u)
+
+    -- ---- the reads of a call on an object
+
+    abbrev IsSuperRead : Call → ℕ → Type 0
+    IsSuperRead d p = d ≡ Call.Super → (object_number value ≡ p) × Fits image heap p (own_type image own)
+
+    super_read : (d : Call) → super_for image own s.regs k d ≡ None → HoldsOf (IsSuperRead d) (read_super here_it d value)
+    super_read Call.Super q =
+        let r = reads_reference_to image heap (own_of image (this_above image rest) own) f.regs s.regs k (own_type image own) h.may.accepted.order h.conform.good.regs q in
+        holds_more (λ p. (object_number value ≡ p) × Fits image heap p (own_type image own)) (IsSuperRead Call.Super) (read_ref image heap (own_type image own) value)
+        (both_hold (λ p. object_number value ≡ p) (λ p. Fits image heap p (own_type image own)) (read_ref image heap (own_type image own) value) (read_number image heap (own_type image own) (λ p. Fits image heap p (own_type image own)) value r) r)
+        (λ p w u. w)
+    super_read Call.Virtual q = λ u. absurd (cc)
+    super_read Call.Direct q = λ u. absurd (cc)
+    super_read Call.Static q = λ u. absurd (cc)
+    super_read Call.Interface q = λ u. absurd (cc)
+
+    object_fine : NativesDo image T m t thread own f rest x s h c ks g e → (ys : List Value) → AreWords image heap ys (all_types g.def.proto.params) → (o : ℕ) → object_number value ≡ o → Fits image heap o (own_type image g) → (p : ℕ) → IsSuperRead c p → DidFine image T m t thread x (on_object (call_object here_it (native_step here_it) c g value ys) o)
+    object_fine natives ys w zero n fits p up = throws image T m t thread own f rest x s h c ks g e (quiet_null n)
+    object_fine natives ys w (suc o) n fits p up =
+        let q = number_is value o n in
+        subst (λ z. DidFine image T m t thread x (landed here_it (native_step here_it) (dispatch image heap own c g (suc o)) (z ∷ ys))) (sym q)
+        (landing_fine natives o q fits (λ u. let r = up u in subst (λ z. Fits image heap z (own_type image own)) (sym r.0 ∙ n) r.1) ys w (dispatch image heap own c g (suc o)) refl)
+
+    pub instance_fine : NativesDo image T m t thread own f rest x s h c ks g e → DidFine image T m t thread x (call_instance here_it (native_step here_it) c g value js)
+    instance_fine natives =
+        let a = first_none (first (ref_to image s.regs k (own_type image g)) (super_for image own s.regs k c)) (args_for image s.regs g.def.proto.params js) instance_demand in
+        let b = first_none (ref_to image s.regs k (own_type image g)) (super_for image own s.regs k c) a.0 in
+        let own_it = own_of image (this_above image rest) own in
+        let r = reads_reference_to image heap own_it f.regs s.regs k (own_type image g) h.may.accepted.order h.conform.good.regs b.0 in
+        read_did image T m t thread own f rest x s h (λ o. (object_number value ≡ o) × Fits image heap o (own_type image g)) (read_ref image heap (own_type image g) value) _
+        (both_hold (λ o. object_number value ≡ o) (λ o. Fits image heap o (own_type image g)) (read_ref image heap (own_type image g) value) (read_number image heap (own_type image g) (λ o. Fits image heap o (own_type image g)) value r) r)
+        (λ o z. read_did image T m t thread own f rest x s h (IsSuperRead c) (read_super here_it c value) _ (super_read c b.1)
+        (λ p u. read_did image T m t thread own f rest x s h (λ ys. AreWords image heap ys (all_types g.def.proto.params)) (read_args image heap f.regs g.def.proto.params js) _
+        (reads_arguments image heap own_it f.regs s.regs g.def.proto.params js h.may.accepted.order h.conform.good.regs a.1)
+        (λ ys w. object_fine natives ys w o z.0 z.1 p u)))

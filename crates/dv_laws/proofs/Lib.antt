@@ -60,3 +60,4 @@ pub mod CallsDispatched
 pub mod CallsWords
 pub mod CallsInvoked
 pub mod CallsInstance
+pub mod CallsConstructors
