@@ -1,6 +1,7 @@
 -- What the instruction at an address names is there.
-use Rattle.std.proofs.Common.{◌≡◌, ℕ, ◌+◌, List, [], ◌∷◌, Bool, true, false, Option, Some, None, refl, subst}
-use Rattle.std.specs.Prelude.{ℤ, Result, Ok, Err, slice_get}
+use Rattle.std.proofs.Common.{◌≡◌, ℕ, ◌+◌, ◌<◌, List, [], ◌∷◌, length, Bool, true, false, Option, Some, None, refl, subst}
+use Rattle.std.specs.Prelude.{Ok, Err, slice_get}
+use Rattle.dv_defs.specs.declared.names.Base.{Base}
 use Rattle.dv_defs.specs.declared.names.Ty.{Ty}
 use Rattle.dv_defs.specs.declared.names.FieldId.{FieldId}
 use Rattle.dv_defs.specs.declared.names.MethodId.{MethodId}
@@ -8,21 +9,23 @@ use Rattle.dv_defs.specs.declared.code.Insn.{Insn}
 use Rattle.dv_defs.specs.declared.code.Payload.{Payload}
 use Rattle.dv_defs.specs.declared.code.Payload.TheVariants as payload
 use Rattle.dv_defs.specs.declared.image.Image.{Image}
-use Rattle.dv_defs.specs.Parts.{Width, Call, Bin, is_division, is_shift}
+use Rattle.dv_defs.specs.Parts.{Width, Bin, is_division, is_shift}
 use Rattle.dv_defs.specs.Families.{Family, family_at}
-use Rattle.dv_defs.specs.Types.{is_array}
-use Rattle.dv_defs.specs.Pools.{Method, Field, method_at, field_at}
-use Rattle.dv_defs.specs.Tiling.{Tile, Item, tile_at, insn_in}
-use Rattle.dv_defs.specs.Op.{Op, Nop, Invoke, FieldGet, FieldPut, StaticGet, StaticPut, IntDivide, IntOp, LongDivide, LongShift, LongOp, New, Arg, Reg, Code, code_at, Resolved, on_pool, field_in, method_in, move_op, result_op, int_op, long_op, packed_op, sparse_op, fill_op, class_of_base, new_op, resolve, resolve_by, op_of}
+use Rattle.dv_defs.specs.Types.{is_array, class_in}
+use Rattle.dv_defs.specs.Pools.{Method, Field, method_at, field_at, class_named}
+use Rattle.dv_defs.specs.Tiling.{Tile, tile_at, insn_in}
+use Rattle.dv_defs.specs.Op.{Op, Invoke, FieldGet, FieldPut, StaticGet, StaticPut, IntDivide, IntOp, LongDivide, LongShift, LongOp, New, Arg, Code, code_at, Resolved, on_pool, field_in, method_in, move_op, result_op, packed_op, sparse_op, fill_op, class_of_base, new_op, resolve, resolve_by, op_of}
 use Rattle.dv_defs.specs.Statics.{At, at_of, sound_at, at_tile, fetch_in, fetch, insn_rules}
+use Rattle.dv_laws.proofs.OrderWalks.{named_inside}
 
--- the method or the field is the image's
+-- the method, the field or the class is the image's
 abbrev pub IsNamed : Image → Op → Type 0
 IsNamed image (Invoke c ks g) = (n : ℕ) × (method_at image n ≡ Some g)
 IsNamed image (FieldGet s a b x) = (n : ℕ) × (field_at image n ≡ Some x)
 IsNamed image (FieldPut s a b x) = (n : ℕ) × (field_at image n ≡ Some x)
 IsNamed image (StaticGet s a x) = (n : ℕ) × (field_at image n ≡ Some x)
 IsNamed image (StaticPut s a x) = (n : ℕ) × (field_at image n ≡ Some x)
+IsNamed image (New a c) = c < length image.classes
 IsNamed image op = Unit {0}
 
 abbrev IsResolved : Image → Resolved → Type 0
@@ -86,13 +89,20 @@ module _ (image : Image) where
   of_fill a (Some (payload.Data width bytes)) = tt
   of_fill a p = tt
 
-  of_new : (a : ℕ) (t : Ty) → IsResolved image (new_op image a t)
-  of_new a t = by_test (is_array t) (class_of_base image t.base)
+  base_there : (b : Base) (c : ℕ) → class_of_base image b ≡ Some c → c < length image.classes
+  base_there b c e = found (class_in b) e
     where
-      by_test : (b : Bool) (o : Option ℕ) → IsResolved image (elim b as (λ w. Resolved) [ true ↦ Err 16 | false ↦ elim o as (λ w. Resolved) [ None ↦ Err 16 | Some c ↦ Ok (New a c) ] ])
-      by_test true o = tt
-      by_test false None = tt
-      by_test false (Some c) = tt
+      found : (o : Option (List ℕ)) → ◌≡◌ {A = Option ℕ} (elim o as (λ w. Option ℕ) [ None ↦ None | Some name ↦ class_named image name ]) (Some c) → c < length image.classes
+      found None e = absurd (cc)
+      found (Some name) e = named_inside image name c e
+
+  of_new : (a : ℕ) (t : Ty) → IsResolved image (new_op image a t)
+  of_new a t = by_test (is_array t) (class_of_base image t.base) refl
+    where
+      by_test : (b : Bool) (o : Option ℕ) → class_of_base image t.base ≡ o → IsResolved image (elim b as (λ w. Resolved) [ true ↦ Err 16 | false ↦ elim o as (λ w. Resolved) [ None ↦ Err 16 | Some c ↦ Ok (New a c) ] ])
+      by_test true o e = tt
+      by_test false None e = tt
+      by_test false (Some c) e = base_there t.base c e
 
   resolved : (code : Code) (at : ℕ) (i : Insn) (f : Family) → IsResolved image (resolve image code at i f)
   resolved code at i (Family.Move x) = of_move x _ _

@@ -1,5 +1,5 @@
 -- Below what throws, each frame finds its handlers in order: it stands at an invoke, or at an instruction that needs a class.
-use Rattle.std.proofs.Common.{◌≡◌, ◌⊎◌, inl, inr, ℕ, zero, suc, ◌<◌, List, [], ◌∷◌, length, Bool, true, false, Option, Some, None, refl, sym, ap, ◌∙◌, subst, arith}
+use Rattle.std.proofs.Common.{◌≡◌, inl, inr, ℕ, List, [], ◌∷◌, Bool, true, false, Option, Some, None, refl, sym, ap, ◌∙◌, subst}
 use Rattle.std.specs.Prelude.{All}
 use Rattle.std.proofs.lemmas.List.Elements.{All-cons, All-nil}
 use Rattle.dv_defs.specs.declared.image.Image.{Image}
@@ -15,13 +15,11 @@ use Rattle.dv_defs.specs.Flow.{Catcher, is_exit, handlers_at, thrown_at}
 use Rattle.dv_defs.specs.Heap.{Heap}
 use Rattle.dv_machine.specs.State.{Thread, Shared, Machine, Here}
 use Rattle.dv_machine.specs.Unwinding.{is_opening, catches, caught_frame}
-use Rattle.dv_machine.specs.Step.{moved_on}
-use Rattle.dv_machine.specs.Conforming.{IsObject, IsOf}
-use Rattle.dv_machine.specs.WellTyped.{Typings, this_above, IsPlaced, IsHandled, IsThrowable, CodeFine, BelowCode, BelowRecord, StackFine}
+use Rattle.dv_machine.specs.WellTyped.{Typings, this_above, IsPlaced, IsHandled, IsThrowable, BelowCode, BelowRecord, StackFine}
 use Rattle.dv_machine.specs.Accepted.{Accepted}
 use Rattle.dv_machine.specs.Premises.{IsAt, KeepsKinds}
 use Rattle.dv_machine.specs.StepLaws.{ThrowerIsHandled, CallersAreHandled, NeedersAreHandled}
-use Rattle.dv_laws.proofs.GrowthLists.{no, same_some}
+use Rattle.dv_laws.proofs.GrowthLists.{no}
 use Rattle.dv_laws.proofs.GrowthKinds.{Either, conform_grown}
 use Rattle.dv_laws.proofs.FlightHandlers.{placed_handled, handlers_placed}
 
@@ -37,7 +35,7 @@ TopThrows image [] = Unit {0}
 TopThrows image (level.Code g ∷ ls) = IsThrower image g
 TopThrows image (level.Init c r ∷ ls) = Unit {0}
 
-need_throws : (op : Op) (c : ℕ) → needs op ≡ Some c → (can_throw op ≡ true) × (is_exit op ≡ false)
+pub need_throws : (op : Op) (c : ℕ) → needs op ≡ Some c → (can_throw op ≡ true) × (is_exit op ≡ false)
 need_throws (New a d) c e = (refl, refl)
 need_throws (StaticGet s a x) c e = (refl, refl)
 need_throws (StaticPut s a x) c e = (refl, refl)

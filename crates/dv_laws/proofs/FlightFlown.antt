@@ -1,9 +1,8 @@
 -- A well-typed state stays so after a step that lets an exception fly.
-use Rattle.std.proofs.Common.{◌≡◌, ◌≢◌, ◌⊎◌, inl, inr, ℕ, zero, suc, ◌≤◌, List, [], ◌∷◌, length, Bool, true, false, Option, Some, None, refl, sym, ap, ◌∙◌, subst, arith}
-use Rattle.std.specs.Prelude.{slice_get, slice_set, All}
+use Rattle.std.proofs.Common.{◌≡◌, ◌≢◌, ℕ, suc, List, [], ◌∷◌, length, Bool, true, false, Option, Some, None, refl, sym, ap, ◌∙◌, subst, arith}
+use Rattle.std.specs.Prelude.{slice_get, All}
 use Rattle.std.proofs.lemmas.List.Elements.{All-head, All-tail, All-cons}
 use Rattle.dv_defs.specs.declared.image.Image.{Image}
-use Rattle.dv_defs.specs.declared.run.Ending.{Ending}
 use Rattle.dv_defs.specs.declared.run.Ending.TheVariants as ending
 use Rattle.dv_defs.specs.declared.machine.Frame.{Frame}
 use Rattle.dv_defs.specs.declared.machine.Level.{Level}
@@ -17,12 +16,12 @@ use Rattle.dv_defs.specs.Flow.{is_exit}
 use Rattle.dv_defs.specs.Heap.{Heap, newest}
 use Rattle.dv_defs.specs.Monitors.{entry_of}
 use Rattle.dv_defs.specs.Classes.{state_at}
-use Rattle.dv_machine.specs.State.{Thread, Shared, Machine, Left, Did, Go, Throws, ThrowsRef, NoWords, NoRoom, NoOutput, IsStuck, Here, with_heap}
+use Rattle.dv_machine.specs.State.{Thread, Shared, Machine, Go, Throws, ThrowsRef, NoWords, NoRoom, NoOutput, IsStuck, Here, with_heap}
 use Rattle.dv_machine.specs.Unwinding.{made_object, leaves}
-use Rattle.dv_machine.specs.Step.{end_flying, flown, moved_on, thrown, settled}
+use Rattle.dv_machine.specs.Step.{end_flying, flown, moved_on, thrown}
 use Rattle.dv_machine.specs.Conforming.{RefsFine}
-use Rattle.dv_machine.specs.WellTyped.{Typings, this_above, IsFrame, IsHandled, IsThrowable, CodeFine, StackFine, FlightFine, lowest, IsCode, ThreadFine, HeapFine, records, owed, levels_in, WellTyped}
-use Rattle.dv_machine.specs.Premises.{IsAt, IsAtRecord, KeepsKinds, DidFine, RecordDidFine, HoldsOf}
+use Rattle.dv_machine.specs.WellTyped.{Typings, this_above, IsHandled, IsThrowable, CodeFine, StackFine, lowest, IsCode, ThreadFine, HeapFine, records, owed, levels_in, WellTyped}
+use Rattle.dv_machine.specs.Premises.{IsAt, IsAtRecord, KeepsKinds}
 use Rattle.dv_machine.specs.StepLaws.{SettledIsWellTyped, SettledRecordIsWellTyped}
 use Rattle.dv_laws.proofs.GrowthLists.{nothing, all_at}
 use Rattle.dv_laws.proofs.GrowthKinds.{all_refs_grown, stack_grown}

@@ -1,52 +1,31 @@
 -- A frame at an instruction that can throw finds its handlers in order.
-use Rattle.std.proofs.Common.{◌≡◌, ◌⊎◌, inl, inr, ℕ, zero, suc, ◌-◌, ◌<◌, List, [], ◌∷◌, length, Bool, true, false, ◌||◌, ◌&&◌, Option, Some, None, refl, sym, ap, ◌∙◌, subst, arith}
-use Rattle.std.specs.Prelude.{All, nat_lt, nat_le, nat_eq, bytes_eq}
-use Rattle.std.proofs.lemmas.Bool.{or_left, or_right, lt-ltb, cases_Bool}
+use Rattle.std.proofs.Common.{◌≡◌, ℕ, List, Bool, true, false, Option, Some, None, refl, sym, ap, ◌∙◌, subst}
+use Rattle.std.specs.Prelude.{All}
 use Rattle.std.proofs.lemmas.List.Elements.{All-weaker}
-use Rattle.dv_defs.specs.declared.names.Base.{Base}
-use Rattle.dv_defs.specs.declared.names.Base.TheVariants as base
 use Rattle.dv_defs.specs.declared.names.Ty.{Ty}
 use Rattle.dv_defs.specs.declared.image.Image.{Image}
 use Rattle.dv_defs.specs.declared.code.Body.{Body}
 use Rattle.dv_defs.specs.declared.machine.Kind.{Kind}
 use Rattle.dv_defs.specs.declared.machine.Frame.{Frame}
-use Rattle.dv_defs.specs.declared.machine.Level.{Level}
-use Rattle.dv_defs.specs.declared.machine.Level.TheVariants as level
 use Rattle.dv_defs.specs.declared.typing.RegState.{RegState}
 use Rattle.dv_defs.specs.Names.{object_name, throwable_name}
-use Rattle.dv_defs.specs.Types.{of_class, ty_eq, is_array, is_reference, is_class_base, class_in}
-use Rattle.dv_defs.specs.Pools.{Method, method_at, class_named}
-use Rattle.dv_defs.specs.Order.{ClassTest, under_class, class_under, both_found, under_base, under_type, instance, fits, implements, is_interface_type}
-use Rattle.dv_defs.specs.Op.{Op, Code, code_at, code_of, with_body, can_throw}
+use Rattle.dv_defs.specs.Types.{of_class, is_reference}
+use Rattle.dv_defs.specs.Pools.{Method, method_at}
+use Rattle.dv_defs.specs.Order.{under_type, instance, fits, implements, is_interface_type}
+use Rattle.dv_defs.specs.Op.{Code, code_at, code_of, with_body, can_throw}
 use Rattle.dv_defs.specs.Statics.{At, fetch}
 use Rattle.dv_defs.specs.Flow.{Catcher, Leads, handlers_at, thrown_at, is_exit, caught_state, caught_as}
-use Rattle.dv_defs.specs.Heap.{Heap, kind_of, kind_type}
+use Rattle.dv_defs.specs.Heap.{Heap, kind_type}
 use Rattle.dv_machine.specs.State.{type_of}
 use Rattle.dv_machine.specs.Unwinding.{catches, caught_frame}
-use Rattle.dv_machine.specs.Conforming.{IsOf, IsObject, Conform}
+use Rattle.dv_machine.specs.Conforming.{IsOf, Conform}
 use Rattle.dv_machine.specs.WellTyped.{Typings, own_of, IsPlaced, IsHandled, IsThrowable}
 use Rattle.dv_machine.specs.Accepted.{Accepted, IsFine, FindsRightly}
-use Rattle.dv_laws.proofs.GrowthLists.{no, same_some}
-use Rattle.dv_laws.proofs.HeapInterned.{ty_is}
-use Rattle.dv_laws.proofs.FlightUnder.{conform_up}
+use Rattle.dv_laws.proofs.GrowthLists.{same_some}
+use Rattle.dv_laws.proofs.OrderTypes.{under_reference}
+use Rattle.dv_laws.proofs.RegistersAbove.{conform_above}
 
 -- ---- what fits a class is a reference
-
-under_reference : (image : Image) (test : ClassTest) (n : ℕ) (a : Base) (d : List ℕ) → under_class image test n a d ≡ true → (nat_lt 0 n || is_class_base a) ≡ true
-under_reference image test (suc n) a d e = or_left (nat_lt 0 (suc n)) (is_class_base a) (lt-ltb 0 (suc n) (omega arith))
-under_reference image test zero (base.Class c) d e = refl
-under_reference image test zero a d e = no e
-
-type_reference : (image : Image) (test : ClassTest) (x : Ty) (name : List ℕ) → under_type image test x (of_class name) ≡ true → is_reference x ≡ true
-type_reference image test x name e = go (ty_eq x (of_class name)) (nat_le 0 x.dims) refl e
-  where
-    minus : (n : ℕ) → n - 0 ≡ n
-    minus n = omega arith
-
-    go : (b c : Bool) → ty_eq x (of_class name) ≡ b → ◌≡◌ {A = Bool} (elim b [ true ↦ true | false ↦ elim c [ true ↦ under_base image test (x.dims - 0) x.base (base.Class name) | false ↦ false ] ]) true → is_reference x ≡ true
-    go true c s e = ap is_reference (ty_is x (of_class name) s)
-    go false true s e = subst (λ (n : ℕ). (nat_lt 0 n || is_class_base x.base) ≡ true) (minus x.dims) (under_reference image test (x.dims - 0) x.base name e)
-    go false false s e = no e
 
 pub fits_reference : (image : Image) (x : Ty) (name : List ℕ) → fits image x (of_class name) ≡ true → is_reference x ≡ true
 unfolding fits instance
@@ -54,7 +33,7 @@ fits_reference image x name e = go (is_interface_type image (of_class name)) e
   where
     go : (b : Bool) → ◌≡◌ {A = Bool} (elim b [ true ↦ is_reference x | false ↦ under_type image (implements image) x (of_class name) ]) true → is_reference x ≡ true
     go true e = e
-    go false e = type_reference image (implements image) x name e
+    go false e = under_reference image (implements image) x (of_class name) e refl
 
 -- ---- code
 
@@ -89,7 +68,7 @@ module _ (image : Image) (T : Typings) (acc : Accepted image T) (heap : Heap) wh
       has_method = has;
       state = l.state;
       has_state = l.has_state;
-      conform = conform_up image acc.order heap (own_of image this method) (caught_frame f h.to o) (caught_state s h) l.state l.below (record { good = conform.good; result = tt; caught = caught_is o thrown h.ty e; this_pending = conform.this_pending });
+      conform = conform_above image acc.order heap (own_of image this method) (caught_frame f h.to o) (caught_state s h) l.state l.below (record { good = conform.good; result = tt; caught = caught_is o thrown h.ty e; this_pending = conform.this_pending });
     }
 
     -- the handlers of the address that an instruction's exception is searched in

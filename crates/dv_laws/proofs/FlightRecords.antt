@@ -1,6 +1,6 @@
 -- An exception drops the record of a class, which becomes erroneous, and with it the opening's frame.
-use Rattle.std.proofs.Common.{◌≡◌, ◌≢◌, ◌⊎◌, inl, inr, ℕ, zero, suc, ◌≤◌, List, [], ◌∷◌, length, Bool, true, false, Option, Some, None, refl, sym, ap, ◌∙◌, subst, arith}
-use Rattle.std.specs.Prelude.{slice_get, slice_set, All, codes}
+use Rattle.std.proofs.Common.{◌≡◌, ℕ, zero, suc, List, [], ◌∷◌, Bool, true, false, Option, Some, None, refl, sym, ◌∙◌, subst}
+use Rattle.std.specs.Prelude.{slice_get, All, codes}
 use Rattle.std.proofs.lemmas.List.{length-set}
 use Rattle.std.proofs.lemmas.List.Elements.{All-tail, All-nil}
 use Rattle.dv_defs.specs.declared.image.Image.{Image}
@@ -8,32 +8,29 @@ use Rattle.dv_defs.specs.declared.run.Value.TheVariants as v
 use Rattle.dv_defs.specs.declared.run.Named.TheVariants as named
 use Rattle.dv_defs.specs.declared.run.Ending.TheVariants as ending
 use Rattle.dv_defs.specs.declared.machine.Kind.TheVariants as kind
-use Rattle.dv_defs.specs.declared.machine.Frame.{Frame}
 use Rattle.dv_defs.specs.declared.machine.Level.{Level}
 use Rattle.dv_defs.specs.declared.machine.Level.TheVariants as level
 use Rattle.dv_defs.specs.declared.machine.End.{End}
 use Rattle.dv_defs.specs.declared.machine.End.TheVariants as end
 use Rattle.dv_defs.specs.declared.typing.RegType.{RegType}
-use Rattle.dv_defs.specs.declared.typing.RegType.TheVariants as ty
 use Rattle.dv_defs.specs.Names.{throwable_name}
 use Rattle.dv_defs.specs.Types.{of_class}
 use Rattle.dv_defs.specs.RegTypes.{type_at}
 use Rattle.dv_defs.specs.Heap.{Heap, newest, with_cell, length_of}
-use Rattle.dv_defs.specs.Classes.{Erroneous, state_at, with_state}
-use Rattle.dv_machine.specs.State.{Thread, Shared, Machine, with_heap}
-use Rattle.dv_machine.specs.Unwinding.{Unwound, Flies, leaves, is_opening, erroneous, below_record, number_named, exception_name, made_object, throwable_slot, wrapped, is_error, unwind_record}
-use Rattle.dv_machine.specs.Step.{end_flying, flown, settled_flight, here, no_method, no_frame, step, step_of, step_thread, step_flight}
-use Rattle.dv_machine.specs.Conforming.{IsOf, Fits, Conforms, RefsFine}
-use Rattle.dv_machine.specs.WellTyped.{Typings, nobody, cell_types, IsThrowable, BelowRecord, StackFine, lowest, IsCode, ThreadFine, HeapFine, records, owed, WellTyped}
+use Rattle.dv_defs.specs.Classes.{Erroneous, state_at}
+use Rattle.dv_machine.specs.State.{Thread, Machine, with_heap}
+use Rattle.dv_machine.specs.Unwinding.{Flies, leaves, is_opening, erroneous, below_record, number_named, exception_name, made_object, throwable_slot, wrapped, is_error}
+use Rattle.dv_machine.specs.Step.{end_flying, flown, settled_flight, here, no_method, no_frame, step_of, step_thread, step_flight}
+use Rattle.dv_machine.specs.Conforming.{Fits, Conforms, RefsFine}
+use Rattle.dv_machine.specs.WellTyped.{Typings, nobody, cell_types, IsThrowable, StackFine, ThreadFine, HeapFine, records, owed, WellTyped}
 use Rattle.dv_machine.specs.Accepted.{Accepted}
-use Rattle.dv_machine.specs.Premises.{MayStep, KeepsKinds, HoldsOf}
+use Rattle.dv_machine.specs.Premises.{KeepsKinds, HoldsOf}
 use Rattle.dv_machine.specs.StepLaws.{FlightsAreFine}
-use Rattle.dv_laws.proofs.GrowthLists.{no}
 use Rattle.dv_laws.proofs.GrowthKinds.{Either, is_of_grown, all_refs_grown, stack_grown}
 use Rattle.dv_laws.proofs.GrowthKeeps.{stopped_typed}
 use Rattle.dv_laws.proofs.Stores.{store_keeps}
 use Rattle.dv_laws.proofs.RecordsStates.{dropped_mine, dropped_others, opening_records}
-use Rattle.dv_laws.proofs.FlightMade.{IsMadeException, made_exception}
+use Rattle.dv_laws.proofs.FlightMade.{made_exception}
 use Rattle.dv_laws.proofs.FlightCallers.{thrown_below}
 use Rattle.dv_laws.proofs.FlightFlown.{flown_typed, refs_of, records_of}
 use Rattle.dv_laws.proofs.FlightRises.{forgotten, flying_on, flying_quiet, fine_at, frame_flight}

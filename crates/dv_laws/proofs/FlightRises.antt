@@ -1,48 +1,29 @@
 -- One level of an exception's flight: a frame catches it or is dropped, a record is dropped and its class erroneous.
-use Rattle.std.proofs.Common.{◌≡◌, ◌≢◌, ◌⊎◌, inl, inr, ℕ, zero, suc, ◌≤◌, List, [], ◌∷◌, length, Bool, true, false, Option, Some, None, refl, sym, ap, ◌∙◌, subst, arith}
-use Rattle.std.specs.Prelude.{slice_get, slice_set, All, IfSome}
-use Rattle.std.proofs.lemmas.List.{length-set}
-use Rattle.std.proofs.lemmas.List.Elements.{All-head, All-tail, All-cons, All-nil}
-use Rattle.dv_defs.specs.declared.names.ClassId.{ClassId}
+use Rattle.std.proofs.Common.{◌≡◌, ℕ, zero, suc, List, [], ◌∷◌, Bool, true, false, Option, Some, None, refl, sym, ap, ◌∙◌, subst, arith}
+use Rattle.std.specs.Prelude.{slice_get, All}
+use Rattle.std.proofs.lemmas.List.Elements.{All-head, All-tail, All-cons}
 use Rattle.dv_defs.specs.declared.image.Image.{Image}
-use Rattle.dv_defs.specs.declared.run.Value.TheVariants as v
-use Rattle.dv_defs.specs.declared.run.Named.TheVariants as named
-use Rattle.dv_defs.specs.declared.run.Ending.TheVariants as ending
-use Rattle.dv_defs.specs.declared.machine.Kind.TheVariants as kind
 use Rattle.dv_defs.specs.declared.machine.Frame.{Frame}
 use Rattle.dv_defs.specs.declared.machine.Level.{Level}
 use Rattle.dv_defs.specs.declared.machine.Level.TheVariants as level
 use Rattle.dv_defs.specs.declared.machine.End.{End}
 use Rattle.dv_defs.specs.declared.machine.End.TheVariants as end
-use Rattle.dv_defs.specs.declared.typing.RegType.{RegType}
-use Rattle.dv_defs.specs.declared.typing.RegType.TheVariants as ty
-use Rattle.dv_defs.specs.Names.{throwable_name}
-use Rattle.std.specs.Prelude.{codes}
-use Rattle.dv_defs.specs.Types.{of_class}
-use Rattle.dv_defs.specs.RegTypes.{type_at}
 use Rattle.dv_defs.specs.Flow.{Catcher, handlers_at}
-use Rattle.dv_defs.specs.Heap.{Heap, newest, with_cell, length_of}
+use Rattle.dv_defs.specs.Heap.{Heap}
 use Rattle.dv_defs.specs.Monitors.{Wait, entry_of}
-use Rattle.dv_defs.specs.Classes.{Classes, Erroneous, state_at, with_state}
-use Rattle.dv_machine.specs.State.{Thread, Shared, Machine, with_heap, with_classes}
-use Rattle.dv_machine.specs.Unwinding.{catches, handler_for, caught_frame, Unwound, leaves, unwind_frame, is_opening, erroneous, below_record, number_named, exception_name, made_object, throwable_slot, wrapped, is_error, unwind_record}
-use Rattle.dv_machine.specs.Step.{end_flying, flown, gone_on, settled_flight, here, no_method, step, step_of, step_thread, step_flight}
-use Rattle.dv_machine.specs.Conforming.{IsObject, IsThere, IsOf, Fits, Conforms, RefFine, RefsFine}
-use Rattle.dv_machine.specs.WellTyped.{Typings, nobody, cell_types, this_above, IsPlaced, IsHandled, IsThrowable, CodeFine, BelowRecord, StackFine, FlightFine, lowest, IsCode, ThreadFine, HeapFine, WaitFine, records, owed, WellTyped}
+use Rattle.dv_machine.specs.State.{Thread, Machine}
+use Rattle.dv_machine.specs.Unwinding.{catches, handler_for, caught_frame, leaves, unwind_frame, is_opening}
+use Rattle.dv_machine.specs.Step.{end_flying, flown, gone_on, settled_flight, here, no_method, step_flight}
+use Rattle.dv_machine.specs.Conforming.{IsObject, IsThere, RefsFine}
+use Rattle.dv_machine.specs.WellTyped.{Typings, this_above, IsPlaced, IsThrowable, StackFine, FlightFine, lowest, IsCode, ThreadFine, WaitFine, records, WellTyped}
 use Rattle.dv_machine.specs.Accepted.{Accepted}
-use Rattle.dv_machine.specs.Premises.{MayStep, KeepsKinds, HoldsOf}
-use Rattle.dv_machine.specs.StepLaws.{FlightsAreFine}
-use Rattle.dv_laws.proofs.GrowthLists.{no, nothing, same_some, all_at}
-use Rattle.dv_laws.proofs.GrowthKinds.{Either, either_map, is_of_grown, all_refs_grown, stack_grown}
-use Rattle.dv_laws.proofs.GrowthKeeps.{stopped_typed}
-use Rattle.dv_laws.proofs.GrowthThreads.{records_after, object_after, left_is_well_typed}
-use Rattle.dv_laws.proofs.MonitorsLists.{entry_none}
+use Rattle.dv_machine.specs.Premises.{HoldsOf}
+use Rattle.dv_laws.proofs.GrowthLists.{nothing, same_some}
+use Rattle.dv_laws.proofs.GrowthKinds.{either_map}
+use Rattle.dv_laws.proofs.GrowthThreads.{records_after, left_is_well_typed}
+use Rattle.dv_laws.proofs.MonitorsOwners.{entry_none}
 use Rattle.dv_laws.proofs.MonitorsMoved.{quiet_moved}
-use Rattle.dv_laws.proofs.Stores.{store_keeps}
-use Rattle.dv_laws.proofs.RecordsStates.{dropped_mine, dropped_others, opening_records}
-use Rattle.dv_laws.proofs.FlightMade.{made_exception}
-use Rattle.dv_laws.proofs.FlightCallers.{thrown_below}
-use Rattle.dv_laws.proofs.FlightFlown.{FlownFine, flown_typed, lowest_top, lowest_rest, refs_of, records_of}
+use Rattle.dv_laws.proofs.FlightFlown.{flown_typed, lowest_top, lowest_rest, refs_of, records_of}
 
 -- the first handler that fits is one of those that were asked
 handler_found : (image : Image) (heap : Heap) (o : ℕ) (P : ℕ → Type 0) (hs : List Catcher) → All (λ (h : Catcher). catches image heap o h.ty ≡ true → P h.to) hs → (to : ℕ) → handler_for image heap o hs ≡ Some to → P to
@@ -69,7 +50,7 @@ module _ (image : Image) (T : Typings) (heap : Heap) (t o : ℕ) where
   flying_on l [] i c k = (refl, i)
   flying_on l (k ∷ ls) i c s = (lowest_rest l k ls c, i, flight_top k ls s)
 
-object_there : (image : Image) (heap : Heap) (o : ℕ) → IsObject image heap o → IsThere image heap o
+pub object_there : (image : Image) (heap : Heap) (o : ℕ) → IsObject image heap o → IsThere image heap o
 object_there image heap zero i = tt
 object_there image heap (suc o) i = i
 

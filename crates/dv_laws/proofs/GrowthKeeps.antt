@@ -1,20 +1,19 @@
 -- A well-typed state stays so where the heap has grown, and where only the count or the stop changes.
-use Rattle.std.proofs.Common.{◌≡◌, ◌≢◌, ℕ, suc, ◌≤◌, List, Option, Some, None, refl, subst, arith}
-use Rattle.std.specs.Prelude.{slice_get, All}
+use Rattle.std.proofs.Common.{ℕ, suc, ◌≤◌, List, arith}
+use Rattle.std.specs.Prelude.{All}
 use Rattle.std.proofs.lemmas.List.Elements.{All-weaker}
 use Rattle.dv_defs.specs.declared.image.Image.{Image}
 use Rattle.dv_defs.specs.declared.run.Ending.{Ending}
-use Rattle.dv_defs.specs.declared.machine.Level.{Level}
 use Rattle.dv_defs.specs.Names.{thread_name}
 use Rattle.dv_defs.specs.Types.{of_class}
 use Rattle.dv_defs.specs.Heap.{Heap}
-use Rattle.dv_defs.specs.Monitors.{Held, Wait}
+use Rattle.dv_defs.specs.Monitors.{Wait}
 use Rattle.dv_machine.specs.State.{Thread, Shared, Machine, with_heap}
 use Rattle.dv_machine.specs.Step.{stopped}
 use Rattle.dv_machine.specs.Conforming.{IsOf, RefsFine}
-use Rattle.dv_machine.specs.WellTyped.{Typings, ThreadFine, HeldFine, WaitFine, MonitorsFine, WellTyped}
+use Rattle.dv_machine.specs.WellTyped.{Typings, HeldFine, WaitFine, MonitorsFine, WellTyped}
 use Rattle.dv_machine.specs.Premises.{KeepsKinds}
-use Rattle.dv_machine.specs.StepLaws.{on_heap, GrowthKeeps}
+use Rattle.dv_machine.specs.StepLaws.{GrowthKeeps}
 use Rattle.dv_laws.proofs.GrowthLists.{all_at}
 use Rattle.dv_laws.proofs.GrowthKinds.{is_of_grown, all_refs_grown, thread_grown}
 use Rattle.dv_laws.proofs.MonitorsMoved.{AllRefs, waiting_grown}

@@ -1,5 +1,5 @@
 -- What holds of values, frames and stacks still holds where objects were added.
-use Rattle.std.proofs.Common.{◌≡◌, ℕ, zero, suc, List, [], ◌∷◌, Bool, true, false, Option, Some, None, refl, sym, ap, ◌∙◌, subst, arith}
+use Rattle.std.proofs.Common.{◌≡◌, ℕ, zero, suc, List, [], ◌∷◌, Bool, true, false, Option, Some, None, sym, ap, ◌∙◌, subst}
 use Rattle.std.specs.Prelude.{All, IfSome}
 use Rattle.std.proofs.lemmas.List.Elements.{All-weaker}
 use Rattle.dv_defs.specs.declared.names.Ty.{Ty}
@@ -27,8 +27,8 @@ use Rattle.dv_defs.specs.RegTypes.{Types}
 use Rattle.dv_defs.specs.Heap.{Heap, kind_of, kind_type}
 use Rattle.dv_machine.specs.State.{type_of}
 use Rattle.dv_machine.specs.Unwinding.{catches, caught_frame, is_opening}
-use Rattle.dv_machine.specs.Conforming.{Own, IsObject, IsThere, IsOf, Fits, IsMade, IsThis, Conforms, RegsConform, IsGood, ResultConforms, CaughtConforms, Conform, RefFine, ResultFine, RefsFine}
-use Rattle.dv_machine.specs.WellTyped.{Typings, own_of, this_above, IsPlaced, IsHandled, FlightFits, StackFine, FlightFine, ThreadFine, IsThrowable, CodeFine}
+use Rattle.dv_machine.specs.Conforming.{Own, IsObject, IsThere, IsOf, Fits, IsMade, IsThis, Conforms, IsGood, ResultConforms, CaughtConforms, Conform, RefFine, ResultFine, RefsFine}
+use Rattle.dv_machine.specs.WellTyped.{Typings, IsPlaced, IsHandled, StackFine, FlightFine, ThreadFine, CodeFine}
 use Rattle.dv_machine.specs.Premises.{KeepsKinds}
 
 -- two heaps in which an object is of one kind

@@ -1,6 +1,6 @@
 -- Lists that grow at their end or change at one place.
-use Rattle.std.proofs.Common.{subst, ◌≡◌, ◌≢◌, ◌⊎◌, inl, inr, ℕ, zero, suc, ◌<◌, ◌≤◌, List, [], ◌∷◌, ◌++◌, length, Bool, true, false, Option, Some, None, refl, sym, ap, ◌∙◌, arith}
-use Rattle.std.specs.Prelude.{slice_get, slice_set, slice_index_or, nat_eq, All}
+use Rattle.std.proofs.Common.{subst, ◌≡◌, ◌≢◌, ◌⊎◌, inl, inr, ℕ, zero, suc, List, [], ◌∷◌, ◌++◌, length, true, false, Some, None, refl, ap, arith}
+use Rattle.std.specs.Prelude.{slice_get, slice_set, nat_eq, All}
 use Rattle.std.proofs.lemmas.Bool.{eq-eqb, ne_eqb}
 
 pub no : {A : Type 0} → false ≡ true → A

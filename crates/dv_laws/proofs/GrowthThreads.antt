@@ -1,20 +1,18 @@
 -- A well-typed state stays so after a step of one thread, where what the step leaves is in order.
-use Rattle.std.proofs.Common.{◌≡◌, ◌≢◌, ◌⊎◌, inl, inr, ℕ, zero, suc, ◌<◌, ◌≤◌, List, [], ◌∷◌, ◌++◌, length, Bool, true, false, Option, Some, None, refl, sym, ap, ◌∙◌, subst, arith}
+use Rattle.std.proofs.Common.{◌≡◌, ◌≢◌, ◌⊎◌, inl, inr, ℕ, zero, suc, List, [], ◌∷◌, ◌++◌, length, Option, Some, None, refl, sym, ap, ◌∙◌, subst}
 use Rattle.std.specs.Prelude.{slice_get, slice_set, All}
 use Rattle.std.proofs.lemmas.Bool.{cases_eq}
 use Rattle.std.proofs.lemmas.List.{length-set}
 use Rattle.dv_defs.specs.declared.image.Image.{Image}
-use Rattle.dv_defs.specs.declared.machine.Level.{Level}
-use Rattle.dv_defs.specs.declared.machine.End.{End}
 use Rattle.dv_defs.specs.Names.{thread_name}
 use Rattle.dv_defs.specs.Types.{of_class}
 use Rattle.dv_defs.specs.Heap.{Heap}
 use Rattle.dv_defs.specs.Classes.{Classes, state_at}
-use Rattle.dv_machine.specs.State.{Thread, Shared, Machine, Left}
+use Rattle.dv_machine.specs.State.{Thread, Machine, Left}
 use Rattle.dv_machine.specs.Step.{listed, with_thread}
 use Rattle.dv_machine.specs.Conforming.{IsOf, RefsFine}
 use Rattle.dv_machine.specs.WellTyped.{Typings, ThreadFine, HeapFine, MonitorsFine, records, owed, levels_in, WellTyped}
-use Rattle.dv_machine.specs.Premises.{KeepsKinds, StartedFine, LeftFine}
+use Rattle.dv_machine.specs.Premises.{KeepsKinds, StartedFine}
 use Rattle.dv_machine.specs.StepLaws.{LeftIsWellTyped}
 use Rattle.dv_laws.proofs.GrowthLists.{same_some, get_front, set_there, set_other, all_at, all_from}
 use Rattle.dv_laws.proofs.GrowthKinds.{is_of_grown, all_refs_grown, thread_grown}

@@ -1,17 +1,15 @@
 -- A heap with one object more is in order, and keeps what was there.
-use Rattle.std.proofs.Common.{◌≡◌, ◌≢◌, ◌⊎◌, inl, inr, ℕ, zero, suc, ◌+◌, ◌*◌, ◌<◌, ◌≤◌, List, [], ◌∷◌, ◌++◌, length, Bool, true, false, Option, Some, None, refl, sym, ap, ◌∙◌, subst, arith}
-use Rattle.std.specs.Prelude.{slice_get, slice_set, slice_index_or, map, All}
+use Rattle.std.proofs.Common.{◌≡◌, ◌⊎◌, inl, inr, ℕ, zero, suc, ◌+◌, ◌*◌, List, [], ◌∷◌, length, Bool, true, false, Option, Some, None, refl, sym, ap, ◌∙◌, subst, arith}
+use Rattle.std.specs.Prelude.{slice_get}
 use Rattle.std.proofs.lemmas.List.{length_push, get_or_append_left, get_or_push}
-use Rattle.std.proofs.lemmas.List.Elements.{All-weaker, All-push}
+use Rattle.std.proofs.lemmas.List.Elements.{All-weaker}
 use Rattle.std.proofs.lemmas.Option.{slice_get_within}
-use Rattle.std.proofs.lemmas.Slice.Eq.{bytes_eq-Decides}
 use Rattle.dv_defs.specs.declared.names.Ty.{Ty}
 use Rattle.dv_defs.specs.declared.image.Image.{Image}
 use Rattle.dv_defs.specs.declared.machine.Kind.{Kind}
 use Rattle.dv_defs.specs.declared.machine.Kind.TheVariants as kind
 use Rattle.dv_defs.specs.Types.{component, words_of}
-use Rattle.dv_defs.specs.RegTypes.{Types}
-use Rattle.dv_defs.specs.Heap.{Heap, Cells, kind_of, class_cells, fresh_cells, fresh_elements, has_room, grown, newest, alloc_object, alloc_array, alloc_string, cells_at, length_of}
+use Rattle.dv_defs.specs.Heap.{Heap, Cells, kind_of, class_cells, fresh_cells, fresh_elements, has_room, grown, newest, cells_at, length_of}
 use Rattle.dv_machine.specs.WellTyped.{element_types, cell_types, CellsFit, HeapFine}
 use Rattle.dv_machine.specs.Premises.{KeepsKinds}
 use Rattle.dv_machine.specs.StepLaws.{IsAdded, ObjectIsAdded, ArrayIsAdded, StringIsAdded}

@@ -1,21 +1,18 @@
 -- The cells of objects: their types, how many there are, and that new ones fit.
-use Rattle.std.proofs.Common.{◌≡◌, ◌≢◌, ◌⊎◌, inl, inr, ℕ, zero, suc, ◌+◌, ◌*◌, ◌/◌, ◌<◌, ◌≤◌, List, [], ◌∷◌, ◌++◌, length, Bool, true, false, Option, Some, None, refl, sym, ap, ◌∙◌, subst, arith}
-use Rattle.std.specs.Prelude.{slice_get, slice_set, slice_index_or, map, All}
+use Rattle.std.proofs.Common.{◌≡◌, ℕ, zero, suc, ◌*◌, ◌/◌, List, [], ◌∷◌, ◌++◌, length, Bool, true, false, Option, Some, None, refl, sym, ap, ◌∙◌, subst, arith}
+use Rattle.std.specs.Prelude.{slice_get}
 use Rattle.std.proofs.lemmas.List.{length-map, length-append, map-append}
 use Rattle.dv_defs.specs.declared.names.Ty.{Ty}
 use Rattle.dv_defs.specs.declared.names.FieldId.{FieldId}
 use Rattle.dv_defs.specs.declared.image.Image.{Image}
-use Rattle.dv_defs.specs.declared.run.Value.{Value}
-use Rattle.dv_defs.specs.declared.run.Value.TheVariants as v
 use Rattle.dv_defs.specs.declared.machine.Kind.{Kind}
 use Rattle.dv_defs.specs.declared.machine.Kind.TheVariants as kind
 use Rattle.dv_defs.specs.declared.typing.RegType.{RegType}
 use Rattle.dv_defs.specs.declared.typing.RegType.TheVariants as ty
 use Rattle.dv_defs.specs.Types.{component, is_long, is_reference, words_of}
 use Rattle.dv_defs.specs.Pools.{Field, field_at}
-use Rattle.dv_defs.specs.RegTypes.{Types, type_at, reg_types, single_type}
-use Rattle.dv_defs.specs.Heap.{Heap, Cells, kind_of, type_of_field, slot_types, slots_of, class_cells, zero_cell, fresh_cells, repeated, fresh_elements, cells_at, length_of}
-use Rattle.dv_machine.specs.State.{reg_at}
+use Rattle.dv_defs.specs.RegTypes.{Types, reg_types, single_type}
+use Rattle.dv_defs.specs.Heap.{Heap, Cells, kind_of, type_of_field, slot_types, slots_of, class_cells, zero_cell, fresh_cells, fresh_elements, cells_at, length_of}
 use Rattle.dv_machine.specs.Conforming.{Conforms, RegsConform}
 use Rattle.dv_machine.specs.WellTyped.{nobody, element_types, cell_types, CellsFit}
 use Rattle.dv_machine.specs.Premises.{KeepsKinds}

@@ -1,21 +1,16 @@
 -- Strings and Class objects that are looked up first, then made.
-use Rattle.std.proofs.Common.{◌≡◌, ◌⊎◌, inl, inr, ℕ, zero, suc, ◌+◌, ◌<◌, ◌≤◌, List, [], ◌∷◌, ◌++◌, length, Bool, true, false, Option, Some, None, refl, sym, ap, ◌∙◌, subst, arith}
-use Rattle.std.specs.Prelude.{bytes_eq, All}
-use Rattle.std.proofs.lemmas.Bool.{and_parts, eqb-true}
+use Rattle.std.proofs.Common.{◌≡◌, ◌⊎◌, inl, inr, ℕ, List, [], ◌∷◌, ◌++◌, Bool, true, false, Option, Some, None, refl, ap, subst}
 use Rattle.std.proofs.lemmas.List.Elements.{All-push}
 use Rattle.std.proofs.lemmas.Slice.Eq.{bytes_eq-Decides}
-use Rattle.dv_defs.specs.declared.names.Base.{Base}
-use Rattle.dv_defs.specs.declared.names.Base.TheVariants as base
 use Rattle.dv_defs.specs.declared.names.Ty.{Ty}
 use Rattle.dv_defs.specs.declared.image.Image.{Image}
 use Rattle.dv_defs.specs.declared.machine.Kind.{Kind}
 use Rattle.dv_defs.specs.declared.machine.Kind.TheVariants as kind
-use Rattle.dv_defs.specs.Types.{base_eq, ty_eq}
-use Rattle.dv_defs.specs.Heap.{Heap, Got, kind_of, has_room, grown, newest, grown_within, alloc_string, is_text, is_class_of, found_among, with_interned, with_class_object, intern, class_object}
-use Rattle.dv_machine.specs.WellTyped.{CellsFit, HeapFine}
-use Rattle.dv_machine.specs.Premises.{KeepsKinds}
+use Rattle.dv_defs.specs.Heap.{Heap, Got, kind_of, has_room, newest, grown_within, alloc_string, is_text, is_class_of, found_among, with_interned, with_class_object}
+use Rattle.dv_machine.specs.WellTyped.{HeapFine}
 use Rattle.dv_machine.specs.StepLaws.{IsAdded, StringIsInterned, ClassObjectIsGot}
 use Rattle.dv_laws.proofs.GrowthLists.{no, same_some}
+use Rattle.dv_laws.proofs.OrderTypes.{ty_is}
 use Rattle.dv_laws.proofs.HeapCells.{fit_grown}
 use Rattle.dv_laws.proofs.HeapAdded.{is_added, room_is, bare_fits, string_is_added}
 
@@ -31,22 +26,6 @@ found_passes test (p ∷ os) o e = go (test p) refl e (found_passes test os o)
 text_is : (k : Option Kind) (s : List ℕ) → is_text k s ≡ true → k ≡ Some (kind.Str s)
 text_is (Some (kind.Str t)) s e = ap (λ x. Some (kind.Str x)) ((bytes_eq-Decides t s).0 e)
 text_is k s e = no e
-
-base_is : (a b : Base) → base_eq a b ≡ true → a ≡ b
-base_is base.Z base.Z e = refl
-base_is base.B base.B e = refl
-base_is base.C base.C e = refl
-base_is base.S base.S e = refl
-base_is base.I base.I e = refl
-base_is base.J base.J e = refl
-base_is (base.Class x) (base.Class y) e = ap base.Class ((bytes_eq-Decides x y).0 e)
-base_is a b e = no e
-
-pub ty_is : (a b : Ty) → ty_eq a b ≡ true → a ≡ b
-ty_is a b e =
-    let p = and_parts _ _ e in
-    let made : ℕ → Base → Ty = λ n x. record { dims = n; base = x } in
-    ap (λ n. made n a.base) (eqb-true a.dims b.dims p.0) ∙ ap (made b.dims) (base_is a.base b.base p.1)
 
 class_is : (k : Option Kind) (t : Ty) → is_class_of k t ≡ true → k ≡ Some (kind.ClassOf t)
 class_is (Some (kind.ClassOf s)) t e = ap (λ x. Some (kind.ClassOf x)) (ty_is s t e)

@@ -2,6 +2,7 @@
 pub mod GrowthLists
 pub mod GrowthKinds
 pub mod MonitorsLists
+pub mod MonitorsOwners
 pub mod MonitorsFine
 pub mod MonitorsMoved
 pub mod HeapCells
@@ -9,7 +10,6 @@ pub mod HeapAdded
 pub mod HeapInterned
 pub mod Stores
 pub mod GrowthKeeps
-pub mod FlightUnder
 pub mod FlightHandlers
 pub mod FlightCallers
 pub mod GrowthThreads
@@ -35,6 +35,9 @@ pub mod ReturnsBuilt
 pub mod ReturnsFine
 pub mod ReadersArrays
 pub mod MonitorsSteps
+pub mod RecordsEntered
+pub mod RecordsFine
+pub mod RecordsStarted
 pub mod OrderWalks
 pub mod OrderTypes
 pub mod OrderLaws
@@ -61,3 +64,4 @@ pub mod CallsWords
 pub mod CallsInvoked
 pub mod CallsInstance
 pub mod CallsConstructors
+pub mod RecordsNeeded

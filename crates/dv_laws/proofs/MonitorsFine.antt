@@ -1,31 +1,14 @@
 -- Monitors are in order after each call on them, and after a thread has moved on.
-use Rattle.std.proofs.Common.{◌≡◌, ◌≢◌, ◌⊎◌, inl, inr, ℕ, zero, suc, ◌+◌, ◌-◌, ◌<◌, ◌≤◌, List, [], ◌∷◌, ◌++◌, length, Bool, true, false, Option, Some, None, refl, sym, ap, ◌∙◌, subst, arith}
-use Rattle.std.specs.Prelude.{slice_get, slice_set, nat_eq, nat_lt, All}
-use Rattle.std.proofs.lemmas.Bool.{cases_eq, cases_lt}
-use Rattle.std.proofs.lemmas.List.{get_or_past}
-use Rattle.std.proofs.lemmas.List.Elements.{All-weaker, All-push, All-head}
+use Rattle.std.proofs.Common.{◌≢◌, ℕ, suc, ◌≤◌, List, false, Some, subst, arith}
+use Rattle.std.specs.Prelude.{All}
+use Rattle.std.proofs.lemmas.List.Elements.{All-weaker, All-push}
 use Rattle.dv_defs.specs.declared.image.Image.{Image}
-use Rattle.dv_defs.specs.declared.run.Value.{Value}
-use Rattle.dv_defs.specs.declared.run.Value.TheVariants as v
-use Rattle.dv_defs.specs.declared.machine.Kind.{Kind}
-use Rattle.dv_defs.specs.declared.machine.Frame.{Frame}
-use Rattle.dv_defs.specs.declared.machine.Level.{Level}
-use Rattle.dv_defs.specs.declared.machine.Level.TheVariants as level
-use Rattle.dv_defs.specs.declared.machine.End.{End}
-use Rattle.dv_defs.specs.Parts.{Call}
-use Rattle.dv_defs.specs.Pools.{Method, own_type}
-use Rattle.dv_defs.specs.Order.{instance}
-use Rattle.dv_defs.specs.Heap.{Heap, kind_of}
-use Rattle.dv_defs.specs.Monitors.{Held, Wait, Monitors, held_of, owner_of, entered, exited, waiting, as_notified, notify_first, notify_each, notified_one, notified_all, entry_of, without, resumed}
-use Rattle.dv_machine.specs.State.{Thread, Shared, with_monitors, reg_at, type_of}
-use Rattle.dv_machine.specs.Calls.{dispatch, Landing, Lacks, class_of_kind, nearest_from, implements_it}
-use Rattle.dv_machine.specs.Conforming.{IsThere, RefFine, RefsFine}
-use Rattle.dv_machine.specs.WellTyped.{IsWaiting, WaitFine, HeldFine, MonitorsFine}
-use Rattle.dv_machine.specs.Premises.{KeepsKinds}
+use Rattle.dv_defs.specs.Monitors.{Held, Wait, Monitors, owner_of, waiting, as_notified, notified_one, notified_all, without, resumed}
+use Rattle.dv_machine.specs.State.{Thread, Shared, with_monitors}
+use Rattle.dv_machine.specs.WellTyped.{WaitFine, HeldFine, MonitorsFine}
 use Rattle.dv_laws.specs.MonitorLaws.{EnteringKeeps, ExitingKeeps, WaitingKeeps, NotifyingKeeps, ResumingKeeps}
-use Rattle.dv_laws.proofs.GrowthLists.{no, same_some, get_front, set_there, set_other, all_at}
-use Rattle.dv_laws.proofs.GrowthKinds.{same_type}
-use Rattle.dv_laws.proofs.MonitorsLists.{all_entered, all_exited, all_given_up, all_notified_first, all_notified_each, all_without, AreOnce, object_key, thread_key, once_from, place_from, once_entered, once_exited, once_given_up, once_notified_first, once_notified_each, once_without, once_push, quiet_from, entry_none, entry_thread, entry_all, without_quiet, not_owner, entered_owner, exited_owner, given_up_owner, given_up_free, held_all, free_from, all_entered_free}
+use Rattle.dv_laws.proofs.MonitorsLists.{all_entered, all_exited, all_given_up, all_notified_first, all_notified_each, all_without, AreOnce, object_key, thread_key, once_from, place_from, once_entered, once_exited, once_given_up, once_notified_first, once_notified_each, once_without, once_push}
+use Rattle.dv_laws.proofs.MonitorsOwners.{quiet_from, entry_none, entry_thread, entry_all, without_quiet, not_owner, entered_owner, exited_owner, given_up_owner, given_up_free, held_all, free_from, all_entered_free}
 
 -- ---- the calls
 

@@ -1,5 +1,5 @@
 -- Monitors stay in order while a thread moves on and objects are added.
-use Rattle.std.proofs.Common.{◌≡◌, ◌≢◌, ◌⊎◌, inl, inr, ℕ, zero, suc, ◌+◌, ◌<◌, ◌≤◌, List, [], ◌∷◌, ◌++◌, length, Bool, true, false, Option, Some, None, refl, sym, ap, ◌∙◌, subst, arith}
+use Rattle.std.proofs.Common.{◌≡◌, ◌≢◌, ◌⊎◌, inl, inr, ℕ, zero, suc, ◌<◌, ◌≤◌, List, ◌∷◌, ◌++◌, length, Bool, true, false, Option, Some, None, refl, sym, ap, ◌∙◌, subst, arith}
 use Rattle.std.specs.Prelude.{slice_get, slice_set, nat_lt, All}
 use Rattle.std.proofs.lemmas.Bool.{cases_eq, cases_lt}
 use Rattle.std.proofs.lemmas.List.{get_or_past}
@@ -20,13 +20,13 @@ use Rattle.dv_defs.specs.Order.{instance}
 use Rattle.dv_defs.specs.Heap.{Heap, kind_of}
 use Rattle.dv_defs.specs.Monitors.{Held, Wait, Monitors, owner_of, entry_of}
 use Rattle.dv_machine.specs.State.{Thread, Shared, reg_at, type_of}
-use Rattle.dv_machine.specs.Calls.{dispatch, Landing, Lands, Lacks, class_of_kind, nearest_from, implements_it}
+use Rattle.dv_machine.specs.Calls.{dispatch, Landing, Lacks, class_of_kind, nearest_from}
 use Rattle.dv_machine.specs.Conforming.{IsThere, RefFine, RefsFine}
 use Rattle.dv_machine.specs.WellTyped.{IsWaiting, WaitFine, HeldFine, MonitorsFine}
 use Rattle.dv_machine.specs.Premises.{KeepsKinds}
-use Rattle.dv_laws.proofs.GrowthLists.{same_some, get_front, set_there, set_other, all_at}
+use Rattle.dv_laws.proofs.GrowthLists.{get_front, set_there, set_other, all_at}
 use Rattle.dv_laws.proofs.GrowthKinds.{same_type}
-use Rattle.dv_laws.proofs.MonitorsLists.{quiet_from}
+use Rattle.dv_laws.proofs.MonitorsOwners.{quiet_from}
 
 abbrev interface_lands : Image → Method → Bool → Option Kind → Landing
 interface_lands image g b x = elim b [ true ↦ nearest_from image (class_of_kind image x) g | false ↦ Lacks named.ClassChange ]

@@ -1,6 +1,6 @@
 -- Steps that enter and exit monitors are fine.
-use Rattle.std.proofs.Common.{◌≡◌, ◌≢◌, ◌⊎◌, inl, inr, ℕ, zero, suc, ◌≤◌, List, [], ◌∷◌, length, Bool, true, false, Option, Some, None, refl, sym, ap, ◌∙◌, subst, arith}
-use Rattle.std.specs.Prelude.{slice_get, All, Ok, Err, nat_eq}
+use Rattle.std.proofs.Common.{◌≡◌, inl, inr, ℕ, zero, suc, List, [], ◌∷◌, Bool, true, false, Option, Some, None, refl, sym, ap, ◌∙◌, subst, arith}
+use Rattle.std.specs.Prelude.{All, Ok, Err, nat_eq}
 use Rattle.std.proofs.lemmas.List.Elements.{All-cons, All-head}
 use Rattle.dv_defs.specs.declared.image.Image.{Image}
 use Rattle.dv_defs.specs.declared.run.Named.TheVariants as named
@@ -11,29 +11,29 @@ use Rattle.dv_defs.specs.declared.machine.End.TheVariants as end
 use Rattle.dv_defs.specs.declared.typing.RegState.{RegState}
 use Rattle.dv_defs.specs.Parts.{Call}
 use Rattle.dv_defs.specs.Pools.{Method}
-use Rattle.dv_defs.specs.Op.{Op, Invoke, Enter, Exit, can_throw}
+use Rattle.dv_defs.specs.Op.{Invoke, Enter, Exit, can_throw}
 use Rattle.dv_defs.specs.Statics.{At}
-use Rattle.dv_defs.specs.Demands.{goes_on, demands, ref}
+use Rattle.dv_defs.specs.Demands.{goes_on, demands}
 use Rattle.dv_defs.specs.Transfer.{out, going}
-use Rattle.dv_defs.specs.Flow.{Leads, targets, jumps}
+use Rattle.dv_defs.specs.Flow.{Leads, jumps}
 use Rattle.dv_defs.specs.Monitors.{Monitors, Held, entry_of, held_of, owner_of, entered, exited}
-use Rattle.dv_machine.specs.State.{Thread, Shared, Machine, Left, Did, Go, Throws, Reads, reading, reg_at, read_any, where_true, Here, gone, onward, with_monitors}
+use Rattle.dv_machine.specs.State.{Thread, Machine, Left, Did, Throws, Reads, reading, reg_at, read_any, where_true, Here, gone, with_monitors}
 use Rattle.dv_machine.specs.Mem.{on_object}
-use Rattle.dv_machine.specs.Threads.{stays, goes, free_or_mine, monitor_enter, monitor_exit, holding}
+use Rattle.dv_machine.specs.Threads.{stays, goes, free_or_mine, monitor_enter, monitor_exit}
 use Rattle.dv_machine.specs.Step.{act, here}
 use Rattle.dv_machine.specs.Conforming.{IsThere, RefsFine, Conform}
-use Rattle.dv_machine.specs.WellTyped.{Typings, own_of, this_above, ThreadFine, MonitorsFine, records, owed}
-use Rattle.dv_machine.specs.Premises.{IsAt, LeftFine, ThrowFine, DidFine, HoldsOf}
+use Rattle.dv_machine.specs.WellTyped.{Typings, own_of, this_above, ThreadFine, MonitorsFine, records}
+use Rattle.dv_machine.specs.Premises.{LeftFine, ThrowFine, DidFine, HoldsOf}
 use Rattle.dv_machine.specs.StepLaws.{MonitorStepsAreFine}
 use Rattle.dv_laws.proofs.GrowthLists.{nothing}
 use Rattle.dv_laws.proofs.GrowthKeeps.{monitors_later}
 use Rattle.dv_laws.proofs.GrowthThreads.{records_after}
-use Rattle.dv_laws.proofs.MonitorsLists.{entry_none}
+use Rattle.dv_laws.proofs.MonitorsOwners.{entry_none}
 use Rattle.dv_laws.proofs.MonitorsFine.{entering_keeps, exiting_keeps}
 use Rattle.dv_laws.proofs.MonitorsMoved.{quiet_moved}
 use Rattle.dv_laws.proofs.FlightFlown.{living_fine, records_of}
-use Rattle.dv_laws.proofs.LocalStands.{Stands, stands, replaced_fine, code_fine, frame_refs, rest_refs}
-use Rattle.dv_laws.proofs.LocalFine.{WaitsHere, quiet}
+use Rattle.dv_laws.proofs.LocalStands.{Stands, stands, replaced_fine, frame_refs, rest_refs}
+use Rattle.dv_laws.proofs.LocalFine.{quiet}
 use Rattle.dv_laws.proofs.ReadersPlain.{reads_reference}
 
 module _ (image : Image) (T : Typings) (m : Machine) (t : ℕ) (thread : Thread) (own : Method) (f : Frame) (rest : List Level) (x : At) (s : RegState) (h : Stands image T m t thread own f rest x s) where

@@ -99,9 +99,9 @@ module _ (image : Image) (h : IsHierarchy image) (ss ts : Types) (b : AreBelow i
   alike : (j k : ℕ) → ((is_int (type_at ts j) && is_int (type_at ts k)) || (is_ref (type_at ts j) && is_ref (type_at ts k))) ≡ true → ((is_int (type_at ss j) && is_int (type_at ss k)) || (is_ref (type_at ss j) && is_ref (type_at ss k))) ≡ true
   alike j k e = elim (or_cases (is_int (type_at ts j) && is_int (type_at ts k)) (is_ref (type_at ts j) && is_ref (type_at ts k)) e) [
     | inl x ↦ (let p = and_parts (is_int (type_at ts j)) (is_int (type_at ts k)) x in
-      or_left (is_int (type_at ss j) && is_int (type_at ss k)) (is_ref (type_at ss j) && is_ref (type_at ss k)) (and_from (is_int (type_at ss j)) (is_int (type_at ss k)) (int_of j p.0) (int_of k p.1)))
+        or_left (is_int (type_at ss j) && is_int (type_at ss k)) (is_ref (type_at ss j) && is_ref (type_at ss k)) (and_from (is_int (type_at ss j)) (is_int (type_at ss k)) (int_of j p.0) (int_of k p.1)))
     | inr x ↦ (let p = and_parts (is_ref (type_at ts j)) (is_ref (type_at ts k)) x in
-      or_right (is_int (type_at ss j) && is_int (type_at ss k)) (is_ref (type_at ss j) && is_ref (type_at ss k)) (and_from (is_ref (type_at ss j)) (is_ref (type_at ss k)) (is_ref_met image h ss ts b j p.0) (is_ref_met image h ss ts b k p.1)))
+        or_right (is_int (type_at ss j) && is_int (type_at ss k)) (is_ref (type_at ss j) && is_ref (type_at ss k)) (and_from (is_ref (type_at ss j)) (is_ref (type_at ss k)) (is_ref_met image h ss ts b j p.0) (is_ref_met image h ss ts b k p.1)))
   ]
 
   pub both_met : (t : Test) (j k : ℕ) → Along (both_for t ts j k) (both_for t ss j k)
@@ -150,7 +150,7 @@ module _ (image : Image) (h : IsHierarchy image) (ss ts : Types) (b : AreBelow i
   put_by m k x ty.UninitThis ty.UninitThis e q = same_along (demand (is_own_field m x) 14)
   put_by m k x ty.UninitThis u e q = no e
   put_by m k x w u e q = λ g. (let r : is_ref (type_at ts k) ≡ true = is_ref_of k (class_type image x.info.class.0) g in
-    put_of_ref m k x u (subst (λ (z : RegType). is_ref z ≡ true) q (is_ref_met image h ss ts b k r)) (ref_to_met image h ss ts b k (class_type image x.info.class.0) g))
+      put_of_ref m k x u (subst (λ (z : RegType). is_ref z ≡ true) q (is_ref_met image h ss ts b k r)) (ref_to_met image h ss ts b k (class_type image x.info.class.0) g))
 
   pub put_receiver_met : (m : Method) (k : ℕ) (x : Field) → Along (put_receiver image m ts k x (type_at ts k)) (put_receiver image m ss k x (type_at ss k))
   put_receiver_met m k x = put_by m k x (type_at ts k) (type_at ss k) (b.each k) refl

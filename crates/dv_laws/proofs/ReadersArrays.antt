@@ -32,7 +32,6 @@ use Rattle.dv_laws.proofs.ReadersPlain.{where_holds, tested_there}
 
 -- ---- what tests of elements take
 
-
 eq_primitive : (a t b : Base) → is_class_base b ≡ false → base_eq a t ≡ true → base_eq t b ≡ true → base_eq a b ≡ true
 eq_primitive base.Z base.Z base.Z p e f = refl
 eq_primitive base.B base.B base.B p e f = refl

@@ -1,6 +1,6 @@
 -- A store of a value that fits its cell leaves the heap in order.
-use Rattle.std.proofs.Common.{◌≡◌, ◌≢◌, ◌⊎◌, inl, inr, ℕ, zero, suc, ◌+◌, ◌<◌, ◌≤◌, List, [], ◌∷◌, length, Bool, true, false, Option, Some, None, refl, sym, ap, ◌∙◌, subst, arith}
-use Rattle.std.specs.Prelude.{slice_get, slice_set, slice_index_or, pred, All}
+use Rattle.std.proofs.Common.{◌≡◌, ◌≢◌, ◌⊎◌, inl, inr, ℕ, zero, suc, ◌<◌, ◌≤◌, List, [], length, true, Some, refl, sym, ap, ◌∙◌, subst, arith}
+use Rattle.std.specs.Prelude.{slice_set, slice_index_or}
 use Rattle.std.proofs.lemmas.Bool.{cases_eq, cases_lt}
 use Rattle.std.proofs.lemmas.List.{length-set, get_or-set_same, get_or-set_other, set_past}
 use Rattle.std.proofs.lemmas.Option.{slice_get_within}
@@ -13,7 +13,7 @@ use Rattle.dv_defs.specs.RegTypes.{Types, type_at, reg_types}
 use Rattle.dv_defs.specs.Heap.{Heap, Cells, kind_of, cells_at, with_cell, with_static, length_of}
 use Rattle.dv_machine.specs.State.{reg_at}
 use Rattle.dv_machine.specs.Conforming.{Conforms}
-use Rattle.dv_machine.specs.WellTyped.{nobody, cell_types, CellsFit, HeapFine}
+use Rattle.dv_machine.specs.WellTyped.{nobody, cell_types, CellsFit}
 use Rattle.dv_machine.specs.StepLaws.{StoreKeeps, StaticStoreKeeps}
 use Rattle.dv_laws.proofs.GrowthLists.{same_some}
 use Rattle.dv_laws.proofs.HeapCells.{same_cell_types, fit_grown, fit_same}

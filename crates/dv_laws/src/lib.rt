@@ -2,14 +2,17 @@
 //! Each law is the contract of a function that does nothing.
 #![tactic(auto)]
 
-pub mod heap;
-pub mod threads;
-pub mod exceptions;
-pub mod calls;
-pub mod local;
-pub mod registers;
 mod bridge;
+pub mod calls;
+pub mod exceptions;
+pub mod heap;
+pub mod local;
 mod order;
+pub mod registers;
+pub mod threads;
 
 pub use bridge::{acceptance_gives_records, bridge_holds, examples_are_accepted, look_ups_find};
-pub use order::{conformity_goes_up, demand_is_antitone, states_are_ordered, transfer_is_monotone, types_are_ordered};
+pub use order::{
+    conformity_goes_up, demand_is_antitone, states_are_ordered, transfer_is_monotone,
+    types_are_ordered,
+};

@@ -1,5 +1,5 @@
 // The laws of monitors and threads.
-ghost use Rattle.dv_machine.specs.StepLaws.{LeftIsWellTyped, MonitorStepsAreFine};
+ghost use Rattle.dv_machine.specs.StepLaws.{LeftIsWellTyped, MonitorStepsAreFine, NeedsAreFine, RecordsAreFine, NewThreadIsFine};
 ghost use Rattle.dv_laws.specs.MonitorLaws.{EnteringKeeps, ExitingKeeps, WaitingKeeps, NotifyingKeeps, ResumingKeeps};
 
 /// Monitors stay in order when one is entered or exited, when a thread waits, is notified, or takes its monitor back.
@@ -19,4 +19,19 @@ pub fn left_states_are_well_typed()
 /// An instruction that enters or exits a monitor is fine.
 pub fn monitor_steps_are_fine()
     ensures law { MonitorStepsAreFine }
+{}
+
+/// An instruction whose class isn't ready begins its initialisation, waits for it or throws, which is fine.
+pub fn needs_are_fine()
+    ensures law { NeedsAreFine }
+{}
+
+/// A step of a class's record is fine.
+pub fn records_are_fine()
+    ensures law { RecordsAreFine }
+{}
+
+/// A thread that is started, on an object whose class has a run method, is in order.
+pub fn new_threads_are_fine()
+    ensures law { NewThreadIsFine }
 {}

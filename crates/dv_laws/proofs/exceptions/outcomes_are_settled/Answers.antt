@@ -1,3 +1,4 @@
+-- The clauses of `outcomes_are_settled`, each by its lemma.
 use Rattle.dv_laws.proofs.FlightFlown.{settled_is_well_typed, settled_record_is_well_typed}
 use Rattle.dv_laws.proofs.exceptions.outcomes_are_settled.Goals as goal
 

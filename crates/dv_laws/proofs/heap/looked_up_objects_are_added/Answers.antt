@@ -1,3 +1,4 @@
+-- The clauses of `looked_up_objects_are_added`, each by its lemma.
 use Rattle.dv_laws.proofs.HeapInterned.{string_is_interned, class_object_is_got}
 use Rattle.dv_laws.proofs.heap.looked_up_objects_are_added.Goals as goal
 

@@ -1,3 +1,4 @@
+-- The clauses of `stores_keep`, each by its lemma.
 use Rattle.dv_laws.proofs.Stores.{store_keeps, static_store_keeps}
 use Rattle.dv_laws.proofs.heap.stores_keep.Goals as goal
 
