@@ -65,3 +65,4 @@ pub mod CallsInvoked
 pub mod CallsInstance
 pub mod CallsConstructors
 pub mod RecordsNeeded
+pub mod CallsFine
