@@ -49,7 +49,7 @@ same_invoke c d ks js g k e = record { call = cc; callee = cc }
 module _ (image : Image) (T : Typings) (m : Machine) (t : ℕ) (thread : Thread) (own : Method) (f : Frame) (rest : List Level) (x : At) (s : RegState) (h : Stands image T m t thread own f rest x s) where
   -- ---- throwing, and waiting
 
-  no_entry : IsQuiet image m t → entry_of m.shared.monitors t ≡ None
+  pub no_entry : IsQuiet image m t → entry_of m.shared.monitors t ≡ None
   no_entry q = entry_none t m.shared.monitors.waits (λ k d l. q _ (h.may.typed.monitors.waits k d l))
 
   module _ (c : Call) (ks : List ℕ) (g : Method) (e : x.op ≡ Invoke c ks g) where

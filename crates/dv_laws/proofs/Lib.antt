@@ -66,3 +66,4 @@ pub mod CallsInstance
 pub mod CallsConstructors
 pub mod RecordsNeeded
 pub mod CallsFine
+pub mod NativesShared
