@@ -59,6 +59,13 @@ pub mod OrderAntitone
 pub mod OrderSatisfied
 pub mod CallsClasses
 pub mod CallsPushed
+pub mod CallsDispatched
+pub mod CallsWords
+pub mod CallsInvoked
+pub mod CallsInstance
+pub mod CallsConstructors
 pub mod RecordsNeeded
 pub mod OpeningHeap
 pub mod OpeningState
+pub mod CallsFine
+pub mod NativesShared

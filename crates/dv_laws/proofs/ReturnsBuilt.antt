@@ -59,7 +59,7 @@ module _ (image : Image) (T : Typings) (a : Accepted image T) (heap : Heap) wher
   proper_class : (n c : ℕ) (g : Method) → method_at image n ≡ Some g → is_constructor g ≡ true → c ≡ g.info.class.0 → is_proper image (kind.Object (record { 0 = c })) ≡ true
   proper_class n c g e k q = ap (λ z. not (is_string_or_class (name_at image z))) q ∙ ap not (a.boot.no_bare n g e k)
 
-  exactly_is : (o : Option ℕ) (c d : ℕ) → o ≡ Some c → is_exactly o d ≡ true → c ≡ d
+  pub exactly_is : (o : Option ℕ) (c d : ℕ) → o ≡ Some c → is_exactly o d ≡ true → c ≡ d
   exactly_is None c d e q = no q
   exactly_is (Some b) c d e q = sym (some_same b c e) ∙ same_number b d q
 

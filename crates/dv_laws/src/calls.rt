@@ -1,5 +1,4 @@
 // The laws of calls and returns.
-ghost use Rattle.std.specs.Prelude.{◌≡◌, ℕ};
 ghost use Rattle.dv_machine.specs.StepLaws.{EntryConforms, ReturnsPop};
 ghost use Rattle.dv_laws.specs.Reading.{ReadsValue, ReadsArguments, WordsPend};
 ghost use Rattle.dv_laws.specs.Returning.{ReturnedConforms};
@@ -32,9 +31,4 @@ pub fn entry_conforms()
 /// That a return is fine: it isn't stuck, and the caller's frame is in order after it; it does nothing.
 pub fn returns_pop()
     ensures law { ReturnsPop }
-{}
-
-/// try
-pub fn try_it()
-    ensures { (n : ℕ) → n ≡ n }
 {}
