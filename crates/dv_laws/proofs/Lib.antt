@@ -69,3 +69,4 @@ pub mod OpeningHeap
 pub mod OpeningState
 pub mod CallsFine
 pub mod NativesShared
+pub mod SoundSteps

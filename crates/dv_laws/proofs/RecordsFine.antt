@@ -81,7 +81,7 @@ module _ (image : Image) (T : Typings) (m : Machine) (t : ℕ) (thread : Thread)
   mine = records_of image T m t thread _ w has levels
 
   -- what stands below it, in order whether or not it is the opening's
-  rest_fine : StackFine image T m.shared.heap t None rest
+  pub rest_fine : StackFine image T m.shared.heap t None rest
   rest_fine = go (is_opening image t c rest) fine.1.1
     where
       go : (b : Bool) → (elim b as (λ x. Type 0) [ true ↦ StackFine image T m.shared.heap t None rest | false ↦ StackFine image T m.shared.heap t None rest ]) → StackFine image T m.shared.heap t None rest
