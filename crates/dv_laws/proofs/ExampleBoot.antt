@@ -21,7 +21,7 @@ use Rattle.dv_machine.specs.Accepted.{IsNamed, HasBoot}
 use Rattle.dv_laws.proofs.OrderTypes.{names_are, reg_type_is}
 use Rattle.dv_laws.proofs.BridgeStatics.{all_none, all_more}
 use Rattle.dv_laws.proofs.ExampleTests.{all_below, below_is, from_or, is_there, if_some, some_is}
-use Rattle.dv_laws.proofs.ExampleMembers.{are_fields_fine, are_methods_fine, not_bare, out_is}
+use Rattle.dv_laws.proofs.ExampleMembers.{are_fields_fine, are_methods_fine, not_bare, out_is, placed_is}
 
 -- ---- names
 
@@ -105,5 +105,6 @@ boot_by image e f m =
       no_bare = not_bare image m;
       alone = λ c p s h. alone_is image c p r.0 s h;
       cause = reg_type_is (type_at (class_cells image (number_named image (exception_name named.InInitializer))) (throwable_slot image (codes "cause"))) (ty.Class (of_class throwable_name)) r.1;
+      no_fields = placed_is image f;
       out = out_is image f;
     }

@@ -45,9 +45,17 @@ abbrev pub parent_or : Option ℕ → Bool → Bool
 parent_or None b = b
 parent_or (Some p) b = true
 
+abbrev pub is_word : List ℕ → Bool
+is_word [] = false
+is_word (c ∷ cs) = true
+
+word_is : (name : List ℕ) → is_word name ≡ true → name ≡ [] → ⊥
+word_is [] w e = no w
+word_is (c ∷ cs) w e = cc
+
 -- its name is told once, it has a superclass or is Object, and an interface stands right under Object
 abbrev pub class_fine : Image → ℕ → Bool
-class_fine image c = is_found (class_named image (name_at image c)) c && (parent_or (parent_at image c) (bytes_eq (name_at image c) object_name) && ((not (is_interface image c) || if_some (λ p. bytes_eq (name_at image p) object_name) (parent_at image c)) && all_of (is_interface image) (interfaces_of (slice_get image.classes c))))
+class_fine image c = is_found (class_named image (name_at image c)) c && (parent_or (parent_at image c) (bytes_eq (name_at image c) object_name) && ((not (is_interface image c) || if_some (λ p. bytes_eq (name_at image p) object_name) (parent_at image c)) && (all_of (is_interface image) (interfaces_of (slice_get image.classes c)) && is_word (name_at image c))))
 
 abbrev pub is_hierarchy_by : Image → List ℕ → Bool
 is_hierarchy_by image places = all_below (λ c. stands_after image places c && class_fine image c) (length image.classes)
@@ -83,16 +91,19 @@ module _ (image : Image) (places : List ℕ) (e : is_hierarchy_by image places �
     root : parent_or (parent_at image c) (bytes_eq (name_at image c) object_name) ≡ true
     flat : (not (is_interface image c) || if_some (λ p. bytes_eq (name_at image p) object_name) (parent_at image c)) ≡ true
     interfaces : all_of (is_interface image) (interfaces_of (slice_get image.classes c)) ≡ true
+    named : is_word (name_at image c) ≡ true
 
   class_tested : (c : ℕ) → c < length image.classes → ClassTested c
   class_tested c l =
       let flat : Bool = not (is_interface image c) || if_some (λ p. bytes_eq (name_at image p) object_name) (parent_at image c) in
       let faces : Bool = all_of (is_interface image) (interfaces_of (slice_get image.classes c)) in
       let root : Bool = parent_or (parent_at image c) (bytes_eq (name_at image c) object_name) in
-      let p = and_parts (is_found (class_named image (name_at image c)) c) (root && (flat && faces)) (tested c l).1 in
-      let q = and_parts root (flat && faces) p.1 in
-      let r = and_parts flat faces q.1 in
-      record { found = p.0; root = q.0; flat = r.0; interfaces = r.1 }
+      let word : Bool = is_word (name_at image c) in
+      let p = and_parts (is_found (class_named image (name_at image c)) c) (root && (flat && (faces && word))) (tested c l).1 in
+      let q = and_parts root (flat && (faces && word)) p.1 in
+      let r = and_parts flat (faces && word) q.1 in
+      let w = and_parts faces word r.1 in
+      record { found = p.0; root = q.0; flat = r.0; interfaces = w.0; named = w.1 }
 
   found_once : (o : Option ℕ) (c : ℕ) → is_found o c ≡ true → o ≡ Some c
   found_once None c h = no h
@@ -122,6 +133,7 @@ module _ (image : Image) (places : List ℕ) (e : is_hierarchy_by image places �
     inside = λ c d h. (above_tested c d h).0;
     rises = λ c d h. (above_tested c d h).1;
     once = λ c l. found_once (class_named image (name_at image c)) c (class_tested c l).found;
+    named = λ c l. word_is (name_at image c) (class_tested c l).named;
     root = λ c l n. root_named (parent_at image c) (name_at image c) (class_tested c l).root n;
     interfaces = λ c p m h. names_are (name_at image p) object_name (some_is (λ x. bytes_eq (name_at image x) object_name) (parent_at image c) p (from_or (is_interface image c) (if_some (λ x. bytes_eq (name_at image x) object_name) (parent_at image c)) (class_tested c (interface_inside c m)).flat m) h);
     superinterfaces = λ c d h. all_of_is (is_interface image) (interfaces_of (slice_get image.classes c)) d (class_tested c (listed_inside c d h)).interfaces h;

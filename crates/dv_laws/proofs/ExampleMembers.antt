@@ -8,7 +8,7 @@ use Rattle.dv_defs.specs.declared.image.Image.{Image}
 use Rattle.dv_defs.specs.declared.image.FieldInfo.{FieldInfo}
 use Rattle.dv_defs.specs.declared.image.MethodInfo.{MethodInfo}
 use Rattle.dv_defs.specs.declared.run.Native.{Native}
-use Rattle.dv_defs.specs.Names.{system_name, stream_name}
+use Rattle.dv_defs.specs.Names.{object_name, system_name, stream_name}
 use Rattle.dv_defs.specs.Field.{may_stand}
 use Rattle.dv_defs.specs.Types.{of_class, ty_eq, same_types, same_proto, words_of}
 use Rattle.dv_defs.specs.Pools.{Method, Field, with_info, with_field_info, method_at, field_at, is_static, is_static_field, is_constructor, is_abstract, is_interface, class_type, name_at}
@@ -42,8 +42,12 @@ has_slots image f = is_static_field f || (is_interface image f.info.class.0 || a
 abbrev pub is_out : Image → Field → Bool
 is_out image f = not (bytes_eq (name_at image f.info.class.0) system_name && bytes_eq f.def.name (codes "out")) || (is_static_field f && ty_eq f.def.ty (of_class stream_name))
 
+-- Object, String and Class declare no instance field
+abbrev pub is_placed : Image → Field → Bool
+is_placed image f = is_static_field f || not (bytes_eq (name_at image f.info.class.0) object_name || is_string_or_class (name_at image f.info.class.0))
+
 abbrev pub is_field_fine : Image → Field → Bool
-is_field_fine image f = has_slots image f && (nat_lt f.info.class.0 (length image.classes) && (may_stand f.def.init f.def.ty f.def.flags && is_out image f))
+is_field_fine image f = has_slots image f && (nat_lt f.info.class.0 (length image.classes) && (may_stand f.def.init f.def.ty f.def.flags && (is_out image f && is_placed image f)))
 
 abbrev pub are_fields_fine : Image → Bool
 are_fields_fine image = all_below (λ x. if_some (is_field_fine image) (field_at image x)) (length image.fields)
@@ -64,13 +68,15 @@ module _ (image : Image) (e : are_fields_fine image ≡ true) where
     inside : nat_lt f.info.class.0 (length image.classes) ≡ true
     init : may_stand f.def.init f.def.ty f.def.flags ≡ true
     out : is_out image f ≡ true
+    placed : is_placed image f ≡ true
 
   field_parts : (x : ℕ) (f : Field) → field_at image x ≡ Some f → FieldTested f
   field_parts x f h =
-      let p = and_parts (has_slots image f) (nat_lt f.info.class.0 (length image.classes) && (may_stand f.def.init f.def.ty f.def.flags && is_out image f)) (field_tested x f h) in
-      let q = and_parts (nat_lt f.info.class.0 (length image.classes)) (may_stand f.def.init f.def.ty f.def.flags && is_out image f) p.1 in
-      let r = and_parts (may_stand f.def.init f.def.ty f.def.flags) (is_out image f) q.1 in
-      record { slots = p.0; inside = q.0; init = r.0; out = r.1 }
+      let p = and_parts (has_slots image f) (nat_lt f.info.class.0 (length image.classes) && (may_stand f.def.init f.def.ty f.def.flags && (is_out image f && is_placed image f))) (field_tested x f h) in
+      let q = and_parts (nat_lt f.info.class.0 (length image.classes)) (may_stand f.def.init f.def.ty f.def.flags && (is_out image f && is_placed image f)) p.1 in
+      let r = and_parts (may_stand f.def.init f.def.ty f.def.flags) (is_out image f && is_placed image f) q.1 in
+      let w = and_parts (is_out image f) (is_placed image f) r.1 in
+      record { slots = p.0; inside = q.0; init = r.0; out = w.0; placed = w.1 }
 
   slot_kept : (c x : ℕ) (f : Field) → field_at image x ≡ Some f → is_static_field f ≡ false → is_interface image f.info.class.0 ≡ false → c < length image.classes → instance image (class_type image c) (class_type image f.info.class.0) ≡ true → (j : ℕ) → j < words_of f.def.ty → type_at (class_cells image c) (f.info.slot + j) ≡ type_at (reg_types f.def.ty) j
   slot_kept c x f h static face l u j k =
@@ -93,6 +99,9 @@ module _ (image : Image) (e : are_fields_fine image ≡ true) where
       let named : (bytes_eq (name_at image f.info.class.0) system_name && bytes_eq f.def.name (codes "out")) ≡ true = and_from (bytes_eq (name_at image f.info.class.0) system_name) (bytes_eq f.def.name (codes "out")) (names_equal (name_at image f.info.class.0) system_name a) (names_equal f.def.name (codes "out") b) in
       let p = and_parts (is_static_field f) (ty_eq f.def.ty (of_class stream_name)) (from_or (bytes_eq (name_at image f.info.class.0) system_name && bytes_eq f.def.name (codes "out")) (is_static_field f && ty_eq f.def.ty (of_class stream_name)) (field_parts x f h).out named) in
       (p.0, ty_is f.def.ty (of_class stream_name) p.1)
+
+  pub placed_is : (x : ℕ) (f : Field) → field_at image x ≡ Some f → is_static_field f ≡ false → (bytes_eq (name_at image f.info.class.0) object_name || is_string_or_class (name_at image f.info.class.0)) ≡ false
+  placed_is x f h static = not-true (bytes_eq (name_at image f.info.class.0) object_name || is_string_or_class (name_at image f.info.class.0)) (or_else (is_static_field f) (not (bytes_eq (name_at image f.info.class.0) object_name || is_string_or_class (name_at image f.info.class.0))) (field_parts x f h).placed static)
 
 -- ---- methods
 

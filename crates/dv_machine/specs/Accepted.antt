@@ -1,5 +1,5 @@
 -- What the laws take of an accepted image, made once of its linking and of a typing of each method.
-use Rattle.std.specs.Prelude.{◌≡◌, ◌≤◌, ◌<◌, ℕ, ◌+◌, true, false, List, [], ◌∷◌, length, Some, None, slice_get, All, codes}
+use Rattle.std.specs.Prelude.{◌≡◌, ◌≢◌, ◌||◌, ◌≤◌, ◌<◌, ℕ, ◌+◌, true, false, List, [], ◌∷◌, length, Some, None, slice_get, All, bytes_eq, codes}
 use Rattle.dv_defs.specs.declared.names.Ty.{Ty}
 use Rattle.dv_defs.specs.declared.names.Proto.{Proto}
 use Rattle.dv_defs.specs.declared.code.Body.{Body}
@@ -50,6 +50,8 @@ pub record IsHierarchy (image : Image) : Type 0 where
   pub inside : (c d : ℕ) → has_number d (above image c) ≡ true → d < length image.classes
   pub rises : (c d : ℕ) → has_number d (above image c) ≡ true → place d < place c
   pub once : (c : ℕ) → c < length image.classes → class_named image (name_at image c) ≡ Some c
+  -- a class that is there has a name
+  pub named : (c : ℕ) → c < length image.classes → name_at image c ≢ []
   -- only Object has no superclass, and an interface's is Object
   pub root : (c : ℕ) → c < length image.classes → parent_at image c ≡ None → name_at image c ≡ object_name
   pub interfaces : (c p : ℕ) → is_interface image c ≡ true → parent_at image c ≡ Some p → name_at image p ≡ object_name
@@ -110,6 +112,8 @@ pub record HasBoot (image : Image) : Type 0 where
   -- String and Class have no constructor, and no class but Object above them: so no reference is to a bare object of theirs
   pub no_bare : (n : ℕ) (m : Method) → method_at image n ≡ Some m → is_constructor m ≡ true → is_string_or_class (name_at image m.info.class.0) ≡ false
   pub alone : (c p : ℕ) → is_string_or_class (name_at image c) ≡ true → parent_at image c ≡ Some p → name_at image p ≡ object_name
+  -- they and Object declare no instance field: strings, Class objects and arrays have no cell for one
+  pub no_fields : (x : ℕ) (f : Field) → field_at image x ≡ Some f → is_static_field f ≡ false → (bytes_eq (name_at image f.info.class.0) object_name || is_string_or_class (name_at image f.info.class.0)) ≡ false
   pub cause : type_at (class_cells image (number_named image (exception_name named.InInitializer))) (throwable_slot image (codes "cause")) ≡ ty.Class (of_class throwable_name)
   -- System.out, the one static field that the opening fills
   pub out : (x : ℕ) (f : Field) → field_at image x ≡ Some f → name_at image f.info.class.0 ≡ system_name → f.def.name ≡ codes "out" → (is_static_field f ≡ true) × (f.def.ty ≡ of_class stream_name)
