@@ -67,3 +67,4 @@ pub mod CallsConstructors
 pub mod RecordsNeeded
 pub mod CallsFine
 pub mod NativesShared
+pub mod NativesPlain
