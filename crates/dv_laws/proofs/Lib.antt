@@ -68,3 +68,5 @@ pub mod RecordsNeeded
 pub mod CallsFine
 pub mod NativesShared
 pub mod NativesPlain
+pub mod NativesMonitors
+pub mod CallsPush
