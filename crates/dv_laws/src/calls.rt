@@ -1,5 +1,5 @@
 // The laws of calls and returns.
-ghost use Rattle.dv_machine.specs.StepLaws.{EntryConforms, ReturnsPop};
+ghost use Rattle.dv_machine.specs.StepLaws.{EntryConforms, InvokesPush, ReturnsPop};
 ghost use Rattle.dv_laws.specs.Reading.{ReadsValue, ReadsArguments, WordsPend};
 ghost use Rattle.dv_laws.specs.Returning.{ReturnedConforms};
 
@@ -31,4 +31,9 @@ pub fn entry_conforms()
 /// That a return is fine: it isn't stuck, and the caller's frame is in order after it; it does nothing.
 pub fn returns_pop()
     ensures law { ReturnsPop }
+{}
+
+/// That an invoke is fine: it isn't stuck, it pushes a frame in order or does what a native does, and leaves all else in order; it does nothing.
+pub fn invokes_push()
+    ensures law { InvokesPush }
 {}
