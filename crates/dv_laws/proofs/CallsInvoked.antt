@@ -68,15 +68,17 @@ module _ (image : Image) (T : Typings) (m : Machine) (t : ℕ) (thread : Thread)
     waits_at : (o : ℕ) → WaitsHere image T m t thread own f rest x s h o → (p : ℕ) × WaitsAt p
     waits_at zero w = no (w.there)
     waits_at (suc o) w =
-        let same = same_invoke w.call c w.args ks w.callee g (sym w.is_invoke ∙ e) in
-        (o, record {
-          receiver = w.receiver;
-          has_receiver = ap receiver_of (sym e) ∙ w.has_receiver;
-          holds = w.holds;
-          landed = w.landed;
-          lands = ap (λ z. dispatch image m.shared.heap own z g (suc o)) (sym same.call) ∙ ap (λ z. dispatch image m.shared.heap own w.call z (suc o)) (sym same.callee) ∙ w.lands;
-          is_wait = w.is_wait;
-        })
+        let same = same_invoke w.call c w.args ks w.callee g (sym w.is_invoke ∙ e) in (
+          o,
+          record {
+            receiver = w.receiver;
+            has_receiver = ap receiver_of (sym e) ∙ w.has_receiver;
+            holds = w.holds;
+            landed = w.landed;
+            lands = ap (λ z. dispatch image m.shared.heap own z g (suc o)) (sym same.call) ∙ ap (λ z. dispatch image m.shared.heap own w.call z (suc o)) (sym same.callee) ∙ w.lands;
+            is_wait = w.is_wait;
+          },
+        )
 
     pub quiet_at : ((o : ℕ) → WaitsAt o → ⊥) → IsQuiet image m t
     quiet_at n = quiet image T m t thread own f rest x s h (λ o w. let q = waits_at o w in n q.0 q.1)

@@ -65,8 +65,11 @@ pub mod CallsInvoked
 pub mod CallsInstance
 pub mod CallsConstructors
 pub mod RecordsNeeded
+pub mod OpeningHeap
+pub mod OpeningState
 pub mod CallsFine
 pub mod NativesShared
 pub mod NativesPlain
 pub mod NativesMonitors
 pub mod CallsPush
+pub mod SoundSteps

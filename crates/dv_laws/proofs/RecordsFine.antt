@@ -41,10 +41,13 @@ use Rattle.dv_laws.proofs.RecordsEntered.{none_good, refs_entered, entered_code,
 abbrev receiver_by : Image → Method → Bool → Types
 receiver_by image m b = elim b [ true ↦ [] | false ↦ elim (begins_uninitialised image m) [ true ↦ ty.UninitThis ∷ [] | false ↦ ty.Class (own_type image m) ∷ [] ] ]
 
-static_args : (image : Image) (m : Method) → is_static m ≡ true → m.def.proto ≡ no_arguments → arg_types image m ≡ []
-static_args image m s p = ap (λ (b : Bool). receiver_by image m b ++ all_types m.def.proto.params) s ∙ ap (λ (q : Proto). all_types q.params) p
+pub static_types : (image : Image) (m : Method) → is_static m ≡ true → arg_types image m ≡ all_types m.def.proto.params
+static_types image m s = ap (λ (b : Bool). receiver_by image m b ++ all_types m.def.proto.params) s
 
-static_begins : (image : Image) (m : Method) → is_static m ≡ true → begins_uninitialised image m ≡ false
+static_args : (image : Image) (m : Method) → is_static m ≡ true → m.def.proto ≡ no_arguments → arg_types image m ≡ []
+static_args image m s p = static_types image m s ∙ ap (λ (q : Proto). all_types q.params) p
+
+pub static_begins : (image : Image) (m : Method) → is_static m ≡ true → begins_uninitialised image m ≡ false
 static_begins image m s = ap (λ (b : Bool). (not b && bytes_eq m.def.name init_name) && not (is_of_object image m)) s
 
 -- ---- a thread whose top level is a record
@@ -78,7 +81,7 @@ module _ (image : Image) (T : Typings) (m : Machine) (t : ℕ) (thread : Thread)
   mine = records_of image T m t thread _ w has levels
 
   -- what stands below it, in order whether or not it is the opening's
-  rest_fine : StackFine image T m.shared.heap t None rest
+  pub rest_fine : StackFine image T m.shared.heap t None rest
   rest_fine = go (is_opening image t c rest) fine.1.1
     where
       go : (b : Bool) → (elim b as (λ x. Type 0) [ true ↦ StackFine image T m.shared.heap t None rest | false ↦ StackFine image T m.shared.heap t None rest ]) → StackFine image T m.shared.heap t None rest

@@ -64,7 +64,7 @@ receiver_by image m a b = elim a [ true ↦ [] | false ↦ elim b [ true ↦ ty.
 receiver_alone : (image : Image) (m : Method) → is_static m ≡ false → begins_uninitialised image m ≡ false → m.def.proto ≡ no_arguments → arg_types image m ≡ ty.Class (own_type image m) ∷ []
 receiver_alone image m s b p = ap (λ (q : Proto). receiver_type image m ++ all_types q.params) p ∙ ap (λ (ts : Types). ts ++ []) (ap (λ (x : Bool). receiver_by image m x (begins_uninitialised image m)) s ∙ ap (receiver_by image m false) b)
 
-one_good : (image : Image) (heap : Heap) (own : Own) (o : ℕ) (t : Ty) → Fits image heap o t → IsGood image heap own (v.Ref o ∷ []) (ty.Class t ∷ [])
+pub one_good : (image : Image) (heap : Heap) (own : Own) (o : ℕ) (t : Ty) → Fits image heap o t → IsGood image heap own (v.Ref o ∷ []) (ty.Class t ∷ [])
 one_good image heap own o t f = record { regs = regs; count = refl; apart = λ j k u w. absurd (plain j u) }
   where
     regs : (k : ℕ) → Conforms image heap own (reg_at (v.Ref o ∷ []) k) (type_at (ty.Class t ∷ []) k)
@@ -75,7 +75,7 @@ one_good image heap own o t f = record { regs = regs; count = refl; apart = λ j
     plain zero u = u
     plain (suc j) u = u
 
-fits_of : (image : Image) (heap : Heap) (o : ℕ) (t : Ty) → IsOf image heap o t → Fits image heap o t
+pub fits_of : (image : Image) (heap : Heap) (o : ℕ) (t : Ty) → IsOf image heap o t → Fits image heap o t
 fits_of image heap zero t i = tt
 fits_of image heap (suc o) t i = i
 

@@ -7,8 +7,10 @@ pub mod calls;
 pub mod exceptions;
 pub mod heap;
 pub mod local;
+pub mod opening;
 mod order;
 pub mod registers;
+pub mod sound;
 pub mod threads;
 
 pub use bridge::{acceptance_gives_records, bridge_holds, examples_are_accepted, look_ups_find};
