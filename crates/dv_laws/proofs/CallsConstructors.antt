@@ -34,14 +34,14 @@ use Rattle.dv_machine.specs.Conforming.{Own, IsOf, IsThere, IsThis, IsGood, Conf
 use Rattle.dv_machine.specs.WellTyped.{Typings, own_of, this_above, called_on}
 use Rattle.dv_machine.specs.Accepted.{Accepted}
 use Rattle.dv_machine.specs.Premises.{DidFine, HoldsOf}
-use Rattle.dv_laws.specs.Reading.{AreWords}
+use Rattle.dv_laws.specs.Reading.{AreWords, IsUnder, ReadsReceiver}
 use Rattle.dv_laws.proofs.Demanding.{no, first_none, demanded, both_true, either_true, eq_true}
 use Rattle.dv_laws.proofs.RegistersMade.{of_fits}
 use Rattle.dv_laws.proofs.RegistersAbove.{same_number}
 use Rattle.dv_laws.proofs.CallsEntered.{some_same}
 use Rattle.dv_laws.proofs.ReturnsConstructed.{receiver_demanded, not_static}
 use Rattle.dv_laws.proofs.ReturnsBuilt.{IsProperAt, receiver_proper, receiver_there, this_proper, exactly_is}
-use Rattle.dv_laws.proofs.ReturnsFine.{read_did}
+use Rattle.dv_laws.proofs.LocalFine.{read_did}
 use Rattle.dv_laws.proofs.ReadersWords.{reads_arguments, cons_good, this_good}
 use Rattle.dv_laws.proofs.LocalStill.{IsQuiet}
 use Rattle.dv_laws.proofs.LocalStands.{Stands}
@@ -54,12 +54,6 @@ use Rattle.dv_laws.proofs.CallsInvoked.{receiver_is, quiet_at, throws, called_by
 use Rattle.dv_laws.proofs.CallsInstance.{invoke_demand, callee_number, callee_there}
 
 -- ---- the receiver
-
--- an object of a class under a type
-pub record IsUnder (image : Image) (heap : Heap) (t : Ty) (o : ℕ) : Type 0 where
-  pub class : ℕ
-  pub has_kind : kind_of heap o ≡ Some (kind.Object (record { 0 = class }))
-  pub under : sub image (class_type image class) t ≡ true
 
 module _ (image : Image) (T : Typings) (a : Accepted image T) (heap : Heap) (own g : Method) (has_own : (n : ℕ) × (method_at image n ≡ Some own)) where
   -- the own class or its superclass
@@ -92,6 +86,9 @@ module _ (image : Image) (T : Typings) (a : Accepted image T) (heap : Heap) (own
   new_holds this x (ty.Uninit d) c q = absurd c
   new_holds this x ty.UninitThis c q = absurd c
   new_holds this x t c q = absurd (cc)
+
+pub reads_receiver : ReadsReceiver
+reads_receiver image T heap this n own g xs ts k a there h d = new_holds image T a heap own g (n, there) this (reg_at xs k) (type_at ts k) (h k) d
 
 -- ---- the call
 

@@ -36,7 +36,7 @@ use Rattle.dv_laws.proofs.Demanding.{no, first_none, both_true, not_true}
 use Rattle.dv_laws.proofs.CallsEntered.{code_is}
 use Rattle.dv_laws.proofs.CallsResolved.{is_named}
 use Rattle.dv_laws.proofs.ReturnsBuilt.{invoke_named}
-use Rattle.dv_laws.proofs.ReturnsFine.{read_did}
+use Rattle.dv_laws.proofs.LocalFine.{read_did}
 use Rattle.dv_laws.proofs.ReadersPlain.{reads_reference_to, holds_more}
 use Rattle.dv_laws.proofs.ReadersWords.{IsWord, reads_arguments}
 use Rattle.dv_laws.proofs.LocalStill.{IsQuiet}

@@ -23,7 +23,8 @@ use Rattle.dv_laws.proofs.LocalStands.{Stands, stands}
 use Rattle.dv_laws.proofs.CallsInvoked.{NativesDo}
 use Rattle.dv_laws.proofs.CallsFine.{invoke_fine}
 use Rattle.dv_laws.proofs.NativesPlain.{current_fine, length_fine, char_fine, equals_fine, concat_fine, of_long_fine, of_chars_fine, print_fine, println_fine, join_fine}
-use Rattle.dv_laws.proofs.NativesMonitors.{wait_fine, notify_fine, notify_all_fine, start_fine}
+use Rattle.dv_laws.proofs.NativesMonitors.{wait_fine, notify_fine, notify_all_fine}
+use Rattle.dv_laws.proofs.NativesStarted.{start_fine}
 
 module _ (image : Image) (T : Typings) (m : Machine) (t : ℕ) (thread : Thread) (own : Method) (f : Frame) (rest : List Level) (x : At) (s : RegState) (h : Stands image T m t thread own f rest x s) (c : Call) (ks : List ℕ) (g : Method) (e : x.op ≡ Invoke c ks g) where
   natives_do : NativesDo image T m t thread own f rest x s h c ks g e

@@ -1,6 +1,6 @@
 // The laws of calls and returns.
 ghost use Rattle.dv_machine.specs.StepLaws.{EntryConforms, InvokesPush, ReturnsPop};
-ghost use Rattle.dv_laws.specs.Reading.{ReadsValue, ReadsArguments, WordsPend};
+ghost use Rattle.dv_laws.specs.Reading.{ReadsValue, ReadsArguments, ReadsReceiver, WordsPend};
 ghost use Rattle.dv_laws.specs.Returning.{ReturnedConforms};
 
 /// That a caller's frame conforms to the state after its invoke once the call has returned; it does nothing.
@@ -16,6 +16,11 @@ pub fn reads_value()
 /// That the arguments of a call are read by the method's parameters where the verifier demanded such; it does nothing.
 pub fn reads_arguments()
     ensures law { ReadsArguments }
+{}
+
+/// That the receiver of a constructor is read, of a class under the constructor's, where the verifier demanded one; it does nothing.
+pub fn reads_receiver()
+    ensures law { ReadsReceiver }
 {}
 
 /// That the words of a result are pending as the result type says; it does nothing.
