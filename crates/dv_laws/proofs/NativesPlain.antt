@@ -1,7 +1,6 @@
 -- Natives that give a value, make a string or print.
-use Rattle.std.proofs.Common.{◌≡◌, ◌⊎◌, inl, inr, ℕ, zero, suc, ◌+◌, ◌++◌, List, [], ◌∷◌, length, Bool, true, false, Option, Some, None, refl, sym, ap, ◌∙◌, subst}
-use Rattle.std.specs.Prelude.{ℤ, pos, negsuc, slice_get, nat_le, take, drop, bytes_eq}
-use Rattle.std.specs.Fmt.{signed_decimal}
+use Rattle.std.proofs.Common.{◌≡◌, ℕ, zero, suc, ◌+◌, ◌++◌, List, length, Bool, true, false, Option, Some, None, refl, sym, subst}
+use Rattle.std.specs.Prelude.{ℤ, pos, negsuc, slice_get, nat_le, take, drop}
 use Rattle.dv_defs.specs.declared.image.Image.{Image}
 use Rattle.dv_defs.specs.declared.run.Value.{Value}
 use Rattle.dv_defs.specs.declared.run.Value.TheVariants as v
@@ -10,26 +9,23 @@ use Rattle.dv_defs.specs.declared.run.Native.{Native}
 use Rattle.dv_defs.specs.declared.run.Native.TheVariants as native
 use Rattle.dv_defs.specs.declared.machine.Pending.TheVariants as pending
 use Rattle.dv_defs.specs.declared.machine.Frame.{Frame}
-use Rattle.dv_defs.specs.declared.machine.Kind.{Kind}
 use Rattle.dv_defs.specs.declared.machine.Kind.TheVariants as kind
 use Rattle.dv_defs.specs.declared.machine.Level.{Level}
-use Rattle.dv_defs.specs.declared.machine.Level.TheVariants as level
 use Rattle.dv_defs.specs.declared.typing.RegState.{RegState}
-use Rattle.dv_defs.specs.Numbers.{long_of}
 use Rattle.dv_defs.specs.Parts.{Call}
-use Rattle.dv_defs.specs.Names.{string_name, thread_name}
+use Rattle.dv_defs.specs.Names.{thread_name}
 use Rattle.dv_defs.specs.Types.{of_class}
 use Rattle.dv_defs.specs.Pools.{Method}
-use Rattle.dv_defs.specs.Op.{Op, Invoke}
+use Rattle.dv_defs.specs.Op.{Invoke}
 use Rattle.dv_defs.specs.Statics.{At}
 use Rattle.dv_defs.specs.Transfer.{pending_of}
-use Rattle.dv_defs.specs.Heap.{Heap, kind_of, newest, alloc_string, cells_at, length_of}
-use Rattle.dv_machine.specs.State.{Thread, Machine, Left, Did, Throws, NoOutput, NoWords, where_room, where_true, truth, with_result, with_output, Here}
+use Rattle.dv_defs.specs.Heap.{Heap, newest, alloc_string, cells_at, length_of}
+use Rattle.dv_machine.specs.State.{Thread, Machine, Left, Did, Throws, NoOutput, where_room, where_true, truth, with_output, Here}
 use Rattle.dv_machine.specs.Mem.{on_object}
 use Rattle.dv_machine.specs.Texts.{text_of, utf8}
 use Rattle.dv_machine.specs.Calls.{signature, string_type}
 use Rattle.dv_machine.specs.Threads.{own_object, goes, stays, thread_with, is_living, join_on}
-use Rattle.dv_machine.specs.Natives.{arg, number_of, object_number, half_of, gives, gives_object, new_text, char_at, same_text, units_of, some_chars, printed, native_step}
+use Rattle.dv_machine.specs.Natives.{arg, number_of, object_number, gives, gives_object, new_text, char_at, units_of, some_chars, printed, native_step}
 use Rattle.dv_machine.specs.Step.{here}
 use Rattle.dv_machine.specs.Conforming.{Own, IsOf, ResultConforms, ResultFine}
 use Rattle.dv_machine.specs.WellTyped.{Typings}

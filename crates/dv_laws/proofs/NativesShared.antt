@@ -1,6 +1,6 @@
 -- What the natives share: their prototypes, and the caller's frame after them.
-use Rattle.std.proofs.Common.{◌≡◌, ◌≢◌, ◌⊎◌, inl, inr, ℕ, zero, suc, List, [], ◌∷◌, length, Bool, true, false, Option, Some, None, refl, sym, ap, ◌∙◌, subst, arith}
-use Rattle.std.specs.Prelude.{slice_get, All}
+use Rattle.std.proofs.Common.{◌≡◌, ℕ, suc, List, [], ◌∷◌, length, Bool, true, false, Option, Some, None, refl, sym, ap, ◌∙◌, subst, arith}
+use Rattle.std.specs.Prelude.{All}
 use Rattle.std.proofs.lemmas.List.Elements.{All-cons, All-head}
 use Rattle.dv_defs.specs.declared.names.Ty.{Ty}
 use Rattle.dv_defs.specs.declared.names.Proto.{Proto}
@@ -16,7 +16,7 @@ use Rattle.dv_defs.specs.declared.machine.Level.TheVariants as level
 use Rattle.dv_defs.specs.declared.machine.End.TheVariants as end
 use Rattle.dv_defs.specs.declared.typing.RegState.{RegState}
 use Rattle.dv_defs.specs.Parts.{Call}
-use Rattle.dv_defs.specs.Pools.{Method, is_static, is_constructor}
+use Rattle.dv_defs.specs.Pools.{Method, is_static}
 use Rattle.dv_defs.specs.Op.{Op, Invoke}
 use Rattle.dv_defs.specs.Statics.{At}
 use Rattle.dv_defs.specs.RegTypes.{type_at}
@@ -25,13 +25,12 @@ use Rattle.dv_defs.specs.Transfer.{out, after_invoke, after_constructor, first_o
 use Rattle.dv_defs.specs.Flow.{Leads, targets}
 use Rattle.dv_defs.specs.Heap.{Heap}
 use Rattle.dv_defs.specs.Monitors.{entry_of}
-use Rattle.dv_machine.specs.State.{Thread, Machine, Shared, Left, Did, reg_at, with_result, Here}
+use Rattle.dv_machine.specs.State.{Thread, Machine, Shared, reg_at, with_result}
 use Rattle.dv_machine.specs.Calls.{Lands, dispatch, native_of, receiver_of, signature}
-use Rattle.dv_machine.specs.Step.{here, listed}
+use Rattle.dv_machine.specs.Step.{listed}
 use Rattle.dv_machine.specs.Conforming.{Own, ResultConforms, ResultFine, RefsFine, Conform}
-use Rattle.dv_machine.specs.WellTyped.{Typings, own_of, this_above, IsPlaced, CodeFine, StackFine, ThreadFine, HeapFine, records}
-use Rattle.dv_machine.specs.Premises.{KeepsKinds, StartedFine, LeftFine, ThrowFine, DidFine}
-use Rattle.dv_laws.proofs.Demanding.{no}
+use Rattle.dv_machine.specs.WellTyped.{Typings, own_of, this_above, IsPlaced, CodeFine, ThreadFine, HeapFine, records}
+use Rattle.dv_machine.specs.Premises.{KeepsKinds, StartedFine, LeftFine, ThrowFine}
 use Rattle.dv_laws.proofs.GrowthLists.{nothing}
 use Rattle.dv_laws.proofs.GrowthKinds.{good_grown, stack_grown, refs_grown, all_refs_grown}
 use Rattle.dv_laws.proofs.GrowthThreads.{records_after}

@@ -1,11 +1,8 @@
 -- The native that starts a thread.
-use Rattle.std.proofs.Common.{◌≡◌, ◌≢◌, ◌⊎◌, inl, inr, ℕ, zero, suc, ◌<◌, List, [], ◌∷◌, length, Bool, true, false, Option, Some, None, refl, sym, ap, ◌∙◌, subst, arith}
-use Rattle.std.specs.Prelude.{slice_get, slice_index_or, nat_eq, nat_lt, ◌&&◌, bytes_eq, All}
-use Rattle.std.proofs.lemmas.Grind.{common_steps}
-use Rattle.std.proofs.lemmas.List.Elements.{All-cons}
+use Rattle.std.proofs.Common.{◌≡◌, ℕ, suc, List, [], ◌∷◌, length, Bool, true, false, Option, Some, None, refl, sym, ap, ◌∙◌, subst}
+use Rattle.std.specs.Prelude.{nat_lt, bytes_eq}
 use Rattle.dv_defs.specs.declared.image.Image.{Image}
 use Rattle.dv_defs.specs.declared.run.Value.{Value}
-use Rattle.dv_defs.specs.declared.run.Value.TheVariants as v
 use Rattle.dv_defs.specs.declared.run.Named.TheVariants as named
 use Rattle.dv_defs.specs.declared.run.Native.{Native}
 use Rattle.dv_defs.specs.declared.run.Native.TheVariants as native
@@ -13,45 +10,33 @@ use Rattle.dv_defs.specs.declared.machine.Pending.TheVariants as pending
 use Rattle.dv_defs.specs.declared.machine.Frame.{Frame}
 use Rattle.dv_defs.specs.declared.machine.Level.{Level}
 use Rattle.dv_defs.specs.declared.machine.Level.TheVariants as level
-use Rattle.dv_defs.specs.declared.machine.End.TheVariants as end
 use Rattle.dv_defs.specs.declared.typing.RegType.TheVariants as ty
 use Rattle.dv_defs.specs.declared.typing.RegState.{RegState}
 use Rattle.dv_defs.specs.Parts.{Call}
 use Rattle.dv_defs.specs.Names.{thread_name}
 use Rattle.dv_defs.specs.Types.{of_class}
-use Rattle.dv_defs.specs.Pools.{Method, is_static, is_native, is_abstract, is_constructor, own_type, name_at}
-use Rattle.dv_defs.specs.Op.{Op, Invoke, can_throw}
+use Rattle.dv_defs.specs.Pools.{Method, is_native, is_abstract, is_constructor, own_type, name_at}
+use Rattle.dv_defs.specs.Op.{Invoke}
 use Rattle.dv_defs.specs.Statics.{At}
-use Rattle.dv_defs.specs.RegTypes.{all_types}
-use Rattle.dv_defs.specs.Transfer.{pending_of}
 use Rattle.dv_defs.specs.Heap.{Heap, kind_of}
-use Rattle.dv_defs.specs.Monitors.{Monitors, Held, Wait, held_of, owner_of, entry_of, waiting, resumed, notified_one, notified_all}
-use Rattle.dv_machine.specs.State.{Thread, Machine, Shared, Left, Did, Go, Throws, where_true, gone, onward, with_monitors, Here}
+use Rattle.dv_machine.specs.State.{Thread, Machine, Left, Did, Go, Throws, where_true, gone, Here}
 use Rattle.dv_machine.specs.Calls.{native_of, native_among, all_natives, signature, is_signed, class_of_kind}
-use Rattle.dv_machine.specs.Threads.{goes, stays, holding, taken_back, wait_on, notify_on, notify_all_on, thread_with, run_method, new_thread, started_on, start_on}
+use Rattle.dv_machine.specs.Threads.{thread_with, run_method, new_thread, started_on}
 use Rattle.dv_machine.specs.Natives.{arg, object_number, native_step}
 use Rattle.dv_machine.specs.Step.{here}
-use Rattle.dv_machine.specs.Conforming.{Own, IsOf, IsGood, Conforms, RefsFine, ResultConforms}
-use Rattle.dv_machine.specs.WellTyped.{Typings, IsWaiting, WaitFine, MonitorsFine, records}
-use Rattle.dv_machine.specs.Premises.{LeftFine, ThrowFine, StartedFine, DidFine}
-use Rattle.dv_laws.proofs.Demanding.{no, both_true}
+use Rattle.dv_machine.specs.Conforming.{Own, IsOf, IsGood, Conforms}
+use Rattle.dv_machine.specs.WellTyped.{Typings, records}
+use Rattle.dv_machine.specs.Premises.{ThrowFine, StartedFine, DidFine}
+use Rattle.dv_laws.proofs.Demanding.{both_true}
 use Rattle.dv_laws.proofs.OrderTypes.{names_are}
 use Rattle.dv_laws.proofs.GrowthLists.{nothing}
-use Rattle.dv_laws.proofs.GrowthKeeps.{monitors_later}
-use Rattle.dv_laws.proofs.GrowthThreads.{records_after}
-use Rattle.dv_laws.proofs.MonitorsLists.{all_notified_first, all_notified_each}
-use Rattle.dv_laws.proofs.MonitorsOwners.{quiet_from, entry_none}
-use Rattle.dv_laws.proofs.MonitorsFine.{waiting_keeps, notifying_keeps, resuming_keeps}
-use Rattle.dv_laws.proofs.MonitorsMoved.{moved}
-use Rattle.dv_laws.proofs.MonitorsSteps.{monitor_left}
-use Rattle.dv_laws.proofs.FlightFlown.{records_of}
 use Rattle.dv_laws.proofs.RecordsStarted.{new_thread_is_fine}
 use Rattle.dv_laws.proofs.CallsEntered.{some_same}
-use Rattle.dv_laws.proofs.LocalStands.{Stands, stack_fine, frame_refs, refs_fine}
+use Rattle.dv_laws.proofs.LocalStands.{Stands}
 use Rattle.dv_laws.proofs.CallsDispatched.{constructor_not_native}
-use Rattle.dv_laws.proofs.CallsInvoked.{CallsNative, IsReceiver}
+use Rattle.dv_laws.proofs.CallsInvoked.{CallsNative}
 use Rattle.dv_laws.proofs.CallsWords.{instance_types, begins_plain}
-use Rattle.dv_laws.proofs.NativesShared.{same_static, native_quiet, native_apart, native_throws, levels_after, started_left}
+use Rattle.dv_laws.proofs.NativesShared.{same_static, native_apart, native_throws, started_left}
 use Rattle.dv_laws.proofs.NativesMonitors.{receiver, number_first}
 
 -- ---- the class of a native

@@ -1,7 +1,6 @@
 -- Reads of arrays find what they want.
-use Rattle.std.proofs.Common.{◌≡◌, ◌⊎◌, inl, inr, ℕ, zero, suc, ◌<◌, List, [], ◌∷◌, Bool, true, false, Option, Some, None, refl, sym, ap, ◌∙◌, subst, arith}
-use Rattle.std.specs.Prelude.{◌-◌, ◌&&◌, ◌||◌, nat_eq, nat_lt, nat_le, bytes_eq}
-use Rattle.std.proofs.lemmas.Grind.{common_steps}
+use Rattle.std.proofs.Common.{◌≡◌, ◌⊎◌, inl, inr, ℕ, zero, suc, List, Bool, true, false, Some, refl, ap, ◌∙◌, subst}
+use Rattle.std.specs.Prelude.{◌&&◌, ◌||◌, nat_eq}
 use Rattle.dv_defs.specs.declared.names.Base.{Base}
 use Rattle.dv_defs.specs.declared.names.Base.TheVariants as base
 use Rattle.dv_defs.specs.declared.names.Ty.{Ty}
@@ -13,16 +12,15 @@ use Rattle.dv_defs.specs.declared.machine.Kind.TheVariants as kind
 use Rattle.dv_defs.specs.declared.typing.RegType.{RegType}
 use Rattle.dv_defs.specs.declared.typing.RegType.TheVariants as ty
 use Rattle.dv_defs.specs.Parts.{Suffix}
-use Rattle.dv_defs.specs.Names.{object_name, string_name, class_name}
-use Rattle.dv_defs.specs.Types.{is_array, is_class_base, is_reference, class_in, base_eq, ty_eq, component, is_base, of_class}
-use Rattle.dv_defs.specs.Pools.{class_type, class_named}
-use Rattle.dv_defs.specs.Order.{ClassTest, instance, fits, implements, both_found, class_under, under_class, under_base, under_type}
+use Rattle.dv_defs.specs.Names.{string_name, class_name}
+use Rattle.dv_defs.specs.Types.{is_array, is_class_base, is_reference, base_eq, component, is_base, of_class}
+use Rattle.dv_defs.specs.Pools.{class_type}
+use Rattle.dv_defs.specs.Order.{instance, fits, implements}
 use Rattle.dv_defs.specs.Statics.{is_of_suffix}
-use Rattle.dv_defs.specs.RegTypes.{Types, type_at}
-use Rattle.dv_defs.specs.Demands.{is_array_of, is_fill_type, any_type}
+use Rattle.dv_defs.specs.Demands.{is_array_of}
 use Rattle.dv_defs.specs.Heap.{Heap, kind_of, kind_type}
-use Rattle.dv_machine.specs.State.{Reads, reg_at, read_array, read_tested, tested, is_array_kind, where_ref}
-use Rattle.dv_machine.specs.Conforming.{Own, Conforms, IsOf, Fits}
+use Rattle.dv_machine.specs.State.{read_array, is_array_kind}
+use Rattle.dv_machine.specs.Conforming.{Own, Conforms}
 use Rattle.dv_machine.specs.Accepted.{IsOrder}
 use Rattle.dv_machine.specs.Premises.{HoldsOf}
 use Rattle.dv_laws.specs.Reading.{IsArrayOf, IsArrayOrNull, GoesDown, ReadsArray, ElementTestsGoDown}

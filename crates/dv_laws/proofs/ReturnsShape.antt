@@ -1,52 +1,20 @@
 -- What a return changes in the caller's frame.
-use Rattle.std.proofs.Common.{◌≡◌, ◌≢◌, ℕ, zero, suc, List, [], ◌∷◌, length, Bool, true, false, Option, Some, None, refl, sym, ap, ◌∙◌, subst}
-use Rattle.std.specs.Prelude.{slice_get, All, Result, Ok, Err, map, ◌&&◌, not, nat_eq}
-use Rattle.std.proofs.lemmas.List.Elements.{All-nil, All-cons, All-head, All-tail, All-map, All-weaker}
+use Rattle.std.proofs.Common.{◌≡◌, ℕ, List, length, Bool, true, false, Option, Some, None, refl, subst}
+use Rattle.std.specs.Prelude.{All, nat_eq}
+use Rattle.std.proofs.lemmas.List.Elements.{All-map, All-weaker}
 use Rattle.std.proofs.Math.ListN.{length-map}
-use Rattle.dv_defs.specs.declared.names.Ty.{Ty}
-use Rattle.dv_defs.specs.declared.names.Proto.{Proto}
 use Rattle.dv_defs.specs.declared.image.Image.{Image}
 use Rattle.dv_defs.specs.declared.run.Value.{Value}
 use Rattle.dv_defs.specs.declared.run.Value.TheVariants as v
-use Rattle.dv_defs.specs.declared.run.Why.TheVariants as why
 use Rattle.dv_defs.specs.declared.machine.Pending.{Pending}
-use Rattle.dv_defs.specs.declared.machine.Pending.TheVariants as pending
 use Rattle.dv_defs.specs.declared.machine.Frame.{Frame}
-use Rattle.dv_defs.specs.declared.machine.Level.{Level}
 use Rattle.dv_defs.specs.declared.machine.Level.TheVariants as level
-use Rattle.dv_defs.specs.declared.machine.End.TheVariants as end
-use Rattle.dv_defs.specs.declared.typing.RegType.{RegType}
-use Rattle.dv_defs.specs.declared.typing.RegState.{RegState}
-use Rattle.dv_defs.specs.Parts.{Call, Width}
-use Rattle.dv_defs.specs.Pools.{Method, method_at, is_static, is_constructor}
-use Rattle.dv_defs.specs.Op.{Op, Invoke, ReturnVoid, Return, is_return, code_at}
-use Rattle.dv_defs.specs.Statics.{At, fetch}
-use Rattle.dv_defs.specs.RegTypes.{type_at, reg_types}
-use Rattle.dv_defs.specs.Demands.{Demand, demands, demand, first, receiver_for, is_void, same_width, form_of, value_for, value_returned, made_at}
-use Rattle.dv_defs.specs.Transfer.{out, pending_of}
-use Rattle.dv_defs.specs.Flow.{Leads, targets}
+use Rattle.dv_defs.specs.Statics.{At}
 use Rattle.dv_defs.specs.Heap.{Heap}
-use Rattle.dv_machine.specs.State.{Thread, Machine, Left, Did, IsStuck, Reads, reading, reg_at, read_value, with_result, Here}
-use Rattle.dv_machine.specs.Calls.{initialised, initialised_in, object_of, constructed, receiver_of, returned, back, back_on, back_to, unless_pending, pending_words, return_value, return_form, return_void}
-use Rattle.dv_machine.specs.Step.{act, here}
-use Rattle.dv_machine.specs.Conforming.{Conform, Conforms, IsOf, RefFine, ResultFine, RefsFine, ResultConforms, IsThere}
-use Rattle.dv_machine.specs.WellTyped.{Typings, own_of, this_above, lowest, IsCode, BelowCode, IsPlaced, IsCalled, CodeFine, StackFine, ThreadFine, records}
-use Rattle.dv_machine.specs.Premises.{LeftFine, DidFine, HoldsOf}
-use Rattle.dv_machine.specs.StepLaws.{ReturnsPop}
-use Rattle.dv_laws.specs.Reading.{AreWords}
-use Rattle.dv_laws.specs.Returning.{IsBuilt, IsBack}
-use Rattle.dv_laws.proofs.Demanding.{no, first_none, demanded, both_true}
-use Rattle.dv_laws.proofs.RegistersMade.{of_fits}
-use Rattle.dv_laws.proofs.RegistersAbove.{conform_above, same_number}
-use Rattle.dv_laws.proofs.ReadersPlain.{there_of}
-use Rattle.dv_laws.proofs.ReadersWords.{reads_value, words_pend}
-use Rattle.dv_laws.proofs.CallsEntered.{some_same}
-use Rattle.dv_laws.proofs.CallsResolved.{is_named}
-use Rattle.dv_laws.proofs.LocalStill.{still, same_shared, IsQuiet}
-use Rattle.dv_laws.proofs.LocalStands.{Stands, stands, rest_refs, rest_lowest, same_lowest}
-use Rattle.dv_laws.proofs.LocalFine.{WaitsHere, quiet}
-use Rattle.dv_laws.proofs.ReturnsConstructed.{returned_conforms, receiver_demanded, no_receiver, not_static}
-use Rattle.dv_laws.proofs.ReturnsBuilt.{Owes, owes, IsProperAt, invoke_named, this_proper, built, receiver_there}
+use Rattle.dv_machine.specs.State.{reg_at, with_result}
+use Rattle.dv_machine.specs.Calls.{initialised, initialised_in, object_of, constructed, receiver_of, returned}
+use Rattle.dv_machine.specs.Conforming.{RefFine, ResultFine, RefsFine, IsThere}
+use Rattle.dv_laws.proofs.RegistersAbove.{same_number}
 
 pub returned_method : (b : Bool) (g : Frame) (x : At) (p : Pending) → (returned b g x p).method ≡ g.method
 returned_method false g x p = refl

@@ -1,5 +1,5 @@
 -- What the reads of a step give, where registers conform and the verifier's demand holds.
-use Rattle.std.specs.Prelude.{◌≡◌, ℕ, zero, suc, true, Bool, List, length, Option, Some, None, ℤ, All}
+use Rattle.std.specs.Prelude.{◌≡◌, ℕ, zero, suc, true, Bool, List, Option, Some, None, All}
 use Rattle.dv_defs.specs.declared.names.Ty.{Ty}
 use Rattle.dv_defs.specs.declared.image.Image.{Image}
 use Rattle.dv_defs.specs.declared.run.Value.{Value}
@@ -18,7 +18,7 @@ use Rattle.dv_defs.specs.RegTypes.{Types, type_at, reg_types, all_types}
 use Rattle.dv_defs.specs.Demands.{int, long, ref, ref_to, array, value_for, args_for, receiver_for, is_movable, arg_int, both_for, zero_for, is_fill_type, any_type}
 use Rattle.dv_defs.specs.Transfer.{pending_of, result_int, result_ref}
 use Rattle.dv_defs.specs.Heap.{Heap, kind_of}
-use Rattle.dv_machine.specs.State.{Reads, reg_at, read_int, kept_int, read_two, read_long, read_any, read_ref, kept_object, read_array, read_value, read_args}
+use Rattle.dv_machine.specs.State.{reg_at, read_int, kept_int, read_two, read_long, read_any, read_ref, kept_object, read_array, read_value, read_args}
 use Rattle.dv_machine.specs.Local.{read_arg, test_both, test_zero, pending_int, pending_object}
 use Rattle.dv_machine.specs.Calls.{object_of, read_new, pending_words}
 use Rattle.dv_machine.specs.Conforming.{Own, Conforms, RegsConform, IsGood, IsThere, Fits, ResultConforms, RefFine}
