@@ -1,6 +1,6 @@
 -- What the class of a receiver says of the method that a call lands on.
-use Rattle.std.proofs.Common.{◌≡◌, ◌⊎◌, inl, inr, ℕ, zero, suc, ◌<◌, ◌≤◌, List, [], ◌∷◌, length, Bool, true, false, Option, Some, None, refl, sym, ap, ◌∙◌, subst, arith}
-use Rattle.std.specs.Prelude.{slice_get, nat_eq, nat_le, bytes_eq, ◌&&◌, ◌||◌, ◌-◌}
+use Rattle.std.proofs.Common.{◌≡◌, ◌⊎◌, inl, inr, ℕ, zero, suc, ◌<◌, ◌≤◌, List, length, Bool, true, false, Some, None, refl, sym, ap, ◌∙◌, subst, arith}
+use Rattle.std.specs.Prelude.{bytes_eq}
 use Rattle.std.proofs.lemmas.Bool.{cases_lt}
 use Rattle.std.proofs.lemmas.Option.{slice_get_past}
 use Rattle.dv_defs.specs.declared.names.Base.TheVariants as base
@@ -9,16 +9,16 @@ use Rattle.dv_defs.specs.declared.image.Image.{Image}
 use Rattle.dv_defs.specs.declared.machine.Kind.{Kind}
 use Rattle.dv_defs.specs.declared.machine.Kind.TheVariants as kind
 use Rattle.dv_defs.specs.Names.{object_name, string_name, class_name}
-use Rattle.dv_defs.specs.Types.{of_class, ty_eq, is_reference, is_array}
-use Rattle.dv_defs.specs.Pools.{Method, method_at, own_type, class_type, class_named, name_at, parent_at, parent_of, supers}
-use Rattle.dv_defs.specs.Order.{ClassTest, has_number, extends, both_found, class_under, under_class, under_base, under_type, sub, instance, fits, is_interface_type}
+use Rattle.dv_defs.specs.Types.{of_class, ty_eq, is_reference}
+use Rattle.dv_defs.specs.Pools.{class_type, class_named, name_at, parent_at, parent_of, supers}
+use Rattle.dv_defs.specs.Order.{has_number, extends, both_found, class_under, sub, instance, fits, is_interface_type}
 use Rattle.dv_defs.specs.Heap.{Heap, kind_of, kind_type}
 use Rattle.dv_machine.specs.Calls.{class_of_kind}
-use Rattle.dv_machine.specs.Conforming.{IsOf, Fits}
+use Rattle.dv_machine.specs.Conforming.{IsOf}
 use Rattle.dv_machine.specs.WellTyped.{Typings}
-use Rattle.dv_machine.specs.Accepted.{Accepted, IsOrder, IsHierarchy}
+use Rattle.dv_machine.specs.Accepted.{Accepted}
 use Rattle.dv_laws.proofs.Demanding.{no}
-use Rattle.dv_laws.proofs.OrderWalks.{up, up_is, up_later, refuel_up, extends_same, is_above, named_is, named_inside}
+use Rattle.dv_laws.proofs.OrderWalks.{up, up_is, up_later, refuel_up, extends_same, is_above, named_is}
 use Rattle.dv_laws.proofs.OrderTypes.{under_reference}
 
 module _ (image : Image) where

@@ -1,15 +1,12 @@
 -- Calls of constructors.
-use Rattle.std.proofs.Common.{◌≡◌, ◌≢◌, ◌⊎◌, inl, inr, ℕ, zero, suc, List, [], ◌∷◌, length, Bool, true, false, Option, Some, None, refl, sym, ap, ◌∙◌, subst}
-use Rattle.std.specs.Prelude.{◌&&◌, ◌||◌, not, bytes_eq, nat_eq, Ok, Err, All}
+use Rattle.std.proofs.Common.{◌≡◌, ◌⊎◌, inl, inr, ℕ, suc, List, ◌∷◌, Bool, true, false, Option, Some, None, refl, sym, ap, ◌∙◌, subst}
+use Rattle.std.specs.Prelude.{nat_eq}
 use Rattle.std.proofs.lemmas.List.Elements.{All-cons}
-use Rattle.dv_defs.specs.declared.names.Ty.{Ty}
 use Rattle.dv_defs.specs.declared.image.Image.{Image}
 use Rattle.dv_defs.specs.declared.run.Value.{Value}
 use Rattle.dv_defs.specs.declared.run.Value.TheVariants as v
 use Rattle.dv_defs.specs.declared.run.Named.TheVariants as named
-use Rattle.dv_defs.specs.declared.run.Why.TheVariants as why
 use Rattle.dv_defs.specs.declared.machine.Frame.{Frame}
-use Rattle.dv_defs.specs.declared.machine.Kind.{Kind}
 use Rattle.dv_defs.specs.declared.machine.Kind.TheVariants as kind
 use Rattle.dv_defs.specs.declared.machine.Level.{Level}
 use Rattle.dv_defs.specs.declared.machine.Level.TheVariants as level
@@ -17,31 +14,31 @@ use Rattle.dv_defs.specs.declared.typing.RegType.{RegType}
 use Rattle.dv_defs.specs.declared.typing.RegType.TheVariants as ty
 use Rattle.dv_defs.specs.declared.typing.RegState.{RegState}
 use Rattle.dv_defs.specs.Parts.{Call}
-use Rattle.dv_defs.specs.Names.{object_name, init_name}
+use Rattle.dv_defs.specs.Names.{object_name}
 use Rattle.dv_defs.specs.Types.{of_class}
 use Rattle.dv_defs.specs.Pools.{Method, method_at, is_static, is_abstract, is_constructor, is_of_object, own_type, class_type, name_at, parent_at}
-use Rattle.dv_defs.specs.Op.{Op, Invoke}
+use Rattle.dv_defs.specs.Op.{Invoke}
 use Rattle.dv_defs.specs.Statics.{At}
 use Rattle.dv_defs.specs.RegTypes.{all_types, type_at}
-use Rattle.dv_defs.specs.Order.{sub, fits}
-use Rattle.dv_defs.specs.Demands.{Demand, demand, first, args_for, instance_call, receiver_for, ref_to, super_for, is_exactly, is_own_or_super, made_at}
+use Rattle.dv_defs.specs.Order.{sub}
+use Rattle.dv_defs.specs.Demands.{Demand, first, args_for, instance_call, receiver_for, ref_to, super_for, is_exactly, is_own_or_super, made_at}
 use Rattle.dv_defs.specs.Transfer.{arg_types, begins_uninitialised}
 use Rattle.dv_defs.specs.Heap.{Heap, kind_of}
-use Rattle.dv_machine.specs.State.{Thread, Machine, Left, Did, Throws, Reads, reading, reg_at, read_args, Here}
-use Rattle.dv_machine.specs.Calls.{receiver_of, object_of, where_fresh, is_made_of, read_new, enter, enter_constructor, construct, call_constructor}
+use Rattle.dv_machine.specs.State.{Thread, Machine, Left, Did, Throws, reg_at, read_args, Here}
+use Rattle.dv_machine.specs.Calls.{object_of, where_fresh, is_made_of, read_new, enter, enter_constructor, construct, call_constructor}
 use Rattle.dv_machine.specs.Step.{here}
-use Rattle.dv_machine.specs.Conforming.{Own, IsOf, IsThere, IsThis, IsGood, Conforms, RefFine}
+use Rattle.dv_machine.specs.Conforming.{Own, IsOf, IsThere, IsGood, Conforms, RefFine}
 use Rattle.dv_machine.specs.WellTyped.{Typings, own_of, this_above, called_on}
 use Rattle.dv_machine.specs.Accepted.{Accepted}
 use Rattle.dv_machine.specs.Premises.{DidFine, HoldsOf}
-use Rattle.dv_laws.specs.Reading.{AreWords}
-use Rattle.dv_laws.proofs.Demanding.{no, first_none, demanded, both_true, either_true, eq_true}
+use Rattle.dv_laws.specs.Reading.{AreWords, IsUnder, ReadsReceiver}
+use Rattle.dv_laws.proofs.Demanding.{no, first_none, demanded, either_true, eq_true}
 use Rattle.dv_laws.proofs.RegistersMade.{of_fits}
 use Rattle.dv_laws.proofs.RegistersAbove.{same_number}
 use Rattle.dv_laws.proofs.CallsEntered.{some_same}
 use Rattle.dv_laws.proofs.ReturnsConstructed.{receiver_demanded, not_static}
 use Rattle.dv_laws.proofs.ReturnsBuilt.{IsProperAt, receiver_proper, receiver_there, this_proper, exactly_is}
-use Rattle.dv_laws.proofs.ReturnsFine.{read_did}
+use Rattle.dv_laws.proofs.LocalFine.{read_did}
 use Rattle.dv_laws.proofs.ReadersWords.{reads_arguments, cons_good, this_good}
 use Rattle.dv_laws.proofs.LocalStill.{IsQuiet}
 use Rattle.dv_laws.proofs.LocalStands.{Stands}
@@ -49,17 +46,11 @@ use Rattle.dv_laws.proofs.OrderTypes.{names_are}
 use Rattle.dv_laws.proofs.CallsClasses.{parent_sub}
 use Rattle.dv_laws.proofs.CallsWords.{constructor_types, instance_types, begins_by_class, all_plain}
 use Rattle.dv_laws.proofs.CallsDispatched.{constructor_not_native, of_instance}
-use Rattle.dv_laws.proofs.CallsPushed.{CanEnter, enter_fine}
+use Rattle.dv_laws.proofs.CallsPushed.{enter_fine}
 use Rattle.dv_laws.proofs.CallsInvoked.{receiver_is, quiet_at, throws, called_by, this_is, called_fine}
-use Rattle.dv_laws.proofs.CallsInstance.{invoke_demand, callee_number, callee_there}
+use Rattle.dv_laws.proofs.CallsInstance.{invoke_demand, callee_there}
 
 -- ---- the receiver
-
--- an object of a class under a type
-pub record IsUnder (image : Image) (heap : Heap) (t : Ty) (o : ℕ) : Type 0 where
-  pub class : ℕ
-  pub has_kind : kind_of heap o ≡ Some (kind.Object (record { 0 = class }))
-  pub under : sub image (class_type image class) t ≡ true
 
 module _ (image : Image) (T : Typings) (a : Accepted image T) (heap : Heap) (own g : Method) (has_own : (n : ℕ) × (method_at image n ≡ Some own)) where
   -- the own class or its superclass
@@ -92,6 +83,9 @@ module _ (image : Image) (T : Typings) (a : Accepted image T) (heap : Heap) (own
   new_holds this x (ty.Uninit d) c q = absurd c
   new_holds this x ty.UninitThis c q = absurd c
   new_holds this x t c q = absurd (cc)
+
+pub reads_receiver : ReadsReceiver
+reads_receiver image T heap this n own g xs ts k a there h d = new_holds image T a heap own g (n, there) this (reg_at xs k) (type_at ts k) (h k) d
 
 -- ---- the call
 

@@ -1,8 +1,6 @@
 -- The method on which a call lands.
-use Rattle.std.proofs.Common.{◌≡◌, ◌≢◌, ◌⊎◌, inl, inr, ℕ, zero, suc, ◌<◌, List, [], ◌∷◌, ◌++◌, length, Bool, true, false, Option, Some, None, refl, sym, ap, ◌∙◌, subst}
-use Rattle.std.specs.Prelude.{◌&&◌, not, bytes_eq, is_some, nat_eq, slice_get}
-use Rattle.dv_defs.specs.declared.names.Ty.{Ty}
-use Rattle.dv_defs.specs.declared.names.Proto.{Proto}
+use Rattle.std.proofs.Common.{◌≡◌, ℕ, suc, ◌<◌, List, [], ◌∷◌, length, Bool, true, false, Option, Some, None, refl, sym, ap, ◌∙◌, subst}
+use Rattle.std.specs.Prelude.{◌&&◌, not, bytes_eq, is_some, nat_eq}
 use Rattle.dv_defs.specs.declared.image.Image.{Image}
 use Rattle.dv_defs.specs.declared.image.MethodInfo.{MethodInfo}
 use Rattle.dv_defs.specs.declared.run.Named.TheVariants as named
@@ -10,12 +8,12 @@ use Rattle.dv_defs.specs.declared.run.Native.{Native}
 use Rattle.dv_defs.specs.declared.run.Native.TheVariants as native
 use Rattle.dv_defs.specs.Parts.{Call}
 use Rattle.dv_defs.specs.Names.{init_name, clinit_name}
-use Rattle.dv_defs.specs.Types.{is_reference, same_proto}
-use Rattle.dv_defs.specs.Pools.{Method, method_at, is_static, is_native, is_abstract, is_constructor, own_type, class_type, name_at, parent_at, supers, nearest, pick, declared_by, with_info, is_initialiser, initialiser, no_arguments}
+use Rattle.dv_defs.specs.Types.{same_proto}
+use Rattle.dv_defs.specs.Pools.{Method, method_at, is_static, is_native, is_abstract, is_constructor, own_type, class_type, name_at, parent_at, supers, nearest, pick, with_info, is_initialiser, initialiser, no_arguments}
 use Rattle.dv_defs.specs.Order.{has_number}
 use Rattle.dv_defs.specs.Heap.{Heap, kind_of}
-use Rattle.dv_machine.specs.Calls.{Landing, Lands, Lacks, unless_abstract, found, nearest_from, class_of_kind, implements_it, dispatch, signature, is_signed, native_among, all_natives, native_of}
-use Rattle.dv_machine.specs.Conforming.{IsOf, Fits}
+use Rattle.dv_machine.specs.Calls.{Landing, Lands, Lacks, unless_abstract, found, nearest_from, class_of_kind, implements_it, dispatch, signature, native_among, all_natives, native_of}
+use Rattle.dv_machine.specs.Conforming.{IsOf}
 use Rattle.dv_machine.specs.WellTyped.{Typings, IsNoInitialiser}
 use Rattle.dv_machine.specs.Accepted.{Accepted}
 use Rattle.dv_laws.proofs.Demanding.{no, both_true}

@@ -1,12 +1,12 @@
 -- Invokes are fine where the natives are.
-use Rattle.std.proofs.Common.{◌≡◌, ℕ, List, [], ◌∷◌, Bool, true, false, Option, Some, None, refl, sym, ap, ◌∙◌, subst}
+use Rattle.std.proofs.Common.{◌≡◌, ℕ, List, [], ◌∷◌, Bool, true, false, None, refl, sym, subst}
 use Rattle.dv_defs.specs.declared.image.Image.{Image}
 use Rattle.dv_defs.specs.declared.machine.Frame.{Frame}
 use Rattle.dv_defs.specs.declared.machine.Level.{Level}
 use Rattle.dv_defs.specs.declared.typing.RegState.{RegState}
 use Rattle.dv_defs.specs.Parts.{Call}
 use Rattle.dv_defs.specs.Pools.{Method, is_static, is_constructor}
-use Rattle.dv_defs.specs.Op.{Op, Invoke}
+use Rattle.dv_defs.specs.Op.{Invoke}
 use Rattle.dv_defs.specs.Statics.{At}
 use Rattle.dv_defs.specs.Demands.{Demand, args_for, instance_call, invoke_for}
 use Rattle.dv_machine.specs.State.{Thread, Machine, Left, Did, reading, reg_at, read_args, Here}

@@ -1,49 +1,46 @@
 -- Static calls, and calls on an object.
-use Rattle.std.proofs.Common.{◌≡◌, ◌≢◌, ◌⊎◌, inl, inr, ℕ, zero, suc, ◌<◌, ◌++◌, List, [], ◌∷◌, length, Bool, true, false, Option, Some, None, refl, sym, ap, ◌∙◌, subst}
-use Rattle.std.specs.Prelude.{◌&&◌, ◌||◌, not, bytes_eq, Ok, Err, nat_eq, slice_index_or}
+use Rattle.std.proofs.Common.{◌≡◌, ℕ, zero, suc, ◌++◌, List, [], ◌∷◌, Bool, true, false, Some, None, refl, sym, ap, ◌∙◌, subst}
+use Rattle.std.specs.Prelude.{◌&&◌, ◌||◌, not, bytes_eq}
 use Rattle.dv_defs.specs.declared.names.Proto.{Proto}
 use Rattle.dv_defs.specs.declared.image.Image.{Image}
 use Rattle.dv_defs.specs.declared.run.Value.{Value}
 use Rattle.dv_defs.specs.declared.run.Value.TheVariants as v
 use Rattle.dv_defs.specs.declared.run.Named.{Named}
 use Rattle.dv_defs.specs.declared.run.Named.TheVariants as named
-use Rattle.dv_defs.specs.declared.run.Native.{Native}
 use Rattle.dv_defs.specs.declared.run.Native.TheVariants as native
 use Rattle.dv_defs.specs.declared.machine.Frame.{Frame}
 use Rattle.dv_defs.specs.declared.machine.Level.{Level}
-use Rattle.dv_defs.specs.declared.machine.Level.TheVariants as level
 use Rattle.dv_defs.specs.declared.typing.RegType.TheVariants as ty
 use Rattle.dv_defs.specs.declared.typing.RegState.{RegState}
 use Rattle.dv_defs.specs.Parts.{Call}
 use Rattle.dv_defs.specs.Names.{clinit_name, init_name}
 use Rattle.dv_defs.specs.Pools.{Method, method_at, is_static, is_private, is_abstract, is_constructor, is_interface, own_type}
-use Rattle.dv_defs.specs.Op.{Op, Invoke}
-use Rattle.dv_defs.specs.Statics.{At, unless, fits_call, is_proper_super, op_rules, arg_words}
+use Rattle.dv_defs.specs.Op.{Invoke}
+use Rattle.dv_defs.specs.Statics.{At, unless, fits_call, is_proper_super, op_rules}
 use Rattle.dv_defs.specs.RegTypes.{all_types, type_at}
 use Rattle.dv_defs.specs.Demands.{Demand, demands, first, args_for, invoke_for, instance_call, receiver_for, ref_to, super_for}
-use Rattle.dv_defs.specs.Transfer.{arg_types, begins_uninitialised}
+use Rattle.dv_defs.specs.Transfer.{arg_types}
 use Rattle.dv_defs.specs.Heap.{Heap}
-use Rattle.dv_machine.specs.State.{Thread, Machine, Left, Did, Reads, reading, reg_at, read_args, read_ref, Here}
+use Rattle.dv_machine.specs.State.{Thread, Machine, Left, Did, reading, reg_at, read_args, read_ref, Here}
 use Rattle.dv_machine.specs.Mem.{on_object}
 use Rattle.dv_machine.specs.Natives.{object_number, native_step}
-use Rattle.dv_machine.specs.Calls.{Landing, Lands, Lacks, unless_abstract, dispatch, native_of, landed, receiver_of, read_super, call_object, call_instance, call_constructor, with_receiver, invoke}
+use Rattle.dv_machine.specs.Calls.{Landing, Lands, Lacks, unless_abstract, dispatch, native_of, landed, receiver_of, read_super, call_object, call_instance, with_receiver, invoke}
 use Rattle.dv_machine.specs.Step.{here}
-use Rattle.dv_machine.specs.Conforming.{IsOf, Fits, Conforms}
+use Rattle.dv_machine.specs.Conforming.{IsOf, Fits}
 use Rattle.dv_machine.specs.WellTyped.{Typings, own_of, this_above}
 use Rattle.dv_machine.specs.Premises.{DidFine, HoldsOf}
 use Rattle.dv_laws.specs.Reading.{AreWords}
 use Rattle.dv_laws.proofs.Demanding.{no, first_none, both_true, not_true}
-use Rattle.dv_laws.proofs.CallsEntered.{code_is}
 use Rattle.dv_laws.proofs.CallsResolved.{is_named}
 use Rattle.dv_laws.proofs.ReturnsBuilt.{invoke_named}
-use Rattle.dv_laws.proofs.ReturnsFine.{read_did}
+use Rattle.dv_laws.proofs.LocalFine.{read_did}
 use Rattle.dv_laws.proofs.ReadersPlain.{reads_reference_to, holds_more}
 use Rattle.dv_laws.proofs.ReadersWords.{IsWord, reads_arguments}
 use Rattle.dv_laws.proofs.LocalStill.{IsQuiet}
 use Rattle.dv_laws.proofs.LocalStands.{Stands}
 use Rattle.dv_laws.proofs.CallsWords.{static_types, instance_types, begins_plain, words_cons, both_hold, read_number, number_is}
 use Rattle.dv_laws.proofs.CallsDispatched.{IsLanding, landing, named_otherwise, of_instance}
-use Rattle.dv_laws.proofs.CallsInvoked.{receiver_is, no_receiver_of, WaitsAt, quiet_at, throws, CallsNative, IsReceiver, NativesDo, landed_fine, called_fine}
+use Rattle.dv_laws.proofs.CallsInvoked.{receiver_is, no_receiver_of, WaitsAt, quiet_at, throws, NativesDo, landed_fine, called_fine}
 
 none_some : {A : Type 0} {y : A} → None ≡ Some y → ⊥
 none_some e = cc

@@ -1,6 +1,6 @@
 -- What the cases of an invoke share.
-use Rattle.std.proofs.Common.{◌≡◌, ◌≢◌, ◌⊎◌, inl, inr, ℕ, zero, suc, ◌++◌, List, [], ◌∷◌, length, Bool, true, false, Option, Some, None, refl, sym, ap, ◌∙◌, subst}
-use Rattle.std.specs.Prelude.{slice_get, slice_index_or, All}
+use Rattle.std.proofs.Common.{◌≡◌, ℕ, zero, suc, List, [], ◌∷◌, true, false, Option, Some, None, refl, sym, ap, ◌∙◌, subst}
+use Rattle.std.specs.Prelude.{slice_index_or}
 use Rattle.dv_defs.specs.declared.image.Image.{Image}
 use Rattle.dv_defs.specs.declared.run.Value.{Value}
 use Rattle.dv_defs.specs.declared.run.Value.TheVariants as v
@@ -13,14 +13,13 @@ use Rattle.dv_defs.specs.declared.typing.RegState.{RegState}
 use Rattle.dv_defs.specs.Parts.{Call}
 use Rattle.dv_defs.specs.Pools.{Method, method_at, is_static, is_abstract, is_constructor}
 use Rattle.dv_defs.specs.Op.{Op, Invoke, can_throw}
-use Rattle.dv_defs.specs.Statics.{At, fetch}
+use Rattle.dv_defs.specs.Statics.{At}
 use Rattle.dv_defs.specs.Transfer.{arg_types, begins_uninitialised}
 use Rattle.dv_defs.specs.Monitors.{entry_of}
 use Rattle.dv_machine.specs.State.{Thread, Machine, Left, Did, Here, reg_at}
-use Rattle.dv_machine.specs.Calls.{Landing, Lands, Lacks, dispatch, native_of, receiver_of, object_of, landed, enter}
+use Rattle.dv_machine.specs.Calls.{Lands, dispatch, native_of, receiver_of, landed, enter}
 use Rattle.dv_machine.specs.Natives.{native_step}
 use Rattle.dv_machine.specs.Step.{here}
-use Rattle.dv_machine.specs.Conforming.{RefFine}
 use Rattle.dv_machine.specs.WellTyped.{Typings, own_of, this_above, called_on, IsCalled, IsNoInitialiser}
 use Rattle.dv_machine.specs.Premises.{ThrowFine, DidFine}
 use Rattle.dv_laws.specs.Reading.{AreWords}
@@ -29,7 +28,7 @@ use Rattle.dv_laws.proofs.MonitorsOwners.{entry_none}
 use Rattle.dv_laws.proofs.LocalStill.{IsQuiet}
 use Rattle.dv_laws.proofs.LocalStands.{Stands}
 use Rattle.dv_laws.proofs.LocalFine.{WaitsHere, quiet}
-use Rattle.dv_laws.proofs.CallsPushed.{CanEnter, enter_fine}
+use Rattle.dv_laws.proofs.CallsPushed.{enter_fine}
 
 -- the register of the receiver of an instance call
 pub receiver_is : (c : Call) (k : ℕ) (ks : List ℕ) (g : Method) → is_static g ≡ false → receiver_of (Invoke c (k ∷ ks) g) ≡ Some k

@@ -1,6 +1,6 @@
 -- A call pushes a frame that stands at the begin of its method.
-use Rattle.std.proofs.Common.{◌≡◌, ◌≢◌, ℕ, zero, suc, ◌+◌, ◌≤◌, ◌++◌, List, [], ◌∷◌, length, Bool, true, false, Option, Some, None, refl, sym, ap, ◌∙◌, subst, arith}
-use Rattle.std.specs.Prelude.{◌-◌, replicate, ◌&&◌, not, slice_get, nat_le, All}
+use Rattle.std.proofs.Common.{◌≡◌, ℕ, suc, ◌+◌, ◌≤◌, List, [], ◌∷◌, length, Bool, true, false, Option, Some, refl, sym, ap, ◌∙◌, subst, arith}
+use Rattle.std.specs.Prelude.{◌-◌, replicate, ◌&&◌, nat_le, All}
 use Rattle.std.proofs.lemmas.List.{length-append, length-replicate}
 use Rattle.std.proofs.lemmas.List.Elements.{All-cons, All-append, All-replicate}
 use Rattle.dv_defs.specs.declared.names.Ty.{Ty}
@@ -12,7 +12,6 @@ use Rattle.dv_defs.specs.declared.machine.Frame.{Frame}
 use Rattle.dv_defs.specs.declared.machine.Level.{Level}
 use Rattle.dv_defs.specs.declared.machine.Level.TheVariants as level
 use Rattle.dv_defs.specs.declared.typing.RegType.TheVariants as ty
-use Rattle.dv_defs.specs.declared.typing.RegType.{RegType}
 use Rattle.dv_defs.specs.declared.typing.RegState.{RegState}
 use Rattle.dv_defs.specs.Types.{is_long, words_of, words_of_all}
 use Rattle.dv_defs.specs.Pools.{Method, method_at, is_static, own_type}
@@ -22,11 +21,11 @@ use Rattle.dv_defs.specs.Statics.{At, arg_words, receiver_words}
 use Rattle.dv_defs.specs.RegTypes.{Types, single_type, reg_types, all_types}
 use Rattle.dv_defs.specs.Transfer.{arg_types, receiver_type, begins_uninitialised, entry_state}
 use Rattle.dv_defs.specs.Heap.{Heap}
-use Rattle.dv_machine.specs.State.{Thread, Machine, Left, Did, Here, left, NoRoom, regs_in, words_in}
+use Rattle.dv_machine.specs.State.{Thread, Machine, Left, Did, left, NoRoom, regs_in, words_in}
 use Rattle.dv_machine.specs.Calls.{entered_frame, registers_of, enter}
 use Rattle.dv_machine.specs.Step.{here}
 use Rattle.dv_machine.specs.Conforming.{IsGood, RefFine, RefsFine, Conform}
-use Rattle.dv_machine.specs.WellTyped.{Typings, own_of, this_above, records, IsPlaced, IsCalled, IsNoInitialiser, CodeFine, StackFine, ThreadFine}
+use Rattle.dv_machine.specs.WellTyped.{Typings, own_of, this_above, records, IsPlaced, IsCalled, IsNoInitialiser, CodeFine}
 use Rattle.dv_machine.specs.Premises.{LeftFine, DidFine}
 use Rattle.dv_laws.proofs.CallsEntered.{entered_conforms, registers_are}
 use Rattle.dv_laws.proofs.RegistersAbove.{conform_above}

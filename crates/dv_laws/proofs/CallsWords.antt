@@ -1,6 +1,6 @@
 -- The words of a call's receiver and arguments, by the method's types.
-use Rattle.std.proofs.Common.{◌≡◌, ◌⊎◌, inl, inr, ℕ, zero, suc, ◌++◌, List, [], ◌∷◌, length, Bool, true, false, Option, Some, None, refl, sym, ap, ◌∙◌, subst}
-use Rattle.std.specs.Prelude.{◌&&◌, not, Ok, Err, All, bytes_eq}
+use Rattle.std.proofs.Common.{◌≡◌, ℕ, zero, suc, ◌++◌, List, [], ◌∷◌, Bool, true, false, refl, ap, ◌∙◌}
+use Rattle.std.specs.Prelude.{◌&&◌, not, Ok, Err}
 use Rattle.std.proofs.lemmas.List.Elements.{All-cons}
 use Rattle.dv_defs.specs.declared.names.Ty.{Ty}
 use Rattle.dv_defs.specs.declared.image.Image.{Image}
@@ -11,11 +11,11 @@ use Rattle.dv_defs.specs.declared.typing.RegType.TheVariants as ty
 use Rattle.dv_defs.specs.Types.{is_long, is_reference}
 use Rattle.dv_defs.specs.Pools.{Method, is_static, is_constructor, is_of_object, own_type}
 use Rattle.dv_defs.specs.RegTypes.{Types, type_at, single_type, all_types}
-use Rattle.dv_defs.specs.Transfer.{arg_types, receiver_type, begins_uninitialised}
+use Rattle.dv_defs.specs.Transfer.{arg_types, begins_uninitialised}
 use Rattle.dv_defs.specs.Heap.{Heap}
 use Rattle.dv_machine.specs.State.{Reads, where_ref, tested, fits_kind, read_ref}
 use Rattle.dv_machine.specs.Natives.{object_number}
-use Rattle.dv_machine.specs.Conforming.{Own, Fits, IsUninit, IsGood, RefFine}
+use Rattle.dv_machine.specs.Conforming.{IsUninit, RefFine}
 use Rattle.dv_machine.specs.Premises.{HoldsOf}
 use Rattle.dv_laws.specs.Reading.{AreWords}
 use Rattle.dv_laws.proofs.ReadersWords.{IsWord, cons_good}

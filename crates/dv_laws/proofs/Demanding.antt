@@ -1,5 +1,5 @@
 -- What demands and tests that hold say.
-use Rattle.std.proofs.Common.{◌≡◌, ◌≢◌, ◌⊎◌, inl, inr, ℕ, Bool, true, false, Option, Some, None, refl, arith}
+use Rattle.std.proofs.Common.{◌≡◌, ◌≢◌, ◌⊎◌, inl, inr, ℕ, Bool, true, false, Some, None, refl, arith}
 use Rattle.std.specs.Prelude.{◌&&◌, ◌||◌, not, nat_eq}
 use Rattle.std.proofs.lemmas.Grind.{common_steps}
 use Rattle.dv_defs.specs.Demands.{Demand, first, demand}

@@ -32,6 +32,8 @@ pub mod LocalSteps
 pub mod LocalFine
 pub mod CallsResolved
 pub mod ReturnsBuilt
+pub mod ReturnsShape
+pub mod ReturnsCaller
 pub mod ReturnsFine
 pub mod ReadersArrays
 pub mod MonitorsSteps
@@ -69,4 +71,8 @@ pub mod OpeningHeap
 pub mod OpeningState
 pub mod CallsFine
 pub mod NativesShared
+pub mod NativesPlain
+pub mod NativesMonitors
+pub mod NativesStarted
+pub mod CallsPush
 pub mod SoundSteps

@@ -1,6 +1,6 @@
 -- Steps that touch one frame alone are fine.
-use Rattle.std.proofs.Common.{◌≡◌, ◌≢◌, ℕ, zero, suc, List, [], ◌∷◌, length, Bool, true, false, Option, Some, None, refl, sym, ap, ◌∙◌, subst}
-use Rattle.std.specs.Prelude.{slice_get, All, Result, Ok, Err, nat_lt}
+use Rattle.std.proofs.Common.{◌≡◌, ℕ, List, ◌∷◌, length, true, false, Some, sym, ap, ◌∙◌, subst}
+use Rattle.std.specs.Prelude.{slice_get, Ok, Err, nat_lt}
 use Rattle.std.proofs.lemmas.List.Elements.{All-cons}
 use Rattle.dv_defs.specs.declared.image.Image.{Image}
 use Rattle.dv_defs.specs.declared.run.Value.TheVariants as v
@@ -8,29 +8,27 @@ use Rattle.dv_defs.specs.declared.run.Native.TheVariants as native
 use Rattle.dv_defs.specs.declared.machine.Frame.{Frame}
 use Rattle.dv_defs.specs.declared.machine.Level.{Level}
 use Rattle.dv_defs.specs.declared.machine.Level.TheVariants as level
-use Rattle.dv_defs.specs.declared.machine.End.TheVariants as end
 use Rattle.dv_defs.specs.declared.typing.RegState.{RegState}
 use Rattle.dv_defs.specs.Parts.{Call}
 use Rattle.dv_defs.specs.Pools.{Method, method_at}
 use Rattle.dv_defs.specs.Op.{Op, Invoke, ReturnVoid, Return, Enter, Exit, is_local}
 use Rattle.dv_defs.specs.Statics.{At, fetch}
 use Rattle.dv_defs.specs.Transfer.{out}
-use Rattle.dv_defs.specs.Flow.{Leads, targets}
-use Rattle.dv_defs.specs.Monitors.{Wait}
+use Rattle.dv_defs.specs.Flow.{Leads}
 use Rattle.dv_machine.specs.State.{Thread, Machine, Left, Did, Reads, reading, reg_at, Here, onward}
 use Rattle.dv_machine.specs.Mem.{mem}
 use Rattle.dv_machine.specs.Local.{local}
 use Rattle.dv_machine.specs.Calls.{Lands, dispatch, receiver_of, native_of}
 use Rattle.dv_machine.specs.Step.{act, local_left, here}
 use Rattle.dv_machine.specs.Conforming.{RefsFine, Conform}
-use Rattle.dv_machine.specs.WellTyped.{Typings, own_of, this_above, records, IsWaiting, WaitFine}
-use Rattle.dv_machine.specs.Premises.{IsAt, LeftFine, DidFine, HoldsOf}
+use Rattle.dv_machine.specs.WellTyped.{Typings, own_of, this_above, records, IsWaiting}
+use Rattle.dv_machine.specs.Premises.{LeftFine, DidFine, HoldsOf}
 use Rattle.dv_machine.specs.StepLaws.{LocalStepsAreFine}
 use Rattle.dv_laws.proofs.Demanding.{no}
 use Rattle.dv_laws.proofs.CallsEntered.{some_same}
 use Rattle.dv_laws.proofs.LocalStill.{still, same_shared, IsQuiet}
 use Rattle.dv_laws.proofs.LocalStands.{Stands, stands, replaced_fine, frame_refs, rest_refs}
-use Rattle.dv_laws.proofs.LocalSteps.{IsWent, sound, all_in}
+use Rattle.dv_laws.proofs.LocalSteps.{sound, all_in}
 
 module _ (image : Image) (T : Typings) (m : Machine) (t : ℕ) (thread : Thread) (own : Method) (f : Frame) (rest : List Level) (x : At) (s : RegState) (h : Stands image T m t thread own f rest x s) where
   -- the thread waits, at this invoke
@@ -88,6 +86,11 @@ module _ (image : Image) (T : Typings) (m : Machine) (t : ℕ) (thread : Thread)
   read_left : (P : Frame → Type 0) (r : Reads Frame) → HoldsOf P r → ((g : Frame) → P g → LeftFine image T m t thread (same_shared image T m t thread h.has_thread (level.Code g ∷ rest))) → DidFine image T m t thread x (reading r (onward here_it m.shared))
   read_left P (Ok g) k n = n g k
   read_left P (Err y) k n = absurd k
+
+  -- what a step does after a read
+  pub read_did : {A : Type 0} (P : A → Type 0) (r : Reads A) (go : A → Did Left) → HoldsOf P r → ((y : A) → P y → DidFine image T m t thread x (go y)) → DidFine image T m t thread x (reading r go)
+  read_did P (Ok y) go k n = n y k
+  read_did P (Err e) go k n = absurd k
 
   -- a local instruction is no invoke
   no_invoke : (op : Op) (c : Call) (ks : List ℕ) (g : Method) → is_local op ≡ true → op ≡ Invoke c ks g → ⊥

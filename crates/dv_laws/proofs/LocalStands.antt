@@ -1,7 +1,7 @@
 -- A thread at an instruction, and its frame after a step.
-use Rattle.std.proofs.Common.{◌≡◌, ◌≢◌, ◌⊎◌, inl, inr, ℕ, zero, suc, List, [], ◌∷◌, length, Bool, true, false, Option, Some, None, refl, sym, ap, ◌∙◌, subst}
+use Rattle.std.proofs.Common.{◌≡◌, ℕ, List, [], ◌∷◌, length, Some, None, sym, ap, ◌∙◌, subst}
 use Rattle.std.specs.Prelude.{slice_get, All}
-use Rattle.std.proofs.lemmas.List.Elements.{All-cons, All-head, All-tail}
+use Rattle.std.proofs.lemmas.List.Elements.{All-head, All-tail}
 use Rattle.dv_defs.specs.declared.image.Image.{Image}
 use Rattle.dv_defs.specs.declared.machine.Frame.{Frame}
 use Rattle.dv_defs.specs.declared.machine.Level.{Level}
@@ -9,19 +9,15 @@ use Rattle.dv_defs.specs.declared.machine.Level.TheVariants as level
 use Rattle.dv_defs.specs.declared.machine.End.{End}
 use Rattle.dv_defs.specs.declared.machine.End.TheVariants as end
 use Rattle.dv_defs.specs.declared.typing.RegState.{RegState}
-use Rattle.dv_defs.specs.Parts.{Call}
 use Rattle.dv_defs.specs.Pools.{Method, method_at}
-use Rattle.dv_defs.specs.Op.{Op, Invoke, Code, code_at}
+use Rattle.dv_defs.specs.Op.{Code, code_at}
 use Rattle.dv_defs.specs.Statics.{At, fetch, op_rules}
 use Rattle.dv_defs.specs.Demands.{demands}
 use Rattle.dv_defs.specs.Transfer.{out}
 use Rattle.dv_defs.specs.Flow.{Leads, targets}
-use Rattle.dv_defs.specs.Heap.{Heap}
 use Rattle.dv_machine.specs.State.{Thread, Machine, Here, Shared}
-use Rattle.dv_machine.specs.Step.{here}
 use Rattle.dv_machine.specs.Conforming.{Conform, RefsFine}
-use Rattle.dv_machine.specs.WellTyped.{Typings, own_of, this_above, lowest, IsCode, BelowCode, IsPlaced, CodeFine, StackFine, ThreadFine, WellTyped}
-use Rattle.dv_machine.specs.Accepted.{Accepted, IsFine}
+use Rattle.dv_machine.specs.WellTyped.{Typings, own_of, this_above, lowest, IsCode, BelowCode, IsPlaced, CodeFine, StackFine, ThreadFine}
 use Rattle.dv_machine.specs.Premises.{MayStep, IsAt}
 use Rattle.dv_laws.proofs.CallsEntered.{some_same, code_is}
 use Rattle.dv_laws.proofs.RegistersAbove.{conform_above}

@@ -1,7 +1,6 @@
 -- What each instruction that needs its frame alone makes of it.
-use Rattle.std.proofs.Common.{◌≡◌, ◌⊎◌, inl, inr, ℕ, zero, suc, ◌<◌, ◌≤◌, List, [], ◌∷◌, length, Bool, true, false, Option, Some, None, refl, sym, ap, ◌∙◌, subst}
-use Rattle.std.specs.Prelude.{slice_set, map, ℤ, pos, negsuc, is_some, IfSome, All, Result, Ok, Err}
-use Rattle.std.specs.Int.{w32, w64}
+use Rattle.std.proofs.Common.{◌≡◌, ◌⊎◌, inl, inr, ℕ, zero, suc, ◌<◌, ◌≤◌, List, [], ◌∷◌, length, Bool, true, false, Option, Some, None, refl, sym, ◌∙◌, subst}
+use Rattle.std.specs.Prelude.{slice_set, map, ℤ, pos, negsuc, is_some, All}
 use Rattle.std.proofs.lemmas.Bool.{cases_lt}
 use Rattle.std.proofs.lemmas.List.{length-set, get_or_past}
 use Rattle.std.proofs.lemmas.List.Elements.{All-head, All-tail, All-set, All-get_or}
@@ -12,26 +11,25 @@ use Rattle.dv_defs.specs.declared.run.Value.TheVariants as v
 use Rattle.dv_defs.specs.declared.machine.Pending.{Pending}
 use Rattle.dv_defs.specs.declared.machine.Pending.TheVariants as pending
 use Rattle.dv_defs.specs.declared.machine.Frame.{Frame}
-use Rattle.dv_defs.specs.declared.machine.Level.{Level}
 use Rattle.dv_defs.specs.declared.machine.Level.TheVariants as level
 use Rattle.dv_defs.specs.declared.typing.RegType.{RegType}
 use Rattle.dv_defs.specs.declared.typing.RegType.TheVariants as ty
 use Rattle.dv_defs.specs.declared.typing.PendingType.{PendingType}
 use Rattle.dv_defs.specs.declared.typing.PendingType.TheVariants as pend
 use Rattle.dv_defs.specs.declared.typing.RegState.{RegState}
-use Rattle.dv_defs.specs.Parts.{Test, Bin, Unary}
-use Rattle.dv_defs.specs.Numbers.{operate32, operate64, unary_at, compare, compare_long, from32, lo_of, hi_of}
+use Rattle.dv_defs.specs.Parts.{Test, Bin}
+use Rattle.dv_defs.specs.Numbers.{compare}
 use Rattle.dv_defs.specs.Pools.{Method}
 use Rattle.dv_defs.specs.Op.{Op, Nop, MoveInt, MoveLong, MoveObject, ResultInt, ResultLong, ResultObject, TakeCaught, Const, ConstLong, IntUnary, LongUnary, IntToLong, LongToInt, IntOp, LongOp, LongShift, CompareLong, Goto, IfBoth, IfZero, Switch, Arg, Case, is_local}
 use Rattle.dv_defs.specs.Statics.{At}
 use Rattle.dv_defs.specs.RegTypes.{Types, type_at}
-use Rattle.dv_defs.specs.Demands.{demands, first, int, long, arg_int, is_int, is_movable, is_pending_int, is_pending_long, is_pending_ref, Demand, demand}
+use Rattle.dv_defs.specs.Demands.{demands, int, long, arg_int, is_int, is_movable, is_pending_int, is_pending_long, is_pending_ref}
 use Rattle.dv_defs.specs.Transfer.{out, going, write_type, write_long, copied_int, copied_object, const_type, result_int, result_ref, after_result_long, caught_type}
 use Rattle.dv_defs.specs.Flow.{targets}
 use Rattle.dv_defs.specs.Heap.{Heap}
 use Rattle.dv_machine.specs.State.{Reads, on_next, reg_at, read_int, read_two, read_long, kept_int, kept_object, gone, put, put_two}
 use Rattle.dv_machine.specs.Local.{local, const_value, pending_int, pending_object, put_pending_two, caught_of, read_arg, test_both, test_zero, branched, case_of}
-use Rattle.dv_machine.specs.Conforming.{Own, Conforms, IsGood, IsUninit, IsThere, IsOf, RefFine, ResultFine, RefsFine, ResultConforms, CaughtConforms, Conform}
+use Rattle.dv_machine.specs.Conforming.{Own, Conforms, IsGood, IsUninit, IsThere, RefFine, RefsFine, ResultConforms, CaughtConforms, Conform}
 use Rattle.dv_machine.specs.Premises.{HoldsOf}
 use Rattle.dv_laws.specs.Reading.{Anything}
 use Rattle.dv_laws.proofs.Demanding.{no, first_none, demanded}

@@ -1,9 +1,8 @@
 -- Steps after which all but the levels of their own thread is as it was.
-use Rattle.std.proofs.Common.{◌≡◌, ◌≢◌, ◌⊎◌, inl, inr, ℕ, zero, suc, ◌<◌, ◌≤◌, ◌++◌, List, [], ◌∷◌, length, Bool, true, false, Option, Some, None, refl, sym, ap, ◌∙◌, subst, arith}
+use Rattle.std.proofs.Common.{◌≡◌, ◌≢◌, ◌⊎◌, inl, inr, ℕ, suc, ◌<◌, ◌≤◌, List, length, Some, None, sym, ap, ◌∙◌, subst, arith}
 use Rattle.std.specs.Prelude.{slice_get, slice_set, All}
 use Rattle.std.proofs.lemmas.Bool.{cases_eq}
 use Rattle.std.proofs.lemmas.List.{append-nil, length-set, get_or-set_same, get_or-set_other}
-use Rattle.std.proofs.lemmas.List.Elements.{All-get_or}
 use Rattle.std.proofs.lemmas.Option.{slice_get_within, slice_get-get_or, slice_get_past, get_or_from_slice_get}
 use Rattle.std.proofs.lemmas.Bool.{cases_lt}
 use Rattle.dv_defs.specs.declared.image.Image.{Image}
@@ -13,7 +12,7 @@ use Rattle.dv_defs.specs.Classes.{state_at}
 use Rattle.dv_machine.specs.State.{Thread, Machine, Left}
 use Rattle.dv_machine.specs.Step.{gone_on, end_after}
 use Rattle.dv_machine.specs.Conforming.{RefsFine}
-use Rattle.dv_machine.specs.WellTyped.{Typings, ThreadFine, WaitFine, HeldFine, MonitorsFine, records, levels_in, owed, WellTyped}
+use Rattle.dv_machine.specs.WellTyped.{Typings, ThreadFine, WaitFine, HeldFine, records, levels_in, owed, WellTyped}
 use Rattle.dv_machine.specs.Premises.{LeftFine}
 
 pub all_at : {X : Type 0} (P : X → Type 0) (xs : List X) (i : ℕ) (x : X) → All P xs → slice_get xs i ≡ Some x → P x

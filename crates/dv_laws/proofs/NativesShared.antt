@@ -1,6 +1,6 @@
 -- What the natives share: their prototypes, and the caller's frame after them.
-use Rattle.std.proofs.Common.{◌≡◌, ◌≢◌, ◌⊎◌, inl, inr, ℕ, zero, suc, List, [], ◌∷◌, length, Bool, true, false, Option, Some, None, refl, sym, ap, ◌∙◌, subst, arith}
-use Rattle.std.specs.Prelude.{slice_get, All}
+use Rattle.std.proofs.Common.{◌≡◌, ℕ, suc, List, [], ◌∷◌, length, Bool, true, false, Option, Some, None, refl, sym, ap, ◌∙◌, subst, arith}
+use Rattle.std.specs.Prelude.{All}
 use Rattle.std.proofs.lemmas.List.Elements.{All-cons, All-head}
 use Rattle.dv_defs.specs.declared.names.Ty.{Ty}
 use Rattle.dv_defs.specs.declared.names.Proto.{Proto}
@@ -16,7 +16,7 @@ use Rattle.dv_defs.specs.declared.machine.Level.TheVariants as level
 use Rattle.dv_defs.specs.declared.machine.End.TheVariants as end
 use Rattle.dv_defs.specs.declared.typing.RegState.{RegState}
 use Rattle.dv_defs.specs.Parts.{Call}
-use Rattle.dv_defs.specs.Pools.{Method, is_static, is_constructor}
+use Rattle.dv_defs.specs.Pools.{Method, is_static}
 use Rattle.dv_defs.specs.Op.{Op, Invoke}
 use Rattle.dv_defs.specs.Statics.{At}
 use Rattle.dv_defs.specs.RegTypes.{type_at}
@@ -25,13 +25,12 @@ use Rattle.dv_defs.specs.Transfer.{out, after_invoke, after_constructor, first_o
 use Rattle.dv_defs.specs.Flow.{Leads, targets}
 use Rattle.dv_defs.specs.Heap.{Heap}
 use Rattle.dv_defs.specs.Monitors.{entry_of}
-use Rattle.dv_machine.specs.State.{Thread, Machine, Shared, Left, Did, reg_at, with_result, Here}
+use Rattle.dv_machine.specs.State.{Thread, Machine, Shared, reg_at, with_result}
 use Rattle.dv_machine.specs.Calls.{Lands, dispatch, native_of, receiver_of, signature}
-use Rattle.dv_machine.specs.Step.{here}
+use Rattle.dv_machine.specs.Step.{listed}
 use Rattle.dv_machine.specs.Conforming.{Own, ResultConforms, ResultFine, RefsFine, Conform}
-use Rattle.dv_machine.specs.WellTyped.{Typings, own_of, this_above, IsPlaced, CodeFine, StackFine, ThreadFine, HeapFine, records}
-use Rattle.dv_machine.specs.Premises.{KeepsKinds, LeftFine, ThrowFine, DidFine}
-use Rattle.dv_laws.proofs.Demanding.{no}
+use Rattle.dv_machine.specs.WellTyped.{Typings, own_of, this_above, IsPlaced, CodeFine, ThreadFine, HeapFine, records}
+use Rattle.dv_machine.specs.Premises.{KeepsKinds, StartedFine, LeftFine, ThrowFine}
 use Rattle.dv_laws.proofs.GrowthLists.{nothing}
 use Rattle.dv_laws.proofs.GrowthKinds.{good_grown, stack_grown, refs_grown, all_refs_grown}
 use Rattle.dv_laws.proofs.GrowthThreads.{records_after}
@@ -136,7 +135,7 @@ module _ (image : Image) (T : Typings) (m : Machine) (t : ℕ) (thread : Thread)
     after_code : CodeFine image T new frame_after rest
     after_code = let b = code_fine image T m t thread own f rest x s h in record { frame = record { code = b.frame.code; has_code = b.frame.has_code; registers = b.frame.registers }; below = b.below }
 
-    levels_after : ThreadFine image T new t (level.Code frame_after ∷ rest) end.Living
+    pub levels_after : ThreadFine image T new t (level.Code frame_after ∷ rest) end.Living
     levels_after = (same_lowest f frame_after rest (stack_fine image T m t thread own f rest x s h).0, (after_code, after_placed, tt, stack_grown image heap new grows T t rest h.rest_fine))
 
     after_refs : All (RefsFine image new) (level.Code frame_after ∷ rest)
@@ -144,14 +143,17 @@ module _ (image : Image) (T : Typings) (m : Machine) (t : ℕ) (thread : Thread)
         let r = refs_grown image heap new grows (level.Code f) (frame_refs image T m t thread own f rest x s h) in
         All-cons (RefsFine image new) (level.Code frame_after) rest (r.0, there, tt) (all_refs_grown image heap new grows rest (rest_refs image T m t thread own f rest x s h))
 
-    pub native_left : entry_of m.shared.monitors t ≡ None → LeftFine image T m t thread (record { levels = level.Code frame_after ∷ rest; shared = shared_after; started = None })
-    native_left apart = record {
+    pub started_left : (u : Option Thread) → ((y : Thread) → u ≡ Some y → (d : ℕ) → records d y.levels ≡ 0) → ((y : Thread) → u ≡ Some y → StartedFine image T new (length m.threads) y) → entry_of m.shared.monitors t ≡ None → LeftFine image T m t thread (record { levels = level.Code frame_after ∷ rest; shared = shared_after; started = u })
+    started_left u none fresh apart = record {
       keeps = grows;
       levels = levels_after;
       refs = after_refs;
       heap = fine;
       class_states = h.may.typed.class_states;
-      monitors = quiet_moved image m.threads t thread _ [] m.shared shared_after m.steps (suc m.steps) grows refl (omega arith) h.has_thread h.may.typed.refs apart h.may.typed.monitors;
-      in_progress = records_after m.threads t thread _ None h.has_thread m.shared.classes m.shared.classes h.may.typed.in_progress (records_of image T m t thread (level.Code f ∷ rest) h.may.typed h.has_thread h.levels) (λ u d n. refl) (λ y i. nothing ((d : ℕ) → records d y.levels ≡ 0) y i);
-      started = λ y i. nothing _ y i;
+      monitors = quiet_moved image m.threads t thread _ (listed u) m.shared shared_after m.steps (suc m.steps) grows refl (omega arith) h.has_thread h.may.typed.refs apart h.may.typed.monitors;
+      in_progress = records_after m.threads t thread _ u h.has_thread m.shared.classes m.shared.classes h.may.typed.in_progress (records_of image T m t thread (level.Code f ∷ rest) h.may.typed h.has_thread h.levels) (λ y d n. refl) none;
+      started = fresh;
     }
+
+    pub native_left : entry_of m.shared.monitors t ≡ None → LeftFine image T m t thread (record { levels = level.Code frame_after ∷ rest; shared = shared_after; started = None })
+    native_left apart = started_left None (λ y i. nothing ((d : ℕ) → records d y.levels ≡ 0) y i) (λ y i. nothing _ y i) apart

@@ -1,28 +1,25 @@
 -- Reads of numbers, references and pending results find what they want.
-use Rattle.std.proofs.Common.{◌≡◌, ◌⊎◌, inl, inr, ℕ, zero, suc, List, [], ◌∷◌, Bool, true, false, Option, Some, None, refl, sym, ap, ◌∙◌, subst}
-use Rattle.std.specs.Prelude.{ℤ, pos, ◌&&◌, ◌||◌, Result, Ok, Err, nat_eq}
+use Rattle.std.proofs.Common.{◌≡◌, ◌⊎◌, inl, inr, ℕ, zero, suc, List, Bool, true, false, Some, None, refl, ap, ◌∙◌, subst}
+use Rattle.std.specs.Prelude.{◌&&◌, ◌||◌, Ok, Err}
 use Rattle.dv_defs.specs.declared.names.Ty.{Ty}
 use Rattle.dv_defs.specs.declared.image.Image.{Image}
 use Rattle.dv_defs.specs.declared.run.Value.{Value}
 use Rattle.dv_defs.specs.declared.run.Value.TheVariants as v
 use Rattle.dv_defs.specs.declared.machine.Kind.{Kind}
-use Rattle.dv_defs.specs.declared.machine.Pending.{Pending}
 use Rattle.dv_defs.specs.declared.machine.Pending.TheVariants as pending
 use Rattle.dv_defs.specs.declared.typing.RegType.{RegType}
 use Rattle.dv_defs.specs.declared.typing.RegType.TheVariants as ty
-use Rattle.dv_defs.specs.declared.typing.PendingType.{PendingType}
 use Rattle.dv_defs.specs.declared.typing.PendingType.TheVariants as pend
 use Rattle.dv_defs.specs.Parts.{Test, is_equality}
 use Rattle.dv_defs.specs.Numbers.{compare}
 use Rattle.dv_defs.specs.Order.{assignable}
-use Rattle.dv_defs.specs.Op.{Arg, Reg, Lit}
+use Rattle.dv_defs.specs.Op.{Reg, Lit}
 use Rattle.dv_defs.specs.RegTypes.{Types, type_at}
-use Rattle.dv_defs.specs.Demands.{Demand, first, demand, is_int, is_lo, is_hi, is_ref, is_movable, is_assignable, int, long, ref, both_for, zero_for}
-use Rattle.dv_defs.specs.Transfer.{result_int, result_ref}
+use Rattle.dv_defs.specs.Demands.{Demand, first, demand, is_int, is_lo, is_hi, is_ref, is_movable, is_assignable, long, ref}
 use Rattle.dv_defs.specs.Heap.{Heap, kind_of}
-use Rattle.dv_machine.specs.State.{Reads, Two, on_next, reg_at, read_int, kept_int, read_lo, read_hi, read_two, read_long, read_any, read_ref, read_tested, tested, any_kind, fits_kind, where_ref, kept_object}
-use Rattle.dv_machine.specs.Local.{Word, Nil, Number, Object, read_word, compare_words, test_both, test_zero, pending_int, pending_object}
-use Rattle.dv_machine.specs.Conforming.{Own, Conforms, RegsConform, IsObject, IsThere, IsOf, Fits, ResultConforms}
+use Rattle.dv_machine.specs.State.{Reads, on_next, reg_at, read_int, kept_int, read_lo, read_hi, read_two, read_any, read_ref, tested, any_kind, fits_kind, where_ref, kept_object}
+use Rattle.dv_machine.specs.Local.{Word, Nil, Number, Object, read_word, compare_words}
+use Rattle.dv_machine.specs.Conforming.{Own, Conforms, RegsConform, IsThere, Fits}
 use Rattle.dv_machine.specs.Accepted.{IsOrder}
 use Rattle.dv_machine.specs.Premises.{HoldsOf}
 use Rattle.dv_laws.specs.Reading.{Anything, ReadsInt, KeepsInt, ReadsArgument, ReadsTwo, ReadsLong, ReadsReference, ReadsReferenceTo, KeepsObject, TestsBoth, TestsZero, MovesInt, MovesReference}

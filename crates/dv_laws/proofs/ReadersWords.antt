@@ -1,6 +1,6 @@
 -- Values by a declared type, arguments and results.
-use Rattle.std.proofs.Common.{arith, ◌≡◌, ℕ, zero, suc, ◌++◌, List, [], ◌∷◌, length, Bool, true, false, Option, Some, None, refl, sym, ap, ◌∙◌, subst}
-use Rattle.std.specs.Prelude.{Result, Ok, Err, nat_eq, ◌&&◌, All}
+use Rattle.std.proofs.Common.{arith, ◌≡◌, ℕ, zero, suc, ◌++◌, List, [], ◌∷◌, Bool, true, false, Some, None, refl, sym, ap, ◌∙◌, subst}
+use Rattle.std.specs.Prelude.{Ok, Err, nat_eq, All}
 use Rattle.std.proofs.lemmas.List.Elements.{All-nil, All-cons}
 use Rattle.dv_defs.specs.declared.names.Ty.{Ty}
 use Rattle.dv_defs.specs.declared.image.Image.{Image}
@@ -8,24 +8,22 @@ use Rattle.dv_defs.specs.declared.run.Value.{Value}
 use Rattle.dv_defs.specs.declared.run.Value.TheVariants as v
 use Rattle.dv_defs.specs.declared.run.Why.TheVariants as why
 use Rattle.dv_defs.specs.declared.faults.Rule.TheVariants as rule
-use Rattle.dv_defs.specs.declared.machine.Pending.{Pending}
 use Rattle.dv_defs.specs.declared.typing.RegType.{RegType}
 use Rattle.dv_defs.specs.declared.typing.RegType.TheVariants as ty
 use Rattle.dv_defs.specs.declared.typing.PendingType.{PendingType}
 use Rattle.dv_defs.specs.declared.typing.PendingType.TheVariants as pend
 use Rattle.dv_defs.specs.Types.{is_reference, is_long}
 use Rattle.dv_defs.specs.RegTypes.{Types, type_at, single_type, reg_types, all_types}
-use Rattle.dv_defs.specs.Demands.{Demand, first, demand, int, long, ref, ref_to, is_int, is_ref, is_assignable, single_for, value_for, args_for}
-use Rattle.dv_defs.specs.Transfer.{pending_of}
+use Rattle.dv_defs.specs.Demands.{Demand, first, demand, long, is_int, is_ref, is_assignable, single_for, value_for, args_for}
 use Rattle.dv_defs.specs.Heap.{Heap}
 use Rattle.dv_machine.specs.State.{Reads, on_next, reg_at, read_two, read_ref, kept_int, read_single, read_value, are_neighbours, read_args}
 use Rattle.dv_machine.specs.Calls.{pending_words}
-use Rattle.dv_machine.specs.Conforming.{Own, Conforms, RegsConform, IsUninit, AreApart, IsGood, Fits, IsThere, RefFine, ResultConforms}
+use Rattle.dv_machine.specs.Conforming.{Own, Conforms, RegsConform, IsUninit, AreApart, IsGood, Fits, RefFine, ResultConforms}
 use Rattle.dv_machine.specs.Accepted.{IsOrder}
 use Rattle.dv_machine.specs.Premises.{HoldsOf}
 use Rattle.dv_laws.specs.Reading.{Anything, AreWords, ReadsValue, ReadsArguments, WordsPend}
 use Rattle.dv_laws.proofs.Demanding.{no, first_none, demanded}
-use Rattle.dv_laws.proofs.ReadersPlain.{next_holds, holds_more, two_holds, kept_int_holds, int_holds, ref_conforms, ref_holds, there_of}
+use Rattle.dv_laws.proofs.ReadersPlain.{next_holds, holds_more, two_holds, kept_int_holds, ref_conforms, ref_holds, there_of}
 
 -- ---- lists of words with their types
 

@@ -1,7 +1,6 @@
 -- New objects in registers, and what their constructors make of them.
-use Rattle.std.proofs.Common.{◌≡◌, ◌≢◌, ◌↔◌, ◌⊎◌, inl, inr, ℕ, zero, suc, ◌<◌, ◌≤◌, List, [], ◌∷◌, length, Bool, true, false, Option, Some, None, refl, sym, ap, ◌∙◌, arith}
-use Rattle.std.specs.Prelude.{slice_set, nat_eq, map}
-use Rattle.std.proofs.lemmas.Grind.{common_steps}
+use Rattle.std.proofs.Common.{◌≡◌, ◌≢◌, ◌↔◌, ◌⊎◌, inl, inr, ℕ, zero, suc, ◌<◌, ◌≤◌, List, length, true, false, Some, refl, sym, ap, ◌∙◌, arith}
+use Rattle.std.specs.Prelude.{slice_set, map}
 use Rattle.std.proofs.lemmas.Bool.{cases_lt, cases_eq}
 use Rattle.std.proofs.lemmas.List.{length-set, get_or-set_same, get_or-set_other, set_past}
 use Rattle.std.proofs.Math.ListN.{get_or-map, length-map}
@@ -13,14 +12,14 @@ use Rattle.dv_defs.specs.declared.typing.RegType.{RegType}
 use Rattle.dv_defs.specs.declared.typing.RegType.TheVariants as ty
 use Rattle.dv_defs.specs.Pools.{class_type}
 use Rattle.dv_defs.specs.RegTypes.{Types, type_at}
-use Rattle.dv_defs.specs.Transfer.{write_type, break_before, break_after, replaced, replaced_this, lost}
+use Rattle.dv_defs.specs.Transfer.{write_type, break_before, break_after, replaced, replaced_this}
 use Rattle.dv_defs.specs.Heap.{Heap}
 use Rattle.dv_machine.specs.State.{reg_at}
 use Rattle.dv_machine.specs.Calls.{object_of, initialised}
-use Rattle.dv_machine.specs.Conforming.{Own, Conforms, Fits, IsOf, RegsConform, IsUninit, AreApart, IsGood}
+use Rattle.dv_machine.specs.Conforming.{Own, Conforms, Fits, IsOf, IsUninit, IsGood}
 use Rattle.dv_machine.specs.StepLaws.{NewInstanceKeeps, ConstructorKeeps, OwnConstructorKeeps}
 use Rattle.dv_laws.proofs.Demanding.{eq_true, eq_false}
-use Rattle.dv_laws.proofs.RegistersWritten.{Source, old, plain, AreFrom, from_good, from_self, from_before, from_after, broken}
+use Rattle.dv_laws.proofs.RegistersWritten.{Source, old, plain, AreFrom, from_good, broken}
 
 pub of_fits : (image : Image) (heap : Heap) (o : ℕ) (t : Ty) → IsOf image heap o t → Fits image heap o t
 of_fits image heap zero t h = tt

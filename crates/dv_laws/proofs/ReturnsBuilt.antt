@@ -1,7 +1,6 @@
 -- The object on which a constructor was called is of a class that has constructors.
-use Rattle.std.proofs.Common.{◌≡◌, ℕ, zero, suc, List, [], ◌∷◌, length, Bool, true, false, Option, Some, None, refl, sym, ap, ◌∙◌, subst}
+use Rattle.std.proofs.Common.{◌≡◌, ℕ, zero, suc, List, [], ◌∷◌, Bool, true, false, Option, Some, None, refl, sym, ap, ◌∙◌, subst}
 use Rattle.std.specs.Prelude.{All, not}
-use Rattle.std.proofs.lemmas.List.Elements.{All-head}
 use Rattle.dv_defs.specs.declared.names.Ty.{Ty}
 use Rattle.dv_defs.specs.declared.image.Image.{Image}
 use Rattle.dv_defs.specs.declared.run.Value.{Value}
@@ -15,21 +14,20 @@ use Rattle.dv_defs.specs.declared.typing.RegType.{RegType}
 use Rattle.dv_defs.specs.declared.typing.RegType.TheVariants as ty
 use Rattle.dv_defs.specs.declared.typing.RegState.{RegState}
 use Rattle.dv_defs.specs.Parts.{Call}
-use Rattle.dv_defs.specs.Types.{is_reference}
 use Rattle.dv_defs.specs.Pools.{Method, method_at, is_constructor, own_type, class_type, name_at}
 use Rattle.dv_defs.specs.Order.{sub, fits}
-use Rattle.dv_defs.specs.Op.{Op, Invoke, Code, code_at}
+use Rattle.dv_defs.specs.Op.{Op, Invoke, Code}
 use Rattle.dv_defs.specs.Statics.{At, fetch}
 use Rattle.dv_defs.specs.RegTypes.{type_at}
-use Rattle.dv_defs.specs.Demands.{demands, demand, receiver_for, is_exactly, made_at}
+use Rattle.dv_defs.specs.Demands.{demands, receiver_for, is_exactly, made_at}
 use Rattle.dv_defs.specs.Transfer.{out}
 use Rattle.dv_defs.specs.Flow.{Leads, targets}
-use Rattle.dv_defs.specs.Heap.{Heap, kind_of, kind_type}
+use Rattle.dv_defs.specs.Heap.{Heap, kind_of}
 use Rattle.dv_machine.specs.State.{reg_at}
 use Rattle.dv_machine.specs.Calls.{object_of}
-use Rattle.dv_machine.specs.Conforming.{Own, Conforms, IsOf, IsThere, is_proper, is_string_or_class, Conform}
+use Rattle.dv_machine.specs.Conforming.{Conforms, IsThere, is_proper, is_string_or_class, Conform}
 use Rattle.dv_machine.specs.WellTyped.{Typings, own_of, called_on, this_above, IsPlaced, StackFine}
-use Rattle.dv_machine.specs.Accepted.{Accepted, IsOrder}
+use Rattle.dv_machine.specs.Accepted.{Accepted}
 use Rattle.dv_laws.specs.Returning.{IsBuilt}
 use Rattle.dv_laws.proofs.Demanding.{no, demanded}
 use Rattle.dv_laws.proofs.CallsEntered.{some_same, code_is}

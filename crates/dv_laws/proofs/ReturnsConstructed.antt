@@ -1,7 +1,6 @@
 -- The caller's frame after a return.
-use Rattle.std.proofs.Common.{◌≡◌, ℕ, zero, suc, List, [], ◌∷◌, Bool, true, false, Option, Some, None, refl, sym, ap, ◌∙◌, subst}
-use Rattle.std.specs.Prelude.{map, ◌&&◌, not, bytes_eq}
-use Rattle.dv_defs.specs.declared.names.Ty.{Ty}
+use Rattle.std.proofs.Common.{◌≡◌, ℕ, List, [], ◌∷◌, Bool, true, false, Option, Some, None, refl, sym, ap, ◌∙◌, subst}
+use Rattle.std.specs.Prelude.{map, not, bytes_eq}
 use Rattle.dv_defs.specs.declared.image.Image.{Image}
 use Rattle.dv_defs.specs.declared.run.Value.{Value}
 use Rattle.dv_defs.specs.declared.run.Value.TheVariants as v
@@ -14,7 +13,6 @@ use Rattle.dv_defs.specs.Parts.{Call}
 use Rattle.dv_defs.specs.Names.{init_name}
 use Rattle.dv_defs.specs.Pools.{Method, is_static, is_constructor, own_type, class_type}
 use Rattle.dv_defs.specs.Op.{Op, Invoke}
-use Rattle.dv_defs.specs.Statics.{At}
 use Rattle.dv_defs.specs.RegTypes.{type_at}
 use Rattle.dv_defs.specs.Demands.{demands, invoke_for, instance_call, receiver_for, ref_to, super_for, args_for, made_at, first, Demand}
 use Rattle.dv_defs.specs.Transfer as after
@@ -24,7 +22,7 @@ use Rattle.dv_machine.specs.State.{reg_at, with_result}
 use Rattle.dv_machine.specs.Calls.{receiver_of, constructed, returned, initialised, object_of}
 use Rattle.dv_machine.specs.Conforming.{Own, Conforms, IsGood, ResultConforms, Conform}
 use Rattle.dv_machine.specs.WellTyped.{own_of}
-use Rattle.dv_laws.specs.Returning.{IsBuilt, IsBack, ReturnedConforms}
+use Rattle.dv_laws.specs.Returning.{IsBuilt, ReturnedConforms}
 use Rattle.dv_laws.proofs.Demanding.{no, first_none, both_true, not_true}
 use Rattle.dv_laws.proofs.RegistersMade.{made_good, own_good}
 

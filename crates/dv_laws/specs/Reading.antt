@@ -1,5 +1,5 @@
 -- What the reads of a step give, where registers conform and the verifier's demand holds.
-use Rattle.std.specs.Prelude.{◌≡◌, ℕ, zero, suc, true, Bool, List, length, Option, Some, None, ℤ, All}
+use Rattle.std.specs.Prelude.{◌≡◌, ℕ, zero, suc, true, Bool, List, Option, Some, None, All}
 use Rattle.dv_defs.specs.declared.names.Ty.{Ty}
 use Rattle.dv_defs.specs.declared.image.Image.{Image}
 use Rattle.dv_defs.specs.declared.run.Value.{Value}
@@ -10,21 +10,21 @@ use Rattle.dv_defs.specs.declared.typing.RegType.TheVariants as ty
 use Rattle.dv_defs.specs.declared.typing.PendingType.{PendingType}
 use Rattle.dv_defs.specs.Parts.{Test, Suffix}
 use Rattle.dv_defs.specs.Types.{component}
-use Rattle.dv_defs.specs.Pools.{Method}
-use Rattle.dv_defs.specs.Order.{instance}
+use Rattle.dv_defs.specs.Pools.{Method, method_at, class_type, own_type}
+use Rattle.dv_defs.specs.Order.{sub, instance}
 use Rattle.dv_defs.specs.Op.{Arg}
 use Rattle.dv_defs.specs.Statics.{is_of_suffix}
 use Rattle.dv_defs.specs.RegTypes.{Types, type_at, reg_types, all_types}
 use Rattle.dv_defs.specs.Demands.{int, long, ref, ref_to, array, value_for, args_for, receiver_for, is_movable, arg_int, both_for, zero_for, is_fill_type, any_type}
 use Rattle.dv_defs.specs.Transfer.{pending_of, result_int, result_ref}
 use Rattle.dv_defs.specs.Heap.{Heap, kind_of}
-use Rattle.dv_machine.specs.State.{Reads, reg_at, read_int, kept_int, read_two, read_long, read_any, read_ref, kept_object, read_array, read_value, read_args}
+use Rattle.dv_machine.specs.State.{reg_at, read_int, kept_int, read_two, read_long, read_any, read_ref, kept_object, read_array, read_value, read_args}
 use Rattle.dv_machine.specs.Local.{read_arg, test_both, test_zero, pending_int, pending_object}
 use Rattle.dv_machine.specs.Calls.{object_of, read_new, pending_words}
 use Rattle.dv_machine.specs.Conforming.{Own, Conforms, RegsConform, IsGood, IsThere, Fits, ResultConforms, RefFine}
-use Rattle.dv_machine.specs.Accepted.{IsOrder}
+use Rattle.dv_machine.specs.Accepted.{IsOrder, Accepted}
 use Rattle.dv_machine.specs.Premises.{HoldsOf}
-use Rattle.dv_machine.specs.WellTyped.{own_of}
+use Rattle.dv_machine.specs.WellTyped.{Typings, own_of}
 
 -- nothing more is said of what is read
 abbrev pub Anything : {A : Type 0} → A → Type 0
@@ -111,6 +111,18 @@ ReadsArguments = (image : Image) (heap : Heap) (own : Own) (xs : List Value) (ts
 -- the words of a result are pending as that type's
 abbrev pub WordsPend : Type 0
 WordsPend = (image : Image) (heap : Heap) (own : Own) (xs : List Value) (t : Ty) → AreWords image heap xs (reg_types t) → ResultConforms image heap own (pending_words xs) (pending_of (Some t))
+
+-- ---- the receiver of a constructor
+
+-- an object of a class under a type
+pub record IsUnder (image : Image) (heap : Heap) (t : Ty) (o : ℕ) : Type 0 where
+  pub class : ℕ
+  pub has_kind : kind_of heap o ≡ Some (kind.Object (record { 0 = class }))
+  pub under : sub image (class_type image class) t ≡ true
+
+-- the receiver of a constructor's call is an uninitialised object of a class under the constructor's
+abbrev pub ReadsReceiver : Type 0
+ReadsReceiver = (image : Image) (T : Typings) (heap : Heap) (this : Option ℕ) (n : ℕ) (own g : Method) (xs : List Value) (ts : Types) (k : ℕ) → Accepted image T → method_at image n ≡ Some own → RegsConform image heap (own_of image this own) xs ts → receiver_for image own g (type_at ts k) ≡ None → HoldsOf (λ o. (object_of (reg_at xs k) ≡ Some o) × IsUnder image heap (own_type image g) o) (read_new image heap own g (reg_at xs k))
 
 -- ---- pending results
 

@@ -1,0 +1,5 @@
+use Rattle.dv_laws.proofs.calls.invokes_push.Goals as goal
+use Rattle.dv_laws.proofs.CallsPush.{invokes_push}
+
+pub returns : goal.returns
+returns c = record { law = invokes_push }

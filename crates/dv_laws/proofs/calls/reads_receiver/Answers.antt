@@ -1,0 +1,5 @@
+use Rattle.dv_laws.proofs.calls.reads_receiver.Goals as goal
+use Rattle.dv_laws.proofs.CallsConstructors.{reads_receiver}
+
+pub returns : goal.returns
+returns c = record { law = reads_receiver }
