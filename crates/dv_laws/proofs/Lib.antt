@@ -76,3 +76,4 @@ pub mod NativesMonitors
 pub mod NativesStarted
 pub mod CallsPush
 pub mod SoundSteps
+pub mod HeapStepsLeft

@@ -24,3 +24,9 @@ pub fn stores_keep()
     ensures cell { StoreKeeps }
     ensures field { StaticStoreKeeps }
 {}
+
+/// try
+#[tactic(auto, using(crate::proofs::HeapStepsLeft::gone_left))]
+pub fn heap_steps_are_fine()
+    ensures law { GrowthKeeps }
+{}
