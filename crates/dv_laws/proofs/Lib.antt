@@ -77,3 +77,4 @@ pub mod NativesStarted
 pub mod CallsPush
 pub mod SoundSteps
 pub mod HeapStepsLeft
+pub mod HeapStepsPlain
