@@ -185,7 +185,11 @@ module _ (image : Image) (T : Typings) (m : Machine) (t : ℕ) (thread : Thread)
       go false = number_left (InstanceOf a b u) a (pos 0) e refl refl
 
   array_length : (a b : ℕ) → x.op ≡ ArrayLength a b → DidFine image T m t thread x (mem (here image m t own f rest x.next) (ArrayLength a b))
-  array_length a b e = read_then image T m t thread x (IsArrayOrNull image m.shared.heap any_type (type_at s.regs b)) _ _ (reads_array image m.shared.heap (own_of image (this_above image rest) own) f.regs s.regs b any_type h.may.accepted.order (tests_go_down image).any h.conform.good.regs (demand_of (ArrayLength a b) e)) (λ o p. object_then image T m t thread x _ o (throws (ArrayLength a b) e refl) (λ q w. number_left (ArrayLength a b) a (pos (length_of m.shared.heap (suc q))) e refl refl))
+  array_length a b e = read_then image T m t thread x (IsArrayOrNull image m.shared.heap any_type (type_at s.regs b)) _ _ (reads_array image m.shared.heap (own_of image (this_above image rest) own) f.regs s.regs b any_type h.may.accepted.order (tests_go_down image).any h.conform.good.regs (demand_of (ArrayLength a b) e)) counted
+    where
+      counted : (o : ℕ) → IsArrayOrNull image m.shared.heap any_type (type_at s.regs b) o → DidFine image T m t thread x (on_object (λ o. onward (here image m t own f rest x.next) m.shared (record { method = f.method; at = x.next; regs = slice_set f.regs a (v.Num (pos (length_of m.shared.heap o))); result = pending.None; caught = None; this_pending = f.this_pending })) o)
+      counted zero p = throws (ArrayLength a b) e refl
+      counted (suc o) p = number_left (ArrayLength a b) a (pos (length_of m.shared.heap (suc o))) e refl refl
 
   -- a register keeps its value and has another type
   cast_left : (a : ℕ) (u : Ty) → x.op ≡ Cast a u → Conforms image m.shared.heap (own_of image (this_above image rest) own) (reg_at f.regs a) (ty.Class u) → DidFine image T m t thread x (onward (here image m t own f rest x.next) m.shared (record { method = f.method; at = x.next; regs = f.regs; result = pending.None; caught = None; this_pending = f.this_pending }))
