@@ -78,3 +78,4 @@ pub mod CallsPush
 pub mod SoundSteps
 pub mod HeapStepsLeft
 pub mod HeapStepsPlain
+pub mod HeapStepsPlaces

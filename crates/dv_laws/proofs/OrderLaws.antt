@@ -106,7 +106,7 @@ is_interface_named image t name c flat e has marked = and_from (nat_eq t.dims 0)
 
 module _ (image : Image) (h : IsHierarchy image) where
   -- a superclass of an interface is Object, above which is nothing else
-  above_interface : (n c d : ℕ) → is_interface image c ≡ true → reaches image n d c ≡ true → (is_interface image d ≡ true) ⊎ (name_at image d ≡ object_name)
+  pub above_interface : (n c d : ℕ) → is_interface image c ≡ true → reaches image n d c ≡ true → (is_interface image d ≡ true) ⊎ (name_at image d ≡ object_name)
   above_interface zero c d m r = no r
   above_interface (suc n) c d m r = elim (reach_is image n d c r) [
     | inl here ↦ inl (subst (λ (x : ℕ). is_interface image x ≡ true) here m)

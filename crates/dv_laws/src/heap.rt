@@ -26,7 +26,7 @@ pub fn stores_keep()
 {}
 
 /// try
-#[tactic(auto, using(crate::proofs::HeapStepsPlain::new_array_fine))]
+#[tactic(auto, using(crate::proofs::HeapStepsPlaces::field_object))]
 pub fn heap_steps_are_fine()
     ensures law { GrowthKeeps }
 {}

@@ -1,6 +1,7 @@
 -- When values, registers and frames conform to what the verifier knows.
 use Rattle.std.specs.Prelude.{◌≡◌, ◌↔◌, ℕ, zero, suc, Bool, true, ◌||◌, not, List, length, Option, Some, None, All, IfSome, bytes_eq}
 use Rattle.dv_defs.specs.Pools.{class_type, name_at}
+use Rattle.dv_defs.specs.Types.{is_array}
 use Rattle.dv_defs.specs.Names.{class_name, string_name}
 use Rattle.dv_defs.specs.RegTypes.{Types, type_at}
 use Rattle.dv_defs.specs.Order.{sub, fits}
@@ -33,9 +34,10 @@ pub record Own : Type 0 where
 abbrev pub is_string_or_class : List ℕ → Bool
 is_string_or_class name = bytes_eq name string_name || bytes_eq name class_name
 
--- an object of class String is a string, one of class Class a Class object
+-- an object of class String is a string, one of class Class a Class object; an array is of an array type
 abbrev pub is_proper : Image → Kind → Bool
 is_proper image (kind.Object c) = not (is_string_or_class (name_at image c.0))
+is_proper image (kind.Array t) = is_array t
 is_proper image k = true
 
 pub record IsObject (image : Image) (heap : Heap) (o : ℕ) : Type 0 where
