@@ -79,3 +79,4 @@ pub mod SoundSteps
 pub mod HeapStepsLeft
 pub mod HeapStepsPlain
 pub mod HeapStepsPlaces
+pub mod HeapStepsCells

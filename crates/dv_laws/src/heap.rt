@@ -26,7 +26,7 @@ pub fn stores_keep()
 {}
 
 /// try
-#[tactic(auto, using(crate::proofs::HeapStepsPlaces::field_object))]
+#[tactic(auto, using(crate::proofs::HeapStepsCells::static_stored_fine))]
 pub fn heap_steps_are_fine()
     ensures law { GrowthKeeps }
 {}
