@@ -86,7 +86,7 @@ fresh_elements_are t (suc n) = ap (λ (xs : Cells). fresh_cells (reg_types (comp
 
 -- ---- how many cells
 
-reg_count : (t : Ty) → length (reg_types t) ≡ words_of t
+pub reg_count : (t : Ty) → length (reg_types t) ≡ words_of t
 reg_count t = go (is_long t)
   where
     go : (b : Bool) → length {A = RegType} (elim b [ true ↦ ty.LongLo ∷ ty.LongHi ∷ [] | false ↦ single_type t ∷ [] ]) ≡ elim b [ true ↦ 2 | false ↦ 1 ]

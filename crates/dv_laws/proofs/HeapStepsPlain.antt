@@ -74,17 +74,17 @@ unfolding instance
 instance_reference image a b e r = under_reference image (implements image) a b e r
 
 module _ (image : Image) (T : Typings) (m : Machine) (t : ℕ) (thread : Thread) (own : Method) (f : Frame) (rest : List Level) (x : At) (s : RegState) (h : Stands image T m t thread own f rest x s) (code : Code) (rules : op_rules image code x.op ≡ []) (apart : (c : Call) (ks : List ℕ) (g : Method) → x.op ≡ Invoke c ks g → ⊥) where
-  demand_of : (op : Op) → x.op ≡ op → demands image own op s ≡ None
+  pub demand_of : (op : Op) → x.op ≡ op → demands image own op s ≡ None
   demand_of op e = sym (ap (λ z. demands image own z s) e) ∙ h.demand
 
-  out_of : (op : Op) → x.op ≡ op → out image own f.at x.op s ≡ out image own f.at op s
+  pub out_of : (op : Op) → x.op ≡ op → out image own f.at x.op s ≡ out image own f.at op s
   out_of op e = ap (λ z. out image own f.at z s) e
 
-  throws : (op : Op) → x.op ≡ op → can_throw op ≡ true → ThrowFine m t x
+  pub throws : (op : Op) → x.op ≡ op → can_throw op ≡ true → ThrowFine m t x
   throws op e c = record { can = ap can_throw e ∙ c; apart = no_wait image T m t thread own f rest x s h apart }
 
   -- the heap stays as it is
-  same_heap : KeepsKinds m.shared.heap m.shared.heap
+  pub same_heap : KeepsKinds m.shared.heap m.shared.heap
   same_heap o k e = e
 
   number_left : (op : Op) (a : ℕ) (n : ℤ) → x.op ≡ op → goes_on op ≡ true → out image own f.at op s ≡ going s (write_type s.regs a ty.Int) → DidFine image T m t thread x (onward (here image m t own f rest x.next) m.shared (record { method = f.method; at = x.next; regs = slice_set f.regs a (v.Num n); result = pending.None; caught = None; this_pending = f.this_pending }))

@@ -80,3 +80,4 @@ pub mod HeapStepsLeft
 pub mod HeapStepsPlain
 pub mod HeapStepsPlaces
 pub mod HeapStepsCells
+pub mod HeapStepsFields
