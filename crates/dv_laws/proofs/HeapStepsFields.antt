@@ -43,7 +43,7 @@ use Rattle.dv_laws.proofs.ReadersWords.{reads_value}
 use Rattle.dv_laws.proofs.CallsResolved.{is_named}
 use Rattle.dv_laws.proofs.Demanding.{first_none, demanded}
 
-holds_map : {A : Type 0} (P Q : A → Type 0) (r : Reads A) → HoldsOf P r → ((y : A) → P y → Q y) → HoldsOf Q r
+pub holds_map : {A : Type 0} (P Q : A → Type 0) (r : Reads A) → HoldsOf P r → ((y : A) → P y → Q y) → HoldsOf Q r
 holds_map P Q (Ok y) h g = g y h
 holds_map P Q (Err w) h g = h
 
@@ -72,19 +72,18 @@ module _ (image : Image) (T : Typings) (m : Machine) (t : ℕ) (thread : Thread)
   -- ---- instance fields
 
   module _ (w : Suffix) (x' : Field) (n : ℕ) (has : field_at image n ≡ Some x') (fits : fits_instance_field image w x' ≡ true) where
-    placed : is_static_field x' ≡ false
+    pub placed : is_static_field x' ≡ false
     placed = not-true (is_static_field x') (and_parts _ _ (and_parts _ _ fits).0).0
 
-    concrete : is_interface image x'.info.class.0 ≡ false
+    pub concrete : is_interface image x'.info.class.0 ≡ false
     concrete = not-true (is_interface image x'.info.class.0) (and_parts _ _ fits).1
 
     -- an object, if it isn't null, that has the field
-    IsReceiver : ℕ → Type 0
+    abbrev pub IsReceiver : ℕ → Type 0
     IsReceiver zero = Unit {0}
     IsReceiver (suc o) = (k : Kind) × (kind_of m.shared.heap (suc o) ≡ Some k) × HasField image T h.may.accepted n x' has placed concrete k
 
-    fits_receiver : (o : ℕ) → Fits image m.shared.heap o (class_type image x'.info.class.0) → IsReceiver o
-    unfolding IsReceiver
+    pub fits_receiver : (o : ℕ) → Fits image m.shared.heap o (class_type image x'.info.class.0) → IsReceiver o
     fits_receiver zero i = tt
     fits_receiver (suc o) i = (i.object.kind, i.object.has_kind, object_field image T h.may.accepted n x' has placed concrete i.object.kind i.object.proper i.fits)
 
@@ -97,8 +96,7 @@ module _ (image : Image) (T : Typings) (m : Machine) (t : ℕ) (thread : Thread)
         let d = subst (λ (q : Kind). Conforms image m.shared.heap nobody (reg_at (cells_at m.shared.heap (suc o)) (x'.info.slot + j)) (type_at (cell_types image (length_of m.shared.heap (suc o)) q) (x'.info.slot + j))) i.is_object c in
         subst (λ (u : RegType). Conforms image m.shared.heap nobody (reg_at (cells_at m.shared.heap (suc o)) (x'.info.slot + j)) u) (field_place image T h.may.accepted n x' has placed concrete k i j l) d
 
-    get_fine : (a : ℕ) → goes_on x.op ≡ true → out image own f.at x.op s ≡ going s (write_for s.regs a x'.def.ty) → (o : ℕ) → IsReceiver (suc o) → DidFine image T m t thread x (get_field (here image m t own f rest x.next) a x' (suc o))
-    unfolding IsReceiver
+    pub get_fine : (a : ℕ) → goes_on x.op ≡ true → out image own f.at x.op s ≡ going s (write_for s.regs a x'.def.ty) → (o : ℕ) → IsReceiver (suc o) → DidFine image T m t thread x (get_field (here image m t own f rest x.next) a x' (suc o))
     get_fine a on e o i = subst (λ (ys : List Value). DidFine image T m t thread x (onward (here image m t own f rest x.next) m.shared (put_words f x.next a ys))) words (words_left a x'.def.ty (λ j. reg_at (cells_at m.shared.heap (suc o)) (x'.info.slot + j)) on e (conform_within image m.shared.heap (λ j. reg_at (cells_at m.shared.heap (suc o)) (x'.info.slot + j)) x'.def.ty (cell_conforms o i.0 i.1 i.2)))
       where
         zero_at : (k : ℕ) → k + 0 ≡ k
@@ -113,8 +111,7 @@ module _ (image : Image) (T : Typings) (m : Machine) (t : ℕ) (thread : Thread)
         words : (elim (is_long x'.def.ty) as (λ w. List Value) [ true ↦ reg_at (cells_at m.shared.heap (suc o)) (x'.info.slot + 0) ∷ reg_at (cells_at m.shared.heap (suc o)) (x'.info.slot + 1) ∷ [] | false ↦ reg_at (cells_at m.shared.heap (suc o)) (x'.info.slot + 0) ∷ [] ]) ≡ words_at m.shared.heap (suc o) x'.info.slot x'.def.ty
         words = ap (λ (p : ℕ). elim (is_long x'.def.ty) as (λ w. List Value) [ true ↦ cell_at m.shared.heap (suc o) p ∷ cell_at m.shared.heap (suc o) (x'.info.slot + 1) ∷ [] | false ↦ cell_at m.shared.heap (suc o) p ∷ [] ]) (zero_at x'.info.slot) ∙ ap (λ (q : ℕ). elim (is_long x'.def.ty) as (λ w. List Value) [ true ↦ cell_at m.shared.heap (suc o) x'.info.slot ∷ cell_at m.shared.heap (suc o) q ∷ [] | false ↦ cell_at m.shared.heap (suc o) x'.info.slot ∷ [] ]) (one_at x'.info.slot)
 
-    put_fine : (ys : List Value) → goes_on x.op ≡ true → out image own f.at x.op s ≡ going s s.regs → AreWords image m.shared.heap ys (reg_types x'.def.ty) → (o : ℕ) → IsReceiver (suc o) → DidFine image T m t thread x (put_field (here image m t own f rest x.next) x' ys (suc o))
-    unfolding IsReceiver
+    pub put_fine : (ys : List Value) → goes_on x.op ≡ true → out image own f.at x.op s ≡ going s s.regs → AreWords image m.shared.heap ys (reg_types x'.def.ty) → (o : ℕ) → IsReceiver (suc o) → DidFine image T m t thread x (put_field (here image m t own f rest x.next) x' ys (suc o))
     put_fine ys on e c o i =
         let good = c.good nobody in
         let narrow = narrowed_each image m.shared.heap x'.def.ty ys (reg_types x'.def.ty) (reg_cells x'.def.ty) good.regs in

@@ -81,3 +81,4 @@ pub mod HeapStepsPlain
 pub mod HeapStepsPlaces
 pub mod HeapStepsCells
 pub mod HeapStepsFields
+pub mod HeapStepsMembers

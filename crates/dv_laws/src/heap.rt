@@ -26,7 +26,7 @@ pub fn stores_keep()
 {}
 
 /// try
-#[tactic(auto, using(crate::proofs::HeapStepsFields::put_fine))]
+#[tactic(auto, using(crate::proofs::HeapStepsMembers::static_put))]
 pub fn heap_steps_are_fine()
     ensures law { GrowthKeeps }
 {}
