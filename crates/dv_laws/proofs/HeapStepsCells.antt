@@ -14,9 +14,9 @@ use Rattle.dv_defs.specs.declared.typing.RegType.TheVariants as ty
 use Rattle.dv_defs.specs.Types.{is_long, is_reference, words_of}
 use Rattle.dv_defs.specs.Pools.{Field, field_at}
 use Rattle.dv_defs.specs.RegTypes.{Types, type_at, reg_types, single_type}
-use Rattle.dv_defs.specs.Heap.{Heap, Cells, kind_of, cells_at, with_cell, with_static, length_of}
+use Rattle.dv_defs.specs.Heap.{Heap, Cells, kind_of, cells_at, cell_at, with_cell, with_static, length_of}
 use Rattle.dv_machine.specs.State.{reg_at}
-use Rattle.dv_machine.specs.Mem.{narrowed, narrowed_all, stored, static_stored}
+use Rattle.dv_machine.specs.Mem.{words_at, narrowed, narrowed_all, stored, static_stored}
 use Rattle.dv_machine.specs.Conforming.{Own, Fits, IsThere, Conforms, IsUninit, RefFine}
 use Rattle.dv_machine.specs.WellTyped.{nobody, cell_types, HeapFine}
 use Rattle.dv_machine.specs.Premises.{KeepsKinds}
@@ -118,3 +118,13 @@ module _ (image : Image) where
 
       plus_suc : (n m : ℕ) → n + suc m ≡ suc n + m
       plus_suc n m = omega arith
+
+-- the words of one field or element, by their places
+pub words_at_is : (heap : Heap) (o p : ℕ) (t : Ty) → (elim (is_long t) as (λ w. List Value) [ true ↦ reg_at (cells_at heap o) (p + 0) ∷ reg_at (cells_at heap o) (p + 1) ∷ [] | false ↦ reg_at (cells_at heap o) (p + 0) ∷ [] ]) ≡ words_at heap o p t
+words_at_is heap o p t = ap (λ (q : ℕ). elim (is_long t) as (λ w. List Value) [ true ↦ cell_at heap o q ∷ cell_at heap o (p + 1) ∷ [] | false ↦ cell_at heap o q ∷ [] ]) (zero_at p) ∙ ap (λ (q : ℕ). elim (is_long t) as (λ w. List Value) [ true ↦ cell_at heap o p ∷ cell_at heap o q ∷ [] | false ↦ cell_at heap o p ∷ [] ]) (one_at p)
+  where
+    zero_at : (k : ℕ) → k + 0 ≡ k
+    zero_at k = omega arith
+
+    one_at : (k : ℕ) → k + 1 ≡ suc k
+    one_at k = omega arith

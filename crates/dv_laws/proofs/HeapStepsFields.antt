@@ -36,7 +36,7 @@ use Rattle.dv_laws.proofs.HeapCells.{IsCell, reg_cells, reg_count}
 use Rattle.dv_laws.proofs.HeapStepsLeft.{read_then, put_left, put_long_left, gone_left}
 use Rattle.dv_laws.proofs.HeapStepsPlain.{only_rule, demand_of, out_of, throws, same_heap}
 use Rattle.dv_laws.proofs.HeapStepsPlaces.{HasField, class_field, object_field, field_place}
-use Rattle.dv_laws.proofs.HeapStepsCells.{cell_any, cell_ref, cell_plain, single_cell, narrowed_count, narrowed_each, stored_fine, static_stored_fine}
+use Rattle.dv_laws.proofs.HeapStepsCells.{cell_any, cell_ref, cell_plain, single_cell, narrowed_count, narrowed_each, stored_fine, words_at_is}
 use Rattle.dv_laws.proofs.LocalStands.{Stands}
 use Rattle.dv_laws.proofs.ReadersPlain.{reads_reference_to}
 use Rattle.dv_laws.proofs.ReadersWords.{reads_value}
@@ -97,19 +97,7 @@ module _ (image : Image) (T : Typings) (m : Machine) (t : ℕ) (thread : Thread)
         subst (λ (u : RegType). Conforms image m.shared.heap nobody (reg_at (cells_at m.shared.heap (suc o)) (x'.info.slot + j)) u) (field_place image T h.may.accepted n x' has placed concrete k i j l) d
 
     pub get_fine : (a : ℕ) → goes_on x.op ≡ true → out image own f.at x.op s ≡ going s (write_for s.regs a x'.def.ty) → (o : ℕ) → IsReceiver (suc o) → DidFine image T m t thread x (get_field (here image m t own f rest x.next) a x' (suc o))
-    get_fine a on e o i = subst (λ (ys : List Value). DidFine image T m t thread x (onward (here image m t own f rest x.next) m.shared (put_words f x.next a ys))) words (words_left a x'.def.ty (λ j. reg_at (cells_at m.shared.heap (suc o)) (x'.info.slot + j)) on e (conform_within image m.shared.heap (λ j. reg_at (cells_at m.shared.heap (suc o)) (x'.info.slot + j)) x'.def.ty (cell_conforms o i.0 i.1 i.2)))
-      where
-        zero_at : (k : ℕ) → k + 0 ≡ k
-        zero_at k = omega arith
-
-        one_at : (k : ℕ) → k + 1 ≡ suc k
-        one_at k = omega arith
-
-        pair : (p q : ℕ) → List Value
-        pair p q = elim (is_long x'.def.ty) [ true ↦ cell_at m.shared.heap (suc o) p ∷ cell_at m.shared.heap (suc o) q ∷ [] | false ↦ cell_at m.shared.heap (suc o) p ∷ [] ]
-
-        words : (elim (is_long x'.def.ty) as (λ w. List Value) [ true ↦ reg_at (cells_at m.shared.heap (suc o)) (x'.info.slot + 0) ∷ reg_at (cells_at m.shared.heap (suc o)) (x'.info.slot + 1) ∷ [] | false ↦ reg_at (cells_at m.shared.heap (suc o)) (x'.info.slot + 0) ∷ [] ]) ≡ words_at m.shared.heap (suc o) x'.info.slot x'.def.ty
-        words = ap (λ (p : ℕ). elim (is_long x'.def.ty) as (λ w. List Value) [ true ↦ cell_at m.shared.heap (suc o) p ∷ cell_at m.shared.heap (suc o) (x'.info.slot + 1) ∷ [] | false ↦ cell_at m.shared.heap (suc o) p ∷ [] ]) (zero_at x'.info.slot) ∙ ap (λ (q : ℕ). elim (is_long x'.def.ty) as (λ w. List Value) [ true ↦ cell_at m.shared.heap (suc o) x'.info.slot ∷ cell_at m.shared.heap (suc o) q ∷ [] | false ↦ cell_at m.shared.heap (suc o) x'.info.slot ∷ [] ]) (one_at x'.info.slot)
+    get_fine a on e o i = subst (λ (ys : List Value). DidFine image T m t thread x (onward (here image m t own f rest x.next) m.shared (put_words f x.next a ys))) (words_at_is m.shared.heap (suc o) x'.info.slot x'.def.ty) (words_left a x'.def.ty (λ j. reg_at (cells_at m.shared.heap (suc o)) (x'.info.slot + j)) on e (conform_within image m.shared.heap (λ j. reg_at (cells_at m.shared.heap (suc o)) (x'.info.slot + j)) x'.def.ty (cell_conforms o i.0 i.1 i.2)))
 
     pub put_fine : (ys : List Value) → goes_on x.op ≡ true → out image own f.at x.op s ≡ going s s.regs → AreWords image m.shared.heap ys (reg_types x'.def.ty) → (o : ℕ) → IsReceiver (suc o) → DidFine image T m t thread x (put_field (here image m t own f rest x.next) x' ys (suc o))
     put_fine ys on e c o i =

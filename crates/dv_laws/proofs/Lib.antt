@@ -82,3 +82,5 @@ pub mod HeapStepsPlaces
 pub mod HeapStepsCells
 pub mod HeapStepsFields
 pub mod HeapStepsMembers
+pub mod HeapStepsElements
+pub mod HeapStepsArrays

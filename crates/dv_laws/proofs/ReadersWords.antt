@@ -100,7 +100,7 @@ module _ (image : Image) (heap : Heap) where
   class_word x t own c = absurd c
 
   module _ (ord : IsOrder image) (own : Own) where
-    single_holds : (x : Value) (s : RegType) (t : Ty) (b : Bool) → (elim b as (λ w. Demand) [ true ↦ first (demand (is_ref s) 4) (demand (is_assignable image s t) 5) | false ↦ demand (is_int s) 2 ]) ≡ None → Conforms image heap own x s → HoldsOf (λ y. IsWord y (elim b as (λ w. RegType) [ true ↦ ty.Class t | false ↦ ty.Int ])) (elim b as (λ w. Reads Value) [ true ↦ on_next (read_ref image heap t x) (λ o. Ok x) | false ↦ kept_int x ])
+    pub single_holds : (x : Value) (s : RegType) (t : Ty) (b : Bool) → (elim b as (λ w. Demand) [ true ↦ first (demand (is_ref s) 4) (demand (is_assignable image s t) 5) | false ↦ demand (is_int s) 2 ]) ≡ None → Conforms image heap own x s → HoldsOf (λ y. IsWord y (elim b as (λ w. RegType) [ true ↦ ty.Class t | false ↦ ty.Int ])) (elim b as (λ w. Reads Value) [ true ↦ on_next (read_ref image heap t x) (λ o. Ok x) | false ↦ kept_int x ])
     single_holds x s t true d c =
         let q = first_none (demand (is_ref s) 4) (demand (is_assignable image s t) 5) d in
         let k : IsWord x (ty.Class t) = class_word x t own (ref_conforms image heap own ord x s t (demanded _ _ q.0) (demanded _ _ q.1) c) in

@@ -26,7 +26,7 @@ pub fn stores_keep()
 {}
 
 /// try
-#[tactic(auto, using(crate::proofs::HeapStepsMembers::static_put))]
+#[tactic(auto, using(crate::proofs::HeapStepsArrays::index_then))]
 pub fn heap_steps_are_fine()
     ensures law { GrowthKeeps }
 {}
