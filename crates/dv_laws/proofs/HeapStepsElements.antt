@@ -1,5 +1,5 @@
 -- The cells of an array's elements, and what tests of elements say of their types.
-use Rattle.std.proofs.Common.{◌≡◌, ◌⊎◌, inl, inr, ℕ, zero, suc, ◌+◌, ◌*◌, ◌<◌, ◌≤◌, List, [], ◌∷◌, ◌++◌, length, Bool, true, false, ◌&&◌, ◌||◌, refl, sym, ap, ◌∙◌, subst, arith}
+use Rattle.std.proofs.Common.{◌≡◌, ◌⊎◌, inl, inr, ℕ, zero, suc, ◌+◌, ◌-◌, ◌*◌, ◌<◌, ◌≤◌, List, [], ◌∷◌, ◌++◌, length, Bool, true, false, ◌&&◌, ◌||◌, refl, sym, ap, ◌∙◌, subst, arith}
 use Rattle.std.specs.Prelude.{ℤ, slice_index_or, nat_eq, nat_lt}
 use Rattle.std.proofs.lemmas.Bool.{and_parts, or_cases, cases_lt, eqb-true}
 use Rattle.std.proofs.lemmas.List.{length-append, get_or_append_left, get_or-append-add}
@@ -89,3 +89,70 @@ int_type t e = ap (λ (b : Bool). elim b as (λ z. RegType) [ true ↦ ty.Class 
 
 pub class_type : (t : Ty) → is_reference t ≡ true → single_type t ≡ ty.Class t
 class_type t e = ap (λ (b : Bool). elim b as (λ z. RegType) [ true ↦ ty.Class t | false ↦ ty.Int ]) e
+
+-- ---- the elements of a payload
+
+-- what a payload fills are numbers
+pub fill_plain : (n : ℕ) (t : Ty) → is_fill_type n t ≡ true → is_reference t ≡ false
+fill_plain n t e = by_eight (or_cases _ _ e)
+  where
+    two : (a b : Base) (w : Bool) → is_class_base a ≡ false → is_class_base b ≡ false → (w && (is_base a t || is_base b t)) ≡ true → is_reference t ≡ false
+    two a b w p q i = pick (or_cases (is_base a t) (is_base b t) (and_parts w _ i).1)
+      where
+        pick : (is_base a t ≡ true) ⊎ (is_base b t ≡ true) → is_reference t ≡ false
+        pick (inl j) = primitive_plain a t p j
+        pick (inr j) = primitive_plain b t q j
+
+    by_two : ((nat_eq n 1 && (is_base base.Z t || is_base base.B t)) ≡ true) ⊎ ((nat_eq n 2 && (is_base base.C t || is_base base.S t)) ≡ true) → is_reference t ≡ false
+    by_two (inl i) = two base.Z base.B (nat_eq n 1) refl refl i
+    by_two (inr i) = two base.C base.S (nat_eq n 2) refl refl i
+
+    by_four : (((nat_eq n 1 && (is_base base.Z t || is_base base.B t)) || (nat_eq n 2 && (is_base base.C t || is_base base.S t))) ≡ true) ⊎ ((nat_eq n 4 && is_base base.I t) ≡ true) → is_reference t ≡ false
+    by_four (inl i) = by_two (or_cases _ _ i)
+    by_four (inr i) = primitive_plain base.I t refl (and_parts (nat_eq n 4) _ i).1
+
+    by_eight : (((nat_eq n 1 && (is_base base.Z t || is_base base.B t)) || (nat_eq n 2 && (is_base base.C t || is_base base.S t)) || (nat_eq n 4 && is_base base.I t)) ≡ true) ⊎ ((nat_eq n 8 && is_base base.J t) ≡ true) → is_reference t ≡ false
+    by_eight (inl i) = by_four (or_cases _ _ i)
+    by_eight (inr i) = primitive_plain base.J t refl (and_parts (nat_eq n 8) _ i).1
+
+module _ (image : Image) (heap : Heap) (c : Ty) (plain : is_reference c ≡ false) where
+  word_count : (n : ℤ) → length (fill_words c n) ≡ words_of c
+  word_count n = go (is_long c)
+    where
+      go : (b : Bool) → length (elim b as (λ z. List Value) [ true ↦ v.Lo (lo_of n) ∷ v.Hi (hi_of n) ∷ [] | false ↦ narrowed c (v.Num n) ∷ [] ]) ≡ elim b as (λ z. ℕ) [ true ↦ 2 | false ↦ 1 ]
+      go true = refl
+      go false = refl
+
+  word_conforms : (n : ℤ) (j : ℕ) → Conforms image heap nobody (reg_at (fill_words c n) j) (type_at (reg_types c) j)
+  word_conforms n j = go (is_long c) j
+    where
+      short : (j : ℕ) → Conforms image heap nobody (reg_at (narrowed c (v.Num n) ∷ []) j) (type_at (ty.Int ∷ []) j)
+      short zero = tt
+      short (suc j) = tt
+
+      long : (j : ℕ) → Conforms image heap nobody (reg_at (v.Lo (lo_of n) ∷ v.Hi (hi_of n) ∷ []) j) (type_at (ty.LongLo ∷ ty.LongHi ∷ []) j)
+      long zero = tt
+      long (suc zero) = tt
+      long (suc (suc j)) = tt
+
+      go : (b : Bool) (j : ℕ) → Conforms image heap nobody (reg_at (elim b as (λ z. List Value) [ true ↦ v.Lo (lo_of n) ∷ v.Hi (hi_of n) ∷ [] | false ↦ narrowed c (v.Num n) ∷ [] ]) j) (type_at (elim b as (λ z. Types) [ true ↦ ty.LongLo ∷ ty.LongHi ∷ [] | false ↦ single_type c ∷ [] ]) j)
+      go true j = long j
+      go false j = subst (λ (u : RegType). Conforms image heap nobody (reg_at (narrowed c (v.Num n) ∷ []) j) (type_at (u ∷ []) j)) (sym (int_type c plain)) (short j)
+
+  pub filled_conforms : (ns : List ℤ) (k : ℕ) → length ns ≤ k → (i : ℕ) → i < length (filled c ns) → Conforms image heap nobody (reg_at (filled c ns) i) (type_at (element_types k c) i)
+  filled_conforms [] k l i w = absurd (omega arith)
+  filled_conforms (n ∷ ns) zero l i w = absurd (omega (arith, l))
+  filled_conforms (n ∷ ns) (suc k) l i w = go (cases_lt i (words_of c)) (filled_conforms ns k (omega (arith, l)))
+    where
+      after : (j : ℕ) → i ≡ words_of c + j → j < length (filled c ns) → Conforms image heap nobody (reg_at (filled c ns) j) (type_at (element_types k c) j) → Conforms image heap nobody (reg_at (fill_words c n ++ filled c ns) i) (type_at (reg_types c ++ element_types k c) i)
+      after j e m r =
+          let first : reg_at (fill_words c n ++ filled c ns) i ≡ reg_at (filled c ns) j = ap (reg_at (fill_words c n ++ filled c ns)) (e ∙ ap (λ (z : ℕ). z + j) (sym (word_count n))) ∙ get_or-append-add (fill_words c n) (filled c ns) j v.Undef in
+          let second : type_at (reg_types c ++ element_types k c) i ≡ type_at (element_types k c) j = ap (type_at (reg_types c ++ element_types k c)) (e ∙ ap (λ (z : ℕ). z + j) (sym (reg_count c))) ∙ get_or-append-add (reg_types c) (element_types k c) j ty.Conflict in
+          subst (λ (y : Value). Conforms image heap nobody y (type_at (reg_types c ++ element_types k c) i)) (sym first) (subst (λ (u : RegType). Conforms image heap nobody (reg_at (filled c ns) j) u) (sym second) r)
+
+      go : (i < words_of c) ⊎ (words_of c ≤ i) → ((i : ℕ) → i < length (filled c ns) → Conforms image heap nobody (reg_at (filled c ns) i) (type_at (element_types k c) i)) → Conforms image heap nobody (reg_at (fill_words c n ++ filled c ns) i) (type_at (reg_types c ++ element_types k c) i)
+      go (inl a) r =
+          let first = get_or_append_left (fill_words c n) (filled c ns) v.Undef i (omega (arith, a, word_count n)) in
+          let second = get_or_append_left (reg_types c) (element_types k c) ty.Conflict i (omega (arith, a, reg_count c)) in
+          subst (λ (y : Value). Conforms image heap nobody y (type_at (reg_types c ++ element_types k c) i)) (sym first) (subst (λ (u : RegType). Conforms image heap nobody (reg_at (fill_words c n) i) u) (sym second) (word_conforms n i))
+      go (inr g) r = let m : i - words_of c < length (filled c ns) = omega (arith, w, g, length-append (fill_words c n) (filled c ns), word_count n) in after (i - words_of c) (omega (arith, g)) m (r (i - words_of c) m)
