@@ -69,7 +69,7 @@ held_there image heap own y (ty.Uninit b) o i c e = absurd c
 held_there image heap own y ty.UninitThis o i c e = absurd c
 held_there image heap own y u o i c e = absurd i
 
-instance_reference : (image : Image) (a b : Ty) → instance image a b ≡ true → is_reference b ≡ true → is_reference a ≡ true
+pub instance_reference : (image : Image) (a b : Ty) → instance image a b ≡ true → is_reference b ≡ true → is_reference a ≡ true
 unfolding instance
 instance_reference image a b e r = under_reference image (implements image) a b e r
 

@@ -84,3 +84,4 @@ pub mod HeapStepsFields
 pub mod HeapStepsMembers
 pub mod HeapStepsElements
 pub mod HeapStepsArrays
+pub mod HeapStepsStores

@@ -26,7 +26,7 @@ pub fn stores_keep()
 {}
 
 /// try
-#[tactic(auto, using(crate::proofs::HeapStepsArrays::index_then))]
+#[tactic(auto, using(crate::proofs::HeapStepsStores::storable))]
 pub fn heap_steps_are_fine()
     ensures law { GrowthKeeps }
 {}
