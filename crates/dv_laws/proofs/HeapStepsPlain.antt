@@ -141,7 +141,7 @@ module _ (image : Image) (T : Typings) (m : Machine) (t : ℕ) (thread : Thread)
   array_reference : (u : Ty) → is_array u ≡ true → is_reference u ≡ true
   array_reference u e = or_left (is_array u) _ e
 
-  array_of : (heap : Heap) (o : ℕ) (u : Ty) → is_array u ≡ true → kind_of heap o ≡ Some (kind.Array u) → IsOf image heap o u
+  pub array_of : (heap : Heap) (o : ℕ) (u : Ty) → is_array u ≡ true → kind_of heap o ≡ Some (kind.Array u) → IsOf image heap o u
   array_of heap o u a e = record { object = record { kind = kind.Array u; has_kind = e; proper = a }; fits = same_fits image T h.may.accepted u (array_reference u a) }
 
   new_array_fine : (a b : ℕ) (u : Ty) → x.op ≡ NewArray a b u → DidFine image T m t thread x (mem (here image m t own f rest x.next) (NewArray a b u))

@@ -61,7 +61,7 @@ int_value image heap own y ty.Int e c = absurd c
 int_value image heap own y u e c = no e
 
 -- null, or an object that is there
-abbrev IsReference : Image → Heap → Value → Type 0
+abbrev pub IsReference : Image → Heap → Value → Type 0
 IsReference image heap v.Zero = Unit {0}
 IsReference image heap (v.Ref o) = IsThere image heap o
 IsReference image heap y = ⊥
@@ -79,7 +79,7 @@ ref_value image heap own y (ty.Class d) e c = absurd c
 ref_value image heap own y u e c = no e
 
 -- the words that an element of this suffix takes
-abbrev IsPut : Image → Heap → Suffix → List Value → Type 0
+abbrev pub IsPut : Image → Heap → Suffix → List Value → Type 0
 IsPut image heap Suffix.Long ys = (lo : ℕ) × (hi : ℕ) × (ys ≡ v.Lo lo ∷ v.Hi hi ∷ [])
 IsPut image heap Suffix.Object ys = (y : Value) × (ys ≡ y ∷ []) × IsReference image heap y
 IsPut image heap w ys = (y : Value) × (ys ≡ y ∷ []) × Conforms image heap nobody y ty.Int
@@ -88,7 +88,7 @@ module _ (image : Image) (T : Typings) (m : Machine) (t : ℕ) (thread : Thread)
   narrow_put : (a : ℕ) → int s.regs a ≡ None → HoldsOf (λ ys. (y : Value) × (ys ≡ y ∷ []) × Conforms image m.shared.heap nobody y ty.Int) (on_next (read_int (reg_at f.regs a)) (λ n. Ok (reg_at f.regs a ∷ [])))
   narrow_put a d = next_holds Anything (λ ys. (y : Value) × (ys ≡ y ∷ []) × Conforms image m.shared.heap nobody y ty.Int) _ _ (reads_int image m.shared.heap (own_of image (this_above image rest) own) f.regs s.regs a h.conform.good.regs d) (λ n q. (reg_at f.regs a, refl, int_value image m.shared.heap (own_of image (this_above image rest) own) (reg_at f.regs a) (type_at s.regs a) (demanded (is_int (type_at s.regs a)) 2 d) (h.conform.good.regs a)))
 
-  put_holds : (w : Suffix) (a : ℕ) → put_for s.regs a w ≡ None → HoldsOf (IsPut image m.shared.heap w) (read_put (here image m t own f rest x.next) a w)
+  pub put_holds : (w : Suffix) (a : ℕ) → put_for s.regs a w ≡ None → HoldsOf (IsPut image m.shared.heap w) (read_put (here image m t own f rest x.next) a w)
   put_holds Suffix.Long a d = next_holds Anything (IsPut image m.shared.heap Suffix.Long) _ _ (reads_two image m.shared.heap (own_of image (this_above image rest) own) f.regs s.regs a h.conform.good.regs d) (λ p q. (p.lo, p.hi, refl))
   put_holds Suffix.Object a d = next_holds (IsThere image m.shared.heap) (IsPut image m.shared.heap Suffix.Object) _ _ (reads_reference image m.shared.heap (own_of image (this_above image rest) own) f.regs s.regs a h.conform.good.regs d) (λ o q. (reg_at f.regs a, refl, ref_value image m.shared.heap (own_of image (this_above image rest) own) (reg_at f.regs a) (type_at s.regs a) (demanded (is_ref (type_at s.regs a)) 4 d) (h.conform.good.regs a)))
   put_holds Suffix.Int a d = narrow_put a d
@@ -101,7 +101,7 @@ module _ (image : Image) (T : Typings) (m : Machine) (t : ℕ) (thread : Thread)
 
   module _ (o : ℕ) (u : Ty) (e : kind_of m.shared.heap (suc o) ≡ Some (kind.Array u)) (on : goes_on x.op ≡ true) (same : out image own f.at x.op s ≡ going s s.regs) where
     -- these words from this cell on
-    cells_left : (c : Ty) (at : ℕ) (ys : List Value) → component u ≡ c → ((j : ℕ) → j < length ys → Conforms image m.shared.heap nobody (reg_at ys j) (type_at (element_types (length_of m.shared.heap (suc o)) (component u)) (at + j))) → DidFine image T m t thread x (onward (here image m t own f rest x.next) (with_heap m.shared (stored m.shared.heap (suc o) at ys)) (gone f x.next f.regs))
+    pub cells_left : (c : Ty) (at : ℕ) (ys : List Value) → component u ≡ c → ((j : ℕ) → j < length ys → Conforms image m.shared.heap nobody (reg_at ys j) (type_at (element_types (length_of m.shared.heap (suc o)) (component u)) (at + j))) → DidFine image T m t thread x (onward (here image m t own f rest x.next) (with_heap m.shared (stored m.shared.heap (suc o) at ys)) (gone f x.next f.regs))
     cells_left c at ys q w = let st = stored_fine image m.shared.heap (suc o) (kind.Array u) at ys h.may.typed.heap e w in gone_left image T m t thread own f rest x s h apart on (stored m.shared.heap (suc o) at ys) st.1 st.0 same
 
     -- one element
@@ -117,12 +117,12 @@ module _ (image : Image) (T : Typings) (m : Machine) (t : ℕ) (thread : Thread)
     one_word y r c (suc j) = tt
 
     -- an element of one word
-    short_left : (k : ℕ) (y : Value) → k < length_of m.shared.heap (suc o) → is_long (component u) ≡ false → Conforms image m.shared.heap nobody y (single_type (component u)) → DidFine image T m t thread x (onward (here image m t own f rest x.next) (with_heap m.shared (stored m.shared.heap (suc o) (k * words_of (component_of (here image m t own f rest x.next) (suc o))) (narrowed_all (component_of (here image m t own f rest x.next) (suc o)) (y ∷ [])))) (gone f x.next f.regs))
+    pub short_left : (k : ℕ) (y : Value) → k < length_of m.shared.heap (suc o) → is_long (component u) ≡ false → Conforms image m.shared.heap nobody y (single_type (component u)) → DidFine image T m t thread x (onward (here image m t own f rest x.next) (with_heap m.shared (stored m.shared.heap (suc o) (k * words_of (component_of (here image m t own f rest x.next) (suc o))) (narrowed_all (component_of (here image m t own f rest x.next) (suc o)) (y ∷ [])))) (gone f x.next f.regs))
     short_left k y l z c =
         let words : words_of (component u) ≡ 1 = ap (λ (b : Bool). elim b as (λ q. ℕ) [ true ↦ 2 | false ↦ 1 ]) z in
         element_left k (y ∷ []) l (sym words) (λ j. subst (λ (ts : Types). Conforms image m.shared.heap nobody (reg_at (y ∷ []) j) (type_at ts j)) (sym (short_types (component u) z)) (one_word y (single_type (component u)) c j))
 
-    long_left : (k lo hi : ℕ) → k < length_of m.shared.heap (suc o) → is_long (component u) ≡ true → DidFine image T m t thread x (onward (here image m t own f rest x.next) (with_heap m.shared (stored m.shared.heap (suc o) (k * words_of (component_of (here image m t own f rest x.next) (suc o))) (narrowed_all (component_of (here image m t own f rest x.next) (suc o)) (v.Lo lo ∷ v.Hi hi ∷ [])))) (gone f x.next f.regs))
+    pub long_left : (k lo hi : ℕ) → k < length_of m.shared.heap (suc o) → is_long (component u) ≡ true → DidFine image T m t thread x (onward (here image m t own f rest x.next) (with_heap m.shared (stored m.shared.heap (suc o) (k * words_of (component_of (here image m t own f rest x.next) (suc o))) (narrowed_all (component_of (here image m t own f rest x.next) (suc o)) (v.Lo lo ∷ v.Hi hi ∷ [])))) (gone f x.next f.regs))
     long_left k lo hi l z =
         let words : words_of (component u) ≡ 2 = ap (λ (b : Bool). elim b as (λ q. ℕ) [ true ↦ 2 | false ↦ 1 ]) z in
         element_left k (v.Lo lo ∷ v.Hi hi ∷ []) l (sym words) (λ j. subst (λ (ts : Types). Conforms image m.shared.heap nobody (reg_at (v.Lo lo ∷ v.Hi hi ∷ []) j) (type_at ts j)) (sym (long_types (component u) z)) (two j))
@@ -133,7 +133,7 @@ module _ (image : Image) (T : Typings) (m : Machine) (t : ℕ) (thread : Thread)
         two (suc (suc j)) = tt
 
     -- an object that passes the test of the store
-    storable : (y : Value) → is_reference (component u) ≡ true → IsReference image m.shared.heap y → is_storable (here image m t own f rest x.next) (suc o) Suffix.Object (y ∷ []) ≡ true → Conforms image m.shared.heap nobody y (ty.Class (component u))
+    pub storable : (y : Value) → is_reference (component u) ≡ true → IsReference image m.shared.heap y → is_storable (here image m t own f rest x.next) (suc o) Suffix.Object (y ∷ []) ≡ true → Conforms image m.shared.heap nobody y (ty.Class (component u))
     storable v.Zero r i q = tt
     storable (v.Ref zero) r i q = tt
     storable (v.Ref (suc p)) r i q =

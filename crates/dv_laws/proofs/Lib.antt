@@ -85,3 +85,4 @@ pub mod HeapStepsMembers
 pub mod HeapStepsElements
 pub mod HeapStepsArrays
 pub mod HeapStepsStores
+pub mod HeapStepsFilled

@@ -26,7 +26,7 @@ pub fn stores_keep()
 {}
 
 /// try
-#[tactic(auto, using(crate::proofs::HeapStepsStores::storable))]
+#[tactic(auto, using(crate::proofs::HeapStepsFilled::filled_fine))]
 pub fn heap_steps_are_fine()
     ensures law { GrowthKeeps }
 {}
