@@ -90,14 +90,14 @@ module _ (image : Image) (T : Typings) (m : Machine) (t : ℕ) (thread : Thread)
   number_left : (op : Op) (a : ℕ) (n : ℤ) → x.op ≡ op → goes_on op ≡ true → out image own f.at op s ≡ going s (write_type s.regs a ty.Int) → DidFine image T m t thread x (onward (here image m t own f rest x.next) m.shared (record { method = f.method; at = x.next; regs = slice_set f.regs a (v.Num n); result = pending.None; caught = None; this_pending = f.this_pending }))
   number_left op a n e g o = put_left image T m t thread own f rest x s h apart (ap goes_on e ∙ g) m.shared.heap same_heap h.may.typed.heap a (v.Num n) ty.Int (out_of op e ∙ o) (inr (λ u. u, tt)) tt
 
-  divide_int : (o : Bin) (a b : ℕ) (c : Arg) → x.op ≡ IntDivide o a b c → DidFine image T m t thread x (mem (here image m t own f rest x.next) (IntDivide o a b c))
+  pub divide_int : (o : Bin) (a b : ℕ) (c : Arg) → x.op ≡ IntDivide o a b c → DidFine image T m t thread x (mem (here image m t own f rest x.next) (IntDivide o a b c))
   divide_int o a b c e =
       let d = first_none (int s.regs b) (arg_int s.regs c) (demand_of (IntDivide o a b c) e) in
       read_then image T m t thread x Anything _ _ (reads_int image m.shared.heap (own_of image (this_above image rest) own) f.regs s.regs b h.conform.good.regs d.0)
       (λ y p. read_then image T m t thread x Anything _ _ (reads_argument image m.shared.heap (own_of image (this_above image rest) own) f.regs s.regs c h.conform.good.regs d.1)
       (λ z q. true_then image T m t thread x (not (is_zero z)) named.Arithmetic _ (throws (IntDivide o a b c) e refl) (λ w. number_left (IntDivide o a b c) a (operate32 o y z) e refl refl)))
 
-  divide_long : (o : Bin) (a b c : ℕ) → x.op ≡ LongDivide o a b c → DidFine image T m t thread x (mem (here image m t own f rest x.next) (LongDivide o a b c))
+  pub divide_long : (o : Bin) (a b c : ℕ) → x.op ≡ LongDivide o a b c → DidFine image T m t thread x (mem (here image m t own f rest x.next) (LongDivide o a b c))
   divide_long o a b c e =
       let d = first_none (long s.regs b) (long s.regs c) (demand_of (LongDivide o a b c) e) in
       read_then image T m t thread x Anything _ _ (reads_long image m.shared.heap (own_of image (this_above image rest) own) f.regs s.regs b h.conform.good.regs d.0)
@@ -124,13 +124,13 @@ module _ (image : Image) (T : Typings) (m : Machine) (t : ℕ) (thread : Thread)
   kept_or_added after o k (inl e) = (subst (HeapFine image) (sym e) h.may.typed.heap, λ q y z. subst (λ (p : Heap). kind_of p q ≡ Some y) (sym e) z)
   kept_or_added after o k (inr a) = (a.fine, a.keeps)
 
-  const_string : (a : ℕ) (cs : List ℕ) → x.op ≡ ConstString a cs → DidFine image T m t thread x (mem (here image m t own f rest x.next) (ConstString a cs))
+  pub const_string : (a : ℕ) (cs : List ℕ) → x.op ≡ ConstString a cs → DidFine image T m t thread x (mem (here image m t own f rest x.next) (ConstString a cs))
   const_string a cs e = room_then image T m t thread x (intern m.shared.heap cs) _ (λ g q. go g (string_is_interned image m.shared.heap cs g h.may.typed.heap q))
     where
       go : (g : Got) → (kind_of g.heap g.object ≡ Some (kind.Str cs)) × ((g.heap ≡ m.shared.heap) ⊎ IsAdded image m.shared.heap g.heap g.object (kind.Str cs)) → DidFine image T m t thread x (put_object (here image m t own f rest x.next) a v.Ref g)
       go g r = let k = kept_or_added g.heap g.object (kind.Str cs) r.1 in reference_left (ConstString a cs) a g.heap g.object (of_class string_name) e refl refl k.1 k.0 (string_of g.heap g.object cs r.0)
 
-  const_class : (a : ℕ) (u : Ty) → x.op ≡ ConstClass a u → DidFine image T m t thread x (mem (here image m t own f rest x.next) (ConstClass a u))
+  pub const_class : (a : ℕ) (u : Ty) → x.op ≡ ConstClass a u → DidFine image T m t thread x (mem (here image m t own f rest x.next) (ConstClass a u))
   const_class a u e = room_then image T m t thread x (class_object m.shared.heap u) _ (λ g q. go g (class_object_is_got image m.shared.heap u g h.may.typed.heap q))
     where
       go : (g : Got) → (kind_of g.heap g.object ≡ Some (kind.ClassOf u)) × ((g.heap ≡ m.shared.heap) ⊎ IsAdded image m.shared.heap g.heap g.object (kind.ClassOf u)) → DidFine image T m t thread x (put_object (here image m t own f rest x.next) a v.Ref g)
@@ -144,7 +144,7 @@ module _ (image : Image) (T : Typings) (m : Machine) (t : ℕ) (thread : Thread)
   pub array_of : (heap : Heap) (o : ℕ) (u : Ty) → is_array u ≡ true → kind_of heap o ≡ Some (kind.Array u) → IsOf image heap o u
   array_of heap o u a e = record { object = record { kind = kind.Array u; has_kind = e; proper = a }; fits = same_fits image T h.may.accepted u (array_reference u a) }
 
-  new_array_fine : (a b : ℕ) (u : Ty) → x.op ≡ NewArray a b u → DidFine image T m t thread x (mem (here image m t own f rest x.next) (NewArray a b u))
+  pub new_array_fine : (a b : ℕ) (u : Ty) → x.op ≡ NewArray a b u → DidFine image T m t thread x (mem (here image m t own f rest x.next) (NewArray a b u))
   new_array_fine a b u e = read_then image T m t thread x Anything _ _ (reads_int image m.shared.heap (own_of image (this_above image rest) own) f.regs s.regs b h.conform.good.regs (demand_of (NewArray a b u) e)) (λ n p. sized n)
     where
       array : is_array u ≡ true
@@ -154,7 +154,7 @@ module _ (image : Image) (T : Typings) (m : Machine) (t : ℕ) (thread : Thread)
       sized (negsuc n) = throws (NewArray a b u) e refl
       sized (pos n) = room_then image T m t thread x (alloc_array m.shared.heap u n) _ (λ after q. let r = array_is_added image m.shared.heap after u n h.may.typed.heap q in reference_left (NewArray a b u) a after (newest after) u e refl refl r.0.keeps r.0.fine (array_of after (newest after) u array r.0.made))
 
-  new_fine : (a c : ℕ) → x.op ≡ New a c → DidFine image T m t thread x (mem (here image m t own f rest x.next) (New a c))
+  pub new_fine : (a c : ℕ) → x.op ≡ New a c → DidFine image T m t thread x (mem (here image m t own f rest x.next) (New a c))
   new_fine a c e = room_then image T m t thread x (alloc_object image m.shared.heap c) _ (λ after q. go after (object_is_added image m.shared.heap after c h.may.typed.heap q))
     where
       made : made_at image own f.at ≡ Some c
@@ -170,21 +170,21 @@ module _ (image : Image) (T : Typings) (m : Machine) (t : ℕ) (thread : Thread)
 
   -- ---- tests of types
 
-  throw_fine : (a : ℕ) → x.op ≡ Throw a → DidFine image T m t thread x (mem (here image m t own f rest x.next) (Throw a))
+  pub throw_fine : (a : ℕ) → x.op ≡ Throw a → DidFine image T m t thread x (mem (here image m t own f rest x.next) (Throw a))
   throw_fine a e = read_then image T m t thread x (λ o. Fits image m.shared.heap o (of_class throwable_name)) _ _ (reads_reference_to image m.shared.heap (own_of image (this_above image rest) own) f.regs s.regs a (of_class throwable_name) h.may.accepted.order h.conform.good.regs (demand_of (Throw a) e)) go
     where
       go : (o : ℕ) → Fits image m.shared.heap o (of_class throwable_name) → DidFine image T m t thread x (on_object ThrowsRef o)
       go zero i = throws (Throw a) e refl
       go (suc o) i = (throws (Throw a) e refl, ap is_exit e, i)
 
-  instance_of : (a b : ℕ) (u : Ty) → x.op ≡ InstanceOf a b u → DidFine image T m t thread x (mem (here image m t own f rest x.next) (InstanceOf a b u))
+  pub instance_of : (a b : ℕ) (u : Ty) → x.op ≡ InstanceOf a b u → DidFine image T m t thread x (mem (here image m t own f rest x.next) (InstanceOf a b u))
   instance_of a b u e = read_then image T m t thread x (IsThere image m.shared.heap) _ _ (reads_reference image m.shared.heap (own_of image (this_above image rest) own) f.regs s.regs b h.conform.good.regs (demand_of (InstanceOf a b u) e)) (λ o p. go (is_instance (here image m t own f rest x.next) u o))
     where
       go : (b : Bool) → DidFine image T m t thread x (onward (here image m t own f rest x.next) m.shared (record { method = f.method; at = x.next; regs = slice_set f.regs a (truth b); result = pending.None; caught = None; this_pending = f.this_pending }))
       go true = number_left (InstanceOf a b u) a (pos 1) e refl refl
       go false = number_left (InstanceOf a b u) a (pos 0) e refl refl
 
-  array_length : (a b : ℕ) → x.op ≡ ArrayLength a b → DidFine image T m t thread x (mem (here image m t own f rest x.next) (ArrayLength a b))
+  pub array_length : (a b : ℕ) → x.op ≡ ArrayLength a b → DidFine image T m t thread x (mem (here image m t own f rest x.next) (ArrayLength a b))
   array_length a b e = read_then image T m t thread x (IsArrayOrNull image m.shared.heap any_type (type_at s.regs b)) _ _ (reads_array image m.shared.heap (own_of image (this_above image rest) own) f.regs s.regs b any_type h.may.accepted.order (tests_go_down image).any h.conform.good.regs (demand_of (ArrayLength a b) e)) counted
     where
       counted : (o : ℕ) → IsArrayOrNull image m.shared.heap any_type (type_at s.regs b) o → DidFine image T m t thread x (on_object (λ o. onward (here image m t own f rest x.next) m.shared (record { method = f.method; at = x.next; regs = slice_set f.regs a (v.Num (pos (length_of m.shared.heap o))); result = pending.None; caught = None; this_pending = f.this_pending })) o)
@@ -195,7 +195,7 @@ module _ (image : Image) (T : Typings) (m : Machine) (t : ℕ) (thread : Thread)
   cast_left : (a : ℕ) (u : Ty) → x.op ≡ Cast a u → Conforms image m.shared.heap (own_of image (this_above image rest) own) (reg_at f.regs a) (ty.Class u) → DidFine image T m t thread x (onward (here image m t own f rest x.next) m.shared (record { method = f.method; at = x.next; regs = f.regs; result = pending.None; caught = None; this_pending = f.this_pending }))
   cast_left a u e c = heap_left image T m t thread own f rest x s h apart (ap goes_on e) m.shared.heap same_heap h.may.typed.heap f.regs pending.None (write_type s.regs a (ty.Class u)) pend.None (out_of (Cast a u) e) refl (subst (λ (ys : List Value). IsGood image m.shared.heap (own_of image (this_above image rest) own) ys (write_type s.regs a (ty.Class u))) (set-get_or f.regs a v.Undef) (write_keeps image m.shared.heap (own_of image (this_above image rest) own) f.regs s.regs a (reg_at f.regs a) (ty.Class u) h.conform.good (inr (λ z. z, c)))) tt (frame_refs image T m t thread own f rest x s h).0 tt
 
-  cast_fine : (a : ℕ) (u : Ty) → x.op ≡ Cast a u → DidFine image T m t thread x (mem (here image m t own f rest x.next) (Cast a u))
+  pub cast_fine : (a : ℕ) (u : Ty) → x.op ≡ Cast a u → DidFine image T m t thread x (mem (here image m t own f rest x.next) (Cast a u))
   cast_fine a u e = go (reg_at f.regs a) refl (reads_reference image m.shared.heap (own_of image (this_above image rest) own) f.regs s.regs a h.conform.good.regs (demand_of (Cast a u) e))
     where
       reference : is_reference u ≡ true

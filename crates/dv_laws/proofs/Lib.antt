@@ -86,3 +86,4 @@ pub mod HeapStepsElements
 pub mod HeapStepsArrays
 pub mod HeapStepsStores
 pub mod HeapStepsFilled
+pub mod HeapSteps

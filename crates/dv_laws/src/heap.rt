@@ -1,5 +1,5 @@
 // The laws of the heap: objects that are added, cells that are stored.
-ghost use Rattle.dv_machine.specs.StepLaws.{ObjectIsAdded, ArrayIsAdded, StringIsAdded, StringIsInterned, ClassObjectIsGot, GrowthKeeps, StoreKeeps, StaticStoreKeeps};
+ghost use Rattle.dv_machine.specs.StepLaws.{ObjectIsAdded, ArrayIsAdded, StringIsAdded, StringIsInterned, ClassObjectIsGot, GrowthKeeps, StoreKeeps, StaticStoreKeeps, HeapStepsAreFine};
 
 /// A new object leaves the heap in order, and all that was there as it was.
 pub fn objects_are_added()
@@ -25,8 +25,7 @@ pub fn stores_keep()
     ensures field { StaticStoreKeeps }
 {}
 
-/// try
-#[tactic(auto, using(crate::proofs::HeapStepsFilled::filled_fine))]
+/// An instruction on objects, arrays and fields, a division, a cast or a throw is fine.
 pub fn heap_steps_are_fine()
-    ensures law { GrowthKeeps }
+    ensures law { HeapStepsAreFine }
 {}

@@ -1,0 +1,6 @@
+-- The clauses of `heap_steps_are_fine`, each by its lemma.
+use Rattle.dv_laws.proofs.HeapSteps.{heap_steps_are_fine}
+use Rattle.dv_laws.proofs.heap.heap_steps_are_fine.Goals as goal
+
+pub returns : goal.returns
+returns c = record { law = heap_steps_are_fine }
