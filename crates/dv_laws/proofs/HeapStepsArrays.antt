@@ -1,7 +1,7 @@
 -- Steps that read an array's elements are fine.
-use Rattle.std.proofs.Common.{◌≡◌, ◌⊎◌, inl, inr, ℕ, zero, suc, ◌+◌, ◌*◌, ◌<◌, ◌≤◌, List, [], ◌∷◌, ◌++◌, length, Bool, true, false, ◌&&◌, Option, Some, None, refl, sym, ap, ◌∙◌, subst, arith}
-use Rattle.std.specs.Prelude.{ℤ, pos, negsuc, slice_get, slice_set, slice_index_or, nat_eq, nat_lt, All, Result, Ok, Err}
-use Rattle.std.proofs.lemmas.Bool.{and_parts, ltb-true}
+use Rattle.std.proofs.Common.{◌≡◌, inr, ℕ, zero, suc, ◌+◌, ◌*◌, ◌<◌, List, [], ◌∷◌, Bool, true, false, ◌&&◌, Option, Some, None, refl, sym, ap, ◌∙◌, subst, arith}
+use Rattle.std.specs.Prelude.{ℤ, pos, negsuc, nat_lt}
+use Rattle.std.proofs.lemmas.Bool.{ltb-true}
 use Rattle.dv_defs.specs.declared.names.Base.{Base}
 use Rattle.dv_defs.specs.declared.names.Base.TheVariants as base
 use Rattle.dv_defs.specs.declared.names.Ty.{Ty}
@@ -21,23 +21,23 @@ use Rattle.dv_defs.specs.Parts.{Call, Suffix}
 use Rattle.dv_defs.specs.Types.{of_class, base_eq, component, is_array, is_base, is_class_base, is_long, is_reference, words_of}
 use Rattle.dv_defs.specs.Pools.{Method}
 use Rattle.dv_defs.specs.Order.{instance}
-use Rattle.dv_defs.specs.Op.{Op, Code, ArrayGet, Invoke, can_throw}
+use Rattle.dv_defs.specs.Op.{Code, ArrayGet, Invoke}
 use Rattle.dv_defs.specs.Statics.{At, op_rules, is_of_suffix}
 use Rattle.dv_defs.specs.RegTypes.{Types, type_at, reg_types, single_type}
 use Rattle.dv_defs.specs.Demands.{goes_on, array, int, is_array_of}
 use Rattle.dv_defs.specs.Transfer.{out, going, write_type, write_long, write_for, after_get, object_element}
-use Rattle.dv_defs.specs.Heap.{Heap, kind_of, kind_type, cells_at, length_of}
-use Rattle.dv_machine.specs.State.{Thread, Machine, Left, Did, Throws, Reads, reading, reg_at, read_array, onward, put_words, type_of}
+use Rattle.dv_defs.specs.Heap.{kind_of, kind_type, cells_at, length_of}
+use Rattle.dv_machine.specs.State.{Thread, Machine, Left, Did, Throws, reg_at, read_array, onward, put_words}
 use Rattle.dv_machine.specs.Mem.{mem, on_object, on_index, words_at, component_of, get_element}
 use Rattle.dv_machine.specs.Step.{here}
-use Rattle.dv_machine.specs.Conforming.{Own, Fits, Conforms, IsThere}
-use Rattle.dv_machine.specs.WellTyped.{Typings, own_of, this_above, nobody, element_types}
+use Rattle.dv_machine.specs.Conforming.{Conforms}
+use Rattle.dv_machine.specs.WellTyped.{Typings, own_of, this_above, nobody}
 use Rattle.dv_machine.specs.Premises.{ThrowFine, DidFine, HoldsOf}
 use Rattle.dv_laws.specs.Reading.{Anything, IsArrayOf, IsArrayOrNull, GoesDown}
 use Rattle.dv_laws.proofs.GrowthLists.{no}
 use Rattle.dv_laws.proofs.HeapStepsLeft.{read_then, put_left}
 use Rattle.dv_laws.proofs.HeapStepsPlain.{demand_of, out_of, throws}
-use Rattle.dv_laws.proofs.HeapStepsCells.{cell_any, cell_ref, words_at_is}
+use Rattle.dv_laws.proofs.HeapStepsCells.{cell_ref, words_at_is}
 use Rattle.dv_laws.proofs.HeapStepsElements.{element_at, primitive_plain, primitive_short, reference_short, short_types, int_type, class_type}
 use Rattle.dv_laws.proofs.HeapStepsFields.{holds_map, conform_within, words_left}
 use Rattle.dv_laws.proofs.LocalStands.{Stands}

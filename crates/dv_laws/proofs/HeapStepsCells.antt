@@ -1,8 +1,7 @@
 -- Words that are read from cells and stored in them.
-use Rattle.std.proofs.Common.{◌≡◌, ◌⊎◌, inl, inr, ℕ, zero, suc, ◌+◌, ◌<◌, ◌≤◌, List, [], ◌∷◌, ◌++◌, length, Bool, true, false, Option, Some, None, refl, sym, ap, ◌∙◌, subst, arith}
-use Rattle.std.specs.Prelude.{ℤ, slice_get, slice_set, slice_index_or, pred, All}
+use Rattle.std.proofs.Common.{◌≡◌, ℕ, zero, suc, ◌+◌, ◌<◌, List, [], ◌∷◌, length, Bool, true, false, Some, refl, sym, ap, ◌∙◌, subst, arith}
+use Rattle.std.specs.Prelude.{slice_set}
 use Rattle.std.proofs.lemmas.List.{length-set, get_or-set_same}
-use Rattle.std.proofs.lemmas.Bool.{cases_lt}
 use Rattle.std.proofs.lemmas.Option.{slice_get_within}
 use Rattle.dv_defs.specs.declared.names.Ty.{Ty}
 use Rattle.dv_defs.specs.declared.image.Image.{Image}
@@ -11,17 +10,17 @@ use Rattle.dv_defs.specs.declared.run.Value.TheVariants as v
 use Rattle.dv_defs.specs.declared.machine.Kind.{Kind}
 use Rattle.dv_defs.specs.declared.typing.RegType.{RegType}
 use Rattle.dv_defs.specs.declared.typing.RegType.TheVariants as ty
-use Rattle.dv_defs.specs.Types.{is_long, is_reference, words_of}
+use Rattle.dv_defs.specs.Types.{is_long, is_reference}
 use Rattle.dv_defs.specs.Pools.{Field, field_at}
 use Rattle.dv_defs.specs.RegTypes.{Types, type_at, reg_types, single_type}
-use Rattle.dv_defs.specs.Heap.{Heap, Cells, kind_of, cells_at, cell_at, with_cell, with_static, length_of}
+use Rattle.dv_defs.specs.Heap.{Heap, kind_of, cells_at, cell_at, with_cell, with_static, length_of}
 use Rattle.dv_machine.specs.State.{reg_at}
 use Rattle.dv_machine.specs.Mem.{words_at, narrowed, narrowed_all, stored, static_stored}
 use Rattle.dv_machine.specs.Conforming.{Own, Fits, IsThere, Conforms, IsUninit, RefFine}
 use Rattle.dv_machine.specs.WellTyped.{nobody, cell_types, HeapFine}
 use Rattle.dv_machine.specs.Premises.{KeepsKinds}
 use Rattle.dv_laws.proofs.GrowthKinds.{conforms_grown}
-use Rattle.dv_laws.proofs.HeapCells.{IsCell, AreCells, reg_cells, same_cell_types}
+use Rattle.dv_laws.proofs.HeapCells.{IsCell, AreCells, same_cell_types}
 use Rattle.dv_laws.proofs.Stores.{store_keeps, static_store_keeps}
 
 -- ---- what a cell holds fits whatever frame it goes to

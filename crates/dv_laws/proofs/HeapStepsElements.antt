@@ -1,6 +1,6 @@
 -- The cells of an array's elements, and what tests of elements say of their types.
 use Rattle.std.proofs.Common.{◌≡◌, ◌⊎◌, inl, inr, ℕ, zero, suc, ◌+◌, ◌-◌, ◌*◌, ◌<◌, ◌≤◌, List, [], ◌∷◌, ◌++◌, length, Bool, true, false, ◌&&◌, ◌||◌, refl, sym, ap, ◌∙◌, subst, arith}
-use Rattle.std.specs.Prelude.{ℤ, slice_index_or, nat_eq, nat_lt}
+use Rattle.std.specs.Prelude.{ℤ, nat_eq, nat_lt}
 use Rattle.std.proofs.lemmas.Bool.{and_parts, or_cases, cases_lt, eqb-true}
 use Rattle.std.proofs.lemmas.List.{length-append, get_or_append_left, get_or-append-add}
 use Rattle.dv_defs.specs.declared.names.Base.{Base}
@@ -15,7 +15,6 @@ use Rattle.dv_defs.specs.Types.{base_eq, is_array, is_base, is_class_base, is_lo
 use Rattle.dv_defs.specs.Demands.{is_fill_type}
 use Rattle.dv_defs.specs.Numbers.{lo_of, hi_of}
 use Rattle.dv_defs.specs.RegTypes.{Types, type_at, reg_types, single_type}
-use Rattle.dv_defs.specs.Transfer.{write_type, write_long, write_for}
 use Rattle.dv_defs.specs.Heap.{Heap}
 use Rattle.dv_machine.specs.State.{reg_at}
 use Rattle.dv_machine.specs.Mem.{narrowed, fill_words, filled}

@@ -1,14 +1,13 @@
 -- Steps that read and write fields are fine.
-use Rattle.std.proofs.Common.{◌≡◌, ◌≢◌, ◌⊎◌, inl, inr, ℕ, zero, suc, ◌+◌, ◌<◌, ◌≤◌, List, [], ◌∷◌, ◌++◌, length, Bool, true, false, ◌&&◌, not, Option, Some, None, refl, sym, ap, ◌∙◌, subst, arith}
-use Rattle.std.specs.Prelude.{ℤ, slice_get, slice_set, slice_index_or, nat_eq, All, Result, Ok, Err}
-use Rattle.std.proofs.lemmas.Bool.{and_parts, not-true, cases_lt, eqb-true}
+use Rattle.std.proofs.Common.{◌≡◌, ◌⊎◌, inl, inr, ℕ, zero, suc, ◌+◌, ◌<◌, ◌≤◌, List, [], ◌∷◌, length, Bool, true, false, Some, sym, ◌∙◌, subst, arith}
+use Rattle.std.specs.Prelude.{Ok, Err}
+use Rattle.std.proofs.lemmas.Bool.{and_parts, not-true, cases_lt}
 use Rattle.std.proofs.lemmas.List.{get_or_past}
 use Rattle.dv_defs.specs.declared.names.Ty.{Ty}
 use Rattle.dv_defs.specs.declared.image.Image.{Image}
 use Rattle.dv_defs.specs.declared.run.Value.{Value}
 use Rattle.dv_defs.specs.declared.run.Value.TheVariants as v
 use Rattle.dv_defs.specs.declared.machine.Kind.{Kind}
-use Rattle.dv_defs.specs.declared.machine.Kind.TheVariants as kind
 use Rattle.dv_defs.specs.declared.machine.Frame.{Frame}
 use Rattle.dv_defs.specs.declared.machine.Level.{Level}
 use Rattle.dv_defs.specs.declared.typing.RegType.{RegType}
@@ -17,31 +16,24 @@ use Rattle.dv_defs.specs.declared.typing.RegState.{RegState}
 use Rattle.dv_defs.specs.Parts.{Call, Suffix}
 use Rattle.dv_defs.specs.Types.{is_long, words_of}
 use Rattle.dv_defs.specs.Pools.{Method, Field, field_at, is_static_field, is_interface, class_type}
-use Rattle.dv_defs.specs.Order.{sub}
-use Rattle.dv_defs.specs.Op.{Op, Code, FieldGet, FieldPut, StaticGet, StaticPut, Invoke, can_throw}
-use Rattle.dv_defs.specs.Statics.{At, op_rules, fits_instance_field, fits_static_field, is_of_suffix}
+use Rattle.dv_defs.specs.Op.{Code, Invoke}
+use Rattle.dv_defs.specs.Statics.{At, op_rules, fits_instance_field}
 use Rattle.dv_defs.specs.RegTypes.{Types, type_at, reg_types, single_type}
-use Rattle.dv_defs.specs.Demands.{goes_on, demands, is_own_field, value_for, ref, ref_to, put_receiver as receiver_demand}
+use Rattle.dv_defs.specs.Demands.{goes_on}
 use Rattle.dv_defs.specs.Transfer.{out, going, write_type, write_long, write_for}
-use Rattle.dv_defs.specs.Heap.{Heap, kind_of, cells_at, cell_at, static_at, length_of}
-use Rattle.dv_machine.specs.State.{Thread, Machine, Left, Did, Reads, reading, reg_at, read_ref, onward, put_words}
-use Rattle.dv_machine.specs.Mem.{mem, on_object, words_at, static_words, stored, static_stored, narrowed_all, put_receiver, get_field, put_field}
+use Rattle.dv_defs.specs.Heap.{Heap, kind_of, cells_at, length_of}
+use Rattle.dv_machine.specs.State.{Thread, Machine, Reads, reg_at, onward, put_words}
+use Rattle.dv_machine.specs.Mem.{stored, narrowed_all, get_field, put_field}
 use Rattle.dv_machine.specs.Step.{here}
-use Rattle.dv_machine.specs.Conforming.{Own, Fits, Conforms}
-use Rattle.dv_machine.specs.WellTyped.{Typings, own_of, this_above, nobody, cell_types, CellsFit, HeapFine}
-use Rattle.dv_machine.specs.Premises.{KeepsKinds, ThrowFine, DidFine, HoldsOf}
+use Rattle.dv_machine.specs.Conforming.{Fits, Conforms}
+use Rattle.dv_machine.specs.WellTyped.{Typings, own_of, this_above, nobody, cell_types}
+use Rattle.dv_machine.specs.Premises.{DidFine, HoldsOf}
 use Rattle.dv_laws.specs.Reading.{AreWords}
-use Rattle.dv_laws.proofs.GrowthLists.{no, same_some}
-use Rattle.dv_laws.proofs.HeapCells.{IsCell, reg_cells, reg_count}
-use Rattle.dv_laws.proofs.HeapStepsLeft.{read_then, put_left, put_long_left, gone_left}
-use Rattle.dv_laws.proofs.HeapStepsPlain.{only_rule, demand_of, out_of, throws, same_heap}
-use Rattle.dv_laws.proofs.HeapStepsPlaces.{HasField, class_field, object_field, field_place}
+use Rattle.dv_laws.proofs.HeapCells.{reg_cells, reg_count}
+use Rattle.dv_laws.proofs.HeapStepsLeft.{put_left, put_long_left, gone_left}
+use Rattle.dv_laws.proofs.HeapStepsPlaces.{HasField, object_field, field_place}
 use Rattle.dv_laws.proofs.HeapStepsCells.{cell_any, cell_ref, cell_plain, single_cell, narrowed_count, narrowed_each, stored_fine, words_at_is}
 use Rattle.dv_laws.proofs.LocalStands.{Stands}
-use Rattle.dv_laws.proofs.ReadersPlain.{reads_reference_to}
-use Rattle.dv_laws.proofs.ReadersWords.{reads_value}
-use Rattle.dv_laws.proofs.CallsResolved.{is_named}
-use Rattle.dv_laws.proofs.Demanding.{first_none, demanded}
 
 pub holds_map : {A : Type 0} (P Q : A → Type 0) (r : Reads A) → HoldsOf P r → ((y : A) → P y → Q y) → HoldsOf Q r
 holds_map P Q (Ok y) h g = g y h

@@ -1,6 +1,6 @@
 -- The instructions that write arrays are fine.
-use Rattle.std.proofs.Common.{◌≡◌, ◌⊎◌, inl, inr, ℕ, zero, suc, ◌+◌, ◌*◌, ◌<◌, ◌≤◌, List, [], ◌∷◌, ◌++◌, length, Bool, true, false, ◌&&◌, ◌||◌, Option, Some, None, refl, sym, ap, ◌∙◌, subst, arith}
-use Rattle.std.specs.Prelude.{ℤ, slice_get, slice_index_or, nat_eq, nat_le, All, Result, Ok, Err}
+use Rattle.std.proofs.Common.{◌≡◌, ◌⊎◌, inl, inr, ℕ, zero, suc, ◌+◌, ◌*◌, ◌<◌, List, [], ◌∷◌, ◌++◌, length, true, false, Some, None, refl, sym, ap, ◌∙◌, subst, arith}
+use Rattle.std.specs.Prelude.{ℤ, nat_le}
 use Rattle.std.proofs.lemmas.Bool.{and_parts, or_cases, leb-true}
 use Rattle.dv_defs.specs.declared.names.Base.{Base}
 use Rattle.dv_defs.specs.declared.names.Base.TheVariants as base
@@ -20,16 +20,15 @@ use Rattle.dv_defs.specs.declared.typing.RegState.{RegState}
 use Rattle.dv_defs.specs.Parts.{Call, Suffix}
 use Rattle.dv_defs.specs.Types.{base_eq, component, is_array, is_base, is_class_base, is_long, is_reference, words_of}
 use Rattle.dv_defs.specs.Pools.{Method}
-use Rattle.dv_defs.specs.Op.{Op, Code, ArrayPut, Fill, Filled, Invoke, can_throw}
+use Rattle.dv_defs.specs.Op.{Code, ArrayPut, Fill, Filled, Invoke}
 use Rattle.dv_defs.specs.Statics.{At, op_rules, is_of_suffix, is_filled_type}
-use Rattle.dv_defs.specs.RegTypes.{Types, type_at, reg_types, single_type}
+use Rattle.dv_defs.specs.RegTypes.{Types, type_at, single_type}
 use Rattle.dv_defs.specs.Demands.{goes_on, first, array, int, put_for, single_for, each_for, is_fill_type}
-use Rattle.dv_defs.specs.Transfer.{out, going, with_result}
 use Rattle.dv_defs.specs.Heap.{Heap, kind_of, newest, alloc_array, length_of}
-use Rattle.dv_machine.specs.State.{Thread, Machine, Left, Did, Reads, on_next, reading, reg_at, read_single, onward, gone, where_true, with_heap}
-use Rattle.dv_machine.specs.Mem.{mem, on_object, on_index, component_of, stored, is_storable, array_put, filled, fill, read_each, filled_array}
+use Rattle.dv_machine.specs.State.{Thread, Machine, reg_at, read_single, onward, gone, with_heap}
+use Rattle.dv_machine.specs.Mem.{mem, on_object, on_index, component_of, stored, is_storable, array_put, filled, fill, read_each, filled_array, narrowed_all}
 use Rattle.dv_machine.specs.Step.{here}
-use Rattle.dv_machine.specs.Conforming.{Own, Conforms}
+use Rattle.dv_machine.specs.Conforming.{Conforms, IsOf}
 use Rattle.dv_machine.specs.WellTyped.{Typings, own_of, this_above, nobody, element_types, HeapFine}
 use Rattle.dv_machine.specs.Premises.{KeepsKinds, ThrowFine, DidFine, HoldsOf}
 use Rattle.dv_machine.specs.StepLaws.{IsAdded}
@@ -41,7 +40,7 @@ use Rattle.dv_laws.proofs.HeapStepsPlain.{only_rule, demand_of, out_of, throws, 
 use Rattle.dv_laws.proofs.HeapStepsCells.{stored_fine}
 use Rattle.dv_laws.proofs.HeapStepsElements.{primitive_plain, primitive_short, reference_short, short_types, int_type, class_type, fill_plain, filled_conforms}
 use Rattle.dv_laws.proofs.HeapStepsArrays.{IsKnown, known_array, index_then, component_is}
-use Rattle.dv_laws.proofs.HeapStepsStores.{IsReference, IsPut, put_holds, cells_left, short_left, long_left, storable}
+use Rattle.dv_laws.proofs.HeapStepsStores.{IsPut, put_holds, cells_left, short_left, long_left, storable}
 use Rattle.dv_laws.proofs.FlightRises.{object_there}
 use Rattle.dv_laws.proofs.RecordsStarted.{fits_of}
 use Rattle.dv_laws.proofs.LocalStands.{Stands}
@@ -56,7 +55,7 @@ module _ (image : Image) (T : Typings) (m : Machine) (t : ℕ) (thread : Thread)
   module _ (a b c : ℕ) where
     -- a number of one word
     narrow_store : (w : Suffix) (p : Base) (e : x.op ≡ ArrayPut w a b c) → is_class_base p ≡ false → base_eq p base.J ≡ false → (o k : ℕ) (u : Ty) (ys : List Value) → is_base p (component u) ≡ true → kind_of m.shared.heap (suc o) ≡ Some (kind.Array u) → k < length_of m.shared.heap (suc o) → (y : Value) × (ys ≡ y ∷ []) × Conforms image m.shared.heap nobody y ty.Int → is_storable (here image m t own f rest x.next) (suc o) w ys ≡ true → DidFine image T m t thread x (array_put (here image m t own f rest x.next) (suc o) w ys (k * words_of (component_of (here image m t own f rest x.next) (suc o))))
-    narrow_store w p e q r o k u ys i j l n st = true_then image T m t thread x (is_storable (here image m t own f rest x.next) (suc o) w ys) named.ArrayStore _ (throws image T m t thread own f rest x s h code rules apart (ArrayPut w a b c) e refl) (λ z. subst (λ (zs : List Value). DidFine image T m t thread x (onward (here image m t own f rest x.next) (with_heap m.shared (stored m.shared.heap (suc o) (k * words_of (component_of (here image m t own f rest x.next) (suc o))) (Rattle.dv_machine.specs.Mem.narrowed_all (component_of (here image m t own f rest x.next) (suc o)) zs))) (gone f x.next f.regs))) (sym n.1) (short_left image T m t thread own f rest x s h code rules apart o u j (ap goes_on e) (out_of image T m t thread own f rest x s h code rules apart (ArrayPut w a b c) e) k n.0 l (primitive_short p (component u) r i) (subst (λ (z : RegType). Conforms image m.shared.heap nobody n.0 z) (sym (int_type (component u) (primitive_plain p (component u) q i))) n.2)))
+    narrow_store w p e q r o k u ys i j l n st = true_then image T m t thread x (is_storable (here image m t own f rest x.next) (suc o) w ys) named.ArrayStore _ (throws image T m t thread own f rest x s h code rules apart (ArrayPut w a b c) e refl) (λ z. subst (λ (zs : List Value). DidFine image T m t thread x (onward (here image m t own f rest x.next) (with_heap m.shared (stored m.shared.heap (suc o) (k * words_of (component_of (here image m t own f rest x.next) (suc o))) (narrowed_all (component_of (here image m t own f rest x.next) (suc o)) zs))) (gone f x.next f.regs))) (sym n.1) (short_left image T m t thread own f rest x s h code rules apart o u j (ap goes_on e) (out_of image T m t thread own f rest x s h code rules apart (ArrayPut w a b c) e) k n.0 l (primitive_short p (component u) r i) (subst (λ (z : RegType). Conforms image m.shared.heap nobody n.0 z) (sym (int_type (component u) (primitive_plain p (component u) q i))) n.2)))
 
     put_by : (w : Suffix) (e : x.op ≡ ArrayPut w a b c) (o k : ℕ) (ys : List Value) → IsKnown image T m t thread own f rest x s h code rules apart (is_of_suffix w) b (suc o) → k < length_of m.shared.heap (suc o) → IsPut image m.shared.heap w ys → DidFine image T m t thread x (array_put (here image m t own f rest x.next) (suc o) w ys (k * words_of (component_of (here image m t own f rest x.next) (suc o))))
     put_by Suffix.Int e o k ys i l n = narrow_store Suffix.Int base.I e refl refl o k i.2.type ys i.2.takes i.2.has_kind l n refl
@@ -126,7 +125,7 @@ module _ (image : Image) (T : Typings) (m : Machine) (t : ℕ) (thread : Thread)
         st : HeapFine image (stored after (newest after) 0 ys) × KeepsKinds after (stored after (newest after) 0 ys)
         st = stored_fine image after (newest after) (kind.Array u) 0 ys r.0.fine r.0.made (λ j l. subst (λ (k : ℕ). Conforms image after nobody (reg_at ys j) (type_at (element_types (length_of after (newest after)) (component u)) k)) (zero_plus j) (subst (λ (n : ℕ). Conforms image after nobody (reg_at ys j) (type_at (element_types n (component u)) j)) (sym r.1) (conforms_grown image m.shared.heap after r.0.keeps nobody (reg_at ys j) (type_at (element_types (length rs) (component u)) j) (((words image m.shared.heap ys (element_types (length rs) (component u)) w).good nobody).regs j))))
 
-        array : Rattle.dv_machine.specs.Conforming.IsOf image (stored after (newest after) 0 ys) (newest after) u
+        array : IsOf image (stored after (newest after) 0 ys) (newest after) u
         array = array_of image T m t thread own f rest x s h code rules apart (stored after (newest after) 0 ys) (newest after) u (and_parts (is_array u) _ takes).0 (st.1 (newest after) (kind.Array u) r.0.made)
 
     pub filled_fine : DidFine image T m t thread x (mem (here image m t own f rest x.next) (Filled rs u))

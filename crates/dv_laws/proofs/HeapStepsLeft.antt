@@ -1,8 +1,8 @@
 -- What a step that may change the heap leaves is in order, by its registers and pending result.
-use Rattle.std.proofs.Common.{◌≡◌, ◌⊎◌, inl, inr, ℕ, zero, suc, ◌≤◌, List, [], ◌∷◌, length, Bool, true, false, Option, Some, None, refl, sym, ap, ◌∙◌, subst, arith}
-use Rattle.std.specs.Prelude.{ℤ, slice_get, slice_set, All, Result, Ok, Err}
+use Rattle.std.proofs.Common.{◌≡◌, ℕ, zero, suc, List, [], ◌∷◌, length, Bool, true, false, Option, Some, None, refl, ap, ◌∙◌, subst, arith}
+use Rattle.std.specs.Prelude.{slice_set, All, Ok, Err}
 use Rattle.std.proofs.lemmas.List.{length-set}
-use Rattle.std.proofs.lemmas.List.Elements.{All-cons, All-set, All-weaker, All-head}
+use Rattle.std.proofs.lemmas.List.Elements.{All-cons, All-set, All-head}
 use Rattle.dv_defs.specs.declared.image.Image.{Image}
 use Rattle.dv_defs.specs.declared.run.Value.{Value}
 use Rattle.dv_defs.specs.declared.run.Value.TheVariants as v
@@ -12,26 +12,23 @@ use Rattle.dv_defs.specs.declared.machine.Pending.TheVariants as pending
 use Rattle.dv_defs.specs.declared.machine.Frame.{Frame}
 use Rattle.dv_defs.specs.declared.machine.Level.{Level}
 use Rattle.dv_defs.specs.declared.machine.Level.TheVariants as level
-use Rattle.dv_defs.specs.declared.machine.End.TheVariants as end
 use Rattle.dv_defs.specs.declared.typing.RegType.{RegType}
-use Rattle.dv_defs.specs.declared.typing.RegType.TheVariants as ty
 use Rattle.dv_defs.specs.declared.typing.PendingType.{PendingType}
 use Rattle.dv_defs.specs.declared.typing.PendingType.TheVariants as pend
 use Rattle.dv_defs.specs.declared.typing.RegState.{RegState}
 use Rattle.dv_defs.specs.Parts.{Call}
 use Rattle.dv_defs.specs.Pools.{Method}
-use Rattle.dv_defs.specs.Op.{Op, Invoke, can_throw}
+use Rattle.dv_defs.specs.Op.{Invoke}
 use Rattle.dv_defs.specs.Statics.{At}
 use Rattle.dv_defs.specs.Demands.{goes_on}
 use Rattle.dv_defs.specs.RegTypes.{Types}
 use Rattle.dv_defs.specs.Transfer.{out, going, with_result, write_type, write_long}
-use Rattle.dv_defs.specs.Numbers.{lo_of, hi_of}
-use Rattle.dv_defs.specs.Flow.{Leads, targets, jumps}
+use Rattle.dv_defs.specs.Flow.{Leads, jumps}
 use Rattle.dv_defs.specs.Heap.{Heap}
 use Rattle.dv_defs.specs.Monitors.{entry_of}
-use Rattle.dv_machine.specs.State.{Thread, Shared, Machine, Left, Did, Go, Throws, Reads, reading, where_room, where_true, with_heap}
+use Rattle.dv_machine.specs.State.{Thread, Machine, Left, Did, Reads, reading, where_room, where_true, with_heap}
 use Rattle.dv_machine.specs.Mem.{on_object}
-use Rattle.dv_machine.specs.Conforming.{Own, IsGood, RefFine, ResultFine, RefsFine, ResultConforms, Conform}
+use Rattle.dv_machine.specs.Conforming.{IsGood, RefFine, ResultFine, RefsFine, ResultConforms}
 use Rattle.dv_machine.specs.WellTyped.{Typings, own_of, this_above, HeapFine, records}
 use Rattle.dv_machine.specs.Premises.{KeepsKinds, LeftFine, ThrowFine, DidFine, HoldsOf}
 use Rattle.dv_machine.specs.StepLaws.{IsFrom}
@@ -40,11 +37,11 @@ use Rattle.dv_laws.proofs.GrowthKinds.{good_grown, refs_grown, all_refs_grown, s
 use Rattle.dv_laws.proofs.GrowthThreads.{records_after}
 use Rattle.dv_laws.proofs.MonitorsOwners.{entry_none}
 use Rattle.dv_laws.proofs.MonitorsMoved.{quiet_moved}
-use Rattle.dv_laws.proofs.FlightFlown.{living_fine, refs_of, records_of, lowest_top}
+use Rattle.dv_laws.proofs.FlightFlown.{living_fine, records_of, lowest_top}
 use Rattle.dv_laws.proofs.RegistersAbove.{conform_above}
 use Rattle.dv_laws.proofs.RegistersWritten.{write_keeps, long_write_keeps}
 use Rattle.dv_laws.proofs.LocalStands.{Stands, rest_refs, frame_refs}
-use Rattle.dv_laws.proofs.LocalFine.{WaitsHere, quiet}
+use Rattle.dv_laws.proofs.LocalFine.{quiet}
 
 -- ---- outcomes of the parts of a step
 
@@ -90,12 +87,15 @@ module _ (image : Image) (T : Typings) (m : Machine) (t : ℕ) (thread : Thread)
           let l = leads (record { regs = ts; result = r; caught = None; this_pending = s.this_pending }) e in
           record {
             keeps = g;
-            levels = (lowest_top (level.Code f) (record { method = f.method; at = x.next; regs = ys; result = p; caught = None; this_pending = f.this_pending }) rest living.0, (
-              record { frame = record { code = code.frame.code; has_code = code.frame.has_code; registers = n ∙ code.frame.registers }; below = code.below },
-              record { method = own; has_method = h.has_own; state = l.state; has_state = l.has_state; conform = conform_above image h.may.accepted.order after (own_of image (this_above image rest) own) _ (record { regs = ts; result = r; caught = None; this_pending = s.this_pending }) l.state l.below (record { good = good; result = result; caught = tt; this_pending = h.conform.this_pending }) },
-              tt,
-              stack_grown image m.shared.heap after g T t rest h.rest_fine,
-            ));
+            levels = (
+              lowest_top (level.Code f) (record { method = f.method; at = x.next; regs = ys; result = p; caught = None; this_pending = f.this_pending }) rest living.0,
+              (
+                record { frame = record { code = code.frame.code; has_code = code.frame.has_code; registers = n ∙ code.frame.registers }; below = code.below },
+                record { method = own; has_method = h.has_own; state = l.state; has_state = l.has_state; conform = conform_above image h.may.accepted.order after (own_of image (this_above image rest) own) _ (record { regs = ts; result = r; caught = None; this_pending = s.this_pending }) l.state l.below (record { good = good; result = result; caught = tt; this_pending = h.conform.this_pending }) },
+                tt,
+                stack_grown image m.shared.heap after g T t rest h.rest_fine,
+              ),
+            );
             refs = All-cons (RefsFine image after) (level.Code (record { method = f.method; at = x.next; regs = ys; result = p; caught = None; this_pending = f.this_pending })) rest (refs, pending, tt) (all_refs_grown image m.shared.heap after g rest (rest_refs image T m t thread own f rest x s h));
             heap = fine;
             class_states = h.may.typed.class_states;

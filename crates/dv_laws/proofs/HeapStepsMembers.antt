@@ -1,12 +1,11 @@
 -- The instructions of instance and static fields are fine.
-use Rattle.std.proofs.Common.{◌≡◌, ◌≢◌, ◌⊎◌, inl, inr, ℕ, zero, suc, ◌+◌, ◌<◌, ◌≤◌, List, [], ◌∷◌, ◌++◌, length, Bool, true, false, ◌&&◌, not, Option, Some, None, refl, sym, ap, ◌∙◌, subst, arith}
-use Rattle.std.specs.Prelude.{slice_get, slice_set, slice_index_or, nat_eq, All, Result, Ok, Err}
+use Rattle.std.proofs.Common.{◌≡◌, ℕ, zero, suc, ◌+◌, List, [], Bool, true, false, Some, None, refl, sym, ap, ◌∙◌, subst, arith}
+use Rattle.std.specs.Prelude.{slice_index_or, Ok, Err}
 use Rattle.std.proofs.lemmas.Bool.{and_parts, eqb-true}
-use Rattle.dv_defs.specs.declared.names.Ty.{Ty}
 use Rattle.dv_defs.specs.declared.image.Image.{Image}
 use Rattle.dv_defs.specs.declared.run.Value.{Value}
 use Rattle.dv_defs.specs.declared.run.Value.TheVariants as v
-use Rattle.dv_defs.specs.declared.machine.Kind.{Kind}
+use Rattle.dv_defs.specs.declared.run.Why.TheVariants as why
 use Rattle.dv_defs.specs.declared.machine.Kind.TheVariants as kind
 use Rattle.dv_defs.specs.declared.machine.Frame.{Frame}
 use Rattle.dv_defs.specs.declared.machine.Level.{Level}
@@ -14,28 +13,24 @@ use Rattle.dv_defs.specs.declared.typing.RegType.{RegType}
 use Rattle.dv_defs.specs.declared.typing.RegType.TheVariants as ty
 use Rattle.dv_defs.specs.declared.typing.RegState.{RegState}
 use Rattle.dv_defs.specs.Parts.{Call, Suffix}
-use Rattle.dv_defs.specs.Types.{is_long, words_of}
 use Rattle.dv_defs.specs.Pools.{Method, Field, field_at, is_static_field, class_type}
 use Rattle.dv_defs.specs.Order.{sub}
-use Rattle.dv_defs.specs.Op.{Op, Code, FieldGet, FieldPut, StaticGet, StaticPut, Invoke}
+use Rattle.dv_defs.specs.Op.{Op, Code, FieldGet, FieldPut, StaticGet, StaticPut, Invoke, can_throw}
 use Rattle.dv_defs.specs.Statics.{At, op_rules, fits_instance_field, fits_static_field, is_of_suffix}
-use Rattle.dv_defs.specs.RegTypes.{Types, type_at, reg_types}
-use Rattle.dv_defs.specs.Demands.{goes_on, is_own_field, value_for, ref, ref_to, demand, is_assignable, put_receiver as receiver_demand}
-use Rattle.dv_defs.specs.Transfer.{out, going, write_for}
-use Rattle.dv_defs.specs.Heap.{Heap, kind_of}
-use Rattle.dv_machine.specs.State.{Thread, Machine, Left, Did, Reads, reading, reg_at, read_ref, read_value}
-use Rattle.dv_machine.specs.Mem.{mem, on_object, static_words, static_stored, narrowed_all, put_receiver, get_field, put_field}
+use Rattle.dv_defs.specs.RegTypes.{type_at, reg_types}
+use Rattle.dv_defs.specs.Demands.{goes_on, is_own_field, value_for, ref, ref_to, demand, is_assignable, put_receiver as receiver_demand, is_ref}
+use Rattle.dv_machine.specs.State.{Thread, Machine, Reads, reg_at, read_ref, onward, with_heap, gone}
+use Rattle.dv_machine.specs.Mem.{mem, on_object, static_stored, narrowed_all, put_receiver, get_field, put_field}
 use Rattle.dv_machine.specs.Step.{here}
-use Rattle.dv_machine.specs.Conforming.{Own, Fits, Conforms}
+use Rattle.dv_machine.specs.Conforming.{Fits, Conforms}
 use Rattle.dv_machine.specs.WellTyped.{Typings, own_of, this_above, nobody}
 use Rattle.dv_machine.specs.Premises.{ThrowFine, DidFine, HoldsOf}
 use Rattle.dv_laws.specs.Reading.{AreWords}
-use Rattle.dv_laws.proofs.GrowthLists.{no, same_some}
-use Rattle.dv_laws.proofs.HeapCells.{reg_cells, reg_count}
+use Rattle.dv_laws.proofs.HeapCells.{reg_cells}
 use Rattle.dv_laws.proofs.HeapStepsLeft.{read_then, gone_left}
 use Rattle.dv_laws.proofs.HeapStepsPlain.{only_rule, demand_of, out_of, throws}
 use Rattle.dv_laws.proofs.HeapStepsPlaces.{class_field}
-use Rattle.dv_laws.proofs.HeapStepsCells.{narrowed_count, narrowed_each, static_stored_fine}
+use Rattle.dv_laws.proofs.HeapStepsCells.{narrowed_each, static_stored_fine}
 use Rattle.dv_laws.proofs.HeapStepsFields.{holds_map, words_left, IsReceiver, fits_receiver, placed, concrete, get_fine, put_fine}
 use Rattle.dv_laws.proofs.LocalStands.{Stands}
 use Rattle.dv_laws.proofs.ReadersPlain.{reads_reference_to}
@@ -47,7 +42,7 @@ module _ (image : Image) (T : Typings) (m : Machine) (t : ℕ) (thread : Thread)
   named : (op : Op) → x.op ≡ op → IsNamed image op
   named op e = subst (IsNamed image) e (is_named image f.method.0 f.at x h.has_at)
 
-  throwing : (op : Op) → x.op ≡ op → Rattle.dv_defs.specs.Op.can_throw op ≡ true → ThrowFine m t x
+  throwing : (op : Op) → x.op ≡ op → can_throw op ≡ true → ThrowFine m t x
   throwing op e c = throws image T m t thread own f rest x s h code rules apart op e c
 
   pub field_get : (w : Suffix) (a b : ℕ) (y : Field) → x.op ≡ FieldGet w a b y → DidFine image T m t thread x (mem (here image m t own f rest x.next) (FieldGet w a b y))
@@ -88,7 +83,7 @@ module _ (image : Image) (T : Typings) (m : Machine) (t : ℕ) (thread : Thread)
         (kind.Object (record { 0 = c.class }), c.has_kind, class_field image T h.may.accepted its_field.0 y its_field.1 (placed image T m t thread own f rest x s h code rules apart w y its_field.0 its_field.1 its_fits) (concrete image T m t thread own f rest x s h code rules apart w y its_field.0 its_field.1 its_fits) c.class (h.may.accepted.order.sub_instance _ _ under))
 
     not_ref : type_at s.regs b ≡ ty.Conflict → ref_to image s.regs b (class_type image y.info.class.0) ≡ None → ⊥
-    not_ref q d = clash (subst (λ (u : RegType). ◌≡◌ {A = Bool} (Rattle.dv_defs.specs.Demands.is_ref u) true) q (demanded _ _ (first_none (ref s.regs b) (demand (is_assignable image (type_at s.regs b) (class_type image y.info.class.0)) 5) d).0))
+    not_ref q d = clash (subst (λ (u : RegType). ◌≡◌ {A = Bool} (is_ref u) true) q (demanded _ _ (first_none (ref s.regs b) (demand (is_assignable image (type_at s.regs b) (class_type image y.info.class.0)) 5) d).0))
       where
         clash : false ≡ true → ⊥
         clash z = cc
@@ -96,7 +91,7 @@ module _ (image : Image) (T : Typings) (m : Machine) (t : ℕ) (thread : Thread)
     receives : (z : Value) (u : RegType) → reg_at f.regs b ≡ z → type_at s.regs b ≡ u → Conforms image m.shared.heap (own_of image (this_above image rest) own) z u → receiver_demand image own s.regs b y u ≡ None → HoldsOf Receiver (put_receiver (here image m t own f rest x.next) y z)
     receives (v.UninitThis o) ty.UninitThis p q c d = go (is_own_field own y) refl d
       where
-        go : (k : Bool) → is_own_field own y ≡ k → demand k 14 ≡ None → HoldsOf Receiver (elim k as (λ w. Reads ℕ) [ true ↦ Ok o | false ↦ Err Rattle.dv_defs.specs.declared.run.Why.TheVariants.Uninitialised ])
+        go : (k : Bool) → is_own_field own y ≡ k → demand k 14 ≡ None → HoldsOf Receiver (elim k as (λ w. Reads ℕ) [ true ↦ Ok o | false ↦ Err why.Uninitialised ])
         go true i d = own_receiver o i c
         go false i d = absurd (cc)
     receives (v.UninitThis o) ty.Conflict p q c d = absurd (not_ref q d)
@@ -133,7 +128,7 @@ module _ (image : Image) (T : Typings) (m : Machine) (t : ℕ) (thread : Thread)
       zero_plus : (k : ℕ) → k ≡ 0 + k
       zero_plus k = omega arith
 
-      go : (ys : List Value) → AreWords image m.shared.heap ys (reg_types y.def.ty) → DidFine image T m t thread x (Rattle.dv_machine.specs.State.onward (here image m t own f rest x.next) (Rattle.dv_machine.specs.State.with_heap m.shared (static_stored m.shared.heap y.id 0 (narrowed_all y.def.ty ys))) (Rattle.dv_machine.specs.State.gone f x.next f.regs))
+      go : (ys : List Value) → AreWords image m.shared.heap ys (reg_types y.def.ty) → DidFine image T m t thread x (onward (here image m t own f rest x.next) (with_heap m.shared (static_stored m.shared.heap y.id 0 (narrowed_all y.def.ty ys))) (gone f x.next f.regs))
       go ys c =
           let n = named (StaticPut w a y) e in
           let narrow = narrowed_each image m.shared.heap y.def.ty ys (reg_types y.def.ty) (reg_cells y.def.ty) (c.good nobody).regs in

@@ -1,6 +1,6 @@
 -- An object that has an instance field is of a class, and has the field's cells.
-use Rattle.std.proofs.Common.{◌≡◌, ◌⊎◌, inl, inr, ℕ, zero, suc, ◌+◌, ◌<◌, ◌≤◌, List, [], ◌∷◌, length, Bool, true, false, ◌||◌, Option, Some, None, refl, sym, ap, ◌∙◌, subst, arith}
-use Rattle.std.specs.Prelude.{slice_get, bytes_eq, nat_lt}
+use Rattle.std.proofs.Common.{◌≡◌, ◌⊎◌, inl, inr, ℕ, zero, suc, ◌+◌, ◌<◌, ◌≤◌, List, [], length, Bool, true, false, Option, Some, None, refl, sym, ap, ◌∙◌, subst, arith}
+use Rattle.std.specs.Prelude.{slice_get, bytes_eq}
 use Rattle.std.proofs.lemmas.Bool.{cases_lt, or_parts, both_ways, ltb-true}
 use Rattle.std.proofs.lemmas.Option.{slice_get_past}
 use Rattle.dv_defs.specs.declared.names.Base.TheVariants as base
@@ -11,12 +11,12 @@ use Rattle.dv_defs.specs.declared.machine.Kind.TheVariants as kind
 use Rattle.dv_defs.specs.Names.{object_name, string_name, class_name}
 use Rattle.dv_defs.specs.Types.{of_class, is_array, is_reference, class_in, words_of}
 use Rattle.dv_defs.specs.Pools.{Field, field_at, is_static_field, is_interface, class_type, class_named, name_of, name_at, parent_at}
-use Rattle.dv_defs.specs.Order.{has_number, under_class, implements, instance, fits, reaches, above, interfaces_of, is_interface_type, names_interface}
+use Rattle.dv_defs.specs.Order.{has_number, under_class, implements, instance, fits, reaches, above, interfaces_of, is_interface_type}
 use Rattle.dv_defs.specs.RegTypes.{type_at, reg_types}
 use Rattle.dv_defs.specs.Heap.{kind_type, class_cells}
 use Rattle.dv_machine.specs.Conforming.{is_string_or_class, is_proper}
 use Rattle.dv_machine.specs.WellTyped.{Typings}
-use Rattle.dv_machine.specs.Accepted.{Accepted, IsHierarchy}
+use Rattle.dv_machine.specs.Accepted.{Accepted}
 use Rattle.dv_laws.proofs.GrowthLists.{no, same_some}
 use Rattle.dv_laws.proofs.OrderTypes.{type_is, flat_under, names_equal, AreUnder, IsUnder}
 use Rattle.dv_laws.proofs.OrderWalks.{named_is, named_inside, above_is, reach_is, object_reaches}

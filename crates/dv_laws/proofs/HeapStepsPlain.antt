@@ -1,6 +1,6 @@
 -- Divisions, constants, casts, new objects and throws are fine.
-use Rattle.std.proofs.Common.{◌≡◌, ◌≢◌, ◌⊎◌, inl, inr, ℕ, zero, suc, List, [], ◌∷◌, ◌++◌, length, Bool, true, false, ◌&&◌, ◌||◌, not, Option, Some, None, refl, sym, ap, ◌∙◌, subst, arith}
-use Rattle.std.specs.Prelude.{ℤ, pos, negsuc, slice_get, slice_set, map, nat_eq, All, Result, Ok, Err}
+use Rattle.std.proofs.Common.{◌≡◌, ◌≢◌, ◌⊎◌, inl, inr, ℕ, zero, suc, List, [], Bool, true, false, ◌||◌, not, Option, Some, None, refl, sym, ap, ◌∙◌, subst, arith}
+use Rattle.std.specs.Prelude.{ℤ, pos, negsuc, slice_set, map, nat_eq, All}
 use Rattle.std.proofs.lemmas.Bool.{or_left, or_cases, eqb-true}
 use Rattle.std.proofs.lemmas.List.{length-set, set-get_or}
 use Rattle.std.proofs.lemmas.List.Elements.{All-set}
@@ -23,28 +23,28 @@ use Rattle.dv_defs.specs.Parts.{Call, Bin}
 use Rattle.dv_defs.specs.Names.{object_name, string_name, class_name, throwable_name}
 use Rattle.dv_defs.specs.Types.{of_class, is_array, is_reference}
 use Rattle.dv_defs.specs.Pools.{Method}
-use Rattle.dv_defs.specs.Order.{instance, implements, fits}
+use Rattle.dv_defs.specs.Order.{instance, implements}
 use Rattle.dv_defs.specs.Numbers.{operate32, operate64, lo_of, hi_of}
 use Rattle.dv_defs.specs.Op.{Op, Arg, Code, IntDivide, LongDivide, ConstString, ConstClass, Cast, InstanceOf, ArrayLength, New, NewArray, Throw, Invoke, can_throw}
 use Rattle.dv_defs.specs.Statics.{At, fetch, unless, op_rules}
-use Rattle.dv_defs.specs.RegTypes.{Types, type_at}
+use Rattle.dv_defs.specs.RegTypes.{type_at}
 use Rattle.dv_defs.specs.Demands.{goes_on, demands, made_by, made_at, any_type, int, arg_int, long}
 use Rattle.dv_defs.specs.Transfer.{out, going, write_type, replaced}
 use Rattle.dv_defs.specs.Flow.{is_exit}
 use Rattle.dv_defs.specs.Heap.{Heap, Got, kind_of, kind_type, newest, alloc_object, alloc_array, intern, class_object, length_of}
-use Rattle.dv_machine.specs.State.{Thread, Machine, Left, Did, ThrowsRef, Reads, reading, where_ref, reg_at, truth, type_of, where_true, read_any, read_int, tested, any_kind, onward, Here}
+use Rattle.dv_machine.specs.State.{Thread, Machine, ThrowsRef, reading, where_ref, reg_at, truth, type_of, where_true, read_any, tested, any_kind, onward}
 use Rattle.dv_machine.specs.Mem.{mem, on_object, is_zero, is_instance, put_object, got, new_array}
 use Rattle.dv_machine.specs.Step.{here}
 use Rattle.dv_machine.specs.Calls.{object_of}
-use Rattle.dv_machine.specs.Conforming.{Own, IsObject, IsThere, IsOf, Fits, Conforms, IsUninit, IsGood, RefFine}
-use Rattle.dv_machine.specs.WellTyped.{Typings, own_of, this_above, IsThrowable, HeapFine}
-use Rattle.dv_machine.specs.Premises.{KeepsKinds, LeftFine, ThrowFine, DidFine, HoldsOf}
-use Rattle.dv_machine.specs.StepLaws.{IsAdded, IsFrom}
+use Rattle.dv_machine.specs.Conforming.{Own, IsThere, IsOf, Fits, Conforms, IsUninit, IsGood, RefFine}
+use Rattle.dv_machine.specs.WellTyped.{Typings, own_of, this_above, HeapFine}
+use Rattle.dv_machine.specs.Premises.{KeepsKinds, ThrowFine, DidFine, HoldsOf}
+use Rattle.dv_machine.specs.StepLaws.{IsAdded}
 use Rattle.dv_laws.specs.Reading.{Anything, IsArrayOrNull}
-use Rattle.dv_laws.proofs.GrowthLists.{no, same_some, nothing}
+use Rattle.dv_laws.proofs.GrowthLists.{same_some, nothing}
 use Rattle.dv_laws.proofs.HeapAdded.{object_is_added, array_is_added}
 use Rattle.dv_laws.proofs.HeapInterned.{string_is_interned, class_object_is_got}
-use Rattle.dv_laws.proofs.HeapStepsLeft.{read_then, room_then, true_then, object_then, no_wait, grown_good, heap_left, put_left, put_long_left, gone_left}
+use Rattle.dv_laws.proofs.HeapStepsLeft.{read_then, room_then, true_then, no_wait, grown_good, heap_left, put_left, put_long_left}
 use Rattle.dv_laws.proofs.OpeningHeap.{same_fits}
 use Rattle.dv_laws.proofs.OrderTypes.{under_reference}
 use Rattle.dv_laws.proofs.FlightRises.{object_there}

@@ -1,53 +1,45 @@
 -- Steps that write an array's elements, and those that fill an array, are fine.
-use Rattle.std.proofs.Common.{◌≡◌, ◌⊎◌, inl, inr, ℕ, zero, suc, ◌+◌, ◌*◌, ◌<◌, ◌≤◌, List, [], ◌∷◌, ◌++◌, length, Bool, true, false, ◌&&◌, ◌||◌, Option, Some, None, refl, sym, ap, ◌∙◌, subst, arith}
-use Rattle.std.specs.Prelude.{ℤ, slice_get, slice_set, slice_index_or, nat_eq, nat_le, All, Result, Ok, Err}
-use Rattle.std.proofs.lemmas.Bool.{and_parts, or_cases, leb-true}
-use Rattle.dv_defs.specs.declared.names.Base.{Base}
-use Rattle.dv_defs.specs.declared.names.Base.TheVariants as base
+use Rattle.std.proofs.Common.{◌≡◌, ℕ, zero, suc, ◌+◌, ◌*◌, ◌<◌, List, [], ◌∷◌, length, Bool, true, false, Option, Some, None, refl, sym, ap, subst, arith}
+use Rattle.std.specs.Prelude.{Ok}
 use Rattle.dv_defs.specs.declared.names.Ty.{Ty}
 use Rattle.dv_defs.specs.declared.image.Image.{Image}
 use Rattle.dv_defs.specs.declared.run.Value.{Value}
 use Rattle.dv_defs.specs.declared.run.Value.TheVariants as v
-use Rattle.dv_defs.specs.declared.run.Named.TheVariants as named
 use Rattle.dv_defs.specs.declared.machine.Kind.{Kind}
 use Rattle.dv_defs.specs.declared.machine.Kind.TheVariants as kind
-use Rattle.dv_defs.specs.declared.machine.Pending.TheVariants as pending
 use Rattle.dv_defs.specs.declared.machine.Frame.{Frame}
 use Rattle.dv_defs.specs.declared.machine.Level.{Level}
 use Rattle.dv_defs.specs.declared.typing.RegType.{RegType}
 use Rattle.dv_defs.specs.declared.typing.RegType.TheVariants as ty
-use Rattle.dv_defs.specs.declared.typing.PendingType.TheVariants as pend
 use Rattle.dv_defs.specs.declared.typing.RegState.{RegState}
 use Rattle.dv_defs.specs.Names.{object_name}
 use Rattle.dv_defs.specs.Parts.{Call, Suffix}
-use Rattle.dv_defs.specs.Types.{of_class, base_eq, component, is_array, is_base, is_class_base, is_long, is_reference, words_of}
+use Rattle.dv_defs.specs.Types.{of_class, component, is_long, is_reference, words_of}
 use Rattle.dv_defs.specs.Pools.{Method}
 use Rattle.dv_defs.specs.Order.{instance}
-use Rattle.dv_defs.specs.Op.{Op, Code, ArrayPut, Fill, Filled, Invoke, can_throw}
-use Rattle.dv_defs.specs.Statics.{At, op_rules, is_of_suffix, is_filled_type}
+use Rattle.dv_defs.specs.Op.{Code, Invoke}
+use Rattle.dv_defs.specs.Statics.{At, op_rules}
 use Rattle.dv_defs.specs.RegTypes.{Types, type_at, reg_types, single_type}
-use Rattle.dv_defs.specs.Demands.{goes_on, first, array, int, long, ref, put_for, single_for, each_for, is_int, is_ref, is_fill_type}
-use Rattle.dv_defs.specs.Transfer.{out, going, with_result}
-use Rattle.dv_defs.specs.Heap.{Heap, kind_of, kind_type, newest, alloc_array, length_of}
-use Rattle.dv_machine.specs.State.{Thread, Machine, Left, Did, Reads, on_next, reading, reg_at, read_int, read_any, read_two, read_single, onward, gone, type_of, where_true, with_heap}
-use Rattle.dv_machine.specs.Mem.{mem, on_object, on_index, component_of, narrowed_all, stored, read_put, is_instance, is_storable, array_put, filled, fill, read_each, filled_array}
+use Rattle.dv_defs.specs.Demands.{goes_on, int, put_for, is_int, is_ref}
+use Rattle.dv_defs.specs.Transfer.{out, going}
+use Rattle.dv_defs.specs.Heap.{Heap, kind_of, kind_type, length_of}
+use Rattle.dv_machine.specs.State.{Thread, Machine, on_next, reg_at, read_int, onward, gone, type_of, with_heap}
+use Rattle.dv_machine.specs.Mem.{component_of, narrowed_all, stored, read_put, is_storable}
 use Rattle.dv_machine.specs.Step.{here}
-use Rattle.dv_machine.specs.Conforming.{Own, Fits, Conforms, IsThere, IsOf}
-use Rattle.dv_machine.specs.WellTyped.{Typings, own_of, this_above, nobody, element_types, cell_types, HeapFine}
-use Rattle.dv_machine.specs.Premises.{KeepsKinds, ThrowFine, DidFine, HoldsOf}
+use Rattle.dv_machine.specs.Conforming.{Own, Fits, Conforms, IsThere}
+use Rattle.dv_machine.specs.WellTyped.{Typings, own_of, this_above, nobody, element_types}
+use Rattle.dv_machine.specs.Premises.{DidFine, HoldsOf}
 use Rattle.dv_laws.specs.Reading.{Anything}
 use Rattle.dv_laws.proofs.GrowthLists.{no}
-use Rattle.dv_laws.proofs.GrowthKinds.{conforms_grown}
-use Rattle.dv_laws.proofs.HeapCells.{reg_cells, reg_count}
-use Rattle.dv_laws.proofs.HeapStepsLeft.{read_then, room_then, true_then, gone_left}
-use Rattle.dv_laws.proofs.HeapStepsPlain.{only_rule, demand_of, out_of, throws, instance_reference}
+use Rattle.dv_laws.proofs.HeapCells.{reg_cells}
+use Rattle.dv_laws.proofs.HeapStepsLeft.{gone_left}
+use Rattle.dv_laws.proofs.HeapStepsPlain.{instance_reference}
 use Rattle.dv_laws.proofs.HeapStepsCells.{narrowed_count, narrowed_each, stored_fine}
-use Rattle.dv_laws.proofs.HeapStepsElements.{element_at, primitive_plain, primitive_short, reference_short, short_types, long_types, int_type, class_type, fill_plain, filled_conforms}
-use Rattle.dv_laws.proofs.HeapStepsArrays.{IsKnown, known_array, index_then, component_is}
+use Rattle.dv_laws.proofs.HeapStepsElements.{element_at, short_types, long_types}
+use Rattle.dv_laws.proofs.HeapStepsArrays.{component_is}
 use Rattle.dv_laws.proofs.LocalStands.{Stands}
 use Rattle.dv_laws.proofs.ReadersPlain.{next_holds, reads_int, reads_two, reads_reference}
-use Rattle.dv_laws.proofs.ReadersArrays.{tests_go_down}
-use Rattle.dv_laws.proofs.Demanding.{first_none, demanded}
+use Rattle.dv_laws.proofs.Demanding.{demanded}
 
 -- ---- what a store takes
 

@@ -67,6 +67,7 @@ pub mod CallsInvoked
 pub mod CallsInstance
 pub mod CallsConstructors
 pub mod RecordsNeeded
+pub mod OpeningCells
 pub mod OpeningHeap
 pub mod OpeningState
 pub mod CallsFine
