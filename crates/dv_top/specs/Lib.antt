@@ -4,6 +4,8 @@ pub mod Laws
 pub mod Opcode
 pub mod Parts
 pub mod Pieces
+pub mod Program
+pub mod Said
 pub mod Status
 pub mod Straight
 pub mod Words
