@@ -5,3 +5,6 @@ pub mod FormLemmas
 pub mod LineLemmas
 pub mod PieceLemmas
 mod StraightRows
+pub mod Tiles
+pub mod Images
+pub mod Fetching
