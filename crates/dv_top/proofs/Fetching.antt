@@ -97,7 +97,7 @@ is_other m n below = grind (arith, nat_tests)
 abbrev tile_by : Bool → Tile → Option Tile → Option Tile
 tile_by b t o = elim b [ true ↦ Some t | false ↦ o ]
 
-first_at : (at to : ℕ) (i : Instruction) (insns : List Instruction) → to ≡ at → tile_at (tiles_from at (i ∷ insns)) to ≡ Some (tile_of at i)
+pub first_at : (at to : ℕ) (i : Instruction) (insns : List Instruction) → to ≡ at → tile_at (tiles_from at (i ∷ insns)) to ≡ Some (tile_of at i)
 first_at at to i insns e = ap (λ b. tile_by b (tile_of at i) (tile_at (tiles_from (at + size_of i) insns) to)) (ap (nat_eq at) e ∙ is_same at)
 
 later_at : (at to : ℕ) (i : Instruction) (insns : List Instruction) → at < to → tile_at (tiles_from at (i ∷ insns)) to ≡ tile_at (tiles_from (at + size_of i) insns) to
@@ -131,7 +131,7 @@ either_right : (a b : Bool) → b ≡ true → a || b ≡ true
 either_right true b h = refl
 either_right false b h = h
 
-pooled_at : (insns : List Instruction) (k : ℕ) (d : Instruction) → k < length insns → IsPooled insns (get_or insns k d)
+pub pooled_at : (insns : List Instruction) (k : ℕ) (d : Instruction) → k < length insns → IsPooled insns (get_or insns k d)
 pooled_at [] k d below = absurd (omega arith)
 pooled_at (i ∷ insns) zero d below = λ is. either_left (is_println i) (list_any is_println insns) is
 pooled_at (i ∷ insns) (suc k) d below = λ is. either_right (is_println i) (list_any is_println insns) (pooled_at insns k d (omega arith) is)

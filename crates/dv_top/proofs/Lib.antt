@@ -8,3 +8,4 @@ mod StraightRows
 pub mod Tiles
 pub mod Images
 pub mod Fetching
+pub mod StaticRules

@@ -1,5 +1,5 @@
 // The laws of straight texts and of their bodies.
-ghost use Rattle.dv_top.specs.Laws.{IsReadOneWay, IsSpelledInItsSize, EachStandsAtItsAddress, MainIsFound, EachIsFetched};
+ghost use Rattle.dv_top.specs.Laws.{IsReadOneWay, IsSpelledInItsSize, EachStandsAtItsAddress, MainIsFound, EachIsFetched, StaticRulesHold};
 
 /// A text is a straight text of a class in one way at most.
 pub fn one_way()
@@ -24,4 +24,9 @@ pub fn main_found()
 /// At the address of each instruction of a straight image there stands its operation.
 pub fn fetched()
     ensures { EachIsFetched }
+{}
+
+/// The main method of a straight image breaks no static rule.
+pub fn static_rules()
+    ensures { StaticRulesHold }
 {}
