@@ -9,3 +9,5 @@ pub mod Tiles
 pub mod Images
 pub mod Fetching
 pub mod StaticRules
+pub mod SimpleTypes
+pub mod States
