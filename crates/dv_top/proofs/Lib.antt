@@ -11,3 +11,4 @@ pub mod Fetching
 pub mod StaticRules
 pub mod SimpleTypes
 pub mod States
+pub mod StraightTyping
