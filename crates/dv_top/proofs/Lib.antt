@@ -12,3 +12,4 @@ pub mod StaticRules
 pub mod SimpleTypes
 pub mod States
 pub mod StraightTyping
+pub mod LeastTyping

@@ -48,7 +48,7 @@ first_in_range registers i insns each = each 0 i (omega arith)
 
 -- ---- where a state stands
 
-abbrev chosen : Bool → Bool → RegState → Option RegState → Option RegState
+abbrev pub chosen : Bool → Bool → RegState → Option RegState → Option RegState
 chosen b r s o = if b then Some s else (if r then None else o)
 
 is_same : (n : ℕ) → nat_eq n n ≡ true
@@ -57,7 +57,7 @@ is_same n = grind (arith, nat_tests)
 is_other : (m n : ℕ) → m < n → nat_eq m n ≡ false
 is_other m n below = grind (arith, nat_tests)
 
-are_same : (m n : ℕ) → nat_eq m n ≡ true → m ≡ n
+pub are_same : (m n : ℕ) → nat_eq m n ≡ true → m ≡ n
 are_same m n is = grind (arith, nat_tests)
 
 pub state_here : (at : ℕ) (ts : Types) (i : Instruction) (insns : List Instruction) → typing_from at ts (i ∷ insns) at ≡ Some (state_of ts)
@@ -83,10 +83,10 @@ all_of_none : {A : Type 0} (P : A → Type 0) → All P []
 all_of_none P k d below = absurd (omega arith)
 
 -- a return-void goes nowhere, each other instruction to the next
-abbrev targets_by : Bool → ℕ → List ℕ
+abbrev pub targets_by : Bool → ℕ → List ℕ
 targets_by r next = if r then [] else next ∷ []
 
-targets_are : (at : ℕ) (i : Instruction) → targets (insn_at at i) ≡ targets_by (is_return i) (at + size_of i)
+pub targets_are : (at : ℕ) (i : Instruction) → targets (insn_at at i) ≡ targets_by (is_return i) (at + size_of i)
 targets_are at Nop = refl
 targets_are at ReturnVoid = refl
 targets_are at (Const4 to value) = refl
@@ -129,7 +129,7 @@ pub returns_later : (i : Instruction) (insns : List Instruction) → is_return i
 returns_later i insns goes h = sym (ap (λ b. b || list_any is_return insns) goes) ∙ h
 
 -- what an address has in a flow-closed assignment
-abbrev Closed : Image → Method → Typing → ℕ → RegState → Type 0
+abbrev pub Closed : Image → Method → Typing → ℕ → RegState → Type 0
 Closed image m typing at s = (x : At) × (fetch image m.id at ≡ Some x) × Flows image m typing at x s
 
 leads_on : (image : Image) (m : Method) (typing : Typing) (at registers : ℕ) (ts : Types) (i : Instruction) (insns : List Instruction) → AreSimple registers ts → IsInRange registers i → Returns insns → Agrees (at + size_of i) typing (typing_from (at + size_of i) (types_after ts i) insns) → Leads image typing (out image m at (op_of i) (state_of ts)) (at + size_of i)
@@ -152,7 +152,7 @@ closed_by image m typing true r at to ts i s o here later same is =
 closed_by image m typing false true at to ts i s o here later same is = absurd (cc)
 closed_by image m typing false false at to ts i s o here later same is = later refl is
 
-closed_from : (image : Image) (m : Method) (typing : Typing) (registers : ℕ) (insns : List Instruction) (at : ℕ) (ts : Types) → m.id ≡ 1 → ((a : ℕ) → handlers_at image m.id a ≡ []) → AreFetched image at insns → Returns insns → AreSimple registers ts → InRange registers insns → Agrees at typing (typing_from at ts insns) → (to : ℕ) (s : RegState) → typing_from at ts insns to ≡ Some s → Closed image m typing to s
+pub closed_from : (image : Image) (m : Method) (typing : Typing) (registers : ℕ) (insns : List Instruction) (at : ℕ) (ts : Types) → m.id ≡ 1 → ((a : ℕ) → handlers_at image m.id a ≡ []) → AreFetched image at insns → Returns insns → AreSimple registers ts → InRange registers insns → Agrees at typing (typing_from at ts insns) → (to : ℕ) (s : RegState) → typing_from at ts insns to ≡ Some s → Closed image m typing to s
 closed_from image m typing registers [] at ts own none fetched returns are each agrees to s is = absurd (cc)
 closed_from image m typing registers (i ∷ insns) at ts own none fetched returns are each agrees to s is =
     let low = first_in_range registers i insns each in
