@@ -13,3 +13,5 @@ pub mod SimpleTypes
 pub mod States
 pub mod StraightTyping
 pub mod LeastTyping
+pub mod StraightFaults
+pub mod FaultsFound

@@ -71,7 +71,7 @@ int_under image a ty.Zero p h = absurd (cc)
 int_under image a ty.Int p h = absurd (cc)
 int_under image a b p h = absurd (cc)
 
-same_truth : (a b : Bool) → (a ≡ true → b ≡ true) → (b ≡ true → a ≡ true) → a ≡ b
+pub same_truth : (a b : Bool) → (a ≡ true → b ≡ true) → (b ≡ true → a ≡ true) → a ≡ b
 same_truth true b p q = sym (p refl)
 same_truth false true p q = q refl
 same_truth false false p q = refl
