@@ -8,3 +8,13 @@ pub mod PieceLemmas
 pub mod PrintingLemmas
 pub mod ReadBack
 mod StraightRows
+pub mod Tiles
+pub mod Images
+pub mod Fetching
+pub mod StaticRules
+pub mod SimpleTypes
+pub mod States
+pub mod StraightTyping
+pub mod LeastTyping
+pub mod StraightFaults
+pub mod FaultsFound
