@@ -3,5 +3,7 @@ pub mod BodyLemmas
 pub mod Decimals
 pub mod FormLemmas
 pub mod LineLemmas
+pub mod MachineSteps
 pub mod PieceLemmas
+pub mod StepRegisters
 mod StraightRows

@@ -1,4 +1,5 @@
 pub mod Assembly
+pub mod Engine
 pub mod Image
 pub mod Laws
 pub mod Opcode
