@@ -3,7 +3,10 @@ pub mod BodyLemmas
 pub mod Decimals
 pub mod FormLemmas
 pub mod LineLemmas
+pub mod MachineEndings
+pub mod MachineScene
 pub mod MachineSteps
 pub mod PieceLemmas
+pub mod RunSteps
 pub mod StepRegisters
 mod StraightRows

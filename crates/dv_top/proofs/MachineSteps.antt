@@ -49,14 +49,14 @@ machine_returned limits sh steps = record { threads = record { levels = []; end 
 abbrev spot : Image → Method → Limits → Shared → ℕ → ℕ → List Value → ℕ → Here
 spot image own limits sh at next regs steps = here image (machine_with limits sh at regs steps) 0 own (frame_at at regs) [] next
 
-abbrev at_op : Op → ℕ → At
+abbrev pub at_op : Op → ℕ → At
 at_op op next = record { op = op; next = next }
 
 abbrev settles : Image → Limits → Shared → ℕ → List Value → ℕ → Op → ℕ → Did Left → Reads Machine
 settles image limits sh at regs steps op next did = settled image (machine_with limits sh at regs steps) 0 (thread_at (frame_at at regs)) (Some (at_op op next)) did
 
 -- a call of println
-abbrev call_of : ℕ → Op
+abbrev pub call_of : ℕ → Op
 call_of from = Invoke Call.Static (from ∷ []) println_method
 
 abbrev by_native : Here → List Value → Option Native → Did Left

@@ -313,5 +313,5 @@ impl<'a> Machine<'a> {
     }
 }
 
-#[tactic(auto, using(crate::proofs::MachineSteps::step_nop, crate::proofs::StepRegisters::kept_after))]
+#[tactic(auto, using(crate::proofs::MachineSteps::step_nop, crate::proofs::StepRegisters::kept_after, crate::proofs::MachineScene::opens, crate::proofs::MachineEndings::spent, crate::proofs::RunSteps::steps_then))]
 pub fn scratch(n: u8) ensures { n ≤ n } {}
