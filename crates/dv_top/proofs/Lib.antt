@@ -10,3 +10,7 @@ pub mod PieceLemmas
 pub mod RunSteps
 pub mod StepRegisters
 mod StraightRows
+pub mod Tiles
+pub mod Images
+pub mod Fetching
+pub mod StaticRules
