@@ -13,7 +13,7 @@ use Rattle.dv_defs.specs.Classes.{ask_of}
 use Rattle.dv_defs.specs.Op.{Op, needs}
 use Rattle.dv_defs.specs.Pools.{Method, method_at}
 use Rattle.dv_defs.specs.Statics.{At, fetch}
-use Rattle.dv_machine.specs.Final.{closed, final_text}
+use Rattle.dv_machine.specs.Final.{closed, uncaught, ending_lines, final_text}
 use Rattle.dv_machine.specs.Running.{by_ask, blocked_op, blocked_needing, blocked_at, blocked_thread, any_runnable, ending_of, runnable}
 use Rattle.dv_machine.specs.State.{Machine, Shared}
 use Rattle.dv_top.specs.declared.instruction.Instruction.{Instruction}
@@ -44,13 +44,29 @@ module _ (image : Image) (own : Method) (limits : Limits) (sh : Shared) (at next
   pub runs : runnable image (machine_with limits sh at regs steps) 0 ≡ true
   runs = ap (λ b. true && is_none b) not_blocked
 
+  any_runs : any_runnable image (machine_with limits sh at regs steps) (machine_with limits sh at regs steps).threads 0 ≡ true
+  any_runs = ap (λ b. elim b [ true ↦ true | false ↦ any_runnable image (machine_with limits sh at regs steps) [] 1 ]) runs
+
   pub goes_on : steps ≢ limits.budget → ending_of image (machine_with limits sh at regs steps) ≡ None
   goes_on left =
       let more : nat_eq steps limits.budget ≡ false = grind (arith, nat_tests) in
-      ap (λ b. elim b [ true ↦ Some ending.Steps | false ↦ elim (any_runnable image (machine_with limits sh at regs steps) (machine_with limits sh at regs steps).threads 0) [ true ↦ None | false ↦ Some ending.NoRunnable ] ]) more ∙ ap (λ b. elim (elim b [ true ↦ true | false ↦ false ]) [ true ↦ None | false ↦ Some ending.NoRunnable ]) runs
+      ap (λ b. elim b [ true ↦ Some ending.Steps | false ↦ elim (any_runnable image (machine_with limits sh at regs steps) (machine_with limits sh at regs steps).threads 0) [ true ↦ None | false ↦ Some ending.NoRunnable ] ]) more ∙ ap (λ b. elim b [ true ↦ None | false ↦ Some ending.NoRunnable ]) any_runs
 
 -- the budget is spent
 pub spent : (image : Image) (limits : Limits) (sh : Shared) (at : ℕ) (regs : List Value) (steps : ℕ) → steps ≡ limits.budget → ending_of image (machine_with limits sh at regs steps) ≡ Some ending.Steps
 spent image limits sh at regs steps is =
     let none : nat_eq steps limits.budget ≡ true = grind (arith, nat_tests) in
     ap (λ b. elim b [ true ↦ Some ending.Steps | false ↦ elim (any_runnable image (machine_with limits sh at regs steps) (machine_with limits sh at regs steps).threads 0) [ true ↦ None | false ↦ Some ending.NoRunnable ] ]) none
+
+lines_of : (image : Image) (m : Machine) (e : Ending) → (e ≡ ending.NoRunnable → ⊥) → ending_lines image m (Some e) ≡ ending_line e
+lines_of image m ending.Done some = refl
+lines_of image m (ending.HeapFull t) some = refl
+lines_of image m (ending.StackFull t) some = refl
+lines_of image m ending.NoRunnable some = absurd (some refl)
+lines_of image m ending.Steps some = refl
+lines_of image m ending.Output some = refl
+
+-- where no thread died, the printed bytes and the ending are all there is to say
+pub final_is : (image : Image) (m : Machine) (e : Ending) → ending_of image m ≡ Some e → (e ≡ ending.NoRunnable → ⊥) → uncaught image m.shared.heap m.threads 0 ≡ [] → final_text image m ≡ printed_text m.shared.output e
+final_is image m e ends some none =
+    ap (λ u. closed m.shared.output ++ u ++ ending_lines image m (ending_of image m)) none ∙ ap (λ x. closed m.shared.output ++ [] ++ ending_lines image m x) ends ∙ ap (λ l. closed m.shared.output ++ [] ++ l) (lines_of image m e some) ∙ ap (λ o. o ++ ending_line e) (append-nil (closed m.shared.output))
