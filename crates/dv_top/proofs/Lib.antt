@@ -7,6 +7,7 @@ pub mod MachineEndings
 pub mod MachineScene
 pub mod MachineSteps
 pub mod PieceLemmas
+pub mod RunCases
 pub mod RunSteps
 pub mod StepRegisters
 mod StraightRows

@@ -54,11 +54,12 @@ values_after values (insn.Move to from) = slice_set values to (value_at values f
 values_after values (insn.AddInt to left right) = slice_set values to (int_wrapping_add w32 (value_at values left) (value_at values right))
 values_after values (insn.Println from) = values
 
-abbrev pub after_local : State → Instruction → State
-after_local s i = record { at = s.at + 1; values = values_after s.values i; output = s.output; steps_left = s.steps_left - 1; stop = s.stop }
+-- the next instruction
+abbrev pub gone_on : State → List ℤ → List ℕ → State
+gone_on s values output = record { at = s.at + 1; values = values; output = output; steps_left = s.steps_left - 1; stop = s.stop }
 
-abbrev pub after_return : State → State
-after_return s = record { at = s.at; values = s.values; output = s.output; steps_left = s.steps_left - 1; stop = Some ending.Done }
+abbrev pub stopped_by : State → Ending → State
+stopped_by s e = record { at = s.at; values = s.values; output = s.output; steps_left = s.steps_left - 1; stop = Some e }
 
 -- a number and LF
 abbrev pub line_of : ℤ → List ℕ
@@ -66,8 +67,12 @@ line_of value = signed_decimal value ++ newline
 
 -- the bytes are printed where there is room for them, else the run stops
 abbrev pub after_print : ℕ → State → List ℕ → State
-after_print most s line =
-    if nat_lt most (length s.output + length line) then record { at = s.at; values = s.values; output = s.output; steps_left = s.steps_left - 1; stop = Some ending.Output } else record { at = s.at + 1; values = s.values; output = s.output ++ line; steps_left = s.steps_left - 1; stop = s.stop }
+after_print most s line = if nat_lt most (length s.output + length line) then stopped_by s ending.Output else gone_on s s.values (s.output ++ line)
+
+abbrev pub after_step : ℕ → State → Instruction → State
+after_step most s insn.ReturnVoid = stopped_by s ending.Done
+after_step most s (insn.Println from) = after_print most s (line_of (value_at s.values from))
+after_step most s i = gone_on s (values_after s.values i) s.output
 
 -- the stop, else the spent budget
 abbrev pub ending_by : Option Ending → ℕ → Option Ending
@@ -89,9 +94,8 @@ IsOwn (Some ending.Done) = Unit {0}
 IsOwn (Some ending.Output) = Unit {0}
 IsOwn (Some e) = ⊥
 
--- a next instruction is there, the numbers are the registers', and no fault is to come
+-- the numbers are the registers', and no fault is to come
 pub record GoesOn (registers : ℕ) (insns : List Instruction) (s : State) (regs : List Value) : Type 0 where
-  pub within : s.at < length insns
   pub count : length s.values ≡ 16
   pub ints : List Bool
   pub kept : AreKept registers ints s.values regs
@@ -107,12 +111,18 @@ pub record IsAt (image : Image) (registers : ℕ) (insns : List Instruction) (li
   pub own : IsOwn s.stop
   pub goes_on : s.stop ≡ None → GoesOn registers insns s regs
 
+-- a next instruction is there, unless the run was stopped
+abbrev pub HasNext : List Instruction → State → Type 0
+HasNext insns s = s.stop ≡ None → s.at < length insns
+
 -- in every image of these instructions, so many steps lead from where the engine stood to where it stands
 pub record Leads (insns : List Instruction) (limits : Limits) (n : ℕ) (before after : State) : Type 0 where
+  pub next : HasNext insns after
   pub each : (class : List ℕ) (registers : ℕ) (image : Image) → IsImageOf class registers insns image → (m : Machine) → IsAt image registers insns limits m before → (entry : ℕ) → (m' : Machine) × ((steps_of image entry 0 n m ≡ Stands m') × IsAt image registers insns limits m' after)
 
 -- ... and the replay of the log to where it stands
 pub record IsReached (insns : List Instruction) (limits : Limits) (log : List Entry) (s : State) : Type 0 where
+  pub next : HasNext insns s
   pub each : (class : List ℕ) (registers : ℕ) (image : Image) → IsImageOf class registers insns image → (m : Machine) × ((replay image (main_method registers insns) limits log ≡ Stands m) × IsAt image registers insns limits m s)
 
 -- in every image of these instructions, the log may be replayed

@@ -1,8 +1,8 @@
 // Runs a verified straight method.
-ghost use Rattle.std.specs.Prelude.{◌≡◌, ◌<◌, ◌≤◌, ◌+◌, ◌^◌, [], length, replicate, pos, All, OnOk, IfOk, IfNone, Some, None};
+ghost use Rattle.std.specs.Prelude.{◌≡◌, ◌<◌, ◌≤◌, ◌+◌, ◌^◌, [], ◌++◌, length, replicate, nat_lt, true, false, pos, All, OnOk, IfOk, IfNone, Some, None};
 ghost use Rattle.dv_top.specs.Straight.{IsInRange, IsMain};
 ghost use Rattle.dv_top.specs.Program.{faults_of, IsEntry};
-ghost use Rattle.dv_top.specs.Engine.{State, state_of, first_state, is_local, value_at, after_local, after_return, after_print, line_of, ending_by, Leads, IsReached, IsLegalLog, EachHasRun};
+ghost use Rattle.dv_top.specs.Engine.{state_of, first_state, is_local, value_at, after_step, line_of, ending_by, Leads, IsReached, IsLegalLog, EachHasRun};
 
 use crate::instruction::Instruction;
 use crate::program::{Op, Register, Registers};
@@ -110,6 +110,7 @@ impl Engine {
     fn turn(&mut self, insns: &[Instruction], limits: &Limits) -> Result<u32, AllocError>
         requires in_range { All (λ i. IsInRange 16 i) insns.now }
         requires ends { IsMain insns.now }
+        requires next { self.old.at < length insns.now }
         requires running { self.old.stop ≡ None }
         requires budget { 0 < self.old.steps_left }
         ensures budget { OnOk result (self.new.steps_left < self.old.steps_left) }
@@ -119,31 +120,30 @@ impl Engine {
     {
         let mut steps = 0;
         'local: while steps < MOST_STEPS && self.steps_left > 0 {
-            match insns.get(self.at).copied() {
-                Some(Instruction::Println { from }) => {
-                    self.println(from, limits.output)?;
-                    return Ok(steps + 1);
-                }
-                Some(Instruction::ReturnVoid) | None => {
-                    self.return_void();
-                    return Ok(steps + 1);
-                }
-                Some(insn) => self.local_step(insn),
-            }
+            let insn = insns[self.at];
+            self.step(insn, limits.output)?;
             steps += 1;
+            if !is_local(insn) {
+                return Ok(steps);
+            }
         }
         Ok(steps)
     }
 
-    /// Does an instruction that touches the registers alone.
-    fn local_step(&mut self, insn: Instruction)
+    /// Does an instruction. It returns, or touches the registers alone, or prints, and counts as one step.
+    fn step(&mut self, insn: Instruction, most: u32) -> Result<(), AllocError>
         requires in_range { IsInRange 16 insn }
-        requires within { self.old.at + 1 < 2 ^ 64 }
+        requires next { self.old.at + 1 < 2 ^ 64 }
         requires budget { 0 < self.old.steps_left }
-        ensures { state_of self.new ≡ after_local (state_of self.old) insn }
+        ensures { OnOk result (state_of self.new ≡ after_step most (state_of self.old) insn) }
     {
+        self.steps_left -= 1;
         match insn {
-            Instruction::Nop | Instruction::ReturnVoid | Instruction::Println { .. } => {}
+            Instruction::Nop => {}
+            Instruction::ReturnVoid => {
+                self.stop = Some(Ending::Done);
+                return Ok(());
+            }
             Instruction::Const4 { to, value } => self.registers[to as usize] = value as i32,
             Instruction::Const16 { to, value } => self.registers[to as usize] = value as i32,
             Instruction::Move { to, from } => {
@@ -153,25 +153,18 @@ impl Engine {
                 let sum = self.registers[left as usize].wrapping_add(self.registers[right as usize]);
                 self.registers[to as usize] = sum;
             }
+            Instruction::Println { from } => return self.println(from, most),
         }
-        self.steps_left -= 1;
         self.at += 1;
-    }
-
-    fn return_void(&mut self)
-        requires { 0 < self.old.steps_left }
-        ensures { state_of self.new ≡ after_return (state_of self.old) }
-    {
-        self.stop = Some(Ending::Done);
-        self.steps_left -= 1;
+        Ok(())
     }
 
     /// Prints a number and LF, where there is room for them.
     fn println(&mut self, from: u16, most: u32) -> Result<(), AllocError>
         requires in_range { from < 16 }
-        requires within { self.old.at + 1 < 2 ^ 64 }
-        requires budget { 0 < self.old.steps_left }
-        ensures { OnOk result (state_of self.new ≡ after_print most (state_of self.old) (line_of (value_at self.old.registers from))) }
+        requires next { self.old.at + 1 < 2 ^ 64 }
+        ensures stops { OnOk result (nat_lt most (length self.old.output.items + length (line_of (value_at self.old.registers from))) ≡ true → state_of self.new ≡ record (state_of self.old) { stop = Some Ending.Output }) }
+        ensures prints { OnOk result (nat_lt most (length self.old.output.items + length (line_of (value_at self.old.registers from))) ≡ false → state_of self.new ≡ record (state_of self.old) { at = self.old.at + 1; output = self.old.output.items ++ line_of (value_at self.old.registers from) }) }
     {
         let line = format!(in *self.output.allocator(); "{}\n", self.registers[from as usize])?;
         if self.output.len() + line.len() > most as usize {
@@ -180,9 +173,15 @@ impl Engine {
             self.output.extend_from_slice(line.as_bytes())?;
             self.at += 1;
         }
-        self.steps_left -= 1;
         Ok(())
     }
+}
+
+/// Whether an instruction touches the registers alone.
+fn is_local(insn: Instruction) -> bool
+    ensures { result ≡ is_local insn }
+{
+    !matches!(insn, Instruction::ReturnVoid | Instruction::Println { .. })
 }
 
 /// A thread that runs the operations of main and then returns.
@@ -313,5 +312,5 @@ impl<'a> Machine<'a> {
     }
 }
 
-#[tactic(auto, using(crate::proofs::MachineSteps::step_nop, crate::proofs::StepRegisters::kept_after, crate::proofs::MachineScene::opens, crate::proofs::MachineEndings::spent, crate::proofs::RunSteps::steps_then))]
+#[tactic(auto, using(crate::proofs::MachineSteps::step_nop, crate::proofs::StepRegisters::kept_after, crate::proofs::MachineScene::opens, crate::proofs::MachineEndings::spent, crate::proofs::RunSteps::steps_then, crate::proofs::RunCases::clean_at))]
 pub fn scratch(n: u8) ensures { n ≤ n } {}
