@@ -8,6 +8,7 @@ pub mod MachineScene
 pub mod MachineSteps
 pub mod PieceLemmas
 pub mod RunCases
+pub mod RunEngine
 pub mod RunSteps
 pub mod StepRegisters
 mod StraightRows

@@ -102,7 +102,7 @@ pub record Stepped (image : Image) (registers : ℕ) (insns : List Instruction) 
   pub done : step image m 0 ≡ Ok machine
   pub stands : IsAt image registers insns limits machine after
 
-abbrev before : Image → ℕ → List Instruction → Limits → State → ℕ → List Value → Machine
+abbrev pub before : Image → ℕ → List Instruction → Limits → State → ℕ → List Value → Machine
 before image registers insns limits s steps regs = machine_with limits (printed_so_far image (main_method registers insns) limits s.output) (address_of insns s.at) regs steps
 
 -- what is known before an instruction

@@ -118,7 +118,7 @@ HasNext insns s = s.stop ≡ None → s.at < length insns
 -- in every image of these instructions, so many steps lead from where the engine stood to where it stands
 pub record Leads (insns : List Instruction) (limits : Limits) (n : ℕ) (before after : State) : Type 0 where
   pub next : HasNext insns after
-  pub each : (class : List ℕ) (registers : ℕ) (image : Image) → IsImageOf class registers insns image → (m : Machine) → IsAt image registers insns limits m before → (entry : ℕ) → (m' : Machine) × ((steps_of image entry 0 n m ≡ Stands m') × IsAt image registers insns limits m' after)
+  pub each : (class : List ℕ) (registers : ℕ) (image : Image) → IsImageOf class registers insns image → (m : Machine) → IsAt image registers insns limits m before → (m' : Machine) × (((entry : ℕ) → steps_of image entry 0 n m ≡ Stands m') × IsAt image registers insns limits m' after)
 
 -- ... and the replay of the log to where it stands
 pub record IsReached (insns : List Instruction) (limits : Limits) (log : List Entry) (s : State) : Type 0 where
