@@ -1,11 +1,11 @@
 -- The engine's run is one of the tagged machine.
-use Rattle.std.proofs.Common.{◌≡◌, ◌≢◌, ℕ, ◌+◌, ◌<◌, ◌≤◌, Bool, true, false, List, [], ◌∷◌, ◌++◌, length, drop, get_or, refl, ap, sym, ◌∙◌, subst, arith, inl, inr, ℤ, pos, zero, suc, Option, Some, None, add-one, replicate}
+use Rattle.std.proofs.Common.{◌≡◌, ◌≢◌, ℕ, ◌+◌, ◌<◌, ◌≤◌, Bool, true, false, List, [], ◌∷◌, ◌++◌, length, drop, get_or, refl, ap, sym, ◌∙◌, subst, arith, inl, inr, ℤ, pos, zero, suc, Option, Some, None, add-one, replicate, All}
 use Rattle.std.specs.Prelude.{Ok, nat_lt, if◌then◌else◌}
 use Rattle.std.proofs.Math.ListN.{length-replicate}
 use Rattle.std.proofs.Math.Seq.{drop-cons, get_or-append_seam}
 use Rattle.std.proofs.lemmas.Bool.Decides.{leb_tells, nat_tests}
 use Rattle.std.proofs.lemmas.List.{length-append}
-use Rattle.std.proofs.lemmas.List.Elements.{All-get_or}
+use Rattle.std.proofs.lemmas.List.Elements.{All-append, All-get_or}
 use Rattle.dv_defs.specs.declared.image.Image.{Image}
 use Rattle.dv_defs.specs.declared.run.Ending.{Ending}
 use Rattle.dv_defs.specs.declared.run.Ending.TheVariants as ending
@@ -23,7 +23,7 @@ use Rattle.dv_top.specs.declared.instruction.Instruction.{Instruction}
 use Rattle.dv_top.specs.declared.instruction.Instruction.TheVariants.{Nop, ReturnVoid, Const4, Const16, Move, AddInt, Println}
 use Rattle.dv_top.specs.Assembly.{address_of}
 use Rattle.dv_top.specs.Engine.{State, first_state, gone_on, stopped_by, line_of, after_step, value_at, is_local, ending_by, machine_at, IsOwn, GoesOn, IsAt, HasNext, Leads, IsReached, IsLegalLog, EachHasRun}
-use Rattle.dv_top.specs.Program.{IsImageOf, AreKept, main_method, returned, printed_text, status_by, no_ints, reads_ints, ints_after, is_return, faults_from, faults_of}
+use Rattle.dv_top.specs.Program.{IsEntry, IsImageOf, AreKept, main_method, returned, printed_text, status_by, no_ints, reads_ints, ints_after, is_return, faults_from, faults_of}
 use Rattle.dv_top.specs.Said.{status_of}
 use Rattle.dv_top.specs.Straight.{IsInRange, IsMain}
 use Rattle.dv_top.proofs.Fetching.{fetched}
@@ -214,3 +214,7 @@ has_run insns limits log s e reached is = record {
       let end : HasEnded image m e s.output = subst (λ (m : Machine). HasEnded image m e s.output) (sym at.is) (ended image registers insns limits s e s.stop at.steps at.regs at.own is at.counted) in
       record { machine = m; replayed = done; ends = end.ends; status = end.status; prints = end.prints };
 }
+
+-- an entry more
+pub entries_on : (log : List Entry) (e : Entry) → All IsEntry log → e.worker < 8 → 0 < e.steps → e.steps ≤ 256 → All IsEntry (log ++ e ∷ [])
+entries_on log e entries worker some few = All-append IsEntry log (e ∷ []) entries (λ k d below. let first : 0 ≡ k = omega arith in subst (λ (n : ℕ). IsEntry (get_or (e ∷ []) n d)) first (record { worker = worker; some = some; few = few }))

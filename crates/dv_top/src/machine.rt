@@ -311,6 +311,3 @@ impl<'a> Machine<'a> {
         Ok(())
     }
 }
-
-#[tactic(auto, using(crate::proofs::MachineSteps::step_nop, crate::proofs::StepRegisters::kept_after, crate::proofs::MachineScene::opens, crate::proofs::MachineEndings::spent, crate::proofs::RunSteps::steps_then, crate::proofs::RunCases::clean_at, crate::proofs::RunEngine::is_legal))]
-pub fn scratch(n: u8) ensures { n ≤ n } {}
