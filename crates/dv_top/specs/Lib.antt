@@ -1,6 +1,7 @@
 pub mod Answering
 pub mod Assembly
 pub mod Decoding
+pub mod Engine
 pub mod Image
 pub mod Laws
 pub mod Opcode
