@@ -1,3 +1,4 @@
+pub mod AnsweringLemmas
 pub mod AssemblyLemmas
 pub mod BodyLemmas
 pub mod Decimals

@@ -23,7 +23,7 @@ use crate::reading::{LIMIT, ReadError, read_all};
 use crate::status::Status;
 use crate::straight::{Refusal, read_straight};
 use crate::verifying::verify;
-use crate::words::{Command, read_words};
+use crate::words::read_words;
 use crate::writing::write_all;
 use dv_defs::{Entry, Image, Limits, Text};
 use dv_io::{Failed, Sink, Source};
@@ -103,9 +103,9 @@ fn reply_to_words<S: Source>(
 {
     match read_words(alloc, words)? {
         None => Ok(fixed(alloc, Status::Usage, USAGE)?),
-        Some(Command::Run { class }) => {
+        Some(command) => {
             let text = read_all(alloc, source)?;
-            Ok(reply_to_text(alloc, &class, &text, log)?)
+            Ok(reply_to_text(alloc, command.class(), &text, log)?)
         }
     }
 }
