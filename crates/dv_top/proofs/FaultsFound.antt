@@ -35,7 +35,7 @@ are_fetched image [] at each = tt
 are_fetched image (i ∷ insns) at each = (
   each 0 at (at + size_of i) i (omega arith) (omega arith) (omega (arith, sum_by-cons size_of i (take 0 insns))),
   are_fetched image insns (at + size_of i) (λ k a n d below is next.
-    each (suc k) a n d (omega arith) (omega (arith, is, sum_by-cons size_of i (take k insns))) (omega (arith, next, sum_by-cons size_of i (take (suc k) insns))))
+      each (suc k) a n d (omega arith) (omega (arith, is, sum_by-cons size_of i (take k insns))) (omega (arith, next, sum_by-cons size_of i (take (suc k) insns)))),
 )
 
 all_fetched : (class : List ℕ) (registers : ℕ) (insns : List Instruction) (image : Image) → IsImageOf class registers insns image → AreFetched (image_of class registers insns) 0 insns

@@ -65,8 +65,8 @@ class_is_third : (class : List ℕ) (registers : ℕ) (insns : List Instruction)
 class_is_third class registers insns not_object not_console =
     place_of_class class registers insns ∙
     (ap (λ a. place_by a (bytes_eq console_name class) (bytes_eq class class)) (not_named object_name class (bytes_eq object_name class) refl not_object) ∙
-      (ap (λ b. place_by false b (bytes_eq class class)) (not_named console_name class (bytes_eq console_name class) refl not_console) ∙
-        ap (λ c. place_by false false c) (is_named class class refl)))
+    (ap (λ b. place_by false b (bytes_eq class class)) (not_named console_name class (bytes_eq console_name class) refl not_console) ∙
+    ap (λ c. place_by false false c) (is_named class class refl)))
 
 abbrev main_in : Image → Option ℕ → Option Method
 main_in image o = elim o [ None ↦ None | Some c ↦ declared_by image c is_main ]

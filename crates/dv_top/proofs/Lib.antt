@@ -18,6 +18,7 @@ pub mod ReadBack
 pub mod RunCases
 pub mod RunEngine
 pub mod RunSteps
+pub mod SaidOnce
 pub mod SimpleTypes
 pub mod States
 pub mod StaticRules

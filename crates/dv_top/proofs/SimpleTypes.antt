@@ -116,13 +116,13 @@ copied_below image a b h p = absurd (cc)
 
 pub simple_set : (ts : Types) (a k : ℕ) (t : RegType) → a < length ts → is_simple t ≡ true → is_simple (type_at ts k) ≡ true → is_simple (type_at (set ts a t) k) ≡ true
 simple_set ts a k t below h g = elim (cases_eq k a) [
-  inl e ↦ ap (λ n. is_simple (type_at (set ts a t) n)) e ∙ (ap is_simple (get_or-set_same ts a t ty.Conflict below) ∙ h)
+  | inl e ↦ ap (λ n. is_simple (type_at (set ts a t) n)) e ∙ (ap is_simple (get_or-set_same ts a t ty.Conflict below) ∙ h)
   | inr ne ↦ ap is_simple (get_or-set_other ts a k t ty.Conflict ne) ∙ g
 ]
 
 pub below_set : (image : Image) (ts us : Types) (a k : ℕ) (t u : RegType) → a < length ts → length ts ≡ length us → under image t u ≡ true → under image (type_at ts k) (type_at us k) ≡ true → under image (type_at (set ts a t) k) (type_at (set us a u) k) ≡ true
 below_set image ts us a k t u below count h g = elim (cases_eq k a) [
-  inl e ↦ ap (λ n. under image (type_at (set ts a t) n) (type_at (set us a u) n)) e ∙ (ap (λ x. under image x (type_at (set us a u) a)) (get_or-set_same ts a t ty.Conflict below) ∙ (ap (λ x. under image t x) (get_or-set_same us a u ty.Conflict (omega arith)) ∙ h))
+  | inl e ↦ ap (λ n. under image (type_at (set ts a t) n) (type_at (set us a u) n)) e ∙ (ap (λ x. under image x (type_at (set us a u) a)) (get_or-set_same ts a t ty.Conflict below) ∙ (ap (λ x. under image t x) (get_or-set_same us a u ty.Conflict (omega arith)) ∙ h))
   | inr ne ↦ ap (λ x. under image x (type_at (set us a u) k)) (get_or-set_other ts a k t ty.Conflict ne) ∙ (ap (λ x. under image (type_at ts k) x) (get_or-set_other us a k u ty.Conflict ne) ∙ g)
 ]
 

@@ -37,7 +37,7 @@ set_holds : (registers : ℕ) (ts : Types) (ints : List Bool) (a : ℕ) (t : Reg
 set_holds registers ts ints a t b low are holds is = record {
   enough = omega (arith, holds.enough, length-set ints a b);
   each = λ r below. elim (cases_eq r a) [
-    inl e ↦ ap (λ n. is_int (type_at (set ts a t) n)) e ∙ (ap is_int (get_or-set_same ts a t ty.Conflict (omega (arith, are.count))) ∙ (is ∙ (sym (get_or-set_same ints a b false (omega (arith, holds.enough))) ∙ ap (holds_int (set ints a b)) (sym e))))
+    | inl e ↦ ap (λ n. is_int (type_at (set ts a t) n)) e ∙ (ap is_int (get_or-set_same ts a t ty.Conflict (omega (arith, are.count))) ∙ (is ∙ (sym (get_or-set_same ints a b false (omega (arith, holds.enough))) ∙ ap (holds_int (set ints a b)) (sym e))))
     | inr ne ↦ ap is_int (get_or-set_other ts a r t ty.Conflict ne) ∙ (holds.each r below ∙ sym (get_or-set_other ints a r b false ne))
   ];
 }
@@ -80,7 +80,7 @@ reads_are image m at registers ts ints (Move to from) low holds goes on =
 reads_are image m at registers ts ints (AddInt to left right) low holds goes on =
     then_none (first (demand (is_int (type_at ts left)) 2) (demand (is_int (type_at ts right)) 2)) (onward_ok image m (insn_at at (AddInt to left right))) on ∙
     (both_demanded (is_int (type_at ts left)) (is_int (type_at ts right)) ∙
-      (ap (λ a. demand (a && is_int (type_at ts right)) 2) (holds.each left low.1) ∙ ap (λ b. demand (holds_int ints left && b) 2) (holds.each right low.2)))
+    (ap (λ a. demand (a && is_int (type_at ts right)) 2) (holds.each left low.1) ∙ ap (λ b. demand (holds_int ints left && b) 2) (holds.each right low.2)))
 reads_are image m at registers ts ints (Println from) low holds goes on =
     then_none (first (demand (is_int (type_at ts from)) 2) None) (onward_ok image m (insn_at at (Println from))) on ∙
     (then_none (demand (is_int (type_at ts from)) 2) None refl ∙ ap (λ b. demand b 2) (holds.each from low))
@@ -121,7 +121,7 @@ same_faults image code typing other (i ∷ insns) at own fetched p q =
     let is : fetch image n at ≡ Some (insn_at at i) = ap (λ k. fetch image k at) own ∙ fetched.0 in
     let rest = same_faults image code typing other insns (at + size_of i) own fetched.1 p q in
     let here : demand_at image code (fetch image n at) (typing at) ≡ demand_at image code (fetch image n at) (other at) =
-        ap (λ o. demand_at image code o (typing at)) is ∙ (same_demand image code at i (typing at) (other at) (p at) (q at) ∙ ap (λ o. demand_at image code o (other at)) (sym is)) in
+    ap (λ o. demand_at image code o (typing at)) is ∙ (same_demand image code at i (typing at) (other at) (p at) (q at) ∙ ap (λ o. demand_at image code o (other at)) (sym is)) in
     ap (λ d. fault_at n at d ++ typing_faults image code typing (tiles_from (at + size_of i) insns)) here ∙
     ap (λ fs. fault_at n at (demand_at image code (fetch image n at) (other at)) ++ fs) rest
 
@@ -138,7 +138,7 @@ no_state image code typing (i ∷ insns) at none =
     let o = fetch image n at in
     ap (λ s. fault_at n at (demand_at image code o s) ++ typing_faults image code typing (tiles_from (at + size_of i) insns)) (none at (omega arith)) ∙
     (ap (λ d. fault_at n at d ++ typing_faults image code typing (tiles_from (at + size_of i) insns)) (no_demand image code o) ∙
-      no_state image code typing insns (at + size_of i) (λ to after. none to (omega arith)))
+    no_state image code typing insns (at + size_of i) (λ to after. none to (omega arith)))
 
 next_is : (image : Image) (at : ℕ) (insns : List Instruction) → Returns insns → AreFetched image at insns → is_some (fetch image 1 at) ≡ true
 next_is image at [] returns fetched = absurd (cc)
@@ -166,12 +166,12 @@ faults_along image registers all typing (i ∷ insns) at ts ints fetched returns
     let next = at + size_of i in
     let state : typing at ≡ Some (state_of ts) = agrees at (omega arith) ∙ state_here at ts i insns in
     let here : demand_at image code (fetch image 1 at) (typing at) ≡ ok image (main_method registers all) (insn_at at i) (state_of ts) =
-        ap (λ o. demand_at image code o (typing at)) fetched.0 ∙ ap (λ s. demand_at image code (Some (insn_at at i)) s) state in
+    ap (λ o. demand_at image code o (typing at)) fetched.0 ∙ ap (λ s. demand_at image code (Some (insn_at at i)) s) state in
     by_return (is_return i) _ _
     (λ stops. joined _ _ [] [] (ap (fault_at 1 at) (here ∙ return_is_ok image registers all at ts i stops))
-      (no_state image code typing insns next (λ to after. agrees to (omega arith) ∙ none_later at to ts i insns (omega (arith, size_positive i)) stops)))
+    (no_state image code typing insns next (λ to after. agrees to (omega arith) ∙ none_later at to ts i insns (omega (arith, size_positive i)) stops)))
     (λ goes. let more = returns_later i insns goes returns in
-      let on = is_onward image (main_method registers all) at i (next_is image next insns more fetched.1) in
-      let reads = reads_are image (main_method registers all) at registers ts ints i low holds goes on in
-      joined _ _ _ _ (ap (fault_at 1 at) (here ∙ reads) ∙ fault_is at (reads_ints ints i))
-      (faults_along image registers all typing insns next (types_after ts i) (ints_after ints i) fetched.1 more (still_simple registers ts i are low) (still_holds registers ts ints i are low holds) (rest_in_range registers i insns each) (agrees_on at ts i insns typing goes agrees)))
+    let on = is_onward image (main_method registers all) at i (next_is image next insns more fetched.1) in
+    let reads = reads_are image (main_method registers all) at registers ts ints i low holds goes on in
+    joined _ _ _ _ (ap (fault_at 1 at) (here ∙ reads) ∙ fault_is at (reads_ints ints i))
+    (faults_along image registers all typing insns next (types_after ts i) (ints_after ints i) fetched.1 more (still_simple registers ts i are low) (still_holds registers ts ints i are low holds) (rest_in_range registers i insns each) (agrees_on at ts i insns typing goes agrees)))

@@ -1,5 +1,5 @@
 // The laws of straight texts and of their bodies.
-ghost use Rattle.dv_top.specs.Laws.{IsReadOneWay, IsSpelledInItsSize, EachStandsAtItsAddress, MainIsFound, EachIsFetched, StaticRulesHold, FaultsAreFound};
+ghost use Rattle.dv_top.specs.Laws.{IsReadOneWay, IsSpelledInItsSize, EachStandsAtItsAddress, MainIsFound, EachIsFetched, StaticRulesHold, FaultsAreFound, IsSaidOnce};
 
 /// A text is a straight text of a class in one way at most.
 pub fn one_way()
@@ -34,4 +34,9 @@ pub fn static_rules()
 /// The faults of a straight image are those that one pass over its instructions finds.
 pub fn faults_found()
     ensures { FaultsAreFound }
+{}
+
+/// One status and one text are said of the words, the bytes and the log.
+pub fn said_once()
+    ensures { IsSaidOnce }
 {}

@@ -16,4 +16,4 @@ returns c =
     let digits : v4 ≡ v3 ++ four_digits c.args.fault.now.address = c.in_ok-extend_from_slice-4.ensures.items ∙ ap (λ d. v3 ++ d) c.four_digits.ensures in
     let rule : v6 ≡ v5 ++ rule_text c.args.fault.now.rule = c.in_ok-extend_from_slice-6.ensures.items ∙ ap (λ d. v5 ++ d) (c.as_bytes.ensures.value ∙ c.in_ok-rule.ensures) in
     joined_line old (codes "#fault ") c.args.class.now (codes "->main()V ") (four_digits c.args.fault.now.address) (codes " ") (rule_text c.args.fault.now.rule) (10 ∷ []) v1 v2 v3 v4 v5 v6 v7
-      c.in_ok-extend_from_slice.ensures.items c.in_ok-extend_from_slice-2.ensures.items c.in_ok-extend_from_slice-3.ensures.items digits c.in_ok-extend_from_slice-5.ensures.items rule c.in_ok-extend_from_slice-7.ensures.items
+    c.in_ok-extend_from_slice.ensures.items c.in_ok-extend_from_slice-2.ensures.items c.in_ok-extend_from_slice-3.ensures.items digits c.in_ok-extend_from_slice-5.ensures.items rule c.in_ok-extend_from_slice-7.ensures.items
