@@ -218,3 +218,16 @@ has_run insns limits log s e reached is = record {
 -- an entry more
 pub entries_on : (log : List Entry) (e : Entry) → All IsEntry log → e.worker < 8 → 0 < e.steps → e.steps ≤ 256 → All IsEntry (log ++ e ∷ [])
 entries_on log e entries worker some few = All-append IsEntry log (e ∷ []) entries (λ k d below. let first : 0 ≡ k = omega arith in subst (λ (n : ℕ). IsEntry (get_or (e ∷ []) n d)) first (record { worker = worker; some = some; few = few }))
+
+low_in_sixteen : (registers : ℕ) (i : Instruction) → registers ≤ 16 → IsInRange registers i → IsInRange 16 i
+low_in_sixteen registers Nop few low = tt
+low_in_sixteen registers ReturnVoid few low = tt
+low_in_sixteen registers (Const4 to value) few low = (omega (arith, low.0, few), low.1)
+low_in_sixteen registers (Const16 to value) few low = (omega (arith, low.0, few), low.1)
+low_in_sixteen registers (Move to from) few low = (omega (arith, low.0, few), omega (arith, low.1, few))
+low_in_sixteen registers (AddInt to left right) few low = (omega (arith, low.0, few), omega (arith, low.1, few), omega (arith, low.2, few))
+low_in_sixteen registers (Println from) few low = omega (arith, low, few)
+
+-- what the engine asks of the instructions of an image
+pub each_in_sixteen : (class : List ℕ) (registers : ℕ) (insns : List Instruction) (image : Image) → IsImageOf class registers insns image → All (λ i. IsInRange 16 i) insns
+each_in_sixteen class registers insns image is k d below = low_in_sixteen registers (get_or insns k d) is.few (All-get_or (λ i. IsInRange registers i) insns k d below is.in_range)
