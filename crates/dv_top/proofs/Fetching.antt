@@ -143,7 +143,7 @@ sound : (image : Image) (code : Code) (registers at : ℕ) (i : Instruction) →
 sound image code registers at i count low is =
     ap (λ rules. at_by rules (at + size_of i) (defs.op_of image code at (insn_of i))) (no_rules image code registers at i count low is) ∙ ap (at_of (at + size_of i)) is
 
-fetched_of : (class : List ℕ) (registers : ℕ) (insns : List Instruction) → registers ≤ 16 → All (λ i. IsInRange registers i) insns → (k : ℕ) (d : Instruction) → k < length insns → fetch (image_of class registers insns) 1 (address_of insns k) ≡ Some (record { op = op_of (get_or insns k d); next = address_of insns (suc k) })
+pub fetched_of : (class : List ℕ) (registers : ℕ) (insns : List Instruction) → registers ≤ 16 → All (λ i. IsInRange registers i) insns → (k : ℕ) (d : Instruction) → k < length insns → fetch (image_of class registers insns) 1 (address_of insns k) ≡ Some (record { op = op_of (get_or insns k d); next = address_of insns (suc k) })
 unfolding fetch
 fetched_of class registers insns few each k d below =
     let image = image_of class registers insns in

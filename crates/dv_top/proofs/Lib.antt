@@ -1,18 +1,27 @@
 pub mod AssemblyLemmas
 pub mod BodyLemmas
 pub mod Decimals
+pub mod DecodingLemmas
+pub mod FaultsFound
+pub mod Fetching
 pub mod FormLemmas
+pub mod Images
+pub mod LeastTyping
 pub mod LineLemmas
 pub mod MachineEndings
 pub mod MachineScene
 pub mod MachineSteps
 pub mod PieceLemmas
+pub mod PrintingLemmas
+pub mod ReadBack
 pub mod RunCases
 pub mod RunEngine
 pub mod RunSteps
-pub mod StepRegisters
-mod StraightRows
-pub mod Tiles
-pub mod Images
-pub mod Fetching
+pub mod SimpleTypes
+pub mod States
 pub mod StaticRules
+pub mod StepRegisters
+pub mod StraightFaults
+mod StraightRows
+pub mod StraightTyping
+pub mod Tiles

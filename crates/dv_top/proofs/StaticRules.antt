@@ -65,7 +65,7 @@ no_places class registers i insns few each =
     ap (places_by image code) (tiling_is registers all few each) ∙
     (ap (λ b. sorted_if b ((first_places image code ++ tiles) ++ try_places image code 0 [])) (has_units registers i insns few (each 0 i (omega arith))) ∙ ap sorted none)
 
-no_places_of : (class : List ℕ) (registers : ℕ) (insns : List Instruction) → registers ≤ 16 → All (λ i. IsInRange registers i) insns → 0 < length insns → static_places (image_of class registers insns) (main_code registers insns) ≡ []
+pub no_places_of : (class : List ℕ) (registers : ℕ) (insns : List Instruction) → registers ≤ 16 → All (λ i. IsInRange registers i) insns → 0 < length insns → static_places (image_of class registers insns) (main_code registers insns) ≡ []
 no_places_of class registers [] few each some = absurd (omega arith)
 no_places_of class registers (i ∷ insns) few each some = no_places class registers i insns few each
 

@@ -102,33 +102,32 @@ pub record IsRun (class : List ℕ) (image : Image) (log : List Entry) (status :
 
 -- ---- what is said
 
--- the words ask to run a class, and the text isn't too large
-pub record IsAsked (words : List (List ℕ)) (bytes class : List ℕ) : Type 0 where
-  pub asked : class_to_run words ≡ Some class
+-- the bytes are the text of a class, not too large, and link to this image
+pub record IsBuilt (class bytes : List ℕ) (image : Image) : Type 0 where
   pub small : length bytes ≤ 8388608
-
--- ... and the text is one of the class, linked to this image
-pub record IsBuilt (words : List (List ℕ)) (bytes class : List ℕ) (image : Image) : Type 0 where
-  pub asked : IsAsked words bytes class
   pub linked : IsLinked class bytes image
 
--- ... which the verifier accepts
-pub record IsAccepted (words : List (List ℕ)) (bytes class : List ℕ) (image : Image) : Type 0 where
-  pub built : IsBuilt words bytes class image
+-- ... which the verifier accepts: it has no faults
+pub record IsAccepted (class bytes : List ℕ) (image : Image) : Type 0 where
+  pub built : IsBuilt class bytes image
   pub clean : AreImageFaults image []
 
 abbrev pub IsReply : ℕ → List ℕ → ℕ → List ℕ → Type 0
 IsReply status text own-status own-text = (own-status ≡ status) × (own-text ≡ text)
 
--- by cases, of which each excludes the others
+-- of a class that is to be run: by cases, of which each excludes the others
+pub data IsSaidOfClass (class bytes : List ℕ) (log : List Entry) (status : ℕ) (text : List ℕ) : Type 0 where
+  -- the text has more than 8,388,608 bytes
+  TooLarge : 8388608 < length bytes → IsReply 13 too_large status text → IsSaidOfClass class bytes log status text
+  -- the text is no straight text of the class
+  NotBuilt : length bytes ≤ 8388608 → ((registers : ℕ) (insns : List Instruction) → IsStraight class bytes registers insns → ⊥) → IsReply 14 not_built status text → IsSaidOfClass class bytes log status text
+  -- the verifier refuses the image: it has faults
+  Refused : (image : Image) → IsBuilt class bytes image → (first : Fault) (others : List Fault) → AreImageFaults image (first ∷ others) → IsReply 6 (fault_text image (first ∷ others)) status text → IsSaidOfClass class bytes log status text
+  -- the image runs
+  Ran : (image : Image) → IsAccepted class bytes image → IsRun class image log status text → IsSaidOfClass class bytes log status text
+
+-- of the words, the bytes of the text, and the log
 pub data IsSaid (words : List (List ℕ)) (bytes : List ℕ) (log : List Entry) (status : ℕ) (text : List ℕ) : Type 0 where
   -- the words aren't read
   Unread : class_to_run words ≡ None → IsReply 2 usage status text → IsSaid words bytes log status text
-  -- the text has more than 8,388,608 bytes
-  TooLarge : (class : List ℕ) → class_to_run words ≡ Some class → 8388608 < length bytes → IsReply 13 too_large status text → IsSaid words bytes log status text
-  -- the text is no straight text of the class
-  NotBuilt : (class : List ℕ) → IsAsked words bytes class → ((registers : ℕ) (insns : List Instruction) → IsStraight class bytes registers insns → ⊥) → IsReply 14 not_built status text → IsSaid words bytes log status text
-  -- the verifier refuses the image: it has faults
-  Refused : (class : List ℕ) (image : Image) → IsBuilt words bytes class image → (first : Fault) (faults : List Fault) → AreImageFaults image (first ∷ faults) → IsReply 6 (fault_text image (first ∷ faults)) status text → IsSaid words bytes log status text
-  -- the image runs
-  Ran : (class : List ℕ) (image : Image) → IsAccepted words bytes class image → IsRun class image log status text → IsSaid words bytes log status text
+  Asked : (class : List ℕ) → class_to_run words ≡ Some class → IsSaidOfClass class bytes log status text → IsSaid words bytes log status text

@@ -1,5 +1,5 @@
 // The laws of straight texts and of their bodies.
-ghost use Rattle.dv_top.specs.Laws.{IsReadOneWay, IsSpelledInItsSize, EachStandsAtItsAddress, MainIsFound, EachIsFetched, StaticRulesHold};
+ghost use Rattle.dv_top.specs.Laws.{IsReadOneWay, IsSpelledInItsSize, EachStandsAtItsAddress, MainIsFound, EachIsFetched, StaticRulesHold, FaultsAreFound};
 
 /// A text is a straight text of a class in one way at most.
 pub fn one_way()
@@ -29,4 +29,9 @@ pub fn fetched()
 /// The main method of a straight image breaks no static rule.
 pub fn static_rules()
     ensures { StaticRulesHold }
+{}
+
+/// The faults of a straight image are those that one pass over its instructions finds.
+pub fn faults_found()
+    ensures { FaultsAreFound }
 {}
