@@ -1,25 +1,24 @@
 -- How the tagged machine stands in a straight method: it goes on, or it has ended.
-use Rattle.std.proofs.Common.{◌≡◌, ◌≢◌, ℕ, Bool, true, false, ◌&&◌, List, [], ◌∷◌, ◌++◌, refl, ap, sym, ◌∙◌, arith, Option, Some, None, nat_eq, append-nil}
+use Rattle.std.proofs.Common.{◌≡◌, ◌≢◌, ℕ, true, false, ◌&&◌, List, [], ◌++◌, refl, ap, ◌∙◌, arith, Some, None, nat_eq, append-nil}
 use Rattle.std.specs.Prelude.{is_none}
 use Rattle.std.proofs.lemmas.Bool.Decides.{nat_tests}
 use Rattle.dv_defs.specs.declared.image.Image.{Image}
 use Rattle.dv_defs.specs.declared.machine.Ask.TheVariants as ask
-use Rattle.dv_defs.specs.declared.machine.Blocked.{Blocked}
 use Rattle.dv_defs.specs.declared.run.Ending.{Ending}
 use Rattle.dv_defs.specs.declared.run.Ending.TheVariants as ending
 use Rattle.dv_defs.specs.declared.run.Limits.{Limits}
 use Rattle.dv_defs.specs.declared.run.Value.{Value}
 use Rattle.dv_defs.specs.Classes.{ask_of}
-use Rattle.dv_defs.specs.Op.{Op, needs}
+use Rattle.dv_defs.specs.Op.{needs}
 use Rattle.dv_defs.specs.Pools.{Method, method_at}
-use Rattle.dv_defs.specs.Statics.{At, fetch}
+use Rattle.dv_defs.specs.Statics.{fetch}
 use Rattle.dv_machine.specs.Final.{closed, uncaught, ending_lines, final_text}
 use Rattle.dv_machine.specs.Running.{by_ask, blocked_op, blocked_needing, blocked_at, blocked_thread, any_runnable, ending_of, runnable}
 use Rattle.dv_machine.specs.State.{Machine, Shared}
 use Rattle.dv_top.specs.declared.instruction.Instruction.{Instruction}
 use Rattle.dv_top.specs.declared.instruction.Instruction.TheVariants.{Nop, ReturnVoid, Const4, Const16, Move, AddInt, Println}
 use Rattle.dv_top.specs.Program.{frame_at, op_of, ending_line, printed_text}
-use Rattle.dv_top.proofs.MachineSteps.{machine_with, machine_returned, thread_at, at_op}
+use Rattle.dv_top.proofs.MachineSteps.{machine_with, thread_at, at_op}
 
 -- no straight instruction waits
 none_needed : (image : Image) (own : Method) (limits : Limits) (sh : Shared) (at : ℕ) (regs : List Value) (steps : ℕ) (i : Instruction) → ask_of sh.classes 1 0 ≡ ask.Go → blocked_needing image (machine_with limits sh at regs steps) 0 own (frame_at at regs) (op_of i) (needs (op_of i)) ≡ None

@@ -1,20 +1,16 @@
 -- The image and the opening of a straight method, as its run sees them.
-use Rattle.std.proofs.Common.{◌≡◌, ℕ, ◌-◌, List, [], ◌∷◌, ◌++◌, length, refl, ap, sym, ◌∙◌, subst, arith, Option, Some, None, replicate, append-nil}
+use Rattle.std.proofs.Common.{◌≡◌, ℕ, ◌-◌, List, [], ◌++◌, refl, ap, sym, ◌∙◌, subst, arith, Some, replicate, append-nil}
 use Rattle.dv_defs.specs.declared.image.Image.{Image}
-use Rattle.dv_defs.specs.declared.machine.Ask.{Ask}
 use Rattle.dv_defs.specs.declared.machine.Ask.TheVariants as ask
 use Rattle.dv_defs.specs.declared.run.Limits.{Limits}
-use Rattle.dv_defs.specs.declared.run.Value.{Value}
 use Rattle.dv_defs.specs.declared.run.Value.TheVariants.{Undef}
 use Rattle.dv_defs.specs.Classes.{ask_of}
 use Rattle.dv_defs.specs.Names.{console_name}
 use Rattle.dv_defs.specs.Pools.{Method, method_at, name_at, initialiser}
 use Rattle.dv_machine.specs.Opening.{opening}
-use Rattle.dv_machine.specs.State.{Machine}
 use Rattle.dv_top.specs.declared.instruction.Instruction.{Instruction}
 use Rattle.dv_top.specs.Image.{image_of}
 use Rattle.dv_top.specs.Program.{IsImageOf, main_method, running}
-use Rattle.dv_top.proofs.MachineSteps.{machine_with}
 
 -- main and Console are there, and Console is initialised
 pub record IsScene (image : Image) (own : Method) (limits : Limits) : Type 0 where

@@ -1,6 +1,6 @@
 -- A step of the tagged machine at an instruction of a straight method.
-use Rattle.std.proofs.Common.{◌≡◌, ℕ, ◌+◌, ◌<◌, ◌≤◌, Bool, true, false, ◌&&◌, List, [], ◌∷◌, ◌++◌, length, refl, ap, sym, ◌∙◌, arith, ℤ, pos, suc, Option, Some, None}
-use Rattle.std.specs.Prelude.{slice_set, Result, Ok, Err, nat_eq, nat_le, codes}
+use Rattle.std.proofs.Common.{◌≡◌, ℕ, ◌+◌, true, false, List, [], ◌∷◌, ◌++◌, length, ap, ◌∙◌, ℤ, suc, Option, Some, None}
+use Rattle.std.specs.Prelude.{slice_set, Ok, nat_le, codes}
 use Rattle.dv_defs.specs.declared.image.Image.{Image}
 use Rattle.dv_defs.specs.declared.run.Limits.{Limits}
 use Rattle.dv_defs.specs.declared.run.Ending.TheVariants as ending
@@ -10,10 +10,8 @@ use Rattle.dv_defs.specs.declared.run.Native.{Native}
 use Rattle.dv_defs.specs.declared.run.Native.TheVariants as native
 use Rattle.dv_defs.specs.declared.run.Why.TheVariants as why
 use Rattle.dv_defs.specs.declared.machine.End.TheVariants as end
-use Rattle.dv_defs.specs.declared.machine.Ask.{Ask}
 use Rattle.dv_defs.specs.declared.machine.Ask.TheVariants as ask
 use Rattle.dv_defs.specs.declared.machine.Frame.{Frame}
-use Rattle.dv_defs.specs.declared.machine.Level.{Level}
 use Rattle.dv_defs.specs.declared.machine.Level.TheVariants as level
 use Rattle.dv_defs.specs.Classes.{ask_of}
 use Rattle.dv_defs.specs.Names.{console_name}
@@ -25,9 +23,8 @@ use Rattle.dv_defs.specs.Statics.{At, fetch}
 use Rattle.dv_defs.specs.Demands.{is_void}
 use Rattle.dv_machine.specs.Calls.{native_among, all_natives, landed, Lands, enter}
 use Rattle.dv_machine.specs.Local.{const_value}
-use Rattle.dv_machine.specs.Natives.{native_step, number_of, printed}
+use Rattle.dv_machine.specs.Natives.{native_step, printed}
 use Rattle.dv_machine.specs.Threads.{goes}
-use Rattle.dv_machine.specs.Running.{ending_of, runnable, ending_without_stop}
 use Rattle.dv_machine.specs.State.{Thread, Machine, Shared, Here, Reads, Did, NoOutput, IsStuck, Left, left, on_next, reading, reg_at, read_int, onward, put, with_output}
 use Rattle.dv_machine.specs.Step.{step, step_code, step_at, settled, stopped, with_ready, here, act, for_class}
 use Rattle.dv_top.specs.Program.{frame_at, println_method}

@@ -1,5 +1,5 @@
 -- The engine and the tagged machine take the same step at each instruction.
-use Rattle.std.proofs.Common.{◌≡◌, ◌≢◌, ℕ, ◌+◌, ◌<◌, ◌≤◌, Bool, true, false, ◌&&◌, List, [], ◌∷◌, ◌++◌, length, drop, refl, ap, sym, ◌∙◌, subst, arith, ℤ, suc, Option, Some, None, add-one}
+use Rattle.std.proofs.Common.{◌≡◌, ℕ, ◌+◌, ◌<◌, ◌≤◌, Bool, true, false, ◌&&◌, List, [], ◌∷◌, ◌++◌, length, drop, refl, ap, sym, ◌∙◌, subst, arith, ℤ, suc, Option, Some, None, add-one}
 use Rattle.std.specs.Prelude.{Ok, nat_le, nat_lt, slice_set, if◌then◌else◌}
 use Rattle.std.proofs.Math.ListN.{length-set}
 use Rattle.std.proofs.lemmas.Bool.Decides.{nat_tests}
@@ -21,7 +21,7 @@ use Rattle.dv_machine.specs.Step.{step, stopped}
 use Rattle.dv_top.specs.declared.instruction.Instruction.{Instruction}
 use Rattle.dv_top.specs.declared.instruction.Instruction.TheVariants.{Nop, ReturnVoid, Const4, Const16, Move, AddInt, Println}
 use Rattle.dv_top.specs.Assembly.{address_of}
-use Rattle.dv_top.specs.Engine.{State, gone_on, stopped_by, line_of, after_print, after_step, value_at, values_after, machine_at, IsOwn, GoesOn, IsAt}
+use Rattle.dv_top.specs.Engine.{State, gone_on, stopped_by, line_of, after_step, value_at, machine_at, IsOwn, IsAt}
 use Rattle.dv_top.specs.Program.{AreKept, main_method, op_of, holds_int, reads_ints, ints_after, is_return, fault_unless, faults_from}
 use Rattle.dv_top.specs.Straight.{IsInRange}
 use Rattle.dv_top.proofs.MachineScene.{IsScene}

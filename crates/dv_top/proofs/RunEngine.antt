@@ -1,7 +1,6 @@
 -- The engine's run is one of the tagged machine.
-use Rattle.std.proofs.Common.{◌≡◌, ◌≢◌, ℕ, ◌+◌, ◌<◌, ◌≤◌, Bool, true, false, List, [], ◌∷◌, ◌++◌, length, drop, get_or, refl, ap, sym, ◌∙◌, subst, arith, inl, inr, ℤ, pos, zero, suc, Option, Some, None, add-one, replicate, All}
-use Rattle.std.specs.Prelude.{Ok, nat_lt, if◌then◌else◌}
-use Rattle.std.proofs.Math.ListN.{length-replicate}
+use Rattle.std.proofs.Common.{◌≡◌, ◌≢◌, ℕ, ◌+◌, ◌<◌, ◌≤◌, Bool, true, false, List, [], ◌∷◌, ◌++◌, length, drop, get_or, refl, ap, sym, ◌∙◌, subst, arith, inl, inr, pos, suc, Option, Some, None, add-one, replicate, All}
+use Rattle.std.specs.Prelude.{nat_lt, if◌then◌else◌}
 use Rattle.std.proofs.Math.Seq.{drop-cons, get_or-append_seam}
 use Rattle.std.proofs.lemmas.Bool.Decides.{leb_tells, nat_tests}
 use Rattle.std.proofs.lemmas.List.{length-append}
@@ -16,19 +15,18 @@ use Rattle.dv_defs.specs.declared.run.Value.TheVariants.{Undef}
 use Rattle.dv_machine.specs.Final.{final_text}
 use Rattle.dv_machine.specs.Opening.{opening}
 use Rattle.dv_machine.specs.Replaying.{Stands, one_step, steps_of, replay}
-use Rattle.dv_machine.specs.Running.{ending_of, runnable}
+use Rattle.dv_machine.specs.Running.{ending_of}
 use Rattle.dv_machine.specs.State.{Machine}
-use Rattle.dv_machine.specs.Step.{step}
 use Rattle.dv_top.specs.declared.instruction.Instruction.{Instruction}
 use Rattle.dv_top.specs.declared.instruction.Instruction.TheVariants.{Nop, ReturnVoid, Const4, Const16, Move, AddInt, Println}
 use Rattle.dv_top.specs.Assembly.{address_of}
-use Rattle.dv_top.specs.Engine.{State, first_state, gone_on, stopped_by, line_of, after_step, value_at, is_local, ending_by, machine_at, IsOwn, GoesOn, IsAt, HasNext, Leads, IsReached, IsLegalLog, EachHasRun}
-use Rattle.dv_top.specs.Program.{IsEntry, IsImageOf, AreKept, main_method, returned, printed_text, status_by, no_ints, reads_ints, ints_after, is_return, faults_from, faults_of}
+use Rattle.dv_top.specs.Engine.{State, first_state, gone_on, stopped_by, line_of, after_step, value_at, is_local, ending_by, machine_at, IsOwn, IsAt, HasNext, Leads, IsReached, IsLegalLog, EachHasRun}
+use Rattle.dv_top.specs.Program.{IsEntry, IsImageOf, main_method, returned, printed_text, status_by, no_ints, is_return, faults_from, faults_of}
 use Rattle.dv_top.specs.Said.{status_of}
 use Rattle.dv_top.specs.Straight.{IsInRange, IsMain}
 use Rattle.dv_top.proofs.Fetching.{fetched}
 use Rattle.dv_top.proofs.MachineEndings.{runs, goes_on, spent, final_is}
-use Rattle.dv_top.proofs.MachineScene.{IsScene, scene, opens}
+use Rattle.dv_top.proofs.MachineScene.{scene, opens}
 use Rattle.dv_top.proofs.MachineSteps.{machine_with}
 use Rattle.dv_top.proofs.RunCases.{machine_none, printed_so_far, before, clean_at, Known, Stepped, stepped}
 use Rattle.dv_top.proofs.RunSteps.{one_goes, steps_then, replay_then}
@@ -218,3 +216,16 @@ has_run insns limits log s e reached is = record {
 -- an entry more
 pub entries_on : (log : List Entry) (e : Entry) → All IsEntry log → e.worker < 8 → 0 < e.steps → e.steps ≤ 256 → All IsEntry (log ++ e ∷ [])
 entries_on log e entries worker some few = All-append IsEntry log (e ∷ []) entries (λ k d below. let first : 0 ≡ k = omega arith in subst (λ (n : ℕ). IsEntry (get_or (e ∷ []) n d)) first (record { worker = worker; some = some; few = few }))
+
+low_in_sixteen : (registers : ℕ) (i : Instruction) → registers ≤ 16 → IsInRange registers i → IsInRange 16 i
+low_in_sixteen registers Nop few low = tt
+low_in_sixteen registers ReturnVoid few low = tt
+low_in_sixteen registers (Const4 to value) few low = (omega (arith, low.0, few), low.1)
+low_in_sixteen registers (Const16 to value) few low = (omega (arith, low.0, few), low.1)
+low_in_sixteen registers (Move to from) few low = (omega (arith, low.0, few), omega (arith, low.1, few))
+low_in_sixteen registers (AddInt to left right) few low = (omega (arith, low.0, few), omega (arith, low.1, few), omega (arith, low.2, few))
+low_in_sixteen registers (Println from) few low = omega (arith, low, few)
+
+-- what the engine asks of the instructions of an image
+pub each_in_sixteen : (class : List ℕ) (registers : ℕ) (insns : List Instruction) (image : Image) → IsImageOf class registers insns image → All (λ i. IsInRange 16 i) insns
+each_in_sixteen class registers insns image is k d below = low_in_sixteen registers (get_or insns k d) is.few (All-get_or (λ i. IsInRange registers i) insns k d below is.in_range)

@@ -1,13 +1,12 @@
 -- Registers that are written, and numbers that are read of them.
-use Rattle.std.proofs.Common.{◌≡◌, ◌≢◌, ℕ, ◌<◌, ◌≤◌, Bool, true, false, List, length, refl, ap, sym, ◌∙◌, arith, ℤ, pos, negsuc, zero, suc, inl, inr, replicate}
-use Rattle.std.specs.Prelude.{slice_set, Result, Ok, Err}
+use Rattle.std.proofs.Common.{◌≡◌, ◌≢◌, ℕ, ◌<◌, Bool, true, false, List, length, refl, ap, sym, ◌∙◌, arith, ℤ, pos, negsuc, zero, suc, inl, inr, replicate}
+use Rattle.std.specs.Prelude.{slice_set, Ok}
 use Rattle.std.proofs.Math.ListN.{length-set, length-replicate}
 use Rattle.std.proofs.lemmas.List.{get_or_past, get_or-set_other, get_or-replicate}
 use Rattle.std.proofs.lemmas.Grind.{get_or-set_at}
 use Rattle.std.proofs.lemmas.Bool.Decides.{eqb_tells, leb_tells}
 use Rattle.dv_defs.specs.declared.run.Value.{Value}
 use Rattle.dv_defs.specs.declared.run.Value.TheVariants.{Undef, Zero, Num, Lo, Hi, Ref, Uninit, UninitThis}
-use Rattle.dv_defs.specs.declared.run.Why.{Why}
 use Rattle.dv_machine.specs.State.{reg_at, read_int}
 use Rattle.dv_machine.specs.Local.{const_value}
 use Rattle.dv_machine.specs.Natives.{number_of}

@@ -149,10 +149,8 @@ impl Engine {
                 self.registers[to as usize] = self.registers[from as usize];
             }
             Instruction::AddInt { to, left, right } => {
-                let sum = self.registers[left as usize].wrapping_add(
-                    self.registers[right as usize],
-                );
-                self.registers[to as usize] = sum;
+                let right = self.registers[right as usize];
+                self.registers[to as usize] = self.registers[left as usize].wrapping_add(right);
             }
             Instruction::Println { from } => return self.println(from, most),
         }

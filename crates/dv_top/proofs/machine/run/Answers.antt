@@ -1,4 +1,4 @@
-use Rattle.std.proofs.Common.{List, [], sym, subst}
+use Rattle.std.proofs.Common.{List, sym, subst}
 use Rattle.dv_defs.specs.declared.run.Entry.{Entry}
 use Rattle.dv_top.specs.Engine.{state_of, IsReached}
 use Rattle.dv_top.proofs.RunEngine.{first_reached, has_run}

@@ -1,7 +1,6 @@
-use Rattle.std.proofs.Common.{◌≡◌, arith, rules, sym, ◌∙◌, true, None}
-use Rattle.std.proofs.lemmas.Grind.{common_steps}
-use Rattle.dv_top.specs.Engine.{state_of, Leads, is_local}
-use Rattle.dv_top.proofs.RunEngine.{leads_none, leads_on, local_goes}
+use Rattle.std.proofs.Common.{arith, rules}
+use Rattle.dv_top.specs.Engine.{state_of}
+use Rattle.dv_top.proofs.RunEngine.{leads_none, leads_on}
 use Rattle.dv_top.proofs.machine.Engine.turn.Goals as goal
 
 pub local-init : goal.local-init
