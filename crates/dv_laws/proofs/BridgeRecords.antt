@@ -5,7 +5,7 @@ use Rattle.dv_defs.specs.declared.image.Image.{Image}
 use Rattle.dv_defs.specs.declared.typing.RegState.{RegState}
 use Rattle.dv_defs.specs.Op.{Code, code_at}
 use Rattle.dv_defs.specs.Statics.{At, fetch, arg_words}
-use Rattle.dv_defs.specs.Demands.{Demand, first, demand, demands, goes_on, onward_ok, ok}
+use Rattle.dv_defs.specs.Demands.{Demand, demand, demands, goes_on, onward_ok, ok}
 use Rattle.dv_defs.specs.Transfer.{entry_state, out}
 use Rattle.dv_defs.specs.Flow.{Catcher, Typing, Leads, Flows, targets, jumps, handlers_at, thrown_at, caught_state}
 use Rattle.dv_defs.specs.Accepting.{IsAcceptedMethod, Accepts}

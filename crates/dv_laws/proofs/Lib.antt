@@ -1,5 +1,6 @@
 -- The proofs of the laws.
 pub mod OrderWalks
+pub mod OrderEqual
 pub mod OrderTypes
 pub mod OrderLaws
 pub mod OrderStates
@@ -18,3 +19,6 @@ pub mod OrderTransfer
 pub mod OrderDemands
 pub mod OrderAntitone
 pub mod OrderSatisfied
+pub mod OrderCommon
+pub mod OrderArrays
+pub mod OrderJoins

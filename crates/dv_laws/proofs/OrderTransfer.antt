@@ -1,6 +1,6 @@
 -- Transfer goes along the order of states.
-use Rattle.std.proofs.Common.{◌≡◌, ◌⊎◌, inl, inr, ℕ, zero, suc, ◌<◌, ◌≤◌, List, [], ◌∷◌, length, Bool, true, false, ◌&&◌, Option, Some, None, refl, sym, ap, ◌∙◌, subst, arith}
-use Rattle.std.specs.Prelude.{map, nat_eq}
+use Rattle.std.proofs.Common.{◌≡◌, ℕ, List, Bool, true, false, ◌&&◌, Option, Some, None, refl, sym, subst}
+use Rattle.std.specs.Prelude.{map}
 use Rattle.std.proofs.lemmas.Bool.{and_parts, and_from, eqb-true, ltb-true}
 use Rattle.dv_defs.specs.declared.names.Ty.{Ty}
 use Rattle.dv_defs.specs.declared.image.Image.{Image}
@@ -174,8 +174,8 @@ module _ (image : Image) (h : IsHierarchy image) where
 
   own_receiver : (m : Method) (s t : RegState) → IsBelow image s t → IsBelow image (after_constructor image m s ty.UninitThis) (after_constructor image m t ty.UninitThis)
   own_receiver m s t b = (let x : RegType = ty.Class (own_type image m) in
-    let r = map_below image (replaced_this x) (replaced_this x) (λ y z e. this_below x z y e) s.regs t.regs (regs_of s t b) in
-    record { each = r.each; count = r.count; result = tt; caught = tt; this_pending = λ e. e })
+      let r = map_below image (replaced_this x) (replaced_this x) (λ y z e. this_below x z y e) s.regs t.regs (regs_of s t b) in
+      record { each = r.each; count = r.count; result = tt; caught = tt; this_pending = λ e. e })
 
   constructor_below : (m : Method) (s t : RegState) (w u : RegType) → under image u w ≡ true → IsBelow image s t → IsBelow image (after_constructor image m s u) (after_constructor image m t w)
   constructor_below m s t (ty.Uninit a) (ty.Uninit c) e b = subst (λ (z : ℕ). IsBelow image (after_constructor image m s (ty.Uninit c)) (after_constructor image m t (ty.Uninit z))) (eqb-true c a e) (same_receiver m s t c b)
