@@ -22,3 +22,4 @@ pub mod OrderSatisfied
 pub mod OrderCommon
 pub mod OrderArrays
 pub mod OrderJoins
+pub mod BridgeDecoding
