@@ -1,1 +1,25 @@
 -- The proofs of the laws.
+pub mod OrderWalks
+pub mod OrderEqual
+pub mod OrderTypes
+pub mod OrderLaws
+pub mod OrderStates
+pub mod BridgeDemands
+pub mod BridgeLookUps
+pub mod BridgeStatics
+pub mod BridgeRecords
+pub mod BridgeLaws
+pub mod ExampleTests
+pub mod ExampleClasses
+pub mod ExampleMembers
+pub mod ExampleBoot
+pub mod Examples
+pub mod OrderRegs
+pub mod OrderTransfer
+pub mod OrderDemands
+pub mod OrderAntitone
+pub mod OrderSatisfied
+pub mod OrderCommon
+pub mod OrderArrays
+pub mod OrderJoins
+pub mod BridgeDecoding

@@ -1,1 +1,4 @@
 -- What the laws speak of beside the statements of dv_machine.
+pub mod Conformity
+pub mod Bridge
+pub mod Example

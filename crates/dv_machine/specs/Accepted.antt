@@ -1,5 +1,5 @@
 -- What the laws take of an accepted image, made once of its linking and of a typing of each method.
-use Rattle.std.specs.Prelude.{◌≡◌, ◌≤◌, ◌<◌, ℕ, ◌+◌, true, false, List, [], ◌∷◌, length, Some, None, All, codes}
+use Rattle.std.specs.Prelude.{◌≡◌, ◌≤◌, ◌<◌, ℕ, ◌+◌, true, false, List, [], ◌∷◌, length, Some, None, slice_get, All, codes}
 use Rattle.dv_defs.specs.declared.names.Ty.{Ty}
 use Rattle.dv_defs.specs.declared.names.Proto.{Proto}
 use Rattle.dv_defs.specs.declared.code.Body.{Body}
@@ -14,7 +14,7 @@ use Rattle.dv_defs.specs.Field.{may_stand}
 use Rattle.dv_machine.specs.Conforming.{is_string_or_class}
 use Rattle.dv_defs.specs.Types.{of_class, is_array, component, is_reference, words_of}
 use Rattle.dv_defs.specs.Pools.{Method, Field, method_at, field_at, is_static, is_static_field, is_constructor, is_abstract, is_interface, class_type, class_named, name_at, parent_at, supers, nearest, initialiser, no_arguments}
-use Rattle.dv_defs.specs.Order.{sub, instance, fits, assignable, has_number, above}
+use Rattle.dv_defs.specs.Order.{sub, instance, fits, assignable, has_number, above, interfaces_of}
 use Rattle.dv_defs.specs.Op.{Code, code_at, can_throw}
 use Rattle.dv_defs.specs.Statics.{At, fetch, op_rules, arg_words}
 use Rattle.dv_defs.specs.RegTypes.{type_at, reg_types}
@@ -53,6 +53,8 @@ pub record IsHierarchy (image : Image) : Type 0 where
   -- only Object has no superclass, and an interface's is Object
   pub root : (c : ℕ) → c < length image.classes → parent_at image c ≡ None → name_at image c ≡ object_name
   pub interfaces : (c p : ℕ) → is_interface image c ≡ true → parent_at image c ≡ Some p → name_at image p ≡ object_name
+  -- what stands as a superinterface is an interface
+  pub superinterfaces : (c d : ℕ) → has_number d (interfaces_of (slice_get image.classes c)) ≡ true → is_interface image d ≡ true
 
 -- the facts on types that the laws use
 pub record IsOrder (image : Image) : Type 0 where

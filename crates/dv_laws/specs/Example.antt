@@ -1,0 +1,18 @@
+-- Images with all boot classes and a small program, which are accepted.
+use Rattle.dv_defs.specs.declared.image.Image.{Image}
+use Rattle.dv_machine.specs.WellTyped.{Typings}
+use Rattle.dv_machine.specs.Accepted.{Accepted}
+use Rattle.dv_machine.specs.RunExceptions.{throwing}
+use Rattle.dv_machine.specs.RunObjects.{calling}
+
+-- classes with fields and constructors, one under another, one that implements an interface, and calls of each kind
+unfoldable pub calls_example : Image
+calls_example = calling
+
+-- handlers, exceptions that steps make, and a throw
+unfoldable pub handlers_example : Image
+handlers_example = throwing
+
+-- what the laws take of an image isn't asked of nothing
+abbrev pub IsAccepted : Image → Type 0
+IsAccepted image = (T : Typings) × Accepted image T

@@ -1,0 +1,33 @@
+// The laws of decoding and acceptance: what look-ups find, and the records that acceptance gives.
+ghost use Rattle.dv_machine.specs.Laws.{DecodingInvertsSpelling, AcceptanceGivesRecords, LookUpsFind};
+ghost use Rattle.dv_laws.specs.Bridge.{BridgeHolds};
+ghost use Rattle.dv_laws.specs.Example.{IsAccepted, calls_example, handlers_example};
+
+/// An instruction stands where its spelling does.
+pub fn decoding_inverts_spelling()
+    ensures law { DecodingInvertsSpelling }
+{}
+
+/// What look-ups find has the number, name, prototype and class that were asked for, in any image.
+#[tactic(auto, using(crate::proofs::BridgeLookUps::look_ups_find))]
+pub fn look_ups_find()
+    ensures law { LookUpsFind }
+{}
+
+/// Acceptance gives a typing of each method, with what each address owes.
+#[tactic(auto, using(crate::proofs::BridgeRecords::acceptance_gives_records))]
+pub fn acceptance_gives_records()
+    ensures law { AcceptanceGivesRecords }
+{}
+
+/// A linked image that the verifier accepts is what the laws take.
+#[tactic(auto, using(crate::proofs::BridgeLaws::bridge_holds))]
+pub fn bridge_holds()
+    ensures law { BridgeHolds }
+{}
+
+/// Images with all boot classes and a small program are what the laws take.
+pub fn examples_are_accepted()
+    ensures calls { IsAccepted calls_example }
+    ensures handlers { IsAccepted handlers_example }
+{}
