@@ -1,0 +1,6 @@
+-- The clauses of `entry_conforms`, each by its lemma.
+use Rattle.dv_laws.proofs.calls.entry_conforms.Goals as goal
+use Rattle.dv_laws.proofs.CallsEntered.{entry_conforms}
+
+pub returns : goal.returns
+returns c = record { law = entry_conforms }

@@ -1,0 +1,6 @@
+-- The clauses of `invokes_push`, each by its lemma.
+use Rattle.dv_laws.proofs.calls.invokes_push.Goals as goal
+use Rattle.dv_laws.proofs.CallsPush.{invokes_push}
+
+pub returns : goal.returns
+returns c = record { law = invokes_push }

@@ -1,0 +1,6 @@
+-- The clauses of `reads_arguments`, each by its lemma.
+use Rattle.dv_laws.proofs.calls.reads_arguments.Goals as goal
+use Rattle.dv_laws.proofs.ReadersWords.{reads_arguments}
+
+pub returns : goal.returns
+returns c = record { law = reads_arguments }

@@ -1,0 +1,6 @@
+-- The clauses of `reads_value`, each by its lemma.
+use Rattle.dv_laws.proofs.calls.reads_value.Goals as goal
+use Rattle.dv_laws.proofs.ReadersWords.{reads_value}
+
+pub returns : goal.returns
+returns c = record { law = reads_value }

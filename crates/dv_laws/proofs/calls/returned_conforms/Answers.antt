@@ -1,0 +1,6 @@
+-- The clauses of `returned_conforms`, each by its lemma.
+use Rattle.dv_laws.proofs.calls.returned_conforms.Goals as goal
+use Rattle.dv_laws.proofs.ReturnsConstructed.{returned_conforms}
+
+pub returns : goal.returns
+returns c = record { law = returned_conforms }

@@ -1,0 +1,6 @@
+-- The clauses of `returns_pop`, each by its lemma.
+use Rattle.dv_laws.proofs.calls.returns_pop.Goals as goal
+use Rattle.dv_laws.proofs.ReturnsFine.{returns_pop}
+
+pub returns : goal.returns
+returns c = record { law = returns_pop }

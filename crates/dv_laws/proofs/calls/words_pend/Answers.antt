@@ -1,0 +1,6 @@
+-- The clauses of `words_pend`, each by its lemma.
+use Rattle.dv_laws.proofs.calls.words_pend.Goals as goal
+use Rattle.dv_laws.proofs.ReadersWords.{words_pend}
+
+pub returns : goal.returns
+returns c = record { law = words_pend }

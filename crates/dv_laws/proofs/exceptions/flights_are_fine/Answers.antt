@@ -1,0 +1,6 @@
+-- The clauses of `flights_are_fine`, each by its lemma.
+use Rattle.dv_laws.proofs.FlightRecords.{flights_are_fine}
+use Rattle.dv_laws.proofs.exceptions.flights_are_fine.Goals as goal
+
+pub returns : goal.returns
+returns c = record { law = flights_are_fine }

@@ -1,0 +1,6 @@
+-- The clauses of `growth_keeps`, each by its lemma.
+use Rattle.dv_laws.proofs.GrowthKeeps.{growth_keeps}
+use Rattle.dv_laws.proofs.heap.growth_keeps.Goals as goal
+
+pub returns : goal.returns
+returns c = record { law = growth_keeps }

@@ -1,0 +1,6 @@
+-- The clauses of `keeps_object`, each by its lemma.
+use Rattle.dv_laws.proofs.local.keeps_object.Goals as goal
+use Rattle.dv_laws.proofs.ReadersPlain.{keeps_object}
+
+pub returns : goal.returns
+returns c = record { law = keeps_object }

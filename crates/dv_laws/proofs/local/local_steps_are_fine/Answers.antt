@@ -1,0 +1,6 @@
+-- The clauses of `local_steps_are_fine`, each by its lemma.
+use Rattle.dv_laws.proofs.local.local_steps_are_fine.Goals as goal
+use Rattle.dv_laws.proofs.LocalFine.{local_steps_are_fine}
+
+pub returns : goal.returns
+returns c = record { law = local_steps_are_fine }

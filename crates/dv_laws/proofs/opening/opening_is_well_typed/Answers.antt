@@ -1,0 +1,6 @@
+-- The clauses of `opening_is_well_typed`, each by its lemma.
+use Rattle.dv_laws.proofs.OpeningState.{opening_is_well_typed}
+use Rattle.dv_laws.proofs.opening.opening_is_well_typed.Goals as goal
+
+pub returns : goal.returns
+returns c = record { law = opening_is_well_typed }

@@ -1,0 +1,6 @@
+-- The clauses of `new_instance_keeps`, each by its lemma.
+use Rattle.dv_laws.proofs.registers.new_instance_keeps.Goals as goal
+use Rattle.dv_laws.proofs.RegistersMade.{new_instance_keeps}
+
+pub returns : goal.returns
+returns c = record { law = new_instance_keeps }

@@ -1,0 +1,6 @@
+-- The clauses of `own_constructor_keeps`, each by its lemma.
+use Rattle.dv_laws.proofs.registers.own_constructor_keeps.Goals as goal
+use Rattle.dv_laws.proofs.RegistersMade.{own_constructor_keeps}
+
+pub returns : goal.returns
+returns c = record { law = own_constructor_keeps }

@@ -1,0 +1,6 @@
+-- The clauses of `write_keeps`, each by its lemma.
+use Rattle.dv_laws.proofs.registers.write_keeps.Goals as goal
+use Rattle.dv_laws.proofs.RegistersWritten.{write_keeps}
+
+pub returns : goal.returns
+returns c = record { law = write_keeps }

@@ -1,0 +1,6 @@
+-- The clauses of `steps_are_sound`, each by its lemma.
+use Rattle.dv_laws.proofs.SoundSteps.{steps_are_sound}
+use Rattle.dv_laws.proofs.sound.steps_are_sound.Goals as goal
+
+pub returns : goal.returns
+returns c = record { law = steps_are_sound }

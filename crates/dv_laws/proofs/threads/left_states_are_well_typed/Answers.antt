@@ -1,0 +1,6 @@
+-- The clauses of `left_states_are_well_typed`, each by its lemma.
+use Rattle.dv_laws.proofs.GrowthThreads.{left_is_well_typed}
+use Rattle.dv_laws.proofs.threads.left_states_are_well_typed.Goals as goal
+
+pub returns : goal.returns
+returns c = record { law = left_is_well_typed }

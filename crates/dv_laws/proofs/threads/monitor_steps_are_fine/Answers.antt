@@ -1,0 +1,6 @@
+-- The clauses of `monitor_steps_are_fine`, each by its lemma.
+use Rattle.dv_laws.proofs.MonitorsSteps.{monitor_steps_are_fine}
+use Rattle.dv_laws.proofs.threads.monitor_steps_are_fine.Goals as goal
+
+pub returns : goal.returns
+returns c = record { law = monitor_steps_are_fine }

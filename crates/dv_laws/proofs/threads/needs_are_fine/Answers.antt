@@ -1,0 +1,6 @@
+-- The clauses of `needs_are_fine`, each by its lemma.
+use Rattle.dv_laws.proofs.RecordsNeeded.{needs_are_fine}
+use Rattle.dv_laws.proofs.threads.needs_are_fine.Goals as goal
+
+pub returns : goal.returns
+returns c = record { law = needs_are_fine }

@@ -1,0 +1,6 @@
+-- The clauses of `new_threads_are_fine`, each by its lemma.
+use Rattle.dv_laws.proofs.RecordsStarted.{new_thread_is_fine}
+use Rattle.dv_laws.proofs.threads.new_threads_are_fine.Goals as goal
+
+pub returns : goal.returns
+returns c = record { law = new_thread_is_fine }

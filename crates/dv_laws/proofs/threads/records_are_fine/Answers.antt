@@ -1,0 +1,6 @@
+-- The clauses of `records_are_fine`, each by its lemma.
+use Rattle.dv_laws.proofs.RecordsFine.{records_are_fine}
+use Rattle.dv_laws.proofs.threads.records_are_fine.Goals as goal
+
+pub returns : goal.returns
+returns c = record { law = records_are_fine }

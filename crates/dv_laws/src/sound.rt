@@ -1,0 +1,7 @@
+// That verified code never goes wrong, from the laws of its parts.
+ghost use Rattle.dv_machine.specs.StepLaws.{HeapStepsAreFine, InvokesPush, StepsAreSound};
+
+/// Every step of a runnable thread leads from a well-typed state to a well-typed one, where steps on the heap and invokes are fine.
+pub fn steps_are_sound()
+    ensures law { HeapStepsAreFine → InvokesPush → StepsAreSound }
+{}

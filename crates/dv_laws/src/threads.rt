@@ -1,0 +1,37 @@
+// The laws of monitors and threads.
+ghost use Rattle.dv_machine.specs.StepLaws.{LeftIsWellTyped, MonitorStepsAreFine, NeedsAreFine, RecordsAreFine, NewThreadIsFine};
+ghost use Rattle.dv_laws.specs.MonitorLaws.{EnteringKeeps, ExitingKeeps, WaitingKeeps, NotifyingKeeps, ResumingKeeps};
+
+/// Monitors stay in order when one is entered or exited, when a thread waits, is notified, or takes its monitor back.
+pub fn monitors_stay_fine()
+    ensures entering { EnteringKeeps }
+    ensures exiting { ExitingKeeps }
+    ensures waiting { WaitingKeeps }
+    ensures notifying { NotifyingKeeps }
+    ensures resuming { ResumingKeeps }
+{}
+
+/// What a step of one thread leaves in order leaves the state well typed, also where a thread was started.
+pub fn left_states_are_well_typed()
+    ensures law { LeftIsWellTyped }
+{}
+
+/// An instruction that enters or exits a monitor is fine.
+pub fn monitor_steps_are_fine()
+    ensures law { MonitorStepsAreFine }
+{}
+
+/// An instruction whose class isn't ready begins its initialisation, waits for it or throws, which is fine.
+pub fn needs_are_fine()
+    ensures law { NeedsAreFine }
+{}
+
+/// A step of a class's record is fine.
+pub fn records_are_fine()
+    ensures law { RecordsAreFine }
+{}
+
+/// A thread that is started, on an object whose class has a run method, is in order.
+pub fn new_threads_are_fine()
+    ensures law { NewThreadIsFine }
+{}
