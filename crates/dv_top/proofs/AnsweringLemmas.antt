@@ -1,5 +1,5 @@
 -- What the parts of an answer give together.
-use Rattle.std.proofs.Common.{◌≡◌, ℕ, ◌<◌, ◌≤◌, ◌⊎◌, inl, inr, List, [], ◌∷◌, ◌++◌, length, take, map, codes, All, Option, Some, None, arith, ap, sym, subst, ◌∙◌, refl, append_assoc, true, false, Bool, if◌then◌else◌, ◌+◌}
+use Rattle.std.proofs.Common.{◌≡◌, ℕ, ◌<◌, ◌≤◌, List, [], ◌∷◌, ◌++◌, length, take, codes, Option, Some, None, arith, ap, sym, subst, ◌∙◌, refl, append_assoc, true, false, Bool, if◌then◌else◌, ◌+◌}
 use Rattle.std.proofs.lemmas.List.{take_all, length-take}
 use Rattle.dv_defs.specs.declared.faults.Fault.{Fault}
 use Rattle.dv_defs.specs.declared.image.Image.{Image}
@@ -8,7 +8,6 @@ use Rattle.dv_defs.specs.declared.run.Entry.{Entry}
 use Rattle.dv_defs.specs.Accepting.{AreImageFaults}
 use Rattle.dv_machine.specs.Outcomes.{usual}
 use Rattle.dv_top.specs.declared.instruction.Instruction.{Instruction}
-use Rattle.dv_top.specs.declared.instruction.Instruction.TheVariants.{Nop, ReturnVoid, Const4, Const16, Move, AddInt, Println}
 use Rattle.dv_io.specs.Io.{after_write}
 use Rattle.dv_top.specs.Answering.{IsReadOf, MayRun, IsPrinted, IsPartlyPrinted}
 use Rattle.dv_top.specs.Image.{IsLinked, image_of}
@@ -17,24 +16,11 @@ use Rattle.dv_top.specs.Words.{class_to_run}
 use Rattle.dv_top.specs.Printing.{main_fault_line, main_fault_text}
 use Rattle.dv_top.specs.Program.{IsImageOf, HasMain, HasRun, main_method, faults_of, faults_from, fault_unless, is_return, reads_ints, ints_after, no_ints, printed_text, status_by}
 use Rattle.dv_defs.specs.Pools.{method_at}
-use Rattle.dv_top.specs.Said.{method_text, four_digits, rule_text, IsSaid, IsSaidOfClass, TooLarge, NotBuilt, Refused, Ran, IsRun, IsBuilt, IsAccepted, IsReply, fault_line, fault_text, too_large, not_built}
-use Rattle.dv_top.specs.Straight.{IsStraight, IsInRange, size_of}
+use Rattle.dv_top.specs.Said.{method_text, four_digits, rule_text, IsSaid, IsSaidOfClass, TooLarge, NotBuilt, Refused, Ran, IsRun, IsBuilt, IsAccepted, fault_line, fault_text, too_large, not_built}
+use Rattle.dv_top.specs.Straight.{IsStraight, size_of}
 use Rattle.dv_top.proofs.BodyLemmas.{each_in_range}
 use Rattle.dv_top.proofs.FaultsFound.{faults_are_found}
 use Rattle.dv_top.proofs.Images.{main_is_found}
-
-in_range_up : (m n : ℕ) (i : Instruction) → m ≤ n → IsInRange m i → IsInRange n i
-in_range_up m n Nop few low = tt
-in_range_up m n ReturnVoid few low = tt
-in_range_up m n (Const4 to value) few low = (omega arith, low.1)
-in_range_up m n (Const16 to value) few low = (omega arith, low.1)
-in_range_up m n (Move to from) few low = (omega arith, omega arith)
-in_range_up m n (AddInt to left right) few low = (omega arith, omega arith, omega arith)
-in_range_up m n (Println from) few low = omega arith
-
--- the registers of a straight method are below 16
-pub in_range_16 : (registers : ℕ) (insns : List Instruction) → registers ≤ 16 → All (λ i. IsInRange registers i) insns → All (λ i. IsInRange 16 i) insns
-in_range_16 registers insns few each = λ k d below. in_range_up registers 16 _ few (each k d below)
 
 pub straight_image : (class text : List ℕ) (registers : ℕ) (insns : List Instruction) (image : Image) → IsStraight class text registers insns → image ≡ image_of class registers insns → IsImageOf class registers insns image
 straight_image class text registers insns image s is = record { not_object = s.not_object; not_console = s.not_console; few = s.few; in_range = each_in_range registers insns s.lines s.each; main = s.main; is = is }

@@ -1,13 +1,12 @@
 -- The instructions of a main method, read back one after another.
 use Rattle.std.proofs.Common.{◌≡◌, ℕ, ◌+◌, ◌<◌, ◌≤◌, List, [], ◌∷◌, ◌++◌, length, take, drop, get_or, suc, flat_map, sum_by, All, Option, Some, None, arith, ap, sym, subst, ◌∙◌, refl, length-append, length-drop}
 use Rattle.std.proofs.Math.Seq.{take-suc, take-length}
-use Rattle.std.proofs.lemmas.List.Sums.{sum_by-cons}
 use Rattle.dv_defs.specs.declared.image.Image.{Image}
 use Rattle.dv_top.specs.declared.instruction.Instruction.{Instruction}
 use Rattle.dv_top.specs.declared.instruction.Instruction.TheVariants.{Nop, ReturnVoid, Const4, Const16, Move, AddInt, Println}
-use Rattle.dv_top.specs.Assembly.{units_of, address_of, insn_of}
+use Rattle.dv_top.specs.Assembly.{units_of, address_of}
 use Rattle.dv_top.specs.Decoding.{StandsAt}
-use Rattle.dv_top.specs.Program.{HasMain, IsImageOf}
+use Rattle.dv_top.specs.Program.{HasMain}
 use Rattle.dv_top.specs.Straight.{IsInRange, size_of}
 use Rattle.dv_top.proofs.AssemblyLemmas.{spelled_units, units_at, units_from, next_address, length-units, length-units_of}
 

@@ -1,14 +1,12 @@
 -- The faults of a straight image are those that one pass over its instructions finds.
-use Rattle.std.proofs.Common.{◌≡◌, ℕ, ◌+◌, ◌<◌, ◌≤◌, zero, suc, ◌||◌, Bool, true, false, List, [], ◌∷◌, ◌++◌, length, get_or, take, Option, Some, None, ap, sym, ◌∙◌, refl, subst, arith, append-nil, sum_by}
+use Rattle.std.proofs.Common.{◌≡◌, ℕ, ◌+◌, ◌<◌, ◌≤◌, zero, suc, ◌||◌, Bool, true, false, List, [], ◌∷◌, ◌++◌, length, get_or, take, Option, Some, ap, sym, ◌∙◌, refl, subst, arith, append-nil}
 use Rattle.std.specs.Prelude.{replicate}
 use Rattle.std.specs.List.{list_any}
-use Rattle.std.proofs.lemmas.List.{length-replicate}
 use Rattle.std.proofs.lemmas.List.Folds.{list_any-append}
 use Rattle.std.proofs.lemmas.List.Sums.{sum_by-cons}
 use Rattle.dv_defs.specs.declared.faults.Fault.{Fault}
 use Rattle.dv_defs.specs.declared.image.Image.{Image}
-use Rattle.dv_defs.specs.declared.typing.RegType.TheVariants as ty
-use Rattle.dv_defs.specs.Accepting.{Place, FaultsBy, FaultsOf, AreFaults, AreImageFaults, static_places, typing_faults}
+use Rattle.dv_defs.specs.Accepting.{Place, FaultsBy, FaultsOf, AreImageFaults, typing_faults}
 use Rattle.dv_defs.specs.Demands.{is_int}
 use Rattle.dv_defs.specs.Flow.{Typing, IsLeast, handlers_at, handlers_in}
 use Rattle.dv_defs.specs.Op.{Code, code_at}
@@ -22,7 +20,7 @@ use Rattle.dv_top.specs.Laws.{FaultsAreFound}
 use Rattle.dv_top.specs.Program.{IsImageOf, op_of, is_return, no_ints, holds_int, faults_of}
 use Rattle.dv_top.proofs.Fetching.{fetched_of}
 use Rattle.dv_top.proofs.Images.{main_code, code_of_main, no_code_of}
-use Rattle.dv_top.proofs.LeastTyping.{IsStraight, is_closed, is_least}
+use Rattle.dv_top.proofs.LeastTyping.{IsStraight, is_least}
 use Rattle.dv_top.proofs.States.{entry_types, entry_type_at, entry_is_simple}
 use Rattle.dv_top.proofs.StaticRules.{no_places_of, not_empty}
 use Rattle.dv_top.proofs.StraightFaults.{Holds, same_faults, faults_along}

@@ -13,7 +13,7 @@ use Rattle.dv_top.specs.Straight.{IsInRange}
 use Rattle.dv_top.specs.Assembly.{body_of}
 use Rattle.dv_top.specs.Image.{image_of}
 use Rattle.dv_top.specs.Laws.{MainIsFound}
-use Rattle.dv_top.specs.Program.{IsImageOf, main_method, println_method}
+use Rattle.dv_top.specs.Program.{main_method, println_method}
 use Rattle.dv_top.specs.Said.{main_of, is_main}
 use Rattle.dv_top.proofs.Tiles.{tiles_from, tiling_is}
 

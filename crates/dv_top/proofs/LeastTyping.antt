@@ -1,10 +1,8 @@
 -- The assignment along straight instructions is the least.
-use Rattle.std.proofs.Common.{◌≡◌, ℕ, ◌+◌, ◌<◌, ◌≤◌, zero, suc, Bool, true, false, List, [], ◌∷◌, length, All, Option, Some, None, ap, sym, ◌∙◌, refl, subst, arith, nat_eq}
-use Rattle.std.specs.List.{list_any}
+use Rattle.std.proofs.Common.{◌≡◌, ℕ, ◌+◌, Bool, true, false, List, [], ◌∷◌, All, Option, Some, ap, sym, ◌∙◌, refl, subst, arith, nat_eq}
 use Rattle.dv_defs.specs.declared.image.Image.{Image}
 use Rattle.dv_defs.specs.declared.typing.RegState.{RegState}
-use Rattle.dv_defs.specs.Flow.{Typing, Leads, Flows, IsFlowClosed, IsUnderAt, IsLeast, handlers_at, handlers_in, targets}
-use Rattle.dv_defs.specs.Op.{Code, code_at}
+use Rattle.dv_defs.specs.Flow.{Typing, Leads, Flows, IsFlowClosed, IsUnderAt, IsLeast, handlers_at}
 use Rattle.dv_defs.specs.Pools.{Method}
 use Rattle.dv_defs.specs.RegTypes.{Types, IsBelow}
 use Rattle.dv_defs.specs.Statics.{At, fetch}
@@ -13,8 +11,8 @@ use Rattle.dv_top.specs.declared.instruction.Instruction.{Instruction}
 use Rattle.dv_top.specs.Straight.{IsInRange, size_of}
 use Rattle.dv_top.specs.Program.{main_method, op_of, is_return}
 use Rattle.dv_top.proofs.Images.{main_code}
-use Rattle.dv_top.proofs.States.{state_of, types_after, entry_types, AreSimple, still_simple, out_is_above, is_below_itself, goes_under, entry_is, entry_is_simple}
-use Rattle.dv_top.proofs.StraightTyping.{typing_from, typing_of, insn_at, AreFetched, InRange, rest_in_range, first_in_range, state_here, Returns, Agrees, chosen, targets_by, targets_are, are_same, closed_from}
+use Rattle.dv_top.proofs.States.{state_of, types_after, entry_types, AreSimple, still_simple, out_is_above, is_below_itself, goes_under, entry_is_simple}
+use Rattle.dv_top.proofs.StraightTyping.{typing_from, typing_of, insn_at, AreFetched, InRange, rest_in_range, first_in_range, state_here, Returns, chosen, targets_by, targets_are, are_same, closed_from}
 
 -- a state leads to the first of these instructions, if there is one
 abbrev LeadsTo : Image → Typing → RegState → ℕ → List Instruction → Type 0

@@ -1,5 +1,5 @@
 -- An instruction is read back from its operands.
-use Rattle.std.proofs.Common.{◌≡◌, ℕ, get_or, Option, Some, None, ap, sym, ◌∙◌, refl}
+use Rattle.std.proofs.Common.{◌≡◌, get_or, Option, Some, None, ap, ◌∙◌, refl}
 use Rattle.dv_defs.specs.declared.code.Insn.{Insn}
 use Rattle.dv_top.specs.declared.instruction.Instruction.{Instruction}
 use Rattle.dv_top.specs.declared.instruction.Instruction.TheVariants as insn

@@ -1,23 +1,18 @@
 -- One thing is said of the words, the bytes and the log.
-use Rattle.std.proofs.Common.{◌≡◌, ℕ, ◌<◌, ◌≤◌, List, [], ◌∷◌, length, Option, Some, None, arith, ap, sym, subst, ◌∙◌, refl}
+use Rattle.std.proofs.Common.{◌≡◌, ℕ, ◌<◌, ◌≤◌, List, [], ◌∷◌, Option, Some, arith, ap, sym, subst, ◌∙◌}
 use Rattle.dv_defs.specs.declared.faults.Fault.{Fault}
 use Rattle.dv_defs.specs.declared.image.Image.{Image}
-use Rattle.dv_defs.specs.declared.run.Ending.{Ending}
 use Rattle.dv_defs.specs.declared.run.Entry.{Entry}
 use Rattle.dv_defs.specs.Accepting.{AreImageFaults}
-use Rattle.dv_defs.specs.Pools.{Method}
 use Rattle.dv_machine.specs.Final.{final_text}
 use Rattle.dv_machine.specs.Outcomes.{usual}
 use Rattle.dv_machine.specs.Replaying.{Replayed, Stands, replay}
 use Rattle.dv_machine.specs.Running.{ending_of}
 use Rattle.dv_machine.specs.State.{Machine}
-use Rattle.dv_top.specs.declared.instruction.Instruction.{Instruction}
 use Rattle.dv_top.specs.Image.{IsLinked, image_of}
-use Rattle.dv_top.specs.Program.{faults_of}
-use Rattle.dv_top.specs.Said.{IsSaid, Unread, Asked, IsSaidOfClass, TooLarge, NotBuilt, Refused, Ran, IsRun, IsBuilt, IsAccepted, status_of, fault_text, main_of}
-use Rattle.dv_top.specs.Straight.{IsStraight}
+use Rattle.dv_top.specs.Said.{IsSaid, Unread, Asked, IsSaidOfClass, TooLarge, NotBuilt, Refused, Ran, IsRun, status_of, fault_text, main_of}
 use Rattle.dv_top.specs.Words.{class_to_run}
-use Rattle.dv_top.proofs.AnsweringLemmas.{straight_image}
+use Rattle.dv_top.proofs.AnsweringLemmas.{straight_image, no_class}
 use Rattle.dv_top.proofs.BodyLemmas.{one_straight}
 use Rattle.dv_top.proofs.FaultsFound.{faults_are_found}
 
@@ -87,9 +82,6 @@ said_once_of class bytes log s t a b (Ran image accepted r) (Ran other again q) 
     let same = linked_once class bytes image other accepted.built.linked again.built.linked in
     let P : Image → Type 0 = λ i. IsRun class i log s a in
     run_once class other log s t a b (subst P same r) q
-
-no_class : (asked : Option (List ℕ)) (class : List ℕ) → asked ≡ None → asked ≡ Some class → ⊥
-no_class asked class none some = cc
 
 pub said_once : (words : List (List ℕ)) (bytes : List ℕ) (log : List Entry) (s t : ℕ) (a b : List ℕ) → IsSaid words bytes log s a → IsSaid words bytes log t b → Same s a t b
 said_once words bytes log s t a b (Unread none r) (Unread _ q) = (r.0 ∙ sym q.0, r.1 ∙ sym q.1)

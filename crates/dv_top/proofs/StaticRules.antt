@@ -1,24 +1,21 @@
 -- A straight image breaks no static rule.
-use Rattle.std.proofs.Common.{◌≡◌, ℕ, ◌+◌, ◌<◌, ◌≤◌, zero, suc, ◌&&◌, Bool, true, false, List, [], ◌∷◌, ◌++◌, length, get_or, All, Option, Some, None, Result, Ok, arith, ap, sym, ◌∙◌, refl, subst, flat_map, length-append}
+use Rattle.std.proofs.Common.{◌≡◌, ℕ, ◌+◌, ◌<◌, ◌≤◌, suc, Bool, true, false, List, [], ◌∷◌, ◌++◌, length, All, Some, arith, ap, sym, ◌∙◌, refl, subst, flat_map, length-append}
 use Rattle.std.specs.Prelude.{nat_le}
 use Rattle.std.proofs.lemmas.Bool.Decides.{nat_tests}
 use Rattle.dv_defs.specs.declared.image.Image.{Image}
 use Rattle.dv_defs.specs.Accepting.{Place, static_places, places_by, places, place_unless, no_units, sorted, first_places, tile_places, try_places}
 use Rattle.dv_defs.specs.Op.{Code, code_at}
-use Rattle.dv_defs.specs.Op as defs
-use Rattle.dv_defs.specs.Statics.{arg_words, insn_rules}
-use Rattle.dv_defs.specs.Tiling.{Tile, tiling, tile_at, begins_insn}
+use Rattle.dv_defs.specs.Statics.{insn_rules}
 use Rattle.dv_top.specs.declared.instruction.Instruction.{Instruction}
 use Rattle.dv_top.specs.declared.instruction.Instruction.TheVariants.{ReturnVoid}
 use Rattle.dv_top.specs.Straight.{IsInRange, IsMain, size_of}
 use Rattle.dv_top.specs.Assembly.{insn_of, units_of}
 use Rattle.dv_top.specs.Image.{image_of}
 use Rattle.dv_top.specs.Laws.{StaticRulesHold}
-use Rattle.dv_top.specs.Program.{IsImageOf, op_of, main_method}
 use Rattle.dv_top.proofs.AssemblyLemmas.{length-units_of}
-use Rattle.dv_top.proofs.Fetching.{IsPooled, op_is, no_rules, pooled_at, first_at, size_positive}
+use Rattle.dv_top.proofs.Fetching.{IsPooled, op_is, no_rules, pooled_at, size_positive}
 use Rattle.dv_top.proofs.Images.{main_code, code_of_main}
-use Rattle.dv_top.proofs.Tiles.{tile_of, tiles_from, tiling_is}
+use Rattle.dv_top.proofs.Tiles.{tiles_from, tiling_is}
 
 -- ---- the parts
 

@@ -1,5 +1,5 @@
 -- The faults by the assignment along straight instructions, and by each other least one.
-use Rattle.std.proofs.Common.{◌≡◌, ℕ, ◌+◌, ◌<◌, ◌≤◌, zero, suc, inl, inr, ◌&&◌, not, Bool, true, false, List, [], ◌∷◌, ◌++◌, length, get_or, Option, Some, None, is_some, ap, sym, ◌∙◌, refl, subst, arith, if◌then◌else◌}
+use Rattle.std.proofs.Common.{◌≡◌, ℕ, ◌+◌, ◌<◌, ◌≤◌, inl, inr, ◌&&◌, not, Bool, true, false, List, [], ◌∷◌, ◌++◌, length, Option, Some, None, is_some, ap, sym, ◌∙◌, refl, arith, if◌then◌else◌}
 use Rattle.std.proofs.Math.ListN.{set}
 use Rattle.std.proofs.lemmas.Bool.{cases_eq}
 use Rattle.std.proofs.lemmas.List.{length-set, get_or-set_same, get_or-set_other}
@@ -19,7 +19,7 @@ use Rattle.dv_defs.specs.Transfer.{copied_int, const_type}
 use Rattle.dv_top.specs.declared.instruction.Instruction.{Instruction}
 use Rattle.dv_top.specs.declared.instruction.Instruction.TheVariants.{Nop, ReturnVoid, Const4, Const16, Move, AddInt, Println}
 use Rattle.dv_top.specs.Straight.{IsInRange, size_of}
-use Rattle.dv_top.specs.Program.{main_method, op_of, is_return, holds_int, reads_ints, ints_after, fault_unless, faults_from}
+use Rattle.dv_top.specs.Program.{main_method, is_return, holds_int, reads_ints, ints_after, fault_unless, faults_from}
 use Rattle.dv_top.proofs.Fetching.{size_positive}
 use Rattle.dv_top.proofs.Images.{main_code}
 use Rattle.dv_top.proofs.SimpleTypes.{same_int, same_truth, const_is_int, copied_is_int}

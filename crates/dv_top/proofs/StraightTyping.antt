@@ -1,23 +1,21 @@
 -- The assignment that gives each straight instruction, up to the first return-void, the state that flows to it: it is
 -- flow-closed, and under each other such assignment.
-use Rattle.std.proofs.Common.{◌≡◌, ℕ, ◌+◌, ◌<◌, ◌≤◌, zero, suc, ◌||◌, Bool, true, false, List, [], ◌∷◌, length, get_or, All, Option, Some, None, ap, sym, ◌∙◌, refl, subst, arith, nat_eq, if◌then◌else◌}
+use Rattle.std.proofs.Common.{◌≡◌, ℕ, ◌+◌, ◌<◌, ◌≤◌, zero, suc, ◌||◌, Bool, true, false, List, [], ◌∷◌, All, Option, Some, None, ap, sym, ◌∙◌, refl, subst, arith, nat_eq, if◌then◌else◌}
 use Rattle.std.specs.List.{list_any}
 use Rattle.std.proofs.lemmas.Bool.Decides.{nat_tests}
 use Rattle.dv_defs.specs.declared.image.Image.{Image}
 use Rattle.dv_defs.specs.declared.typing.RegState.{RegState}
-use Rattle.dv_defs.specs.Flow.{Typing, Catcher, Leads, Flows, IsFlowClosed, IsUnderAt, IsLeast, handlers_at, targets, caught_state, thrown_at}
-use Rattle.dv_defs.specs.Op.{Code}
+use Rattle.dv_defs.specs.Flow.{Typing, Catcher, Leads, Flows, handlers_at, targets, caught_state, thrown_at}
 use Rattle.dv_defs.specs.Pools.{Method}
 use Rattle.dv_defs.specs.RegTypes.{Types, IsBelow}
 use Rattle.dv_defs.specs.Statics.{At, fetch}
-use Rattle.dv_defs.specs.Transfer.{out, entry_state}
+use Rattle.dv_defs.specs.Transfer.{out}
 use Rattle.dv_top.specs.declared.instruction.Instruction.{Instruction}
 use Rattle.dv_top.specs.declared.instruction.Instruction.TheVariants.{Nop, ReturnVoid, Const4, Const16, Move, AddInt, Println}
 use Rattle.dv_top.specs.Straight.{IsInRange, size_of}
-use Rattle.dv_top.specs.Program.{main_method, op_of, is_return}
+use Rattle.dv_top.specs.Program.{op_of, is_return}
 use Rattle.dv_top.proofs.Fetching.{size_positive}
-use Rattle.dv_top.proofs.Images.{main_code}
-use Rattle.dv_top.proofs.States.{state_of, types_after, entry_types, AreSimple, still_simple, out_is, out_is_above, is_below_itself, goes_under, entry_is, entry_is_simple}
+use Rattle.dv_top.proofs.States.{state_of, types_after, entry_types, AreSimple, still_simple, out_is, is_below_itself}
 
 -- ---- the assignment
 

@@ -1,5 +1,5 @@
 -- What the verifier and the machine of straight methods go by.
-use Rattle.std.specs.Prelude.{◌≡◌, ◌≢◌, ℕ, ◌+◌, ◌<◌, ◌≤◌, Bool, true, false, ◌&&◌, List, [], ◌∷◌, ◌++◌, length, replicate, sum_by, All, ℤ, pos, Option, Some, None, Ok, slice_index_or, slice_set, decimal, codes, if◌then◌else◌}
+use Rattle.std.specs.Prelude.{◌≡◌, ◌≢◌, ℕ, ◌+◌, ◌<◌, ◌≤◌, Bool, true, false, ◌&&◌, List, [], ◌∷◌, ◌++◌, length, replicate, All, ℤ, pos, Some, None, Ok, slice_index_or, slice_set, decimal, codes, if◌then◌else◌}
 use Rattle.dv_defs.specs.declared.faults.Fault.{Fault}
 use Rattle.dv_defs.specs.declared.faults.Rule.TheVariants as rule
 use Rattle.dv_defs.specs.declared.image.Image.{Image}
@@ -20,7 +20,7 @@ use Rattle.dv_machine.specs.Final.{newline, closed, final_text}
 use Rattle.dv_machine.specs.Opening.{opening}
 use Rattle.dv_machine.specs.Replaying.{replay, Stands}
 use Rattle.dv_machine.specs.Running.{ending_of}
-use Rattle.dv_machine.specs.State.{Machine, Shared, reg_at, read_int, with_output}
+use Rattle.dv_machine.specs.State.{Machine, reg_at, read_int, with_output}
 use Rattle.dv_top.specs.declared.instruction.Instruction.{Instruction}
 use Rattle.dv_top.specs.declared.instruction.Instruction.TheVariants as insn
 use Rattle.dv_top.specs.Assembly.{body_of}

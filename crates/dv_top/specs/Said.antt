@@ -1,5 +1,5 @@
 -- What is said of the words, the bytes of the text and the log: the status of the call, and what is printed.
-use Rattle.std.specs.Prelude.{◌≡◌, ℕ, ◌+◌, ◌<◌, ◌≤◌, ◌/◌, ◌%◌, Bool, false, ◌&&◌, List, [], ◌∷◌, ◌++◌, length, flat_map, map, Option, Some, None, is_some, slice_get, bytes_eq, decimal, codes}
+use Rattle.std.specs.Prelude.{◌≡◌, ℕ, ◌<◌, ◌≤◌, ◌/◌, ◌%◌, Bool, false, ◌&&◌, List, [], ◌∷◌, ◌++◌, length, map, Option, Some, None, is_some, slice_get, bytes_eq, decimal, codes}
 use Rattle.std.specs.Fmt.{digit_glyph}
 use Rattle.dv_defs.specs.declared.faults.Fault.{Fault}
 use Rattle.dv_defs.specs.declared.faults.Rule.{Rule}

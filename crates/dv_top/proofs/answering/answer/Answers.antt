@@ -1,4 +1,3 @@
-use Rattle.std.proofs.Common.{◌≡◌, ◌∙◌, ap, sym}
 use Rattle.dv_top.proofs.AnsweringLemmas.{printed, partly_printed}
 use Rattle.dv_top.proofs.answering.answer.Goals as goal
 

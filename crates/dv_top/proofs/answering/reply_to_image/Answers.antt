@@ -5,7 +5,8 @@ use Rattle.dv_top.specs.declared.instruction.Instruction.{Instruction}
 use Rattle.dv_top.specs.Printing.{main_fault_text}
 use Rattle.dv_top.specs.Program.{IsImageOf, faults_of}
 use Rattle.dv_top.specs.Straight.{IsInRange, IsMain, size_of}
-use Rattle.dv_top.proofs.AnsweringLemmas.{in_range_16, has_main, clean_image, said_of_run, said_of_refusal}
+use Rattle.dv_top.proofs.AnsweringLemmas.{has_main, clean_image, said_of_run, said_of_refusal}
+use Rattle.dv_top.proofs.RunEngine.{each_in_sixteen}
 use Rattle.dv_top.proofs.answering.reply_to_image.Goals as goal
 
 pub verify-requires-clause-in_range : goal.verify-requires-clause-in_range
@@ -13,7 +14,7 @@ verify-requires-clause-in_range c =
     let (registers, insns, p) = c.requires.program in
     let same : c.deref.result.now ≡ insns = c.deref.ensures.value ∙ c.in_ok-insns.ensures insns (has_main c.args.class.now registers insns c.args.image.now p) in
     let P : List Instruction → Type 0 = λ is. All (λ i. IsInRange 16 i) is in
-    subst P (sym same) (in_range_16 registers insns p.few p.in_range)
+    subst P (sym same) (each_in_sixteen c.args.class.now registers insns c.args.image.now p)
 
 pub verify-requires-clause-short : goal.verify-requires-clause-short
 verify-requires-clause-short c =
@@ -33,7 +34,7 @@ reply_of_run-requires-clause-in_range c =
     let (registers, insns, p) = c.requires.program in
     let same : c.deref-then-is_empty.result.now ≡ insns = c.deref-then-is_empty.ensures.value ∙ c.in_ok-insns.ensures insns (has_main c.args.class.now registers insns c.args.image.now p) in
     let P : List Instruction → Type 0 = λ is. All (λ i. IsInRange 16 i) is in
-    subst P (sym same) (in_range_16 registers insns p.few p.in_range)
+    subst P (sym same) (each_in_sixteen c.args.class.now registers insns c.args.image.now p)
 
 pub returns-then-is_empty-clause-said : goal.returns-then-is_empty-clause-said
 returns-then-is_empty-clause-said c bytes built =

@@ -1,4 +1,4 @@
-use Rattle.std.proofs.Common.{◌≡◌, ◌∙◌, ap, sym}
+use Rattle.std.proofs.Common.{ap}
 use Rattle.std.proofs.lemmas.Result.{IfOk-weaker}
 use Rattle.dv_top.specs.Status.{code_of}
 use Rattle.dv_top.proofs.AnsweringLemmas.{linked_program, built_of_read, said_too_large, said_not_built}

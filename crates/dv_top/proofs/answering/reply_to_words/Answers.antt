@@ -1,4 +1,4 @@
-use Rattle.std.proofs.Common.{◌≡◌, ◌∙◌, ap, sym}
+use Rattle.std.proofs.Common.{◌∙◌, ap, sym}
 use Rattle.dv_top.specs.Said.{Asked}
 use Rattle.dv_top.specs.Words.{class_of}
 use Rattle.dv_top.proofs.AnsweringLemmas.{may_run, no_class}

@@ -1,4 +1,3 @@
-use Rattle.std.proofs.Common.{subst, sym}
 use Rattle.dv_top.proofs.DecodingLemmas.{next, pushed, never, all_found}
 use Rattle.dv_top.proofs.decoding.instructions.Goals as goal
 

@@ -1,4 +1,4 @@
-use Rattle.std.proofs.Common.{◌≡◌, ℕ, List, ◌++◌, ap, ◌∙◌, sym}
+use Rattle.std.proofs.Common.{◌++◌, ap, ◌∙◌}
 use Rattle.dv_machine.specs.Final.{newline}
 use Rattle.dv_top.proofs.PrintingLemmas.{ends_empty, ends_whole, ends_broken, closed_whole, closed_broken}
 use Rattle.dv_top.proofs.printing.closed.Goals as goal
