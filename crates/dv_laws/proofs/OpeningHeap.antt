@@ -1,9 +1,9 @@
 -- The heap in which a run begins is in order.
-use Rattle.std.proofs.Common.{◌≡◌, ◌≢◌, ◌⊎◌, inl, inr, ℕ, zero, suc, ◌+◌, ◌<◌, ◌≤◌, List, [], ◌∷◌, ◌++◌, length, Bool, true, false, ◌&&◌, ◌||◌, not, Option, Some, None, refl, sym, ap, ◌∙◌, subst, arith}
-use Rattle.std.specs.Prelude.{ℤ, pos, negsuc, slice_get, slice_index_or, All, bytes_eq, codes, nat_eq, nat_lt}
+use Rattle.std.proofs.Common.{◌≡◌, ◌⊎◌, inl, inr, ℕ, zero, suc, ◌+◌, ◌<◌, List, [], ◌∷◌, length, Bool, true, false, ◌&&◌, ◌||◌, not, Option, Some, None, refl, sym, ap, ◌∙◌, subst, arith}
+use Rattle.std.specs.Prelude.{ℤ, pos, negsuc, slice_get, slice_index_or, bytes_eq, codes, nat_eq, nat_lt}
 use Rattle.std.proofs.lemmas.Bool.{and_parts, or_cases, eqb-true}
 use Rattle.std.proofs.lemmas.Option.{slice_get_within}
-use Rattle.std.proofs.lemmas.List.Elements.{All-nil, All-get_or}
+use Rattle.std.proofs.lemmas.List.Elements.{All-nil}
 use Rattle.std.proofs.lemmas.Slice.Eq.{bytes_eq-Decides}
 use Rattle.dv_defs.specs.declared.names.Base.{Base}
 use Rattle.dv_defs.specs.declared.names.Base.TheVariants as base
@@ -13,31 +13,29 @@ use Rattle.dv_defs.specs.declared.image.FieldInfo.{FieldInfo}
 use Rattle.dv_defs.specs.declared.class.Init.{Init}
 use Rattle.dv_defs.specs.declared.class.Init.TheVariants as init
 use Rattle.dv_defs.specs.declared.flags.Flag.TheVariants as flag
-use Rattle.dv_defs.specs.declared.run.Value.{Value}
 use Rattle.dv_defs.specs.declared.run.Value.TheVariants as v
 use Rattle.dv_defs.specs.declared.run.Limits.{Limits}
-use Rattle.dv_defs.specs.declared.machine.Kind.{Kind}
 use Rattle.dv_defs.specs.declared.machine.Kind.TheVariants as kind
 use Rattle.dv_defs.specs.declared.typing.RegType.{RegType}
 use Rattle.dv_defs.specs.declared.typing.RegType.TheVariants as ty
 use Rattle.dv_defs.specs.Flags.{has_flag}
-use Rattle.dv_defs.specs.Field.{FieldValue, value_fits, may_stand, number_fits}
-use Rattle.dv_defs.specs.Names.{object_name, string_name, class_name, thread_name, stream_name, system_name}
-use Rattle.dv_defs.specs.Types.{of_class, is_long, is_reference, is_class, base_is_named, base_eq, component}
-use Rattle.dv_defs.specs.Pools.{Method, Field, field_at, with_field_info, is_static_field, name_at, class_named, class_type}
+use Rattle.dv_defs.specs.Field.{may_stand, number_fits}
+use Rattle.dv_defs.specs.Names.{object_name, string_name, thread_name, stream_name, system_name}
+use Rattle.dv_defs.specs.Types.{of_class, is_long, is_reference, is_class, base_is_named, component}
+use Rattle.dv_defs.specs.Pools.{Method, Field, field_at, with_field_info, is_static_field, name_at}
 use Rattle.dv_defs.specs.Order.{fits}
 use Rattle.dv_defs.specs.RegTypes.{Types, type_at, reg_types, single_type}
-use Rattle.dv_defs.specs.Heap.{Heap, Cells, Got, kind_of, kind_type, class_cells, fresh_cells, grown, newest, intern, with_static, length_of, cells_at}
+use Rattle.dv_defs.specs.Heap.{Heap, Cells, Got, kind_of, class_cells, fresh_cells, newest, intern, with_static}
 use Rattle.dv_defs.specs.Numbers.{lo_of, hi_of}
 use Rattle.dv_machine.specs.Unwinding.{number_named}
 use Rattle.dv_machine.specs.Local.{const_value}
 use Rattle.dv_machine.specs.Opening.{made, object_made, number_cells, first_cells, field_cells, string_of, interned_here, with_string, with_strings, is_out, with_out, empty_heap, takes_array, array_made, counted_from, opening_heap}
-use Rattle.dv_machine.specs.Conforming.{IsObject, IsOf, Fits, Conforms, is_string_or_class, is_proper}
-use Rattle.dv_machine.specs.WellTyped.{Typings, nobody, element_types, cell_types, CellsFit, HeapFine}
+use Rattle.dv_machine.specs.Conforming.{IsOf, Fits, Conforms, is_string_or_class}
+use Rattle.dv_machine.specs.WellTyped.{Typings, nobody, element_types, CellsFit, HeapFine}
 use Rattle.dv_machine.specs.Accepted.{Accepted, IsNamed}
 use Rattle.dv_machine.specs.Premises.{KeepsKinds}
 use Rattle.dv_machine.specs.StepLaws.{IsAdded}
-use Rattle.dv_laws.proofs.GrowthLists.{no, nothing, same_some}
+use Rattle.dv_laws.proofs.GrowthLists.{no, nothing}
 use Rattle.dv_laws.proofs.HeapCells.{reg_cells, fresh_fit, class_are_cells, array_length, fit_grown, fit_same}
 use Rattle.dv_laws.proofs.HeapAdded.{new_kind, new_cells, is_added, bare_fits}
 use Rattle.dv_laws.proofs.HeapInterned.{string_is_interned}

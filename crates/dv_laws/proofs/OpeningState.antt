@@ -1,11 +1,10 @@
 -- The state in which a run begins is well typed.
-use Rattle.std.proofs.Common.{◌≡◌, ◌≢◌, ◌⊎◌, inl, inr, ℕ, zero, suc, ◌+◌, ◌<◌, ◌≤◌, List, [], ◌∷◌, ◌++◌, length, Bool, true, false, ◌&&◌, not, Option, Some, None, refl, sym, ap, ◌∙◌, subst, arith}
-use Rattle.std.specs.Prelude.{slice_get, slice_index_or, All, bytes_eq, codes, nat_eq}
-use Rattle.std.proofs.lemmas.Bool.{and_parts, cases_eq}
+use Rattle.std.proofs.Common.{◌≡◌, ◌⊎◌, inl, inr, ℕ, zero, suc, ◌+◌, ◌<◌, ◌≤◌, List, [], ◌∷◌, length, Bool, true, false, ◌&&◌, Option, Some, None, refl, sym, ap, ◌∙◌, subst, arith}
+use Rattle.std.specs.Prelude.{slice_get, All, bytes_eq, nat_eq}
+use Rattle.std.proofs.lemmas.Bool.{and_parts}
 use Rattle.std.proofs.lemmas.List.{length-set}
 use Rattle.std.proofs.lemmas.List.Elements.{All-nil, All-cons}
 use Rattle.dv_defs.specs.declared.names.Ty.{Ty}
-use Rattle.dv_defs.specs.declared.names.Proto.{Proto}
 use Rattle.dv_defs.specs.declared.image.Image.{Image}
 use Rattle.dv_defs.specs.declared.image.ClassInfo.{ClassInfo}
 use Rattle.dv_defs.specs.declared.image.MethodInfo.{MethodInfo}
@@ -15,31 +14,29 @@ use Rattle.dv_defs.specs.declared.run.Value.TheVariants as v
 use Rattle.dv_defs.specs.declared.run.Limits.{Limits}
 use Rattle.dv_defs.specs.declared.machine.Kind.TheVariants as kind
 use Rattle.dv_defs.specs.declared.machine.Frame.{Frame}
-use Rattle.dv_defs.specs.declared.machine.Level.{Level}
 use Rattle.dv_defs.specs.declared.machine.Level.TheVariants as level
 use Rattle.dv_defs.specs.declared.machine.End.TheVariants as end
-use Rattle.dv_defs.specs.declared.typing.RegType.TheVariants as ty
 use Rattle.dv_defs.specs.Names.{string_name, thread_name, main_name, clinit_name}
 use Rattle.dv_defs.specs.Types.{of_class, words_of_all}
-use Rattle.dv_defs.specs.Statics.{receiver_words, arg_words}
-use Rattle.dv_defs.specs.Pools.{Method, method_at, with_info, pick, is_static, is_initialiser, initialiser, no_arguments}
+use Rattle.dv_defs.specs.Statics.{arg_words}
+use Rattle.dv_defs.specs.Pools.{Method, with_info, pick, is_initialiser, initialiser}
 use Rattle.dv_defs.specs.Op.{Code, code_at}
-use Rattle.dv_defs.specs.RegTypes.{Types, all_types}
-use Rattle.dv_defs.specs.Transfer.{arg_types, begins_uninitialised}
+use Rattle.dv_defs.specs.RegTypes.{all_types}
+use Rattle.dv_defs.specs.Transfer.{arg_types}
 use Rattle.dv_defs.specs.Heap.{Heap, kind_of, newest}
-use Rattle.dv_defs.specs.Classes.{ClassState, Fresh, InProgress, Ready, Classes, state_at, with_state}
-use Rattle.dv_machine.specs.State.{Thread, Shared, Machine}
+use Rattle.dv_defs.specs.Classes.{ClassState, Fresh, InProgress, Ready, state_at}
+use Rattle.dv_machine.specs.State.{Thread}
 use Rattle.dv_machine.specs.Calls.{entered_frame}
 use Rattle.dv_machine.specs.Unwinding.{is_opening}
-use Rattle.dv_machine.specs.Opening.{takes_array, main_args, is_born, first_states, opening_levels, opening_states, opened, opening, opening_heap}
-use Rattle.dv_machine.specs.Conforming.{IsOf, Fits, IsGood, RefFine, RefsFine}
-use Rattle.dv_machine.specs.WellTyped.{Typings, own_of, IsNoInitialiser, IsPlaced, CodeFine, BelowRecord, StackFine, ThreadFine, WaitFine, HeldFine, records, owed, levels_in, WellTyped}
+use Rattle.dv_machine.specs.Opening.{takes_array, main_args, is_born, first_states, opening_levels, opening_states, opened, opening_heap}
+use Rattle.dv_machine.specs.Conforming.{IsOf, IsGood, RefFine, RefsFine}
+use Rattle.dv_machine.specs.WellTyped.{Typings, own_of, IsNoInitialiser, StackFine, ThreadFine, records, owed, levels_in, WellTyped}
 use Rattle.dv_machine.specs.Accepted.{Accepted}
 use Rattle.dv_machine.specs.StepLaws.{IsMain, OpeningIsWellTyped}
-use Rattle.dv_laws.proofs.GrowthLists.{no, nothing, same_some, eq_true, all_from}
+use Rattle.dv_laws.proofs.GrowthLists.{no, nothing, same_some, eq_true}
 use Rattle.dv_laws.proofs.CallsEntered.{code_is}
 use Rattle.dv_laws.proofs.RecordsStates.{begun_mine, begun_others}
-use Rattle.dv_laws.proofs.RecordsEntered.{HasCode, code_there, none_good, refs_entered, entered_code, entered_placed}
+use Rattle.dv_laws.proofs.RecordsEntered.{none_good, refs_entered, entered_code, entered_placed}
 use Rattle.dv_laws.proofs.RecordsFine.{static_types, static_begins}
 use Rattle.dv_laws.proofs.RecordsStarted.{one_good, fits_of}
 use Rattle.dv_laws.proofs.FlightRises.{object_there}

@@ -1,5 +1,5 @@
 -- From the laws of the parts of a step: a step of a runnable thread leads to a well-typed state.
-use Rattle.std.proofs.Common.{◌≡◌, ◌⊎◌, inl, inr, ℕ, List, [], ◌∷◌, Bool, true, false, Option, Some, None, refl, sym, ap, ◌∙◌, subst}
+use Rattle.std.proofs.Common.{◌≡◌, ◌⊎◌, inl, inr, ℕ, List, [], ◌∷◌, true, false, Option, Some, None, refl, sym, ◌∙◌, subst}
 use Rattle.std.specs.Prelude.{slice_get}
 use Rattle.std.proofs.lemmas.Bool.{cases_Bool}
 use Rattle.dv_defs.specs.declared.image.Image.{Image}
@@ -10,15 +10,14 @@ use Rattle.dv_defs.specs.declared.machine.End.{End}
 use Rattle.dv_defs.specs.declared.machine.End.TheVariants as end
 use Rattle.dv_defs.specs.declared.typing.RegState.{RegState}
 use Rattle.dv_defs.specs.Pools.{Method, method_at}
-use Rattle.dv_defs.specs.Op.{Op, Invoke, ReturnVoid, Return, Enter, Exit, is_local, is_return, needs}
-use Rattle.dv_defs.specs.Statics.{At, fetch}
-use Rattle.dv_machine.specs.State.{Thread, Machine, Left, Did, Here}
-use Rattle.dv_machine.specs.Step.{act, with_ready, settled, here, no_method, no_frame, step, step_of, step_thread, step_living, step_code, step_at}
+use Rattle.dv_defs.specs.Op.{Op, Invoke, ReturnVoid, Return, Enter, Exit, is_local, is_return}
+use Rattle.dv_defs.specs.Statics.{At}
+use Rattle.dv_machine.specs.State.{Thread, Machine, Here}
+use Rattle.dv_machine.specs.Step.{act, here, no_method, no_frame, step_of, step_thread, step_living, step_code, step_at}
 use Rattle.dv_machine.specs.WellTyped.{Typings, BelowCode, StackFine, ThreadFine, WellTyped}
-use Rattle.dv_machine.specs.Running.{runnable, runnable_thread}
 use Rattle.dv_machine.specs.Premises.{MayStep, IsAt, IsAtRecord, DidFine, HoldsOf}
-use Rattle.dv_machine.specs.StepLaws.{IsInvoke, is_of_calls_or_monitors, LocalStepsAreFine, HeapStepsAreFine, InvokesPush, ReturnsPop, StepsAreSound}
-use Rattle.dv_laws.proofs.GrowthLists.{no, same_some}
+use Rattle.dv_machine.specs.StepLaws.{IsInvoke, is_of_calls_or_monitors, HeapStepsAreFine, InvokesPush, StepsAreSound}
+use Rattle.dv_laws.proofs.GrowthLists.{same_some}
 use Rattle.dv_laws.proofs.CallsEntered.{code_is}
 use Rattle.dv_laws.proofs.ReturnsFine.{returns_pop}
 use Rattle.dv_laws.proofs.LocalFine.{local_steps_are_fine}
