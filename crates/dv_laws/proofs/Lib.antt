@@ -81,3 +81,4 @@ pub mod ReturnsFine
 pub mod ReturnsShape
 pub mod SoundSteps
 pub mod Stores
+pub mod Runs

@@ -1,7 +1,13 @@
 // That verified code never goes wrong, from the laws of its parts.
-ghost use Rattle.dv_machine.specs.StepLaws.{HeapStepsAreFine, InvokesPush, StepsAreSound};
+ghost use Rattle.dv_machine.specs.StepLaws.{HeapStepsAreFine, InvokesPush, OpeningIsWellTyped, StepsAreSound};
+ghost use Rattle.dv_laws.specs.Bridge.{BridgeHolds};
+ghost use Rattle.dv_laws.specs.Running.{AcceptedRunsNeverGoWrong};
 
 /// Every step of a runnable thread leads from a well-typed state to a well-typed one, where steps on the heap and invokes are fine.
 pub fn steps_are_sound()
     ensures law { HeapStepsAreFine → InvokesPush → StepsAreSound }
+{}
+
+pub fn runs_never_go_wrong()
+    ensures law { BridgeHolds → OpeningIsWellTyped → StepsAreSound → AcceptedRunsNeverGoWrong }
 {}
