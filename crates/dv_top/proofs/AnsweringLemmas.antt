@@ -9,7 +9,7 @@ use Rattle.dv_defs.specs.Accepting.{AreImageFaults}
 use Rattle.dv_machine.specs.Outcomes.{usual}
 use Rattle.dv_top.specs.declared.instruction.Instruction.{Instruction}
 use Rattle.dv_io.specs.Io.{after_write}
-use Rattle.dv_top.specs.Answering.{IsReadOf, MayRun, IsPrinted, IsPartlyPrinted}
+use Rattle.dv_top.specs.Answering.{HasTaken, IsReadOf, MayRun, IsPrinted, IsPartlyPrinted}
 use Rattle.dv_top.specs.Image.{IsLinked, image_of}
 use Rattle.dv_top.specs.Pieces.{TookPart}
 use Rattle.dv_top.specs.Words.{class_to_run}
@@ -20,6 +20,7 @@ use Rattle.dv_top.specs.Said.{method_text, four_digits, rule_text, IsSaid, IsSai
 use Rattle.dv_top.specs.Straight.{IsStraight, size_of}
 use Rattle.dv_top.proofs.BodyLemmas.{each_in_range}
 use Rattle.dv_top.proofs.FaultsFound.{faults_are_found}
+use Rattle.dv_top.proofs.PieceLemmas.{after_write-none}
 use Rattle.dv_top.proofs.Images.{main_is_found}
 
 pub straight_image : (class text : List ℕ) (registers : ℕ) (insns : List Instruction) (image : Image) → IsStraight class text registers insns → image ≡ image_of class registers insns → IsImageOf class registers insns image
@@ -134,3 +135,9 @@ printed words bytes log status text written before after said same took = record
 
 pub partly_printed : (words : List (List ℕ)) (bytes : List ℕ) (log : List Entry) (status : ℕ) (text written : List ℕ) (before after : Option (List ℕ)) → IsSaid words bytes log status text → written ≡ text → TookPart before after written → IsPartlyPrinted words bytes log before after
 partly_printed words bytes log status text written before after said same (n, took) = record { status = status; text = text; said = said; count = n; took = took ∙ ap (λ t. after_write (take n t) before) same }
+
+pub part_taken : (before after : Option (List ℕ)) (text : List ℕ) → TookPart before after text → HasTaken before after
+part_taken before after text (n, took) = (take n text, took)
+
+pub none_taken : (before after : Option (List ℕ)) → after ≡ before → HasTaken before after
+none_taken before after same = ([], same ∙ sym (after_write-none [] before))

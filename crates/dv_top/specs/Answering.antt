@@ -20,6 +20,10 @@ pub record IsTold (status : ℕ) : Type 0 where
   pub no_write_fault : status ≡ 4 → ⊥
   pub no_want : status ≡ 11 → ⊥
 
+-- a sink that held these bytes holds some more
+abbrev pub HasTaken : Option (List ℕ) → Option (List ℕ) → Type 0
+HasTaken before after = (text : List ℕ) × (after ≡ after_write text before)
+
 -- what was read of these bytes is the text: all of it, or one byte past the limit
 abbrev pub IsReadOf : List ℕ → List ℕ → Type 0
 IsReadOf bytes text = text ≡ take 8388609 bytes

@@ -3,7 +3,7 @@ ghost use Rattle.std.specs.Prelude.{◌≡◌, ◌≢◌, ℕ, ◌≤◌, List, 
 ghost use Rattle.dv_defs.specs.Accepting.{AreImageFaults};
 ghost use Rattle.dv_defs.specs.declared.image.Image.{Image};
 ghost use Rattle.dv_io.specs.Io.{HasRisen, after_write, after_taking};
-ghost use Rattle.dv_top.specs.Answering.{IsIdle, IsOfUnread, IsTold, IsReadOf, MayRun, IsPrinted, IsPartlyPrinted};
+ghost use Rattle.dv_top.specs.Answering.{IsIdle, IsOfUnread, IsTold, HasTaken, IsReadOf, MayRun, IsPrinted, IsPartlyPrinted};
 ghost use Rattle.dv_top.specs.declared.instruction.Instruction.{Instruction};
 ghost use Rattle.dv_top.specs.declared.reading.ReadError.TheVariants.{Memory as NoMemory};
 ghost use Rattle.dv_top.specs.Image.{image_of, IsLinked};
@@ -61,6 +61,7 @@ pub fn answer<S: Source, K: Sink>(
     ensures read_fault { code_of result ≡ 3 → HasRisen (S.faults source.old) (S.faults source.new) × (K.taken sink.new ≡ K.taken sink.old) }
     ensures write_fault { code_of result ≡ 4 → HasRisen (K.faults sink.old) (K.faults sink.new) }
     ensures no_memory { code_of result ≡ 11 → K.taken sink.new ≡ K.taken sink.old }
+    ensures taken { HasTaken (K.taken sink.old) (K.taken sink.new) }
 
     ensures source_read { (class : List ℕ) → class_to_run (map string_bytes words.now) ≡ Some class → code_of result ≢ 3 → code_of result ≢ 11 → S.left source.new ≡ after_taking 8388609 (S.left source.old) }
     ensures said { (bytes : List ℕ) → S.left source.old ≡ Some bytes → IsTold (code_of result) → IsPrinted (map string_bytes words.now) bytes log.new.items (code_of result) (K.taken sink.old) (K.taken sink.new) }

@@ -3,7 +3,7 @@
 
 ghost use Rattle.std.specs.Prelude.{◌≡◌, ◌≢◌, ℕ, List, [], map, None, Some, All, string_bytes};
 ghost use Rattle.dv_io.specs.Io.{HasRisen, after_write, after_taking};
-ghost use Rattle.dv_top.specs.Answering.{IsIdle, IsOfUnread, IsTold, MayRun, IsPrinted, IsPartlyPrinted};
+ghost use Rattle.dv_top.specs.Answering.{HasTaken, IsIdle, IsOfUnread, IsTold, MayRun, IsPrinted, IsPartlyPrinted};
 ghost use Rattle.dv_top.specs.Program.{IsEntry};
 ghost use Rattle.dv_top.specs.Said.{usage};
 ghost use Rattle.dv_top.specs.Words.{class_to_run};
@@ -64,6 +64,8 @@ pub fn dvm<R: Threads + Sync, S: Source, K: Sink + Send + Drop, G: Gate + Sync>(
     ensures write_fault { result.status ≡ 4 → HasRisen (K.faults sink) (K.faults result.sink) }
     // Memory was wanting, and nothing was written.
     ensures no_memory { result.status ≡ 11 → K.taken result.sink ≡ K.taken sink }
+    // What the sink holds beyond what it held was taken in this call.
+    ensures taken { HasTaken (K.taken sink) (K.taken result.sink) }
 
     // The source is read to its end, or to one byte past 8,388,608.
     ensures source_read { (class : List ℕ) → class_to_run (map string_bytes words.now) ≡ Some class → result.status ≢ 3 → result.status ≢ 11 → S.left source.new ≡ after_taking 8388609 (S.left source.old) }
