@@ -1,5 +1,5 @@
 -- When a demand that is made of several holds.
-use Rattle.std.proofs.Common.{◌≡◌, ℕ, Bool, true, false, Option, Some, None, refl}
+use Rattle.std.proofs.Common.{◌≡◌, ℕ, Bool, true, false, Some, None, refl}
 use Rattle.dv_defs.specs.Demands.{Demand, first, demand}
 use Rattle.dv_laws.proofs.OrderWalks.{no}
 

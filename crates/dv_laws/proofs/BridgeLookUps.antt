@@ -16,7 +16,7 @@ use Rattle.dv_defs.specs.Pools.{Method, Field, with_def, with_info, methods_of, 
 use Rattle.dv_defs.specs.Order.{has_number}
 use Rattle.dv_machine.specs.Laws.{LookUpsFind}
 use Rattle.dv_laws.proofs.OrderWalks.{no, has_head, by_second}
-use Rattle.dv_laws.proofs.OrderTypes.{ty_is, names_are}
+use Rattle.dv_laws.proofs.OrderEqual.{ty_is, names_are}
 
 -- ---- by number
 

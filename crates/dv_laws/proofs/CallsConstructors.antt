@@ -42,7 +42,7 @@ use Rattle.dv_laws.proofs.LocalFine.{read_did}
 use Rattle.dv_laws.proofs.ReadersWords.{reads_arguments, cons_good, this_good}
 use Rattle.dv_laws.proofs.LocalStill.{IsQuiet}
 use Rattle.dv_laws.proofs.LocalStands.{Stands}
-use Rattle.dv_laws.proofs.OrderTypes.{names_are}
+use Rattle.dv_laws.proofs.OrderEqual.{names_are}
 use Rattle.dv_laws.proofs.CallsClasses.{parent_sub}
 use Rattle.dv_laws.proofs.CallsWords.{constructor_types, instance_types, begins_by_class, all_plain}
 use Rattle.dv_laws.proofs.CallsDispatched.{constructor_not_native, of_instance}

@@ -18,7 +18,7 @@ use Rattle.dv_machine.specs.WellTyped.{Typings, IsNoInitialiser}
 use Rattle.dv_machine.specs.Accepted.{Accepted}
 use Rattle.dv_laws.proofs.Demanding.{no, both_true}
 use Rattle.dv_laws.proofs.CallsClasses.{parent_sub, looked_up_fits, supers_sub}
-use Rattle.dv_laws.proofs.OrderTypes.{names_are}
+use Rattle.dv_laws.proofs.OrderEqual.{names_are}
 
 -- ---- initialisers
 

@@ -18,7 +18,7 @@ use Rattle.dv_defs.specs.Heap.{class_cells}
 use Rattle.dv_machine.specs.Conforming.{is_string_or_class}
 use Rattle.dv_machine.specs.Unwinding.{exception_name, number_named, throwable_slot}
 use Rattle.dv_machine.specs.Accepted.{IsNamed, HasBoot}
-use Rattle.dv_laws.proofs.OrderTypes.{names_are, reg_type_is}
+use Rattle.dv_laws.proofs.OrderEqual.{names_are, reg_type_is}
 use Rattle.dv_laws.proofs.BridgeStatics.{all_none, all_more}
 use Rattle.dv_laws.proofs.ExampleTests.{all_below, below_is, from_or, is_there, if_some, some_is}
 use Rattle.dv_laws.proofs.ExampleMembers.{are_fields_fine, are_methods_fine, not_bare, out_is, placed_is}

@@ -12,7 +12,7 @@ use Rattle.dv_defs.specs.Pools.{class_named, parent_of, parent_at, name_at, is_i
 use Rattle.dv_defs.specs.Order.{has_number, listed, above, interfaces_of}
 use Rattle.dv_machine.specs.Accepted.{IsHierarchy}
 use Rattle.dv_laws.proofs.OrderWalks.{no, either}
-use Rattle.dv_laws.proofs.OrderTypes.{names_are}
+use Rattle.dv_laws.proofs.OrderEqual.{names_are}
 use Rattle.dv_laws.proofs.ExampleTests.{all_below, below_is, from_or, if_some, some_is}
 
 -- of each of these numbers

@@ -21,7 +21,7 @@ use Rattle.dv_machine.specs.Conforming.{is_string_or_class}
 use Rattle.dv_machine.specs.Calls.{native_of, signature}
 use Rattle.dv_machine.specs.Accepted.{KeepsSlots, HasBodies, HasPools, HasInits}
 use Rattle.dv_laws.proofs.OrderWalks.{no}
-use Rattle.dv_laws.proofs.OrderTypes.{ty_is, reg_type_is, names_equal}
+use Rattle.dv_laws.proofs.OrderEqual.{ty_is, reg_type_is, names_equal}
 use Rattle.dv_laws.proofs.BridgeLookUps.{proto_is, same_list}
 use Rattle.dv_laws.proofs.BridgeStatics.{code_is}
 use Rattle.dv_laws.proofs.ExampleTests.{all_below, below_is, from_or, or_else, is_there, if_some, some_is}

@@ -10,7 +10,7 @@ use Rattle.dv_defs.specs.Heap.{Heap, Got, kind_of, has_room, newest, grown_withi
 use Rattle.dv_machine.specs.WellTyped.{HeapFine}
 use Rattle.dv_machine.specs.StepLaws.{IsAdded, StringIsInterned, ClassObjectIsGot}
 use Rattle.dv_laws.proofs.GrowthLists.{no, same_some}
-use Rattle.dv_laws.proofs.OrderTypes.{ty_is}
+use Rattle.dv_laws.proofs.OrderEqual.{ty_is}
 use Rattle.dv_laws.proofs.HeapCells.{fit_grown}
 use Rattle.dv_laws.proofs.HeapAdded.{is_added, room_is, bare_fits, string_is_added}
 

@@ -18,7 +18,8 @@ use Rattle.dv_machine.specs.Conforming.{is_string_or_class, is_proper}
 use Rattle.dv_machine.specs.WellTyped.{Typings}
 use Rattle.dv_machine.specs.Accepted.{Accepted}
 use Rattle.dv_laws.proofs.GrowthLists.{no, same_some}
-use Rattle.dv_laws.proofs.OrderTypes.{type_is, flat_under, names_equal, AreUnder, IsUnder}
+use Rattle.dv_laws.proofs.OrderEqual.{names_equal}
+use Rattle.dv_laws.proofs.OrderTypes.{type_is, flat_under, AreUnder, IsUnder}
 use Rattle.dv_laws.proofs.OrderWalks.{named_is, named_inside, above_is, reach_is, object_reaches}
 use Rattle.dv_laws.proofs.OrderLaws.{above_interface}
 

@@ -28,7 +28,7 @@ use Rattle.dv_machine.specs.Conforming.{Own, IsOf, IsGood, Conforms}
 use Rattle.dv_machine.specs.WellTyped.{Typings, records}
 use Rattle.dv_machine.specs.Premises.{ThrowFine, StartedFine, DidFine}
 use Rattle.dv_laws.proofs.Demanding.{both_true}
-use Rattle.dv_laws.proofs.OrderTypes.{names_are}
+use Rattle.dv_laws.proofs.OrderEqual.{names_are}
 use Rattle.dv_laws.proofs.GrowthLists.{nothing}
 use Rattle.dv_laws.proofs.RecordsStarted.{new_thread_is_fine}
 use Rattle.dv_laws.proofs.CallsEntered.{some_same}

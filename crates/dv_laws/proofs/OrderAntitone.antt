@@ -1,26 +1,22 @@
 -- Demands of each sort that registers above meet are met by registers below them.
-use Rattle.std.proofs.Common.{◌≡◌, ◌⊎◌, inl, inr, ℕ, zero, suc, List, [], ◌∷◌, Bool, true, false, ◌&&◌, ◌||◌, not, Option, Some, None, refl, sym, ap, ◌∙◌, subst}
-use Rattle.std.specs.Prelude.{nat_eq, is_some}
+use Rattle.std.proofs.Common.{◌≡◌, inl, inr, ℕ, suc, List, [], ◌∷◌, Bool, true, false, ◌&&◌, ◌||◌, Option, Some, None, refl, subst}
+use Rattle.std.specs.Prelude.{nat_eq}
 use Rattle.std.proofs.lemmas.Bool.{and_parts, and_from, or_cases, or_left, or_right, eqb-true}
 use Rattle.dv_defs.specs.declared.names.Ty.{Ty}
 use Rattle.dv_defs.specs.declared.faults.Rule.TheVariants as rule
 use Rattle.dv_defs.specs.declared.image.Image.{Image}
 use Rattle.dv_defs.specs.declared.typing.RegType.{RegType}
 use Rattle.dv_defs.specs.declared.typing.RegType.TheVariants as ty
-use Rattle.dv_defs.specs.declared.typing.RegState.{RegState}
-use Rattle.dv_defs.specs.Parts.{Width, Test, Suffix, Call, is_equality}
-use Rattle.dv_defs.specs.Names.{throwable_name}
-use Rattle.dv_defs.specs.Types.{of_class, is_long, component}
+use Rattle.dv_defs.specs.Parts.{Test, Suffix, Call, is_equality}
+use Rattle.dv_defs.specs.Types.{is_long}
 use Rattle.dv_defs.specs.Pools.{Method, Field, is_static, is_constructor, own_type, class_type}
-use Rattle.dv_defs.specs.Statics.{At, is_of_suffix}
-use Rattle.dv_defs.specs.Op.{Op, MoveInt, MoveLong, MoveObject, ResultInt, ResultLong, ResultObject, TakeCaught, IntUnary, LongUnary, IntToLong, LongToInt, IntOp, LongOp, LongShift, CompareLong, IfBoth, IfZero, Switch, IntDivide, LongDivide, Enter, Exit, Cast, InstanceOf, ArrayLength, NewArray, Filled, Fill, Throw, ArrayGet, ArrayPut, FieldGet, FieldPut, StaticPut, Invoke, ReturnVoid, Return, Arg, Reg, Lit}
-use Rattle.dv_defs.specs.RegTypes.{Types, type_at, under, IsBelow}
-use Rattle.dv_defs.specs.Demands.{Demand, first, demand, is_int, is_ref, is_movable, is_assignable, int, long, ref, ref_to, array, single_for, value_for, args_for, receiver_for, super_for, instance_call, invoke_for, form_of, same_width, is_void, value_returned, arg_int, both_for, zero_for, put_for, is_fill_type, any_type, each_for, is_own_field, put_receiver, is_pending_int, is_pending_ref, is_pending_long, demands, onward_ok, ok}
+use Rattle.dv_defs.specs.Op.{Arg, Reg, Lit}
+use Rattle.dv_defs.specs.RegTypes.{Types, type_at, under}
+use Rattle.dv_defs.specs.Demands.{Demand, first, demand, is_int, is_ref, is_assignable, int, long, ref, ref_to, single_for, args_for, receiver_for, super_for, instance_call, invoke_for, value_returned, arg_int, both_for, zero_for, put_for, each_for, is_own_field, put_receiver}
 use Rattle.dv_machine.specs.Accepted.{IsHierarchy}
-use Rattle.dv_machine.specs.Laws.{DemandIsAntitone}
 use Rattle.dv_laws.proofs.OrderWalks.{no}
 use Rattle.dv_laws.proofs.OrderRegs.{AreBelow}
-use Rattle.dv_laws.proofs.OrderDemands.{Along, first_along, demand_along, same_along, int_along, ref_along, movable_along, pending_along, caught_along, not_along, any_down, fill_down, suffix_down, int_met, long_met, is_ref_met, ref_met, ref_to_met, array_met, single_met, value_met}
+use Rattle.dv_laws.proofs.OrderDemands.{Along, first_along, demand_along, same_along, int_along, int_met, long_met, is_ref_met, ref_met, ref_to_met, single_met, value_met}
 use Rattle.dv_laws.proofs.BridgeDemands.{first_none, demand_none}
 
 -- an argument of two words, and one of one

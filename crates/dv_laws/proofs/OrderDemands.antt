@@ -1,7 +1,7 @@
 -- Demands that a state above meets are met by one below it.
-use Rattle.std.proofs.Common.{◌≡◌, ◌⊎◌, inl, inr, ℕ, zero, suc, List, [], ◌∷◌, Bool, true, false, ◌&&◌, ◌||◌, not, Option, Some, None, refl, sym, ap, ◌∙◌, subst}
+use Rattle.std.proofs.Common.{◌≡◌, inl, inr, ℕ, suc, Bool, true, false, ◌&&◌, ◌||◌, not, Option, Some, None, refl, sym, subst}
 use Rattle.std.specs.Prelude.{nat_eq, is_some}
-use Rattle.std.proofs.lemmas.Bool.{and_parts, and_from, or_cases, or_left, or_right, eqb-true}
+use Rattle.std.proofs.lemmas.Bool.{and_parts, and_from, or_cases}
 use Rattle.dv_defs.specs.declared.names.Base.{Base}
 use Rattle.dv_defs.specs.declared.names.Base.TheVariants as base
 use Rattle.dv_defs.specs.declared.names.Ty.{Ty}
@@ -10,20 +10,16 @@ use Rattle.dv_defs.specs.declared.typing.RegType.{RegType}
 use Rattle.dv_defs.specs.declared.typing.RegType.TheVariants as ty
 use Rattle.dv_defs.specs.declared.typing.PendingType.{PendingType}
 use Rattle.dv_defs.specs.declared.typing.PendingType.TheVariants as pend
-use Rattle.dv_defs.specs.declared.typing.RegState.{RegState}
-use Rattle.dv_defs.specs.Parts.{Width, Test, Suffix, Call, is_equality}
-use Rattle.dv_defs.specs.Names.{throwable_name}
-use Rattle.dv_defs.specs.Types.{of_class, base_eq, is_array, is_class_base, is_reference, is_long, is_base, component}
-use Rattle.dv_defs.specs.Pools.{Method, Field, is_static, is_constructor, own_type, class_type}
+use Rattle.dv_defs.specs.Parts.{Suffix}
+use Rattle.dv_defs.specs.Types.{base_eq, is_array, is_class_base, is_reference, is_long, is_base, component}
 use Rattle.dv_defs.specs.Order.{sub, extends, assignable}
-use Rattle.dv_defs.specs.Statics.{At, is_of_suffix}
-use Rattle.dv_defs.specs.Op.{Op, MoveInt, MoveLong, MoveObject, ResultInt, ResultLong, ResultObject, TakeCaught, IntUnary, LongUnary, IntToLong, LongToInt, IntOp, LongOp, LongShift, CompareLong, IfBoth, IfZero, Switch, IntDivide, LongDivide, Enter, Exit, Cast, InstanceOf, ArrayLength, NewArray, Filled, Fill, Throw, ArrayGet, ArrayPut, FieldGet, FieldPut, StaticPut, Invoke, ReturnVoid, Return, Arg, Reg, Lit}
-use Rattle.dv_defs.specs.RegTypes.{Types, type_at, under, UnderPending, UnderCaught, IsBelow}
-use Rattle.dv_defs.specs.Demands.{Demand, first, demand, is_int, is_lo, is_hi, is_ref, is_movable, is_assignable, is_array_of, int, long, ref, ref_to, array, single_for, value_for, args_for, receiver_for, super_for, instance_call, invoke_for, form_of, same_width, is_void, value_returned, arg_int, both_for, zero_for, put_for, is_fill_type, any_type, each_for, is_own_field, put_receiver, is_pending_int, is_pending_ref, is_pending_long, demands, onward_ok, ok}
+use Rattle.dv_defs.specs.Statics.{is_of_suffix}
+use Rattle.dv_defs.specs.RegTypes.{Types, type_at, under, UnderPending, UnderCaught}
+use Rattle.dv_defs.specs.Demands.{Demand, first, demand, is_int, is_lo, is_hi, is_ref, is_movable, is_assignable, is_array_of, int, long, ref, ref_to, array, single_for, value_for, is_fill_type, any_type}
 use Rattle.dv_machine.specs.Accepted.{IsHierarchy}
-use Rattle.dv_machine.specs.Laws.{DemandIsAntitone}
 use Rattle.dv_laws.proofs.OrderWalks.{no}
-use Rattle.dv_laws.proofs.OrderTypes.{base_is, type_is}
+use Rattle.dv_laws.proofs.OrderEqual.{base_is}
+use Rattle.dv_laws.proofs.OrderTypes.{type_is}
 use Rattle.dv_laws.proofs.OrderLaws.{assignable_is, assignable_open, assignable_closed, sub_trans}
 use Rattle.dv_laws.proofs.OrderRegs.{AreBelow}
 use Rattle.dv_laws.proofs.OrderTransfer.{sub_component, sub_reference}

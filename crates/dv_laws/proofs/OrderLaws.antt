@@ -13,7 +13,8 @@ use Rattle.dv_defs.specs.Order.{under_class, sub, instance, assignable, fits, ex
 use Rattle.dv_machine.specs.Accepted.{IsHierarchy}
 use Rattle.dv_machine.specs.Laws.{TypesAreOrdered}
 use Rattle.dv_laws.proofs.OrderWalks.{no, above_is, named_is, reach_is, object_reaches, extends_trans, implements_trans, extends_implements, object_extends, object_implements, extends_near}
-use Rattle.dv_laws.proofs.OrderTypes.{IsClassOrder, type_is, type_same, type_trans, under_reference, under_component, object_above, class_is_reference, has_class, ty_from, flat_under, under_from, type_weaker, above_object}
+use Rattle.dv_laws.proofs.OrderEqual.{ty_from}
+use Rattle.dv_laws.proofs.OrderTypes.{IsClassOrder, type_is, type_same, type_trans, under_reference, under_component, object_above, class_is_reference, has_class, flat_under, under_from, type_weaker, above_object}
 
 pub extends_order : (image : Image) → IsHierarchy image → IsClassOrder image (extends image)
 extends_order image h = record { trans = extends_trans image h; top = object_extends image h }
@@ -195,7 +196,7 @@ module _ (image : Image) (h : IsHierarchy image) where
 
   -- ---- subtype
 
-  sub_same : (s : Ty) → sub image s s ≡ true
+  pub sub_same : (s : Ty) → sub image s s ≡ true
   unfolding sub
   sub_same s = type_same image (extends image) s s refl
 

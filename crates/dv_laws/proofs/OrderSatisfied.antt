@@ -1,13 +1,12 @@
 -- An instruction that is satisfied with a state is satisfied with each below it.
-use Rattle.std.proofs.Common.{◌≡◌, ℕ, List, Bool, true, ◌&&◌, not, Option, None, refl}
+use Rattle.std.proofs.Common.{ℕ, ◌&&◌, not, None, refl}
 use Rattle.std.specs.Prelude.{is_some}
 use Rattle.dv_defs.specs.declared.image.Image.{Image}
 use Rattle.dv_defs.specs.declared.typing.RegState.{RegState}
-use Rattle.dv_defs.specs.Parts.{Width}
 use Rattle.dv_defs.specs.Names.{throwable_name}
 use Rattle.dv_defs.specs.Types.{of_class, component}
 use Rattle.dv_defs.specs.Pools.{Method, class_type}
-use Rattle.dv_defs.specs.Statics.{At, is_of_suffix}
+use Rattle.dv_defs.specs.Statics.{is_of_suffix}
 use Rattle.dv_defs.specs.Op.{Op, MoveInt, MoveLong, MoveObject, ResultInt, ResultLong, ResultObject, TakeCaught, IntUnary, LongUnary, IntToLong, LongToInt, IntOp, LongOp, LongShift, CompareLong, IfBoth, IfZero, Switch, IntDivide, LongDivide, Enter, Exit, Cast, InstanceOf, ArrayLength, NewArray, Filled, Fill, Throw, ArrayGet, ArrayPut, FieldGet, FieldPut, StaticPut, Invoke, ReturnVoid, Return}
 use Rattle.dv_defs.specs.RegTypes.{type_at, IsBelow}
 use Rattle.dv_defs.specs.Demands.{first, demand, is_movable, int, long, array, value_for, form_of, same_width, is_void, value_returned, put_for, is_fill_type, any_type, put_receiver, is_pending_int, is_pending_ref, is_pending_long, demands, onward_ok}

@@ -1,74 +1,17 @@
 -- Types under types, by a test of classes.
 use Rattle.std.proofs.Common.{◌≡◌, ◌⊎◌, inl, inr, ℕ, zero, suc, ◌+◌, ◌-◌, ◌<◌, ◌≤◌, List, length, Bool, true, false, ◌&&◌, Option, Some, None, refl, sym, ap, ◌∙◌, subst, arith}
-use Rattle.std.specs.Prelude.{nat_eq, nat_lt, nat_le, bytes_eq}
-use Rattle.std.proofs.lemmas.Bool.{eqb-true, eq-eqb, leb-true, le-leb, lt-ltb, and_parts, and_from, or_left, or_right}
-use Rattle.std.proofs.lemmas.Slice.Eq.{bytes_eq-Decides}
+use Rattle.std.specs.Prelude.{nat_lt, nat_le, bytes_eq}
+use Rattle.std.proofs.lemmas.Bool.{leb-true, le-leb, lt-ltb, and_parts, and_from, or_left, or_right}
 use Rattle.dv_defs.specs.declared.names.Base.{Base}
 use Rattle.dv_defs.specs.declared.names.Base.TheVariants as base
 use Rattle.dv_defs.specs.declared.names.Ty.{Ty}
 use Rattle.dv_defs.specs.declared.image.Image.{Image}
-use Rattle.dv_defs.specs.declared.typing.RegType.{RegType}
-use Rattle.dv_defs.specs.declared.typing.RegType.TheVariants as ty
 use Rattle.dv_defs.specs.Names.{object_name}
-use Rattle.dv_defs.specs.Types.{base_eq, ty_eq, class_in, is_array, is_class_base, is_reference, component}
+use Rattle.dv_defs.specs.Types.{ty_eq, class_in, is_array, is_class_base, is_reference, component}
 use Rattle.dv_defs.specs.Pools.{class_named, name_at}
 use Rattle.dv_defs.specs.Order.{ClassTest, both_found, class_under, under_class, under_base, under_type}
-use Rattle.dv_defs.specs.Joins.{same_type}
+use Rattle.dv_laws.proofs.OrderEqual.{ty_is, ty_equal, names_are, names_equal}
 use Rattle.dv_laws.proofs.OrderWalks.{no, either, by_first, by_second, named_inside, named_is}
-
--- ---- equal types
-
-pub base_is : (a b : Base) → base_eq a b ≡ true → a ≡ b
-base_is base.Z base.Z e = refl
-base_is base.B base.B e = refl
-base_is base.C base.C e = refl
-base_is base.S base.S e = refl
-base_is base.I base.I e = refl
-base_is base.J base.J e = refl
-base_is (base.Class x) (base.Class y) e = ap base.Class ((bytes_eq-Decides x y).0 e)
-base_is a b e = no e
-
-pub base_same : (a : Base) → base_eq a a ≡ true
-base_same base.Z = refl
-base_same base.B = refl
-base_same base.C = refl
-base_same base.S = refl
-base_same base.I = refl
-base_same base.J = refl
-base_same (base.Class x) = (bytes_eq-Decides x x).1 refl
-
-pub ty_from : (a b : Ty) → a.dims ≡ b.dims → a.base ≡ b.base → a ≡ b
-ty_from a b p q =
-    let made : ℕ → Base → Ty = λ n x. record { dims = n; base = x } in
-    ap (λ n. made n a.base) p ∙ ap (made b.dims) q
-
-pub ty_is : (a b : Ty) → ty_eq a b ≡ true → a ≡ b
-ty_is a b e =
-    let p = and_parts (nat_eq a.dims b.dims) (base_eq a.base b.base) e in
-    ty_from a b (eqb-true a.dims b.dims p.0) (base_is a.base b.base p.1)
-
-pub ty_same : (a : Ty) → ty_eq a a ≡ true
-ty_same a = and_from (nat_eq a.dims a.dims) (base_eq a.base a.base) (eq-eqb a.dims a.dims refl) (base_same a.base)
-
-pub ty_equal : (a b : Ty) → a ≡ b → ty_eq a b ≡ true
-ty_equal a b e = subst (λ (x : Ty). ty_eq a x ≡ true) e (ty_same a)
-
-pub names_equal : (a b : List ℕ) → a ≡ b → bytes_eq a b ≡ true
-names_equal a b = (bytes_eq-Decides a b).1
-
-pub names_are : (a b : List ℕ) → bytes_eq a b ≡ true → a ≡ b
-names_are a b = (bytes_eq-Decides a b).0
-
-pub reg_type_is : (s t : RegType) → same_type s t ≡ true → s ≡ t
-reg_type_is ty.Conflict ty.Conflict e = refl
-reg_type_is ty.Zero ty.Zero e = refl
-reg_type_is ty.Int ty.Int e = refl
-reg_type_is ty.LongLo ty.LongLo e = refl
-reg_type_is ty.LongHi ty.LongHi e = refl
-reg_type_is (ty.Class a) (ty.Class b) e = ap ty.Class (ty_is a b e)
-reg_type_is (ty.Uninit a) (ty.Uninit b) e = ap ty.Uninit (eqb-true a b e)
-reg_type_is ty.UninitThis ty.UninitThis e = refl
-reg_type_is s t e = no e
 
 -- ---- references
 
@@ -166,7 +109,7 @@ is_type image test s t u =
     (when_true (nat_le t.dims s.dims) (under_base image test (s.dims - t.dims) s.base t.base) (le-leb t.dims s.dims l) (is_base_under image test (s.dims - t.dims) s.base t.base u.name u.is_class tested))
 
 -- what is under a reference type is one
-under_class_reference : (image : Image) (test : ClassTest) (n : ℕ) (s : Ty) (d : List ℕ) → n ≤ s.dims → under_class image test n s.base d ≡ true → is_reference s ≡ true
+pub under_class_reference : (image : Image) (test : ClassTest) (n : ℕ) (s : Ty) (d : List ℕ) → n ≤ s.dims → under_class image test n s.base d ≡ true → is_reference s ≡ true
 under_class_reference image test (suc n) s d l u = array_is_reference s (omega (arith, l))
 under_class_reference image test zero s d l u = elim (either (is_class_base s.base && bytes_eq d object_name) (class_under image test s.base d) u) [
   | inl top ↦ or_right (is_array s) (is_class_base s.base) (and_parts (is_class_base s.base) (bytes_eq d object_name) top).0

@@ -5,3 +5,4 @@ pub mod Reading
 pub mod Conformity
 pub mod Bridge
 pub mod Example
+pub mod Running

@@ -1,7 +1,12 @@
-// The laws of acceptance: what look-ups find, and the records that acceptance gives.
-ghost use Rattle.dv_machine.specs.Laws.{AcceptanceGivesRecords, LookUpsFind};
+// The laws of decoding and acceptance: what look-ups find, and the records that acceptance gives.
+ghost use Rattle.dv_machine.specs.Laws.{DecodingInvertsSpelling, AcceptanceGivesRecords, LookUpsFind};
 ghost use Rattle.dv_laws.specs.Bridge.{BridgeHolds};
 ghost use Rattle.dv_laws.specs.Example.{IsAccepted, calls_example, handlers_example};
+
+/// An instruction stands where its spelling does.
+pub fn decoding_inverts_spelling()
+    ensures law { DecodingInvertsSpelling }
+{}
 
 /// What look-ups find has the number, name, prototype and class that were asked for, in any image.
 #[tactic(auto, using(crate::proofs::BridgeLookUps::look_ups_find))]

@@ -1,5 +1,5 @@
 // The laws of the order of types and of states.
-ghost use Rattle.dv_machine.specs.Laws.{TypesAreOrdered, StatesAreOrdered, TransferIsMonotone, DemandIsAntitone};
+ghost use Rattle.dv_machine.specs.Laws.{TypesAreOrdered, StatesAreOrdered, JoinIsLeast, TransferIsMonotone, DemandIsAntitone};
 ghost use Rattle.dv_laws.specs.Conformity.{ValueConformityGoesUp, RegisterConformityGoesUp, FrameConformityGoesUp};
 
 /// Subtype is an order, and assignable, instance and fits go along it.
@@ -19,6 +19,11 @@ pub fn conformity_goes_up()
     ensures values { ValueConformityGoesUp }
     ensures registers { RegisterConformityGoesUp }
     ensures frames { FrameConformityGoesUp }
+{}
+
+/// The join of two states is the least state above both.
+pub fn join_is_least()
+    ensures law { JoinIsLeast }
 {}
 
 /// A state above leads to a state above.

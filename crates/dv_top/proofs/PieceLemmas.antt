@@ -1,7 +1,7 @@
 -- Pieces that are read or written one after another.
 use Rattle.std.proofs.Common.{◌≡◌, ℕ, ◌+◌, ◌≤◌, List, [], ◌++◌, length, take, drop, refl, ap, sym, ◌∙◌, append_assoc, arith, Option, Some, None, IfSome, length-append, length-drop, subst}
 use Rattle.std.proofs.Math.Seq.{take-add}
-use Rattle.std.proofs.lemmas.List.{drop-drop, take_all, length-take-le}
+use Rattle.std.proofs.lemmas.List.{drop-drop, drop_all, take_all, length-take-le}
 use Rattle.std.proofs.lemmas.Grind.{common_steps}
 use Rattle.dv_io.specs.Io.{after_write, after_taking, Copies}
 use Rattle.dv_top.specs.Pieces.{ReadSoFar}
@@ -51,3 +51,15 @@ read_all_past None now text so past bytes is = cc
 read_all_past (Some all) now text so past bytes is =
     let one : all ≡ bytes = cc in
     so.front.0 ∙ ap (λ k. take k all) past ∙ ap (take 8388609) one
+
+-- at the end of the source nothing is left, whatever the limit
+pub left_at_end : (limit : ℕ) (old mid now : Option (List ℕ)) (text : List ℕ) → ReadSoFar old mid text → length text ≤ limit → now ≡ after_taking 0 mid → IfSome mid (λ bytes. bytes ≡ []) → now ≡ after_taking limit old
+left_at_end limit None mid now text so within after end = after ∙ ap (after_taking 0) so.left
+left_at_end limit (Some all) mid now text so within after end =
+    let none : drop (length text) all ≡ [] = subst (λ (m : Option (List ℕ)). IfSome m (λ rest. rest ≡ [])) so.left end in
+    let size : length all ≤ limit = omega (arith, length-drop (length text) all, ap length none) in
+    after ∙ (ap (after_taking 0) so.left ∙ ap Some (none ∙ sym (drop_all limit all size)))
+
+-- at the limit so much was taken
+pub left_past : (limit : ℕ) (old now : Option (List ℕ)) (text : List ℕ) → ReadSoFar old now text → length text ≡ limit → now ≡ after_taking limit old
+left_past limit old now text so past = so.left ∙ ap (λ k. after_taking k old) past

@@ -1,7 +1,6 @@
 -- A straight text, worked by hand: the one that prints 2 + 3.
-use Rattle.std.proofs.Common.{◌≡◌, ℕ, pos, List, [], ◌∷◌, ◌++◌, inl, codes, refl, arith, get_or, ap, length}
+use Rattle.std.proofs.Common.{ℕ, pos, List, [], ◌∷◌, ◌++◌, inl, codes, refl, arith, ap, length}
 use Rattle.std.specs.Fmt.{digits}
-use Rattle.dv_defs.specs.Names.{object_name, console_name}
 use Rattle.dv_top.specs.declared.instruction.Instruction.{Instruction}
 use Rattle.dv_top.specs.declared.instruction.Instruction.TheVariants.{Const4, AddInt, Println, ReturnVoid}
 use Rattle.dv_top.specs.Straight.{IsStraight}

@@ -1,9 +1,15 @@
+pub mod Answering
 pub mod Assembly
+pub mod Decoding
+pub mod Engine
 pub mod Image
 pub mod Laws
 pub mod Opcode
 pub mod Parts
 pub mod Pieces
+pub mod Printing
+pub mod Program
+pub mod Said
 pub mod Status
 pub mod Straight
 pub mod Words

@@ -1,5 +1,5 @@
 -- The numbers of the statuses.
-use Rattle.std.specs.Prelude.{ℕ, ◌≢◌}
+use Rattle.std.specs.Prelude.{ℕ}
 use Rattle.dv_top.specs.declared.status.Status.{Status}
 use Rattle.dv_top.specs.declared.status.Status.TheVariants as status
 
@@ -16,9 +16,3 @@ code_of status.Spent = 10
 code_of status.NoMemory = 11
 code_of status.TooLarge = 13
 code_of status.NotBuilt = 14
-
--- a status that tells what was found of the words and the text, and no fault from outside
-pub record IsFound (s : Status) : Type 0 where
-  pub no_read_fault : code_of s ≢ 3
-  pub no_write_fault : code_of s ≢ 4
-  pub no_want : code_of s ≢ 11

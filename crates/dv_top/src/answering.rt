@@ -1,20 +1,29 @@
 // From the words and the source to a status and the sink.
-ghost use Rattle.std.specs.Prelude.{◌≡◌, ℕ, List, IsErrOf, IfOk, MatchResult};
+ghost use Rattle.std.specs.Prelude.{◌≡◌, ◌≢◌, ℕ, ◌≤◌, List, [], length, map, None, Some, All, IfOk, OnOk, IsErrOf, MatchResult, string_bytes};
+ghost use Rattle.dv_defs.specs.Accepting.{AreImageFaults};
+ghost use Rattle.dv_defs.specs.declared.image.Image.{Image};
+ghost use Rattle.dv_io.specs.Io.{HasRisen, after_write, after_taking};
+ghost use Rattle.dv_top.specs.Answering.{IsIdle, IsOfUnread, IsTold, HasTaken, IsReadOf, MayRun, IsPrinted, IsPartlyPrinted};
 ghost use Rattle.dv_top.specs.declared.instruction.Instruction.{Instruction};
-ghost use Rattle.dv_top.specs.Straight.{IsStraight};
+ghost use Rattle.dv_top.specs.declared.reading.ReadError.TheVariants.{Memory as NoMemory};
 ghost use Rattle.dv_top.specs.Image.{image_of, IsLinked};
-ghost use Rattle.dv_io.specs.Io.{HasRisen};
-ghost use Rattle.dv_top.specs.Status.{code_of, IsFound};
+ghost use Rattle.dv_top.specs.Program.{IsImageOf, IsEntry, faults_of};
+ghost use Rattle.dv_top.specs.Said.{IsSaid, IsSaidOfClass, IsRun, IsBuilt, IsAccepted, usage};
+ghost use Rattle.dv_top.specs.Status.{code_of};
+ghost use Rattle.dv_top.specs.Straight.{IsStraight, IsInRange, IsMain};
+ghost use Rattle.dv_top.specs.Words.{class_to_run};
 
 use crate::assembling::assemble;
-use crate::linking::{MAIN_METHOD, link};
-use crate::machine::Machine;
+use crate::decoding::instructions;
+use crate::instruction::Instruction;
+use crate::linking::link;
+use crate::machine::run;
 use crate::printing::{NOT_BUILT, TOO_LARGE, USAGE, fault_lines, final_text};
 use crate::reading::{LIMIT, ReadError, read_all};
 use crate::status::Status;
 use crate::straight::{Refusal, read_straight};
-use crate::verifying::{Verdict, verify};
-use crate::words::{Command, read_words};
+use crate::verifying::verify;
+use crate::words::read_words;
 use crate::writing::write_all;
 use dv_defs::{Entry, Image, Limits, Text};
 use dv_io::{Failed, Sink, Source};
@@ -35,10 +44,9 @@ const LIMITS: Limits = Limits {
 struct Reply {
     status: Status,
     text: Vec<u8>,
-    ghost found: { IsFound status },
 }
 
-/// Does what the words ask for, and answers the status. The turns of a run are put at the end of the log.
+/// Does what the words ask for, and answers the status. The log, which is empty before, gets the turns of a run.
 pub fn answer<S: Source, K: Sink>(
     alloc: Global,
     words: &[String],
@@ -46,8 +54,22 @@ pub fn answer<S: Source, K: Sink>(
     sink: &mut K,
     log: &mut Vec<Entry>,
 ) -> Status
+    requires { log.old.items ≡ [] }
+
+    ensures unread { class_to_run (map string_bytes words.now) ≡ None → (source.new ≡ source.old) × IsOfUnread (code_of result) }
+    ensures usage { code_of result ≡ 2 → (class_to_run (map string_bytes words.now) ≡ None) × (K.taken sink.new ≡ after_write usage (K.taken sink.old)) }
     ensures read_fault { code_of result ≡ 3 → HasRisen (S.faults source.old) (S.faults source.new) × (K.taken sink.new ≡ K.taken sink.old) }
     ensures write_fault { code_of result ≡ 4 → HasRisen (K.faults sink.old) (K.faults sink.new) }
+    ensures no_memory { code_of result ≡ 11 → K.taken sink.new ≡ K.taken sink.old }
+    ensures taken { HasTaken (K.taken sink.old) (K.taken sink.new) }
+
+    ensures source_read { (class : List ℕ) → class_to_run (map string_bytes words.now) ≡ Some class → code_of result ≢ 3 → code_of result ≢ 11 → S.left source.new ≡ after_taking 8388609 (S.left source.old) }
+    ensures said { (bytes : List ℕ) → S.left source.old ≡ Some bytes → IsTold (code_of result) → IsPrinted (map string_bytes words.now) bytes log.new.items (code_of result) (K.taken sink.old) (K.taken sink.new) }
+    ensures part { (bytes : List ℕ) → S.left source.old ≡ Some bytes → code_of result ≡ 4 → IsPartlyPrinted (map string_bytes words.now) bytes log.new.items (K.taken sink.old) (K.taken sink.new) }
+
+    ensures entries { All IsEntry log.new.items }
+    ensures idle { IsIdle (code_of result) → log.new.items ≡ [] }
+    ensures accepted { (bytes : List ℕ) → S.left source.old ≡ Some bytes → log.new.items ≢ [] → MayRun (map string_bytes words.now) bytes }
 {
     match reply_to_words(alloc, words, source, log) {
         Ok(reply) => match write_all(sink, &reply.text) {
@@ -66,19 +88,31 @@ fn reply_to_words<S: Source>(
     source: &mut S,
     log: &mut Vec<Entry>,
 ) -> Result<Reply, ReadError>
-    ensures { IsErrOf result ReadError.Failed → HasRisen (S.faults source.old) (S.faults source.new) }
+    requires { log.old.items ≡ [] }
+
+    ensures unread { class_to_run (map string_bytes words.now) ≡ None → (source.new ≡ source.old) × MatchResult result (λ reply. code_of reply.status ≡ 2) (λ e. e ≡ NoMemory) }
+    ensures usage { IfOk result (λ reply. code_of reply.status ≡ 2 → (class_to_run (map string_bytes words.now) ≡ None) × (reply.text.items ≡ usage)) }
+    ensures told { IfOk result (λ reply. IsTold (code_of reply.status)) }
+    ensures failed { IsErrOf result ReadError.Failed → HasRisen (S.faults source.old) (S.faults source.new) × (log.new.items ≡ []) }
+
+    ensures source_read { (class : List ℕ) → class_to_run (map string_bytes words.now) ≡ Some class → OnOk result (S.left source.new ≡ after_taking 8388609 (S.left source.old)) }
+    ensures said { (bytes : List ℕ) → S.left source.old ≡ Some bytes → IfOk result (λ reply. IsSaid (map string_bytes words.now) bytes log.new.items (code_of reply.status) reply.text.items) }
+
+    ensures entries { All IsEntry log.new.items }
+    ensures idle { IfOk result (λ reply. IsIdle (code_of reply.status) → log.new.items ≡ []) }
+    ensures accepted { (bytes : List ℕ) → S.left source.old ≡ Some bytes → log.new.items ≢ [] → MayRun (map string_bytes words.now) bytes }
 {
     match read_words(alloc, words)? {
         None => Ok(fixed(alloc, Status::Usage, USAGE)?),
-        Some(Command::Run { class }) => {
+        Some(command) => {
             let text = read_all(alloc, source)?;
-            Ok(reply_to_text(alloc, &class, &text, log)?)
+            Ok(reply_to_text(alloc, command.class(), &text, log)?)
         }
     }
 }
 
 fn fixed(alloc: Global, status: Status, text: &[u8]) -> Result<Reply, AllocError>
-    requires { IsFound status }
+    ensures { IfOk result (λ reply. (reply.status ≡ status) × (reply.text.items ≡ text.now)) }
 {
     Ok(Reply {
         status,
@@ -92,7 +126,14 @@ fn reply_to_text(
     class: &Text,
     text: &[u8],
     log: &mut Vec<Entry>,
-) -> Result<Reply, AllocError> {
+) -> Result<Reply, AllocError>
+    requires { log.old.items ≡ [] }
+    ensures told { IfOk result (λ reply. IsTold (code_of reply.status) × (code_of reply.status ≢ 2)) }
+    ensures said { (bytes : List ℕ) → IsReadOf bytes text.now → IfOk result (λ reply. IsSaidOfClass class.now bytes log.new.items (code_of reply.status) reply.text.items) }
+    ensures entries { All IsEntry log.new.items }
+    ensures idle { IfOk result (λ reply. IsIdle (code_of reply.status) → log.new.items ≡ []) }
+    ensures accepted { (bytes : List ℕ) → IsReadOf bytes text.now → log.new.items ≢ [] → (image : Image) × IsAccepted class.now bytes image }
+{
     if text.len() > LIMIT {
         return fixed(alloc, Status::TooLarge, TOO_LARGE);
     }
@@ -113,25 +154,51 @@ fn image_of(alloc: Global, class: &Text, text: &[u8]) -> Result<Image, Refusal>
     Ok(link(alloc, class, body)?)
 }
 
-/// Verifies the image and runs it.
+/// Verifies the image of the text of a class, and runs it.
 fn reply_to_image(
     alloc: Global,
     class: &Text,
     image: &Image,
     log: &mut Vec<Entry>,
-) -> Result<Reply, AllocError> {
-    match verify(alloc, image, MAIN_METHOD)? {
-        Verdict::Refused(faults) => Ok(Reply {
+) -> Result<Reply, AllocError>
+    requires empty { log.old.items ≡ [] }
+    requires program { (registers : ℕ) × (insns : List Instruction) × IsImageOf class.now registers insns image.now }
+    ensures told { IfOk result (λ reply. IsTold (code_of reply.status) × (code_of reply.status ≢ 2)) }
+    ensures said { (bytes : List ℕ) → IsBuilt class.now bytes image.now → IfOk result (λ reply. IsSaidOfClass class.now bytes log.new.items (code_of reply.status) reply.text.items) }
+    ensures entries { All IsEntry log.new.items }
+    ensures idle { IfOk result (λ reply. IsIdle (code_of reply.status) → log.new.items ≡ []) }
+    ensures accepted { log.new.items ≢ [] → AreImageFaults image.now [] }
+{
+    let insns = instructions(alloc, image)?;
+    let faults = verify(alloc, &insns)?;
+    if faults.is_empty() {
+        reply_of_run(alloc, &insns, log)
+    } else {
+        Ok(Reply {
             status: Status::Refused,
             text: fault_lines(alloc, class.bytes(), &faults)?,
-        }),
-        Verdict::Accepted(ops) => {
-            let mut machine = Machine::open(alloc, &ops, &LIMITS);
-            let ending = machine.run(log)?;
-            Ok(Reply {
-                status: Status::of(ending),
-                text: final_text(alloc, machine.output(), ending)?,
-            })
-        }
+        })
     }
+}
+
+/// Runs a main method of these instructions.
+fn reply_of_run(
+    alloc: Global,
+    insns: &[Instruction],
+    log: &mut Vec<Entry>,
+) -> Result<Reply, AllocError>
+    requires empty { log.old.items ≡ [] }
+    requires ends { IsMain insns.now }
+    requires in_range { All (λ i. IsInRange 16 i) insns.now }
+    requires clean { faults_of insns.now ≡ [] }
+    ensures told { IfOk result (λ reply. IsTold (code_of reply.status) × (code_of reply.status ≢ 2)) }
+    ensures ran { (class : List ℕ) (registers : ℕ) (image : Image) → IsImageOf class registers insns.now image → IfOk result (λ reply. IsRun class image log.new.items (code_of reply.status) reply.text.items) }
+    ensures entries { All IsEntry log.new.items }
+    ensures ran_status { IfOk result (λ reply. IsIdle (code_of reply.status) → ⊥) }
+{
+    let ran = run(alloc, insns, &LIMITS, log)?;
+    Ok(Reply {
+        status: Status::of(ran.ending),
+        text: final_text(alloc, &ran.output, ran.ending)?,
+    })
 }

@@ -1,5 +1,5 @@
 // The instructions of a straight method.
-ghost use Rattle.std.specs.Prelude.{◌≡◌, false};
+ghost use Rattle.std.specs.Prelude.{◌≡◌, false, Some};
 ghost use Rattle.dv_defs.specs.Spelling.{plain};
 ghost use Rattle.dv_top.specs.Opcode.{number_of};
 
@@ -19,6 +19,7 @@ pub enum Instruction {
 }
 
 impl Instruction {
+    ghost use Rattle.dv_top.specs.declared.instruction.Instruction.{Instruction};
     ghost use Rattle.dv_top.specs.Straight.{size_of};
     ghost use Rattle.dv_top.specs.Assembly.{insn_of, is_println};
 
@@ -44,6 +45,27 @@ impl Instruction {
             Instruction::Println { from } => {
                 plain(Opcode::InvokeStatic, few(1, [from, 0, 0, 0, 0]))
             }
+        }
+    }
+
+    /// The instruction of these operands, where it is one of those that are built.
+    pub fn of(insn: &Insn) -> Option<Instruction>
+        ensures { (i : Instruction) → insn.now ≡ insn_of i → result ≡ Some i }
+    {
+        let [a, b, c, _, _] = insn.regs.first;
+        let value = insn.lit;
+        match Opcode::of(insn.op)? {
+            Opcode::Nop => Some(Instruction::Nop),
+            Opcode::ReturnVoid => Some(Instruction::ReturnVoid),
+            Opcode::Const4 => Some(Instruction::Const4 { to: a, value }),
+            Opcode::Const16 => Some(Instruction::Const16 { to: a, value }),
+            Opcode::Move => Some(Instruction::Move { to: a, from: b }),
+            Opcode::AddInt => Some(Instruction::AddInt {
+                to: a,
+                left: b,
+                right: c,
+            }),
+            Opcode::InvokeStatic => Some(Instruction::Println { from: a }),
         }
     }
 

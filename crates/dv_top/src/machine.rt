@@ -1,46 +1,72 @@
 // Runs a verified straight method.
-ghost use Rattle.std.specs.Prelude.{◌≡◌, ◌<◌, ◌≤◌, ◌+◌, length, OnOk, IfNone};
+ghost use Rattle.std.specs.Prelude.{◌≡◌, ◌<◌, ◌≤◌, ◌+◌, ◌^◌, [], ◌++◌, length, replicate, nat_lt, true, false, pos, All, OnOk, IfOk, Some, None};
+ghost use Rattle.dv_top.specs.Straight.{IsInRange, IsMain};
+ghost use Rattle.dv_top.specs.Program.{faults_of, IsEntry};
+ghost use Rattle.dv_top.specs.Engine.{state_of, first_state, is_local, value_at, after_step, line_of, ending_by, Leads, IsReached, IsLegalLog, EachHasRun};
 
-use crate::program::{Op, Register, Registers};
+use crate::instruction::Instruction;
 use dv_defs::{Ending, Entry, Limits};
 use std::alloc::{AllocError, Global};
 
 /// The most steps of a turn.
 const MOST_STEPS: u32 = 256;
 
-/// A thread that runs the operations of main and then returns.
+/// What a run came to: its ending, and the printed bytes.
 #[derive(Drop)]
-pub struct Machine<'a> {
-    ops: &'a [Op],
+pub struct Ran {
+    pub ending: Ending,
+    pub output: Vec<u8>,
+}
+
+/// Runs the instructions of a main method. Its turns are put at the end of the log.
+pub fn run(
+    alloc: Global,
+    insns: &[Instruction],
+    limits: &Limits,
+    log: &mut Vec<Entry>,
+) -> Result<Ran, AllocError>
+    requires empty { log.old.items ≡ [] }
+    requires ends { IsMain insns.now }
+    requires in_range { All (λ i. IsInRange 16 i) insns.now }
+    requires clean { faults_of insns.now ≡ [] }
+    ensures ran { IfOk result (λ ran. EachHasRun insns.now limits.now log.new.items ran.ending ran.output.items) }
+    // Also where memory is wanting.
+    ensures legal { IsLegalLog insns.now limits.now log.new.items }
+    ensures entries { All IsEntry log.new.items }
+{
+    let mut engine = Engine::open(alloc, limits);
+    let ending = engine.run(insns, limits, log)?;
+    let Engine { output, .. } = engine;
+    Ok(Ran { ending, output })
+}
+
+/// Where a run stands: the index of the next instruction, the registers, the printed bytes,
+/// how many steps are left, and what stopped the run.
+#[derive(Drop)]
+struct Engine {
     at: usize,
-    registers: Registers<i32>,
+    registers: [i32; 16],
     output: Vec<u8>,
-    most_output: u32,
     steps_left: u64,
     stop: Option<Ending>,
 }
 
-impl<'a> Machine<'a> {
-    /// The machine before its first step.
-    pub fn open(alloc: Global, ops: &'a [Op], limits: &Limits) -> Machine<'a> {
-        Machine {
-            ops,
+impl Engine {
+    /// The engine before its first step.
+    fn open(alloc: Global, limits: &Limits) -> Engine
+        ensures { state_of result ≡ first_state limits.now (replicate 16 (pos 0)) }
+    {
+        Engine {
             at: 0,
-            registers: Registers::filled(0),
+            registers: [0; 16],
             output: Vec::new(alloc),
-            most_output: limits.output,
             steps_left: limits.budget,
             stop: None,
         }
     }
 
-    /// The printed bytes.
-    pub fn output(&self) -> &[u8] {
-        &self.output
-    }
-
     fn ending(&self) -> Option<Ending>
-        ensures { IfNone result (0 < self.now.steps_left) }
+        ensures { result ≡ ending_by self.now.stop self.now.steps_left }
     {
         match self.stop {
             Some(ending) => Some(ending),
@@ -50,13 +76,27 @@ impl<'a> Machine<'a> {
     }
 
     /// Takes turns until the run ends, each an entry of worker 0 at the end of the log.
-    pub fn run(&mut self, log: &mut Vec<Entry>) -> Result<Ending, AllocError> {
+    fn run(
+        &mut self,
+        insns: &[Instruction],
+        limits: &Limits,
+        log: &mut Vec<Entry>,
+    ) -> Result<Ending, AllocError>
+        requires in_range { All (λ i. IsInRange 16 i) insns.now }
+        requires ends { IsMain insns.now }
+        requires reached { IsReached insns.now limits.now log.old.items (state_of self.old) }
+        requires entries { All IsEntry log.old.items }
+        ensures reached { IfOk result (λ e. IsReached insns.now limits.now log.new.items (state_of self.new)) }
+        ensures ends { IfOk result (λ e. ending_by self.new.stop self.new.steps_left ≡ Some e) }
+        ensures legal { IsLegalLog insns.now limits.now log.new.items }
+        ensures entries { All IsEntry log.new.items }
+    {
         'turns: loop {
             if let Some(ending) = self.ending() {
                 return Ok(ending);
             }
             log.reserve(1)?;
-            let steps = self.turn()?;
+            let steps = self.turn(insns, limits)?;
             log.push(Entry {
                 worker: 0,
                 thread: 0,
@@ -66,67 +106,67 @@ impl<'a> Machine<'a> {
     }
 
     /// Local steps, and then at most one other; answers how many steps were done.
-    fn turn(&mut self) -> Result<u32, AllocError>
-        requires { 0 < self.old.steps_left }
-        ensures { OnOk result (self.new.steps_left < self.old.steps_left) }
+    fn turn(&mut self, insns: &[Instruction], limits: &Limits) -> Result<u32, AllocError>
+        requires in_range { All (λ i. IsInRange 16 i) insns.now }
+        requires ends { IsMain insns.now }
+        requires next { self.old.at < length insns.now }
+        requires running { self.old.stop ≡ None }
+        requires budget { 0 < self.old.steps_left }
+        ensures budget { OnOk result (self.new.steps_left < self.old.steps_left) }
+        ensures few { IfOk result (λ steps. steps ≤ 256) }
+        ensures some { IfOk result (λ steps. 0 < steps) }
+        ensures leads { IfOk result (λ steps. Leads insns.now limits.now steps (state_of self.old) (state_of self.new)) }
     {
         let mut steps = 0;
         'local: while steps < MOST_STEPS && self.steps_left > 0 {
-            match self.ops.get(self.at) {
-                Some(op) if op.is_local() => self.local_step(*op),
-                _ => break 'local,
+            let insn = insns[self.at];
+            self.step(insn, limits.output)?;
+            steps += 1;
+            if !is_local(insn) {
+                return Ok(steps);
             }
-            steps += 1;
-        }
-        if steps < MOST_STEPS && self.steps_left > 0 {
-            self.shared_step()?;
-            steps += 1;
         }
         Ok(steps)
     }
 
-    /// Does an operation that touches the registers alone.
-    fn local_step(&mut self, op: Op)
+    /// Does an instruction. It returns, or touches the registers alone, or prints, and counts as one step.
+    fn step(&mut self, insn: Instruction, most: u32) -> Result<(), AllocError>
+        requires in_range { IsInRange 16 insn }
+        requires next { self.old.at + 1 < 2 ^ 64 }
         requires budget { 0 < self.old.steps_left }
-        requires within { self.old.at < length self.old.ops.now }
-        ensures budget { self.new.steps_left + 1 ≡ self.old.steps_left }
+        ensures { OnOk result (state_of self.new ≡ after_step most (state_of self.old) insn) }
     {
-        match op {
-            Op::Nop | Op::Println { .. } => {}
-            Op::Const { to, value } => self.registers.set(to, value),
-            Op::Move { to, from } => self.registers.set(to, self.registers.get(from)),
-            Op::Add { to, left, right } => {
-                let sum = self
-                    .registers
-                    .get(left)
-                    .wrapping_add(self.registers.get(right));
-                self.registers.set(to, sum);
+        self.steps_left -= 1;
+        match insn {
+            Instruction::Nop => {}
+            Instruction::ReturnVoid => {
+                self.stop = Some(Ending::Done);
+                return Ok(());
             }
+            Instruction::Const4 { to, value } => self.registers[to as usize] = value as i32,
+            Instruction::Const16 { to, value } => self.registers[to as usize] = value as i32,
+            Instruction::Move { to, from } => {
+                self.registers[to as usize] = self.registers[from as usize];
+            }
+            Instruction::AddInt { to, left, right } => {
+                let right = self.registers[right as usize];
+                self.registers[to as usize] = self.registers[left as usize].wrapping_add(right);
+            }
+            Instruction::Println { from } => return self.println(from, most),
         }
-        self.steps_left -= 1;
         self.at += 1;
-    }
-
-    /// Prints, or returns where no operation is left.
-    fn shared_step(&mut self) -> Result<(), AllocError>
-        requires { 0 < self.old.steps_left }
-        ensures { OnOk result (self.new.steps_left + 1 ≡ self.old.steps_left) }
-    {
-        match self.ops.get(self.at) {
-            Some(Op::Println { from }) => self.println(*from)?,
-            _ => self.stop = Some(Ending::Done),
-        }
-        self.steps_left -= 1;
         Ok(())
     }
 
     /// Prints a number and LF, where there is room for them.
-    fn println(&mut self, from: Register) -> Result<(), AllocError>
-        requires { self.old.at < length self.old.ops.now }
-        ensures { self.new.steps_left ≡ self.old.steps_left }
+    fn println(&mut self, from: u16, most: u32) -> Result<(), AllocError>
+        requires in_range { from < 16 }
+        requires next { self.old.at + 1 < 2 ^ 64 }
+        ensures stops { OnOk result (nat_lt most (length self.old.output.items + length (line_of (value_at self.old.registers from))) ≡ true → state_of self.new ≡ record (state_of self.old) { stop = Some Ending.Output }) }
+        ensures prints { OnOk result (nat_lt most (length self.old.output.items + length (line_of (value_at self.old.registers from))) ≡ false → state_of self.new ≡ record (state_of self.old) { at = self.old.at + 1; output = self.old.output.items ++ line_of (value_at self.old.registers from) }) }
     {
-        let line = format!(in *self.output.allocator(); "{}\n", self.registers.get(from))?;
-        if self.output.len() + line.len() > self.most_output as usize {
+        let line = format!(in *self.output.allocator(); "{}\n", self.registers[from as usize])?;
+        if self.output.len() + line.len() > most as usize {
             self.stop = Some(Ending::Output);
         } else {
             self.output.extend_from_slice(line.as_bytes())?;
@@ -134,4 +174,11 @@ impl<'a> Machine<'a> {
         }
         Ok(())
     }
+}
+
+/// Whether an instruction touches the registers alone.
+fn is_local(insn: Instruction) -> bool
+    ensures { result ≡ is_local insn }
+{
+    !matches!(insn, Instruction::ReturnVoid | Instruction::Println { .. })
 }

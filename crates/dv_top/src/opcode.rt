@@ -12,8 +12,14 @@ pub enum Opcode {
 }
 
 impl Opcode {
+    ghost use Rattle.std.specs.Prelude.{◌≡◌, Some};
+    ghost use Rattle.dv_top.specs.declared.opcode.Opcode.{Opcode};
+    ghost use Rattle.dv_top.specs.Opcode.{number_of};
+
     /// The opcode of this number.
-    pub fn of(number: u8) -> Option<Opcode> {
+    pub fn of(number: u8) -> Option<Opcode>
+        ensures { (o : Opcode) → number ≡ number_of o → result ≡ Some o }
+    {
         match number {
             0x00 => Some(Opcode::Nop),
             0x01 => Some(Opcode::Move),

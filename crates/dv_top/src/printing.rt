@@ -1,4 +1,11 @@
 // The printed texts.
+ghost use Rattle.std.specs.Prelude.{◌≡◌, ◌<◌, ◌++◌, ◌∷◌, [], IfOk, OnOk, false, string_bytes};
+ghost use Rattle.std.specs.Fmt.{digit_glyph};
+ghost use Rattle.dv_top.specs.Printing.{main_fault_line, main_fault_text};
+ghost use Rattle.dv_top.specs.Program.{printed_text, ending_line};
+ghost use Rattle.dv_top.specs.Said.{four_digits, rule_text};
+ghost use Rattle.dv_machine.specs.Final.{closed};
+
 use dv_defs::{Ending, Fault, Rule};
 use std::alloc::{AllocError, Global};
 
@@ -13,7 +20,9 @@ pub const TOO_LARGE: &[u8] = b"#refused text too large\n";
 pub const NOT_BUILT: &[u8] = b"#not built\n";
 
 /// The lines of the faults of main in the class of this descriptor.
-pub fn fault_lines(alloc: Global, class: &[u8], faults: &[Fault]) -> Result<Vec<u8>, AllocError> {
+pub fn fault_lines(alloc: Global, class: &[u8], faults: &[Fault]) -> Result<Vec<u8>, AllocError>
+    ensures { IfOk result (λ lines. lines.items ≡ main_fault_text class.now faults.now) }
+{
     let mut lines = Vec::new(alloc);
     for fault in faults {
         push_fault_line(alloc, &mut lines, class, fault)?;
@@ -26,33 +35,80 @@ fn push_fault_line(
     lines: &mut Vec<u8>,
     class: &[u8],
     fault: &Fault,
-) -> Result<(), AllocError> {
-    let (letter, number) = match fault.rule {
-        Rule::S(number) => ('S', number),
-        Rule::V(number) => ('V', number),
-    };
-    let address = fault.address;
-    let place = format!(in alloc; "->main()V {address:04x} {letter}{number}\n")?;
+) -> Result<(), AllocError>
+    ensures { OnOk result (lines.new.items ≡ lines.old.items ++ (main_fault_line class.now fault.now ++ 10 ∷ [])) }
+{
     lines.extend_from_slice(b"#fault ")?;
     lines.extend_from_slice(class)?;
-    lines.extend_from_slice(place.as_bytes())
+    lines.extend_from_slice(b"->main()V ")?;
+    lines.extend_from_slice(&four_digits(fault.address))?;
+    lines.extend_from_slice(b" ")?;
+    let rule = rule_text(alloc, fault.rule)?;
+    lines.extend_from_slice(rule.as_bytes())?;
+    lines.extend_from_slice(b"\n")?;
+    Ok(())
+}
+
+/// The last four hexadecimal digits of an address.
+fn four_digits(address: u32) -> [u8; 4]
+    ensures { result ≡ four_digits address }
+{
+    [
+        digit(address / 4096 % 16),
+        digit(address / 256 % 16),
+        digit(address / 16 % 16),
+        digit(address % 16),
+    ]
+}
+
+/// A lower-case hexadecimal digit.
+fn digit(value: u32) -> u8
+    requires { value < 16 }
+    ensures { result ≡ digit_glyph false value }
+{
+    if value < 10 {
+        b'0' + value as u8
+    } else {
+        b'a' + (value - 10) as u8
+    }
+}
+
+fn rule_text(alloc: Global, rule: Rule) -> Result<String, AllocError>
+    ensures { IfOk result (λ text. string_bytes text ≡ rule_text rule) }
+{
+    match rule {
+        Rule::S(number) => format!(in alloc; "S{number}"),
+        Rule::V(number) => format!(in alloc; "V{number}"),
+    }
 }
 
 /// The final text: the printed bytes, each line of which is whole, and the line of the ending.
-pub fn final_text(alloc: Global, output: &[u8], ending: Ending) -> Result<Vec<u8>, AllocError> {
+pub fn final_text(alloc: Global, output: &[u8], ending: Ending) -> Result<Vec<u8>, AllocError>
+    ensures { IfOk result (λ text. text.items ≡ printed_text output.now ending) }
+{
+    let mut text = closed(alloc, output)?;
+    let end = ending_line(alloc, ending)?;
+    text.extend_from_slice(end.as_bytes())?;
+    Ok(text)
+}
+
+/// The bytes, and LF where their last line isn't whole.
+fn closed(alloc: Global, output: &[u8]) -> Result<Vec<u8>, AllocError>
+    ensures { IfOk result (λ text. text.items ≡ closed output.now) }
+{
     let mut text = Vec::from_slice(alloc, output)?;
     if let [.., last] = output {
         if *last != b'\n' {
             text.push(b'\n')?;
         }
     }
-    let end = ending_line(alloc, ending)?;
-    text.extend_from_slice(end.as_bytes())?;
     Ok(text)
 }
 
 /// The line that tells how the run ended; a number is a thread's.
-fn ending_line(alloc: Global, ending: Ending) -> Result<String, AllocError> {
+fn ending_line(alloc: Global, ending: Ending) -> Result<String, AllocError>
+    ensures { IfOk result (λ text. string_bytes text ≡ ending_line ending) }
+{
     match ending {
         Ending::Done => String::from_str(alloc, "#end done\n"),
         Ending::HeapFull(thread) => format!(in alloc; "#end heap full {thread}\n"),

@@ -1,6 +1,6 @@
 // Reads a source to its end, or to one byte past the limit.
-ghost use Rattle.std.specs.Prelude.{◌≡◌, ◌<◌, ◌≤◌, ℕ, List, length, take, IfOk, OnErr, IsErrOf};
-ghost use Rattle.dv_io.specs.Io.{HasRisen};
+ghost use Rattle.std.specs.Prelude.{◌≡◌, ◌<◌, ◌≤◌, ℕ, List, length, take, IfOk, OnOk, IsErrOf};
+ghost use Rattle.dv_io.specs.Io.{HasRisen, after_taking};
 ghost use Rattle.dv_top.specs.declared.reading.ReadError.TheVariants.{Memory, Failed as ReadFailed};
 
 use dv_io::{Failed, Source};
@@ -32,6 +32,7 @@ pub const LIMIT: usize = 8388608;
 
 pub fn read_all<S: Source>(alloc: Global, source: &mut S) -> Result<Vec<u8>, ReadError>
     ensures all { IfOk result (λ v. (bytes : List ℕ) → S.left source.old ≡ Some bytes → v.items ≡ take 8388609 bytes) }
+    ensures left { OnOk result (S.left source.new ≡ after_taking 8388609 (S.left source.old)) }
     ensures count { S.faults source.old ≤ S.faults source.new }
     ensures failed { IsErrOf result ReadError.Failed → HasRisen (S.faults source.old) (S.faults source.new) }
 {

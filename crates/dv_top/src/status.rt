@@ -33,7 +33,8 @@ pub enum Status {
 }
 
 impl Status {
-    ghost use Rattle.dv_top.specs.Status.{code_of, IsFound};
+    ghost use Rattle.dv_top.specs.Program.{status_by};
+    ghost use Rattle.dv_top.specs.Status.{code_of};
 
     /// The number of the status.
     pub fn code(self) -> u8
@@ -44,7 +45,7 @@ impl Status {
 
     /// The status of a run that ended so.
     pub fn of(ending: Ending) -> Status
-        ensures { IsFound result }
+        ensures { code_of result ≡ status_by ending }
     {
         match ending {
             Ending::Done => Status::Done,

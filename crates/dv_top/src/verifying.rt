@@ -1,187 +1,114 @@
-// Verifies a straight method: once over its addresses, from 0 to the first return-void.
-ghost use Rattle.std.specs.Prelude.{◌<◌, ◌^◌, length, IfOk};
+// Verifies a straight method: once over its instructions, up to the first return-void.
+ghost use Rattle.std.specs.Prelude.{◌≡◌, ◌+◌, ◌≤◌, ◌<◌, ◌++◌, ◌^◌, [], All, IfOk, OnOk, sum_by};
+ghost use Rattle.dv_top.specs.Program.{faults_of, faults_from, no_ints, holds_int, reads_ints, ints_after, fault_unless};
+ghost use Rattle.dv_top.specs.Straight.{IsInRange, size_of};
 
-use crate::opcode::Opcode;
-use crate::program::{Op, Register, Registers};
-use dv_defs::{Body, Fault, Image, Insn, MethodId, Rule};
-use dv_units::decode;
+use crate::instruction::Instruction;
+use crate::linking::MAIN_METHOD;
+use dv_defs::{Fault, Rule};
 use std::alloc::{AllocError, Global};
 
-/// What the verifier finds of a method: the operations before its return-void, or its faults.
-#[derive(Drop)]
-pub enum Verdict {
-    Accepted(Vec<Op>),
-    Refused(Vec<Fault>),
-}
-
-/// Verifies a method of the image. Code after the first return-void isn't reached, so it needs no typing.
-pub fn verify(alloc: Global, image: &Image, method: MethodId) -> Result<Verdict, AllocError> {
-    let mut verifier = Verifier::new(alloc, method);
-    match code_of(image, method) {
-        Some(code) => verifier.go_through(&code)?,
-        None => {}
-    }
-    Ok(verifier.verdict())
-}
-
-/// A method's body with the methods that its pool names.
-#[derive(Drop)]
-struct Code<'a> {
-    body: &'a Body,
-    callees: &'a [MethodId],
-}
-
-fn code_of(image: &Image, method: MethodId) -> Option<Code<'_>> {
-    let info = image.methods.items().get(method.0 as usize)?;
-    let class = image.classes.items().get(info.class.0 as usize)?;
-    let def = class.def.methods.items().get(info.place as usize)?;
-    let body = def.body.as_ref()?;
-    Some(Code {
-        body,
-        callees: info.methods.items(),
-    })
-}
-
-/// An instruction with its operands resolved.
-enum Resolved {
-    Op(Op),
-    ReturnVoid,
-}
-
-impl Code<'_> {
-    /// The instruction at an address with its size in units, or the static rule that it breaks.
-    fn fetch(&self, at: usize) -> Result<(Resolved, usize), Rule>
-        requires { at < length self.now.body.now.units }
-        ensures { IfOk result (λ found. (0 < found.1) × (found.1 < 2 ^ 32)) }
-    {
-        let body = self.body;
-        let (insn, size) = match decode(body.units.items(), at) {
-            Ok(found) => found,
-            Err(_) => return Err(Rule::S(1)),
-        };
-        Ok((self.resolve(&insn)?, size as usize))
-    }
-
-    fn resolve(&self, insn: &Insn) -> Result<Resolved, Rule> {
-        let [a, b, c, _, _] = insn.regs.first;
-        match Opcode::of(insn.op).ok_or(Rule::S(1))? {
-            Opcode::Nop => Ok(Resolved::Op(Op::Nop)),
-            Opcode::ReturnVoid => Ok(Resolved::ReturnVoid),
-            Opcode::Const4 | Opcode::Const16 => Ok(Resolved::Op(Op::Const {
-                to: self.register(a)?,
-                value: i32::try_from(insn.lit).ok().ok_or(Rule::S(1))?,
-            })),
-            Opcode::Move => Ok(Resolved::Op(Op::Move {
-                to: self.register(a)?,
-                from: self.register(b)?,
-            })),
-            Opcode::AddInt => Ok(Resolved::Op(Op::Add {
-                to: self.register(a)?,
-                left: self.register(b)?,
-                right: self.register(c)?,
-            })),
-            Opcode::InvokeStatic => {
-                self.callees.get(insn.index as usize).ok_or(Rule::S(12))?;
-                Ok(Resolved::Op(Op::Println {
-                    from: self.register(a)?,
-                }))
-            }
+/// The faults of main: each instruction that reads a register which holds no int.
+/// What stands after the first return-void isn't reached, so it needs no typing.
+pub fn verify(alloc: Global, insns: &[Instruction]) -> Result<Vec<Fault>, AllocError>
+    requires in_range { All (λ i. IsInRange 16 i) insns.now }
+    requires short { sum_by size_of insns.now ≤ 16384 }
+    ensures { IfOk result (λ faults. faults.items ≡ faults_of insns.now) }
+{
+    let mut verifier = Verifier::new(alloc);
+    'insns: for insn in insns {
+        if *insn == Instruction::ReturnVoid {
+            return Ok(verifier.into_faults());
         }
+        verifier.judge(*insn)?;
     }
-
-    /// A register of the method.
-    fn register(&self, number: u16) -> Result<Register, Rule> {
-        let body = self.body;
-        if number < body.registers {
-            Register::of(number).ok_or(Rule::S(11))
-        } else {
-            Err(Rule::S(11))
-        }
-    }
+    Ok(verifier.into_faults())
 }
 
-/// What was found so far: the operations, the faults, and which registers hold an int.
+/// What is found at an address: which registers hold an int there, and the faults before it.
 #[derive(Drop)]
 struct Verifier {
-    method: MethodId,
-    ops: Vec<Op>,
+    address: u32,
+    ints: [bool; 16],
     faults: Vec<Fault>,
-    ints: Registers<bool>,
 }
 
 impl Verifier {
-    fn new(alloc: Global, method: MethodId) -> Verifier {
+    fn new(alloc: Global) -> Verifier
+        ensures address { result.address ≡ 0 }
+        ensures ints { result.ints ≡ no_ints }
+        ensures faults { result.faults.items ≡ [] }
+    {
         Verifier {
-            method,
-            ops: Vec::new(alloc),
+            address: 0,
+            ints: [false; 16],
             faults: Vec::new(alloc),
-            ints: Registers::filled(false),
         }
     }
 
-    /// Goes from address 0 to the first return-void. A static fault is told alone.
-    fn go_through(&mut self, code: &Code) -> Result<(), AllocError> {
-        let body = code.body;
-        let end = body.units.len();
-        let mut at = 0;
-        'code: while at < end {
-            match code.fetch(at) {
-                Ok((Resolved::Op(op), size)) => {
-                    self.judge(op, at)?;
-                    at += size;
-                }
-                Ok((Resolved::ReturnVoid, _)) => return Ok(()),
-                Err(rule) => {
-                    self.faults.clear();
-                    return self.tell(at, rule);
-                }
-            }
-        }
-        self.tell(at, Rule::V(1))
+    fn into_faults(self) -> Vec<Fault>
+        ensures { result ≡ self.faults }
+    {
+        let Verifier { faults, .. } = self;
+        faults
     }
 
-    /// Keeps an operation, after its demand: each register that it reads holds an int.
-    fn judge(&mut self, op: Op, at: usize) -> Result<(), AllocError> {
-        if !self.reads_ints(op) {
-            self.tell(at, Rule::V(2))?;
+    /// Asks an instruction's demand, that each register which it reads holds an int, and passes over it.
+    fn judge(&mut self, insn: Instruction) -> Result<(), AllocError>
+        requires in_range { IsInRange 16 insn }
+        requires room { self.old.address + size_of insn < 2 ^ 32 }
+        ensures faults { OnOk result (self.new.faults.items ≡ self.old.faults.items ++ fault_unless (reads_ints self.old.ints insn) self.old.address) }
+        ensures ints { OnOk result (self.new.ints ≡ ints_after self.old.ints insn) }
+        ensures address { OnOk result (self.new.address ≡ self.old.address + size_of insn) }
+    {
+        if !self.reads_ints(insn) {
+            self.faults.push(Fault {
+                method: MAIN_METHOD,
+                address: self.address,
+                rule: Rule::V(2),
+            })?;
         }
-        self.write(op);
-        self.ops.push(op)?;
+        self.write(insn);
+        self.address += insn.size() as u32;
         Ok(())
     }
 
-    fn reads_ints(&self, op: Op) -> bool {
-        match op {
-            Op::Nop | Op::Const { .. } => true,
-            Op::Move { from, .. } | Op::Println { from } => self.ints.get(from),
-            Op::Add { left, right, .. } => self.ints.get(left) && self.ints.get(right),
+    fn holds_int(&self, register: u16) -> bool
+        requires { register < 16 }
+        ensures { result ≡ holds_int self.now.ints register }
+    {
+        self.ints[register as usize]
+    }
+
+    fn reads_ints(&self, insn: Instruction) -> bool
+        requires { IsInRange 16 insn }
+        ensures { result ≡ reads_ints self.now.ints insn }
+    {
+        match insn {
+            Instruction::Nop
+            | Instruction::ReturnVoid
+            | Instruction::Const4 { .. }
+            | Instruction::Const16 { .. } => true,
+            Instruction::Move { from, .. } | Instruction::Println { from } => self.holds_int(from),
+            Instruction::AddInt { left, right, .. } => {
+                self.holds_int(left) && self.holds_int(right)
+            }
         }
     }
 
     /// A move from a register that holds no int leaves none in its target; a sum is an int.
-    fn write(&mut self, op: Op) {
-        match op {
-            Op::Nop | Op::Println { .. } => {}
-            Op::Const { to, .. } | Op::Add { to, .. } => self.ints.set(to, true),
-            Op::Move { to, from } => self.ints.set(to, self.ints.get(from)),
-        }
-    }
-
-    fn tell(&mut self, at: usize, rule: Rule) -> Result<(), AllocError> {
-        self.faults.push(Fault {
-            method: self.method,
-            address: u32::try_from(at).unwrap_or(u32::MAX),
-            rule,
-        })?;
-        Ok(())
-    }
-
-    fn verdict(self) -> Verdict {
-        let Verifier { ops, faults, .. } = self;
-        if faults.is_empty() {
-            Verdict::Accepted(ops)
-        } else {
-            Verdict::Refused(faults)
+    fn write(&mut self, insn: Instruction)
+        requires { IsInRange 16 insn }
+        ensures ints { self.new.ints ≡ ints_after self.old.ints insn }
+        ensures address { self.new.address ≡ self.old.address }
+        ensures faults { self.new.faults ≡ self.old.faults }
+    {
+        match insn {
+            Instruction::Nop | Instruction::ReturnVoid | Instruction::Println { .. } => {}
+            Instruction::Const4 { to, .. }
+            | Instruction::Const16 { to, .. }
+            | Instruction::AddInt { to, .. } => self.ints[to as usize] = true,
+            Instruction::Move { to, from } => self.ints[to as usize] = self.holds_int(from),
         }
     }
 }

@@ -1,5 +1,5 @@
 // The command line.
-ghost use Rattle.std.specs.Prelude.{◌≡◌, ◌++◌, ◌∷◌, [], map, IfOk, string_bytes};
+ghost use Rattle.std.specs.Prelude.{◌≡◌, ◌++◌, ◌∷◌, [], map, IfOk, Some, string_bytes};
 ghost use Rattle.dv_top.specs.Words.{is_dot, is_name_byte, is_java_name, descriptor_of, class_to_run, class_of};
 
 use dv_defs::Text;
@@ -10,6 +10,17 @@ use std::alloc::{AllocError, Global};
 pub enum Command {
     /// Read the text, verify it, and run the main method of the class of this descriptor.
     Run { class: Text },
+}
+
+impl Command {
+    /// The class whose main method is to be run.
+    pub fn class(&self) -> &Text
+        ensures { class_of (Some self.now) ≡ Some result.now }
+    {
+        match self {
+            Command::Run { class } => class,
+        }
+    }
 }
 
 /// Reads the words of the command line, without the program's name; none where they aren't a command.

@@ -1,3 +1,4 @@
+-- The clauses of `moves_results`, each by its lemma.
 use Rattle.dv_laws.proofs.local.moves_results.Goals as goal
 use Rattle.dv_laws.proofs.ReadersPlain.{moves_int, moves_reference}
 

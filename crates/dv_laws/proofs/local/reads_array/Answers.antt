@@ -1,3 +1,4 @@
+-- The clauses of `reads_array`, each by its lemma.
 use Rattle.dv_laws.proofs.local.reads_array.Goals as goal
 use Rattle.dv_laws.proofs.ReadersArrays.{reads_array, tests_go_down}
 

@@ -1,3 +1,4 @@
+-- The clauses of `reads_int`, each by its lemma.
 use Rattle.dv_laws.proofs.local.reads_int.Goals as goal
 use Rattle.dv_laws.proofs.ReadersPlain.{reads_int, keeps_int, reads_argument}
 

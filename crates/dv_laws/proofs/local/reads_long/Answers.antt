@@ -1,3 +1,4 @@
+-- The clauses of `reads_long`, each by its lemma.
 use Rattle.dv_laws.proofs.local.reads_long.Goals as goal
 use Rattle.dv_laws.proofs.ReadersPlain.{reads_two, reads_long}
 

@@ -1,3 +1,4 @@
+-- The clauses of `reads_reference`, each by its lemma.
 use Rattle.dv_laws.proofs.local.reads_reference.Goals as goal
 use Rattle.dv_laws.proofs.ReadersPlain.{reads_reference, reads_reference_to}
 

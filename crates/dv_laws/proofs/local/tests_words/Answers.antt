@@ -1,3 +1,4 @@
+-- The clauses of `tests_words`, each by its lemma.
 use Rattle.dv_laws.proofs.local.tests_words.Goals as goal
 use Rattle.dv_laws.proofs.ReadersPlain.{tests_both, tests_zero}
 

@@ -1,6 +1,7 @@
-use Rattle.std.proofs.Common.{arith, ap, length, take, ◌≤◌, Ok, ◌+◌, length-append}
+use Rattle.std.proofs.Common.{arith, ap, length, take, ◌≤◌, Ok, ◌+◌, ◌∙◌, length-append}
 use Rattle.std.proofs.lemmas.List.{length-take}
-use Rattle.dv_top.proofs.PieceLemmas.{read_more, read_all_at_end, read_all_past}
+use Rattle.dv_io.specs.Io.{after_taking}
+use Rattle.dv_top.proofs.PieceLemmas.{read_more, read_all_at_end, read_all_past, left_at_end, left_past}
 use Rattle.dv_top.proofs.reading.read_all.Goals as goal
 
 pub returns-then-n-eq0-clause-all : goal.returns-then-n-eq0-clause-all
@@ -16,3 +17,10 @@ read-preserved g c =
 
 pub returns-clause-all : goal.returns-clause-all
 returns-clause-all g c = read_all_past _ _ _ c.read.invariant.1 (omega arith)
+
+pub returns-then-n-eq0-clause-left : goal.returns-then-n-eq0-clause-left
+returns-then-n-eq0-clause-left g c =
+    left_at_end 8388609 _ _ _ c.read.text.items c.read.invariant.1 (omega arith) (c.in_ok-n.ensures.after ∙ ap (λ n. after_taking n (g.S.Source.left c.read.source)) c.if-n-eq0.true) (c.in_ok-n.ensures.end (ap Ok c.if-n-eq0.true))
+
+pub returns-clause-left : goal.returns-clause-left
+returns-clause-left g c = left_past 8388609 _ _ c.read.text.items c.read.invariant.1 (omega arith)

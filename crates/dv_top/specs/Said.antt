@@ -1,0 +1,133 @@
+-- What is said of the words, the bytes of the text and the log: the status of the call, and what is printed.
+use Rattle.std.specs.Prelude.{◌≡◌, ℕ, ◌<◌, ◌≤◌, ◌/◌, ◌%◌, Bool, false, ◌&&◌, List, [], ◌∷◌, ◌++◌, length, map, Option, Some, None, is_some, slice_get, bytes_eq, decimal, codes}
+use Rattle.std.specs.Fmt.{digit_glyph}
+use Rattle.dv_defs.specs.declared.faults.Fault.{Fault}
+use Rattle.dv_defs.specs.declared.faults.Rule.{Rule}
+use Rattle.dv_defs.specs.declared.faults.Rule.TheVariants as rule
+use Rattle.dv_defs.specs.declared.image.Image.{Image}
+use Rattle.dv_defs.specs.declared.machine.End.{End}
+use Rattle.dv_defs.specs.declared.machine.End.TheVariants as end
+use Rattle.dv_defs.specs.declared.run.Ending.{Ending}
+use Rattle.dv_defs.specs.declared.run.Ending.TheVariants as ending
+use Rattle.dv_defs.specs.declared.run.Entry.{Entry}
+use Rattle.dv_defs.specs.Accepting.{AreImageFaults}
+use Rattle.dv_defs.specs.Names.{main_name}
+use Rattle.dv_defs.specs.Pools.{Method, method_at, name_at, class_named, declared_by, is_static, no_arguments}
+use Rattle.dv_defs.specs.Types.{same_proto}
+use Rattle.dv_names.specs.Descriptors.{prototype}
+use Rattle.dv_machine.specs.Final.{final_text}
+use Rattle.dv_machine.specs.Outcomes.{usual}
+use Rattle.dv_machine.specs.Replaying.{replay, Stands}
+use Rattle.dv_machine.specs.Running.{ending_of}
+use Rattle.dv_machine.specs.State.{Thread, Machine}
+use Rattle.dv_top.specs.declared.instruction.Instruction.{Instruction}
+use Rattle.dv_top.specs.Image.{IsLinked}
+use Rattle.dv_top.specs.Straight.{IsStraight, text_before}
+use Rattle.dv_top.specs.Words.{class_to_run}
+
+-- ---- printed texts
+
+-- lines, each ended by LF
+abbrev pub text_of : List (List ℕ) → List ℕ
+text_of lines = text_before lines []
+
+abbrev pub usage : List ℕ
+usage = text_of (codes "#usage dvm run NAME [workers=N | seed=N] [budget=N] [heap=N] [log=yes]" ∷ codes "#usage dvm replay NAME [budget=N] [heap=N] | dvm verify | dvm list" ∷ codes "#usage dvm demo number=N classes=C threads=T [workers=N]" ∷ [])
+
+abbrev pub too_large : List ℕ
+too_large = text_of (codes "#refused text too large" ∷ [])
+
+abbrev pub not_built : List ℕ
+not_built = text_of (codes "#not built" ∷ [])
+
+-- an address with four hexadecimal digits
+abbrev pub four_digits : ℕ → List ℕ
+four_digits n = map (digit_glyph false) (n / 4096 % 16 ∷ n / 256 % 16 ∷ n / 16 % 16 ∷ n % 16 ∷ [])
+
+abbrev pub rule_text : Rule → List ℕ
+rule_text (rule.S number) = codes "S" ++ decimal number
+rule_text (rule.V number) = codes "V" ++ decimal number
+
+-- the class, the name and the prototype of a method
+abbrev pub method_text : Image → Option Method → List ℕ
+method_text image None = []
+method_text image (Some m) = name_at image m.info.class.0 ++ (codes "->" ++ (m.def.name ++ prototype m.def.proto))
+
+-- a fault's method, address and rule
+abbrev pub fault_line : Image → Fault → List ℕ
+fault_line image f = codes "#fault " ++ (method_text image (method_at image f.method.0) ++ (codes " " ++ (four_digits f.address ++ (codes " " ++ rule_text f.rule))))
+
+abbrev pub fault_text : Image → List Fault → List ℕ
+fault_text image faults = text_of (map (fault_line image) faults)
+
+-- ---- runs
+
+-- a static method main()V with a body
+abbrev pub is_main : Method → Bool
+is_main m = is_static m && bytes_eq m.def.name main_name && same_proto m.def.proto no_arguments && is_some m.def.body
+
+-- the main method that the class of a name declares itself
+abbrev pub main_of : Image → List ℕ → Option Method
+main_of image class = elim (class_named image class) [ None ↦ None | Some c ↦ declared_by image c is_main ]
+
+-- 1 where thread 0 died of an exception
+abbrev pub status_by_end : Option Thread → ℕ
+status_by_end None = 0
+status_by_end (Some thread) = by_end thread.end
+  where
+    by_end : End → ℕ
+    by_end (end.Died o) = 1
+    by_end e = 0
+
+-- the status that tells of an ending
+abbrev pub status_of : Machine → Ending → ℕ
+status_of m ending.Done = status_by_end (slice_get m.threads 0)
+status_of m (ending.HeapFull t) = 7
+status_of m (ending.StackFull t) = 8
+status_of m ending.NoRunnable = 9
+status_of m ending.Steps = 10
+status_of m ending.Output = 10
+
+-- the main method of a class, run on the logged schedule, is never stuck and stands at an ending, which the status names;
+-- the text is the final text of that state
+pub record IsRun (class : List ℕ) (image : Image) (log : List Entry) (status : ℕ) (text : List ℕ) : Type 0 where
+  pub main : Method
+  pub has_main : main_of image class ≡ Some main
+  pub machine : Machine
+  pub replayed : replay image main usual log ≡ Stands machine
+  pub ending : Ending
+  pub ends : ending_of image machine ≡ Some ending
+  pub tells : status ≡ status_of machine ending
+  pub prints : text ≡ final_text image machine
+
+-- ---- what is said
+
+-- the bytes are the text of a class, not too large, and link to this image
+pub record IsBuilt (class bytes : List ℕ) (image : Image) : Type 0 where
+  pub small : length bytes ≤ 8388608
+  pub linked : IsLinked class bytes image
+
+-- ... which the verifier accepts: it has no faults
+pub record IsAccepted (class bytes : List ℕ) (image : Image) : Type 0 where
+  pub built : IsBuilt class bytes image
+  pub clean : AreImageFaults image []
+
+abbrev pub IsReply : ℕ → List ℕ → ℕ → List ℕ → Type 0
+IsReply status text own-status own-text = (own-status ≡ status) × (own-text ≡ text)
+
+-- of a class that is to be run: by cases, of which each excludes the others
+pub data IsSaidOfClass (class bytes : List ℕ) (log : List Entry) (status : ℕ) (text : List ℕ) : Type 0 where
+  -- the text has more than 8,388,608 bytes
+  TooLarge : 8388608 < length bytes → IsReply 13 too_large status text → IsSaidOfClass class bytes log status text
+  -- the text is no straight text of the class
+  NotBuilt : length bytes ≤ 8388608 → ((registers : ℕ) (insns : List Instruction) → IsStraight class bytes registers insns → ⊥) → IsReply 14 not_built status text → IsSaidOfClass class bytes log status text
+  -- the verifier refuses the image: it has faults
+  Refused : (image : Image) → IsBuilt class bytes image → (first : Fault) (others : List Fault) → AreImageFaults image (first ∷ others) → IsReply 6 (fault_text image (first ∷ others)) status text → IsSaidOfClass class bytes log status text
+  -- the image runs
+  Ran : (image : Image) → IsAccepted class bytes image → IsRun class image log status text → IsSaidOfClass class bytes log status text
+
+-- of the words, the bytes of the text, and the log
+pub data IsSaid (words : List (List ℕ)) (bytes : List ℕ) (log : List Entry) (status : ℕ) (text : List ℕ) : Type 0 where
+  -- the words aren't read
+  Unread : class_to_run words ≡ None → IsReply 2 usage status text → IsSaid words bytes log status text
+  Asked : (class : List ℕ) → class_to_run words ≡ Some class → IsSaidOfClass class bytes log status text → IsSaid words bytes log status text
