@@ -1,5 +1,9 @@
+-- The clauses of `runs_never_go_wrong`, each by its lemma.
+use Rattle.dv_laws.proofs.BridgeLaws.{bridge_holds}
+use Rattle.dv_laws.proofs.OpeningState.{opening_is_well_typed}
+use Rattle.dv_laws.proofs.SoundSteps.{steps_are_sound}
 use Rattle.dv_laws.proofs.Runs.{runs_never_go_wrong}
 use Rattle.dv_laws.proofs.sound.runs_never_go_wrong.Goals as goal
 
 pub returns : goal.returns
-returns c = record { law = runs_never_go_wrong }
+returns c = record { law = runs_never_go_wrong bridge_holds opening_is_well_typed steps_are_sound }
