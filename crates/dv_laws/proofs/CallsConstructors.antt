@@ -34,7 +34,7 @@ use Rattle.dv_machine.specs.Premises.{DidFine, HoldsOf}
 use Rattle.dv_laws.specs.Reading.{AreWords, IsUnder, ReadsReceiver}
 use Rattle.dv_laws.proofs.Demanding.{no, first_none, demanded, either_true, eq_true}
 use Rattle.dv_laws.proofs.RegistersMade.{of_fits}
-use Rattle.dv_laws.proofs.RegistersAbove.{same_number}
+use Rattle.std.proofs.lemmas.Bool.{eqb-true}
 use Rattle.dv_laws.proofs.CallsEntered.{some_same}
 use Rattle.dv_laws.proofs.ReturnsConstructed.{receiver_demanded, not_static}
 use Rattle.dv_laws.proofs.ReturnsBuilt.{IsProperAt, receiver_proper, receiver_there, this_proper, exactly_is}
@@ -59,10 +59,10 @@ module _ (image : Image) (T : Typings) (a : Accepted image T) (heap : Heap) (own
     where
       by_parent : (p : Option ℕ) → parent_at image own.info.class.0 ≡ p → is_exactly p g.info.class.0 ≡ true → sub image (own_type image own) (own_type image g) ≡ true
       by_parent None q e = no e
-      by_parent (Some p) q e = subst (λ z. sub image (own_type image own) (class_type image z) ≡ true) (same_number p g.info.class.0 e) (parent_sub image T a own.info.class.0 p (a.pools.methods has_own.0 own has_own.1) q)
+      by_parent (Some p) q e = subst (λ z. sub image (own_type image own) (class_type image z) ≡ true) (eqb-true p g.info.class.0 e) (parent_sub image T a own.info.class.0 p (a.pools.methods has_own.0 own has_own.1) q)
 
       by_side : (nat_eq own.info.class.0 g.info.class.0 ≡ true) ⊎ (is_exactly (parent_at image own.info.class.0) g.info.class.0 ≡ true) → sub image (own_type image own) (own_type image g) ≡ true
-      by_side (inl q) = subst (λ z. sub image (own_type image own) (class_type image z) ≡ true) (same_number own.info.class.0 g.info.class.0 q) (a.order.same (own_type image own))
+      by_side (inl q) = subst (λ z. sub image (own_type image own) (class_type image z) ≡ true) (eqb-true own.info.class.0 g.info.class.0 q) (a.order.same (own_type image own))
       by_side (inr q) = by_parent (parent_at image own.info.class.0) refl q
 
   fresh_holds : (P : ℕ → Type 0) (b : Bool) (o : ℕ) → b ≡ true → P o → HoldsOf P (where_fresh b o)

@@ -28,7 +28,7 @@ use Rattle.dv_machine.specs.Conforming.{IsGood, RefFine, RefsFine, Conform}
 use Rattle.dv_machine.specs.WellTyped.{Typings, own_of, this_above, records, IsPlaced, IsCalled, IsNoInitialiser, CodeFine}
 use Rattle.dv_machine.specs.Premises.{LeftFine, DidFine}
 use Rattle.dv_laws.proofs.CallsEntered.{entered_conforms, registers_are}
-use Rattle.dv_laws.proofs.RegistersAbove.{conform_above}
+use Rattle.dv_laws.proofs.OrderStates.{frame_up}
 use Rattle.dv_laws.proofs.LocalStill.{still, same_shared, IsQuiet}
 use Rattle.dv_laws.proofs.LocalStands.{Stands, code_fine, frame_refs, rest_refs, stack_fine}
 
@@ -117,7 +117,7 @@ module _ (image : Image) (T : Typings) (m : Machine) (t : ℕ) (thread : Thread)
           has_method = e.there;
           state = l.state;
           has_state = l.has_state;
-          conform = conform_above image h.may.accepted.order heap (own_of image (this_above image below_it) k) (entered_frame k xs p) _ l.state l.below pushed_conforms;
+          conform = frame_up image h.may.accepted.order heap (own_of image (this_above image below_it) k) (entered_frame k xs p) _ l.state l.below pushed_conforms;
         }
 
     caller_placed : IsPlaced image T heap (this_above image rest) f

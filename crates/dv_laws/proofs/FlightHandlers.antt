@@ -23,7 +23,7 @@ use Rattle.dv_machine.specs.WellTyped.{Typings, own_of, IsPlaced, IsHandled, IsT
 use Rattle.dv_machine.specs.Accepted.{Accepted, IsFine, FindsRightly}
 use Rattle.dv_laws.proofs.GrowthLists.{same_some}
 use Rattle.dv_laws.proofs.OrderTypes.{under_reference}
-use Rattle.dv_laws.proofs.RegistersAbove.{conform_above}
+use Rattle.dv_laws.proofs.OrderStates.{frame_up}
 
 -- ---- what fits a class is a reference
 
@@ -68,7 +68,7 @@ module _ (image : Image) (T : Typings) (acc : Accepted image T) (heap : Heap) wh
       has_method = has;
       state = l.state;
       has_state = l.has_state;
-      conform = conform_above image acc.order heap (own_of image this method) (caught_frame f h.to o) (caught_state s h) l.state l.below (record { good = conform.good; result = tt; caught = caught_is o thrown h.ty e; this_pending = conform.this_pending });
+      conform = frame_up image acc.order heap (own_of image this method) (caught_frame f h.to o) (caught_state s h) l.state l.below (record { good = conform.good; result = tt; caught = caught_is o thrown h.ty e; this_pending = conform.this_pending });
     }
 
     -- the handlers of the address that an instruction's exception is searched in

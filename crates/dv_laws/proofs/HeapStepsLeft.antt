@@ -38,7 +38,7 @@ use Rattle.dv_laws.proofs.GrowthThreads.{records_after}
 use Rattle.dv_laws.proofs.MonitorsOwners.{entry_none}
 use Rattle.dv_laws.proofs.MonitorsMoved.{quiet_moved}
 use Rattle.dv_laws.proofs.FlightFlown.{living_fine, records_of, lowest_top}
-use Rattle.dv_laws.proofs.RegistersAbove.{conform_above}
+use Rattle.dv_laws.proofs.OrderStates.{frame_up}
 use Rattle.dv_laws.proofs.RegistersWritten.{write_keeps, long_write_keeps}
 use Rattle.dv_laws.proofs.LocalStands.{Stands, rest_refs, frame_refs}
 use Rattle.dv_laws.proofs.LocalFine.{quiet}
@@ -91,7 +91,7 @@ module _ (image : Image) (T : Typings) (m : Machine) (t : ℕ) (thread : Thread)
               lowest_top (level.Code f) (record { method = f.method; at = x.next; regs = ys; result = p; caught = None; this_pending = f.this_pending }) rest living.0,
               (
                 record { frame = record { code = code.frame.code; has_code = code.frame.has_code; registers = n ∙ code.frame.registers }; below = code.below },
-                record { method = own; has_method = h.has_own; state = l.state; has_state = l.has_state; conform = conform_above image h.may.accepted.order after (own_of image (this_above image rest) own) _ (record { regs = ts; result = r; caught = None; this_pending = s.this_pending }) l.state l.below (record { good = good; result = result; caught = tt; this_pending = h.conform.this_pending }) },
+                record { method = own; has_method = h.has_own; state = l.state; has_state = l.has_state; conform = frame_up image h.may.accepted.order after (own_of image (this_above image rest) own) _ (record { regs = ts; result = r; caught = None; this_pending = s.this_pending }) l.state l.below (record { good = good; result = result; caught = tt; this_pending = h.conform.this_pending }) },
                 tt,
                 stack_grown image m.shared.heap after g T t rest h.rest_fine,
               ),

@@ -72,7 +72,6 @@ pub mod RecordsEntered
 pub mod RecordsFine
 pub mod RecordsStarted
 pub mod RecordsStates
-pub mod RegistersAbove
 pub mod RegistersMade
 pub mod RegistersWritten
 pub mod ReturnsBuilt

@@ -20,7 +20,7 @@ use Rattle.dv_machine.specs.Conforming.{Conform, RefsFine}
 use Rattle.dv_machine.specs.WellTyped.{Typings, own_of, this_above, lowest, IsCode, BelowCode, IsPlaced, CodeFine, StackFine, ThreadFine}
 use Rattle.dv_machine.specs.Premises.{MayStep, IsAt}
 use Rattle.dv_laws.proofs.CallsEntered.{some_same, code_is}
-use Rattle.dv_laws.proofs.RegistersAbove.{conform_above}
+use Rattle.dv_laws.proofs.OrderStates.{frame_up}
 use Rattle.dv_laws.proofs.LocalStill.{all_at}
 
 -- what a case knows, of the machine's own parts
@@ -100,7 +100,7 @@ module _ (image : Image) (T : Typings) (m : Machine) (t : ℕ) (thread : Thread)
     has_method = ap (λ z. method_at image z.0) e ∙ h.has_own;
     state = l.state;
     has_state = ap (λ z. T z.0 g.at) e ∙ l.has_state;
-    conform = conform_above image h.may.accepted.order m.shared.heap (own_of image (this_above image rest) own) g st l.state l.below c;
+    conform = frame_up image h.may.accepted.order m.shared.heap (own_of image (this_above image rest) own) g st l.state l.below c;
   }
 
   -- another frame of the same method in place of the thread's own

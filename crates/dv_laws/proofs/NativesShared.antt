@@ -36,7 +36,7 @@ use Rattle.dv_laws.proofs.GrowthKinds.{good_grown, stack_grown, refs_grown, all_
 use Rattle.dv_laws.proofs.GrowthThreads.{records_after}
 use Rattle.dv_laws.proofs.MonitorsMoved.{quiet_moved}
 use Rattle.dv_laws.proofs.FlightFlown.{records_of}
-use Rattle.dv_laws.proofs.RegistersAbove.{conform_above}
+use Rattle.dv_laws.proofs.OrderStates.{frame_up}
 use Rattle.dv_laws.proofs.LocalStill.{IsQuiet}
 use Rattle.dv_laws.proofs.LocalStands.{Stands, same_lowest, stack_fine, code_fine, frame_refs, rest_refs}
 use Rattle.dv_laws.proofs.CallsInvoked.{WaitsAt, quiet_at, throws, no_entry, CallsNative, IsReceiver, no_receiver_of}
@@ -129,7 +129,7 @@ module _ (image : Image) (T : Typings) (m : Machine) (t : ℕ) (thread : Thread)
       has_method = h.has_own;
       state = native_leads.state;
       has_state = native_leads.has_state;
-      conform = conform_above image h.may.accepted.order new (own_of image (this_above image rest) own) frame_after state_after native_leads.state native_leads.below after_conforms;
+      conform = frame_up image h.may.accepted.order new (own_of image (this_above image rest) own) frame_after state_after native_leads.state native_leads.below after_conforms;
     }
 
     after_code : CodeFine image T new frame_after rest

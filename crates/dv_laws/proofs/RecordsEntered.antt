@@ -19,7 +19,7 @@ use Rattle.dv_machine.specs.Conforming.{Own, IsGood, Conform, RefFine, RefsFine}
 use Rattle.dv_machine.specs.WellTyped.{Typings, own_of, IsPlaced, CodeFine, BelowCode}
 use Rattle.dv_machine.specs.Accepted.{Accepted}
 use Rattle.dv_laws.proofs.CallsEntered.{entered_conforms}
-use Rattle.dv_laws.proofs.RegistersAbove.{conform_above}
+use Rattle.dv_laws.proofs.OrderStates.{frame_up}
 
 -- the code of a method with a body
 pub record HasCode (image : Image) (m : Method) (b : Body) : Type 0 where
@@ -72,5 +72,5 @@ module _ (image : Image) (T : Typings) (acc : Accepted image T) (heap : Heap) (m
         has_method = there;
         state = l.state;
         has_state = l.has_state;
-        conform = conform_above image acc.order heap (own_of image this m) (entered_frame m xs false) _ l.state l.below (subst (λ (st : RegState). Conform image heap (own_of image this m) (entered_frame m xs false) st) same conform);
+        conform = frame_up image acc.order heap (own_of image this m) (entered_frame m xs false) _ l.state l.below (subst (λ (st : RegState). Conform image heap (own_of image this m) (entered_frame m xs false) st) same conform);
       }

@@ -32,7 +32,7 @@ use Rattle.dv_laws.specs.Returning.{IsBuilt}
 use Rattle.dv_laws.proofs.Demanding.{no, demanded}
 use Rattle.dv_laws.proofs.CallsEntered.{some_same, code_is}
 use Rattle.dv_laws.proofs.CallsResolved.{IsNamed, is_named}
-use Rattle.dv_laws.proofs.RegistersAbove.{same_number}
+use Rattle.std.proofs.lemmas.Bool.{eqb-true}
 use Rattle.dv_laws.proofs.ReturnsConstructed.{receiver_demanded}
 
 -- what a placed frame's instruction owes
@@ -59,7 +59,7 @@ module _ (image : Image) (T : Typings) (a : Accepted image T) (heap : Heap) wher
 
   pub exactly_is : (o : Option ℕ) (c d : ℕ) → o ≡ Some c → is_exactly o d ≡ true → c ≡ d
   exactly_is None c d e q = no q
-  exactly_is (Some b) c d e q = sym (some_same b c e) ∙ same_number b d q
+  exactly_is (Some b) c d e q = sym (some_same b c e) ∙ eqb-true b d q
 
   -- the receiver of a constructor's call, where the frames below have such too
   pub receiver_proper : (this : Option ℕ) (m : Method) (n : ℕ) (g : Method) → method_at image n ≡ Some g → is_constructor g ≡ true → ((o : ℕ) → this ≡ Some o → IsProperAt image heap o) → (x : Value) (t : RegType) → Conforms image heap (own_of image this m) x t → receiver_for image m g t ≡ None → (o : ℕ) → object_of x ≡ Some o → IsProperAt image heap o

@@ -27,7 +27,7 @@ use Rattle.dv_machine.specs.Conforming.{Conform, Conforms, ResultFine, RefsFine,
 use Rattle.dv_machine.specs.WellTyped.{Typings, own_of, this_above, BelowCode, IsPlaced, IsCalled, CodeFine, StackFine, records}
 use Rattle.dv_machine.specs.Premises.{LeftFine}
 use Rattle.dv_laws.specs.Returning.{IsBuilt, IsBack}
-use Rattle.dv_laws.proofs.RegistersAbove.{conform_above}
+use Rattle.dv_laws.proofs.OrderStates.{frame_up}
 use Rattle.dv_laws.proofs.CallsEntered.{some_same}
 use Rattle.dv_laws.proofs.CallsResolved.{is_named}
 use Rattle.dv_laws.proofs.LocalStill.{still, same_shared, IsQuiet}
@@ -117,7 +117,7 @@ module _ (image : Image) (T : Typings) (m : Machine) (t : ℕ) (thread : Thread)
       has_method = ap (λ z. method_at image z.0) (returned_method (is_constructor own) g called.at p) ∙ caller.has_method;
       state = leads.state;
       has_state = ap (λ z. T z.0 after.at) (returned_method (is_constructor own) g called.at p) ∙ ap (T g.method.0) (returned_at (is_constructor own) g called.at p) ∙ leads.has_state;
-      conform = conform_above image h.may.accepted.order heap (own_of image (this_above image ls) caller.method) after _ leads.state leads.below conforms;
+      conform = frame_up image h.may.accepted.order heap (own_of image (this_above image ls) caller.method) after _ leads.state leads.below conforms;
     }
 
     after_code : CodeFine image T heap after ls

@@ -14,7 +14,7 @@ use Rattle.dv_defs.specs.Heap.{Heap}
 use Rattle.dv_machine.specs.State.{reg_at, with_result}
 use Rattle.dv_machine.specs.Calls.{initialised, initialised_in, object_of, constructed, receiver_of, returned}
 use Rattle.dv_machine.specs.Conforming.{RefFine, ResultFine, RefsFine, IsThere}
-use Rattle.dv_laws.proofs.RegistersAbove.{same_number}
+use Rattle.std.proofs.lemmas.Bool.{eqb-true}
 
 pub returned_method : (b : Bool) (g : Frame) (x : At) (p : Pending) → (returned b g x p).method ≡ g.method
 returned_method false g x p = refl
@@ -50,12 +50,12 @@ module _ (image : Image) (heap : Heap) where
   initialised_fine o h (v.Uninit a p) r = by_test (nat_eq o p) refl
     where
       by_test : (b : Bool) → nat_eq o p ≡ b → RefFine image heap (elim b as (λ w. Value) [ true ↦ v.Ref p | false ↦ v.Uninit a p ])
-      by_test true e = subst (IsThere image heap) (same_number o p e) h
+      by_test true e = subst (IsThere image heap) (eqb-true o p e) h
       by_test false e = tt
   initialised_fine o h (v.UninitThis p) r = by_test (nat_eq o p) refl
     where
       by_test : (b : Bool) → nat_eq o p ≡ b → RefFine image heap (elim b as (λ w. Value) [ true ↦ v.Ref p | false ↦ v.UninitThis p ])
-      by_test true e = subst (IsThere image heap) (same_number o p e) h
+      by_test true e = subst (IsThere image heap) (eqb-true o p e) h
       by_test false e = tt
   initialised_fine o h x r = r
 
