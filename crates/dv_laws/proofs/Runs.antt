@@ -1,12 +1,10 @@
 -- From steps to whole runs: on no schedule is the machine stuck.
-use Rattle.std.proofs.Common.{◌≡◌, ℕ, zero, suc, Bool, true, false, List, [], ◌∷◌, Option, Some, None, subst, sym, refl}
+use Rattle.std.proofs.Common.{◌≡◌, ℕ, zero, suc, Bool, true, false, List, [], ◌∷◌, Option, Some, None, subst, refl}
 use Rattle.std.specs.Prelude.{Ok, Err}
 use Rattle.dv_defs.specs.declared.image.Image.{Image}
 use Rattle.dv_defs.specs.declared.run.Ending.{Ending}
 use Rattle.dv_defs.specs.declared.run.Entry.{Entry}
-use Rattle.dv_defs.specs.declared.run.Limits.{Limits}
 use Rattle.dv_defs.specs.declared.run.Why.{Why}
-use Rattle.dv_defs.specs.Pools.{Method}
 use Rattle.dv_machine.specs.Accepted.{Accepted}
 use Rattle.dv_machine.specs.Opening.{opening}
 use Rattle.dv_machine.specs.Premises.{HoldsOf}
@@ -14,9 +12,9 @@ use Rattle.dv_machine.specs.Replaying.{Replayed, Stands, NotRunnable, PastEnd, W
 use Rattle.dv_machine.specs.Running.{runnable, ending_of}
 use Rattle.dv_machine.specs.State.{Machine, Reads}
 use Rattle.dv_machine.specs.Step.{step}
-use Rattle.dv_machine.specs.StepLaws.{IsMain, OpeningIsWellTyped, StepsAreSound}
+use Rattle.dv_machine.specs.StepLaws.{OpeningIsWellTyped, StepsAreSound}
 use Rattle.dv_machine.specs.WellTyped.{Typings, WellTyped}
-use Rattle.dv_laws.specs.Bridge.{HasLinking, BridgeHolds}
+use Rattle.dv_laws.specs.Bridge.{BridgeHolds}
 use Rattle.dv_laws.specs.Running.{AcceptedRunsNeverGoWrong}
 
 -- a replay that isn't stuck; where it stands, the state is well typed
