@@ -38,7 +38,7 @@ cell_any image heap own own' y ty.LongHi i c = absurd c
 cell_any image heap own own' y (ty.Class t) i c = absurd c
 cell_any image heap own own' y u i c = absurd i
 
-fits_there : (image : Image) (heap : Heap) (o : ℕ) (t : Ty) → Fits image heap o t → IsThere image heap o
+pub fits_there : (image : Image) (heap : Heap) (o : ℕ) (t : Ty) → Fits image heap o t → IsThere image heap o
 fits_there image heap zero t f = tt
 fits_there image heap (suc o) t f = f.object
 

@@ -26,7 +26,7 @@ use Rattle.dv_defs.specs.Heap.{Heap, kind_of, kind_type, length_of}
 use Rattle.dv_machine.specs.State.{Thread, Machine, on_next, reg_at, read_int, onward, gone, type_of, with_heap}
 use Rattle.dv_machine.specs.Mem.{component_of, narrowed_all, stored, read_put, is_storable}
 use Rattle.dv_machine.specs.Step.{here}
-use Rattle.dv_machine.specs.Conforming.{Own, Fits, Conforms, IsThere}
+use Rattle.dv_machine.specs.Conforming.{Own, Conforms, IsThere}
 use Rattle.dv_machine.specs.WellTyped.{Typings, own_of, this_above, nobody, element_types}
 use Rattle.dv_machine.specs.Premises.{DidFine, HoldsOf}
 use Rattle.dv_laws.specs.Reading.{Anything}
@@ -34,7 +34,7 @@ use Rattle.dv_laws.proofs.GrowthLists.{no}
 use Rattle.dv_laws.proofs.HeapCells.{reg_cells}
 use Rattle.dv_laws.proofs.HeapStepsLeft.{gone_left}
 use Rattle.dv_laws.proofs.HeapStepsPlain.{instance_reference}
-use Rattle.dv_laws.proofs.HeapStepsCells.{narrowed_count, narrowed_each, stored_fine}
+use Rattle.dv_laws.proofs.HeapStepsCells.{fits_there, narrowed_count, narrowed_each, stored_fine}
 use Rattle.dv_laws.proofs.HeapStepsElements.{element_at, short_types, long_types}
 use Rattle.dv_laws.proofs.HeapStepsArrays.{component_is}
 use Rattle.dv_laws.proofs.LocalStands.{Stands}
@@ -57,10 +57,6 @@ abbrev pub IsReference : Image → Heap → Value → Type 0
 IsReference image heap v.Zero = Unit {0}
 IsReference image heap (v.Ref o) = IsThere image heap o
 IsReference image heap y = ⊥
-
-fits_there : (image : Image) (heap : Heap) (o : ℕ) (c : Ty) → Fits image heap o c → IsThere image heap o
-fits_there image heap zero c f = tt
-fits_there image heap (suc o) c f = f.object
 
 ref_value : (image : Image) (heap : Heap) (own : Own) (y : Value) (u : RegType) → is_ref u ≡ true → Conforms image heap own y u → IsReference image heap y
 ref_value image heap own v.Zero ty.Zero e c = tt
