@@ -1,4 +1,5 @@
 // That verified code never goes wrong, from the laws of its parts.
+ghost use Rattle.dv_machine.specs.AllLaws.{AllLaws};
 ghost use Rattle.dv_machine.specs.StepLaws.{StepsAreSound};
 ghost use Rattle.dv_laws.specs.Running.{AcceptedRunsNeverGoWrong};
 
@@ -10,4 +11,9 @@ pub fn steps_are_sound()
 /// No run of a main method of a linked image that the verifier accepts is ever stuck, on any schedule.
 pub fn runs_never_go_wrong()
     ensures law { AcceptedRunsNeverGoWrong }
+{}
+
+/// Each law that dv_machine states, side by side.
+pub fn all_laws()
+    ensures law { AllLaws }
 {}
