@@ -15,7 +15,8 @@ use Rattle.dv_defs.specs.Types.{ty_eq, same_types, same_result, same_proto}
 use Rattle.dv_defs.specs.Pools.{Method, Field, with_def, with_info, methods_of, method_at, with_field, with_field_info, fields_of, field_at, is_static, is_private, pick, declared_by, is_virtual_of, first_of_classes, nearest, no_arguments, is_initialiser, initialiser, supers}
 use Rattle.dv_defs.specs.Order.{has_number}
 use Rattle.dv_machine.specs.Laws.{LookUpsFind}
-use Rattle.dv_laws.proofs.OrderWalks.{no, has_head, by_second}
+use Rattle.dv_laws.proofs.Plain.{no, by_second, is_there}
+use Rattle.dv_laws.proofs.OrderWalks.{has_head}
 use Rattle.dv_laws.proofs.OrderEqual.{ty_is, names_are}
 
 -- ---- by number
@@ -53,9 +54,9 @@ field_id image x f e = field_info_id image x (slice_get image.fields x) f e
 -- ---- by a test
 
 -- the method is the image's, and the test takes it
-record IsPicked (image : Image) (good : Method → Bool) (m : Method) : Type 0 where
-  there : method_at image m.id ≡ Some m
-  taken : good m ≡ true
+pub record IsPicked (image : Image) (good : Method → Bool) (m : Method) : Type 0 where
+  pub there : method_at image m.id ≡ Some m
+  pub taken : good m ≡ true
 
 chosen : (image : Image) (is : List MethodInfo) (id : ℕ) (good : Method → Bool) (x m : Method) → (pick image is (suc id) good ≡ Some m → IsPicked image good m) → method_at image x.id ≡ Some x → (b : Bool) → good x ≡ b → elim b [ true ↦ Some x | false ↦ pick image is (suc id) good ] ≡ Some m → IsPicked image good m
 chosen image is id good x m later there true e u = let q : x ≡ m = cc in record { there = subst (λ (z : Method). method_at image z.id ≡ Some z) q there; taken = subst (λ (z : Method). good z ≡ true) q e }
@@ -79,7 +80,7 @@ picked image (i ∷ is) id good m h e =
 from_none : (xs : List MethodInfo) (k : ℕ) → slice_get xs (0 + k) ≡ slice_get xs k
 from_none xs k = (let same : 0 + k ≡ k = omega arith in ap (λ (z : ℕ). slice_get xs z) same)
 
-declared : (image : Image) (c : ℕ) (good : Method → Bool) (m : Method) → declared_by image c good ≡ Some m → IsPicked image (λ x. nat_eq x.info.class.0 c && good x) m
+pub declared : (image : Image) (c : ℕ) (good : Method → Bool) (m : Method) → declared_by image c good ≡ Some m → IsPicked image (λ x. nat_eq x.info.class.0 c && good x) m
 declared image c good m e = picked image image.methods 0 (λ x. nat_eq x.info.class.0 c && good x) m (from_none image.methods) e
 
 -- ---- equal prototypes
@@ -110,10 +111,6 @@ proto_is p q e =
 
 -- ---- initialisers and the nearest method
 
-has_body : (o : Option Body) → is_some o ≡ true → (b : Body) × (o ≡ Some b)
-has_body (Some b) e = (b, refl)
-has_body None e = no e
-
 initialiser_is : (image : Image) (c : ℕ) (m : Method) → initialiser image c ≡ Some m → (method_at image m.id ≡ Some m) × (is_static m ≡ true) × (m.def.proto ≡ no_arguments) × (m.info.class.0 ≡ c) × ((b : Body) × (m.def.body ≡ Some b))
 unfolding initialiser
 initialiser_is image c m e =
@@ -122,7 +119,7 @@ initialiser_is image c m e =
     let body = and_parts (is_static m && bytes_eq m.def.name clinit_name && same_proto m.def.proto no_arguments) (is_some m.def.body) own.1 in
     let proto = and_parts (is_static m && bytes_eq m.def.name clinit_name) (same_proto m.def.proto no_arguments) body.0 in
     let static = and_parts (is_static m) (bytes_eq m.def.name clinit_name) proto.0 in
-    (p.there, static.0, proto_is m.def.proto no_arguments proto.1, eqb-true m.info.class.0 c own.0, has_body m.def.body body.1)
+    (p.there, static.0, proto_is m.def.proto no_arguments proto.1, eqb-true m.info.class.0 c own.0, is_there m.def.body body.1)
 
 -- declared by one of the classes
 record IsOfClasses (image : Image) (cs : List ℕ) (good : Method → Bool) (m : Method) : Type 0 where

@@ -1,5 +1,6 @@
 -- Acceptance gives a typing of each method, with what each address owes.
 use Rattle.std.proofs.Common.{◌≡◌, ◌≤◌, ℕ, List, ◌∷◌, Bool, true, false, Option, Some, None, refl, sym, subst}
+use Rattle.std.proofs.lemmas.List.Elements.{All-cons}
 use Rattle.std.specs.Prelude.{is_some, All}
 use Rattle.dv_defs.specs.declared.image.Image.{Image}
 use Rattle.dv_defs.specs.declared.typing.RegState.{RegState}
@@ -12,22 +13,20 @@ use Rattle.dv_defs.specs.Accepting.{IsAcceptedMethod, Accepts}
 use Rattle.dv_machine.specs.WellTyped.{Typings}
 use Rattle.dv_machine.specs.Accepted.{IsFine}
 use Rattle.dv_machine.specs.Laws.{AcceptanceGivesRecords}
-use Rattle.dv_laws.proofs.BridgeDemands.{first_none, demand_none}
+use Rattle.dv_laws.proofs.Plain.{is_there}
 use Rattle.dv_laws.proofs.BridgeLookUps.{method_id}
-use Rattle.dv_laws.proofs.BridgeStatics.{IsStatic, IsThere, IsCaught, code_is, is_static_body, has_room, fetched_rules, jumps_there, handlers_there, all_more}
+use Rattle.dv_laws.proofs.BridgeStatics.{IsStatic, IsThere, IsCaught, is_static_body, has_room, fetched_rules, jumps_there, handlers_there}
+use Rattle.dv_laws.proofs.Demanding.{first_none, demanded}
+use Rattle.dv_laws.proofs.MethodCode.{code_is}
 
 -- ---- edges
-
-found : (o : Option At) → is_some o ≡ true → (y : At) × (o ≡ Some y)
-found (Some y) e = (y, refl)
-found None e = absurd (cc)
 
 -- what is asked of the next address
 abbrev onward : Image → ℕ → At → Bool → Demand
 onward image n x b = elim b [ true ↦ demand (is_some (fetch image n x.next)) 1 | false ↦ None ]
 
 targets_by : (image : Image) (n : ℕ) (x : At) (b : Bool) → onward image n x b ≡ None → All (IsThere image n) (jumps x.op) → All (IsThere image n) (elim b [ true ↦ x.next ∷ jumps x.op | false ↦ jumps x.op ])
-targets_by image n x true e h = all_more (IsThere image n) x.next (jumps x.op) (found (fetch image n x.next) (demand_none (is_some (fetch image n x.next)) 1 e)) h
+targets_by image n x true e h = All-cons (IsThere image n) x.next (jumps x.op) (is_there (fetch image n x.next) (demanded (is_some (fetch image n x.next)) 1 e)) h
 targets_by image n x false e h = h
 
 -- each edge leads to a state, where it leads to operations

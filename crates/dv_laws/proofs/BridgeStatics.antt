@@ -1,19 +1,21 @@
 -- What a body owes that breaks no static rule: instructions at its targets and handlers, and registers for its arguments.
-use Rattle.std.proofs.Common.{◌≡◌, ◌≤◌, ◌⊎◌, inl, inr, ℕ, zero, suc, ◌+◌, List, [], ◌∷◌, ◌++◌, length, Bool, true, false, ◌&&◌, ◌||◌, Option, Some, None, Result, Ok, Err, refl, sym, ap, ◌∙◌, subst, arith}
+use Rattle.std.proofs.Common.{◌≡◌, ◌≤◌, ◌⊎◌, inl, inr, ℕ, ◌+◌, List, [], ◌∷◌, ◌++◌, length, Bool, true, false, ◌&&◌, ◌||◌, Option, Some, None, Result, Ok, Err, refl, sym, ap, ◌∙◌, subst}
 use Rattle.std.specs.Prelude.{slice_get, nat_eq, nat_lt, nat_le, is_some, map, All}
 use Rattle.std.proofs.lemmas.Bool.{leb-true, and_parts}
+use Rattle.std.proofs.lemmas.List.Elements.{All-nil, All-cons}
 use Rattle.dv_defs.specs.declared.code.Insn.{Insn}
 use Rattle.dv_defs.specs.declared.code.Body.{Body}
 use Rattle.dv_defs.specs.declared.code.Try.{Try}
 use Rattle.dv_defs.specs.declared.code.Handler.{Handler}
 use Rattle.dv_defs.specs.declared.image.Image.{Image}
-use Rattle.dv_defs.specs.Pools.{Method, method_at}
 use Rattle.dv_defs.specs.Tiling.{Tile, Item, IsInsn, IsPayload, tiling, tiles_of, tile_at, insn_in, begins_insn, begins_item}
-use Rattle.dv_defs.specs.Op.{Op, Goto, IfBoth, IfZero, Switch, Case, Code, Resolved, with_body, code_of, code_at, op_of}
+use Rattle.dv_defs.specs.Op.{Op, Goto, IfBoth, IfZero, Switch, Case, Code, Resolved, code_at, op_of}
 use Rattle.dv_defs.specs.Statics.{At, unless, moves_on, registers_below, all_lead, leads_to_insn, op_rules, resolved_rules, insn_rules, at_of, sound_at, at_tile, fetch_in, fetch, arg_words}
 use Rattle.dv_defs.specs.Flow.{Catcher, catchers, handlers_of, handlers_in, handlers_at, jumps}
 use Rattle.dv_defs.specs.Accepting.{Place, is_before, inserted, sorted, places, place_unless, item_places, tile_places, is_handler_type, handlers_good, try_places, first_places, no_units, places_by, static_places}
-use Rattle.dv_laws.proofs.OrderWalks.{no}
+use Rattle.dv_laws.proofs.Plain.{no}
+use Rattle.dv_laws.proofs.Demanding.{only_rule}
+use Rattle.dv_laws.proofs.MethodCode.{code_is}
 
 -- ---- empty lists
 
@@ -45,35 +47,10 @@ no_rules : (at : ℕ) (rules : List ℕ) → places at rules ≡ [] → rules �
 no_rules at [] e = refl
 no_rules at (r ∷ rs) e = absurd (cc)
 
-kept_rule : (b : Bool) (r : ℕ) → unless b r ≡ [] → b ≡ true
-kept_rule true r e = refl
-kept_rule false r e = absurd (cc)
-
 no_place : (b : Bool) (at r : ℕ) → place_unless b at r ≡ [] → b ≡ true
-no_place b at r e = kept_rule b r (no_rules at (unless b r) e)
+no_place b at r e = only_rule b r (no_rules at (unless b r) e)
 
 -- ---- a body
-
--- where a method's body stands
-pub record IsCodeOf (image : Image) (n : ℕ) (code : Code) : Type 0 where
-  pub method : method_at image n ≡ Some code.method
-  pub body : code.method.def.body ≡ Some code.body
-  pub tiles : code.tiles ≡ tiles_of (tiling code.body.units)
-
-code_with : (m : Method) (o : Option Body) (code : Code) → m.def.body ≡ o → with_body m o ≡ Some code → (code.method ≡ m) × (code.method.def.body ≡ Some code.body) × (code.tiles ≡ tiles_of (tiling code.body.units))
-code_with m None code e h = absurd (cc)
-code_with m (Some b) code e h =
-    let made : Code = record { method = m; body = b; tiles = tiles_of (tiling b.units) } in
-    let same : made ≡ code = cc in
-    (sym (ap (λ (x : Code). x.method) same), subst (λ (x : Code). x.method.def.body ≡ Some x.body) same e, subst (λ (x : Code). x.tiles ≡ tiles_of (tiling x.body.units)) same refl)
-
-code_from : (image : Image) (n : ℕ) (o : Option Method) (code : Code) → method_at image n ≡ o → code_of o ≡ Some code → IsCodeOf image n code
-code_from image n None code e h = absurd (cc)
-code_from image n (Some m) code e h = let (p, body, tiles) = code_with m m.def.body code refl h in record { method = e ∙ ap Some (sym p); body = body; tiles = tiles }
-
-pub code_is : (image : Image) (n : ℕ) (code : Code) → code_at image n ≡ Some code → IsCodeOf image n code
-unfolding code_at
-code_is image n code h = code_from image n (method_at image n) code refl h
 
 -- a body that breaks no static rule
 pub record IsStatic (image : Image) (code : Code) : Type 0 where
@@ -172,28 +149,21 @@ fetched_rules image n at code x has e = tiled_fine image code (tile_at code.tile
 
 -- ---- targets
 
-pub all_none : {X : Type 0} (P : X → Type 0) → All P []
-all_none P k d h = absurd (omega arith)
-
-pub all_more : {X : Type 0} (P : X → Type 0) (x : X) (xs : List X) → P x → All P xs → All P (x ∷ xs)
-all_more P x xs p ps zero d h = p
-all_more P x xs p ps (suc k) d h = ps k d (omega arith)
-
 cases_there : (image : Image) (n : ℕ) (code : Code) (cases : List Case) → ((to : ℕ) → begins_insn code.tiles to ≡ true → IsThere image n to) → all_lead code cases ≡ true → All (IsThere image n) (map (λ c. c.to) cases)
-cases_there image n code [] h e = all_none (IsThere image n)
+cases_there image n code [] h e = All-nil (IsThere image n)
 cases_there image n code (c ∷ cs) h e =
     let p = and_parts (leads_to_insn code c.to) (all_lead code cs) e in
-    all_more (IsThere image n) c.to (map (λ c. c.to) cs) (h c.to p.0) (cases_there image n code cs h p.1)
+    All-cons (IsThere image n) c.to (map (λ c. c.to) cs) (h c.to p.0) (cases_there image n code cs h p.1)
 
 one_there : (image : Image) (n : ℕ) (code : Code) (to : ℕ) → ((to : ℕ) → begins_insn code.tiles to ≡ true → IsThere image n to) → unless (leads_to_insn code to) 4 ≡ [] → All (IsThere image n) (to ∷ [])
-one_there image n code to h e = all_more (IsThere image n) to [] (h to (kept_rule (leads_to_insn code to) 4 e)) (all_none (IsThere image n))
+one_there image n code to h e = All-cons (IsThere image n) to [] (h to (only_rule (leads_to_insn code to) 4 e)) (All-nil (IsThere image n))
 
 jumps_by : (image : Image) (n : ℕ) (code : Code) (op : Op) → ((to : ℕ) → begins_insn code.tiles to ≡ true → IsThere image n to) → op_rules image code op ≡ [] → All (IsThere image n) (jumps op)
 jumps_by image n code (Goto to) h e = one_there image n code to h e
 jumps_by image n code (IfBoth t a b to) h e = one_there image n code to h e
 jumps_by image n code (IfZero t a to) h e = one_there image n code to h e
-jumps_by image n code (Switch a cases) h e = cases_there image n code cases h (kept_rule (all_lead code cases) 8 e)
-jumps_by image n code op h e = all_none (IsThere image n)
+jumps_by image n code (Switch a cases) h e = cases_there image n code cases h (only_rule (all_lead code cases) 8 e)
+jumps_by image n code op h e = All-nil (IsThere image n)
 
 -- branches and switches lead to operations
 pub jumps_there : (image : Image) (n at : ℕ) (code : Code) (x : At) → code_at image n ≡ Some code → IsStatic image code → fetch image n at ≡ Some x → All (IsThere image n) (jumps x.op)
@@ -208,11 +178,11 @@ abbrev with_catcher : Body → Handler → Option ℕ → List Catcher → List 
 with_catcher b h o cs = elim o [ None ↦ record { ty = None; to = h.at } ∷ [] | Some k ↦ record { ty = slice_get b.types k; to = h.at } ∷ cs ]
 
 catcher_by : (image : Image) (n : ℕ) (code : Code) (h : Handler) (hs : List Handler) (o : Option ℕ) → IsThere image n h.at → All (IsCaught image n) (catchers code.body hs) → All (IsCaught image n) (with_catcher code.body h o (catchers code.body hs))
-catcher_by image n code h hs None here more = all_more (IsCaught image n) (record { ty = None; to = h.at }) [] here (all_none (IsCaught image n))
-catcher_by image n code h hs (Some k) here more = all_more (IsCaught image n) (record { ty = slice_get code.body.types k; to = h.at }) (catchers code.body hs) here more
+catcher_by image n code h hs None here more = All-cons (IsCaught image n) (record { ty = None; to = h.at }) [] here (All-nil (IsCaught image n))
+catcher_by image n code h hs (Some k) here more = All-cons (IsCaught image n) (record { ty = slice_get code.body.types k; to = h.at }) (catchers code.body hs) here more
 
 catchers_there : (image : Image) (n : ℕ) (code : Code) (hs : List Handler) → ((to : ℕ) → begins_insn code.tiles to ≡ true → IsThere image n to) → handlers_good image code hs ≡ true → All (IsCaught image n) (catchers code.body hs)
-catchers_there image n code [] there e = all_none (IsCaught image n)
+catchers_there image n code [] there e = All-nil (IsCaught image n)
 catchers_there image n code (h ∷ hs) there e =
     let kinds : Bool = elim h.kind [ None ↦ nat_eq (length hs) 0 | Some k ↦ is_handler_type image (slice_get code.body.types k) ] in
     let p = and_parts (begins_insn code.tiles h.at && kinds) (handlers_good image code hs) e in
@@ -224,7 +194,7 @@ covered image n at code t ts true here later = here
 covered image n at code t ts false here later = later
 
 tries_there : (image : Image) (n at before : ℕ) (code : Code) (ts : List Try) → ((to : ℕ) → begins_insn code.tiles to ≡ true → IsThere image n to) → try_places image code before ts ≡ [] → All (IsCaught image n) (handlers_of code.body ts at)
-tries_there image n at before code [] there e = all_none (IsCaught image n)
+tries_there image n at before code [] there e = All-nil (IsCaught image n)
 tries_there image n at before code (t ∷ ts) there e =
     let ranges : List Place = place_unless (begins_insn code.tiles t.start && nat_lt t.start t.end && (begins_item code.tiles t.end || nat_eq t.end (length code.body.units)) && nat_le before t.start) t.start 17 in
     let good : Bool = nat_lt 0 (length t.handlers) && handlers_good image code t.handlers in

@@ -2,7 +2,7 @@
 use Rattle.std.proofs.Common.{◌≡◌, ◌⊎◌, inl, inr, ℕ, zero, suc, ◌<◌, ◌≤◌, List, length, Bool, true, false, Some, None, refl, sym, ap, ◌∙◌, subst, arith}
 use Rattle.std.specs.Prelude.{bytes_eq}
 use Rattle.std.proofs.lemmas.Bool.{cases_lt}
-use Rattle.std.proofs.lemmas.Option.{slice_get_past}
+use Rattle.std.proofs.lemmas.Option.{slice_get_past, none-some, same_Some}
 use Rattle.dv_defs.specs.declared.names.Base.TheVariants as base
 use Rattle.dv_defs.specs.declared.names.Ty.{Ty}
 use Rattle.dv_defs.specs.declared.image.Image.{Image}
@@ -17,7 +17,7 @@ use Rattle.dv_machine.specs.Calls.{class_of_kind}
 use Rattle.dv_machine.specs.Conforming.{IsOf}
 use Rattle.dv_machine.specs.WellTyped.{Typings}
 use Rattle.dv_machine.specs.Accepted.{Accepted}
-use Rattle.dv_laws.proofs.Demanding.{no}
+use Rattle.dv_laws.proofs.Plain.{no}
 use Rattle.dv_laws.proofs.OrderWalks.{up, up_is, up_later, refuel_up, extends_same, is_above, named_is}
 use Rattle.dv_laws.proofs.OrderTypes.{under_reference}
 
@@ -40,10 +40,7 @@ module _ (image : Image) where
   -- a walk from no class of the image ends at once
   past_is : (n d c : ℕ) → length image.classes ≤ c → up image n d c ≡ true → c ≡ d
   past_is zero d c l e = no e
-  past_is (suc n) d c l e = elim (up_is image n d c e) [ inl q ↦ q | inr q ↦ absurd (none_some (sym (no_parent c l) ∙ q.1)) ]
-    where
-      none_some : {p : ℕ} → None ≡ Some p → ⊥
-      none_some e = cc
+  past_is (suc n) d c l e = elim (up_is image n d c e) [ inl q ↦ q | inr q ↦ absurd (none-some _ (sym (no_parent c l) ∙ q.1)) ]
 
 module _ (image : Image) (T : Typings) (a : Accepted image T) where
   -- a superclass's type is above
@@ -81,10 +78,7 @@ module _ (image : Image) (T : Typings) (a : Accepted image T) where
 
   -- an object fits the class from which its methods are looked up
   kind_fits : (k : Kind) (c : ℕ) → is_reference (kind_type image k) ≡ true → class_of_kind image (Some k) ≡ Some c → fits image (kind_type image k) (class_type image c) ≡ true
-  kind_fits (kind.Object d) c r e = subst (λ z. fits image (class_type image d.0) (class_type image z) ≡ true) (some_same d.0 c e) (a.order.instance_fits _ _ refl (a.order.sub_instance _ _ (a.order.same (class_type image d.0))))
-    where
-      some_same : (x y : ℕ) → Some x ≡ Some y → x ≡ y
-      some_same x y e = cc
+  kind_fits (kind.Object d) c r e = subst (λ z. fits image (class_type image d.0) (class_type image z) ≡ true) (same_Some d.0 c e) (a.order.instance_fits _ _ refl (a.order.sub_instance _ _ (a.order.same (class_type image d.0))))
   kind_fits (kind.Str s) c r e = same_fits string_name c e
   kind_fits (kind.ClassOf t) c r e = same_fits class_name c e
   kind_fits (kind.Array t) c r e = object_takes t c r e

@@ -32,10 +32,10 @@ use Rattle.dv_machine.specs.WellTyped.{Typings, own_of, this_above, called_on}
 use Rattle.dv_machine.specs.Accepted.{Accepted}
 use Rattle.dv_machine.specs.Premises.{DidFine, HoldsOf}
 use Rattle.dv_laws.specs.Reading.{AreWords, IsUnder, ReadsReceiver}
-use Rattle.dv_laws.proofs.Demanding.{no, first_none, demanded, either_true, eq_true}
-use Rattle.dv_laws.proofs.RegistersMade.{of_fits}
-use Rattle.std.proofs.lemmas.Bool.{eqb-true}
-use Rattle.dv_laws.proofs.CallsEntered.{some_same}
+use Rattle.dv_laws.proofs.Demanding.{first_none, demanded}
+use Rattle.std.proofs.lemmas.Bool.{eqb-true, or_cases, eq-eqb}
+use Rattle.std.proofs.lemmas.Option.{same_Some, none-some}
+use Rattle.dv_laws.proofs.Plain.{no, fits_of}
 use Rattle.dv_laws.proofs.ReturnsConstructed.{receiver_demanded, not_static}
 use Rattle.dv_laws.proofs.ReturnsBuilt.{IsProperAt, receiver_proper, receiver_there, this_proper, exactly_is}
 use Rattle.dv_laws.proofs.LocalFine.{read_did}
@@ -55,7 +55,7 @@ use Rattle.dv_laws.proofs.CallsInstance.{invoke_demand, callee_there}
 module _ (image : Image) (T : Typings) (a : Accepted image T) (heap : Heap) (own g : Method) (has_own : (n : ℕ) × (method_at image n ≡ Some own)) where
   -- the own class or its superclass
   own_under : is_own_or_super image own g.info.class.0 ≡ true → sub image (own_type image own) (own_type image g) ≡ true
-  own_under e = by_side (either_true (nat_eq own.info.class.0 g.info.class.0) (is_exactly (parent_at image own.info.class.0) g.info.class.0) e)
+  own_under e = by_side (or_cases (nat_eq own.info.class.0 g.info.class.0) (is_exactly (parent_at image own.info.class.0) g.info.class.0) e)
     where
       by_parent : (p : Option ℕ) → parent_at image own.info.class.0 ≡ p → is_exactly p g.info.class.0 ≡ true → sub image (own_type image own) (own_type image g) ≡ true
       by_parent None q e = no e
@@ -75,7 +75,7 @@ module _ (image : Image) (T : Typings) (a : Accepted image T) (heap : Heap) (own
       let site : made_at image own d ≡ Some c.1.class = subst (λ z. made_at image own z ≡ Some c.1.class) c.0 c.1.is_site in
       let class : c.1.class ≡ g.info.class.0 = exactly_is image T a heap (made_at image own d) c.1.class g.info.class.0 site (demanded _ _ q) in
       fresh_holds (λ p. (object_of (v.Uninit b o) ≡ Some p) × IsUnder image heap (own_type image g) p) (is_made_of (kind_of heap o) g.info.class.0) o
-      (ap (λ k. is_made_of k g.info.class.0) c.1.has_kind ∙ eq_true c.1.class g.info.class.0 class)
+      (ap (λ k. is_made_of k g.info.class.0) c.1.has_kind ∙ eq-eqb c.1.class g.info.class.0 class)
       (refl, record { class = c.1.class; has_kind = c.1.has_kind; under = subst (λ z. sub image (class_type image c.1.class) (class_type image z) ≡ true) class (a.order.same (class_type image c.1.class)) })
   new_holds this (v.UninitThis o) ty.UninitThis c q =
       fresh_holds (λ p. (object_of (v.UninitThis o) ≡ Some p) × IsUnder image heap (own_type image g) p) (is_own_or_super image own g.info.class.0) o (demanded _ _ q)
@@ -120,13 +120,10 @@ module _ (image : Image) (T : Typings) (m : Machine) (t : ℕ) (thread : Thread)
   module _ (o : ℕ) (holds : object_of value ≡ Some o) (under : IsUnder image heap (own_type image g) o) where
     -- a thread that waits holds an object that is initialised
     new_quiet : IsQuiet image m t
-    new_quiet = quiet_at image T m t thread own f rest x s h c (k ∷ js) g e (λ p w. not_new (value) (suc p) (ap (reg_at f.regs) (some_same k w.receiver (sym (receiver_is c k js g static) ∙ w.has_receiver)) ∙ w.holds) holds)
+    new_quiet = quiet_at image T m t thread own f rest x s h c (k ∷ js) g e (λ p w. not_new (value) (suc p) (ap (reg_at f.regs) (same_Some k w.receiver (sym (receiver_is c k js g static) ∙ w.has_receiver)) ∙ w.holds) holds)
       where
         not_new : (y : Value) (p : ℕ) → y ≡ v.Ref p → object_of y ≡ Some o → ⊥
-        not_new y p q r = none_some (ap object_of (sym q) ∙ r)
-          where
-            none_some : None ≡ Some o → ⊥
-            none_some e = cc
+        not_new y p q r = none-some _ (ap object_of (sym q) ∙ r)
 
     on_it : called_on f (Some x) ≡ Some o
     on_it = called_by image T m t thread own f rest x s h c (k ∷ js) g e (Some o) (ap (λ z. elim z as (λ w. Option ℕ) [ true ↦ object_of value | false ↦ None ]) constructor ∙ holds)
@@ -169,7 +166,7 @@ module _ (image : Image) (T : Typings) (m : Machine) (t : ℕ) (thread : Thread)
           by_class true q =
               let flag = begins_by_class image g constructor true q in
               enter_with (v.Ref o) false (sym flag)
-              (subst (IsGood image heap own_new (v.Ref o ∷ ys)) (sym (instance_types image g static flag)) (cons_good image heap own_new (v.Ref o) (ty.Class (own_type image g)) ys (all_types g.def.proto.params) (λ u. u) (of_fits image heap o (own_type image g) (object_is q)) (w.good own_new)))
+              (subst (IsGood image heap own_new (v.Ref o ∷ ys)) (sym (instance_types image g static flag)) (cons_good image heap own_new (v.Ref o) (ty.Class (own_type image g)) ys (all_types g.def.proto.params) (λ u. u) (fits_of image heap o (own_type image g) (object_is q)) (w.good own_new)))
               there
           by_class false q =
               let flag = begins_by_class image g constructor false q in

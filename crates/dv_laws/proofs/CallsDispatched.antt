@@ -1,88 +1,65 @@
 -- The method on which a call lands.
 use Rattle.std.proofs.Common.{◌≡◌, ℕ, suc, ◌<◌, List, [], ◌∷◌, length, Bool, true, false, Option, Some, None, refl, sym, ap, ◌∙◌, subst}
+use Rattle.std.proofs.lemmas.Bool.{and_parts, and_right}
 use Rattle.std.specs.Prelude.{◌&&◌, not, bytes_eq, is_some, nat_eq}
 use Rattle.dv_defs.specs.declared.image.Image.{Image}
-use Rattle.dv_defs.specs.declared.image.MethodInfo.{MethodInfo}
 use Rattle.dv_defs.specs.declared.run.Named.TheVariants as named
 use Rattle.dv_defs.specs.declared.run.Native.{Native}
-use Rattle.dv_defs.specs.declared.run.Native.TheVariants as native
 use Rattle.dv_defs.specs.Parts.{Call}
 use Rattle.dv_defs.specs.Names.{init_name, clinit_name}
 use Rattle.dv_defs.specs.Types.{same_proto}
-use Rattle.dv_defs.specs.Pools.{Method, method_at, is_static, is_native, is_abstract, is_constructor, own_type, class_type, name_at, parent_at, supers, nearest, pick, with_info, is_initialiser, initialiser, no_arguments}
+use Rattle.dv_defs.specs.Pools.{Method, method_at, is_static, is_native, is_abstract, is_constructor, own_type, class_type, name_at, parent_at, supers, nearest, is_initialiser, initialiser, no_arguments}
 use Rattle.dv_defs.specs.Order.{has_number}
 use Rattle.dv_defs.specs.Heap.{Heap, kind_of}
 use Rattle.dv_machine.specs.Calls.{Landing, Lands, Lacks, unless_abstract, found, nearest_from, class_of_kind, implements_it, dispatch, signature, native_among, all_natives, native_of}
 use Rattle.dv_machine.specs.Conforming.{IsOf}
 use Rattle.dv_machine.specs.WellTyped.{Typings, IsNoInitialiser}
 use Rattle.dv_machine.specs.Accepted.{Accepted}
-use Rattle.dv_laws.proofs.Demanding.{no, both_true}
+use Rattle.dv_laws.proofs.Plain.{no}
 use Rattle.dv_laws.proofs.CallsClasses.{parent_sub, looked_up_fits, supers_sub}
 use Rattle.dv_laws.proofs.OrderEqual.{names_are}
+use Rattle.dv_laws.proofs.BridgeLookUps.{declared}
 
 -- ---- initialisers
-
-picked : (image : Image) (infos : List MethodInfo) (id : ℕ) (good : Method → Bool) (m : Method) → pick image infos id good ≡ Some m → good m ≡ true
-picked image [] id good m e = absurd (cc)
-picked image (i ∷ is) id good m e = by_method (with_info image id (Some i)) (picked image is (suc id) good m) e
-  where
-    some_same : (x y : Method) → Some x ≡ Some y → x ≡ y
-    some_same x y e = cc
-
-    by_test : (k : Method) (b : Bool) → (pick image is (suc id) good ≡ Some m → good m ≡ true) → good k ≡ b → (elim b as (λ w. Option Method) [ true ↦ Some k | false ↦ pick image is (suc id) good ]) ≡ Some m → good m ≡ true
-    by_test k true more g e = subst (λ z. good z ≡ true) (some_same k m e) g
-    by_test k false more g e = more e
-
-    by_method : (o : Option Method) → (pick image is (suc id) good ≡ Some m → good m ≡ true) → (elim o as (λ w. Option Method) [ None ↦ pick image is (suc id) good | Some k ↦ elim (good k) as (λ w. Option Method) [ true ↦ Some k | false ↦ pick image is (suc id) good ] ]) ≡ Some m → good m ≡ true
-    by_method None more e = more e
-    by_method (Some k) more e = by_test k (good k) more refl e
 
 initialiser_named : (image : Image) (c : ℕ) (m : Method) → initialiser image c ≡ Some m → bytes_eq m.def.name clinit_name ≡ true
 unfolding initialiser
 initialiser_named image c m e =
-    let g = picked image image.methods 0 (λ k. nat_eq k.info.class.0 c && is_initialiser k) m e in
-    let i = (both_true (nat_eq m.info.class.0 c) (is_initialiser m) g).1 in
-    let a = (both_true (is_static m && bytes_eq m.def.name clinit_name && same_proto m.def.proto no_arguments) (is_some m.def.body) i).0 in
-    let b = (both_true (is_static m && bytes_eq m.def.name clinit_name) (same_proto m.def.proto no_arguments) a).0 in
-    (both_true (is_static m) (bytes_eq m.def.name clinit_name) b).1
+    let own = and_parts (nat_eq m.info.class.0 c) (is_initialiser m) (declared image c is_initialiser m e).taken in
+    let body = and_parts (is_static m && bytes_eq m.def.name clinit_name && same_proto m.def.proto no_arguments) (is_some m.def.body) own.1 in
+    let proto = and_parts (is_static m && bytes_eq m.def.name clinit_name) (same_proto m.def.proto no_arguments) body.0 in
+    (and_parts (is_static m) (bytes_eq m.def.name clinit_name) proto.0).1
 
 pub named_otherwise : (image : Image) (m : Method) → bytes_eq m.def.name clinit_name ≡ false → IsNoInitialiser image m
 named_otherwise image m e q = no (sym e ∙ initialiser_named image m.info.class.0 m q)
 
--- ---- constructors are no natives
+-- ---- a method whose name no native has
 
-no_native : (class name : List ℕ) → ((k : Native) → bytes_eq (signature k).name name ≡ false) → (ks : List Native) → native_among ks class name ≡ None
-no_native class name n [] = refl
-no_native class name n (k ∷ ks) = ap (λ b. elim b as (λ w. Option Native) [ true ↦ Some k | false ↦ native_among ks class name ]) (and_false (bytes_eq (signature k).class class) _ (n k)) ∙ no_native class name n ks
+abbrev pub NoneNamed : List Native → List ℕ → Type 0
+NoneNamed [] name = Unit {0}
+NoneNamed (x ∷ xs) name = (bytes_eq (signature x).name name ≡ false) × NoneNamed xs name
+
+among_none : (xs : List Native) (class name : List ℕ) → NoneNamed xs name → native_among xs class name ≡ None
+among_none [] class name n = refl
+among_none (x ∷ xs) class name n = ap (λ (b : Bool). elim b as (λ y. Option Native) [ true ↦ Some x | false ↦ native_among xs class name ]) (and_right _ _ n.0) ∙ among_none xs class name n.1
+
+pub no_native : (image : Image) (m : Method) (name : List ℕ) → NoneNamed all_natives name → m.def.name ≡ name → native_of image m ≡ None
+no_native image m name n e = by_flag (is_native m)
   where
-    and_false : (a b : Bool) → b ≡ false → (a && b) ≡ false
-    and_false true b e = e
-    and_false false b e = refl
+    by_flag : (b : Bool) → (elim b as (λ w. Option Native) [ true ↦ native_among all_natives (name_at image m.info.class.0) m.def.name | false ↦ None ]) ≡ None
+    by_flag true = ap (native_among all_natives (name_at image m.info.class.0)) e ∙ among_none all_natives (name_at image m.info.class.0) name n
+    by_flag false = refl
 
-not_init : (k : Native) → bytes_eq (signature k).name init_name ≡ false
-not_init native.Wait = refl
-not_init native.Notify = refl
-not_init native.NotifyAll = refl
-not_init native.Start = refl
-not_init native.Join = refl
-not_init native.CurrentThread = refl
-not_init native.Length = refl
-not_init native.CharAt = refl
-not_init native.Equals = refl
-not_init native.Concat = refl
-not_init native.OfLong = refl
-not_init native.OfChars = refl
-not_init native.Print = refl
-not_init native.Println = refl
+init_named : NoneNamed all_natives init_name
+init_named = (refl, (refl, (refl, (refl, (refl, (refl, (refl, (refl, (refl, (refl, (refl, (refl, (refl, (refl, tt))))))))))))))
 
 pub constructor_not_native : (image : Image) (g : Method) → is_constructor g ≡ true → native_of image g ≡ None
-constructor_not_native image g e = by_flag (is_native g) (names_are g.def.name init_name (both_true (not (is_static g)) (bytes_eq g.def.name init_name) e).1)
-  where
-    by_flag : (b : Bool) → g.def.name ≡ init_name → (elim b as (λ w. Option Native) [ true ↦ native_among all_natives (name_at image g.info.class.0) g.def.name | false ↦ None ]) ≡ None
-    by_flag true q = ap (native_among all_natives (name_at image g.info.class.0)) q ∙ no_native (name_at image g.info.class.0) init_name not_init all_natives
-    by_flag false q = refl
+constructor_not_native image g e = no_native image g init_name init_named (names_are g.def.name init_name (and_parts (not (is_static g)) (bytes_eq g.def.name init_name) e).1)
 
 -- ---- landing
+
+pub same_lands : (x y : Method) → Lands x ≡ Lands y → x ≡ y
+same_lands x y e = cc
 
 module _ (image : Image) (T : Typings) (a : Accepted image T) (heap : Heap) where
   pub of_instance : (m : Method) → is_static m ≡ false → IsNoInitialiser image m
@@ -102,10 +79,7 @@ module _ (image : Image) (T : Typings) (a : Accepted image T) (heap : Heap) wher
 
   lands_same : (g k : Method) (b : Bool) → is_abstract g ≡ b → (elim b as (λ w. Landing) [ true ↦ Lacks named.AbstractMethod | false ↦ Lands g ]) ≡ Lands k → (is_abstract g ≡ false) × (g ≡ k)
   lands_same g k true e q = absurd (cc)
-  lands_same g k false e q = (e, lands_is g k q)
-    where
-      lands_is : (x y : Method) → Lands x ≡ Lands y → x ≡ y
-      lands_is x y e = cc
+  lands_same g k false e q = (e, same_lands g k q)
 
   module _ (g : Method) (n : ℕ) (there : method_at image n ≡ Some g) (static : is_static g ≡ false) where
     -- the method itself

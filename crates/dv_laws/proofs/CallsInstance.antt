@@ -1,5 +1,7 @@
 -- Static calls, and calls on an object.
-use Rattle.std.proofs.Common.{◌≡◌, ℕ, zero, suc, ◌++◌, List, [], ◌∷◌, Bool, true, false, Some, None, refl, sym, ap, ◌∙◌, subst}
+use Rattle.std.proofs.Common.{◌≡◌, ℕ, zero, suc, List, [], ◌∷◌, Bool, true, false, Some, None, refl, sym, ap, ◌∙◌, subst}
+use Rattle.std.proofs.lemmas.Option.{none-some, same_Some}
+use Rattle.std.proofs.lemmas.Bool.{and_parts, not-true}
 use Rattle.std.specs.Prelude.{◌&&◌, ◌||◌, not, bytes_eq}
 use Rattle.dv_defs.specs.declared.names.Proto.{Proto}
 use Rattle.dv_defs.specs.declared.image.Image.{Image}
@@ -16,7 +18,7 @@ use Rattle.dv_defs.specs.Parts.{Call}
 use Rattle.dv_defs.specs.Names.{clinit_name, init_name}
 use Rattle.dv_defs.specs.Pools.{Method, method_at, is_static, is_private, is_abstract, is_constructor, is_interface, own_type}
 use Rattle.dv_defs.specs.Op.{Invoke}
-use Rattle.dv_defs.specs.Statics.{At, unless, fits_call, is_proper_super, op_rules}
+use Rattle.dv_defs.specs.Statics.{At, fits_call, is_proper_super, op_rules}
 use Rattle.dv_defs.specs.RegTypes.{all_types, type_at}
 use Rattle.dv_defs.specs.Demands.{Demand, demands, first, args_for, invoke_for, instance_call, receiver_for, ref_to, super_for}
 use Rattle.dv_defs.specs.Transfer.{arg_types}
@@ -30,7 +32,8 @@ use Rattle.dv_machine.specs.Conforming.{IsOf, Fits}
 use Rattle.dv_machine.specs.WellTyped.{Typings, own_of, this_above}
 use Rattle.dv_machine.specs.Premises.{DidFine, HoldsOf}
 use Rattle.dv_laws.specs.Reading.{AreWords}
-use Rattle.dv_laws.proofs.Demanding.{no, first_none, both_true, not_true}
+use Rattle.dv_laws.proofs.Plain.{no}
+use Rattle.dv_laws.proofs.Demanding.{first_none, first_rule}
 use Rattle.dv_laws.proofs.CallsResolved.{is_named}
 use Rattle.dv_laws.proofs.ReturnsBuilt.{invoke_named}
 use Rattle.dv_laws.proofs.LocalFine.{read_did}
@@ -39,19 +42,11 @@ use Rattle.dv_laws.proofs.ReadersWords.{IsWord, reads_arguments}
 use Rattle.dv_laws.proofs.LocalStill.{IsQuiet}
 use Rattle.dv_laws.proofs.LocalStands.{Stands}
 use Rattle.dv_laws.proofs.CallsWords.{static_types, instance_types, begins_plain, words_cons, both_hold, read_number, number_is}
-use Rattle.dv_laws.proofs.CallsDispatched.{IsLanding, landing, named_otherwise, of_instance}
+use Rattle.dv_laws.proofs.CallsDispatched.{IsLanding, landing, named_otherwise, of_instance, same_lands}
 use Rattle.dv_laws.proofs.CallsInvoked.{receiver_is, no_receiver_of, WaitsAt, quiet_at, throws, NativesDo, landed_fine, called_fine}
-
-none_some : {A : Type 0} {y : A} → None ≡ Some y → ⊥
-none_some e = cc
 
 lands_lacks : (k : Method) (n : Named) → Lands k ≡ Lacks n → ⊥
 lands_lacks k n e = cc
-
--- the rule that holds
-unless_empty : (b : Bool) (n : ℕ) (ns : List ℕ) → (unless b n ++ ns) ≡ [] → b ≡ true
-unless_empty true n ns e = refl
-unless_empty false n ns e = absurd (cc)
 
 first_true : (a b c d e : Bool) → (a && b && c && d && e) ≡ true → a ≡ true
 first_true true b c d e f = refl
@@ -63,11 +58,11 @@ first_of_four false b c d f = no f
 
 -- a static method is called by invoke-static alone, and is no initialiser
 static_call : (image : Image) (own : Method) (c : Call) (g : Method) → is_static g ≡ true → fits_call image own c g ≡ true → bytes_eq g.def.name clinit_name ≡ false
-static_call image own Call.Static g e f = not_true _ (both_true (is_static g) (not (bytes_eq g.def.name clinit_name)) f).1
-static_call image own Call.Direct g e f = no (sym (not_true _ (both_true (not (is_static g)) (is_constructor g || is_private g) f).0) ∙ e)
-static_call image own Call.Virtual g e f = no (sym (not_true _ (first_of_four (not (is_static g)) (not (is_constructor g)) (not (is_private g)) (not (is_interface image g.info.class.0)) f)) ∙ e)
-static_call image own Call.Super g e f = no (sym (not_true _ (first_of_four (not (is_static g)) (not (is_constructor g)) (not (is_private g)) (not (is_interface image g.info.class.0)) (both_true _ (is_proper_super image own.info.class.0 g.info.class.0) f).0)) ∙ e)
-static_call image own Call.Interface g e f = no (sym (not_true _ (both_true (not (is_static g)) (is_interface image g.info.class.0) f).0) ∙ e)
+static_call image own Call.Static g e f = not-true _ (and_parts (is_static g) (not (bytes_eq g.def.name clinit_name)) f).1
+static_call image own Call.Direct g e f = no (sym (not-true _ (and_parts (not (is_static g)) (is_constructor g || is_private g) f).0) ∙ e)
+static_call image own Call.Virtual g e f = no (sym (not-true _ (first_of_four (not (is_static g)) (not (is_constructor g)) (not (is_private g)) (not (is_interface image g.info.class.0)) f)) ∙ e)
+static_call image own Call.Super g e f = no (sym (not-true _ (first_of_four (not (is_static g)) (not (is_constructor g)) (not (is_private g)) (not (is_interface image g.info.class.0)) (and_parts _ (is_proper_super image own.info.class.0 g.info.class.0) f).0)) ∙ e)
+static_call image own Call.Interface g e f = no (sym (not-true _ (and_parts (not (is_static g)) (is_interface image g.info.class.0) f).0) ∙ e)
 
 module _ (image : Image) (T : Typings) (m : Machine) (t : ℕ) (thread : Thread) (own : Method) (f : Frame) (rest : List Level) (x : At) (s : RegState) (h : Stands image T m t thread own f rest x s) (c : Call) (ks : List ℕ) (g : Method) (e : x.op ≡ Invoke c ks g) where
   abbrev heap : Heap
@@ -82,7 +77,7 @@ module _ (image : Image) (T : Typings) (m : Machine) (t : ℕ) (thread : Thread)
 
   -- the invoke is one that its method allows
   allowed : fits_call image own c g ≡ true
-  allowed = subst (λ z. fits_call image z c g ≡ true) h.of_own (unless_empty (fits_call image h.code.method c g) 14 _ (subst (λ z. op_rules image h.code z ≡ []) e h.rules))
+  allowed = subst (λ z. fits_call image z c g ≡ true) h.of_own (first_rule (fits_call image h.code.method c g) 14 _ (subst (λ z. op_rules image h.code z ≡ []) e h.rules))
 
   pub callee_number : (n : ℕ) × (method_at image n ≡ Some g)
   callee_number = invoke_named image T h.may.accepted heap x.op c ks g (is_named image f.method.0 f.at x h.has_at) e
@@ -97,7 +92,7 @@ module _ (image : Image) (T : Typings) (m : Machine) (t : ℕ) (thread : Thread)
     no_constructor = ap (λ z. not z && bytes_eq g.def.name init_name) static
 
     static_quiet : IsQuiet image m t
-    static_quiet = quiet_at image T m t thread own f rest x s h c ks g e (λ o w. none_some (sym (no_receiver_of c ks g static) ∙ w.has_receiver))
+    static_quiet = quiet_at image T m t thread own f rest x s h c ks g e (λ o w. none-some _ (sym (no_receiver_of c ks g static) ∙ w.has_receiver))
 
     static_demand : args_for image s.regs g.def.proto.params ks ≡ None
     static_demand = subst (λ z. elim z as (λ w. Demand) [ true ↦ args_for image s.regs g.def.proto.params ks | false ↦ instance_call image own s.regs c ks g ] ≡ None) static invoke_demand
@@ -139,10 +134,7 @@ module _ (image : Image) (T : Typings) (m : Machine) (t : ℕ) (thread : Thread)
 
     -- a thread that waits here holds an object that lands on wait
     held : (o : ℕ) → (w : WaitsAt image T m t thread own f rest x s h c ks g e o) → value ≡ v.Ref (suc o)
-    held o w = ap (reg_at f.regs) (same_some k w.receiver (sym has_receiver ∙ w.has_receiver)) ∙ w.holds
-      where
-        same_some : (a b : ℕ) → Some a ≡ Some b → a ≡ b
-        same_some a b e = cc
+    held o w = ap (reg_at f.regs) (same_Some k w.receiver (sym has_receiver ∙ w.has_receiver)) ∙ w.holds
 
     quiet_null : object_number value ≡ 0 → IsQuiet image m t
     quiet_null n = quiet_at image T m t thread own f rest x s h c ks g e (λ o w. zero_suc o (sym n ∙ ap object_number (held o w)))
@@ -188,11 +180,8 @@ module _ (image : Image) (T : Typings) (m : Machine) (t : ℕ) (thread : Thread)
         (called_fine image T m t thread own f rest x s h c ks g e l z.same_proto z.same_sort (λ u. no (sym plain ∙ u)))
         (of_instance image T h.may.accepted heap l z.instance)
       where
-        same_lands : (a b : Method) → Lands a ≡ Lands b → a ≡ b
-        same_lands a b e = cc
-
         not_wait : (a b : Method) → a ≡ b → native_of image a ≡ None → native_of image b ≡ Some native.Wait → ⊥
-        not_wait a b e n u = none_some (sym n ∙ ap (native_of image) e ∙ u)
+        not_wait a b e n u = none-some _ (sym n ∙ ap (native_of image) e ∙ u)
 
     -- ---- the reads of a call on an object
 

@@ -23,7 +23,7 @@ use Rattle.dv_machine.specs.Step.{here}
 use Rattle.dv_machine.specs.WellTyped.{Typings, own_of, this_above, called_on, IsCalled, IsNoInitialiser}
 use Rattle.dv_machine.specs.Premises.{ThrowFine, DidFine}
 use Rattle.dv_laws.specs.Reading.{AreWords}
-use Rattle.dv_laws.proofs.Demanding.{no}
+use Rattle.dv_laws.proofs.Plain.{no}
 use Rattle.dv_laws.proofs.MonitorsOwners.{entry_none}
 use Rattle.dv_laws.proofs.LocalStill.{IsQuiet}
 use Rattle.dv_laws.proofs.LocalStands.{Stands}

@@ -13,12 +13,11 @@ use Rattle.dv_defs.specs.declared.machine.Level.{Level}
 use Rattle.dv_defs.specs.declared.machine.Level.TheVariants as level
 use Rattle.dv_defs.specs.declared.typing.RegType.TheVariants as ty
 use Rattle.dv_defs.specs.declared.typing.RegState.{RegState}
-use Rattle.dv_defs.specs.Types.{is_long, words_of, words_of_all}
+use Rattle.dv_defs.specs.Types.{words_of_all}
 use Rattle.dv_defs.specs.Pools.{Method, method_at, is_static, own_type}
-use Rattle.dv_defs.specs.Op.{Code, code_at, code_of, with_body}
-use Rattle.dv_defs.specs.Tiling.{tiles_of, tiling}
+use Rattle.dv_defs.specs.Op.{Code, code_at}
 use Rattle.dv_defs.specs.Statics.{At, arg_words, receiver_words}
-use Rattle.dv_defs.specs.RegTypes.{Types, single_type, reg_types, all_types}
+use Rattle.dv_defs.specs.RegTypes.{Types, reg_types, all_types}
 use Rattle.dv_defs.specs.Transfer.{arg_types, receiver_type, begins_uninitialised, entry_state}
 use Rattle.dv_defs.specs.Heap.{Heap}
 use Rattle.dv_machine.specs.State.{Thread, Machine, Left, Did, left, NoRoom, regs_in, words_in}
@@ -27,19 +26,14 @@ use Rattle.dv_machine.specs.Step.{here}
 use Rattle.dv_machine.specs.Conforming.{IsGood, RefFine, RefsFine, Conform}
 use Rattle.dv_machine.specs.WellTyped.{Typings, own_of, this_above, records, IsPlaced, IsCalled, IsNoInitialiser, CodeFine}
 use Rattle.dv_machine.specs.Premises.{LeftFine, DidFine}
-use Rattle.dv_laws.proofs.CallsEntered.{entered_conforms, registers_are}
+use Rattle.dv_laws.proofs.CallsEntered.{entered_conforms}
 use Rattle.dv_laws.proofs.OrderStates.{frame_up}
 use Rattle.dv_laws.proofs.LocalStill.{still, same_shared, IsQuiet}
 use Rattle.dv_laws.proofs.LocalStands.{Stands, code_fine, frame_refs, rest_refs, stack_fine}
+use Rattle.dv_laws.proofs.MethodCode.{registers_are, the_code, code_there}
+use Rattle.dv_laws.proofs.HeapCells.{reg_count}
 
 -- ---- how many words the arguments are
-
-reg_count : (t : Ty) → length (reg_types t) ≡ words_of t
-reg_count t = by_test (is_long t)
-  where
-    by_test : (b : Bool) → length (elim b as (λ w. Types) [ true ↦ ty.LongLo ∷ ty.LongHi ∷ [] | false ↦ single_type t ∷ [] ]) ≡ (elim b as (λ w. ℕ) [ true ↦ 2 | false ↦ 1 ])
-    by_test true = refl
-    by_test false = refl
 
 all_count : (ts : List Ty) → length (all_types ts) ≡ words_of_all ts
 all_count [] = refl
@@ -57,13 +51,6 @@ args_count : (image : Image) (m : Method) → length (arg_types image m) ≡ arg
 args_count image m = let n = receiver_count image m in let k = all_count m.def.proto.params in omega (arith, length-append (receiver_type image m) (all_types m.def.proto.params), n, k)
 
 -- ---- the code of a method with a body
-
-abbrev pub the_code : Method → Body → Code
-the_code m b = record { method = m; body = b; tiles = tiles_of (tiling b.units) }
-
-pub code_from : (image : Image) (n : ℕ) (m : Method) (b : Body) → method_at image n ≡ Some m → m.def.body ≡ Some b → code_at image n ≡ Some (the_code m b)
-unfolding code_at
-code_from image n m b e f = ap code_of e ∙ ap (with_body m) f
 
 frame_count : (m : Method) (b : Body) (xs : List Value) (p : Bool) → m.def.body ≡ Some b → length xs ≤ b.registers → length (entered_frame m xs p).regs ≡ b.registers
 frame_count m b xs p e l =
@@ -94,7 +81,7 @@ module _ (image : Image) (T : Typings) (m : Machine) (t : ℕ) (thread : Thread)
     code = the_code k e.code
 
     has_code : code_at image k.id ≡ Some code
-    has_code = code_from image k.id k e.code e.there e.has_body
+    has_code = code_there image k.id k e.code e.there e.has_body
 
     pushed_code : CodeFine image T heap (entered_frame k xs p) below_it
     pushed_code = record {

@@ -1,34 +1,33 @@
--- What demands and tests that hold say.
-use Rattle.std.proofs.Common.{◌≡◌, ◌≢◌, ◌⊎◌, inl, inr, ℕ, Bool, true, false, Some, None, refl, arith}
-use Rattle.std.specs.Prelude.{◌&&◌, ◌||◌, not, nat_eq}
-use Rattle.std.proofs.lemmas.Grind.{common_steps}
+-- What demands and rules that hold say, and when demands hold.
+use Rattle.std.proofs.Common.{◌≡◌, ℕ, List, [], ◌++◌, Bool, true, false, Some, None, refl}
+use Rattle.dv_defs.specs.Statics.{unless}
 use Rattle.dv_defs.specs.Demands.{Demand, first, demand}
+use Rattle.dv_laws.proofs.Plain.{no}
 
-pub no : {A : Type 0} → false ≡ true → A
-no e = absurd (cc)
+-- ---- demands
 
 pub first_none : (a b : Demand) → first a b ≡ None → (a ≡ None) × (b ≡ None)
 first_none None b e = (refl, e)
 first_none (Some r) b e = absurd (cc)
 
+pub met : (d e : Demand) → d ≡ None → e ≡ None → first d e ≡ None
+met None e h k = k
+met (Some r) e h k = absurd (cc)
+
 pub demanded : (b : Bool) (n : ℕ) → demand b n ≡ None → b ≡ true
 demanded true n e = refl
 demanded false n e = absurd (cc)
 
-pub both_true : (a b : Bool) → (a && b) ≡ true → (a ≡ true) × (b ≡ true)
-both_true true b e = (refl, e)
-both_true false b e = no e
+pub test_met : (b : Bool) (n : ℕ) → b ≡ true → demand b n ≡ None
+test_met true n e = refl
+test_met false n e = no e
 
-pub either_true : (a b : Bool) → (a || b) ≡ true → (a ≡ true) ⊎ (b ≡ true)
-either_true true b e = inl refl
-either_true false b e = inr e
+-- ---- rules
 
-pub not_true : (b : Bool) → not b ≡ true → b ≡ false
-not_true true e = no e
-not_true false e = refl
+pub only_rule : (b : Bool) (n : ℕ) → unless b n ≡ [] → b ≡ true
+only_rule true n e = refl
+only_rule false n e = absurd (cc)
 
-pub eq_true : (a b : ℕ) → a ≡ b → nat_eq a b ≡ true
-eq_true a b e = grind (arith, common_steps)
-
-pub eq_false : (a b : ℕ) → a ≢ b → nat_eq a b ≡ false
-eq_false a b e = grind (arith, common_steps)
+pub first_rule : (b : Bool) (n : ℕ) (ns : List ℕ) → unless b n ++ ns ≡ [] → b ≡ true
+first_rule true n ns e = refl
+first_rule false n ns e = absurd (cc)

@@ -3,6 +3,7 @@ use Rattle.std.proofs.Common.{◌≡◌, inl, inr, ℕ, ◌<◌, List, [], ◌�
 use Rattle.std.specs.Prelude.{slice_index_or, bytes_eq, is_some, codes, All}
 use Rattle.std.proofs.lemmas.Bool.{cases_lt, and_parts}
 use Rattle.std.proofs.lemmas.Option.{slice_get_past}
+use Rattle.std.proofs.lemmas.List.Elements.{All-nil, All-cons}
 use Rattle.dv_defs.specs.declared.image.Image.{Image}
 use Rattle.dv_defs.specs.declared.image.ClassInfo.{ClassInfo}
 use Rattle.dv_defs.specs.declared.run.Named.{Named}
@@ -18,9 +19,9 @@ use Rattle.dv_defs.specs.Heap.{class_cells}
 use Rattle.dv_machine.specs.Conforming.{is_string_or_class}
 use Rattle.dv_machine.specs.Unwinding.{exception_name, number_named, throwable_slot}
 use Rattle.dv_machine.specs.Accepted.{IsNamed, HasBoot}
+use Rattle.dv_laws.proofs.Plain.{is_there}
 use Rattle.dv_laws.proofs.OrderEqual.{names_are, reg_type_is}
-use Rattle.dv_laws.proofs.BridgeStatics.{all_none, all_more}
-use Rattle.dv_laws.proofs.ExampleTests.{all_below, below_is, from_or, is_there, if_some, some_is}
+use Rattle.dv_laws.proofs.ExampleTests.{all_below, below_is, from_or, if_some, some_is}
 use Rattle.dv_laws.proofs.ExampleMembers.{are_fields_fine, are_methods_fine, not_bare, out_is, placed_is}
 
 -- ---- names
@@ -30,10 +31,10 @@ are_named image [] = true
 are_named image (n ∷ ns) = is_some (class_named image n) && are_named image ns
 
 each_named : (image : Image) (ns : List (List ℕ)) → are_named image ns ≡ true → All (IsNamed image) ns
-each_named image [] e = all_none (IsNamed image)
+each_named image [] e = All-nil (IsNamed image)
 each_named image (n ∷ ns) e =
     let p = and_parts (is_some (class_named image n)) (are_named image ns) e in
-    all_more (IsNamed image) n ns (is_there (class_named image n) p.0) (each_named image ns p.1)
+    All-cons (IsNamed image) n ns (is_there (class_named image n) p.0) (each_named image ns p.1)
 
 -- ---- each exception class that steps make
 

@@ -11,7 +11,7 @@ use Rattle.dv_defs.specs.Names.{object_name}
 use Rattle.dv_defs.specs.Pools.{class_named, parent_of, parent_at, name_at, is_interface, flags_of}
 use Rattle.dv_defs.specs.Order.{has_number, listed, above, interfaces_of}
 use Rattle.dv_machine.specs.Accepted.{IsHierarchy}
-use Rattle.dv_laws.proofs.OrderWalks.{no, either}
+use Rattle.dv_laws.proofs.Plain.{no, either}
 use Rattle.dv_laws.proofs.OrderEqual.{names_are}
 use Rattle.dv_laws.proofs.ExampleTests.{all_below, below_is, from_or, if_some, some_is}
 

@@ -5,13 +5,12 @@ use Rattle.std.proofs.lemmas.Bool.{cases_lt, and_parts, and_from, ltb-true, not-
 use Rattle.std.proofs.lemmas.Option.{slice_get_past}
 use Rattle.dv_defs.specs.declared.code.Body.{Body}
 use Rattle.dv_defs.specs.declared.image.Image.{Image}
-use Rattle.dv_defs.specs.declared.image.FieldInfo.{FieldInfo}
 use Rattle.dv_defs.specs.declared.image.MethodInfo.{MethodInfo}
 use Rattle.dv_defs.specs.declared.run.Native.{Native}
 use Rattle.dv_defs.specs.Names.{object_name, system_name, stream_name}
 use Rattle.dv_defs.specs.Field.{may_stand}
 use Rattle.dv_defs.specs.Types.{of_class, ty_eq, same_types, same_proto, words_of}
-use Rattle.dv_defs.specs.Pools.{Method, Field, with_info, with_field_info, method_at, field_at, is_static, is_static_field, is_constructor, is_abstract, is_interface, class_type, name_at}
+use Rattle.dv_defs.specs.Pools.{Method, Field, with_info, method_at, field_at, is_static, is_static_field, is_constructor, is_abstract, is_interface, class_type, name_at}
 use Rattle.dv_defs.specs.Order.{instance}
 use Rattle.dv_defs.specs.Op.{Code, code_at}
 use Rattle.dv_defs.specs.RegTypes.{type_at, reg_types}
@@ -20,11 +19,12 @@ use Rattle.dv_defs.specs.Heap.{class_cells}
 use Rattle.dv_machine.specs.Conforming.{is_string_or_class}
 use Rattle.dv_machine.specs.Calls.{native_of, signature}
 use Rattle.dv_machine.specs.Accepted.{KeepsSlots, HasBodies, HasPools, HasInits}
-use Rattle.dv_laws.proofs.OrderWalks.{no}
+use Rattle.dv_laws.proofs.Plain.{no, is_there}
 use Rattle.dv_laws.proofs.OrderEqual.{ty_is, reg_type_is, names_equal}
 use Rattle.dv_laws.proofs.BridgeLookUps.{proto_is, same_list}
-use Rattle.dv_laws.proofs.BridgeStatics.{code_is}
-use Rattle.dv_laws.proofs.ExampleTests.{all_below, below_is, from_or, or_else, is_there, if_some, some_is}
+use Rattle.dv_laws.proofs.ExampleTests.{all_below, below_is, from_or, or_else, if_some, some_is}
+use Rattle.dv_laws.proofs.MethodCode.{code_is}
+use Rattle.dv_laws.proofs.OpeningCells.{field_within}
 
 -- ---- fields
 
@@ -52,16 +52,9 @@ is_field_fine image f = has_slots image f && (nat_lt f.info.class.0 (length imag
 abbrev pub are_fields_fine : Image → Bool
 are_fields_fine image = all_below (λ x. if_some (is_field_fine image) (field_at image x)) (length image.fields)
 
-field_inside : (image : Image) (x : ℕ) (f : Field) → field_at image x ≡ Some f → x < length image.fields
-unfolding field_at
-field_inside image x f e = elim (cases_lt x (length image.fields)) [
-  | inl l ↦ l
-  | inr l ↦ absurd (let none : field_at image x ≡ None = ap (λ (o : Option FieldInfo). with_field_info image x o) (slice_get_past image.fields x l) in cc)
-]
-
 module _ (image : Image) (e : are_fields_fine image ≡ true) where
   field_tested : (x : ℕ) (f : Field) → field_at image x ≡ Some f → is_field_fine image f ≡ true
-  field_tested x f h = some_is (is_field_fine image) (field_at image x) f (below_is (λ x. if_some (is_field_fine image) (field_at image x)) (length image.fields) x e (field_inside image x f h)) h
+  field_tested x f h = some_is (is_field_fine image) (field_at image x) f (below_is (λ x. if_some (is_field_fine image) (field_at image x)) (length image.fields) x e (field_within image x f h)) h
 
   record FieldTested (f : Field) : Type 0 where
     slots : has_slots image f ≡ true

@@ -1,8 +1,7 @@
 -- Tests that hold of each number below one.
-use Rattle.std.proofs.Common.{◌≡◌, inl, inr, ℕ, zero, suc, ◌<◌, Bool, true, false, ◌&&◌, ◌||◌, not, Option, Some, None, refl, subst, arith}
-use Rattle.std.specs.Prelude.{is_some}
+use Rattle.std.proofs.Common.{◌≡◌, inl, inr, ℕ, zero, suc, ◌<◌, Bool, true, false, ◌&&◌, ◌||◌, not, Option, Some, None, subst, arith}
 use Rattle.std.proofs.lemmas.Bool.{cases_lt, and_parts}
-use Rattle.dv_laws.proofs.OrderWalks.{no}
+use Rattle.dv_laws.proofs.Plain.{no}
 
 abbrev pub all_below : (ℕ → Bool) → ℕ → Bool
 all_below f zero = true
@@ -24,10 +23,6 @@ from_or false b e h = no h
 pub or_else : (a b : Bool) → (a || b) ≡ true → a ≡ false → b ≡ true
 or_else true b e h = absurd (cc)
 or_else false b e h = e
-
-pub is_there : {X : Type 0} (o : Option X) → is_some o ≡ true → (x : X) × (o ≡ Some x)
-is_there (Some x) e = (x, refl)
-is_there None e = no e
 
 -- a test of what an option holds
 abbrev pub if_some : {X : Type 0} → (X → Bool) → Option X → Bool

@@ -19,7 +19,7 @@ use Rattle.dv_machine.specs.WellTyped.{Typings, this_above, IsPlaced, IsHandled,
 use Rattle.dv_machine.specs.Accepted.{Accepted}
 use Rattle.dv_machine.specs.Premises.{IsAt, KeepsKinds}
 use Rattle.dv_machine.specs.StepLaws.{ThrowerIsHandled, CallersAreHandled, NeedersAreHandled}
-use Rattle.dv_laws.proofs.GrowthLists.{no}
+use Rattle.dv_laws.proofs.Plain.{no}
 use Rattle.dv_laws.proofs.GrowthKinds.{Either, conform_grown}
 use Rattle.dv_laws.proofs.FlightHandlers.{placed_handled, handlers_placed}
 

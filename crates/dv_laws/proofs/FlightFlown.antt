@@ -23,7 +23,8 @@ use Rattle.dv_machine.specs.Conforming.{RefsFine}
 use Rattle.dv_machine.specs.WellTyped.{Typings, this_above, IsHandled, IsThrowable, CodeFine, StackFine, lowest, IsCode, ThreadFine, HeapFine, records, owed, levels_in, WellTyped}
 use Rattle.dv_machine.specs.Premises.{IsAt, IsAtRecord, KeepsKinds}
 use Rattle.dv_machine.specs.StepLaws.{SettledIsWellTyped, SettledRecordIsWellTyped}
-use Rattle.dv_laws.proofs.GrowthLists.{nothing, all_at}
+use Rattle.dv_laws.proofs.Plain.{nothing}
+use Rattle.dv_laws.proofs.GrowthLists.{all_at}
 use Rattle.dv_laws.proofs.GrowthKinds.{all_refs_grown, stack_grown}
 use Rattle.dv_laws.proofs.GrowthKeeps.{stopped_typed}
 use Rattle.dv_laws.proofs.GrowthThreads.{records_after, after_typed, object_after, left_is_well_typed}

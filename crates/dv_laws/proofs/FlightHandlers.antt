@@ -2,6 +2,7 @@
 use Rattle.std.proofs.Common.{◌≡◌, ℕ, List, Bool, true, false, Option, Some, None, refl, sym, ap, ◌∙◌, subst}
 use Rattle.std.specs.Prelude.{All}
 use Rattle.std.proofs.lemmas.List.Elements.{All-weaker}
+use Rattle.std.proofs.lemmas.Option.{same_Some}
 use Rattle.dv_defs.specs.declared.names.Ty.{Ty}
 use Rattle.dv_defs.specs.declared.image.Image.{Image}
 use Rattle.dv_defs.specs.declared.code.Body.{Body}
@@ -21,7 +22,6 @@ use Rattle.dv_machine.specs.Unwinding.{catches, caught_frame}
 use Rattle.dv_machine.specs.Conforming.{IsOf, Conform}
 use Rattle.dv_machine.specs.WellTyped.{Typings, own_of, IsPlaced, IsHandled, IsThrowable}
 use Rattle.dv_machine.specs.Accepted.{Accepted, IsFine, FindsRightly}
-use Rattle.dv_laws.proofs.GrowthLists.{same_some}
 use Rattle.dv_laws.proofs.OrderTypes.{under_reference}
 use Rattle.dv_laws.proofs.OrderStates.{frame_up}
 
@@ -43,7 +43,7 @@ code_id image finds n code e = go (method_at image n) refl e
   where
     with_body_id : (m : Method) (b : Option Body) → with_body m b ≡ Some code → code.method.id ≡ m.id
     with_body_id m None e = absurd (cc)
-    with_body_id m (Some b) e = ap (λ (c : Code). c.method.id) (sym (same_some _ code e))
+    with_body_id m (Some b) e = ap (λ (c : Code). c.method.id) (sym (same_Some _ code e))
 
     go : (x : Option Method) → method_at image n ≡ x → code_of x ≡ Some code → code.method.id ≡ n
     go None f e = absurd (cc)
@@ -79,6 +79,6 @@ module _ (image : Image) (T : Typings) (acc : Accepted image T) (heap : Heap) wh
   pub placed_handled : (this : Option ℕ) (f : Frame) (x : At) (o : ℕ) → IsPlaced image T heap this f → fetch image f.method.0 f.at ≡ Some x → can_throw x.op ≡ true → is_exit x.op ≡ false → IsThrowable image heap o → IsHandled image T heap this o f
   placed_handled this f x o p fetched can exit i =
       let e = acc.typed.each f.method.0 f.at p.state p.has_state in
-      let same : e.1 ≡ x = same_some e.1 x (sym e.3 ∙ fetched) in
+      let same : e.1 ≡ x = same_Some e.1 x (sym e.3 ∙ fetched) in
       let at : thrown_at f.at x ≡ f.at = ap (λ (b : Bool). elim b [ true ↦ x.next | false ↦ f.at ]) exit in
       subst (λ (n : ℕ). All (λ (h : Catcher). catches image heap o h.ty ≡ true → IsPlaced image T heap this (caught_frame f h.to o)) (handlers_at image f.method.0 n)) at (handlers_placed this f p.method p.has_method p.state p.conform o i e.0 x e.2 (subst (λ (y : At). IsFine image (T f.method.0) e.0 f.at y p.state) same e.4) can)

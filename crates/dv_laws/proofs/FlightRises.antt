@@ -2,6 +2,7 @@
 use Rattle.std.proofs.Common.{◌≡◌, ℕ, zero, suc, List, [], ◌∷◌, Bool, true, false, Option, Some, None, refl, sym, ap, ◌∙◌, subst, arith}
 use Rattle.std.specs.Prelude.{slice_get, All}
 use Rattle.std.proofs.lemmas.List.Elements.{All-head, All-tail, All-cons}
+use Rattle.std.proofs.lemmas.Option.{same_Some}
 use Rattle.dv_defs.specs.declared.image.Image.{Image}
 use Rattle.dv_defs.specs.declared.machine.Frame.{Frame}
 use Rattle.dv_defs.specs.declared.machine.Level.{Level}
@@ -18,7 +19,7 @@ use Rattle.dv_machine.specs.Conforming.{IsObject, IsThere, RefsFine}
 use Rattle.dv_machine.specs.WellTyped.{Typings, this_above, IsPlaced, IsThrowable, StackFine, FlightFine, lowest, IsCode, ThreadFine, WaitFine, records, WellTyped}
 use Rattle.dv_machine.specs.Accepted.{Accepted}
 use Rattle.dv_machine.specs.Premises.{HoldsOf}
-use Rattle.dv_laws.proofs.GrowthLists.{nothing, same_some}
+use Rattle.dv_laws.proofs.Plain.{nothing}
 use Rattle.dv_laws.proofs.GrowthKinds.{either_map}
 use Rattle.dv_laws.proofs.GrowthThreads.{records_after, left_is_well_typed}
 use Rattle.dv_laws.proofs.MonitorsOwners.{entry_none}
@@ -31,7 +32,7 @@ handler_found image heap o P [] a to e = absurd (cc)
 handler_found image heap o P (h ∷ hs) a to e = go (catches image heap o h.ty) refl e (handler_found image heap o P hs (All-tail (λ (h : Catcher). catches image heap o h.ty ≡ true → P h.to) h hs a) to)
   where
     go : (b : Bool) → catches image heap o h.ty ≡ b → ◌≡◌ {A = Option ℕ} (elim b [ true ↦ Some h.to | false ↦ handler_for image heap o hs ]) (Some to) → (handler_for image heap o hs ≡ Some to → P to) → P to
-    go true c e r = subst P (same_some h.to to e) (All-head (λ (h : Catcher). catches image heap o h.ty ≡ true → P h.to) h hs a c)
+    go true c e r = subst P (same_Some h.to to e) (All-head (λ (h : Catcher). catches image heap o h.ty ≡ true → P h.to) h hs a c)
     go false c e r = r e
 
 module _ (image : Image) (T : Typings) (heap : Heap) (t o : ℕ) where
@@ -67,7 +68,7 @@ module _ (image : Image) (T : Typings) (m : Machine) (t o : ℕ) (thread : Threa
 
       clash : {x : Wait} → WaitFine image m.threads m.shared x → x.thread ≡ t → ⊥
       clash f e =
-          let same : f.thread ≡ thread = same_some f.thread thread (sym f.has_thread ∙ ap (slice_get m.threads) e ∙ has) in
+          let same : f.thread ≡ thread = same_Some f.thread thread (sym f.has_thread ∙ ap (slice_get m.threads) e ∙ has) in
           no_living (sym flying ∙ sym (ap (λ (y : Thread). y.end) same) ∙ f.waits.running)
 
   pub fine_at : (ls : List Level) → thread.levels ≡ ls → ThreadFine image T m.shared.heap t ls (end.Flying o)

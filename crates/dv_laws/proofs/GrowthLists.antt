@@ -1,16 +1,7 @@
 -- Lists that grow at their end or change at one place.
-use Rattle.std.proofs.Common.{subst, ◌≡◌, ◌≢◌, ◌⊎◌, inl, inr, ℕ, zero, suc, List, [], ◌∷◌, ◌++◌, length, true, false, Some, None, refl, ap, arith}
-use Rattle.std.specs.Prelude.{slice_get, slice_set, nat_eq, All}
-use Rattle.std.proofs.lemmas.Bool.{eq-eqb, ne_eqb}
-
-pub no : {A : Type 0} → false ≡ true → A
-no e = absurd (cc)
-
-pub same_some : {A : Type 0} (x y : A) → Some x ≡ Some y → x ≡ y
-same_some x y e = cc
-
-pub nothing : {A : Type 0} (B : Type 0) (x : A) → None ≡ Some x → B
-nothing B x e = absurd (cc)
+use Rattle.std.proofs.Common.{subst, ◌≡◌, ◌≢◌, ◌⊎◌, inl, inr, ℕ, zero, suc, List, [], ◌∷◌, ◌++◌, length, Some, None, refl, ap, arith}
+use Rattle.std.specs.Prelude.{slice_get, slice_set, All}
+use Rattle.std.proofs.lemmas.Option.{same_Some}
 
 pub get_front : {A : Type 0} (xs ys : List A) (k : ℕ) (x : A) → slice_get xs k ≡ Some x → slice_get (xs ++ ys) k ≡ Some x
 get_front [] ys k x e = absurd (cc)
@@ -27,7 +18,7 @@ get_end (z ∷ xs) = get_end xs
 
 -- a place of a list with one element more is an old one, or the last
 pub push_cases : {A : Type 0} (xs : List A) (a x : A) (k : ℕ) → slice_get (xs ++ a ∷ []) k ≡ Some x → (slice_get xs k ≡ Some x) ⊎ ((k ≡ length xs) × (a ≡ x))
-push_cases [] a x zero e = inr (refl, same_some a x e)
+push_cases [] a x zero e = inr (refl, same_Some a x e)
 push_cases [] a x (suc k) e = absurd (cc)
 push_cases (z ∷ xs) a x zero e = inl e
 push_cases (z ∷ xs) a x (suc k) e = more (push_cases xs a x k e)
@@ -48,16 +39,10 @@ set_other (y ∷ ys) zero (suc j) v d = refl
 set_other (y ∷ ys) (suc k) zero v d = refl
 set_other (y ∷ ys) (suc k) (suc j) v d = set_other ys k j v (λ e. d (ap suc e))
 
-pub eq_true : (a b : ℕ) → a ≡ b → nat_eq a b ≡ true
-eq_true a b e = eq-eqb a b e
-
-pub eq_false : (a b : ℕ) → a ≢ b → nat_eq a b ≡ false
-eq_false a b e = ne_eqb a b e
-
 -- what holds of each element holds of the one that is found
 pub all_at : {A : Type 0} (P : A → Type 0) (xs : List A) (k : ℕ) (x : A) → All P xs → slice_get xs k ≡ Some x → P x
 all_at P [] k x a e = absurd (cc)
-all_at P (y ∷ ys) zero x a e = subst (λ z. P z) (same_some y x e) (a 0 x (omega arith))
+all_at P (y ∷ ys) zero x a e = subst (λ z. P z) (same_Some y x e) (a 0 x (omega arith))
 all_at P (y ∷ ys) (suc k) x a e = all_at P ys k x (λ j d h. a (suc j) d (omega arith)) e
 
 -- and of each where it holds of each that is found

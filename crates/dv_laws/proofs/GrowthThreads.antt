@@ -3,6 +3,7 @@ use Rattle.std.proofs.Common.{◌≡◌, ◌≢◌, ◌⊎◌, inl, inr, ℕ, ze
 use Rattle.std.specs.Prelude.{slice_get, slice_set, All}
 use Rattle.std.proofs.lemmas.Bool.{cases_eq}
 use Rattle.std.proofs.lemmas.List.{length-set}
+use Rattle.std.proofs.lemmas.Option.{same_Some}
 use Rattle.dv_defs.specs.declared.image.Image.{Image}
 use Rattle.dv_defs.specs.Names.{thread_name}
 use Rattle.dv_defs.specs.Types.{of_class}
@@ -14,7 +15,7 @@ use Rattle.dv_machine.specs.Conforming.{IsOf, RefsFine}
 use Rattle.dv_machine.specs.WellTyped.{Typings, ThreadFine, HeapFine, MonitorsFine, records, owed, levels_in, WellTyped}
 use Rattle.dv_machine.specs.Premises.{KeepsKinds, StartedFine}
 use Rattle.dv_machine.specs.StepLaws.{LeftIsWellTyped}
-use Rattle.dv_laws.proofs.GrowthLists.{same_some, get_front, set_there, set_other, all_at, all_from}
+use Rattle.dv_laws.proofs.GrowthLists.{get_front, set_there, set_other, all_at, all_from}
 use Rattle.dv_laws.proofs.GrowthKinds.{is_of_grown, all_refs_grown, thread_grown}
 
 -- a place of a list with perhaps one element more
@@ -55,7 +56,7 @@ module _ (threads : List Thread) (t : ℕ) (before after : Thread) (started : Op
       go (inr p) c = subst (λ (k : ℕ). P k x) (sym (p.0 ∙ length-set threads t after)) (new x p.1)
       go (inl f) (inr d) = other u x (sym (set_other threads t u after d) ∙ f)
       go (inl f) (inl s) =
-          let same : after ≡ x = same_some after x (sym (set_there threads t after before has) ∙ ap (slice_get (slice_set threads t after)) (sym s) ∙ f) in
+          let same : after ≡ x = same_Some after x (sym (set_there threads t after before has) ∙ ap (slice_get (slice_set threads t after)) (sym s) ∙ f) in
           subst (λ (k : ℕ). P k x) (sym s) (subst (λ (y : Thread). P t y) same own)
 
   -- the records of each thread number, also of one that is not there

@@ -3,7 +3,7 @@ use Rattle.std.proofs.Common.{◌≡◌, ◌⊎◌, inl, inr, ℕ, zero, suc, �
 use Rattle.std.specs.Prelude.{slice_get}
 use Rattle.std.proofs.lemmas.List.{length_push, get_or_append_left, get_or_push}
 use Rattle.std.proofs.lemmas.List.Elements.{All-weaker}
-use Rattle.std.proofs.lemmas.Option.{slice_get_within}
+use Rattle.std.proofs.lemmas.Option.{slice_get_within, same_Some}
 use Rattle.dv_defs.specs.declared.names.Ty.{Ty}
 use Rattle.dv_defs.specs.declared.image.Image.{Image}
 use Rattle.dv_defs.specs.declared.machine.Kind.{Kind}
@@ -13,7 +13,7 @@ use Rattle.dv_defs.specs.Heap.{Heap, Cells, kind_of, class_cells, fresh_cells, f
 use Rattle.dv_machine.specs.WellTyped.{element_types, cell_types, CellsFit, HeapFine}
 use Rattle.dv_machine.specs.Premises.{KeepsKinds}
 use Rattle.dv_machine.specs.StepLaws.{IsAdded, ObjectIsAdded, ArrayIsAdded, StringIsAdded}
-use Rattle.dv_laws.proofs.GrowthLists.{same_some, get_front, get_new, get_end, push_cases}
+use Rattle.dv_laws.proofs.GrowthLists.{get_front, get_new, get_end, push_cases}
 use Rattle.dv_laws.proofs.HeapCells.{fresh_fit, class_are_cells, element_cells, fresh_elements_are, same_cell_types, array_length, fit_grown, fit_same}
 
 pub grown_keeps : (h : Heap) (k : Kind) (cells : Cells) (cost : ℕ) → KeepsKinds h (grown h k cells cost)
@@ -61,7 +61,7 @@ module _ (image : Image) (h : Heap) (k : Kind) (cells : Cells) (cost : ℕ) (fin
 
 -- where there was room
 pub room_is : (b : Bool) (x y : Heap) → ◌≡◌ {A = Option Heap} (elim b [ true ↦ Some x | false ↦ None ]) (Some y) → x ≡ y
-room_is true x y e = same_some x y e
+room_is true x y e = same_Some x y e
 room_is false x y e = absurd (cc)
 
 pub object_is_added : ObjectIsAdded

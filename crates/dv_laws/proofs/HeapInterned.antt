@@ -1,7 +1,7 @@
 -- Strings and Class objects that are looked up first, then made.
 use Rattle.std.proofs.Common.{◌≡◌, ◌⊎◌, inl, inr, ℕ, List, [], ◌∷◌, ◌++◌, Bool, true, false, Option, Some, None, refl, ap, subst}
 use Rattle.std.proofs.lemmas.List.Elements.{All-push}
-use Rattle.std.proofs.lemmas.Slice.Eq.{bytes_eq-Decides}
+use Rattle.std.proofs.lemmas.Option.{same_Some}
 use Rattle.dv_defs.specs.declared.names.Ty.{Ty}
 use Rattle.dv_defs.specs.declared.image.Image.{Image}
 use Rattle.dv_defs.specs.declared.machine.Kind.{Kind}
@@ -9,8 +9,8 @@ use Rattle.dv_defs.specs.declared.machine.Kind.TheVariants as kind
 use Rattle.dv_defs.specs.Heap.{Heap, Got, kind_of, has_room, newest, grown_within, alloc_string, is_text, is_class_of, found_among, with_interned, with_class_object}
 use Rattle.dv_machine.specs.WellTyped.{HeapFine}
 use Rattle.dv_machine.specs.StepLaws.{IsAdded, StringIsInterned, ClassObjectIsGot}
-use Rattle.dv_laws.proofs.GrowthLists.{no, same_some}
-use Rattle.dv_laws.proofs.OrderEqual.{ty_is}
+use Rattle.dv_laws.proofs.Plain.{no}
+use Rattle.dv_laws.proofs.OrderEqual.{ty_is, names_are}
 use Rattle.dv_laws.proofs.HeapCells.{fit_grown}
 use Rattle.dv_laws.proofs.HeapAdded.{is_added, room_is, bare_fits, string_is_added}
 
@@ -20,19 +20,16 @@ found_passes test [] o e = absurd (cc)
 found_passes test (p ∷ os) o e = go (test p) refl e (found_passes test os o)
   where
     go : (b : Bool) → test p ≡ b → ◌≡◌ {A = Option ℕ} (elim b [ true ↦ Some p | false ↦ found_among test os ]) (Some o) → (found_among test os ≡ Some o → test o ≡ true) → test o ≡ true
-    go true t e r = subst (λ (n : ℕ). test n ≡ true) (same_some p o e) t
+    go true t e r = subst (λ (n : ℕ). test n ≡ true) (same_Some p o e) t
     go false t e r = r e
 
 text_is : (k : Option Kind) (s : List ℕ) → is_text k s ≡ true → k ≡ Some (kind.Str s)
-text_is (Some (kind.Str t)) s e = ap (λ x. Some (kind.Str x)) ((bytes_eq-Decides t s).0 e)
+text_is (Some (kind.Str t)) s e = ap (λ x. Some (kind.Str x)) (names_are t s e)
 text_is k s e = no e
 
 class_is : (k : Option Kind) (t : Ty) → is_class_of k t ≡ true → k ≡ Some (kind.ClassOf t)
 class_is (Some (kind.ClassOf s)) t e = ap (λ x. Some (kind.ClassOf x)) (ty_is s t e)
 class_is k t e = no e
-
-same_got : (g h : Got) → Some g ≡ Some h → g ≡ h
-same_got g h e = same_some g h e
 
 -- two heaps with the same objects and cells
 module _ (image : Image) (before h : Heap) (o : ℕ) where
@@ -66,13 +63,13 @@ string_is_interned image before s g fine e = found (found_among (λ o. is_text (
     made (Some h) f e =
         let a = string_is_added image before h s fine f in
         let i : IsInterned image before s (record { object = newest h; heap = record h { interned = h.interned ++ newest h ∷ [] } }) = (a.made, inr (record { keeps = a.keeps; fresh = a.fresh; made = a.made; fine = interned_fine image before h (newest h) s a.fine a.made })) in
-        subst (IsInterned image before s) (same_some _ g e) i
+        subst (IsInterned image before s) (same_Some _ g e) i
 
     found : (x : Option ℕ) → found_among (λ o. is_text (kind_of before o) s) before.interned ≡ x → ◌≡◌ {A = Option Got} (elim x [ Some o ↦ Some (record { object = o; heap = before }) | None ↦ with_interned (alloc_string before s) ]) (Some g) → IsInterned image before s g
     found None f e = made (alloc_string before s) refl e
     found (Some o) f e =
         let i : IsInterned image before s (record { object = o; heap = before }) = (text_is (kind_of before o) s (found_passes (λ o. is_text (kind_of before o) s) before.interned o f), inl refl) in
-        subst (IsInterned image before s) (same_some _ g e) i
+        subst (IsInterned image before s) (same_Some _ g e) i
 
 abbrev IsGotten : Image → Heap → Ty → Got → Type 0
 IsGotten image before t g = (kind_of g.heap g.object ≡ Some (kind.ClassOf t)) × ((g.heap ≡ before) ⊎ IsAdded image before g.heap g.object (kind.ClassOf t))
@@ -88,10 +85,10 @@ class_object_is_got image before t g fine e = found (found_among (λ o. is_class
     made (Some h) f e =
         let a = class_is_added image before h t fine f in
         let i : IsGotten image before t (record { object = newest h; heap = record h { class_objects = h.class_objects ++ newest h ∷ [] } }) = (a.made, inr (record { keeps = a.keeps; fresh = a.fresh; made = a.made; fine = classes_fine image before h (newest h) t a.fine a.made })) in
-        subst (IsGotten image before t) (same_some _ g e) i
+        subst (IsGotten image before t) (same_Some _ g e) i
 
     found : (x : Option ℕ) → found_among (λ o. is_class_of (kind_of before o) t) before.class_objects ≡ x → ◌≡◌ {A = Option Got} (elim x [ Some o ↦ Some (record { object = o; heap = before }) | None ↦ with_class_object (grown_within before (kind.ClassOf t) [] 2) ]) (Some g) → IsGotten image before t g
     found None f e = made (grown_within before (kind.ClassOf t) [] 2) refl e
     found (Some o) f e =
         let i : IsGotten image before t (record { object = o; heap = before }) = (class_is (kind_of before o) t (found_passes (λ o. is_class_of (kind_of before o) t) before.class_objects o f), inl refl) in
-        subst (IsGotten image before t) (same_some _ g e) i
+        subst (IsGotten image before t) (same_Some _ g e) i

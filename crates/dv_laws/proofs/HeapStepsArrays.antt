@@ -34,14 +34,14 @@ use Rattle.dv_machine.specs.Conforming.{Conforms}
 use Rattle.dv_machine.specs.WellTyped.{Typings, own_of, this_above, nobody}
 use Rattle.dv_machine.specs.Premises.{ThrowFine, DidFine, HoldsOf}
 use Rattle.dv_laws.specs.Reading.{Anything, IsArrayOf, IsArrayOrNull, GoesDown}
-use Rattle.dv_laws.proofs.GrowthLists.{no}
+use Rattle.dv_laws.proofs.Plain.{no}
 use Rattle.dv_laws.proofs.HeapStepsLeft.{read_then, put_left}
 use Rattle.dv_laws.proofs.HeapStepsPlain.{demand_of, out_of, throws}
 use Rattle.dv_laws.proofs.HeapStepsCells.{cell_ref, words_at_is}
 use Rattle.dv_laws.proofs.HeapStepsElements.{element_at, primitive_plain, primitive_short, reference_short, short_types, int_type, class_type}
-use Rattle.dv_laws.proofs.HeapStepsFields.{holds_map, conform_within, words_left}
+use Rattle.dv_laws.proofs.HeapStepsFields.{conform_within, words_left}
 use Rattle.dv_laws.proofs.LocalStands.{Stands}
-use Rattle.dv_laws.proofs.ReadersPlain.{reads_int}
+use Rattle.dv_laws.proofs.ReadersPlain.{reads_int, holds_more}
 use Rattle.dv_laws.proofs.ReadersArrays.{reads_array, tests_go_down}
 use Rattle.dv_laws.proofs.Demanding.{first_none, demanded}
 
@@ -70,7 +70,7 @@ module _ (image : Image) (T : Typings) (m : Machine) (t : ℕ) (thread : Thread)
       more c q (suc o) i = (c, q, i)
 
       by_type : (u : RegType) → type_at s.regs b ≡ u → HoldsOf (IsKnown good b) (read_array good m.shared.heap (reg_at f.regs b))
-      by_type (ty.Class c) q = holds_map (IsArrayOrNull image m.shared.heap good (type_at s.regs b)) (IsKnown good b) _ (reads_array image m.shared.heap (own_of image (this_above image rest) own) f.regs s.regs b good h.may.accepted.order down h.conform.good.regs d) (more c q)
+      by_type (ty.Class c) q = holds_more (IsArrayOrNull image m.shared.heap good (type_at s.regs b)) (IsKnown good b) _ (reads_array image m.shared.heap (own_of image (this_above image rest) own) f.regs s.regs b good h.may.accepted.order down h.conform.good.regs d) (more c q)
       by_type ty.Zero q = was_zero (reg_at f.regs b) (subst (λ (u : RegType). Conforms image m.shared.heap (own_of image (this_above image rest) own) (reg_at f.regs b) u) q (h.conform.good.regs b))
       by_type u q = no (subst (λ (z : RegType). is_array_of good z ≡ true) q (demanded _ _ d))
 

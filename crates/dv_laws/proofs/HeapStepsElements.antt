@@ -20,8 +20,9 @@ use Rattle.dv_machine.specs.State.{reg_at}
 use Rattle.dv_machine.specs.Mem.{narrowed, fill_words, filled}
 use Rattle.dv_machine.specs.Conforming.{Conforms}
 use Rattle.dv_machine.specs.WellTyped.{nobody, element_types}
-use Rattle.dv_laws.proofs.GrowthLists.{no}
+use Rattle.dv_laws.proofs.Plain.{no}
 use Rattle.dv_laws.proofs.HeapCells.{reg_count}
+use Rattle.dv_laws.proofs.OrderEqual.{base_plain}
 
 -- ---- places
 
@@ -46,15 +47,10 @@ base_parts b t e = and_parts (nat_eq t.dims 0) (base_eq t.base b) e
 flat : (t : Ty) → nat_eq t.dims 0 ≡ true → is_array t ≡ false
 flat t e = subst (λ (k : ℕ). nat_lt 0 k ≡ false) (sym (eqb-true t.dims 0 e)) refl
 
-no_class : (a b : Base) → is_class_base b ≡ false → base_eq a b ≡ true → is_class_base a ≡ false
-no_class (base.Class n) (base.Class k) p e = no (sym p)
-no_class (base.Class n) b p e = no e
-no_class a b p e = refl
-
 pub primitive_plain : (b : Base) (t : Ty) → is_class_base b ≡ false → is_base b t ≡ true → is_reference t ≡ false
 primitive_plain b t p e =
     let q = base_parts b t e in
-    ap (λ (x : Bool). x || is_class_base t.base) (flat t q.0) ∙ no_class t.base b p q.1
+    ap (λ (x : Bool). x || is_class_base t.base) (flat t q.0) ∙ base_plain t.base b p q.1
 
 no_long : (a b : Base) → base_eq b base.J ≡ false → base_eq a b ≡ true → base_eq a base.J ≡ false
 no_long base.J base.J p e = no (sym p)
@@ -71,10 +67,7 @@ reference_short t e = go (is_long t) refl
   where
     go : (b : Bool) → is_long t ≡ b → b ≡ false
     go false l = refl
-    go true l = absurd (clash (sym (primitive_plain base.J t refl l) ∙ e))
-      where
-        clash : false ≡ true → ⊥
-        clash z = cc
+    go true l = no (sym (primitive_plain base.J t refl l) ∙ e)
 
 -- a type that is neither a long nor a reference is an int in a register
 pub short_types : (t : Ty) → is_long t ≡ false → reg_types t ≡ single_type t ∷ []

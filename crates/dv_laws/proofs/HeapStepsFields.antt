@@ -1,6 +1,5 @@
 -- Steps that read and write fields are fine.
 use Rattle.std.proofs.Common.{◌≡◌, ◌⊎◌, inl, inr, ℕ, zero, suc, ◌+◌, ◌<◌, ◌≤◌, List, [], ◌∷◌, length, Bool, true, false, Some, sym, ◌∙◌, subst, arith}
-use Rattle.std.specs.Prelude.{Ok, Err}
 use Rattle.std.proofs.lemmas.Bool.{and_parts, not-true, cases_lt}
 use Rattle.std.proofs.lemmas.List.{get_or_past}
 use Rattle.dv_defs.specs.declared.names.Ty.{Ty}
@@ -22,22 +21,18 @@ use Rattle.dv_defs.specs.RegTypes.{Types, type_at, reg_types, single_type}
 use Rattle.dv_defs.specs.Demands.{goes_on}
 use Rattle.dv_defs.specs.Transfer.{out, going, write_type, write_long, write_for}
 use Rattle.dv_defs.specs.Heap.{Heap, kind_of, cells_at, length_of}
-use Rattle.dv_machine.specs.State.{Thread, Machine, Reads, reg_at, onward, put_words}
+use Rattle.dv_machine.specs.State.{Thread, Machine, reg_at, onward, put_words}
 use Rattle.dv_machine.specs.Mem.{stored, narrowed_all, get_field, put_field}
 use Rattle.dv_machine.specs.Step.{here}
 use Rattle.dv_machine.specs.Conforming.{Fits, Conforms}
 use Rattle.dv_machine.specs.WellTyped.{Typings, own_of, this_above, nobody, cell_types}
-use Rattle.dv_machine.specs.Premises.{DidFine, HoldsOf}
+use Rattle.dv_machine.specs.Premises.{DidFine}
 use Rattle.dv_laws.specs.Reading.{AreWords}
 use Rattle.dv_laws.proofs.HeapCells.{reg_cells, reg_count}
 use Rattle.dv_laws.proofs.HeapStepsLeft.{put_left, put_long_left, gone_left}
 use Rattle.dv_laws.proofs.HeapStepsPlaces.{HasField, object_field, field_place}
 use Rattle.dv_laws.proofs.HeapStepsCells.{cell_any, cell_ref, cell_plain, single_cell, narrowed_count, narrowed_each, stored_fine, words_at_is}
 use Rattle.dv_laws.proofs.LocalStands.{Stands}
-
-pub holds_map : {A : Type 0} (P Q : A → Type 0) (r : Reads A) → HoldsOf P r → ((y : A) → P y → Q y) → HoldsOf Q r
-holds_map P Q (Ok y) h g = g y h
-holds_map P Q (Err w) h g = h
 
 -- words that conform by place
 pub conform_within : (image : Image) (heap : Heap) (y : ℕ → Value) (t : Ty) → ((j : ℕ) → j < words_of t → Conforms image heap nobody (y j) (type_at (reg_types t) j)) → (j : ℕ) → Conforms image heap nobody (y j) (type_at (reg_types t) j)

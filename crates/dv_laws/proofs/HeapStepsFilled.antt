@@ -33,21 +33,21 @@ use Rattle.dv_machine.specs.WellTyped.{Typings, own_of, this_above, nobody, elem
 use Rattle.dv_machine.specs.Premises.{KeepsKinds, ThrowFine, DidFine, HoldsOf}
 use Rattle.dv_machine.specs.StepLaws.{IsAdded}
 use Rattle.dv_laws.specs.Reading.{Anything}
+use Rattle.dv_laws.proofs.Plain.{fits_of}
 use Rattle.dv_laws.proofs.GrowthKinds.{conforms_grown}
 use Rattle.dv_laws.proofs.HeapAdded.{array_is_added}
 use Rattle.dv_laws.proofs.HeapStepsLeft.{read_then, room_then, true_then, result_left}
-use Rattle.dv_laws.proofs.HeapStepsPlain.{only_rule, demand_of, out_of, throws, array_of}
+use Rattle.dv_laws.proofs.HeapStepsPlain.{demand_of, out_of, throws, array_of}
 use Rattle.dv_laws.proofs.HeapStepsCells.{stored_fine}
 use Rattle.dv_laws.proofs.HeapStepsElements.{primitive_plain, primitive_short, reference_short, short_types, int_type, class_type, fill_plain, filled_conforms}
 use Rattle.dv_laws.proofs.HeapStepsArrays.{IsKnown, known_array, index_then, component_is}
 use Rattle.dv_laws.proofs.HeapStepsStores.{IsPut, put_holds, cells_left, short_left, long_left, storable}
 use Rattle.dv_laws.proofs.FlightRises.{object_there}
-use Rattle.dv_laws.proofs.RecordsStarted.{fits_of}
 use Rattle.dv_laws.proofs.LocalStands.{Stands}
 use Rattle.dv_laws.proofs.ReadersPlain.{next_holds, reads_int}
 use Rattle.dv_laws.proofs.ReadersWords.{IsWord, AreWordsOf, words, single_holds}
 use Rattle.dv_laws.proofs.ReadersArrays.{tests_go_down}
-use Rattle.dv_laws.proofs.Demanding.{first_none}
+use Rattle.dv_laws.proofs.Demanding.{first_none, only_rule}
 
 module _ (image : Image) (T : Typings) (m : Machine) (t : ℕ) (thread : Thread) (own : Method) (f : Frame) (rest : List Level) (x : At) (s : RegState) (h : Stands image T m t thread own f rest x s) (code : Code) (rules : op_rules image code x.op ≡ []) (apart : (c : Call) (ks : List ℕ) (g : Method) → x.op ≡ Invoke c ks g → ⊥) where
   -- ---- one element

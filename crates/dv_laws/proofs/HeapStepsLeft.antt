@@ -32,7 +32,7 @@ use Rattle.dv_machine.specs.Conforming.{IsGood, RefFine, ResultFine, RefsFine, R
 use Rattle.dv_machine.specs.WellTyped.{Typings, own_of, this_above, HeapFine, records}
 use Rattle.dv_machine.specs.Premises.{KeepsKinds, LeftFine, ThrowFine, DidFine, HoldsOf}
 use Rattle.dv_machine.specs.StepLaws.{IsFrom}
-use Rattle.dv_laws.proofs.GrowthLists.{nothing}
+use Rattle.dv_laws.proofs.Plain.{nothing}
 use Rattle.dv_laws.proofs.GrowthKinds.{good_grown, refs_grown, all_refs_grown, stack_grown}
 use Rattle.dv_laws.proofs.GrowthThreads.{records_after}
 use Rattle.dv_laws.proofs.MonitorsOwners.{entry_none}

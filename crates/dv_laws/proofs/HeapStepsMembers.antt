@@ -26,17 +26,18 @@ use Rattle.dv_machine.specs.Conforming.{Fits, Conforms}
 use Rattle.dv_machine.specs.WellTyped.{Typings, own_of, this_above, nobody}
 use Rattle.dv_machine.specs.Premises.{ThrowFine, DidFine, HoldsOf}
 use Rattle.dv_laws.specs.Reading.{AreWords}
+use Rattle.dv_laws.proofs.Plain.{no}
 use Rattle.dv_laws.proofs.HeapCells.{reg_cells}
 use Rattle.dv_laws.proofs.HeapStepsLeft.{read_then, gone_left}
-use Rattle.dv_laws.proofs.HeapStepsPlain.{only_rule, demand_of, out_of, throws}
+use Rattle.dv_laws.proofs.HeapStepsPlain.{demand_of, out_of, throws}
 use Rattle.dv_laws.proofs.HeapStepsPlaces.{class_field}
 use Rattle.dv_laws.proofs.HeapStepsCells.{narrowed_each, static_stored_fine}
-use Rattle.dv_laws.proofs.HeapStepsFields.{holds_map, words_left, IsReceiver, fits_receiver, placed, concrete, get_fine, put_fine}
+use Rattle.dv_laws.proofs.HeapStepsFields.{words_left, IsReceiver, fits_receiver, placed, concrete, get_fine, put_fine}
 use Rattle.dv_laws.proofs.LocalStands.{Stands}
-use Rattle.dv_laws.proofs.ReadersPlain.{reads_reference_to}
+use Rattle.dv_laws.proofs.ReadersPlain.{reads_reference_to, holds_more}
 use Rattle.dv_laws.proofs.ReadersWords.{reads_value}
 use Rattle.dv_laws.proofs.CallsResolved.{IsNamed, is_named}
-use Rattle.dv_laws.proofs.Demanding.{first_none, demanded}
+use Rattle.dv_laws.proofs.Demanding.{first_none, demanded, only_rule}
 
 module _ (image : Image) (T : Typings) (m : Machine) (t : ℕ) (thread : Thread) (own : Method) (f : Frame) (rest : List Level) (x : At) (s : RegState) (h : Stands image T m t thread own f rest x s) (code : Code) (rules : op_rules image code x.op ≡ []) (apart : (c : Call) (ks : List ℕ) (g : Method) → x.op ≡ Invoke c ks g → ⊥) where
   named : (op : Op) → x.op ≡ op → IsNamed image op
@@ -71,7 +72,7 @@ module _ (image : Image) (T : Typings) (m : Machine) (t : ℕ) (thread : Thread)
     -- a reference to an object of the field's class
     read_receiver : ref_to image s.regs b (class_type image y.info.class.0) ≡ None → HoldsOf Receiver (read_ref image m.shared.heap (class_type image y.info.class.0) (reg_at f.regs b))
     unfolding Receiver
-    read_receiver d = holds_map (λ o. Fits image m.shared.heap o (class_type image y.info.class.0)) Receiver _ (reads_reference_to image m.shared.heap (own_of image (this_above image rest) own) f.regs s.regs b (class_type image y.info.class.0) h.may.accepted.order h.conform.good.regs d) (fits_receiver image T m t thread own f rest x s h code rules apart w y its_field.0 its_field.1 its_fits)
+    read_receiver d = holds_more (λ o. Fits image m.shared.heap o (class_type image y.info.class.0)) Receiver _ (reads_reference_to image m.shared.heap (own_of image (this_above image rest) own) f.regs s.regs b (class_type image y.info.class.0) h.may.accepted.order h.conform.good.regs d) (fits_receiver image T m t thread own f rest x s h code rules apart w y its_field.0 its_field.1 its_fits)
 
     -- the frame's own receiver, which isn't initialised yet
     own_receiver : (o : ℕ) → is_own_field own y ≡ true → Conforms image m.shared.heap (own_of image (this_above image rest) own) (v.UninitThis o) ty.UninitThis → Receiver o
@@ -83,10 +84,7 @@ module _ (image : Image) (T : Typings) (m : Machine) (t : ℕ) (thread : Thread)
         (kind.Object (record { 0 = c.class }), c.has_kind, class_field image T h.may.accepted its_field.0 y its_field.1 (placed image T m t thread own f rest x s h code rules apart w y its_field.0 its_field.1 its_fits) (concrete image T m t thread own f rest x s h code rules apart w y its_field.0 its_field.1 its_fits) c.class (h.may.accepted.order.sub_instance _ _ under))
 
     not_ref : type_at s.regs b ≡ ty.Conflict → ref_to image s.regs b (class_type image y.info.class.0) ≡ None → ⊥
-    not_ref q d = clash (subst (λ (u : RegType). ◌≡◌ {A = Bool} (is_ref u) true) q (demanded _ _ (first_none (ref s.regs b) (demand (is_assignable image (type_at s.regs b) (class_type image y.info.class.0)) 5) d).0))
-      where
-        clash : false ≡ true → ⊥
-        clash z = cc
+    not_ref q d = no (subst (λ (u : RegType). ◌≡◌ {A = Bool} (is_ref u) true) q (demanded _ _ (first_none (ref s.regs b) (demand (is_assignable image (type_at s.regs b) (class_type image y.info.class.0)) 5) d).0))
 
     receives : (z : Value) (u : RegType) → reg_at f.regs b ≡ z → type_at s.regs b ≡ u → Conforms image m.shared.heap (own_of image (this_above image rest) own) z u → receiver_demand image own s.regs b y u ≡ None → HoldsOf Receiver (put_receiver (here image m t own f rest x.next) y z)
     receives (v.UninitThis o) ty.UninitThis p q c d = go (is_own_field own y) refl d

@@ -2,14 +2,14 @@
 use Rattle.std.proofs.Common.{◌≡◌, ◌⊎◌, inl, inr, ℕ, zero, suc, ◌+◌, ◌<◌, ◌≤◌, List, [], length, Bool, true, false, Option, Some, None, refl, sym, ap, ◌∙◌, subst, arith}
 use Rattle.std.specs.Prelude.{slice_get, bytes_eq}
 use Rattle.std.proofs.lemmas.Bool.{cases_lt, or_parts, both_ways, ltb-true}
-use Rattle.std.proofs.lemmas.Option.{slice_get_past}
+use Rattle.std.proofs.lemmas.Option.{slice_get_past, same_Some}
 use Rattle.dv_defs.specs.declared.names.Base.TheVariants as base
 use Rattle.dv_defs.specs.declared.names.Ty.{Ty}
 use Rattle.dv_defs.specs.declared.image.Image.{Image}
 use Rattle.dv_defs.specs.declared.machine.Kind.{Kind}
 use Rattle.dv_defs.specs.declared.machine.Kind.TheVariants as kind
 use Rattle.dv_defs.specs.Names.{object_name, string_name, class_name}
-use Rattle.dv_defs.specs.Types.{of_class, is_array, is_reference, class_in, words_of}
+use Rattle.dv_defs.specs.Types.{of_class, is_array, is_reference, words_of}
 use Rattle.dv_defs.specs.Pools.{Field, field_at, is_static_field, is_interface, class_type, class_named, name_of, name_at, parent_at}
 use Rattle.dv_defs.specs.Order.{has_number, under_class, implements, instance, fits, reaches, above, interfaces_of, is_interface_type}
 use Rattle.dv_defs.specs.RegTypes.{type_at, reg_types}
@@ -17,14 +17,11 @@ use Rattle.dv_defs.specs.Heap.{kind_type, class_cells}
 use Rattle.dv_machine.specs.Conforming.{is_string_or_class, is_proper}
 use Rattle.dv_machine.specs.WellTyped.{Typings}
 use Rattle.dv_machine.specs.Accepted.{Accepted}
-use Rattle.dv_laws.proofs.GrowthLists.{no, same_some}
-use Rattle.dv_laws.proofs.OrderEqual.{names_equal}
+use Rattle.dv_laws.proofs.Plain.{no}
+use Rattle.dv_laws.proofs.OrderEqual.{names_equal, of_one_name}
 use Rattle.dv_laws.proofs.OrderTypes.{type_is, flat_under, AreUnder, IsUnder}
 use Rattle.dv_laws.proofs.OrderWalks.{named_is, named_inside, above_is, reach_is, object_reaches}
 use Rattle.dv_laws.proofs.OrderLaws.{above_interface}
-
-same_name : (a b : List ℕ) → of_class a ≡ of_class b → a ≡ b
-same_name a b e = same_some a b (ap (λ (t : Ty). class_in t.base) e)
 
 same_base : (a b : List ℕ) → base.Class a ≡ base.Class b → a ≡ b
 same_base a b e = cc
@@ -77,11 +74,11 @@ module _ (image : Image) (T : Typings) (acc : Accepted image T) (n : ℕ) (x : F
       tested : (a : AreUnder image (implements image) (base.Class name) (name_at image x.info.class.0)) → ⊥
       tested a =
           let same = same_base name a.name a.is_class in
-          let high : a.high ≡ x.info.class.0 = same_some a.high x.info.class.0 (sym a.has_high ∙ acc.hierarchy.once x.info.class.0 in_image) in
+          let high : a.high ≡ x.info.class.0 = same_Some a.high x.info.class.0 (sym a.has_high ∙ acc.hierarchy.once x.info.class.0 in_image) in
           under a.low (ap (class_named image) same ∙ a.has_low) (subst (λ (c : ℕ). implements image a.low c ≡ true) high a.tested)
 
       go : (of_class name ≡ class_type image x.info.class.0) ⊎ IsUnder image (implements image) (of_class name) (class_type image x.info.class.0) → ⊥
-      go (inl q) = differ (same_name name (name_at image x.info.class.0) q)
+      go (inl q) = differ (of_one_name name (name_at image x.info.class.0) q)
       go (inr u) = flat (flat_under image (implements image) u.more (base.Class name) u.name (omega (arith, u.dims)) u.tested)
         where
           own : u.name ≡ name_at image x.info.class.0

@@ -4,6 +4,7 @@ use Rattle.std.specs.Prelude.{ℤ, pos, negsuc, slice_set, map, nat_eq, All}
 use Rattle.std.proofs.lemmas.Bool.{or_left, or_cases, eqb-true}
 use Rattle.std.proofs.lemmas.List.{length-set, set-get_or}
 use Rattle.std.proofs.lemmas.List.Elements.{All-set}
+use Rattle.std.proofs.lemmas.Option.{same_Some}
 use Rattle.dv_defs.specs.declared.names.Ty.{Ty}
 use Rattle.dv_defs.specs.declared.image.Image.{Image}
 use Rattle.dv_defs.specs.declared.run.Value.{Value}
@@ -26,7 +27,7 @@ use Rattle.dv_defs.specs.Pools.{Method}
 use Rattle.dv_defs.specs.Order.{instance, implements}
 use Rattle.dv_defs.specs.Numbers.{operate32, operate64, lo_of, hi_of}
 use Rattle.dv_defs.specs.Op.{Op, Arg, Code, IntDivide, LongDivide, ConstString, ConstClass, Cast, InstanceOf, ArrayLength, New, NewArray, Throw, Invoke, can_throw}
-use Rattle.dv_defs.specs.Statics.{At, fetch, unless, op_rules}
+use Rattle.dv_defs.specs.Statics.{At, fetch, op_rules}
 use Rattle.dv_defs.specs.RegTypes.{type_at}
 use Rattle.dv_defs.specs.Demands.{goes_on, demands, made_by, made_at, any_type, int, arg_int, long}
 use Rattle.dv_defs.specs.Transfer.{out, going, write_type, replaced}
@@ -41,30 +42,25 @@ use Rattle.dv_machine.specs.WellTyped.{Typings, own_of, this_above, HeapFine}
 use Rattle.dv_machine.specs.Premises.{KeepsKinds, ThrowFine, DidFine, HoldsOf}
 use Rattle.dv_machine.specs.StepLaws.{IsAdded}
 use Rattle.dv_laws.specs.Reading.{Anything, IsArrayOrNull}
-use Rattle.dv_laws.proofs.GrowthLists.{same_some, nothing}
+use Rattle.dv_laws.proofs.Plain.{nothing, fits_of}
 use Rattle.dv_laws.proofs.HeapAdded.{object_is_added, array_is_added}
 use Rattle.dv_laws.proofs.HeapInterned.{string_is_interned, class_object_is_got}
 use Rattle.dv_laws.proofs.HeapStepsLeft.{read_then, room_then, true_then, no_wait, grown_good, heap_left, put_left, put_long_left}
 use Rattle.dv_laws.proofs.OpeningHeap.{same_fits}
 use Rattle.dv_laws.proofs.OrderTypes.{under_reference}
 use Rattle.dv_laws.proofs.FlightRises.{object_there}
-use Rattle.dv_laws.proofs.RecordsStarted.{fits_of}
 use Rattle.dv_laws.proofs.RegistersWritten.{write_keeps}
 use Rattle.dv_laws.proofs.RegistersMade.{new_instance_keeps}
 use Rattle.dv_laws.proofs.LocalStands.{Stands, frame_refs}
 use Rattle.dv_laws.proofs.GrowthKinds.{refs_grown}
 use Rattle.dv_laws.proofs.ReadersPlain.{reads_int, reads_argument, reads_long, reads_reference, reads_reference_to}
 use Rattle.dv_laws.proofs.ReadersArrays.{reads_array, tests_go_down}
-use Rattle.dv_laws.proofs.Demanding.{first_none}
-
-pub only_rule : (b : Bool) (n : ℕ) → unless b n ≡ [] → b ≡ true
-only_rule true n e = refl
-only_rule false n e = absurd (cc)
+use Rattle.dv_laws.proofs.Demanding.{first_none, only_rule}
 
 -- the object of an uninitialised value is there
 held_there : (image : Image) (heap : Heap) (own : Own) (y : Value) (u : RegType) (o : ℕ) → IsUninit u → Conforms image heap own y u → object_of y ≡ Some o → (k : Kind) × (kind_of heap o ≡ Some k)
-held_there image heap own (v.Uninit a p) (ty.Uninit b) o i c e = (kind.Object (record { 0 = c.1.class }), subst (λ (q : ℕ). kind_of heap q ≡ Some (kind.Object (record { 0 = c.1.class }))) (same_some p o e) c.1.has_kind)
-held_there image heap own (v.UninitThis p) ty.UninitThis o i c e = (kind.Object (record { 0 = c.class }), subst (λ (q : ℕ). kind_of heap q ≡ Some (kind.Object (record { 0 = c.class }))) (same_some p o e) c.has_kind)
+held_there image heap own (v.Uninit a p) (ty.Uninit b) o i c e = (kind.Object (record { 0 = c.1.class }), subst (λ (q : ℕ). kind_of heap q ≡ Some (kind.Object (record { 0 = c.1.class }))) (same_Some p o e) c.1.has_kind)
+held_there image heap own (v.UninitThis p) ty.UninitThis o i c e = (kind.Object (record { 0 = c.class }), subst (λ (q : ℕ). kind_of heap q ≡ Some (kind.Object (record { 0 = c.class }))) (same_Some p o e) c.has_kind)
 held_there image heap own y (ty.Uninit b) o i c e = absurd c
 held_there image heap own y ty.UninitThis o i c e = absurd c
 held_there image heap own y u o i c e = absurd i

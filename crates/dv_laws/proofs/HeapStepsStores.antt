@@ -30,7 +30,7 @@ use Rattle.dv_machine.specs.Conforming.{Own, Conforms, IsThere}
 use Rattle.dv_machine.specs.WellTyped.{Typings, own_of, this_above, nobody, element_types}
 use Rattle.dv_machine.specs.Premises.{DidFine, HoldsOf}
 use Rattle.dv_laws.specs.Reading.{Anything}
-use Rattle.dv_laws.proofs.GrowthLists.{no}
+use Rattle.dv_laws.proofs.Plain.{no}
 use Rattle.dv_laws.proofs.HeapCells.{reg_cells}
 use Rattle.dv_laws.proofs.HeapStepsLeft.{gone_left}
 use Rattle.dv_laws.proofs.HeapStepsPlain.{instance_reference}

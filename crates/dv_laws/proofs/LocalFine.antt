@@ -2,6 +2,7 @@
 use Rattle.std.proofs.Common.{◌≡◌, ℕ, List, ◌∷◌, length, true, false, Some, sym, ap, ◌∙◌, subst}
 use Rattle.std.specs.Prelude.{slice_get, Ok, Err, nat_lt}
 use Rattle.std.proofs.lemmas.List.Elements.{All-cons}
+use Rattle.std.proofs.lemmas.Option.{same_Some}
 use Rattle.dv_defs.specs.declared.image.Image.{Image}
 use Rattle.dv_defs.specs.declared.run.Value.TheVariants as v
 use Rattle.dv_defs.specs.declared.run.Native.TheVariants as native
@@ -24,8 +25,7 @@ use Rattle.dv_machine.specs.Conforming.{RefsFine, Conform}
 use Rattle.dv_machine.specs.WellTyped.{Typings, own_of, this_above, records, IsWaiting}
 use Rattle.dv_machine.specs.Premises.{LeftFine, DidFine, HoldsOf}
 use Rattle.dv_machine.specs.StepLaws.{LocalStepsAreFine}
-use Rattle.dv_laws.proofs.Demanding.{no}
-use Rattle.dv_laws.proofs.CallsEntered.{some_same}
+use Rattle.dv_laws.proofs.Plain.{no}
 use Rattle.dv_laws.proofs.LocalStill.{still, same_shared, IsQuiet}
 use Rattle.dv_laws.proofs.LocalStands.{Stands, stands, replaced_fine, frame_refs, rest_refs}
 use Rattle.dv_laws.proofs.LocalSteps.{sound, all_in}
@@ -51,8 +51,8 @@ module _ (image : Image) (T : Typings) (m : Machine) (t : ℕ) (thread : Thread)
   waits_here : (o : ℕ) → IsWaiting image m.shared.heap thread.levels thread.end o → WaitsHere o
   waits_here o w =
       let frame : w.frame ≡ f = same_frame w.frame w.rest (sym w.levels ∙ h.levels) in
-      let method : w.method ≡ own = some_same _ _ (sym w.has_method ∙ ap (λ (g : Frame). method_at image g.method.0) frame ∙ h.has_own) in
-      let at : w.at ≡ x = some_same _ _ (sym w.has_at ∙ ap (λ (g : Frame). fetch image g.method.0 g.at) frame ∙ h.has_at) in
+      let method : w.method ≡ own = same_Some _ _ (sym w.has_method ∙ ap (λ (g : Frame). method_at image g.method.0) frame ∙ h.has_own) in
+      let at : w.at ≡ x = same_Some _ _ (sym w.has_at ∙ ap (λ (g : Frame). fetch image g.method.0 g.at) frame ∙ h.has_at) in
       record {
         call = w.call;
         args = w.args;
@@ -70,7 +70,7 @@ module _ (image : Image) (T : Typings) (m : Machine) (t : ℕ) (thread : Thread)
   -- the thread is in no entry where it can't wait here
   pub quiet : ((o : ℕ) → WaitsHere o → ⊥) → IsQuiet image m t
   quiet n w k e =
-      let same : k.thread ≡ thread = some_same _ _ (sym k.has_thread ∙ ap (slice_get m.threads) e ∙ h.has_thread) in
+      let same : k.thread ≡ thread = same_Some _ _ (sym k.has_thread ∙ ap (slice_get m.threads) e ∙ h.has_thread) in
       n w.object (waits_here w.object (subst (λ (th : Thread). IsWaiting image m.shared.heap th.levels th.end w.object) same k.waits))
 
   -- a frame of the same method in place of the thread's own

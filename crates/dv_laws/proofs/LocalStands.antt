@@ -2,6 +2,7 @@
 use Rattle.std.proofs.Common.{◌≡◌, ℕ, List, [], ◌∷◌, length, Some, None, sym, ap, ◌∙◌, subst}
 use Rattle.std.specs.Prelude.{slice_get, All}
 use Rattle.std.proofs.lemmas.List.Elements.{All-head, All-tail}
+use Rattle.std.proofs.lemmas.Option.{same_Some}
 use Rattle.dv_defs.specs.declared.image.Image.{Image}
 use Rattle.dv_defs.specs.declared.machine.Frame.{Frame}
 use Rattle.dv_defs.specs.declared.machine.Level.{Level}
@@ -19,9 +20,9 @@ use Rattle.dv_machine.specs.State.{Thread, Machine, Here, Shared}
 use Rattle.dv_machine.specs.Conforming.{Conform, RefsFine}
 use Rattle.dv_machine.specs.WellTyped.{Typings, own_of, this_above, lowest, IsCode, BelowCode, IsPlaced, CodeFine, StackFine, ThreadFine}
 use Rattle.dv_machine.specs.Premises.{MayStep, IsAt}
-use Rattle.dv_laws.proofs.CallsEntered.{some_same, code_is}
 use Rattle.dv_laws.proofs.OrderStates.{frame_up}
-use Rattle.dv_laws.proofs.LocalStill.{all_at}
+use Rattle.dv_laws.proofs.GrowthLists.{all_at}
+use Rattle.dv_laws.proofs.MethodCode.{code_is}
 
 -- what a case knows, of the machine's own parts
 pub record Stands (image : Image) (T : Typings) (m : Machine) (t : ℕ) (thread : Thread) (own : Method) (f : Frame) (rest : List Level) (x : At) (s : RegState) : Type 0 where
@@ -44,7 +45,7 @@ pub record Stands (image : Image) (T : Typings) (m : Machine) (t : ℕ) (thread 
 
 pub stands : (image : Image) (T : Typings) (m : Machine) (t : ℕ) (thread : Thread) (h : Here) (x : At) (s : RegState) → IsAt image T m t thread h x s → Stands image T m t thread h.own h.frame h.rest x s
 stands image T m t thread h x s i =
-    let same : i.code.method ≡ h.own = some_same _ _ (sym (code_is image _ i.code i.has_code).method ∙ i.has_own) in
+    let same : i.code.method ≡ h.own = same_Some _ _ (sym (code_is image _ i.code i.has_code).method ∙ i.has_own) in
     let shared : h.shared ≡ m.shared = ap (λ (z : Here). z.shared) i.sees in
     record {
       may = i.may;

@@ -32,9 +32,9 @@ use Rattle.dv_machine.specs.Local.{local, const_value, pending_int, pending_obje
 use Rattle.dv_machine.specs.Conforming.{Own, Conforms, IsGood, IsUninit, IsThere, RefFine, RefsFine, ResultConforms, CaughtConforms, Conform}
 use Rattle.dv_machine.specs.Premises.{HoldsOf}
 use Rattle.dv_laws.specs.Reading.{Anything}
-use Rattle.dv_laws.proofs.Demanding.{no, first_none, demanded}
+use Rattle.dv_laws.proofs.Plain.{no, fits_of}
+use Rattle.dv_laws.proofs.Demanding.{first_none, demanded}
 use Rattle.dv_laws.proofs.RegistersWritten.{Source, old, plain, write_source, write_long_good}
-use Rattle.dv_laws.proofs.RegistersMade.{of_fits}
 use Rattle.dv_laws.proofs.ReadersPlain.{next_holds, kept_int_holds, object_holds, there_of, reads_int, reads_argument, reads_two, reads_long, tests_both, tests_zero, moves_int, moves_reference}
 use Rattle.dv_laws.proofs.ReadersWords.{int_word, class_word}
 
@@ -92,7 +92,7 @@ module _ (image : Image) (heap : Heap) (own : Own) where
     there : IsThere image heap o
 
   caught_holds : (o : Option ℕ) (c : Option Ty) → is_some c ≡ true → CaughtConforms image heap o c → HoldsOf (λ p. IsCaught p (caught_type c)) (caught_of o)
-  caught_holds (Some p) (Some t) e h = record { conforms = of_fits image heap p t h; plain = λ u. u; there = there_of image heap own p t (of_fits image heap p t h) }
+  caught_holds (Some p) (Some t) e h = record { conforms = fits_of image heap p t h; plain = λ u. u; there = there_of image heap own p t (fits_of image heap p t h) }
   caught_holds None (Some t) e h = absurd h
   caught_holds o None e h = no e
 

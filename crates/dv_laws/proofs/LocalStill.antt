@@ -1,10 +1,8 @@
 -- Steps after which all but the levels of their own thread is as it was.
-use Rattle.std.proofs.Common.{◌≡◌, ◌≢◌, ◌⊎◌, inl, inr, ℕ, suc, ◌<◌, ◌≤◌, List, length, Some, None, sym, ap, ◌∙◌, subst, arith}
+use Rattle.std.proofs.Common.{◌≡◌, ◌≢◌, ◌⊎◌, inl, inr, ℕ, suc, List, Some, None, sym, ap, ◌∙◌, arith}
 use Rattle.std.specs.Prelude.{slice_get, slice_set, All}
 use Rattle.std.proofs.lemmas.Bool.{cases_eq}
-use Rattle.std.proofs.lemmas.List.{append-nil, length-set, get_or-set_same, get_or-set_other}
-use Rattle.std.proofs.lemmas.Option.{slice_get_within, slice_get-get_or, slice_get_past, get_or_from_slice_get}
-use Rattle.std.proofs.lemmas.Bool.{cases_lt}
+use Rattle.std.proofs.lemmas.List.{append-nil}
 use Rattle.dv_defs.specs.declared.image.Image.{Image}
 use Rattle.dv_defs.specs.declared.machine.Level.{Level}
 use Rattle.dv_defs.specs.Monitors.{Wait, Held}
@@ -14,23 +12,7 @@ use Rattle.dv_machine.specs.Step.{gone_on, end_after}
 use Rattle.dv_machine.specs.Conforming.{RefsFine}
 use Rattle.dv_machine.specs.WellTyped.{Typings, ThreadFine, WaitFine, HeldFine, records, levels_in, owed, WellTyped}
 use Rattle.dv_machine.specs.Premises.{LeftFine}
-
-pub all_at : {X : Type 0} (P : X → Type 0) (xs : List X) (i : ℕ) (x : X) → All P xs → slice_get xs i ≡ Some x → P x
-all_at P xs i x h e = subst P (get_or_from_slice_get xs i x x e) (h i x (slice_get_within xs i x e))
-
--- ---- one element of a list is another
-
-get_other : {X : Type 0} (xs : List X) (i j : ℕ) (y : X) → j ≢ i → slice_get (slice_set xs i y) j ≡ slice_get xs j
-get_other xs i j y d = go (cases_lt j (length xs))
-  where
-    go : (j < length xs) ⊎ (length xs ≤ j) → slice_get (slice_set xs i y) j ≡ slice_get xs j
-    go (inl l) = slice_get-get_or (slice_set xs i y) j y (rw (length-set xs i y) l) ∙ ap Some (get_or-set_other xs i j y y d) ∙ sym (slice_get-get_or xs j y l)
-    go (inr g) = slice_get_past (slice_set xs i y) j (rw (length-set xs i y) g) ∙ sym (slice_get_past xs j g)
-
-get_same : {X : Type 0} (xs : List X) (i : ℕ) (x y : X) → slice_get xs i ≡ Some x → slice_get (slice_set xs i y) i ≡ Some y
-get_same xs i x y e =
-    let l : i < length xs = slice_get_within xs i x e in
-    slice_get-get_or (slice_set xs i y) i y (rw (length-set xs i y) l) ∙ ap Some (get_or-set_same xs i y y l)
+use Rattle.dv_laws.proofs.GrowthLists.{set_there, set_other}
 
 -- no entry of those that wait is the thread's
 abbrev pub IsQuiet : Image → Machine → ℕ → Type 0
@@ -49,10 +31,10 @@ module _ (image : Image) (T : Typings) (m : Machine) (t : ℕ) (thread : Thread)
   threads_after = (gone_on m t thread same_shared).threads
 
   other_thread : (u : ℕ) → u ≢ t → slice_get threads_after u ≡ slice_get m.threads u
-  other_thread u d = ap (λ z. slice_get z u) (append-nil (slice_set m.threads t after)) ∙ get_other m.threads t u after d
+  other_thread u d = ap (λ z. slice_get z u) (append-nil (slice_set m.threads t after)) ∙ set_other m.threads t u after d
 
   own_thread : slice_get threads_after t ≡ Some after
-  own_thread = ap (λ z. slice_get z t) (append-nil (slice_set m.threads t after)) ∙ get_same m.threads t thread after has
+  own_thread = ap (λ z. slice_get z t) (append-nil (slice_set m.threads t after)) ∙ set_there m.threads t after thread has
 
   wait_kept : (w : Wait) → w.thread ≢ t → WaitFine image m.threads m.shared w → WaitFine image threads_after m.shared w
   wait_kept w d h = record { thread = h.thread; has_thread = other_thread w.thread d ∙ h.has_thread; waits = h.waits; not_owner = h.not_owner }

@@ -3,8 +3,9 @@ use Rattle.std.proofs.Common.{◌≡◌, ◌≢◌, ℕ, zero, suc, ◌+◌, ◌
 use Rattle.std.specs.Prelude.{slice_get, nat_eq, nat_le, All}
 use Rattle.std.proofs.lemmas.Bool.{leb-false, eqb-true, eqb-false}
 use Rattle.std.proofs.lemmas.List.Elements.{All-nil, All-cons, All-head, All-tail, All-weaker}
+use Rattle.std.proofs.lemmas.Option.{same_Some}
 use Rattle.dv_defs.specs.Monitors.{Held, Wait, entered_in, less_one, exited_in, given_up, as_notified, notify_first, notify_each, without}
-use Rattle.dv_laws.proofs.GrowthLists.{same_some, all_at, all_from}
+use Rattle.dv_laws.proofs.GrowthLists.{all_at, all_from}
 
 -- ---- what holds of each
 
@@ -86,8 +87,8 @@ once_from {A} key (x ∷ xs) h = (all_from (λ y. key y ≢ key x) xs (λ k y e 
 pub place_from : {A : Type 0} (key : A → ℕ) (xs : List A) → AreOnce key xs → OnePlace key xs
 place_from key [] h i j x y e f s = absurd (cc)
 place_from key (z ∷ zs) h zero zero x y e f s = refl
-place_from key (z ∷ zs) h zero (suc j) x y e f s = absurd (all_at (λ w. key w ≢ key z) zs j y h.0 f (sym s ∙ ap key (sym (same_some z x e))))
-place_from key (z ∷ zs) h (suc i) zero x y e f s = absurd (all_at (λ w. key w ≢ key z) zs i x h.0 e (s ∙ ap key (sym (same_some z y f))))
+place_from key (z ∷ zs) h zero (suc j) x y e f s = absurd (all_at (λ w. key w ≢ key z) zs j y h.0 f (sym s ∙ ap key (sym (same_Some z x e))))
+place_from key (z ∷ zs) h (suc i) zero x y e f s = absurd (all_at (λ w. key w ≢ key z) zs i x h.0 e (s ∙ ap key (sym (same_Some z y f))))
 place_from key (z ∷ zs) h (suc i) (suc j) x y e f s = ap suc (place_from key zs h.1 i j x y e f s)
 
 abbrev pub object_key : Held → ℕ

@@ -1,16 +1,13 @@
 -- Who has an entry among those that wait, and who owns a monitor.
 use Rattle.std.proofs.Common.{◌≡◌, ◌≢◌, ◌⊎◌, inl, inr, ℕ, ◌+◌, ◌-◌, List, [], ◌∷◌, Bool, true, false, Option, Some, None, refl, sym, ap, ◌∙◌, subst}
 use Rattle.std.specs.Prelude.{nat_eq, nat_le, All}
-use Rattle.std.proofs.lemmas.Bool.{cases_eq, eqb-true, eqb-false}
+use Rattle.std.proofs.lemmas.Bool.{cases_eq, eqb-true, eqb-false, eq-eqb, ne_eqb}
 use Rattle.std.proofs.lemmas.List.Elements.{All-nil, All-cons, All-head, All-tail}
+use Rattle.std.proofs.lemmas.Option.{same_Some, none-some}
 use Rattle.dv_defs.specs.Monitors.{Held, Wait, held_in, entered_in, less_one, exited_in, given_up, entry_in, without}
-use Rattle.dv_laws.proofs.GrowthLists.{same_some, eq_true, eq_false}
 use Rattle.dv_laws.proofs.MonitorsLists.{AreOnce, object_key, thread_key}
 
 -- ---- entries
-
-some_clash : {A : Type 0} (x : A) → None ≡ Some x → ⊥
-some_clash x e = cc
 
 abbrev entry_with : Wait → List Wait → ℕ → Bool → Option Wait
 entry_with w ws t b = elim b [ true ↦ Some w | false ↦ entry_in t ws ]
@@ -21,12 +18,12 @@ quiet_from t [] e = All-nil (λ (w : Wait). w.thread ≢ t)
 quiet_from t (w ∷ ws) e = go (nat_eq w.thread t) refl e (quiet_from t ws)
   where
     go : (b : Bool) → nat_eq w.thread t ≡ b → entry_with w ws t b ≡ None → (entry_in t ws ≡ None → All (λ w. w.thread ≢ t) ws) → All (λ w. w.thread ≢ t) (w ∷ ws)
-    go true s e r = absurd (some_clash w (sym e))
+    go true s e r = absurd (none-some w (sym e))
     go false s e r = All-cons (λ w. w.thread ≢ t) w ws (eqb-false w.thread t s) (r e)
 
 pub entry_none : (t : ℕ) (ws : List Wait) → All (λ w. w.thread ≢ t) ws → entry_in t ws ≡ None
 entry_none t [] a = refl
-entry_none t (w ∷ ws) a = ap (entry_with w ws t) (eq_false w.thread t (All-head (λ w. w.thread ≢ t) w ws a)) ∙ entry_none t ws (All-tail (λ w. w.thread ≢ t) w ws a)
+entry_none t (w ∷ ws) a = ap (entry_with w ws t) (ne_eqb w.thread t (All-head (λ w. w.thread ≢ t) w ws a)) ∙ entry_none t ws (All-tail (λ w. w.thread ≢ t) w ws a)
 
 -- an entry that is found is of the thread, and what holds of each holds of it
 pub entry_thread : (t : ℕ) (ws : List Wait) (w : Wait) → entry_in t ws ≡ Some w → w.thread ≡ t
@@ -34,7 +31,7 @@ entry_thread t [] w e = absurd (cc)
 entry_thread t (v ∷ ws) w e = go (nat_eq v.thread t) refl e (entry_thread t ws w)
   where
     go : (b : Bool) → nat_eq v.thread t ≡ b → entry_with v ws t b ≡ Some w → (entry_in t ws ≡ Some w → w.thread ≡ t) → w.thread ≡ t
-    go true s e r = sym (ap thread_key (same_some v w e)) ∙ eqb-true v.thread t s
+    go true s e r = sym (ap thread_key (same_Some v w e)) ∙ eqb-true v.thread t s
     go false s e r = r e
 
 pub entry_all : (P : Wait → Type 0) (t : ℕ) (ws : List Wait) (w : Wait) → All P ws → entry_in t ws ≡ Some w → P w
@@ -42,7 +39,7 @@ entry_all P t [] w a e = absurd (cc)
 entry_all P t (v ∷ ws) w a e = go (nat_eq v.thread t) e (entry_all P t ws w (All-tail P v ws a))
   where
     go : (b : Bool) → entry_with v ws t b ≡ Some w → (entry_in t ws ≡ Some w → P w) → P w
-    go true e r = subst P (same_some v w e) (All-head P v ws a)
+    go true e r = subst P (same_Some v w e) (All-head P v ws a)
     go false e r = r e
 
 -- once its entry is taken away a thread has none
@@ -66,17 +63,17 @@ abbrev owner_with : Held → List Held → ℕ → Bool → Option ℕ
 owner_with h hs p b = elim (held_with h hs p b) [ None ↦ None | Some x ↦ Some x.thread ]
 
 owner_here : (h : Held) (hs : List Held) (p : ℕ) → h.object ≡ p → owner_in (h ∷ hs) p ≡ Some h.thread
-owner_here h hs p e = ap (owner_with h hs p) (eq_true h.object p e)
+owner_here h hs p e = ap (owner_with h hs p) (eq-eqb h.object p e)
 
 owner_past : (h : Held) (hs : List Held) (p : ℕ) → h.object ≢ p → owner_in (h ∷ hs) p ≡ owner_in hs p
-owner_past h hs p d = ap (owner_with h hs p) (eq_false h.object p d)
+owner_past h hs p d = ap (owner_with h hs p) (ne_eqb h.object p d)
 
 pub owner_none : (p : ℕ) (hs : List Held) → All (λ (y : Held). y.object ≢ p) hs → owner_in hs p ≡ None
 owner_none p [] a = refl
 owner_none p (h ∷ hs) a = owner_past h hs p (All-head (λ (y : Held). y.object ≢ p) h hs a) ∙ owner_none p hs (All-tail (λ (y : Held). y.object ≢ p) h hs a)
 
 pub not_owner : (p u : ℕ) (hs : List Held) → All (λ (y : Held). y.object ≢ p) hs → owner_in hs p ≢ Some u
-not_owner p u hs a e = some_clash u (sym (owner_none p hs a) ∙ e)
+not_owner p u hs a e = none-some u (sym (owner_none p hs a) ∙ e)
 
 -- what is before a list changes who owns a monitor only where it is of that monitor
 more_owner : (h : Held) (hs ks : List Held) (p u : ℕ) → (h.object ≡ p) ⊎ (h.object ≢ p) → owner_in (h ∷ hs) p ≢ Some u → (owner_in hs p ≢ Some u → owner_in ks p ≢ Some u) → owner_in (h ∷ ks) p ≢ Some u
@@ -88,12 +85,12 @@ pub entered_owner : (o t n p u : ℕ) → u ≢ t → (hs : List Held) → owner
 entered_owner o t n p u d [] q = go (cases_eq o p)
   where
     go : (o ≡ p) ⊎ (o ≢ p) → owner_in (record { object = o; thread = t; count = n } ∷ []) p ≢ Some u
-    go (inl e) f = d (same_some u t (sym f ∙ owner_here (record { object = o; thread = t; count = n }) [] p e))
-    go (inr e) f = some_clash u (sym (owner_past (record { object = o; thread = t; count = n }) [] p e) ∙ f)
+    go (inl e) f = d (same_Some u t (sym f ∙ owner_here (record { object = o; thread = t; count = n }) [] p e))
+    go (inr e) f = none-some u (sym (owner_past (record { object = o; thread = t; count = n }) [] p e) ∙ f)
 entered_owner o t n p u d (h ∷ hs) q = go (nat_eq h.object o) refl (cases_eq o p) (entered_owner o t n p u d hs)
   where
     go : (b : Bool) → nat_eq h.object o ≡ b → (o ≡ p) ⊎ (o ≢ p) → (owner_in hs p ≢ Some u → owner_in (entered_in hs o t n) p ≢ Some u) → owner_in (elim b [ true ↦ record { object = o; thread = t; count = h.count + n } ∷ hs | false ↦ h ∷ entered_in hs o t n ]) p ≢ Some u
-    go true s (inl e) r f = d (same_some u t (sym f ∙ owner_here (record { object = o; thread = t; count = h.count + n }) hs p e))
+    go true s (inl e) r f = d (same_Some u t (sym f ∙ owner_here (record { object = o; thread = t; count = h.count + n }) hs p e))
     go true s (inr e) r f = q (owner_past h hs p (λ g. e (sym (eqb-true h.object o s) ∙ g)) ∙ sym (owner_past (record { object = o; thread = t; count = h.count + n }) hs p e) ∙ f)
     go false s c r f = more_owner h hs (entered_in hs o t n) p u (cases_eq h.object p) q r f
 
@@ -135,7 +132,7 @@ held_all P o [] h a e = absurd (cc)
 held_all P o (x ∷ hs) h a e = go (nat_eq x.object o) e (held_all P o hs h (All-tail P x hs a))
   where
     go : (b : Bool) → held_with x hs o b ≡ Some h → (held_in hs o ≡ Some h → P h) → P h
-    go true e r = subst P (same_some x h e) (All-head P x hs a)
+    go true e r = subst P (same_Some x h e) (All-head P x hs a)
     go false e r = r e
 
 -- a monitor without an owner is not in the list
@@ -144,7 +141,7 @@ free_from o [] e = All-nil (λ (y : Held). y.object ≢ o)
 free_from o (h ∷ hs) e = go (cases_eq h.object o) (free_from o hs)
   where
     go : (h.object ≡ o) ⊎ (h.object ≢ o) → (owner_in hs o ≡ None → All (λ (y : Held). y.object ≢ o) hs) → All (λ (y : Held). y.object ≢ o) (h ∷ hs)
-    go (inl s) r = absurd (some_clash h.thread (sym e ∙ owner_here h hs o s))
+    go (inl s) r = absurd (none-some h.thread (sym e ∙ owner_here h hs o s))
     go (inr d) r = All-cons (λ (y : Held). y.object ≢ o) h hs d (r (sym (owner_past h hs o d) ∙ e))
 
 -- so entering it adds it

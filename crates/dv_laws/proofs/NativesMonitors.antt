@@ -2,6 +2,7 @@
 use Rattle.std.proofs.Common.{◌≡◌, ◌≢◌, ℕ, suc, List, [], ◌∷◌, Bool, true, false, Option, Some, None, refl, sym, ap, ◌∙◌, subst, arith}
 use Rattle.std.specs.Prelude.{slice_get, nat_eq, nat_lt, All}
 use Rattle.std.proofs.lemmas.Grind.{common_steps}
+use Rattle.std.proofs.lemmas.Option.{same_Some}
 use Rattle.dv_defs.specs.declared.image.Image.{Image}
 use Rattle.dv_defs.specs.declared.run.Value.{Value}
 use Rattle.dv_defs.specs.declared.run.Named.TheVariants as named
@@ -28,7 +29,7 @@ use Rattle.dv_machine.specs.Step.{here}
 use Rattle.dv_machine.specs.Conforming.{ResultConforms}
 use Rattle.dv_machine.specs.WellTyped.{Typings, IsWaiting, WaitFine, MonitorsFine, records}
 use Rattle.dv_machine.specs.Premises.{ThrowFine, DidFine}
-use Rattle.dv_laws.proofs.GrowthLists.{nothing}
+use Rattle.dv_laws.proofs.Plain.{nothing}
 use Rattle.dv_laws.proofs.GrowthKeeps.{monitors_later}
 use Rattle.dv_laws.proofs.GrowthThreads.{records_after}
 use Rattle.dv_laws.proofs.MonitorsLists.{all_notified_first, all_notified_each}
@@ -37,7 +38,6 @@ use Rattle.dv_laws.proofs.MonitorsFine.{waiting_keeps, notifying_keeps, resuming
 use Rattle.dv_laws.proofs.MonitorsMoved.{moved}
 use Rattle.dv_laws.proofs.MonitorsSteps.{monitor_left}
 use Rattle.dv_laws.proofs.FlightFlown.{records_of}
-use Rattle.dv_laws.proofs.CallsEntered.{some_same}
 use Rattle.dv_laws.proofs.LocalStands.{Stands, stack_fine, frame_refs, refs_fine}
 use Rattle.dv_laws.proofs.CallsInvoked.{CallsNative, IsReceiver}
 use Rattle.dv_laws.proofs.NativesShared.{same_static, native_apart, native_throws, levels_after}
@@ -72,7 +72,7 @@ module _ (image : Image) (T : Typings) (m : Machine) (t : ℕ) (thread : Thread)
     where
       by_entry : (w : Wait) → WaitFine image m.threads (with_monitors m.shared ms) w → w.thread ≡ t → IsWaiting image heap after.levels after.end w.object
       by_entry w u i =
-          let same : u.thread ≡ thread = some_same u.thread thread (sym u.has_thread ∙ ap (slice_get m.threads) i ∙ h.has_thread) in
+          let same : u.thread ≡ thread = same_Some u.thread thread (sym u.has_thread ∙ ap (slice_get m.threads) i ∙ h.has_thread) in
           let here_too : IsWaiting image heap thread.levels thread.end w.object = subst (λ (y : Thread). IsWaiting image heap y.levels y.end w.object) same u.waits in
           subst (λ z. IsWaiting image heap after.levels z w.object) h.living (subst (λ ls. IsWaiting image heap ls thread.end w.object) h.levels here_too)
 

@@ -31,14 +31,14 @@ use Rattle.dv_machine.specs.Conforming.{Own, IsOf, ResultConforms, ResultFine}
 use Rattle.dv_machine.specs.WellTyped.{Typings}
 use Rattle.dv_machine.specs.Premises.{DidFine}
 use Rattle.dv_machine.specs.StepLaws.{IsAdded}
-use Rattle.dv_laws.proofs.RegistersMade.{of_fits}
+use Rattle.dv_laws.proofs.Plain.{fits_of}
 use Rattle.dv_laws.proofs.ReadersPlain.{there_of}
 use Rattle.dv_laws.proofs.HeapAdded.{string_is_added}
 use Rattle.dv_laws.proofs.MonitorsSteps.{staying}
-use Rattle.dv_laws.proofs.LocalStill.{all_at}
 use Rattle.dv_laws.proofs.LocalStands.{Stands}
 use Rattle.dv_laws.proofs.CallsInvoked.{CallsNative}
 use Rattle.dv_laws.proofs.NativesShared.{native_apart, native_throws, native_left}
+use Rattle.dv_laws.proofs.GrowthLists.{all_at}
 
 module _ (image : Image) (T : Typings) (m : Machine) (t : ℕ) (thread : Thread) (own : Method) (f : Frame) (rest : List Level) (x : At) (s : RegState) (h : Stands image T m t thread own f rest x s) (c : Call) (ks : List ℕ) (g : Method) (e : x.op ≡ Invoke c ks g) (k : Method) where
   abbrev heap : Heap
@@ -87,7 +87,7 @@ module _ (image : Image) (T : Typings) (m : Machine) (t : ℕ) (thread : Thread)
         by_room None n = tt
         by_room (Some after) n =
             let a = string_is_added image heap after u h.may.typed.heap n in
-            let fits = of_fits image after (newest after) string_type (string_is_of after u a) in
+            let fits = fits_of image after (newest after) string_type (string_is_of after u a) in
             native_left image T m t thread own f rest x s h c ks g e k j xs q after m.shared.output a.keeps a.fine (pending.One (v.Ref (newest after)))
             (λ o. subst (λ r. ResultConforms image after o (pending.One (v.Ref (newest after))) (pending_of r)) (sym i) fits)
             (there_of image after (own_it) (newest after) string_type fits)
@@ -101,7 +101,7 @@ module _ (image : Image) (T : Typings) (m : Machine) (t : ℕ) (thread : Thread)
   pub current_fine : (xs : List Value) → Calls native.CurrentThread xs → Does (native_step here_it native.CurrentThread xs)
   current_fine xs q =
       let is : IsOf image heap (own_object here_it) (of_class thread_name) = subst (λ o. IsOf image heap (elim o as (λ w. ℕ) [ None ↦ 0 | Some th ↦ th.object ]) (of_class thread_name)) (sym h.has_thread) (all_at (λ (th : Thread). IsOf image heap th.object (of_class thread_name)) m.threads t thread h.may.typed.objects h.has_thread) in
-      let fits = of_fits image heap (own_object here_it) (of_class thread_name) is in
+      let fits = fits_of image heap (own_object here_it) (of_class thread_name) is in
       gives_fine native.CurrentThread xs q (λ i. absurd (cc)) (v.Ref (own_object here_it)) (λ o. fits) (there_of image heap (record { this = None; class = string_type; made = λ a. None }) (own_object here_it) (of_class thread_name) fits)
 
   pub length_fine : (xs : List Value) → Calls native.Length xs → Does (native_step here_it native.Length xs)

@@ -2,6 +2,7 @@
 use Rattle.std.proofs.Common.{◌≡◌, ℕ, suc, List, [], ◌∷◌, length, Bool, true, false, Option, Some, None, refl, sym, ap, ◌∙◌, subst, arith}
 use Rattle.std.specs.Prelude.{All}
 use Rattle.std.proofs.lemmas.List.Elements.{All-cons, All-head}
+use Rattle.std.proofs.lemmas.Option.{none-some, same_Some}
 use Rattle.dv_defs.specs.declared.names.Ty.{Ty}
 use Rattle.dv_defs.specs.declared.names.Proto.{Proto}
 use Rattle.dv_defs.specs.declared.image.Image.{Image}
@@ -21,17 +22,17 @@ use Rattle.dv_defs.specs.Op.{Op, Invoke}
 use Rattle.dv_defs.specs.Statics.{At}
 use Rattle.dv_defs.specs.RegTypes.{type_at}
 use Rattle.dv_defs.specs.Transfer as after
-use Rattle.dv_defs.specs.Transfer.{out, after_invoke, after_constructor, first_of, pending_of}
+use Rattle.dv_defs.specs.Transfer.{out, after_constructor, first_of, pending_of}
 use Rattle.dv_defs.specs.Flow.{Leads, targets}
 use Rattle.dv_defs.specs.Heap.{Heap}
 use Rattle.dv_defs.specs.Monitors.{entry_of}
 use Rattle.dv_machine.specs.State.{Thread, Machine, Shared, reg_at, with_result}
-use Rattle.dv_machine.specs.Calls.{Lands, dispatch, native_of, receiver_of, signature}
+use Rattle.dv_machine.specs.Calls.{dispatch, native_of, receiver_of, signature}
 use Rattle.dv_machine.specs.Step.{listed}
 use Rattle.dv_machine.specs.Conforming.{Own, ResultConforms, ResultFine, RefsFine, Conform}
 use Rattle.dv_machine.specs.WellTyped.{Typings, own_of, this_above, IsPlaced, CodeFine, ThreadFine, HeapFine, records}
 use Rattle.dv_machine.specs.Premises.{KeepsKinds, StartedFine, LeftFine, ThrowFine}
-use Rattle.dv_laws.proofs.GrowthLists.{nothing}
+use Rattle.dv_laws.proofs.Plain.{nothing}
 use Rattle.dv_laws.proofs.GrowthKinds.{good_grown, stack_grown, refs_grown, all_refs_grown}
 use Rattle.dv_laws.proofs.GrowthThreads.{records_after}
 use Rattle.dv_laws.proofs.MonitorsMoved.{quiet_moved}
@@ -40,6 +41,7 @@ use Rattle.dv_laws.proofs.OrderStates.{frame_up}
 use Rattle.dv_laws.proofs.LocalStill.{IsQuiet}
 use Rattle.dv_laws.proofs.LocalStands.{Stands, same_lowest, stack_fine, code_fine, frame_refs, rest_refs}
 use Rattle.dv_laws.proofs.CallsInvoked.{WaitsAt, quiet_at, throws, no_entry, CallsNative, IsReceiver, no_receiver_of}
+use Rattle.dv_laws.proofs.CallsDispatched.{same_lands}
 
 module _ (image : Image) (T : Typings) (m : Machine) (t : ℕ) (thread : Thread) (own : Method) (f : Frame) (rest : List Level) (x : At) (s : RegState) (h : Stands image T m t thread own f rest x s) (c : Call) (ks : List ℕ) (g : Method) (e : x.op ≡ Invoke c ks g) (k : Method) (j : Native) (xs : List Value) (q : CallsNative image T m t thread own f rest x s h c ks g e k j xs) where
   abbrev heap : Heap
@@ -64,27 +66,18 @@ module _ (image : Image) (T : Typings) (m : Machine) (t : ℕ) (thread : Thread)
   waits_not : (o : ℕ) → WaitsAt image T m t thread own f rest x s h c ks g e o → native.Wait ≡ j
   waits_not o w = by_sort (is_static k) refl
     where
-      none_some : {A : Type 0} {y : A} → None ≡ Some y → ⊥
-      none_some e = cc
-
-      some_same : {A : Type 0} (a b : A) → Some a ≡ Some b → a ≡ b
-      some_same a b e = cc
-
       same_ref : (a b : ℕ) → v.Ref (suc a) ≡ v.Ref (suc b) → a ≡ b
       same_ref a b e = cc
 
-      same_lands : (a b : Method) → Lands a ≡ Lands b → a ≡ b
-      same_lands a b e = cc
-
       of_instance : IsReceiver image T m t thread own f rest x s h c ks g e k xs → native.Wait ≡ j
       of_instance r =
-          let register : r.register ≡ w.receiver = some_same r.register w.receiver (sym r.has_register ∙ ap receiver_of e ∙ w.has_receiver) in
+          let register : r.register ≡ w.receiver = same_Some r.register w.receiver (sym r.has_register ∙ ap receiver_of e ∙ w.has_receiver) in
           let object : r.object ≡ o = same_ref r.object o (sym r.holds ∙ ap (reg_at f.regs) register ∙ w.holds) in
           let method : k ≡ w.landed = same_lands k w.landed (sym r.lands ∙ ap (λ z. dispatch image heap own c g (suc z)) object ∙ w.lands) in
-          some_same native.Wait j (sym w.is_wait ∙ ap (native_of image) (sym method) ∙ q.is_native)
+          same_Some native.Wait j (sym w.is_wait ∙ ap (native_of image) (sym method) ∙ q.is_native)
 
       by_sort : (b : Bool) → is_static k ≡ b → native.Wait ≡ j
-      by_sort true i = absurd (none_some (sym (no_receiver_of c ks g (q.static i)) ∙ w.has_receiver))
+      by_sort true i = absurd (none-some _ (sym (no_receiver_of c ks g (q.static i)) ∙ w.has_receiver))
       by_sort false i = of_instance (q.instance i)
 
   module _ (other : native.Wait ≡ j → ⊥) where

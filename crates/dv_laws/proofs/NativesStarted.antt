@@ -1,5 +1,7 @@
 -- The native that starts a thread.
 use Rattle.std.proofs.Common.{◌≡◌, ℕ, suc, List, [], ◌∷◌, length, Bool, true, false, Option, Some, None, refl, sym, ap, ◌∙◌, subst}
+use Rattle.std.proofs.lemmas.Option.{same_Some}
+use Rattle.std.proofs.lemmas.Bool.{and_parts}
 use Rattle.std.specs.Prelude.{nat_lt, bytes_eq}
 use Rattle.dv_defs.specs.declared.image.Image.{Image}
 use Rattle.dv_defs.specs.declared.run.Value.{Value}
@@ -27,11 +29,9 @@ use Rattle.dv_machine.specs.Step.{here}
 use Rattle.dv_machine.specs.Conforming.{Own, IsOf, IsGood, Conforms}
 use Rattle.dv_machine.specs.WellTyped.{Typings, records}
 use Rattle.dv_machine.specs.Premises.{ThrowFine, StartedFine, DidFine}
-use Rattle.dv_laws.proofs.Demanding.{both_true}
+use Rattle.dv_laws.proofs.Plain.{nothing}
 use Rattle.dv_laws.proofs.OrderEqual.{names_are}
-use Rattle.dv_laws.proofs.GrowthLists.{nothing}
 use Rattle.dv_laws.proofs.RecordsStarted.{new_thread_is_fine}
-use Rattle.dv_laws.proofs.CallsEntered.{some_same}
 use Rattle.dv_laws.proofs.LocalStands.{Stands}
 use Rattle.dv_laws.proofs.CallsDispatched.{constructor_not_native}
 use Rattle.dv_laws.proofs.CallsInvoked.{CallsNative}
@@ -46,10 +46,7 @@ found_class class name [] j e = absurd (cc)
 found_class class name (k ∷ ks) j e = by_test (is_signed class name (signature k)) refl (found_class class name ks j) e
   where
     by_test : (b : Bool) → is_signed class name (signature k) ≡ b → (native_among ks class name ≡ Some j → (signature j).class ≡ class) → (elim b as (λ w. Option Native) [ true ↦ Some k | false ↦ native_among ks class name ]) ≡ Some j → (signature j).class ≡ class
-    by_test true i more e = subst (λ z. (signature z).class ≡ class) (same k j e) (names_are (signature k).class class (both_true (bytes_eq (signature k).class class) (bytes_eq (signature k).name name) i).0)
-      where
-        same : (a b : Native) → Some a ≡ Some b → a ≡ b
-        same a b e = cc
+    by_test true i more e = subst (λ z. (signature z).class ≡ class) (same_Some k j e) (names_are (signature k).class class (and_parts (bytes_eq (signature k).class class) (bytes_eq (signature k).name name) i).0)
     by_test false i more e = more e
 
 native_class : (image : Image) (k : Method) (j : Native) → native_of image k ≡ Some j → (signature j).class ≡ name_at image k.info.class.0
@@ -101,8 +98,8 @@ module _ (image : Image) (T : Typings) (m : Machine) (t : ℕ) (thread : Thread)
     starts : (r : Method) → run_method image (class_of_kind image (kind_of heap started_object)) ≡ Some r → is_abstract r ≡ false → Does (Go (record { levels = level.Code (gone f x.next f.regs) ∷ rest; shared = m.shared; started = Some (new_thread started_object r) }))
     starts r i concrete = started_left image T m t thread own f rest x s h c ks g e k native.Start xs q heap m.shared.output (λ o d u. u) h.may.typed.heap pending.None (λ o. tt) tt
         (Some (new_thread started_object r))
-        (λ y u d. ap (λ (z : Thread). records d z.levels) (sym (some_same (new_thread started_object r) y u)))
-        (λ y u. subst (StartedFine image T heap (length m.threads)) (some_same (new_thread started_object r) y u) (new_thread_is_fine image T heap (length m.threads) started_object r h.may.accepted (is_thread xs q) i concrete))
+        (λ y u d. ap (λ (z : Thread). records d z.levels) (sym (same_Some (new_thread started_object r) y u)))
+        (λ y u. subst (StartedFine image T heap (length m.threads)) (same_Some (new_thread started_object r) y u) (new_thread_is_fine image T heap (length m.threads) started_object r h.may.accepted (is_thread xs q) i concrete))
         (native_apart image T m t thread own f rest x s h c ks g e k native.Start xs q (λ i. absurd (cc)))
 
     by_run : (r : Option Method) → run_method image (class_of_kind image (kind_of heap started_object)) ≡ r → Does (started_on here_it started_object r)

@@ -25,7 +25,7 @@ use Rattle.dv_machine.specs.Local.{const_value}
 use Rattle.dv_machine.specs.Opening.{number_cells, first_cells, field_cells}
 use Rattle.dv_machine.specs.Conforming.{Conforms}
 use Rattle.dv_machine.specs.WellTyped.{nobody, CellsFit}
-use Rattle.dv_laws.proofs.GrowthLists.{no}
+use Rattle.dv_laws.proofs.Plain.{no}
 use Rattle.dv_laws.proofs.HeapCells.{reg_cells, fresh_fit}
 
 -- ---- the first cells of static fields

@@ -3,7 +3,6 @@ use Rattle.std.proofs.Common.{◌≡◌, ◌⊎◌, inl, inr, ℕ, zero, suc, �
 use Rattle.std.specs.Prelude.{slice_index_or, bytes_eq, codes, nat_eq}
 use Rattle.std.proofs.lemmas.Bool.{and_parts, or_cases, eqb-true}
 use Rattle.std.proofs.lemmas.List.Elements.{All-nil}
-use Rattle.std.proofs.lemmas.Slice.Eq.{bytes_eq-Decides}
 use Rattle.dv_defs.specs.declared.names.Base.{Base}
 use Rattle.dv_defs.specs.declared.names.Base.TheVariants as base
 use Rattle.dv_defs.specs.declared.names.Ty.{Ty}
@@ -30,13 +29,14 @@ use Rattle.dv_machine.specs.WellTyped.{Typings, nobody, element_types, CellsFit,
 use Rattle.dv_machine.specs.Accepted.{Accepted, IsNamed}
 use Rattle.dv_machine.specs.Premises.{KeepsKinds}
 use Rattle.dv_machine.specs.StepLaws.{IsAdded}
-use Rattle.dv_laws.proofs.GrowthLists.{no, nothing}
+use Rattle.dv_laws.proofs.Plain.{no, nothing}
 use Rattle.dv_laws.proofs.HeapCells.{fresh_fit, class_are_cells, array_length, fit_grown, fit_same}
 use Rattle.dv_laws.proofs.HeapAdded.{new_kind, new_cells, is_added, bare_fits}
 use Rattle.dv_laws.proofs.HeapInterned.{string_is_interned}
 use Rattle.dv_laws.proofs.Stores.{static_store_keeps}
 use Rattle.dv_laws.proofs.OrderWalks.{named_is}
 use Rattle.dv_laws.proofs.OpeningCells.{first_fit, field_within, cells_of_field, field_cells_at}
+use Rattle.dv_laws.proofs.OrderEqual.{names_are}
 
 -- ---- objects of boot classes
 
@@ -99,7 +99,7 @@ module _ (image : Image) (T : Typings) (acc : Accepted image T) where
   out_put : (h : Heap) (k : ℕ) (x : Field) → IsOpened image h → field_at image k ≡ Some x → is_out image x ≡ true → IsOpened image (with_static h k 0 (v.Ref 1))
   out_put h k x o e i =
       let p = and_parts (bytes_eq (name_at image x.info.class.0) system_name) (bytes_eq x.def.name (codes "out")) i in
-      let q = acc.boot.out k x e ((bytes_eq-Decides _ _).0 p.0) ((bytes_eq-Decides _ _).0 p.1) in
+      let q = acc.boot.out k x e (names_are _ _ p.0) (names_are _ _ p.1) in
       let fits : Conforms image h nobody (v.Ref 1) (type_at (reg_types x.def.ty) 0) = subst (λ (t : Ty). Conforms image h nobody (v.Ref 1) (type_at (reg_types t) 0)) (sym q.1) (stream_is h o) in
       let s = static_store_keeps image h k 0 x (v.Ref 1) o.fine e fits in
       opened_more image h _ o s.1 s.0
@@ -125,7 +125,7 @@ module _ (image : Image) (T : Typings) (acc : Accepted image T) where
       ap (λ n. made n t.base) (eqb-true t.dims 0 p.0) ∙ ap (made 0) (same t.base p.1)
     where
       same : (b : Base) → base_is_named name b ≡ true → b ≡ base.Class name
-      same (base.Class own) e = ap base.Class ((bytes_eq-Decides own name).0 e)
+      same (base.Class own) e = ap base.Class (names_are own name e)
       same b e = no e
 
   -- a string stands in a field of String or of Object

@@ -1,13 +1,13 @@
 -- The state in which a run begins is well typed.
 use Rattle.std.proofs.Common.{◌≡◌, ◌⊎◌, inl, inr, ℕ, zero, suc, ◌+◌, ◌<◌, ◌≤◌, List, [], ◌∷◌, length, Bool, true, false, ◌&&◌, Option, Some, None, refl, sym, ap, ◌∙◌, subst, arith}
 use Rattle.std.specs.Prelude.{slice_get, All, bytes_eq, nat_eq}
-use Rattle.std.proofs.lemmas.Bool.{and_parts}
+use Rattle.std.proofs.lemmas.Bool.{eq-eqb}
 use Rattle.std.proofs.lemmas.List.{length-set}
 use Rattle.std.proofs.lemmas.List.Elements.{All-nil, All-cons}
+use Rattle.std.proofs.lemmas.Option.{same_Some}
 use Rattle.dv_defs.specs.declared.names.Ty.{Ty}
 use Rattle.dv_defs.specs.declared.image.Image.{Image}
 use Rattle.dv_defs.specs.declared.image.ClassInfo.{ClassInfo}
-use Rattle.dv_defs.specs.declared.image.MethodInfo.{MethodInfo}
 use Rattle.dv_defs.specs.declared.code.Body.{Body}
 use Rattle.dv_defs.specs.declared.run.Value.{Value}
 use Rattle.dv_defs.specs.declared.run.Value.TheVariants as v
@@ -19,7 +19,7 @@ use Rattle.dv_defs.specs.declared.machine.End.TheVariants as end
 use Rattle.dv_defs.specs.Names.{string_name, thread_name, main_name, clinit_name}
 use Rattle.dv_defs.specs.Types.{of_class, words_of_all}
 use Rattle.dv_defs.specs.Statics.{arg_words}
-use Rattle.dv_defs.specs.Pools.{Method, with_info, pick, is_initialiser, initialiser}
+use Rattle.dv_defs.specs.Pools.{Method}
 use Rattle.dv_defs.specs.Op.{Code, code_at}
 use Rattle.dv_defs.specs.RegTypes.{all_types}
 use Rattle.dv_defs.specs.Transfer.{arg_types}
@@ -33,37 +33,21 @@ use Rattle.dv_machine.specs.Conforming.{IsOf, IsGood, RefFine, RefsFine}
 use Rattle.dv_machine.specs.WellTyped.{Typings, own_of, IsNoInitialiser, StackFine, ThreadFine, records, owed, levels_in, WellTyped}
 use Rattle.dv_machine.specs.Accepted.{Accepted}
 use Rattle.dv_machine.specs.StepLaws.{IsMain, OpeningIsWellTyped}
-use Rattle.dv_laws.proofs.GrowthLists.{no, nothing, same_some, eq_true}
-use Rattle.dv_laws.proofs.CallsEntered.{code_is}
+use Rattle.dv_laws.proofs.Plain.{nothing, fits_of}
 use Rattle.dv_laws.proofs.RecordsStates.{begun_mine, begun_others}
 use Rattle.dv_laws.proofs.RecordsEntered.{none_good, refs_entered, entered_code, entered_placed}
-use Rattle.dv_laws.proofs.RecordsFine.{static_types, static_begins}
-use Rattle.dv_laws.proofs.RecordsStarted.{one_good, fits_of}
+use Rattle.dv_laws.proofs.RecordsFine.{static_begins}
+use Rattle.dv_laws.proofs.RecordsStarted.{one_good}
 use Rattle.dv_laws.proofs.FlightRises.{object_there}
 use Rattle.dv_laws.proofs.OpeningHeap.{IsOpened, heap_opened, same_fits, named_of}
+use Rattle.dv_laws.proofs.MethodCode.{code_is}
+use Rattle.dv_laws.proofs.CallsWords.{static_types}
+use Rattle.dv_laws.proofs.CallsDispatched.{named_otherwise}
 
 -- ---- main is no initialiser
 
-picked_good : (image : Image) (is : List MethodInfo) (k : ℕ) (good : Method → Bool) (m : Method) → pick image is k good ≡ Some m → good m ≡ true
-picked_good image [] k good m e = absurd (cc)
-picked_good image (i ∷ is) k good m e = go (with_info image k (Some i)) e (picked_good image is (suc k) good m)
-  where
-    test : (x : Method) (b : Bool) → good x ≡ b → ◌≡◌ {A = Option Method} (elim b as (λ y. Option Method) [ true ↦ Some x | false ↦ pick image is (suc k) good ]) (Some m) → (pick image is (suc k) good ≡ Some m → good m ≡ true) → good m ≡ true
-    test x true g e r = subst (λ (y : Method). good y ≡ true) (same_some x m e) g
-    test x false g e r = r e
-
-    go : (o : Option Method) → ◌≡◌ {A = Option Method} (elim o as (λ y. Option Method) [ None ↦ pick image is (suc k) good | Some x ↦ elim (good x) as (λ y. Option Method) [ true ↦ Some x | false ↦ pick image is (suc k) good ] ]) (Some m) → (pick image is (suc k) good ≡ Some m → good m ≡ true) → good m ≡ true
-    go None e r = r e
-    go (Some x) e r = test x (good x) refl e r
-
-initialiser_name : (image : Image) (c : ℕ) (m : Method) → initialiser image c ≡ Some m → bytes_eq m.def.name clinit_name ≡ true
-unfolding initialiser
-initialiser_name image c m e =
-    let p = and_parts (nat_eq m.info.class.0 c) (is_initialiser m) (picked_good image image.methods 0 (λ (x : Method). nat_eq x.info.class.0 c && is_initialiser x) m e) in
-    (and_parts _ _ (and_parts _ _ (and_parts _ _ p.1).0).0).1
-
 main_is_no_initialiser : (image : Image) (m : Method) → m.def.name ≡ main_name → IsNoInitialiser image m
-main_is_no_initialiser image m n e = no (subst (λ (x : List ℕ). bytes_eq x clinit_name ≡ true) n (initialiser_name image m.info.class.0 m e))
+main_is_no_initialiser image m n = named_otherwise image m (subst (λ (x : List ℕ). bytes_eq x clinit_name ≡ false) (sym n) refl)
 
 -- ---- the states of classes
 
@@ -112,7 +96,7 @@ module _ (image : Image) (T : Typings) (acc : Accepted image T) (m : Method) (l 
   own_code : (code : Code) → code_at image m.id ≡ Some code → (m.def.body ≡ Some code.body) × (code.method ≡ m)
   own_code code e =
       let c = code_is image m.id code e in
-      let same = same_some code.method m (sym c.method ∙ is.there) in
+      let same = same_Some code.method m (sym c.method ∙ is.there) in
       (ap (λ (x : Method). x.def.body) (sym same) ∙ c.body, same)
 
   body : m.def.body ≡ Some is.code.body
@@ -173,7 +157,7 @@ module _ (image : Image) (T : Typings) (acc : Accepted image T) (m : Method) (l 
 
   -- the record that the opening makes stands right above it
   is_opened : is_opening image 0 m.info.class.0 (level.Code (entered_frame m (main_args m (opening_heap image m l)) false) ∷ []) ≡ true
-  is_opened = ap (λ (o : Option Method). elim o as (λ x. Bool) [ None ↦ false | Some k ↦ nat_eq 0 0 && nat_eq k.info.class.0 m.info.class.0 ]) is.there ∙ eq_true m.info.class.0 m.info.class.0 refl
+  is_opened = ap (λ (o : Option Method). elim o as (λ x. Bool) [ None ↦ false | Some k ↦ nat_eq 0 0 && nat_eq k.info.class.0 m.info.class.0 ]) is.there ∙ eq-eqb m.info.class.0 m.info.class.0 refl
 
   record_stack : StackFine image T (opening_heap image m l) 0 None (level.Init (record { 0 = m.info.class.0 }) false ∷ level.Code (entered_frame m (main_args m (opening_heap image m l)) false) ∷ [])
   record_stack = (inr (is_opened, refl), go (is_opening image 0 m.info.class.0 (level.Code (entered_frame m (main_args m (opening_heap image m l)) false) ∷ [])))
@@ -226,7 +210,7 @@ module _ (image : Image) (T : Typings) (acc : Accepted image T) (m : Method) (l 
   }
     where
       each : (t : ℕ) (th : Thread) → slice_get (record { levels = opening_levels m (entered_frame m (main_args m (opening_heap image m l)) false) b; end = end.Living; object = 2 } ∷ []) t ≡ Some th → ThreadFine image T (opening_heap image m l) t th.levels th.end
-      each zero th q = subst (λ (x : Thread). ThreadFine image T (opening_heap image m l) 0 x.levels x.end) (same_some _ th q) (levels_fine b)
+      each zero th q = subst (λ (x : Thread). ThreadFine image T (opening_heap image m l) 0 x.levels x.end) (same_Some _ th q) (levels_fine b)
       each (suc t) th q = nothing _ th q
 
 pub opening_is_well_typed : OpeningIsWellTyped

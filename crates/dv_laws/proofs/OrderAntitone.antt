@@ -14,10 +14,10 @@ use Rattle.dv_defs.specs.Op.{Arg, Reg, Lit}
 use Rattle.dv_defs.specs.RegTypes.{Types, type_at, under}
 use Rattle.dv_defs.specs.Demands.{Demand, first, demand, is_int, is_ref, is_assignable, int, long, ref, ref_to, single_for, args_for, receiver_for, super_for, instance_call, invoke_for, value_returned, arg_int, both_for, zero_for, put_for, each_for, is_own_field, put_receiver}
 use Rattle.dv_machine.specs.Accepted.{IsHierarchy}
-use Rattle.dv_laws.proofs.OrderWalks.{no}
+use Rattle.dv_laws.proofs.Plain.{no}
 use Rattle.dv_laws.proofs.OrderRegs.{AreBelow}
 use Rattle.dv_laws.proofs.OrderDemands.{Along, first_along, demand_along, same_along, int_along, int_met, long_met, is_ref_met, ref_met, ref_to_met, single_met, value_met}
-use Rattle.dv_laws.proofs.BridgeDemands.{first_none, demand_none}
+use Rattle.dv_laws.proofs.Demanding.{first_none, demanded}
 
 -- an argument of two words, and one of one
 abbrev wide_args : Image → Types → List Ty → ℕ → List ℕ → Demand
@@ -136,7 +136,7 @@ module _ (image : Image) (h : IsHierarchy image) (ss ts : Types) (b : AreBelow i
   -- ---- the receiver of a put
 
   is_ref_of : (k : ℕ) (f : Ty) → ref_to image ts k f ≡ None → is_ref (type_at ts k) ≡ true
-  is_ref_of k f g = demand_none (is_ref (type_at ts k)) 4 (first_none (ref ts k) (demand (is_assignable image (type_at ts k) f) 5) g).0
+  is_ref_of k f g = demanded (is_ref (type_at ts k)) 4 (first_none (ref ts k) (demand (is_assignable image (type_at ts k) f) 5) g).0
 
   put_of_ref : (m : Method) (k : ℕ) (x : Field) (u : RegType) → is_ref u ≡ true → ref_to image ss k (class_type image x.info.class.0) ≡ None → put_receiver image m ss k x u ≡ None
   put_of_ref m k x ty.UninitThis r e = no r

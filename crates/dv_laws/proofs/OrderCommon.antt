@@ -10,8 +10,9 @@ use Rattle.dv_defs.specs.Pools.{class_named, class_type, name_at, parent_at, wal
 use Rattle.dv_defs.specs.Order.{has_number, class_under, sub, extends}
 use Rattle.dv_defs.specs.Joins.{object_type, first_common, common_classes}
 use Rattle.dv_machine.specs.Accepted.{IsHierarchy}
-use Rattle.dv_laws.proofs.OrderWalks.{no, by_second, has_head, up, up_is, is_above, named_inside, extends_same, refuel_up}
-use Rattle.dv_laws.proofs.OrderEqual.{ty_from}
+use Rattle.dv_laws.proofs.Plain.{no, by_second}
+use Rattle.dv_laws.proofs.OrderWalks.{has_head, up, up_is, is_above, named_inside, extends_same, refuel_up}
+use Rattle.dv_laws.proofs.OrderEqual.{ty_from, of_one_name}
 use Rattle.dv_laws.proofs.OrderTypes.{type_is, is_type, flat_under, is_under, object_above}
 
 -- ---- the first of some classes among others
@@ -33,9 +34,6 @@ common_is image (c ∷ cs) ds = common_next image c cs ds (has_number c ds) refl
 
 pub is_of_class : (a : Ty) (name : List ℕ) → a.dims ≡ 0 → a.base ≡ base.Class name → a ≡ of_class name
 is_of_class a name flat e = ty_from a (of_class name) flat e
-
-of_one_name : (a b : List ℕ) → of_class a ≡ of_class b → a ≡ b
-of_one_name a b e = (let q : base.Class a ≡ base.Class b = ap (λ (z : Ty). z.base) e in cc)
 
 -- a type that is above both and under each other that is
 pub record IsCommon (image : Image) (a b c : Ty) : Type 0 where

@@ -17,13 +17,13 @@ use Rattle.dv_defs.specs.Statics.{is_of_suffix}
 use Rattle.dv_defs.specs.RegTypes.{Types, type_at, under, UnderPending, UnderCaught}
 use Rattle.dv_defs.specs.Demands.{Demand, first, demand, is_int, is_lo, is_hi, is_ref, is_movable, is_assignable, is_array_of, int, long, ref, ref_to, array, single_for, value_for, is_fill_type, any_type}
 use Rattle.dv_machine.specs.Accepted.{IsHierarchy}
-use Rattle.dv_laws.proofs.OrderWalks.{no}
-use Rattle.dv_laws.proofs.OrderEqual.{base_is}
+use Rattle.dv_laws.proofs.Plain.{no}
+use Rattle.dv_laws.proofs.OrderEqual.{base_plain}
 use Rattle.dv_laws.proofs.OrderTypes.{type_is}
 use Rattle.dv_laws.proofs.OrderLaws.{assignable_is, assignable_open, assignable_closed, sub_trans}
 use Rattle.dv_laws.proofs.OrderRegs.{AreBelow}
 use Rattle.dv_laws.proofs.OrderTransfer.{sub_component, sub_reference}
-use Rattle.dv_laws.proofs.BridgeDemands.{first_none, met, demand_none, test_met}
+use Rattle.dv_laws.proofs.Demanding.{first_none, met, test_met, demanded}
 
 -- where the first demand is met, the second is
 abbrev pub Along : Demand → Demand → Type 0
@@ -33,7 +33,7 @@ pub first_along : (d e c f : Demand) → Along d c → Along e f → Along (firs
 first_along d e c f a b h = let p = first_none d e h in met c f (a p.0) (b p.1)
 
 pub demand_along : (a b : Bool) (n : ℕ) → (a ≡ true → b ≡ true) → Along (demand a n) (demand b n)
-demand_along a b n h e = test_met b n (h (demand_none a n e))
+demand_along a b n h e = test_met b n (h (demanded a n e))
 
 pub same_along : (d : Demand) → Along d d
 same_along d e = e
@@ -98,7 +98,7 @@ not_along true false h e = no (h refl)
 -- ---- types of elements
 
 primitive : (b : Base) (d : Ty) → is_class_base b ≡ false → is_base b d ≡ true → is_class_base d.base ≡ false
-primitive b d p e = subst (λ (z : Base). is_class_base z ≡ false) (sym (base_is d.base b (and_parts (nat_eq d.dims 0) (base_eq d.base b) e).1)) p
+primitive b d p e = base_plain d.base b p (and_parts (nat_eq d.dims 0) (base_eq d.base b) e).1
 
 either_primitive : (a b : Base) (d : Ty) (w : Bool) → is_class_base a ≡ false → is_class_base b ≡ false → (w && (is_base a d || is_base b d)) ≡ true → is_class_base d.base ≡ false
 either_primitive a b d w p q e = elim (or_cases (is_base a d) (is_base b d) (and_parts w (is_base a d || is_base b d) e).1) [ inl x ↦ primitive a d p x | inr y ↦ primitive b d q y ]
@@ -198,9 +198,9 @@ module _ (image : Image) (h : IsHierarchy image) where
     pub ref_to_met : (k : ℕ) (f : Ty) → Along (ref_to image ts k f) (ref_to image ss k f)
     ref_to_met k f e =
         let p = first_none (ref ts k) (demand (is_assignable image (type_at ts k) f) 5) e in
-        let r : is_ref (type_at ts k) ≡ true = demand_none (is_ref (type_at ts k)) 4 p.0 in
+        let r : is_ref (type_at ts k) ≡ true = demanded (is_ref (type_at ts k)) 4 p.0 in
         met (ref ss k) (demand (is_assignable image (type_at ss k) f) 5) (ref_met k p.0)
-        (test_met (is_assignable image (type_at ss k) f) 5 (assignable_along f (type_at ts k) (type_at ss k) (b.each k) r (demand_none (is_assignable image (type_at ts k) f) 5 p.1)))
+        (test_met (is_assignable image (type_at ss k) f) 5 (assignable_along f (type_at ts k) (type_at ss k) (b.each k) r (demanded (is_assignable image (type_at ts k) f) 5 p.1)))
 
     pub array_met : (k : ℕ) (good : Ty → Bool) → GoesDown good → Along (array ts k good) (array ss k good)
     array_met k good down = demand_along (is_array_of good (type_at ts k)) (is_array_of good (type_at ss k)) 10 (array_along good down (type_at ts k) (type_at ss k) (b.each k))

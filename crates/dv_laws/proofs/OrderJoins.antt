@@ -14,8 +14,8 @@ use Rattle.dv_defs.specs.RegTypes.{Types, type_at, under, UnderPending, UnderCau
 use Rattle.dv_defs.specs.Joins.{join_classes, join_type, joined, same_type, join_result, join_caught, join_state}
 use Rattle.dv_machine.specs.Accepted.{IsHierarchy, IsOrder}
 use Rattle.dv_machine.specs.Laws.{refers, RefersRightly, JoinIsLeast}
-use Rattle.dv_laws.proofs.OrderWalks.{no}
-use Rattle.dv_laws.proofs.OrderEqual.{ty_same, reg_type_is}
+use Rattle.dv_laws.proofs.Plain.{no}
+use Rattle.dv_laws.proofs.OrderEqual.{reg_type_is, reg_type_same}
 use Rattle.dv_laws.proofs.OrderLaws.{types_are_ordered}
 use Rattle.dv_laws.proofs.OrderStates.{under_same}
 use Rattle.dv_laws.proofs.OrderArrays.{super_common}
@@ -25,16 +25,6 @@ record IsTypeJoin (image : Image) (s t j : RegType) : Type 0 where
   first : under image s j ≡ true
   second : under image t j ≡ true
   least : (u : RegType) → under image s u ≡ true → under image t u ≡ true → under image j u ≡ true
-
-type_same : (t : RegType) → same_type t t ≡ true
-type_same ty.Conflict = refl
-type_same ty.Zero = refl
-type_same ty.Int = refl
-type_same ty.LongLo = refl
-type_same ty.LongHi = refl
-type_same (ty.Class c) = ty_same c
-type_same (ty.Uninit a) = eq-eqb a a refl
-type_same ty.UninitThis = refl
 
 module _ (image : Image) (h : IsHierarchy image) where
   ord : IsOrder image
@@ -142,7 +132,7 @@ module _ (image : Image) (h : IsHierarchy image) where
   result_least pend.None r q x y = tt
   result_least (pend.One t) r q x y =
       subst (λ (z : PendingType). UnderPending (join_result z q) (pend.One t)) (sym x)
-      (subst (λ (z : PendingType). UnderPending (join_result (pend.One t) z) (pend.One t)) (sym y) (kept_same t (same_type t t) (type_same t)))
+      (subst (λ (z : PendingType). UnderPending (join_result (pend.One t) z) (pend.One t)) (sym y) (kept_same t (same_type t t) (reg_type_same t)))
   result_least pend.Long r q x y =
       subst (λ (z : PendingType). UnderPending (join_result z q) pend.Long) (sym x)
       (subst (λ (z : PendingType). UnderPending (join_result pend.Long z) pend.Long) (sym y) refl)

@@ -1,7 +1,7 @@
 -- The order of types: subtype, instance, assignable and fits.
 use Rattle.std.proofs.Common.{◌≡◌, ◌⊎◌, inl, inr, ℕ, zero, suc, ◌<◌, List, length, Bool, true, false, Option, Some, None, refl, sym, ap, ◌∙◌, subst, arith}
 use Rattle.std.specs.Prelude.{slice_get, nat_eq}
-use Rattle.std.proofs.lemmas.Bool.{eqb-true, eq-eqb, ltb-true, and_parts, and_from}
+use Rattle.std.proofs.lemmas.Bool.{eqb-true, eq-eqb, ltb-true, and_parts, and_from, cases_Bool}
 use Rattle.dv_defs.specs.declared.names.Base.{Base}
 use Rattle.dv_defs.specs.declared.names.Base.TheVariants as base
 use Rattle.dv_defs.specs.declared.names.Ty.{Ty}
@@ -12,7 +12,8 @@ use Rattle.dv_defs.specs.Pools.{class_named, name_at, parent_at, is_interface}
 use Rattle.dv_defs.specs.Order.{under_class, sub, instance, assignable, fits, extends, implements, reaches, interfaces_of, names_interface, is_interface_type}
 use Rattle.dv_machine.specs.Accepted.{IsHierarchy}
 use Rattle.dv_machine.specs.Laws.{TypesAreOrdered}
-use Rattle.dv_laws.proofs.OrderWalks.{no, above_is, named_is, reach_is, object_reaches, extends_trans, implements_trans, extends_implements, object_extends, object_implements, extends_near}
+use Rattle.dv_laws.proofs.Plain.{no, first_chosen, second_chosen}
+use Rattle.dv_laws.proofs.OrderWalks.{above_is, named_is, reach_is, object_reaches, extends_trans, implements_trans, extends_implements, object_extends, object_implements, extends_near}
 use Rattle.dv_laws.proofs.OrderEqual.{ty_from}
 use Rattle.dv_laws.proofs.OrderTypes.{IsClassOrder, type_is, type_same, type_trans, under_reference, under_component, object_above, class_is_reference, has_class, flat_under, under_from, type_weaker, above_object}
 
@@ -50,10 +51,6 @@ interface_is_reference image t e = let i = names_one image t e in class_is_refer
 interface_is_flat : (image : Image) (t : Ty) → is_interface_type image t ≡ true → t.dims ≡ 0
 interface_is_flat image t e = (names_one image t e).flat
 
-true_or_false : (b : Bool) → (b ≡ true) ⊎ (b ≡ false)
-true_or_false true = inl refl
-true_or_false false = inr refl
-
 -- ---- assignable and fits, by cases
 
 fits_is : (image : Image) (x t : Ty) → fits image x t ≡ true → ((is_interface_type image t ≡ true) × (is_reference x ≡ true)) ⊎ ((is_interface_type image t ≡ false) × (instance image x t ≡ true))
@@ -71,14 +68,6 @@ assignable_is image s t f = by_test (is_interface_type image t) refl f
     by_test : (b : Bool) → is_interface_type image t ≡ b → elim b [ true ↦ is_reference s | false ↦ sub image s t ] ≡ true → ((is_interface_type image t ≡ true) × (is_reference s ≡ true)) ⊎ ((is_interface_type image t ≡ false) × (sub image s t ≡ true))
     by_test true e u = inl (e, u)
     by_test false e u = inr (e, u)
-
-first_chosen : (b c d : Bool) → b ≡ true → c ≡ true → elim b [ true ↦ c | false ↦ d ] ≡ true
-first_chosen true c d e u = u
-first_chosen false c d e u = no e
-
-second_chosen : (b c d : Bool) → b ≡ false → d ≡ true → elim b [ true ↦ c | false ↦ d ] ≡ true
-second_chosen true c d e u = absurd (cc)
-second_chosen false c d e u = u
 
 pub assignable_open : (image : Image) (s t : Ty) → is_interface_type image t ≡ true → is_reference s ≡ true → assignable image s t ≡ true
 unfolding assignable
@@ -160,7 +149,7 @@ module _ (image : Image) (h : IsHierarchy image) where
   fits_reference x s f r = elim (fits_is image x s f) [ inl a ↦ a.1 | inr a ↦ instance_reference x s a.1 r ]
 
   fits_along : (x s t : Ty) → fits image x s ≡ true → instance image s t ≡ true → fits image x t ≡ true
-  fits_along x s t f u = elim (true_or_false (is_interface_type image t)) [
+  fits_along x s t f u = elim (cases_Bool (is_interface_type image t)) [
     | inl e ↦ fits_open image x t e (fits_reference x s f (instance_reference s t u (interface_is_reference image t e)))
     | inr e ↦ fits_closed image x t e (elim (fits_is image x s f) [
       | inl a ↦ elim (open_above s t a.0 u) [ inl i ↦ absurd (cc) | inr o ↦ instance_object x t a.1 o ]
@@ -179,7 +168,7 @@ module _ (image : Image) (h : IsHierarchy image) where
   ]
 
   instance_fits : (x t : Ty) → is_reference x ≡ true → instance image x t ≡ true → fits image x t ≡ true
-  instance_fits x t r u = elim (true_or_false (is_interface_type image t)) [ inl e ↦ fits_open image x t e r | inr e ↦ fits_closed image x t e u ]
+  instance_fits x t r u = elim (cases_Bool (is_interface_type image t)) [ inl e ↦ fits_open image x t e r | inr e ↦ fits_closed image x t e u ]
 
   components : (x t : Ty) → fits image x t ≡ true → is_array t ≡ true → (is_array x ≡ true) × (instance image (component x) (component t) ≡ true)
   unfolding instance

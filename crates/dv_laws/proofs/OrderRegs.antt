@@ -11,7 +11,7 @@ use Rattle.dv_defs.specs.Types.{is_long}
 use Rattle.dv_defs.specs.RegTypes.{Types, type_at, under, single_type}
 use Rattle.dv_defs.specs.Transfer.{broken_lo, broken_hi, break_before, break_after, write_type, write_two, write_long, write_for}
 use Rattle.dv_machine.specs.Accepted.{IsOrder}
-use Rattle.dv_laws.proofs.OrderWalks.{no}
+use Rattle.dv_laws.proofs.Plain.{no}
 use Rattle.dv_laws.proofs.OrderStates.{under_same}
 
 -- each register type is under the other's

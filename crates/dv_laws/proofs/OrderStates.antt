@@ -20,7 +20,7 @@ use Rattle.dv_machine.specs.Conforming.{Own, IsOf, Fits, Conforms, IsUninit, Are
 use Rattle.dv_machine.specs.Accepted.{IsOrder}
 use Rattle.dv_machine.specs.Laws.{StatesAreOrdered}
 use Rattle.dv_laws.specs.Conformity.{ValueConformityGoesUp, RegisterConformityGoesUp, FrameConformityGoesUp}
-use Rattle.dv_laws.proofs.OrderWalks.{no}
+use Rattle.dv_laws.proofs.Plain.{no}
 use Rattle.dv_laws.proofs.OrderLaws.{types_are_ordered}
 
 module _ (image : Image) (ord : IsOrder image) where

@@ -20,7 +20,7 @@ use Rattle.dv_defs.specs.Demands.{made_at}
 use Rattle.dv_defs.specs.Transfer.{write_type, write_two, write_long, write_for, going, with_result, copied_int, copied_object, const_type, result_int, result_ref, after_result_long, caught_type, replaced, replaced_this, lost, class_or_conflict, pending_of, after_constructor, first_of, after_invoke, object_element, after_get, out}
 use Rattle.dv_machine.specs.Accepted.{IsHierarchy, IsOrder}
 use Rattle.dv_machine.specs.Laws.{TransferIsMonotone}
-use Rattle.dv_laws.proofs.OrderWalks.{no}
+use Rattle.dv_laws.proofs.Plain.{no}
 use Rattle.dv_laws.proofs.OrderTypes.{under_component, under_reference}
 use Rattle.dv_laws.proofs.OrderLaws.{extends_order, types_are_ordered}
 use Rattle.dv_laws.proofs.OrderStates.{under_same, pending_same}

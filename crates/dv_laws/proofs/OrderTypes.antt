@@ -10,8 +10,9 @@ use Rattle.dv_defs.specs.Names.{object_name}
 use Rattle.dv_defs.specs.Types.{ty_eq, class_in, is_array, is_class_base, is_reference, component}
 use Rattle.dv_defs.specs.Pools.{class_named, name_at}
 use Rattle.dv_defs.specs.Order.{ClassTest, both_found, class_under, under_class, under_base, under_type}
+use Rattle.dv_laws.proofs.Plain.{no, either, by_first, by_second, first_chosen}
 use Rattle.dv_laws.proofs.OrderEqual.{ty_is, ty_equal, names_are, names_equal}
-use Rattle.dv_laws.proofs.OrderWalks.{no, either, by_first, by_second, named_inside, named_is}
+use Rattle.dv_laws.proofs.OrderWalks.{named_inside, named_is}
 
 -- ---- references
 
@@ -96,17 +97,13 @@ type_same image test s t e = by_first (ty_eq s t) (elim (nat_le t.dims s.dims) [
 is_base_under : (image : Image) (test : ClassTest) (n : ℕ) (a b : Base) (name : List ℕ) → b ≡ base.Class name → under_class image test n a name ≡ true → under_base image test n a b ≡ true
 is_base_under image test n a b name e u = subst (λ (x : Base). under_base image test n a x ≡ true) (sym e) u
 
-when_true : (b c : Bool) → b ≡ true → c ≡ true → elim b [ true ↦ c | false ↦ false ] ≡ true
-when_true true c e u = u
-when_true false c e u = no e
-
 pub is_type : (image : Image) (test : ClassTest) (s t : Ty) → IsUnder image test s t → under_type image test s t ≡ true
 is_type image test s t u =
     let n : u.more ≡ s.dims - t.dims = omega (arith, u.dims) in
     let l : t.dims ≤ s.dims = omega (arith, u.dims) in
     let tested : under_class image test (s.dims - t.dims) s.base u.name ≡ true = subst (λ (k : ℕ). under_class image test k s.base u.name ≡ true) n u.tested in
     by_second (ty_eq s t) (elim (nat_le t.dims s.dims) [ true ↦ under_base image test (s.dims - t.dims) s.base t.base | false ↦ false ])
-    (when_true (nat_le t.dims s.dims) (under_base image test (s.dims - t.dims) s.base t.base) (le-leb t.dims s.dims l) (is_base_under image test (s.dims - t.dims) s.base t.base u.name u.is_class tested))
+    (first_chosen (nat_le t.dims s.dims) (under_base image test (s.dims - t.dims) s.base t.base) false (le-leb t.dims s.dims l) (is_base_under image test (s.dims - t.dims) s.base t.base u.name u.is_class tested))
 
 -- what is under a reference type is one
 pub under_class_reference : (image : Image) (test : ClassTest) (n : ℕ) (s : Ty) (d : List ℕ) → n ≤ s.dims → under_class image test n s.base d ≡ true → is_reference s ≡ true

@@ -2,29 +2,14 @@
 use Rattle.std.proofs.Common.{◌≡◌, ◌⊎◌, inl, inr, ℕ, zero, suc, ◌+◌, ◌<◌, ◌≤◌, List, [], ◌∷◌, length, Bool, true, false, Option, Some, None, refl, sym, ap, subst, arith}
 use Rattle.std.specs.Prelude.{slice_get, nat_eq, bytes_eq}
 use Rattle.std.proofs.lemmas.Bool.{eqb-true, eq-eqb}
-use Rattle.std.proofs.lemmas.Slice.Eq.{bytes_eq-Decides}
 use Rattle.dv_defs.specs.declared.image.Image.{Image}
 use Rattle.dv_defs.specs.declared.image.ClassInfo.{ClassInfo}
 use Rattle.dv_defs.specs.Names.{object_name}
 use Rattle.dv_defs.specs.Pools.{find_from, class_named, parent_at, name_of, name_at, walk}
 use Rattle.dv_defs.specs.Order.{has_number, listed, interfaces_of, above, any_of, reaches, extends, implements}
 use Rattle.dv_machine.specs.Accepted.{IsHierarchy}
-
-pub no : {A : Type 0} → false ≡ true → A
-no e = absurd (cc)
-
--- one test, else another
-pub either : (a b : Bool) → elim a [ true ↦ true | false ↦ b ] ≡ true → (a ≡ true) ⊎ (b ≡ true)
-either true b e = inl refl
-either false b e = inr e
-
-pub by_first : (a b : Bool) → a ≡ true → elim a [ true ↦ true | false ↦ b ] ≡ true
-by_first true b e = refl
-by_first false b e = no e
-
-pub by_second : (a b : Bool) → b ≡ true → elim a [ true ↦ true | false ↦ b ] ≡ true
-by_second true b e = refl
-by_second false b e = e
+use Rattle.dv_laws.proofs.Plain.{no, either, by_first, by_second}
+use Rattle.dv_laws.proofs.OrderEqual.{names_are}
 
 pub has_head : (d : ℕ) (cs : List ℕ) → has_number d (d ∷ cs) ≡ true
 has_head d cs = by_first (nat_eq d d) (has_number d cs) (eq-eqb d d refl)
@@ -55,7 +40,7 @@ find_is [] k name c e = absurd (cc)
 find_is (x ∷ cs) k name c e = by_name (find_is cs (suc k) name c) (bytes_eq x.def.name name) refl e
   where
     by_name : (find_from cs (suc k) name ≡ Some c → IsFound cs (suc k) name c) → (b : Bool) → bytes_eq x.def.name name ≡ b → elim b [ true ↦ Some k | false ↦ find_from cs (suc k) name ] ≡ Some c → IsFound (x ∷ cs) k name c
-    by_name later true h g = record { place = 0; after = (let q : k ≡ c = cc in omega (arith, q)); inside = omega arith; named = (bytes_eq-Decides x.def.name name).0 h }
+    by_name later true h g = record { place = 0; after = (let q : k ≡ c = cc in omega (arith, q)); inside = omega arith; named = names_are x.def.name name h }
     by_name later false h g = found_later x cs k name c (later g)
 
 pub named_inside : (image : Image) (name : List ℕ) (c : ℕ) → class_named image name ≡ Some c → c < length image.classes

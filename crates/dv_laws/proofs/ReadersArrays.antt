@@ -1,5 +1,6 @@
 -- Reads of arrays find what they want.
-use Rattle.std.proofs.Common.{◌≡◌, ◌⊎◌, inl, inr, ℕ, zero, suc, List, Bool, true, false, Some, refl, ap, ◌∙◌, subst}
+use Rattle.std.proofs.Common.{◌≡◌, ◌⊎◌, inl, inr, ℕ, zero, suc, List, Bool, true, false, Some, refl, ap, ◌∙◌, subst, sym}
+use Rattle.std.proofs.lemmas.Bool.{and_parts, or_cases, or_left, or_right}
 use Rattle.std.specs.Prelude.{◌&&◌, ◌||◌, nat_eq}
 use Rattle.dv_defs.specs.declared.names.Base.{Base}
 use Rattle.dv_defs.specs.declared.names.Base.TheVariants as base
@@ -24,19 +25,17 @@ use Rattle.dv_machine.specs.Conforming.{Own, Conforms}
 use Rattle.dv_machine.specs.Accepted.{IsOrder}
 use Rattle.dv_machine.specs.Premises.{HoldsOf}
 use Rattle.dv_laws.specs.Reading.{IsArrayOf, IsArrayOrNull, GoesDown, ReadsArray, ElementTestsGoDown}
-use Rattle.dv_laws.proofs.Demanding.{no, demanded, both_true, either_true}
+use Rattle.dv_laws.proofs.Plain.{no}
+use Rattle.dv_laws.proofs.Demanding.{demanded}
 use Rattle.dv_laws.proofs.OrderTypes.{IsUnder, type_is, under_reference}
 use Rattle.dv_laws.proofs.ReadersPlain.{where_holds, tested_there}
+use Rattle.dv_laws.proofs.OrderEqual.{base_plain}
 
 -- ---- what tests of elements take
 
 -- nothing but itself is under a type that is no reference
 no_class : (t : Base) (name : List ℕ) (b : Base) → t ≡ base.Class name → is_class_base b ≡ false → base_eq t b ≡ true → ⊥
-no_class t name b e p q = clash name b p (subst (λ z. base_eq z b ≡ true) e q)
-  where
-    clash : (name : List ℕ) (b : Base) → is_class_base b ≡ false → base_eq (base.Class name) b ≡ true → ⊥
-    clash name (base.Class k) p q = absurd (cc)
-    clash name b p q = no q
+no_class t name b e p q = no (sym (subst (λ z. is_class_base z ≡ false) e (base_plain t b p q)))
 
 module _ (image : Image) where
   base_down : (b : Base) → is_class_base b ≡ false → GoesDown image (is_base b)
@@ -45,22 +44,15 @@ module _ (image : Image) where
     where
       by_under : (s ≡ t) ⊎ IsUnder image (implements image) s t → is_base b s ≡ true
       by_under (inl q) = ap (is_base b) q ∙ f
-      by_under (inr u) = absurd (no_class t.base u.name b u.is_class p (both_true (nat_eq t.dims 0) (base_eq t.base b) f).1)
+      by_under (inr u) = absurd (no_class t.base u.name b u.is_class p (and_parts (nat_eq t.dims 0) (base_eq t.base b) f).1)
 
   reference_down : GoesDown image is_reference
   unfolding instance
   reference_down s t e f = under_reference image (implements image) s t e f
 
   either_down : (f g : Ty → Bool) → GoesDown image f → GoesDown image g → GoesDown image (λ t. f t || g t)
-  either_down f g h k s t e q = by_side (either_true (f t) (g t) q)
+  either_down f g h k s t e q = by_side (or_cases (f t) (g t) q)
     where
-      or_left : (x y : Bool) → x ≡ true → (x || y) ≡ true
-      or_left x y p = ap (λ z. z || y) p
-
-      or_right : (x y : Bool) → y ≡ true → (x || y) ≡ true
-      or_right true y p = refl
-      or_right false y p = p
-
       by_side : (f t ≡ true) ⊎ (g t ≡ true) → (f s || g s) ≡ true
       by_side (inl p) = or_left (f s) (g s) (h s t e p)
       by_side (inr p) = or_right (f s) (g s) (k s t e p)
@@ -114,7 +106,7 @@ module _ (image : Image) (order : IsOrder image) (heap : Heap) (own : Own) (good
   array_holds v.Zero t e c = tt
   array_holds (v.Ref zero) (ty.Class d) e c = tt
   array_holds (v.Ref (suc o)) (ty.Class d) e c =
-      let q = both_true (is_array d) (good (component d)) e in
+      let q = and_parts (is_array d) (good (component d)) e in
       let k = array_there o d c.object.kind c.object.has_kind c.fits q.0 q.1 in
       where_holds image heap own (IsArrayOrNull image heap good (ty.Class d)) _ (suc o) (tested_there image heap own (is_array_kind good) o (kind.Array k.type) k.has_kind k.takes) k
   array_holds x ty.Zero e c = absurd c

@@ -1,5 +1,6 @@
 -- Reads of numbers, references and pending results find what they want.
 use Rattle.std.proofs.Common.{◌≡◌, ◌⊎◌, inl, inr, ℕ, zero, suc, List, Bool, true, false, Some, None, refl, ap, ◌∙◌, subst}
+use Rattle.std.proofs.lemmas.Bool.{and_parts, or_cases, ne_eqb}
 use Rattle.std.specs.Prelude.{◌&&◌, ◌||◌, Ok, Err}
 use Rattle.dv_defs.specs.declared.names.Ty.{Ty}
 use Rattle.dv_defs.specs.declared.image.Image.{Image}
@@ -23,7 +24,8 @@ use Rattle.dv_machine.specs.Conforming.{Own, Conforms, RegsConform, IsThere, Fit
 use Rattle.dv_machine.specs.Accepted.{IsOrder}
 use Rattle.dv_machine.specs.Premises.{HoldsOf}
 use Rattle.dv_laws.specs.Reading.{Anything, ReadsInt, KeepsInt, ReadsArgument, ReadsTwo, ReadsLong, ReadsReference, ReadsReferenceTo, KeepsObject, TestsBoth, TestsZero, MovesInt, MovesReference}
-use Rattle.dv_laws.proofs.Demanding.{no, first_none, demanded, both_true, either_true, eq_false}
+use Rattle.dv_laws.proofs.Plain.{no}
+use Rattle.dv_laws.proofs.Demanding.{first_none, demanded}
 
 -- one read after another
 pub next_holds : {A B : Type 0} (P : A → Type 0) (Q : B → Type 0) (r : Reads A) (go : A → Reads B) → HoldsOf P r → ((x : A) → P x → HoldsOf Q (go x)) → HoldsOf Q (on_next r go)
@@ -59,7 +61,7 @@ module _ (image : Image) (heap : Heap) (own : Own) where
 
   pub two_holds : (xs : List Value) (ts : Types) (k : ℕ) → RegsConform image heap own xs ts → long ts k ≡ None → HoldsOf Anything (read_two xs k)
   two_holds xs ts k h d =
-      let e = both_true (is_lo (type_at ts k)) (is_hi (type_at ts (suc k))) (demanded _ _ d) in
+      let e = and_parts (is_lo (type_at ts k)) (is_hi (type_at ts (suc k))) (demanded _ _ d) in
       next_holds Anything Anything (read_lo (reg_at xs k)) _ (lo_holds _ _ e.0 (h k))
       (λ lo x. next_holds Anything Anything (read_hi (reg_at xs (suc k))) _ (hi_holds _ _ e.1 (h (suc k))) (λ hi y. tt))
 
@@ -67,7 +69,7 @@ module _ (image : Image) (heap : Heap) (own : Own) where
 
   pub tested_there : (good : Kind → Bool) (o : ℕ) (k : Kind) → kind_of heap (suc o) ≡ Some k → good k ≡ true → tested good heap (suc o) ≡ true
   tested_there good o k e g =
-      ap (λ z. elim z as (λ w. Bool) [ true ↦ true | false ↦ elim (kind_of heap (suc o)) as (λ w. Bool) [ None ↦ false | Some j ↦ good j ] ]) (eq_false (suc o) 0 (λ q. absurd (cc)))
+      ap (λ z. elim z as (λ w. Bool) [ true ↦ true | false ↦ elim (kind_of heap (suc o)) as (λ w. Bool) [ None ↦ false | Some j ↦ good j ] ]) (ne_eqb (suc o) 0 (λ q. absurd (cc)))
       ∙ ap (λ z. elim z as (λ w. Bool) [ None ↦ false | Some j ↦ good j ]) e ∙ g
 
   pub where_holds : (P : ℕ → Type 0) (b : Bool) (o : ℕ) → b ≡ true → P o → HoldsOf P (where_ref b o)
@@ -179,11 +181,11 @@ module _ (image : Image) (heap : Heap) (own : Own) where
 
   both_hold : (t : Test) (x y : Value) (s u : RegType) (b : Bool) → (elim b as (λ w. Demand) [ true ↦ demand ((is_int s && is_int u) || (is_ref s && is_ref u)) 9 | false ↦ first (demand (is_int s) 2) (demand (is_int u) 2) ]) ≡ None → Conforms image heap own x s → Conforms image heap own y u → HoldsOf Anything (elim b as (λ w. Reads Bool) [ true ↦ on_next (read_word x) (λ a. on_next (read_word y) (λ b. compare_words t a b)) | false ↦ on_next (read_int x) (λ a. on_next (read_int y) (λ b. Ok (compare t a b))) ])
   unfolding AreAlike
-  both_hold t x y s u true d c e = words_hold t x y s u (alike (either_true _ _ (demanded _ _ d))) c e
+  both_hold t x y s u true d c e = words_hold t x y s u (alike (or_cases _ _ (demanded _ _ d))) c e
     where
       alike : ((is_int s && is_int u) ≡ true) ⊎ ((is_ref s && is_ref u) ≡ true) → AreAlike x y s u
-      alike (inl p) = inl (both_true _ _ p)
-      alike (inr p) = inr (both_true _ _ p)
+      alike (inl p) = inl (and_parts _ _ p)
+      alike (inr p) = inr (and_parts _ _ p)
   both_hold t x y s u false d c e = let q = first_none _ _ d in ints_hold t x y s u (demanded _ _ q.0) (demanded _ _ q.1) c e
 
   -- a test against zero is one with null

@@ -22,7 +22,8 @@ use Rattle.dv_machine.specs.Conforming.{Own, Conforms, RegsConform, IsUninit, Ar
 use Rattle.dv_machine.specs.Accepted.{IsOrder}
 use Rattle.dv_machine.specs.Premises.{HoldsOf}
 use Rattle.dv_laws.specs.Reading.{Anything, AreWords, ReadsValue, ReadsArguments, WordsPend}
-use Rattle.dv_laws.proofs.Demanding.{no, first_none, demanded}
+use Rattle.dv_laws.proofs.Plain.{no}
+use Rattle.dv_laws.proofs.Demanding.{first_none, demanded}
 use Rattle.dv_laws.proofs.ReadersPlain.{next_holds, holds_more, two_holds, kept_int_holds, ref_conforms, ref_holds, there_of}
 
 -- ---- lists of words with their types

@@ -1,8 +1,10 @@
 -- A step of a class's record is fine: it looks at the superclass, runs the initialiser, or ends.
-use Rattle.std.proofs.Common.{◌≡◌, ◌≢◌, ℕ, suc, ◌<◌, List, [], ◌∷◌, ◌++◌, length, Bool, true, false, ◌&&◌, not, Option, Some, None, refl, sym, ap, ◌∙◌, subst, arith}
+use Rattle.std.proofs.Common.{◌≡◌, ◌≢◌, ℕ, suc, ◌<◌, List, [], ◌∷◌, length, Bool, true, false, ◌&&◌, not, Option, Some, None, refl, sym, ap, ◌∙◌, subst, arith}
 use Rattle.std.specs.Prelude.{slice_get, All, nat_eq, bytes_eq}
 use Rattle.std.proofs.lemmas.List.{length-set}
 use Rattle.std.proofs.lemmas.List.Elements.{All-cons, All-tail, All-nil}
+use Rattle.std.proofs.lemmas.Option.{same_Some}
+use Rattle.std.proofs.lemmas.Bool.{eq-eqb}
 use Rattle.dv_defs.specs.declared.image.Image.{Image}
 use Rattle.dv_defs.specs.declared.machine.Frame.{Frame}
 use Rattle.dv_defs.specs.declared.machine.Level.{Level}
@@ -11,11 +13,10 @@ use Rattle.dv_defs.specs.declared.machine.End.TheVariants as end
 use Rattle.dv_defs.specs.declared.machine.Ask.{Ask}
 use Rattle.dv_defs.specs.declared.machine.Ask.TheVariants as ask
 use Rattle.dv_defs.specs.declared.names.Proto.{Proto}
-use Rattle.dv_defs.specs.declared.typing.RegType.TheVariants as ty
 use Rattle.dv_defs.specs.Names.{init_name}
-use Rattle.dv_defs.specs.Pools.{Method, parent_at, initialiser, is_static, is_of_object, own_type, no_arguments}
+use Rattle.dv_defs.specs.Pools.{Method, parent_at, initialiser, is_static, is_of_object, no_arguments}
 use Rattle.dv_defs.specs.Order.{has_number, listed, interfaces_of}
-use Rattle.dv_defs.specs.RegTypes.{Types, all_types}
+use Rattle.dv_defs.specs.RegTypes.{all_types}
 use Rattle.dv_defs.specs.Transfer.{arg_types, begins_uninitialised}
 use Rattle.dv_defs.specs.Monitors.{Wait, entry_of}
 use Rattle.dv_defs.specs.Classes.{ClassState, Fresh, InProgress, Ready, Erroneous, Classes, state_at, asked, ask_of, with_state}
@@ -28,21 +29,16 @@ use Rattle.dv_machine.specs.WellTyped.{Typings, own_of, BelowRecord, StackFine, 
 use Rattle.dv_machine.specs.Accepted.{Accepted}
 use Rattle.dv_machine.specs.Premises.{LeftFine, RecordDidFine}
 use Rattle.dv_machine.specs.StepLaws.{RecordsAreFine}
-use Rattle.dv_laws.proofs.GrowthLists.{nothing, same_some, eq_true}
+use Rattle.dv_laws.proofs.Plain.{nothing}
 use Rattle.dv_laws.proofs.GrowthThreads.{records_after}
 use Rattle.dv_laws.proofs.MonitorsOwners.{entry_none}
 use Rattle.dv_laws.proofs.MonitorsMoved.{quiet_moved}
 use Rattle.dv_laws.proofs.FlightFlown.{lowest_rest, living_fine, refs_of, records_of}
 use Rattle.dv_laws.proofs.RecordsStates.{IsIdle, dropped_mine, dropped_others, begun_mine, begun_others}
 use Rattle.dv_laws.proofs.RecordsEntered.{none_good, refs_entered, entered_code, entered_placed}
+use Rattle.dv_laws.proofs.CallsWords.{static_types}
 
 -- ---- an initialiser has no receiver and no arguments
-
-abbrev receiver_by : Image → Method → Bool → Types
-receiver_by image m b = elim b [ true ↦ [] | false ↦ elim (begins_uninitialised image m) [ true ↦ ty.UninitThis ∷ [] | false ↦ ty.Class (own_type image m) ∷ [] ] ]
-
-pub static_types : (image : Image) (m : Method) → is_static m ≡ true → arg_types image m ≡ all_types m.def.proto.params
-static_types image m s = ap (λ (b : Bool). receiver_by image m b ++ all_types m.def.proto.params) s
 
 static_args : (image : Image) (m : Method) → is_static m ≡ true → m.def.proto ≡ no_arguments → arg_types image m ≡ []
 static_args image m s p = static_types image m s ∙ ap (λ (q : Proto). all_types q.params) p
@@ -65,7 +61,7 @@ module _ (image : Image) (T : Typings) (m : Machine) (t : ℕ) (thread : Thread)
 
       clash : {x : Wait} → WaitFine image m.threads m.shared x → x.thread ≡ t → ⊥
       clash f e =
-          let same : f.thread ≡ thread = same_some f.thread thread (sym f.has_thread ∙ ap (slice_get m.threads) e ∙ has) in
+          let same : f.thread ≡ thread = same_Some f.thread thread (sym f.has_thread ∙ ap (slice_get m.threads) e ∙ has) in
           no_frame_on_top f.waits.frame f.waits.rest (sym levels ∙ sym (ap (λ (y : Thread). y.levels) same) ∙ f.waits.levels)
 
   fine : ThreadFine image T m.shared.heap t (level.Init (record { 0 = c }) r ∷ rest) end.Living
@@ -163,7 +159,7 @@ module _ (image : Image) (T : Typings) (m : Machine) (t : ℕ) (thread : Thread)
   look_fine = go (parent_at image c) refl
     where
       first : (p : ℕ) (ps : List ℕ) → has_number p (p ∷ ps) ≡ true
-      first p ps = ap (λ (b : Bool). elim b as (λ x. Bool) [ true ↦ true | false ↦ has_number p ps ]) (eq_true p p refl)
+      first p ps = ap (λ (b : Bool). elim b as (λ x. Bool) [ true ↦ true | false ↦ has_number p ps ]) (eq-eqb p p refl)
 
       go : (o : Option ℕ) → parent_at image c ≡ o → RecordDidFine image T m t thread (look_at (here image m t no_method no_frame rest 0) c (elim o as (λ x. List ℕ) [ None ↦ [] | Some p ↦ p ∷ [] ]))
       go None e = run_fine

@@ -1,9 +1,10 @@
 -- An instruction whose class isn't ready begins its initialisation, waits or throws.
-use Rattle.std.proofs.Common.{◌≡◌, inl, ℕ, suc, ◌<◌, List, [], ◌∷◌, ◌++◌, length, Bool, true, false, not, Option, Some, None, refl, sym, ap, ◌∙◌, subst, arith}
+use Rattle.std.proofs.Common.{◌≡◌, inl, ℕ, suc, ◌<◌, List, [], ◌∷◌, length, Bool, true, false, not, Option, Some, None, refl, sym, ap, ◌∙◌, subst, arith}
 use Rattle.std.specs.Prelude.{All, nat_eq, bytes_eq}
 use Rattle.std.proofs.lemmas.Bool.{and_parts}
 use Rattle.std.proofs.lemmas.List.{length-set}
 use Rattle.std.proofs.lemmas.List.Elements.{All-cons}
+use Rattle.std.proofs.lemmas.Option.{same_Some, none-some}
 use Rattle.dv_defs.specs.declared.image.Image.{Image}
 use Rattle.dv_defs.specs.declared.machine.Frame.{Frame}
 use Rattle.dv_defs.specs.declared.machine.Level.{Level}
@@ -16,7 +17,7 @@ use Rattle.dv_defs.specs.Names.{clinit_name}
 use Rattle.dv_defs.specs.Parts.{Call}
 use Rattle.dv_defs.specs.Pools.{Method, is_static}
 use Rattle.dv_defs.specs.Op.{Op, New, StaticGet, StaticPut, Invoke, Code, needs}
-use Rattle.dv_defs.specs.Statics.{At, unless, op_rules, fits_call}
+use Rattle.dv_defs.specs.Statics.{At, op_rules, fits_call}
 use Rattle.dv_defs.specs.Monitors.{entry_of}
 use Rattle.dv_defs.specs.Classes.{ClassState, Fresh, InProgress, Ready, Erroneous, state_at, asked, ask_of, with_state}
 use Rattle.dv_machine.specs.State.{Thread, Machine, Left, Did, NoRoom, Here, left, with_classes}
@@ -28,7 +29,7 @@ use Rattle.dv_machine.specs.WellTyped.{Typings, StackFine, ThreadFine, records, 
 use Rattle.dv_machine.specs.Accepted.{Accepted}
 use Rattle.dv_machine.specs.Premises.{LeftFine, ThrowFine, DidFine}
 use Rattle.dv_machine.specs.StepLaws.{NeedsAreFine}
-use Rattle.dv_laws.proofs.GrowthLists.{nothing, same_some}
+use Rattle.dv_laws.proofs.Plain.{nothing}
 use Rattle.dv_laws.proofs.GrowthThreads.{records_after}
 use Rattle.dv_laws.proofs.MonitorsMoved.{quiet_moved}
 use Rattle.dv_laws.proofs.MonitorsOwners.{entry_none}
@@ -38,25 +39,22 @@ use Rattle.dv_laws.proofs.RecordsStates.{begun_mine, begun_others}
 use Rattle.dv_laws.proofs.LocalStands.{Stands, stands}
 use Rattle.dv_laws.proofs.LocalFine.{quiet}
 use Rattle.dv_laws.proofs.CallsResolved.{IsNamed, is_named}
+use Rattle.dv_laws.proofs.Demanding.{first_rule}
 
 -- ---- what needs a class
 
 -- the class is one of the image
 needed_there : (image : Image) (T : Typings) → Accepted image T → (op : Op) (c : ℕ) → IsNamed image op → needs op ≡ Some c → c < length image.classes
-needed_there image T acc (New a d) c i e = subst (λ (k : ℕ). k < length image.classes) (same_some d c e) i
-needed_there image T acc (StaticGet s a x) c i e = subst (λ (k : ℕ). k < length image.classes) (same_some x.info.class.0 c e) (acc.pools.fields i.0 x i.1)
-needed_there image T acc (StaticPut s a x) c i e = subst (λ (k : ℕ). k < length image.classes) (same_some x.info.class.0 c e) (acc.pools.fields i.0 x i.1)
-needed_there image T acc (Invoke Call.Static ks g) c i e = subst (λ (k : ℕ). k < length image.classes) (same_some g.info.class.0 c e) (acc.pools.methods i.0 g i.1)
+needed_there image T acc (New a d) c i e = subst (λ (k : ℕ). k < length image.classes) (same_Some d c e) i
+needed_there image T acc (StaticGet s a x) c i e = subst (λ (k : ℕ). k < length image.classes) (same_Some x.info.class.0 c e) (acc.pools.fields i.0 x i.1)
+needed_there image T acc (StaticPut s a x) c i e = subst (λ (k : ℕ). k < length image.classes) (same_Some x.info.class.0 c e) (acc.pools.fields i.0 x i.1)
+needed_there image T acc (Invoke Call.Static ks g) c i e = subst (λ (k : ℕ). k < length image.classes) (same_Some g.info.class.0 c e) (acc.pools.methods i.0 g i.1)
 needed_there image T acc op c i e = absurd (cc)
-
-no_rule : (b : Bool) (n : ℕ) (ns : List ℕ) → unless b n ++ ns ≡ [] → b ≡ true
-no_rule true n ns e = refl
-no_rule false n ns e = absurd (cc)
 
 -- a static call has no receiver
 static_receiver : (image : Image) (code : Code) (ks : List ℕ) (g : Method) → op_rules image code (Invoke Call.Static ks g) ≡ [] → receiver_of (Invoke Call.Static ks g) ≡ None
 static_receiver image code [] g e = refl
-static_receiver image code (k ∷ ks) g e = ap (λ (b : Bool). elim b as (λ x. Option ℕ) [ true ↦ None | false ↦ Some k ]) (and_parts (is_static g) (not (bytes_eq g.def.name clinit_name)) (no_rule (fits_call image code.method Call.Static g) 14 _ e)).0
+static_receiver image code (k ∷ ks) g e = ap (λ (b : Bool). elim b as (λ x. Option ℕ) [ true ↦ None | false ↦ Some k ]) (and_parts (is_static g) (not (bytes_eq g.def.name clinit_name)) (first_rule (fits_call image code.method Call.Static g) 14 _ e)).0
 
 -- a thread can't wait at an instruction that needs a class
 no_receiver : (image : Image) (code : Code) (op : Op) (c : ℕ) → op_rules image code op ≡ [] → needs op ≡ Some c → receiver_of op ≡ None
@@ -71,10 +69,7 @@ no_receiver image code op c r e = refl
 
 module _ (image : Image) (T : Typings) (m : Machine) (t : ℕ) (thread : Thread) (own : Method) (f : Frame) (rest : List Level) (x : At) (s : RegState) (h : Stands image T m t thread own f rest x s) (code : Code) (rules : op_rules image code x.op ≡ []) (c : ℕ) (needed : needs x.op ≡ Some c) where
   no_entry : entry_of m.shared.monitors t ≡ None
-  no_entry = entry_none t m.shared.monitors.waits (λ k d l. quiet image T m t thread own f rest x s h (λ o w. clash (sym (no_receiver image code x.op c rules needed) ∙ w.has_receiver)) _ (h.may.typed.monitors.waits k d l))
-    where
-      clash : {k : ℕ} → None ≡ Some k → ⊥
-      clash e = cc
+  no_entry = entry_none t m.shared.monitors.waits (λ k d l. quiet image T m t thread own f rest x s h (λ o w. none-some _ (sym (no_receiver image code x.op c rules needed) ∙ w.has_receiver)) _ (h.may.typed.monitors.waits k d l))
 
   fine : ThreadFine image T m.shared.heap t (level.Code f ∷ rest) end.Living
   fine = living_fine image T m t thread (level.Code f ∷ rest) h.may.typed h.has_thread h.living h.levels

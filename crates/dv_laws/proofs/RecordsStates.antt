@@ -1,7 +1,7 @@
 -- Records of classes on a stack, and the states of classes that they agree with.
 use Rattle.std.proofs.Common.{◌≡◌, ◌≢◌, ◌⊎◌, inl, inr, ℕ, zero, suc, ◌+◌, ◌<◌, ◌≤◌, List, [], ◌∷◌, length, Bool, true, false, refl, sym, ap, ◌∙◌, subst, arith}
 use Rattle.std.specs.Prelude.{nat_eq}
-use Rattle.std.proofs.lemmas.Bool.{cases_eq}
+use Rattle.std.proofs.lemmas.Bool.{cases_eq, eq-eqb, ne_eqb}
 use Rattle.std.proofs.lemmas.List.{get_or-set_same, get_or-set_other}
 use Rattle.dv_defs.specs.declared.image.Image.{Image}
 use Rattle.dv_defs.specs.declared.machine.Level.{Level}
@@ -9,7 +9,7 @@ use Rattle.dv_defs.specs.declared.machine.Level.TheVariants as level
 use Rattle.dv_defs.specs.Classes.{ClassState, Fresh, InProgress, Ready, Erroneous, Classes, state_at, with_state}
 use Rattle.dv_machine.specs.Unwinding.{is_opening}
 use Rattle.dv_machine.specs.WellTyped.{records, owed}
-use Rattle.dv_laws.proofs.GrowthLists.{no, eq_true, eq_false}
+use Rattle.dv_laws.proofs.Plain.{no}
 
 abbrev one_if : Bool → ℕ
 one_if b = elim b [ true ↦ 1 | false ↦ 0 ]
@@ -31,10 +31,10 @@ state_idle s i (x ∷ cs) zero u = i u
 state_idle s i (x ∷ cs) (suc c) u = state_idle s i cs c u
 
 owed_is : (w t : ℕ) → w ≡ t → owed t (InProgress w) ≡ 1
-owed_is w t e = ap one_if (eq_true w t e)
+owed_is w t e = ap one_if (eq-eqb w t e)
 
 owed_not : (w t : ℕ) → w ≢ t → owed t (InProgress w) ≡ 0
-owed_not w t d = ap one_if (eq_false w t d)
+owed_not w t d = ap one_if (ne_eqb w t d)
 
 pub owed_most : (s : ClassState) (t : ℕ) → owed t s ≤ 1
 owed_most (InProgress w) t = go (nat_eq w t)
@@ -58,10 +58,10 @@ owed_once Ready t u d l = absurd (omega arith)
 owed_once Erroneous t u d l = absurd (omega arith)
 
 pub record_same : (c d : ℕ) (r : Bool) (ls : List Level) → d ≡ c → records d (level.Init (record { 0 = c }) r ∷ ls) ≡ 1 + records d ls
-record_same c d r ls e = ap (λ (b : Bool). one_if b + records d ls) (eq_true d c e)
+record_same c d r ls e = ap (λ (b : Bool). one_if b + records d ls) (eq-eqb d c e)
 
 pub record_other : (c d : ℕ) (r : Bool) (ls : List Level) → d ≢ c → records d (level.Init (record { 0 = c }) r ∷ ls) ≡ records d ls
-record_other c d r ls n = ap (λ (b : Bool). one_if b + records d ls) (eq_false d c n) ∙ plus (records d ls)
+record_other c d r ls n = ap (λ (b : Bool). one_if b + records d ls) (ne_eqb d c n) ∙ plus (records d ls)
   where
     plus : (k : ℕ) → 0 + k ≡ k
     plus k = omega arith

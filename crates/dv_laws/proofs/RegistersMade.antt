@@ -1,9 +1,10 @@
 -- New objects in registers, and what their constructors make of them.
-use Rattle.std.proofs.Common.{◌≡◌, ◌≢◌, ◌↔◌, ◌⊎◌, inl, inr, ℕ, zero, suc, ◌<◌, ◌≤◌, List, length, true, false, Some, refl, sym, ap, ◌∙◌, arith}
+use Rattle.std.proofs.Common.{◌≡◌, ◌≢◌, ◌↔◌, ◌⊎◌, inl, inr, ℕ, ◌<◌, ◌≤◌, List, length, true, false, Some, refl, sym, ap, ◌∙◌, arith}
 use Rattle.std.specs.Prelude.{slice_set, map}
-use Rattle.std.proofs.lemmas.Bool.{cases_lt, cases_eq}
+use Rattle.std.proofs.lemmas.Bool.{cases_lt, cases_eq, eq-eqb, ne_eqb}
 use Rattle.std.proofs.lemmas.List.{length-set, get_or-set_same, get_or-set_other, set_past}
 use Rattle.std.proofs.Math.ListN.{get_or-map, length-map}
+use Rattle.std.proofs.lemmas.Option.{same_Some}
 use Rattle.dv_defs.specs.declared.names.Ty.{Ty}
 use Rattle.dv_defs.specs.declared.image.Image.{Image}
 use Rattle.dv_defs.specs.declared.run.Value.{Value}
@@ -16,35 +17,28 @@ use Rattle.dv_defs.specs.Transfer.{write_type, break_before, break_after, replac
 use Rattle.dv_defs.specs.Heap.{Heap}
 use Rattle.dv_machine.specs.State.{reg_at}
 use Rattle.dv_machine.specs.Calls.{object_of, initialised}
-use Rattle.dv_machine.specs.Conforming.{Own, Conforms, Fits, IsOf, IsUninit, IsGood}
+use Rattle.dv_machine.specs.Conforming.{Own, Conforms, IsOf, IsUninit, IsGood}
 use Rattle.dv_machine.specs.StepLaws.{NewInstanceKeeps, ConstructorKeeps, OwnConstructorKeeps}
-use Rattle.dv_laws.proofs.Demanding.{eq_true, eq_false}
+use Rattle.dv_laws.proofs.Plain.{fits_of}
 use Rattle.dv_laws.proofs.RegistersWritten.{Source, old, plain, AreFrom, from_good, broken}
 
-pub of_fits : (image : Image) (heap : Heap) (o : ℕ) (t : Ty) → IsOf image heap o t → Fits image heap o t
-of_fits image heap zero t h = tt
-of_fits image heap (suc o) t h = h
-
 replaced_same : (a b : ℕ) (t : RegType) → a ≡ b → replaced a t (ty.Uninit b) ≡ t
-replaced_same a b t e = ap (λ z. elim z as (λ w. RegType) [ true ↦ t | false ↦ ty.Uninit b ]) (eq_true a b e)
+replaced_same a b t e = ap (λ z. elim z as (λ w. RegType) [ true ↦ t | false ↦ ty.Uninit b ]) (eq-eqb a b e)
 
 replaced_other : (a b : ℕ) (t : RegType) → a ≢ b → replaced a t (ty.Uninit b) ≡ ty.Uninit b
-replaced_other a b t e = ap (λ z. elim z as (λ w. RegType) [ true ↦ t | false ↦ ty.Uninit b ]) (eq_false a b e)
+replaced_other a b t e = ap (λ z. elim z as (λ w. RegType) [ true ↦ t | false ↦ ty.Uninit b ]) (ne_eqb a b e)
 
 made_same : (o a p : ℕ) → o ≡ p → initialised o (v.Uninit a p) ≡ v.Ref p
-made_same o a p e = ap (λ z. elim z as (λ w. Value) [ true ↦ v.Ref p | false ↦ v.Uninit a p ]) (eq_true o p e)
+made_same o a p e = ap (λ z. elim z as (λ w. Value) [ true ↦ v.Ref p | false ↦ v.Uninit a p ]) (eq-eqb o p e)
 
 made_other : (o a p : ℕ) → o ≢ p → initialised o (v.Uninit a p) ≡ v.Uninit a p
-made_other o a p e = ap (λ z. elim z as (λ w. Value) [ true ↦ v.Ref p | false ↦ v.Uninit a p ]) (eq_false o p e)
+made_other o a p e = ap (λ z. elim z as (λ w. Value) [ true ↦ v.Ref p | false ↦ v.Uninit a p ]) (ne_eqb o p e)
 
 this_same : (o p : ℕ) → o ≡ p → initialised o (v.UninitThis p) ≡ v.Ref p
-this_same o p e = ap (λ z. elim z as (λ w. Value) [ true ↦ v.Ref p | false ↦ v.UninitThis p ]) (eq_true o p e)
+this_same o p e = ap (λ z. elim z as (λ w. Value) [ true ↦ v.Ref p | false ↦ v.UninitThis p ]) (eq-eqb o p e)
 
 this_other : (o p : ℕ) → o ≢ p → initialised o (v.UninitThis p) ≡ v.UninitThis p
-this_other o p e = ap (λ z. elim z as (λ w. Value) [ true ↦ v.Ref p | false ↦ v.UninitThis p ]) (eq_false o p e)
-
-some_same : (x y : ℕ) → Some x ≡ Some y → x ≡ y
-some_same x y e = cc
+this_other o p e = ap (λ z. elim z as (λ w. Value) [ true ↦ v.Ref p | false ↦ v.UninitThis p ]) (ne_eqb o p e)
 
 site_same : (a b : ℕ) → ty.Uninit a ≡ ty.Uninit b → a ≡ b
 site_same a b e = cc
@@ -82,9 +76,9 @@ module _ (image : Image) (heap : Heap) (own : Own) (xs : List Value) (ts : Types
     made_one j (v.Uninit a p) (ty.Uninit b) ex et k w = which (cases_eq at b) (cases_eq o p)
       where
         which : (at ≡ b) ⊎ (at ≢ b) → (o ≡ p) ⊎ (o ≢ p) → Source image heap own xs ts (initialised o (v.Uninit a p)) (replaced at (ty.Class d) (ty.Uninit b))
-        which (inl e) (inl f) = rw (replaced_same at b (ty.Class d) e, made_same o a p f, ← f) (plain (λ x. x) (of_fits image heap o d is))
+        which (inl e) (inl f) = rw (replaced_same at b (ty.Class d) e, made_same o a p f, ← f) (plain (λ x. x) (fits_of image heap o d is))
         which (inr e) (inr f) = rw (replaced_other at b (ty.Class d) e, made_other o a p f) (old j ex et)
-        which (inl e) (inr f) = absurd (f (some_same _ _ (sym ((w tt).0 (ap ty.Uninit (sym e))))))
+        which (inl e) (inr f) = absurd (f (same_Some _ _ (sym ((w tt).0 (ap ty.Uninit (sym e))))))
         which (inr e) (inl f) = absurd (e (site_same _ _ (sym ((w tt).1 (ap Some (sym f))))))
     made_one j (v.UninitThis p) ty.UninitThis ex et k w = which (cases_eq o p)
       where
@@ -116,8 +110,8 @@ module _ (image : Image) (heap : Heap) (own : Own) (xs : List Value) (ts : Types
     own_one j (v.UninitThis p) ty.UninitThis ex et k w = which (cases_eq o p)
       where
         which : (o ≡ p) ⊎ (o ≢ p) → Source image heap own xs ts (initialised o (v.UninitThis p)) (ty.Class d)
-        which (inl f) = rw (this_same o p f, ← f) (plain (λ x. x) (of_fits image heap o d is))
-        which (inr f) = absurd (f (some_same _ _ (sym ((w tt).0 refl))))
+        which (inl f) = rw (this_same o p f, ← f) (plain (λ x. x) (fits_of image heap o d is))
+        which (inr f) = absurd (f (same_Some _ _ (sym ((w tt).0 refl))))
     own_one j x ty.Conflict ex et k w = plain (λ x. x) tt
     own_one j x ty.Zero ex et k w = same_one (replaced_this (ty.Class d)) o j x ty.Zero ex et k (λ x. x) refl
     own_one j x ty.Int ex et k w = same_one (replaced_this (ty.Class d)) o j x ty.Int ex et k (λ x. x) refl

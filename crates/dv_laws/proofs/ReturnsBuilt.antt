@@ -29,11 +29,13 @@ use Rattle.dv_machine.specs.Conforming.{Conforms, IsThere, is_proper, is_string_
 use Rattle.dv_machine.specs.WellTyped.{Typings, own_of, called_on, this_above, IsPlaced, StackFine}
 use Rattle.dv_machine.specs.Accepted.{Accepted}
 use Rattle.dv_laws.specs.Returning.{IsBuilt}
-use Rattle.dv_laws.proofs.Demanding.{no, demanded}
-use Rattle.dv_laws.proofs.CallsEntered.{some_same, code_is}
+use Rattle.dv_laws.proofs.Demanding.{demanded}
 use Rattle.dv_laws.proofs.CallsResolved.{IsNamed, is_named}
 use Rattle.std.proofs.lemmas.Bool.{eqb-true}
+use Rattle.std.proofs.lemmas.Option.{same_Some}
+use Rattle.dv_laws.proofs.Plain.{no}
 use Rattle.dv_laws.proofs.ReturnsConstructed.{receiver_demanded}
+use Rattle.dv_laws.proofs.MethodCode.{code_is}
 
 -- what a placed frame's instruction owes
 pub record Owes (image : Image) (T : Typings) (m : Method) (f : Frame) (x : At) (s : RegState) : Type 0 where
@@ -44,8 +46,8 @@ pub owes : (image : Image) (T : Typings) → Accepted image T → (heap : Heap) 
 owes image T a heap this f p x e =
     let k = a.typed.each f.method.0 f.at p.state p.has_state in
     let code : Code = k.0 in
-    let same : code.method ≡ p.method = some_same _ _ (sym (code_is image f.method.0 code k.2).method ∙ p.has_method) in
-    let at : k.1 ≡ x = some_same _ _ (sym k.3 ∙ e) in
+    let same : code.method ≡ p.method = same_Some _ _ (sym (code_is image f.method.0 code k.2).method ∙ p.has_method) in
+    let at : k.1 ≡ x = same_Some _ _ (sym k.3 ∙ e) in
     let here : Owes image T code.method f k.1 p.state = record { demand = k.4.ok; flows = k.4.flows } in
     subst (λ y. Owes image T p.method f y p.state) at (subst (λ z. Owes image T z f k.1 p.state) same here)
 
@@ -59,14 +61,14 @@ module _ (image : Image) (T : Typings) (a : Accepted image T) (heap : Heap) wher
 
   pub exactly_is : (o : Option ℕ) (c d : ℕ) → o ≡ Some c → is_exactly o d ≡ true → c ≡ d
   exactly_is None c d e q = no q
-  exactly_is (Some b) c d e q = sym (some_same b c e) ∙ eqb-true b d q
+  exactly_is (Some b) c d e q = sym (same_Some b c e) ∙ eqb-true b d q
 
   -- the receiver of a constructor's call, where the frames below have such too
   pub receiver_proper : (this : Option ℕ) (m : Method) (n : ℕ) (g : Method) → method_at image n ≡ Some g → is_constructor g ≡ true → ((o : ℕ) → this ≡ Some o → IsProperAt image heap o) → (x : Value) (t : RegType) → Conforms image heap (own_of image this m) x t → receiver_for image m g t ≡ None → (o : ℕ) → object_of x ≡ Some o → IsProperAt image heap o
   receiver_proper this m n g e k below (v.Uninit b p) (ty.Uninit d) c q o f = λ j w.
       let site : made_at image m d ≡ Some c.1.class = subst (λ z. made_at image m z ≡ Some c.1.class) c.0 c.1.is_site in
       let class : c.1.class ≡ g.info.class.0 = exactly_is (made_at image m d) c.1.class g.info.class.0 site (demanded _ _ q) in
-      let same : j ≡ kind.Object (record { 0 = c.1.class }) = some_same _ _ (sym w ∙ ap (kind_of heap) (sym (some_same _ _ f)) ∙ c.1.has_kind) in
+      let same : j ≡ kind.Object (record { 0 = c.1.class }) = same_Some _ _ (sym w ∙ ap (kind_of heap) (sym (same_Some _ _ f)) ∙ c.1.has_kind) in
       ap (is_proper image) same ∙ proper_class n c.1.class g e k class
   receiver_proper this m n g e k below (v.UninitThis p) ty.UninitThis c q o f = below o (c.is_own ∙ f)
   receiver_proper this m n g e k below x (ty.Uninit d) c q o f = absurd c
@@ -74,8 +76,8 @@ module _ (image : Image) (T : Typings) (a : Accepted image T) (heap : Heap) wher
   receiver_proper this m n g e k below x t c q o f = absurd (cc)
 
   receiver_kind : (this : Option ℕ) (m g : Method) (x : Value) (t : RegType) → Conforms image heap (own_of image this m) x t → receiver_for image m g t ≡ None → (o : ℕ) → object_of x ≡ Some o → (k : Kind) × (kind_of heap o ≡ Some k)
-  receiver_kind this m g (v.Uninit b p) (ty.Uninit d) c q o f = (_, ap (kind_of heap) (sym (some_same _ _ f)) ∙ c.1.has_kind)
-  receiver_kind this m g (v.UninitThis p) ty.UninitThis c q o f = (_, ap (kind_of heap) (sym (some_same _ _ f)) ∙ c.has_kind)
+  receiver_kind this m g (v.Uninit b p) (ty.Uninit d) c q o f = (_, ap (kind_of heap) (sym (same_Some _ _ f)) ∙ c.1.has_kind)
+  receiver_kind this m g (v.UninitThis p) ty.UninitThis c q o f = (_, ap (kind_of heap) (sym (same_Some _ _ f)) ∙ c.has_kind)
   receiver_kind this m g x (ty.Uninit d) c q o f = absurd c
   receiver_kind this m g x ty.UninitThis c q o f = absurd c
   receiver_kind this m g x t c q o f = absurd (cc)
@@ -125,7 +127,7 @@ module _ (image : Image) (T : Typings) (a : Accepted image T) (heap : Heap) wher
   -- the receiver's object is initialised once its constructor returned
   pub built : (this : Option ℕ) (m : Method) (n : ℕ) (g : Method) → method_at image n ≡ Some g → is_constructor g ≡ true → ((o : ℕ) → this ≡ Some o → IsProperAt image heap o) → (x : Value) (t : RegType) → Conforms image heap (own_of image this m) x t → receiver_for image m g t ≡ None → IsBuilt image heap m x
   built this m n g e k below (v.Uninit b p) (ty.Uninit d) c q = λ class site.
-      let same : c.1.class ≡ class = some_same _ _ (sym c.1.is_site ∙ site) in
+      let same : c.1.class ≡ class = same_Some _ _ (sym c.1.is_site ∙ site) in
       let fine = receiver_proper this m n g e k below (v.Uninit b p) (ty.Uninit d) c q p refl in
       record {
         object = record { kind = kind.Object (record { 0 = c.1.class }); has_kind = c.1.has_kind; proper = fine _ c.1.has_kind };

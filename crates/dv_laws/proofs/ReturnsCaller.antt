@@ -2,6 +2,7 @@
 use Rattle.std.proofs.Common.{◌≡◌, ℕ, List, [], ◌∷◌, true, false, Option, Some, None, sym, ap, ◌∙◌, subst}
 use Rattle.std.specs.Prelude.{All}
 use Rattle.std.proofs.lemmas.List.Elements.{All-cons, All-head, All-tail}
+use Rattle.std.proofs.lemmas.Option.{same_Some}
 use Rattle.dv_defs.specs.declared.names.Ty.{Ty}
 use Rattle.dv_defs.specs.declared.names.Proto.{Proto}
 use Rattle.dv_defs.specs.declared.image.Image.{Image}
@@ -28,7 +29,6 @@ use Rattle.dv_machine.specs.WellTyped.{Typings, own_of, this_above, BelowCode, I
 use Rattle.dv_machine.specs.Premises.{LeftFine}
 use Rattle.dv_laws.specs.Returning.{IsBuilt, IsBack}
 use Rattle.dv_laws.proofs.OrderStates.{frame_up}
-use Rattle.dv_laws.proofs.CallsEntered.{some_same}
 use Rattle.dv_laws.proofs.CallsResolved.{is_named}
 use Rattle.dv_laws.proofs.LocalStill.{still, same_shared, IsQuiet}
 use Rattle.dv_laws.proofs.LocalStands.{Stands, rest_refs, rest_lowest, same_lowest}
@@ -67,7 +67,7 @@ module _ (image : Image) (T : Typings) (m : Machine) (t : ℕ) (thread : Thread)
       of_receiver op [] i d e k q = absurd (no_receiver image caller.method caller.state called.call called.callee e (subst (λ z. demands image caller.method z caller.state ≡ None) i d))
       of_receiver op (j ∷ js) i d e k q =
           let there : receiver_of (Invoke called.call (j ∷ js) called.callee) ≡ Some j = ap (λ z. elim z as (λ w. Option ℕ) [ true ↦ None | false ↦ Some j ]) (not_static called.callee e) in
-          let same : j ≡ k = some_same j k (sym there ∙ ap receiver_of (sym i) ∙ q) in
+          let same : j ≡ k = same_Some j k (sym there ∙ ap receiver_of (sym i) ∙ q) in
           subst (λ z. P (reg_at g.regs z)) same
           (each (reg_at g.regs j) (type_at caller.state.regs j) (caller.conform.good.regs j)
           (receiver_demanded image caller.method caller.state called.call j js called.callee e (subst (λ z. demands image caller.method z caller.state ≡ None) i d)) e)

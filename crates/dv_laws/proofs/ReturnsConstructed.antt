@@ -1,5 +1,6 @@
 -- The caller's frame after a return.
 use Rattle.std.proofs.Common.{◌≡◌, ℕ, List, [], ◌∷◌, Bool, true, false, Option, Some, None, refl, sym, ap, ◌∙◌, subst}
+use Rattle.std.proofs.lemmas.Bool.{and_parts, not-true}
 use Rattle.std.specs.Prelude.{map, not, bytes_eq}
 use Rattle.dv_defs.specs.declared.image.Image.{Image}
 use Rattle.dv_defs.specs.declared.run.Value.{Value}
@@ -23,12 +24,13 @@ use Rattle.dv_machine.specs.Calls.{receiver_of, constructed, returned, initialis
 use Rattle.dv_machine.specs.Conforming.{Own, Conforms, IsGood, ResultConforms, Conform}
 use Rattle.dv_machine.specs.WellTyped.{own_of}
 use Rattle.dv_laws.specs.Returning.{IsBuilt, ReturnedConforms}
-use Rattle.dv_laws.proofs.Demanding.{no, first_none, both_true, not_true}
+use Rattle.dv_laws.proofs.Plain.{no}
+use Rattle.dv_laws.proofs.Demanding.{first_none}
 use Rattle.dv_laws.proofs.RegistersMade.{made_good, own_good}
 
 -- a constructor is an instance method
 pub not_static : (g : Method) → is_constructor g ≡ true → is_static g ≡ false
-not_static g e = not_true _ (both_true (not (is_static g)) (bytes_eq g.def.name init_name) e).0
+not_static g e = not-true _ (and_parts (not (is_static g)) (bytes_eq g.def.name init_name) e).0
 
 module _ (image : Image) (heap : Heap) (this : Option ℕ) (m : Method) (f : Frame) (s : RegState) (h : Conform image heap (own_of image this m) f s) (g : Method) (k next : ℕ) (p : Pending) (r : ResultConforms image heap (own_of image this m) p (pending_of g.def.proto.ret)) where
   abbrev own : Own

@@ -2,6 +2,7 @@
 use Rattle.std.proofs.Common.{◌≡◌, ℕ, List, [], ◌∷◌, Bool, true, false, Option, Some, None, refl, sym, ap, ◌∙◌, subst}
 use Rattle.std.specs.Prelude.{All, ◌&&◌, not}
 use Rattle.std.proofs.lemmas.List.Elements.{All-nil, All-head}
+use Rattle.std.proofs.lemmas.Bool.{and_parts}
 use Rattle.dv_defs.specs.declared.names.Ty.{Ty}
 use Rattle.dv_defs.specs.declared.image.Image.{Image}
 use Rattle.dv_defs.specs.declared.run.Value.{Value}
@@ -28,7 +29,8 @@ use Rattle.dv_machine.specs.WellTyped.{Typings, own_of, this_above, StackFine, r
 use Rattle.dv_machine.specs.Premises.{DidFine}
 use Rattle.dv_machine.specs.StepLaws.{ReturnsPop}
 use Rattle.dv_laws.specs.Reading.{AreWords}
-use Rattle.dv_laws.proofs.Demanding.{no, first_none, demanded, both_true}
+use Rattle.dv_laws.proofs.Plain.{no}
+use Rattle.dv_laws.proofs.Demanding.{first_none, demanded}
 use Rattle.dv_laws.proofs.ReadersWords.{reads_value, words_pend}
 use Rattle.dv_laws.proofs.LocalStill.{still, IsQuiet}
 use Rattle.dv_laws.proofs.LocalStands.{Stands, stands, rest_refs, rest_lowest}
@@ -92,7 +94,7 @@ module _ (image : Image) (T : Typings) (m : Machine) (t : ℕ) (thread : Thread)
         let g = first_none (demand (not s.this_pending) 12) (value_returned image s.regs a ret) e.1 in
         let form = demanded (not (is_void ret) && same_width w (form_of ret)) 13 e.0 in
         subst (λ b. DidFine image T m t thread x (elim b as (λ w. Did Left) [ true ↦ unless_pending here_it (return_value here_it a ret) | false ↦ IsStuck why.Result ])) (sym form)
-        (unless_fine (return_value here_it a ret) g.0 (value_fine a ret refl (both_true (not (is_void ret)) (same_width w (form_of ret)) form).0 g.1))
+        (unless_fine (return_value here_it a ret) g.0 (value_fine a ret refl (and_parts (not (is_void ret)) (same_width w (form_of ret)) form).0 g.1))
 
     return_fine : (op : Op) → is_return op ≡ true → demands image own op s ≡ None → DidFine image T m t thread x (act here_it op)
     return_fine ReturnVoid e d = void_fine d

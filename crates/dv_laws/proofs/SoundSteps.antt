@@ -2,6 +2,7 @@
 use Rattle.std.proofs.Common.{◌≡◌, ◌⊎◌, inl, inr, ℕ, List, [], ◌∷◌, true, false, Option, Some, None, refl, sym, ◌∙◌, subst}
 use Rattle.std.specs.Prelude.{slice_get}
 use Rattle.std.proofs.lemmas.Bool.{cases_Bool}
+use Rattle.std.proofs.lemmas.Option.{same_Some}
 use Rattle.dv_defs.specs.declared.image.Image.{Image}
 use Rattle.dv_defs.specs.declared.machine.Frame.{Frame}
 use Rattle.dv_defs.specs.declared.machine.Level.{Level}
@@ -17,8 +18,6 @@ use Rattle.dv_machine.specs.Step.{act, here, no_method, no_frame, step_of, step_
 use Rattle.dv_machine.specs.WellTyped.{Typings, BelowCode, StackFine, ThreadFine, WellTyped}
 use Rattle.dv_machine.specs.Premises.{MayStep, IsAt, IsAtRecord, DidFine, HoldsOf}
 use Rattle.dv_machine.specs.StepLaws.{IsInvoke, is_of_calls_or_monitors, StepsAreSound}
-use Rattle.dv_laws.proofs.GrowthLists.{same_some}
-use Rattle.dv_laws.proofs.CallsEntered.{code_is}
 use Rattle.dv_laws.proofs.CallsPush.{invokes_push}
 use Rattle.dv_laws.proofs.ReturnsFine.{returns_pop}
 use Rattle.dv_laws.proofs.HeapSteps.{heap_steps_are_fine}
@@ -28,6 +27,7 @@ use Rattle.dv_laws.proofs.RecordsFine.{rest_fine, records_are_fine}
 use Rattle.dv_laws.proofs.RecordsNeeded.{needs_are_fine}
 use Rattle.dv_laws.proofs.FlightFlown.{settled_is_well_typed, settled_record_is_well_typed}
 use Rattle.dv_laws.proofs.FlightRecords.{flights_are_fine}
+use Rattle.dv_laws.proofs.MethodCode.{code_is}
 
 -- the sorts of operations, each with a law of its own
 IsMonitor : Op → Type 0
@@ -72,7 +72,7 @@ module _ (image : Image) (T : Typings) (m : Machine) (t : ℕ) (thread : Thread)
   code_step f ls living levels k =
       let p = k.1 in
       let e = may.accepted.typed.each f.method.0 f.at p.state p.has_state in
-      let same : k.0.frame.code.method ≡ p.method = same_some _ _ (sym (code_is image f.method.0 k.0.frame.code k.0.frame.has_code).method ∙ p.has_method) in
+      let same : k.0.frame.code.method ≡ p.method = same_Some _ _ (sym (code_is image f.method.0 k.0.frame.code k.0.frame.has_code).method ∙ p.has_method) in
       let i : IsAt image T m t thread (here image m t p.method f ls e.1.next) e.1 p.state = record {
         may = may;
         has_thread = has;

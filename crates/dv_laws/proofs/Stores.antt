@@ -3,7 +3,7 @@ use Rattle.std.proofs.Common.{◌≡◌, ◌≢◌, ◌⊎◌, inl, inr, ℕ, ze
 use Rattle.std.specs.Prelude.{slice_set, slice_index_or}
 use Rattle.std.proofs.lemmas.Bool.{cases_eq, cases_lt}
 use Rattle.std.proofs.lemmas.List.{length-set, get_or-set_same, get_or-set_other, set_past}
-use Rattle.std.proofs.lemmas.Option.{slice_get_within}
+use Rattle.std.proofs.lemmas.Option.{slice_get_within, same_Some}
 use Rattle.dv_defs.specs.declared.image.Image.{Image}
 use Rattle.dv_defs.specs.declared.run.Value.{Value}
 use Rattle.dv_defs.specs.declared.run.Value.TheVariants as v
@@ -15,7 +15,6 @@ use Rattle.dv_machine.specs.State.{reg_at}
 use Rattle.dv_machine.specs.Conforming.{Conforms}
 use Rattle.dv_machine.specs.WellTyped.{nobody, cell_types, CellsFit}
 use Rattle.dv_machine.specs.StepLaws.{StoreKeeps, StaticStoreKeeps}
-use Rattle.dv_laws.proofs.GrowthLists.{same_some}
 use Rattle.dv_laws.proofs.HeapCells.{same_cell_types, fit_grown, fit_same}
 
 -- one cell of some takes a value that fits it
@@ -49,7 +48,7 @@ store_keeps image heap (suc o) k kind x fine has c = (record { count = length-se
     object : (p : ℕ) (y : Kind) → kind_of heap (suc p) ≡ Some y → (p ≡ o) ⊎ (p ≢ o) → CellsFit image (with_cell heap (suc o) k x) (cells_at (with_cell heap (suc o) k x) (suc p)) (cell_types image (length_of (with_cell heap (suc o) k x) (suc p)) y)
     object p y e (inr d) = fit_same image (with_cell heap (suc o) k x) _ _ _ _ (sym (other_cells p d)) (same_cell_types image heap (with_cell heap (suc o) k x) (suc p) (suc p) y e e (ap length (sym (other_cells p d)))) (fit_grown image heap (with_cell heap (suc o) k x) _ _ (λ p z q. q) (fine.objects p y e))
     object p y e (inl s) =
-        let same : kind ≡ y = same_some kind y (sym has ∙ ap (λ (n : ℕ). kind_of heap (suc n)) (sym s) ∙ e) in
+        let same : kind ≡ y = same_Some kind y (sym has ∙ ap (λ (n : ℕ). kind_of heap (suc n)) (sym s) ∙ e) in
         subst (λ (n : ℕ). CellsFit image (with_cell heap (suc o) k x) (cells_at (with_cell heap (suc o) k x) (suc n)) (cell_types image (length_of (with_cell heap (suc o) k x) (suc n)) y)) (sym s) (subst (λ (z : Kind). CellsFit image (with_cell heap (suc o) k x) (cells_at (with_cell heap (suc o) k x) (suc o)) (cell_types image (length_of (with_cell heap (suc o) k x) (suc o)) z)) same own)
 
 pub static_store_keeps : StaticStoreKeeps
@@ -62,6 +61,6 @@ static_store_keeps image heap n k f x fine has c = (record { count = fine.count;
     static : (m : ℕ) (g : Field) → field_at image m ≡ Some g → is_static_field g ≡ true → (m ≡ n) ⊎ (m ≢ n) → (n < length heap.statics) ⊎ (length heap.statics ≤ n) → CellsFit image (with_static heap n k x) (slice_index_or (with_static heap n k x).statics m []) (reg_types g.def.ty)
     static m g e s (inr d) l = fit_same image (with_static heap n k x) _ _ _ _ (sym (get_or-set_other heap.statics n m (slice_set (slice_index_or heap.statics n []) k x) [] d)) refl (fit_grown image heap (with_static heap n k x) _ _ (λ p z q. q) (fine.statics m g e s))
     static m g e s (inl i) l =
-        let same : f ≡ g = same_some f g (sym has ∙ ap (field_at image) (sym i) ∙ e) in
+        let same : f ≡ g = same_Some f g (sym has ∙ ap (field_at image) (sym i) ∙ e) in
         let is : is_static_field f ≡ true = ap is_static_field same ∙ s in
         subst (λ (j : ℕ). CellsFit image (with_static heap n k x) (slice_index_or (with_static heap n k x).statics j []) (reg_types g.def.ty)) (sym i) (subst (λ (h : Field). CellsFit image (with_static heap n k x) (slice_index_or (with_static heap n k x).statics n []) (reg_types h.def.ty)) same (own is l))
