@@ -38,10 +38,9 @@ use Rattle.std.proofs.lemmas.Option.{same_Some, none-some}
 use Rattle.dv_laws.proofs.Plain.{no, fits_of}
 use Rattle.dv_laws.proofs.ReturnsConstructed.{receiver_demanded, not_static}
 use Rattle.dv_laws.proofs.ReturnsBuilt.{IsProperAt, receiver_proper, receiver_there, this_proper, exactly_is}
-use Rattle.dv_laws.proofs.LocalFine.{read_did}
 use Rattle.dv_laws.proofs.ReadersWords.{reads_arguments, cons_good, this_good}
 use Rattle.dv_laws.proofs.LocalStill.{IsQuiet}
-use Rattle.dv_laws.proofs.LocalStands.{Stands}
+use Rattle.dv_laws.proofs.LocalStands.{Stands, read_then}
 use Rattle.dv_laws.proofs.OrderEqual.{names_are}
 use Rattle.dv_laws.proofs.CallsClasses.{parent_sub}
 use Rattle.dv_laws.proofs.CallsWords.{constructor_types, instance_types, begins_by_class, all_plain}
@@ -184,8 +183,8 @@ module _ (image : Image) (T : Typings) (m : Machine) (t : ℕ) (thread : Thread)
   pub constructor_fine : DidFine image T m t thread x (call_constructor here_it g value js)
   constructor_fine =
       let own_it = own_of image (this_above image rest) own in
-      read_did image T m t thread own f rest x s h (λ o. (object_of value ≡ Some o) × IsUnder image heap (own_type image g) o) (read_new image heap own g value) _
+      read_then image T m t thread x (λ o. (object_of value ≡ Some o) × IsUnder image heap (own_type image g) o) (read_new image heap own g value) _
       (new_holds image T h.may.accepted heap own g (f.method.0, h.has_own) (this_above image rest) value (type_at s.regs k) (h.conform.good.regs k) receiver_ok)
-      (λ o z. read_did image T m t thread own f rest x s h (λ ys. AreWords image heap ys (all_types g.def.proto.params)) (read_args image heap f.regs g.def.proto.params js) _
+      (λ o z. read_then image T m t thread x (λ ys. AreWords image heap ys (all_types g.def.proto.params)) (read_args image heap f.regs g.def.proto.params js) _
       (reads_arguments image heap own_it f.regs s.regs g.def.proto.params js h.may.accepted.order h.conform.good.regs args_ok)
       (λ ys w. construct_fine o z.0 z.1 ys w))

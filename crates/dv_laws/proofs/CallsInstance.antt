@@ -36,11 +36,10 @@ use Rattle.dv_laws.proofs.Plain.{no}
 use Rattle.dv_laws.proofs.Demanding.{first_none, first_rule}
 use Rattle.dv_laws.proofs.CallsResolved.{is_named}
 use Rattle.dv_laws.proofs.ReturnsBuilt.{invoke_named}
-use Rattle.dv_laws.proofs.LocalFine.{read_did}
 use Rattle.dv_laws.proofs.ReadersPlain.{reads_reference_to, holds_more}
 use Rattle.dv_laws.proofs.ReadersWords.{IsWord, reads_arguments}
 use Rattle.dv_laws.proofs.LocalStill.{IsQuiet}
-use Rattle.dv_laws.proofs.LocalStands.{Stands}
+use Rattle.dv_laws.proofs.LocalStands.{Stands, read_then}
 use Rattle.dv_laws.proofs.CallsWords.{static_types, instance_types, begins_plain, words_cons, both_hold, read_number, number_is}
 use Rattle.dv_laws.proofs.CallsDispatched.{IsLanding, landing, named_otherwise, of_instance, same_lands}
 use Rattle.dv_laws.proofs.CallsInvoked.{receiver_is, no_receiver_of, WaitsAt, quiet_at, throws, NativesDo, landed_fine, called_fine}
@@ -113,7 +112,7 @@ module _ (image : Image) (T : Typings) (m : Machine) (t : ℕ) (thread : Thread)
 
     pub static_fine : NativesDo image T m t thread own f rest x s h c ks g e → DidFine image T m t thread x (invoke here_it (native_step here_it) c ks g)
     static_fine natives = subst (λ b. DidFine image T m t thread x (elim b as (λ w. Did Left) [ true ↦ reading (read_args image heap f.regs g.def.proto.params ks) (landed here_it (native_step here_it) (unless_abstract g)) | false ↦ with_receiver here_it (native_step here_it) c g ks ])) (sym static)
-        (read_did image T m t thread own f rest x s h (λ ys. AreWords image heap ys (all_types g.def.proto.params)) (read_args image heap f.regs g.def.proto.params ks) _
+        (read_then image T m t thread x (λ ys. AreWords image heap ys (all_types g.def.proto.params)) (read_args image heap f.regs g.def.proto.params ks) _
         (reads_arguments image heap (own_of image (this_above image rest) own) f.regs s.regs g.def.proto.params ks h.may.accepted.order h.conform.good.regs static_demand)
         (static_lands natives))
 
@@ -212,9 +211,9 @@ module _ (image : Image) (T : Typings) (m : Machine) (t : ℕ) (thread : Thread)
         let b = first_none (ref_to image s.regs k (own_type image g)) (super_for image own s.regs k c) a.0 in
         let own_it = own_of image (this_above image rest) own in
         let r = reads_reference_to image heap own_it f.regs s.regs k (own_type image g) h.may.accepted.order h.conform.good.regs b.0 in
-        read_did image T m t thread own f rest x s h (λ o. (object_number value ≡ o) × Fits image heap o (own_type image g)) (read_ref image heap (own_type image g) value) _
+        read_then image T m t thread x (λ o. (object_number value ≡ o) × Fits image heap o (own_type image g)) (read_ref image heap (own_type image g) value) _
         (both_hold (λ o. object_number value ≡ o) (λ o. Fits image heap o (own_type image g)) (read_ref image heap (own_type image g) value) (read_number image heap (own_type image g) (λ o. Fits image heap o (own_type image g)) value r) r)
-        (λ o z. read_did image T m t thread own f rest x s h (IsSuperRead c) (read_super here_it c value) _ (super_read c b.1)
-        (λ p u. read_did image T m t thread own f rest x s h (λ ys. AreWords image heap ys (all_types g.def.proto.params)) (read_args image heap f.regs g.def.proto.params js) _
+        (λ o z. read_then image T m t thread x (IsSuperRead c) (read_super here_it c value) _ (super_read c b.1)
+        (λ p u. read_then image T m t thread x (λ ys. AreWords image heap ys (all_types g.def.proto.params)) (read_args image heap f.regs g.def.proto.params js) _
         (reads_arguments image heap own_it f.regs s.regs g.def.proto.params js h.may.accepted.order h.conform.good.regs a.1)
         (λ ys w. object_fine natives ys w o z.0 z.1 p u)))

@@ -35,12 +35,12 @@ use Rattle.dv_machine.specs.WellTyped.{Typings, own_of, this_above, nobody}
 use Rattle.dv_machine.specs.Premises.{ThrowFine, DidFine, HoldsOf}
 use Rattle.dv_laws.specs.Reading.{Anything, IsArrayOf, IsArrayOrNull, GoesDown}
 use Rattle.dv_laws.proofs.Plain.{no}
-use Rattle.dv_laws.proofs.HeapStepsLeft.{read_then, put_left}
+use Rattle.dv_laws.proofs.HeapStepsLeft.{put_left}
 use Rattle.dv_laws.proofs.HeapStepsPlain.{demand_of, out_of, throws}
 use Rattle.dv_laws.proofs.HeapStepsCells.{cell_ref, words_at_is}
 use Rattle.dv_laws.proofs.HeapStepsElements.{element_at, primitive_plain, primitive_short, reference_short, short_types, int_type, class_type}
 use Rattle.dv_laws.proofs.HeapStepsFields.{conform_within, words_left}
-use Rattle.dv_laws.proofs.LocalStands.{Stands}
+use Rattle.dv_laws.proofs.LocalStands.{Stands, read_then}
 use Rattle.dv_laws.proofs.ReadersPlain.{reads_int, holds_more}
 use Rattle.dv_laws.proofs.ReadersArrays.{reads_array, tests_go_down}
 use Rattle.dv_laws.proofs.Demanding.{first_none, demanded}

@@ -19,6 +19,7 @@ use Rattle.dv_machine.specs.Mem.{words_at, narrowed, narrowed_all, stored, stati
 use Rattle.dv_machine.specs.Conforming.{Own, Fits, IsThere, Conforms, IsUninit, RefFine}
 use Rattle.dv_machine.specs.WellTyped.{nobody, cell_types, HeapFine}
 use Rattle.dv_machine.specs.Premises.{KeepsKinds}
+use Rattle.dv_laws.proofs.Plain.{plus_zero, plus_suc}
 use Rattle.dv_laws.proofs.GrowthKinds.{conforms_grown}
 use Rattle.dv_laws.proofs.HeapCells.{IsCell, AreCells, same_cell_types}
 use Rattle.dv_laws.proofs.Stores.{store_keeps, static_store_keeps}
@@ -94,12 +95,6 @@ module _ (image : Image) where
       let rest = stored_fine (with_cell heap o at y) o k (suc at) ys first.0 (first.1 o k has) (λ j l. subst (λ (ts : Types). Conforms image (with_cell heap o at y) nobody (reg_at ys j) (type_at ts (suc at + j))) same (subst (λ (i : ℕ). Conforms image (with_cell heap o at y) nobody (reg_at ys j) (type_at (cell_types image (length_of heap o) k) i)) (plus_suc at j) (conforms_grown image heap (with_cell heap o at y) first.1 nobody _ _ (c (suc j) (omega (arith, l)))))) in
       (rest.0, λ p q e. rest.1 p q (first.1 p q e))
     where
-      plus_zero : (n : ℕ) → n + 0 ≡ n
-      plus_zero n = omega arith
-
-      plus_suc : (n m : ℕ) → n + suc m ≡ suc n + m
-      plus_suc n m = omega arith
-
       count : (heap : Heap) (o at : ℕ) (y : Value) (k : Kind) → HeapFine image heap → kind_of heap o ≡ Some k → length (cells_at heap o) ≡ length (cells_at (with_cell heap o at y) o)
       count heap zero at y k fine has = absurd (cc)
       count heap (suc o) at y k fine has = sym (ap length (get_or-set_same heap.cells o (slice_set (cells_at heap (suc o)) at y) [] (omega (arith, slice_get_within heap.kinds o k has, fine.count))) ∙ length-set (cells_at heap (suc o)) at y)
@@ -111,19 +106,10 @@ module _ (image : Image) where
       let first = static_store_keeps image heap n at x y fine has here in
       let rest = static_stored_fine (with_static heap n at y) n x (suc at) ys first.0 has (λ j l. subst (λ (i : ℕ). Conforms image (with_static heap n at y) nobody (reg_at ys j) (type_at (reg_types x.def.ty) i)) (plus_suc at j) (conforms_grown image heap (with_static heap n at y) first.1 nobody _ _ (c (suc j) (omega (arith, l))))) in
       (rest.0, λ p q e. rest.1 p q (first.1 p q e))
-    where
-      plus_zero : (n : ℕ) → n + 0 ≡ n
-      plus_zero n = omega arith
-
-      plus_suc : (n m : ℕ) → n + suc m ≡ suc n + m
-      plus_suc n m = omega arith
 
 -- the words of one field or element, by their places
 pub words_at_is : (heap : Heap) (o p : ℕ) (t : Ty) → (elim (is_long t) as (λ w. List Value) [ true ↦ reg_at (cells_at heap o) (p + 0) ∷ reg_at (cells_at heap o) (p + 1) ∷ [] | false ↦ reg_at (cells_at heap o) (p + 0) ∷ [] ]) ≡ words_at heap o p t
-words_at_is heap o p t = ap (λ (q : ℕ). elim (is_long t) as (λ w. List Value) [ true ↦ cell_at heap o q ∷ cell_at heap o (p + 1) ∷ [] | false ↦ cell_at heap o q ∷ [] ]) (zero_at p) ∙ ap (λ (q : ℕ). elim (is_long t) as (λ w. List Value) [ true ↦ cell_at heap o p ∷ cell_at heap o q ∷ [] | false ↦ cell_at heap o p ∷ [] ]) (one_at p)
+words_at_is heap o p t = ap (λ (q : ℕ). elim (is_long t) as (λ w. List Value) [ true ↦ cell_at heap o q ∷ cell_at heap o (p + 1) ∷ [] | false ↦ cell_at heap o q ∷ [] ]) (plus_zero p) ∙ ap (λ (q : ℕ). elim (is_long t) as (λ w. List Value) [ true ↦ cell_at heap o p ∷ cell_at heap o q ∷ [] | false ↦ cell_at heap o p ∷ [] ]) (one_at p)
   where
-    zero_at : (k : ℕ) → k + 0 ≡ k
-    zero_at k = omega arith
-
     one_at : (k : ℕ) → k + 1 ≡ suc k
     one_at k = omega arith

@@ -1,5 +1,5 @@
 -- The instructions that write arrays are fine.
-use Rattle.std.proofs.Common.{◌≡◌, ◌⊎◌, inl, inr, ℕ, zero, suc, ◌+◌, ◌*◌, ◌<◌, List, [], ◌∷◌, ◌++◌, length, true, false, Some, None, refl, sym, ap, ◌∙◌, subst, arith}
+use Rattle.std.proofs.Common.{◌≡◌, ◌⊎◌, inl, inr, ℕ, zero, suc, ◌*◌, ◌<◌, List, [], ◌∷◌, ◌++◌, length, true, false, Some, None, refl, sym, ap, ◌∙◌, subst}
 use Rattle.std.specs.Prelude.{ℤ, nat_le}
 use Rattle.std.proofs.lemmas.Bool.{and_parts, or_cases, leb-true}
 use Rattle.dv_defs.specs.declared.names.Base.{Base}
@@ -33,17 +33,17 @@ use Rattle.dv_machine.specs.WellTyped.{Typings, own_of, this_above, nobody, elem
 use Rattle.dv_machine.specs.Premises.{KeepsKinds, ThrowFine, DidFine, HoldsOf}
 use Rattle.dv_machine.specs.StepLaws.{IsAdded}
 use Rattle.dv_laws.specs.Reading.{Anything}
-use Rattle.dv_laws.proofs.Plain.{fits_of}
+use Rattle.dv_laws.proofs.Plain.{fits_of, zero_plus}
 use Rattle.dv_laws.proofs.GrowthKinds.{conforms_grown}
 use Rattle.dv_laws.proofs.HeapAdded.{array_is_added}
-use Rattle.dv_laws.proofs.HeapStepsLeft.{read_then, room_then, true_then, result_left}
+use Rattle.dv_laws.proofs.HeapStepsLeft.{room_then, true_then, result_left}
 use Rattle.dv_laws.proofs.HeapStepsPlain.{demand_of, out_of, throws, array_of}
 use Rattle.dv_laws.proofs.HeapStepsCells.{stored_fine}
 use Rattle.dv_laws.proofs.HeapStepsElements.{primitive_plain, primitive_short, reference_short, short_types, int_type, class_type, fill_plain, filled_conforms}
 use Rattle.dv_laws.proofs.HeapStepsArrays.{IsKnown, known_array, index_then, component_is}
 use Rattle.dv_laws.proofs.HeapStepsStores.{IsPut, put_holds, cells_left, short_left, long_left, storable}
 use Rattle.dv_laws.proofs.FlightRises.{object_there}
-use Rattle.dv_laws.proofs.LocalStands.{Stands}
+use Rattle.dv_laws.proofs.LocalStands.{Stands, read_then}
 use Rattle.dv_laws.proofs.ReadersPlain.{next_holds, reads_int}
 use Rattle.dv_laws.proofs.ReadersWords.{IsWord, AreWordsOf, words, single_holds}
 use Rattle.dv_laws.proofs.ReadersArrays.{tests_go_down}
@@ -89,9 +89,6 @@ module _ (image : Image) (T : Typings) (m : Machine) (t : ℕ) (thread : Thread)
       throwing : ThrowFine m t x
       throwing = throws image T m t thread own f rest x s h code rules apart (Fill a n ns) e refl
 
-      zero_plus : (k : ℕ) → k ≡ 0 + k
-      zero_plus k = omega arith
-
       go : (o : ℕ) → IsKnown image T m t thread own f rest x s h code rules apart (is_fill_type n) a o → DidFine image T m t thread x (on_object (fill (here image m t own f rest x.next) ns) o)
       go zero i = throwing
       go (suc o) i = true_then image T m t thread x (nat_le (length ns) (length_of m.shared.heap (suc o))) named.ArrayIndex _ throwing (λ q. subst (λ (c : Ty). DidFine image T m t thread x (onward (here image m t own f rest x.next) (with_heap m.shared (stored m.shared.heap (suc o) 0 (filled c ns))) (gone f x.next f.regs))) (sym (component_is image T m t thread own f rest x s h code rules apart (suc o) i.2.type i.2.has_kind)) (cells_left image T m t thread own f rest x s h code rules apart o i.2.type i.2.has_kind (ap goes_on e) (out_of image T m t thread own f rest x s h code rules apart (Fill a n ns) e) (component i.2.type) 0 (filled (component i.2.type) ns) refl (λ j l. subst (λ (k : ℕ). Conforms image m.shared.heap nobody (reg_at (filled (component i.2.type) ns) j) (type_at (element_types (length_of m.shared.heap (suc o)) (component i.2.type)) k)) (zero_plus j) (filled_conforms image m.shared.heap (component i.2.type) (fill_plain n (component i.2.type) i.2.takes) ns (length_of m.shared.heap (suc o)) (leb-true (length ns) (length_of m.shared.heap (suc o)) q) j l))))
@@ -119,9 +116,6 @@ module _ (image : Image) (T : Typings) (m : Machine) (t : ℕ) (thread : Thread)
     made_left : (ys : List Value) (after : Heap) → AreWordsOf image m.shared.heap ys (element_types (length rs) (component u)) → IsAdded image m.shared.heap after (newest after) (kind.Array u) × (length_of after (newest after) ≡ length rs) → DidFine image T m t thread x (filled_array (here image m t own f rest x.next) ys after)
     made_left ys after w r = result_left image T m t thread own f rest x s h apart (ap goes_on e) (stored after (newest after) 0 ys) (λ o k q. st.1 o k (r.0.keeps o k q)) st.0 (pending.One (v.Ref (newest after))) (pend.One (ty.Class u)) (out_of image T m t thread own f rest x s h code rules apart (Filled rs u) e) (fits_of image (stored after (newest after) 0 ys) (newest after) u array) (object_there image (stored after (newest after) 0 ys) (newest after) array.object)
       where
-        zero_plus : (k : ℕ) → k ≡ 0 + k
-        zero_plus k = omega arith
-
         st : HeapFine image (stored after (newest after) 0 ys) × KeepsKinds after (stored after (newest after) 0 ys)
         st = stored_fine image after (newest after) (kind.Array u) 0 ys r.0.fine r.0.made (λ j l. subst (λ (k : ℕ). Conforms image after nobody (reg_at ys j) (type_at (element_types (length_of after (newest after)) (component u)) k)) (zero_plus j) (subst (λ (n : ℕ). Conforms image after nobody (reg_at ys j) (type_at (element_types n (component u)) j)) (sym r.1) (conforms_grown image m.shared.heap after r.0.keeps nobody (reg_at ys j) (type_at (element_types (length rs) (component u)) j) (((words image m.shared.heap ys (element_types (length rs) (component u)) w).good nobody).regs j))))
 

@@ -1,6 +1,6 @@
 -- What a step that may change the heap leaves is in order, by its registers and pending result.
 use Rattle.std.proofs.Common.{◌≡◌, ℕ, zero, suc, List, [], ◌∷◌, length, Bool, true, false, Option, Some, None, refl, ap, ◌∙◌, subst, arith}
-use Rattle.std.specs.Prelude.{slice_set, All, Ok, Err}
+use Rattle.std.specs.Prelude.{slice_set, All}
 use Rattle.std.proofs.lemmas.List.{length-set}
 use Rattle.std.proofs.lemmas.List.Elements.{All-cons, All-set, All-head}
 use Rattle.dv_defs.specs.declared.image.Image.{Image}
@@ -26,11 +26,11 @@ use Rattle.dv_defs.specs.Transfer.{out, going, with_result, write_type, write_lo
 use Rattle.dv_defs.specs.Flow.{Leads, jumps}
 use Rattle.dv_defs.specs.Heap.{Heap}
 use Rattle.dv_defs.specs.Monitors.{entry_of}
-use Rattle.dv_machine.specs.State.{Thread, Machine, Left, Did, Reads, reading, where_room, where_true, with_heap}
+use Rattle.dv_machine.specs.State.{Thread, Machine, Left, Did, where_room, where_true, with_heap}
 use Rattle.dv_machine.specs.Mem.{on_object}
 use Rattle.dv_machine.specs.Conforming.{IsGood, RefFine, ResultFine, RefsFine, ResultConforms}
 use Rattle.dv_machine.specs.WellTyped.{Typings, own_of, this_above, HeapFine, records}
-use Rattle.dv_machine.specs.Premises.{KeepsKinds, LeftFine, ThrowFine, DidFine, HoldsOf}
+use Rattle.dv_machine.specs.Premises.{KeepsKinds, LeftFine, ThrowFine, DidFine}
 use Rattle.dv_machine.specs.StepLaws.{IsFrom}
 use Rattle.dv_laws.proofs.Plain.{nothing}
 use Rattle.dv_laws.proofs.GrowthKinds.{good_grown, refs_grown, all_refs_grown, stack_grown}
@@ -46,10 +46,6 @@ use Rattle.dv_laws.proofs.LocalFine.{quiet}
 -- ---- outcomes of the parts of a step
 
 module _ (image : Image) (T : Typings) (m : Machine) (t : ℕ) (thread : Thread) (x : At) where
-  pub read_then : {A : Type 0} (P : A → Type 0) (r : Reads A) (go : A → Did Left) → HoldsOf P r → ((y : A) → P y → DidFine image T m t thread x (go y)) → DidFine image T m t thread x (reading r go)
-  read_then P (Ok y) go k n = n y k
-  read_then P (Err w) go k n = absurd k
-
   -- no room is no step at all
   pub room_then : {A : Type 0} (o : Option A) (go : A → Did Left) → ((y : A) → o ≡ Some y → DidFine image T m t thread x (go y)) → DidFine image T m t thread x (where_room o go)
   room_then None go n = tt

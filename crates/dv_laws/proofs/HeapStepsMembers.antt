@@ -1,5 +1,5 @@
 -- The instructions of instance and static fields are fine.
-use Rattle.std.proofs.Common.{◌≡◌, ℕ, zero, suc, ◌+◌, List, [], Bool, true, false, Some, None, refl, sym, ap, ◌∙◌, subst, arith}
+use Rattle.std.proofs.Common.{◌≡◌, ℕ, zero, suc, List, [], Bool, true, false, Some, None, refl, sym, ap, ◌∙◌, subst}
 use Rattle.std.specs.Prelude.{slice_index_or, Ok, Err}
 use Rattle.std.proofs.lemmas.Bool.{and_parts, eqb-true}
 use Rattle.dv_defs.specs.declared.image.Image.{Image}
@@ -26,14 +26,14 @@ use Rattle.dv_machine.specs.Conforming.{Fits, Conforms}
 use Rattle.dv_machine.specs.WellTyped.{Typings, own_of, this_above, nobody}
 use Rattle.dv_machine.specs.Premises.{ThrowFine, DidFine, HoldsOf}
 use Rattle.dv_laws.specs.Reading.{AreWords}
-use Rattle.dv_laws.proofs.Plain.{no}
+use Rattle.dv_laws.proofs.Plain.{no, zero_plus}
 use Rattle.dv_laws.proofs.HeapCells.{reg_cells}
-use Rattle.dv_laws.proofs.HeapStepsLeft.{read_then, gone_left}
+use Rattle.dv_laws.proofs.HeapStepsLeft.{gone_left}
 use Rattle.dv_laws.proofs.HeapStepsPlain.{demand_of, out_of, throws}
 use Rattle.dv_laws.proofs.HeapStepsPlaces.{class_field}
 use Rattle.dv_laws.proofs.HeapStepsCells.{narrowed_each, static_stored_fine}
 use Rattle.dv_laws.proofs.HeapStepsFields.{words_left, IsReceiver, fits_receiver, placed, concrete, get_fine, put_fine}
-use Rattle.dv_laws.proofs.LocalStands.{Stands}
+use Rattle.dv_laws.proofs.LocalStands.{Stands, read_then}
 use Rattle.dv_laws.proofs.ReadersPlain.{reads_reference_to, holds_more}
 use Rattle.dv_laws.proofs.ReadersWords.{reads_value}
 use Rattle.dv_laws.proofs.CallsResolved.{IsNamed, is_named}
@@ -123,9 +123,6 @@ module _ (image : Image) (T : Typings) (m : Machine) (t : ℕ) (thread : Thread)
   pub static_put : (w : Suffix) (a : ℕ) (y : Field) → x.op ≡ StaticPut w a y → DidFine image T m t thread x (mem (here image m t own f rest x.next) (StaticPut w a y))
   static_put w a y e = read_then image T m t thread x (λ ys. AreWords image m.shared.heap ys (reg_types y.def.ty)) _ _ (reads_value image m.shared.heap (own_of image (this_above image rest) own) f.regs s.regs a y.def.ty h.may.accepted.order h.conform.good.regs (demand_of image T m t thread own f rest x s h code rules apart (StaticPut w a y) e)) go
     where
-      zero_plus : (k : ℕ) → k ≡ 0 + k
-      zero_plus k = omega arith
-
       go : (ys : List Value) → AreWords image m.shared.heap ys (reg_types y.def.ty) → DidFine image T m t thread x (onward (here image m t own f rest x.next) (with_heap m.shared (static_stored m.shared.heap y.id 0 (narrowed_all y.def.ty ys))) (gone f x.next f.regs))
       go ys c =
           let n = named (StaticPut w a y) e in

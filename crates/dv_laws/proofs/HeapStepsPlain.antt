@@ -45,13 +45,13 @@ use Rattle.dv_laws.specs.Reading.{Anything, IsArrayOrNull}
 use Rattle.dv_laws.proofs.Plain.{nothing, fits_of}
 use Rattle.dv_laws.proofs.HeapAdded.{object_is_added, array_is_added}
 use Rattle.dv_laws.proofs.HeapInterned.{string_is_interned, class_object_is_got}
-use Rattle.dv_laws.proofs.HeapStepsLeft.{read_then, room_then, true_then, no_wait, grown_good, heap_left, put_left, put_long_left}
+use Rattle.dv_laws.proofs.HeapStepsLeft.{room_then, true_then, no_wait, grown_good, heap_left, put_left, put_long_left}
 use Rattle.dv_laws.proofs.OpeningHeap.{same_fits}
 use Rattle.dv_laws.proofs.OrderTypes.{under_reference}
 use Rattle.dv_laws.proofs.FlightRises.{object_there}
 use Rattle.dv_laws.proofs.RegistersWritten.{write_keeps}
 use Rattle.dv_laws.proofs.RegistersMade.{new_instance_keeps}
-use Rattle.dv_laws.proofs.LocalStands.{Stands, frame_refs}
+use Rattle.dv_laws.proofs.LocalStands.{Stands, frame_refs, read_then}
 use Rattle.dv_laws.proofs.GrowthKinds.{refs_grown}
 use Rattle.dv_laws.proofs.ReadersPlain.{reads_int, reads_argument, reads_long, reads_reference, reads_reference_to}
 use Rattle.dv_laws.proofs.ReadersArrays.{reads_array, tests_go_down}

@@ -87,11 +87,6 @@ module _ (image : Image) (T : Typings) (m : Machine) (t : ℕ) (thread : Thread)
   read_left P (Ok g) k n = n g k
   read_left P (Err y) k n = absurd k
 
-  -- what a step does after a read
-  pub read_did : {A : Type 0} (P : A → Type 0) (r : Reads A) (go : A → Did Left) → HoldsOf P r → ((y : A) → P y → DidFine image T m t thread x (go y)) → DidFine image T m t thread x (reading r go)
-  read_did P (Ok y) go k n = n y k
-  read_did P (Err e) go k n = absurd k
-
   -- a local instruction is no invoke
   no_invoke : (op : Op) (c : Call) (ks : List ℕ) (g : Method) → is_local op ≡ true → op ≡ Invoke c ks g → ⊥
   no_invoke op c ks g e i = no (subst (λ z. is_local z ≡ true) i e)

@@ -1,6 +1,6 @@
 -- A thread at an instruction, and its frame after a step.
 use Rattle.std.proofs.Common.{◌≡◌, ℕ, List, [], ◌∷◌, length, Some, None, sym, ap, ◌∙◌, subst}
-use Rattle.std.specs.Prelude.{slice_get, All}
+use Rattle.std.specs.Prelude.{slice_get, All, Ok, Err}
 use Rattle.std.proofs.lemmas.List.Elements.{All-head, All-tail}
 use Rattle.std.proofs.lemmas.Option.{same_Some}
 use Rattle.dv_defs.specs.declared.image.Image.{Image}
@@ -16,13 +16,18 @@ use Rattle.dv_defs.specs.Statics.{At, fetch, op_rules}
 use Rattle.dv_defs.specs.Demands.{demands}
 use Rattle.dv_defs.specs.Transfer.{out}
 use Rattle.dv_defs.specs.Flow.{Leads, targets}
-use Rattle.dv_machine.specs.State.{Thread, Machine, Here, Shared}
+use Rattle.dv_machine.specs.State.{Thread, Machine, Here, Shared, Reads, Did, Left, reading}
 use Rattle.dv_machine.specs.Conforming.{Conform, RefsFine}
 use Rattle.dv_machine.specs.WellTyped.{Typings, own_of, this_above, lowest, IsCode, BelowCode, IsPlaced, CodeFine, StackFine, ThreadFine}
-use Rattle.dv_machine.specs.Premises.{MayStep, IsAt}
+use Rattle.dv_machine.specs.Premises.{MayStep, IsAt, HoldsOf, DidFine}
 use Rattle.dv_laws.proofs.OrderStates.{frame_up}
 use Rattle.dv_laws.proofs.GrowthLists.{all_at}
 use Rattle.dv_laws.proofs.MethodCode.{code_is}
+
+-- what a step does after a read
+pub read_then : (image : Image) (T : Typings) (m : Machine) (t : ℕ) (thread : Thread) (x : At) {A : Type 0} (P : A → Type 0) (r : Reads A) (go : A → Did Left) → HoldsOf P r → ((y : A) → P y → DidFine image T m t thread x (go y)) → DidFine image T m t thread x (reading r go)
+read_then image T m t thread x P (Ok y) go k n = n y k
+read_then image T m t thread x P (Err w) go k n = absurd k
 
 -- what a case knows, of the machine's own parts
 pub record Stands (image : Image) (T : Typings) (m : Machine) (t : ℕ) (thread : Thread) (own : Method) (f : Frame) (rest : List Level) (x : At) (s : RegState) : Type 0 where

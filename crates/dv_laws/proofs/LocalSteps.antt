@@ -1,9 +1,8 @@
 -- What each instruction that needs its frame alone makes of it.
-use Rattle.std.proofs.Common.{◌≡◌, ◌⊎◌, inl, inr, ℕ, zero, suc, ◌<◌, ◌≤◌, List, [], ◌∷◌, length, Bool, true, false, Option, Some, None, refl, sym, ◌∙◌, subst}
+use Rattle.std.proofs.Common.{◌≡◌, ◌⊎◌, inl, inr, ℕ, zero, suc, List, [], ◌∷◌, length, Bool, true, false, Option, Some, None, refl, sym, ◌∙◌, subst}
 use Rattle.std.specs.Prelude.{slice_set, map, ℤ, pos, negsuc, is_some, All}
-use Rattle.std.proofs.lemmas.Bool.{cases_lt}
-use Rattle.std.proofs.lemmas.List.{length-set, get_or_past}
-use Rattle.std.proofs.lemmas.List.Elements.{All-head, All-tail, All-set, All-get_or}
+use Rattle.std.proofs.lemmas.List.{length-set}
+use Rattle.std.proofs.lemmas.List.Elements.{All-head, All-tail, All-set}
 use Rattle.dv_defs.specs.declared.names.Ty.{Ty}
 use Rattle.dv_defs.specs.declared.image.Image.{Image}
 use Rattle.dv_defs.specs.declared.run.Value.{Value}
@@ -32,7 +31,7 @@ use Rattle.dv_machine.specs.Local.{local, const_value, pending_int, pending_obje
 use Rattle.dv_machine.specs.Conforming.{Own, Conforms, IsGood, IsUninit, IsThere, RefFine, RefsFine, ResultConforms, CaughtConforms, Conform}
 use Rattle.dv_machine.specs.Premises.{HoldsOf}
 use Rattle.dv_laws.specs.Reading.{Anything}
-use Rattle.dv_laws.proofs.Plain.{no, fits_of}
+use Rattle.dv_laws.proofs.Plain.{no, fits_of, ref_at}
 use Rattle.dv_laws.proofs.Demanding.{first_none, demanded}
 use Rattle.dv_laws.proofs.RegistersWritten.{Source, old, plain, write_source, write_long_good}
 use Rattle.dv_laws.proofs.ReadersPlain.{next_holds, kept_int_holds, object_holds, there_of, reads_int, reads_argument, reads_two, reads_long, tests_both, tests_zero, moves_int, moves_reference}
@@ -78,13 +77,6 @@ result_ref_is (pend.One (ty.Class t)) e = (t, refl)
 result_ref_is r e = no e
 
 module _ (image : Image) (heap : Heap) (own : Own) where
-  pub ref_at : (xs : List Value) (k : ℕ) → All (RefFine image heap) xs → RefFine image heap (reg_at xs k)
-  ref_at xs k h = go (cases_lt k (length xs))
-    where
-      go : (k < length xs) ⊎ (length xs ≤ k) → RefFine image heap (reg_at xs k)
-      go (inl l) = All-get_or (RefFine image heap) xs k v.Undef l h
-      go (inr g) = subst (RefFine image heap) (sym (get_or_past xs k v.Undef g)) tt
-
   -- what a handler was entered with
   record IsCaught (o : ℕ) (t : RegType) : Type 0 where
     conforms : Conforms image heap own (v.Ref o) t
@@ -138,7 +130,7 @@ module _ (image : Image) (heap : Heap) (own : Own) where
     move_int a b d =
         let i = demanded (is_int (type_at s.regs b)) 2 d in
         next_holds (λ y. y ≡ reg_at f.regs b) _ (kept_int (reg_at f.regs b)) _ (kept_int_holds image heap own _ _ i (c.good.regs b))
-        (λ y e. put_went a y _ _ (inl refl) (subst (RefFine image heap) (sym e) (ref_at f.regs b r.0)) (old b e (copied_int_is _ i)))
+        (λ y e. put_went a y _ _ (inl refl) (subst (RefFine image heap) (sym e) (ref_at image heap f.regs b r.0)) (old b e (copied_int_is _ i)))
 
     move_long : (a b : ℕ) → Sound (MoveLong a b)
     move_long a b d = next_holds Anything _ (read_two f.regs b) _ (reads_two image heap own f.regs s.regs b c.good.regs d) (λ p q. put_two_went a p.lo p.hi _ (inl refl))
@@ -147,7 +139,7 @@ module _ (image : Image) (heap : Heap) (own : Own) where
     move_object a b d =
         let i = demanded (is_movable (type_at s.regs b)) 6 d in
         next_holds (λ y. y ≡ reg_at f.regs b) _ (kept_object (reg_at f.regs b)) _ (object_holds image heap own _ _ i (c.good.regs b))
-        (λ y e. put_went a y _ _ (inl refl) (subst (RefFine image heap) (sym e) (ref_at f.regs b r.0)) (old b e (copied_object_is _ i)))
+        (λ y e. put_went a y _ _ (inl refl) (subst (RefFine image heap) (sym e) (ref_at image heap f.regs b r.0)) (old b e (copied_object_is _ i)))
 
     moved_int : (a : ℕ) → Sound (ResultInt a)
     moved_int a d =

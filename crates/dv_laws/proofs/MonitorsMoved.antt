@@ -1,8 +1,7 @@
 -- Monitors stay in order while a thread moves on and objects are added.
-use Rattle.std.proofs.Common.{◌≡◌, ◌≢◌, ◌⊎◌, inl, inr, ℕ, zero, suc, ◌<◌, ◌≤◌, List, ◌∷◌, ◌++◌, length, Bool, true, false, Option, Some, None, refl, sym, ap, ◌∙◌, subst, arith}
+use Rattle.std.proofs.Common.{◌≡◌, ◌≢◌, ◌⊎◌, inl, inr, ℕ, zero, suc, ◌≤◌, List, ◌∷◌, ◌++◌, Bool, true, false, Option, Some, None, refl, sym, ap, ◌∙◌, subst, arith}
 use Rattle.std.specs.Prelude.{slice_get, slice_set, nat_lt, All}
-use Rattle.std.proofs.lemmas.Bool.{cases_eq, cases_lt}
-use Rattle.std.proofs.lemmas.List.{get_or_past}
+use Rattle.std.proofs.lemmas.Bool.{cases_eq}
 use Rattle.std.proofs.lemmas.List.Elements.{All-weaker, All-head}
 use Rattle.dv_defs.specs.declared.image.Image.{Image}
 use Rattle.dv_defs.specs.declared.run.Value.{Value}
@@ -19,11 +18,12 @@ use Rattle.dv_defs.specs.Pools.{Method, own_type}
 use Rattle.dv_defs.specs.Order.{instance}
 use Rattle.dv_defs.specs.Heap.{Heap, kind_of}
 use Rattle.dv_defs.specs.Monitors.{Held, Wait, Monitors, owner_of, entry_of}
-use Rattle.dv_machine.specs.State.{Thread, Shared, reg_at, type_of}
+use Rattle.dv_machine.specs.State.{Thread, Shared, type_of}
 use Rattle.dv_machine.specs.Calls.{dispatch, Landing, Lacks, class_of_kind, nearest_from}
 use Rattle.dv_machine.specs.Conforming.{IsThere, RefFine, RefsFine}
 use Rattle.dv_machine.specs.WellTyped.{IsWaiting, WaitFine, HeldFine, MonitorsFine}
 use Rattle.dv_machine.specs.Premises.{KeepsKinds}
+use Rattle.dv_laws.proofs.Plain.{ref_at}
 use Rattle.dv_laws.proofs.GrowthLists.{get_front, set_there, set_other, all_at}
 use Rattle.dv_laws.proofs.GrowthKinds.{same_type}
 use Rattle.dv_laws.proofs.MonitorsOwners.{quiet_from}
@@ -39,13 +39,6 @@ dispatch_grown image before after own Call.Direct g o k e f = refl
 dispatch_grown image before after own Call.Super g o k e f = refl
 dispatch_grown image before after own Call.Virtual g o k e f = ap (λ (x : Option Kind). nearest_from image (class_of_kind image x) g) (e ∙ sym f)
 dispatch_grown image before after own Call.Interface g o k e f = ap (λ (t : Ty). interface_lands image g (instance image t (own_type image g)) (kind_of before o)) (same_type image before after o k e f) ∙ ap (λ (x : Option Kind). interface_lands image g (instance image (type_of image after o) (own_type image g)) x) (e ∙ sym f)
-
-pub ref_at : (image : Image) (heap : Heap) (xs : List Value) (k : ℕ) → All (RefFine image heap) xs → RefFine image heap (reg_at xs k)
-ref_at image heap xs k a = go (cases_lt k (length xs))
-  where
-    go : (k < length xs) ⊎ (length xs ≤ k) → RefFine image heap (reg_at xs k)
-    go (inl l) = a k v.Undef l
-    go (inr g) = subst (λ (x : Value). RefFine image heap x) (sym (get_or_past xs k v.Undef g)) tt
 
 -- a register that holds an object holds one that is there
 ref_there : (image : Image) (heap : Heap) (x : Value) (o : ℕ) → RefFine image heap x → x ≡ v.Ref o → IsThere image heap o

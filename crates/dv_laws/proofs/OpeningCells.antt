@@ -25,7 +25,7 @@ use Rattle.dv_machine.specs.Local.{const_value}
 use Rattle.dv_machine.specs.Opening.{number_cells, first_cells, field_cells}
 use Rattle.dv_machine.specs.Conforming.{Conforms}
 use Rattle.dv_machine.specs.WellTyped.{nobody, CellsFit}
-use Rattle.dv_laws.proofs.Plain.{no}
+use Rattle.dv_laws.proofs.Plain.{no, zero_plus, plus_suc}
 use Rattle.dv_laws.proofs.HeapCells.{reg_cells, fresh_fit}
 
 -- ---- the first cells of static fields
@@ -91,10 +91,4 @@ cells_of_field image k = elim (field_at image k) [ None ↦ [] | Some x ↦ firs
 pub field_cells_at : (image : Image) (is : List FieldInfo) (k x : ℕ) → x < length is → slice_index_or (field_cells image is k) x [] ≡ cells_of_field image (x + k)
 field_cells_at image [] k x l = absurd (omega arith)
 field_cells_at image (i ∷ is) k zero l = ap (cells_of_field image) (zero_plus k)
-  where
-    zero_plus : (n : ℕ) → n ≡ 0 + n
-    zero_plus n = omega arith
 field_cells_at image (i ∷ is) k (suc x) l = field_cells_at image is (suc k) x (omega (arith, l)) ∙ ap (cells_of_field image) (plus_suc x k)
-  where
-    plus_suc : (n m : ℕ) → n + suc m ≡ suc n + m
-    plus_suc n m = omega arith

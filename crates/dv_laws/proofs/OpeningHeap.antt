@@ -1,5 +1,5 @@
 -- The heap in which a run begins is in order.
-use Rattle.std.proofs.Common.{◌≡◌, ◌⊎◌, inl, inr, ℕ, zero, suc, ◌+◌, List, [], ◌∷◌, Bool, true, false, not, Option, Some, None, refl, sym, ap, ◌∙◌, subst, arith}
+use Rattle.std.proofs.Common.{◌≡◌, ◌⊎◌, inl, inr, ℕ, zero, suc, List, [], ◌∷◌, Bool, true, false, not, Option, Some, None, refl, sym, ap, ◌∙◌, subst, arith}
 use Rattle.std.specs.Prelude.{slice_index_or, bytes_eq, codes, nat_eq}
 use Rattle.std.proofs.lemmas.Bool.{and_parts, or_cases, eqb-true}
 use Rattle.std.proofs.lemmas.List.Elements.{All-nil}
@@ -29,7 +29,7 @@ use Rattle.dv_machine.specs.WellTyped.{Typings, nobody, element_types, CellsFit,
 use Rattle.dv_machine.specs.Accepted.{Accepted, IsNamed}
 use Rattle.dv_machine.specs.Premises.{KeepsKinds}
 use Rattle.dv_machine.specs.StepLaws.{IsAdded}
-use Rattle.dv_laws.proofs.Plain.{no, nothing}
+use Rattle.dv_laws.proofs.Plain.{no, nothing, plus_zero}
 use Rattle.dv_laws.proofs.HeapCells.{fresh_fit, class_are_cells, array_length, fit_grown, fit_same}
 use Rattle.dv_laws.proofs.HeapAdded.{new_kind, new_cells, is_added, bare_fits}
 use Rattle.dv_laws.proofs.HeapInterned.{string_is_interned}
@@ -74,9 +74,6 @@ module _ (image : Image) (T : Typings) (acc : Accepted image T) where
     class_objects = All-nil (λ o. (t : Ty) × (kind_of (empty_heap image) o ≡ Some (kind.ClassOf t)));
   }
     where
-      plus_zero : (n : ℕ) → n + 0 ≡ n
-      plus_zero n = omega arith
-
       statics : (x : ℕ) (f : Field) → field_at image x ≡ Some f → is_static_field f ≡ true → CellsFit image (empty_heap image) (slice_index_or (field_cells image image.fields 0) x []) (reg_types f.def.ty)
       statics x f e s =
           let same : first_cells f.def ≡ slice_index_or (field_cells image image.fields 0) x [] = sym (field_cells_at image image.fields 0 x (field_within image x f e) ∙ ap (cells_of_field image) (plus_zero x) ∙ ap (λ (o : Option Field). elim o as (λ y. Cells) [ None ↦ [] | Some y ↦ first_cells y.def ]) e) in

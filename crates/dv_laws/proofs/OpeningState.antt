@@ -33,7 +33,7 @@ use Rattle.dv_machine.specs.Conforming.{IsOf, IsGood, RefFine, RefsFine}
 use Rattle.dv_machine.specs.WellTyped.{Typings, own_of, IsNoInitialiser, StackFine, ThreadFine, records, owed, levels_in, WellTyped}
 use Rattle.dv_machine.specs.Accepted.{Accepted}
 use Rattle.dv_machine.specs.StepLaws.{IsMain, OpeningIsWellTyped}
-use Rattle.dv_laws.proofs.Plain.{nothing, fits_of}
+use Rattle.dv_laws.proofs.Plain.{nothing, fits_of, zero_plus, plus_suc, plus_zero}
 use Rattle.dv_laws.proofs.RecordsStates.{begun_mine, begun_others}
 use Rattle.dv_laws.proofs.RecordsEntered.{none_good, refs_entered, entered_code, entered_placed}
 use Rattle.dv_laws.proofs.RecordsFine.{static_begins}
@@ -71,13 +71,7 @@ first_idle image (x ∷ cs) k (suc c) u = first_idle image cs (suc k) c u
 first_at : (image : Image) (cs : List ClassInfo) (k c : ℕ) → c < length cs → state_at (first_states image cs k) c ≡ by_birth (is_born image (c + k))
 first_at image [] k c l = absurd (omega arith)
 first_at image (x ∷ cs) k zero l = ap (λ n. by_birth (is_born image n)) (zero_plus k)
-  where
-    zero_plus : (n : ℕ) → n ≡ 0 + n
-    zero_plus n = omega arith
 first_at image (x ∷ cs) k (suc c) l = first_at image cs (suc k) c (omega (arith, l)) ∙ ap (λ n. by_birth (is_born image n)) (plus_suc c k)
-  where
-    plus_suc : (n m : ℕ) → n + suc m ≡ suc n + m
-    plus_suc n m = omega arith
 
 -- ---- main's arguments
 
@@ -188,9 +182,6 @@ module _ (image : Image) (T : Typings) (acc : Accepted image T) (m : Method) (l 
 
   fresh : is_born image m.info.class.0 ≡ false → state_at (first_states image image.classes 0) m.info.class.0 ≡ Fresh
   fresh e = first_at image image.classes 0 m.info.class.0 in_image ∙ ap (λ n. by_birth (is_born image n)) (plus_zero m.info.class.0) ∙ ap by_birth e
-    where
-      plus_zero : (n : ℕ) → n + 0 ≡ n
-      plus_zero n = omega arith
 
   states_agree : (b : Bool) → is_born image m.info.class.0 ≡ b → (u c : ℕ) → records c (levels_in (slice_get (record { levels = opening_levels m (entered_frame m (main_args m (opening_heap image m l)) false) b; end = end.Living; object = 2 } ∷ []) u)) ≡ owed u (state_at (opening_states m (first_states image image.classes 0) b) c)
   states_agree true e zero c = sym (first_idle image image.classes 0 c 0)

@@ -1,10 +1,15 @@
--- Small facts that many proofs use: contradictions, options, tests by cases, and objects that fit their own type.
-use Rattle.std.proofs.Common.{◌≡◌, ◌⊎◌, inl, inr, ℕ, zero, suc, Bool, true, false, Option, Some, None, refl}
-use Rattle.std.specs.Prelude.{is_some}
+-- Small facts that many proofs use: contradictions, options, tests by cases, sums, and what objects and registers are.
+use Rattle.std.proofs.Common.{◌≡◌, ◌⊎◌, inl, inr, ℕ, zero, suc, Bool, true, false, Option, Some, None, refl, ◌+◌, ◌<◌, ◌≤◌, List, length, sym, subst, arith}
+use Rattle.std.proofs.lemmas.Bool.{cases_lt}
+use Rattle.std.proofs.lemmas.List.{get_or_past}
+use Rattle.std.specs.Prelude.{is_some, All}
 use Rattle.dv_defs.specs.declared.names.Ty.{Ty}
 use Rattle.dv_defs.specs.declared.image.Image.{Image}
 use Rattle.dv_defs.specs.Heap.{Heap}
-use Rattle.dv_machine.specs.Conforming.{Fits, IsOf}
+use Rattle.dv_defs.specs.declared.run.Value.{Value}
+use Rattle.dv_defs.specs.declared.run.Value.TheVariants as v
+use Rattle.dv_machine.specs.Conforming.{Fits, IsOf, RefFine}
+use Rattle.dv_machine.specs.State.{reg_at}
 
 pub no : {A : Type 0} → false ≡ true → A
 no e = absurd (cc)
@@ -42,8 +47,27 @@ pub second_chosen : (b c d : Bool) → b ≡ false → d ≡ true → elim b [ t
 second_chosen true c d e u = absurd (cc)
 second_chosen false c d e u = u
 
+-- ---- sums
+
+pub plus_zero : (n : ℕ) → n + 0 ≡ n
+plus_zero n = omega arith
+
+pub zero_plus : (n : ℕ) → n ≡ 0 + n
+zero_plus n = omega arith
+
+pub plus_suc : (n m : ℕ) → n + suc m ≡ suc n + m
+plus_suc n m = omega arith
+
 -- ---- objects
 
 pub fits_of : (image : Image) (heap : Heap) (o : ℕ) (t : Ty) → IsOf image heap o t → Fits image heap o t
 fits_of image heap zero t i = tt
 fits_of image heap (suc o) t i = i
+
+-- a register refers to what is there, where all do
+pub ref_at : (image : Image) (heap : Heap) (xs : List Value) (k : ℕ) → All (RefFine image heap) xs → RefFine image heap (reg_at xs k)
+ref_at image heap xs k a = go (cases_lt k (length xs))
+  where
+    go : (k < length xs) ⊎ (length xs ≤ k) → RefFine image heap (reg_at xs k)
+    go (inl l) = a k v.Undef l
+    go (inr g) = subst (λ (x : Value). RefFine image heap x) (sym (get_or_past xs k v.Undef g)) tt

@@ -4,7 +4,6 @@ use Rattle.std.specs.Prelude.{slice_get, All, nat_eq, bytes_eq}
 use Rattle.std.proofs.lemmas.List.{length-set}
 use Rattle.std.proofs.lemmas.List.Elements.{All-cons, All-tail, All-nil}
 use Rattle.std.proofs.lemmas.Option.{same_Some}
-use Rattle.std.proofs.lemmas.Bool.{eq-eqb}
 use Rattle.dv_defs.specs.declared.image.Image.{Image}
 use Rattle.dv_defs.specs.declared.machine.Frame.{Frame}
 use Rattle.dv_defs.specs.declared.machine.Level.{Level}
@@ -37,6 +36,7 @@ use Rattle.dv_laws.proofs.FlightFlown.{lowest_rest, living_fine, refs_of, record
 use Rattle.dv_laws.proofs.RecordsStates.{IsIdle, dropped_mine, dropped_others, begun_mine, begun_others}
 use Rattle.dv_laws.proofs.RecordsEntered.{none_good, refs_entered, entered_code, entered_placed}
 use Rattle.dv_laws.proofs.CallsWords.{static_types}
+use Rattle.dv_laws.proofs.OrderWalks.{has_head}
 
 -- ---- an initialiser has no receiver and no arguments
 
@@ -158,12 +158,9 @@ module _ (image : Image) (T : Typings) (m : Machine) (t : ℕ) (thread : Thread)
   look_fine : RecordDidFine image T m t thread (look_at (here image m t no_method no_frame rest 0) c (prior image c))
   look_fine = go (parent_at image c) refl
     where
-      first : (p : ℕ) (ps : List ℕ) → has_number p (p ∷ ps) ≡ true
-      first p ps = ap (λ (b : Bool). elim b as (λ x. Bool) [ true ↦ true | false ↦ has_number p ps ]) (eq-eqb p p refl)
-
       go : (o : Option ℕ) → parent_at image c ≡ o → RecordDidFine image T m t thread (look_at (here image m t no_method no_frame rest 0) c (elim o as (λ x. List ℕ) [ None ↦ [] | Some p ↦ p ∷ [] ]))
       go None e = run_fine
-      go (Some p) e = super_fine p (subst (λ (o : Option ℕ). has_number p (elim o as (λ x. List ℕ) [ None ↦ [] | Some q ↦ q ∷ [] ]) ≡ true) (sym e) (first p [])) (acc.hierarchy.inside c p (subst (λ (o : Option ℕ). has_number p (listed o (interfaces_of (slice_get image.classes c))) ≡ true) (sym e) (first p _)))
+      go (Some p) e = super_fine p (subst (λ (o : Option ℕ). has_number p (elim o as (λ x. List ℕ) [ None ↦ [] | Some q ↦ q ∷ [] ]) ≡ true) (sym e) (has_head p [])) (acc.hierarchy.inside c p (subst (λ (o : Option ℕ). has_number p (listed o (interfaces_of (slice_get image.classes c))) ≡ true) (sym e) (has_head p _)))
 
   pub record_fine : RecordDidFine image T m t thread (record_step (here image m t no_method no_frame rest 0) c r)
   record_fine = go r

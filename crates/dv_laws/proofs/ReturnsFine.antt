@@ -33,8 +33,8 @@ use Rattle.dv_laws.proofs.Plain.{no}
 use Rattle.dv_laws.proofs.Demanding.{first_none, demanded}
 use Rattle.dv_laws.proofs.ReadersWords.{reads_value, words_pend}
 use Rattle.dv_laws.proofs.LocalStill.{still, IsQuiet}
-use Rattle.dv_laws.proofs.LocalStands.{Stands, stands, rest_refs, rest_lowest}
-use Rattle.dv_laws.proofs.LocalFine.{quiet, read_did}
+use Rattle.dv_laws.proofs.LocalStands.{Stands, stands, rest_refs, rest_lowest, read_then}
+use Rattle.dv_laws.proofs.LocalFine.{quiet}
 use Rattle.dv_laws.proofs.ReturnsCaller.{IsResult, called, caller_left}
 
 module _ (image : Image) (T : Typings) (m : Machine) (t : ℕ) (thread : Thread) (own : Method) (f : Frame) (rest : List Level) (x : At) (s : RegState) (h : Stands image T m t thread own f rest x s) where
@@ -83,7 +83,7 @@ module _ (image : Image) (T : Typings) (m : Machine) (t : ℕ) (thread : Thread)
     value_fine : (a : ℕ) (o : Option Ty) → own.def.proto.ret ≡ o → not (is_void o) ≡ true → value_returned image s.regs a o ≡ None → DidFine image T m t thread x (return_value here_it a o)
     value_fine a None e n d = no n
     value_fine a (Some u) e n d =
-        read_did image T m t thread own f rest x s h (λ ys. AreWords image heap ys (reg_types u)) (read_value image heap f.regs a u) _
+        read_then image T m t thread x (λ ys. AreWords image heap ys (reg_types u)) (read_value image heap f.regs a u) _
         (reads_value image heap (own_of image (this_above image rest) own) f.regs s.regs a u h.may.accepted.order h.conform.good.regs d)
         (λ ys w. back_fine (pending_words ys) (subst (λ o. IsResult image heap o (pending_words ys)) (sym e) (record { conforms = λ this k. words_pend image heap (own_of image this k) ys u w; fine = pending_fine ys w.refs })))
 
