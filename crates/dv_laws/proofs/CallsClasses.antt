@@ -11,7 +11,7 @@ use Rattle.dv_defs.specs.declared.machine.Kind.TheVariants as kind
 use Rattle.dv_defs.specs.Names.{object_name, string_name, class_name}
 use Rattle.dv_defs.specs.Types.{of_class, ty_eq, is_reference}
 use Rattle.dv_defs.specs.Pools.{class_type, class_named, name_at, parent_at, parent_of, supers}
-use Rattle.dv_defs.specs.Order.{has_number, extends, both_found, class_under, sub, instance, fits, is_interface_type}
+use Rattle.dv_defs.specs.Order.{has_number, extends, both_found, class_under, sub, fits}
 use Rattle.dv_defs.specs.Heap.{Heap, kind_of, kind_type}
 use Rattle.dv_machine.specs.Calls.{class_of_kind}
 use Rattle.dv_machine.specs.Conforming.{IsOf}
@@ -19,7 +19,7 @@ use Rattle.dv_machine.specs.WellTyped.{Typings}
 use Rattle.dv_machine.specs.Accepted.{Accepted}
 use Rattle.dv_laws.proofs.Plain.{no}
 use Rattle.dv_laws.proofs.OrderWalks.{up, up_is, up_later, refuel_up, extends_same, is_above, named_is}
-use Rattle.dv_laws.proofs.OrderTypes.{under_reference}
+use Rattle.dv_laws.proofs.OrderInterfaces.{fits_reference}
 
 module _ (image : Image) where
   sub_named : (c d : ℕ) → class_named image (name_at image c) ≡ Some c → class_named image (name_at image d) ≡ Some d → extends image c d ≡ true → sub image (class_type image c) (class_type image d) ≡ true
@@ -64,15 +64,6 @@ module _ (image : Image) (T : Typings) (a : Accepted image T) where
   same_fits : (name : List ℕ) (c : ℕ) → class_named image name ≡ Some c → fits image (of_class name) (class_type image c) ≡ true
   same_fits name c e = subst (λ z. fits image (of_class name) (of_class z) ≡ true) (sym (named_is image name c e)) (a.order.instance_fits _ _ refl (a.order.sub_instance _ _ (a.order.same (of_class name))))
 
-  -- what fits a reference type is one
-  fits_reference : (x t : Ty) → fits image x t ≡ true → is_reference t ≡ true → is_reference x ≡ true
-  unfolding fits instance
-  fits_reference x t f r = by_test (is_interface_type image t) f
-    where
-      by_test : (b : Bool) → (elim b as (λ w. Bool) [ true ↦ is_reference x | false ↦ instance image x t ]) ≡ true → is_reference x ≡ true
-      by_test true e = e
-      by_test false e = under_reference image _ x t e r
-
   object_takes : (x : Ty) (c : ℕ) → is_reference x ≡ true → class_named image object_name ≡ Some c → fits image x (class_type image c) ≡ true
   object_takes x c r e = subst (λ z. fits image x (of_class z) ≡ true) (sym (named_is image object_name c e)) (a.order.object_fits x r)
 
@@ -87,5 +78,5 @@ module _ (image : Image) (T : Typings) (a : Accepted image T) where
   pub looked_up_fits : (heap : Heap) (o : ℕ) (t : Ty) (c d : ℕ) → is_reference t ≡ true → IsOf image heap o t → class_of_kind image (kind_of heap o) ≡ Some c → d < length image.classes → has_number d (supers image c) ≡ true → IsOf image heap o (class_type image d)
   looked_up_fits heap o t c d r h e l n = record {
     object = h.object;
-    fits = fits_sub (kind_type image h.object.kind) c d (kind_fits h.object.kind c (fits_reference _ t h.fits r) (ap (class_of_kind image) (sym h.object.has_kind) ∙ e)) l n;
+    fits = fits_sub (kind_type image h.object.kind) c d (kind_fits h.object.kind c (fits_reference image _ t h.fits r) (ap (class_of_kind image) (sym h.object.has_kind) ∙ e)) l n;
   }

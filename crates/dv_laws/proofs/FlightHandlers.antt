@@ -1,5 +1,5 @@
 -- A frame at an instruction that can throw finds its handlers in order.
-use Rattle.std.proofs.Common.{◌≡◌, ℕ, List, Bool, true, false, Option, Some, None, refl, sym, ap, ◌∙◌, subst}
+use Rattle.std.proofs.Common.{◌≡◌, ℕ, Bool, true, false, Option, Some, None, refl, sym, ap, ◌∙◌, subst}
 use Rattle.std.specs.Prelude.{All}
 use Rattle.std.proofs.lemmas.List.Elements.{All-weaker}
 use Rattle.std.proofs.lemmas.Option.{same_Some}
@@ -10,9 +10,9 @@ use Rattle.dv_defs.specs.declared.machine.Kind.{Kind}
 use Rattle.dv_defs.specs.declared.machine.Frame.{Frame}
 use Rattle.dv_defs.specs.declared.typing.RegState.{RegState}
 use Rattle.dv_defs.specs.Names.{object_name, throwable_name}
-use Rattle.dv_defs.specs.Types.{of_class, is_reference}
+use Rattle.dv_defs.specs.Types.{of_class}
 use Rattle.dv_defs.specs.Pools.{Method, method_at}
-use Rattle.dv_defs.specs.Order.{under_type, instance, fits, implements, is_interface_type}
+use Rattle.dv_defs.specs.Order.{instance}
 use Rattle.dv_defs.specs.Op.{Code, code_at, code_of, with_body, can_throw}
 use Rattle.dv_defs.specs.Statics.{At, fetch}
 use Rattle.dv_defs.specs.Flow.{Catcher, Leads, handlers_at, thrown_at, is_exit, caught_state, caught_as}
@@ -22,18 +22,8 @@ use Rattle.dv_machine.specs.Unwinding.{catches, caught_frame}
 use Rattle.dv_machine.specs.Conforming.{IsOf, Conform}
 use Rattle.dv_machine.specs.WellTyped.{Typings, own_of, IsPlaced, IsHandled, IsThrowable}
 use Rattle.dv_machine.specs.Accepted.{Accepted, IsFine, FindsRightly}
-use Rattle.dv_laws.proofs.OrderTypes.{under_reference}
 use Rattle.dv_laws.proofs.OrderStates.{frame_up}
-
--- ---- what fits a class is a reference
-
-pub fits_reference : (image : Image) (x : Ty) (name : List ℕ) → fits image x (of_class name) ≡ true → is_reference x ≡ true
-unfolding fits instance
-fits_reference image x name e = go (is_interface_type image (of_class name)) e
-  where
-    go : (b : Bool) → ◌≡◌ {A = Bool} (elim b [ true ↦ is_reference x | false ↦ under_type image (implements image) x (of_class name) ]) true → is_reference x ≡ true
-    go true e = e
-    go false e = under_reference image (implements image) x (of_class name) e refl
+use Rattle.dv_laws.proofs.OrderInterfaces.{fits_reference}
 
 -- ---- code
 
@@ -55,7 +45,7 @@ module _ (image : Image) (T : Typings) (acc : Accepted image T) (heap : Heap) wh
   -- what a handler catches is of its type
   caught_is : (o : ℕ) → IsThrowable image heap o → (t : Option Ty) → catches image heap o t ≡ true → IsOf image heap o (caught_as t)
   caught_is o i None e = i
-  caught_is o i (Some t) e = record { object = i.object; fits = acc.order.instance_fits _ t (fits_reference image _ throwable_name i.fits) (subst (λ (x : Ty). instance image x t ≡ true) type e) }
+  caught_is o i (Some t) e = record { object = i.object; fits = acc.order.instance_fits _ t (fits_reference image _ (of_class throwable_name) i.fits refl) (subst (λ (x : Ty). instance image x t ≡ true) type e) }
     where
       type : type_of image heap o ≡ kind_type image i.object.kind
       type = ap (λ (x : Option Kind). elim x [ None ↦ of_class object_name | Some k ↦ kind_type image k ]) i.object.has_kind

@@ -21,7 +21,7 @@ use Rattle.dv_laws.proofs.Plain.{no}
 use Rattle.dv_laws.proofs.OrderEqual.{names_equal, of_one_name}
 use Rattle.dv_laws.proofs.OrderTypes.{type_is, flat_under, AreUnder, IsUnder}
 use Rattle.dv_laws.proofs.OrderWalks.{named_is, named_inside, above_is, reach_is, object_reaches}
-use Rattle.dv_laws.proofs.OrderLaws.{above_interface}
+use Rattle.dv_laws.proofs.OrderInterfaces.{above_interface}
 
 same_base : (a b : List ℕ) → base.Class a ≡ base.Class b → a ≡ b
 same_base a b e = cc

@@ -24,7 +24,7 @@ use Rattle.dv_defs.specs.Parts.{Call, Bin}
 use Rattle.dv_defs.specs.Names.{object_name, string_name, class_name, throwable_name}
 use Rattle.dv_defs.specs.Types.{of_class, is_array, is_reference}
 use Rattle.dv_defs.specs.Pools.{Method}
-use Rattle.dv_defs.specs.Order.{instance, implements}
+use Rattle.dv_defs.specs.Order.{instance}
 use Rattle.dv_defs.specs.Numbers.{operate32, operate64, lo_of, hi_of}
 use Rattle.dv_defs.specs.Op.{Op, Arg, Code, IntDivide, LongDivide, ConstString, ConstClass, Cast, InstanceOf, ArrayLength, New, NewArray, Throw, Invoke, can_throw}
 use Rattle.dv_defs.specs.Statics.{At, fetch, op_rules}
@@ -47,7 +47,6 @@ use Rattle.dv_laws.proofs.HeapAdded.{object_is_added, array_is_added}
 use Rattle.dv_laws.proofs.HeapInterned.{string_is_interned, class_object_is_got}
 use Rattle.dv_laws.proofs.HeapStepsLeft.{room_then, true_then, no_wait, grown_good, heap_left, put_left, put_long_left}
 use Rattle.dv_laws.proofs.OpeningHeap.{same_fits}
-use Rattle.dv_laws.proofs.OrderTypes.{under_reference}
 use Rattle.dv_laws.proofs.FlightRises.{object_there}
 use Rattle.dv_laws.proofs.RegistersWritten.{write_keeps}
 use Rattle.dv_laws.proofs.RegistersMade.{new_instance_keeps}
@@ -56,6 +55,7 @@ use Rattle.dv_laws.proofs.GrowthKinds.{refs_grown}
 use Rattle.dv_laws.proofs.ReadersPlain.{reads_int, reads_argument, reads_long, reads_reference, reads_reference_to}
 use Rattle.dv_laws.proofs.ReadersArrays.{reads_array, tests_go_down}
 use Rattle.dv_laws.proofs.Demanding.{first_none, only_rule}
+use Rattle.dv_laws.proofs.OrderInterfaces.{instance_reference}
 
 -- the object of an uninitialised value is there
 held_there : (image : Image) (heap : Heap) (own : Own) (y : Value) (u : RegType) (o : ℕ) → IsUninit u → Conforms image heap own y u → object_of y ≡ Some o → (k : Kind) × (kind_of heap o ≡ Some k)
@@ -64,10 +64,6 @@ held_there image heap own (v.UninitThis p) ty.UninitThis o i c e = (kind.Object 
 held_there image heap own y (ty.Uninit b) o i c e = absurd c
 held_there image heap own y ty.UninitThis o i c e = absurd c
 held_there image heap own y u o i c e = absurd i
-
-pub instance_reference : (image : Image) (a b : Ty) → instance image a b ≡ true → is_reference b ≡ true → is_reference a ≡ true
-unfolding instance
-instance_reference image a b e r = under_reference image (implements image) a b e r
 
 module _ (image : Image) (T : Typings) (m : Machine) (t : ℕ) (thread : Thread) (own : Method) (f : Frame) (rest : List Level) (x : At) (s : RegState) (h : Stands image T m t thread own f rest x s) (code : Code) (rules : op_rules image code x.op ≡ []) (apart : (c : Call) (ks : List ℕ) (g : Method) → x.op ≡ Invoke c ks g → ⊥) where
   pub demand_of : (op : Op) → x.op ≡ op → demands image own op s ≡ None

@@ -33,13 +33,13 @@ use Rattle.dv_laws.specs.Reading.{Anything}
 use Rattle.dv_laws.proofs.Plain.{no}
 use Rattle.dv_laws.proofs.HeapCells.{reg_cells}
 use Rattle.dv_laws.proofs.HeapStepsLeft.{gone_left}
-use Rattle.dv_laws.proofs.HeapStepsPlain.{instance_reference}
 use Rattle.dv_laws.proofs.HeapStepsCells.{fits_there, narrowed_count, narrowed_each, stored_fine}
 use Rattle.dv_laws.proofs.HeapStepsElements.{element_at, short_types, long_types}
 use Rattle.dv_laws.proofs.HeapStepsArrays.{component_is}
 use Rattle.dv_laws.proofs.LocalStands.{Stands}
 use Rattle.dv_laws.proofs.ReadersPlain.{next_holds, reads_int, reads_two, reads_reference}
 use Rattle.dv_laws.proofs.Demanding.{demanded}
+use Rattle.dv_laws.proofs.OrderInterfaces.{instance_reference}
 
 -- ---- what a store takes
 

@@ -64,9 +64,11 @@ pub mod OpeningHeap
 pub mod OpeningState
 pub mod OrderAntitone
 pub mod OrderArrays
+pub mod OrderChanged
 pub mod OrderCommon
 pub mod OrderDemands
 pub mod OrderEqual
+pub mod OrderInterfaces
 pub mod OrderJoins
 pub mod OrderLaws
 pub mod OrderRegs

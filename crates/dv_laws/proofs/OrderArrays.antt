@@ -15,8 +15,8 @@ use Rattle.dv_machine.specs.Accepted.{IsHierarchy}
 use Rattle.dv_laws.proofs.OrderEqual.{ty_from, ty_is, ty_equal, names_are}
 use Rattle.dv_laws.proofs.OrderTypes.{type_is, is_type, type_same, base_is_class, class_is_reference, array_is_reference, under_class_reference}
 use Rattle.dv_laws.proofs.OrderLaws.{sub_same}
-use Rattle.dv_laws.proofs.OrderTransfer.{sub_component}
 use Rattle.dv_laws.proofs.OrderCommon.{IsCommon, is_of_class, under_object, classes_common}
+use Rattle.dv_laws.proofs.OrderChanged.{sub_component}
 
 -- ---- arrays
 

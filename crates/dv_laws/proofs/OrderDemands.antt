@@ -20,10 +20,11 @@ use Rattle.dv_machine.specs.Accepted.{IsHierarchy}
 use Rattle.dv_laws.proofs.Plain.{no}
 use Rattle.dv_laws.proofs.OrderEqual.{base_plain}
 use Rattle.dv_laws.proofs.OrderTypes.{type_is}
-use Rattle.dv_laws.proofs.OrderLaws.{assignable_is, assignable_open, assignable_closed, sub_trans}
+use Rattle.dv_laws.proofs.OrderLaws.{sub_trans}
 use Rattle.dv_laws.proofs.OrderRegs.{AreBelow}
-use Rattle.dv_laws.proofs.OrderTransfer.{sub_component, sub_reference}
 use Rattle.dv_laws.proofs.Demanding.{first_none, met, test_met, demanded}
+use Rattle.dv_laws.proofs.OrderInterfaces.{assignable_is, assignable_open, assignable_closed}
+use Rattle.dv_laws.proofs.OrderChanged.{sub_component, sub_reference}
 
 -- where the first demand is met, the second is
 abbrev pub Along : Demand → Demand → Type 0
