@@ -1,4 +1,4 @@
--- Acceptance gives a typing of each method, with what each address owes.
+-- Acceptance gives a typing of each method, with what the verifier found at each address.
 use Rattle.std.proofs.Common.{◌≡◌, ◌≤◌, ℕ, List, ◌∷◌, Bool, true, false, Option, Some, None, refl, sym, subst}
 use Rattle.std.proofs.lemmas.List.Elements.{All-cons}
 use Rattle.std.specs.Prelude.{is_some, All}
@@ -93,7 +93,7 @@ typed_method image acc n code e =
     let P : Option Code → Type 0 = λ o. IsTypedMethod image n o (typings image acc n) in
     subst P e (typed_from image acc n (code_at image n) refl)
 
--- what an address owes that has a state
+-- what the verifier found at an address that has a state
 abbrev FineAt : Image → ℕ → ℕ → Typing → RegState → Type 0
 FineAt image n at T s = (code : Code) × (x : At) × (code_at image n ≡ Some code) × (fetch image n at ≡ Some x) × IsFine image T code at x s
 

@@ -1,4 +1,4 @@
--- What a body owes that breaks no static rule: instructions at its targets and handlers, and registers for its arguments.
+-- What holds of a body that breaks no static rule: instructions at its targets and handlers, and registers for its arguments.
 use Rattle.std.proofs.Common.{◌≡◌, ◌≤◌, ◌⊎◌, inl, inr, ℕ, ◌+◌, List, [], ◌∷◌, ◌++◌, length, Bool, true, false, ◌&&◌, ◌||◌, Option, Some, None, Result, Ok, Err, refl, sym, ap, ◌∙◌, subst}
 use Rattle.std.specs.Prelude.{slice_get, nat_eq, nat_lt, nat_le, is_some, map, All}
 use Rattle.std.proofs.lemmas.Bool.{leb-true, and_parts}

@@ -15,7 +15,7 @@ use Rattle.dv_laws.proofs.Plain.{no, either}
 use Rattle.dv_laws.proofs.OrderEqual.{names_are}
 use Rattle.dv_laws.proofs.ExampleTests.{all_below, below_is, from_or, if_some, some_is}
 
--- of each of these numbers
+-- a test holds of each of these numbers
 abbrev pub all_of : (ℕ → Bool) → List ℕ → Bool
 all_of f [] = true
 all_of f (c ∷ cs) = f c && all_of f cs
@@ -53,7 +53,7 @@ word_is : (name : List ℕ) → is_word name ≡ true → name ≡ [] → ⊥
 word_is [] w e = no w
 word_is (c ∷ cs) w e = cc
 
--- its name is told once, it has a superclass or is Object, and an interface stands right under Object
+-- its name finds it, it has a superclass or is Object, and an interface stands right under Object
 abbrev pub class_fine : Image → ℕ → Bool
 class_fine image c = is_found (class_named image (name_at image c)) c && (parent_or (parent_at image c) (bytes_eq (name_at image c) object_name) && ((not (is_interface image c) || if_some (λ p. bytes_eq (name_at image p) object_name) (parent_at image c)) && (all_of (is_interface image) (interfaces_of (slice_get image.classes c)) && is_word (name_at image c))))
 

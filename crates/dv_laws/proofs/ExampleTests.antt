@@ -1,4 +1,4 @@
--- Tests that hold of each number below one.
+-- Tests of each number below a bound, of one test or another, and of what an option holds.
 use Rattle.std.proofs.Common.{◌≡◌, inl, inr, ℕ, zero, suc, ◌<◌, Bool, true, false, ◌&&◌, ◌||◌, not, Option, Some, None, subst, arith}
 use Rattle.std.proofs.lemmas.Bool.{cases_lt, and_parts}
 use Rattle.dv_laws.proofs.Plain.{no}

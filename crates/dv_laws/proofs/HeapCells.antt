@@ -111,7 +111,7 @@ elements_divided n t = ap (λ k. k / words_of t) (element_count n t) ∙ go (is_
 length_array : (h : Heap) (o : ℕ) (t : Ty) → kind_of h o ≡ Some (kind.Array t) → length_of h o ≡ length (cells_at h o) / words_of (component t)
 length_array h o t e = rw (e, length_of) refl
 
--- the types of an object's cells are told by its kind and by how many cells there are
+-- the types of an object's cells are determined by its kind and by how many cells there are
 pub same_cell_types : (image : Image) (h h' : Heap) (o o' : ℕ) (k : Kind) → kind_of h o ≡ Some k → kind_of h' o' ≡ Some k → length (cells_at h o) ≡ length (cells_at h' o') → cell_types image (length_of h o) k ≡ cell_types image (length_of h' o') k
 same_cell_types image h h' o o' (kind.Object c) e f l = refl
 same_cell_types image h h' o o' (kind.Array t) e f l = ap (λ n. element_types n (component t)) (length_array h o t e ∙ ap (λ n. n / words_of (component t)) l ∙ sym (length_array h' o' t f))

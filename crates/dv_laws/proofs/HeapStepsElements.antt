@@ -40,7 +40,7 @@ element_at c (suc n) (suc k) j l i = ap (type_at (reg_types c ++ element_types n
 
 -- ---- types
 
--- a primitive type is no reference, a long but for one base
+-- a primitive type is no reference, and no long unless its base is J
 base_parts : (b : Base) (t : Ty) → is_base b t ≡ true → (nat_eq t.dims 0 ≡ true) × (base_eq t.base b ≡ true)
 base_parts b t e = and_parts (nat_eq t.dims 0) (base_eq t.base b) e
 

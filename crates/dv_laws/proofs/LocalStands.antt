@@ -29,7 +29,7 @@ pub read_then : (image : Image) (T : Typings) (m : Machine) (t : ℕ) (thread : 
 read_then image T m t thread x P (Ok y) go k n = n y k
 read_then image T m t thread x P (Err w) go k n = absurd k
 
--- what a case knows, of the machine's own parts
+-- what is known of a living thread at an instruction, in the parts of the machine
 pub record Stands (image : Image) (T : Typings) (m : Machine) (t : ℕ) (thread : Thread) (own : Method) (f : Frame) (rest : List Level) (x : At) (s : RegState) : Type 0 where
   pub may : MayStep image T m t
   pub has_thread : slice_get m.threads t ≡ Some thread

@@ -31,7 +31,7 @@ use Rattle.dv_laws.proofs.MonitorsOwners.{quiet_from}
 abbrev interface_lands : Image → Method → Bool → Option Kind → Landing
 interface_lands image g b x = elim b [ true ↦ nearest_from image (class_of_kind image x) g | false ↦ Lacks named.ClassChange ]
 
--- what a call lands on is told by the kind of its object
+-- the method that a call lands on is determined by the kind of its object
 dispatch_grown : (image : Image) (before after : Heap) (own : Method) (c : Call) (g : Method) (o : ℕ) (k : Kind) → kind_of before o ≡ Some k → kind_of after o ≡ Some k → dispatch image before own c g o ≡ dispatch image after own c g o
 unfolding dispatch
 dispatch_grown image before after own Call.Static g o k e f = refl

@@ -75,7 +75,7 @@ owner_none p (h ∷ hs) a = owner_past h hs p (All-head (λ (y : Held). y.object
 pub not_owner : (p u : ℕ) (hs : List Held) → All (λ (y : Held). y.object ≢ p) hs → owner_in hs p ≢ Some u
 not_owner p u hs a e = none-some u (sym (owner_none p hs a) ∙ e)
 
--- what is before a list changes who owns a monitor only where it is of that monitor
+-- a thread that doesn't become the owner in a list doesn't with one more monitor in front
 more_owner : (h : Held) (hs ks : List Held) (p u : ℕ) → (h.object ≡ p) ⊎ (h.object ≢ p) → owner_in (h ∷ hs) p ≢ Some u → (owner_in hs p ≢ Some u → owner_in ks p ≢ Some u) → owner_in (h ∷ ks) p ≢ Some u
 more_owner h hs ks p u (inl e) q r f = q (owner_here h hs p e ∙ sym (owner_here h ks p e) ∙ f)
 more_owner h hs ks p u (inr d) q r f = r (λ g. q (owner_past h hs p d ∙ g)) (sym (owner_past h ks p d) ∙ f)

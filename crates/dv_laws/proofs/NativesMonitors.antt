@@ -66,7 +66,7 @@ module _ (image : Image) (T : Typings) (m : Machine) (t : ℕ) (thread : Thread)
   abbrev after : Thread
   after = record { levels = level.Code f ∷ rest; end = end.Living; object = thread.object }
 
-  -- a thread of an entry waits still where it stays
+  -- a thread that has an entry still waits where it stays
   own_waits : (ms : Monitors) → MonitorsFine image m.threads (with_monitors m.shared ms) (suc m.steps) → All (λ (w : Wait). w.thread ≡ t → IsWaiting image heap after.levels after.end w.object) ms.waits
   own_waits ms fine n d l = λ i. by_entry _ (fine.waits n d l) i
     where

@@ -46,7 +46,7 @@ owed_most Fresh t = omega arith
 owed_most Ready t = omega arith
 owed_most Erroneous t = omega arith
 
--- who owes a record is one thread alone
+-- one thread alone owes the record of a class
 pub owed_once : (s : ClassState) (t u : ℕ) → u ≢ t → 1 ≤ owed t s → owed u s ≡ 0
 owed_once (InProgress w) t u d l = go (cases_eq w t)
   where

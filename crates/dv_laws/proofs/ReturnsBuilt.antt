@@ -37,19 +37,19 @@ use Rattle.dv_laws.proofs.Plain.{no}
 use Rattle.dv_laws.proofs.ReturnsConstructed.{receiver_demanded}
 use Rattle.dv_laws.proofs.MethodCode.{code_is}
 
--- what a placed frame's instruction owes
-pub record Owes (image : Image) (T : Typings) (m : Method) (f : Frame) (x : At) (s : RegState) : Type 0 where
+-- what the verifier found of the instruction of a placed frame
+pub record IsVerified (image : Image) (T : Typings) (m : Method) (f : Frame) (x : At) (s : RegState) : Type 0 where
   pub demand : demands image m x.op s ≡ None
   pub flows : All (Leads image (T f.method.0) (out image m f.at x.op s)) (targets x)
 
-pub owes : (image : Image) (T : Typings) → Accepted image T → (heap : Heap) (this : Option ℕ) (f : Frame) (p : IsPlaced image T heap this f) (x : At) → fetch image f.method.0 f.at ≡ Some x → Owes image T p.method f x p.state
-owes image T a heap this f p x e =
+pub is_verified : (image : Image) (T : Typings) → Accepted image T → (heap : Heap) (this : Option ℕ) (f : Frame) (p : IsPlaced image T heap this f) (x : At) → fetch image f.method.0 f.at ≡ Some x → IsVerified image T p.method f x p.state
+is_verified image T a heap this f p x e =
     let k = a.typed.each f.method.0 f.at p.state p.has_state in
     let code : Code = k.0 in
     let same : code.method ≡ p.method = same_Some _ _ (sym (code_is image f.method.0 code k.2).method ∙ p.has_method) in
     let at : k.1 ≡ x = same_Some _ _ (sym k.3 ∙ e) in
-    let here : Owes image T code.method f k.1 p.state = record { demand = k.4.ok; flows = k.4.flows } in
-    subst (λ y. Owes image T p.method f y p.state) at (subst (λ z. Owes image T z f k.1 p.state) same here)
+    let here : IsVerified image T code.method f k.1 p.state = record { demand = k.4.ok; flows = k.4.flows } in
+    subst (λ y. IsVerified image T p.method f y p.state) at (subst (λ z. IsVerified image T z f k.1 p.state) same here)
 
 -- where there is an object, it isn't a bare one of String or Class
 abbrev pub IsProperAt : Image → Heap → ℕ → Type 0
@@ -114,7 +114,7 @@ module _ (image : Image) (T : Typings) (a : Accepted image T) (heap : Heap) wher
       at_place None q c below = absurd (cc)
       at_place (Some x) q c below =
           let p = h.1 in
-          called_proper (this_above image ls) p.method f p.state p.conform below x.op x.next (owes image T a heap (this_above image ls) f p x q).demand
+          called_proper (this_above image ls) p.method f p.state p.conform below x.op x.next (is_verified image T a heap (this_above image ls) f p x q).demand
           (λ c ks g e. invoke_named x.op c ks g (is_named image f.method.0 f.at x q) e) o c
 
   -- what the type of its class takes

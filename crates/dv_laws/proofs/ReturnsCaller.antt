@@ -33,7 +33,7 @@ use Rattle.dv_laws.proofs.CallsResolved.{is_named}
 use Rattle.dv_laws.proofs.LocalStill.{still, same_shared, IsQuiet}
 use Rattle.dv_laws.proofs.LocalStands.{Stands, rest_refs, rest_lowest, same_lowest}
 use Rattle.dv_laws.proofs.ReturnsConstructed.{returned_conforms, receiver_demanded, no_receiver, not_static}
-use Rattle.dv_laws.proofs.ReturnsBuilt.{Owes, owes, IsProperAt, invoke_named, this_proper, built, receiver_there}
+use Rattle.dv_laws.proofs.ReturnsBuilt.{IsVerified, is_verified, IsProperAt, invoke_named, this_proper, built, receiver_there}
 use Rattle.dv_laws.proofs.ReturnsShape.{returned_method, returned_at, returned_count, IsObjectThere, object_there, returned_refs}
 
 -- what a return hands to whatever frame it goes to
@@ -55,8 +55,8 @@ module _ (image : Image) (T : Typings) (m : Machine) (t : ℕ) (thread : Thread)
     caller : IsPlaced image T heap (this_above image ls) g
     caller = stack.1
 
-    owed : Owes image T caller.method g called.at caller.state
-    owed = owes image T h.may.accepted heap (this_above image ls) g caller called.at called.has_at
+    verified : IsVerified image T caller.method g called.at caller.state
+    verified = is_verified image T h.may.accepted heap (this_above image ls) g caller called.at called.has_at
 
     callee_there : (n : ℕ) × (method_at image n ≡ Some called.callee)
     callee_there = invoke_named image T h.may.accepted heap called.at.op called.call called.args called.callee (is_named image g.method.0 g.at called.at called.has_at) called.is_invoke
@@ -78,12 +78,12 @@ module _ (image : Image) (T : Typings) (m : Machine) (t : ℕ) (thread : Thread)
     receiver_built : is_constructor called.callee ≡ true → (k : ℕ) → receiver_of called.at.op ≡ Some k → IsBuilt image heap caller.method (reg_at g.regs k)
     receiver_built = of_receiver (IsBuilt image heap caller.method)
         (λ y u c q e. built image T h.may.accepted heap (this_above image ls) caller.method callee_there.0 called.callee callee_there.1 e below_proper y u c q)
-        called.at.op called.args called.is_invoke owed.demand
+        called.at.op called.args called.is_invoke verified.demand
 
     receiver_is_there : is_constructor called.callee ≡ true → (k : ℕ) → receiver_of called.at.op ≡ Some k → IsObjectThere image heap (object_of (reg_at g.regs k))
     receiver_is_there = of_receiver (λ y. IsObjectThere image heap (object_of y))
         (λ y u c q e. object_there image heap (object_of y) (λ o f. receiver_there image T h.may.accepted heap (this_above image ls) caller.method callee_there.0 called.callee callee_there.1 e below_proper y u c q o f))
-        called.at.op called.args called.is_invoke owed.demand
+        called.at.op called.args called.is_invoke verified.demand
 
     is_back : IsBack image heap (this_above image ls) caller.method g caller.state called.at p
     is_back = record {
@@ -92,7 +92,7 @@ module _ (image : Image) (T : Typings) (m : Machine) (t : ℕ) (thread : Thread)
       args = called.args;
       callee = called.callee;
       is_invoke = called.is_invoke;
-      demand = owed.demand;
+      demand = verified.demand;
       result = subst (λ (z : Proto). ResultConforms image heap (own_of image (this_above image ls) caller.method) p (pending_of z.ret)) called.same_proto (r.conforms (this_above image ls) caller.method);
       built = receiver_built;
     }
@@ -105,7 +105,7 @@ module _ (image : Image) (T : Typings) (m : Machine) (t : ℕ) (thread : Thread)
     invoke_leads op n c ks k st e a = All-head (Leads image (T g.method.0) st) n [] (subst (λ z. All (Leads image (T g.method.0) st) (targets (record { op = z; next = n }))) e a)
 
     leads : Leads image (T g.method.0) (out image caller.method g.at called.at.op caller.state) called.at.next
-    leads = invoke_leads called.at.op called.at.next called.call called.args called.callee _ called.is_invoke owed.flows
+    leads = invoke_leads called.at.op called.at.next called.call called.args called.callee _ called.is_invoke verified.flows
 
     conforms : Conform image heap (own_of image (this_above image ls) caller.method) after (out image caller.method g.at called.at.op caller.state)
     unfolding called is_back

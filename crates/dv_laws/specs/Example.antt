@@ -13,6 +13,6 @@ calls_example = calling
 unfoldable pub handlers_example : Image
 handlers_example = throwing
 
--- what the laws take of an image isn't asked of nothing
+-- some typings of its methods make the image one of which the laws speak
 abbrev pub IsAccepted : Image → Type 0
 IsAccepted image = (T : Typings) × Accepted image T

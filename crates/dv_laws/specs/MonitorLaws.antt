@@ -9,6 +9,7 @@ use Rattle.dv_machine.specs.WellTyped.{IsWaiting, MonitorsFine}
 abbrev pub EnteringKeeps : Type 0
 EnteringKeeps = (image : Image) (threads : List Thread) (sh : Shared) (steps o t : ℕ) (thread : Thread) → MonitorsFine image threads sh steps → slice_get threads t ≡ Some thread → entry_of sh.monitors t ≡ None → MonitorsFine image threads (with_monitors sh (entered sh.monitors o t 1)) (suc steps)
 
+-- a monitor is exited once
 abbrev pub ExitingKeeps : Type 0
 ExitingKeeps = (image : Image) (threads : List Thread) (sh : Shared) (steps o : ℕ) → MonitorsFine image threads sh steps → MonitorsFine image threads (with_monitors sh (exited sh.monitors o)) (suc steps)
 
@@ -16,6 +17,7 @@ ExitingKeeps = (image : Image) (threads : List Thread) (sh : Shared) (steps o : 
 abbrev pub WaitingKeeps : Type 0
 WaitingKeeps = (image : Image) (threads : List Thread) (sh : Shared) (steps o t : ℕ) (thread : Thread) (h : Held) → MonitorsFine image threads sh steps → slice_get threads t ≡ Some thread → entry_of sh.monitors t ≡ None → held_of sh.monitors o ≡ Some h → IsWaiting image sh.heap thread.levels thread.end o → MonitorsFine image threads (with_monitors sh (waiting sh.monitors o t h.count)) (suc steps)
 
+-- one, or all, of those that wait on an object are notified
 abbrev pub NotifyingKeeps : Type 0
 NotifyingKeeps = (image : Image) (threads : List Thread) (sh : Shared) (steps o : ℕ) → MonitorsFine image threads sh steps → MonitorsFine image threads (with_monitors sh (notified_one sh.monitors o)) (suc steps) × MonitorsFine image threads (with_monitors sh (notified_all sh.monitors o)) (suc steps)
 

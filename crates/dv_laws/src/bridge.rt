@@ -14,7 +14,7 @@ pub fn look_ups_find()
     ensures law { LookUpsFind }
 {}
 
-/// Acceptance gives a typing of each method, with what each address owes.
+/// Acceptance gives a typing of each method, with what the verifier found at each address.
 #[tactic(auto, using(crate::proofs::BridgeRecords::acceptance_gives_records))]
 pub fn acceptance_gives_records()
     ensures law { AcceptanceGivesRecords }

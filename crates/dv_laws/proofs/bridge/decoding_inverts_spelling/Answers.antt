@@ -1,5 +1,6 @@
-use Rattle.dv_laws.proofs.BridgeDecoding as laws
+-- The clause of `decoding_inverts_spelling`, by its lemma.
+use Rattle.dv_laws.proofs.BridgeDecoding.{decoding_inverts_spelling}
 use Rattle.dv_laws.proofs.bridge.decoding_inverts_spelling.Goals as goal
 
 pub returns : goal.returns
-returns c = record { law = laws.decoding_inverts_spelling }
+returns c = record { law = decoding_inverts_spelling }

@@ -1,4 +1,4 @@
--- The clauses of `entry_conforms`, each by its lemma.
+-- The clause of `entry_conforms`, by its lemma.
 use Rattle.dv_laws.proofs.calls.entry_conforms.Goals as goal
 use Rattle.dv_laws.proofs.CallsEntered.{entry_conforms}
 

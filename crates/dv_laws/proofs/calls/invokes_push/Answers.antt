@@ -1,4 +1,4 @@
--- The clauses of `invokes_push`, each by its lemma.
+-- The clause of `invokes_push`, by its lemma.
 use Rattle.dv_laws.proofs.calls.invokes_push.Goals as goal
 use Rattle.dv_laws.proofs.CallsPush.{invokes_push}
 

@@ -1,4 +1,4 @@
--- The clauses of `reads_arguments`, each by its lemma.
+-- The clause of `reads_arguments`, by its lemma.
 use Rattle.dv_laws.proofs.calls.reads_arguments.Goals as goal
 use Rattle.dv_laws.proofs.ReadersWords.{reads_arguments}
 

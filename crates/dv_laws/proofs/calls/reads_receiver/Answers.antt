@@ -1,4 +1,4 @@
--- The clauses of `reads_receiver`, each by its lemma.
+-- The clause of `reads_receiver`, by its lemma.
 use Rattle.dv_laws.proofs.calls.reads_receiver.Goals as goal
 use Rattle.dv_laws.proofs.CallsConstructors.{reads_receiver}
 

@@ -1,4 +1,4 @@
--- The clauses of `reads_value`, each by its lemma.
+-- The clause of `reads_value`, by its lemma.
 use Rattle.dv_laws.proofs.calls.reads_value.Goals as goal
 use Rattle.dv_laws.proofs.ReadersWords.{reads_value}
 

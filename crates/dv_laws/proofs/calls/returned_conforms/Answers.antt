@@ -1,4 +1,4 @@
--- The clauses of `returned_conforms`, each by its lemma.
+-- The clause of `returned_conforms`, by its lemma.
 use Rattle.dv_laws.proofs.calls.returned_conforms.Goals as goal
 use Rattle.dv_laws.proofs.ReturnsConstructed.{returned_conforms}
 

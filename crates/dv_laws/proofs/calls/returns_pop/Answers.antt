@@ -1,4 +1,4 @@
--- The clauses of `returns_pop`, each by its lemma.
+-- The clause of `returns_pop`, by its lemma.
 use Rattle.dv_laws.proofs.calls.returns_pop.Goals as goal
 use Rattle.dv_laws.proofs.ReturnsFine.{returns_pop}
 

@@ -1,4 +1,4 @@
--- The clauses of `words_pend`, each by its lemma.
+-- The clause of `words_pend`, by its lemma.
 use Rattle.dv_laws.proofs.calls.words_pend.Goals as goal
 use Rattle.dv_laws.proofs.ReadersWords.{words_pend}
 

@@ -1,4 +1,4 @@
--- The clauses of `flights_are_fine`, each by its lemma.
+-- The clause of `flights_are_fine`, by its lemma.
 use Rattle.dv_laws.proofs.FlightRecords.{flights_are_fine}
 use Rattle.dv_laws.proofs.exceptions.flights_are_fine.Goals as goal
 

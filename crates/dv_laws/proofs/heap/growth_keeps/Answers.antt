@@ -1,4 +1,4 @@
--- The clauses of `growth_keeps`, each by its lemma.
+-- The clause of `growth_keeps`, by its lemma.
 use Rattle.dv_laws.proofs.GrowthKeeps.{growth_keeps}
 use Rattle.dv_laws.proofs.heap.growth_keeps.Goals as goal
 

@@ -1,4 +1,4 @@
--- The clauses of `heap_steps_are_fine`, each by its lemma.
+-- The clause of `heap_steps_are_fine`, by its lemma.
 use Rattle.dv_laws.proofs.HeapSteps.{heap_steps_are_fine}
 use Rattle.dv_laws.proofs.heap.heap_steps_are_fine.Goals as goal
 

@@ -1,4 +1,4 @@
--- The clauses of `keeps_object`, each by its lemma.
+-- The clause of `keeps_object`, by its lemma.
 use Rattle.dv_laws.proofs.local.keeps_object.Goals as goal
 use Rattle.dv_laws.proofs.ReadersPlain.{keeps_object}
 

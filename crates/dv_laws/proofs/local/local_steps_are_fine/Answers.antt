@@ -1,4 +1,4 @@
--- The clauses of `local_steps_are_fine`, each by its lemma.
+-- The clause of `local_steps_are_fine`, by its lemma.
 use Rattle.dv_laws.proofs.local.local_steps_are_fine.Goals as goal
 use Rattle.dv_laws.proofs.LocalFine.{local_steps_are_fine}
 

@@ -1,4 +1,4 @@
--- The clauses of `opening_is_well_typed`, each by its lemma.
+-- The clause of `opening_is_well_typed`, by its lemma.
 use Rattle.dv_laws.proofs.OpeningState.{opening_is_well_typed}
 use Rattle.dv_laws.proofs.opening.opening_is_well_typed.Goals as goal
 

@@ -1,3 +1,4 @@
+-- The clauses of `conformity_goes_up`, each by its lemma.
 use Rattle.dv_laws.proofs.OrderStates.{value_conformity_goes_up, register_conformity_goes_up, frame_conformity_goes_up}
 use Rattle.dv_laws.proofs.order.conformity_goes_up.Goals as goal
 

@@ -1,5 +1,6 @@
-use Rattle.dv_laws.proofs.OrderSatisfied as laws
+-- The clause of `demand_is_antitone`, by its lemma.
+use Rattle.dv_laws.proofs.OrderSatisfied.{demand_is_antitone}
 use Rattle.dv_laws.proofs.order.demand_is_antitone.Goals as goal
 
 pub returns : goal.returns
-returns c = record { law = laws.demand_is_antitone }
+returns c = record { law = demand_is_antitone }

@@ -1,5 +1,6 @@
-use Rattle.dv_laws.proofs.OrderJoins as laws
+-- The clause of `join_is_least`, by its lemma.
+use Rattle.dv_laws.proofs.OrderJoins.{join_is_least}
 use Rattle.dv_laws.proofs.order.join_is_least.Goals as goal
 
 pub returns : goal.returns
-returns c = record { law = laws.join_is_least }
+returns c = record { law = join_is_least }

@@ -1,5 +1,6 @@
-use Rattle.dv_laws.proofs.OrderTransfer as laws
+-- The clause of `transfer_is_monotone`, by its lemma.
+use Rattle.dv_laws.proofs.OrderTransfer.{transfer_is_monotone}
 use Rattle.dv_laws.proofs.order.transfer_is_monotone.Goals as goal
 
 pub returns : goal.returns
-returns c = record { law = laws.transfer_is_monotone }
+returns c = record { law = transfer_is_monotone }

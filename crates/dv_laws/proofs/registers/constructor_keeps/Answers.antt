@@ -1,4 +1,4 @@
--- The clauses of `constructor_keeps`, each by its lemma.
+-- The clause of `constructor_keeps`, by its lemma.
 use Rattle.dv_laws.proofs.registers.constructor_keeps.Goals as goal
 use Rattle.dv_laws.proofs.RegistersMade.{constructor_keeps}
 

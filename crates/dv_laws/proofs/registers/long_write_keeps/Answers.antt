@@ -1,4 +1,4 @@
--- The clauses of `long_write_keeps`, each by its lemma.
+-- The clause of `long_write_keeps`, by its lemma.
 use Rattle.dv_laws.proofs.registers.long_write_keeps.Goals as goal
 use Rattle.dv_laws.proofs.RegistersWritten.{long_write_keeps}
 

@@ -1,4 +1,4 @@
--- The clauses of `new_instance_keeps`, each by its lemma.
+-- The clause of `new_instance_keeps`, by its lemma.
 use Rattle.dv_laws.proofs.registers.new_instance_keeps.Goals as goal
 use Rattle.dv_laws.proofs.RegistersMade.{new_instance_keeps}
 

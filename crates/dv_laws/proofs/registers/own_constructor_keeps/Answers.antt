@@ -1,4 +1,4 @@
--- The clauses of `own_constructor_keeps`, each by its lemma.
+-- The clause of `own_constructor_keeps`, by its lemma.
 use Rattle.dv_laws.proofs.registers.own_constructor_keeps.Goals as goal
 use Rattle.dv_laws.proofs.RegistersMade.{own_constructor_keeps}
 

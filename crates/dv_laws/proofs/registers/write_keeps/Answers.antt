@@ -1,4 +1,4 @@
--- The clauses of `write_keeps`, each by its lemma.
+-- The clause of `write_keeps`, by its lemma.
 use Rattle.dv_laws.proofs.registers.write_keeps.Goals as goal
 use Rattle.dv_laws.proofs.RegistersWritten.{write_keeps}
 

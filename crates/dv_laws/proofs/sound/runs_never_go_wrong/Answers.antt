@@ -1,4 +1,4 @@
--- The clauses of `runs_never_go_wrong`, each by its lemma.
+-- The clause of `runs_never_go_wrong`, by its lemma.
 use Rattle.dv_laws.proofs.BridgeLaws.{bridge_holds}
 use Rattle.dv_laws.proofs.OpeningState.{opening_is_well_typed}
 use Rattle.dv_laws.proofs.SoundSteps.{steps_are_sound}

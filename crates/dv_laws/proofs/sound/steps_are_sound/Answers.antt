@@ -1,4 +1,4 @@
--- The clauses of `steps_are_sound`, each by its lemma.
+-- The clause of `steps_are_sound`, by its lemma.
 use Rattle.dv_laws.proofs.SoundSteps.{steps_are_sound}
 use Rattle.dv_laws.proofs.sound.steps_are_sound.Goals as goal
 

@@ -1,4 +1,4 @@
--- The clauses of `left_states_are_well_typed`, each by its lemma.
+-- The clause of `left_states_are_well_typed`, by its lemma.
 use Rattle.dv_laws.proofs.GrowthThreads.{left_is_well_typed}
 use Rattle.dv_laws.proofs.threads.left_states_are_well_typed.Goals as goal
 

@@ -1,4 +1,4 @@
--- The clauses of `monitor_steps_are_fine`, each by its lemma.
+-- The clause of `monitor_steps_are_fine`, by its lemma.
 use Rattle.dv_laws.proofs.MonitorsSteps.{monitor_steps_are_fine}
 use Rattle.dv_laws.proofs.threads.monitor_steps_are_fine.Goals as goal
 

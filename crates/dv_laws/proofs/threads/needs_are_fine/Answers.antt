@@ -1,4 +1,4 @@
--- The clauses of `needs_are_fine`, each by its lemma.
+-- The clause of `needs_are_fine`, by its lemma.
 use Rattle.dv_laws.proofs.RecordsNeeded.{needs_are_fine}
 use Rattle.dv_laws.proofs.threads.needs_are_fine.Goals as goal
 

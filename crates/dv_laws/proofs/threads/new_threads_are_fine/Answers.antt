@@ -1,4 +1,4 @@
--- The clauses of `new_threads_are_fine`, each by its lemma.
+-- The clause of `new_threads_are_fine`, by its lemma.
 use Rattle.dv_laws.proofs.RecordsStarted.{new_thread_is_fine}
 use Rattle.dv_laws.proofs.threads.new_threads_are_fine.Goals as goal
 

@@ -1,4 +1,4 @@
--- The clauses of `records_are_fine`, each by its lemma.
+-- The clause of `records_are_fine`, by its lemma.
 use Rattle.dv_laws.proofs.RecordsFine.{records_are_fine}
 use Rattle.dv_laws.proofs.threads.records_are_fine.Goals as goal
 
