@@ -2,3 +2,4 @@ pub mod Tables
 pub mod Reading
 pub mod Laws
 pub mod Payloads
+pub mod Offsets

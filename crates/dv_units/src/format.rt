@@ -34,7 +34,8 @@ pub fn units_of(format: Format) -> usize
     }
 }
 
-fn table_format(op: u8) -> Option<Format>
+/// The format of an opcode, none where it is unused or a float's.
+pub fn table_format(op: u8) -> Option<Format>
     ensures { option_map standard result ≡ format_at op }
 {
     match row_of(op) {

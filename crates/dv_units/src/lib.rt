@@ -13,6 +13,7 @@ mod payloads;
 mod read;
 mod readers;
 mod shape;
+mod sizes;
 mod spelled;
 #[cfg(test)]
 mod tests;
@@ -26,4 +27,5 @@ pub use laws::{
 };
 pub use payloads::{decode_payload, encode_payload, payload_size};
 pub use read::decode;
+pub use sizes::{has_spelling, insn_size, offset_bits};
 pub use write::encode;
