@@ -1,0 +1,94 @@
+-- What a draft is seen as, and what each draft keeps.
+use Rattle.std.specs.Prelude.{ℕ, ◌≤◌, ◌%◌, ◌^◌, ℤ, pos, Bool, true, false, ◌&&◌, ◌||◌, nat_eq, nat_lt, List, [], ◌∷◌, length, drop, slice_index, All, Option, Some, None, is_some, IsTrue}
+use Rattle.std.specs.Bool.{beq}
+use Rattle.std.specs.Ordering.{int_eq}
+use Rattle.dv_defs.specs.declared.code.Insn.{Insn}
+use Rattle.dv_defs.specs.declared.code.Regs.{Regs}
+use Rattle.dv_defs.specs.Formats.{Format, F10t, F20t, F21t, F22t, F30t, F31t, F21c, F22c, F31c, F35c, F3rc, format_at}
+use Rattle.dv_defs.specs.Families.{Family, family_at}
+use Rattle.dv_defs.specs.Families as family
+use Rattle.dv_defs.specs.Spelling.{spelling, all_zero}
+use Rattle.dv_defs.specs.Tiling.{is_width}
+use Rattle.dv_asm.specs.declared.draft.Item.{Item}
+use Rattle.dv_asm.specs.declared.draft.Catch.{Catch}
+use Rattle.dv_asm.specs.declared.draft.Draftop.{Draftop}
+use Rattle.dv_asm.specs.declared.draft.What.{What}
+use Rattle.dv_asm.specs.declared.draft.What.TheVariants as what
+use Rattle.dv_asm.specs.declared.draft.PoolRef.{PoolRef}
+use Rattle.dv_asm.specs.declared.draft.PoolRef.TheVariants as pool
+
+pub record DraftValue : Type 0 where
+  pub registers : ℕ
+  pub items : List Item
+  pub catches : List Catch
+
+-- whether a format has an offset, which a label gives
+abbrev pub has_offset : Option Format → Bool
+has_offset (Some F10t) = true
+has_offset (Some F20t) = true
+has_offset (Some F21t) = true
+has_offset (Some F22t) = true
+has_offset (Some F30t) = true
+has_offset (Some F31t) = true
+has_offset format = false
+
+-- whether a format has the index of a pool's entry
+abbrev pub has_index : Option Format → Bool
+has_index (Some F21c) = true
+has_index (Some F22c) = true
+has_index (Some F31c) = true
+has_index (Some F35c) = true
+has_index (Some F3rc) = true
+has_index format = false
+
+-- whether an entry is of the kind that instructions of a family name
+abbrev pub is_named_by : Option Family → PoolRef → Bool
+is_named_by (Some family.ConstString) (pool.Str chars) = true
+is_named_by (Some family.ConstClass) (pool.OfType ty) = true
+is_named_by (Some family.CheckCast) (pool.OfType ty) = true
+is_named_by (Some family.InstanceOf) (pool.OfType ty) = true
+is_named_by (Some family.NewInstance) (pool.OfType ty) = true
+is_named_by (Some family.NewArray) (pool.OfType ty) = true
+is_named_by (Some family.FilledNewArray) (pool.OfType ty) = true
+is_named_by (Some (family.FieldGet suffix)) (pool.Field field) = true
+is_named_by (Some (family.FieldPut suffix)) (pool.Field field) = true
+is_named_by (Some (family.StaticGet suffix)) (pool.Field field) = true
+is_named_by (Some (family.StaticPut suffix)) (pool.Field field) = true
+is_named_by (Some (family.Invoke call)) (pool.Method method) = true
+is_named_by f entry = false
+
+abbrev pub is_no_entry : PoolRef → Bool
+is_no_entry pool.None = true
+is_no_entry entry = false
+
+-- the instruction with its registers, offset and index set to 0: it has a spelling exactly where its opcode is one of
+-- the table, it has as many registers as its format takes, its range is that of its format, and its literal fits
+abbrev pub blank : Insn → Insn
+blank i = record { op = i.op; regs = record { count = i.regs.count; first = 0 ∷ 0 ∷ 0 ∷ 0 ∷ 0 ∷ []; range = i.regs.range }; lit = i.lit; off = pos 0; index = 0 }
+
+-- the places of registers that aren't there are 0
+abbrev pub has_no_further : Regs → Bool
+has_no_further r = elim r.range [ true ↦ all_zero (drop 1 r.first) && (nat_lt 0 r.count || nat_eq (slice_index r.first 0) 0) | false ↦ all_zero (drop r.count r.first) ]
+
+-- an instruction in the form of its format, with a label exactly where the format has an offset, an entry of its
+-- opcode's kind exactly where it has an index, and 0 in the parts that it lacks
+abbrev pub is_op : Draftop → Bool
+is_op op =
+    let format = format_at op.insn.op in
+    is_some (spelling (blank op.insn)) && has_no_further op.insn.regs &&
+    beq (is_some op.label) (has_offset format) && (has_offset format || int_eq op.insn.off (pos 0)) &&
+    (is_named_by (family_at op.insn.op) op.pool || (is_no_entry op.pool && not_index format)) && (has_index format || nat_eq op.insn.index 0)
+  where
+    not_index : Option Format → Bool
+    not_index format = elim (has_index format) [ true ↦ false | false ↦ true ]
+
+abbrev pub is_formed : What → Bool
+is_formed (what.Label name) = true
+is_formed (what.Op op) = is_op op
+is_formed (what.Packed first targets) = true
+is_formed (what.Sparse keys targets) = nat_eq (length targets) (length keys)
+is_formed (what.Data width bytes) = is_width width && nat_eq (length bytes % width) 0
+
+pub record IsDraft (registers : ℕ) (items : List Item) : Type 0 where
+  pub few_registers : registers ≤ 256
+  pub formed : All (λ (item : Item). IsTrue (is_formed item.what)) items
