@@ -1,3 +1,5 @@
+pub mod First
 pub mod Items
 pub mod Draft
 pub mod Places
+pub mod Refusals

@@ -1,8 +1,13 @@
 //! The draft of a method's body is assembled into units with try entries and pools.
-#![tactic(auto)]
+#![tactic(auto, using(crate::proofs::FirstLemmas::first_line_more))]
 
 mod draft;
 mod items;
+mod labels;
+mod lines;
 mod places;
+mod ranges;
+mod switches;
+mod tries;
 
 pub use draft::{Catch, Draft, Draftop, Item, PoolRef, What};

@@ -1,6 +1,6 @@
 // The addresses of items and labels.
-ghost use Rattle.std.specs.Prelude.{◌≡◌, ◌-ℤ◌, ◌^◌, ◌≤◌, pos, IfOk};
-ghost use Rattle.dv_asm.specs.Places.{leads_to_payload, aligned, place_of, label_address, ArePlaces};
+ghost use Rattle.std.specs.Prelude.{◌≡◌, ◌-ℤ◌, ◌^◌, ◌≤◌, pos, length, IfOk};
+ghost use Rattle.dv_asm.specs.Places.{leads_to_payload, aligned, place_of, label_address, distance, address_of, ArePlaces};
 
 use crate::draft::Item;
 use std::alloc::{AllocError, Global};
@@ -70,10 +70,30 @@ pub fn label_address(items: &[Item], places: &[u64], name: &[u8]) -> u64
 }
 
 /// How far one address is from another.
-pub fn distance(from: u64, to: u64) -> i64
+fn difference(from: u64, to: u64) -> i64
     requires from { from ≤ 2 ^ 62 }
     requires to { to ≤ 2 ^ 62 }
     ensures { result ≡ pos to -ℤ pos from }
 {
     to as i64 - from as i64
+}
+
+/// How far a label is from an address.
+pub fn distance(items: &[Item], places: &[u64], from: u64, name: &[u8]) -> i64
+    requires places { ArePlaces items.now places.now }
+    requires small { from ≤ 2 ^ 62 }
+    ensures { result ≡ distance items.now from name.now }
+{
+    difference(from, label_address(items, places, name))
+}
+
+/// The address of an item.
+pub fn address_of(items: &[Item], places: &[u64], k: usize) -> u64
+    requires places { ArePlaces items.now places.now }
+    requires within { k ≤ length items.now }
+    ensures value { result ≡ address_of items.now k }
+    ensures small { result ≤ 2 ^ 62 }
+{
+    let _ = items;
+    places[k]
 }
