@@ -3,3 +3,4 @@ pub mod Items
 pub mod Draft
 pub mod Places
 pub mod Refusals
+pub mod Pools

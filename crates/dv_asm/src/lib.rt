@@ -2,10 +2,12 @@
 #![tactic(auto, using(crate::proofs::FirstLemmas::first_line_more))]
 
 mod draft;
+mod entries;
 mod items;
 mod labels;
 mod lines;
 mod places;
+mod pools;
 mod ranges;
 mod switches;
 mod tries;
