@@ -4,3 +4,4 @@ pub mod Draft
 pub mod Places
 pub mod Refusals
 pub mod Pools
+pub mod Layout

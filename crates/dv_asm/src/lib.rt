@@ -9,6 +9,7 @@ mod lines;
 mod places;
 mod pools;
 mod ranges;
+mod short;
 mod switches;
 mod tries;
 

@@ -1,19 +1,19 @@
 // The ranges of handlers.
-ghost use Rattle.std.specs.Prelude.{◌≡◌, IfOk};
+ghost use Rattle.std.specs.Prelude.{◌≡◌, None, IfOk};
 ghost use Rattle.std.specs.List.{list_any};
 ghost use Rattle.dv_asm.specs.Places.{ArePlaces};
-ghost use Rattle.dv_asm.specs.Refusals.{range_of, ranges_of, is_empty, is_same, overlaps, overlaps_earlier, try_range, try_overlap};
+ghost use Rattle.dv_asm.specs.Refusals.{too_long, range_of, ranges_of, is_empty, is_same, overlaps, overlaps_earlier, try_range, try_overlap};
 
 use crate::draft::{Catch, Item};
 use crate::lines::{earlier, when};
-use crate::places::label_address;
+use crate::short::label_address;
 use std::alloc::{AllocError, Global};
 
 /// The addresses from `start` up to and without `end`.
 #[derive(Clone, Copy, PartialEq, Eq, Debug)]
 pub struct TryRange {
-    pub start: u64,
-    pub end: u64,
+    pub start: u32,
+    pub end: u32,
 }
 
 impl TryRange {
@@ -38,7 +38,8 @@ impl TryRange {
 }
 
 fn range_of(items: &[Item], places: &[u64], catch: &Catch) -> TryRange
-    requires { ArePlaces items.now places.now }
+    requires places { ArePlaces items.now places.now }
+    requires short { too_long items.now ≡ None }
     ensures { result ≡ range_of items.now catch.now }
 {
     TryRange {
@@ -54,7 +55,8 @@ pub fn ranges(
     catches: &[Catch],
     places: &[u64],
 ) -> Result<Vec<TryRange>, AllocError>
-    requires { ArePlaces items.now places.now }
+    requires places { ArePlaces items.now places.now }
+    requires short { too_long items.now ≡ None }
     ensures { IfOk result (λ ranges. ranges.items ≡ ranges_of items.now catches.now) }
 {
     let mut ranges = Vec::new(alloc);
