@@ -24,9 +24,12 @@ use Rattle.dv_asm.specs.Places.{address_of, label_address, distance}
 use Rattle.dv_asm.specs.Refusals.{with_operands, switch_of, range_of, ranges_of, is_same}
 use Rattle.dv_asm.specs.Pools.{with_entries, chars_of, type_of, field_of, method_of, field_eq, method_eq, index_of}
 
--- how many of the ranges begin before this one, where they are in order
+abbrev pub begins_from : TryRange → TryRange → Bool
+begins_from r s = nat_le r.start s.start
+
+-- how many of the ranges begin before this one, where they stand by their starts
 abbrev pub place_among : List TryRange → TryRange → ℕ
-place_among rs r = unwrap_or (position (λ (s : TryRange). nat_le r.start s.start) rs) (length rs)
+place_among rs r = unwrap_or (position (begins_from r) rs) (length rs)
 
 abbrev pub is_range : TryRange → Option TryRange → Bool
 is_range r None = false
@@ -40,17 +43,14 @@ with_range rs r = if is_range r (slice_get rs (place_among rs r)) then rs else i
 abbrev pub sorted_ranges : List Item → List Catch → List TryRange
 sorted_ranges items catches = fold with_range [] (ranges_of items catches)
 
--- the handlers of a range, in the order of the text
-abbrev pub catches_of : List Item → List Catch → TryRange → List Catch
-catches_of items catches r = filter (λ (c : Catch). is_same (range_of items c) r) catches
-
-abbrev pub kind_of : Catch → Option Ty
-kind_of c = c.kind
+-- the type that a handler catches, where its range is this one
+abbrev pub kind_in : List Item → TryRange → Catch → Option Ty
+kind_in items r c = if is_same (range_of items c) r then c.kind else None
 
 -- the types, and then those that the handlers of each range catch
 abbrev pub with_kinds : List Item → List Catch → List Ty → List TryRange → List Ty
 with_kinds items catches ts [] = ts
-with_kinds items catches ts (r ∷ rs) = with_kinds items catches (with_entries ty_eq kind_of ts (catches_of items catches r)) rs
+with_kinds items catches ts (r ∷ rs) = with_kinds items catches (with_entries ty_eq (kind_in items r) ts catches) rs
 
 -- the pools: what the instructions name, and then the types of the handlers, by the ranges' starts
 unfoldable pub pools_of : List Item → List Catch → Pools
@@ -64,7 +64,10 @@ pools_of items catches = record {
 abbrev pub handler_of : List Item → List Ty → Catch → Handler
 handler_of items types c = record { kind = option_and_then (λ t. position (ty_eq t) types) c.kind; at = label_address items c.at }
 
--- the entry of a range, with its handlers in the order of the text
+-- the handlers of a range, in the order of the text
+abbrev pub catches_of : List Item → List Catch → TryRange → List Catch
+catches_of items catches r = filter (λ (c : Catch). is_same (range_of items c) r) catches
+
 abbrev pub entry_of : List Item → List Catch → List Ty → TryRange → Try
 entry_of items catches types r = record { start = r.start; end = r.end; handlers = map (handler_of items types) (catches_of items catches r) }
 

@@ -14,11 +14,11 @@ impl Item {
     }
 
     /// Whether the item is the label of this name.
-    pub fn is_named(&self, name: &[u8]) -> bool
+    pub fn is_named(&self, name: &Text) -> bool
         ensures { result ≡ is_named name.now self.now }
     {
         match &self.what {
-            What::Label(own) => own.bytes() == name,
+            What::Label(own) => own.bytes() == name.bytes(),
             _ => false,
         }
     }

@@ -24,7 +24,7 @@ fn is_second(items: &[Item], k: usize, what: &What) -> bool
     ensures { result ≡ is_second items.now k what.now }
 {
     match what {
-        What::Label(name) => !is_place(k, find_label(items, name.bytes())),
+        What::Label(name) => !is_place(k, find_label(items, name)),
         _ => false,
     }
 }
@@ -44,7 +44,7 @@ pub fn label_twice(items: &[Item]) -> Option<u32>
 fn has_label(items: &[Item], name: &Text) -> bool
     ensures { result ≡ has_label items.now name.now }
 {
-    find_label(items, name.bytes()).is_some()
+    find_label(items, name).is_some()
 }
 
 fn have_labels(items: &[Item], names: &[Text]) -> bool

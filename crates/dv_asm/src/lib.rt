@@ -3,6 +3,7 @@
 
 mod draft;
 mod entries;
+mod handlers;
 mod items;
 mod labels;
 mod lines;
@@ -12,5 +13,6 @@ mod ranges;
 mod short;
 mod switches;
 mod tries;
+mod units;
 
 pub use draft::{Catch, Draft, Draftop, Item, PoolRef, What};

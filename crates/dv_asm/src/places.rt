@@ -3,6 +3,7 @@ ghost use Rattle.std.specs.Prelude.{◌≡◌, ◌-ℤ◌, ◌^◌, ◌≤◌, p
 ghost use Rattle.dv_asm.specs.Places.{leads_to_payload, aligned, place_of, label_address, distance, address_of, ArePlaces};
 
 use crate::draft::Item;
+use dv_defs::Text;
 use std::alloc::{AllocError, Global};
 
 /// More units than any memory holds.
@@ -51,14 +52,14 @@ pub fn places(alloc: Global, items: &[Item]) -> Result<Vec<u64>, AllocError>
 }
 
 /// The place among the items of the first label of a name.
-pub fn find_label(items: &[Item], name: &[u8]) -> Option<usize>
+pub fn find_label(items: &[Item], name: &Text) -> Option<usize>
     ensures { result ≡ place_of items.now name.now }
 {
     items.iter().position(|item| item.is_named(name))
 }
 
 /// The address of a label, 0 where there is none.
-pub fn label_address(items: &[Item], places: &[u64], name: &[u8]) -> u64
+pub fn label_address(items: &[Item], places: &[u64], name: &Text) -> u64
     requires { ArePlaces items.now places.now }
     ensures value { result ≡ label_address items.now name.now }
     ensures small { result ≤ 2 ^ 62 }
@@ -79,7 +80,7 @@ fn difference(from: u64, to: u64) -> i64
 }
 
 /// How far a label is from an address.
-pub fn distance(items: &[Item], places: &[u64], from: u64, name: &[u8]) -> i64
+pub fn distance(items: &[Item], places: &[u64], from: u64, name: &Text) -> i64
     requires places { ArePlaces items.now places.now }
     requires small { from ≤ 2 ^ 62 }
     ensures { result ≡ distance items.now from name.now }

@@ -60,7 +60,7 @@ fn label_fits(items: &[Item], places: &[u64], k: usize, op: u8, name: &Text) -> 
     ensures { result ≡ offset_fits items.now k op (Some name.now) }
 {
     let from = address_of(items, places, k);
-    offset_fits(op, distance(items, places, from, name.bytes()))
+    offset_fits(op, distance(items, places, from, name))
 }
 
 fn is_over_offset(items: &[Item], places: &[u64], k: usize, op: &Draftop) -> bool

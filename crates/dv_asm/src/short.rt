@@ -5,6 +5,7 @@ ghost use Rattle.dv_asm.specs.Refusals.{too_long};
 
 use crate::draft::Item;
 use crate::places;
+use dv_defs::Text;
 
 /// The address of an item.
 #[tactic(auto, using(crate::proofs::PlaceLemmas::address_within))]
@@ -21,7 +22,7 @@ pub fn address_of(items: &[Item], places: &[u64], k: usize) -> u32
 
 /// The address of a label, 0 where there is none.
 #[tactic(auto, using(crate::proofs::PlaceLemmas::label_within))]
-pub fn label_address(items: &[Item], places: &[u64], name: &[u8]) -> u32
+pub fn label_address(items: &[Item], places: &[u64], name: &Text) -> u32
     requires places { ArePlaces items.now places.now }
     requires short { too_long items.now ≡ None }
     ensures value { result ≡ label_address items.now name.now }
@@ -31,7 +32,7 @@ pub fn label_address(items: &[Item], places: &[u64], name: &[u8]) -> u32
 }
 
 /// How far a label is from an address.
-pub fn distance(items: &[Item], places: &[u64], from: u32, name: &[u8]) -> i32
+pub fn distance(items: &[Item], places: &[u64], from: u32, name: &Text) -> i32
     requires places { ArePlaces items.now places.now }
     requires short { too_long items.now ≡ None }
     requires small { from ≤ 16384 }

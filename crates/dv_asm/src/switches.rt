@@ -15,7 +15,7 @@ fn address_named_by(items: &[Item], places: &[u64], item: &Item) -> Option<u64>
     ensures { result ≡ address_named_by items.now item.now }
 {
     match item.label_of_switch() {
-        Some(name) => Some(label_address(items, places, name.bytes())),
+        Some(name) => Some(label_address(items, places, name)),
         None => None,
     }
 }

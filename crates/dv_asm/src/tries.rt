@@ -37,14 +37,15 @@ impl TryRange {
     }
 }
 
-fn range_of(items: &[Item], places: &[u64], catch: &Catch) -> TryRange
+/// The range of a handler.
+pub fn range_of(items: &[Item], places: &[u64], catch: &Catch) -> TryRange
     requires places { ArePlaces items.now places.now }
     requires short { too_long items.now ≡ None }
     ensures { result ≡ range_of items.now catch.now }
 {
     TryRange {
-        start: label_address(items, places, catch.from.bytes()),
-        end: label_address(items, places, catch.to.bytes()),
+        start: label_address(items, places, &catch.from),
+        end: label_address(items, places, &catch.to),
     }
 }
 
