@@ -1,9 +1,10 @@
 -- The text of a draft.
-use Rattle.std.specs.Prelude.{ℕ, zero, suc, ◌+◌, ◌*◌, ◌/◌, ◌==◌, ℤ, List, [], ◌∷◌, ◌++◌, length, take, drop, codes, decimal, Option, Some, None, if◌then◌else◌}
+use Rattle.std.specs.Prelude.{ℕ, zero, suc, ◌+◌, ◌*◌, ◌/◌, ◌%◌, ◌^◌, ◌==◌, ℤ, List, [], ◌∷◌, ◌++◌, length, take, drop, codes, decimal, Option, Some, None, if◌then◌else◌}
 use Rattle.std.specs.Fmt.{signed_decimal}
+use Rattle.std.specs.Int.{w8, w16, w32, w64, cast_signed}
 use Rattle.std.specs.List.{flat_map, zip}
 use Rattle.dv_defs.specs.declared.names.Ty.{Ty}
-use Rattle.dv_defs.specs.Numbers.{signed_at}
+use Rattle.dv_defs.specs.Tiling.{is_width}
 use Rattle.dv_names.specs.Descriptors.{descriptor}
 use Rattle.dv_asm.specs.declared.draft.Item.{Item}
 use Rattle.dv_asm.specs.declared.draft.Catch.{Catch}
@@ -25,13 +26,25 @@ abbrev pub number_of : List ℕ → ℕ
 number_of [] = 0
 number_of (b ∷ bytes) = b + 256 * number_of bytes
 
+-- the signed number of so many bytes
+abbrev pub signed_in : ℕ → ℕ → ℤ
+signed_in width n =
+    if width == 1 then cast_signed w8 (n % 2 ^ 8) else
+    if width == 2 then cast_signed w16 (n % 2 ^ 16) else
+    if width == 4 then cast_signed w32 (n % 2 ^ 32) else
+    cast_signed w64 n
+
 -- the suffix of an array's elements of so many bytes
 abbrev pub suffix_of : ℕ → List ℕ
-suffix_of width = if width == 1 then codes "t" else if width == 2 then codes "s" else if width == 8 then codes "L" else []
+suffix_of width =
+    if width == 1 then codes "t" else
+    if width == 2 then codes "s" else
+    if width == 8 then codes "L" else
+    []
 
 -- one element of an array
 abbrev pub element_line : ℕ → List ℕ → List ℕ
-element_line width bytes = signed_decimal (signed_at (8 * width) (number_of bytes)) ++ suffix_of width ++ codes "\n"
+element_line width bytes = signed_decimal (signed_in width (number_of bytes)) ++ suffix_of width ++ codes "\n"
 
 -- so many elements
 abbrev pub element_lines : ℕ → ℕ → List ℕ → List ℕ
@@ -44,8 +57,12 @@ packed_text first targets = codes ".packed-switch " ++ signed_decimal first ++ c
 abbrev pub sparse_text : List ℤ → List (List ℕ) → List ℕ
 sparse_text keys targets = codes ".sparse-switch\n" ++ flat_map case_line (zip keys targets) ++ codes ".end sparse-switch\n"
 
+-- how many elements of that width an array has
+abbrev pub element_count : ℕ → List ℕ → ℕ
+element_count width bytes = if is_width width then length bytes / width else 0
+
 abbrev pub data_text : ℕ → List ℕ → List ℕ
-data_text width bytes = codes ".array-data " ++ decimal width ++ codes "\n" ++ element_lines width (length bytes / width) bytes ++ codes ".end array-data\n"
+data_text width bytes = codes ".array-data " ++ decimal width ++ codes "\n" ++ element_lines width (element_count width bytes) bytes ++ codes ".end array-data\n"
 
 abbrev pub what_text : What → List ℕ
 what_text (what.Label name) = label_line name

@@ -23,6 +23,8 @@ use Rattle.dv_asm.specs.declared.draft.PoolRef.{PoolRef}
 use Rattle.dv_asm.specs.declared.draft.PoolRef.TheVariants as pool
 use Rattle.dv_asm.specs.Draft.{DraftValue}
 use Rattle.dv_asm.specs.Refusals.{with_operands}
+use Rattle.dv_print.specs.declared.formats.Pool.{Pool}
+use Rattle.dv_print.specs.declared.formats.Pool.TheVariants as from
 use Rattle.dv_print.specs.declared.pieces.Part.{Part}
 use Rattle.dv_print.specs.declared.pieces.Part.TheVariants as part
 use Rattle.dv_print.specs.declared.pieces.Piece.{Piece}
@@ -34,28 +36,39 @@ use Rattle.dv_print.specs.Named.{target_of, base_of, addresses_named, is_named}
 abbrev pub found_as : {X : Type 0} → (X → PoolRef) → Option X → PoolRef
 found_as entry x = option_map_or entry x pool.None
 
--- the entry at an index of the pool that instructions of a family name
-abbrev pub entry_in : BodyValue → Option Family → ℕ → PoolRef
-entry_in b (Some family.ConstString) index = found_as pool.Str (slice_get b.strings index)
-entry_in b (Some family.ConstClass) index = found_as pool.OfType (slice_get b.types index)
-entry_in b (Some family.CheckCast) index = found_as pool.OfType (slice_get b.types index)
-entry_in b (Some family.InstanceOf) index = found_as pool.OfType (slice_get b.types index)
-entry_in b (Some family.NewInstance) index = found_as pool.OfType (slice_get b.types index)
-entry_in b (Some family.NewArray) index = found_as pool.OfType (slice_get b.types index)
-entry_in b (Some family.FilledNewArray) index = found_as pool.OfType (slice_get b.types index)
-entry_in b (Some (family.FieldGet suffix)) index = found_as pool.Field (slice_get b.fields index)
-entry_in b (Some (family.FieldPut suffix)) index = found_as pool.Field (slice_get b.fields index)
-entry_in b (Some (family.StaticGet suffix)) index = found_as pool.Field (slice_get b.fields index)
-entry_in b (Some (family.StaticPut suffix)) index = found_as pool.Field (slice_get b.fields index)
-entry_in b (Some (family.Invoke call)) index = found_as pool.Method (slice_get b.methods index)
-entry_in b f index = pool.None
+-- the pool that instructions of a family name
+abbrev pub pool_in : Option Family → Pool
+pool_in (Some family.ConstString) = from.Strings
+pool_in (Some family.ConstClass) = from.Types
+pool_in (Some family.CheckCast) = from.Types
+pool_in (Some family.InstanceOf) = from.Types
+pool_in (Some family.NewInstance) = from.Types
+pool_in (Some family.NewArray) = from.Types
+pool_in (Some family.FilledNewArray) = from.Types
+pool_in (Some (family.FieldGet suffix)) = from.Fields
+pool_in (Some (family.FieldPut suffix)) = from.Fields
+pool_in (Some (family.StaticGet suffix)) = from.Fields
+pool_in (Some (family.StaticPut suffix)) = from.Fields
+pool_in (Some (family.Invoke call)) = from.Methods
+pool_in f = from.Nothing
+
+unfoldable pub pool_of : ℕ → Pool
+pool_of op = pool_in (family_at op)
+
+-- the entry at an index of a pool
+abbrev pub entry_in : BodyValue → Pool → ℕ → PoolRef
+entry_in b from.Strings index = found_as pool.Str (slice_get b.strings index)
+entry_in b from.Types index = found_as pool.OfType (slice_get b.types index)
+entry_in b from.Fields index = found_as pool.Field (slice_get b.fields index)
+entry_in b from.Methods index = found_as pool.Method (slice_get b.methods index)
+entry_in b from.Nothing index = pool.None
 
 -- an instruction at an address: its label and its entry stand for its offset and its index
 abbrev pub op_of : BodyValue → ℕ → Insn → Draftop
 op_of b at i = record {
   insn = with_operands i (pos 0) 0;
   label = option_map label_name (target_of at i);
-  pool = entry_in b (family_at i.op) i.index;
+  pool = entry_in b (pool_of i.op) i.index;
 }
 
 -- the label of the address that an offset leads to

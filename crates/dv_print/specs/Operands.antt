@@ -15,6 +15,8 @@ use Rattle.dv_optable.specs.Table.{Entry, entry_at}
 use Rattle.dv_asm.specs.declared.draft.Draftop.{Draftop}
 use Rattle.dv_asm.specs.declared.draft.PoolRef.{PoolRef}
 use Rattle.dv_asm.specs.declared.draft.PoolRef.TheVariants as pool
+use Rattle.dv_print.specs.declared.formats.Form.{Form}
+use Rattle.dv_print.specs.declared.formats.Form.TheVariants as form
 use Rattle.dv_print.specs.Numbers.{hexadecimal}
 
 -- whether a format has an offset
@@ -27,7 +29,7 @@ is_offset_format (Some format.F30t) = true
 is_offset_format (Some format.F31t) = true
 is_offset_format f = false
 
-abbrev pub has_offset : ℕ → Bool
+unfoldable pub has_offset : ℕ → Bool
 has_offset op = is_offset_format (format_at op)
 
 -- whether a format has a literal
@@ -45,7 +47,7 @@ abbrev pub name_in : Entry → List ℕ
 name_in e = e.name
 
 -- the name of an opcode
-abbrev pub name_of : ℕ → List ℕ
+unfoldable pub name_of : ℕ → List ℕ
 name_of op = option_map_or name_in (entry_at op) []
 
 abbrev pub register_text : ℕ → List ℕ
@@ -66,10 +68,19 @@ abbrev pub neighbours_text : ℕ → ℕ → List ℕ
 neighbours_text first count =
     if nat_eq count 0 then codes "{}" else codes "{v" ++ decimal first ++ codes " .. v" ++ decimal (first + (count - 1)) ++ codes "}"
 
-abbrev pub register_operands : Option Format → Regs → List (List ℕ)
-register_operands (Some format.F35c) r = braces_text r ∷ []
-register_operands (Some format.F3rc) r = neighbours_text (slice_index r.first 0) r.count ∷ []
-register_operands f r = map register_text (registers_of r)
+-- how the registers of an instruction stand
+abbrev pub form_in : Option Format → Form
+form_in (Some format.F35c) = form.Braces
+form_in (Some format.F3rc) = form.Neighbours
+form_in f = form.Each
+
+unfoldable pub form_of : ℕ → Form
+form_of op = form_in (format_at op)
+
+abbrev pub register_operands : Form → Regs → List (List ℕ)
+register_operands form.Each r = map register_text (registers_of r)
+register_operands form.Braces r = braces_text r ∷ []
+register_operands form.Neighbours r = neighbours_text (slice_index r.first 0) r.count ∷ []
 
 -- the constants of 64 bits
 abbrev pub is_wide : ℕ → Bool
@@ -78,8 +89,11 @@ is_wide op = nat_le 0x16 op && nat_le op 0x19
 abbrev pub literal_text : ℕ → ℤ → List ℕ
 literal_text op lit = if is_wide op then signed_decimal lit ++ codes "L" else signed_decimal lit
 
+unfoldable pub has_literal : ℕ → Bool
+has_literal op = is_literal_format (format_at op)
+
 abbrev pub literal_operands : Insn → List (List ℕ)
-literal_operands i = if is_literal_format (format_at i.op) then literal_text i.op i.lit ∷ [] else []
+literal_operands i = if has_literal i.op then literal_text i.op i.lit ∷ [] else []
 
 abbrev pub label_text : List ℕ → List ℕ
 label_text name = 58 ∷ name
@@ -110,7 +124,7 @@ pool_operands (pool.Method method) = method_text method ∷ []
 -- registers, then a literal, a label, and an entry of a pool, as the format has them
 abbrev pub operands : Draftop → List (List ℕ)
 operands op =
-    register_operands (format_at op.insn.op) op.insn.regs ++ literal_operands op.insn ++
+    register_operands (form_of op.insn.op) op.insn.regs ++ literal_operands op.insn ++
     option_to_list (option_map label_text op.label) ++ pool_operands op.pool
 
 abbrev pub operands_text : List (List ℕ) → List ℕ

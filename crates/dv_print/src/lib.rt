@@ -1,20 +1,20 @@
 //! The listing of a class as smali text.
 #![tactic(auto)]
 
-//mod catches;
+mod catches;
 mod class;
-//mod drafting;
-//mod flags;
-//mod insns;
-//mod items;
-//mod members;
+mod drafting;
+mod flags;
+mod formats;
+mod items;
+mod members;
 mod named;
 mod numbers;
-//mod operands;
+mod operands;
 mod pieces;
-//mod raw;
+mod raw;
 mod references;
-//#[cfg(test)]
-//mod tests;
+#[cfg(test)]
+mod tests;
 
 pub use class::print_class;

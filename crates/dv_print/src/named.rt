@@ -1,13 +1,13 @@
 // The addresses at which labels stand.
-ghost use Rattle.std.specs.Prelude.{◌≡◌, ◌++◌, map, IfOk, OnOk};
+ghost use Rattle.std.specs.Prelude.{◌≡◌, ◌++◌, map, find, IfOk, OnOk};
+ghost use Rattle.std.specs.Option.{option_copied};
 ghost use Rattle.std.specs.List.{flat_map};
 ghost use Rattle.dv_defs.specs.Numbers.{jump};
 ghost use Rattle.dv_print.specs.Named.{target_of, switches_to, base_of, named_by_payload, named_by_piece, named_by_try, addresses_named, is_named};
-ghost use Rattle.dv_print.specs.Operands.{has_offset};
 
+use crate::formats::has_offset;
 use crate::pieces::{Part, Piece};
 use dv_defs::{Insn, Payload, Try};
-use dv_optable::{Format, row_of};
 use std::alloc::{AllocError, Global};
 
 /// The address at a distance from another; none of a body's where it is below 0.
@@ -16,19 +16,6 @@ pub fn jump(at: u16, off: i32) -> u32
 {
     let to = i64::from(at) + i64::from(off);
     if to < 0 { 65536 } else { to as u32 }
-}
-
-/// Whether the format of an opcode has an offset.
-fn has_offset(op: u8) -> bool
-    ensures { result ≡ has_offset op }
-{
-    match row_of(op) {
-        Some(row) => matches!(
-            row.format,
-            Format::F10t | Format::F20t | Format::F21t | Format::F22t | Format::F30t | Format::F31t
-        ),
-        None => false,
-    }
 }
 
 /// The address to which an instruction's offset leads, where its format has one.
@@ -54,11 +41,18 @@ impl Piece {
     }
 }
 
+/// The first switch that leads to an address.
+fn switch_to(pieces: &[Piece], address: u32) -> Option<&Piece>
+    ensures { option_copied result ≡ find (switches_to address) pieces.now }
+{
+    pieces.iter().find(|piece| piece.switches_to(address))
+}
+
 /// The address from which a payload's targets count: that of the first switch that leads to it, else 0.
 pub fn base_of(pieces: &[Piece], address: u32) -> u16
     ensures { result ≡ base_of pieces.now address }
 {
-    match pieces.iter().find(|piece| piece.switches_to(address)) {
+    match switch_to(pieces, address) {
         Some(piece) => piece.at,
         None => 0,
     }

@@ -1,0 +1,7 @@
+use Rattle.std.proofs.Common.{◌≡◌, ◌++◌}
+use Rattle.std.specs.List.{flat_map, zip}
+use Rattle.dv_print.specs.Draft.{case_line}
+use Rattle.dv_print.proofs.items.case_lines.Given as goal
+
+abbrev pub invariant-loop-keys : goal.invariant-loop-keys
+invariant-loop-keys l = l.text.items ++ flat_map case_line (zip l.keys l.names) ≡ flat_map case_line (zip l.fn.keys l.fn.names)
