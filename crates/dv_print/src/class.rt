@@ -30,14 +30,21 @@ fn superclass_line(alloc: Global, parent: &Option<Text>) -> Result<Vec<u8>, Allo
     Ok(text)
 }
 
+fn interface_line(alloc: Global, name: &Text) -> Result<Vec<u8>, AllocError>
+    ensures { IfOk result (λ v. v.items ≡ interface_line name.now) }
+{
+    let mut text = Vec::from_slice(alloc, b".implements ")?;
+    text.extend_from_slice(name.bytes())?;
+    text.extend_from_slice(b"\n")?;
+    Ok(text)
+}
+
 fn interface_lines(alloc: Global, interfaces: &[Text]) -> Result<Vec<u8>, AllocError>
     ensures { IfOk result (λ v. v.items ≡ flat_map interface_line interfaces.now) }
 {
     let mut text = Vec::new(alloc);
     for name in interfaces {
-        text.extend_from_slice(b".implements ")?;
-        text.extend_from_slice(name.bytes())?;
-        text.extend_from_slice(b"\n")?;
+        text.extend_from_slice(&interface_line(alloc, name)?)?;
     }
     Ok(text)
 }

@@ -20,13 +20,20 @@ fn label(alloc: Global, address: u32) -> Result<Text, AllocError>
     Ok(Text::of(label_name(alloc, address)?))
 }
 
+/// The name of the label at a distance from a base.
+fn label_from(alloc: Global, base: u16, off: i32) -> Result<Text, AllocError>
+    ensures { IfOk result (λ t. t ≡ label_from base off) }
+{
+    label(alloc, jump(base, off))
+}
+
 /// The names of the labels at these distances from a base.
 fn labels_from(alloc: Global, base: u16, targets: &[i32]) -> Result<Vec<Text>, AllocError>
     ensures { IfOk result (λ v. v.items ≡ map (label_from base) targets.now) }
 {
     let mut labels = Vec::new(alloc);
     for target in targets {
-        labels.push(label(alloc, jump(base, *target))?)?;
+        labels.push(label_from(alloc, base, *target)?)?;
     }
     Ok(labels)
 }

@@ -1,5 +1,6 @@
 // Flags as they are printed.
 ghost use Rattle.std.specs.Prelude.{◌≡◌, ◌++◌, IfOk, OnOk};
+ghost use Rattle.std.specs.List.{flat_map};
 ghost use Rattle.dv_print.specs.Listing.{flag_word, flag_text, flags_text};
 
 use dv_defs::Flag;
@@ -65,13 +66,21 @@ fn add_flag(text: &mut Vec<u8>, flags: u32, flag: Flag) -> Result<(), AllocError
     Ok(())
 }
 
+/// Appends those of the flags in a list that are among the flags.
+fn add_flags(text: &mut Vec<u8>, flags: u32, list: &[Flag]) -> Result<(), AllocError>
+    ensures { OnOk result (text.new.items ≡ text.old.items ++ flat_map (flag_text flags) list.now) }
+{
+    for flag in list {
+        add_flag(text, flags, *flag)?;
+    }
+    Ok(())
+}
+
 /// The flags that are set, each with a blank behind it.
 pub fn flags_text(alloc: Global, flags: u32) -> Result<Vec<u8>, AllocError>
     ensures { IfOk result (λ v. v.items ≡ flags_text flags) }
 {
     let mut text = Vec::new(alloc);
-    for flag in FLAGS {
-        add_flag(&mut text, flags, flag)?;
-    }
+    add_flags(&mut text, flags, &FLAGS)?;
     Ok(text)
 }

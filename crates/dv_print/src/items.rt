@@ -1,5 +1,5 @@
 // The items of a draft as they are printed.
-ghost use Rattle.std.specs.Prelude.{◌≡◌, ◌<◌, ◌≤◌, ◌^◌, length, IfOk};
+ghost use Rattle.std.specs.Prelude.{◌≡◌, ◌<◌, ◌≤◌, ◌^◌, length, take, drop, IfOk};
 ghost use Rattle.std.specs.List.{flat_map, zip};
 ghost use Rattle.dv_defs.specs.Tiling.{is_width};
 ghost use Rattle.dv_print.specs.Draft.{label_line, case_line, number_of, signed_in, suffix_of, element_line, element_lines, packed_text, sparse_text, data_text, item_text};
@@ -113,6 +113,20 @@ fn is_width(width: u16) -> bool
     matches!(width, 1 | 2 | 4 | 8)
 }
 
+/// The first bytes, so many of them, and those behind them.
+fn cut(bytes: &[u8], width: u16) -> (&[u8], &[u8])
+    ensures first { result.0.now ≡ take width bytes.now }
+    ensures rest { result.1.now ≡ drop width bytes.now }
+    ensures short { length result.0.now ≤ width }
+{
+    let width = usize::from(width);
+    if width < bytes.len() {
+        bytes.split_at(width)
+    } else {
+        (bytes, &[])
+    }
+}
+
 /// So many elements of an array.
 fn element_lines(
     alloc: Global,
@@ -120,15 +134,17 @@ fn element_lines(
     count: usize,
     bytes: &[u8],
 ) -> Result<Vec<u8>, AllocError>
-    requires short { width ≤ 8 }
+    requires { width ≤ 8 }
     ensures { IfOk result (λ v. v.items ≡ element_lines width count bytes.now) }
 {
     let mut text = Vec::new(alloc);
     let mut rest = bytes;
-    for _ in 0..count {
-        let size = usize::from(width).min(rest.len());
-        text.extend_from_slice(&element_line(alloc, width, &rest[..size])?)?;
-        rest = &rest[size..];
+    let mut left = count;
+    while left > 0 {
+        let (element, others) = cut(rest, width);
+        text.extend_from_slice(&element_line(alloc, width, element)?)?;
+        rest = others;
+        left -= 1;
     }
     Ok(text)
 }

@@ -1,5 +1,6 @@
 // The operands of an instruction as they are printed.
-ghost use Rattle.std.specs.Prelude.{◌≡◌, ◌+◌, ◌-◌, ◌≤◌, ◌++◌, ◌∷◌, [], length, map, take, codes, OnOk, IfOk};
+ghost use Rattle.std.specs.Prelude.{◌≡◌, ◌++◌, ◌∷◌, [], map, codes, option_map, OnOk, IfOk};
+ghost use Rattle.std.specs.Option.{option_to_list};
 ghost use Rattle.std.specs.List.{flat_map};
 ghost use Rattle.dv_print.specs.Operands.{register_text, registers_of, listed, braces_text, neighbours_text, register_operands, literal_text, literal_operands, label_text, is_wide, pool_operands, operands, operands_text, insn_text, name_of};
 
@@ -149,18 +150,29 @@ pub fn label_text(alloc: Global, name: &Text) -> Result<Text, AllocError>
     Ok(Text::of(text))
 }
 
-/// The entry of a pool that an instruction names.
-fn pool_operands(alloc: Global, entry: &PoolRef) -> Result<Vec<Text>, AllocError>
-    ensures { IfOk result (λ v. v.items ≡ pool_operands entry.now) }
+/// Appends a label, where there is one.
+fn add_label(texts: &mut Vec<Text>, label: &Option<Text>) -> Result<(), AllocError>
+    ensures { OnOk result (texts.new.items ≡ texts.old.items ++ option_to_list (option_map label_text label.now)) }
 {
-    let text = match entry {
-        PoolRef::None => return Ok(Vec::new(alloc)),
-        PoolRef::Str(chars) => Text::of(string_text(alloc, chars)?),
-        PoolRef::OfType(ty) => print_type(alloc, ty)?,
-        PoolRef::Field(field) => Text::of(field_text(alloc, field)?),
-        PoolRef::Method(method) => Text::of(method_text(alloc, method)?),
-    };
-    alone(alloc, text)
+    if let Some(name) = label {
+        texts.push(label_text(*texts.allocator(), name)?)?;
+    }
+    Ok(())
+}
+
+/// Appends the entry of a pool that an instruction names, where it names one.
+fn add_entry(texts: &mut Vec<Text>, entry: &PoolRef) -> Result<(), AllocError>
+    ensures { OnOk result (texts.new.items ≡ texts.old.items ++ pool_operands entry.now) }
+{
+    let alloc = *texts.allocator();
+    match entry {
+        PoolRef::None => {}
+        PoolRef::Str(chars) => texts.push(Text::of(string_text(alloc, chars)?))?,
+        PoolRef::OfType(ty) => texts.push(print_type(alloc, ty)?)?,
+        PoolRef::Field(field) => texts.push(Text::of(field_text(alloc, field)?))?,
+        PoolRef::Method(method) => texts.push(Text::of(method_text(alloc, method)?))?,
+    }
+    Ok(())
 }
 
 /// Registers, then a literal, a label, and an entry of a pool.
@@ -169,12 +181,8 @@ fn operands(alloc: Global, op: &Draftop) -> Result<Vec<Text>, AllocError>
 {
     let mut texts = register_operands(alloc, form_of(op.insn.op), &op.insn.regs)?;
     add_literal(&mut texts, &op.insn)?;
-    if let Some(name) = &op.label {
-        texts.push(label_text(alloc, name)?)?;
-    }
-    for text in pool_operands(alloc, &op.pool)? {
-        texts.push(text)?;
-    }
+    add_label(&mut texts, &op.label)?;
+    add_entry(&mut texts, &op.pool)?;
     Ok(texts)
 }
 
