@@ -1,5 +1,5 @@
 -- The pieces that a walk over units has met, and what stands at an address.
-use Rattle.std.proofs.Common.{◌≡◌, ℕ, ◌+◌, ◌-◌, ◌<◌, ◌≤◌, ◌/◌, zero, suc, Bool, true, false, List, [], ◌∷◌, ◌++◌, length, take, drop, get_or, Option, Some, None, Result, Ok, Err, IsSomeAnd, refl, ap, sym, ◌∙◌, subst, arith, length-drop, append-nil, append_assoc, add-zero}
+use Rattle.std.proofs.Common.{◌≡◌, ℕ, ◌+◌, ◌-◌, ◌<◌, ◌≤◌, ◌/◌, zero, suc, Bool, true, false, List, [], ◌∷◌, ◌++◌, length, drop, get_or, Option, Some, None, Result, Ok, Err, IsSomeAnd, refl, ap, sym, ◌∙◌, subst, arith, length-drop, append-nil, append_assoc, add-zero}
 use Rattle.std.specs.Prelude.{map, option_map, IfSome, IfOk}
 use Rattle.std.proofs.lemmas.List.{drop-drop, get_or-drop, length-take-le}
 use Rattle.dv_defs.specs.declared.code.Payload.{Payload}

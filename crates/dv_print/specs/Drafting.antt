@@ -1,6 +1,6 @@
 -- The draft of a body: its instructions and payloads by their addresses, with labels at the addresses that are named.
 -- Its items have no lines.
-use Rattle.std.specs.Prelude.{ℕ, ◌%◌, ◌&&◌, ℤ, pos, Bool, true, false, not, nat_eq, List, [], ◌∷◌, ◌++◌, length, map, slice_get, Option, Some, None, option_map, if◌then◌else◌}
+use Rattle.std.specs.Prelude.{ℕ, ◌%◌, ◌&&◌, ℤ, pos, Bool, true, false, not, nat_eq, List, [], ◌∷◌, ◌++◌, length, map, slice_get, Option, Some, option_map, if◌then◌else◌}
 use Rattle.std.specs.Option.{option_and_then, option_map_or}
 use Rattle.std.specs.List.{flat_map}
 use Rattle.dv_defs.specs.declared.code.Insn.{Insn}
@@ -71,14 +71,14 @@ op_of b at i = record {
   pool = entry_in b (pool_of i.op) i.index;
 }
 
--- the label of the address that an offset leads to
-abbrev pub label_from : ℕ → ℤ → List ℕ
-label_from base off = label_name (jump base off)
+-- the labels at these distances from an address
+abbrev pub labels_from : ℕ → List ℤ → List (List ℕ)
+labels_from base targets = map label_name (map (jump base) targets)
 
 -- a payload whose targets count from an address
 abbrev pub payload_item : ℕ → Payload → What
-payload_item base (payload.Packed first targets) = what.Packed first (map (label_from base) targets)
-payload_item base (payload.Sparse keys targets) = what.Sparse keys (map (label_from base) targets)
+payload_item base (payload.Packed first targets) = what.Packed first (labels_from base targets)
+payload_item base (payload.Sparse keys targets) = what.Sparse keys (labels_from base targets)
 payload_item base (payload.Data width bytes) = what.Data width bytes
 
 abbrev pub part_item : BodyValue → List Piece → ℕ → Part → What

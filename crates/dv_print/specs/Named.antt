@@ -1,5 +1,5 @@
 -- The addresses at which labels stand.
-use Rattle.std.specs.Prelude.{ℕ, ◌&&◌, ℤ, Bool, false, nat_eq, List, [], ◌∷◌, ◌++◌, map, find, Option, Some, None, if◌then◌else◌}
+use Rattle.std.specs.Prelude.{ℕ, ◌&&◌, Bool, false, nat_eq, List, [], ◌∷◌, ◌++◌, map, find, Option, Some, None, if◌then◌else◌}
 use Rattle.std.specs.Option.{option_map_or, option_to_list}
 use Rattle.std.specs.List.{flat_map, list_any}
 use Rattle.dv_defs.specs.declared.code.Insn.{Insn}

@@ -3,10 +3,10 @@ ghost use Rattle.std.specs.Prelude.{◌≡◌, ◌++◌, [], ◌∷◌, map, opt
 ghost use Rattle.std.specs.List.{flat_map};
 ghost use Rattle.dv_print.specs.Numbers.{label_name};
 ghost use Rattle.dv_print.specs.Named.{target_of};
-ghost use Rattle.dv_print.specs.Drafting.{found_as, entry_in, op_of, label_from, payload_item, part_item, piece_item, with_no_line, labels_at, is_nop, is_payload_part, begins_with_payload, is_aligning, items_at, items_from, items_in, kind_of, catch_of, catches_of_try, items_of, catches_of};
+ghost use Rattle.dv_print.specs.Drafting.{found_as, entry_in, op_of, labels_from, payload_item, part_item, piece_item, with_no_line, labels_at, is_nop, is_payload_part, begins_with_payload, is_aligning, items_at, items_from, items_in, kind_of, catch_of, catches_of_try, items_of, catches_of};
 
 use crate::formats::{Pool, pool_of};
-use crate::named::{addresses_named, base_of, is_named, jump, target_of};
+use crate::named::{add_targets, addresses_named, base_of, is_named, target_of};
 use crate::numbers::label_name;
 use crate::pieces::{Part, Piece, pieces_of};
 use dv_asm::{Catch, Draftop, Item, PoolRef, What};
@@ -20,22 +20,24 @@ fn label(alloc: Global, address: u32) -> Result<Text, AllocError>
     Ok(Text::of(label_name(alloc, address)?))
 }
 
-/// The name of the label at a distance from a base.
-fn label_from(alloc: Global, base: u16, off: i32) -> Result<Text, AllocError>
-    ensures { IfOk result (λ t. t ≡ label_from base off) }
+/// The names of the labels at these addresses.
+fn labels(alloc: Global, addresses: &[u32]) -> Result<Vec<Text>, AllocError>
+    ensures { IfOk result (λ v. v.items ≡ map label_name addresses.now) }
 {
-    label(alloc, jump(base, off))
+    let mut labels = Vec::new(alloc);
+    for address in addresses {
+        labels.push(label(alloc, *address)?)?;
+    }
+    Ok(labels)
 }
 
 /// The names of the labels at these distances from a base.
 fn labels_from(alloc: Global, base: u16, targets: &[i32]) -> Result<Vec<Text>, AllocError>
-    ensures { IfOk result (λ v. v.items ≡ map (label_from base) targets.now) }
+    ensures { IfOk result (λ v. v.items ≡ labels_from base targets.now) }
 {
-    let mut labels = Vec::new(alloc);
-    for target in targets {
-        labels.push(label_from(alloc, base, *target)?)?;
-    }
-    Ok(labels)
+    let mut addresses = Vec::new(alloc);
+    add_targets(&mut addresses, base, targets)?;
+    labels(alloc, &addresses)
 }
 
 fn string_entry(body: &Body, index: u32) -> Result<PoolRef, AllocError>
@@ -262,7 +264,12 @@ pub fn kind_of<'a>(types: &'a [Ty], handler: &Handler) -> Option<&'a Ty>
 }
 
 /// A handler of a try entry.
-fn catch_of(alloc: Global, types: &[Ty], entry: &Try, handler: &Handler) -> Result<Catch, AllocError>
+fn catch_of(
+    alloc: Global,
+    types: &[Ty],
+    entry: &Try,
+    handler: &Handler,
+) -> Result<Catch, AllocError>
     ensures { IfOk result (λ c. c ≡ catch_of types.now entry.now handler.now) }
 {
     let kind = match kind_of(types, handler) {

@@ -61,6 +61,7 @@ pub fn field_lines(alloc: Global, fields: &[FieldDef]) -> Result<Vec<u8>, AllocE
 }
 
 /// The text of a body's draft.
+#[tactic(auto, unfolding(crate::specs::Drafting::draft_of))]
 fn draft_text(alloc: Global, body: &Body) -> Result<Vec<u8>, AllocError>
     ensures { IfOk result (λ v. v.items ≡ draft_text (draft_of body.now)) }
 {

@@ -35,7 +35,8 @@ impl Piece {
         ensures { result ≡ switches_to address self.now }
     {
         match &self.part {
-            Part::Insn(insn) => matches!(insn.op, 0x2b | 0x2c) && jump(self.at, insn.off) == address,
+            Part::Insn(insn) => matches!(insn.op, 0x2b | 0x2c)
+                && jump(self.at, insn.off) == address,
             Part::Payload(_) => false,
         }
     }
@@ -59,7 +60,7 @@ pub fn base_of(pieces: &[Piece], address: u32) -> u16
 }
 
 /// Appends the addresses at these distances from a base.
-fn add_targets(named: &mut Vec<u32>, base: u16, targets: &[i32]) -> Result<(), AllocError>
+pub fn add_targets(named: &mut Vec<u32>, base: u16, targets: &[i32]) -> Result<(), AllocError>
     ensures { OnOk result (named.new.items ≡ named.old.items ++ map (jump base) targets.now) }
 {
     for target in targets {

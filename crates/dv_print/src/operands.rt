@@ -72,7 +72,11 @@ fn registers_of(regs: &Regs) -> &[u16]
     ensures { result.now ≡ registers_of regs.now }
 {
     let count = usize::from(regs.count);
-    if count < 5 { &regs.first[..count] } else { &regs.first }
+    if count < 5 {
+        &regs.first[..count]
+    } else {
+        &regs.first
+    }
 }
 
 fn braces_text(alloc: Global, regs: &Regs) -> Result<Text, AllocError>

@@ -41,11 +41,7 @@ fn insn_at(units: &[u16], at: usize) -> Option<(Part, usize)>
 }
 
 /// The payload that stands at `at`, with its size in units.
-fn payload_at(
-    alloc: Global,
-    units: &[u16],
-    at: usize,
-) -> Result<Option<(Part, usize)>, AllocError>
+fn payload_at(alloc: Global, units: &[u16], at: usize) -> Result<Option<(Part, usize)>, AllocError>
     requires inside { at < length units.now }
     requires short { length units.now ≤ 16384 }
     ensures { IfOk result (λ r. r ≡ option_map payload_sized (payload_here (drop at units.now))) }

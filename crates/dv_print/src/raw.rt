@@ -88,7 +88,11 @@ fn separator(k: usize, count: usize) -> u8
     requires { k < count }
     ensures { result ≡ separator k count }
 {
-    if k % 8 == 7 || k + 1 == count { b'\n' } else { b' ' }
+    if k % 8 == 7 || k + 1 == count {
+        b'\n'
+    } else {
+        b' '
+    }
 }
 
 /// The units, eight a line.
@@ -172,10 +176,6 @@ pub fn raw_text(alloc: Global, body: &Body) -> Result<Vec<u8>, AllocError>
     let mut text = registers_text(alloc, body.registers)?;
     text.extend_from_slice(&pools_text(alloc, body)?)?;
     text.extend_from_slice(&units_text(alloc, body.units.items())?)?;
-    text.extend_from_slice(&all_try_lines(
-        alloc,
-        body.types.items(),
-        body.tries.items(),
-    )?)?;
+    text.extend_from_slice(&all_try_lines(alloc, body.types.items(), body.tries.items())?)?;
     Ok(text)
 }

@@ -253,7 +253,8 @@ fn methods(alloc: Global) -> Result<Vec<MethodDef>, AllocError> {
     Ok(methods)
 }
 
-const EVERYTHING: &[u8] = b".class public private protected static final synchronized volatile bridge transient varargs native interface abstract strictfp synthetic annotation enum constructor declared-synchronized LA;\n\
+const EVERYTHING: &[u8] =
+    b".class public private protected static final synchronized volatile bridge transient varargs native interface abstract strictfp synthetic annotation enum constructor declared-synchronized LA;\n\
     .super Ljava/lang/Object;\n\
     .implements LI;\n\
     .implements LJ;\n\

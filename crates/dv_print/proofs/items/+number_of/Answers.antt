@@ -1,4 +1,4 @@
-use Rattle.std.proofs.Common.{ℕ, ◌-◌, length, take, drop, arith, length-drop}
+use Rattle.std.proofs.Common.{ℕ, arith, length-drop}
 use Rattle.std.proofs.lemmas.List.{length-take}
 use Rattle.dv_print.proofs.Bytes.{few_bytes}
 use Rattle.dv_print.proofs.items.+number_of.Goals as goal
