@@ -210,33 +210,35 @@ fn raw_body(alloc: Global) -> Result<Body, AllocError> {
     })
 }
 
+fn field(alloc: Global, name: &[u8], ty: Ty, flags: u32, init: Init) -> Result<FieldDef, Fail> {
+    let name = text(alloc, name)?;
+    if !init.may_stand(&ty, flags) {
+        return Err("the value doesn't fit")?;
+    }
+    Ok(FieldDef {
+        name,
+        ty,
+        flags,
+        init,
+    })
+}
+
 /// A field with each kind of value.
-fn fields(alloc: Global) -> Result<Vec<FieldDef>, AllocError> {
+fn fields(alloc: Global) -> Result<Vec<FieldDef>, Fail> {
+    let fixed = Flag::Static.bit();
+    let open = Flag::Public.bit() | fixed;
+    let string = class(alloc, b"Ljava/lang/String;")?;
     let mut fields = Vec::new(alloc);
-    fields.push(FieldDef {
-        name: text(alloc, b"a")?,
-        ty: of_base(0, Base::I),
-        flags: Flag::Static.bit(),
-        init: Init::Num(-5),
-    })?;
-    fields.push(FieldDef {
-        name: text(alloc, b"s")?,
-        ty: class(alloc, b"Ljava/lang/String;")?,
-        flags: Flag::Public.bit() | Flag::Static.bit(),
-        init: Init::Str(marks(alloc)?),
-    })?;
-    fields.push(FieldDef {
-        name: text(alloc, b"n")?,
-        ty: of_base(1, Base::I),
-        flags: Flag::Static.bit(),
-        init: Init::Null,
-    })?;
-    fields.push(FieldDef {
-        name: text(alloc, b"x")?,
-        ty: of_base(0, Base::J),
-        flags: Flag::Volatile.bit(),
-        init: Init::Absent,
-    })?;
+    fields.push(field(alloc, b"a", of_base(0, Base::I), fixed, Init::Num(-5))?)?;
+    fields.push(field(alloc, b"s", string, open, Init::Str(marks(alloc)?))?)?;
+    fields.push(field(alloc, b"n", of_base(1, Base::I), fixed, Init::Null)?)?;
+    fields.push(field(
+        alloc,
+        b"x",
+        of_base(0, Base::J),
+        Flag::Volatile.bit(),
+        Init::Absent,
+    )?)?;
     Ok(fields)
 }
 
