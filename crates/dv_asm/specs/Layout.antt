@@ -1,5 +1,5 @@
 -- The body that a draft is assembled to.
-use Rattle.std.specs.Prelude.{ℕ, zero, suc, ◌++◌, ◌-ℤ◌, ℤ, pos, Bool, false, nat_le, nat_lt, List, [], ◌∷◌, length, map, filter, fold, insert, position, slice_get, unwrap_or, option_map, bytes_eq, Option, Some, None, if◌then◌else◌}
+use Rattle.std.specs.Prelude.{ℕ, zero, suc, ◌<◌, ◌++◌, ◌-ℤ◌, ℤ, pos, Bool, false, nat_le, nat_lt, List, [], ◌∷◌, length, map, filter, fold, insert, position, slice_get, unwrap_or, option_map, bytes_eq, Option, Some, None, IsSome, if◌then◌else◌}
 use Rattle.std.specs.Option.{option_map_or, option_and_then}
 use Rattle.dv_defs.specs.declared.code.Insn.{Insn}
 use Rattle.dv_defs.specs.declared.code.Payload.{Payload}
@@ -103,6 +103,10 @@ spelling_of items pools k (what.Packed first names) = payload_spelling (packed_o
 spelling_of items pools k (what.Sparse keys names) = payload_spelling (sparse_of items (address_of items k) keys names)
 spelling_of items pools k (what.Data width bytes) = payload_spelling (payload.Data width bytes)
 
+-- each item has a spelling
+abbrev pub AreSpelled : List Item → Pools → Type 0
+AreSpelled items pools = (k : ℕ) → k < length items → IsSome (spelling_of items pools k (item_at items k).what)
+
 -- a nop at their end, where they end before an address
 abbrev pub padded : ℕ → List ℕ → List ℕ
 padded address us = if nat_lt (length us) address then us ++ 0 ∷ [] else us
@@ -112,16 +116,20 @@ abbrev pub units_of : List Item → Pools → ℕ → List ℕ
 units_of items pools zero = []
 units_of items pools (suc k) = padded (address_of items k) (units_of items pools k) ++ unwrap_or (spelling_of items pools k (item_at items k).what) []
 
-unfoldable pub layout : DraftValue → BodyValue
-layout d =
-    let pools = pools_of d.items d.catches in
+unfoldable pub body_of : ℕ → List Item → List Catch → BodyValue
+body_of registers items catches =
+    let pools = pools_of items catches in
     record {
-      registers = d.registers;
-      units = units_of d.items pools (length d.items);
-      tries = tries_of d.items d.catches pools.types;
+      registers = registers;
+      units = units_of items pools (length items);
+      tries = tries_of items catches pools.types;
       strings = pools.strings;
       types = pools.types;
       fields = pools.fields;
       methods = pools.methods;
       raw = false;
     }
+
+-- the body with the units of the items, the try entries and the pools
+abbrev pub layout : DraftValue → BodyValue
+layout d = body_of d.registers d.items d.catches

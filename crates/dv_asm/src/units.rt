@@ -1,11 +1,12 @@
 // The units of items.
 ghost use Rattle.std.specs.Prelude.{◌≡◌, ◌<◌, ◌≤◌, ◌++◌, None, [], length, map, unwrap_or, IfOk, OnOk, IsSome};
+ghost use Rattle.dv_defs.specs.declared.code.Payload.TheVariants as payload;
 ghost use Rattle.dv_defs.specs.Spelling.{spelling};
 ghost use Rattle.dv_defs.specs.Payloads.{payload_spelling};
 ghost use Rattle.dv_asm.specs.Items.{item_at};
 ghost use Rattle.dv_asm.specs.Places.{ArePlaces, address_of, distance};
 ghost use Rattle.dv_asm.specs.Refusals.{too_long, addresses_named};
-ghost use Rattle.dv_asm.specs.Layout.{offset_of, insn_of, base_of, targets_of, spelling_of, padded, units_of};
+ghost use Rattle.dv_asm.specs.Layout.{AreSpelled, offset_of, insn_of, base_of, targets_of, packed_of, sparse_of, spelling_of, padded, units_of};
 
 use crate::draft::{Draftop, Item, What};
 use crate::pools::Pools;
@@ -110,6 +111,47 @@ fn targets_of(
     Ok(Seq::of(distances(alloc, items, places, base, names)?))
 }
 
+fn packed_of(
+    alloc: Global,
+    items: &[Item],
+    places: &[u64],
+    named: &[Option<u64>],
+    k: usize,
+    first: i32,
+    names: &[Text],
+) -> Result<Payload, AllocError>
+    requires places { ArePlaces items.now places.now }
+    requires short { too_long items.now ≡ None }
+    requires named { named.now ≡ addresses_named items.now }
+    requires within { k < length items.now }
+    ensures { IfOk result (λ payload. payload ≡ packed_of items.now (address_of items.now k) first names.now) }
+{
+    let address = address_of(items, places, k);
+    let targets = targets_of(alloc, items, places, named, address, names)?;
+    Ok(Payload::Packed { first, targets })
+}
+
+fn sparse_of(
+    alloc: Global,
+    items: &[Item],
+    places: &[u64],
+    named: &[Option<u64>],
+    k: usize,
+    keys: &Seq<i32>,
+    names: &[Text],
+) -> Result<Payload, AllocError>
+    requires places { ArePlaces items.now places.now }
+    requires short { too_long items.now ≡ None }
+    requires named { named.now ≡ addresses_named items.now }
+    requires within { k < length items.now }
+    ensures { IfOk result (λ payload. payload ≡ sparse_of items.now (address_of items.now k) keys.now names.now) }
+{
+    let address = address_of(items, places, k);
+    let targets = targets_of(alloc, items, places, named, address, names)?;
+    let keys = keys.clone()?;
+    Ok(Payload::Sparse { keys, targets })
+}
+
 /// Appends a nop, where the units end before an address.
 fn pad(units: &mut Vec<u16>, address: u32) -> Result<(), AllocError>
     ensures { OnOk result (units.new.items ≡ padded address units.old.items) }
@@ -146,4 +188,107 @@ fn append_payload(units: &mut Vec<u16>, payload: &Payload) -> Result<(), AllocEr
             _ => unreachable!(),
         },
     }
+}
+
+/// Appends the units of the payload of a packed switch.
+fn append_packed(
+    units: &mut Vec<u16>,
+    items: &[Item],
+    places: &[u64],
+    named: &[Option<u64>],
+    k: usize,
+    first: i32,
+    names: &Seq<Text>,
+) -> Result<(), AllocError>
+    requires places { ArePlaces items.now places.now }
+    requires short { too_long items.now ≡ None }
+    requires named { named.now ≡ addresses_named items.now }
+    requires within { k < length items.now }
+    requires spelled { IsSome (payload_spelling (packed_of items.now (address_of items.now k) first names.now)) }
+    ensures { OnOk result (units.new.items ≡ units.old.items ++ unwrap_or (payload_spelling (packed_of items.now (address_of items.now k) first names.now)) []) }
+{
+    let alloc = *units.allocator();
+    let payload = packed_of(alloc, items, places, named, k, first, names.items())?;
+    append_payload(units, &payload)
+}
+
+/// Appends the units of the payload of a sparse switch.
+fn append_sparse(
+    units: &mut Vec<u16>,
+    items: &[Item],
+    places: &[u64],
+    named: &[Option<u64>],
+    k: usize,
+    keys: &Seq<i32>,
+    names: &Seq<Text>,
+) -> Result<(), AllocError>
+    requires places { ArePlaces items.now places.now }
+    requires short { too_long items.now ≡ None }
+    requires named { named.now ≡ addresses_named items.now }
+    requires within { k < length items.now }
+    requires spelled { IsSome (payload_spelling (sparse_of items.now (address_of items.now k) keys.now names.now)) }
+    ensures { OnOk result (units.new.items ≡ units.old.items ++ unwrap_or (payload_spelling (sparse_of items.now (address_of items.now k) keys.now names.now)) []) }
+{
+    let alloc = *units.allocator();
+    let payload = sparse_of(alloc, items, places, named, k, keys, names.items())?;
+    append_payload(units, &payload)
+}
+
+/// Appends the units of an array's data.
+fn append_data(units: &mut Vec<u16>, width: u16, bytes: &Seq<u8>) -> Result<(), AllocError>
+    requires { IsSome (payload_spelling (payload.Data width bytes.now)) }
+    ensures { OnOk result (units.new.items ≡ units.old.items ++ unwrap_or (payload_spelling (payload.Data width bytes.now)) []) }
+{
+    let bytes = bytes.clone()?;
+    append_payload(units, &Payload::Data { width, bytes })
+}
+
+/// Appends the units of what stands at a place among the items.
+fn append(
+    units: &mut Vec<u16>,
+    items: &[Item],
+    places: &[u64],
+    named: &[Option<u64>],
+    pools: &Pools,
+    k: usize,
+    what: &What,
+) -> Result<(), AllocError>
+    requires places { ArePlaces items.now places.now }
+    requires short { too_long items.now ≡ None }
+    requires named { named.now ≡ addresses_named items.now }
+    requires within { k < length items.now }
+    requires spelled { IsSome (spelling_of items.now pools.now k what.now) }
+    ensures { OnOk result (units.new.items ≡ units.old.items ++ unwrap_or (spelling_of items.now pools.now k what.now) []) }
+{
+    match what {
+        What::Label(_) => Ok(()),
+        What::Op(op) => append_insn(units, &insn_of(items, places, pools, k, op)?),
+        What::Packed(first, names) => {
+            append_packed(units, items, places, named, k, *first, names)
+        }
+        What::Sparse(keys, names) => append_sparse(units, items, places, named, k, keys, names),
+        What::Data(width, bytes) => append_data(units, *width, bytes),
+    }
+}
+
+/// The units of the items one after another, each at its address.
+pub fn units(
+    alloc: Global,
+    items: &[Item],
+    places: &[u64],
+    named: &[Option<u64>],
+    pools: &Pools,
+) -> Result<Vec<u16>, AllocError>
+    requires places { ArePlaces items.now places.now }
+    requires short { too_long items.now ≡ None }
+    requires named { named.now ≡ addresses_named items.now }
+    requires spelled { AreSpelled items.now pools.now }
+    ensures { IfOk result (λ units. units.items ≡ units_of items.now pools.now (length items.now)) }
+{
+    let mut units = Vec::new(alloc);
+    for k in 0..items.len() {
+        pad(&mut units, address_of(items, places, k))?;
+        append(&mut units, items, places, named, pools, k, &items[k].what)?;
+    }
+    Ok(units)
 }
