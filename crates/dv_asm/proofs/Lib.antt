@@ -1,2 +1,6 @@
 pub mod FirstLemmas
 pub mod PlaceLemmas
+pub mod Respelled
+pub mod PayloadLemmas
+pub mod UnitLemmas
+pub mod HandlerLemmas

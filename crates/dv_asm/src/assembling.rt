@@ -2,7 +2,7 @@
 ghost use Rattle.std.specs.Prelude.{◌≡◌, ◌≤◌, None, IfOk, IfErr};
 ghost use Rattle.dv_asm.specs.Places.{ArePlaces};
 ghost use Rattle.dv_asm.specs.Refusals.{Checks, Tells, addresses_named, too_long, ranges_of, label_refusal, item_refusal, range_refusal, refusal};
-ghost use Rattle.dv_asm.specs.Layout.{AreSpelled, layout, body_of, pools_of, sorted_ranges};
+ghost use Rattle.dv_asm.specs.Layout.{AreWritable, layout, body_of, pools_of};
 
 use crate::draft::{Catch, Draft, Item};
 use crate::handlers::{add_all_kinds, sorted, tries};
@@ -46,24 +46,14 @@ fn check_ranges(items: &[Item], catches: &[Catch], ranges: &[TryRange]) -> Resul
     refuse(try_overlap(items, catches, ranges), LineKind::TryOverlap)
 }
 
-/// The pools of a body.
+/// What the instructions name.
 #[tactic(auto, unfolding(crate::specs::Layout::pools_of))]
-fn pools(
-    alloc: Global,
-    items: &[Item],
-    catches: &[Catch],
-    ranges: &[TryRange],
-    sorted: &[TryRange],
-) -> Result<Pools, AllocError>
-    requires ranges { ranges.now ≡ ranges_of items.now catches.now }
-    requires sorted { sorted.now ≡ sorted_ranges items.now catches.now }
-    ensures { IfOk result (λ pools. pools ≡ pools_of items.now catches.now) }
+fn pools(alloc: Global, items: &[Item]) -> Result<Pools, AllocError>
+    ensures { IfOk result (λ pools. pools ≡ pools_of items.now) }
 {
-    let mut types = types(alloc, items)?;
-    add_all_kinds(&mut types, items, catches, ranges, sorted)?;
     Ok(Pools {
         strings: Seq::of(strings(alloc, items)?),
-        types: Seq::of(types),
+        types: Seq::of(types(alloc, items)?),
         fields: Seq::of(fields(alloc, items)?),
         methods: Seq::of(methods(alloc, items)?),
     })
@@ -85,21 +75,29 @@ fn body_of(
     requires named { named.now ≡ addresses_named items.now }
     requires ranges { ranges.now ≡ ranges_of items.now catches.now }
     requires short { too_long items.now ≡ None }
-    requires spelled { AreSpelled items.now (pools_of items.now catches.now) }
+    requires writable { AreWritable items.now (pools_of items.now) }
     ensures { IfOk result (λ body. body ≡ body_of registers items.now catches.now) }
 {
-    let sorted = sorted(alloc, ranges)?;
-    let pools = pools(alloc, items, catches, ranges, &sorted)?;
+    let pools = pools(alloc, items)?;
     let units = units(alloc, items, places, named, &pools)?;
-    let tries = tries(alloc, items, places, pools.types.items(), catches, &sorted)?;
+    let Pools {
+        strings,
+        types,
+        fields,
+        methods,
+    } = pools;
+    let sorted = sorted(alloc, ranges)?;
+    let mut types = types.into_vec();
+    add_all_kinds(&mut types, items, catches, ranges, &sorted)?;
+    let tries = tries(alloc, items, places, &types, catches, &sorted)?;
     Ok(Body {
         registers,
         units: Seq::of(units),
         tries: Seq::of(tries),
-        strings: pools.strings,
-        types: pools.types,
-        fields: pools.fields,
-        methods: pools.methods,
+        strings,
+        types: Seq::of(types),
+        fields,
+        methods,
         raw: false,
     })
 }
