@@ -4,3 +4,5 @@ pub mod Respelled
 pub mod PayloadLemmas
 pub mod UnitLemmas
 pub mod HandlerLemmas
+pub mod PoolLemmas
+pub mod Writing

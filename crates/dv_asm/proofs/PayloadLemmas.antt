@@ -1,13 +1,12 @@
 -- The numbers of payloads fit, and payloads have spellings of their sizes.
-use Rattle.std.proofs.Common.{◌≡◌, ◌+◌, ◌*◌, ◌/◌, ◌%◌, ◌≤◌, ◌<◌, ◌^◌, ◌&&◌, Bool, true, ℕ, zero, suc, ℤ, pos, negsuc, ◌-ℤ◌, List, [], ◌∷◌, ◌++◌, length, map, take, get_or, w32, Option, Some, IsSome, IsTrue, nat_eq, None, is_some, refl, ap, sym, ◌∙◌, subst, arith}
-use Rattle.std.proofs.lemmas.Bool.{lt-ltb, eqb-true}
+use Rattle.std.proofs.Common.{◌≡◌, ◌/◌, ◌%◌, ◌≤◌, ◌<◌, ◌^◌, Bool, true, ℕ, ℤ, pos, negsuc, ◌-ℤ◌, List, [], ◌∷◌, length, map, w32, IsSome, nat_eq, None, is_some, refl, ap, sym, subst, arith}
+use Rattle.std.proofs.lemmas.Bool.{lt-ltb}
 use Rattle.std.proofs.lemmas.Bool.Decides.{nat_tests}
 use Rattle.std.proofs.lemmas.Int.{ints, to_z-of_z}
 use mir.Val.{SFits, to_z, of_z}
-use Rattle.dv_defs.specs.declared.code.Payload.TheVariants as payload
-use Rattle.dv_defs.specs.Spelling.{fits_signed, all_fit, fits}
+use Rattle.dv_defs.specs.Spelling.{fits_signed, all_fit}
 use Rattle.dv_defs.specs.Tiling.{is_width}
-use Rattle.dv_defs.specs.Payloads.{payload_spelling, packed_spelling, sparse_spelling, data_spelling, numbers_spelling, all_fit_signed, where_fits}
+use Rattle.dv_defs.specs.Payloads.{packed_spelling, sparse_spelling, data_spelling, all_fit_signed, where_fits}
 use Rattle.dv_defs.proofs.PayloadLaws.{both, where_it_fits}
 use Rattle.dv_asm.specs.declared.draft.Item.{Item}
 use Rattle.dv_asm.specs.Places.{label_address, distance}

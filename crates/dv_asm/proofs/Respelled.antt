@@ -1,10 +1,10 @@
 -- An instruction that has a spelling with offset and index 0 has one with each offset and index that fits.
-use Rattle.std.proofs.Common.{◌≡◌, ◌<◌, ◌^◌, ℕ, ℤ, pos, Bool, true, false, Option, Some, None, List, is_some, IsSome, refl, sym, ◌∙◌, ap, subst, arith}
+use Rattle.std.proofs.Common.{◌≡◌, ◌<◌, ◌^◌, ℕ, ℤ, pos, true, false, Option, Some, None, IsSome, refl, sym, subst, arith}
 use Rattle.dv_defs.specs.declared.code.Insn.{Insn}
 use Rattle.dv_defs.specs.Formats.{Format, F10x, F12x, F11n, F11x, F10t, F20t, F22x, F21t, F21s, F21h, F21c, F23x, F22b, F22t, F22s, F22c, F30t, F32x, F31i, F31t, F31c, F35c, F3rc, F51l, format_at}
-use Rattle.dv_defs.specs.Spelling.{spelling, spelling_in, spelling_by, spelled, fits, fits_signed, spelling_10t, spelling_20t, spelling_21t, spelling_22t, spelling_30t, spelling_31t, spelling_21c, spelling_22c, spelling_31c, spelling_35c, spelling_3rc}
+use Rattle.dv_defs.specs.Spelling.{spelling, spelling_in, spelling_by, fits, fits_signed, spelling_10t, spelling_20t, spelling_21t, spelling_22t, spelling_30t, spelling_31t, spelling_21c, spelling_22c, spelling_31c, spelling_35c, spelling_3rc}
 use Rattle.dv_defs.proofs.InsnEq.{form_tests}
-use Rattle.dv_units.specs.Offsets.{offset_bits_in, offset_bits}
+use Rattle.dv_units.specs.Offsets.{offset_bits_in}
 use Rattle.dv_asm.specs.Draft.{has_offset, has_index}
 use Rattle.dv_asm.specs.Refusals.{with_operands}
 

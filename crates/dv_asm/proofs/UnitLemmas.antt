@@ -5,10 +5,9 @@ use Rattle.std.specs.Option.{unwrap_or}
 use Rattle.std.proofs.lemmas.Bool.{eqb-true}
 use Rattle.std.proofs.lemmas.Bool.Decides.{nat_tests}
 use Rattle.dv_defs.specs.declared.code.Insn.{Insn}
-use Rattle.dv_defs.specs.declared.code.Payload.TheVariants as payload
 use Rattle.dv_defs.specs.Formats.{size_at, size_by}
 use Rattle.dv_defs.specs.Spelling.{spelling}
-use Rattle.dv_defs.specs.Payloads.{payload_spelling, packed_spelling, sparse_spelling, data_spelling, numbers_spelling}
+use Rattle.dv_defs.specs.Payloads.{packed_spelling, sparse_spelling, data_spelling, numbers_spelling}
 use Rattle.dv_defs.proofs.SpellingFormats.{begins}
 use Rattle.dv_defs.proofs.SpellingLaws.{spelled_in}
 use Rattle.dv_defs.proofs.PayloadLaws.{where_fits_is}

@@ -1,5 +1,5 @@
 -- What a draft is seen as, and what each draft keeps.
-use Rattle.std.specs.Prelude.{ℕ, ◌≡◌, ◌≤◌, ◌%◌, ℤ, pos, Bool, true, false, ◌&&◌, ◌||◌, nat_eq, nat_lt, List, [], ◌∷◌, length, drop, slice_index, All, Option, Some, None, is_some, IsSome, IsTrue}
+use Rattle.std.specs.Prelude.{ℕ, ◌≡◌, ◌≤◌, ◌%◌, pos, Bool, true, false, ◌&&◌, ◌||◌, nat_eq, nat_lt, List, [], ◌∷◌, length, drop, slice_index, All, Option, Some, is_some, IsSome, IsTrue}
 use Rattle.dv_defs.specs.declared.code.Insn.{Insn}
 use Rattle.dv_defs.specs.declared.code.Regs.{Regs}
 use Rattle.dv_defs.specs.Formats.{Format, F10t, F20t, F21t, F22t, F30t, F31t, F21c, F22c, F31c, F35c, F3rc, format_at}

@@ -1,5 +1,5 @@
 -- The body that a draft is assembled to.
-use Rattle.std.specs.Prelude.{ℕ, zero, suc, ◌≡◌, ◌<◌, ◌%◌, ◌^◌, ◌++◌, ◌-ℤ◌, ℤ, pos, Bool, false, nat_le, nat_lt, List, [], ◌∷◌, length, map, filter, fold, insert, position, slice_get, unwrap_or, option_map, bytes_eq, Option, Some, None, IsSome, IsTrue, if◌then◌else◌}
+use Rattle.std.specs.Prelude.{ℕ, zero, suc, ◌≡◌, ◌<◌, ◌%◌, ◌^◌, ◌++◌, ℤ, pos, Bool, false, nat_le, nat_lt, List, [], ◌∷◌, length, map, filter, fold, insert, position, slice_get, unwrap_or, bytes_eq, Option, Some, None, IsSome, IsTrue, if◌then◌else◌}
 use Rattle.std.specs.Option.{option_map_or, option_and_then}
 use Rattle.dv_defs.specs.declared.code.Insn.{Insn}
 use Rattle.dv_defs.specs.declared.code.Payload.{Payload}

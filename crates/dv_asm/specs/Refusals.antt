@@ -1,5 +1,5 @@
 -- Why a draft isn't assembled: each kind of refusal by the lines at which it stands, and which one is told.
-use Rattle.std.specs.Prelude.{ℕ, zero, suc, ◌≡◌, ◌+◌, ◌^◌, ℤ, pos, Bool, true, false, not, ◌&&◌, ◌||◌, nat_eq, nat_lt, nat_le, List, [], length, map, position, slice_index_or, take, Option, Some, None, is_some, option_map, Result, Ok, Err, if◌then◌else◌}
+use Rattle.std.specs.Prelude.{ℕ, ◌≡◌, ◌+◌, ℤ, pos, Bool, true, false, not, ◌&&◌, nat_eq, nat_lt, nat_le, List, [], length, map, position, slice_index_or, take, Option, Some, None, is_some, Result, Ok, Err}
 use Rattle.std.specs.List.{list_all, list_any}
 use Rattle.std.specs.Option.{option_or}
 use Rattle.dv_defs.specs.declared.code.Insn.{Insn}

@@ -1,5 +1,4 @@
 use Rattle.std.proofs.Common.{◌∙◌, sym}
-use Rattle.dv_asm.specs.Layout.{pools_of}
 use Rattle.dv_asm.proofs.HandlerLemmas.{is_body}
 use Rattle.dv_asm.proofs.assembling.body_of.Goals as goal
 

@@ -1,4 +1,4 @@
-use Rattle.std.proofs.Common.{◌≡◌, ℕ, ◌≤◌, subst}
+use Rattle.std.proofs.Common.{ℕ, ◌≤◌, subst}
 use Rattle.dv_asm.specs.Layout.{base_of}
 use Rattle.dv_asm.proofs.PayloadLemmas.{distances_fit}
 use Rattle.dv_asm.proofs.units.targets_of.Goals as goal
