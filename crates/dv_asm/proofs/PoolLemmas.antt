@@ -16,7 +16,7 @@ use Rattle.dv_asm.specs.declared.draft.What.TheVariants as what
 use Rattle.dv_asm.specs.declared.draft.PoolRef.{PoolRef}
 use Rattle.dv_asm.specs.declared.draft.PoolRef.TheVariants as pool
 use Rattle.dv_asm.specs.declared.pools.Pools.{Pools}
-use Rattle.dv_asm.specs.Draft.{IsFormed, blank, is_entry}
+use Rattle.dv_asm.specs.Draft.{AreFormed, IsFormed, blank, is_entry}
 use Rattle.dv_asm.specs.Items.{item_at, no_item, size_of}
 use Rattle.dv_asm.specs.Places.{end_of}
 use Rattle.dv_asm.specs.Refusals.{too_long}
@@ -27,9 +27,6 @@ use Rattle.dv_asm.proofs.UnitLemmas.{insn_size}
 
 abbrev size : Item → ℕ
 size item = size_of item.what
-
-abbrev pub AreFormed : List Item → Type 0
-AreFormed items = All (λ (item : Item). IsFormed item.what) items
 
 size_by_spelling : (op : Draftop) (o : Option (List ℕ)) → spelling (blank op.insn) ≡ o → IsSome o → 1 ≤ size_at op.insn.op
 size_by_spelling op None e some = absurd (cc)

@@ -87,6 +87,9 @@ IsFormed (what.Packed first targets) = Unit {0}
 IsFormed (what.Sparse keys targets) = length targets ≡ length keys
 IsFormed (what.Data width bytes) = IsTrue (is_width width) × (length bytes % width ≡ 0)
 
+abbrev pub AreFormed : List Item → Type 0
+AreFormed items = All (λ (item : Item). IsFormed item.what) items
+
 pub record IsDraft (registers : ℕ) (items : List Item) : Type 0 where
   pub few_registers : registers ≤ 256
-  pub formed : All (λ (item : Item). IsFormed item.what) items
+  pub formed : AreFormed items

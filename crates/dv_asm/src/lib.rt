@@ -13,6 +13,8 @@ mod pools;
 mod ranges;
 mod short;
 mod switches;
+#[cfg(test)]
+mod tests;
 mod tries;
 mod units;
 

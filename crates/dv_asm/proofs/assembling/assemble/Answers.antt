@@ -1,5 +1,5 @@
 use Rattle.std.proofs.Common.{sym, subst}
-use Rattle.dv_asm.proofs.PoolLemmas.{AreFormed}
+use Rattle.dv_asm.specs.Draft.{AreFormed}
 use Rattle.dv_asm.proofs.Writing.{are_writable}
 use Rattle.dv_asm.proofs.assembling.assemble.Goals as goal
 
