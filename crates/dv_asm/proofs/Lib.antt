@@ -6,3 +6,4 @@ pub mod UnitLemmas
 pub mod HandlerLemmas
 pub mod PoolLemmas
 pub mod Writing
+pub mod TestOps

@@ -38,22 +38,17 @@ fn class(alloc: Global, name: &str) -> Result<Ty, AllocError> {
     })
 }
 
-fn regs(count: u8, first: u16, second: u16) -> Regs
-    ensures { result ≡ record { count = count; first = first ∷ second ∷ 0 ∷ 0 ∷ 0 ∷ []; range = false } }
-{
-    Regs {
-        count,
-        first: [first, second, 0, 0, 0],
-        range: false,
-    }
-}
-
-fn insn(op: u8, regs: Regs) -> Insn
-    ensures { result ≡ record { op = op; regs = regs; lit = pos 0; off = pos 0; index = 0 } }
+/// An instruction over at most two registers.
+fn insn(op: u8, count: u8, first: u16, second: u16) -> Insn
+    ensures { result ≡ record { op = op; regs = record { count = count; first = first ∷ second ∷ 0 ∷ 0 ∷ 0 ∷ []; range = false }; lit = pos 0; off = pos 0; index = 0 } }
 {
     Insn {
         op,
-        regs,
+        regs: Regs {
+            count,
+            first: [first, second, 0, 0, 0],
+            range: false,
+        },
         lit: 0,
         off: 0,
         index: 0,
@@ -94,7 +89,7 @@ impl Making {
     }
 
     fn nop(&mut self, line: u32) -> Result<(), AllocError> {
-        self.op(line, insn(0x00, regs(0, 0, 0)), None, PoolRef::None)
+        self.op(line, insn(0x00, 0, 0, 0), None, PoolRef::None)
     }
 
     fn nops(&mut self, line: u32, count: u32) -> Result<(), AllocError> {
@@ -105,27 +100,27 @@ impl Making {
     }
 
     fn mov(&mut self, line: u32, to: u16, from: u16) -> Result<(), AllocError> {
-        self.op(line, insn(0x01, regs(2, to, from)), None, PoolRef::None)
+        self.op(line, insn(0x01, 2, to, from), None, PoolRef::None)
     }
 
     fn goto(&mut self, line: u32, name: &str) -> Result<(), AllocError> {
         let name = text(self.alloc, name)?;
-        self.op(line, insn(0x28, regs(0, 0, 0)), Some(name), PoolRef::None)
+        self.op(line, insn(0x28, 0, 0, 0), Some(name), PoolRef::None)
     }
 
     fn packed_switch(&mut self, line: u32, name: &str) -> Result<(), AllocError> {
         let name = text(self.alloc, name)?;
-        self.op(line, insn(0x2b, regs(1, 0, 0)), Some(name), PoolRef::None)
+        self.op(line, insn(0x2b, 1, 0, 0), Some(name), PoolRef::None)
     }
 
     fn const_string(&mut self, line: u32, chars: &[u16]) -> Result<(), AllocError> {
         let chars = Chars::of(Vec::from_slice(self.alloc, chars)?);
-        self.op(line, insn(0x1a, regs(1, 0, 0)), None, PoolRef::Str(chars))
+        self.op(line, insn(0x1a, 1, 0, 0), None, PoolRef::Str(chars))
     }
 
     fn const_class(&mut self, line: u32, name: &str) -> Result<(), AllocError> {
         let ty = class(self.alloc, name)?;
-        self.op(line, insn(0x1c, regs(1, 0, 0)), None, PoolRef::OfType(ty))
+        self.op(line, insn(0x1c, 1, 0, 0), None, PoolRef::OfType(ty))
     }
 
     fn packed(&mut self, line: u32, first: i32, name: &str) -> Result<(), AllocError> {
