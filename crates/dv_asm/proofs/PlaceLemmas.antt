@@ -1,12 +1,11 @@
 -- The addresses of items, one after another.
-use Rattle.std.proofs.Common.{◌≡◌, ◌+◌, ◌≤◌, ◌<◌, ◌^◌, ◌%◌, ◌&&◌, Bool, true, false, ℕ, zero, suc, List, [], ◌∷◌, length, drop, slice_index, nat_eq, nat_le, nat_lt, Option, Some, None, position, if◌then◌else◌, arith, ap, subst, add-one, refl, sym, ◌∙◌, ⊎_elim, ◌⊎◌, inl, inr}
+use Rattle.std.proofs.Common.{◌≡◌, ◌+◌, ◌≤◌, ◌<◌, ◌^◌, ◌%◌, ◌&&◌, Bool, false, ℕ, zero, suc, List, length, drop, slice_index, nat_eq, nat_le, nat_lt, Option, Some, None, if◌then◌else◌, arith, refl}
 use Rattle.std.specs.Option.{option_map_or}
 use Rattle.std.proofs.lemmas.List.Quantifiers.{position-Some}
 use Rattle.std.proofs.lemmas.Bool.Decides.{nat_tests}
 use Rattle.dv_asm.specs.declared.draft.Item.{Item}
-use Rattle.dv_asm.specs.First.{when}
 use Rattle.dv_asm.specs.Items.{item_at, size_of, no_item, is_named}
-use Rattle.dv_asm.specs.Places.{end_of, address_of, aligned, leads_to_payload, place_of, label_address, size_of_all}
+use Rattle.dv_asm.specs.Places.{end_of, address_of, aligned, leads_to_payload, place_of, label_address}
 use Rattle.dv_asm.specs.Refusals.{passes, too_long_at, too_long}
 use Rattle.dv_asm.proofs.FirstLemmas.{first_line_none, not_when}
 

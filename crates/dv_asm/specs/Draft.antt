@@ -1,7 +1,5 @@
 -- What a draft is seen as, and what each draft keeps.
-use Rattle.std.specs.Prelude.{ℕ, ◌≤◌, ◌%◌, ◌^◌, ℤ, pos, Bool, true, false, ◌&&◌, ◌||◌, nat_eq, nat_lt, List, [], ◌∷◌, length, drop, slice_index, All, Option, Some, None, is_some, IsTrue}
-use Rattle.std.specs.Bool.{beq}
-use Rattle.std.specs.Ordering.{int_eq}
+use Rattle.std.specs.Prelude.{ℕ, ◌≡◌, ◌≤◌, ◌%◌, pos, Bool, true, false, ◌&&◌, ◌||◌, nat_eq, nat_lt, List, [], ◌∷◌, length, drop, slice_index, All, Option, Some, is_some, IsSome, IsTrue}
 use Rattle.dv_defs.specs.declared.code.Insn.{Insn}
 use Rattle.dv_defs.specs.declared.code.Regs.{Regs}
 use Rattle.dv_defs.specs.Formats.{Format, F10t, F20t, F21t, F22t, F30t, F31t, F21c, F22c, F31c, F35c, F3rc, format_at}
@@ -57,9 +55,9 @@ is_named_by (Some (family.StaticPut suffix)) (pool.Field field) = true
 is_named_by (Some (family.Invoke call)) (pool.Method method) = true
 is_named_by f entry = false
 
-abbrev pub is_no_entry : PoolRef → Bool
-is_no_entry pool.None = true
-is_no_entry entry = false
+abbrev pub is_entry : PoolRef → Bool
+is_entry pool.None = false
+is_entry entry = true
 
 -- the instruction with its registers, offset and index set to 0: it has a spelling exactly where its opcode is one of
 -- the table, it has as many registers as its format takes, its range is that of its format, and its literal fits
@@ -70,25 +68,28 @@ blank i = record { op = i.op; regs = record { count = i.regs.count; first = 0 �
 abbrev pub has_no_further : Regs → Bool
 has_no_further r = elim r.range [ true ↦ all_zero (drop 1 r.first) && (nat_lt 0 r.count || nat_eq (slice_index r.first 0) 0) | false ↦ all_zero (drop r.count r.first) ]
 
--- an instruction in the form of its format, with a label exactly where the format has an offset, an entry of its
--- opcode's kind exactly where it has an index, and 0 in the parts that it lacks
-abbrev pub is_op : Draftop → Bool
-is_op op =
-    let format = format_at op.insn.op in
-    is_some (spelling (blank op.insn)) && has_no_further op.insn.regs &&
-    beq (is_some op.label) (has_offset format) && (has_offset format || int_eq op.insn.off (pos 0)) &&
-    (is_named_by (family_at op.insn.op) op.pool || (is_no_entry op.pool && not_index format)) && (has_index format || nat_eq op.insn.index 0)
-  where
-    not_index : Option Format → Bool
-    not_index format = elim (has_index format) [ true ↦ false | false ↦ true ]
+-- an instruction in the form of its format: it has a label exactly where the format has an offset, an entry of its
+-- opcode's kind exactly where it has an index, and 0 in each part that the format lacks
+pub record IsOp (op : Draftop) : Type 0 where
+  pub form : IsSome (spelling (blank op.insn))
+  pub registers : IsTrue (has_no_further op.insn.regs)
+  pub label : is_some op.label ≡ has_offset (format_at op.insn.op)
+  pub offset : has_offset (format_at op.insn.op) ≡ false → op.insn.off ≡ pos 0
+  pub entry : is_entry op.pool ≡ has_index (format_at op.insn.op)
+  pub kind : is_entry op.pool ≡ true → IsTrue (is_named_by (family_at op.insn.op) op.pool)
+  pub index : has_index (format_at op.insn.op) ≡ false → op.insn.index ≡ 0
 
-abbrev pub is_formed : What → Bool
-is_formed (what.Label name) = true
-is_formed (what.Op op) = is_op op
-is_formed (what.Packed first targets) = true
-is_formed (what.Sparse keys targets) = nat_eq (length targets) (length keys)
-is_formed (what.Data width bytes) = is_width width && nat_eq (length bytes % width) 0
+-- an item in its form: as many targets as keys, and whole elements of a width that there is
+abbrev pub IsFormed : What → Type 0
+IsFormed (what.Label name) = Unit {0}
+IsFormed (what.Op op) = IsOp op
+IsFormed (what.Packed first targets) = Unit {0}
+IsFormed (what.Sparse keys targets) = length targets ≡ length keys
+IsFormed (what.Data width bytes) = IsTrue (is_width width) × (length bytes % width ≡ 0)
+
+abbrev pub AreFormed : List Item → Type 0
+AreFormed items = All (λ (item : Item). IsFormed item.what) items
 
 pub record IsDraft (registers : ℕ) (items : List Item) : Type 0 where
   pub few_registers : registers ≤ 256
-  pub formed : All (λ (item : Item). IsTrue (is_formed item.what)) items
+  pub formed : AreFormed items

@@ -1,5 +1,5 @@
 -- The body that a draft is assembled to.
-use Rattle.std.specs.Prelude.{ℕ, zero, suc, ◌++◌, ◌-ℤ◌, ℤ, pos, Bool, false, nat_le, nat_lt, List, [], ◌∷◌, length, map, filter, fold, insert, position, slice_get, unwrap_or, option_map, bytes_eq, Option, Some, None, if◌then◌else◌}
+use Rattle.std.specs.Prelude.{ℕ, zero, suc, ◌≡◌, ◌<◌, ◌%◌, ◌^◌, ◌++◌, ℤ, pos, Bool, false, nat_le, nat_lt, List, [], ◌∷◌, length, map, filter, fold, insert, position, slice_get, unwrap_or, bytes_eq, Option, Some, None, IsSome, IsTrue, if◌then◌else◌}
 use Rattle.std.specs.Option.{option_map_or, option_and_then}
 use Rattle.dv_defs.specs.declared.code.Insn.{Insn}
 use Rattle.dv_defs.specs.declared.code.Payload.{Payload}
@@ -11,6 +11,7 @@ use Rattle.dv_defs.specs.Body.{BodyValue}
 use Rattle.dv_defs.specs.Types.{ty_eq}
 use Rattle.dv_defs.specs.Spelling.{spelling}
 use Rattle.dv_defs.specs.Payloads.{payload_spelling}
+use Rattle.dv_defs.specs.Tiling.{is_width}
 use Rattle.dv_asm.specs.declared.draft.Item.{Item}
 use Rattle.dv_asm.specs.declared.draft.Catch.{Catch}
 use Rattle.dv_asm.specs.declared.draft.Draftop.{Draftop}
@@ -52,14 +53,18 @@ abbrev pub with_kinds : List Item → List Catch → List Ty → List TryRange �
 with_kinds items catches ts [] = ts
 with_kinds items catches ts (r ∷ rs) = with_kinds items catches (with_entries ty_eq (kind_in items r) ts catches) rs
 
--- the pools: what the instructions name, and then the types of the handlers, by the ranges' starts
-unfoldable pub pools_of : List Item → List Catch → Pools
-pools_of items catches = record {
+-- what the instructions name
+unfoldable pub pools_of : List Item → Pools
+pools_of items = record {
   strings = with_entries bytes_eq chars_of [] items;
-  types = with_kinds items catches (with_entries ty_eq type_of [] items) (sorted_ranges items catches);
+  types = with_entries ty_eq type_of [] items;
   fields = with_entries field_eq field_of [] items;
   methods = with_entries method_eq method_of [] items;
 }
+
+-- the pool of types: what the instructions name, and then the types of the handlers, by the ranges' starts
+abbrev pub types_of : List Item → List Catch → List Ty
+types_of items catches = with_kinds items catches (pools_of items).types (sorted_ranges items catches)
 
 abbrev pub handler_of : List Item → List Ty → Catch → Handler
 handler_of items types c = record { kind = option_and_then (λ t. position (ty_eq t) types) c.kind; at = label_address items c.at }
@@ -103,6 +108,17 @@ spelling_of items pools k (what.Packed first names) = payload_spelling (packed_o
 spelling_of items pools k (what.Sparse keys names) = payload_spelling (sparse_of items (address_of items k) keys names)
 spelling_of items pools k (what.Data width bytes) = payload_spelling (payload.Data width bytes)
 
+-- an item whose numbers are those of their types has a spelling where this holds
+abbrev pub IsWritable : List Item → Pools → ℕ → What → Type 0
+IsWritable items pools k (what.Label name) = Unit {0}
+IsWritable items pools k (what.Op op) = IsSome (spelling (insn_of items pools k op))
+IsWritable items pools k (what.Packed first names) = length names < 2 ^ 16
+IsWritable items pools k (what.Sparse keys names) = (length names ≡ length keys) × (length names < 2 ^ 16)
+IsWritable items pools k (what.Data width bytes) = IsTrue (is_width width) × (length bytes % width ≡ 0) × (length bytes < 2 ^ 32)
+
+abbrev pub AreWritable : List Item → Pools → Type 0
+AreWritable items pools = (k : ℕ) → k < length items → IsWritable items pools k (item_at items k).what
+
 -- a nop at their end, where they end before an address
 abbrev pub padded : ℕ → List ℕ → List ℕ
 padded address us = if nat_lt (length us) address then us ++ 0 ∷ [] else us
@@ -112,16 +128,21 @@ abbrev pub units_of : List Item → Pools → ℕ → List ℕ
 units_of items pools zero = []
 units_of items pools (suc k) = padded (address_of items k) (units_of items pools k) ++ unwrap_or (spelling_of items pools k (item_at items k).what) []
 
-unfoldable pub layout : DraftValue → BodyValue
-layout d =
-    let pools = pools_of d.items d.catches in
+unfoldable pub body_of : ℕ → List Item → List Catch → BodyValue
+body_of registers items catches =
+    let pools = pools_of items in
+    let types = types_of items catches in
     record {
-      registers = d.registers;
-      units = units_of d.items pools (length d.items);
-      tries = tries_of d.items d.catches pools.types;
+      registers = registers;
+      units = units_of items pools (length items);
+      tries = tries_of items catches types;
       strings = pools.strings;
-      types = pools.types;
+      types = types;
       fields = pools.fields;
       methods = pools.methods;
       raw = false;
     }
+
+-- the body with the units of the items, the try entries and the pools
+abbrev pub layout : DraftValue → BodyValue
+layout d = body_of d.registers d.items d.catches

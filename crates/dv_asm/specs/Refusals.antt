@@ -1,5 +1,5 @@
 -- Why a draft isn't assembled: each kind of refusal by the lines at which it stands, and which one is told.
-use Rattle.std.specs.Prelude.{ℕ, zero, suc, ◌≡◌, ◌+◌, ◌^◌, ℤ, pos, Bool, true, false, not, ◌&&◌, ◌||◌, nat_eq, nat_lt, nat_le, List, [], length, map, position, slice_index_or, take, Option, Some, None, is_some, option_map, Result, Ok, Err, if◌then◌else◌}
+use Rattle.std.specs.Prelude.{ℕ, ◌≡◌, ◌+◌, ℤ, pos, Bool, true, false, not, ◌&&◌, nat_eq, nat_lt, nat_le, List, [], length, map, position, slice_index_or, take, Option, Some, None, is_some, Result, Ok, Err}
 use Rattle.std.specs.List.{list_all, list_any}
 use Rattle.std.specs.Option.{option_or}
 use Rattle.dv_defs.specs.declared.code.Insn.{Insn}
@@ -181,17 +181,21 @@ abbrev pub refused : LineKind → Option ℕ → Option Refusal
 refused k None = None
 refused k (Some line) = Some (record { line = line; kind = k })
 
--- the first kind that stands, at its first line
-unfoldable pub refusal : DraftValue → Option Refusal
-refusal d =
-    option_or (refused kind.LabelTwice (label_twice d.items))
-    (option_or (refused kind.NoLabel (no_label d.items d.catches))
-    (option_or (refused kind.Repeated (repeated d.items))
-    (option_or (refused kind.RegisterRange (register_range d.items))
-    (option_or (refused kind.OffsetRange (offset_range d.items))
-    (option_or (refused kind.TooLong (too_long d.items))
-    (option_or (refused kind.TryRange (try_range d.items d.catches))
-    (refused kind.TryOverlap (try_overlap d.items d.catches))))))))
+-- the first kind that stands, at its first line: of labels, of items, of ranges
+abbrev pub label_refusal : List Item → List Catch → Option Refusal
+label_refusal items catches = option_or (refused kind.LabelTwice (label_twice items)) (refused kind.NoLabel (no_label items catches))
+
+abbrev pub item_refusal : List Item → Option Refusal
+item_refusal items =
+    option_or (refused kind.Repeated (repeated items))
+    (option_or (refused kind.RegisterRange (register_range items))
+    (option_or (refused kind.OffsetRange (offset_range items)) (refused kind.TooLong (too_long items))))
+
+abbrev pub range_refusal : List Item → List Catch → Option Refusal
+range_refusal items catches = option_or (refused kind.TryRange (try_range items catches)) (refused kind.TryOverlap (try_overlap items catches))
+
+abbrev pub refusal : DraftValue → Option Refusal
+refusal d = option_or (label_refusal d.items d.catches) (option_or (item_refusal d.items) (range_refusal d.items d.catches))
 
 -- the error tells this refusal, unless memory was wanting
 abbrev pub Tells : LineError → Option Refusal → Type 0

@@ -1,6 +1,7 @@
 //! The draft of a method's body is assembled into units with try entries and pools.
 #![tactic(auto, using(crate::proofs::FirstLemmas::first_line_more))]
 
+mod assembling;
 mod draft;
 mod entries;
 mod handlers;
@@ -12,7 +13,10 @@ mod pools;
 mod ranges;
 mod short;
 mod switches;
+#[cfg(test)]
+mod tests;
 mod tries;
 mod units;
 
+pub use assembling::assemble;
 pub use draft::{Catch, Draft, Draftop, Item, PoolRef, What};

@@ -1,11 +1,12 @@
 // The units of items.
-ghost use Rattle.std.specs.Prelude.{◌≡◌, ◌<◌, ◌≤◌, ◌++◌, None, [], length, map, unwrap_or, IfOk, OnOk, IsSome};
-ghost use Rattle.dv_defs.specs.Spelling.{spelling};
-ghost use Rattle.dv_defs.specs.Payloads.{payload_spelling};
-ghost use Rattle.dv_asm.specs.Items.{item_at};
+ghost use Rattle.std.specs.Prelude.{◌≡◌, ◌<◌, ◌≤◌, ◌%◌, ◌^◌, ◌++◌, true, None, [], length, map, unwrap_or, IfOk, OnOk, IsSome, IsTrue};
+ghost use Rattle.dv_defs.specs.declared.code.Payload.TheVariants as payload;
+ghost use Rattle.dv_defs.specs.Spelling.{spelling, all_fit};
+ghost use Rattle.dv_defs.specs.Payloads.{payload_spelling, all_fit_signed};
+ghost use Rattle.dv_defs.specs.Tiling.{is_width};
 ghost use Rattle.dv_asm.specs.Places.{ArePlaces, address_of, distance};
 ghost use Rattle.dv_asm.specs.Refusals.{too_long, addresses_named};
-ghost use Rattle.dv_asm.specs.Layout.{offset_of, insn_of, base_of, targets_of, spelling_of, padded, units_of};
+ghost use Rattle.dv_asm.specs.Layout.{IsWritable, AreWritable, offset_of, insn_of, base_of, targets_of, packed_of, sparse_of, spelling_of, padded, units_of};
 
 use crate::draft::{Draftop, Item, What};
 use crate::pools::Pools;
@@ -72,6 +73,23 @@ fn base_of(items: &[Item], places: &[u64], named: &[Option<u64>], address: u32) 
     }
 }
 
+/// Each byte fits its half of a unit.
+fn bytes_fit(bytes: &[u8])
+    ensures { all_fit 8 bytes.now ≡ true }
+{}
+
+/// The same numbers. Each fits two units.
+fn copied(alloc: Global, numbers: &[i32]) -> Result<Seq<i32>, AllocError>
+    ensures same { IfOk result (λ copy. copy ≡ numbers.now) }
+    ensures fitting { OnOk result (all_fit_signed numbers.now ≡ true) }
+{
+    let mut copy = Vec::new(alloc);
+    for number in numbers {
+        copy.push(*number)?;
+    }
+    Ok(Seq::of(copy))
+}
+
 /// How far each of the labels is from an address.
 fn distances(
     alloc: Global,
@@ -104,10 +122,57 @@ fn targets_of(
     requires places { ArePlaces items.now places.now }
     requires short { too_long items.now ≡ None }
     requires named { named.now ≡ addresses_named items.now }
-    ensures { IfOk result (λ targets. targets ≡ targets_of items.now address names.now) }
+    ensures value { IfOk result (λ targets. targets ≡ targets_of items.now address names.now) }
+    ensures fitting { all_fit_signed (targets_of items.now address names.now) ≡ true }
 {
     let base = base_of(items, places, named, address);
     Ok(Seq::of(distances(alloc, items, places, base, names)?))
+}
+
+fn packed_of(
+    alloc: Global,
+    items: &[Item],
+    places: &[u64],
+    named: &[Option<u64>],
+    k: usize,
+    first: i32,
+    names: &[Text],
+) -> Result<Payload, AllocError>
+    requires places { ArePlaces items.now places.now }
+    requires short { too_long items.now ≡ None }
+    requires named { named.now ≡ addresses_named items.now }
+    requires within { k < length items.now }
+    requires few { length names.now < 2 ^ 16 }
+    ensures value { IfOk result (λ payload. payload ≡ packed_of items.now (address_of items.now k) first names.now) }
+    ensures spelled { IfOk result (λ payload. IsSome (payload_spelling payload)) }
+{
+    let address = address_of(items, places, k);
+    let targets = targets_of(alloc, items, places, named, address, names)?;
+    Ok(Payload::Packed { first, targets })
+}
+
+fn sparse_of(
+    alloc: Global,
+    items: &[Item],
+    places: &[u64],
+    named: &[Option<u64>],
+    k: usize,
+    keys: &Seq<i32>,
+    names: &[Text],
+) -> Result<Payload, AllocError>
+    requires places { ArePlaces items.now places.now }
+    requires short { too_long items.now ≡ None }
+    requires named { named.now ≡ addresses_named items.now }
+    requires within { k < length items.now }
+    requires same { length names.now ≡ length keys.now }
+    requires few { length names.now < 2 ^ 16 }
+    ensures value { IfOk result (λ payload. payload ≡ sparse_of items.now (address_of items.now k) keys.now names.now) }
+    ensures spelled { IfOk result (λ payload. IsSome (payload_spelling payload)) }
+{
+    let address = address_of(items, places, k);
+    let targets = targets_of(alloc, items, places, named, address, names)?;
+    let keys = copied(alloc, keys.items())?;
+    Ok(Payload::Sparse { keys, targets })
 }
 
 /// Appends a nop, where the units end before an address.
@@ -146,4 +211,111 @@ fn append_payload(units: &mut Vec<u16>, payload: &Payload) -> Result<(), AllocEr
             _ => unreachable!(),
         },
     }
+}
+
+/// Appends the units of the payload of a packed switch.
+fn append_packed(
+    units: &mut Vec<u16>,
+    items: &[Item],
+    places: &[u64],
+    named: &[Option<u64>],
+    k: usize,
+    first: i32,
+    names: &Seq<Text>,
+) -> Result<(), AllocError>
+    requires places { ArePlaces items.now places.now }
+    requires short { too_long items.now ≡ None }
+    requires named { named.now ≡ addresses_named items.now }
+    requires within { k < length items.now }
+    requires few { length names.now < 2 ^ 16 }
+    ensures { OnOk result (units.new.items ≡ units.old.items ++ unwrap_or (payload_spelling (packed_of items.now (address_of items.now k) first names.now)) []) }
+{
+    let alloc = *units.allocator();
+    let payload = packed_of(alloc, items, places, named, k, first, names.items())?;
+    append_payload(units, &payload)
+}
+
+/// Appends the units of the payload of a sparse switch.
+fn append_sparse(
+    units: &mut Vec<u16>,
+    items: &[Item],
+    places: &[u64],
+    named: &[Option<u64>],
+    k: usize,
+    keys: &Seq<i32>,
+    names: &Seq<Text>,
+) -> Result<(), AllocError>
+    requires places { ArePlaces items.now places.now }
+    requires short { too_long items.now ≡ None }
+    requires named { named.now ≡ addresses_named items.now }
+    requires within { k < length items.now }
+    requires same { length names.now ≡ length keys.now }
+    requires few { length names.now < 2 ^ 16 }
+    ensures { OnOk result (units.new.items ≡ units.old.items ++ unwrap_or (payload_spelling (sparse_of items.now (address_of items.now k) keys.now names.now)) []) }
+{
+    let alloc = *units.allocator();
+    let payload = sparse_of(alloc, items, places, named, k, keys, names.items())?;
+    append_payload(units, &payload)
+}
+
+/// Appends the units of an array's data.
+fn append_data(units: &mut Vec<u16>, width: u16, bytes: &Seq<u8>) -> Result<(), AllocError>
+    requires width { IsTrue (is_width width) }
+    requires whole { length bytes.now % width ≡ 0 }
+    requires few { length bytes.now < 2 ^ 32 }
+    ensures { OnOk result (units.new.items ≡ units.old.items ++ unwrap_or (payload_spelling (payload.Data width bytes.now)) []) }
+{
+    bytes_fit(bytes.items());
+    let bytes = bytes.clone()?;
+    append_payload(units, &Payload::Data { width, bytes })
+}
+
+/// Appends the units of what stands at a place among the items.
+fn append(
+    units: &mut Vec<u16>,
+    items: &[Item],
+    places: &[u64],
+    named: &[Option<u64>],
+    pools: &Pools,
+    k: usize,
+    what: &What,
+) -> Result<(), AllocError>
+    requires places { ArePlaces items.now places.now }
+    requires short { too_long items.now ≡ None }
+    requires named { named.now ≡ addresses_named items.now }
+    requires within { k < length items.now }
+    requires writable { IsWritable items.now pools.now k what.now }
+    ensures { OnOk result (units.new.items ≡ units.old.items ++ unwrap_or (spelling_of items.now pools.now k what.now) []) }
+{
+    match what {
+        What::Label(_) => Ok(()),
+        What::Op(op) => append_insn(units, &insn_of(items, places, pools, k, op)?),
+        What::Packed(first, names) => {
+            append_packed(units, items, places, named, k, *first, names)
+        }
+        What::Sparse(keys, names) => append_sparse(units, items, places, named, k, keys, names),
+        What::Data(width, bytes) => append_data(units, *width, bytes),
+    }
+}
+
+/// The units of the items one after another, each at its address.
+pub fn units(
+    alloc: Global,
+    items: &[Item],
+    places: &[u64],
+    named: &[Option<u64>],
+    pools: &Pools,
+) -> Result<Vec<u16>, AllocError>
+    requires places { ArePlaces items.now places.now }
+    requires short { too_long items.now ≡ None }
+    requires named { named.now ≡ addresses_named items.now }
+    requires writable { AreWritable items.now pools.now }
+    ensures { IfOk result (λ units. units.items ≡ units_of items.now pools.now (length items.now)) }
+{
+    let mut units = Vec::new(alloc);
+    for k in 0..items.len() {
+        pad(&mut units, address_of(items, places, k))?;
+        append(&mut units, items, places, named, pools, k, &items[k].what)?;
+    }
+    Ok(units)
 }

@@ -1,5 +1,3 @@
-use Rattle.std.proofs.Common.{◌≡◌, ◌≤◌, ◌<◌, ◌^◌, ℕ, vec_len}
-use Rattle.dv_asm.specs.Places.{end_of}
 use Rattle.dv_asm.proofs.PlaceLemmas.{AreSoFar}
 use Rattle.dv_asm.proofs.places.places.Given as goal
 
