@@ -1,3 +1,4 @@
 pub mod Bytes
 pub mod Tiles
 pub mod Lines
+pub mod LaidOut

@@ -6,3 +6,4 @@ pub mod Operands
 pub mod Draft
 pub mod Raw
 pub mod Listing
+pub mod Laws

@@ -7,6 +7,7 @@ mod drafting;
 mod flags;
 mod formats;
 mod items;
+mod laws;
 mod members;
 mod named;
 mod numbers;
@@ -18,3 +19,4 @@ mod references;
 mod tests;
 
 pub use class::print_class;
+pub use laws::layout_is_tiled;
