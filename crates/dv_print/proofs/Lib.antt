@@ -2,3 +2,4 @@ pub mod Bytes
 pub mod Tiles
 pub mod Lines
 pub mod LaidOut
+pub mod Labels

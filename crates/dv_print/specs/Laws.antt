@@ -1,5 +1,5 @@
--- What the units that layout gives of a draft are.
-use Rattle.std.specs.Prelude.{ℕ, zero, suc, ◌≡◌, Bool, nat_lt, List, [], ◌∷◌, ◌++◌, length, All, None, Ok, IsTrue, if◌then◌else◌}
+-- The laws of labels, and of drafts and their layout.
+use Rattle.std.specs.Prelude.{ℕ, zero, suc, ◌≡◌, ◌<◌, ◌^◌, nat_lt, List, [], ◌∷◌, ◌++◌, length, All, None, Ok, IsTrue, if◌then◌else◌}
 use Rattle.dv_defs.specs.declared.code.Payload.TheVariants as payload
 use Rattle.dv_defs.specs.Spelling.{plain, few, all_fit, fits_signed}
 use Rattle.dv_defs.specs.Payloads.{all_fit_signed}
@@ -13,7 +13,12 @@ use Rattle.dv_asm.specs.Draft.{AreFormed}
 use Rattle.dv_asm.specs.Items.{item_at, size_of}
 use Rattle.dv_asm.specs.Places.{address_of, end_of}
 use Rattle.dv_asm.specs.Refusals.{item_refusal}
+use Rattle.dv_print.specs.Numbers.{label_name}
 use Rattle.dv_asm.specs.Layout.{insn_of, packed_of, sparse_of, pools_of, units_of}
+
+-- No two addresses have the same label.
+abbrev pub LabelsAreDistinct : Type 0
+LabelsAreDistinct = (a b : ℕ) → a < 2 ^ 32 → b < 2 ^ 32 → label_name a ≡ label_name b → a ≡ b
 
 -- the numbers of an item are those of their types
 abbrev pub HasNumbers : What → Type 0

@@ -1,5 +1,10 @@
-// The laws of drafts and their layout.
-ghost use Rattle.dv_print.specs.Laws.{LayoutIsTiled};
+// The laws of labels, and of drafts and their layout.
+ghost use Rattle.dv_print.specs.Laws.{LabelsAreDistinct, LayoutIsTiled};
+
+/// No two addresses have the same label.
+pub fn labels_are_distinct()
+    ensures { LabelsAreDistinct }
+{}
 
 /// The units of a draft whose items aren't refused are its instructions and payloads, each at its address, and nops
 /// before payloads.
