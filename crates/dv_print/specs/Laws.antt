@@ -1,5 +1,6 @@
 -- The laws of labels, and of drafts and their layout.
 use Rattle.std.specs.Prelude.{ℕ, zero, suc, ◌≡◌, ◌<◌, ◌^◌, nat_lt, List, [], ◌∷◌, ◌++◌, length, All, None, Ok, IsTrue, if◌then◌else◌}
+use Rattle.std.specs.List.{flat_map}
 use Rattle.dv_defs.specs.declared.code.Payload.TheVariants as payload
 use Rattle.dv_defs.specs.Spelling.{plain, few, all_fit, fits_signed}
 use Rattle.dv_defs.specs.Payloads.{all_fit_signed}
@@ -9,12 +10,16 @@ use Rattle.dv_asm.specs.declared.draft.Item.{Item}
 use Rattle.dv_asm.specs.declared.draft.What.{What}
 use Rattle.dv_asm.specs.declared.draft.What.TheVariants as what
 use Rattle.dv_asm.specs.declared.pools.Pools.{Pools}
-use Rattle.dv_asm.specs.Draft.{AreFormed}
+use Rattle.dv_asm.specs.declared.draft.PoolRef.{PoolRef}
+use Rattle.dv_asm.specs.declared.draft.PoolRef.TheVariants as pool
+use Rattle.dv_asm.specs.Draft.{DraftValue, AreFormed}
 use Rattle.dv_asm.specs.Items.{item_at, size_of}
 use Rattle.dv_asm.specs.Places.{address_of, end_of}
 use Rattle.dv_asm.specs.Refusals.{item_refusal}
 use Rattle.dv_print.specs.Numbers.{label_name}
-use Rattle.dv_asm.specs.Layout.{insn_of, packed_of, sparse_of, pools_of, units_of}
+use Rattle.dv_asm.specs.Pools.{pool_ref}
+use Rattle.dv_asm.specs.Layout.{insn_of, packed_of, sparse_of, pools_of, units_of, layout}
+use Rattle.dv_print.specs.Drafting.{draft_of}
 
 -- No two addresses have the same label.
 abbrev pub LabelsAreDistinct : Type 0
@@ -57,3 +62,24 @@ LayoutIsTiled =
     (items : List Item) → AreFormed items → HaveNumbers items → item_refusal items ≡ None →
     IsTrue (all_fit 16 (units_of items (pools_of items) (length items))) →
     tiling.tiling (units_of items (pools_of items) (length items)) ≡ Ok (tiles_to items (pools_of items) (length items))
+
+-- what instructions name, in the order of the items
+abbrev pub entries_in : PoolRef → List PoolRef
+entries_in pool.None = []
+entries_in entry = entry ∷ []
+
+abbrev pub item_entries : Item → List PoolRef
+item_entries item = entries_in (pool_ref item.what)
+
+abbrev pub entries_of : List Item → List PoolRef
+entries_of items = flat_map item_entries items
+
+-- The draft that is made of a laid-out body names what the draft before it names, so its pools are the same.
+pub record KeepsEntries (before after : List Item) : Type 0 where
+  pub entries : entries_of after ≡ entries_of before
+  pub pools : pools_of after ≡ pools_of before
+
+abbrev pub DraftKeepsEntries : Type 0
+DraftKeepsEntries =
+    (d : DraftValue) → AreFormed d.items → HaveNumbers d.items → item_refusal d.items ≡ None →
+    IsTrue (all_fit 16 (layout d).units) → KeepsEntries d.items (draft_of (layout d)).items

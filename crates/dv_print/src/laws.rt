@@ -1,5 +1,5 @@
 // The laws of labels, and of drafts and their layout.
-ghost use Rattle.dv_print.specs.Laws.{LabelsAreDistinct, LayoutIsTiled};
+ghost use Rattle.dv_print.specs.Laws.{LabelsAreDistinct, LayoutIsTiled, DraftKeepsEntries};
 
 /// No two addresses have the same label.
 pub fn labels_are_distinct()
@@ -10,4 +10,10 @@ pub fn labels_are_distinct()
 /// before payloads.
 pub fn layout_is_tiled()
     ensures { LayoutIsTiled }
+{}
+
+/// The draft that is made of a laid-out body names the entries that the draft before it names, in the same order, so
+/// its pools are the same.
+pub fn draft_keeps_entries()
+    ensures { DraftKeepsEntries }
 {}
