@@ -1,5 +1,5 @@
 -- The draft that is made of a laid-out body names what the draft before it names.
-use Rattle.std.proofs.Common.{◌≡◌, ℕ, ◌+◌, ◌<◌, ◌≤◌, ◌%◌, zero, suc, pos, Bool, true, false, not, ◌&&◌, List, [], ◌∷◌, ◌++◌, length, map, take, get_or, position, bytes_eq, nat_lt, nat_eq, Option, Some, None, Result, Ok, IsSome, IsTrue, if◌then◌else◌, refl, ap, sym, ◌∙◌, subst, arith, append-nil, append_assoc}
+use Rattle.std.proofs.Common.{◌≡◌, ℕ, ◌+◌, ◌<◌, ◌≤◌, ◌%◌, zero, suc, Bool, true, false, ◌&&◌, List, [], ◌∷◌, ◌++◌, length, map, take, position, bytes_eq, nat_lt, nat_eq, Option, Some, None, IsSome, IsTrue, if◌then◌else◌, refl, ap, sym, ◌∙◌, arith, append-nil}
 use Rattle.std.specs.Option.{unwrap_or}
 use Rattle.std.specs.List.{slice_get, flat_map}
 use Rattle.std.proofs.lemmas.Bool.{eqb-true}
@@ -7,17 +7,15 @@ use Rattle.std.proofs.lemmas.List.{take_more, map-append}
 use Rattle.std.proofs.lemmas.List.Concat.{flat_map-append}
 use Rattle.std.proofs.lemmas.Option.{slice_get-get_or}
 use Rattle.std.proofs.Math.Seq.{take-length}
-use Rattle.dv_defs.specs.declared.code.Try.{Try}
 use Rattle.dv_defs.specs.declared.code.Insn.{Insn}
 use Rattle.dv_defs.specs.declared.names.Ty.{Ty}
 use Rattle.dv_defs.specs.declared.names.FieldRef.{FieldRef}
 use Rattle.dv_defs.specs.declared.names.MethodRef.{MethodRef}
 use Rattle.dv_defs.specs.Body.{BodyValue}
-use Rattle.dv_defs.specs.Formats.{format_at}
 use Rattle.dv_defs.specs.Families.{family_at}
 use Rattle.dv_defs.specs.Spelling.{plain, few, all_fit, spelling}
 use Rattle.dv_defs.specs.Types.{ty_eq}
-use Rattle.dv_defs.specs.Tiling.{IsInsn, IsPayload, Tile, tiling, tiles_of}
+use Rattle.dv_defs.specs.Tiling.{IsInsn, Tile, tiles_of}
 use Rattle.dv_defs.proofs.SpellingFormats.{begins}
 use Rattle.dv_defs.proofs.SpellingLaws.{spelled_in}
 use Rattle.dv_asm.specs.declared.draft.Item.{Item}
@@ -29,22 +27,21 @@ use Rattle.dv_asm.specs.declared.draft.PoolRef.{PoolRef}
 use Rattle.dv_asm.specs.declared.draft.PoolRef.TheVariants as pool
 use Rattle.dv_asm.specs.declared.pools.Pools.{Pools}
 use Rattle.dv_asm.specs.declared.tries.TryRange.{TryRange}
-use Rattle.dv_asm.specs.Draft.{DraftValue, AreFormed, IsFormed, IsOp, is_entry, is_named_by, has_index, blank}
+use Rattle.dv_asm.specs.Draft.{DraftValue, AreFormed, IsFormed, IsOp, is_entry, is_named_by, blank}
 use Rattle.dv_asm.specs.Items.{item_at, no_item}
 use Rattle.dv_asm.specs.Places.{address_of, end_of}
 use Rattle.dv_asm.specs.Refusals.{item_refusal}
 use Rattle.dv_asm.specs.Pools.{with_entry_if_any, with_entries, pool_ref, chars_in, type_in, field_in, method_in, chars_of, type_of, field_of, method_of, field_eq, method_eq, index_of}
-use Rattle.dv_asm.specs.Layout.{insn_of, kind_in, with_kinds, sorted_ranges, types_of, tries_of, pools_of, units_of, body_of, layout}
-use Rattle.dv_print.specs.declared.formats.Pool.{Pool}
+use Rattle.dv_asm.specs.Layout.{kind_in, with_kinds, sorted_ranges, pools_of, units_of, body_of, layout}
 use Rattle.dv_print.specs.declared.formats.Pool.TheVariants as from
 use Rattle.dv_print.specs.declared.pieces.Part.{Part}
 use Rattle.dv_print.specs.declared.pieces.Part.TheVariants as part
 use Rattle.dv_print.specs.declared.pieces.Piece.{Piece}
 use Rattle.dv_print.specs.Pieces.{piece_of, pieces_of}
 use Rattle.dv_print.specs.Named.{is_named, addresses_named}
-use Rattle.dv_print.specs.Drafting.{found_as, pool_of, entry_in, part_item, piece_item, labels_at, is_nop, begins_with_payload, is_aligning, items_at, items_from, items_in, items_of, draft_of}
+use Rattle.dv_print.specs.Drafting.{found_as, pool_of, entry_in, part_item, piece_item, labels_at, is_nop, is_aligning, items_at, items_from, items_in, draft_of}
 use Rattle.dv_print.specs.Laws.{HaveNumbers, KeepsEntries, entries_in, item_entries, entries_of, tile, nops_before, tiles_at, tiles_to}
-use Rattle.dv_print.proofs.Entries.{Tells, Holds, bytes_tell, types_tell, fields_tell, methods_tell, kept, holds, at_index}
+use Rattle.dv_print.proofs.Entries.{Tells, bytes_tell, types_tell, fields_tell, methods_tell, kept, holds, at_index}
 use Rattle.dv_print.proofs.PoolKinds.{pool_for, pool_of_named, no_pool}
 use Rattle.dv_print.proofs.LaidOut.{layout_is_tiled}
 
@@ -136,9 +133,9 @@ entries_to b all items (suc k) h formed within =
     let nops = nops_before end address in
     let own = tiles_at items (pools_of items) k address w in
     let here : tile_entries b all (nops ++ own) ≡ entries_in (pool_ref w) =
-      joined_entries b all nops own ∙ (ap (λ xs. xs ++ tile_entries b all own) (nops_by (nat_lt end address) b all end) ∙ own_entries b all items k w h (omega arith) refl (formed k no_item (omega arith))) in
+    joined_entries b all nops own ∙ (ap (λ xs. xs ++ tile_entries b all own) (nops_by (nat_lt end address) b all end) ∙ own_entries b all items k w h (omega arith) refl (formed k no_item (omega arith))) in
     let listed : entries_of (take (suc k) items) ≡ entries_of (take k items) ++ entries_in (pool_ref w) =
-      ap entries_of (next_item items k (omega arith)) ∙ (flat_map-append item_entries (take k items) (item_at items k ∷ []) ∙ ap (λ xs. entries_of (take k items) ++ xs) (append-nil (entries_in (pool_ref w)))) in
+    ap entries_of (next_item items k (omega arith)) ∙ (flat_map-append item_entries (take k items) (item_at items k ∷ []) ∙ ap (λ xs. entries_of (take k items) ++ xs) (append-nil (entries_in (pool_ref w)))) in
     joined_entries b all before (nops ++ own) ∙
     (ap (λ xs. xs ++ tile_entries b all (nops ++ own)) (entries_to b all items k h formed (omega arith)) ∙
     (ap (λ xs. entries_of (take k items) ++ xs) here ∙ sym listed))
@@ -243,7 +240,7 @@ draft_keeps_entries d formed numbers none fit =
     let b = layout d in
     let all = pieces_of b.units in
     let whole : entries_of (draft_of b).items ≡ entries_of d.items =
-      ap entries_of (draft_items b) ∙ (items_entries b all (addresses_named all b.tries) ∙
-      (ap (flat_map (piece_entries b all)) (pieces_are d formed numbers none fit) ∙
-      (entries_to b all d.items (length d.items) (has_pools d) formed (omega arith) ∙ ap entries_of (take-length d.items)))) in
+    ap entries_of (draft_items b) ∙ (items_entries b all (addresses_named all b.tries) ∙
+    (ap (flat_map (piece_entries b all)) (pieces_are d formed numbers none fit) ∙
+    (entries_to b all d.items (length d.items) (has_pools d) formed (omega arith) ∙ ap entries_of (take-length d.items)))) in
     record { entries = whole; pools = same_pools d.items (draft_of b).items whole }

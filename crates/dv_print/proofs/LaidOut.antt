@@ -1,7 +1,6 @@
 -- The units that layout gives of a draft are tiled by its instructions and payloads.
-use Rattle.std.proofs.Common.{◌≡◌, ℕ, ◌+◌, ◌-◌, ◌%◌, ◌<◌, ◌≤◌, ◌^◌, zero, suc, ℤ, Bool, true, false, List, [], ◌∷◌, ◌++◌, length, map, take, drop, nat_lt, Option, Some, None, Ok, is_some, IsSome, IsTrue, if◌then◌else◌, refl, ap, sym, ◌∙◌, subst, arith, length-drop, length-append, append-nil, append_assoc}
+use Rattle.std.proofs.Common.{◌≡◌, ℕ, ◌+◌, ◌%◌, ◌<◌, ◌≤◌, zero, suc, Bool, true, false, List, [], ◌∷◌, ◌++◌, length, take, drop, nat_lt, Option, Some, None, Ok, IsSome, IsTrue, if◌then◌else◌, refl, ap, sym, ◌∙◌, subst, arith, length-drop, length-append, append-nil, append_assoc}
 use Rattle.std.specs.Option.{option_or, option_map_or, unwrap_or}
-use Rattle.std.proofs.lemmas.Bool.{lt-ltb}
 use Rattle.std.proofs.lemmas.Bool.Decides.{nat_tests}
 use Rattle.std.proofs.lemmas.List.{take-append-le, drop-append-le, length-map}
 use Rattle.std.proofs.lemmas.List.Quantifiers.{position-Some}
@@ -10,8 +9,7 @@ use Rattle.dv_defs.specs.declared.code.Payload.TheVariants as payload
 use Rattle.dv_defs.specs.declared.faults.LineKind.{LineKind}
 use Rattle.dv_defs.specs.declared.faults.LineKind.TheVariants as kind
 use Rattle.dv_defs.specs.Formats.{format_at}
-use Rattle.dv_defs.specs.Spelling.{plain, few, all_fit, insn_eq, spelling}
-use Rattle.dv_defs.specs.Payloads.{payload_spelling, all_fit_signed}
+use Rattle.dv_defs.specs.Spelling.{plain, few, all_fit, insn_eq}
 use Rattle.dv_defs.specs.Tiling as tiling
 use Rattle.dv_defs.specs.Tiling.{IsInsn, IsPayload, Tile}
 use Rattle.dv_defs.specs.Layout.{AreTiles, item_spelling}
@@ -22,7 +20,7 @@ use Rattle.dv_asm.specs.declared.draft.What.TheVariants as what
 use Rattle.dv_asm.specs.declared.pools.Pools.{Pools}
 use Rattle.dv_asm.specs.Draft.{AreFormed}
 use Rattle.dv_asm.specs.Items.{item_at, no_item, size_of}
-use Rattle.dv_asm.specs.Places.{address_of, end_of, distance}
+use Rattle.dv_asm.specs.Places.{address_of, end_of}
 use Rattle.dv_asm.specs.Refusals.{refused, item_refusal, repeated, register_range, offset_range, too_long, is_address, addresses_named, switch_of}
 use Rattle.dv_asm.specs.Layout.{IsWritable, AreWritable, insn_of, packed_of, sparse_of, base_of, targets_of, spelling_of, padded, pools_of, units_of}
 use Rattle.dv_asm.proofs.PayloadLemmas.{distances_fit, packed_spelled, sparse_spelled, data_spelled}
@@ -46,10 +44,12 @@ append_tiles [] at us ts' us' none later =
 append_tiles (t ∷ ts) at us ts' us' here later =
     let place : at + length us ≡ at + t.size + length (drop t.size us) = omega (arith, here.1, length-drop t.size us) in
     let R : ℕ → Type 0 = λ n. AreTiles n ts' us' in
-    let Q : List ℕ → Type 0 = λ xs. AreTiles (at + t.size) (ts ++ ts') xs in
-    (here.0, omega (arith, here.1, length-append us us'),
+    let Q : List ℕ → Type 0 = λ xs. AreTiles (at + t.size) (ts ++ ts') xs in (
+      here.0,
+      omega (arith, here.1, length-append us us'),
       here.2 ∙ ap Some (sym (take-append-le t.size us us' here.1)),
-      subst Q (sym (drop-append-le t.size us us' here.1)) (append_tiles ts (at + t.size) (drop t.size us) ts' us' here.3 (subst R place later)))
+      subst Q (sym (drop-append-le t.size us us' here.1)) (append_tiles ts (at + t.size) (drop t.size us) ts' us' here.3 (subst R place later)),
+    )
 
 one_tile : (x : tiling.Item) (us : List ℕ) (at n : ℕ) → item_spelling x ≡ Some us → length us ≡ n → AreTiles at (tile at n x ∷ []) us
 one_tile x us at n e size =

@@ -1,5 +1,5 @@
 -- The pool that an opcode names is that of its format and its family.
-use Rattle.std.proofs.Common.{◌≡◌, ℕ, ◌<◌, Bool, true, false, ◌||◌, Option, Some, None, refl, ◌∙◌}
+use Rattle.std.proofs.Common.{◌≡◌, ℕ, ◌<◌, Bool, true, false, ◌||◌, Option, Some, refl, ◌∙◌}
 use Rattle.std.proofs.lemmas.Bool.{agree_below_at}
 use Rattle.dv_defs.specs.Formats.{format_at}
 use Rattle.dv_defs.specs.Families.{Family, family_at}
