@@ -122,6 +122,14 @@ pub fn assemble(alloc: Global, draft: &Draft) -> Result<Body, LineError>
     check_items(items, &places, &named)?;
     let ranges = ranges(alloc, items, catches, &places)?;
     check_ranges(items, catches, &ranges)?;
-    let body = body_of(alloc, draft.registers, items, catches, &places, &named, &ranges)?;
+    let body = body_of(
+        alloc,
+        draft.registers,
+        items,
+        catches,
+        &places,
+        &named,
+        &ranges,
+    )?;
     Ok(body)
 }
