@@ -1,11 +1,12 @@
 -- The units of items are tiled by what the items are.
-use Rattle.std.proofs.Common.{◌≡◌, ◌+◌, ◌≤◌, ◌<◌, ◌%◌, ℕ, zero, suc, Bool, true, false, nat_lt, List, [], ◌∷◌, ◌++◌, length, take, drop, Option, Some, None, IsSome, if◌then◌else◌, refl, ap, sym, ◌∙◌, subst, arith, length-append, length-drop}
+use Rattle.std.proofs.Common.{◌≡◌, ◌+◌, ◌≤◌, ◌<◌, ◌%◌, ℕ, zero, suc, Bool, true, false, nat_lt, List, [], ◌∷◌, ◌++◌, length, take, drop, Option, Some, None, Ok, IsSome, if◌then◌else◌, refl, ap, sym, ◌∙◌, subst, arith, length-append, length-drop}
 use Rattle.std.specs.Option.{unwrap_or}
 use Rattle.std.proofs.lemmas.List.{take-append-le, drop-append-le, append-nil}
 use Rattle.std.proofs.Math.Seq.{take-length, drop-length}
 use Rattle.std.proofs.lemmas.Bool.{ltb-true, ltb-false}
 use Rattle.dv_defs.specs.Formats.{format_at}
-use Rattle.dv_defs.specs.Spelling.{plain, few, insn_eq}
+use Rattle.dv_defs.specs.Spelling.{plain, few, insn_eq, all_fit}
+use Rattle.dv_defs.proofs.TilingLaws.{tiles_found}
 use Rattle.dv_defs.specs.Tiling as tiling
 use Rattle.dv_defs.specs.Tiling.{IsInsn, IsPayload, Tile}
 use Rattle.dv_defs.specs.Layout.{AreTiles, item_spelling}
@@ -29,9 +30,12 @@ tiles_append at [] us t vs none place spelled size =
     (omega (arith, ap length none), omega (arith, length-append us vs), spelled ∙ ap Some (sym taken), dropped)
 tiles_append at (s ∷ ts) us t vs (place', within, spelled', rest) place spelled size =
     let later : drop s.size (us ++ vs) ≡ drop s.size us ++ vs = drop-append-le s.size us vs within in
-    let P : List ℕ → Type 0 = λ xs. AreTiles (at + s.size) (ts ++ t ∷ []) xs in
-    (place', omega (arith, length-append us vs), spelled' ∙ ap Some (sym (take-append-le s.size us vs within)),
-    subst P (sym later) (tiles_append (at + s.size) ts (drop s.size us) t vs rest (omega (arith, place, length-drop s.size us)) spelled size))
+    let P : List ℕ → Type 0 = λ xs. AreTiles (at + s.size) (ts ++ t ∷ []) xs in (
+      place',
+      omega (arith, length-append us vs),
+      spelled' ∙ ap Some (sym (take-append-le s.size us vs within)),
+      subst P (sym later) (tiles_append (at + s.size) ts (drop s.size us) t vs rest (omega (arith, place, length-drop s.size us)) spelled size),
+    )
 
 pad_by : (b : Bool) (ts : List Tile) (us : List ℕ) → AreTiles 0 ts us → AreTiles 0 (ts ++ (if b then record { at = length us; size = 1; item = IsInsn (plain 0 (few [])) } ∷ [] else [])) (if b then us ++ 0 ∷ [] else us)
 unfolding format_at insn_eq
@@ -102,3 +106,12 @@ pub are_tiled : (items : List Item) (pools : Pools) → AreSpelled items pools �
 are_tiled items pools spelled zero within = record { tiled = refl; reached = refl }
 are_tiled items pools spelled (suc k) within =
     one_item items pools k (spelling_of items pools k (item_at items k).what) refl (spelled k (omega arith)) (are_tiled items pools spelled k (omega arith))
+
+-- the units that a loop over all items has made
+pub made_units : (items : List Item) (pools : Pools) (k : ℕ) (us : List ℕ) → k ≡ length items → us ≡ units_of items pools k → ((j : ℕ) → j < k → IsSome (spelling_of items pools j (item_at items j).what)) → all_fit 16 us ≡ true → tiling.tiling us ≡ Ok (tiles_of items pools (length items))
+made_units items pools k us whole is spelled fitting =
+    let P : ℕ → Type 0 = λ n. AreTiles 0 (tiles_of items pools n) us in
+    let Q : List ℕ → Type 0 = λ xs. AreTiles 0 (tiles_of items pools k) xs in
+    let each : AreSpelled items pools = λ j within. spelled j (omega (arith, whole)) in
+    let here = are_tiled items pools each k (omega (arith, whole)) in
+    tiles_found (tiles_of items pools (length items)) 0 us fitting (subst P whole (subst Q (sym is) here.tiled))

@@ -1,7 +1,7 @@
 ghost use Rattle.std.specs.Prelude.{◌≡◌, ◌≤◌, ◌∷◌, [], false, pos};
 ghost use Rattle.dv_asm.specs.Draft.{IsFormed, IsOp};
 
-use crate::{Catch, Draft, Draftop, Item, PoolRef, What, assemble};
+use crate::{Catch, Draft, Draftop, Item, PoolRef, What, assemble, units_are_items};
 use dv_defs::{Base, Body, Chars, Handler, Insn, LineError, LineKind, Regs, Seq, Text, Try, Ty};
 use std::alloc::{AllocError, Global};
 use std::marker::Model;
@@ -194,7 +194,10 @@ fn refuses_a_label_twice(rt: HostRuntime) -> Result<(), Fail> {
     making.label(9, "a")?;
     making.label(10, "a")?;
     let draft = making.draft(1);
-    assert_eq!(rt; error_of(rt.alloc(), &draft), refusal(9, LineKind::LabelTwice));
+    assert_eq!(rt;
+        error_of(rt.alloc(), &draft),
+        refusal(9, LineKind::LabelTwice)
+    );
     Ok(())
 }
 
@@ -277,7 +280,10 @@ fn refuses_a_second_switch(rt: HostRuntime) -> Result<(), Fail> {
     making.label(6, "q")?;
     making.packed(7, 0, "p")?;
     let draft = making.draft(1);
-    assert_eq!(rt; error_of(rt.alloc(), &draft), refusal(4, LineKind::Repeated));
+    assert_eq!(rt;
+        error_of(rt.alloc(), &draft),
+        refusal(4, LineKind::Repeated)
+    );
     Ok(())
 }
 
@@ -288,7 +294,10 @@ fn refuses_a_large_register(rt: HostRuntime) -> Result<(), Fail> {
     making.mov(4, 0, 16)?;
     making.mov(5, 16, 0)?;
     let draft = making.draft(17);
-    assert_eq!(rt; error_of(rt.alloc(), &draft), refusal(4, LineKind::RegisterRange));
+    assert_eq!(rt;
+        error_of(rt.alloc(), &draft),
+        refusal(4, LineKind::RegisterRange)
+    );
     Ok(())
 }
 
@@ -308,7 +317,10 @@ fn refuses_a_far_goto(rt: HostRuntime) -> Result<(), Fail> {
     let near = going(rt.alloc(), 126)?;
     assert_eq!(rt; units_of(rt.alloc(), &near)?.first(), Some(&0x7f28));
     let far = going(rt.alloc(), 127)?;
-    assert_eq!(rt; error_of(rt.alloc(), &far), refusal(3, LineKind::OffsetRange));
+    assert_eq!(rt;
+        error_of(rt.alloc(), &far),
+        refusal(3, LineKind::OffsetRange)
+    );
     Ok(())
 }
 
@@ -326,7 +338,10 @@ fn refuses_a_long_body(rt: HostRuntime) -> Result<(), Fail> {
     let fitting = long(rt.alloc(), 32754)?;
     assert_eq!(rt; units_of(rt.alloc(), &fitting)?.len(), 16384);
     let longer = long(rt.alloc(), 32756)?;
-    assert_eq!(rt; error_of(rt.alloc(), &longer), refusal(5, LineKind::TooLong));
+    assert_eq!(rt;
+        error_of(rt.alloc(), &longer),
+        refusal(5, LineKind::TooLong)
+    );
     Ok(())
 }
 
@@ -347,7 +362,10 @@ fn refuses_an_empty_range(rt: HostRuntime) -> Result<(), Fail> {
     making.catch(11, None, "b", "d", "d")?;
     making.catch(12, None, "b", "b", "d")?;
     let draft = making.draft(1);
-    assert_eq!(rt; error_of(rt.alloc(), &draft), refusal(12, LineKind::TryRange));
+    assert_eq!(rt;
+        error_of(rt.alloc(), &draft),
+        refusal(12, LineKind::TryRange)
+    );
     Ok(())
 }
 
@@ -358,7 +376,10 @@ fn refuses_an_overlap(rt: HostRuntime) -> Result<(), Fail> {
     making.catch(11, None, "c", "d", "d")?;
     making.catch(12, None, "b", "d", "d")?;
     let draft = making.draft(1);
-    assert_eq!(rt; error_of(rt.alloc(), &draft), refusal(12, LineKind::TryOverlap));
+    assert_eq!(rt;
+        error_of(rt.alloc(), &draft),
+        refusal(12, LineKind::TryOverlap)
+    );
     Ok(())
 }
 
@@ -407,8 +428,16 @@ fn covered(alloc: Global) -> Result<Draft, AllocError> {
 fn joins_equal_ranges_and_sorts(rt: HostRuntime) -> Result<(), Fail> {
     let alloc = rt.alloc();
     let draft = covered(alloc)?;
-    let first = vec![in alloc; Handler { kind: Some(0), at: 3 }]?;
-    let b = Handler { kind: Some(1), at: 3 };
+    let first = vec![in alloc;
+        Handler {
+            kind: Some(0),
+            at: 3
+        },
+    ]?;
+    let b = Handler {
+        kind: Some(1),
+        at: 3,
+    };
     let all = Handler { kind: None, at: 2 };
     let second = vec![in alloc; b, all]?;
     let expected = vec![in alloc; (0, 1, first), (1, 2, second)]?;
@@ -441,6 +470,7 @@ fn naming(alloc: Global) -> Result<Draft, AllocError> {
 
 #[test]
 fn names_places_in_pools(rt: HostRuntime) -> Result<(), Fail> {
+    units_are_items();
     let draft = naming(rt.alloc())?;
     let units: [u16; 8] = [
         0x001a, 0x0000, 0x001a, 0x0001, 0x001a, 0x0000, 0x001c, 0x0000,

@@ -1,12 +1,13 @@
 // The units of items.
-ghost use Rattle.std.specs.Prelude.{◌≡◌, ◌<◌, ◌≤◌, ◌%◌, ◌^◌, ◌++◌, true, None, [], length, map, unwrap_or, IfOk, OnOk, IsSome, IsTrue};
+ghost use Rattle.std.specs.Prelude.{◌≡◌, ◌<◌, ◌≤◌, ◌%◌, ◌^◌, ◌++◌, true, None, [], length, map, unwrap_or, IfOk, OnOk, IsSome, IsTrue, Ok};
 ghost use Rattle.dv_defs.specs.declared.code.Payload.TheVariants as payload;
 ghost use Rattle.dv_defs.specs.Spelling.{spelling, all_fit};
 ghost use Rattle.dv_defs.specs.Payloads.{payload_spelling, all_fit_signed};
-ghost use Rattle.dv_defs.specs.Tiling.{is_width};
+ghost use Rattle.dv_defs.specs.Tiling.{is_width, tiling};
 ghost use Rattle.dv_asm.specs.Places.{ArePlaces, address_of, distance};
 ghost use Rattle.dv_asm.specs.Refusals.{too_long, addresses_named};
 ghost use Rattle.dv_asm.specs.Layout.{AreSpelled, IsWritable, AreWritable, offset_of, insn_of, base_of, targets_of, packed_of, sparse_of, spelling_of, padded, units_of};
+ghost use Rattle.dv_asm.specs.Tiles.{tiles_of};
 
 use crate::draft::{Draftop, Item, What};
 use crate::pools::Pools;
@@ -76,6 +77,11 @@ fn base_of(items: &[Item], places: &[u64], named: &[Option<u64>], address: u32) 
 /// Each byte fits its half of a unit.
 fn bytes_fit(bytes: &[u8])
     ensures { all_fit 8 bytes.now ≡ true }
+{}
+
+/// Each unit has sixteen bits.
+fn units_fit(units: &[u16])
+    ensures { all_fit 16 units.now ≡ true }
 {}
 
 /// The same numbers. Each fits two units.
@@ -316,11 +322,13 @@ pub fn units(
     requires writable { AreWritable items.now pools.now }
     ensures units { IfOk result (λ units. units.items ≡ units_of items.now pools.now (length items.now)) }
     ensures spelled { OnOk result (AreSpelled items.now pools.now) }
+    ensures tiled { IfOk result (λ units. tiling units.items ≡ Ok (tiles_of items.now pools.now (length items.now))) }
 {
     let mut units = Vec::new(alloc);
     for k in 0..items.len() {
         pad(&mut units, address_of(items, places, k))?;
         append(&mut units, items, places, named, pools, k, &items[k].what)?;
     }
+    units_fit(&units);
     Ok(units)
 }
