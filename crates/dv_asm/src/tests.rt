@@ -1,7 +1,7 @@
 ghost use Rattle.std.specs.Prelude.{◌≡◌, ◌≤◌, ◌∷◌, [], false, pos};
 ghost use Rattle.dv_asm.specs.Draft.{IsFormed, IsOp};
 
-use crate::{Catch, Draft, Draftop, Item, PoolRef, What, assemble};
+use crate::{Catch, Draft, Draftop, Item, PoolRef, What, assemble, units_are_items};
 use dv_defs::{Base, Body, Chars, Handler, Insn, LineError, LineKind, Regs, Seq, Text, Try, Ty};
 use std::alloc::{AllocError, Global};
 use std::marker::Model;
@@ -470,6 +470,7 @@ fn naming(alloc: Global) -> Result<Draft, AllocError> {
 
 #[test]
 fn names_places_in_pools(rt: HostRuntime) -> Result<(), Fail> {
+    units_are_items();
     let draft = naming(rt.alloc())?;
     let units: [u16; 8] = [
         0x001a, 0x0000, 0x001a, 0x0001, 0x001a, 0x0000, 0x001c, 0x0000,
