@@ -7,3 +7,4 @@ pub mod HandlerLemmas
 pub mod PoolLemmas
 pub mod Writing
 pub mod TestOps
+pub mod TileLemmas

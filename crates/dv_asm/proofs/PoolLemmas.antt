@@ -1,5 +1,5 @@
 -- Pools have few entries: each entry is named by an instruction.
-use Rattle.std.proofs.Common.{◌≡◌, ◌+◌, ◌≤◌, ◌<◌, ◌^◌, Bool, false, ℕ, zero, suc, List, [], ◌∷◌, ◌++◌, length, take, drop, sum_by, position, bytes_eq, All, Option, Some, None, IsSome, refl, ap, ◌∙◌, arith, length-append}
+use Rattle.std.proofs.Common.{◌≡◌, ◌+◌, ◌≤◌, ◌<◌, ◌^◌, Bool, false, ℕ, zero, suc, List, [], ◌∷◌, ◌++◌, length, take, drop, sum_by, position, bytes_eq, Option, Some, None, IsSome, refl, ap, ◌∙◌, arith, length-append}
 use Rattle.std.specs.Option.{unwrap_or}
 use Rattle.std.proofs.lemmas.List.{take_more}
 use Rattle.std.proofs.lemmas.List.Sums.{sum_by-cons, sum_by_push}

@@ -108,6 +108,10 @@ spelling_of items pools k (what.Packed first names) = payload_spelling (packed_o
 spelling_of items pools k (what.Sparse keys names) = payload_spelling (sparse_of items (address_of items k) keys names)
 spelling_of items pools k (what.Data width bytes) = payload_spelling (payload.Data width bytes)
 
+-- each item has a spelling
+abbrev pub AreSpelled : List Item → Pools → Type 0
+AreSpelled items pools = (k : ℕ) → k < length items → IsSome (spelling_of items pools k (item_at items k).what)
+
 -- an item whose numbers are those of their types has a spelling where this holds
 abbrev pub IsWritable : List Item → Pools → ℕ → What → Type 0
 IsWritable items pools k (what.Label name) = Unit {0}

@@ -5,3 +5,4 @@ pub mod Places
 pub mod Refusals
 pub mod Pools
 pub mod Layout
+pub mod Tiles

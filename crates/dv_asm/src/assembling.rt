@@ -1,8 +1,10 @@
 // Assembles a draft.
-ghost use Rattle.std.specs.Prelude.{◌≡◌, ◌≤◌, None, IfOk, IfErr};
+ghost use Rattle.std.specs.Prelude.{◌≡◌, ◌≤◌, None, Ok, length, IfOk, IfErr};
+ghost use Rattle.dv_defs.specs.Tiling.{tiling};
 ghost use Rattle.dv_asm.specs.Places.{ArePlaces};
 ghost use Rattle.dv_asm.specs.Refusals.{Checks, Tells, addresses_named, too_long, ranges_of, label_refusal, item_refusal, range_refusal, refusal};
 ghost use Rattle.dv_asm.specs.Layout.{AreWritable, layout, body_of, pools_of};
+ghost use Rattle.dv_asm.specs.Tiles.{tiles, tiles_of};
 
 use crate::draft::{Catch, Draft, Item};
 use crate::handlers::{add_all_kinds, sorted, tries};
@@ -76,7 +78,8 @@ fn body_of(
     requires ranges { ranges.now ≡ ranges_of items.now catches.now }
     requires short { too_long items.now ≡ None }
     requires writable { AreWritable items.now (pools_of items.now) }
-    ensures { IfOk result (λ body. body ≡ body_of registers items.now catches.now) }
+    ensures value { IfOk result (λ body. body ≡ body_of registers items.now catches.now) }
+    ensures tiled { IfOk result (λ body. tiling body.units ≡ Ok (tiles_of items.now (pools_of items.now) (length items.now))) }
 {
     let pools = pools(alloc, items)?;
     let units = units(alloc, items, places, named, &pools)?;
@@ -113,6 +116,9 @@ pub fn assemble(alloc: Global, draft: &Draft) -> Result<Body, LineError>
     ensures sound { IfOk result (λ body. refusal draft.now ≡ None) }
     ensures value { IfOk result (λ body. body ≡ layout draft.now) }
     ensures refused { IfErr result (λ error. Tells error (refusal draft.now)) }
+
+    // The units are tiled by what was assembled.
+    ensures tiled { IfOk result (λ body. tiling body.units ≡ Ok (tiles draft.now)) }
 {
     let items = draft.items.items();
     let catches = draft.catches.items();
@@ -122,6 +128,14 @@ pub fn assemble(alloc: Global, draft: &Draft) -> Result<Body, LineError>
     check_items(items, &places, &named)?;
     let ranges = ranges(alloc, items, catches, &places)?;
     check_ranges(items, catches, &ranges)?;
-    let body = body_of(alloc, draft.registers, items, catches, &places, &named, &ranges)?;
+    let body = body_of(
+        alloc,
+        draft.registers,
+        items,
+        catches,
+        &places,
+        &named,
+        &ranges,
+    )?;
     Ok(body)
 }

@@ -7,6 +7,7 @@ mod entries;
 mod handlers;
 mod items;
 mod labels;
+mod laws;
 mod lines;
 mod places;
 mod pools;
@@ -20,3 +21,4 @@ mod units;
 
 pub use assembling::assemble;
 pub use draft::{Catch, Draft, Draftop, Item, PoolRef, What};
+pub use laws::units_are_items;

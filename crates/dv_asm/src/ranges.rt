@@ -18,7 +18,11 @@ const LIMIT: u64 = 16384;
 pub fn with_operands(insn: &Insn, off: i32, index: u32) -> Insn
     ensures { result ≡ with_operands insn.now off index }
 {
-    Insn { off, index, ..*insn }
+    Insn {
+        off,
+        index,
+        ..*insn
+    }
 }
 
 fn is_over_registers(what: &What) -> bool

@@ -67,12 +67,7 @@ fn stands_payload(items: &[Item], places: &[u64], address: u64) -> bool
 }
 
 /// Whether an earlier switch names the payload that stands at an address.
-fn is_repeated(
-    items: &[Item],
-    places: &[u64],
-    named: &[Option<u64>],
-    k: usize,
-) -> bool
+fn is_repeated(items: &[Item], places: &[u64], named: &[Option<u64>], k: usize) -> bool
     requires places { ArePlaces items.now places.now }
     requires named { named.now ≡ addresses_named items.now }
     requires within { k < length items.now }
@@ -94,7 +89,10 @@ pub fn repeated(items: &[Item], places: &[u64], named: &[Option<u64>]) -> Option
 {
     let mut line = None;
     for k in 0..items.len() {
-        line = earlier(line, when(is_repeated(items, places, named, k), items[k].line));
+        line = earlier(
+            line,
+            when(is_repeated(items, places, named, k), items[k].line),
+        );
     }
     line
 }

@@ -1,8 +1,8 @@
 ghost use Rattle.std.specs.Prelude.{◌≡◌, ◌≤◌, ◌∷◌, [], false, pos};
 ghost use Rattle.dv_asm.specs.Draft.{IsFormed, IsOp};
 
-use crate::{Catch, Draft, Draftop, Item, PoolRef, What, assemble};
-use dv_defs::{Base, Chars, Handler, Insn, LineError, LineKind, Regs, Seq, Text, Try, Ty};
+use crate::{Catch, Draft, Draftop, Item, PoolRef, What, assemble, units_are_items};
+use dv_defs::{Base, Body, Chars, Handler, Insn, LineError, LineKind, Regs, Seq, Text, Try, Ty};
 use std::alloc::{AllocError, Global};
 use std::marker::Model;
 use std::test::Fail;
@@ -165,8 +165,24 @@ impl Making {
     }
 }
 
-fn refusal(line: u32, kind: LineKind) -> LineError {
-    LineError::At { line, kind }
+fn refusal(line: u32, kind: LineKind) -> Option<LineError> {
+    Some(LineError::At { line, kind })
+}
+
+fn assembled(alloc: Global, draft: &Draft) -> Result<Body, LineError> {
+    assemble(alloc, draft)
+}
+
+fn error_of(alloc: Global, draft: &Draft) -> Option<LineError> {
+    assembled(alloc, draft).err()
+}
+
+/// The units of the body, none where the draft is refused.
+fn units_of(alloc: Global, draft: &Draft) -> Result<Vec<u16>, AllocError> {
+    match assembled(alloc, draft) {
+        Ok(body) => Ok(body.units.into_vec()),
+        Err(_) => Ok(Vec::new(alloc)),
+    }
 }
 
 #[test]
@@ -178,7 +194,10 @@ fn refuses_a_label_twice(rt: HostRuntime) -> Result<(), Fail> {
     making.label(9, "a")?;
     making.label(10, "a")?;
     let draft = making.draft(1);
-    assert_eq!(rt; assemble(rt.alloc(), &draft), Err(refusal(9, LineKind::LabelTwice)));
+    assert_eq!(rt;
+        error_of(rt.alloc(), &draft),
+        refusal(9, LineKind::LabelTwice)
+    );
     Ok(())
 }
 
@@ -192,7 +211,7 @@ fn refuses_a_missing_label(rt: HostRuntime) -> Result<(), Fail> {
     making.label(9, "d")?;
     making.catch(10, None, "a", "d", "e")?;
     let draft = making.draft(1);
-    assert_eq!(rt; assemble(rt.alloc(), &draft), Err(refusal(5, LineKind::NoLabel)));
+    assert_eq!(rt; error_of(rt.alloc(), &draft), refusal(5, LineKind::NoLabel));
     Ok(())
 }
 
@@ -204,7 +223,7 @@ fn refuses_a_missing_label_of_a_handler_first(rt: HostRuntime) -> Result<(), Fai
     making.goto(5, "b")?;
     making.label(9, "d")?;
     let draft = making.draft(1);
-    assert_eq!(rt; assemble(rt.alloc(), &draft), Err(refusal(4, LineKind::NoLabel)));
+    assert_eq!(rt; error_of(rt.alloc(), &draft), refusal(4, LineKind::NoLabel));
     Ok(())
 }
 
@@ -229,10 +248,8 @@ fn aligns_a_payload(rt: HostRuntime) -> Result<(), Fail> {
     ];
     for nops in [7, 8] {
         let draft = switching(rt.alloc(), nops)?;
-        match assemble(rt.alloc(), &draft) {
-            Ok(body) => assert_eq!(rt; body.units.items(), units.as_slice()),
-            Err(_) => assert!(rt; false),
-        }
+        let assembled = units_of(rt.alloc(), &draft)?;
+        assert_eq!(rt; assembled.as_slice(), units.as_slice());
     }
     Ok(())
 }
@@ -249,10 +266,8 @@ fn counts_targets_from_the_beginning(rt: HostRuntime) -> Result<(), Fail> {
     let units: [u16; 9] = [
         0x0000, 0x0000, 0x0100, 0x0001, 0xffff, 0xffff, 0x0008, 0x0000, 0x0000,
     ];
-    match assemble(rt.alloc(), &draft) {
-        Ok(body) => assert_eq!(rt; body.units.items(), units.as_slice()),
-        Err(_) => assert!(rt; false),
-    }
+    let assembled = units_of(rt.alloc(), &draft)?;
+    assert_eq!(rt; assembled.as_slice(), units.as_slice());
     Ok(())
 }
 
@@ -265,7 +280,10 @@ fn refuses_a_second_switch(rt: HostRuntime) -> Result<(), Fail> {
     making.label(6, "q")?;
     making.packed(7, 0, "p")?;
     let draft = making.draft(1);
-    assert_eq!(rt; assemble(rt.alloc(), &draft), Err(refusal(4, LineKind::Repeated)));
+    assert_eq!(rt;
+        error_of(rt.alloc(), &draft),
+        refusal(4, LineKind::Repeated)
+    );
     Ok(())
 }
 
@@ -276,54 +294,54 @@ fn refuses_a_large_register(rt: HostRuntime) -> Result<(), Fail> {
     making.mov(4, 0, 16)?;
     making.mov(5, 16, 0)?;
     let draft = making.draft(17);
-    assert_eq!(rt; assemble(rt.alloc(), &draft), Err(refusal(4, LineKind::RegisterRange)));
+    assert_eq!(rt;
+        error_of(rt.alloc(), &draft),
+        refusal(4, LineKind::RegisterRange)
+    );
     Ok(())
 }
 
-// A goto has eight bits.
+/// A goto over itself and so many nops.
+fn going(alloc: Global, nops: u32) -> Result<Draft, AllocError> {
+    let mut making = Making::new(alloc);
+    making.goto(3, "a")?;
+    making.nops(4, nops)?;
+    making.label(5, "a")?;
+    making.nop(6)?;
+    Ok(making.draft(1))
+}
+
+// A goto's offset has eight bits.
 #[test]
 fn refuses_a_far_goto(rt: HostRuntime) -> Result<(), Fail> {
-    for (nops, fits) in [(126, true), (127, false)] {
-        let mut making = Making::new(rt.alloc());
-        making.goto(3, "a")?;
-        making.nops(4, nops)?;
-        making.label(5, "a")?;
-        making.nop(6)?;
-        let draft = making.draft(1);
-        match assemble(rt.alloc(), &draft) {
-            Ok(body) => {
-                assert!(rt; fits);
-                assert_eq!(rt; body.units.items().first(), Some(&0x7f28));
-            }
-            Err(error) => {
-                assert!(rt; !fits);
-                assert_eq!(rt; error, refusal(3, LineKind::OffsetRange));
-            }
-        }
-    }
+    let near = going(rt.alloc(), 126)?;
+    assert_eq!(rt; units_of(rt.alloc(), &near)?.first(), Some(&0x7f28));
+    let far = going(rt.alloc(), 127)?;
+    assert_eq!(rt;
+        error_of(rt.alloc(), &far),
+        refusal(3, LineKind::OffsetRange)
+    );
     Ok(())
 }
 
-// A nop, a nop that aligns, 4 units and the bytes, a nop: with 32,754 bytes these are 16,384 units.
+/// A nop, a nop that aligns, 4 units and so many bytes, a nop.
+fn long(alloc: Global, bytes: usize) -> Result<Draft, AllocError> {
+    let mut making = Making::new(alloc);
+    making.nop(3)?;
+    making.bytes(4, bytes)?;
+    making.nop(5)?;
+    Ok(making.draft(1))
+}
+
 #[test]
 fn refuses_a_long_body(rt: HostRuntime) -> Result<(), Fail> {
-    for (bytes, fits) in [(32754, true), (32756, false)] {
-        let mut making = Making::new(rt.alloc());
-        making.nop(3)?;
-        making.bytes(4, bytes)?;
-        making.nop(5)?;
-        let draft = making.draft(1);
-        match assemble(rt.alloc(), &draft) {
-            Ok(body) => {
-                assert!(rt; fits);
-                assert_eq!(rt; body.units.len(), 16384);
-            }
-            Err(error) => {
-                assert!(rt; !fits);
-                assert_eq!(rt; error, refusal(5, LineKind::TooLong));
-            }
-        }
-    }
+    let fitting = long(rt.alloc(), 32754)?;
+    assert_eq!(rt; units_of(rt.alloc(), &fitting)?.len(), 16384);
+    let longer = long(rt.alloc(), 32756)?;
+    assert_eq!(rt;
+        error_of(rt.alloc(), &longer),
+        refusal(5, LineKind::TooLong)
+    );
     Ok(())
 }
 
@@ -344,7 +362,10 @@ fn refuses_an_empty_range(rt: HostRuntime) -> Result<(), Fail> {
     making.catch(11, None, "b", "d", "d")?;
     making.catch(12, None, "b", "b", "d")?;
     let draft = making.draft(1);
-    assert_eq!(rt; assemble(rt.alloc(), &draft), Err(refusal(12, LineKind::TryRange)));
+    assert_eq!(rt;
+        error_of(rt.alloc(), &draft),
+        refusal(12, LineKind::TryRange)
+    );
     Ok(())
 }
 
@@ -355,44 +376,86 @@ fn refuses_an_overlap(rt: HostRuntime) -> Result<(), Fail> {
     making.catch(11, None, "c", "d", "d")?;
     making.catch(12, None, "b", "d", "d")?;
     let draft = making.draft(1);
-    assert_eq!(rt; assemble(rt.alloc(), &draft), Err(refusal(12, LineKind::TryOverlap)));
+    assert_eq!(rt;
+        error_of(rt.alloc(), &draft),
+        refusal(12, LineKind::TryOverlap)
+    );
     Ok(())
+}
+
+/// Where the draft isn't refused, its try entries: start, end, and the kind and address of each handler.
+fn tries_of(alloc: Global, draft: &Draft) -> Result<Vec<(u32, u32, Vec<Handler>)>, AllocError> {
+    let mut tries = Vec::new(alloc);
+    if let Ok(body) = assembled(alloc, draft) {
+        for entry in body.tries.into_vec() {
+            let Try {
+                start,
+                end,
+                handlers,
+            } = entry;
+            tries.push((start, end, handlers.into_vec()))?;
+        }
+    }
+    Ok(tries)
+}
+
+/// Where the draft isn't refused, its pool of types.
+fn types_of(alloc: Global, draft: &Draft) -> Result<Vec<Ty>, AllocError> {
+    match assembled(alloc, draft) {
+        Ok(body) => Ok(body.types.into_vec()),
+        Err(_) => Ok(Vec::new(alloc)),
+    }
+}
+
+/// Where the draft isn't refused, its pool of strings.
+fn strings_of(alloc: Global, draft: &Draft) -> Result<Vec<Chars>, AllocError> {
+    match assembled(alloc, draft) {
+        Ok(body) => Ok(body.strings.into_vec()),
+        Err(_) => Ok(Vec::new(alloc)),
+    }
+}
+
+/// Two handlers of one range, and a handler of a range that begins before it.
+fn covered(alloc: Global) -> Result<Draft, AllocError> {
+    let mut making = four_nops(alloc)?;
+    making.catch(10, Some(class(alloc, "LB;")?), "b", "c", "d")?;
+    making.catch(11, Some(class(alloc, "LA;")?), "a", "b", "d")?;
+    making.catch(12, None, "b", "c", "c")?;
+    Ok(making.draft(1))
 }
 
 #[test]
 fn joins_equal_ranges_and_sorts(rt: HostRuntime) -> Result<(), Fail> {
     let alloc = rt.alloc();
-    let mut making = four_nops(alloc)?;
-    making.catch(10, Some(class(alloc, "LB;")?), "b", "c", "d")?;
-    making.catch(11, Some(class(alloc, "LA;")?), "a", "b", "d")?;
-    making.catch(12, None, "b", "c", "c")?;
-    let draft = making.draft(1);
-    let first = Try {
-        start: 0,
-        end: 1,
-        handlers: Seq::of(vec![in alloc; Handler { kind: Some(0), at: 3 }]?),
+    let draft = covered(alloc)?;
+    let first = vec![in alloc;
+        Handler {
+            kind: Some(0),
+            at: 3
+        },
+    ]?;
+    let b = Handler {
+        kind: Some(1),
+        at: 3,
     };
-    let second = Try {
-        start: 1,
-        end: 2,
-        handlers: Seq::of(
-            vec![in alloc; Handler { kind: Some(1), at: 3 }, Handler { kind: None, at: 2 }]?,
-        ),
-    };
-    match assemble(alloc, &draft) {
-        Ok(body) => {
-            assert_eq!(rt; body.tries, Seq::of(vec![in alloc; first, second]?));
-            let types = vec![in alloc; class(alloc, "LA;")?, class(alloc, "LB;")?]?;
-            assert_eq!(rt; body.types, Seq::of(types));
-        }
-        Err(_) => assert!(rt; false),
-    }
+    let all = Handler { kind: None, at: 2 };
+    let second = vec![in alloc; b, all]?;
+    let expected = vec![in alloc; (0, 1, first), (1, 2, second)]?;
+    assert_eq!(rt; tries_of(alloc, &draft)?, expected);
     Ok(())
 }
 
 #[test]
-fn keeps_pools_in_first_seen_order(rt: HostRuntime) -> Result<(), Fail> {
+fn adds_caught_types_in_the_order_of_the_entries(rt: HostRuntime) -> Result<(), Fail> {
     let alloc = rt.alloc();
+    let draft = covered(alloc)?;
+    let expected = vec![in alloc; class(alloc, "LA;")?, class(alloc, "LB;")?]?;
+    assert_eq!(rt; types_of(alloc, &draft)?, expected);
+    Ok(())
+}
+
+/// Instructions that name two strings and a type, and handlers that catch another type and this one.
+fn naming(alloc: Global) -> Result<Draft, AllocError> {
     let mut making = Making::new(alloc);
     making.label(3, "a")?;
     making.const_string(4, &[0x79])?;
@@ -402,22 +465,37 @@ fn keeps_pools_in_first_seen_order(rt: HostRuntime) -> Result<(), Fail> {
     making.label(8, "b")?;
     making.catch(9, Some(class(alloc, "LA;")?), "a", "b", "a")?;
     making.catch(10, Some(class(alloc, "LB;")?), "a", "b", "a")?;
-    let draft = making.draft(1);
+    Ok(making.draft(1))
+}
+
+#[test]
+fn names_places_in_pools(rt: HostRuntime) -> Result<(), Fail> {
+    units_are_items();
+    let draft = naming(rt.alloc())?;
     let units: [u16; 8] = [
         0x001a, 0x0000, 0x001a, 0x0001, 0x001a, 0x0000, 0x001c, 0x0000,
     ];
-    match assemble(alloc, &draft) {
-        Ok(body) => {
-            assert_eq!(rt; body.units.items(), units.as_slice());
-            let y = Chars::of(Vec::from_slice(alloc, &[0x79])?);
-            let x = Chars::of(Vec::from_slice(alloc, &[0x78])?);
-            assert_eq!(rt; body.strings, Seq::of(vec![in alloc; y, x]?));
-            let types = vec![in alloc; class(alloc, "LB;")?, class(alloc, "LA;")?]?;
-            assert_eq!(rt; body.types, Seq::of(types));
-            assert!(rt; !body.raw);
-            assert_eq!(rt; body.registers, 1);
-        }
-        Err(_) => assert!(rt; false),
-    }
+    let assembled = units_of(rt.alloc(), &draft)?;
+    assert_eq!(rt; assembled.as_slice(), units.as_slice());
+    Ok(())
+}
+
+#[test]
+fn keeps_strings_in_first_seen_order(rt: HostRuntime) -> Result<(), Fail> {
+    let alloc = rt.alloc();
+    let draft = naming(alloc)?;
+    let y = Chars::of(Vec::from_slice(alloc, &[0x79])?);
+    let x = Chars::of(Vec::from_slice(alloc, &[0x78])?);
+    let expected = vec![in alloc; y, x]?;
+    assert_eq!(rt; strings_of(alloc, &draft)?, expected);
+    Ok(())
+}
+
+#[test]
+fn keeps_types_in_first_seen_order(rt: HostRuntime) -> Result<(), Fail> {
+    let alloc = rt.alloc();
+    let draft = naming(alloc)?;
+    let expected = vec![in alloc; class(alloc, "LB;")?, class(alloc, "LA;")?]?;
+    assert_eq!(rt; types_of(alloc, &draft)?, expected);
     Ok(())
 }

@@ -1,12 +1,13 @@
 // The units of items.
-ghost use Rattle.std.specs.Prelude.{◌≡◌, ◌<◌, ◌≤◌, ◌%◌, ◌^◌, ◌++◌, true, None, [], length, map, unwrap_or, IfOk, OnOk, IsSome, IsTrue};
+ghost use Rattle.std.specs.Prelude.{◌≡◌, ◌<◌, ◌≤◌, ◌%◌, ◌^◌, ◌++◌, true, None, [], length, map, unwrap_or, IfOk, OnOk, IsSome, IsTrue, Ok};
 ghost use Rattle.dv_defs.specs.declared.code.Payload.TheVariants as payload;
 ghost use Rattle.dv_defs.specs.Spelling.{spelling, all_fit};
 ghost use Rattle.dv_defs.specs.Payloads.{payload_spelling, all_fit_signed};
-ghost use Rattle.dv_defs.specs.Tiling.{is_width};
+ghost use Rattle.dv_defs.specs.Tiling.{is_width, tiling};
 ghost use Rattle.dv_asm.specs.Places.{ArePlaces, address_of, distance};
 ghost use Rattle.dv_asm.specs.Refusals.{too_long, addresses_named};
-ghost use Rattle.dv_asm.specs.Layout.{IsWritable, AreWritable, offset_of, insn_of, base_of, targets_of, packed_of, sparse_of, spelling_of, padded, units_of};
+ghost use Rattle.dv_asm.specs.Layout.{AreSpelled, IsWritable, AreWritable, offset_of, insn_of, base_of, targets_of, packed_of, sparse_of, spelling_of, padded, units_of};
+ghost use Rattle.dv_asm.specs.Tiles.{tiles_of};
 
 use crate::draft::{Draftop, Item, What};
 use crate::pools::Pools;
@@ -76,6 +77,11 @@ fn base_of(items: &[Item], places: &[u64], named: &[Option<u64>], address: u32) 
 /// Each byte fits its half of a unit.
 fn bytes_fit(bytes: &[u8])
     ensures { all_fit 8 bytes.now ≡ true }
+{}
+
+/// Each unit has sixteen bits.
+fn units_fit(units: &[u16])
+    ensures { all_fit 16 units.now ≡ true }
 {}
 
 /// The same numbers. Each fits two units.
@@ -228,7 +234,8 @@ fn append_packed(
     requires named { named.now ≡ addresses_named items.now }
     requires within { k < length items.now }
     requires few { length names.now < 2 ^ 16 }
-    ensures { OnOk result (units.new.items ≡ units.old.items ++ unwrap_or (payload_spelling (packed_of items.now (address_of items.now k) first names.now)) []) }
+    ensures units { OnOk result (units.new.items ≡ units.old.items ++ unwrap_or (payload_spelling (packed_of items.now (address_of items.now k) first names.now)) []) }
+    ensures spelled { OnOk result (IsSome (payload_spelling (packed_of items.now (address_of items.now k) first names.now))) }
 {
     let alloc = *units.allocator();
     let payload = packed_of(alloc, items, places, named, k, first, names.items())?;
@@ -251,7 +258,8 @@ fn append_sparse(
     requires within { k < length items.now }
     requires same { length names.now ≡ length keys.now }
     requires few { length names.now < 2 ^ 16 }
-    ensures { OnOk result (units.new.items ≡ units.old.items ++ unwrap_or (payload_spelling (sparse_of items.now (address_of items.now k) keys.now names.now)) []) }
+    ensures units { OnOk result (units.new.items ≡ units.old.items ++ unwrap_or (payload_spelling (sparse_of items.now (address_of items.now k) keys.now names.now)) []) }
+    ensures spelled { OnOk result (IsSome (payload_spelling (sparse_of items.now (address_of items.now k) keys.now names.now))) }
 {
     let alloc = *units.allocator();
     let payload = sparse_of(alloc, items, places, named, k, keys, names.items())?;
@@ -263,7 +271,8 @@ fn append_data(units: &mut Vec<u16>, width: u16, bytes: &Seq<u8>) -> Result<(), 
     requires width { IsTrue (is_width width) }
     requires whole { length bytes.now % width ≡ 0 }
     requires few { length bytes.now < 2 ^ 32 }
-    ensures { OnOk result (units.new.items ≡ units.old.items ++ unwrap_or (payload_spelling (payload.Data width bytes.now)) []) }
+    ensures units { OnOk result (units.new.items ≡ units.old.items ++ unwrap_or (payload_spelling (payload.Data width bytes.now)) []) }
+    ensures spelled { OnOk result (IsSome (payload_spelling (payload.Data width bytes.now))) }
 {
     bytes_fit(bytes.items());
     let bytes = bytes.clone()?;
@@ -285,7 +294,8 @@ fn append(
     requires named { named.now ≡ addresses_named items.now }
     requires within { k < length items.now }
     requires writable { IsWritable items.now pools.now k what.now }
-    ensures { OnOk result (units.new.items ≡ units.old.items ++ unwrap_or (spelling_of items.now pools.now k what.now) []) }
+    ensures units { OnOk result (units.new.items ≡ units.old.items ++ unwrap_or (spelling_of items.now pools.now k what.now) []) }
+    ensures spelled { OnOk result (IsSome (spelling_of items.now pools.now k what.now)) }
 {
     match what {
         What::Label(_) => Ok(()),
@@ -310,12 +320,15 @@ pub fn units(
     requires short { too_long items.now ≡ None }
     requires named { named.now ≡ addresses_named items.now }
     requires writable { AreWritable items.now pools.now }
-    ensures { IfOk result (λ units. units.items ≡ units_of items.now pools.now (length items.now)) }
+    ensures units { IfOk result (λ units. units.items ≡ units_of items.now pools.now (length items.now)) }
+    ensures spelled { OnOk result (AreSpelled items.now pools.now) }
+    ensures tiled { IfOk result (λ units. tiling units.items ≡ Ok (tiles_of items.now pools.now (length items.now))) }
 {
     let mut units = Vec::new(alloc);
     for k in 0..items.len() {
         pad(&mut units, address_of(items, places, k))?;
         append(&mut units, items, places, named, pools, k, &items[k].what)?;
     }
+    units_fit(&units);
     Ok(units)
 }
