@@ -223,7 +223,7 @@ same_pools before after e =
 abbrev all_pieces : DraftValue → List Piece
 all_pieces d = map piece_of (tiles_to d.items (pools_of d.items) (length d.items))
 
-units_are : (d : DraftValue) → (layout d).units ≡ units_of d.items (pools_of d.items) (length d.items)
+pub units_are : (d : DraftValue) → (layout d).units ≡ units_of d.items (pools_of d.items) (length d.items)
 unfolding body_of
 units_are d = refl
 
@@ -231,7 +231,7 @@ pub pieces_are : (d : DraftValue) → AreFormed d.items → HaveNumbers d.items 
 unfolding body_of
 pieces_are d formed numbers none fit = ap (λ r. map piece_of (tiles_of r)) (layout_is_tiled d.items formed numbers none fit)
 
-draft_items : (b : BodyValue) → (draft_of b).items ≡ items_in b (pieces_of b.units) (addresses_named (pieces_of b.units) b.tries)
+pub draft_items : (b : BodyValue) → (draft_of b).items ≡ items_in b (pieces_of b.units) (addresses_named (pieces_of b.units) b.tries)
 unfolding draft_of
 draft_items b = refl
 

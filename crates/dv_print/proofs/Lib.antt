@@ -6,3 +6,5 @@ pub mod Labels
 pub mod Entries
 pub mod PoolKinds
 pub mod KeptEntries
+pub mod Walk
+pub mod KeptAddresses

@@ -14,7 +14,7 @@ use Rattle.dv_asm.specs.declared.draft.PoolRef.{PoolRef}
 use Rattle.dv_asm.specs.declared.draft.PoolRef.TheVariants as pool
 use Rattle.dv_asm.specs.Draft.{DraftValue, AreFormed}
 use Rattle.dv_asm.specs.Items.{item_at, size_of}
-use Rattle.dv_asm.specs.Places.{address_of, end_of}
+use Rattle.dv_asm.specs.Places.{address_of, end_of, size_of_all}
 use Rattle.dv_asm.specs.Refusals.{item_refusal}
 use Rattle.dv_print.specs.Numbers.{label_name}
 use Rattle.dv_asm.specs.Pools.{pool_ref}
@@ -83,3 +83,19 @@ abbrev pub DraftKeepsEntries : Type 0
 DraftKeepsEntries =
     (d : DraftValue) → AreFormed d.items → HaveNumbers d.items → item_refusal d.items ≡ None →
     IsTrue (all_fit 16 (layout d).units) → KeepsEntries d.items (draft_of (layout d)).items
+
+-- a label is named by the address at which it stands
+abbrev pub IsNamedBy : What → ℕ → Type 0
+IsNamedBy (what.Label name) address = name ≡ label_name address
+IsNamedBy w address = Unit {0}
+
+-- Layout of the draft that is made of a laid-out body puts each label at the address of its name, and the items end
+-- where the body ends.
+pub record KeepsAddresses (after : List Item) (units : List ℕ) : Type 0 where
+  pub labels : (k : ℕ) → k < length after → IsNamedBy (item_at after k).what (address_of after k)
+  pub size : size_of_all after ≡ length units
+
+abbrev pub DraftKeepsAddresses : Type 0
+DraftKeepsAddresses =
+    (d : DraftValue) → AreFormed d.items → HaveNumbers d.items → item_refusal d.items ≡ None →
+    IsTrue (all_fit 16 (layout d).units) → KeepsAddresses (draft_of (layout d)).items (layout d).units

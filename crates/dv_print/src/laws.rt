@@ -1,5 +1,5 @@
 // The laws of labels, and of drafts and their layout.
-ghost use Rattle.dv_print.specs.Laws.{LabelsAreDistinct, LayoutIsTiled, DraftKeepsEntries};
+ghost use Rattle.dv_print.specs.Laws.{LabelsAreDistinct, LayoutIsTiled, DraftKeepsEntries, DraftKeepsAddresses};
 
 /// No two addresses have the same label.
 pub fn labels_are_distinct()
@@ -16,4 +16,10 @@ pub fn layout_is_tiled()
 /// its pools are the same.
 pub fn draft_keeps_entries()
     ensures { DraftKeepsEntries }
+{}
+
+/// Layout of the draft that is made of a laid-out body puts each label at the address of its name, and the items end
+/// where the body ends.
+pub fn draft_keeps_addresses()
+    ensures { DraftKeepsAddresses }
 {}
