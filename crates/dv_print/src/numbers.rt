@@ -1,7 +1,7 @@
 // Numbers and labels as they are printed.
 ghost use Rattle.std.specs.Prelude.{◌≡◌, ◌<◌, ◌++◌, decimal, IfOk};
 ghost use Rattle.std.specs.Fmt.{signed_decimal};
-ghost use Rattle.dv_print.specs.Numbers.{digit, hexadecimal, label_name};
+ghost use Rattle.dv_print.specs.Numbers.{digit, hexadecimal, address_text, label_name};
 
 use itoa::Buffer;
 use std::alloc::{AllocError, Global};
@@ -38,16 +38,25 @@ pub fn hexadecimal(n: u16) -> [u8; 4]
     ]
 }
 
-/// The name of the label at an address: four hexadecimal digits, and eight of an address that no body has.
-pub fn label_name(alloc: Global, address: u32) -> Result<Vec<u8>, AllocError>
-    ensures { IfOk result (λ v. v.items ≡ label_name address) }
+/// An address: four hexadecimal digits, and eight of one that no body has.
+fn address_text(alloc: Global, address: u32) -> Result<Vec<u8>, AllocError>
+    ensures { IfOk result (λ v. v.items ≡ address_text address) }
 {
     let low = hexadecimal((address % 65536) as u16);
     if address < 65536 {
         return Vec::from_slice(alloc, &low);
     }
     let high = hexadecimal((address / 65536) as u16);
-    let mut name = Vec::from_slice(alloc, &high)?;
-    name.extend_from_slice(&low)?;
+    let mut text = Vec::from_slice(alloc, &high)?;
+    text.extend_from_slice(&low)?;
+    Ok(text)
+}
+
+/// The name of the label at an address.
+pub fn label_name(alloc: Global, address: u32) -> Result<Vec<u8>, AllocError>
+    ensures { IfOk result (λ v. v.items ≡ label_name address) }
+{
+    let mut name = vec![in alloc; b'L']?;
+    name.extend_from_slice(&address_text(alloc, address)?)?;
     Ok(name)
 }

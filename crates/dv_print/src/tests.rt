@@ -269,7 +269,7 @@ const EVERYTHING: &[u8] =
     .method static all()V\n\
     .registers 8\n\
     nop\n\
-    :0001\n\
+    :L0001\n\
     move v1, v2\n\
     const/4 v0, -1\n\
     monitor-enter v0\n\
@@ -280,13 +280,13 @@ const EVERYTHING: &[u8] =
     const-string v0, \"hi\"\n\
     add-int v0, v1, v2\n\
     add-int/lit8 v0, v1, -1\n\
-    if-eq v0, v1, :0001\n\
+    if-eq v0, v1, :L0001\n\
     add-int/lit16 v0, v1, 1000\n\
     iget v0, v1, LA;->a:I\n\
-    :0018\n\
-    if-eqz v0, :001d\n\
-    goto/32 :0018\n\
-    :001d\n\
+    :L0018\n\
+    if-eqz v0, :L001d\n\
+    goto/32 :L0018\n\
+    :L001d\n\
     move/16 v256, v257\n\
     const v0, 70000\n\
     const-wide/32 v0, -2L\n\
@@ -296,30 +296,30 @@ const EVERYTHING: &[u8] =
     invoke-static {}, LA;->g()V\n\
     invoke-static/range {v4 .. v5}, LA;->f(J)V\n\
     new-array v0, v1, [I\n\
-    packed-switch v0, :0048\n\
-    sparse-switch v0, :0050\n\
-    fill-array-data v0, :0056\n\
-    goto :0045\n\
-    goto/16 :0001\n\
-    :0045\n\
+    packed-switch v0, :L0048\n\
+    sparse-switch v0, :L0050\n\
+    fill-array-data v0, :L0056\n\
+    goto :L0045\n\
+    goto/16 :L0001\n\
+    :L0045\n\
     return-void\n\
     throw v0\n\
-    :0048\n\
+    :L0048\n\
     .packed-switch 10\n\
-    :0045\n\
-    :0001\n\
+    :L0045\n\
+    :L0001\n\
     .end packed-switch\n\
-    :0050\n\
+    :L0050\n\
     .sparse-switch\n\
-    -1 -> :0045\n\
+    -1 -> :L0045\n\
     .end sparse-switch\n\
-    :0056\n\
+    :L0056\n\
     .array-data 2\n\
     258s\n\
     -1s\n\
     0s\n\
     .end array-data\n\
-    :005d\n\
+    :L005d\n\
     nop\n\
     .array-data 1\n\
     1t\n\
@@ -332,10 +332,10 @@ const EVERYTHING: &[u8] =
     .array-data 4\n\
     -2147483648\n\
     .end array-data\n\
-    :0072\n\
-    .catch Ljava/lang/Error; {:0001 .. :005d} :0045\n\
-    .catchall {:0001 .. :005d} :0045\n\
-    .catchall {:005d .. :0072} :0045\n\
+    :L0072\n\
+    .catch Ljava/lang/Error; {:L0001 .. :L005d} :L0045\n\
+    .catchall {:L0001 .. :L005d} :L0045\n\
+    .catchall {:L005d .. :L0072} :L0045\n\
     .end method\n\
     .method static raw()V\n\
     .registers 1\n\
