@@ -1,0 +1,7 @@
+use Rattle.std.proofs.Common.{Some, None, sym, subst}
+use Rattle.dv_asm.specs.declared.draft.PoolRef.TheVariants as pool
+use Rattle.dv_asm.proofs.TestOps.{Forms, class_forms}
+use Rattle.dv_asm.proofs.tests.Making.const_class.Goals as goal
+
+pub op-requires : goal.op-requires
+op-requires c = subst (Forms None (pool.OfType _)) (sym c.insn.ensures) (class_forms _)

@@ -1,0 +1,334 @@
+// The units of items.
+ghost use Rattle.std.specs.Prelude.{◌≡◌, ◌<◌, ◌≤◌, ◌%◌, ◌^◌, ◌++◌, true, None, [], length, map, unwrap_or, IfOk, OnOk, IsSome, IsTrue, Ok};
+ghost use Rattle.dv_defs.specs.declared.code.Payload.TheVariants as payload;
+ghost use Rattle.dv_defs.specs.Spelling.{spelling, all_fit};
+ghost use Rattle.dv_defs.specs.Payloads.{payload_spelling, all_fit_signed};
+ghost use Rattle.dv_defs.specs.Tiling.{is_width, tiling};
+ghost use Rattle.dv_asm.specs.Places.{ArePlaces, address_of, distance};
+ghost use Rattle.dv_asm.specs.Refusals.{too_long, addresses_named};
+ghost use Rattle.dv_asm.specs.Layout.{AreSpelled, IsWritable, AreWritable, offset_of, insn_of, base_of, targets_of, packed_of, sparse_of, spelling_of, padded, units_of};
+ghost use Rattle.dv_asm.specs.Tiles.{tiles_of};
+
+use crate::draft::{Draftop, Item, What};
+use crate::pools::Pools;
+use crate::ranges::with_operands;
+use crate::short::{address_of, distance};
+use crate::switches::switch_of;
+use dv_defs::{Insn, Payload, Seq, Text};
+use dv_units::{UnitError, encode, encode_payload};
+use std::alloc::{AllocError, Global};
+
+/// How far a label is from an item.
+fn distance_from(items: &[Item], places: &[u64], k: usize, name: &Text) -> i32
+    requires places { ArePlaces items.now places.now }
+    requires short { too_long items.now ≡ None }
+    requires within { k < length items.now }
+    ensures { result ≡ distance items.now (address_of items.now k) name.now }
+{
+    let from = address_of(items, places, k);
+    distance(items, places, from, name)
+}
+
+/// How far the label that an item names is from it.
+fn offset_of(items: &[Item], places: &[u64], k: usize, label: &Option<Text>) -> i32
+    requires places { ArePlaces items.now places.now }
+    requires short { too_long items.now ≡ None }
+    requires within { k < length items.now }
+    ensures { result ≡ offset_of items.now k label.now }
+{
+    match label {
+        Some(name) => distance_from(items, places, k, name),
+        None => 0,
+    }
+}
+
+/// The instruction of an item, with its offset and its index.
+fn insn_of(
+    items: &[Item],
+    places: &[u64],
+    pools: &Pools,
+    k: usize,
+    op: &Draftop,
+) -> Result<Insn, AllocError>
+    requires places { ArePlaces items.now places.now }
+    requires short { too_long items.now ≡ None }
+    requires within { k < length items.now }
+    ensures { IfOk result (λ insn. insn ≡ insn_of items.now pools.now k op.now) }
+{
+    let offset = offset_of(items, places, k, &op.label);
+    let index = pools.index_of(&op.pool)?;
+    Ok(with_operands(&op.insn, offset, index))
+}
+
+/// The address that the targets of a payload at an address count from.
+fn base_of(items: &[Item], places: &[u64], named: &[Option<u64>], address: u32) -> u32
+    requires places { ArePlaces items.now places.now }
+    requires short { too_long items.now ≡ None }
+    requires named { named.now ≡ addresses_named items.now }
+    ensures value { result ≡ base_of items.now address }
+    ensures small { result ≤ 16384 }
+{
+    match switch_of(named, u64::from(address)) {
+        Some(k) => address_of(items, places, k),
+        None => 0,
+    }
+}
+
+/// Each byte fits its half of a unit.
+fn bytes_fit(bytes: &[u8])
+    ensures { all_fit 8 bytes.now ≡ true }
+{}
+
+/// Each unit has sixteen bits.
+fn units_fit(units: &[u16])
+    ensures { all_fit 16 units.now ≡ true }
+{}
+
+/// The same numbers. Each fits two units.
+fn copied(alloc: Global, numbers: &[i32]) -> Result<Seq<i32>, AllocError>
+    ensures same { IfOk result (λ copy. copy ≡ numbers.now) }
+    ensures fitting { OnOk result (all_fit_signed numbers.now ≡ true) }
+{
+    let mut copy = Vec::new(alloc);
+    for number in numbers {
+        copy.push(*number)?;
+    }
+    Ok(Seq::of(copy))
+}
+
+/// How far each of the labels is from an address.
+fn distances(
+    alloc: Global,
+    items: &[Item],
+    places: &[u64],
+    from: u32,
+    names: &[Text],
+) -> Result<Vec<i32>, AllocError>
+    requires places { ArePlaces items.now places.now }
+    requires short { too_long items.now ≡ None }
+    requires small { from ≤ 16384 }
+    ensures { IfOk result (λ targets. targets.items ≡ map (distance items.now from) names.now) }
+{
+    let mut distances = Vec::new(alloc);
+    for name in names {
+        distances.push(distance(items, places, from, name))?;
+    }
+    Ok(distances)
+}
+
+/// The targets of a payload at an address.
+fn targets_of(
+    alloc: Global,
+    items: &[Item],
+    places: &[u64],
+    named: &[Option<u64>],
+    address: u32,
+    names: &[Text],
+) -> Result<Seq<i32>, AllocError>
+    requires places { ArePlaces items.now places.now }
+    requires short { too_long items.now ≡ None }
+    requires named { named.now ≡ addresses_named items.now }
+    ensures value { IfOk result (λ targets. targets ≡ targets_of items.now address names.now) }
+    ensures fitting { all_fit_signed (targets_of items.now address names.now) ≡ true }
+{
+    let base = base_of(items, places, named, address);
+    Ok(Seq::of(distances(alloc, items, places, base, names)?))
+}
+
+fn packed_of(
+    alloc: Global,
+    items: &[Item],
+    places: &[u64],
+    named: &[Option<u64>],
+    k: usize,
+    first: i32,
+    names: &[Text],
+) -> Result<Payload, AllocError>
+    requires places { ArePlaces items.now places.now }
+    requires short { too_long items.now ≡ None }
+    requires named { named.now ≡ addresses_named items.now }
+    requires within { k < length items.now }
+    requires few { length names.now < 2 ^ 16 }
+    ensures value { IfOk result (λ payload. payload ≡ packed_of items.now (address_of items.now k) first names.now) }
+    ensures spelled { IfOk result (λ payload. IsSome (payload_spelling payload)) }
+{
+    let address = address_of(items, places, k);
+    let targets = targets_of(alloc, items, places, named, address, names)?;
+    Ok(Payload::Packed { first, targets })
+}
+
+fn sparse_of(
+    alloc: Global,
+    items: &[Item],
+    places: &[u64],
+    named: &[Option<u64>],
+    k: usize,
+    keys: &Seq<i32>,
+    names: &[Text],
+) -> Result<Payload, AllocError>
+    requires places { ArePlaces items.now places.now }
+    requires short { too_long items.now ≡ None }
+    requires named { named.now ≡ addresses_named items.now }
+    requires within { k < length items.now }
+    requires same { length names.now ≡ length keys.now }
+    requires few { length names.now < 2 ^ 16 }
+    ensures value { IfOk result (λ payload. payload ≡ sparse_of items.now (address_of items.now k) keys.now names.now) }
+    ensures spelled { IfOk result (λ payload. IsSome (payload_spelling payload)) }
+{
+    let address = address_of(items, places, k);
+    let targets = targets_of(alloc, items, places, named, address, names)?;
+    let keys = copied(alloc, keys.items())?;
+    Ok(Payload::Sparse { keys, targets })
+}
+
+/// Appends a nop, where the units end before an address.
+fn pad(units: &mut Vec<u16>, address: u32) -> Result<(), AllocError>
+    ensures { OnOk result (units.new.items ≡ padded address units.old.items) }
+{
+    if (units.len() as u64) < u64::from(address) {
+        units.push(0)?;
+    }
+    Ok(())
+}
+
+/// Appends the units of an instruction.
+fn append_insn(units: &mut Vec<u16>, insn: &Insn) -> Result<(), AllocError>
+    requires { IsSome (spelling insn.now) }
+    ensures { OnOk result (units.new.items ≡ units.old.items ++ unwrap_or (spelling insn.now) []) }
+{
+    match encode(insn, units) {
+        Ok(_) => Ok(()),
+        Err(error) => match error {
+            UnitError::Memory => Err(AllocError),
+            _ => unreachable!(),
+        },
+    }
+}
+
+/// Appends the units of a payload.
+fn append_payload(units: &mut Vec<u16>, payload: &Payload) -> Result<(), AllocError>
+    requires { IsSome (payload_spelling payload.now) }
+    ensures { OnOk result (units.new.items ≡ units.old.items ++ unwrap_or (payload_spelling payload.now) []) }
+{
+    match encode_payload(payload, units) {
+        Ok(_) => Ok(()),
+        Err(error) => match error {
+            UnitError::Memory => Err(AllocError),
+            _ => unreachable!(),
+        },
+    }
+}
+
+/// Appends the units of the payload of a packed switch.
+fn append_packed(
+    units: &mut Vec<u16>,
+    items: &[Item],
+    places: &[u64],
+    named: &[Option<u64>],
+    k: usize,
+    first: i32,
+    names: &Seq<Text>,
+) -> Result<(), AllocError>
+    requires places { ArePlaces items.now places.now }
+    requires short { too_long items.now ≡ None }
+    requires named { named.now ≡ addresses_named items.now }
+    requires within { k < length items.now }
+    requires few { length names.now < 2 ^ 16 }
+    ensures units { OnOk result (units.new.items ≡ units.old.items ++ unwrap_or (payload_spelling (packed_of items.now (address_of items.now k) first names.now)) []) }
+    ensures spelled { OnOk result (IsSome (payload_spelling (packed_of items.now (address_of items.now k) first names.now))) }
+{
+    let alloc = *units.allocator();
+    let payload = packed_of(alloc, items, places, named, k, first, names.items())?;
+    append_payload(units, &payload)
+}
+
+/// Appends the units of the payload of a sparse switch.
+fn append_sparse(
+    units: &mut Vec<u16>,
+    items: &[Item],
+    places: &[u64],
+    named: &[Option<u64>],
+    k: usize,
+    keys: &Seq<i32>,
+    names: &Seq<Text>,
+) -> Result<(), AllocError>
+    requires places { ArePlaces items.now places.now }
+    requires short { too_long items.now ≡ None }
+    requires named { named.now ≡ addresses_named items.now }
+    requires within { k < length items.now }
+    requires same { length names.now ≡ length keys.now }
+    requires few { length names.now < 2 ^ 16 }
+    ensures units { OnOk result (units.new.items ≡ units.old.items ++ unwrap_or (payload_spelling (sparse_of items.now (address_of items.now k) keys.now names.now)) []) }
+    ensures spelled { OnOk result (IsSome (payload_spelling (sparse_of items.now (address_of items.now k) keys.now names.now))) }
+{
+    let alloc = *units.allocator();
+    let payload = sparse_of(alloc, items, places, named, k, keys, names.items())?;
+    append_payload(units, &payload)
+}
+
+/// Appends the units of an array's data.
+fn append_data(units: &mut Vec<u16>, width: u16, bytes: &Seq<u8>) -> Result<(), AllocError>
+    requires width { IsTrue (is_width width) }
+    requires whole { length bytes.now % width ≡ 0 }
+    requires few { length bytes.now < 2 ^ 32 }
+    ensures units { OnOk result (units.new.items ≡ units.old.items ++ unwrap_or (payload_spelling (payload.Data width bytes.now)) []) }
+    ensures spelled { OnOk result (IsSome (payload_spelling (payload.Data width bytes.now))) }
+{
+    bytes_fit(bytes.items());
+    let bytes = bytes.clone()?;
+    append_payload(units, &Payload::Data { width, bytes })
+}
+
+/// Appends the units of what stands at a place among the items.
+fn append(
+    units: &mut Vec<u16>,
+    items: &[Item],
+    places: &[u64],
+    named: &[Option<u64>],
+    pools: &Pools,
+    k: usize,
+    what: &What,
+) -> Result<(), AllocError>
+    requires places { ArePlaces items.now places.now }
+    requires short { too_long items.now ≡ None }
+    requires named { named.now ≡ addresses_named items.now }
+    requires within { k < length items.now }
+    requires writable { IsWritable items.now pools.now k what.now }
+    ensures units { OnOk result (units.new.items ≡ units.old.items ++ unwrap_or (spelling_of items.now pools.now k what.now) []) }
+    ensures spelled { OnOk result (IsSome (spelling_of items.now pools.now k what.now)) }
+{
+    match what {
+        What::Label(_) => Ok(()),
+        What::Op(op) => append_insn(units, &insn_of(items, places, pools, k, op)?),
+        What::Packed(first, names) => {
+            append_packed(units, items, places, named, k, *first, names)
+        }
+        What::Sparse(keys, names) => append_sparse(units, items, places, named, k, keys, names),
+        What::Data(width, bytes) => append_data(units, *width, bytes),
+    }
+}
+
+/// The units of the items one after another, each at its address.
+pub fn units(
+    alloc: Global,
+    items: &[Item],
+    places: &[u64],
+    named: &[Option<u64>],
+    pools: &Pools,
+) -> Result<Vec<u16>, AllocError>
+    requires places { ArePlaces items.now places.now }
+    requires short { too_long items.now ≡ None }
+    requires named { named.now ≡ addresses_named items.now }
+    requires writable { AreWritable items.now pools.now }
+    ensures units { IfOk result (λ units. units.items ≡ units_of items.now pools.now (length items.now)) }
+    ensures spelled { OnOk result (AreSpelled items.now pools.now) }
+    ensures tiled { IfOk result (λ units. tiling units.items ≡ Ok (tiles_of items.now pools.now (length items.now))) }
+{
+    let mut units = Vec::new(alloc);
+    for k in 0..items.len() {
+        pad(&mut units, address_of(items, places, k))?;
+        append(&mut units, items, places, named, pools, k, &items[k].what)?;
+    }
+    units_fit(&units);
+    Ok(units)
+}

@@ -1,0 +1,10 @@
+pub mod Bytes
+pub mod Tiles
+pub mod Lines
+pub mod LaidOut
+pub mod Labels
+pub mod Entries
+pub mod PoolKinds
+pub mod KeptEntries
+pub mod Walk
+pub mod KeptAddresses

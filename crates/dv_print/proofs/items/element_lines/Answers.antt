@@ -1,0 +1,16 @@
+use Rattle.std.proofs.Common.{◌-◌, ◌++◌, take, ap, ◌∙◌}
+use Rattle.dv_print.specs.Draft.{element_line, element_lines}
+use Rattle.dv_print.proofs.Lines.{element_more}
+use Rattle.dv_print.proofs.items.element_lines.Goals as goal
+
+pub loop-left-preserved : goal.loop-left-preserved
+loop-left-preserved c =
+    let width = c.args.width in
+    let rest = c.loop-left.rest.now in
+    let left = c.loop-left.left - 1 in
+    let text = c.loop-left.text.items in
+    let line = c.deref.ensures.value ∙ (c.in_ok-element_line.ensures ∙ ap (element_line width) c.cut.ensures.first) in
+    let written = c.in_ok-extend_from_slice.ensures.items ∙ ap (λ xs. text ++ xs) line in
+    ap (λ xs. xs ++ element_lines width left c.cut.result.1.now) written ∙
+    (ap (λ bytes. (text ++ element_line width (take width rest)) ++ element_lines width left bytes) c.cut.ensures.rest ∙
+    element_more width c.loop-left.left rest (element_lines width c.args.count c.args.bytes.now) text c.loop-left-test.true c.loop-left.invariant)

@@ -1,0 +1,5 @@
+use Rattle.dv_print.proofs.LaidOut.{layout_is_tiled}
+use Rattle.dv_print.proofs.laws.layout_is_tiled.Goals as goal
+
+pub returns : goal.returns
+returns c = layout_is_tiled

@@ -1,0 +1,88 @@
+-- The text of a draft.
+use Rattle.std.specs.Prelude.{ℕ, zero, suc, ◌+◌, ◌*◌, ◌/◌, ◌%◌, ◌^◌, ◌==◌, ℤ, List, [], ◌∷◌, ◌++◌, length, take, drop, codes, decimal, Option, Some, None, if◌then◌else◌}
+use Rattle.std.specs.Fmt.{signed_decimal}
+use Rattle.std.specs.Int.{w8, w16, w32, w64, cast_signed}
+use Rattle.std.specs.List.{flat_map, zip}
+use Rattle.dv_defs.specs.declared.names.Ty.{Ty}
+use Rattle.dv_defs.specs.Tiling.{is_width}
+use Rattle.dv_names.specs.Descriptors.{descriptor}
+use Rattle.dv_asm.specs.declared.draft.Item.{Item}
+use Rattle.dv_asm.specs.declared.draft.Catch.{Catch}
+use Rattle.dv_asm.specs.declared.draft.What.{What}
+use Rattle.dv_asm.specs.declared.draft.What.TheVariants as what
+use Rattle.dv_asm.specs.Draft.{DraftValue}
+use Rattle.dv_print.specs.Operands.{label_text, insn_text}
+
+-- a label on a line of its own
+abbrev pub label_line : List ℕ → List ℕ
+label_line name = label_text name ++ codes "\n"
+
+-- a key of a sparse switch with its label
+abbrev pub case_line : ℤ × List ℕ → List ℕ
+case_line x = signed_decimal x.0 ++ codes " -> " ++ label_text x.1 ++ codes "\n"
+
+-- the number of these bytes, the lowest first
+abbrev pub number_of : List ℕ → ℕ
+number_of [] = 0
+number_of (b ∷ bytes) = b + 256 * number_of bytes
+
+-- the signed number of so many bytes
+abbrev pub signed_in : ℕ → ℕ → ℤ
+signed_in width n =
+    if width == 1 then cast_signed w8 (n % 2 ^ 8) else
+    if width == 2 then cast_signed w16 (n % 2 ^ 16) else
+    if width == 4 then cast_signed w32 (n % 2 ^ 32) else
+    cast_signed w64 n
+
+-- the suffix of an array's elements of so many bytes
+abbrev pub suffix_of : ℕ → List ℕ
+suffix_of width =
+    if width == 1 then codes "t" else
+    if width == 2 then codes "s" else
+    if width == 8 then codes "L" else
+    []
+
+-- one element of an array
+abbrev pub element_line : ℕ → List ℕ → List ℕ
+element_line width bytes = signed_decimal (signed_in width (number_of bytes)) ++ suffix_of width ++ codes "\n"
+
+-- so many elements
+abbrev pub element_lines : ℕ → ℕ → List ℕ → List ℕ
+element_lines width zero bytes = []
+element_lines width (suc n) bytes = element_line width (take width bytes) ++ element_lines width n (drop width bytes)
+
+abbrev pub packed_text : ℤ → List (List ℕ) → List ℕ
+packed_text first targets = codes ".packed-switch " ++ signed_decimal first ++ codes "\n" ++ flat_map label_line targets ++ codes ".end packed-switch\n"
+
+abbrev pub sparse_text : List ℤ → List (List ℕ) → List ℕ
+sparse_text keys targets = codes ".sparse-switch\n" ++ flat_map case_line (zip keys targets) ++ codes ".end sparse-switch\n"
+
+-- how many elements of that width an array has
+abbrev pub element_count : ℕ → List ℕ → ℕ
+element_count width bytes = if is_width width then length bytes / width else 0
+
+abbrev pub data_text : ℕ → List ℕ → List ℕ
+data_text width bytes = codes ".array-data " ++ decimal width ++ codes "\n" ++ element_lines width (element_count width bytes) bytes ++ codes ".end array-data\n"
+
+abbrev pub what_text : What → List ℕ
+what_text (what.Label name) = label_line name
+what_text (what.Op op) = insn_text op ++ codes "\n"
+what_text (what.Packed first targets) = packed_text first targets
+what_text (what.Sparse keys targets) = sparse_text keys targets
+what_text (what.Data width bytes) = data_text width bytes
+
+abbrev pub item_text : Item → List ℕ
+item_text item = what_text item.what
+
+abbrev pub kind_text : Option Ty → List ℕ
+kind_text None = codes ".catchall"
+kind_text (Some ty) = codes ".catch " ++ descriptor ty
+
+abbrev pub catch_text : Catch → List ℕ
+catch_text c = kind_text c.kind ++ codes " {" ++ label_text c.from ++ codes " .. " ++ label_text c.to ++ codes "} " ++ label_text c.at ++ codes "\n"
+
+abbrev pub registers_text : ℕ → List ℕ
+registers_text n = codes ".registers " ++ decimal n ++ codes "\n"
+
+abbrev pub draft_text : DraftValue → List ℕ
+draft_text d = registers_text d.registers ++ flat_map item_text d.items ++ flat_map catch_text d.catches

@@ -1,0 +1,145 @@
+-- The draft of a body: its instructions and payloads by their addresses, with labels at the addresses that are named.
+-- Its items have no lines.
+use Rattle.std.specs.Prelude.{ℕ, ◌%◌, ◌&&◌, ℤ, pos, Bool, true, false, not, nat_eq, List, [], ◌∷◌, ◌++◌, length, map, slice_get, Option, Some, option_map, if◌then◌else◌}
+use Rattle.std.specs.Option.{option_and_then, option_map_or}
+use Rattle.std.specs.List.{flat_map}
+use Rattle.dv_defs.specs.declared.code.Insn.{Insn}
+use Rattle.dv_defs.specs.declared.code.Payload.{Payload}
+use Rattle.dv_defs.specs.declared.code.Payload.TheVariants as payload
+use Rattle.dv_defs.specs.declared.code.Handler.{Handler}
+use Rattle.dv_defs.specs.declared.code.Try.{Try}
+use Rattle.dv_defs.specs.declared.names.Ty.{Ty}
+use Rattle.dv_defs.specs.Body.{BodyValue}
+use Rattle.dv_defs.specs.Numbers.{jump}
+use Rattle.dv_optable.specs.declared.family.Family.{Family}
+use Rattle.dv_optable.specs.declared.family.Family.TheVariants as family
+use Rattle.dv_optable.specs.Families.{family_at}
+use Rattle.dv_asm.specs.declared.draft.Item.{Item}
+use Rattle.dv_asm.specs.declared.draft.Catch.{Catch}
+use Rattle.dv_asm.specs.declared.draft.Draftop.{Draftop}
+use Rattle.dv_asm.specs.declared.draft.What.{What}
+use Rattle.dv_asm.specs.declared.draft.What.TheVariants as what
+use Rattle.dv_asm.specs.declared.draft.PoolRef.{PoolRef}
+use Rattle.dv_asm.specs.declared.draft.PoolRef.TheVariants as pool
+use Rattle.dv_asm.specs.Draft.{DraftValue}
+use Rattle.dv_asm.specs.Refusals.{with_operands}
+use Rattle.dv_print.specs.declared.formats.Pool.{Pool}
+use Rattle.dv_print.specs.declared.formats.Pool.TheVariants as from
+use Rattle.dv_print.specs.declared.pieces.Part.{Part}
+use Rattle.dv_print.specs.declared.pieces.Part.TheVariants as part
+use Rattle.dv_print.specs.declared.pieces.Piece.{Piece}
+use Rattle.dv_print.specs.Numbers.{label_name}
+use Rattle.dv_print.specs.Pieces.{pieces_of}
+use Rattle.dv_print.specs.Named.{target_of, base_of, addresses_named, is_named}
+
+-- what this is, if it is there
+abbrev pub found_as : {X : Type 0} → (X → PoolRef) → Option X → PoolRef
+found_as entry x = option_map_or entry x pool.None
+
+-- the pool that instructions of a family name
+abbrev pub pool_in : Option Family → Pool
+pool_in (Some family.ConstString) = from.Strings
+pool_in (Some family.ConstClass) = from.Types
+pool_in (Some family.CheckCast) = from.Types
+pool_in (Some family.InstanceOf) = from.Types
+pool_in (Some family.NewInstance) = from.Types
+pool_in (Some family.NewArray) = from.Types
+pool_in (Some family.FilledNewArray) = from.Types
+pool_in (Some (family.FieldGet suffix)) = from.Fields
+pool_in (Some (family.FieldPut suffix)) = from.Fields
+pool_in (Some (family.StaticGet suffix)) = from.Fields
+pool_in (Some (family.StaticPut suffix)) = from.Fields
+pool_in (Some (family.Invoke call)) = from.Methods
+pool_in f = from.Nothing
+
+unfoldable pub pool_of : ℕ → Pool
+pool_of op = pool_in (family_at op)
+
+-- the entry at an index of a pool
+abbrev pub entry_in : BodyValue → Pool → ℕ → PoolRef
+entry_in b from.Strings index = found_as pool.Str (slice_get b.strings index)
+entry_in b from.Types index = found_as pool.OfType (slice_get b.types index)
+entry_in b from.Fields index = found_as pool.Field (slice_get b.fields index)
+entry_in b from.Methods index = found_as pool.Method (slice_get b.methods index)
+entry_in b from.Nothing index = pool.None
+
+-- an instruction at an address: its label and its entry stand for its offset and its index
+abbrev pub op_of : BodyValue → ℕ → Insn → Draftop
+op_of b at i = record {
+  insn = with_operands i (pos 0) 0;
+  label = option_map label_name (target_of at i);
+  pool = entry_in b (pool_of i.op) i.index;
+}
+
+-- the labels at these distances from an address
+abbrev pub labels_from : ℕ → List ℤ → List (List ℕ)
+labels_from base targets = map label_name (map (jump base) targets)
+
+-- a payload whose targets count from an address
+abbrev pub payload_item : ℕ → Payload → What
+payload_item base (payload.Packed first targets) = what.Packed first (labels_from base targets)
+payload_item base (payload.Sparse keys targets) = what.Sparse keys (labels_from base targets)
+payload_item base (payload.Data width bytes) = what.Data width bytes
+
+abbrev pub part_item : BodyValue → List Piece → ℕ → Part → What
+part_item b pieces at (part.Insn i) = what.Op (op_of b at i)
+part_item b pieces at (part.Payload p) = payload_item (base_of pieces at) p
+
+abbrev pub with_no_line : What → Item
+with_no_line w = record { line = 0; what = w }
+
+-- a piece as an item
+abbrev pub piece_item : BodyValue → List Piece → Piece → Item
+piece_item b pieces p = with_no_line (part_item b pieces p.at p.part)
+
+-- the label at an address, where the address is named
+abbrev pub labels_at : List ℕ → ℕ → List Item
+labels_at named address = if is_named named address then with_no_line (what.Label (label_name address)) ∷ [] else []
+
+abbrev pub is_nop : Part → Bool
+is_nop (part.Insn i) = nat_eq i.op 0
+is_nop (part.Payload p) = false
+
+abbrev pub is_payload_part : Part → Bool
+is_payload_part (part.Insn i) = false
+is_payload_part (part.Payload p) = true
+
+abbrev pub begins_with_payload : List Piece → Bool
+begins_with_payload [] = false
+begins_with_payload (p ∷ ps) = is_payload_part p.part
+
+-- whether a piece is the nop that layout puts before the payload behind it: it stands at an odd address, and no label
+-- stands there, for the labels of a payload stand behind that nop
+abbrev pub is_aligning : List ℕ → Piece → List Piece → Bool
+is_aligning named p ps = nat_eq (p.at % 2) 1 && (is_nop p.part && (begins_with_payload ps && not (is_named named p.at)))
+
+-- a piece with the label before it; none of a nop that layout puts there
+abbrev pub items_at : BodyValue → List Piece → List ℕ → Piece → List Piece → List Item
+items_at b pieces named p ps = if is_aligning named p ps then [] else labels_at named p.at ++ piece_item b pieces p ∷ []
+
+-- the items of the pieces of a list, which are all or the last of these pieces
+abbrev pub items_from : BodyValue → List Piece → List ℕ → List Piece → List Item
+items_from b pieces named [] = []
+items_from b pieces named (p ∷ ps) = items_at b pieces named p ps ++ items_from b pieces named ps
+
+abbrev pub items_in : BodyValue → List Piece → List ℕ → List Item
+items_in b pieces named = items_from b pieces named pieces ++ labels_at named (length b.units)
+
+-- the type that a handler catches
+abbrev pub kind_of : List Ty → Handler → Option Ty
+kind_of types h = option_and_then (slice_get types) h.kind
+
+abbrev pub catch_of : List Ty → Try → Handler → Catch
+catch_of types t h = record { line = 0; kind = kind_of types h; from = label_name t.start; to = label_name t.end; at = label_name h.at }
+
+abbrev pub catches_of_try : List Ty → Try → List Catch
+catches_of_try types t = map (catch_of types t) t.handlers
+
+abbrev pub items_of : BodyValue → List Item
+items_of b = let pieces = pieces_of b.units in items_in b pieces (addresses_named pieces b.tries)
+
+abbrev pub catches_of : BodyValue → List Catch
+catches_of b = flat_map (catches_of_try b.types) b.tries
+
+unfoldable pub draft_of : BodyValue → DraftValue
+draft_of b = record { registers = b.registers; items = items_of b; catches = catches_of b }

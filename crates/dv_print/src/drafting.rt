@@ -1,0 +1,307 @@
+// The draft of a body: its items and its handlers.
+ghost use Rattle.std.specs.Prelude.{◌≡◌, ◌++◌, [], ◌∷◌, map, option_map, slice_get, IfOk, OnOk, if◌then◌else◌};
+ghost use Rattle.std.specs.List.{flat_map};
+ghost use Rattle.dv_print.specs.Numbers.{label_name};
+ghost use Rattle.dv_print.specs.Named.{target_of};
+ghost use Rattle.dv_print.specs.Drafting.{found_as, entry_in, op_of, labels_from, payload_item, part_item, piece_item, with_no_line, labels_at, is_nop, is_payload_part, begins_with_payload, is_aligning, items_at, items_from, items_in, kind_of, catch_of, catches_of_try, items_of, catches_of};
+
+use crate::formats::{Pool, pool_of};
+use crate::named::{add_targets, addresses_named, base_of, is_named, target_of};
+use crate::numbers::label_name;
+use crate::pieces::{Part, Piece, pieces_of};
+use dv_asm::{Catch, Draftop, Item, PoolRef, What};
+use dv_defs::{Body, Handler, Insn, Payload, Seq, Text, Try, Ty};
+use std::alloc::{AllocError, Global};
+
+/// The name of the label at an address.
+fn label(alloc: Global, address: u32) -> Result<Text, AllocError>
+    ensures { IfOk result (λ t. t ≡ label_name address) }
+{
+    Ok(Text::of(label_name(alloc, address)?))
+}
+
+/// The names of the labels at these addresses.
+fn labels(alloc: Global, addresses: &[u32]) -> Result<Vec<Text>, AllocError>
+    ensures { IfOk result (λ v. v.items ≡ map label_name addresses.now) }
+{
+    let mut labels = Vec::new(alloc);
+    for address in addresses {
+        labels.push(label(alloc, *address)?)?;
+    }
+    Ok(labels)
+}
+
+/// The names of the labels at these distances from a base.
+fn labels_from(alloc: Global, base: u16, targets: &[i32]) -> Result<Vec<Text>, AllocError>
+    ensures { IfOk result (λ v. v.items ≡ labels_from base targets.now) }
+{
+    let mut addresses = Vec::new(alloc);
+    add_targets(&mut addresses, base, targets)?;
+    labels(alloc, &addresses)
+}
+
+fn string_entry(body: &Body, index: u32) -> Result<PoolRef, AllocError>
+    ensures { IfOk result (λ r. r ≡ entry_in body.now Pool.Strings index) }
+{
+    match body.strings.items().get(index as usize) {
+        Some(chars) => Ok(PoolRef::Str(chars.clone()?)),
+        None => Ok(PoolRef::None),
+    }
+}
+
+fn type_entry(body: &Body, index: u32) -> Result<PoolRef, AllocError>
+    ensures { IfOk result (λ r. r ≡ entry_in body.now Pool.Types index) }
+{
+    match body.types.items().get(index as usize) {
+        Some(ty) => Ok(PoolRef::OfType(ty.clone()?)),
+        None => Ok(PoolRef::None),
+    }
+}
+
+fn field_entry(body: &Body, index: u32) -> Result<PoolRef, AllocError>
+    ensures { IfOk result (λ r. r ≡ entry_in body.now Pool.Fields index) }
+{
+    match body.fields.items().get(index as usize) {
+        Some(field) => Ok(PoolRef::Field(field.clone()?)),
+        None => Ok(PoolRef::None),
+    }
+}
+
+fn method_entry(body: &Body, index: u32) -> Result<PoolRef, AllocError>
+    ensures { IfOk result (λ r. r ≡ entry_in body.now Pool.Methods index) }
+{
+    match body.methods.items().get(index as usize) {
+        Some(method) => Ok(PoolRef::Method(method.clone()?)),
+        None => Ok(PoolRef::None),
+    }
+}
+
+/// The entry at an index of a pool.
+fn entry_in(body: &Body, pool: Pool, index: u32) -> Result<PoolRef, AllocError>
+    ensures { IfOk result (λ r. r ≡ entry_in body.now pool index) }
+{
+    match pool {
+        Pool::Nothing => Ok(PoolRef::None),
+        Pool::Strings => string_entry(body, index),
+        Pool::Types => type_entry(body, index),
+        Pool::Fields => field_entry(body, index),
+        Pool::Methods => method_entry(body, index),
+    }
+}
+
+/// The label of an address, where there is one.
+fn label_of(alloc: Global, address: Option<u32>) -> Result<Option<Text>, AllocError>
+    ensures { IfOk result (λ t. t ≡ option_map label_name address) }
+{
+    match address {
+        Some(address) => Ok(Some(label(alloc, address)?)),
+        None => Ok(None),
+    }
+}
+
+/// An instruction at an address: its label and its entry stand for its offset and its index.
+fn op_of(alloc: Global, body: &Body, at: u16, insn: &Insn) -> Result<Draftop, AllocError>
+    ensures { IfOk result (λ op. op ≡ op_of body.now at insn.now) }
+{
+    let label = label_of(alloc, target_of(at, insn))?;
+    let pool = entry_in(body, pool_of(insn.op), insn.index)?;
+    Ok(Draftop {
+        insn: Insn {
+            op: insn.op,
+            regs: insn.regs,
+            lit: insn.lit,
+            off: 0,
+            index: 0,
+        },
+        label,
+        pool,
+    })
+}
+
+/// A payload whose targets count from an address.
+fn payload_item(alloc: Global, base: u16, payload: &Payload) -> Result<What, AllocError>
+    ensures { IfOk result (λ w. w ≡ payload_item base payload.now) }
+{
+    match payload {
+        Payload::Packed { first, targets } => {
+            let labels = labels_from(alloc, base, targets.items())?;
+            Ok(What::Packed(*first, Seq::of(labels)))
+        }
+        Payload::Sparse { keys, targets } => {
+            let labels = labels_from(alloc, base, targets.items())?;
+            Ok(What::Sparse(keys.clone()?, Seq::of(labels)))
+        }
+        Payload::Data { width, bytes } => Ok(What::Data(*width, bytes.clone()?)),
+    }
+}
+
+/// A piece as an item.
+fn piece_item(
+    alloc: Global,
+    body: &Body,
+    pieces: &[Piece],
+    piece: &Piece,
+) -> Result<Item, AllocError>
+    ensures { IfOk result (λ item. item ≡ piece_item body.now pieces.now piece.now) }
+{
+    let what = match &piece.part {
+        Part::Insn(insn) => What::Op(op_of(alloc, body, piece.at, insn)?),
+        Part::Payload(payload) => {
+            let base = base_of(pieces, u32::from(piece.at));
+            payload_item(alloc, base, payload)?
+        }
+    };
+    Ok(Item { line: 0, what })
+}
+
+/// Appends the label at an address, where the address is named.
+fn add_label(items: &mut Vec<Item>, named: &[u32], address: u32) -> Result<(), AllocError>
+    ensures { OnOk result (items.new.items ≡ items.old.items ++ labels_at named.now address) }
+{
+    if is_named(named, address) {
+        let name = label(*items.allocator(), address)?;
+        items.push(Item {
+            line: 0,
+            what: What::Label(name),
+        })?;
+    }
+    Ok(())
+}
+
+impl Part {
+    fn is_nop(&self) -> bool
+        ensures { result ≡ is_nop self.now }
+    {
+        match self {
+            Part::Insn(insn) => insn.op == 0,
+            Part::Payload(_) => false,
+        }
+    }
+
+    fn is_payload(&self) -> bool
+        ensures { result ≡ is_payload_part self.now }
+    {
+        matches!(self, Part::Payload(_))
+    }
+}
+
+fn begins_with_payload(pieces: &[Piece]) -> bool
+    ensures { result ≡ begins_with_payload pieces.now }
+{
+    match pieces {
+        [piece, ..] => piece.part.is_payload(),
+        [] => false,
+    }
+}
+
+/// Whether a piece is the nop that layout puts before the payload behind it: it stands at an odd address, and no
+/// label stands there.
+fn is_aligning(named: &[u32], piece: &Piece, rest: &[Piece]) -> bool
+    ensures { result ≡ is_aligning named.now piece.now rest.now }
+{
+    piece.at % 2 == 1
+        && piece.part.is_nop()
+        && begins_with_payload(rest)
+        && !is_named(named, u32::from(piece.at))
+}
+
+/// Appends a piece with the label before it; nothing of a nop that layout puts there.
+fn add_piece(
+    items: &mut Vec<Item>,
+    body: &Body,
+    pieces: &[Piece],
+    named: &[u32],
+    piece: &Piece,
+    rest: &[Piece],
+) -> Result<(), AllocError>
+    ensures { OnOk result (items.new.items ≡ items.old.items ++ items_at body.now pieces.now named.now piece.now rest.now) }
+{
+    if !is_aligning(named, piece, rest) {
+        add_label(items, named, u32::from(piece.at))?;
+        items.push(piece_item(*items.allocator(), body, pieces, piece)?)?;
+    }
+    Ok(())
+}
+
+/// Appends the items of the pieces.
+fn add_pieces(
+    items: &mut Vec<Item>,
+    body: &Body,
+    pieces: &[Piece],
+    named: &[u32],
+) -> Result<(), AllocError>
+    ensures { OnOk result (items.new.items ≡ items.old.items ++ items_from body.now pieces.now named.now pieces.now) }
+{
+    let mut rest = pieces;
+    while let [piece, after @ ..] = rest {
+        add_piece(items, body, pieces, named, piece, after)?;
+        rest = after;
+    }
+    Ok(())
+}
+
+/// The items of a body.
+pub fn items_of(alloc: Global, body: &Body) -> Result<Vec<Item>, AllocError>
+    ensures { IfOk result (λ v. v.items ≡ items_of body.now) }
+{
+    let units = body.units.items();
+    let pieces = pieces_of(alloc, units)?;
+    let named = addresses_named(alloc, &pieces, body.tries.items())?;
+    let mut items = Vec::new(alloc);
+    add_pieces(&mut items, body, &pieces, &named)?;
+    add_label(&mut items, &named, units.len() as u32)?;
+    Ok(items)
+}
+
+/// The type that a handler catches.
+pub fn kind_of<'a>(types: &'a [Ty], handler: &Handler) -> Option<&'a Ty>
+    ensures { option_map (λ t. t.now) result ≡ kind_of types.now handler.now }
+{
+    match handler.kind {
+        Some(kind) => types.get(kind as usize),
+        None => None,
+    }
+}
+
+/// A handler of a try entry.
+fn catch_of(
+    alloc: Global,
+    types: &[Ty],
+    entry: &Try,
+    handler: &Handler,
+) -> Result<Catch, AllocError>
+    ensures { IfOk result (λ c. c ≡ catch_of types.now entry.now handler.now) }
+{
+    let kind = match kind_of(types, handler) {
+        Some(ty) => Some(ty.clone()?),
+        None => None,
+    };
+    Ok(Catch {
+        line: 0,
+        kind,
+        from: label(alloc, entry.start)?,
+        to: label(alloc, entry.end)?,
+        at: label(alloc, handler.at)?,
+    })
+}
+
+/// Appends the handlers of a try entry.
+fn add_catches(catches: &mut Vec<Catch>, types: &[Ty], entry: &Try) -> Result<(), AllocError>
+    ensures { OnOk result (catches.new.items ≡ catches.old.items ++ catches_of_try types.now entry.now) }
+{
+    for handler in entry.handlers.items() {
+        catches.push(catch_of(*catches.allocator(), types, entry, handler)?)?;
+    }
+    Ok(())
+}
+
+/// The handlers of a body.
+pub fn catches_of(alloc: Global, body: &Body) -> Result<Vec<Catch>, AllocError>
+    ensures { IfOk result (λ v. v.items ≡ catches_of body.now) }
+{
+    let mut catches = Vec::new(alloc);
+    for entry in body.tries.items() {
+        add_catches(&mut catches, body.types.items(), entry)?;
+    }
+    Ok(catches)
+}

@@ -1,0 +1,25 @@
+// The laws of labels, and of drafts and their layout.
+ghost use Rattle.dv_print.specs.Laws.{LabelsAreDistinct, LayoutIsTiled, DraftKeepsEntries, DraftKeepsAddresses};
+
+/// No two addresses have the same label.
+pub fn labels_are_distinct()
+    ensures { LabelsAreDistinct }
+{}
+
+/// The units of a draft whose items aren't refused are its instructions and payloads, each at its address, and nops
+/// before payloads.
+pub fn layout_is_tiled()
+    ensures { LayoutIsTiled }
+{}
+
+/// The draft that is made of a laid-out body names the entries that the draft before it names, in the same order, so
+/// its pools are the same.
+pub fn draft_keeps_entries()
+    ensures { DraftKeepsEntries }
+{}
+
+/// Layout of the draft that is made of a laid-out body puts each label at the address of its name, and the items end
+/// where the body ends.
+pub fn draft_keeps_addresses()
+    ensures { DraftKeepsAddresses }
+{}

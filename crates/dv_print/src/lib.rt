@@ -1,0 +1,22 @@
+//! The listing of a class as smali text.
+#![tactic(auto)]
+
+mod catches;
+mod class;
+mod drafting;
+mod flags;
+mod formats;
+mod items;
+mod laws;
+mod members;
+mod named;
+mod numbers;
+mod operands;
+mod pieces;
+mod raw;
+mod references;
+#[cfg(test)]
+mod tests;
+
+pub use class::print_class;
+pub use laws::{draft_keeps_addresses, draft_keeps_entries, labels_are_distinct, layout_is_tiled};

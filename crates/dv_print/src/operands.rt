@@ -1,0 +1,212 @@
+// The operands of an instruction as they are printed.
+ghost use Rattle.std.specs.Prelude.{◌≡◌, ◌++◌, ◌∷◌, [], map, codes, option_map, OnOk, IfOk};
+ghost use Rattle.std.specs.Option.{option_to_list};
+ghost use Rattle.std.specs.List.{flat_map};
+ghost use Rattle.dv_print.specs.Operands.{register_text, registers_of, listed, braces_text, neighbours_text, register_operands, literal_text, literal_operands, label_text, is_wide, pool_operands, operands, operands_text, insn_text, name_of};
+
+use crate::formats::{Form, form_of, has_literal};
+use crate::numbers::{decimal, signed_decimal};
+use crate::references::{field_text, method_text, string_text};
+use dv_asm::{Draftop, PoolRef};
+use dv_defs::{Insn, Regs, Text};
+use dv_names::print_type;
+use dv_optable::row_of;
+use std::alloc::{AllocError, Global};
+
+/// The name of an opcode.
+#[tactic(auto, unfolding(crate::specs::Operands::name_of))]
+fn name_of(op: u8) -> &'static str
+    ensures { result.now ≡ name_of op }
+{
+    match row_of(op) {
+        Some(row) => row.name,
+        None => "",
+    }
+}
+
+fn register_text(alloc: Global, register: u16) -> Result<Text, AllocError>
+    ensures { IfOk result (λ t. t ≡ register_text register) }
+{
+    let mut text = vec![in alloc; b'v']?;
+    text.extend_from_slice(&decimal(alloc, u64::from(register))?)?;
+    Ok(Text::of(text))
+}
+
+fn register_texts(alloc: Global, registers: &[u16]) -> Result<Vec<Text>, AllocError>
+    ensures { IfOk result (λ v. v.items ≡ map register_text registers.now) }
+{
+    let mut texts = Vec::new(alloc);
+    for register in registers {
+        texts.push(register_text(alloc, *register)?)?;
+    }
+    Ok(texts)
+}
+
+/// Appends texts, each with a comma and a blank before it.
+fn add_further(text: &mut Vec<u8>, others: &[Text]) -> Result<(), AllocError>
+    ensures { OnOk result (text.new.items ≡ text.old.items ++ flat_map (λ y. codes ", " ++ y) others.now) }
+{
+    for other in others {
+        text.extend_from_slice(b", ")?;
+        text.extend_from_slice(other.bytes())?;
+    }
+    Ok(())
+}
+
+/// Texts with a comma and a blank between.
+fn listed(alloc: Global, texts: &[Text]) -> Result<Vec<u8>, AllocError>
+    ensures { IfOk result (λ v. v.items ≡ listed texts.now) }
+{
+    match texts {
+        [first, others @ ..] => {
+            let mut text = Vec::from_slice(alloc, first.bytes())?;
+            add_further(&mut text, others)?;
+            Ok(text)
+        }
+        [] => Ok(Vec::new(alloc)),
+    }
+}
+
+/// The registers that an instruction has.
+fn registers_of(regs: &Regs) -> &[u16]
+    ensures { result.now ≡ registers_of regs.now }
+{
+    let count = usize::from(regs.count);
+    if count < 5 {
+        &regs.first[..count]
+    } else {
+        &regs.first
+    }
+}
+
+fn braces_text(alloc: Global, regs: &Regs) -> Result<Text, AllocError>
+    ensures { IfOk result (λ t. t ≡ braces_text regs.now) }
+{
+    let texts = register_texts(alloc, registers_of(regs))?;
+    let mut text = Vec::from_slice(alloc, b"{")?;
+    text.extend_from_slice(&listed(alloc, &texts)?)?;
+    text.extend_from_slice(b"}")?;
+    Ok(Text::of(text))
+}
+
+/// Neighbouring registers by the first and the last of them.
+fn neighbours_text(alloc: Global, first: u16, count: u8) -> Result<Text, AllocError>
+    ensures { IfOk result (λ t. t ≡ neighbours_text first count) }
+{
+    if count == 0 {
+        return Ok(Text::of(Vec::from_slice(alloc, b"{}")?));
+    }
+    let last = u64::from(first) + (u64::from(count) - 1);
+    let mut text = Vec::from_slice(alloc, b"{v")?;
+    text.extend_from_slice(&decimal(alloc, u64::from(first))?)?;
+    text.extend_from_slice(b" .. v")?;
+    text.extend_from_slice(&decimal(alloc, last)?)?;
+    text.extend_from_slice(b"}")?;
+    Ok(Text::of(text))
+}
+
+/// The list of one text.
+fn alone(alloc: Global, text: Text) -> Result<Vec<Text>, AllocError>
+    ensures { IfOk result (λ v. v.items ≡ text ∷ []) }
+{
+    let mut texts = Vec::new(alloc);
+    texts.push(text)?;
+    Ok(texts)
+}
+
+fn register_operands(alloc: Global, form: Form, regs: &Regs) -> Result<Vec<Text>, AllocError>
+    ensures { IfOk result (λ v. v.items ≡ register_operands form regs.now) }
+{
+    match form {
+        Form::Each => register_texts(alloc, registers_of(regs)),
+        Form::Braces => alone(alloc, braces_text(alloc, regs)?),
+        Form::Neighbours => alone(alloc, neighbours_text(alloc, regs.first[0], regs.count)?),
+    }
+}
+
+/// A literal in decimal, with a suffix where it has 64 bits.
+fn literal_text(alloc: Global, op: u8, literal: i64) -> Result<Text, AllocError>
+    ensures { IfOk result (λ t. t ≡ literal_text op literal) }
+{
+    let mut text = signed_decimal(alloc, literal)?;
+    if 0x16 <= op && op <= 0x19 {
+        text.extend_from_slice(b"L")?;
+    }
+    Ok(Text::of(text))
+}
+
+/// Appends the literal of an instruction, where its format has one.
+fn add_literal(texts: &mut Vec<Text>, insn: &Insn) -> Result<(), AllocError>
+    ensures { OnOk result (texts.new.items ≡ texts.old.items ++ literal_operands insn.now) }
+{
+    if has_literal(insn.op) {
+        texts.push(literal_text(*texts.allocator(), insn.op, insn.lit)?)?;
+    }
+    Ok(())
+}
+
+/// A label by its name.
+pub fn label_text(alloc: Global, name: &Text) -> Result<Text, AllocError>
+    ensures { IfOk result (λ t. t ≡ label_text name.now) }
+{
+    let mut text = vec![in alloc; b':']?;
+    text.extend_from_slice(name.bytes())?;
+    Ok(Text::of(text))
+}
+
+/// Appends a label, where there is one.
+fn add_label(texts: &mut Vec<Text>, label: &Option<Text>) -> Result<(), AllocError>
+    ensures { OnOk result (texts.new.items ≡ texts.old.items ++ option_to_list (option_map label_text label.now)) }
+{
+    if let Some(name) = label {
+        texts.push(label_text(*texts.allocator(), name)?)?;
+    }
+    Ok(())
+}
+
+/// Appends the entry of a pool that an instruction names, where it names one.
+fn add_entry(texts: &mut Vec<Text>, entry: &PoolRef) -> Result<(), AllocError>
+    ensures { OnOk result (texts.new.items ≡ texts.old.items ++ pool_operands entry.now) }
+{
+    let alloc = *texts.allocator();
+    match entry {
+        PoolRef::None => {}
+        PoolRef::Str(chars) => texts.push(Text::of(string_text(alloc, chars)?))?,
+        PoolRef::OfType(ty) => texts.push(print_type(alloc, ty)?)?,
+        PoolRef::Field(field) => texts.push(Text::of(field_text(alloc, field)?))?,
+        PoolRef::Method(method) => texts.push(Text::of(method_text(alloc, method)?))?,
+    }
+    Ok(())
+}
+
+/// Registers, then a literal, a label, and an entry of a pool.
+fn operands(alloc: Global, op: &Draftop) -> Result<Vec<Text>, AllocError>
+    ensures { IfOk result (λ v. v.items ≡ operands op.now) }
+{
+    let mut texts = register_operands(alloc, form_of(op.insn.op), &op.insn.regs)?;
+    add_literal(&mut texts, &op.insn)?;
+    add_label(&mut texts, &op.label)?;
+    add_entry(&mut texts, &op.pool)?;
+    Ok(texts)
+}
+
+/// Operands with a blank before them, where there are some.
+fn operands_text(alloc: Global, operands: &[Text]) -> Result<Vec<u8>, AllocError>
+    ensures { IfOk result (λ v. v.items ≡ operands_text operands.now) }
+{
+    if operands.is_empty() {
+        return Ok(Vec::new(alloc));
+    }
+    let mut text = vec![in alloc; b' ']?;
+    text.extend_from_slice(&listed(alloc, operands)?)?;
+    Ok(text)
+}
+
+/// The name of an instruction, and its operands.
+pub fn insn_text(alloc: Global, op: &Draftop) -> Result<Vec<u8>, AllocError>
+    ensures { IfOk result (λ v. v.items ≡ insn_text op.now) }
+{
+    let mut text = Vec::from_slice(alloc, name_of(op.insn.op).as_bytes())?;
+    text.extend_from_slice(&operands_text(alloc, &operands(alloc, op)?)?)?;
+    Ok(text)
+}
