@@ -8,3 +8,5 @@ pub mod PoolKinds
 pub mod KeptEntries
 pub mod Walk
 pub mod KeptAddresses
+pub mod KeptUnits
+pub mod Straight

@@ -18,7 +18,7 @@ use Rattle.dv_asm.specs.Places.{address_of, end_of, size_of_all}
 use Rattle.dv_asm.specs.Refusals.{item_refusal}
 use Rattle.dv_print.specs.Numbers.{label_name}
 use Rattle.dv_asm.specs.Pools.{pool_ref}
-use Rattle.dv_asm.specs.Layout.{insn_of, packed_of, sparse_of, pools_of, units_of, layout}
+use Rattle.dv_asm.specs.Layout.{insn_of, packed_of, sparse_of, pools_of, units_of, body_of, layout}
 use Rattle.dv_print.specs.Drafting.{draft_of}
 
 -- No two addresses have the same label.
@@ -99,3 +99,19 @@ abbrev pub DraftKeepsAddresses : Type 0
 DraftKeepsAddresses =
     (d : DraftValue) → AreFormed d.items → HaveNumbers d.items → item_refusal d.items ≡ None →
     IsTrue (all_fit 16 (layout d).units) → KeepsAddresses (draft_of (layout d)).items (layout d).units
+
+-- an item that leads nowhere
+abbrev pub IsStraight : What → Type 0
+IsStraight (what.Label name) = Unit {0}
+IsStraight (what.Op op) = op.label ≡ None
+IsStraight (what.Packed first targets) = ⊥
+IsStraight (what.Sparse keys targets) = ⊥
+IsStraight (what.Data width bytes) = Unit {0}
+
+-- The draft that is made of a laid-out body is laid out as that body, where the body has no branches, switches and
+-- handlers.
+abbrev pub StraightDraftIsKept : Type 0
+StraightDraftIsKept =
+    (registers : ℕ) (items : List Item) → AreFormed items → HaveNumbers items → item_refusal items ≡ None →
+    IsTrue (all_fit 16 (body_of registers items []).units) → All (λ (item : Item). IsStraight item.what) items →
+    layout (draft_of (body_of registers items [])) ≡ body_of registers items []

@@ -1,5 +1,5 @@
 // The laws of labels, and of drafts and their layout.
-ghost use Rattle.dv_print.specs.Laws.{LabelsAreDistinct, LayoutIsTiled, DraftKeepsEntries, DraftKeepsAddresses};
+ghost use Rattle.dv_print.specs.Laws.{LabelsAreDistinct, LayoutIsTiled, DraftKeepsEntries, DraftKeepsAddresses, StraightDraftIsKept};
 
 /// No two addresses have the same label.
 pub fn labels_are_distinct()
@@ -22,4 +22,10 @@ pub fn draft_keeps_entries()
 /// where the body ends.
 pub fn draft_keeps_addresses()
     ensures { DraftKeepsAddresses }
+{}
+
+/// The draft that is made of a laid-out body is laid out as that body, where the body has no branches, switches and
+/// handlers.
+pub fn straight_draft_is_kept()
+    ensures { StraightDraftIsKept }
 {}
