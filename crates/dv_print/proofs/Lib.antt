@@ -10,3 +10,4 @@ pub mod Walk
 pub mod KeptAddresses
 pub mod KeptUnits
 pub mod Straight
+pub mod Resolved

@@ -1,5 +1,5 @@
 // The laws of labels, and of drafts and their layout.
-ghost use Rattle.dv_print.specs.Laws.{LabelsAreDistinct, LayoutIsTiled, DraftKeepsEntries, DraftKeepsAddresses, StraightDraftIsKept};
+ghost use Rattle.dv_print.specs.Laws.{LabelsAreDistinct, LayoutIsTiled, DraftKeepsEntries, DraftKeepsAddresses, StraightDraftIsKept, LabelsLead};
 
 /// No two addresses have the same label.
 pub fn labels_are_distinct()
@@ -28,4 +28,9 @@ pub fn draft_keeps_addresses()
 /// handlers.
 pub fn straight_draft_is_kept()
     ensures { StraightDraftIsKept }
+{}
+
+/// A label that stands in the draft of a laid-out body leads to the address of its name.
+pub fn labels_lead()
+    ensures { LabelsLead }
 {}
