@@ -11,3 +11,5 @@ pub mod KeptAddresses
 pub mod KeptUnits
 pub mod Straight
 pub mod Resolved
+pub mod Branches
+pub mod BranchDraft

@@ -1,25 +1,18 @@
 -- Labels of the draft that is made of a laid-out body lead where they led.
-use Rattle.std.proofs.Common.{◌≡◌, ℕ, ◌+◌, ◌-◌, ◌<◌, ◌≤◌, ◌^◌, zero, suc, ℤ, pos, negsuc, ◌+ℤ◌, ◌-ℤ◌, Bool, true, false, not, ◌||◌, ◌⊎◌, inl, inr, List, [], ◌∷◌, ◌++◌, length, map, drop, get_or, position, bytes_eq, nat_lt, nat_eq, cond, Option, Some, None, is_some, IsTrue, if◌then◌else◌, refl, ap, sym, ◌∙◌, subst, arith, drop-cons}
+use Rattle.std.proofs.Common.{◌≡◌, ℕ, ◌+◌, ◌-◌, ◌<◌, ◌≤◌, ◌^◌, zero, suc, Bool, true, false, ◌⊎◌, inl, inr, List, [], ◌∷◌, ◌++◌, length, map, drop, get_or, position, cond, Some, None, if◌then◌else◌, ap, sym, ◌∙◌, arith}
 use Rattle.std.specs.Option.{option_map_or}
-use Rattle.std.specs.List.{slice_get, position_or_len, flat_map, list_any}
+use Rattle.std.specs.List.{slice_get, position_or_len}
 use Rattle.std.proofs.lemmas.Bool.{lt-ltb}
 use Rattle.std.proofs.lemmas.Bool.Decides.{nat_tests}
-use Rattle.std.proofs.lemmas.Int.{ints}
-use Rattle.std.proofs.lemmas.List.Folds.{list_any-append}
 use Rattle.std.proofs.lemmas.List.Sums.{passes_at_first}
 use Rattle.std.proofs.lemmas.Option.{slice_get_within, get_or_from_slice_get}
-use Rattle.dv_defs.specs.declared.code.Insn.{Insn}
-use Rattle.dv_defs.specs.declared.code.Try.{Try}
 use Rattle.dv_defs.specs.Body.{BodyValue}
-use Rattle.dv_defs.specs.Numbers.{jump}
-use Rattle.dv_defs.specs.Tiling.{IsInsn, Tile}
+use Rattle.dv_defs.specs.Tiling.{Tile}
 use Rattle.dv_asm.specs.declared.draft.Item.{Item}
 use Rattle.dv_asm.specs.declared.draft.What.{What}
 use Rattle.dv_asm.specs.declared.draft.What.TheVariants as what
-use Rattle.dv_asm.specs.declared.pools.Pools.{Pools}
-use Rattle.dv_asm.specs.Items.{item_at, no_item, size_of, is_named, is_label_named}
-use Rattle.dv_asm.specs.Places.{address_of, end_of, aligned, size_of_all, place_of, label_address, leads_to_payload}
-use Rattle.dv_asm.specs.Layout.{units_of}
+use Rattle.dv_asm.specs.Items.{item_at, no_item, is_named, is_label_named}
+use Rattle.dv_asm.specs.Places.{address_of, end_of, size_of_all, label_address}
 use Rattle.dv_asm.proofs.PlaceLemmas.{aligned_above}
 use Rattle.dv_print.specs.declared.pieces.Piece.{Piece}
 use Rattle.dv_print.specs.Numbers.{label_name}
@@ -27,7 +20,7 @@ use Rattle.dv_print.specs.Pieces.{piece_of}
 use Rattle.dv_print.specs.Named as named
 use Rattle.dv_print.specs.Drafting.{labels_at, piece_item, with_no_line, is_aligning, items_at, items_from}
 use Rattle.dv_print.specs.Laws.{KeepsAddresses, IsNamedBy}
-use Rattle.dv_print.proofs.Entries.{not_before, bytes_same, bytes_itself, appended}
+use Rattle.dv_print.proofs.Entries.{not_before, bytes_same, bytes_itself}
 use Rattle.dv_print.proofs.Labels.{labels_are_distinct}
 
 -- ---- the address of a label by its name
@@ -74,7 +67,7 @@ abbrev pub HasAt : ℕ → List Tile → Type 0
 HasAt a [] = ⊥
 HasAt a (t ∷ ts) = (t.at ≡ a) ⊎ HasAt a ts
 
-later_in : {X : Type 0} (xs ys : List X) (j : ℕ) (y : X) → slice_get ys j ≡ Some y → slice_get (xs ++ ys) (length xs + j) ≡ Some y
+pub later_in : {X : Type 0} (xs ys : List X) (j : ℕ) (y : X) → slice_get ys j ≡ Some y → slice_get (xs ++ ys) (length xs + j) ≡ Some y
 later_in [] ys j y e = let n : 0 + j ≡ j = omega arith in ap (slice_get ys) n ∙ e
 later_in (x ∷ xs) ys j y e =
     let n : suc (length xs) + j ≡ suc (length xs + j) = omega arith in
@@ -83,10 +76,10 @@ later_in (x ∷ xs) ys j y e =
 not_aligning : (names : List ℕ) (p : Piece) (ps : List Piece) → named.is_named names p.at ≡ true → is_aligning names p ps ≡ false
 not_aligning names p ps e = grind (arith, nat_tests)
 
-label_here : (names : List ℕ) (a : ℕ) → named.is_named names a ≡ true → labels_at names a ≡ with_no_line (what.Label (label_name a)) ∷ []
+pub label_here : (names : List ℕ) (a : ℕ) → named.is_named names a ≡ true → labels_at names a ≡ with_no_line (what.Label (label_name a)) ∷ []
 label_here names a e = ap (λ c. if c then with_no_line (what.Label (label_name a)) ∷ [] else []) e
 
-abbrev Stands : ℕ → List Item → Type 0
+abbrev pub Stands : ℕ → List Item → Type 0
 Stands a items = (j : ℕ) × (slice_get items j ≡ Some (with_no_line (what.Label (label_name a))))
 
 pub stands_in : (b : BodyValue) (all : List Piece) (names : List ℕ) (a : ℕ) (ts : List Tile) → named.is_named names a ≡ true → HasAt a ts → Stands a (items_from b all names (map piece_of ts))
@@ -96,8 +89,8 @@ stands_in b all names a (t ∷ ts) e (inl same) =
     let rest = items_from b all names (map piece_of ts) in
     let here : named.is_named names t.at ≡ true = ap (named.is_named names) same ∙ e in
     let whole : items_from b all names (map piece_of (t ∷ ts)) ≡ (with_no_line (what.Label (label_name t.at)) ∷ piece_item b all p ∷ []) ++ rest =
-      ap (λ c. (if c then [] else labels_at names t.at ++ piece_item b all p ∷ []) ++ rest) (not_aligning names p (map piece_of ts) here) ∙
-      ap (λ ls. (ls ++ piece_item b all p ∷ []) ++ rest) (label_here names t.at here) in
+    ap (λ c. (if c then [] else labels_at names t.at ++ piece_item b all p ∷ []) ++ rest) (not_aligning names p (map piece_of ts) here) ∙
+    ap (λ ls. (ls ++ piece_item b all p ∷ []) ++ rest) (label_here names t.at here) in
     (0, ap (λ xs. slice_get xs 0) whole ∙ ap (λ n. Some (with_no_line (what.Label (label_name n)))) same)
 stands_in b all names a (t ∷ ts) e (inr later) =
     let at = stands_in b all names a ts e later in
