@@ -9,6 +9,7 @@ mod items;
 mod labels;
 mod laws;
 mod lines;
+mod payloads;
 mod places;
 mod pools;
 mod ranges;

@@ -1,19 +1,19 @@
 // The units of items.
-ghost use Rattle.std.specs.Prelude.{◌≡◌, ◌<◌, ◌≤◌, ◌%◌, ◌^◌, ◌++◌, true, None, [], length, map, unwrap_or, IfOk, OnOk, IsSome, IsTrue, Ok};
+ghost use Rattle.std.specs.Prelude.{◌≡◌, ◌<◌, ◌≤◌, ◌%◌, ◌^◌, ◌++◌, true, None, [], length, unwrap_or, IfOk, OnOk, IsSome, IsTrue, Ok};
 ghost use Rattle.dv_defs.specs.declared.code.Payload.TheVariants as payload;
 ghost use Rattle.dv_defs.specs.Spelling.{spelling, all_fit};
-ghost use Rattle.dv_defs.specs.Payloads.{payload_spelling, all_fit_signed};
+ghost use Rattle.dv_defs.specs.Payloads.{payload_spelling};
 ghost use Rattle.dv_defs.specs.Tiling.{is_width, tiling};
 ghost use Rattle.dv_asm.specs.Places.{ArePlaces, address_of, distance};
 ghost use Rattle.dv_asm.specs.Refusals.{too_long, addresses_named};
-ghost use Rattle.dv_asm.specs.Layout.{AreSpelled, IsWritable, AreWritable, offset_of, insn_of, base_of, targets_of, packed_of, sparse_of, spelling_of, padded, units_of};
+ghost use Rattle.dv_asm.specs.Layout.{AreSpelled, IsWritable, AreWritable, offset_of, insn_of, packed_of, sparse_of, spelling_of, padded, units_of};
 ghost use Rattle.dv_asm.specs.Tiles.{tiles_of};
 
 use crate::draft::{Draftop, Item, What};
+use crate::payloads::{packed_of, sparse_of};
 use crate::pools::Pools;
 use crate::ranges::with_operands;
 use crate::short::{address_of, distance};
-use crate::switches::switch_of;
 use dv_defs::{Insn, Payload, Seq, Text};
 use dv_units::{UnitError, encode, encode_payload};
 use std::alloc::{AllocError, Global};
@@ -60,20 +60,6 @@ fn insn_of(
     Ok(with_operands(&op.insn, offset, index))
 }
 
-/// The address that the targets of a payload at an address count from.
-fn base_of(items: &[Item], places: &[u64], named: &[Option<u64>], address: u32) -> u32
-    requires places { ArePlaces items.now places.now }
-    requires short { too_long items.now ≡ None }
-    requires named { named.now ≡ addresses_named items.now }
-    ensures value { result ≡ base_of items.now address }
-    ensures small { result ≤ 16384 }
-{
-    match switch_of(named, u64::from(address)) {
-        Some(k) => address_of(items, places, k),
-        None => 0,
-    }
-}
-
 /// Each byte fits its half of a unit.
 fn bytes_fit(bytes: &[u8])
     ensures { all_fit 8 bytes.now ≡ true }
@@ -83,103 +69,6 @@ fn bytes_fit(bytes: &[u8])
 fn units_fit(units: &[u16])
     ensures { all_fit 16 units.now ≡ true }
 {}
-
-/// The same numbers. Each fits two units.
-fn copied(alloc: Global, numbers: &[i32]) -> Result<Seq<i32>, AllocError>
-    ensures same { IfOk result (λ copy. copy ≡ numbers.now) }
-    ensures fitting { OnOk result (all_fit_signed numbers.now ≡ true) }
-{
-    let mut copy = Vec::new(alloc);
-    for number in numbers {
-        copy.push(*number)?;
-    }
-    Ok(Seq::of(copy))
-}
-
-/// How far each of the labels is from an address.
-fn distances(
-    alloc: Global,
-    items: &[Item],
-    places: &[u64],
-    from: u32,
-    names: &[Text],
-) -> Result<Vec<i32>, AllocError>
-    requires places { ArePlaces items.now places.now }
-    requires short { too_long items.now ≡ None }
-    requires small { from ≤ 16384 }
-    ensures { IfOk result (λ targets. targets.items ≡ map (distance items.now from) names.now) }
-{
-    let mut distances = Vec::new(alloc);
-    for name in names {
-        distances.push(distance(items, places, from, name))?;
-    }
-    Ok(distances)
-}
-
-/// The targets of a payload at an address.
-fn targets_of(
-    alloc: Global,
-    items: &[Item],
-    places: &[u64],
-    named: &[Option<u64>],
-    address: u32,
-    names: &[Text],
-) -> Result<Seq<i32>, AllocError>
-    requires places { ArePlaces items.now places.now }
-    requires short { too_long items.now ≡ None }
-    requires named { named.now ≡ addresses_named items.now }
-    ensures value { IfOk result (λ targets. targets ≡ targets_of items.now address names.now) }
-    ensures fitting { all_fit_signed (targets_of items.now address names.now) ≡ true }
-{
-    let base = base_of(items, places, named, address);
-    Ok(Seq::of(distances(alloc, items, places, base, names)?))
-}
-
-fn packed_of(
-    alloc: Global,
-    items: &[Item],
-    places: &[u64],
-    named: &[Option<u64>],
-    k: usize,
-    first: i32,
-    names: &[Text],
-) -> Result<Payload, AllocError>
-    requires places { ArePlaces items.now places.now }
-    requires short { too_long items.now ≡ None }
-    requires named { named.now ≡ addresses_named items.now }
-    requires within { k < length items.now }
-    requires few { length names.now < 2 ^ 16 }
-    ensures value { IfOk result (λ payload. payload ≡ packed_of items.now (address_of items.now k) first names.now) }
-    ensures spelled { IfOk result (λ payload. IsSome (payload_spelling payload)) }
-{
-    let address = address_of(items, places, k);
-    let targets = targets_of(alloc, items, places, named, address, names)?;
-    Ok(Payload::Packed { first, targets })
-}
-
-fn sparse_of(
-    alloc: Global,
-    items: &[Item],
-    places: &[u64],
-    named: &[Option<u64>],
-    k: usize,
-    keys: &Seq<i32>,
-    names: &[Text],
-) -> Result<Payload, AllocError>
-    requires places { ArePlaces items.now places.now }
-    requires short { too_long items.now ≡ None }
-    requires named { named.now ≡ addresses_named items.now }
-    requires within { k < length items.now }
-    requires same { length names.now ≡ length keys.now }
-    requires few { length names.now < 2 ^ 16 }
-    ensures value { IfOk result (λ payload. payload ≡ sparse_of items.now (address_of items.now k) keys.now names.now) }
-    ensures spelled { IfOk result (λ payload. IsSome (payload_spelling payload)) }
-{
-    let address = address_of(items, places, k);
-    let targets = targets_of(alloc, items, places, named, address, names)?;
-    let keys = copied(alloc, keys.items())?;
-    Ok(Payload::Sparse { keys, targets })
-}
 
 /// Appends a nop, where the units end before an address.
 fn pad(units: &mut Vec<u16>, address: u32) -> Result<(), AllocError>

@@ -3,7 +3,7 @@ use Rattle.std.proofs.lemmas.Int.{to_z-of_z}
 use Rattle.std.proofs.lemmas.List.{map_more}
 use mir.Val.{SFits, to_z, of_z}
 use Rattle.dv_asm.specs.Places.{distance}
-use Rattle.dv_asm.proofs.units.distances.Goals as goal
+use Rattle.dv_asm.proofs.payloads.distances.Goals as goal
 
 -- one more number
 mapped : (f : List ℕ → ℤ) (names : List (List ℕ)) (i : ℕ) (old new : List ℤ) (d : ℤ) (name : List ℕ) → i < length names → name ≡ get_or names i name → SFits w32 d → d ≡ f name → old ≡ map f (take i names) → new ≡ old ++ to_z w32 (of_z w32 d) ∷ [] → new ≡ map f (take (i + 1) names)

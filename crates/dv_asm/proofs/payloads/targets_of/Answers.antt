@@ -1,7 +1,7 @@
 use Rattle.std.proofs.Common.{ℕ, ◌≤◌, subst}
 use Rattle.dv_asm.specs.Layout.{base_of}
 use Rattle.dv_asm.proofs.PayloadLemmas.{distances_fit}
-use Rattle.dv_asm.proofs.units.targets_of.Goals as goal
+use Rattle.dv_asm.proofs.payloads.targets_of.Goals as goal
 
 pub returns-in_err-distances-clause-fitting : goal.returns-in_err-distances-clause-fitting
 returns-in_err-distances-clause-fitting c =

@@ -5,7 +5,7 @@ use mir.Val.{SFits, to_z, of_z}
 use Rattle.dv_defs.specs.declared.code.Payload.TheVariants as payload
 use Rattle.dv_asm.specs.Layout.{targets_of}
 use Rattle.dv_asm.proofs.PayloadLemmas.{packed_spelled_as}
-use Rattle.dv_asm.proofs.units.packed_of.Goals as goal
+use Rattle.dv_asm.proofs.payloads.packed_of.Goals as goal
 
 packed : (first : ℤ) (ts us : List ℤ) → SFits w32 first → ts ≡ us → payload.Packed (to_z w32 (of_z w32 first)) ts ≡ payload.Packed first us
 packed first ts us fits same = let read = to_z-of_z w32 first fits in cc

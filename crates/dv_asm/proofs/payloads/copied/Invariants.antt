@@ -1,6 +1,6 @@
 use Rattle.std.proofs.Common.{◌≡◌, true, take}
 use Rattle.dv_defs.specs.Payloads.{all_fit_signed}
-use Rattle.dv_asm.proofs.units.copied.Given as goal
+use Rattle.dv_asm.proofs.payloads.copied.Given as goal
 
 abbrev pub invariant-loop-number : goal.invariant-loop-number
 invariant-loop-number l =
