@@ -34,7 +34,7 @@ joined false b e h = absurd (cc)
 nat_itself : (n : ℕ) → nat_eq n n ≡ true
 nat_itself n = grind (arith, nat_tests)
 
-bytes_same : (a b : List ℕ) → bytes_eq a b ≡ true → a ≡ b
+pub bytes_same : (a b : List ℕ) → bytes_eq a b ≡ true → a ≡ b
 bytes_same [] [] e = refl
 bytes_same [] (y ∷ b) e = absurd (cc)
 bytes_same (x ∷ a) [] e = absurd (cc)
@@ -43,7 +43,7 @@ bytes_same (x ∷ a) (y ∷ b) e =
     let first : x ≡ y = eqb-true x y p.0 in
     cc (first, bytes_same a b p.1)
 
-bytes_itself : (a : List ℕ) → bytes_eq a a ≡ true
+pub bytes_itself : (a : List ℕ) → bytes_eq a a ≡ true
 bytes_itself [] = refl
 bytes_itself (x ∷ a) = joined (nat_eq x x) (bytes_eq a a) (nat_itself x) (bytes_itself a)
 
@@ -148,7 +148,7 @@ methods_tell = record { same = method_same; itself = method_itself }
 
 -- ---- what stands in a pool
 
-appended : {X : Type 0} (xs ys : List X) (j : ℕ) (y : X) → slice_get xs j ≡ Some y → slice_get (xs ++ ys) j ≡ Some y
+pub appended : {X : Type 0} (xs ys : List X) (j : ℕ) (y : X) → slice_get xs j ≡ Some y → slice_get (xs ++ ys) j ≡ Some y
 appended [] ys j y e = absurd (cc)
 appended (x ∷ xs) ys zero y e = e
 appended (x ∷ xs) ys (suc j) y e = appended xs ys j y e
@@ -196,7 +196,7 @@ holds {X} {Y} eq entry t xs (z ∷ ys) zero y x e h =
     subst P (sym named) (record { place = here.place; found = here.found; stands = kept eq entry (with_entry eq xs x) ys here.place here.found here.stands; equal = here.equal })
 holds eq entry t xs (z ∷ ys) (suc k) y x e h = holds eq entry t (with_entry_if_any eq xs (entry z)) ys k y x e h
 
-not_before : {X : Type 0} (p : X → Bool) (xs : List X) (j : ℕ) (d : X) → p (get_or xs j d) ≡ true → position_or_len p xs ≤ j
+pub not_before : {X : Type 0} (p : X → Bool) (xs : List X) (j : ℕ) (d : X) → p (get_or xs j d) ≡ true → position_or_len p xs ≤ j
 not_before p xs j d e = at (nat_lt j (position_or_len p xs)) refl
   where
     at : (b : Bool) → nat_lt j (position_or_len p xs) ≡ b → position_or_len p xs ≤ j

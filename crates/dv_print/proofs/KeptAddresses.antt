@@ -37,7 +37,7 @@ use Rattle.dv_print.proofs.KeptEntries.{draft_items, pieces_are}
 labels_length : (base : ℕ) (targets : List ℤ) → length (labels_from base targets) ≡ length targets
 labels_length base targets = simp length-map
 
-parts : (a b : Bool) → (a && b) ≡ true → (a ≡ true) × (b ≡ true)
+pub parts : (a b : Bool) → (a && b) ≡ true → (a ≡ true) × (b ≡ true)
 parts true b e = (refl, e)
 parts false b e = absurd (cc)
 
@@ -51,13 +51,13 @@ part_size b all at (IsPayload (payload.Sparse keys targets)) us e =
     ap (λ n. n * 4 + 2) (labels_length _ targets) ∙ sym (sparse_size keys targets us same e)
 part_size b all at (IsPayload (payload.Data width bytes)) us e = sym (data_size width bytes us e)
 
-not_label : (b : BodyValue) (all : List Piece) (at : ℕ) (x : tiling.Item) (address : ℕ) → IsNamedBy (part_item b all at (part_of x)) address
+pub not_label : (b : BodyValue) (all : List Piece) (at : ℕ) (x : tiling.Item) (address : ℕ) → IsNamedBy (part_item b all at (part_of x)) address
 not_label b all at (IsInsn i) address = tt
 not_label b all at (IsPayload (payload.Packed first targets)) address = tt
 not_label b all at (IsPayload (payload.Sparse keys targets)) address = tt
 not_label b all at (IsPayload (payload.Data width bytes)) address = tt
 
-leads : (b : BodyValue) (all : List Piece) (at : ℕ) (x : tiling.Item) (more : List Item) → leads_to_payload (with_no_line (part_item b all at (part_of x)) ∷ more) ≡ is_payload_part (part_of x)
+pub leads : (b : BodyValue) (all : List Piece) (at : ℕ) (x : tiling.Item) (more : List Item) → leads_to_payload (with_no_line (part_item b all at (part_of x)) ∷ more) ≡ is_payload_part (part_of x)
 leads b all at (IsInsn i) more = refl
 leads b all at (IsPayload (payload.Packed first targets)) more = refl
 leads b all at (IsPayload (payload.Sparse keys targets)) more = refl
@@ -99,7 +99,7 @@ even_here items pools k (what.Packed first names) within e = (λ h. even_address
 even_here items pools k (what.Sparse keys names) within e = (λ h. even_address items k within (ap is_payload e), tt)
 even_here items pools k (what.Data width bytes) within e = (λ h. even_address items k within (ap is_payload e), tt)
 
-even_to : (items : List Item) (pools : Pools) (k : ℕ) → k ≤ length items → EvenPayloads (tiles_to items pools k)
+pub even_to : (items : List Item) (pools : Pools) (k : ℕ) → k ≤ length items → EvenPayloads (tiles_to items pools k)
 even_to items pools zero within = tt
 even_to items pools (suc k) within =
     even_append (tiles_to items pools k) _ (even_to items pools k (omega arith))
@@ -111,11 +111,11 @@ even_to items pools (suc k) within =
 abbrev Further : List Item → ℕ → List Item → Type 0
 Further items end next = (k : ℕ) × Reaches items k end next
 
-abbrev aligned_if : ℕ → Bool → ℕ
+abbrev pub aligned_if : ℕ → Bool → ℕ
 aligned_if end b = if nat_eq (end % 2) 1 && b then end + 1 else end
 
 -- what is aligned stays where it is
-aligned_again : (end : ℕ) (b : Bool) → aligned_if (aligned_if end b + 0) b ≡ aligned_if end b
+pub aligned_again : (end : ℕ) (b : Bool) → aligned_if (aligned_if end b + 0) b ≡ aligned_if end b
 aligned_again end b = grind (arith, nat_tests)
 
 -- an item that is next, and the address at which it will stand
@@ -142,25 +142,25 @@ piece_first items k end address size named x more e h free r =
     let place : aligned n.end (x ∷ more) + size_of x.what ≡ address + size = omega (arith, n.place, h) in
     (suc n.count, subst P place (one_item items n.count n.end x more n.reaches (free (aligned n.end (x ∷ more)))))
 
-regroup : (ls : List Item) (x : Item) (from final : List Item) → ((ls ++ x ∷ []) ++ from) ++ final ≡ ls ++ x ∷ (from ++ final)
+pub regroup : (ls : List Item) (x : Item) (from final : List Item) → ((ls ++ x ∷ []) ++ from) ++ final ≡ ls ++ x ∷ (from ++ final)
 regroup ls x from final = append_assoc (ls ++ x ∷ []) from final ∙ append_assoc ls (x ∷ []) (from ++ final)
 
 -- ---- the walk
 
-abbrev next_items : BodyValue → List Piece → List ℕ → List Item → List Tile → List Item
+abbrev pub next_items : BodyValue → List Piece → List ℕ → List Item → List Tile → List Item
 next_items b all named final ts = items_from b all named (map piece_of ts) ++ final
 
 abbrev Goes : BodyValue → List Piece → List ℕ → List Item → List Item → List Tile → Type 0
 Goes b all named final items ts =
     (us : List ℕ) (k end : ℕ) → AreTiles end ts us → EvenPayloads ts → Reaches items k end (next_items b all named final ts) → Further items (end + length us) final
 
-tile_size : (b : BodyValue) (all : List Piece) (t : Tile) (us : List ℕ) → t.size ≤ length us → item_spelling t.item ≡ Some (take t.size us) → size_of (part_item b all t.at (part_of t.item)) ≡ t.size
+pub tile_size : (b : BodyValue) (all : List Piece) (t : Tile) (us : List ℕ) → t.size ≤ length us → item_spelling t.item ≡ Some (take t.size us) → size_of (part_item b all t.at (part_of t.item)) ≡ t.size
 tile_size b all t us room e = part_size b all t.at t.item (take t.size us) e ∙ length-take-le t.size us room
 
 further_to : (items : List Item) (m n : ℕ) (final : List Item) → m ≡ n → Further items m final → Further items n final
 further_to items m n final e f = let P : ℕ → Type 0 = λ j. Further items j final in subst P e f
 
-abbrev piece_if : Bool → List Item → Item → List Item
+abbrev pub piece_if : Bool → List Item → Item → List Item
 piece_if c ls x = if c then [] else ls ++ x ∷ []
 
 -- a piece that isn't dropped, at the address at which it is put
@@ -187,14 +187,14 @@ nop_units : size_at 0 ≡ 1
 unfolding format_at
 nop_units = refl
 
-nop_size : (x : tiling.Item) (us : List ℕ) (n : ℕ) → is_nop (part_of x) ≡ true → item_spelling x ≡ Some (take n us) → n ≤ length us → n ≡ 1
+pub nop_size : (x : tiling.Item) (us : List ℕ) (n : ℕ) → is_nop (part_of x) ≡ true → item_spelling x ≡ Some (take n us) → n ≤ length us → n ≡ 1
 nop_size (IsInsn i) us n h e room =
     let op : i.op ≡ 0 = eqb-true i.op 0 h in
     sym (length-take-le n us room) ∙ (insn_size i (take n us) e ∙ (ap size_at op ∙ nop_units))
 nop_size (IsPayload p) us n h e room = absurd (cc)
 
 -- what begins with a payload is no aligning nop
-payload_stays : (named : List ℕ) (x : tiling.Item) (at : ℕ) (ps : List Piece) → is_payload_part (part_of x) ≡ true → is_aligning named (record { at = at; part = part_of x }) ps ≡ false
+pub payload_stays : (named : List ℕ) (x : tiling.Item) (at : ℕ) (ps : List Piece) → is_payload_part (part_of x) ≡ true → is_aligning named (record { at = at; part = part_of x }) ps ≡ false
 payload_stays named (IsInsn i) at ps h = absurd (cc)
 payload_stays named (IsPayload p) at ps h = neither (nat_eq (at % 2) 1)
   where
@@ -223,7 +223,7 @@ nop_step b all named final items t t2 ts c later us k end tiles even r =
     further_to items _ _ final (omega (arith, tiles.1, rest.1, length-drop t.size us, length-drop t2.size (drop t.size us)))
     (later (drop t2.size (drop t.size us)) m (end + t.size + t2.size) rest.3 even.1.1 (subst Q place next))
 
-last_stays : (named : List ℕ) (p : Piece) → is_aligning named p [] ≡ true → ⊥
+pub last_stays : (named : List ℕ) (p : Piece) → is_aligning named p [] ≡ true → ⊥
 last_stays named p c =
     let nop_and = parts (is_nop p.part) _ (parts (nat_eq (p.at % 2) 1) _ c).1 in
     cc (nop_and.1)
@@ -262,7 +262,7 @@ whole items k units r =
       size = ap (end_of items) all ∙ r.ends;
     }
 
-tiles_are : (d : DraftValue) → AreFormed d.items → HaveNumbers d.items → item_refusal d.items ≡ None → IsTrue (all_fit 16 (layout d).units) → AreTiles 0 (tiles_to d.items (pools_of d.items) (length d.items)) (layout d).units
+pub tiles_are : (d : DraftValue) → AreFormed d.items → HaveNumbers d.items → item_refusal d.items ≡ None → IsTrue (all_fit 16 (layout d).units) → AreTiles 0 (tiles_to d.items (pools_of d.items) (length d.items)) (layout d).units
 unfolding body_of
 tiles_are d formed numbers none fit = found_tiles _ 0 _ fit (layout_is_tiled d.items formed numbers none fit)
 

@@ -75,7 +75,7 @@ found b items k op (pool.Method method) h within e p =
     let named : method_of (item_at items k) ≡ Some method = ap (λ w. method_in (pool_ref w)) e ∙ ap method_in p in
     ap (λ o. found_as pool.Method o) (ap (λ xs. slice_get xs (index_of (pools_of items) (pool.Method method))) h.methods ∙ named_at method_eq method_of methods_tell items k method within named)
 
-small_opcode : (i : Insn) (o : Option (List ℕ)) → spelling i ≡ o → IsSome o → i.op < 256
+pub small_opcode : (i : Insn) (o : Option (List ℕ)) → spelling i ≡ o → IsSome o → i.op < 256
 small_opcode i None e h = absurd (cc)
 small_opcode i (Some us) e h = let (f, s) = spelled_in i us e in omega (arith, (begins f i us s.units).1)
 
@@ -87,7 +87,7 @@ own_pool op (pool.OfType ty) formed p = pool_of_named op.insn.op (pool.OfType ty
 own_pool op (pool.Field field) formed p = pool_of_named op.insn.op (pool.Field field) (small_opcode (blank op.insn) (spelling (blank op.insn)) refl formed.form) (sym (ap (is_named_by (family_at op.insn.op)) p) ∙ formed.kind (ap is_entry p))
 own_pool op (pool.Method method) formed p = pool_of_named op.insn.op (pool.Method method) (small_opcode (blank op.insn) (spelling (blank op.insn)) refl formed.form) (sym (ap (is_named_by (family_at op.insn.op)) p) ∙ formed.kind (ap is_entry p))
 
-own_entry : (b : BodyValue) (items : List Item) (k : ℕ) (op : Draftop) → HasPools b items → k < length items → (item_at items k).what ≡ what.Op op → IsOp op → entry_in b (pool_of op.insn.op) (index_of (pools_of items) op.pool) ≡ op.pool
+pub own_entry : (b : BodyValue) (items : List Item) (k : ℕ) (op : Draftop) → HasPools b items → k < length items → (item_at items k).what ≡ what.Op op → IsOp op → entry_in b (pool_of op.insn.op) (index_of (pools_of items) op.pool) ≡ op.pool
 own_entry b items k op h within e formed =
     ap (λ q. entry_in b q (index_of (pools_of items) op.pool)) (own_pool op op.pool formed refl) ∙ found b items k op op.pool h within e refl
 
@@ -102,7 +102,7 @@ tile_entries b all ts = flat_map (piece_entries b all) (map piece_of ts)
 joined_entries : (b : BodyValue) (all : List Piece) (xs ys : List Tile) → tile_entries b all (xs ++ ys) ≡ tile_entries b all xs ++ tile_entries b all ys
 joined_entries b all xs ys = ap (flat_map (piece_entries b all)) (map-append piece_of xs ys) ∙ flat_map-append (piece_entries b all) (map piece_of xs) (map piece_of ys)
 
-nop_pool : pool_of 0 ≡ from.Nothing
+pub nop_pool : pool_of 0 ≡ from.Nothing
 unfolding pool_of
 nop_pool = refl
 
@@ -186,7 +186,7 @@ kinds_kept : (items : List Item) (catches : List Catch) (rs : List TryRange) (ts
 kinds_kept items catches [] ts j t e = e
 kinds_kept items catches (r ∷ rs) ts j t e = kinds_kept items catches rs (with_entries ty_eq (kind_in items r) ts catches) j t (kept ty_eq (kind_in items r) ts catches j t e)
 
-has_pools : (d : DraftValue) → HasPools (layout d) d.items
+pub has_pools : (d : DraftValue) → HasPools (layout d) d.items
 unfolding body_of
 has_pools d = record {
   strings = refl;

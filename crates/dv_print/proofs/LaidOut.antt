@@ -154,7 +154,7 @@ tiled_more items pools k short h n before =
       size = ap length whole ∙ omega (arith, length-append (padded_if b us) own, reached, spelled_size items pools k w own e);
     }
 
-tiled_to : (items : List Item) (pools : Pools) → too_long items ≡ None → AreWritable items pools → HaveNumbers items → (k : ℕ) → k ≤ length items → IsTiledTo items pools k
+pub tiled_to : (items : List Item) (pools : Pools) → too_long items ≡ None → AreWritable items pools → HaveNumbers items → (k : ℕ) → k ≤ length items → IsTiledTo items pools k
 tiled_to items pools short h n zero within = record { tiles = refl; size = refl }
 tiled_to items pools short h n (suc k) within =
     tiled_more items pools k short (h k (omega arith)) (n k no_item (omega arith)) (tiled_to items pools short h n k (omega arith))
@@ -167,7 +167,7 @@ refused_none : (k : LineKind) (line : Option ℕ) → refused k line ≡ None �
 refused_none k None none = refl
 refused_none k (Some line) none = absurd (cc)
 
-are_short : (items : List Item) → item_refusal items ≡ None → too_long items ≡ None
+pub are_short : (items : List Item) → item_refusal items ≡ None → too_long items ≡ None
 are_short items none =
     refused_none kind.TooLong (too_long items)
     (or_none (refused kind.OffsetRange (offset_range items)) (refused kind.TooLong (too_long items))

@@ -8,3 +8,8 @@ pub mod PoolKinds
 pub mod KeptEntries
 pub mod Walk
 pub mod KeptAddresses
+pub mod KeptUnits
+pub mod Straight
+pub mod Resolved
+pub mod Branches
+pub mod BranchDraft

@@ -14,7 +14,7 @@ pub record Reaches (items : List Item) (k end : ℕ) (next : List Item) : Type 0
   pub labels : (j : ℕ) → j < k → IsNamedBy (item_at items j).what (address_of items j)
   pub rest : drop k items ≡ next
 
-first_of : (items : List Item) (k : ℕ) (item : Item) (next : List Item) → drop k items ≡ item ∷ next → item_at items k ≡ item
+pub first_of : (items : List Item) (k : ℕ) (item : Item) (next : List Item) → drop k items ≡ item ∷ next → item_at items k ≡ item
 first_of items k item next e =
     let here : get_or (drop k items) 0 no_item ≡ get_or items k no_item = get_or-drop k items 0 no_item ∙ ap (λ j. get_or items j no_item) (add-zero k) in
     sym here ∙ ap (λ xs. get_or xs 0 no_item) e

@@ -1,6 +1,6 @@
 -- The laws of labels, and of drafts and their layout.
-use Rattle.std.specs.Prelude.{ℕ, zero, suc, ◌≡◌, ◌<◌, ◌^◌, nat_lt, List, [], ◌∷◌, ◌++◌, length, All, None, Ok, IsTrue, if◌then◌else◌}
-use Rattle.std.specs.List.{flat_map}
+use Rattle.std.specs.Prelude.{ℕ, zero, suc, ◌≡◌, ◌<◌, ◌≤◌, ◌^◌, nat_lt, List, [], ◌∷◌, ◌++◌, length, All, Some, None, Ok, IsTrue, if◌then◌else◌}
+use Rattle.std.specs.List.{flat_map, slice_get}
 use Rattle.dv_defs.specs.declared.code.Payload.TheVariants as payload
 use Rattle.dv_defs.specs.Spelling.{plain, few, all_fit, fits_signed}
 use Rattle.dv_defs.specs.Payloads.{all_fit_signed}
@@ -14,11 +14,11 @@ use Rattle.dv_asm.specs.declared.draft.PoolRef.{PoolRef}
 use Rattle.dv_asm.specs.declared.draft.PoolRef.TheVariants as pool
 use Rattle.dv_asm.specs.Draft.{DraftValue, AreFormed}
 use Rattle.dv_asm.specs.Items.{item_at, size_of}
-use Rattle.dv_asm.specs.Places.{address_of, end_of, size_of_all}
-use Rattle.dv_asm.specs.Refusals.{item_refusal}
+use Rattle.dv_asm.specs.Places.{address_of, end_of, size_of_all, label_address}
+use Rattle.dv_asm.specs.Refusals.{label_refusal, item_refusal}
 use Rattle.dv_print.specs.Numbers.{label_name}
 use Rattle.dv_asm.specs.Pools.{pool_ref}
-use Rattle.dv_asm.specs.Layout.{insn_of, packed_of, sparse_of, pools_of, units_of, layout}
+use Rattle.dv_asm.specs.Layout.{insn_of, packed_of, sparse_of, pools_of, units_of, body_of, layout}
 use Rattle.dv_print.specs.Drafting.{draft_of}
 
 -- No two addresses have the same label.
@@ -99,3 +99,25 @@ abbrev pub DraftKeepsAddresses : Type 0
 DraftKeepsAddresses =
     (d : DraftValue) → AreFormed d.items → HaveNumbers d.items → item_refusal d.items ≡ None →
     IsTrue (all_fit 16 (layout d).units) → KeepsAddresses (draft_of (layout d)).items (layout d).units
+
+-- A label that stands in the draft of a laid-out body leads to the address of its name.
+abbrev pub LabelsLead : Type 0
+LabelsLead =
+    (items : List Item) (units : List ℕ) (a j : ℕ) → KeepsAddresses items units → length units ≤ 16384 → a ≤ 16384 →
+    slice_get items j ≡ Some (record { line = 0; what = what.Label (label_name a) }) → label_address items (label_name a) ≡ a
+
+-- no payload of a switch
+abbrev pub IsUnswitched : What → Type 0
+IsUnswitched (what.Label name) = Unit {0}
+IsUnswitched (what.Op op) = Unit {0}
+IsUnswitched (what.Packed first targets) = ⊥
+IsUnswitched (what.Sparse keys targets) = ⊥
+IsUnswitched (what.Data width bytes) = Unit {0}
+
+-- The draft that is made of a laid-out body is laid out as that body, where the body has no payloads of switches and no
+-- handlers.
+abbrev pub BranchDraftIsKept : Type 0
+BranchDraftIsKept =
+    (registers : ℕ) (items : List Item) → AreFormed items → HaveNumbers items → label_refusal items [] ≡ None → item_refusal items ≡ None →
+    IsTrue (all_fit 16 (body_of registers items []).units) → All (λ (item : Item). IsUnswitched item.what) items →
+    layout (draft_of (body_of registers items [])) ≡ body_of registers items []

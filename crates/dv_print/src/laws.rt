@@ -1,5 +1,5 @@
 // The laws of labels, and of drafts and their layout.
-ghost use Rattle.dv_print.specs.Laws.{LabelsAreDistinct, LayoutIsTiled, DraftKeepsEntries, DraftKeepsAddresses};
+ghost use Rattle.dv_print.specs.Laws.{LabelsAreDistinct, LayoutIsTiled, DraftKeepsEntries, DraftKeepsAddresses, LabelsLead, BranchDraftIsKept};
 
 /// No two addresses have the same label.
 pub fn labels_are_distinct()
@@ -22,4 +22,15 @@ pub fn draft_keeps_entries()
 /// where the body ends.
 pub fn draft_keeps_addresses()
     ensures { DraftKeepsAddresses }
+{}
+
+/// A label that stands in the draft of a laid-out body leads to the address of its name.
+pub fn labels_lead()
+    ensures { LabelsLead }
+{}
+
+/// The draft that is made of a laid-out body is laid out as that body, where the body has no payloads of switches and
+/// no handlers.
+pub fn branch_draft_is_kept()
+    ensures { BranchDraftIsKept }
 {}

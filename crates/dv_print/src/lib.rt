@@ -19,4 +19,7 @@ mod references;
 mod tests;
 
 pub use class::print_class;
-pub use laws::{draft_keeps_addresses, draft_keeps_entries, labels_are_distinct, layout_is_tiled};
+pub use laws::{
+    branch_draft_is_kept, draft_keeps_addresses, draft_keeps_entries, labels_are_distinct,
+    labels_lead, layout_is_tiled,
+};
