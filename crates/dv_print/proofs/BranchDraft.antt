@@ -34,7 +34,8 @@ use Rattle.dv_print.specs.Named.{target_of, named_by_try, addresses_named}
 use Rattle.dv_print.specs.Drafting.{pool_of, entry_in, op_of, items_from, labels_at, with_no_line, draft_of}
 use Rattle.dv_print.specs.Laws.{HaveNumbers, KeepsAddresses, IsUnswitched, nops_before, tiles_at, tiles_to}
 use Rattle.dv_print.proofs.KeptEntries.{HasPools, own_entry, has_pools, small_opcode, draft_items, units_are, pieces_are, draft_keeps_entries}
-use Rattle.dv_print.proofs.KeptAddresses.{next_items, tiles_are, even_to, draft_keeps_addresses}
+use Rattle.dv_print.proofs.PieceItems.{next_items, even_to}
+use Rattle.dv_print.proofs.KeptAddresses.{tiles_are, draft_keeps_addresses}
 use Rattle.dv_print.proofs.KeptUnits.{AreSpelledAs, units_kept}
 use Rattle.dv_print.proofs.LaidOut.{tiled_to, are_short}
 use Rattle.dv_print.proofs.Resolved.{HasAt, Stands, stands_in, later_in, label_here, leads_there}

@@ -19,7 +19,7 @@ use Rattle.dv_print.specs.declared.pieces.Piece.{Piece}
 use Rattle.dv_print.specs.Named.{target_of, named_by_piece}
 use Rattle.dv_print.specs.Pieces.{piece_of}
 use Rattle.dv_print.specs.Laws.{tile, nops_before, tiles_at, tiles_to}
-use Rattle.dv_print.proofs.KeptAddresses.{aligned_again}
+use Rattle.dv_print.proofs.PieceItems.{aligned_again}
 use Rattle.dv_print.proofs.Walk.{stays}
 use Rattle.dv_print.proofs.Resolved.{HasAt}
 
@@ -103,20 +103,23 @@ pub any_left : (p q : Bool) → p ≡ true → (p || q) ≡ true
 any_left true q e = refl
 any_left false q e = absurd (cc)
 
-any_right : (p q : Bool) → q ≡ true → (p || q) ≡ true
+pub any_right : (p q : Bool) → q ≡ true → (p || q) ≡ true
 any_right true q e = refl
 any_right false q e = e
 
 itself : (a : ℕ) → nat_eq a a ≡ true
 itself a = grind (arith, nat_tests)
 
-pub named_in : (all : List Piece) (at size a : ℕ) (i : Insn) (ts : List Tile) → target_of at i ≡ Some a → Mem (tile at size (IsInsn i)) ts → list_any (λ n. nat_eq n a) (flat_map (named_by_piece all) (map piece_of ts)) ≡ true
-named_in all at size a i [] e h = absurd h
-named_in all at size a i (s ∷ ts) e (inl same) =
-    let rest = flat_map (named_by_piece all) (map piece_of ts) in
-    let here : named_by_piece all (piece_of s) ≡ a ∷ [] = ap (λ x. named_by_piece all (piece_of x)) same ∙ ap (λ o. option_to_list o) e in
-    list_any-append (λ n. nat_eq n a) (named_by_piece all (piece_of s)) rest ∙
-    any_left _ _ (ap (list_any (λ n. nat_eq n a)) here ∙ any_left (nat_eq a a) false (itself a))
-named_in all at size a i (s ∷ ts) e (inr later) =
+-- what the piece of a tile names is among what all pieces name
+pub named_by_tile : (all : List Piece) (a : ℕ) (t : Tile) (ts : List Tile) → list_any (λ n. nat_eq n a) (named_by_piece all (piece_of t)) ≡ true → Mem t ts → list_any (λ n. nat_eq n a) (flat_map (named_by_piece all) (map piece_of ts)) ≡ true
+named_by_tile all a t [] e h = absurd h
+named_by_tile all a t (s ∷ ts) e (inl same) =
     list_any-append (λ n. nat_eq n a) (named_by_piece all (piece_of s)) (flat_map (named_by_piece all) (map piece_of ts)) ∙
-    any_right _ _ (named_in all at size a i ts e later)
+    any_left _ _ (ap (λ x. list_any (λ n. nat_eq n a) (named_by_piece all (piece_of x))) same ∙ e)
+named_by_tile all a t (s ∷ ts) e (inr later) =
+    list_any-append (λ n. nat_eq n a) (named_by_piece all (piece_of s)) (flat_map (named_by_piece all) (map piece_of ts)) ∙
+    any_right _ _ (named_by_tile all a t ts e later)
+
+pub named_in : (all : List Piece) (at size a : ℕ) (i : Insn) (ts : List Tile) → target_of at i ≡ Some a → Mem (tile at size (IsInsn i)) ts → list_any (λ n. nat_eq n a) (flat_map (named_by_piece all) (map piece_of ts)) ≡ true
+named_in all at size a i ts e h =
+    named_by_tile all a (tile at size (IsInsn i)) ts (ap (λ o. list_any (λ n. nat_eq n a) (option_to_list o)) e ∙ any_left (nat_eq a a) false (itself a)) h

@@ -1,5 +1,5 @@
 -- Layout of the draft that is made of a laid-out body writes the body's units, where each piece is spelled as it was.
-use Rattle.std.proofs.Common.{◌≡◌, ℕ, ◌+◌, ◌-◌, ◌%◌, ◌<◌, ◌≤◌, suc, Bool, true, false, List, [], ◌∷◌, ◌++◌, length, map, take, drop, nat_lt, nat_eq, Some, if◌then◌else◌, refl, ap, sym, ◌∙◌, subst, arith, length-drop}
+use Rattle.std.proofs.Common.{◌≡◌, ℕ, ◌+◌, ◌-◌, ◌%◌, ◌<◌, ◌≤◌, suc, Bool, true, false, List, [], ◌∷◌, ◌++◌, length, map, take, drop, nat_lt, Some, if◌then◌else◌, refl, ap, sym, ◌∙◌, subst, arith, length-drop}
 use Rattle.std.specs.Option.{unwrap_or}
 use Rattle.std.proofs.lemmas.Bool.{eqb-true}
 use Rattle.std.proofs.lemmas.Bool.Decides.{nat_tests}
@@ -23,14 +23,14 @@ use Rattle.dv_print.specs.declared.pieces.Piece.{Piece}
 use Rattle.dv_print.specs.Numbers.{label_name}
 use Rattle.dv_print.specs.Pieces.{part_of, piece_of}
 use Rattle.dv_print.specs.Named.{is_named}
-use Rattle.dv_print.specs.Drafting.{part_item, piece_item, with_no_line, labels_at, is_nop, is_payload_part, is_aligning, items_from}
+use Rattle.dv_print.specs.Drafting.{part_item, piece_item, with_no_line, labels_at, is_nop, is_aligning, items_from}
 use Rattle.dv_print.specs.Laws.{IsNamedBy}
 use Rattle.dv_print.proofs.Walk.{Reaches, first_of, one_item, stays, moves}
-use Rattle.dv_print.proofs.KeptAddresses.{EvenPayloads, parts, leads, not_label, aligned_again, tile_size, regroup, next_items, piece_if, nop_size, payload_stays, last_stays}
+use Rattle.dv_print.proofs.PieceItems.{EvenPayloads, leads, not_label, aligned_again, tile_size, regroup, next_items, piece_if, payload_stays, last_stays, aligns}
 
 -- the first items reach an address, and their units are the first of a body's
 record Writes (items : List Item) (pools : Pools) (units : List ℕ) (k end : ℕ) (next : List Item) : Type 0 where
-  reaches : Reaches items k end next
+  reaches : Reaches IsNamedBy items k end next
   written : units_of items pools k ≡ take end units
 
 pad_none : (n : ℕ) (units : List ℕ) → n ≤ length units → padded n (take n units) ≡ take n units
@@ -53,10 +53,10 @@ write_item items pools units k end address size item next w place same named pad
     let here = first_of items k item next r.rest in
     let at : address_of items k ≡ address = ap (λ n. aligned n (drop k items)) r.ends ∙ (ap (aligned end) r.rest ∙ place) in
     let P : ℕ → Type 0 = λ n. IsNamedBy item.what n in
-    let Q : ℕ → Type 0 = λ n. Reaches items (suc k) n next in
+    let Q : ℕ → Type 0 = λ n. Reaches IsNamedBy items (suc k) n next in
     let ends : aligned end (item ∷ next) + size_of item.what ≡ address + size = omega (arith, place, same) in
     record {
-      reaches = subst Q ends (one_item items k end item next r (subst P (sym place) named));
+      reaches = subst Q ends (one_item IsNamedBy items k end item next r (subst P (sym place) named));
       written =
           ap (λ n. padded n (units_of items pools k) ++ unwrap_or (spelling_of items pools k (item_at items k).what) []) at ∙
           (ap (λ us. padded address us ++ unwrap_or (spelling_of items pools k (item_at items k).what) []) w.written ∙
@@ -148,22 +148,19 @@ nop_step : (b : BodyValue) (all : List Piece) (named : List ℕ) (final items : 
 nop_step b all named final items pools units t t2 ts c later us k end within here tiles even spelled w =
     let x = piece_item b all (piece_of t2) in
     let more = next_items b all named final ts in
-    let odd_and = parts (nat_eq (t.at % 2) 1) _ c in
-    let nop_and = parts (is_nop (part_of t.item)) _ odd_and.1 in
-    let payload = (parts (is_payload_part (part_of t2.item)) _ nop_and.1).0 in
-    let odd : end % 2 ≡ 1 = sym (ap (λ n. n % 2) tiles.0) ∙ eqb-true (t.at % 2) 1 odd_and.0 in
-    let one : t.size ≡ 1 = nop_size t.item us t.size nop_and.0 tiles.2 tiles.1 in
+    let a = aligns named t t2 ts us end c tiles in
+    let one = a.one in
     let rest = tiles.3 in
-    let at2 : t2.at ≡ end + 1 = rest.0 ∙ ap (λ n. end + n) one in
-    let moved : aligned end (x ∷ more) ≡ end + 1 = moves end (x ∷ more) (leads b all t2.at t2.item more ∙ payload) odd in
+    let at2 = a.second in
+    let moved : aligned end (x ∷ more) ≡ end + 1 = moves end (x ∷ more) (leads b all t2.at t2.item more ∙ a.payload) a.odd in
     let left : length us ≡ length units - end = sym (ap length here) ∙ length-drop end units in
-    let nop : take 1 (drop end units) ≡ 0 ∷ [] = ap (take 1) here ∙ (ap (λ n. take n us) (sym one) ∙ nop_spelled t.item (take t.size us) nop_and.0 tiles.2) in
+    let nop : take 1 (drop end units) ≡ 0 ∷ [] = ap (take 1) here ∙ (ap (λ n. take n us) (sym one) ∙ nop_spelled t.item (take t.size us) a.nop tiles.2) in
     let pad : padded t2.at (take end units) ≡ take t2.at units = ap (λ n. padded n (take end units)) at2 ∙ (pad_one end units within nop ∙ ap (λ n. take n units) (sym at2)) in
     let there : drop t2.at units ≡ drop t.size us = ap (λ n. drop n units) rest.0 ∙ (sym (drop-drop t.size end units) ∙ ap (drop t.size) here) in
     let P : List Item → Type 0 = λ xs. Writes items pools units k end xs in
     let dropped : next_items b all named final (t ∷ t2 ∷ ts) ≡ next_items b all named final (t2 ∷ ts) =
     ap (λ d. (piece_if d (labels_at named t.at) (piece_item b all (piece_of t)) ++ items_from b all named (map piece_of (t2 ∷ ts))) ++ final) c in
-    let (m, next) = kept_piece b all named final items pools units t2 ts (drop t.size us) k end (payload_stays named t2.item t2.at (map piece_of ts) payload) (moved ∙ sym at2) there (omega (arith, at2, left, within, tiles.1, one)) rest.1 rest.2 spelled.1.0 pad (subst P dropped w) in
+    let (m, next) = kept_piece b all named final items pools units t2 ts (drop t.size us) k end (payload_stays named t2.item t2.at (map piece_of ts) a.payload) (moved ∙ sym at2) there (omega (arith, at2, left, within, tiles.1, one)) rest.1 rest.2 spelled.1.0 pad (subst P dropped w) in
     let Q : ℕ → Type 0 = λ n. Writes items pools units m n more in
     let place : t2.at + t2.size ≡ end + t.size + t2.size = ap (λ n. n + t2.size) rest.0 in
     let after : drop (end + t.size + t2.size) units ≡ drop t2.size (drop t.size us) =
@@ -204,7 +201,7 @@ pub units_kept : (b : BodyValue) (all : List Piece) (named : List ℕ) (items : 
 units_kept b all named items pools ts start tiles even spelled =
     let final = labels_at named (length b.units) in
     let first : Writes items pools b.units 0 0 (next_items b all named final ts) = record {
-      reaches = record { within = omega arith; ends = refl; labels = λ j h. absurd (omega arith); rest = start };
+      reaches = record { within = omega arith; ends = refl; placed = λ j h. absurd (omega arith); rest = start };
       written = refl;
     } in
     let (k, w) = goes b all named final items pools b.units ts b.units 0 0 (omega arith) refl tiles even spelled first in

@@ -7,9 +7,15 @@ pub mod Entries
 pub mod PoolKinds
 pub mod KeptEntries
 pub mod Walk
+pub mod PieceItems
+pub mod Placed
 pub mod KeptAddresses
 pub mod KeptUnits
 pub mod Straight
 pub mod Resolved
 pub mod Branches
+pub mod Switches
+pub mod KnownDraft
+pub mod Rebased
+pub mod SpelledAgain
 pub mod BranchDraft

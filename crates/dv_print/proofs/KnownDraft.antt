@@ -1,0 +1,86 @@
+-- What is known of the draft that is made of a laid-out body: where its labels stand and where they lead.
+use Rattle.std.proofs.Common.{◌≡◌, ℕ, ◌+◌, ◌-◌, ◌<◌, ◌≤◌, zero, suc, ℤ, pos, ◌-ℤ◌, Bool, true, false, not, ◌⊎◌, inl, inr, List, [], ◌∷◌, ◌++◌, length, map, nat_lt, nat_eq, Option, Some, None, is_some, All, IsTrue, if◌then◌else◌, refl, ap, sym, ◌∙◌, subst, arith}
+use Rattle.std.specs.Prelude.{option_map}
+use Rattle.std.specs.Option.{option_map_or, option_or}
+use Rattle.std.specs.List.{slice_get, flat_map, list_any}
+use Rattle.std.proofs.lemmas.List.Folds.{list_any-append}
+use Rattle.std.proofs.lemmas.List.Quantifiers.{position-Some}
+use Rattle.dv_defs.specs.declared.code.Insn.{Insn}
+use Rattle.dv_defs.specs.declared.faults.LineKind.TheVariants as kind
+use Rattle.dv_defs.specs.Body.{BodyValue}
+use Rattle.dv_defs.specs.Numbers.{jump}
+use Rattle.dv_defs.specs.Spelling.{all_fit, spelling}
+use Rattle.dv_defs.specs.Tiling.{Tile}
+use Rattle.dv_asm.specs.declared.draft.Item.{Item}
+use Rattle.dv_asm.specs.declared.draft.Draftop.{Draftop}
+use Rattle.dv_asm.specs.declared.draft.What.{What}
+use Rattle.dv_asm.specs.declared.draft.What.TheVariants as what
+use Rattle.dv_asm.specs.Draft.{DraftValue, AreFormed, IsFormed, IsOp, blank}
+use Rattle.dv_asm.specs.Items.{item_at, no_item, is_named}
+use Rattle.dv_asm.specs.Places.{address_of, end_of, place_of, label_address, distance}
+use Rattle.dv_asm.specs.Refusals.{refused, label_twice, no_label, no_label_at, has_label, has_labels, has_label_if_any, label_refusal, item_refusal, too_long}
+use Rattle.dv_asm.specs.First.{first_line, earlier}
+use Rattle.dv_asm.proofs.FirstLemmas.{first_line_none, not_when}
+use Rattle.dv_asm.proofs.Writing.{are_writable}
+use Rattle.dv_print.proofs.Entries.{appended}
+use Rattle.dv_asm.specs.Pools.{index_of}
+use Rattle.dv_asm.specs.Layout.{insn_of, offset_of, pools_of, units_of, body_of, layout}
+use Rattle.dv_asm.proofs.PlaceLemmas.{ends_within, label_within}
+use Rattle.dv_print.specs.declared.pieces.Piece.{Piece}
+use Rattle.dv_print.specs.Numbers.{label_name}
+use Rattle.dv_print.specs.Operands.{has_offset}
+use Rattle.dv_print.specs.Pieces.{piece_of, pieces_of}
+use Rattle.dv_print.specs.Named as named
+use Rattle.dv_print.specs.Named.{named_by_piece, named_by_try, addresses_named}
+use Rattle.dv_print.specs.Drafting.{pool_of, entry_in, op_of, items_from, labels_at, with_no_line, draft_of}
+use Rattle.dv_print.specs.Laws.{HaveNumbers, KeepsAddresses, IsUnswitched, nops_before, tiles_at, tiles_to}
+use Rattle.dv_print.proofs.KeptEntries.{HasPools, own_entry, has_pools, small_opcode, draft_items, units_are, pieces_are, draft_keeps_entries}
+use Rattle.dv_print.proofs.PieceItems.{next_items, even_to}
+use Rattle.dv_print.proofs.KeptAddresses.{tiles_are, draft_keeps_addresses}
+use Rattle.dv_print.proofs.KeptUnits.{AreSpelledAs, units_kept}
+use Rattle.dv_print.proofs.LaidOut.{tiled_to, are_short}
+use Rattle.dv_print.proofs.Resolved.{HasAt, Stands, stands_in, later_in, label_here, leads_there}
+use Rattle.dv_print.proofs.Branches.{Mem, placed, named_by_tile, any_left}
+use Rattle.dv_print.proofs.Straight.{same_offsets, spelled_append, insn_by, offset_none, nops_by, same_insn, bodies, draft_is}
+
+-- what is known of the draft that is made of a laid-out body
+pub record Known (items after : List Item) (b : BodyValue) (all : List Piece) (names : List ℕ) : Type 0 where
+  pub short : length b.units ≤ 16384
+  pub ends : end_of items (length items) ≡ length b.units
+  pub pieces : all ≡ map piece_of (tiles_to items (pools_of items) (length items))
+  pub names_are : names ≡ addresses_named all b.tries
+  pub start : after ≡ items_from b all names (map piece_of (tiles_to items (pools_of items) (length items))) ++ labels_at names (length b.units)
+  pub kept : KeepsAddresses after b.units
+  pub pools : HasPools b items
+
+-- an address that is named has its label
+pub stands_after : (items after : List Item) (b : BodyValue) (all : List Piece) (names : List ℕ) (a : ℕ) → Known items after b all names → named.is_named names a ≡ true → HasAt a (tiles_to items (pools_of items) (length items)) ⊎ (a ≡ length b.units) → Stands a after
+stands_after items after b all names a h e (inl at) =
+    let found = stands_in b all names a (tiles_to items (pools_of items) (length items)) e at in
+    (found.0, ap (λ xs. slice_get xs found.0) h.start ∙ appended _ _ found.0 _ found.1)
+stands_after items after b all names a h e (inr at) =
+    let front = items_from b all names (map piece_of (tiles_to items (pools_of items) (length items))) in
+    let here : labels_at names (length b.units) ≡ with_no_line (what.Label (label_name a)) ∷ [] =
+    ap (labels_at names) (sym at) ∙ label_here names a e in
+    (length front + 0, ap (λ xs. slice_get xs (length front + 0)) h.start ∙ later_in front (labels_at names (length b.units)) 0 _ (ap (λ xs. slice_get xs 0) here))
+
+label_placed : (items : List Item) (name : List ℕ) (place : Option ℕ) → place_of items name ≡ place → is_some place ≡ true → (j : ℕ) × (j < length items) × (label_address items name ≡ address_of items j)
+label_placed items name None e h = absurd (cc)
+label_placed items name (Some j) e h = (j, (position-Some (is_named name) items j no_item e).0, ap (λ o. option_map_or (address_of items) o 0) e)
+
+-- a label that an item names and that is among the addresses that are named leads to its address
+pub leads_to : (items after : List Item) (b : BodyValue) (all : List Piece) (names : List ℕ) (name : List ℕ) → Known items after b all names → too_long items ≡ None → has_label items name ≡ true → named.is_named names (label_address items name) ≡ true → label_address after (label_name (label_address items name)) ≡ label_address items name
+leads_to items after b all names name h short has listed =
+    let to = label_address items name in
+    let place = label_placed items name (place_of items name) refl has in
+    let spot = placed items (pools_of items) (length b.units) (length items - place.0) place.0 h.ends (omega (arith, place.1)) in
+    let P : ℕ → Type 0 = λ n. HasAt n (tiles_to items (pools_of items) (length items)) ⊎ (n ≡ length b.units) in
+    let stands = stands_after items after b all names to h listed (subst P (sym place.2) spot) in
+    leads_there after b.units to stands.0 h.kept h.short (label_within items name short) stands.1
+
+-- what a tile names is among the addresses that are named
+pub tile_listed : (items after : List Item) (b : BodyValue) (all : List Piece) (names : List ℕ) (a : ℕ) (t : Tile) → Known items after b all names → list_any (λ n. nat_eq n a) (named_by_piece all (piece_of t)) ≡ true → Mem t (tiles_to items (pools_of items) (length items)) → named.is_named names a ≡ true
+tile_listed items after b all names a t h e mem =
+    ap (λ ns. named.is_named ns a) h.names_are ∙
+    (list_any-append (λ n. nat_eq n a) (flat_map (named_by_piece all) all) (flat_map named_by_try b.tries) ∙
+    any_left _ _ (ap (λ ps. list_any (λ n. nat_eq n a) (flat_map (named_by_piece all) ps)) h.pieces ∙ named_by_tile all a t (tiles_to items (pools_of items) (length items)) e mem))
