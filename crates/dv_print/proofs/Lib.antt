@@ -13,3 +13,5 @@ pub mod Straight
 pub mod Resolved
 pub mod Branches
 pub mod BranchDraft
+pub mod SortedRanges
+pub mod KeptHandlers
