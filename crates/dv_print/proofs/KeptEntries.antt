@@ -182,7 +182,7 @@ items_entries b all named =
 
 -- ---- the pools
 
-kinds_kept : (items : List Item) (catches : List Catch) (rs : List TryRange) (ts : List Ty) (j : ℕ) (t : Ty) → slice_get ts j ≡ Some t → slice_get (with_kinds items catches ts rs) j ≡ Some t
+pub kinds_kept : (items : List Item) (catches : List Catch) (rs : List TryRange) (ts : List Ty) (j : ℕ) (t : Ty) → slice_get ts j ≡ Some t → slice_get (with_kinds items catches ts rs) j ≡ Some t
 kinds_kept items catches [] ts j t e = e
 kinds_kept items catches (r ∷ rs) ts j t e = kinds_kept items catches rs (with_entries ty_eq (kind_in items r) ts catches) j t (kept ty_eq (kind_in items r) ts catches j t e)
 

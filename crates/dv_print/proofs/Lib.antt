@@ -19,3 +19,5 @@ pub mod KnownDraft
 pub mod Rebased
 pub mod SpelledAgain
 pub mod BranchDraft
+pub mod SortedRanges
+pub mod KeptHandlers
