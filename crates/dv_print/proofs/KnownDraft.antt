@@ -1,47 +1,29 @@
 -- What is known of the draft that is made of a laid-out body: where its labels stand and where they lead.
-use Rattle.std.proofs.Common.{◌≡◌, ℕ, ◌+◌, ◌-◌, ◌<◌, ◌≤◌, zero, suc, ℤ, pos, ◌-ℤ◌, Bool, true, false, not, ◌⊎◌, inl, inr, List, [], ◌∷◌, ◌++◌, length, map, nat_lt, nat_eq, Option, Some, None, is_some, All, IsTrue, if◌then◌else◌, refl, ap, sym, ◌∙◌, subst, arith}
-use Rattle.std.specs.Prelude.{option_map}
-use Rattle.std.specs.Option.{option_map_or, option_or}
+use Rattle.std.proofs.Common.{◌≡◌, ℕ, ◌+◌, ◌-◌, ◌<◌, ◌≤◌, true, ◌⊎◌, inl, inr, List, [], ◌∷◌, ◌++◌, length, map, nat_eq, Option, Some, None, is_some, refl, ap, sym, ◌∙◌, subst, arith}
+use Rattle.std.specs.Option.{option_map_or}
 use Rattle.std.specs.List.{slice_get, flat_map, list_any}
 use Rattle.std.proofs.lemmas.List.Folds.{list_any-append}
 use Rattle.std.proofs.lemmas.List.Quantifiers.{position-Some}
-use Rattle.dv_defs.specs.declared.code.Insn.{Insn}
-use Rattle.dv_defs.specs.declared.faults.LineKind.TheVariants as kind
 use Rattle.dv_defs.specs.Body.{BodyValue}
-use Rattle.dv_defs.specs.Numbers.{jump}
-use Rattle.dv_defs.specs.Spelling.{all_fit, spelling}
 use Rattle.dv_defs.specs.Tiling.{Tile}
 use Rattle.dv_asm.specs.declared.draft.Item.{Item}
-use Rattle.dv_asm.specs.declared.draft.Draftop.{Draftop}
-use Rattle.dv_asm.specs.declared.draft.What.{What}
 use Rattle.dv_asm.specs.declared.draft.What.TheVariants as what
-use Rattle.dv_asm.specs.Draft.{DraftValue, AreFormed, IsFormed, IsOp, blank}
-use Rattle.dv_asm.specs.Items.{item_at, no_item, is_named}
-use Rattle.dv_asm.specs.Places.{address_of, end_of, place_of, label_address, distance}
-use Rattle.dv_asm.specs.Refusals.{refused, label_twice, no_label, no_label_at, has_label, has_labels, has_label_if_any, label_refusal, item_refusal, too_long}
-use Rattle.dv_asm.specs.First.{first_line, earlier}
-use Rattle.dv_asm.proofs.FirstLemmas.{first_line_none, not_when}
-use Rattle.dv_asm.proofs.Writing.{are_writable}
+use Rattle.dv_asm.specs.Items.{no_item, is_named}
+use Rattle.dv_asm.specs.Places.{address_of, end_of, place_of, label_address}
+use Rattle.dv_asm.specs.Refusals.{has_label, too_long}
 use Rattle.dv_print.proofs.Entries.{appended}
-use Rattle.dv_asm.specs.Pools.{index_of}
-use Rattle.dv_asm.specs.Layout.{insn_of, offset_of, pools_of, units_of, body_of, layout}
-use Rattle.dv_asm.proofs.PlaceLemmas.{ends_within, label_within}
+use Rattle.dv_asm.specs.Layout.{pools_of}
+use Rattle.dv_asm.proofs.PlaceLemmas.{label_within}
 use Rattle.dv_print.specs.declared.pieces.Piece.{Piece}
 use Rattle.dv_print.specs.Numbers.{label_name}
-use Rattle.dv_print.specs.Operands.{has_offset}
-use Rattle.dv_print.specs.Pieces.{piece_of, pieces_of}
+use Rattle.dv_print.specs.Pieces.{piece_of}
 use Rattle.dv_print.specs.Named as named
 use Rattle.dv_print.specs.Named.{named_by_piece, named_by_try, addresses_named}
-use Rattle.dv_print.specs.Drafting.{pool_of, entry_in, op_of, items_from, labels_at, with_no_line, draft_of}
-use Rattle.dv_print.specs.Laws.{HaveNumbers, KeepsAddresses, IsUnswitched, nops_before, tiles_at, tiles_to}
-use Rattle.dv_print.proofs.KeptEntries.{HasPools, own_entry, has_pools, small_opcode, draft_items, units_are, pieces_are, draft_keeps_entries}
-use Rattle.dv_print.proofs.PieceItems.{next_items, even_to}
-use Rattle.dv_print.proofs.KeptAddresses.{tiles_are, draft_keeps_addresses}
-use Rattle.dv_print.proofs.KeptUnits.{AreSpelledAs, units_kept}
-use Rattle.dv_print.proofs.LaidOut.{tiled_to, are_short}
+use Rattle.dv_print.specs.Drafting.{items_from, labels_at, with_no_line}
+use Rattle.dv_print.specs.Laws.{KeepsAddresses, tiles_to}
+use Rattle.dv_print.proofs.KeptEntries.{HasPools}
 use Rattle.dv_print.proofs.Resolved.{HasAt, Stands, stands_in, later_in, label_here, leads_there}
 use Rattle.dv_print.proofs.Branches.{Mem, placed, named_by_tile, any_left}
-use Rattle.dv_print.proofs.Straight.{same_offsets, spelled_append, insn_by, offset_none, nops_by, same_insn, bodies, draft_is}
 
 -- what is known of the draft that is made of a laid-out body
 pub record Known (items after : List Item) (b : BodyValue) (all : List Piece) (names : List ℕ) : Type 0 where

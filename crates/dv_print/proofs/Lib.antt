@@ -18,6 +18,6 @@ pub mod Switches
 pub mod KnownDraft
 pub mod Rebased
 pub mod SpelledAgain
-pub mod BranchDraft
 pub mod SortedRanges
 pub mod KeptHandlers
+pub mod KeptDraft

@@ -1,5 +1,5 @@
 -- A payload's targets count from the same address in the draft that is made of a laid-out body as in the draft before it.
-use Rattle.std.proofs.Common.{◌≡◌, ℕ, ◌+◌, ◌<◌, ◌≤◌, zero, suc, Bool, true, false, ◌&&◌, ◌⊎◌, inl, inr, List, [], ◌∷◌, ◌++◌, length, map, get_or, position, nat_eq, nat_lt, cond, Option, Some, None, if◌then◌else◌, refl, ap, sym, ◌∙◌, subst, arith}
+use Rattle.std.proofs.Common.{◌≡◌, ℕ, ◌+◌, ◌<◌, Bool, true, false, ◌⊎◌, inl, inr, List, [], ◌∷◌, ◌++◌, length, map, get_or, position, nat_eq, cond, Option, Some, None, if◌then◌else◌, refl, ap, sym, ◌∙◌, arith}
 use Rattle.std.specs.Prelude.{option_map}
 use Rattle.std.specs.Option.{option_map_or}
 use Rattle.std.specs.List.{slice_get, position_or_len}
@@ -102,7 +102,7 @@ label_of a true name e = cc
 label_of a false name e = absurd (cc)
 
 -- a switch has an offset
-switch_offset : (op : ℕ) → is_switch_opcode op ≡ true → has_offset op ≡ true
+pub switch_offset : (op : ℕ) → is_switch_opcode op ≡ true → has_offset op ≡ true
 unfolding has_offset
 switch_offset op e = at (either (nat_eq op 0x2b) (nat_eq op 0x2c) e)
   where

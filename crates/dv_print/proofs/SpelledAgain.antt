@@ -1,53 +1,39 @@
 -- The draft that is made of a laid-out body is spelled as that body.
-use Rattle.std.proofs.Common.{◌≡◌, ℕ, ◌+◌, ◌-◌, ◌<◌, ◌≤◌, zero, suc, ℤ, pos, ◌-ℤ◌, Bool, true, false, not, ◌&&◌, ◌⊎◌, inl, inr, List, [], ◌∷◌, ◌++◌, length, map, nat_lt, nat_eq, Option, Some, None, is_some, All, IsTrue, if◌then◌else◌, refl, ap, sym, ◌∙◌, subst, arith}
+use Rattle.std.proofs.Common.{◌≡◌, ℕ, ◌<◌, ◌≤◌, zero, suc, ℤ, pos, ◌-ℤ◌, Bool, true, false, ◌&&◌, List, [], ◌∷◌, length, map, nat_lt, nat_eq, Option, Some, None, is_some, if◌then◌else◌, refl, ap, sym, ◌∙◌, subst, arith}
 use Rattle.std.specs.Prelude.{option_map}
-use Rattle.std.specs.Option.{option_map_or, option_or}
 use Rattle.std.specs.List.{list_any, list_all}
 use Rattle.std.specs.Option.{option_to_list}
 use Rattle.std.proofs.lemmas.Bool.Decides.{nat_tests}
-use Rattle.std.proofs.lemmas.List.Folds.{list_any-append}
-use Rattle.std.proofs.lemmas.List.Quantifiers.{position-Some}
 use Rattle.dv_defs.specs.declared.code.Insn.{Insn}
 use Rattle.dv_defs.specs.declared.code.Payload.{Payload}
 use Rattle.dv_defs.specs.declared.code.Payload.TheVariants as payload
 use Rattle.dv_defs.specs.Payloads.{payload_spelling}
 use Rattle.dv_defs.specs.Tiling.{IsInsn, IsPayload}
-use Rattle.dv_defs.specs.declared.faults.LineKind.TheVariants as kind
 use Rattle.dv_defs.specs.Body.{BodyValue}
 use Rattle.dv_defs.specs.Numbers.{jump}
-use Rattle.dv_defs.specs.Spelling.{all_fit, spelling}
+use Rattle.dv_defs.specs.Spelling.{spelling}
 use Rattle.dv_asm.specs.declared.draft.Item.{Item}
 use Rattle.dv_asm.specs.declared.draft.Draftop.{Draftop}
 use Rattle.dv_asm.specs.declared.draft.What.{What}
 use Rattle.dv_asm.specs.declared.draft.What.TheVariants as what
-use Rattle.dv_asm.specs.Draft.{DraftValue, AreFormed, IsFormed, IsOp, blank}
+use Rattle.dv_asm.specs.Draft.{AreFormed, IsFormed, IsOp, blank}
 use Rattle.dv_asm.specs.Items.{item_at, no_item, size_of, is_payload}
-use Rattle.dv_asm.specs.Places.{address_of, end_of, place_of, label_address, distance}
+use Rattle.dv_asm.specs.Places.{address_of, end_of, label_address, distance}
 use Rattle.dv_asm.specs.Refusals.{has_label, has_labels, has_label_if_any, too_long}
-use Rattle.dv_asm.specs.First.{first_line, earlier}
-use Rattle.dv_asm.proofs.FirstLemmas.{first_line_none, not_when}
-use Rattle.dv_asm.proofs.Writing.{are_writable}
-use Rattle.dv_print.proofs.Entries.{appended}
 use Rattle.dv_asm.specs.Pools.{index_of}
 use Rattle.dv_asm.specs.Layout.{insn_of, offset_of, base_of, targets_of, pools_of}
-use Rattle.dv_asm.proofs.PlaceLemmas.{ends_within, label_within}
 use Rattle.dv_print.specs.declared.pieces.Piece.{Piece}
 use Rattle.dv_print.specs.Numbers.{label_name}
 use Rattle.dv_print.specs.Operands.{has_offset}
-use Rattle.dv_print.specs.Pieces.{piece_of, pieces_of}
 use Rattle.dv_print.specs.Named as named
 use Rattle.dv_print.specs.Named.{target_of, named_by_try, addresses_named}
 use Rattle.dv_print.specs.Drafting.{pool_of, entry_in, op_of, labels_from}
 use Rattle.dv_print.specs.Laws.{tile, nops_before, tiles_at, tiles_to}
-use Rattle.dv_print.proofs.KeptEntries.{HasPools, own_entry, has_pools, small_opcode, draft_items, units_are, pieces_are, draft_keeps_entries}
-use Rattle.dv_print.proofs.PieceItems.{next_items, even_to}
-use Rattle.dv_print.proofs.KeptAddresses.{tiles_are, draft_keeps_addresses}
-use Rattle.dv_print.proofs.KeptUnits.{AreSpelledAs, units_kept}
-use Rattle.dv_print.proofs.LaidOut.{tiled_to, are_short}
-use Rattle.dv_print.proofs.Resolved.{HasAt, Stands, stands_in, later_in, label_here, leads_there}
+use Rattle.dv_print.proofs.KeptEntries.{own_entry, small_opcode}
+use Rattle.dv_print.proofs.KeptUnits.{AreSpelledAs}
 use Rattle.dv_print.proofs.Branches.{mem_to, leads_back, any_left, any_right}
 use Rattle.dv_print.proofs.KnownDraft.{Known, leads_to, tile_listed}
-use Rattle.dv_print.proofs.Straight.{same_offsets, spelled_append, insn_by, offset_none, nops_by, same_insn, bodies, draft_is}
+use Rattle.dv_print.proofs.Straight.{same_offsets, spelled_append, insn_by, offset_none, nops_by, same_insn}
 
 target_is : (at : ℕ) (i : Insn) (c : Bool) → c ≡ true → (if c then Some (jump at i.off) else None) ≡ Some (jump at i.off)
 target_is at i true e = refl

@@ -1,5 +1,5 @@
--- Instructions without an offset are spelled as they were, and a body without handlers is its units and its pools.
-use Rattle.std.proofs.Common.{◌≡◌, ℕ, ◌<◌, ℤ, pos, Bool, true, false, List, [], ◌∷◌, ◌++◌, length, Option, Some, None, if◌then◌else◌, refl, ap, sym, ◌∙◌}
+-- Instructions without an offset are spelled as they were.
+use Rattle.std.proofs.Common.{◌≡◌, ℕ, ◌<◌, ℤ, pos, Bool, true, false, List, [], ◌∷◌, ◌++◌, Option, Some, None, if◌then◌else◌, refl, ap, sym, ◌∙◌}
 use Rattle.std.specs.Prelude.{option_map}
 use Rattle.std.proofs.lemmas.Bool.{agree_below_at}
 use Rattle.dv_defs.specs.declared.code.Insn.{Insn}
@@ -14,11 +14,11 @@ use Rattle.dv_asm.specs.declared.pools.Pools.{Pools}
 use Rattle.dv_asm.specs.Draft as asm
 use Rattle.dv_asm.specs.Draft.{DraftValue, AreFormed, IsFormed, blank}
 use Rattle.dv_asm.specs.Pools.{index_of}
-use Rattle.dv_asm.specs.Layout.{insn_of, offset_of, pools_of, units_of, body_of, layout}
+use Rattle.dv_asm.specs.Layout.{insn_of, offset_of}
 use Rattle.dv_print.specs.declared.pieces.Piece.{Piece}
 use Rattle.dv_print.specs.Numbers.{label_name}
 use Rattle.dv_print.specs.Operands.{has_offset}
-use Rattle.dv_print.specs.Drafting.{pool_of, entry_in, op_of, draft_of}
+use Rattle.dv_print.specs.Drafting.{pool_of, entry_in, op_of}
 use Rattle.dv_print.specs.Laws.{tile}
 use Rattle.dv_print.proofs.KeptEntries.{nop_pool}
 use Rattle.dv_print.proofs.KeptUnits.{AreSpelledAs}
@@ -57,18 +57,3 @@ pub nops_by : (c : Bool) (after : List Item) (pools : Pools) (b : BodyValue) (al
 nops_by true after pools b all end =
     (λ k e. ap spelling (same_insn after pools b k end (plain 0 (few [])) nop_offset refl (ap (λ q. index_of pools (entry_in b q 0)) nop_pool)), tt)
 nops_by false after pools b all end = tt
-
-body_by : (registers : ℕ) (units units' : List ℕ) (pools pools' : Pools) → units ≡ units' → pools ≡ pools' →
-    (let b : BodyValue = record { registers = registers; units = units; tries = []; strings = pools.strings; types = pools.types; fields = pools.fields; methods = pools.methods; raw = false } in b) ≡
-    record { registers = registers; units = units'; tries = []; strings = pools'.strings; types = pools'.types; fields = pools'.fields; methods = pools'.methods; raw = false }
-body_by registers units units' pools pools' e h =
-    ap (λ us. let b : BodyValue = record { registers = registers; units = us; tries = []; strings = pools.strings; types = pools.types; fields = pools.fields; methods = pools.methods; raw = false } in b) e ∙
-    ap (λ (p : Pools). let b : BodyValue = record { registers = registers; units = units'; tries = []; strings = p.strings; types = p.types; fields = p.fields; methods = p.methods; raw = false } in b) h
-
-pub bodies : (registers : ℕ) (before after : List Item) → units_of after (pools_of after) (length after) ≡ units_of before (pools_of before) (length before) → pools_of after ≡ pools_of before → body_of registers after [] ≡ body_of registers before []
-unfolding body_of
-bodies registers before after e h = body_by registers _ _ (pools_of after) (pools_of before) e h
-
-pub draft_is : (registers : ℕ) (items : List Item) → layout (draft_of (body_of registers items [])) ≡ body_of registers (draft_of (body_of registers items [])).items []
-unfolding draft_of body_of
-draft_is registers items = refl

@@ -1,5 +1,5 @@
 -- The switches that name a payload: in a draft, and among the pieces of the body that is laid out from it.
-use Rattle.std.proofs.Common.{◌≡◌, ℕ, ◌<◌, ◌≤◌, zero, suc, pos, ◌-ℤ◌, Bool, true, false, not, ◌&&◌, ◌||◌, ◌⊎◌, inl, inr, List, [], ◌∷◌, ◌++◌, length, map, find, nat_lt, nat_eq, cond, Option, Some, None, is_some, if◌then◌else◌, refl, ap, sym, ◌∙◌, subst, arith}
+use Rattle.std.proofs.Common.{◌≡◌, ℕ, ◌<◌, ◌≤◌, zero, suc, Bool, true, false, not, ◌&&◌, ◌||◌, ◌⊎◌, inl, inr, List, [], ◌∷◌, ◌++◌, length, map, find, nat_lt, nat_eq, cond, Option, Some, None, is_some, if◌then◌else◌, refl, ap, sym, ◌∙◌, subst, arith}
 use Rattle.std.specs.Prelude.{option_map}
 use Rattle.std.specs.Option.{option_map_or}
 use Rattle.std.proofs.lemmas.Bool.{eqb-true}
@@ -7,7 +7,6 @@ use Rattle.std.proofs.lemmas.Bool.Decides.{nat_tests}
 use Rattle.std.proofs.lemmas.List.{length-map, get_or-map}
 use Rattle.std.proofs.lemmas.List.Quantifiers.{position-Some}
 use Rattle.dv_defs.specs.declared.code.Insn.{Insn}
-use Rattle.dv_defs.specs.declared.code.Payload.TheVariants as payload
 use Rattle.dv_defs.specs.Formats.{format_at}
 use Rattle.dv_defs.specs.Numbers.{jump}
 use Rattle.dv_defs.specs.Spelling.{plain, few}
@@ -21,7 +20,7 @@ use Rattle.dv_asm.specs.declared.pools.Pools.{Pools}
 use Rattle.dv_asm.specs.Draft as asm
 use Rattle.dv_asm.specs.Draft.{AreFormed, IsFormed, IsOp}
 use Rattle.dv_asm.specs.Items.{item_at, no_item, size_of, is_payload, is_switch_opcode, label_of_switch}
-use Rattle.dv_asm.specs.Places.{address_of, end_of, label_address, distance, address_named_by}
+use Rattle.dv_asm.specs.Places.{address_of, end_of, label_address, address_named_by}
 use Rattle.dv_asm.specs.Refusals.{repeated, repeated_at, is_repeated, is_place, is_payload_at, stands_payload, is_address, addresses_named, switch_of}
 use Rattle.dv_asm.specs.Layout.{insn_of, offset_of, base_of}
 use Rattle.dv_asm.proofs.FirstLemmas.{first_line_none, not_when, any_below_found}

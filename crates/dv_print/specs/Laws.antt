@@ -15,10 +15,10 @@ use Rattle.dv_asm.specs.declared.draft.PoolRef.TheVariants as pool
 use Rattle.dv_asm.specs.Draft.{DraftValue, AreFormed}
 use Rattle.dv_asm.specs.Items.{item_at, size_of}
 use Rattle.dv_asm.specs.Places.{address_of, end_of, size_of_all, label_address}
-use Rattle.dv_asm.specs.Refusals.{label_refusal, item_refusal}
+use Rattle.dv_asm.specs.Refusals.{item_refusal, refusal}
 use Rattle.dv_print.specs.Numbers.{label_name}
 use Rattle.dv_asm.specs.Pools.{pool_ref}
-use Rattle.dv_asm.specs.Layout.{insn_of, packed_of, sparse_of, pools_of, units_of, body_of, layout}
+use Rattle.dv_asm.specs.Layout.{insn_of, packed_of, sparse_of, pools_of, units_of, layout}
 use Rattle.dv_print.specs.Drafting.{draft_of}
 
 -- No two addresses have the same label.
@@ -106,18 +106,8 @@ LabelsLead =
     (items : List Item) (units : List ℕ) (a j : ℕ) → KeepsAddresses items units → length units ≤ 16384 → a ≤ 16384 →
     slice_get items j ≡ Some (record { line = 0; what = what.Label (label_name a) }) → label_address items (label_name a) ≡ a
 
--- no payload of a switch
-abbrev pub IsUnswitched : What → Type 0
-IsUnswitched (what.Label name) = Unit {0}
-IsUnswitched (what.Op op) = Unit {0}
-IsUnswitched (what.Packed first targets) = ⊥
-IsUnswitched (what.Sparse keys targets) = ⊥
-IsUnswitched (what.Data width bytes) = Unit {0}
-
--- The draft that is made of a laid-out body is laid out as that body, where the body has no payloads of switches and no
--- handlers.
-abbrev pub BranchDraftIsKept : Type 0
-BranchDraftIsKept =
-    (registers : ℕ) (items : List Item) → AreFormed items → HaveNumbers items → label_refusal items [] ≡ None → item_refusal items ≡ None →
-    IsTrue (all_fit 16 (body_of registers items []).units) → All (λ (item : Item). IsUnswitched item.what) items →
-    layout (draft_of (body_of registers items [])) ≡ body_of registers items []
+-- The draft that is made of a laid-out body is laid out as that body.
+abbrev pub DraftIsKept : Type 0
+DraftIsKept =
+    (d : DraftValue) → AreFormed d.items → HaveNumbers d.items → refusal d ≡ None → IsTrue (all_fit 16 (layout d).units) →
+    layout (draft_of (layout d)) ≡ layout d

@@ -1,5 +1,5 @@
 // The laws of labels, and of drafts and their layout.
-ghost use Rattle.dv_print.specs.Laws.{LabelsAreDistinct, LayoutIsTiled, DraftKeepsEntries, DraftKeepsAddresses, LabelsLead, BranchDraftIsKept};
+ghost use Rattle.dv_print.specs.Laws.{LabelsAreDistinct, LayoutIsTiled, DraftKeepsEntries, DraftKeepsAddresses, LabelsLead, DraftIsKept};
 
 /// No two addresses have the same label.
 pub fn labels_are_distinct()
@@ -29,8 +29,7 @@ pub fn labels_lead()
     ensures { LabelsLead }
 {}
 
-/// The draft that is made of a laid-out body is laid out as that body, where the body has no payloads of switches and
-/// no handlers.
-pub fn branch_draft_is_kept()
-    ensures { BranchDraftIsKept }
+/// The draft that is made of a laid-out body is laid out as that body.
+pub fn draft_is_kept()
+    ensures { DraftIsKept }
 {}

@@ -1,0 +1,224 @@
+-- The draft that is made of a laid-out body is laid out as that body.
+use Rattle.std.proofs.Common.{◌≡◌, ℕ, ◌<◌, Bool, true, false, not, ◌&&◌, List, [], ◌∷◌, length, nat_eq, Option, Some, None, IsTrue, if◌then◌else◌, refl, ap, sym, ◌∙◌, subst, arith}
+use Rattle.std.specs.Option.{option_or, option_to_list}
+use Rattle.std.proofs.lemmas.Bool.Decides.{nat_tests}
+use Rattle.std.specs.List.{flat_map, list_any}
+use Rattle.std.proofs.lemmas.List.Folds.{list_any-append}
+use Rattle.dv_defs.specs.declared.code.Try.{Try}
+use Rattle.dv_defs.specs.declared.names.Ty.{Ty}
+use Rattle.dv_defs.specs.declared.faults.LineKind.{LineKind}
+use Rattle.dv_defs.specs.declared.faults.LineKind.TheVariants as kind
+use Rattle.dv_defs.specs.Body.{BodyValue}
+use Rattle.dv_defs.specs.Numbers.{jump}
+use Rattle.dv_defs.specs.Spelling.{all_fit}
+use Rattle.dv_defs.specs.Tiling.{Tile}
+use Rattle.dv_asm.specs.declared.draft.Item.{Item}
+use Rattle.dv_asm.specs.declared.draft.Catch.{Catch}
+use Rattle.dv_asm.specs.declared.pools.Pools.{Pools}
+use Rattle.dv_asm.specs.Draft.{DraftValue, AreFormed}
+use Rattle.dv_asm.specs.Items.{item_at, is_payload}
+use Rattle.dv_asm.specs.Places.{address_of, end_of, label_address}
+use Rattle.dv_asm.specs.Refusals.{refused, label_twice, no_label, no_label_at, no_label_of_catch_at, has_label, has_labels, has_label_if_any, catch_at, catch_has_labels, repeated, label_refusal, item_refusal, range_refusal, refusal}
+use Rattle.dv_asm.specs.First.{first_line, earlier}
+use Rattle.dv_asm.proofs.FirstLemmas.{first_line_none, not_when}
+use Rattle.dv_asm.proofs.Writing.{are_writable}
+use Rattle.dv_asm.specs.Layout.{pools_of, types_of, tries_of, units_of, body_of, layout}
+use Rattle.dv_asm.proofs.PlaceLemmas.{ends_within}
+use Rattle.dv_print.specs.declared.pieces.Piece.{Piece}
+use Rattle.dv_print.specs.Numbers.{label_name}
+use Rattle.dv_print.specs.Pieces.{part_of, piece_of, pieces_of}
+use Rattle.dv_print.specs.Named as named
+use Rattle.dv_print.specs.Named.{target_of, named_by_part, named_by_piece, named_by_try, addresses_named}
+use Rattle.dv_print.specs.Drafting.{labels_at, catches_of_try, draft_of}
+use Rattle.dv_print.specs.Laws.{HaveNumbers, tiles_to}
+use Rattle.dv_print.proofs.KeptEntries.{has_pools, units_are, pieces_are, draft_keeps_entries}
+use Rattle.dv_print.proofs.PieceItems.{even_to}
+use Rattle.dv_print.proofs.KeptAddresses.{tiles_are, draft_starts, draft_keeps_addresses}
+use Rattle.dv_print.proofs.KeptUnits.{units_kept}
+use Rattle.dv_print.proofs.LaidOut.{tiled_to, are_short}
+use Rattle.dv_print.proofs.Branches.{any_left, any_right}
+use Rattle.dv_print.proofs.KnownDraft.{Known, leads_to, tile_listed}
+use Rattle.dv_print.proofs.Placed.{are_placed}
+use Rattle.dv_print.proofs.Switches.{SwitchTo, HasPayload, switch_tile, base_before}
+use Rattle.dv_print.proofs.Rebased.{IsPlaced, Drafts, labels_placed, tiles_placed, switch_offset, base_after}
+use Rattle.dv_print.proofs.SpelledAgain.{IsRebased, Laid, spelled_to}
+use Rattle.dv_print.proofs.KeptHandlers.{LeadsTo, Leads, entry_names, handler_named, handlers_kept}
+
+-- ---- the refusals
+
+none_first : {Y : Type 0} (a c : Option Y) → option_or a c ≡ None → (a ≡ None) × (c ≡ None)
+none_first None c none = (refl, none)
+none_first (Some y) c none = absurd (cc)
+
+refused_none : (k : LineKind) (line : Option ℕ) → refused k line ≡ None → line ≡ None
+refused_none k None none = refl
+refused_none k (Some line) none = absurd (cc)
+
+earlier_none : (a c : Option ℕ) → earlier a c ≡ None → (a ≡ None) × (c ≡ None)
+earlier_none None c none = (refl, none)
+earlier_none (Some a) None none = absurd (cc)
+earlier_none (Some a) (Some c) none = absurd (cc)
+
+not_false : (c : Bool) → not c ≡ false → c ≡ true
+not_false true e = refl
+not_false false e = absurd (cc)
+
+both : (p q : Bool) → (p && q) ≡ true → (p ≡ true) × (q ≡ true)
+both true q e = (refl, e)
+both false q e = absurd (cc)
+
+no_label_refused : (items : List Item) (catches : List Catch) → label_refusal items catches ≡ None → no_label items catches ≡ None
+no_label_refused items catches none =
+    refused_none kind.NoLabel (no_label items catches) (none_first (refused kind.LabelTwice (label_twice items)) (refused kind.NoLabel (no_label items catches)) none).1
+
+-- the labels that items name are there
+items_labelled : (items : List Item) (catches : List Catch) → label_refusal items catches ≡ None → (k : ℕ) → k < length items → has_labels items (item_at items k).what ≡ true
+items_labelled items catches none k within =
+    let first = (earlier_none (first_line (no_label_at items) (length items)) _ (no_label_refused items catches none)).0 in
+    not_false _ (not_when (not (has_labels items (item_at items k).what)) (item_at items k).line (first_line_none (no_label_at items) (length items) k first within))
+
+-- and those that handlers name
+catches_labelled : (items : List Item) (catches : List Catch) → label_refusal items catches ≡ None → (j : ℕ) → j < length catches → catch_has_labels items (catch_at catches j) ≡ true
+catches_labelled items catches none j within =
+    let second = (earlier_none (first_line (no_label_at items) (length items)) _ (no_label_refused items catches none)).1 in
+    not_false _ (not_when (not (catch_has_labels items (catch_at catches j))) (catch_at catches j).line (first_line_none (no_label_of_catch_at items catches) (length catches) j second within))
+
+-- ---- what is known of the draft
+
+-- what layout takes for granted of the draft before
+record IsLaidOut (d : DraftValue) : Type 0 where
+  formed : AreFormed d.items
+  numbers : HaveNumbers d.items
+  labels : label_refusal d.items d.catches ≡ None
+  none : item_refusal d.items ≡ None
+  ranges : range_refusal d.items d.catches ≡ None
+  fit : IsTrue (all_fit 16 (layout d).units)
+
+laid_out : (d : DraftValue) → AreFormed d.items → HaveNumbers d.items → refusal d ≡ None → IsTrue (all_fit 16 (layout d).units) → IsLaidOut d
+laid_out d formed numbers none fit =
+    let first = none_first (label_refusal d.items d.catches) _ none in
+    let rest = none_first (item_refusal d.items) (range_refusal d.items d.catches) first.1 in
+    record { formed = formed; numbers = numbers; labels = first.0; none = rest.0; ranges = rest.1; fit = fit }
+
+abbrev after_of : DraftValue → List Item
+after_of d = (draft_of (layout d)).items
+
+abbrev pieces : DraftValue → List Piece
+pieces d = pieces_of (layout d).units
+
+abbrev all_named : DraftValue → List ℕ
+all_named d = addresses_named (pieces d) (layout d).tries
+
+abbrev tiles : DraftValue → List Tile
+tiles d = tiles_to d.items (pools_of d.items) (length d.items)
+
+known : (d : DraftValue) → IsLaidOut d → Known d.items (after_of d) (layout d) (pieces d) (all_named d)
+known d l =
+    let short = are_short d.items l.none in
+    let size = (tiled_to d.items (pools_of d.items) short (are_writable d.items l.formed l.none) l.numbers (length d.items) (omega arith)).size in
+    let ends : end_of d.items (length d.items) ≡ length (layout d).units = sym size ∙ sym (ap length (units_are d)) in
+    record {
+      short = omega (arith, ends, ends_within d.items short (length d.items) (omega arith));
+      ends = ends;
+      pieces = pieces_are d l.formed l.numbers l.none l.fit;
+      names_are = refl;
+      start = draft_starts d l.formed l.numbers l.none l.fit;
+      kept = draft_keeps_addresses d l.formed l.numbers l.none l.fit;
+      pools = has_pools d;
+    }
+
+-- the label of a switch leads where it led
+switch_leads : (d : DraftValue) → IsLaidOut d → (k a : ℕ) → k < length d.items → SwitchTo d.items (item_at d.items k).what a → label_address (after_of d) (label_name a) ≡ a
+switch_leads d l k a within s =
+    let t = switch_tile d.items (pools_of d.items) k a within s in
+    let has : has_label d.items s.name ≡ true =
+    sym (ap (has_label_if_any d.items) s.label) ∙ (sym (ap (has_labels d.items) s.is) ∙ items_labelled d.items d.catches l.labels k within) in
+    let same : nat_eq a a ≡ true = grind (arith, nat_tests) in
+    let target : target_of t.tile.at t.to.insn ≡ Some a = ap (λ c. if c then Some (jump t.tile.at t.to.insn.off) else None) (switch_offset t.to.insn.op t.to.opcode) ∙ ap Some t.to.leads in
+    let names : named_by_piece (pieces d) (piece_of t.tile) ≡ a ∷ [] = ap (λ x. named_by_part (pieces d) t.tile.at (part_of x)) t.to.is ∙ ap option_to_list target in
+    let listed = tile_listed d.items (after_of d) (layout d) (pieces d) (all_named d) a t.tile (known d l) (ap (list_any (λ n. nat_eq n a)) names ∙ any_left (nat_eq a a) false same) t.mem in
+    let P : ℕ → Type 0 = λ n. label_address (after_of d) (label_name n) ≡ n in
+    subst P s.leads (leads_to d.items (after_of d) (layout d) (pieces d) (all_named d) s.name (known d l) (are_short d.items l.none) has (ap (named.is_named (all_named d)) s.leads ∙ listed))
+
+none_repeated : (items : List Item) → item_refusal items ≡ None → repeated items ≡ None
+none_repeated items none = refused_none kind.Repeated (repeated items) (none_first (refused kind.Repeated (repeated items)) _ none).0
+
+drafts : (d : DraftValue) → IsLaidOut d → Drafts d.items (after_of d) (pools_of d.items) (layout d) (pieces d) (all_named d) (labels_at (all_named d) (length (layout d).units))
+drafts d l = record {
+  formed = l.formed;
+  once = none_repeated d.items l.none;
+  start = draft_starts d l.formed l.numbers l.none l.fit;
+  placed = (are_placed (IsPlaced (layout d) (pieces d) (tiles d)) (layout d) (pieces d) (all_named d) (after_of d) (tiles d) (labels_placed (layout d) (pieces d) (tiles d)) (tiles_placed (layout d) (pieces d) (tiles d)) (draft_starts d l.formed l.numbers l.none l.fit) (tiles_are d l.formed l.numbers l.none l.fit) (even_to d.items (pools_of d.items) (length d.items) (omega arith))).placed;
+  leads = switch_leads d l;
+}
+
+rebased : (d : DraftValue) → IsLaidOut d → (k : ℕ) → k < length d.items → is_payload (item_at d.items k).what ≡ true → IsRebased d.items (after_of d) (pieces d) k
+rebased d l k within payload =
+    let p : HasPayload d.items (address_of d.items k) = record { place = k; within = within; payload = payload; at = refl } in
+    record {
+      before = ap (λ ps. named.base_of ps (address_of d.items k)) (pieces_are d l.formed l.numbers l.none l.fit) ∙ base_before d.items (pools_of d.items) (address_of d.items k) l.formed (none_repeated d.items l.none) p;
+      after_it = base_after d.items (after_of d) (pools_of d.items) (layout d) (pieces d) (all_named d) (labels_at (all_named d) (length (layout d).units)) (address_of d.items k) (drafts d l) p;
+    }
+
+-- ---- units
+
+same_units : (d : DraftValue) → IsLaidOut d → units_of (after_of d) (pools_of d.items) (length (after_of d)) ≡ (layout d).units
+same_units d l =
+    let laid : Laid d.items (after_of d) (layout d) (pieces d) (all_named d) = record {
+      known = known d l;
+      formed = l.formed;
+      labelled = items_labelled d.items d.catches l.labels;
+      short = are_short d.items l.none;
+      rebased = rebased d l;
+    } in
+    units_kept (layout d) (pieces d) (all_named d) (after_of d) (pools_of d.items) (tiles d) (draft_starts d l.formed l.numbers l.none l.fit) (tiles_are d l.formed l.numbers l.none l.fit) (even_to d.items (pools_of d.items) (length d.items) (omega arith))
+    (spelled_to d.items (after_of d) (layout d) (pieces d) (all_named d) (length d.items) laid (omega arith))
+
+-- ---- handlers
+
+tries_are : (d : DraftValue) → (layout d).tries ≡ tries_of d.items d.catches (types_of d.items d.catches)
+unfolding body_of
+tries_are d = refl
+
+entry_listed : (d : DraftValue) (a : ℕ) → named.is_named (entry_names d.items d.catches) a ≡ true → named.is_named (all_named d) a ≡ true
+entry_listed d a e =
+    list_any-append (λ n. nat_eq n a) (flat_map (named_by_piece (pieces d)) (pieces d)) (flat_map named_by_try (layout d).tries) ∙
+    any_right _ _ (ap (λ ts. named.is_named (flat_map named_by_try ts) a) (tries_are d) ∙ e)
+
+handler_leads : (d : DraftValue) → IsLaidOut d → (j : ℕ) → j < length d.catches → Leads d.items (after_of d) (catch_at d.catches j)
+handler_leads d l j within =
+    let c = catch_at d.catches j in
+    let first = both (has_label d.items c.from) _ (catches_labelled d.items d.catches l.labels j within) in
+    let rest = both (has_label d.items c.to) (has_label d.items c.at) first.1 in
+    let names = handler_named d.items d.catches j within in
+    let to : (name : List ℕ) → has_label d.items name ≡ true → named.is_named (entry_names d.items d.catches) (label_address d.items name) ≡ true → LeadsTo (after_of d) (label_address d.items name) =
+    λ name has e. leads_to d.items (after_of d) (layout d) (pieces d) (all_named d) name (known d l) (are_short d.items l.none) has (entry_listed d (label_address d.items name) e) in
+    record {
+      start = to c.from first.0 names.start;
+      end = to c.to rest.0 names.end;
+      at = to c.at rest.1 names.at;
+    }
+
+-- ---- the body
+
+body_by : (registers : ℕ) (units units' : List ℕ) (tries tries' : List Try) (types types' : List Ty) (pools pools' : Pools) → units ≡ units' → tries ≡ tries' → types ≡ types' → pools ≡ pools' →
+    (let b : BodyValue = record { registers = registers; units = units; tries = tries; strings = pools.strings; types = types; fields = pools.fields; methods = pools.methods; raw = false } in b) ≡
+    record { registers = registers; units = units'; tries = tries'; strings = pools'.strings; types = types'; fields = pools'.fields; methods = pools'.methods; raw = false }
+body_by registers units units' tries tries' types types' pools pools' e h k m = cc
+
+bodies : (registers : ℕ) (before after : List Item) (catches again : List Catch) → units_of after (pools_of after) (length after) ≡ units_of before (pools_of before) (length before) → types_of after again ≡ types_of before catches → tries_of after again (types_of before catches) ≡ tries_of before catches (types_of before catches) → pools_of after ≡ pools_of before → body_of registers after again ≡ body_of registers before catches
+unfolding body_of
+bodies registers before after catches again units types tries pools =
+    body_by registers _ _ _ _ _ _ (pools_of after) (pools_of before) units (ap (tries_of after again) types ∙ tries) types pools
+
+draft_is : (d : DraftValue) → layout (draft_of (layout d)) ≡ body_of d.registers (after_of d) (flat_map (catches_of_try (types_of d.items d.catches)) (tries_of d.items d.catches (types_of d.items d.catches)))
+unfolding draft_of body_of
+draft_is d = refl
+
+pub draft_is_kept : (d : DraftValue) → AreFormed d.items → HaveNumbers d.items → refusal d ≡ None → IsTrue (all_fit 16 (layout d).units) → layout (draft_of (layout d)) ≡ layout d
+draft_is_kept d formed numbers none fit =
+    let l = laid_out d formed numbers none fit in
+    let pools = (draft_keeps_entries d formed numbers l.none fit).pools in
+    let handlers = handlers_kept d.items (after_of d) d.catches l.ranges (handler_leads d l) pools in
+    draft_is d ∙
+    bodies d.registers d.items (after_of d) d.catches _ (ap (λ p. units_of (after_of d) p (length (after_of d))) pools ∙ (same_units d l ∙ units_are d)) handlers.0 handlers.1 pools
