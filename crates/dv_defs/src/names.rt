@@ -6,7 +6,7 @@ use std::alloc::AllocError;
 use std::marker::Model;
 
 /// Bytes of a text, mostly UTF-8.
-#[derive(Clone, PartialEq, Eq, Debug, Drop)]
+#[derive(Clone, PartialEq, Eq, Hash, Debug, Drop)]
 pub struct Text {
     bytes: Seq<u8>,
 }
@@ -38,7 +38,7 @@ impl Text {
 }
 
 /// Units of 16 bits of a guest string.
-#[derive(Clone, PartialEq, Eq, Debug, Drop)]
+#[derive(Clone, PartialEq, Eq, Hash, Debug, Drop)]
 pub struct Chars {
     units: Seq<u16>,
 }
@@ -82,7 +82,7 @@ pub struct MethodId(pub u32);
 pub struct FieldId(pub u32);
 
 /// A type without dimensions: the primitive types without floats, and a class by its descriptor.
-#[derive(PartialEq, Eq, Debug, Drop)]
+#[derive(PartialEq, Eq, Hash, Debug, Drop)]
 pub enum Base {
     Z,
     B,
@@ -129,7 +129,7 @@ impl Base {
 }
 
 /// A type: an array where `dims`, its number of dimensions, isn't 0.
-#[derive(PartialEq, Eq, Debug, Drop)]
+#[derive(PartialEq, Eq, Hash, Debug, Drop)]
 pub struct Ty {
     pub dims: u8,
     pub base: Base,
@@ -168,7 +168,7 @@ impl Ty {
 }
 
 /// The types of a method's parameters, and of its result where it has one.
-#[derive(PartialEq, Eq, Debug, Drop)]
+#[derive(PartialEq, Eq, Hash, Debug, Drop)]
 pub struct Proto {
     pub params: Seq<Ty>,
     pub ret: Option<Ty>,
@@ -186,7 +186,7 @@ impl Clone for Proto {
 }
 
 /// A field as an instruction names it.
-#[derive(PartialEq, Eq, Debug, Drop)]
+#[derive(PartialEq, Eq, Hash, Debug, Drop)]
 pub struct FieldRef {
     pub class: Ty,
     pub name: Text,
@@ -206,7 +206,7 @@ impl Clone for FieldRef {
 }
 
 /// A method as an instruction names it.
-#[derive(PartialEq, Eq, Debug, Drop)]
+#[derive(PartialEq, Eq, Hash, Debug, Drop)]
 pub struct MethodRef {
     pub class: Ty,
     pub name: Text,
