@@ -18,7 +18,8 @@ use Rattle.dv_asm.specs.Places.{address_of, end_of, aligned, leads_to_payload}
 use Rattle.dv_print.specs.declared.pieces.Piece.{Piece}
 use Rattle.dv_print.specs.Named.{target_of, named_by_piece}
 use Rattle.dv_print.specs.Pieces.{piece_of}
-use Rattle.dv_print.specs.Laws.{tile, nops_before, tiles_at, tiles_to}
+use Rattle.dv_asm.specs.Tiles.{tiles_of, nops_between}
+use Rattle.dv_print.proofs.ItemTiles.{tile, tiles_at}
 use Rattle.dv_print.proofs.PieceItems.{aligned_again}
 use Rattle.dv_print.proofs.Walk.{stays}
 use Rattle.dv_print.proofs.Resolved.{HasAt}
@@ -43,24 +44,24 @@ mem_right : (t : Tile) (xs ys : List Tile) → Mem t ys → Mem t (xs ++ ys)
 mem_right t [] ys h = h
 mem_right t (x ∷ xs) ys h = inr (mem_right t xs ys h)
 
-pub mem_to : (items : List Item) (pools : Pools) (k m : ℕ) (t : Tile) → k < m → tiles_at items pools k (address_of items k) (item_at items k).what ≡ t ∷ [] → Mem t (tiles_to items pools m)
+pub mem_to : (items : List Item) (pools : Pools) (k m : ℕ) (t : Tile) → k < m → tiles_at items pools k (item_at items k).what ≡ t ∷ [] → Mem t (tiles_of items pools m)
 mem_to items pools k zero t h e = absurd (omega arith)
 mem_to items pools k (suc m) t h e = at (nat_lt k m) refl (λ l. mem_to items pools k m t l e)
   where
-    at : (b : Bool) → nat_lt k m ≡ b → (k < m → Mem t (tiles_to items pools m)) → Mem t (tiles_to items pools (suc m))
-    at true l before = mem_left t (tiles_to items pools m) _ (before (grind (arith, nat_tests)))
+    at : (b : Bool) → nat_lt k m ≡ b → (k < m → Mem t (tiles_of items pools m)) → Mem t (tiles_of items pools (suc m))
+    at true l before = mem_left t (tiles_of items pools m ++ nops_between (end_of items m) (address_of items m)) _ (mem_left t (tiles_of items pools m) _ (before (grind (arith, nat_tests))))
     at false l before =
         let same : k ≡ m = grind (arith, nat_tests) in
-        let P : ℕ → Type 0 = λ n. Mem t (tiles_at items pools n (address_of items n) (item_at items n).what) in
+        let P : ℕ → Type 0 = λ n. Mem t (tiles_at items pools n (item_at items n).what) in
         let Q : List Tile → Type 0 = λ ts. Mem t ts in
-        mem_right t (tiles_to items pools m) _ (mem_right t (nops_before (end_of items m) (address_of items m)) _ (subst P same (subst Q (sym e) (inl refl))))
+        mem_right t (tiles_of items pools m ++ nops_between (end_of items m) (address_of items m)) _ (subst P same (subst Q (sym e) (inl refl)))
 
-own_has : (items : List Item) (pools : Pools) (k : ℕ) (w : What) → (item_at items k).what ≡ w → is_label w ≡ false → k < length items → HasAt (address_of items k) (tiles_to items pools (length items))
+own_has : (items : List Item) (pools : Pools) (k : ℕ) (w : What) → (item_at items k).what ≡ w → is_label w ≡ false → k < length items → HasAt (address_of items k) (tiles_of items pools (length items))
 own_has items pools k (what.Label name) e h within = absurd (cc)
-own_has items pools k (what.Op op) e h within = mem_has _ (tiles_to items pools (length items)) (mem_to items pools k (length items) _ within (ap (tiles_at items pools k (address_of items k)) e))
-own_has items pools k (what.Packed first names) e h within = mem_has _ (tiles_to items pools (length items)) (mem_to items pools k (length items) _ within (ap (tiles_at items pools k (address_of items k)) e))
-own_has items pools k (what.Sparse keys names) e h within = mem_has _ (tiles_to items pools (length items)) (mem_to items pools k (length items) _ within (ap (tiles_at items pools k (address_of items k)) e))
-own_has items pools k (what.Data width bytes) e h within = mem_has _ (tiles_to items pools (length items)) (mem_to items pools k (length items) _ within (ap (tiles_at items pools k (address_of items k)) e))
+own_has items pools k (what.Op op) e h within = mem_has _ (tiles_of items pools (length items)) (mem_to items pools k (length items) _ within (ap (tiles_at items pools k) e))
+own_has items pools k (what.Packed first names) e h within = mem_has _ (tiles_of items pools (length items)) (mem_to items pools k (length items) _ within (ap (tiles_at items pools k) e))
+own_has items pools k (what.Sparse keys names) e h within = mem_has _ (tiles_of items pools (length items)) (mem_to items pools k (length items) _ within (ap (tiles_at items pools k) e))
+own_has items pools k (what.Data width bytes) e h within = mem_has _ (tiles_of items pools (length items)) (mem_to items pools k (length items) _ within (ap (tiles_at items pools k) e))
 
 label_size : (w : What) → is_label w ≡ true → size_of w ≡ 0
 label_size (what.Label name) e = refl
@@ -82,16 +83,16 @@ label_passes items j within e =
     ap (λ n. aligned n next) (ends ∙ ap (λ n. n + 0) place) ∙ (aligned_again (end_of items j) (leads_to_payload next) ∙ sym place)
 
 -- an item stands where a tile does, or at the end
-pub placed : (items : List Item) (pools : Pools) (end f j : ℕ) → end_of items (length items) ≡ end → f + j ≡ length items → HasAt (address_of items j) (tiles_to items pools (length items)) ⊎ (address_of items j ≡ end)
+pub placed : (items : List Item) (pools : Pools) (end f j : ℕ) → end_of items (length items) ≡ end → f + j ≡ length items → HasAt (address_of items j) (tiles_of items pools (length items)) ⊎ (address_of items j ≡ end)
 placed items pools end zero j e h =
     let all : j ≡ length items = omega arith in
     inr (ap (address_of items) all ∙ (stays (end_of items (length items)) (drop (length items) items) (λ l. absurd (cc (l, ap leads_to_payload (drop-length items)))) ∙ e))
 placed items pools end (suc f) j e h = at (is_label (item_at items j).what) refl (placed items pools end f (suc j) e (omega arith))
   where
-    at : (b : Bool) → is_label (item_at items j).what ≡ b → HasAt (address_of items (suc j)) (tiles_to items pools (length items)) ⊎ (address_of items (suc j) ≡ end) → HasAt (address_of items j) (tiles_to items pools (length items)) ⊎ (address_of items j ≡ end)
+    at : (b : Bool) → is_label (item_at items j).what ≡ b → HasAt (address_of items (suc j)) (tiles_of items pools (length items)) ⊎ (address_of items (suc j) ≡ end) → HasAt (address_of items j) (tiles_of items pools (length items)) ⊎ (address_of items j ≡ end)
     at false l later = inl (own_has items pools j (item_at items j).what refl l (omega arith))
     at true l later =
-        let P : ℕ → Type 0 = λ n. HasAt n (tiles_to items pools (length items)) ⊎ (n ≡ end) in
+        let P : ℕ → Type 0 = λ n. HasAt n (tiles_of items pools (length items)) ⊎ (n ≡ end) in
         subst P (label_passes items j (omega arith) l) later
 
 -- ---- what an instruction names

@@ -12,7 +12,8 @@ use Rattle.dv_print.specs.declared.pieces.Piece.{Piece}
 use Rattle.dv_print.specs.Pieces.{pieces_of}
 use Rattle.dv_print.specs.Named.{addresses_named}
 use Rattle.dv_print.specs.Drafting.{labels_at, items_from, draft_of}
-use Rattle.dv_print.specs.Laws.{HaveNumbers, KeepsAddresses, IsNamedBy, tiles_to}
+use Rattle.dv_asm.specs.Tiles.{tiles_of}
+use Rattle.dv_print.specs.Laws.{HaveNumbers, KeepsAddresses, IsNamedBy}
 use Rattle.dv_print.proofs.LaidOut.{layout_is_tiled}
 use Rattle.dv_print.proofs.KeptEntries.{draft_items, pieces_are}
 use Rattle.dv_print.proofs.PieceItems.{not_label, even_to, next_items}
@@ -25,13 +26,13 @@ unlabelled : (b : BodyValue) (all : List Piece) (ts : List Tile) → HoldsOfTile
 unlabelled b all [] = tt
 unlabelled b all (t ∷ ts) = (not_label b all t.at t.item t.at, unlabelled b all ts)
 
-pub tiles_are : (d : DraftValue) → AreFormed d.items → HaveNumbers d.items → item_refusal d.items ≡ None → IsTrue (all_fit 16 (layout d).units) → AreTiles 0 (tiles_to d.items (pools_of d.items) (length d.items)) (layout d).units
+pub tiles_are : (d : DraftValue) → AreFormed d.items → HaveNumbers d.items → item_refusal d.items ≡ None → IsTrue (all_fit 16 (layout d).units) → AreTiles 0 (tiles_of d.items (pools_of d.items) (length d.items)) (layout d).units
 unfolding body_of
 tiles_are d formed numbers none fit = found_tiles _ 0 _ fit (layout_is_tiled d.items formed numbers none fit)
 
 -- the items of the draft are those of the tiles
 pub draft_starts : (d : DraftValue) → AreFormed d.items → HaveNumbers d.items → item_refusal d.items ≡ None → IsTrue (all_fit 16 (layout d).units) →
-    (let b = layout d in let named = addresses_named (pieces_of b.units) b.tries in (draft_of b).items ≡ next_items b (pieces_of b.units) named (labels_at named (length b.units)) (tiles_to d.items (pools_of d.items) (length d.items)))
+    (let b = layout d in let named = addresses_named (pieces_of b.units) b.tries in (draft_of b).items ≡ next_items b (pieces_of b.units) named (labels_at named (length b.units)) (tiles_of d.items (pools_of d.items) (length d.items)))
 draft_starts d formed numbers none fit =
     let b = layout d in
     let all = pieces_of b.units in
@@ -42,6 +43,6 @@ pub draft_keeps_addresses : (d : DraftValue) → AreFormed d.items → HaveNumbe
 draft_keeps_addresses d formed numbers none fit =
     let b = layout d in
     let all = pieces_of b.units in
-    let ts = tiles_to d.items (pools_of d.items) (length d.items) in
+    let ts = tiles_of d.items (pools_of d.items) (length d.items) in
     let p = are_placed IsNamedBy b all (addresses_named all b.tries) (draft_of b).items ts labelled (unlabelled b all ts) (draft_starts d formed numbers none fit) (tiles_are d formed numbers none fit) (even_to d.items (pools_of d.items) (length d.items) (omega arith)) in
     record { labels = p.placed; size = p.size }

@@ -30,12 +30,13 @@ use Rattle.dv_print.specs.Pieces.{part_of, piece_of, pieces_of}
 use Rattle.dv_print.specs.Named as named
 use Rattle.dv_print.specs.Named.{target_of, named_by_part, named_by_piece, named_by_try, addresses_named}
 use Rattle.dv_print.specs.Drafting.{labels_at, catches_of_try, draft_of}
-use Rattle.dv_print.specs.Laws.{HaveNumbers, tiles_to}
+use Rattle.dv_asm.specs.Tiles.{tiles_of}
+use Rattle.dv_print.specs.Laws.{HaveNumbers}
 use Rattle.dv_print.proofs.KeptEntries.{has_pools, units_are, pieces_are, draft_keeps_entries}
 use Rattle.dv_print.proofs.PieceItems.{even_to}
 use Rattle.dv_print.proofs.KeptAddresses.{tiles_are, draft_starts, draft_keeps_addresses}
 use Rattle.dv_print.proofs.KeptUnits.{units_kept}
-use Rattle.dv_print.proofs.LaidOut.{tiled_to, are_short}
+use Rattle.dv_print.proofs.LaidOut.{layout_size, are_short}
 use Rattle.dv_print.proofs.Branches.{any_left, any_right}
 use Rattle.dv_print.proofs.KnownDraft.{Known, leads_to, tile_listed}
 use Rattle.dv_print.proofs.Placed.{are_placed}
@@ -110,13 +111,12 @@ abbrev all_named : DraftValue → List ℕ
 all_named d = addresses_named (pieces d) (layout d).tries
 
 abbrev tiles : DraftValue → List Tile
-tiles d = tiles_to d.items (pools_of d.items) (length d.items)
+tiles d = tiles_of d.items (pools_of d.items) (length d.items)
 
 known : (d : DraftValue) → IsLaidOut d → Known d.items (after_of d) (layout d) (pieces d) (all_named d)
 known d l =
     let short = are_short d.items l.none in
-    let size = (tiled_to d.items (pools_of d.items) short (are_writable d.items l.formed l.none) l.numbers (length d.items) (omega arith)).size in
-    let ends : end_of d.items (length d.items) ≡ length (layout d).units = sym size ∙ sym (ap length (units_are d)) in
+    let ends : end_of d.items (length d.items) ≡ length (layout d).units = sym (layout_size d.items l.formed l.numbers l.none) ∙ sym (ap length (units_are d)) in
     record {
       short = omega (arith, ends, ends_within d.items short (length d.items) (omega arith));
       ends = ends;

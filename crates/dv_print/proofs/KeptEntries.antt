@@ -1,5 +1,5 @@
 -- The draft that is made of a laid-out body names what the draft before it names.
-use Rattle.std.proofs.Common.{◌≡◌, ℕ, ◌+◌, ◌<◌, ◌≤◌, ◌%◌, zero, suc, Bool, true, false, ◌&&◌, List, [], ◌∷◌, ◌++◌, length, map, take, position, bytes_eq, nat_lt, nat_eq, Option, Some, None, IsSome, IsTrue, if◌then◌else◌, refl, ap, sym, ◌∙◌, arith, append-nil}
+use Rattle.std.proofs.Common.{◌≡◌, ℕ, ◌+◌, ◌<◌, ◌≤◌, ◌%◌, zero, suc, Bool, true, false, ◌&&◌, List, [], ◌∷◌, ◌++◌, length, map, take, position, bytes_eq, nat_lt, nat_eq, Option, Some, None, IsSome, IsTrue, if◌then◌else◌, refl, ap, sym, ◌∙◌, arith, append-nil, append_assoc}
 use Rattle.std.specs.Option.{unwrap_or}
 use Rattle.std.specs.List.{slice_get, flat_map}
 use Rattle.std.proofs.lemmas.Bool.{eqb-true}
@@ -40,7 +40,10 @@ use Rattle.dv_print.specs.declared.pieces.Piece.{Piece}
 use Rattle.dv_print.specs.Pieces.{piece_of, pieces_of}
 use Rattle.dv_print.specs.Named.{is_named, addresses_named}
 use Rattle.dv_print.specs.Drafting.{found_as, pool_of, entry_in, part_item, piece_item, labels_at, is_nop, is_aligning, items_at, items_from, items_in, draft_of}
-use Rattle.dv_print.specs.Laws.{HaveNumbers, KeepsEntries, entries_in, item_entries, entries_of, tile, nops_before, tiles_at, tiles_to}
+use Rattle.dv_asm.specs.Tiles as laid
+use Rattle.dv_asm.specs.Tiles.{nops_between}
+use Rattle.dv_print.specs.Laws.{HaveNumbers, KeepsEntries, entries_in, item_entries, entries_of}
+use Rattle.dv_print.proofs.ItemTiles.{tile, tiles_at}
 use Rattle.dv_print.proofs.Entries.{Tells, bytes_tell, types_tell, fields_tell, methods_tell, kept, holds, at_index}
 use Rattle.dv_print.proofs.PoolKinds.{pool_for, pool_of_named, no_pool}
 use Rattle.dv_print.proofs.LaidOut.{layout_is_tiled}
@@ -113,7 +116,7 @@ nops_by : (c : Bool) (b : BodyValue) (all : List Piece) (end : ℕ) → tile_ent
 nops_by true b all end = ap (λ xs. xs ++ []) (nop_names_none b 0)
 nops_by false b all end = refl
 
-own_entries : (b : BodyValue) (all : List Piece) (items : List Item) (k : ℕ) (w : What) → HasPools b items → k < length items → (item_at items k).what ≡ w → IsFormed w → tile_entries b all (tiles_at items (pools_of items) k (address_of items k) w) ≡ entries_in (pool_ref w)
+own_entries : (b : BodyValue) (all : List Piece) (items : List Item) (k : ℕ) (w : What) → HasPools b items → k < length items → (item_at items k).what ≡ w → IsFormed w → tile_entries b all (tiles_at items (pools_of items) k w) ≡ entries_in (pool_ref w)
 own_entries b all items k (what.Label name) h within e formed = refl
 own_entries b all items k (what.Op op) h within e formed = append-nil _ ∙ ap entries_in (own_entry b items k op h within e formed)
 own_entries b all items k (what.Packed first names) h within e formed = refl
@@ -123,22 +126,23 @@ own_entries b all items k (what.Data width bytes) h within e formed = refl
 next_item : (items : List Item) (k : ℕ) → k < length items → take (suc k) items ≡ take k items ++ item_at items k ∷ []
 next_item items k within = ap (λ (n : ℕ). take n items) (let n : suc k ≡ k + 1 = omega arith in n) ∙ take_more items k no_item within
 
-entries_to : (b : BodyValue) (all : List Piece) (items : List Item) (k : ℕ) → HasPools b items → AreFormed items → k ≤ length items → tile_entries b all (tiles_to items (pools_of items) k) ≡ entries_of (take k items)
+entries_to : (b : BodyValue) (all : List Piece) (items : List Item) (k : ℕ) → HasPools b items → AreFormed items → k ≤ length items → tile_entries b all (laid.tiles_of items (pools_of items) k) ≡ entries_of (take k items)
 entries_to b all items zero h formed within = refl
 entries_to b all items (suc k) h formed within =
     let w = (item_at items k).what in
     let end = end_of items k in
     let address = address_of items k in
-    let before = tiles_to items (pools_of items) k in
-    let nops = nops_before end address in
-    let own = tiles_at items (pools_of items) k address w in
+    let before = laid.tiles_of items (pools_of items) k in
+    let nops = nops_between end address in
+    let own = tiles_at items (pools_of items) k w in
     let here : tile_entries b all (nops ++ own) ≡ entries_in (pool_ref w) =
     joined_entries b all nops own ∙ (ap (λ xs. xs ++ tile_entries b all own) (nops_by (nat_lt end address) b all end) ∙ own_entries b all items k w h (omega arith) refl (formed k no_item (omega arith))) in
     let listed : entries_of (take (suc k) items) ≡ entries_of (take k items) ++ entries_in (pool_ref w) =
     ap entries_of (next_item items k (omega arith)) ∙ (flat_map-append item_entries (take k items) (item_at items k ∷ []) ∙ ap (λ xs. entries_of (take k items) ++ xs) (append-nil (entries_in (pool_ref w)))) in
-    joined_entries b all before (nops ++ own) ∙
+    ap (tile_entries b all) (append_assoc before nops own) ∙
+    (joined_entries b all before (nops ++ own) ∙
     (ap (λ xs. xs ++ tile_entries b all (nops ++ own)) (entries_to b all items k h formed (omega arith)) ∙
-    (ap (λ xs. entries_of (take k items) ++ xs) here ∙ sym listed))
+    (ap (λ xs. entries_of (take k items) ++ xs) here ∙ sym listed)))
 
 -- ---- the items of the draft name what the pieces name
 
@@ -221,7 +225,7 @@ same_pools before after e =
 -- ---- the law
 
 abbrev all_pieces : DraftValue → List Piece
-all_pieces d = map piece_of (tiles_to d.items (pools_of d.items) (length d.items))
+all_pieces d = map piece_of (laid.tiles_of d.items (pools_of d.items) (length d.items))
 
 pub units_are : (d : DraftValue) → (layout d).units ≡ units_of d.items (pools_of d.items) (length d.items)
 unfolding body_of

@@ -20,7 +20,8 @@ use Rattle.dv_print.specs.Pieces.{piece_of}
 use Rattle.dv_print.specs.Named as named
 use Rattle.dv_print.specs.Named.{named_by_piece, named_by_try, addresses_named}
 use Rattle.dv_print.specs.Drafting.{items_from, labels_at, with_no_line}
-use Rattle.dv_print.specs.Laws.{KeepsAddresses, tiles_to}
+use Rattle.dv_asm.specs.Tiles.{tiles_of}
+use Rattle.dv_print.specs.Laws.{KeepsAddresses}
 use Rattle.dv_print.proofs.KeptEntries.{HasPools}
 use Rattle.dv_print.proofs.Resolved.{HasAt, Stands, stands_in, later_in, label_here, leads_there}
 use Rattle.dv_print.proofs.Branches.{Mem, placed, named_by_tile, any_left}
@@ -29,19 +30,19 @@ use Rattle.dv_print.proofs.Branches.{Mem, placed, named_by_tile, any_left}
 pub record Known (items after : List Item) (b : BodyValue) (all : List Piece) (names : List ℕ) : Type 0 where
   pub short : length b.units ≤ 16384
   pub ends : end_of items (length items) ≡ length b.units
-  pub pieces : all ≡ map piece_of (tiles_to items (pools_of items) (length items))
+  pub pieces : all ≡ map piece_of (tiles_of items (pools_of items) (length items))
   pub names_are : names ≡ addresses_named all b.tries
-  pub start : after ≡ items_from b all names (map piece_of (tiles_to items (pools_of items) (length items))) ++ labels_at names (length b.units)
+  pub start : after ≡ items_from b all names (map piece_of (tiles_of items (pools_of items) (length items))) ++ labels_at names (length b.units)
   pub kept : KeepsAddresses after b.units
   pub pools : HasPools b items
 
 -- an address that is named has its label
-pub stands_after : (items after : List Item) (b : BodyValue) (all : List Piece) (names : List ℕ) (a : ℕ) → Known items after b all names → named.is_named names a ≡ true → HasAt a (tiles_to items (pools_of items) (length items)) ⊎ (a ≡ length b.units) → Stands a after
+pub stands_after : (items after : List Item) (b : BodyValue) (all : List Piece) (names : List ℕ) (a : ℕ) → Known items after b all names → named.is_named names a ≡ true → HasAt a (tiles_of items (pools_of items) (length items)) ⊎ (a ≡ length b.units) → Stands a after
 stands_after items after b all names a h e (inl at) =
-    let found = stands_in b all names a (tiles_to items (pools_of items) (length items)) e at in
+    let found = stands_in b all names a (tiles_of items (pools_of items) (length items)) e at in
     (found.0, ap (λ xs. slice_get xs found.0) h.start ∙ appended _ _ found.0 _ found.1)
 stands_after items after b all names a h e (inr at) =
-    let front = items_from b all names (map piece_of (tiles_to items (pools_of items) (length items))) in
+    let front = items_from b all names (map piece_of (tiles_of items (pools_of items) (length items))) in
     let here : labels_at names (length b.units) ≡ with_no_line (what.Label (label_name a)) ∷ [] =
     ap (labels_at names) (sym at) ∙ label_here names a e in
     (length front + 0, ap (λ xs. slice_get xs (length front + 0)) h.start ∙ later_in front (labels_at names (length b.units)) 0 _ (ap (λ xs. slice_get xs 0) here))
@@ -56,13 +57,13 @@ leads_to items after b all names name h short has listed =
     let to = label_address items name in
     let place = label_placed items name (place_of items name) refl has in
     let spot = placed items (pools_of items) (length b.units) (length items - place.0) place.0 h.ends (omega (arith, place.1)) in
-    let P : ℕ → Type 0 = λ n. HasAt n (tiles_to items (pools_of items) (length items)) ⊎ (n ≡ length b.units) in
+    let P : ℕ → Type 0 = λ n. HasAt n (tiles_of items (pools_of items) (length items)) ⊎ (n ≡ length b.units) in
     let stands = stands_after items after b all names to h listed (subst P (sym place.2) spot) in
     leads_there after b.units to stands.0 h.kept h.short (label_within items name short) stands.1
 
 -- what a tile names is among the addresses that are named
-pub tile_listed : (items after : List Item) (b : BodyValue) (all : List Piece) (names : List ℕ) (a : ℕ) (t : Tile) → Known items after b all names → list_any (λ n. nat_eq n a) (named_by_piece all (piece_of t)) ≡ true → Mem t (tiles_to items (pools_of items) (length items)) → named.is_named names a ≡ true
+pub tile_listed : (items after : List Item) (b : BodyValue) (all : List Piece) (names : List ℕ) (a : ℕ) (t : Tile) → Known items after b all names → list_any (λ n. nat_eq n a) (named_by_piece all (piece_of t)) ≡ true → Mem t (tiles_of items (pools_of items) (length items)) → named.is_named names a ≡ true
 tile_listed items after b all names a t h e mem =
     ap (λ ns. named.is_named ns a) h.names_are ∙
     (list_any-append (λ n. nat_eq n a) (flat_map (named_by_piece all) all) (flat_map named_by_try b.tries) ∙
-    any_left _ _ (ap (λ ps. list_any (λ n. nat_eq n a) (flat_map (named_by_piece all) ps)) h.pieces ∙ named_by_tile all a t (tiles_to items (pools_of items) (length items)) e mem))
+    any_left _ _ (ap (λ ps. list_any (λ n. nat_eq n a) (flat_map (named_by_piece all) ps)) h.pieces ∙ named_by_tile all a t (tiles_of items (pools_of items) (length items)) e mem))

@@ -1,6 +1,7 @@
 pub mod Bytes
 pub mod Tiles
 pub mod Lines
+pub mod ItemTiles
 pub mod LaidOut
 pub mod Labels
 pub mod Entries

@@ -21,7 +21,9 @@ use Rattle.dv_asm.proofs.UnitLemmas.{insn_size, packed_size, sparse_size, data_s
 use Rattle.dv_print.specs.declared.pieces.Piece.{Piece}
 use Rattle.dv_print.specs.Pieces.{part_of, piece_of}
 use Rattle.dv_print.specs.Drafting.{labels_from, part_item, with_no_line, is_nop, is_payload_part, is_aligning, items_from}
-use Rattle.dv_print.specs.Laws.{IsNamedBy, tile, nops_before, tiles_at, tiles_to}
+use Rattle.dv_asm.specs.Tiles.{tiles_of, nops_between}
+use Rattle.dv_print.specs.Laws.{IsNamedBy}
+use Rattle.dv_print.proofs.ItemTiles.{tile, tiles_at}
 
 -- ---- sizes and kinds of pieces
 
@@ -83,18 +85,19 @@ payload_next items k within e = ap leads_to_payload (drop-cons items k no_item w
 even_address : (items : List Item) (k : ℕ) → k < length items → is_payload (item_at items k).what ≡ true → address_of items k % 2 ≡ 0
 even_address items k within e = aligned_even (end_of items k) (leads_to_payload (drop k items)) (payload_next items k within e)
 
-even_here : (items : List Item) (pools : Pools) (k : ℕ) (w : What) → k < length items → (item_at items k).what ≡ w → EvenPayloads (tiles_at items pools k (address_of items k) w)
+even_here : (items : List Item) (pools : Pools) (k : ℕ) (w : What) → k < length items → (item_at items k).what ≡ w → EvenPayloads (tiles_at items pools k w)
 even_here items pools k (what.Label name) within e = tt
 even_here items pools k (what.Op op) within e = (λ h. absurd (cc), tt)
 even_here items pools k (what.Packed first names) within e = (λ h. even_address items k within (ap is_payload e), tt)
 even_here items pools k (what.Sparse keys names) within e = (λ h. even_address items k within (ap is_payload e), tt)
 even_here items pools k (what.Data width bytes) within e = (λ h. even_address items k within (ap is_payload e), tt)
 
-pub even_to : (items : List Item) (pools : Pools) (k : ℕ) → k ≤ length items → EvenPayloads (tiles_to items pools k)
+pub even_to : (items : List Item) (pools : Pools) (k : ℕ) → k ≤ length items → EvenPayloads (tiles_of items pools k)
 even_to items pools zero within = tt
 even_to items pools (suc k) within =
-    even_append (tiles_to items pools k) _ (even_to items pools k (omega arith))
-    (even_append (nops_before (end_of items k) (address_of items k)) _ (even_by (nat_lt (end_of items k) (address_of items k)) (end_of items k)) (even_here items pools k (item_at items k).what (omega arith) refl))
+    even_append (tiles_of items pools k ++ nops_between (end_of items k) (address_of items k)) _
+    (even_append (tiles_of items pools k) _ (even_to items pools k (omega arith)) (even_by (nat_lt (end_of items k) (address_of items k)) (end_of items k)))
+    (even_here items pools k (item_at items k).what (omega arith) refl)
 
 abbrev pub aligned_if : ℕ → Bool → ℕ
 aligned_if end b = if nat_eq (end % 2) 1 && b then end + 1 else end

@@ -29,7 +29,7 @@ use Rattle.dv_print.specs.Operands.{has_offset}
 use Rattle.dv_print.specs.Pieces.{part_of, piece_of}
 use Rattle.dv_print.specs.Named.{target_of}
 use Rattle.dv_print.specs.Drafting.{op_of, part_item, piece_item, labels_at, is_nop, is_aligning, items_at, items_from}
-use Rattle.dv_print.specs.Laws.{tiles_to}
+use Rattle.dv_asm.specs.Tiles.{tiles_of}
 use Rattle.dv_print.proofs.Entries.{appended, not_before}
 use Rattle.dv_print.proofs.Resolved.{later_in}
 use Rattle.dv_print.proofs.Branches.{Mem}
@@ -117,8 +117,8 @@ no_nop op e = grind (arith, nat_tests)
 pub record Drafts (items after : List Item) (pools : Pools) (b : BodyValue) (all : List Piece) (names : List ℕ) (final : List Item) : Type 0 where
   pub formed : AreFormed items
   pub once : repeated items ≡ None
-  pub start : after ≡ items_from b all names (map piece_of (tiles_to items pools (length items))) ++ final
-  pub placed : (k : ℕ) → k < length after → IsPlaced b all (tiles_to items pools (length items)) (item_at after k).what (address_of after k)
+  pub start : after ≡ items_from b all names (map piece_of (tiles_of items pools (length items))) ++ final
+  pub placed : (k : ℕ) → k < length after → IsPlaced b all (tiles_of items pools (length items)) (item_at after k).what (address_of after k)
   pub leads : (k a : ℕ) → k < length items → SwitchTo items (item_at items k).what a → label_address after (label_name a) ≡ a
 
 -- a switch of the draft is made of a switch of the draft before it, and stands where that stands
@@ -131,7 +131,7 @@ record IsAgain (items after : List Item) (j a : ℕ) : Type 0 where
 again : (items after : List Item) (pools : Pools) (b : BodyValue) (all : List Piece) (names : List ℕ) (final : List Item) (j a : ℕ) → Drafts items after pools b all names final → j < length after → SwitchTo after (item_at after j).what a → IsAgain items after j a
 again items after pools b all names final j a d within s = at (d.placed j within)
   where
-    made : IsOfTile b all (tiles_to items pools (length items)) (item_at after j).what (address_of after j) → IsAgain items after j a
+    made : IsOfTile b all (tiles_of items pools (length items)) (item_at after j).what (address_of after j) → IsAgain items after j a
     made f =
         let o = of_insn b all f.tile s.op f.tile.item refl (sym s.is ∙ f.is) in
         let to = jump f.tile.at o.insn.off in
@@ -146,7 +146,7 @@ again items after pools b all names final j a d within s = at (d.placed j within
           at = sym f.at ∙ i.at;
         }
 
-    at : IsPlaced b all (tiles_to items pools (length items)) (item_at after j).what (address_of after j) → IsAgain items after j a
+    at : IsPlaced b all (tiles_of items pools (length items)) (item_at after j).what (address_of after j) → IsAgain items after j a
     at (inl label) =
         let not_label : is_label (what.Op s.op) ≡ true = sym (ap is_label s.is) ∙ label in
         absurd (cc (not_label))
@@ -164,7 +164,7 @@ kept_switch items after pools b all names final k a d within s none =
     let t = switch_tile items pools k a within s in
     let i = t.to.insn in
     let stays : is_nop (part_of t.tile.item) ≡ false = ap (λ x. is_nop (part_of x)) t.to.is ∙ no_nop i.op t.to.opcode in
-    let (j, found) = item_in b all names t.tile (tiles_to items pools (length items)) stays t.mem in
+    let (j, found) = item_in b all names t.tile (tiles_of items pools (length items)) stays t.mem in
     let here : slice_get after j ≡ Some (piece_item b all (piece_of t.tile)) = ap (λ xs. slice_get xs j) d.start ∙ appended _ final j _ found in
     let is : (piece_item b all (piece_of t.tile)).what ≡ what.Op (op_of b t.tile.at i) = ap (λ x. part_item b all t.tile.at (part_of x)) t.to.is in
     let to : jump t.tile.at i.off ≡ a = t.to.leads in

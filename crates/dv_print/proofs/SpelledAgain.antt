@@ -1,5 +1,5 @@
 -- The draft that is made of a laid-out body is spelled as that body.
-use Rattle.std.proofs.Common.{◌≡◌, ℕ, ◌<◌, ◌≤◌, zero, suc, ℤ, pos, ◌-ℤ◌, Bool, true, false, ◌&&◌, List, [], ◌∷◌, length, map, nat_lt, nat_eq, Option, Some, None, is_some, if◌then◌else◌, refl, ap, sym, ◌∙◌, subst, arith}
+use Rattle.std.proofs.Common.{◌≡◌, ℕ, ◌<◌, ◌≤◌, zero, suc, ℤ, pos, ◌-ℤ◌, Bool, true, false, ◌&&◌, List, [], ◌∷◌, ◌++◌, length, map, nat_lt, nat_eq, Option, Some, None, is_some, if◌then◌else◌, refl, ap, sym, ◌∙◌, subst, arith}
 use Rattle.std.specs.Prelude.{option_map}
 use Rattle.std.specs.List.{list_any, list_all}
 use Rattle.std.specs.Option.{option_to_list}
@@ -28,7 +28,8 @@ use Rattle.dv_print.specs.Operands.{has_offset}
 use Rattle.dv_print.specs.Named as named
 use Rattle.dv_print.specs.Named.{target_of, named_by_try, addresses_named}
 use Rattle.dv_print.specs.Drafting.{pool_of, entry_in, op_of, labels_from}
-use Rattle.dv_print.specs.Laws.{tile, nops_before, tiles_at, tiles_to}
+use Rattle.dv_asm.specs.Tiles.{tiles_of, nops_between}
+use Rattle.dv_print.proofs.ItemTiles.{tile, tiles_at}
 use Rattle.dv_print.proofs.KeptEntries.{own_entry, small_opcode}
 use Rattle.dv_print.proofs.KeptUnits.{AreSpelledAs}
 use Rattle.dv_print.proofs.Branches.{mem_to, leads_back, any_left, any_right}
@@ -52,7 +53,7 @@ branch_same items after b all names k op name h short within e labelled has offs
     let off : i.off ≡ pos to -ℤ pos from = offset_some items k op.label name (pos to -ℤ pos from) labelled refl in
     let target : target_of from i ≡ Some to = target_is from i (has_offset op.insn.op) offset ∙ ap (λ z. Some (jump from z)) off ∙ ap Some (leads_back from to) in
     let t = tile from (size_of (what.Op op)) (IsInsn i) in
-    let member = mem_to items (pools_of items) k (length items) t within (ap (tiles_at items (pools_of items) k from) e) in
+    let member = mem_to items (pools_of items) k (length items) t within (ap (tiles_at items (pools_of items) k) e) in
     let same : nat_eq to to ≡ true = grind (arith, nat_tests) in
     let listed = tile_listed items after b all names to t h (ap (λ o. list_any (λ n. nat_eq n to) (option_to_list o)) target ∙ any_left (nat_eq to to) false same) member in
     let leads = leads_to items after b all names name h short has listed in
@@ -61,7 +62,7 @@ branch_same items after b all names k op name h short within e labelled has offs
 
 -- ---- each piece is spelled as it was
 
-op_spelled : (items after : List Item) (b : BodyValue) (all : List Piece) (names : List ℕ) (k : ℕ) (op : Draftop) (label : Option (List ℕ)) → Known items after b all names → k < length items → (item_at items k).what ≡ what.Op op → IsOp op → op.label ≡ label → has_label_if_any items label ≡ true → too_long items ≡ None → AreSpelledAs after (pools_of items) b all (tiles_at items (pools_of items) k (address_of items k) (what.Op op))
+op_spelled : (items after : List Item) (b : BodyValue) (all : List Piece) (names : List ℕ) (k : ℕ) (op : Draftop) (label : Option (List ℕ)) → Known items after b all names → k < length items → (item_at items k).what ≡ what.Op op → IsOp op → op.label ≡ label → has_label_if_any items label ≡ true → too_long items ≡ None → AreSpelledAs after (pools_of items) b all (tiles_at items (pools_of items) k (what.Op op))
 op_spelled items after b all names k op None h within e formed labelled has short =
     let small = small_opcode (blank op.insn) (spelling (blank op.insn)) refl formed.form in
     let none : has_offset op.insn.op ≡ false = same_offsets op.insn.op small ∙ (sym formed.label ∙ ap is_some labelled) in
@@ -134,12 +135,12 @@ pub record Laid (items after : List Item) (b : BodyValue) (all : List Piece) (na
   pub short : too_long items ≡ None
   pub rebased : (k : ℕ) → k < length items → is_payload (item_at items k).what ≡ true → IsRebased items after all k
 
-payload_listed : (items after : List Item) (b : BodyValue) (all : List Piece) (names : List ℕ) (k : ℕ) (w : What) (p : Payload) → Laid items after b all names → k < length items → (item_at items k).what ≡ w → tiles_at items (pools_of items) k (address_of items k) w ≡ tile (address_of items k) (size_of w) (IsPayload p) ∷ [] → (a : ℕ) → list_any (λ n. nat_eq n a) (named.named_by_payload (named.base_of all (address_of items k)) p) ≡ true → named.is_named names a ≡ true
+payload_listed : (items after : List Item) (b : BodyValue) (all : List Piece) (names : List ℕ) (k : ℕ) (w : What) (p : Payload) → Laid items after b all names → k < length items → (item_at items k).what ≡ w → tiles_at items (pools_of items) k w ≡ tile (address_of items k) (size_of w) (IsPayload p) ∷ [] → (a : ℕ) → list_any (λ n. nat_eq n a) (named.named_by_payload (named.base_of all (address_of items k)) p) ≡ true → named.is_named names a ≡ true
 payload_listed items after b all names k w p l within e tiles a h =
     let t = tile (address_of items k) (size_of w) (IsPayload p) in
-    tile_listed items after b all names a t l.known h (mem_to items (pools_of items) k (length items) t within (ap (tiles_at items (pools_of items) k (address_of items k)) e ∙ tiles))
+    tile_listed items after b all names a t l.known h (mem_to items (pools_of items) k (length items) t within (ap (tiles_at items (pools_of items) k) e ∙ tiles))
 
-own_spelled : (items after : List Item) (b : BodyValue) (all : List Piece) (names : List ℕ) (k : ℕ) (w : What) → Laid items after b all names → k < length items → (item_at items k).what ≡ w → IsFormed w → has_labels items w ≡ true → AreSpelledAs after (pools_of items) b all (tiles_at items (pools_of items) k (address_of items k) w)
+own_spelled : (items after : List Item) (b : BodyValue) (all : List Piece) (names : List ℕ) (k : ℕ) (w : What) → Laid items after b all names → k < length items → (item_at items k).what ≡ w → IsFormed w → has_labels items w ≡ true → AreSpelledAs after (pools_of items) b all (tiles_at items (pools_of items) k w)
 own_spelled items after b all names k (what.Label name) l within e formed has = tt
 own_spelled items after b all names k (what.Op op) l within e formed has = op_spelled items after b all names k op op.label l.known within e formed refl has l.short
 own_spelled items after b all names k (what.Packed first targets) l within e formed has =
@@ -153,11 +154,11 @@ own_spelled items after b all names k (what.Sparse keys targets) l within e form
 own_spelled items after b all names k (what.Data width bytes) l within e formed has = (λ j at. refl, tt)
 
 -- the first k items are spelled as they were
-pub spelled_to : (items after : List Item) (b : BodyValue) (all : List Piece) (names : List ℕ) (k : ℕ) → Laid items after b all names → k ≤ length items → AreSpelledAs after (pools_of items) b all (tiles_to items (pools_of items) k)
+pub spelled_to : (items after : List Item) (b : BodyValue) (all : List Piece) (names : List ℕ) (k : ℕ) → Laid items after b all names → k ≤ length items → AreSpelledAs after (pools_of items) b all (tiles_of items (pools_of items) k)
 spelled_to items after b all names zero l within = tt
 spelled_to items after b all names (suc k) l within =
     let end = end_of items k in
     let address = address_of items k in
-    spelled_append after (pools_of items) b all (tiles_to items (pools_of items) k) _ (spelled_to items after b all names k l (omega arith))
-    (spelled_append after (pools_of items) b all (nops_before end address) _ (nops_by (nat_lt end address) after (pools_of items) b all end)
-    (own_spelled items after b all names k (item_at items k).what l (omega arith) refl (l.formed k no_item (omega arith)) (l.labelled k (omega arith))))
+    spelled_append after (pools_of items) b all (tiles_of items (pools_of items) k ++ nops_between end address) _
+    (spelled_append after (pools_of items) b all (tiles_of items (pools_of items) k) _ (spelled_to items after b all names k l (omega arith)) (nops_by (nat_lt end address) after (pools_of items) b all end))
+    (own_spelled items after b all names k (item_at items k).what l (omega arith) refl (l.formed k no_item (omega arith)) (l.labelled k (omega arith)))

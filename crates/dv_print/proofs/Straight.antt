@@ -19,7 +19,7 @@ use Rattle.dv_print.specs.declared.pieces.Piece.{Piece}
 use Rattle.dv_print.specs.Numbers.{label_name}
 use Rattle.dv_print.specs.Operands.{has_offset}
 use Rattle.dv_print.specs.Drafting.{pool_of, entry_in, op_of}
-use Rattle.dv_print.specs.Laws.{tile}
+use Rattle.dv_print.proofs.ItemTiles.{tile}
 use Rattle.dv_print.proofs.KeptEntries.{nop_pool}
 use Rattle.dv_print.proofs.KeptUnits.{AreSpelledAs}
 

@@ -28,7 +28,8 @@ use Rattle.dv_print.specs.declared.pieces.Piece.{Piece}
 use Rattle.dv_print.specs.Pieces.{part_of, piece_of}
 use Rattle.dv_print.specs.Named as named
 use Rattle.dv_print.specs.Named.{part_switches_to, switches_to}
-use Rattle.dv_print.specs.Laws.{tile, nops_before, tiles_at, tiles_to}
+use Rattle.dv_asm.specs.Tiles.{tiles_of, nops_between}
+use Rattle.dv_print.proofs.ItemTiles.{tile, tiles_at}
 use Rattle.dv_print.proofs.Branches.{Mem, mem_to, leads_back}
 
 -- ---- switches of a draft
@@ -101,7 +102,7 @@ switch_found items k a e =
 pub record OfItem (items : List Item) (pools : Pools) (t : Tile) : Type 0 where
   pub place : ℕ
   pub within : place < length items
-  pub own : Mem t (tiles_at items pools place (address_of items place) (item_at items place).what)
+  pub own : Mem t (tiles_at items pools place (item_at items place).what)
 
 mem_split : (t : Tile) (xs ys : List Tile) → Mem t (xs ++ ys) → Mem t xs ⊎ Mem t ys
 mem_split t [] ys h = inr h
@@ -118,17 +119,17 @@ is_nop_of true end t (inr h) = absurd h
 is_nop_of false end t h = absurd h
 
 -- a tile of items is an aligning nop or an item's
-pub of_item : (items : List Item) (pools : Pools) (m : ℕ) (t : Tile) → m ≤ length items → Mem t (tiles_to items pools m) → (t.item ≡ IsInsn (plain 0 (few []))) ⊎ OfItem items pools t
+pub of_item : (items : List Item) (pools : Pools) (m : ℕ) (t : Tile) → m ≤ length items → Mem t (tiles_of items pools m) → (t.item ≡ IsInsn (plain 0 (few []))) ⊎ OfItem items pools t
 of_item items pools zero t within h = absurd h
-of_item items pools (suc m) t within h = at (mem_split t (tiles_to items pools m) _ h) (λ before. of_item items pools m t (omega arith) before)
+of_item items pools (suc m) t within h = at (mem_split t (tiles_of items pools m ++ nops_between (end_of items m) (address_of items m)) _ h) (λ before. of_item items pools m t (omega arith) before)
   where
-    last : Mem t (nops_before (end_of items m) (address_of items m)) ⊎ Mem t (tiles_at items pools m (address_of items m) (item_at items m).what) → (t.item ≡ IsInsn (plain 0 (few []))) ⊎ OfItem items pools t
-    last (inl nop) = inl (is_nop_of (nat_lt (end_of items m) (address_of items m)) (end_of items m) t nop)
-    last (inr own) = inr (record { place = m; within = omega arith; own = own })
+    front : Mem t (tiles_of items pools m) ⊎ Mem t (nops_between (end_of items m) (address_of items m)) → (Mem t (tiles_of items pools m) → (t.item ≡ IsInsn (plain 0 (few []))) ⊎ OfItem items pools t) → (t.item ≡ IsInsn (plain 0 (few []))) ⊎ OfItem items pools t
+    front (inl before) earlier = earlier before
+    front (inr nop) earlier = inl (is_nop_of (nat_lt (end_of items m) (address_of items m)) (end_of items m) t nop)
 
-    at : Mem t (tiles_to items pools m) ⊎ Mem t (nops_before (end_of items m) (address_of items m) ++ tiles_at items pools m (address_of items m) (item_at items m).what) → (Mem t (tiles_to items pools m) → (t.item ≡ IsInsn (plain 0 (few []))) ⊎ OfItem items pools t) → (t.item ≡ IsInsn (plain 0 (few []))) ⊎ OfItem items pools t
-    at (inl before) earlier = earlier before
-    at (inr here) earlier = last (mem_split t (nops_before (end_of items m) (address_of items m)) _ here)
+    at : Mem t (tiles_of items pools m ++ nops_between (end_of items m) (address_of items m)) ⊎ Mem t (tiles_at items pools m (item_at items m).what) → (Mem t (tiles_of items pools m) → (t.item ≡ IsInsn (plain 0 (few []))) ⊎ OfItem items pools t) → (t.item ≡ IsInsn (plain 0 (few []))) ⊎ OfItem items pools t
+    at (inl before) earlier = front (mem_split t (tiles_of items pools m) _ before) earlier
+    at (inr own) earlier = inr (record { place = m; within = omega arith; own = own })
 
 -- ---- switches among the tiles
 
@@ -168,7 +169,7 @@ record OfOp (items : List Item) (pools : Pools) (t : Tile) (i : Insn) (k : ℕ) 
 insn_same : (i j : Insn) → (let x : tiling.Item = IsInsn i in x) ≡ IsInsn j → i ≡ j
 insn_same i j e = cc
 
-of_op : (items : List Item) (pools : Pools) (t : Tile) (i : Insn) (k : ℕ) (w : What) → t.item ≡ IsInsn i → Mem t (tiles_at items pools k (address_of items k) w) → OfOp items pools t i k w
+of_op : (items : List Item) (pools : Pools) (t : Tile) (i : Insn) (k : ℕ) (w : What) → t.item ≡ IsInsn i → Mem t (tiles_at items pools k w) → OfOp items pools t i k w
 of_op items pools t i k (what.Label name) e h = absurd h
 of_op items pools t i k (what.Op op) e (inl same) =
     record { op = op; is = refl; insn = insn_same (insn_of items pools k op) i (ap (λ y. y.item) same ∙ e); at = ap (λ y. y.at) (sym same) }
@@ -226,7 +227,7 @@ item_of_op items pools t a k formed within s o =
     }
 
 -- a tile that is a switch is that of an item
-pub switch_item : (items : List Item) (pools : Pools) (t : Tile) (a : ℕ) → AreFormed items → Mem t (tiles_to items pools (length items)) → TileTo a t → IsTiled items t a
+pub switch_item : (items : List Item) (pools : Pools) (t : Tile) (a : ℕ) → AreFormed items → Mem t (tiles_of items pools (length items)) → TileTo a t → IsTiled items t a
 switch_item items pools t a formed h s = at (of_item items pools (length items) t (omega arith) h)
   where
     at : (t.item ≡ IsInsn (plain 0 (few []))) ⊎ OfItem items pools t → IsTiled items t a
@@ -239,7 +240,7 @@ switch_item items pools t a formed h s = at (of_item items pools (length items) 
 -- a tile of an item that is a switch
 pub record HasTile (items : List Item) (pools : Pools) (k a : ℕ) : Type 0 where
   pub tile : Tile
-  pub mem : Mem tile (tiles_to items pools (length items))
+  pub mem : Mem tile (tiles_of items pools (length items))
   pub to : TileTo a tile
   pub at : tile.at ≡ address_of items k
 
@@ -248,7 +249,7 @@ switch_tile items pools k a within s =
     let t = tile (address_of items k) (size_of (what.Op s.op)) (IsInsn (insn_of items pools k s.op)) in
     record {
       tile = t;
-      mem = mem_to items pools k (length items) t within (ap (tiles_at items pools k (address_of items k)) s.is);
+      mem = mem_to items pools k (length items) t within (ap (tiles_at items pools k) s.is);
       to = record { insn = insn_of items pools k s.op; is = refl; opcode = s.opcode; leads = offset_to items k s.op.label s.name s.label ∙ s.leads };
       at = refl;
     }
@@ -293,20 +294,20 @@ pub record HasPayload (items : List Item) (a : ℕ) : Type 0 where
   pub at : address_of items place ≡ a
 
 -- the targets of a payload count from the same address among the pieces as among the items
-pub base_before : (items : List Item) (pools : Pools) (a : ℕ) → AreFormed items → repeated items ≡ None → HasPayload items a → named.base_of (map piece_of (tiles_to items pools (length items))) a ≡ base_of items a
-base_before items pools a formed once p = at (find (switches_to a) (map piece_of (tiles_to items pools (length items)))) refl
+pub base_before : (items : List Item) (pools : Pools) (a : ℕ) → AreFormed items → repeated items ≡ None → HasPayload items a → named.base_of (map piece_of (tiles_of items pools (length items))) a ≡ base_of items a
+base_before items pools a formed once p = at (find (switches_to a) (map piece_of (tiles_of items pools (length items)))) refl
   where
-    without : (place : Option ℕ) → switch_of items a ≡ place → find (switches_to a) (map piece_of (tiles_to items pools (length items))) ≡ None → 0 ≡ option_map_or (address_of items) place 0
+    without : (place : Option ℕ) → switch_of items a ≡ place → find (switches_to a) (map piece_of (tiles_of items pools (length items))) ≡ None → 0 ≡ option_map_or (address_of items) place 0
     without None e h = refl
     without (Some k) e h =
         let k_names = switch_found items k a e in
         let t = switch_tile items pools k a k_names.0 (is_switch items (item_at items k).what a k_names.1) in
-        absurd (cc (none_in a (tiles_to items pools (length items)) t.tile h t.mem, tile_switches a t.tile t.to))
+        absurd (cc (none_in a (tiles_of items pools (length items)) t.tile h t.mem, tile_switches a t.tile t.to))
 
-    at : (o : Option Piece) → find (switches_to a) (map piece_of (tiles_to items pools (length items))) ≡ o → option_map_or (λ (q : Piece). q.at) o 0 ≡ base_of items a
+    at : (o : Option Piece) → find (switches_to a) (map piece_of (tiles_of items pools (length items))) ≡ o → option_map_or (λ (q : Piece). q.at) o 0 ≡ base_of items a
     at None e = without (switch_of items a) refl e
     at (Some q) e =
-        let f = found_in a (tiles_to items pools (length items)) q e in
+        let f = found_in a (tiles_of items pools (length items)) q e in
         let i = switch_item items pools f.tile a formed f.mem (tile_to a f.tile f.switches) in
         let own = own_switch items i.place p.place a once i.within p.within p.payload p.at (names_it items (item_at items i.place).what a i.switch) in
         sym f.at ∙ (i.at ∙ sym (ap (λ o. option_map_or (address_of items) o 0) own))

@@ -4,8 +4,7 @@ use Rattle.std.specs.List.{flat_map, slice_get}
 use Rattle.dv_defs.specs.declared.code.Payload.TheVariants as payload
 use Rattle.dv_defs.specs.Spelling.{plain, few, all_fit, fits_signed}
 use Rattle.dv_defs.specs.Payloads.{all_fit_signed}
-use Rattle.dv_defs.specs.Tiling as tiling
-use Rattle.dv_defs.specs.Tiling.{IsInsn, IsPayload, Tile}
+use Rattle.dv_defs.specs.Tiling.{tiling}
 use Rattle.dv_asm.specs.declared.draft.Item.{Item}
 use Rattle.dv_asm.specs.declared.draft.What.{What}
 use Rattle.dv_asm.specs.declared.draft.What.TheVariants as what
@@ -18,7 +17,8 @@ use Rattle.dv_asm.specs.Places.{address_of, end_of, size_of_all, label_address}
 use Rattle.dv_asm.specs.Refusals.{item_refusal, refusal}
 use Rattle.dv_print.specs.Numbers.{label_name}
 use Rattle.dv_asm.specs.Pools.{pool_ref}
-use Rattle.dv_asm.specs.Layout.{insn_of, packed_of, sparse_of, pools_of, units_of, layout}
+use Rattle.dv_asm.specs.Layout.{pools_of, units_of, layout}
+use Rattle.dv_asm.specs.Tiles.{tiles_of}
 use Rattle.dv_print.specs.Drafting.{draft_of}
 
 -- No two addresses have the same label.
@@ -36,32 +36,12 @@ HasNumbers (what.Data width bytes) = IsTrue (all_fit 8 bytes)
 abbrev pub HaveNumbers : List Item → Type 0
 HaveNumbers items = All (λ (item : Item). HasNumbers item.what) items
 
-abbrev pub tile : ℕ → ℕ → tiling.Item → Tile
-tile at size x = record { at = at; size = size; item = x }
-
--- the nop that stands where items end before the address of the next one
-abbrev pub nops_before : ℕ → ℕ → List Tile
-nops_before end address = if nat_lt end address then tile end 1 (IsInsn (plain 0 (few []))) ∷ [] else []
-
--- item k at its address; a label has no units
-abbrev pub tiles_at : List Item → Pools → ℕ → ℕ → What → List Tile
-tiles_at items pools k at (what.Label name) = []
-tiles_at items pools k at (what.Op op) = tile at (size_of (what.Op op)) (IsInsn (insn_of items pools k op)) ∷ []
-tiles_at items pools k at (what.Packed first names) = tile at (size_of (what.Packed first names)) (IsPayload (packed_of items at first names)) ∷ []
-tiles_at items pools k at (what.Sparse keys names) = tile at (size_of (what.Sparse keys names)) (IsPayload (sparse_of items at keys names)) ∷ []
-tiles_at items pools k at (what.Data width bytes) = tile at (size_of (what.Data width bytes)) (IsPayload (payload.Data width bytes)) ∷ []
-
--- the first k items, with the nops before payloads
-abbrev pub tiles_to : List Item → Pools → ℕ → List Tile
-tiles_to items pools zero = []
-tiles_to items pools (suc k) = tiles_to items pools k ++ (nops_before (end_of items k) (address_of items k) ++ tiles_at items pools k (address_of items k) (item_at items k).what)
-
--- The units of a draft whose items aren't refused are its instructions and payloads, each at its address.
+-- The units of items that aren't refused are tiled by what the items are: instructions and payloads at their addresses.
 abbrev pub LayoutIsTiled : Type 0
 LayoutIsTiled =
     (items : List Item) → AreFormed items → HaveNumbers items → item_refusal items ≡ None →
     IsTrue (all_fit 16 (units_of items (pools_of items) (length items))) →
-    tiling.tiling (units_of items (pools_of items) (length items)) ≡ Ok (tiles_to items (pools_of items) (length items))
+    tiling (units_of items (pools_of items) (length items)) ≡ Ok (tiles_of items (pools_of items) (length items))
 
 -- what instructions name, in the order of the items
 abbrev pub entries_in : PoolRef → List PoolRef
