@@ -1,5 +1,5 @@
 -- The draft of a body without switches and handlers is laid out as that body.
-use Rattle.std.proofs.Common.{◌≡◌, ℕ, ◌+◌, ◌%◌, ◌<◌, zero, suc, pos, ◌-ℤ◌, Bool, true, false, ◌&&◌, ◌||◌, ◌⊎◌, inl, inr, List, [], ◌∷◌, ◌++◌, length, map, drop, nat_lt, nat_eq, Some, if◌then◌else◌, refl, ap, sym, ◌∙◌, subst, arith, drop-cons}
+use Rattle.std.proofs.Common.{◌≡◌, ℕ, ◌+◌, ◌%◌, ◌<◌, zero, suc, pos, ◌-ℤ◌, Bool, true, false, ◌&&◌, ◌⊎◌, inl, inr, List, [], ◌∷◌, ◌++◌, length, map, drop, nat_lt, nat_eq, Some, if◌then◌else◌, refl, ap, sym, ◌∙◌, subst, arith, drop-cons}
 use Rattle.std.specs.Option.{option_to_list}
 use Rattle.std.proofs.Math.Seq.{drop-length}
 use Rattle.std.specs.List.{flat_map, list_any}
@@ -19,6 +19,7 @@ use Rattle.dv_print.specs.declared.pieces.Piece.{Piece}
 use Rattle.dv_print.specs.Named.{target_of, named_by_piece}
 use Rattle.dv_print.specs.Pieces.{piece_of}
 use Rattle.dv_asm.specs.Tiles.{tiles_of, nops_between}
+use Rattle.dv_print.proofs.Truth.{any_left, any_right, itself}
 use Rattle.dv_print.proofs.ItemTiles.{tile, tiles_at}
 use Rattle.dv_print.proofs.PieceItems.{aligned_again}
 use Rattle.dv_print.proofs.Walk.{stays}
@@ -99,17 +100,6 @@ placed items pools end (suc f) j e h = at (is_label (item_at items j).what) refl
 
 pub leads_back : (from to : ℕ) → jump from (pos to -ℤ pos from) ≡ to
 leads_back from to = grind (arith, ints)
-
-pub any_left : (p q : Bool) → p ≡ true → (p || q) ≡ true
-any_left true q e = refl
-any_left false q e = absurd (cc)
-
-pub any_right : (p q : Bool) → q ≡ true → (p || q) ≡ true
-any_right true q e = refl
-any_right false q e = e
-
-itself : (a : ℕ) → nat_eq a a ≡ true
-itself a = grind (arith, nat_tests)
 
 -- what the piece of a tile names is among what all pieces name
 pub named_by_tile : (all : List Piece) (a : ℕ) (t : Tile) (ts : List Tile) → list_any (λ n. nat_eq n a) (named_by_piece all (piece_of t)) ≡ true → Mem t ts → list_any (λ n. nat_eq n a) (flat_map (named_by_piece all) (map piece_of ts)) ≡ true

@@ -15,6 +15,7 @@ use Rattle.dv_defs.specs.declared.names.FieldRef.{FieldRef}
 use Rattle.dv_defs.specs.declared.names.MethodRef.{MethodRef}
 use Rattle.dv_defs.specs.Types.{base_eq, ty_eq, same_types, same_result, same_proto}
 use Rattle.dv_asm.specs.Pools.{with_entry, with_entry_if_any, with_entries, field_eq, method_eq}
+use Rattle.dv_print.proofs.Truth.{both, itself as number_itself}
 
 -- ---- tests of equality
 
@@ -23,29 +24,22 @@ pub record Tells {X : Type 0} (eq : X → X → Bool) : Type 0 where
   pub same : (a b : X) → eq a b ≡ true → a ≡ b
   pub itself : (a : X) → eq a a ≡ true
 
-parts : (a b : Bool) → (a && b) ≡ true → (a ≡ true) × (b ≡ true)
-parts true b e = (refl, e)
-parts false b e = absurd (cc)
-
 joined : (a b : Bool) → a ≡ true → b ≡ true → (a && b) ≡ true
 joined true b e h = h
 joined false b e h = absurd (cc)
-
-nat_itself : (n : ℕ) → nat_eq n n ≡ true
-nat_itself n = grind (arith, nat_tests)
 
 pub bytes_same : (a b : List ℕ) → bytes_eq a b ≡ true → a ≡ b
 bytes_same [] [] e = refl
 bytes_same [] (y ∷ b) e = absurd (cc)
 bytes_same (x ∷ a) [] e = absurd (cc)
 bytes_same (x ∷ a) (y ∷ b) e =
-    let p = parts (nat_eq x y) (bytes_eq a b) e in
+    let p = both (nat_eq x y) (bytes_eq a b) e in
     let first : x ≡ y = eqb-true x y p.0 in
     cc (first, bytes_same a b p.1)
 
 pub bytes_itself : (a : List ℕ) → bytes_eq a a ≡ true
 bytes_itself [] = refl
-bytes_itself (x ∷ a) = joined (nat_eq x x) (bytes_eq a a) (nat_itself x) (bytes_itself a)
+bytes_itself (x ∷ a) = joined (nat_eq x x) (bytes_eq a a) (number_itself x) (bytes_itself a)
 
 pub bytes_tell : Tells bytes_eq
 bytes_tell = record { same = bytes_same; itself = bytes_itself }
@@ -74,11 +68,11 @@ ty_by m n a b e h = cc
 
 ty_same : (a b : Ty) → ty_eq a b ≡ true → a ≡ b
 ty_same a b e =
-    let p = parts (nat_eq a.dims b.dims) (base_eq a.base b.base) e in
+    let p = both (nat_eq a.dims b.dims) (base_eq a.base b.base) e in
     ty_by a.dims b.dims a.base b.base (eqb-true a.dims b.dims p.0) (base_same a.base b.base p.1)
 
 ty_itself : (a : Ty) → ty_eq a a ≡ true
-ty_itself a = joined (nat_eq a.dims a.dims) (base_eq a.base a.base) (nat_itself a.dims) (base_itself a.base)
+ty_itself a = joined (nat_eq a.dims a.dims) (base_eq a.base a.base) (number_itself a.dims) (base_itself a.base)
 
 pub types_tell : Tells ty_eq
 types_tell = record { same = ty_same; itself = ty_itself }
@@ -88,8 +82,8 @@ field_by a b m n t u e h k = cc
 
 field_same : (a b : FieldRef) → field_eq a b ≡ true → a ≡ b
 field_same a b e =
-    let p = parts (ty_eq a.class b.class) (bytes_eq a.name b.name && ty_eq a.ty b.ty) e in
-    let q = parts (bytes_eq a.name b.name) (ty_eq a.ty b.ty) p.1 in
+    let p = both (ty_eq a.class b.class) (bytes_eq a.name b.name && ty_eq a.ty b.ty) e in
+    let q = both (bytes_eq a.name b.name) (ty_eq a.ty b.ty) p.1 in
     field_by a.class b.class a.name b.name a.ty b.ty (ty_same a.class b.class p.0) (bytes_same a.name b.name q.0) (ty_same a.ty b.ty q.1)
 
 field_itself : (a : FieldRef) → field_eq a a ≡ true
@@ -103,7 +97,7 @@ all_same [] [] e = refl
 all_same [] (y ∷ b) e = absurd (cc)
 all_same (x ∷ a) [] e = absurd (cc)
 all_same (x ∷ a) (y ∷ b) e =
-    let p = parts (ty_eq x y) (same_types a b) e in
+    let p = both (ty_eq x y) (same_types a b) e in
     cc (ty_same x y p.0, all_same a b p.1)
 
 all_itself : (a : List Ty) → same_types a a ≡ true
@@ -125,7 +119,7 @@ proto_by a b r s e h = cc
 
 proto_same : (p q : Proto) → same_proto p q ≡ true → p ≡ q
 proto_same p q e =
-    let h = parts (same_types p.params q.params) (same_result p.ret q.ret) e in
+    let h = both (same_types p.params q.params) (same_result p.ret q.ret) e in
     proto_by p.params q.params p.ret q.ret (all_same p.params q.params h.0) (result_same p.ret q.ret h.1)
 
 proto_itself : (p : Proto) → same_proto p p ≡ true
@@ -136,8 +130,8 @@ method_by a b m n p q e h k = cc
 
 method_same : (a b : MethodRef) → method_eq a b ≡ true → a ≡ b
 method_same a b e =
-    let p = parts (ty_eq a.class b.class) (bytes_eq a.name b.name && same_proto a.proto b.proto) e in
-    let q = parts (bytes_eq a.name b.name) (same_proto a.proto b.proto) p.1 in
+    let p = both (ty_eq a.class b.class) (bytes_eq a.name b.name && same_proto a.proto b.proto) e in
+    let q = both (bytes_eq a.name b.name) (same_proto a.proto b.proto) p.1 in
     method_by a.class b.class a.name b.name a.proto b.proto (ty_same a.class b.class p.0) (bytes_same a.name b.name q.0) (proto_same a.proto b.proto q.1)
 
 method_itself : (a : MethodRef) → method_eq a a ≡ true

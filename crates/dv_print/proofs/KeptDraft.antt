@@ -1,12 +1,11 @@
 -- The draft that is made of a laid-out body is laid out as that body.
-use Rattle.std.proofs.Common.{◌≡◌, ℕ, ◌<◌, Bool, true, false, not, ◌&&◌, List, [], ◌∷◌, length, nat_eq, Option, Some, None, IsTrue, if◌then◌else◌, refl, ap, sym, ◌∙◌, subst, arith}
-use Rattle.std.specs.Option.{option_or, option_to_list}
+use Rattle.std.proofs.Common.{◌≡◌, ℕ, ◌<◌, true, false, not, List, [], ◌∷◌, length, nat_eq, Option, Some, None, IsTrue, if◌then◌else◌, refl, ap, sym, ◌∙◌, subst, arith}
+use Rattle.std.specs.Option.{option_to_list}
 use Rattle.std.proofs.lemmas.Bool.Decides.{nat_tests}
 use Rattle.std.specs.List.{flat_map, list_any}
 use Rattle.std.proofs.lemmas.List.Folds.{list_any-append}
 use Rattle.dv_defs.specs.declared.code.Try.{Try}
 use Rattle.dv_defs.specs.declared.names.Ty.{Ty}
-use Rattle.dv_defs.specs.declared.faults.LineKind.{LineKind}
 use Rattle.dv_defs.specs.declared.faults.LineKind.TheVariants as kind
 use Rattle.dv_defs.specs.Body.{BodyValue}
 use Rattle.dv_defs.specs.Numbers.{jump}
@@ -21,7 +20,6 @@ use Rattle.dv_asm.specs.Places.{address_of, end_of, label_address}
 use Rattle.dv_asm.specs.Refusals.{refused, label_twice, no_label, no_label_at, no_label_of_catch_at, has_label, has_labels, has_label_if_any, catch_at, catch_has_labels, repeated, label_refusal, item_refusal, range_refusal, refusal}
 use Rattle.dv_asm.specs.First.{first_line, earlier}
 use Rattle.dv_asm.proofs.FirstLemmas.{first_line_none, not_when}
-use Rattle.dv_asm.proofs.Writing.{are_writable}
 use Rattle.dv_asm.specs.Layout.{pools_of, types_of, tries_of, units_of, body_of, layout}
 use Rattle.dv_asm.proofs.PlaceLemmas.{ends_within}
 use Rattle.dv_print.specs.declared.pieces.Piece.{Piece}
@@ -32,12 +30,12 @@ use Rattle.dv_print.specs.Named.{target_of, named_by_part, named_by_piece, named
 use Rattle.dv_print.specs.Drafting.{labels_at, catches_of_try, draft_of}
 use Rattle.dv_asm.specs.Tiles.{tiles_of}
 use Rattle.dv_print.specs.Laws.{HaveNumbers}
+use Rattle.dv_print.proofs.Truth.{both, any_left, any_right, not_false, none_of, refused_none}
 use Rattle.dv_print.proofs.KeptEntries.{has_pools, units_are, pieces_are, draft_keeps_entries}
 use Rattle.dv_print.proofs.PieceItems.{even_to}
 use Rattle.dv_print.proofs.KeptAddresses.{tiles_are, draft_starts, draft_keeps_addresses}
 use Rattle.dv_print.proofs.KeptUnits.{units_kept}
 use Rattle.dv_print.proofs.LaidOut.{layout_size, are_short}
-use Rattle.dv_print.proofs.Branches.{any_left, any_right}
 use Rattle.dv_print.proofs.KnownDraft.{Known, leads_to, tile_listed}
 use Rattle.dv_print.proofs.Placed.{are_placed}
 use Rattle.dv_print.proofs.Switches.{SwitchTo, HasPayload, switch_tile, base_before}
@@ -47,30 +45,14 @@ use Rattle.dv_print.proofs.KeptHandlers.{LeadsTo, Leads, entry_names, handler_na
 
 -- ---- the refusals
 
-none_first : {Y : Type 0} (a c : Option Y) → option_or a c ≡ None → (a ≡ None) × (c ≡ None)
-none_first None c none = (refl, none)
-none_first (Some y) c none = absurd (cc)
-
-refused_none : (k : LineKind) (line : Option ℕ) → refused k line ≡ None → line ≡ None
-refused_none k None none = refl
-refused_none k (Some line) none = absurd (cc)
-
 earlier_none : (a c : Option ℕ) → earlier a c ≡ None → (a ≡ None) × (c ≡ None)
 earlier_none None c none = (refl, none)
 earlier_none (Some a) None none = absurd (cc)
 earlier_none (Some a) (Some c) none = absurd (cc)
 
-not_false : (c : Bool) → not c ≡ false → c ≡ true
-not_false true e = refl
-not_false false e = absurd (cc)
-
-both : (p q : Bool) → (p && q) ≡ true → (p ≡ true) × (q ≡ true)
-both true q e = (refl, e)
-both false q e = absurd (cc)
-
 no_label_refused : (items : List Item) (catches : List Catch) → label_refusal items catches ≡ None → no_label items catches ≡ None
 no_label_refused items catches none =
-    refused_none kind.NoLabel (no_label items catches) (none_first (refused kind.LabelTwice (label_twice items)) (refused kind.NoLabel (no_label items catches)) none).1
+    refused_none kind.NoLabel (no_label items catches) (none_of (refused kind.LabelTwice (label_twice items)) (refused kind.NoLabel (no_label items catches)) none).1
 
 -- the labels that items name are there
 items_labelled : (items : List Item) (catches : List Catch) → label_refusal items catches ≡ None → (k : ℕ) → k < length items → has_labels items (item_at items k).what ≡ true
@@ -97,8 +79,8 @@ record IsLaidOut (d : DraftValue) : Type 0 where
 
 laid_out : (d : DraftValue) → AreFormed d.items → HaveNumbers d.items → refusal d ≡ None → IsTrue (all_fit 16 (layout d).units) → IsLaidOut d
 laid_out d formed numbers none fit =
-    let first = none_first (label_refusal d.items d.catches) _ none in
-    let rest = none_first (item_refusal d.items) (range_refusal d.items d.catches) first.1 in
+    let first = none_of (label_refusal d.items d.catches) _ none in
+    let rest = none_of (item_refusal d.items) (range_refusal d.items d.catches) first.1 in
     record { formed = formed; numbers = numbers; labels = first.0; none = rest.0; ranges = rest.1; fit = fit }
 
 abbrev after_of : DraftValue → List Item
@@ -141,7 +123,7 @@ switch_leads d l k a within s =
     subst P s.leads (leads_to d.items (after_of d) (layout d) (pieces d) (all_named d) s.name (known d l) (are_short d.items l.none) has (ap (named.is_named (all_named d)) s.leads ∙ listed))
 
 none_repeated : (items : List Item) → item_refusal items ≡ None → repeated items ≡ None
-none_repeated items none = refused_none kind.Repeated (repeated items) (none_first (refused kind.Repeated (repeated items)) _ none).0
+none_repeated items none = refused_none kind.Repeated (repeated items) (none_of (refused kind.Repeated (repeated items)) _ none).0
 
 drafts : (d : DraftValue) → IsLaidOut d → Drafts d.items (after_of d) (pools_of d.items) (layout d) (pieces d) (all_named d) (labels_at (all_named d) (length (layout d).units))
 drafts d l = record {

@@ -1,5 +1,5 @@
 -- The draft that is made of a laid-out body names what the draft before it names.
-use Rattle.std.proofs.Common.{◌≡◌, ℕ, ◌+◌, ◌<◌, ◌≤◌, ◌%◌, zero, suc, Bool, true, false, ◌&&◌, List, [], ◌∷◌, ◌++◌, length, map, take, position, bytes_eq, nat_lt, nat_eq, Option, Some, None, IsSome, IsTrue, if◌then◌else◌, refl, ap, sym, ◌∙◌, arith, append-nil, append_assoc}
+use Rattle.std.proofs.Common.{◌≡◌, ℕ, ◌+◌, ◌<◌, ◌≤◌, ◌%◌, zero, suc, Bool, true, false, List, [], ◌∷◌, ◌++◌, length, map, take, position, bytes_eq, nat_lt, nat_eq, Option, Some, None, IsSome, IsTrue, if◌then◌else◌, refl, ap, sym, ◌∙◌, arith, append-nil, append_assoc}
 use Rattle.std.specs.Option.{unwrap_or}
 use Rattle.std.specs.List.{slice_get, flat_map}
 use Rattle.std.proofs.lemmas.Bool.{eqb-true}
@@ -43,6 +43,7 @@ use Rattle.dv_print.specs.Drafting.{found_as, pool_of, entry_in, part_item, piec
 use Rattle.dv_asm.specs.Tiles as laid
 use Rattle.dv_asm.specs.Tiles.{nops_between}
 use Rattle.dv_print.specs.Laws.{HaveNumbers, KeepsEntries, entries_in, item_entries, entries_of}
+use Rattle.dv_print.proofs.Truth.{both}
 use Rattle.dv_print.proofs.ItemTiles.{tile, tiles_at}
 use Rattle.dv_print.proofs.Entries.{Tells, bytes_tell, types_tell, fields_tell, methods_tell, kept, holds, at_index}
 use Rattle.dv_print.proofs.PoolKinds.{pool_for, pool_of_named, no_pool}
@@ -158,12 +159,8 @@ nop_part b all at (part.Insn i) e =
     ap (λ n. entries_in (entry_in b (pool_of n) i.index)) (eqb-true i.op 0 e) ∙ nop_names_none b i.index
 nop_part b all at (part.Payload p) e = absurd (cc)
 
-first_part : (a c : Bool) → (a && c) ≡ true → (a ≡ true) × (c ≡ true)
-first_part true c e = (refl, e)
-first_part false c e = absurd (cc)
-
 aligning_is_nop : (named : List ℕ) (p : Piece) (ps : List Piece) → is_aligning named p ps ≡ true → is_nop p.part ≡ true
-aligning_is_nop named p ps e = (first_part (is_nop p.part) _ (first_part (nat_eq (p.at % 2) 1) _ e).1).0
+aligning_is_nop named p ps e = (both (is_nop p.part) _ (both (nat_eq (p.at % 2) 1) _ e).1).0
 
 at_by : (c : Bool) (b : BodyValue) (all : List Piece) (named : List ℕ) (p : Piece) (ps : List Piece) → is_aligning named p ps ≡ c → entries_of (if c then [] else labels_at named p.at ++ piece_item b all p ∷ []) ≡ piece_entries b all p
 at_by true b all named p ps e = sym (nop_part b all p.at p.part (aligning_is_nop named p ps e))

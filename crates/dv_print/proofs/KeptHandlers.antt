@@ -1,7 +1,7 @@
 -- The handlers of a draft are laid out again as they were, when the draft that is made of the laid-out body is laid out.
-use Rattle.std.proofs.Common.{◌≡◌, ℕ, ◌<◌, zero, suc, Bool, true, false, ◌||◌, inl, inr, List, [], ◌∷◌, ◌++◌, length, map, take, get_or, nat_lt, nat_eq, position, Option, Some, None, cond, refl, ap, sym, ◌∙◌, subst, arith, ⊎_elim, append-nil, if◌then◌else◌}
+use Rattle.std.proofs.Common.{◌≡◌, ℕ, ◌<◌, zero, suc, Bool, true, false, inl, inr, List, [], ◌∷◌, ◌++◌, length, map, take, get_or, nat_lt, nat_eq, position, Option, Some, None, cond, refl, ap, sym, ◌∙◌, subst, arith, ⊎_elim, append-nil, if◌then◌else◌}
 use Rattle.std.specs.Prelude.{fold, filter}
-use Rattle.std.specs.Option.{unwrap_or, option_and_then, option_or}
+use Rattle.std.specs.Option.{unwrap_or, option_and_then}
 use Rattle.std.specs.List.{slice_get, flat_map, list_any, position_or_len}
 use Rattle.std.proofs.lemmas.Bool.{lt-ltb}
 use Rattle.std.proofs.lemmas.Bool.Decides.{nat_tests}
@@ -12,7 +12,6 @@ use Rattle.std.proofs.lemmas.Option.{slice_get_within, slice_get-get_or, get_or_
 use Rattle.std.proofs.lemmas.Simd.{map-map}
 use Rattle.dv_defs.specs.declared.code.Handler.{Handler}
 use Rattle.dv_defs.specs.declared.code.Try.{Try}
-use Rattle.dv_defs.specs.declared.faults.LineKind.{LineKind}
 use Rattle.dv_defs.specs.declared.faults.LineKind.TheVariants as kind
 use Rattle.dv_defs.specs.declared.names.Ty.{Ty}
 use Rattle.dv_defs.specs.Types.{ty_eq}
@@ -28,6 +27,7 @@ use Rattle.dv_asm.proofs.FirstLemmas.{first_line_none, not_when}
 use Rattle.dv_print.specs.Numbers.{label_name}
 use Rattle.dv_print.specs.Named.{handler_address, named_by_try, is_named}
 use Rattle.dv_print.specs.Drafting.{kind_of, catch_of, catches_of_try}
+use Rattle.dv_print.proofs.Truth.{neither, any_left, any_right, itself, none_of, refused_none}
 use Rattle.dv_print.proofs.Entries.{types_tell, Holds, holds, not_before, at_index}
 use Rattle.dv_print.proofs.KeptEntries.{kinds_kept}
 use Rattle.dv_print.proofs.SortedRanges.{range_by, same_range, same_itself, is_same_as, other_start, other_start_above, put, folds_alike, Among, fold_has, fold_from, After, after_at, IsSorted, Agree, sorted_where, AllAre, IsGroup, groups_sorted}
@@ -213,18 +213,6 @@ sorted_again hs rs sorted from =
 
 -- ---- what no refusal of ranges says
 
-or_none : {Y : Type 0} (a b : Option Y) → option_or a b ≡ None → (a ≡ None) × (b ≡ None)
-or_none None b none = (refl, none)
-or_none (Some y) b none = absurd (cc)
-
-refused_none : (k : LineKind) (line : Option ℕ) → refused k line ≡ None → line ≡ None
-refused_none k None none = refl
-refused_none k (Some line) none = absurd (cc)
-
-neither : (a b : Bool) → (a || b) ≡ false → (a ≡ false) × (b ≡ false)
-neither true b e = absurd (cc)
-neither false b e = (refl, e)
-
 -- a test passes at none of the first handlers
 none_before : (p : TryRange → Bool) (items : List Item) (catches : List Catch) (j k : ℕ) → list_any p (take k (ranges_of items catches)) ≡ false → j < k → k < length catches → p (range_of items (catch_at catches j)) ≡ false
 none_before p items [] j k none less within = absurd (omega arith)
@@ -247,7 +235,7 @@ record Known (items : List Item) (catches : List Catch) : Type 0 where
 
 known : (items : List Item) (catches : List Catch) → range_refusal items catches ≡ None → Known items catches
 known items catches none =
-    let parts = or_none (refused kind.TryRange (try_range items catches)) (refused kind.TryOverlap (try_overlap items catches)) none in
+    let parts = none_of (refused kind.TryRange (try_range items catches)) (refused kind.TryOverlap (try_overlap items catches)) none in
     let full = refused_none kind.TryRange (try_range items catches) parts.0 in
     let apart = refused_none kind.TryOverlap (try_overlap items catches) parts.1 in
     record {
@@ -427,38 +415,27 @@ handlers_kept items after catches none leads pools =
 
 -- ---- the addresses that handlers name
 
-left_or : (a b : Bool) → a ≡ true → (a || b) ≡ true
-left_or true b e = refl
-left_or false b e = absurd (cc)
-
-right_or : (a b : Bool) → b ≡ true → (a || b) ≡ true
-right_or true b e = refl
-right_or false b e = e
-
-nat_itself : (n : ℕ) → nat_eq n n ≡ true
-nat_itself n = grind (arith, nat_tests)
-
 in_entries : (test : ℕ → Bool) (entry_at : TryRange → Try) (rs : List TryRange) (r : TryRange) → Among r rs → list_any test (named_by_try (entry_at r)) ≡ true → list_any test (flat_map named_by_try (map entry_at rs)) ≡ true
 in_entries test entry_at [] r at e = absurd at
 in_entries test entry_at (s ∷ rs) r (inl same) e =
     list_any-append test (named_by_try (entry_at s)) (flat_map named_by_try (map entry_at rs)) ∙
-    left_or _ _ (ap (λ q. list_any test (named_by_try (entry_at q))) same ∙ e)
+    any_left _ _ (ap (λ q. list_any test (named_by_try (entry_at q))) same ∙ e)
 in_entries test entry_at (s ∷ rs) r (inr at) e =
     list_any-append test (named_by_try (entry_at s)) (flat_map named_by_try (map entry_at rs)) ∙
-    right_or (list_any test (named_by_try (entry_at s))) _ (in_entries test entry_at rs r at e)
+    any_right (list_any test (named_by_try (entry_at s))) _ (in_entries test entry_at rs r at e)
 
 -- the addresses at which the handlers of a range begin
 abbrev begins_at : List Item → List Ty → List Catch → List ℕ
 begins_at items types cs = map handler_address (map (handler_of items types) cs)
 
 handler_by : (test : ℕ → Bool) (items : List Item) (types : List Ty) (b : Bool) (c : Catch) (cs : List Catch) → list_any test (begins_at items types cs) ≡ true → list_any test (begins_at items types (cond b (c ∷ cs) cs)) ≡ true
-handler_by test items types true c cs e = right_or (test (label_address items c.at)) _ e
+handler_by test items types true c cs e = any_right (test (label_address items c.at)) _ e
 handler_by test items types false c cs e = e
 
 in_handlers : (test : ℕ → Bool) (items : List Item) (types : List Ty) (r : TryRange) (cs : List Catch) (j : ℕ) → j < length cs → is_same (range_of items (catch_at cs j)) r ≡ true → test (label_address items (catch_at cs j).at) ≡ true → list_any test (begins_at items types (catches_of items cs r)) ≡ true
 in_handlers test items types r [] j within same e = absurd (omega arith)
 in_handlers test items types r (c ∷ cs) zero within same e =
-    ap (λ b. list_any test (begins_at items types (cond b (c ∷ catches_of items cs r) (catches_of items cs r)))) same ∙ left_or (test (label_address items c.at)) _ e
+    ap (λ b. list_any test (begins_at items types (cond b (c ∷ catches_of items cs r) (catches_of items cs r)))) same ∙ any_left (test (label_address items c.at)) _ e
 in_handlers test items types r (c ∷ cs) (suc j) within same e =
     handler_by test items types (is_same (range_of items c) r) c (catches_of items cs r) (in_handlers test items types r cs j (omega arith) same e)
 
@@ -482,9 +459,9 @@ handler_named items catches j within =
     let stands : Among r rs = range_stands items catches j within in
     let test : ℕ → ℕ → Bool = λ address a. nat_eq a address in
     record {
-      start = in_entries (test r.start) (entry_of items catches types) rs r stands (left_or _ _ (nat_itself r.start));
-      end = in_entries (test r.end) (entry_of items catches types) rs r stands (right_or (nat_eq r.start r.end) _ (left_or _ _ (nat_itself r.end)));
+      start = in_entries (test r.start) (entry_of items catches types) rs r stands (any_left _ _ (itself r.start));
+      end = in_entries (test r.end) (entry_of items catches types) rs r stands (any_right (nat_eq r.start r.end) _ (any_left _ _ (itself r.end)));
       at = in_entries (test (label_address items c.at)) (entry_of items catches types) rs r stands
-          (right_or (nat_eq r.start (label_address items c.at)) _ (right_or (nat_eq r.end (label_address items c.at)) _
-          (in_handlers (test (label_address items c.at)) items types r catches j within (same_itself r) (nat_itself (label_address items c.at)))));
+          (any_right (nat_eq r.start (label_address items c.at)) _ (any_right (nat_eq r.end (label_address items c.at)) _
+          (in_handlers (test (label_address items c.at)) items types r catches j within (same_itself r) (itself (label_address items c.at)))));
     }

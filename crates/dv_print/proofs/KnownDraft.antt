@@ -11,6 +11,7 @@ use Rattle.dv_asm.specs.declared.draft.What.TheVariants as what
 use Rattle.dv_asm.specs.Items.{no_item, is_named}
 use Rattle.dv_asm.specs.Places.{address_of, end_of, place_of, label_address}
 use Rattle.dv_asm.specs.Refusals.{has_label, too_long}
+use Rattle.dv_print.proofs.Truth.{any_left}
 use Rattle.dv_print.proofs.Entries.{appended}
 use Rattle.dv_asm.specs.Layout.{pools_of}
 use Rattle.dv_asm.proofs.PlaceLemmas.{label_within}
@@ -24,7 +25,7 @@ use Rattle.dv_asm.specs.Tiles.{tiles_of}
 use Rattle.dv_print.specs.Laws.{KeepsAddresses}
 use Rattle.dv_print.proofs.KeptEntries.{HasPools}
 use Rattle.dv_print.proofs.Resolved.{HasAt, Stands, stands_in, later_in, label_here, leads_there}
-use Rattle.dv_print.proofs.Branches.{Mem, placed, named_by_tile, any_left}
+use Rattle.dv_print.proofs.Branches.{Mem, placed, named_by_tile}
 
 -- what is known of the draft that is made of a laid-out body
 pub record Known (items after : List Item) (b : BodyValue) (all : List Piece) (names : List ℕ) : Type 0 where

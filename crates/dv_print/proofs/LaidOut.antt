@@ -1,34 +1,28 @@
 -- The units that layout gives of a draft are tiled by its instructions and payloads.
-use Rattle.std.proofs.Common.{◌≡◌, ℕ, ◌+◌, ◌%◌, ◌<◌, ◌≤◌, zero, suc, Bool, true, false, List, [], ◌∷◌, ◌++◌, length, take, drop, nat_lt, Option, Some, None, Ok, IsSome, IsTrue, if◌then◌else◌, refl, ap, sym, ◌∙◌, subst, arith, length-drop, length-append, append-nil, append_assoc}
-use Rattle.std.specs.Option.{option_or, option_map_or, unwrap_or}
-use Rattle.std.proofs.lemmas.Bool.Decides.{nat_tests}
-use Rattle.std.proofs.lemmas.List.{take-append-le, drop-append-le, length-map}
+use Rattle.std.proofs.Common.{◌≡◌, ℕ, ◌≤◌, List, length, Option, Some, None, Ok, IsSome, IsTrue, refl, ◌∙◌, arith}
+use Rattle.std.specs.Option.{option_map_or}
+use Rattle.std.proofs.lemmas.List.{length-map}
 use Rattle.std.proofs.lemmas.List.Quantifiers.{position-Some}
-use Rattle.std.proofs.Math.Seq.{take-length, drop-length}
-use Rattle.dv_defs.specs.declared.code.Payload.TheVariants as payload
-use Rattle.dv_defs.specs.declared.faults.LineKind.{LineKind}
 use Rattle.dv_defs.specs.declared.faults.LineKind.TheVariants as kind
-use Rattle.dv_defs.specs.Formats.{format_at}
-use Rattle.dv_defs.specs.Spelling.{plain, few, all_fit, insn_eq}
+use Rattle.dv_defs.specs.Spelling.{all_fit}
 use Rattle.dv_defs.specs.Tiling.{tiling}
-use Rattle.dv_defs.specs.Layout.{AreTiles, item_spelling}
 use Rattle.dv_defs.proofs.TilingLaws.{tiles_found}
 use Rattle.dv_asm.specs.declared.draft.Item.{Item}
 use Rattle.dv_asm.specs.declared.draft.What.{What}
 use Rattle.dv_asm.specs.declared.draft.What.TheVariants as what
 use Rattle.dv_asm.specs.declared.pools.Pools.{Pools}
 use Rattle.dv_asm.specs.Draft.{AreFormed}
-use Rattle.dv_asm.specs.Items.{item_at, no_item, size_of}
+use Rattle.dv_asm.specs.Items.{item_at, no_item}
 use Rattle.dv_asm.specs.Places.{address_of, end_of}
 use Rattle.dv_asm.specs.Refusals.{refused, item_refusal, repeated, register_range, offset_range, too_long, is_address, addresses_named, switch_of}
 use Rattle.dv_asm.specs.Layout.{IsWritable, AreSpelled, base_of, targets_of, spelling_of, pools_of, units_of}
 use Rattle.dv_asm.specs.Tiles.{tiles_of}
 use Rattle.dv_asm.proofs.TileLemmas.{are_tiled}
 use Rattle.dv_asm.proofs.PayloadLemmas.{distances_fit, packed_spelled, sparse_spelled, data_spelled}
-use Rattle.dv_asm.proofs.PlaceLemmas.{aligned_above, aligned_below, address_within}
-use Rattle.dv_asm.proofs.UnitLemmas.{spelled_size}
+use Rattle.dv_asm.proofs.PlaceLemmas.{address_within}
 use Rattle.dv_asm.proofs.Writing.{are_writable}
 use Rattle.dv_print.specs.Laws.{HasNumbers, HaveNumbers}
+use Rattle.dv_print.proofs.Truth.{none_of, refused_none}
 
 found_within : (items : List Item) (place : Option ℕ) → ((k : ℕ) → place ≡ Some k → k ≤ length items) → too_long items ≡ None → option_map_or (address_of items) place 0 ≤ 16384
 found_within items None inside short = omega arith
@@ -55,19 +49,11 @@ item_spelled items pools k (what.Sparse keys names) short h n =
     (distances_fit items (base_of items (address_of items k)) names short (base_within items (address_of items k) short))
 item_spelled items pools k (what.Data width bytes) short h n = data_spelled width bytes h.0 h.1 h.2 n
 
-or_none : {Y : Type 0} (a b : Option Y) → option_or a b ≡ None → b ≡ None
-or_none None b none = none
-or_none (Some y) b none = absurd (cc)
-
-refused_none : (k : LineKind) (line : Option ℕ) → refused k line ≡ None → line ≡ None
-refused_none k None none = refl
-refused_none k (Some line) none = absurd (cc)
-
 pub are_short : (items : List Item) → item_refusal items ≡ None → too_long items ≡ None
 are_short items none =
     refused_none kind.TooLong (too_long items)
-    (or_none (refused kind.OffsetRange (offset_range items)) (refused kind.TooLong (too_long items))
-    (or_none (refused kind.RegisterRange (register_range items)) _ (or_none (refused kind.Repeated (repeated items)) _ none)))
+    (none_of (refused kind.OffsetRange (offset_range items)) (refused kind.TooLong (too_long items))
+    (none_of (refused kind.RegisterRange (register_range items)) _ (none_of (refused kind.Repeated (repeated items)) _ none).1).1).1
 
 -- items that aren't refused have spellings
 are_spelled : (items : List Item) → AreFormed items → HaveNumbers items → item_refusal items ≡ None → AreSpelled items (pools_of items)

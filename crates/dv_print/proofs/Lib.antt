@@ -1,3 +1,4 @@
+pub mod Truth
 pub mod Bytes
 pub mod Tiles
 pub mod Lines

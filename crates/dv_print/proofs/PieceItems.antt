@@ -23,6 +23,7 @@ use Rattle.dv_print.specs.Pieces.{part_of, piece_of}
 use Rattle.dv_print.specs.Drafting.{labels_from, part_item, with_no_line, is_nop, is_payload_part, is_aligning, items_from}
 use Rattle.dv_asm.specs.Tiles.{tiles_of, nops_between}
 use Rattle.dv_print.specs.Laws.{IsNamedBy}
+use Rattle.dv_print.proofs.Truth.{both}
 use Rattle.dv_print.proofs.ItemTiles.{tile, tiles_at}
 
 -- ---- sizes and kinds of pieces
@@ -30,17 +31,13 @@ use Rattle.dv_print.proofs.ItemTiles.{tile, tiles_at}
 labels_length : (base : ℕ) (targets : List ℤ) → length (labels_from base targets) ≡ length targets
 labels_length base targets = simp length-map
 
-pub parts : (a b : Bool) → (a && b) ≡ true → (a ≡ true) × (b ≡ true)
-parts true b e = (refl, e)
-parts false b e = absurd (cc)
-
 part_size : (b : BodyValue) (all : List Piece) (at : ℕ) (x : tiling.Item) (us : List ℕ) → item_spelling x ≡ Some us → size_of (part_item b all at (part_of x)) ≡ length us
 part_size b all at (IsInsn i) us e = sym (insn_size i us e)
 part_size b all at (IsPayload (payload.Packed first targets)) us e =
     ap (λ n. n * 2 + 4) (labels_length _ targets) ∙ sym (packed_size first targets us e)
 part_size b all at (IsPayload (payload.Sparse keys targets)) us e =
-    let fitting = parts _ _ (where_fits_is _ _ us e).0 in
-    let same = eqb-true _ _ (parts _ _ fitting.1).0 in
+    let fitting = both _ _ (where_fits_is _ _ us e).0 in
+    let same = eqb-true _ _ (both _ _ fitting.1).0 in
     ap (λ n. n * 4 + 2) (labels_length _ targets) ∙ sym (sparse_size keys targets us same e)
 part_size b all at (IsPayload (payload.Data width bytes)) us e = sym (data_size width bytes us e)
 
@@ -130,7 +127,7 @@ payload_stays named (IsPayload p) at ps h = neither (nat_eq (at % 2) 1)
 
 pub last_stays : (named : List ℕ) (p : Piece) → is_aligning named p [] ≡ true → ⊥
 last_stays named p c =
-    let nop_and = parts (is_nop p.part) _ (parts (nat_eq (p.at % 2) 1) _ c).1 in
+    let nop_and = both (is_nop p.part) _ (both (nat_eq (p.at % 2) 1) _ c).1 in
     cc (nop_and.1)
 
 -- ---- the items of the pieces that come next
@@ -154,13 +151,13 @@ pub record Aligns (t t2 : Tile) (end : ℕ) : Type 0 where
 
 pub aligns : (named : List ℕ) (t t2 : Tile) (ts : List Tile) (us : List ℕ) (end : ℕ) → is_aligning named (piece_of t) (map piece_of (t2 ∷ ts)) ≡ true → AreTiles end (t ∷ t2 ∷ ts) us → Aligns t t2 end
 aligns named t t2 ts us end c tiles =
-    let odd_and = parts (nat_eq (t.at % 2) 1) _ c in
-    let nop_and = parts (is_nop (part_of t.item)) _ odd_and.1 in
+    let odd_and = both (nat_eq (t.at % 2) 1) _ c in
+    let nop_and = both (is_nop (part_of t.item)) _ odd_and.1 in
     let one : t.size ≡ 1 = nop_size t.item us t.size nop_and.0 tiles.2 tiles.1 in
     record {
       odd = sym (ap (λ n. n % 2) tiles.0) ∙ eqb-true (t.at % 2) 1 odd_and.0;
       nop = nop_and.0;
       one = one;
-      payload = (parts (is_payload_part (part_of t2.item)) _ nop_and.1).0;
+      payload = (both (is_payload_part (part_of t2.item)) _ nop_and.1).0;
       second = tiles.3.0 ∙ ap (λ n. end + n) one;
     }

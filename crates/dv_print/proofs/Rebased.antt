@@ -30,11 +30,12 @@ use Rattle.dv_print.specs.Pieces.{part_of, piece_of}
 use Rattle.dv_print.specs.Named.{target_of}
 use Rattle.dv_print.specs.Drafting.{op_of, part_item, piece_item, labels_at, is_nop, is_aligning, items_at, items_from}
 use Rattle.dv_asm.specs.Tiles.{tiles_of}
+use Rattle.dv_print.proofs.Truth.{either}
 use Rattle.dv_print.proofs.Entries.{appended, not_before}
 use Rattle.dv_print.proofs.Resolved.{later_in}
 use Rattle.dv_print.proofs.Branches.{Mem}
 use Rattle.dv_print.proofs.Placed.{HoldsOfLabels, HoldsOfTiles}
-use Rattle.dv_print.proofs.Switches.{either, SwitchTo, TileTo, HasPayload, is_switch, names_it, own_switch, switch_found, switch_item, switch_tile}
+use Rattle.dv_print.proofs.Switches.{SwitchTo, TileTo, HasPayload, is_switch, names_it, own_switch, switch_found, switch_item, switch_tile}
 
 -- ---- what stands in the draft
 

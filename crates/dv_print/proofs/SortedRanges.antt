@@ -1,6 +1,6 @@
 -- The ranges of handlers by their starts: each range stands there, and where two with the same start are the same, each
 -- stands there once, and ranges that come in groups by their starts are put one behind another.
-use Rattle.std.proofs.Common.{◌≡◌, ℕ, ◌+◌, ◌<◌, ◌≤◌, suc, Bool, true, false, not, ◌&&◌, ◌⊎◌, inl, inr, List, [], ◌∷◌, ◌++◌, length, nat_lt, nat_eq, Some, None, cond, if◌then◌else◌, refl, ap, sym, ◌∙◌, subst, arith, ⊎_elim, append_assoc, append-nil}
+use Rattle.std.proofs.Common.{◌≡◌, ℕ, ◌+◌, ◌<◌, ◌≤◌, suc, Bool, true, false, not, ◌⊎◌, inl, inr, List, [], ◌∷◌, ◌++◌, length, nat_lt, nat_eq, Some, None, cond, if◌then◌else◌, refl, ap, sym, ◌∙◌, subst, arith, ⊎_elim, append_assoc, append-nil}
 use Rattle.std.specs.Prelude.{fold, insert, nat_le}
 use Rattle.std.specs.Option.{unwrap_or}
 use Rattle.std.specs.List.{slice_get, prefix_len, flat_map}
@@ -10,12 +10,9 @@ use Rattle.std.proofs.lemmas.List.Sums.{fold-append}
 use Rattle.dv_asm.specs.declared.tries.TryRange.{TryRange}
 use Rattle.dv_asm.specs.Refusals.{is_same}
 use Rattle.dv_asm.specs.Layout.{begins_from, place_among, is_range, with_range}
+use Rattle.dv_print.proofs.Truth.{both}
 
 -- ---- the same range
-
-both : (a b : Bool) → (a && b) ≡ true → (a ≡ true) × (b ≡ true)
-both true b e = (refl, e)
-both false b e = absurd (cc)
 
 pub range_by : (a b m n : ℕ) → a ≡ b → m ≡ n → (let r : TryRange = record { start = a; end = m } in r) ≡ record { start = b; end = n }
 range_by a b m n e h = cc

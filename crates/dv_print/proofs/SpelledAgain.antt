@@ -1,5 +1,5 @@
 -- The draft that is made of a laid-out body is spelled as that body.
-use Rattle.std.proofs.Common.{◌≡◌, ℕ, ◌<◌, ◌≤◌, zero, suc, ℤ, pos, ◌-ℤ◌, Bool, true, false, ◌&&◌, List, [], ◌∷◌, ◌++◌, length, map, nat_lt, nat_eq, Option, Some, None, is_some, if◌then◌else◌, refl, ap, sym, ◌∙◌, subst, arith}
+use Rattle.std.proofs.Common.{◌≡◌, ℕ, ◌<◌, ◌≤◌, zero, suc, ℤ, pos, ◌-ℤ◌, Bool, true, false, List, [], ◌∷◌, ◌++◌, length, map, nat_lt, nat_eq, Option, Some, None, is_some, if◌then◌else◌, refl, ap, sym, ◌∙◌, subst, arith}
 use Rattle.std.specs.Prelude.{option_map}
 use Rattle.std.specs.List.{list_any, list_all}
 use Rattle.std.specs.Option.{option_to_list}
@@ -29,10 +29,11 @@ use Rattle.dv_print.specs.Named as named
 use Rattle.dv_print.specs.Named.{target_of, named_by_try, addresses_named}
 use Rattle.dv_print.specs.Drafting.{pool_of, entry_in, op_of, labels_from}
 use Rattle.dv_asm.specs.Tiles.{tiles_of, nops_between}
+use Rattle.dv_print.proofs.Truth.{both, any_left, any_right}
 use Rattle.dv_print.proofs.ItemTiles.{tile, tiles_at}
 use Rattle.dv_print.proofs.KeptEntries.{own_entry, small_opcode}
 use Rattle.dv_print.proofs.KeptUnits.{AreSpelledAs}
-use Rattle.dv_print.proofs.Branches.{mem_to, leads_back, any_left, any_right}
+use Rattle.dv_print.proofs.Branches.{mem_to, leads_back}
 use Rattle.dv_print.proofs.KnownDraft.{Known, leads_to, tile_listed}
 use Rattle.dv_print.proofs.Straight.{same_offsets, spelled_append, insn_by, offset_none, nops_by, same_insn}
 
@@ -93,21 +94,17 @@ are_listed items names base (target ∷ targets) h =
     let first = h to (any_left (nat_eq (jump base (distance items base target)) to) _ (ap (λ n. nat_eq n to) back ∙ same)) in
     (first, are_listed items names base targets (λ a e. h a (any_right (nat_eq (jump base (distance items base target)) a) _ e)))
 
-all_first : (p q : Bool) → (p && q) ≡ true → (p ≡ true) × (q ≡ true)
-all_first true q e = (refl, e)
-all_first false q e = absurd (cc)
-
 -- the distances of the labels of these distances are these
 targets_same : (items after : List Item) (b : BodyValue) (all : List Piece) (names : List ℕ) (base : ℕ) (targets : List (List ℕ)) → Known items after b all names → too_long items ≡ None → list_all (has_label items) targets ≡ true → AreListed items names targets → map (distance after base) (labels_from base (map (distance items base) targets)) ≡ map (distance items base) targets
 targets_same items after b all names base [] h short has listed = refl
 targets_same items after b all names base (target ∷ targets) h short has listed =
     let to = label_address items target in
-    let both = all_first (has_label items target) _ has in
+    let here = both (has_label items target) _ has in
     let back : jump base (distance items base target) ≡ to = leads_back base to in
-    let leads = leads_to items after b all names target h short both.0 listed.0 in
+    let leads = leads_to items after b all names target h short here.0 listed.0 in
     let first : distance after base (label_name (jump base (distance items base target))) ≡ distance items base target =
     ap (λ n. distance after base (label_name n)) back ∙ ap (λ n. pos n -ℤ pos base) leads in
-    cc (first, targets_same items after b all names base targets h short both.1 listed.1)
+    cc (first, targets_same items after b all names base targets h short here.1 listed.1)
 
 -- the targets of a payload in the draft are those in the draft before it
 pub record IsRebased (items after : List Item) (all : List Piece) (k : ℕ) : Type 0 where

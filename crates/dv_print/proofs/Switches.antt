@@ -1,5 +1,5 @@
 -- The switches that name a payload: in a draft, and among the pieces of the body that is laid out from it.
-use Rattle.std.proofs.Common.{◌≡◌, ℕ, ◌<◌, ◌≤◌, zero, suc, Bool, true, false, not, ◌&&◌, ◌||◌, ◌⊎◌, inl, inr, List, [], ◌∷◌, ◌++◌, length, map, find, nat_lt, nat_eq, cond, Option, Some, None, is_some, if◌then◌else◌, refl, ap, sym, ◌∙◌, subst, arith}
+use Rattle.std.proofs.Common.{◌≡◌, ℕ, ◌<◌, ◌≤◌, zero, suc, Bool, true, false, not, ◌&&◌, ◌⊎◌, inl, inr, List, [], ◌∷◌, ◌++◌, length, map, find, nat_lt, nat_eq, cond, Option, Some, None, is_some, if◌then◌else◌, refl, ap, sym, ◌∙◌, subst, arith}
 use Rattle.std.specs.Prelude.{option_map}
 use Rattle.std.specs.Option.{option_map_or}
 use Rattle.std.proofs.lemmas.Bool.{eqb-true}
@@ -29,6 +29,7 @@ use Rattle.dv_print.specs.Pieces.{part_of, piece_of}
 use Rattle.dv_print.specs.Named as named
 use Rattle.dv_print.specs.Named.{part_switches_to, switches_to}
 use Rattle.dv_asm.specs.Tiles.{tiles_of, nops_between}
+use Rattle.dv_print.proofs.Truth.{both, either}
 use Rattle.dv_print.proofs.ItemTiles.{tile, tiles_at}
 use Rattle.dv_print.proofs.Branches.{Mem, mem_to, leads_back}
 
@@ -140,10 +141,6 @@ pub record TileTo (a : ℕ) (t : Tile) : Type 0 where
   pub opcode : is_switch_opcode insn.op ≡ true
   pub leads : jump t.at insn.off ≡ a
 
-both : (p q : Bool) → (p && q) ≡ true → (p ≡ true) × (q ≡ true)
-both true q e = (refl, e)
-both false q e = absurd (cc)
-
 tile_by : (a : ℕ) (t : Tile) (x : tiling.Item) → t.item ≡ x → part_switches_to a t.at (part_of x) ≡ true → TileTo a t
 tile_by a t (IsInsn i) e h =
     let p = both (is_switch_opcode i.op) _ h in
@@ -180,10 +177,6 @@ of_op items pools t i k (what.Sparse keys names) e (inl same) = let no = ap (λ 
 of_op items pools t i k (what.Sparse keys names) e (inr h) = absurd h
 of_op items pools t i k (what.Data width bytes) e (inl same) = let no = ap (λ y. y.item) same ∙ e in absurd (cc)
 of_op items pools t i k (what.Data width bytes) e (inr h) = absurd h
-
-pub either : (p q : Bool) → (p || q) ≡ true → (p ≡ true) ⊎ (q ≡ true)
-either true q e = inl refl
-either false q e = inr e
 
 -- a switch has an offset
 switch_offset : (op : ℕ) → is_switch_opcode op ≡ true → asm.has_offset (format_at op) ≡ true

@@ -1,19 +1,17 @@
 -- The laws of labels, and of drafts and their layout.
-use Rattle.std.specs.Prelude.{ℕ, zero, suc, ◌≡◌, ◌<◌, ◌≤◌, ◌^◌, nat_lt, List, [], ◌∷◌, ◌++◌, length, All, Some, None, Ok, IsTrue, if◌then◌else◌}
+use Rattle.std.specs.Prelude.{ℕ, ◌≡◌, ◌<◌, ◌≤◌, ◌^◌, List, [], ◌∷◌, length, All, Some, None, Ok, IsTrue}
 use Rattle.std.specs.List.{flat_map, slice_get}
-use Rattle.dv_defs.specs.declared.code.Payload.TheVariants as payload
-use Rattle.dv_defs.specs.Spelling.{plain, few, all_fit, fits_signed}
+use Rattle.dv_defs.specs.Spelling.{all_fit, fits_signed}
 use Rattle.dv_defs.specs.Payloads.{all_fit_signed}
 use Rattle.dv_defs.specs.Tiling.{tiling}
 use Rattle.dv_asm.specs.declared.draft.Item.{Item}
 use Rattle.dv_asm.specs.declared.draft.What.{What}
 use Rattle.dv_asm.specs.declared.draft.What.TheVariants as what
-use Rattle.dv_asm.specs.declared.pools.Pools.{Pools}
 use Rattle.dv_asm.specs.declared.draft.PoolRef.{PoolRef}
 use Rattle.dv_asm.specs.declared.draft.PoolRef.TheVariants as pool
 use Rattle.dv_asm.specs.Draft.{DraftValue, AreFormed}
-use Rattle.dv_asm.specs.Items.{item_at, size_of}
-use Rattle.dv_asm.specs.Places.{address_of, end_of, size_of_all, label_address}
+use Rattle.dv_asm.specs.Items.{item_at}
+use Rattle.dv_asm.specs.Places.{address_of, size_of_all, label_address}
 use Rattle.dv_asm.specs.Refusals.{item_refusal, refusal}
 use Rattle.dv_print.specs.Numbers.{label_name}
 use Rattle.dv_asm.specs.Pools.{pool_ref}
