@@ -41,7 +41,8 @@ use Rattle.dv_print.proofs.Placed.{are_placed}
 use Rattle.dv_print.proofs.Switches.{SwitchTo, HasPayload, switch_tile, base_before}
 use Rattle.dv_print.proofs.Rebased.{IsPlaced, Drafts, labels_placed, tiles_placed, switch_offset, base_after}
 use Rattle.dv_print.proofs.SpelledAgain.{IsRebased, Laid, spelled_to}
-use Rattle.dv_print.proofs.KeptHandlers.{LeadsTo, Leads, entry_names, handler_named, handlers_kept}
+use Rattle.dv_print.proofs.KeptHandlers.{LeadsTo, Leads, handlers_kept}
+use Rattle.dv_print.proofs.NamedHandlers.{entry_names, handler_named}
 
 -- ---- the refusals
 

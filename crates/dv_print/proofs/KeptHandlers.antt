@@ -1,16 +1,13 @@
 -- The handlers of a draft are laid out again as they were, when the draft that is made of the laid-out body is laid out.
-use Rattle.std.proofs.Common.{◌≡◌, ℕ, ◌<◌, zero, suc, Bool, true, false, inl, inr, List, [], ◌∷◌, ◌++◌, length, map, take, get_or, nat_lt, nat_eq, position, Option, Some, None, cond, refl, ap, sym, ◌∙◌, subst, arith, ⊎_elim, append-nil, if◌then◌else◌}
+use Rattle.std.proofs.Common.{◌≡◌, ℕ, ◌<◌, zero, suc, Bool, true, false, inl, inr, List, [], ◌∷◌, ◌++◌, length, map, take, get_or, nat_lt, position, Option, Some, None, cond, refl, ap, sym, ◌∙◌, subst, arith, ⊎_elim, if◌then◌else◌}
 use Rattle.std.specs.Prelude.{fold, filter}
 use Rattle.std.specs.Option.{unwrap_or, option_and_then}
 use Rattle.std.specs.List.{slice_get, flat_map, list_any, position_or_len}
 use Rattle.std.proofs.lemmas.Bool.{lt-ltb}
 use Rattle.std.proofs.lemmas.Bool.Decides.{nat_tests}
-use Rattle.std.proofs.lemmas.List.{map-append}
-use Rattle.std.proofs.lemmas.List.Elements.{filter-append}
-use Rattle.std.proofs.lemmas.List.Folds.{flat_map-map, list_any-append}
+use Rattle.std.proofs.lemmas.List.Folds.{flat_map-map}
 use Rattle.std.proofs.lemmas.Option.{slice_get_within, slice_get-get_or, get_or_from_slice_get}
 use Rattle.std.proofs.lemmas.Simd.{map-map}
-use Rattle.dv_defs.specs.declared.code.Handler.{Handler}
 use Rattle.dv_defs.specs.declared.code.Try.{Try}
 use Rattle.dv_defs.specs.declared.faults.LineKind.TheVariants as kind
 use Rattle.dv_defs.specs.declared.names.Ty.{Ty}
@@ -20,196 +17,17 @@ use Rattle.dv_asm.specs.declared.draft.Catch.{Catch}
 use Rattle.dv_asm.specs.declared.tries.TryRange.{TryRange}
 use Rattle.dv_asm.specs.declared.pools.Pools.{Pools}
 use Rattle.dv_asm.specs.Places.{label_address}
-use Rattle.dv_asm.specs.Pools.{with_entries, with_entry_if_any}
+use Rattle.dv_asm.specs.Pools.{with_entries}
 use Rattle.dv_asm.specs.Refusals.{no_catch, catch_at, range_of, ranges_of, is_empty, is_same, overlaps, overlaps_earlier, try_range, try_range_at, try_overlap, try_overlap_at, refused, range_refusal}
 use Rattle.dv_asm.specs.Layout.{sorted_ranges, kind_in, with_kinds, pools_of, types_of, handler_of, catches_of, entry_of, tries_of}
 use Rattle.dv_asm.proofs.FirstLemmas.{first_line_none, not_when}
 use Rattle.dv_print.specs.Numbers.{label_name}
-use Rattle.dv_print.specs.Named.{handler_address, named_by_try, is_named}
 use Rattle.dv_print.specs.Drafting.{kind_of, catch_of, catches_of_try}
-use Rattle.dv_print.proofs.Truth.{neither, any_left, any_right, itself, none_of, refused_none}
+use Rattle.dv_print.proofs.Truth.{neither, none_of, refused_none}
 use Rattle.dv_print.proofs.Entries.{types_tell, Holds, holds, not_before, at_index}
 use Rattle.dv_print.proofs.KeptEntries.{kinds_kept}
-use Rattle.dv_print.proofs.SortedRanges.{range_by, same_range, same_itself, is_same_as, other_start, other_start_above, put, folds_alike, Among, fold_has, fold_from, After, after_at, IsSorted, Agree, sorted_where, AllAre, IsGroup, groups_sorted}
-
--- ---- handlers whose labels are addresses
-
--- a handler, with addresses in place of its labels
-record Settled : Type 0 where
-  range : TryRange
-  kind : Option Ty
-  at : ℕ
-
-abbrev settled : List Item → Catch → Settled
-settled items c = record { range = range_of items c; kind = c.kind; at = label_address items c.at }
-
-abbrev all_settled : List Item → List Catch → List Settled
-all_settled items catches = map (settled items) catches
-
-abbrev settled_range : Settled → TryRange
-settled_range h = h.range
-
-abbrev in_range : TryRange → Settled → Bool
-in_range r h = is_same h.range r
-
--- those of a range, in their order
-abbrev group : List Settled → TryRange → List Settled
-group hs r = filter (in_range r) hs
-
-abbrev settled_kind : TryRange → Settled → Option Ty
-settled_kind r h = if is_same h.range r then h.kind else None
-
-abbrev any_kind : Settled → Option Ty
-any_kind h = h.kind
-
-abbrev kinds : List Settled → List Ty → List TryRange → List Ty
-kinds hs ts [] = ts
-kinds hs ts (r ∷ rs) = kinds hs (with_entries ty_eq (settled_kind r) ts hs) rs
-
-abbrev settled_handler : List Ty → Settled → Handler
-settled_handler types h = record { kind = option_and_then (λ t. position (ty_eq t) types) h.kind; at = h.at }
-
-abbrev entry : List Ty → TryRange → List Settled → Try
-entry types r hs = record { start = r.start; end = r.end; handlers = map (settled_handler types) hs }
-
-abbrev entries : List Settled → List Ty → List TryRange → List Try
-entries hs types rs = map (λ r. entry types r (group hs r)) rs
-
--- ---- ranges, kinds and entries are those of the handlers with addresses
-
-ranges_are : (items : List Item) (catches : List Catch) → map settled_range (all_settled items catches) ≡ ranges_of items catches
-ranges_are items catches = map-map settled_range (settled items) catches
-
-if_mapped : {X Y : Type 0} (f : X → Y) (b : Bool) (x : X) (xs : List X) (ys : List Y) → map f xs ≡ ys → map f (cond b (x ∷ xs) xs) ≡ cond b (f x ∷ ys) ys
-if_mapped f true x xs ys e = ap (λ zs. f x ∷ zs) e
-if_mapped f false x xs ys e = e
-
-filter_mapped : {X Y : Type 0} (f : X → Y) (p : Y → Bool) (xs : List X) → map f (filter (λ x. p (f x)) xs) ≡ filter p (map f xs)
-filter_mapped f p [] = refl
-filter_mapped f p (x ∷ xs) = if_mapped f (p (f x)) x (filter (λ x. p (f x)) xs) (filter p (map f xs)) (filter_mapped f p xs)
-
-groups_are : (items : List Item) (catches : List Catch) (r : TryRange) → map (settled items) (catches_of items catches r) ≡ group (all_settled items catches) r
-groups_are items catches r = filter_mapped (settled items) (in_range r) catches
-
-entries_mapped : {X Y : Type 0} (f : X → Y) (g : Y → Option Ty) (ts : List Ty) (xs : List X) → with_entries ty_eq (λ x. g (f x)) ts xs ≡ with_entries ty_eq g ts (map f xs)
-entries_mapped f g ts [] = refl
-entries_mapped f g ts (x ∷ xs) = entries_mapped f g (with_entry_if_any ty_eq ts (g (f x))) xs
-
-kinds_are : (items : List Item) (catches : List Catch) (ts : List Ty) (rs : List TryRange) → with_kinds items catches ts rs ≡ kinds (all_settled items catches) ts rs
-kinds_are items catches ts [] = refl
-kinds_are items catches ts (r ∷ rs) =
-    ap (λ us. with_kinds items catches us rs) (entries_mapped (settled items) (settled_kind r) ts catches) ∙ kinds_are items catches (with_entries ty_eq (settled_kind r) ts (all_settled items catches)) rs
-
-entry_by : (r : TryRange) (a b : List Handler) → a ≡ b → (let t : Try = record { start = r.start; end = r.end; handlers = a } in t) ≡ record { start = r.start; end = r.end; handlers = b }
-entry_by r a b e = cc
-
-entry_is : (items : List Item) (catches : List Catch) (types : List Ty) (r : TryRange) → entry_of items catches types r ≡ entry types r (group (all_settled items catches) r)
-entry_is items catches types r =
-    entry_by r _ _ (sym (map-map (settled_handler types) (settled items) (catches_of items catches r)) ∙ ap (map (settled_handler types)) (groups_are items catches r))
-
-entries_are : (items : List Item) (catches : List Catch) (types : List Ty) (rs : List TryRange) → map (entry_of items catches types) rs ≡ entries (all_settled items catches) types rs
-entries_are items catches types [] = refl
-entries_are items catches types (r ∷ rs) = cc (entry_is items catches types r, entries_are items catches types rs)
-
-sorted_are : (items : List Item) (catches : List Catch) → sorted_ranges items catches ≡ fold put [] (map settled_range (all_settled items catches))
-sorted_are items catches = folds_alike [] (ranges_of items catches) ∙ ap (fold put []) (sym (ranges_are items catches))
-
--- ---- what groups give
-
-kinds_by : (b : Bool) (ts : List Ty) (h : Settled) (hs : List Settled) (r : TryRange) → with_entries ty_eq (settled_kind r) (with_entry_if_any ty_eq ts (if b then h.kind else None)) hs ≡ with_entries ty_eq any_kind (with_entry_if_any ty_eq ts (if b then h.kind else None)) (group hs r) → with_entries ty_eq (settled_kind r) (with_entry_if_any ty_eq ts (if b then h.kind else None)) hs ≡ with_entries ty_eq any_kind ts (cond b (h ∷ group hs r) (group hs r))
-kinds_by true ts h hs r e = e
-kinds_by false ts h hs r e = e
-
-kinds_of_group : (ts : List Ty) (hs : List Settled) (r : TryRange) → with_entries ty_eq (settled_kind r) ts hs ≡ with_entries ty_eq any_kind ts (group hs r)
-kinds_of_group ts [] r = refl
-kinds_of_group ts (h ∷ hs) r = kinds_by (is_same h.range r) ts h hs r (kinds_of_group (with_entry_if_any ty_eq ts (settled_kind r h)) hs r)
-
--- the handlers of each of the ranges are the same
-abbrev SameGroups : List Settled → List Settled → List TryRange → Type 0
-SameGroups hs gs rs = (r : TryRange) → Among r rs → group gs r ≡ group hs r
-
-same_kinds : (hs gs : List Settled) (ts : List Ty) (rs : List TryRange) → SameGroups hs gs rs → kinds gs ts rs ≡ kinds hs ts rs
-same_kinds hs gs ts [] same = refl
-same_kinds hs gs ts (r ∷ rs) same =
-    let here : with_entries ty_eq (settled_kind r) ts gs ≡ with_entries ty_eq (settled_kind r) ts hs =
-    kinds_of_group ts gs r ∙ (ap (with_entries ty_eq any_kind ts) (same r (inl refl)) ∙ sym (kinds_of_group ts hs r)) in
-    ap (λ us. kinds gs us rs) here ∙ same_kinds hs gs (with_entries ty_eq (settled_kind r) ts hs) rs (λ q at. same q (inr at))
-
-same_entries : (hs gs : List Settled) (types : List Ty) (rs : List TryRange) → SameGroups hs gs rs → entries gs types rs ≡ entries hs types rs
-same_entries hs gs types [] same = refl
-same_entries hs gs types (r ∷ rs) same =
-    cc (ap (entry types r) (same r (inl refl)), same_entries hs gs types rs (λ q at. same q (inr at)))
-
--- ---- handlers in groups
-
--- the handlers of the first range, then those of the next one
-abbrev grouped : List Settled → List TryRange → List Settled
-grouped hs rs = flat_map (group hs) rs
-
-twice_by : {X : Type 0} (p : X → Bool) (b : Bool) (x : X) (xs : List X) → p x ≡ b → filter p xs ≡ xs → filter p (cond b (x ∷ xs) xs) ≡ cond b (x ∷ xs) xs
-twice_by p true x xs e h = ap (λ b. cond b (x ∷ filter p xs) (filter p xs)) e ∙ ap (λ ys. x ∷ ys) h
-twice_by p false x xs e h = h
-
-filter_twice : {X : Type 0} (p : X → Bool) (xs : List X) → filter p (filter p xs) ≡ filter p xs
-filter_twice p [] = refl
-filter_twice p (x ∷ xs) = twice_by p (p x) x (filter p xs) refl (filter_twice p xs)
-
-none_by : {X : Type 0} (p : X → Bool) (b : Bool) (x : X) (xs : List X) → (b ≡ true → p x ≡ false) → filter p xs ≡ [] → filter p (cond b (x ∷ xs) xs) ≡ []
-none_by p true x xs e h = ap (λ b. cond b (x ∷ filter p xs) (filter p xs)) (e refl) ∙ h
-none_by p false x xs e h = h
-
-filter_none : {X : Type 0} (p q : X → Bool) (xs : List X) → ((x : X) → q x ≡ true → p x ≡ false) → filter p (filter q xs) ≡ []
-filter_none p q [] e = refl
-filter_none p q (x ∷ xs) e = none_by p (q x) x (filter q xs) (e x) (filter_none p q xs e)
-
-other_group : (hs : List Settled) (r s : TryRange) → is_same s r ≡ false → filter (in_range r) (group hs s) ≡ []
-other_group hs r s other = filter_none (in_range r) (in_range s) hs (λ h e. ap (λ q. is_same q r) (same_range h.range s e) ∙ other)
-
-no_group : (hs : List Settled) (r : TryRange) (rs : List TryRange) → After r.start rs → group (grouped hs rs) r ≡ []
-no_group hs r [] above = refl
-no_group hs r (s ∷ rs) above =
-    filter-append (in_range r) (group hs s) (grouped hs rs) ∙
-    (ap (λ xs. xs ++ group (grouped hs rs) r) (other_group hs r s (other_start_above s r above.0)) ∙ no_group hs r rs above.1)
-
-same_group : (hs : List Settled) (r : TryRange) (rs : List TryRange) → IsSorted rs → Among r rs → group (grouped hs rs) r ≡ group hs r
-same_group hs r [] sorted at = absurd at
-same_group hs r (s ∷ rs) sorted (inl e) =
-    let own : filter (in_range r) (group hs s) ≡ group hs r = ap (λ q. filter (in_range r) (group hs q)) e ∙ filter_twice (in_range r) hs in
-    let above : After r.start rs = ap_after s r rs e sorted.0 in
-    filter-append (in_range r) (group hs s) (grouped hs rs) ∙
-    (ap (λ xs. xs ++ group (grouped hs rs) r) own ∙ (ap (λ xs. group hs r ++ xs) (no_group hs r rs above) ∙ append-nil (group hs r)))
-  where
-    ap_after : (s r : TryRange) (rs : List TryRange) → s ≡ r → After s.start rs → After r.start rs
-    ap_after s r rs e h = let P : TryRange → Type 0 = λ q. After q.start rs in subst P e h
-same_group hs r (s ∷ rs) sorted (inr at) =
-    filter-append (in_range r) (group hs s) (grouped hs rs) ∙
-    (ap (λ xs. xs ++ group (grouped hs rs) r) (other_group hs r s (other_start s r (after_at s.start rs r sorted.0 at))) ∙ same_group hs r rs sorted.1 at)
-
-all_by : (b : Bool) (r : TryRange) (h : Settled) (hs : List Settled) → is_same h.range r ≡ b → AllAre r (map settled_range hs) → AllAre r (map settled_range (cond b (h ∷ hs) hs))
-all_by true r h hs e all = (same_range h.range r e, all)
-all_by false r h hs e all = all
-
-all_are : (hs : List Settled) (r : TryRange) → AllAre r (map settled_range (group hs r))
-all_are [] r = tt
-all_are (h ∷ hs) r = all_by (is_same h.range r) r h (group hs r) refl (all_are hs r)
-
-group_by : (b : Bool) (r : TryRange) (h : Settled) (hs : List Settled) → is_same h.range r ≡ b → AllAre r (map settled_range (group hs r)) → (Among r (map settled_range hs) → IsGroup r (map settled_range (group hs r))) → Among r (map settled_range (h ∷ hs)) → IsGroup r (map settled_range (cond b (h ∷ group hs r) (group hs r)))
-group_by true r h hs e all rest at = (same_range h.range r e, all)
-group_by false r h hs e all rest (inl same) = absurd (cc (e, is_same_as h.range r same))
-group_by false r h hs e all rest (inr at) = rest at
-
-is_group : (hs : List Settled) (r : TryRange) → Among r (map settled_range hs) → IsGroup r (map settled_range (group hs r))
-is_group [] r at = absurd at
-is_group (h ∷ hs) r at = group_by (is_same h.range r) r h hs refl (all_are hs r) (is_group hs r) at
-
-map_flat : {X Y Z : Type 0} (f : Y → Z) (g : X → List Y) (xs : List X) → map f (flat_map g xs) ≡ flat_map (λ x. map f (g x)) xs
-map_flat f g [] = refl
-map_flat f g (x ∷ xs) = map-append f (g x) (flat_map g xs) ∙ ap (λ ys. map f (g x) ++ ys) (map_flat f g xs)
-
--- handlers in groups have the same ranges, by their starts
-sorted_again : (hs : List Settled) (rs : List TryRange) → IsSorted rs → ((q : TryRange) → Among q rs → Among q (map settled_range hs)) → fold put [] (map settled_range (grouped hs rs)) ≡ rs
-sorted_again hs rs sorted from =
-    ap (fold put []) (map_flat settled_range (group hs) rs) ∙ groups_sorted (λ r. map settled_range (group hs r)) rs sorted (λ q at. is_group hs q (from q at))
+use Rattle.dv_print.proofs.SortedRanges.{range_by, same_range, is_same_as, put, folds_alike, Among, fold_has, fold_from, IsSorted, Agree, sorted_where}
+use Rattle.dv_print.proofs.Settled.{Settled, settled, all_settled, settled_range, group, kinds, entries, ranges_are, groups_are, kinds_are, entries_are, sorted_are, SameGroups, same_kinds, same_entries, grouped, same_group, map_flat, sorted_again}
 
 -- ---- what no refusal of ranges says
 
@@ -276,7 +94,7 @@ sorted_where_known items catches none =
     subst IsSorted (sym (folds_alike [] (ranges_of items catches))) (sorted_where (ranges_of items catches) (agree_by_start items catches none))
 
 -- the range of each handler stands among them
-range_stands : (items : List Item) (catches : List Catch) (j : ℕ) → j < length catches → Among (range_of items (catch_at catches j)) (sorted_ranges items catches)
+pub range_stands : (items : List Item) (catches : List Catch) (j : ℕ) → j < length catches → Among (range_of items (catch_at catches j)) (sorted_ranges items catches)
 range_stands items catches j within =
     let P : List TryRange → Type 0 = λ rs. Among (range_of items (catch_at catches j)) rs in
     subst P (sym (folds_alike [] (ranges_of items catches))) (fold_has [] (ranges_of items catches) (range_of items (catch_at catches j)) (among_at items catches j within))
@@ -412,56 +230,3 @@ handlers_kept items after catches none leads pools =
           (entries_by_parts _ _ types _ _ are ranges ∙
           (same_entries hs (grouped hs rs) types rs same ∙ sym (entries_are items catches types rs))),
     )
-
--- ---- the addresses that handlers name
-
-in_entries : (test : ℕ → Bool) (entry_at : TryRange → Try) (rs : List TryRange) (r : TryRange) → Among r rs → list_any test (named_by_try (entry_at r)) ≡ true → list_any test (flat_map named_by_try (map entry_at rs)) ≡ true
-in_entries test entry_at [] r at e = absurd at
-in_entries test entry_at (s ∷ rs) r (inl same) e =
-    list_any-append test (named_by_try (entry_at s)) (flat_map named_by_try (map entry_at rs)) ∙
-    any_left _ _ (ap (λ q. list_any test (named_by_try (entry_at q))) same ∙ e)
-in_entries test entry_at (s ∷ rs) r (inr at) e =
-    list_any-append test (named_by_try (entry_at s)) (flat_map named_by_try (map entry_at rs)) ∙
-    any_right (list_any test (named_by_try (entry_at s))) _ (in_entries test entry_at rs r at e)
-
--- the addresses at which the handlers of a range begin
-abbrev begins_at : List Item → List Ty → List Catch → List ℕ
-begins_at items types cs = map handler_address (map (handler_of items types) cs)
-
-handler_by : (test : ℕ → Bool) (items : List Item) (types : List Ty) (b : Bool) (c : Catch) (cs : List Catch) → list_any test (begins_at items types cs) ≡ true → list_any test (begins_at items types (cond b (c ∷ cs) cs)) ≡ true
-handler_by test items types true c cs e = any_right (test (label_address items c.at)) _ e
-handler_by test items types false c cs e = e
-
-in_handlers : (test : ℕ → Bool) (items : List Item) (types : List Ty) (r : TryRange) (cs : List Catch) (j : ℕ) → j < length cs → is_same (range_of items (catch_at cs j)) r ≡ true → test (label_address items (catch_at cs j).at) ≡ true → list_any test (begins_at items types (catches_of items cs r)) ≡ true
-in_handlers test items types r [] j within same e = absurd (omega arith)
-in_handlers test items types r (c ∷ cs) zero within same e =
-    ap (λ b. list_any test (begins_at items types (cond b (c ∷ catches_of items cs r) (catches_of items cs r)))) same ∙ any_left (test (label_address items c.at)) _ e
-in_handlers test items types r (c ∷ cs) (suc j) within same e =
-    handler_by test items types (is_same (range_of items c) r) c (catches_of items cs r) (in_handlers test items types r cs j (omega arith) same e)
-
--- the addresses that the entries of handlers name
-abbrev pub entry_names : List Item → List Catch → List ℕ
-entry_names items catches = flat_map named_by_try (tries_of items catches (types_of items catches))
-
--- the entries name the addresses that a handler names
-pub record IsNamedByEntries (items : List Item) (catches : List Catch) (c : Catch) : Type 0 where
-  pub start : is_named (entry_names items catches) (label_address items c.from) ≡ true
-  pub end : is_named (entry_names items catches) (label_address items c.to) ≡ true
-  pub at : is_named (entry_names items catches) (label_address items c.at) ≡ true
-
--- each address that a handler names is among those that the entries name
-pub handler_named : (items : List Item) (catches : List Catch) (j : ℕ) → j < length catches → IsNamedByEntries items catches (catch_at catches j)
-handler_named items catches j within =
-    let c = catch_at catches j in
-    let types = types_of items catches in
-    let rs = sorted_ranges items catches in
-    let r = range_of items c in
-    let stands : Among r rs = range_stands items catches j within in
-    let test : ℕ → ℕ → Bool = λ address a. nat_eq a address in
-    record {
-      start = in_entries (test r.start) (entry_of items catches types) rs r stands (any_left _ _ (itself r.start));
-      end = in_entries (test r.end) (entry_of items catches types) rs r stands (any_right (nat_eq r.start r.end) _ (any_left _ _ (itself r.end)));
-      at = in_entries (test (label_address items c.at)) (entry_of items catches types) rs r stands
-          (any_right (nat_eq r.start (label_address items c.at)) _ (any_right (nat_eq r.end (label_address items c.at)) _
-          (in_handlers (test (label_address items c.at)) items types r catches j within (same_itself r) (itself (label_address items c.at)))));
-    }

@@ -21,5 +21,7 @@ pub mod KnownDraft
 pub mod Rebased
 pub mod SpelledAgain
 pub mod SortedRanges
+pub mod Settled
 pub mod KeptHandlers
+pub mod NamedHandlers
 pub mod KeptDraft
