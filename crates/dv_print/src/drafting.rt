@@ -1,20 +1,20 @@
-// The draft of a body: its items and its handlers.
-ghost use Rattle.std.specs.Prelude.{◌≡◌, ◌++◌, [], ◌∷◌, map, option_map, slice_get, IfOk, OnOk, if◌then◌else◌};
-ghost use Rattle.std.specs.List.{flat_map};
+// The items of the draft of a body.
+ghost use Rattle.std.specs.Prelude.{◌≡◌, ◌++◌, [], ◌∷◌, map, option_map, IfOk, OnOk, if◌then◌else◌};
 ghost use Rattle.dv_print.specs.Numbers.{label_name};
 ghost use Rattle.dv_print.specs.Named.{target_of};
-ghost use Rattle.dv_print.specs.Drafting.{found_as, entry_in, op_of, labels_from, payload_item, part_item, piece_item, with_no_line, labels_at, is_nop, is_payload_part, begins_with_payload, is_aligning, items_at, items_from, items_in, kind_of, catch_of, catches_of_try, items_of, catches_of};
+ghost use Rattle.dv_print.specs.Drafting.{op_of, labels_from, payload_item, part_item, piece_item, with_no_line, labels_at, is_nop, is_payload_part, begins_with_payload, is_aligning, items_at, items_from, items_of};
 
-use crate::formats::{Pool, pool_of};
+use crate::formats::pool_of;
 use crate::named::{add_targets, addresses_named, base_of, is_named, target_of};
 use crate::numbers::label_name;
 use crate::pieces::{Part, Piece, pieces_of};
-use dv_asm::{Catch, Draftop, Item, PoolRef, What};
-use dv_defs::{Body, Handler, Insn, Payload, Seq, Text, Try, Ty};
+use crate::pool_entries::entry_in;
+use dv_asm::{Draftop, Item, What};
+use dv_defs::{Body, Insn, Payload, Seq, Text};
 use std::alloc::{AllocError, Global};
 
 /// The name of the label at an address.
-fn label(alloc: Global, address: u32) -> Result<Text, AllocError>
+pub fn label(alloc: Global, address: u32) -> Result<Text, AllocError>
     ensures { IfOk result (λ t. t ≡ label_name address) }
 {
     Ok(Text::of(label_name(alloc, address)?))
@@ -38,55 +38,6 @@ fn labels_from(alloc: Global, base: u16, targets: &[i32]) -> Result<Vec<Text>, A
     let mut addresses = Vec::new(alloc);
     add_targets(&mut addresses, base, targets)?;
     labels(alloc, &addresses)
-}
-
-fn string_entry(body: &Body, index: u32) -> Result<PoolRef, AllocError>
-    ensures { IfOk result (λ r. r ≡ entry_in body.now Pool.Strings index) }
-{
-    match body.strings.items().get(index as usize) {
-        Some(chars) => Ok(PoolRef::Str(chars.clone()?)),
-        None => Ok(PoolRef::None),
-    }
-}
-
-fn type_entry(body: &Body, index: u32) -> Result<PoolRef, AllocError>
-    ensures { IfOk result (λ r. r ≡ entry_in body.now Pool.Types index) }
-{
-    match body.types.items().get(index as usize) {
-        Some(ty) => Ok(PoolRef::OfType(ty.clone()?)),
-        None => Ok(PoolRef::None),
-    }
-}
-
-fn field_entry(body: &Body, index: u32) -> Result<PoolRef, AllocError>
-    ensures { IfOk result (λ r. r ≡ entry_in body.now Pool.Fields index) }
-{
-    match body.fields.items().get(index as usize) {
-        Some(field) => Ok(PoolRef::Field(field.clone()?)),
-        None => Ok(PoolRef::None),
-    }
-}
-
-fn method_entry(body: &Body, index: u32) -> Result<PoolRef, AllocError>
-    ensures { IfOk result (λ r. r ≡ entry_in body.now Pool.Methods index) }
-{
-    match body.methods.items().get(index as usize) {
-        Some(method) => Ok(PoolRef::Method(method.clone()?)),
-        None => Ok(PoolRef::None),
-    }
-}
-
-/// The entry at an index of a pool.
-fn entry_in(body: &Body, pool: Pool, index: u32) -> Result<PoolRef, AllocError>
-    ensures { IfOk result (λ r. r ≡ entry_in body.now pool index) }
-{
-    match pool {
-        Pool::Nothing => Ok(PoolRef::None),
-        Pool::Strings => string_entry(body, index),
-        Pool::Types => type_entry(body, index),
-        Pool::Fields => field_entry(body, index),
-        Pool::Methods => method_entry(body, index),
-    }
 }
 
 /// The label of an address, where there is one.
@@ -251,57 +202,4 @@ pub fn items_of(alloc: Global, body: &Body) -> Result<Vec<Item>, AllocError>
     add_pieces(&mut items, body, &pieces, &named)?;
     add_label(&mut items, &named, units.len() as u32)?;
     Ok(items)
-}
-
-/// The type that a handler catches.
-pub fn kind_of<'a>(types: &'a [Ty], handler: &Handler) -> Option<&'a Ty>
-    ensures { option_map (λ t. t.now) result ≡ kind_of types.now handler.now }
-{
-    match handler.kind {
-        Some(kind) => types.get(kind as usize),
-        None => None,
-    }
-}
-
-/// A handler of a try entry.
-fn catch_of(
-    alloc: Global,
-    types: &[Ty],
-    entry: &Try,
-    handler: &Handler,
-) -> Result<Catch, AllocError>
-    ensures { IfOk result (λ c. c ≡ catch_of types.now entry.now handler.now) }
-{
-    let kind = match kind_of(types, handler) {
-        Some(ty) => Some(ty.clone()?),
-        None => None,
-    };
-    Ok(Catch {
-        line: 0,
-        kind,
-        from: label(alloc, entry.start)?,
-        to: label(alloc, entry.end)?,
-        at: label(alloc, handler.at)?,
-    })
-}
-
-/// Appends the handlers of a try entry.
-fn add_catches(catches: &mut Vec<Catch>, types: &[Ty], entry: &Try) -> Result<(), AllocError>
-    ensures { OnOk result (catches.new.items ≡ catches.old.items ++ catches_of_try types.now entry.now) }
-{
-    for handler in entry.handlers.items() {
-        catches.push(catch_of(*catches.allocator(), types, entry, handler)?)?;
-    }
-    Ok(())
-}
-
-/// The handlers of a body.
-pub fn catches_of(alloc: Global, body: &Body) -> Result<Vec<Catch>, AllocError>
-    ensures { IfOk result (λ v. v.items ≡ catches_of body.now) }
-{
-    let mut catches = Vec::new(alloc);
-    for entry in body.tries.items() {
-        add_catches(&mut catches, body.types.items(), entry)?;
-    }
-    Ok(catches)
 }

@@ -6,6 +6,7 @@ mod class;
 mod drafting;
 mod flags;
 mod formats;
+mod handlers;
 mod items;
 mod laws;
 mod members;
@@ -13,6 +14,7 @@ mod named;
 mod numbers;
 mod operands;
 mod pieces;
+mod pool_entries;
 mod raw;
 mod references;
 #[cfg(test)]

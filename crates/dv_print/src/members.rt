@@ -6,8 +6,9 @@ ghost use Rattle.dv_print.specs.Drafting.{draft_of};
 ghost use Rattle.dv_print.specs.Listing.{value_text, field_line, body_text, body_text_if_any, method_lines};
 
 use crate::catches::catch_texts;
-use crate::drafting::{catches_of, items_of};
+use crate::drafting::items_of;
 use crate::flags::flags_text;
+use crate::handlers::catches_of;
 use crate::items::item_texts;
 use crate::numbers::signed_decimal;
 use crate::raw::{raw_text, registers_text};

@@ -5,7 +5,7 @@ ghost use Rattle.std.specs.List.{flat_map};
 ghost use Rattle.dv_print.specs.Draft.{registers_text};
 ghost use Rattle.dv_print.specs.Raw.{ref_line, string_line, type_line, field_ref_line, method_ref_line, pools_text, separator, units_from, units_text, caught_text, handler_line, try_lines, raw_text};
 
-use crate::drafting::kind_of;
+use crate::handlers::kind_of;
 use crate::numbers::{decimal, hexadecimal};
 use crate::references::{field_text, method_text, string_text};
 use dv_defs::{Body, Chars, FieldRef, Handler, MethodRef, Try, Ty};

@@ -1,0 +1,61 @@
+// The handlers of the draft of a body.
+ghost use Rattle.std.specs.Prelude.{◌≡◌, ◌++◌, option_map, IfOk, OnOk};
+ghost use Rattle.dv_print.specs.Drafting.{kind_of, catch_of, catches_of_try, catches_of};
+
+use crate::drafting::label;
+use dv_asm::Catch;
+use dv_defs::{Body, Handler, Try, Ty};
+use std::alloc::{AllocError, Global};
+
+/// The type that a handler catches.
+pub fn kind_of<'a>(types: &'a [Ty], handler: &Handler) -> Option<&'a Ty>
+    ensures { option_map (λ t. t.now) result ≡ kind_of types.now handler.now }
+{
+    match handler.kind {
+        Some(kind) => types.get(kind as usize),
+        None => None,
+    }
+}
+
+/// A handler of a try entry.
+fn catch_of(
+    alloc: Global,
+    types: &[Ty],
+    entry: &Try,
+    handler: &Handler,
+) -> Result<Catch, AllocError>
+    ensures { IfOk result (λ c. c ≡ catch_of types.now entry.now handler.now) }
+{
+    let kind = match kind_of(types, handler) {
+        Some(ty) => Some(ty.clone()?),
+        None => None,
+    };
+    Ok(Catch {
+        line: 0,
+        kind,
+        from: label(alloc, entry.start)?,
+        to: label(alloc, entry.end)?,
+        at: label(alloc, handler.at)?,
+    })
+}
+
+/// Appends the handlers of a try entry.
+fn add_catches(catches: &mut Vec<Catch>, types: &[Ty], entry: &Try) -> Result<(), AllocError>
+    ensures { OnOk result (catches.new.items ≡ catches.old.items ++ catches_of_try types.now entry.now) }
+{
+    for handler in entry.handlers.items() {
+        catches.push(catch_of(*catches.allocator(), types, entry, handler)?)?;
+    }
+    Ok(())
+}
+
+/// The handlers of a body.
+pub fn catches_of(alloc: Global, body: &Body) -> Result<Vec<Catch>, AllocError>
+    ensures { IfOk result (λ v. v.items ≡ catches_of body.now) }
+{
+    let mut catches = Vec::new(alloc);
+    for entry in body.tries.items() {
+        add_catches(&mut catches, body.types.items(), entry)?;
+    }
+    Ok(catches)
+}
