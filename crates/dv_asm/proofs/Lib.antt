@@ -1,4 +1,5 @@
 pub mod FirstLemmas
+pub mod KeyLemmas
 pub mod PlaceLemmas
 pub mod Respelled
 pub mod PayloadLemmas

@@ -54,10 +54,10 @@ fn pools(alloc: Global, items: &[Item]) -> Result<Pools, AllocError>
     ensures { IfOk result (λ pools. pools ≡ pools_of items.now) }
 {
     Ok(Pools {
-        strings: Seq::of(strings(alloc, items)?),
-        types: Seq::of(types(alloc, items)?),
-        fields: Seq::of(fields(alloc, items)?),
-        methods: Seq::of(methods(alloc, items)?),
+        strings: strings(alloc, items)?,
+        types: types(alloc, items)?,
+        fields: fields(alloc, items)?,
+        methods: methods(alloc, items)?,
     })
 }
 
@@ -85,22 +85,21 @@ fn body_of(
     let units = units(alloc, items, places, named, &pools)?;
     let Pools {
         strings,
-        types,
+        mut types,
         fields,
         methods,
     } = pools;
     let sorted = sorted(alloc, ranges)?;
-    let mut types = types.into_vec();
     add_all_kinds(&mut types, items, catches, ranges, &sorted)?;
     let tries = tries(alloc, items, places, &types, catches, &sorted)?;
     Ok(Body {
         registers,
         units: Seq::of(units),
         tries: Seq::of(tries),
-        strings,
-        types: Seq::of(types),
-        fields,
-        methods,
+        strings: strings.into_seq()?,
+        types: types.into_seq()?,
+        fields: fields.into_seq()?,
+        methods: methods.into_seq()?,
         raw: false,
     })
 }

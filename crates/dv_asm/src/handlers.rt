@@ -7,7 +7,7 @@ ghost use Rattle.dv_asm.specs.Pools.{with_entries, with_entry_if_any};
 ghost use Rattle.dv_asm.specs.Layout.{begins_from, place_among, with_range, kind_in, with_kinds, catches_of, handler_of, entry_of};
 
 use crate::draft::{Catch, Item};
-use crate::entries::{add, place_in};
+use crate::pool::Pool;
 use crate::pools::index;
 use crate::short::label_address;
 use crate::tries::{TryRange, range_of};
@@ -57,32 +57,32 @@ pub fn sorted(alloc: Global, ranges: &[TryRange]) -> Result<Vec<TryRange>, Alloc
 
 /// Adds the type that a handler catches, where its range is the other one.
 fn add_kind(
-    types: &mut Vec<Ty>,
+    types: &mut Pool<Ty>,
     catch: &Catch,
     own: TryRange,
     range: TryRange,
 ) -> Result<(), AllocError>
-    ensures { OnOk result (types.new.items ≡ with_entry_if_any ty_eq types.old.items (if is_same own range then catch.now.kind else None)) }
+    ensures { OnOk result (types.new ≡ with_entry_if_any ty_eq types.old (if is_same own range then catch.now.kind else None)) }
 {
     if !own.is_same(range) {
         return Ok(());
     }
     match &catch.kind {
-        Some(ty) => add(types, ty),
+        Some(ty) => types.add(ty),
         None => Ok(()),
     }
 }
 
 /// Adds the types that the handlers of a range catch.
 fn add_kinds(
-    types: &mut Vec<Ty>,
+    types: &mut Pool<Ty>,
     items: &[Item],
     catches: &[Catch],
     ranges: &[TryRange],
     range: TryRange,
 ) -> Result<(), AllocError>
     requires { ranges.now ≡ ranges_of items.now catches.now }
-    ensures { OnOk result (types.new.items ≡ with_entries ty_eq (kind_in items.now range) types.old.items catches.now) }
+    ensures { OnOk result (types.new ≡ with_entries ty_eq (kind_in items.now range) types.old catches.now) }
 {
     let _ = items;
     for k in 0..catches.len() {
@@ -93,14 +93,14 @@ fn add_kinds(
 
 /// Adds the types that the handlers of each range catch.
 pub fn add_all_kinds(
-    types: &mut Vec<Ty>,
+    types: &mut Pool<Ty>,
     items: &[Item],
     catches: &[Catch],
     ranges: &[TryRange],
     sorted: &[TryRange],
 ) -> Result<(), AllocError>
     requires { ranges.now ≡ ranges_of items.now catches.now }
-    ensures { OnOk result (types.new.items ≡ with_kinds items.now catches.now types.old.items sorted.now) }
+    ensures { OnOk result (types.new ≡ with_kinds items.now catches.now types.old sorted.now) }
 {
     for range in sorted {
         add_kinds(types, items, catches, ranges, *range)?;
@@ -108,10 +108,11 @@ pub fn add_all_kinds(
     Ok(())
 }
 
+#[tactic(auto, using(crate::proofs::KeyLemmas::places))]
 fn handler_of(
     items: &[Item],
     places: &[u64],
-    types: &[Ty],
+    types: &Pool<Ty>,
     catch: &Catch,
 ) -> Result<Handler, AllocError>
     requires places { ArePlaces items.now places.now }
@@ -119,7 +120,7 @@ fn handler_of(
     ensures { IfOk result (λ handler. handler ≡ handler_of items.now types.now catch.now) }
 {
     let place = match &catch.kind {
-        Some(ty) => place_in(types, ty),
+        Some(ty) => types.place_of(ty),
         None => None,
     };
     let kind = match place {
@@ -135,7 +136,7 @@ fn handlers_of(
     alloc: Global,
     items: &[Item],
     places: &[u64],
-    types: &[Ty],
+    types: &Pool<Ty>,
     catches: &[Catch],
     range: TryRange,
 ) -> Result<Vec<Handler>, AllocError>
@@ -157,7 +158,7 @@ pub fn tries(
     alloc: Global,
     items: &[Item],
     places: &[u64],
-    types: &[Ty],
+    types: &Pool<Ty>,
     catches: &[Catch],
     sorted: &[TryRange],
 ) -> Result<Vec<Try>, AllocError>

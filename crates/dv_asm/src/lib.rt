@@ -3,7 +3,6 @@
 
 mod assembling;
 mod draft;
-mod entries;
 mod handlers;
 mod items;
 mod labels;
@@ -11,6 +10,7 @@ mod laws;
 mod lines;
 mod payloads;
 mod places;
+mod pool;
 mod pools;
 mod ranges;
 mod short;

@@ -4,17 +4,17 @@ ghost use Rattle.dv_defs.specs.Types.{ty_eq};
 ghost use Rattle.dv_asm.specs.Pools.{chars_of, type_of, field_of, method_of, field_eq, method_eq, with_entries, index_of};
 
 use crate::draft::{Item, PoolRef, What};
-use crate::entries::{add, place_in};
-use dv_defs::{Chars, FieldRef, MethodRef, Seq, Ty};
+use crate::pool::Pool;
+use dv_defs::{Chars, FieldRef, MethodRef, Ty};
 use std::alloc::{AllocError, Global};
 
 /// The strings, types, fields and methods that the instructions of a body name.
-#[derive(Debug, Drop)]
+#[derive(Drop)]
 pub struct Pools {
-    pub strings: Seq<Chars>,
-    pub types: Seq<Ty>,
-    pub fields: Seq<FieldRef>,
-    pub methods: Seq<MethodRef>,
+    pub strings: Pool<Chars>,
+    pub types: Pool<Ty>,
+    pub fields: Pool<FieldRef>,
+    pub methods: Pool<MethodRef>,
 }
 
 impl Item {
@@ -68,52 +68,52 @@ impl Item {
 }
 
 /// The strings that the instructions name.
-pub fn strings(alloc: Global, items: &[Item]) -> Result<Vec<Chars>, AllocError>
-    ensures { IfOk result (λ pool. pool.items ≡ with_entries bytes_eq chars_of [] items.now) }
+pub fn strings(alloc: Global, items: &[Item]) -> Result<Pool<Chars>, AllocError>
+    ensures { IfOk result (λ pool. pool ≡ with_entries bytes_eq chars_of [] items.now) }
 {
-    let mut pool = Vec::new(alloc);
+    let mut pool = Pool::new(alloc);
     for item in items {
         if let Some(chars) = item.chars() {
-            add(&mut pool, chars)?;
+            pool.add(chars)?;
         }
     }
     Ok(pool)
 }
 
 /// The types that the instructions name.
-pub fn types(alloc: Global, items: &[Item]) -> Result<Vec<Ty>, AllocError>
-    ensures { IfOk result (λ pool. pool.items ≡ with_entries ty_eq type_of [] items.now) }
+pub fn types(alloc: Global, items: &[Item]) -> Result<Pool<Ty>, AllocError>
+    ensures { IfOk result (λ pool. pool ≡ with_entries ty_eq type_of [] items.now) }
 {
-    let mut pool = Vec::new(alloc);
+    let mut pool = Pool::new(alloc);
     for item in items {
         if let Some(ty) = item.ty() {
-            add(&mut pool, ty)?;
+            pool.add(ty)?;
         }
     }
     Ok(pool)
 }
 
 /// The fields that the instructions name.
-pub fn fields(alloc: Global, items: &[Item]) -> Result<Vec<FieldRef>, AllocError>
-    ensures { IfOk result (λ pool. pool.items ≡ with_entries field_eq field_of [] items.now) }
+pub fn fields(alloc: Global, items: &[Item]) -> Result<Pool<FieldRef>, AllocError>
+    ensures { IfOk result (λ pool. pool ≡ with_entries field_eq field_of [] items.now) }
 {
-    let mut pool = Vec::new(alloc);
+    let mut pool = Pool::new(alloc);
     for item in items {
         if let Some(field) = item.field() {
-            add(&mut pool, field)?;
+            pool.add(field)?;
         }
     }
     Ok(pool)
 }
 
 /// The methods that the instructions name.
-pub fn methods(alloc: Global, items: &[Item]) -> Result<Vec<MethodRef>, AllocError>
-    ensures { IfOk result (λ pool. pool.items ≡ with_entries method_eq method_of [] items.now) }
+pub fn methods(alloc: Global, items: &[Item]) -> Result<Pool<MethodRef>, AllocError>
+    ensures { IfOk result (λ pool. pool ≡ with_entries method_eq method_of [] items.now) }
 {
-    let mut pool = Vec::new(alloc);
+    let mut pool = Pool::new(alloc);
     for item in items {
         if let Some(method) = item.method() {
-            add(&mut pool, method)?;
+            pool.add(method)?;
         }
     }
     Ok(pool)
@@ -128,15 +128,16 @@ pub fn index(place: usize) -> Result<u32, AllocError>
 
 impl Pools {
     /// The index of what an instruction names.
+    #[tactic(auto, using(crate::proofs::KeyLemmas::places))]
     pub fn index_of(&self, entry: &PoolRef) -> Result<u32, AllocError>
         ensures { IfOk result (λ n. n ≡ index_of self.now entry.now) }
     {
         let place = match entry {
             PoolRef::None => None,
-            PoolRef::Str(chars) => place_in(self.strings.items(), chars),
-            PoolRef::OfType(ty) => place_in(self.types.items(), ty),
-            PoolRef::Field(field) => place_in(self.fields.items(), field),
-            PoolRef::Method(method) => place_in(self.methods.items(), method),
+            PoolRef::Str(chars) => self.strings.place_of(chars),
+            PoolRef::OfType(ty) => self.types.place_of(ty),
+            PoolRef::Field(field) => self.fields.place_of(field),
+            PoolRef::Method(method) => self.methods.place_of(method),
         };
         index(place.unwrap_or(0))
     }

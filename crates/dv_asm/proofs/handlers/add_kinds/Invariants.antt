@@ -5,4 +5,4 @@ use Rattle.dv_asm.specs.Layout.{kind_in}
 use Rattle.dv_asm.proofs.handlers.add_kinds.Given as goal
 
 abbrev pub invariant-loop-k : goal.invariant-loop-k
-invariant-loop-k l = with_entries ty_eq (kind_in l.fn.items l.range) l.types.items (drop l.k l.catches) ≡ with_entries ty_eq (kind_in l.fn.items l.range) l.fn.types.items l.catches
+invariant-loop-k l = with_entries ty_eq (kind_in l.fn.items l.range) l.types (drop l.k l.catches) ≡ with_entries ty_eq (kind_in l.fn.items l.range) l.fn.types l.catches

@@ -1,4 +1,4 @@
-use Rattle.std.proofs.Common.{Some, None, sym, subst}
+use Rattle.std.proofs.Common.{None, sym, subst}
 use Rattle.dv_asm.specs.declared.draft.PoolRef.TheVariants as pool
 use Rattle.dv_asm.proofs.TestOps.{Forms, nop_forms}
 use Rattle.dv_asm.proofs.tests.Making.nop.Goals as goal
