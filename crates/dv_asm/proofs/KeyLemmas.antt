@@ -11,7 +11,6 @@ use Rattle.dv_defs.specs.declared.names.Ty.{Ty}
 use Rattle.dv_defs.specs.declared.names.Proto.{Proto}
 use Rattle.dv_defs.specs.declared.names.FieldRef.{FieldRef}
 use Rattle.dv_defs.specs.declared.names.MethodRef.{MethodRef}
-use Rattle.dv_defs.specs.contracts.names.CharsPartialEq.TheImpl as of_chars
 use Rattle.dv_defs.specs.contracts.names.BasePartialEq.TheImpl as of_base
 use Rattle.dv_defs.specs.contracts.names.TyPartialEq.TheImpl as of_type
 use Rattle.dv_defs.specs.contracts.names.ProtoPartialEq.TheImpl as of_proto
@@ -48,10 +47,7 @@ fields a b = λ i. types a.class b.class i && (bytes_eq a.name b.name && types a
 methods : (a b : MethodRef) → (of_method.ghosts).eq a b ≡ method_eq a b
 methods a b = λ i. types a.class b.class i && (bytes_eq a.name b.name && protos a.proto b.proto i)
 
--- what `==` tells of two entries
-pub chars_keys : (of_chars.ghosts).eq ≡ bytes_eq
-chars_keys = refl
-
+-- what `==` tells of two entries; of strings it computes to `bytes_eq`
 pub type_keys : (of_type.ghosts).eq ≡ ty_eq
 type_keys = λ i a b. types a b i
 

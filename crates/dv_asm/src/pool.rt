@@ -1,4 +1,4 @@
-// A pool.
+// A pool of a body that is being assembled.
 ghost use Rattle.std.specs.Prelude.{◌≡◌, [], position, OnOk, IfOk};
 ghost use Rattle.dv_asm.specs.Pools.{with_entry};
 
@@ -53,6 +53,7 @@ impl<E: Eq + Hash + Clone + Drop> Pool<E> {
         Ok(())
     }
 
+    /// The entries in their order.
     pub fn into_seq(self) -> Result<Seq<E>, AllocError>
         ensures { IfOk result (λ entries. entries ≡ self) }
     {
