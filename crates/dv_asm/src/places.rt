@@ -1,10 +1,10 @@
 // The addresses of items and labels.
-ghost use Rattle.std.specs.Prelude.{◌≡◌, ◌-ℤ◌, ◌^◌, ◌≤◌, ℕ, List, bytes_eq, pos, length, IfOk, OnOk};
+ghost use Rattle.std.specs.Prelude.{◌≡◌, ◌+◌, ◌%◌, ◌-ℤ◌, ◌^◌, ◌<◌, ◌≤◌, ◌&&◌, ℕ, false, List, bytes_eq, drop, nat_eq, pos, length, vec_len, slice_index_or, IfOk, OnOk, if◌then◌else◌};
 ghost use Rattle.std.specs.Option.{option_or};
 ghost use Rattle.indexmap.specs.IndexMap.{get};
 ghost use Rattle.dv_asm.specs.First.{when};
 ghost use Rattle.dv_asm.specs.Items.{is_named};
-ghost use Rattle.dv_asm.specs.Places.{leads_to_payload, aligned, place_of, label_address, distance, address_of, AreAddresses, AreFirstLabels, ArePlaces};
+ghost use Rattle.dv_asm.specs.Places.{leads_to_payload, place_of, label_address, distance, address_of, AreAddresses, AreFirstLabels, ArePlaces};
 
 use crate::draft::{Item, What};
 use dv_defs::Text;
@@ -21,38 +21,39 @@ pub struct Places {
     labels: IndexMap<Text, usize>,
 }
 
-/// Whether a payload comes next, labels before it passed over.
-fn leads_to_payload(items: &[Item]) -> bool
-    ensures { result ≡ leads_to_payload items.now }
+/// Whether each item leads to a payload: whether one comes next, labels before it passed over.
+fn lead_to_payloads(alloc: Global, items: &[Item]) -> Result<Vec<bool>, AllocError>
+    ensures count { IfOk result (λ leading. vec_len leading ≡ length items.now) }
+    ensures value { IfOk result (λ leading. (k : ℕ) → k < length items.now → slice_index_or leading.items k false ≡ leads_to_payload (drop k items.now)) }
 {
-    for item in items {
-        if !item.is_label() {
-            return item.is_payload();
+    let mut leading = vec![in alloc; false; items.len()]?;
+    let mut leads = false;
+    for k in (0..items.len()).rev() {
+        if !items[k].is_label() {
+            leads = items[k].is_payload();
         }
+        leading[k] = leads;
     }
-    false
+    Ok(leading)
 }
 
-/// Where the first of these items stands, if those before it end at `end`.
-fn aligned(end: u64, items: &[Item]) -> u64
+/// Where an item stands, if those before it end at `end`, by whether it leads to a payload.
+fn aligned(end: u64, leads: bool) -> u64
     requires { end ≤ 2 ^ 62 }
-    ensures { result ≡ aligned end items.now }
+    ensures { result ≡ if nat_eq (end % 2) 1 && leads then end + 1 else end }
 {
-    if end % 2 == 1 && leads_to_payload(items) {
-        end + 1
-    } else {
-        end
-    }
+    if end % 2 == 1 && leads { end + 1 } else { end }
 }
 
 /// The address of each item, and where the last one ends.
 fn addresses(alloc: Global, items: &[Item]) -> Result<Vec<u64>, AllocError>
     ensures { IfOk result (λ addresses. AreAddresses items.now addresses.items) }
 {
+    let leading = lead_to_payloads(alloc, items)?;
     let mut addresses = Vec::new(alloc);
     let mut end = 0;
     for k in 0..items.len() {
-        let address = aligned(end, &items[k..]);
+        let address = aligned(end, leading[k]);
         addresses.push(address)?;
         end = address + items[k].size();
         if end >= TOO_MANY {
