@@ -1,5 +1,6 @@
 pub mod FirstLemmas
 pub mod KeyLemmas
+pub mod LabelLemmas
 pub mod PlaceLemmas
 pub mod Respelled
 pub mod PayloadLemmas

@@ -1,7 +1,9 @@
 -- The addresses of items and labels, in units.
-use Rattle.std.specs.Prelude.{ℕ, zero, suc, ◌≡◌, ◌+◌, ◌%◌, ◌^◌, ◌≤◌, ℤ, pos, ◌-ℤ◌, Bool, false, ◌&&◌, nat_eq, List, [], ◌∷◌, length, drop, position, slice_index, Option, option_map, if◌then◌else◌}
+use Rattle.std.specs.Prelude.{ℕ, zero, suc, ◌≡◌, ◌+◌, ◌%◌, ◌^◌, ◌≤◌, ℤ, pos, ◌-ℤ◌, Bool, false, ◌&&◌, nat_eq, List, [], ◌∷◌, bytes_eq, length, drop, position, slice_index, Option, option_map, if◌then◌else◌}
 use Rattle.std.specs.Option.{option_map_or}
+use Rattle.indexmap.specs.IndexMap.{IndexMap, get}
 use Rattle.dv_asm.specs.declared.draft.Item.{Item}
+use Rattle.dv_asm.specs.declared.places.Places.{Places}
 use Rattle.dv_asm.specs.Items.{item_at, is_label, is_named, is_payload, label_of_switch, size_of}
 
 -- whether a payload comes next, labels before it passed over
@@ -44,7 +46,15 @@ abbrev pub address_named_by : List Item → Item → Option ℕ
 address_named_by items item = option_map (label_address items) (label_of_switch item.what)
 
 -- the addresses of the items, and then where they end; no memory holds so many units
-pub record ArePlaces (items : List Item) (places : List ℕ) : Type 0 where
-  pub count : length places ≡ length items + 1
-  pub places_at : (k : ℕ) → k ≤ length items → slice_index places k ≡ address_of items k
+pub record AreAddresses (items : List Item) (addresses : List ℕ) : Type 0 where
+  pub count : length addresses ≡ length items + 1
+  pub addresses_at : (k : ℕ) → k ≤ length items → slice_index addresses k ≡ address_of items k
   pub small : (k : ℕ) → k ≤ length items → address_of items k ≤ 2 ^ 62
+
+-- the names of the labels, each with the place of its first label
+abbrev pub AreFirstLabels : {S : Type 0} → List Item → IndexMap (List ℕ) ℕ S → Type 0
+AreFirstLabels items labels = (name : List ℕ) → get bytes_eq labels name ≡ place_of items name
+
+pub record ArePlaces (items : List Item) (places : Places) : Type 0 where
+  pub addresses : AreAddresses items places.addresses.items
+  pub first_labels : AreFirstLabels items places.labels

@@ -10,7 +10,7 @@ use crate::draft::{Catch, Draft, Item};
 use crate::handlers::{add_all_kinds, sorted, tries};
 use crate::labels::{label_twice, no_label};
 use crate::lines::refuse;
-use crate::places::places;
+use crate::places::Places;
 use crate::pools::{Pools, fields, methods, strings, types};
 use crate::ranges::{offset_range, register_range, too_long};
 use crate::switches::{addresses_named, repeated};
@@ -20,15 +20,16 @@ use dv_defs::{Body, LineError, LineKind, Seq};
 use std::alloc::{AllocError, Global};
 
 /// Refuses labels that stand twice, and labels that aren't there.
-fn check_labels(items: &[Item], catches: &[Catch]) -> Result<(), LineError>
+fn check_labels(items: &[Item], places: &Places, catches: &[Catch]) -> Result<(), LineError>
+    requires { ArePlaces items.now places.now }
     ensures { Checks result (label_refusal items.now catches.now) }
 {
-    refuse(label_twice(items), LineKind::LabelTwice)?;
-    refuse(no_label(items, catches), LineKind::NoLabel)
+    refuse(label_twice(items, places), LineKind::LabelTwice)?;
+    refuse(no_label(items, places, catches), LineKind::NoLabel)
 }
 
 /// Refuses payloads of two switches, registers and offsets that don't fit, and bodies that are too long.
-fn check_items(items: &[Item], places: &[u64], named: &[Option<u64>]) -> Result<(), LineError>
+fn check_items(items: &[Item], places: &Places, named: &[Option<u64>]) -> Result<(), LineError>
     requires places { ArePlaces items.now places.now }
     requires named { named.now ≡ addresses_named items.now }
     ensures { Checks result (item_refusal items.now) }
@@ -68,7 +69,7 @@ fn body_of(
     registers: u16,
     items: &[Item],
     catches: &[Catch],
-    places: &[u64],
+    places: &Places,
     named: &[Option<u64>],
     ranges: &[TryRange],
 ) -> Result<Body, AllocError>
@@ -121,8 +122,8 @@ pub fn assemble(alloc: Global, draft: &Draft) -> Result<Body, LineError>
 {
     let items = draft.items.items();
     let catches = draft.catches.items();
-    check_labels(items, catches)?;
-    let places = places(alloc, items)?;
+    let places = Places::of(alloc, items)?;
+    check_labels(items, &places, catches)?;
     let named = addresses_named(alloc, items, &places)?;
     check_items(items, &places, &named)?;
     let ranges = ranges(alloc, items, catches, &places)?;

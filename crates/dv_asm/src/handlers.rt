@@ -7,6 +7,7 @@ ghost use Rattle.dv_asm.specs.Pools.{with_entries, with_entry_if_any};
 ghost use Rattle.dv_asm.specs.Layout.{begins_from, place_among, with_range, kind_in, with_kinds, catches_of, handler_of, entry_of};
 
 use crate::draft::{Catch, Item};
+use crate::places::Places;
 use crate::pool::Pool;
 use crate::pools::index;
 use crate::short::label_address;
@@ -111,7 +112,7 @@ pub fn add_all_kinds(
 #[tactic(auto, using(crate::proofs::KeyLemmas::places))]
 fn handler_of(
     items: &[Item],
-    places: &[u64],
+    places: &Places,
     types: &Pool<Ty>,
     catch: &Catch,
 ) -> Result<Handler, AllocError>
@@ -135,7 +136,7 @@ fn handler_of(
 fn handlers_of(
     alloc: Global,
     items: &[Item],
-    places: &[u64],
+    places: &Places,
     types: &Pool<Ty>,
     catches: &[Catch],
     range: TryRange,
@@ -157,7 +158,7 @@ fn handlers_of(
 pub fn tries(
     alloc: Global,
     items: &[Item],
-    places: &[u64],
+    places: &Places,
     types: &Pool<Ty>,
     catches: &[Catch],
     sorted: &[TryRange],

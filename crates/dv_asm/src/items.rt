@@ -1,6 +1,6 @@
 // What items are.
 ghost use Rattle.std.specs.Prelude.{◌≡◌, ◌≤◌, ◌^◌, option_map};
-ghost use Rattle.dv_asm.specs.Items.{is_label, is_named, is_payload, is_switch_opcode, label_of_switch, size_of};
+ghost use Rattle.dv_asm.specs.Items.{is_label, is_payload, is_switch_opcode, label_of_switch, size_of};
 
 use crate::draft::{Item, What};
 use dv_defs::Text;
@@ -11,16 +11,6 @@ impl Item {
         ensures { result ≡ is_label self.now.what }
     {
         matches!(self.what, What::Label(_))
-    }
-
-    /// Whether the item is the label of this name.
-    pub fn is_named(&self, name: &Text) -> bool
-        ensures { result ≡ is_named name.now self.now }
-    {
-        match &self.what {
-            What::Label(own) => own.bytes() == name.bytes(),
-            _ => false,
-        }
     }
 
     pub fn is_payload(&self) -> bool

@@ -6,13 +6,14 @@ ghost use Rattle.dv_asm.specs.Refusals.{too_long, addresses_named};
 ghost use Rattle.dv_asm.specs.Layout.{base_of, targets_of, packed_of, sparse_of};
 
 use crate::draft::Item;
+use crate::places::Places;
 use crate::short::{address_of, distance};
 use crate::switches::switch_of;
 use dv_defs::{Payload, Seq, Text};
 use std::alloc::{AllocError, Global};
 
 /// The address that the targets of a payload at an address count from.
-fn base_of(items: &[Item], places: &[u64], named: &[Option<u64>], address: u32) -> u32
+fn base_of(items: &[Item], places: &Places, named: &[Option<u64>], address: u32) -> u32
     requires places { ArePlaces items.now places.now }
     requires short { too_long items.now ≡ None }
     requires named { named.now ≡ addresses_named items.now }
@@ -41,7 +42,7 @@ fn copied(alloc: Global, numbers: &[i32]) -> Result<Seq<i32>, AllocError>
 fn distances(
     alloc: Global,
     items: &[Item],
-    places: &[u64],
+    places: &Places,
     from: u32,
     names: &[Text],
 ) -> Result<Vec<i32>, AllocError>
@@ -61,7 +62,7 @@ fn distances(
 fn targets_of(
     alloc: Global,
     items: &[Item],
-    places: &[u64],
+    places: &Places,
     named: &[Option<u64>],
     address: u32,
     names: &[Text],
@@ -80,7 +81,7 @@ fn targets_of(
 pub fn packed_of(
     alloc: Global,
     items: &[Item],
-    places: &[u64],
+    places: &Places,
     named: &[Option<u64>],
     k: usize,
     first: i32,
@@ -103,7 +104,7 @@ pub fn packed_of(
 pub fn sparse_of(
     alloc: Global,
     items: &[Item],
-    places: &[u64],
+    places: &Places,
     named: &[Option<u64>],
     k: usize,
     keys: &Seq<i32>,

@@ -1,71 +1,124 @@
 // The addresses of items and labels.
-ghost use Rattle.std.specs.Prelude.{◌≡◌, ◌-ℤ◌, ◌^◌, ◌≤◌, pos, length, IfOk};
-ghost use Rattle.dv_asm.specs.Places.{leads_to_payload, aligned, place_of, label_address, distance, address_of, ArePlaces};
+ghost use Rattle.std.specs.Prelude.{◌≡◌, ◌+◌, ◌%◌, ◌-ℤ◌, ◌^◌, ◌<◌, ◌≤◌, ◌&&◌, ℕ, false, List, bytes_eq, drop, nat_eq, pos, length, vec_len, slice_index_or, IfOk, OnOk, if◌then◌else◌};
+ghost use Rattle.std.specs.Option.{option_or};
+ghost use Rattle.indexmap.specs.IndexMap.{get};
+ghost use Rattle.dv_asm.specs.First.{when};
+ghost use Rattle.dv_asm.specs.Items.{is_named};
+ghost use Rattle.dv_asm.specs.Places.{leads_to_payload, place_of, label_address, distance, address_of, AreAddresses, AreFirstLabels, ArePlaces};
 
-use crate::draft::Item;
+use crate::draft::{Item, What};
 use dv_defs::Text;
+use indexmap::IndexMap;
 use std::alloc::{AllocError, Global};
 
 /// More units than any memory holds.
 const TOO_MANY: u64 = 1 << 62;
 
-/// Whether a payload comes next, labels before it passed over.
-fn leads_to_payload(items: &[Item]) -> bool
-    ensures { result ≡ leads_to_payload items.now }
-{
-    for item in items {
-        if !item.is_label() {
-            return item.is_payload();
-        }
-    }
-    false
+/// The address of each item and where the last one ends, and the place of the first label of each name.
+#[derive(Drop)]
+pub struct Places {
+    addresses: Vec<u64>,
+    labels: IndexMap<Text, usize>,
 }
 
-/// Where the first of these items stands, if those before it end at `end`.
-fn aligned(end: u64, items: &[Item]) -> u64
-    requires { end ≤ 2 ^ 62 }
-    ensures { result ≡ aligned end items.now }
+/// Whether each item leads to a payload: whether one comes next, labels before it passed over.
+fn lead_to_payloads(alloc: Global, items: &[Item]) -> Result<Vec<bool>, AllocError>
+    ensures count { IfOk result (λ leading. vec_len leading ≡ length items.now) }
+    ensures value { IfOk result (λ leading. (k : ℕ) → k < length items.now → slice_index_or leading.items k false ≡ leads_to_payload (drop k items.now)) }
 {
-    if end % 2 == 1 && leads_to_payload(items) {
-        end + 1
-    } else {
-        end
+    let mut leading = vec![in alloc; false; items.len()]?;
+    let mut leads = false;
+    for k in (0..items.len()).rev() {
+        if !items[k].is_label() {
+            leads = items[k].is_payload();
+        }
+        leading[k] = leads;
     }
+    Ok(leading)
+}
+
+/// Where an item stands, if those before it end at `end`, by whether it leads to a payload.
+fn aligned(end: u64, leads: bool) -> u64
+    requires { end ≤ 2 ^ 62 }
+    ensures { result ≡ if nat_eq (end % 2) 1 && leads then end + 1 else end }
+{
+    if end % 2 == 1 && leads { end + 1 } else { end }
 }
 
 /// The address of each item, and where the last one ends.
-pub fn places(alloc: Global, items: &[Item]) -> Result<Vec<u64>, AllocError>
-    ensures { IfOk result (λ places. ArePlaces items.now places.items) }
+fn addresses(alloc: Global, items: &[Item]) -> Result<Vec<u64>, AllocError>
+    ensures { IfOk result (λ addresses. AreAddresses items.now addresses.items) }
 {
-    let mut places = Vec::new(alloc);
+    let leading = lead_to_payloads(alloc, items)?;
+    let mut addresses = Vec::new(alloc);
     let mut end = 0;
     for k in 0..items.len() {
-        let place = aligned(end, &items[k..]);
-        places.push(place)?;
-        end = place + items[k].size();
+        let address = aligned(end, leading[k]);
+        addresses.push(address)?;
+        end = address + items[k].size();
         if end >= TOO_MANY {
             return Err(AllocError);
         }
     }
-    places.push(end)?;
-    Ok(places)
+    addresses.push(end)?;
+    Ok(addresses)
+}
+
+/// Adds an item's name with the item's place, where it is a label of a name that isn't there.
+fn add_label(
+    labels: &mut IndexMap<Text, usize>,
+    item: &Item,
+    place: usize,
+) -> Result<(), AllocError>
+    ensures { OnOk result ((name : List ℕ) → get bytes_eq labels.new name ≡ option_or (get bytes_eq labels.old name) (when (is_named name item.now) place)) }
+{
+    if let What::Label(name) = &item.what
+        && !labels.contains_key(name)
+    {
+        labels.insert(name.clone()?, place)?;
+    }
+    Ok(())
+}
+
+/// The names of the labels, each with the place of its first label.
+fn first_labels(alloc: Global, items: &[Item]) -> Result<IndexMap<Text, usize>, AllocError>
+    ensures { IfOk result (λ labels. AreFirstLabels items.now labels) }
+{
+    let mut labels = IndexMap::new(alloc);
+    for k in 0..items.len() {
+        add_label(&mut labels, &items[k], k)?;
+    }
+    Ok(labels)
+}
+
+impl Places {
+    pub fn of(alloc: Global, items: &[Item]) -> Result<Places, AllocError>
+        ensures { IfOk result (λ places. ArePlaces items.now places) }
+    {
+        Ok(Places {
+            addresses: addresses(alloc, items)?,
+            labels: first_labels(alloc, items)?,
+        })
+    }
 }
 
 /// The place among the items of the first label of a name.
-pub fn find_label(items: &[Item], name: &Text) -> Option<usize>
+pub fn find_label(items: &[Item], places: &Places, name: &Text) -> Option<usize>
+    requires { ArePlaces items.now places.now }
     ensures { result ≡ place_of items.now name.now }
 {
-    items.iter().position(|item| item.is_named(name))
+    let _ = items;
+    places.labels.get(name).copied()
 }
 
 /// The address of a label, 0 where there is none.
-pub fn label_address(items: &[Item], places: &[u64], name: &Text) -> u64
+pub fn label_address(items: &[Item], places: &Places, name: &Text) -> u64
     requires { ArePlaces items.now places.now }
     ensures value { result ≡ label_address items.now name.now }
     ensures small { result ≤ 2 ^ 62 }
 {
-    match find_label(items, name) {
-        Some(k) => places[k],
+    match find_label(items, places, name) {
+        Some(k) => places.addresses[k],
         None => 0,
     }
 }
@@ -80,7 +133,7 @@ fn difference(from: u64, to: u64) -> i64
 }
 
 /// How far a label is from an address.
-pub fn distance(items: &[Item], places: &[u64], from: u64, name: &Text) -> i64
+pub fn distance(items: &[Item], places: &Places, from: u64, name: &Text) -> i64
     requires places { ArePlaces items.now places.now }
     requires small { from ≤ 2 ^ 62 }
     ensures { result ≡ distance items.now from name.now }
@@ -89,12 +142,12 @@ pub fn distance(items: &[Item], places: &[u64], from: u64, name: &Text) -> i64
 }
 
 /// The address of an item.
-pub fn address_of(items: &[Item], places: &[u64], k: usize) -> u64
+pub fn address_of(items: &[Item], places: &Places, k: usize) -> u64
     requires places { ArePlaces items.now places.now }
     requires within { k ≤ length items.now }
     ensures value { result ≡ address_of items.now k }
     ensures small { result ≤ 2 ^ 62 }
 {
     let _ = items;
-    places[k]
+    places.addresses[k]
 }

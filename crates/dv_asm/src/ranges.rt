@@ -7,7 +7,7 @@ ghost use Rattle.dv_asm.specs.Refusals.{with_operands, is_over_registers, regist
 
 use crate::draft::{Draftop, Item, What};
 use crate::lines::{earlier, when};
-use crate::places::{address_of, distance};
+use crate::places::{Places, address_of, distance};
 use dv_defs::{Insn, Text};
 use dv_units::{has_spelling, offset_bits};
 
@@ -58,7 +58,7 @@ fn offset_fits(op: u8, offset: i64) -> bool
 }
 
 /// Whether the offset's field of item k, of an opcode, holds the distance of a label.
-fn label_fits(items: &[Item], places: &[u64], k: usize, op: u8, name: &Text) -> bool
+fn label_fits(items: &[Item], places: &Places, k: usize, op: u8, name: &Text) -> bool
     requires places { ArePlaces items.now places.now }
     requires within { k < length items.now }
     ensures { result ≡ offset_fits items.now k op (Some name.now) }
@@ -67,7 +67,7 @@ fn label_fits(items: &[Item], places: &[u64], k: usize, op: u8, name: &Text) -> 
     offset_fits(op, distance(items, places, from, name))
 }
 
-fn is_over_offset(items: &[Item], places: &[u64], k: usize, op: &Draftop) -> bool
+fn is_over_offset(items: &[Item], places: &Places, k: usize, op: &Draftop) -> bool
     requires places { ArePlaces items.now places.now }
     requires within { k < length items.now }
     ensures { result ≡ not (offset_fits items.now k op.now.insn.op op.now.label) }
@@ -79,7 +79,7 @@ fn is_over_offset(items: &[Item], places: &[u64], k: usize, op: &Draftop) -> boo
 }
 
 /// The first line of an instruction whose label is too far for its offset.
-pub fn offset_range(items: &[Item], places: &[u64]) -> Option<u32>
+pub fn offset_range(items: &[Item], places: &Places) -> Option<u32>
     requires { ArePlaces items.now places.now }
     ensures { result ≡ offset_range items.now }
 {
@@ -95,16 +95,17 @@ pub fn offset_range(items: &[Item], places: &[u64]) -> Option<u32>
 }
 
 /// Whether the end of an item passes the limit.
-fn passes(items: &[Item], places: &[u64], k: usize) -> bool
+fn passes(items: &[Item], places: &Places, k: usize) -> bool
     requires places { ArePlaces items.now places.now }
     requires within { k < length items.now }
     ensures { result ≡ passes items.now k }
 {
-    places[k] <= LIMIT && places[k] + items[k].size() > LIMIT
+    let address = address_of(items, places, k);
+    address <= LIMIT && address + items[k].size() > LIMIT
 }
 
 /// The line of the item whose end passes the limit.
-pub fn too_long(items: &[Item], places: &[u64]) -> Option<u32>
+pub fn too_long(items: &[Item], places: &Places) -> Option<u32>
     requires { ArePlaces items.now places.now }
     ensures { result ≡ too_long items.now }
 {

@@ -6,11 +6,11 @@ ghost use Rattle.dv_asm.specs.Refusals.{addresses_named, is_address, is_payload_
 use crate::draft::Item;
 use crate::labels::is_place;
 use crate::lines::{earlier, when};
-use crate::places::label_address;
+use crate::places::{Places, address_of, label_address};
 use std::alloc::{AllocError, Global};
 
 /// The address that the item names where it is a switch.
-fn address_named_by(items: &[Item], places: &[u64], item: &Item) -> Option<u64>
+fn address_named_by(items: &[Item], places: &Places, item: &Item) -> Option<u64>
     requires { ArePlaces items.now places.now }
     ensures { result ≡ address_named_by items.now item.now }
 {
@@ -24,7 +24,7 @@ fn address_named_by(items: &[Item], places: &[u64], item: &Item) -> Option<u64>
 pub fn addresses_named(
     alloc: Global,
     items: &[Item],
-    places: &[u64],
+    places: &Places,
 ) -> Result<Vec<Option<u64>>, AllocError>
     requires { ArePlaces items.now places.now }
     ensures { IfOk result (λ named. named.items ≡ addresses_named items.now) }
@@ -44,17 +44,17 @@ pub fn switch_of(named: &[Option<u64>], address: u64) -> Option<usize>
 }
 
 /// Whether an item is a payload at an address.
-fn is_payload_at(items: &[Item], places: &[u64], address: u64, k: usize) -> bool
+fn is_payload_at(items: &[Item], places: &Places, address: u64, k: usize) -> bool
     requires places { ArePlaces items.now places.now }
     requires within { k < length items.now }
     ensures { result ≡ is_payload_at items.now address k }
 {
-    items[k].is_payload() && places[k] == address
+    items[k].is_payload() && address_of(items, places, k) == address
 }
 
 /// Whether a payload stands at an address.
 #[tactic(auto, using(crate::proofs::FirstLemmas::any_below_more))]
-fn stands_payload(items: &[Item], places: &[u64], address: u64) -> bool
+fn stands_payload(items: &[Item], places: &Places, address: u64) -> bool
     requires { ArePlaces items.now places.now }
     ensures { result ≡ stands_payload items.now address }
 {
@@ -67,7 +67,7 @@ fn stands_payload(items: &[Item], places: &[u64], address: u64) -> bool
 }
 
 /// Whether an earlier switch names the payload that stands at an address.
-fn is_repeated(items: &[Item], places: &[u64], named: &[Option<u64>], k: usize) -> bool
+fn is_repeated(items: &[Item], places: &Places, named: &[Option<u64>], k: usize) -> bool
     requires places { ArePlaces items.now places.now }
     requires named { named.now ≡ addresses_named items.now }
     requires within { k < length items.now }
@@ -82,7 +82,7 @@ fn is_repeated(items: &[Item], places: &[u64], named: &[Option<u64>], k: usize) 
 }
 
 /// The first line of a switch that names the same payload as an earlier one.
-pub fn repeated(items: &[Item], places: &[u64], named: &[Option<u64>]) -> Option<u32>
+pub fn repeated(items: &[Item], places: &Places, named: &[Option<u64>]) -> Option<u32>
     requires places { ArePlaces items.now places.now }
     requires named { named.now ≡ addresses_named items.now }
     ensures { result ≡ repeated items.now }

@@ -6,6 +6,7 @@ ghost use Rattle.dv_asm.specs.Refusals.{too_long, range_of, ranges_of, is_empty,
 
 use crate::draft::{Catch, Item};
 use crate::lines::{earlier, when};
+use crate::places::Places;
 use crate::short::label_address;
 use std::alloc::{AllocError, Global};
 
@@ -38,7 +39,7 @@ impl TryRange {
 }
 
 /// The range of a handler.
-pub fn range_of(items: &[Item], places: &[u64], catch: &Catch) -> TryRange
+pub fn range_of(items: &[Item], places: &Places, catch: &Catch) -> TryRange
     requires places { ArePlaces items.now places.now }
     requires short { too_long items.now ≡ None }
     ensures { result ≡ range_of items.now catch.now }
@@ -54,7 +55,7 @@ pub fn ranges(
     alloc: Global,
     items: &[Item],
     catches: &[Catch],
-    places: &[u64],
+    places: &Places,
 ) -> Result<Vec<TryRange>, AllocError>
     requires places { ArePlaces items.now places.now }
     requires short { too_long items.now ≡ None }

@@ -11,6 +11,7 @@ ghost use Rattle.dv_asm.specs.Tiles.{tiles_of};
 
 use crate::draft::{Draftop, Item, What};
 use crate::payloads::{packed_of, sparse_of};
+use crate::places::Places;
 use crate::pools::Pools;
 use crate::ranges::with_operands;
 use crate::short::{address_of, distance};
@@ -19,7 +20,7 @@ use dv_units::{UnitError, encode, encode_payload};
 use std::alloc::{AllocError, Global};
 
 /// How far a label is from an item.
-fn distance_from(items: &[Item], places: &[u64], k: usize, name: &Text) -> i32
+fn distance_from(items: &[Item], places: &Places, k: usize, name: &Text) -> i32
     requires places { ArePlaces items.now places.now }
     requires short { too_long items.now ≡ None }
     requires within { k < length items.now }
@@ -30,7 +31,7 @@ fn distance_from(items: &[Item], places: &[u64], k: usize, name: &Text) -> i32
 }
 
 /// How far the label that an item names is from it.
-fn offset_of(items: &[Item], places: &[u64], k: usize, label: &Option<Text>) -> i32
+fn offset_of(items: &[Item], places: &Places, k: usize, label: &Option<Text>) -> i32
     requires places { ArePlaces items.now places.now }
     requires short { too_long items.now ≡ None }
     requires within { k < length items.now }
@@ -45,7 +46,7 @@ fn offset_of(items: &[Item], places: &[u64], k: usize, label: &Option<Text>) -> 
 /// The instruction of an item, with its offset and its index.
 fn insn_of(
     items: &[Item],
-    places: &[u64],
+    places: &Places,
     pools: &Pools,
     k: usize,
     op: &Draftop,
@@ -112,7 +113,7 @@ fn append_payload(units: &mut Vec<u16>, payload: &Payload) -> Result<(), AllocEr
 fn append_packed(
     units: &mut Vec<u16>,
     items: &[Item],
-    places: &[u64],
+    places: &Places,
     named: &[Option<u64>],
     k: usize,
     first: i32,
@@ -135,7 +136,7 @@ fn append_packed(
 fn append_sparse(
     units: &mut Vec<u16>,
     items: &[Item],
-    places: &[u64],
+    places: &Places,
     named: &[Option<u64>],
     k: usize,
     keys: &Seq<i32>,
@@ -172,7 +173,7 @@ fn append_data(units: &mut Vec<u16>, width: u16, bytes: &Seq<u8>) -> Result<(), 
 fn append(
     units: &mut Vec<u16>,
     items: &[Item],
-    places: &[u64],
+    places: &Places,
     named: &[Option<u64>],
     pools: &Pools,
     k: usize,
@@ -201,7 +202,7 @@ fn append(
 pub fn units(
     alloc: Global,
     items: &[Item],
-    places: &[u64],
+    places: &Places,
     named: &[Option<u64>],
     pools: &Pools,
 ) -> Result<Vec<u16>, AllocError>

@@ -1,0 +1,32 @@
+-- The places of the first labels, one more item after another.
+use Rattle.std.proofs.Common.{◌≡◌, ◌+◌, ◌<◌, ◌≤◌, ℕ, Bool, not, cond, List, [], ◌∷◌, ◌++◌, length, take, get_or, position, nat_lt, nat_eq, Some, None, sym, ap, ◌∙◌, arith, length-append}
+use Rattle.std.specs.Option.{option_or}
+use Rattle.std.specs.List.{position_or_len}
+use Rattle.std.proofs.lemmas.List.{take_more, length-take-le}
+use Rattle.std.proofs.lemmas.List.Folds.{position_or_len_push}
+use Rattle.std.proofs.lemmas.List.Sums.{prefix_len-le-length}
+use Rattle.std.proofs.lemmas.Bool.Decides.{nat_tests}
+use Rattle.dv_asm.specs.declared.draft.Item.{Item}
+use Rattle.dv_asm.specs.First.{when}
+use Rattle.dv_asm.specs.Items.{is_named}
+use Rattle.dv_asm.specs.Places.{place_of}
+
+pushed_by : (n len m : ℕ) (here : Bool) → n ≤ len → m ≡ cond (nat_eq n len) (len + cond here 0 1) n → cond (nat_lt m (len + 1)) (Some m) None ≡ option_or (cond (nat_lt n len) (Some n) None) (when here len)
+pushed_by n len m here within is = grind (arith, nat_tests)
+
+-- the first place at which a test passes, with one more element
+position_push : {X : Type 0} (test : X → Bool) (xs : List X) (x : X) → position test (xs ++ x ∷ []) ≡ option_or (position test xs) (when (test x) (length xs))
+position_push {X} test xs x =
+    let pushed : List X = xs ++ x ∷ [] in
+    let longer : length pushed ≡ length xs + 1 = omega (arith, length-append xs (x ∷ [])) in
+    ap (λ (n : ℕ). cond (nat_lt (position_or_len test pushed) n) (Some (position_or_len test pushed)) None) longer ∙
+    pushed_by (position_or_len test xs) (length xs) (position_or_len test pushed) (test x) (prefix_len-le-length (λ y. not (test y)) xs) (position_or_len_push test xs x)
+
+-- the place of the first label of a name, with one more item
+pub place_more : (items : List Item) (k : ℕ) (item : Item) (name : List ℕ) → k < length items → item ≡ get_or items k item → place_of (take (k + 1) items) name ≡ option_or (place_of (take k items) name) (when (is_named name item) k)
+place_more items k item name within at =
+    let taken : length (take k items) ≡ k = length-take-le k items (omega arith) in
+    let next : take (k + 1) items ≡ take k items ++ item ∷ [] = take_more items k item within ∙ ap (λ (i : Item). take k items ++ i ∷ []) (sym at) in
+    ap (λ (xs : List Item). place_of xs name) next ∙
+    (position_push (is_named name) (take k items) item ∙
+    ap (λ (n : ℕ). option_or (place_of (take k items) name) (when (is_named name item) n)) taken)
