@@ -24,4 +24,6 @@ pub mod SortedRanges
 pub mod Settled
 pub mod KeptHandlers
 pub mod NamedHandlers
+pub mod LaidDraft
 pub mod KeptDraft
+pub mod Origins
