@@ -28,7 +28,7 @@ use Rattle.dv_print.proofs.ItemTiles.{tile, tiles_at}
 
 -- ---- sizes and kinds of pieces
 
-labels_length : (base : ℕ) (targets : List ℤ) → length (labels_from base targets) ≡ length targets
+pub labels_length : (base : ℕ) (targets : List ℤ) → length (labels_from base targets) ≡ length targets
 labels_length base targets = simp length-map
 
 part_size : (b : BodyValue) (all : List Piece) (at : ℕ) (x : tiling.Item) (us : List ℕ) → item_spelling x ≡ Some us → size_of (part_item b all at (part_of x)) ≡ length us

@@ -46,7 +46,7 @@ offset_some after k None name off e h = absurd (cc)
 offset_some after k (Some own) name off e h = let same : own ≡ name = cc in ap (λ n. distance after (address_of after k) n) same ∙ h
 
 -- a branch leads where it led
-branch_same : (items after : List Item) (b : BodyValue) (all : List Piece) (names : List ℕ) (k : ℕ) (op : Draftop) (name : List ℕ) → Known items after b all names → too_long items ≡ None → k < length items → (item_at items k).what ≡ what.Op op → op.label ≡ Some name → has_label items name ≡ true → has_offset op.insn.op ≡ true → (j : ℕ) → address_of after j ≡ address_of items k → offset_of after j (op_of b (address_of items k) (insn_of items (pools_of items) k op)).label ≡ (insn_of items (pools_of items) k op).off
+pub branch_same : (items after : List Item) (b : BodyValue) (all : List Piece) (names : List ℕ) (k : ℕ) (op : Draftop) (name : List ℕ) → Known items after b all names → too_long items ≡ None → k < length items → (item_at items k).what ≡ what.Op op → op.label ≡ Some name → has_label items name ≡ true → has_offset op.insn.op ≡ true → (j : ℕ) → address_of after j ≡ address_of items k → offset_of after j (op_of b (address_of items k) (insn_of items (pools_of items) k op)).label ≡ (insn_of items (pools_of items) k op).off
 branch_same items after b all names k op name h short within e labelled has offset j at =
     let i = insn_of items (pools_of items) k op in
     let from = address_of items k in
