@@ -28,3 +28,4 @@ pub mod LaidDraft
 pub mod KeptDraft
 pub mod Origins
 pub mod FormsAgain
+pub mod ItemsAgain

@@ -123,13 +123,13 @@ pub record Drafts (items after : List Item) (pools : Pools) (b : BodyValue) (all
   pub leads : (k a : ℕ) → k < length items → SwitchTo items (item_at items k).what a → label_address after (label_name a) ≡ a
 
 -- a switch of the draft is made of a switch of the draft before it, and stands where that stands
-record IsAgain (items after : List Item) (j a : ℕ) : Type 0 where
-  place : ℕ
-  within : place < length items
-  names : address_named_by items (item_at items place) ≡ Some a
-  at : address_of after j ≡ address_of items place
+pub record IsAgain (items after : List Item) (j a : ℕ) : Type 0 where
+  pub place : ℕ
+  pub within : place < length items
+  pub names : address_named_by items (item_at items place) ≡ Some a
+  pub at : address_of after j ≡ address_of items place
 
-again : (items after : List Item) (pools : Pools) (b : BodyValue) (all : List Piece) (names : List ℕ) (final : List Item) (j a : ℕ) → Drafts items after pools b all names final → j < length after → SwitchTo after (item_at after j).what a → IsAgain items after j a
+pub again : (items after : List Item) (pools : Pools) (b : BodyValue) (all : List Piece) (names : List ℕ) (final : List Item) (j a : ℕ) → Drafts items after pools b all names final → j < length after → SwitchTo after (item_at after j).what a → IsAgain items after j a
 again items after pools b all names final j a d within s = at (d.placed j within)
   where
     made : IsOfTile b all (tiles_of items pools (length items)) (item_at after j).what (address_of after j) → IsAgain items after j a
@@ -153,7 +153,7 @@ again items after pools b all names final j a d within s = at (d.placed j within
         absurd (cc (not_label))
     at (inr f) = made f
 
-position_not : {X : Type 0} (p : X → Bool) (xs : List X) (j : ℕ) (d : X) → j < length xs → p (get_or xs j d) ≡ true → position p xs ≡ None → ⊥
+pub position_not : {X : Type 0} (p : X → Bool) (xs : List X) (j : ℕ) (d : X) → j < length xs → p (get_or xs j d) ≡ true → position p xs ≡ None → ⊥
 position_not p xs j d within passes none =
     let less : position_or_len p xs < length xs = omega (arith, not_before p xs j d passes) in
     let some : position p xs ≡ Some (position_or_len p xs) = ap (λ c. cond c (Some (position_or_len p xs)) None) (lt-ltb (position_or_len p xs) (length xs) less) in

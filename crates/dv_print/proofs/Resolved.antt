@@ -26,7 +26,7 @@ use Rattle.dv_print.proofs.Labels.{labels_are_distinct}
 -- ---- the address of a label by its name
 
 -- an end is no further than the end of all
-ends_below : (items : List Item) (k n : ℕ) → end_of items k ≤ end_of items (k + n)
+pub ends_below : (items : List Item) (k n : ℕ) → end_of items k ≤ end_of items (k + n)
 ends_below items k zero = let e : k ≡ k + 0 = omega arith in omega (arith, ap (end_of items) e)
 ends_below items k (suc n) =
     let e : suc (k + n) ≡ k + suc n = omega arith in
