@@ -47,11 +47,11 @@ agree_by q r full full' apart level = same_range q r (at (is_same q r) refl)
     at false e = grind (arith, nat_tests)
 
 -- no handler has an empty range, and no two have different ranges with an address in common
-record Known (items : List Item) (catches : List Catch) : Type 0 where
-  full : (j : ℕ) → j < length catches → is_empty (range_of items (catch_at catches j)) ≡ false
-  apart : (j k : ℕ) → j < k → k < length catches → overlaps (range_of items (catch_at catches k)) (range_of items (catch_at catches j)) ≡ false
+pub record Known (items : List Item) (catches : List Catch) : Type 0 where
+  pub full : (j : ℕ) → j < length catches → is_empty (range_of items (catch_at catches j)) ≡ false
+  pub apart : (j k : ℕ) → j < k → k < length catches → overlaps (range_of items (catch_at catches k)) (range_of items (catch_at catches j)) ≡ false
 
-known : (items : List Item) (catches : List Catch) → range_refusal items catches ≡ None → Known items catches
+pub known : (items : List Item) (catches : List Catch) → range_refusal items catches ≡ None → Known items catches
 known items catches none =
     let parts = none_of (refused kind.TryRange (try_range items catches)) (refused kind.TryOverlap (try_overlap items catches)) none in
     let full = refused_none kind.TryRange (try_range items catches) parts.0 in

@@ -29,3 +29,4 @@ pub mod KeptDraft
 pub mod Origins
 pub mod FormsAgain
 pub mod ItemsAgain
+pub mod RangesAgain
