@@ -1,5 +1,5 @@
 -- The items of the draft that is made of a laid-out body have their forms, and their registers and offsets fit.
-use Rattle.std.proofs.Common.{◌≡◌, ℕ, ◌<◌, zero, suc, Bool, true, false, not, inl, inr, List, [], length, get_or, map, Option, Some, None, is_some, IsTrue, if◌then◌else◌, refl, ap, sym, ◌∙◌, subst, arith}
+use Rattle.std.proofs.Common.{◌≡◌, ℕ, ◌<◌, Bool, true, false, not, inl, inr, List, [], length, get_or, map, Option, Some, None, is_some, IsTrue, if◌then◌else◌, refl, ap, sym, ◌∙◌, subst}
 use Rattle.std.specs.Prelude.{option_map}
 use Rattle.std.proofs.lemmas.List.{length-map}
 use Rattle.std.proofs.lemmas.Option.{slice_get-get_or}
@@ -16,7 +16,6 @@ use Rattle.dv_asm.specs.declared.draft.PoolRef.{PoolRef}
 use Rattle.dv_asm.specs.declared.draft.What.{What}
 use Rattle.dv_asm.specs.declared.draft.What.TheVariants as what
 use Rattle.dv_asm.specs.Draft.{DraftValue, AreFormed, IsFormed, IsOp, is_entry, is_named_by, blank}
-use Rattle.dv_asm.specs.First.{first_line, earlier, when}
 use Rattle.dv_asm.specs.Items.{item_at, no_item, is_label}
 use Rattle.dv_asm.specs.Places.{address_of, distance}
 use Rattle.dv_asm.specs.Refusals.{is_over_registers, register_range, register_range_at, offset_fits, is_over_offset, offset_range, offset_range_at, item_refusal, has_label_if_any, has_labels, refused, repeated, too_long}
@@ -29,7 +28,7 @@ use Rattle.dv_print.specs.Named as named
 use Rattle.dv_print.specs.Named.{target_of}
 use Rattle.dv_print.specs.Laws.{HasNumbers, HaveNumbers}
 use Rattle.dv_print.specs.Drafting.{pool_of, entry_in, op_of, payload_item}
-use Rattle.dv_print.proofs.Truth.{not_false, none_of, refused_none}
+use Rattle.dv_print.proofs.Truth.{not_false, none_of, refused_none, no_line, when_not}
 use Rattle.dv_print.proofs.KeptEntries.{own_entry, has_pools, small_opcode}
 use Rattle.dv_print.proofs.LaidOut.{are_short}
 use Rattle.dv_print.proofs.LaidDraft.{IsLaidOut, after_of, pieces, all_named, known, items_labelled}
@@ -37,21 +36,6 @@ use Rattle.dv_print.proofs.Origins.{Origin, FromOp, HasContent, origin}
 use Rattle.dv_print.proofs.PieceItems.{labels_length}
 use Rattle.dv_print.proofs.SpelledAgain.{branch_same}
 use Rattle.dv_print.proofs.Straight.{same_offsets, no_label_by}
-
--- ---- first lines
-
-earlier_none : (a b : Option ℕ) → a ≡ None → b ≡ None → earlier a b ≡ None
-earlier_none None b e h = h
-earlier_none (Some a) b e h = absurd (cc)
-
--- where a function gives no line below a bound, there is no first one
-pub no_line : (f : ℕ → Option ℕ) (n : ℕ) → ((k : ℕ) → k < n → f k ≡ None) → first_line f n ≡ None
-no_line f zero h = refl
-no_line f (suc n) h = earlier_none (first_line f n) (f n) (no_line f n (λ k within. h k (omega arith))) (h n (omega arith))
-
-pub when_not : {Y : Type 0} (c : Bool) (y : Y) → c ≡ false → when c y ≡ None
-when_not true y e = absurd (cc)
-when_not false y e = refl
 
 -- ---- forms
 

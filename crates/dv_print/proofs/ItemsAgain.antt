@@ -9,25 +9,19 @@ use Rattle.dv_asm.specs.declared.draft.Item.{Item}
 use Rattle.dv_asm.specs.declared.draft.What.{What}
 use Rattle.dv_asm.specs.declared.draft.What.TheVariants as what
 use Rattle.dv_asm.specs.Draft.{DraftValue}
-use Rattle.dv_asm.specs.First.{first_line, earlier, when, any_below}
+use Rattle.dv_asm.specs.First.{when, any_below}
 use Rattle.dv_asm.specs.Items.{item_at, no_item, is_label, is_payload, is_switch_opcode, size_of}
 use Rattle.dv_asm.specs.Places.{address_of, end_of, size_of_all, address_named_by}
 use Rattle.dv_asm.specs.Refusals.{is_place, is_address, addresses_named, switch_of, is_payload_at, stands_payload, is_repeated, repeated_at, repeated, too_long_at, too_long}
 use Rattle.dv_asm.specs.Layout.{pools_of, layout}
 use Rattle.dv_asm.proofs.PlaceLemmas.{aligned_above}
 use Rattle.dv_print.specs.Drafting.{labels_at}
-use Rattle.dv_print.proofs.Truth.{both, either, itself}
+use Rattle.dv_print.proofs.Truth.{both, either, itself, no_line}
 use Rattle.dv_print.proofs.Resolved.{ends_below}
 use Rattle.dv_print.proofs.Switches.{SwitchTo, HasPayload, is_switch, own_switch, switch_found}
 use Rattle.dv_print.proofs.Rebased.{again, position_not}
 use Rattle.dv_print.proofs.LaidDraft.{IsLaidOut, after_of, pieces, all_named, known, drafts}
 use Rattle.dv_print.proofs.Origins.{HasContent, Origin, origin}
-
--- where a function gives none of the numbers below a bound, no line is found
-first_none : (f : ℕ → Option ℕ) (n : ℕ) → ((k : ℕ) → k < n → f k ≡ None) → first_line f n ≡ None
-first_none f zero none = refl
-first_none f (suc n) none =
-    ap (λ o. earlier o (f n)) (first_none f n (λ k within. none k (omega arith))) ∙ none n (omega arith)
 
 -- ---- length
 
@@ -42,7 +36,7 @@ not_passing address size small = grind (arith, nat_tests)
 
 -- no item of the draft ends past the limit
 pub short_again : (d : DraftValue) → IsLaidOut d → too_long (after_of d) ≡ None
-short_again d l = first_none (too_long_at (after_of d)) (length (after_of d)) at
+short_again d l = no_line (too_long_at (after_of d)) (length (after_of d)) at
   where
     at : (k : ℕ) → k < length (after_of d) → too_long_at (after_of d) k ≡ None
     at k within =
@@ -159,5 +153,5 @@ not_repeated d l j within (Some a) names = at (stands_payload (after_of d) a) re
 -- no payload of the draft is named by two switches
 pub once_again : (d : DraftValue) → IsLaidOut d → repeated (after_of d) ≡ None
 once_again d l =
-    first_none (repeated_at (after_of d)) (length (after_of d))
+    no_line (repeated_at (after_of d)) (length (after_of d))
     (λ j within. ap (λ c. when c (item_at (after_of d) j).line) (not_repeated d l j within (address_named_by (after_of d) (item_at (after_of d) j)) refl))

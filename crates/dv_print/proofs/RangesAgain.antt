@@ -1,5 +1,5 @@
 -- The handlers of the draft name the addresses that handlers of the draft before it name, so their ranges aren't refused.
-use Rattle.std.proofs.Common.{◌≡◌, ℕ, ◌<◌, zero, suc, Bool, true, false, List, [], ◌∷◌, ◌++◌, length, map, take, nat_lt, cond, Option, None, refl, ap, sym, ◌∙◌, subst, arith}
+use Rattle.std.proofs.Common.{◌≡◌, ℕ, ◌<◌, zero, suc, Bool, true, false, List, [], ◌∷◌, ◌++◌, length, map, take, nat_lt, cond, None, refl, ap, sym, ◌∙◌, subst, arith}
 use Rattle.std.specs.List.{flat_map, list_any}
 use Rattle.std.proofs.lemmas.Bool.Decides.{nat_tests}
 use Rattle.dv_defs.specs.declared.code.Try.{Try}
@@ -8,12 +8,12 @@ use Rattle.dv_asm.specs.declared.draft.Item.{Item}
 use Rattle.dv_asm.specs.declared.draft.Catch.{Catch}
 use Rattle.dv_asm.specs.declared.tries.TryRange.{TryRange}
 use Rattle.dv_asm.specs.Draft.{DraftValue}
-use Rattle.dv_asm.specs.First.{first_line, earlier, when}
 use Rattle.dv_asm.specs.Places.{label_address}
 use Rattle.dv_asm.specs.Refusals.{catch_at, range_of, ranges_of, is_empty, is_same, overlaps, overlaps_earlier, try_range, try_range_at, try_overlap, try_overlap_at, range_refusal}
 use Rattle.dv_asm.specs.Layout.{sorted_ranges, types_of, handler_of, catches_of, entry_of, tries_of, body_of, layout}
 use Rattle.dv_print.specs.Numbers.{label_name}
 use Rattle.dv_print.specs.Drafting.{catch_of, catches_of_try, draft_of}
+use Rattle.dv_print.proofs.Truth.{no_line, when_not}
 use Rattle.dv_print.proofs.SortedRanges.{range_by, same_range}
 use Rattle.dv_print.proofs.KeptHandlers.{Known, known}
 use Rattle.dv_print.proofs.LaidDraft.{IsLaidOut, after_of, handler_leads}
@@ -116,17 +116,10 @@ none_taken p items (c ∷ cs) (suc k) h = cc (h 0 (omega arith), none_taken p it
 
 -- ---- the refusals
 
-none_found : (f : ℕ → Option ℕ) (n : ℕ) → ((k : ℕ) → k < n → f k ≡ None) → first_line f n ≡ None
-none_found f zero h = refl
-none_found f (suc n) h = ap (λ a. earlier a (f n)) (none_found f n (λ k within. h k (omega arith))) ∙ h n (omega arith)
-
-when_not : (b : Bool) (line : ℕ) → b ≡ false → when b line ≡ None
-when_not b line e = ap (λ c. when c line) e
-
 full_again : (d : DraftValue) → IsLaidOut d → try_range (after_of d) (draft_of (layout d)).catches ≡ None
 full_again d l =
     let cs = (draft_of (layout d)).catches in
-    none_found (try_range_at (after_of d) cs) (length cs)
+    no_line (try_range_at (after_of d) cs) (length cs)
     (λ k within.
     let f = handler_from d k within in
     when_not (is_empty (range_of (after_of d) (catch_at cs k))) (catch_at cs k).line (ap is_empty (range_from d l k within) ∙ (known d.items d.catches l.ranges).full f.place f.within))
@@ -135,7 +128,7 @@ apart_again : (d : DraftValue) → IsLaidOut d → try_overlap (after_of d) (dra
 apart_again d l =
     let cs = (draft_of (layout d)).catches in
     let after = after_of d in
-    none_found (try_overlap_at after cs) (length cs)
+    no_line (try_overlap_at after cs) (length cs)
     (λ k within.
     let f = handler_from d k within in
     when_not (overlaps_earlier after cs k) (catch_at cs k).line
