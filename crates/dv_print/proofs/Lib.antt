@@ -27,3 +27,4 @@ pub mod NamedHandlers
 pub mod LaidDraft
 pub mod KeptDraft
 pub mod Origins
+pub mod LabelsAgain
