@@ -64,7 +64,7 @@ own_has items pools k (what.Packed first names) e h within = mem_has _ (tiles_of
 own_has items pools k (what.Sparse keys names) e h within = mem_has _ (tiles_of items pools (length items)) (mem_to items pools k (length items) _ within (ap (tiles_at items pools k) e))
 own_has items pools k (what.Data width bytes) e h within = mem_has _ (tiles_of items pools (length items)) (mem_to items pools k (length items) _ within (ap (tiles_at items pools k) e))
 
-label_size : (w : What) → is_label w ≡ true → size_of w ≡ 0
+pub label_size : (w : What) → is_label w ≡ true → size_of w ≡ 0
 label_size (what.Label name) e = refl
 label_size (what.Op op) e = absurd (cc)
 label_size (what.Packed first names) e = absurd (cc)

@@ -24,7 +24,7 @@ pub record Tells {X : Type 0} (eq : X → X → Bool) : Type 0 where
   pub same : (a b : X) → eq a b ≡ true → a ≡ b
   pub itself : (a : X) → eq a a ≡ true
 
-joined : (a b : Bool) → a ≡ true → b ≡ true → (a && b) ≡ true
+pub joined : (a b : Bool) → a ≡ true → b ≡ true → (a && b) ≡ true
 joined true b e h = h
 joined false b e h = absurd (cc)
 

@@ -63,7 +63,7 @@ known items catches none =
     }
 
 -- the handler of a range
-range_at : (items : List Item) (catches : List Catch) (r : TryRange) → Among r (ranges_of items catches) → (j : ℕ) × (j < length catches) × (range_of items (catch_at catches j) ≡ r)
+pub range_at : (items : List Item) (catches : List Catch) (r : TryRange) → Among r (ranges_of items catches) → (j : ℕ) × (j < length catches) × (range_of items (catch_at catches j) ≡ r)
 range_at items [] r at = absurd at
 range_at items (c ∷ catches) r (inl e) = (0, omega arith, e)
 range_at items (c ∷ catches) r (inr at) = let rest = range_at items catches r at in (suc rest.0, omega (arith, rest.1), rest.2)

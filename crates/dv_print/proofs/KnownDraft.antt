@@ -52,14 +52,19 @@ label_placed : (items : List Item) (name : List ℕ) (place : Option ℕ) → pl
 label_placed items name None e h = absurd (cc)
 label_placed items name (Some j) e h = (j, (position-Some (is_named name) items j no_item e).0, ap (λ o. option_map_or (address_of items) o 0) e)
 
--- a label that an item names and that is among the addresses that are named leads to its address
-pub leads_to : (items after : List Item) (b : BodyValue) (all : List Piece) (names : List ℕ) (name : List ℕ) → Known items after b all names → too_long items ≡ None → has_label items name ≡ true → named.is_named names (label_address items name) ≡ true → label_address after (label_name (label_address items name)) ≡ label_address items name
-leads_to items after b all names name h short has listed =
-    let to = label_address items name in
+-- a label that an item names and that is among the addresses that are named stands
+pub stands_for : (items after : List Item) (b : BodyValue) (all : List Piece) (names : List ℕ) (name : List ℕ) → Known items after b all names → has_label items name ≡ true → named.is_named names (label_address items name) ≡ true → Stands (label_address items name) after
+stands_for items after b all names name h has listed =
     let place = label_placed items name (place_of items name) refl has in
     let spot = placed items (pools_of items) (length b.units) (length items - place.0) place.0 h.ends (omega (arith, place.1)) in
     let P : ℕ → Type 0 = λ n. HasAt n (tiles_of items (pools_of items) (length items)) ⊎ (n ≡ length b.units) in
-    let stands = stands_after items after b all names to h listed (subst P (sym place.2) spot) in
+    stands_after items after b all names (label_address items name) h listed (subst P (sym place.2) spot)
+
+-- and leads to its address
+pub leads_to : (items after : List Item) (b : BodyValue) (all : List Piece) (names : List ℕ) (name : List ℕ) → Known items after b all names → too_long items ≡ None → has_label items name ≡ true → named.is_named names (label_address items name) ≡ true → label_address after (label_name (label_address items name)) ≡ label_address items name
+leads_to items after b all names name h short has listed =
+    let to = label_address items name in
+    let stands = stands_for items after b all names name h has listed in
     leads_there after b.units to stands.0 h.kept h.short (label_within items name short) stands.1
 
 -- what a tile names is among the addresses that are named

@@ -30,3 +30,4 @@ pub mod Origins
 pub mod FormsAgain
 pub mod ItemsAgain
 pub mod RangesAgain
+pub mod LabelsAgain

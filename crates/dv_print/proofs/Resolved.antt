@@ -32,20 +32,20 @@ ends_below items k (suc n) =
     let e : suc (k + n) ≡ k + suc n = omega arith in
     omega (arith, ends_below items k n, aligned_above (end_of items (k + n)) (drop (k + n) items), ap (end_of items) e)
 
-address_below : (items : List Item) (k : ℕ) → k < length items → address_of items k ≤ size_of_all items
+pub address_below : (items : List Item) (k : ℕ) → k < length items → address_of items k ≤ size_of_all items
 address_below items k within =
     let e : suc k + (length items - suc k) ≡ length items = omega arith in
     omega (arith, ends_below items (suc k) (length items - suc k), ap (end_of items) e)
 
 -- where an item passes a test, the first that does is found
-first_found : (test : Item → Bool) (items : List Item) (j : ℕ) (item : Item) → slice_get items j ≡ Some item → test item ≡ true → (m : ℕ) × (position test items ≡ Some m) × (m < length items) × (test (item_at items m) ≡ true)
+pub first_found : (test : Item → Bool) (items : List Item) (j : ℕ) (item : Item) → slice_get items j ≡ Some item → test item ≡ true → (m : ℕ) × (position test items ≡ Some m) × (m < length items) × (test (item_at items m) ≡ true)
 first_found test items j item e h =
     let first = position_or_len test items in
     let passes : test (get_or items j no_item) ≡ true = ap test (get_or_from_slice_get items j item no_item e) ∙ h in
     let less : first < length items = omega (arith, not_before test items j no_item passes, slice_get_within items j item e) in
     (first, ap (λ b. cond b (Some first) None) (lt-ltb first (length items) less), less, passes_at_first test items no_item less)
 
-named_so : (w : What) (a b : ℕ) → is_label_named (label_name a) w ≡ true → IsNamedBy w b → a < 2 ^ 32 → b < 2 ^ 32 → b ≡ a
+pub named_so : (w : What) (a b : ℕ) → is_label_named (label_name a) w ≡ true → IsNamedBy w b → a < 2 ^ 32 → b < 2 ^ 32 → b ≡ a
 named_so (what.Label own) a b e h p q = labels_are_distinct b a q p (sym h ∙ bytes_same own (label_name a) e)
 named_so (what.Op op) a b e h p q = absurd (cc)
 named_so (what.Packed first names) a b e h p q = absurd (cc)

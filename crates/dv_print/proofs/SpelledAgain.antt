@@ -45,9 +45,9 @@ offset_some : (after : List Item) (k : ℕ) (label : Option (List ℕ)) (name : 
 offset_some after k None name off e h = absurd (cc)
 offset_some after k (Some own) name off e h = let same : own ≡ name = cc in ap (λ n. distance after (address_of after k) n) same ∙ h
 
--- a branch leads where it led
-pub branch_same : (items after : List Item) (b : BodyValue) (all : List Piece) (names : List ℕ) (k : ℕ) (op : Draftop) (name : List ℕ) → Known items after b all names → too_long items ≡ None → k < length items → (item_at items k).what ≡ what.Op op → op.label ≡ Some name → has_label items name ≡ true → has_offset op.insn.op ≡ true → (j : ℕ) → address_of after j ≡ address_of items k → offset_of after j (op_of b (address_of items k) (insn_of items (pools_of items) k op)).label ≡ (insn_of items (pools_of items) k op).off
-branch_same items after b all names k op name h short within e labelled has offset j at =
+-- the target of a branch is the address of its label, which is among the addresses that are named
+pub branch_to : (items after : List Item) (b : BodyValue) (all : List Piece) (names : List ℕ) (k : ℕ) (op : Draftop) (name : List ℕ) → Known items after b all names → k < length items → (item_at items k).what ≡ what.Op op → op.label ≡ Some name → has_offset op.insn.op ≡ true → (target_of (address_of items k) (insn_of items (pools_of items) k op) ≡ Some (label_address items name)) × (named.is_named names (label_address items name) ≡ true)
+branch_to items after b all names k op name h within e labelled offset =
     let i = insn_of items (pools_of items) k op in
     let from = address_of items k in
     let to = label_address items name in
@@ -56,9 +56,18 @@ branch_same items after b all names k op name h short within e labelled has offs
     let t = tile from (size_of (what.Op op)) (IsInsn i) in
     let member = mem_to items (pools_of items) k (length items) t within (ap (tiles_at items (pools_of items) k) e) in
     let same : nat_eq to to ≡ true = grind (arith, nat_tests) in
-    let listed = tile_listed items after b all names to t h (ap (λ o. list_any (λ n. nat_eq n to) (option_to_list o)) target ∙ any_left (nat_eq to to) false same) member in
-    let leads = leads_to items after b all names name h short has listed in
-    offset_some after j (op_of b from i).label (label_name to) i.off (ap (option_map label_name) target)
+    (target, tile_listed items after b all names to t h (ap (λ o. list_any (λ n. nat_eq n to) (option_to_list o)) target ∙ any_left (nat_eq to to) false same) member)
+
+-- a branch leads where it led
+pub branch_same : (items after : List Item) (b : BodyValue) (all : List Piece) (names : List ℕ) (k : ℕ) (op : Draftop) (name : List ℕ) → Known items after b all names → too_long items ≡ None → k < length items → (item_at items k).what ≡ what.Op op → op.label ≡ Some name → has_label items name ≡ true → has_offset op.insn.op ≡ true → (j : ℕ) → address_of after j ≡ address_of items k → offset_of after j (op_of b (address_of items k) (insn_of items (pools_of items) k op)).label ≡ (insn_of items (pools_of items) k op).off
+branch_same items after b all names k op name h short within e labelled has offset j at =
+    let i = insn_of items (pools_of items) k op in
+    let from = address_of items k in
+    let to = label_address items name in
+    let off : i.off ≡ pos to -ℤ pos from = offset_some items k op.label name (pos to -ℤ pos from) labelled refl in
+    let target = branch_to items after b all names k op name h within e labelled offset in
+    let leads = leads_to items after b all names name h short has target.1 in
+    offset_some after j (op_of b from i).label (label_name to) i.off (ap (option_map label_name) target.0)
     (ap (λ n. pos (label_address after (label_name to)) -ℤ pos n) at ∙ (ap (λ n. pos n -ℤ pos from) leads ∙ sym off))
 
 -- ---- each piece is spelled as it was
@@ -81,11 +90,11 @@ op_spelled items after b all names k op (Some name) h within e formed labelled h
 -- ---- the targets of switches
 
 -- the addresses that these labels have are among those that are named
-abbrev AreListed : List Item → List ℕ → List (List ℕ) → Type 0
+abbrev pub AreListed : List Item → List ℕ → List (List ℕ) → Type 0
 AreListed items names [] = Unit {0}
 AreListed items names (target ∷ targets) = (named.is_named names (label_address items target) ≡ true) × AreListed items names targets
 
-are_listed : (items : List Item) (names : List ℕ) (base : ℕ) (targets : List (List ℕ)) → ((a : ℕ) → list_any (λ n. nat_eq n a) (map (jump base) (map (distance items base) targets)) ≡ true → named.is_named names a ≡ true) → AreListed items names targets
+pub are_listed : (items : List Item) (names : List ℕ) (base : ℕ) (targets : List (List ℕ)) → ((a : ℕ) → list_any (λ n. nat_eq n a) (map (jump base) (map (distance items base) targets)) ≡ true → named.is_named names a ≡ true) → AreListed items names targets
 are_listed items names base [] h = tt
 are_listed items names base (target ∷ targets) h =
     let to = label_address items target in

@@ -49,7 +49,7 @@ same_insn items pools b k at i none still same =
     insn_by i.op i.regs i.lit (offset_of items k (op_of b at i).label) i.off (index_of pools (entry_in b (pool_of i.op) i.index)) i.index
     (offset_none items k (op_of b at i).label (no_label_by (has_offset i.op) at i.off none) ∙ sym still) same
 
-nop_offset : has_offset 0 ≡ false
+pub nop_offset : has_offset 0 ≡ false
 unfolding has_offset
 nop_offset = refl
 

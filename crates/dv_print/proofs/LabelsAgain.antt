@@ -1,0 +1,342 @@
+-- Each label of the draft that is made of a laid-out body stands there once, and each label that the draft names stands
+-- there.
+use Rattle.std.proofs.Common.{◌≡◌, ℕ, ◌+◌, ◌-◌, ◌<◌, ◌≤◌, ◌^◌, zero, suc, pos, Bool, true, false, not, ◌⊎◌, inl, inr, List, [], ◌∷◌, ◌++◌, length, map, take, drop, cond, nat_lt, nat_eq, Option, Some, None, is_some, if◌then◌else◌, refl, ap, sym, ◌∙◌, subst, arith, ⊎_elim}
+use Rattle.std.specs.Prelude.{option_map}
+use Rattle.std.specs.List.{flat_map, list_any, list_all}
+use Rattle.std.proofs.lemmas.Bool.Decides.{nat_tests}
+use Rattle.std.proofs.lemmas.List.{length-take-le}
+use Rattle.std.proofs.lemmas.Option.{slice_get-get_or}
+use Rattle.dv_defs.specs.declared.code.Payload.{Payload}
+use Rattle.dv_defs.specs.declared.code.Try.{Try}
+use Rattle.dv_defs.specs.declared.names.Ty.{Ty}
+use Rattle.dv_defs.specs.Body.{BodyValue}
+use Rattle.dv_defs.specs.Numbers.{jump}
+use Rattle.dv_defs.specs.Spelling.{spelling}
+use Rattle.dv_defs.specs.Tiling.{IsPayload, Tile}
+use Rattle.dv_defs.specs.Layout.{AreTiles}
+use Rattle.dv_defs.proofs.TilingLaws.{item_positive}
+use Rattle.dv_asm.specs.declared.draft.Item.{Item}
+use Rattle.dv_asm.specs.declared.draft.Catch.{Catch}
+use Rattle.dv_asm.specs.declared.draft.Draftop.{Draftop}
+use Rattle.dv_asm.specs.declared.draft.What.{What}
+use Rattle.dv_asm.specs.declared.draft.What.TheVariants as what
+use Rattle.dv_asm.specs.declared.tries.TryRange.{TryRange}
+use Rattle.dv_asm.specs.Draft.{DraftValue, IsFormed, IsOp, blank}
+use Rattle.dv_asm.specs.First.{first_line, earlier, when}
+use Rattle.dv_asm.specs.Items.{item_at, no_item, is_label, is_label_named, is_named, is_payload, size_of}
+use Rattle.dv_asm.specs.Layout.{insn_of, base_of, targets_of, packed_of, sparse_of, sorted_ranges, handler_of, catches_of, entry_of, pools_of, types_of, tries_of, body_of, layout}
+use Rattle.dv_asm.specs.Places.{address_of, end_of, label_address, distance}
+use Rattle.dv_asm.specs.Refusals.{is_place, is_second, label_twice, label_twice_at, no_label, no_label_at, no_label_of_catch_at, has_label, has_labels, has_label_if_any, catch_at, catch_has_labels, range_of, ranges_of, is_same}
+use Rattle.dv_asm.proofs.PlaceLemmas.{aligned_above}
+use Rattle.dv_print.specs.declared.pieces.Piece.{Piece}
+use Rattle.dv_print.specs.Numbers.{label_name}
+use Rattle.dv_print.specs.Operands.{has_offset}
+use Rattle.dv_print.specs.Pieces.{piece_of}
+use Rattle.dv_print.specs.Named as named
+use Rattle.dv_print.specs.Drafting.{op_of, labels_from, payload_item, piece_item, with_no_line, labels_at, is_aligning, items_from, catch_of, catches_of_try, draft_of}
+use Rattle.dv_print.specs.Laws.{KeepsAddresses, IsNamedBy}
+use Rattle.dv_print.proofs.Truth.{both, itself}
+use Rattle.dv_print.proofs.Entries.{joined, bytes_itself}
+use Rattle.dv_print.proofs.ItemTiles.{tile, tiles_at}
+use Rattle.dv_print.proofs.KeptEntries.{small_opcode}
+use Rattle.dv_print.proofs.PieceItems.{tile_size, next_items}
+use Rattle.dv_print.proofs.KeptAddresses.{tiles_are}
+use Rattle.dv_print.proofs.Resolved.{Stands, ends_below, address_below, first_found, named_so}
+use Rattle.dv_print.proofs.Branches.{label_size, mem_to, leads_back}
+use Rattle.dv_print.proofs.KnownDraft.{stands_for, tile_listed}
+use Rattle.dv_print.proofs.Straight.{same_offsets, no_label_by, nop_offset}
+use Rattle.dv_print.proofs.SpelledAgain.{branch_to, AreListed, are_listed}
+use Rattle.dv_print.proofs.SortedRanges.{folds_alike, Among, fold_from}
+use Rattle.dv_print.proofs.KeptHandlers.{range_at}
+use Rattle.dv_print.proofs.NamedHandlers.{handler_named}
+use Rattle.dv_print.proofs.LaidDraft.{IsLaidOut, after_of, pieces, all_named, tiles, known, items_labelled, catches_labelled, entry_listed, rebased}
+use Rattle.dv_print.proofs.Origins.{HasContent, Origin, origin}
+
+-- ---- no line
+
+none_found : (f : ℕ → Option ℕ) (n : ℕ) → ((k : ℕ) → k < n → f k ≡ None) → first_line f n ≡ None
+none_found f zero none = refl
+none_found f (suc n) none = ap (λ o. earlier o (f n)) (none_found f n (λ k within. none k (omega arith))) ∙ none n (omega arith)
+
+never : {Y : Type 0} (b : Bool) (y : Y) → b ≡ false → when b y ≡ None
+never true y e = absurd (cc)
+never false y e = refl
+
+-- ---- between two labels
+
+-- the item that comes next has units
+abbrev Behind : List Item → Type 0
+Behind [] = Unit {0}
+Behind (x ∷ xs) = 0 < size_of x.what
+
+-- of two items one behind the other, one has units
+abbrev Gaps : List Item → Type 0
+Gaps [] = Unit {0}
+Gaps (x ∷ xs) = ((0 < size_of x.what) ⊎ Behind xs) × Gaps xs
+
+gaps_by : (c d : Bool) (label x : Item) (from final : List Item) → 0 < size_of x.what → Gaps (from ++ final) → Gaps (((if c then [] else (if d then label ∷ [] else []) ++ x ∷ []) ++ from) ++ final)
+gaps_by true d label x from final positive g = g
+gaps_by false true label x from final positive g = (inr positive, (inl positive, g))
+gaps_by false false label x from final positive g = (inl positive, g)
+
+last_gap : (c : Bool) (label : Item) → Gaps (if c then label ∷ [] else [])
+last_gap true label = (inr tt, tt)
+last_gap false label = tt
+
+-- the items of tiles
+gaps : (b : BodyValue) (all : List Piece) (names : List ℕ) (n : ℕ) (ts : List Tile) (us : List ℕ) (end : ℕ) → AreTiles end ts us → Gaps (next_items b all names (labels_at names n) ts)
+gaps b all names n [] us end are = last_gap (named.is_named names n) (with_no_line (what.Label (label_name n)))
+gaps b all names n (t ∷ ts) us end are =
+    let units = item_positive t.item (take t.size us) are.2 in
+    let positive : 0 < size_of (piece_item b all (piece_of t)).what = omega (arith, units, length-take-le t.size us are.1, tile_size b all t us are.1 are.2) in
+    gaps_by (is_aligning names (piece_of t) (map piece_of ts)) (named.is_named names t.at) (with_no_line (what.Label (label_name t.at))) (piece_item b all (piece_of t)) (items_from b all names (map piece_of ts)) (labels_at names n) positive
+    (gaps b all names n ts (drop t.size us) (end + t.size) are.3)
+
+gap_at : (items : List Item) (m : ℕ) → Gaps items → suc m < length items → (0 < size_of (item_at items m).what) ⊎ (0 < size_of (item_at items (suc m)).what)
+gap_at [] m g within = absurd (omega arith)
+gap_at (x ∷ []) m g within = absurd (omega arith)
+gap_at (x ∷ y ∷ xs) zero g within = g.0
+gap_at (x ∷ y ∷ xs) (suc m) g within = gap_at (y ∷ xs) m g.1 (omega arith)
+
+-- a label stands before those behind it
+apart : (items : List Item) (j k : ℕ) → Gaps items → j < k → k < length items → is_label (item_at items j).what ≡ true → is_label (item_at items k).what ≡ true → address_of items j < address_of items k
+apart items j k g less within left right = at (gap_at items j g (omega arith))
+  where
+    further : (c : Bool) → nat_lt (suc j) k ≡ c → 0 < size_of (item_at items (suc j)).what → address_of items j < address_of items k
+    further true e units =
+        let within_k : suc (suc j) ≤ k = grind (arith, nat_tests) in
+        let all : suc (suc j) + (k - suc (suc j)) ≡ k = omega (arith, within_k) in
+        omega (arith, units, ends_below items (suc (suc j)) (k - suc (suc j)), ap (end_of items) all, aligned_above (end_of items k) (drop k items), aligned_above (end_of items (suc j)) (drop (suc j) items))
+    further false e units =
+        let same : suc j ≡ k = grind (arith, nat_tests) in
+        absurd (omega (arith, units, ap (λ n. size_of (item_at items n).what) same, label_size (item_at items k).what right))
+
+    at : (0 < size_of (item_at items j).what) ⊎ (0 < size_of (item_at items (suc j)).what) → address_of items j < address_of items k
+    at (inl units) = absurd (omega (arith, units, label_size (item_at items j).what left))
+    at (inr units) = further (nat_lt (suc j) k) refl units
+
+-- labels at one address are one
+one_label : (items : List Item) (j k : ℕ) → Gaps items → j < length items → k < length items → is_label (item_at items j).what ≡ true → is_label (item_at items k).what ≡ true → address_of items j ≡ address_of items k → j ≡ k
+one_label items j k g within inside left right level = at (nat_lt j k) (nat_lt k j) refl refl
+  where
+    at : (b c : Bool) → nat_lt j k ≡ b → nat_lt k j ≡ c → j ≡ k
+    at true c e f = absurd (let less = apart items j k g (grind (arith, nat_tests)) inside left right in omega (arith, less, level))
+    at false true e f = absurd (let less = apart items k j g (grind (arith, nat_tests)) within right left in omega (arith, less, level))
+    at false false e f = grind (arith, nat_tests)
+
+-- ---- labels once
+
+named_label : (name : List ℕ) (w : What) → is_label_named name w ≡ true → is_label w ≡ true
+named_label name (what.Label own) e = refl
+named_label name (what.Op op) e = absurd (cc)
+named_label name (what.Packed first names) e = absurd (cc)
+named_label name (what.Sparse keys names) e = absurd (cc)
+named_label name (what.Data width bytes) e = absurd (cc)
+
+not_second : (items : List Item) (units : List ℕ) (k : ℕ) (w : What) → KeepsAddresses items units → length units ≤ 16384 → Gaps items → k < length items → (item_at items k).what ≡ w → is_second items k w ≡ false
+not_second items units k (what.Label name) kept short g within e =
+    let a = address_of items k in
+    let P : What → Type 0 = λ w. IsNamedBy w a in
+    let own : name ≡ label_name a = subst P e (kept.labels k within) in
+    let found = first_found (is_named name) items k (item_at items k) (slice_get-get_or items k no_item within) (ap (is_label_named name) e ∙ bytes_itself name) in
+    let m = found.0 in
+    let left : a < 2 ^ 32 = omega (arith, address_below items k within, kept.size, short) in
+    let right : address_of items m < 2 ^ 32 = omega (arith, address_below items m found.2, kept.size, short) in
+    let level : address_of items m ≡ a = named_so (item_at items m).what a (address_of items m) (ap (λ n. is_label_named n (item_at items m).what) (sym own) ∙ found.3) (kept.labels m found.2) left right in
+    let same : m ≡ k = one_label items m k g found.2 within (named_label name (item_at items m).what found.3) (ap is_label e) level in
+    ap (λ o. not (is_place k o)) found.1 ∙ ap not (ap (λ n. nat_eq n k) same ∙ itself k)
+not_second items units k (what.Op op) kept short g within e = refl
+not_second items units k (what.Packed first names) kept short g within e = refl
+not_second items units k (what.Sparse keys names) kept short g within e = refl
+not_second items units k (what.Data width bytes) kept short g within e = refl
+
+-- no label of the draft has the name of an earlier one
+pub labels_once : (d : DraftValue) → IsLaidOut d → label_twice (after_of d) ≡ None
+labels_once d l =
+    let after = after_of d in
+    let h = known d l in
+    let g : Gaps after = subst Gaps (sym h.start) (gaps (layout d) (pieces d) (all_named d) (length (layout d).units) (tiles d) (layout d).units 0 (tiles_are d l.formed l.numbers l.none l.fit)) in
+    none_found (label_twice_at after) (length after)
+    (λ k within. never (is_second after k (item_at after k).what) (item_at after k).line (not_second after (layout d).units k (item_at after k).what h.kept h.short g within refl))
+
+-- ---- labels there
+
+-- the label of an address stands among items
+abbrev HasLabelAt : List Item → ℕ → Type 0
+HasLabelAt items a = has_label items (label_name a) ≡ true
+
+stood : (items : List Item) (a : ℕ) → Stands a items → HasLabelAt items a
+stood items a s = ap is_some (first_found (is_named (label_name a)) items s.0 _ s.1 (bytes_itself (label_name a))).1
+
+-- the label of an address that is named and that a label of the draft before has
+there : (d : DraftValue) (name : List ℕ) → IsLaidOut d → has_label d.items name ≡ true → named.is_named (all_named d) (label_address d.items name) ≡ true → HasLabelAt (after_of d) (label_address d.items name)
+there d name l has listed = stood (after_of d) (label_address d.items name) (stands_for d.items (after_of d) (layout d) (pieces d) (all_named d) name (known d l) has listed)
+
+label_has : (items : List Item) (w : What) → is_label w ≡ true → has_labels items w ≡ true
+label_has items (what.Label name) e = refl
+label_has items (what.Op op) e = absurd (cc)
+label_has items (what.Packed first names) e = absurd (cc)
+label_has items (what.Sparse keys names) e = absurd (cc)
+label_has items (what.Data width bytes) e = absurd (cc)
+
+of_op : (d : DraftValue) (k : ℕ) (op : Draftop) (label : Option (List ℕ)) → IsLaidOut d → k < length d.items → (item_at d.items k).what ≡ what.Op op → op.label ≡ label → has_label_if_any d.items label ≡ true → has_label_if_any (after_of d) (op_of (layout d) (address_of d.items k) (insn_of d.items (pools_of d.items) k op)).label ≡ true
+of_op d k op None l within e labelled has =
+    let formed : IsOp op = subst IsFormed e (l.formed k no_item within) in
+    let small = small_opcode (blank op.insn) (spelling (blank op.insn)) refl formed.form in
+    let none : has_offset op.insn.op ≡ false = same_offsets op.insn.op small ∙ (sym formed.label ∙ ap is_some labelled) in
+    ap (has_label_if_any (after_of d)) (no_label_by (has_offset op.insn.op) (address_of d.items k) (insn_of d.items (pools_of d.items) k op).off none)
+of_op d k op (Some name) l within e labelled has =
+    let formed : IsOp op = subst IsFormed e (l.formed k no_item within) in
+    let small = small_opcode (blank op.insn) (spelling (blank op.insn)) refl formed.form in
+    let some : has_offset op.insn.op ≡ true = same_offsets op.insn.op small ∙ (sym formed.label ∙ ap is_some labelled) in
+    let to = branch_to d.items (after_of d) (layout d) (pieces d) (all_named d) k op name (known d l) within e labelled some in
+    ap (λ o. has_label_if_any (after_of d) (option_map label_name o)) to.0 ∙ there d name l has to.1
+
+-- the labels of the distances of labels stand
+targets_there : (d : DraftValue) (base : ℕ) (names : List (List ℕ)) → IsLaidOut d → list_all (has_label d.items) names ≡ true → AreListed d.items (all_named d) names → list_all (has_label (after_of d)) (labels_from base (map (distance d.items base) names)) ≡ true
+targets_there d base [] l has listed = refl
+targets_there d base (name ∷ names) l has listed =
+    let here = both (has_label d.items name) _ has in
+    let back : jump base (distance d.items base name) ≡ label_address d.items name = leads_back base (label_address d.items name) in
+    joined (has_label (after_of d) (label_name (jump base (distance d.items base name)))) _
+    (ap (λ n. has_label (after_of d) (label_name n)) back ∙ there d name l here.0 listed.0)
+    (targets_there d base names l here.1 listed.1)
+
+-- the labels of a payload's targets
+of_targets : (d : DraftValue) (k : ℕ) (w : What) (p : Payload) (names : List (List ℕ)) → IsLaidOut d → k < length d.items → (item_at d.items k).what ≡ w → is_payload w ≡ true → tiles_at d.items (pools_of d.items) k w ≡ tile (address_of d.items k) (size_of w) (IsPayload p) ∷ [] → named.named_by_payload (named.base_of (pieces d) (address_of d.items k)) p ≡ map (jump (named.base_of (pieces d) (address_of d.items k))) (targets_of d.items (address_of d.items k) names) → list_all (has_label d.items) names ≡ true → list_all (has_label (after_of d)) (labels_from (named.base_of (pieces d) (address_of d.items k)) (targets_of d.items (address_of d.items k) names)) ≡ true
+of_targets d k w p names l within e payload tiles by has =
+    let address = address_of d.items k in
+    let ds = targets_of d.items address names in
+    let before = (rebased d l k within (ap is_payload e ∙ payload)).before in
+    let t = tile address (size_of w) (IsPayload p) in
+    let mem = mem_to d.items (pools_of d.items) k (length d.items) t within (ap (tiles_at d.items (pools_of d.items) k) e ∙ tiles) in
+    let all : (a : ℕ) → list_any (λ n. nat_eq n a) (map (jump (named.base_of (pieces d) address)) ds) ≡ true → named.is_named (all_named d) a ≡ true =
+    λ a h. tile_listed d.items (after_of d) (layout d) (pieces d) (all_named d) a t (known d l) (ap (list_any (λ n. nat_eq n a)) by ∙ h) mem in
+    let P : ℕ → Type 0 = λ n. (a : ℕ) → list_any (λ m. nat_eq m a) (map (jump n) ds) ≡ true → named.is_named (all_named d) a ≡ true in
+    ap (λ n. list_all (has_label (after_of d)) (labels_from n ds)) before ∙
+    targets_there d (base_of d.items address) names l has (are_listed d.items (all_named d) (base_of d.items address) names (subst P before all))
+
+of_payload : (d : DraftValue) (k : ℕ) (w : What) (p : Payload) → IsLaidOut d → k < length d.items → (item_at d.items k).what ≡ w → HasContent d k w p → has_labels d.items w ≡ true → has_labels (after_of d) (payload_item (named.base_of (pieces d) (address_of d.items k)) p) ≡ true
+of_payload d k (what.Label name) p l within e own has = absurd own
+of_payload d k (what.Op op) p l within e own has = absurd own
+of_payload d k (what.Packed first names) p l within e own has =
+    ap (λ x. has_labels (after_of d) (payload_item (named.base_of (pieces d) (address_of d.items k)) x)) (sym own) ∙
+    of_targets d k (what.Packed first names) (packed_of d.items (address_of d.items k) first names) names l within e refl refl refl has
+of_payload d k (what.Sparse keys names) p l within e own has =
+    ap (λ x. has_labels (after_of d) (payload_item (named.base_of (pieces d) (address_of d.items k)) x)) (sym own) ∙
+    of_targets d k (what.Sparse keys names) (sparse_of d.items (address_of d.items k) keys names) names l within e refl refl refl has
+of_payload d k (what.Data width bytes) p l within e own has =
+    ap (λ x. has_labels (after_of d) (payload_item (named.base_of (pieces d) (address_of d.items k)) x)) (sym own)
+
+-- each label that an item of the draft names is one of its items
+item_has : (d : DraftValue) → IsLaidOut d → (k : ℕ) → k < length (after_of d) → has_labels (after_of d) (item_at (after_of d) k).what ≡ true
+item_has d l k within = at (origin d l k within)
+  where
+    before : (j : ℕ) → j < length d.items → has_labels d.items (item_at d.items j).what ≡ true
+    before j inside = items_labelled d.items d.catches l.labels j inside
+
+    at : Origin d k → has_labels (after_of d) (item_at (after_of d) k).what ≡ true
+    at (inl label) = label_has (after_of d) (item_at (after_of d) k).what label
+    at (inr (inl n)) =
+        ap (has_labels (after_of d)) n.is ∙
+        ap (has_label_if_any (after_of d)) (no_label_by (has_offset 0) (address_of (after_of d) k) (pos 0) nop_offset)
+    at (inr (inr (inl o))) =
+        ap (has_labels (after_of d)) o.is ∙
+        of_op d o.place o.op o.op.label l o.within o.own refl (ap (has_labels d.items) (sym o.own) ∙ before o.place o.within)
+    at (inr (inr (inr p))) =
+        ap (has_labels (after_of d)) p.is ∙
+        of_payload d p.place (item_at d.items p.place).what p.payload l p.within refl p.own (before p.place p.within)
+
+pub items_there : (d : DraftValue) → IsLaidOut d → first_line (no_label_at (after_of d)) (length (after_of d)) ≡ None
+items_there d l =
+    none_found (no_label_at (after_of d)) (length (after_of d))
+    (λ k within. never (not (has_labels (after_of d) (item_at (after_of d) k).what)) (item_at (after_of d) k).line (ap not (item_has d l k within)))
+
+-- ---- handlers
+
+-- the labels of the addresses that a handler of the draft before names stand
+record AreThere (d : DraftValue) (c : Catch) : Type 0 where
+  start : HasLabelAt (after_of d) (label_address d.items c.from)
+  end : HasLabelAt (after_of d) (label_address d.items c.to)
+  at : HasLabelAt (after_of d) (label_address d.items c.at)
+
+handler_there : (d : DraftValue) → IsLaidOut d → (j : ℕ) → j < length d.catches → AreThere d (catch_at d.catches j)
+handler_there d l j within =
+    let c = catch_at d.catches j in
+    let first = both (has_label d.items c.from) _ (catches_labelled d.items d.catches l.labels j within) in
+    let rest = both (has_label d.items c.to) (has_label d.items c.at) first.1 in
+    let names = handler_named d.items d.catches j within in
+    record {
+      start = there d c.from l first.0 (entry_listed d (label_address d.items c.from) names.start);
+      end = there d c.to l rest.0 (entry_listed d (label_address d.items c.to) names.end);
+      at = there d c.at l rest.1 (entry_listed d (label_address d.items c.at) names.at);
+    }
+
+abbrev all_have : List Item → List Catch → Bool
+all_have items cs = list_all (catch_has_labels items) cs
+
+have_append : (items : List Item) (cs es : List Catch) → all_have items cs ≡ true → all_have items es ≡ true → all_have items (cs ++ es) ≡ true
+have_append items [] es h k = k
+have_append items (c ∷ cs) es h k =
+    let p = both (catch_has_labels items c) (all_have items cs) h in
+    joined (catch_has_labels items c) (all_have items (cs ++ es)) p.0 (have_append items cs es p.1 k)
+
+have_at : (items : List Item) (cs : List Catch) (j : ℕ) → all_have items cs ≡ true → j < length cs → catch_has_labels items (catch_at cs j) ≡ true
+have_at items [] j h within = absurd (omega arith)
+have_at items (c ∷ cs) zero h within = (both (catch_has_labels items c) (all_have items cs) h).0
+have_at items (c ∷ cs) (suc j) h within = have_at items cs j (both (catch_has_labels items c) (all_have items cs) h).1 (omega arith)
+
+-- the handlers of one entry
+entry_have : (after items : List Item) (types ts : List Ty) (t : Try) (r : TryRange) (cs : List Catch) → HasLabelAt after t.start → HasLabelAt after t.end → ((j : ℕ) → j < length cs → HasLabelAt after (label_address items (catch_at cs j).at)) → all_have after (map (catch_of ts t) (map (handler_of items types) (catches_of items cs r))) ≡ true
+entry_have after items types ts t r [] start end each = refl
+entry_have after items types ts t r (c ∷ cs) start end each =
+    by (is_same (range_of items c) r) (each 0 (omega arith)) (entry_have after items types ts t r cs start end (λ j within. each (suc j) (omega arith)))
+  where
+    by : (b : Bool) → HasLabelAt after (label_address items c.at) → all_have after (map (catch_of ts t) (map (handler_of items types) (catches_of items cs r))) ≡ true → all_have after (map (catch_of ts t) (map (handler_of items types) (cond b (c ∷ catches_of items cs r) (catches_of items cs r)))) ≡ true
+    by true here rest =
+        joined (catch_has_labels after (catch_of ts t (handler_of items types c))) _
+        (joined (has_label after (label_name t.start)) _ start (joined (has_label after (label_name t.end)) _ end here)) rest
+    by false here rest = rest
+
+-- the handlers of all entries
+entries_have : (after items : List Item) (types : List Ty) (catches : List Catch) (rs : List TryRange) → ((r : TryRange) → Among r rs → HasLabelAt after r.start × HasLabelAt after r.end) → ((j : ℕ) → j < length catches → HasLabelAt after (label_address items (catch_at catches j).at)) → all_have after (flat_map (catches_of_try types) (map (entry_of items catches types) rs)) ≡ true
+entries_have after items types catches [] ends each = refl
+entries_have after items types catches (r ∷ rs) ends each =
+    let own = ends r (inl refl) in
+    have_append after (catches_of_try types (entry_of items catches types r)) (flat_map (catches_of_try types) (map (entry_of items catches types) rs))
+    (entry_have after items types types (entry_of items catches types r) r catches own.0 own.1 each)
+    (entries_have after items types catches rs (λ q at. ends q (inr at)) each)
+
+-- a range of the draft before is that of one of its handlers
+range_from : (items : List Item) (catches : List Catch) (r : TryRange) → Among r (sorted_ranges items catches) → Among r (ranges_of items catches)
+range_from items catches r at =
+    let P : List TryRange → Type 0 = λ rs. Among r rs in
+    ⊎_elim (λ none. absurd none) (λ here. here) (fold_from [] (ranges_of items catches) r (subst P (folds_alike [] (ranges_of items catches)) at))
+
+range_there : (d : DraftValue) → IsLaidOut d → (r : TryRange) → Among r (sorted_ranges d.items d.catches) → HasLabelAt (after_of d) r.start × HasLabelAt (after_of d) r.end
+range_there d l r at =
+    let from = range_at d.items d.catches r (range_from d.items d.catches r at) in
+    let h = handler_there d l from.0 from.1 in
+    let P : TryRange → Type 0 = λ q. HasLabelAt (after_of d) q.start × HasLabelAt (after_of d) q.end in
+    subst P from.2 (h.start, h.end)
+
+-- the handlers of the draft
+abbrev pub catches_again : DraftValue → List Catch
+catches_again d = flat_map (catches_of_try (types_of d.items d.catches)) (tries_of d.items d.catches (types_of d.items d.catches))
+
+pub catches_are : (d : DraftValue) → (draft_of (layout d)).catches ≡ catches_again d
+unfolding draft_of body_of
+catches_are d = refl
+
+handlers_there : (d : DraftValue) → IsLaidOut d → first_line (no_label_of_catch_at (after_of d) (catches_again d)) (length (catches_again d)) ≡ None
+handlers_there d l =
+    let cs = catches_again d in
+    let all : all_have (after_of d) cs ≡ true = entries_have (after_of d) d.items (types_of d.items d.catches) d.catches (sorted_ranges d.items d.catches) (range_there d l) (λ j within. (handler_there d l j within).at) in
+    none_found (no_label_of_catch_at (after_of d) cs) (length cs)
+    (λ k within. never (not (catch_has_labels (after_of d) (catch_at cs k))) (catch_at cs k).line (ap not (have_at (after_of d) cs k all within)))
+
+-- each label that the draft names is one of its items
+pub labels_there : (d : DraftValue) → IsLaidOut d → no_label (after_of d) (draft_of (layout d)).catches ≡ None
+labels_there d l =
+    ap (no_label (after_of d)) (catches_are d) ∙
+    (ap (λ o. earlier o (first_line (no_label_of_catch_at (after_of d) (catches_again d)) (length (catches_again d)))) (items_there d l) ∙ handlers_there d l)
