@@ -1,14 +1,12 @@
 -- Each label of the draft that is made of a laid-out body stands there once, and each label that the draft names stands
 -- there.
-use Rattle.std.proofs.Common.{◌≡◌, ℕ, ◌+◌, ◌-◌, ◌<◌, ◌≤◌, ◌^◌, zero, suc, pos, Bool, true, false, not, ◌⊎◌, inl, inr, List, [], ◌∷◌, ◌++◌, length, map, take, drop, cond, nat_lt, nat_eq, Option, Some, None, is_some, if◌then◌else◌, refl, ap, sym, ◌∙◌, subst, arith, ⊎_elim}
+use Rattle.std.proofs.Common.{◌≡◌, ℕ, ◌+◌, ◌-◌, ◌<◌, ◌≤◌, ◌^◌, zero, suc, pos, Bool, true, false, not, ◌⊎◌, inl, inr, List, [], ◌∷◌, ◌++◌, length, map, take, drop, nat_lt, nat_eq, Option, Some, None, is_some, if◌then◌else◌, refl, ap, sym, ◌∙◌, subst, arith}
 use Rattle.std.specs.Prelude.{option_map}
-use Rattle.std.specs.List.{flat_map, list_any, list_all}
+use Rattle.std.specs.List.{list_any, list_all}
 use Rattle.std.proofs.lemmas.Bool.Decides.{nat_tests}
 use Rattle.std.proofs.lemmas.List.{length-take-le}
 use Rattle.std.proofs.lemmas.Option.{slice_get-get_or}
 use Rattle.dv_defs.specs.declared.code.Payload.{Payload}
-use Rattle.dv_defs.specs.declared.code.Try.{Try}
-use Rattle.dv_defs.specs.declared.names.Ty.{Ty}
 use Rattle.dv_defs.specs.Body.{BodyValue}
 use Rattle.dv_defs.specs.Numbers.{jump}
 use Rattle.dv_defs.specs.Spelling.{spelling}
@@ -20,22 +18,22 @@ use Rattle.dv_asm.specs.declared.draft.Catch.{Catch}
 use Rattle.dv_asm.specs.declared.draft.Draftop.{Draftop}
 use Rattle.dv_asm.specs.declared.draft.What.{What}
 use Rattle.dv_asm.specs.declared.draft.What.TheVariants as what
-use Rattle.dv_asm.specs.declared.tries.TryRange.{TryRange}
 use Rattle.dv_asm.specs.Draft.{DraftValue, IsFormed, IsOp, blank}
-use Rattle.dv_asm.specs.First.{first_line, earlier, when}
+use Rattle.dv_asm.specs.First.{first_line, earlier}
 use Rattle.dv_asm.specs.Items.{item_at, no_item, is_label, is_label_named, is_named, is_payload, size_of}
-use Rattle.dv_asm.specs.Layout.{insn_of, base_of, targets_of, packed_of, sparse_of, sorted_ranges, handler_of, catches_of, entry_of, pools_of, types_of, tries_of, body_of, layout}
+use Rattle.dv_asm.specs.Layout.{insn_of, base_of, targets_of, packed_of, sparse_of, pools_of, layout}
 use Rattle.dv_asm.specs.Places.{address_of, end_of, label_address, distance}
-use Rattle.dv_asm.specs.Refusals.{is_place, is_second, label_twice, label_twice_at, no_label, no_label_at, no_label_of_catch_at, has_label, has_labels, has_label_if_any, catch_at, catch_has_labels, range_of, ranges_of, is_same}
+use Rattle.dv_asm.specs.Refusals.{is_place, is_second, label_twice, label_twice_at, no_label, no_label_at, no_label_of_catch_at, has_label, has_labels, has_label_if_any, catch_at, catch_has_labels}
 use Rattle.dv_asm.proofs.PlaceLemmas.{aligned_above}
 use Rattle.dv_print.specs.declared.pieces.Piece.{Piece}
 use Rattle.dv_print.specs.Numbers.{label_name}
 use Rattle.dv_print.specs.Operands.{has_offset}
 use Rattle.dv_print.specs.Pieces.{piece_of}
 use Rattle.dv_print.specs.Named as named
-use Rattle.dv_print.specs.Drafting.{op_of, labels_from, payload_item, piece_item, with_no_line, labels_at, is_aligning, items_from, catch_of, catches_of_try, draft_of}
+use Rattle.dv_print.specs.Drafting.{op_of, labels_from, payload_item, piece_item, with_no_line, labels_at, is_aligning, items_from, draft_of}
 use Rattle.dv_print.specs.Laws.{KeepsAddresses, IsNamedBy}
-use Rattle.dv_print.proofs.Truth.{both, itself}
+use Rattle.dv_print.proofs.RangesAgain.{handler_from}
+use Rattle.dv_print.proofs.Truth.{both, itself, no_line, when_not}
 use Rattle.dv_print.proofs.Entries.{joined, bytes_itself}
 use Rattle.dv_print.proofs.ItemTiles.{tile, tiles_at}
 use Rattle.dv_print.proofs.KeptEntries.{small_opcode}
@@ -46,21 +44,11 @@ use Rattle.dv_print.proofs.Branches.{label_size, mem_to, leads_back}
 use Rattle.dv_print.proofs.KnownDraft.{stands_for, tile_listed}
 use Rattle.dv_print.proofs.Straight.{same_offsets, no_label_by, nop_offset}
 use Rattle.dv_print.proofs.SpelledAgain.{branch_to, AreListed, are_listed}
-use Rattle.dv_print.proofs.SortedRanges.{folds_alike, Among, fold_from}
-use Rattle.dv_print.proofs.KeptHandlers.{range_at}
 use Rattle.dv_print.proofs.NamedHandlers.{handler_named}
 use Rattle.dv_print.proofs.LaidDraft.{IsLaidOut, after_of, pieces, all_named, tiles, known, items_labelled, catches_labelled, entry_listed, rebased}
 use Rattle.dv_print.proofs.Origins.{HasContent, Origin, origin}
 
 -- ---- no line
-
-none_found : (f : ℕ → Option ℕ) (n : ℕ) → ((k : ℕ) → k < n → f k ≡ None) → first_line f n ≡ None
-none_found f zero none = refl
-none_found f (suc n) none = ap (λ o. earlier o (f n)) (none_found f n (λ k within. none k (omega arith))) ∙ none n (omega arith)
-
-never : {Y : Type 0} (b : Bool) (y : Y) → b ≡ false → when b y ≡ None
-never true y e = absurd (cc)
-never false y e = refl
 
 -- ---- between two labels
 
@@ -156,8 +144,8 @@ labels_once d l =
     let after = after_of d in
     let h = known d l in
     let g : Gaps after = subst Gaps (sym h.start) (gaps (layout d) (pieces d) (all_named d) (length (layout d).units) (tiles d) (layout d).units 0 (tiles_are d l.formed l.numbers l.none l.fit)) in
-    none_found (label_twice_at after) (length after)
-    (λ k within. never (is_second after k (item_at after k).what) (item_at after k).line (not_second after (layout d).units k (item_at after k).what h.kept h.short g within refl))
+    no_line (label_twice_at after) (length after)
+    (λ k within. when_not (is_second after k (item_at after k).what) (item_at after k).line (not_second after (layout d).units k (item_at after k).what h.kept h.short g within refl))
 
 -- ---- labels there
 
@@ -249,8 +237,8 @@ item_has d l k within = at (origin d l k within)
 
 pub items_there : (d : DraftValue) → IsLaidOut d → first_line (no_label_at (after_of d)) (length (after_of d)) ≡ None
 items_there d l =
-    none_found (no_label_at (after_of d)) (length (after_of d))
-    (λ k within. never (not (has_labels (after_of d) (item_at (after_of d) k).what)) (item_at (after_of d) k).line (ap not (item_has d l k within)))
+    no_line (no_label_at (after_of d)) (length (after_of d))
+    (λ k within. when_not (not (has_labels (after_of d) (item_at (after_of d) k).what)) (item_at (after_of d) k).line (ap not (item_has d l k within)))
 
 -- ---- handlers
 
@@ -272,71 +260,20 @@ handler_there d l j within =
       at = there d c.at l rest.1 (entry_listed d (label_address d.items c.at) names.at);
     }
 
-abbrev all_have : List Item → List Catch → Bool
-all_have items cs = list_all (catch_has_labels items) cs
+catch_has : (d : DraftValue) → IsLaidOut d → (k : ℕ) → k < length (draft_of (layout d)).catches → catch_has_labels (after_of d) (catch_at (draft_of (layout d)).catches k) ≡ true
+catch_has d l k within =
+    let c = catch_at (draft_of (layout d)).catches k in
+    let f = handler_from d k within in
+    let stand = handler_there d l f.place f.within in
+    joined (has_label (after_of d) c.from) _ (ap (has_label (after_of d)) f.from ∙ stand.start)
+    (joined (has_label (after_of d) c.to) (has_label (after_of d) c.at) (ap (has_label (after_of d)) f.to ∙ stand.end) (ap (has_label (after_of d)) f.at ∙ stand.at))
 
-have_append : (items : List Item) (cs es : List Catch) → all_have items cs ≡ true → all_have items es ≡ true → all_have items (cs ++ es) ≡ true
-have_append items [] es h k = k
-have_append items (c ∷ cs) es h k =
-    let p = both (catch_has_labels items c) (all_have items cs) h in
-    joined (catch_has_labels items c) (all_have items (cs ++ es)) p.0 (have_append items cs es p.1 k)
-
-have_at : (items : List Item) (cs : List Catch) (j : ℕ) → all_have items cs ≡ true → j < length cs → catch_has_labels items (catch_at cs j) ≡ true
-have_at items [] j h within = absurd (omega arith)
-have_at items (c ∷ cs) zero h within = (both (catch_has_labels items c) (all_have items cs) h).0
-have_at items (c ∷ cs) (suc j) h within = have_at items cs j (both (catch_has_labels items c) (all_have items cs) h).1 (omega arith)
-
--- the handlers of one entry
-entry_have : (after items : List Item) (types ts : List Ty) (t : Try) (r : TryRange) (cs : List Catch) → HasLabelAt after t.start → HasLabelAt after t.end → ((j : ℕ) → j < length cs → HasLabelAt after (label_address items (catch_at cs j).at)) → all_have after (map (catch_of ts t) (map (handler_of items types) (catches_of items cs r))) ≡ true
-entry_have after items types ts t r [] start end each = refl
-entry_have after items types ts t r (c ∷ cs) start end each =
-    by (is_same (range_of items c) r) (each 0 (omega arith)) (entry_have after items types ts t r cs start end (λ j within. each (suc j) (omega arith)))
-  where
-    by : (b : Bool) → HasLabelAt after (label_address items c.at) → all_have after (map (catch_of ts t) (map (handler_of items types) (catches_of items cs r))) ≡ true → all_have after (map (catch_of ts t) (map (handler_of items types) (cond b (c ∷ catches_of items cs r) (catches_of items cs r)))) ≡ true
-    by true here rest =
-        joined (catch_has_labels after (catch_of ts t (handler_of items types c))) _
-        (joined (has_label after (label_name t.start)) _ start (joined (has_label after (label_name t.end)) _ end here)) rest
-    by false here rest = rest
-
--- the handlers of all entries
-entries_have : (after items : List Item) (types : List Ty) (catches : List Catch) (rs : List TryRange) → ((r : TryRange) → Among r rs → HasLabelAt after r.start × HasLabelAt after r.end) → ((j : ℕ) → j < length catches → HasLabelAt after (label_address items (catch_at catches j).at)) → all_have after (flat_map (catches_of_try types) (map (entry_of items catches types) rs)) ≡ true
-entries_have after items types catches [] ends each = refl
-entries_have after items types catches (r ∷ rs) ends each =
-    let own = ends r (inl refl) in
-    have_append after (catches_of_try types (entry_of items catches types r)) (flat_map (catches_of_try types) (map (entry_of items catches types) rs))
-    (entry_have after items types types (entry_of items catches types r) r catches own.0 own.1 each)
-    (entries_have after items types catches rs (λ q at. ends q (inr at)) each)
-
--- a range of the draft before is that of one of its handlers
-range_from : (items : List Item) (catches : List Catch) (r : TryRange) → Among r (sorted_ranges items catches) → Among r (ranges_of items catches)
-range_from items catches r at =
-    let P : List TryRange → Type 0 = λ rs. Among r rs in
-    ⊎_elim (λ none. absurd none) (λ here. here) (fold_from [] (ranges_of items catches) r (subst P (folds_alike [] (ranges_of items catches)) at))
-
-range_there : (d : DraftValue) → IsLaidOut d → (r : TryRange) → Among r (sorted_ranges d.items d.catches) → HasLabelAt (after_of d) r.start × HasLabelAt (after_of d) r.end
-range_there d l r at =
-    let from = range_at d.items d.catches r (range_from d.items d.catches r at) in
-    let h = handler_there d l from.0 from.1 in
-    let P : TryRange → Type 0 = λ q. HasLabelAt (after_of d) q.start × HasLabelAt (after_of d) q.end in
-    subst P from.2 (h.start, h.end)
-
--- the handlers of the draft
-abbrev pub catches_again : DraftValue → List Catch
-catches_again d = flat_map (catches_of_try (types_of d.items d.catches)) (tries_of d.items d.catches (types_of d.items d.catches))
-
-pub catches_are : (d : DraftValue) → (draft_of (layout d)).catches ≡ catches_again d
-unfolding draft_of body_of
-catches_are d = refl
-
-handlers_there : (d : DraftValue) → IsLaidOut d → first_line (no_label_of_catch_at (after_of d) (catches_again d)) (length (catches_again d)) ≡ None
+handlers_there : (d : DraftValue) → IsLaidOut d → first_line (no_label_of_catch_at (after_of d) (draft_of (layout d)).catches) (length (draft_of (layout d)).catches) ≡ None
 handlers_there d l =
-    let cs = catches_again d in
-    let all : all_have (after_of d) cs ≡ true = entries_have (after_of d) d.items (types_of d.items d.catches) d.catches (sorted_ranges d.items d.catches) (range_there d l) (λ j within. (handler_there d l j within).at) in
-    none_found (no_label_of_catch_at (after_of d) cs) (length cs)
-    (λ k within. never (not (catch_has_labels (after_of d) (catch_at cs k))) (catch_at cs k).line (ap not (have_at (after_of d) cs k all within)))
+    no_line (no_label_of_catch_at (after_of d) (draft_of (layout d)).catches) (length (draft_of (layout d)).catches)
+    (λ k within. when_not (not (catch_has_labels (after_of d) (catch_at (draft_of (layout d)).catches k))) (catch_at (draft_of (layout d)).catches k).line (ap not (catch_has d l k within)))
 
 -- each label that the draft names is one of its items
 pub labels_there : (d : DraftValue) → IsLaidOut d → no_label (after_of d) (draft_of (layout d)).catches ≡ None
 labels_there d l =
-    ap (no_label (after_of d)) (catches_are d) ∙
-    (ap (λ o. earlier o (first_line (no_label_of_catch_at (after_of d) (catches_again d)) (length (catches_again d)))) (items_there d l) ∙ handlers_there d l)
+    ap (λ o. earlier o (first_line (no_label_of_catch_at (after_of d) (draft_of (layout d)).catches) (length (draft_of (layout d)).catches))) (items_there d l) ∙ handlers_there d l

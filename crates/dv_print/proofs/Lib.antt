@@ -31,3 +31,4 @@ pub mod FormsAgain
 pub mod ItemsAgain
 pub mod RangesAgain
 pub mod LabelsAgain
+pub mod AssembledAgain

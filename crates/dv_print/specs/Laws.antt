@@ -89,3 +89,15 @@ abbrev pub DraftIsKept : Type 0
 DraftIsKept =
     (d : DraftValue) → AreFormed d.items → HaveNumbers d.items → refusal d ≡ None → IsTrue (all_fit 16 (layout d).units) →
     layout (draft_of (layout d)) ≡ layout d
+
+-- The draft is one that is assembled: its items have their forms and the numbers of their types, and it isn't refused.
+pub record IsAssembled (d : DraftValue) : Type 0 where
+  pub formed : AreFormed d.items
+  pub numbers : HaveNumbers d.items
+  pub accepted : refusal d ≡ None
+
+-- The draft that is made of a laid-out body is one that is assembled.
+abbrev pub DraftIsAssembled : Type 0
+DraftIsAssembled =
+    (d : DraftValue) → AreFormed d.items → HaveNumbers d.items → refusal d ≡ None → IsTrue (all_fit 16 (layout d).units) →
+    IsAssembled (draft_of (layout d))

@@ -1,5 +1,5 @@
 // The laws of labels, and of drafts and their layout.
-ghost use Rattle.dv_print.specs.Laws.{LabelsAreDistinct, LayoutIsTiled, DraftKeepsEntries, DraftKeepsAddresses, LabelsLead, DraftIsKept};
+ghost use Rattle.dv_print.specs.Laws.{LabelsAreDistinct, LayoutIsTiled, DraftKeepsEntries, DraftKeepsAddresses, LabelsLead, DraftIsKept, DraftIsAssembled};
 
 /// No two addresses have the same label.
 pub fn labels_are_distinct()
@@ -32,4 +32,9 @@ pub fn labels_lead()
 /// The draft that is made of a laid-out body is laid out as that body.
 pub fn draft_is_kept()
     ensures { DraftIsKept }
+{}
+
+/// The draft that is made of a laid-out body isn't refused, so it is assembled, and by `draft_is_kept` to that body.
+pub fn draft_is_assembled()
+    ensures { DraftIsAssembled }
 {}

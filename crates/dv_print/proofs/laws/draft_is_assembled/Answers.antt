@@ -1,0 +1,5 @@
+use Rattle.dv_print.proofs.AssembledAgain.{draft_is_assembled}
+use Rattle.dv_print.proofs.laws.draft_is_assembled.Goals as goal
+
+pub returns : goal.returns
+returns c = draft_is_assembled
