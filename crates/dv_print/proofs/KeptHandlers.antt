@@ -23,10 +23,11 @@ use Rattle.dv_asm.specs.Layout.{sorted_ranges, kind_in, with_kinds, pools_of, ty
 use Rattle.dv_asm.proofs.FirstLemmas.{first_line_none, not_when}
 use Rattle.dv_print.specs.Numbers.{label_name}
 use Rattle.dv_print.specs.Drafting.{kind_of, catch_of, catches_of_try}
+use Rattle.dv_print.specs.Laws.{Among, IsSorted, AreRangesOf}
 use Rattle.dv_print.proofs.Truth.{neither, none_of, refused_none}
 use Rattle.dv_print.proofs.Entries.{types_tell, Holds, holds, not_before, at_index}
 use Rattle.dv_print.proofs.KeptEntries.{kinds_kept}
-use Rattle.dv_print.proofs.SortedRanges.{range_by, same_range, is_same_as, put, folds_alike, Among, fold_has, fold_from, IsSorted, Agree, sorted_where}
+use Rattle.dv_print.proofs.SortedRanges.{range_by, same_range, is_same_as, put, folds_alike, fold_has, fold_from, Agree, sorted_where}
 use Rattle.dv_print.proofs.Settled.{Settled, settled, all_settled, settled_range, group, kinds, entries, ranges_are, groups_are, kinds_are, entries_are, sorted_are, SameGroups, same_kinds, same_entries, grouped, same_group, map_flat, sorted_again}
 
 -- ---- what no refusal of ranges says
@@ -47,12 +48,12 @@ agree_by q r full full' apart level = same_range q r (at (is_same q r) refl)
     at false e = grind (arith, nat_tests)
 
 -- no handler has an empty range, and no two have different ranges with an address in common
-pub record Known (items : List Item) (catches : List Catch) : Type 0 where
+pub record AreApart (items : List Item) (catches : List Catch) : Type 0 where
   pub full : (j : ℕ) → j < length catches → is_empty (range_of items (catch_at catches j)) ≡ false
   pub apart : (j k : ℕ) → j < k → k < length catches → overlaps (range_of items (catch_at catches k)) (range_of items (catch_at catches j)) ≡ false
 
-pub known : (items : List Item) (catches : List Catch) → range_refusal items catches ≡ None → Known items catches
-known items catches none =
+pub are_apart : (items : List Item) (catches : List Catch) → range_refusal items catches ≡ None → AreApart items catches
+are_apart items catches none =
     let parts = none_of (refused kind.TryRange (try_range items catches)) (refused kind.TryOverlap (try_overlap items catches)) none in
     let full = refused_none kind.TryRange (try_range items catches) parts.0 in
     let apart = refused_none kind.TryOverlap (try_overlap items catches) parts.1 in
@@ -73,7 +74,7 @@ among_at items [] j within = absurd (omega arith)
 among_at items (c ∷ catches) zero within = inl refl
 among_at items (c ∷ catches) (suc j) within = inr (among_at items catches j (omega arith))
 
-agree_at : (items : List Item) (catches : List Catch) (j k : ℕ) → Known items catches → j < length catches → k < length catches → (range_of items (catch_at catches j)).start ≡ (range_of items (catch_at catches k)).start → range_of items (catch_at catches j) ≡ range_of items (catch_at catches k)
+agree_at : (items : List Item) (catches : List Catch) (j k : ℕ) → AreApart items catches → j < length catches → k < length catches → (range_of items (catch_at catches j)).start ≡ (range_of items (catch_at catches k)).start → range_of items (catch_at catches j) ≡ range_of items (catch_at catches k)
 agree_at items catches j k h left right level = at (nat_lt j k) (nat_lt k j) refl refl
   where
     at : (b c : Bool) → nat_lt j k ≡ b → nat_lt k j ≡ c → range_of items (catch_at catches j) ≡ range_of items (catch_at catches k)
@@ -86,12 +87,18 @@ agree_by_start items catches none q r left right level =
     let a = range_at items catches q left in
     let b = range_at items catches r right in
     let start : TryRange → ℕ = λ x. x.start in
-    sym a.2 ∙ (agree_at items catches a.0 b.0 (known items catches none) a.1 b.1 (ap start a.2 ∙ (level ∙ sym (ap start b.2))) ∙ b.2)
+    sym a.2 ∙ (agree_at items catches a.0 b.0 (are_apart items catches none) a.1 b.1 (ap start a.2 ∙ (level ∙ sym (ap start b.2))) ∙ b.2)
 
 -- each range starts behind those before it
 sorted_where_known : (items : List Item) (catches : List Catch) → range_refusal items catches ≡ None → IsSorted (sorted_ranges items catches)
 sorted_where_known items catches none =
     subst IsSorted (sym (folds_alike [] (ranges_of items catches))) (sorted_where (ranges_of items catches) (agree_by_start items catches none))
+
+-- each of them is a handler's
+own_range : (items : List Item) (catches : List Catch) (r : TryRange) → Among r (sorted_ranges items catches) → Among r (ranges_of items catches)
+own_range items catches r at =
+    let P : List TryRange → Type 0 = λ rs. Among r rs in
+    ⊎_elim (λ none. absurd none) (λ here. here) (fold_from [] (ranges_of items catches) r (subst P (folds_alike [] (ranges_of items catches)) at))
 
 -- the range of each handler stands among them
 pub range_stands : (items : List Item) (catches : List Catch) (j : ℕ) → j < length catches → Among (range_of items (catch_at catches j)) (sorted_ranges items catches)
@@ -103,7 +110,7 @@ range_stands items catches j within =
 stands_from : (items : List Item) (catches : List Catch) (q : TryRange) → Among q (sorted_ranges items catches) → Among q (map settled_range (all_settled items catches))
 stands_from items catches q at =
     let P : List TryRange → Type 0 = λ rs. Among q rs in
-    subst P (sym (ranges_are items catches)) (⊎_elim (λ none. absurd none) (λ here. here) (fold_from [] (ranges_of items catches) q (subst P (folds_alike [] (ranges_of items catches)) at)))
+    subst P (sym (ranges_are items catches)) (own_range items catches q at)
 
 -- ---- the kind of a handler stands in the pool
 
@@ -230,3 +237,12 @@ handlers_kept items after catches none leads pools =
           (entries_by_parts _ _ types _ _ are ranges ∙
           (same_entries hs (grouped hs rs) types rs same ∙ sym (entries_are items catches types rs))),
     )
+
+-- the ranges of the entries are those of the handlers
+pub ranges_are_sorted : (items : List Item) (catches : List Catch) → range_refusal items catches ≡ None → AreRangesOf items catches
+ranges_are_sorted items catches none =
+    record {
+      sorted = sorted_where_known items catches none;
+      all = range_stands items catches;
+      own = own_range items catches;
+    }

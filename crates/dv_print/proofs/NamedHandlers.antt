@@ -11,8 +11,9 @@ use Rattle.dv_asm.specs.Places.{label_address}
 use Rattle.dv_asm.specs.Refusals.{catch_at, range_of, is_same}
 use Rattle.dv_asm.specs.Layout.{sorted_ranges, types_of, handler_of, catches_of, entry_of, tries_of}
 use Rattle.dv_print.specs.Named.{handler_address, named_by_try, is_named}
+use Rattle.dv_print.specs.Laws.{Among}
 use Rattle.dv_print.proofs.Truth.{any_left, any_right, itself}
-use Rattle.dv_print.proofs.SortedRanges.{same_itself, Among}
+use Rattle.dv_print.proofs.SortedRanges.{same_itself}
 use Rattle.dv_print.proofs.KeptHandlers.{range_stands}
 
 -- ---- the addresses that handlers name

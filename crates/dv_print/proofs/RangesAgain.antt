@@ -15,7 +15,7 @@ use Rattle.dv_print.specs.Numbers.{label_name}
 use Rattle.dv_print.specs.Drafting.{catch_of, catches_of_try, draft_of}
 use Rattle.dv_print.proofs.Truth.{no_line, when_not}
 use Rattle.dv_print.proofs.SortedRanges.{range_by, same_range}
-use Rattle.dv_print.proofs.KeptHandlers.{Known, known}
+use Rattle.dv_print.proofs.KeptHandlers.{AreApart, are_apart}
 use Rattle.dv_print.proofs.LaidDraft.{IsLaidOut, after_of, handler_leads}
 
 -- ---- what the handlers of the draft are made of
@@ -98,7 +98,7 @@ apart_itself : (r : TryRange) → overlaps r r ≡ false
 apart_itself r = grind (arith, nat_tests)
 
 -- no two handlers have different ranges with an address in common
-apart_at : (items : List Item) (catches : List Catch) (j k : ℕ) → Known items catches → j < length catches → k < length catches → overlaps (range_of items (catch_at catches j)) (range_of items (catch_at catches k)) ≡ false
+apart_at : (items : List Item) (catches : List Catch) (j k : ℕ) → AreApart items catches → j < length catches → k < length catches → overlaps (range_of items (catch_at catches j)) (range_of items (catch_at catches k)) ≡ false
 apart_at items catches j k h left right = at (nat_lt j k) (nat_lt k j) refl refl
   where
     at : (b c : Bool) → nat_lt j k ≡ b → nat_lt k j ≡ c → overlaps (range_of items (catch_at catches j)) (range_of items (catch_at catches k)) ≡ false
@@ -122,7 +122,7 @@ full_again d l =
     no_line (try_range_at (after_of d) cs) (length cs)
     (λ k within.
     let f = handler_from d k within in
-    when_not (is_empty (range_of (after_of d) (catch_at cs k))) (catch_at cs k).line (ap is_empty (range_from d l k within) ∙ (known d.items d.catches l.ranges).full f.place f.within))
+    when_not (is_empty (range_of (after_of d) (catch_at cs k))) (catch_at cs k).line (ap is_empty (range_from d l k within) ∙ (are_apart d.items d.catches l.ranges).full f.place f.within))
 
 apart_again : (d : DraftValue) → IsLaidOut d → try_overlap (after_of d) (draft_of (layout d)).catches ≡ None
 apart_again d l =
@@ -137,7 +137,7 @@ apart_again d l =
     let g = handler_from d j earlier_within in
     ap (λ q. overlaps q (range_of after (catch_at cs j))) (range_from d l k within) ∙
     (ap (overlaps (range_of d.items (catch_at d.catches f.place))) (range_from d l j earlier_within) ∙
-    apart_at d.items d.catches f.place g.place (known d.items d.catches l.ranges) f.within g.within))))
+    apart_at d.items d.catches f.place g.place (are_apart d.items d.catches l.ranges) f.within g.within))))
 
 -- the ranges of the draft's handlers aren't refused
 pub ranges_again : (d : DraftValue) → IsLaidOut d → range_refusal (after_of d) (draft_of (layout d)).catches ≡ None

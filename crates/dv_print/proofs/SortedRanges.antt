@@ -11,6 +11,7 @@ use Rattle.dv_asm.specs.declared.tries.TryRange.{TryRange}
 use Rattle.dv_asm.specs.Refusals.{is_same}
 use Rattle.dv_asm.specs.Layout.{begins_from, place_among, is_range, with_range}
 use Rattle.dv_print.proofs.Truth.{both}
+use Rattle.dv_print.specs.Laws.{Among, After, IsSorted}
 
 -- ---- the same range
 
@@ -93,11 +94,6 @@ folds_alike acc (r ∷ rs) = ap (λ xs. fold with_range xs rs) (with_is_put acc 
 
 -- ---- which ranges stand there
 
--- a range stands in a list
-abbrev pub Among : TryRange → List TryRange → Type 0
-Among r [] = ⊥
-Among r (s ∷ rs) = (s ≡ r) ⊎ Among r rs
-
 has_by : (b c : Bool) (r s : TryRange) (rs rest : List TryRange) → is_same s r ≡ c → Among r rest → Among r (put_by b c r s rs rest)
 has_by true true r s rs rest e h = inl (same_range s r e)
 has_by true false r s rs rest e h = inl refl
@@ -146,16 +142,6 @@ fold_from acc (r ∷ rs) q h =
     ⊎_elim (λ was. ⊎_elim (λ old. inl old) (λ new. inr (inl new)) (put_from acc q r was)) (λ later. inr (inr later)) (fold_from (put acc r) rs q h)
 
 -- ---- they stand by their starts
-
--- the ranges start behind an address
-abbrev pub After : ℕ → List TryRange → Type 0
-After n [] = Unit {0}
-After n (s ∷ rs) = (n < s.start) × After n rs
-
--- each range starts behind those before it
-abbrev pub IsSorted : List TryRange → Type 0
-IsSorted [] = Unit {0}
-IsSorted (r ∷ rs) = After r.start rs × IsSorted rs
 
 -- ranges with the same start are the same
 abbrev pub Agree : List TryRange → Type 0

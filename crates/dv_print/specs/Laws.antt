@@ -1,21 +1,23 @@
 -- The laws of labels, and of drafts and their layout.
-use Rattle.std.specs.Prelude.{ℕ, ◌≡◌, ◌<◌, ◌≤◌, ◌^◌, List, [], ◌∷◌, length, All, Some, None, Ok, IsTrue}
+use Rattle.std.specs.Prelude.{◌⊎◌, ℕ, ◌≡◌, ◌<◌, ◌≤◌, ◌^◌, List, [], ◌∷◌, length, All, Some, None, Ok, IsTrue}
 use Rattle.std.specs.List.{flat_map, slice_get}
 use Rattle.dv_defs.specs.Spelling.{all_fit, fits_signed}
 use Rattle.dv_defs.specs.Payloads.{all_fit_signed}
 use Rattle.dv_defs.specs.Tiling.{tiling}
 use Rattle.dv_asm.specs.declared.draft.Item.{Item}
 use Rattle.dv_asm.specs.declared.draft.What.{What}
+use Rattle.dv_asm.specs.declared.draft.Catch.{Catch}
+use Rattle.dv_asm.specs.declared.tries.TryRange.{TryRange}
 use Rattle.dv_asm.specs.declared.draft.What.TheVariants as what
 use Rattle.dv_asm.specs.declared.draft.PoolRef.{PoolRef}
 use Rattle.dv_asm.specs.declared.draft.PoolRef.TheVariants as pool
 use Rattle.dv_asm.specs.Draft.{DraftValue, AreFormed}
 use Rattle.dv_asm.specs.Items.{item_at}
 use Rattle.dv_asm.specs.Places.{address_of, size_of_all, label_address}
-use Rattle.dv_asm.specs.Refusals.{item_refusal, refusal}
+use Rattle.dv_asm.specs.Refusals.{catch_at, range_of, ranges_of, item_refusal, range_refusal, refusal}
 use Rattle.dv_print.specs.Numbers.{label_name}
 use Rattle.dv_asm.specs.Pools.{pool_ref}
-use Rattle.dv_asm.specs.Layout.{pools_of, units_of, layout}
+use Rattle.dv_asm.specs.Layout.{sorted_ranges, pools_of, units_of, layout}
 use Rattle.dv_asm.specs.Tiles.{tiles_of}
 use Rattle.dv_print.specs.Drafting.{draft_of}
 
@@ -101,3 +103,28 @@ abbrev pub DraftIsAssembled : Type 0
 DraftIsAssembled =
     (d : DraftValue) → AreFormed d.items → HaveNumbers d.items → refusal d ≡ None → IsTrue (all_fit 16 (layout d).units) →
     IsAssembled (draft_of (layout d))
+
+-- a range is among these
+abbrev pub Among : TryRange → List TryRange → Type 0
+Among r [] = ⊥
+Among r (s ∷ rs) = (s ≡ r) ⊎ Among r rs
+
+-- these ranges begin after an address
+abbrev pub After : ℕ → List TryRange → Type 0
+After n [] = Unit {0}
+After n (s ∷ rs) = (n < s.start) × After n rs
+
+-- each range begins after those before it
+abbrev pub IsSorted : List TryRange → Type 0
+IsSorted [] = Unit {0}
+IsSorted (r ∷ rs) = After r.start rs × IsSorted rs
+
+-- the ranges of the try entries are those of the handlers, each once, by their starts
+pub record AreRangesOf (items : List Item) (catches : List Catch) : Type 0 where
+  pub sorted : IsSorted (sorted_ranges items catches)
+  pub all : (k : ℕ) → k < length catches → Among (range_of items (catch_at catches k)) (sorted_ranges items catches)
+  pub own : (r : TryRange) → Among r (sorted_ranges items catches) → Among r (ranges_of items catches)
+
+-- The try entries of a draft whose ranges aren't refused have the ranges of its handlers, each once, by their starts.
+abbrev pub RangesAreSorted : Type 0
+RangesAreSorted = (items : List Item) (catches : List Catch) → range_refusal items catches ≡ None → AreRangesOf items catches

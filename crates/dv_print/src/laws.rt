@@ -1,5 +1,5 @@
 // The laws of labels, and of drafts and their layout.
-ghost use Rattle.dv_print.specs.Laws.{LabelsAreDistinct, LayoutIsTiled, DraftKeepsEntries, DraftKeepsAddresses, LabelsLead, DraftIsKept, DraftIsAssembled};
+ghost use Rattle.dv_print.specs.Laws.{LabelsAreDistinct, LayoutIsTiled, DraftKeepsEntries, DraftKeepsAddresses, LabelsLead, DraftIsKept, DraftIsAssembled, RangesAreSorted};
 
 /// No two addresses have the same label.
 pub fn labels_are_distinct()
@@ -37,4 +37,9 @@ pub fn draft_is_kept()
 /// The draft that is made of a laid-out body isn't refused, so it is assembled, and by `draft_is_kept` to that body.
 pub fn draft_is_assembled()
     ensures { DraftIsAssembled }
+{}
+
+/// The try entries of a draft whose ranges aren't refused have the ranges of its handlers, each once, by their starts.
+pub fn ranges_are_sorted()
+    ensures { RangesAreSorted }
 {}

@@ -23,5 +23,5 @@ mod tests;
 pub use class::print_class;
 pub use laws::{
     draft_is_assembled, draft_is_kept, draft_keeps_addresses, draft_keeps_entries,
-    labels_are_distinct, labels_lead, layout_is_tiled,
+    labels_are_distinct, labels_lead, layout_is_tiled, ranges_are_sorted,
 };
