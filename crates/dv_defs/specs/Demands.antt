@@ -27,9 +27,10 @@ abbrev pub first : Demand → Demand → Demand
 first None next = next
 first (Some r) next = Some r
 
-abbrev pub demand : Bool → ℕ → Demand
-demand true n = None
-demand false n = Some (rule.V n)
+-- a rule, where its test fails
+abbrev pub demand : Bool → Rule → Demand
+demand true broken = None
+demand false broken = Some broken
 
 -- int: Zero or Int
 abbrev pub is_int : RegType → Bool
@@ -71,23 +72,23 @@ is_array_of good t = false
 
 -- V2: int
 abbrev pub int : Types → ℕ → Demand
-int ts k = demand (is_int (type_at ts k)) 2
+int ts k = demand (is_int (type_at ts k)) (rule.V 2)
 
 -- V3: long, the low half with the high half after it
 abbrev pub long : Types → ℕ → Demand
-long ts k = demand (is_lo (type_at ts k) && is_hi (type_at ts (suc k))) 3
+long ts k = demand (is_lo (type_at ts k) && is_hi (type_at ts (suc k))) (rule.V 3)
 
 -- V4: ref
 abbrev pub ref : Types → ℕ → Demand
-ref ts k = demand (is_ref (type_at ts k)) 4
+ref ts k = demand (is_ref (type_at ts k)) (rule.V 4)
 
 -- V4, then V5: a reference that is assignable to the type
 abbrev pub ref_to : Image → Types → ℕ → Ty → Demand
-ref_to image ts k t = first (ref ts k) (demand (is_assignable image (type_at ts k) t) 5)
+ref_to image ts k t = first (ref ts k) (demand (is_assignable image (type_at ts k) t) (rule.V 5))
 
 -- V10: an array of such elements
 abbrev pub array : Types → ℕ → (Ty → Bool) → Demand
-array ts k good = demand (is_array_of good (type_at ts k)) 10
+array ts k good = demand (is_array_of good (type_at ts k)) (rule.V 10)
 
 abbrev pub single_for : Image → Types → ℕ → Ty → Demand
 single_for image ts k t = elim (is_reference t) [ true ↦ ref_to image ts k t | false ↦ int ts k ]
@@ -100,7 +101,12 @@ value_for image ts k t = elim (is_long t) [ true ↦ long ts k | false ↦ singl
 abbrev pub args_for : Image → Types → List Ty → List ℕ → Demand
 args_for image ts [] ks = None
 args_for image ts (p ∷ ps) [] = Some (rule.S 15)
-args_for image ts (p ∷ ps) (k ∷ ks) = elim (is_long p) [ true ↦ elim ks [ [] ↦ Some (rule.S 15) | j ∷ js ↦ first (long ts k) (first (demand (nat_eq j (suc k)) 3) (args_for image ts ps js)) ] | false ↦ first (single_for image ts k p) (args_for image ts ps ks) ]
+args_for image ts (p ∷ ps) (k ∷ ks) =
+    elim (is_long p) [
+        true ↦ elim ks [
+              [] ↦ Some (rule.S 15)
+            | j ∷ js ↦ first (long ts k) (first (demand (nat_eq j (suc k)) (rule.V 3)) (args_for image ts ps js)) ]
+      | false ↦ first (single_for image ts k p) (args_for image ts ps ks) ]
 
 -- which class the new-instance at a place makes
 abbrev pub made_by : Op → Option ℕ
@@ -119,8 +125,8 @@ is_own_or_super image own c = nat_eq own.info.class.0 c || is_exactly (parent_at
 
 -- V11: the receiver of a constructor
 abbrev pub receiver_for : Image → Method → Method → RegType → Demand
-receiver_for image own m (ty.Uninit a) = demand (is_exactly (made_at image own a) m.info.class.0) 11
-receiver_for image own m ty.UninitThis = demand (is_own_or_super image own m.info.class.0) 11
+receiver_for image own m (ty.Uninit a) = demand (is_exactly (made_at image own a) m.info.class.0) (rule.V 11)
+receiver_for image own m ty.UninitThis = demand (is_own_or_super image own m.info.class.0) (rule.V 11)
 receiver_for image own m t = Some (rule.V 11)
 
 -- beside the method's class an invoke-super asks for the caller's own
@@ -130,10 +136,16 @@ super_for image own ts k c = None
 
 abbrev pub instance_call : Image → Method → Types → Call → List ℕ → Method → Demand
 instance_call image own ts c [] m = Some (rule.S 15)
-instance_call image own ts c (k ∷ ks) m = first (elim (is_constructor m) [ true ↦ receiver_for image own m (type_at ts k) | false ↦ first (ref_to image ts k (own_type image m)) (super_for image own ts k c) ]) (args_for image ts m.def.proto.params ks)
+instance_call image own ts c (k ∷ ks) m =
+    first
+        (elim (is_constructor m) [
+             true ↦ receiver_for image own m (type_at ts k)
+           | false ↦ first (ref_to image ts k (own_type image m)) (super_for image own ts k c) ])
+        (args_for image ts m.def.proto.params ks)
 
 abbrev pub invoke_for : Image → Method → Types → Call → List ℕ → Method → Demand
-invoke_for image own ts c ks m = elim (is_static m) [ true ↦ args_for image ts m.def.proto.params ks | false ↦ instance_call image own ts c ks m ]
+invoke_for image own ts c ks m =
+    elim (is_static m) [ true ↦ args_for image ts m.def.proto.params ks | false ↦ instance_call image own ts c ks m ]
 
 -- the return that a method's result type wants, where it has one
 abbrev pub form_of : Option Ty → Width
@@ -160,10 +172,15 @@ arg_int ts (Lit n) = None
 
 -- V9: if-eq and if-ne compare two ints or two references
 abbrev pub both_for : Test → Types → ℕ → ℕ → Demand
-both_for t ts a b = elim (is_equality t) [ true ↦ demand ((is_int (type_at ts a) && is_int (type_at ts b)) || (is_ref (type_at ts a) && is_ref (type_at ts b))) 9 | false ↦ first (int ts a) (int ts b) ]
+both_for t ts a b =
+    elim (is_equality t) [
+        true ↦ demand
+              ((is_int (type_at ts a) && is_int (type_at ts b)) || (is_ref (type_at ts a) && is_ref (type_at ts b)))
+              (rule.V 9)
+      | false ↦ first (int ts a) (int ts b) ]
 
 abbrev pub zero_for : Test → Types → ℕ → Demand
-zero_for t ts a = elim (is_equality t) [ true ↦ demand (is_int (type_at ts a) || is_ref (type_at ts a)) 9 | false ↦ int ts a ]
+zero_for t ts a = elim (is_equality t) [ true ↦ demand (is_int (type_at ts a) || is_ref (type_at ts a)) (rule.V 9) | false ↦ int ts a ]
 
 abbrev pub put_for : Types → ℕ → Suffix → Demand
 put_for ts k Suffix.Long = long ts k
@@ -172,7 +189,10 @@ put_for ts k s = int ts k
 
 -- the elements that a payload of so many bytes an element fills
 abbrev pub is_fill_type : ℕ → Ty → Bool
-is_fill_type width t = (nat_eq width 1 && (is_base base.Z t || is_base base.B t)) || (nat_eq width 2 && (is_base base.C t || is_base base.S t)) || (nat_eq width 4 && is_base base.I t) || (nat_eq width 8 && is_base base.J t)
+is_fill_type width t =
+    (nat_eq width 1 && (is_base base.Z t || is_base base.B t)) ||
+    (nat_eq width 2 && (is_base base.C t || is_base base.S t)) || (nat_eq width 4 && is_base base.I t) ||
+    (nat_eq width 8 && is_base base.J t)
 
 abbrev pub any_type : Ty → Bool
 any_type t = true
@@ -186,7 +206,7 @@ is_own_field m x = nat_eq x.info.class.0 m.info.class.0
 
 -- V14: before the superclass's constructor was called, a field of the method's own class may be put
 abbrev pub put_receiver : Image → Method → Types → ℕ → Field → RegType → Demand
-put_receiver image m ts k x ty.UninitThis = demand (is_own_field m x) 14
+put_receiver image m ts k x ty.UninitThis = demand (is_own_field m x) (rule.V 14)
 put_receiver image m ts k x t = ref_to image ts k (class_type image x.info.class.0)
 
 abbrev pub is_pending_int : PendingType → Bool
@@ -201,15 +221,19 @@ abbrev pub is_pending_long : PendingType → Bool
 is_pending_long pend.Long = true
 is_pending_long p = false
 
+-- a constructor returns after the superclass's constructor was called
+abbrev pub constructed : Method → RegState → Demand
+constructed m s = demand (not (is_constructor m && s.this_pending)) (rule.V 12)
+
 -- the first demand on a state that fails, none where all hold
 abbrev pub demands : Image → Method → Op → RegState → Demand
 demands image m (MoveInt a b) s = int s.regs b
 demands image m (MoveLong a b) s = long s.regs b
-demands image m (MoveObject a b) s = demand (is_movable (type_at s.regs b)) 6
-demands image m (ResultInt a) s = demand (is_pending_int s.result) 7
-demands image m (ResultLong a) s = demand (is_pending_long s.result) 7
-demands image m (ResultObject a) s = demand (is_pending_ref s.result) 7
-demands image m (TakeCaught a) s = demand (is_some s.caught) 8
+demands image m (MoveObject a b) s = demand (is_movable (type_at s.regs b)) (rule.V 6)
+demands image m (ResultInt a) s = demand (is_pending_int s.result) (rule.V 7)
+demands image m (ResultLong a) s = demand (is_pending_long s.result) (rule.V 7)
+demands image m (ResultObject a) s = demand (is_pending_ref s.result) (rule.V 7)
+demands image m (TakeCaught a) s = demand (is_some s.caught) (rule.V 8)
 demands image m (IntUnary o a b) s = int s.regs b
 demands image m (LongUnary o a b) s = long s.regs b
 demands image m (IntToLong a b) s = int s.regs b
@@ -238,8 +262,10 @@ demands image m (FieldGet x a b f) s = ref_to image s.regs b (class_type image f
 demands image m (FieldPut x a b f) s = first (put_receiver image m s.regs b f (type_at s.regs b)) (value_for image s.regs a f.def.ty)
 demands image m (StaticPut x a f) s = value_for image s.regs a f.def.ty
 demands image m (Invoke c ks g) s = invoke_for image m s.regs c ks g
-demands image m ReturnVoid s = first (demand (is_void m.def.proto.ret) 13) (demand (not s.this_pending) 12)
-demands image m (Return x a) s = first (demand (not (is_void m.def.proto.ret) && same_width x (form_of m.def.proto.ret)) 13) (first (demand (not s.this_pending) 12) (value_returned image s.regs a m.def.proto.ret))
+demands image m ReturnVoid s = first (demand (is_void m.def.proto.ret) (rule.V 13)) (constructed m s)
+demands image m (Return x a) s =
+    first (demand (not (is_void m.def.proto.ret) && same_width x (form_of m.def.proto.ret)) (rule.V 13))
+    (first (constructed m s) (value_returned image s.regs a m.def.proto.ret))
 demands image m op s = None
 
 -- whether control goes on to the next address
@@ -252,7 +278,7 @@ goes_on op = true
 
 -- V1, tested last: control goes on to an instruction
 abbrev pub onward_ok : Image → Method → At → Demand
-onward_ok image m x = elim (goes_on x.op) [ true ↦ demand (is_some (fetch image m.id x.next)) 1 | false ↦ None ]
+onward_ok image m x = elim (goes_on x.op) [ true ↦ demand (is_some (fetch image m.id x.next)) (rule.V 1) | false ↦ None ]
 
 -- the rule of the first demand that fails, none where the state is good for the instruction
 abbrev pub ok : Image → Method → At → RegState → Demand

@@ -1,5 +1,7 @@
 -- The families of instructions, and the family of each opcode (AOSP, "Dalvik bytecode format").
 use Rattle.std.specs.Prelude.{ℕ, ◌-◌, nat_lt, Option, Some, None, if◌then◌else◌}
+use Rattle.dv_defs.specs.declared.code.PoolKind.{PoolKind}
+use Rattle.dv_defs.specs.declared.code.PoolKind.TheVariants as pool
 use Rattle.dv_defs.specs.Parts.{Width, Test, Suffix, Call, Bin, Unary, width_at, test_at, suffix_at, call_at, binary_at, literal_at}
 
 -- `IntTwo` and `LongTwo` are the forms /2addr, `IntLiteral` those of /lit16 and /lit8
@@ -111,3 +113,23 @@ family_at op =
     if nat_lt op 0xd8 then Some (IntLiteral (literal_at (op - 0xd0))) else
     if nat_lt op 0xe3 then Some (IntLiteral (literal_at (op - 0xd8))) else
     None
+
+-- the pool of a body that an instruction's index is a place in, by the instruction's family
+abbrev pub pool_in : Option Family → Option PoolKind
+pool_in (Some ConstString) = Some pool.Strings
+pool_in (Some ConstClass) = Some pool.Types
+pool_in (Some CheckCast) = Some pool.Types
+pool_in (Some InstanceOf) = Some pool.Types
+pool_in (Some NewInstance) = Some pool.Types
+pool_in (Some NewArray) = Some pool.Types
+pool_in (Some FilledNewArray) = Some pool.Types
+pool_in (Some (FieldGet suffix)) = Some pool.Fields
+pool_in (Some (FieldPut suffix)) = Some pool.Fields
+pool_in (Some (StaticGet suffix)) = Some pool.Fields
+pool_in (Some (StaticPut suffix)) = Some pool.Fields
+pool_in (Some (Invoke call)) = Some pool.Methods
+pool_in family = None
+
+-- ... and by its opcode
+unfoldable pub pool_at : ℕ → Option PoolKind
+pool_at op = pool_in (family_at op)

@@ -24,7 +24,10 @@ pub record Catcher : Type 0 where
 -- the handlers of an entry, up to and with the first catch-all
 abbrev pub catchers : Body → List Handler → List Catcher
 catchers b [] = []
-catchers b (h ∷ hs) = elim h.kind [ None ↦ record { ty = None; to = h.at } ∷ [] | Some k ↦ record { ty = slice_get b.types k; to = h.at } ∷ catchers b hs ]
+catchers b (h ∷ hs) =
+    elim h.kind [
+        None ↦ record { ty = None; to = h.at } ∷ []
+      | Some k ↦ record { ty = slice_get b.types k; to = h.at } ∷ catchers b hs ]
 
 -- the try entry that covers an address
 abbrev pub handlers_of : Body → List Try → ℕ → List Catcher
@@ -80,17 +83,24 @@ pub record Leads (image : Image) (typing : Typing) (s : RegState) (to : ℕ) : T
 -- the state flows along each edge; an edge to an address that isn't an instruction's is left out
 pub record Flows (image : Image) (m : Method) (typing : Typing) (at : ℕ) (x : At) (s : RegState) : Type 0 where
   pub onward : All (λ to. (y : At) → fetch image m.id to ≡ Some y → Leads image typing (out image m at x.op s) to) (targets x)
-  pub handled : can_throw x.op ≡ true → All (λ h. (y : At) → fetch image m.id h.to ≡ Some y → Leads image typing (caught_state s h) h.to) (handlers_at image m.id (thrown_at at x))
+  pub handled :
+      can_throw x.op ≡ true →
+      All (λ h. (y : At) → fetch image m.id h.to ≡ Some y → Leads image typing (caught_state s h) h.to)
+          (handlers_at image m.id (thrown_at at x))
 
 -- address 0 has a state above the entry state, and each state flows on
 pub record IsFlowClosed (image : Image) (code : Code) (typing : Typing) : Type 0 where
   pub start : Leads image typing (entry_state image code.method code.body.registers) 0
-  pub each : (at : ℕ) (s : RegState) → typing at ≡ Some s → (x : At) × (fetch image code.method.id at ≡ Some x) × Flows image code.method typing at x s
+  pub each :
+      (at : ℕ) (s : RegState) → typing at ≡ Some s →
+      (x : At) × (fetch image code.method.id at ≡ Some x) × Flows image code.method typing at x s
 
 -- flow-closed, and each instruction that has a state is satisfied with it
 pub record IsTyping (image : Image) (code : Code) (typing : Typing) : Type 0 where
   pub closed : IsFlowClosed image code typing
-  pub good : (at : ℕ) (s : RegState) (x : At) → typing at ≡ Some s → fetch image code.method.id at ≡ Some x → ok image code.method x s ≡ None
+  pub good :
+      (at : ℕ) (s : RegState) (x : At) → typing at ≡ Some s → fetch image code.method.id at ≡ Some x →
+      ok image code.method x s ≡ None
 
 abbrev pub IsUnderAt : Image → Option RegState → Option RegState → Type 0
 IsUnderAt image None t = Unit {0}

@@ -1,6 +1,7 @@
 -- The formats of instructions, and the format of each opcode (AOSP, "Dalvik executable instruction formats" and
 -- "Dalvik bytecode format").
-use Rattle.std.specs.Prelude.{ℕ, Bool, ◌&&◌, ◌||◌, not, nat_le, nat_lt, Option, Some, None, is_none, if◌then◌else◌}
+use Rattle.std.specs.Prelude.{ℕ, Bool, true, false, ◌&&◌, ◌||◌, not, nat_lt, Option, Some, None, is_some, is_none, unwrap_or, if◌then◌else◌}
+use Rattle.std.specs.Int.{is_in_range}
 
 -- F35c is the format 35c: three units, five registers at most, a constant pool index
 pub data Format : Type 0 where
@@ -59,69 +60,69 @@ units_of F51l = 5
 -- the format of an opcode, none where the opcode is unused or a float's
 unfoldable pub format_at : ℕ → Option Format
 format_at op =
-    if nat_lt op 1 then Some F10x else
-    if nat_lt op 2 then Some F12x else
-    if nat_lt op 3 then Some F22x else
-    if nat_lt op 4 then Some F32x else
-    if nat_lt op 5 then Some F12x else
-    if nat_lt op 6 then Some F22x else
-    if nat_lt op 7 then Some F32x else
-    if nat_lt op 8 then Some F12x else
-    if nat_lt op 9 then Some F22x else
-    if nat_lt op 10 then Some F32x else
-    if nat_lt op 14 then Some F11x else
-    if nat_lt op 15 then Some F10x else
-    if nat_lt op 18 then Some F11x else
-    if nat_lt op 19 then Some F11n else
-    if nat_lt op 20 then Some F21s else
-    if nat_lt op 21 then Some F31i else
-    if nat_lt op 22 then Some F21h else
-    if nat_lt op 23 then Some F21s else
-    if nat_lt op 24 then Some F31i else
-    if nat_lt op 25 then Some F51l else
-    if nat_lt op 26 then Some F21h else
-    if nat_lt op 27 then Some F21c else
-    if nat_lt op 28 then Some F31c else
-    if nat_lt op 29 then Some F21c else
-    if nat_lt op 31 then Some F11x else
-    if nat_lt op 32 then Some F21c else
-    if nat_lt op 33 then Some F22c else
-    if nat_lt op 34 then Some F12x else
-    if nat_lt op 35 then Some F21c else
-    if nat_lt op 36 then Some F22c else
-    if nat_lt op 37 then Some F35c else
-    if nat_lt op 38 then Some F3rc else
-    if nat_lt op 39 then Some F31t else
-    if nat_lt op 40 then Some F11x else
-    if nat_lt op 41 then Some F10t else
-    if nat_lt op 42 then Some F20t else
-    if nat_lt op 43 then Some F30t else
-    if nat_lt op 45 then Some F31t else
-    if nat_lt op 49 then None else
-    if nat_lt op 50 then Some F23x else
-    if nat_lt op 56 then Some F22t else
-    if nat_lt op 62 then Some F21t else
-    if nat_lt op 68 then None else
-    if nat_lt op 82 then Some F23x else
-    if nat_lt op 96 then Some F22c else
-    if nat_lt op 110 then Some F21c else
-    if nat_lt op 115 then Some F35c else
-    if nat_lt op 116 then None else
-    if nat_lt op 121 then Some F3rc else
-    if nat_lt op 123 then None else
-    if nat_lt op 127 then Some F12x else
-    if nat_lt op 129 then None else
-    if nat_lt op 130 then Some F12x else
-    if nat_lt op 132 then None else
-    if nat_lt op 133 then Some F12x else
-    if nat_lt op 141 then None else
-    if nat_lt op 144 then Some F12x else
-    if nat_lt op 166 then Some F23x else
-    if nat_lt op 176 then None else
-    if nat_lt op 198 then Some F12x else
-    if nat_lt op 208 then None else
-    if nat_lt op 216 then Some F22s else
-    if nat_lt op 227 then Some F22b else
+    if nat_lt op 0x01 then Some F10x else
+    if nat_lt op 0x02 then Some F12x else
+    if nat_lt op 0x03 then Some F22x else
+    if nat_lt op 0x04 then Some F32x else
+    if nat_lt op 0x05 then Some F12x else
+    if nat_lt op 0x06 then Some F22x else
+    if nat_lt op 0x07 then Some F32x else
+    if nat_lt op 0x08 then Some F12x else
+    if nat_lt op 0x09 then Some F22x else
+    if nat_lt op 0x0a then Some F32x else
+    if nat_lt op 0x0e then Some F11x else
+    if nat_lt op 0x0f then Some F10x else
+    if nat_lt op 0x12 then Some F11x else
+    if nat_lt op 0x13 then Some F11n else
+    if nat_lt op 0x14 then Some F21s else
+    if nat_lt op 0x15 then Some F31i else
+    if nat_lt op 0x16 then Some F21h else
+    if nat_lt op 0x17 then Some F21s else
+    if nat_lt op 0x18 then Some F31i else
+    if nat_lt op 0x19 then Some F51l else
+    if nat_lt op 0x1a then Some F21h else
+    if nat_lt op 0x1b then Some F21c else
+    if nat_lt op 0x1c then Some F31c else
+    if nat_lt op 0x1d then Some F21c else
+    if nat_lt op 0x1f then Some F11x else
+    if nat_lt op 0x20 then Some F21c else
+    if nat_lt op 0x21 then Some F22c else
+    if nat_lt op 0x22 then Some F12x else
+    if nat_lt op 0x23 then Some F21c else
+    if nat_lt op 0x24 then Some F22c else
+    if nat_lt op 0x25 then Some F35c else
+    if nat_lt op 0x26 then Some F3rc else
+    if nat_lt op 0x27 then Some F31t else
+    if nat_lt op 0x28 then Some F11x else
+    if nat_lt op 0x29 then Some F10t else
+    if nat_lt op 0x2a then Some F20t else
+    if nat_lt op 0x2b then Some F30t else
+    if nat_lt op 0x2d then Some F31t else
+    if nat_lt op 0x31 then None else
+    if nat_lt op 0x32 then Some F23x else
+    if nat_lt op 0x38 then Some F22t else
+    if nat_lt op 0x3e then Some F21t else
+    if nat_lt op 0x44 then None else
+    if nat_lt op 0x52 then Some F23x else
+    if nat_lt op 0x60 then Some F22c else
+    if nat_lt op 0x6e then Some F21c else
+    if nat_lt op 0x73 then Some F35c else
+    if nat_lt op 0x74 then None else
+    if nat_lt op 0x79 then Some F3rc else
+    if nat_lt op 0x7b then None else
+    if nat_lt op 0x7f then Some F12x else
+    if nat_lt op 0x81 then None else
+    if nat_lt op 0x82 then Some F12x else
+    if nat_lt op 0x84 then None else
+    if nat_lt op 0x85 then Some F12x else
+    if nat_lt op 0x8d then None else
+    if nat_lt op 0x90 then Some F12x else
+    if nat_lt op 0xa6 then Some F23x else
+    if nat_lt op 0xb0 then None else
+    if nat_lt op 0xc6 then Some F12x else
+    if nat_lt op 0xd0 then None else
+    if nat_lt op 0xd8 then Some F22s else
+    if nat_lt op 0xe3 then Some F22b else
     None
 
 -- how many units an instruction with an opcode has, 0 where the opcode has no format
@@ -132,15 +133,39 @@ size_by (Some f) = units_of f
 abbrev pub size_at : ℕ → ℕ
 size_at op = size_by (format_at op)
 
-abbrev pub is_between : ℕ → ℕ → ℕ → Bool
-is_between low high n = nat_le low n && nat_le n high
-
 -- the opcodes of instructions over floats and doubles
 unfoldable pub is_float : ℕ → Bool
 is_float op =
-    is_between 0x2d 0x30 op || is_between 0x7f 0x80 op || is_between 0x82 0x83 op || is_between 0x85 0x8c op ||
-    is_between 0xa6 0xaf op || is_between 0xc6 0xcf op
+    is_in_range 0x2d 0x30 op || is_in_range 0x7f 0x80 op || is_in_range 0x82 0x83 op || is_in_range 0x85 0x8c op ||
+    is_in_range 0xa6 0xaf op || is_in_range 0xc6 0xcf op
 
 -- neither an opcode of the table of formats nor a float's
 unfoldable pub is_unused : ℕ → Bool
 is_unused op = is_none (format_at op) && not (is_float op)
+
+-- how many bits the offset of a branch, a switch or a fill-array-data has, by its format; none where the format has none
+abbrev pub offset_in : Option Format → Option ℕ
+offset_in (Some F10t) = Some 8
+offset_in (Some F20t) = Some 16
+offset_in (Some F21t) = Some 16
+offset_in (Some F22t) = Some 16
+offset_in (Some F30t) = Some 32
+offset_in (Some F31t) = Some 32
+offset_in format = None
+
+-- whether a format has an offset
+abbrev pub has_offset : Option Format → Bool
+has_offset format = is_some (offset_in format)
+
+-- how many bits the offset of an opcode has; 32 where it has none
+abbrev pub offset_bits : ℕ → ℕ
+offset_bits op = unwrap_or (offset_in (format_at op)) 32
+
+-- whether a format has an index into a pool
+abbrev pub has_index : Option Format → Bool
+has_index (Some F21c) = true
+has_index (Some F22c) = true
+has_index (Some F31c) = true
+has_index (Some F35c) = true
+has_index (Some F3rc) = true
+has_index format = false

@@ -33,12 +33,20 @@ abbrev pub joins_by_component : Ty → Ty → Bool
 joins_by_component a b = is_array a && is_array b && is_reference (component a) && is_reference (component b)
 
 abbrev pub common_flat : Image → Ty → Ty → Ty
-common_flat image a b = elim (is_array a || is_array b) [ true ↦ object_type | false ↦ common_classes image (class_of_base image a.base) (class_of_base image b.base) ]
+common_flat image a b =
+    elim (is_array a || is_array b) [
+        true ↦ object_type
+      | false ↦ common_classes image (class_of_base image a.base) (class_of_base image b.base) ]
 
 -- with so many dimensions left to go through
 abbrev pub common_at : Image → ℕ → Ty → Ty → Ty
 common_at image zero a b = common_flat image a b
-common_at image (suc n) a b = elim (ty_eq a b) [ true ↦ a | false ↦ elim (joins_by_component a b) [ true ↦ array_of (common_at image n (component a) (component b)) | false ↦ common_flat image a b ] ]
+common_at image (suc n) a b =
+    elim (ty_eq a b) [
+        true ↦ a
+      | false ↦ elim (joins_by_component a b) [
+              true ↦ array_of (common_at image n (component a) (component b))
+            | false ↦ common_flat image a b ] ]
 
 -- the nearest common superclass of two types; arrays join by their components where both are references
 unfoldable pub common_super : Image → Ty → Ty → Ty
@@ -79,4 +87,10 @@ join_caught image a b = None
 
 -- the least state above two with equally many registers
 abbrev pub join_state : Image → RegState → RegState → RegState
-join_state image s t = record { regs = joined image s.regs t.regs; result = join_result s.result t.result; caught = join_caught image s.caught t.caught; this_pending = s.this_pending || t.this_pending }
+join_state image s t =
+    record {
+        regs = joined image s.regs t.regs;
+        result = join_result s.result t.result;
+        caught = join_caught image s.caught t.caught;
+        this_pending = s.this_pending || t.this_pending;
+    }

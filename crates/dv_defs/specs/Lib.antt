@@ -26,3 +26,4 @@ pub mod Monitors
 pub mod Classes
 pub mod Payloads
 pub mod Layout
+pub mod Texts

@@ -1,10 +1,8 @@
 -- Arithmetic of 32 and 64 bits (JLS 15.15 to 15.22, AOSP "Dalvik bytecode format").
-use Rattle.std.specs.Prelude.{ℕ, suc, ◌+◌, ◌-◌, ◌*◌, ◌/◌, ◌%◌, ◌^◌, Bool, true, false, not, ℤ, pos, negsuc, ◌+ℤ◌, int_lt, int_le, int_rem, nat_lt}
+use Rattle.std.specs.Prelude.{ℕ, zero, suc, ◌+◌, ◌-◌, ◌*◌, ◌/◌, ◌%◌, ◌^◌, Bool, true, false, not, ℤ, pos, negsuc, ◌+ℤ◌, int_lt, int_le, int_rem, nat_lt, List, [], ◌∷◌, take, drop}
 use Rattle.std.specs.Ordering.{int_eq}
 use Rattle.std.specs.Int.{Width, w8, w16, w32, w64, cast_signed, cast_unsigned, int_wrapping_add, int_wrapping_sub, int_wrapping_mul, int_wrapping_div, int_wrapping_neg, int_bit_and, int_bit_or, int_bit_xor, int_bit_not, int_shl, int_shr}
-use Rattle.dv_defs.specs.Parts.{Bin}
-use Rattle.dv_defs.specs.Parts.{Unary}
-use Rattle.dv_defs.specs.Parts.{Test}
+use Rattle.dv_defs.specs.Parts.{Bin, Unary, Test}
 
 -- the two's complement of a number, and the number of such bits
 abbrev pub bits32 : ℤ → ℕ
@@ -96,3 +94,13 @@ address_of (negsuc n) = nowhere
 -- the address at a distance from another
 abbrev pub jump : ℕ → ℤ → ℕ
 jump at off = address_of (pos at +ℤ off)
+
+-- bytes as a number, the lowest first
+abbrev pub low_first : List ℕ → ℕ
+low_first [] = 0
+low_first (b ∷ bs) = b + 256 * low_first bs
+
+-- so many elements of so many bytes each, signed
+abbrev pub elements : ℕ → ℕ → List ℕ → List ℤ
+elements zero width bytes = []
+elements (suc n) width bytes = signed_at (8 * width) (low_first (take width bytes)) ∷ elements n width (drop width bytes)

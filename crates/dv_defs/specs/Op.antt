@@ -9,12 +9,14 @@ use Rattle.dv_defs.specs.declared.code.Insn.{Insn}
 use Rattle.dv_defs.specs.declared.code.Regs.{Regs}
 use Rattle.dv_defs.specs.declared.code.Payload.{Payload}
 use Rattle.dv_defs.specs.declared.code.Payload.TheVariants as payload
+use Rattle.dv_defs.specs.declared.faults.Rule.{Rule}
+use Rattle.dv_defs.specs.declared.faults.Rule.TheVariants as rule
 use Rattle.dv_defs.specs.declared.image.Image.{Image}
 use Rattle.dv_defs.specs.Parts.{Width, Test, Suffix, Call, Bin, Unary, is_division, is_shift}
 use Rattle.dv_defs.specs.Families.{Family, family_at}
 use Rattle.dv_defs.specs.Types.{class_in, is_array}
 use Rattle.dv_defs.specs.Pools.{Method, Field, method_at, field_at, class_named}
-use Rattle.dv_defs.specs.Numbers.{jump, signed_at}
+use Rattle.dv_defs.specs.Numbers.{jump, elements}
 use Rattle.dv_defs.specs.Tiling.{Tile, tiling, tiles_of, payload_at}
 
 -- the second operand of an int operation
@@ -103,13 +105,13 @@ count_up from (suc n) = from ∷ count_up (suc from) n
 abbrev pub named_registers : Regs → List ℕ
 named_registers r = elim r.range [ true ↦ count_up (slice_index r.first 0) r.count | false ↦ take r.count r.first ]
 
--- the operation, or the number of the static rule that says why there is none
+-- the operation, or the static rule that says why there is none
 abbrev pub Resolved : Type 0
-Resolved = Result Op ℕ
+Resolved = Result Op Rule
 
--- S12: an index into a pool is below the pool's length
+-- an index into a pool is below the pool's length
 abbrev pub on_pool : {A : Type 0} → Option A → (A → Resolved) → Resolved
-on_pool None go = Err 12
+on_pool None go = Err (rule.S 12)
 on_pool (Some x) go = go x
 
 abbrev pub field_in : Image → Option FieldId → Option Field
@@ -134,7 +136,10 @@ abbrev pub int_op : Bin → ℕ → ℕ → Arg → Op
 int_op o a b c = elim (is_division o) [ true ↦ IntDivide o a b c | false ↦ IntOp o a b c ]
 
 abbrev pub long_op : Bin → ℕ → ℕ → ℕ → Op
-long_op o a b c = elim (is_division o) [ true ↦ LongDivide o a b c | false ↦ elim (is_shift o) [ true ↦ LongShift o a b c | false ↦ LongOp o a b c ] ]
+long_op o a b c =
+    elim (is_division o) [
+        true ↦ LongDivide o a b c
+      | false ↦ elim (is_shift o) [ true ↦ LongShift o a b c | false ↦ LongOp o a b c ] ]
 
 -- a packed switch's keys follow one another; targets are relative to the switch
 abbrev pub cases_packed : ℕ → ℤ → List ℤ → List Case
@@ -145,36 +150,29 @@ abbrev pub cases_sparse : ℕ → List ℤ → List ℤ → List Case
 cases_sparse at (k ∷ ks) (t ∷ ts) = record { key = k; to = jump at t } ∷ cases_sparse at ks ts
 cases_sparse at ks ts = []
 
--- S6: a payload of the instruction's kind stands at its target
+-- a payload of the instruction's kind stands at its target
 abbrev pub packed_op : ℕ → ℕ → Option Payload → Resolved
 packed_op at a (Some (payload.Packed k ts)) = Ok (Switch a (cases_packed at k ts))
-packed_op at a p = Err 6
+packed_op at a p = Err (rule.S 6)
 
 abbrev pub sparse_op : ℕ → ℕ → Option Payload → Resolved
 sparse_op at a (Some (payload.Sparse ks ts)) = Ok (Switch a (cases_sparse at ks ts))
-sparse_op at a p = Err 6
-
--- bytes as a number, the lowest first
-abbrev pub low_first : List ℕ → ℕ
-low_first [] = 0
-low_first (b ∷ bs) = b + 256 * low_first bs
-
--- so many elements of so many bytes each, signed
-abbrev pub elements : ℕ → ℕ → List ℕ → List ℤ
-elements zero width bytes = []
-elements (suc n) width bytes = signed_at (8 * width) (low_first (take width bytes)) ∷ elements n width (drop width bytes)
+sparse_op at a p = Err (rule.S 6)
 
 abbrev pub fill_op : ℕ → Option Payload → Resolved
 fill_op a (Some (payload.Data width bytes)) = Ok (Fill a width (elements (length bytes / width) width bytes))
-fill_op a p = Err 6
+fill_op a p = Err (rule.S 6)
 
 -- the class that a type without dimensions names
 abbrev pub class_of_base : Image → Base → Option ℕ
 class_of_base image b = elim (class_in b) [ None ↦ None | Some name ↦ class_named image name ]
 
--- S16: new-instance names a class
+-- new-instance names a class
 abbrev pub new_op : Image → ℕ → Ty → Resolved
-new_op image a t = elim (is_array t) [ true ↦ Err 16 | false ↦ elim (class_of_base image t.base) [ None ↦ Err 16 | Some c ↦ Ok (New a c) ] ]
+new_op image a t =
+    elim (is_array t) [
+        true ↦ Err (rule.S 16)
+      | false ↦ elim (class_of_base image t.base) [ None ↦ Err (rule.S 16) | Some c ↦ Ok (New a c) ] ]
 
 -- by family; /2addr writes its first operand, the forms of a literal take that as their second
 abbrev pub resolve : Image → Code → ℕ → Insn → Family → Resolved
@@ -195,7 +193,8 @@ resolve image code at i Family.InstanceOf = on_pool (slice_get code.method.info.
 resolve image code at i Family.ArrayLength = Ok (ArrayLength (reg i 0) (reg i 1))
 resolve image code at i Family.NewInstance = on_pool (slice_get code.method.info.types i.index) (new_op image (reg i 0))
 resolve image code at i Family.NewArray = on_pool (slice_get code.method.info.types i.index) (λ t. Ok (NewArray (reg i 0) (reg i 1) t))
-resolve image code at i Family.FilledNewArray = on_pool (slice_get code.method.info.types i.index) (λ t. Ok (Filled (named_registers i.regs) t))
+resolve image code at i Family.FilledNewArray =
+    on_pool (slice_get code.method.info.types i.index) (λ t. Ok (Filled (named_registers i.regs) t))
 resolve image code at i Family.FillArrayData = fill_op (reg i 0) (payload_at code.tiles (jump at i.off))
 resolve image code at i Family.Throw = Ok (Throw (reg i 0))
 resolve image code at i Family.Goto = Ok (Goto (jump at i.off))
@@ -206,11 +205,17 @@ resolve image code at i (Family.If test) = Ok (IfBoth test (reg i 0) (reg i 1) (
 resolve image code at i (Family.IfZero test) = Ok (IfZero test (reg i 0) (jump at i.off))
 resolve image code at i (Family.ArrayGet s) = Ok (ArrayGet s (reg i 0) (reg i 1) (reg i 2))
 resolve image code at i (Family.ArrayPut s) = Ok (ArrayPut s (reg i 0) (reg i 1) (reg i 2))
-resolve image code at i (Family.FieldGet s) = on_pool (field_in image (slice_get code.method.info.fields i.index)) (λ x. Ok (FieldGet s (reg i 0) (reg i 1) x))
-resolve image code at i (Family.FieldPut s) = on_pool (field_in image (slice_get code.method.info.fields i.index)) (λ x. Ok (FieldPut s (reg i 0) (reg i 1) x))
-resolve image code at i (Family.StaticGet s) = on_pool (field_in image (slice_get code.method.info.fields i.index)) (λ x. Ok (StaticGet s (reg i 0) x))
-resolve image code at i (Family.StaticPut s) = on_pool (field_in image (slice_get code.method.info.fields i.index)) (λ x. Ok (StaticPut s (reg i 0) x))
-resolve image code at i (Family.Invoke c) = on_pool (method_in image (slice_get code.method.info.methods i.index)) (λ m. Ok (Invoke c (named_registers i.regs) m))
+resolve image code at i (Family.FieldGet s) =
+    on_pool (field_in image (slice_get code.method.info.fields i.index)) (λ x. Ok (FieldGet s (reg i 0) (reg i 1) x))
+resolve image code at i (Family.FieldPut s) =
+    on_pool (field_in image (slice_get code.method.info.fields i.index)) (λ x. Ok (FieldPut s (reg i 0) (reg i 1) x))
+resolve image code at i (Family.StaticGet s) =
+    on_pool (field_in image (slice_get code.method.info.fields i.index)) (λ x. Ok (StaticGet s (reg i 0) x))
+resolve image code at i (Family.StaticPut s) =
+    on_pool (field_in image (slice_get code.method.info.fields i.index)) (λ x. Ok (StaticPut s (reg i 0) x))
+resolve image code at i (Family.Invoke c) =
+    on_pool (method_in image (slice_get code.method.info.methods i.index))
+        (λ m. Ok (Invoke c (named_registers i.regs) m))
 resolve image code at i (Family.IntUnary o) = Ok (IntUnary o (reg i 0) (reg i 1))
 resolve image code at i (Family.LongUnary o) = Ok (LongUnary o (reg i 0) (reg i 1))
 resolve image code at i Family.IntToLong = Ok (IntToLong (reg i 0) (reg i 1))
@@ -222,7 +227,7 @@ resolve image code at i (Family.LongTwo o) = Ok (long_op o (reg i 0) (reg i 0) (
 resolve image code at i (Family.IntLiteral o) = Ok (int_op o (reg i 0) (reg i 1) (Lit i.lit))
 
 abbrev pub resolve_by : Image → Code → ℕ → Insn → Option Family → Resolved
-resolve_by image code at i None = Err 1
+resolve_by image code at i None = Err (rule.S 1)
 resolve_by image code at i (Some fm) = resolve image code at i fm
 
 -- the operation of an instruction at an address

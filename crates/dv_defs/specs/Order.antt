@@ -68,7 +68,12 @@ under_base image test n a b = elim (class_in b) [ None ↦ false | Some d ↦ un
 
 -- equal, or, the second's dimensions taken off both, under a class
 abbrev pub under_type : Image → ClassTest → Ty → Ty → Bool
-under_type image test a b = elim (ty_eq a b) [ true ↦ true | false ↦ elim (nat_le b.dims a.dims) [ true ↦ under_base image test (a.dims - b.dims) a.base b.base | false ↦ false ] ]
+under_type image test a b =
+    elim (ty_eq a b) [
+        true ↦ true
+      | false ↦ elim (nat_le b.dims a.dims) [
+              true ↦ under_base image test (a.dims - b.dims) a.base b.base
+            | false ↦ false ] ]
 
 -- subtype by superclasses alone, through array components
 unfoldable pub sub : Image → Ty → Ty → Bool

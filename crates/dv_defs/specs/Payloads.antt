@@ -1,5 +1,5 @@
 -- The one spelling of each payload as 16-bit units (AOSP, "Dalvik bytecode format").
-use Rattle.std.specs.Prelude.{ℕ, ◌≡◌, ◌/◌, ◌%◌, ◌^◌, ◌<◌, ℤ, Bool, true, false, ◌&&◌, nat_eq, List, [], ◌∷◌, ◌++◌, length, All, Option, Some, None, if◌then◌else◌}
+use Rattle.std.specs.Prelude.{ℕ, ◌/◌, ◌%◌, ℤ, Bool, true, false, ◌&&◌, nat_eq, List, [], ◌∷◌, ◌++◌, length, Option, Some, None, if◌then◌else◌}
 use Rattle.std.specs.List.{list_all}
 use Rattle.dv_defs.specs.declared.code.Payload.{Payload}
 use Rattle.dv_defs.specs.declared.code.Payload.TheVariants as payload
@@ -55,7 +55,3 @@ payload_spelling (payload.Data width bytes) = data_spelling width bytes
 abbrev pub payload_here : List ℕ → Option SizedPayload
 payload_here [] = None
 payload_here (u ∷ us) = elim (begins_payload u) [ true ↦ payload_of (u / 256) us | false ↦ None ]
-
--- numbers of 16 bits
-abbrev pub AreUnits : List ℕ → Type 0
-AreUnits us = All (λ u. u < 2 ^ 16) us

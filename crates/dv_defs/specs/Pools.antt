@@ -134,7 +134,10 @@ is_of_object image m = bytes_eq (name_at image m.info.class.0) object_name
 -- the first of these methods, numbered from an id on, that a test picks
 abbrev pub pick : Image → List MethodInfo → ℕ → (Method → Bool) → Option Method
 pick image [] id good = None
-pick image (i ∷ is) id good = elim (with_info image id (Some i)) [ None ↦ pick image is (suc id) good | Some m ↦ elim (good m) [ true ↦ Some m | false ↦ pick image is (suc id) good ] ]
+pick image (i ∷ is) id good =
+    elim (with_info image id (Some i)) [
+        None ↦ pick image is (suc id) good
+      | Some m ↦ elim (good m) [ true ↦ Some m | false ↦ pick image is (suc id) good ] ]
 
 abbrev pub declared_by : Image → ℕ → (Method → Bool) → Option Method
 declared_by image c good = pick image image.methods 0 (λ m. nat_eq m.info.class.0 c && good m)

@@ -1,6 +1,6 @@
 -- The one spelling of each instruction as 16-bit units (AOSP, "Dalvik executable instruction formats").
 -- In a comment the letters of a unit are nibbles, the highest first, and `op` is the opcode.
-use Rattle.std.specs.Prelude.{ℕ, ◌+◌, ◌-◌, ◌*◌, ◌/◌, ◌%◌, ◌^◌, suc, ℤ, pos, negsuc, Bool, true, false, ◌&&◌, ◌||◌, nat_eq, nat_lt, nat_le, List, [], ◌∷◌, ◌++◌, length, take, drop, slice_index, Option, Some, None, if◌then◌else◌}
+use Rattle.std.specs.Prelude.{ℕ, ◌+◌, ◌-◌, ◌*◌, ◌/◌, ◌%◌, ◌^◌, suc, ℤ, pos, negsuc, Bool, true, false, ◌&&◌, ◌||◌, nat_eq, nat_lt, nat_le, List, [], ◌∷◌, ◌++◌, length, take, drop, slice_index, Option, Some, None, IsTrue, if◌then◌else◌}
 use Rattle.std.specs.Bool.{beq}
 use Rattle.std.specs.List.{list_all}
 use Rattle.std.specs.Ordering.{int_eq}
@@ -29,6 +29,10 @@ fits bits n = nat_lt n (2 ^ bits)
 
 abbrev pub all_fit : ℕ → List ℕ → Bool
 all_fit bits ns = list_all (λ n. fits bits n) ns
+
+-- units are numbers of 16 bits
+abbrev pub AreUnits : List ℕ → Type 0
+AreUnits us = IsTrue (all_fit 16 us)
 
 abbrev pub all_zero : List ℕ → Bool
 all_zero ns = list_all (λ n. nat_eq n 0) ns

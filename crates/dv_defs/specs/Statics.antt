@@ -4,6 +4,8 @@ use Rattle.std.specs.List.{list_all}
 use Rattle.dv_defs.specs.declared.names.Base.TheVariants as base
 use Rattle.dv_defs.specs.declared.names.Ty.{Ty}
 use Rattle.dv_defs.specs.declared.code.Insn.{Insn}
+use Rattle.dv_defs.specs.declared.faults.Rule.{Rule}
+use Rattle.dv_defs.specs.declared.faults.Rule.TheVariants as rule
 use Rattle.dv_defs.specs.declared.image.Image.{Image}
 use Rattle.dv_defs.specs.Parts.{Width, Suffix, Call, Bin, is_shift}
 use Rattle.dv_defs.specs.Families.{Family, family_at}
@@ -14,10 +16,10 @@ use Rattle.dv_defs.specs.Order.{has_number}
 use Rattle.dv_defs.specs.Tiling.{Tile, tile_at, insn_in, begins_insn}
 use Rattle.dv_defs.specs.Op.{Op, Goto, IfBoth, IfZero, Switch, FieldGet, FieldPut, StaticGet, StaticPut, Invoke, New, NewArray, Filled, Cast, InstanceOf, Case, Code, Resolved, code_at, reg, named_registers, op_of}
 
--- a rule by its number, where a test fails
-abbrev pub unless : Bool → ℕ → List ℕ
-unless true rule = []
-unless false rule = rule ∷ []
+-- a rule, where its test fails
+abbrev pub unless : Bool → Rule → List Rule
+unless true broken = []
+unless false broken = broken ∷ []
 
 -- ---- registers: S11
 
@@ -90,7 +92,8 @@ is_of_suffix Suffix.Short t = is_base base.S t
 
 -- S13; an instance field that an interface declares has no place in an object
 abbrev pub fits_instance_field : Image → Suffix → Field → Bool
-fits_instance_field image s x = not (is_static_field x) && is_of_suffix s x.def.ty && not (is_interface image x.info.class.0)
+fits_instance_field image s x =
+    not (is_static_field x) && is_of_suffix s x.def.ty && not (is_interface image x.info.class.0)
 
 abbrev pub fits_static_field : Suffix → Field → Bool
 fits_static_field s x = is_static_field x && is_of_suffix s x.def.ty
@@ -100,7 +103,8 @@ is_proper_super image c d = has_number d (drop 1 (supers image c))
 
 -- an instance method of a class that is neither private nor a constructor
 abbrev pub is_virtual : Image → Method → Bool
-is_virtual image m = not (is_static m) && not (is_constructor m) && not (is_private m) && not (is_interface image m.info.class.0)
+is_virtual image m =
+    not (is_static m) && not (is_constructor m) && not (is_private m) && not (is_interface image m.info.class.0)
 
 -- S14, by the calling method
 abbrev pub fits_call : Image → Method → Call → Method → Bool
@@ -124,30 +128,33 @@ is_filled_type t = is_array t && (is_base base.I (component t) || is_reference (
 -- ---- an instruction's rules
 
 -- what an operation breaks, beside its registers
-abbrev pub op_rules : Image → Code → Op → List ℕ
-op_rules image code (Goto to) = unless (leads_to_insn code to) 4
-op_rules image code (IfBoth t a b to) = unless (leads_to_insn code to) 4
-op_rules image code (IfZero t a to) = unless (leads_to_insn code to) 4
-op_rules image code (Switch a cases) = unless (all_lead code cases) 8
-op_rules image code (FieldGet s a b x) = unless (fits_instance_field image s x) 13
-op_rules image code (FieldPut s a b x) = unless (fits_instance_field image s x) 13
-op_rules image code (StaticGet s a x) = unless (fits_static_field s x) 13
-op_rules image code (StaticPut s a x) = unless (fits_static_field s x) 13
-op_rules image code (Invoke c args m) = unless (fits_call image code.method c m) 14 ++ unless (nat_eq (length args) (arg_words m)) 15
-op_rules image code (New a c) = unless (not (is_interface image c) && not (is_abstract_class image c)) 16
-op_rules image code (NewArray a b t) = unless (is_array t) 16
-op_rules image code (Filled regs t) = unless (is_filled_type t) 16
-op_rules image code (Cast a t) = unless (is_reference t) 16
-op_rules image code (InstanceOf a b t) = unless (is_reference t) 16
+abbrev pub op_rules : Image → Code → Op → List Rule
+op_rules image code (Goto to) = unless (leads_to_insn code to) (rule.S 4)
+op_rules image code (IfBoth t a b to) = unless (leads_to_insn code to) (rule.S 4)
+op_rules image code (IfZero t a to) = unless (leads_to_insn code to) (rule.S 4)
+op_rules image code (Switch a cases) = unless (all_lead code cases) (rule.S 8)
+op_rules image code (FieldGet s a b x) = unless (fits_instance_field image s x) (rule.S 13)
+op_rules image code (FieldPut s a b x) = unless (fits_instance_field image s x) (rule.S 13)
+op_rules image code (StaticGet s a x) = unless (fits_static_field s x) (rule.S 13)
+op_rules image code (StaticPut s a x) = unless (fits_static_field s x) (rule.S 13)
+op_rules image code (Invoke c args m) =
+    unless (fits_call image code.method c m) (rule.S 14) ++ unless (nat_eq (length args) (arg_words m)) (rule.S 15)
+op_rules image code (New a c) = unless (not (is_interface image c) && not (is_abstract_class image c)) (rule.S 16)
+op_rules image code (NewArray a b t) = unless (is_array t) (rule.S 16)
+op_rules image code (Filled regs t) = unless (is_filled_type t) (rule.S 16)
+op_rules image code (Cast a t) = unless (is_reference t) (rule.S 16)
+op_rules image code (InstanceOf a b t) = unless (is_reference t) (rule.S 16)
 op_rules image code op = []
 
-abbrev pub resolved_rules : Image → Code → Resolved → List ℕ
-resolved_rules image code (Err rule) = rule ∷ []
+abbrev pub resolved_rules : Image → Code → Resolved → List Rule
+resolved_rules image code (Err broken) = broken ∷ []
 resolved_rules image code (Ok op) = op_rules image code op
 
 -- the static rules that an instruction at an address breaks
-abbrev pub insn_rules : Image → Code → ℕ → Insn → List ℕ
-insn_rules image code at i = unless (moves_on i) 5 ++ unless (registers_below code.body.registers i) 11 ++ resolved_rules image code (op_of image code at i)
+abbrev pub insn_rules : Image → Code → ℕ → Insn → List Rule
+insn_rules image code at i =
+    unless (moves_on i) (rule.S 5) ++ unless (registers_below code.body.registers i) (rule.S 11) ++
+    resolved_rules image code (op_of image code at i)
 
 -- ---- what stands at an address
 
@@ -157,7 +164,7 @@ pub record At : Type 0 where
   pub next : ℕ
 
 abbrev pub at_of : ℕ → Resolved → Option At
-at_of next (Err rule) = None
+at_of next (Err broken) = None
 at_of next (Ok op) = Some (record { op = op; next = next })
 
 abbrev pub sound_at : Image → Code → ℕ → ℕ → Insn → Option At

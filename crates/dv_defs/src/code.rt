@@ -14,6 +14,15 @@ pub struct Regs {
     pub range: bool,
 }
 
+/// A pool of a body, in which the index of an instruction is a place.
+#[derive(Clone, Copy, PartialEq, Eq, Debug)]
+pub enum PoolKind {
+    Strings,
+    Types,
+    Fields,
+    Methods,
+}
+
 /// An instruction with its operands. A part that its format lacks is 0.
 /// `off` counts units from the instruction's own address, `index` is a place in a pool of its body.
 #[derive(Clone, Copy, PartialEq, Eq, Debug)]

@@ -13,7 +13,7 @@ mod seq;
 mod typing;
 
 pub use class::{ClassDef, FieldDef, Init, MethodDef};
-pub use code::{Body, Handler, Insn, Payload, Regs, Try};
+pub use code::{Body, Handler, Insn, Payload, PoolKind, Regs, Try};
 pub use faults::{Fault, LineError, LineKind, LinkError, LinkKind, Rule, Which};
 pub use flags::Flag;
 pub use image::{ClassInfo, FieldInfo, Image, MethodInfo};

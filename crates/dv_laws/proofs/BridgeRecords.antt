@@ -18,15 +18,16 @@ use Rattle.dv_laws.proofs.BridgeLookUps.{method_id}
 use Rattle.dv_laws.proofs.BridgeStatics.{IsStatic, IsThere, IsCaught, is_static_body, has_room, fetched_rules, jumps_there, handlers_there}
 use Rattle.dv_laws.proofs.Demanding.{first_none, demanded}
 use Rattle.dv_laws.proofs.MethodCode.{code_is}
+use Rattle.dv_defs.specs.declared.faults.Rule.TheVariants as rule
 
 -- ---- edges
 
 -- what is asked of the next address
 abbrev onward : Image → ℕ → At → Bool → Demand
-onward image n x b = elim b [ true ↦ demand (is_some (fetch image n x.next)) 1 | false ↦ None ]
+onward image n x b = elim b [ true ↦ demand (is_some (fetch image n x.next)) (rule.V 1) | false ↦ None ]
 
 targets_by : (image : Image) (n : ℕ) (x : At) (b : Bool) → onward image n x b ≡ None → All (IsThere image n) (jumps x.op) → All (IsThere image n) (elim b [ true ↦ x.next ∷ jumps x.op | false ↦ jumps x.op ])
-targets_by image n x true e h = All-cons (IsThere image n) x.next (jumps x.op) (is_there (fetch image n x.next) (demanded (is_some (fetch image n x.next)) 1 e)) h
+targets_by image n x true e h = All-cons (IsThere image n) x.next (jumps x.op) (is_there (fetch image n x.next) (demanded (is_some (fetch image n x.next)) (rule.V 1) e)) h
 targets_by image n x false e h = h
 
 -- each edge leads to a state, where it leads to operations

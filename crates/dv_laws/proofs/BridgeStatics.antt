@@ -16,6 +16,8 @@ use Rattle.dv_defs.specs.Accepting.{Place, is_before, inserted, sorted, places, 
 use Rattle.dv_laws.proofs.Plain.{no}
 use Rattle.dv_laws.proofs.Demanding.{only_rule}
 use Rattle.dv_laws.proofs.MethodCode.{code_is}
+use Rattle.dv_defs.specs.declared.faults.Rule.{Rule}
+use Rattle.dv_defs.specs.declared.faults.Rule.TheVariants as rule
 
 -- ---- empty lists
 
@@ -43,11 +45,11 @@ none_sorted : (ps : List Place) → sorted ps ≡ [] → ps ≡ []
 none_sorted [] e = refl
 none_sorted (p ∷ ps) e = absurd (some_inserted p (sorted ps) e)
 
-no_rules : (at : ℕ) (rules : List ℕ) → places at rules ≡ [] → rules ≡ []
+no_rules : (at : ℕ) (rules : List Rule) → places at rules ≡ [] → rules ≡ []
 no_rules at [] e = refl
 no_rules at (r ∷ rs) e = absurd (cc)
 
-no_place : (b : Bool) (at r : ℕ) → place_unless b at r ≡ [] → b ≡ true
+no_place : (b : Bool) (at : ℕ) (r : Rule) → place_unless b at r ≡ [] → b ≡ true
 no_place b at r e = only_rule b r (no_rules at (unless b r) e)
 
 -- ---- a body
@@ -60,7 +62,7 @@ pub record IsStatic (image : Image) (code : Code) : Type 0 where
 
 -- without units there is no instruction
 abbrev unless_empty : Bool → List Place → List Place
-unless_empty b ps = elim b [ true ↦ record { at = 0; rule = 1 } ∷ [] | false ↦ ps ]
+unless_empty b ps = elim b [ true ↦ record { at = 0; broken = rule.S 1 } ∷ [] | false ↦ ps ]
 
 static_from : (image : Image) (code : Code) (r : Result (List Tile) ℕ) → code.tiles ≡ tiles_of r → places_by image code r ≡ [] → IsStatic image code
 static_from image code (Err at) t e = absurd (cc)
@@ -83,7 +85,7 @@ is_static_body image n code h e = static_from image code (tiling code.body.units
 
 -- the arguments have registers
 pub has_room : (image : Image) (code : Code) → IsStatic image code → arg_words code.method ≤ code.body.registers
-has_room image code s = leb-true (arg_words code.method) code.body.registers (no_place (nat_le (arg_words code.method) code.body.registers) 0 11 (none_right (place_unless (begins_insn code.tiles 0) 0 3) (place_unless (nat_le (arg_words code.method) code.body.registers) 0 11) s.first))
+has_room image code s = leb-true (arg_words code.method) code.body.registers (no_place (nat_le (arg_words code.method) code.body.registers) 0 (rule.S 11) (none_right (place_unless (begins_insn code.tiles 0) 0 (rule.S 3)) (place_unless (nat_le (arg_words code.method) code.body.registers) 0 (rule.S 11)) s.first))
 
 -- ---- an instruction
 
@@ -103,9 +105,9 @@ resolved_is : (image : Image) (code : Code) (at next : ℕ) (i : Insn) (r : Reso
 resolved_is image code at next i (Err rule) e u = absurd (cc)
 resolved_is image code at next i (Ok op) e u = (record { op = op; next = next }, refl)
 
-sound_is : (image : Image) (code : Code) (at next : ℕ) (i : Insn) (rules : List ℕ) → insn_rules image code at i ≡ rules → rules ≡ [] → (x : At) × (elim rules [ [] ↦ at_of next (op_of image code at i) | r ∷ rs ↦ None ] ≡ Some x)
+sound_is : (image : Image) (code : Code) (at next : ℕ) (i : Insn) (rules : List Rule) → insn_rules image code at i ≡ rules → rules ≡ [] → (x : At) × (elim rules [ [] ↦ at_of next (op_of image code at i) | r ∷ rs ↦ None ] ≡ Some x)
 sound_is image code at next i (r ∷ rs) e u = absurd (cc)
-sound_is image code at next i [] e u = resolved_is image code at next i (op_of image code at i) refl (none_right (unless (moves_on i) 5 ++ unless (registers_below code.body.registers i) 11) (resolved_rules image code (op_of image code at i)) e)
+sound_is image code at next i [] e u = resolved_is image code at next i (op_of image code at i) refl (none_right (unless (moves_on i) (rule.S 5) ++ unless (registers_below code.body.registers i) (rule.S 11)) (resolved_rules image code (op_of image code at i)) e)
 
 item_is : (image : Image) (code : Code) (at next : ℕ) (item : Item) → item_places image code at item ≡ [] → is_some (insn_in item) ≡ true → (x : At) × (elim (insn_in item) [ None ↦ None | Some i ↦ sound_at image code at next i ] ≡ Some x)
 item_is image code at next (IsInsn i) e h = sound_is image code at next i (insn_rules image code at i) refl (no_rules at (insn_rules image code at i) e)
@@ -130,8 +132,8 @@ op_fine image code next (Ok op) x e h =
     let same : made ≡ x = cc in
     subst (λ (y : At). op_rules image code y.op ≡ []) same e
 
-insn_fine : (image : Image) (code : Code) (at next : ℕ) (i : Insn) (x : At) (rules : List ℕ) → insn_rules image code at i ≡ rules → elim rules [ [] ↦ at_of next (op_of image code at i) | r ∷ rs ↦ None ] ≡ Some x → op_rules image code x.op ≡ []
-insn_fine image code at next i x [] e h = op_fine image code next (op_of image code at i) x (none_right (unless (moves_on i) 5 ++ unless (registers_below code.body.registers i) 11) (resolved_rules image code (op_of image code at i)) e) h
+insn_fine : (image : Image) (code : Code) (at next : ℕ) (i : Insn) (x : At) (rules : List Rule) → insn_rules image code at i ≡ rules → elim rules [ [] ↦ at_of next (op_of image code at i) | r ∷ rs ↦ None ] ≡ Some x → op_rules image code x.op ≡ []
+insn_fine image code at next i x [] e h = op_fine image code next (op_of image code at i) x (none_right (unless (moves_on i) (rule.S 5) ++ unless (registers_below code.body.registers i) (rule.S 11)) (resolved_rules image code (op_of image code at i)) e) h
 insn_fine image code at next i x (r ∷ rs) e h = absurd (cc)
 
 tile_fine : (image : Image) (code : Code) (at next : ℕ) (item : Item) (x : At) → elim (insn_in item) [ None ↦ None | Some i ↦ sound_at image code at next i ] ≡ Some x → op_rules image code x.op ≡ []
@@ -155,14 +157,14 @@ cases_there image n code (c ∷ cs) h e =
     let p = and_parts (leads_to_insn code c.to) (all_lead code cs) e in
     All-cons (IsThere image n) c.to (map (λ c. c.to) cs) (h c.to p.0) (cases_there image n code cs h p.1)
 
-one_there : (image : Image) (n : ℕ) (code : Code) (to : ℕ) → ((to : ℕ) → begins_insn code.tiles to ≡ true → IsThere image n to) → unless (leads_to_insn code to) 4 ≡ [] → All (IsThere image n) (to ∷ [])
-one_there image n code to h e = All-cons (IsThere image n) to [] (h to (only_rule (leads_to_insn code to) 4 e)) (All-nil (IsThere image n))
+one_there : (image : Image) (n : ℕ) (code : Code) (to : ℕ) → ((to : ℕ) → begins_insn code.tiles to ≡ true → IsThere image n to) → unless (leads_to_insn code to) (rule.S 4) ≡ [] → All (IsThere image n) (to ∷ [])
+one_there image n code to h e = All-cons (IsThere image n) to [] (h to (only_rule (leads_to_insn code to) (rule.S 4) e)) (All-nil (IsThere image n))
 
 jumps_by : (image : Image) (n : ℕ) (code : Code) (op : Op) → ((to : ℕ) → begins_insn code.tiles to ≡ true → IsThere image n to) → op_rules image code op ≡ [] → All (IsThere image n) (jumps op)
 jumps_by image n code (Goto to) h e = one_there image n code to h e
 jumps_by image n code (IfBoth t a b to) h e = one_there image n code to h e
 jumps_by image n code (IfZero t a to) h e = one_there image n code to h e
-jumps_by image n code (Switch a cases) h e = cases_there image n code cases h (only_rule (all_lead code cases) 8 e)
+jumps_by image n code (Switch a cases) h e = cases_there image n code cases h (only_rule (all_lead code cases) (rule.S 8) e)
 jumps_by image n code op h e = All-nil (IsThere image n)
 
 -- branches and switches lead to operations
@@ -196,12 +198,12 @@ covered image n at code t ts false here later = later
 tries_there : (image : Image) (n at before : ℕ) (code : Code) (ts : List Try) → ((to : ℕ) → begins_insn code.tiles to ≡ true → IsThere image n to) → try_places image code before ts ≡ [] → All (IsCaught image n) (handlers_of code.body ts at)
 tries_there image n at before code [] there e = All-nil (IsCaught image n)
 tries_there image n at before code (t ∷ ts) there e =
-    let ranges : List Place = place_unless (begins_insn code.tiles t.start && nat_lt t.start t.end && (begins_item code.tiles t.end || nat_eq t.end (length code.body.units)) && nat_le before t.start) t.start 17 in
+    let ranges : List Place = place_unless (begins_insn code.tiles t.start && nat_lt t.start t.end && (begins_item code.tiles t.end || nat_eq t.end (length code.body.units)) && nat_le before t.start) t.start (rule.S 17) in
     let good : Bool = nat_lt 0 (length t.handlers) && handlers_good image code t.handlers in
-    let own = none_left (ranges ++ place_unless good t.start 18) (try_places image code t.end ts) e in
-    let both = and_parts (nat_lt 0 (length t.handlers)) (handlers_good image code t.handlers) (no_place good t.start 18 (none_right ranges (place_unless good t.start 18) own)) in
+    let own = none_left (ranges ++ place_unless good t.start (rule.S 18)) (try_places image code t.end ts) e in
+    let both = and_parts (nat_lt 0 (length t.handlers)) (handlers_good image code t.handlers) (no_place good t.start (rule.S 18) (none_right ranges (place_unless good t.start (rule.S 18)) own)) in
     covered image n at code t ts (nat_le t.start at && nat_lt at t.end) (catchers_there image n code t.handlers there both.1)
-    (tries_there image n at t.end code ts there (none_right (ranges ++ place_unless good t.start 18) (try_places image code t.end ts) e))
+    (tries_there image n at t.end code ts there (none_right (ranges ++ place_unless good t.start (rule.S 18)) (try_places image code t.end ts) e))
 
 -- handlers are operations
 pub handlers_there : (image : Image) (n at : ℕ) (code : Code) → code_at image n ≡ Some code → IsStatic image code → All (IsCaught image n) (handlers_at image n at)

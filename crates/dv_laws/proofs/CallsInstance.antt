@@ -43,6 +43,7 @@ use Rattle.dv_laws.proofs.LocalStands.{Stands, read_then}
 use Rattle.dv_laws.proofs.CallsWords.{static_types, instance_types, begins_plain, words_cons, both_hold, read_number, number_is}
 use Rattle.dv_laws.proofs.CallsDispatched.{IsLanding, landing, named_otherwise, of_instance, same_lands}
 use Rattle.dv_laws.proofs.CallsInvoked.{receiver_is, no_receiver_of, WaitsAt, quiet_at, throws, NativesDo, landed_fine, called_fine}
+use Rattle.dv_defs.specs.declared.faults.Rule.TheVariants as rule
 
 lands_lacks : (k : Method) (n : Named) → Lands k ≡ Lacks n → ⊥
 lands_lacks k n e = cc
@@ -76,7 +77,7 @@ module _ (image : Image) (T : Typings) (m : Machine) (t : ℕ) (thread : Thread)
 
   -- the invoke is one that its method allows
   allowed : fits_call image own c g ≡ true
-  allowed = subst (λ z. fits_call image z c g ≡ true) h.of_own (first_rule (fits_call image h.code.method c g) 14 _ (subst (λ z. op_rules image h.code z ≡ []) e h.rules))
+  allowed = subst (λ z. fits_call image z c g ≡ true) h.of_own (first_rule (fits_call image h.code.method c g) (rule.S 14) _ (subst (λ z. op_rules image h.code z ≡ []) e h.rules))
 
   pub callee_number : (n : ℕ) × (method_at image n ≡ Some g)
   callee_number = invoke_named image T h.may.accepted heap x.op c ks g (is_named image f.method.0 f.at x h.has_at) e

@@ -17,6 +17,8 @@ use Rattle.dv_defs.specs.Tiling.{Tile, tile_at, insn_in}
 use Rattle.dv_defs.specs.Op.{Op, Invoke, FieldGet, FieldPut, StaticGet, StaticPut, IntDivide, IntOp, LongDivide, LongShift, LongOp, New, Arg, Code, code_at, Resolved, on_pool, field_in, method_in, move_op, result_op, packed_op, sparse_op, fill_op, class_of_base, new_op, resolve, resolve_by, op_of}
 use Rattle.dv_defs.specs.Statics.{At, at_of, sound_at, at_tile, fetch_in, fetch, insn_rules}
 use Rattle.dv_laws.proofs.OrderWalks.{named_inside}
+use Rattle.dv_defs.specs.declared.faults.Rule.{Rule}
+use Rattle.dv_defs.specs.declared.faults.Rule.TheVariants as rule
 
 -- the method, the field or the class is the image's
 abbrev pub IsNamed : Image → Op → Type 0
@@ -99,7 +101,7 @@ module _ (image : Image) where
   of_new : (a : ℕ) (t : Ty) → IsResolved image (new_op image a t)
   of_new a t = by_test (is_array t) (class_of_base image t.base) refl
     where
-      by_test : (b : Bool) (o : Option ℕ) → class_of_base image t.base ≡ o → IsResolved image (elim b as (λ w. Resolved) [ true ↦ Err 16 | false ↦ elim o as (λ w. Resolved) [ None ↦ Err 16 | Some c ↦ Ok (New a c) ] ])
+      by_test : (b : Bool) (o : Option ℕ) → class_of_base image t.base ≡ o → IsResolved image (elim b as (λ w. Resolved) [ true ↦ Err (rule.S 16) | false ↦ elim o as (λ w. Resolved) [ None ↦ Err (rule.S 16) | Some c ↦ Ok (New a c) ] ])
       by_test true o e = tt
       by_test false None e = tt
       by_test false (Some c) e = base_there t.base c e
@@ -137,7 +139,7 @@ module _ (image : Image) where
   placed_at next (Err rule) h = tt
   placed_at next (Ok op) h = h
 
-  unless_broken : (rules : List ℕ) (next : ℕ) (r : Resolved) → IsResolved image r → IsNamedAt image (elim rules as (λ w. Option At) [ [] ↦ at_of next r | x ∷ xs ↦ None ])
+  unless_broken : (rules : List Rule) (next : ℕ) (r : Resolved) → IsResolved image r → IsNamedAt image (elim rules as (λ w. Option At) [ [] ↦ at_of next r | x ∷ xs ↦ None ])
   unless_broken [] next r h = placed_at next r h
   unless_broken (x ∷ xs) next r h = tt
 

@@ -44,6 +44,7 @@ use Rattle.dv_laws.proofs.LocalStands.{Stands, read_then}
 use Rattle.dv_laws.proofs.ReadersPlain.{reads_int, holds_more}
 use Rattle.dv_laws.proofs.ReadersArrays.{reads_array, tests_go_down}
 use Rattle.dv_laws.proofs.Demanding.{first_none, demanded}
+use Rattle.dv_defs.specs.declared.faults.Rule.TheVariants as rule
 
 -- a type of one word is written as it is
 pub short_write : (ts : Types) (a : ℕ) (c : Ty) → is_long c ≡ false → write_for ts a c ≡ write_type ts a (single_type c)
@@ -143,7 +144,7 @@ module _ (image : Image) (T : Typings) (m : Machine) (t : ℕ) (thread : Thread)
   get_by Suffix.Object a b c e d o k i l = object_element_left o i.2.type k i.2.has_kind l a (ap goes_on e) (component i.0) i.2.takes (i.2.under i.0 i.1) (out_of image T m t thread own f rest x s h code rules apart (ArrayGet Suffix.Object a b c) e ∙ ap (λ (z : RegType). going s (write_type s.regs a (object_element z))) i.1 ∙ ap (λ (z : RegType). going s (write_type s.regs a z)) known)
     where
       tested : (is_array i.0 && is_reference (component i.0)) ≡ true
-      tested = subst (λ (z : RegType). is_array_of is_reference z ≡ true) i.1 (demanded (is_array_of is_reference (type_at s.regs b)) 10 d)
+      tested = subst (λ (z : RegType). is_array_of is_reference z ≡ true) i.1 (demanded (is_array_of is_reference (type_at s.regs b)) (rule.V 10) d)
 
       known : object_element (ty.Class i.0) ≡ ty.Class (component i.0)
       known = ap (λ (q : Bool). elim q as (λ z. RegType) [ true ↦ ty.Class (component i.0) | false ↦ ty.Conflict ]) tested

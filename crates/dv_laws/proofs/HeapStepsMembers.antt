@@ -38,6 +38,7 @@ use Rattle.dv_laws.proofs.ReadersPlain.{reads_reference_to, holds_more}
 use Rattle.dv_laws.proofs.ReadersWords.{reads_value}
 use Rattle.dv_laws.proofs.CallsResolved.{IsNamed, is_named}
 use Rattle.dv_laws.proofs.Demanding.{first_none, demanded, only_rule}
+use Rattle.dv_defs.specs.declared.faults.Rule.TheVariants as rule
 
 module _ (image : Image) (T : Typings) (m : Machine) (t : ℕ) (thread : Thread) (own : Method) (f : Frame) (rest : List Level) (x : At) (s : RegState) (h : Stands image T m t thread own f rest x s) (code : Code) (rules : op_rules image code x.op ≡ []) (apart : (c : Call) (ks : List ℕ) (g : Method) → x.op ≡ Invoke c ks g → ⊥) where
   named : (op : Op) → x.op ≡ op → IsNamed image op
@@ -53,7 +54,7 @@ module _ (image : Image) (T : Typings) (m : Machine) (t : ℕ) (thread : Thread)
       n = named (FieldGet w a b y) e
 
       fits : fits_instance_field image w y ≡ true
-      fits = only_rule (fits_instance_field image w y) 13 (sym (ap (op_rules image code) e) ∙ rules)
+      fits = only_rule (fits_instance_field image w y) (rule.S 13) (sym (ap (op_rules image code) e) ∙ rules)
 
       go : (o : ℕ) → Fits image m.shared.heap o (class_type image y.info.class.0) → DidFine image T m t thread x (on_object (get_field (here image m t own f rest x.next) a y) o)
       go zero i = throwing (FieldGet w a b y) e refl
@@ -64,7 +65,7 @@ module _ (image : Image) (T : Typings) (m : Machine) (t : ℕ) (thread : Thread)
     its_field = named (FieldPut w a b y) e
 
     its_fits : fits_instance_field image w y ≡ true
-    its_fits = only_rule (fits_instance_field image w y) 13 (sym (ap (op_rules image code) e) ∙ rules)
+    its_fits = only_rule (fits_instance_field image w y) (rule.S 13) (sym (ap (op_rules image code) e) ∙ rules)
 
     Receiver : ℕ → Type 0
     Receiver o = IsReceiver image T m t thread own f rest x s h code rules apart w y its_field.0 its_field.1 its_fits o
@@ -84,12 +85,12 @@ module _ (image : Image) (T : Typings) (m : Machine) (t : ℕ) (thread : Thread)
         (kind.Object (record { 0 = c.class }), c.has_kind, class_field image T h.may.accepted its_field.0 y its_field.1 (placed image T m t thread own f rest x s h code rules apart w y its_field.0 its_field.1 its_fits) (concrete image T m t thread own f rest x s h code rules apart w y its_field.0 its_field.1 its_fits) c.class (h.may.accepted.order.sub_instance _ _ under))
 
     not_ref : type_at s.regs b ≡ ty.Conflict → ref_to image s.regs b (class_type image y.info.class.0) ≡ None → ⊥
-    not_ref q d = no (subst (λ (u : RegType). ◌≡◌ {A = Bool} (is_ref u) true) q (demanded _ _ (first_none (ref s.regs b) (demand (is_assignable image (type_at s.regs b) (class_type image y.info.class.0)) 5) d).0))
+    not_ref q d = no (subst (λ (u : RegType). ◌≡◌ {A = Bool} (is_ref u) true) q (demanded _ _ (first_none (ref s.regs b) (demand (is_assignable image (type_at s.regs b) (class_type image y.info.class.0)) (rule.V 5)) d).0))
 
     receives : (z : Value) (u : RegType) → reg_at f.regs b ≡ z → type_at s.regs b ≡ u → Conforms image m.shared.heap (own_of image (this_above image rest) own) z u → receiver_demand image own s.regs b y u ≡ None → HoldsOf Receiver (put_receiver (here image m t own f rest x.next) y z)
     receives (v.UninitThis o) ty.UninitThis p q c d = go (is_own_field own y) refl d
       where
-        go : (k : Bool) → is_own_field own y ≡ k → demand k 14 ≡ None → HoldsOf Receiver (elim k as (λ w. Reads ℕ) [ true ↦ Ok o | false ↦ Err why.Uninitialised ])
+        go : (k : Bool) → is_own_field own y ≡ k → demand k (rule.V 14) ≡ None → HoldsOf Receiver (elim k as (λ w. Reads ℕ) [ true ↦ Ok o | false ↦ Err why.Uninitialised ])
         go true i d = own_receiver o i c
         go false i d = absurd (cc)
     receives (v.UninitThis o) ty.Conflict p q c d = absurd (not_ref q d)
@@ -116,7 +117,7 @@ module _ (image : Image) (T : Typings) (m : Machine) (t : ℕ) (thread : Thread)
   pub static_get : (w : Suffix) (a : ℕ) (y : Field) → x.op ≡ StaticGet w a y → DidFine image T m t thread x (mem (here image m t own f rest x.next) (StaticGet w a y))
   static_get w a y e =
       let n = named (StaticGet w a y) e in
-      let fits = only_rule (fits_static_field w y) 13 (sym (ap (op_rules image code) e) ∙ rules) in
+      let fits = only_rule (fits_static_field w y) (rule.S 13) (sym (ap (op_rules image code) e) ∙ rules) in
       let static = (and_parts (is_static_field y) (is_of_suffix w y.def.ty) fits).0 in
       words_left image T m t thread own f rest x s h code rules apart a y.def.ty (λ j. reg_at (slice_index_or m.shared.heap.statics y.id []) j) (ap goes_on e) (out_of image T m t thread own f rest x s h code rules apart (StaticGet w a y) e) (h.may.typed.heap.statics y.id y (own_id n.0 y n.1) static).each
 

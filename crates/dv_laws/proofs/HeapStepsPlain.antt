@@ -56,6 +56,7 @@ use Rattle.dv_laws.proofs.ReadersPlain.{reads_int, reads_argument, reads_long, r
 use Rattle.dv_laws.proofs.ReadersArrays.{reads_array, tests_go_down}
 use Rattle.dv_laws.proofs.Demanding.{first_none, only_rule}
 use Rattle.dv_laws.proofs.OrderInterfaces.{instance_reference}
+use Rattle.dv_defs.specs.declared.faults.Rule.TheVariants as rule
 
 -- the object of an uninitialised value is there
 held_there : (image : Image) (heap : Heap) (own : Own) (y : Value) (u : RegType) (o : ℕ) → IsUninit u → Conforms image heap own y u → object_of y ≡ Some o → (k : Kind) × (kind_of heap o ≡ Some k)
@@ -140,7 +141,7 @@ module _ (image : Image) (T : Typings) (m : Machine) (t : ℕ) (thread : Thread)
   new_array_fine a b u e = read_then image T m t thread x Anything _ _ (reads_int image m.shared.heap (own_of image (this_above image rest) own) f.regs s.regs b h.conform.good.regs (demand_of (NewArray a b u) e)) (λ n p. sized n)
     where
       array : is_array u ≡ true
-      array = only_rule (is_array u) 16 (sym (ap (op_rules image code) e) ∙ rules)
+      array = only_rule (is_array u) (rule.S 16) (sym (ap (op_rules image code) e) ∙ rules)
 
       sized : (n : ℤ) → DidFine image T m t thread x (new_array (here image m t own f rest x.next) a u n)
       sized (negsuc n) = throws (NewArray a b u) e refl
@@ -191,7 +192,7 @@ module _ (image : Image) (T : Typings) (m : Machine) (t : ℕ) (thread : Thread)
   cast_fine a u e = go (reg_at f.regs a) refl (reads_reference image m.shared.heap (own_of image (this_above image rest) own) f.regs s.regs a h.conform.good.regs (demand_of (Cast a u) e))
     where
       reference : is_reference u ≡ true
-      reference = only_rule (is_reference u) 16 (sym (ap (op_rules image code) e) ∙ rules)
+      reference = only_rule (is_reference u) (rule.S 16) (sym (ap (op_rules image code) e) ∙ rules)
 
       instance_fits : (o : ℕ) → IsThere image m.shared.heap (suc o) → instance image (type_of image m.shared.heap (suc o)) u ≡ true → Fits image m.shared.heap (suc o) u
       instance_fits o i q =

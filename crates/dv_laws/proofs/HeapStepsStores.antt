@@ -40,6 +40,7 @@ use Rattle.dv_laws.proofs.LocalStands.{Stands}
 use Rattle.dv_laws.proofs.ReadersPlain.{next_holds, reads_int, reads_two, reads_reference}
 use Rattle.dv_laws.proofs.Demanding.{demanded}
 use Rattle.dv_laws.proofs.OrderInterfaces.{instance_reference}
+use Rattle.dv_defs.specs.declared.faults.Rule.TheVariants as rule
 
 -- ---- what a store takes
 
@@ -74,11 +75,11 @@ IsPut image heap w ys = (y : Value) × (ys ≡ y ∷ []) × Conforms image heap 
 
 module _ (image : Image) (T : Typings) (m : Machine) (t : ℕ) (thread : Thread) (own : Method) (f : Frame) (rest : List Level) (x : At) (s : RegState) (h : Stands image T m t thread own f rest x s) (code : Code) (rules : op_rules image code x.op ≡ []) (apart : (c : Call) (ks : List ℕ) (g : Method) → x.op ≡ Invoke c ks g → ⊥) where
   narrow_put : (a : ℕ) → int s.regs a ≡ None → HoldsOf (λ ys. (y : Value) × (ys ≡ y ∷ []) × Conforms image m.shared.heap nobody y ty.Int) (on_next (read_int (reg_at f.regs a)) (λ n. Ok (reg_at f.regs a ∷ [])))
-  narrow_put a d = next_holds Anything (λ ys. (y : Value) × (ys ≡ y ∷ []) × Conforms image m.shared.heap nobody y ty.Int) _ _ (reads_int image m.shared.heap (own_of image (this_above image rest) own) f.regs s.regs a h.conform.good.regs d) (λ n q. (reg_at f.regs a, refl, int_value image m.shared.heap (own_of image (this_above image rest) own) (reg_at f.regs a) (type_at s.regs a) (demanded (is_int (type_at s.regs a)) 2 d) (h.conform.good.regs a)))
+  narrow_put a d = next_holds Anything (λ ys. (y : Value) × (ys ≡ y ∷ []) × Conforms image m.shared.heap nobody y ty.Int) _ _ (reads_int image m.shared.heap (own_of image (this_above image rest) own) f.regs s.regs a h.conform.good.regs d) (λ n q. (reg_at f.regs a, refl, int_value image m.shared.heap (own_of image (this_above image rest) own) (reg_at f.regs a) (type_at s.regs a) (demanded (is_int (type_at s.regs a)) (rule.V 2) d) (h.conform.good.regs a)))
 
   pub put_holds : (w : Suffix) (a : ℕ) → put_for s.regs a w ≡ None → HoldsOf (IsPut image m.shared.heap w) (read_put (here image m t own f rest x.next) a w)
   put_holds Suffix.Long a d = next_holds Anything (IsPut image m.shared.heap Suffix.Long) _ _ (reads_two image m.shared.heap (own_of image (this_above image rest) own) f.regs s.regs a h.conform.good.regs d) (λ p q. (p.lo, p.hi, refl))
-  put_holds Suffix.Object a d = next_holds (IsThere image m.shared.heap) (IsPut image m.shared.heap Suffix.Object) _ _ (reads_reference image m.shared.heap (own_of image (this_above image rest) own) f.regs s.regs a h.conform.good.regs d) (λ o q. (reg_at f.regs a, refl, ref_value image m.shared.heap (own_of image (this_above image rest) own) (reg_at f.regs a) (type_at s.regs a) (demanded (is_ref (type_at s.regs a)) 4 d) (h.conform.good.regs a)))
+  put_holds Suffix.Object a d = next_holds (IsThere image m.shared.heap) (IsPut image m.shared.heap Suffix.Object) _ _ (reads_reference image m.shared.heap (own_of image (this_above image rest) own) f.regs s.regs a h.conform.good.regs d) (λ o q. (reg_at f.regs a, refl, ref_value image m.shared.heap (own_of image (this_above image rest) own) (reg_at f.regs a) (type_at s.regs a) (demanded (is_ref (type_at s.regs a)) (rule.V 4) d) (h.conform.good.regs a)))
   put_holds Suffix.Int a d = narrow_put a d
   put_holds Suffix.Boolean a d = narrow_put a d
   put_holds Suffix.Byte a d = narrow_put a d

@@ -36,6 +36,7 @@ use Rattle.dv_laws.proofs.Demanding.{first_none, demanded}
 use Rattle.dv_laws.proofs.RegistersWritten.{Source, old, plain, write_source, write_long_good}
 use Rattle.dv_laws.proofs.ReadersPlain.{next_holds, kept_int_holds, object_holds, there_of, reads_int, reads_argument, reads_two, reads_long, tests_both, tests_zero, moves_int, moves_reference}
 use Rattle.dv_laws.proofs.ReadersWords.{int_word, class_word}
+use Rattle.dv_defs.specs.declared.faults.Rule.TheVariants as rule
 
 abbrev pub IsIn : ℕ → List ℕ → Type 0
 IsIn x [] = ⊥
@@ -128,7 +129,7 @@ module _ (image : Image) (heap : Heap) (own : Own) where
 
     move_int : (a b : ℕ) → Sound (MoveInt a b)
     move_int a b d =
-        let i = demanded (is_int (type_at s.regs b)) 2 d in
+        let i = demanded (is_int (type_at s.regs b)) (rule.V 2) d in
         next_holds (λ y. y ≡ reg_at f.regs b) _ (kept_int (reg_at f.regs b)) _ (kept_int_holds image heap own _ _ i (c.good.regs b))
         (λ y e. put_went a y _ _ (inl refl) (subst (RefFine image heap) (sym e) (ref_at image heap f.regs b r.0)) (old b e (copied_int_is _ i)))
 
@@ -137,13 +138,13 @@ module _ (image : Image) (heap : Heap) (own : Own) where
 
     move_object : (a b : ℕ) → Sound (MoveObject a b)
     move_object a b d =
-        let i = demanded (is_movable (type_at s.regs b)) 6 d in
+        let i = demanded (is_movable (type_at s.regs b)) (rule.V 6) d in
         next_holds (λ y. y ≡ reg_at f.regs b) _ (kept_object (reg_at f.regs b)) _ (object_holds image heap own _ _ i (c.good.regs b))
         (λ y e. put_went a y _ _ (inl refl) (subst (RefFine image heap) (sym e) (ref_at image heap f.regs b r.0)) (old b e (copied_object_is _ i)))
 
     moved_int : (a : ℕ) → Sound (ResultInt a)
     moved_int a d =
-        let e = result_int_is s.result (demanded (is_pending_int s.result) 7 d) in
+        let e = result_int_is s.result (demanded (is_pending_int s.result) (rule.V 7) d) in
         next_holds (λ y. Conforms image heap own y ty.Int) _ (pending_int f.result) _ (moves_int image heap own f.result s.result c.result e)
         (λ y k. subst (λ t. IsWent (put f next a y) (next ∷ []) (going s (write_type s.regs a t))) (sym e) (put_went a y ty.Int _ (inl refl) (int_word image heap y own ty.Int refl k).fine (plain (λ u. u) k)))
 
@@ -154,13 +155,13 @@ module _ (image : Image) (heap : Heap) (own : Own) where
 
     moved_object : (a : ℕ) → Sound (ResultObject a)
     moved_object a d =
-        let q = result_ref_is s.result (demanded (is_pending_ref s.result) 7 d) in
+        let q = result_ref_is s.result (demanded (is_pending_ref s.result) (rule.V 7) d) in
         next_holds (λ y. Conforms image heap own y (ty.Class q.0)) _ (pending_object f.result) _ (moves_reference image heap own f.result s.result q.0 c.result q.1)
         (λ y k. subst (λ t. IsWent (put f next a y) (next ∷ []) (going s (write_type s.regs a t))) (sym q.1) (put_went a y (ty.Class q.0) _ (inl refl) (class_word image heap y q.0 own k).fine (plain (λ u. u) k)))
 
     take_caught : (a : ℕ) → Sound (TakeCaught a)
     take_caught a d =
-        next_holds (λ p. IsCaught p (caught_type s.caught)) _ (caught_of f.caught) _ (caught_holds f.caught s.caught (demanded (is_some s.caught) 8 d) c.caught)
+        next_holds (λ p. IsCaught p (caught_type s.caught)) _ (caught_of f.caught) _ (caught_holds f.caught s.caught (demanded (is_some s.caught) (rule.V 8) d) c.caught)
         (λ p k. put_went a (v.Ref p) (caught_type s.caught) _ (inl refl) k.there (plain k.plain k.conforms))
 
     const : (a : ℕ) (n : ℤ) → IsWent (put f next a (const_value n)) (next ∷ []) (going s (write_type s.regs a (const_type n)))
@@ -222,7 +223,7 @@ module _ (image : Image) (heap : Heap) (own : Own) where
     sound (MoveLong a b) e d = move_long a b d
     sound (MoveObject a b) e d = move_object a b d
     sound (ResultInt a) e d = moved_int a d
-    sound (ResultLong a) e d = moved_long a f.result s.result (demanded (is_pending_long s.result) 7 d) c.result
+    sound (ResultLong a) e d = moved_long a f.result s.result (demanded (is_pending_long s.result) (rule.V 7) d) c.result
     sound (ResultObject a) e d = moved_object a d
     sound (TakeCaught a) e d = take_caught a d
     sound (Const a n) e d = const a n

@@ -22,7 +22,8 @@ use Rattle.dv_defs.specs.Transfer.{pending_of}
 use Rattle.dv_defs.specs.Heap.{Heap, newest, alloc_string, cells_at, length_of}
 use Rattle.dv_machine.specs.State.{Thread, Machine, Left, Did, Throws, NoOutput, where_room, where_true, truth, with_output, Here}
 use Rattle.dv_machine.specs.Mem.{on_object}
-use Rattle.dv_machine.specs.Texts.{text_of, utf8}
+use Rattle.dv_machine.specs.Texts.{text_of}
+use Rattle.dv_defs.specs.Texts.{utf8}
 use Rattle.dv_machine.specs.Calls.{signature, string_type}
 use Rattle.dv_machine.specs.Threads.{own_object, goes, stays, thread_with, is_living, join_on}
 use Rattle.dv_machine.specs.Natives.{arg, number_of, object_number, gives, gives_object, new_text, char_at, units_of, some_chars, printed, native_step}

@@ -21,10 +21,10 @@ use Rattle.dv_laws.proofs.Demanding.{first_none, demanded}
 
 -- an argument of two words, and one of one
 abbrev wide_args : Image → Types → List Ty → ℕ → List ℕ → Demand
-wide_args image ts ps k ks = elim ks [ [] ↦ Some (rule.S 15) | j ∷ js ↦ first (long ts k) (first (demand (nat_eq j (suc k)) 3) (args_for image ts ps js)) ]
+wide_args image ts ps k ks = elim ks [ [] ↦ Some (rule.S 15) | j ∷ js ↦ first (long ts k) (first (demand (nat_eq j (suc k)) (rule.V 3)) (args_for image ts ps js)) ]
 
 abbrev args_by : Image → Types → Ty → List Ty → ℕ → List ℕ → Bool → Demand
-args_by image ts p ps k ks w = elim w [ true ↦ elim ks [ [] ↦ Some (rule.S 15) | j ∷ js ↦ first (long ts k) (first (demand (nat_eq j (suc k)) 3) (args_for image ts ps js)) ] | false ↦ first (single_for image ts k p) (args_for image ts ps ks) ]
+args_by image ts p ps k ks w = elim w [ true ↦ elim ks [ [] ↦ Some (rule.S 15) | j ∷ js ↦ first (long ts k) (first (demand (nat_eq j (suc k)) (rule.V 3)) (args_for image ts ps js)) ] | false ↦ first (single_for image ts k p) (args_for image ts ps ks) ]
 
 module _ (image : Image) (h : IsHierarchy image) (ss ts : Types) (b : AreBelow image ss ts) where
   -- ---- arguments
@@ -32,8 +32,8 @@ module _ (image : Image) (h : IsHierarchy image) (ss ts : Types) (b : AreBelow i
   wide_met : (ps : List Ty) (k : ℕ) (ks : List ℕ) → ((js : List ℕ) → Along (args_for image ts ps js) (args_for image ss ps js)) → Along (wide_args image ts ps k ks) (wide_args image ss ps k ks)
   wide_met ps k [] more = same_along (Some (rule.S 15))
   wide_met ps k (j ∷ js) more =
-      first_along (long ts k) (first (demand (nat_eq j (suc k)) 3) (args_for image ts ps js)) (long ss k) (first (demand (nat_eq j (suc k)) 3) (args_for image ss ps js)) (long_met image h ss ts b k)
-      (first_along (demand (nat_eq j (suc k)) 3) (args_for image ts ps js) (demand (nat_eq j (suc k)) 3) (args_for image ss ps js) (same_along (demand (nat_eq j (suc k)) 3)) (more js))
+      first_along (long ts k) (first (demand (nat_eq j (suc k)) (rule.V 3)) (args_for image ts ps js)) (long ss k) (first (demand (nat_eq j (suc k)) (rule.V 3)) (args_for image ss ps js)) (long_met image h ss ts b k)
+      (first_along (demand (nat_eq j (suc k)) (rule.V 3)) (args_for image ts ps js) (demand (nat_eq j (suc k)) (rule.V 3)) (args_for image ss ps js) (same_along (demand (nat_eq j (suc k)) (rule.V 3))) (more js))
 
   arg_met : (p : Ty) (ps : List Ty) (k : ℕ) (ks : List ℕ) (w : Bool) → ((js : List ℕ) → Along (args_for image ts ps js) (args_for image ss ps js)) → Along (args_by image ts p ps k ks w) (args_by image ss p ps k ks w)
   arg_met p ps k ks true more = wide_met ps k ks more
@@ -103,8 +103,8 @@ module _ (image : Image) (h : IsHierarchy image) (ss ts : Types) (b : AreBelow i
   pub both_met : (t : Test) (j k : ℕ) → Along (both_for t ts j k) (both_for t ss j k)
   both_met t j k = by_test (is_equality t)
     where
-      by_test : (w : Bool) → Along (elim w [ true ↦ demand ((is_int (type_at ts j) && is_int (type_at ts k)) || (is_ref (type_at ts j) && is_ref (type_at ts k))) 9 | false ↦ first (int ts j) (int ts k) ]) (elim w [ true ↦ demand ((is_int (type_at ss j) && is_int (type_at ss k)) || (is_ref (type_at ss j) && is_ref (type_at ss k))) 9 | false ↦ first (int ss j) (int ss k) ])
-      by_test true = demand_along ((is_int (type_at ts j) && is_int (type_at ts k)) || (is_ref (type_at ts j) && is_ref (type_at ts k))) ((is_int (type_at ss j) && is_int (type_at ss k)) || (is_ref (type_at ss j) && is_ref (type_at ss k))) 9 (alike j k)
+      by_test : (w : Bool) → Along (elim w [ true ↦ demand ((is_int (type_at ts j) && is_int (type_at ts k)) || (is_ref (type_at ts j) && is_ref (type_at ts k))) (rule.V 9) | false ↦ first (int ts j) (int ts k) ]) (elim w [ true ↦ demand ((is_int (type_at ss j) && is_int (type_at ss k)) || (is_ref (type_at ss j) && is_ref (type_at ss k))) (rule.V 9) | false ↦ first (int ss j) (int ss k) ])
+      by_test true = demand_along ((is_int (type_at ts j) && is_int (type_at ts k)) || (is_ref (type_at ts j) && is_ref (type_at ts k))) ((is_int (type_at ss j) && is_int (type_at ss k)) || (is_ref (type_at ss j) && is_ref (type_at ss k))) (rule.V 9) (alike j k)
       by_test false = two_ints j k
 
   int_or_ref : (k : ℕ) → (is_int (type_at ts k) || is_ref (type_at ts k)) ≡ true → (is_int (type_at ss k) || is_ref (type_at ss k)) ≡ true
@@ -116,8 +116,8 @@ module _ (image : Image) (h : IsHierarchy image) (ss ts : Types) (b : AreBelow i
   pub zero_met : (t : Test) (k : ℕ) → Along (zero_for t ts k) (zero_for t ss k)
   zero_met t k = by_test (is_equality t)
     where
-      by_test : (w : Bool) → Along (elim w [ true ↦ demand (is_int (type_at ts k) || is_ref (type_at ts k)) 9 | false ↦ int ts k ]) (elim w [ true ↦ demand (is_int (type_at ss k) || is_ref (type_at ss k)) 9 | false ↦ int ss k ])
-      by_test true = demand_along (is_int (type_at ts k) || is_ref (type_at ts k)) (is_int (type_at ss k) || is_ref (type_at ss k)) 9 (int_or_ref k)
+      by_test : (w : Bool) → Along (elim w [ true ↦ demand (is_int (type_at ts k) || is_ref (type_at ts k)) (rule.V 9) | false ↦ int ts k ]) (elim w [ true ↦ demand (is_int (type_at ss k) || is_ref (type_at ss k)) (rule.V 9) | false ↦ int ss k ])
+      by_test true = demand_along (is_int (type_at ts k) || is_ref (type_at ts k)) (is_int (type_at ss k) || is_ref (type_at ss k)) (rule.V 9) (int_or_ref k)
       by_test false = int_met image h ss ts b k
 
   pub put_met : (k : ℕ) (x : Suffix) → Along (put_for ts k x) (put_for ss k x)
@@ -136,14 +136,14 @@ module _ (image : Image) (h : IsHierarchy image) (ss ts : Types) (b : AreBelow i
   -- ---- the receiver of a put
 
   is_ref_of : (k : ℕ) (f : Ty) → ref_to image ts k f ≡ None → is_ref (type_at ts k) ≡ true
-  is_ref_of k f g = demanded (is_ref (type_at ts k)) 4 (first_none (ref ts k) (demand (is_assignable image (type_at ts k) f) 5) g).0
+  is_ref_of k f g = demanded (is_ref (type_at ts k)) (rule.V 4) (first_none (ref ts k) (demand (is_assignable image (type_at ts k) f) (rule.V 5)) g).0
 
   put_of_ref : (m : Method) (k : ℕ) (x : Field) (u : RegType) → is_ref u ≡ true → ref_to image ss k (class_type image x.info.class.0) ≡ None → put_receiver image m ss k x u ≡ None
   put_of_ref m k x ty.UninitThis r e = no r
   put_of_ref m k x u r e = e
 
   put_by : (m : Method) (k : ℕ) (x : Field) (w u : RegType) → under image u w ≡ true → type_at ss k ≡ u → Along (put_receiver image m ts k x w) (put_receiver image m ss k x u)
-  put_by m k x ty.UninitThis ty.UninitThis e q = same_along (demand (is_own_field m x) 14)
+  put_by m k x ty.UninitThis ty.UninitThis e q = same_along (demand (is_own_field m x) (rule.V 14))
   put_by m k x ty.UninitThis u e q = no e
   put_by m k x w u e q = λ g. (let r : is_ref (type_at ts k) ≡ true = is_ref_of k (class_type image x.info.class.0) g in
       put_of_ref m k x u (subst (λ (z : RegType). is_ref z ≡ true) q (is_ref_met image h ss ts b k r)) (ref_to_met image h ss ts b k (class_type image x.info.class.0) g))

@@ -25,6 +25,8 @@ use Rattle.dv_laws.proofs.OrderRegs.{AreBelow}
 use Rattle.dv_laws.proofs.Demanding.{first_none, met, test_met, demanded}
 use Rattle.dv_laws.proofs.OrderInterfaces.{assignable_is, assignable_open, assignable_closed}
 use Rattle.dv_laws.proofs.OrderChanged.{sub_component, sub_reference}
+use Rattle.dv_defs.specs.declared.faults.Rule.{Rule}
+use Rattle.dv_defs.specs.declared.faults.Rule.TheVariants as rule
 
 -- where the first demand is met, the second is
 abbrev pub Along : Demand → Demand → Type 0
@@ -33,7 +35,7 @@ Along d e = d ≡ None → e ≡ None
 pub first_along : (d e c f : Demand) → Along d c → Along e f → Along (first d e) (first c f)
 first_along d e c f a b h = let p = first_none d e h in met c f (a p.0) (b p.1)
 
-pub demand_along : (a b : Bool) (n : ℕ) → (a ≡ true → b ≡ true) → Along (demand a n) (demand b n)
+pub demand_along : (a b : Bool) (n : Rule) → (a ≡ true → b ≡ true) → Along (demand a n) (demand b n)
 demand_along a b n h e = test_met b n (h (demanded a n e))
 
 pub same_along : (d : Demand) → Along d d
@@ -183,10 +185,10 @@ module _ (image : Image) (h : IsHierarchy image) where
 
   module _ (ss ts : Types) (b : AreBelow image ss ts) where
     pub int_met : (k : ℕ) → Along (int ts k) (int ss k)
-    int_met k = demand_along (is_int (type_at ts k)) (is_int (type_at ss k)) 2 (int_along image (type_at ts k) (type_at ss k) (b.each k))
+    int_met k = demand_along (is_int (type_at ts k)) (is_int (type_at ss k)) (rule.V 2) (int_along image (type_at ts k) (type_at ss k) (b.each k))
 
     pub long_met : (k : ℕ) → Along (long ts k) (long ss k)
-    long_met k = demand_along (is_lo (type_at ts k) && is_hi (type_at ts (suc k))) (is_lo (type_at ss k) && is_hi (type_at ss (suc k))) 3
+    long_met k = demand_along (is_lo (type_at ts k) && is_hi (type_at ts (suc k))) (is_lo (type_at ss k) && is_hi (type_at ss (suc k))) (rule.V 3)
         (λ e. let p = and_parts (is_lo (type_at ts k)) (is_hi (type_at ts (suc k))) e in
         and_from (is_lo (type_at ss k)) (is_hi (type_at ss (suc k))) (lo_along image (type_at ts k) (type_at ss k) (b.each k) p.0) (hi_along image (type_at ts (suc k)) (type_at ss (suc k)) (b.each (suc k)) p.1))
 
@@ -194,17 +196,17 @@ module _ (image : Image) (h : IsHierarchy image) where
     is_ref_met k = ref_along image (type_at ts k) (type_at ss k) (b.each k)
 
     pub ref_met : (k : ℕ) → Along (ref ts k) (ref ss k)
-    ref_met k = demand_along (is_ref (type_at ts k)) (is_ref (type_at ss k)) 4 (is_ref_met k)
+    ref_met k = demand_along (is_ref (type_at ts k)) (is_ref (type_at ss k)) (rule.V 4) (is_ref_met k)
 
     pub ref_to_met : (k : ℕ) (f : Ty) → Along (ref_to image ts k f) (ref_to image ss k f)
     ref_to_met k f e =
-        let p = first_none (ref ts k) (demand (is_assignable image (type_at ts k) f) 5) e in
-        let r : is_ref (type_at ts k) ≡ true = demanded (is_ref (type_at ts k)) 4 p.0 in
-        met (ref ss k) (demand (is_assignable image (type_at ss k) f) 5) (ref_met k p.0)
-        (test_met (is_assignable image (type_at ss k) f) 5 (assignable_along f (type_at ts k) (type_at ss k) (b.each k) r (demanded (is_assignable image (type_at ts k) f) 5 p.1)))
+        let p = first_none (ref ts k) (demand (is_assignable image (type_at ts k) f) (rule.V 5)) e in
+        let r : is_ref (type_at ts k) ≡ true = demanded (is_ref (type_at ts k)) (rule.V 4) p.0 in
+        met (ref ss k) (demand (is_assignable image (type_at ss k) f) (rule.V 5)) (ref_met k p.0)
+        (test_met (is_assignable image (type_at ss k) f) (rule.V 5) (assignable_along f (type_at ts k) (type_at ss k) (b.each k) r (demanded (is_assignable image (type_at ts k) f) (rule.V 5) p.1)))
 
     pub array_met : (k : ℕ) (good : Ty → Bool) → GoesDown good → Along (array ts k good) (array ss k good)
-    array_met k good down = demand_along (is_array_of good (type_at ts k)) (is_array_of good (type_at ss k)) 10 (array_along good down (type_at ts k) (type_at ss k) (b.each k))
+    array_met k good down = demand_along (is_array_of good (type_at ts k)) (is_array_of good (type_at ss k)) (rule.V 10) (array_along good down (type_at ts k) (type_at ss k) (b.each k))
 
     pub single_met : (k : ℕ) (f : Ty) → Along (single_for image ts k f) (single_for image ss k f)
     single_met k f = by_sort (is_reference f)

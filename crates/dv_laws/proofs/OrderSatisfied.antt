@@ -1,20 +1,26 @@
 -- An instruction that is satisfied with a state is satisfied with each below it.
-use Rattle.std.proofs.Common.{ℕ, ◌&&◌, not, None, refl}
+use Rattle.std.proofs.Common.{◌≡◌, Bool, true, false, ℕ, ◌&&◌, not, None, refl}
 use Rattle.std.specs.Prelude.{is_some}
 use Rattle.dv_defs.specs.declared.image.Image.{Image}
 use Rattle.dv_defs.specs.declared.typing.RegState.{RegState}
 use Rattle.dv_defs.specs.Names.{throwable_name}
 use Rattle.dv_defs.specs.Types.{of_class, component}
-use Rattle.dv_defs.specs.Pools.{Method, class_type}
+use Rattle.dv_defs.specs.Pools.{Method, class_type, is_constructor}
 use Rattle.dv_defs.specs.Statics.{is_of_suffix}
 use Rattle.dv_defs.specs.Op.{Op, MoveInt, MoveLong, MoveObject, ResultInt, ResultLong, ResultObject, TakeCaught, IntUnary, LongUnary, IntToLong, LongToInt, IntOp, LongOp, LongShift, CompareLong, IfBoth, IfZero, Switch, IntDivide, LongDivide, Enter, Exit, Cast, InstanceOf, ArrayLength, NewArray, Filled, Fill, Throw, ArrayGet, ArrayPut, FieldGet, FieldPut, StaticPut, Invoke, ReturnVoid, Return}
 use Rattle.dv_defs.specs.RegTypes.{type_at, IsBelow}
-use Rattle.dv_defs.specs.Demands.{first, demand, is_movable, int, long, array, value_for, form_of, same_width, is_void, value_returned, put_for, is_fill_type, any_type, put_receiver, is_pending_int, is_pending_ref, is_pending_long, demands, onward_ok}
+use Rattle.dv_defs.specs.Demands.{constructed, first, demand, is_movable, int, long, array, value_for, form_of, same_width, is_void, value_returned, put_for, is_fill_type, any_type, put_receiver, is_pending_int, is_pending_ref, is_pending_long, demands, onward_ok}
 use Rattle.dv_machine.specs.Accepted.{IsHierarchy}
 use Rattle.dv_machine.specs.Laws.{DemandIsAntitone}
 use Rattle.dv_laws.proofs.OrderRegs.{AreBelow}
 use Rattle.dv_laws.proofs.OrderDemands.{Along, first_along, demand_along, same_along, movable_along, pending_along, caught_along, not_along, any_down, fill_down, suffix_down, int_met, long_met, ref_met, ref_to_met, array_met, value_met}
 use Rattle.dv_laws.proofs.OrderAntitone.{invoke_met, two_longs, int_and, both_met, zero_met, put_met, each_met, returned_met, put_receiver_met}
+use Rattle.dv_defs.specs.declared.faults.Rule.TheVariants as rule
+
+-- the same where both stand under one more condition
+unless_along : (c p q : Bool) → (p ≡ true → q ≡ true) → not (c && q) ≡ true → not (c && p) ≡ true
+unless_along true p q h = not_along p q h
+unless_along false p q h = λ e. e
 
 module _ (image : Image) (h : IsHierarchy image) (s t : RegState) (b : IsBelow image s t) where
   regs : AreBelow image s.regs t.regs
@@ -26,17 +32,19 @@ module _ (image : Image) (h : IsHierarchy image) (s t : RegState) (b : IsBelow i
   longs : (k : ℕ) → Along (long t.regs k) (long s.regs k)
   longs = long_met image h s.regs t.regs regs
 
-  initialised : Along (demand (not t.this_pending) 12) (demand (not s.this_pending) 12)
-  initialised = demand_along (not t.this_pending) (not s.this_pending) 12 (not_along s.this_pending t.this_pending b.this_pending)
+  initialised : (m : Method) → Along (constructed m t) (constructed m s)
+  initialised m =
+      demand_along (not (is_constructor m && t.this_pending)) (not (is_constructor m && s.this_pending)) (rule.V 12)
+      (unless_along (is_constructor m) s.this_pending t.this_pending b.this_pending)
 
   met_by : (m : Method) (op : Op) → Along (demands image m op t) (demands image m op s)
   met_by m (MoveInt a c) = ints c
   met_by m (MoveLong a c) = longs c
-  met_by m (MoveObject a c) = demand_along (is_movable (type_at t.regs c)) (is_movable (type_at s.regs c)) 6 (movable_along image (type_at t.regs c) (type_at s.regs c) (b.each c))
-  met_by m (ResultInt a) = demand_along (is_pending_int t.result) (is_pending_int s.result) 7 (pending_along is_pending_int refl t.result s.result b.result)
-  met_by m (ResultLong a) = demand_along (is_pending_long t.result) (is_pending_long s.result) 7 (pending_along is_pending_long refl t.result s.result b.result)
-  met_by m (ResultObject a) = demand_along (is_pending_ref t.result) (is_pending_ref s.result) 7 (pending_along is_pending_ref refl t.result s.result b.result)
-  met_by m (TakeCaught a) = demand_along (is_some t.caught) (is_some s.caught) 8 (caught_along image t.caught s.caught b.caught)
+  met_by m (MoveObject a c) = demand_along (is_movable (type_at t.regs c)) (is_movable (type_at s.regs c)) (rule.V 6) (movable_along image (type_at t.regs c) (type_at s.regs c) (b.each c))
+  met_by m (ResultInt a) = demand_along (is_pending_int t.result) (is_pending_int s.result) (rule.V 7) (pending_along is_pending_int refl t.result s.result b.result)
+  met_by m (ResultLong a) = demand_along (is_pending_long t.result) (is_pending_long s.result) (rule.V 7) (pending_along is_pending_long refl t.result s.result b.result)
+  met_by m (ResultObject a) = demand_along (is_pending_ref t.result) (is_pending_ref s.result) (rule.V 7) (pending_along is_pending_ref refl t.result s.result b.result)
+  met_by m (TakeCaught a) = demand_along (is_some t.caught) (is_some s.caught) (rule.V 8) (caught_along image t.caught s.caught b.caught)
   met_by m (IntUnary o a c) = ints c
   met_by m (LongUnary o a c) = longs c
   met_by m (IntToLong a c) = ints c
@@ -66,11 +74,11 @@ module _ (image : Image) (h : IsHierarchy image) (s t : RegState) (b : IsBelow i
   met_by m (FieldPut x a c f) = first_along (put_receiver image m t.regs c f (type_at t.regs c)) (value_for image t.regs a f.def.ty) (put_receiver image m s.regs c f (type_at s.regs c)) (value_for image s.regs a f.def.ty) (put_receiver_met image h s.regs t.regs regs m c f) (value_met image h s.regs t.regs regs a f.def.ty)
   met_by m (StaticPut x a f) = value_met image h s.regs t.regs regs a f.def.ty
   met_by m (Invoke c ks g) = invoke_met image h s.regs t.regs regs m c ks g
-  met_by m ReturnVoid = first_along (demand (is_void m.def.proto.ret) 13) (demand (not t.this_pending) 12) (demand (is_void m.def.proto.ret) 13) (demand (not s.this_pending) 12) (same_along (demand (is_void m.def.proto.ret) 13)) initialised
+  met_by m ReturnVoid = first_along (demand (is_void m.def.proto.ret) (rule.V 13)) (constructed m t) (demand (is_void m.def.proto.ret) (rule.V 13)) (constructed m s) (same_along (demand (is_void m.def.proto.ret) (rule.V 13))) (initialised m)
   met_by m (Return x a) =
-      let form = demand (not (is_void m.def.proto.ret) && same_width x (form_of m.def.proto.ret)) 13 in
-      first_along form (first (demand (not t.this_pending) 12) (value_returned image t.regs a m.def.proto.ret)) form (first (demand (not s.this_pending) 12) (value_returned image s.regs a m.def.proto.ret)) (same_along form)
-      (first_along (demand (not t.this_pending) 12) (value_returned image t.regs a m.def.proto.ret) (demand (not s.this_pending) 12) (value_returned image s.regs a m.def.proto.ret) initialised (returned_met image h s.regs t.regs regs a m.def.proto.ret))
+      let form = demand (not (is_void m.def.proto.ret) && same_width x (form_of m.def.proto.ret)) (rule.V 13) in
+      first_along form (first (constructed m t) (value_returned image t.regs a m.def.proto.ret)) form (first (constructed m s) (value_returned image s.regs a m.def.proto.ret)) (same_along form)
+      (first_along (constructed m t) (value_returned image t.regs a m.def.proto.ret) (constructed m s) (value_returned image s.regs a m.def.proto.ret) (initialised m) (returned_met image h s.regs t.regs regs a m.def.proto.ret))
   met_by m op = same_along None
 
 pub demand_is_antitone : DemandIsAntitone

@@ -26,6 +26,7 @@ use Rattle.dv_machine.specs.Premises.{HoldsOf}
 use Rattle.dv_laws.specs.Reading.{Anything, ReadsInt, KeepsInt, ReadsArgument, ReadsTwo, ReadsLong, ReadsReference, ReadsReferenceTo, KeepsObject, TestsBoth, TestsZero, MovesInt, MovesReference}
 use Rattle.dv_laws.proofs.Plain.{no}
 use Rattle.dv_laws.proofs.Demanding.{first_none, demanded}
+use Rattle.dv_defs.specs.declared.faults.Rule.TheVariants as rule
 
 -- one read after another
 pub next_holds : {A B : Type 0} (P : A → Type 0) (Q : B → Type 0) (r : Reads A) (go : A → Reads B) → HoldsOf P r → ((x : A) → P x → HoldsOf Q (go x)) → HoldsOf Q (on_next r go)
@@ -179,7 +180,7 @@ module _ (image : Image) (heap : Heap) (own : Own) where
   ints_hold : (t : Test) (x y : Value) (s u : RegType) → is_int s ≡ true → is_int u ≡ true → Conforms image heap own x s → Conforms image heap own y u → HoldsOf Anything (on_next (read_int x) (λ a. on_next (read_int y) (λ b. Ok (compare t a b))))
   ints_hold t x y s u e f c d = next_holds Anything Anything (read_int x) _ (int_holds x s e c) (λ a p. next_holds Anything Anything (read_int y) _ (int_holds y u f d) (λ b q. tt))
 
-  both_hold : (t : Test) (x y : Value) (s u : RegType) (b : Bool) → (elim b as (λ w. Demand) [ true ↦ demand ((is_int s && is_int u) || (is_ref s && is_ref u)) 9 | false ↦ first (demand (is_int s) 2) (demand (is_int u) 2) ]) ≡ None → Conforms image heap own x s → Conforms image heap own y u → HoldsOf Anything (elim b as (λ w. Reads Bool) [ true ↦ on_next (read_word x) (λ a. on_next (read_word y) (λ b. compare_words t a b)) | false ↦ on_next (read_int x) (λ a. on_next (read_int y) (λ b. Ok (compare t a b))) ])
+  both_hold : (t : Test) (x y : Value) (s u : RegType) (b : Bool) → (elim b as (λ w. Demand) [ true ↦ demand ((is_int s && is_int u) || (is_ref s && is_ref u)) (rule.V 9) | false ↦ first (demand (is_int s) (rule.V 2)) (demand (is_int u) (rule.V 2)) ]) ≡ None → Conforms image heap own x s → Conforms image heap own y u → HoldsOf Anything (elim b as (λ w. Reads Bool) [ true ↦ on_next (read_word x) (λ a. on_next (read_word y) (λ b. compare_words t a b)) | false ↦ on_next (read_int x) (λ a. on_next (read_int y) (λ b. Ok (compare t a b))) ])
   unfolding AreAlike
   both_hold t x y s u true d c e = words_hold t x y s u (alike (or_cases _ _ (demanded _ _ d))) c e
     where
@@ -189,7 +190,7 @@ module _ (image : Image) (heap : Heap) (own : Own) where
   both_hold t x y s u false d c e = let q = first_none _ _ d in ints_hold t x y s u (demanded _ _ q.0) (demanded _ _ q.1) c e
 
   -- a test against zero is one with null
-  zero_demand : (b : Bool) (s : RegType) → (elim b as (λ w. Demand) [ true ↦ demand (is_int s || is_ref s) 9 | false ↦ demand (is_int s) 2 ]) ≡ None → (elim b as (λ w. Demand) [ true ↦ demand ((is_int s && true) || (is_ref s && true)) 9 | false ↦ first (demand (is_int s) 2) None ]) ≡ None
+  zero_demand : (b : Bool) (s : RegType) → (elim b as (λ w. Demand) [ true ↦ demand (is_int s || is_ref s) (rule.V 9) | false ↦ demand (is_int s) (rule.V 2) ]) ≡ None → (elim b as (λ w. Demand) [ true ↦ demand ((is_int s && true) || (is_ref s && true)) (rule.V 9) | false ↦ first (demand (is_int s) (rule.V 2)) None ]) ≡ None
   zero_demand true ty.Zero d = refl
   zero_demand true ty.Int d = refl
   zero_demand true (ty.Class c) d = refl
@@ -219,7 +220,7 @@ reads_reference image heap own xs ts k h d = any_holds image heap own _ _ (deman
 
 pub reads_reference_to : ReadsReferenceTo
 reads_reference_to image heap own xs ts k t ord h d =
-    let q = first_none (ref ts k) (demand (is_assignable image (type_at ts k) t) 5) d in
+    let q = first_none (ref ts k) (demand (is_assignable image (type_at ts k) t) (rule.V 5)) d in
     ref_holds image heap own ord _ _ t (demanded _ _ q.0) (demanded _ _ q.1) (h k)
 
 pub keeps_object : KeepsObject

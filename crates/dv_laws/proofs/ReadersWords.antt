@@ -101,13 +101,13 @@ module _ (image : Image) (heap : Heap) where
   class_word x t own c = absurd c
 
   module _ (ord : IsOrder image) (own : Own) where
-    pub single_holds : (x : Value) (s : RegType) (t : Ty) (b : Bool) → (elim b as (λ w. Demand) [ true ↦ first (demand (is_ref s) 4) (demand (is_assignable image s t) 5) | false ↦ demand (is_int s) 2 ]) ≡ None → Conforms image heap own x s → HoldsOf (λ y. IsWord y (elim b as (λ w. RegType) [ true ↦ ty.Class t | false ↦ ty.Int ])) (elim b as (λ w. Reads Value) [ true ↦ on_next (read_ref image heap t x) (λ o. Ok x) | false ↦ kept_int x ])
+    pub single_holds : (x : Value) (s : RegType) (t : Ty) (b : Bool) → (elim b as (λ w. Demand) [ true ↦ first (demand (is_ref s) (rule.V 4)) (demand (is_assignable image s t) (rule.V 5)) | false ↦ demand (is_int s) (rule.V 2) ]) ≡ None → Conforms image heap own x s → HoldsOf (λ y. IsWord y (elim b as (λ w. RegType) [ true ↦ ty.Class t | false ↦ ty.Int ])) (elim b as (λ w. Reads Value) [ true ↦ on_next (read_ref image heap t x) (λ o. Ok x) | false ↦ kept_int x ])
     single_holds x s t true d c =
-        let q = first_none (demand (is_ref s) 4) (demand (is_assignable image s t) 5) d in
+        let q = first_none (demand (is_ref s) (rule.V 4)) (demand (is_assignable image s t) (rule.V 5)) d in
         let k : IsWord x (ty.Class t) = class_word x t own (ref_conforms image heap own ord x s t (demanded _ _ q.0) (demanded _ _ q.1) c) in
         next_holds (λ o. Fits image heap o t) (λ y. IsWord y (ty.Class t)) (read_ref image heap t x) (λ o. Ok x) (ref_holds image heap own ord x s t (demanded _ _ q.0) (demanded _ _ q.1) c) (λ o f. k)
     single_holds x s t false d c =
-        let i = demanded (is_int s) 2 d in
+        let i = demanded (is_int s) (rule.V 2) d in
         let k : IsWord x ty.Int = int_word x own s i c in
         holds_more (λ y. y ≡ x) (λ y. IsWord y ty.Int) (kept_int x) (kept_int_holds image heap own x s i c) (λ y e. subst (λ z. IsWord z ty.Int) (sym e) k)
 
@@ -141,11 +141,11 @@ module _ (image : Image) (heap : Heap) where
       single_demand k p e d = ap (λ z. elim z as (λ w. Demand) [ true ↦ long ts k | false ↦ single_for image ts k p ]) e ∙ d
 
       -- one argument, then those after it
-      one_more : (p : Ty) (ps : List Ty) → ReadsAll ps → (k : ℕ) (ks : List ℕ) (b : Bool) → is_long p ≡ b → (elim b as (λ w. Demand) [ true ↦ elim ks as (λ w. Demand) [ [] ↦ Some (rule.S 15) | j ∷ js ↦ first (long ts k) (first (demand (nat_eq j (suc k)) 3) (args_for image ts ps js)) ] | false ↦ first (single_for image ts k p) (args_for image ts ps ks) ]) ≡ None → HoldsOf (λ ys. AreWordsOf ys (all_types (p ∷ ps))) (elim b as (λ w. Reads (List Value)) [ true ↦ elim ks as (λ w. Reads (List Value)) [ [] ↦ Err why.Instruction | j ∷ js ↦ on_next (read_value image heap xs k p) (λ ys. on_next (are_neighbours k j) (λ c. on_next (read_args image heap xs ps js) (λ zs. Ok (ys ++ zs)))) ] | false ↦ on_next (read_value image heap xs k p) (λ ys. on_next (read_args image heap xs ps ks) (λ zs. Ok (ys ++ zs))) ])
+      one_more : (p : Ty) (ps : List Ty) → ReadsAll ps → (k : ℕ) (ks : List ℕ) (b : Bool) → is_long p ≡ b → (elim b as (λ w. Demand) [ true ↦ elim ks as (λ w. Demand) [ [] ↦ Some (rule.S 15) | j ∷ js ↦ first (long ts k) (first (demand (nat_eq j (suc k)) (rule.V 3)) (args_for image ts ps js)) ] | false ↦ first (single_for image ts k p) (args_for image ts ps ks) ]) ≡ None → HoldsOf (λ ys. AreWordsOf ys (all_types (p ∷ ps))) (elim b as (λ w. Reads (List Value)) [ true ↦ elim ks as (λ w. Reads (List Value)) [ [] ↦ Err why.Instruction | j ∷ js ↦ on_next (read_value image heap xs k p) (λ ys. on_next (are_neighbours k j) (λ c. on_next (read_args image heap xs ps js) (λ zs. Ok (ys ++ zs)))) ] | false ↦ on_next (read_value image heap xs k p) (λ ys. on_next (read_args image heap xs ps ks) (λ zs. Ok (ys ++ zs))) ])
       one_more p ps more k [] true e d = absurd (cc)
       one_more p ps more k (j ∷ js) true e d =
-          let q = first_none (long ts k) (first (demand (nat_eq j (suc k)) 3) (args_for image ts ps js)) d in
-          let r = first_none (demand (nat_eq j (suc k)) 3) (args_for image ts ps js) q.1 in
+          let q = first_none (long ts k) (first (demand (nat_eq j (suc k)) (rule.V 3)) (args_for image ts ps js)) d in
+          let r = first_none (demand (nat_eq j (suc k)) (rule.V 3)) (args_for image ts ps js) q.1 in
           next_holds (λ ys. AreWordsOf ys (reg_types p)) _ (read_value image heap xs k p) _ (value_holds k p (long_demand k p e q.0))
           (λ ys w. next_holds Anything _ (are_neighbours k j) _ (neighbours_hold j k (demanded _ _ r.0))
           (λ c a. next_holds (λ zs. AreWordsOf zs (all_types ps)) _ (read_args image heap xs ps js) _ (more js r.1)

@@ -2,7 +2,7 @@
 use Rattle.std.proofs.Common.{◌≡◌, ℕ, List, [], ◌∷◌, Bool, true, false, Option, Some, None, refl, sym, ap, ◌∙◌, subst}
 use Rattle.std.specs.Prelude.{All, ◌&&◌, not}
 use Rattle.std.proofs.lemmas.List.Elements.{All-nil, All-head}
-use Rattle.std.proofs.lemmas.Bool.{and_parts}
+use Rattle.std.proofs.lemmas.Bool.{and_parts, and_from}
 use Rattle.dv_defs.specs.declared.names.Ty.{Ty}
 use Rattle.dv_defs.specs.declared.image.Image.{Image}
 use Rattle.dv_defs.specs.declared.run.Value.{Value}
@@ -15,11 +15,11 @@ use Rattle.dv_defs.specs.declared.machine.Level.{Level}
 use Rattle.dv_defs.specs.declared.machine.Level.TheVariants as level
 use Rattle.dv_defs.specs.declared.typing.RegState.{RegState}
 use Rattle.dv_defs.specs.Parts.{Call, Width}
-use Rattle.dv_defs.specs.Pools.{Method}
+use Rattle.dv_defs.specs.Pools.{Method, is_constructor}
 use Rattle.dv_defs.specs.Op.{Op, Invoke, ReturnVoid, Return, is_return}
 use Rattle.dv_defs.specs.Statics.{At}
 use Rattle.dv_defs.specs.RegTypes.{reg_types}
-use Rattle.dv_defs.specs.Demands.{demands, demand, first, is_void, same_width, form_of, value_returned}
+use Rattle.dv_defs.specs.Demands.{demands, demand, constructed, first, is_void, same_width, form_of, value_returned}
 use Rattle.dv_defs.specs.Heap.{Heap}
 use Rattle.dv_machine.specs.State.{Thread, Machine, Left, Did, IsStuck, read_value, Here}
 use Rattle.dv_machine.specs.Calls.{back, back_on, back_to, unless_pending, pending_words, return_value, return_form, return_void}
@@ -36,6 +36,7 @@ use Rattle.dv_laws.proofs.LocalStill.{still, IsQuiet}
 use Rattle.dv_laws.proofs.LocalStands.{Stands, stands, rest_refs, rest_lowest, read_then}
 use Rattle.dv_laws.proofs.LocalFine.{quiet}
 use Rattle.dv_laws.proofs.ReturnsCaller.{IsResult, called, caller_left}
+use Rattle.dv_defs.specs.declared.faults.Rule.TheVariants as rule
 
 module _ (image : Image) (T : Typings) (m : Machine) (t : ℕ) (thread : Thread) (own : Method) (f : Frame) (rest : List Level) (x : At) (s : RegState) (h : Stands image T m t thread own f rest x s) where
   abbrev heap : Heap
@@ -57,21 +58,26 @@ module _ (image : Image) (T : Typings) (m : Machine) (t : ℕ) (thread : Thread)
         at_rest (level.Code g ∷ ls) is = subst (λ z. DidFine image T m t thread x (back_to here_it p g ls z)) (sym (called image T m t thread own f rest x s h g ls is p r).has_at) (caller_left image T m t thread own f rest x s h g ls is p r q)
 
     -- a frame whose `this` isn't pending returns
-    unless_fine : (go : Did Left) → demand (not s.this_pending) 12 ≡ None → DidFine image T m t thread x go → DidFine image T m t thread x (unless_pending here_it go)
-    unless_fine go d k = by_test f.this_pending h.conform.this_pending
+    unless_fine : (go : Did Left) → constructed own s ≡ None → DidFine image T m t thread x go → DidFine image T m t thread x (unless_pending here_it go)
+    unless_fine go d k = by_test (is_constructor own && f.this_pending) pending
       where
-        by_test : (b : Bool) → (b ≡ true → s.this_pending ≡ true) → DidFine image T m t thread x (elim b as (λ w. Did Left) [ true ↦ IsStuck why.Uninitialised | false ↦ go ])
-        by_test true n = no (ap not (sym (n refl)) ∙ demanded (not s.this_pending) 12 d)
+        pending : is_constructor own && f.this_pending ≡ true → is_constructor own && s.this_pending ≡ true
+        pending e =
+            let p = and_parts (is_constructor own) f.this_pending e in
+            and_from (is_constructor own) s.this_pending p.0 (h.conform.this_pending p.1)
+
+        by_test : (b : Bool) → (b ≡ true → is_constructor own && s.this_pending ≡ true) → DidFine image T m t thread x (elim b as (λ w. Did Left) [ true ↦ IsStuck why.Uninitialised | false ↦ go ])
+        by_test true n = no (ap not (sym (n refl)) ∙ demanded (not (is_constructor own && s.this_pending)) (rule.V 12) d)
         by_test false n = k
 
     void_result : (o : Option Ty) → is_void o ≡ true → IsResult image heap o pending.None
     void_result None e = record { conforms = λ this k. tt; fine = tt }
     void_result (Some u) e = no e
 
-    void_fine : first (demand (is_void own.def.proto.ret) 13) (demand (not s.this_pending) 12) ≡ None → DidFine image T m t thread x (return_void here_it)
+    void_fine : first (demand (is_void own.def.proto.ret) (rule.V 13)) (constructed own s) ≡ None → DidFine image T m t thread x (return_void here_it)
     void_fine d =
-        let e = first_none (demand (is_void own.def.proto.ret) 13) (demand (not s.this_pending) 12) d in
-        let void = demanded (is_void own.def.proto.ret) 13 e.0 in
+        let e = first_none (demand (is_void own.def.proto.ret) (rule.V 13)) (constructed own s) d in
+        let void = demanded (is_void own.def.proto.ret) (rule.V 13) e.0 in
         subst (λ b. DidFine image T m t thread x (elim b as (λ w. Did Left) [ true ↦ unless_pending here_it (back here_it pending.None) | false ↦ IsStuck why.Result ])) (sym void)
         (unless_fine (back here_it pending.None) e.1 (back_fine pending.None (void_result own.def.proto.ret void)))
 
@@ -90,9 +96,9 @@ module _ (image : Image) (T : Typings) (m : Machine) (t : ℕ) (thread : Thread)
     form_fine : (w : Width) (a : ℕ) → demands image own (Return w a) s ≡ None → DidFine image T m t thread x (return_form here_it w a)
     form_fine w a d =
         let ret = own.def.proto.ret in
-        let e = first_none (demand (not (is_void ret) && same_width w (form_of ret)) 13) (first (demand (not s.this_pending) 12) (value_returned image s.regs a ret)) d in
-        let g = first_none (demand (not s.this_pending) 12) (value_returned image s.regs a ret) e.1 in
-        let form = demanded (not (is_void ret) && same_width w (form_of ret)) 13 e.0 in
+        let e = first_none (demand (not (is_void ret) && same_width w (form_of ret)) (rule.V 13)) (first (constructed own s) (value_returned image s.regs a ret)) d in
+        let g = first_none (constructed own s) (value_returned image s.regs a ret) e.1 in
+        let form = demanded (not (is_void ret) && same_width w (form_of ret)) (rule.V 13) e.0 in
         subst (λ b. DidFine image T m t thread x (elim b as (λ w. Did Left) [ true ↦ unless_pending here_it (return_value here_it a ret) | false ↦ IsStuck why.Result ])) (sym form)
         (unless_fine (return_value here_it a ret) g.0 (value_fine a ret refl (and_parts (not (is_void ret)) (same_width w (form_of ret)) form).0 g.1))
 

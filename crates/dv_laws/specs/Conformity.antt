@@ -12,12 +12,19 @@ use Rattle.dv_machine.specs.Accepted.{IsOrder}
 
 -- a value that conforms to a type conforms to each type above it
 abbrev pub ValueConformityGoesUp : Type 0
-ValueConformityGoesUp = (image : Image) → IsOrder image → (heap : Heap) (own : Own) (x : Value) (s t : RegType) → under image s t ≡ true → Conforms image heap own x s → Conforms image heap own x t
+ValueConformityGoesUp =
+    (image : Image) → IsOrder image → (heap : Heap) (own : Own) (x : Value) (s t : RegType) → under image s t ≡ true →
+    Conforms image heap own x s → Conforms image heap own x t
 
 -- registers that conform to types conform to equally many types above them
 abbrev pub RegisterConformityGoesUp : Type 0
-RegisterConformityGoesUp = (image : Image) → IsOrder image → (heap : Heap) (own : Own) (xs : List Value) (ss ts : Types) → ((k : ℕ) → under image (type_at ss k) (type_at ts k) ≡ true) → length ss ≡ length ts → IsGood image heap own xs ss → IsGood image heap own xs ts
+RegisterConformityGoesUp =
+    (image : Image) → IsOrder image → (heap : Heap) (own : Own) (xs : List Value) (ss ts : Types) →
+    ((k : ℕ) → under image (type_at ss k) (type_at ts k) ≡ true) → length ss ≡ length ts →
+    IsGood image heap own xs ss → IsGood image heap own xs ts
 
 -- a frame that conforms to a state conforms to each state above it
 abbrev pub FrameConformityGoesUp : Type 0
-FrameConformityGoesUp = (image : Image) → IsOrder image → (heap : Heap) (own : Own) (f : Frame) (s t : RegState) → IsBelow image s t → Conform image heap own f s → Conform image heap own f t
+FrameConformityGoesUp =
+    (image : Image) → IsOrder image → (heap : Heap) (own : Own) (f : Frame) (s t : RegState) → IsBelow image s t →
+    Conform image heap own f s → Conform image heap own f t

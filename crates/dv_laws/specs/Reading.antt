@@ -33,40 +33,63 @@ Anything x = Unit {0}
 -- ---- numbers
 
 abbrev pub ReadsInt : Type 0
-ReadsInt = (image : Image) (heap : Heap) (own : Own) (xs : List Value) (ts : Types) (k : ℕ) → RegsConform image heap own xs ts → int ts k ≡ None → HoldsOf Anything (read_int (reg_at xs k))
+ReadsInt =
+    (image : Image) (heap : Heap) (own : Own) (xs : List Value) (ts : Types) (k : ℕ) →
+    RegsConform image heap own xs ts → int ts k ≡ None → HoldsOf Anything (read_int (reg_at xs k))
 
 -- the tag is kept
 abbrev pub KeepsInt : Type 0
-KeepsInt = (image : Image) (heap : Heap) (own : Own) (xs : List Value) (ts : Types) (k : ℕ) → RegsConform image heap own xs ts → int ts k ≡ None → HoldsOf (λ x. x ≡ reg_at xs k) (kept_int (reg_at xs k))
+KeepsInt =
+    (image : Image) (heap : Heap) (own : Own) (xs : List Value) (ts : Types) (k : ℕ) →
+    RegsConform image heap own xs ts → int ts k ≡ None → HoldsOf (λ x. x ≡ reg_at xs k) (kept_int (reg_at xs k))
 
 abbrev pub ReadsArgument : Type 0
-ReadsArgument = (image : Image) (heap : Heap) (own : Own) (xs : List Value) (ts : Types) (a : Arg) → RegsConform image heap own xs ts → arg_int ts a ≡ None → HoldsOf Anything (read_arg xs a)
+ReadsArgument =
+    (image : Image) (heap : Heap) (own : Own) (xs : List Value) (ts : Types) (a : Arg) →
+    RegsConform image heap own xs ts → arg_int ts a ≡ None → HoldsOf Anything (read_arg xs a)
 
 abbrev pub ReadsTwo : Type 0
-ReadsTwo = (image : Image) (heap : Heap) (own : Own) (xs : List Value) (ts : Types) (k : ℕ) → RegsConform image heap own xs ts → long ts k ≡ None → HoldsOf Anything (read_two xs k)
+ReadsTwo =
+    (image : Image) (heap : Heap) (own : Own) (xs : List Value) (ts : Types) (k : ℕ) →
+    RegsConform image heap own xs ts → long ts k ≡ None → HoldsOf Anything (read_two xs k)
 
 abbrev pub ReadsLong : Type 0
-ReadsLong = (image : Image) (heap : Heap) (own : Own) (xs : List Value) (ts : Types) (k : ℕ) → RegsConform image heap own xs ts → long ts k ≡ None → HoldsOf Anything (read_long xs k)
+ReadsLong =
+    (image : Image) (heap : Heap) (own : Own) (xs : List Value) (ts : Types) (k : ℕ) →
+    RegsConform image heap own xs ts → long ts k ≡ None → HoldsOf Anything (read_long xs k)
 
 -- ---- references
 
 abbrev pub ReadsReference : Type 0
-ReadsReference = (image : Image) (heap : Heap) (own : Own) (xs : List Value) (ts : Types) (k : ℕ) → RegsConform image heap own xs ts → ref ts k ≡ None → HoldsOf (IsThere image heap) (read_any heap (reg_at xs k))
+ReadsReference =
+    (image : Image) (heap : Heap) (own : Own) (xs : List Value) (ts : Types) (k : ℕ) →
+    RegsConform image heap own xs ts → ref ts k ≡ None → HoldsOf (IsThere image heap) (read_any heap (reg_at xs k))
 
 abbrev pub ReadsReferenceTo : Type 0
-ReadsReferenceTo = (image : Image) (heap : Heap) (own : Own) (xs : List Value) (ts : Types) (k : ℕ) (t : Ty) → IsOrder image → RegsConform image heap own xs ts → ref_to image ts k t ≡ None → HoldsOf (λ o. Fits image heap o t) (read_ref image heap t (reg_at xs k))
+ReadsReferenceTo =
+    (image : Image) (heap : Heap) (own : Own) (xs : List Value) (ts : Types) (k : ℕ) (t : Ty) → IsOrder image →
+    RegsConform image heap own xs ts → ref_to image ts k t ≡ None →
+    HoldsOf (λ o. Fits image heap o t) (read_ref image heap t (reg_at xs k))
 
 -- what move-object moves is kept as it is, uninitialised or not
 abbrev pub KeepsObject : Type 0
-KeepsObject = (image : Image) (heap : Heap) (own : Own) (xs : List Value) (ts : Types) (k : ℕ) → RegsConform image heap own xs ts → is_movable (type_at ts k) ≡ true → HoldsOf (λ x. x ≡ reg_at xs k) (kept_object (reg_at xs k))
+KeepsObject =
+    (image : Image) (heap : Heap) (own : Own) (xs : List Value) (ts : Types) (k : ℕ) →
+    RegsConform image heap own xs ts → is_movable (type_at ts k) ≡ true →
+    HoldsOf (λ x. x ≡ reg_at xs k) (kept_object (reg_at xs k))
 
 -- ---- tests
 
 abbrev pub TestsBoth : Type 0
-TestsBoth = (image : Image) (heap : Heap) (own : Own) (xs : List Value) (ts : Types) (t : Test) (a b : ℕ) → RegsConform image heap own xs ts → both_for t ts a b ≡ None → HoldsOf Anything (test_both t (reg_at xs a) (reg_at xs b))
+TestsBoth =
+    (image : Image) (heap : Heap) (own : Own) (xs : List Value) (ts : Types) (t : Test) (a b : ℕ) →
+    RegsConform image heap own xs ts → both_for t ts a b ≡ None →
+    HoldsOf Anything (test_both t (reg_at xs a) (reg_at xs b))
 
 abbrev pub TestsZero : Type 0
-TestsZero = (image : Image) (heap : Heap) (own : Own) (xs : List Value) (ts : Types) (t : Test) (a : ℕ) → RegsConform image heap own xs ts → zero_for t ts a ≡ None → HoldsOf Anything (test_zero t (reg_at xs a))
+TestsZero =
+    (image : Image) (heap : Heap) (own : Own) (xs : List Value) (ts : Types) (t : Test) (a : ℕ) →
+    RegsConform image heap own xs ts → zero_for t ts a ≡ None → HoldsOf Anything (test_zero t (reg_at xs a))
 
 -- ---- arrays
 
@@ -87,7 +110,10 @@ abbrev pub GoesDown : Image → (Ty → Bool) → Type 0
 GoesDown image good = (s t : Ty) → instance image s t ≡ true → good t ≡ true → good s ≡ true
 
 abbrev pub ReadsArray : Type 0
-ReadsArray = (image : Image) (heap : Heap) (own : Own) (xs : List Value) (ts : Types) (k : ℕ) (good : Ty → Bool) → IsOrder image → GoesDown image good → RegsConform image heap own xs ts → array ts k good ≡ None → HoldsOf (IsArrayOrNull image heap good (type_at ts k)) (read_array good heap (reg_at xs k))
+ReadsArray =
+    (image : Image) (heap : Heap) (own : Own) (xs : List Value) (ts : Types) (k : ℕ) (good : Ty → Bool) →
+    IsOrder image → GoesDown image good → RegsConform image heap own xs ts → array ts k good ≡ None →
+    HoldsOf (IsArrayOrNull image heap good (type_at ts k)) (read_array good heap (reg_at xs k))
 
 -- the tests of array instructions do so
 pub record ElementTestsGoDown (image : Image) : Type 0 where
@@ -103,14 +129,22 @@ pub record AreWords (image : Image) (heap : Heap) (xs : List Value) (ts : Types)
   pub refs : All (RefFine image heap) xs
 
 abbrev pub ReadsValue : Type 0
-ReadsValue = (image : Image) (heap : Heap) (own : Own) (xs : List Value) (ts : Types) (k : ℕ) (t : Ty) → IsOrder image → RegsConform image heap own xs ts → value_for image ts k t ≡ None → HoldsOf (λ ys. AreWords image heap ys (reg_types t)) (read_value image heap xs k t)
+ReadsValue =
+    (image : Image) (heap : Heap) (own : Own) (xs : List Value) (ts : Types) (k : ℕ) (t : Ty) → IsOrder image →
+    RegsConform image heap own xs ts → value_for image ts k t ≡ None →
+    HoldsOf (λ ys. AreWords image heap ys (reg_types t)) (read_value image heap xs k t)
 
 abbrev pub ReadsArguments : Type 0
-ReadsArguments = (image : Image) (heap : Heap) (own : Own) (xs : List Value) (ts : Types) (ps : List Ty) (ks : List ℕ) → IsOrder image → RegsConform image heap own xs ts → args_for image ts ps ks ≡ None → HoldsOf (λ ys. AreWords image heap ys (all_types ps)) (read_args image heap xs ps ks)
+ReadsArguments =
+    (image : Image) (heap : Heap) (own : Own) (xs : List Value) (ts : Types) (ps : List Ty) (ks : List ℕ) →
+    IsOrder image → RegsConform image heap own xs ts → args_for image ts ps ks ≡ None →
+    HoldsOf (λ ys. AreWords image heap ys (all_types ps)) (read_args image heap xs ps ks)
 
 -- the words of a result are pending as that type's
 abbrev pub WordsPend : Type 0
-WordsPend = (image : Image) (heap : Heap) (own : Own) (xs : List Value) (t : Ty) → AreWords image heap xs (reg_types t) → ResultConforms image heap own (pending_words xs) (pending_of (Some t))
+WordsPend =
+    (image : Image) (heap : Heap) (own : Own) (xs : List Value) (t : Ty) → AreWords image heap xs (reg_types t) →
+    ResultConforms image heap own (pending_words xs) (pending_of (Some t))
 
 -- ---- the receiver of a constructor
 
@@ -122,12 +156,23 @@ pub record IsUnder (image : Image) (heap : Heap) (t : Ty) (o : ℕ) : Type 0 whe
 
 -- the receiver of a constructor's call is an uninitialised object of a class under the constructor's
 abbrev pub ReadsReceiver : Type 0
-ReadsReceiver = (image : Image) (T : Typings) (heap : Heap) (this : Option ℕ) (n : ℕ) (own g : Method) (xs : List Value) (ts : Types) (k : ℕ) → Accepted image T → method_at image n ≡ Some own → RegsConform image heap (own_of image this own) xs ts → receiver_for image own g (type_at ts k) ≡ None → HoldsOf (λ o. (object_of (reg_at xs k) ≡ Some o) × IsUnder image heap (own_type image g) o) (read_new image heap own g (reg_at xs k))
+ReadsReceiver =
+    (image : Image) (T : Typings) (heap : Heap) (this : Option ℕ) (n : ℕ) (own g : Method) (xs : List Value)
+        (ts : Types) (k : ℕ) →
+    Accepted image T → method_at image n ≡ Some own → RegsConform image heap (own_of image this own) xs ts →
+    receiver_for image own g (type_at ts k) ≡ None →
+    HoldsOf (λ o. (object_of (reg_at xs k) ≡ Some o) × IsUnder image heap (own_type image g) o)
+        (read_new image heap own g (reg_at xs k))
 
 -- ---- pending results
 
 abbrev pub MovesInt : Type 0
-MovesInt = (image : Image) (heap : Heap) (own : Own) (p : Pending) (r : PendingType) → ResultConforms image heap own p r → result_int r ≡ ty.Int → HoldsOf (λ x. Conforms image heap own x ty.Int) (pending_int p)
+MovesInt =
+    (image : Image) (heap : Heap) (own : Own) (p : Pending) (r : PendingType) → ResultConforms image heap own p r →
+    result_int r ≡ ty.Int → HoldsOf (λ x. Conforms image heap own x ty.Int) (pending_int p)
 
 abbrev pub MovesReference : Type 0
-MovesReference = (image : Image) (heap : Heap) (own : Own) (p : Pending) (r : PendingType) (t : Ty) → ResultConforms image heap own p r → result_ref r ≡ ty.Class t → HoldsOf (λ x. Conforms image heap own x (ty.Class t)) (pending_object p)
+MovesReference =
+    (image : Image) (heap : Heap) (own : Own) (p : Pending) (r : PendingType) (t : Ty) →
+    ResultConforms image heap own p r → result_ref r ≡ ty.Class t →
+    HoldsOf (λ x. Conforms image heap own x (ty.Class t)) (pending_object p)

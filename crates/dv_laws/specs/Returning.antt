@@ -25,7 +25,8 @@ IsBuilt image heap m (v.UninitThis o) = IsOf image heap o (own_type image m)
 IsBuilt image heap m x = Unit {0}
 
 -- a frame that conforms at an invoke, whose demand holds, with the result of the call
-pub record IsBack (image : Image) (heap : Heap) (this : Option ℕ) (m : Method) (f : Frame) (s : RegState) (x : At) (p : Pending) : Type 0 where
+pub record IsBack (image : Image) (heap : Heap) (this : Option ℕ) (m : Method) (f : Frame) (s : RegState) (x : At) (p : Pending) :
+    Type 0 where
   pub conform : Conform image heap (own_of image this m) f s
   pub call : Call
   pub args : List ℕ
@@ -38,4 +39,7 @@ pub record IsBack (image : Image) (heap : Heap) (this : Option ℕ) (m : Method)
 
 -- such a frame conforms to the state after the invoke once the call has returned
 abbrev pub ReturnedConforms : Type 0
-ReturnedConforms = (image : Image) (heap : Heap) (this : Option ℕ) (m : Method) (f : Frame) (s : RegState) (x : At) (p : Pending) → (b : IsBack image heap this m f s x p) → Conform image heap (own_of image this m) (returned (is_constructor b.callee) f x p) (out image m f.at x.op s)
+ReturnedConforms =
+    (image : Image) (heap : Heap) (this : Option ℕ) (m : Method) (f : Frame) (s : RegState) (x : At) (p : Pending) →
+    (b : IsBack image heap this m f s x p) →
+    Conform image heap (own_of image this m) (returned (is_constructor b.callee) f x p) (out image m f.at x.op s)

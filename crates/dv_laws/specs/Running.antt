@@ -16,4 +16,6 @@ NeverGoesWrong image main limits = (log : List Entry) (why : Why) → replay ima
 
 -- so it is with a main method of each image that linking gives and the verifier accepts
 abbrev pub AcceptedRunsNeverGoWrong : Type 0
-AcceptedRunsNeverGoWrong = (image : Image) → HasLinking image → Accepts image → (main : Method) → IsMain image main → (limits : Limits) → NeverGoesWrong image main limits
+AcceptedRunsNeverGoWrong =
+    (image : Image) → HasLinking image → Accepts image → (main : Method) → IsMain image main → (limits : Limits) →
+    NeverGoesWrong image main limits

@@ -10,5 +10,4 @@ pub mod RunThreads
 pub mod RunLimits
 pub mod RunStuck
 pub mod RunSeeded
-mod Reached
 pub mod Checking

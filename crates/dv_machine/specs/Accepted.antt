@@ -39,7 +39,10 @@ pub record IsFine (image : Image) (T : Typing) (code : Code) (at : ℕ) (x : At)
 pub record IsTyped (image : Image) (T : Typings) : Type 0 where
   pub entry : (n : ℕ) (code : Code) → code_at image n ≡ Some code → Leads image (T n) (entry_state image code.method code.body.registers) 0
   pub room : (n : ℕ) (code : Code) → code_at image n ≡ Some code → arg_words code.method ≤ code.body.registers
-  pub each : (n at : ℕ) (s : RegState) → T n at ≡ Some s → (code : Code) × (x : At) × (code_at image n ≡ Some code) × (fetch image n at ≡ Some x) × IsFine image (T n) code at x s
+  pub each :
+      (n at : ℕ) (s : RegState) → T n at ≡ Some s →
+      (code : Code) × (x : At) × (code_at image n ≡ Some code) × (fetch image n at ≡ Some x) ×
+      IsFine image (T n) code at x s
 
 -- ---- what linking gives
 
@@ -71,24 +74,40 @@ pub record IsOrder (image : Image) : Type 0 where
   pub instance_fits : (x t : Ty) → is_reference x ≡ true → instance image x t ≡ true → fits image x t ≡ true
   pub fits_through : (x s t : Ty) → fits image x s ≡ true → instance image s t ≡ true → fits image x t ≡ true
   -- of an array that fits an array type the components are instances
-  pub components : (x t : Ty) → fits image x t ≡ true → is_array t ≡ true → (is_array x ≡ true) × (instance image (component x) (component t) ≡ true)
+  pub components :
+      (x t : Ty) → fits image x t ≡ true → is_array t ≡ true →
+      (is_array x ≡ true) × (instance image (component x) (component t) ≡ true)
   pub object_fits : (x : Ty) → is_reference x ≡ true → fits image x (of_class object_name) ≡ true
 
 -- a field keeps its cells in each class below the one that declares it
 pub record KeepsSlots (image : Image) : Type 0 where
-  pub at : (c x : ℕ) (f : Field) → field_at image x ≡ Some f → is_static_field f ≡ false → is_interface image f.info.class.0 ≡ false → c < length image.classes → instance image (class_type image c) (class_type image f.info.class.0) ≡ true → (j : ℕ) → j < words_of f.def.ty → type_at (class_cells image c) (f.info.slot + j) ≡ type_at (reg_types f.def.ty) j
+  pub at :
+      (c x : ℕ) (f : Field) → field_at image x ≡ Some f → is_static_field f ≡ false →
+      is_interface image f.info.class.0 ≡ false → c < length image.classes →
+      instance image (class_type image c) (class_type image f.info.class.0) ≡ true → (j : ℕ) → j < words_of f.def.ty →
+      type_at (class_cells image c) (f.info.slot + j) ≡ type_at (reg_types f.def.ty) j
 
 -- what look-ups give, of any image
 pub record FindsRightly (image : Image) : Type 0 where
   pub methods : (n : ℕ) (m : Method) → method_at image n ≡ Some m → m.id ≡ n
   pub fields : (x : ℕ) (f : Field) → field_at image x ≡ Some f → f.id ≡ x
-  pub initialisers : (c : ℕ) (m : Method) → initialiser image c ≡ Some m → (method_at image m.id ≡ Some m) × (is_static m ≡ true) × (m.def.proto ≡ no_arguments) × (m.info.class.0 ≡ c) × ((b : Body) × (m.def.body ≡ Some b))
-  pub nearest_is : (c : ℕ) (name : List ℕ) (p : Proto) (m : Method) → nearest image c name p ≡ Some m → (method_at image m.id ≡ Some m) × (m.def.name ≡ name) × (m.def.proto ≡ p) × (is_static m ≡ false) × (has_number m.info.class.0 (supers image c) ≡ true)
+  pub initialisers :
+      (c : ℕ) (m : Method) → initialiser image c ≡ Some m →
+      (method_at image m.id ≡ Some m) × (is_static m ≡ true) × (m.def.proto ≡ no_arguments) × (m.info.class.0 ≡ c) ×
+      ((b : Body) × (m.def.body ≡ Some b))
+  pub nearest_is :
+      (c : ℕ) (name : List ℕ) (p : Proto) (m : Method) → nearest image c name p ≡ Some m →
+      (method_at image m.id ≡ Some m) × (m.def.name ≡ name) × (m.def.proto ≡ p) × (is_static m ≡ false) ×
+      (has_number m.info.class.0 (supers image c) ≡ true)
 
 -- a method that is neither abstract nor one of the natives has a body; a native has its own prototype
 pub record HasBodies (image : Image) : Type 0 where
-  pub body : (n : ℕ) (m : Method) → method_at image n ≡ Some m → is_abstract m ≡ false → native_of image m ≡ None → (b : Body) × (m.def.body ≡ Some b)
-  pub native : (n : ℕ) (m : Method) (k : Native) → method_at image n ≡ Some m → native_of image m ≡ Some k → (m.def.proto ≡ (signature k).proto) × (is_static m ≡ (signature k).is_static)
+  pub body :
+      (n : ℕ) (m : Method) → method_at image n ≡ Some m → is_abstract m ≡ false → native_of image m ≡ None →
+      (b : Body) × (m.def.body ≡ Some b)
+  pub native :
+      (n : ℕ) (m : Method) (k : Native) → method_at image n ≡ Some m → native_of image m ≡ Some k →
+      (m.def.proto ≡ (signature k).proto) × (is_static m ≡ (signature k).is_static)
 
 -- the resolved pools name what the image has
 pub record HasPools (image : Image) : Type 0 where
@@ -110,13 +129,22 @@ pub record HasBoot (image : Image) : Type 0 where
   pub exceptions : (n : Named) → IsNamed image (exception_name n)
   pub thrown : (n : Named) → fits image (of_class (exception_name n)) (of_class throwable_name) ≡ true
   -- String and Class have no constructor, and no class but Object above them: so no reference is to a bare object of theirs
-  pub no_bare : (n : ℕ) (m : Method) → method_at image n ≡ Some m → is_constructor m ≡ true → is_string_or_class (name_at image m.info.class.0) ≡ false
+  pub no_bare :
+      (n : ℕ) (m : Method) → method_at image n ≡ Some m → is_constructor m ≡ true →
+      is_string_or_class (name_at image m.info.class.0) ≡ false
   pub alone : (c p : ℕ) → is_string_or_class (name_at image c) ≡ true → parent_at image c ≡ Some p → name_at image p ≡ object_name
   -- they and Object declare no instance field: strings, Class objects and arrays have no cell for one
-  pub no_fields : (x : ℕ) (f : Field) → field_at image x ≡ Some f → is_static_field f ≡ false → (bytes_eq (name_at image f.info.class.0) object_name || is_string_or_class (name_at image f.info.class.0)) ≡ false
-  pub cause : type_at (class_cells image (number_named image (exception_name named.InInitializer))) (throwable_slot image (codes "cause")) ≡ ty.Class (of_class throwable_name)
+  pub no_fields :
+      (x : ℕ) (f : Field) → field_at image x ≡ Some f → is_static_field f ≡ false →
+      (bytes_eq (name_at image f.info.class.0) object_name || is_string_or_class (name_at image f.info.class.0)) ≡
+          false
+  pub cause :
+      type_at (class_cells image (number_named image (exception_name named.InInitializer)))
+          (throwable_slot image (codes "cause")) ≡ ty.Class (of_class throwable_name)
   -- System.out, the one static field that the opening fills
-  pub out : (x : ℕ) (f : Field) → field_at image x ≡ Some f → name_at image f.info.class.0 ≡ system_name → f.def.name ≡ codes "out" → (is_static_field f ≡ true) × (f.def.ty ≡ of_class stream_name)
+  pub out :
+      (x : ℕ) (f : Field) → field_at image x ≡ Some f → name_at image f.info.class.0 ≡ system_name →
+      f.def.name ≡ codes "out" → (is_static_field f ≡ true) × (f.def.ty ≡ of_class stream_name)
 
 -- all of it
 pub record Accepted (image : Image) (T : Typings) : Type 0 where

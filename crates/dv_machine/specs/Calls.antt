@@ -63,7 +63,10 @@ dispatch image heap own Call.Static g o = unless_abstract g
 dispatch image heap own Call.Direct g o = unless_abstract g
 dispatch image heap own Call.Super g o = nearest_from image (parent_at image own.info.class.0) g
 dispatch image heap own Call.Virtual g o = nearest_from image (class_of_kind image (kind_of heap o)) g
-dispatch image heap own Call.Interface g o = elim (implements_it image heap g o) [ true ↦ nearest_from image (class_of_kind image (kind_of heap o)) g | false ↦ Lacks named.ClassChange ]
+dispatch image heap own Call.Interface g o =
+    elim (implements_it image heap g o) [
+        true ↦ nearest_from image (class_of_kind image (kind_of heap o)) g
+      | false ↦ Lacks named.ClassChange ]
 
 -- ---- the natives
 
@@ -74,7 +77,8 @@ pub record Signature : Type 0 where
   pub proto : Proto
 
 abbrev pub signed : List ℕ → List ℕ → Bool → List Ty → Option Ty → Signature
-signed class name is_static params ret = record { class = class; name = name; is_static = is_static; proto = record { params = params; ret = ret } }
+signed class name is_static params ret =
+    record { class = class; name = name; is_static = is_static; proto = record { params = params; ret = ret } }
 
 abbrev pub string_type : Ty
 string_type = of_class string_name
@@ -102,7 +106,10 @@ signature native.Print = signed console_name (codes "print") true (string_type �
 signature native.Println = signed console_name (codes "println") true (int_type ∷ []) None
 
 abbrev pub all_natives : List Native
-all_natives = native.Wait ∷ native.Notify ∷ native.NotifyAll ∷ native.Start ∷ native.Join ∷ native.CurrentThread ∷ native.Length ∷ native.CharAt ∷ native.Equals ∷ native.Concat ∷ native.OfLong ∷ native.OfChars ∷ native.Print ∷ native.Println ∷ []
+all_natives =
+    native.Wait ∷ native.Notify ∷ native.NotifyAll ∷ native.Start ∷ native.Join ∷ native.CurrentThread ∷
+    native.Length ∷ native.CharAt ∷ native.Equals ∷ native.Concat ∷ native.OfLong ∷ native.OfChars ∷ native.Print ∷
+    native.Println ∷ []
 
 abbrev pub is_signed : List ℕ → List ℕ → Signature → Bool
 is_signed class name x = bytes_eq x.class class && bytes_eq x.name name
@@ -140,7 +147,15 @@ registers_of m = elim m.def.body [ None ↦ 0 | Some b ↦ b.registers ]
 
 -- the first frame of a method, its argument words in the last registers
 abbrev pub entered_frame : Method → List Value → Bool → Frame
-entered_frame m xs pending_this = record { method = record { 0 = m.id }; at = 0; regs = replicate (registers_of m - length xs) v.Undef ++ xs; result = pending.None; caught = None; this_pending = pending_this }
+entered_frame m xs pending_this =
+    record {
+        method = record { 0 = m.id };
+        at = 0;
+        regs = replicate (registers_of m - length xs) v.Undef ++ xs;
+        result = pending.None;
+        caught = None;
+        this_pending = pending_this;
+    }
 
 -- a call's frame is pushed on the caller's, which stays at its invoke
 abbrev pub enter : Here → Method → List Value → Bool → Did Left
@@ -153,7 +168,10 @@ landed h native (Lands m) xs = elim (native_of h.image m) [ Some n ↦ native n 
 
 -- a constructor other than Object's begins with its receiver uninitialised
 abbrev pub enter_constructor : Here → Method → ℕ → List Value → Did Left
-enter_constructor h g o xs = elim (is_of_object h.image g) [ true ↦ enter h g (v.Ref o ∷ xs) false | false ↦ enter h g (v.UninitThis o ∷ xs) true ]
+enter_constructor h g o xs =
+    elim (is_of_object h.image g) [
+        true ↦ enter h g (v.Ref o ∷ xs) false
+      | false ↦ enter h g (v.UninitThis o ∷ xs) true ]
 
 abbrev pub construct : Here → Method → ℕ → List Value → Did Left
 construct h g o xs = elim (is_abstract g) [ true ↦ Throws named.AbstractMethod | false ↦ enter_constructor h g o xs ]
@@ -168,18 +186,33 @@ call_object h native c g x xs o = landed h native (dispatch h.image h.shared.hea
 
 -- the receiver, then the arguments, then null, then the method
 abbrev pub call_instance : Here → (Native → List Value → Did Left) → Call → Method → Value → List ℕ → Did Left
-call_instance h native c g x ks = reading (read_ref h.image h.shared.heap (own_type h.image g) x) (λ o. reading (read_super h c x) (λ p. reading (read_args h.image h.shared.heap h.frame.regs g.def.proto.params ks) (λ xs. on_object (call_object h native c g x xs) o)))
+call_instance h native c g x ks =
+    reading (read_ref h.image h.shared.heap (own_type h.image g) x)
+        (λ o. 
+             reading (read_super h c x)
+                 (λ p. 
+                      reading (read_args h.image h.shared.heap h.frame.regs g.def.proto.params ks)
+                          (λ xs. on_object (call_object h native c g x xs) o)))
 
 abbrev pub call_constructor : Here → Method → Value → List ℕ → Did Left
-call_constructor h g x ks = reading (read_new h.image h.shared.heap h.own g x) (λ o. reading (read_args h.image h.shared.heap h.frame.regs g.def.proto.params ks) (construct h g o))
+call_constructor h g x ks =
+    reading (read_new h.image h.shared.heap h.own g x)
+        (λ o. reading (read_args h.image h.shared.heap h.frame.regs g.def.proto.params ks) (construct h g o))
 
 abbrev pub with_receiver : Here → (Native → List Value → Did Left) → Call → Method → List ℕ → Did Left
 with_receiver h native c g [] = IsStuck why.Instruction
-with_receiver h native c g (k ∷ ks) = elim (is_constructor g) [ true ↦ call_constructor h g (reg_at h.frame.regs k) ks | false ↦ call_instance h native c g (reg_at h.frame.regs k) ks ]
+with_receiver h native c g (k ∷ ks) =
+    elim (is_constructor g) [
+        true ↦ call_constructor h g (reg_at h.frame.regs k) ks
+      | false ↦ call_instance h native c g (reg_at h.frame.regs k) ks ]
 
 -- an invoke; the second argument is what a native does
 abbrev pub invoke : Here → (Native → List Value → Did Left) → Call → List ℕ → Method → Did Left
-invoke h native c ks g = elim (is_static g) [ true ↦ reading (read_args h.image h.shared.heap h.frame.regs g.def.proto.params ks) (landed h native (unless_abstract g)) | false ↦ with_receiver h native c g ks ]
+invoke h native c ks g =
+    elim (is_static g) [
+        true ↦ reading (read_args h.image h.shared.heap h.frame.regs g.def.proto.params ks)
+              (landed h native (unless_abstract g))
+      | false ↦ with_receiver h native c g ks ]
 
 -- ---- returns
 
@@ -199,7 +232,15 @@ initialised_in x (Some o) regs = map (initialised o) regs
 
 -- the caller's registers and pending `this` after a constructor on this value
 abbrev pub constructed : Frame → ℕ → Pending → Value → Frame
-constructed g next p x = record { method = g.method; at = next; regs = initialised_in x (object_of x) g.regs; result = p; caught = None; this_pending = still_pending x g.this_pending }
+constructed g next p x =
+    record {
+        method = g.method;
+        at = next;
+        regs = initialised_in x (object_of x) g.regs;
+        result = p;
+        caught = None;
+        this_pending = still_pending x g.this_pending;
+    }
 
 -- the register of an invoke's receiver
 abbrev pub receiver_of : Op → Option ℕ
@@ -226,7 +267,7 @@ back h p = back_on h p h.rest
 
 -- a constructor doesn't return before the superclass's constructor was called
 abbrev pub unless_pending : Here → Did Left → Did Left
-unless_pending h go = elim h.frame.this_pending [ true ↦ IsStuck why.Uninitialised | false ↦ go ]
+unless_pending h go = elim (is_constructor h.own && h.frame.this_pending) [ true ↦ IsStuck why.Uninitialised | false ↦ go ]
 
 abbrev pub pending_words : List Value → Pending
 pending_words (v.Lo lo ∷ v.Hi hi ∷ xs) = pending.Two lo hi
@@ -239,7 +280,10 @@ return_value h a (Some t) = reading (read_value h.image h.shared.heap h.frame.re
 
 -- a return whose form is not the method's gives no result
 abbrev pub return_form : Here → Width → ℕ → Did Left
-return_form h w a = elim (not (is_void h.own.def.proto.ret) && same_width w (form_of h.own.def.proto.ret)) [ true ↦ unless_pending h (return_value h a h.own.def.proto.ret) | false ↦ IsStuck why.Result ]
+return_form h w a =
+    elim (not (is_void h.own.def.proto.ret) && same_width w (form_of h.own.def.proto.ret)) [
+        true ↦ unless_pending h (return_value h a h.own.def.proto.ret)
+      | false ↦ IsStuck why.Result ]
 
 abbrev pub return_void : Here → Did Left
 return_void h = elim (is_void h.own.def.proto.ret) [ true ↦ unless_pending h (back h pending.None) | false ↦ IsStuck why.Result ]

@@ -97,7 +97,9 @@ IsUninit t = ⊥
 
 -- registers of one uninitialised type hold one object, those of two hold two
 abbrev pub AreApart : List Value → Types → Type 0
-AreApart xs ts = (j k : ℕ) → IsUninit (type_at ts j) → IsUninit (type_at ts k) → (type_at ts j ≡ type_at ts k) ↔ (object_of (reg_at xs j) ≡ object_of (reg_at xs k))
+AreApart xs ts =
+    (j k : ℕ) → IsUninit (type_at ts j) → IsUninit (type_at ts k) →
+    (type_at ts j ≡ type_at ts k) ↔ (object_of (reg_at xs j) ≡ object_of (reg_at xs k))
 
 -- registers conform to a state's
 pub record IsGood (image : Image) (heap : Heap) (own : Own) (xs : List Value) (ts : Types) : Type 0 where

@@ -1,5 +1,5 @@
 -- What a finished run prints after all.
-use Rattle.std.specs.Prelude.{ℕ, suc, ◌++◌, Bool, true, false, List, [], ◌∷◌, drop, Option, Some, None, nat_eq, decimal, codes}
+use Rattle.std.specs.Prelude.{ℕ, suc, ◌++◌, Bool, true, false, List, [], ◌∷◌, Option, Some, None, nat_eq, decimal, codes}
 use Rattle.dv_defs.specs.declared.names.Ty.{Ty}
 use Rattle.dv_defs.specs.declared.image.Image.{Image}
 use Rattle.dv_defs.specs.declared.run.Value.{Value}
@@ -10,11 +10,12 @@ use Rattle.dv_defs.specs.declared.machine.End.{End}
 use Rattle.dv_defs.specs.declared.machine.End.TheVariants as end
 use Rattle.dv_defs.specs.declared.machine.Blocked.{Blocked}
 use Rattle.dv_defs.specs.declared.machine.Blocked.TheVariants as blocked
+use Rattle.dv_defs.specs.Texts.{utf8, java_text}
 use Rattle.dv_defs.specs.Types.{class_in}
 use Rattle.dv_defs.specs.Pools.{name_at}
 use Rattle.dv_defs.specs.Heap.{Heap, cell_at}
 use Rattle.dv_machine.specs.State.{Thread, Machine, type_of}
-use Rattle.dv_machine.specs.Texts.{text_of, utf8}
+use Rattle.dv_machine.specs.Texts.{text_of}
 use Rattle.dv_machine.specs.Unwinding.{throwable_slot}
 use Rattle.dv_machine.specs.Running.{ending_of, blocked_thread}
 
@@ -27,14 +28,6 @@ ends_well (b ∷ bs) = elim bs [ [] ↦ nat_eq b 10 | c ∷ cs ↦ ends_well bs 
 
 abbrev pub closed : List ℕ → List ℕ
 closed bs = elim (ends_well bs) [ true ↦ bs | false ↦ bs ++ newline ]
-
--- java.lang.Error of Ljava/lang/Error;
-abbrev pub dotted : List ℕ → List ℕ
-dotted [] = []
-dotted (b ∷ bs) = elim (nat_eq b 59) [ true ↦ [] | false ↦ elim (nat_eq b 47) [ true ↦ 46 ∷ dotted bs | false ↦ b ∷ dotted bs ] ]
-
-abbrev pub java_text : List ℕ → List ℕ
-java_text name = dotted (drop 1 name)
 
 abbrev pub message : Image → Heap → ℕ → List ℕ
 message image heap o = of_value (cell_at heap o (throwable_slot image (codes "message")))
@@ -51,7 +44,9 @@ uncaught image heap [] k = []
 uncaught image heap (t ∷ ts) k = of_end t.end ++ uncaught image heap ts (suc k)
   where
     of_end : End → List ℕ
-    of_end (end.Died o) = codes "#uncaught " ++ decimal k ++ codes " " ++ class_text (type_of image heap o) ++ message image heap o ++ newline
+    of_end (end.Died o) =
+        codes "#uncaught " ++ decimal k ++ codes " " ++ class_text (type_of image heap o) ++ message image heap o ++
+        newline
     of_end e = []
 
 abbrev pub blocked_text : Image → Blocked → List ℕ
@@ -62,7 +57,11 @@ blocked_text image (blocked.Join u) = codes " join " ++ decimal u
 
 abbrev pub blocked_lines : Image → Machine → List Thread → ℕ → List ℕ
 blocked_lines image m [] k = []
-blocked_lines image m (t ∷ ts) k = elim (blocked_thread image m k t) [ None ↦ [] | Some b ↦ codes "#blocked " ++ decimal k ++ blocked_text image b ++ newline ] ++ blocked_lines image m ts (suc k)
+blocked_lines image m (t ∷ ts) k =
+    elim (blocked_thread image m k t) [
+        None ↦ []
+      | Some b ↦ codes "#blocked " ++ decimal k ++ blocked_text image b ++ newline ] ++
+    blocked_lines image m ts (suc k)
 
 abbrev pub ending_lines : Image → Machine → Option Ending → List ℕ
 ending_lines image m None = []

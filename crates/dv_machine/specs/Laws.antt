@@ -4,10 +4,10 @@ use Rattle.dv_defs.specs.declared.image.Image.{Image}
 use Rattle.dv_defs.specs.declared.typing.RegType.{RegType}
 use Rattle.dv_defs.specs.declared.typing.RegType.TheVariants as ty
 use Rattle.dv_defs.specs.declared.typing.RegState.{RegState}
-use Rattle.std.specs.Prelude.{◌≤◌, ◌<◌, ◌↔◌, ◌^◌, take}
+use Rattle.std.specs.Prelude.{◌≤◌, ◌↔◌, take}
 use Rattle.dv_defs.specs.Types.{is_reference}
 use Rattle.dv_defs.specs.Pools.{Method}
-use Rattle.dv_defs.specs.Spelling.{spelling}
+use Rattle.dv_defs.specs.Spelling.{spelling, AreUnits}
 use Rattle.dv_defs.specs.Decoding.{Sized, insn_here}
 use Rattle.dv_defs.specs.Op.{Op}
 use Rattle.dv_defs.specs.Statics.{At}
@@ -28,7 +28,7 @@ pub record IsSpelledHere (us : List ℕ) (x : Sized) : Type 0 where
 
 -- an instruction stands where its spelling does
 abbrev pub DecodingInvertsSpelling : Type 0
-DecodingInvertsSpelling = (us : List ℕ) → All (λ u. u < 2 ^ 16) us → (x : Sized) → (insn_here us ≡ Some x) ↔ IsSpelledHere us x
+DecodingInvertsSpelling = (us : List ℕ) → AreUnits us → (x : Sized) → (insn_here us ≡ Some x) ↔ IsSpelledHere us x
 
 -- ---- order and join
 
@@ -58,15 +58,21 @@ pub record IsJoin (image : Image) (s t j : RegState) : Type 0 where
   pub least : (u : RegState) → IsBelow image s u → IsBelow image t u → IsBelow image j u
 
 abbrev pub JoinIsLeast : Type 0
-JoinIsLeast = (image : Image) → IsHierarchy image → (s t : RegState) → RefersRightly s → RefersRightly t → length s.regs ≡ length t.regs → IsJoin image s t (join_state image s t)
+JoinIsLeast =
+    (image : Image) → IsHierarchy image → (s t : RegState) → RefersRightly s → RefersRightly t →
+    length s.regs ≡ length t.regs → IsJoin image s t (join_state image s t)
 
 -- ---- transfer and demand
 
 abbrev pub TransferIsMonotone : Type 0
-TransferIsMonotone = (image : Image) → IsHierarchy image → (m : Method) (at : ℕ) (op : Op) (s t : RegState) → IsBelow image s t → IsBelow image (out image m at op s) (out image m at op t)
+TransferIsMonotone =
+    (image : Image) → IsHierarchy image → (m : Method) (at : ℕ) (op : Op) (s t : RegState) → IsBelow image s t →
+    IsBelow image (out image m at op s) (out image m at op t)
 
 abbrev pub DemandIsAntitone : Type 0
-DemandIsAntitone = (image : Image) → IsHierarchy image → (m : Method) (x : At) (s t : RegState) → IsBelow image s t → ok image m x t ≡ None → ok image m x s ≡ None
+DemandIsAntitone =
+    (image : Image) → IsHierarchy image → (m : Method) (x : At) (s t : RegState) → IsBelow image s t →
+    ok image m x t ≡ None → ok image m x s ≡ None
 
 -- ---- acceptance and look-up
 

@@ -10,6 +10,7 @@ pub mod Step
 pub mod Running
 pub mod Opening
 pub mod Replaying
+pub mod Seeds
 pub mod Final
 pub mod Conforming
 pub mod WellTyped

@@ -65,7 +65,10 @@ compare_words t (Object o) (Number m) = Err why.Reference
 compare_words t (Object o) (Object p) = Ok (compare t (pos o) (pos p))
 
 abbrev pub test_both : Test → Value → Value → Reads Bool
-test_both t x y = elim (is_equality t) [ true ↦ on_next (read_word x) (λ a. on_next (read_word y) (λ b. compare_words t a b)) | false ↦ on_next (read_int x) (λ a. on_next (read_int y) (λ b. Ok (compare t a b))) ]
+test_both t x y =
+    elim (is_equality t) [
+        true ↦ on_next (read_word x) (λ a. on_next (read_word y) (λ b. compare_words t a b))
+      | false ↦ on_next (read_int x) (λ a. on_next (read_int y) (λ b. Ok (compare t a b))) ]
 
 abbrev pub test_zero : Test → Value → Reads Bool
 test_zero t x = test_both t x v.Zero
@@ -95,10 +98,17 @@ local (IntUnary o a b) f next = on_next (read_int (reg_at f.regs b)) (λ x. Ok (
 local (LongUnary o a b) f next = on_next (read_long f.regs b) (λ x. Ok (put_long f next a (unary_at w64 o x)))
 local (IntToLong a b) f next = on_next (read_int (reg_at f.regs b)) (λ x. Ok (put_long f next a x))
 local (LongToInt a b) f next = on_next (read_two f.regs b) (λ p. Ok (put f next a (v.Num (from32 p.lo))))
-local (IntOp o a b c) f next = on_next (read_int (reg_at f.regs b)) (λ x. on_next (read_arg f.regs c) (λ y. Ok (put f next a (v.Num (operate32 o x y)))))
-local (LongOp o a b c) f next = on_next (read_long f.regs b) (λ x. on_next (read_long f.regs c) (λ y. Ok (put_long f next a (operate64 o x y))))
-local (LongShift o a b c) f next = on_next (read_long f.regs b) (λ x. on_next (read_int (reg_at f.regs c)) (λ y. Ok (put_long f next a (operate64 o x y))))
-local (CompareLong a b c) f next = on_next (read_long f.regs b) (λ x. on_next (read_long f.regs c) (λ y. Ok (put f next a (v.Num (compare_long x y)))))
+local (IntOp o a b c) f next =
+    on_next (read_int (reg_at f.regs b))
+        (λ x. on_next (read_arg f.regs c) (λ y. Ok (put f next a (v.Num (operate32 o x y)))))
+local (LongOp o a b c) f next =
+    on_next (read_long f.regs b) (λ x. on_next (read_long f.regs c) (λ y. Ok (put_long f next a (operate64 o x y))))
+local (LongShift o a b c) f next =
+    on_next (read_long f.regs b)
+        (λ x. on_next (read_int (reg_at f.regs c)) (λ y. Ok (put_long f next a (operate64 o x y))))
+local (CompareLong a b c) f next =
+    on_next (read_long f.regs b)
+        (λ x. on_next (read_long f.regs c) (λ y. Ok (put f next a (v.Num (compare_long x y)))))
 local (Goto to) f next = Ok (gone f to f.regs)
 local (IfBoth t a b to) f next = on_next (test_both t (reg_at f.regs a) (reg_at f.regs b)) (λ c. Ok (branched f next to c))
 local (IfZero t a to) f next = on_next (test_zero t (reg_at f.regs a)) (λ c. Ok (branched f next to c))

@@ -12,7 +12,8 @@ use Rattle.dv_defs.specs.Numbers.{long_of, bits32}
 use Rattle.dv_defs.specs.Heap.{Heap, kind_of, newest, alloc_string, cells_at, length_of}
 use Rattle.dv_machine.specs.State.{truth, Left, Did, Throws, NoOutput, where_room, where_true, with_result, Here, onward, with_heap, with_output}
 use Rattle.dv_machine.specs.Mem.{on_object}
-use Rattle.dv_machine.specs.Texts.{text_of, utf8}
+use Rattle.dv_machine.specs.Texts.{text_of}
+use Rattle.dv_defs.specs.Texts.{utf8}
 use Rattle.dv_machine.specs.Threads.{wait_on, notify_on, notify_all_on, start_on, join_on, own_object, goes}
 use Rattle.std.specs.Fmt.{signed_decimal}
 
@@ -57,12 +58,17 @@ units_of (x ∷ xs) = bits32 (number_of x) % 65536 ∷ units_of xs
 
 -- count units from start on, where the array has them
 abbrev pub some_chars : Here → ℕ → ℤ → ℤ → Did Left
-some_chars h o (pos start) (pos count) = where_true (nat_le (start + count) (length_of h.shared.heap o)) named.IndexOutOfBounds (new_text h (units_of (take count (drop start (cells_at h.shared.heap o)))))
+some_chars h o (pos start) (pos count) =
+    where_true (nat_le (start + count) (length_of h.shared.heap o)) named.IndexOutOfBounds
+        (new_text h (units_of (take count (drop start (cells_at h.shared.heap o)))))
 some_chars h o start count = Throws named.IndexOutOfBounds
 
 -- one printing step, whole or not at all
 abbrev pub printed : Here → List ℕ → Did Left
-printed h bs = elim (nat_le (length h.shared.output + length bs) h.limits.output) [ true ↦ goes h (with_output h.shared (h.shared.output ++ bs)) | false ↦ NoOutput ]
+printed h bs =
+    elim (nat_le (length h.shared.output + length bs) h.limits.output) [
+        true ↦ goes h (with_output h.shared (h.shared.output ++ bs))
+      | false ↦ NoOutput ]
 
 -- a native with its argument words, the receiver's first
 abbrev pub native_step : Here → Native → List Value → Did Left
@@ -74,8 +80,14 @@ native_step h native.Join xs = join_on h (object_number (arg xs 0))
 native_step h native.CurrentThread xs = gives h (v.Ref (own_object h))
 native_step h native.Length xs = gives h (v.Num (pos (length (text_of h.shared.heap (object_number (arg xs 0))))))
 native_step h native.CharAt xs = char_at h (text_of h.shared.heap (object_number (arg xs 0))) (number_of (arg xs 1))
-native_step h native.Equals xs = gives h (truth (same_text (text_of h.shared.heap (object_number (arg xs 0))) (kind_of h.shared.heap (object_number (arg xs 1)))))
-native_step h native.Concat xs = on_object (λ o. new_text h (text_of h.shared.heap (object_number (arg xs 0)) ++ text_of h.shared.heap o)) (object_number (arg xs 1))
+native_step h native.Equals xs =
+    gives h
+        (truth
+             (same_text (text_of h.shared.heap (object_number (arg xs 0)))
+                  (kind_of h.shared.heap (object_number (arg xs 1)))))
+native_step h native.Concat xs =
+    on_object (λ o. new_text h (text_of h.shared.heap (object_number (arg xs 0)) ++ text_of h.shared.heap o))
+        (object_number (arg xs 1))
 native_step h native.OfLong xs = new_text h (signed_decimal (long_of (half_of (arg xs 0)) (half_of (arg xs 1))))
 native_step h native.OfChars xs = on_object (λ o. some_chars h o (number_of (arg xs 1)) (number_of (arg xs 2))) (object_number (arg xs 0))
 native_step h native.Print xs = on_object (λ o. printed h (utf8 (text_of h.shared.heap o))) (object_number (arg xs 0))

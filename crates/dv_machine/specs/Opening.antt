@@ -36,7 +36,9 @@ abbrev pub made : Heap → Kind → Cells → Heap
 made heap k cells = grown heap k cells 0
 
 abbrev pub object_made : Image → Heap → List ℕ → Heap
-object_made image heap name = made heap (kind.Object (record { 0 = number_named image name })) (fresh_cells (class_cells image (number_named image name)))
+object_made image heap name =
+    made heap (kind.Object (record { 0 = number_named image name }))
+        (fresh_cells (class_cells image (number_named image name)))
 
 -- the cells of a static field before strings are made
 abbrev pub number_cells : Ty → ℤ → Cells
@@ -68,7 +70,9 @@ with_string heap k (Some s) = interned_here heap k (intern heap s)
 -- the strings of static fields, by class and field
 abbrev pub with_strings : Image → List FieldInfo → ℕ → Heap → Heap
 with_strings image [] k heap = heap
-with_strings image (i ∷ is) k heap = with_strings image is (suc k) (elim (field_at image k) [ None ↦ heap | Some x ↦ with_string heap k (string_of x.def.init) ])
+with_strings image (i ∷ is) k heap =
+    with_strings image is (suc k)
+        (elim (field_at image k) [ None ↦ heap | Some x ↦ with_string heap k (string_of x.def.init) ])
 
 abbrev pub is_out : Image → Field → Bool
 is_out image x = bytes_eq (name_at image x.info.class.0) system_name && bytes_eq x.def.name (codes "out")
@@ -76,23 +80,44 @@ is_out image x = bytes_eq (name_at image x.info.class.0) system_name && bytes_eq
 -- System.out holds object 1
 abbrev pub with_out : Image → List FieldInfo → ℕ → Heap → Heap
 with_out image [] k heap = heap
-with_out image (i ∷ is) k heap = with_out image is (suc k) (elim (field_at image k) [ None ↦ heap | Some x ↦ elim (is_out image x) [ true ↦ with_static heap k 0 (v.Ref 1) | false ↦ heap ] ])
+with_out image (i ∷ is) k heap =
+    with_out image is (suc k)
+        (elim (field_at image k) [
+             None ↦ heap
+           | Some x ↦ elim (is_out image x) [ true ↦ with_static heap k 0 (v.Ref 1) | false ↦ heap ] ])
 
 abbrev pub empty_heap : Image → Heap
-empty_heap image = record { kinds = []; cells = []; statics = field_cells image image.fields 0; interned = []; class_objects = []; used = 0; limit = None }
+empty_heap image =
+    record {
+        kinds = [];
+        cells = [];
+        statics = field_cells image image.fields 0;
+        interned = [];
+        class_objects = [];
+        used = 0;
+        limit = None;
+    }
 
 abbrev pub takes_array : Method → Bool
 takes_array m = elim m.def.proto.params [ [] ↦ false | p ∷ ps ↦ true ]
 
 abbrev pub array_made : Method → Heap → Heap
-array_made m heap = elim (takes_array m) [ true ↦ made heap (kind.Array (record { dims = 1; base = base.Class string_name })) [] | false ↦ heap ]
+array_made m heap =
+    elim (takes_array m) [
+        true ↦ made heap (kind.Array (record { dims = 1; base = base.Class string_name })) []
+      | false ↦ heap ]
 
 abbrev pub counted_from : Limits → Heap → Heap
 counted_from l heap = record heap { used = 0; limit = Some l.heap }
 
 -- in this order: the object of System.out, thread 0's, the strings of static fields, main's array
 abbrev pub opening_heap : Image → Method → Limits → Heap
-opening_heap image m l = counted_from l (array_made m (with_strings image image.fields 0 (with_out image image.fields 0 (object_made image (object_made image (empty_heap image) stream_name) thread_name))))
+opening_heap image m l =
+    counted_from l
+        (array_made m
+             (with_strings image image.fields 0
+                  (with_out image image.fields 0
+                       (object_made image (object_made image (empty_heap image) stream_name) thread_name))))
 
 -- none of these classes declares an initialiser
 abbrev pub none_initialised : Image → List ℕ → Bool
@@ -120,7 +145,24 @@ opening_states m cs true = cs
 opening_states m cs false = with_state cs m.info.class.0 (InProgress 0)
 
 abbrev pub opened : Image → Limits → Method → Heap → Bool → Machine
-opened image l m heap born = record { threads = record { levels = opening_levels m (entered_frame m (main_args m heap) false) born; end = end.Living; object = 2 } ∷ []; shared = record { heap = heap; classes = opening_states m (first_states image image.classes 0) born; monitors = record { held = []; waits = [] }; output = [] }; steps = 0; stop = None; limits = l }
+opened image l m heap born =
+    record {
+        threads = record {
+                levels = opening_levels m (entered_frame m (main_args m heap) false) born;
+                end = end.Living;
+                object = 2;
+            } ∷
+            [];
+        shared = record {
+                heap = heap;
+                classes = opening_states m (first_states image image.classes 0) born;
+                monitors = record { held = []; waits = [] };
+                output = [];
+            };
+        steps = 0;
+        stop = None;
+        limits = l;
+    }
 
 -- the state in which a run of a main method begins
 abbrev pub opening : Image → Method → Limits → Machine

@@ -1,5 +1,5 @@
 -- What the examples ask of a run.
-use Rattle.std.specs.Prelude.{ℕ, zero, suc, ◌++◌, List, [], ◌∷◌, Option, Some, None, Ok, Err, codes, decimal}
+use Rattle.std.specs.Prelude.{ℕ, zero, suc, ◌++◌, List, [], ◌∷◌, length, Option, Some, None, Ok, Err, codes, decimal}
 use Rattle.dv_defs.specs.declared.image.Image.{Image}
 use Rattle.dv_defs.specs.declared.run.Limits.{Limits}
 use Rattle.dv_defs.specs.declared.run.Ending.{Ending}
@@ -42,7 +42,11 @@ shown image early (Err y) = why_text y
 -- one worker, which always takes the lowest runnable thread and gives it a turn of at most 256 steps; so many turns at most
 abbrev pub worked : Image → ℕ → Machine → Reads Machine
 worked image zero m = Ok m
-worked image (suc n) m = elim (ending_of image m) [ Some e ↦ Ok m | None ↦ on_next (turn image (picked (runnable_from image m m.threads 0) 0) 256 m) (λ x. worked image n x.machine) ]
+worked image (suc n) m =
+    elim (ending_of image m) [
+        Some e ↦ Ok m
+      | None ↦
+          on_next (turn image (picked (runnable_from image m m.threads 0) 0) 256 m) (λ x. worked image n x.machine) ]
 
 abbrev pub outcome_of : Image → Limits → Option Method → List ℕ
 outcome_of image l None = codes "no main"
@@ -61,9 +65,13 @@ replayed_text image early (NotRunnable k) = codes "#schedule entry " ++ decimal 
 replayed_text image early (PastEnd k) = codes "#schedule entry " ++ decimal k ++ codes ": past the end"
 replayed_text image early (Wrong y) = why_text y
 
+-- a schedule that ends before the run does, told by the number of its entries
+abbrev pub short_text : List Entry → List ℕ
+short_text log = codes "#schedule entry " ++ decimal (length log) ++ codes ": stops early"
+
 abbrev pub replay_of : Image → List Entry → Option Method → List ℕ
 replay_of image log None = codes "no main"
-replay_of image log (Some m) = replayed_text image (codes "#schedule stops early") (replay image m usual log)
+replay_of image log (Some m) = replayed_text image (short_text log) (replay image m usual log)
 
 -- what a replay prints
 abbrev pub replay_text : Image → ℕ → List Entry → List ℕ

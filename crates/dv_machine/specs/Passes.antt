@@ -37,15 +37,22 @@ given_handlers image n [] s states = states
 given_handlers image n (h ∷ hs) s states = given_handlers image n hs s (given image n h.to (caught_state s h) states)
 
 abbrev pub handled : Image → ℕ → ℕ → At → RegState → States → States
-handled image n at x s states = elim (can_throw x.op) [ true ↦ given_handlers image n (handlers_at image n (thrown_at at x)) s states | false ↦ states ]
+handled image n at x s states =
+    elim (can_throw x.op) [
+        true ↦ given_handlers image n (handlers_at image n (thrown_at at x)) s states
+      | false ↦ states ]
 
 abbrev pub passed_on : Image → Code → ℕ → Option At → Option RegState → States → States
-passed_on image code at (Some x) (Some s) states = handled image code.method.id at x s (given_all image code.method.id (targets x) (out image code.method at x.op s) states)
+passed_on image code at (Some x) (Some s) states =
+    handled image code.method.id at x s
+        (given_all image code.method.id (targets x) (out image code.method at x.op s) states)
 passed_on image code at x s states = states
 
 abbrev pub passed_over : Image → Code → List Tile → States → States
 passed_over image code [] states = states
-passed_over image code (t ∷ ts) states = passed_over image code ts (passed_on image code t.at (fetch image code.method.id t.at) (state_at states t.at) states)
+passed_over image code (t ∷ ts) states =
+    passed_over image code ts
+        (passed_on image code t.at (fetch image code.method.id t.at) (state_at states t.at) states)
 
 abbrev pub passes : Image → Code → ℕ → States → States
 passes image code zero states = states
@@ -54,47 +61,40 @@ passes image code (suc n) states = passes image code n (passed_over image code c
 abbrev pub begun : Image → Code → States
 begun image code = Some (entry_state image code.method code.body.registers) ∷ replicate (length code.body.units) None
 
--- an address with the rule that is broken there
-pub record Broken : Type 0 where
-  pub at : ℕ
-  pub rule : Rule
-
-abbrev pub broken_at : ℕ → Option Rule → List Broken
+abbrev pub broken_at : ℕ → Option Rule → List Place
 broken_at at None = []
-broken_at at (Some r) = record { at = at; rule = r } ∷ []
+broken_at at (Some r) = record { at = at; broken = r } ∷ []
 
 abbrev pub demanded : Image → Code → Option At → Option RegState → Option Rule
 demanded image code (Some x) (Some s) = ok image code.method x s
 demanded image code x s = None
 
-abbrev pub broken_in : Image → Code → States → List Tile → List Broken
+abbrev pub broken_in : Image → Code → States → List Tile → List Place
 broken_in image code states [] = []
-broken_in image code states (t ∷ ts) = broken_at t.at (demanded image code (fetch image code.method.id t.at) (state_at states t.at)) ++ broken_in image code states ts
+broken_in image code states (t ∷ ts) =
+    broken_at t.at (demanded image code (fetch image code.method.id t.at) (state_at states t.at)) ++
+    broken_in image code states ts
 
-abbrev pub static_broken : List Place → List Broken
-static_broken [] = []
-static_broken (p ∷ ps) = record { at = p.at; rule = rule.S p.rule } ∷ static_broken ps
-
-abbrev pub broken_by : Image → Code → List Place → List Broken
-broken_by image code (p ∷ ps) = static_broken (p ∷ ps)
+abbrev pub broken_by : Image → Code → List Place → List Place
+broken_by image code (p ∷ ps) = p ∷ ps
 broken_by image code [] = broken_in image code (passes image code 6 (begun image code)) code.tiles
 
-abbrev pub broken_of : Image → Option Code → List Broken
+abbrev pub broken_of : Image → Option Code → List Place
 broken_of image None = []
 broken_of image (Some code) = broken_by image code (static_places image code)
 
 -- the faults of a method: its static ones, else those that six passes find
-abbrev pub faults_of : Image → ℕ → List Broken
+abbrev pub faults_of : Image → ℕ → List Place
 faults_of image n = broken_of image (code_at image n)
 
 -- of the methods below a number
-abbrev pub faults_below : Image → ℕ → List Broken
+abbrev pub faults_below : Image → ℕ → List Place
 faults_below image zero = []
 faults_below image (suc n) = faults_below image n ++ faults_of image n
 
 -- a static rule, and a typing rule, that is broken at an address
-abbrev pub S : ℕ → ℕ → Broken
-S n at = record { at = at; rule = rule.S n }
+abbrev pub S : ℕ → ℕ → Place
+S n at = record { at = at; broken = rule.S n }
 
-abbrev pub V : ℕ → ℕ → Broken
-V n at = record { at = at; rule = rule.V n }
+abbrev pub V : ℕ → ℕ → Place
+V n at = record { at = at; broken = rule.V n }

@@ -33,7 +33,10 @@ stands_on (Ok m) = Stands m
 stands_on (Err y) = Wrong y
 
 abbrev pub one_step : Image → ℕ → ℕ → Machine → Replayed
-one_step image k t m = elim (ending_of image m) [ Some e ↦ PastEnd k | None ↦ elim (runnable image m t) [ true ↦ stands_on (step image m t) | false ↦ NotRunnable k ] ]
+one_step image k t m =
+    elim (ending_of image m) [
+        Some e ↦ PastEnd k
+      | None ↦ elim (runnable image m t) [ true ↦ stands_on (step image m t) | false ↦ NotRunnable k ] ]
 
 abbrev pub steps_of : Image → ℕ → ℕ → ℕ → Machine → Replayed
 steps_of image k t zero m = Stands m
@@ -77,25 +80,39 @@ is_running e = false
 
 -- the next step of the thread is local
 abbrev pub next_is_local : Image → Machine → ℕ → Bool
-next_is_local image m t = elim (slice_get m.threads t) [ None ↦ false | Some th ↦ elim (is_running th.end) [ true ↦ is_local_level image th.levels | false ↦ false ] ]
+next_is_local image m t =
+    elim (slice_get m.threads t) [
+        None ↦ false
+      | Some th ↦ elim (is_running th.end) [ true ↦ is_local_level image th.levels | false ↦ false ] ]
 
 abbrev pub one_more : Reads Turned → Reads Turned
 one_more (Ok x) = Ok (record { count = suc x.count; machine = x.machine })
 one_more (Err y) = Err y
 
 abbrev pub last_step : Image → ℕ → Machine → Reads Turned
-last_step image t m = elim (ending_of image m) [ Some e ↦ Ok (record { count = 0; machine = m }) | None ↦ elim (runnable image m t) [ false ↦ Ok (record { count = 0; machine = m }) | true ↦ on_next (step image m t) (λ n. Ok (record { count = 1; machine = n })) ] ]
+last_step image t m =
+    elim (ending_of image m) [
+        Some e ↦ Ok (record { count = 0; machine = m })
+      | None ↦ elim (runnable image m t) [
+              false ↦ Ok (record { count = 0; machine = m })
+            | true ↦ on_next (step image m t) (λ n. Ok (record { count = 1; machine = n })) ] ]
 
 -- local steps while the next one is local, then at most one other
 abbrev pub turn : Image → ℕ → ℕ → Machine → Reads Turned
 turn image t zero m = Ok (record { count = 0; machine = m })
-turn image t (suc most) m = elim (next_is_local image m t && not (nat_eq m.steps m.limits.budget)) [ true ↦ on_next (step image m t) (λ n. one_more (turn image t most n)) | false ↦ last_step image t m ]
+turn image t (suc most) m =
+    elim (next_is_local image m t && not (nat_eq m.steps m.limits.budget)) [
+        true ↦ on_next (step image m t) (λ n. one_more (turn image t most n))
+      | false ↦ last_step image t m ]
 
 -- ---- seeded runs; `word` gives the words of the generator
 
 abbrev pub runnable_from : Image → Machine → List Thread → ℕ → List ℕ
 runnable_from image m [] k = []
-runnable_from image m (t ∷ ts) k = elim (runnable_thread image m k t) [ true ↦ k ∷ runnable_from image m ts (suc k) | false ↦ runnable_from image m ts (suc k) ]
+runnable_from image m (t ∷ ts) k =
+    elim (runnable_thread image m k t) [
+        true ↦ k ∷ runnable_from image m ts (suc k)
+      | false ↦ runnable_from image m ts (suc k) ]
 
 -- the thread at place (word div 256) mod their number
 abbrev pub picked : List ℕ → ℕ → ℕ
@@ -107,7 +124,13 @@ logged t n es = record { worker = 0; thread = t; steps = n } ∷ es
 -- so many turns at most, from the k-th word on; each turn is at least one step, so the budget is enough
 abbrev pub seeded_from : (ℕ → ℕ) → Image → ℕ → ℕ → Machine → Reads (List Entry)
 seeded_from word image zero k m = Ok []
-seeded_from word image (suc fuel) k m = elim (ending_of image m) [ Some e ↦ Ok [] | None ↦ on_next (turn image (picked (runnable_from image m m.threads 0) (word k)) (1 + word k % 256) m) (λ x. on_next (seeded_from word image fuel (suc k) x.machine) (λ es. Ok (logged (picked (runnable_from image m m.threads 0) (word k)) x.count es))) ]
+seeded_from word image (suc fuel) k m =
+    elim (ending_of image m) [
+        Some e ↦ Ok []
+      | None ↦ on_next (turn image (picked (runnable_from image m m.threads 0) (word k)) (1 + word k % 256) m)
+              (λ x. 
+                   on_next (seeded_from word image fuel (suc k) x.machine)
+                       (λ es. Ok (logged (picked (runnable_from image m m.threads 0) (word k)) x.count es))) ]
 
 abbrev pub seeded_log : (ℕ → ℕ) → Image → Method → Limits → Reads (List Entry)
 seeded_log word image main l = seeded_from word image (suc l.budget) 0 (opening image main l)

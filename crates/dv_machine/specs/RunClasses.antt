@@ -201,11 +201,13 @@ failing_main = with_boot
 -- class initialisation
 pub record Initialising : Type 0 where
   -- two threads initialise two classes that need each other
-  pub each_waits_for_the_other : replay_text crossing 98 (steps 0 10 ∷ steps 1 2 ∷ []) ≡ lines (codes "#blocked 0 class LA;" ∷ codes "#blocked 1 class LB;" ∷ codes "#end blocked" ∷ [])
+  pub each_waits_for_the_other :
+      replay_text crossing 98 (steps 0 10 ∷ steps 1 2 ∷ []) ≡ lines
+          (codes "#blocked 0 class LA;" ∷ codes "#blocked 1 class LB;" ∷ codes "#end blocked" ∷ [])
   -- one thread goes first
   pub one_goes_first : replay_text crossing 98 (steps 0 23 ∷ steps 1 3 ∷ []) ≡ lines (codes "#end done" ∷ [])
   -- a schedule that stops early
-  pub stops_early : replay_text crossing 98 (steps 0 23 ∷ []) ≡ codes "#schedule stops early"
+  pub stops_early : replay_text crossing 98 (steps 0 23 ∷ []) ≡ codes "#schedule entry 1: stops early"
   -- a schedule that goes past the end
   pub past_the_end : replay_text crossing 98 (steps 0 23 ∷ steps 1 4 ∷ []) ≡ codes "#schedule entry 1: past the end"
   -- a thread that waits for a class
@@ -215,10 +217,13 @@ pub record Initialising : Type 0 where
   -- the program is accepted
   pub crossing_is_accepted : Accepts crossing
   -- an initialiser that throws, and a second use of its class
-  pub initialiser_throws : outcome failing 98 ≡ lines (codes "1" ∷ codes "#uncaught 0 java.lang.NoClassDefFoundError" ∷ codes "#end done" ∷ [])
+  pub initialiser_throws :
+      outcome failing 98 ≡ lines
+          (codes "1" ∷ codes "#uncaught 0 java.lang.NoClassDefFoundError" ∷ codes "#end done" ∷ [])
   -- the program is accepted
   pub failing_is_accepted : Accepts failing
   -- main's class first, then a superclass, its class, the method; a class is initialised once
-  pub superclass_goes_first : outcome ordering 99 ≡ lines (codes "1" ∷ codes "2" ∷ codes "3" ∷ codes "4" ∷ codes "7" ∷ codes "#end done" ∷ [])
+  pub superclass_goes_first :
+      outcome ordering 99 ≡ lines (codes "1" ∷ codes "2" ∷ codes "3" ∷ codes "4" ∷ codes "7" ∷ codes "#end done" ∷ [])
   -- where the initialiser of main's class throws, main is dropped without a search; an Error isn't wrapped
   pub main_never_runs : outcome failing_main 99 ≡ lines (codes "#uncaught 0 java.lang.OutOfMemoryError" ∷ codes "#end done" ∷ [])

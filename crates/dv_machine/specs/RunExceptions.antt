@@ -27,7 +27,14 @@ use Rattle.dv_machine.specs.Outcomes.{lines, outcome}
 --   .catchall {:a .. :b} :h
 --   .catchall {:b .. :c} :i
 abbrev pub exiting : Image
-exiting = with_main (body_with 2 (0x0022 ∷ 0x0000 ∷ 0x1070 ∷ 0x0000 ∷ 0x0000 ∷ 0x001e ∷ 0x0112 ∷ 0x000e ∷ 0x1112 ∷ 0x1071 ∷ 0x0001 ∷ 0x0001 ∷ 0x000e ∷ 0x2112 ∷ 0x1071 ∷ 0x0001 ∷ 0x0001 ∷ 0x000e ∷ []) (entry_over 5 6 (catch_all 8 ∷ []) ∷ entry_over 6 7 (catch_all 13 ∷ []) ∷ []) [] ((of_class (codes "Ljava/lang/Object;")) ∷ [])) ((of_class (codes "Ljava/lang/Object;")) ∷ []) [] (0 ∷ 40 ∷ [])
+exiting =
+    with_main
+        (body_with 2
+             (0x0022 ∷ 0x0000 ∷ 0x1070 ∷ 0x0000 ∷ 0x0000 ∷ 0x001e ∷ 0x0112 ∷ 0x000e ∷ 0x1112 ∷ 0x1071 ∷ 0x0001 ∷
+              0x0001 ∷ 0x000e ∷ 0x2112 ∷ 0x1071 ∷ 0x0001 ∷ 0x0001 ∷ 0x000e ∷ [])
+             (entry_over 5 6 (catch_all 8 ∷ []) ∷ entry_over 6 7 (catch_all 13 ∷ []) ∷ []) []
+             ((of_class (codes "Ljava/lang/Object;")) ∷ []))
+        ((of_class (codes "Ljava/lang/Object;")) ∷ []) [] (0 ∷ 40 ∷ [])
 
 --   .class LMain;
 --   .super Ljava/lang/Object;
@@ -94,7 +101,9 @@ pub record Exceptions : Type 0 where
   -- an uncaught exception with a message
   pub message_is_told : outcome throwing 98 ≡ lines (codes "#uncaught 0 java.lang.RuntimeException: no" ∷ codes "#end done" ∷ [])
   -- the first handler whose type fits, and the exception thrown anew
-  pub first_fitting_handler : outcome throwing 100 ≡ lines (codes "2" ∷ codes "#uncaught 0 java.lang.ArithmeticException" ∷ codes "#end done" ∷ [])
+  pub first_fitting_handler :
+      outcome throwing 100 ≡ lines
+          (codes "2" ∷ codes "#uncaught 0 java.lang.ArithmeticException" ∷ codes "#end done" ∷ [])
   -- throw of null
   pub throw_of_null : outcome throwing 101 ≡ lines (codes "#uncaught 0 java.lang.NullPointerException" ∷ codes "#end done" ∷ [])
   -- the program is accepted

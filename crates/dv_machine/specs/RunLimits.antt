@@ -14,7 +14,11 @@ use Rattle.dv_machine.specs.Outcomes.{usual, lines, outcome, outcome_within}
 --   invoke-static {v0}, Ldvm/Console;->println(I)V
 --   return-void
 abbrev pub fitting : Image
-fitting = with_main (body_with 1 (0x0013 ∷ 0x003e ∷ 0x0023 ∷ 0x0000 ∷ 0x0021 ∷ 0x1071 ∷ 0x0000 ∷ 0x0000 ∷ 0x000e ∷ []) [] [] ((array_of int) ∷ [])) ((array_of int) ∷ []) [] (40 ∷ [])
+fitting =
+    with_main
+        (body_with 1 (0x0013 ∷ 0x003e ∷ 0x0023 ∷ 0x0000 ∷ 0x0021 ∷ 0x1071 ∷ 0x0000 ∷ 0x0000 ∷ 0x000e ∷ []) [] []
+             ((array_of int) ∷ []))
+        ((array_of int) ∷ []) [] (40 ∷ [])
 
 --   .registers 1
 --   const/16 v0, 0x3f
@@ -23,7 +27,11 @@ fitting = with_main (body_with 1 (0x0013 ∷ 0x003e ∷ 0x0023 ∷ 0x0000 ∷ 0x
 --   invoke-static {v0}, Ldvm/Console;->println(I)V
 --   return-void
 abbrev pub filling : Image
-filling = with_main (body_with 1 (0x0013 ∷ 0x003f ∷ 0x0023 ∷ 0x0000 ∷ 0x0021 ∷ 0x1071 ∷ 0x0000 ∷ 0x0000 ∷ 0x000e ∷ []) [] [] ((array_of int) ∷ [])) ((array_of int) ∷ []) [] (40 ∷ [])
+filling =
+    with_main
+        (body_with 1 (0x0013 ∷ 0x003f ∷ 0x0023 ∷ 0x0000 ∷ 0x0021 ∷ 0x1071 ∷ 0x0000 ∷ 0x0000 ∷ 0x000e ∷ []) [] []
+             ((array_of int) ∷ []))
+        ((array_of int) ∷ []) [] (40 ∷ [])
 
 --   .class LMain;
 --   .super Ljava/lang/Object;
@@ -186,6 +194,10 @@ pub record Stops : Type 0 where
   -- the second line of four bytes doesn't fit into seven
   pub output_is_full : outcome_within (record usual { output = 7 }) printing 98 ≡ lines (codes "123" ∷ codes "#end output" ∷ [])
   -- but into eight
-  pub output_suffices : outcome_within (record usual { output = 8 }) printing 98 ≡ lines (codes "123" ∷ codes "123" ∷ codes "#end done" ∷ [])
+  pub output_suffices :
+      outcome_within (record usual { output = 8 }) printing 98 ≡ lines
+          (codes "123" ∷ codes "123" ∷ codes "#end done" ∷ [])
   -- a fourth thread where three may be
-  pub threads_are_few : outcome_within (record usual { threads = 3 }) starting 98 ≡ lines (codes "#uncaught 0 java.lang.OutOfMemoryError" ∷ codes "#end done" ∷ [])
+  pub threads_are_few :
+      outcome_within (record usual { threads = 3 }) starting 98 ≡ lines
+          (codes "#uncaught 0 java.lang.OutOfMemoryError" ∷ codes "#end done" ∷ [])

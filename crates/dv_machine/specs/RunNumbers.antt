@@ -24,7 +24,12 @@ adding = with_main (body 2 (0x0014 ∷ 0xffff ∷ 0x7fff ∷ 0x1112 ∷ 0x0090 �
 --   div-int v0, v0, v1
 --   return-void
 abbrev pub dividing : Image
-dividing = with_main (body 2 (0x0014 ∷ 0x0000 ∷ 0x8000 ∷ 0xf112 ∷ 0x0193 ∷ 0x0100 ∷ 0x1071 ∷ 0x0000 ∷ 0x0001 ∷ 0x0112 ∷ 0x0093 ∷ 0x0100 ∷ 0x000e ∷ [])) [] [] (40 ∷ [])
+dividing =
+    with_main
+        (body 2
+             (0x0014 ∷ 0x0000 ∷ 0x8000 ∷ 0xf112 ∷ 0x0193 ∷ 0x0100 ∷ 0x1071 ∷ 0x0000 ∷ 0x0001 ∷ 0x0112 ∷ 0x0093 ∷
+              0x0100 ∷ 0x000e ∷ []))
+        [] [] (40 ∷ [])
 
 --   .registers 3
 --   const-wide/16 v0, 0x7
@@ -34,7 +39,9 @@ dividing = with_main (body 2 (0x0014 ∷ 0x0000 ∷ 0x8000 ∷ 0xf112 ∷ 0x0193
 --   invoke-static {v2}, Ldvm/Console;->println(I)V
 --   return-void
 abbrev pub long_kept : Image
-long_kept = with_main (body 3 (0x0016 ∷ 0x0007 ∷ 0x1112 ∷ 0x0016 ∷ 0x0009 ∷ 0x0284 ∷ 0x1071 ∷ 0x0000 ∷ 0x0002 ∷ 0x000e ∷ [])) [] [] (40 ∷ [])
+long_kept =
+    with_main (body 3 (0x0016 ∷ 0x0007 ∷ 0x1112 ∷ 0x0016 ∷ 0x0009 ∷ 0x0284 ∷ 0x1071 ∷ 0x0000 ∷ 0x0002 ∷ 0x000e ∷ []))
+        [] [] (40 ∷ [])
 
 --   .registers 6
 --   const-wide v0, 0x123456789abcdef0
@@ -52,7 +59,13 @@ long_kept = with_main (body 3 (0x0016 ∷ 0x0007 ∷ 0x1112 ∷ 0x0016 ∷ 0x000
 --   invoke-static {v3}, Ldvm/Console;->println(I)V
 --   return-void
 abbrev pub longs : Image
-longs = with_main (body 6 (0x0018 ∷ 0xdef0 ∷ 0x9abc ∷ 0x5678 ∷ 0x1234 ∷ 0x0213 ∷ 0x0024 ∷ 0x04a4 ∷ 0x0200 ∷ 0x4384 ∷ 0x1071 ∷ 0x0000 ∷ 0x0003 ∷ 0x0416 ∷ 0xffff ∷ 0x0331 ∷ 0x0004 ∷ 0x1071 ∷ 0x0000 ∷ 0x0003 ∷ 0x4212 ∷ 0x04a5 ∷ 0x0204 ∷ 0x0016 ∷ 0x0000 ∷ 0x0331 ∷ 0x0004 ∷ 0x1071 ∷ 0x0000 ∷ 0x0003 ∷ 0x000e ∷ [])) [] [] (40 ∷ [])
+longs =
+    with_main
+        (body 6
+             (0x0018 ∷ 0xdef0 ∷ 0x9abc ∷ 0x5678 ∷ 0x1234 ∷ 0x0213 ∷ 0x0024 ∷ 0x04a4 ∷ 0x0200 ∷ 0x4384 ∷ 0x1071 ∷
+              0x0000 ∷ 0x0003 ∷ 0x0416 ∷ 0xffff ∷ 0x0331 ∷ 0x0004 ∷ 0x1071 ∷ 0x0000 ∷ 0x0003 ∷ 0x4212 ∷ 0x04a5 ∷
+              0x0204 ∷ 0x0016 ∷ 0x0000 ∷ 0x0331 ∷ 0x0004 ∷ 0x1071 ∷ 0x0000 ∷ 0x0003 ∷ 0x000e ∷ []))
+        [] [] (40 ∷ [])
 
 --   .registers 3
 --   const/4 v0, 0x1
@@ -70,7 +83,13 @@ longs = with_main (body 6 (0x0018 ∷ 0xdef0 ∷ 0x9abc ∷ 0x5678 ∷ 0x1234 �
 --   invoke-static {v2}, Ldvm/Console;->println(I)V
 --   return-void
 abbrev pub shifting : Image
-shifting = with_main (body 3 (0x1012 ∷ 0x0113 ∷ 0x0021 ∷ 0x0298 ∷ 0x0100 ∷ 0x1071 ∷ 0x0000 ∷ 0x0002 ∷ 0x8012 ∷ 0x02e1 ∷ 0x0100 ∷ 0x1071 ∷ 0x0000 ∷ 0x0002 ∷ 0x02e2 ∷ 0x1f00 ∷ 0x1071 ∷ 0x0000 ∷ 0x0002 ∷ 0x02d1 ∷ 0x0001 ∷ 0x1071 ∷ 0x0000 ∷ 0x0002 ∷ 0x02dc ∷ 0x0300 ∷ 0x1071 ∷ 0x0000 ∷ 0x0002 ∷ 0x000e ∷ [])) [] [] (40 ∷ [])
+shifting =
+    with_main
+        (body 3
+             (0x1012 ∷ 0x0113 ∷ 0x0021 ∷ 0x0298 ∷ 0x0100 ∷ 0x1071 ∷ 0x0000 ∷ 0x0002 ∷ 0x8012 ∷ 0x02e1 ∷ 0x0100 ∷
+              0x1071 ∷ 0x0000 ∷ 0x0002 ∷ 0x02e2 ∷ 0x1f00 ∷ 0x1071 ∷ 0x0000 ∷ 0x0002 ∷ 0x02d1 ∷ 0x0001 ∷ 0x1071 ∷
+              0x0000 ∷ 0x0002 ∷ 0x02dc ∷ 0x0300 ∷ 0x1071 ∷ 0x0000 ∷ 0x0002 ∷ 0x000e ∷ []))
+        [] [] (40 ∷ [])
 
 --   .registers 2
 --   const v0, 0x12345
@@ -83,7 +102,12 @@ shifting = with_main (body 3 (0x1012 ∷ 0x0113 ∷ 0x0021 ∷ 0x0298 ∷ 0x0100
 --   invoke-static {v1}, Ldvm/Console;->println(I)V
 --   return-void
 abbrev pub narrowing : Image
-narrowing = with_main (body 2 (0x0014 ∷ 0x2345 ∷ 0x0001 ∷ 0x018d ∷ 0x1071 ∷ 0x0000 ∷ 0x0001 ∷ 0x018e ∷ 0x1071 ∷ 0x0000 ∷ 0x0001 ∷ 0x0014 ∷ 0x8000 ∷ 0x0001 ∷ 0x018f ∷ 0x1071 ∷ 0x0000 ∷ 0x0001 ∷ 0x000e ∷ [])) [] [] (40 ∷ [])
+narrowing =
+    with_main
+        (body 2
+             (0x0014 ∷ 0x2345 ∷ 0x0001 ∷ 0x018d ∷ 0x1071 ∷ 0x0000 ∷ 0x0001 ∷ 0x018e ∷ 0x1071 ∷ 0x0000 ∷ 0x0001 ∷
+              0x0014 ∷ 0x8000 ∷ 0x0001 ∷ 0x018f ∷ 0x1071 ∷ 0x0000 ∷ 0x0001 ∷ 0x000e ∷ []))
+        [] [] (40 ∷ [])
 
 --   .registers 2
 --   const/4 v0, 0x1
@@ -100,7 +124,12 @@ narrowing = with_main (body 2 (0x0014 ∷ 0x2345 ∷ 0x0001 ∷ 0x018d ∷ 0x107
 --   :p
 --   .end packed-switch
 abbrev pub switching : Image
-switching = with_main (body 2 (0x1012 ∷ 0x002b ∷ 0x000b ∷ 0x0000 ∷ 0x5112 ∷ 0x0228 ∷ 0x7112 ∷ 0x1071 ∷ 0x0000 ∷ 0x0001 ∷ 0x000e ∷ 0x0000 ∷ 0x0100 ∷ 0x0001 ∷ 0x0001 ∷ 0x0000 ∷ 0x0005 ∷ 0x0000 ∷ [])) [] [] (40 ∷ [])
+switching =
+    with_main
+        (body 2
+             (0x1012 ∷ 0x002b ∷ 0x000b ∷ 0x0000 ∷ 0x5112 ∷ 0x0228 ∷ 0x7112 ∷ 0x1071 ∷ 0x0000 ∷ 0x0001 ∷ 0x000e ∷
+              0x0000 ∷ 0x0100 ∷ 0x0001 ∷ 0x0001 ∷ 0x0000 ∷ 0x0005 ∷ 0x0000 ∷ []))
+        [] [] (40 ∷ [])
 
 --   .registers 2
 --   const/4 v0, -0x3
@@ -121,7 +150,13 @@ switching = with_main (body 2 (0x1012 ∷ 0x002b ∷ 0x000b ∷ 0x0000 ∷ 0x511
 --   9 -> :p
 --   .end sparse-switch
 abbrev pub choosing : Image
-choosing = with_main (body 2 (0xd012 ∷ 0x002c ∷ 0x000d ∷ 0x0000 ∷ 0x5112 ∷ 0x0428 ∷ 0x7112 ∷ 0x0228 ∷ 0x6112 ∷ 0x1071 ∷ 0x0000 ∷ 0x0001 ∷ 0x000e ∷ 0x0000 ∷ 0x0200 ∷ 0x0002 ∷ 0xfffd ∷ 0xffff ∷ 0x0009 ∷ 0x0000 ∷ 0x0007 ∷ 0x0000 ∷ 0x0005 ∷ 0x0000 ∷ [])) [] [] (40 ∷ [])
+choosing =
+    with_main
+        (body 2
+             (0xd012 ∷ 0x002c ∷ 0x000d ∷ 0x0000 ∷ 0x5112 ∷ 0x0428 ∷ 0x7112 ∷ 0x0228 ∷ 0x6112 ∷ 0x1071 ∷ 0x0000 ∷
+              0x0001 ∷ 0x000e ∷ 0x0000 ∷ 0x0200 ∷ 0x0002 ∷ 0xfffd ∷ 0xffff ∷ 0x0009 ∷ 0x0000 ∷ 0x0007 ∷ 0x0000 ∷
+              0x0005 ∷ 0x0000 ∷ []))
+        [] [] (40 ∷ [])
 
 -- numbers and branches
 pub record Numbers : Type 0 where
@@ -130,13 +165,17 @@ pub record Numbers : Type 0 where
   -- the program is accepted
   pub sum_is_accepted : Accepts adding
   -- the least int by -1 wraps, a division by zero throws
-  pub division_throws : outcome dividing 98 ≡ lines (codes "-2147483648" ∷ codes "#uncaught 0 java.lang.ArithmeticException" ∷ codes "#end done" ∷ [])
+  pub division_throws :
+      outcome dividing 98 ≡ lines
+          (codes "-2147483648" ∷ codes "#uncaught 0 java.lang.ArithmeticException" ∷ codes "#end done" ∷ [])
   -- a long written whole again
   pub long_is_whole : outcome long_kept 98 ≡ lines (codes "9" ∷ codes "#end done" ∷ [])
   -- 0x123456789abcdef0 shifted right by 36 is 0x1234567; -1 is below it; ushr makes -1 positive
   pub longs_are_computed : outcome longs 98 ≡ lines (codes "19088743" ∷ codes "-1" ∷ codes "1" ∷ codes "#end done" ∷ [])
   -- a distance of 33 is one of 1; rsub is the literal less the register; a remainder has the sign of the first
-  pub shifts_keep_low_bits : outcome shifting 98 ≡ lines (codes "2" ∷ codes "-4" ∷ codes "1" ∷ codes "9" ∷ codes "-2" ∷ codes "#end done" ∷ [])
+  pub shifts_keep_low_bits :
+      outcome shifting 98 ≡ lines
+          (codes "2" ∷ codes "-4" ∷ codes "1" ∷ codes "9" ∷ codes "-2" ∷ codes "#end done" ∷ [])
   -- 0x45, 0x2345, and 0x8000 as a short
   pub narrow_conversions : outcome narrowing 98 ≡ lines (codes "69" ∷ codes "9029" ∷ codes "-32768" ∷ codes "#end done" ∷ [])
   -- a packed switch

@@ -347,7 +347,8 @@ pub record Objects : Type 0 where
   -- an override by invoke-interface, which calls its superclass's; an inherited method; private calls with a long
   pub calls_find_the_nearest : outcome calling 98 ≡ lines (codes "1" ∷ codes "2" ∷ codes "3" ∷ codes "22" ∷ codes "#end done" ∷ [])
   -- an object whose class lacks the interface
-  pub interface_is_lacking : outcome calling 99 ≡ lines (codes "#uncaught 0 java.lang.IncompatibleClassChangeError" ∷ codes "#end done" ∷ [])
+  pub interface_is_lacking :
+      outcome calling 99 ≡ lines (codes "#uncaught 0 java.lang.IncompatibleClassChangeError" ∷ codes "#end done" ∷ [])
   -- an object whose class lacks the method
   pub method_is_lacking : outcome calling 100 ≡ lines (codes "#uncaught 0 java.lang.AbstractMethodError" ∷ codes "#end done" ∷ [])
   -- no object
@@ -361,7 +362,10 @@ pub record Objects : Type 0 where
   -- the program is accepted
   pub arrays_are_accepted : Accepts arrays
   -- elements of a payload, a filled array, an index out of range
-  pub elements_and_index : outcome arrays 98 ≡ lines (codes "-6" ∷ codes "2" ∷ codes "#uncaught 0 java.lang.ArrayIndexOutOfBoundsException" ∷ codes "#end done" ∷ [])
+  pub elements_and_index :
+      outcome arrays 98 ≡ lines
+          (codes "-6" ∷ codes "2" ∷ codes "#uncaught 0 java.lang.ArrayIndexOutOfBoundsException" ∷ codes "#end done" ∷
+           [])
   -- more elements than the array has
   pub fill_is_too_long : outcome arrays 99 ≡ lines (codes "#uncaught 0 java.lang.ArrayIndexOutOfBoundsException" ∷ codes "#end done" ∷ [])
   -- null may be stored, an object of another class not
@@ -377,6 +381,11 @@ pub record Objects : Type 0 where
   -- a text builder, System.out, values of static fields
   pub builder_and_stream : outcome texts 98 ≡ lines (codes "hi-7-2!" ∷ codes "null" ∷ codes "true" ∷ codes "#end done" ∷ [])
   -- equal literals are one object, as are Class objects; a new string is another, but equal; its character 2 is out of range
-  pub literals_are_one : outcome texts 99 ≡ lines (codes "1" ∷ codes "2" ∷ codes "1" ∷ codes "#uncaught 0 java.lang.IndexOutOfBoundsException" ∷ codes "#end done" ∷ [])
+  pub literals_are_one :
+      outcome texts 99 ≡ lines
+          (codes "1" ∷ codes "2" ∷ codes "1" ∷ codes "#uncaught 0 java.lang.IndexOutOfBoundsException" ∷
+           codes "#end done" ∷ [])
   -- characters of two, three and four bytes; a lone surrogate is a question mark; a newline closes the last line
-  pub units_as_bytes : outcome texts 100 ≡ 0xc3 ∷ 0xa9 ∷ 0xe2 ∷ 0x82 ∷ 0xac ∷ 0xf0 ∷ 0x9f ∷ 0x98 ∷ 0x80 ∷ 0x3f ∷ 10 ∷ lines (codes "#end done" ∷ [])
+  pub units_as_bytes :
+      outcome texts 100 ≡ 0xc3 ∷ 0xa9 ∷ 0xe2 ∷ 0x82 ∷ 0xac ∷ 0xf0 ∷ 0x9f ∷ 0x98 ∷ 0x80 ∷ 0x3f ∷ 10 ∷
+      lines (codes "#end done" ∷ [])

@@ -1,10 +1,11 @@
 -- Examples: turns and seeded runs.
-use Rattle.std.specs.Prelude.{◌≡◌, ℕ, List, [], ◌∷◌, Option, Some, None, codes, slice_index_or, Ok}
+use Rattle.std.specs.Prelude.{◌≡◌, ℕ, ◌+◌, ◌*◌, ◌^◌, List, [], ◌∷◌, Option, Some, None, codes, slice_index_or, Ok}
 use Rattle.dv_defs.specs.declared.image.Image.{Image}
 use Rattle.dv_defs.specs.declared.run.Entry.{Entry}
 use Rattle.dv_defs.specs.Pools.{Method, method_at}
 use Rattle.dv_machine.specs.State.{Reads}
 use Rattle.dv_machine.specs.Replaying.{seeded_log}
+use Rattle.dv_machine.specs.Seeds.{word_of, log_of_seed}
 use Rattle.dv_defs.specs.Types.{of_class}
 use Rattle.dv_machine.specs.Images.{body, body_with, method, class, info}
 use Rattle.dv_machine.specs.BootImage.{with_boot, with_main}
@@ -61,6 +62,10 @@ log_by image ws (Some m) = seeded_log (words ws) image m (record usual { budget 
 abbrev pub log_of : Image → ℕ → List ℕ → Reads (List Entry)
 log_of image main ws = log_by image ws (method_at image main)
 
+abbrev pub seeded_by : Image → ℕ → Option Method → Reads (List Entry)
+seeded_by image seed None = Ok []
+seeded_by image seed (Some m) = log_of_seed image m usual seed
+
 -- logs that words of a generator pick
 pub record SeededRuns : Type 0 where
   -- at most two steps, one, and six: two local steps, the third, and the return
@@ -68,6 +73,16 @@ pub record SeededRuns : Type 0 where
   -- a turn of at most 256 steps: three local ones and the return
   pub whole_in_one_turn : log_of four_steps 98 (255 ∷ []) ≡ Ok (steps 0 4 ∷ [])
   -- eight steps make and start the thread; then the thread at place 0 of two returns
-  pub lowest_first : log_of two_threads 98 [] ≡ Ok (steps 0 1 ∷ steps 0 1 ∷ steps 0 1 ∷ steps 0 1 ∷ steps 0 1 ∷ steps 0 1 ∷ steps 0 1 ∷ steps 0 1 ∷ steps 0 1 ∷ steps 1 1 ∷ [])
+  pub lowest_first :
+      log_of two_threads 98 [] ≡ Ok
+          (steps 0 1 ∷ steps 0 1 ∷ steps 0 1 ∷ steps 0 1 ∷ steps 0 1 ∷ steps 0 1 ∷ steps 0 1 ∷ steps 0 1 ∷ steps 0 1 ∷
+           steps 1 1 ∷ [])
+  -- the first words of the seed 0, as the generator's own tests have them: 18195738587432868099 as one number of 64 bits
+  pub words_of_zero : word_of 0 0 + word_of 0 1 * 2 ^ 32 ≡ 18195738587432868099
+  -- the first word ends in 03: a turn of at most four steps
+  pub seed_zero : seeded_by four_steps 0 (method_at four_steps 98) ≡ Ok (steps 0 4 ∷ [])
   -- place 3 mod 2 of two
-  pub second_first : log_of two_threads 98 (0 ∷ 0 ∷ 0 ∷ 0 ∷ 0 ∷ 0 ∷ 0 ∷ 0 ∷ 0x300 ∷ []) ≡ Ok (steps 0 1 ∷ steps 0 1 ∷ steps 0 1 ∷ steps 0 1 ∷ steps 0 1 ∷ steps 0 1 ∷ steps 0 1 ∷ steps 0 1 ∷ steps 1 1 ∷ steps 0 1 ∷ [])
+  pub second_first :
+      log_of two_threads 98 (0 ∷ 0 ∷ 0 ∷ 0 ∷ 0 ∷ 0 ∷ 0 ∷ 0 ∷ 0x300 ∷ []) ≡ Ok
+          (steps 0 1 ∷ steps 0 1 ∷ steps 0 1 ∷ steps 0 1 ∷ steps 0 1 ∷ steps 0 1 ∷ steps 0 1 ∷ steps 0 1 ∷ steps 1 1 ∷
+           steps 0 1 ∷ [])

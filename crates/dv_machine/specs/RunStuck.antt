@@ -32,7 +32,11 @@ half = with_main (body 2 (0x0016 ∷ 0x0007 ∷ 0x1071 ∷ 0x0000 ∷ 0x0000 ∷
 --   instance-of v1, v0, Ljava/lang/Object;
 --   return-void
 abbrev pub uninitialised : Image
-uninitialised = with_main (body_with 2 (0x0022 ∷ 0x0000 ∷ 0x0120 ∷ 0x0000 ∷ 0x000e ∷ []) [] [] ((of_class (codes "Ljava/lang/Object;")) ∷ [])) ((of_class (codes "Ljava/lang/Object;")) ∷ []) [] []
+uninitialised =
+    with_main
+        (body_with 2 (0x0022 ∷ 0x0000 ∷ 0x0120 ∷ 0x0000 ∷ 0x000e ∷ []) [] []
+             ((of_class (codes "Ljava/lang/Object;")) ∷ []))
+        ((of_class (codes "Ljava/lang/Object;")) ∷ []) [] []
 
 --   .registers 2
 --   const-string v0, ""
@@ -46,7 +50,10 @@ reference = with_main (body_with 2 (0x001a ∷ 0x0000 ∷ 0x1071 ∷ 0x0000 ∷ 
 --   instance-of v1, v0, Ljava/lang/Object;
 --   return-void
 abbrev pub number : Image
-number = with_main (body_with 2 (0x1012 ∷ 0x0120 ∷ 0x0000 ∷ 0x000e ∷ []) [] [] ((of_class (codes "Ljava/lang/Object;")) ∷ [])) ((of_class (codes "Ljava/lang/Object;")) ∷ []) [] []
+number =
+    with_main
+        (body_with 2 (0x1012 ∷ 0x0120 ∷ 0x0000 ∷ 0x000e ∷ []) [] [] ((of_class (codes "Ljava/lang/Object;")) ∷ []))
+        ((of_class (codes "Ljava/lang/Object;")) ∷ []) [] []
 
 --   .registers 2
 --   const/4 v0, 0x1
@@ -81,7 +88,11 @@ falls_off = with_main (body 1 (0x0000 ∷ [])) [] [] []
 --   invoke-direct {v0}, Ljava/lang/Object;-><init>()V
 --   return-void
 abbrev pub twice : Image
-twice = with_main (body_with 1 (0x0022 ∷ 0x0000 ∷ 0x1070 ∷ 0x0000 ∷ 0x0000 ∷ 0x1070 ∷ 0x0000 ∷ 0x0000 ∷ 0x000e ∷ []) [] [] ((of_class (codes "Ljava/lang/Object;")) ∷ [])) ((of_class (codes "Ljava/lang/Object;")) ∷ []) [] (0 ∷ [])
+twice =
+    with_main
+        (body_with 1 (0x0022 ∷ 0x0000 ∷ 0x1070 ∷ 0x0000 ∷ 0x0000 ∷ 0x1070 ∷ 0x0000 ∷ 0x0000 ∷ 0x000e ∷ []) [] []
+             ((of_class (codes "Ljava/lang/Object;")) ∷ []))
+        ((of_class (codes "Ljava/lang/Object;")) ∷ []) [] (0 ∷ [])
 
 -- each reason for which the machine is stuck, on code that the verifier refuses
 pub record StuckReasons : Type 0 where

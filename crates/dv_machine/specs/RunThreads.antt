@@ -362,19 +362,28 @@ pub record Threads : Type 0 where
   -- the program is accepted
   pub waiting_is_accepted : Accepts waiting
   -- wait gives up a monitor held twice and takes it back twice
-  pub wait_keeps_the_count : outcome waiting 98 ≡ lines (codes "2" ∷ codes "#uncaught 0 java.lang.IllegalMonitorStateException" ∷ codes "#end done" ∷ [])
+  pub wait_keeps_the_count :
+      outcome waiting 98 ≡ lines
+          (codes "2" ∷ codes "#uncaught 0 java.lang.IllegalMonitorStateException" ∷ codes "#end done" ∷ [])
   -- wait without the monitor
-  pub wait_without_the_monitor : outcome waiting 99 ≡ lines (codes "#uncaught 0 java.lang.IllegalMonitorStateException" ∷ codes "#end done" ∷ [])
+  pub wait_without_the_monitor :
+      outcome waiting 99 ≡ lines (codes "#uncaught 0 java.lang.IllegalMonitorStateException" ∷ codes "#end done" ∷ [])
   -- a wait that nobody notifies
   pub waits_forever : outcome waiting 100 ≡ lines (codes "#blocked 0 wait" ∷ codes "#end blocked" ∷ [])
   -- join of a thread that wasn't started, of one that runs, and a second start
-  pub joins_an_ended_thread : outcome waiting 101 ≡ lines (codes "5" ∷ codes "#uncaught 0 java.lang.IllegalThreadStateException" ∷ codes "#end done" ∷ [])
+  pub joins_an_ended_thread :
+      outcome waiting 101 ≡ lines
+          (codes "5" ∷ codes "#uncaught 0 java.lang.IllegalThreadStateException" ∷ codes "#end done" ∷ [])
   -- a thread that joins itself
   pub joins_itself : outcome waiting 102 ≡ lines (codes "#blocked 0 join 0" ∷ codes "#end blocked" ∷ [])
   -- a monitor that is never given up
-  pub holds_what_the_other_enters : outcome waiting 103 ≡ lines (codes "#blocked 0 join 1" ∷ codes "#blocked 1 monitor" ∷ codes "#end blocked" ∷ [])
+  pub holds_what_the_other_enters :
+      outcome waiting 103 ≡ lines (codes "#blocked 0 join 1" ∷ codes "#blocked 1 monitor" ∷ codes "#end blocked" ∷ [])
   -- a producer and a consumer
-  pub producer_and_consumer : outcome boxing 103 ≡ lines (codes "got 0" ∷ codes "got 1" ∷ codes "got 2" ∷ codes "got 3" ∷ codes "got 4" ∷ codes "got 5" ∷ codes "got 6" ∷ codes "got 7" ∷ codes "got 8" ∷ codes "got 9" ∷ codes "#end done" ∷ [])
+  pub producer_and_consumer :
+      outcome boxing 103 ≡ lines
+          (codes "got 0" ∷ codes "got 1" ∷ codes "got 2" ∷ codes "got 3" ∷ codes "got 4" ∷ codes "got 5" ∷
+           codes "got 6" ∷ codes "got 7" ∷ codes "got 8" ∷ codes "got 9" ∷ codes "#end done" ∷ [])
   -- the program is accepted
   pub boxing_is_accepted : Accepts boxing
   -- two threads sum up under a lock

@@ -16,7 +16,11 @@ falling = with_main (body 1 (0x0012 ∷ [])) [] [] []
 --   invoke-direct {v0}, Ljava/lang/Object;-><init>()V
 --   throw v0
 abbrev pub wrong_class : Image
-wrong_class = with_main (body_with 1 (0x0022 ∷ 0x0000 ∷ 0x1070 ∷ 0x0000 ∷ 0x0000 ∷ 0x0027 ∷ []) [] [] ((of_class (codes "Ljava/lang/Object;")) ∷ [])) ((of_class (codes "Ljava/lang/Object;")) ∷ []) [] (0 ∷ [])
+wrong_class =
+    with_main
+        (body_with 1 (0x0022 ∷ 0x0000 ∷ 0x1070 ∷ 0x0000 ∷ 0x0000 ∷ 0x0027 ∷ []) [] []
+             ((of_class (codes "Ljava/lang/Object;")) ∷ []))
+        ((of_class (codes "Ljava/lang/Object;")) ∷ []) [] (0 ∷ [])
 
 --   .registers 2
 --   const/4 v0, 0x1
@@ -48,7 +52,11 @@ nothing_caught = with_main (body 1 (0x000d ∷ 0x000e ∷ [])) [] [] []
 --   :a
 --   return-void
 abbrev pub mixed : Image
-mixed = with_main (body_with 2 (0x1012 ∷ 0x0122 ∷ 0x0000 ∷ 0x1070 ∷ 0x0000 ∷ 0x0001 ∷ 0x1032 ∷ 0x0003 ∷ 0x0000 ∷ 0x000e ∷ []) [] [] ((of_class (codes "Ljava/lang/Object;")) ∷ [])) ((of_class (codes "Ljava/lang/Object;")) ∷ []) [] (0 ∷ [])
+mixed =
+    with_main
+        (body_with 2 (0x1012 ∷ 0x0122 ∷ 0x0000 ∷ 0x1070 ∷ 0x0000 ∷ 0x0001 ∷ 0x1032 ∷ 0x0003 ∷ 0x0000 ∷ 0x000e ∷ []) []
+             [] ((of_class (codes "Ljava/lang/Object;")) ∷ []))
+        ((of_class (codes "Ljava/lang/Object;")) ∷ []) [] (0 ∷ [])
 
 --   .registers 1
 --   invoke-static {}, Ljava/lang/Thread;->currentThread()Ljava/lang/Thread;
@@ -64,7 +72,11 @@ no_array = with_main (body 1 (0x0071 ∷ 0x0000 ∷ 0x0000 ∷ 0x000c ∷ 0x0021
 --   invoke-direct {v0}, Ljava/lang/Object;-><init>()V
 --   return-void
 abbrev pub constructed_twice : Image
-constructed_twice = with_main (body_with 1 (0x0022 ∷ 0x0000 ∷ 0x1070 ∷ 0x0000 ∷ 0x0000 ∷ 0x1070 ∷ 0x0000 ∷ 0x0000 ∷ 0x000e ∷ []) [] [] ((of_class (codes "Ljava/lang/Object;")) ∷ [])) ((of_class (codes "Ljava/lang/Object;")) ∷ []) [] (0 ∷ [])
+constructed_twice =
+    with_main
+        (body_with 1 (0x0022 ∷ 0x0000 ∷ 0x1070 ∷ 0x0000 ∷ 0x0000 ∷ 0x1070 ∷ 0x0000 ∷ 0x0000 ∷ 0x000e ∷ []) [] []
+             ((of_class (codes "Ljava/lang/Object;")) ∷ []))
+        ((of_class (codes "Ljava/lang/Object;")) ∷ []) [] (0 ∷ [])
 
 --   .class LMain;
 --   .super Ljava/lang/Object;

@@ -49,7 +49,11 @@ half_written = with_main (body 3 (0x0016 ∷ 0x0007 ∷ 0x1112 ∷ 0x0284 ∷ 0x
 --   invoke-static {v1}, Ldvm/Console;->println(I)V
 --   return-void
 abbrev pub null_and_zero : Image
-null_and_zero = with_main (body_with 2 (0x0012 ∷ 0x1071 ∷ 0x0000 ∷ 0x0000 ∷ 0x0120 ∷ 0x0000 ∷ 0x1071 ∷ 0x0000 ∷ 0x0001 ∷ 0x000e ∷ []) [] [] ((of_class (codes "Ljava/lang/String;")) ∷ [])) ((of_class (codes "Ljava/lang/String;")) ∷ []) [] (40 ∷ [])
+null_and_zero =
+    with_main
+        (body_with 2 (0x0012 ∷ 0x1071 ∷ 0x0000 ∷ 0x0000 ∷ 0x0120 ∷ 0x0000 ∷ 0x1071 ∷ 0x0000 ∷ 0x0001 ∷ 0x000e ∷ []) []
+             [] ((of_class (codes "Ljava/lang/String;")) ∷ []))
+        ((of_class (codes "Ljava/lang/String;")) ∷ []) [] (40 ∷ [])
 
 --   .registers 2
 --   const/4 v0, 0x1
@@ -57,7 +61,11 @@ null_and_zero = with_main (body_with 2 (0x0012 ∷ 0x1071 ∷ 0x0000 ∷ 0x0000 
 --   instance-of v1, v0, Ljava/lang/String;
 --   return-void
 abbrev pub computed_zero : Image
-computed_zero = with_main (body_with 2 (0x1012 ∷ 0x00d8 ∷ 0xff00 ∷ 0x0120 ∷ 0x0000 ∷ 0x000e ∷ []) [] [] ((of_class (codes "Ljava/lang/String;")) ∷ [])) ((of_class (codes "Ljava/lang/String;")) ∷ []) [] []
+computed_zero =
+    with_main
+        (body_with 2 (0x1012 ∷ 0x00d8 ∷ 0xff00 ∷ 0x0120 ∷ 0x0000 ∷ 0x000e ∷ []) [] []
+             ((of_class (codes "Ljava/lang/String;")) ∷ []))
+        ((of_class (codes "Ljava/lang/String;")) ∷ []) [] []
 
 --   .registers 3
 --   const/4 v1, 0x0
@@ -73,7 +81,13 @@ computed_zero = with_main (body_with 2 (0x1012 ∷ 0x00d8 ∷ 0xff00 ∷ 0x0120 
 --   instance-of v2, v1, Ljava/lang/Object;
 --   return-void
 abbrev pub two_of_one : Image
-two_of_one = with_main (body_with 3 (0x0112 ∷ 0x0212 ∷ 0x0022 ∷ 0x0000 ∷ 0x0239 ∷ 0x0005 ∷ 0x0107 ∷ 0x1212 ∷ 0xfa28 ∷ 0x1070 ∷ 0x0000 ∷ 0x0000 ∷ 0x1220 ∷ 0x0000 ∷ 0x000e ∷ []) [] [] ((of_class (codes "Ljava/lang/Object;")) ∷ [])) ((of_class (codes "Ljava/lang/Object;")) ∷ []) [] (0 ∷ [])
+two_of_one =
+    with_main
+        (body_with 3
+             (0x0112 ∷ 0x0212 ∷ 0x0022 ∷ 0x0000 ∷ 0x0239 ∷ 0x0005 ∷ 0x0107 ∷ 0x1212 ∷ 0xfa28 ∷ 0x1070 ∷ 0x0000 ∷
+              0x0000 ∷ 0x1220 ∷ 0x0000 ∷ 0x000e ∷ [])
+             [] [] ((of_class (codes "Ljava/lang/Object;")) ∷ []))
+        ((of_class (codes "Ljava/lang/Object;")) ∷ []) [] (0 ∷ [])
 
 --   .registers 2
 --   const/4 v0, 0x0
@@ -86,7 +100,13 @@ two_of_one = with_main (body_with 3 (0x0112 ∷ 0x0212 ∷ 0x0022 ∷ 0x0000 ∷
 --   invoke-static {v0}, Ldvm/Console;->println(I)V
 --   return-void
 abbrev pub one_a_turn : Image
-one_a_turn = with_main (body_with 2 (0x0012 ∷ 0x0122 ∷ 0x0000 ∷ 0x1070 ∷ 0x0000 ∷ 0x0001 ∷ 0x00d8 ∷ 0x0100 ∷ 0x3112 ∷ 0x1034 ∷ 0xfff8 ∷ 0x1071 ∷ 0x0001 ∷ 0x0000 ∷ 0x000e ∷ []) [] [] ((of_class (codes "Ljava/lang/Object;")) ∷ [])) ((of_class (codes "Ljava/lang/Object;")) ∷ []) [] (0 ∷ 40 ∷ [])
+one_a_turn =
+    with_main
+        (body_with 2
+             (0x0012 ∷ 0x0122 ∷ 0x0000 ∷ 0x1070 ∷ 0x0000 ∷ 0x0001 ∷ 0x00d8 ∷ 0x0100 ∷ 0x3112 ∷ 0x1034 ∷ 0xfff8 ∷
+              0x1071 ∷ 0x0001 ∷ 0x0000 ∷ 0x000e ∷ [])
+             [] [] ((of_class (codes "Ljava/lang/Object;")) ∷ []))
+        ((of_class (codes "Ljava/lang/Object;")) ∷ []) [] (0 ∷ 40 ∷ [])
 
 --   .class LMain;
 --   .super Ljava/lang/Object;

@@ -42,7 +42,10 @@ blocked_record cs t [] = None
 blocked_record cs t (p ∷ ps) = by_ask (ask_of cs p t) (blocked_record cs t ps) p
 
 abbrev pub blocked_enter : Monitors → ℕ → Value → Option Blocked
-blocked_enter ms t (v.Ref o) = elim (owner_of ms o) [ None ↦ None | Some u ↦ elim (nat_eq u t) [ true ↦ None | false ↦ Some blocked.Monitor ] ]
+blocked_enter ms t (v.Ref (suc o)) =
+    elim (owner_of ms (suc o)) [
+        None ↦ None
+      | Some u ↦ elim (nat_eq u t) [ true ↦ None | false ↦ Some blocked.Monitor ] ]
 blocked_enter ms t x = None
 
 abbrev pub blocked_waiting : Wait → Option ℕ → Option Blocked
@@ -52,7 +55,10 @@ abbrev pub blocked_wait : Monitors → ℕ → Option Blocked
 blocked_wait ms t = elim (entry_of ms t) [ None ↦ None | Some w ↦ blocked_waiting w (owner_of ms w.object) ]
 
 abbrev pub blocked_join : List Thread → ℕ → Option Blocked
-blocked_join ts o = elim (thread_with ts o) [ None ↦ None | Some u ↦ elim (is_living (slice_get ts u)) [ true ↦ Some (blocked.Join u) | false ↦ None ] ]
+blocked_join ts o =
+    elim (thread_with ts o) [
+        None ↦ None
+      | Some u ↦ elim (is_living (slice_get ts u)) [ true ↦ Some (blocked.Join u) | false ↦ None ] ]
 
 abbrev pub blocked_native : Machine → ℕ → ℕ → Option Native → Option Blocked
 blocked_native m t o (Some native.Wait) = blocked_wait m.shared.monitors t
@@ -70,7 +76,8 @@ blocked_call image m t own c g x = None
 -- an operation whose class is ready
 abbrev pub blocked_op : Image → Machine → ℕ → Method → Frame → Op → Option Blocked
 blocked_op image m t own f (Enter a) = blocked_enter m.shared.monitors t (reg_at f.regs a)
-blocked_op image m t own f (Invoke c ks g) = elim (receiver_of (Invoke c ks g)) [ None ↦ None | Some k ↦ blocked_call image m t own c g (reg_at f.regs k) ]
+blocked_op image m t own f (Invoke c ks g) =
+    elim (receiver_of (Invoke c ks g)) [ None ↦ None | Some k ↦ blocked_call image m t own c g (reg_at f.regs k) ]
 blocked_op image m t own f op = None
 
 abbrev pub blocked_needing : Image → Machine → ℕ → Method → Frame → Op → Option ℕ → Option Blocked
@@ -111,7 +118,12 @@ any_runnable image m [] k = false
 any_runnable image m (t ∷ ts) k = elim (runnable_thread image m k t) [ true ↦ true | false ↦ any_runnable image m ts (suc k) ]
 
 abbrev pub ending_without_stop : Image → Machine → Option Ending
-ending_without_stop image m = elim (all_ended m.threads) [ true ↦ Some ending.Done | false ↦ elim (nat_eq m.steps m.limits.budget) [ true ↦ Some ending.Steps | false ↦ elim (any_runnable image m m.threads 0) [ true ↦ None | false ↦ Some ending.NoRunnable ] ] ]
+ending_without_stop image m =
+    elim (all_ended m.threads) [
+        true ↦ Some ending.Done
+      | false ↦ elim (nat_eq m.steps m.limits.budget) [
+              true ↦ Some ending.Steps
+            | false ↦ elim (any_runnable image m m.threads 0) [ true ↦ None | false ↦ Some ending.NoRunnable ] ] ]
 
 -- tested in this order: the stop, all ended, the budget, none runnable
 abbrev pub ending_of : Image → Machine → Option Ending

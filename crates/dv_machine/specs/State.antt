@@ -175,7 +175,10 @@ read_single image heap t x = elim (is_reference t) [ true ↦ on_next (read_ref 
 
 -- the words of a value of a declared type, as they are
 abbrev pub read_value : Image → Heap → List Value → ℕ → Ty → Reads (List Value)
-read_value image heap regs k t = elim (is_long t) [ true ↦ on_next (read_two regs k) (λ p. Ok (v.Lo p.lo ∷ v.Hi p.hi ∷ [])) | false ↦ on_next (read_single image heap t (reg_at regs k)) (λ x. Ok (x ∷ [])) ]
+read_value image heap regs k t =
+    elim (is_long t) [
+        true ↦ on_next (read_two regs k) (λ p. Ok (v.Lo p.lo ∷ v.Hi p.hi ∷ []))
+      | false ↦ on_next (read_single image heap t (reg_at regs k)) (λ x. Ok (x ∷ [])) ]
 
 abbrev pub are_neighbours : ℕ → ℕ → Reads Bool
 are_neighbours k j = elim (nat_eq j (suc k)) [ true ↦ Ok true | false ↦ Err why.Pair ]
@@ -184,7 +187,16 @@ are_neighbours k j = elim (nat_eq j (suc k)) [ true ↦ Ok true | false ↦ Err 
 abbrev pub read_args : Image → Heap → List Value → List Ty → List ℕ → Reads (List Value)
 read_args image heap regs [] ks = Ok []
 read_args image heap regs (p ∷ ps) [] = Err why.Instruction
-read_args image heap regs (p ∷ ps) (k ∷ ks) = elim (is_long p) [ true ↦ elim ks [ [] ↦ Err why.Instruction | j ∷ js ↦ on_next (read_value image heap regs k p) (λ xs. on_next (are_neighbours k j) (λ b. on_next (read_args image heap regs ps js) (λ ys. Ok (xs ++ ys)))) ] | false ↦ on_next (read_value image heap regs k p) (λ xs. on_next (read_args image heap regs ps ks) (λ ys. Ok (xs ++ ys))) ]
+read_args image heap regs (p ∷ ps) (k ∷ ks) =
+    elim (is_long p) [
+        true ↦ elim ks [
+              [] ↦ Err why.Instruction
+            | j ∷ js ↦ on_next (read_value image heap regs k p)
+                    (λ xs. 
+                         on_next (are_neighbours k j)
+                             (λ b. on_next (read_args image heap regs ps js) (λ ys. Ok (xs ++ ys)))) ]
+      | false ↦ on_next (read_value image heap regs k p)
+              (λ xs. on_next (read_args image heap regs ps ks) (λ ys. Ok (xs ++ ys))) ]
 
 -- ---- frames
 
@@ -256,7 +268,10 @@ words_in (l ∷ ls) = regs_in l + words_in ls
 
 -- one level more, where the stack has room
 abbrev pub pushed : Here → Shared → Level → List Level → Did Left
-pushed h sh l ls = elim (nat_le (suc (length ls)) h.limits.levels && nat_le (regs_in l + words_in ls) h.limits.words) [ true ↦ left h sh (l ∷ ls) | false ↦ NoRoom ]
+pushed h sh l ls =
+    elim (nat_le (suc (length ls)) h.limits.levels && nat_le (regs_in l + words_in ls) h.limits.words) [
+        true ↦ left h sh (l ∷ ls)
+      | false ↦ NoRoom ]
 
 -- a truth as a number that a step computes
 abbrev pub truth : Bool → Value

@@ -43,7 +43,9 @@ act h op = elim (is_local op) [ true ↦ local_left h op | false ↦ mem h op ]
 
 -- a record of the class is pushed on these levels
 abbrev pub begun : Here → ℕ → List Level → Did Left
-begun h c ls = pushed h (with_classes h.shared (with_state h.shared.classes c (InProgress h.thread))) (level.Init (record { 0 = c }) false) ls
+begun h c ls =
+    pushed h (with_classes h.shared (with_state h.shared.classes c (InProgress h.thread)))
+        (level.Init (record { 0 = c }) false) ls
 
 -- `Init` of the class's number
 abbrev pub for_class : Here → List Level → ℕ → Ask → Did Left → Did Left
@@ -66,7 +68,11 @@ abbrev pub ended_record : Here → ℕ → ClassState → Did Left
 ended_record h c s = left h (with_classes h.shared (with_state h.shared.classes c s)) h.rest
 
 abbrev pub run_initialiser : Here → ℕ → Did Left
-run_initialiser h c = elim (initialiser h.image c) [ None ↦ ended_record h c Ready | Some m ↦ pushed h h.shared (level.Code (entered_frame m [] false)) (level.Init (record { 0 = c }) true ∷ h.rest) ]
+run_initialiser h c =
+    elim (initialiser h.image c) [
+        None ↦ ended_record h c Ready
+      | Some m ↦
+          pushed h h.shared (level.Code (entered_frame m [] false)) (level.Init (record { 0 = c }) true ∷ h.rest) ]
 
 abbrev pub look_at : Here → ℕ → List ℕ → Did Left
 look_at h c [] = run_initialiser h c
@@ -84,7 +90,14 @@ listed None = []
 listed (Some t) = t ∷ []
 
 abbrev pub with_thread : Machine → ℕ → Thread → Left → Machine
-with_thread m t th l = record { threads = slice_set m.threads t th ++ listed l.started; shared = l.shared; steps = suc m.steps; stop = m.stop; limits = m.limits }
+with_thread m t th l =
+    record {
+        threads = slice_set m.threads t th ++ listed l.started;
+        shared = l.shared;
+        steps = suc m.steps;
+        stop = m.stop;
+        limits = m.limits;
+    }
 
 -- only the stop and the count change
 abbrev pub stopped : Machine → Ending → Machine
@@ -106,7 +119,19 @@ flown m t th o l = with_thread m t (record { levels = l.levels; end = end_flying
 
 -- a throwing step leaves the address, but monitor-exit's moves on first
 abbrev pub moved_on : Option At → List Level → List Level
-moved_on (Some x) (level.Code f ∷ ls) = elim (is_exit x.op) [ true ↦ level.Code (record { method = f.method; at = x.next; regs = f.regs; result = f.result; caught = f.caught; this_pending = f.this_pending }) ∷ ls | false ↦ level.Code f ∷ ls ]
+moved_on (Some x) (level.Code f ∷ ls) =
+    elim (is_exit x.op) [
+        true ↦ level.Code
+              (record {
+                   method = f.method;
+                   at = x.next;
+                   regs = f.regs;
+                   result = f.result;
+                   caught = f.caught;
+                   this_pending = f.this_pending;
+               }) ∷
+          ls
+      | false ↦ level.Code f ∷ ls ]
 moved_on x ls = ls
 
 abbrev pub thrown : Machine → ℕ → Thread → Option At → Option Heap → Machine
@@ -130,14 +155,30 @@ settled_flight m t th Lacking = Ok (stopped m (ending.HeapFull t))
 -- ---- a step
 
 abbrev pub here : Image → Machine → ℕ → Method → Frame → List Level → ℕ → Here
-here image m t own f ls next = record { image = image; limits = m.limits; threads = m.threads; thread = t; own = own; shared = m.shared; frame = f; rest = ls; next = next }
+here image m t own f ls next =
+    record {
+        image = image;
+        limits = m.limits;
+        threads = m.threads;
+        thread = t;
+        own = own;
+        shared = m.shared;
+        frame = f;
+        rest = ls;
+        next = next;
+    }
 
 -- a record's step sees no frame: this one stands in its place
 abbrev pub no_frame : Frame
 no_frame = record { method = record { 0 = 0 }; at = 0; regs = []; result = pending.None; caught = None; this_pending = false }
 
 abbrev pub no_method : Method
-no_method = record { id = 0; info = record { class = record { 0 = 0 }; place = 0; types = []; fields = []; methods = [] }; def = record { name = []; proto = record { params = []; ret = None }; flags = 0; body = None } }
+no_method =
+    record {
+        id = 0;
+        info = record { class = record { 0 = 0 }; place = 0; types = []; fields = []; methods = [] };
+        def = record { name = []; proto = record { params = []; ret = None }; flags = 0; body = None };
+    }
 
 abbrev pub step_at : Image → Machine → ℕ → Thread → Method → Frame → List Level → Option At → Reads Machine
 step_at image m t th own f ls None = Err why.Instruction
@@ -149,7 +190,10 @@ step_code image m t th f ls (Some own) = step_at image m t th own f ls (fetch im
 
 abbrev pub step_flight : Image → Machine → ℕ → Thread → ℕ → List Level → Reads Machine
 step_flight image m t th o [] = Ok m
-step_flight image m t th o (level.Code f ∷ ls) = settled_flight m t th (unwind_frame (here image m t no_method f ls 0) f o (handler_for image m.shared.heap o (handlers_at image f.method.0 f.at)))
+step_flight image m t th o (level.Code f ∷ ls) =
+    settled_flight m t th
+        (unwind_frame (here image m t no_method f ls 0) f o
+             (handler_for image m.shared.heap o (handlers_at image f.method.0 f.at)))
 step_flight image m t th o (level.Init c r ∷ ls) = settled_flight m t th (unwind_record (here image m t no_method no_frame ls 0) c.0 o)
 
 abbrev pub step_living : Image → Machine → ℕ → Thread → List Level → Reads Machine

@@ -40,21 +40,40 @@ abbrev pub IsFrom : Image → Heap → Own → List Value → Types → Value �
 IsFrom image heap own xs ts x t = ((j : ℕ) × (reg_at xs j ≡ x) × (type_at ts j ≡ t)) ⊎ ((IsUninit t → ⊥) × Conforms image heap own x t)
 
 abbrev pub WriteKeeps : Type 0
-WriteKeeps = (image : Image) (heap : Heap) (own : Own) (xs : List Value) (ts : Types) (k : ℕ) (x : Value) (t : RegType) → IsGood image heap own xs ts → IsFrom image heap own xs ts x t → IsGood image heap own (slice_set xs k x) (write_type ts k t)
+WriteKeeps =
+    (image : Image) (heap : Heap) (own : Own) (xs : List Value) (ts : Types) (k : ℕ) (x : Value) (t : RegType) →
+    IsGood image heap own xs ts → IsFrom image heap own xs ts x t →
+    IsGood image heap own (slice_set xs k x) (write_type ts k t)
 
 abbrev pub LongWriteKeeps : Type 0
-LongWriteKeeps = (image : Image) (heap : Heap) (own : Own) (xs : List Value) (ts : Types) (k lo hi : ℕ) → IsGood image heap own xs ts → IsGood image heap own (slice_set (slice_set xs k (v.Lo lo)) (suc k) (v.Hi hi)) (write_two ts k ty.LongLo ty.LongHi)
+LongWriteKeeps =
+    (image : Image) (heap : Heap) (own : Own) (xs : List Value) (ts : Types) (k lo hi : ℕ) →
+    IsGood image heap own xs ts →
+    IsGood image heap own (slice_set (slice_set xs k (v.Lo lo)) (suc k) (v.Hi hi))
+        (write_two ts k ty.LongLo ty.LongHi)
 
 -- a new object, which no register of an uninitialised type holds yet
 abbrev pub NewInstanceKeeps : Type 0
-NewInstanceKeeps = (image : Image) (heap : Heap) (own : Own) (xs : List Value) (ts : Types) (k at o c : ℕ) → IsGood image heap own xs ts → own.made at ≡ Some c → kind_of heap o ≡ Some (kind.Object (record { 0 = c })) → ((j : ℕ) → IsUninit (type_at ts j) → object_of (reg_at xs j) ≢ Some o) → IsGood image heap own (slice_set xs k (v.Uninit at o)) (write_type (map (replaced at ty.Conflict) ts) k (ty.Uninit at))
+NewInstanceKeeps =
+    (image : Image) (heap : Heap) (own : Own) (xs : List Value) (ts : Types) (k at o c : ℕ) →
+    IsGood image heap own xs ts → own.made at ≡ Some c → kind_of heap o ≡ Some (kind.Object (record { 0 = c })) →
+    ((j : ℕ) → IsUninit (type_at ts j) → object_of (reg_at xs j) ≢ Some o) →
+    IsGood image heap own (slice_set xs k (v.Uninit at o))
+        (write_type (map (replaced at ty.Conflict) ts) k (ty.Uninit at))
 
 -- after its constructor returned, all registers that hold the object hold it initialised
 abbrev pub ConstructorKeeps : Type 0
-ConstructorKeeps = (image : Image) (heap : Heap) (own : Own) (xs : List Value) (ts : Types) (k at o c : ℕ) → IsGood image heap own xs ts → type_at ts k ≡ ty.Uninit at → reg_at xs k ≡ v.Uninit at o → own.made at ≡ Some c → IsOf image heap o (class_type image c) → IsGood image heap own (map (initialised o) xs) (map (replaced at (ty.Class (class_type image c))) ts)
+ConstructorKeeps =
+    (image : Image) (heap : Heap) (own : Own) (xs : List Value) (ts : Types) (k at o c : ℕ) →
+    IsGood image heap own xs ts → type_at ts k ≡ ty.Uninit at → reg_at xs k ≡ v.Uninit at o → own.made at ≡ Some c →
+    IsOf image heap o (class_type image c) →
+    IsGood image heap own (map (initialised o) xs) (map (replaced at (ty.Class (class_type image c))) ts)
 
 abbrev pub OwnConstructorKeeps : Type 0
-OwnConstructorKeeps = (image : Image) (heap : Heap) (own : Own) (xs : List Value) (ts : Types) (k o : ℕ) → IsGood image heap own xs ts → type_at ts k ≡ ty.UninitThis → reg_at xs k ≡ v.UninitThis o → IsOf image heap o own.class → IsGood image heap own (map (initialised o) xs) (map (replaced_this (ty.Class own.class)) ts)
+OwnConstructorKeeps =
+    (image : Image) (heap : Heap) (own : Own) (xs : List Value) (ts : Types) (k o : ℕ) → IsGood image heap own xs ts →
+    type_at ts k ≡ ty.UninitThis → reg_at xs k ≡ v.UninitThis o → IsOf image heap o own.class →
+    IsGood image heap own (map (initialised o) xs) (map (replaced_this (ty.Class own.class)) ts)
 
 -- ---- an added object keeps everything
 
@@ -65,44 +84,73 @@ pub record IsAdded (image : Image) (before after : Heap) (o : ℕ) (k : Kind) : 
   pub fine : HeapFine image after
 
 abbrev pub ObjectIsAdded : Type 0
-ObjectIsAdded = (image : Image) (before after : Heap) (c : ℕ) → HeapFine image before → alloc_object image before c ≡ Some after → IsAdded image before after (newest after) (kind.Object (record { 0 = c }))
+ObjectIsAdded =
+    (image : Image) (before after : Heap) (c : ℕ) → HeapFine image before → alloc_object image before c ≡ Some after →
+    IsAdded image before after (newest after) (kind.Object (record { 0 = c }))
 
 abbrev pub ArrayIsAdded : Type 0
-ArrayIsAdded = (image : Image) (before after : Heap) (t : Ty) (n : ℕ) → HeapFine image before → alloc_array before t n ≡ Some after → IsAdded image before after (newest after) (kind.Array t) × (length_of after (newest after) ≡ n)
+ArrayIsAdded =
+    (image : Image) (before after : Heap) (t : Ty) (n : ℕ) → HeapFine image before →
+    alloc_array before t n ≡ Some after →
+    IsAdded image before after (newest after) (kind.Array t) × (length_of after (newest after) ≡ n)
 
 abbrev pub StringIsAdded : Type 0
-StringIsAdded = (image : Image) (before after : Heap) (s : List ℕ) → HeapFine image before → alloc_string before s ≡ Some after → IsAdded image before after (newest after) (kind.Str s)
+StringIsAdded =
+    (image : Image) (before after : Heap) (s : List ℕ) → HeapFine image before → alloc_string before s ≡ Some after →
+    IsAdded image before after (newest after) (kind.Str s)
 
 -- what is there is given again
 abbrev pub StringIsInterned : Type 0
-StringIsInterned = (image : Image) (before : Heap) (s : List ℕ) (g : Got) → HeapFine image before → intern before s ≡ Some g → (kind_of g.heap g.object ≡ Some (kind.Str s)) × ((g.heap ≡ before) ⊎ IsAdded image before g.heap g.object (kind.Str s))
+StringIsInterned =
+    (image : Image) (before : Heap) (s : List ℕ) (g : Got) → HeapFine image before → intern before s ≡ Some g →
+    (kind_of g.heap g.object ≡ Some (kind.Str s)) ×
+    ((g.heap ≡ before) ⊎ IsAdded image before g.heap g.object (kind.Str s))
 
 abbrev pub ClassObjectIsGot : Type 0
-ClassObjectIsGot = (image : Image) (before : Heap) (t : Ty) (g : Got) → HeapFine image before → class_object before t ≡ Some g → (kind_of g.heap g.object ≡ Some (kind.ClassOf t)) × ((g.heap ≡ before) ⊎ IsAdded image before g.heap g.object (kind.ClassOf t))
+ClassObjectIsGot =
+    (image : Image) (before : Heap) (t : Ty) (g : Got) → HeapFine image before → class_object before t ≡ Some g →
+    (kind_of g.heap g.object ≡ Some (kind.ClassOf t)) ×
+    ((g.heap ≡ before) ⊎ IsAdded image before g.heap g.object (kind.ClassOf t))
 
 abbrev pub on_heap : Machine → Heap → Machine
 on_heap m heap = record { threads = m.threads; shared = with_heap m.shared heap; steps = m.steps; stop = m.stop; limits = m.limits }
 
 abbrev pub GrowthKeeps : Type 0
-GrowthKeeps = (image : Image) (T : Typings) (m : Machine) (after : Heap) → Accepted image T → WellTyped image T m → KeepsKinds m.shared.heap after → HeapFine image after → WellTyped image T (on_heap m after)
+GrowthKeeps =
+    (image : Image) (T : Typings) (m : Machine) (after : Heap) → Accepted image T → WellTyped image T m →
+    KeepsKinds m.shared.heap after → HeapFine image after → WellTyped image T (on_heap m after)
 
 -- ---- stores keep everything
 
 abbrev pub StoreKeeps : Type 0
-StoreKeeps = (image : Image) (heap : Heap) (o k : ℕ) (kind : Kind) (x : Value) → HeapFine image heap → kind_of heap o ≡ Some kind → Conforms image heap nobody x (type_at (cell_types image (length_of heap o) kind) k) → HeapFine image (with_cell heap o k x) × KeepsKinds heap (with_cell heap o k x)
+StoreKeeps =
+    (image : Image) (heap : Heap) (o k : ℕ) (kind : Kind) (x : Value) → HeapFine image heap →
+    kind_of heap o ≡ Some kind → Conforms image heap nobody x (type_at (cell_types image (length_of heap o) kind) k) →
+    HeapFine image (with_cell heap o k x) × KeepsKinds heap (with_cell heap o k x)
 
 abbrev pub StaticStoreKeeps : Type 0
-StaticStoreKeeps = (image : Image) (heap : Heap) (n k : ℕ) (f : Field) (x : Value) → HeapFine image heap → field_at image n ≡ Some f → Conforms image heap nobody x (type_at (reg_types f.def.ty) k) → HeapFine image (with_static heap n k x) × KeepsKinds heap (with_static heap n k x)
+StaticStoreKeeps =
+    (image : Image) (heap : Heap) (n k : ℕ) (f : Field) (x : Value) → HeapFine image heap →
+    field_at image n ≡ Some f → Conforms image heap nobody x (type_at (reg_types f.def.ty) k) →
+    HeapFine image (with_static heap n k x) × KeepsKinds heap (with_static heap n k x)
 
 -- ---- calls and returns
 
 -- arguments that conform to a method's types make a frame that conforms to its entry state
 abbrev pub EntryConforms : Type 0
-EntryConforms = (image : Image) (heap : Heap) (this : Option ℕ) (code : Code) (xs : List Value) → code_at image code.method.id ≡ Some code → length (arg_types image code.method) ≤ code.body.registers → IsGood image heap (own_of image this code.method) xs (arg_types image code.method) → Conform image heap (own_of image this code.method) (entered_frame code.method xs (begins_uninitialised image code.method)) (entry_state image code.method code.body.registers)
+EntryConforms =
+    (image : Image) (heap : Heap) (this : Option ℕ) (code : Code) (xs : List Value) →
+    code_at image code.method.id ≡ Some code → length (arg_types image code.method) ≤ code.body.registers →
+    IsGood image heap (own_of image this code.method) xs (arg_types image code.method) →
+    Conform image heap (own_of image this code.method)
+        (entered_frame code.method xs (begins_uninitialised image code.method))
+        (entry_state image code.method code.body.registers)
 
 -- a step at an instruction of this sort is fine
 abbrev pub StepsOf : (Op → Type 0) → Type 0
-StepsOf Sort = (image : Image) (T : Typings) (m : Machine) (t : ℕ) (thread : Thread) (h : Here) (x : At) (s : RegState) → IsAt image T m t thread h x s → Sort x.op → DidFine image T m t thread x (act h x.op)
+StepsOf Sort =
+    (image : Image) (T : Typings) (m : Machine) (t : ℕ) (thread : Thread) (h : Here) (x : At) (s : RegState) →
+    IsAt image T m t thread h x s → Sort x.op → DidFine image T m t thread x (act h x.op)
 
 abbrev pub IsInvoke : Op → Type 0
 IsInvoke op = (c : Call) × (ks : List ℕ) × (g : Method) × (op ≡ Invoke c ks g)
@@ -131,7 +179,12 @@ HeapStepsAreFine = StepsOf (λ op. (is_local op ≡ false) × (is_of_calls_or_mo
 
 -- the frame of an instruction that throws finds its handlers in order
 abbrev pub ThrowerIsHandled : Type 0
-ThrowerIsHandled = (image : Image) (T : Typings) (m : Machine) (t : ℕ) (thread : Thread) (h : Here) (x : At) (s : RegState) (after : Heap) (o : ℕ) → IsAt image T m t thread h x s → can_throw x.op ≡ true → KeepsKinds m.shared.heap after → IsThrowable image after o → All (λ l. HandledLevel image T after (this_above image h.rest) o l) (moved_on (Some x) (level.Code h.frame ∷ []))
+ThrowerIsHandled =
+    (image : Image) (T : Typings) (m : Machine) (t : ℕ) (thread : Thread) (h : Here) (x : At) (s : RegState)
+        (after : Heap) (o : ℕ) →
+    IsAt image T m t thread h x s → can_throw x.op ≡ true → KeepsKinds m.shared.heap after →
+    IsThrowable image after o →
+    All (λ l. HandledLevel image T after (this_above image h.rest) o l) (moved_on (Some x) (level.Code h.frame ∷ []))
   where
     HandledLevel : Image → Typings → Heap → Option ℕ → ℕ → Level → Type 0
     HandledLevel image T heap this o (level.Code f) = IsHandled image T heap this o f
@@ -139,23 +192,37 @@ ThrowerIsHandled = (image : Image) (T : Typings) (m : Machine) (t : ℕ) (thread
 
 -- so do the frames below a code frame, and below a record
 abbrev pub CallersAreHandled : Type 0
-CallersAreHandled = (image : Image) (T : Typings) (heap : Heap) (t o : ℕ) (m : Method) (ls : List Level) → Accepted image T → IsThrowable image heap o → BelowCode image m ls → StackFine image T heap t None ls → StackFine image T heap t (Some o) ls
+CallersAreHandled =
+    (image : Image) (T : Typings) (heap : Heap) (t o : ℕ) (m : Method) (ls : List Level) → Accepted image T →
+    IsThrowable image heap o → BelowCode image m ls → StackFine image T heap t None ls →
+    StackFine image T heap t (Some o) ls
 
 abbrev pub NeedersAreHandled : Type 0
-NeedersAreHandled = (image : Image) (T : Typings) (heap : Heap) (t o c : ℕ) (r : Bool) (ls : List Level) → Accepted image T → IsThrowable image heap o → StackFine image T heap t None (level.Init (record { 0 = c }) r ∷ ls) → StackFine image T heap t (Some o) (level.Init (record { 0 = c }) r ∷ ls)
+NeedersAreHandled =
+    (image : Image) (T : Typings) (heap : Heap) (t o c : ℕ) (r : Bool) (ls : List Level) → Accepted image T →
+    IsThrowable image heap o → StackFine image T heap t None (level.Init (record { 0 = c }) r ∷ ls) →
+    StackFine image T heap t (Some o) (level.Init (record { 0 = c }) r ∷ ls)
 
 -- one level of an exception's flight
 abbrev pub FlightsAreFine : Type 0
-FlightsAreFine = (image : Image) (T : Typings) (m : Machine) (t o : ℕ) (thread : Thread) → MayStep image T m t → slice_get m.threads t ≡ Some thread → thread.end ≡ end.Flying o → HoldsOf (WellTyped image T) (step image m t)
+FlightsAreFine =
+    (image : Image) (T : Typings) (m : Machine) (t o : ℕ) (thread : Thread) → MayStep image T m t →
+    slice_get m.threads t ≡ Some thread → thread.end ≡ end.Flying o → HoldsOf (WellTyped image T) (step image m t)
 
 -- ---- class initialisation
 
 -- an instruction whose class isn't ready begins its initialisation or throws
 abbrev pub NeedsAreFine : Type 0
-NeedsAreFine = (image : Image) (T : Typings) (m : Machine) (t : ℕ) (thread : Thread) (h : Here) (x : At) (s : RegState) → IsAt image T m t thread h x s → DidFine image T m t thread x (act h x.op) → DidFine image T m t thread x (with_ready h x.op (needs x.op))
+NeedsAreFine =
+    (image : Image) (T : Typings) (m : Machine) (t : ℕ) (thread : Thread) (h : Here) (x : At) (s : RegState) →
+    IsAt image T m t thread h x s → DidFine image T m t thread x (act h x.op) →
+    DidFine image T m t thread x (with_ready h x.op (needs x.op))
 
 abbrev pub RecordsAreFine : Type 0
-RecordsAreFine = (image : Image) (T : Typings) (m : Machine) (t c : ℕ) (r : Bool) (thread : Thread) (h : Here) → IsAtRecord image T m t thread h (level.Init (record { 0 = c }) r) c → RecordDidFine image T m t thread (record_step h c r)
+RecordsAreFine =
+    (image : Image) (T : Typings) (m : Machine) (t c : ℕ) (r : Bool) (thread : Thread) (h : Here) →
+    IsAtRecord image T m t thread h (level.Init (record { 0 = c }) r) c →
+    RecordDidFine image T m t thread (record_step h c r)
 
 -- ---- monitors and new threads
 
@@ -163,18 +230,30 @@ abbrev pub MonitorStepsAreFine : Type 0
 MonitorStepsAreFine = StepsOf (λ op. ((a : ℕ) × (op ≡ Enter a)) ⊎ ((a : ℕ) × (op ≡ Exit a)))
 
 abbrev pub NewThreadIsFine : Type 0
-NewThreadIsFine = (image : Image) (T : Typings) (heap : Heap) (n o : ℕ) (run : Method) → Accepted image T → IsOf image heap o (of_class thread_name) → run_method image (class_of_kind image (kind_of heap o)) ≡ Some run → is_abstract run ≡ false → StartedFine image T heap n (new_thread o run)
+NewThreadIsFine =
+    (image : Image) (T : Typings) (heap : Heap) (n o : ℕ) (run : Method) → Accepted image T →
+    IsOf image heap o (of_class thread_name) → run_method image (class_of_kind image (kind_of heap o)) ≡ Some run →
+    is_abstract run ≡ false → StartedFine image T heap n (new_thread o run)
 
 -- ---- whole steps
 
 abbrev pub LeftIsWellTyped : Type 0
-LeftIsWellTyped = (image : Image) (T : Typings) (m : Machine) (t : ℕ) (thread : Thread) (l : Left) → WellTyped image T m → slice_get m.threads t ≡ Some thread → LeftFine image T m t thread l → WellTyped image T (gone_on m t thread l)
+LeftIsWellTyped =
+    (image : Image) (T : Typings) (m : Machine) (t : ℕ) (thread : Thread) (l : Left) → WellTyped image T m →
+    slice_get m.threads t ≡ Some thread → LeftFine image T m t thread l → WellTyped image T (gone_on m t thread l)
 
 abbrev pub SettledIsWellTyped : Type 0
-SettledIsWellTyped = (image : Image) (T : Typings) (m : Machine) (t : ℕ) (thread : Thread) (h : Here) (x : At) (s : RegState) (d : Did Left) → IsAt image T m t thread h x s → DidFine image T m t thread x d → HoldsOf (WellTyped image T) (settled image m t thread (Some x) d)
+SettledIsWellTyped =
+    (image : Image) (T : Typings) (m : Machine) (t : ℕ) (thread : Thread) (h : Here) (x : At) (s : RegState)
+        (d : Did Left) →
+    IsAt image T m t thread h x s → DidFine image T m t thread x d →
+    HoldsOf (WellTyped image T) (settled image m t thread (Some x) d)
 
 abbrev pub SettledRecordIsWellTyped : Type 0
-SettledRecordIsWellTyped = (image : Image) (T : Typings) (m : Machine) (t c : ℕ) (r : Bool) (thread : Thread) (h : Here) (d : Did Left) → IsAtRecord image T m t thread h (level.Init (record { 0 = c }) r) c → RecordDidFine image T m t thread d → HoldsOf (WellTyped image T) (settled image m t thread None d)
+SettledRecordIsWellTyped =
+    (image : Image) (T : Typings) (m : Machine) (t c : ℕ) (r : Bool) (thread : Thread) (h : Here) (d : Did Left) →
+    IsAtRecord image T m t thread h (level.Init (record { 0 = c }) r) c → RecordDidFine image T m t thread d →
+    HoldsOf (WellTyped image T) (settled image m t thread None d)
 
 -- a static main()V or main([Ljava/lang/String;)V with a body
 pub record IsMain (image : Image) (main : Method) : Type 0 where
@@ -188,8 +267,12 @@ pub record IsMain (image : Image) (main : Method) : Type 0 where
 
 -- the state in which a run of an accepted image begins is well typed
 abbrev pub OpeningIsWellTyped : Type 0
-OpeningIsWellTyped = (image : Image) (T : Typings) (main : Method) (l : Limits) → Accepted image T → IsMain image main → WellTyped image T (opening image main l)
+OpeningIsWellTyped =
+    (image : Image) (T : Typings) (main : Method) (l : Limits) → Accepted image T → IsMain image main →
+    WellTyped image T (opening image main l)
 
 -- from a well-typed state with no ending, a step of a runnable thread leads to a well-typed state, and isn't stuck
 abbrev pub StepsAreSound : Type 0
-StepsAreSound = (image : Image) (T : Typings) (m : Machine) (t : ℕ) → Accepted image T → WellTyped image T m → ending_of image m ≡ None → runnable image m t ≡ true → HoldsOf (WellTyped image T) (step image m t)
+StepsAreSound =
+    (image : Image) (T : Typings) (m : Machine) (t : ℕ) → Accepted image T → WellTyped image T m →
+    ending_of image m ≡ None → runnable image m t ≡ true → HoldsOf (WellTyped image T) (step image m t)

@@ -26,11 +26,17 @@ free_or_mine h (Some t) = nat_eq t h.thread
 
 -- re-entrant
 abbrev pub monitor_enter : Here → ℕ → Did Left
-monitor_enter h o = elim (free_or_mine h (owner_of h.shared.monitors o)) [ true ↦ goes h (with_monitors h.shared (entered h.shared.monitors o h.thread 1)) | false ↦ stays h ]
+monitor_enter h o =
+    elim (free_or_mine h (owner_of h.shared.monitors o)) [
+        true ↦ goes h (with_monitors h.shared (entered h.shared.monitors o h.thread 1))
+      | false ↦ stays h ]
 
 -- what only the owner does
 abbrev pub holding : Here → ℕ → (ℕ → Did Left) → Did Left
-holding h o go = elim (held_of h.shared.monitors o) [ None ↦ Throws named.IllegalMonitorState | Some x ↦ where_true (nat_eq x.thread h.thread) named.IllegalMonitorState (go x.count) ]
+holding h o go =
+    elim (held_of h.shared.monitors o) [
+        None ↦ Throws named.IllegalMonitorState
+      | Some x ↦ where_true (nat_eq x.thread h.thread) named.IllegalMonitorState (go x.count) ]
 
 abbrev pub monitor_exit : Here → ℕ → Did Left
 monitor_exit h o = holding h o (λ n. goes h (with_monitors h.shared (exited h.shared.monitors o)))
@@ -42,7 +48,10 @@ taken_back h w notified owner = stays h
 
 -- the first step gives the monitor up wholly and waits, the second takes it back as often as it was held
 abbrev pub wait_on : Here → ℕ → Did Left
-wait_on h o = elim (entry_of h.shared.monitors h.thread) [ Some w ↦ taken_back h w w.notified (owner_of h.shared.monitors w.object) | None ↦ holding h o (λ n. onward h (with_monitors h.shared (waiting h.shared.monitors o h.thread n)) h.frame) ]
+wait_on h o =
+    elim (entry_of h.shared.monitors h.thread) [
+        Some w ↦ taken_back h w w.notified (owner_of h.shared.monitors w.object)
+      | None ↦ holding h o (λ n. onward h (with_monitors h.shared (waiting h.shared.monitors o h.thread n)) h.frame) ]
 
 abbrev pub notify_on : Here → ℕ → Did Left
 notify_on h o = holding h o (λ n. goes h (with_monitors h.shared (notified_one h.shared.monitors o)))
@@ -72,7 +81,15 @@ new_thread o m = record { levels = level.Code (entered_frame m (v.Ref o ∷ []) 
 
 abbrev pub started_on : Here → ℕ → Option Method → Did Left
 started_on h o None = Throws named.AbstractMethod
-started_on h o (Some m) = elim (is_abstract m) [ true ↦ Throws named.AbstractMethod | false ↦ Go (record { levels = level.Code (gone h.frame h.next h.frame.regs) ∷ h.rest; shared = h.shared; started = Some (new_thread o m) }) ]
+started_on h o (Some m) =
+    elim (is_abstract m) [
+        true ↦ Throws named.AbstractMethod
+      | false ↦ Go
+              (record {
+                   levels = level.Code (gone h.frame h.next h.frame.regs) ∷ h.rest;
+                   shared = h.shared;
+                   started = Some (new_thread o m);
+               }) ]
 
 -- the run()V of an object's class
 abbrev pub run_method : Image → Option ℕ → Option Method
@@ -81,11 +98,18 @@ run_method image (Some c) = nearest image c (codes "run") no_arguments
 
 -- tested in this order: a thread of the object, the number of threads, an abstract run()V
 abbrev pub start_on : Here → ℕ → Did Left
-start_on h o = elim (thread_with h.threads o) [ Some u ↦ Throws named.IllegalThreadState | None ↦ where_true (nat_lt (length h.threads) h.limits.threads) named.OutOfMemory (started_on h o (run_method h.image (class_of_kind h.image (kind_of h.shared.heap o)))) ]
+start_on h o =
+    elim (thread_with h.threads o) [
+        Some u ↦ Throws named.IllegalThreadState
+      | None ↦ where_true (nat_lt (length h.threads) h.limits.threads) named.OutOfMemory
+              (started_on h o (run_method h.image (class_of_kind h.image (kind_of h.shared.heap o)))) ]
 
 -- goes on where the other thread has ended or was never started
 abbrev pub join_on : Here → ℕ → Did Left
-join_on h o = elim (thread_with h.threads o) [ None ↦ goes h h.shared | Some u ↦ elim (is_living (slice_get h.threads u)) [ true ↦ stays h | false ↦ goes h h.shared ] ]
+join_on h o =
+    elim (thread_with h.threads o) [
+        None ↦ goes h h.shared
+      | Some u ↦ elim (is_living (slice_get h.threads u)) [ true ↦ stays h | false ↦ goes h h.shared ] ]
 
 abbrev pub own_object : Here → ℕ
 own_object h = elim (slice_get h.threads h.thread) [ None ↦ 0 | Some t ↦ t.object ]

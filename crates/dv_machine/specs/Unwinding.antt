@@ -31,7 +31,15 @@ handler_for image heap o (h ∷ hs) = elim (catches image heap o h.ty) [ true �
 
 -- the frame as a handler is entered
 abbrev pub caught_frame : Frame → ℕ → ℕ → Frame
-caught_frame f to o = record { method = f.method; at = to; regs = f.regs; result = pending.None; caught = Some o; this_pending = f.this_pending }
+caught_frame f to o =
+    record {
+        method = f.method;
+        at = to;
+        regs = f.regs;
+        result = pending.None;
+        caught = Some o;
+        this_pending = f.this_pending;
+    }
 
 -- a frame caught it; it flies on; or the words for a new one are lacking
 pub data Unwound : Type 0 where
@@ -49,7 +57,8 @@ unwind_frame h f o (Some to) = Caught (leaves h.shared (level.Code (caught_frame
 
 -- the record that the opening made stands right above thread 0's first frame, which has run nothing
 abbrev pub is_opening : Image → ℕ → ℕ → List Level → Bool
-is_opening image t c (level.Code f ∷ []) = elim (method_at image f.method.0) [ None ↦ false | Some m ↦ nat_eq t 0 && nat_eq m.info.class.0 c ]
+is_opening image t c (level.Code f ∷ []) =
+    elim (method_at image f.method.0) [ None ↦ false | Some m ↦ nat_eq t 0 && nat_eq m.info.class.0 c ]
 is_opening image t c ls = false
 
 -- the opening's frame is dropped with its record (own)
@@ -96,11 +105,20 @@ throwable_slot image name = slot_among image (number_named image throwable_name)
 
 abbrev pub wrapped : Here → ℕ → ℕ → Option Heap → Unwound
 wrapped h c o None = Lacking
-wrapped h c o (Some heap) = Flies (newest heap) (leaves (erroneous h c (with_heap h.shared (with_cell heap (newest heap) (throwable_slot h.image (codes "cause")) (v.Ref o)))) (below_record h c))
+wrapped h c o (Some heap) =
+    Flies (newest heap)
+        (leaves
+             (erroneous h c
+                  (with_heap h.shared
+                       (with_cell heap (newest heap) (throwable_slot h.image (codes "cause")) (v.Ref o))))
+             (below_record h c))
 
 abbrev pub is_error : Here → ℕ → Bool
 is_error h o = instance h.image (type_of h.image h.shared.heap o) (of_class error_name)
 
 -- the class becomes erroneous; what isn't an Error is wrapped (JLS 12.4.2, steps 10 and 11)
 abbrev pub unwind_record : Here → ℕ → ℕ → Unwound
-unwind_record h c o = elim (is_error h o) [ true ↦ Flies o (leaves (erroneous h c h.shared) (below_record h c)) | false ↦ wrapped h c o (made_object h.image h.shared.heap named.InInitializer) ]
+unwind_record h c o =
+    elim (is_error h o) [
+        true ↦ Flies o (leaves (erroneous h c h.shared) (below_record h c))
+      | false ↦ wrapped h c o (made_object h.image h.shared.heap named.InInitializer) ]

@@ -67,7 +67,9 @@ pub record IsPlaced (image : Image) (T : Typings) (heap : Heap) (this : Option �
 
 -- each handler that may be entered with the object finds the frame in order
 abbrev pub IsHandled : Image → Typings → Heap → Option ℕ → ℕ → Frame → Type 0
-IsHandled image T heap this o f = All (λ h. catches image heap o h.ty ≡ true → IsPlaced image T heap this (caught_frame f h.to o)) (handlers_at image f.method.0 f.at)
+IsHandled image T heap this o f =
+    All (λ h. catches image heap o h.ty ≡ true → IsPlaced image T heap this (caught_frame f h.to o))
+        (handlers_at image f.method.0 f.at)
 
 -- the frame above was called by this invoke of the frame below
 pub record IsCalled (image : Image) (above : Method) (g : Frame) : Type 0 where
@@ -117,13 +119,21 @@ pub record CodeFine (image : Image) (T : Typings) (heap : Heap) (f : Frame) (ls 
 -- a frame below what flies is still in order itself; the opening's frame below its record is never searched
 abbrev pub StackFine : Image → Typings → Heap → ℕ → Option ℕ → List Level → Type 0
 StackFine image T heap t flight [] = Unit {0}
-StackFine image T heap t flight (level.Code f ∷ ls) = CodeFine image T heap f ls × IsPlaced image T heap (this_above image ls) f × FlightFits image T heap (this_above image ls) flight f × StackFine image T heap t flight ls
-StackFine image T heap t flight (level.Init c r ∷ ls) = BelowRecord image t c.0 ls × elim (is_opening image t c.0 ls) [ true ↦ StackFine image T heap t None ls | false ↦ StackFine image T heap t flight ls ]
+StackFine image T heap t flight (level.Code f ∷ ls) =
+    CodeFine image T heap f ls × IsPlaced image T heap (this_above image ls) f ×
+    FlightFits image T heap (this_above image ls) flight f × StackFine image T heap t flight ls
+StackFine image T heap t flight (level.Init c r ∷ ls) =
+    BelowRecord image t c.0 ls ×
+    elim (is_opening image t c.0 ls) [
+        true ↦ StackFine image T heap t None ls
+      | false ↦ StackFine image T heap t flight ls ]
 
 -- of the top frame of a thread with an exception in flight only the handlers are asked
 abbrev pub FlightFine : Image → Typings → Heap → ℕ → ℕ → List Level → Type 0
 FlightFine image T heap t o [] = ⊥
-FlightFine image T heap t o (level.Code f ∷ ls) = CodeFine image T heap f ls × IsHandled image T heap (this_above image ls) o f × StackFine image T heap t (Some o) ls
+FlightFine image T heap t o (level.Code f ∷ ls) =
+    CodeFine image T heap f ls × IsHandled image T heap (this_above image ls) o f ×
+    StackFine image T heap t (Some o) ls
 FlightFine image T heap t o (level.Init c r ∷ ls) = StackFine image T heap t (Some o) (level.Init c r ∷ ls)
 
 abbrev pub lowest : List Level → Option Level
@@ -169,8 +179,12 @@ pub record CellsFit (image : Image) (heap : Heap) (xs : Cells) (ts : Types) : Ty
 -- each cell of an object, an array and a static field conforms to its declared type
 pub record HeapFine (image : Image) (heap : Heap) : Type 0 where
   pub count : length heap.cells ≡ length heap.kinds
-  pub objects : (o : ℕ) (k : Kind) → kind_of heap (suc o) ≡ Some k → CellsFit image heap (cells_at heap (suc o)) (cell_types image (length_of heap (suc o)) k)
-  pub statics : (x : ℕ) (f : Field) → field_at image x ≡ Some f → is_static_field f ≡ true → CellsFit image heap (slice_index_or heap.statics x []) (reg_types f.def.ty)
+  pub objects :
+      (o : ℕ) (k : Kind) → kind_of heap (suc o) ≡ Some k →
+      CellsFit image heap (cells_at heap (suc o)) (cell_types image (length_of heap (suc o)) k)
+  pub statics :
+      (x : ℕ) (f : Field) → field_at image x ≡ Some f → is_static_field f ≡ true →
+      CellsFit image heap (slice_index_or heap.statics x []) (reg_types f.def.ty)
   pub interned : All (λ o. (s : List ℕ) × (kind_of heap o ≡ Some (kind.Str s))) heap.interned
   pub class_objects : All (λ o. (t : Ty) × (kind_of heap o ≡ Some (kind.ClassOf t))) heap.class_objects
 
@@ -213,8 +227,12 @@ pub record MonitorsFine (image : Image) (threads : List Thread) (sh : Shared) (s
   pub held : All (HeldFine threads steps) sh.monitors.held
   pub kept : All (λ w. (1 ≤ w.kept) × (w.kept ≤ steps)) sh.monitors.waits
   -- a thread stands in one entry, a monitor has one owner
-  pub once : (i j : ℕ) (w x : Wait) → slice_get sh.monitors.waits i ≡ Some w → slice_get sh.monitors.waits j ≡ Some x → w.thread ≡ x.thread → i ≡ j
-  pub one_owner : (i j : ℕ) (w x : Held) → slice_get sh.monitors.held i ≡ Some w → slice_get sh.monitors.held j ≡ Some x → w.object ≡ x.object → i ≡ j
+  pub once :
+      (i j : ℕ) (w x : Wait) → slice_get sh.monitors.waits i ≡ Some w → slice_get sh.monitors.waits j ≡ Some x →
+      w.thread ≡ x.thread → i ≡ j
+  pub one_owner :
+      (i j : ℕ) (w x : Held) → slice_get sh.monitors.held i ≡ Some w → slice_get sh.monitors.held j ≡ Some x →
+      w.object ≡ x.object → i ≡ j
 
 -- how many records of a class stand on a stack
 abbrev pub records : ℕ → List Level → ℕ
