@@ -2,7 +2,7 @@
 use Rattle.std.proofs.Common.{◌≡◌, ◌<◌, ◌^◌, ℕ, ℤ, pos, true, false, Option, Some, None, IsSome, refl, sym, subst, arith}
 use Rattle.dv_defs.specs.declared.code.Insn.{Insn}
 use Rattle.dv_defs.specs.Formats.{Format, F10x, F12x, F11n, F11x, F10t, F20t, F22x, F21t, F21s, F21h, F21c, F23x, F22b, F22t, F22s, F22c, F30t, F32x, F31i, F31t, F31c, F35c, F3rc, F51l, format_at}
-use Rattle.dv_defs.specs.Spelling.{spelling, spelling_in, spelling_by, fits, fits_signed, spelling_10t, spelling_20t, spelling_21t, spelling_22t, spelling_30t, spelling_31t, spelling_21c, spelling_22c, spelling_31c, spelling_35c, spelling_3rc}
+use Rattle.dv_defs.specs.Spelling.{spelling, spelling_in, spelling_by, fits_in, fits_signed, spelling_10t, spelling_20t, spelling_21t, spelling_22t, spelling_30t, spelling_31t, spelling_21c, spelling_22c, spelling_31c, spelling_35c, spelling_3rc}
 use Rattle.dv_defs.proofs.InsnEq.{form_tests}
 use Rattle.dv_units.specs.Offsets.{offset_bits_in}
 use Rattle.dv_asm.specs.Draft.{has_offset, has_index}
@@ -26,19 +26,19 @@ offset_30t i off zero fitting = grind (arith, form_tests)
 offset_31t : (i : Insn) (off : ℤ) → IsSome (spelling_31t (with_operands i (pos 0) 0)) → fits_signed 32 off ≡ true → IsSome (spelling_31t (with_operands i off 0))
 offset_31t i off zero fitting = grind (arith, form_tests)
 
-index_21c : (i : Insn) (index : ℕ) → IsSome (spelling_21c (with_operands i (pos 0) 0)) → fits 16 index ≡ true → IsSome (spelling_21c (with_operands i (pos 0) index))
+index_21c : (i : Insn) (index : ℕ) → IsSome (spelling_21c (with_operands i (pos 0) 0)) → fits_in 16 index ≡ true → IsSome (spelling_21c (with_operands i (pos 0) index))
 index_21c i index zero fitting = grind (arith, form_tests)
 
-index_22c : (i : Insn) (index : ℕ) → IsSome (spelling_22c (with_operands i (pos 0) 0)) → fits 16 index ≡ true → IsSome (spelling_22c (with_operands i (pos 0) index))
+index_22c : (i : Insn) (index : ℕ) → IsSome (spelling_22c (with_operands i (pos 0) 0)) → fits_in 16 index ≡ true → IsSome (spelling_22c (with_operands i (pos 0) index))
 index_22c i index zero fitting = grind (arith, form_tests)
 
-index_31c : (i : Insn) (index : ℕ) → IsSome (spelling_31c (with_operands i (pos 0) 0)) → fits 32 index ≡ true → IsSome (spelling_31c (with_operands i (pos 0) index))
+index_31c : (i : Insn) (index : ℕ) → IsSome (spelling_31c (with_operands i (pos 0) 0)) → fits_in 32 index ≡ true → IsSome (spelling_31c (with_operands i (pos 0) index))
 index_31c i index zero fitting = grind (arith, form_tests)
 
-index_35c : (i : Insn) (index : ℕ) → IsSome (spelling_35c (with_operands i (pos 0) 0)) → fits 16 index ≡ true → IsSome (spelling_35c (with_operands i (pos 0) index))
+index_35c : (i : Insn) (index : ℕ) → IsSome (spelling_35c (with_operands i (pos 0) 0)) → fits_in 16 index ≡ true → IsSome (spelling_35c (with_operands i (pos 0) index))
 index_35c i index zero fitting = grind (arith, form_tests)
 
-index_3rc : (i : Insn) (index : ℕ) → IsSome (spelling_3rc (with_operands i (pos 0) 0)) → fits 16 index ≡ true → IsSome (spelling_3rc (with_operands i (pos 0) index))
+index_3rc : (i : Insn) (index : ℕ) → IsSome (spelling_3rc (with_operands i (pos 0) 0)) → fits_in 16 index ≡ true → IsSome (spelling_3rc (with_operands i (pos 0) index))
 index_3rc i index zero fitting = grind (arith, form_tests)
 
 -- the offset fits the format's, and is 0 where the format has none
@@ -51,10 +51,10 @@ pub record IndexFits (format : Option Format) (index : ℕ) : Type 0 where
   pub small : index < 2 ^ 16
   pub none : has_index format ≡ false → index ≡ 0
 
-fits_16 : (n : ℕ) → n < 2 ^ 16 → fits 16 n ≡ true
+fits_16 : (n : ℕ) → n < 2 ^ 16 → fits_in 16 n ≡ true
 fits_16 n small = grind (arith, form_tests)
 
-fits_32 : (n : ℕ) → n < 2 ^ 16 → fits 32 n ≡ true
+fits_32 : (n : ℕ) → n < 2 ^ 16 → fits_in 32 n ≡ true
 fits_32 n small = grind (arith, form_tests)
 
 abbrev Respells : Format → Insn → ℤ → ℕ → Type 0

@@ -6,9 +6,9 @@ use Rattle.std.proofs.lemmas.Bool.{cases_Bool, leb-true, ltb-true, and_parts}
 use Rattle.std.proofs.lemmas.Bool.Decides.{nat_tests}
 use Rattle.dv_defs.specs.declared.code.Insn.{Insn}
 use Rattle.dv_defs.specs.declared.code.Regs.{Regs}
-use Rattle.dv_defs.specs.Formats.{Format, units_of, F10x, F12x, F11n, F11x, F10t, F20t, F22x, F21t, F21s, F21h, F21c, F23x, F22b, F22t, F22s, F22c, F30t, F32x, F31i, F31t, F31c, F35c, F3rc, F51l}
+use Rattle.dv_defs.specs.Formats.{Format, size_in, F10x, F12x, F11n, F11x, F10t, F20t, F22x, F21t, F21s, F21h, F21c, F23x, F22b, F22t, F22s, F22c, F30t, F32x, F31i, F31t, F31c, F35c, F3rc, F51l}
 use Rattle.dv_defs.specs.Numbers.{signed_at}
-use Rattle.dv_defs.specs.Decoding.{Sized, sized, read_in, high_literal, where_true, short_call, range_call, five, is_zero}
+use Rattle.dv_defs.specs.Decoding.{Sized, sized, read_in, high_literal, where_valid, short_call, range_call, five, is_zero}
 use Rattle.dv_defs.specs.Spelling.{unit, few, neighbours, plain, with_literal, with_offset, with_index, all_fit, all_zero, spelling_in, spelling_shifted, spelling_10x, spelling_12x, spelling_11n, spelling_11x, spelling_10t, spelling_20t, spelling_22x, spelling_21t, spelling_21s, spelling_21h, spelling_21c, spelling_23x, spelling_22b, spelling_22t, spelling_22s, spelling_22c, spelling_30t, spelling_32x, spelling_31i, spelling_31t, spelling_31c, spelling_35c, spelling_3rc, spelling_51l}
 use Rattle.dv_defs.proofs.InsnEq.{form_tests}
 use Rattle.dv_defs.proofs.Signed.{complement_of_signed, signed_fits}
@@ -194,24 +194,24 @@ none_short op a v w h bw t i p =
 
 -- what a format's reader says of the units
 abbrev pub IsRead : Format → List ℕ → Option Sized → Type 0
-IsRead f us (Some s) = (s.size ≡ units_of f) × (spelling_in f s.insn ≡ Some (take (units_of f) us))
-IsRead f us None = (i : Insn) → spelling_in f i ≡ Some (take (units_of f) us) → ⊥
+IsRead f us (Some s) = (s.size ≡ size_in f) × (spelling_in f s.insn ≡ Some (take (size_in f) us))
+IsRead f us None = (i : Insn) → spelling_in f i ≡ Some (take (size_in f) us) → ⊥
 
 abbrev test_35c : ℕ → ℕ → Bool
 test_35c a w = nat_le (a / 16) 5 && list_all is_zero (drop (a / 16) (five (a % 16) w))
 
-is_short_call : (b : Bool) (op a v w : ℕ) (us : List ℕ) → op < 256 → a < 256 → v < 2 ^ 16 → w < 2 ^ 16 → test_35c a w ≡ b → IsRead F35c (unit a op ∷ v ∷ w ∷ us) (where_true b (sized 3 (with_index op (few (take (a / 16) (five (a % 16) w))) v)))
+is_short_call : (b : Bool) (op a v w : ℕ) (us : List ℕ) → op < 256 → a < 256 → v < 2 ^ 16 → w < 2 ^ 16 → test_35c a w ≡ b → IsRead F35c (unit a op ∷ v ∷ w ∷ us) (where_valid b (sized 3 (with_index op (few (take (a / 16) (five (a % 16) w))) v)))
 is_short_call true op a v w us h k bv bw t = (refl, reads_short op a v w h k bv bw t)
 is_short_call false op a v w us h k bv bw t = none_short op a v w h bw t
 
-is_range_call : (b : Bool) (op a v w : ℕ) (us : List ℕ) → op < 256 → a < 256 → v < 2 ^ 16 → w < 2 ^ 16 → (nat_lt 0 a || nat_eq w 0) ≡ b → IsRead F3rc (unit a op ∷ v ∷ w ∷ us) (where_true b (sized 3 (with_index op (neighbours w a) v)))
+is_range_call : (b : Bool) (op a v w : ℕ) (us : List ℕ) → op < 256 → a < 256 → v < 2 ^ 16 → w < 2 ^ 16 → (nat_lt 0 a || nat_eq w 0) ≡ b → IsRead F3rc (unit a op ∷ v ∷ w ∷ us) (where_valid b (sized 3 (with_index op (neighbours w a) v)))
 is_range_call true op a v w us h k bv bw t = (refl, reads_3rc op a v w h k bv bw t)
 is_range_call false op a v w us h k bv bw t = none_3rc op a v w h k t
 
 pub unit_parts : (v : ℕ) (us : List ℕ) → all_fit 16 (v ∷ us) ≡ true → (v < 2 ^ 16) × (all_fit 16 us ≡ true)
 unit_parts v us t = let p = and_parts _ _ t in (ltb-true _ _ p.0, p.1)
 
-pub is_read : (f : Format) (op a : ℕ) (us : List ℕ) → op < 256 → a < 256 → all_fit 16 us ≡ true → units_of f ≤ length (unit a op ∷ us) → IsRead f (unit a op ∷ us) (read_in f op a us)
+pub is_read : (f : Format) (op a : ℕ) (us : List ℕ) → op < 256 → a < 256 → all_fit 16 us ≡ true → size_in f ≤ length (unit a op ∷ us) → IsRead f (unit a op ∷ us) (read_in f op a us)
 is_read F10x op zero us h k t s = (refl, reads_10x op 0 h k)
 is_read F10x op (suc n) us h k t s = none_10x op n h
 is_read F12x op a us h k t s = (refl, reads_12x op a h k)
@@ -247,7 +247,7 @@ is_read F51l op a (v ∷ w ∷ x ∷ y ∷ us) h k t s =
 is_read f op a us h k t s = absurd (omega arith)
 
 -- where the units are too few, nothing is read
-pub none_of_few : (f : Format) (op a u : ℕ) (us : List ℕ) → length (u ∷ us) < units_of f → read_in f op a us ≡ None
+pub none_of_few : (f : Format) (op a u : ℕ) (us : List ℕ) → length (u ∷ us) < size_in f → read_in f op a us ≡ None
 none_of_few F10x op a u us h = absurd (omega arith)
 none_of_few F12x op a u us h = absurd (omega arith)
 none_of_few F11n op a u us h = absurd (omega arith)

@@ -3,7 +3,7 @@ use Rattle.std.proofs.Common.{◌≡◌, ℕ, ◌+◌, ◌*◌, ◌/◌, ◌%◌
 use Rattle.std.proofs.lemmas.List.{length-take-le, get_or-take}
 use Rattle.std.proofs.lemmas.Bool.{cases_lt}
 use Rattle.dv_defs.specs.declared.code.Insn.{Insn}
-use Rattle.dv_defs.specs.Formats.{Format, units_of, format_at}
+use Rattle.dv_defs.specs.Formats.{Format, size_in, format_at}
 use Rattle.dv_defs.specs.Decoding.{Sized, sized, read_by, read_in, insn_here}
 use Rattle.dv_defs.specs.Spelling.{unit, all_fit, spelling, spelling_by, spelling_in}
 use Rattle.dv_defs.proofs.SpellingFormats.{begins}
@@ -20,12 +20,12 @@ at_beginning : (n : ℕ) (us : List ℕ) → n ≤ length us → take n us ≡ t
 at_beginning n us h = ap (λ k. take k us) (sym (length-take-le n us h))
 
 -- the units are too few for the format
-too_few : (f : Format) (u : ℕ) (us : List ℕ) → format_at (u % 256) ≡ Some f → length (u ∷ us) < units_of f → (i : Insn) (n : ℕ) → n ≤ length (u ∷ us) → spelling i ≡ Some (take n (u ∷ us)) → ⊥
+too_few : (f : Format) (u : ℕ) (us : List ℕ) → format_at (u % 256) ≡ Some f → length (u ∷ us) < size_in f → (i : Insn) (n : ℕ) → n ≤ length (u ∷ us) → spelling i ≡ Some (take n (u ∷ us)) → ⊥
 too_few f u us e h i n k p =
     let s = stands_by_opcode f i _ (u ∷ us) e p (at_beginning n (u ∷ us) k) in
     omega (arith, s.whole)
 
-spelled_there : (f : Format) (u : ℕ) (us : List ℕ) (o : Option Sized) → format_at (u % 256) ≡ Some f → units_of f ≤ length (u ∷ us) → IsRead f (u ∷ us) o → IsHere (u ∷ us) o
+spelled_there : (f : Format) (u : ℕ) (us : List ℕ) (o : Option Sized) → format_at (u % 256) ≡ Some f → size_in f ≤ length (u ∷ us) → IsRead f (u ∷ us) o → IsHere (u ∷ us) o
 spelled_there f u us None e h r = λ i n k p.
     r i (stands_by_opcode f i _ (u ∷ us) e p (at_beginning n (u ∷ us) k)).units
 spelled_there f u us (Some s) e h r =
@@ -40,7 +40,7 @@ by_format None u us t e = λ i n k p.
     cc (ap format_at s.opcode, s.format, e)
 by_format (Some f) u us t e =
     let b = unit_parts u us t in
-    elim (cases_lt (length (u ∷ us)) (units_of f)) [
+    elim (cases_lt (length (u ∷ us)) (size_in f)) [
       | inl h ↦ (let P : Option Sized → Type 0 = λ o. IsHere (u ∷ us) o in
           subst P (sym (none_of_few f (u % 256) (u / 256) u us h)) (too_few f u us e h))
       | inr h ↦ (let P : ℕ → Type 0 = λ w. IsRead f (w ∷ us) (read_in f (u % 256) (u / 256) us) in

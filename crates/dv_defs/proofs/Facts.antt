@@ -12,7 +12,7 @@ use Rattle.dv_defs.specs.Op.{Code, code_at}
 use Rattle.dv_defs.specs.Joins.{array_of, join_type}
 use Rattle.dv_defs.specs.Accepting.{Accepts, IsAcceptedMethod}
 use Rattle.dv_defs.specs.Heap.{Heap, alloc_array, alloc_string, newest}
-use Rattle.dv_defs.specs.Monitors.{Monitors, entered, exited, waiting, notified_one, resumed, owner_of, entry_of, Wait}
+use Rattle.dv_defs.specs.Monitors.{Monitors, entered, exited, waiting, notified_one, resumed, owner_of, wait_of, Wait}
 use Rattle.dv_defs.specs.Classes.{Fresh, InProgress, Ready, Erroneous, ask_of}
 
 accepted_each : (image : Image) (n : ℕ) (code : Code) → Accepts image → code_at image n ≡ Some code → IsAcceptedMethod image code

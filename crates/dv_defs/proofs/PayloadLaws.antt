@@ -11,9 +11,9 @@ use Rattle.std.proofs.Math.Nat.{mul-div_cancel, mul-mod_left}
 use Rattle.dv_defs.specs.declared.code.Payload.{Payload}
 use Rattle.dv_defs.specs.declared.code.Payload.TheVariants as payload
 use Rattle.dv_defs.specs.Numbers.{signed_at}
-use Rattle.dv_defs.specs.Spelling.{two_units, all_fit, fits, fits_signed, complement}
+use Rattle.dv_defs.specs.Spelling.{two_units, all_fit, fits_in, fits_signed, complement}
 use Rattle.dv_defs.specs.Decoding.{is_zero}
-use Rattle.dv_defs.specs.Tiling.{SizedPayload, doubles, signed_all, bytes_in, packed_of, sparse_of, is_width, data_in, data_of, data_from, payload_of, begins_payload}
+use Rattle.dv_defs.specs.Tiling.{SizedPayload, doubles, signed_all, bytes_in, packed_with, sparse_with, is_width, data_in, data_of, data_from, payload_of, begins_payload}
 use Rattle.dv_defs.specs.Payloads.{numbers_spelling, bytes_spelling, all_fit_signed, where_fits, packed_spelling, sparse_spelling, data_spelling, payload_spelling, payload_here}
 use Rattle.dv_defs.proofs.DecodingFormats.{unit_parts}
 use Rattle.dv_defs.proofs.PayloadNumbers.{length_numbers, numbers_append, doubles_of, signed_back, AreRead, read_numbers}
@@ -35,7 +35,7 @@ packed_here first targets rest f t =
     let s : signed_all (map (complement 32) (first ∷ targets)) ≡ first ∷ targets = signed_back (first ∷ targets) (cc (f, t)) in
     let k : signed_at 32 (complement 32 first) ≡ first = cc s in
     let ts : signed_all (map (complement 32) targets) ≡ targets = cc s in
-    ap (packed_of (length targets)) (doubles_of (first ∷ targets) rest) ∙
+    ap (packed_with (length targets)) (doubles_of (first ∷ targets) rest) ∙
     same_sized (payload.Packed (signed_at 32 (complement 32 first)) (signed_all (map (complement 32) targets))) (payload.Packed first targets) _ _ (cc (k, ts)) refl
 
 packed_size : (first : ℤ) (targets : List ℤ) → length (0x0100 ∷ length targets ∷ numbers_spelling (first ∷ targets)) ≡ length targets * 2 + 4
@@ -64,7 +64,7 @@ sparse_here keys targets rest e f t =
     (ap (λ us. doubles (length (keys ++ targets)) (us ++ rest)) (sym (numbers_append keys targets)) ∙ doubles_of (keys ++ targets) rest) in
     let k = keys_of keys targets f in
     let ts = targets_of keys targets t in
-    ap (sparse_of (length keys)) read ∙
+    ap (sparse_with (length keys)) read ∙
     same_sized (payload.Sparse (signed_all (take (length keys) (map (complement 32) (keys ++ targets)))) (signed_all (drop (length keys) (map (complement 32) (keys ++ targets))))) (payload.Sparse keys targets) _ _ (cc (k, ts)) refl
 
 sparse_size : (keys targets : List ℤ) → length targets ≡ length keys → length (0x0200 ∷ length keys ∷ (numbers_spelling keys ++ numbers_spelling targets)) ≡ length keys * 4 + 2
@@ -138,19 +138,19 @@ IsPayloadHere us None = Unit {0}
 pub where_it_fits : (t : Bool) (us vs : List ℕ) → t ≡ true → us ≡ vs → where_fits t us ≡ Some vs
 where_it_fits t us vs e h = cc
 
-packed_stands : (n : ℕ) (us : List ℕ) (o : Option (List ℕ)) → n < 2 ^ 16 → ((xs : List ℕ) → o ≡ Some xs → AreRead (suc n) us xs) → IsPayloadHere (0x0100 ∷ n ∷ us) (packed_of n o)
+packed_stands : (n : ℕ) (us : List ℕ) (o : Option (List ℕ)) → n < 2 ^ 16 → ((xs : List ℕ) → o ≡ Some xs → AreRead (suc n) us xs) → IsPayloadHere (0x0100 ∷ n ∷ us) (packed_with n o)
 packed_stands n us None b r = tt
 packed_stands n us (Some []) b r = tt
 packed_stands n us (Some (k ∷ ts)) b r =
     let a = r (k ∷ ts) refl in
     let count : length (signed_all ts) ≡ n = length-map ts (signed_at 32) ∙ cc (a.count) in
     let more : suc (suc (suc n * 2)) ≡ n * 2 + 4 = omega arith in
-    let fit : (fits 16 (length (signed_all ts)) && all_fit_signed (signed_all (k ∷ ts))) ≡ true = both _ _ (lt-ltb _ _ (omega (arith, count, b))) a.fit in
+    let fit : (fits_in 16 (length (signed_all ts)) && all_fit_signed (signed_all (k ∷ ts))) ≡ true = both _ _ (lt-ltb _ _ (omega (arith, count, b))) a.fit in
     let units : (0x0100 ∷ length (signed_all ts) ∷ numbers_spelling (signed_all (k ∷ ts))) ≡ take (n * 2 + 4) (0x0100 ∷ n ∷ us) =
     cc (count, a.units) ∙ ap (λ m. take m (0x0100 ∷ n ∷ us)) more in
     (omega (arith, a.room), where_it_fits _ _ _ fit units)
 
-sparse_stands : (n : ℕ) (us : List ℕ) (o : Option (List ℕ)) → n < 2 ^ 16 → ((xs : List ℕ) → o ≡ Some xs → AreRead (n + n) us xs) → IsPayloadHere (0x0200 ∷ n ∷ us) (sparse_of n o)
+sparse_stands : (n : ℕ) (us : List ℕ) (o : Option (List ℕ)) → n < 2 ^ 16 → ((xs : List ℕ) → o ≡ Some xs → AreRead (n + n) us xs) → IsPayloadHere (0x0200 ∷ n ∷ us) (sparse_with n o)
 sparse_stands n us None b r = tt
 sparse_stands n us (Some xs) b r =
     let a = r xs refl in
@@ -160,7 +160,7 @@ sparse_stands n us (Some xs) b r =
     let count : length keys ≡ n = length-map (take n xs) (signed_at 32) ∙ length-take-le n xs (omega (arith, a.count)) in
     let rest : length targets ≡ n = length-map (drop n xs) (signed_at 32) ∙ omega (arith, length-drop n xs, a.count) in
     let fits_both : (all_fit_signed keys && all_fit_signed targets) ≡ true = sym (list_all-append (λ x. fits_signed 32 x) keys targets) ∙ (ap all_fit_signed (sym parts) ∙ a.fit) in
-    let small : fits 16 (length keys) ≡ true = lt-ltb _ _ (omega (arith, count, b)) in
+    let small : fits_in 16 (length keys) ≡ true = lt-ltb _ _ (omega (arith, count, b)) in
     let same : nat_eq (length targets) (length keys) ≡ true = grind (arith, nat_tests, count, rest) in
     let more : suc (suc ((n + n) * 2)) ≡ n * 4 + 2 = omega arith in
     let numbers : numbers_spelling keys ++ numbers_spelling targets ≡ take ((n + n) * 2) us = sym (numbers_append keys targets) ∙ (ap numbers_spelling (sym parts) ∙ a.units) in
@@ -193,7 +193,7 @@ data_spelled width lo hi k m units us e d h bl bh t w room z =
     let count : length bytes ≡ m = length-take-le m (bytes_in vs) (omega (arith, length_bytes_in vs, size, h)) in
     let q = of_multiple k width (length bytes) (is_width_positive width w) (count ∙ d) in
     let back : bytes_spelling bytes ≡ vs = units_back vs m (size ∙ h) z in
-    let small : fits 32 (length bytes / width) ≡ true = lt-ltb _ _ (omega (arith, q.0, e, bl, bh)) in
+    let small : fits_in 32 (length bytes / width) ≡ true = lt-ltb _ _ (omega (arith, q.0, e, bl, bh)) in
     let fit : all_fit 8 bytes ≡ true = fit_taken m (bytes_in vs) (bytes_fit vs t) in
     where_it_fits _ _ _ (both _ _ w (both _ _ q.1 (both _ _ small fit))) (data_units width lo hi (length bytes / width) units bytes us (q.0 ∙ e) bl bh back)
 

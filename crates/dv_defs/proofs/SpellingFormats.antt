@@ -3,7 +3,7 @@ use Rattle.std.proofs.Common.{◌≡◌, ℕ, ◌%◌, List, length, get_or, Som
 use Rattle.std.proofs.lemmas.Bool.{cond-true, cond-false}
 use Rattle.std.proofs.lemmas.Bool.Decides.{nat_tests}
 use Rattle.dv_defs.specs.declared.code.Insn.{Insn}
-use Rattle.dv_defs.specs.Formats.{Format, units_of, F10x, F12x, F11n, F11x, F10t, F20t, F22x, F21t, F21s, F21h, F21c, F23x, F22b, F22t, F22s, F22c, F30t, F32x, F31i, F31t, F31c, F35c, F3rc, F51l}
+use Rattle.dv_defs.specs.Formats.{Format, size_in, F10x, F12x, F11n, F11x, F10t, F20t, F22x, F21t, F21s, F21h, F21c, F23x, F22b, F22t, F22s, F22c, F30t, F32x, F31i, F31t, F31c, F35c, F3rc, F51l}
 use Rattle.dv_defs.specs.Spelling.{spelling_in, spelling_shifted, spelling_10x, spelling_12x, spelling_11n, spelling_11x, spelling_10t, spelling_20t, spelling_22x, spelling_21t, spelling_21s, spelling_21h, spelling_21c, spelling_23x, spelling_22b, spelling_22t, spelling_22s, spelling_22c, spelling_30t, spelling_32x, spelling_31i, spelling_31t, spelling_31c, spelling_35c, spelling_3rc, spelling_51l}
 use Rattle.dv_defs.proofs.InsnEq.{form_tests}
 use Rattle.dv_defs.proofs.Spelled.{spelled_is}
@@ -93,7 +93,7 @@ begins_21h i us p = grind (arith, nat_tests, begins_shifted 16 i us, begins_shif
 begins_35c : (i : Insn) (us : List ℕ) → spelling_35c i ≡ Some us → (length us ≡ 3) × (get_or us 0 0 % 256 ≡ i.op)
 begins_35c i us p = let s = spelled_is i _ _ _ us p in grind arith
 
-pub begins : (f : Format) (i : Insn) (us : List ℕ) → spelling_in f i ≡ Some us → (length us ≡ units_of f) × (get_or us 0 0 % 256 ≡ i.op)
+pub begins : (f : Format) (i : Insn) (us : List ℕ) → spelling_in f i ≡ Some us → (length us ≡ size_in f) × (get_or us 0 0 % 256 ≡ i.op)
 begins F10x i us p = grind (arith, nat_tests)
 begins F12x i us p = grind (arith, nat_tests)
 begins F11n i us p = grind (arith, nat_tests)

@@ -2,7 +2,7 @@
 use Rattle.std.proofs.Common.{◌≡◌, ℕ, ◌%◌, ◌<◌, ◌≤◌, List, length, take, get_or, Option, None, Some, refl, sym, ◌∙◌, ap, subst, arith, lit<}
 use Rattle.std.proofs.lemmas.List.{get_or-take, length-take}
 use Rattle.dv_defs.specs.declared.code.Insn.{Insn}
-use Rattle.dv_defs.specs.Formats.{Format, F10x, units_of, format_at}
+use Rattle.dv_defs.specs.Formats.{Format, F10x, size_in, format_at}
 use Rattle.dv_defs.specs.Spelling.{spelling, spelling_by, spelling_in}
 use Rattle.dv_defs.proofs.SpellingFormats.{begins, unique}
 
@@ -18,7 +18,7 @@ spelled_by i us (Some f) e p = (f, record { format = e; units = p })
 pub spelled_in : (i : Insn) (us : List ℕ) → spelling i ≡ Some us → (f : Format) × SpelledIn f i us
 spelled_in i us p = spelled_by i us (format_at i.op) refl p
 
-pub units_of_positive : (f : Format) → 0 < units_of f
+pub units_of_positive : (f : Format) → 0 < size_in f
 units_of_positive F10x = lit< tt
 units_of_positive f = lit< tt
 
@@ -26,9 +26,9 @@ units_of_positive f = lit< tt
 pub record Stands (f : Format) (i : Insn) (us rest : List ℕ) : Type 0 where
   pub opcode : i.op ≡ get_or rest 0 0 % 256
   pub format : format_at i.op ≡ Some f
-  pub size : length us ≡ units_of f
-  pub whole : units_of f ≤ length rest
-  pub units : spelling_in f i ≡ Some (take (units_of f) rest)
+  pub size : length us ≡ size_in f
+  pub whole : size_in f ≤ length rest
+  pub units : spelling_in f i ≡ Some (take (size_in f) rest)
 
 stands_in : (f : Format) (i : Insn) (us rest : List ℕ) → SpelledIn f i us → us ≡ take (length us) rest → Stands f i us rest
 stands_in f i us rest s e =
@@ -58,4 +58,4 @@ pub unique_where_both_stand : (i j : Insn) (us vs rest : List ℕ) → spelling 
 unique_where_both_stand i j us vs rest p d q e =
     let (f, s) = stands i us rest p d in
     let t = stands_by_opcode f j vs rest (sym (ap format_at s.opcode) ∙ s.format) q e in
-    unique f i j (take (units_of f) rest) (s.opcode ∙ sym t.opcode) s.units t.units
+    unique f i j (take (size_in f) rest) (s.opcode ∙ sym t.opcode) s.units t.units

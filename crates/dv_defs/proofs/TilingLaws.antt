@@ -7,7 +7,7 @@ use Rattle.std.proofs.Math.Seq.{take-length}
 use Rattle.dv_defs.specs.declared.code.Insn.{Insn}
 use Rattle.dv_defs.specs.declared.code.Payload.{Payload}
 use Rattle.dv_defs.specs.declared.code.Payload.TheVariants as payload
-use Rattle.dv_defs.specs.Formats.{Format, F10x, units_of, format_at}
+use Rattle.dv_defs.specs.Formats.{Format, F10x, size_in, format_at}
 use Rattle.dv_defs.specs.Spelling.{all_fit, spelling, spelling_in, spelling_10x}
 use Rattle.dv_defs.specs.Decoding.{Sized, insn_here}
 use Rattle.dv_defs.specs.Tiling.{SizedPayload, Item, IsInsn, IsPayload, Piece, Tile, payload_of, begins_payload, insn_piece, payload_piece, piece_here, with_tile, tiled, tiling}
@@ -35,7 +35,7 @@ no_mark : (f : Format) (i : Insn) (us : List ℕ) → Stands f i us us → get_o
 no_mark f i us s z =
     let op : i.op ≡ 0 = s.opcode ∙ z in
     let e : f ≡ F10x = cc (sym s.format, ap format_at op, nop_format) in
-    let P : Format → Type 0 = λ g. spelling_in g i ≡ Some (take (units_of g) us) in
+    let P : Format → Type 0 = λ g. spelling_in g i ≡ Some (take (size_in g) us) in
     first_of_nop i us (subst P e s.units) op
 
 marks : (u : ℕ) → ((u ≡ 0x0100) ⊎ (u ≡ 0x0200)) ⊎ (u ≡ 0x0300) → (u % 256 ≡ 0) × (u ≡ 0 → ⊥)

@@ -20,9 +20,9 @@ abbrev pub where_zero : ℕ → Option Sized → Option Sized
 where_zero zero x = x
 where_zero (suc n) x = None
 
-abbrev pub where_true : Bool → Option Sized → Option Sized
-where_true true x = x
-where_true false x = None
+abbrev pub where_valid : Bool → Option Sized → Option Sized
+where_valid true x = x
+where_valid false x = None
 
 -- the nibble at a place from the lowest on
 abbrev pub nibble : ℕ → ℕ → ℕ
@@ -42,12 +42,12 @@ is_zero n = nat_eq n 0
 -- the first A, at most 5, of vC, vD, vE, vF, vG; the other nibbles are 0
 abbrev pub short_call : ℕ → ℕ → ℕ → ℕ → ℕ → Option Sized
 short_call op a g index w =
-    where_true (nat_le a 5 && list_all is_zero (drop a (five g w)))
+    where_valid (nat_le a 5 && list_all is_zero (drop a (five g w)))
         (sized 3 (with_index op (few (take a (five g w))) index))
 
 -- AA words from vCCCC; with AA 0, CCCC is 0
 abbrev pub range_call : ℕ → ℕ → ℕ → ℕ → Option Sized
-range_call op a index first = where_true (nat_lt 0 a || nat_eq first 0) (sized 3 (with_index op (neighbours first a) index))
+range_call op a index first = where_valid (nat_lt 0 a || nat_eq first 0) (sized 3 (with_index op (neighbours first a) index))
 
 -- by format: the opcode, the high byte of the first unit, and the units after it
 abbrev pub read_in : Format → ℕ → ℕ → List ℕ → Option Sized

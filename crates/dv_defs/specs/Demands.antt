@@ -148,9 +148,12 @@ invoke_for image own ts c ks m =
     elim (is_static m) [ true ↦ args_for image ts m.def.proto.params ks | false ↦ instance_call image own ts c ks m ]
 
 -- the return that a method's result type wants, where it has one
-abbrev pub form_of : Option Ty → Width
-form_of None = Width.Narrow
-form_of (Some t) = elim (is_long t) [ true ↦ Width.Wide | false ↦ elim (is_reference t) [ true ↦ Width.Reference | false ↦ Width.Narrow ] ]
+abbrev pub result_width : Option Ty → Width
+result_width None = Width.Narrow
+result_width (Some t) =
+    elim (is_long t) [
+        true ↦ Width.Wide
+      | false ↦ elim (is_reference t) [ true ↦ Width.Reference | false ↦ Width.Narrow ] ]
 
 abbrev pub same_width : Width → Width → Bool
 same_width Width.Narrow Width.Narrow = true
@@ -222,8 +225,8 @@ is_pending_long pend.Long = true
 is_pending_long p = false
 
 -- a constructor returns after the superclass's constructor was called
-abbrev pub constructed : Method → RegState → Demand
-constructed m s = demand (not (is_constructor m && s.this_pending)) (rule.V 12)
+abbrev pub this_initialised : Method → RegState → Demand
+this_initialised m s = demand (not (is_constructor m && s.this_pending)) (rule.V 12)
 
 -- the first demand on a state that fails, none where all hold
 abbrev pub demands : Image → Method → Op → RegState → Demand
@@ -262,10 +265,10 @@ demands image m (FieldGet x a b f) s = ref_to image s.regs b (class_type image f
 demands image m (FieldPut x a b f) s = first (put_receiver image m s.regs b f (type_at s.regs b)) (value_for image s.regs a f.def.ty)
 demands image m (StaticPut x a f) s = value_for image s.regs a f.def.ty
 demands image m (Invoke c ks g) s = invoke_for image m s.regs c ks g
-demands image m ReturnVoid s = first (demand (is_void m.def.proto.ret) (rule.V 13)) (constructed m s)
+demands image m ReturnVoid s = first (demand (is_void m.def.proto.ret) (rule.V 13)) (this_initialised m s)
 demands image m (Return x a) s =
-    first (demand (not (is_void m.def.proto.ret) && same_width x (form_of m.def.proto.ret)) (rule.V 13))
-    (first (constructed m s) (value_returned image s.regs a m.def.proto.ret))
+    first (demand (not (is_void m.def.proto.ret) && same_width x (result_width m.def.proto.ret)) (rule.V 13))
+    (first (this_initialised m s) (value_returned image s.regs a m.def.proto.ret))
 demands image m op s = None
 
 -- whether control goes on to the next address

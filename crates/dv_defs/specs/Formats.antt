@@ -31,31 +31,31 @@ pub data Format : Type 0 where
   F51l : Format
 
 -- how many units an instruction of a format has
-abbrev pub units_of : Format → ℕ
-units_of F10x = 1
-units_of F12x = 1
-units_of F11n = 1
-units_of F11x = 1
-units_of F10t = 1
-units_of F20t = 2
-units_of F22x = 2
-units_of F21t = 2
-units_of F21s = 2
-units_of F21h = 2
-units_of F21c = 2
-units_of F23x = 2
-units_of F22b = 2
-units_of F22t = 2
-units_of F22s = 2
-units_of F22c = 2
-units_of F30t = 3
-units_of F32x = 3
-units_of F31i = 3
-units_of F31t = 3
-units_of F31c = 3
-units_of F35c = 3
-units_of F3rc = 3
-units_of F51l = 5
+abbrev pub size_in : Format → ℕ
+size_in F10x = 1
+size_in F12x = 1
+size_in F11n = 1
+size_in F11x = 1
+size_in F10t = 1
+size_in F20t = 2
+size_in F22x = 2
+size_in F21t = 2
+size_in F21s = 2
+size_in F21h = 2
+size_in F21c = 2
+size_in F23x = 2
+size_in F22b = 2
+size_in F22t = 2
+size_in F22s = 2
+size_in F22c = 2
+size_in F30t = 3
+size_in F32x = 3
+size_in F31i = 3
+size_in F31t = 3
+size_in F31c = 3
+size_in F35c = 3
+size_in F3rc = 3
+size_in F51l = 5
 
 -- the format of an opcode, none where the opcode is unused or a float's
 unfoldable pub format_at : ℕ → Option Format
@@ -128,7 +128,7 @@ format_at op =
 -- how many units an instruction with an opcode has, 0 where the opcode has no format
 abbrev pub size_by : Option Format → ℕ
 size_by None = 0
-size_by (Some f) = units_of f
+size_by (Some f) = size_in f
 
 abbrev pub size_at : ℕ → ℕ
 size_at op = size_by (format_at op)

@@ -66,12 +66,12 @@ zero_cell t = v.Zero
 abbrev pub fresh_cells : List RegType → Cells
 fresh_cells ts = map zero_cell ts
 
-abbrev pub repeated : ℕ → Cells → Cells
-repeated zero vs = []
-repeated (suc n) vs = vs ++ repeated n vs
+abbrev pub copies : ℕ → Cells → Cells
+copies zero vs = []
+copies (suc n) vs = vs ++ copies n vs
 
 abbrev pub fresh_elements : Ty → ℕ → Cells
-fresh_elements t n = repeated n (fresh_cells (reg_types (component t)))
+fresh_elements t n = copies n (fresh_cells (reg_types (component t)))
 
 abbrev pub has_room : Heap → ℕ → Bool
 has_room h n = within h.limit (h.used + n)

@@ -75,12 +75,12 @@ notified_one m o = record { held = m.held; waits = notify_first o m.waits }
 abbrev pub notified_all : Monitors → ℕ → Monitors
 notified_all m o = record { held = m.held; waits = notify_each o m.waits }
 
-abbrev pub entry_in : ℕ → List Wait → Option Wait
-entry_in t [] = None
-entry_in t (w ∷ ws) = elim (nat_eq w.thread t) [ true ↦ Some w | false ↦ entry_in t ws ]
+abbrev pub wait_in : ℕ → List Wait → Option Wait
+wait_in t [] = None
+wait_in t (w ∷ ws) = elim (nat_eq w.thread t) [ true ↦ Some w | false ↦ wait_in t ws ]
 
-abbrev pub entry_of : Monitors → ℕ → Option Wait
-entry_of m t = entry_in t m.waits
+abbrev pub wait_of : Monitors → ℕ → Option Wait
+wait_of m t = wait_in t m.waits
 
 abbrev pub without : ℕ → List Wait → List Wait
 without t [] = []

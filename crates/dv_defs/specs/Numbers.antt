@@ -87,13 +87,13 @@ signed_at bits n = elim (nat_lt n (2 ^ (bits - 1))) [ true ↦ pos n | false ↦
 abbrev pub nowhere : ℕ
 nowhere = 65536
 
-abbrev pub address_of : ℤ → ℕ
-address_of (pos n) = n
-address_of (negsuc n) = nowhere
+abbrev pub address_or_nowhere : ℤ → ℕ
+address_or_nowhere (pos n) = n
+address_or_nowhere (negsuc n) = nowhere
 
 -- the address at a distance from another
 abbrev pub jump : ℕ → ℤ → ℕ
-jump at off = address_of (pos at +ℤ off)
+jump at off = address_or_nowhere (pos at +ℤ off)
 
 -- bytes as a number, the lowest first
 abbrev pub low_first : List ℕ → ℕ

@@ -17,7 +17,7 @@ use Rattle.dv_defs.specs.Families.{Family, family_at}
 use Rattle.dv_defs.specs.Types.{class_in, is_array}
 use Rattle.dv_defs.specs.Pools.{Method, Field, method_at, field_at, class_named}
 use Rattle.dv_defs.specs.Numbers.{jump, elements}
-use Rattle.dv_defs.specs.Tiling.{Tile, tiling, tiles_of, payload_at}
+use Rattle.dv_defs.specs.Tiling.{Tile, tiling, tiles_in, payload_at}
 
 -- the second operand of an int operation
 pub data Arg : Type 0 where
@@ -85,7 +85,7 @@ pub record Code : Type 0 where
 
 abbrev pub with_body : Method → Option Body → Option Code
 with_body m None = None
-with_body m (Some b) = Some (record { method = m; body = b; tiles = tiles_of (tiling b.units) })
+with_body m (Some b) = Some (record { method = m; body = b; tiles = tiles_in (tiling b.units) })
 
 abbrev pub code_of : Option Method → Option Code
 code_of None = None
@@ -114,13 +114,13 @@ abbrev pub on_pool : {A : Type 0} → Option A → (A → Resolved) → Resolved
 on_pool None go = Err (rule.S 12)
 on_pool (Some x) go = go x
 
-abbrev pub field_in : Image → Option FieldId → Option Field
-field_in image None = None
-field_in image (Some f) = field_at image f.0
+abbrev pub resolved_field : Image → Option FieldId → Option Field
+resolved_field image None = None
+resolved_field image (Some f) = field_at image f.0
 
-abbrev pub method_in : Image → Option MethodId → Option Method
-method_in image None = None
-method_in image (Some m) = method_at image m.0
+abbrev pub resolved_method : Image → Option MethodId → Option Method
+resolved_method image None = None
+resolved_method image (Some m) = method_at image m.0
 
 abbrev pub move_op : Width → ℕ → ℕ → Op
 move_op Width.Narrow a b = MoveInt a b
@@ -206,15 +206,15 @@ resolve image code at i (Family.IfZero test) = Ok (IfZero test (reg i 0) (jump a
 resolve image code at i (Family.ArrayGet s) = Ok (ArrayGet s (reg i 0) (reg i 1) (reg i 2))
 resolve image code at i (Family.ArrayPut s) = Ok (ArrayPut s (reg i 0) (reg i 1) (reg i 2))
 resolve image code at i (Family.FieldGet s) =
-    on_pool (field_in image (slice_get code.method.info.fields i.index)) (λ x. Ok (FieldGet s (reg i 0) (reg i 1) x))
+    on_pool (resolved_field image (slice_get code.method.info.fields i.index)) (λ x. Ok (FieldGet s (reg i 0) (reg i 1) x))
 resolve image code at i (Family.FieldPut s) =
-    on_pool (field_in image (slice_get code.method.info.fields i.index)) (λ x. Ok (FieldPut s (reg i 0) (reg i 1) x))
+    on_pool (resolved_field image (slice_get code.method.info.fields i.index)) (λ x. Ok (FieldPut s (reg i 0) (reg i 1) x))
 resolve image code at i (Family.StaticGet s) =
-    on_pool (field_in image (slice_get code.method.info.fields i.index)) (λ x. Ok (StaticGet s (reg i 0) x))
+    on_pool (resolved_field image (slice_get code.method.info.fields i.index)) (λ x. Ok (StaticGet s (reg i 0) x))
 resolve image code at i (Family.StaticPut s) =
-    on_pool (field_in image (slice_get code.method.info.fields i.index)) (λ x. Ok (StaticPut s (reg i 0) x))
+    on_pool (resolved_field image (slice_get code.method.info.fields i.index)) (λ x. Ok (StaticPut s (reg i 0) x))
 resolve image code at i (Family.Invoke c) =
-    on_pool (method_in image (slice_get code.method.info.methods i.index))
+    on_pool (resolved_method image (slice_get code.method.info.methods i.index))
         (λ m. Ok (Invoke c (named_registers i.regs) m))
 resolve image code at i (Family.IntUnary o) = Ok (IntUnary o (reg i 0) (reg i 1))
 resolve image code at i (Family.LongUnary o) = Ok (LongUnary o (reg i 0) (reg i 1))

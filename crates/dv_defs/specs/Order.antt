@@ -25,13 +25,13 @@ abbrev pub interfaces_of : Option ClassInfo → List ℕ
 interfaces_of None = []
 interfaces_of (Some c) = numbers c.interfaces
 
-abbrev pub listed : Option ℕ → List ℕ → List ℕ
-listed None cs = cs
-listed (Some c) cs = c ∷ cs
+abbrev pub with_parent : Option ℕ → List ℕ → List ℕ
+with_parent None cs = cs
+with_parent (Some c) cs = c ∷ cs
 
 -- the superclass and the superinterfaces that a class names
 abbrev pub above : Image → ℕ → List ℕ
-above image c = listed (parent_at image c) (interfaces_of (slice_get image.classes c))
+above image c = with_parent (parent_at image c) (interfaces_of (slice_get image.classes c))
 
 abbrev pub any_of : (ℕ → Bool) → List ℕ → Bool
 any_of test [] = false

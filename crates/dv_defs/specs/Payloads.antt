@@ -3,7 +3,7 @@ use Rattle.std.specs.Prelude.{ℕ, ◌/◌, ◌%◌, ℤ, Bool, true, false, ◌
 use Rattle.std.specs.List.{list_all}
 use Rattle.dv_defs.specs.declared.code.Payload.{Payload}
 use Rattle.dv_defs.specs.declared.code.Payload.TheVariants as payload
-use Rattle.dv_defs.specs.Spelling.{unit, two_units, fits, all_fit, fits_signed, complement}
+use Rattle.dv_defs.specs.Spelling.{unit, two_units, fits_in, all_fit, fits_signed, complement}
 use Rattle.dv_defs.specs.Tiling.{SizedPayload, payload_of, begins_payload, is_width}
 
 -- signed numbers of 32 bits, each in two units, the low one first
@@ -28,14 +28,14 @@ where_fits fitting us = if fitting then Some us else None
 abbrev pub packed_spelling : ℤ → List ℤ → Option (List ℕ)
 packed_spelling first targets =
     where_fits
-    (fits 16 (length targets) && (fits_signed 32 first && all_fit_signed targets))
+    (fits_in 16 (length targets) && (fits_signed 32 first && all_fit_signed targets))
     (0x0100 ∷ length targets ∷ numbers_spelling (first ∷ targets))
 
 -- 0200, size, keys, as many targets
 abbrev pub sparse_spelling : List ℤ → List ℤ → Option (List ℕ)
 sparse_spelling keys targets =
     where_fits
-    (fits 16 (length keys) && (nat_eq (length targets) (length keys) && (all_fit_signed keys && all_fit_signed targets)))
+    (fits_in 16 (length keys) && (nat_eq (length targets) (length keys) && (all_fit_signed keys && all_fit_signed targets)))
     (0x0200 ∷ length keys ∷ (numbers_spelling keys ++ numbers_spelling targets))
 
 -- 0300, width of an element in bytes, number of elements, bytes
@@ -43,7 +43,7 @@ abbrev pub data_spelling : ℕ → List ℕ → Option (List ℕ)
 data_spelling width bytes =
     let count = length bytes / width in
     where_fits
-    (is_width width && (nat_eq (length bytes % width) 0 && (fits 32 count && all_fit 8 bytes)))
+    (is_width width && (nat_eq (length bytes % width) 0 && (fits_in 32 count && all_fit 8 bytes)))
     (0x0300 ∷ width ∷ (two_units count ++ bytes_spelling bytes))
 
 abbrev pub payload_spelling : Payload → Option (List ℕ)

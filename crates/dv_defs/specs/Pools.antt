@@ -25,12 +25,12 @@ parent_of (Some c) = class_number c.parent
 abbrev pub parent_at : Image → ℕ → Option ℕ
 parent_at image c = parent_of (slice_get image.classes c)
 
-abbrev pub name_of : Option ClassInfo → List ℕ
-name_of None = []
-name_of (Some c) = c.def.name
+abbrev pub declared_name : Option ClassInfo → List ℕ
+declared_name None = []
+declared_name (Some c) = c.def.name
 
 abbrev pub name_at : Image → ℕ → List ℕ
-name_at image c = name_of (slice_get image.classes c)
+name_at image c = declared_name (slice_get image.classes c)
 
 abbrev pub class_type : Image → ℕ → Ty
 class_type image c = of_class (name_at image c)

@@ -24,11 +24,11 @@ abbrev pub four_units : ℕ → List ℕ
 four_units n = n % 2 ^ 16 ∷ n / 2 ^ 16 % 2 ^ 16 ∷ n / 2 ^ 32 % 2 ^ 16 ∷ n / 2 ^ 48 ∷ []
 
 -- a number that a field of so many bits holds
-abbrev pub fits : ℕ → ℕ → Bool
-fits bits n = nat_lt n (2 ^ bits)
+abbrev pub fits_in : ℕ → ℕ → Bool
+fits_in bits n = nat_lt n (2 ^ bits)
 
 abbrev pub all_fit : ℕ → List ℕ → Bool
-all_fit bits ns = list_all (λ n. fits bits n) ns
+all_fit bits ns = list_all (λ n. fits_in bits n) ns
 
 -- units are numbers of 16 bits
 abbrev pub AreUnits : List ℕ → Type 0
@@ -38,8 +38,8 @@ abbrev pub all_zero : List ℕ → Bool
 all_zero ns = list_all (λ n. nat_eq n 0) ns
 
 abbrev pub fits_signed : ℕ → ℤ → Bool
-fits_signed bits (pos n) = fits (bits - 1) n
-fits_signed bits (negsuc n) = fits (bits - 1) n
+fits_signed bits (pos n) = fits_in (bits - 1) n
+fits_signed bits (negsuc n) = fits_in (bits - 1) n
 
 -- a signed number as its two's complement of so many bits
 abbrev pub complement : ℕ → ℤ → ℕ
@@ -78,7 +78,7 @@ insn_eq i j =
 
 -- the units, where the instruction has the form of its format, and opcode and operands fit their fields
 abbrev pub spelled : Insn → Insn → Bool → List ℕ → Option (List ℕ)
-spelled i form fitting us = if insn_eq i form && (fits 8 i.op && fitting) then Some us else None
+spelled i form fitting us = if insn_eq i form && (fits_in 8 i.op && fitting) then Some us else None
 
 -- the registers in the order of the operands, from 0 on
 abbrev pub register : Insn → ℕ → ℕ
@@ -99,7 +99,7 @@ spelling_12x i =
     let b = register i 1 in
     spelled i
     (plain i.op (few (a ∷ b ∷ [])))
-    (fits 4 a && fits 4 b)
+    (fits_in 4 a && fits_in 4 b)
     (unit (byte b a) i.op ∷ [])
 
 -- BAop: vA, literal B
@@ -108,7 +108,7 @@ spelling_11n i =
     let a = register i 0 in
     spelled i
     (with_literal i.op (few (a ∷ [])) i.lit)
-    (fits 4 a && fits_signed 4 i.lit)
+    (fits_in 4 a && fits_signed 4 i.lit)
     (unit (byte (complement 4 i.lit) a) i.op ∷ [])
 
 -- AAop: vAA
@@ -117,7 +117,7 @@ spelling_11x i =
     let a = register i 0 in
     spelled i
     (plain i.op (few (a ∷ [])))
-    (fits 8 a)
+    (fits_in 8 a)
     (unit a i.op ∷ [])
 
 -- AAop: offset AA
@@ -143,7 +143,7 @@ spelling_22x i =
     let b = register i 1 in
     spelled i
     (plain i.op (few (a ∷ b ∷ [])))
-    (fits 8 a && fits 16 b)
+    (fits_in 8 a && fits_in 16 b)
     (unit a i.op ∷ b ∷ [])
 
 -- AAop BBBB: vAA, offset BBBB
@@ -152,7 +152,7 @@ spelling_21t i =
     let a = register i 0 in
     spelled i
     (with_offset i.op (few (a ∷ [])) i.off)
-    (fits 8 a && fits_signed 16 i.off)
+    (fits_in 8 a && fits_signed 16 i.off)
     (unit a i.op ∷ complement 16 i.off ∷ [])
 
 -- AAop BBBB: vAA, literal BBBB
@@ -161,7 +161,7 @@ spelling_21s i =
     let a = register i 0 in
     spelled i
     (with_literal i.op (few (a ∷ [])) i.lit)
-    (fits 8 a && fits_signed 16 i.lit)
+    (fits_in 8 a && fits_signed 16 i.lit)
     (unit a i.op ∷ complement 16 i.lit ∷ [])
 
 -- AAop BBBB: vAA, literal BBBB shifted left
@@ -171,7 +171,7 @@ spelling_shifted shift i =
     let literal = complement (shift + 16) i.lit in
     spelled i
     (with_literal i.op (few (a ∷ [])) i.lit)
-    (fits 8 a && fits_signed (shift + 16) i.lit && nat_eq (literal % 2 ^ shift) 0)
+    (fits_in 8 a && fits_signed (shift + 16) i.lit && nat_eq (literal % 2 ^ shift) 0)
     (unit a i.op ∷ literal / 2 ^ shift ∷ [])
 
 -- const/high16 shifts by 16, const-wide/high16 by 48
@@ -184,7 +184,7 @@ spelling_21c i =
     let a = register i 0 in
     spelled i
     (with_index i.op (few (a ∷ [])) i.index)
-    (fits 8 a && fits 16 i.index)
+    (fits_in 8 a && fits_in 16 i.index)
     (unit a i.op ∷ i.index ∷ [])
 
 -- AAop CCBB: vAA, vBB, vCC
@@ -195,7 +195,7 @@ spelling_23x i =
     let c = register i 2 in
     spelled i
     (plain i.op (few (a ∷ b ∷ c ∷ [])))
-    (fits 8 a && fits 8 b && fits 8 c)
+    (fits_in 8 a && fits_in 8 b && fits_in 8 c)
     (unit a i.op ∷ unit c b ∷ [])
 
 -- AAop CCBB: vAA, vBB, literal CC
@@ -205,7 +205,7 @@ spelling_22b i =
     let b = register i 1 in
     spelled i
     (with_literal i.op (few (a ∷ b ∷ [])) i.lit)
-    (fits 8 a && fits 8 b && fits_signed 8 i.lit)
+    (fits_in 8 a && fits_in 8 b && fits_signed 8 i.lit)
     (unit a i.op ∷ unit (complement 8 i.lit) b ∷ [])
 
 -- BAop CCCC: vA, vB, offset CCCC
@@ -215,7 +215,7 @@ spelling_22t i =
     let b = register i 1 in
     spelled i
     (with_offset i.op (few (a ∷ b ∷ [])) i.off)
-    (fits 4 a && fits 4 b && fits_signed 16 i.off)
+    (fits_in 4 a && fits_in 4 b && fits_signed 16 i.off)
     (unit (byte b a) i.op ∷ complement 16 i.off ∷ [])
 
 -- BAop CCCC: vA, vB, literal CCCC
@@ -225,7 +225,7 @@ spelling_22s i =
     let b = register i 1 in
     spelled i
     (with_literal i.op (few (a ∷ b ∷ [])) i.lit)
-    (fits 4 a && fits 4 b && fits_signed 16 i.lit)
+    (fits_in 4 a && fits_in 4 b && fits_signed 16 i.lit)
     (unit (byte b a) i.op ∷ complement 16 i.lit ∷ [])
 
 -- BAop CCCC: vA, vB, index CCCC
@@ -235,7 +235,7 @@ spelling_22c i =
     let b = register i 1 in
     spelled i
     (with_index i.op (few (a ∷ b ∷ [])) i.index)
-    (fits 4 a && fits 4 b && fits 16 i.index)
+    (fits_in 4 a && fits_in 4 b && fits_in 16 i.index)
     (unit (byte b a) i.op ∷ i.index ∷ [])
 
 -- 00op low high: offset of 32 bits
@@ -253,7 +253,7 @@ spelling_32x i =
     let b = register i 1 in
     spelled i
     (plain i.op (few (a ∷ b ∷ [])))
-    (fits 16 a && fits 16 b)
+    (fits_in 16 a && fits_in 16 b)
     (unit 0 i.op ∷ a ∷ b ∷ [])
 
 -- AAop low high: vAA, literal of 32 bits
@@ -262,7 +262,7 @@ spelling_31i i =
     let a = register i 0 in
     spelled i
     (with_literal i.op (few (a ∷ [])) i.lit)
-    (fits 8 a && fits_signed 32 i.lit)
+    (fits_in 8 a && fits_signed 32 i.lit)
     (unit a i.op ∷ two_units (complement 32 i.lit))
 
 -- AAop low high: vAA, offset of 32 bits
@@ -271,7 +271,7 @@ spelling_31t i =
     let a = register i 0 in
     spelled i
     (with_offset i.op (few (a ∷ [])) i.off)
-    (fits 8 a && fits_signed 32 i.off)
+    (fits_in 8 a && fits_signed 32 i.off)
     (unit a i.op ∷ two_units (complement 32 i.off))
 
 -- AAop low high: vAA, index of 32 bits
@@ -280,7 +280,7 @@ spelling_31c i =
     let a = register i 0 in
     spelled i
     (with_index i.op (few (a ∷ [])) i.index)
-    (fits 8 a && fits 32 i.index)
+    (fits_in 8 a && fits_in 32 i.index)
     (unit a i.op ∷ two_units i.index)
 
 -- AGop BBBB FEDC: the first A, at most 5, of vC, vD, vE, vF, vG, and index BBBB; the other nibbles are 0
@@ -296,7 +296,7 @@ spelling_35c i =
     let unused = drop a words in
     spelled i
     (with_index i.op (record { count = a; first = words; range = false }) i.index)
-    (nat_le a 5 && all_zero unused && all_fit 4 words && fits 16 i.index)
+    (nat_le a 5 && all_zero unused && all_fit 4 words && fits_in 16 i.index)
     (unit (byte a g) i.op ∷ i.index ∷ unit (byte f e) (byte d c) ∷ [])
 
 -- AAop BBBB CCCC: AA words from vCCCC, and index BBBB; with AA 0, CCCC is 0
@@ -306,7 +306,7 @@ spelling_3rc i =
     let c = register i 0 in
     spelled i
     (with_index i.op (neighbours c a) i.index)
-    (fits 8 a && fits 16 c && (nat_lt 0 a || nat_eq c 0) && fits 16 i.index)
+    (fits_in 8 a && fits_in 16 c && (nat_lt 0 a || nat_eq c 0) && fits_in 16 i.index)
     (unit a i.op ∷ i.index ∷ c ∷ [])
 
 -- AAop and four units: vAA, literal of 64 bits
@@ -315,7 +315,7 @@ spelling_51l i =
     let a = register i 0 in
     spelled i
     (with_literal i.op (few (a ∷ [])) i.lit)
-    (fits 8 a && fits_signed 64 i.lit)
+    (fits_in 8 a && fits_signed 64 i.lit)
     (unit a i.op ∷ four_units (complement 64 i.lit))
 
 abbrev pub spelling_in : Format → Insn → Option (List ℕ)

@@ -27,14 +27,14 @@ pub record SizedPayload : Type 0 where
   pub size : ℕ
 
 -- 0100, size, first key, targets
-abbrev pub packed_of : ℕ → Option (List ℕ) → Option SizedPayload
-packed_of n (Some (k ∷ ts)) = Some (record { payload = payload.Packed (signed_at 32 k) (signed_all ts); size = n * 2 + 4 })
-packed_of n ks = None
+abbrev pub packed_with : ℕ → Option (List ℕ) → Option SizedPayload
+packed_with n (Some (k ∷ ts)) = Some (record { payload = payload.Packed (signed_at 32 k) (signed_all ts); size = n * 2 + 4 })
+packed_with n ks = None
 
 -- 0200, size, keys, targets
-abbrev pub sparse_of : ℕ → Option (List ℕ) → Option SizedPayload
-sparse_of n None = None
-sparse_of n (Some xs) = Some (record { payload = payload.Sparse (signed_all (take n xs)) (signed_all (drop n xs)); size = n * 4 + 2 })
+abbrev pub sparse_with : ℕ → Option (List ℕ) → Option SizedPayload
+sparse_with n None = None
+sparse_with n (Some xs) = Some (record { payload = payload.Sparse (signed_all (take n xs)) (signed_all (drop n xs)); size = n * 4 + 2 })
 
 abbrev pub is_width : ℕ → Bool
 is_width w = nat_eq w 1 || nat_eq w 2 || nat_eq w 4 || nat_eq w 8
@@ -61,8 +61,8 @@ data_from width us = None
 abbrev pub payload_of : ℕ → List ℕ → Option SizedPayload
 payload_of kind (n ∷ us) =
     elim (nat_eq kind 1) [
-        true ↦ packed_of n (doubles (suc n) us)
-      | false ↦ elim (nat_eq kind 2) [ true ↦ sparse_of n (doubles (n + n) us) | false ↦ data_from n us ] ]
+        true ↦ packed_with n (doubles (suc n) us)
+      | false ↦ elim (nat_eq kind 2) [ true ↦ sparse_with n (doubles (n + n) us) | false ↦ data_from n us ] ]
 payload_of kind us = None
 
 pub data Item : Type 0 where
@@ -115,9 +115,9 @@ tiled at zero (u ∷ us) =
 abbrev pub tiling : List ℕ → Result (List Tile) ℕ
 tiling us = tiled 0 0 us
 
-abbrev pub tiles_of : Result (List Tile) ℕ → List Tile
-tiles_of (Ok ts) = ts
-tiles_of (Err at) = []
+abbrev pub tiles_in : Result (List Tile) ℕ → List Tile
+tiles_in (Ok ts) = ts
+tiles_in (Err at) = []
 
 abbrev pub tile_at : List Tile → ℕ → Option Tile
 tile_at [] at = None

@@ -74,8 +74,8 @@ write_for ts k t = elim (is_long t) [ true ↦ write_long ts k | false ↦ write
 abbrev pub going : RegState → Types → RegState
 going s ts = record { regs = ts; result = pend.None; caught = None; this_pending = s.this_pending }
 
-abbrev pub with_result : RegState → PendingType → RegState
-with_result s p = record { regs = s.regs; result = p; caught = None; this_pending = s.this_pending }
+abbrev pub with_pending : RegState → PendingType → RegState
+with_pending s p = record { regs = s.regs; result = p; caught = None; this_pending = s.this_pending }
 
 abbrev pub copied_int : RegType → RegType
 copied_int ty.Zero = ty.Zero
@@ -151,8 +151,8 @@ first_of (k ∷ ks) = k
 abbrev pub after_invoke : Image → Method → RegState → List ℕ → Method → RegState
 after_invoke image m s ks g =
     elim (is_constructor g) [
-        true ↦ with_result (after_constructor image m s (type_at s.regs (first_of ks))) (pending_of g.def.proto.ret)
-      | false ↦ with_result s (pending_of g.def.proto.ret) ]
+        true ↦ with_pending (after_constructor image m s (type_at s.regs (first_of ks))) (pending_of g.def.proto.ret)
+      | false ↦ with_pending s (pending_of g.def.proto.ret) ]
 
 -- what aget-object gives
 abbrev pub object_element : RegType → RegType
@@ -193,7 +193,7 @@ out image m at (InstanceOf a b t) s = going s (write_type s.regs a ty.Int)
 out image m at (ArrayLength a b) s = going s (write_type s.regs a ty.Int)
 out image m at (New a c) s = going s (write_type (map (replaced at ty.Conflict) s.regs) a (ty.Uninit at))
 out image m at (NewArray a b t) s = going s (write_type s.regs a (ty.Class t))
-out image m at (Filled rs t) s = with_result s (pend.One (ty.Class t))
+out image m at (Filled rs t) s = with_pending s (pend.One (ty.Class t))
 out image m at (ArrayGet x a b c) s = going s (after_get s.regs a x (type_at s.regs b))
 out image m at (FieldGet x a b f) s = going s (write_for s.regs a f.def.ty)
 out image m at (StaticGet x a f) s = going s (write_for s.regs a f.def.ty)

@@ -27,11 +27,11 @@ pub enum Flag {
 }
 
 impl Flag {
-    ghost use Rattle.dv_defs.specs.Flags.{place_of, has_flag};
+    ghost use Rattle.dv_defs.specs.Flags.{bit_of, has_flag};
 
     /// The set of this flag alone.
     pub fn bit(self) -> u32
-        ensures { result ≡ 2 ^ place_of self }
+        ensures { result ≡ 2 ^ bit_of self }
     {
         1 << self as u32
     }

@@ -8,7 +8,7 @@ use Rattle.dv_defs.specs.declared.code.Body.{Body}
 use Rattle.dv_defs.specs.declared.code.Try.{Try}
 use Rattle.dv_defs.specs.declared.code.Handler.{Handler}
 use Rattle.dv_defs.specs.declared.image.Image.{Image}
-use Rattle.dv_defs.specs.Tiling.{Tile, Item, IsInsn, IsPayload, tiling, tiles_of, tile_at, insn_in, begins_insn, begins_item}
+use Rattle.dv_defs.specs.Tiling.{Tile, Item, IsInsn, IsPayload, tiling, tiles_in, tile_at, insn_in, begins_insn, begins_item}
 use Rattle.dv_defs.specs.Op.{Op, Goto, IfBoth, IfZero, Switch, Case, Code, Resolved, code_at, op_of}
 use Rattle.dv_defs.specs.Statics.{At, unless, moves_on, registers_below, all_lead, leads_to_insn, op_rules, resolved_rules, insn_rules, at_of, sound_at, at_tile, fetch_in, fetch, arg_words}
 use Rattle.dv_defs.specs.Flow.{Catcher, catchers, handlers_of, handlers_in, handlers_at, jumps}
@@ -64,7 +64,7 @@ pub record IsStatic (image : Image) (code : Code) : Type 0 where
 abbrev unless_empty : Bool → List Place → List Place
 unless_empty b ps = elim b [ true ↦ record { at = 0; broken = rule.S 1 } ∷ [] | false ↦ ps ]
 
-static_from : (image : Image) (code : Code) (r : Result (List Tile) ℕ) → code.tiles ≡ tiles_of r → places_by image code r ≡ [] → IsStatic image code
+static_from : (image : Image) (code : Code) (r : Result (List Tile) ℕ) → code.tiles ≡ tiles_in r → places_by image code r ≡ [] → IsStatic image code
 static_from image code (Err at) t e = absurd (cc)
 static_from image code (Ok ts) t e = by_units (no_units code.body.units) e
   where

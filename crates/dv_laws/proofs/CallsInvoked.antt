@@ -15,7 +15,7 @@ use Rattle.dv_defs.specs.Pools.{Method, method_at, is_static, is_abstract, is_co
 use Rattle.dv_defs.specs.Op.{Op, Invoke, can_throw}
 use Rattle.dv_defs.specs.Statics.{At}
 use Rattle.dv_defs.specs.Transfer.{arg_types, begins_uninitialised}
-use Rattle.dv_defs.specs.Monitors.{entry_of}
+use Rattle.dv_defs.specs.Monitors.{wait_of}
 use Rattle.dv_machine.specs.State.{Thread, Machine, Left, Did, Here, reg_at}
 use Rattle.dv_machine.specs.Calls.{Lands, dispatch, native_of, receiver_of, landed, enter}
 use Rattle.dv_machine.specs.Natives.{native_step}
@@ -48,7 +48,7 @@ same_invoke c d ks js g k e = record { call = cc; callee = cc }
 module _ (image : Image) (T : Typings) (m : Machine) (t : ℕ) (thread : Thread) (own : Method) (f : Frame) (rest : List Level) (x : At) (s : RegState) (h : Stands image T m t thread own f rest x s) where
   -- ---- throwing, and waiting
 
-  pub no_entry : IsQuiet image m t → entry_of m.shared.monitors t ≡ None
+  pub no_entry : IsQuiet image m t → wait_of m.shared.monitors t ≡ None
   no_entry q = entry_none t m.shared.monitors.waits (λ k d l. q _ (h.may.typed.monitors.waits k d l))
 
   module _ (c : Call) (ks : List ℕ) (g : Method) (e : x.op ≡ Invoke c ks g) where

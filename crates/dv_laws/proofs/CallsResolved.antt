@@ -14,7 +14,7 @@ use Rattle.dv_defs.specs.Families.{Family, family_at}
 use Rattle.dv_defs.specs.Types.{is_array, class_in}
 use Rattle.dv_defs.specs.Pools.{Method, Field, method_at, field_at, class_named}
 use Rattle.dv_defs.specs.Tiling.{Tile, tile_at, insn_in}
-use Rattle.dv_defs.specs.Op.{Op, Invoke, FieldGet, FieldPut, StaticGet, StaticPut, IntDivide, IntOp, LongDivide, LongShift, LongOp, New, Arg, Code, code_at, Resolved, on_pool, field_in, method_in, move_op, result_op, packed_op, sparse_op, fill_op, class_of_base, new_op, resolve, resolve_by, op_of}
+use Rattle.dv_defs.specs.Op.{Op, Invoke, FieldGet, FieldPut, StaticGet, StaticPut, IntDivide, IntOp, LongDivide, LongShift, LongOp, New, Arg, Code, code_at, Resolved, on_pool, resolved_field, resolved_method, move_op, result_op, packed_op, sparse_op, fill_op, class_of_base, new_op, resolve, resolve_by, op_of}
 use Rattle.dv_defs.specs.Statics.{At, at_of, sound_at, at_tile, fetch_in, fetch, insn_rules}
 use Rattle.dv_laws.proofs.OrderWalks.{named_inside}
 use Rattle.dv_defs.specs.declared.faults.Rule.{Rule}
@@ -44,7 +44,7 @@ module _ (image : Image) where
   of_pool (Some x) go h = h x
 
   -- a field or a method of a pool
-  of_field : (f : Option FieldId) (go : Field → Op) → ((n : ℕ) (x : Field) → field_at image n ≡ Some x → IsNamed image (go x)) → IsResolved image (on_pool (field_in image f) (λ x. Ok (go x)))
+  of_field : (f : Option FieldId) (go : Field → Op) → ((n : ℕ) (x : Field) → field_at image n ≡ Some x → IsNamed image (go x)) → IsResolved image (on_pool (resolved_field image f) (λ x. Ok (go x)))
   of_field None go h = tt
   of_field (Some f) go h = found (field_at image f.0) refl
     where
@@ -52,7 +52,7 @@ module _ (image : Image) where
       found None e = tt
       found (Some x) e = h f.0 x e
 
-  of_method : (m : Option MethodId) (go : Method → Op) → ((n : ℕ) (g : Method) → method_at image n ≡ Some g → IsNamed image (go g)) → IsResolved image (on_pool (method_in image m) (λ g. Ok (go g)))
+  of_method : (m : Option MethodId) (go : Method → Op) → ((n : ℕ) (g : Method) → method_at image n ≡ Some g → IsNamed image (go g)) → IsResolved image (on_pool (resolved_method image m) (λ g. Ok (go g)))
   of_method None go h = tt
   of_method (Some m) go h = found (method_at image m.0) refl
     where

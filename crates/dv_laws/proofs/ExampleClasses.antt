@@ -9,7 +9,7 @@ use Rattle.dv_defs.specs.declared.flags.Flag.TheVariants as flag
 use Rattle.dv_defs.specs.Flags.{has_flag}
 use Rattle.dv_defs.specs.Names.{object_name}
 use Rattle.dv_defs.specs.Pools.{class_named, parent_of, parent_at, name_at, is_interface, flags_of}
-use Rattle.dv_defs.specs.Order.{has_number, listed, above, interfaces_of}
+use Rattle.dv_defs.specs.Order.{has_number, with_parent, above, interfaces_of}
 use Rattle.dv_machine.specs.Accepted.{IsHierarchy}
 use Rattle.dv_laws.proofs.Plain.{no, either}
 use Rattle.dv_laws.proofs.OrderEqual.{names_are}
@@ -70,7 +70,7 @@ module _ (image : Image) (places : List ℕ) (e : is_hierarchy_by image places �
 
   nothing_above : (c d : ℕ) → length image.classes ≤ c → has_number d (above image c) ≡ true → ⊥
   nothing_above c d l h =
-      let P : Option ClassInfo → Type 0 = λ o. has_number d (listed (parent_of o) (interfaces_of o)) ≡ true in
+      let P : Option ClassInfo → Type 0 = λ o. has_number d (with_parent (parent_of o) (interfaces_of o)) ≡ true in
       no (subst P (none_past c l) h)
 
   pub inside_classes : (c d : ℕ) → has_number d (above image c) ≡ true → c < length image.classes

@@ -14,7 +14,7 @@ use Rattle.dv_defs.specs.Op.{can_throw}
 use Rattle.dv_defs.specs.Statics.{At}
 use Rattle.dv_defs.specs.Flow.{is_exit}
 use Rattle.dv_defs.specs.Heap.{Heap, newest}
-use Rattle.dv_defs.specs.Monitors.{entry_of}
+use Rattle.dv_defs.specs.Monitors.{wait_of}
 use Rattle.dv_defs.specs.Classes.{state_at}
 use Rattle.dv_machine.specs.State.{Thread, Shared, Machine, Go, Throws, ThrowsRef, NoWords, NoRoom, NoOutput, IsStuck, Here, with_heap}
 use Rattle.dv_machine.specs.Unwinding.{made_object, leaves}
@@ -43,7 +43,7 @@ pub record FlownFine (image : Image) (T : Typings) (m : Machine) (t : ℕ) (thre
   pub mine : (c : ℕ) → records c ls ≡ owed t (state_at sh.classes c)
   pub others : (u c : ℕ) → u ≢ t → owed u (state_at sh.classes c) ≡ owed u (state_at m.shared.classes c)
 
-pub flown_typed : (image : Image) (T : Typings) (m : Machine) (t : ℕ) (thread : Thread) (o : ℕ) (sh : Shared) (ls : List Level) → WellTyped image T m → slice_get m.threads t ≡ Some thread → entry_of m.shared.monitors t ≡ None → FlownFine image T m t thread o sh ls → WellTyped image T (flown m t thread o (leaves sh ls))
+pub flown_typed : (image : Image) (T : Typings) (m : Machine) (t : ℕ) (thread : Thread) (o : ℕ) (sh : Shared) (ls : List Level) → WellTyped image T m → slice_get m.threads t ≡ Some thread → wait_of m.shared.monitors t ≡ None → FlownFine image T m t thread o sh ls → WellTyped image T (flown m t thread o (leaves sh ls))
 flown_typed image T m t thread o sh ls w has quiet f = after_typed image T m t thread (record { levels = ls; end = end_flying o ls; object = thread.object }) (leaves sh ls) w has (record {
   keeps = f.keeps;
   fine = f.fine;
@@ -76,7 +76,7 @@ pub records_of : (image : Image) (T : Typings) (m : Machine) (t : ℕ) (thread :
 records_of image T m t thread ls w has levels c = ap (records c) (sym levels) ∙ ap (λ (x : Option Thread). records c (levels_in x)) (sym has) ∙ w.in_progress t c
 
 -- an instruction throws an object of a heap that has grown
-module _ (image : Image) (T : Typings) (m : Machine) (t : ℕ) (thread : Thread) (h : Here) (x : At) (s : RegState) (i : IsAt image T m t thread h x s) (can : can_throw x.op ≡ true) (quiet : entry_of m.shared.monitors t ≡ None) (after : Heap) (g : KeepsKinds m.shared.heap after) (fine : HeapFine image after) (o : ℕ) (flies : IsThrowable image after o) where
+module _ (image : Image) (T : Typings) (m : Machine) (t : ℕ) (thread : Thread) (h : Here) (x : At) (s : RegState) (i : IsAt image T m t thread h x s) (can : can_throw x.op ≡ true) (quiet : wait_of m.shared.monitors t ≡ None) (after : Heap) (g : KeepsKinds m.shared.heap after) (fine : HeapFine image after) (o : ℕ) (flies : IsThrowable image after o) where
   -- by the frame on top, which may have moved on
   raised_with : (f : Frame) → ((ls : List Level) → CodeFine image T after h.frame ls → CodeFine image T after f ls) → (RefsFine image after (level.Code h.frame) → RefsFine image after (level.Code f)) → IsHandled image T after (this_above image h.rest) o f → WellTyped image T (flown m t thread o (leaves (with_heap m.shared after) (level.Code f ∷ h.rest)))
   raised_with f code refs handled = flown_typed image T m t thread o _ _ i.may.typed i.has_thread quiet (record {
@@ -132,7 +132,7 @@ settled_is_well_typed image T m t thread h x s NoOutput i d = stopped_typed imag
 settled_is_well_typed image T m t thread h x s (IsStuck y) i d = d
 
 -- a record throws an object that is new
-raised_record : (image : Image) (T : Typings) (m : Machine) (t c : ℕ) (r : Bool) (thread : Thread) (h : Here) (i : IsAtRecord image T m t thread h (level.Init (record { 0 = c }) r) c) → entry_of m.shared.monitors t ≡ None → (after : Heap) → KeepsKinds m.shared.heap after → HeapFine image after → (o : ℕ) → IsThrowable image after o → WellTyped image T (flown m t thread o (leaves (with_heap m.shared after) thread.levels))
+raised_record : (image : Image) (T : Typings) (m : Machine) (t c : ℕ) (r : Bool) (thread : Thread) (h : Here) (i : IsAtRecord image T m t thread h (level.Init (record { 0 = c }) r) c) → wait_of m.shared.monitors t ≡ None → (after : Heap) → KeepsKinds m.shared.heap after → HeapFine image after → (o : ℕ) → IsThrowable image after o → WellTyped image T (flown m t thread o (leaves (with_heap m.shared after) thread.levels))
 raised_record image T m t c r thread h i quiet after g fine o flies = subst (λ (ls : List Level). WellTyped image T (flown m t thread o (leaves (with_heap m.shared after) ls))) (sym i.levels) (flown_typed image T m t thread o _ _ i.may.typed i.has_thread quiet (record {
   keeps = g;
   heap = fine;

@@ -11,7 +11,7 @@ use Rattle.dv_defs.specs.declared.machine.End.{End}
 use Rattle.dv_defs.specs.declared.machine.End.TheVariants as end
 use Rattle.dv_defs.specs.Flow.{Catcher, handlers_at}
 use Rattle.dv_defs.specs.Heap.{Heap}
-use Rattle.dv_defs.specs.Monitors.{Wait, entry_of}
+use Rattle.dv_defs.specs.Monitors.{Wait, wait_of}
 use Rattle.dv_machine.specs.State.{Thread, Machine}
 use Rattle.dv_machine.specs.Unwinding.{catches, handler_for, caught_frame, leaves, unwind_frame, is_opening}
 use Rattle.dv_machine.specs.Step.{end_flying, flown, gone_on, settled_flight, here, no_method, step_flight}
@@ -57,7 +57,7 @@ object_there image heap (suc o) i = i
 
 module _ (image : Image) (T : Typings) (m : Machine) (t o : ℕ) (thread : Thread) (acc : Accepted image T) (w : WellTyped image T m) (has : slice_get m.threads t ≡ Some thread) (flying : thread.end ≡ end.Flying o) where
   -- a thread with an exception in flight doesn't wait
-  pub flying_quiet : entry_of m.shared.monitors t ≡ None
+  pub flying_quiet : wait_of m.shared.monitors t ≡ None
   flying_quiet = entry_none t m.shared.monitors.waits (λ k d l e. clash (waits k d l) e)
     where
       waits : All (WaitFine image m.threads m.shared) m.shared.monitors.waits

@@ -22,10 +22,10 @@ use Rattle.dv_defs.specs.Op.{Invoke}
 use Rattle.dv_defs.specs.Statics.{At}
 use Rattle.dv_defs.specs.Demands.{goes_on}
 use Rattle.dv_defs.specs.RegTypes.{Types}
-use Rattle.dv_defs.specs.Transfer.{out, going, with_result, write_type, write_long}
+use Rattle.dv_defs.specs.Transfer.{out, going, with_pending, write_type, write_long}
 use Rattle.dv_defs.specs.Flow.{Leads, jumps}
 use Rattle.dv_defs.specs.Heap.{Heap}
-use Rattle.dv_defs.specs.Monitors.{entry_of}
+use Rattle.dv_defs.specs.Monitors.{wait_of}
 use Rattle.dv_machine.specs.State.{Thread, Machine, Left, Did, where_room, where_true, with_heap}
 use Rattle.dv_machine.specs.Mem.{on_object}
 use Rattle.dv_machine.specs.Conforming.{IsGood, RefFine, ResultFine, RefsFine, ResultConforms}
@@ -62,7 +62,7 @@ module _ (image : Image) (T : Typings) (m : Machine) (t : ℕ) (thread : Thread)
 -- ---- what is left
 
 module _ (image : Image) (T : Typings) (m : Machine) (t : ℕ) (thread : Thread) (own : Method) (f : Frame) (rest : List Level) (x : At) (s : RegState) (h : Stands image T m t thread own f rest x s) (apart : (c : Call) (ks : List ℕ) (g : Method) → x.op ≡ Invoke c ks g → ⊥) where
-  pub no_wait : entry_of m.shared.monitors t ≡ None
+  pub no_wait : wait_of m.shared.monitors t ≡ None
   no_wait = entry_none t m.shared.monitors.waits (λ k d l. quiet image T m t thread own f rest x s h (λ o w. apart w.call w.args w.callee w.is_invoke) _ (h.may.typed.monitors.waits k d l))
 
   module _ (on : goes_on x.op ≡ true) where
@@ -113,5 +113,5 @@ module _ (image : Image) (T : Typings) (m : Machine) (t : ℕ) (thread : Thread)
       gone_left e = heap_left f.regs pending.None s.regs pend.None e refl grown_good tt grown_refs.0 tt
 
       -- a result is pending
-      pub result_left : (p : Pending) (r : PendingType) → out image own f.at x.op s ≡ with_result s r → ResultConforms image after (own_of image (this_above image rest) own) p r → ResultFine image after p → LeftFine image T m t thread (record { levels = level.Code (record { method = f.method; at = x.next; regs = f.regs; result = p; caught = None; this_pending = f.this_pending }) ∷ rest; shared = with_heap m.shared after; started = None })
+      pub result_left : (p : Pending) (r : PendingType) → out image own f.at x.op s ≡ with_pending s r → ResultConforms image after (own_of image (this_above image rest) own) p r → ResultFine image after p → LeftFine image T m t thread (record { levels = level.Code (record { method = f.method; at = x.next; regs = f.regs; result = p; caught = None; this_pending = f.this_pending }) ∷ rest; shared = with_heap m.shared after; started = None })
       result_left p r e c q = heap_left f.regs p s.regs r e refl grown_good c grown_refs.0 q

@@ -18,9 +18,9 @@ use Rattle.dv_defs.specs.Order.{sub}
 use Rattle.dv_defs.specs.Op.{Op, Code, FieldGet, FieldPut, StaticGet, StaticPut, Invoke, can_throw}
 use Rattle.dv_defs.specs.Statics.{At, op_rules, fits_instance_field, fits_static_field, is_of_suffix}
 use Rattle.dv_defs.specs.RegTypes.{type_at, reg_types}
-use Rattle.dv_defs.specs.Demands.{goes_on, is_own_field, value_for, ref, ref_to, demand, is_assignable, put_receiver as receiver_demand, is_ref}
+use Rattle.dv_defs.specs.Demands.{goes_on, is_own_field, value_for, ref, ref_to, demand, is_assignable, put_receiver, is_ref}
 use Rattle.dv_machine.specs.State.{Thread, Machine, Reads, reg_at, read_ref, onward, with_heap, gone}
-use Rattle.dv_machine.specs.Mem.{mem, on_object, static_stored, narrowed_all, put_receiver, get_field, put_field}
+use Rattle.dv_machine.specs.Mem.{mem, on_object, static_stored, narrowed_all, read_put_receiver, get_field, put_field}
 use Rattle.dv_machine.specs.Step.{here}
 use Rattle.dv_machine.specs.Conforming.{Fits, Conforms}
 use Rattle.dv_machine.specs.WellTyped.{Typings, own_of, this_above, nobody}
@@ -87,7 +87,7 @@ module _ (image : Image) (T : Typings) (m : Machine) (t : ℕ) (thread : Thread)
     not_ref : type_at s.regs b ≡ ty.Conflict → ref_to image s.regs b (class_type image y.info.class.0) ≡ None → ⊥
     not_ref q d = no (subst (λ (u : RegType). ◌≡◌ {A = Bool} (is_ref u) true) q (demanded _ _ (first_none (ref s.regs b) (demand (is_assignable image (type_at s.regs b) (class_type image y.info.class.0)) (rule.V 5)) d).0))
 
-    receives : (z : Value) (u : RegType) → reg_at f.regs b ≡ z → type_at s.regs b ≡ u → Conforms image m.shared.heap (own_of image (this_above image rest) own) z u → receiver_demand image own s.regs b y u ≡ None → HoldsOf Receiver (put_receiver (here image m t own f rest x.next) y z)
+    receives : (z : Value) (u : RegType) → reg_at f.regs b ≡ z → type_at s.regs b ≡ u → Conforms image m.shared.heap (own_of image (this_above image rest) own) z u → put_receiver image own s.regs b y u ≡ None → HoldsOf Receiver (read_put_receiver (here image m t own f rest x.next) y z)
     receives (v.UninitThis o) ty.UninitThis p q c d = go (is_own_field own y) refl d
       where
         go : (k : Bool) → is_own_field own y ≡ k → demand k (rule.V 14) ≡ None → HoldsOf Receiver (elim k as (λ w. Reads ℕ) [ true ↦ Ok o | false ↦ Err why.Uninitialised ])
@@ -101,7 +101,7 @@ module _ (image : Image) (T : Typings) (m : Machine) (t : ℕ) (thread : Thread)
     pub field_put : DidFine image T m t thread x (mem (here image m t own f rest x.next) (FieldPut w a b y))
     unfolding Receiver
     field_put =
-        let d = first_none (receiver_demand image own s.regs b y (type_at s.regs b)) (value_for image s.regs a y.def.ty) (demand_of image T m t thread own f rest x s h code rules apart (FieldPut w a b y) e) in
+        let d = first_none (put_receiver image own s.regs b y (type_at s.regs b)) (value_for image s.regs a y.def.ty) (demand_of image T m t thread own f rest x s h code rules apart (FieldPut w a b y) e) in
         read_then image T m t thread x Receiver _ _ (receives (reg_at f.regs b) (type_at s.regs b) refl refl (h.conform.good.regs b) d.0)
         (λ o i. read_then image T m t thread x (λ ys. AreWords image m.shared.heap ys (reg_types y.def.ty)) _ _ (reads_value image m.shared.heap (own_of image (this_above image rest) own) f.regs s.regs a y.def.ty h.may.accepted.order h.conform.good.regs d.1) (λ ys c. go o ys i c))
       where

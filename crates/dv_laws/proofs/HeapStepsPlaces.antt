@@ -10,7 +10,7 @@ use Rattle.dv_defs.specs.declared.machine.Kind.{Kind}
 use Rattle.dv_defs.specs.declared.machine.Kind.TheVariants as kind
 use Rattle.dv_defs.specs.Names.{object_name, string_name, class_name}
 use Rattle.dv_defs.specs.Types.{of_class, is_array, is_reference, words_of}
-use Rattle.dv_defs.specs.Pools.{Field, field_at, is_static_field, is_interface, class_type, class_named, name_of, name_at, parent_at}
+use Rattle.dv_defs.specs.Pools.{Field, field_at, is_static_field, is_interface, class_type, class_named, declared_name, name_at, parent_at}
 use Rattle.dv_defs.specs.Order.{has_number, under_class, implements, instance, fits, reaches, above, interfaces_of, is_interface_type}
 use Rattle.dv_defs.specs.RegTypes.{type_at, reg_types}
 use Rattle.dv_defs.specs.Heap.{kind_type, class_cells}
@@ -120,7 +120,7 @@ module _ (image : Image) (T : Typings) (acc : Accepted image T) (n : ℕ) (x : F
     where
       go : (c < length image.classes) ⊎ (length image.classes ≤ c) → HasField (kind.Object (record { 0 = c }))
       go (inl l) = record { class = c; is_object = refl; inside = l; under = e }
-      go (inr g) = absurd (no_nameless (subst (λ (y : List ℕ). instance image (of_class y) (class_type image x.info.class.0) ≡ true) (ap name_of (slice_get_past image.classes c g)) e))
+      go (inr g) = absurd (no_nameless (subst (λ (y : List ℕ). instance image (of_class y) (class_type image x.info.class.0) ≡ true) (ap declared_name (slice_get_past image.classes c g)) e))
 
   pub object_field : (k : Kind) → is_proper image k ≡ true → fits image (kind_type image k) (class_type image x.info.class.0) ≡ true → HasField k
   object_field (kind.Object c) p e = class_field c.0 (fits_instance _ e)

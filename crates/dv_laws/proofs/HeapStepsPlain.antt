@@ -34,7 +34,7 @@ use Rattle.dv_defs.specs.Transfer.{out, going, write_type, replaced}
 use Rattle.dv_defs.specs.Flow.{is_exit}
 use Rattle.dv_defs.specs.Heap.{Heap, Got, kind_of, kind_type, newest, alloc_object, alloc_array, intern, class_object, length_of}
 use Rattle.dv_machine.specs.State.{Thread, Machine, ThrowsRef, reading, where_ref, reg_at, truth, type_of, where_true, read_any, tested, any_kind, onward}
-use Rattle.dv_machine.specs.Mem.{mem, on_object, is_zero, is_instance, put_object, got, new_array}
+use Rattle.dv_machine.specs.Mem.{mem, on_object, is_zero_number, is_instance, put_object, got, new_array}
 use Rattle.dv_machine.specs.Step.{here}
 use Rattle.dv_machine.specs.Calls.{object_of}
 use Rattle.dv_machine.specs.Conforming.{Own, IsThere, IsOf, Fits, Conforms, IsUninit, IsGood, RefFine}
@@ -88,14 +88,14 @@ module _ (image : Image) (T : Typings) (m : Machine) (t : ℕ) (thread : Thread)
       let d = first_none (int s.regs b) (arg_int s.regs c) (demand_of (IntDivide o a b c) e) in
       read_then image T m t thread x Anything _ _ (reads_int image m.shared.heap (own_of image (this_above image rest) own) f.regs s.regs b h.conform.good.regs d.0)
       (λ y p. read_then image T m t thread x Anything _ _ (reads_argument image m.shared.heap (own_of image (this_above image rest) own) f.regs s.regs c h.conform.good.regs d.1)
-      (λ z q. true_then image T m t thread x (not (is_zero z)) named.Arithmetic _ (throws (IntDivide o a b c) e refl) (λ w. number_left (IntDivide o a b c) a (operate32 o y z) e refl refl)))
+      (λ z q. true_then image T m t thread x (not (is_zero_number z)) named.Arithmetic _ (throws (IntDivide o a b c) e refl) (λ w. number_left (IntDivide o a b c) a (operate32 o y z) e refl refl)))
 
   pub divide_long : (o : Bin) (a b c : ℕ) → x.op ≡ LongDivide o a b c → DidFine image T m t thread x (mem (here image m t own f rest x.next) (LongDivide o a b c))
   divide_long o a b c e =
       let d = first_none (long s.regs b) (long s.regs c) (demand_of (LongDivide o a b c) e) in
       read_then image T m t thread x Anything _ _ (reads_long image m.shared.heap (own_of image (this_above image rest) own) f.regs s.regs b h.conform.good.regs d.0)
       (λ y p. read_then image T m t thread x Anything _ _ (reads_long image m.shared.heap (own_of image (this_above image rest) own) f.regs s.regs c h.conform.good.regs d.1)
-      (λ z q. true_then image T m t thread x (not (is_zero z)) named.Arithmetic _ (throws (LongDivide o a b c) e refl) (λ w. put_long_left image T m t thread own f rest x s h apart (ap goes_on e) m.shared.heap same_heap h.may.typed.heap a (lo_of (operate64 o y z)) (hi_of (operate64 o y z)) (out_of (LongDivide o a b c) e))))
+      (λ z q. true_then image T m t thread x (not (is_zero_number z)) named.Arithmetic _ (throws (LongDivide o a b c) e refl) (λ w. put_long_left image T m t thread own f rest x s h apart (ap goes_on e) m.shared.heap same_heap h.may.typed.heap a (lo_of (operate64 o y z)) (hi_of (operate64 o y z)) (out_of (LongDivide o a b c) e))))
 
   -- ---- constants
 

@@ -17,7 +17,7 @@ use Rattle.dv_defs.specs.Parts.{Call}
 use Rattle.dv_defs.specs.Pools.{Method, own_type}
 use Rattle.dv_defs.specs.Order.{instance}
 use Rattle.dv_defs.specs.Heap.{Heap, kind_of}
-use Rattle.dv_defs.specs.Monitors.{Held, Wait, Monitors, owner_of, entry_of}
+use Rattle.dv_defs.specs.Monitors.{Held, Wait, Monitors, owner_of, wait_of}
 use Rattle.dv_machine.specs.State.{Thread, Shared, type_of}
 use Rattle.dv_machine.specs.Calls.{dispatch, Landing, Lacks, class_of_kind, nearest_from}
 use Rattle.dv_machine.specs.Conforming.{IsThere, RefFine, RefsFine}
@@ -120,5 +120,5 @@ module _ (image : Image) (threads : List Thread) (t : ℕ) (thread after : Threa
   }
 
   -- a thread that doesn't wait may go anywhere
-  pub quiet_moved : entry_of sh.monitors t ≡ None → MonitorsFine image threads sh n → MonitorsFine image (slice_set threads t after ++ more) sh' n'
+  pub quiet_moved : wait_of sh.monitors t ≡ None → MonitorsFine image threads sh n → MonitorsFine image (slice_set threads t after ++ more) sh' n'
   quiet_moved quiet m = moved (λ k d l e. absurd (quiet_from t sh.monitors.waits quiet k d l e)) m

@@ -4,41 +4,41 @@ use Rattle.std.specs.Prelude.{nat_eq, nat_le, All}
 use Rattle.std.proofs.lemmas.Bool.{cases_eq, eqb-true, eqb-false, eq-eqb, ne_eqb}
 use Rattle.std.proofs.lemmas.List.Elements.{All-nil, All-cons, All-head, All-tail}
 use Rattle.std.proofs.lemmas.Option.{same_Some, none-some}
-use Rattle.dv_defs.specs.Monitors.{Held, Wait, held_in, entered_in, less_one, exited_in, given_up, entry_in, without}
+use Rattle.dv_defs.specs.Monitors.{Held, Wait, held_in, entered_in, less_one, exited_in, given_up, wait_in, without}
 use Rattle.dv_laws.proofs.MonitorsLists.{AreOnce, object_key, thread_key}
 
 -- ---- entries
 
 abbrev entry_with : Wait → List Wait → ℕ → Bool → Option Wait
-entry_with w ws t b = elim b [ true ↦ Some w | false ↦ entry_in t ws ]
+entry_with w ws t b = elim b [ true ↦ Some w | false ↦ wait_in t ws ]
 
 -- a thread without an entry is in none
-pub quiet_from : (t : ℕ) (ws : List Wait) → entry_in t ws ≡ None → All (λ w. w.thread ≢ t) ws
+pub quiet_from : (t : ℕ) (ws : List Wait) → wait_in t ws ≡ None → All (λ w. w.thread ≢ t) ws
 quiet_from t [] e = All-nil (λ (w : Wait). w.thread ≢ t)
 quiet_from t (w ∷ ws) e = go (nat_eq w.thread t) refl e (quiet_from t ws)
   where
-    go : (b : Bool) → nat_eq w.thread t ≡ b → entry_with w ws t b ≡ None → (entry_in t ws ≡ None → All (λ w. w.thread ≢ t) ws) → All (λ w. w.thread ≢ t) (w ∷ ws)
+    go : (b : Bool) → nat_eq w.thread t ≡ b → entry_with w ws t b ≡ None → (wait_in t ws ≡ None → All (λ w. w.thread ≢ t) ws) → All (λ w. w.thread ≢ t) (w ∷ ws)
     go true s e r = absurd (none-some w (sym e))
     go false s e r = All-cons (λ w. w.thread ≢ t) w ws (eqb-false w.thread t s) (r e)
 
-pub entry_none : (t : ℕ) (ws : List Wait) → All (λ w. w.thread ≢ t) ws → entry_in t ws ≡ None
+pub entry_none : (t : ℕ) (ws : List Wait) → All (λ w. w.thread ≢ t) ws → wait_in t ws ≡ None
 entry_none t [] a = refl
 entry_none t (w ∷ ws) a = ap (entry_with w ws t) (ne_eqb w.thread t (All-head (λ w. w.thread ≢ t) w ws a)) ∙ entry_none t ws (All-tail (λ w. w.thread ≢ t) w ws a)
 
 -- an entry that is found is of the thread, and what holds of each holds of it
-pub entry_thread : (t : ℕ) (ws : List Wait) (w : Wait) → entry_in t ws ≡ Some w → w.thread ≡ t
+pub entry_thread : (t : ℕ) (ws : List Wait) (w : Wait) → wait_in t ws ≡ Some w → w.thread ≡ t
 entry_thread t [] w e = absurd (cc)
 entry_thread t (v ∷ ws) w e = go (nat_eq v.thread t) refl e (entry_thread t ws w)
   where
-    go : (b : Bool) → nat_eq v.thread t ≡ b → entry_with v ws t b ≡ Some w → (entry_in t ws ≡ Some w → w.thread ≡ t) → w.thread ≡ t
+    go : (b : Bool) → nat_eq v.thread t ≡ b → entry_with v ws t b ≡ Some w → (wait_in t ws ≡ Some w → w.thread ≡ t) → w.thread ≡ t
     go true s e r = sym (ap thread_key (same_Some v w e)) ∙ eqb-true v.thread t s
     go false s e r = r e
 
-pub entry_all : (P : Wait → Type 0) (t : ℕ) (ws : List Wait) (w : Wait) → All P ws → entry_in t ws ≡ Some w → P w
+pub entry_all : (P : Wait → Type 0) (t : ℕ) (ws : List Wait) (w : Wait) → All P ws → wait_in t ws ≡ Some w → P w
 entry_all P t [] w a e = absurd (cc)
 entry_all P t (v ∷ ws) w a e = go (nat_eq v.thread t) e (entry_all P t ws w (All-tail P v ws a))
   where
-    go : (b : Bool) → entry_with v ws t b ≡ Some w → (entry_in t ws ≡ Some w → P w) → P w
+    go : (b : Bool) → entry_with v ws t b ≡ Some w → (wait_in t ws ≡ Some w → P w) → P w
     go true e r = subst P (same_Some v w e) (All-head P v ws a)
     go false e r = r e
 

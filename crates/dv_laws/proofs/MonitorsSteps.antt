@@ -16,7 +16,7 @@ use Rattle.dv_defs.specs.Statics.{At}
 use Rattle.dv_defs.specs.Demands.{goes_on, demands}
 use Rattle.dv_defs.specs.Transfer.{out, going}
 use Rattle.dv_defs.specs.Flow.{Leads, jumps}
-use Rattle.dv_defs.specs.Monitors.{Monitors, Held, entry_of, held_of, owner_of, entered, exited}
+use Rattle.dv_defs.specs.Monitors.{Monitors, Held, wait_of, held_of, owner_of, entered, exited}
 use Rattle.dv_machine.specs.State.{Thread, Machine, Left, Did, Throws, Reads, reading, reg_at, read_any, where_true, Here, gone, with_monitors}
 use Rattle.dv_machine.specs.Mem.{on_object}
 use Rattle.dv_machine.specs.Threads.{stays, goes, free_or_mine, monitor_enter, monitor_exit}
@@ -38,7 +38,7 @@ use Rattle.dv_laws.proofs.ReadersPlain.{reads_reference}
 
 module _ (image : Image) (T : Typings) (m : Machine) (t : ℕ) (thread : Thread) (own : Method) (f : Frame) (rest : List Level) (x : At) (s : RegState) (h : Stands image T m t thread own f rest x s) where
   -- a step after which the top frame and the monitors are others
-  pub monitor_left : (g : Frame) (ms : Monitors) → ThreadFine image T m.shared.heap t (level.Code g ∷ rest) end.Living → RefsFine image m.shared.heap (level.Code g) → MonitorsFine image m.threads (with_monitors m.shared ms) (suc m.steps) → entry_of ms t ≡ None → LeftFine image T m t thread (record { levels = level.Code g ∷ rest; shared = with_monitors m.shared ms; started = None })
+  pub monitor_left : (g : Frame) (ms : Monitors) → ThreadFine image T m.shared.heap t (level.Code g ∷ rest) end.Living → RefsFine image m.shared.heap (level.Code g) → MonitorsFine image m.threads (with_monitors m.shared ms) (suc m.steps) → wait_of ms t ≡ None → LeftFine image T m t thread (record { levels = level.Code g ∷ rest; shared = with_monitors m.shared ms; started = None })
   monitor_left g ms fine refs monitors quiet = record {
     keeps = λ o k e. e;
     levels = fine;
@@ -51,12 +51,12 @@ module _ (image : Image) (T : Typings) (m : Machine) (t : ℕ) (thread : Thread)
   }
 
   -- the thread stays where it is
-  pub staying : entry_of m.shared.monitors t ≡ None → LeftFine image T m t thread (record { levels = level.Code f ∷ rest; shared = m.shared; started = None })
+  pub staying : wait_of m.shared.monitors t ≡ None → LeftFine image T m t thread (record { levels = level.Code f ∷ rest; shared = m.shared; started = None })
   staying q = monitor_left f m.shared.monitors (living_fine image T m t thread (level.Code f ∷ rest) h.may.typed h.has_thread h.living h.levels) (frame_refs image T m t thread own f rest x s h) (monitors_later image m.threads m.shared m.steps h.may.typed.monitors) q
 
   -- an instruction that changes no register
   module _ (plain : out image own f.at x.op s ≡ going s s.regs) (on : goes_on x.op ≡ true) (can : can_throw x.op ≡ true) (apart : (c : Call) (ks : List ℕ) (g : Method) → x.op ≡ Invoke c ks g → ⊥) where
-    no_entry : entry_of m.shared.monitors t ≡ None
+    no_entry : wait_of m.shared.monitors t ≡ None
     no_entry = entry_none t m.shared.monitors.waits (λ k d l. quiet image T m t thread own f rest x s h (λ o w. apart w.call w.args w.callee w.is_invoke) _ (h.may.typed.monitors.waits k d l))
 
     throws : ThrowFine m t x
@@ -69,7 +69,7 @@ module _ (image : Image) (T : Typings) (m : Machine) (t : ℕ) (thread : Thread)
     gone_conform = record { good = h.conform.good; result = tt; caught = tt; this_pending = h.conform.this_pending }
 
     -- it goes on with other monitors
-    going_on : (ms : Monitors) → MonitorsFine image m.threads (with_monitors m.shared ms) (suc m.steps) → entry_of ms t ≡ None → LeftFine image T m t thread (record { levels = level.Code (gone f x.next f.regs) ∷ rest; shared = with_monitors m.shared ms; started = None })
+    going_on : (ms : Monitors) → MonitorsFine image m.threads (with_monitors m.shared ms) (suc m.steps) → wait_of ms t ≡ None → LeftFine image T m t thread (record { levels = level.Code (gone f x.next f.regs) ∷ rest; shared = with_monitors m.shared ms; started = None })
     going_on ms fine q = let r = frame_refs image T m t thread own f rest x s h in monitor_left (gone f x.next f.regs) ms (replaced_fine image T m t thread own f rest x s h (gone f x.next f.regs) (going s s.regs) refl refl leads gone_conform) (r.0, tt, tt) fine q
 
     enters : (o : ℕ) → DidFine image T m t thread x (monitor_enter (here image m t own f rest x.next) o)

@@ -20,7 +20,7 @@ use Rattle.dv_defs.specs.Op.{Invoke, can_throw}
 use Rattle.dv_defs.specs.Statics.{At}
 use Rattle.dv_defs.specs.Transfer.{pending_of}
 use Rattle.dv_defs.specs.Heap.{Heap}
-use Rattle.dv_defs.specs.Monitors.{Monitors, Held, Wait, held_of, owner_of, entry_of, waiting, resumed, notified_one, notified_all}
+use Rattle.dv_defs.specs.Monitors.{Monitors, Held, Wait, held_of, owner_of, wait_of, waiting, resumed, notified_one, notified_all}
 use Rattle.dv_machine.specs.State.{Thread, Machine, Left, Did, Throws, where_true, gone, onward, with_monitors, Here}
 use Rattle.dv_machine.specs.Calls.{signature}
 use Rattle.dv_machine.specs.Threads.{goes, holding, taken_back, notify_on, notify_all_on}
@@ -58,7 +58,7 @@ module _ (image : Image) (T : Typings) (m : Machine) (t : ℕ) (thread : Thread)
   -- ---- the thread goes on with other monitors, or stays
 
   module _ (j : Native) (xs : List Value) (q : Calls j xs) where
-    goes_with : (ms : Monitors) → (signature j).proto.ret ≡ None → MonitorsFine image m.threads (with_monitors m.shared ms) (suc m.steps) → entry_of ms t ≡ None → Does (goes here_it (with_monitors m.shared ms))
+    goes_with : (ms : Monitors) → (signature j).proto.ret ≡ None → MonitorsFine image m.threads (with_monitors m.shared ms) (suc m.steps) → wait_of ms t ≡ None → Does (goes here_it (with_monitors m.shared ms))
     goes_with ms i fine apart = monitor_left image T m t thread own f rest x s h (gone f x.next f.regs) ms
         (levels_after image T m t thread own f rest x s h c ks g e k j xs q heap m.shared.output (λ o d u. u) h.may.typed.heap pending.None (λ o. subst (λ r. ResultConforms image heap o pending.None (pending_of r)) (sym i) tt) tt)
         (let r = frame_refs image T m t thread own f rest x s h in (r.0, tt, tt)) fine apart
@@ -105,7 +105,7 @@ module _ (image : Image) (T : Typings) (m : Machine) (t : ℕ) (thread : Thread)
 
   -- ---- notifying
 
-  apart_all : entry_of m.shared.monitors t ≡ None → All (λ (w : Wait). w.thread ≢ t) m.shared.monitors.waits
+  apart_all : wait_of m.shared.monitors t ≡ None → All (λ (w : Wait). w.thread ≢ t) m.shared.monitors.waits
   apart_all a = quiet_from t m.shared.monitors.waits a
 
   pub notify_fine : (xs : List Value) → Calls native.Notify xs → (o : ℕ) → Does (notify_on here_it o)
@@ -160,7 +160,7 @@ module _ (image : Image) (T : Typings) (m : Machine) (t : ℕ) (thread : Thread)
       })
 
   -- the second step of a wait
-  takes_back : (xs : List Value) → Calls native.Wait xs → (w : Wait) → entry_of m.shared.monitors t ≡ Some w → (b : Bool) (o : Option ℕ) → owner_of m.shared.monitors w.object ≡ o → Does (taken_back here_it w b o)
+  takes_back : (xs : List Value) → Calls native.Wait xs → (w : Wait) → wait_of m.shared.monitors t ≡ Some w → (b : Bool) (o : Option ℕ) → owner_of m.shared.monitors w.object ≡ o → Does (taken_back here_it w b o)
   takes_back xs q w i true None n =
       let r = resuming_keeps image m.threads m.shared m.steps t w h.may.typed.monitors i n in
       goes_with native.Wait xs q (resumed m.shared.monitors w) refl r.0 r.1
@@ -168,12 +168,12 @@ module _ (image : Image) (T : Typings) (m : Machine) (t : ℕ) (thread : Thread)
   takes_back xs q w i false o n = stays_with m.shared.monitors later
 
   pub wait_fine : (xs : List Value) → Calls native.Wait xs → Does (native_step here_it native.Wait xs)
-  wait_fine xs q = by_entry (entry_of m.shared.monitors t) refl
+  wait_fine xs q = by_entry (wait_of m.shared.monitors t) refl
     where
-      first_step : ThrowFine m t x → entry_of m.shared.monitors t ≡ None → Does (holding here_it (object_number (arg xs 0)) (λ n. onward here_it (with_monitors m.shared (waiting m.shared.monitors (object_number (arg xs 0)) t n)) f))
+      first_step : ThrowFine m t x → wait_of m.shared.monitors t ≡ None → Does (holding here_it (object_number (arg xs 0)) (λ n. onward here_it (with_monitors m.shared (waiting m.shared.monitors (object_number (arg xs 0)) t n)) f))
       first_step th i = held_by th (object_number (arg xs 0)) (λ n. onward here_it (with_monitors m.shared (waiting m.shared.monitors (object_number (arg xs 0)) t n)) f)
           (λ y u. stays_with (waiting m.shared.monitors (object_number (arg xs 0)) t y.count) (waiting_keeps image m.threads m.shared m.steps (object_number (arg xs 0)) t thread y h.may.typed.monitors h.has_thread i u (waits_here xs q)))
 
-      by_entry : (w : Option Wait) → entry_of m.shared.monitors t ≡ w → Does (elim w as (λ r. Did Left) [ Some w ↦ taken_back here_it w w.notified (owner_of m.shared.monitors w.object) | None ↦ holding here_it (object_number (arg xs 0)) (λ n. onward here_it (with_monitors m.shared (waiting m.shared.monitors (object_number (arg xs 0)) t n)) f) ])
+      by_entry : (w : Option Wait) → wait_of m.shared.monitors t ≡ w → Does (elim w as (λ r. Did Left) [ Some w ↦ taken_back here_it w w.notified (owner_of m.shared.monitors w.object) | None ↦ holding here_it (object_number (arg xs 0)) (λ n. onward here_it (with_monitors m.shared (waiting m.shared.monitors (object_number (arg xs 0)) t n)) f) ])
       by_entry (Some w) i = takes_back xs q w i w.notified (owner_of m.shared.monitors w.object) refl
       by_entry None i = first_step (record { can = ap can_throw e; apart = i }) i

@@ -26,7 +26,7 @@ use Rattle.dv_machine.specs.Texts.{text_of}
 use Rattle.dv_defs.specs.Texts.{utf8}
 use Rattle.dv_machine.specs.Calls.{signature, string_type}
 use Rattle.dv_machine.specs.Threads.{own_object, goes, stays, thread_with, is_living, join_on}
-use Rattle.dv_machine.specs.Natives.{arg, number_of, object_number, gives, gives_object, new_text, char_at, units_of, some_chars, printed, native_step}
+use Rattle.dv_machine.specs.Natives.{arg, number_of, object_number, gives, gives_object, new_text, char_at, units_in, some_chars, printed, native_step}
 use Rattle.dv_machine.specs.Step.{here}
 use Rattle.dv_machine.specs.Conforming.{Own, IsOf, ResultConforms, ResultFine}
 use Rattle.dv_machine.specs.WellTyped.{Typings}
@@ -129,7 +129,7 @@ module _ (image : Image) (T : Typings) (m : Machine) (t : ℕ) (thread : Thread)
   chars_fine : (xs : List Value) → Calls native.OfChars xs → (o : ℕ) (start count : ℤ) → Does (some_chars here_it o start count)
   chars_fine xs q o (pos start) (pos count) = by_test (nat_le (start + count) (length_of heap o))
     where
-      by_test : (b : Bool) → Does (where_true b named.IndexOutOfBounds (new_text here_it (units_of (take count (drop start (cells_at heap o))))))
+      by_test : (b : Bool) → Does (where_true b named.IndexOutOfBounds (new_text here_it (units_in (take count (drop start (cells_at heap o))))))
       by_test true = text_fine native.OfChars xs q (λ i. absurd (cc)) _ refl
       by_test false = native_throws image T m t thread own f rest x s h c ks g e k native.OfChars xs q (λ i. absurd (cc))
   chars_fine xs q o start count = native_throws image T m t thread own f rest x s h c ks g e k native.OfChars xs q (λ i. absurd (cc))

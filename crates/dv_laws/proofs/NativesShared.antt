@@ -25,10 +25,10 @@ use Rattle.dv_defs.specs.Transfer as after
 use Rattle.dv_defs.specs.Transfer.{out, after_constructor, first_of, pending_of}
 use Rattle.dv_defs.specs.Flow.{Leads, targets}
 use Rattle.dv_defs.specs.Heap.{Heap}
-use Rattle.dv_defs.specs.Monitors.{entry_of}
+use Rattle.dv_defs.specs.Monitors.{wait_of}
 use Rattle.dv_machine.specs.State.{Thread, Machine, Shared, reg_at, with_result}
 use Rattle.dv_machine.specs.Calls.{dispatch, native_of, receiver_of, signature}
-use Rattle.dv_machine.specs.Step.{listed}
+use Rattle.dv_machine.specs.Step.{started_threads}
 use Rattle.dv_machine.specs.Conforming.{Own, ResultConforms, ResultFine, RefsFine, Conform}
 use Rattle.dv_machine.specs.WellTyped.{Typings, own_of, this_above, IsPlaced, CodeFine, ThreadFine, HeapFine, records}
 use Rattle.dv_machine.specs.Premises.{KeepsKinds, StartedFine, LeftFine, ThrowFine}
@@ -87,16 +87,16 @@ module _ (image : Image) (T : Typings) (m : Machine) (t : ℕ) (thread : Thread)
     pub native_throws : ThrowFine m t x
     native_throws = throws image T m t thread own f rest x s h c ks g e native_quiet
 
-    pub native_apart : entry_of m.shared.monitors t ≡ None
+    pub native_apart : wait_of m.shared.monitors t ≡ None
     native_apart = no_entry image T m t thread own f rest x s h native_quiet
 
   -- ---- the caller's state after it
 
   abbrev pub state_after : RegState
-  state_after = after.with_result s (pending_of result)
+  state_after = after.with_pending s (pending_of result)
 
   out_is : (op : Op) → op ≡ Invoke c ks g → out image own f.at op s ≡ state_after
-  out_is op i = ap (λ z. out image own f.at z s) i ∙ ap (λ b. elim b as (λ w. RegState) [ true ↦ after.with_result (after_constructor image own s (type_at s.regs (first_of ks))) (pending_of g.def.proto.ret) | false ↦ after.with_result s (pending_of g.def.proto.ret) ]) q.plain ∙ ap (λ z. after.with_result s (pending_of z)) same_result
+  out_is op i = ap (λ z. out image own f.at z s) i ∙ ap (λ b. elim b as (λ w. RegState) [ true ↦ after.with_pending (after_constructor image own s (type_at s.regs (first_of ks))) (pending_of g.def.proto.ret) | false ↦ after.with_pending s (pending_of g.def.proto.ret) ]) q.plain ∙ ap (λ z. after.with_pending s (pending_of z)) same_result
 
   leads_on : (op : Op) (n : ℕ) (st : RegState) → op ≡ Invoke c ks g → All (Leads image (T f.method.0) st) (targets (record { op = op; next = n })) → Leads image (T f.method.0) st n
   leads_on op n st i a = All-head (Leads image (T f.method.0) st) n [] (subst (λ z. All (Leads image (T f.method.0) st) (targets (record { op = z; next = n }))) i a)
@@ -136,17 +136,17 @@ module _ (image : Image) (T : Typings) (m : Machine) (t : ℕ) (thread : Thread)
         let r = refs_grown image heap new grows (level.Code f) (frame_refs image T m t thread own f rest x s h) in
         All-cons (RefsFine image new) (level.Code frame_after) rest (r.0, there, tt) (all_refs_grown image heap new grows rest (rest_refs image T m t thread own f rest x s h))
 
-    pub started_left : (u : Option Thread) → ((y : Thread) → u ≡ Some y → (d : ℕ) → records d y.levels ≡ 0) → ((y : Thread) → u ≡ Some y → StartedFine image T new (length m.threads) y) → entry_of m.shared.monitors t ≡ None → LeftFine image T m t thread (record { levels = level.Code frame_after ∷ rest; shared = shared_after; started = u })
+    pub started_left : (u : Option Thread) → ((y : Thread) → u ≡ Some y → (d : ℕ) → records d y.levels ≡ 0) → ((y : Thread) → u ≡ Some y → StartedFine image T new (length m.threads) y) → wait_of m.shared.monitors t ≡ None → LeftFine image T m t thread (record { levels = level.Code frame_after ∷ rest; shared = shared_after; started = u })
     started_left u none fresh apart = record {
       keeps = grows;
       levels = levels_after;
       refs = after_refs;
       heap = fine;
       class_states = h.may.typed.class_states;
-      monitors = quiet_moved image m.threads t thread _ (listed u) m.shared shared_after m.steps (suc m.steps) grows refl (omega arith) h.has_thread h.may.typed.refs apart h.may.typed.monitors;
+      monitors = quiet_moved image m.threads t thread _ (started_threads u) m.shared shared_after m.steps (suc m.steps) grows refl (omega arith) h.has_thread h.may.typed.refs apart h.may.typed.monitors;
       in_progress = records_after m.threads t thread _ u h.has_thread m.shared.classes m.shared.classes h.may.typed.in_progress (records_of image T m t thread (level.Code f ∷ rest) h.may.typed h.has_thread h.levels) (λ y d n. refl) none;
       started = fresh;
     }
 
-    pub native_left : entry_of m.shared.monitors t ≡ None → LeftFine image T m t thread (record { levels = level.Code frame_after ∷ rest; shared = shared_after; started = None })
+    pub native_left : wait_of m.shared.monitors t ≡ None → LeftFine image T m t thread (record { levels = level.Code frame_after ∷ rest; shared = shared_after; started = None })
     native_left apart = started_left None (λ y i. nothing ((d : ℕ) → records d y.levels ≡ 0) y i) (λ y i. nothing _ y i) apart

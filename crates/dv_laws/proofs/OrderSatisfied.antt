@@ -9,7 +9,7 @@ use Rattle.dv_defs.specs.Pools.{Method, class_type, is_constructor}
 use Rattle.dv_defs.specs.Statics.{is_of_suffix}
 use Rattle.dv_defs.specs.Op.{Op, MoveInt, MoveLong, MoveObject, ResultInt, ResultLong, ResultObject, TakeCaught, IntUnary, LongUnary, IntToLong, LongToInt, IntOp, LongOp, LongShift, CompareLong, IfBoth, IfZero, Switch, IntDivide, LongDivide, Enter, Exit, Cast, InstanceOf, ArrayLength, NewArray, Filled, Fill, Throw, ArrayGet, ArrayPut, FieldGet, FieldPut, StaticPut, Invoke, ReturnVoid, Return}
 use Rattle.dv_defs.specs.RegTypes.{type_at, IsBelow}
-use Rattle.dv_defs.specs.Demands.{constructed, first, demand, is_movable, int, long, array, value_for, form_of, same_width, is_void, value_returned, put_for, is_fill_type, any_type, put_receiver, is_pending_int, is_pending_ref, is_pending_long, demands, onward_ok}
+use Rattle.dv_defs.specs.Demands.{this_initialised, first, demand, is_movable, int, long, array, value_for, result_width, same_width, is_void, value_returned, put_for, is_fill_type, any_type, put_receiver, is_pending_int, is_pending_ref, is_pending_long, demands, onward_ok}
 use Rattle.dv_machine.specs.Accepted.{IsHierarchy}
 use Rattle.dv_machine.specs.Laws.{DemandIsAntitone}
 use Rattle.dv_laws.proofs.OrderRegs.{AreBelow}
@@ -32,7 +32,7 @@ module _ (image : Image) (h : IsHierarchy image) (s t : RegState) (b : IsBelow i
   longs : (k : ℕ) → Along (long t.regs k) (long s.regs k)
   longs = long_met image h s.regs t.regs regs
 
-  initialised : (m : Method) → Along (constructed m t) (constructed m s)
+  initialised : (m : Method) → Along (this_initialised m t) (this_initialised m s)
   initialised m =
       demand_along (not (is_constructor m && t.this_pending)) (not (is_constructor m && s.this_pending)) (rule.V 12)
       (unless_along (is_constructor m) s.this_pending t.this_pending b.this_pending)
@@ -74,11 +74,11 @@ module _ (image : Image) (h : IsHierarchy image) (s t : RegState) (b : IsBelow i
   met_by m (FieldPut x a c f) = first_along (put_receiver image m t.regs c f (type_at t.regs c)) (value_for image t.regs a f.def.ty) (put_receiver image m s.regs c f (type_at s.regs c)) (value_for image s.regs a f.def.ty) (put_receiver_met image h s.regs t.regs regs m c f) (value_met image h s.regs t.regs regs a f.def.ty)
   met_by m (StaticPut x a f) = value_met image h s.regs t.regs regs a f.def.ty
   met_by m (Invoke c ks g) = invoke_met image h s.regs t.regs regs m c ks g
-  met_by m ReturnVoid = first_along (demand (is_void m.def.proto.ret) (rule.V 13)) (constructed m t) (demand (is_void m.def.proto.ret) (rule.V 13)) (constructed m s) (same_along (demand (is_void m.def.proto.ret) (rule.V 13))) (initialised m)
+  met_by m ReturnVoid = first_along (demand (is_void m.def.proto.ret) (rule.V 13)) (this_initialised m t) (demand (is_void m.def.proto.ret) (rule.V 13)) (this_initialised m s) (same_along (demand (is_void m.def.proto.ret) (rule.V 13))) (initialised m)
   met_by m (Return x a) =
-      let form = demand (not (is_void m.def.proto.ret) && same_width x (form_of m.def.proto.ret)) (rule.V 13) in
-      first_along form (first (constructed m t) (value_returned image t.regs a m.def.proto.ret)) form (first (constructed m s) (value_returned image s.regs a m.def.proto.ret)) (same_along form)
-      (first_along (constructed m t) (value_returned image t.regs a m.def.proto.ret) (constructed m s) (value_returned image s.regs a m.def.proto.ret) (initialised m) (returned_met image h s.regs t.regs regs a m.def.proto.ret))
+      let form = demand (not (is_void m.def.proto.ret) && same_width x (result_width m.def.proto.ret)) (rule.V 13) in
+      first_along form (first (this_initialised m t) (value_returned image t.regs a m.def.proto.ret)) form (first (this_initialised m s) (value_returned image s.regs a m.def.proto.ret)) (same_along form)
+      (first_along (this_initialised m t) (value_returned image t.regs a m.def.proto.ret) (this_initialised m s) (value_returned image s.regs a m.def.proto.ret) (initialised m) (returned_met image h s.regs t.regs regs a m.def.proto.ret))
   met_by m op = same_along None
 
 pub demand_is_antitone : DemandIsAntitone

@@ -16,7 +16,7 @@ use Rattle.dv_defs.specs.Pools.{Method, is_constructor, own_type}
 use Rattle.dv_defs.specs.Op.{Op, MoveInt, MoveLong, MoveObject, ResultInt, ResultLong, ResultObject, TakeCaught, Const, ConstLong, IntUnary, LongUnary, IntToLong, LongToInt, IntOp, LongOp, LongShift, CompareLong, IntDivide, LongDivide, ConstString, ConstClass, Cast, InstanceOf, ArrayLength, New, NewArray, Filled, ArrayGet, FieldGet, StaticGet, Invoke}
 use Rattle.dv_defs.specs.RegTypes.{Types, type_at, under, IsBelow}
 use Rattle.dv_defs.specs.Demands.{made_at}
-use Rattle.dv_defs.specs.Transfer.{write_type, write_long, write_for, going, with_result, copied_int, copied_object, const_type, result_int, result_ref, after_result_long, caught_type, replaced, replaced_this, lost, class_or_conflict, pending_of, after_constructor, first_of, after_invoke, object_element, after_get, out}
+use Rattle.dv_defs.specs.Transfer.{write_type, write_long, write_for, going, with_pending, copied_int, copied_object, const_type, result_int, result_ref, after_result_long, caught_type, replaced, replaced_this, lost, class_or_conflict, pending_of, after_constructor, first_of, after_invoke, object_element, after_get, out}
 use Rattle.dv_machine.specs.Accepted.{IsHierarchy, IsOrder}
 use Rattle.dv_machine.specs.Laws.{TransferIsMonotone}
 use Rattle.dv_laws.proofs.Plain.{no}
@@ -37,7 +37,7 @@ module _ (image : Image) (h : IsHierarchy image) where
   going_below : (s t : RegState) (ss ts : Types) → IsBelow image s t → AreBelow image ss ts → IsBelow image (going s ss) (going t ts)
   going_below s t ss ts b r = record { each = r.each; count = r.count; result = tt; caught = tt; this_pending = b.this_pending }
 
-  with_result_below : (s t : RegState) (p : PendingType) → IsBelow image s t → IsBelow image (with_result s p) (with_result t p)
+  with_result_below : (s t : RegState) (p : PendingType) → IsBelow image s t → IsBelow image (with_pending s p) (with_pending t p)
   with_result_below s t p b = record { each = b.each; count = b.count; result = pending_same image ord p; caught = tt; this_pending = b.this_pending }
 
   -- where the receiver's type is lost, so are all
@@ -64,7 +64,7 @@ module _ (image : Image) (h : IsHierarchy image) where
   invoke_below : (m : Method) (s t : RegState) (ks : List ℕ) (g : Method) → IsBelow image s t → IsBelow image (after_invoke image m s ks g) (after_invoke image m t ks g)
   invoke_below m s t ks g b = by_sort (is_constructor g)
     where
-      by_sort : (c : Bool) → IsBelow image (elim c [ true ↦ with_result (after_constructor image m s (type_at s.regs (first_of ks))) (pending_of g.def.proto.ret) | false ↦ with_result s (pending_of g.def.proto.ret) ]) (elim c [ true ↦ with_result (after_constructor image m t (type_at t.regs (first_of ks))) (pending_of g.def.proto.ret) | false ↦ with_result t (pending_of g.def.proto.ret) ])
+      by_sort : (c : Bool) → IsBelow image (elim c [ true ↦ with_pending (after_constructor image m s (type_at s.regs (first_of ks))) (pending_of g.def.proto.ret) | false ↦ with_pending s (pending_of g.def.proto.ret) ]) (elim c [ true ↦ with_pending (after_constructor image m t (type_at t.regs (first_of ks))) (pending_of g.def.proto.ret) | false ↦ with_pending t (pending_of g.def.proto.ret) ])
       by_sort true = with_result_below (after_constructor image m s (type_at s.regs (first_of ks))) (after_constructor image m t (type_at t.regs (first_of ks))) (pending_of g.def.proto.ret) (constructor_below m s t (type_at t.regs (first_of ks)) (type_at s.regs (first_of ks)) (b.each (first_of ks)) b)
       by_sort false = with_result_below s t (pending_of g.def.proto.ret) b
 

@@ -5,8 +5,8 @@ use Rattle.std.proofs.lemmas.Bool.{eqb-true, eq-eqb}
 use Rattle.dv_defs.specs.declared.image.Image.{Image}
 use Rattle.dv_defs.specs.declared.image.ClassInfo.{ClassInfo}
 use Rattle.dv_defs.specs.Names.{object_name}
-use Rattle.dv_defs.specs.Pools.{find_from, class_named, parent_at, name_of, name_at, walk}
-use Rattle.dv_defs.specs.Order.{has_number, listed, interfaces_of, above, any_of, reaches, extends, implements}
+use Rattle.dv_defs.specs.Pools.{find_from, class_named, parent_at, declared_name, name_at, walk}
+use Rattle.dv_defs.specs.Order.{has_number, with_parent, interfaces_of, above, any_of, reaches, extends, implements}
 use Rattle.dv_machine.specs.Accepted.{IsHierarchy}
 use Rattle.dv_laws.proofs.Plain.{no, either, by_first, by_second}
 use Rattle.dv_laws.proofs.OrderEqual.{names_are}
@@ -30,7 +30,7 @@ pub record IsFound (cs : List ClassInfo) (k : ℕ) (name : List ℕ) (c : ℕ) :
   pub place : ℕ
   pub after : c ≡ k + place
   pub inside : place < length cs
-  pub named : name_of (slice_get cs place) ≡ name
+  pub named : declared_name (slice_get cs place) ≡ name
 
 found_later : (x : ClassInfo) (cs : List ClassInfo) (k : ℕ) (name : List ℕ) (c : ℕ) → IsFound cs (suc k) name c → IsFound (x ∷ cs) k name c
 found_later x cs k name c f = record { place = suc f.place; after = omega (arith, f.after); inside = omega (arith, f.inside); named = f.named }
@@ -56,7 +56,7 @@ named_is image name c e =
 
 -- ---- by superclasses
 
-parent_above : (o : Option ℕ) (cs : List ℕ) (p : ℕ) → o ≡ Some p → has_number p (listed o cs) ≡ true
+parent_above : (o : Option ℕ) (cs : List ℕ) (p : ℕ) → o ≡ Some p → has_number p (with_parent o cs) ≡ true
 parent_above None cs p e = absurd (cc)
 parent_above (Some q) cs p e = by_first (nat_eq q p) (has_number p cs) (eq-eqb q p (cc))
 
@@ -64,7 +64,7 @@ pub is_above : (image : Image) (c p : ℕ) → parent_at image c ≡ Some p → 
 is_above image c p e = parent_above (parent_at image c) (interfaces_of (slice_get image.classes c)) p e
 
 -- what stands above a class is its superclass or one of its superinterfaces
-pub above_is : (o : Option ℕ) (cs : List ℕ) (d : ℕ) → has_number d (listed o cs) ≡ true → (o ≡ Some d) ⊎ (has_number d cs ≡ true)
+pub above_is : (o : Option ℕ) (cs : List ℕ) (d : ℕ) → has_number d (with_parent o cs) ≡ true → (o ≡ Some d) ⊎ (has_number d cs ≡ true)
 above_is None cs d e = inr e
 above_is (Some q) cs d e = elim (either (nat_eq q d) (has_number d cs) e) [ inl here ↦ inl (ap Some (eqb-true q d here)) | inr later ↦ inr later ]
 

@@ -14,10 +14,10 @@ use Rattle.dv_defs.specs.declared.machine.Ask.TheVariants as ask
 use Rattle.dv_defs.specs.declared.names.Proto.{Proto}
 use Rattle.dv_defs.specs.Names.{init_name}
 use Rattle.dv_defs.specs.Pools.{Method, parent_at, initialiser, is_static, is_of_object, no_arguments}
-use Rattle.dv_defs.specs.Order.{has_number, listed, interfaces_of}
+use Rattle.dv_defs.specs.Order.{has_number, with_parent, interfaces_of}
 use Rattle.dv_defs.specs.RegTypes.{all_types}
 use Rattle.dv_defs.specs.Transfer.{arg_types, begins_uninitialised}
-use Rattle.dv_defs.specs.Monitors.{Wait, entry_of}
+use Rattle.dv_defs.specs.Monitors.{Wait, wait_of}
 use Rattle.dv_defs.specs.Classes.{ClassState, Fresh, InProgress, Ready, Erroneous, Classes, state_at, asked, ask_of, with_state}
 use Rattle.dv_machine.specs.State.{Thread, Machine, Left, Did, NoRoom, Here, left, pushed, with_classes}
 use Rattle.dv_machine.specs.Calls.{entered_frame}
@@ -50,7 +50,7 @@ static_begins image m s = ap (λ (b : Bool). (not b && bytes_eq m.def.name init_
 
 module _ (image : Image) (T : Typings) (m : Machine) (t : ℕ) (thread : Thread) (acc : Accepted image T) (w : WellTyped image T m) (has : slice_get m.threads t ≡ Some thread) (living : thread.end ≡ end.Living) (c : ℕ) (r : Bool) (rest : List Level) (levels : thread.levels ≡ level.Init (record { 0 = c }) r ∷ rest) where
   -- it doesn't wait
-  record_quiet : entry_of m.shared.monitors t ≡ None
+  record_quiet : wait_of m.shared.monitors t ≡ None
   record_quiet = entry_none t m.shared.monitors.waits (λ k d l e. clash (waits k d l) e)
     where
       waits : All (WaitFine image m.threads m.shared) m.shared.monitors.waits
@@ -160,7 +160,7 @@ module _ (image : Image) (T : Typings) (m : Machine) (t : ℕ) (thread : Thread)
     where
       go : (o : Option ℕ) → parent_at image c ≡ o → RecordDidFine image T m t thread (look_at (here image m t no_method no_frame rest 0) c (elim o as (λ x. List ℕ) [ None ↦ [] | Some p ↦ p ∷ [] ]))
       go None e = run_fine
-      go (Some p) e = super_fine p (subst (λ (o : Option ℕ). has_number p (elim o as (λ x. List ℕ) [ None ↦ [] | Some q ↦ q ∷ [] ]) ≡ true) (sym e) (has_head p [])) (acc.hierarchy.inside c p (subst (λ (o : Option ℕ). has_number p (listed o (interfaces_of (slice_get image.classes c))) ≡ true) (sym e) (has_head p _)))
+      go (Some p) e = super_fine p (subst (λ (o : Option ℕ). has_number p (elim o as (λ x. List ℕ) [ None ↦ [] | Some q ↦ q ∷ [] ]) ≡ true) (sym e) (has_head p [])) (acc.hierarchy.inside c p (subst (λ (o : Option ℕ). has_number p (with_parent o (interfaces_of (slice_get image.classes c))) ≡ true) (sym e) (has_head p _)))
 
   pub record_fine : RecordDidFine image T m t thread (record_step (here image m t no_method no_frame rest 0) c r)
   record_fine = go r

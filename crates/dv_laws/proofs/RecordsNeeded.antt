@@ -18,7 +18,7 @@ use Rattle.dv_defs.specs.Parts.{Call}
 use Rattle.dv_defs.specs.Pools.{Method, is_static}
 use Rattle.dv_defs.specs.Op.{Op, New, StaticGet, StaticPut, Invoke, Code, needs}
 use Rattle.dv_defs.specs.Statics.{At, op_rules, fits_call}
-use Rattle.dv_defs.specs.Monitors.{entry_of}
+use Rattle.dv_defs.specs.Monitors.{wait_of}
 use Rattle.dv_defs.specs.Classes.{ClassState, Fresh, InProgress, Ready, Erroneous, state_at, asked, ask_of, with_state}
 use Rattle.dv_machine.specs.State.{Thread, Machine, Left, Did, NoRoom, Here, left, with_classes}
 use Rattle.dv_machine.specs.Calls.{receiver_of}
@@ -69,7 +69,7 @@ no_receiver image code op c r e = refl
 -- ---- such an instruction
 
 module _ (image : Image) (T : Typings) (m : Machine) (t : ℕ) (thread : Thread) (own : Method) (f : Frame) (rest : List Level) (x : At) (s : RegState) (h : Stands image T m t thread own f rest x s) (code : Code) (rules : op_rules image code x.op ≡ []) (c : ℕ) (needed : needs x.op ≡ Some c) where
-  no_entry : entry_of m.shared.monitors t ≡ None
+  no_entry : wait_of m.shared.monitors t ≡ None
   no_entry = entry_none t m.shared.monitors.waits (λ k d l. quiet image T m t thread own f rest x s h (λ o w. none-some _ (sym (no_receiver image code x.op c rules needed) ∙ w.has_receiver)) _ (h.may.typed.monitors.waits k d l))
 
   fine : ThreadFine image T m.shared.heap t (level.Code f ∷ rest) end.Living

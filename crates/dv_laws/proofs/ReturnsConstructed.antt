@@ -42,7 +42,7 @@ module _ (image : Image) (heap : Heap) (this : Option ℕ) (m : Method) (f : Fra
       subst (λ z. IsGood image heap own (map (initialised o) f.regs) (map (replaced b (class_or_conflict image z)) s.regs)) (sym site)
       (made_good image heap own f.regs s.regs h.good b o (class_type image c.1.class) (i c.1.class c.1.is_site) k et (ap object_of ex))
 
-  constructed_conforms : (x : Value) (t : RegType) → reg_at f.regs k ≡ x → type_at s.regs k ≡ t → Conforms image heap own x t → receiver_for image m g t ≡ None → IsBuilt image heap m x → Conform image heap own (constructed f next p x) (after.with_result (after_constructor image m s t) (pending_of g.def.proto.ret))
+  constructed_conforms : (x : Value) (t : RegType) → reg_at f.regs k ≡ x → type_at s.regs k ≡ t → Conforms image heap own x t → receiver_for image m g t ≡ None → IsBuilt image heap m x → Conform image heap own (constructed f next p x) (after.with_pending (after_constructor image m s t) (pending_of g.def.proto.ret))
   constructed_conforms (v.Uninit a o) (ty.Uninit b) ex et c d i = record { good = made_registers a b o ex et c i; result = r; caught = tt; this_pending = h.this_pending }
   constructed_conforms (v.UninitThis o) ty.UninitThis ex et c d i = record {
     good = own_good image heap own f.regs s.regs h.good o (own_type image m) i k et (ap object_of ex);
@@ -69,12 +69,12 @@ no_receiver image m s c g e d =
 
 module _ (image : Image) (heap : Heap) (this : Option ℕ) (m : Method) (f : Frame) (s : RegState) (h : Conform image heap (own_of image this m) f s) (p : Pending) (next : ℕ) where
   back_at : (c : Call) (ks : List ℕ) (g : Method) (b : Bool) → is_constructor g ≡ b → invoke_for image m s.regs c ks g ≡ None → ResultConforms image heap (own_of image this m) p (pending_of g.def.proto.ret) → (b ≡ true → (k : ℕ) → receiver_of (Invoke c ks g) ≡ Some k → IsBuilt image heap m (reg_at f.regs k)) → Conform image heap (own_of image this m) (returned b f (record { op = Invoke c ks g; next = next }) p) (after_invoke image m s ks g)
-  back_at c ks g false e d r i = subst (λ z. Conform image heap (own_of image this m) (with_result f next p) (elim z as (λ w. RegState) [ true ↦ after.with_result (after_constructor image m s (type_at s.regs (first_of ks))) (pending_of g.def.proto.ret) | false ↦ after.with_result s (pending_of g.def.proto.ret) ])) (sym e) (record { good = h.good; result = r; caught = tt; this_pending = h.this_pending })
+  back_at c ks g false e d r i = subst (λ z. Conform image heap (own_of image this m) (with_result f next p) (elim z as (λ w. RegState) [ true ↦ after.with_pending (after_constructor image m s (type_at s.regs (first_of ks))) (pending_of g.def.proto.ret) | false ↦ after.with_pending s (pending_of g.def.proto.ret) ])) (sym e) (record { good = h.good; result = r; caught = tt; this_pending = h.this_pending })
   back_at c [] g true e d r i = absurd (no_receiver image m s c g e d)
   back_at c (k ∷ ks) g true e d r i =
       let there : receiver_of (Invoke c (k ∷ ks) g) ≡ Some k = ap (λ z. elim z as (λ w. Option ℕ) [ true ↦ None | false ↦ Some k ]) (not_static g e) in
-      let known : Conform image heap (own_of image this m) (constructed f next p (reg_at f.regs k)) (after.with_result (after_constructor image m s (type_at s.regs k)) (pending_of g.def.proto.ret)) = constructed_conforms image heap this m f s h g k next p r _ _ refl refl (h.good.regs k) (receiver_demanded image m s c k ks g e d) (i refl k there) in
-      let stated = subst (λ z. Conform image heap (own_of image this m) (constructed f next p (reg_at f.regs k)) (elim z as (λ w. RegState) [ true ↦ after.with_result (after_constructor image m s (type_at s.regs k)) (pending_of g.def.proto.ret) | false ↦ after.with_result s (pending_of g.def.proto.ret) ])) (sym e) known in
+      let known : Conform image heap (own_of image this m) (constructed f next p (reg_at f.regs k)) (after.with_pending (after_constructor image m s (type_at s.regs k)) (pending_of g.def.proto.ret)) = constructed_conforms image heap this m f s h g k next p r _ _ refl refl (h.good.regs k) (receiver_demanded image m s c k ks g e d) (i refl k there) in
+      let stated = subst (λ z. Conform image heap (own_of image this m) (constructed f next p (reg_at f.regs k)) (elim z as (λ w. RegState) [ true ↦ after.with_pending (after_constructor image m s (type_at s.regs k)) (pending_of g.def.proto.ret) | false ↦ after.with_pending s (pending_of g.def.proto.ret) ])) (sym e) known in
       subst (λ z. Conform image heap (own_of image this m) (elim z as (λ w. Frame) [ None ↦ with_result f next p | Some j ↦ constructed f next p (reg_at f.regs j) ]) (after_invoke image m s (k ∷ ks) g)) (sym there) stated
 
 pub returned_conforms : ReturnedConforms

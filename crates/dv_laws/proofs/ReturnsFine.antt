@@ -19,7 +19,7 @@ use Rattle.dv_defs.specs.Pools.{Method, is_constructor}
 use Rattle.dv_defs.specs.Op.{Op, Invoke, ReturnVoid, Return, is_return}
 use Rattle.dv_defs.specs.Statics.{At}
 use Rattle.dv_defs.specs.RegTypes.{reg_types}
-use Rattle.dv_defs.specs.Demands.{demands, demand, constructed, first, is_void, same_width, form_of, value_returned}
+use Rattle.dv_defs.specs.Demands.{demands, demand, this_initialised, first, is_void, same_width, result_width, value_returned}
 use Rattle.dv_defs.specs.Heap.{Heap}
 use Rattle.dv_machine.specs.State.{Thread, Machine, Left, Did, IsStuck, read_value, Here}
 use Rattle.dv_machine.specs.Calls.{back, back_on, back_to, unless_pending, pending_words, return_value, return_form, return_void}
@@ -58,7 +58,7 @@ module _ (image : Image) (T : Typings) (m : Machine) (t : ℕ) (thread : Thread)
         at_rest (level.Code g ∷ ls) is = subst (λ z. DidFine image T m t thread x (back_to here_it p g ls z)) (sym (called image T m t thread own f rest x s h g ls is p r).has_at) (caller_left image T m t thread own f rest x s h g ls is p r q)
 
     -- a frame whose `this` isn't pending returns
-    unless_fine : (go : Did Left) → constructed own s ≡ None → DidFine image T m t thread x go → DidFine image T m t thread x (unless_pending here_it go)
+    unless_fine : (go : Did Left) → this_initialised own s ≡ None → DidFine image T m t thread x go → DidFine image T m t thread x (unless_pending here_it go)
     unless_fine go d k = by_test (is_constructor own && f.this_pending) pending
       where
         pending : is_constructor own && f.this_pending ≡ true → is_constructor own && s.this_pending ≡ true
@@ -74,9 +74,9 @@ module _ (image : Image) (T : Typings) (m : Machine) (t : ℕ) (thread : Thread)
     void_result None e = record { conforms = λ this k. tt; fine = tt }
     void_result (Some u) e = no e
 
-    void_fine : first (demand (is_void own.def.proto.ret) (rule.V 13)) (constructed own s) ≡ None → DidFine image T m t thread x (return_void here_it)
+    void_fine : first (demand (is_void own.def.proto.ret) (rule.V 13)) (this_initialised own s) ≡ None → DidFine image T m t thread x (return_void here_it)
     void_fine d =
-        let e = first_none (demand (is_void own.def.proto.ret) (rule.V 13)) (constructed own s) d in
+        let e = first_none (demand (is_void own.def.proto.ret) (rule.V 13)) (this_initialised own s) d in
         let void = demanded (is_void own.def.proto.ret) (rule.V 13) e.0 in
         subst (λ b. DidFine image T m t thread x (elim b as (λ w. Did Left) [ true ↦ unless_pending here_it (back here_it pending.None) | false ↦ IsStuck why.Result ])) (sym void)
         (unless_fine (back here_it pending.None) e.1 (back_fine pending.None (void_result own.def.proto.ret void)))
@@ -96,11 +96,11 @@ module _ (image : Image) (T : Typings) (m : Machine) (t : ℕ) (thread : Thread)
     form_fine : (w : Width) (a : ℕ) → demands image own (Return w a) s ≡ None → DidFine image T m t thread x (return_form here_it w a)
     form_fine w a d =
         let ret = own.def.proto.ret in
-        let e = first_none (demand (not (is_void ret) && same_width w (form_of ret)) (rule.V 13)) (first (constructed own s) (value_returned image s.regs a ret)) d in
-        let g = first_none (constructed own s) (value_returned image s.regs a ret) e.1 in
-        let form = demanded (not (is_void ret) && same_width w (form_of ret)) (rule.V 13) e.0 in
+        let e = first_none (demand (not (is_void ret) && same_width w (result_width ret)) (rule.V 13)) (first (this_initialised own s) (value_returned image s.regs a ret)) d in
+        let g = first_none (this_initialised own s) (value_returned image s.regs a ret) e.1 in
+        let form = demanded (not (is_void ret) && same_width w (result_width ret)) (rule.V 13) e.0 in
         subst (λ b. DidFine image T m t thread x (elim b as (λ w. Did Left) [ true ↦ unless_pending here_it (return_value here_it a ret) | false ↦ IsStuck why.Result ])) (sym form)
-        (unless_fine (return_value here_it a ret) g.0 (value_fine a ret refl (and_parts (not (is_void ret)) (same_width w (form_of ret)) form).0 g.1))
+        (unless_fine (return_value here_it a ret) g.0 (value_fine a ret refl (and_parts (not (is_void ret)) (same_width w (result_width ret)) form).0 g.1))
 
     return_fine : (op : Op) → is_return op ≡ true → demands image own op s ≡ None → DidFine image T m t thread x (act here_it op)
     return_fine ReturnVoid e d = void_fine d

@@ -1,7 +1,7 @@
 -- What each call on monitors keeps of them, as statements.
 use Rattle.std.specs.Prelude.{◌≡◌, ℕ, suc, List, Some, None, slice_get}
 use Rattle.dv_defs.specs.declared.image.Image.{Image}
-use Rattle.dv_defs.specs.Monitors.{Held, Wait, held_of, owner_of, entered, exited, waiting, notified_one, notified_all, entry_of, resumed}
+use Rattle.dv_defs.specs.Monitors.{Held, Wait, held_of, owner_of, entered, exited, waiting, notified_one, notified_all, wait_of, resumed}
 use Rattle.dv_machine.specs.State.{Thread, Shared, with_monitors}
 use Rattle.dv_machine.specs.WellTyped.{IsWaiting, MonitorsFine}
 
@@ -9,7 +9,7 @@ use Rattle.dv_machine.specs.WellTyped.{IsWaiting, MonitorsFine}
 abbrev pub EnteringKeeps : Type 0
 EnteringKeeps =
     (image : Image) (threads : List Thread) (sh : Shared) (steps o t : ℕ) (thread : Thread) →
-    MonitorsFine image threads sh steps → slice_get threads t ≡ Some thread → entry_of sh.monitors t ≡ None →
+    MonitorsFine image threads sh steps → slice_get threads t ≡ Some thread → wait_of sh.monitors t ≡ None →
     MonitorsFine image threads (with_monitors sh (entered sh.monitors o t 1)) (suc steps)
 
 -- a monitor is exited once
@@ -22,7 +22,7 @@ ExitingKeeps =
 abbrev pub WaitingKeeps : Type 0
 WaitingKeeps =
     (image : Image) (threads : List Thread) (sh : Shared) (steps o t : ℕ) (thread : Thread) (h : Held) →
-    MonitorsFine image threads sh steps → slice_get threads t ≡ Some thread → entry_of sh.monitors t ≡ None →
+    MonitorsFine image threads sh steps → slice_get threads t ≡ Some thread → wait_of sh.monitors t ≡ None →
     held_of sh.monitors o ≡ Some h → IsWaiting image sh.heap thread.levels thread.end o →
     MonitorsFine image threads (with_monitors sh (waiting sh.monitors o t h.count)) (suc steps)
 
@@ -37,6 +37,6 @@ NotifyingKeeps =
 abbrev pub ResumingKeeps : Type 0
 ResumingKeeps =
     (image : Image) (threads : List Thread) (sh : Shared) (steps t : ℕ) (w : Wait) →
-    MonitorsFine image threads sh steps → entry_of sh.monitors t ≡ Some w → owner_of sh.monitors w.object ≡ None →
+    MonitorsFine image threads sh steps → wait_of sh.monitors t ≡ Some w → owner_of sh.monitors w.object ≡ None →
     MonitorsFine image threads (with_monitors sh (resumed sh.monitors w)) (suc steps) ×
-    (entry_of (resumed sh.monitors w) t ≡ None)
+    (wait_of (resumed sh.monitors w) t ≡ None)

@@ -25,7 +25,7 @@ use Rattle.dv_defs.specs.Transfer.{entry_state, out}
 use Rattle.dv_defs.specs.Flow.{Catcher, Typing, Leads, Flows, IsTyping, targets, handlers_at, thrown_at, caught_state}
 use Rattle.dv_defs.specs.Joins.{same_type}
 use Rattle.dv_defs.specs.Accepting.{Place, static_places, IsAcceptedMethod, Accepts}
-use Rattle.dv_machine.specs.Passes.{States, state_at, passes, begun}
+use Rattle.dv_machine.specs.Passes.{States, state_there, passes, states_on_entry}
 
 no : {A : Type 0} → false ≡ true → A
 no e = absurd (cc)
@@ -191,10 +191,10 @@ each_is image code T f (Some t ∷ ss) e (suc at) s h = each_is image code T (λ
 -- ---- a method
 
 abbrev pub typing_of : States → Typing
-typing_of states at = state_at states at
+typing_of states at = state_there states at
 
 abbrev pub is_typing_by : Image → Code → States → Bool
-is_typing_by image code states = leads_to image (entry_state image code.method code.body.registers) (state_at states 0) && each_fine image code (typing_of states) (λ k. k) states
+is_typing_by image code states = leads_to image (entry_state image code.method code.body.registers) (state_there states 0) && each_fine image code (typing_of states) (λ k. k) states
 
 typing_by : (image : Image) (code : Code) (states : States) → is_typing_by image code states ≡ true → IsTyping image code (typing_of states)
 typing_by image code states e =
@@ -216,14 +216,14 @@ empty_is (p ∷ ps) e = no e
 -- where it has a body: no static fault, and the states of six passes are a typing
 abbrev pub is_accepted_by : Image → Option Code → Bool
 is_accepted_by image None = true
-is_accepted_by image (Some code) = is_empty (static_places image code) && is_typing_by image code (passes image code 6 (begun image code))
+is_accepted_by image (Some code) = is_empty (static_places image code) && is_typing_by image code (passes image code 6 (states_on_entry image code))
 
 accepted_is : (image : Image) (code : Code) (o : Option Code) → o ≡ Some code → is_accepted_by image o ≡ true → IsAcceptedMethod image code
 accepted_is image code None h e = absurd (cc)
 accepted_is image code (Some c) h e =
     let p = both _ _ e in
     let g : c ≡ code = cc in
-    subst (λ d. IsAcceptedMethod image d) g (record { static = empty_is _ p.0; typing = typing_of (passes image c 6 (begun image c)); is_typing = typing_by image c _ p.1 })
+    subst (λ d. IsAcceptedMethod image d) g (record { static = empty_is _ p.0; typing = typing_of (passes image c 6 (states_on_entry image c)); is_typing = typing_by image c _ p.1 })
 
 -- ---- an image
 

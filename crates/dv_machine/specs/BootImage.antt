@@ -8,13 +8,13 @@ use Rattle.dv_defs.specs.declared.image.FieldInfo.{FieldInfo}
 use Rattle.dv_defs.specs.declared.image.MethodInfo.{MethodInfo}
 use Rattle.dv_defs.specs.Types.{of_class}
 use Rattle.dv_defs.specs.Joins.{array_of}
-use Rattle.dv_machine.specs.Images.{int, long, char, boolean, body, body_with, method, field, class, info, bare, field_info}
+use Rattle.dv_machine.specs.Images.{of_int, of_long, of_char, of_boolean, body, body_with, method, field, class, info, bare, field_info}
 
 abbrev pub object_class : ClassInfo
 object_class =
     class (codes "Ljava/lang/Object;") None [] 0 []
     (method (codes "<init>") [] None 0 (Some (body 1 (0x000e ∷ [])))
-    ∷ method (codes "equals") ((of_class (codes "Ljava/lang/Object;")) ∷ []) (Some boolean) 0 (Some (body 3 (0x2133 ∷ 0x0004 ∷ 0x1012 ∷ 0x000f ∷ 0x0012 ∷ 0x000f ∷ [])))
+    ∷ method (codes "equals") ((of_class (codes "Ljava/lang/Object;")) ∷ []) (Some of_boolean) 0 (Some (body 3 (0x2133 ∷ 0x0004 ∷ 0x1012 ∷ 0x000f ∷ 0x0012 ∷ 0x000f ∷ [])))
     ∷ method (codes "wait") [] None 0x410 None
     ∷ method (codes "notify") [] None 0x400 None
     ∷ method (codes "notifyAll") [] None 0x400 None ∷ []) []
@@ -43,9 +43,9 @@ thread_class =
 abbrev pub string_class : ClassInfo
 string_class =
     class (codes "Ljava/lang/String;") (Some 0) [] 0x10 []
-    (method (codes "length") [] (Some int) 0x400 None
-    ∷ method (codes "charAt") (int ∷ []) (Some char) 0x400 None
-    ∷ method (codes "equals") ((of_class (codes "Ljava/lang/Object;")) ∷ []) (Some boolean) 0x400 None
+    (method (codes "length") [] (Some of_int) 0x400 None
+    ∷ method (codes "charAt") (of_int ∷ []) (Some of_char) 0x400 None
+    ∷ method (codes "equals") ((of_class (codes "Ljava/lang/Object;")) ∷ []) (Some of_boolean) 0x400 None
     ∷ method (codes "concat") ((of_class (codes "Ljava/lang/String;")) ∷ []) (Some (of_class (codes "Ljava/lang/String;"))) 0x400 None
     ∷ method (codes "toString") [] (Some (of_class (codes "Ljava/lang/String;"))) 0 (Some (body 1 (0x0011 ∷ []))) ∷ []) []
 
@@ -56,12 +56,12 @@ string_builder_class =
     (method (codes "<init>") [] None 0 (Some (body_with 2 (0x1070 ∷ 0x0000 ∷ 0x0001 ∷ 0x001a ∷ 0x0000 ∷ 0x105b ∷ 0x0000 ∷ 0x000e ∷ []) [] ([] ∷ []) []))
     ∷ method (codes "<init>") ((of_class (codes "Ljava/lang/String;")) ∷ []) None 0 (Some (body 2 (0x1070 ∷ 0x0000 ∷ 0x0000 ∷ 0x106e ∷ 0x0001 ∷ 0x0001 ∷ 0x015b ∷ 0x0000 ∷ 0x000e ∷ [])))
     ∷ method (codes "append") ((of_class (codes "Ljava/lang/String;")) ∷ []) (Some (of_class (codes "Ljava/lang/StringBuilder;"))) 0 (Some (body_with 3 (0x0239 ∷ 0x0004 ∷ 0x021a ∷ 0x0000 ∷ 0x1054 ∷ 0x0000 ∷ 0x206e ∷ 0x0000 ∷ 0x0020 ∷ 0x000c ∷ 0x105b ∷ 0x0000 ∷ 0x0111 ∷ []) [] ((codes "null") ∷ []) []))
-    ∷ method (codes "append") (int ∷ []) (Some (of_class (codes "Ljava/lang/StringBuilder;"))) 0 (Some (body 5 (0x4081 ∷ 0x2071 ∷ 0x0000 ∷ 0x0010 ∷ 0x000c ∷ 0x206e ∷ 0x0001 ∷ 0x0003 ∷ 0x0311 ∷ [])))
-    ∷ method (codes "append") (long ∷ []) (Some (of_class (codes "Ljava/lang/StringBuilder;"))) 0 (Some (body 6 (0x2071 ∷ 0x0000 ∷ 0x0054 ∷ 0x000c ∷ 0x206e ∷ 0x0001 ∷ 0x0003 ∷ 0x0311 ∷ [])))
-    ∷ method (codes "append") (char ∷ []) (Some (of_class (codes "Ljava/lang/StringBuilder;"))) 0 (Some (body_with 5 (0x1112 ∷ 0x1023 ∷ 0x0000 ∷ 0x0212 ∷ 0x0450 ∷ 0x0200 ∷ 0x3071 ∷ 0x0000 ∷ 0x0120 ∷ 0x000c ∷ 0x206e ∷ 0x0001 ∷ 0x0003 ∷ 0x0311 ∷ []) [] [] ((array_of char) ∷ [])))
-    ∷ method (codes "append") (boolean ∷ []) (Some (of_class (codes "Ljava/lang/StringBuilder;"))) 0 (Some (body_with 5 (0x0438 ∷ 0x0005 ∷ 0x001a ∷ 0x0000 ∷ 0x0328 ∷ 0x001a ∷ 0x0001 ∷ 0x206e ∷ 0x0000 ∷ 0x0003 ∷ 0x0311 ∷ []) [] ((codes "true") ∷ (codes "false") ∷ []) []))
+    ∷ method (codes "append") (of_int ∷ []) (Some (of_class (codes "Ljava/lang/StringBuilder;"))) 0 (Some (body 5 (0x4081 ∷ 0x2071 ∷ 0x0000 ∷ 0x0010 ∷ 0x000c ∷ 0x206e ∷ 0x0001 ∷ 0x0003 ∷ 0x0311 ∷ [])))
+    ∷ method (codes "append") (of_long ∷ []) (Some (of_class (codes "Ljava/lang/StringBuilder;"))) 0 (Some (body 6 (0x2071 ∷ 0x0000 ∷ 0x0054 ∷ 0x000c ∷ 0x206e ∷ 0x0001 ∷ 0x0003 ∷ 0x0311 ∷ [])))
+    ∷ method (codes "append") (of_char ∷ []) (Some (of_class (codes "Ljava/lang/StringBuilder;"))) 0 (Some (body_with 5 (0x1112 ∷ 0x1023 ∷ 0x0000 ∷ 0x0212 ∷ 0x0450 ∷ 0x0200 ∷ 0x3071 ∷ 0x0000 ∷ 0x0120 ∷ 0x000c ∷ 0x206e ∷ 0x0001 ∷ 0x0003 ∷ 0x0311 ∷ []) [] [] ((array_of of_char) ∷ [])))
+    ∷ method (codes "append") (of_boolean ∷ []) (Some (of_class (codes "Ljava/lang/StringBuilder;"))) 0 (Some (body_with 5 (0x0438 ∷ 0x0005 ∷ 0x001a ∷ 0x0000 ∷ 0x0328 ∷ 0x001a ∷ 0x0001 ∷ 0x206e ∷ 0x0000 ∷ 0x0003 ∷ 0x0311 ∷ []) [] ((codes "true") ∷ (codes "false") ∷ []) []))
     ∷ method (codes "toString") [] (Some (of_class (codes "Ljava/lang/String;"))) 0 (Some (body 2 (0x1054 ∷ 0x0000 ∷ 0x0011 ∷ [])))
-    ∷ method (codes "length") [] (Some int) 0 (Some (body 2 (0x1054 ∷ 0x0000 ∷ 0x106e ∷ 0x0000 ∷ 0x0000 ∷ 0x000a ∷ 0x000f ∷ []))) ∷ []) (1 ∷ [])
+    ∷ method (codes "length") [] (Some of_int) 0 (Some (body 2 (0x1054 ∷ 0x0000 ∷ 0x106e ∷ 0x0000 ∷ 0x0000 ∷ 0x000a ∷ 0x000f ∷ []))) ∷ []) (1 ∷ [])
 
 abbrev pub system_class : ClassInfo
 system_class =
@@ -74,27 +74,27 @@ print_stream_class =
     class (codes "Ljava/io/PrintStream;") (Some 0) [] 0 []
     (method (codes "println") [] None 0 (Some (body_with 2 (0x001a ∷ 0x0000 ∷ 0x1071 ∷ 0x0000 ∷ 0x0000 ∷ 0x000e ∷ []) [] ((10 ∷ []) ∷ []) []))
     ∷ method (codes "print") ((of_class (codes "Ljava/lang/String;")) ∷ []) None 0 (Some (body_with 5 (0x0439 ∷ 0x0004 ∷ 0x041a ∷ 0x0000 ∷ 0x4007 ∷ 0x1071 ∷ 0x0000 ∷ 0x0000 ∷ 0x000e ∷ []) [] ((codes "null") ∷ []) []))
-    ∷ method (codes "print") (int ∷ []) None 0 (Some (body 5 (0x4081 ∷ 0x2071 ∷ 0x0000 ∷ 0x0010 ∷ 0x000c ∷ 0x1071 ∷ 0x0001 ∷ 0x0000 ∷ 0x000e ∷ [])))
-    ∷ method (codes "print") (long ∷ []) None 0 (Some (body 6 (0x2071 ∷ 0x0000 ∷ 0x0054 ∷ 0x000c ∷ 0x1071 ∷ 0x0001 ∷ 0x0000 ∷ 0x000e ∷ [])))
-    ∷ method (codes "print") (char ∷ []) None 0 (Some (body_with 5 (0x1112 ∷ 0x1023 ∷ 0x0000 ∷ 0x0212 ∷ 0x0450 ∷ 0x0200 ∷ 0x3071 ∷ 0x0000 ∷ 0x0120 ∷ 0x000c ∷ 0x1071 ∷ 0x0001 ∷ 0x0000 ∷ 0x000e ∷ []) [] [] ((array_of char) ∷ [])))
-    ∷ method (codes "print") (boolean ∷ []) None 0 (Some (body_with 5 (0x0438 ∷ 0x0005 ∷ 0x001a ∷ 0x0000 ∷ 0x0328 ∷ 0x001a ∷ 0x0001 ∷ 0x1071 ∷ 0x0000 ∷ 0x0000 ∷ 0x000e ∷ []) [] ((codes "true") ∷ (codes "false") ∷ []) []))
+    ∷ method (codes "print") (of_int ∷ []) None 0 (Some (body 5 (0x4081 ∷ 0x2071 ∷ 0x0000 ∷ 0x0010 ∷ 0x000c ∷ 0x1071 ∷ 0x0001 ∷ 0x0000 ∷ 0x000e ∷ [])))
+    ∷ method (codes "print") (of_long ∷ []) None 0 (Some (body 6 (0x2071 ∷ 0x0000 ∷ 0x0054 ∷ 0x000c ∷ 0x1071 ∷ 0x0001 ∷ 0x0000 ∷ 0x000e ∷ [])))
+    ∷ method (codes "print") (of_char ∷ []) None 0 (Some (body_with 5 (0x1112 ∷ 0x1023 ∷ 0x0000 ∷ 0x0212 ∷ 0x0450 ∷ 0x0200 ∷ 0x3071 ∷ 0x0000 ∷ 0x0120 ∷ 0x000c ∷ 0x1071 ∷ 0x0001 ∷ 0x0000 ∷ 0x000e ∷ []) [] [] ((array_of of_char) ∷ [])))
+    ∷ method (codes "print") (of_boolean ∷ []) None 0 (Some (body_with 5 (0x0438 ∷ 0x0005 ∷ 0x001a ∷ 0x0000 ∷ 0x0328 ∷ 0x001a ∷ 0x0001 ∷ 0x1071 ∷ 0x0000 ∷ 0x0000 ∷ 0x000e ∷ []) [] ((codes "true") ∷ (codes "false") ∷ []) []))
     ∷ method (codes "println") ((of_class (codes "Ljava/lang/String;")) ∷ []) None 0 (Some (body_with 5 (0x0439 ∷ 0x0004 ∷ 0x041a ∷ 0x0000 ∷ 0x4007 ∷ 0x011a ∷ 0x0001 ∷ 0x206e ∷ 0x0000 ∷ 0x0010 ∷ 0x000c ∷ 0x1071 ∷ 0x0001 ∷ 0x0000 ∷ 0x000e ∷ []) [] ((codes "null") ∷ (10 ∷ []) ∷ []) []))
-    ∷ method (codes "println") (int ∷ []) None 0 (Some (body_with 5 (0x4081 ∷ 0x2071 ∷ 0x0000 ∷ 0x0010 ∷ 0x000c ∷ 0x011a ∷ 0x0000 ∷ 0x206e ∷ 0x0001 ∷ 0x0010 ∷ 0x000c ∷ 0x1071 ∷ 0x0002 ∷ 0x0000 ∷ 0x000e ∷ []) [] ((10 ∷ []) ∷ []) []))
-    ∷ method (codes "println") (long ∷ []) None 0 (Some (body_with 6 (0x2071 ∷ 0x0000 ∷ 0x0054 ∷ 0x000c ∷ 0x011a ∷ 0x0000 ∷ 0x206e ∷ 0x0001 ∷ 0x0010 ∷ 0x000c ∷ 0x1071 ∷ 0x0002 ∷ 0x0000 ∷ 0x000e ∷ []) [] ((10 ∷ []) ∷ []) []))
-    ∷ method (codes "println") (char ∷ []) None 0 (Some (body_with 5 (0x1112 ∷ 0x1023 ∷ 0x0000 ∷ 0x0212 ∷ 0x0450 ∷ 0x0200 ∷ 0x3071 ∷ 0x0000 ∷ 0x0120 ∷ 0x000c ∷ 0x011a ∷ 0x0000 ∷ 0x206e ∷ 0x0001 ∷ 0x0010 ∷ 0x000c ∷ 0x1071 ∷ 0x0002 ∷ 0x0000 ∷ 0x000e ∷ []) [] ((10 ∷ []) ∷ []) ((array_of char) ∷ [])))
-    ∷ method (codes "println") (boolean ∷ []) None 0 (Some (body_with 5 (0x0438 ∷ 0x0005 ∷ 0x001a ∷ 0x0000 ∷ 0x0328 ∷ 0x001a ∷ 0x0001 ∷ 0x011a ∷ 0x0002 ∷ 0x206e ∷ 0x0000 ∷ 0x0010 ∷ 0x000c ∷ 0x1071 ∷ 0x0001 ∷ 0x0000 ∷ 0x000e ∷ []) [] ((codes "true") ∷ (codes "false") ∷ (10 ∷ []) ∷ []) [])) ∷ []) []
+    ∷ method (codes "println") (of_int ∷ []) None 0 (Some (body_with 5 (0x4081 ∷ 0x2071 ∷ 0x0000 ∷ 0x0010 ∷ 0x000c ∷ 0x011a ∷ 0x0000 ∷ 0x206e ∷ 0x0001 ∷ 0x0010 ∷ 0x000c ∷ 0x1071 ∷ 0x0002 ∷ 0x0000 ∷ 0x000e ∷ []) [] ((10 ∷ []) ∷ []) []))
+    ∷ method (codes "println") (of_long ∷ []) None 0 (Some (body_with 6 (0x2071 ∷ 0x0000 ∷ 0x0054 ∷ 0x000c ∷ 0x011a ∷ 0x0000 ∷ 0x206e ∷ 0x0001 ∷ 0x0010 ∷ 0x000c ∷ 0x1071 ∷ 0x0002 ∷ 0x0000 ∷ 0x000e ∷ []) [] ((10 ∷ []) ∷ []) []))
+    ∷ method (codes "println") (of_char ∷ []) None 0 (Some (body_with 5 (0x1112 ∷ 0x1023 ∷ 0x0000 ∷ 0x0212 ∷ 0x0450 ∷ 0x0200 ∷ 0x3071 ∷ 0x0000 ∷ 0x0120 ∷ 0x000c ∷ 0x011a ∷ 0x0000 ∷ 0x206e ∷ 0x0001 ∷ 0x0010 ∷ 0x000c ∷ 0x1071 ∷ 0x0002 ∷ 0x0000 ∷ 0x000e ∷ []) [] ((10 ∷ []) ∷ []) ((array_of of_char) ∷ [])))
+    ∷ method (codes "println") (of_boolean ∷ []) None 0 (Some (body_with 5 (0x0438 ∷ 0x0005 ∷ 0x001a ∷ 0x0000 ∷ 0x0328 ∷ 0x001a ∷ 0x0001 ∷ 0x011a ∷ 0x0002 ∷ 0x206e ∷ 0x0000 ∷ 0x0010 ∷ 0x000c ∷ 0x1071 ∷ 0x0001 ∷ 0x0000 ∷ 0x000e ∷ []) [] ((codes "true") ∷ (codes "false") ∷ (10 ∷ []) ∷ []) [])) ∷ []) []
 
 abbrev pub text_class : ClassInfo
 text_class =
     class (codes "Ldvm/Text;") (Some 0) [] 0 []
-    (method (codes "ofLong") (long ∷ []) (Some (of_class (codes "Ljava/lang/String;"))) 0x408 None
-    ∷ method (codes "ofChars") ((array_of char) ∷ int ∷ int ∷ []) (Some (of_class (codes "Ljava/lang/String;"))) 0x408 None ∷ []) []
+    (method (codes "ofLong") (of_long ∷ []) (Some (of_class (codes "Ljava/lang/String;"))) 0x408 None
+    ∷ method (codes "ofChars") ((array_of of_char) ∷ of_int ∷ of_int ∷ []) (Some (of_class (codes "Ljava/lang/String;"))) 0x408 None ∷ []) []
 
 abbrev pub console_class : ClassInfo
 console_class =
     class (codes "Ldvm/Console;") (Some 0) [] 0 []
     (method (codes "print") ((of_class (codes "Ljava/lang/String;")) ∷ []) None 0x408 None
-    ∷ method (codes "println") (int ∷ []) None 0x408 None ∷ []) []
+    ∷ method (codes "println") (of_int ∷ []) None 0x408 None ∷ []) []
 
 abbrev pub throwable_class : ClassInfo
 throwable_class =
@@ -308,7 +308,7 @@ boot_methods =
     info 5 2 [] (1 ∷ []) (15 ∷ []) ∷
     info 5 3 [] [] (37 ∷ 19 ∷ []) ∷
     info 5 4 [] [] (37 ∷ 19 ∷ []) ∷
-    info 5 5 ((array_of char) ∷ []) [] (38 ∷ 19 ∷ []) ∷
+    info 5 5 ((array_of of_char) ∷ []) [] (38 ∷ 19 ∷ []) ∷
     info 5 6 [] [] (19 ∷ []) ∷
     info 5 7 [] (1 ∷ []) [] ∷
     info 5 8 [] (1 ∷ []) (12 ∷ []) ∷
@@ -316,12 +316,12 @@ boot_methods =
     info 7 1 [] [] (39 ∷ []) ∷
     info 7 2 [] [] (37 ∷ 39 ∷ []) ∷
     info 7 3 [] [] (37 ∷ 39 ∷ []) ∷
-    info 7 4 ((array_of char) ∷ []) [] (38 ∷ 39 ∷ []) ∷
+    info 7 4 ((array_of of_char) ∷ []) [] (38 ∷ 39 ∷ []) ∷
     info 7 5 [] [] (39 ∷ []) ∷
     info 7 6 [] [] (15 ∷ 39 ∷ []) ∷
     info 7 7 [] [] (37 ∷ 15 ∷ 39 ∷ []) ∷
     info 7 8 [] [] (37 ∷ 15 ∷ 39 ∷ []) ∷
-    info 7 9 ((array_of char) ∷ []) [] (38 ∷ 15 ∷ 39 ∷ []) ∷
+    info 7 9 ((array_of of_char) ∷ []) [] (38 ∷ 15 ∷ 39 ∷ []) ∷
     info 7 10 [] [] (15 ∷ 39 ∷ []) ∷
     bare 8 0 ∷
     bare 8 1 ∷

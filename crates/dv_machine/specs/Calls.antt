@@ -10,7 +10,7 @@ use Rattle.dv_defs.specs.Pools.{Method, is_static, is_native, is_abstract, is_co
 use Rattle.dv_defs.specs.Order.{instance}
 use Rattle.dv_defs.specs.Op.{Op, Invoke}
 use Rattle.dv_defs.specs.Statics.{At, fetch}
-use Rattle.dv_defs.specs.Demands.{is_own_or_super, is_void, form_of, same_width}
+use Rattle.dv_defs.specs.Demands.{is_own_or_super, is_void, result_width, same_width}
 use Rattle.dv_defs.specs.Heap.{Heap, kind_of}
 use Rattle.dv_machine.specs.State.{Left, Did, Throws, IsStuck, Reads, reading, reg_at, read_ref, read_value, read_args, with_result, Here, left, pushed, type_of}
 use Rattle.dv_machine.specs.Mem.{on_object}
@@ -281,7 +281,7 @@ return_value h a (Some t) = reading (read_value h.image h.shared.heap h.frame.re
 -- a return whose form is not the method's gives no result
 abbrev pub return_form : Here → Width → ℕ → Did Left
 return_form h w a =
-    elim (not (is_void h.own.def.proto.ret) && same_width w (form_of h.own.def.proto.ret)) [
+    elim (not (is_void h.own.def.proto.ret) && same_width w (result_width h.own.def.proto.ret)) [
         true ↦ unless_pending h (return_value h a h.own.def.proto.ret)
       | false ↦ IsStuck why.Result ]
 

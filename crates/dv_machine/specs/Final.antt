@@ -36,8 +36,8 @@ message image heap o = of_value (cell_at heap o (throwable_slot image (codes "me
     of_value (v.Ref (suc s)) = codes ": " ++ utf8 (text_of heap (suc s))
     of_value x = []
 
-abbrev pub class_text : Ty → List ℕ
-class_text t = elim (class_in t.base) [ None ↦ [] | Some name ↦ java_text name ]
+abbrev pub type_text : Ty → List ℕ
+type_text t = elim (class_in t.base) [ None ↦ [] | Some name ↦ java_text name ]
 
 abbrev pub uncaught : Image → Heap → List Thread → ℕ → List ℕ
 uncaught image heap [] k = []
@@ -45,7 +45,7 @@ uncaught image heap (t ∷ ts) k = of_end t.end ++ uncaught image heap ts (suc k
   where
     of_end : End → List ℕ
     of_end (end.Died o) =
-        codes "#uncaught " ++ decimal k ++ codes " " ++ class_text (type_of image heap o) ++ message image heap o ++
+        codes "#uncaught " ++ decimal k ++ codes " " ++ type_text (type_of image heap o) ++ message image heap o ++
         newline
     of_end e = []
 

@@ -18,23 +18,23 @@ use Rattle.dv_defs.specs.declared.image.FieldInfo.{FieldInfo}
 use Rattle.dv_defs.specs.declared.image.MethodInfo.{MethodInfo}
 use Rattle.dv_defs.specs.Types.{of_base}
 
-abbrev pub int : Ty
-int = of_base base.I
+abbrev pub of_int : Ty
+of_int = of_base base.I
 
-abbrev pub long : Ty
-long = of_base base.J
+abbrev pub of_long : Ty
+of_long = of_base base.J
 
-abbrev pub char : Ty
-char = of_base base.C
+abbrev pub of_char : Ty
+of_char = of_base base.C
 
-abbrev pub boolean : Ty
-boolean = of_base base.Z
+abbrev pub of_boolean : Ty
+of_boolean = of_base base.Z
 
-abbrev pub byte : Ty
-byte = of_base base.B
+abbrev pub of_byte : Ty
+of_byte = of_base base.B
 
-abbrev pub short : Ty
-short = of_base base.S
+abbrev pub of_short : Ty
+of_short = of_base base.S
 
 -- a handler of the type at a place of the body's pool, and one that catches all
 abbrev pub catch_type : ℕ → ℕ → Handler

@@ -22,8 +22,8 @@ use Rattle.dv_defs.specs.Heap.{Heap, newest, alloc_object, alloc_array, intern, 
 use Rattle.dv_machine.specs.State.{truth, Reads, Did, Throws, ThrowsRef, IsStuck, Left, Here, on_next, reading, where_room, where_true, reg_at, read_int, read_two, read_long, read_any, read_ref, read_array, read_value, read_single, put, put_long, put_words, gone, with_result, onward, with_heap, type_of}
 use Rattle.dv_machine.specs.Local.{read_arg}
 
-abbrev pub is_zero : ℤ → Bool
-is_zero n = int_eq n (pos 0)
+abbrev pub is_zero_number : ℤ → Bool
+is_zero_number n = int_eq n (pos 0)
 
 -- null throws, an object goes on
 abbrev pub on_object : {A : Type 0} → (ℕ → Did A) → ℕ → Did A
@@ -135,9 +135,9 @@ new_array h a t (negsuc n) = Throws named.NegativeArraySize
 new_array h a t (pos n) = where_room (alloc_array h.shared.heap t n) (λ heap. put_object h a v.Ref (got heap))
 
 -- what iput takes as its receiver
-abbrev pub put_receiver : Here → Field → Value → Reads ℕ
-put_receiver h x (v.UninitThis o) = elim (is_own_field h.own x) [ true ↦ Ok o | false ↦ Err why.Uninitialised ]
-put_receiver h x y = read_ref h.image h.shared.heap (class_type h.image x.info.class.0) y
+abbrev pub read_put_receiver : Here → Field → Value → Reads ℕ
+read_put_receiver h x (v.UninitThis o) = elim (is_own_field h.own x) [ true ↦ Ok o | false ↦ Err why.Uninitialised ]
+read_put_receiver h x y = read_ref h.image h.shared.heap (class_type h.image x.info.class.0) y
 
 abbrev pub get_field : Here → ℕ → Field → ℕ → Did Left
 get_field h a x o = onward h h.shared (put_words h.frame h.next a (words_at h.shared.heap o x.info.slot x.def.ty))
@@ -154,14 +154,14 @@ mem h (IntDivide o a b c) =
         (λ x. 
              reading (read_arg h.frame.regs c)
                  (λ y. 
-                      where_true (not (is_zero y)) named.Arithmetic
+                      where_true (not (is_zero_number y)) named.Arithmetic
                           (onward h h.shared (put h.frame h.next a (v.Num (operate32 o x y))))))
 mem h (LongDivide o a b c) =
     reading (read_long h.frame.regs b)
         (λ x. 
              reading (read_long h.frame.regs c)
                  (λ y. 
-                      where_true (not (is_zero y)) named.Arithmetic
+                      where_true (not (is_zero_number y)) named.Arithmetic
                           (onward h h.shared (put_long h.frame h.next a (operate64 o x y)))))
 mem h (ConstString a s) = where_room (intern h.shared.heap s) (put_object h a v.Ref)
 mem h (ConstClass a t) = where_room (class_object h.shared.heap t) (put_object h a v.Ref)
@@ -195,7 +195,7 @@ mem h (FieldGet s a b x) =
     reading (read_ref h.image h.shared.heap (class_type h.image x.info.class.0) (reg_at h.frame.regs b))
         (on_object (get_field h a x))
 mem h (FieldPut s a b x) =
-    reading (put_receiver h x (reg_at h.frame.regs b))
+    reading (read_put_receiver h x (reg_at h.frame.regs b))
         (λ o. 
              reading (read_value h.image h.shared.heap h.frame.regs a x.def.ty) (λ ys. on_object (put_field h x ys) o))
 mem h (StaticGet s a x) = onward h h.shared (put_words h.frame h.next a (static_words h.shared.heap x.id x.def.ty))

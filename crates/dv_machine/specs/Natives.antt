@@ -52,15 +52,15 @@ abbrev pub same_text : List ℕ → Option Kind → Bool
 same_text s (Some (kind.Str t)) = bytes_eq s t
 same_text s k = false
 
-abbrev pub units_of : List Value → List ℕ
-units_of [] = []
-units_of (x ∷ xs) = bits32 (number_of x) % 65536 ∷ units_of xs
+abbrev pub units_in : List Value → List ℕ
+units_in [] = []
+units_in (x ∷ xs) = bits32 (number_of x) % 65536 ∷ units_in xs
 
 -- count units from start on, where the array has them
 abbrev pub some_chars : Here → ℕ → ℤ → ℤ → Did Left
 some_chars h o (pos start) (pos count) =
     where_true (nat_le (start + count) (length_of h.shared.heap o)) named.IndexOutOfBounds
-        (new_text h (units_of (take count (drop start (cells_at h.shared.heap o)))))
+        (new_text h (units_in (take count (drop start (cells_at h.shared.heap o)))))
 some_chars h o start count = Throws named.IndexOutOfBounds
 
 -- one printing step, whole or not at all

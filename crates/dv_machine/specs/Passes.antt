@@ -18,11 +18,11 @@ use Rattle.dv_defs.specs.Accepting.{Place, static_places}
 abbrev pub States : Type 0
 States = List (Option RegState)
 
-abbrev pub state_at : States → ℕ → Option RegState
-state_at states at = slice_index_or states at None
+abbrev pub state_there : States → ℕ → Option RegState
+state_there states at = slice_index_or states at None
 
 abbrev pub joined_at : Image → States → ℕ → RegState → States
-joined_at image states to s = slice_set states to (elim (state_at states to) [ None ↦ Some s | Some t ↦ Some (join_state image t s) ])
+joined_at image states to s = slice_set states to (elim (state_there states to) [ None ↦ Some s | Some t ↦ Some (join_state image t s) ])
 
 -- where an instruction stands
 abbrev pub given : Image → ℕ → ℕ → RegState → States → States
@@ -52,14 +52,14 @@ abbrev pub passed_over : Image → Code → List Tile → States → States
 passed_over image code [] states = states
 passed_over image code (t ∷ ts) states =
     passed_over image code ts
-        (passed_on image code t.at (fetch image code.method.id t.at) (state_at states t.at) states)
+        (passed_on image code t.at (fetch image code.method.id t.at) (state_there states t.at) states)
 
 abbrev pub passes : Image → Code → ℕ → States → States
 passes image code zero states = states
 passes image code (suc n) states = passes image code n (passed_over image code code.tiles states)
 
-abbrev pub begun : Image → Code → States
-begun image code = Some (entry_state image code.method code.body.registers) ∷ replicate (length code.body.units) None
+abbrev pub states_on_entry : Image → Code → States
+states_on_entry image code = Some (entry_state image code.method code.body.registers) ∷ replicate (length code.body.units) None
 
 abbrev pub broken_at : ℕ → Option Rule → List Place
 broken_at at None = []
@@ -72,12 +72,12 @@ demanded image code x s = None
 abbrev pub broken_in : Image → Code → States → List Tile → List Place
 broken_in image code states [] = []
 broken_in image code states (t ∷ ts) =
-    broken_at t.at (demanded image code (fetch image code.method.id t.at) (state_at states t.at)) ++
+    broken_at t.at (demanded image code (fetch image code.method.id t.at) (state_there states t.at)) ++
     broken_in image code states ts
 
 abbrev pub broken_by : Image → Code → List Place → List Place
 broken_by image code (p ∷ ps) = p ∷ ps
-broken_by image code [] = broken_in image code (passes image code 6 (begun image code)) code.tiles
+broken_by image code [] = broken_in image code (passes image code 6 (states_on_entry image code)) code.tiles
 
 abbrev pub broken_of : Image → Option Code → List Place
 broken_of image None = []

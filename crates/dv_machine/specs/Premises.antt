@@ -13,7 +13,7 @@ use Rattle.dv_defs.specs.Op.{Code, code_at, can_throw}
 use Rattle.dv_defs.specs.Statics.{At, fetch}
 use Rattle.dv_defs.specs.Flow.{is_exit}
 use Rattle.dv_defs.specs.Heap.{Heap, kind_of}
-use Rattle.dv_defs.specs.Monitors.{entry_of}
+use Rattle.dv_defs.specs.Monitors.{wait_of}
 use Rattle.dv_defs.specs.Classes.{state_at}
 use Rattle.dv_machine.specs.State.{Thread, Machine, Left, Did, Go, Throws, ThrowsRef, IsStuck, Reads, Here}
 use Rattle.dv_machine.specs.Step.{gone_on, end_after, here, no_method, no_frame}
@@ -80,7 +80,7 @@ pub record LeftFine (image : Image) (T : Typings) (m : Machine) (t : ℕ) (threa
 -- a throwing step: the instruction can throw, and the thread doesn't wait
 pub record ThrowFine (m : Machine) (t : ℕ) (x : At) : Type 0 where
   pub can : can_throw x.op ≡ true
-  pub apart : entry_of m.shared.monitors t ≡ None
+  pub apart : wait_of m.shared.monitors t ≡ None
 
 -- what an instruction does; it is never stuck
 abbrev pub DidFine : Image → Typings → Machine → ℕ → Thread → At → Did Left → Type 0
@@ -93,7 +93,7 @@ DidFine image T m t thread x stops = Unit {0}
 -- what a record does: it throws no object that is there already
 abbrev pub RecordDidFine : Image → Typings → Machine → ℕ → Thread → Did Left → Type 0
 RecordDidFine image T m t thread (Go l) = LeftFine image T m t thread l
-RecordDidFine image T m t thread (Throws n) = entry_of m.shared.monitors t ≡ None
+RecordDidFine image T m t thread (Throws n) = wait_of m.shared.monitors t ≡ None
 RecordDidFine image T m t thread (ThrowsRef o) = ⊥
 RecordDidFine image T m t thread (IsStuck y) = ⊥
 RecordDidFine image T m t thread stops = Unit {0}

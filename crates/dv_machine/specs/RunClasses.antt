@@ -4,7 +4,7 @@ use Rattle.dv_defs.specs.declared.image.Image.{Image}
 use Rattle.dv_defs.specs.declared.class.Init.TheVariants as init
 use Rattle.dv_defs.specs.Types.{of_class}
 use Rattle.dv_defs.specs.Accepting.{Accepts}
-use Rattle.dv_machine.specs.Images.{int, catch_type, catch_all, entry_over, body, body_with, method, field, with_init, class, info, field_info}
+use Rattle.dv_machine.specs.Images.{of_int, catch_type, catch_all, entry_over, body, body_with, method, field, with_init, class, info, field_info}
 use Rattle.dv_machine.specs.BootImage.{with_boot}
 use Rattle.dv_machine.specs.Outcomes.{lines, outcome, replay_text, steps}
 
@@ -157,7 +157,7 @@ ordering = with_boot
     (method (codes "<clinit>") [] None 8 (Some (body 1 (0x1012 ∷ 0x1071 ∷ 0x0000 ∷ 0x0000 ∷ 0x000e ∷ [])))
     ∷ method (codes "main") [] None 8 (Some (body 1 (0x0071 ∷ 0x0000 ∷ 0x0000 ∷ 0x0060 ∷ 0x0000 ∷ 0x1071 ∷ 0x0001 ∷ 0x0000 ∷ 0x000e ∷ []))) ∷ []) [] ∷
     class (codes "LUpper;") (Some 0) [] 0
-    (with_init (init.Num (pos 7)) (field (codes "x") int 8) ∷ [])
+    (with_init (init.Num (pos 7)) (field (codes "x") of_int 8) ∷ [])
     (method (codes "<clinit>") [] None 8 (Some (body 1 (0x2012 ∷ 0x1071 ∷ 0x0000 ∷ 0x0000 ∷ 0x000e ∷ []))) ∷ []) [] ∷
     class (codes "LLower;") (Some 34) [] 0 []
     (method (codes "<clinit>") [] None 8 (Some (body 1 (0x3012 ∷ 0x1071 ∷ 0x0000 ∷ 0x0000 ∷ 0x000e ∷ [])))

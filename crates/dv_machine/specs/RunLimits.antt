@@ -3,7 +3,7 @@ use Rattle.std.specs.Prelude.{◌≡◌, [], ◌∷◌, Some, None, codes}
 use Rattle.dv_defs.specs.declared.image.Image.{Image}
 use Rattle.dv_defs.specs.Types.{of_class}
 use Rattle.dv_defs.specs.Joins.{array_of}
-use Rattle.dv_machine.specs.Images.{int, body, body_with, method, class, info}
+use Rattle.dv_machine.specs.Images.{of_int, body, body_with, method, class, info}
 use Rattle.dv_machine.specs.BootImage.{with_boot, with_main}
 use Rattle.dv_machine.specs.Outcomes.{usual, lines, outcome, outcome_within}
 
@@ -17,8 +17,8 @@ abbrev pub fitting : Image
 fitting =
     with_main
         (body_with 1 (0x0013 ∷ 0x003e ∷ 0x0023 ∷ 0x0000 ∷ 0x0021 ∷ 0x1071 ∷ 0x0000 ∷ 0x0000 ∷ 0x000e ∷ []) [] []
-             ((array_of int) ∷ []))
-        ((array_of int) ∷ []) [] (40 ∷ [])
+             ((array_of of_int) ∷ []))
+        ((array_of of_int) ∷ []) [] (40 ∷ [])
 
 --   .registers 1
 --   const/16 v0, 0x3f
@@ -30,8 +30,8 @@ abbrev pub filling : Image
 filling =
     with_main
         (body_with 1 (0x0013 ∷ 0x003f ∷ 0x0023 ∷ 0x0000 ∷ 0x0021 ∷ 0x1071 ∷ 0x0000 ∷ 0x0000 ∷ 0x000e ∷ []) [] []
-             ((array_of int) ∷ []))
-        ((array_of int) ∷ []) [] (40 ∷ [])
+             ((array_of of_int) ∷ []))
+        ((array_of of_int) ∷ []) [] (40 ∷ [])
 
 --   .class LMain;
 --   .super Ljava/lang/Object;
@@ -52,7 +52,7 @@ filling =
 abbrev pub deep : Image
 deep = with_boot
     (class (codes "LMain;") (Some 0) [] 0 []
-    (method (codes "f") (int ∷ []) None 8 (Some (body 1 (0x0038 ∷ 0x0007 ∷ 0x00d8 ∷ 0xff00 ∷ 0x1071 ∷ 0x0000 ∷ 0x0000 ∷ 0x000e ∷ [])))
+    (method (codes "f") (of_int ∷ []) None 8 (Some (body 1 (0x0038 ∷ 0x0007 ∷ 0x00d8 ∷ 0xff00 ∷ 0x1071 ∷ 0x0000 ∷ 0x0000 ∷ 0x000e ∷ [])))
     ∷ method (codes "main") [] None 8 (Some (body 1 (0x0013 ∷ 0x03fe ∷ 0x1071 ∷ 0x0000 ∷ 0x0000 ∷ 0x000e ∷ []))) ∷ []) [] ∷ [])
     (info 33 0 [] [] (98 ∷ []) ∷
     info 33 1 [] [] (98 ∷ []) ∷ [])
@@ -77,7 +77,7 @@ deep = with_boot
 abbrev pub deeper : Image
 deeper = with_boot
     (class (codes "LMain;") (Some 0) [] 0 []
-    (method (codes "f") (int ∷ []) None 8 (Some (body 1 (0x0038 ∷ 0x0007 ∷ 0x00d8 ∷ 0xff00 ∷ 0x1071 ∷ 0x0000 ∷ 0x0000 ∷ 0x000e ∷ [])))
+    (method (codes "f") (of_int ∷ []) None 8 (Some (body 1 (0x0038 ∷ 0x0007 ∷ 0x00d8 ∷ 0xff00 ∷ 0x1071 ∷ 0x0000 ∷ 0x0000 ∷ 0x000e ∷ [])))
     ∷ method (codes "main") [] None 8 (Some (body 1 (0x0013 ∷ 0x03ff ∷ 0x1071 ∷ 0x0000 ∷ 0x0000 ∷ 0x000e ∷ []))) ∷ []) [] ∷ [])
     (info 33 0 [] [] (98 ∷ []) ∷
     info 33 1 [] [] (98 ∷ []) ∷ [])
@@ -102,7 +102,7 @@ deeper = with_boot
 abbrev pub wide : Image
 wide = with_boot
     (class (codes "LMain;") (Some 0) [] 0 []
-    (method (codes "f") (int ∷ []) None 8 (Some (body 1 (0x0038 ∷ 0x0007 ∷ 0x00d8 ∷ 0xff00 ∷ 0x1071 ∷ 0x0000 ∷ 0x0000 ∷ 0x000e ∷ [])))
+    (method (codes "f") (of_int ∷ []) None 8 (Some (body 1 (0x0038 ∷ 0x0007 ∷ 0x00d8 ∷ 0xff00 ∷ 0x1071 ∷ 0x0000 ∷ 0x0000 ∷ 0x000e ∷ [])))
     ∷ method (codes "main") [] None 8 (Some (body 1 (0x0013 ∷ 0x003e ∷ 0x1071 ∷ 0x0000 ∷ 0x0000 ∷ 0x000e ∷ []))) ∷ []) [] ∷ [])
     (info 33 0 [] [] (98 ∷ []) ∷
     info 33 1 [] [] (98 ∷ []) ∷ [])
@@ -127,7 +127,7 @@ wide = with_boot
 abbrev pub wider : Image
 wider = with_boot
     (class (codes "LMain;") (Some 0) [] 0 []
-    (method (codes "f") (int ∷ []) None 8 (Some (body 1 (0x0038 ∷ 0x0007 ∷ 0x00d8 ∷ 0xff00 ∷ 0x1071 ∷ 0x0000 ∷ 0x0000 ∷ 0x000e ∷ [])))
+    (method (codes "f") (of_int ∷ []) None 8 (Some (body 1 (0x0038 ∷ 0x0007 ∷ 0x00d8 ∷ 0xff00 ∷ 0x1071 ∷ 0x0000 ∷ 0x0000 ∷ 0x000e ∷ [])))
     ∷ method (codes "main") [] None 8 (Some (body 1 (0x0013 ∷ 0x003f ∷ 0x1071 ∷ 0x0000 ∷ 0x0000 ∷ 0x000e ∷ []))) ∷ []) [] ∷ [])
     (info 33 0 [] [] (98 ∷ []) ∷
     info 33 1 [] [] (98 ∷ []) ∷ [])

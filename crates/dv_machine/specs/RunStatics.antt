@@ -3,7 +3,7 @@ use Rattle.std.specs.Prelude.{◌≡◌, [], ◌∷◌, Some, None, codes}
 use Rattle.dv_defs.specs.declared.image.Image.{Image}
 use Rattle.dv_defs.specs.Types.{of_class}
 use Rattle.dv_defs.specs.Joins.{array_of}
-use Rattle.dv_machine.specs.Images.{int, char, catch_type, catch_all, entry_over, body, body_with, method, field, class, info, field_info}
+use Rattle.dv_machine.specs.Images.{of_int, of_char, catch_type, catch_all, entry_over, body, body_with, method, field, class, info, field_info}
 use Rattle.dv_machine.specs.BootImage.{with_boot}
 use Rattle.dv_machine.specs.Passes.{faults_of, S, V}
 
@@ -197,7 +197,7 @@ use Rattle.dv_machine.specs.Passes.{faults_of, S, V}
 abbrev pub raw_bodies : Image
 raw_bodies = with_boot
     (class (codes "LMain;") (Some 0) [] 0
-    (field (codes "x") int 0 ∷ field (codes "y") int 8 ∷ [])
+    (field (codes "x") of_int 0 ∷ field (codes "y") of_int 8 ∷ [])
     (method (codes "<clinit>") [] None 8 (Some (body 0 (0x000e ∷ [])))
     ∷ method (codes "middle") [] None 8 (Some (body 1 (0x0228 ∷ 0x0013 ∷ 0x0005 ∷ 0x000e ∷ [])))
     ∷ method (codes "payload_flow") [] None 8 (Some (body 1 (0x0000 ∷ 0x0000 ∷ 0x0100 ∷ 0x0000 ∷ 0x0000 ∷ 0x0000 ∷ [])))
@@ -218,7 +218,7 @@ raw_bodies = with_boot
     ∷ method (codes "last_key") [] None 8 (Some (body 1 (0x002b ∷ 0x0004 ∷ 0x0000 ∷ 0x000e ∷ 0x0100 ∷ 0x0002 ∷ 0xffff ∷ 0x7fff ∷ 0x0003 ∷ 0x0000 ∷ 0x0003 ∷ 0x0000 ∷ [])))
     ∷ method (codes "register") [] None 8 (Some (body 1 (0x0112 ∷ 0x000e ∷ [])))
     ∷ method (codes "half_outside") [] None 8 (Some (body 1 (0x0016 ∷ 0x0000 ∷ 0x000e ∷ [])))
-    ∷ method (codes "few") (int ∷ int ∷ []) None 8 (Some (body 1 (0x000e ∷ [])))
+    ∷ method (codes "few") (of_int ∷ of_int ∷ []) None 8 (Some (body 1 (0x000e ∷ [])))
     ∷ method (codes "no_string") [] None 8 (Some (body 1 (0x001a ∷ 0x0000 ∷ 0x000e ∷ [])))
     ∷ method (codes "no_long_field") [] None 8 (Some (body 1 (0x0061 ∷ 0x0000 ∷ 0x000e ∷ [])))
     ∷ method (codes "instance_form") [] None 8 (Some (body 1 (0x0060 ∷ 0x0000 ∷ 0x000e ∷ [])))
@@ -227,11 +227,11 @@ raw_bodies = with_boot
     ∷ method (codes "initialiser") [] None 8 (Some (body 0 (0x0071 ∷ 0x0000 ∷ 0x0000 ∷ 0x000e ∷ [])))
     ∷ method (codes "words") [] None 8 (Some (body 1 (0x1071 ∷ 0x0000 ∷ 0x0000 ∷ 0x000e ∷ [])))
     ∷ method (codes "interface") [] None 8 (Some (body_with 1 (0x0022 ∷ 0x0000 ∷ 0x000e ∷ []) [] [] ((of_class (codes "Ljava/lang/Runnable;")) ∷ [])))
-    ∷ method (codes "array") [] None 8 (Some (body_with 1 (0x0022 ∷ 0x0000 ∷ 0x000e ∷ []) [] [] ((array_of int) ∷ [])))
-    ∷ method (codes "primitive") [] None 8 (Some (body_with 1 (0x0022 ∷ 0x0000 ∷ 0x000e ∷ []) [] [] (int ∷ [])))
+    ∷ method (codes "array") [] None 8 (Some (body_with 1 (0x0022 ∷ 0x0000 ∷ 0x000e ∷ []) [] [] ((array_of of_int) ∷ [])))
+    ∷ method (codes "primitive") [] None 8 (Some (body_with 1 (0x0022 ∷ 0x0000 ∷ 0x000e ∷ []) [] [] (of_int ∷ [])))
     ∷ method (codes "no_array") [] None 8 (Some (body_with 1 (0x0023 ∷ 0x0000 ∷ 0x000e ∷ []) [] [] ((of_class (codes "Ljava/lang/Object;")) ∷ [])))
-    ∷ method (codes "chars") [] None 8 (Some (body_with 1 (0x1024 ∷ 0x0000 ∷ 0x0000 ∷ 0x000e ∷ []) [] [] ((array_of char) ∷ [])))
-    ∷ method (codes "cast") [] None 8 (Some (body_with 1 (0x001f ∷ 0x0000 ∷ 0x000e ∷ []) [] [] (int ∷ [])))
+    ∷ method (codes "chars") [] None 8 (Some (body_with 1 (0x1024 ∷ 0x0000 ∷ 0x0000 ∷ 0x000e ∷ []) [] [] ((array_of of_char) ∷ [])))
+    ∷ method (codes "cast") [] None 8 (Some (body_with 1 (0x001f ∷ 0x0000 ∷ 0x000e ∷ []) [] [] (of_int ∷ [])))
     ∷ method (codes "empty_try") [] None 8 (Some (body_with 0 (0x0000 ∷ 0x000e ∷ []) (entry_over 0 0 (catch_all 0 ∷ []) ∷ []) [] []))
     ∷ method (codes "overlap") [] None 8 (Some (body_with 0 (0x0000 ∷ 0x0000 ∷ 0x000e ∷ []) (entry_over 0 2 (catch_all 0 ∷ []) ∷ entry_over 1 3 (catch_all 0 ∷ []) ∷ []) [] []))
     ∷ method (codes "ends_inside") [] None 8 (Some (body_with 1 (0x0013 ∷ 0x0005 ∷ 0x000e ∷ []) (entry_over 0 1 (catch_all 2 ∷ []) ∷ []) [] []))
@@ -268,11 +268,11 @@ raw_bodies = with_boot
     info 33 26 [] [] (98 ∷ []) ∷
     info 33 27 [] [] (105 ∷ []) ∷
     info 33 28 ((of_class (codes "Ljava/lang/Runnable;")) ∷ []) [] [] ∷
-    info 33 29 ((array_of int) ∷ []) [] [] ∷
-    info 33 30 (int ∷ []) [] [] ∷
+    info 33 29 ((array_of of_int) ∷ []) [] [] ∷
+    info 33 30 (of_int ∷ []) [] [] ∷
     info 33 31 ((of_class (codes "Ljava/lang/Object;")) ∷ []) [] [] ∷
-    info 33 32 ((array_of char) ∷ []) [] [] ∷
-    info 33 33 (int ∷ []) [] [] ∷
+    info 33 32 ((array_of of_char) ∷ []) [] [] ∷
+    info 33 33 (of_int ∷ []) [] [] ∷
     info 33 34 [] [] [] ∷
     info 33 35 [] [] [] ∷
     info 33 36 [] [] [] ∷

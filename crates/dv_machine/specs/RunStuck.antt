@@ -74,8 +74,8 @@ resultless = with_main (body 1 (0x000a ∷ 0x000e ∷ [])) [] [] []
 --   .registers 1
 --   move-exception v0
 --   return-void
-abbrev pub uncaught : Image
-uncaught = with_main (body 1 (0x000d ∷ 0x000e ∷ [])) [] [] []
+abbrev pub uncaught_program : Image
+uncaught_program = with_main (body 1 (0x000d ∷ 0x000e ∷ [])) [] [] []
 
 --   .registers 1
 --   nop
@@ -113,7 +113,7 @@ pub record StuckReasons : Type 0 where
   -- no result is pending
   pub resultless_is_stuck : outcome resultless 98 ≡ codes "stuck: no result"
   -- no exception was caught
-  pub uncaught_is_stuck : outcome uncaught 98 ≡ codes "stuck: no pending exception"
+  pub uncaught_is_stuck : outcome uncaught_program 98 ≡ codes "stuck: no pending exception"
   -- control fell off the end
   pub falls_off_is_stuck : outcome falls_off 98 ≡ codes "stuck: no instruction here"
   -- a constructor is called twice

@@ -4,7 +4,7 @@ use Rattle.dv_defs.specs.declared.image.Image.{Image}
 use Rattle.dv_defs.specs.Types.{of_class}
 use Rattle.dv_defs.specs.Joins.{array_of}
 use Rattle.dv_defs.specs.Accepting.{Accepts}
-use Rattle.dv_machine.specs.Images.{int, boolean, catch_type, catch_all, entry_over, body, body_with, method, field, class, info, field_info}
+use Rattle.dv_machine.specs.Images.{of_int, of_boolean, catch_type, catch_all, entry_over, body, body_with, method, field, class, info, field_info}
 use Rattle.dv_machine.specs.BootImage.{with_boot}
 use Rattle.dv_machine.specs.Outcomes.{lines, outcome}
 
@@ -93,8 +93,8 @@ use Rattle.dv_machine.specs.Outcomes.{lines, outcome}
 --   monitor-exit v0
 --   return-void
 --   .end method
-abbrev pub waiting : Image
-waiting = with_boot
+abbrev pub waiting_program : Image
+waiting_program = with_boot
     (class (codes "LMain;") (Some 0) [] 0
     (field (codes "o") (of_class (codes "Ljava/lang/Object;")) 8 ∷ [])
     (method (codes "main") [] None 8 (Some (body_with 3 (0x0022 ∷ 0x0000 ∷ 0x1070 ∷ 0x0000 ∷ 0x0000 ∷ 0x0069 ∷ 0x0000 ∷ 0x0122 ∷ 0x0001 ∷ 0x1070 ∷ 0x0001 ∷ 0x0001 ∷ 0x001d ∷ 0x001d ∷ 0x106e ∷ 0x0002 ∷ 0x0001 ∷ 0x106e ∷ 0x0003 ∷ 0x0000 ∷ 0x001e ∷ 0x001e ∷ 0x2212 ∷ 0x1071 ∷ 0x0004 ∷ 0x0002 ∷ 0x001e ∷ 0x000e ∷ []) [] [] ((of_class (codes "Ljava/lang/Object;")) ∷ (of_class (codes "LT;")) ∷ [])))
@@ -244,10 +244,10 @@ waiting = with_boot
 abbrev pub boxing : Image
 boxing = with_boot
     (class (codes "LBox;") (Some 0) [] 0
-    (field (codes "full") boolean 2 ∷ field (codes "value") int 2 ∷ [])
+    (field (codes "full") of_boolean 2 ∷ field (codes "value") of_int 2 ∷ [])
     (method (codes "<init>") [] None 0 (Some (body 1 (0x1070 ∷ 0x0000 ∷ 0x0000 ∷ 0x000e ∷ [])))
-    ∷ method (codes "put") (int ∷ []) None 0 (Some (body_with 4 (0x021d ∷ 0x2055 ∷ 0x0000 ∷ 0x0038 ∷ 0x0006 ∷ 0x106e ∷ 0x0000 ∷ 0x0002 ∷ 0xf928 ∷ 0x2359 ∷ 0x0001 ∷ 0x1012 ∷ 0x205c ∷ 0x0000 ∷ 0x106e ∷ 0x0001 ∷ 0x0002 ∷ 0x021e ∷ 0x000e ∷ 0x000d ∷ 0x021e ∷ 0x0027 ∷ []) (entry_over 1 17 (catch_all 19 ∷ []) ∷ []) [] []))
-    ∷ method (codes "take") [] (Some int) 0 (Some (body_with 3 (0x021d ∷ 0x2055 ∷ 0x0000 ∷ 0x0039 ∷ 0x0006 ∷ 0x106e ∷ 0x0000 ∷ 0x0002 ∷ 0xf928 ∷ 0x0012 ∷ 0x205c ∷ 0x0000 ∷ 0x106e ∷ 0x0001 ∷ 0x0002 ∷ 0x2052 ∷ 0x0001 ∷ 0x021e ∷ 0x000f ∷ 0x000d ∷ 0x021e ∷ 0x0027 ∷ []) (entry_over 1 17 (catch_all 19 ∷ []) ∷ []) [] [])) ∷ []) (5 ∷ 6 ∷ []) ∷
+    ∷ method (codes "put") (of_int ∷ []) None 0 (Some (body_with 4 (0x021d ∷ 0x2055 ∷ 0x0000 ∷ 0x0038 ∷ 0x0006 ∷ 0x106e ∷ 0x0000 ∷ 0x0002 ∷ 0xf928 ∷ 0x2359 ∷ 0x0001 ∷ 0x1012 ∷ 0x205c ∷ 0x0000 ∷ 0x106e ∷ 0x0001 ∷ 0x0002 ∷ 0x021e ∷ 0x000e ∷ 0x000d ∷ 0x021e ∷ 0x0027 ∷ []) (entry_over 1 17 (catch_all 19 ∷ []) ∷ []) [] []))
+    ∷ method (codes "take") [] (Some of_int) 0 (Some (body_with 3 (0x021d ∷ 0x2055 ∷ 0x0000 ∷ 0x0039 ∷ 0x0006 ∷ 0x106e ∷ 0x0000 ∷ 0x0002 ∷ 0xf928 ∷ 0x0012 ∷ 0x205c ∷ 0x0000 ∷ 0x106e ∷ 0x0001 ∷ 0x0002 ∷ 0x2052 ∷ 0x0001 ∷ 0x021e ∷ 0x000f ∷ 0x000d ∷ 0x021e ∷ 0x0027 ∷ []) (entry_over 1 17 (catch_all 19 ∷ []) ∷ []) [] [])) ∷ []) (5 ∷ 6 ∷ []) ∷
     class (codes "LMaker;") (Some 3) [] 0
     (field (codes "box") (of_class (codes "LBox;")) 0x10 ∷ [])
     (method (codes "<init>") ((of_class (codes "LBox;")) ∷ []) None 0 (Some (body 2 (0x1070 ∷ 0x0000 ∷ 0x0000 ∷ 0x015b ∷ 0x0000 ∷ 0x000e ∷ [])))
@@ -340,15 +340,15 @@ boxing = with_boot
 abbrev pub summing : Image
 summing = with_boot
     (class (codes "LG0;") (Some 0) [] 0 []
-    (method (codes "s") (int ∷ []) (Some int) 8 (Some (body 2 (0x0014 ∷ 0x0005 ∷ 0x0000 ∷ 0x0197 ∷ 0x0001 ∷ 0x01da ∷ 0x1f01 ∷ 0x0013 ∷ 0x0000 ∷ 0x0190 ∷ 0x0001 ∷ 0x010f ∷ []))) ∷ []) [] ∷
+    (method (codes "s") (of_int ∷ []) (Some of_int) 8 (Some (body 2 (0x0014 ∷ 0x0005 ∷ 0x0000 ∷ 0x0197 ∷ 0x0001 ∷ 0x01da ∷ 0x1f01 ∷ 0x0013 ∷ 0x0000 ∷ 0x0190 ∷ 0x0001 ∷ 0x010f ∷ []))) ∷ []) [] ∷
     class (codes "LG1;") (Some 0) [] 0 []
-    (method (codes "s") (int ∷ []) (Some int) 8 (Some (body 2 (0x0014 ∷ 0x4248 ∷ 0x000f ∷ 0x0197 ∷ 0x0001 ∷ 0x01da ∷ 0x1f01 ∷ 0x0013 ∷ 0x0001 ∷ 0x0190 ∷ 0x0001 ∷ 0x010f ∷ []))) ∷ []) [] ∷
+    (method (codes "s") (of_int ∷ []) (Some of_int) 8 (Some (body 2 (0x0014 ∷ 0x4248 ∷ 0x000f ∷ 0x0197 ∷ 0x0001 ∷ 0x01da ∷ 0x1f01 ∷ 0x0013 ∷ 0x0001 ∷ 0x0190 ∷ 0x0001 ∷ 0x010f ∷ []))) ∷ []) [] ∷
     class (codes "LW;") (Some 3) [] 0
-    (field (codes "id") int 0 ∷ [])
-    (method (codes "<init>") (int ∷ []) None 0 (Some (body 2 (0x1070 ∷ 0x0000 ∷ 0x0000 ∷ 0x0159 ∷ 0x0000 ∷ 0x000e ∷ [])))
+    (field (codes "id") of_int 0 ∷ [])
+    (method (codes "<init>") (of_int ∷ []) None 0 (Some (body 2 (0x1070 ∷ 0x0000 ∷ 0x0000 ∷ 0x0159 ∷ 0x0000 ∷ 0x000e ∷ [])))
     ∷ method (codes "run") [] None 0 (Some (body 4 (0x3052 ∷ 0x0000 ∷ 0x1071 ∷ 0x0000 ∷ 0x0000 ∷ 0x000a ∷ 0x1071 ∷ 0x0001 ∷ 0x0000 ∷ 0x000a ∷ 0x0162 ∷ 0x0001 ∷ 0x011d ∷ 0x0260 ∷ 0x0002 ∷ 0x0290 ∷ 0x0002 ∷ 0x0267 ∷ 0x0002 ∷ 0x011e ∷ 0x000e ∷ []))) ∷ []) (0 ∷ 5 ∷ []) ∷
     class (codes "LMain;") (Some 0) [] 0
-    (field (codes "total") int 8 ∷ field (codes "lock") (of_class (codes "Ljava/lang/Object;")) 8 ∷ [])
+    (field (codes "total") of_int 8 ∷ field (codes "lock") (of_class (codes "Ljava/lang/Object;")) 8 ∷ [])
     (method (codes "main") [] None 8 (Some (body_with 4 (0x0022 ∷ 0x0000 ∷ 0x1070 ∷ 0x0000 ∷ 0x0000 ∷ 0x0069 ∷ 0x0000 ∷ 0x0013 ∷ 0x0002 ∷ 0x0123 ∷ 0x0001 ∷ 0x0212 ∷ 0x0322 ∷ 0x0002 ∷ 0x2070 ∷ 0x0001 ∷ 0x0023 ∷ 0x034d ∷ 0x0201 ∷ 0x106e ∷ 0x0002 ∷ 0x0003 ∷ 0x02d8 ∷ 0x0102 ∷ 0x0234 ∷ 0xfff4 ∷ 0x0212 ∷ 0x0346 ∷ 0x0201 ∷ 0x106e ∷ 0x0003 ∷ 0x0003 ∷ 0x02d8 ∷ 0x0102 ∷ 0x0234 ∷ 0xfff9 ∷ 0x0060 ∷ 0x0001 ∷ 0x1071 ∷ 0x0004 ∷ 0x0000 ∷ 0x000e ∷ []) [] [] ((of_class (codes "Ljava/lang/Object;")) ∷ (array_of (of_class (codes "LW;"))) ∷ (of_class (codes "LW;")) ∷ []))) ∷ []) [] ∷ [])
     (info 33 0 [] [] [] ∷
     info 34 0 [] [] [] ∷
@@ -360,25 +360,25 @@ summing = with_boot
 -- threads and monitors
 pub record Threads : Type 0 where
   -- the program is accepted
-  pub waiting_is_accepted : Accepts waiting
+  pub waiting_is_accepted : Accepts waiting_program
   -- wait gives up a monitor held twice and takes it back twice
   pub wait_keeps_the_count :
-      outcome waiting 98 ≡ lines
+      outcome waiting_program 98 ≡ lines
           (codes "2" ∷ codes "#uncaught 0 java.lang.IllegalMonitorStateException" ∷ codes "#end done" ∷ [])
   -- wait without the monitor
   pub wait_without_the_monitor :
-      outcome waiting 99 ≡ lines (codes "#uncaught 0 java.lang.IllegalMonitorStateException" ∷ codes "#end done" ∷ [])
+      outcome waiting_program 99 ≡ lines (codes "#uncaught 0 java.lang.IllegalMonitorStateException" ∷ codes "#end done" ∷ [])
   -- a wait that nobody notifies
-  pub waits_forever : outcome waiting 100 ≡ lines (codes "#blocked 0 wait" ∷ codes "#end blocked" ∷ [])
+  pub waits_forever : outcome waiting_program 100 ≡ lines (codes "#blocked 0 wait" ∷ codes "#end blocked" ∷ [])
   -- join of a thread that wasn't started, of one that runs, and a second start
   pub joins_an_ended_thread :
-      outcome waiting 101 ≡ lines
+      outcome waiting_program 101 ≡ lines
           (codes "5" ∷ codes "#uncaught 0 java.lang.IllegalThreadStateException" ∷ codes "#end done" ∷ [])
   -- a thread that joins itself
-  pub joins_itself : outcome waiting 102 ≡ lines (codes "#blocked 0 join 0" ∷ codes "#end blocked" ∷ [])
+  pub joins_itself : outcome waiting_program 102 ≡ lines (codes "#blocked 0 join 0" ∷ codes "#end blocked" ∷ [])
   -- a monitor that is never given up
   pub holds_what_the_other_enters :
-      outcome waiting 103 ≡ lines (codes "#blocked 0 join 1" ∷ codes "#blocked 1 monitor" ∷ codes "#end blocked" ∷ [])
+      outcome waiting_program 103 ≡ lines (codes "#blocked 0 join 1" ∷ codes "#blocked 1 monitor" ∷ codes "#end blocked" ∷ [])
   -- a producer and a consumer
   pub producer_and_consumer :
       outcome boxing 103 ≡ lines

@@ -2,7 +2,7 @@
 use Rattle.std.specs.Prelude.{◌≡◌, [], ◌∷◌, Some, None, codes}
 use Rattle.dv_defs.specs.declared.image.Image.{Image}
 use Rattle.dv_defs.specs.Types.{of_class}
-use Rattle.dv_machine.specs.Images.{int, body, body_with, method, field, class, info, field_info}
+use Rattle.dv_machine.specs.Images.{of_int, body, body_with, method, field, class, info, field_info}
 use Rattle.dv_machine.specs.BootImage.{with_boot, with_main}
 use Rattle.dv_machine.specs.Passes.{faults_of, V}
 
@@ -134,7 +134,7 @@ puts_upper = with_boot
     (class (codes "LMain;") (Some 0) [] 0 []
     (method (codes "main") [] None 8 (Some (body 0 (0x000e ∷ []))) ∷ []) [] ∷
     class (codes "LUpper;") (Some 0) [] 0
-    (field (codes "x") int 0 ∷ [])
+    (field (codes "x") of_int 0 ∷ [])
     (method (codes "<init>") [] None 0 (Some (body 1 (0x1070 ∷ 0x0000 ∷ 0x0000 ∷ 0x000e ∷ []))) ∷ []) (5 ∷ []) ∷
     class (codes "LLower;") (Some 34) [] 0 []
     (method (codes "<init>") [] None 0 (Some (body 2 (0x1012 ∷ 0x1059 ∷ 0x0000 ∷ 0x1070 ∷ 0x0000 ∷ 0x0001 ∷ 0x000e ∷ []))) ∷ []) (5 ∷ []) ∷ [])

@@ -20,7 +20,7 @@ use Rattle.dv_defs.specs.Parts.{Call}
 use Rattle.dv_defs.specs.Pools.{Method, method_at}
 use Rattle.dv_defs.specs.Op.{Op, Enter, Invoke, needs}
 use Rattle.dv_defs.specs.Statics.{At, fetch}
-use Rattle.dv_defs.specs.Monitors.{Wait, Monitors, owner_of, entry_of}
+use Rattle.dv_defs.specs.Monitors.{Wait, Monitors, owner_of, wait_of}
 use Rattle.dv_defs.specs.Classes.{Classes, ask_of}
 use Rattle.dv_machine.specs.State.{Thread, Machine, reg_at}
 use Rattle.dv_machine.specs.Calls.{Landing, Lands, Lacks, dispatch, native_of, receiver_of}
@@ -52,7 +52,7 @@ abbrev pub blocked_waiting : Wait → Option ℕ → Option Blocked
 blocked_waiting w owner = elim w.notified [ false ↦ Some blocked.Wait | true ↦ elim owner [ None ↦ None | Some u ↦ Some blocked.Monitor ] ]
 
 abbrev pub blocked_wait : Monitors → ℕ → Option Blocked
-blocked_wait ms t = elim (entry_of ms t) [ None ↦ None | Some w ↦ blocked_waiting w (owner_of ms w.object) ]
+blocked_wait ms t = elim (wait_of ms t) [ None ↦ None | Some w ↦ blocked_waiting w (owner_of ms w.object) ]
 
 abbrev pub blocked_join : List Thread → ℕ → Option Blocked
 blocked_join ts o =

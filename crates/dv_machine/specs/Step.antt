@@ -85,14 +85,14 @@ record_step h c false = look_at h c (prior h.image c)
 -- ---- what becomes of an outcome
 
 -- one thread's step has been done
-abbrev pub listed : Option Thread → List Thread
-listed None = []
-listed (Some t) = t ∷ []
+abbrev pub started_threads : Option Thread → List Thread
+started_threads None = []
+started_threads (Some t) = t ∷ []
 
 abbrev pub with_thread : Machine → ℕ → Thread → Left → Machine
 with_thread m t th l =
     record {
-        threads = slice_set m.threads t th ++ listed l.started;
+        threads = slice_set m.threads t th ++ started_threads l.started;
         shared = l.shared;
         steps = suc m.steps;
         stop = m.stop;

@@ -8,7 +8,7 @@ use Rattle.dv_defs.specs.declared.machine.End.{End}
 use Rattle.dv_defs.specs.declared.machine.End.TheVariants as end
 use Rattle.dv_defs.specs.Pools.{Method, is_abstract, nearest, no_arguments}
 use Rattle.dv_defs.specs.Heap.{kind_of}
-use Rattle.dv_defs.specs.Monitors.{Wait, held_of, owner_of, entered, exited, waiting, notified_one, notified_all, entry_of, resumed}
+use Rattle.dv_defs.specs.Monitors.{Wait, held_of, owner_of, entered, exited, waiting, notified_one, notified_all, wait_of, resumed}
 use Rattle.dv_machine.specs.State.{Thread, Shared, Left, Did, Go, Throws, where_true, gone, Here, onward, with_monitors}
 use Rattle.dv_machine.specs.Calls.{class_of_kind, entered_frame}
 
@@ -49,7 +49,7 @@ taken_back h w notified owner = stays h
 -- the first step gives the monitor up wholly and waits, the second takes it back as often as it was held
 abbrev pub wait_on : Here → ℕ → Did Left
 wait_on h o =
-    elim (entry_of h.shared.monitors h.thread) [
+    elim (wait_of h.shared.monitors h.thread) [
         Some w ↦ taken_back h w w.notified (owner_of h.shared.monitors w.object)
       | None ↦ holding h o (λ n. onward h (with_monitors h.shared (waiting h.shared.monitors o h.thread n)) h.frame) ]
 

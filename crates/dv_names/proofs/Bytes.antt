@@ -5,7 +5,7 @@ use Rattle.std.proofs.lemmas.Bool.{cond-true, cond-false, ne_eqb, lt-ltb, le-ltb
 use Rattle.dv_defs.specs.declared.names.Base.{Base}
 use Rattle.dv_defs.specs.declared.names.Base.TheVariants as base
 use Rattle.dv_names.specs.Descriptors.{base_text, IsBase}
-use Rattle.dv_names.specs.Grammar.{Place, Before, Mode, Array, Name, primitive_of, step}
+use Rattle.dv_names.specs.Grammar.{Position, Before, Mode, Array, Name, primitive_of, step}
 
 -- ---- types
 
@@ -13,17 +13,17 @@ none_else : (n b : ℕ) → (n < 255 → b ≡ 91 → ⊥) → (m : Option Mode)
 none_else n b h m e =
     elim (cases_lt n 255) [ inl lt ↦ absurd (h lt e) | inr le ↦ cond-false (ltb n 255) m None (le-ltb n 255 le) ]
 
-pub step_no_type : (p : Place) (n b : ℕ) → (n < 255 → b ≡ 91 → ⊥) → primitive_of b ≡ None → (b ≡ 76 → ⊥) → step (Array p n) b ≡ None
+pub step_no_type : (p : Position) (n b : ℕ) → (n < 255 → b ≡ 91 → ⊥) → primitive_of b ≡ None → (b ≡ 76 → ⊥) → step (Array p n) b ≡ None
 step_no_type p n b most none other =
     elim (cases_eq b 91) [
       | inl e ↦ cond-true (eqb b 91) _ _ (eq-eqb b 91 e) ∙ none_else n b most _ e
       | inr ne ↦ cond-false (eqb b 91) _ _ (ne_eqb b 91 ne) ∙ cond-false (is_some (primitive_of b)) _ _ (ap is_some none) ∙ cond-false (eqb b 76) _ _ (ne_eqb b 76 other)
     ]
 
-pub step_bracket : (p : Place) (n : ℕ) → n < 255 → step (Array p n) 91 ≡ Some (Array p (suc n))
+pub step_bracket : (p : Position) (n : ℕ) → n < 255 → step (Array p n) 91 ≡ Some (Array p (suc n))
 step_bracket p n lt = cond-true (ltb n 255) _ _ (lt-ltb n 255 lt)
 
-pub step_class : (p : Place) (n b : ℕ) → b ≡ 76 → step (Array p n) b ≡ Some (Name p Before)
+pub step_class : (p : Position) (n b : ℕ) → b ≡ 76 → step (Array p n) b ≡ Some (Name p Before)
 step_class p n b e = ap (step (Array p n)) e
 
 -- ---- primitive types

@@ -7,24 +7,24 @@ use Rattle.std.proofs.lemmas.List.{append_assoc}
 use Rattle.std.proofs.lemmas.Slice.Eq.{bytes_eq-Decides}
 use Rattle.std.proofs.lemmas.Bool.{cond-true, cond-false, and_parts, and_from, or_cases, or_left, or_right, ltb-true, lt-ltb, eq-eqb, ne_eqb, cases_Bool, cases_eq}
 use Rattle.dv_names.specs.Descriptors.{is_name_byte, is_plain_name, is_special_name, is_name, IsClassName}
-use Rattle.dv_names.specs.Grammar.{Place, Alone, Part, Before, Within, Angle, Special, Mode, Array, Name, Whole, behind, step_behind, step, after}
+use Rattle.dv_names.specs.Grammar.{Position, Alone, Part, Before, Within, Angle, Special, Mode, Array, Name, Whole, behind, step_behind, step, after}
 use Rattle.dv_names.proofs.Steps.{after_both}
 
 -- ---- from names to bytes
 
-pub name_bytes_run : (p : Place) (w : List ℕ) → list_all is_name_byte w ≡ true → after (Name p Within) w ≡ Some (Name p Within)
+pub name_bytes_run : (p : Position) (w : List ℕ) → list_all is_name_byte w ≡ true → after (Name p Within) w ≡ Some (Name p Within)
 name_bytes_run p [] are = refl
 name_bytes_run p (b ∷ w) are =
     let parts = and_parts (is_name_byte b) (list_all is_name_byte w) are in
     ap (option_and_then (λ n. after n w)) (cond-true (is_name_byte b) _ _ parts.0) ∙ name_bytes_run p w parts.1
 
-pub plain_run : (p : Place) (w : List ℕ) → 0 < length w → list_all is_name_byte w ≡ true → after (Name p Before) w ≡ Some (Name p Within)
+pub plain_run : (p : Position) (w : List ℕ) → 0 < length w → list_all is_name_byte w ≡ true → after (Name p Before) w ≡ Some (Name p Within)
 plain_run p [] some are = absurd (omega arith)
 plain_run p (b ∷ w) some are =
     let parts = and_parts (is_name_byte b) (list_all is_name_byte w) are in
     ap (option_and_then (λ n. after n w)) (cond-true (is_name_byte b) _ _ parts.0) ∙ name_bytes_run p w parts.1
 
-pub special_run : (p : Place) (w : List ℕ) → is_special_name w ≡ true → after (Name p Before) w ≡ Some (Name p (Special []))
+pub special_run : (p : Position) (w : List ℕ) → is_special_name w ≡ true → after (Name p Before) w ≡ Some (Name p (Special []))
 special_run p w is =
     elim (or_cases (bytes_eq w (codes "<init>")) (bytes_eq w (codes "<clinit>")) is) [
       | inl e ↦ ap (after (Name p Before)) ((bytes_eq-Decides w (codes "<init>")).0 e)
@@ -32,7 +32,7 @@ special_run p w is =
     ]
 
 -- a whole name, which something follows that goes on no name
-pub name_run : (p : Place) (name more : List ℕ) (b : ℕ) → is_name name ≡ true → is_name_byte b ≡ false → after (Name p Before) (name ++ b ∷ more) ≡ after (Name p (Special [])) (b ∷ more)
+pub name_run : (p : Position) (name more : List ℕ) (b : ℕ) → is_name name ≡ true → is_name_byte b ≡ false → after (Name p Before) (name ++ b ∷ more) ≡ after (Name p (Special [])) (b ∷ more)
 name_run p name more b is no_more =
     elim (or_cases (is_plain_name name) (is_special_name name) is) [
       | inl plain ↦
@@ -42,7 +42,7 @@ name_run p name more b is no_more =
       | inr special ↦ after_both name (b ∷ more) (Name p Before) (Name p (Special [])) (special_run p name special)
     ]
 
-names_run : (p : Place) (first : List ℕ) (others : List (List ℕ)) → is_name first ≡ true → list_all is_name others ≡ true
+names_run : (p : Position) (first : List ℕ) (others : List (List ℕ)) → is_name first ≡ true → list_all is_name others ≡ true
     → after (Name p Before) (join_with_byte 47 (first ∷ others) ++ 59 ∷ []) ≡ Some (behind p)
 names_run p first [] is names = name_run p first [] 59 is refl
 names_run p first (next ∷ others) is names =
@@ -50,7 +50,7 @@ names_run p first (next ∷ others) is names =
     let rest = join_with_byte 47 (next ∷ others) in
     ap (after (Name p Before)) (append_assoc first (47 ∷ rest) (59 ∷ [])) ∙ name_run p first (rest ++ 59 ∷ []) 47 is refl ∙ names_run p next others both.0 both.1
 
-pub class_run : (p : Place) (n : ℕ) (text : List ℕ) → IsClassName text → after (Array p n) text ≡ Some (behind p)
+pub class_run : (p : Position) (n : ℕ) (text : List ℕ) → IsClassName text → after (Array p n) text ≡ Some (behind p)
 class_run p n text is =
     let both = and_parts (is_name is.first) (list_all is_name is.others) is.are_names in
     ap (after (Array p n)) is.spelled ∙ names_run p is.first is.others both.0 both.1
@@ -65,12 +65,12 @@ IsRest Angle w = is_special_name (60 ∷ w) ≡ true
 IsRest (Special rest) w = w ≡ rest
 
 pub data NameByte (w : Part) (b : ℕ) : Type 0 where
-  Goes : (v : Part) → ((p : Place) → step (Name p w) b ≡ Some (Name p v)) → ((rest : List ℕ) → IsRest v rest → IsRest w (b ∷ rest)) → NameByte w b
-  Slash : b ≡ 47 → IsRest w [] → ((p : Place) → step (Name p w) b ≡ Some (Name p Before)) → NameByte w b
-  Last : b ≡ 59 → IsRest w [] → ((p : Place) → step (Name p w) b ≡ Some (behind p)) → NameByte w b
-  Nowhere : ((p : Place) → step (Name p w) b ≡ None) → NameByte w b
+  Goes : (v : Part) → ((p : Position) → step (Name p w) b ≡ Some (Name p v)) → ((rest : List ℕ) → IsRest v rest → IsRest w (b ∷ rest)) → NameByte w b
+  Slash : b ≡ 47 → IsRest w [] → ((p : Position) → step (Name p w) b ≡ Some (Name p Before)) → NameByte w b
+  Last : b ≡ 59 → IsRest w [] → ((p : Position) → step (Name p w) b ≡ Some (behind p)) → NameByte w b
+  Nowhere : ((p : Position) → step (Name p w) b ≡ None) → NameByte w b
 
-byte_behind : (w : Part) (b : ℕ) → IsRest w [] → ((p : Place) → step (Name p w) b ≡ step_behind p b) → NameByte w b
+byte_behind : (w : Part) (b : ℕ) → IsRest w [] → ((p : Position) → step (Name p w) b ≡ step_behind p b) → NameByte w b
 byte_behind w b whole same =
     elim (cases_eq b 47) [
       | inl is ↦ Slash is whole (λ p. same p ∙ ap (step_behind p) is)

@@ -11,17 +11,17 @@ use Rattle.dv_defs.specs.declared.names.Base.TheVariants as base
 use Rattle.dv_defs.specs.declared.names.Ty.{Ty}
 use Rattle.dv_names.specs.Descriptors.{base_text, descriptor, return_text, IsBase, IsType}
 use Rattle.dv_names.specs.Faults.{IsTypeText, IsProtoText}
-use Rattle.dv_names.specs.Grammar.{Place, Alone, Parameter, Returned, Part, Before, Mode, Open, Parameters, Return, Array, Name, Whole, behind, primitive_of, step, after}
+use Rattle.dv_names.specs.Grammar.{Position, Alone, Parameter, Returned, Part, Before, Mode, Open, Parameters, Return, Array, Name, Whole, behind, primitive_of, step, after}
 use Rattle.dv_names.proofs.Bytes.{step_bracket, step_class, step_no_type, primitive_text}
 use Rattle.dv_names.proofs.Classes.{NameByte, Goes, Slash, Last, Nowhere, name_byte, class_from, none_left, going, stuck}
 
 -- ---- what a byte is to a type, wherever it stands
 
 data TypeByte (k b : ℕ) : Type 0 where
-  Bracket : b ≡ 91 → k < 255 → ((p : Place) → step (Array p k) b ≡ Some (Array p (suc k))) → TypeByte k b
-  Letter : (found : Base) → primitive_of b ≡ Some found → ((p : Place) → step (Array p k) b ≡ Some (behind p)) → TypeByte k b
-  Class : b ≡ 76 → ((p : Place) → step (Array p k) b ≡ Some (Name p Before)) → TypeByte k b
-  Nothing : ((p : Place) → step (Array p k) b ≡ None) → TypeByte k b
+  Bracket : b ≡ 91 → k < 255 → ((p : Position) → step (Array p k) b ≡ Some (Array p (suc k))) → TypeByte k b
+  Letter : (found : Base) → primitive_of b ≡ Some found → ((p : Position) → step (Array p k) b ≡ Some (behind p)) → TypeByte k b
+  Class : b ≡ 76 → ((p : Position) → step (Array p k) b ≡ Some (Name p Before)) → TypeByte k b
+  Nothing : ((p : Position) → step (Array p k) b ≡ None) → TypeByte k b
 
 other_byte : (k b : ℕ) → (b ≡ 91 → ⊥) → (o : Option Base) → primitive_of b ≡ o → TypeByte k b
 other_byte k b ne (Some found) e =
@@ -111,7 +111,7 @@ module _ (T : List ℕ → Type 0) where
     tail = tail;
   }
 
-  module _ (p : Place) (b : ℕ) (text : List ℕ) (tail : after (behind p) text ≡ Some Whole → T text) (in_name : (w : Part) → after (Name p w) text ≡ Some Whole → Cut T (Name Alone w) text) where
+  module _ (p : Position) (b : ℕ) (text : List ℕ) (tail : after (behind p) text ≡ Some Whole → T text) (in_name : (w : Part) → after (Name p w) text ≡ Some Whole → Cut T (Name Alone w) text) where
     cut_name : (w : Part) → NameByte w b → after (Name p w) (b ∷ text) ≡ Some Whole → Cut T (Name Alone w) (b ∷ text)
     cut_name w (Goes v goes begins) e = longer (Name Alone w) (Name Alone v) b text (goes Alone) (in_name v (going (Name p w) (Name p v) b text (goes p) e))
     cut_name w (Slash is whole goes) e = longer (Name Alone w) (Name Alone Before) b text (goes Alone) (in_name Before (going (Name p w) (Name p Before) b text (goes p) e))

@@ -9,19 +9,19 @@ use Rattle.std.proofs.lemmas.Bool.{cond-true, cond-false, eq-eqb, ne_eqb, lt-ltb
 use Rattle.dv_names.specs.declared.error.NameError.{NameError}
 use Rattle.dv_names.specs.declared.error.NameError.TheVariants as error
 use Rattle.dv_names.specs.Descriptors.{is_name_byte, is_plain_name, is_special_name, is_name}
-use Rattle.dv_names.specs.Grammar.{Place, Part, Before, Within, Angle, Special, Name, step, after, refusal}
+use Rattle.dv_names.specs.Grammar.{Position, Part, Before, Within, Angle, Special, Name, step, after, refusal}
 use Rattle.dv_names.specs.Parts.{EndsWord, EndsSpecial, EndsName}
 use Rattle.dv_names.proofs.Steps.{parts, one, first_byte, refusal_from, refusal_here, refusal_end}
 use Rattle.dv_names.proofs.Types.{refuses_same}
 use Rattle.dv_names.proofs.Classes.{plain_run, special_run, name_run}
 
-word_run : (p : Place) (w rest : List ℕ) → after (Name p (Special (w ++ rest))) w ≡ Some (Name p (Special rest))
+word_run : (p : Position) (w rest : List ℕ) → after (Name p (Special (w ++ rest))) w ≡ Some (Name p (Special rest))
 word_run p [] rest = refl
 word_run p (b ∷ w) rest = ap (option_and_then (λ n. after n w)) (cond-true (eqb b b) _ _ (eq-eqb b b refl)) ∙ word_run p w rest
 
 module _ (text : List ℕ) where
   -- what comes is refused alike where the next byte does the same
-  same_part : (p : Place) (v w : Part) (at : ℕ) → (at < length text → step (Name p v) (get_or text at 0) ≡ step (Name p w) (get_or text at 0)) → refusal (Name p v) at (drop at text) ≡ refusal (Name p w) at (drop at text)
+  same_part : (p : Position) (v w : Part) (at : ℕ) → (at < length text → step (Name p v) (get_or text at 0) ≡ step (Name p w) (get_or text at 0)) → refusal (Name p v) at (drop at text) ≡ refusal (Name p w) at (drop at text)
   unfolding refusal
   same_part p v w at same =
       elim (cases_lt at (length text)) [
@@ -35,7 +35,7 @@ module _ (text : List ℕ) where
   -- ---- a special name
 
   module _ (start at : ℕ) (word : List ℕ) (before : start ≤ at) (within : at ≤ length text) (so_far : slice_range text start at ≡ take (at - start) word) where
-    word_read : (p : Place) → refusal (Name p (Special word)) start (drop start text) ≡ refusal (Name p (Special (drop (at - start) word))) at (drop at text)
+    word_read : (p : Position) → refusal (Name p (Special word)) start (drop start text) ≡ refusal (Name p (Special (drop (at - start) word))) at (drop at text)
     word_read p =
         refusal_from text start at (Name p (Special word)) (Name p (Special (drop (at - start) word))) before within
         (ap (after (Name p (Special word))) so_far ∙ ap (λ l. after (Name p (Special l)) (take (at - start) word)) (sym (take-append-drop (at - start) word))
@@ -47,7 +47,7 @@ module _ (text : List ℕ) where
         between_more text start at 0 before lt ∙ (λ i. so_far i ++ same i ∷ []) ∙ sym (take_more word (at - start) 0 more) ∙ ap (λ i. take i word) next
 
     pub word_stops : at - start < length word → (length text ≤ at) ⊎ ((at < length text) × (get_or text at 0 ≡ get_or word (at - start) 0 → ⊥))
-        → (p : Place) → refusal (Name p (Special word)) start (drop start text) ≡ Some (error.BadDescriptor at)
+        → (p : Position) → refusal (Name p (Special word)) start (drop start text) ≡ Some (error.BadDescriptor at)
     word_stops more (inl le) p = word_read p ∙ refusal_end text at _ le
     word_stops more (inr h) p =
         let byte = get_or text at 0 in
@@ -55,11 +55,11 @@ module _ (text : List ℕ) where
         word_read p ∙ ap (λ l. refusal (Name p (Special l)) at (drop at text)) (drop_more word (at - start) 0 more)
         ∙ refusal_here text at (Name p (Special (next ∷ drop (at - start + 1) word))) h.0 (cond-false (eqb byte next) _ _ (ne_eqb byte next h.1))
 
-  pub angle_c : (start : ℕ) → start < length text → get_or text start 0 ≡ 99 → (p : Place)
+  pub angle_c : (start : ℕ) → start < length text → get_or text start 0 ≡ 99 → (p : Position)
       → refusal (Name p Angle) start (drop start text) ≡ refusal (Name p (Special (codes "clinit>"))) start (drop start text)
   angle_c start lt is p = same_part p Angle (Special (codes "clinit>")) start (λ _. ap (step (Name p Angle)) is ∙ sym (ap (step (Name p (Special (codes "clinit>")))) is))
 
-  pub angle_i : (start : ℕ) → ((start < length text) × (get_or text start 0 ≡ 99 → ⊥)) ⊎ (length text ≤ start) → (p : Place)
+  pub angle_i : (start : ℕ) → ((start < length text) × (get_or text start 0 ≡ 99 → ⊥)) ⊎ (length text ≤ start) → (p : Position)
       → refusal (Name p Angle) start (drop start text) ≡ refusal (Name p (Special (codes "init>"))) start (drop start text)
   angle_i start (inl h) p =
       let byte = get_or text start 0 in
@@ -67,7 +67,7 @@ module _ (text : List ℕ) where
   angle_i start (inr le) p = same_part p Angle (Special (codes "init>")) start (λ lt. absurd (omega arith))
 
   pub special_from : (word : List ℕ) (start : ℕ) → 0 < length word → is_special_name (60 ∷ word) ≡ true
-      → ((p : Place) → refusal (Name p Angle) start (drop start text) ≡ refusal (Name p (Special word)) start (drop start text))
+      → ((p : Position) → refusal (Name p Angle) start (drop start text) ≡ refusal (Name p (Special word)) start (drop start text))
       → (found : Result ℕ NameError) → EndsWord word text start found → EndsSpecial text start found
   special_from word start some special same (Ok end) read =
       ((omega (arith, ap length read.2, length-between text start end read.0), read.0), ap (λ l. is_special_name (60 ∷ l)) read.2 ∙ special)
@@ -77,7 +77,7 @@ module _ (text : List ℕ) where
 
   -- what is read of a name to its end
   abbrev pub IsNameAt : ℕ → ℕ → Type 0
-  IsNameAt start end = IsTrue (is_name (slice_range text start end)) × ((p : Place) → refusal (Name p Before) start (drop start text) ≡ refusal (Name p (Special [])) end (drop end text))
+  IsNameAt start end = IsTrue (is_name (slice_range text start end)) × ((p : Position) → refusal (Name p Before) start (drop start text) ≡ refusal (Name p (Special [])) end (drop end text))
 
   pub plain_at : (start end : ℕ) → start < end → end ≤ length text → list_all is_name_byte (slice_range text start end) ≡ true
       → (end < length text → is_name_byte (get_or text end 0) ≡ false) → IsNameAt start end
@@ -98,7 +98,7 @@ module _ (text : List ℕ) where
         λ p. refusal_from text start end (Name p Before) (Name p (Special [])) (omega arith) within (special_run p w special),
       )
 
-  pub special_skip : (start : ℕ) → start < length text → get_or text start 0 ≡ 60 → (p : Place) → refusal (Name p Before) start (drop start text) ≡ refusal (Name p Angle) (start + 1) (drop (start + 1) text)
+  pub special_skip : (start : ℕ) → start < length text → get_or text start 0 ≡ 60 → (p : Position) → refusal (Name p Before) start (drop start text) ≡ refusal (Name p Angle) (start + 1) (drop (start + 1) text)
   special_skip start lt letter p =
       refusal_from text start (start + 1) (Name p Before) (Name p Angle) (omega arith) (omega arith) (ap (after (Name p Before)) (one text start lt) ∙ ap (λ b. after (Name p Before) (b ∷ [])) letter)
 
@@ -109,7 +109,7 @@ module _ (text : List ℕ) where
   name_from start lt letter (Err e) refused = λ p. refuses_same e _ _ (special_skip start lt letter p) (refused p)
 
   pub no_name : (start : ℕ) → (start < length text → is_name_byte (get_or text start 0) ≡ false) → ((start < length text) × (get_or text start 0 ≡ 60 → ⊥)) ⊎ (length text ≤ start)
-      → (p : Place) → refusal (Name p Before) start (drop start text) ≡ Some (error.BadDescriptor start)
+      → (p : Position) → refusal (Name p Before) start (drop start text) ≡ Some (error.BadDescriptor start)
   no_name start plain (inl h) p =
       let byte = get_or text start 0 in
       refusal_here text start (Name p Before) h.0 (cond-false (is_name_byte byte) _ _ (plain h.0) ∙ cond-false (eqb byte 60) _ _ (ne_eqb byte 60 h.1))
@@ -119,7 +119,7 @@ module _ (text : List ℕ) where
 
   -- the names so far, and that what comes goes on as behind a whole name
   abbrev pub AreNamesAt : ℕ → ℕ → Type 0
-  AreNamesAt start end = (p : Place)
+  AreNamesAt start end = (p : Position)
       → ((b : ℕ) (more : List ℕ) → is_name_byte b ≡ false → after (Name p Before) (slice_range text start end ++ b ∷ more) ≡ after (Name p (Special [])) (b ∷ more))
       × (refusal (Name p Before) start (drop start text) ≡ refusal (Name p (Special [])) end (drop end text))
 
@@ -127,7 +127,7 @@ module _ (text : List ℕ) where
   first_name start end is p = ((λ b more other. name_run p (slice_range text start end) more b is.0 other), is.1 p)
 
   -- a slash behind names
-  pub slash_skip : (start at : ℕ) → at < length text → get_or text at 0 ≡ 47 → AreNamesAt start at → (p : Place)
+  pub slash_skip : (start at : ℕ) → at < length text → get_or text at 0 ≡ 47 → AreNamesAt start at → (p : Position)
       → refusal (Name p Before) start (drop start text) ≡ refusal (Name p Before) (at + 1) (drop (at + 1) text)
   slash_skip start at lt is names p =
       (names p).1 ∙ refusal_from text at (at + 1) (Name p (Special [])) (Name p Before) (omega arith) (omega arith) (ap (after (Name p (Special []))) (one text at lt) ∙ ap (λ b. after (Name p (Special [])) (b ∷ [])) is)
@@ -143,14 +143,14 @@ module _ (text : List ℕ) where
         slash_skip start at (omega arith) is names p ∙ next.1 p,
       )
 
-  pub last_name : (start end : ℕ) → start < end → end < length text → get_or text end 0 ≡ 59 → AreNamesAt start end → (p : Place)
+  pub last_name : (start end : ℕ) → start < end → end < length text → get_or text end 0 ≡ 59 → AreNamesAt start end → (p : Position)
       → after (Name p Before) (slice_range text start (end + 1)) ≡ after (Name p (Special [])) (59 ∷ [])
   last_name start end before lt is names p =
       ap (after (Name p Before)) (parts text start end (end + 1) (omega arith) (omega arith) ∙ ap (λ l. slice_range text start end ++ l) (one text end lt ∙ ap (λ b. b ∷ []) is))
       ∙ (names p).0 59 [] refl
 
   pub names_stop : (start end : ℕ) → AreNamesAt start end → (end < length text → get_or text end 0 ≡ 47 → ⊥) → (length text ≤ end) ⊎ ((end < length text) × (get_or text end 0 ≡ 59 → ⊥))
-      → (p : Place) → refusal (Name p Before) start (drop start text) ≡ Some (error.BadDescriptor end)
+      → (p : Position) → refusal (Name p Before) start (drop start text) ≡ Some (error.BadDescriptor end)
   names_stop start end names no_slash (inl le) p = (names p).1 ∙ refusal_end text end (Name p (Special [])) le
   names_stop start end names no_slash (inr h) p =
       let byte = get_or text end 0 in

@@ -9,7 +9,7 @@ use Rattle.dv_names.specs.declared.error.NameError.{NameError}
 use Rattle.dv_names.specs.declared.error.NameError.TheVariants as error
 use Rattle.dv_names.specs.Descriptors.{is_name_byte}
 use Rattle.dv_names.specs.Faults.{IsTypeText, IsProtoText, Begins, IsLongest, IsFloatAt, FailsAt}
-use Rattle.dv_names.specs.Grammar.{Place, Alone, Parameter, Returned, Part, Before, Within, Angle, Special, Mode, Open, Parameters, Return, Array, Name, Whole, behind, primitive_of, is_float, takes_type, step, after, refusal, refused_end, refused_byte, type_refusal, proto_refusal, Refuses}
+use Rattle.dv_names.specs.Grammar.{Position, Alone, Parameter, Returned, Part, Before, Within, Angle, Special, Mode, Open, Parameters, Return, Array, Name, Whole, behind, primitive_of, is_float_letter, takes_type, step, after, refusal, refused_end, refused_byte, type_refusal, proto_refusal, Refuses}
 use Rattle.dv_names.proofs.Steps.{after-append, after_both}
 use Rattle.dv_names.proofs.Types.{type_run}
 use Rattle.dv_names.proofs.Protos.{proto_run}
@@ -58,7 +58,7 @@ stop (b ∷ text) m at e h = stop_by m at b text e (step m b) refl (λ k. stop t
 
 -- ---- each mode goes on to the whole
 
-finish : Place → List ℕ
+finish : Position → List ℕ
 finish Alone = []
 finish Parameter = 41 ∷ 86 ∷ []
 finish Returned = []
@@ -78,17 +78,17 @@ live (Array p k) = 73 ∷ finish p
 live (Name p w) = live_name w ++ 59 ∷ finish p
 live Whole = []
 
-finish_run : (p : Place) → after (behind p) (finish p) ≡ Some Whole
+finish_run : (p : Position) → after (behind p) (finish p) ≡ Some Whole
 unfolding finish
 finish_run Alone = refl
 finish_run Parameter = refl
 finish_run Returned = refl
 
-special_live : (p : Place) (rest : List ℕ) → after (Name p (Special rest)) (rest ++ 59 ∷ finish p) ≡ Some Whole
+special_live : (p : Position) (rest : List ℕ) → after (Name p (Special rest)) (rest ++ 59 ∷ finish p) ≡ Some Whole
 special_live p [] = finish_run p
 special_live p (b ∷ rest) = ap (option_and_then (λ n. after n (rest ++ 59 ∷ finish p))) (cond-true (eqb b b) _ _ (eq-eqb b b refl)) ∙ special_live p rest
 
-name_live : (p : Place) (w : Part) → after (Name p w) (live_name w ++ 59 ∷ finish p) ≡ Some Whole
+name_live : (p : Position) (w : Part) → after (Name p w) (live_name w ++ 59 ∷ finish p) ≡ Some Whole
 unfolding live_name
 name_live p Before = finish_run p
 name_live p Within = finish_run p
@@ -143,15 +143,15 @@ one_of : (t : Bool) (x y : Option Mode) → IfSome x IsFine → IfSome y IsFine 
 one_of true x y f g = f
 one_of false x y f g = g
 
-behind_fine : (p : Place) → IsFine (behind p)
+behind_fine : (p : Position) → IsFine (behind p)
 behind_fine Alone = tt
 behind_fine Parameter = tt
 behind_fine Returned = tt
 
-type_fine : (p : Place) (n b : ℕ) → IfSome (step (Array p n) b) IsFine
+type_fine : (p : Position) (n b : ℕ) → IfSome (step (Array p n) b) IsFine
 type_fine p n b = one_of (eqb b 91) _ _ (one_of (ltb n 255) _ None tt tt) (one_of (is_some (primitive_of b)) _ _ (behind_fine p) (one_of (eqb b 76) _ None tt tt))
 
-name_fine : (p : Place) (w : Part) (b : ℕ) → IsFine (Name p w) → IfSome (step (Name p w) b) IsFine
+name_fine : (p : Position) (w : Part) (b : ℕ) → IsFine (Name p w) → IfSome (step (Name p w) b) IsFine
 name_fine p Before b fine = one_of (is_name_byte b) _ _ tt (one_of (eqb b 60) _ None tt tt)
 name_fine p Within b fine = one_of (is_name_byte b) _ _ tt (one_of (eqb b 47) _ _ tt (one_of (eqb b 59) _ None (behind_fine p) tt))
 name_fine p Angle b fine = one_of (eqb b 105) _ _ refl (one_of (eqb b 99) _ None refl tt)
@@ -176,14 +176,14 @@ after_fine [] m n fine e =
     subst IsFine same fine
 after_fine (b ∷ text) m n fine e = fine_by (step m b) text n (step_fine m b fine) (λ k. after_fine text k n) e
 
-float_goes : (p : Place) (w : Part) (b : ℕ) → step (Name p w) 70 ≡ Some (Name p Within) → step (Name p w) 68 ≡ Some (Name p Within) → is_float b ≡ true → step (Name p w) b ≡ None → ⊥
+float_goes : (p : Position) (w : Part) (b : ℕ) → step (Name p w) 70 ≡ Some (Name p Within) → step (Name p w) 68 ≡ Some (Name p Within) → is_float_letter b ≡ true → step (Name p w) b ≡ None → ⊥
 float_goes p w b f d float none =
     elim (or_cases (eqb b 70) (eqb b 68) float) [
       | inl e ↦ (let h : Some (Name p Within) ≡ None = sym f ∙ ap (step (Name p w)) (sym (eqb-true b 70 e)) ∙ none in absurd (cc))
       | inr e ↦ (let h : Some (Name p Within) ≡ None = sym d ∙ ap (step (Name p w)) (sym (eqb-true b 68 e)) ∙ none in absurd (cc))
     ]
 
-no_int_name : (p : Place) (w : Part) (k : Mode) (b : ℕ) → IsFine (Name p w) → is_float b ≡ true → step (Name p w) b ≡ None → after (Name p w) (73 ∷ []) ≡ Some k → ⊥
+no_int_name : (p : Position) (w : Part) (k : Mode) (b : ℕ) → IsFine (Name p w) → is_float_letter b ≡ true → step (Name p w) b ≡ None → after (Name p w) (73 ∷ []) ≡ Some k → ⊥
 no_int_name p Before k b fine float none run = float_goes p Before b refl refl float none
 no_int_name p Within k b fine float none run = float_goes p Within b refl refl float none
 no_int_name p Angle k b fine float none run = absurd (cc)
@@ -193,7 +193,7 @@ no_int_name p (Special (c ∷ rest)) k b fine float none run =
     let h : None ≡ Some k = sym (ap (option_and_then (λ n. Some n)) (cond-false (eqb 73 c) (Some (Name p (Special rest))) None other)) ∙ run in
     absurd (cc)
 
-no_int : (n k : Mode) (b : ℕ) → IsFine n → takes_type n ≡ false → is_float b ≡ true → step n b ≡ None → after n (73 ∷ []) ≡ Some k → ⊥
+no_int : (n k : Mode) (b : ℕ) → IsFine n → takes_type n ≡ false → is_float_letter b ≡ true → step n b ≡ None → after n (73 ∷ []) ≡ Some k → ⊥
 no_int Open k b fine t float none run = absurd (cc)
 no_int Parameters k b fine t float none run = absurd (cc)
 no_int Return k b fine t float none run = absurd (cc)
@@ -256,22 +256,22 @@ module _ (Is : List ℕ → Type 0) (start : Mode) (fine : IsFine start) (reads 
     byte_is : (b : ℕ) (others : List ℕ) → rest ≡ b ∷ others → get_or text (length front) 0 ≡ b
     byte_is b others is = ap (λ l. get_or l (length front) 0) (split ∙ ap (λ l. front ++ l) is) ∙ get_or_at front b others 0 (length front) refl
 
-    float_at : (b : ℕ) (others : List ℕ) → rest ≡ b ∷ others → takes_type mode ≡ true → is_float b ≡ true → IsFloatAt Is text (length front)
+    float_at : (b : ℕ) (others : List ℕ) → rest ≡ b ∷ others → takes_type mode ≡ true → is_float_letter b ≡ true → IsFloatAt Is text (length front)
     float_at b others is takes float =
         let r = int_run mode takes in
         let run_on = begins (front ++ 73 ∷ []) r.0 (after_both front (73 ∷ []) start mode run ∙ r.1) in (
           omega (arith, ap length split, length-append front rest, ap length is),
-          ap is_float (byte_is b others is) ∙ float,
+          ap is_float_letter (byte_is b others is) ∙ float,
           (let P : List ℕ → Type 0 = λ l. Begins Is (l ++ 73 ∷ []) in subst P (sym front_is) run_on),
         )
 
-    no_float_at : (b : ℕ) (others : List ℕ) → rest ≡ b ∷ others → step mode b ≡ None → (takes_type mode ≡ false) ⊎ (is_float b ≡ false) → IsFloatAt Is text (length front) → ⊥
+    no_float_at : (b : ℕ) (others : List ℕ) → rest ≡ b ∷ others → step mode b ≡ None → (takes_type mode ≡ false) ⊎ (is_float_letter b ≡ false) → IsFloatAt Is text (length front) → ⊥
     no_float_at b others is none (inl takes) h =
         let r = reached (take (length front) text ++ 73 ∷ []) h.2 in
         let run_on = sym (ap (λ l. after start (l ++ 73 ∷ [])) front_is ∙ after_both front (73 ∷ []) start mode run) ∙ r.1 in
-        no_int mode r.0 b (after_fine front start mode fine run) takes (sym (ap is_float (byte_is b others is)) ∙ h.1) none run_on
+        no_int mode r.0 b (after_fine front start mode fine run) takes (sym (ap is_float_letter (byte_is b others is)) ∙ h.1) none run_on
     no_float_at b others is none (inr float) h =
-        let clash : false ≡ true = sym float ∙ sym (ap is_float (byte_is b others is)) ∙ h.1 in
+        let clash : false ≡ true = sym float ∙ sym (ap is_float_letter (byte_is b others is)) ∙ h.1 in
         absurd (cc)
 
   at_end : (text front : List ℕ) (mode : Mode) (e : NameError) → text ≡ front ++ [] → after start front ≡ Some mode → e ≡ error.BadDescriptor (length front) → FailsAt Is text e
@@ -282,11 +282,11 @@ module _ (Is : List ℕ → Type 0) (start : Mode) (fine : IsFine start) (reads 
   at_byte : (text front : List ℕ) (mode : Mode) (b : ℕ) (others : List ℕ) (e : NameError) → text ≡ front ++ b ∷ others → after start front ≡ Some mode → step mode b ≡ None
       → refused_byte mode b (length front) ≡ e → FailsAt Is text e
   at_byte text front mode b others (error.BadDescriptor q) split run none is =
-      let h = bad_is (takes_type mode) (is_float b) (length front) q is in
+      let h = bad_is (takes_type mode) (is_float_letter b) (length front) q is in
       let P : ℕ → Type 0 = λ i. FailsAt Is text (error.BadDescriptor i) in
       subst P (sym h.0) (longest_byte text front (b ∷ others) mode split run b others refl none, no_float_at text front (b ∷ others) mode split run b others refl none h.1)
   at_byte text front mode b others (error.FloatType q) split run none is =
-      let h = float_is (takes_type mode) (is_float b) (length front) q is in
+      let h = float_is (takes_type mode) (is_float_letter b) (length front) q is in
       let P : ℕ → Type 0 = λ i. FailsAt Is text (error.FloatType i) in
       subst P (sym h.0) (longest_byte text front (b ∷ others) mode split run b others refl none, float_at text front (b ∷ others) mode split run b others refl h.1 h.2)
   at_byte text front mode b others error.Memory split run none is = tt

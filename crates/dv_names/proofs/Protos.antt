@@ -12,7 +12,7 @@ use Rattle.dv_defs.specs.declared.names.Ty.{Ty}
 use Rattle.dv_defs.specs.declared.names.Proto.{Proto}
 use Rattle.dv_names.specs.declared.error.NameError.TheVariants as error
 use Rattle.dv_names.specs.Descriptors.{descriptor, return_text, prototype, IsType, IsProto}
-use Rattle.dv_names.specs.Grammar.{Place, Alone, Parameter, Returned, Mode, Open, Parameters, Return, Array, Whole, step, after, refusal, type_refusal, proto_refusal, no_type}
+use Rattle.dv_names.specs.Grammar.{Position, Alone, Parameter, Returned, Mode, Open, Parameters, Return, Array, Whole, step, after, refusal, type_refusal, proto_refusal, no_type}
 use Rattle.dv_names.specs.Parts.{ReadsParameters}
 use Rattle.dv_names.proofs.Steps.{after_both, refusal_behind, refusal_from, refusal_here, refusal_end, parts, one}
 use Rattle.dv_names.proofs.Types.{type_run}
@@ -26,7 +26,7 @@ not_void : (b : ℕ) → (b ≡ 86 → ⊥) → step Return b ≡ step (Array Re
 not_void b ne = cond-false (eqb b 86) _ _ (ne_eqb b 86 ne)
 
 -- no type begins with this byte
-cannot : (p : Place) (b : ℕ) (text : List ℕ) (n : Mode) → step (Array p 0) b ≡ None → after (Array p 0) (b ∷ text) ≡ Some n → ⊥
+cannot : (p : Position) (b : ℕ) (text : List ℕ) (n : Mode) → step (Array p 0) b ≡ None → after (Array p 0) (b ∷ text) ≡ Some n → ⊥
 cannot p b text n e is = let h : None ≡ Some n = sym (ap (option_and_then (λ k. after k text)) e) ∙ is in absurd (cc)
 
 parameter_run : (text : List ℕ) → after (Array Parameter 0) text ≡ Some Parameters → after Parameters text ≡ Some Parameters

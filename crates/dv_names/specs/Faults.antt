@@ -5,7 +5,7 @@ use Rattle.dv_defs.specs.declared.names.Proto.{Proto}
 use Rattle.dv_names.specs.declared.error.NameError.{NameError}
 use Rattle.dv_names.specs.declared.error.NameError.TheVariants as error
 use Rattle.dv_names.specs.Descriptors.{descriptor, prototype, IsType, IsProto}
-use Rattle.dv_names.specs.Grammar.{is_float}
+use Rattle.dv_names.specs.Grammar.{is_float_letter}
 
 abbrev pub IsTypeText : List ℕ → Type 0
 IsTypeText text = (t : Ty) × IsType t × (descriptor t ≡ text)
@@ -25,7 +25,7 @@ pub record IsLongest (Is : List ℕ → Type 0) (text : List ℕ) (place : ℕ) 
 
 -- F or D stands at the place, where I could
 abbrev pub IsFloatAt : (List ℕ → Type 0) → List ℕ → ℕ → Type 0
-IsFloatAt Is text place = (place < length text) × IsTrue (is_float (slice_index text place)) × Begins Is (take place text ++ codes "I")
+IsFloatAt Is text place = (place < length text) × IsTrue (is_float_letter (slice_index text place)) × Begins Is (take place text ++ codes "I")
 
 abbrev pub FailsAt : (List ℕ → Type 0) → List ℕ → NameError → Type 0
 FailsAt Is text (error.BadDescriptor place) = IsLongest Is text place × ¬ (IsFloatAt Is text place)

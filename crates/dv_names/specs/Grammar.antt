@@ -8,10 +8,10 @@ use Rattle.dv_names.specs.declared.error.NameError.TheVariants as error
 use Rattle.dv_names.specs.Descriptors.{is_name_byte}
 
 -- where a type stands
-pub data Place : Type 0 where
-  Alone : Place
-  Parameter : Place
-  Returned : Place
+pub data Position : Type 0 where
+  Alone : Position
+  Parameter : Position
+  Returned : Position
 
 -- what has been read of a name of a class's descriptor
 pub data Part : Type 0 where
@@ -33,13 +33,13 @@ pub data Mode : Type 0 where
   -- all parameters: a type, or V
   Return : Mode
   -- so many brackets of a type
-  Array : Place → ℕ → Mode
+  Array : Position → ℕ → Mode
   -- a part of a class's descriptor, which ends with this part of a name
-  Name : Place → Part → Mode
+  Name : Position → Part → Mode
   -- everything
   Whole : Mode
 
-abbrev pub behind : Place → Mode
+abbrev pub behind : Position → Mode
 behind Alone = Whole
 behind Parameter = Parameters
 behind Returned = Whole
@@ -55,10 +55,10 @@ primitive_of b =
     else None
 
 -- F or D
-abbrev pub is_float : ℕ → Bool
-is_float b = (b == 70) || (b == 68)
+abbrev pub is_float_letter : ℕ → Bool
+is_float_letter b = (b == 70) || (b == 68)
 
-abbrev pub step_type : Place → ℕ → ℕ → Option Mode
+abbrev pub step_type : Position → ℕ → ℕ → Option Mode
 step_type p n b =
     if b == 91 then (if nat_lt n 255 then Some (Array p (suc n)) else None)
     else if is_some (primitive_of b) then Some (behind p)
@@ -66,13 +66,13 @@ step_type p n b =
     else None
 
 -- behind a whole name
-abbrev pub step_behind : Place → ℕ → Option Mode
+abbrev pub step_behind : Position → ℕ → Option Mode
 step_behind p b =
     if b == 47 then Some (Name p Before)
     else if b == 59 then Some (behind p)
     else None
 
-abbrev pub step_name : Place → Part → ℕ → Option Mode
+abbrev pub step_name : Position → Part → ℕ → Option Mode
 step_name p Before b =
     if is_name_byte b then Some (Name p Within)
     else if b == 60 then Some (Name p Angle)
@@ -115,7 +115,7 @@ refused_end m at = Some (error.BadDescriptor at)
 
 -- the byte at this place is no type's, where a primitive type could come
 abbrev pub no_type : ℕ → ℕ → NameError
-no_type b at = if is_float b then error.FloatType at else error.BadDescriptor at
+no_type b at = if is_float_letter b then error.FloatType at else error.BadDescriptor at
 
 -- the byte at this place fits nothing
 abbrev pub refused_byte : Mode → ℕ → ℕ → NameError

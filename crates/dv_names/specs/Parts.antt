@@ -4,7 +4,7 @@ use Rattle.std.specs.List.{All, flat_map}
 use Rattle.dv_defs.specs.declared.names.Ty.{Ty}
 use Rattle.dv_names.specs.declared.error.NameError.{NameError}
 use Rattle.dv_names.specs.Descriptors.{descriptor, return_text, is_name, is_special_name, IsType}
-use Rattle.dv_names.specs.Grammar.{Place, Before, Angle, Special, Return, Array, Name, behind, after, refusal, Refuses}
+use Rattle.dv_names.specs.Grammar.{Position, Before, Angle, Special, Return, Array, Name, behind, after, refusal, Refuses}
 
 -- a part of the text, not empty
 abbrev pub IsPart : List ℕ → ℕ → ℕ → Type 0
@@ -14,32 +14,32 @@ IsPart text start end = (start < end) × (end ≤ length text)
 abbrev pub EndsWord : List ℕ → List ℕ → ℕ → Result ℕ NameError → Type 0
 EndsWord w text start found = MatchResult found
     (λ end. (end ≤ length text) × (start ≤ end) × (slice_range text start end ≡ w))
-    (λ e. (p : Place) → Refuses e (refusal (Name p (Special w)) start (drop start text)))
+    (λ e. (p : Position) → Refuses e (refusal (Name p (Special w)) start (drop start text)))
 
 -- a special name, behind its `<`
 abbrev pub EndsSpecial : List ℕ → ℕ → Result ℕ NameError → Type 0
 EndsSpecial text start found = MatchResult found
     (λ end. IsPart text start end × IsTrue (is_special_name (60 ∷ slice_range text start end)))
-    (λ e. (p : Place) → Refuses e (refusal (Name p Angle) start (drop start text)))
+    (λ e. (p : Position) → Refuses e (refusal (Name p Angle) start (drop start text)))
 
 -- a name; at its end the text goes on as behind a whole name
 abbrev pub EndsName : List ℕ → ℕ → Result ℕ NameError → Type 0
 EndsName text start found = MatchResult found
     (λ end. IsPart text start end × IsTrue (is_name (slice_range text start end))
-    × ((p : Place) → refusal (Name p Before) start (drop start text) ≡ refusal (Name p (Special [])) end (drop end text)))
-    (λ e. (p : Place) → Refuses e (refusal (Name p Before) start (drop start text)))
+    × ((p : Position) → refusal (Name p Before) start (drop start text) ≡ refusal (Name p (Special [])) end (drop end text)))
+    (λ e. (p : Position) → Refuses e (refusal (Name p Before) start (drop start text)))
 
 -- the rest of a class's descriptor, behind its L
 abbrev pub EndsClass : List ℕ → ℕ → Result ℕ NameError → Type 0
 EndsClass text start found = MatchResult found
-    (λ end. IsPart text start end × ((p : Place) → after (Name p Before) (slice_range text start end) ≡ Some (behind p)))
-    (λ e. (p : Place) → Refuses e (refusal (Name p Before) start (drop start text)))
+    (λ end. IsPart text start end × ((p : Position) → after (Name p Before) (slice_range text start end) ≡ Some (behind p)))
+    (λ e. (p : Position) → Refuses e (refusal (Name p Before) start (drop start text)))
 
 -- a type, which ends at the number
 abbrev pub ReadsType : List ℕ → ℕ → Result (Ty × ℕ) NameError → Type 0
 ReadsType text start found = MatchResult found
     (λ x. IsPart text start x.1 × IsType x.0 × (slice_range text start x.1 ≡ descriptor x.0))
-    (λ e. (p : Place) → Refuses e (refusal (Array p 0) start (drop start text)))
+    (λ e. (p : Position) → Refuses e (refusal (Array p 0) start (drop start text)))
 
 -- what stands behind the parentheses
 abbrev pub ReadsReturn : List ℕ → ℕ → Result (Option Ty × ℕ) NameError → Type 0

@@ -2,7 +2,7 @@
 ghost use Rattle.std.specs.Prelude.{◌≡◌, ◌<◌, ◌≤◌, true, false, length, slice_index, slice_range};
 ghost use Rattle.std.specs.List.{list_all};
 ghost use Rattle.dv_names.specs.Descriptors.{is_name_byte};
-ghost use Rattle.dv_names.specs.Grammar.{primitive_of, is_float};
+ghost use Rattle.dv_names.specs.Grammar.{primitive_of, is_float_letter};
 ghost use Rattle.dv_names.specs.Parts.{EndsWord, EndsSpecial, EndsName, EndsClass};
 
 use crate::NameError;
@@ -33,7 +33,7 @@ pub fn primitive(letter: u8) -> Option<Base>
 }
 
 pub fn is_float(letter: u8) -> bool
-    ensures { result ≡ is_float letter }
+    ensures { result ≡ is_float_letter letter }
 {
     matches!(letter, b'F' | b'D')
 }

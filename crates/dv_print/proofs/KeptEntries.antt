@@ -15,7 +15,7 @@ use Rattle.dv_defs.specs.Body.{BodyValue}
 use Rattle.dv_defs.specs.Families.{family_at}
 use Rattle.dv_defs.specs.Spelling.{plain, few, all_fit, spelling}
 use Rattle.dv_defs.specs.Types.{ty_eq}
-use Rattle.dv_defs.specs.Tiling.{IsInsn, Tile, tiles_of}
+use Rattle.dv_defs.specs.Tiling.{IsInsn, Tile, tiles_in}
 use Rattle.dv_defs.proofs.SpellingFormats.{begins}
 use Rattle.dv_defs.proofs.SpellingLaws.{spelled_in}
 use Rattle.dv_asm.specs.declared.draft.Item.{Item}
@@ -230,7 +230,7 @@ units_are d = refl
 
 pub pieces_are : (d : DraftValue) → AreFormed d.items → HaveNumbers d.items → item_refusal d.items ≡ None → IsTrue (all_fit 16 (layout d).units) → pieces_of (layout d).units ≡ all_pieces d
 unfolding body_of
-pieces_are d formed numbers none fit = ap (λ r. map piece_of (tiles_of r)) (layout_is_tiled d.items formed numbers none fit)
+pieces_are d formed numbers none fit = ap (λ r. map piece_of (tiles_in r)) (layout_is_tiled d.items formed numbers none fit)
 
 pub draft_items : (b : BodyValue) → (draft_of b).items ≡ items_in b (pieces_of b.units) (addresses_named (pieces_of b.units) b.tries)
 unfolding draft_of

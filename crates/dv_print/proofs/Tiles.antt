@@ -6,7 +6,7 @@ use Rattle.dv_defs.specs.declared.code.Payload.{Payload}
 use Rattle.dv_defs.specs.Spelling.{all_fit}
 use Rattle.dv_defs.specs.Decoding.{Sized, insn_here}
 use Rattle.dv_defs.specs.Tiling as tiling
-use Rattle.dv_defs.specs.Tiling.{SizedPayload, Tile, begins_payload, payload_of, payload_piece, insn_piece, piece_here, with_tile, tiled, tiles_of}
+use Rattle.dv_defs.specs.Tiling.{SizedPayload, Tile, begins_payload, payload_of, payload_piece, insn_piece, piece_here, with_tile, tiled, tiles_in}
 use Rattle.dv_defs.specs.Payloads.{payload_spelling, payload_here}
 use Rattle.dv_defs.proofs.PayloadLaws.{payload_here_spelled}
 use Rattle.dv_defs.proofs.TilingLaws.{item_positive, piece_here_spelled}
@@ -182,8 +182,8 @@ pub one_more : (units : List ℕ) (done : List Piece) (at : ℕ) (q : Part) (siz
 one_more units done at q size s r h k = more_by (piece_here (drop at units)) units done at q size s refl r h k
 
 abbrev IsShown : Option (List Piece) → Result (List Tile) ℕ → Type 0
-IsShown None r = map piece_of (tiles_of r) ≡ []
-IsShown (Some ps) r = map piece_of (tiles_of r) ≡ ps
+IsShown None r = map piece_of (tiles_in r) ≡ []
+IsShown (Some ps) r = map piece_of (tiles_in r) ≡ ps
 
 is_shown : (r : Result (List Tile) ℕ) → IsShown (shown r) r
 is_shown (Ok ts) = refl

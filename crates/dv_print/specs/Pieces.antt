@@ -2,7 +2,7 @@
 use Rattle.std.specs.Prelude.{ℕ, List, map}
 use Rattle.dv_defs.specs.Decoding.{Sized}
 use Rattle.dv_defs.specs.Tiling as tiling
-use Rattle.dv_defs.specs.Tiling.{SizedPayload, Item, IsInsn, IsPayload, Tile, tiling, tiles_of}
+use Rattle.dv_defs.specs.Tiling.{SizedPayload, Item, IsInsn, IsPayload, Tile, tiling, tiles_in}
 use Rattle.dv_print.specs.declared.pieces.Part.{Part}
 use Rattle.dv_print.specs.declared.pieces.Part.TheVariants as part
 use Rattle.dv_print.specs.declared.pieces.Piece.{Piece}
@@ -26,4 +26,4 @@ piece_of t = record { at = t.at; part = part_of t.item }
 
 -- the pieces of units, none where the units aren't instructions and payloads one after another
 abbrev pub pieces_of : List ℕ → List Piece
-pieces_of units = map piece_of (tiles_of (tiling units))
+pieces_of units = map piece_of (tiles_in (tiling units))

@@ -6,7 +6,7 @@ use Rattle.std.proofs.lemmas.List.Sums.{sum_by-cons}
 use Rattle.std.proofs.lemmas.Bool.Decides.{nat_tests}
 use Rattle.dv_defs.specs.declared.code.Insn.{Insn}
 use Rattle.dv_defs.specs.Formats.{format_at}
-use Rattle.dv_defs.specs.Spelling.{spelling, spelled, insn_eq, fits, fits_signed, unit, byte, complement}
+use Rattle.dv_defs.specs.Spelling.{spelling, spelled, insn_eq, fits_in, fits_signed, unit, byte, complement}
 use Rattle.dv_defs.proofs.InsnEq.{insn_eq_tells}
 use Rattle.dv_top.specs.declared.instruction.Instruction.{Instruction}
 use Rattle.dv_top.specs.declared.instruction.Instruction.TheVariants.{Nop, ReturnVoid, Const4, Const16, Move, AddInt, Println}
@@ -16,15 +16,15 @@ use Rattle.dv_top.specs.Assembly.{insn_of, units_of, address_of}
 insn_same : (i : Insn) → insn_eq i i ≡ true
 insn_same i = elim (insn_eq_tells i i) [ inl h ↦ h.0 | inr h ↦ absurd (h.1 refl) ]
 
-in_form : (i : Insn) (t : Bool) (us : List ℕ) → fits 8 i.op ≡ true → t ≡ true → spelled i i t us ≡ Some us
+in_form : (i : Insn) (t : Bool) (us : List ℕ) → fits_in 8 i.op ≡ true → t ≡ true → spelled i i t us ≡ Some us
 in_form i t us op fitting =
-    let test : (insn_eq i i && (fits 8 i.op && t)) ≡ true = rw (insn_same i) (rw op fitting) in
+    let test : (insn_eq i i && (fits_in 8 i.op && t)) ≡ true = rw (insn_same i) (rw op fitting) in
     ap (λ b. if b then Some us else None) test
 
-fits_4 : (n : ℕ) → n < 16 → fits 4 n ≡ true
+fits_4 : (n : ℕ) → n < 16 → fits_in 4 n ≡ true
 fits_4 n below = grind (arith, nat_tests)
 
-fits_8 : (n : ℕ) → n < 16 → fits 8 n ≡ true
+fits_8 : (n : ℕ) → n < 16 → fits_in 8 n ≡ true
 fits_8 n below = grind (arith, nat_tests)
 
 both : (a b : Bool) → a ≡ true → b ≡ true → (a && b) ≡ true
@@ -36,7 +36,7 @@ pub record IsSpelled (i : Instruction) : Type 0 where
   pub is : spelling (insn_of i) ≡ Some units
   pub size : length units ≡ size_of i
 
-spelled_as : (i : Instruction) (t : Bool) (us : List ℕ) → fits 8 (insn_of i).op ≡ true → t ≡ true → length us ≡ size_of i → spelling (insn_of i) ≡ spelled (insn_of i) (insn_of i) t us → IsSpelled i
+spelled_as : (i : Instruction) (t : Bool) (us : List ℕ) → fits_in 8 (insn_of i).op ≡ true → t ≡ true → length us ≡ size_of i → spelling (insn_of i) ≡ spelled (insn_of i) (insn_of i) t us → IsSpelled i
 spelled_as i t us op fitting size form = record { units = us; is = form ∙ in_form (insn_of i) t us op fitting; size = size }
 
 pub spelled_insn : (registers : ℕ) (i : Instruction) → registers ≤ 16 → IsInRange registers i → IsSpelled i
@@ -44,17 +44,17 @@ unfolding format_at
 spelled_insn registers Nop few low = spelled_as Nop true (unit 0 0x00 ∷ []) refl refl refl refl
 spelled_insn registers ReturnVoid few low = spelled_as ReturnVoid true (unit 0 0x0e ∷ []) refl refl refl refl
 spelled_insn registers (Const4 to value) few low =
-    spelled_as (Const4 to value) (fits 4 to && fits_signed 4 value) (unit (byte (complement 4 value) to) 0x12 ∷ []) refl (both _ _ (fits_4 to (omega arith)) low.1) refl refl
+    spelled_as (Const4 to value) (fits_in 4 to && fits_signed 4 value) (unit (byte (complement 4 value) to) 0x12 ∷ []) refl (both _ _ (fits_4 to (omega arith)) low.1) refl refl
 spelled_insn registers (Const16 to value) few low =
-    spelled_as (Const16 to value) (fits 8 to && fits_signed 16 value) (unit to 0x13 ∷ complement 16 value ∷ []) refl (both _ _ (fits_8 to (omega arith)) low.1) refl refl
+    spelled_as (Const16 to value) (fits_in 8 to && fits_signed 16 value) (unit to 0x13 ∷ complement 16 value ∷ []) refl (both _ _ (fits_8 to (omega arith)) low.1) refl refl
 spelled_insn registers (Move to from) few low =
-    spelled_as (Move to from) (fits 4 to && fits 4 from) (unit (byte from to) 0x01 ∷ []) refl (both _ _ (fits_4 to (omega arith)) (fits_4 from (omega arith))) refl refl
+    spelled_as (Move to from) (fits_in 4 to && fits_in 4 from) (unit (byte from to) 0x01 ∷ []) refl (both _ _ (fits_4 to (omega arith)) (fits_4 from (omega arith))) refl refl
 spelled_insn registers (AddInt to left right) few low =
-    spelled_as (AddInt to left right) (fits 8 to && fits 8 left && fits 8 right) (unit to 0x90 ∷ unit right left ∷ []) refl
+    spelled_as (AddInt to left right) (fits_in 8 to && fits_in 8 left && fits_in 8 right) (unit to 0x90 ∷ unit right left ∷ []) refl
     (both _ _ (both _ _ (fits_8 to (omega arith)) (fits_8 left (omega arith))) (fits_8 right (omega arith))) refl refl
 spelled_insn registers (Println from) few low =
-    let below : (fits 4 from && true) ≡ true = both _ _ (fits_4 from (omega arith)) refl in
-    spelled_as (Println from) (fits 4 from && true && true) (unit (byte 1 0) 0x71 ∷ 0 ∷ unit 0 (byte 0 from) ∷ []) refl (both _ _ below refl) refl refl
+    let below : (fits_in 4 from && true) ≡ true = both _ _ (fits_4 from (omega arith)) refl in
+    spelled_as (Println from) (fits_in 4 from && true && true) (unit (byte 1 0) 0x71 ∷ 0 ∷ unit 0 (byte 0 from) ∷ []) refl (both _ _ below refl) refl refl
 
 pub has_spelling : (registers : ℕ) (i : Instruction) → registers ≤ 16 → IsInRange registers i → IsSome (spelling (insn_of i))
 has_spelling registers i few low = ap (λ o. is_some o) (spelled_insn registers i few low).is

@@ -6,7 +6,7 @@ use Rattle.std.proofs.lemmas.Bool.Decides.{nat_tests}
 use Rattle.std.proofs.lemmas.List.Sums.{sum_by-cons}
 use Rattle.dv_defs.specs.declared.image.Image.{Image}
 use Rattle.dv_defs.specs.declared.names.MethodRef.{MethodRef}
-use Rattle.dv_defs.specs.Op.{Code, code_at, Resolved, on_pool, method_in, Invoke, Op}
+use Rattle.dv_defs.specs.Op.{Code, code_at, Resolved, on_pool, resolved_method, Invoke, Op}
 use Rattle.dv_defs.specs.Op as defs
 use Rattle.dv_defs.specs.Parts.{Call}
 use Rattle.dv_defs.specs.Pools.{Method}
@@ -30,7 +30,7 @@ abbrev pub IsPooled : List Instruction → Instruction → Type 0
 IsPooled insns i = is_println i ≡ true → list_any is_println insns ≡ true
 
 abbrev from_pool : Image → ℕ → List MethodRef → Resolved
-from_pool image from refs = on_pool (method_in image (slice_get (resolved refs) 0)) (λ m. Ok (Invoke Call.Static (from ∷ []) m))
+from_pool image from refs = on_pool (resolved_method image (slice_get (resolved refs) 0)) (λ m. Ok (Invoke Call.Static (from ∷ []) m))
 
 abbrev pool_if : Bool → List MethodRef
 pool_if b = if b then println_ref ∷ [] else []

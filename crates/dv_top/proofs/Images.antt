@@ -7,7 +7,7 @@ use Rattle.dv_defs.specs.declared.image.Image.{Image}
 use Rattle.dv_defs.specs.Names.{object_name, console_name}
 use Rattle.dv_defs.specs.Op.{Code, code_at}
 use Rattle.dv_defs.specs.Pools.{Method, method_at, class_named, declared_by}
-use Rattle.dv_defs.specs.Tiling.{Tile, tiling, tiles_of}
+use Rattle.dv_defs.specs.Tiling.{Tile, tiling, tiles_in}
 use Rattle.dv_top.specs.declared.instruction.Instruction.{Instruction}
 use Rattle.dv_top.specs.Straight.{IsInRange}
 use Rattle.dv_top.specs.Assembly.{body_of}
@@ -32,7 +32,7 @@ main_code registers insns = record { method = main_method registers insns; body 
 abbrev with_tiles : ℕ → List Instruction → List Tile → Option Code
 with_tiles registers insns ts = Some (record { method = main_method registers insns; body = body_of registers insns; tiles = ts })
 
-main_code_of : (class : List ℕ) (registers : ℕ) (insns : List Instruction) → code_at (image_of class registers insns) 1 ≡ with_tiles registers insns (tiles_of (tiling (body_of registers insns).units))
+main_code_of : (class : List ℕ) (registers : ℕ) (insns : List Instruction) → code_at (image_of class registers insns) 1 ≡ with_tiles registers insns (tiles_in (tiling (body_of registers insns).units))
 unfolding code_at method_at
 main_code_of class registers insns = refl
 
@@ -43,7 +43,7 @@ no_code_of class registers insns = refl
 
 pub code_of_main : (class : List ℕ) (registers : ℕ) (insns : List Instruction) → registers ≤ 16 → All (λ i. IsInRange registers i) insns → code_at (image_of class registers insns) 1 ≡ Some (main_code registers insns)
 code_of_main class registers insns few each =
-    main_code_of class registers insns ∙ ap (λ r. with_tiles registers insns (tiles_of r)) (tiling_is registers insns few each)
+    main_code_of class registers insns ∙ ap (λ r. with_tiles registers insns (tiles_in r)) (tiling_is registers insns few each)
 
 -- ---- main is found by the class's name
 

@@ -5,7 +5,7 @@ use Rattle.std.proofs.lemmas.Bool.Decides.{nat_tests}
 use Rattle.std.proofs.lemmas.List.Folds.{list_all-append}
 use Rattle.dv_defs.specs.Formats.{format_at}
 use Rattle.dv_defs.specs.Layout.{AreTiles}
-use Rattle.dv_defs.specs.Spelling.{spelling, fits, fits_signed, all_fit, complement, unit, byte}
+use Rattle.dv_defs.specs.Spelling.{spelling, fits_in, fits_signed, all_fit, complement, unit, byte}
 use Rattle.dv_defs.specs.Tiling.{Tile, IsInsn, tiling}
 use Rattle.dv_defs.proofs.Spelled.{spelled_is}
 use Rattle.dv_defs.proofs.TilingLaws.{tiles_found}
@@ -60,7 +60,7 @@ all_units_fit registers (i ∷ insns) few each =
     let low = each 0 i (omega arith) in
     let here = units_fit registers i (units_of i) few low (spelled_units registers i few low) in
     let rest = all_units_fit registers insns few (λ k d below. each (suc k) d (omega arith)) in
-    both_true _ _ _ (list_all-append (λ n. fits 16 n) (units_of i) (flat_map units_of insns)) here rest
+    both_true _ _ _ (list_all-append (λ n. fits_in 16 n) (units_of i) (flat_map units_of insns)) here rest
 
 -- ---- the tiles
 

@@ -10,7 +10,7 @@ use Rattle.dv_defs.specs.declared.names.ClassId.{ClassId}
 use Rattle.dv_defs.specs.declared.names.MethodId.{MethodId}
 use Rattle.dv_defs.specs.declared.names.MethodRef.{MethodRef}
 use Rattle.dv_defs.specs.Body.{BodyValue}
-use Rattle.dv_defs.specs.Flags.{place_of}
+use Rattle.dv_defs.specs.Flags.{bit_of}
 use Rattle.dv_defs.specs.Names.{object_name, console_name}
 use Rattle.dv_top.specs.declared.instruction.Instruction.{Instruction}
 use Rattle.dv_top.specs.Assembly.{println_proto, body_of}
@@ -24,11 +24,11 @@ method_at place = record { 0 = place }
 
 -- `static native println(I)V`
 abbrev pub println_def : MethodDef
-println_def = record { name = codes "println"; proto = println_proto; flags = 2 ^ place_of flag.Static + 2 ^ place_of flag.Native; body = None }
+println_def = record { name = codes "println"; proto = println_proto; flags = 2 ^ bit_of flag.Static + 2 ^ bit_of flag.Native; body = None }
 
 -- `static main()V`
 abbrev pub main_def : BodyValue → MethodDef
-main_def body = record { name = codes "main"; proto = record { params = []; ret = None }; flags = 2 ^ place_of flag.Static; body = Some body }
+main_def body = record { name = codes "main"; proto = record { params = []; ret = None }; flags = 2 ^ bit_of flag.Static; body = Some body }
 
 -- a class whose superclass, if any, is Object, and which has no members but static methods
 abbrev pub class_of : List ℕ → Option (List ℕ) → List MethodDef → ClassInfo

@@ -2,7 +2,7 @@
 use Rattle.std.proofs.Common.{◌≡◌, ℕ, ◌-◌, ◌%◌, ◌^◌, ◌<◌, ◌≤◌, zero, suc, refl, List, [], ◌∷◌, length, take, drop, get_or, Option, None, Some, true, is_some, MatchOption, sym, ◌∙◌, ap, subst, arith, length-drop, add-zero}
 use Rattle.std.proofs.lemmas.List.{get_or-take, get_or-drop, length-take-le}
 use Rattle.dv_defs.specs.declared.code.Insn.{Insn}
-use Rattle.dv_defs.specs.Formats.{Format, units_of, format_at, size_at, size_by}
+use Rattle.dv_defs.specs.Formats.{Format, size_in, format_at, size_at, size_by}
 use Rattle.std.proofs.lemmas.Bool.{lt-ltb}
 use mir.Syntax.{w16}
 use mir.Val.{Fits}
@@ -29,7 +29,7 @@ pub is_at : (i : Insn) (us units : List ℕ) (at : ℕ) → spelling i ≡ Some 
 is_at i us units at p e =
     let (f, s) = stands i us (drop at units) p e in
     let op : i.op ≡ opcode_at units at = s.opcode ∙ opcode_first units at in
-    let size : size_at (opcode_at units at) ≡ units_of f = ap size_by (sym (ap format_at op) ∙ s.format) in
+    let size : size_at (opcode_at units at) ≡ size_in f = ap size_by (sym (ap format_at op) ∙ s.format) in
     record {
       opcode = op;
       known = ap is_some (sym (ap format_at op) ∙ s.format);
@@ -38,14 +38,14 @@ is_at i us units at p e =
     }
 
 -- what the reader of the opcode's format gives stands there
-pub reads_there : (f : Format) (i : Insn) (units : List ℕ) (at : ℕ) → format_at (opcode_at units at) ≡ Some f → spelling_in f i ≡ Some (take (units_of f) (drop at units)) → spelling i ≡ Some (take (units_of f) (drop at units))
+pub reads_there : (f : Format) (i : Insn) (units : List ℕ) (at : ℕ) → format_at (opcode_at units at) ≡ Some f → spelling_in f i ≡ Some (take (size_in f) (drop at units)) → spelling i ≡ Some (take (size_in f) (drop at units))
 reads_there f i units at h p =
-    let first = get_or-take (units_of f) (drop at units) 0 0 (units_of_positive f) in
+    let first = get_or-take (size_in f) (drop at units) 0 0 (units_of_positive f) in
     let op : i.op ≡ opcode_at units at = sym (begins f i _ p).1 ∙ ap (λ n. n % 256) first ∙ opcode_first units at in
     ap (λ o. spelling_by o i) (ap format_at op ∙ h) ∙ p
 
 -- where the reader finds none, none stands there
-pub none_there : (f : Format) (units : List ℕ) (at : ℕ) → format_at (opcode_at units at) ≡ Some f → IsReading (spelling_in f) (take (units_of f) (drop at units)) None → NoneStandsAt units at
+pub none_there : (f : Format) (units : List ℕ) (at : ℕ) → format_at (opcode_at units at) ≡ Some f → IsReading (spelling_in f) (take (size_in f) (drop at units)) None → NoneStandsAt units at
 none_there f units at h none i us p e =
     none i (stands_by_opcode f i us (drop at units) (ap format_at (opcode_first units at) ∙ h) p e).units
 
@@ -58,11 +58,11 @@ only_there i j us units at n size h p q e =
     (unique_where_both_stand i j _ us (drop at units) p (stands_there n units at h) q e, size ∙ sym (is_at j us units at q e).size)
 
 -- what a reader's answer says of the address
-pub from_reader : (f : Format) (o : Option Insn) (units rest : List ℕ) (at : ℕ) → rest ≡ drop at units → format_at (opcode_at units at) ≡ Some f → IsReading (spelling_in f) (take (units_of f) rest) o → MatchOption o (NoneStandsAt units at) (λ i. spelling i ≡ Some (take (units_of f) (drop at units)))
+pub from_reader : (f : Format) (o : Option Insn) (units rest : List ℕ) (at : ℕ) → rest ≡ drop at units → format_at (opcode_at units at) ≡ Some f → IsReading (spelling_in f) (take (size_in f) rest) o → MatchOption o (NoneStandsAt units at) (λ i. spelling i ≡ Some (take (size_in f) (drop at units)))
 from_reader f None units rest at e h r =
-    let P : List ℕ → Type 0 = λ us. IsReading (spelling_in f) (take (units_of f) us) None in
+    let P : List ℕ → Type 0 = λ us. IsReading (spelling_in f) (take (size_in f) us) None in
     none_there f units at h (subst P e r)
-from_reader f (Some i) units rest at e h r = reads_there f i units at h (r ∙ ap (λ us. Some (take (units_of f) us)) e)
+from_reader f (Some i) units rest at e h r = reads_there f i units at h (r ∙ ap (λ us. Some (take (size_in f) us)) e)
 
 -- the units of a slice are numbers of 16 bits
 pub units_fit : (us : List ℕ) → ((i : ℕ) → Fits w16 (get_or us i 0)) → all_fit 16 us ≡ true

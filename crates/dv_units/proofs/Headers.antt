@@ -9,7 +9,7 @@ use Rattle.dv_defs.specs.declared.code.Payload.{Payload}
 use Rattle.dv_defs.specs.declared.code.Payload.TheVariants as payload
 use Rattle.dv_defs.specs.Numbers.{signed_at}
 use Rattle.dv_defs.specs.Decoding.{is_zero}
-use Rattle.dv_defs.specs.Tiling.{SizedPayload, doubles, signed_all, bytes_in, packed_of, sparse_of, is_width, data_in, data_of, payload_of, begins_payload}
+use Rattle.dv_defs.specs.Tiling.{SizedPayload, doubles, signed_all, bytes_in, packed_with, sparse_with, is_width, data_in, data_of, payload_of, begins_payload}
 use Rattle.dv_defs.specs.Payloads.{payload_here}
 use Rattle.dv_defs.proofs.PayloadBytes.{length_bytes_in}
 use Rattle.dv_defs.proofs.PayloadLaws.{data_fits, data_taken, both}
@@ -43,12 +43,12 @@ packed_sized n [] h = absurd (omega arith)
 packed_sized n (v ∷ []) h = absurd (omega arith)
 packed_sized n (v ∷ w ∷ us) h =
     let (ts, e) = doubles_some n us (omega arith) in
-    (payload.Packed (signed_at 32 (v + w * 2 ^ 16)) (signed_all ts), ap (λ o. packed_of n (with_number (v + w * 2 ^ 16) o)) e)
+    (payload.Packed (signed_at 32 (v + w * 2 ^ 16)) (signed_all ts), ap (λ o. packed_with n (with_number (v + w * 2 ^ 16) o)) e)
 
 sparse_sized : (n : ℕ) (us : List ℕ) → (n + n) * 2 ≤ length us → IsSizedHere (0x0200 ∷ n ∷ us) (n * 4 + 2)
 sparse_sized n us h =
     let (xs, e) = doubles_some (n + n) us h in
-    (payload.Sparse (signed_all (take n xs)) (signed_all (drop n xs)), ap (sparse_of n) e)
+    (payload.Sparse (signed_all (take n xs)) (signed_all (drop n xs)), ap (sparse_with n) e)
 
 -- the data that is computed from units
 pub data_is : (width lo hi m : ℕ) (us : List ℕ) → m ≡ (lo + hi * 2 ^ 16) * width → is_width width ≡ true → (m + 1) / 2 ≤ length us → list_all is_zero (drop m (bytes_in (take ((m + 1) / 2) us))) ≡ true
@@ -84,12 +84,12 @@ sparse_header (u ∷ n ∷ us) e l h = (ap (λ w. w ∷ n ∷ us) e, h)
 pub no_packed : (us : List ℕ) → get_or us 0 0 ≡ 0x0100 → 2 ≤ length us → length us < get_or us 1 0 * 2 + 4 → payload_here us ≡ None
 no_packed [] e l h = refl
 no_packed (u ∷ []) e l h = absurd (omega arith)
-no_packed (u ∷ n ∷ us) e l h = ap (λ w. payload_here (w ∷ n ∷ us)) e ∙ ap (packed_of n) (doubles_none (suc n) us (omega arith))
+no_packed (u ∷ n ∷ us) e l h = ap (λ w. payload_here (w ∷ n ∷ us)) e ∙ ap (packed_with n) (doubles_none (suc n) us (omega arith))
 
 pub no_sparse : (us : List ℕ) → get_or us 0 0 ≡ 0x0200 → 2 ≤ length us → length us < get_or us 1 0 * 4 + 2 → payload_here us ≡ None
 no_sparse [] e l h = refl
 no_sparse (u ∷ []) e l h = absurd (omega arith)
-no_sparse (u ∷ n ∷ us) e l h = ap (λ w. payload_here (w ∷ n ∷ us)) e ∙ ap (sparse_of n) (doubles_none (n + n) us (omega arith))
+no_sparse (u ∷ n ∷ us) e l h = ap (λ w. payload_here (w ∷ n ∷ us)) e ∙ ap (sparse_with n) (doubles_none (n + n) us (omega arith))
 
 abbrev by_mark : Bool → ℕ → List ℕ → Option SizedPayload
 by_mark b u us = elim b [ true ↦ payload_of (u / 256) us | false ↦ None ]

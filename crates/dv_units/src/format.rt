@@ -1,6 +1,6 @@
 // Opcodes and their formats.
 ghost use Rattle.std.specs.Prelude.{◌≡◌, ◌↔◌, IsTrue, IsOk, IfOk, Some, option_map};
-ghost use Rattle.dv_defs.specs.Formats.{format_at, is_float, is_unused, units_of};
+ghost use Rattle.dv_defs.specs.Formats.{format_at, is_float, is_unused, size_in};
 ghost use Rattle.dv_units.specs.Tables.{has_format, standard};
 
 use crate::UnitError;
@@ -8,7 +8,7 @@ use dv_optable::{Format, is_float, row_of};
 
 /// The number of units of an instruction of a format.
 pub fn units_of(format: Format) -> usize
-    ensures { result ≡ units_of (standard format) }
+    ensures { result ≡ size_in (standard format) }
 {
     match format {
         Format::F10x | Format::F12x | Format::F11n | Format::F11x | Format::F10t => 1,

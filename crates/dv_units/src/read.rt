@@ -1,6 +1,6 @@
 ghost use Rattle.std.specs.Prelude.{◌≡◌, ◌↔◌, ℕ, ◌-◌, ◌<◌, ◌≤◌, List, length, take, drop, Some, None, MatchOption, IfOk, OnErr, IsTrue};
 ghost use Rattle.dv_defs.specs.declared.code.Insn.{Insn};
-ghost use Rattle.dv_defs.specs.Formats.{units_of, format_at, size_at, is_unused, is_float};
+ghost use Rattle.dv_defs.specs.Formats.{size_in, format_at, size_at, is_unused, is_float};
 ghost use Rattle.dv_defs.specs.Spelling.{spelling};
 ghost use Rattle.dv_defs.specs.Decoding.{insn_here};
 ghost use Rattle.dv_units.specs.Tables.{standard, has_format};
@@ -16,9 +16,9 @@ use dv_optable::Format;
 /// The instruction that stands at `at`, of the format of its opcode.
 fn read_at(format: Format, units: &[u16], at: usize) -> Option<Insn>
     requires inside { at < length units.now }
-    requires whole { units_of (standard format) ≤ length units.now - at }
+    requires whole { size_in (standard format) ≤ length units.now - at }
     requires opcode { format_at (opcode_at units.now at) ≡ Some (standard format) }
-    ensures { MatchOption result (NoneStandsAt units.now at) (λ i. spelling i ≡ Some (take (units_of (standard format)) (drop at units.now))) }
+    ensures { MatchOption result (NoneStandsAt units.now at) (λ i. spelling i ≡ Some (take (size_in (standard format)) (drop at units.now))) }
 {
     let (_, rest) = units.split_at(at);
     read(format, rest)

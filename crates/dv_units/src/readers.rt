@@ -1,6 +1,6 @@
 // Reading an instruction by its format.
 ghost use Rattle.std.specs.Prelude.{◌<◌, ◌≤◌, length, take};
-ghost use Rattle.dv_defs.specs.Formats.{units_of};
+ghost use Rattle.dv_defs.specs.Formats.{size_in};
 ghost use Rattle.dv_defs.specs.Spelling.{spelling_in};
 ghost use Rattle.dv_units.specs.Tables.{standard};
 ghost use Rattle.dv_units.specs.Reading.{IsReading};
@@ -21,8 +21,8 @@ use registers::{read_10x, read_11x, read_12x, read_22x, read_23x, read_32x};
 /// The instruction of a format that stands at the start of `units`.
 pub fn read(format: Format, units: &[u16]) -> Option<Insn>
     requires some { 0 < length units.now }
-    requires whole { units_of (standard format) ≤ length units.now }
-    ensures { IsReading (spelling_in (standard format)) (take (units_of (standard format)) units.now) result }
+    requires whole { size_in (standard format) ≤ length units.now }
+    ensures { IsReading (spelling_in (standard format)) (take (size_in (standard format)) units.now) result }
 {
     let (high, op) = bytes(units[0]);
     match format {
