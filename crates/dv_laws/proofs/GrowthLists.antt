@@ -1,5 +1,5 @@
 -- Lists that grow at their end or change at one place.
-use Rattle.std.proofs.Common.{subst, ◌≡◌, ◌≢◌, ◌⊎◌, inl, inr, ℕ, zero, suc, List, [], ◌∷◌, ◌++◌, length, Some, None, refl, ap, arith}
+use Rattle.std.proofs.Common.{subst, ◌≡◌, ◌≢◌, ◌⊎◌, inl, inr, ℕ, zero, suc, List, [], ◌∷◌, ◌++◌, length, Some, None, refl, sym, ap, arith}
 use Rattle.std.specs.Prelude.{slice_get, slice_set, All}
 use Rattle.std.proofs.lemmas.Option.{same_Some}
 
@@ -31,6 +31,12 @@ pub set_there : {A : Type 0} (xs : List A) (k : ℕ) (v x : A) → slice_get xs 
 set_there [] k v x e = absurd (cc)
 set_there (y ∷ ys) zero v x e = refl
 set_there (y ∷ ys) (suc k) v x e = set_there ys k v x e
+
+-- what stands there, written again, changes nothing
+pub set_same : {A : Type 0} (xs : List A) (k : ℕ) (x : A) → slice_get xs k ≡ Some x → slice_set xs k x ≡ xs
+set_same [] k x e = refl
+set_same (y ∷ ys) zero x e = ap (λ z. z ∷ ys) (sym (same_Some y x e))
+set_same (y ∷ ys) (suc k) x e = ap (λ zs. y ∷ zs) (set_same ys k x e)
 
 pub set_other : {A : Type 0} (xs : List A) (k j : ℕ) (v : A) → j ≢ k → slice_get (slice_set xs k v) j ≡ slice_get xs j
 set_other [] k j v d = refl

@@ -96,3 +96,4 @@ pub mod ReturnsShape
 pub mod Runs
 pub mod SoundSteps
 pub mod Stores
+pub mod Waiting

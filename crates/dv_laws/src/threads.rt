@@ -1,5 +1,5 @@
 // The laws of monitors and threads.
-ghost use Rattle.dv_machine.specs.StepLaws.{LeftIsWellTyped, MonitorStepsAreFine, NeedsAreFine, RecordsAreFine, NewThreadIsFine};
+ghost use Rattle.dv_machine.specs.StepLaws.{LeftIsWellTyped, MonitorStepsAreFine, NeedsAreFine, RecordsAreFine, NewThreadIsFine, BlockedStepsWait, EndedStepsStay};
 ghost use Rattle.dv_laws.specs.MonitorLaws.{EnteringKeeps, ExitingKeeps, WaitingKeeps, NotifyingKeeps, ResumingKeeps};
 
 /// Monitors stay in order when one is entered or exited, when a thread waits, is notified, or takes its monitor back.
@@ -34,4 +34,12 @@ pub fn records_are_fine()
 /// A thread that is started, on an object whose class has a run method, is in order.
 pub fn new_threads_are_fine()
     ensures law { NewThreadIsFine }
+{}
+
+/// What a thread is blocked by is what its step waits for: a step of one that is held up changes the count of steps alone,
+/// and a step of one that has ended, or isn't there, changes nothing. This holds in every state.
+#[tactic(auto, using(crate::proofs::Waiting::blocked_steps_wait, crate::proofs::Waiting::ended_steps_stay))]
+pub fn held_up_threads_stay()
+    ensures blocked { BlockedStepsWait }
+    ensures ended { EndedStepsStay }
 {}

@@ -1,6 +1,6 @@
 -- The statements of the laws, side by side.
 use Rattle.dv_machine.specs.Laws.{DecodingInvertsSpelling, TypesAreOrdered, StatesAreOrdered, JoinIsLeast, TransferIsMonotone, DemandIsAntitone, AcceptanceGivesRecords, LookUpsFind}
-use Rattle.dv_machine.specs.StepLaws.{WriteKeeps, LongWriteKeeps, NewInstanceKeeps, ConstructorKeeps, OwnConstructorKeeps, ObjectIsAdded, ArrayIsAdded, StringIsAdded, StringIsInterned, ClassObjectIsGot, GrowthKeeps, StoreKeeps, StaticStoreKeeps, EntryConforms, InvokesPush, ReturnsPop, LocalStepsAreFine, HeapStepsAreFine, ThrowerIsHandled, CallersAreHandled, NeedersAreHandled, FlightsAreFine, NeedsAreFine, RecordsAreFine, MonitorStepsAreFine, NewThreadIsFine, LeftIsWellTyped, SettledIsWellTyped, SettledRecordIsWellTyped, OpeningIsWellTyped, StepsAreSound}
+use Rattle.dv_machine.specs.StepLaws.{WriteKeeps, LongWriteKeeps, NewInstanceKeeps, ConstructorKeeps, OwnConstructorKeeps, ObjectIsAdded, ArrayIsAdded, StringIsAdded, StringIsInterned, ClassObjectIsGot, GrowthKeeps, StoreKeeps, StaticStoreKeeps, EntryConforms, InvokesPush, ReturnsPop, LocalStepsAreFine, HeapStepsAreFine, ThrowerIsHandled, CallersAreHandled, NeedersAreHandled, FlightsAreFine, NeedsAreFine, RecordsAreFine, MonitorStepsAreFine, NewThreadIsFine, BlockedStepsWait, EndedStepsStay, LeftIsWellTyped, SettledIsWellTyped, SettledRecordIsWellTyped, OpeningIsWellTyped, StepsAreSound}
 
 pub record AllLaws : Type 0 where
   -- instructions and units
@@ -44,6 +44,9 @@ pub record AllLaws : Type 0 where
   pub flights_are_fine : FlightsAreFine
   pub needs_are_fine : NeedsAreFine
   pub records_are_fine : RecordsAreFine
+  -- threads that don't go on
+  pub blocked_steps_wait : BlockedStepsWait
+  pub ended_steps_stay : EndedStepsStay
   -- whole steps
   pub left_is_well_typed : LeftIsWellTyped
   pub settled_is_well_typed : SettledIsWellTyped

@@ -1,5 +1,5 @@
 -- The laws of registers, of the heap and of steps, as statements.
-use Rattle.std.specs.Prelude.{◌≡◌, ◌≢◌, ◌⊎◌, ℕ, suc, ◌≤◌, Bool, true, false, List, [], ◌∷◌, length, map, Option, Some, None, slice_get, slice_set, All}
+use Rattle.std.specs.Prelude.{◌≡◌, ◌≢◌, ◌⊎◌, ℕ, suc, ◌≤◌, Bool, true, false, List, [], ◌∷◌, length, map, Option, Some, None, Ok, slice_get, slice_set, All}
 use Rattle.dv_defs.specs.declared.names.Ty.{Ty}
 use Rattle.dv_defs.specs.declared.image.Image.{Image}
 use Rattle.dv_defs.specs.declared.run.Value.{Value}
@@ -10,6 +10,7 @@ use Rattle.dv_defs.specs.declared.machine.Kind.TheVariants as kind
 use Rattle.dv_defs.specs.declared.machine.Level.{Level}
 use Rattle.dv_defs.specs.declared.machine.Level.TheVariants as level
 use Rattle.dv_defs.specs.declared.machine.End.TheVariants as end
+use Rattle.dv_defs.specs.declared.machine.Blocked.{Blocked}
 use Rattle.dv_defs.specs.declared.typing.RegType.{RegType}
 use Rattle.dv_defs.specs.declared.typing.RegType.TheVariants as ty
 use Rattle.dv_defs.specs.declared.typing.RegState.{RegState}
@@ -24,9 +25,9 @@ use Rattle.dv_defs.specs.Transfer.{entry_state, arg_types, begins_uninitialised,
 use Rattle.dv_defs.specs.Heap.{Heap, Got, kind_of, newest, alloc_object, alloc_array, alloc_string, intern, class_object, with_cell, with_static, length_of}
 use Rattle.dv_machine.specs.State.{Thread, Machine, Left, Did, Here, reg_at, with_heap}
 use Rattle.dv_machine.specs.Calls.{entered_frame, object_of, initialised, class_of_kind}
-use Rattle.dv_machine.specs.Threads.{new_thread, run_method}
+use Rattle.dv_machine.specs.Threads.{is_living, new_thread, run_method}
 use Rattle.dv_machine.specs.Step.{step, act, with_ready, record_step, settled, gone_on, moved_on}
-use Rattle.dv_machine.specs.Running.{runnable, ending_of}
+use Rattle.dv_machine.specs.Running.{blocked_thread, runnable, ending_of}
 use Rattle.dv_machine.specs.Opening.{opening}
 use Rattle.dv_machine.specs.Conforming.{Own, Conforms, IsUninit, IsGood, IsOf, Conform}
 use Rattle.dv_machine.specs.WellTyped.{Typings, own_of, this_above, nobody, cell_types, BelowCode, StackFine, IsHandled, IsThrowable, HeapFine, WellTyped}
@@ -234,6 +235,20 @@ NewThreadIsFine =
     (image : Image) (T : Typings) (heap : Heap) (n o : ℕ) (run : Method) → Accepted image T →
     IsOf image heap o (of_class thread_name) → run_method image (class_of_kind image (kind_of heap o)) ≡ Some run →
     is_abstract run ≡ false → StartedFine image T heap n (new_thread o run)
+
+-- ---- threads that don't go on
+
+-- a step of a thread that is held up changes the count of steps alone, in every state
+abbrev pub BlockedStepsWait : Type 0
+BlockedStepsWait =
+    (image : Image) (m after : Machine) (t : ℕ) (thread : Thread) (b : Blocked) →
+    slice_get m.threads t ≡ Some thread → blocked_thread image m t thread ≡ Some b → step image m t ≡ Ok after →
+    after ≡ record m { steps = suc m.steps }
+
+-- a step of a thread that has ended, or isn't there, changes nothing
+abbrev pub EndedStepsStay : Type 0
+EndedStepsStay =
+    (image : Image) (m : Machine) (t : ℕ) → is_living (slice_get m.threads t) ≡ false → step image m t ≡ Ok m
 
 -- ---- whole steps
 

@@ -27,6 +27,7 @@ use Rattle.dv_laws.proofs.RecordsFine.{records_are_fine}
 use Rattle.dv_laws.proofs.GrowthThreads.{left_is_well_typed}
 use Rattle.dv_laws.proofs.FlightFlown.{settled_is_well_typed, settled_record_is_well_typed}
 use Rattle.dv_laws.proofs.OpeningState.{opening_is_well_typed}
+use Rattle.dv_laws.proofs.Waiting.{blocked_steps_wait, ended_steps_stay}
 use Rattle.dv_laws.proofs.SoundSteps.{steps_are_sound}
 use Rattle.dv_laws.proofs.sound.all_laws.Goals as goal
 
@@ -67,6 +68,8 @@ returns c = record {
     flights_are_fine = flights_are_fine;
     needs_are_fine = needs_are_fine;
     records_are_fine = records_are_fine;
+    blocked_steps_wait = blocked_steps_wait;
+    ended_steps_stay = ended_steps_stay;
     left_is_well_typed = left_is_well_typed;
     settled_is_well_typed = settled_is_well_typed;
     settled_record_is_well_typed = settled_record_is_well_typed;
