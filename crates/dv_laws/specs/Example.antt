@@ -2,8 +2,8 @@
 use Rattle.dv_defs.specs.declared.image.Image.{Image}
 use Rattle.dv_machine.specs.WellTyped.{Typings}
 use Rattle.dv_machine.specs.Accepted.{Accepted}
-use Rattle.dv_machine.specs.RunExceptions.{throwing}
-use Rattle.dv_machine.specs.RunObjects.{calling}
+use Rattle.dv_machine.specs.examples.Exceptions.{throwing}
+use Rattle.dv_machine.specs.examples.Objects.{calling}
 
 -- classes with fields and constructors, one under another, one that implements an interface, and calls of each kind
 unfoldable pub calls_example : Image

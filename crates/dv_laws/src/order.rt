@@ -3,13 +3,13 @@ ghost use Rattle.dv_machine.specs.Laws.{TypesAreOrdered, StatesAreOrdered, JoinI
 ghost use Rattle.dv_laws.specs.Conformity.{ValueConformityGoesUp, RegisterConformityGoesUp, FrameConformityGoesUp};
 
 /// Subtype is an order, and assignable, instance and fits go along it.
-#[tactic(auto, using(crate::proofs::OrderLaws::types_are_ordered))]
+#[tactic(auto, using(crate::proofs::lemmas::Order::Laws::types_are_ordered))]
 pub fn types_are_ordered()
     ensures law { TypesAreOrdered }
 {}
 
 /// So are states.
-#[tactic(auto, using(crate::proofs::OrderStates::states_are_ordered))]
+#[tactic(auto, using(crate::proofs::lemmas::Order::States::states_are_ordered))]
 pub fn states_are_ordered()
     ensures law { StatesAreOrdered }
 {}

@@ -31,6 +31,10 @@ use Rattle.dv_defs.specs.declared.class.Init.{Init}
 use Rattle.dv_defs.specs.declared.class.Init.TheVariants as init
 use Rattle.dv_defs.specs.declared.class.FieldDef.{FieldDef}
 
+-- the limits of a run for which the words ask nothing else
+abbrev pub usual : Limits
+usual = record { budget = 10000000; heap = 1048576; output = 16777216; threads = 64; levels = 1024; words = 16384 }
+
 -- uncounted, so never full
 abbrev pub made : Heap → Kind → Cells → Heap
 made heap k cells = grown heap k cells 0

@@ -6,7 +6,7 @@ use Rattle.dv_defs.specs.declared.image.Image.{Image}
 use Rattle.dv_defs.specs.declared.run.Ending.{Ending}
 use Rattle.dv_defs.specs.declared.run.Entry.{Entry}
 use Rattle.dv_defs.specs.Accepting.{AreImageFaults}
-use Rattle.dv_machine.specs.Outcomes.{usual}
+use Rattle.dv_machine.specs.Opening.{usual}
 use Rattle.dv_top.specs.declared.instruction.Instruction.{Instruction}
 use Rattle.dv_io.specs.Io.{after_write}
 use Rattle.dv_top.specs.Answering.{HasTaken, IsReadOf, MayRun, IsPrinted, IsPartlyPrinted}

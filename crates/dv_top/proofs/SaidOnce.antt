@@ -5,7 +5,7 @@ use Rattle.dv_defs.specs.declared.image.Image.{Image}
 use Rattle.dv_defs.specs.declared.run.Entry.{Entry}
 use Rattle.dv_defs.specs.Accepting.{AreImageFaults}
 use Rattle.dv_machine.specs.Final.{final_text}
-use Rattle.dv_machine.specs.Outcomes.{usual}
+use Rattle.dv_machine.specs.Opening.{usual}
 use Rattle.dv_machine.specs.Replaying.{Replayed, Stands, replay}
 use Rattle.dv_machine.specs.Running.{ending_of}
 use Rattle.dv_machine.specs.State.{Machine}

@@ -16,7 +16,7 @@ use Rattle.dv_defs.specs.Pools.{Method, method_at, name_at, class_named, declare
 use Rattle.dv_defs.specs.Types.{same_proto}
 use Rattle.dv_names.specs.Descriptors.{prototype}
 use Rattle.dv_machine.specs.Final.{final_text}
-use Rattle.dv_machine.specs.Outcomes.{usual}
+use Rattle.dv_machine.specs.Opening.{usual}
 use Rattle.dv_machine.specs.Replaying.{replay, Stands}
 use Rattle.dv_machine.specs.Running.{ending_of}
 use Rattle.dv_machine.specs.State.{Thread, Machine}

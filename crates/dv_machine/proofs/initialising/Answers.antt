@@ -1,4 +1,4 @@
-use Rattle.dv_machine.proofs.RunClasses as facts
+use Rattle.dv_machine.proofs.examples.Classes as facts
 use Rattle.dv_machine.proofs.initialising.Goals as goal
 
 pub returns : goal.returns

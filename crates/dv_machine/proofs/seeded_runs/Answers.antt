@@ -1,4 +1,4 @@
-use Rattle.dv_machine.proofs.RunSeeded as facts
+use Rattle.dv_machine.proofs.examples.Seeded as facts
 use Rattle.dv_machine.proofs.seeded_runs.Goals as goal
 
 pub returns : goal.returns

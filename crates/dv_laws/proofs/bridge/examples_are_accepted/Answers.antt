@@ -1,5 +1,5 @@
 -- The clauses of `examples_are_accepted`, each by its lemma.
-use Rattle.dv_laws.proofs.Examples.{calls_example_is_accepted, handlers_example_is_accepted}
+use Rattle.dv_laws.proofs.lemmas.Examples.Accepted.{calls_example_is_accepted, handlers_example_is_accepted}
 use Rattle.dv_laws.proofs.bridge.examples_are_accepted.Goals as goal
 
 pub returns-clause-calls : goal.returns-clause-calls

@@ -1,5 +1,5 @@
 -- The clauses of `handlers_are_found`, each by its lemma.
-use Rattle.dv_laws.proofs.FlightCallers.{thrower_is_handled, callers_are_handled, needers_are_handled}
+use Rattle.dv_laws.proofs.lemmas.Exceptions.Callers.{thrower_is_handled, callers_are_handled, needers_are_handled}
 use Rattle.dv_laws.proofs.exceptions.handlers_are_found.Goals as goal
 
 pub returns-clause-thrower : goal.returns-clause-thrower

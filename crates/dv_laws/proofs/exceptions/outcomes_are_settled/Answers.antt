@@ -1,5 +1,5 @@
 -- The clauses of `outcomes_are_settled`, each by its lemma.
-use Rattle.dv_laws.proofs.FlightFlown.{settled_is_well_typed, settled_record_is_well_typed}
+use Rattle.dv_laws.proofs.lemmas.Exceptions.Flown.{settled_is_well_typed, settled_record_is_well_typed}
 use Rattle.dv_laws.proofs.exceptions.outcomes_are_settled.Goals as goal
 
 pub returns-clause-instruction : goal.returns-clause-instruction

@@ -1,5 +1,5 @@
 -- The clause of `growth_keeps`, by its lemma.
-use Rattle.dv_laws.proofs.GrowthKeeps.{growth_keeps}
+use Rattle.dv_laws.proofs.lemmas.Growth.Keeps.{growth_keeps}
 use Rattle.dv_laws.proofs.heap.growth_keeps.Goals as goal
 
 pub returns : goal.returns

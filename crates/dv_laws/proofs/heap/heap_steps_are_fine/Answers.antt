@@ -1,5 +1,5 @@
 -- The clause of `heap_steps_are_fine`, by its lemma.
-use Rattle.dv_laws.proofs.HeapSteps.{heap_steps_are_fine}
+use Rattle.dv_laws.proofs.lemmas.HeapSteps.Fine.{heap_steps_are_fine}
 use Rattle.dv_laws.proofs.heap.heap_steps_are_fine.Goals as goal
 
 pub returns : goal.returns

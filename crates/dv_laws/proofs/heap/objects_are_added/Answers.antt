@@ -1,5 +1,5 @@
 -- The clauses of `objects_are_added`, each by its lemma.
-use Rattle.dv_laws.proofs.HeapAdded.{object_is_added, array_is_added, string_is_added}
+use Rattle.dv_laws.proofs.lemmas.Heap.Added.{object_is_added, array_is_added, string_is_added}
 use Rattle.dv_laws.proofs.heap.objects_are_added.Goals as goal
 
 pub returns-clause-object : goal.returns-clause-object

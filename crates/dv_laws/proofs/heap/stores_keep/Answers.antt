@@ -1,5 +1,5 @@
 -- The clauses of `stores_keep`, each by its lemma.
-use Rattle.dv_laws.proofs.Stores.{store_keeps, static_store_keeps}
+use Rattle.dv_laws.proofs.lemmas.Heap.Stored.{store_keeps, static_store_keeps}
 use Rattle.dv_laws.proofs.heap.stores_keep.Goals as goal
 
 pub returns-clause-cell : goal.returns-clause-cell

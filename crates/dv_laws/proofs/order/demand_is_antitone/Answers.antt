@@ -1,5 +1,5 @@
 -- The clause of `demand_is_antitone`, by its lemma.
-use Rattle.dv_laws.proofs.OrderSatisfied.{demand_is_antitone}
+use Rattle.dv_laws.proofs.lemmas.Order.Satisfied.{demand_is_antitone}
 use Rattle.dv_laws.proofs.order.demand_is_antitone.Goals as goal
 
 pub returns : goal.returns

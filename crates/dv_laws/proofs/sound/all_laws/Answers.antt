@@ -1,34 +1,34 @@
 -- Each law by its lemma.
-use Rattle.dv_laws.proofs.BridgeDecoding.{decoding_inverts_spelling}
-use Rattle.dv_laws.proofs.OrderLaws.{types_are_ordered}
-use Rattle.dv_laws.proofs.OrderStates.{states_are_ordered}
-use Rattle.dv_laws.proofs.OrderJoins.{join_is_least}
-use Rattle.dv_laws.proofs.OrderTransfer.{transfer_is_monotone}
-use Rattle.dv_laws.proofs.OrderSatisfied.{demand_is_antitone}
-use Rattle.dv_laws.proofs.BridgeRecords.{acceptance_gives_records}
-use Rattle.dv_laws.proofs.BridgeLookUps.{look_ups_find}
-use Rattle.dv_laws.proofs.RegistersWritten.{write_keeps, long_write_keeps}
-use Rattle.dv_laws.proofs.RegistersMade.{new_instance_keeps, constructor_keeps, own_constructor_keeps}
-use Rattle.dv_laws.proofs.HeapAdded.{object_is_added, array_is_added, string_is_added}
-use Rattle.dv_laws.proofs.HeapInterned.{string_is_interned, class_object_is_got}
-use Rattle.dv_laws.proofs.GrowthKeeps.{growth_keeps}
-use Rattle.dv_laws.proofs.Stores.{store_keeps, static_store_keeps}
-use Rattle.dv_laws.proofs.LocalFine.{local_steps_are_fine}
-use Rattle.dv_laws.proofs.HeapSteps.{heap_steps_are_fine}
-use Rattle.dv_laws.proofs.CallsEntered.{entry_conforms}
-use Rattle.dv_laws.proofs.CallsPush.{invokes_push}
-use Rattle.dv_laws.proofs.ReturnsFine.{returns_pop}
-use Rattle.dv_laws.proofs.MonitorsSteps.{monitor_steps_are_fine}
-use Rattle.dv_laws.proofs.RecordsStarted.{new_thread_is_fine}
-use Rattle.dv_laws.proofs.FlightCallers.{thrower_is_handled, callers_are_handled, needers_are_handled}
-use Rattle.dv_laws.proofs.FlightRecords.{flights_are_fine}
-use Rattle.dv_laws.proofs.RecordsNeeded.{needs_are_fine}
-use Rattle.dv_laws.proofs.RecordsFine.{records_are_fine}
-use Rattle.dv_laws.proofs.GrowthThreads.{left_is_well_typed}
-use Rattle.dv_laws.proofs.FlightFlown.{settled_is_well_typed, settled_record_is_well_typed}
-use Rattle.dv_laws.proofs.OpeningState.{opening_is_well_typed}
-use Rattle.dv_laws.proofs.Waiting.{blocked_steps_wait, ended_steps_stay}
-use Rattle.dv_laws.proofs.SoundSteps.{steps_are_sound}
+use Rattle.dv_laws.proofs.lemmas.Bridge.Decoding.{decoding_inverts_spelling}
+use Rattle.dv_laws.proofs.lemmas.Order.Laws.{types_are_ordered}
+use Rattle.dv_laws.proofs.lemmas.Order.States.{states_are_ordered}
+use Rattle.dv_laws.proofs.lemmas.Order.Joins.{join_is_least}
+use Rattle.dv_laws.proofs.lemmas.Order.Transfer.{transfer_is_monotone}
+use Rattle.dv_laws.proofs.lemmas.Order.Satisfied.{demand_is_antitone}
+use Rattle.dv_laws.proofs.lemmas.Bridge.Records.{acceptance_gives_records}
+use Rattle.dv_laws.proofs.lemmas.Bridge.LookUps.{look_ups_find}
+use Rattle.dv_laws.proofs.lemmas.Registers.Written.{write_keeps, long_write_keeps}
+use Rattle.dv_laws.proofs.lemmas.Registers.Made.{new_instance_keeps, constructor_keeps, own_constructor_keeps}
+use Rattle.dv_laws.proofs.lemmas.Heap.Added.{object_is_added, array_is_added, string_is_added}
+use Rattle.dv_laws.proofs.lemmas.Heap.Interned.{string_is_interned, class_object_is_got}
+use Rattle.dv_laws.proofs.lemmas.Growth.Keeps.{growth_keeps}
+use Rattle.dv_laws.proofs.lemmas.Heap.Stored.{store_keeps, static_store_keeps}
+use Rattle.dv_laws.proofs.lemmas.Local.Fine.{local_steps_are_fine}
+use Rattle.dv_laws.proofs.lemmas.HeapSteps.Fine.{heap_steps_are_fine}
+use Rattle.dv_laws.proofs.lemmas.Calls.Entered.{entry_conforms}
+use Rattle.dv_laws.proofs.lemmas.Calls.Push.{invokes_push}
+use Rattle.dv_laws.proofs.lemmas.Returns.Fine.{returns_pop}
+use Rattle.dv_laws.proofs.lemmas.Monitors.Steps.{monitor_steps_are_fine}
+use Rattle.dv_laws.proofs.lemmas.Records.Started.{new_thread_is_fine}
+use Rattle.dv_laws.proofs.lemmas.Exceptions.Callers.{thrower_is_handled, callers_are_handled, needers_are_handled}
+use Rattle.dv_laws.proofs.lemmas.Exceptions.Records.{flights_are_fine}
+use Rattle.dv_laws.proofs.lemmas.Records.Needed.{needs_are_fine}
+use Rattle.dv_laws.proofs.lemmas.Records.Fine.{records_are_fine}
+use Rattle.dv_laws.proofs.lemmas.Growth.Threads.{left_is_well_typed}
+use Rattle.dv_laws.proofs.lemmas.Exceptions.Flown.{settled_is_well_typed, settled_record_is_well_typed}
+use Rattle.dv_laws.proofs.lemmas.Opening.State.{opening_is_well_typed}
+use Rattle.dv_laws.proofs.lemmas.Steps.HeldUp.{blocked_steps_wait, ended_steps_stay}
+use Rattle.dv_laws.proofs.lemmas.Steps.Sound.{steps_are_sound}
 use Rattle.dv_laws.proofs.sound.all_laws.Goals as goal
 
 pub returns : goal.returns

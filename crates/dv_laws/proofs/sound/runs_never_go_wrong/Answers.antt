@@ -1,8 +1,8 @@
 -- The clause of `runs_never_go_wrong`, by its lemma.
-use Rattle.dv_laws.proofs.BridgeLaws.{bridge_holds}
-use Rattle.dv_laws.proofs.OpeningState.{opening_is_well_typed}
-use Rattle.dv_laws.proofs.SoundSteps.{steps_are_sound}
-use Rattle.dv_laws.proofs.Runs.{runs_never_go_wrong}
+use Rattle.dv_laws.proofs.lemmas.Bridge.Laws.{bridge_holds}
+use Rattle.dv_laws.proofs.lemmas.Opening.State.{opening_is_well_typed}
+use Rattle.dv_laws.proofs.lemmas.Steps.Sound.{steps_are_sound}
+use Rattle.dv_laws.proofs.lemmas.Steps.Runs.{runs_never_go_wrong}
 use Rattle.dv_laws.proofs.sound.runs_never_go_wrong.Goals as goal
 
 pub returns : goal.returns

@@ -1,5 +1,5 @@
 -- The clause of `steps_are_sound`, by its lemma.
-use Rattle.dv_laws.proofs.SoundSteps.{steps_are_sound}
+use Rattle.dv_laws.proofs.lemmas.Steps.Sound.{steps_are_sound}
 use Rattle.dv_laws.proofs.sound.steps_are_sound.Goals as goal
 
 pub returns : goal.returns

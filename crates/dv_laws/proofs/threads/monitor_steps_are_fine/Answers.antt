@@ -1,5 +1,5 @@
 -- The clause of `monitor_steps_are_fine`, by its lemma.
-use Rattle.dv_laws.proofs.MonitorsSteps.{monitor_steps_are_fine}
+use Rattle.dv_laws.proofs.lemmas.Monitors.Steps.{monitor_steps_are_fine}
 use Rattle.dv_laws.proofs.threads.monitor_steps_are_fine.Goals as goal
 
 pub returns : goal.returns

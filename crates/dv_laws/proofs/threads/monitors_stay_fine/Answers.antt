@@ -1,5 +1,5 @@
 -- The clauses of `monitors_stay_fine`, each by its lemma.
-use Rattle.dv_laws.proofs.MonitorsFine.{entering_keeps, exiting_keeps, waiting_keeps, notifying_keeps, resuming_keeps}
+use Rattle.dv_laws.proofs.lemmas.Monitors.Fine.{entering_keeps, exiting_keeps, waiting_keeps, notifying_keeps, resuming_keeps}
 use Rattle.dv_laws.proofs.threads.monitors_stay_fine.Goals as goal
 
 pub returns-clause-entering : goal.returns-clause-entering

@@ -1,0 +1,6 @@
+-- Monitors and waiting stay in order.
+pub mod Fine
+pub mod Lists
+pub mod Moved
+pub mod Owners
+pub mod Steps

@@ -1,0 +1,5 @@
+-- Each native method is fine.
+pub mod Monitors
+pub mod Plain
+pub mod Shared
+pub mod Started

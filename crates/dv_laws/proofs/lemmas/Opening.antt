@@ -1,0 +1,4 @@
+-- The state in which a run begins.
+pub mod Cells
+pub mod Heap
+pub mod State

@@ -1,0 +1,181 @@
+-- The order of states, and conformity along it.
+use Rattle.std.proofs.Common.{◌≡◌, ℕ, zero, suc, true, length, List, Option, Some, None, refl, ◌∙◌, subst}
+use Rattle.std.proofs.lemmas.Bool.{eqb-true, eq-eqb}
+use Rattle.dv_defs.specs.declared.names.Ty.{Ty}
+use Rattle.dv_defs.specs.declared.image.Image.{Image}
+use Rattle.dv_defs.specs.declared.run.Value.{Value}
+use Rattle.dv_defs.specs.declared.run.Value.TheVariants as v
+use Rattle.dv_defs.specs.declared.machine.Frame.{Frame}
+use Rattle.dv_defs.specs.declared.machine.Pending.{Pending}
+use Rattle.dv_defs.specs.declared.typing.RegType.{RegType}
+use Rattle.dv_defs.specs.declared.typing.RegType.TheVariants as ty
+use Rattle.dv_defs.specs.declared.typing.PendingType.{PendingType}
+use Rattle.dv_defs.specs.declared.typing.PendingType.TheVariants as pend
+use Rattle.dv_defs.specs.declared.typing.RegState.{RegState}
+use Rattle.dv_defs.specs.Heap.{Heap}
+use Rattle.dv_defs.specs.Order.{sub}
+use Rattle.dv_defs.specs.RegTypes.{Types, type_at, under, UnderPending, UnderCaught, IsBelow}
+use Rattle.dv_machine.specs.State.{reg_at}
+use Rattle.dv_machine.specs.Conforming.{Own, IsOf, Fits, Conforms, IsUninit, AreApart, IsGood, ResultConforms, CaughtConforms, Conform}
+use Rattle.dv_machine.specs.Accepted.{IsOrder}
+use Rattle.dv_machine.specs.Laws.{StatesAreOrdered}
+use Rattle.dv_laws.specs.Conformity.{ValueConformityGoesUp, RegisterConformityGoesUp, FrameConformityGoesUp}
+use Rattle.dv_laws.proofs.lemmas.Common.Facts.{no}
+use Rattle.dv_laws.proofs.lemmas.Order.Laws.{types_are_ordered}
+
+module _ (image : Image) (ord : IsOrder image) where
+  -- ---- types
+
+  pub under_same : (t : RegType) → under image t t ≡ true
+  under_same (ty.Class c) = ord.same c
+  under_same (ty.Uninit a) = eq-eqb a a refl
+  under_same ty.Conflict = refl
+  under_same ty.Zero = refl
+  under_same ty.Int = refl
+  under_same ty.LongLo = refl
+  under_same ty.LongHi = refl
+  under_same ty.UninitThis = refl
+
+  trans_from : (u t s : RegType) → under image s t ≡ true → under image t u ≡ true → under image s u ≡ true
+  trans_from ty.Conflict t s x y = refl
+  trans_from ty.Zero ty.Zero ty.Zero x y = refl
+  trans_from ty.Int ty.Zero ty.Zero x y = refl
+  trans_from ty.Int ty.Int ty.Zero x y = refl
+  trans_from ty.Int ty.Int ty.Int x y = refl
+  trans_from (ty.Class d) ty.Zero ty.Zero x y = refl
+  trans_from (ty.Class d) (ty.Class c) ty.Zero x y = refl
+  trans_from (ty.Class d) (ty.Class c) (ty.Class b) x y = ord.trans b c d x y
+  trans_from ty.LongLo ty.LongLo ty.LongLo x y = refl
+  trans_from ty.LongHi ty.LongHi ty.LongHi x y = refl
+  trans_from (ty.Uninit c) (ty.Uninit b) (ty.Uninit a) x y = eq-eqb a c (eqb-true a b x ∙ eqb-true b c y)
+  trans_from ty.UninitThis ty.UninitThis ty.UninitThis x y = refl
+  trans_from u t s x y = absurd (cc)
+
+  pub under_trans : (s t u : RegType) → under image s t ≡ true → under image t u ≡ true → under image s u ≡ true
+  under_trans s t u x y = trans_from u t s x y
+
+  -- ---- states
+
+  pub pending_same : (r : PendingType) → UnderPending r r
+  pending_same pend.None = tt
+  pending_same (pend.One t) = refl
+  pending_same pend.Long = refl
+
+  pending_trans : (r p q : PendingType) → UnderPending r p → UnderPending p q → UnderPending r q
+  pending_trans r p pend.None x y = tt
+  pending_trans r p (pend.One t) x y = subst (λ (z : PendingType). UnderPending r z) y x
+  pending_trans r p pend.Long x y = subst (λ (z : PendingType). UnderPending r z) y x
+
+  caught_same : (c : Option Ty) → UnderCaught image c c
+  caught_same None = tt
+  caught_same (Some c) = ord.same c
+
+  caught_trans : (c d e : Option Ty) → UnderCaught image c d → UnderCaught image d e → UnderCaught image c e
+  caught_trans c d None x y = tt
+  caught_trans c None (Some e) x y = absurd y
+  caught_trans None (Some d) (Some e) x y = absurd x
+  caught_trans (Some c) (Some d) (Some e) x y = ord.trans c d e x y
+
+  pub below_same : (s : RegState) → IsBelow image s s
+  below_same s = record { each = λ k. under_same (type_at s.regs k); count = refl; result = pending_same s.result; caught = caught_same s.caught; this_pending = λ e. e }
+
+  pub below_trans : (s t u : RegState) → IsBelow image s t → IsBelow image t u → IsBelow image s u
+  below_trans s t u x y = record {
+    each = λ k. under_trans (type_at s.regs k) (type_at t.regs k) (type_at u.regs k) (x.each k) (y.each k);
+    count = x.count ∙ y.count;
+    result = pending_trans s.result t.result u.result x.result y.result;
+    caught = caught_trans s.caught t.caught u.caught x.caught y.caught;
+    this_pending = λ e. y.this_pending (x.this_pending e);
+  }
+
+  -- ---- conformity
+
+  module _ (heap : Heap) (own : Own) where
+    pub is_of_up : (o : ℕ) (s t : Ty) → sub image s t ≡ true → IsOf image heap o s → IsOf image heap o t
+    is_of_up o s t e h = record { object = h.object; fits = ord.fits_up _ s t h.fits e }
+
+    fits_up : (o : ℕ) (s t : Ty) → sub image s t ≡ true → Fits image heap o s → Fits image heap o t
+    fits_up zero s t e f = tt
+    fits_up (suc o) s t e f = is_of_up (suc o) s t e f
+
+    zero_is_int : (x : Value) → Conforms image heap own x ty.Zero → Conforms image heap own x ty.Int
+    zero_is_int v.Zero c = tt
+    zero_is_int x c = absurd c
+
+    zero_is_class : (x : Value) (t : Ty) → Conforms image heap own x ty.Zero → Conforms image heap own x (ty.Class t)
+    zero_is_class v.Zero t c = tt
+    zero_is_class x t c = absurd c
+
+    class_is_class : (x : Value) (s t : Ty) → sub image s t ≡ true → Conforms image heap own x (ty.Class s) → Conforms image heap own x (ty.Class t)
+    class_is_class v.Zero s t e c = tt
+    class_is_class (v.Ref o) s t e c = fits_up o s t e c
+    class_is_class x s t e c = absurd c
+
+    pub value_up : (x : Value) (s t : RegType) → under image s t ≡ true → Conforms image heap own x s → Conforms image heap own x t
+    value_up x s ty.Conflict e c = tt
+    value_up x ty.Zero ty.Zero e c = c
+    value_up x ty.Zero ty.Int e c = zero_is_int x c
+    value_up x ty.Zero (ty.Class t) e c = zero_is_class x t c
+    value_up x ty.Int ty.Int e c = c
+    value_up x ty.LongLo ty.LongLo e c = c
+    value_up x ty.LongHi ty.LongHi e c = c
+    value_up x (ty.Class s) (ty.Class t) e c = class_is_class x s t e c
+    value_up x (ty.Uninit a) (ty.Uninit b) e c = subst (λ (z : ℕ). Conforms image heap own x (ty.Uninit z)) (eqb-true a b e) c
+    value_up x ty.UninitThis ty.UninitThis e c = c
+    value_up x s t e c = no e
+
+    -- under an uninitialised type is that type alone
+    uninit_same : (s t : RegType) → under image s t ≡ true → IsUninit t → s ≡ t
+    uninit_same (ty.Uninit a) (ty.Uninit b) e u = subst (λ (z : ℕ). ty.Uninit a ≡ ty.Uninit z) (eqb-true a b e) refl
+    uninit_same ty.UninitThis ty.UninitThis e u = refl
+    uninit_same s ty.Conflict e u = absurd u
+    uninit_same s ty.Zero e u = absurd u
+    uninit_same s ty.Int e u = absurd u
+    uninit_same s ty.LongLo e u = absurd u
+    uninit_same s ty.LongHi e u = absurd u
+    uninit_same s (ty.Class c) e u = absurd u
+    uninit_same s t e u = no e
+
+    apart_up : (xs : List Value) (ss ts : Types) → ((k : ℕ) → under image (type_at ss k) (type_at ts k) ≡ true) → AreApart xs ss → AreApart xs ts
+    apart_up xs ss ts e h j k a b =
+        let p = uninit_same (type_at ss j) (type_at ts j) (e j) a in
+        let q = uninit_same (type_at ss k) (type_at ts k) (e k) b in
+        rw (← p, ← q) (h j k (rw (← p) at a) (rw (← q) at b))
+
+    pub registers_up : (xs : List Value) (ss ts : Types) → ((k : ℕ) → under image (type_at ss k) (type_at ts k) ≡ true) → length ss ≡ length ts → IsGood image heap own xs ss → IsGood image heap own xs ts
+    registers_up xs ss ts e n h = record {
+      regs = λ k. value_up (reg_at xs k) (type_at ss k) (type_at ts k) (e k) (h.regs k);
+      count = h.count ∙ n;
+      apart = apart_up xs ss ts e h.apart;
+    }
+
+    result_up : (p : Pending) (r q : PendingType) → UnderPending r q → ResultConforms image heap own p r → ResultConforms image heap own p q
+    result_up p r pend.None u c = tt
+    result_up p r (pend.One t) u c = subst (λ (z : PendingType). ResultConforms image heap own p z) u c
+    result_up p r pend.Long u c = subst (λ (z : PendingType). ResultConforms image heap own p z) u c
+
+    caught_up : (o : Option ℕ) (c d : Option Ty) → UnderCaught image c d → CaughtConforms image heap o c → CaughtConforms image heap o d
+    caught_up o c None u h = tt
+    caught_up o None (Some d) u h = absurd u
+    caught_up None (Some c) (Some d) u h = absurd h
+    caught_up (Some o) (Some c) (Some d) u h = is_of_up o c d u h
+
+    pub frame_up : (f : Frame) (s t : RegState) → IsBelow image s t → Conform image heap own f s → Conform image heap own f t
+    frame_up f s t b c = record {
+      good = registers_up f.regs s.regs t.regs b.each b.count c.good;
+      result = result_up f.result s.result t.result b.result c.result;
+      caught = caught_up f.caught s.caught t.caught b.caught c.caught;
+      this_pending = λ e. b.this_pending (c.this_pending e);
+    }
+
+pub states_are_ordered : StatesAreOrdered
+states_are_ordered image h = record { same = below_same image (types_are_ordered image h); trans = below_trans image (types_are_ordered image h) }
+
+pub value_conformity_goes_up : ValueConformityGoesUp
+value_conformity_goes_up image ord heap own x s t e c = value_up image ord heap own x s t e c
+
+pub register_conformity_goes_up : RegisterConformityGoesUp
+register_conformity_goes_up image ord heap own xs ss ts e n h = registers_up image ord heap own xs ss ts e n h
+
+pub frame_conformity_goes_up : FrameConformityGoesUp
+frame_conformity_goes_up image ord heap own f s t b c = frame_up image ord heap own f s t b c

@@ -1,0 +1,6 @@
+-- Class initialisation: the instructions that need it, records, and new threads.
+pub mod Entered
+pub mod Fine
+pub mod Needed
+pub mod Started
+pub mod States

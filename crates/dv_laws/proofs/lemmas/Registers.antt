@@ -1,0 +1,3 @@
+-- Writes to registers, and what a constructor leaves of them.
+pub mod Made
+pub mod Written
