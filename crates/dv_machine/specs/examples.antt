@@ -1,5 +1,6 @@
 -- Example programs, over all boot classes, and what is asked of their runs. First how images are written and runs are told.
 pub mod Images
+pub mod BootClasses
 pub mod BootImage
 pub mod Outcomes
 pub mod Passes

@@ -55,7 +55,11 @@ use Rattle.dv_machine.specs.examples.Outcomes.{lines, outcome, replay_text, step
 abbrev pub crossing : Image
 crossing = with_boot
     (class (codes "LMain;") (Some 0) [] 0 []
-    (method (codes "main") [] None 8 (Some (body_with 1 (0x0022 ∷ 0x0000 ∷ 0x1070 ∷ 0x0000 ∷ 0x0000 ∷ 0x106e ∷ 0x0001 ∷ 0x0000 ∷ 0x0071 ∷ 0x0002 ∷ 0x0000 ∷ 0x000e ∷ []) [] [] ((of_class (codes "LT;")) ∷ []))) ∷ []) [] ∷
+    (method (codes "main") [] None 8
+        (Some (body_with 1
+              (0x0022 ∷ 0x0000 ∷ 0x1070 ∷ 0x0000 ∷ 0x0000 ∷ 0x106e ∷ 0x0001 ∷ 0x0000 ∷ 0x0071 ∷ 0x0002 ∷ 0x0000 ∷
+               0x000e ∷ [])
+              [] [] (of_class (codes "LT;") ∷ []))) ∷ []) [] ∷
     class (codes "LA;") (Some 0) [] 0 []
     (method (codes "touch") [] None 8 (Some (body 0 (0x000e ∷ [])))
     ∷ method (codes "<clinit>") [] None 8 (Some (body 0 (0x0071 ∷ 0x0000 ∷ 0x0000 ∷ 0x000e ∷ []))) ∷ []) [] ∷
@@ -65,7 +69,7 @@ crossing = with_boot
     class (codes "LT;") (Some 3) [] 0 []
     (method (codes "<init>") [] None 0 (Some (body 1 (0x1070 ∷ 0x0000 ∷ 0x0000 ∷ 0x000e ∷ [])))
     ∷ method (codes "run") [] None 0 (Some (body 1 (0x0071 ∷ 0x0000 ∷ 0x0000 ∷ 0x000e ∷ []))) ∷ []) (0 ∷ []) ∷ [])
-    (info 33 0 ((of_class (codes "LT;")) ∷ []) [] (103 ∷ 9 ∷ 101 ∷ []) ∷
+    (info 33 0 (of_class (codes "LT;") ∷ []) [] (103 ∷ 9 ∷ 101 ∷ []) ∷
     info 34 0 [] [] [] ∷
     info 34 1 [] [] (101 ∷ []) ∷
     info 35 0 [] [] [] ∷
@@ -104,12 +108,19 @@ crossing = with_boot
 abbrev pub failing : Image
 failing = with_boot
     (class (codes "LMain;") (Some 0) [] 0 []
-    (method (codes "main") [] None 8 (Some (body_with 1 (0x0071 ∷ 0x0000 ∷ 0x0000 ∷ 0x000e ∷ 0x1012 ∷ 0x1071 ∷ 0x0001 ∷ 0x0000 ∷ 0x0071 ∷ 0x0000 ∷ 0x0000 ∷ 0x000e ∷ []) (entry_over 0 3 (catch_type 0 4 ∷ []) ∷ []) [] ((of_class (codes "Ljava/lang/ExceptionInInitializerError;")) ∷ []))) ∷ []) [] ∷
+    (method (codes "main") [] None 8
+        (Some (body_with 1
+              (0x0071 ∷ 0x0000 ∷ 0x0000 ∷ 0x000e ∷ 0x1012 ∷ 0x1071 ∷ 0x0001 ∷ 0x0000 ∷ 0x0071 ∷ 0x0000 ∷ 0x0000 ∷
+               0x000e ∷ [])
+              (entry_over 0 3 (catch_type 0 4 ∷ []) ∷ [])
+              [] (of_class (codes "Ljava/lang/ExceptionInInitializerError;") ∷ []))) ∷ []) [] ∷
     class (codes "LX;") (Some 0) [] 0 []
-    (method (codes "<clinit>") [] None 8 (Some (body_with 1 (0x0022 ∷ 0x0000 ∷ 0x1070 ∷ 0x0000 ∷ 0x0000 ∷ 0x0027 ∷ []) [] [] ((of_class (codes "Ljava/lang/RuntimeException;")) ∷ [])))
+    (method (codes "<clinit>") [] None 8
+        (Some (body_with 1 (0x0022 ∷ 0x0000 ∷ 0x1070 ∷ 0x0000 ∷ 0x0000 ∷ 0x0027 ∷ [])
+              [] [] (of_class (codes "Ljava/lang/RuntimeException;") ∷ [])))
     ∷ method (codes "t") [] None 8 (Some (body 0 (0x000e ∷ []))) ∷ []) [] ∷ [])
-    (info 33 0 ((of_class (codes "Ljava/lang/ExceptionInInitializerError;")) ∷ []) [] (100 ∷ 40 ∷ []) ∷
-    info 34 0 ((of_class (codes "Ljava/lang/RuntimeException;")) ∷ []) [] (55 ∷ []) ∷
+    (info 33 0 (of_class (codes "Ljava/lang/ExceptionInInitializerError;") ∷ []) [] (100 ∷ 40 ∷ []) ∷
+    info 34 0 (of_class (codes "Ljava/lang/RuntimeException;") ∷ []) [] (55 ∷ []) ∷
     info 34 1 [] [] [] ∷ [])
     []
 
@@ -155,7 +166,8 @@ abbrev pub ordering : Image
 ordering = with_boot
     (class (codes "LMain;") (Some 0) [] 0 []
     (method (codes "<clinit>") [] None 8 (Some (body 1 (0x1012 ∷ 0x1071 ∷ 0x0000 ∷ 0x0000 ∷ 0x000e ∷ [])))
-    ∷ method (codes "main") [] None 8 (Some (body 1 (0x0071 ∷ 0x0000 ∷ 0x0000 ∷ 0x0060 ∷ 0x0000 ∷ 0x1071 ∷ 0x0001 ∷ 0x0000 ∷ 0x000e ∷ []))) ∷ []) [] ∷
+    ∷ method (codes "main") [] None 8
+        (Some (body 1 (0x0071 ∷ 0x0000 ∷ 0x0000 ∷ 0x0060 ∷ 0x0000 ∷ 0x1071 ∷ 0x0001 ∷ 0x0000 ∷ 0x000e ∷ []))) ∷ []) [] ∷
     class (codes "LUpper;") (Some 0) [] 0
     (with_init (init.Num (pos 7)) (field (codes "x") of_int 8) ∷ [])
     (method (codes "<clinit>") [] None 8 (Some (body 1 (0x2012 ∷ 0x1071 ∷ 0x0000 ∷ 0x0000 ∷ 0x000e ∷ []))) ∷ []) [] ∷
@@ -192,9 +204,13 @@ ordering = with_boot
 abbrev pub failing_main : Image
 failing_main = with_boot
     (class (codes "LMain;") (Some 0) [] 0 []
-    (method (codes "<clinit>") [] None 8 (Some (body_with 1 (0x0022 ∷ 0x0000 ∷ 0x1070 ∷ 0x0000 ∷ 0x0000 ∷ 0x0027 ∷ []) [] [] ((of_class (codes "Ljava/lang/OutOfMemoryError;")) ∷ [])))
-    ∷ method (codes "main") [] None 8 (Some (body_with 1 (0x0000 ∷ 0x000e ∷ 0x1012 ∷ 0x1071 ∷ 0x0000 ∷ 0x0000 ∷ 0x000e ∷ []) (entry_over 0 2 (catch_all 2 ∷ []) ∷ []) [] [])) ∷ []) [] ∷ [])
-    (info 33 0 ((of_class (codes "Ljava/lang/OutOfMemoryError;")) ∷ []) [] (94 ∷ []) ∷
+    (method (codes "<clinit>") [] None 8
+        (Some (body_with 1 (0x0022 ∷ 0x0000 ∷ 0x1070 ∷ 0x0000 ∷ 0x0000 ∷ 0x0027 ∷ [])
+              [] [] (of_class (codes "Ljava/lang/OutOfMemoryError;") ∷ [])))
+    ∷ method (codes "main") [] None 8
+        (Some (body_with 1 (0x0000 ∷ 0x000e ∷ 0x1012 ∷ 0x1071 ∷ 0x0000 ∷ 0x0000 ∷ 0x000e ∷ [])
+              (entry_over 0 2 (catch_all 2 ∷ []) ∷ []) [] [])) ∷ []) [] ∷ [])
+    (info 33 0 (of_class (codes "Ljava/lang/OutOfMemoryError;") ∷ []) [] (94 ∷ []) ∷
     info 33 1 [] [] (40 ∷ []) ∷ [])
     []
 

@@ -1,5 +1,8 @@
--- How the examples write images. They leave out what no definition reads: lines, tables, the names of superclasses
--- and interfaces, and the names of fields and methods in pools, which stand resolved.
+-- How the examples write images. An image that linking makes has more: these leave out the table of methods of each class
+-- (a call is looked up through the superclasses, by name and prototype), and in each body the names of the fields and methods
+-- in its pools (the record of a method has the fields and methods themselves). They also leave out lines, the names of
+-- superclasses and interfaces in the definition of a class, and the flag `constructor`. No definition of the machine
+-- or of the verifier reads any of these.
 use Rattle.std.specs.Prelude.{ℕ, false, List, [], map, Option, Some, None}
 use Rattle.dv_defs.specs.declared.names.Base.TheVariants as base
 use Rattle.dv_defs.specs.declared.names.Ty.{Ty}

@@ -18,8 +18,8 @@ abbrev pub fitting : Image
 fitting =
     with_main
         (body_with 1 (0x0013 ∷ 0x003e ∷ 0x0023 ∷ 0x0000 ∷ 0x0021 ∷ 0x1071 ∷ 0x0000 ∷ 0x0000 ∷ 0x000e ∷ []) [] []
-             ((array_of of_int) ∷ []))
-        ((array_of of_int) ∷ []) [] (40 ∷ [])
+             (array_of of_int ∷ []))
+        (array_of of_int ∷ []) [] (40 ∷ [])
 
 --   .registers 1
 --   const/16 v0, 0x3f
@@ -31,8 +31,8 @@ abbrev pub filling : Image
 filling =
     with_main
         (body_with 1 (0x0013 ∷ 0x003f ∷ 0x0023 ∷ 0x0000 ∷ 0x0021 ∷ 0x1071 ∷ 0x0000 ∷ 0x0000 ∷ 0x000e ∷ []) [] []
-             ((array_of of_int) ∷ []))
-        ((array_of of_int) ∷ []) [] (40 ∷ [])
+             (array_of of_int ∷ []))
+        (array_of of_int ∷ []) [] (40 ∷ [])
 
 --   .class LMain;
 --   .super Ljava/lang/Object;
@@ -169,10 +169,12 @@ printing = with_main (body 1 (0x0013 ∷ 0x007b ∷ 0x1071 ∷ 0x0000 ∷ 0x0000
 abbrev pub starting : Image
 starting = with_boot
     (class (codes "LMain;") (Some 0) [] 0 []
-    (method (codes "main") [] None 8 (Some (body_with 1 (0x0022 ∷ 0x0000 ∷ 0x1070 ∷ 0x0000 ∷ 0x0000 ∷ 0x106e ∷ 0x0001 ∷ 0x0000 ∷ 0xf828 ∷ []) [] [] ((of_class (codes "LT;")) ∷ []))) ∷ []) [] ∷
+    (method (codes "main") [] None 8
+        (Some (body_with 1 (0x0022 ∷ 0x0000 ∷ 0x1070 ∷ 0x0000 ∷ 0x0000 ∷ 0x106e ∷ 0x0001 ∷ 0x0000 ∷ 0xf828 ∷ [])
+              [] [] (of_class (codes "LT;") ∷ []))) ∷ []) [] ∷
     class (codes "LT;") (Some 3) [] 0 []
     (method (codes "<init>") [] None 0 (Some (body 1 (0x1070 ∷ 0x0000 ∷ 0x0000 ∷ 0x000e ∷ []))) ∷ []) (0 ∷ []) ∷ [])
-    (info 33 0 ((of_class (codes "LT;")) ∷ []) [] (99 ∷ 9 ∷ []) ∷
+    (info 33 0 (of_class (codes "LT;") ∷ []) [] (99 ∷ 9 ∷ []) ∷
     info 34 0 [] [] (6 ∷ []) ∷ [])
     []
 

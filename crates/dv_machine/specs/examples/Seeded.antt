@@ -43,11 +43,13 @@ four_steps = with_main (body 0 (0x0000 ∷ 0x0000 ∷ 0x0000 ∷ 0x000e ∷ []))
 abbrev pub two_threads : Image
 two_threads = with_boot
     (class (codes "LMain;") (Some 0) [] 0 []
-    (method (codes "main") [] None 8 (Some (body_with 1 (0x0022 ∷ 0x0000 ∷ 0x1070 ∷ 0x0000 ∷ 0x0000 ∷ 0x106e ∷ 0x0001 ∷ 0x0000 ∷ 0x000e ∷ []) [] [] ((of_class (codes "LT;")) ∷ []))) ∷ []) [] ∷
+    (method (codes "main") [] None 8
+        (Some (body_with 1 (0x0022 ∷ 0x0000 ∷ 0x1070 ∷ 0x0000 ∷ 0x0000 ∷ 0x106e ∷ 0x0001 ∷ 0x0000 ∷ 0x000e ∷ [])
+              [] [] (of_class (codes "LT;") ∷ []))) ∷ []) [] ∷
     class (codes "LT;") (Some 3) [] 0 []
     (method (codes "<init>") [] None 0 (Some (body 1 (0x1070 ∷ 0x0000 ∷ 0x0000 ∷ 0x000e ∷ [])))
     ∷ method (codes "run") [] None 0 (Some (body 1 (0x000e ∷ []))) ∷ []) (0 ∷ []) ∷ [])
-    (info 33 0 ((of_class (codes "LT;")) ∷ []) [] (99 ∷ 9 ∷ []) ∷
+    (info 33 0 (of_class (codes "LT;") ∷ []) [] (99 ∷ 9 ∷ []) ∷
     info 34 0 [] [] (6 ∷ []) ∷
     info 34 1 [] [] [] ∷ [])
     []

@@ -19,8 +19,8 @@ abbrev pub wrong_class : Image
 wrong_class =
     with_main
         (body_with 1 (0x0022 ∷ 0x0000 ∷ 0x1070 ∷ 0x0000 ∷ 0x0000 ∷ 0x0027 ∷ []) [] []
-             ((of_class (codes "Ljava/lang/Object;")) ∷ []))
-        ((of_class (codes "Ljava/lang/Object;")) ∷ []) [] (0 ∷ [])
+             (of_class (codes "Ljava/lang/Object;") ∷ []))
+        (of_class (codes "Ljava/lang/Object;") ∷ []) [] (0 ∷ [])
 
 --   .registers 2
 --   const/4 v0, 0x1
@@ -55,8 +55,8 @@ abbrev pub mixed : Image
 mixed =
     with_main
         (body_with 2 (0x1012 ∷ 0x0122 ∷ 0x0000 ∷ 0x1070 ∷ 0x0000 ∷ 0x0001 ∷ 0x1032 ∷ 0x0003 ∷ 0x0000 ∷ 0x000e ∷ []) []
-             [] ((of_class (codes "Ljava/lang/Object;")) ∷ []))
-        ((of_class (codes "Ljava/lang/Object;")) ∷ []) [] (0 ∷ [])
+             [] (of_class (codes "Ljava/lang/Object;") ∷ []))
+        (of_class (codes "Ljava/lang/Object;") ∷ []) [] (0 ∷ [])
 
 --   .registers 1
 --   invoke-static {}, Ljava/lang/Thread;->currentThread()Ljava/lang/Thread;
@@ -75,8 +75,8 @@ abbrev pub constructed_twice : Image
 constructed_twice =
     with_main
         (body_with 1 (0x0022 ∷ 0x0000 ∷ 0x1070 ∷ 0x0000 ∷ 0x0000 ∷ 0x1070 ∷ 0x0000 ∷ 0x0000 ∷ 0x000e ∷ []) [] []
-             ((of_class (codes "Ljava/lang/Object;")) ∷ []))
-        ((of_class (codes "Ljava/lang/Object;")) ∷ []) [] (0 ∷ [])
+             (of_class (codes "Ljava/lang/Object;") ∷ []))
+        (of_class (codes "Ljava/lang/Object;") ∷ []) [] (0 ∷ [])
 
 --   .class LMain;
 --   .super Ljava/lang/Object;
@@ -137,7 +137,8 @@ puts_upper = with_boot
     (field (codes "x") of_int 0 ∷ [])
     (method (codes "<init>") [] None 0 (Some (body 1 (0x1070 ∷ 0x0000 ∷ 0x0000 ∷ 0x000e ∷ []))) ∷ []) (5 ∷ []) ∷
     class (codes "LLower;") (Some 34) [] 0 []
-    (method (codes "<init>") [] None 0 (Some (body 2 (0x1012 ∷ 0x1059 ∷ 0x0000 ∷ 0x1070 ∷ 0x0000 ∷ 0x0001 ∷ 0x000e ∷ []))) ∷ []) (5 ∷ []) ∷ [])
+    (method (codes "<init>") [] None 0
+        (Some (body 2 (0x1012 ∷ 0x1059 ∷ 0x0000 ∷ 0x1070 ∷ 0x0000 ∷ 0x0001 ∷ 0x000e ∷ []))) ∷ []) (5 ∷ []) ∷ [])
     (info 33 0 [] [] [] ∷
     info 34 0 [] [] (0 ∷ []) ∷
     info 35 0 [] (5 ∷ []) (99 ∷ []) ∷ [])

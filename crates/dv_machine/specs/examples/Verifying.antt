@@ -52,8 +52,8 @@ abbrev pub null_and_zero : Image
 null_and_zero =
     with_main
         (body_with 2 (0x0012 ∷ 0x1071 ∷ 0x0000 ∷ 0x0000 ∷ 0x0120 ∷ 0x0000 ∷ 0x1071 ∷ 0x0000 ∷ 0x0001 ∷ 0x000e ∷ []) []
-             [] ((of_class (codes "Ljava/lang/String;")) ∷ []))
-        ((of_class (codes "Ljava/lang/String;")) ∷ []) [] (40 ∷ [])
+             [] (of_class (codes "Ljava/lang/String;") ∷ []))
+        (of_class (codes "Ljava/lang/String;") ∷ []) [] (40 ∷ [])
 
 --   .registers 2
 --   const/4 v0, 0x1
@@ -64,8 +64,8 @@ abbrev pub computed_zero : Image
 computed_zero =
     with_main
         (body_with 2 (0x1012 ∷ 0x00d8 ∷ 0xff00 ∷ 0x0120 ∷ 0x0000 ∷ 0x000e ∷ []) [] []
-             ((of_class (codes "Ljava/lang/String;")) ∷ []))
-        ((of_class (codes "Ljava/lang/String;")) ∷ []) [] []
+             (of_class (codes "Ljava/lang/String;") ∷ []))
+        (of_class (codes "Ljava/lang/String;") ∷ []) [] []
 
 --   .registers 3
 --   const/4 v1, 0x0
@@ -86,8 +86,8 @@ two_of_one =
         (body_with 3
              (0x0112 ∷ 0x0212 ∷ 0x0022 ∷ 0x0000 ∷ 0x0239 ∷ 0x0005 ∷ 0x0107 ∷ 0x1212 ∷ 0xfa28 ∷ 0x1070 ∷ 0x0000 ∷
               0x0000 ∷ 0x1220 ∷ 0x0000 ∷ 0x000e ∷ [])
-             [] [] ((of_class (codes "Ljava/lang/Object;")) ∷ []))
-        ((of_class (codes "Ljava/lang/Object;")) ∷ []) [] (0 ∷ [])
+             [] [] (of_class (codes "Ljava/lang/Object;") ∷ []))
+        (of_class (codes "Ljava/lang/Object;") ∷ []) [] (0 ∷ [])
 
 --   .registers 2
 --   const/4 v0, 0x0
@@ -105,8 +105,8 @@ one_a_turn =
         (body_with 2
              (0x0012 ∷ 0x0122 ∷ 0x0000 ∷ 0x1070 ∷ 0x0000 ∷ 0x0001 ∷ 0x00d8 ∷ 0x0100 ∷ 0x3112 ∷ 0x1034 ∷ 0xfff8 ∷
               0x1071 ∷ 0x0001 ∷ 0x0000 ∷ 0x000e ∷ [])
-             [] [] ((of_class (codes "Ljava/lang/Object;")) ∷ []))
-        ((of_class (codes "Ljava/lang/Object;")) ∷ []) [] (0 ∷ 40 ∷ [])
+             [] [] (of_class (codes "Ljava/lang/Object;") ∷ []))
+        (of_class (codes "Ljava/lang/Object;") ∷ []) [] (0 ∷ 40 ∷ [])
 
 --   .class LMain;
 --   .super Ljava/lang/Object;
@@ -129,7 +129,8 @@ inner = with_boot
     (method (codes "main") [] None 8 (Some (body 0 (0x000e ∷ []))) ∷ []) [] ∷
     class (codes "LMain$I;") (Some 0) [] 0
     (field (codes "this$0") (of_class (codes "LMain;")) 0x4010 ∷ [])
-    (method (codes "<init>") ((of_class (codes "LMain;")) ∷ []) None 0 (Some (body 2 (0x015b ∷ 0x0000 ∷ 0x1070 ∷ 0x0000 ∷ 0x0000 ∷ 0x000e ∷ []))) ∷ []) (5 ∷ []) ∷ [])
+    (method (codes "<init>") (of_class (codes "LMain;") ∷ []) None 0
+        (Some (body 2 (0x015b ∷ 0x0000 ∷ 0x1070 ∷ 0x0000 ∷ 0x0000 ∷ 0x000e ∷ []))) ∷ []) (5 ∷ []) ∷ [])
     (info 33 0 [] [] [] ∷
     info 34 0 [] (5 ∷ []) (0 ∷ []) ∷ [])
     (field_info 34 0 0 ∷ [])
@@ -156,7 +157,8 @@ inner_call = with_boot
     (method (codes "main") [] None 8 (Some (body 0 (0x000e ∷ []))) ∷ []) [] ∷
     class (codes "LMain$I;") (Some 0) [] 0
     (field (codes "this$0") (of_class (codes "LMain;")) 0x4010 ∷ [])
-    (method (codes "<init>") ((of_class (codes "LMain;")) ∷ []) None 0 (Some (body 2 (0x106e ∷ 0x0000 ∷ 0x0000 ∷ 0x015b ∷ 0x0000 ∷ 0x1070 ∷ 0x0001 ∷ 0x0000 ∷ 0x000e ∷ []))) ∷ []) (5 ∷ []) ∷ [])
+    (method (codes "<init>") (of_class (codes "LMain;") ∷ []) None 0
+        (Some (body 2 (0x106e ∷ 0x0000 ∷ 0x0000 ∷ 0x015b ∷ 0x0000 ∷ 0x1070 ∷ 0x0001 ∷ 0x0000 ∷ 0x000e ∷ []))) ∷ []) (5 ∷ []) ∷ [])
     (info 33 0 [] [] [] ∷
     info 34 0 [] (5 ∷ []) (3 ∷ 0 ∷ []) ∷ [])
     (field_info 34 0 0 ∷ [])
