@@ -261,7 +261,3 @@ pub record WellTyped (image : Image) (T : Typings) (m : Machine) : Type 0 where
   pub class_states : length m.shared.classes ≡ length image.classes
   -- a class is in progress by a thread exactly where that has a record of it, and then just one
   pub in_progress : (t c : ℕ) → records c (levels_in (slice_get m.threads t)) ≡ owed t (state_at m.shared.classes c)
-
--- a typing of each method with a body
-abbrev pub AllTyped : Image → Typings → Type 0
-AllTyped image T = (n : ℕ) (code : Code) → code_at image n ≡ Some code → IsTyping image code (T n)

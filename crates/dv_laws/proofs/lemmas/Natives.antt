@@ -1,5 +1,3 @@
 -- Each native method is fine.
-pub mod Monitors
-pub mod Plain
+pub mod Each
 pub mod Shared
-pub mod Started

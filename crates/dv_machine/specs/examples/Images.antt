@@ -36,9 +36,6 @@ of_boolean = of_base base.Z
 abbrev pub of_byte : Ty
 of_byte = of_base base.B
 
-abbrev pub of_short : Ty
-of_short = of_base base.S
-
 -- a handler of the type at a place of the body's pool, and one that catches all
 abbrev pub catch_type : ℕ → ℕ → Handler
 catch_type kind to = record { kind = Some kind; at = to }

@@ -87,11 +87,6 @@ broken_of image (Some code) = broken_by image code (static_places image code)
 abbrev pub faults_of : Image → ℕ → List Place
 faults_of image n = broken_of image (code_at image n)
 
--- of the methods below a number
-abbrev pub faults_below : Image → ℕ → List Place
-faults_below image zero = []
-faults_below image (suc n) = faults_below image n ++ faults_of image n
-
 -- a static rule, and a typing rule, that is broken at an address
 abbrev pub S : ℕ → ℕ → Place
 S n at = record { at = at; broken = rule.S n }

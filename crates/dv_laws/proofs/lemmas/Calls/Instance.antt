@@ -48,10 +48,6 @@ use Rattle.dv_defs.specs.declared.faults.Rule.TheVariants as rule
 lands_lacks : (k : Method) (n : Named) → Lands k ≡ Lacks n → ⊥
 lands_lacks k n e = cc
 
-first_true : (a b c d e : Bool) → (a && b && c && d && e) ≡ true → a ≡ true
-first_true true b c d e f = refl
-first_true false b c d e f = no f
-
 first_of_four : (a b c d : Bool) → (a && b && c && d) ≡ true → a ≡ true
 first_of_four true b c d f = refl
 first_of_four false b c d f = no f

@@ -20,9 +20,7 @@ use Rattle.dv_machine.specs.StepLaws.{InvokesPush}
 use Rattle.dv_laws.proofs.lemmas.Local.Stands.{Stands, stands}
 use Rattle.dv_laws.proofs.lemmas.Calls.Invoked.{NativesDo}
 use Rattle.dv_laws.proofs.lemmas.Calls.Fine.{invoke_fine}
-use Rattle.dv_laws.proofs.lemmas.Natives.Plain.{current_fine, length_fine, char_fine, equals_fine, concat_fine, of_long_fine, of_chars_fine, print_fine, println_fine, join_fine}
-use Rattle.dv_laws.proofs.lemmas.Natives.Monitors.{wait_fine, notify_fine, notify_all_fine}
-use Rattle.dv_laws.proofs.lemmas.Natives.Started.{start_fine}
+use Rattle.dv_laws.proofs.lemmas.Natives.Each.{current_fine, length_fine, char_fine, equals_fine, concat_fine, of_long_fine, of_chars_fine, print_fine, println_fine, join_fine, wait_fine, notify_fine, notify_all_fine, start_fine}
 
 module _ (image : Image) (T : Typings) (m : Machine) (t : ℕ) (thread : Thread) (own : Method) (f : Frame) (rest : List Level) (x : At) (s : RegState) (h : Stands image T m t thread own f rest x s) (c : Call) (ks : List ℕ) (g : Method) (e : x.op ≡ Invoke c ks g) where
   natives_do : NativesDo image T m t thread own f rest x s h c ks g e

@@ -75,9 +75,6 @@ needers_are_handled image T heap t o c r ls acc i k = thrown_below image T acc h
 
 -- the frame that throws, once a monitor-exit has moved it on
 module _ (image : Image) (T : Typings) (m : Machine) (t : ℕ) (thread : Thread) (h : Here) (x : At) (s : RegState) (after : Heap) (o : ℕ) (i : IsAt image T m t thread h x s) (can : can_throw x.op ≡ true) (g : KeepsKinds h.shared.heap after) (thrown : IsThrowable image after o) where
-  pub moved_frame : Frame
-  moved_frame = record { method = h.frame.method; at = x.next; regs = h.frame.regs; result = h.frame.result; caught = h.frame.caught; this_pending = h.frame.this_pending }
-
   all_handled : All (λ (c : Catcher). catches image after o c.ty ≡ true → IsPlaced image T after (this_above image h.rest) (caught_frame h.frame c.to o)) (handlers_at image h.frame.method.0 (thrown_at h.frame.at x))
   all_handled = handlers_placed image T i.may.accepted after (this_above image h.rest) h.frame h.own i.has_own s (conform_grown image h.shared.heap after g _ h.frame s i.conform) o thrown i.code x i.has_code i.fine can
 

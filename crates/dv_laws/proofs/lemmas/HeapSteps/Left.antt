@@ -55,10 +55,6 @@ module _ (image : Image) (T : Typings) (m : Machine) (t : ℕ) (thread : Thread)
   true_then true named go h n = n refl
   true_then false named go h n = h
 
-  pub object_then : (go : ℕ → Did Left) (o : ℕ) → ThrowFine m t x → ((p : ℕ) → o ≡ suc p → DidFine image T m t thread x (go (suc p))) → DidFine image T m t thread x (on_object go o)
-  object_then go zero h n = h
-  object_then go (suc p) h n = n p refl
-
 -- ---- what is left
 
 module _ (image : Image) (T : Typings) (m : Machine) (t : ℕ) (thread : Thread) (own : Method) (f : Frame) (rest : List Level) (x : At) (s : RegState) (h : Stands image T m t thread own f rest x s) (apart : (c : Call) (ks : List ℕ) (g : Method) → x.op ≡ Invoke c ks g → ⊥) where

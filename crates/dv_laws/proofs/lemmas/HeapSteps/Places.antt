@@ -30,9 +30,6 @@ module _ (image : Image) (T : Typings) (acc : Accepted image T) (n : ℕ) (x : F
   in_image : x.info.class.0 < length image.classes
   in_image = acc.pools.fields n x has
 
-  abbrev declaring : ℕ
-  declaring = x.info.class.0
-
   apart : (bytes_eq (name_at image x.info.class.0) object_name ≡ false) × (is_string_or_class (name_at image x.info.class.0) ≡ false)
   apart = or_parts _ _ (acc.boot.no_fields n x has placed)
 

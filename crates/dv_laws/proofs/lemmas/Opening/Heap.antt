@@ -177,9 +177,6 @@ module _ (image : Image) (T : Typings) (acc : Accepted image T) where
   array_opened : (m : Method) (h : Heap) → IsOpened image h → IsOpened image (array_made m h) × (takes_array m ≡ true → kind_of (array_made m h) (newest (array_made m h)) ≡ Some (kind.Array strings_type))
   array_opened m h o = go (takes_array m)
     where
-      with_array : Bool → Heap
-      with_array b = elim b [ true ↦ made h (kind.Array strings_type) [] | false ↦ h ]
-
       go : (b : Bool) → IsOpened image (elim b as (λ y. Heap) [ true ↦ made h (kind.Array strings_type) [] | false ↦ h ]) × (b ≡ true → kind_of (elim b as (λ y. Heap) [ true ↦ made h (kind.Array strings_type) [] | false ↦ h ]) (newest (elim b as (λ y. Heap) [ true ↦ made h (kind.Array strings_type) [] | false ↦ h ])) ≡ Some (kind.Array strings_type))
       go true = let a = array_added h o.fine in (opened_more image h _ o a.keeps a.fine, λ e. a.made)
       go false = (o, λ e. no e)

@@ -126,9 +126,6 @@ module _ (image : Image) (T : Typings) (acc : Accepted image T) (m : Method) (l 
   args_fine : ArgsFine image (opening_heap image m l) m is.code.body (main_args m (opening_heap image m l))
   args_fine = go is.form
     where
-      takes : (ps : List Ty) → Bool
-      takes ps = elim ps [ [] ↦ false | p ∷ qs ↦ true ]
-
       by_taking : (b : Bool) → takes_array m ≡ b → ArgsFine image (opening_heap image m l) m is.code.body (elim b as (λ x. List Value) [ true ↦ v.Ref (newest (opening_heap image m l)) ∷ [] | false ↦ [] ]) → ArgsFine image (opening_heap image m l) m is.code.body (main_args m (opening_heap image m l))
       by_taking b e a = subst (λ (x : Bool). ArgsFine image (opening_heap image m l) m is.code.body (elim x as (λ y. List Value) [ true ↦ v.Ref (newest (opening_heap image m l)) ∷ [] | false ↦ [] ])) (sym e) a
 
@@ -137,9 +134,6 @@ module _ (image : Image) (T : Typings) (acc : Accepted image T) (m : Method) (l 
       go (inr e) = let t = ap (λ (ps : List Ty). elim ps as (λ x. Bool) [ [] ↦ false | p ∷ qs ↦ true ]) e in by_taking true t (args_one e ((heap_opened image T acc m l).1 t))
 
   -- ---- the thread
-
-  main_frame : Frame
-  main_frame = entered_frame m (main_args m (opening_heap image m l)) false
 
   main_stack : StackFine image T (opening_heap image m l) 0 None (level.Code (entered_frame m (main_args m (opening_heap image m l)) false) ∷ [])
   main_stack = (

@@ -194,9 +194,6 @@ module _ (image : Image) (h : IsHierarchy image) where
   pub extends_trans : (c d e : ℕ) → c < length image.classes → extends image c d ≡ true → extends image d e ≡ true → extends image c e ≡ true
   extends_trans c d e i x y = up_trans (length image.classes) (length image.classes) (length image.classes) c d e x y (h.bounded c i)
 
-  pub implements_same : (c : ℕ) → implements image c c ≡ true
-  implements_same c = reach_here image (length image.classes) c
-
   pub implements_trans : (c d e : ℕ) → c < length image.classes → implements image c d ≡ true → implements image d e ≡ true → implements image c e ≡ true
   implements_trans c d e i x y = reach_trans (suc (length image.classes)) (suc (length image.classes)) (suc (length image.classes)) c d e x y (bound c i)
 
