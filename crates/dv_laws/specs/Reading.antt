@@ -158,11 +158,11 @@ pub record IsUnder (image : Image) (heap : Heap) (t : Ty) (o : ℕ) : Type 0 whe
 abbrev pub ReadsReceiver : Type 0
 ReadsReceiver =
     (image : Image) (T : Typings) (heap : Heap) (this : Option ℕ) (n : ℕ) (own g : Method) (xs : List Value)
-        (ts : Types) (k : ℕ) →
+    (ts : Types) (k : ℕ) →
     Accepted image T → method_at image n ≡ Some own → RegsConform image heap (own_of image this own) xs ts →
     receiver_for image own g (type_at ts k) ≡ None →
     HoldsOf (λ o. (object_of (reg_at xs k) ≡ Some o) × IsUnder image heap (own_type image g) o)
-        (read_new image heap own g (reg_at xs k))
+    (read_new image heap own g (reg_at xs k))
 
 -- ---- pending results
 

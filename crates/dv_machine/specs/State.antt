@@ -1,5 +1,5 @@
 -- The tagged machine's states, and how a step reads and writes them.
-use Rattle.std.specs.Prelude.{ℕ, suc, ◌+◌, ◌++◌, Bool, true, false, ◌&&◌, List, [], ◌∷◌, length, ℤ, pos, Option, Some, None, Result, Ok, Err, slice_set, slice_index_or, nat_eq, nat_le}
+use Rattle.std.specs.Prelude.{ℕ, suc, ◌+◌, ◌++◌, Bool, true, false, ◌&&◌, ◌||◌, List, [], ◌∷◌, length, ℤ, pos, Option, Some, None, Result, Ok, Err, slice_set, slice_index_or, nat_eq, nat_le, if◌then◌else◌}
 use Rattle.dv_defs.specs.declared.names.Ty.{Ty}
 use Rattle.dv_defs.specs.declared.image.Image.{Image}
 use Rattle.dv_defs.specs.declared.run.Value.{Value}
@@ -141,9 +141,13 @@ abbrev pub where_ref : Bool → ℕ → Reads ℕ
 where_ref true o = Ok o
 where_ref false o = Err why.Reference
 
+abbrev pub passes : (Kind → Bool) → Option Kind → Bool
+passes good None = false
+passes good (Some k) = good k
+
 -- null, or an object that a test takes; a number that no object has is none
 abbrev pub tested : (Kind → Bool) → Heap → ℕ → Bool
-tested good heap o = elim (nat_eq o 0) [ true ↦ true | false ↦ elim (kind_of heap o) [ None ↦ false | Some k ↦ good k ] ]
+tested good heap o = nat_eq o 0 || passes good (kind_of heap o)
 
 abbrev pub read_tested : (Kind → Bool) → Heap → Value → Reads ℕ
 read_tested good heap v.Zero = Ok 0
@@ -171,17 +175,16 @@ abbrev pub read_array : (Ty → Bool) → Heap → Value → Reads ℕ
 read_array good heap x = read_tested (is_array_kind good) heap x
 
 abbrev pub read_single : Image → Heap → Ty → Value → Reads Value
-read_single image heap t x = elim (is_reference t) [ true ↦ on_next (read_ref image heap t x) (λ o. Ok x) | false ↦ kept_int x ]
+read_single image heap t x = if is_reference t then on_next (read_ref image heap t x) (λ o. Ok x) else kept_int x
 
 -- the words of a value of a declared type, as they are
 abbrev pub read_value : Image → Heap → List Value → ℕ → Ty → Reads (List Value)
 read_value image heap regs k t =
-    elim (is_long t) [
-        true ↦ on_next (read_two regs k) (λ p. Ok (v.Lo p.lo ∷ v.Hi p.hi ∷ []))
-      | false ↦ on_next (read_single image heap t (reg_at regs k)) (λ x. Ok (x ∷ [])) ]
+    if is_long t then on_next (read_two regs k) (λ p. Ok (v.Lo p.lo ∷ v.Hi p.hi ∷ []))
+    else on_next (read_single image heap t (reg_at regs k)) (λ x. Ok (x ∷ []))
 
 abbrev pub are_neighbours : ℕ → ℕ → Reads Bool
-are_neighbours k j = elim (nat_eq j (suc k)) [ true ↦ Ok true | false ↦ Err why.Pair ]
+are_neighbours k j = if nat_eq j (suc k) then Ok true else Err why.Pair
 
 -- the argument words by the parameters; a long's two registers are neighbours
 abbrev pub read_args : Image → Heap → List Value → List Ty → List ℕ → Reads (List Value)
@@ -192,7 +195,7 @@ read_args image heap regs (p ∷ ps) (k ∷ ks) =
         true ↦ elim ks [
               [] ↦ Err why.Instruction
             | j ∷ js ↦ on_next (read_value image heap regs k p)
-                    (λ xs. 
+                    (λ xs.
                          on_next (are_neighbours k j)
                              (λ b. on_next (read_args image heap regs ps js) (λ ys. Ok (xs ++ ys)))) ]
       | false ↦ on_next (read_value image heap regs k p)
@@ -202,7 +205,7 @@ read_args image heap regs (p ∷ ps) (k ∷ ks) =
 
 -- the frame goes on at an address with these registers
 abbrev pub gone : Frame → ℕ → List Value → Frame
-gone f to regs = record { method = f.method; at = to; regs = regs; result = pending.None; caught = None; this_pending = f.this_pending }
+gone f to regs = record f { at = to; regs = regs; result = pending.None; caught = None }
 
 -- a write changes that register alone
 abbrev pub put : Frame → ℕ → ℕ → Value → Frame
@@ -216,12 +219,13 @@ put_long f to a n = put_two f to a (lo_of n) (hi_of n)
 
 -- the frame goes on with a pending result
 abbrev pub with_result : Frame → ℕ → Pending → Frame
-with_result f to p = record { method = f.method; at = to; regs = f.regs; result = p; caught = None; this_pending = f.this_pending }
+with_result f to p = record f { at = to; result = p; caught = None }
 
 -- words as they lie in registers, from one on
 abbrev pub put_words : Frame → ℕ → ℕ → List Value → Frame
 put_words f to a [] = gone f to f.regs
-put_words f to a (x ∷ xs) = elim xs [ [] ↦ put f to a x | y ∷ ys ↦ gone f to (slice_set (slice_set f.regs a x) (suc a) y) ]
+put_words f to a (x ∷ []) = put f to a x
+put_words f to a (x ∷ y ∷ ys) = gone f to (slice_set (slice_set f.regs a x) (suc a) y)
 
 -- ---- what a case of a step sees
 
@@ -246,16 +250,16 @@ abbrev pub onward : Here → Shared → Frame → Did Left
 onward h sh f = left h sh (level.Code f ∷ h.rest)
 
 abbrev pub with_heap : Shared → Heap → Shared
-with_heap sh heap = record { heap = heap; classes = sh.classes; monitors = sh.monitors; output = sh.output }
+with_heap sh heap = record sh { heap = heap }
 
 abbrev pub with_monitors : Shared → Monitors → Shared
-with_monitors sh m = record { heap = sh.heap; classes = sh.classes; monitors = m; output = sh.output }
+with_monitors sh m = record sh { monitors = m }
 
 abbrev pub with_classes : Shared → Classes → Shared
-with_classes sh cs = record { heap = sh.heap; classes = cs; monitors = sh.monitors; output = sh.output }
+with_classes sh cs = record sh { classes = cs }
 
 abbrev pub with_output : Shared → List ℕ → Shared
-with_output sh out = record { heap = sh.heap; classes = sh.classes; monitors = sh.monitors; output = out }
+with_output sh out = record sh { output = out }
 
 abbrev pub regs_in : Level → ℕ
 regs_in (level.Code f) = length f.regs
@@ -269,15 +273,18 @@ words_in (l ∷ ls) = regs_in l + words_in ls
 -- one level more, where the stack has room
 abbrev pub pushed : Here → Shared → Level → List Level → Did Left
 pushed h sh l ls =
-    elim (nat_le (suc (length ls)) h.limits.levels && nat_le (regs_in l + words_in ls) h.limits.words) [
-        true ↦ left h sh (l ∷ ls)
-      | false ↦ NoRoom ]
+    if nat_le (suc (length ls)) h.limits.levels && nat_le (regs_in l + words_in ls) h.limits.words
+    then left h sh (l ∷ ls) else NoRoom
 
 -- a truth as a number that a step computes
 abbrev pub truth : Bool → Value
 truth true = v.Num (pos 1)
 truth false = v.Num (pos 0)
 
--- the type of an object
+abbrev pub type_of_kind : Image → Option Kind → Ty
+type_of_kind image None = of_class object_name
+type_of_kind image (Some k) = kind_type image k
+
+-- the type of an object; Object where there is none
 abbrev pub type_of : Image → Heap → ℕ → Ty
-type_of image heap o = elim (kind_of heap o) [ None ↦ of_class object_name | Some k ↦ kind_type image k ]
+type_of image heap o = type_of_kind image (kind_of heap o)

@@ -8,7 +8,7 @@ use Rattle.dv_defs.specs.RegTypes.{reg_types, Types}
 use Rattle.dv_defs.specs.Order.{has_number}
 use Rattle.dv_defs.specs.Op.{Op, Invoke, Code, code_at, needs}
 use Rattle.dv_defs.specs.Statics.{At, fetch}
-use Rattle.dv_defs.specs.Flow.{handlers_at, Typing, IsTyping}
+use Rattle.dv_defs.specs.Flow.{handlers_at, Typing}
 use Rattle.dv_defs.specs.Demands.{made_at}
 use Rattle.dv_defs.specs.Heap.{Heap, Cells, kind_of, class_cells, cells_at, length_of}
 use Rattle.dv_defs.specs.Monitors.{Held, Wait, owner_of}

@@ -1,6 +1,6 @@
 -- A call pushes a frame that stands at the begin of its method.
 use Rattle.std.proofs.Common.{◌≡◌, ℕ, suc, ◌+◌, ◌≤◌, List, [], ◌∷◌, length, Bool, true, false, Option, Some, refl, sym, ap, ◌∙◌, subst, arith}
-use Rattle.std.specs.Prelude.{◌-◌, replicate, ◌&&◌, nat_le, All}
+use Rattle.std.specs.Prelude.{◌-◌, replicate, ◌&&◌, nat_le, All, if◌then◌else◌}
 use Rattle.std.proofs.lemmas.List.{length-append, length-replicate}
 use Rattle.std.proofs.lemmas.List.Elements.{All-cons, All-append, All-replicate}
 use Rattle.dv_defs.specs.declared.names.Ty.{Ty}
@@ -122,6 +122,6 @@ module _ (image : Image) (T : Typings) (m : Machine) (t : ℕ) (thread : Thread)
     pub enter_fine : IsQuiet image m t → DidFine image T m t thread x (enter (here image m t own f rest x.next) k xs p)
     enter_fine q = by_room (nat_le (suc (length below_it)) m.limits.levels && nat_le (regs_in (level.Code (entered_frame k xs p)) + words_in below_it) m.limits.words)
       where
-        by_room : (b : Bool) → DidFine image T m t thread x (elim b as (λ w. Did Left) [ true ↦ left (here image m t own f rest x.next) m.shared (level.Code (entered_frame k xs p) ∷ below_it) | false ↦ NoRoom ])
+        by_room : (b : Bool) → DidFine image T m t thread x (if b then left (here image m t own f rest x.next) m.shared (level.Code (entered_frame k xs p) ∷ below_it) else NoRoom)
         by_room true = pushed_left q
         by_room false = tt

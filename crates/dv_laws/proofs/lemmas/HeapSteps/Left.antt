@@ -1,5 +1,5 @@
 -- What a step that may change the heap leaves is in order, by its registers and pending result.
-use Rattle.std.proofs.Common.{◌≡◌, ℕ, zero, suc, List, [], ◌∷◌, length, Bool, true, false, Option, Some, None, refl, ap, ◌∙◌, subst, arith}
+use Rattle.std.proofs.Common.{◌≡◌, ℕ, suc, List, [], ◌∷◌, length, Bool, true, false, Option, Some, None, refl, ap, ◌∙◌, subst, arith}
 use Rattle.std.specs.Prelude.{slice_set, All}
 use Rattle.std.proofs.lemmas.List.{length-set}
 use Rattle.std.proofs.lemmas.List.Elements.{All-cons, All-set, All-head}
@@ -27,7 +27,6 @@ use Rattle.dv_defs.specs.Flow.{Leads, jumps}
 use Rattle.dv_defs.specs.Heap.{Heap}
 use Rattle.dv_defs.specs.Monitors.{wait_of}
 use Rattle.dv_machine.specs.State.{Thread, Machine, Left, Did, where_room, where_true, with_heap}
-use Rattle.dv_machine.specs.Mem.{on_object}
 use Rattle.dv_machine.specs.Conforming.{IsGood, RefFine, ResultFine, RefsFine, ResultConforms}
 use Rattle.dv_machine.specs.WellTyped.{Typings, own_of, this_above, HeapFine, records}
 use Rattle.dv_machine.specs.Premises.{KeepsKinds, LeftFine, ThrowFine, DidFine}

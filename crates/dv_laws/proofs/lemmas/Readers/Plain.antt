@@ -18,7 +18,7 @@ use Rattle.dv_defs.specs.Op.{Reg, Lit}
 use Rattle.dv_defs.specs.RegTypes.{Types, type_at}
 use Rattle.dv_defs.specs.Demands.{Demand, first, demand, is_int, is_lo, is_hi, is_ref, is_movable, is_assignable, long, ref}
 use Rattle.dv_defs.specs.Heap.{Heap, kind_of}
-use Rattle.dv_machine.specs.State.{Reads, on_next, reg_at, read_int, kept_int, read_lo, read_hi, read_two, read_any, read_ref, tested, any_kind, fits_kind, where_ref, kept_object}
+use Rattle.dv_machine.specs.State.{passes, Reads, on_next, reg_at, read_int, kept_int, read_lo, read_hi, read_two, read_any, read_ref, tested, any_kind, fits_kind, where_ref, kept_object}
 use Rattle.dv_machine.specs.Local.{Word, Nil, Number, Object, read_word, compare_words}
 use Rattle.dv_machine.specs.Conforming.{Own, Conforms, RegsConform, IsThere, Fits}
 use Rattle.dv_machine.specs.Accepted.{IsOrder}
@@ -70,8 +70,7 @@ module _ (image : Image) (heap : Heap) (own : Own) where
 
   pub tested_there : (good : Kind → Bool) (o : ℕ) (k : Kind) → kind_of heap (suc o) ≡ Some k → good k ≡ true → tested good heap (suc o) ≡ true
   tested_there good o k e g =
-      ap (λ z. elim z as (λ w. Bool) [ true ↦ true | false ↦ elim (kind_of heap (suc o)) as (λ w. Bool) [ None ↦ false | Some j ↦ good j ] ]) (ne_eqb (suc o) 0 (λ q. absurd (cc)))
-      ∙ ap (λ z. elim z as (λ w. Bool) [ None ↦ false | Some j ↦ good j ]) e ∙ g
+      ap (λ z. z || passes good (kind_of heap (suc o))) (ne_eqb (suc o) 0 (λ q. absurd (cc))) ∙ ap (passes good) e ∙ g
 
   pub where_holds : (P : ℕ → Type 0) (b : Bool) (o : ℕ) → b ≡ true → P o → HoldsOf P (where_ref b o)
   where_holds P true o e p = p

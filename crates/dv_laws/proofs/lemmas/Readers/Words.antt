@@ -1,6 +1,6 @@
 -- Values by a declared type, arguments and results.
 use Rattle.std.proofs.Common.{arith, ◌≡◌, ℕ, zero, suc, ◌++◌, List, [], ◌∷◌, Bool, true, false, Some, None, refl, sym, ap, ◌∙◌, subst}
-use Rattle.std.specs.Prelude.{Ok, Err, nat_eq, All}
+use Rattle.std.specs.Prelude.{Ok, Err, nat_eq, All, if◌then◌else◌}
 use Rattle.std.proofs.lemmas.List.Elements.{All-nil, All-cons}
 use Rattle.dv_defs.specs.declared.names.Ty.{Ty}
 use Rattle.dv_defs.specs.declared.image.Image.{Image}
@@ -101,7 +101,7 @@ module _ (image : Image) (heap : Heap) where
   class_word x t own c = absurd c
 
   module _ (ord : IsOrder image) (own : Own) where
-    pub single_holds : (x : Value) (s : RegType) (t : Ty) (b : Bool) → (elim b as (λ w. Demand) [ true ↦ first (demand (is_ref s) (rule.V 4)) (demand (is_assignable image s t) (rule.V 5)) | false ↦ demand (is_int s) (rule.V 2) ]) ≡ None → Conforms image heap own x s → HoldsOf (λ y. IsWord y (elim b as (λ w. RegType) [ true ↦ ty.Class t | false ↦ ty.Int ])) (elim b as (λ w. Reads Value) [ true ↦ on_next (read_ref image heap t x) (λ o. Ok x) | false ↦ kept_int x ])
+    pub single_holds : (x : Value) (s : RegType) (t : Ty) (b : Bool) → (elim b as (λ w. Demand) [ true ↦ first (demand (is_ref s) (rule.V 4)) (demand (is_assignable image s t) (rule.V 5)) | false ↦ demand (is_int s) (rule.V 2) ]) ≡ None → Conforms image heap own x s → HoldsOf (λ y. IsWord y (elim b as (λ w. RegType) [ true ↦ ty.Class t | false ↦ ty.Int ])) (if b then on_next (read_ref image heap t x) (λ o. Ok x) else kept_int x)
     single_holds x s t true d c =
         let q = first_none (demand (is_ref s) (rule.V 4)) (demand (is_assignable image s t) (rule.V 5)) d in
         let k : IsWord x (ty.Class t) = class_word x t own (ref_conforms image heap own ord x s t (demanded _ _ q.0) (demanded _ _ q.1) c) in
@@ -115,7 +115,7 @@ module _ (image : Image) (heap : Heap) where
       long_words : (lo hi : ℕ) → AreWordsOf (v.Lo lo ∷ v.Hi hi ∷ []) (ty.LongLo ∷ ty.LongHi ∷ [])
       long_words lo hi = (record { plain = λ u. u; conforms = λ o. tt; fine = tt }, (record { plain = λ u. u; conforms = λ o. tt; fine = tt }, tt))
 
-      value_at : (k : ℕ) (t : Ty) (b : Bool) → (elim b as (λ w. Demand) [ true ↦ long ts k | false ↦ single_for image ts k t ]) ≡ None → HoldsOf (λ ys. AreWordsOf ys (elim b as (λ w. Types) [ true ↦ ty.LongLo ∷ ty.LongHi ∷ [] | false ↦ single_type t ∷ [] ])) (elim b as (λ w. Reads (List Value)) [ true ↦ on_next (read_two xs k) (λ p. Ok (v.Lo p.lo ∷ v.Hi p.hi ∷ [])) | false ↦ on_next (read_single image heap t (reg_at xs k)) (λ x. Ok (x ∷ [])) ])
+      value_at : (k : ℕ) (t : Ty) (b : Bool) → (elim b as (λ w. Demand) [ true ↦ long ts k | false ↦ single_for image ts k t ]) ≡ None → HoldsOf (λ ys. AreWordsOf ys (elim b as (λ w. Types) [ true ↦ ty.LongLo ∷ ty.LongHi ∷ [] | false ↦ single_type t ∷ [] ])) (if b then on_next (read_two xs k) (λ p. Ok (v.Lo p.lo ∷ v.Hi p.hi ∷ [])) else on_next (read_single image heap t (reg_at xs k)) (λ x. Ok (x ∷ [])))
       value_at k t true d = next_holds Anything (λ ys. AreWordsOf ys (ty.LongLo ∷ ty.LongHi ∷ [])) (read_two xs k) _ (two_holds image heap own xs ts k h d) (λ p q. long_words p.lo p.hi)
       value_at k t false d = next_holds (λ y. IsWord y (single_type t)) (λ ys. AreWordsOf ys (single_type t ∷ [])) (read_single image heap t (reg_at xs k)) _ (single_holds (reg_at xs k) (type_at ts k) t (is_reference t) d (h k)) (λ y w. (w, tt))
 
@@ -125,7 +125,7 @@ module _ (image : Image) (heap : Heap) where
       neighbours_hold : (j k : ℕ) → nat_eq j (suc k) ≡ true → HoldsOf Anything (are_neighbours k j)
       neighbours_hold j k e = by_test (nat_eq j (suc k)) e
         where
-          by_test : (b : Bool) → b ≡ true → HoldsOf Anything (elim b as (λ w. Reads Bool) [ true ↦ Ok true | false ↦ Err why.Pair ])
+          by_test : (b : Bool) → b ≡ true → HoldsOf Anything (if b then Ok true else Err why.Pair)
           by_test true e = tt
           by_test false e = no e
 

@@ -1,6 +1,6 @@
 -- A step of a class's record is fine: it looks at the superclass, runs the initialiser, or ends.
 use Rattle.std.proofs.Common.{◌≡◌, ◌≢◌, ℕ, suc, ◌<◌, List, [], ◌∷◌, length, Bool, true, false, ◌&&◌, not, Option, Some, None, refl, sym, ap, ◌∙◌, subst, arith}
-use Rattle.std.specs.Prelude.{slice_get, All, nat_eq, bytes_eq}
+use Rattle.std.specs.Prelude.{slice_get, All, nat_eq, bytes_eq, if◌then◌else◌}
 use Rattle.std.proofs.lemmas.List.{length-set}
 use Rattle.std.proofs.lemmas.List.Elements.{All-cons, All-tail, All-nil}
 use Rattle.std.proofs.lemmas.Option.{same_Some}
@@ -106,7 +106,7 @@ module _ (image : Image) (T : Typings) (m : Machine) (t : ℕ) (thread : Thread)
       rest_thread (l ∷ ls) a b e = (lowest_rest (level.Init (record { 0 = c }) r) l ls a, b)
 
   -- levels on the record's, where the stack has room
-  pushing : (ls : List Level) (cs : Classes) (b : Bool) → LeftFine image T m t thread (record { levels = ls; shared = with_classes m.shared cs; started = None }) → RecordDidFine image T m t thread (elim b [ true ↦ left (here image m t no_method no_frame rest 0) (with_classes m.shared cs) ls | false ↦ NoRoom ])
+  pushing : (ls : List Level) (cs : Classes) (b : Bool) → LeftFine image T m t thread (record { levels = ls; shared = with_classes m.shared cs; started = None }) → RecordDidFine image T m t thread (if b then left (here image m t no_method no_frame rest 0) (with_classes m.shared cs) ls else NoRoom)
   pushing ls cs true l = l
   pushing ls cs false l = tt
 

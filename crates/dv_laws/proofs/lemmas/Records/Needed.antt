@@ -1,6 +1,6 @@
 -- An instruction whose class isn't ready begins its initialisation, waits or throws.
 use Rattle.std.proofs.Common.{◌≡◌, inl, ℕ, suc, ◌<◌, List, [], ◌∷◌, length, Bool, true, false, not, Option, Some, None, refl, sym, ap, ◌∙◌, subst, arith}
-use Rattle.std.specs.Prelude.{All, nat_eq, bytes_eq}
+use Rattle.std.specs.Prelude.{All, nat_eq, bytes_eq, if◌then◌else◌}
 use Rattle.std.proofs.lemmas.Bool.{and_parts}
 use Rattle.std.proofs.lemmas.List.{length-set}
 use Rattle.std.proofs.lemmas.List.Elements.{All-cons}
@@ -127,7 +127,7 @@ module _ (image : Image) (T : Typings) (m : Machine) (t : ℕ) (thread : Thread)
       other u true = k
       other u false = waits
 
-      pushing : (b : Bool) → LeftFine image T m t thread (record { levels = level.Init (record { 0 = c }) false ∷ level.Code f ∷ rest; shared = with_classes m.shared (with_state m.shared.classes c (InProgress t)); started = None }) → DidFine image T m t thread x (elim b as (λ x. Did Left) [ true ↦ left (here image m t own f rest x.next) (with_classes m.shared (with_state m.shared.classes c (InProgress t))) (level.Init (record { 0 = c }) false ∷ level.Code f ∷ rest) | false ↦ NoRoom ])
+      pushing : (b : Bool) → LeftFine image T m t thread (record { levels = level.Init (record { 0 = c }) false ∷ level.Code f ∷ rest; shared = with_classes m.shared (with_state m.shared.classes c (InProgress t)); started = None }) → DidFine image T m t thread x (if b then left (here image m t own f rest x.next) (with_classes m.shared (with_state m.shared.classes c (InProgress t))) (level.Init (record { 0 = c }) false ∷ level.Code f ∷ rest) else NoRoom)
       pushing true l = l
       pushing false l = tt
 

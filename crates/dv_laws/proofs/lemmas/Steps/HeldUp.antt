@@ -1,11 +1,10 @@
 -- That a step of a thread which is held up, or has ended, leaves all but the count of steps as it was.
-use Rattle.std.proofs.Common.{◌≡◌, ℕ, zero, suc, List, [], ◌∷◌, ◌++◌, Bool, true, false, Option, Some, None, Ok, Err, refl, sym, ap, ◌∙◌, subst}
+use Rattle.std.proofs.Common.{◌≡◌, ℕ, suc, List, [], ◌∷◌, ◌++◌, Bool, true, false, Option, Some, None, Ok, Err, refl, sym, ap, ◌∙◌, subst}
 use Rattle.std.specs.Prelude.{slice_get, slice_set, nat_eq}
 use Rattle.std.proofs.lemmas.List.{append-nil}
 use Rattle.dv_defs.specs.declared.image.Image.{Image}
 use Rattle.dv_defs.specs.declared.run.Value.{Value}
 use Rattle.dv_defs.specs.declared.run.Value.TheVariants as v
-use Rattle.dv_defs.specs.declared.run.Named.TheVariants as named
 use Rattle.dv_defs.specs.declared.run.Why.{Why}
 use Rattle.dv_defs.specs.declared.run.Why.TheVariants as why
 use Rattle.dv_defs.specs.declared.run.Native.{Native}
@@ -26,13 +25,13 @@ use Rattle.dv_defs.specs.Statics.{At, fetch}
 use Rattle.dv_defs.specs.Heap.{Heap}
 use Rattle.dv_defs.specs.Monitors.{Wait, owner_of, wait_of, entered, waiting}
 use Rattle.dv_defs.specs.Classes.{ask_of}
-use Rattle.dv_machine.specs.State.{Thread, Machine, Left, Did, Go, Throws, IsStuck, Reads, Here, reading, reg_at, any_kind, fits_kind, tested, where_ref, read_any, read_ref, read_args, onward, left, with_monitors}
+use Rattle.dv_machine.specs.State.{Thread, Machine, Left, Did, Go, IsStuck, Reads, Here, reading, reg_at, any_kind, fits_kind, tested, where_ref, read_any, read_args, onward, with_monitors}
 use Rattle.dv_machine.specs.Mem.{on_object}
 use Rattle.dv_machine.specs.Calls.{unless_abstract, Landing, Lands, Lacks, dispatch, native_of, receiver_of, landed, enter, invoke, with_receiver, call_instance, call_constructor, call_object, read_super}
-use Rattle.dv_machine.specs.Threads.{thread_with, is_living, free_or_mine, monitor_enter, stays, goes, taken_back, wait_on, join_on, holding}
+use Rattle.dv_machine.specs.Threads.{thread_with, is_living, free_or_mine, monitor_enter, stays, goes, taken_back, holding}
 use Rattle.dv_machine.specs.Natives.{native_step}
-use Rattle.dv_machine.specs.Step.{step, step_of, step_thread, step_living, step_code, step_at, settled, gone_on, here, no_method, no_frame, act, with_ready, for_class, record_step, look_at, prior}
-use Rattle.dv_machine.specs.Running.{by_ask, blocked_record, blocked_enter, blocked_waiting, blocked_wait, blocked_join, blocked_native, blocked_landing, blocked_call, blocked_op, blocked_needing, blocked_at, blocked_levels, blocked_thread}
+use Rattle.dv_machine.specs.Step.{step_of, step_thread, step_living, step_code, step_at, settled, gone_on, here, no_method, no_frame, act, with_ready, for_class, look_at, prior}
+use Rattle.dv_machine.specs.Running.{by_ask, blocked_record, blocked_enter, blocked_waiting, blocked_native, blocked_landing, blocked_call, blocked_op, blocked_needing, blocked_at, blocked_levels, blocked_thread}
 use Rattle.dv_machine.specs.StepLaws.{BlockedStepsWait, EndedStepsStay}
 use Rattle.dv_laws.proofs.lemmas.Common.Lists.{set_same}
 
