@@ -125,8 +125,8 @@ abbrev pub places_by : Image → Code → Result (List Tile) ℕ → List Place
 places_by image code (Err at) = record { at = at; broken = rule_at code.body.units at } ∷ []
 places_by image code (Ok ts) =
     elim (no_units code.body.units) [
-    true ↦ record { at = 0; broken = rule.S 1 } ∷ []
-  | false ↦ sorted (first_places image code ++ tile_places image code ts ++ try_places image code 0 code.body.tries) ]
+        true ↦ record { at = 0; broken = rule.S 1 } ∷ []
+      | false ↦ sorted (first_places image code ++ tile_places image code ts ++ try_places image code 0 code.body.tries) ]
 
 -- by address, then by rule, each once; where the units aren't tiled, that alone
 unfoldable pub static_places : Image → Code → List Place
