@@ -43,8 +43,9 @@ abbrev pub inserted : Place → List Place → List Place
 inserted p [] = p ∷ []
 inserted p (q ∷ qs) =
     elim (is_before p q) [
-        true ↦ p ∷ q ∷ qs
-      | false ↦ elim (is_before q p) [ true ↦ q ∷ inserted p qs | false ↦ q ∷ qs ] ]
+      | true ↦ p ∷ q ∷ qs
+      | false ↦ elim (is_before q p) [ true ↦ q ∷ inserted p qs | false ↦ q ∷ qs ]
+    ]
 
 abbrev pub sorted : List Place → List Place
 sorted [] = []
@@ -97,9 +98,9 @@ abbrev pub try_places : Image → Code → ℕ → List Try → List Place
 try_places image code before [] = []
 try_places image code before (t ∷ ts) =
     place_unless
-        (begins_insn code.tiles t.start && nat_lt t.start t.end &&
-         (begins_item code.tiles t.end || nat_eq t.end (length code.body.units)) && nat_le before t.start)
-        t.start (rule.S 17) ++
+    (begins_insn code.tiles t.start && nat_lt t.start t.end &&
+    (begins_item code.tiles t.end || nat_eq t.end (length code.body.units)) && nat_le before t.start)
+    t.start (rule.S 17) ++
     place_unless (nat_lt 0 (length t.handlers) && handlers_good image code t.handlers) t.start (rule.S 18) ++
     try_places image code t.end ts
 
@@ -125,8 +126,9 @@ abbrev pub places_by : Image → Code → Result (List Tile) ℕ → List Place
 places_by image code (Err at) = record { at = at; broken = rule_at code.body.units at } ∷ []
 places_by image code (Ok ts) =
     elim (no_units code.body.units) [
-    true ↦ record { at = 0; broken = rule.S 1 } ∷ []
-  | false ↦ sorted (first_places image code ++ tile_places image code ts ++ try_places image code 0 code.body.tries) ]
+      | true ↦ record { at = 0; broken = rule.S 1 } ∷ []
+      | false ↦ sorted (first_places image code ++ tile_places image code ts ++ try_places image code 0 code.body.tries)
+    ]
 
 -- by address, then by rule, each once; where the units aren't tiled, that alone
 unfoldable pub static_places : Image → Code → List Place

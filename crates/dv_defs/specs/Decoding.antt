@@ -43,7 +43,7 @@ is_zero n = nat_eq n 0
 abbrev pub short_call : ℕ → ℕ → ℕ → ℕ → ℕ → Option Sized
 short_call op a g index w =
     where_valid (nat_le a 5 && list_all is_zero (drop a (five g w)))
-        (sized 3 (with_index op (few (take a (five g w))) index))
+    (sized 3 (with_index op (few (take a (five g w))) index))
 
 -- AA words from vCCCC; with AA 0, CCCC is 0
 abbrev pub range_call : ℕ → ℕ → ℕ → ℕ → Option Sized

@@ -103,10 +103,12 @@ args_for image ts [] ks = None
 args_for image ts (p ∷ ps) [] = Some (rule.S 15)
 args_for image ts (p ∷ ps) (k ∷ ks) =
     elim (is_long p) [
-        true ↦ elim ks [
-              [] ↦ Some (rule.S 15)
-            | j ∷ js ↦ first (long ts k) (first (demand (nat_eq j (suc k)) (rule.V 3)) (args_for image ts ps js)) ]
-      | false ↦ first (single_for image ts k p) (args_for image ts ps ks) ]
+      | true ↦ elim ks [
+        | [] ↦ Some (rule.S 15)
+        | j ∷ js ↦ first (long ts k) (first (demand (nat_eq j (suc k)) (rule.V 3)) (args_for image ts ps js))
+      ]
+      | false ↦ first (single_for image ts k p) (args_for image ts ps ks)
+    ]
 
 -- which class the new-instance at a place makes
 abbrev pub made_by : Op → Option ℕ
@@ -138,10 +140,11 @@ abbrev pub instance_call : Image → Method → Types → Call → List ℕ → 
 instance_call image own ts c [] m = Some (rule.S 15)
 instance_call image own ts c (k ∷ ks) m =
     first
-        (elim (is_constructor m) [
-             true ↦ receiver_for image own m (type_at ts k)
-           | false ↦ first (ref_to image ts k (own_type image m)) (super_for image own ts k c) ])
-        (args_for image ts m.def.proto.params ks)
+    (elim (is_constructor m) [
+      | true ↦ receiver_for image own m (type_at ts k)
+      | false ↦ first (ref_to image ts k (own_type image m)) (super_for image own ts k c)
+    ])
+    (args_for image ts m.def.proto.params ks)
 
 abbrev pub invoke_for : Image → Method → Types → Call → List ℕ → Method → Demand
 invoke_for image own ts c ks m =
@@ -152,8 +155,9 @@ abbrev pub result_width : Option Ty → Width
 result_width None = Width.Narrow
 result_width (Some t) =
     elim (is_long t) [
-        true ↦ Width.Wide
-      | false ↦ elim (is_reference t) [ true ↦ Width.Reference | false ↦ Width.Narrow ] ]
+      | true ↦ Width.Wide
+      | false ↦ elim (is_reference t) [ true ↦ Width.Reference | false ↦ Width.Narrow ]
+    ]
 
 abbrev pub same_width : Width → Width → Bool
 same_width Width.Narrow Width.Narrow = true
@@ -177,10 +181,11 @@ arg_int ts (Lit n) = None
 abbrev pub both_for : Test → Types → ℕ → ℕ → Demand
 both_for t ts a b =
     elim (is_equality t) [
-        true ↦ demand
-              ((is_int (type_at ts a) && is_int (type_at ts b)) || (is_ref (type_at ts a) && is_ref (type_at ts b)))
-              (rule.V 9)
-      | false ↦ first (int ts a) (int ts b) ]
+      | true ↦ demand
+          ((is_int (type_at ts a) && is_int (type_at ts b)) || (is_ref (type_at ts a) && is_ref (type_at ts b)))
+          (rule.V 9)
+      | false ↦ first (int ts a) (int ts b)
+    ]
 
 abbrev pub zero_for : Test → Types → ℕ → Demand
 zero_for t ts a = elim (is_equality t) [ true ↦ demand (is_int (type_at ts a) || is_ref (type_at ts a)) (rule.V 9) | false ↦ int ts a ]

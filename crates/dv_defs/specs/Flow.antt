@@ -26,8 +26,9 @@ abbrev pub catchers : Body → List Handler → List Catcher
 catchers b [] = []
 catchers b (h ∷ hs) =
     elim h.kind [
-        None ↦ record { ty = None; to = h.at } ∷ []
-      | Some k ↦ record { ty = slice_get b.types k; to = h.at } ∷ catchers b hs ]
+      | None ↦ record { ty = None; to = h.at } ∷ []
+      | Some k ↦ record { ty = slice_get b.types k; to = h.at } ∷ catchers b hs
+    ]
 
 -- the try entry that covers an address
 abbrev pub handlers_of : Body → List Try → ℕ → List Catcher
@@ -86,7 +87,7 @@ pub record Flows (image : Image) (m : Method) (typing : Typing) (at : ℕ) (x : 
   pub handled :
       can_throw x.op ≡ true →
       All (λ h. (y : At) → fetch image m.id h.to ≡ Some y → Leads image typing (caught_state s h) h.to)
-          (handlers_at image m.id (thrown_at at x))
+      (handlers_at image m.id (thrown_at at x))
 
 -- address 0 has a state above the entry state, and each state flows on
 pub record IsFlowClosed (image : Image) (code : Code) (typing : Typing) : Type 0 where

@@ -91,13 +91,13 @@ counted h n = more h.limit
 abbrev pub grown : Heap → Kind → Cells → ℕ → Heap
 grown h k cells cost =
     record {
-        kinds = h.kinds ++ k ∷ [];
-        cells = h.cells ++ cells ∷ [];
-        statics = h.statics;
-        interned = h.interned;
-        class_objects = h.class_objects;
-        used = counted h cost;
-        limit = h.limit;
+      kinds = h.kinds ++ k ∷ [];
+      cells = h.cells ++ cells ∷ [];
+      statics = h.statics;
+      interned = h.interned;
+      class_objects = h.class_objects;
+      used = counted h cost;
+      limit = h.limit;
     }
 
 abbrev pub newest : Heap → ℕ
@@ -110,14 +110,15 @@ grown_within h k cells cost = elim (has_room h cost) [ true ↦ Some (grown h k 
 abbrev pub alloc_object : Image → Heap → ℕ → Option Heap
 alloc_object image h c =
     grown_within h (kind.Object (record { 0 = c })) (fresh_cells (class_cells image c))
-        (2 + length (class_cells image c))
+    (2 + length (class_cells image c))
 
 -- the cost is tested before the cells are made
 abbrev pub alloc_array : Heap → Ty → ℕ → Option Heap
 alloc_array h t n =
     elim (has_room h (2 + n * words_of (component t))) [
-        true ↦ Some (grown h (kind.Array t) (fresh_elements t n) (2 + n * words_of (component t)))
-      | false ↦ None ]
+      | true ↦ Some (grown h (kind.Array t) (fresh_elements t n) (2 + n * words_of (component t)))
+      | false ↦ None
+    ]
 
 abbrev pub alloc_string : Heap → List ℕ → Option Heap
 alloc_string h s = grown_within h (kind.Str s) [] (2 + length s)
@@ -154,14 +155,16 @@ with_class_object (Some h) = Some (record { object = newest h; heap = record h {
 abbrev pub intern : Heap → List ℕ → Option Got
 intern h s =
     elim (found_among (λ o. is_text (kind_of h o) s) h.interned) [
-        Some o ↦ Some (record { object = o; heap = h })
-      | None ↦ with_interned (alloc_string h s) ]
+      | Some o ↦ Some (record { object = o; heap = h })
+      | None ↦ with_interned (alloc_string h s)
+    ]
 
 abbrev pub class_object : Heap → Ty → Option Got
 class_object h t =
     elim (found_among (λ o. is_class_of (kind_of h o) t) h.class_objects) [
-        Some o ↦ Some (record { object = o; heap = h })
-      | None ↦ with_class_object (grown_within h (kind.ClassOf t) [] 2) ]
+      | Some o ↦ Some (record { object = o; heap = h })
+      | None ↦ with_class_object (grown_within h (kind.ClassOf t) [] 2)
+    ]
 
 abbrev pub cells_at : Heap → ℕ → Cells
 cells_at h o = slice_index_or h.cells (pred o) []

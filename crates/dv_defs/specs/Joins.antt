@@ -35,18 +35,21 @@ joins_by_component a b = is_array a && is_array b && is_reference (component a) 
 abbrev pub common_flat : Image → Ty → Ty → Ty
 common_flat image a b =
     elim (is_array a || is_array b) [
-        true ↦ object_type
-      | false ↦ common_classes image (class_of_base image a.base) (class_of_base image b.base) ]
+      | true ↦ object_type
+      | false ↦ common_classes image (class_of_base image a.base) (class_of_base image b.base)
+    ]
 
 -- with so many dimensions left to go through
 abbrev pub common_at : Image → ℕ → Ty → Ty → Ty
 common_at image zero a b = common_flat image a b
 common_at image (suc n) a b =
     elim (ty_eq a b) [
-        true ↦ a
+      | true ↦ a
       | false ↦ elim (joins_by_component a b) [
-              true ↦ array_of (common_at image n (component a) (component b))
-            | false ↦ common_flat image a b ] ]
+        | true ↦ array_of (common_at image n (component a) (component b))
+        | false ↦ common_flat image a b
+      ]
+    ]
 
 -- the nearest common superclass of two types; arrays join by their components where both are references
 unfoldable pub common_super : Image → Ty → Ty → Ty
@@ -89,8 +92,8 @@ join_caught image a b = None
 abbrev pub join_state : Image → RegState → RegState → RegState
 join_state image s t =
     record {
-        regs = joined image s.regs t.regs;
-        result = join_result s.result t.result;
-        caught = join_caught image s.caught t.caught;
-        this_pending = s.this_pending || t.this_pending;
+      regs = joined image s.regs t.regs;
+      result = join_result s.result t.result;
+      caught = join_caught image s.caught t.caught;
+      this_pending = s.this_pending || t.this_pending;
     }

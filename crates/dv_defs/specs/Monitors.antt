@@ -33,8 +33,9 @@ abbrev pub entered_in : List Held → ℕ → ℕ → ℕ → List Held
 entered_in [] o t n = record { object = o; thread = t; count = n } ∷ []
 entered_in (h ∷ hs) o t n =
     elim (nat_eq h.object o) [
-        true ↦ record { object = o; thread = t; count = h.count + n } ∷ hs
-      | false ↦ h ∷ entered_in hs o t n ]
+      | true ↦ record { object = o; thread = t; count = h.count + n } ∷ hs
+      | false ↦ h ∷ entered_in hs o t n
+    ]
 
 -- so many times more; where no other thread owns it
 abbrev pub entered : Monitors → ℕ → ℕ → ℕ → Monitors

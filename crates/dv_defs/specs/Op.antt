@@ -138,8 +138,9 @@ int_op o a b c = elim (is_division o) [ true ↦ IntDivide o a b c | false ↦ I
 abbrev pub long_op : Bin → ℕ → ℕ → ℕ → Op
 long_op o a b c =
     elim (is_division o) [
-        true ↦ LongDivide o a b c
-      | false ↦ elim (is_shift o) [ true ↦ LongShift o a b c | false ↦ LongOp o a b c ] ]
+      | true ↦ LongDivide o a b c
+      | false ↦ elim (is_shift o) [ true ↦ LongShift o a b c | false ↦ LongOp o a b c ]
+    ]
 
 -- a packed switch's keys follow one another; targets are relative to the switch
 abbrev pub cases_packed : ℕ → ℤ → List ℤ → List Case
@@ -171,8 +172,9 @@ class_of_base image b = elim (class_in b) [ None ↦ None | Some name ↦ class_
 abbrev pub new_op : Image → ℕ → Ty → Resolved
 new_op image a t =
     elim (is_array t) [
-        true ↦ Err (rule.S 16)
-      | false ↦ elim (class_of_base image t.base) [ None ↦ Err (rule.S 16) | Some c ↦ Ok (New a c) ] ]
+      | true ↦ Err (rule.S 16)
+      | false ↦ elim (class_of_base image t.base) [ None ↦ Err (rule.S 16) | Some c ↦ Ok (New a c) ]
+    ]
 
 -- by family; /2addr writes its first operand, the forms of a literal take that as their second
 abbrev pub resolve : Image → Code → ℕ → Insn → Family → Resolved
@@ -215,7 +217,7 @@ resolve image code at i (Family.StaticPut s) =
     on_pool (resolved_field image (slice_get code.method.info.fields i.index)) (λ x. Ok (StaticPut s (reg i 0) x))
 resolve image code at i (Family.Invoke c) =
     on_pool (resolved_method image (slice_get code.method.info.methods i.index))
-        (λ m. Ok (Invoke c (named_registers i.regs) m))
+    (λ m. Ok (Invoke c (named_registers i.regs) m))
 resolve image code at i (Family.IntUnary o) = Ok (IntUnary o (reg i 0) (reg i 1))
 resolve image code at i (Family.LongUnary o) = Ok (LongUnary o (reg i 0) (reg i 1))
 resolve image code at i Family.IntToLong = Ok (IntToLong (reg i 0) (reg i 1))

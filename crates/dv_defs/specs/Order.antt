@@ -70,10 +70,12 @@ under_base image test n a b = elim (class_in b) [ None ↦ false | Some d ↦ un
 abbrev pub under_type : Image → ClassTest → Ty → Ty → Bool
 under_type image test a b =
     elim (ty_eq a b) [
-        true ↦ true
+      | true ↦ true
       | false ↦ elim (nat_le b.dims a.dims) [
-              true ↦ under_base image test (a.dims - b.dims) a.base b.base
-            | false ↦ false ] ]
+        | true ↦ under_base image test (a.dims - b.dims) a.base b.base
+        | false ↦ false
+      ]
+    ]
 
 -- subtype by superclasses alone, through array components
 unfoldable pub sub : Image → Ty → Ty → Bool

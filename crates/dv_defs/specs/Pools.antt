@@ -136,8 +136,9 @@ abbrev pub pick : Image → List MethodInfo → ℕ → (Method → Bool) → Op
 pick image [] id good = None
 pick image (i ∷ is) id good =
     elim (with_info image id (Some i)) [
-        None ↦ pick image is (suc id) good
-      | Some m ↦ elim (good m) [ true ↦ Some m | false ↦ pick image is (suc id) good ] ]
+      | None ↦ pick image is (suc id) good
+      | Some m ↦ elim (good m) [ true ↦ Some m | false ↦ pick image is (suc id) good ]
+    ]
 
 abbrev pub declared_by : Image → ℕ → (Method → Bool) → Option Method
 declared_by image c good = pick image image.methods 0 (λ m. nat_eq m.info.class.0 c && good m)

@@ -5,12 +5,15 @@ use Rattle.std.specs.Prelude.{ℕ, ◌+◌, ◌-◌, ◌*◌, ◌/◌, ◌%◌, 
 abbrev pub encoded : ℕ → List ℕ
 encoded c =
     elim (nat_lt c 128) [
-        true ↦ c ∷ []
+      | true ↦ c ∷ []
       | false ↦ elim (nat_lt c 2048) [
-            true ↦ (192 + c / 64) ∷ (128 + c % 64) ∷ []
-          | false ↦ elim (nat_lt c 65536) [
-                true ↦ (224 + c / 4096) ∷ (128 + c / 64 % 64) ∷ (128 + c % 64) ∷ []
-              | false ↦ (240 + c / 262144) ∷ (128 + c / 4096 % 64) ∷ (128 + c / 64 % 64) ∷ (128 + c % 64) ∷ [] ] ] ]
+        | true ↦ (192 + c / 64) ∷ (128 + c % 64) ∷ []
+        | false ↦ elim (nat_lt c 65536) [
+          | true ↦ (224 + c / 4096) ∷ (128 + c / 64 % 64) ∷ (128 + c % 64) ∷ []
+          | false ↦ (240 + c / 262144) ∷ (128 + c / 4096 % 64) ∷ (128 + c / 64 % 64) ∷ (128 + c % 64) ∷ []
+        ]
+      ]
+    ]
 
 -- a unit that is a character of its own, or the first or the second of a surrogate pair
 pub data UnitKind : Type 0 where
@@ -33,9 +36,10 @@ utf8_after None (u ∷ us) =
     elim (kind_of_unit u) [ Alone ↦ encoded u ++ utf8_after None us | First ↦ utf8_after (Some u) us | Second ↦ 63 ∷ utf8_after None us ]
 utf8_after (Some first) (u ∷ us) =
     elim (kind_of_unit u) [
-        Alone ↦ 63 ∷ encoded u ++ utf8_after None us
+      | Alone ↦ 63 ∷ encoded u ++ utf8_after None us
       | First ↦ 63 ∷ utf8_after (Some u) us
-      | Second ↦ encoded (paired first u) ++ utf8_after None us ]
+      | Second ↦ encoded (paired first u) ++ utf8_after None us
+    ]
 
 -- the bytes of units
 abbrev pub utf8 : List ℕ → List ℕ

@@ -42,15 +42,17 @@ is_width w = nat_eq w 1 || nat_eq w 2 || nat_eq w 4 || nat_eq w 8
 abbrev pub data_in : ℕ → ℕ → List ℕ → ℕ → Option SizedPayload
 data_in width count bytes units =
     elim (list_all is_zero (drop count bytes)) [
-        true ↦ Some (record { payload = payload.Data width (take count bytes); size = units + 4 })
-      | false ↦ None ]
+      | true ↦ Some (record { payload = payload.Data width (take count bytes); size = units + 4 })
+      | false ↦ None
+    ]
 
 -- so many bytes in so many units; a last byte that isn't used is 0
 abbrev pub data_of : ℕ → ℕ → ℕ → List ℕ → Option SizedPayload
 data_of width count units us =
     elim (is_width width && nat_le units (length us)) [
-        true ↦ data_in width count (bytes_in (take units us)) units
-      | false ↦ None ]
+      | true ↦ data_in width count (bytes_in (take units us)) units
+      | false ↦ None
+    ]
 
 -- 0300, width, number of elements, bytes
 abbrev pub data_from : ℕ → List ℕ → Option SizedPayload
@@ -61,8 +63,9 @@ data_from width us = None
 abbrev pub payload_of : ℕ → List ℕ → Option SizedPayload
 payload_of kind (n ∷ us) =
     elim (nat_eq kind 1) [
-        true ↦ packed_with n (doubles (suc n) us)
-      | false ↦ elim (nat_eq kind 2) [ true ↦ sparse_with n (doubles (n + n) us) | false ↦ data_from n us ] ]
+      | true ↦ packed_with n (doubles (suc n) us)
+      | false ↦ elim (nat_eq kind 2) [ true ↦ sparse_with n (doubles (n + n) us) | false ↦ data_from n us ]
+    ]
 payload_of kind us = None
 
 pub data Item : Type 0 where
@@ -108,8 +111,9 @@ tiled at (suc k) [] = Err at
 tiled at (suc k) (u ∷ us) = tiled (suc at) k us
 tiled at zero (u ∷ us) =
     elim (piece_here (u ∷ us)) [
-        None ↦ Err at
-      | Some p ↦ with_tile (record { at = at; size = p.size; item = p.item }) (tiled (suc at) (p.size - 1) us) ]
+      | None ↦ Err at
+      | Some p ↦ with_tile (record { at = at; size = p.size; item = p.item }) (tiled (suc at) (p.size - 1) us)
+    ]
 
 -- the items one after another from address 0 to the end of the units, else the first address at which none begins
 abbrev pub tiling : List ℕ → Result (List Tile) ℕ

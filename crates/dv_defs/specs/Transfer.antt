@@ -22,10 +22,12 @@ begins_uninitialised image m = is_constructor m && not (is_of_object image m)
 abbrev pub receiver_type : Image → Method → List RegType
 receiver_type image m =
     elim (is_static m) [
-        true ↦ []
+      | true ↦ []
       | false ↦ elim (begins_uninitialised image m) [
-              true ↦ ty.UninitThis ∷ []
-            | false ↦ ty.Class (own_type image m) ∷ [] ] ]
+        | true ↦ ty.UninitThis ∷ []
+        | false ↦ ty.Class (own_type image m) ∷ []
+      ]
+    ]
 
 abbrev pub arg_types : Image → Method → List RegType
 arg_types image m = receiver_type image m ++ all_types m.def.proto.params
@@ -34,10 +36,10 @@ arg_types image m = receiver_type image m ++ all_types m.def.proto.params
 abbrev pub entry_state : Image → Method → ℕ → RegState
 entry_state image m registers =
     record {
-        regs = replicate (registers - length (arg_types image m)) ty.Conflict ++ arg_types image m;
-        result = pend.None;
-        caught = None;
-        this_pending = begins_uninitialised image m;
+      regs = replicate (registers - length (arg_types image m)) ty.Conflict ++ arg_types image m;
+      result = pend.None;
+      caught = None;
+      this_pending = begins_uninitialised image m;
     }
 
 -- half of a long whose other half is overwritten
@@ -137,10 +139,10 @@ abbrev pub after_constructor : Image → Method → RegState → RegType → Reg
 after_constructor image m s (ty.Uninit a) = going s (map (replaced a (class_or_conflict image (made_at image m a))) s.regs)
 after_constructor image m s ty.UninitThis =
     record {
-        regs = map (replaced_this (ty.Class (own_type image m))) s.regs;
-        result = pend.None;
-        caught = None;
-        this_pending = false;
+      regs = map (replaced_this (ty.Class (own_type image m))) s.regs;
+      result = pend.None;
+      caught = None;
+      this_pending = false;
     }
 after_constructor image m s t = going s (map lost s.regs)
 
@@ -151,8 +153,9 @@ first_of (k ∷ ks) = k
 abbrev pub after_invoke : Image → Method → RegState → List ℕ → Method → RegState
 after_invoke image m s ks g =
     elim (is_constructor g) [
-        true ↦ with_pending (after_constructor image m s (type_at s.regs (first_of ks))) (pending_of g.def.proto.ret)
-      | false ↦ with_pending s (pending_of g.def.proto.ret) ]
+      | true ↦ with_pending (after_constructor image m s (type_at s.regs (first_of ks))) (pending_of g.def.proto.ret)
+      | false ↦ with_pending s (pending_of g.def.proto.ret)
+    ]
 
 -- what aget-object gives
 abbrev pub object_element : RegType → RegType

@@ -22,6 +22,7 @@ impl Model for Text {
 }
 
 impl Text {
+    /// The text of these bytes.
     pub fn of(bytes: Vec<u8>) -> Text
         ensures { result ≡ bytes.items }
     {
@@ -30,6 +31,7 @@ impl Text {
         }
     }
 
+    /// The text's bytes.
     pub fn bytes(&self) -> &[u8]
         ensures { result.now ≡ self.now }
     {
@@ -54,6 +56,7 @@ impl Model for Chars {
 }
 
 impl Chars {
+    /// The string of these UTF-16 units.
     pub fn of(units: Vec<u16>) -> Chars
         ensures { result ≡ units.items }
     {
@@ -62,6 +65,7 @@ impl Chars {
         }
     }
 
+    /// The string's UTF-16 units.
     pub fn units(&self) -> &[u16]
         ensures { result.now ≡ self.now }
     {

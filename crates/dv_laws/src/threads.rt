@@ -39,7 +39,7 @@ pub fn new_threads_are_fine()
 /// What a thread is blocked by is what its step waits for: a step of one that is held up changes the count of steps alone,
 /// and a step of one that has ended, or isn't there, changes nothing. This holds in every state.
 #[tactic(auto, using(crate::proofs::lemmas::Steps::HeldUp::blocked_steps_wait, crate::proofs::lemmas::Steps::HeldUp::ended_steps_stay))]
-pub fn held_up_threads_stay()
+pub fn held_up_threads_wait()
     ensures blocked { BlockedStepsWait }
     ensures ended { EndedStepsStay }
 {}

@@ -1,0 +1,7 @@
+.class LMain;
+.super Ljava/lang/Object;
+.method static main()V
+.registers 1
+invoke-static {v0}, Ldvm/Console;->println(I)V
+return-void
+.end method
