@@ -1,5 +1,5 @@
 -- Which threads are runnable, and how a run stands.
-use Rattle.std.specs.Prelude.{is_none, ℕ, suc, Bool, true, false, ◌&&◌, List, [], ◌∷◌, Option, Some, None, slice_get, nat_eq}
+use Rattle.std.specs.Prelude.{is_none, ℕ, suc, Bool, true, false, ◌&&◌, List, [], ◌∷◌, Option, Some, None, slice_get, nat_eq, if◌then◌else◌}
 use Rattle.dv_defs.specs.declared.image.Image.{Image}
 use Rattle.dv_defs.specs.declared.run.Value.{Value}
 use Rattle.dv_defs.specs.declared.run.Value.TheVariants as v
@@ -41,28 +41,34 @@ abbrev pub blocked_record : Classes → ℕ → List ℕ → Option Blocked
 blocked_record cs t [] = None
 blocked_record cs t (p ∷ ps) = by_ask (ask_of cs p t) (blocked_record cs t ps) p
 
+-- a monitor that another thread owns
+abbrev pub by_owner : ℕ → Option ℕ → Option Blocked
+by_owner t None = None
+by_owner t (Some u) = if nat_eq u t then None else Some blocked.Monitor
+
 abbrev pub blocked_enter : Monitors → ℕ → Value → Option Blocked
-blocked_enter ms t (v.Ref (suc o)) =
-    elim (owner_of ms (suc o)) [
-        None ↦ None
-      | Some u ↦ elim (nat_eq u t) [ true ↦ None | false ↦ Some blocked.Monitor ] ]
+blocked_enter ms t (v.Ref (suc o)) = by_owner t (owner_of ms (suc o))
 blocked_enter ms t x = None
 
-abbrev pub blocked_waiting : Wait → Option ℕ → Option Blocked
-blocked_waiting w owner = elim w.notified [ false ↦ Some blocked.Wait | true ↦ elim owner [ None ↦ None | Some u ↦ Some blocked.Monitor ] ]
+-- by whether it is notified, and the monitor's owner
+abbrev pub blocked_waiting : Bool → Option ℕ → Option Blocked
+blocked_waiting false owner = Some blocked.Wait
+blocked_waiting true (Some u) = Some blocked.Monitor
+blocked_waiting true None = None
 
-abbrev pub blocked_wait : Monitors → ℕ → Option Blocked
-blocked_wait ms t = elim (wait_of ms t) [ None ↦ None | Some w ↦ blocked_waiting w (owner_of ms w.object) ]
+-- a thread that calls wait, and waits already or not yet
+abbrev pub blocked_wait : Monitors → Option Wait → Option Blocked
+blocked_wait ms None = None
+blocked_wait ms (Some w) = blocked_waiting w.notified (owner_of ms w.object)
 
-abbrev pub blocked_join : List Thread → ℕ → Option Blocked
-blocked_join ts o =
-    elim (thread_with ts o) [
-        None ↦ None
-      | Some u ↦ elim (is_living (slice_get ts u)) [ true ↦ Some (blocked.Join u) | false ↦ None ] ]
+-- a thread that joins this one
+abbrev pub blocked_join : List Thread → Option ℕ → Option Blocked
+blocked_join ts None = None
+blocked_join ts (Some u) = if is_living (slice_get ts u) then Some (blocked.Join u) else None
 
 abbrev pub blocked_native : Machine → ℕ → ℕ → Option Native → Option Blocked
-blocked_native m t o (Some native.Wait) = blocked_wait m.shared.monitors t
-blocked_native m t o (Some native.Join) = blocked_join m.threads o
+blocked_native m t o (Some native.Wait) = blocked_wait m.shared.monitors (wait_of m.shared.monitors t)
+blocked_native m t o (Some native.Join) = blocked_join m.threads (thread_with m.threads o)
 blocked_native m t o n = None
 
 abbrev pub blocked_landing : Image → Machine → ℕ → ℕ → Landing → Option Blocked
@@ -73,11 +79,14 @@ abbrev pub blocked_call : Image → Machine → ℕ → Method → Call → Meth
 blocked_call image m t own c g (v.Ref (suc o)) = blocked_landing image m t (suc o) (dispatch image m.shared.heap own c g (suc o))
 blocked_call image m t own c g x = None
 
+abbrev pub blocked_receiver : Image → Machine → ℕ → Method → Frame → Call → Method → Option ℕ → Option Blocked
+blocked_receiver image m t own f c g None = None
+blocked_receiver image m t own f c g (Some k) = blocked_call image m t own c g (reg_at f.regs k)
+
 -- an operation whose class is ready
 abbrev pub blocked_op : Image → Machine → ℕ → Method → Frame → Op → Option Blocked
 blocked_op image m t own f (Enter a) = blocked_enter m.shared.monitors t (reg_at f.regs a)
-blocked_op image m t own f (Invoke c ks g) =
-    elim (receiver_of (Invoke c ks g)) [ None ↦ None | Some k ↦ blocked_call image m t own c g (reg_at f.regs k) ]
+blocked_op image m t own f (Invoke c ks g) = blocked_receiver image m t own f c g (receiver_of (Invoke c ks g))
 blocked_op image m t own f op = None
 
 abbrev pub blocked_needing : Image → Machine → ℕ → Method → Frame → Op → Option ℕ → Option Blocked
@@ -91,9 +100,10 @@ blocked_at image m t f own x = None
 abbrev pub blocked_levels : Image → Machine → ℕ → List Level → Option Blocked
 blocked_levels image m t [] = None
 blocked_levels image m t (level.Code f ∷ ls) = blocked_at image m t f (method_at image f.method.0) (fetch image f.method.0 f.at)
-blocked_levels image m t (level.Init c r ∷ ls) = elim r [ true ↦ None | false ↦ blocked_record m.shared.classes t (prior image c.0) ]
+blocked_levels image m t (level.Init c true ∷ ls) = None
+blocked_levels image m t (level.Init c false ∷ ls) = blocked_record m.shared.classes t (prior image c.0)
 
--- what holds a thread up; none where it is runnable or has ended (JLS 12.4.2, 17.1, 17.2)
+-- what holds a thread up; none where it may step or has ended (JLS 12.4.2, 17.1, 17.2)
 abbrev pub blocked_thread : Image → Machine → ℕ → Thread → Option Blocked
 blocked_thread image m t th = for_end th.end
   where
@@ -104,8 +114,12 @@ blocked_thread image m t th = for_end th.end
 abbrev pub runnable_thread : Image → Machine → ℕ → Thread → Bool
 runnable_thread image m t th = is_living (Some th) && is_none (blocked_thread image m t th)
 
+abbrev pub runnable_one : Image → Machine → ℕ → Option Thread → Bool
+runnable_one image m t None = false
+runnable_one image m t (Some th) = runnable_thread image m t th
+
 abbrev pub runnable : Image → Machine → ℕ → Bool
-runnable image m t = elim (slice_get m.threads t) [ None ↦ false | Some th ↦ runnable_thread image m t th ]
+runnable image m t = runnable_one image m t (slice_get m.threads t)
 
 -- ---- the ending
 
@@ -125,6 +139,10 @@ ending_without_stop image m =
               true ↦ Some ending.Steps
             | false ↦ elim (any_runnable image m m.threads 0) [ true ↦ None | false ↦ Some ending.NoRunnable ] ] ]
 
+abbrev pub ending_by : Image → Machine → Option Ending → Option Ending
+ending_by image m (Some e) = Some e
+ending_by image m None = ending_without_stop image m
+
 -- tested in this order: the stop, all ended, the budget, none runnable
 abbrev pub ending_of : Image → Machine → Option Ending
-ending_of image m = elim m.stop [ Some e ↦ Some e | None ↦ ending_without_stop image m ]
+ending_of image m = ending_by image m m.stop

@@ -1,5 +1,6 @@
 -- A step of a thread: its layers, and what becomes of each outcome.
-use Rattle.std.specs.Prelude.{ℕ, suc, ◌++◌, Bool, true, false, List, [], ◌∷◌, Option, Some, None, Ok, Err, slice_get, slice_set}
+use Rattle.std.specs.Prelude.{ℕ, suc, ◌++◌, Bool, true, false, List, [], ◌∷◌, Option, Some, None, Ok, Err, slice_get, slice_set, if◌then◌else◌}
+use Rattle.std.specs.Option.{option_to_list}
 use Rattle.dv_defs.specs.declared.image.Image.{Image}
 use Rattle.dv_defs.specs.declared.run.Ending.{Ending}
 use Rattle.dv_defs.specs.declared.run.Ending.TheVariants as ending
@@ -39,7 +40,7 @@ act h ReturnVoid = return_void h
 act h (Return w a) = return_form h w a
 act h (Enter a) = reading (read_any h.shared.heap (reg_at h.frame.regs a)) (on_object (monitor_enter h))
 act h (Exit a) = reading (read_any h.shared.heap (reg_at h.frame.regs a)) (on_object (monitor_exit h))
-act h op = elim (is_local op) [ true ↦ local_left h op | false ↦ mem h op ]
+act h op = if is_local op then local_left h op else mem h op
 
 -- a record of the class is pushed on these levels
 abbrev pub begun : Here → ℕ → List Level → Did Left
@@ -62,17 +63,19 @@ with_ready h op (Some c) = for_class h (level.Code h.frame ∷ h.rest) c (ask_of
 
 -- the classes that a record looks at, in order
 abbrev pub prior : Image → ℕ → List ℕ
-prior image c = elim (parent_at image c) [ None ↦ [] | Some p ↦ p ∷ [] ]
+prior image c = option_to_list (parent_at image c)
 
 abbrev pub ended_record : Here → ℕ → ClassState → Did Left
 ended_record h c s = left h (with_classes h.shared (with_state h.shared.classes c s)) h.rest
 
+-- the frame of the class's initialiser is pushed on its record; a class without one is ready
+abbrev pub initialised_by : Here → ℕ → Option Method → Did Left
+initialised_by h c None = ended_record h c Ready
+initialised_by h c (Some m) =
+    pushed h h.shared (level.Code (entered_frame m [] false)) (level.Init (record { 0 = c }) true ∷ h.rest)
+
 abbrev pub run_initialiser : Here → ℕ → Did Left
-run_initialiser h c =
-    elim (initialiser h.image c) [
-        None ↦ ended_record h c Ready
-      | Some m ↦
-          pushed h h.shared (level.Code (entered_frame m [] false)) (level.Init (record { 0 = c }) true ∷ h.rest) ]
+run_initialiser h c = initialised_by h c (initialiser h.image c)
 
 abbrev pub look_at : Here → ℕ → List ℕ → Did Left
 look_at h c [] = run_initialiser h c
@@ -84,24 +87,23 @@ record_step h c false = look_at h c (prior h.image c)
 
 -- ---- what becomes of an outcome
 
--- one thread's step has been done
+-- none, or the one that a step started
 abbrev pub started_threads : Option Thread → List Thread
 started_threads None = []
 started_threads (Some t) = t ∷ []
 
+-- one thread's step has been done
 abbrev pub with_thread : Machine → ℕ → Thread → Left → Machine
 with_thread m t th l =
-    record {
+    record m {
         threads = slice_set m.threads t th ++ started_threads l.started;
         shared = l.shared;
         steps = suc m.steps;
-        stop = m.stop;
-        limits = m.limits;
     }
 
 -- only the stop and the count change
 abbrev pub stopped : Machine → Ending → Machine
-stopped m e = record { threads = m.threads; shared = m.shared; steps = suc m.steps; stop = Some e; limits = m.limits }
+stopped m e = record m { steps = suc m.steps; stop = Some e }
 
 abbrev pub end_after : List Level → End
 end_after [] = end.Returned
@@ -120,18 +122,7 @@ flown m t th o l = with_thread m t (record { levels = l.levels; end = end_flying
 -- a throwing step leaves the address, but monitor-exit's moves on first
 abbrev pub moved_on : Option At → List Level → List Level
 moved_on (Some x) (level.Code f ∷ ls) =
-    elim (is_exit x.op) [
-        true ↦ level.Code
-              (record {
-                   method = f.method;
-                   at = x.next;
-                   regs = f.regs;
-                   result = f.result;
-                   caught = f.caught;
-                   this_pending = f.this_pending;
-               }) ∷
-          ls
-      | false ↦ level.Code f ∷ ls ]
+    if is_exit x.op then level.Code (record f { at = x.next }) ∷ ls else level.Code f ∷ ls
 moved_on x ls = ls
 
 abbrev pub thrown : Machine → ℕ → Thread → Option At → Option Heap → Machine

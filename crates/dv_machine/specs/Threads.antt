@@ -1,5 +1,5 @@
 -- Monitors, waiting, starting and joining (JLS 17.1, 17.2).
-use Rattle.std.specs.Prelude.{ℕ, suc, Bool, true, false, List, [], ◌∷◌, length, Option, Some, None, slice_get, nat_eq, nat_lt, codes}
+use Rattle.std.specs.Prelude.{ℕ, suc, Bool, true, false, List, [], ◌∷◌, length, Option, Some, None, slice_get, nat_eq, nat_lt, codes, if◌then◌else◌}
 use Rattle.dv_defs.specs.declared.image.Image.{Image}
 use Rattle.dv_defs.specs.declared.run.Value.TheVariants as v
 use Rattle.dv_defs.specs.declared.run.Named.TheVariants as named
@@ -8,7 +8,7 @@ use Rattle.dv_defs.specs.declared.machine.End.{End}
 use Rattle.dv_defs.specs.declared.machine.End.TheVariants as end
 use Rattle.dv_defs.specs.Pools.{Method, is_abstract, nearest, no_arguments}
 use Rattle.dv_defs.specs.Heap.{kind_of}
-use Rattle.dv_defs.specs.Monitors.{Wait, held_of, owner_of, entered, exited, waiting, notified_one, notified_all, wait_of, resumed}
+use Rattle.dv_defs.specs.Monitors.{Held, Wait, held_of, owner_of, entered, exited, waiting, notified_one, notified_all, wait_of, resumed}
 use Rattle.dv_machine.specs.State.{Thread, Shared, Left, Did, Go, Throws, where_true, gone, Here, onward, with_monitors}
 use Rattle.dv_machine.specs.Calls.{class_of_kind, entered_frame}
 
@@ -27,16 +27,16 @@ free_or_mine h (Some t) = nat_eq t h.thread
 -- re-entrant
 abbrev pub monitor_enter : Here → ℕ → Did Left
 monitor_enter h o =
-    elim (free_or_mine h (owner_of h.shared.monitors o)) [
-        true ↦ goes h (with_monitors h.shared (entered h.shared.monitors o h.thread 1))
-      | false ↦ stays h ]
+    if free_or_mine h (owner_of h.shared.monitors o)
+    then goes h (with_monitors h.shared (entered h.shared.monitors o h.thread 1)) else stays h
+
+abbrev pub holding_it : Here → (ℕ → Did Left) → Option Held → Did Left
+holding_it h go None = Throws named.IllegalMonitorState
+holding_it h go (Some x) = where_true (nat_eq x.thread h.thread) named.IllegalMonitorState (go x.count)
 
 -- what only the owner does
 abbrev pub holding : Here → ℕ → (ℕ → Did Left) → Did Left
-holding h o go =
-    elim (held_of h.shared.monitors o) [
-        None ↦ Throws named.IllegalMonitorState
-      | Some x ↦ where_true (nat_eq x.thread h.thread) named.IllegalMonitorState (go x.count) ]
+holding h o go = holding_it h go (held_of h.shared.monitors o)
 
 abbrev pub monitor_exit : Here → ℕ → Did Left
 monitor_exit h o = holding h o (λ n. goes h (with_monitors h.shared (exited h.shared.monitors o)))
@@ -47,11 +47,12 @@ taken_back h w true None = goes h (with_monitors h.shared (resumed h.shared.moni
 taken_back h w notified owner = stays h
 
 -- the first step gives the monitor up wholly and waits, the second takes it back as often as it was held
+abbrev pub wait_step : Here → ℕ → Option Wait → Did Left
+wait_step h o None = holding h o (λ n. onward h (with_monitors h.shared (waiting h.shared.monitors o h.thread n)) h.frame)
+wait_step h o (Some w) = taken_back h w w.notified (owner_of h.shared.monitors w.object)
+
 abbrev pub wait_on : Here → ℕ → Did Left
-wait_on h o =
-    elim (wait_of h.shared.monitors h.thread) [
-        Some w ↦ taken_back h w w.notified (owner_of h.shared.monitors w.object)
-      | None ↦ holding h o (λ n. onward h (with_monitors h.shared (waiting h.shared.monitors o h.thread n)) h.frame) ]
+wait_on h o = wait_step h o (wait_of h.shared.monitors h.thread)
 
 abbrev pub notify_on : Here → ℕ → Did Left
 notify_on h o = holding h o (λ n. goes h (with_monitors h.shared (notified_one h.shared.monitors o)))
@@ -82,34 +83,41 @@ new_thread o m = record { levels = level.Code (entered_frame m (v.Ref o ∷ []) 
 abbrev pub started_on : Here → ℕ → Option Method → Did Left
 started_on h o None = Throws named.AbstractMethod
 started_on h o (Some m) =
-    elim (is_abstract m) [
-        true ↦ Throws named.AbstractMethod
-      | false ↦ Go
-              (record {
-                   levels = level.Code (gone h.frame h.next h.frame.regs) ∷ h.rest;
-                   shared = h.shared;
-                   started = Some (new_thread o m);
-               }) ]
+    if is_abstract m then Throws named.AbstractMethod
+    else Go
+        (record {
+            levels = level.Code (gone h.frame h.next h.frame.regs) ∷ h.rest;
+            shared = h.shared;
+            started = Some (new_thread o m);
+        })
 
 -- the run()V of an object's class
 abbrev pub run_method : Image → Option ℕ → Option Method
 run_method image None = None
 run_method image (Some c) = nearest image c (codes "run") no_arguments
 
+abbrev pub start_unless : Here → ℕ → Option ℕ → Did Left
+start_unless h o (Some u) = Throws named.IllegalThreadState
+start_unless h o None =
+    where_true (nat_lt (length h.threads) h.limits.threads) named.OutOfMemory
+        (started_on h o (run_method h.image (class_of_kind h.image (kind_of h.shared.heap o))))
+
 -- tested in this order: a thread of the object, the number of threads, an abstract run()V
 abbrev pub start_on : Here → ℕ → Did Left
-start_on h o =
-    elim (thread_with h.threads o) [
-        Some u ↦ Throws named.IllegalThreadState
-      | None ↦ where_true (nat_lt (length h.threads) h.limits.threads) named.OutOfMemory
-              (started_on h o (run_method h.image (class_of_kind h.image (kind_of h.shared.heap o)))) ]
+start_on h o = start_unless h o (thread_with h.threads o)
+
+abbrev pub join_with : Here → Option ℕ → Did Left
+join_with h None = goes h h.shared
+join_with h (Some u) = if is_living (slice_get h.threads u) then stays h else goes h h.shared
 
 -- goes on where the other thread has ended or was never started
 abbrev pub join_on : Here → ℕ → Did Left
-join_on h o =
-    elim (thread_with h.threads o) [
-        None ↦ goes h h.shared
-      | Some u ↦ elim (is_living (slice_get h.threads u)) [ true ↦ stays h | false ↦ goes h h.shared ] ]
+join_on h o = join_with h (thread_with h.threads o)
 
+abbrev pub object_of_thread : Option Thread → ℕ
+object_of_thread None = 0
+object_of_thread (Some t) = t.object
+
+-- the Thread object of the thread that steps
 abbrev pub own_object : Here → ℕ
-own_object h = elim (slice_get h.threads h.thread) [ None ↦ 0 | Some t ↦ t.object ]
+own_object h = object_of_thread (slice_get h.threads h.thread)

@@ -1,5 +1,6 @@
 -- Exceptions in flight (JLS 11.3, 12.4.2).
-use Rattle.std.specs.Prelude.{ℕ, suc, Bool, true, false, ◌&&◌, List, [], ◌∷◌, Option, Some, None, nat_eq, bytes_eq, codes}
+use Rattle.std.specs.Prelude.{ℕ, suc, Bool, true, false, ◌&&◌, List, [], ◌∷◌, Option, Some, None, nat_eq, bytes_eq, codes, if◌then◌else◌}
+use Rattle.std.specs.Option.{unwrap_or}
 use Rattle.dv_defs.specs.declared.names.Ty.{Ty}
 use Rattle.dv_defs.specs.declared.image.Image.{Image}
 use Rattle.dv_defs.specs.declared.image.FieldInfo.{FieldInfo}
@@ -12,7 +13,7 @@ use Rattle.dv_defs.specs.declared.machine.Level.{Level}
 use Rattle.dv_defs.specs.declared.machine.Level.TheVariants as level
 use Rattle.dv_defs.specs.Names.{throwable_name, error_name}
 use Rattle.dv_defs.specs.Types.{of_class}
-use Rattle.dv_defs.specs.Pools.{method_at, field_at, class_named}
+use Rattle.dv_defs.specs.Pools.{Method, Field, method_at, field_at, class_named}
 use Rattle.dv_defs.specs.Order.{instance}
 use Rattle.dv_defs.specs.Flow.{Catcher}
 use Rattle.dv_defs.specs.Heap.{Heap, newest, alloc_object, with_cell}
@@ -31,15 +32,7 @@ handler_for image heap o (h ∷ hs) = elim (catches image heap o h.ty) [ true �
 
 -- the frame as a handler is entered
 abbrev pub caught_frame : Frame → ℕ → ℕ → Frame
-caught_frame f to o =
-    record {
-        method = f.method;
-        at = to;
-        regs = f.regs;
-        result = pending.None;
-        caught = Some o;
-        this_pending = f.this_pending;
-    }
+caught_frame f to o = record f { at = to; result = pending.None; caught = Some o }
 
 -- a frame caught it; it flies on; or the words for a new one are lacking
 pub data Unwound : Type 0 where
@@ -55,22 +48,25 @@ abbrev pub unwind_frame : Here → Frame → ℕ → Option ℕ → Unwound
 unwind_frame h f o None = Flies o (leaves h.shared h.rest)
 unwind_frame h f o (Some to) = Caught (leaves h.shared (level.Code (caught_frame f to o) ∷ h.rest))
 
+abbrev pub is_method_of : ℕ → ℕ → Option Method → Bool
+is_method_of t c None = false
+is_method_of t c (Some m) = nat_eq t 0 && nat_eq m.info.class.0 c
+
 -- the record that the opening made stands right above thread 0's first frame, which has run nothing
 abbrev pub is_opening : Image → ℕ → ℕ → List Level → Bool
-is_opening image t c (level.Code f ∷ []) =
-    elim (method_at image f.method.0) [ None ↦ false | Some m ↦ nat_eq t 0 && nat_eq m.info.class.0 c ]
+is_opening image t c (level.Code f ∷ []) = is_method_of t c (method_at image f.method.0)
 is_opening image t c ls = false
 
 -- the opening's frame is dropped with its record (own)
 abbrev pub below_record : Here → ℕ → List Level
-below_record h c = elim (is_opening h.image h.thread c h.rest) [ true ↦ [] | false ↦ h.rest ]
+below_record h c = if is_opening h.image h.thread c h.rest then [] else h.rest
 
 abbrev pub erroneous : Here → ℕ → Shared → Shared
 erroneous h c sh = with_classes sh (with_state sh.classes c Erroneous)
 
 -- a boot class that a step names itself
 abbrev pub number_named : Image → List ℕ → ℕ
-number_named image name = elim (class_named image name) [ None ↦ 0 | Some c ↦ c ]
+number_named image name = unwrap_or (class_named image name) 0
 
 abbrev pub exception_name : Named → List ℕ
 exception_name named.Arithmetic = codes "Ljava/lang/ArithmeticException;"
@@ -92,14 +88,16 @@ exception_name named.AbstractMethod = codes "Ljava/lang/AbstractMethodError;"
 abbrev pub made_object : Image → Heap → Named → Option Heap
 made_object image heap n = alloc_object image heap (number_named image (exception_name n))
 
--- the cell of a field that Throwable declares
-abbrev pub is_named_field : Image → ℕ → List ℕ → ℕ → Bool
-is_named_field image c name x = elim (field_at image x) [ None ↦ false | Some y ↦ nat_eq y.info.class.0 c && bytes_eq y.def.name name ]
+-- a field of this name that the class declares
+abbrev pub is_named_field : ℕ → List ℕ → Option Field → Bool
+is_named_field c name None = false
+is_named_field c name (Some y) = nat_eq y.info.class.0 c && bytes_eq y.def.name name
 
 abbrev pub slot_among : Image → ℕ → List ℕ → List FieldInfo → ℕ → ℕ
 slot_among image c name [] x = 0
-slot_among image c name (i ∷ is) x = elim (is_named_field image c name x) [ true ↦ i.slot | false ↦ slot_among image c name is (suc x) ]
+slot_among image c name (i ∷ is) x = elim (is_named_field c name (field_at image x)) [ true ↦ i.slot | false ↦ slot_among image c name is (suc x) ]
 
+-- the cell of a field that Throwable declares
 abbrev pub throwable_slot : Image → List ℕ → ℕ
 throwable_slot image name = slot_among image (number_named image throwable_name) name image.fields 0
 
@@ -119,6 +117,5 @@ is_error h o = instance h.image (type_of h.image h.shared.heap o) (of_class erro
 -- the class becomes erroneous; what isn't an Error is wrapped (JLS 12.4.2, steps 10 and 11)
 abbrev pub unwind_record : Here → ℕ → ℕ → Unwound
 unwind_record h c o =
-    elim (is_error h o) [
-        true ↦ Flies o (leaves (erroneous h c h.shared) (below_record h c))
-      | false ↦ wrapped h c o (made_object h.image h.shared.heap named.InInitializer) ]
+    if is_error h o then Flies o (leaves (erroneous h c h.shared) (below_record h c))
+    else wrapped h c o (made_object h.image h.shared.heap named.InInitializer)

@@ -20,7 +20,7 @@ use Rattle.dv_defs.specs.Statics.{At, arg_words, receiver_words}
 use Rattle.dv_defs.specs.RegTypes.{Types, reg_types, all_types}
 use Rattle.dv_defs.specs.Transfer.{arg_types, receiver_type, begins_uninitialised, entry_state}
 use Rattle.dv_defs.specs.Heap.{Heap}
-use Rattle.dv_machine.specs.State.{Thread, Machine, Left, Did, left, NoRoom, regs_in, words_in}
+use Rattle.dv_machine.specs.State.{Thread, Machine, left, NoRoom, regs_in, words_in}
 use Rattle.dv_machine.specs.Calls.{entered_frame, registers_of, enter}
 use Rattle.dv_machine.specs.Step.{here}
 use Rattle.dv_machine.specs.Conforming.{IsGood, RefFine, RefsFine, Conform}

@@ -1,6 +1,6 @@
 -- Below what throws, each frame finds its handlers in order: it stands at an invoke, or at an instruction that needs a class.
 use Rattle.std.proofs.Common.{◌≡◌, inl, inr, ℕ, List, [], ◌∷◌, Bool, true, false, Option, Some, None, refl, sym, ap, ◌∙◌, subst}
-use Rattle.std.specs.Prelude.{All}
+use Rattle.std.specs.Prelude.{All, if◌then◌else◌}
 use Rattle.std.proofs.lemmas.List.Elements.{All-cons, All-nil}
 use Rattle.dv_defs.specs.declared.image.Image.{Image}
 use Rattle.dv_defs.specs.declared.machine.Frame.{Frame}
@@ -84,7 +84,7 @@ module _ (image : Image) (T : Typings) (m : Machine) (t : ℕ) (thread : Thread)
   pub thrower_moved : is_exit x.op ≡ true → IsHandled image T after (this_above image h.rest) o (record { method = h.frame.method; at = x.next; regs = h.frame.regs; result = h.frame.result; caught = h.frame.caught; this_pending = h.frame.this_pending })
   thrower_moved e = subst (λ (n : ℕ). All (λ (c : Catcher). catches image after o c.ty ≡ true → IsPlaced image T after (this_above image h.rest) (caught_frame h.frame c.to o)) (handlers_at image h.frame.method.0 n)) (ap (λ (b : Bool). elim b [ true ↦ x.next | false ↦ h.frame.at ]) e) all_handled
 
-  pub thrower_moved_on : (P : Level → Type 0) → ((f : Frame) → IsHandled image T after (this_above image h.rest) o f → P (level.Code f)) → (b : Bool) → is_exit x.op ≡ b → All P (elim b [ true ↦ level.Code (record { method = h.frame.method; at = x.next; regs = h.frame.regs; result = h.frame.result; caught = h.frame.caught; this_pending = h.frame.this_pending }) ∷ [] | false ↦ level.Code h.frame ∷ [] ])
+  pub thrower_moved_on : (P : Level → Type 0) → ((f : Frame) → IsHandled image T after (this_above image h.rest) o f → P (level.Code f)) → (b : Bool) → is_exit x.op ≡ b → All P (if b then level.Code (record { method = h.frame.method; at = x.next; regs = h.frame.regs; result = h.frame.result; caught = h.frame.caught; this_pending = h.frame.this_pending }) ∷ [] else level.Code h.frame ∷ [])
   thrower_moved_on P f true e = All-cons P _ [] (f _ (thrower_moved e)) (All-nil P)
   thrower_moved_on P f false e = All-cons P _ [] (f _ (thrower_at e)) (All-nil P)
 

@@ -1,6 +1,6 @@
 -- A well-typed state stays so after a step that lets an exception fly.
 use Rattle.std.proofs.Common.{◌≡◌, ◌≢◌, ℕ, suc, List, [], ◌∷◌, length, Bool, true, false, Option, Some, None, refl, sym, ap, ◌∙◌, subst, arith}
-use Rattle.std.specs.Prelude.{slice_get, All}
+use Rattle.std.specs.Prelude.{slice_get, All, if◌then◌else◌}
 use Rattle.std.proofs.lemmas.List.Elements.{All-head, All-tail, All-cons}
 use Rattle.dv_defs.specs.declared.image.Image.{Image}
 use Rattle.dv_defs.specs.declared.run.Ending.TheVariants as ending
@@ -111,7 +111,7 @@ module _ (image : Image) (T : Typings) (m : Machine) (t : ℕ) (thread : Thread)
   pub raised_typed : WellTyped image T (flown m t thread o (leaves (with_heap m.shared after) (moved_on (Some x) thread.levels)))
   raised_typed = subst (λ (ls : List Level). WellTyped image T (flown m t thread o (leaves (with_heap m.shared after) (moved_on (Some x) ls)))) (sym i.levels) (go (is_exit x.op) refl)
     where
-      go : (b : Bool) → is_exit x.op ≡ b → WellTyped image T (flown m t thread o (leaves (with_heap m.shared after) (elim b [ true ↦ level.Code (record { method = h.frame.method; at = x.next; regs = h.frame.regs; result = h.frame.result; caught = h.frame.caught; this_pending = h.frame.this_pending }) ∷ h.rest | false ↦ level.Code h.frame ∷ h.rest ])))
+      go : (b : Bool) → is_exit x.op ≡ b → WellTyped image T (flown m t thread o (leaves (with_heap m.shared after) (if b then level.Code (record { method = h.frame.method; at = x.next; regs = h.frame.regs; result = h.frame.result; caught = h.frame.caught; this_pending = h.frame.this_pending }) ∷ h.rest else level.Code h.frame ∷ h.rest)))
       go true e = raised_moved e
       go false e = raised_at e
 

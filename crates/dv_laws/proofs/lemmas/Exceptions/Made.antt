@@ -1,5 +1,6 @@
 -- The exceptions that a step makes itself.
-use Rattle.std.proofs.Common.{◌≡◌, ℕ, List, true, not, Option, Some, None, refl, sym, ap, ◌∙◌, subst}
+use Rattle.std.proofs.Common.{◌≡◌, ℕ, List, true, not, Option, Some, refl, sym, ap, ◌∙◌, subst}
+use Rattle.std.specs.Option.{unwrap_or}
 use Rattle.dv_defs.specs.declared.image.Image.{Image}
 use Rattle.dv_defs.specs.declared.run.Named.{Named}
 use Rattle.dv_defs.specs.declared.run.Named.TheVariants as named
@@ -18,7 +19,7 @@ use Rattle.dv_laws.proofs.lemmas.Order.Walks.{named_is}
 use Rattle.dv_laws.proofs.lemmas.Heap.Added.{object_is_added}
 
 number_is : (image : Image) (name : List ℕ) (c : ℕ) → class_named image name ≡ Some c → number_named image name ≡ c
-number_is image name c e = ap (λ (x : Option ℕ). elim x [ None ↦ 0 | Some d ↦ d ]) e
+number_is image name c e = ap (λ (x : Option ℕ). unwrap_or x 0) e
 
 -- the class of a named exception has its name
 pub exception_class : (image : Image) (T : Typings) → Accepted image T → (n : Named) → name_at image (number_named image (exception_name n)) ≡ exception_name n

@@ -1,6 +1,6 @@
 -- An exception drops the record of a class, which becomes erroneous, and with it the opening's frame.
 use Rattle.std.proofs.Common.{◌≡◌, ℕ, zero, suc, List, [], ◌∷◌, Bool, true, false, Option, Some, None, refl, sym, ◌∙◌, subst}
-use Rattle.std.specs.Prelude.{slice_get, All, codes}
+use Rattle.std.specs.Prelude.{slice_get, All, codes, if◌then◌else◌}
 use Rattle.std.proofs.lemmas.List.{length-set}
 use Rattle.std.proofs.lemmas.List.Elements.{All-tail, All-nil}
 use Rattle.dv_defs.specs.declared.image.Image.{Image}
@@ -42,7 +42,7 @@ module _ (image : Image) (T : Typings) (m : Machine) (t o : ℕ) (thread : Threa
 
   -- the record is dropped while an object of a heap that has grown flies
   module _ (after : Heap) (g : KeepsKinds m.shared.heap after) (fine : HeapFine image after) (p : ℕ) (i : IsThrowable image after p) where
-    dropped_with : (b : Bool) → is_opening image t c ls ≡ b → WellTyped image T (flown m t thread p (leaves (erroneous (here image m t no_method no_frame ls 0) c (with_heap m.shared after)) (elim b [ true ↦ [] | false ↦ ls ])))
+    dropped_with : (b : Bool) → is_opening image t c ls ≡ b → WellTyped image T (flown m t thread p (leaves (erroneous (here image m t no_method no_frame ls 0) c (with_heap m.shared after)) (if b then [] else ls)))
     dropped_with b e = flown_typed image T m t thread p _ _ w has (flying_quiet image T m t o thread acc w has flying) (record {
       keeps = g;
       heap = fine;
@@ -57,18 +57,18 @@ module _ (image : Image) (T : Typings) (m : Machine) (t o : ℕ) (thread : Threa
         mine : (d : ℕ) → records d (level.Init (record { 0 = c }) r ∷ ls) ≡ owed t (state_at m.shared.classes d)
         mine = records_of image T m t thread _ w has levels
 
-        same : (b : Bool) → is_opening image t c ls ≡ b → (d : ℕ) → records d (elim b [ true ↦ [] | false ↦ ls ]) ≡ records d ls
+        same : (b : Bool) → is_opening image t c ls ≡ b → (d : ℕ) → records d (if b then [] else ls) ≡ records d ls
         same true e d = sym (opening_records image t c d ls e)
         same false e d = refl
 
-        refs : (b : Bool) → All (RefsFine image after) (elim b [ true ↦ [] | false ↦ ls ])
+        refs : (b : Bool) → All (RefsFine image after) (if b then [] else ls)
         refs true = All-nil (RefsFine image after)
         refs false = all_refs_grown image m.shared.heap after g ls (All-tail (RefsFine image m.shared.heap) (level.Init (record { 0 = c }) r) ls (refs_of image T m t thread _ w has levels))
 
         below : (b : Bool) → is_opening image t c ls ≡ b → Either (is_opening image t c ls) (StackFine image T after t None ls) (StackFine image T after t (Some p) ls) → Either b (StackFine image T after t None ls) (StackFine image T after t (Some p) ls)
         below b e k = subst (λ (x : Bool). Either x (StackFine image T after t None ls) (StackFine image T after t (Some p) ls)) e k
 
-        stack : (b : Bool) → is_opening image t c ls ≡ b → ThreadFine image T after t (elim b [ true ↦ [] | false ↦ ls ]) (end_flying p (elim b [ true ↦ [] | false ↦ ls ]))
+        stack : (b : Bool) → is_opening image t c ls ≡ b → ThreadFine image T after t (if b then [] else ls) (end_flying p (if b then [] else ls))
         stack true e = (refl, i)
         stack false e = flying_on image T after t p (level.Init (record { 0 = c }) r) ls i (fine_at image T m t o thread acc w has flying (level.Init (record { 0 = c }) r ∷ ls) levels).0 (below false e (stack_for after g p i).1)
 
@@ -95,7 +95,7 @@ module _ (image : Image) (T : Typings) (m : Machine) (t o : ℕ) (thread : Threa
   pub record_flight : HoldsOf (WellTyped image T) (step_flight image m t thread o (level.Init (record { 0 = c }) r ∷ ls))
   record_flight = go (is_error (here image m t no_method no_frame ls 0) o)
     where
-      go : (b : Bool) → HoldsOf (WellTyped image T) (settled_flight m t thread (elim b [ true ↦ Flies o (leaves (erroneous (here image m t no_method no_frame ls 0) c m.shared) (below_record (here image m t no_method no_frame ls 0) c)) | false ↦ wrapped (here image m t no_method no_frame ls 0) c o (made_object image m.shared.heap named.InInitializer) ]))
+      go : (b : Bool) → HoldsOf (WellTyped image T) (settled_flight m t thread (if b then Flies o (leaves (erroneous (here image m t no_method no_frame ls 0) c m.shared) (below_record (here image m t no_method no_frame ls 0) c)) else wrapped (here image m t no_method no_frame ls 0) c o (made_object image m.shared.heap named.InInitializer)))
       go true = record_dropped m.shared.heap (λ p k e. e) w.heap o (fine_at image T m t o thread acc w has flying (level.Init (record { 0 = c }) r ∷ ls) levels).1
       go false = wrapped_typed (made_object image m.shared.heap named.InInitializer) refl
 

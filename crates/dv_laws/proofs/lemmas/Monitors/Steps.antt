@@ -1,6 +1,6 @@
 -- Steps that enter and exit monitors are fine.
 use Rattle.std.proofs.Common.{◌≡◌, inl, inr, ℕ, zero, suc, List, [], ◌∷◌, Bool, true, false, Option, Some, None, refl, sym, ap, ◌∙◌, subst, arith}
-use Rattle.std.specs.Prelude.{All, Ok, Err, nat_eq}
+use Rattle.std.specs.Prelude.{All, Ok, Err, nat_eq, if◌then◌else◌}
 use Rattle.std.proofs.lemmas.List.Elements.{All-cons, All-head}
 use Rattle.dv_defs.specs.declared.image.Image.{Image}
 use Rattle.dv_defs.specs.declared.run.Named.TheVariants as named
@@ -17,9 +17,9 @@ use Rattle.dv_defs.specs.Demands.{goes_on, demands}
 use Rattle.dv_defs.specs.Transfer.{out, going}
 use Rattle.dv_defs.specs.Flow.{Leads, jumps}
 use Rattle.dv_defs.specs.Monitors.{Monitors, Held, wait_of, held_of, owner_of, entered, exited}
-use Rattle.dv_machine.specs.State.{Thread, Machine, Left, Did, Throws, Reads, reading, reg_at, read_any, where_true, Here, gone, with_monitors}
+use Rattle.dv_machine.specs.State.{Thread, Machine, Left, Did, Reads, reading, reg_at, read_any, where_true, Here, gone, with_monitors}
 use Rattle.dv_machine.specs.Mem.{on_object}
-use Rattle.dv_machine.specs.Threads.{stays, goes, free_or_mine, monitor_enter, monitor_exit}
+use Rattle.dv_machine.specs.Threads.{stays, goes, free_or_mine, monitor_enter, monitor_exit, holding_it}
 use Rattle.dv_machine.specs.Step.{act, here}
 use Rattle.dv_machine.specs.Conforming.{IsThere, RefsFine, Conform}
 use Rattle.dv_machine.specs.WellTyped.{Typings, own_of, this_above, ThreadFine, MonitorsFine, records}
@@ -75,7 +75,7 @@ module _ (image : Image) (T : Typings) (m : Machine) (t : ℕ) (thread : Thread)
     enters : (o : ℕ) → DidFine image T m t thread x (monitor_enter (here image m t own f rest x.next) o)
     enters o = go (free_or_mine (here image m t own f rest x.next) (owner_of m.shared.monitors o))
       where
-        go : (b : Bool) → DidFine image T m t thread x (elim b [ true ↦ goes (here image m t own f rest x.next) (with_monitors m.shared (entered m.shared.monitors o t 1)) | false ↦ stays (here image m t own f rest x.next) ])
+        go : (b : Bool) → DidFine image T m t thread x (if b then goes (here image m t own f rest x.next) (with_monitors m.shared (entered m.shared.monitors o t 1)) else stays (here image m t own f rest x.next))
         go true = going_on (entered m.shared.monitors o t 1) (entering_keeps image m.threads m.shared m.steps o t thread h.may.typed.monitors h.has_thread no_entry) no_entry
         go false = staying no_entry
 
@@ -86,7 +86,7 @@ module _ (image : Image) (T : Typings) (m : Machine) (t : ℕ) (thread : Thread)
         mine true = going_on (exited m.shared.monitors o) (exiting_keeps image m.threads m.shared m.steps o h.may.typed.monitors) no_entry
         mine false = throws
 
-        go : (y : Option Held) → DidFine image T m t thread x (elim y [ None ↦ Throws named.IllegalMonitorState | Some y ↦ where_true (nat_eq y.thread t) named.IllegalMonitorState (goes (here image m t own f rest x.next) (with_monitors m.shared (exited m.shared.monitors o))) ])
+        go : (y : Option Held) → DidFine image T m t thread x (holding_it (here image m t own f rest x.next) (λ n. goes (here image m t own f rest x.next) (with_monitors m.shared (exited m.shared.monitors o))) y)
         go None = throws
         go (Some y) = mine (nat_eq y.thread t)
 

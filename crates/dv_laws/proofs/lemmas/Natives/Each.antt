@@ -1,6 +1,6 @@
 -- Each native is fine: those that give a value, make a string or print, those that wait and notify, and the one that starts a thread.
 use Rattle.std.proofs.Common.{◌≡◌, ℕ, zero, suc, ◌+◌, ◌++◌, List, length, Bool, true, false, Option, Some, None, refl, sym, subst, ◌≢◌, [], ◌∷◌, ap, ◌∙◌, arith}
-use Rattle.std.specs.Prelude.{ℤ, pos, negsuc, slice_get, nat_le, take, drop, nat_eq, nat_lt, All, bytes_eq}
+use Rattle.std.specs.Prelude.{ℤ, pos, negsuc, slice_get, nat_le, take, drop, nat_eq, nat_lt, All, bytes_eq, if◌then◌else◌}
 use Rattle.std.proofs.lemmas.Grind.{common_steps}
 use Rattle.std.proofs.lemmas.Option.{same_Some}
 use Rattle.std.proofs.lemmas.Bool.{and_parts}
@@ -32,7 +32,7 @@ use Rattle.dv_machine.specs.State.{Thread, Machine, Left, Did, Throws, NoOutput,
 use Rattle.dv_machine.specs.Mem.{on_object}
 use Rattle.dv_machine.specs.Texts.{text_of}
 use Rattle.dv_machine.specs.Calls.{signature, string_type, native_of, native_among, all_natives, is_signed, class_of_kind}
-use Rattle.dv_machine.specs.Threads.{own_object, goes, stays, thread_with, is_living, join_on, holding, taken_back, notify_on, notify_all_on, run_method, new_thread, started_on}
+use Rattle.dv_machine.specs.Threads.{own_object, goes, stays, thread_with, is_living, join_on, holding, taken_back, notify_on, notify_all_on, run_method, new_thread, started_on, holding_it, join_with, object_of_thread, wait_step, start_unless}
 use Rattle.dv_machine.specs.Natives.{arg, number_of, object_number, gives, gives_object, new_text, char_at, units_in, some_chars, printed, native_step}
 use Rattle.dv_machine.specs.Step.{here}
 use Rattle.dv_machine.specs.Conforming.{Own, IsOf, ResultConforms, ResultFine, IsGood, Conforms}
@@ -136,7 +136,7 @@ module _ (image : Image) (T : Typings) (m : Machine) (t : ℕ) (thread : Thread)
 
   pub current_fine : (xs : List Value) → Calls native.CurrentThread xs → Does (native_step here_it native.CurrentThread xs)
   current_fine xs q =
-      let is : IsOf image heap (own_object here_it) (of_class thread_name) = subst (λ o. IsOf image heap (elim o as (λ w. ℕ) [ None ↦ 0 | Some th ↦ th.object ]) (of_class thread_name)) (sym h.has_thread) (all_at (λ (th : Thread). IsOf image heap th.object (of_class thread_name)) m.threads t thread h.may.typed.objects h.has_thread) in
+      let is : IsOf image heap (own_object here_it) (of_class thread_name) = subst (λ o. IsOf image heap (object_of_thread o) (of_class thread_name)) (sym h.has_thread) (all_at (λ (th : Thread). IsOf image heap th.object (of_class thread_name)) m.threads t thread h.may.typed.objects h.has_thread) in
       let fits = fits_of image heap (own_object here_it) (of_class thread_name) is in
       gives_fine native.CurrentThread xs q (λ i. absurd (cc)) (v.Ref (own_object here_it)) (λ o. fits) (there_of image heap (record { this = None; class = string_type; made = λ a. None }) (own_object here_it) (of_class thread_name) fits)
 
@@ -181,11 +181,11 @@ module _ (image : Image) (T : Typings) (m : Machine) (t : ℕ) (thread : Thread)
   pub join_fine : (xs : List Value) → Calls native.Join xs → (o : ℕ) → Does (join_on here_it o)
   join_fine xs q o = by_thread (thread_with m.threads o)
     where
-      by_end : (b : Bool) → Does (elim b as (λ w. Did Left) [ true ↦ stays here_it | false ↦ goes here_it m.shared ])
+      by_end : (b : Bool) → Does (if b then stays here_it else goes here_it m.shared)
       by_end true = staying image T m t thread own f rest x s h (native_apart image T m t thread own f rest x s h c ks g e k native.Join xs q (λ i. absurd (cc)))
       by_end false = nothing_fine native.Join xs q (λ i. absurd (cc)) m.shared.output refl
 
-      by_thread : (u : Option ℕ) → Does (elim u as (λ w. Did Left) [ None ↦ goes here_it m.shared | Some u ↦ elim (is_living (slice_get m.threads u)) as (λ w. Did Left) [ true ↦ stays here_it | false ↦ goes here_it m.shared ] ])
+      by_thread : (u : Option ℕ) → Does (join_with here_it u)
       by_thread None = nothing_fine native.Join xs q (λ i. absurd (cc)) m.shared.output refl
       by_thread (Some u) = by_end (is_living (slice_get m.threads u))
 
@@ -235,7 +235,7 @@ module _ (image : Image) (T : Typings) (m : Machine) (t : ℕ) (thread : Thread)
       by_owner y true d = d
       by_owner y false d = th
 
-      by_holder : (r : Option Held) → held_of m.shared.monitors o ≡ r → Does (elim r as (λ w. Did Left) [ None ↦ Throws named.IllegalMonitorState | Some y ↦ where_true (nat_eq y.thread t) named.IllegalMonitorState (go y.count) ])
+      by_holder : (r : Option Held) → held_of m.shared.monitors o ≡ r → Does (holding_it here_it go r)
       by_holder None i = th
       by_holder (Some y) i = by_owner y (nat_eq y.thread t) (n y i)
 
@@ -306,7 +306,7 @@ module _ (image : Image) (T : Typings) (m : Machine) (t : ℕ) (thread : Thread)
       first_step th i = held_by th (object_number (arg xs 0)) (λ n. onward here_it (with_monitors m.shared (waiting m.shared.monitors (object_number (arg xs 0)) t n)) f)
           (λ y u. stays_with (waiting m.shared.monitors (object_number (arg xs 0)) t y.count) (waiting_keeps image m.threads m.shared m.steps (object_number (arg xs 0)) t thread y h.may.typed.monitors h.has_thread i u (waits_here xs q)))
 
-      by_entry : (w : Option Wait) → wait_of m.shared.monitors t ≡ w → Does (elim w as (λ r. Did Left) [ Some w ↦ taken_back here_it w w.notified (owner_of m.shared.monitors w.object) | None ↦ holding here_it (object_number (arg xs 0)) (λ n. onward here_it (with_monitors m.shared (waiting m.shared.monitors (object_number (arg xs 0)) t n)) f) ])
+      by_entry : (w : Option Wait) → wait_of m.shared.monitors t ≡ w → Does (wait_step here_it (object_number (arg xs 0)) w)
       by_entry (Some w) i = takes_back xs q w i w.notified (owner_of m.shared.monitors w.object) refl
       by_entry None i = first_step (record { can = ap can_throw e; apart = i }) i
 
@@ -349,7 +349,7 @@ module _ (image : Image) (T : Typings) (m : Machine) (t : ℕ) (thread : Thread)
     by_run None i = start_throws
     by_run (Some r) i = by_abstract (is_abstract r) refl
       where
-        by_abstract : (b : Bool) → is_abstract r ≡ b → Does (elim b as (λ w. Did Left) [ true ↦ Throws named.AbstractMethod | false ↦ Go (record { levels = level.Code (gone f x.next f.regs) ∷ rest; shared = m.shared; started = Some (new_thread started_object r) }) ])
+        by_abstract : (b : Bool) → is_abstract r ≡ b → Does (if b then Throws named.AbstractMethod else Go (record { levels = level.Code (gone f x.next f.regs) ∷ rest; shared = m.shared; started = Some (new_thread started_object r) }))
         by_abstract true u = start_throws
         by_abstract false u = starts r i u
 
@@ -360,6 +360,6 @@ module _ (image : Image) (T : Typings) (m : Machine) (t : ℕ) (thread : Thread)
         by_room true = by_run (run_method image (class_of_kind image (kind_of heap started_object))) refl
         by_room false = start_throws
 
-        by_thread : (u : Option ℕ) → Does (elim u as (λ w. Did Left) [ Some u ↦ Throws named.IllegalThreadState | None ↦ where_true (nat_lt (length m.threads) m.limits.threads) named.OutOfMemory (started_on here_it started_object (run_method image (class_of_kind image (kind_of heap started_object)))) ])
+        by_thread : (u : Option ℕ) → Does (start_unless here_it started_object u)
         by_thread (Some u) = start_throws
         by_thread None = by_room (nat_lt (length m.threads) m.limits.threads)

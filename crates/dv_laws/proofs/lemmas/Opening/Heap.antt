@@ -1,5 +1,6 @@
 -- The heap in which a run begins is in order.
 use Rattle.std.proofs.Common.{◌≡◌, ◌⊎◌, inl, inr, ℕ, zero, suc, List, [], ◌∷◌, Bool, true, false, not, Option, Some, None, refl, sym, ap, ◌∙◌, subst, arith}
+use Rattle.std.specs.Option.{unwrap_or}
 use Rattle.std.specs.Prelude.{slice_index_or, bytes_eq, codes, nat_eq}
 use Rattle.std.proofs.lemmas.Bool.{and_parts, or_cases, eqb-true}
 use Rattle.std.proofs.lemmas.List.Elements.{All-nil}
@@ -51,7 +52,7 @@ named_of image T acc heap o name n p e = record {
 }
   where
     own : name_at image (number_named image name) ≡ name
-    own = ap (λ (x : Option ℕ). name_at image (elim x as (λ y. ℕ) [ None ↦ 0 | Some d ↦ d ])) n.1 ∙ named_is image name n.0 n.1
+    own = ap (λ (x : Option ℕ). name_at image (unwrap_or x 0)) n.1 ∙ named_is image name n.0 n.1
 
 -- ---- the stages of the heap
 

@@ -1,6 +1,6 @@
 -- The state in which a run begins is well typed.
-use Rattle.std.proofs.Common.{◌≡◌, ◌⊎◌, inl, inr, ℕ, zero, suc, ◌+◌, ◌<◌, ◌≤◌, List, [], ◌∷◌, length, Bool, true, false, ◌&&◌, Option, Some, None, refl, sym, ap, ◌∙◌, subst, arith}
-use Rattle.std.specs.Prelude.{slice_get, All, bytes_eq, nat_eq}
+use Rattle.std.proofs.Common.{◌≡◌, ◌⊎◌, inl, inr, ℕ, zero, suc, ◌+◌, ◌<◌, ◌≤◌, List, [], ◌∷◌, length, Bool, true, false, Option, Some, None, refl, sym, ap, ◌∙◌, subst, arith}
+use Rattle.std.specs.Prelude.{slice_get, All, bytes_eq}
 use Rattle.std.proofs.lemmas.Bool.{eq-eqb}
 use Rattle.std.proofs.lemmas.List.{length-set}
 use Rattle.std.proofs.lemmas.List.Elements.{All-nil, All-cons}
@@ -26,7 +26,7 @@ use Rattle.dv_defs.specs.Heap.{Heap, kind_of, newest}
 use Rattle.dv_defs.specs.Classes.{ClassState, Fresh, InProgress, Ready, state_at}
 use Rattle.dv_machine.specs.State.{Thread}
 use Rattle.dv_machine.specs.Calls.{entered_frame}
-use Rattle.dv_machine.specs.Unwinding.{is_opening}
+use Rattle.dv_machine.specs.Unwinding.{is_opening, is_method_of}
 use Rattle.dv_machine.specs.Opening.{takes_array, main_args, is_born, first_states, opening_levels, opening_states, opened, opening_heap}
 use Rattle.dv_machine.specs.Conforming.{IsOf, IsGood, RefFine, RefsFine}
 use Rattle.dv_machine.specs.WellTyped.{Typings, own_of, IsNoInitialiser, StackFine, ThreadFine, records, owed, levels_in, WellTyped}
@@ -144,7 +144,7 @@ module _ (image : Image) (T : Typings) (acc : Accepted image T) (m : Method) (l 
 
   -- the record that the opening makes stands right above it
   is_opened : is_opening image 0 m.info.class.0 (level.Code (entered_frame m (main_args m (opening_heap image m l)) false) ∷ []) ≡ true
-  is_opened = ap (λ (o : Option Method). elim o as (λ x. Bool) [ None ↦ false | Some k ↦ nat_eq 0 0 && nat_eq k.info.class.0 m.info.class.0 ]) is.there ∙ eq-eqb m.info.class.0 m.info.class.0 refl
+  is_opened = ap (λ (o : Option Method). is_method_of 0 m.info.class.0 o) is.there ∙ eq-eqb m.info.class.0 m.info.class.0 refl
 
   record_stack : StackFine image T (opening_heap image m l) 0 None (level.Init (record { 0 = m.info.class.0 }) false ∷ level.Code (entered_frame m (main_args m (opening_heap image m l)) false) ∷ [])
   record_stack = (inr (is_opened, refl), go (is_opening image 0 m.info.class.0 (level.Code (entered_frame m (main_args m (opening_heap image m l)) false) ∷ [])))

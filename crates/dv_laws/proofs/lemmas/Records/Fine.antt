@@ -1,5 +1,6 @@
 -- A step of a class's record is fine: it looks at the superclass, runs the initialiser, or ends.
 use Rattle.std.proofs.Common.{◌≡◌, ◌≢◌, ℕ, suc, ◌<◌, List, [], ◌∷◌, length, Bool, true, false, ◌&&◌, not, Option, Some, None, refl, sym, ap, ◌∙◌, subst, arith}
+use Rattle.std.specs.Option.{option_to_list}
 use Rattle.std.specs.Prelude.{slice_get, All, nat_eq, bytes_eq, if◌then◌else◌}
 use Rattle.std.proofs.lemmas.List.{length-set}
 use Rattle.std.proofs.lemmas.List.Elements.{All-cons, All-tail, All-nil}
@@ -19,10 +20,10 @@ use Rattle.dv_defs.specs.RegTypes.{all_types}
 use Rattle.dv_defs.specs.Transfer.{arg_types, begins_uninitialised}
 use Rattle.dv_defs.specs.Monitors.{Wait, wait_of}
 use Rattle.dv_defs.specs.Classes.{ClassState, Fresh, InProgress, Ready, Erroneous, Classes, state_at, asked, ask_of, with_state}
-use Rattle.dv_machine.specs.State.{Thread, Machine, Left, Did, NoRoom, Here, left, pushed, with_classes}
+use Rattle.dv_machine.specs.State.{Thread, Machine, NoRoom, Here, left, with_classes}
 use Rattle.dv_machine.specs.Calls.{entered_frame}
 use Rattle.dv_machine.specs.Unwinding.{is_opening}
-use Rattle.dv_machine.specs.Step.{for_class, prior, ended_record, run_initialiser, look_at, record_step, here, no_method, no_frame, end_after}
+use Rattle.dv_machine.specs.Step.{for_class, prior, run_initialiser, look_at, record_step, here, no_method, no_frame, end_after, initialised_by}
 use Rattle.dv_machine.specs.Conforming.{IsGood, RefsFine}
 use Rattle.dv_machine.specs.WellTyped.{Typings, own_of, BelowRecord, StackFine, lowest, IsCode, ThreadFine, WaitFine, records, owed, WellTyped}
 use Rattle.dv_machine.specs.Accepted.{Accepted}
@@ -132,7 +133,7 @@ module _ (image : Image) (T : Typings) (m : Machine) (t : ℕ) (thread : Thread)
   run_fine : RecordDidFine image T m t thread (run_initialiser (here image m t no_method no_frame rest 0) c)
   run_fine = go (initialiser image c) refl
     where
-      go : (o : Option Method) → initialiser image c ≡ o → RecordDidFine image T m t thread (elim o as (λ x. Did Left) [ None ↦ ended_record (here image m t no_method no_frame rest 0) c Ready | Some k ↦ pushed (here image m t no_method no_frame rest 0) m.shared (level.Code (entered_frame k [] false)) (level.Init (record { 0 = c }) true ∷ rest) ])
+      go : (o : Option Method) → initialiser image c ≡ o → RecordDidFine image T m t thread (initialised_by (here image m t no_method no_frame rest 0) c o)
       go None e = ended Ready (λ u. refl)
       go (Some k) e = pushing _ m.shared.classes _ (initialiser_left k e)
 
@@ -158,9 +159,9 @@ module _ (image : Image) (T : Typings) (m : Machine) (t : ℕ) (thread : Thread)
   look_fine : RecordDidFine image T m t thread (look_at (here image m t no_method no_frame rest 0) c (prior image c))
   look_fine = go (parent_at image c) refl
     where
-      go : (o : Option ℕ) → parent_at image c ≡ o → RecordDidFine image T m t thread (look_at (here image m t no_method no_frame rest 0) c (elim o as (λ x. List ℕ) [ None ↦ [] | Some p ↦ p ∷ [] ]))
+      go : (o : Option ℕ) → parent_at image c ≡ o → RecordDidFine image T m t thread (look_at (here image m t no_method no_frame rest 0) c (option_to_list o))
       go None e = run_fine
-      go (Some p) e = super_fine p (subst (λ (o : Option ℕ). has_number p (elim o as (λ x. List ℕ) [ None ↦ [] | Some q ↦ q ∷ [] ]) ≡ true) (sym e) (has_head p [])) (acc.hierarchy.inside c p (subst (λ (o : Option ℕ). has_number p (with_parent o (interfaces_of (slice_get image.classes c))) ≡ true) (sym e) (has_head p _)))
+      go (Some p) e = super_fine p (subst (λ (o : Option ℕ). has_number p (option_to_list o) ≡ true) (sym e) (has_head p [])) (acc.hierarchy.inside c p (subst (λ (o : Option ℕ). has_number p (with_parent o (interfaces_of (slice_get image.classes c))) ≡ true) (sym e) (has_head p _)))
 
   pub record_fine : RecordDidFine image T m t thread (record_step (here image m t no_method no_frame rest 0) c r)
   record_fine = go r

@@ -1,6 +1,6 @@
 -- That a step of a thread which is held up, or has ended, leaves all but the count of steps as it was.
 use Rattle.std.proofs.Common.{◌≡◌, ℕ, suc, List, [], ◌∷◌, ◌++◌, Bool, true, false, Option, Some, None, Ok, Err, refl, sym, ap, ◌∙◌, subst}
-use Rattle.std.specs.Prelude.{slice_get, slice_set, nat_eq}
+use Rattle.std.specs.Prelude.{slice_get, slice_set, nat_eq, if◌then◌else◌}
 use Rattle.std.proofs.lemmas.List.{append-nil}
 use Rattle.dv_defs.specs.declared.image.Image.{Image}
 use Rattle.dv_defs.specs.declared.run.Value.{Value}
@@ -23,15 +23,15 @@ use Rattle.dv_defs.specs.Pools.{Method, method_at, is_static, is_constructor, ow
 use Rattle.dv_defs.specs.Op.{Op, Enter, Invoke, needs}
 use Rattle.dv_defs.specs.Statics.{At, fetch}
 use Rattle.dv_defs.specs.Heap.{Heap}
-use Rattle.dv_defs.specs.Monitors.{Wait, owner_of, wait_of, entered, waiting}
+use Rattle.dv_defs.specs.Monitors.{Wait, owner_of, wait_of, entered}
 use Rattle.dv_defs.specs.Classes.{ask_of}
-use Rattle.dv_machine.specs.State.{Thread, Machine, Left, Did, Go, IsStuck, Reads, Here, reading, reg_at, any_kind, fits_kind, tested, where_ref, read_any, read_args, onward, with_monitors}
+use Rattle.dv_machine.specs.State.{Thread, Machine, Left, Did, Go, IsStuck, Reads, Here, reading, reg_at, any_kind, fits_kind, tested, where_ref, read_any, read_args, with_monitors}
 use Rattle.dv_machine.specs.Mem.{on_object}
 use Rattle.dv_machine.specs.Calls.{unless_abstract, Landing, Lands, Lacks, dispatch, native_of, receiver_of, landed, enter, invoke, with_receiver, call_instance, call_constructor, call_object, read_super}
-use Rattle.dv_machine.specs.Threads.{thread_with, is_living, free_or_mine, monitor_enter, stays, goes, taken_back, holding}
+use Rattle.dv_machine.specs.Threads.{thread_with, is_living, free_or_mine, monitor_enter, stays, goes, taken_back, wait_step, join_with}
 use Rattle.dv_machine.specs.Natives.{native_step}
 use Rattle.dv_machine.specs.Step.{step_of, step_thread, step_living, step_code, step_at, settled, gone_on, here, no_method, no_frame, act, with_ready, for_class, look_at, prior}
-use Rattle.dv_machine.specs.Running.{by_ask, blocked_record, blocked_enter, blocked_waiting, blocked_native, blocked_landing, blocked_call, blocked_op, blocked_needing, blocked_at, blocked_levels, blocked_thread}
+use Rattle.dv_machine.specs.Running.{by_ask, blocked_record, blocked_enter, blocked_waiting, blocked_native, blocked_landing, blocked_call, blocked_op, blocked_needing, blocked_at, blocked_levels, blocked_thread, by_owner, blocked_receiver, blocked_wait, blocked_join}
 use Rattle.dv_machine.specs.StepLaws.{BlockedStepsWait, EndedStepsStay}
 use Rattle.dv_laws.proofs.lemmas.Common.Lists.{set_same}
 
@@ -90,11 +90,11 @@ module _ (image : Image) (m : Machine) (t : ℕ) (thread : Thread) (has : slice_
     it_stays = as_it_was (Some x) (level.Code f) rest levels
 
     -- a monitor that another thread owns
-    owner_waits : (o : ℕ) (b : Blocked) (u : Option ℕ) → elim u as (λ w. Option Blocked) [ None ↦ None | Some u ↦ elim (nat_eq u t) as (λ w. Option Blocked) [ true ↦ None | false ↦ Some blocked.Monitor ] ] ≡ Some b → At_Stays (elim (free_or_mine here_it u) as (λ w. Did Left) [ true ↦ goes here_it (with_monitors m.shared (entered m.shared.monitors o t 1)) | false ↦ stays here_it ])
+    owner_waits : (o : ℕ) (b : Blocked) (u : Option ℕ) → by_owner t u ≡ Some b → At_Stays (if free_or_mine here_it u then goes here_it (with_monitors m.shared (entered m.shared.monitors o t 1)) else stays here_it)
     owner_waits o b None e = absurd (cc)
     owner_waits o b (Some u) e = by_thread (nat_eq u t) e
       where
-        by_thread : (c : Bool) → elim c as (λ w. Option Blocked) [ true ↦ None | false ↦ Some blocked.Monitor ] ≡ Some b → At_Stays (elim c as (λ w. Did Left) [ true ↦ goes here_it (with_monitors m.shared (entered m.shared.monitors o t 1)) | false ↦ stays here_it ])
+        by_thread : (c : Bool) → (if c then None else Some blocked.Monitor) ≡ Some b → At_Stays (if c then goes here_it (with_monitors m.shared (entered m.shared.monitors o t 1)) else stays here_it)
         by_thread true e = absurd (cc)
         by_thread false e = it_stays
 
@@ -107,20 +107,20 @@ module _ (image : Image) (m : Machine) (t : ℕ) (thread : Thread) (has : slice_
     enter_waits y b e = absurd (cc)
 
     -- a wait that is to last, and a join
-    entry_waits : (w : Wait) (b : Blocked) (n : Bool) (u : Option ℕ) → elim n as (λ w. Option Blocked) [ false ↦ Some blocked.Wait | true ↦ elim u as (λ w. Option Blocked) [ None ↦ None | Some u ↦ Some blocked.Monitor ] ] ≡ Some b → At_Stays (taken_back here_it w n u)
+    entry_waits : (w : Wait) (b : Blocked) (n : Bool) (u : Option ℕ) → blocked_waiting n u ≡ Some b → At_Stays (taken_back here_it w n u)
     entry_waits w b false u e = it_stays
     entry_waits w b true (Some u) e = it_stays
     entry_waits w b true None e = absurd (cc)
 
-    wait_waits : (o : ℕ) (b : Blocked) (r : Option Wait) → elim r as (λ w. Option Blocked) [ None ↦ None | Some w ↦ blocked_waiting w (owner_of m.shared.monitors w.object) ] ≡ Some b → At_Stays (elim r as (λ w. Did Left) [ Some w ↦ taken_back here_it w w.notified (owner_of m.shared.monitors w.object) | None ↦ holding here_it o (λ n. onward here_it (with_monitors m.shared (waiting m.shared.monitors o t n)) f) ])
+    wait_waits : (o : ℕ) (b : Blocked) (r : Option Wait) → blocked_wait m.shared.monitors r ≡ Some b → At_Stays (wait_step here_it o r)
     wait_waits o b None e = absurd (cc)
     wait_waits o b (Some w) e = entry_waits w b w.notified (owner_of m.shared.monitors w.object) e
 
-    join_waits : (b : Blocked) (r : Option ℕ) → elim r as (λ w. Option Blocked) [ None ↦ None | Some u ↦ elim (is_living (slice_get m.threads u)) as (λ w. Option Blocked) [ true ↦ Some (blocked.Join u) | false ↦ None ] ] ≡ Some b → At_Stays (elim r as (λ w. Did Left) [ None ↦ goes here_it m.shared | Some u ↦ elim (is_living (slice_get m.threads u)) as (λ w. Did Left) [ true ↦ stays here_it | false ↦ goes here_it m.shared ] ])
+    join_waits : (b : Blocked) (r : Option ℕ) → blocked_join m.threads r ≡ Some b → At_Stays (join_with here_it r)
     join_waits b None e = absurd (cc)
     join_waits b (Some u) e = by_end (is_living (slice_get m.threads u)) e
       where
-        by_end : (c : Bool) → elim c as (λ w. Option Blocked) [ true ↦ Some (blocked.Join u) | false ↦ None ] ≡ Some b → At_Stays (elim c as (λ w. Did Left) [ true ↦ stays here_it | false ↦ goes here_it m.shared ])
+        by_end : (c : Bool) → (if c then Some (blocked.Join u) else None) ≡ Some b → At_Stays (if c then stays here_it else goes here_it m.shared)
         by_end true e = it_stays
         by_end false e = absurd (cc)
 
@@ -153,7 +153,7 @@ module _ (image : Image) (m : Machine) (t : ℕ) (thread : Thread) (has : slice_
         by_test false = is_stuck (Some x) why.Reference
     instance_waits c g ks y b e = absurd (cc)
 
-    receiver_waits : (c : Call) (g : Method) (ks : List ℕ) (b : Blocked) → elim (receiver_of (Invoke c ks g)) as (λ w. Option Blocked) [ None ↦ None | Some k ↦ blocked_call image m t own c g (reg_at f.regs k) ] ≡ Some b → At_Stays (invoke here_it (native_step here_it) c ks g)
+    receiver_waits : (c : Call) (g : Method) (ks : List ℕ) (b : Blocked) → blocked_receiver image m t own f c g (receiver_of (Invoke c ks g)) ≡ Some b → At_Stays (invoke here_it (native_step here_it) c ks g)
     receiver_waits c g [] b e = absurd (cc)
     receiver_waits c g (k ∷ ks) b e = by_sort (is_static g) e
       where
@@ -161,7 +161,7 @@ module _ (image : Image) (m : Machine) (t : ℕ) (thread : Thread) (has : slice_
         by_form true e = constructor_waits c g ks (reg_at f.regs k) b e
         by_form false e = instance_waits c g ks (reg_at f.regs k) b e
 
-        by_sort : (z : Bool) → elim (elim z as (λ w. Option ℕ) [ true ↦ None | false ↦ Some k ]) as (λ w. Option Blocked) [ None ↦ None | Some k ↦ blocked_call image m t own c g (reg_at f.regs k) ] ≡ Some b → At_Stays (elim z as (λ w. Did Left) [ true ↦ reading (read_args image heap f.regs g.def.proto.params (k ∷ ks)) (landed here_it (native_step here_it) (unless_abstract g)) | false ↦ with_receiver here_it (native_step here_it) c g (k ∷ ks) ])
+        by_sort : (z : Bool) → blocked_receiver image m t own f c g (elim z as (λ w. Option ℕ) [ true ↦ None | false ↦ Some k ]) ≡ Some b → At_Stays (elim z as (λ w. Did Left) [ true ↦ reading (read_args image heap f.regs g.def.proto.params (k ∷ ks)) (landed here_it (native_step here_it) (unless_abstract g)) | false ↦ with_receiver here_it (native_step here_it) c g (k ∷ ks) ])
         by_sort true e = absurd (cc)
         by_sort false e = by_form (is_constructor g) e
 
