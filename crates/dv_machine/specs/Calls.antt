@@ -1,5 +1,5 @@
 -- Invokes and returns.
-use Rattle.std.specs.Prelude.{ℕ, ◌-◌, ◌++◌, Bool, true, false, ◌&&◌, not, List, [], ◌∷◌, length, map, replicate, Option, Some, None, Ok, Err, nat_eq, bytes_eq, codes}
+use Rattle.std.specs.Prelude.{ℕ, ◌-◌, ◌++◌, Bool, true, false, ◌&&◌, not, List, [], ◌∷◌, length, map, replicate, Option, Some, None, Ok, Err, nat_eq, bytes_eq, codes, if◌then◌else◌}
 use Rattle.dv_defs.specs.declared.names.Ty.{Ty}
 use Rattle.dv_defs.specs.declared.names.Proto.{Proto}
 use Rattle.dv_defs.specs.declared.names.Base.TheVariants as base
@@ -14,6 +14,7 @@ use Rattle.dv_defs.specs.Demands.{is_own_or_super, is_void, result_width, same_w
 use Rattle.dv_defs.specs.Heap.{Heap, kind_of}
 use Rattle.dv_machine.specs.State.{Left, Did, Throws, IsStuck, Reads, reading, reg_at, read_ref, read_value, read_args, with_result, Here, left, pushed, type_of}
 use Rattle.dv_machine.specs.Mem.{on_object}
+use Rattle.dv_defs.specs.declared.code.Body.{Body}
 use Rattle.dv_defs.specs.declared.image.Image.{Image}
 use Rattle.dv_defs.specs.declared.run.Value.{Value}
 use Rattle.dv_defs.specs.declared.run.Value.TheVariants as v
@@ -37,7 +38,7 @@ pub data Landing : Type 0 where
 
 -- an abstract method can't be run (JLS 12.3, 13.4.12)
 abbrev pub unless_abstract : Method → Landing
-unless_abstract m = elim (is_abstract m) [ true ↦ Lacks named.AbstractMethod | false ↦ Lands m ]
+unless_abstract m = if is_abstract m then Lacks named.AbstractMethod else Lands m
 
 abbrev pub found : Option Method → Landing
 found None = Lacks named.AbstractMethod
@@ -64,9 +65,8 @@ dispatch image heap own Call.Direct g o = unless_abstract g
 dispatch image heap own Call.Super g o = nearest_from image (parent_at image own.info.class.0) g
 dispatch image heap own Call.Virtual g o = nearest_from image (class_of_kind image (kind_of heap o)) g
 dispatch image heap own Call.Interface g o =
-    elim (implements_it image heap g o) [
-        true ↦ nearest_from image (class_of_kind image (kind_of heap o)) g
-      | false ↦ Lacks named.ClassChange ]
+    if implements_it image heap g o then nearest_from image (class_of_kind image (kind_of heap o)) g
+    else Lacks named.ClassChange
 
 -- ---- the natives
 
@@ -142,8 +142,12 @@ read_new image heap own g (v.Uninit a o) = where_fresh (is_made_of (kind_of heap
 read_new image heap own g (v.UninitThis o) = where_fresh (is_own_or_super image own g.info.class.0) o
 read_new image heap own g x = Err why.Uninitialised
 
+abbrev pub registers_in : Option Body → ℕ
+registers_in None = 0
+registers_in (Some b) = b.registers
+
 abbrev pub registers_of : Method → ℕ
-registers_of m = elim m.def.body [ None ↦ 0 | Some b ↦ b.registers ]
+registers_of m = registers_in m.def.body
 
 -- the first frame of a method, its argument words in the last registers
 abbrev pub entered_frame : Method → List Value → Bool → Frame
@@ -161,20 +165,23 @@ entered_frame m xs pending_this =
 abbrev pub enter : Here → Method → List Value → Bool → Did Left
 enter h m xs p = pushed h h.shared (level.Code (entered_frame m xs p)) (level.Code h.frame ∷ h.rest)
 
--- a call that lands: a native is one step without a level
+-- a native is one step without a level
+abbrev pub called : Here → (Native → List Value → Did Left) → Method → List Value → Option Native → Did Left
+called h native m xs None = enter h m xs false
+called h native m xs (Some n) = native n xs
+
+-- a call that lands, or throws
 abbrev pub landed : Here → (Native → List Value → Did Left) → Landing → List Value → Did Left
 landed h native (Lacks n) xs = Throws n
-landed h native (Lands m) xs = elim (native_of h.image m) [ Some n ↦ native n xs | None ↦ enter h m xs false ]
+landed h native (Lands m) xs = called h native m xs (native_of h.image m)
 
 -- a constructor other than Object's begins with its receiver uninitialised
 abbrev pub enter_constructor : Here → Method → ℕ → List Value → Did Left
 enter_constructor h g o xs =
-    elim (is_of_object h.image g) [
-        true ↦ enter h g (v.Ref o ∷ xs) false
-      | false ↦ enter h g (v.UninitThis o ∷ xs) true ]
+    if is_of_object h.image g then enter h g (v.Ref o ∷ xs) false else enter h g (v.UninitThis o ∷ xs) true
 
 abbrev pub construct : Here → Method → ℕ → List Value → Did Left
-construct h g o xs = elim (is_abstract g) [ true ↦ Throws named.AbstractMethod | false ↦ enter_constructor h g o xs ]
+construct h g o xs = if is_abstract g then Throws named.AbstractMethod else enter_constructor h g o xs
 
 -- an invoke-super's receiver is also of the caller's class
 abbrev pub read_super : Here → Call → Value → Reads ℕ
@@ -188,9 +195,9 @@ call_object h native c g x xs o = landed h native (dispatch h.image h.shared.hea
 abbrev pub call_instance : Here → (Native → List Value → Did Left) → Call → Method → Value → List ℕ → Did Left
 call_instance h native c g x ks =
     reading (read_ref h.image h.shared.heap (own_type h.image g) x)
-        (λ o. 
+        (λ o.
              reading (read_super h c x)
-                 (λ p. 
+                 (λ p.
                       reading (read_args h.image h.shared.heap h.frame.regs g.def.proto.params ks)
                           (λ xs. on_object (call_object h native c g x xs) o)))
 
@@ -218,8 +225,8 @@ invoke h native c ks g =
 
 -- the object of this number is initialised now
 abbrev pub initialised : ℕ → Value → Value
-initialised o (v.Uninit a p) = elim (nat_eq o p) [ true ↦ v.Ref p | false ↦ v.Uninit a p ]
-initialised o (v.UninitThis p) = elim (nat_eq o p) [ true ↦ v.Ref p | false ↦ v.UninitThis p ]
+initialised o (v.Uninit a p) = if nat_eq o p then v.Ref p else v.Uninit a p
+initialised o (v.UninitThis p) = if nat_eq o p then v.Ref p else v.UninitThis p
 initialised o x = x
 
 abbrev pub still_pending : Value → Bool → Bool
@@ -233,8 +240,7 @@ initialised_in x (Some o) regs = map (initialised o) regs
 -- the caller's registers and pending `this` after a constructor on this value
 abbrev pub constructed : Frame → ℕ → Pending → Value → Frame
 constructed g next p x =
-    record {
-        method = g.method;
+    record g {
         at = next;
         regs = initialised_in x (object_of x) g.regs;
         result = p;
@@ -244,13 +250,17 @@ constructed g next p x =
 
 -- the register of an invoke's receiver
 abbrev pub receiver_of : Op → Option ℕ
-receiver_of (Invoke c (k ∷ ks) g) = elim (is_static g) [ true ↦ None | false ↦ Some k ]
+receiver_of (Invoke c (k ∷ ks) g) = if is_static g then None else Some k
 receiver_of op = None
+
+abbrev pub constructed_at : Frame → ℕ → Pending → Option ℕ → Frame
+constructed_at g next p None = with_result g next p
+constructed_at g next p (Some k) = constructed g next p (reg_at g.regs k)
 
 -- the caller's frame after a return; the first argument says whether a constructor returns
 abbrev pub returned : Bool → Frame → At → Pending → Frame
 returned false g x p = with_result g x.next p
-returned true g x p = elim (receiver_of x.op) [ None ↦ with_result g x.next p | Some k ↦ constructed g x.next p (reg_at g.regs k) ]
+returned true g x p = constructed_at g x.next p (receiver_of x.op)
 
 abbrev pub back_to : Here → Pending → Frame → List Level → Option At → Did Left
 back_to h p g ls None = IsStuck why.Instruction
@@ -267,7 +277,7 @@ back h p = back_on h p h.rest
 
 -- a constructor doesn't return before the superclass's constructor was called
 abbrev pub unless_pending : Here → Did Left → Did Left
-unless_pending h go = elim (is_constructor h.own && h.frame.this_pending) [ true ↦ IsStuck why.Uninitialised | false ↦ go ]
+unless_pending h go = if is_constructor h.own && h.frame.this_pending then IsStuck why.Uninitialised else go
 
 abbrev pub pending_words : List Value → Pending
 pending_words (v.Lo lo ∷ v.Hi hi ∷ xs) = pending.Two lo hi
@@ -281,9 +291,8 @@ return_value h a (Some t) = reading (read_value h.image h.shared.heap h.frame.re
 -- a return whose form is not the method's gives no result
 abbrev pub return_form : Here → Width → ℕ → Did Left
 return_form h w a =
-    elim (not (is_void h.own.def.proto.ret) && same_width w (result_width h.own.def.proto.ret)) [
-        true ↦ unless_pending h (return_value h a h.own.def.proto.ret)
-      | false ↦ IsStuck why.Result ]
+    if not (is_void h.own.def.proto.ret) && same_width w (result_width h.own.def.proto.ret)
+    then unless_pending h (return_value h a h.own.def.proto.ret) else IsStuck why.Result
 
 abbrev pub return_void : Here → Did Left
-return_void h = elim (is_void h.own.def.proto.ret) [ true ↦ unless_pending h (back h pending.None) | false ↦ IsStuck why.Result ]
+return_void h = if is_void h.own.def.proto.ret then unless_pending h (back h pending.None) else IsStuck why.Result

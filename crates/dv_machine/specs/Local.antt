@@ -1,5 +1,5 @@
 -- Steps that touch one frame alone.
-use Rattle.std.specs.Prelude.{ℕ, zero, suc, Bool, true, false, List, [], ◌∷◌, ℤ, pos, negsuc, Option, Some, None, Ok, Err}
+use Rattle.std.specs.Prelude.{ℕ, zero, suc, Bool, true, false, List, [], ◌∷◌, ℤ, pos, negsuc, Option, Some, None, Ok, Err, if◌then◌else◌}
 use Rattle.dv_defs.specs.declared.run.Value.{Value}
 use Rattle.dv_defs.specs.declared.run.Value.TheVariants as v
 use Rattle.dv_defs.specs.declared.run.Why.TheVariants as why
@@ -14,7 +14,8 @@ use Rattle.std.specs.Int.{w32, w64}
 
 -- a constant 0 is Zero
 abbrev pub const_value : ℤ → Value
-const_value (pos n) = elim n [ zero ↦ v.Zero | suc k ↦ v.Num (pos (suc k)) ]
+const_value (pos zero) = v.Zero
+const_value (pos (suc n)) = v.Num (pos (suc n))
 const_value (negsuc n) = v.Num (negsuc n)
 
 -- a pending result of the kind that is moved
@@ -66,9 +67,8 @@ compare_words t (Object o) (Object p) = Ok (compare t (pos o) (pos p))
 
 abbrev pub test_both : Test → Value → Value → Reads Bool
 test_both t x y =
-    elim (is_equality t) [
-        true ↦ on_next (read_word x) (λ a. on_next (read_word y) (λ b. compare_words t a b))
-      | false ↦ on_next (read_int x) (λ a. on_next (read_int y) (λ b. Ok (compare t a b))) ]
+    if is_equality t then on_next (read_word x) (λ a. on_next (read_word y) (λ b. compare_words t a b))
+    else on_next (read_int x) (λ a. on_next (read_int y) (λ b. Ok (compare t a b)))
 
 abbrev pub test_zero : Test → Value → Reads Bool
 test_zero t x = test_both t x v.Zero

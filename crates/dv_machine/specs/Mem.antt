@@ -1,5 +1,5 @@
 -- Steps of objects, arrays, fields, divisions, casts and throw.
-use Rattle.std.specs.Prelude.{ℕ, zero, suc, ◌*◌, ◌%◌, ◌++◌, Bool, true, false, ◌||◌, not, List, [], ◌∷◌, length, ℤ, pos, negsuc, Ok, Err, nat_eq, nat_lt, nat_le}
+use Rattle.std.specs.Prelude.{ℕ, zero, suc, ◌*◌, ◌%◌, ◌++◌, Bool, true, false, ◌||◌, not, List, [], ◌∷◌, length, ℤ, pos, negsuc, Ok, Err, nat_eq, nat_lt, nat_le, if◌then◌else◌}
 use Rattle.std.specs.Ordering.{int_eq}
 use Rattle.dv_defs.specs.declared.names.Base.{Base}
 use Rattle.dv_defs.specs.declared.names.Base.TheVariants as base
@@ -50,7 +50,7 @@ narrowed_number base.S n = to_short n
 narrowed_number b n = n
 
 abbrev pub narrowed : Ty → Value → Value
-narrowed t (v.Num n) = v.Num (elim (is_array t) [ true ↦ n | false ↦ narrowed_number t.base n ])
+narrowed t (v.Num n) = v.Num (if is_array t then n else narrowed_number t.base n)
 narrowed t x = x
 
 abbrev pub narrowed_all : Ty → List Value → List Value
@@ -59,7 +59,7 @@ narrowed_all t (x ∷ xs) = narrowed t x ∷ narrowed_all t xs
 
 -- the cells of one field or element, as words
 abbrev pub words_at : Heap → ℕ → ℕ → Ty → List Value
-words_at heap o k t = elim (is_long t) [ true ↦ cell_at heap o k ∷ cell_at heap o (suc k) ∷ [] | false ↦ cell_at heap o k ∷ [] ]
+words_at heap o k t = if is_long t then cell_at heap o k ∷ cell_at heap o (suc k) ∷ [] else cell_at heap o k ∷ []
 
 -- neighbouring cells take words
 abbrev pub stored : Heap → ℕ → ℕ → List Value → Heap
@@ -67,7 +67,7 @@ stored heap o k [] = heap
 stored heap o k (x ∷ xs) = stored (with_cell heap o k x) o (suc k) xs
 
 abbrev pub static_words : Heap → ℕ → Ty → List Value
-static_words heap f t = elim (is_long t) [ true ↦ static_at heap f 0 ∷ static_at heap f 1 ∷ [] | false ↦ static_at heap f 0 ∷ [] ]
+static_words heap f t = if is_long t then static_at heap f 0 ∷ static_at heap f 1 ∷ [] else static_at heap f 0 ∷ []
 
 abbrev pub static_stored : Heap → ℕ → ℕ → List Value → Heap
 static_stored heap f half [] = heap
@@ -81,9 +81,7 @@ component_of h o = component (type_of h.image h.shared.heap o)
 abbrev pub on_index : {A : Type 0} → Here → ℕ → ℤ → (ℕ → Did A) → Did A
 on_index h o (negsuc n) go = Throws named.ArrayIndex
 on_index h o (pos k) go =
-    elim (nat_lt k (length_of h.shared.heap o)) [
-        true ↦ go (k * words_of (component_of h o))
-      | false ↦ Throws named.ArrayIndex ]
+    if nat_lt k (length_of h.shared.heap o) then go (k * words_of (component_of h o)) else Throws named.ArrayIndex
 
 abbrev pub read_put : Here → ℕ → Suffix → Reads (List Value)
 read_put h a Suffix.Long = on_next (read_two h.frame.regs a) (λ p. Ok (v.Lo p.lo ∷ v.Hi p.hi ∷ []))
@@ -106,7 +104,7 @@ get_element h a o k = onward h h.shared (put_words h.frame h.next a (words_at h.
 
 -- an element of a payload, as a store narrows it
 abbrev pub fill_words : Ty → ℤ → List Value
-fill_words t n = elim (is_long t) [ true ↦ v.Lo (lo_of n) ∷ v.Hi (hi_of n) ∷ [] | false ↦ narrowed t (v.Num n) ∷ [] ]
+fill_words t n = if is_long t then v.Lo (lo_of n) ∷ v.Hi (hi_of n) ∷ [] else narrowed t (v.Num n) ∷ []
 
 abbrev pub filled : Ty → List ℤ → List Value
 filled t [] = []
@@ -136,7 +134,7 @@ new_array h a t (pos n) = where_room (alloc_array h.shared.heap t n) (λ heap. p
 
 -- what iput takes as its receiver
 abbrev pub read_put_receiver : Here → Field → Value → Reads ℕ
-read_put_receiver h x (v.UninitThis o) = elim (is_own_field h.own x) [ true ↦ Ok o | false ↦ Err why.Uninitialised ]
+read_put_receiver h x (v.UninitThis o) = if is_own_field h.own x then Ok o else Err why.Uninitialised
 read_put_receiver h x y = read_ref h.image h.shared.heap (class_type h.image x.info.class.0) y
 
 abbrev pub get_field : Here → ℕ → Field → ℕ → Did Left
@@ -151,23 +149,23 @@ put_field h x ys o =
 abbrev pub mem : Here → Op → Did Left
 mem h (IntDivide o a b c) =
     reading (read_int (reg_at h.frame.regs b))
-        (λ x. 
+        (λ x.
              reading (read_arg h.frame.regs c)
-                 (λ y. 
+                 (λ y.
                       where_true (not (is_zero_number y)) named.Arithmetic
                           (onward h h.shared (put h.frame h.next a (v.Num (operate32 o x y))))))
 mem h (LongDivide o a b c) =
     reading (read_long h.frame.regs b)
-        (λ x. 
+        (λ x.
              reading (read_long h.frame.regs c)
-                 (λ y. 
+                 (λ y.
                       where_true (not (is_zero_number y)) named.Arithmetic
                           (onward h h.shared (put_long h.frame h.next a (operate64 o x y)))))
 mem h (ConstString a s) = where_room (intern h.shared.heap s) (put_object h a v.Ref)
 mem h (ConstClass a t) = where_room (class_object h.shared.heap t) (put_object h a v.Ref)
 mem h (Cast a t) =
     reading (read_any h.shared.heap (reg_at h.frame.regs a))
-        (λ o. 
+        (λ o.
              where_true (nat_eq o 0 || is_instance h t o) named.ClassCast
                  (onward h h.shared (gone h.frame h.next h.frame.regs)))
 mem h (InstanceOf a b t) =
@@ -188,7 +186,7 @@ mem h (ArrayGet s a b c) =
         (λ p. reading (read_int (reg_at h.frame.regs c)) (λ k. on_object (λ o. on_index h o k (get_element h a o)) p))
 mem h (ArrayPut s a b c) =
     reading (read_array (is_of_suffix s) h.shared.heap (reg_at h.frame.regs b))
-        (λ p. 
+        (λ p.
              reading (read_int (reg_at h.frame.regs c))
                  (λ k. reading (read_put h a s) (λ xs. on_object (λ o. on_index h o k (array_put h o s xs)) p)))
 mem h (FieldGet s a b x) =
@@ -196,12 +194,12 @@ mem h (FieldGet s a b x) =
         (on_object (get_field h a x))
 mem h (FieldPut s a b x) =
     reading (read_put_receiver h x (reg_at h.frame.regs b))
-        (λ o. 
+        (λ o.
              reading (read_value h.image h.shared.heap h.frame.regs a x.def.ty) (λ ys. on_object (put_field h x ys) o))
 mem h (StaticGet s a x) = onward h h.shared (put_words h.frame h.next a (static_words h.shared.heap x.id x.def.ty))
 mem h (StaticPut s a x) =
     reading (read_value h.image h.shared.heap h.frame.regs a x.def.ty)
-        (λ ys. 
+        (λ ys.
              onward h (with_heap h.shared (static_stored h.shared.heap x.id 0 (narrowed_all x.def.ty ys)))
                  (gone h.frame h.next h.frame.regs))
 mem h op = IsStuck why.Instruction

@@ -1,5 +1,5 @@
 -- The native methods of the boot classes.
-use Rattle.std.specs.Prelude.{ℕ, ◌+◌, ◌%◌, ◌++◌, Bool, true, false, List, [], ◌∷◌, length, take, drop, ℤ, pos, negsuc, Option, Some, None, slice_get, slice_index_or, nat_le, bytes_eq}
+use Rattle.std.specs.Prelude.{ℕ, ◌+◌, ◌%◌, ◌++◌, Bool, false, List, [], ◌∷◌, length, take, drop, ℤ, pos, negsuc, Option, Some, None, slice_get, slice_index_or, nat_le, bytes_eq, if◌then◌else◌}
 use Rattle.dv_defs.specs.declared.run.Value.{Value}
 use Rattle.dv_defs.specs.declared.run.Value.TheVariants as v
 use Rattle.dv_defs.specs.declared.run.Named.TheVariants as named
@@ -44,9 +44,13 @@ gives_object h heap = onward h (with_heap h.shared heap) (with_result h.frame h.
 abbrev pub new_text : Here → List ℕ → Did Left
 new_text h s = where_room (alloc_string h.shared.heap s) (gives_object h)
 
+abbrev pub gives_char : Here → Option ℕ → Did Left
+gives_char h None = Throws named.IndexOutOfBounds
+gives_char h (Some c) = gives h (v.Num (pos c))
+
 abbrev pub char_at : Here → List ℕ → ℤ → Did Left
 char_at h s (negsuc n) = Throws named.IndexOutOfBounds
-char_at h s (pos k) = elim (slice_get s k) [ None ↦ Throws named.IndexOutOfBounds | Some c ↦ gives h (v.Num (pos c)) ]
+char_at h s (pos k) = gives_char h (slice_get s k)
 
 abbrev pub same_text : List ℕ → Option Kind → Bool
 same_text s (Some (kind.Str t)) = bytes_eq s t
@@ -66,9 +70,8 @@ some_chars h o start count = Throws named.IndexOutOfBounds
 -- one printing step, whole or not at all
 abbrev pub printed : Here → List ℕ → Did Left
 printed h bs =
-    elim (nat_le (length h.shared.output + length bs) h.limits.output) [
-        true ↦ goes h (with_output h.shared (h.shared.output ++ bs))
-      | false ↦ NoOutput ]
+    if nat_le (length h.shared.output + length bs) h.limits.output
+    then goes h (with_output h.shared (h.shared.output ++ bs)) else NoOutput
 
 -- a native with its argument words, the receiver's first
 abbrev pub native_step : Here → Native → List Value → Did Left

@@ -1,6 +1,6 @@
 -- Calls of constructors.
 use Rattle.std.proofs.Common.{◌≡◌, ◌⊎◌, inl, inr, ℕ, suc, List, ◌∷◌, Bool, true, false, Option, Some, None, refl, sym, ap, ◌∙◌, subst}
-use Rattle.std.specs.Prelude.{nat_eq}
+use Rattle.std.specs.Prelude.{nat_eq, if◌then◌else◌}
 use Rattle.std.proofs.lemmas.List.Elements.{All-cons}
 use Rattle.dv_defs.specs.declared.image.Image.{Image}
 use Rattle.dv_defs.specs.declared.run.Value.{Value}
@@ -24,7 +24,7 @@ use Rattle.dv_defs.specs.Order.{sub}
 use Rattle.dv_defs.specs.Demands.{Demand, first, args_for, instance_call, receiver_for, ref_to, super_for, is_exactly, is_own_or_super, made_at}
 use Rattle.dv_defs.specs.Transfer.{arg_types, begins_uninitialised}
 use Rattle.dv_defs.specs.Heap.{Heap, kind_of}
-use Rattle.dv_machine.specs.State.{Thread, Machine, Left, Did, Throws, reg_at, read_args, Here}
+use Rattle.dv_machine.specs.State.{Thread, Machine, Throws, reg_at, read_args, Here}
 use Rattle.dv_machine.specs.Calls.{object_of, where_fresh, is_made_of, read_new, enter, enter_constructor, construct, call_constructor}
 use Rattle.dv_machine.specs.Step.{here}
 use Rattle.dv_machine.specs.Conforming.{Own, IsOf, IsThere, IsGood, Conforms, RefFine}
@@ -161,7 +161,7 @@ module _ (image : Image) (T : Typings) (m : Machine) (t : ℕ) (thread : Thread)
       enter_new : DidFine image T m t thread x (enter_constructor here_it g o ys)
       enter_new = by_class (is_of_object image g) refl
         where
-          by_class : (b : Bool) → is_of_object image g ≡ b → DidFine image T m t thread x (elim b as (λ w. Did Left) [ true ↦ enter here_it g (v.Ref o ∷ ys) false | false ↦ enter here_it g (v.UninitThis o ∷ ys) true ])
+          by_class : (b : Bool) → is_of_object image g ≡ b → DidFine image T m t thread x (if b then enter here_it g (v.Ref o ∷ ys) false else enter here_it g (v.UninitThis o ∷ ys) true)
           by_class true q =
               let flag = begins_by_class image g constructor true q in
               enter_with (v.Ref o) false (sym flag)
@@ -176,7 +176,7 @@ module _ (image : Image) (T : Typings) (m : Machine) (t : ℕ) (thread : Thread)
     construct_fine : (ys : List Value) → AreWords image heap ys (all_types g.def.proto.params) → DidFine image T m t thread x (construct here_it g o ys)
     construct_fine ys w = by_test (is_abstract g) refl
       where
-        by_test : (b : Bool) → is_abstract g ≡ b → DidFine image T m t thread x (elim b as (λ w. Did Left) [ true ↦ Throws named.AbstractMethod | false ↦ enter_constructor here_it g o ys ])
+        by_test : (b : Bool) → is_abstract g ≡ b → DidFine image T m t thread x (if b then Throws named.AbstractMethod else enter_constructor here_it g o ys)
         by_test true q = throws image T m t thread own f rest x s h c (k ∷ js) g e new_quiet
         by_test false q = enter_new ys w q
 

@@ -1,7 +1,7 @@
 -- The method on which a call lands.
 use Rattle.std.proofs.Common.{◌≡◌, ℕ, suc, ◌<◌, List, [], ◌∷◌, length, Bool, true, false, Option, Some, None, refl, sym, ap, ◌∙◌, subst}
 use Rattle.std.proofs.lemmas.Bool.{and_parts, and_right}
-use Rattle.std.specs.Prelude.{◌&&◌, not, bytes_eq, is_some, nat_eq}
+use Rattle.std.specs.Prelude.{◌&&◌, not, bytes_eq, is_some, nat_eq, if◌then◌else◌}
 use Rattle.dv_defs.specs.declared.image.Image.{Image}
 use Rattle.dv_defs.specs.declared.run.Named.TheVariants as named
 use Rattle.dv_defs.specs.declared.run.Native.{Native}
@@ -11,7 +11,7 @@ use Rattle.dv_defs.specs.Types.{same_proto}
 use Rattle.dv_defs.specs.Pools.{Method, method_at, is_static, is_native, is_abstract, is_constructor, own_type, class_type, name_at, parent_at, supers, nearest, is_initialiser, initialiser, no_arguments}
 use Rattle.dv_defs.specs.Order.{has_number}
 use Rattle.dv_defs.specs.Heap.{Heap, kind_of}
-use Rattle.dv_machine.specs.Calls.{Landing, Lands, Lacks, unless_abstract, found, nearest_from, class_of_kind, implements_it, dispatch, signature, native_among, all_natives, native_of}
+use Rattle.dv_machine.specs.Calls.{Lands, Lacks, unless_abstract, found, nearest_from, class_of_kind, implements_it, dispatch, signature, native_among, all_natives, native_of}
 use Rattle.dv_machine.specs.Conforming.{IsOf}
 use Rattle.dv_machine.specs.WellTyped.{Typings, IsNoInitialiser}
 use Rattle.dv_machine.specs.Accepted.{Accepted}
@@ -77,7 +77,7 @@ module _ (image : Image) (T : Typings) (a : Accepted image T) (heap : Heap) wher
   own_number : (n : ℕ) (g : Method) → method_at image n ≡ Some g → method_at image g.id ≡ Some g
   own_number n g e = subst (λ z. method_at image z ≡ Some g) (sym (a.finds.methods n g e)) e
 
-  lands_same : (g k : Method) (b : Bool) → is_abstract g ≡ b → (elim b as (λ w. Landing) [ true ↦ Lacks named.AbstractMethod | false ↦ Lands g ]) ≡ Lands k → (is_abstract g ≡ false) × (g ≡ k)
+  lands_same : (g k : Method) (b : Bool) → is_abstract g ≡ b → (if b then Lacks named.AbstractMethod else Lands g) ≡ Lands k → (is_abstract g ≡ false) × (g ≡ k)
   lands_same g k true e q = absurd (cc)
   lands_same g k false e q = (e, same_lands g k q)
 
@@ -126,6 +126,6 @@ module _ (image : Image) (T : Typings) (a : Accepted image T) (heap : Heap) wher
     landing own Call.Virtual k o i f u e = virtual_landing k o f e
     landing own Call.Interface k o i f u e = by_test (implements_it image heap g (suc o)) e
       where
-        by_test : (b : Bool) → (elim b as (λ w. Landing) [ true ↦ nearest_from image (class_of_kind image (kind_of heap (suc o))) g | false ↦ Lacks named.ClassChange ]) ≡ Lands k → IsLanding g k o
+        by_test : (b : Bool) → (if b then nearest_from image (class_of_kind image (kind_of heap (suc o))) g else Lacks named.ClassChange) ≡ Lands k → IsLanding g k o
         by_test true e = virtual_landing k o f e
         by_test false e = absurd (cc)

@@ -2,7 +2,7 @@
 use Rattle.std.proofs.Common.{◌≡◌, ℕ, zero, suc, List, [], ◌∷◌, Bool, true, false, Some, None, refl, sym, ap, ◌∙◌, subst}
 use Rattle.std.proofs.lemmas.Option.{none-some, same_Some}
 use Rattle.std.proofs.lemmas.Bool.{and_parts, not-true}
-use Rattle.std.specs.Prelude.{◌&&◌, ◌||◌, not, bytes_eq}
+use Rattle.std.specs.Prelude.{◌&&◌, ◌||◌, not, bytes_eq, if◌then◌else◌}
 use Rattle.dv_defs.specs.declared.names.Proto.{Proto}
 use Rattle.dv_defs.specs.declared.image.Image.{Image}
 use Rattle.dv_defs.specs.declared.run.Value.{Value}
@@ -99,7 +99,7 @@ module _ (image : Image) (T : Typings) (m : Machine) (t : ℕ) (thread : Thread)
         words : AreWords image heap ys (arg_types image g)
         words = subst (AreWords image heap ys) (sym (static_types image g static)) w
 
-        by_test : (b : Bool) → is_abstract g ≡ b → DidFine image T m t thread x (landed here_it (native_step here_it) (elim b as (λ w. Landing) [ true ↦ Lacks named.AbstractMethod | false ↦ Lands g ]) ys)
+        by_test : (b : Bool) → is_abstract g ≡ b → DidFine image T m t thread x (landed here_it (native_step here_it) (if b then Lacks named.AbstractMethod else Lands g) ys)
         by_test true a = throws image T m t thread own f rest x s h c ks g e static_quiet
         by_test false a = landed_fine image T m t thread own f rest x s h c ks g e natives g ys a callee_there
             (λ j i. record { there = callee_there; is_native = i; words = words; same_proto = refl; plain = no_constructor; instance = λ n. no (sym n ∙ static); static = λ q. static })

@@ -1,6 +1,6 @@
 -- What the cases of an invoke share.
 use Rattle.std.proofs.Common.{◌≡◌, ℕ, zero, suc, List, [], ◌∷◌, true, false, Option, Some, None, refl, sym, ap, ◌∙◌, subst}
-use Rattle.std.specs.Prelude.{slice_index_or}
+use Rattle.std.specs.Prelude.{slice_index_or, if◌then◌else◌}
 use Rattle.dv_defs.specs.declared.image.Image.{Image}
 use Rattle.dv_defs.specs.declared.run.Value.{Value}
 use Rattle.dv_defs.specs.declared.run.Value.TheVariants as v
@@ -32,11 +32,11 @@ use Rattle.dv_laws.proofs.lemmas.Calls.Pushed.{enter_fine}
 
 -- the register of the receiver of an instance call
 pub receiver_is : (c : Call) (k : ℕ) (ks : List ℕ) (g : Method) → is_static g ≡ false → receiver_of (Invoke c (k ∷ ks) g) ≡ Some k
-receiver_is c k ks g e = ap (λ z. elim z as (λ w. Option ℕ) [ true ↦ None | false ↦ Some k ]) e
+receiver_is c k ks g e = ap (λ z. (if z then None else Some k)) e
 
 pub no_receiver_of : (c : Call) (ks : List ℕ) (g : Method) → is_static g ≡ true → receiver_of (Invoke c ks g) ≡ None
 no_receiver_of c [] g e = refl
-no_receiver_of c (k ∷ ks) g e = ap (λ z. elim z as (λ w. Option ℕ) [ true ↦ None | false ↦ Some k ]) e
+no_receiver_of c (k ∷ ks) g e = ap (λ z. (if z then None else Some k)) e
 
 pub record SameInvoke (c d : Call) (ks js : List ℕ) (g k : Method) : Type 0 where
   pub call : c ≡ d

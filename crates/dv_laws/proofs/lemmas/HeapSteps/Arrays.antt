@@ -1,6 +1,6 @@
 -- Steps that read an array's elements are fine.
 use Rattle.std.proofs.Common.{◌≡◌, inr, ℕ, zero, suc, ◌+◌, ◌*◌, ◌<◌, List, [], ◌∷◌, Bool, true, false, ◌&&◌, Option, Some, None, refl, sym, ap, ◌∙◌, subst, arith}
-use Rattle.std.specs.Prelude.{ℤ, pos, negsuc, nat_lt}
+use Rattle.std.specs.Prelude.{ℤ, pos, negsuc, nat_lt, if◌then◌else◌}
 use Rattle.std.proofs.lemmas.Bool.{ltb-true}
 use Rattle.dv_defs.specs.declared.names.Base.{Base}
 use Rattle.dv_defs.specs.declared.names.Base.TheVariants as base
@@ -79,7 +79,7 @@ module _ (image : Image) (T : Typings) (m : Machine) (t : ℕ) (thread : Thread)
   index_then o (negsuc n) go w g = w
   index_then o (pos k) go w g = by_test (nat_lt k (length_of m.shared.heap o)) refl
     where
-      by_test : (b : Bool) → nat_lt k (length_of m.shared.heap o) ≡ b → DidFine image T m t thread x (elim b as (λ z. Did Left) [ true ↦ go (k * words_of (component_of (here image m t own f rest x.next) o)) | false ↦ Throws named.ArrayIndex ])
+      by_test : (b : Bool) → nat_lt k (length_of m.shared.heap o) ≡ b → DidFine image T m t thread x (if b then go (k * words_of (component_of (here image m t own f rest x.next) o)) else Throws named.ArrayIndex)
       by_test true e = g k (ltb-true k (length_of m.shared.heap o) e)
       by_test false e = w
 
@@ -117,7 +117,7 @@ module _ (image : Image) (T : Typings) (m : Machine) (t : ℕ) (thread : Thread)
         short = reference_short (component u) r
 
         words : element 0 ∷ [] ≡ words_at m.shared.heap (suc o) (k * words_of (component u)) (component u)
-        words = sym (ap (λ (b : Bool). elim b as (λ z. List Value) [ true ↦ element 0 ∷ element 1 ∷ [] | false ↦ element 0 ∷ [] ]) short) ∙ words_at_is m.shared.heap (suc o) (k * words_of (component u)) (component u)
+        words = sym (ap (λ (b : Bool). (if b then element 0 ∷ element 1 ∷ [] else element 0 ∷ [])) short) ∙ words_at_is m.shared.heap (suc o) (k * words_of (component u)) (component u)
 
         one_word : 0 < words_of (component u)
         one_word = let q : words_of (component u) ≡ 1 = ap (λ (b : Bool). elim b as (λ z. ℕ) [ true ↦ 2 | false ↦ 1 ]) short in omega (arith, q)

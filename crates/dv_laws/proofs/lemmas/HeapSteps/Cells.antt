@@ -1,6 +1,6 @@
 -- Words that are read from cells and stored in them.
 use Rattle.std.proofs.Common.{◌≡◌, ℕ, zero, suc, ◌+◌, ◌<◌, List, [], ◌∷◌, length, Bool, true, false, Some, refl, sym, ap, ◌∙◌, subst, arith}
-use Rattle.std.specs.Prelude.{slice_set}
+use Rattle.std.specs.Prelude.{slice_set, if◌then◌else◌}
 use Rattle.std.proofs.lemmas.List.{length-set, get_or-set_same}
 use Rattle.std.proofs.lemmas.Option.{slice_get_within}
 use Rattle.dv_defs.specs.declared.names.Ty.{Ty}
@@ -108,8 +108,8 @@ module _ (image : Image) where
       (rest.0, λ p q e. rest.1 p q (first.1 p q e))
 
 -- the words of one field or element, by their places
-pub words_at_is : (heap : Heap) (o p : ℕ) (t : Ty) → (elim (is_long t) as (λ w. List Value) [ true ↦ reg_at (cells_at heap o) (p + 0) ∷ reg_at (cells_at heap o) (p + 1) ∷ [] | false ↦ reg_at (cells_at heap o) (p + 0) ∷ [] ]) ≡ words_at heap o p t
-words_at_is heap o p t = ap (λ (q : ℕ). elim (is_long t) as (λ w. List Value) [ true ↦ cell_at heap o q ∷ cell_at heap o (p + 1) ∷ [] | false ↦ cell_at heap o q ∷ [] ]) (plus_zero p) ∙ ap (λ (q : ℕ). elim (is_long t) as (λ w. List Value) [ true ↦ cell_at heap o p ∷ cell_at heap o q ∷ [] | false ↦ cell_at heap o p ∷ [] ]) (one_at p)
+pub words_at_is : (heap : Heap) (o p : ℕ) (t : Ty) → (if is_long t then reg_at (cells_at heap o) (p + 0) ∷ reg_at (cells_at heap o) (p + 1) ∷ [] else reg_at (cells_at heap o) (p + 0) ∷ []) ≡ words_at heap o p t
+words_at_is heap o p t = ap (λ (q : ℕ). (if is_long t then cell_at heap o q ∷ cell_at heap o (p + 1) ∷ [] else cell_at heap o q ∷ [])) (plus_zero p) ∙ ap (λ (q : ℕ). (if is_long t then cell_at heap o p ∷ cell_at heap o q ∷ [] else cell_at heap o p ∷ [])) (one_at p)
   where
     one_at : (k : ℕ) → k + 1 ≡ suc k
     one_at k = omega arith

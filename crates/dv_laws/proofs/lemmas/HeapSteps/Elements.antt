@@ -1,6 +1,6 @@
 -- The cells of an array's elements, and what tests of elements say of their types.
 use Rattle.std.proofs.Common.{◌≡◌, ◌⊎◌, inl, inr, ℕ, zero, suc, ◌+◌, ◌-◌, ◌*◌, ◌<◌, ◌≤◌, List, [], ◌∷◌, ◌++◌, length, Bool, true, false, ◌&&◌, ◌||◌, refl, sym, ap, ◌∙◌, subst, arith}
-use Rattle.std.specs.Prelude.{ℤ, nat_eq, nat_lt}
+use Rattle.std.specs.Prelude.{ℤ, nat_eq, nat_lt, if◌then◌else◌}
 use Rattle.std.proofs.lemmas.Bool.{and_parts, or_cases, cases_lt, eqb-true}
 use Rattle.std.proofs.lemmas.List.{length-append, get_or_append_left, get_or-append-add}
 use Rattle.dv_defs.specs.declared.names.Base.{Base}
@@ -111,7 +111,7 @@ module _ (image : Image) (heap : Heap) (c : Ty) (plain : is_reference c ≡ fals
   word_count : (n : ℤ) → length (fill_words c n) ≡ words_of c
   word_count n = go (is_long c)
     where
-      go : (b : Bool) → length (elim b as (λ z. List Value) [ true ↦ v.Lo (lo_of n) ∷ v.Hi (hi_of n) ∷ [] | false ↦ narrowed c (v.Num n) ∷ [] ]) ≡ elim b as (λ z. ℕ) [ true ↦ 2 | false ↦ 1 ]
+      go : (b : Bool) → length (if b then v.Lo (lo_of n) ∷ v.Hi (hi_of n) ∷ [] else narrowed c (v.Num n) ∷ []) ≡ elim b as (λ z. ℕ) [ true ↦ 2 | false ↦ 1 ]
       go true = refl
       go false = refl
 
@@ -127,7 +127,7 @@ module _ (image : Image) (heap : Heap) (c : Ty) (plain : is_reference c ≡ fals
       long (suc zero) = tt
       long (suc (suc j)) = tt
 
-      go : (b : Bool) (j : ℕ) → Conforms image heap nobody (reg_at (elim b as (λ z. List Value) [ true ↦ v.Lo (lo_of n) ∷ v.Hi (hi_of n) ∷ [] | false ↦ narrowed c (v.Num n) ∷ [] ]) j) (type_at (elim b as (λ z. Types) [ true ↦ ty.LongLo ∷ ty.LongHi ∷ [] | false ↦ single_type c ∷ [] ]) j)
+      go : (b : Bool) (j : ℕ) → Conforms image heap nobody (reg_at (if b then v.Lo (lo_of n) ∷ v.Hi (hi_of n) ∷ [] else narrowed c (v.Num n) ∷ []) j) (type_at (elim b as (λ z. Types) [ true ↦ ty.LongLo ∷ ty.LongHi ∷ [] | false ↦ single_type c ∷ [] ]) j)
       go true j = long j
       go false j = subst (λ (u : RegType). Conforms image heap nobody (reg_at (narrowed c (v.Num n) ∷ []) j) (type_at (u ∷ []) j)) (sym (int_type c plain)) (short j)
 

@@ -1,5 +1,6 @@
 -- Steps that read and write fields are fine.
 use Rattle.std.proofs.Common.{◌≡◌, ◌⊎◌, inl, inr, ℕ, zero, suc, ◌+◌, ◌<◌, ◌≤◌, List, [], ◌∷◌, length, Bool, true, false, Some, sym, ◌∙◌, subst, arith}
+use Rattle.std.specs.Prelude.{if◌then◌else◌}
 use Rattle.std.proofs.lemmas.Bool.{and_parts, not-true, cases_lt}
 use Rattle.std.proofs.lemmas.List.{get_or_past}
 use Rattle.dv_defs.specs.declared.names.Ty.{Ty}
@@ -49,11 +50,11 @@ module _ (image : Image) (T : Typings) (m : Machine) (t : ℕ) (thread : Thread)
   long_words a (v.Lo lo) z on o c d = absurd d
   long_words a y z on o c d = absurd c
 
-  by_width : (b : Bool) (a : ℕ) (u : Ty) (y z : Value) → goes_on x.op ≡ true → out image own f.at x.op s ≡ going s (elim b as (λ w. Types) [ true ↦ write_long s.regs a | false ↦ write_type s.regs a (single_type u) ]) → Conforms image m.shared.heap nobody y (type_at (elim b as (λ w. Types) [ true ↦ ty.LongLo ∷ ty.LongHi ∷ [] | false ↦ single_type u ∷ [] ]) 0) → Conforms image m.shared.heap nobody z (type_at (elim b as (λ w. Types) [ true ↦ ty.LongLo ∷ ty.LongHi ∷ [] | false ↦ single_type u ∷ [] ]) 1) → DidFine image T m t thread x (onward (here image m t own f rest x.next) m.shared (put_words f x.next a (elim b as (λ w. List Value) [ true ↦ y ∷ z ∷ [] | false ↦ y ∷ [] ])))
+  by_width : (b : Bool) (a : ℕ) (u : Ty) (y z : Value) → goes_on x.op ≡ true → out image own f.at x.op s ≡ going s (elim b as (λ w. Types) [ true ↦ write_long s.regs a | false ↦ write_type s.regs a (single_type u) ]) → Conforms image m.shared.heap nobody y (type_at (elim b as (λ w. Types) [ true ↦ ty.LongLo ∷ ty.LongHi ∷ [] | false ↦ single_type u ∷ [] ]) 0) → Conforms image m.shared.heap nobody z (type_at (elim b as (λ w. Types) [ true ↦ ty.LongLo ∷ ty.LongHi ∷ [] | false ↦ single_type u ∷ [] ]) 1) → DidFine image T m t thread x (onward (here image m t own f rest x.next) m.shared (put_words f x.next a (if b then y ∷ z ∷ [] else y ∷ [])))
   by_width true a u y z on o c d = long_words a y z on o c d
   by_width false a u y z on o c d = put_left image T m t thread own f rest x s h apart on m.shared.heap (λ p k e. e) h.may.typed.heap a y (single_type u) o (inr (cell_plain (single_type u) (single_cell u), cell_any image m.shared.heap nobody (own_of image (this_above image rest) own) y (single_type u) (single_cell u) c)) (cell_ref image m.shared.heap nobody y (single_type u) (single_cell u) c)
 
-  pub words_left : (a : ℕ) (u : Ty) (y : ℕ → Value) → goes_on x.op ≡ true → out image own f.at x.op s ≡ going s (write_for s.regs a u) → ((j : ℕ) → Conforms image m.shared.heap nobody (y j) (type_at (reg_types u) j)) → DidFine image T m t thread x (onward (here image m t own f rest x.next) m.shared (put_words f x.next a (elim (is_long u) as (λ w. List Value) [ true ↦ y 0 ∷ y 1 ∷ [] | false ↦ y 0 ∷ [] ])))
+  pub words_left : (a : ℕ) (u : Ty) (y : ℕ → Value) → goes_on x.op ≡ true → out image own f.at x.op s ≡ going s (write_for s.regs a u) → ((j : ℕ) → Conforms image m.shared.heap nobody (y j) (type_at (reg_types u) j)) → DidFine image T m t thread x (onward (here image m t own f rest x.next) m.shared (put_words f x.next a (if is_long u then y 0 ∷ y 1 ∷ [] else y 0 ∷ [])))
   words_left a u y on o c = by_width (is_long u) a u (y 0) (y 1) on o (c 0) (c 1)
 
   -- ---- instance fields

@@ -1,5 +1,6 @@
 -- Each instruction on the heap is fine.
-use Rattle.std.proofs.Common.{◌≡◌, ℕ, List, [], Bool, true, false, refl, sym, ap, ◌∙◌, subst}
+use Rattle.std.proofs.Common.{◌≡◌, ℕ, List, [], Bool, false, refl, sym, ap, ◌∙◌, subst}
+use Rattle.std.specs.Prelude.{if◌then◌else◌}
 use Rattle.dv_defs.specs.declared.image.Image.{Image}
 use Rattle.dv_defs.specs.declared.machine.Frame.{Frame}
 use Rattle.dv_defs.specs.declared.machine.Level.{Level}
@@ -8,7 +9,7 @@ use Rattle.dv_defs.specs.Parts.{Call}
 use Rattle.dv_defs.specs.Pools.{Method}
 use Rattle.dv_defs.specs.Op.{Op, IntDivide, LongDivide, ConstString, ConstClass, Cast, InstanceOf, ArrayLength, New, NewArray, Filled, Fill, Throw, ArrayGet, ArrayPut, FieldGet, FieldPut, StaticGet, StaticPut, Invoke, ReturnVoid, Return, Enter, Exit, Code, is_local}
 use Rattle.dv_defs.specs.Statics.{At, op_rules}
-use Rattle.dv_machine.specs.State.{Thread, Machine, Left, Did, Here}
+use Rattle.dv_machine.specs.State.{Thread, Machine, Here}
 use Rattle.dv_machine.specs.Mem.{mem}
 use Rattle.dv_machine.specs.Step.{act, local_left, here}
 use Rattle.dv_machine.specs.WellTyped.{Typings}
@@ -28,7 +29,7 @@ act_mem h ReturnVoid l e = no (sym e)
 act_mem h (Return w a) l e = no (sym e)
 act_mem h (Enter a) l e = no (sym e)
 act_mem h (Exit a) l e = no (sym e)
-act_mem h op l e = ap (λ (b : Bool). elim b as (λ z. Did Left) [ true ↦ local_left h op | false ↦ mem h op ]) l
+act_mem h op l e = ap (λ (b : Bool). (if b then local_left h op else mem h op)) l
 
 no_invoke : (op : Op) → is_of_calls_or_monitors op ≡ false → (c : Call) (ks : List ℕ) (g : Method) → op ≡ Invoke c ks g → ⊥
 no_invoke op e c ks g i = no (sym e ∙ ap is_of_calls_or_monitors i)

@@ -1,6 +1,6 @@
 -- The instructions of instance and static fields are fine.
 use Rattle.std.proofs.Common.{◌≡◌, ℕ, zero, suc, List, [], Bool, true, false, Some, None, refl, sym, ap, ◌∙◌, subst}
-use Rattle.std.specs.Prelude.{slice_index_or, Ok, Err}
+use Rattle.std.specs.Prelude.{slice_index_or, Ok, Err, if◌then◌else◌}
 use Rattle.std.proofs.lemmas.Bool.{and_parts, eqb-true}
 use Rattle.dv_defs.specs.declared.image.Image.{Image}
 use Rattle.dv_defs.specs.declared.run.Value.{Value}
@@ -19,7 +19,7 @@ use Rattle.dv_defs.specs.Op.{Op, Code, FieldGet, FieldPut, StaticGet, StaticPut,
 use Rattle.dv_defs.specs.Statics.{At, op_rules, fits_instance_field, fits_static_field, is_of_suffix}
 use Rattle.dv_defs.specs.RegTypes.{type_at, reg_types}
 use Rattle.dv_defs.specs.Demands.{goes_on, is_own_field, value_for, ref, ref_to, demand, is_assignable, put_receiver, is_ref}
-use Rattle.dv_machine.specs.State.{Thread, Machine, Reads, reg_at, read_ref, onward, with_heap, gone}
+use Rattle.dv_machine.specs.State.{Thread, Machine, reg_at, read_ref, onward, with_heap, gone}
 use Rattle.dv_machine.specs.Mem.{mem, on_object, static_stored, narrowed_all, read_put_receiver, get_field, put_field}
 use Rattle.dv_machine.specs.Step.{here}
 use Rattle.dv_machine.specs.Conforming.{Fits, Conforms}
@@ -90,7 +90,7 @@ module _ (image : Image) (T : Typings) (m : Machine) (t : ℕ) (thread : Thread)
     receives : (z : Value) (u : RegType) → reg_at f.regs b ≡ z → type_at s.regs b ≡ u → Conforms image m.shared.heap (own_of image (this_above image rest) own) z u → put_receiver image own s.regs b y u ≡ None → HoldsOf Receiver (read_put_receiver (here image m t own f rest x.next) y z)
     receives (v.UninitThis o) ty.UninitThis p q c d = go (is_own_field own y) refl d
       where
-        go : (k : Bool) → is_own_field own y ≡ k → demand k (rule.V 14) ≡ None → HoldsOf Receiver (elim k as (λ w. Reads ℕ) [ true ↦ Ok o | false ↦ Err why.Uninitialised ])
+        go : (k : Bool) → is_own_field own y ≡ k → demand k (rule.V 14) ≡ None → HoldsOf Receiver (if k then Ok o else Err why.Uninitialised)
         go true i d = own_receiver o i c
         go false i d = absurd (cc)
     receives (v.UninitThis o) ty.Conflict p q c d = absurd (not_ref q d)

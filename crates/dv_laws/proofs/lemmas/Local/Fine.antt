@@ -1,6 +1,6 @@
 -- Steps that touch one frame alone are fine.
-use Rattle.std.proofs.Common.{◌≡◌, ℕ, List, ◌∷◌, length, true, false, Some, sym, ap, ◌∙◌, subst}
-use Rattle.std.specs.Prelude.{slice_get, Ok, Err, nat_lt}
+use Rattle.std.proofs.Common.{◌≡◌, ℕ, List, ◌∷◌, length, true, Some, sym, ap, ◌∙◌, subst}
+use Rattle.std.specs.Prelude.{slice_get, Ok, Err, nat_lt, if◌then◌else◌}
 use Rattle.std.proofs.lemmas.List.Elements.{All-cons}
 use Rattle.std.proofs.lemmas.Option.{same_Some}
 use Rattle.dv_defs.specs.declared.image.Image.{Image}
@@ -16,7 +16,7 @@ use Rattle.dv_defs.specs.Op.{Op, Invoke, ReturnVoid, Return, Enter, Exit, is_loc
 use Rattle.dv_defs.specs.Statics.{At, fetch}
 use Rattle.dv_defs.specs.Transfer.{out}
 use Rattle.dv_defs.specs.Flow.{Leads}
-use Rattle.dv_machine.specs.State.{Thread, Machine, Left, Did, Reads, reading, reg_at, Here, onward}
+use Rattle.dv_machine.specs.State.{Thread, Machine, Reads, reading, reg_at, Here, onward}
 use Rattle.dv_machine.specs.Mem.{mem}
 use Rattle.dv_machine.specs.Local.{local}
 use Rattle.dv_machine.specs.Calls.{Lands, dispatch, receiver_of, native_of}
@@ -103,7 +103,7 @@ act_local h ReturnVoid e = no e
 act_local h (Return w a) e = no e
 act_local h (Enter a) e = no e
 act_local h (Exit a) e = no e
-act_local h op e = ap (λ z. elim z as (λ w. Did Left) [ true ↦ local_left h op | false ↦ mem h op ]) e
+act_local h op e = ap (λ z. (if z then local_left h op else mem h op)) e
 
 pub local_steps_are_fine : LocalStepsAreFine
 local_steps_are_fine image T m t thread h x s i e =

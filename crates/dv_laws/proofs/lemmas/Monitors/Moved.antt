@@ -1,6 +1,6 @@
 -- Monitors stay in order while a thread moves on and objects are added.
-use Rattle.std.proofs.Common.{◌≡◌, ◌≢◌, ◌⊎◌, inl, inr, ℕ, zero, suc, ◌≤◌, List, ◌∷◌, ◌++◌, Bool, true, false, Option, Some, None, refl, sym, ap, ◌∙◌, subst, arith}
-use Rattle.std.specs.Prelude.{slice_get, slice_set, nat_lt, All}
+use Rattle.std.proofs.Common.{◌≡◌, ◌≢◌, ◌⊎◌, inl, inr, ℕ, zero, suc, ◌≤◌, List, ◌∷◌, ◌++◌, Bool, true, Option, Some, None, refl, sym, ap, ◌∙◌, subst, arith}
+use Rattle.std.specs.Prelude.{slice_get, slice_set, nat_lt, All, if◌then◌else◌}
 use Rattle.std.proofs.lemmas.Bool.{cases_eq}
 use Rattle.std.proofs.lemmas.List.Elements.{All-weaker, All-head}
 use Rattle.dv_defs.specs.declared.image.Image.{Image}
@@ -29,7 +29,7 @@ use Rattle.dv_laws.proofs.lemmas.Growth.Kinds.{same_type}
 use Rattle.dv_laws.proofs.lemmas.Monitors.Owners.{quiet_from}
 
 abbrev interface_lands : Image → Method → Bool → Option Kind → Landing
-interface_lands image g b x = elim b [ true ↦ nearest_from image (class_of_kind image x) g | false ↦ Lacks named.ClassChange ]
+interface_lands image g b x = if b then nearest_from image (class_of_kind image x) g else Lacks named.ClassChange
 
 -- the method that a call lands on is determined by the kind of its object
 dispatch_grown : (image : Image) (before after : Heap) (own : Method) (c : Call) (g : Method) (o : ℕ) (k : Kind) → kind_of before o ≡ Some k → kind_of after o ≡ Some k → dispatch image before own c g o ≡ dispatch image after own c g o

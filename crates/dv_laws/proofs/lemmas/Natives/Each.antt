@@ -107,7 +107,7 @@ module _ (image : Image) (T : Typings) (m : Machine) (t : ℕ) (thread : Thread)
     printed_fine : (bs : List ℕ) → (signature j).proto.ret ≡ None → Does (printed here_it bs)
     printed_fine bs i = by_room (nat_le (length m.shared.output + length bs) m.limits.output)
       where
-        by_room : (b : Bool) → Does (elim b as (λ w. Did Left) [ true ↦ goes here_it (with_output m.shared (m.shared.output ++ bs)) | false ↦ NoOutput ])
+        by_room : (b : Bool) → Does (if b then goes here_it (with_output m.shared (m.shared.output ++ bs)) else NoOutput)
         by_room true = nothing_fine (m.shared.output ++ bs) i
         by_room false = tt
 

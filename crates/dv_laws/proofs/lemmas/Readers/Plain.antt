@@ -1,7 +1,7 @@
 -- Reads of numbers, references and pending results find what they want.
 use Rattle.std.proofs.Common.{◌≡◌, ◌⊎◌, inl, inr, ℕ, zero, suc, List, Bool, true, false, Some, None, refl, ap, ◌∙◌, subst}
 use Rattle.std.proofs.lemmas.Bool.{and_parts, or_cases, ne_eqb}
-use Rattle.std.specs.Prelude.{◌&&◌, ◌||◌, Ok, Err}
+use Rattle.std.specs.Prelude.{◌&&◌, ◌||◌, Ok, Err, if◌then◌else◌}
 use Rattle.dv_defs.specs.declared.names.Ty.{Ty}
 use Rattle.dv_defs.specs.declared.image.Image.{Image}
 use Rattle.dv_defs.specs.declared.run.Value.{Value}
@@ -179,7 +179,7 @@ module _ (image : Image) (heap : Heap) (own : Own) where
   ints_hold : (t : Test) (x y : Value) (s u : RegType) → is_int s ≡ true → is_int u ≡ true → Conforms image heap own x s → Conforms image heap own y u → HoldsOf Anything (on_next (read_int x) (λ a. on_next (read_int y) (λ b. Ok (compare t a b))))
   ints_hold t x y s u e f c d = next_holds Anything Anything (read_int x) _ (int_holds x s e c) (λ a p. next_holds Anything Anything (read_int y) _ (int_holds y u f d) (λ b q. tt))
 
-  both_hold : (t : Test) (x y : Value) (s u : RegType) (b : Bool) → (elim b as (λ w. Demand) [ true ↦ demand ((is_int s && is_int u) || (is_ref s && is_ref u)) (rule.V 9) | false ↦ first (demand (is_int s) (rule.V 2)) (demand (is_int u) (rule.V 2)) ]) ≡ None → Conforms image heap own x s → Conforms image heap own y u → HoldsOf Anything (elim b as (λ w. Reads Bool) [ true ↦ on_next (read_word x) (λ a. on_next (read_word y) (λ b. compare_words t a b)) | false ↦ on_next (read_int x) (λ a. on_next (read_int y) (λ b. Ok (compare t a b))) ])
+  both_hold : (t : Test) (x y : Value) (s u : RegType) (b : Bool) → (elim b as (λ w. Demand) [ true ↦ demand ((is_int s && is_int u) || (is_ref s && is_ref u)) (rule.V 9) | false ↦ first (demand (is_int s) (rule.V 2)) (demand (is_int u) (rule.V 2)) ]) ≡ None → Conforms image heap own x s → Conforms image heap own y u → HoldsOf Anything (if b then on_next (read_word x) (λ a. on_next (read_word y) (λ b. compare_words t a b)) else on_next (read_int x) (λ a. on_next (read_int y) (λ b. Ok (compare t a b))))
   unfolding AreAlike
   both_hold t x y s u true d c e = words_hold t x y s u (alike (or_cases _ _ (demanded _ _ d))) c e
     where

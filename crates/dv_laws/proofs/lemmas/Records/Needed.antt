@@ -55,7 +55,7 @@ needed_there image T acc op c i e = absurd (cc)
 -- a static call has no receiver
 static_receiver : (image : Image) (code : Code) (ks : List ℕ) (g : Method) → op_rules image code (Invoke Call.Static ks g) ≡ [] → receiver_of (Invoke Call.Static ks g) ≡ None
 static_receiver image code [] g e = refl
-static_receiver image code (k ∷ ks) g e = ap (λ (b : Bool). elim b as (λ x. Option ℕ) [ true ↦ None | false ↦ Some k ]) (and_parts (is_static g) (not (bytes_eq g.def.name clinit_name)) (first_rule (fits_call image code.method Call.Static g) (rule.S 14) _ e)).0
+static_receiver image code (k ∷ ks) g e = ap (λ (b : Bool). (if b then None else Some k)) (and_parts (is_static g) (not (bytes_eq g.def.name clinit_name)) (first_rule (fits_call image code.method Call.Static g) (rule.S 14) _ e)).0
 
 -- a thread can't wait at an instruction that needs a class
 no_receiver : (image : Image) (code : Code) (op : Op) (c : ℕ) → op_rules image code op ≡ [] → needs op ≡ Some c → receiver_of op ≡ None

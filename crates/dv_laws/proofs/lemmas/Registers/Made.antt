@@ -1,6 +1,6 @@
 -- New objects in registers, and what their constructors make of them.
 use Rattle.std.proofs.Common.{◌≡◌, ◌≢◌, ◌↔◌, ◌⊎◌, inl, inr, ℕ, ◌<◌, ◌≤◌, List, length, true, false, Some, refl, sym, ap, ◌∙◌, arith}
-use Rattle.std.specs.Prelude.{slice_set, map}
+use Rattle.std.specs.Prelude.{slice_set, map, if◌then◌else◌}
 use Rattle.std.proofs.lemmas.Bool.{cases_lt, cases_eq, eq-eqb, ne_eqb}
 use Rattle.std.proofs.lemmas.List.{length-set, get_or-set_same, get_or-set_other, set_past}
 use Rattle.std.proofs.Math.ListN.{get_or-map, length-map}
@@ -29,16 +29,16 @@ replaced_other : (a b : ℕ) (t : RegType) → a ≢ b → replaced a t (ty.Unin
 replaced_other a b t e = ap (λ z. elim z as (λ w. RegType) [ true ↦ t | false ↦ ty.Uninit b ]) (ne_eqb a b e)
 
 made_same : (o a p : ℕ) → o ≡ p → initialised o (v.Uninit a p) ≡ v.Ref p
-made_same o a p e = ap (λ z. elim z as (λ w. Value) [ true ↦ v.Ref p | false ↦ v.Uninit a p ]) (eq-eqb o p e)
+made_same o a p e = ap (λ z. (if z then v.Ref p else v.Uninit a p)) (eq-eqb o p e)
 
 made_other : (o a p : ℕ) → o ≢ p → initialised o (v.Uninit a p) ≡ v.Uninit a p
-made_other o a p e = ap (λ z. elim z as (λ w. Value) [ true ↦ v.Ref p | false ↦ v.Uninit a p ]) (ne_eqb o p e)
+made_other o a p e = ap (λ z. (if z then v.Ref p else v.Uninit a p)) (ne_eqb o p e)
 
 this_same : (o p : ℕ) → o ≡ p → initialised o (v.UninitThis p) ≡ v.Ref p
-this_same o p e = ap (λ z. elim z as (λ w. Value) [ true ↦ v.Ref p | false ↦ v.UninitThis p ]) (eq-eqb o p e)
+this_same o p e = ap (λ z. (if z then v.Ref p else v.UninitThis p)) (eq-eqb o p e)
 
 this_other : (o p : ℕ) → o ≢ p → initialised o (v.UninitThis p) ≡ v.UninitThis p
-this_other o p e = ap (λ z. elim z as (λ w. Value) [ true ↦ v.Ref p | false ↦ v.UninitThis p ]) (ne_eqb o p e)
+this_other o p e = ap (λ z. (if z then v.Ref p else v.UninitThis p)) (ne_eqb o p e)
 
 site_same : (a b : ℕ) → ty.Uninit a ≡ ty.Uninit b → a ≡ b
 site_same a b e = cc

@@ -1,6 +1,6 @@
 -- The caller's frame is in order after a return.
-use Rattle.std.proofs.Common.{◌≡◌, ℕ, List, [], ◌∷◌, true, false, Option, Some, None, sym, ap, ◌∙◌, subst}
-use Rattle.std.specs.Prelude.{All}
+use Rattle.std.proofs.Common.{◌≡◌, ℕ, List, [], ◌∷◌, true, Option, Some, None, sym, ap, ◌∙◌, subst}
+use Rattle.std.specs.Prelude.{All, if◌then◌else◌}
 use Rattle.std.proofs.lemmas.List.Elements.{All-cons, All-head, All-tail}
 use Rattle.std.proofs.lemmas.Option.{same_Some}
 use Rattle.dv_defs.specs.declared.names.Ty.{Ty}
@@ -66,7 +66,7 @@ module _ (image : Image) (T : Typings) (m : Machine) (t : ℕ) (thread : Thread)
       of_receiver : (op : Op) (ks : List ℕ) → op ≡ Invoke called.call ks called.callee → demands image caller.method op caller.state ≡ None → is_constructor called.callee ≡ true → (k : ℕ) → receiver_of op ≡ Some k → P (reg_at g.regs k)
       of_receiver op [] i d e k q = absurd (no_receiver image caller.method caller.state called.call called.callee e (subst (λ z. demands image caller.method z caller.state ≡ None) i d))
       of_receiver op (j ∷ js) i d e k q =
-          let there : receiver_of (Invoke called.call (j ∷ js) called.callee) ≡ Some j = ap (λ z. elim z as (λ w. Option ℕ) [ true ↦ None | false ↦ Some j ]) (not_static called.callee e) in
+          let there : receiver_of (Invoke called.call (j ∷ js) called.callee) ≡ Some j = ap (λ z. (if z then None else Some j)) (not_static called.callee e) in
           let same : j ≡ k = same_Some j k (sym there ∙ ap receiver_of (sym i) ∙ q) in
           subst (λ z. P (reg_at g.regs z)) same
           (each (reg_at g.regs j) (type_at caller.state.regs j) (caller.conform.good.regs j)

@@ -1,7 +1,7 @@
 -- The caller's frame after a return.
 use Rattle.std.proofs.Common.{◌≡◌, ℕ, List, [], ◌∷◌, Bool, true, false, Option, Some, None, refl, sym, ap, ◌∙◌, subst}
 use Rattle.std.proofs.lemmas.Bool.{and_parts, not-true}
-use Rattle.std.specs.Prelude.{map, not, bytes_eq}
+use Rattle.std.specs.Prelude.{map, not, bytes_eq, if◌then◌else◌}
 use Rattle.dv_defs.specs.declared.image.Image.{Image}
 use Rattle.dv_defs.specs.declared.run.Value.{Value}
 use Rattle.dv_defs.specs.declared.run.Value.TheVariants as v
@@ -72,7 +72,7 @@ module _ (image : Image) (heap : Heap) (this : Option ℕ) (m : Method) (f : Fra
   back_at c ks g false e d r i = subst (λ z. Conform image heap (own_of image this m) (with_result f next p) (elim z as (λ w. RegState) [ true ↦ after.with_pending (after_constructor image m s (type_at s.regs (first_of ks))) (pending_of g.def.proto.ret) | false ↦ after.with_pending s (pending_of g.def.proto.ret) ])) (sym e) (record { good = h.good; result = r; caught = tt; this_pending = h.this_pending })
   back_at c [] g true e d r i = absurd (no_receiver image m s c g e d)
   back_at c (k ∷ ks) g true e d r i =
-      let there : receiver_of (Invoke c (k ∷ ks) g) ≡ Some k = ap (λ z. elim z as (λ w. Option ℕ) [ true ↦ None | false ↦ Some k ]) (not_static g e) in
+      let there : receiver_of (Invoke c (k ∷ ks) g) ≡ Some k = ap (λ z. (if z then None else Some k)) (not_static g e) in
       let known : Conform image heap (own_of image this m) (constructed f next p (reg_at f.regs k)) (after.with_pending (after_constructor image m s (type_at s.regs k)) (pending_of g.def.proto.ret)) = constructed_conforms image heap this m f s h g k next p r _ _ refl refl (h.good.regs k) (receiver_demanded image m s c k ks g e d) (i refl k there) in
       let stated = subst (λ z. Conform image heap (own_of image this m) (constructed f next p (reg_at f.regs k)) (elim z as (λ w. RegState) [ true ↦ after.with_pending (after_constructor image m s (type_at s.regs k)) (pending_of g.def.proto.ret) | false ↦ after.with_pending s (pending_of g.def.proto.ret) ])) (sym e) known in
       subst (λ z. Conform image heap (own_of image this m) (elim z as (λ w. Frame) [ None ↦ with_result f next p | Some j ↦ constructed f next p (reg_at f.regs j) ]) (after_invoke image m s (k ∷ ks) g)) (sym there) stated

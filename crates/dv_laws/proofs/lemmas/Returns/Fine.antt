@@ -1,6 +1,6 @@
 -- Returns drop a frame and leave the caller's in order.
 use Rattle.std.proofs.Common.{◌≡◌, ℕ, List, [], ◌∷◌, Bool, true, false, Option, Some, None, refl, sym, ap, ◌∙◌, subst}
-use Rattle.std.specs.Prelude.{All, ◌&&◌, not}
+use Rattle.std.specs.Prelude.{All, ◌&&◌, not, if◌then◌else◌}
 use Rattle.std.proofs.lemmas.List.Elements.{All-nil, All-head}
 use Rattle.std.proofs.lemmas.Bool.{and_parts, and_from}
 use Rattle.dv_defs.specs.declared.names.Ty.{Ty}
@@ -66,7 +66,7 @@ module _ (image : Image) (T : Typings) (m : Machine) (t : ℕ) (thread : Thread)
             let p = and_parts (is_constructor own) f.this_pending e in
             and_from (is_constructor own) s.this_pending p.0 (h.conform.this_pending p.1)
 
-        by_test : (b : Bool) → (b ≡ true → is_constructor own && s.this_pending ≡ true) → DidFine image T m t thread x (elim b as (λ w. Did Left) [ true ↦ IsStuck why.Uninitialised | false ↦ go ])
+        by_test : (b : Bool) → (b ≡ true → is_constructor own && s.this_pending ≡ true) → DidFine image T m t thread x (if b then IsStuck why.Uninitialised else go)
         by_test true n = no (ap not (sym (n refl)) ∙ demanded (not (is_constructor own && s.this_pending)) (rule.V 12) d)
         by_test false n = k
 
@@ -78,7 +78,7 @@ module _ (image : Image) (T : Typings) (m : Machine) (t : ℕ) (thread : Thread)
     void_fine d =
         let e = first_none (demand (is_void own.def.proto.ret) (rule.V 13)) (this_initialised own s) d in
         let void = demanded (is_void own.def.proto.ret) (rule.V 13) e.0 in
-        subst (λ b. DidFine image T m t thread x (elim b as (λ w. Did Left) [ true ↦ unless_pending here_it (back here_it pending.None) | false ↦ IsStuck why.Result ])) (sym void)
+        subst (λ b. DidFine image T m t thread x (if b then unless_pending here_it (back here_it pending.None) else IsStuck why.Result)) (sym void)
         (unless_fine (back here_it pending.None) e.1 (back_fine pending.None (void_result own.def.proto.ret void)))
 
     pending_fine : (ys : List Value) → All (RefFine image heap) ys → ResultFine image heap (pending_words ys)
@@ -99,7 +99,7 @@ module _ (image : Image) (T : Typings) (m : Machine) (t : ℕ) (thread : Thread)
         let e = first_none (demand (not (is_void ret) && same_width w (result_width ret)) (rule.V 13)) (first (this_initialised own s) (value_returned image s.regs a ret)) d in
         let g = first_none (this_initialised own s) (value_returned image s.regs a ret) e.1 in
         let form = demanded (not (is_void ret) && same_width w (result_width ret)) (rule.V 13) e.0 in
-        subst (λ b. DidFine image T m t thread x (elim b as (λ w. Did Left) [ true ↦ unless_pending here_it (return_value here_it a ret) | false ↦ IsStuck why.Result ])) (sym form)
+        subst (λ b. DidFine image T m t thread x (if b then unless_pending here_it (return_value here_it a ret) else IsStuck why.Result)) (sym form)
         (unless_fine (return_value here_it a ret) g.0 (value_fine a ret refl (and_parts (not (is_void ret)) (same_width w (result_width ret)) form).0 g.1))
 
     return_fine : (op : Op) → is_return op ≡ true → demands image own op s ≡ None → DidFine image T m t thread x (act here_it op)

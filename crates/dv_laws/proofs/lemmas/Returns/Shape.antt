@@ -1,6 +1,6 @@
 -- What a return changes in the caller's frame.
 use Rattle.std.proofs.Common.{◌≡◌, ℕ, List, length, Bool, true, false, Option, Some, None, refl, subst}
-use Rattle.std.specs.Prelude.{All, nat_eq}
+use Rattle.std.specs.Prelude.{All, nat_eq, if◌then◌else◌}
 use Rattle.std.proofs.lemmas.List.Elements.{All-map, All-weaker}
 use Rattle.std.proofs.Math.ListN.{length-map}
 use Rattle.dv_defs.specs.declared.image.Image.{Image}
@@ -49,12 +49,12 @@ module _ (image : Image) (heap : Heap) where
   initialised_fine : (o : ℕ) → IsThere image heap o → (x : Value) → RefFine image heap x → RefFine image heap (initialised o x)
   initialised_fine o h (v.Uninit a p) r = by_test (nat_eq o p) refl
     where
-      by_test : (b : Bool) → nat_eq o p ≡ b → RefFine image heap (elim b as (λ w. Value) [ true ↦ v.Ref p | false ↦ v.Uninit a p ])
+      by_test : (b : Bool) → nat_eq o p ≡ b → RefFine image heap (if b then v.Ref p else v.Uninit a p)
       by_test true e = subst (IsThere image heap) (eqb-true o p e) h
       by_test false e = tt
   initialised_fine o h (v.UninitThis p) r = by_test (nat_eq o p) refl
     where
-      by_test : (b : Bool) → nat_eq o p ≡ b → RefFine image heap (elim b as (λ w. Value) [ true ↦ v.Ref p | false ↦ v.UninitThis p ])
+      by_test : (b : Bool) → nat_eq o p ≡ b → RefFine image heap (if b then v.Ref p else v.UninitThis p)
       by_test true e = subst (IsThere image heap) (eqb-true o p e) h
       by_test false e = tt
   initialised_fine o h x r = r

@@ -161,7 +161,7 @@ module _ (image : Image) (m : Machine) (t : ℕ) (thread : Thread) (has : slice_
         by_form true e = constructor_waits c g ks (reg_at f.regs k) b e
         by_form false e = instance_waits c g ks (reg_at f.regs k) b e
 
-        by_sort : (z : Bool) → blocked_receiver image m t own f c g (elim z as (λ w. Option ℕ) [ true ↦ None | false ↦ Some k ]) ≡ Some b → At_Stays (elim z as (λ w. Did Left) [ true ↦ reading (read_args image heap f.regs g.def.proto.params (k ∷ ks)) (landed here_it (native_step here_it) (unless_abstract g)) | false ↦ with_receiver here_it (native_step here_it) c g (k ∷ ks) ])
+        by_sort : (z : Bool) → blocked_receiver image m t own f c g (if z then None else Some k) ≡ Some b → At_Stays (elim z as (λ w. Did Left) [ true ↦ reading (read_args image heap f.regs g.def.proto.params (k ∷ ks)) (landed here_it (native_step here_it) (unless_abstract g)) | false ↦ with_receiver here_it (native_step here_it) c g (k ∷ ks) ])
         by_sort true e = absurd (cc)
         by_sort false e = by_form (is_constructor g) e
 
