@@ -166,14 +166,14 @@ abbrev pub enter : Here → Method → List Value → Bool → Did Left
 enter h m xs p = pushed h h.shared (level.Code (entered_frame m xs p)) (level.Code h.frame ∷ h.rest)
 
 -- a native is one step without a level
-abbrev pub called : Here → (Native → List Value → Did Left) → Method → List Value → Option Native → Did Left
-called h native m xs None = enter h m xs false
-called h native m xs (Some n) = native n xs
+abbrev pub landed_on : Here → (Native → List Value → Did Left) → Method → List Value → Option Native → Did Left
+landed_on h native m xs None = enter h m xs false
+landed_on h native m xs (Some n) = native n xs
 
 -- a call that lands, or throws
 abbrev pub landed : Here → (Native → List Value → Did Left) → Landing → List Value → Did Left
 landed h native (Lacks n) xs = Throws n
-landed h native (Lands m) xs = called h native m xs (native_of h.image m)
+landed h native (Lands m) xs = landed_on h native m xs (native_of h.image m)
 
 -- a constructor other than Object's begins with its receiver uninitialised
 abbrev pub enter_constructor : Here → Method → ℕ → List Value → Did Left

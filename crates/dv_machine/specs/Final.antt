@@ -1,5 +1,5 @@
 -- What a finished run prints after all.
-use Rattle.std.specs.Prelude.{ℕ, suc, ◌++◌, Bool, true, false, List, [], ◌∷◌, Option, Some, None, nat_eq, decimal, codes}
+use Rattle.std.specs.Prelude.{ℕ, suc, ◌++◌, Bool, true, List, [], ◌∷◌, Option, Some, None, nat_eq, decimal, codes, if◌then◌else◌}
 use Rattle.dv_defs.specs.declared.names.Ty.{Ty}
 use Rattle.dv_defs.specs.declared.image.Image.{Image}
 use Rattle.dv_defs.specs.declared.run.Value.{Value}
@@ -22,13 +22,17 @@ use Rattle.dv_machine.specs.Running.{ending_of, blocked_thread}
 abbrev pub newline : List ℕ
 newline = 10 ∷ []
 
+-- the last byte is LF, or there is none
 abbrev pub ends_well : List ℕ → Bool
 ends_well [] = true
-ends_well (b ∷ bs) = elim bs [ [] ↦ nat_eq b 10 | c ∷ cs ↦ ends_well bs ]
+ends_well (b ∷ []) = nat_eq b 10
+ends_well (b ∷ c ∷ cs) = ends_well (c ∷ cs)
 
+-- with LF at its end
 abbrev pub closed : List ℕ → List ℕ
-closed bs = elim (ends_well bs) [ true ↦ bs | false ↦ bs ++ newline ]
+closed bs = if ends_well bs then bs else bs ++ newline
 
+-- what follows the class of an exception that has a message
 abbrev pub message : Image → Heap → ℕ → List ℕ
 message image heap o = of_value (cell_at heap o (throwable_slot image (codes "message")))
   where
@@ -36,9 +40,14 @@ message image heap o = of_value (cell_at heap o (throwable_slot image (codes "me
     of_value (v.Ref (suc s)) = codes ": " ++ utf8 (text_of heap (suc s))
     of_value x = []
 
-abbrev pub type_text : Ty → List ℕ
-type_text t = elim (class_in t.base) [ None ↦ [] | Some name ↦ java_text name ]
+abbrev pub name_text : Option (List ℕ) → List ℕ
+name_text None = []
+name_text (Some name) = java_text name
 
+abbrev pub type_text : Ty → List ℕ
+type_text t = name_text (class_in t.base)
+
+-- a line for each thread that died of an exception
 abbrev pub uncaught : Image → Heap → List Thread → ℕ → List ℕ
 uncaught image heap [] k = []
 uncaught image heap (t ∷ ts) k = of_end t.end ++ uncaught image heap ts (suc k)
@@ -55,13 +64,14 @@ blocked_text image blocked.Wait = codes " wait"
 blocked_text image (blocked.Class c) = codes " class " ++ name_at image c.0
 blocked_text image (blocked.Join u) = codes " join " ++ decimal u
 
+abbrev pub blocked_line : Image → ℕ → Option Blocked → List ℕ
+blocked_line image k None = []
+blocked_line image k (Some b) = codes "#blocked " ++ decimal k ++ blocked_text image b ++ newline
+
+-- a line for each thread that is held up
 abbrev pub blocked_lines : Image → Machine → List Thread → ℕ → List ℕ
 blocked_lines image m [] k = []
-blocked_lines image m (t ∷ ts) k =
-    elim (blocked_thread image m k t) [
-        None ↦ []
-      | Some b ↦ codes "#blocked " ++ decimal k ++ blocked_text image b ++ newline ] ++
-    blocked_lines image m ts (suc k)
+blocked_lines image m (t ∷ ts) k = blocked_line image k (blocked_thread image m k t) ++ blocked_lines image m ts (suc k)
 
 abbrev pub ending_lines : Image → Machine → Option Ending → List ℕ
 ending_lines image m None = []

@@ -1,5 +1,5 @@
 -- The state in which a run begins.
-use Rattle.std.specs.Prelude.{ℕ, suc, Bool, true, false, ◌&&◌, List, [], ◌∷◌, ℤ, Option, Some, None, bytes_eq, codes}
+use Rattle.std.specs.Prelude.{ℕ, suc, Bool, true, false, ◌&&◌, List, [], ◌∷◌, ℤ, Option, Some, None, bytes_eq, codes, if◌then◌else◌}
 use Rattle.dv_defs.specs.declared.flags.Flag.TheVariants as flag
 use Rattle.dv_defs.specs.Flags.{has_flag}
 use Rattle.dv_defs.specs.Names.{string_name, thread_name, system_name, stream_name}
@@ -46,18 +46,23 @@ object_made image heap name =
 
 -- the cells of a static field before strings are made
 abbrev pub number_cells : Ty → ℤ → Cells
-number_cells t n = elim (is_long t) [ true ↦ v.Lo (lo_of n) ∷ v.Hi (hi_of n) ∷ [] | false ↦ const_value n ∷ [] ]
+number_cells t n = if is_long t then v.Lo (lo_of n) ∷ v.Hi (hi_of n) ∷ [] else const_value n ∷ []
 
 abbrev pub first_cells : FieldDef → Cells
-first_cells x = elim (has_flag x.flags flag.Static) [ true ↦ by_init x.init | false ↦ [] ]
+first_cells x = if has_flag x.flags flag.Static then by_init x.init else []
   where
     by_init : Init → Cells
     by_init (init.Num n) = number_cells x.ty n
     by_init i = fresh_cells (reg_types x.ty)
 
+abbrev pub cells_of : Option Field → Cells
+cells_of None = []
+cells_of (Some x) = first_cells x.def
+
+-- by field
 abbrev pub field_cells : Image → List FieldInfo → ℕ → List Cells
 field_cells image [] k = []
-field_cells image (i ∷ is) k = elim (field_at image k) [ None ↦ [] | Some x ↦ first_cells x.def ] ∷ field_cells image is (suc k)
+field_cells image (i ∷ is) k = cells_of (field_at image k) ∷ field_cells image is (suc k)
 
 abbrev pub string_of : Init → Option (List ℕ)
 string_of (init.Str s) = Some s
@@ -71,24 +76,26 @@ abbrev pub with_string : Heap → ℕ → Option (List ℕ) → Heap
 with_string heap k None = heap
 with_string heap k (Some s) = interned_here heap k (intern heap s)
 
+abbrev pub with_string_of : Heap → ℕ → Option Field → Heap
+with_string_of heap k None = heap
+with_string_of heap k (Some x) = with_string heap k (string_of x.def.init)
+
 -- the strings of static fields, by class and field
 abbrev pub with_strings : Image → List FieldInfo → ℕ → Heap → Heap
 with_strings image [] k heap = heap
-with_strings image (i ∷ is) k heap =
-    with_strings image is (suc k)
-        (elim (field_at image k) [ None ↦ heap | Some x ↦ with_string heap k (string_of x.def.init) ])
+with_strings image (i ∷ is) k heap = with_strings image is (suc k) (with_string_of heap k (field_at image k))
 
 abbrev pub is_out : Image → Field → Bool
 is_out image x = bytes_eq (name_at image x.info.class.0) system_name && bytes_eq x.def.name (codes "out")
 
+abbrev pub with_out_of : Image → Heap → ℕ → Option Field → Heap
+with_out_of image heap k None = heap
+with_out_of image heap k (Some x) = if is_out image x then with_static heap k 0 (v.Ref 1) else heap
+
 -- System.out holds object 1
 abbrev pub with_out : Image → List FieldInfo → ℕ → Heap → Heap
 with_out image [] k heap = heap
-with_out image (i ∷ is) k heap =
-    with_out image is (suc k)
-        (elim (field_at image k) [
-             None ↦ heap
-           | Some x ↦ elim (is_out image x) [ true ↦ with_static heap k 0 (v.Ref 1) | false ↦ heap ] ])
+with_out image (i ∷ is) k heap = with_out image is (suc k) (with_out_of image heap k (field_at image k))
 
 abbrev pub empty_heap : Image → Heap
 empty_heap image =
@@ -102,14 +109,17 @@ empty_heap image =
         limit = None;
     }
 
+abbrev pub is_filled : List Ty → Bool
+is_filled [] = false
+is_filled (p ∷ ps) = true
+
+-- main takes an array of strings, or nothing
 abbrev pub takes_array : Method → Bool
-takes_array m = elim m.def.proto.params [ [] ↦ false | p ∷ ps ↦ true ]
+takes_array m = is_filled m.def.proto.params
 
 abbrev pub array_made : Method → Heap → Heap
 array_made m heap =
-    elim (takes_array m) [
-        true ↦ made heap (kind.Array (record { dims = 1; base = base.Class string_name })) []
-      | false ↦ heap ]
+    if takes_array m then made heap (kind.Array (record { dims = 1; base = base.Class string_name })) [] else heap
 
 abbrev pub counted_from : Limits → Heap → Heap
 counted_from l heap = record heap { used = 0; limit = Some l.heap }
@@ -134,10 +144,10 @@ is_born image c = none_initialised image (supers image c)
 
 abbrev pub first_states : Image → List ClassInfo → ℕ → Classes
 first_states image [] k = []
-first_states image (c ∷ cs) k = elim (is_born image k) [ true ↦ Ready | false ↦ Fresh ] ∷ first_states image cs (suc k)
+first_states image (c ∷ cs) k = (if is_born image k then Ready else Fresh) ∷ first_states image cs (suc k)
 
 abbrev pub main_args : Method → Heap → List Value
-main_args m heap = elim (takes_array m) [ true ↦ v.Ref (newest heap) ∷ [] | false ↦ [] ]
+main_args m heap = if takes_array m then v.Ref (newest heap) ∷ [] else []
 
 -- above main's frame stands a record of its class, where that isn't born initialised
 abbrev pub opening_levels : Method → Frame → Bool → List Level

@@ -78,12 +78,13 @@ abbrev pub is_running : End → Bool
 is_running end.Living = true
 is_running e = false
 
+abbrev pub thread_is_local : Image → Option Thread → Bool
+thread_is_local image None = false
+thread_is_local image (Some th) = is_running th.end && is_local_level image th.levels
+
 -- the next step of the thread is local
 abbrev pub next_is_local : Image → Machine → ℕ → Bool
-next_is_local image m t =
-    elim (slice_get m.threads t) [
-        None ↦ false
-      | Some th ↦ elim (is_running th.end) [ true ↦ is_local_level image th.levels | false ↦ false ] ]
+next_is_local image m t = thread_is_local image (slice_get m.threads t)
 
 abbrev pub one_more : Reads Turned → Reads Turned
 one_more (Ok x) = Ok (record { count = suc x.count; machine = x.machine })
@@ -128,7 +129,7 @@ seeded_from word image (suc fuel) k m =
     elim (ending_of image m) [
         Some e ↦ Ok []
       | None ↦ on_next (turn image (picked (runnable_from image m m.threads 0) (word k)) (1 + word k % 256) m)
-              (λ x. 
+              (λ x.
                    on_next (seeded_from word image fuel (suc k) x.machine)
                        (λ es. Ok (logged (picked (runnable_from image m m.threads 0) (word k)) x.count es))) ]
 

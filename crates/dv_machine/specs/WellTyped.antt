@@ -1,5 +1,5 @@
 -- A machine state that fits a typing of each method.
-use Rattle.std.specs.Prelude.{◌≡◌, ◌≢◌, ◌⊎◌, ℕ, zero, suc, ◌+◌, ◌≤◌, ◌++◌, true, false, List, [], ◌∷◌, length, Option, Some, None, slice_get, slice_index_or, nat_eq, nat_lt, All}
+use Rattle.std.specs.Prelude.{◌≡◌, ◌≢◌, ◌⊎◌, ℕ, zero, suc, ◌+◌, ◌≤◌, ◌++◌, true, false, List, [], ◌∷◌, length, Option, Some, None, slice_get, slice_index_or, nat_eq, nat_lt, All, if◌then◌else◌}
 use Rattle.dv_defs.specs.Pools.{is_static_field, Method, Field, method_at, field_at, is_constructor, own_type, initialiser}
 use Rattle.dv_defs.specs.Parts.{Call}
 use Rattle.dv_defs.specs.Names.{object_name, thread_name, throwable_name}
@@ -44,7 +44,7 @@ called_on g None = None
 called_on g (Some x) = by_op x.op
   where
     by_op : Op → Option ℕ
-    by_op (Invoke c (k ∷ ks) m) = elim (is_constructor m) [ true ↦ object_of (reg_at g.regs k) | false ↦ None ]
+    by_op (Invoke c (k ∷ ks) m) = if is_constructor m then object_of (reg_at g.regs k) else None
     by_op op = None
 
 abbrev pub this_above : Image → List Level → Option ℕ
@@ -138,7 +138,8 @@ FlightFine image T heap t o (level.Init c r ∷ ls) = StackFine image T heap t (
 
 abbrev pub lowest : List Level → Option Level
 lowest [] = None
-lowest (l ∷ ls) = elim ls [ [] ↦ Some l | m ∷ ms ↦ lowest ls ]
+lowest (l ∷ []) = Some l
+lowest (l ∷ m ∷ ms) = lowest (m ∷ ms)
 
 abbrev pub IsCode : Option Level → Type 0
 IsCode None = ⊥
@@ -238,11 +239,11 @@ pub record MonitorsFine (image : Image) (threads : List Thread) (sh : Shared) (s
 abbrev pub records : ℕ → List Level → ℕ
 records c [] = 0
 records c (level.Code f ∷ ls) = records c ls
-records c (level.Init d r ∷ ls) = elim (nat_eq c d.0) [ true ↦ 1 | false ↦ 0 ] + records c ls
+records c (level.Init d r ∷ ls) = (if nat_eq c d.0 then 1 else 0) + records c ls
 
 -- how many a thread owes: one where it has the class in progress
 abbrev pub owed : ℕ → ClassState → ℕ
-owed t (InProgress u) = elim (nat_eq u t) [ true ↦ 1 | false ↦ 0 ]
+owed t (InProgress u) = if nat_eq u t then 1 else 0
 owed t s = 0
 
 -- a thread that is not there has no levels

@@ -21,12 +21,17 @@ States = List (Option RegState)
 abbrev pub state_there : States → ℕ → Option RegState
 state_there states at = slice_index_or states at None
 
-abbrev pub joined_at : Image → States → ℕ → RegState → States
-joined_at image states to s = slice_set states to (elim (state_there states to) [ None ↦ Some s | Some t ↦ Some (join_state image t s) ])
+abbrev pub joined_with : Image → RegState → Option RegState → RegState
+joined_with image s None = s
+joined_with image s (Some t) = join_state image t s
 
--- where an instruction stands
+-- a state comes to an instruction, where one stands there
+abbrev pub joined_at : Image → States → ℕ → RegState → Option At → States
+joined_at image states to s None = states
+joined_at image states to s (Some x) = slice_set states to (Some (joined_with image s (state_there states to)))
+
 abbrev pub given : Image → ℕ → ℕ → RegState → States → States
-given image n to s states = elim (fetch image n to) [ None ↦ states | Some x ↦ joined_at image states to s ]
+given image n to s states = joined_at image states to s (fetch image n to)
 
 abbrev pub given_all : Image → ℕ → List ℕ → RegState → States → States
 given_all image n [] s states = states

@@ -125,7 +125,7 @@ module _ (image : Image) (T : Typings) (m : Machine) (t : ℕ) (thread : Thread)
         not_new y p q r = none-some _ (ap object_of (sym q) ∙ r)
 
     on_it : called_on f (Some x) ≡ Some o
-    on_it = called_by image T m t thread own f rest x s h c (k ∷ js) g e (Some o) (ap (λ z. elim z as (λ w. Option ℕ) [ true ↦ object_of value | false ↦ None ]) constructor ∙ holds)
+    on_it = called_by image T m t thread own f rest x s h c (k ∷ js) g e (Some o) (ap (λ z. (if z then object_of value else None)) constructor ∙ holds)
 
     the_this : this_above image (level.Code f ∷ rest) ≡ Some o
     the_this = this_is image T m t thread own f rest x s h c (k ∷ js) g e (Some o) on_it

@@ -16,8 +16,8 @@ use Rattle.dv_defs.specs.Op.{Op, Invoke, can_throw}
 use Rattle.dv_defs.specs.Statics.{At}
 use Rattle.dv_defs.specs.Transfer.{arg_types, begins_uninitialised}
 use Rattle.dv_defs.specs.Monitors.{wait_of}
-use Rattle.dv_machine.specs.State.{Thread, Machine, Left, Did, Here, reg_at}
-use Rattle.dv_machine.specs.Calls.{Lands, dispatch, native_of, receiver_of, landed, enter}
+use Rattle.dv_machine.specs.State.{Thread, Machine, Here, reg_at}
+use Rattle.dv_machine.specs.Calls.{Lands, dispatch, native_of, receiver_of, landed, landed_on}
 use Rattle.dv_machine.specs.Natives.{native_step}
 use Rattle.dv_machine.specs.Step.{here}
 use Rattle.dv_machine.specs.WellTyped.{Typings, own_of, this_above, called_on, IsCalled, IsNoInitialiser}
@@ -128,7 +128,7 @@ module _ (image : Image) (T : Typings) (m : Machine) (t : ℕ) (thread : Thread)
     pub landed_fine : NativesDo → (k : Method) (xs : List Value) → is_abstract k ≡ false → method_at image k.id ≡ Some k → ((j : Native) → native_of image k ≡ Some j → CallsNative k j xs) → (native_of image k ≡ None → IsQuiet image m t) → false ≡ begins_uninitialised image k → AreWords image m.shared.heap xs (arg_types image k) → IsCalled image k f → IsNoInitialiser image k → DidFine image T m t thread x (landed here_it (native_step here_it) (Lands k) xs)
     landed_fine natives k xs concrete there call q flag words called none = by_native (native_of image k) refl
       where
-        by_native : (o : Option Native) → native_of image k ≡ o → DidFine image T m t thread x (elim o as (λ w. Did Left) [ Some j ↦ native_step here_it j xs | None ↦ enter here_it k xs false ])
+        by_native : (o : Option Native) → native_of image k ≡ o → DidFine image T m t thread x (landed_on (here image m t own f rest x.next) (native_step (here image m t own f rest x.next)) k xs o)
         by_native (Some j) i = natives k j xs (call j i)
         by_native None i =
             let body = h.may.accepted.bodies.body k.id k there concrete i in

@@ -6,10 +6,9 @@ use Rattle.std.proofs.lemmas.Option.{same_Some}
 use Rattle.dv_defs.specs.declared.names.Ty.{Ty}
 use Rattle.dv_defs.specs.declared.image.Image.{Image}
 use Rattle.dv_defs.specs.declared.code.Body.{Body}
-use Rattle.dv_defs.specs.declared.machine.Kind.{Kind}
 use Rattle.dv_defs.specs.declared.machine.Frame.{Frame}
 use Rattle.dv_defs.specs.declared.typing.RegState.{RegState}
-use Rattle.dv_defs.specs.Names.{object_name, throwable_name}
+use Rattle.dv_defs.specs.Names.{throwable_name}
 use Rattle.dv_defs.specs.Types.{of_class}
 use Rattle.dv_defs.specs.Pools.{Method, method_at}
 use Rattle.dv_defs.specs.Order.{instance}
@@ -17,7 +16,7 @@ use Rattle.dv_defs.specs.Op.{Code, code_at, code_of, with_body, can_throw}
 use Rattle.dv_defs.specs.Statics.{At, fetch}
 use Rattle.dv_defs.specs.Flow.{Catcher, Leads, handlers_at, thrown_at, is_exit, caught_state, caught_as}
 use Rattle.dv_defs.specs.Heap.{Heap, kind_type}
-use Rattle.dv_machine.specs.State.{type_of}
+use Rattle.dv_machine.specs.State.{type_of, type_of_kind}
 use Rattle.dv_machine.specs.Unwinding.{catches, caught_frame}
 use Rattle.dv_machine.specs.Conforming.{IsOf, Conform}
 use Rattle.dv_machine.specs.WellTyped.{Typings, own_of, IsPlaced, IsHandled, IsThrowable}
@@ -48,7 +47,7 @@ module _ (image : Image) (T : Typings) (acc : Accepted image T) (heap : Heap) wh
   caught_is o i (Some t) e = record { object = i.object; fits = acc.order.instance_fits _ t (fits_reference image _ (of_class throwable_name) i.fits refl) (subst (λ (x : Ty). instance image x t ≡ true) type e) }
     where
       type : type_of image heap o ≡ kind_type image i.object.kind
-      type = ap (λ (x : Option Kind). elim x [ None ↦ of_class object_name | Some k ↦ kind_type image k ]) i.object.has_kind
+      type = ap (type_of_kind image) i.object.has_kind
 
   module _ (this : Option ℕ) (f : Frame) (method : Method) (has : method_at image f.method.0 ≡ Some method) (s : RegState) (conform : Conform image heap (own_of image this method) f s) (o : ℕ) (thrown : IsThrowable image heap o) where
     -- the frame, once it is in a handler

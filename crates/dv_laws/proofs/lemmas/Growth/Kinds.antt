@@ -19,13 +19,11 @@ use Rattle.dv_defs.specs.declared.typing.RegType.TheVariants as ty
 use Rattle.dv_defs.specs.declared.typing.PendingType.{PendingType}
 use Rattle.dv_defs.specs.declared.typing.PendingType.TheVariants as pend
 use Rattle.dv_defs.specs.declared.typing.RegState.{RegState}
-use Rattle.dv_defs.specs.Names.{object_name}
-use Rattle.dv_defs.specs.Types.{of_class}
 use Rattle.dv_defs.specs.Order.{instance}
 use Rattle.dv_defs.specs.Flow.{Catcher, handlers_at}
 use Rattle.dv_defs.specs.RegTypes.{Types}
-use Rattle.dv_defs.specs.Heap.{Heap, kind_of, kind_type}
-use Rattle.dv_machine.specs.State.{type_of}
+use Rattle.dv_defs.specs.Heap.{Heap, kind_of}
+use Rattle.dv_machine.specs.State.{type_of, type_of_kind}
 use Rattle.dv_machine.specs.Unwinding.{catches, caught_frame, is_opening}
 use Rattle.dv_machine.specs.Conforming.{Own, IsObject, IsThere, IsOf, Fits, IsMade, IsThis, Conforms, IsGood, ResultConforms, CaughtConforms, Conform, RefFine, ResultFine, RefsFine}
 use Rattle.dv_machine.specs.WellTyped.{Typings, IsPlaced, IsHandled, StackFine, FlightFine, ThreadFine, CodeFine}
@@ -33,7 +31,7 @@ use Rattle.dv_machine.specs.Premises.{KeepsKinds}
 
 -- two heaps in which an object is of one kind
 pub same_type : (image : Image) (before after : Heap) (o : ℕ) (k : Kind) → kind_of before o ≡ Some k → kind_of after o ≡ Some k → type_of image before o ≡ type_of image after o
-same_type image before after o k e f = ap (λ (x : Option Kind). elim x [ None ↦ of_class object_name | Some y ↦ kind_type image y ]) (e ∙ sym f)
+same_type image before after o k e f = ap (type_of_kind image) (e ∙ sym f)
 
 abbrev pub Either : Bool → Type 0 → Type 0 → Type 0
 Either b A B = elim b [ true ↦ A | false ↦ B ]

@@ -16,9 +16,8 @@ use Rattle.dv_defs.specs.declared.machine.Level.{Level}
 use Rattle.dv_defs.specs.declared.typing.RegType.{RegType}
 use Rattle.dv_defs.specs.declared.typing.RegType.TheVariants as ty
 use Rattle.dv_defs.specs.declared.typing.RegState.{RegState}
-use Rattle.dv_defs.specs.Names.{object_name}
 use Rattle.dv_defs.specs.Parts.{Call, Suffix}
-use Rattle.dv_defs.specs.Types.{of_class, base_eq, component, is_array, is_base, is_class_base, is_long, is_reference, words_of}
+use Rattle.dv_defs.specs.Types.{base_eq, component, is_array, is_base, is_class_base, is_long, is_reference, words_of}
 use Rattle.dv_defs.specs.Pools.{Method}
 use Rattle.dv_defs.specs.Order.{instance}
 use Rattle.dv_defs.specs.Op.{Code, ArrayGet, Invoke}
@@ -26,8 +25,8 @@ use Rattle.dv_defs.specs.Statics.{At, op_rules, is_of_suffix}
 use Rattle.dv_defs.specs.RegTypes.{Types, type_at, reg_types, single_type}
 use Rattle.dv_defs.specs.Demands.{goes_on, array, int, is_array_of}
 use Rattle.dv_defs.specs.Transfer.{out, going, write_type, write_long, write_for, after_get, object_element}
-use Rattle.dv_defs.specs.Heap.{kind_of, kind_type, cells_at, length_of}
-use Rattle.dv_machine.specs.State.{Thread, Machine, Left, Did, Throws, reg_at, read_array, onward, put_words}
+use Rattle.dv_defs.specs.Heap.{kind_of, cells_at, length_of}
+use Rattle.dv_machine.specs.State.{Thread, Machine, Left, Did, Throws, reg_at, read_array, onward, put_words, type_of_kind}
 use Rattle.dv_machine.specs.Mem.{mem, on_object, on_index, words_at, component_of, get_element}
 use Rattle.dv_machine.specs.Step.{here}
 use Rattle.dv_machine.specs.Conforming.{Conforms}
@@ -84,7 +83,7 @@ module _ (image : Image) (T : Typings) (m : Machine) (t : ℕ) (thread : Thread)
       by_test false e = w
 
   pub component_is : (o : ℕ) (u : Ty) → kind_of m.shared.heap o ≡ Some (kind.Array u) → component_of (here image m t own f rest x.next) o ≡ component u
-  component_is o u e = ap (λ (z : Option Kind). component (elim z as (λ w. Ty) [ None ↦ of_class object_name | Some k ↦ kind_type image k ])) e
+  component_is o u e = ap (λ (z : Option Kind). component (type_of_kind image z)) e
 
   -- the cells of an element
   pub element_conforms : (o : ℕ) (u : Ty) (k : ℕ) → kind_of m.shared.heap (suc o) ≡ Some (kind.Array u) → k < length_of m.shared.heap (suc o) → (j : ℕ) → j < words_of (component u) → Conforms image m.shared.heap nobody (reg_at (cells_at m.shared.heap (suc o)) (k * words_of (component u) + j)) (type_at (reg_types (component u)) j)

@@ -21,7 +21,7 @@ use Rattle.dv_defs.specs.declared.typing.RegType.TheVariants as ty
 use Rattle.dv_defs.specs.declared.typing.PendingType.TheVariants as pend
 use Rattle.dv_defs.specs.declared.typing.RegState.{RegState}
 use Rattle.dv_defs.specs.Parts.{Call, Bin}
-use Rattle.dv_defs.specs.Names.{object_name, string_name, class_name, throwable_name}
+use Rattle.dv_defs.specs.Names.{string_name, class_name, throwable_name}
 use Rattle.dv_defs.specs.Types.{of_class, is_array, is_reference}
 use Rattle.dv_defs.specs.Pools.{Method}
 use Rattle.dv_defs.specs.Order.{instance}
@@ -33,7 +33,7 @@ use Rattle.dv_defs.specs.Demands.{goes_on, demands, made_by, made_at, any_type, 
 use Rattle.dv_defs.specs.Transfer.{out, going, write_type, replaced}
 use Rattle.dv_defs.specs.Flow.{is_exit}
 use Rattle.dv_defs.specs.Heap.{Heap, Got, kind_of, kind_type, newest, alloc_object, alloc_array, intern, class_object, length_of}
-use Rattle.dv_machine.specs.State.{Thread, Machine, ThrowsRef, reading, where_ref, reg_at, truth, type_of, where_true, read_any, tested, any_kind, onward}
+use Rattle.dv_machine.specs.State.{Thread, Machine, ThrowsRef, reading, where_ref, reg_at, truth, type_of, where_true, read_any, tested, any_kind, onward, type_of_kind}
 use Rattle.dv_machine.specs.Mem.{mem, on_object, is_zero_number, is_instance, put_object, got, new_array}
 use Rattle.dv_machine.specs.Step.{here}
 use Rattle.dv_machine.specs.Calls.{object_of}
@@ -196,7 +196,7 @@ module _ (image : Image) (T : Typings) (m : Machine) (t : ℕ) (thread : Thread)
 
       instance_fits : (o : ℕ) → IsThere image m.shared.heap (suc o) → instance image (type_of image m.shared.heap (suc o)) u ≡ true → Fits image m.shared.heap (suc o) u
       instance_fits o i q =
-          let same : type_of image m.shared.heap (suc o) ≡ kind_type image i.kind = ap (λ (z : Option Kind). elim z as (λ w. Ty) [ None ↦ of_class object_name | Some k ↦ kind_type image k ]) i.has_kind in
+          let same : type_of image m.shared.heap (suc o) ≡ kind_type image i.kind = ap (type_of_kind image) i.has_kind in
           let r = subst (λ (z : Ty). instance image z u ≡ true) same q in
           record { object = i; fits = h.may.accepted.order.instance_fits (kind_type image i.kind) u (instance_reference image (kind_type image i.kind) u r reference) r }
 

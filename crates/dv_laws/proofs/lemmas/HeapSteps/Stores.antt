@@ -1,20 +1,18 @@
 -- Steps that write an array's elements, and those that fill an array, are fine.
-use Rattle.std.proofs.Common.{◌≡◌, ℕ, zero, suc, ◌+◌, ◌*◌, ◌<◌, List, [], ◌∷◌, length, Bool, true, false, Option, Some, None, refl, sym, ap, subst, arith}
+use Rattle.std.proofs.Common.{◌≡◌, ℕ, zero, suc, ◌+◌, ◌*◌, ◌<◌, List, [], ◌∷◌, length, Bool, true, false, Some, None, refl, sym, ap, subst, arith}
 use Rattle.std.specs.Prelude.{Ok}
 use Rattle.dv_defs.specs.declared.names.Ty.{Ty}
 use Rattle.dv_defs.specs.declared.image.Image.{Image}
 use Rattle.dv_defs.specs.declared.run.Value.{Value}
 use Rattle.dv_defs.specs.declared.run.Value.TheVariants as v
-use Rattle.dv_defs.specs.declared.machine.Kind.{Kind}
 use Rattle.dv_defs.specs.declared.machine.Kind.TheVariants as kind
 use Rattle.dv_defs.specs.declared.machine.Frame.{Frame}
 use Rattle.dv_defs.specs.declared.machine.Level.{Level}
 use Rattle.dv_defs.specs.declared.typing.RegType.{RegType}
 use Rattle.dv_defs.specs.declared.typing.RegType.TheVariants as ty
 use Rattle.dv_defs.specs.declared.typing.RegState.{RegState}
-use Rattle.dv_defs.specs.Names.{object_name}
 use Rattle.dv_defs.specs.Parts.{Call, Suffix}
-use Rattle.dv_defs.specs.Types.{of_class, component, is_long, is_reference, words_of}
+use Rattle.dv_defs.specs.Types.{component, is_long, is_reference, words_of}
 use Rattle.dv_defs.specs.Pools.{Method}
 use Rattle.dv_defs.specs.Order.{instance}
 use Rattle.dv_defs.specs.Op.{Code, Invoke}
@@ -23,7 +21,7 @@ use Rattle.dv_defs.specs.RegTypes.{Types, type_at, reg_types, single_type}
 use Rattle.dv_defs.specs.Demands.{goes_on, int, put_for, is_int, is_ref}
 use Rattle.dv_defs.specs.Transfer.{out, going}
 use Rattle.dv_defs.specs.Heap.{Heap, kind_of, kind_type, length_of}
-use Rattle.dv_machine.specs.State.{Thread, Machine, on_next, reg_at, read_int, onward, gone, type_of, with_heap}
+use Rattle.dv_machine.specs.State.{Thread, Machine, on_next, reg_at, read_int, onward, gone, type_of, with_heap, type_of_kind}
 use Rattle.dv_machine.specs.Mem.{component_of, narrowed_all, stored, read_put, is_storable}
 use Rattle.dv_machine.specs.Step.{here}
 use Rattle.dv_machine.specs.Conforming.{Own, Conforms, IsThere}
@@ -127,7 +125,7 @@ module _ (image : Image) (T : Typings) (m : Machine) (t : ℕ) (thread : Thread)
     storable (v.Ref zero) r i q = tt
     storable (v.Ref (suc p)) r i q =
         let was = subst (λ (c : Ty). instance image (type_of image m.shared.heap (suc p)) c ≡ true) (component_is image T m t thread own f rest x s h code rules apart (suc o) u e) q in
-        let type : type_of image m.shared.heap (suc p) ≡ kind_type image i.kind = ap (λ (z : Option Kind). elim z as (λ w. Ty) [ None ↦ of_class object_name | Some k ↦ kind_type image k ]) i.has_kind in
+        let type : type_of image m.shared.heap (suc p) ≡ kind_type image i.kind = ap (type_of_kind image) i.has_kind in
         let is = subst (λ (z : Ty). instance image z (component u) ≡ true) type was in
         record { object = i; fits = h.may.accepted.order.instance_fits (kind_type image i.kind) (component u) (instance_reference image (kind_type image i.kind) (component u) is r) is }
     storable y r i q = absurd i

@@ -33,7 +33,7 @@ use Rattle.dv_machine.specs.Mem.{on_object}
 use Rattle.dv_machine.specs.Texts.{text_of}
 use Rattle.dv_machine.specs.Calls.{signature, string_type, native_of, native_among, all_natives, is_signed, class_of_kind}
 use Rattle.dv_machine.specs.Threads.{own_object, goes, stays, thread_with, is_living, join_on, holding, taken_back, notify_on, notify_all_on, run_method, new_thread, started_on, holding_it, join_with, object_of_thread, wait_step, start_unless}
-use Rattle.dv_machine.specs.Natives.{arg, number_of, object_number, gives, gives_object, new_text, char_at, units_in, some_chars, printed, native_step}
+use Rattle.dv_machine.specs.Natives.{arg, number_of, object_number, gives, gives_object, new_text, char_at, units_in, some_chars, printed, native_step, gives_char}
 use Rattle.dv_machine.specs.Step.{here}
 use Rattle.dv_machine.specs.Conforming.{Own, IsOf, ResultConforms, ResultFine, IsGood, Conforms}
 use Rattle.dv_machine.specs.WellTyped.{Typings, IsWaiting, WaitFine, MonitorsFine, records}
@@ -147,7 +147,7 @@ module _ (image : Image) (T : Typings) (m : Machine) (t : ℕ) (thread : Thread)
   char_fine xs q u (negsuc n) = native_throws image T m t thread own f rest x s h c ks g e k native.CharAt xs q (λ i. absurd (cc))
   char_fine xs q u (pos n) = by_place (slice_get u n)
     where
-      by_place : (o : Option ℕ) → Does (elim o as (λ w. Did Left) [ None ↦ Throws named.IndexOutOfBounds | Some d ↦ gives here_it (v.Num (pos d)) ])
+      by_place : (o : Option ℕ) → Does (gives_char here_it o)
       by_place None = native_throws image T m t thread own f rest x s h c ks g e k native.CharAt xs q (λ i. absurd (cc))
       by_place (Some d) = gives_fine native.CharAt xs q (λ i. absurd (cc)) (v.Num (pos d)) (λ o. tt) tt
 

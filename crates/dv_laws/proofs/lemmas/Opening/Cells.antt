@@ -1,6 +1,6 @@
 -- The first cells of static fields fit.
 use Rattle.std.proofs.Common.{◌≡◌, ℕ, zero, suc, ◌+◌, ◌<◌, List, [], ◌∷◌, length, Bool, true, false, ◌&&◌, ◌||◌, Option, Some, None, refl, sym, ap, ◌∙◌, subst, arith}
-use Rattle.std.specs.Prelude.{ℤ, pos, negsuc, slice_get, slice_index_or, nat_eq, nat_lt}
+use Rattle.std.specs.Prelude.{ℤ, pos, negsuc, slice_get, slice_index_or, nat_eq, nat_lt, if◌then◌else◌}
 use Rattle.std.proofs.lemmas.Bool.{and_parts, eqb-true}
 use Rattle.std.proofs.lemmas.Option.{slice_get_within}
 use Rattle.dv_defs.specs.declared.names.Base.{Base}
@@ -22,7 +22,7 @@ use Rattle.dv_defs.specs.RegTypes.{Types, type_at, reg_types, single_type}
 use Rattle.dv_defs.specs.Heap.{Heap, Cells}
 use Rattle.dv_defs.specs.Numbers.{lo_of, hi_of}
 use Rattle.dv_machine.specs.Local.{const_value}
-use Rattle.dv_machine.specs.Opening.{number_cells, first_cells, field_cells}
+use Rattle.dv_machine.specs.Opening.{number_cells, first_cells, field_cells, cells_of}
 use Rattle.dv_machine.specs.Conforming.{Conforms}
 use Rattle.dv_machine.specs.WellTyped.{nobody, CellsFit}
 use Rattle.dv_laws.proofs.lemmas.Common.Facts.{no, zero_plus, plus_suc}
@@ -66,7 +66,7 @@ number_fit image heap t n r = go (is_long t)
     single : single_type t ≡ ty.Int
     single = ap (λ (b : Bool). elim b as (λ x. RegType) [ true ↦ ty.Class t | false ↦ ty.Int ]) r
 
-    go : (b : Bool) → CellsFit image heap (elim b as (λ x. Cells) [ true ↦ v.Lo (lo_of n) ∷ v.Hi (hi_of n) ∷ [] | false ↦ const_value n ∷ [] ]) (elim b as (λ x. Types) [ true ↦ ty.LongLo ∷ ty.LongHi ∷ [] | false ↦ single_type t ∷ [] ])
+    go : (b : Bool) → CellsFit image heap (if b then v.Lo (lo_of n) ∷ v.Hi (hi_of n) ∷ [] else const_value n ∷ []) (elim b as (λ x. Types) [ true ↦ ty.LongLo ∷ ty.LongHi ∷ [] | false ↦ single_type t ∷ [] ])
     go true = record { count = refl; each = λ k. long k _ _ }
     go false = record { count = refl; each = subst (λ (u : RegType). (k : ℕ) → Conforms image heap nobody (slice_index_or (const_value n ∷ []) k v.Undef) (type_at (u ∷ []) k)) (sym single) short }
 
@@ -86,7 +86,7 @@ field_within image x f e = go (slice_get image.fields x) refl e
     go (Some i) g e = slice_get_within image.fields x i g
 
 abbrev pub cells_of_field : Image → ℕ → Cells
-cells_of_field image k = elim (field_at image k) [ None ↦ [] | Some x ↦ first_cells x.def ]
+cells_of_field image k = cells_of (field_at image k)
 
 pub field_cells_at : (image : Image) (is : List FieldInfo) (k x : ℕ) → x < length is → slice_index_or (field_cells image is k) x [] ≡ cells_of_field image (x + k)
 field_cells_at image [] k x l = absurd (omega arith)

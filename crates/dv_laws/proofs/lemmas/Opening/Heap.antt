@@ -1,7 +1,7 @@
 -- The heap in which a run begins is in order.
 use Rattle.std.proofs.Common.{◌≡◌, ◌⊎◌, inl, inr, ℕ, zero, suc, List, [], ◌∷◌, Bool, true, false, not, Option, Some, None, refl, sym, ap, ◌∙◌, subst, arith}
 use Rattle.std.specs.Option.{unwrap_or}
-use Rattle.std.specs.Prelude.{slice_index_or, bytes_eq, codes, nat_eq}
+use Rattle.std.specs.Prelude.{slice_index_or, bytes_eq, codes, nat_eq, if◌then◌else◌}
 use Rattle.std.proofs.lemmas.Bool.{and_parts, or_cases, eqb-true}
 use Rattle.std.proofs.lemmas.List.Elements.{All-nil}
 use Rattle.dv_defs.specs.declared.names.Base.{Base}
@@ -22,9 +22,9 @@ use Rattle.dv_defs.specs.Types.{of_class, is_reference, is_class, base_is_named,
 use Rattle.dv_defs.specs.Pools.{Method, Field, field_at, is_static_field, name_at}
 use Rattle.dv_defs.specs.Order.{fits}
 use Rattle.dv_defs.specs.RegTypes.{type_at, reg_types}
-use Rattle.dv_defs.specs.Heap.{Heap, Cells, Got, kind_of, class_cells, fresh_cells, newest, intern, with_static}
+use Rattle.dv_defs.specs.Heap.{Heap, Got, kind_of, class_cells, fresh_cells, newest, intern, with_static}
 use Rattle.dv_machine.specs.Unwinding.{number_named}
-use Rattle.dv_machine.specs.Opening.{made, object_made, first_cells, field_cells, string_of, interned_here, with_string, with_strings, is_out, with_out, empty_heap, takes_array, array_made, counted_from, opening_heap}
+use Rattle.dv_machine.specs.Opening.{made, object_made, first_cells, field_cells, string_of, interned_here, with_string, with_strings, is_out, with_out, empty_heap, takes_array, array_made, counted_from, opening_heap, with_out_of, with_string_of, cells_of}
 use Rattle.dv_machine.specs.Conforming.{IsOf, Fits, Conforms, is_string_or_class}
 use Rattle.dv_machine.specs.WellTyped.{Typings, nobody, element_types, CellsFit, HeapFine}
 use Rattle.dv_machine.specs.Accepted.{Accepted, IsNamed}
@@ -77,7 +77,7 @@ module _ (image : Image) (T : Typings) (acc : Accepted image T) where
     where
       statics : (x : ℕ) (f : Field) → field_at image x ≡ Some f → is_static_field f ≡ true → CellsFit image (empty_heap image) (slice_index_or (field_cells image image.fields 0) x []) (reg_types f.def.ty)
       statics x f e s =
-          let same : first_cells f.def ≡ slice_index_or (field_cells image image.fields 0) x [] = sym (field_cells_at image image.fields 0 x (field_within image x f e) ∙ ap (cells_of_field image) (plus_zero x) ∙ ap (λ (o : Option Field). elim o as (λ y. Cells) [ None ↦ [] | Some y ↦ first_cells y.def ]) e) in
+          let same : first_cells f.def ≡ slice_index_or (field_cells image image.fields 0) x [] = sym (field_cells_at image image.fields 0 x (field_within image x f e) ∙ ap (cells_of_field image) (plus_zero x) ∙ ap cells_of e) in
           fit_same image (empty_heap image) _ _ _ _ same refl (first_fit image (empty_heap image) f.def.name f.def.ty f.def.flags f.def.init (acc.inits.inits x f e) s)
 
   object_added : (h : Heap) (name : List ℕ) → HeapFine image h → IsAdded image h (object_made image h name) (newest (object_made image h name)) (kind.Object (record { 0 = number_named image name }))
@@ -106,11 +106,11 @@ module _ (image : Image) (T : Typings) (acc : Accepted image T) where
   out_opened [] k h o = o
   out_opened (i ∷ is) k h o = out_opened is (suc k) _ (step (field_at image k) refl)
     where
-      test : (x : Field) (b : Bool) → field_at image k ≡ Some x → is_out image x ≡ b → IsOpened image (elim b as (λ y. Heap) [ true ↦ with_static h k 0 (v.Ref 1) | false ↦ h ])
+      test : (x : Field) (b : Bool) → field_at image k ≡ Some x → is_out image x ≡ b → IsOpened image (if b then with_static h k 0 (v.Ref 1) else h)
       test x true e t = out_put h k x o e t
       test x false e t = o
 
-      step : (y : Option Field) → field_at image k ≡ y → IsOpened image (elim y as (λ z. Heap) [ None ↦ h | Some x ↦ elim (is_out image x) as (λ z. Heap) [ true ↦ with_static h k 0 (v.Ref 1) | false ↦ h ] ])
+      step : (y : Option Field) → field_at image k ≡ y → IsOpened image (with_out_of image h k y)
       step None e = o
       step (Some x) e = test x (is_out image x) e refl
 
@@ -160,7 +160,7 @@ module _ (image : Image) (T : Typings) (acc : Accepted image T) where
       by_value x (init.Str s) e m = string_put h k x s o e m (intern h s) refl
       by_value x init.Null e m = o
 
-      step : (y : Option Field) → field_at image k ≡ y → IsOpened image (elim y as (λ z. Heap) [ None ↦ h | Some x ↦ with_string h k (string_of x.def.init) ])
+      step : (y : Option Field) → field_at image k ≡ y → IsOpened image (with_string_of h k y)
       step None e = o
       step (Some x) e = by_value x x.def.init e (acc.inits.inits k x e)
 
@@ -178,7 +178,7 @@ module _ (image : Image) (T : Typings) (acc : Accepted image T) where
   array_opened : (m : Method) (h : Heap) → IsOpened image h → IsOpened image (array_made m h) × (takes_array m ≡ true → kind_of (array_made m h) (newest (array_made m h)) ≡ Some (kind.Array strings_type))
   array_opened m h o = go (takes_array m)
     where
-      go : (b : Bool) → IsOpened image (elim b as (λ y. Heap) [ true ↦ made h (kind.Array strings_type) [] | false ↦ h ]) × (b ≡ true → kind_of (elim b as (λ y. Heap) [ true ↦ made h (kind.Array strings_type) [] | false ↦ h ]) (newest (elim b as (λ y. Heap) [ true ↦ made h (kind.Array strings_type) [] | false ↦ h ])) ≡ Some (kind.Array strings_type))
+      go : (b : Bool) → IsOpened image (if b then made h (kind.Array strings_type) [] else h) × (b ≡ true → kind_of (if b then made h (kind.Array strings_type) [] else h) (newest (if b then made h (kind.Array strings_type) [] else h)) ≡ Some (kind.Array strings_type))
       go true = let a = array_added h o.fine in (opened_more image h _ o a.keeps a.fine, λ e. a.made)
       go false = (o, λ e. no e)
 

@@ -1,6 +1,6 @@
 -- The state in which a run begins is well typed.
 use Rattle.std.proofs.Common.{◌≡◌, ◌⊎◌, inl, inr, ℕ, zero, suc, ◌+◌, ◌<◌, ◌≤◌, List, [], ◌∷◌, length, Bool, true, false, Option, Some, None, refl, sym, ap, ◌∙◌, subst, arith}
-use Rattle.std.specs.Prelude.{slice_get, All, bytes_eq}
+use Rattle.std.specs.Prelude.{slice_get, All, bytes_eq, if◌then◌else◌}
 use Rattle.std.proofs.lemmas.Bool.{eq-eqb}
 use Rattle.std.proofs.lemmas.List.{length-set}
 use Rattle.std.proofs.lemmas.List.Elements.{All-nil, All-cons}
@@ -27,7 +27,7 @@ use Rattle.dv_defs.specs.Classes.{ClassState, Fresh, InProgress, Ready, state_at
 use Rattle.dv_machine.specs.State.{Thread}
 use Rattle.dv_machine.specs.Calls.{entered_frame}
 use Rattle.dv_machine.specs.Unwinding.{is_opening, is_method_of}
-use Rattle.dv_machine.specs.Opening.{takes_array, main_args, is_born, first_states, opening_levels, opening_states, opened, opening_heap}
+use Rattle.dv_machine.specs.Opening.{takes_array, main_args, is_born, first_states, opening_levels, opening_states, opened, opening_heap, is_filled}
 use Rattle.dv_machine.specs.Conforming.{IsOf, IsGood, RefFine, RefsFine}
 use Rattle.dv_machine.specs.WellTyped.{Typings, own_of, IsNoInitialiser, StackFine, ThreadFine, records, owed, levels_in, WellTyped}
 use Rattle.dv_machine.specs.Accepted.{Accepted}
@@ -55,7 +55,7 @@ first_count image [] k = refl
 first_count image (c ∷ cs) k = ap suc (first_count image cs (suc k))
 
 abbrev by_birth : Bool → ClassState
-by_birth b = elim b [ true ↦ Ready | false ↦ Fresh ]
+by_birth b = if b then Ready else Fresh
 
 -- nobody initialises a class yet
 first_idle : (image : Image) (cs : List ClassInfo) (k c u : ℕ) → owed u (state_at (first_states image cs k) c) ≡ 0
@@ -125,12 +125,12 @@ module _ (image : Image) (T : Typings) (acc : Accepted image T) (m : Method) (l 
   args_fine : ArgsFine image (opening_heap image m l) m is.code.body (main_args m (opening_heap image m l))
   args_fine = go is.form
     where
-      by_taking : (b : Bool) → takes_array m ≡ b → ArgsFine image (opening_heap image m l) m is.code.body (elim b as (λ x. List Value) [ true ↦ v.Ref (newest (opening_heap image m l)) ∷ [] | false ↦ [] ]) → ArgsFine image (opening_heap image m l) m is.code.body (main_args m (opening_heap image m l))
-      by_taking b e a = subst (λ (x : Bool). ArgsFine image (opening_heap image m l) m is.code.body (elim x as (λ y. List Value) [ true ↦ v.Ref (newest (opening_heap image m l)) ∷ [] | false ↦ [] ])) (sym e) a
+      by_taking : (b : Bool) → takes_array m ≡ b → ArgsFine image (opening_heap image m l) m is.code.body (if b then v.Ref (newest (opening_heap image m l)) ∷ [] else []) → ArgsFine image (opening_heap image m l) m is.code.body (main_args m (opening_heap image m l))
+      by_taking b e a = subst (λ (x : Bool). ArgsFine image (opening_heap image m l) m is.code.body (if x then v.Ref (newest (opening_heap image m l)) ∷ [] else [])) (sym e) a
 
       go : (m.def.proto.params ≡ []) ⊎ (m.def.proto.params ≡ record { dims = 1; base = (of_class string_name).base } ∷ []) → ArgsFine image (opening_heap image m l) m is.code.body (main_args m (opening_heap image m l))
-      go (inl e) = by_taking false (ap (λ (ps : List Ty). elim ps as (λ x. Bool) [ [] ↦ false | p ∷ qs ↦ true ]) e) (args_none e)
-      go (inr e) = let t = ap (λ (ps : List Ty). elim ps as (λ x. Bool) [ [] ↦ false | p ∷ qs ↦ true ]) e in by_taking true t (args_one e ((heap_opened image T acc m l).1 t))
+      go (inl e) = by_taking false (ap is_filled e) (args_none e)
+      go (inr e) = let t = ap is_filled e in by_taking true t (args_one e ((heap_opened image T acc m l).1 t))
 
   -- ---- the thread
 

@@ -1,6 +1,6 @@
 -- Records of classes on a stack, and the states of classes that they agree with.
 use Rattle.std.proofs.Common.{◌≡◌, ◌≢◌, ◌⊎◌, inl, inr, ℕ, zero, suc, ◌+◌, ◌<◌, ◌≤◌, List, [], ◌∷◌, length, Bool, true, false, refl, sym, ap, ◌∙◌, subst, arith}
-use Rattle.std.specs.Prelude.{nat_eq}
+use Rattle.std.specs.Prelude.{nat_eq, if◌then◌else◌}
 use Rattle.std.proofs.lemmas.Bool.{cases_eq, eq-eqb, ne_eqb}
 use Rattle.std.proofs.lemmas.List.{get_or-set_same, get_or-set_other}
 use Rattle.dv_defs.specs.declared.image.Image.{Image}
@@ -12,7 +12,7 @@ use Rattle.dv_machine.specs.WellTyped.{records, owed}
 use Rattle.dv_laws.proofs.lemmas.Common.Facts.{no}
 
 abbrev one_if : Bool → ℕ
-one_if b = elim b [ true ↦ 1 | false ↦ 0 ]
+one_if b = if b then 1 else 0
 
 -- a state in which nobody initialises
 abbrev pub IsIdle : ClassState → Type 0

@@ -1,6 +1,6 @@
 -- The object on which a constructor was called is of a class that has constructors.
 use Rattle.std.proofs.Common.{◌≡◌, ℕ, zero, suc, List, [], ◌∷◌, Bool, true, false, Option, Some, None, refl, sym, ap, ◌∙◌, subst}
-use Rattle.std.specs.Prelude.{All, not}
+use Rattle.std.specs.Prelude.{All, not, if◌then◌else◌}
 use Rattle.dv_defs.specs.declared.names.Ty.{Ty}
 use Rattle.dv_defs.specs.declared.image.Image.{Image}
 use Rattle.dv_defs.specs.declared.run.Value.{Value}
@@ -94,7 +94,7 @@ module _ (image : Image) (T : Typings) (a : Accepted image T) (heap : Heap) wher
   called_proper : (this : Option ℕ) (m : Method) (f : Frame) (s : RegState) → Conform image heap (own_of image this m) f s → ((o : ℕ) → this ≡ Some o → IsProperAt image heap o) → (op : Op) (next : ℕ) → demands image m op s ≡ None → ((c : Call) (ks : List ℕ) (g : Method) → op ≡ Invoke c ks g → (n : ℕ) × (method_at image n ≡ Some g)) → (o : ℕ) → called_on f (Some (record { op = op; next = next })) ≡ Some o → IsProperAt image heap o
   called_proper this m f s h below (Invoke c (k ∷ ks) g) next d named o = by_test (is_constructor g) refl
     where
-      by_test : (b : Bool) → is_constructor g ≡ b → (elim b as (λ w. Option ℕ) [ true ↦ object_of (reg_at f.regs k) | false ↦ None ]) ≡ Some o → IsProperAt image heap o
+      by_test : (b : Bool) → is_constructor g ≡ b → (if b then object_of (reg_at f.regs k) else None) ≡ Some o → IsProperAt image heap o
       by_test true e q =
           let there = named c (k ∷ ks) g refl in
           receiver_proper this m there.0 g there.1 e below (reg_at f.regs k) (type_at s.regs k) (h.good.regs k) (receiver_demanded image m s c k ks g e d) o q

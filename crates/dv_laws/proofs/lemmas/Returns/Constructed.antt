@@ -20,7 +20,7 @@ use Rattle.dv_defs.specs.Transfer as after
 use Rattle.dv_defs.specs.Transfer.{out, pending_of, after_constructor, after_invoke, class_or_conflict, replaced, first_of}
 use Rattle.dv_defs.specs.Heap.{Heap}
 use Rattle.dv_machine.specs.State.{reg_at, with_result}
-use Rattle.dv_machine.specs.Calls.{receiver_of, constructed, returned, initialised, object_of}
+use Rattle.dv_machine.specs.Calls.{receiver_of, constructed, returned, initialised, object_of, constructed_at}
 use Rattle.dv_machine.specs.Conforming.{Own, Conforms, IsGood, ResultConforms, Conform}
 use Rattle.dv_machine.specs.WellTyped.{own_of}
 use Rattle.dv_laws.specs.Returning.{IsBuilt, ReturnedConforms}
@@ -75,7 +75,7 @@ module _ (image : Image) (heap : Heap) (this : Option ℕ) (m : Method) (f : Fra
       let there : receiver_of (Invoke c (k ∷ ks) g) ≡ Some k = ap (λ z. (if z then None else Some k)) (not_static g e) in
       let known : Conform image heap (own_of image this m) (constructed f next p (reg_at f.regs k)) (after.with_pending (after_constructor image m s (type_at s.regs k)) (pending_of g.def.proto.ret)) = constructed_conforms image heap this m f s h g k next p r _ _ refl refl (h.good.regs k) (receiver_demanded image m s c k ks g e d) (i refl k there) in
       let stated = subst (λ z. Conform image heap (own_of image this m) (constructed f next p (reg_at f.regs k)) (elim z as (λ w. RegState) [ true ↦ after.with_pending (after_constructor image m s (type_at s.regs k)) (pending_of g.def.proto.ret) | false ↦ after.with_pending s (pending_of g.def.proto.ret) ])) (sym e) known in
-      subst (λ z. Conform image heap (own_of image this m) (elim z as (λ w. Frame) [ None ↦ with_result f next p | Some j ↦ constructed f next p (reg_at f.regs j) ]) (after_invoke image m s (k ∷ ks) g)) (sym there) stated
+      subst (λ z. Conform image heap (own_of image this m) (constructed_at f next p z) (after_invoke image m s (k ∷ ks) g)) (sym there) stated
 
 pub returned_conforms : ReturnedConforms
 returned_conforms image heap this m f s x p b = at_op x.op b.is_invoke b.demand b.built

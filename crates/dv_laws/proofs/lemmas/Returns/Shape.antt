@@ -11,8 +11,8 @@ use Rattle.dv_defs.specs.declared.machine.Frame.{Frame}
 use Rattle.dv_defs.specs.declared.machine.Level.TheVariants as level
 use Rattle.dv_defs.specs.Statics.{At}
 use Rattle.dv_defs.specs.Heap.{Heap}
-use Rattle.dv_machine.specs.State.{reg_at, with_result}
-use Rattle.dv_machine.specs.Calls.{initialised, initialised_in, object_of, constructed, receiver_of, returned}
+use Rattle.dv_machine.specs.State.{reg_at}
+use Rattle.dv_machine.specs.Calls.{initialised, initialised_in, object_of, receiver_of, returned, constructed_at}
 use Rattle.dv_machine.specs.Conforming.{RefFine, ResultFine, RefsFine, IsThere}
 use Rattle.std.proofs.lemmas.Bool.{eqb-true}
 
@@ -20,7 +20,7 @@ pub returned_method : (b : Bool) (g : Frame) (x : At) (p : Pending) → (returne
 returned_method false g x p = refl
 returned_method true g x p = by_receiver (receiver_of x.op)
   where
-    by_receiver : (o : Option ℕ) → (elim o as (λ w. Frame) [ None ↦ with_result g x.next p | Some k ↦ constructed g x.next p (reg_at g.regs k) ]).method ≡ g.method
+    by_receiver : (o : Option ℕ) → (constructed_at g x.next p o).method ≡ g.method
     by_receiver None = refl
     by_receiver (Some k) = refl
 
@@ -28,7 +28,7 @@ pub returned_at : (b : Bool) (g : Frame) (x : At) (p : Pending) → (returned b 
 returned_at false g x p = refl
 returned_at true g x p = by_receiver (receiver_of x.op)
   where
-    by_receiver : (o : Option ℕ) → (elim o as (λ w. Frame) [ None ↦ with_result g x.next p | Some k ↦ constructed g x.next p (reg_at g.regs k) ]).at ≡ x.next
+    by_receiver : (o : Option ℕ) → (constructed_at g x.next p o).at ≡ x.next
     by_receiver None = refl
     by_receiver (Some k) = refl
 
@@ -40,7 +40,7 @@ pub returned_count : (b : Bool) (g : Frame) (x : At) (p : Pending) → length (r
 returned_count false g x p = refl
 returned_count true g x p = by_receiver (receiver_of x.op)
   where
-    by_receiver : (o : Option ℕ) → length (elim o as (λ w. Frame) [ None ↦ with_result g x.next p | Some k ↦ constructed g x.next p (reg_at g.regs k) ]).regs ≡ length g.regs
+    by_receiver : (o : Option ℕ) → length (constructed_at g x.next p o).regs ≡ length g.regs
     by_receiver None = refl
     by_receiver (Some k) = same_count (reg_at g.regs k) (object_of (reg_at g.regs k)) g.regs
 
@@ -75,6 +75,6 @@ module _ (image : Image) (heap : Heap) where
   returned_refs false g x p h a r = (a, r, tt)
   returned_refs true g x p h a r = by_receiver (receiver_of x.op) (h refl)
     where
-      by_receiver : (o : Option ℕ) → ((k : ℕ) → o ≡ Some k → IsObjectThere (object_of (reg_at g.regs k))) → RefsFine image heap (level.Code (elim o as (λ w. Frame) [ None ↦ with_result g x.next p | Some k ↦ constructed g x.next p (reg_at g.regs k) ]))
+      by_receiver : (o : Option ℕ) → ((k : ℕ) → o ≡ Some k → IsObjectThere (object_of (reg_at g.regs k))) → RefsFine image heap (level.Code (constructed_at g x.next p o))
       by_receiver None n = (a, r, tt)
       by_receiver (Some k) n = (in_fine (reg_at g.regs k) (object_of (reg_at g.regs k)) (n k refl) g.regs a, r, tt)

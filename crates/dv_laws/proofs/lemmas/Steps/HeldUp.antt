@@ -27,7 +27,7 @@ use Rattle.dv_defs.specs.Monitors.{Wait, owner_of, wait_of, entered}
 use Rattle.dv_defs.specs.Classes.{ask_of}
 use Rattle.dv_machine.specs.State.{Thread, Machine, Left, Did, Go, IsStuck, Reads, Here, reading, reg_at, any_kind, fits_kind, tested, where_ref, read_any, read_args, with_monitors}
 use Rattle.dv_machine.specs.Mem.{on_object}
-use Rattle.dv_machine.specs.Calls.{unless_abstract, Landing, Lands, Lacks, dispatch, native_of, receiver_of, landed, enter, invoke, with_receiver, call_instance, call_constructor, call_object, read_super}
+use Rattle.dv_machine.specs.Calls.{unless_abstract, Landing, Lands, Lacks, dispatch, native_of, receiver_of, landed, invoke, with_receiver, call_instance, call_constructor, call_object, read_super, landed_on}
 use Rattle.dv_machine.specs.Threads.{thread_with, is_living, free_or_mine, monitor_enter, stays, goes, taken_back, wait_step, join_with}
 use Rattle.dv_machine.specs.Natives.{native_step}
 use Rattle.dv_machine.specs.Step.{step_of, step_thread, step_living, step_code, step_at, settled, gone_on, here, no_method, no_frame, act, with_ready, for_class, look_at, prior}
@@ -124,7 +124,7 @@ module _ (image : Image) (m : Machine) (t : ℕ) (thread : Thread) (has : slice_
         by_end true e = it_stays
         by_end false e = absurd (cc)
 
-    native_waits : (o : ℕ) (b : Blocked) (n : Option Native) (xs : List Value) (k : Method) → blocked_native m t o n ≡ Some b → At_Stays (elim n as (λ w. Did Left) [ Some n ↦ native_step here_it n (v.Ref o ∷ xs) | None ↦ enter here_it k (v.Ref o ∷ xs) false ])
+    native_waits : (o : ℕ) (b : Blocked) (n : Option Native) (xs : List Value) (k : Method) → blocked_native m t o n ≡ Some b → At_Stays (landed_on here_it (native_step here_it) k (v.Ref o ∷ xs) n)
     native_waits o b (Some native.Wait) xs k e = wait_waits o b (wait_of m.shared.monitors t) e
     native_waits o b (Some native.Join) xs k e = join_waits b (thread_with m.threads o) e
     native_waits o b n xs k e = absurd (cc)
