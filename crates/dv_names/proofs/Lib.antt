@@ -9,3 +9,4 @@ pub mod Surrogates
 pub mod Fronts
 pub mod Places
 pub mod RoundTrip
+pub mod Texts

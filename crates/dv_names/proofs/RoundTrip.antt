@@ -9,18 +9,18 @@ use Rattle.std.specs.Char.Utf16.{utf16_chars, is_high_surrogate, is_low_surrogat
 use Rattle.std.proofs.str.Utf16.{IsPair}
 use Rattle.std.proofs.lemmas.Bool.{cond-true, cond-false, and_parts, and_from, and_left, and_right, or_parts, le-leb, lt-leb, le-ltb, lt-ltb, leb-true, ltb-true, cases_lt, cases_Bool}
 use Rattle.std.proofs.lemmas.Str.{utf16_chars_lone, utf16_chars_pair, encodes-chars, scalars-chars, chars-encodes}
-use Rattle.dv_names.specs.Units.{or_mark, pair_char, lone_char, spelled, text_of, units_of}
-use Rattle.dv_names.proofs.Surrogates.{spelled_pair, spelled_alone, spelled_last, spelled_none}
+use Rattle.dv_names.specs.Units.{units_of}
+use Rattle.dv_names.proofs.Surrogates.{or_mark, pair_char, lone_char, spelled, text_of, spelled_pair, spelled_alone, spelled_last, spelled_none}
 
 -- ---- units without pairs
 
-lone_low : (u : ℕ) → u < 0xD800 → lone_unit_char u ≡ Some u
+pub lone_low : (u : ℕ) → u < 0xD800 → lone_unit_char u ≡ Some u
 lone_low u lt = cond-false (leb 0xD800 u && ltb u 0xE000) None (Some u) (and_left (leb 0xD800 u) (ltb u 0xE000) (lt-leb 0xD800 u lt))
 
-lone_high : (u : ℕ) → 0xE000 ≤ u → lone_unit_char u ≡ Some u
+pub lone_high : (u : ℕ) → 0xE000 ≤ u → lone_unit_char u ≡ Some u
 lone_high u le = cond-false (leb 0xD800 u && ltb u 0xE000) None (Some u) (and_right (leb 0xD800 u) (ltb u 0xE000) (le-ltb u 0xE000 le))
 
-lone_surrogate : (u : ℕ) → 0xD800 ≤ u → u < 0xE000 → lone_unit_char u ≡ None
+pub lone_surrogate : (u : ℕ) → 0xD800 ≤ u → u < 0xE000 → lone_unit_char u ≡ None
 lone_surrogate u le lt = cond-true (leb 0xD800 u && ltb u 0xE000) None (Some u) (and_from (leb 0xD800 u) (ltb u 0xE000) (le-leb 0xD800 u le) (lt-ltb u 0xE000 lt))
 
 one_unit : (c : ℕ) → c < 0x1_0000 → encode_utf16 c ≡ c ∷ []

@@ -1,9 +1,29 @@
 -- Units of UTF-16, one character after another.
-use Rattle.std.proofs.Common.{◌≡◌, ℕ, ◌+◌, ◌<◌, ◌≤◌, Bool, true, false, cond, List, [], ◌∷◌, ◌++◌, map, length, get_or, drop, Option, Some, None, ◌⊎◌, inl, inr, refl, sym, ap, ◌∙◌, arith}
+use Rattle.std.proofs.Common.{◌≡◌, ℕ, ◌+◌, ◌<◌, ◌≤◌, Bool, true, false, ◌&&◌, cond, List, [], ◌∷◌, map, length, get_or, drop, Option, Some, None, ◌⊎◌, inl, inr, refl, sym, ap, ◌∙◌, arith}
 use Rattle.std.specs.Str.{encode_utf8_all}
 use Rattle.std.specs.Char.Utf16.{utf16_chars, surrogate_pair_char, lone_unit_char}
-use Rattle.std.proofs.lemmas.List.{append-nil, at_drop_more, at_drop_all, drop_more}
-use Rattle.dv_names.specs.Units.{or_mark, pair_char, lone_char, spelled, text_of}
+use Rattle.std.proofs.lemmas.List.{at_drop_more, at_drop_all, drop_more}
+use Rattle.std.specs.Char.Utf16.{is_high_surrogate, is_low_surrogate}
+use Rattle.std.specs.Option.{unwrap_or}
+
+-- the character of a pair
+abbrev pub pair_char : ℕ → ℕ → Option ℕ
+pair_char high low = cond (is_high_surrogate high && is_low_surrogate low) (Some (surrogate_pair_char high low)) None
+
+-- `?` for a surrogate
+abbrev pub or_mark : Option ℕ → ℕ
+or_mark c = unwrap_or c 63
+
+abbrev pub lone_char : ℕ → ℕ
+lone_char unit = or_mark (lone_unit_char unit)
+
+-- the characters that units spell, with `?` for each surrogate that has no partner
+abbrev pub spelled : List ℕ → List ℕ
+spelled units = map or_mark (utf16_chars units)
+
+-- their bytes, in std's words
+abbrev pub text_of : List ℕ → List ℕ
+text_of units = encode_utf8_all (spelled units)
 
 pair_cases : (t : Bool) (p c : ℕ) (xs ys : List (Option ℕ)) → cond t (Some p) None ≡ Some c → map or_mark (cond t (Some p ∷ xs) ys) ≡ c ∷ map or_mark xs
 pair_cases true p c xs ys e = let same : p ≡ c = cc in ap (λ z. z ∷ map or_mark xs) same
@@ -51,7 +71,3 @@ module _ (units : List ℕ) (at : ℕ) where
       → spelled (drop at units) ≡ lone_char (get_or units at 0) ∷ spelled (drop (at + 1) units)
   alone_at lt (inl h) = at_drop_more spelled units at 0 lt ∙ alone_before h.0 h.1
   alone_at lt (inr le) = at_drop_more spelled units at 0 lt ∙ alone_last le
-
-  -- no unit is left
-  pub all_made : (made : List ℕ) → length units ≤ at → made ++ text_of (drop at units) ≡ text_of units → made ≡ text_of units
-  all_made made le e = sym (append-nil made) ∙ ap (λ l. made ++ l) (sym (at_drop_all text_of units at le ∙ ap (λ l. encode_utf8_all l) spelled_none)) ∙ e

@@ -1,5 +1,5 @@
 -- Types and prototypes as they are printed, and the texts that are descriptors.
-use Rattle.std.specs.Prelude.{◌≡◌, ℕ, ◌-◌, ◌≤◌, Bool, ◌&&◌, ◌||◌, not, IsTrue, List, ◌∷◌, ◌++◌, [], length, take, drop, map, replicate, Option, Some, None, IfSome, nat_lt, ◌==◌, if◌then◌else◌, bytes_eq, codes}
+use Rattle.std.specs.Prelude.{◌≡◌, ℕ, ◌≤◌, Bool, ◌&&◌, ◌||◌, not, IsTrue, List, ◌∷◌, ◌++◌, [], length, replicate, Option, Some, None, IfSome, nat_lt, ◌==◌, bytes_eq, codes}
 use Rattle.std.specs.List.{All, list_any, list_all, flat_map, join_with_byte}
 use Rattle.dv_defs.specs.declared.names.Base.{Base}
 use Rattle.dv_defs.specs.declared.names.Base.TheVariants as base
@@ -66,12 +66,3 @@ IsType t = (t.dims ≤ 255) × IsBase t.base
 
 abbrev pub IsProto : Proto → Type 0
 IsProto p = All IsType p.params × IfSome p.ret IsType
-
--- ---- the Java text
-
-abbrev pub dotted : ℕ → ℕ
-dotted b = if b == 47 then 46 else b
-
--- the text without its first and its last byte, and with a dot for each slash
-abbrev pub java_text : List ℕ → List ℕ
-java_text class = map dotted (take (length class - 2) (drop 1 class))

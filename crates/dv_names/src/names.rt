@@ -32,7 +32,7 @@ pub fn primitive(letter: u8) -> Option<Base>
     }
 }
 
-pub fn is_float(letter: u8) -> bool
+pub fn is_float_letter(letter: u8) -> bool
     ensures { result ≡ is_float_letter letter }
 {
     matches!(letter, b'F' | b'D')

@@ -8,7 +8,7 @@ ghost use Rattle.dv_names.specs.Grammar.{Parameters, no_type, refusal, type_refu
 ghost use Rattle.dv_names.specs.Parts.{ReadsType, ReadsReturn, ReadsParameters};
 
 use crate::NameError;
-use crate::names::{class_end, is_float, primitive};
+use crate::names::{class_end, is_float_letter, primitive};
 use dv_defs::{Base, Proto, Seq, Text, Ty};
 use std::alloc::Global;
 
@@ -34,7 +34,7 @@ fn brackets_end(text: &[u8], start: usize) -> usize
 fn no_type(letter: u8, at: usize) -> NameError
     ensures { result ≡ no_type letter at }
 {
-    if is_float(letter) {
+    if is_float_letter(letter) {
         NameError::FloatType(at)
     } else {
         NameError::BadDescriptor(at)

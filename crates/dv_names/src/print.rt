@@ -1,6 +1,7 @@
 // Descriptors of types and prototypes, printed, and the Java text of a class.
 ghost use Rattle.std.specs.Prelude.{◌≡◌, IfOk};
-ghost use Rattle.dv_names.specs.Descriptors.{base_text, descriptor, prototype, return_text, dotted, java_text};
+ghost use Rattle.dv_defs.specs.Texts.{dotted, java_text};
+ghost use Rattle.dv_names.specs.Descriptors.{base_text, descriptor, prototype, return_text};
 
 use dv_defs::{Base, Proto, Text, Ty};
 use std::alloc::{AllocError, Global};

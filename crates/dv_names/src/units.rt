@@ -1,8 +1,10 @@
 // Texts in UTF-8, and guest strings in units of UTF-16.
-ghost use Rattle.std.specs.Prelude.{◌≡◌, false, ◌∷◌, ◌+◌, ◌<◌, ◌≤◌, length, drop, IfOk, slice_index};
-ghost use Rattle.std.specs.Char.Utf16.{has_unpaired_surrogate};
+ghost use Rattle.std.specs.Prelude.{◌≡◌, false, ◌++◌, ◌&&◌, ◌<◌, ◌≤◌, length, drop, IfOk, encode_utf8, if◌then◌else◌};
+ghost use Rattle.std.specs.Option.{unwrap_or};
+ghost use Rattle.std.specs.Char.Utf16.{has_unpaired_surrogate, is_high_surrogate, is_low_surrogate, lone_unit_char, surrogate_pair_char};
 ghost use Rattle.std.specs.Str.{IsUtf8};
-ghost use Rattle.dv_names.specs.Units.{pair_char, lone_char, units_of, spelled, text_of};
+ghost use Rattle.dv_defs.specs.Texts.{utf8};
+ghost use Rattle.dv_names.specs.Units.{units_of};
 
 use dv_defs::{Chars, Text};
 use std::alloc::{AllocError, Global};
@@ -10,7 +12,7 @@ use std::alloc::{AllocError, Global};
 /// The text in units of UTF-16: a character above U+FFFF is a pair of surrogates.
 pub fn chars_of_utf8(alloc: Global, text: &str) -> Result<Chars, AllocError>
     ensures units { IfOk result (λ u. u ≡ units_of text.now) }
-    ensures back { IfOk result (λ u. text_of u ≡ text.now) }
+    ensures back { IfOk result (λ u. utf8 u ≡ text.now) }
 {
     let mut units = Vec::new(alloc);
     for c in text.chars() {
@@ -21,7 +23,7 @@ pub fn chars_of_utf8(alloc: Global, text: &str) -> Result<Chars, AllocError>
 
 /// The character of a pair of surrogates.
 fn pair_char(high: u16, low: u16) -> Option<char>
-    ensures { result ≡ pair_char high low }
+    ensures { result ≡ (if is_high_surrogate high && is_low_surrogate low then Some (surrogate_pair_char high low) else None) }
 {
     if high < 0xD800 || 0xDC00 <= high || low < 0xDC00 || 0xE000 <= low {
         return None;
@@ -32,7 +34,7 @@ fn pair_char(high: u16, low: u16) -> Option<char>
 
 /// The character of a unit that is in no pair, `?` where it is a surrogate.
 fn lone_char(unit: u16) -> char
-    ensures { result ≡ lone_char unit }
+    ensures { result ≡ unwrap_or (lone_unit_char unit) 63 }
 {
     char::from_u32(u32::from(unit)).unwrap_or('?')
 }
@@ -41,7 +43,7 @@ fn lone_char(unit: u16) -> char
 fn char_at(units: &[u16], at: usize) -> (char, usize)
     requires { at < length units.now }
     ensures within { (at < result.1) × (result.1 ≤ length units.now) }
-    ensures first { spelled (drop at units.now) ≡ result.0 ∷ spelled (drop result.1 units.now) }
+    ensures first { utf8 (drop at units.now) ≡ encode_utf8 result.0 ++ utf8 (drop result.1 units.now) }
 {
     if at + 1 < units.len() {
         if let Some(c) = pair_char(units[at], units[at + 1]) {
@@ -53,7 +55,7 @@ fn char_at(units: &[u16], at: usize) -> (char, usize)
 
 /// The units in UTF-8, with `?` for each surrogate that has no partner.
 fn utf8_of_units(alloc: Global, units: &[u16]) -> Result<Text, AllocError>
-    ensures text { IfOk result (λ t. t ≡ text_of units.now) }
+    ensures text { IfOk result (λ t. t ≡ utf8 units.now) }
     ensures utf8 { IfOk result IsUtf8 }
     ensures back { has_unpaired_surrogate units.now ≡ false → IfOk result (λ t. units_of t ≡ units.now) }
 {
@@ -69,7 +71,7 @@ fn utf8_of_units(alloc: Global, units: &[u16]) -> Result<Text, AllocError>
 
 /// The guest string in UTF-8, with `?` for each surrogate that has no partner.
 pub fn utf8_of_chars(alloc: Global, chars: &Chars) -> Result<Text, AllocError>
-    ensures text { IfOk result (λ t. t ≡ text_of chars.now) }
+    ensures text { IfOk result (λ t. t ≡ utf8 chars.now) }
     ensures utf8 { IfOk result IsUtf8 }
     ensures back { has_unpaired_surrogate chars.now ≡ false → IfOk result (λ t. units_of t ≡ chars.now) }
 {

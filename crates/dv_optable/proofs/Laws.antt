@@ -1,34 +1,23 @@
 -- The rules of the table: each is computed over the whole table or all 256 opcodes, and then holds at each.
-use Rattle.std.proofs.Common.{◌≡◌, ℕ, suc, ◌+◌, ◌<◌, ◌&&◌, ◌||◌, ◌==◌, Bool, true, false, IsTrue, IsNone, IfSome, List, [], ◌∷◌, map, length, slice_index, slice_get, refl, sym, ◌∙◌, ap, ap₂, subst, arith, Option, Some, None, option_map, option_and_then, is_some, nat_lt, bytes_eq, Decides, if◌then◌else◌}
+use Rattle.std.proofs.Common.{◌≡◌, ℕ, suc, ◌+◌, ◌<◌, ◌&&◌, Bool, true, false, not, IsTrue, IfSome, List, [], ◌∷◌, map, length, slice_index, slice_get, refl, sym, ◌∙◌, ap, ap₂, subst, arith, Option, Some, None, option_map, option_and_then, is_some, nat_lt, bytes_eq, Decides, if◌then◌else◌}
 use Rattle.std.proofs.lemmas.Bool.{ltb-true}
 use Rattle.std.proofs.lemmas.Option.{slice_get-map}
 use Rattle.std.proofs.lemmas.Slice.Eq.{bytes_eq-Decides}
 use Rattle.std.specs.List.{range_with_len}
 use Rattle.std.specs.List.Sorted.{IsStrictlyIncreasing}
 use Rattle.std.specs.Prelude.{unwrap_or}
-use Rattle.dv_optable.specs.Families.{family_at, format_at, can_throw, is_local}
-use Rattle.dv_optable.specs.Table.{table, entry_at, Entry, opcode_named, opcode_in, float_at, is_return, IsPlain}
-use Rattle.dv_optable.specs.Row.{shown}
-use Rattle.dv_optable.specs.declared.row.Row.{Row}
+use Rattle.dv_optable.specs.Families.{can_throw, is_local, is_return, is_instance_of}
+use Rattle.dv_optable.specs.Table.{table, entry_at, Entry, opcode_named, opcode_in, is_float, IsPlain}
 use Rattle.dv_optable.proofs.Rows.{agree, named_entry}
 
--- ---- formats and families
+-- ---- floats
 
-all_formats : map (λ op. option_map (λ e. e.format) (entry_at op)) (range_with_len 0 256) ≡ map format_at (range_with_len 0 256)
-unfolding table entry_at
-all_formats = refl
-
-all_throw : map (λ op. option_map (λ e. e.throws) (entry_at op)) (range_with_len 0 256) ≡ map (λ op. option_map can_throw (family_at op)) (range_with_len 0 256)
-unfolding table entry_at
-all_throw = refl
-
-all_local : map (λ op. option_map (λ e. e.local) (entry_at op)) (range_with_len 0 256) ≡ map (λ op. option_map is_local (family_at op)) (range_with_len 0 256)
-unfolding table entry_at
-all_local = refl
-
-no_floats : map (λ op. float_at op && is_some (entry_at op)) (range_with_len 0 256) ≡ map (λ op. false) (range_with_len 0 256)
-unfolding table entry_at
+no_floats : map (λ op. is_float op && is_some (entry_at op)) (range_with_len 0 256) ≡ map (λ op. false) (range_with_len 0 256)
+unfolding table entry_at is_float
 no_floats = refl
+
+no_row_of_float : (op : ℕ) → op < 256 → is_float op && is_some (entry_at op) ≡ false
+no_row_of_float op below = agree (λ op. is_float op && is_some (entry_at op)) (λ op. false) 256 op no_floats below
 
 -- ---- names
 
@@ -56,50 +45,19 @@ length-opcodes = refl
 pub rising : IsStrictlyIncreasing (map (λ e. e.opcode) table)
 rising k below = opcode_below k (subst (λ n. k + 1 < n) length-opcodes below)
 
-option_map-shown : {X : Type 0} (op : ℕ) (part : Entry → X) (row : Option Row) → option_map (λ r. part (shown op r)) row ≡ option_map part (option_map (shown op) row)
-option_map-shown op part None = refl
-option_map-shown op part (Some r) = refl
+-- ---- what is said of an opcode with a row
 
--- ---- at a row that is the table's
-
-row-format : (op : ℕ) (row : Option Row) → op < 256 → option_map (shown op) row ≡ entry_at op → option_map (λ r. r.format) row ≡ format_at op
-row-format op row below entry = option_map-shown op (λ e. e.format) row ∙ (ap (option_map (λ e. e.format)) entry ∙ agree (λ op. option_map (λ e. e.format) (entry_at op)) format_at 256 op all_formats below)
-
-row-throws : (op : ℕ) (row : Option Row) → op < 256 → option_map (shown op) row ≡ entry_at op → option_map (λ r. r.throws) row ≡ option_map can_throw (family_at op)
-row-throws op row below entry = option_map-shown op (λ e. e.throws) row ∙ (ap (option_map (λ e. e.throws)) entry ∙ agree (λ op. option_map (λ e. e.throws) (entry_at op)) (λ op. option_map can_throw (family_at op)) 256 op all_throw below)
-
-row-local : (op : ℕ) (row : Option Row) → op < 256 → option_map (shown op) row ≡ entry_at op → option_map (λ r. r.local) row ≡ option_map is_local (family_at op)
-row-local op row below entry = option_map-shown op (λ e. e.local) row ∙ (ap (option_map (λ e. e.local)) entry ∙ agree (λ op. option_map (λ e. e.local) (entry_at op)) (λ op. option_map is_local (family_at op)) 256 op all_local below)
-
-row-named : (op : ℕ) (row : Option Row) → op < 256 → option_map (shown op) row ≡ entry_at op → IfSome row (λ r. opcode_named r.name.now ≡ Some op)
-row-named op None below entry = tt
-row-named op (Some r) below entry =
-    ap (option_and_then (λ e. opcode_named e.name)) entry
+pub name_known : (op : ℕ) (e : Entry) → op < 256 → Some e ≡ entry_at op → opcode_named e.name ≡ Some op
+name_known op e below is =
+    ap (option_and_then (λ e. opcode_named e.name)) is
     ∙ (agree (λ op. option_and_then (λ e. opcode_named e.name) (entry_at op)) (λ op. option_map (λ e. op) (entry_at op)) 256 op all_named below
-    ∙ ap (option_map (λ e. op)) (sym entry))
+    ∙ ap (option_map (λ e. op)) (sym is))
 
-row-floats : (op : ℕ) (row : Option Row) → op < 256 → option_map (shown op) row ≡ entry_at op → IsTrue (float_at op) → IsNone row
-row-floats op None below entry is_float = refl
-row-floats op (Some r) below entry is_float =
-    ap₂ (λ f e. f && is_some e) (sym is_float) entry ∙ agree (λ op. float_at op && is_some (entry_at op)) (λ op. false) 256 op no_floats below
-
--- all of them, under the names of the clauses
-pub row-laws : (op : ℕ) (row : Option Row) → op < 256 → option_map (shown op) row ≡ entry_at op → record {
-  entry : option_map (shown op) row ≡ entry_at op;
-  format : option_map (λ r. r.format) row ≡ format_at op;
-  throws : option_map (λ r. r.throws) row ≡ option_map can_throw (family_at op);
-  local : option_map (λ r. r.local) row ≡ option_map is_local (family_at op);
-  floats : IsTrue (float_at op) → IsNone row;
-  named : IfSome row (λ r. opcode_named r.name.now ≡ Some op);
-}
-row-laws op row below same = record {
-  entry = same;
-  format = row-format op row below same;
-  throws = row-throws op row below same;
-  local = row-local op row below same;
-  floats = row-floats op row below same;
-  named = row-named op row below same;
-}
+pub no_float : (op : ℕ) (e : Entry) → op < 256 → Some e ≡ entry_at op → is_float op ≡ false
+no_float op e below is = first (is_float op) (ap (λ o. is_float op && is_some o) is ∙ no_row_of_float op below) where
+  first : (b : Bool) → b && true ≡ false → b ≡ false
+  first true h = h
+  first false h = refl
 
 -- ---- the name of an opcode that was found
 
@@ -143,10 +101,7 @@ found-laws name (Some op) same = record { opcode = same; named = named-back name
 -- ---- no two opcodes have one name
 
 name_of_entry : (a : ℕ) (e : Entry) → a < 256 → entry_at a ≡ Some e → opcode_named e.name ≡ Some a
-name_of_entry a e below is =
-    ap (option_and_then (λ e. opcode_named e.name)) (sym is)
-    ∙ (agree (λ op. option_and_then (λ e. opcode_named e.name) (entry_at op)) (λ op. option_map (λ e. op) (entry_at op)) 256 a all_named below
-    ∙ ap (option_map (λ e. a)) is)
+name_of_entry a e below is = name_known a e below (sym is)
 
 pub distinct_names : (a b : ℕ) (e f : Entry) → a < 256 → b < 256 → entry_at a ≡ Some e → entry_at b ≡ Some f → e.name ≡ f.name → a ≡ b
 distinct_names a b e f below_a below_b is_a is_b same =
@@ -154,22 +109,13 @@ distinct_names a b e f below_a below_b is_a is_b same =
 
 -- ---- local instructions
 
-abbrev breaks_rule : ℕ → Entry → Bool
-breaks_rule op e = e.local && (e.throws || (is_return op || op == 0x20))
-
-all_plain : map (λ op. unwrap_or (option_map (breaks_rule op) (entry_at op)) false) (range_with_len 0 256) ≡ map (λ op. false) (range_with_len 0 256)
-unfolding table entry_at
-all_plain = refl
-
-none_of : (throws return instance : Bool) → (throws || (return || instance)) ≡ false → (throws ≡ false) × (return ≡ false) × (instance ≡ false)
+none_of : (throws return instance : Bool) → not throws && not return && not instance ≡ true → (throws ≡ false) × (return ≡ false) × (instance ≡ false)
 none_of false false false h = (refl, refl, refl)
 none_of false false true h = absurd (cc)
 none_of false true i h = absurd (cc)
 none_of true r i h = absurd (cc)
 
-pub local_plain : (op : ℕ) (e : Entry) → op < 256 → entry_at op ≡ Some e → IsTrue e.local → IsPlain op e
-local_plain op e below is is_local =
-    let kept : breaks_rule op e ≡ false = ap (λ o. unwrap_or (option_map (breaks_rule op) o) false) (sym is) ∙ agree (λ op. unwrap_or (option_map (breaks_rule op) (entry_at op)) false) (λ op. false) 256 op all_plain below in
-    let rest : (e.throws || (is_return op || op == 0x20)) ≡ false = ap (λ l. l && (e.throws || (is_return op || op == 0x20))) (sym is_local) ∙ kept in
-    let parts = none_of e.throws (is_return op) (op == 0x20) rest in
+pub local_plain : (e : Entry) → IsTrue (is_local e.family) → IsPlain e
+local_plain e is_local =
+    let parts = none_of (can_throw e.family) (is_return e.family) (is_instance_of e.family) is_local in
     record { no_throw = parts.0; no_return = parts.1; no_instance_of = parts.2 }

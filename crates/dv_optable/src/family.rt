@@ -1,14 +1,14 @@
 //! The families of instructions.
 
 ghost use Rattle.std.specs.Prelude.{◌≡◌};
-ghost use Rattle.dv_optable.specs.Families.{divides, can_throw, is_local};
+ghost use Rattle.dv_optable.specs.Families.{is_division, can_throw, is_local};
 
 /// What a move or a return carries: one word, a pair of words, or a reference.
 #[derive(Clone, Copy, PartialEq, Eq, Debug)]
 pub enum Width {
-    Plain,
+    Narrow,
     Wide,
-    Object,
+    Reference,
 }
 
 /// The test of an if instruction.
@@ -118,13 +118,13 @@ pub enum Family {
     /// The /2addr form.
     LongTwo(Bin),
     /// With a literal of 16 or 8 bits.
-    IntLit(Bin),
+    IntLiteral(Bin),
 }
 
 impl Bin {
     /// Whether it is a division or a remainder.
-    pub fn divides(self) -> bool
-        ensures { result ≡ divides self }
+    pub fn is_division(self) -> bool
+        ensures { result ≡ is_division self }
     {
         matches!(self, Bin::Div | Bin::Rem)
     }
@@ -158,7 +158,7 @@ impl Family {
             | Family::LongBinary(operation)
             | Family::IntTwo(operation)
             | Family::LongTwo(operation)
-            | Family::IntLit(operation) => operation.divides(),
+            | Family::IntLiteral(operation) => operation.is_division(),
             Family::Nop
             | Family::Move(_)
             | Family::MoveResult(_)

@@ -6,7 +6,6 @@
 
 mod family;
 mod format;
-mod kind;
 mod row;
 mod table;
 #[cfg(test)]
@@ -14,6 +13,5 @@ mod tests;
 
 pub use family::{Bin, Call, Family, Suffix, Test, Unary, Width};
 pub use format::Format;
-pub use kind::kind_of;
-pub use row::{Row, is_float, name_to_opcode, row_of};
+pub use row::{Row, is_float, kind_of, name_to_opcode, row_of};
 pub use table::{local_rows_are_plain, names_are_distinct, table_rises};

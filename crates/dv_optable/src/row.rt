@@ -1,12 +1,11 @@
 //! Looking up an opcode or a name in the table.
 
 ghost use Rattle.std.specs.Prelude.{◌≡◌, ◌<◌, option_map, map, length, slice_get, IfSome, IsTrue, IsNone};
-ghost use Rattle.dv_optable.specs.Families.{family_at, format_at, can_throw, is_local};
-ghost use Rattle.dv_optable.specs.Table.{entry_at, opcode_in, opcode_named, place_at, float_at};
-ghost use Rattle.dv_optable.specs.Row.{shown};
+ghost use Rattle.dv_optable.specs.Families.{can_throw, is_local};
+ghost use Rattle.dv_optable.specs.Table.{entry_at, family_at, format_at, is_float, opcode_in, opcode_named, place_at, row};
 
+use crate::family::Family;
 use crate::format::Format;
-use crate::kind::kind_of;
 use crate::table::{OPCODES, Opcode};
 
 /// What the table says of an opcode.
@@ -27,43 +26,44 @@ fn place_of(op: u8) -> Option<u8>
 {
     Some(match op {
         0x00..=0x2c => op,
-        0x31..=0x3d => op - 4,
-        0x44..=0x72 => op - 10,
-        0x74..=0x78 => op - 11,
-        0x7b..=0x7e => op - 13,
-        0x81 => op - 15,
-        0x84 => op - 17,
-        0x8d..=0xa5 => op - 25,
-        0xb0..=0xc5 => op - 35,
-        0xd0..=0xe2 => op - 45,
+        0x31..=0x3d => op - 0x04,
+        0x44..=0x72 => op - 0x0a,
+        0x74..=0x78 => op - 0x0b,
+        0x7b..=0x7e => op - 0x0d,
+        0x81 => op - 0x0f,
+        0x84 => op - 0x11,
+        0x8d..=0xa5 => op - 0x19,
+        0xb0..=0xc5 => op - 0x23,
+        0xd0..=0xe2 => op - 0x2d,
         _ => return None,
     })
 }
 
-fn name_and_format(rows: &'static [Opcode], place: usize) -> (&'static str, Format)
+fn row_at(rows: &'static [Opcode], place: usize) -> Opcode
     requires { place < length rows.now }
-    ensures name { slice_get (map (λ r. r.1.now) rows.now) place ≡ Some result.0.now }
-    ensures format { slice_get (map (λ r. r.2) rows.now) place ≡ Some result.1 }
+    ensures { slice_get (map (λ r. row r.0 r.1.now r.2 r.3) rows.now) place ≡ Some (row result.0 result.1.now result.2 result.3) }
 {
-    let (_, name, format) = rows[place];
-    (name, format)
+    rows[place]
+}
+
+fn entry_of(op: u8) -> Option<Opcode>
+    ensures { option_map (λ r. row r.0 r.1.now r.2 r.3) result ≡ entry_at op }
+{
+    let place = place_of(op)?;
+    Some(row_at(&OPCODES, place as usize))
 }
 
 /// The row of an opcode; none where it is unused or a float's.
+#[tactic(auto, unfolding(crate::specs::Table::format_at, crate::specs::Table::family_at))]
 pub fn row_of(op: u8) -> Option<Row>
-    ensures entry { option_map (shown op) result ≡ entry_at op }
-
-    // The same by ranges of opcodes and by families.
+    ensures name { option_map (λ r. r.name.now) result ≡ option_map (λ e. e.name) (entry_at op) }
     ensures format { option_map (λ r. r.format) result ≡ format_at op }
     ensures throws { option_map (λ r. r.throws) result ≡ option_map can_throw (family_at op) }
     ensures local { option_map (λ r. r.local) result ≡ option_map is_local (family_at op) }
-    ensures floats { IsTrue (float_at op) → IsNone result }
-
+    ensures floats { IsTrue (is_float op) → IsNone result }
     ensures named { IfSome result (λ r. opcode_named r.name.now ≡ Some op) }
 {
-    let family = kind_of(op)?;
-    let place = place_of(op)?;
-    let (name, format) = name_and_format(&OPCODES, place as usize);
+    let (_, name, format, family) = entry_of(op)?;
     Some(Row {
         name,
         format,
@@ -72,9 +72,19 @@ pub fn row_of(op: u8) -> Option<Row>
     })
 }
 
+/// The family of an opcode; none where it is unused or a float's.
+#[tactic(auto, unfolding(crate::specs::Table::family_at))]
+pub fn kind_of(op: u8) -> Option<Family>
+    ensures { result ≡ family_at op }
+{
+    let (_, _, _, family) = entry_of(op)?;
+    Some(family)
+}
+
 /// Whether an opcode is one of float or double arithmetic, which this machine leaves out.
+#[tactic(auto, unfolding(crate::specs::Table::is_float))]
 pub fn is_float(op: u8) -> bool
-    ensures { result ≡ float_at op }
+    ensures { result ≡ is_float op }
 {
     matches!(
         op,

@@ -1,17 +1,25 @@
-use Rattle.std.proofs.Common.{◌∙◌, sym, ap, inl, inr, ◌∷◌, ◌+◌, drop}
-use Rattle.dv_names.specs.Units.{spelled}
-use Rattle.dv_names.proofs.Surrogates.{pair_at, alone_at}
+use Rattle.std.proofs.Common.{ℕ, ◌≡◌, ◌∙◌, sym, ap, inl, inr, ◌∷◌, ◌++◌, ◌+◌, List, drop}
+use Rattle.std.specs.Prelude.{encode_utf8}
+use Rattle.std.specs.Str.{encode_utf8_all}
+use Rattle.dv_defs.specs.Texts.{utf8}
+use Rattle.dv_names.proofs.Surrogates.{spelled, pair_at, alone_at}
+use Rattle.dv_names.proofs.Texts.{utf8_is}
 use Rattle.dv_names.proofs.units.char_at.Goals as goal
 use Rattle.dv_names.proofs.units.char_at.Goals.{then-at-units+in_default, else-at-units}
 
+in_bytes : (us vs : List ℕ) (c : ℕ) → spelled us ≡ c ∷ spelled vs → utf8 us ≡ encode_utf8 c ++ utf8 vs
+in_bytes us vs c e = utf8_is us ∙ ap encode_utf8_all e ∙ ap (λ bs. encode_utf8 c ++ bs) (sym (utf8_is vs))
+
 pub returns-in-Some-clause-first : goal.returns-in-Some-clause-first
-returns-in-Some-clause-first c = pair_at c.args.units.now c.args.at c.in-Some.c c.if-at-units.true (sym c.pair_char.ensures ∙ c.in-Some.is)
+returns-in-Some-clause-first c =
+    in_bytes _ (drop (c.args.at + 2) c.args.units.now) c.in-Some.c (pair_at c.args.units.now c.args.at c.in-Some.c c.if-at-units.true (sym c.pair_char.ensures ∙ c.in-Some.is))
 
 pub returns-clause-first : goal.returns-clause-first
 returns-clause-first c =
-    alone_at c.args.units.now c.args.at c.requires
+    in_bytes _ (drop (c.args.at + 1) c.args.units.now) c.lone_char.result
+    (alone_at c.args.units.now c.args.at c.requires
     (elim c.if-at-units.branch [
       | then-at-units+in_default w ↦ inl (w.if-at-units.true, sym w.pair_char.ensures ∙ w.in_default.is)
       | else-at-units w ↦ inr w.if-at-units.false
     ])
-    ∙ ap (λ x. x ∷ spelled (drop (c.args.at + 1) c.args.units.now)) (sym c.lone_char.ensures)
+    ∙ ap (λ x. x ∷ spelled (drop (c.args.at + 1) c.args.units.now)) (sym c.lone_char.ensures))

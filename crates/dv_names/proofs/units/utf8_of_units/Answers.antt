@@ -1,9 +1,15 @@
-use Rattle.std.proofs.Common.{ℕ, Vec, Global, List, ◌∙◌, sym, ap, subst, arith}
+use Rattle.std.proofs.Common.{ℕ, ◌≡◌, ◌≤◌, ◌++◌, length, drop, Vec, Global, List, ◌∙◌, sym, ap, subst, arith}
+use Rattle.std.proofs.lemmas.List.{append-nil, at_drop_all}
 use Rattle.std.specs.Str.{IsUtf8}
+use Rattle.dv_defs.specs.Texts.{utf8}
 use Rattle.dv_names.specs.Units.{units_of}
-use Rattle.dv_names.proofs.Surrogates.{all_made}
+use Rattle.dv_names.proofs.Texts.{utf8_is}
 use Rattle.dv_names.proofs.RoundTrip.{text_utf8, units_back}
 use Rattle.dv_names.proofs.units.utf8_of_units.Goals as goal
+
+-- no unit is left
+all_made : (units : List ℕ) (at : ℕ) (made : List ℕ) → length units ≤ at → made ++ utf8 (drop at units) ≡ utf8 units → made ≡ utf8 units
+all_made units at made le e = sym (append-nil made) ∙ ap (λ l. made ++ l) (sym (at_drop_all utf8 units at le)) ∙ e
 
 pub returns-clause-text : goal.returns-clause-text
 returns-clause-text c =
@@ -12,7 +18,7 @@ returns-clause-text c =
 pub returns-clause-utf8 : goal.returns-clause-utf8
 returns-clause-utf8 c =
     let P : List ℕ → Type 0 = λ t. IsUtf8 t in
-    subst P (sym (returns-clause-text c)) (text_utf8 c.args.units.now (λ k. let fits = c.type_inv.units k in omega arith))
+    subst P (sym (returns-clause-text c ∙ utf8_is c.args.units.now)) (text_utf8 c.args.units.now (λ k. let fits = c.type_inv.units k in omega arith))
 
 pub returns-clause-back : goal.returns-clause-back
-returns-clause-back c = λ paired. ap units_of (returns-clause-text c) ∙ units_back c.args.units.now (λ k. let fits = c.type_inv.units k in omega arith) paired
+returns-clause-back c = λ paired. ap units_of (returns-clause-text c ∙ utf8_is c.args.units.now) ∙ units_back c.args.units.now (λ k. let fits = c.type_inv.units k in omega arith) paired
