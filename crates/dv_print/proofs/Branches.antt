@@ -20,42 +20,16 @@ use Rattle.dv_print.specs.Named.{target_of, named_by_piece}
 use Rattle.dv_print.specs.Pieces.{piece_of}
 use Rattle.dv_asm.specs.Tiles.{tiles_of, nops_between}
 use Rattle.dv_print.proofs.Truth.{any_left, any_right, itself}
-use Rattle.dv_print.proofs.ItemTiles.{tile, tiles_at}
-use Rattle.dv_print.proofs.PieceItems.{aligned_again}
+use Rattle.dv_print.proofs.ItemTiles.{tile, tiles_at, Mem, mem_to}
 use Rattle.dv_print.proofs.Walk.{stays}
 use Rattle.dv_print.proofs.Resolved.{HasAt}
 
 -- ---- the tiles of items
 
-abbrev pub Mem : Tile → List Tile → Type 0
-Mem t [] = ⊥
-Mem t (s ∷ ts) = (s ≡ t) ⊎ Mem t ts
-
 mem_has : (t : Tile) (ts : List Tile) → Mem t ts → HasAt t.at ts
 mem_has t [] h = absurd h
 mem_has t (s ∷ ts) (inl e) = inl (ap (λ x. x.at) e)
 mem_has t (s ∷ ts) (inr h) = inr (mem_has t ts h)
-
-mem_left : (t : Tile) (xs ys : List Tile) → Mem t xs → Mem t (xs ++ ys)
-mem_left t [] ys h = absurd h
-mem_left t (x ∷ xs) ys (inl e) = inl e
-mem_left t (x ∷ xs) ys (inr h) = inr (mem_left t xs ys h)
-
-mem_right : (t : Tile) (xs ys : List Tile) → Mem t ys → Mem t (xs ++ ys)
-mem_right t [] ys h = h
-mem_right t (x ∷ xs) ys h = inr (mem_right t xs ys h)
-
-pub mem_to : (items : List Item) (pools : Pools) (k m : ℕ) (t : Tile) → k < m → tiles_at items pools k (item_at items k).what ≡ t ∷ [] → Mem t (tiles_of items pools m)
-mem_to items pools k zero t h e = absurd (omega arith)
-mem_to items pools k (suc m) t h e = at (nat_lt k m) refl (λ l. mem_to items pools k m t l e)
-  where
-    at : (b : Bool) → nat_lt k m ≡ b → (k < m → Mem t (tiles_of items pools m)) → Mem t (tiles_of items pools (suc m))
-    at true l before = mem_left t (tiles_of items pools m ++ nops_between (end_of items m) (address_of items m)) _ (mem_left t (tiles_of items pools m) _ (before (grind (arith, nat_tests))))
-    at false l before =
-        let same : k ≡ m = grind (arith, nat_tests) in
-        let P : ℕ → Type 0 = λ n. Mem t (tiles_at items pools n (item_at items n).what) in
-        let Q : List Tile → Type 0 = λ ts. Mem t ts in
-        mem_right t (tiles_of items pools m ++ nops_between (end_of items m) (address_of items m)) _ (subst P same (subst Q (sym e) (inl refl)))
 
 own_has : (items : List Item) (pools : Pools) (k : ℕ) (w : What) → (item_at items k).what ≡ w → is_label w ≡ false → k < length items → HasAt (address_of items k) (tiles_of items pools (length items))
 own_has items pools k (what.Label name) e h within = absurd (cc)
@@ -71,6 +45,13 @@ label_size (what.Packed first names) e = absurd (cc)
 label_size (what.Sparse keys names) e = absurd (cc)
 label_size (what.Data width bytes) e = absurd (cc)
 
+abbrev aligned_if : ℕ → Bool → ℕ
+aligned_if end b = if nat_eq (end % 2) 1 && b then end + 1 else end
+
+-- what is aligned stays where it is
+aligned_again : (end : ℕ) (b : Bool) → aligned_if (aligned_if end b + 0) b ≡ aligned_if end b
+aligned_again end b = grind (arith, nat_tests)
+
 label_leads : (item : Item) (next : List Item) → is_label item.what ≡ true → leads_to_payload (item ∷ next) ≡ leads_to_payload next
 label_leads item next e = ap (λ c. if c then leads_to_payload next else is_payload item.what) e
 
@@ -79,7 +60,7 @@ label_passes : (items : List Item) (j : ℕ) → j < length items → is_label (
 label_passes items j within e =
     let next = drop (suc j) items in
     let here : leads_to_payload (drop j items) ≡ leads_to_payload next = ap leads_to_payload (drop-cons items j no_item within) ∙ label_leads (item_at items j) next e in
-    let place : address_of items j ≡ (if nat_eq (end_of items j % 2) 1 && leads_to_payload next then end_of items j + 1 else end_of items j) = ap (λ c. if nat_eq (end_of items j % 2) 1 && c then end_of items j + 1 else end_of items j) here in
+    let place : address_of items j ≡ aligned_if (end_of items j) (leads_to_payload next) = ap (aligned_if (end_of items j)) here in
     let ends : end_of items (suc j) ≡ address_of items j + 0 = ap (λ n. address_of items j + n) (label_size (item_at items j).what e) in
     ap (λ n. aligned n next) (ends ∙ ap (λ n. n + 0) place) ∙ (aligned_again (end_of items j) (leads_to_payload next) ∙ sym place)
 

@@ -14,11 +14,11 @@ use Rattle.dv_asm.specs.Layout.{pools_of, types_of, tries_of, units_of, body_of,
 use Rattle.dv_print.specs.Drafting.{catches_of_try, draft_of}
 use Rattle.dv_print.specs.Laws.{HaveNumbers}
 use Rattle.dv_print.proofs.KeptEntries.{units_are, draft_keeps_entries}
-use Rattle.dv_print.proofs.PieceItems.{even_to}
+use Rattle.dv_print.proofs.PieceItems.{even_tiles}
 use Rattle.dv_print.proofs.KeptAddresses.{tiles_are, draft_starts}
 use Rattle.dv_print.proofs.KeptUnits.{units_kept}
 use Rattle.dv_print.proofs.LaidOut.{are_short}
-use Rattle.dv_print.proofs.SpelledAgain.{Laid, spelled_to}
+use Rattle.dv_print.proofs.SpelledAgain.{Laid, tiles_spelled}
 use Rattle.dv_print.proofs.KeptHandlers.{handlers_kept}
 use Rattle.dv_print.proofs.LaidDraft.{IsLaidOut, laid_out, after_of, pieces, all_named, tiles, known, rebased, items_labelled, handler_leads}
 
@@ -33,8 +33,8 @@ same_units d l =
       short = are_short d.items l.none;
       rebased = rebased d l;
     } in
-    units_kept (layout d) (pieces d) (all_named d) (after_of d) (pools_of d.items) (tiles d) (draft_starts d l.formed l.numbers l.none l.fit) (tiles_are d l.formed l.numbers l.none l.fit) (even_to d.items (pools_of d.items) (length d.items) (omega arith))
-    (spelled_to d.items (after_of d) (layout d) (pieces d) (all_named d) (length d.items) laid (omega arith))
+    units_kept (layout d) (pieces d) (all_named d) (after_of d) (pools_of d.items) (tiles d) (draft_starts d l.formed l.numbers l.none l.fit) (tiles_are d l.formed l.numbers l.none l.fit) (even_tiles d.items (pools_of d.items))
+    (tiles_spelled d.items (after_of d) (layout d) (pieces d) (all_named d) laid)
 
 -- ---- the body
 

@@ -2,7 +2,6 @@
 use Rattle.std.proofs.Common.{◌≡◌, ℕ, ◌+◌, ◌<◌, ◌≤◌, ◌%◌, zero, suc, Bool, true, false, List, [], ◌∷◌, ◌++◌, length, map, take, position, bytes_eq, nat_lt, nat_eq, Option, Some, None, IsSome, IsTrue, if◌then◌else◌, refl, ap, sym, ◌∙◌, arith, append-nil, append_assoc}
 use Rattle.std.specs.Option.{unwrap_or}
 use Rattle.std.specs.List.{slice_get, flat_map}
-use Rattle.std.proofs.lemmas.Bool.{eqb-true}
 use Rattle.std.proofs.lemmas.List.{take_more, map-append}
 use Rattle.std.proofs.lemmas.List.Concat.{flat_map-append}
 use Rattle.std.proofs.lemmas.Option.{slice_get-get_or}
@@ -34,17 +33,14 @@ use Rattle.dv_asm.specs.Refusals.{item_refusal}
 use Rattle.dv_asm.specs.Pools.{with_entry_if_any, with_entries, pool_ref, chars_in, type_in, field_in, method_in, chars_of, type_of, field_of, method_of, field_eq, method_eq, index_of}
 use Rattle.dv_asm.specs.Layout.{kind_in, with_kinds, sorted_ranges, pools_of, units_of, body_of, layout}
 use Rattle.dv_print.specs.declared.formats.Pool.TheVariants as from
-use Rattle.dv_print.specs.declared.pieces.Part.{Part}
-use Rattle.dv_print.specs.declared.pieces.Part.TheVariants as part
 use Rattle.dv_print.specs.declared.pieces.Piece.{Piece}
 use Rattle.dv_print.specs.Pieces.{piece_of, pieces_of}
 use Rattle.dv_print.specs.Named.{is_named, addresses_named}
-use Rattle.dv_print.specs.Drafting.{found_as, pool_of, entry_in, part_item, piece_item, labels_at, is_nop, is_aligning, items_at, items_from, items_in, draft_of}
+use Rattle.dv_print.specs.Drafting.{found_as, pool_of, entry_in, part_item, piece_item, labels_at, items_at, items_in, draft_of}
 use Rattle.dv_asm.specs.Tiles as laid
 use Rattle.dv_asm.specs.Tiles.{nops_between}
 use Rattle.dv_print.specs.Laws.{HaveNumbers, KeepsEntries, entries_in, item_entries, entries_of}
-use Rattle.dv_print.proofs.Truth.{both}
-use Rattle.dv_print.proofs.ItemTiles.{tile, tiles_at}
+use Rattle.dv_print.proofs.ItemTiles.{tile, tiles_at, nop}
 use Rattle.dv_print.proofs.Entries.{Tells, bytes_tell, types_tell, fields_tell, methods_tell, kept, holds, at_index}
 use Rattle.dv_print.proofs.PoolKinds.{pool_for, pool_of_named, no_pool}
 use Rattle.dv_print.proofs.LaidOut.{layout_is_tiled}
@@ -113,7 +109,7 @@ nop_pool = refl
 nop_names_none : (b : BodyValue) (index : ℕ) → entries_in (entry_in b (pool_of 0) index) ≡ []
 nop_names_none b index = ap (λ q. entries_in (entry_in b q index)) nop_pool
 
-nops_by : (c : Bool) (b : BodyValue) (all : List Piece) (end : ℕ) → tile_entries b all (if c then tile end 1 (IsInsn (plain 0 (few []))) ∷ [] else []) ≡ []
+nops_by : (c : Bool) (b : BodyValue) (all : List Piece) (end : ℕ) → tile_entries b all (if c then tile end 1 nop ∷ [] else []) ≡ []
 nops_by true b all end = ap (λ xs. xs ++ []) (nop_names_none b 0)
 nops_by false b all end = refl
 
@@ -154,32 +150,23 @@ labels_by false item e = refl
 labels_name_none : (named : List ℕ) (address : ℕ) → entries_of (labels_at named address) ≡ []
 labels_name_none named address = labels_by (is_named named address) _ refl
 
-nop_part : (b : BodyValue) (all : List Piece) (at : ℕ) (q : Part) → is_nop q ≡ true → entries_in (pool_ref (part_item b all at q)) ≡ []
-nop_part b all at (part.Insn i) e =
-    ap (λ n. entries_in (entry_in b (pool_of n) i.index)) (eqb-true i.op 0 e) ∙ nop_names_none b i.index
-nop_part b all at (part.Payload p) e = absurd (cc)
-
-aligning_is_nop : (named : List ℕ) (p : Piece) (ps : List Piece) → is_aligning named p ps ≡ true → is_nop p.part ≡ true
-aligning_is_nop named p ps e = (both (is_nop p.part) _ (both (nat_eq (p.at % 2) 1) _ e).1).0
-
-at_by : (c : Bool) (b : BodyValue) (all : List Piece) (named : List ℕ) (p : Piece) (ps : List Piece) → is_aligning named p ps ≡ c → entries_of (if c then [] else labels_at named p.at ++ piece_item b all p ∷ []) ≡ piece_entries b all p
-at_by true b all named p ps e = sym (nop_part b all p.at p.part (aligning_is_nop named p ps e))
-at_by false b all named p ps e =
+at_entries : (b : BodyValue) (all : List Piece) (named : List ℕ) (p : Piece) → entries_of (items_at b all named p) ≡ piece_entries b all p
+at_entries b all named p =
     flat_map-append item_entries (labels_at named p.at) (piece_item b all p ∷ []) ∙
     (ap (λ xs. xs ++ (piece_entries b all p ++ [])) (labels_name_none named p.at) ∙ append-nil (piece_entries b all p))
 
-from_entries : (b : BodyValue) (all : List Piece) (named : List ℕ) (ps : List Piece) → entries_of (items_from b all named ps) ≡ flat_map (piece_entries b all) ps
+from_entries : (b : BodyValue) (all : List Piece) (named : List ℕ) (ps : List Piece) → entries_of (flat_map (items_at b all named) ps) ≡ flat_map (piece_entries b all) ps
 from_entries b all named [] = refl
 from_entries b all named (p ∷ ps) =
-    flat_map-append item_entries (items_at b all named p ps) (items_from b all named ps) ∙
-    (ap (λ xs. xs ++ entries_of (items_from b all named ps)) (at_by (is_aligning named p ps) b all named p ps refl) ∙
+    flat_map-append item_entries (items_at b all named p) (flat_map (items_at b all named) ps) ∙
+    (ap (λ xs. xs ++ entries_of (flat_map (items_at b all named) ps)) (at_entries b all named p) ∙
     ap (λ xs. piece_entries b all p ++ xs) (from_entries b all named ps))
 
 items_entries : (b : BodyValue) (all : List Piece) (named : List ℕ) → entries_of (items_in b all named) ≡ flat_map (piece_entries b all) all
 items_entries b all named =
-    flat_map-append item_entries (items_from b all named all) (labels_at named (length b.units)) ∙
-    (ap (λ xs. entries_of (items_from b all named all) ++ xs) (labels_name_none named (length b.units)) ∙
-    (append-nil (entries_of (items_from b all named all)) ∙ from_entries b all named all))
+    flat_map-append item_entries (flat_map (items_at b all named) all) (labels_at named (length b.units)) ∙
+    (ap (λ xs. entries_of (flat_map (items_at b all named) all) ++ xs) (labels_name_none named (length b.units)) ∙
+    (append-nil (entries_of (flat_map (items_at b all named) all)) ∙ from_entries b all named all))
 
 -- ---- the pools
 

@@ -20,12 +20,14 @@ use Rattle.dv_print.specs.Numbers.{label_name}
 use Rattle.dv_print.specs.Pieces.{piece_of}
 use Rattle.dv_print.specs.Named as named
 use Rattle.dv_print.specs.Named.{named_by_piece, named_by_try, addresses_named}
-use Rattle.dv_print.specs.Drafting.{items_from, labels_at, with_no_line}
+use Rattle.dv_print.specs.Drafting.{labels_at, with_no_line}
 use Rattle.dv_asm.specs.Tiles.{tiles_of}
 use Rattle.dv_print.specs.Laws.{KeepsAddresses}
 use Rattle.dv_print.proofs.KeptEntries.{HasPools}
 use Rattle.dv_print.proofs.Resolved.{HasAt, Stands, stands_in, later_in, label_here, leads_there}
-use Rattle.dv_print.proofs.Branches.{Mem, placed, named_by_tile}
+use Rattle.dv_print.proofs.ItemTiles.{Mem}
+use Rattle.dv_print.proofs.PieceItems.{tile_items}
+use Rattle.dv_print.proofs.Branches.{placed, named_by_tile}
 
 -- what is known of the draft that is made of a laid-out body
 pub record Known (items after : List Item) (b : BodyValue) (all : List Piece) (names : List ℕ) : Type 0 where
@@ -33,7 +35,7 @@ pub record Known (items after : List Item) (b : BodyValue) (all : List Piece) (n
   pub ends : end_of items (length items) ≡ length b.units
   pub pieces : all ≡ map piece_of (tiles_of items (pools_of items) (length items))
   pub names_are : names ≡ addresses_named all b.tries
-  pub start : after ≡ items_from b all names (map piece_of (tiles_of items (pools_of items) (length items))) ++ labels_at names (length b.units)
+  pub start : after ≡ tile_items b all names (tiles_of items (pools_of items) (length items)) ++ labels_at names (length b.units)
   pub kept : KeepsAddresses after b.units
   pub pools : HasPools b items
 
@@ -43,7 +45,7 @@ stands_after items after b all names a h e (inl at) =
     let found = stands_in b all names a (tiles_of items (pools_of items) (length items)) e at in
     (found.0, ap (λ xs. slice_get xs found.0) h.start ∙ appended _ _ found.0 _ found.1)
 stands_after items after b all names a h e (inr at) =
-    let front = items_from b all names (map piece_of (tiles_of items (pools_of items) (length items))) in
+    let front = tile_items b all names (tiles_of items (pools_of items) (length items)) in
     let here : labels_at names (length b.units) ≡ with_no_line (what.Label (label_name a)) ∷ [] =
     ap (labels_at names) (sym at) ∙ label_here names a e in
     (length front + 0, ap (λ xs. slice_get xs (length front + 0)) h.start ∙ later_in front (labels_at names (length b.units)) 0 _ (ap (λ xs. slice_get xs 0) here))

@@ -30,25 +30,24 @@ use Rattle.dv_print.specs.Numbers.{label_name}
 use Rattle.dv_print.specs.Operands.{has_offset}
 use Rattle.dv_print.specs.Pieces.{piece_of}
 use Rattle.dv_print.specs.Named as named
-use Rattle.dv_print.specs.Drafting.{op_of, labels_from, payload_item, piece_item, with_no_line, labels_at, is_aligning, items_from, draft_of}
+use Rattle.dv_print.specs.Drafting.{op_of, labels_from, payload_item, piece_item, with_no_line, labels_at, draft_of}
 use Rattle.dv_print.specs.Laws.{KeepsAddresses, IsNamedBy}
 use Rattle.dv_print.proofs.RangesAgain.{handler_from}
 use Rattle.dv_print.proofs.Truth.{both, itself, no_line, when_not}
 use Rattle.dv_print.proofs.Entries.{joined, bytes_itself}
-use Rattle.dv_print.proofs.ItemTiles.{tile, tiles_at}
+use Rattle.dv_print.proofs.ItemTiles.{tile, tiles_at, mem_to}
 use Rattle.dv_print.proofs.KeptEntries.{small_opcode}
-use Rattle.dv_print.proofs.PieceItems.{tile_size, next_items}
+use Rattle.dv_print.proofs.PieceItems.{tile_items, tile_size}
 use Rattle.dv_print.proofs.KeptAddresses.{tiles_are}
-use Rattle.dv_print.proofs.Resolved.{Stands, ends_below, address_below, first_found, named_so}
-use Rattle.dv_print.proofs.Branches.{label_size, mem_to, leads_back}
+use Rattle.dv_print.proofs.Resolved.{Stands, address_below, first_found, named_so}
+use Rattle.dv_print.proofs.Walk.{ends_below}
+use Rattle.dv_print.proofs.Branches.{label_size, leads_back}
 use Rattle.dv_print.proofs.KnownDraft.{stands_for, tile_listed}
 use Rattle.dv_print.proofs.Straight.{same_offsets, no_label_by, nop_offset}
 use Rattle.dv_print.proofs.SpelledAgain.{branch_to, AreListed, are_listed}
 use Rattle.dv_print.proofs.NamedHandlers.{handler_named}
 use Rattle.dv_print.proofs.LaidDraft.{IsLaidOut, after_of, pieces, all_named, tiles, known, items_labelled, catches_labelled, entry_listed, rebased}
 use Rattle.dv_print.proofs.Origins.{HasContent, Origin, origin}
-
--- ---- no line
 
 -- ---- between two labels
 
@@ -62,22 +61,21 @@ abbrev Gaps : List Item → Type 0
 Gaps [] = Unit {0}
 Gaps (x ∷ xs) = ((0 < size_of x.what) ⊎ Behind xs) × Gaps xs
 
-gaps_by : (c d : Bool) (label x : Item) (from final : List Item) → 0 < size_of x.what → Gaps (from ++ final) → Gaps (((if c then [] else (if d then label ∷ [] else []) ++ x ∷ []) ++ from) ++ final)
-gaps_by true d label x from final positive g = g
-gaps_by false true label x from final positive g = (inr positive, (inl positive, g))
-gaps_by false false label x from final positive g = (inl positive, g)
+gaps_by : (d : Bool) (label x : Item) (from final : List Item) → 0 < size_of x.what → Gaps (from ++ final) → Gaps ((((if d then label ∷ [] else []) ++ x ∷ []) ++ from) ++ final)
+gaps_by true label x from final positive g = (inr positive, (inl positive, g))
+gaps_by false label x from final positive g = (inl positive, g)
 
 last_gap : (c : Bool) (label : Item) → Gaps (if c then label ∷ [] else [])
 last_gap true label = (inr tt, tt)
 last_gap false label = tt
 
 -- the items of tiles
-gaps : (b : BodyValue) (all : List Piece) (names : List ℕ) (n : ℕ) (ts : List Tile) (us : List ℕ) (end : ℕ) → AreTiles end ts us → Gaps (next_items b all names (labels_at names n) ts)
+gaps : (b : BodyValue) (all : List Piece) (names : List ℕ) (n : ℕ) (ts : List Tile) (us : List ℕ) (end : ℕ) → AreTiles end ts us → Gaps (tile_items b all names ts ++ labels_at names n)
 gaps b all names n [] us end are = last_gap (named.is_named names n) (with_no_line (what.Label (label_name n)))
 gaps b all names n (t ∷ ts) us end are =
     let units = item_positive t.item (take t.size us) are.2 in
     let positive : 0 < size_of (piece_item b all (piece_of t)).what = omega (arith, units, length-take-le t.size us are.1, tile_size b all t us are.1 are.2) in
-    gaps_by (is_aligning names (piece_of t) (map piece_of ts)) (named.is_named names t.at) (with_no_line (what.Label (label_name t.at))) (piece_item b all (piece_of t)) (items_from b all names (map piece_of ts)) (labels_at names n) positive
+    gaps_by (named.is_named names t.at) (with_no_line (what.Label (label_name t.at))) (piece_item b all (piece_of t)) (tile_items b all names ts) (labels_at names n) positive
     (gaps b all names n ts (drop t.size us) (end + t.size) are.3)
 
 gap_at : (items : List Item) (m : ℕ) → Gaps items → suc m < length items → (0 < size_of (item_at items m).what) ⊎ (0 < size_of (item_at items (suc m)).what)

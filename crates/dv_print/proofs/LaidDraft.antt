@@ -28,12 +28,12 @@ use Rattle.dv_asm.specs.Tiles.{tiles_of}
 use Rattle.dv_print.specs.Laws.{HaveNumbers}
 use Rattle.dv_print.proofs.Truth.{both, any_left, any_right, not_false, none_of, refused_none}
 use Rattle.dv_print.proofs.KeptEntries.{has_pools, units_are, pieces_are}
-use Rattle.dv_print.proofs.PieceItems.{even_to}
+use Rattle.dv_print.proofs.PieceItems.{even_tiles}
 use Rattle.dv_print.proofs.KeptAddresses.{tiles_are, draft_starts, draft_keeps_addresses}
 use Rattle.dv_print.proofs.LaidOut.{layout_size, are_short}
 use Rattle.dv_print.proofs.KnownDraft.{Known, leads_to, tile_listed}
-use Rattle.dv_print.proofs.Placed.{are_placed}
-use Rattle.dv_print.proofs.Switches.{SwitchTo, HasPayload, switch_tile, base_before}
+use Rattle.dv_print.proofs.Placed.{items_placed}
+use Rattle.dv_print.proofs.SwitchTiles.{SwitchTo, HasPayload, switch_tile, base_before}
 use Rattle.dv_print.proofs.Rebased.{IsPlaced, Drafts, labels_placed, tiles_placed, switch_offset, base_after}
 use Rattle.dv_print.proofs.SpelledAgain.{IsRebased}
 use Rattle.dv_print.proofs.KeptHandlers.{LeadsTo, Leads}
@@ -126,7 +126,7 @@ drafts d l = record {
   formed = l.formed;
   once = none_repeated d.items l.none;
   start = draft_starts d l.formed l.numbers l.none l.fit;
-  placed = (are_placed (IsPlaced (layout d) (pieces d) (tiles d)) (layout d) (pieces d) (all_named d) (after_of d) (tiles d) (labels_placed (layout d) (pieces d) (tiles d)) (tiles_placed (layout d) (pieces d) (tiles d)) (draft_starts d l.formed l.numbers l.none l.fit) (tiles_are d l.formed l.numbers l.none l.fit) (even_to d.items (pools_of d.items) (length d.items) (omega arith))).placed;
+  placed = (items_placed (IsPlaced (layout d) (pieces d) (tiles d)) (layout d) (pieces d) (all_named d) (after_of d) (tiles d) (labels_placed (layout d) (pieces d) (tiles d)) (tiles_placed (layout d) (pieces d) (tiles d)) (draft_starts d l.formed l.numbers l.none l.fit) (tiles_are d l.formed l.numbers l.none l.fit) (even_tiles d.items (pools_of d.items))).placed;
   leads = switch_leads d l;
 }
 

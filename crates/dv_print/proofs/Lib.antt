@@ -8,6 +8,7 @@ pub mod Labels
 pub mod Entries
 pub mod PoolKinds
 pub mod KeptEntries
+pub mod LookUps
 pub mod Walk
 pub mod PieceItems
 pub mod Placed
@@ -16,7 +17,7 @@ pub mod KeptUnits
 pub mod Straight
 pub mod Resolved
 pub mod Branches
-pub mod Switches
+pub mod SwitchTiles
 pub mod KnownDraft
 pub mod Rebased
 pub mod SpelledAgain

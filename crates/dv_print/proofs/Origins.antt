@@ -15,10 +15,8 @@ use Rattle.dv_asm.specs.Layout.{insn_of, packed_of, sparse_of, pools_of, layout}
 use Rattle.dv_print.specs.Pieces.{part_of}
 use Rattle.dv_print.specs.Named as named
 use Rattle.dv_print.specs.Drafting.{op_of, payload_item, part_item}
-use Rattle.dv_print.proofs.Branches.{Mem}
-use Rattle.dv_print.proofs.ItemTiles.{tiles_at}
+use Rattle.dv_print.proofs.ItemTiles.{tiles_at, nop, Mem, OfItem, of_item}
 use Rattle.dv_print.proofs.Rebased.{IsOfTile, IsPlaced}
-use Rattle.dv_print.proofs.Switches.{OfItem, of_item}
 use Rattle.dv_print.proofs.LaidDraft.{IsLaidOut, after_of, pieces, tiles, drafts}
 
 -- what is at place p of the draft before is this payload
@@ -29,7 +27,7 @@ HasContent d p (what.Packed first names) x = packed_of d.items (address_of d.ite
 HasContent d p (what.Sparse keys names) x = sparse_of d.items (address_of d.items p) keys names ≡ x
 HasContent d p (what.Data width bytes) x = payload.Data width bytes ≡ x
 
--- item k of the draft is a nop that layout put there, and that a label names
+-- item k of the draft is a nop that layout put before a payload
 pub record FromNop (d : DraftValue) (k : ℕ) : Type 0 where
   pub is : (item_at (after_of d) k).what ≡ what.Op (op_of (layout d) (address_of (after_of d) k) (plain 0 (few [])))
 
@@ -79,8 +77,8 @@ of_tile d k p t (what.Data width bytes) within e (inl same) is at =
 pub origin : (d : DraftValue) → IsLaidOut d → (k : ℕ) → k < length (after_of d) → Origin d k
 origin d l k within = at ((drafts d l).placed k within)
   where
-    made : (f : IsOfTile (layout d) (pieces d) (tiles d) (item_at (after_of d) k).what (address_of (after_of d) k)) → (f.tile.item ≡ IsInsn (plain 0 (few []))) ⊎ OfItem d.items (pools_of d.items) f.tile → Origin d k
-    made f (inl nop) = inr (inl (record { is = f.is ∙ (ap (part_at d f.tile.at) nop ∙ ap (λ n. what.Op (op_of (layout d) n (plain 0 (few [])))) f.at) }))
+    made : (f : IsOfTile (layout d) (pieces d) (tiles d) (item_at (after_of d) k).what (address_of (after_of d) k)) → (f.tile.item ≡ nop) ⊎ OfItem d.items (pools_of d.items) f.tile → Origin d k
+    made f (inl own) = inr (inl (record { is = f.is ∙ (ap (part_at d f.tile.at) own ∙ ap (λ n. what.Op (op_of (layout d) n (plain 0 (few [])))) f.at) }))
     made f (inr o) = of_tile d k o.place f.tile (item_at d.items o.place).what o.within refl o.own f.is f.at
 
     at : IsPlaced (layout d) (pieces d) (tiles d) (item_at (after_of d) k).what (address_of (after_of d) k) → Origin d k

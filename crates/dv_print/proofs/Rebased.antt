@@ -28,14 +28,15 @@ use Rattle.dv_print.specs.Numbers.{label_name}
 use Rattle.dv_print.specs.Operands.{has_offset}
 use Rattle.dv_print.specs.Pieces.{part_of, piece_of}
 use Rattle.dv_print.specs.Named.{target_of}
-use Rattle.dv_print.specs.Drafting.{op_of, part_item, piece_item, labels_at, is_nop, is_aligning, items_at, items_from}
+use Rattle.dv_print.specs.Drafting.{op_of, part_item, piece_item, labels_at, items_at}
 use Rattle.dv_asm.specs.Tiles.{tiles_of}
 use Rattle.dv_print.proofs.Truth.{either}
 use Rattle.dv_print.proofs.Entries.{appended, not_before}
 use Rattle.dv_print.proofs.Resolved.{later_in}
-use Rattle.dv_print.proofs.Branches.{Mem}
+use Rattle.dv_print.proofs.ItemTiles.{Mem}
+use Rattle.dv_print.proofs.PieceItems.{tile_items}
 use Rattle.dv_print.proofs.Placed.{HoldsOfLabels, HoldsOfTiles}
-use Rattle.dv_print.proofs.Switches.{SwitchTo, TileTo, HasPayload, is_switch, names_it, own_switch, switch_found, switch_item, switch_tile}
+use Rattle.dv_print.proofs.SwitchTiles.{SwitchTo, TileTo, HasPayload, is_switch, names_it, own_switch, switch_found, switch_item, switch_tile}
 
 -- ---- what stands in the draft
 
@@ -53,32 +54,20 @@ IsPlaced b all ts w a = (is_label w ≡ true) ⊎ IsOfTile b all ts w a
 pub labels_placed : (b : BodyValue) (all : List Piece) (ts : List Tile) → HoldsOfLabels (IsPlaced b all ts)
 labels_placed b all ts a = inl refl
 
-placed_in : (b : BodyValue) (all : List Piece) (whole ts : List Tile) → ((t : Tile) → Mem t ts → Mem t whole) → HoldsOfTiles (IsPlaced b all whole) b all ts
-placed_in b all whole [] within = tt
-placed_in b all whole (t ∷ ts) within =
-    (inr (record { tile = t; mem = within t (inl refl); is = refl; at = refl }), placed_in b all whole ts (λ s m. within s (inr m)))
-
 pub tiles_placed : (b : BodyValue) (all : List Piece) (ts : List Tile) → HoldsOfTiles (IsPlaced b all ts) b all ts
-tiles_placed b all ts = placed_in b all ts ts (λ t m. m)
+tiles_placed b all ts t mem = inr (record { tile = t; mem = mem; is = refl; at = refl })
 
-stays_in : (names : List ℕ) (p : Piece) (ps : List Piece) → is_nop p.part ≡ false → is_aligning names p ps ≡ false
-stays_in names p ps e = grind (arith, nat_tests)
-
--- the item of a tile that isn't a nop stands in the draft
-pub item_in : (b : BodyValue) (all : List Piece) (names : List ℕ) (t : Tile) (ts : List Tile) → is_nop (part_of t.item) ≡ false → Mem t ts → (j : ℕ) × (slice_get (items_from b all names (map piece_of ts)) j ≡ Some (piece_item b all (piece_of t)))
-item_in b all names t [] e h = absurd h
-item_in b all names t (s ∷ ts) e (inl same) =
-    let p = piece_of s in
-    let rest = items_from b all names (map piece_of ts) in
-    let labels = labels_at names s.at in
-    let kept : is_nop p.part ≡ false = ap (λ x. is_nop (part_of x.item)) same ∙ e in
-    let whole : items_from b all names (map piece_of (s ∷ ts)) ≡ (labels ++ piece_item b all p ∷ []) ++ rest =
-    ap (λ c. (if c then [] else labels ++ piece_item b all p ∷ []) ++ rest) (stays_in names p (map piece_of ts) kept) in
-    let j = length labels + 0 in
-    (j, ap (λ xs. slice_get xs j) whole ∙ (appended (labels ++ piece_item b all p ∷ []) rest j _ (later_in labels (piece_item b all p ∷ []) 0 _ refl) ∙ ap (λ x. Some (piece_item b all (piece_of x))) same))
-item_in b all names t (s ∷ ts) e (inr later) =
-    let at = item_in b all names t ts e later in
-    (length (items_at b all names (piece_of s) (map piece_of ts)) + at.0, later_in (items_at b all names (piece_of s) (map piece_of ts)) (items_from b all names (map piece_of ts)) at.0 _ at.1)
+-- the item of a tile stands in the draft
+pub item_in : (b : BodyValue) (all : List Piece) (names : List ℕ) (t : Tile) (ts : List Tile) → Mem t ts → (j : ℕ) × (slice_get (tile_items b all names ts) j ≡ Some (piece_item b all (piece_of t)))
+item_in b all names t [] h = absurd h
+item_in b all names t (s ∷ ts) (inl same) =
+    let own = piece_item b all (piece_of s) ∷ [] in
+    let j = length (labels_at names s.at) + 0 in
+    let here = later_in (labels_at names s.at) own 0 _ refl in
+    (j, appended (labels_at names s.at ++ own) (tile_items b all names ts) j _ here ∙ ap (λ x. Some (piece_item b all (piece_of x))) same)
+item_in b all names t (s ∷ ts) (inr later) =
+    let at = item_in b all names t ts later in
+    (length (items_at b all names (piece_of s)) + at.0, later_in (items_at b all names (piece_of s)) (tile_items b all names ts) at.0 _ at.1)
 
 -- ---- the switches of the draft
 
@@ -111,14 +100,11 @@ switch_offset op e = at (either (nat_eq op 0x2b) (nat_eq op 0x2c) e)
     at (inl h) = ap has_offset (eqb-true op 0x2b h)
     at (inr h) = ap has_offset (eqb-true op 0x2c h)
 
-no_nop : (op : ℕ) → is_switch_opcode op ≡ true → nat_eq op 0 ≡ false
-no_nop op e = grind (arith, nat_tests)
-
 -- what is known of the two drafts
 pub record Drafts (items after : List Item) (pools : Pools) (b : BodyValue) (all : List Piece) (names : List ℕ) (final : List Item) : Type 0 where
   pub formed : AreFormed items
   pub once : repeated items ≡ None
-  pub start : after ≡ items_from b all names (map piece_of (tiles_of items pools (length items))) ++ final
+  pub start : after ≡ tile_items b all names (tiles_of items pools (length items)) ++ final
   pub placed : (k : ℕ) → k < length after → IsPlaced b all (tiles_of items pools (length items)) (item_at after k).what (address_of after k)
   pub leads : (k a : ℕ) → k < length items → SwitchTo items (item_at items k).what a → label_address after (label_name a) ≡ a
 
@@ -164,8 +150,7 @@ kept_switch : (items after : List Item) (pools : Pools) (b : BodyValue) (all : L
 kept_switch items after pools b all names final k a d within s none =
     let t = switch_tile items pools k a within s in
     let i = t.to.insn in
-    let stays : is_nop (part_of t.tile.item) ≡ false = ap (λ x. is_nop (part_of x)) t.to.is ∙ no_nop i.op t.to.opcode in
-    let (j, found) = item_in b all names t.tile (tiles_of items pools (length items)) stays t.mem in
+    let (j, found) = item_in b all names t.tile (tiles_of items pools (length items)) t.mem in
     let here : slice_get after j ≡ Some (piece_item b all (piece_of t.tile)) = ap (λ xs. slice_get xs j) d.start ∙ appended _ final j _ found in
     let is : (piece_item b all (piece_of t.tile)).what ≡ what.Op (op_of b t.tile.at i) = ap (λ x. part_item b all t.tile.at (part_of x)) t.to.is in
     let to : jump t.tile.at i.off ≡ a = t.to.leads in

@@ -13,24 +13,18 @@ use Rattle.dv_asm.specs.declared.draft.What.{What}
 use Rattle.dv_asm.specs.declared.draft.What.TheVariants as what
 use Rattle.dv_asm.specs.Items.{item_at, no_item, is_named, is_label_named}
 use Rattle.dv_asm.specs.Places.{address_of, end_of, size_of_all, label_address}
-use Rattle.dv_asm.proofs.PlaceLemmas.{aligned_above}
 use Rattle.dv_print.specs.declared.pieces.Piece.{Piece}
 use Rattle.dv_print.specs.Numbers.{label_name}
 use Rattle.dv_print.specs.Pieces.{piece_of}
 use Rattle.dv_print.specs.Named as named
-use Rattle.dv_print.specs.Drafting.{labels_at, piece_item, with_no_line, is_aligning, items_at, items_from}
+use Rattle.dv_print.specs.Drafting.{labels_at, piece_item, with_no_line, items_at}
 use Rattle.dv_print.specs.Laws.{KeepsAddresses, IsNamedBy}
 use Rattle.dv_print.proofs.Entries.{not_before, bytes_same, bytes_itself}
 use Rattle.dv_print.proofs.Labels.{labels_are_distinct}
+use Rattle.dv_print.proofs.Walk.{ends_below}
+use Rattle.dv_print.proofs.PieceItems.{tile_items}
 
 -- ---- the address of a label by its name
-
--- an end is no further than the end of all
-pub ends_below : (items : List Item) (k n : ℕ) → end_of items k ≤ end_of items (k + n)
-ends_below items k zero = let e : k ≡ k + 0 = omega arith in omega (arith, ap (end_of items) e)
-ends_below items k (suc n) =
-    let e : suc (k + n) ≡ k + suc n = omega arith in
-    omega (arith, ends_below items k n, aligned_above (end_of items (k + n)) (drop (k + n) items), ap (end_of items) e)
 
 pub address_below : (items : List Item) (k : ℕ) → k < length items → address_of items k ≤ size_of_all items
 address_below items k within =
@@ -73,25 +67,18 @@ later_in (x ∷ xs) ys j y e =
     let n : suc (length xs) + j ≡ suc (length xs + j) = omega arith in
     ap (slice_get (x ∷ xs ++ ys)) n ∙ later_in xs ys j y e
 
-not_aligning : (names : List ℕ) (p : Piece) (ps : List Piece) → named.is_named names p.at ≡ true → is_aligning names p ps ≡ false
-not_aligning names p ps e = grind (arith, nat_tests)
-
 pub label_here : (names : List ℕ) (a : ℕ) → named.is_named names a ≡ true → labels_at names a ≡ with_no_line (what.Label (label_name a)) ∷ []
 label_here names a e = ap (λ c. if c then with_no_line (what.Label (label_name a)) ∷ [] else []) e
 
 abbrev pub Stands : ℕ → List Item → Type 0
 Stands a items = (j : ℕ) × (slice_get items j ≡ Some (with_no_line (what.Label (label_name a))))
 
-pub stands_in : (b : BodyValue) (all : List Piece) (names : List ℕ) (a : ℕ) (ts : List Tile) → named.is_named names a ≡ true → HasAt a ts → Stands a (items_from b all names (map piece_of ts))
+pub stands_in : (b : BodyValue) (all : List Piece) (names : List ℕ) (a : ℕ) (ts : List Tile) → named.is_named names a ≡ true → HasAt a ts → Stands a (tile_items b all names ts)
 stands_in b all names a [] e h = absurd h
 stands_in b all names a (t ∷ ts) e (inl same) =
-    let p = piece_of t in
-    let rest = items_from b all names (map piece_of ts) in
     let here : named.is_named names t.at ≡ true = ap (named.is_named names) same ∙ e in
-    let whole : items_from b all names (map piece_of (t ∷ ts)) ≡ (with_no_line (what.Label (label_name t.at)) ∷ piece_item b all p ∷ []) ++ rest =
-    ap (λ c. (if c then [] else labels_at names t.at ++ piece_item b all p ∷ []) ++ rest) (not_aligning names p (map piece_of ts) here) ∙
-    ap (λ ls. (ls ++ piece_item b all p ∷ []) ++ rest) (label_here names t.at here) in
-    (0, ap (λ xs. slice_get xs 0) whole ∙ ap (λ n. Some (with_no_line (what.Label (label_name n)))) same)
+    let first = ap (λ ls. slice_get ((ls ++ piece_item b all (piece_of t) ∷ []) ++ tile_items b all names ts) 0) (label_here names t.at here) in
+    (0, first ∙ ap (λ n. Some (with_no_line (what.Label (label_name n)))) same)
 stands_in b all names a (t ∷ ts) e (inr later) =
     let at = stands_in b all names a ts e later in
-    (length (items_at b all names (piece_of t) (map piece_of ts)) + at.0, later_in (items_at b all names (piece_of t) (map piece_of ts)) (items_from b all names (map piece_of ts)) at.0 _ at.1)
+    (length (items_at b all names (piece_of t)) + at.0, later_in (items_at b all names (piece_of t)) (tile_items b all names ts) at.0 _ at.1)

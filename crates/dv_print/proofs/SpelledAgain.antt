@@ -1,5 +1,5 @@
 -- The draft that is made of a laid-out body is spelled as that body.
-use Rattle.std.proofs.Common.{◌≡◌, ℕ, ◌<◌, ◌≤◌, zero, suc, ℤ, pos, ◌-ℤ◌, Bool, true, false, List, [], ◌∷◌, ◌++◌, length, map, nat_lt, nat_eq, Option, Some, None, is_some, if◌then◌else◌, refl, ap, sym, ◌∙◌, subst, arith}
+use Rattle.std.proofs.Common.{◌≡◌, ℕ, ◌<◌, ◌≤◌, zero, suc, ℤ, pos, ◌-ℤ◌, Bool, true, false, ◌⊎◌, inl, inr, List, [], ◌∷◌, length, map, nat_eq, Option, Some, None, is_some, if◌then◌else◌, refl, ap, sym, ◌∙◌, subst, arith}
 use Rattle.std.specs.Prelude.{option_map}
 use Rattle.std.specs.List.{list_any, list_all}
 use Rattle.std.specs.Option.{option_to_list}
@@ -8,7 +8,7 @@ use Rattle.dv_defs.specs.declared.code.Insn.{Insn}
 use Rattle.dv_defs.specs.declared.code.Payload.{Payload}
 use Rattle.dv_defs.specs.declared.code.Payload.TheVariants as payload
 use Rattle.dv_defs.specs.Payloads.{payload_spelling}
-use Rattle.dv_defs.specs.Tiling.{IsInsn, IsPayload}
+use Rattle.dv_defs.specs.Tiling.{IsInsn, IsPayload, Tile}
 use Rattle.dv_defs.specs.Body.{BodyValue}
 use Rattle.dv_defs.specs.Numbers.{jump}
 use Rattle.dv_defs.specs.Spelling.{spelling}
@@ -16,6 +16,7 @@ use Rattle.dv_asm.specs.declared.draft.Item.{Item}
 use Rattle.dv_asm.specs.declared.draft.Draftop.{Draftop}
 use Rattle.dv_asm.specs.declared.draft.What.{What}
 use Rattle.dv_asm.specs.declared.draft.What.TheVariants as what
+use Rattle.dv_asm.specs.declared.pools.Pools.{Pools}
 use Rattle.dv_asm.specs.Draft.{AreFormed, IsFormed, IsOp, blank}
 use Rattle.dv_asm.specs.Items.{item_at, no_item, size_of, is_payload}
 use Rattle.dv_asm.specs.Places.{address_of, end_of, label_address, distance}
@@ -28,14 +29,14 @@ use Rattle.dv_print.specs.Operands.{has_offset}
 use Rattle.dv_print.specs.Named as named
 use Rattle.dv_print.specs.Named.{target_of, named_by_try, addresses_named}
 use Rattle.dv_print.specs.Drafting.{pool_of, entry_in, op_of, labels_from}
-use Rattle.dv_asm.specs.Tiles.{tiles_of, nops_between}
+use Rattle.dv_asm.specs.Tiles.{tiles_of}
 use Rattle.dv_print.proofs.Truth.{both, any_left, any_right}
-use Rattle.dv_print.proofs.ItemTiles.{tile, tiles_at}
+use Rattle.dv_print.proofs.ItemTiles.{tile, tiles_at, nop, Mem, mem_to, OfItem, of_item}
 use Rattle.dv_print.proofs.KeptEntries.{own_entry, small_opcode}
-use Rattle.dv_print.proofs.KeptUnits.{AreSpelledAs}
-use Rattle.dv_print.proofs.Branches.{mem_to, leads_back}
+use Rattle.dv_print.proofs.KeptUnits.{IsSpelledAs}
+use Rattle.dv_print.proofs.Branches.{leads_back}
 use Rattle.dv_print.proofs.KnownDraft.{Known, leads_to, tile_listed}
-use Rattle.dv_print.proofs.Straight.{same_offsets, spelled_append, insn_by, offset_none, nops_by, same_insn}
+use Rattle.dv_print.proofs.Straight.{same_offsets, insn_by, offset_none, same_insn, nop_spelled}
 
 target_is : (at : ℕ) (i : Insn) (c : Bool) → c ≡ true → (if c then Some (jump at i.off) else None) ≡ Some (jump at i.off)
 target_is at i true e = refl
@@ -72,20 +73,18 @@ branch_same items after b all names k op name h short within e labelled has offs
 
 -- ---- each piece is spelled as it was
 
-op_spelled : (items after : List Item) (b : BodyValue) (all : List Piece) (names : List ℕ) (k : ℕ) (op : Draftop) (label : Option (List ℕ)) → Known items after b all names → k < length items → (item_at items k).what ≡ what.Op op → IsOp op → op.label ≡ label → has_label_if_any items label ≡ true → too_long items ≡ None → AreSpelledAs after (pools_of items) b all (tiles_at items (pools_of items) k (what.Op op))
+op_spelled : (items after : List Item) (b : BodyValue) (all : List Piece) (names : List ℕ) (k : ℕ) (op : Draftop) (label : Option (List ℕ)) → Known items after b all names → k < length items → (item_at items k).what ≡ what.Op op → IsOp op → op.label ≡ label → has_label_if_any items label ≡ true → too_long items ≡ None → IsSpelledAs after (pools_of items) b all (tile (address_of items k) (size_of (what.Op op)) (IsInsn (insn_of items (pools_of items) k op)))
 op_spelled items after b all names k op None h within e formed labelled has short =
     let small = small_opcode (blank op.insn) (spelling (blank op.insn)) refl formed.form in
     let none : has_offset op.insn.op ≡ false = same_offsets op.insn.op small ∙ (sym formed.label ∙ ap is_some labelled) in
-    (λ j at. ap spelling (same_insn after (pools_of items) b j (address_of items k) (insn_of items (pools_of items) k op) none (offset_none items k op.label labelled) (ap (index_of (pools_of items)) (own_entry b items k op h.pools within e formed))), tt)
+    λ j at. ap spelling (same_insn after (pools_of items) b j (address_of items k) (insn_of items (pools_of items) k op) none (offset_none items k op.label labelled) (ap (index_of (pools_of items)) (own_entry b items k op h.pools within e formed)))
 op_spelled items after b all names k op (Some name) h within e formed labelled has short =
     let small = small_opcode (blank op.insn) (spelling (blank op.insn)) refl formed.form in
     let some : has_offset op.insn.op ≡ true = same_offsets op.insn.op small ∙ (sym formed.label ∙ ap is_some labelled) in
-    let i = insn_of items (pools_of items) k op in (
-      λ j at. ap spelling (insn_by i.op i.regs i.lit (offset_of after j (op_of b (address_of items k) i).label) i.off (index_of (pools_of items) (entry_in b (pool_of i.op) i.index)) i.index
-          (branch_same items after b all names k op name h short within e labelled has some j at)
-          (ap (index_of (pools_of items)) (own_entry b items k op h.pools within e formed))),
-      tt,
-    )
+    let i = insn_of items (pools_of items) k op in
+    λ j at. ap spelling (insn_by i.op i.regs i.lit (offset_of after j (op_of b (address_of items k) i).label) i.off (index_of (pools_of items) (entry_in b (pool_of i.op) i.index)) i.index
+    (branch_same items after b all names k op name h short within e labelled has some j at)
+    (ap (index_of (pools_of items)) (own_entry b items k op h.pools within e formed)))
 
 -- ---- the targets of switches
 
@@ -146,25 +145,32 @@ payload_listed items after b all names k w p l within e tiles a h =
     let t = tile (address_of items k) (size_of w) (IsPayload p) in
     tile_listed items after b all names a t l.known h (mem_to items (pools_of items) k (length items) t within (ap (tiles_at items (pools_of items) k) e ∙ tiles))
 
-own_spelled : (items after : List Item) (b : BodyValue) (all : List Piece) (names : List ℕ) (k : ℕ) (w : What) → Laid items after b all names → k < length items → (item_at items k).what ≡ w → IsFormed w → has_labels items w ≡ true → AreSpelledAs after (pools_of items) b all (tiles_at items (pools_of items) k w)
-own_spelled items after b all names k (what.Label name) l within e formed has = tt
-own_spelled items after b all names k (what.Op op) l within e formed has = op_spelled items after b all names k op op.label l.known within e formed refl has l.short
-own_spelled items after b all names k (what.Packed first targets) l within e formed has =
-    let same = λ (j : ℕ) (at : address_of after j ≡ address_of items k).
-    switch_same items after b all names k j targets l.known l.short (l.rebased k within (ap is_payload e)) has (payload_listed items after b all names k _ _ l within e refl) at in
-    (λ j at. ap (λ ts. payload_spelling (payload.Packed first ts)) (same j at), tt)
-own_spelled items after b all names k (what.Sparse keys targets) l within e formed has =
-    let same = λ (j : ℕ) (at : address_of after j ≡ address_of items k).
-    switch_same items after b all names k j targets l.known l.short (l.rebased k within (ap is_payload e)) has (payload_listed items after b all names k _ _ l within e refl) at in
-    (λ j at. ap (λ ts. payload_spelling (payload.Sparse keys ts)) (same j at), tt)
-own_spelled items after b all names k (what.Data width bytes) l within e formed has = (λ j at. refl, tt)
+-- a tile that is spelled as it was, by a tile that it is
+same_tile : (after : List Item) (pools : Pools) (b : BodyValue) (all : List Piece) (s t : Tile) → s ≡ t → IsSpelledAs after pools b all s → IsSpelledAs after pools b all t
+same_tile after pools b all s t same h = let P : Tile → Type 0 = λ x. IsSpelledAs after pools b all x in subst P same h
 
--- the first k items are spelled as they were
-pub spelled_to : (items after : List Item) (b : BodyValue) (all : List Piece) (names : List ℕ) (k : ℕ) → Laid items after b all names → k ≤ length items → AreSpelledAs after (pools_of items) b all (tiles_of items (pools_of items) k)
-spelled_to items after b all names zero l within = tt
-spelled_to items after b all names (suc k) l within =
-    let end = end_of items k in
-    let address = address_of items k in
-    spelled_append after (pools_of items) b all (tiles_of items (pools_of items) k ++ nops_between end address) _
-    (spelled_append after (pools_of items) b all (tiles_of items (pools_of items) k) _ (spelled_to items after b all names k l (omega arith)) (nops_by (nat_lt end address) after (pools_of items) b all end))
-    (own_spelled items after b all names k (item_at items k).what l (omega arith) refl (l.formed k no_item (omega arith)) (l.labelled k (omega arith)))
+own_spelled : (items after : List Item) (b : BodyValue) (all : List Piece) (names : List ℕ) (k : ℕ) (w : What) (t : Tile) → Laid items after b all names → k < length items → (item_at items k).what ≡ w → IsFormed w → has_labels items w ≡ true → Mem t (tiles_at items (pools_of items) k w) → IsSpelledAs after (pools_of items) b all t
+own_spelled items after b all names k (what.Label name) t l within e formed has h = absurd h
+own_spelled items after b all names k (what.Op op) t l within e formed has (inl own) =
+    same_tile after (pools_of items) b all _ t own (op_spelled items after b all names k op op.label l.known within e formed refl has l.short)
+own_spelled items after b all names k (what.Op op) t l within e formed has (inr h) = absurd h
+own_spelled items after b all names k (what.Packed first targets) t l within e formed has (inl own) =
+    let same = λ (j : ℕ) (at : address_of after j ≡ address_of items k).
+    switch_same items after b all names k j targets l.known l.short (l.rebased k within (ap is_payload e)) has (payload_listed items after b all names k _ _ l within e refl) at in
+    same_tile after (pools_of items) b all _ t own (λ j at. ap (λ ts. payload_spelling (payload.Packed first ts)) (same j at))
+own_spelled items after b all names k (what.Packed first targets) t l within e formed has (inr h) = absurd h
+own_spelled items after b all names k (what.Sparse keys targets) t l within e formed has (inl own) =
+    let same = λ (j : ℕ) (at : address_of after j ≡ address_of items k).
+    switch_same items after b all names k j targets l.known l.short (l.rebased k within (ap is_payload e)) has (payload_listed items after b all names k _ _ l within e refl) at in
+    same_tile after (pools_of items) b all _ t own (λ j at. ap (λ ts. payload_spelling (payload.Sparse keys ts)) (same j at))
+own_spelled items after b all names k (what.Sparse keys targets) t l within e formed has (inr h) = absurd h
+own_spelled items after b all names k (what.Data width bytes) t l within e formed has (inl own) = same_tile after (pools_of items) b all _ t own (λ j at. refl)
+own_spelled items after b all names k (what.Data width bytes) t l within e formed has (inr h) = absurd h
+
+-- each tile is spelled as it was
+pub tiles_spelled : (items after : List Item) (b : BodyValue) (all : List Piece) (names : List ℕ) → Laid items after b all names → (t : Tile) → Mem t (tiles_of items (pools_of items) (length items)) → IsSpelledAs after (pools_of items) b all t
+tiles_spelled items after b all names l t mem = at (of_item items (pools_of items) (length items) t (omega arith) mem)
+  where
+    at : (t.item ≡ nop) ⊎ OfItem items (pools_of items) t → IsSpelledAs after (pools_of items) b all t
+    at (inl e) = nop_spelled after (pools_of items) b all t e
+    at (inr o) = own_spelled items after b all names o.place (item_at items o.place).what t l o.within refl (l.formed o.place no_item o.within) (l.labelled o.place o.within) o.own

@@ -8,29 +8,27 @@ use Rattle.dv_defs.specs.Body.{BodyValue}
 use Rattle.dv_defs.specs.Formats.{format_at}
 use Rattle.dv_defs.specs.Numbers.{jump}
 use Rattle.dv_defs.specs.Spelling.{plain, few, spelling}
-use Rattle.dv_defs.specs.Tiling.{IsInsn, Tile}
+use Rattle.dv_defs.specs.Tiling.{Tile}
+use Rattle.dv_defs.specs.Layout.{item_spelling}
 use Rattle.dv_asm.specs.declared.draft.Item.{Item}
 use Rattle.dv_asm.specs.declared.pools.Pools.{Pools}
 use Rattle.dv_asm.specs.Draft as asm
 use Rattle.dv_asm.specs.Draft.{DraftValue, AreFormed, IsFormed, blank}
 use Rattle.dv_asm.specs.Pools.{index_of}
-use Rattle.dv_asm.specs.Layout.{insn_of, offset_of}
+use Rattle.dv_asm.specs.Layout.{insn_of, offset_of, spelling_of}
 use Rattle.dv_print.specs.declared.pieces.Piece.{Piece}
 use Rattle.dv_print.specs.Numbers.{label_name}
 use Rattle.dv_print.specs.Operands.{has_offset}
-use Rattle.dv_print.specs.Drafting.{pool_of, entry_in, op_of}
-use Rattle.dv_print.proofs.ItemTiles.{tile}
+use Rattle.dv_print.specs.Pieces.{part_of}
+use Rattle.dv_print.specs.Drafting.{pool_of, entry_in, op_of, part_item}
+use Rattle.dv_print.proofs.ItemTiles.{nop}
 use Rattle.dv_print.proofs.KeptEntries.{nop_pool}
-use Rattle.dv_print.proofs.KeptUnits.{AreSpelledAs}
+use Rattle.dv_print.proofs.KeptUnits.{IsSpelledAs}
 
 -- the two tables give the same opcodes offsets
 pub same_offsets : (op : ℕ) → op < 256 → has_offset op ≡ asm.has_offset (format_at op)
 unfolding has_offset format_at
 same_offsets op h = agree_below_at has_offset (λ n. asm.has_offset (format_at n)) 256 op refl h
-
-pub spelled_append : (items : List Item) (pools : Pools) (b : BodyValue) (all : List Piece) (ts us : List Tile) → AreSpelledAs items pools b all ts → AreSpelledAs items pools b all us → AreSpelledAs items pools b all (ts ++ us)
-spelled_append items pools b all [] us h k = k
-spelled_append items pools b all (t ∷ ts) us h k = (h.0, spelled_append items pools b all ts us h.1 k)
 
 pub no_label_by : (c : Bool) (at : ℕ) (off : ℤ) → c ≡ false → option_map label_name (if c then Some (jump at off) else None) ≡ None
 no_label_by true at off e = absurd (cc)
@@ -53,7 +51,7 @@ pub nop_offset : has_offset 0 ≡ false
 unfolding has_offset
 nop_offset = refl
 
-pub nops_by : (c : Bool) (after : List Item) (pools : Pools) (b : BodyValue) (all : List Piece) (end : ℕ) → AreSpelledAs after pools b all (if c then tile end 1 (IsInsn (plain 0 (few []))) ∷ [] else [])
-nops_by true after pools b all end =
-    (λ k e. ap spelling (same_insn after pools b k end (plain 0 (few [])) nop_offset refl (ap (λ q. index_of pools (entry_in b q 0)) nop_pool)), tt)
-nops_by false after pools b all end = tt
+pub nop_spelled : (after : List Item) (pools : Pools) (b : BodyValue) (all : List Piece) (t : Tile) → t.item ≡ nop → IsSpelledAs after pools b all t
+nop_spelled after pools b all t e k at =
+    ap (λ x. spelling_of after pools k (part_item b all t.at (part_of x))) e ∙
+    (ap spelling (same_insn after pools b k t.at (plain 0 (few [])) nop_offset refl (ap (λ q. index_of pools (entry_in b q 0)) nop_pool)) ∙ ap item_spelling (sym e))

@@ -1,53 +1,19 @@
--- A walk over the items of a draft, with what holds of each item at its address.
-use Rattle.std.proofs.Common.{◌≡◌, ℕ, ◌+◌, ◌-◌, ◌%◌, ◌<◌, ◌≤◌, suc, Bool, true, false, ◌&&◌, List, ◌∷◌, length, drop, get_or, nat_lt, nat_eq, if◌then◌else◌, refl, ap, sym, ◌∙◌, subst, arith, length-drop, add-zero}
+-- Items that stand one after another, with no nop that layout puts between.
+use Rattle.std.proofs.Common.{◌≡◌, ℕ, ◌+◌, ◌%◌, ◌<◌, ◌≤◌, zero, suc, Bool, true, false, ◌&&◌, List, [], ◌∷◌, length, drop, nat_eq, if◌then◌else◌, refl, ap, sym, ◌∙◌, subst, arith, drop-cons}
 use Rattle.std.proofs.lemmas.Bool.Decides.{nat_tests}
-use Rattle.std.proofs.lemmas.List.{drop-drop, get_or-drop}
+use Rattle.std.proofs.Math.Seq.{drop-length}
 use Rattle.dv_asm.specs.declared.draft.Item.{Item}
 use Rattle.dv_asm.specs.declared.draft.What.{What}
 use Rattle.dv_asm.specs.Items.{item_at, no_item, size_of}
-use Rattle.dv_asm.specs.Places.{address_of, end_of, aligned, leads_to_payload}
+use Rattle.dv_asm.specs.Places.{address_of, end_of, size_of_all, aligned, leads_to_payload}
+use Rattle.dv_asm.proofs.PlaceLemmas.{aligned_above}
 
--- the first k items end at an address, each of them is as it is to be where it stands, and these items come next
-pub record Reaches (IsAt : What → ℕ → Type 0) (items : List Item) (k end : ℕ) (next : List Item) : Type 0 where
-  pub within : k ≤ length items
-  pub ends : end_of items k ≡ end
-  pub placed : (j : ℕ) → j < k → IsAt (item_at items j).what (address_of items j)
-  pub rest : drop k items ≡ next
-
-pub first_of : (items : List Item) (k : ℕ) (item : Item) (next : List Item) → drop k items ≡ item ∷ next → item_at items k ≡ item
-first_of items k item next e =
-    let here : get_or (drop k items) 0 no_item ≡ get_or items k no_item = get_or-drop k items 0 no_item ∙ ap (λ j. get_or items j no_item) (add-zero k) in
-    sym here ∙ ap (λ xs. get_or xs 0 no_item) e
-
-pub one_item : (IsAt : What → ℕ → Type 0) (items : List Item) (k end : ℕ) (item : Item) (next : List Item) → Reaches IsAt items k end (item ∷ next) → IsAt item.what (aligned end (item ∷ next)) → Reaches IsAt items (suc k) (aligned end (item ∷ next) + size_of item.what) next
-one_item IsAt items k end item next r here_so =
-    let here = first_of items k item next r.rest in
-    let address : address_of items k ≡ aligned end (item ∷ next) = ap (λ n. aligned n (drop k items)) r.ends ∙ ap (aligned end) r.rest in
-    let counted : suc (length next) ≡ length items - k = ap length (sym r.rest) ∙ length-drop k items in
-    let P : ℕ → Type 0 = λ n. IsAt item.what n in
-    let Q : Item → Type 0 = λ x. IsAt x.what (address_of items k) in
-    record {
-      within = omega (arith, counted);
-      ends = ap (λ n. n + size_of (item_at items k).what) address ∙ ap (λ x. aligned end (item ∷ next) + size_of x.what) here;
-      placed = placed_by r.placed (subst Q (sym here) (subst P (sym address) here_so));
-      rest = after;
-    }
-  where
-    one : suc k ≡ k + 1
-    one = omega arith
-
-    after : drop (suc k) items ≡ next
-    after = ap (λ n. drop n items) one ∙ (sym (drop-drop 1 k items) ∙ ap (drop 1) r.rest)
-
-    placed_by : ((j : ℕ) → j < k → IsAt (item_at items j).what (address_of items j)) → IsAt (item_at items k).what (address_of items k) → (j : ℕ) → j < suc k → IsAt (item_at items j).what (address_of items j)
-    placed_by before last j within = at (nat_lt j k) refl
-      where
-        at : (b : Bool) → nat_lt j k ≡ b → IsAt (item_at items j).what (address_of items j)
-        at true e = before j (grind (arith, nat_tests))
-        at false e =
-            let same : k ≡ j = grind (arith, nat_tests) in
-            let R : ℕ → Type 0 = λ n. IsAt (item_at items n).what (address_of items n) in
-            subst R same last
+-- an end is no further than the end of all
+pub ends_below : (items : List Item) (k n : ℕ) → end_of items k ≤ end_of items (k + n)
+ends_below items k zero = let e : k ≡ k + 0 = omega arith in omega (arith, ap (end_of items) e)
+ends_below items k (suc n) =
+    let e : suc (k + n) ≡ k + suc n = omega arith in
+    omega (arith, ends_below items k n, aligned_above (end_of items (k + n)) (drop (k + n) items), ap (end_of items) e)
 
 aligned_by : (end : ℕ) (b : Bool) → (b ≡ true → end % 2 ≡ 0) → (if nat_eq (end % 2) 1 && b then end + 1 else end) ≡ end
 aligned_by end true h = let even = h refl in grind (arith, nat_tests)
@@ -61,8 +27,39 @@ aligned_by end false h = none (nat_eq (end % 2) 1)
 pub stays : (end : ℕ) (items : List Item) → (leads_to_payload items ≡ true → end % 2 ≡ 0) → aligned end items ≡ end
 stays end items h = aligned_by end (leads_to_payload items) h
 
-moves_by : (end : ℕ) (b : Bool) → b ≡ true → end % 2 ≡ 1 → (if nat_eq (end % 2) 1 && b then end + 1 else end) ≡ end + 1
-moves_by end b e odd = grind (arith, nat_tests)
+-- from one address to another the items stand one after another, with nothing between, and each is as it is to be where
+-- it stands
+abbrev pub StandFrom : (What → ℕ → Type 0) → ℕ → ℕ → List Item → Type 0
+StandFrom IsAt to from [] = from ≡ to
+StandFrom IsAt to from (x ∷ xs) = (aligned from (x ∷ xs) ≡ from) × IsAt x.what from × StandFrom IsAt to (from + size_of x.what) xs
 
-pub moves : (end : ℕ) (items : List Item) → leads_to_payload items ≡ true → end % 2 ≡ 1 → aligned end items ≡ end + 1
-moves end items e odd = moves_by end (leads_to_payload items) e odd
+-- the same item by item
+pub record ArePlaced (IsAt : What → ℕ → Type 0) (items : List Item) (to : ℕ) : Type 0 where
+  pub stays : (k : ℕ) → k < length items → address_of items k ≡ end_of items k
+  pub placed : (k : ℕ) → k < length items → IsAt (item_at items k).what (address_of items k)
+  pub size : size_of_all items ≡ to
+
+first : (IsAt : What → ℕ → Type 0) (items : List Item) (k to : ℕ) → k < length items → StandFrom IsAt to (end_of items k) (drop k items) → StandFrom IsAt to (end_of items k) (item_at items k ∷ drop (suc k) items)
+first IsAt items k to within s = let P : List Item → Type 0 = λ xs. StandFrom IsAt to (end_of items k) xs in subst P (drop-cons items k no_item within) s
+
+still : (IsAt : What → ℕ → Type 0) (items : List Item) (k to : ℕ) → k < length items → StandFrom IsAt to (end_of items k) (drop k items) → address_of items k ≡ end_of items k
+still IsAt items k to within s = ap (aligned (end_of items k)) (drop-cons items k no_item within) ∙ (first IsAt items k to within s).0
+
+stand_behind : (IsAt : What → ℕ → Type 0) (items : List Item) (to k : ℕ) → StandFrom IsAt to 0 items → k ≤ length items → StandFrom IsAt to (end_of items k) (drop k items)
+stand_behind IsAt items to zero s within = s
+stand_behind IsAt items to (suc k) s within =
+    let before = stand_behind IsAt items to k s (omega arith) in
+    let P : ℕ → Type 0 = λ n. StandFrom IsAt to (n + size_of (item_at items k).what) (drop (suc k) items) in
+    subst P (sym (still IsAt items k to (omega arith) before)) (first IsAt items k to (omega arith) before).2
+
+pub are_placed : (IsAt : What → ℕ → Type 0) (items : List Item) (to : ℕ) → StandFrom IsAt to 0 items → ArePlaced IsAt items to
+are_placed IsAt items to s = record {
+  stays = λ k within. still IsAt items k to within (stand_behind IsAt items to k s (omega arith));
+  placed = λ k within.
+      let here = stand_behind IsAt items to k s (omega arith) in
+      let P : ℕ → Type 0 = λ n. IsAt (item_at items k).what n in
+      subst P (sym (still IsAt items k to within here)) (first IsAt items k to within here).1;
+  size =
+      let P : List Item → Type 0 = λ xs. StandFrom IsAt to (end_of items (length items)) xs in
+      subst P (drop-length items) (stand_behind IsAt items to (length items) s (omega arith));
+}

@@ -30,8 +30,8 @@ use Rattle.dv_print.specs.Named as named
 use Rattle.dv_print.specs.Named.{part_switches_to, switches_to}
 use Rattle.dv_asm.specs.Tiles.{tiles_of, nops_between}
 use Rattle.dv_print.proofs.Truth.{both, either}
-use Rattle.dv_print.proofs.ItemTiles.{tile, tiles_at}
-use Rattle.dv_print.proofs.Branches.{Mem, mem_to, leads_back}
+use Rattle.dv_print.proofs.ItemTiles.{tile, tiles_at, nop, Mem, mem_to, OfItem, of_item}
+use Rattle.dv_print.proofs.Branches.{leads_back}
 
 -- ---- switches of a draft
 
@@ -96,41 +96,6 @@ switch_found items k a e =
     let count : length (addresses_named items) ≡ length items = simp length-map in
     let within : k < length items = omega (arith, found.0, count) in
     (within, sym (get_or-map (address_named_by items) items k no_item None within) ∙ named_by a _ found.1)
-
--- ---- the tiles of items, back to the items
-
--- a tile is that of an item
-pub record OfItem (items : List Item) (pools : Pools) (t : Tile) : Type 0 where
-  pub place : ℕ
-  pub within : place < length items
-  pub own : Mem t (tiles_at items pools place (item_at items place).what)
-
-mem_split : (t : Tile) (xs ys : List Tile) → Mem t (xs ++ ys) → Mem t xs ⊎ Mem t ys
-mem_split t [] ys h = inr h
-mem_split t (x ∷ xs) ys (inl e) = inl (inl e)
-mem_split t (x ∷ xs) ys (inr h) = at (mem_split t xs ys h)
-  where
-    at : Mem t xs ⊎ Mem t ys → Mem t (x ∷ xs) ⊎ Mem t ys
-    at (inl m) = inl (inr m)
-    at (inr m) = inr m
-
-is_nop_of : (c : Bool) (end : ℕ) (t : Tile) → Mem t (if c then tile end 1 (IsInsn (plain 0 (few []))) ∷ [] else []) → t.item ≡ IsInsn (plain 0 (few []))
-is_nop_of true end t (inl e) = ap (λ x. x.item) (sym e)
-is_nop_of true end t (inr h) = absurd h
-is_nop_of false end t h = absurd h
-
--- a tile of items is an aligning nop or an item's
-pub of_item : (items : List Item) (pools : Pools) (m : ℕ) (t : Tile) → m ≤ length items → Mem t (tiles_of items pools m) → (t.item ≡ IsInsn (plain 0 (few []))) ⊎ OfItem items pools t
-of_item items pools zero t within h = absurd h
-of_item items pools (suc m) t within h = at (mem_split t (tiles_of items pools m ++ nops_between (end_of items m) (address_of items m)) _ h) (λ before. of_item items pools m t (omega arith) before)
-  where
-    front : Mem t (tiles_of items pools m) ⊎ Mem t (nops_between (end_of items m) (address_of items m)) → (Mem t (tiles_of items pools m) → (t.item ≡ IsInsn (plain 0 (few []))) ⊎ OfItem items pools t) → (t.item ≡ IsInsn (plain 0 (few []))) ⊎ OfItem items pools t
-    front (inl before) earlier = earlier before
-    front (inr nop) earlier = inl (is_nop_of (nat_lt (end_of items m) (address_of items m)) (end_of items m) t nop)
-
-    at : Mem t (tiles_of items pools m ++ nops_between (end_of items m) (address_of items m)) ⊎ Mem t (tiles_at items pools m (item_at items m).what) → (Mem t (tiles_of items pools m) → (t.item ≡ IsInsn (plain 0 (few []))) ⊎ OfItem items pools t) → (t.item ≡ IsInsn (plain 0 (few []))) ⊎ OfItem items pools t
-    at (inl before) earlier = front (mem_split t (tiles_of items pools m) _ before) earlier
-    at (inr own) earlier = inr (record { place = m; within = omega arith; own = own })
 
 -- ---- switches among the tiles
 
@@ -223,9 +188,9 @@ item_of_op items pools t a k formed within s o =
 pub switch_item : (items : List Item) (pools : Pools) (t : Tile) (a : ℕ) → AreFormed items → Mem t (tiles_of items pools (length items)) → TileTo a t → IsTiled items t a
 switch_item items pools t a formed h s = at (of_item items pools (length items) t (omega arith) h)
   where
-    at : (t.item ≡ IsInsn (plain 0 (few []))) ⊎ OfItem items pools t → IsTiled items t a
-    at (inl nop) =
-        let same = insn_same s.insn (plain 0 (few [])) (sym s.is ∙ nop) in
+    at : (t.item ≡ nop) ⊎ OfItem items pools t → IsTiled items t a
+    at (inl own) =
+        let same = insn_same s.insn (plain 0 (few [])) (sym s.is ∙ own) in
         let no : is_switch_opcode 0 ≡ true = sym (ap (λ i. is_switch_opcode i.op) same) ∙ s.opcode in
         absurd (cc (no))
     at (inr o) = item_of_op items pools t a o.place formed o.within s (of_op items pools t s.insn o.place (item_at items o.place).what s.is o.own)
