@@ -6,7 +6,7 @@ use Rattle.dv_print.specs.declared.pieces.Piece.{Piece}
 use Rattle.dv_print.specs.Pieces.{pieces_of}
 use Rattle.dv_print.specs.Named.{addresses_named}
 use Rattle.dv_print.specs.Drafting.{labels_at, items_at, items_in}
-use Rattle.dv_print.proofs.LookUps.{items_same}
+use Rattle.dv_print.proofs.Steps.LookUps.{items_same}
 use Rattle.dv_print.proofs.drafting.items_of.Goals as goal
 
 pub returns : goal.returns

@@ -2,7 +2,7 @@ use Rattle.std.proofs.Common.{Option, ap, sym, ◌∙◌, arith}
 use Rattle.std.specs.Option.{option_or}
 use Rattle.dv_asm.specs.First.{when}
 use Rattle.dv_print.specs.Named.{switches_to}
-use Rattle.dv_print.proofs.LookUps.{switch_more}
+use Rattle.dv_print.proofs.Steps.LookUps.{switch_more}
 use Rattle.dv_print.proofs.switches.switches_of.Goals as goal
 
 pub loop-piece-preserved : goal.loop-piece-preserved

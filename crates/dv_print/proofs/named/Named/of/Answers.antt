@@ -1,6 +1,6 @@
 use Rattle.std.proofs.Common.{ap, ◌∙◌, arith}
 use Rattle.dv_print.specs.Named.{is_named}
-use Rattle.dv_print.proofs.LookUps.{named_more}
+use Rattle.dv_print.proofs.Steps.LookUps.{named_more}
 use Rattle.dv_print.proofs.named.Named.of.Goals as goal
 
 pub loop-address-preserved : goal.loop-address-preserved

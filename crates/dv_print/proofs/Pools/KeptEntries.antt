@@ -40,10 +40,10 @@ use Rattle.dv_print.specs.Drafting.{found_as, pool_of, entry_in, part_item, piec
 use Rattle.dv_asm.specs.Tiles as laid
 use Rattle.dv_asm.specs.Tiles.{nops_between}
 use Rattle.dv_print.specs.Laws.{HaveNumbers, KeepsEntries, entries_in, item_entries, entries_of}
-use Rattle.dv_print.proofs.ItemTiles.{tile, tiles_at, nop}
-use Rattle.dv_print.proofs.Entries.{Tells, bytes_tell, types_tell, fields_tell, methods_tell, kept, holds, at_index}
-use Rattle.dv_print.proofs.PoolKinds.{pool_for, pool_of_named, no_pool}
-use Rattle.dv_print.proofs.LaidOut.{layout_is_tiled}
+use Rattle.dv_print.proofs.Places.ItemTiles.{tile, tiles_at, nop}
+use Rattle.dv_print.proofs.Pools.Entries.{Tells, bytes_tell, types_tell, fields_tell, methods_tell, kept, holds, at_index}
+use Rattle.dv_print.proofs.Pools.PoolKinds.{pool_for, pool_of_named, no_pool}
+use Rattle.dv_print.proofs.Units.LaidOut.{layout_is_tiled}
 
 -- ---- an instruction's entry
 

@@ -15,10 +15,10 @@ use Rattle.dv_print.specs.Named.{addresses_named}
 use Rattle.dv_print.specs.Drafting.{labels_at, items_at, draft_of}
 use Rattle.dv_asm.specs.Tiles.{tiles_of}
 use Rattle.dv_print.specs.Laws.{HaveNumbers, KeepsAddresses, IsNamedBy}
-use Rattle.dv_print.proofs.LaidOut.{layout_is_tiled}
-use Rattle.dv_print.proofs.KeptEntries.{draft_items, pieces_are}
-use Rattle.dv_print.proofs.PieceItems.{tile_items, not_label, even_tiles}
-use Rattle.dv_print.proofs.Placed.{HoldsOfLabels, HoldsOfTiles, items_placed}
+use Rattle.dv_print.proofs.Units.LaidOut.{layout_is_tiled}
+use Rattle.dv_print.proofs.Pools.KeptEntries.{draft_items, pieces_are}
+use Rattle.dv_print.proofs.Places.PieceItems.{tile_items, not_label, even_tiles}
+use Rattle.dv_print.proofs.Places.Placed.{HoldsOfLabels, HoldsOfTiles, items_placed}
 
 labelled : HoldsOfLabels IsNamedBy
 labelled a = refl

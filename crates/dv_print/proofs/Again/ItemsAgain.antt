@@ -17,11 +17,11 @@ use Rattle.dv_asm.specs.Layout.{pools_of, layout}
 use Rattle.dv_asm.proofs.PlaceLemmas.{aligned_above}
 use Rattle.dv_print.specs.Drafting.{labels_at}
 use Rattle.dv_print.proofs.Truth.{both, either, itself, no_line}
-use Rattle.dv_print.proofs.Walk.{ends_below}
-use Rattle.dv_print.proofs.SwitchTiles.{SwitchTo, HasPayload, is_switch, own_switch, switch_found}
-use Rattle.dv_print.proofs.Rebased.{again, position_not}
-use Rattle.dv_print.proofs.LaidDraft.{IsLaidOut, after_of, pieces, all_named, known, drafts}
-use Rattle.dv_print.proofs.Origins.{HasContent, Origin, origin}
+use Rattle.dv_print.proofs.Places.Walk.{ends_below}
+use Rattle.dv_print.proofs.Units.SwitchTiles.{SwitchTo, HasPayload, is_switch, own_switch, switch_found}
+use Rattle.dv_print.proofs.Units.Rebased.{again, position_not}
+use Rattle.dv_print.proofs.Again.LaidDraft.{IsLaidOut, after_of, pieces, all_named, known, drafts}
+use Rattle.dv_print.proofs.Again.Origins.{HasContent, Origin, origin}
 
 -- ---- length
 

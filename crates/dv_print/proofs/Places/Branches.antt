@@ -20,9 +20,9 @@ use Rattle.dv_print.specs.Named.{target_of, named_by_piece}
 use Rattle.dv_print.specs.Pieces.{piece_of}
 use Rattle.dv_asm.specs.Tiles.{tiles_of, nops_between}
 use Rattle.dv_print.proofs.Truth.{any_left, any_right, itself}
-use Rattle.dv_print.proofs.ItemTiles.{tile, tiles_at, Mem, mem_to}
-use Rattle.dv_print.proofs.Walk.{stays}
-use Rattle.dv_print.proofs.Resolved.{HasAt}
+use Rattle.dv_print.proofs.Places.ItemTiles.{tile, tiles_at, Mem, mem_to}
+use Rattle.dv_print.proofs.Places.Walk.{stays}
+use Rattle.dv_print.proofs.Places.Resolved.{HasAt}
 
 -- ---- the tiles of items
 

@@ -32,22 +32,22 @@ use Rattle.dv_print.specs.Pieces.{piece_of}
 use Rattle.dv_print.specs.Named as named
 use Rattle.dv_print.specs.Drafting.{op_of, labels_from, payload_item, piece_item, with_no_line, labels_at, draft_of}
 use Rattle.dv_print.specs.Laws.{KeepsAddresses, IsNamedBy}
-use Rattle.dv_print.proofs.RangesAgain.{handler_from}
+use Rattle.dv_print.proofs.Again.RangesAgain.{handler_from}
 use Rattle.dv_print.proofs.Truth.{both, itself, no_line, when_not}
-use Rattle.dv_print.proofs.Entries.{joined, bytes_itself}
-use Rattle.dv_print.proofs.ItemTiles.{tile, tiles_at, mem_to}
-use Rattle.dv_print.proofs.KeptEntries.{small_opcode}
-use Rattle.dv_print.proofs.PieceItems.{tile_items, tile_size}
-use Rattle.dv_print.proofs.KeptAddresses.{tiles_are}
-use Rattle.dv_print.proofs.Resolved.{Stands, address_below, first_found, named_so}
-use Rattle.dv_print.proofs.Walk.{ends_below}
-use Rattle.dv_print.proofs.Branches.{label_size, leads_back}
-use Rattle.dv_print.proofs.KnownDraft.{stands_for, tile_listed}
-use Rattle.dv_print.proofs.Straight.{same_offsets, no_label_by, nop_offset}
-use Rattle.dv_print.proofs.SpelledAgain.{branch_to, AreListed, are_listed}
-use Rattle.dv_print.proofs.NamedHandlers.{handler_named}
-use Rattle.dv_print.proofs.LaidDraft.{IsLaidOut, after_of, pieces, all_named, tiles, known, items_labelled, catches_labelled, entry_listed, rebased}
-use Rattle.dv_print.proofs.Origins.{HasContent, Origin, origin}
+use Rattle.dv_print.proofs.Pools.Entries.{joined, bytes_itself}
+use Rattle.dv_print.proofs.Places.ItemTiles.{tile, tiles_at, mem_to}
+use Rattle.dv_print.proofs.Pools.KeptEntries.{small_opcode}
+use Rattle.dv_print.proofs.Places.PieceItems.{tile_items, tile_size}
+use Rattle.dv_print.proofs.Units.KeptAddresses.{tiles_are}
+use Rattle.dv_print.proofs.Places.Resolved.{Stands, address_below, first_found, named_so}
+use Rattle.dv_print.proofs.Places.Walk.{ends_below}
+use Rattle.dv_print.proofs.Places.Branches.{label_size, leads_back}
+use Rattle.dv_print.proofs.Units.KnownDraft.{stands_for, tile_listed}
+use Rattle.dv_print.proofs.Units.Straight.{same_offsets, no_label_by, nop_offset}
+use Rattle.dv_print.proofs.Units.SpelledAgain.{branch_to, AreListed, are_listed}
+use Rattle.dv_print.proofs.Ranges.NamedHandlers.{handler_named}
+use Rattle.dv_print.proofs.Again.LaidDraft.{IsLaidOut, after_of, pieces, all_named, tiles, known, items_labelled, catches_labelled, entry_listed, rebased}
+use Rattle.dv_print.proofs.Again.Origins.{HasContent, Origin, origin}
 
 -- ---- between two labels
 

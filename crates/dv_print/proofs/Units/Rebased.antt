@@ -31,12 +31,12 @@ use Rattle.dv_print.specs.Named.{target_of}
 use Rattle.dv_print.specs.Drafting.{op_of, part_item, piece_item, labels_at, items_at}
 use Rattle.dv_asm.specs.Tiles.{tiles_of}
 use Rattle.dv_print.proofs.Truth.{either}
-use Rattle.dv_print.proofs.Entries.{appended, not_before}
-use Rattle.dv_print.proofs.Resolved.{later_in}
-use Rattle.dv_print.proofs.ItemTiles.{Mem}
-use Rattle.dv_print.proofs.PieceItems.{tile_items}
-use Rattle.dv_print.proofs.Placed.{HoldsOfLabels, HoldsOfTiles}
-use Rattle.dv_print.proofs.SwitchTiles.{SwitchTo, TileTo, HasPayload, is_switch, names_it, own_switch, switch_found, switch_item, switch_tile}
+use Rattle.dv_print.proofs.Pools.Entries.{appended, not_before}
+use Rattle.dv_print.proofs.Places.Resolved.{later_in}
+use Rattle.dv_print.proofs.Places.ItemTiles.{Mem}
+use Rattle.dv_print.proofs.Places.PieceItems.{tile_items}
+use Rattle.dv_print.proofs.Places.Placed.{HoldsOfLabels, HoldsOfTiles}
+use Rattle.dv_print.proofs.Units.SwitchTiles.{SwitchTo, TileTo, HasPayload, is_switch, names_it, own_switch, switch_found, switch_item, switch_tile}
 
 -- ---- what stands in the draft
 

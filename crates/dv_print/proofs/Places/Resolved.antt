@@ -19,10 +19,10 @@ use Rattle.dv_print.specs.Pieces.{piece_of}
 use Rattle.dv_print.specs.Named as named
 use Rattle.dv_print.specs.Drafting.{labels_at, piece_item, with_no_line, items_at}
 use Rattle.dv_print.specs.Laws.{KeepsAddresses, IsNamedBy}
-use Rattle.dv_print.proofs.Entries.{not_before, bytes_same, bytes_itself}
-use Rattle.dv_print.proofs.Labels.{labels_are_distinct}
-use Rattle.dv_print.proofs.Walk.{ends_below}
-use Rattle.dv_print.proofs.PieceItems.{tile_items}
+use Rattle.dv_print.proofs.Pools.Entries.{not_before, bytes_same, bytes_itself}
+use Rattle.dv_print.proofs.Places.Labels.{labels_are_distinct}
+use Rattle.dv_print.proofs.Places.Walk.{ends_below}
+use Rattle.dv_print.proofs.Places.PieceItems.{tile_items}
 
 -- ---- the address of a label by its name
 

@@ -31,12 +31,12 @@ use Rattle.dv_print.specs.Named.{target_of, named_by_try, addresses_named}
 use Rattle.dv_print.specs.Drafting.{pool_of, entry_in, op_of, labels_from}
 use Rattle.dv_asm.specs.Tiles.{tiles_of}
 use Rattle.dv_print.proofs.Truth.{both, any_left, any_right}
-use Rattle.dv_print.proofs.ItemTiles.{tile, tiles_at, nop, Mem, mem_to, OfItem, of_item}
-use Rattle.dv_print.proofs.KeptEntries.{own_entry, small_opcode}
-use Rattle.dv_print.proofs.KeptUnits.{IsSpelledAs}
-use Rattle.dv_print.proofs.Branches.{leads_back}
-use Rattle.dv_print.proofs.KnownDraft.{Known, leads_to, tile_listed}
-use Rattle.dv_print.proofs.Straight.{same_offsets, insn_by, offset_none, same_insn, nop_spelled}
+use Rattle.dv_print.proofs.Places.ItemTiles.{tile, tiles_at, nop, Mem, mem_to, OfItem, of_item}
+use Rattle.dv_print.proofs.Pools.KeptEntries.{own_entry, small_opcode}
+use Rattle.dv_print.proofs.Units.KeptUnits.{IsSpelledAs}
+use Rattle.dv_print.proofs.Places.Branches.{leads_back}
+use Rattle.dv_print.proofs.Units.KnownDraft.{Known, leads_to, tile_listed}
+use Rattle.dv_print.proofs.Units.Straight.{same_offsets, insn_by, offset_none, same_insn, nop_spelled}
 
 target_is : (at : ℕ) (i : Insn) (c : Bool) → c ≡ true → (if c then Some (jump at i.off) else None) ≡ Some (jump at i.off)
 target_is at i true e = refl

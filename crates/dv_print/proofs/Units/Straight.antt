@@ -21,9 +21,9 @@ use Rattle.dv_print.specs.Numbers.{label_name}
 use Rattle.dv_print.specs.Operands.{has_offset}
 use Rattle.dv_print.specs.Pieces.{part_of}
 use Rattle.dv_print.specs.Drafting.{pool_of, entry_in, op_of, part_item}
-use Rattle.dv_print.proofs.ItemTiles.{nop}
-use Rattle.dv_print.proofs.KeptEntries.{nop_pool}
-use Rattle.dv_print.proofs.KeptUnits.{IsSpelledAs}
+use Rattle.dv_print.proofs.Places.ItemTiles.{nop}
+use Rattle.dv_print.proofs.Pools.KeptEntries.{nop_pool}
+use Rattle.dv_print.proofs.Units.KeptUnits.{IsSpelledAs}
 
 -- the two tables give the same opcodes offsets
 pub same_offsets : (op : ℕ) → op < 256 → has_offset op ≡ asm.has_offset (format_at op)

@@ -30,8 +30,8 @@ use Rattle.dv_print.specs.Named as named
 use Rattle.dv_print.specs.Named.{part_switches_to, switches_to}
 use Rattle.dv_asm.specs.Tiles.{tiles_of, nops_between}
 use Rattle.dv_print.proofs.Truth.{both, either}
-use Rattle.dv_print.proofs.ItemTiles.{tile, tiles_at, nop, Mem, mem_to, OfItem, of_item}
-use Rattle.dv_print.proofs.Branches.{leads_back}
+use Rattle.dv_print.proofs.Places.ItemTiles.{tile, tiles_at, nop, Mem, mem_to, OfItem, of_item}
+use Rattle.dv_print.proofs.Places.Branches.{leads_back}
 
 -- ---- switches of a draft
 

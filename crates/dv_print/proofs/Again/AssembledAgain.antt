@@ -9,11 +9,11 @@ use Rattle.dv_asm.specs.Refusals.{refused, label_refusal, item_refusal, refusal}
 use Rattle.dv_asm.specs.Layout.{layout}
 use Rattle.dv_print.specs.Drafting.{draft_of}
 use Rattle.dv_print.specs.Laws.{HaveNumbers, IsAssembled}
-use Rattle.dv_print.proofs.LaidDraft.{IsLaidOut, laid_out, after_of}
-use Rattle.dv_print.proofs.FormsAgain.{formed_again, numbers_again, registers_again, offsets_again}
-use Rattle.dv_print.proofs.LabelsAgain.{labels_once, labels_there}
-use Rattle.dv_print.proofs.ItemsAgain.{short_again, once_again}
-use Rattle.dv_print.proofs.RangesAgain.{ranges_again}
+use Rattle.dv_print.proofs.Again.LaidDraft.{IsLaidOut, laid_out, after_of}
+use Rattle.dv_print.proofs.Again.FormsAgain.{formed_again, numbers_again, registers_again, offsets_again}
+use Rattle.dv_print.proofs.Again.LabelsAgain.{labels_once, labels_there}
+use Rattle.dv_print.proofs.Again.ItemsAgain.{short_again, once_again}
+use Rattle.dv_print.proofs.Again.RangesAgain.{ranges_again}
 
 neither_one : {Y : Type 0} (a b : Option Y) → a ≡ None → b ≡ None → option_or a b ≡ None
 neither_one None b e h = h

@@ -29,13 +29,13 @@ use Rattle.dv_print.specs.Named.{target_of}
 use Rattle.dv_print.specs.Laws.{HasNumbers, HaveNumbers}
 use Rattle.dv_print.specs.Drafting.{pool_of, entry_in, op_of, payload_item}
 use Rattle.dv_print.proofs.Truth.{not_false, none_of, refused_none, no_line, when_not}
-use Rattle.dv_print.proofs.KeptEntries.{own_entry, has_pools, small_opcode}
-use Rattle.dv_print.proofs.LaidOut.{are_short}
-use Rattle.dv_print.proofs.LaidDraft.{IsLaidOut, after_of, pieces, all_named, known, items_labelled}
-use Rattle.dv_print.proofs.Origins.{Origin, FromOp, HasContent, origin}
-use Rattle.dv_print.proofs.PieceItems.{labels_length}
-use Rattle.dv_print.proofs.SpelledAgain.{branch_same}
-use Rattle.dv_print.proofs.Straight.{same_offsets, no_label_by}
+use Rattle.dv_print.proofs.Pools.KeptEntries.{own_entry, has_pools, small_opcode}
+use Rattle.dv_print.proofs.Units.LaidOut.{are_short}
+use Rattle.dv_print.proofs.Again.LaidDraft.{IsLaidOut, after_of, pieces, all_named, known, items_labelled}
+use Rattle.dv_print.proofs.Again.Origins.{Origin, FromOp, HasContent, origin}
+use Rattle.dv_print.proofs.Places.PieceItems.{labels_length}
+use Rattle.dv_print.proofs.Units.SpelledAgain.{branch_same}
+use Rattle.dv_print.proofs.Units.Straight.{same_offsets, no_label_by}
 
 -- ---- forms
 

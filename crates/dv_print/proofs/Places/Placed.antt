@@ -13,9 +13,9 @@ use Rattle.dv_print.specs.Numbers.{label_name}
 use Rattle.dv_print.specs.Pieces.{part_of, piece_of}
 use Rattle.dv_print.specs.Named.{is_named}
 use Rattle.dv_print.specs.Drafting.{part_item, piece_item, with_no_line, labels_at}
-use Rattle.dv_print.proofs.ItemTiles.{Mem}
-use Rattle.dv_print.proofs.Walk.{stays, StandFrom, ArePlaced, are_placed}
-use Rattle.dv_print.proofs.PieceItems.{tile_items, IsEven, leads, tile_size}
+use Rattle.dv_print.proofs.Places.ItemTiles.{Mem}
+use Rattle.dv_print.proofs.Places.Walk.{stays, StandFrom, ArePlaced, are_placed}
+use Rattle.dv_print.proofs.Places.PieceItems.{tile_items, IsEven, leads, tile_size}
 
 -- what is to hold of items where they stand holds of labels at the addresses of their names
 abbrev pub HoldsOfLabels : (What → ℕ → Type 0) → Type 0

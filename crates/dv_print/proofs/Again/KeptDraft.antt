@@ -13,14 +13,14 @@ use Rattle.dv_asm.specs.Refusals.{refusal}
 use Rattle.dv_asm.specs.Layout.{pools_of, types_of, tries_of, units_of, body_of, layout}
 use Rattle.dv_print.specs.Drafting.{catches_of_try, draft_of}
 use Rattle.dv_print.specs.Laws.{HaveNumbers}
-use Rattle.dv_print.proofs.KeptEntries.{units_are, draft_keeps_entries}
-use Rattle.dv_print.proofs.PieceItems.{even_tiles}
-use Rattle.dv_print.proofs.KeptAddresses.{tiles_are, draft_starts}
-use Rattle.dv_print.proofs.KeptUnits.{units_kept}
-use Rattle.dv_print.proofs.LaidOut.{are_short}
-use Rattle.dv_print.proofs.SpelledAgain.{Laid, tiles_spelled}
-use Rattle.dv_print.proofs.KeptHandlers.{handlers_kept}
-use Rattle.dv_print.proofs.LaidDraft.{IsLaidOut, laid_out, after_of, pieces, all_named, tiles, known, rebased, items_labelled, handler_leads}
+use Rattle.dv_print.proofs.Pools.KeptEntries.{units_are, draft_keeps_entries}
+use Rattle.dv_print.proofs.Places.PieceItems.{even_tiles}
+use Rattle.dv_print.proofs.Units.KeptAddresses.{tiles_are, draft_starts}
+use Rattle.dv_print.proofs.Units.KeptUnits.{units_kept}
+use Rattle.dv_print.proofs.Units.LaidOut.{are_short}
+use Rattle.dv_print.proofs.Units.SpelledAgain.{Laid, tiles_spelled}
+use Rattle.dv_print.proofs.Ranges.KeptHandlers.{handlers_kept}
+use Rattle.dv_print.proofs.Again.LaidDraft.{IsLaidOut, laid_out, after_of, pieces, all_named, tiles, known, rebased, items_labelled, handler_leads}
 
 -- ---- units
 

@@ -23,7 +23,7 @@ use Rattle.dv_print.specs.Drafting.{labels_from, part_item, with_no_line, items_
 use Rattle.dv_asm.specs.Tiles.{tiles_of}
 use Rattle.dv_print.specs.Laws.{IsNamedBy}
 use Rattle.dv_print.proofs.Truth.{both}
-use Rattle.dv_print.proofs.ItemTiles.{tiles_at, nop, Mem, OfItem, of_item}
+use Rattle.dv_print.proofs.Places.ItemTiles.{tiles_at, nop, Mem, OfItem, of_item}
 
 -- the items of tiles
 abbrev pub tile_items : BodyValue → List Piece → List ℕ → List Tile → List Item

@@ -27,17 +27,17 @@ use Rattle.dv_print.specs.Drafting.{labels_at, draft_of}
 use Rattle.dv_asm.specs.Tiles.{tiles_of}
 use Rattle.dv_print.specs.Laws.{HaveNumbers}
 use Rattle.dv_print.proofs.Truth.{both, any_left, any_right, not_false, none_of, refused_none}
-use Rattle.dv_print.proofs.KeptEntries.{has_pools, units_are, pieces_are}
-use Rattle.dv_print.proofs.PieceItems.{even_tiles}
-use Rattle.dv_print.proofs.KeptAddresses.{tiles_are, draft_starts, draft_keeps_addresses}
-use Rattle.dv_print.proofs.LaidOut.{layout_size, are_short}
-use Rattle.dv_print.proofs.KnownDraft.{Known, leads_to, tile_listed}
-use Rattle.dv_print.proofs.Placed.{items_placed}
-use Rattle.dv_print.proofs.SwitchTiles.{SwitchTo, HasPayload, switch_tile, base_before}
-use Rattle.dv_print.proofs.Rebased.{IsPlaced, Drafts, labels_placed, tiles_placed, switch_offset, base_after}
-use Rattle.dv_print.proofs.SpelledAgain.{IsRebased}
-use Rattle.dv_print.proofs.KeptHandlers.{LeadsTo, Leads}
-use Rattle.dv_print.proofs.NamedHandlers.{entry_names, handler_named}
+use Rattle.dv_print.proofs.Pools.KeptEntries.{has_pools, units_are, pieces_are}
+use Rattle.dv_print.proofs.Places.PieceItems.{even_tiles}
+use Rattle.dv_print.proofs.Units.KeptAddresses.{tiles_are, draft_starts, draft_keeps_addresses}
+use Rattle.dv_print.proofs.Units.LaidOut.{layout_size, are_short}
+use Rattle.dv_print.proofs.Units.KnownDraft.{Known, leads_to, tile_listed}
+use Rattle.dv_print.proofs.Places.Placed.{items_placed}
+use Rattle.dv_print.proofs.Units.SwitchTiles.{SwitchTo, HasPayload, switch_tile, base_before}
+use Rattle.dv_print.proofs.Units.Rebased.{IsPlaced, Drafts, labels_placed, tiles_placed, switch_offset, base_after}
+use Rattle.dv_print.proofs.Units.SpelledAgain.{IsRebased}
+use Rattle.dv_print.proofs.Ranges.KeptHandlers.{LeadsTo, Leads}
+use Rattle.dv_print.proofs.Ranges.NamedHandlers.{entry_names, handler_named}
 
 -- ---- the refusals
 

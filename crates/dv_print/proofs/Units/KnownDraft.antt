@@ -12,7 +12,7 @@ use Rattle.dv_asm.specs.Items.{no_item, is_named}
 use Rattle.dv_asm.specs.Places.{address_of, end_of, place_of, label_address}
 use Rattle.dv_asm.specs.Refusals.{has_label, too_long}
 use Rattle.dv_print.proofs.Truth.{any_left}
-use Rattle.dv_print.proofs.Entries.{appended}
+use Rattle.dv_print.proofs.Pools.Entries.{appended}
 use Rattle.dv_asm.specs.Layout.{pools_of}
 use Rattle.dv_asm.proofs.PlaceLemmas.{label_within}
 use Rattle.dv_print.specs.declared.pieces.Piece.{Piece}
@@ -23,11 +23,11 @@ use Rattle.dv_print.specs.Named.{named_by_piece, named_by_try, addresses_named}
 use Rattle.dv_print.specs.Drafting.{labels_at, with_no_line}
 use Rattle.dv_asm.specs.Tiles.{tiles_of}
 use Rattle.dv_print.specs.Laws.{KeepsAddresses}
-use Rattle.dv_print.proofs.KeptEntries.{HasPools}
-use Rattle.dv_print.proofs.Resolved.{HasAt, Stands, stands_in, later_in, label_here, leads_there}
-use Rattle.dv_print.proofs.ItemTiles.{Mem}
-use Rattle.dv_print.proofs.PieceItems.{tile_items}
-use Rattle.dv_print.proofs.Branches.{placed, named_by_tile}
+use Rattle.dv_print.proofs.Pools.KeptEntries.{HasPools}
+use Rattle.dv_print.proofs.Places.Resolved.{HasAt, Stands, stands_in, later_in, label_here, leads_there}
+use Rattle.dv_print.proofs.Places.ItemTiles.{Mem}
+use Rattle.dv_print.proofs.Places.PieceItems.{tile_items}
+use Rattle.dv_print.proofs.Places.Branches.{placed, named_by_tile}
 
 -- what is known of the draft that is made of a laid-out body
 pub record Known (items after : List Item) (b : BodyValue) (all : List Piece) (names : List ℕ) : Type 0 where

@@ -16,10 +16,10 @@ use Rattle.dv_asm.specs.Layout.{padded, spelling_of, units_of}
 use Rattle.dv_print.specs.declared.pieces.Piece.{Piece}
 use Rattle.dv_print.specs.Pieces.{part_of}
 use Rattle.dv_print.specs.Drafting.{part_item, labels_at}
-use Rattle.dv_print.proofs.ItemTiles.{Mem}
-use Rattle.dv_print.proofs.Walk.{ArePlaced, ends_below}
-use Rattle.dv_print.proofs.PieceItems.{tile_items, IsEven, tile_size}
-use Rattle.dv_print.proofs.Placed.{HoldsOfTiles, items_placed}
+use Rattle.dv_print.proofs.Places.ItemTiles.{Mem}
+use Rattle.dv_print.proofs.Places.Walk.{ArePlaced, ends_below}
+use Rattle.dv_print.proofs.Places.PieceItems.{tile_items, IsEven, tile_size}
+use Rattle.dv_print.proofs.Places.Placed.{HoldsOfTiles, items_placed}
 
 -- a tile is spelled by its item as it was
 abbrev pub IsSpelledAs : List Item → Pools → BodyValue → List Piece → Tile → Type 0

@@ -15,9 +15,9 @@ use Rattle.dv_asm.specs.Layout.{insn_of, packed_of, sparse_of, pools_of, layout}
 use Rattle.dv_print.specs.Pieces.{part_of}
 use Rattle.dv_print.specs.Named as named
 use Rattle.dv_print.specs.Drafting.{op_of, payload_item, part_item}
-use Rattle.dv_print.proofs.ItemTiles.{tiles_at, nop, Mem, OfItem, of_item}
-use Rattle.dv_print.proofs.Rebased.{IsOfTile, IsPlaced}
-use Rattle.dv_print.proofs.LaidDraft.{IsLaidOut, after_of, pieces, tiles, drafts}
+use Rattle.dv_print.proofs.Places.ItemTiles.{tiles_at, nop, Mem, OfItem, of_item}
+use Rattle.dv_print.proofs.Units.Rebased.{IsOfTile, IsPlaced}
+use Rattle.dv_print.proofs.Again.LaidDraft.{IsLaidOut, after_of, pieces, tiles, drafts}
 
 -- what is at place p of the draft before is this payload
 abbrev pub HasContent : DraftValue → ℕ → What → Payload → Type 0
