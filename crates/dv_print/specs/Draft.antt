@@ -52,17 +52,26 @@ element_lines width zero bytes = []
 element_lines width (suc n) bytes = element_line width (take width bytes) ++ element_lines width n (drop width bytes)
 
 abbrev pub packed_text : ℤ → List (List ℕ) → List ℕ
-packed_text first targets = codes ".packed-switch " ++ signed_decimal first ++ codes "\n" ++ flat_map label_line targets ++ codes ".end packed-switch\n"
+packed_text first targets =
+    codes ".packed-switch " ++ signed_decimal first ++ codes "\n" ++
+    flat_map label_line targets ++
+    codes ".end packed-switch\n"
 
 abbrev pub sparse_text : List ℤ → List (List ℕ) → List ℕ
-sparse_text keys targets = codes ".sparse-switch\n" ++ flat_map case_line (zip keys targets) ++ codes ".end sparse-switch\n"
+sparse_text keys targets =
+    codes ".sparse-switch\n" ++
+    flat_map case_line (zip keys targets) ++
+    codes ".end sparse-switch\n"
 
 -- how many elements of that width an array has
 abbrev pub element_count : ℕ → List ℕ → ℕ
 element_count width bytes = if is_width width then length bytes / width else 0
 
 abbrev pub data_text : ℕ → List ℕ → List ℕ
-data_text width bytes = codes ".array-data " ++ decimal width ++ codes "\n" ++ element_lines width (element_count width bytes) bytes ++ codes ".end array-data\n"
+data_text width bytes =
+    codes ".array-data " ++ decimal width ++ codes "\n" ++
+    element_lines width (element_count width bytes) bytes ++
+    codes ".end array-data\n"
 
 abbrev pub what_text : What → List ℕ
 what_text (what.Label name) = label_line name
@@ -79,7 +88,9 @@ kind_text None = codes ".catchall"
 kind_text (Some ty) = codes ".catch " ++ descriptor ty
 
 abbrev pub catch_text : Catch → List ℕ
-catch_text c = kind_text c.kind ++ codes " {" ++ label_text c.from ++ codes " .. " ++ label_text c.to ++ codes "} " ++ label_text c.at ++ codes "\n"
+catch_text c =
+    kind_text c.kind ++ codes " {" ++ label_text c.from ++ codes " .. " ++ label_text c.to ++ codes "} " ++
+    label_text c.at ++ codes "\n"
 
 abbrev pub registers_text : ℕ → List ℕ
 registers_text n = codes ".registers " ++ decimal n ++ codes "\n"

@@ -1,6 +1,6 @@
 -- The draft of a body: its instructions and payloads by their addresses, with labels at the addresses that are named.
 -- Its items have no lines.
-use Rattle.std.specs.Prelude.{ℕ, ◌%◌, ◌&&◌, ℤ, pos, Bool, true, false, not, nat_eq, List, [], ◌∷◌, ◌++◌, length, map, slice_get, Option, Some, option_map, if◌then◌else◌}
+use Rattle.std.specs.Prelude.{ℕ, ℤ, pos, List, [], ◌∷◌, ◌++◌, length, map, slice_get, Option, Some, option_map, if◌then◌else◌}
 use Rattle.std.specs.Option.{option_and_then, option_map_or}
 use Rattle.std.specs.List.{flat_map}
 use Rattle.dv_defs.specs.declared.code.Insn.{Insn}
@@ -96,34 +96,13 @@ piece_item b pieces p = with_no_line (part_item b pieces p.at p.part)
 abbrev pub labels_at : List ℕ → ℕ → List Item
 labels_at named address = if is_named named address then with_no_line (what.Label (label_name address)) ∷ [] else []
 
-abbrev pub is_nop : Part → Bool
-is_nop (part.Insn i) = nat_eq i.op 0
-is_nop (part.Payload p) = false
+-- a piece with the label before it, where its address is named
+abbrev pub items_at : BodyValue → List Piece → List ℕ → Piece → List Item
+items_at b pieces named p = labels_at named p.at ++ piece_item b pieces p ∷ []
 
-abbrev pub is_payload_part : Part → Bool
-is_payload_part (part.Insn i) = false
-is_payload_part (part.Payload p) = true
-
-abbrev pub begins_with_payload : List Piece → Bool
-begins_with_payload [] = false
-begins_with_payload (p ∷ ps) = is_payload_part p.part
-
--- whether a piece is the nop that layout puts before the payload behind it: it stands at an odd address, and no label
--- stands there, for the labels of a payload stand behind that nop
-abbrev pub is_aligning : List ℕ → Piece → List Piece → Bool
-is_aligning named p ps = nat_eq (p.at % 2) 1 && (is_nop p.part && (begins_with_payload ps && not (is_named named p.at)))
-
--- a piece with the label before it; none of a nop that layout puts there
-abbrev pub items_at : BodyValue → List Piece → List ℕ → Piece → List Piece → List Item
-items_at b pieces named p ps = if is_aligning named p ps then [] else labels_at named p.at ++ piece_item b pieces p ∷ []
-
--- the items of the pieces of a list, which are all or the last of these pieces
-abbrev pub items_from : BodyValue → List Piece → List ℕ → List Piece → List Item
-items_from b pieces named [] = []
-items_from b pieces named (p ∷ ps) = items_at b pieces named p ps ++ items_from b pieces named ps
-
+-- each piece with its label, and then the label of the end
 abbrev pub items_in : BodyValue → List Piece → List ℕ → List Item
-items_in b pieces named = items_from b pieces named pieces ++ labels_at named (length b.units)
+items_in b pieces named = flat_map (items_at b pieces named) pieces ++ labels_at named (length b.units)
 
 -- the type that a handler catches
 abbrev pub kind_of : List Ty → Handler → Option Ty

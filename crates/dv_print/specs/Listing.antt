@@ -77,11 +77,16 @@ body_text_if_any None = []
 body_text_if_any (Some b) = body_text b
 
 abbrev pub method_lines : MethodDef → List ℕ
-method_lines m = codes ".method " ++ flags_text m.flags ++ m.name ++ prototype m.proto ++ codes "\n" ++ body_text_if_any m.body ++ codes ".end method\n"
+method_lines m =
+    codes ".method " ++ flags_text m.flags ++ m.name ++ prototype m.proto ++ codes "\n" ++
+    body_text_if_any m.body ++
+    codes ".end method\n"
 
 abbrev pub class_line : ClassDef → List ℕ
 class_line c = codes ".class " ++ flags_text c.flags ++ c.name ++ codes "\n"
 
 -- the class, its superclass and interfaces, its fields and its methods
 unfoldable pub class_text : ClassDef → List ℕ
-class_text c = class_line c ++ superclass_line c.parent ++ flat_map interface_line c.interfaces ++ flat_map field_line c.fields ++ flat_map method_lines c.methods
+class_text c =
+    class_line c ++ superclass_line c.parent ++ flat_map interface_line c.interfaces ++
+    flat_map field_line c.fields ++ flat_map method_lines c.methods

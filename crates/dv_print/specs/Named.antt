@@ -1,7 +1,8 @@
 -- The addresses at which labels stand.
-use Rattle.std.specs.Prelude.{ℕ, ◌&&◌, Bool, false, nat_eq, List, [], ◌∷◌, ◌++◌, map, find, Option, Some, None, if◌then◌else◌}
+use Rattle.std.specs.Prelude.{ℕ, ◌≡◌, ◌&&◌, Bool, false, nat_eq, List, [], ◌∷◌, ◌++◌, map, find, Option, Some, None, option_map, if◌then◌else◌}
 use Rattle.std.specs.Option.{option_map_or, option_to_list}
 use Rattle.std.specs.List.{flat_map, list_any}
+use Rattle.indexmap.specs.IndexMap.{IndexMap, get}
 use Rattle.dv_defs.specs.declared.code.Insn.{Insn}
 use Rattle.dv_defs.specs.declared.code.Payload.{Payload}
 use Rattle.dv_defs.specs.declared.code.Payload.TheVariants as payload
@@ -26,9 +27,16 @@ part_switches_to address at (part.Payload p) = false
 abbrev pub switches_to : ℕ → Piece → Bool
 switches_to address p = part_switches_to address p.at p.part
 
+abbrev pub place_of : Piece → ℕ
+place_of p = p.at
+
 -- the address from which a payload's targets count: that of the first switch that leads to it, else 0
 abbrev pub base_of : List Piece → ℕ → ℕ
-base_of pieces address = option_map_or (λ (p : Piece). p.at) (find (switches_to address) pieces) 0
+base_of pieces address = option_map_or place_of (find (switches_to address) pieces) 0
+
+-- of each address to which switches lead the address of the first one
+abbrev pub HasSwitches : {S : Type 0} → List Piece → IndexMap ℕ ℕ S → Type 0
+HasSwitches pieces switches = (address : ℕ) → get nat_eq switches address ≡ option_map place_of (find (switches_to address) pieces)
 
 -- the addresses that a payload names, if its targets count from this one
 abbrev pub named_by_payload : ℕ → Payload → List ℕ

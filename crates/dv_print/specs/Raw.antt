@@ -31,7 +31,9 @@ method_ref_line m = ref_line (method_text m)
 
 -- the pools: strings, types, fields and methods
 abbrev pub pools_text : BodyValue → List ℕ
-pools_text b = flat_map string_line b.strings ++ flat_map type_line b.types ++ flat_map field_ref_line b.fields ++ flat_map method_ref_line b.methods
+pools_text b =
+    flat_map string_line b.strings ++ flat_map type_line b.types ++
+    flat_map field_ref_line b.fields ++ flat_map method_ref_line b.methods
 
 -- what stands behind a unit: eight stand on a line
 abbrev pub separator : ℕ → ℕ → ℕ
@@ -52,7 +54,8 @@ caught_text (Some ty) = descriptor ty
 -- a handler: start, end and handler's address, and what it catches
 abbrev pub handler_line : List Ty → Try → Handler → List ℕ
 handler_line types t h =
-    codes ".rawtry " ++ decimal t.start ++ codes " " ++ decimal t.end ++ codes " " ++ decimal h.at ++ codes " " ++ caught_text (kind_of types h) ++ codes "\n"
+    codes ".rawtry " ++ decimal t.start ++ codes " " ++ decimal t.end ++ codes " " ++ decimal h.at ++ codes " " ++
+    caught_text (kind_of types h) ++ codes "\n"
 
 abbrev pub try_lines : List Ty → Try → List ℕ
 try_lines types t = flat_map (handler_line types t) t.handlers

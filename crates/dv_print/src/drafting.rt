@@ -1,14 +1,16 @@
 // The items of the draft of a body.
-ghost use Rattle.std.specs.Prelude.{◌≡◌, ◌++◌, [], ◌∷◌, map, option_map, IfOk, OnOk, if◌then◌else◌};
+ghost use Rattle.std.specs.Prelude.{◌≡◌, ◌++◌, map, option_map, IfOk, OnOk};
+ghost use Rattle.std.specs.List.{flat_map};
 ghost use Rattle.dv_print.specs.Numbers.{label_name};
 ghost use Rattle.dv_print.specs.Named.{target_of};
-ghost use Rattle.dv_print.specs.Drafting.{op_of, labels_from, payload_item, part_item, piece_item, with_no_line, labels_at, is_nop, is_payload_part, begins_with_payload, is_aligning, items_at, items_from, items_of};
+ghost use Rattle.dv_print.specs.Drafting.{op_of, labels_from, payload_item, part_item, piece_item, with_no_line, labels_at, items_at, items_of};
 
 use crate::formats::pool_of;
-use crate::named::{add_targets, addresses_named, base_of, is_named, target_of};
+use crate::named::{Named, add_targets, addresses_named, target_of};
 use crate::numbers::label_name;
-use crate::pieces::{Part, Piece, pieces_of};
+use crate::pieces::{Part, Piece};
 use crate::pool_entries::entry_in;
+use crate::switches::Pieces;
 use dv_asm::{Draftop, Item, What};
 use dv_defs::{Body, Insn, Payload, Seq, Text};
 use std::alloc::{AllocError, Global};
@@ -90,26 +92,23 @@ fn payload_item(alloc: Global, base: u16, payload: &Payload) -> Result<What, All
 fn piece_item(
     alloc: Global,
     body: &Body,
-    pieces: &[Piece],
+    pieces: &Pieces,
     piece: &Piece,
 ) -> Result<Item, AllocError>
     ensures { IfOk result (λ item. item ≡ piece_item body.now pieces.now piece.now) }
 {
     let what = match &piece.part {
         Part::Insn(insn) => What::Op(op_of(alloc, body, piece.at, insn)?),
-        Part::Payload(payload) => {
-            let base = base_of(pieces, u32::from(piece.at));
-            payload_item(alloc, base, payload)?
-        }
+        Part::Payload(payload) => payload_item(alloc, pieces.base_of(piece.at), payload)?,
     };
     Ok(Item { line: 0, what })
 }
 
 /// Appends the label at an address, where the address is named.
-fn add_label(items: &mut Vec<Item>, named: &[u32], address: u32) -> Result<(), AllocError>
+fn add_label(items: &mut Vec<Item>, named: &Named, address: u32) -> Result<(), AllocError>
     ensures { OnOk result (items.new.items ≡ items.old.items ++ labels_at named.now address) }
 {
-    if is_named(named, address) {
+    if named.has(address) {
         let name = label(*items.allocator(), address)?;
         items.push(Item {
             line: 0,
@@ -119,74 +118,32 @@ fn add_label(items: &mut Vec<Item>, named: &[u32], address: u32) -> Result<(), A
     Ok(())
 }
 
-impl Part {
-    fn is_nop(&self) -> bool
-        ensures { result ≡ is_nop self.now }
-    {
-        match self {
-            Part::Insn(insn) => insn.op == 0,
-            Part::Payload(_) => false,
-        }
-    }
-
-    fn is_payload(&self) -> bool
-        ensures { result ≡ is_payload_part self.now }
-    {
-        matches!(self, Part::Payload(_))
-    }
-}
-
-fn begins_with_payload(pieces: &[Piece]) -> bool
-    ensures { result ≡ begins_with_payload pieces.now }
-{
-    match pieces {
-        [piece, ..] => piece.part.is_payload(),
-        [] => false,
-    }
-}
-
-/// Whether a piece is the nop that layout puts before the payload behind it: it stands at an odd address, and no
-/// label stands there.
-fn is_aligning(named: &[u32], piece: &Piece, rest: &[Piece]) -> bool
-    ensures { result ≡ is_aligning named.now piece.now rest.now }
-{
-    piece.at % 2 == 1
-        && piece.part.is_nop()
-        && begins_with_payload(rest)
-        && !is_named(named, u32::from(piece.at))
-}
-
-/// Appends a piece with the label before it; nothing of a nop that layout puts there.
+/// Appends a piece with the label before it, where its address is named.
 fn add_piece(
     items: &mut Vec<Item>,
     body: &Body,
-    pieces: &[Piece],
-    named: &[u32],
+    pieces: &Pieces,
+    named: &Named,
     piece: &Piece,
-    rest: &[Piece],
 ) -> Result<(), AllocError>
-    ensures { OnOk result (items.new.items ≡ items.old.items ++ items_at body.now pieces.now named.now piece.now rest.now) }
+    ensures { OnOk result (items.new.items ≡ items.old.items ++ items_at body.now pieces.now named.now piece.now) }
 {
-    if !is_aligning(named, piece, rest) {
-        add_label(items, named, u32::from(piece.at))?;
-        items.push(piece_item(*items.allocator(), body, pieces, piece)?)?;
-    }
+    add_label(items, named, u32::from(piece.at))?;
+    items.push(piece_item(*items.allocator(), body, pieces, piece)?)?;
     Ok(())
 }
 
-/// Appends the items of the pieces.
+/// Appends the pieces with their labels.
 fn add_pieces(
     items: &mut Vec<Item>,
     body: &Body,
-    pieces: &[Piece],
-    named: &[u32],
+    pieces: &Pieces,
+    named: &Named,
 ) -> Result<(), AllocError>
-    ensures { OnOk result (items.new.items ≡ items.old.items ++ items_from body.now pieces.now named.now pieces.now) }
+    ensures { OnOk result (items.new.items ≡ items.old.items ++ flat_map (items_at body.now pieces.now named.now) pieces.now) }
 {
-    let mut rest = pieces;
-    while let [piece, after @ ..] = rest {
-        add_piece(items, body, pieces, named, piece, after)?;
-        rest = after;
+    for piece in pieces.items() {
+        add_piece(items, body, pieces, named, piece)?;
     }
     Ok(())
 }
@@ -196,7 +153,7 @@ pub fn items_of(alloc: Global, body: &Body) -> Result<Vec<Item>, AllocError>
     ensures { IfOk result (λ v. v.items ≡ items_of body.now) }
 {
     let units = body.units.items();
-    let pieces = pieces_of(alloc, units)?;
+    let pieces = Pieces::of(alloc, units)?;
     let named = addresses_named(alloc, &pieces, body.tries.items())?;
     let mut items = Vec::new(alloc);
     add_pieces(&mut items, body, &pieces, &named)?;

@@ -17,6 +17,7 @@ mod pieces;
 mod pool_entries;
 mod raw;
 mod references;
+mod switches;
 #[cfg(test)]
 mod tests;
 

@@ -1,14 +1,16 @@
 // The addresses at which labels stand.
-ghost use Rattle.std.specs.Prelude.{◌≡◌, ◌++◌, map, find, IfOk, OnOk};
-ghost use Rattle.std.specs.Option.{option_copied};
+ghost use Rattle.std.specs.Prelude.{◌≡◌, ◌++◌, ℕ, map, IfOk, OnOk};
 ghost use Rattle.std.specs.List.{flat_map};
 ghost use Rattle.dv_defs.specs.Numbers.{jump};
-ghost use Rattle.dv_print.specs.Named.{target_of, switches_to, base_of, named_by_payload, named_by_piece, named_by_try, addresses_named, is_named};
+ghost use Rattle.dv_print.specs.Named.{target_of, named_by_payload, named_by_piece, named_by_try, addresses_named, is_named};
 
 use crate::formats::has_offset;
 use crate::pieces::{Part, Piece};
+use crate::switches::Pieces;
 use dv_defs::{Insn, Payload, Try};
+use indexmap::IndexSet;
 use std::alloc::{AllocError, Global};
+use std::marker::Model;
 
 /// The address at a distance from another; none of a body's where it is below 0.
 pub fn jump(at: u16, off: i32) -> u32
@@ -26,36 +28,6 @@ pub fn target_of(at: u16, insn: &Insn) -> Option<u32>
         Some(jump(at, insn.off))
     } else {
         None
-    }
-}
-
-impl Piece {
-    /// Whether the piece is a switch that leads to an address.
-    fn switches_to(&self, address: u32) -> bool
-        ensures { result ≡ switches_to address self.now }
-    {
-        match &self.part {
-            Part::Insn(insn) => matches!(insn.op, 0x2b | 0x2c)
-                && jump(self.at, insn.off) == address,
-            Part::Payload(_) => false,
-        }
-    }
-}
-
-/// The first switch that leads to an address.
-fn switch_to(pieces: &[Piece], address: u32) -> Option<&Piece>
-    ensures { option_copied result ≡ find (switches_to address) pieces.now }
-{
-    pieces.iter().find(|piece| piece.switches_to(address))
-}
-
-/// The address from which a payload's targets count: that of the first switch that leads to it, else 0.
-pub fn base_of(pieces: &[Piece], address: u32) -> u16
-    ensures { result ≡ base_of pieces.now address }
-{
-    match switch_to(pieces, address) {
-        Some(piece) => piece.at,
-        None => 0,
     }
 }
 
@@ -81,7 +53,7 @@ fn add_payload(named: &mut Vec<u32>, base: u16, payload: &Payload) -> Result<(),
 }
 
 /// Appends the addresses that a piece names.
-fn add_piece(named: &mut Vec<u32>, pieces: &[Piece], piece: &Piece) -> Result<(), AllocError>
+fn add_piece(named: &mut Vec<u32>, pieces: &Pieces, piece: &Piece) -> Result<(), AllocError>
     ensures { OnOk result (named.new.items ≡ named.old.items ++ named_by_piece pieces.now piece.now) }
 {
     match &piece.part {
@@ -91,10 +63,7 @@ fn add_piece(named: &mut Vec<u32>, pieces: &[Piece], piece: &Piece) -> Result<()
             }
             Ok(())
         }
-        Part::Payload(payload) => {
-            let base = base_of(pieces, u32::from(piece.at));
-            add_payload(named, base, payload)
-        }
+        Part::Payload(payload) => { add_payload(named, pieces.base_of(piece.at), payload) }
     }
 }
 
@@ -111,10 +80,10 @@ fn add_try(named: &mut Vec<u32>, entry: &Try) -> Result<(), AllocError>
 }
 
 /// Appends the addresses that the pieces name.
-fn add_pieces(named: &mut Vec<u32>, pieces: &[Piece]) -> Result<(), AllocError>
+fn add_pieces(named: &mut Vec<u32>, pieces: &Pieces) -> Result<(), AllocError>
     ensures { OnOk result (named.new.items ≡ named.old.items ++ flat_map (named_by_piece pieces.now) pieces.now) }
 {
-    for piece in pieces {
+    for piece in pieces.items() {
         add_piece(named, pieces, piece)?;
     }
     Ok(())
@@ -130,22 +99,45 @@ fn add_tries(named: &mut Vec<u32>, tries: &[Try]) -> Result<(), AllocError>
     Ok(())
 }
 
-/// The addresses that branches, switches, references to payloads and tries name.
-pub fn addresses_named(
-    alloc: Global,
-    pieces: &[Piece],
-    tries: &[Try],
-) -> Result<Vec<u32>, AllocError>
-    ensures { IfOk result (λ v. v.items ≡ addresses_named pieces.now tries.now) }
-{
-    let mut named = Vec::new(alloc);
-    add_pieces(&mut named, pieces)?;
-    add_tries(&mut named, tries)?;
-    Ok(named)
+/// The addresses that are named, each once. A look-up takes constant time. To a contract it is the list of them.
+#[derive(Drop)]
+pub struct Named {
+    addresses: IndexSet<u32>,
 }
 
-pub fn is_named(named: &[u32], address: u32) -> bool
-    ensures { result ≡ is_named named.now address }
+impl Model for Named {
+    ghost use Rattle.std.specs.Prelude.{ℕ, List};
+
+    ghost Value = { List ℕ };
+
+    ghost view = { λ named. named.addresses.keys };
+}
+
+impl Named {
+    /// The addresses of a list.
+    fn of(alloc: Global, list: &[u32]) -> Result<Named, AllocError>
+        ensures { IfOk result (λ named. (address : ℕ) → is_named named address ≡ is_named list.now address) }
+    {
+        let mut addresses = IndexSet::new(alloc);
+        for address in list {
+            addresses.insert(*address)?;
+        }
+        Ok(Named { addresses })
+    }
+
+    pub fn has(&self, address: u32) -> bool
+        ensures { result ≡ is_named self.now address }
+    {
+        self.addresses.contains(&address)
+    }
+}
+
+/// The addresses that branches, switches, references to payloads and tries name.
+pub fn addresses_named(alloc: Global, pieces: &Pieces, tries: &[Try]) -> Result<Named, AllocError>
+    ensures { IfOk result (λ named. (address : ℕ) → is_named named address ≡ is_named (addresses_named pieces.now tries.now) address) }
 {
-    named.iter().any(|a| *a == address)
+    let mut list = Vec::new(alloc);
+    add_pieces(&mut list, pieces)?;
+    add_tries(&mut list, tries)?;
+    Named::of(alloc, &list)
 }

@@ -1,11 +1,10 @@
-// Strings, types and references to members as they are printed.
+// Strings and references to members as they are printed.
 ghost use Rattle.std.specs.Prelude.{◌≡◌, ◌++◌, OnOk, IfOk};
 ghost use Rattle.std.specs.List.{flat_map};
-ghost use Rattle.dv_names.specs.Descriptors.{descriptor, prototype};
 ghost use Rattle.dv_print.specs.Operands.{is_plain, unit_text, string_text, field_text, method_text};
 
 use crate::numbers::hexadecimal;
-use dv_defs::{Chars, FieldRef, MethodRef, Proto, Text, Ty};
+use dv_defs::{Chars, FieldRef, MethodRef};
 use dv_names::{print_proto, print_type};
 use std::alloc::{AllocError, Global};
 
@@ -38,13 +37,6 @@ pub fn string_text(alloc: Global, chars: &Chars) -> Result<Vec<u8>, AllocError>
     }
     text.extend_from_slice(b"\"")?;
     Ok(text)
-}
-
-/// The descriptor of a type.
-pub fn type_text(alloc: Global, ty: &Ty) -> Result<Text, AllocError>
-    ensures { IfOk result (λ t. t ≡ descriptor ty.now) }
-{
-    print_type(alloc, ty)
 }
 
 pub fn field_text(alloc: Global, field: &FieldRef) -> Result<Vec<u8>, AllocError>

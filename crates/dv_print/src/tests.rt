@@ -81,8 +81,8 @@ fn smallest_program(rt: HostRuntime) -> Result<(), Fail> {
     Ok(())
 }
 
-/// An instruction of each format, and payloads of each kind and width. There is one nop that layout puts before a
-/// payload, at 0x0047, and one with a label, at 0x005d.
+/// An instruction of each format, and payloads of each kind and width. There are nops that layout puts before a payload,
+/// at 0x0047 and, with a label, at 0x005d.
 const UNITS: [u16; 114] = [
     0x0000, 0x2101, 0xf012, 0x001d, 0x0102, 0x012c, 0x0213, 0xfed4, // 0x0000
     0x0215, 0x8000, 0x0219, 0x0001, 0x001a, 0x0000, 0x0090, 0x0201, // 0x0008
@@ -256,7 +256,8 @@ fn methods(alloc: Global) -> Result<Vec<MethodDef>, AllocError> {
 }
 
 const EVERYTHING: &[u8] =
-    b".class public private protected static final synchronized volatile bridge transient varargs native interface abstract strictfp synthetic annotation enum constructor declared-synchronized LA;\n\
+    b".class public private protected static final synchronized volatile bridge transient varargs \
+    native interface abstract strictfp synthetic annotation enum constructor declared-synchronized LA;\n\
     .super Ljava/lang/Object;\n\
     .implements LI;\n\
     .implements LJ;\n\
@@ -304,6 +305,7 @@ const EVERYTHING: &[u8] =
     :L0045\n\
     return-void\n\
     throw v0\n\
+    nop\n\
     :L0048\n\
     .packed-switch 10\n\
     :L0045\n\

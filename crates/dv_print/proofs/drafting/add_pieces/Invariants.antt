@@ -1,9 +1,7 @@
-use Rattle.std.proofs.Common.{◌≡◌, ◌++◌, length}
-use Rattle.dv_print.specs.Drafting.{items_from}
+use Rattle.std.proofs.Common.{◌≡◌, ◌++◌, take}
+use Rattle.std.specs.List.{flat_map}
+use Rattle.dv_print.specs.Drafting.{items_at}
 use Rattle.dv_print.proofs.drafting.add_pieces.Given as goal
 
-abbrev pub invariant-loop-rest : goal.invariant-loop-rest
-invariant-loop-rest l = l.items.items ++ items_from l.body l.pieces l.named l.rest ≡ l.fn.items.items ++ items_from l.body l.pieces l.named l.pieces
-
-abbrev pub decreases-loop-rest : goal.decreases-loop-rest
-decreases-loop-rest l = length l.rest
+abbrev pub invariant-loop-piece : goal.invariant-loop-piece
+invariant-loop-piece l = l.items.items ≡ l.fn.items.items ++ flat_map (items_at l.body l.pieces l.named) (take l.piece-index l.pieces)

@@ -1,6 +1,6 @@
 use Rattle.std.proofs.Common.{ℕ, arith, length-drop}
 use Rattle.std.proofs.lemmas.List.{length-take}
-use Rattle.dv_print.proofs.Bytes.{few_bytes}
+use Rattle.dv_print.proofs.Steps.Bytes.{few_bytes}
 use Rattle.dv_print.proofs.items.+number_of.Goals as goal
 
 pub overflow_mul-result : goal.overflow_mul-result

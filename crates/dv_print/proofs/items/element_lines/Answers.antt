@@ -1,6 +1,6 @@
 use Rattle.std.proofs.Common.{◌-◌, ◌++◌, take, ap, ◌∙◌}
 use Rattle.dv_print.specs.Draft.{element_line, element_lines}
-use Rattle.dv_print.proofs.Lines.{element_more}
+use Rattle.dv_print.proofs.Steps.Lines.{element_more}
 use Rattle.dv_print.proofs.items.element_lines.Goals as goal
 
 pub loop-left-preserved : goal.loop-left-preserved

@@ -1,4 +1,4 @@
-use Rattle.dv_print.proofs.AssembledAgain.{draft_is_assembled}
+use Rattle.dv_print.proofs.Again.AssembledAgain.{draft_is_assembled}
 use Rattle.dv_print.proofs.laws.draft_is_assembled.Goals as goal
 
 pub returns : goal.returns

@@ -1,4 +1,4 @@
-use Rattle.dv_print.proofs.KeptAddresses.{draft_keeps_addresses}
+use Rattle.dv_print.proofs.Units.KeptAddresses.{draft_keeps_addresses}
 use Rattle.dv_print.proofs.laws.draft_keeps_addresses.Goals as goal
 
 pub returns : goal.returns

@@ -1,4 +1,4 @@
-use Rattle.dv_print.proofs.Resolved.{leads_there}
+use Rattle.dv_print.proofs.Places.Resolved.{leads_there}
 use Rattle.dv_print.proofs.laws.labels_lead.Goals as goal
 
 pub returns : goal.returns

@@ -1,6 +1,6 @@
 use Rattle.std.proofs.Common.{sym, ◌∙◌}
 use Rattle.dv_units.proofs.Decoding.{units_fit}
-use Rattle.dv_print.proofs.Tiles.{insn_begins, part_fits, payload_fits}
+use Rattle.dv_print.proofs.Steps.Tiles.{insn_begins, part_fits, payload_fits}
 use Rattle.dv_print.proofs.pieces.part_at.Goals as goal
 
 pub returns-then-begins_payload-clause-within : goal.returns-then-begins_payload-clause-within

@@ -4,7 +4,7 @@ use Rattle.dv_defs.specs.Tiling.{piece_here}
 use Rattle.dv_print.specs.declared.pieces.Part.{Part}
 use Rattle.dv_print.specs.declared.pieces.Piece.{Piece}
 use Rattle.dv_print.specs.Pieces.{sized}
-use Rattle.dv_print.proofs.Tiles.{AreSoFar, one_more, none_more}
+use Rattle.dv_print.proofs.Steps.Tiles.{AreSoFar, one_more, none_more}
 use Rattle.dv_print.proofs.pieces.pieces_of.Goals as goal
 
 pub loop-at-preserved : goal.loop-at-preserved

@@ -1,5 +1,5 @@
 use Rattle.std.proofs.Common.{◌-◌, length}
-use Rattle.dv_print.proofs.Tiles.{AreSoFar}
+use Rattle.dv_print.proofs.Steps.Tiles.{AreSoFar}
 use Rattle.dv_print.proofs.pieces.pieces_of.Given as goal
 
 abbrev pub invariant-loop-at : goal.invariant-loop-at

@@ -1,0 +1,5 @@
+-- What the functions of the code are proved by.
+pub mod Bytes
+pub mod Lines
+pub mod Tiles
+pub mod LookUps
