@@ -23,6 +23,8 @@ use Rattle.dv_machine.specs.Running.{ending_of}
 use Rattle.dv_machine.specs.State.{Machine, reg_at, read_int, with_output}
 use Rattle.dv_top.specs.declared.instruction.Instruction.{Instruction}
 use Rattle.dv_top.specs.declared.instruction.Instruction.TheVariants as insn
+use Rattle.dv_top.specs.declared.status.Status.{Status}
+use Rattle.dv_top.specs.declared.status.Status.TheVariants as status
 use Rattle.dv_top.specs.Assembly.{body_of}
 use Rattle.dv_top.specs.Image.{class_at, image_of, method_of, println_def, main_def, resolved}
 use Rattle.dv_top.specs.Said.{status_of}
@@ -142,14 +144,14 @@ ending_line ending.Output = codes "#end output" ++ newline
 abbrev pub printed_text : List ℕ → Ending → List ℕ
 printed_text output e = closed output ++ ending_line e
 
--- 0 where the thread returned, 10 where the budget of steps or of printed bytes is spent
-abbrev pub status_by : Ending → ℕ
-status_by ending.Done = 0
-status_by (ending.HeapFull t) = 7
-status_by (ending.StackFull t) = 8
-status_by ending.NoRunnable = 9
-status_by ending.Steps = 10
-status_by ending.Output = 10
+-- the status of a run whose thread returned, or which a limit ended
+abbrev pub status_by : Ending → Status
+status_by ending.Done = status.Done
+status_by (ending.HeapFull t) = status.HeapFull
+status_by (ending.StackFull t) = status.StackFull
+status_by ending.NoRunnable = status.Blocked
+status_by ending.Steps = status.Spent
+status_by ending.Output = status.Spent
 
 -- the replay of the log from the opening of a main method stands at an ending, and this was printed
 pub record HasRun (image : Image) (main : Method) (limits : Limits) (log : List Entry) (e : Ending) (output : List ℕ) : Type 0 where
