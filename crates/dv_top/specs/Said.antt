@@ -37,9 +37,9 @@ text_of lines = text_before lines []
 abbrev pub usage : List ℕ
 usage =
     text_of (codes "#usage dvm run NAME [workers=N | seed=N] [budget=N] [heap=N] [log=yes]"
-      ∷ codes "#usage dvm replay NAME [budget=N] [heap=N] | dvm verify | dvm list"
-      ∷ codes "#usage dvm demo number=N classes=C threads=T [workers=N]"
-      ∷ [])
+    ∷ codes "#usage dvm replay NAME [budget=N] [heap=N] | dvm verify | dvm list"
+    ∷ codes "#usage dvm demo number=N classes=C threads=T [workers=N]"
+    ∷ [])
 
 abbrev pub too_large : List ℕ
 too_large = text_of (codes "#refused text too large" ∷ [])
@@ -64,7 +64,7 @@ method_text image (Some m) = name_at image m.info.class.0 ++ (codes "->" ++ (m.d
 abbrev pub fault_line : Image → Fault → List ℕ
 fault_line image f =
     codes "#fault " ++ (method_text image (method_at image f.method.0)
-      ++ (codes " " ++ (four_digits f.address ++ (codes " " ++ rule_text f.rule))))
+    ++ (codes " " ++ (four_digits f.address ++ (codes " " ++ rule_text f.rule))))
 
 abbrev pub fault_text : Image → List Fault → List ℕ
 fault_text image faults = text_of (map (fault_line image) faults)
@@ -134,10 +134,10 @@ pub data IsSaidOfClass (class bytes : List ℕ) (log : List Entry) (status : ℕ
   TooLarge : text_limit < length bytes → IsReply exit.TooLarge too_large status text → IsSaidOfClass class bytes log status text
   -- the text is no straight text of the class
   NotBuilt : length bytes ≤ text_limit → ((registers : ℕ) (insns : List Instruction) → IsStraight class bytes registers insns → ⊥)
-    → IsReply exit.NotBuilt not_built status text → IsSaidOfClass class bytes log status text
+      → IsReply exit.NotBuilt not_built status text → IsSaidOfClass class bytes log status text
   -- the verifier refuses the image: it has faults
   Refused : (image : Image) → IsBuilt class bytes image → (first : Fault) (others : List Fault) → AreImageFaults image (first ∷ others)
-    → IsReply exit.Refused (fault_text image (first ∷ others)) status text → IsSaidOfClass class bytes log status text
+      → IsReply exit.Refused (fault_text image (first ∷ others)) status text → IsSaidOfClass class bytes log status text
   -- the image runs
   Ran : (image : Image) → IsAccepted class bytes image → IsRun class image log status text → IsSaidOfClass class bytes log status text
 
@@ -146,4 +146,4 @@ pub data IsSaid (words : List (List ℕ)) (bytes : List ℕ) (log : List Entry) 
   -- the words aren't read
   Unread : class_to_run words ≡ None → IsReply exit.Usage usage status text → IsSaid words bytes log status text
   Asked : (class : List ℕ) → class_to_run words ≡ Some class → IsSaidOfClass class bytes log status text
-    → IsSaid words bytes log status text
+      → IsSaid words bytes log status text

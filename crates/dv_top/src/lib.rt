@@ -34,9 +34,8 @@ mod verifying;
 mod words;
 mod writing;
 
-pub use status::Status;
-
 use answering::answer;
+pub use status::Status;
 
 /// What a call came to.
 #[derive(Drop)]
