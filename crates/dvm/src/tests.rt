@@ -3,6 +3,7 @@ use super::*;
 use std::test::Fail;
 
 /// A command line with the program's name first, and no variables.
+#[derive(Drop)]
 struct Line<'a>(&'a [&'a [u8]]);
 
 impl Env for Line<'_> {
