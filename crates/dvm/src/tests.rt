@@ -1,14 +1,15 @@
 // The words of a command line.
 use super::*;
+use std::alloc::{AllocError, Global};
 use std::test::Fail;
 
-/// A command line with the program's name first, and no variables.
+/// A command line, each argument but the last followed by a zero byte; the program's name is the first. No variables.
 #[derive(Drop)]
-struct Line<'a>(&'a [&'a [u8]]);
+struct CommandLine<'a>(&'a [u8]);
 
-impl Env for Line<'_> {
+impl Env for CommandLine<'_> {
     fn arg(&self, i: usize, buf: &mut [u8]) -> Result<usize, FillError> {
-        let Some(arg) = self.0.get(i) else {
+        let Some(arg) = self.0.split(|byte| *byte == 0).nth(i) else {
             return Err(FillError::NotPresent);
         };
         if arg.len() > buf.len() {
@@ -27,21 +28,28 @@ impl Env for Line<'_> {
     }
 }
 
+/// The words, each followed by a blank.
+fn joined(alloc: Global, words: &[String]) -> Result<String, AllocError> {
+    let mut text = String::new(alloc);
+    for word in words {
+        text.push_str(word)?;
+        text.push_str(" ")?;
+    }
+    Ok(text)
+}
+
 #[test]
 fn a_word_that_is_no_text_leaves_no_words(rt: HostRuntime) -> Result<(), Fail> {
-    let rows: [(&[&[u8]], &[&str]); 5] = [
-        (&[b"dvm", b"run", b"Main"], &["run", "Main"]),
-        (&[b"\xff", b"run", b"Main"], &["run", "Main"]),
-        (&[b"dvm", b"\xff"], &[]),
-        (&[b"dvm", b"run", b"Main", b"\xc3"], &[]),
-        (&[b"dvm"], &[]),
+    let rows = [
+        (b"dvm\0run\0Main".as_slice(), "run Main "),
+        (b"\xff\0run\0Main".as_slice(), "run Main "),
+        (b"dvm\0\xff".as_slice(), ""),
+        (b"dvm\0run\0Main\0\xc3".as_slice(), ""),
+        (b"dvm".as_slice(), ""),
     ];
-    for (args, words) in rows {
-        let read = words_of(&(Line(args), rt.alloc()))?;
-        assert_eq!(rt; read.len(), words.len());
-        for (one, other) in read.iter().zip(words) {
-            assert_eq!(rt; one.as_str(), *other);
-        }
+    for (line, words) in rows {
+        let read = words_of(&(CommandLine(line), rt.alloc()))?;
+        assert_eq!(rt; joined(rt.alloc(), &read)?.as_str(), words);
     }
     Ok(())
 }
