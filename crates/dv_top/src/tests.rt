@@ -1,6 +1,4 @@
 // The top call over sources and sinks in memory.
-ghost use Rattle.std.specs.Prelude.{◌<◌};
-
 use super::*;
 use dv_io::{MemSink, MemSource, NoGate};
 use std::alloc::AllocError;
@@ -23,7 +21,7 @@ struct Row<'a> {
     words: &'a [&'a str],
     /// The text's class, and of its main method the registers, the first instructions, all nops, and the others.
     class: &'a str,
-    registers: u32,
+    registers: &'a str,
     nops: u32,
     body: &'a str,
     failing_reads: &'a [u64],
@@ -37,7 +35,7 @@ struct Row<'a> {
 const RUN: Row<'static> = Row {
     words: &["run", "Main"],
     class: "LMain;",
-    registers: 0,
+    registers: "0",
     nops: 0,
     body: "return-void\n",
     failing_reads: &[],
@@ -49,7 +47,7 @@ const RUN: Row<'static> = Row {
 
 /// A text of this form isn't built.
 const NOT_BUILT: Row<'static> = Row {
-    registers: 1,
+    registers: "1",
     status: 14,
     taken: "#not built\n",
     turns: &[],
@@ -69,28 +67,28 @@ const ROWS: &[Row<'static>] = &[
     // Runs.
     RUN,
     Row {
-        registers: 2,
+        registers: "2",
         body: SUM,
         taken: "5\n#end done\n",
         turns: &[4, 1],
         ..RUN
     },
     Row {
-        registers: 1,
+        registers: "1",
         body: "nop\nconst/16 v0, -0x8000\ninvoke-static {v0}, Ldvm/Console;->println(I)V\nreturn-void\n",
         taken: "-32768\n#end done\n",
         turns: &[3, 1],
         ..RUN
     },
     Row {
-        registers: 16,
+        registers: "16",
         body: "const/4 v15, -0x8\nmove v0, v15\nadd-int v15, v0, v15\ninvoke-static {v15}, Ldvm/Console;->println(I)V\nreturn-void\n",
         taken: "-16\n#end done\n",
         turns: &[4, 1],
         ..RUN
     },
     Row {
-        registers: 1,
+        registers: "1",
         body: "return-void\ninvoke-static {v0}, Ldvm/Console;->println(I)V\nreturn-void\n",
         ..RUN
     },
@@ -106,7 +104,7 @@ const ROWS: &[Row<'static>] = &[
     },
     // Faults: registers that weren't written.
     Row {
-        registers: 1,
+        registers: "1",
         body: "invoke-static {v0}, Ldvm/Console;->println(I)V\nreturn-void\n",
         status: 6,
         taken: "#fault LMain;->main()V 0000 V2\n",
@@ -114,7 +112,7 @@ const ROWS: &[Row<'static>] = &[
         ..RUN
     },
     Row {
-        registers: 2,
+        registers: "2",
         body: "const/4 v0, 0x1\nadd-int v0, v0, v1\nmove v0, v1\nmove v1, v0\nreturn-void\n",
         status: 6,
         taken: "#fault LMain;->main()V 0001 V2\n#fault LMain;->main()V 0003 V2\n#fault LMain;->main()V 0004 V2\n",
@@ -151,7 +149,7 @@ const ROWS: &[Row<'static>] = &[
         ..NOT_BUILT
     },
     Row {
-        registers: 2,
+        registers: "2",
         body: "move v0,v1\nreturn-void\n",
         ..NOT_BUILT
     },
@@ -172,7 +170,7 @@ const ROWS: &[Row<'static>] = &[
         ..NOT_BUILT
     },
     Row {
-        registers: 17,
+        registers: "17",
         ..NOT_BUILT
     },
     Row {
@@ -219,7 +217,7 @@ const ROWS: &[Row<'static>] = &[
     },
     // A read and a write that fail.
     Row {
-        registers: 2,
+        registers: "2",
         body: SUM,
         failing_reads: &[0],
         status: 3,
@@ -228,7 +226,7 @@ const ROWS: &[Row<'static>] = &[
         ..RUN
     },
     Row {
-        registers: 2,
+        registers: "2",
         body: SUM,
         failing_writes: &[1],
         status: 4,
@@ -268,44 +266,63 @@ fn a_text_has_a_limit(rt: HostRuntime) -> Result<(), Fail> {
 }
 
 fn text_of(alloc: Global, row: &Row) -> Result<String, AllocError> {
-    let mut nops = String::new(alloc);
+    let mut text = String::new(alloc);
+    text.push_str(".class ")?;
+    text.push_str(row.class)?;
+    text.push_str("\n.super Ljava/lang/Object;\n.method static main()V\n.registers ")?;
+    text.push_str(row.registers)?;
+    text.push_str("\n")?;
     for _ in 0..row.nops {
-        nops.push_str("nop\n")?;
+        text.push_str("nop\n")?;
     }
-    format!(in alloc;
-        ".class {}\n.super Ljava/lang/Object;\n.method static main()V\n.registers {}\n{nops}{}.end method\n",
-        row.class, row.registers, row.body
-    )
+    text.push_str(row.body)?;
+    text.push_str(".end method\n")?;
+    Ok(text)
 }
 
-/// What the row's words come to over a text, which is read and told in pieces.
+/// What the row's words come to over a text.
 fn report_of<R: Threads + Sync>(
     rt: &R,
     alloc: Global,
     row: &Row,
     text: &[u8],
 ) -> Result<Report<MemSink>, AllocError> {
-    let mut words = Vec::new(alloc);
-    for word in row.words {
-        words.push(String::from_str(alloc, word)?)?;
+    let words = words_of(alloc, row.words)?;
+    let mut source = source_of(alloc, text, row.failing_reads)?;
+    let sink = sink_of(alloc, row.failing_writes)?;
+    Ok(dvm(rt, alloc, &words, &mut source, sink, &NoGate))
+}
+
+fn words_of(alloc: Global, words: &[&str]) -> Result<Vec<String>, AllocError> {
+    let mut list = Vec::new(alloc);
+    for word in words {
+        list.push(String::from_str(alloc, word)?)?;
     }
-    let mut source = MemSource {
+    Ok(list)
+}
+
+/// The text, in pieces of 64 bytes.
+fn source_of(alloc: Global, text: &[u8], fails: &[u64]) -> Result<MemSource, AllocError> {
+    Ok(MemSource {
         bytes: Vec::from_slice(alloc, text)?,
         at: 0,
         piece: 64,
-        fails: Vec::from_slice(alloc, row.failing_reads)?,
+        fails: Vec::from_slice(alloc, fails)?,
         calls: 0,
         faults: 0,
-    };
-    let sink = MemSink {
+    })
+}
+
+/// Room for 1000 bytes, one by one.
+fn sink_of(alloc: Global, fails: &[u64]) -> Result<MemSink, AllocError> {
+    Ok(MemSink {
         taken: Vec::with_capacity(alloc, 1000)?,
         room: 1000,
         piece: 1,
-        fails: Vec::from_slice(alloc, row.failing_writes)?,
+        fails: Vec::from_slice(alloc, fails)?,
         calls: 0,
         faults: 0,
-    };
-    Ok(dvm(rt, alloc, &words, &mut source, sink, &NoGate))
+    })
 }
 
 /// Turns of thread 0 that worker 0 took.
