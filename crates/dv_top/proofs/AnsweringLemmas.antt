@@ -146,6 +146,3 @@ partly_printed words bytes log status text written before after said same (n, to
 
 pub part_taken : (before after : Option (List ℕ)) (text : List ℕ) → TookPart before after text → HasTaken before after
 part_taken before after text (n, took) = (take n text, took)
-
-pub none_taken : (before after : Option (List ℕ)) → after ≡ before → HasTaken before after
-none_taken before after same = ([], same ∙ sym (after_write-none [] before))

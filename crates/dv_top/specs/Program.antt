@@ -53,7 +53,8 @@ println_method = record { id = 0; info = method_of (class_at 1) []; def = printl
 
 -- the main method of a straight image
 abbrev pub main_method : ℕ → List Instruction → Method
-main_method registers insns = record { id = 1; info = method_of (class_at 2) (resolved (body_of registers insns).methods); def = main_def (body_of registers insns) }
+main_method registers insns =
+    record { id = 1; info = method_of (class_at 2) (resolved (body_of registers insns).methods); def = main_def (body_of registers insns) }
 
 -- the operation of an instruction
 abbrev pub op_of : Instruction → Op
@@ -106,7 +107,8 @@ is_return i = false
 -- the faults of the instructions from an address on, up to the first return-void
 abbrev pub faults_from : ℕ → List Bool → List Instruction → List Fault
 faults_from at ints [] = []
-faults_from at ints (i ∷ is) = if is_return i then [] else fault_unless (reads_ints ints i) at ++ faults_from (at + size_of i) (ints_after ints i) is
+faults_from at ints (i ∷ is) =
+    if is_return i then [] else fault_unless (reads_ints ints i) at ++ faults_from (at + size_of i) (ints_after ints i) is
 
 abbrev pub faults_of : List Instruction → List Fault
 faults_of insns = faults_from 0 no_ints insns
@@ -119,11 +121,25 @@ frame_at at regs = record { method = record { 0 = 1 }; at = at; regs = regs; res
 
 -- the opening's machine, where its thread has come to an address with these registers, after so many steps
 abbrev pub running : Image → Method → Limits → ℕ → List Value → List ℕ → ℕ → Machine
-running image main limits at regs output steps = record { threads = record { levels = level.Code (frame_at at regs) ∷ []; end = end.Living; object = 2 } ∷ []; shared = with_output (opening image main limits).shared output; steps = steps; stop = None; limits = limits }
+running image main limits at regs output steps =
+    record {
+      threads = record { levels = level.Code (frame_at at regs) ∷ []; end = end.Living; object = 2 } ∷ [];
+      shared = with_output (opening image main limits).shared output;
+      steps = steps;
+      stop = None;
+      limits = limits;
+    }
 
 -- ... and where its thread has returned
 abbrev pub returned : Image → Method → Limits → List ℕ → ℕ → Machine
-returned image main limits output steps = record { threads = record { levels = []; end = end.Returned; object = 2 } ∷ []; shared = with_output (opening image main limits).shared output; steps = steps; stop = None; limits = limits }
+returned image main limits output steps =
+    record {
+      threads = record { levels = []; end = end.Returned; object = 2 } ∷ [];
+      shared = with_output (opening image main limits).shared output;
+      steps = steps;
+      stop = None;
+      limits = limits;
+    }
 
 -- each register that holds an int holds this number
 pub record AreKept (registers : ℕ) (ints : List Bool) (values : List ℤ) (regs : List Value) : Type 0 where

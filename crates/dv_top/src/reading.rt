@@ -8,7 +8,7 @@ use dv_io::{Failed, Source};
 use std::alloc::{AllocError, AllocFailed, Global};
 
 /// Why a source wasn't read.
-#[derive(Clone, Copy, PartialEq, Eq, Debug)]
+#[derive(Clone, Copy)]
 pub enum ReadError {
     /// A read failed.
     Failed,
