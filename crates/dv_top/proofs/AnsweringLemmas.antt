@@ -8,15 +8,19 @@ use Rattle.dv_defs.specs.declared.run.Entry.{Entry}
 use Rattle.dv_defs.specs.Accepting.{AreImageFaults}
 use Rattle.dv_machine.specs.Opening.{usual}
 use Rattle.dv_top.specs.declared.instruction.Instruction.{Instruction}
+use Rattle.dv_top.specs.declared.status.Status.{Status}
+use Rattle.dv_top.specs.declared.status.Status.TheVariants as exit
 use Rattle.dv_io.specs.Io.{after_write}
-use Rattle.dv_top.specs.Answering.{HasTaken, IsReadOf, MayRun, IsPrinted, IsPartlyPrinted}
+use Rattle.dv_top.specs.Answering.{HasTaken, IsReadOf, IsScheduleOf, MayRun, IsPrinted, IsPartlyPrinted}
+use Rattle.dv_top.specs.Engine.{IsLegalLog}
 use Rattle.dv_top.specs.Image.{IsLinked, image_of}
 use Rattle.dv_top.specs.Pieces.{TookPart}
+use Rattle.dv_top.specs.Status.{code_of}
 use Rattle.dv_top.specs.Words.{class_to_run}
 use Rattle.dv_top.specs.Printing.{main_fault_line, main_fault_text}
 use Rattle.dv_top.specs.Program.{IsImageOf, HasMain, HasRun, main_method, faults_of, faults_from, fault_unless, is_return, reads_ints, ints_after, no_ints, printed_text, status_by}
 use Rattle.dv_defs.specs.Pools.{method_at}
-use Rattle.dv_top.specs.Said.{method_text, four_digits, rule_text, IsSaid, IsSaidOfClass, TooLarge, NotBuilt, Refused, Ran, IsRun, IsBuilt, IsAccepted, fault_line, fault_text, too_large, not_built}
+use Rattle.dv_top.specs.Said.{method_text, four_digits, rule_text, IsSaid, IsSaidOfClass, TooLarge, NotBuilt, Refused, Ran, IsRun, IsBuilt, IsAccepted, fault_line, fault_text, too_large, not_built, text_limit}
 use Rattle.dv_top.specs.Straight.{IsStraight, size_of}
 use Rattle.dv_top.proofs.BodyLemmas.{each_in_range}
 use Rattle.dv_top.proofs.FaultsFound.{faults_are_found}
@@ -35,7 +39,7 @@ has_main class registers insns image p = record { class = class; registers = reg
 
 -- ---- a run
 
-pub run_is : (class : List ℕ) (registers : ℕ) (insns : List Instruction) (image : Image) (log : List Entry) (e : Ending) (output : List ℕ) (status : ℕ) (text : List ℕ) → IsImageOf class registers insns image → HasRun image (main_method registers insns) usual log e output → status ≡ status_by e → text ≡ printed_text output e → IsRun class image log status text
+pub run_is : (class : List ℕ) (registers : ℕ) (insns : List Instruction) (image : Image) (log : List Entry) (e : Ending) (output : List ℕ) (status : Status) (text : List ℕ) → IsImageOf class registers insns image → HasRun image (main_method registers insns) usual log e output → status ≡ status_by e → text ≡ printed_text output e → IsRun class image log (code_of status) text
 run_is class registers insns image log e output status text p h tells prints =
     record {
       main = main_method registers insns;
@@ -44,12 +48,16 @@ run_is class registers insns image log e output status text p h tells prints =
       replayed = h.replayed;
       ending = e;
       ends = h.ends;
-      tells = tells ∙ sym h.status;
+      tells = ap code_of (tells ∙ sym h.status);
       prints = prints ∙ sym h.prints;
     }
 
 pub clean_image : (class : List ℕ) (registers : ℕ) (insns : List Instruction) (image : Image) → IsImageOf class registers insns image → faults_of insns ≡ [] → AreImageFaults image []
 clean_image class registers insns image p clean = (faults_are_found class registers insns image p []).1 (sym clean)
+
+-- ... also where memory is wanting in it
+pub schedule_of_run : (class : List ℕ) (registers : ℕ) (insns : List Instruction) (image : Image) (log : List Entry) → IsImageOf class registers insns image → IsLegalLog insns usual log → IsScheduleOf class image log
+schedule_of_run class registers insns image log p legal = record { main = main_method registers insns; has_main = (main_is_found class registers insns image p).0; legal = legal.each class registers image p }
 
 pub said_of_run : (class bytes : List ℕ) (image : Image) (log : List Entry) (status : ℕ) (text : List ℕ) → IsBuilt class bytes image → AreImageFaults image [] → IsRun class image log status text → IsSaidOfClass class bytes log status text
 said_of_run class bytes image log status text built clean run = Ran image (record { built = built; clean = clean }) run
@@ -87,7 +95,7 @@ same_fault_text class registers insns image [] p each = refl
 same_fault_text class registers insns image (f ∷ fs) p each =
     ap (λ t. t ++ 10 ∷ fault_text image fs) (same_fault_line class registers insns image f p each.0) ∙ ap (λ t. main_fault_line class f ++ 10 ∷ t) (same_fault_text class registers insns image fs p each.1)
 
-pub said_of_refusal : (class bytes : List ℕ) (registers : ℕ) (insns : List Instruction) (image : Image) (log : List Entry) (faults : List Fault) (status : ℕ) (text : List ℕ) → IsBuilt class bytes image → IsImageOf class registers insns image → faults ≡ faults_of insns → (faults ≡ [] → ⊥) → status ≡ 6 → text ≡ main_fault_text class faults → IsSaidOfClass class bytes log status text
+pub said_of_refusal : (class bytes : List ℕ) (registers : ℕ) (insns : List Instruction) (image : Image) (log : List Entry) (faults : List Fault) (status : ℕ) (text : List ℕ) → IsBuilt class bytes image → IsImageOf class registers insns image → faults ≡ faults_of insns → (faults ≡ [] → ⊥) → status ≡ code_of exit.Refused → text ≡ main_fault_text class faults → IsSaidOfClass class bytes log status text
 said_of_refusal class bytes registers insns image log [] status text built p found some told prints = absurd (some refl)
 said_of_refusal class bytes registers insns image log (f ∷ fs) status text built p found some told prints =
     Refused image built f fs ((faults_are_found class registers insns image p (f ∷ fs)).1 found) (told, prints ∙ sym (same_fault_text class registers insns image (f ∷ fs) p (subst EachOfMain (sym found) (each_of_main 0 no_ints insns))))
@@ -103,27 +111,27 @@ whole_by n limit bytes text more is few =
 past_by : (n limit : ℕ) (bytes text : List ℕ) → text ≡ take n bytes → limit < length text → limit < length bytes
 past_by n limit bytes text is many = omega (arith, ap (λ t. length t) is, length-take n bytes)
 
-pub read_whole : (bytes text : List ℕ) → IsReadOf bytes text → length text ≤ 8388608 → (text ≡ bytes) × (length bytes ≤ 8388608)
-read_whole bytes text is few = whole_by 8388609 8388608 bytes text refl is few
+pub read_whole : (bytes text : List ℕ) → IsReadOf bytes text → length text ≤ text_limit → (text ≡ bytes) × (length bytes ≤ text_limit)
+read_whole bytes text is few = whole_by (text_limit + 1) text_limit bytes text refl is few
 
-pub said_too_large : (class bytes text : List ℕ) (log : List Entry) (status : ℕ) (reply : List ℕ) → IsReadOf bytes text → 8388608 < length text → status ≡ 13 → reply ≡ too_large → IsSaidOfClass class bytes log status reply
-said_too_large class bytes text log status reply is many told prints = TooLarge (past_by 8388609 8388608 bytes text is many) (told, prints)
+pub said_too_large : (class bytes text : List ℕ) (log : List Entry) (status : ℕ) (reply : List ℕ) → IsReadOf bytes text → text_limit < length text → status ≡ code_of exit.TooLarge → reply ≡ too_large → IsSaidOfClass class bytes log status reply
+said_too_large class bytes text log status reply is many told prints = TooLarge (past_by (text_limit + 1) text_limit bytes text is many) (told, prints)
 
-pub said_not_built : (class bytes text : List ℕ) (log : List Entry) (status : ℕ) (reply : List ℕ) → IsReadOf bytes text → length text ≤ 8388608 → ((registers : ℕ) (insns : List Instruction) → IsStraight class text registers insns → ⊥) → status ≡ 14 → reply ≡ not_built → IsSaidOfClass class bytes log status reply
+pub said_not_built : (class bytes text : List ℕ) (log : List Entry) (status : ℕ) (reply : List ℕ) → IsReadOf bytes text → length text ≤ text_limit → ((registers : ℕ) (insns : List Instruction) → IsStraight class text registers insns → ⊥) → status ≡ code_of exit.NotBuilt → reply ≡ not_built → IsSaidOfClass class bytes log status reply
 said_not_built class bytes text log status reply is few none told prints =
     let whole = read_whole bytes text is few in
     NotBuilt whole.1 (λ registers insns s. none registers insns (subst (λ (t : List ℕ). IsStraight class t registers insns) (sym whole.0) s)) (told, prints)
 
 -- a text that was linked is the one that the bytes are
-pub built_of_read : (class bytes text : List ℕ) (image : Image) → IsReadOf bytes text → length text ≤ 8388608 → IsLinked class text image → IsBuilt class bytes image
+pub built_of_read : (class bytes text : List ℕ) (image : Image) → IsReadOf bytes text → length text ≤ text_limit → IsLinked class text image → IsBuilt class bytes image
 built_of_read class bytes text image is few l =
     let whole = read_whole bytes text is few in
     record { small = whole.1; linked = subst (λ (t : List ℕ). IsLinked class t image) whole.0 l }
 
 -- ---- words
 
-pub may_run : (words : List (List ℕ)) (bytes class : List ℕ) → class_to_run words ≡ Some class → (image : Image) × IsAccepted class bytes image → MayRun words bytes
-may_run words bytes class asked (image, accepted) = record { class = class; asked = asked; image = image; accepted = accepted }
+pub may_run : (words : List (List ℕ)) (bytes class : List ℕ) (log : List Entry) → class_to_run words ≡ Some class → (image : Image) × IsAccepted class bytes image × IsScheduleOf class image log → MayRun words bytes log
+may_run words bytes class log asked (image, accepted, schedule) = record { class = class; asked = asked; image = image; accepted = accepted; schedule = schedule }
 
 pub no_class : (asked : Option (List ℕ)) (class : List ℕ) → asked ≡ None → asked ≡ Some class → ⊥
 no_class asked class none some = cc
@@ -138,6 +146,3 @@ partly_printed words bytes log status text written before after said same (n, to
 
 pub part_taken : (before after : Option (List ℕ)) (text : List ℕ) → TookPart before after text → HasTaken before after
 part_taken before after text (n, took) = (take n text, took)
-
-pub none_taken : (before after : Option (List ℕ)) → after ≡ before → HasTaken before after
-none_taken before after same = ([], same ∙ sym (after_write-none [] before))

@@ -102,9 +102,6 @@ pub record AreRead (registers : ℕ) (text : List ℕ) (insns : List Instruction
   pub whole : (more : List Instruction) → IsBody registers more left → IsBody registers (insns ++ more) text
   pub only : (all : List Instruction) → IsBody registers all text → (more : List Instruction) × ((all ≡ insns ++ more) × IsBody registers more left)
 
-pub none_read : (registers : ℕ) (text : List ℕ) → AreRead registers text [] text
-none_read registers text = record { whole = λ more body. body; only = λ all body. (all, (refl, body)) }
-
 no_end : (registers : ℕ) (insn : Instruction) (line : List ℕ) → IsLine registers insn line → line ≡ codes ".end method" → ⊥
 no_end registers insn line on ends = not_end insn line on.form ends
 

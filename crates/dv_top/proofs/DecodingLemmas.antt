@@ -86,6 +86,3 @@ pushed insns units found new at size read i n known is new-is size-is =
 
 pub never : (read : Option Instruction) (i : Instruction) → read ≡ Some i → read ≡ None → ⊥
 never read i known is = cc
-
-pub none_yet : (insns : List Instruction) → SoFar insns [] 0
-none_yet insns = record { front = refl; few = omega arith; address = refl }

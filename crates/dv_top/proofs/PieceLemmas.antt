@@ -5,6 +5,7 @@ use Rattle.std.proofs.lemmas.List.{drop-drop, drop_all, take_all, length-take-le
 use Rattle.std.proofs.lemmas.Grind.{common_steps}
 use Rattle.dv_io.specs.Io.{after_write, after_taking, Copies}
 use Rattle.dv_top.specs.Pieces.{ReadSoFar}
+use Rattle.dv_top.specs.Said.{text_limit}
 
 -- a piece written after the front is a longer front
 pub after_write-more : (text : List ℕ) (at n : ℕ) (old : Option (List ℕ)) → after_write (take n (drop at text)) (after_write (take at text) old) ≡ after_write (take (at + n) text) old
@@ -36,21 +37,21 @@ read_more (Some bytes) mid new text room n so fits after copied =
     record { left = after ∙ ap (after_taking n) so.left ∙ ap Some more.0; front = (more.1, more.2) }
 
 -- at the end of the source all was read
-pub read_all_at_end : (old now : Option (List ℕ)) (text : List ℕ) → ReadSoFar old now text → length text ≤ 8388608 → IfSome now (λ bytes. bytes ≡ []) → (bytes : List ℕ) → old ≡ Some bytes → text ≡ take 8388609 bytes
+pub read_all_at_end : (old now : Option (List ℕ)) (text : List ℕ) → ReadSoFar old now text → length text ≤ text_limit → IfSome now (λ bytes. bytes ≡ []) → (bytes : List ℕ) → old ≡ Some bytes → text ≡ take (text_limit + 1) bytes
 read_all_at_end None now text so within end bytes is = cc
 read_all_at_end (Some all) now text so within end bytes is =
     let none : drop (length text) all ≡ [] = subst (λ (m : Option (List ℕ)). IfSome m (λ rest. rest ≡ [])) so.left end in
     let size : length all ≤ length text = omega (arith, length-drop (length text) all, ap length none) in
     let whole : text ≡ all = so.front.0 ∙ take_all (length text) all size in
     let one : all ≡ bytes = cc in
-    whole ∙ sym (take_all 8388609 all (omega arith)) ∙ ap (take 8388609) one
+    whole ∙ sym (take_all (text_limit + 1) all (omega arith)) ∙ ap (take (text_limit + 1)) one
 
 -- at one byte past the limit, the front was read
-pub read_all_past : (old now : Option (List ℕ)) (text : List ℕ) → ReadSoFar old now text → length text ≡ 8388609 → (bytes : List ℕ) → old ≡ Some bytes → text ≡ take 8388609 bytes
+pub read_all_past : (old now : Option (List ℕ)) (text : List ℕ) → ReadSoFar old now text → length text ≡ text_limit + 1 → (bytes : List ℕ) → old ≡ Some bytes → text ≡ take (text_limit + 1) bytes
 read_all_past None now text so past bytes is = cc
 read_all_past (Some all) now text so past bytes is =
     let one : all ≡ bytes = cc in
-    so.front.0 ∙ ap (λ k. take k all) past ∙ ap (take 8388609) one
+    so.front.0 ∙ ap (λ k. take k all) past ∙ ap (take (text_limit + 1)) one
 
 -- at the end of the source nothing is left, whatever the limit
 pub left_at_end : (limit : ℕ) (old mid now : Option (List ℕ)) (text : List ℕ) → ReadSoFar old mid text → length text ≤ limit → now ≡ after_taking 0 mid → IfSome mid (λ bytes. bytes ≡ []) → now ≡ after_taking limit old

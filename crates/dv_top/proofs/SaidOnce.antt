@@ -10,7 +10,8 @@ use Rattle.dv_machine.specs.Replaying.{Replayed, Stands, replay}
 use Rattle.dv_machine.specs.Running.{ending_of}
 use Rattle.dv_machine.specs.State.{Machine}
 use Rattle.dv_top.specs.Image.{IsLinked, image_of}
-use Rattle.dv_top.specs.Said.{IsSaid, Unread, Asked, IsSaidOfClass, TooLarge, NotBuilt, Refused, Ran, IsRun, status_of, fault_text, main_of}
+use Rattle.dv_top.specs.Said.{IsSaid, Unread, Asked, IsSaidOfClass, TooLarge, NotBuilt, Refused, Ran, IsRun, status_of, fault_text, main_of, text_limit}
+use Rattle.dv_top.specs.Status.{code_of}
 use Rattle.dv_top.specs.Words.{class_to_run}
 use Rattle.dv_top.proofs.AnsweringLemmas.{straight_image, no_class}
 use Rattle.dv_top.proofs.BodyLemmas.{one_straight}
@@ -44,9 +45,9 @@ run_once class image log s t a b r q =
     let main : r.main ≡ q.main = same_some (main_of image class) r.main q.main r.has_main q.has_main in
     let machine : r.machine ≡ q.machine = same_stands (replay image q.main usual log) r.machine q.machine (ap (λ m. replay image m usual log) (sym main) ∙ r.replayed) q.replayed in
     let ending : r.ending ≡ q.ending = same_some (ending_of image q.machine) r.ending q.ending (ap (λ m. ending_of image m) (sym machine) ∙ r.ends) q.ends in
-    (r.tells ∙ (ap (λ m. status_of m r.ending) machine ∙ (ap (λ e. status_of q.machine e) ending ∙ sym q.tells)), r.prints ∙ (ap (λ m. final_text image m) machine ∙ sym q.prints))
+    (r.tells ∙ (ap (λ m. code_of (status_of m r.ending)) machine ∙ (ap (λ e. code_of (status_of q.machine e)) ending ∙ sym q.tells)), r.prints ∙ (ap (λ m. final_text image m) machine ∙ sym q.prints))
 
-too_large_or_small : (n : ℕ) → 8388608 < n → n ≤ 8388608 → ⊥
+too_large_or_small : (n : ℕ) → text_limit < n → n ≤ text_limit → ⊥
 too_large_or_small n many few = absurd (omega arith)
 
 some_or_none : (f : Fault) (fs : List Fault) → (let xs : List Fault = f ∷ fs in xs) ≡ [] → ⊥

@@ -131,9 +131,6 @@ goes_under image registers ts s t are p q = record {
 abbrev pub entry_types : ℕ → Types
 entry_types registers = replicate (registers - 0) ty.Conflict ++ []
 
-pub entry_is : (image : Image) (registers : ℕ) (insns : List Instruction) → entry_state image (main_method registers insns) registers ≡ state_of (entry_types registers)
-entry_is image registers insns = refl
-
 conflict_at : (n k : ℕ) → type_at (replicate n ty.Conflict) k ≡ ty.Conflict
 conflict_at zero k = refl
 conflict_at (suc n) zero = refl

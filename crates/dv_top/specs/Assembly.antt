@@ -51,7 +51,17 @@ called_by insns = if list_any is_println insns then println_ref ∷ [] else []
 
 -- the units of the instructions, one after another
 abbrev pub body_of : ℕ → List Instruction → BodyValue
-body_of registers insns = record { registers = registers; units = flat_map units_of insns; tries = []; strings = []; types = []; fields = []; methods = called_by insns; raw = false }
+body_of registers insns =
+    record {
+      registers = registers;
+      units = flat_map units_of insns;
+      tries = [];
+      strings = [];
+      types = [];
+      fields = [];
+      methods = called_by insns;
+      raw = false;
+    }
 
 -- the address of an instruction: the sizes of those before it
 abbrev pub address_of : List Instruction → ℕ → ℕ

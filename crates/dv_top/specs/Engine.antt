@@ -67,7 +67,8 @@ line_of value = signed_decimal value ++ newline
 
 -- the bytes are printed where there is room for them, else the run stops
 abbrev pub after_print : ℕ → State → List ℕ → State
-after_print most s line = if nat_lt most (length s.output + length line) then stopped_by s ending.Output else gone_on s s.values (s.output ++ line)
+after_print most s line =
+    if nat_lt most (length s.output + length line) then stopped_by s ending.Output else gone_on s s.values (s.output ++ line)
 
 abbrev pub after_step : ℕ → State → Instruction → State
 after_step most s insn.ReturnVoid = stopped_by s ending.Done
@@ -118,17 +119,23 @@ HasNext insns s = s.stop ≡ None → s.at < length insns
 -- in every image of these instructions, so many steps lead from where the engine stood to where it stands
 pub record Leads (insns : List Instruction) (limits : Limits) (n : ℕ) (before after : State) : Type 0 where
   pub next : HasNext insns after
-  pub each : (class : List ℕ) (registers : ℕ) (image : Image) → IsImageOf class registers insns image → (m : Machine) → IsAt image registers insns limits m before → (m' : Machine) × (((entry : ℕ) → steps_of image entry 0 n m ≡ Stands m') × IsAt image registers insns limits m' after)
+  pub each : (class : List ℕ) (registers : ℕ) (image : Image) → IsImageOf class registers insns image → (m : Machine)
+      → IsAt image registers insns limits m before
+      → (m' : Machine) × (((entry : ℕ) → steps_of image entry 0 n m ≡ Stands m') × IsAt image registers insns limits m' after)
 
 -- ... and the replay of the log to where it stands
 pub record IsReached (insns : List Instruction) (limits : Limits) (log : List Entry) (s : State) : Type 0 where
   pub next : HasNext insns s
-  pub each : (class : List ℕ) (registers : ℕ) (image : Image) → IsImageOf class registers insns image → (m : Machine) × ((replay image (main_method registers insns) limits log ≡ Stands m) × IsAt image registers insns limits m s)
+  pub each : (class : List ℕ) (registers : ℕ) (image : Image) → IsImageOf class registers insns image
+      → (m : Machine)
+      × ((replay image (main_method registers insns) limits log ≡ Stands m) × IsAt image registers insns limits m s)
 
 -- in every image of these instructions, the log may be replayed
 pub record IsLegalLog (insns : List Instruction) (limits : Limits) (log : List Entry) : Type 0 where
-  pub each : (class : List ℕ) (registers : ℕ) (image : Image) → IsImageOf class registers insns image → IsLegal image (main_method registers insns) limits log
+  pub each : (class : List ℕ) (registers : ℕ) (image : Image) → IsImageOf class registers insns image
+      → IsLegal image (main_method registers insns) limits log
 
 -- ... and ends so, after this was printed
 pub record EachHasRun (insns : List Instruction) (limits : Limits) (log : List Entry) (e : Ending) (output : List ℕ) : Type 0 where
-  pub each : (class : List ℕ) (registers : ℕ) (image : Image) → IsImageOf class registers insns image → HasRun image (main_method registers insns) limits log e output
+  pub each : (class : List ℕ) (registers : ℕ) (image : Image) → IsImageOf class registers insns image
+      → HasRun image (main_method registers insns) limits log e output

@@ -24,11 +24,13 @@ method_at place = record { 0 = place }
 
 -- `static native println(I)V`
 abbrev pub println_def : MethodDef
-println_def = record { name = codes "println"; proto = println_proto; flags = 2 ^ bit_of flag.Static + 2 ^ bit_of flag.Native; body = None }
+println_def =
+    record { name = codes "println"; proto = println_proto; flags = 2 ^ bit_of flag.Static + 2 ^ bit_of flag.Native; body = None }
 
 -- `static main()V`
 abbrev pub main_def : BodyValue → MethodDef
-main_def body = record { name = codes "main"; proto = record { params = []; ret = None }; flags = 2 ^ bit_of flag.Static; body = Some body }
+main_def body =
+    record { name = codes "main"; proto = record { params = []; ret = None }; flags = 2 ^ bit_of flag.Static; body = Some body }
 
 -- a class whose superclass, if any, is Object, and which has no members but static methods
 abbrev pub class_of : List ℕ → Option (List ℕ) → List MethodDef → ClassInfo
@@ -46,7 +48,11 @@ resolved methods = map (λ m. method_at 0) methods
 
 -- Object and Console, which are the boot classes, and the class with main
 abbrev pub classes_of : List ℕ → BodyValue → List ClassInfo
-classes_of class body = class_of object_name None [] ∷ class_of console_name (Some object_name) (println_def ∷ []) ∷ class_of class (Some object_name) (main_def body ∷ []) ∷ []
+classes_of class body =
+    class_of object_name None []
+    ∷ class_of console_name (Some object_name) (println_def ∷ [])
+    ∷ class_of class (Some object_name) (main_def body ∷ [])
+    ∷ []
 
 -- their methods: println and main
 abbrev pub methods_of : List MethodRef → List MethodInfo

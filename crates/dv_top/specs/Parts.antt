@@ -18,4 +18,5 @@ is_one_line text = list_all (λ b. not (nat_eq b 10)) text
 -- the lines of these instructions, and the one that ends the method
 abbrev pub IsBody : ℕ → List Instruction → List ℕ → Type 0
 IsBody registers [] text = text ≡ codes ".end method" ++ 10 ∷ []
-IsBody registers (insn ∷ insns) text = (line : List ℕ) × ((tail : List ℕ) × (IsLine registers insn line × (text ≡ line ++ 10 ∷ tail) × IsBody registers insns tail))
+IsBody registers (insn ∷ insns) text =
+    (line : List ℕ) × ((tail : List ℕ) × (IsLine registers insn line × (text ≡ line ++ 10 ∷ tail) × IsBody registers insns tail))

@@ -23,6 +23,8 @@ use Rattle.dv_machine.specs.Running.{ending_of}
 use Rattle.dv_machine.specs.State.{Machine, reg_at, read_int, with_output}
 use Rattle.dv_top.specs.declared.instruction.Instruction.{Instruction}
 use Rattle.dv_top.specs.declared.instruction.Instruction.TheVariants as insn
+use Rattle.dv_top.specs.declared.status.Status.{Status}
+use Rattle.dv_top.specs.declared.status.Status.TheVariants as status
 use Rattle.dv_top.specs.Assembly.{body_of}
 use Rattle.dv_top.specs.Image.{class_at, image_of, method_of, println_def, main_def, resolved}
 use Rattle.dv_top.specs.Said.{status_of}
@@ -51,7 +53,8 @@ println_method = record { id = 0; info = method_of (class_at 1) []; def = printl
 
 -- the main method of a straight image
 abbrev pub main_method : ℕ → List Instruction → Method
-main_method registers insns = record { id = 1; info = method_of (class_at 2) (resolved (body_of registers insns).methods); def = main_def (body_of registers insns) }
+main_method registers insns =
+    record { id = 1; info = method_of (class_at 2) (resolved (body_of registers insns).methods); def = main_def (body_of registers insns) }
 
 -- the operation of an instruction
 abbrev pub op_of : Instruction → Op
@@ -104,7 +107,8 @@ is_return i = false
 -- the faults of the instructions from an address on, up to the first return-void
 abbrev pub faults_from : ℕ → List Bool → List Instruction → List Fault
 faults_from at ints [] = []
-faults_from at ints (i ∷ is) = if is_return i then [] else fault_unless (reads_ints ints i) at ++ faults_from (at + size_of i) (ints_after ints i) is
+faults_from at ints (i ∷ is) =
+    if is_return i then [] else fault_unless (reads_ints ints i) at ++ faults_from (at + size_of i) (ints_after ints i) is
 
 abbrev pub faults_of : List Instruction → List Fault
 faults_of insns = faults_from 0 no_ints insns
@@ -117,11 +121,25 @@ frame_at at regs = record { method = record { 0 = 1 }; at = at; regs = regs; res
 
 -- the opening's machine, where its thread has come to an address with these registers, after so many steps
 abbrev pub running : Image → Method → Limits → ℕ → List Value → List ℕ → ℕ → Machine
-running image main limits at regs output steps = record { threads = record { levels = level.Code (frame_at at regs) ∷ []; end = end.Living; object = 2 } ∷ []; shared = with_output (opening image main limits).shared output; steps = steps; stop = None; limits = limits }
+running image main limits at regs output steps =
+    record {
+      threads = record { levels = level.Code (frame_at at regs) ∷ []; end = end.Living; object = 2 } ∷ [];
+      shared = with_output (opening image main limits).shared output;
+      steps = steps;
+      stop = None;
+      limits = limits;
+    }
 
 -- ... and where its thread has returned
 abbrev pub returned : Image → Method → Limits → List ℕ → ℕ → Machine
-returned image main limits output steps = record { threads = record { levels = []; end = end.Returned; object = 2 } ∷ []; shared = with_output (opening image main limits).shared output; steps = steps; stop = None; limits = limits }
+returned image main limits output steps =
+    record {
+      threads = record { levels = []; end = end.Returned; object = 2 } ∷ [];
+      shared = with_output (opening image main limits).shared output;
+      steps = steps;
+      stop = None;
+      limits = limits;
+    }
 
 -- each register that holds an int holds this number
 pub record AreKept (registers : ℕ) (ints : List Bool) (values : List ℤ) (regs : List Value) : Type 0 where
@@ -142,14 +160,14 @@ ending_line ending.Output = codes "#end output" ++ newline
 abbrev pub printed_text : List ℕ → Ending → List ℕ
 printed_text output e = closed output ++ ending_line e
 
--- 0 where the thread returned, 10 where the budget of steps or of printed bytes is spent
-abbrev pub status_by : Ending → ℕ
-status_by ending.Done = 0
-status_by (ending.HeapFull t) = 7
-status_by (ending.StackFull t) = 8
-status_by ending.NoRunnable = 9
-status_by ending.Steps = 10
-status_by ending.Output = 10
+-- the status of a run whose thread returned, or which a limit ended
+abbrev pub status_by : Ending → Status
+status_by ending.Done = status.Done
+status_by (ending.HeapFull t) = status.HeapFull
+status_by (ending.StackFull t) = status.StackFull
+status_by ending.NoRunnable = status.Blocked
+status_by ending.Steps = status.Spent
+status_by ending.Output = status.Spent
 
 -- the replay of the log from the opening of a main method stands at an ending, and this was printed
 pub record HasRun (image : Image) (main : Method) (limits : Limits) (log : List Entry) (e : Ending) (output : List ℕ) : Type 0 where

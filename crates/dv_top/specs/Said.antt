@@ -21,7 +21,10 @@ use Rattle.dv_machine.specs.Replaying.{replay, Stands}
 use Rattle.dv_machine.specs.Running.{ending_of}
 use Rattle.dv_machine.specs.State.{Thread, Machine}
 use Rattle.dv_top.specs.declared.instruction.Instruction.{Instruction}
+use Rattle.dv_top.specs.declared.status.Status.{Status}
+use Rattle.dv_top.specs.declared.status.Status.TheVariants as exit
 use Rattle.dv_top.specs.Image.{IsLinked}
+use Rattle.dv_top.specs.Status.{code_of}
 use Rattle.dv_top.specs.Straight.{IsStraight, text_before}
 use Rattle.dv_top.specs.Words.{class_to_run}
 
@@ -32,7 +35,11 @@ abbrev pub text_of : List (List ℕ) → List ℕ
 text_of lines = text_before lines []
 
 abbrev pub usage : List ℕ
-usage = text_of (codes "#usage dvm run NAME [workers=N | seed=N] [budget=N] [heap=N] [log=yes]" ∷ codes "#usage dvm replay NAME [budget=N] [heap=N] | dvm verify | dvm list" ∷ codes "#usage dvm demo number=N classes=C threads=T [workers=N]" ∷ [])
+usage =
+    text_of (codes "#usage dvm run NAME [workers=N | seed=N] [budget=N] [heap=N] [log=yes]"
+    ∷ codes "#usage dvm replay NAME [budget=N] [heap=N] | dvm verify | dvm list"
+    ∷ codes "#usage dvm demo number=N classes=C threads=T [workers=N]"
+    ∷ [])
 
 abbrev pub too_large : List ℕ
 too_large = text_of (codes "#refused text too large" ∷ [])
@@ -55,7 +62,9 @@ method_text image (Some m) = name_at image m.info.class.0 ++ (codes "->" ++ (m.d
 
 -- a fault's method, address and rule
 abbrev pub fault_line : Image → Fault → List ℕ
-fault_line image f = codes "#fault " ++ (method_text image (method_at image f.method.0) ++ (codes " " ++ (four_digits f.address ++ (codes " " ++ rule_text f.rule))))
+fault_line image f =
+    codes "#fault " ++ (method_text image (method_at image f.method.0)
+    ++ (codes " " ++ (four_digits f.address ++ (codes " " ++ rule_text f.rule))))
 
 abbrev pub fault_text : Image → List Fault → List ℕ
 fault_text image faults = text_of (map (fault_line image) faults)
@@ -70,23 +79,23 @@ is_main m = is_static m && bytes_eq m.def.name main_name && same_proto m.def.pro
 abbrev pub main_of : Image → List ℕ → Option Method
 main_of image class = elim (class_named image class) [ None ↦ None | Some c ↦ declared_by image c is_main ]
 
--- 1 where thread 0 died of an exception
-abbrev pub status_by_end : Option Thread → ℕ
-status_by_end None = 0
+-- the status of a run that ended as no thread is left: how thread 0 ended
+abbrev pub status_by_end : Option Thread → Status
+status_by_end None = exit.Done
 status_by_end (Some thread) = by_end thread.end
   where
-    by_end : End → ℕ
-    by_end (end.Died o) = 1
-    by_end e = 0
+    by_end : End → Status
+    by_end (end.Died o) = exit.Uncaught
+    by_end e = exit.Done
 
 -- the status that tells of an ending
-abbrev pub status_of : Machine → Ending → ℕ
+abbrev pub status_of : Machine → Ending → Status
 status_of m ending.Done = status_by_end (slice_get m.threads 0)
-status_of m (ending.HeapFull t) = 7
-status_of m (ending.StackFull t) = 8
-status_of m ending.NoRunnable = 9
-status_of m ending.Steps = 10
-status_of m ending.Output = 10
+status_of m (ending.HeapFull t) = exit.HeapFull
+status_of m (ending.StackFull t) = exit.StackFull
+status_of m ending.NoRunnable = exit.Blocked
+status_of m ending.Steps = exit.Spent
+status_of m ending.Output = exit.Spent
 
 -- the main method of a class, run on the logged schedule, is never stuck and stands at an ending, which the status names;
 -- the text is the final text of that state
@@ -97,14 +106,18 @@ pub record IsRun (class : List ℕ) (image : Image) (log : List Entry) (status :
   pub replayed : replay image main usual log ≡ Stands machine
   pub ending : Ending
   pub ends : ending_of image machine ≡ Some ending
-  pub tells : status ≡ status_of machine ending
+  pub tells : status ≡ code_of (status_of machine ending)
   pub prints : text ≡ final_text image machine
 
 -- ---- what is said
 
+-- the most bytes of a text
+abbrev pub text_limit : ℕ
+text_limit = 8388608
+
 -- the bytes are the text of a class, not too large, and link to this image
 pub record IsBuilt (class bytes : List ℕ) (image : Image) : Type 0 where
-  pub small : length bytes ≤ 8388608
+  pub small : length bytes ≤ text_limit
   pub linked : IsLinked class bytes image
 
 -- ... which the verifier accepts: it has no faults
@@ -112,22 +125,25 @@ pub record IsAccepted (class bytes : List ℕ) (image : Image) : Type 0 where
   pub built : IsBuilt class bytes image
   pub clean : AreImageFaults image []
 
-abbrev pub IsReply : ℕ → List ℕ → ℕ → List ℕ → Type 0
-IsReply status text own-status own-text = (own-status ≡ status) × (own-text ≡ text)
+abbrev pub IsReply : Status → List ℕ → ℕ → List ℕ → Type 0
+IsReply own own-text status text = (status ≡ code_of own) × (text ≡ own-text)
 
 -- of a class that is to be run: by cases, of which each excludes the others
 pub data IsSaidOfClass (class bytes : List ℕ) (log : List Entry) (status : ℕ) (text : List ℕ) : Type 0 where
-  -- the text has more than 8,388,608 bytes
-  TooLarge : 8388608 < length bytes → IsReply 13 too_large status text → IsSaidOfClass class bytes log status text
+  -- the text is too large
+  TooLarge : text_limit < length bytes → IsReply exit.TooLarge too_large status text → IsSaidOfClass class bytes log status text
   -- the text is no straight text of the class
-  NotBuilt : length bytes ≤ 8388608 → ((registers : ℕ) (insns : List Instruction) → IsStraight class bytes registers insns → ⊥) → IsReply 14 not_built status text → IsSaidOfClass class bytes log status text
+  NotBuilt : length bytes ≤ text_limit → ((registers : ℕ) (insns : List Instruction) → IsStraight class bytes registers insns → ⊥)
+      → IsReply exit.NotBuilt not_built status text → IsSaidOfClass class bytes log status text
   -- the verifier refuses the image: it has faults
-  Refused : (image : Image) → IsBuilt class bytes image → (first : Fault) (others : List Fault) → AreImageFaults image (first ∷ others) → IsReply 6 (fault_text image (first ∷ others)) status text → IsSaidOfClass class bytes log status text
+  Refused : (image : Image) → IsBuilt class bytes image → (first : Fault) (others : List Fault) → AreImageFaults image (first ∷ others)
+      → IsReply exit.Refused (fault_text image (first ∷ others)) status text → IsSaidOfClass class bytes log status text
   -- the image runs
   Ran : (image : Image) → IsAccepted class bytes image → IsRun class image log status text → IsSaidOfClass class bytes log status text
 
 -- of the words, the bytes of the text, and the log
 pub data IsSaid (words : List (List ℕ)) (bytes : List ℕ) (log : List Entry) (status : ℕ) (text : List ℕ) : Type 0 where
   -- the words aren't read
-  Unread : class_to_run words ≡ None → IsReply 2 usage status text → IsSaid words bytes log status text
-  Asked : (class : List ℕ) → class_to_run words ≡ Some class → IsSaidOfClass class bytes log status text → IsSaid words bytes log status text
+  Unread : class_to_run words ≡ None → IsReply exit.Usage usage status text → IsSaid words bytes log status text
+  Asked : (class : List ℕ) → class_to_run words ≡ Some class → IsSaidOfClass class bytes log status text
+      → IsSaid words bytes log status text

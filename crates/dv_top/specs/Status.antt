@@ -1,10 +1,11 @@
--- The numbers of the statuses.
+-- The numbers of the exit statuses.
 use Rattle.std.specs.Prelude.{ℕ}
 use Rattle.dv_top.specs.declared.status.Status.{Status}
 use Rattle.dv_top.specs.declared.status.Status.TheVariants as status
 
 abbrev pub code_of : Status → ℕ
 code_of status.Done = 0
+code_of status.Uncaught = 1
 code_of status.Usage = 2
 code_of status.ReadFault = 3
 code_of status.WriteFault = 4

@@ -24,7 +24,8 @@ hex_value digits = fold (λ n b. n * 16 + hex_digit_value b) 0 digits
 pub record IsNumber (text : List ℕ) (value : ℤ) : Type 0 where
   pub digits : List ℕ
   pub are_digits : IsTrue (are_hex_digits digits)
-  pub is : ((text ≡ codes "0x" ++ digits) × (value ≡ pos (hex_value digits))) ⊎ ((text ≡ codes "-0x" ++ digits) × (value ≡ neg_ℤ (pos (hex_value digits))))
+  pub is : ((text ≡ codes "0x" ++ digits) × (value ≡ pos (hex_value digits)))
+      ⊎ ((text ≡ codes "-0x" ++ digits) × (value ≡ neg_ℤ (pos (hex_value digits))))
 
 abbrev pub register : ℕ → List ℕ
 register n = codes "v" ++ decimal n
@@ -42,7 +43,8 @@ IsForm insn.ReturnVoid line = line ≡ codes "return-void"
 IsForm (insn.Const4 to value) line = IsConstLine (codes "const/4 ") to value line
 IsForm (insn.Const16 to value) line = IsConstLine (codes "const/16 ") to value line
 IsForm (insn.Move to from) line = line ≡ codes "move " ++ (register to ++ (codes ", " ++ register from))
-IsForm (insn.AddInt to left right) line = line ≡ codes "add-int " ++ (register to ++ (codes ", " ++ (register left ++ (codes ", " ++ register right))))
+IsForm (insn.AddInt to left right) line =
+    line ≡ codes "add-int " ++ (register to ++ (codes ", " ++ (register left ++ (codes ", " ++ register right))))
 IsForm (insn.Println from) line = line ≡ codes "invoke-static {" ++ (register from ++ codes "}, Ldvm/Console;->println(I)V")
 
 -- each register is below so many, and a constant fits its bits
@@ -77,7 +79,12 @@ text_before (line ∷ lines) rest = line ++ (10 ∷ text_before lines rest)
 
 -- the lines before the instructions
 abbrev pub header_of : List ℕ → ℕ → List (List ℕ)
-header_of class registers = (codes ".class " ++ class) ∷ codes ".super Ljava/lang/Object;" ∷ codes ".method static main()V" ∷ (codes ".registers " ++ decimal registers) ∷ []
+header_of class registers =
+    (codes ".class " ++ class)
+    ∷ codes ".super Ljava/lang/Object;"
+    ∷ codes ".method static main()V"
+    ∷ (codes ".registers " ++ decimal registers)
+    ∷ []
 
 -- the last instruction is return-void, and the units are few enough for a body
 pub record IsMain (insns : List Instruction) : Type 0 where

@@ -1,14 +1,16 @@
 // From the words and the source to a status and the sink.
-ghost use Rattle.std.specs.Prelude.{◌≡◌, ◌≢◌, ℕ, ◌≤◌, List, [], length, map, None, Some, All, IfOk, OnOk, IsErrOf, MatchResult, string_bytes};
+ghost use Rattle.std.specs.Prelude.{◌≡◌, ◌≢◌, ℕ, ◌+◌, ◌≤◌, List, [], length, map, None, Some, All, IfOk, OnOk, IsErrOf, MatchResult, string_bytes};
 ghost use Rattle.dv_defs.specs.Accepting.{AreImageFaults};
 ghost use Rattle.dv_defs.specs.declared.image.Image.{Image};
 ghost use Rattle.dv_io.specs.Io.{HasRisen, after_write, after_taking};
-ghost use Rattle.dv_top.specs.Answering.{IsIdle, IsOfUnread, IsTold, HasTaken, IsReadOf, MayRun, IsPrinted, IsPartlyPrinted};
+ghost use Rattle.dv_machine.specs.Outcomes.{usual};
+ghost use Rattle.dv_top.specs.Answering.{IsIdle, IsOfUnread, IsTold, HasTaken, IsReadOf, IsScheduleOf, MayRun, IsPrinted, IsPartlyPrinted};
 ghost use Rattle.dv_top.specs.declared.instruction.Instruction.{Instruction};
 ghost use Rattle.dv_top.specs.declared.reading.ReadError.TheVariants.{Memory as NoMemory};
+ghost use Rattle.dv_top.specs.Engine.{IsLegalLog};
 ghost use Rattle.dv_top.specs.Image.{image_of, IsLinked};
 ghost use Rattle.dv_top.specs.Program.{IsImageOf, IsEntry, faults_of};
-ghost use Rattle.dv_top.specs.Said.{IsSaid, IsSaidOfClass, IsRun, IsBuilt, IsAccepted, usage};
+ghost use Rattle.dv_top.specs.Said.{IsSaid, IsSaidOfClass, IsRun, IsBuilt, IsAccepted, usage, text_limit};
 ghost use Rattle.dv_top.specs.Status.{code_of};
 ghost use Rattle.dv_top.specs.Straight.{IsStraight, IsInRange, IsMain};
 ghost use Rattle.dv_top.specs.Words.{class_to_run};
@@ -19,7 +21,7 @@ use crate::instruction::Instruction;
 use crate::linking::link;
 use crate::machine::run;
 use crate::printing::{NOT_BUILT, TOO_LARGE, USAGE, fault_lines, final_text};
-use crate::reading::{LIMIT, ReadError, read_all};
+use crate::reading::{ReadError, TEXT_LIMIT, read_all};
 use crate::status::Status;
 use crate::straight::{Refusal, read_straight};
 use crate::verifying::verify;
@@ -56,20 +58,28 @@ pub fn answer<S: Source, K: Sink>(
 ) -> Status
     requires { log.old.items ≡ [] }
 
-    ensures unread { class_to_run (map string_bytes words.now) ≡ None → (source.new ≡ source.old) × IsOfUnread (code_of result) }
-    ensures usage { code_of result ≡ 2 → (class_to_run (map string_bytes words.now) ≡ None) × (K.taken sink.new ≡ after_write usage (K.taken sink.old)) }
-    ensures read_fault { code_of result ≡ 3 → HasRisen (S.faults source.old) (S.faults source.new) × (K.taken sink.new ≡ K.taken sink.old) }
-    ensures write_fault { code_of result ≡ 4 → HasRisen (K.faults sink.old) (K.faults sink.new) }
-    ensures no_memory { code_of result ≡ 11 → K.taken sink.new ≡ K.taken sink.old }
+    ensures unread { class_to_run (map string_bytes words.now) ≡ None
+        → (source.new ≡ source.old) × IsOfUnread (code_of result) }
+    ensures usage { code_of result ≡ code_of Status.Usage
+        → (class_to_run (map string_bytes words.now) ≡ None) × (K.taken sink.new ≡ after_write usage (K.taken sink.old)) }
+    ensures read_fault { code_of result ≡ code_of Status.ReadFault
+        → HasRisen (S.faults source.old) (S.faults source.new) × (K.taken sink.new ≡ K.taken sink.old) }
+    ensures write_fault { code_of result ≡ code_of Status.WriteFault → HasRisen (K.faults sink.old) (K.faults sink.new) }
+    ensures no_memory { code_of result ≡ code_of Status.NoMemory → K.taken sink.new ≡ K.taken sink.old }
     ensures taken { HasTaken (K.taken sink.old) (K.taken sink.new) }
 
-    ensures source_read { (class : List ℕ) → class_to_run (map string_bytes words.now) ≡ Some class → code_of result ≢ 3 → code_of result ≢ 11 → S.left source.new ≡ after_taking 8388609 (S.left source.old) }
-    ensures said { (bytes : List ℕ) → S.left source.old ≡ Some bytes → IsTold (code_of result) → IsPrinted (map string_bytes words.now) bytes log.new.items (code_of result) (K.taken sink.old) (K.taken sink.new) }
-    ensures part { (bytes : List ℕ) → S.left source.old ≡ Some bytes → code_of result ≡ 4 → IsPartlyPrinted (map string_bytes words.now) bytes log.new.items (K.taken sink.old) (K.taken sink.new) }
+    ensures source_read { (class : List ℕ) → class_to_run (map string_bytes words.now) ≡ Some class
+        → code_of result ≢ code_of Status.ReadFault → code_of result ≢ code_of Status.NoMemory
+        → S.left source.new ≡ after_taking (text_limit + 1) (S.left source.old) }
+    ensures said { (bytes : List ℕ) → S.left source.old ≡ Some bytes → IsTold (code_of result)
+        → IsPrinted (map string_bytes words.now) bytes log.new.items (code_of result) (K.taken sink.old) (K.taken sink.new) }
+    ensures part { (bytes : List ℕ) → S.left source.old ≡ Some bytes → code_of result ≡ code_of Status.WriteFault
+        → IsPartlyPrinted (map string_bytes words.now) bytes log.new.items (K.taken sink.old) (K.taken sink.new) }
 
     ensures entries { All IsEntry log.new.items }
     ensures idle { IsIdle (code_of result) → log.new.items ≡ [] }
-    ensures accepted { (bytes : List ℕ) → S.left source.old ≡ Some bytes → log.new.items ≢ [] → MayRun (map string_bytes words.now) bytes }
+    ensures legal { (bytes : List ℕ) → S.left source.old ≡ Some bytes → log.new.items ≢ []
+        → MayRun (map string_bytes words.now) bytes log.new.items }
 {
     match reply_to_words(alloc, words, source, log) {
         Ok(reply) => match write_all(sink, &reply.text) {
@@ -90,17 +100,24 @@ fn reply_to_words<S: Source>(
 ) -> Result<Reply, ReadError>
     requires { log.old.items ≡ [] }
 
-    ensures unread { class_to_run (map string_bytes words.now) ≡ None → (source.new ≡ source.old) × MatchResult result (λ reply. code_of reply.status ≡ 2) (λ e. e ≡ NoMemory) }
-    ensures usage { IfOk result (λ reply. code_of reply.status ≡ 2 → (class_to_run (map string_bytes words.now) ≡ None) × (reply.text.items ≡ usage)) }
+    ensures unread { class_to_run (map string_bytes words.now) ≡ None
+        → (source.new ≡ source.old)
+        × MatchResult result (λ reply. code_of reply.status ≡ code_of Status.Usage) (λ e. e ≡ NoMemory) }
+    ensures usage { IfOk result (λ reply. code_of reply.status ≡ code_of Status.Usage
+        → (class_to_run (map string_bytes words.now) ≡ None) × (reply.text.items ≡ usage)) }
     ensures told { IfOk result (λ reply. IsTold (code_of reply.status)) }
-    ensures failed { IsErrOf result ReadError.Failed → HasRisen (S.faults source.old) (S.faults source.new) × (log.new.items ≡ []) }
+    ensures failed { IsErrOf result ReadError.Failed
+        → HasRisen (S.faults source.old) (S.faults source.new) × (log.new.items ≡ []) }
 
-    ensures source_read { (class : List ℕ) → class_to_run (map string_bytes words.now) ≡ Some class → OnOk result (S.left source.new ≡ after_taking 8388609 (S.left source.old)) }
-    ensures said { (bytes : List ℕ) → S.left source.old ≡ Some bytes → IfOk result (λ reply. IsSaid (map string_bytes words.now) bytes log.new.items (code_of reply.status) reply.text.items) }
+    ensures source_read { (class : List ℕ) → class_to_run (map string_bytes words.now) ≡ Some class
+        → OnOk result (S.left source.new ≡ after_taking (text_limit + 1) (S.left source.old)) }
+    ensures said { (bytes : List ℕ) → S.left source.old ≡ Some bytes
+        → IfOk result (λ reply. IsSaid (map string_bytes words.now) bytes log.new.items (code_of reply.status) reply.text.items) }
 
     ensures entries { All IsEntry log.new.items }
     ensures idle { IfOk result (λ reply. IsIdle (code_of reply.status) → log.new.items ≡ []) }
-    ensures accepted { (bytes : List ℕ) → S.left source.old ≡ Some bytes → log.new.items ≢ [] → MayRun (map string_bytes words.now) bytes }
+    ensures legal { (bytes : List ℕ) → S.left source.old ≡ Some bytes → log.new.items ≢ []
+        → MayRun (map string_bytes words.now) bytes log.new.items }
 {
     match read_words(alloc, words)? {
         None => Ok(fixed(alloc, Status::Usage, USAGE)?),
@@ -111,6 +128,7 @@ fn reply_to_words<S: Source>(
     }
 }
 
+/// A reply whose text is always the same.
 fn fixed(alloc: Global, status: Status, text: &[u8]) -> Result<Reply, AllocError>
     ensures { IfOk result (λ reply. (reply.status ≡ status) × (reply.text.items ≡ text.now)) }
 {
@@ -128,13 +146,15 @@ fn reply_to_text(
     log: &mut Vec<Entry>,
 ) -> Result<Reply, AllocError>
     requires { log.old.items ≡ [] }
-    ensures told { IfOk result (λ reply. IsTold (code_of reply.status) × (code_of reply.status ≢ 2)) }
-    ensures said { (bytes : List ℕ) → IsReadOf bytes text.now → IfOk result (λ reply. IsSaidOfClass class.now bytes log.new.items (code_of reply.status) reply.text.items) }
+    ensures told { IfOk result (λ reply. IsTold (code_of reply.status) × (code_of reply.status ≢ code_of Status.Usage)) }
+    ensures said { (bytes : List ℕ) → IsReadOf bytes text.now
+        → IfOk result (λ reply. IsSaidOfClass class.now bytes log.new.items (code_of reply.status) reply.text.items) }
     ensures entries { All IsEntry log.new.items }
     ensures idle { IfOk result (λ reply. IsIdle (code_of reply.status) → log.new.items ≡ []) }
-    ensures accepted { (bytes : List ℕ) → IsReadOf bytes text.now → log.new.items ≢ [] → (image : Image) × IsAccepted class.now bytes image }
+    ensures legal { (bytes : List ℕ) → IsReadOf bytes text.now → log.new.items ≢ []
+        → (image : Image) × IsAccepted class.now bytes image × IsScheduleOf class.now image log.new.items }
 {
-    if text.len() > LIMIT {
+    if text.len() > TEXT_LIMIT {
         return fixed(alloc, Status::TooLarge, TOO_LARGE);
     }
     match image_of(alloc, class, text) {
@@ -147,7 +167,8 @@ fn reply_to_text(
 /// Reads, assembles and links the straight text of a class.
 fn image_of(alloc: Global, class: &Text, text: &[u8]) -> Result<Image, Refusal>
     ensures linked { IfOk result (λ image. IsLinked class.now text.now image) }
-    ensures every { (registers : ℕ) (insns : List Instruction) → IsStraight class.now text.now registers insns → MatchResult result (λ image. image ≡ image_of class.now registers insns) (λ e. e ≡ Refusal.Memory) }
+    ensures every { (registers : ℕ) (insns : List Instruction) → IsStraight class.now text.now registers insns
+        → MatchResult result (λ image. image ≡ image_of class.now registers insns) (λ e. e ≡ Refusal.Memory) }
 {
     let straight = read_straight(alloc, text, class)?;
     let body = assemble(alloc, &straight)?;
@@ -163,11 +184,12 @@ fn reply_to_image(
 ) -> Result<Reply, AllocError>
     requires empty { log.old.items ≡ [] }
     requires program { (registers : ℕ) × (insns : List Instruction) × IsImageOf class.now registers insns image.now }
-    ensures told { IfOk result (λ reply. IsTold (code_of reply.status) × (code_of reply.status ≢ 2)) }
-    ensures said { (bytes : List ℕ) → IsBuilt class.now bytes image.now → IfOk result (λ reply. IsSaidOfClass class.now bytes log.new.items (code_of reply.status) reply.text.items) }
+    ensures told { IfOk result (λ reply. IsTold (code_of reply.status) × (code_of reply.status ≢ code_of Status.Usage)) }
+    ensures said { (bytes : List ℕ) → IsBuilt class.now bytes image.now
+        → IfOk result (λ reply. IsSaidOfClass class.now bytes log.new.items (code_of reply.status) reply.text.items) }
     ensures entries { All IsEntry log.new.items }
     ensures idle { IfOk result (λ reply. IsIdle (code_of reply.status) → log.new.items ≡ []) }
-    ensures accepted { log.new.items ≢ [] → AreImageFaults image.now [] }
+    ensures legal { log.new.items ≢ [] → AreImageFaults image.now [] × IsScheduleOf class.now image.now log.new.items }
 {
     let insns = instructions(alloc, image)?;
     let faults = verify(alloc, &insns)?;
@@ -191,8 +213,10 @@ fn reply_of_run(
     requires ends { IsMain insns.now }
     requires in_range { All (λ i. IsInRange 16 i) insns.now }
     requires clean { faults_of insns.now ≡ [] }
-    ensures told { IfOk result (λ reply. IsTold (code_of reply.status) × (code_of reply.status ≢ 2)) }
-    ensures ran { (class : List ℕ) (registers : ℕ) (image : Image) → IsImageOf class registers insns.now image → IfOk result (λ reply. IsRun class image log.new.items (code_of reply.status) reply.text.items) }
+    ensures told { IfOk result (λ reply. IsTold (code_of reply.status) × (code_of reply.status ≢ code_of Status.Usage)) }
+    ensures ran { (class : List ℕ) (registers : ℕ) (image : Image) → IsImageOf class registers insns.now image
+        → IfOk result (λ reply. IsRun class image log.new.items (code_of reply.status) reply.text.items) }
+    ensures legal { IsLegalLog insns.now usual log.new.items }
     ensures entries { All IsEntry log.new.items }
     ensures ran_status { IfOk result (λ reply. IsIdle (code_of reply.status) → ⊥) }
 {

@@ -50,7 +50,8 @@ impl<'a> Cursor<'a> {
     /// A decimal number below 100 without leading zeros.
     pub fn count(&mut self) -> Option<u16>
         ensures found { IfSome result (λ n. (n < 100) × (self.old.rest.now ≡ decimal n ++ self.new.rest.now)) }
-        ensures every { (n : ℕ) (tail : List ℕ) → n < 100 → IsTrue (begins_without_digit tail) → self.old.rest.now ≡ decimal n ++ tail → (result ≡ Some n) × (self.new.rest.now ≡ tail) }
+        ensures every { (n : ℕ) (tail : List ℕ) → n < 100 → IsTrue (begins_without_digit tail)
+            → self.old.rest.now ≡ decimal n ++ tail → (result ≡ Some n) × (self.new.rest.now ≡ tail) }
     {
         let (first, rest) = digit(self.rest)?;
         self.rest = rest;
@@ -67,7 +68,8 @@ impl<'a> Cursor<'a> {
     pub fn register(&mut self, registers: u16) -> Option<u16>
         requires { registers ≤ 16 }
         ensures found { IfSome result (λ n. (n < registers) × (self.old.rest.now ≡ register n ++ self.new.rest.now)) }
-        ensures every { (n : ℕ) (tail : List ℕ) → n < registers → IsTrue (begins_without_digit tail) → self.old.rest.now ≡ register n ++ tail → (result ≡ Some n) × (self.new.rest.now ≡ tail) }
+        ensures every { (n : ℕ) (tail : List ℕ) → n < registers → IsTrue (begins_without_digit tail)
+            → self.old.rest.now ≡ register n ++ tail → (result ≡ Some n) × (self.new.rest.now ≡ tail) }
     {
         self.skip(b"v")?;
         let number = self.count()?;
@@ -104,8 +106,10 @@ impl<'a> Cursor<'a> {
 
     /// The value of one to four lower-case hexadecimal digits, which follow this text.
     fn digits_after(&self, mark: &[u8]) -> Option<u16>
-        ensures found { IfSome result (λ n. (digits : List ℕ) × ((self.now.rest.now ≡ mark.now ++ digits) × IsTrue (are_hex_digits digits) × (n ≡ hex_value digits))) }
-        ensures every { (digits : List ℕ) → self.now.rest.now ≡ mark.now ++ digits → IsTrue (are_hex_digits digits) → result ≡ Some (hex_value digits) }
+        ensures found { IfSome result (λ n. (digits : List ℕ)
+            × ((self.now.rest.now ≡ mark.now ++ digits) × IsTrue (are_hex_digits digits) × (n ≡ hex_value digits))) }
+        ensures every { (digits : List ℕ) → self.now.rest.now ≡ mark.now ++ digits → IsTrue (are_hex_digits digits)
+            → result ≡ Some (hex_value digits) }
     {
         let mut rest = *self;
         rest.skip(mark)?;

@@ -7,7 +7,7 @@ use crate::opcode::Opcode;
 use dv_defs::{Insn, Regs};
 
 /// An instruction of the Dalvik bytecode page that is built. Println is the call of `Ldvm/Console;->println(I)V`.
-#[derive(Clone, Copy, PartialEq, Eq, Debug)]
+#[derive(Clone, Copy, PartialEq, Eq)]
 pub enum Instruction {
     Nop,
     ReturnVoid,

@@ -162,8 +162,15 @@ impl Engine {
     fn println(&mut self, from: u16, most: u32) -> Result<(), AllocError>
         requires in_range { from < 16 }
         requires next { self.old.at + 1 < 2 ^ 64 }
-        ensures stops { OnOk result (nat_lt most (length self.old.output.items + length (line_of (value_at self.old.registers from))) ≡ true → state_of self.new ≡ record (state_of self.old) { stop = Some Ending.Output }) }
-        ensures prints { OnOk result (nat_lt most (length self.old.output.items + length (line_of (value_at self.old.registers from))) ≡ false → state_of self.new ≡ record (state_of self.old) { at = self.old.at + 1; output = self.old.output.items ++ line_of (value_at self.old.registers from) }) }
+        ensures stops { OnOk result (
+            nat_lt most (length self.old.output.items + length (line_of (value_at self.old.registers from))) ≡ true
+            → state_of self.new ≡ record (state_of self.old) { stop = Some Ending.Output }) }
+        ensures prints { OnOk result (
+            nat_lt most (length self.old.output.items + length (line_of (value_at self.old.registers from))) ≡ false
+            → state_of self.new ≡ record (state_of self.old) {
+              at = self.old.at + 1;
+              output = self.old.output.items ++ line_of (value_at self.old.registers from);
+            }) }
     {
         let line = format!(in *self.output.allocator(); "{}\n", self.registers[from as usize])?;
         if self.output.len() + line.len() > most as usize {

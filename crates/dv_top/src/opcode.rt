@@ -1,6 +1,6 @@
 // The opcodes that are built.
 /// An opcode of the Dalvik bytecode page that is built.
-#[derive(Clone, Copy, PartialEq, Eq, Debug)]
+#[derive(Clone, Copy)]
 pub enum Opcode {
     Nop = 0x00,
     Move = 0x01,

@@ -1,14 +1,18 @@
-// Reads a source to its end, or to one byte past the limit.
-ghost use Rattle.std.specs.Prelude.{◌≡◌, ◌<◌, ◌≤◌, ℕ, List, length, take, IfOk, OnOk, IsErrOf};
+// Reading a source.
+ghost use Rattle.std.specs.Prelude.{◌≡◌, ◌<◌, ◌≤◌, ◌+◌, ℕ, List, length, take, IfOk, OnOk, IsErrOf};
 ghost use Rattle.dv_io.specs.Io.{HasRisen, after_taking};
 ghost use Rattle.dv_top.specs.declared.reading.ReadError.TheVariants.{Memory, Failed as ReadFailed};
+ghost use Rattle.dv_top.specs.Said.{text_limit};
 
 use dv_io::{Failed, Source};
 use std::alloc::{AllocError, AllocFailed, Global};
 
-#[derive(Clone, Copy, PartialEq, Eq, Debug)]
+/// Why a source wasn't read.
+#[derive(Clone, Copy)]
 pub enum ReadError {
+    /// A read failed.
     Failed,
+    /// Memory is wanting.
     Memory,
 }
 
@@ -28,18 +32,20 @@ impl From<Failed> for ReadError {
     }
 }
 
-pub const LIMIT: usize = 8388608;
+/// The most bytes of a text.
+pub const TEXT_LIMIT: usize = 8_388_608;
 
+/// Reads a source to its end, or to one byte past the limit.
 pub fn read_all<S: Source>(alloc: Global, source: &mut S) -> Result<Vec<u8>, ReadError>
-    ensures all { IfOk result (λ v. (bytes : List ℕ) → S.left source.old ≡ Some bytes → v.items ≡ take 8388609 bytes) }
-    ensures left { OnOk result (S.left source.new ≡ after_taking 8388609 (S.left source.old)) }
+    ensures all { IfOk result (λ v. (bytes : List ℕ) → S.left source.old ≡ Some bytes → v.items ≡ take (text_limit + 1) bytes) }
+    ensures left { OnOk result (S.left source.new ≡ after_taking (text_limit + 1) (S.left source.old)) }
     ensures count { S.faults source.old ≤ S.faults source.new }
     ensures failed { IsErrOf result ReadError.Failed → HasRisen (S.faults source.old) (S.faults source.new) }
 {
     let mut text = Vec::new(alloc);
     let mut room = [0u8; 4096];
-    'read: while text.len() <= LIMIT {
-        let most = (LIMIT + 1 - text.len()).min(4096);
+    'read: while text.len() <= TEXT_LIMIT {
+        let most = (TEXT_LIMIT + 1 - text.len()).min(4096);
         let piece = &mut room[..most];
         let n = source.read(piece)?;
         if n == 0 {

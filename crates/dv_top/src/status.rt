@@ -6,8 +6,10 @@ use dv_defs::Ending;
 /// The exit status of a call, with the number that the system sees.
 #[derive(Clone, Copy, PartialEq, Eq, Debug)]
 pub enum Status {
-    /// The run ended as its thread returned.
+    /// The run ended, and its first thread returned.
     Done = 0,
+    /// The run ended, and its first thread died of an exception.
+    Uncaught = 1,
     /// The words aren't read.
     Usage = 2,
     /// The source failed.
@@ -43,9 +45,9 @@ impl Status {
         self as u8
     }
 
-    /// The status of a run that ended so.
+    /// The status of a run that ended so, as its first thread returned.
     pub fn of(ending: Ending) -> Status
-        ensures { code_of result ≡ status_by ending }
+        ensures { result ≡ status_by ending }
     {
         match ending {
             Ending::Done => Status::Done,

@@ -13,7 +13,7 @@ use dv_defs::{Seq, Text};
 use std::alloc::{AllocError, AllocFailed, Global};
 
 /// Why a text gives no program.
-#[derive(Clone, Copy, PartialEq, Eq, Debug)]
+#[derive(Clone, Copy)]
 pub enum Refusal {
     /// The text isn't a straight text.
     NotBuilt,
@@ -38,7 +38,7 @@ impl<T: Drop> From<AllocFailed<T>> for Refusal {
 }
 
 /// The main method of a straight text.
-#[derive(Debug, Drop)]
+#[derive(Drop)]
 pub struct Straight {
     pub registers: u16,
     pub insns: Seq<Instruction>,
@@ -50,7 +50,8 @@ const MOST_UNITS: usize = 16384;
 /// Reads the straight text of this class.
 pub fn read_straight(alloc: Global, text: &[u8], class: &Text) -> Result<Straight, Refusal>
     ensures read { IfOk result (λ s. IsStraight class.now text.now s.registers s.insns) }
-    ensures every { (registers : ℕ) (insns : List Instruction) → IsStraight class.now text.now registers insns → MatchResult result (λ s. (s.registers ≡ registers) × (s.insns ≡ insns)) (λ e. e ≡ Refusal.Memory) }
+    ensures every { (registers : ℕ) (insns : List Instruction) → IsStraight class.now text.now registers insns
+        → MatchResult result (λ s. (s.registers ≡ registers) × (s.insns ≡ insns)) (λ e. e ≡ Refusal.Memory) }
 {
     let class = class.bytes();
     if class == OBJECT || class == CONSOLE {
@@ -74,7 +75,8 @@ pub fn read_straight(alloc: Global, text: &[u8], class: &Text) -> Result<Straigh
 /// Passes over the lines before the instructions, which give the number of registers, 16 at most.
 fn header(rest: &mut Cursor, class: &[u8]) -> Option<u16>
     ensures found { IfSome result (λ n. (n ≤ 16) × (rest.old.rest.now ≡ text_before (header_of class.now n) rest.new.rest.now)) }
-    ensures every { (n : ℕ) (tail : List ℕ) → n ≤ 16 → rest.old.rest.now ≡ text_before (header_of class.now n) tail → (result ≡ Some n) × (rest.new.rest.now ≡ tail) }
+    ensures every { (n : ℕ) (tail : List ℕ) → n ≤ 16 → rest.old.rest.now ≡ text_before (header_of class.now n) tail
+        → (result ≡ Some n) × (rest.new.rest.now ≡ tail) }
 {
     rest.skip(b".class ")?;
     rest.skip(class)?;
@@ -88,7 +90,8 @@ fn header(rest: &mut Cursor, class: &[u8]) -> Option<u16>
 fn body(alloc: Global, mut rest: Cursor, registers: u16) -> Result<Vec<Instruction>, Refusal>
     requires { registers ≤ 16 }
     ensures read { IfOk result (λ insns. IsBody registers insns.items rest.entry.rest.now) }
-    ensures every { (insns : List Instruction) → IsBody registers insns rest.entry.rest.now → MatchResult result (λ found. found.items ≡ insns) (λ e. e ≡ Refusal.Memory) }
+    ensures every { (insns : List Instruction) → IsBody registers insns rest.entry.rest.now
+        → MatchResult result (λ found. found.items ≡ insns) (λ e. e ≡ Refusal.Memory) }
 {
     let mut insns = Vec::new(alloc);
     'lines: while let Some(line) = rest.line() {

@@ -57,7 +57,8 @@ impl Verifier {
     fn judge(&mut self, insn: Instruction) -> Result<(), AllocError>
         requires in_range { IsInRange 16 insn }
         requires room { self.old.address + size_of insn < 2 ^ 32 }
-        ensures faults { OnOk result (self.new.faults.items ≡ self.old.faults.items ++ fault_unless (reads_ints self.old.ints insn) self.old.address) }
+        ensures faults { OnOk result (self.new.faults.items
+            ≡ self.old.faults.items ++ fault_unless (reads_ints self.old.ints insn) self.old.address) }
         ensures ints { OnOk result (self.new.ints ≡ ints_after self.old.ints insn) }
         ensures address { OnOk result (self.new.address ≡ self.old.address + size_of insn) }
     {

@@ -6,7 +6,7 @@ use dv_defs::Text;
 use std::alloc::{AllocError, Global};
 
 /// What the words ask for.
-#[derive(Debug, Drop)]
+#[derive(Drop)]
 pub enum Command {
     /// Read the text, verify it, and run the main method of the class of this descriptor.
     Run { class: Text },

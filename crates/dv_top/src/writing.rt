@@ -1,10 +1,11 @@
-// Writes all of a text to a sink.
+// Writing to a sink.
 ghost use Rattle.std.specs.Prelude.{◌≡◌, ◌≤◌, OnOk, OnErr};
 ghost use Rattle.dv_io.specs.Io.{HasRisen, after_write};
 ghost use Rattle.dv_top.specs.Pieces.{TookPart};
 
 use dv_io::{Failed, Sink};
 
+/// Writes all of a text to a sink.
 pub fn write_all<K: Sink>(sink: &mut K, text: &[u8]) -> Result<(), Failed>
     ensures ok { OnOk result (K.taken sink.new ≡ after_write text.now (K.taken sink.old)) }
     ensures part { TookPart (K.taken sink.old) (K.taken sink.new) text.now }

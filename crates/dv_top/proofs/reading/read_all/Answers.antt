@@ -1,6 +1,7 @@
 use Rattle.std.proofs.Common.{arith, ap, length, take, ◌≤◌, Ok, ◌+◌, ◌∙◌, length-append}
 use Rattle.std.proofs.lemmas.List.{length-take}
 use Rattle.dv_io.specs.Io.{after_taking}
+use Rattle.dv_top.specs.Said.{text_limit}
 use Rattle.dv_top.proofs.PieceLemmas.{read_more, read_all_at_end, read_all_past, left_at_end, left_past}
 use Rattle.dv_top.proofs.reading.read_all.Goals as goal
 
@@ -12,7 +13,7 @@ pub read-preserved : goal.read-preserved
 read-preserved g c =
     let fits : c.in_ok-n.n ≤ length c.read-in-read.new.room = omega (arith, c.in_ok-n.ensures.fits, c.read-in-read.auto.room) in
     let so = read_more _ _ _ c.read.text.items c.read-in-read.new.room c.in_ok-n.n c.read.invariant.1 fits c.in_ok-n.ensures.after c.in_ok-n.ensures.copied in
-    let size : length c.read.text.items + c.in_ok-n.n ≤ 8388609 = omega (arith, c.in_ok-n.ensures.fits, length-take c.min-most.result c.read.room) in
+    let size : length c.read.text.items + c.in_ok-n.n ≤ text_limit + 1 = omega (arith, c.in_ok-n.ensures.fits, length-take c.min-most.result c.read.room) in
     rw c.in_ok-extend_from_slice.ensures.items (omega (arith, length-append c.read.text.items (take c.in_ok-n.n c.read-in-read.new.room), length-take c.in_ok-n.n c.read-in-read.new.room), so, omega arith)
 
 pub returns-clause-all : goal.returns-clause-all
@@ -20,7 +21,7 @@ returns-clause-all g c = read_all_past _ _ _ c.read.invariant.1 (omega arith)
 
 pub returns-then-n-eq0-clause-left : goal.returns-then-n-eq0-clause-left
 returns-then-n-eq0-clause-left g c =
-    left_at_end 8388609 _ _ _ c.read.text.items c.read.invariant.1 (omega arith) (c.in_ok-n.ensures.after ∙ ap (λ n. after_taking n (g.S.Source.left c.read.source)) c.if-n-eq0.true) (c.in_ok-n.ensures.end (ap Ok c.if-n-eq0.true))
+    left_at_end (text_limit + 1) _ _ _ c.read.text.items c.read.invariant.1 (omega arith) (c.in_ok-n.ensures.after ∙ ap (λ n. after_taking n (g.S.Source.left c.read.source)) c.if-n-eq0.true) (c.in_ok-n.ensures.end (ap Ok c.if-n-eq0.true))
 
 pub returns-clause-left : goal.returns-clause-left
-returns-clause-left g c = left_past 8388609 _ _ c.read.text.items c.read.invariant.1 (omega arith)
+returns-clause-left g c = left_past (text_limit + 1) _ _ c.read.text.items c.read.invariant.1 (omega arith)
