@@ -1,14 +1,15 @@
--- The places of the first labels, one more item after another.
-use Rattle.std.proofs.Common.{◌≡◌, ◌+◌, ◌<◌, ◌≤◌, ℕ, Bool, not, cond, List, [], ◌∷◌, ◌++◌, length, take, get_or, position, nat_lt, nat_eq, Some, None, sym, ap, ◌∙◌, arith, length-append}
+-- The first place at which a test passes, one more item after another: of labels by their names, and of switches by the addresses that
+-- they name.
+use Rattle.std.proofs.Common.{◌≡◌, ◌+◌, ◌<◌, ◌≤◌, ℕ, Bool, not, cond, List, [], ◌∷◌, ◌++◌, length, map, take, get_or, position, nat_lt, nat_eq, Option, Some, None, sym, ap, ◌∙◌, arith, length-append}
 use Rattle.std.specs.Option.{option_or}
 use Rattle.std.specs.List.{position_or_len}
-use Rattle.std.proofs.lemmas.List.{take_more, length-take-le}
+use Rattle.std.proofs.lemmas.List.{map_more, length-map, take_more, length-take-le}
 use Rattle.std.proofs.lemmas.List.Folds.{position_or_len_push}
 use Rattle.std.proofs.lemmas.List.Sums.{prefix_len-le-length}
 use Rattle.std.proofs.lemmas.Bool.Decides.{nat_tests}
 use Rattle.dv_asm.specs.declared.draft.Item.{Item}
 use Rattle.dv_asm.specs.First.{when}
-use Rattle.dv_asm.specs.Items.{is_named}
+use Rattle.dv_asm.specs.Items.{item_at, no_item, is_named}
 use Rattle.dv_asm.specs.Places.{place_of}
 
 pushed_by : (n len m : ℕ) (here : Bool) → n ≤ len → m ≡ cond (nat_eq n len) (len + cond here 0 1) n → cond (nat_lt m (len + 1)) (Some m) None ≡ option_or (cond (nat_lt n len) (Some n) None) (when here len)
@@ -30,3 +31,12 @@ place_more items k item name within at =
     ap (λ (xs : List Item). place_of xs name) next ∙
     (position_push (is_named name) (take k items) item ∙
     ap (λ (n : ℕ). option_or (place_of (take k items) name) (when (is_named name item) n)) taken)
+
+-- the first item for which a function gives what passes a test, with one more item
+pub position_more : {Y : Type 0} (f : Item → Y) (test : Y → Bool) (items : List Item) (k : ℕ) → k < length items → position test (map f (take (k + 1) items)) ≡ option_or (position test (map f (take k items))) (when (test (f (item_at items k))) k)
+position_more {Y} f test items k within =
+    let done : List Y = map f (take k items) in
+    let taken : length done ≡ k = length-map (take k items) f ∙ length-take-le k items (omega arith) in
+    ap (position test) (map_more f items k no_item within) ∙
+    (position_push test done (f (item_at items k)) ∙
+    ap (λ (n : ℕ). option_or (position test done) (when (test (f (item_at items k))) n)) taken)

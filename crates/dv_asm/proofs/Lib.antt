@@ -10,3 +10,4 @@ pub mod PoolLemmas
 pub mod Writing
 pub mod TestOps
 pub mod TileLemmas
+pub mod Telling

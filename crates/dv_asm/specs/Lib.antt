@@ -3,6 +3,7 @@ pub mod Items
 pub mod Draft
 pub mod Places
 pub mod Refusals
+pub mod Switches
 pub mod Pools
 pub mod Layout
 pub mod Tiles

@@ -3,7 +3,6 @@ use Rattle.std.specs.Prelude.{ℕ, zero, suc, ◌≡◌, ◌+◌, ◌%◌, ◌^�
 use Rattle.std.specs.Option.{option_map_or}
 use Rattle.indexmap.specs.IndexMap.{IndexMap, get}
 use Rattle.dv_asm.specs.declared.draft.Item.{Item}
-use Rattle.dv_asm.specs.declared.places.Places.{Places}
 use Rattle.dv_asm.specs.Items.{item_at, is_label, is_named, is_payload, label_of_switch, size_of}
 
 -- whether a payload comes next, labels before it passed over
@@ -55,6 +54,7 @@ pub record AreAddresses (items : List Item) (addresses : List ℕ) : Type 0 wher
 abbrev pub AreFirstLabels : {S : Type 0} → List Item → IndexMap (List ℕ) ℕ S → Type 0
 AreFirstLabels items labels = (name : List ℕ) → get bytes_eq labels name ≡ place_of items name
 
-pub record ArePlaces (items : List Item) (places : Places) : Type 0 where
-  pub addresses : AreAddresses items places.addresses.items
-  pub first_labels : AreFirstLabels items places.labels
+-- the addresses of the items, and the places of their labels
+pub record ArePlaces {S : Type 0} (items : List Item) (addresses : List ℕ) (labels : IndexMap (List ℕ) ℕ S) : Type 0 where
+  pub are_addresses : AreAddresses items addresses
+  pub are_labels : AreFirstLabels items labels

@@ -1,17 +1,16 @@
 // Try entries and the types that their handlers catch.
 ghost use Rattle.std.specs.Prelude.{◌≡◌, ◌≤◌, None, [], fold, map, length, position, IfOk, OnOk, if◌then◌else◌};
 ghost use Rattle.dv_defs.specs.Types.{ty_eq};
-ghost use Rattle.dv_asm.specs.Places.{ArePlaces};
-ghost use Rattle.dv_asm.specs.Refusals.{too_long, ranges_of, is_same};
+ghost use Rattle.dv_asm.specs.Refusals.{is_same};
 ghost use Rattle.dv_asm.specs.Pools.{with_entries, with_entry_if_any};
 ghost use Rattle.dv_asm.specs.Layout.{begins_from, place_among, with_range, kind_in, with_kinds, catches_of, handler_of, entry_of};
 
-use crate::draft::{Catch, Item};
-use crate::places::Places;
+use crate::catches::Catches;
+use crate::draft::Catch;
 use crate::pool::Pool;
 use crate::pools::index;
-use crate::short::label_address;
-use crate::tries::{TryRange, range_of};
+use crate::short::Short;
+use crate::tries::TryRange;
 use dv_defs::{Handler, Seq, Try, Ty};
 use std::alloc::{AllocError, Global};
 
@@ -74,107 +73,81 @@ fn add_kind(
     }
 }
 
-/// Adds the types that the handlers of a range catch.
-fn add_kinds(
-    types: &mut Pool<Ty>,
-    items: &[Item],
-    catches: &[Catch],
-    ranges: &[TryRange],
-    range: TryRange,
-) -> Result<(), AllocError>
-    requires { ranges.now ≡ ranges_of items.now catches.now }
-    ensures { OnOk result (types.new ≡ with_entries ty_eq (kind_in items.now range) types.old catches.now) }
-{
-    let _ = items;
-    for k in 0..catches.len() {
-        add_kind(types, &catches[k], ranges[k], range)?;
+impl Short<'_> {
+    #[tactic(auto, using(crate::proofs::KeyLemmas::places))]
+    fn handler_of(&self, types: &Pool<Ty>, catch: &Catch) -> Result<Handler, AllocError>
+        ensures { IfOk result (λ handler. handler ≡ handler_of self.now types.now catch.now) }
+    {
+        let place = match &catch.kind {
+            Some(ty) => types.place_of(ty),
+            None => None,
+        };
+        let kind = match place {
+            Some(place) => Some(index(place)?),
+            None => None,
+        };
+        let at = self.label_address(&catch.at);
+        Ok(Handler { kind, at })
     }
-    Ok(())
 }
 
-/// Adds the types that the handlers of each range catch.
-pub fn add_all_kinds(
-    types: &mut Pool<Ty>,
-    items: &[Item],
-    catches: &[Catch],
-    ranges: &[TryRange],
-    sorted: &[TryRange],
-) -> Result<(), AllocError>
-    requires { ranges.now ≡ ranges_of items.now catches.now }
-    ensures { OnOk result (types.new ≡ with_kinds items.now catches.now types.old sorted.now) }
-{
-    for range in sorted {
-        add_kinds(types, items, catches, ranges, *range)?;
-    }
-    Ok(())
-}
-
-#[tactic(auto, using(crate::proofs::KeyLemmas::places))]
-fn handler_of(
-    items: &[Item],
-    places: &Places,
-    types: &Pool<Ty>,
-    catch: &Catch,
-) -> Result<Handler, AllocError>
-    requires places { ArePlaces items.now places.now }
-    requires short { too_long items.now ≡ None }
-    ensures { IfOk result (λ handler. handler ≡ handler_of items.now types.now catch.now) }
-{
-    let place = match &catch.kind {
-        Some(ty) => types.place_of(ty),
-        None => None,
-    };
-    let kind = match place {
-        Some(place) => Some(index(place)?),
-        None => None,
-    };
-    let at = label_address(items, places, &catch.at);
-    Ok(Handler { kind, at })
-}
-
-/// The handlers of a range, in the order of the text.
-fn handlers_of(
-    alloc: Global,
-    items: &[Item],
-    places: &Places,
-    types: &Pool<Ty>,
-    catches: &[Catch],
-    range: TryRange,
-) -> Result<Vec<Handler>, AllocError>
-    requires places { ArePlaces items.now places.now }
-    requires short { too_long items.now ≡ None }
-    ensures { IfOk result (λ handlers. handlers.items ≡ map (handler_of items.now types.now) (catches_of items.now catches.now range)) }
-{
-    let mut handlers = Vec::new(alloc);
-    for catch in catches {
-        if range_of(items, places, catch).is_same(range) {
-            handlers.push(handler_of(items, places, types, catch)?)?;
+impl Catches<'_> {
+    /// Adds the types that the handlers of a range catch.
+    fn add_kinds(&self, types: &mut Pool<Ty>, range: TryRange) -> Result<(), AllocError>
+        ensures { OnOk result (types.new ≡ with_entries ty_eq (kind_in self.now.short.now range) types.old self.now.catches.now) }
+    {
+        for k in 0..self.catches.len() {
+            add_kind(types, &self.catches[k], self.ranges[k], range)?;
         }
+        Ok(())
     }
-    Ok(handlers)
-}
 
-/// The entry of each range.
-pub fn tries(
-    alloc: Global,
-    items: &[Item],
-    places: &Places,
-    types: &Pool<Ty>,
-    catches: &[Catch],
-    sorted: &[TryRange],
-) -> Result<Vec<Try>, AllocError>
-    requires places { ArePlaces items.now places.now }
-    requires short { too_long items.now ≡ None }
-    ensures { IfOk result (λ tries. tries.items ≡ map (entry_of items.now catches.now types.now) sorted.now) }
-{
-    let mut tries = Vec::new(alloc);
-    for range in sorted {
-        let handlers = handlers_of(alloc, items, places, types, catches, *range)?;
-        tries.push(Try {
-            start: range.start,
-            end: range.end,
-            handlers: Seq::of(handlers),
-        })?;
+    /// Adds the types that the handlers of each range catch.
+    pub fn add_all_kinds(&self, types: &mut Pool<Ty>, sorted: &[TryRange]) -> Result<(), AllocError>
+        ensures { OnOk result (types.new ≡ with_kinds self.now.short.now self.now.catches.now types.old sorted.now) }
+    {
+        for range in sorted {
+            self.add_kinds(types, *range)?;
+        }
+        Ok(())
     }
-    Ok(tries)
+
+    /// The handlers of a range, in the order of the text.
+    fn handlers_of(
+        &self,
+        alloc: Global,
+        types: &Pool<Ty>,
+        range: TryRange,
+    ) -> Result<Vec<Handler>, AllocError>
+        ensures { IfOk result (λ handlers. handlers.items ≡ map (handler_of self.now.short.now types.now) (catches_of self.now.short.now self.now.catches.now range)) }
+    {
+        let mut handlers = Vec::new(alloc);
+        for catch in self.catches {
+            if self.short.range_of(catch).is_same(range) {
+                handlers.push(self.short.handler_of(types, catch)?)?;
+            }
+        }
+        Ok(handlers)
+    }
+
+    /// The entry of each range.
+    pub fn tries(
+        &self,
+        alloc: Global,
+        types: &Pool<Ty>,
+        sorted: &[TryRange],
+    ) -> Result<Vec<Try>, AllocError>
+        ensures { IfOk result (λ tries. tries.items ≡ map (entry_of self.now.short.now self.now.catches.now types.now) sorted.now) }
+    {
+        let mut tries = Vec::new(alloc);
+        for range in sorted {
+            let handlers = self.handlers_of(alloc, types, *range)?;
+            tries.push(Try {
+                start: range.start,
+                end: range.end,
+                handlers: Seq::of(handlers),
+            })?;
+        }
+        Ok(tries)
+    }
 }

@@ -2,6 +2,7 @@
 #![tactic(auto, using(crate::proofs::FirstLemmas::first_line_more))]
 
 mod assembling;
+mod catches;
 mod draft;
 mod handlers;
 mod items;

@@ -3,22 +3,37 @@ ghost use Rattle.std.specs.Prelude.{◌≡◌, ◌+◌, ◌%◌, ◌-ℤ◌, ◌
 ghost use Rattle.std.specs.Option.{option_or};
 ghost use Rattle.indexmap.specs.IndexMap.{get};
 ghost use Rattle.dv_asm.specs.First.{when};
-ghost use Rattle.dv_asm.specs.Items.{is_named};
-ghost use Rattle.dv_asm.specs.Places.{leads_to_payload, place_of, label_address, distance, address_of, AreAddresses, AreFirstLabels, ArePlaces};
+ghost use Rattle.dv_asm.specs.Items.{item_at, is_named};
+ghost use Rattle.dv_asm.specs.Places.{leads_to_payload, place_of, label_address, distance, address_of, AreAddresses, AreFirstLabels};
 
 use crate::draft::{Item, What};
 use dv_defs::Text;
 use indexmap::IndexMap;
 use std::alloc::{AllocError, Global};
+use std::marker::Model;
 
 /// More units than any memory holds.
 const TOO_MANY: u64 = 1 << 62;
 
-/// The address of each item and where the last one ends, and the place of the first label of each name.
+/// Items with the address of each one and where the last one ends, and with the place of the first label of each name.
+/// To a contract it is the list of the items.
 #[derive(Drop)]
-pub struct Places {
+pub struct Places<'a> {
+    items: &'a [Item],
     addresses: Vec<u64>,
     labels: IndexMap<Text, usize>,
+}
+
+impl<'a> Model for Places<'a> {
+    ghost use Rattle.std.specs.Prelude.{List};
+    ghost use Rattle.dv_asm.specs.declared.draft.Item.{Item};
+    ghost use Rattle.dv_asm.specs.Places.{ArePlaces};
+
+    ghost Value = { List Item };
+
+    ghost view = { λ p. p.items.now };
+
+    ghost invariant = { λ p. ArePlaces p.items.now p.addresses.items p.labels };
 }
 
 /// Whether each item leads to a payload: whether one comes next, labels before it passed over.
@@ -91,35 +106,72 @@ fn first_labels(alloc: Global, items: &[Item]) -> Result<IndexMap<Text, usize>, 
     Ok(labels)
 }
 
-impl Places {
-    pub fn of(alloc: Global, items: &[Item]) -> Result<Places, AllocError>
-        ensures { IfOk result (λ places. ArePlaces items.now places) }
+impl<'a> Places<'a> {
+    pub fn of(alloc: Global, items: &'a [Item]) -> Result<Places<'a>, AllocError>
+        ensures { IfOk result (λ places. places ≡ items.now) }
     {
         Ok(Places {
+            items,
             addresses: addresses(alloc, items)?,
             labels: first_labels(alloc, items)?,
         })
     }
-}
 
-/// The place among the items of the first label of a name.
-pub fn find_label(items: &[Item], places: &Places, name: &Text) -> Option<usize>
-    requires { ArePlaces items.now places.now }
-    ensures { result ≡ place_of items.now name.now }
-{
-    let _ = items;
-    places.labels.get(name).copied()
-}
+    /// The items.
+    pub fn items(&self) -> &'a [Item]
+        ensures { result.now ≡ self.now }
+    {
+        self.items
+    }
 
-/// The address of a label, 0 where there is none.
-pub fn label_address(items: &[Item], places: &Places, name: &Text) -> u64
-    requires { ArePlaces items.now places.now }
-    ensures value { result ≡ label_address items.now name.now }
-    ensures small { result ≤ 2 ^ 62 }
-{
-    match find_label(items, places, name) {
-        Some(k) => places.addresses[k],
-        None => 0,
+    /// How many items there are.
+    pub fn count(&self) -> usize
+        ensures { result ≡ length self.now }
+    {
+        self.items.len()
+    }
+
+    /// The item at a place.
+    pub fn item(&self, k: usize) -> &Item
+        requires { k < length self.now }
+        ensures { result.now ≡ item_at self.now k }
+    {
+        &self.items()[k]
+    }
+
+    /// The place among the items of the first label of a name.
+    pub fn find_label(&self, name: &Text) -> Option<usize>
+        ensures { result ≡ place_of self.now name.now }
+    {
+        self.labels.get(name).copied()
+    }
+
+    /// The address of an item, and at their number where the last one ends.
+    pub fn address_of(&self, k: usize) -> u64
+        requires { k ≤ length self.now }
+        ensures value { result ≡ address_of self.now k }
+        ensures small { result ≤ 2 ^ 62 }
+    {
+        self.addresses[k]
+    }
+
+    /// The address of a label, 0 where there is none.
+    pub fn label_address(&self, name: &Text) -> u64
+        ensures value { result ≡ label_address self.now name.now }
+        ensures small { result ≤ 2 ^ 62 }
+    {
+        match self.find_label(name) {
+            Some(k) => self.addresses[k],
+            None => 0,
+        }
+    }
+
+    /// How far a label is from an item.
+    pub fn distance(&self, k: usize, name: &Text) -> i64
+        requires { k ≤ length self.now }
+        ensures { result ≡ distance self.now (address_of self.now k) name.now }
+    {
+        difference(self.address_of(k), self.label_address(name))
     }
 }
 
@@ -130,24 +182,4 @@ fn difference(from: u64, to: u64) -> i64
     ensures { result ≡ pos to -ℤ pos from }
 {
     to as i64 - from as i64
-}
-
-/// How far a label is from an address.
-pub fn distance(items: &[Item], places: &Places, from: u64, name: &Text) -> i64
-    requires places { ArePlaces items.now places.now }
-    requires small { from ≤ 2 ^ 62 }
-    ensures { result ≡ distance items.now from name.now }
-{
-    difference(from, label_address(items, places, name))
-}
-
-/// The address of an item.
-pub fn address_of(items: &[Item], places: &Places, k: usize) -> u64
-    requires places { ArePlaces items.now places.now }
-    requires within { k ≤ length items.now }
-    ensures value { result ≡ address_of items.now k }
-    ensures small { result ≤ 2 ^ 62 }
-{
-    let _ = items;
-    places.addresses[k]
 }

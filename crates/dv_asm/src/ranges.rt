@@ -1,13 +1,12 @@
 // Registers and offsets that don't fit, and bodies that are too long.
-ghost use Rattle.std.specs.Prelude.{◌≡◌, ◌<◌, not, length, Some};
+ghost use Rattle.std.specs.Prelude.{◌≡◌, ◌<◌, length, Some};
 ghost use Rattle.dv_defs.specs.Spelling.{fits_signed};
 ghost use Rattle.dv_units.specs.Offsets.{offset_bits};
-ghost use Rattle.dv_asm.specs.Places.{ArePlaces};
-ghost use Rattle.dv_asm.specs.Refusals.{with_operands, is_over_registers, register_range, offset_fits, offset_range, passes, too_long};
+ghost use Rattle.dv_asm.specs.Refusals.{with_operands, is_over_registers, register_range, register_range_at, offset_fits, is_over_offset, offset_range, offset_range_at, too_long, too_long_at};
 
-use crate::draft::{Draftop, Item, What};
-use crate::lines::{earlier, when};
-use crate::places::{Places, address_of, distance};
+use crate::draft::What;
+use crate::lines::{first_line, when};
+use crate::places::Places;
 use dv_defs::{Insn, Text};
 use dv_units::{has_spelling, offset_bits};
 
@@ -34,16 +33,74 @@ fn is_over_registers(what: &What) -> bool
     }
 }
 
-/// The first line of an instruction with a register that doesn't fit its field.
-pub fn register_range(items: &[Item]) -> Option<u32>
-    ensures { result ≡ register_range items.now }
-{
-    let mut line = None;
-    for k in 0..items.len() {
-        let item = &items[k];
-        line = earlier(line, when(is_over_registers(&item.what), item.line));
+impl Places<'_> {
+    fn register_range_at(&self, k: usize) -> Option<u32>
+        requires { k < length self.now }
+        ensures { result ≡ register_range_at self.now k }
+    {
+        let item = self.item(k);
+        when(is_over_registers(&item.what), item.line)
     }
-    line
+
+    /// The first line of an instruction with a register that doesn't fit its field.
+    pub fn register_range(&self) -> Option<u32>
+        ensures { result ≡ register_range self.now }
+    {
+        first_line(self.count(), |k| self.register_range_at(k))
+    }
+
+    /// Whether the offset's field of item k, of an opcode, holds the distance of a label.
+    fn label_fits(&self, k: usize, op: u8, name: &Text) -> bool
+        requires { k < length self.now }
+        ensures { result ≡ offset_fits self.now k op (Some name.now) }
+    {
+        offset_fits(op, self.distance(k, name))
+    }
+
+    fn is_over_offset(&self, k: usize, what: &What) -> bool
+        requires { k < length self.now }
+        ensures { result ≡ is_over_offset self.now k what.now }
+    {
+        match what {
+            What::Op(op) => match &op.label {
+                Some(name) => !self.label_fits(k, op.insn.op, name),
+                None => false,
+            },
+            _ => false,
+        }
+    }
+
+    fn offset_range_at(&self, k: usize) -> Option<u32>
+        requires { k < length self.now }
+        ensures { result ≡ offset_range_at self.now k }
+    {
+        let item = self.item(k);
+        when(self.is_over_offset(k, &item.what), item.line)
+    }
+
+    /// The first line of an instruction whose label is too far for its offset.
+    pub fn offset_range(&self) -> Option<u32>
+        ensures { result ≡ offset_range self.now }
+    {
+        first_line(self.count(), |k| self.offset_range_at(k))
+    }
+
+    fn too_long_at(&self, k: usize) -> Option<u32>
+        requires { k < length self.now }
+        ensures { result ≡ too_long_at self.now k }
+    {
+        let item = self.item(k);
+        let address = self.address_of(k);
+        let passes = address <= LIMIT && address + item.size() > LIMIT;
+        when(passes, item.line)
+    }
+
+    /// The line of the item whose end passes the limit.
+    pub fn too_long(&self) -> Option<u32>
+        ensures { result ≡ too_long self.now }
+    {
+        first_line(self.count(), |k| self.too_long_at(k))
+    }
 }
 
 /// Whether the offset's field of an opcode holds a number.
@@ -55,63 +112,4 @@ fn offset_fits(op: u8, offset: i64) -> bool
         16 => i16::try_from(offset).is_ok(),
         _ => i32::try_from(offset).is_ok(),
     }
-}
-
-/// Whether the offset's field of item k, of an opcode, holds the distance of a label.
-fn label_fits(items: &[Item], places: &Places, k: usize, op: u8, name: &Text) -> bool
-    requires places { ArePlaces items.now places.now }
-    requires within { k < length items.now }
-    ensures { result ≡ offset_fits items.now k op (Some name.now) }
-{
-    let from = address_of(items, places, k);
-    offset_fits(op, distance(items, places, from, name))
-}
-
-fn is_over_offset(items: &[Item], places: &Places, k: usize, op: &Draftop) -> bool
-    requires places { ArePlaces items.now places.now }
-    requires within { k < length items.now }
-    ensures { result ≡ not (offset_fits items.now k op.now.insn.op op.now.label) }
-{
-    match &op.label {
-        Some(name) => !label_fits(items, places, k, op.insn.op, name),
-        None => false,
-    }
-}
-
-/// The first line of an instruction whose label is too far for its offset.
-pub fn offset_range(items: &[Item], places: &Places) -> Option<u32>
-    requires { ArePlaces items.now places.now }
-    ensures { result ≡ offset_range items.now }
-{
-    let mut line = None;
-    for k in 0..items.len() {
-        let over = match &items[k].what {
-            What::Op(op) => is_over_offset(items, places, k, op),
-            _ => false,
-        };
-        line = earlier(line, when(over, items[k].line));
-    }
-    line
-}
-
-/// Whether the end of an item passes the limit.
-fn passes(items: &[Item], places: &Places, k: usize) -> bool
-    requires places { ArePlaces items.now places.now }
-    requires within { k < length items.now }
-    ensures { result ≡ passes items.now k }
-{
-    let address = address_of(items, places, k);
-    address <= LIMIT && address + items[k].size() > LIMIT
-}
-
-/// The line of the item whose end passes the limit.
-pub fn too_long(items: &[Item], places: &Places) -> Option<u32>
-    requires { ArePlaces items.now places.now }
-    ensures { result ≡ too_long items.now }
-{
-    let mut line = None;
-    for k in 0..items.len() {
-        line = earlier(line, when(passes(items, places, k), items[k].line));
-    }
-    line
 }

@@ -1,98 +1,160 @@
 // The payloads that switches name.
-ghost use Rattle.std.specs.Prelude.{◌≡◌, ◌<◌, None, length, option_map, position, slice_index_or, IfOk};
-ghost use Rattle.dv_asm.specs.Places.{ArePlaces, address_named_by};
-ghost use Rattle.dv_asm.specs.Refusals.{addresses_named, is_address, is_payload_at, is_repeated, stands_payload, switch_of, repeated};
+ghost use Rattle.std.specs.Prelude.{◌≡◌, ◌<◌, ◌||◌, ℕ, length, nat_eq, IfOk, OnOk};
+ghost use Rattle.std.specs.Option.{option_or};
+ghost use Rattle.indexmap.specs.IndexMap.{get};
+ghost use Rattle.indexmap.specs.IndexSet.{contains};
+ghost use Rattle.dv_asm.specs.First.{when};
+ghost use Rattle.dv_asm.specs.Items.{item_at};
+ghost use Rattle.dv_asm.specs.Places.{address_named_by};
+ghost use Rattle.dv_asm.specs.Refusals.{is_address, is_payload_at, is_repeated, stands_payload, switch_of, repeated, repeated_at};
+ghost use Rattle.dv_asm.specs.Switches.{AreFirstSwitches, ArePayloadAddresses};
 
 use crate::draft::Item;
 use crate::labels::is_place;
-use crate::lines::{earlier, when};
-use crate::places::{Places, address_of, label_address};
+use crate::lines::{first_line, when};
+use crate::places::Places;
+use indexmap::{IndexMap, IndexSet};
 use std::alloc::{AllocError, Global};
+use std::marker::Model;
 
-/// The address that the item names where it is a switch.
-fn address_named_by(items: &[Item], places: &Places, item: &Item) -> Option<u64>
-    requires { ArePlaces items.now places.now }
-    ensures { result ≡ address_named_by items.now item.now }
-{
-    match item.label_of_switch() {
-        Some(name) => Some(label_address(items, places, name)),
-        None => None,
-    }
-}
-
-/// What each item names: an address, where it is a switch.
-pub fn addresses_named(
-    alloc: Global,
-    items: &[Item],
-    places: &Places,
-) -> Result<Vec<Option<u64>>, AllocError>
-    requires { ArePlaces items.now places.now }
-    ensures { IfOk result (λ named. named.items ≡ addresses_named items.now) }
-{
-    let mut named = Vec::new(alloc);
-    for item in items {
-        named.push(address_named_by(items, places, item))?;
-    }
-    Ok(named)
-}
-
-/// The first switch that names an address.
-pub fn switch_of(named: &[Option<u64>], address: u64) -> Option<usize>
-    ensures { result ≡ position (is_address address) named.now }
-{
-    named.iter().position(|a| *a == Some(address))
-}
-
-/// Whether an item is a payload at an address.
-fn is_payload_at(items: &[Item], places: &Places, address: u64, k: usize) -> bool
-    requires places { ArePlaces items.now places.now }
-    requires within { k < length items.now }
-    ensures { result ≡ is_payload_at items.now address k }
-{
-    items[k].is_payload() && address_of(items, places, k) == address
-}
-
-/// Whether a payload stands at an address.
-#[tactic(auto, using(crate::proofs::FirstLemmas::any_below_more))]
-fn stands_payload(items: &[Item], places: &Places, address: u64) -> bool
-    requires { ArePlaces items.now places.now }
-    ensures { result ≡ stands_payload items.now address }
-{
-    for k in 0..items.len() {
-        if is_payload_at(items, places, address, k) {
-            return true;
+impl Places<'_> {
+    /// The address that the item names where it is a switch.
+    fn address_named_by(&self, item: &Item) -> Option<u64>
+        ensures { result ≡ address_named_by self.now item.now }
+    {
+        match item.label_of_switch() {
+            Some(name) => Some(self.label_address(name)),
+            None => None,
         }
     }
-    false
-}
 
-/// Whether an earlier switch names the payload that stands at an address.
-fn is_repeated(items: &[Item], places: &Places, named: &[Option<u64>], k: usize) -> bool
-    requires places { ArePlaces items.now places.now }
-    requires named { named.now ≡ addresses_named items.now }
-    requires within { k < length items.now }
-    ensures { result ≡ is_repeated items.now k (slice_index_or named.now k None) }
-{
-    match named[k] {
-        Some(address) => {
-            stands_payload(items, places, address) && !is_place(k, switch_of(named, address))
+    /// Adds the address that an item names with the item's place, where it is a switch and the address isn't there.
+    fn add_switch(&self, switches: &mut IndexMap<u64, usize>, k: usize) -> Result<(), AllocError>
+        requires { k < length self.now }
+        ensures { OnOk result ((address : ℕ) → get nat_eq switches.new address ≡ option_or (get nat_eq switches.old address) (when (is_address address (address_named_by self.now (item_at self.now k))) k)) }
+    {
+        if let Some(address) = self.address_named_by(self.item(k))
+            && !switches.contains_key(&address)
+        {
+            switches.insert(address, k)?;
         }
-        None => false,
+        Ok(())
+    }
+
+    /// The addresses that switches name, each with the place of the first switch that names it.
+    fn first_switches(&self, alloc: Global) -> Result<IndexMap<u64, usize>, AllocError>
+        ensures { IfOk result (λ switches. AreFirstSwitches self.now switches) }
+    {
+        let mut switches = IndexMap::new(alloc);
+        for k in 0..self.count() {
+            self.add_switch(&mut switches, k)?;
+        }
+        Ok(switches)
+    }
+
+    /// Adds the address of an item where it is a payload.
+    fn add_payload(&self, payloads: &mut IndexSet<u64>, k: usize) -> Result<(), AllocError>
+        requires { k < length self.now }
+        ensures { OnOk result ((address : ℕ) → contains nat_eq payloads.new address ≡ contains nat_eq payloads.old address || is_payload_at self.now address k) }
+    {
+        if self.item(k).is_payload() {
+            payloads.insert(self.address_of(k))?;
+        }
+        Ok(())
+    }
+
+    /// The addresses at which payloads stand.
+    fn payload_addresses(&self, alloc: Global) -> Result<IndexSet<u64>, AllocError>
+        ensures { IfOk result (λ payloads. ArePayloadAddresses self.now payloads) }
+    {
+        let mut payloads = IndexSet::new(alloc);
+        for k in 0..self.count() {
+            self.add_payload(&mut payloads, k)?;
+        }
+        Ok(payloads)
     }
 }
 
-/// The first line of a switch that names the same payload as an earlier one.
-pub fn repeated(items: &[Item], places: &Places, named: &[Option<u64>]) -> Option<u32>
-    requires places { ArePlaces items.now places.now }
-    requires named { named.now ≡ addresses_named items.now }
-    ensures { result ≡ repeated items.now }
-{
-    let mut line = None;
-    for k in 0..items.len() {
-        line = earlier(
-            line,
-            when(is_repeated(items, places, named, k), items[k].line),
-        );
+/// Items with their places, the first switch that names each address, and the addresses at which payloads stand.
+/// To a contract it is the list of the items.
+#[derive(Drop)]
+pub struct Switches<'a> {
+    places: Places<'a>,
+    first: IndexMap<u64, usize>,
+    payloads: IndexSet<u64>,
+}
+
+impl<'a> Model for Switches<'a> {
+    ghost use Rattle.std.specs.Prelude.{List};
+    ghost use Rattle.dv_asm.specs.declared.draft.Item.{Item};
+    ghost use Rattle.dv_asm.specs.Switches.{AreFirstSwitches, ArePayloadAddresses};
+
+    ghost Value = { List Item };
+
+    ghost view = { λ s. s.places };
+
+    ghost invariant = { λ s. AreFirstSwitches s.places s.first × ArePayloadAddresses s.places s.payloads };
+}
+
+impl<'a> Switches<'a> {
+    pub fn of(alloc: Global, places: Places<'a>) -> Result<Switches<'a>, AllocError>
+        ensures { IfOk result (λ switches. switches ≡ places.entry) }
+    {
+        let first = places.first_switches(alloc)?;
+        let payloads = places.payload_addresses(alloc)?;
+        Ok(Switches {
+            places,
+            first,
+            payloads,
+        })
     }
-    line
+
+    /// The items with their places.
+    pub fn places(&self) -> &Places<'a>
+        ensures { result.now ≡ self.now }
+    {
+        &self.places
+    }
+
+    /// The first switch that names an address.
+    pub fn switch_of(&self, address: u64) -> Option<usize>
+        ensures { result ≡ switch_of self.now address }
+    {
+        self.first.get(&address).copied()
+    }
+
+    /// Whether a payload stands at an address.
+    fn stands_payload(&self, address: u64) -> bool
+        ensures { result ≡ stands_payload self.now address }
+    {
+        self.payloads.contains(&address)
+    }
+
+    /// Whether an earlier switch names the payload that stands at an address.
+    fn is_repeated(&self, k: usize, address: Option<u64>) -> bool
+        ensures { result ≡ is_repeated self.now k address }
+    {
+        match address {
+            Some(address) => {
+                self.stands_payload(address) && !is_place(k, self.switch_of(address))
+            }
+            None => false,
+        }
+    }
+
+    fn repeated_at(&self, k: usize) -> Option<u32>
+        requires { k < length self.now }
+        ensures { result ≡ repeated_at self.now k }
+    {
+        let item = self.places().item(k);
+        let address = self.places().address_named_by(item);
+        when(self.is_repeated(k, address), item.line)
+    }
+
+    /// The first line of a switch that names the same payload as an earlier one.
+    pub fn repeated(&self) -> Option<u32>
+        ensures { result ≡ repeated self.now }
+    {
+        first_line(self.places().count(), |k| self.repeated_at(k))
+    }
 }

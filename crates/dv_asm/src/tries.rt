@@ -1,13 +1,9 @@
 // The ranges of handlers.
-ghost use Rattle.std.specs.Prelude.{◌≡◌, None, IfOk};
-ghost use Rattle.std.specs.List.{list_any};
-ghost use Rattle.dv_asm.specs.Places.{ArePlaces};
-ghost use Rattle.dv_asm.specs.Refusals.{too_long, range_of, ranges_of, is_empty, is_same, overlaps, overlaps_earlier, try_range, try_overlap};
+ghost use Rattle.std.specs.Prelude.{◌≡◌, IfOk};
+ghost use Rattle.dv_asm.specs.Refusals.{range_of, ranges_of, is_empty, is_same, overlaps};
 
-use crate::draft::{Catch, Item};
-use crate::lines::{earlier, when};
-use crate::places::Places;
-use crate::short::label_address;
+use crate::draft::Catch;
+use crate::short::Short;
 use std::alloc::{AllocError, Global};
 
 /// The addresses from `start` up to and without `end`.
@@ -38,66 +34,25 @@ impl TryRange {
     }
 }
 
-/// The range of a handler.
-pub fn range_of(items: &[Item], places: &Places, catch: &Catch) -> TryRange
-    requires places { ArePlaces items.now places.now }
-    requires short { too_long items.now ≡ None }
-    ensures { result ≡ range_of items.now catch.now }
-{
-    TryRange {
-        start: label_address(items, places, &catch.from),
-        end: label_address(items, places, &catch.to),
+impl Short<'_> {
+    /// The range of a handler.
+    pub fn range_of(&self, catch: &Catch) -> TryRange
+        ensures { result ≡ range_of self.now catch.now }
+    {
+        TryRange {
+            start: self.label_address(&catch.from),
+            end: self.label_address(&catch.to),
+        }
     }
-}
 
-/// The ranges of the handlers.
-pub fn ranges(
-    alloc: Global,
-    items: &[Item],
-    catches: &[Catch],
-    places: &Places,
-) -> Result<Vec<TryRange>, AllocError>
-    requires places { ArePlaces items.now places.now }
-    requires short { too_long items.now ≡ None }
-    ensures { IfOk result (λ ranges. ranges.items ≡ ranges_of items.now catches.now) }
-{
-    let mut ranges = Vec::new(alloc);
-    for catch in catches {
-        ranges.push(range_of(items, places, catch))?;
+    /// The ranges of the handlers.
+    pub fn ranges_of(&self, alloc: Global, catches: &[Catch]) -> Result<Vec<TryRange>, AllocError>
+        ensures { IfOk result (λ ranges. ranges.items ≡ ranges_of self.now catches.now) }
+    {
+        let mut ranges = Vec::new(alloc);
+        for catch in catches {
+            ranges.push(self.range_of(catch))?;
+        }
+        Ok(ranges)
     }
-    Ok(ranges)
-}
-
-/// The first line of a handler whose range is empty.
-pub fn try_range(items: &[Item], catches: &[Catch], ranges: &[TryRange]) -> Option<u32>
-    requires { ranges.now ≡ ranges_of items.now catches.now }
-    ensures { result ≡ try_range items.now catches.now }
-{
-    let _ = items;
-    let mut line = None;
-    for k in 0..catches.len() {
-        line = earlier(line, when(ranges[k].is_empty(), catches[k].line));
-    }
-    line
-}
-
-/// Whether a range overlaps one of those before.
-fn overlaps_earlier(ranges: &[TryRange], range: TryRange) -> bool
-    ensures { result ≡ list_any (overlaps range) ranges.now }
-{
-    ranges.iter().any(|other| range.overlaps(*other))
-}
-
-/// The first line of a handler whose range overlaps another one of an earlier handler.
-pub fn try_overlap(items: &[Item], catches: &[Catch], ranges: &[TryRange]) -> Option<u32>
-    requires { ranges.now ≡ ranges_of items.now catches.now }
-    ensures { result ≡ try_overlap items.now catches.now }
-{
-    let _ = items;
-    let mut line = None;
-    for k in 0..catches.len() {
-        let overlaps = overlaps_earlier(&ranges[..k], ranges[k]);
-        line = earlier(line, when(overlaps, catches[k].line));
-    }
-    line
 }
