@@ -5,7 +5,7 @@ use Rattle.dv_defs.specs.Formats.{Format, F10x, F12x, F11n, F11x, F10t, F20t, F2
 use Rattle.dv_defs.specs.Spelling.{spelling, spelling_in, spelling_by, fits_in, fits_signed, spelling_10t, spelling_20t, spelling_21t, spelling_22t, spelling_30t, spelling_31t, spelling_21c, spelling_22c, spelling_31c, spelling_35c, spelling_3rc}
 use Rattle.dv_defs.proofs.InsnEq.{form_tests}
 use Rattle.dv_units.specs.Offsets.{offset_bits_in}
-use Rattle.dv_asm.specs.Draft.{has_offset, has_index}
+use Rattle.dv_defs.specs.Formats.{has_offset, has_index}
 use Rattle.dv_asm.specs.Refusals.{with_operands}
 
 offset_10t : (i : Insn) (off : ℤ) → IsSome (spelling_10t (with_operands i (pos 0) 0)) → fits_signed 8 off ≡ true → IsSome (spelling_10t (with_operands i off 0))

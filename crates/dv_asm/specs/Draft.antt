@@ -1,10 +1,11 @@
 -- What a draft is seen as, and what each draft keeps.
-use Rattle.std.specs.Prelude.{ℕ, ◌≡◌, ◌≤◌, ◌%◌, pos, Bool, true, false, ◌&&◌, ◌||◌, nat_eq, nat_lt, List, [], ◌∷◌, length, drop, slice_index, All, Option, Some, is_some, IsSome, IsTrue}
+use Rattle.std.specs.Prelude.{ℕ, ◌≡◌, ◌≤◌, ◌%◌, pos, Bool, true, false, ◌&&◌, ◌||◌, nat_eq, nat_lt, List, [], ◌∷◌, length, drop, slice_index, All, Option, Some, None, is_some, IsSome, IsTrue}
 use Rattle.dv_defs.specs.declared.code.Insn.{Insn}
 use Rattle.dv_defs.specs.declared.code.Regs.{Regs}
-use Rattle.dv_defs.specs.Formats.{Format, F10t, F20t, F21t, F22t, F30t, F31t, F21c, F22c, F31c, F35c, F3rc, format_at}
-use Rattle.dv_defs.specs.Families.{Family, family_at}
-use Rattle.dv_defs.specs.Families as family
+use Rattle.dv_defs.specs.declared.code.PoolKind.{PoolKind}
+use Rattle.dv_defs.specs.declared.code.PoolKind.TheVariants as kind
+use Rattle.dv_defs.specs.Formats.{has_offset, has_index, format_at}
+use Rattle.dv_defs.specs.Families.{pool_at}
 use Rattle.dv_defs.specs.Spelling.{spelling, all_zero}
 use Rattle.dv_defs.specs.Tiling.{is_width}
 use Rattle.dv_asm.specs.declared.draft.Item.{Item}
@@ -20,40 +21,13 @@ pub record DraftValue : Type 0 where
   pub items : List Item
   pub catches : List Catch
 
--- whether a format has an offset, which a label gives
-abbrev pub has_offset : Option Format → Bool
-has_offset (Some F10t) = true
-has_offset (Some F20t) = true
-has_offset (Some F21t) = true
-has_offset (Some F22t) = true
-has_offset (Some F30t) = true
-has_offset (Some F31t) = true
-has_offset format = false
-
--- whether a format has the index of a pool's entry
-abbrev pub has_index : Option Format → Bool
-has_index (Some F21c) = true
-has_index (Some F22c) = true
-has_index (Some F31c) = true
-has_index (Some F35c) = true
-has_index (Some F3rc) = true
-has_index format = false
-
--- whether an entry is of the kind that instructions of a family name
-abbrev pub is_named_by : Option Family → PoolRef → Bool
-is_named_by (Some family.ConstString) (pool.Str chars) = true
-is_named_by (Some family.ConstClass) (pool.OfType ty) = true
-is_named_by (Some family.CheckCast) (pool.OfType ty) = true
-is_named_by (Some family.InstanceOf) (pool.OfType ty) = true
-is_named_by (Some family.NewInstance) (pool.OfType ty) = true
-is_named_by (Some family.NewArray) (pool.OfType ty) = true
-is_named_by (Some family.FilledNewArray) (pool.OfType ty) = true
-is_named_by (Some (family.FieldGet suffix)) (pool.Field field) = true
-is_named_by (Some (family.FieldPut suffix)) (pool.Field field) = true
-is_named_by (Some (family.StaticGet suffix)) (pool.Field field) = true
-is_named_by (Some (family.StaticPut suffix)) (pool.Field field) = true
-is_named_by (Some (family.Invoke call)) (pool.Method method) = true
-is_named_by f entry = false
+-- the pool in which an entry is a place
+abbrev pub kind_of_entry : PoolRef → Option PoolKind
+kind_of_entry pool.None = None
+kind_of_entry (pool.Str chars) = Some kind.Strings
+kind_of_entry (pool.OfType ty) = Some kind.Types
+kind_of_entry (pool.Field field) = Some kind.Fields
+kind_of_entry (pool.Method method) = Some kind.Methods
 
 abbrev pub is_entry : PoolRef → Bool
 is_entry pool.None = false
@@ -76,7 +50,7 @@ pub record IsOp (op : Draftop) : Type 0 where
   pub label : is_some op.label ≡ has_offset (format_at op.insn.op)
   pub offset : has_offset (format_at op.insn.op) ≡ false → op.insn.off ≡ pos 0
   pub entry : is_entry op.pool ≡ has_index (format_at op.insn.op)
-  pub kind : is_entry op.pool ≡ true → IsTrue (is_named_by (family_at op.insn.op) op.pool)
+  pub kind : is_entry op.pool ≡ true → kind_of_entry op.pool ≡ pool_at op.insn.op
   pub index : has_index (format_at op.insn.op) ≡ false → op.insn.index ≡ 0
 
 -- an item in its form: as many targets as keys, and whole elements of a width that there is
