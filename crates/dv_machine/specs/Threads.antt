@@ -20,6 +20,7 @@ stays h = onward h h.shared h.frame
 abbrev pub goes : Here → Shared → Did Left
 goes h sh = onward h sh (gone h.frame h.next h.frame.regs)
 
+-- no thread owns the monitor, or this one does
 abbrev pub free_or_mine : Here → Option ℕ → Bool
 free_or_mine h None = true
 free_or_mine h (Some t) = nat_eq t h.thread
@@ -65,9 +66,11 @@ abbrev pub thread_from : List Thread → ℕ → ℕ → Option ℕ
 thread_from [] k o = None
 thread_from (t ∷ ts) k o = elim (nat_eq t.object o) [ true ↦ Some k | false ↦ thread_from ts (suc k) o ]
 
+-- a thread is known by its Thread object
 abbrev pub thread_with : List Thread → ℕ → Option ℕ
 thread_with ts o = thread_from ts 0 o
 
+-- a thread that is there and has neither returned nor died
 abbrev pub is_living : Option Thread → Bool
 is_living None = false
 is_living (Some t) = alive t.end
@@ -77,9 +80,11 @@ is_living (Some t) = alive t.end
     alive (end.Flying o) = true
     alive e = false
 
+-- it begins with the run method of its object
 abbrev pub new_thread : ℕ → Method → Thread
 new_thread o m = record { levels = level.Code (entered_frame m (v.Ref o ∷ []) false) ∷ []; end = end.Living; object = o }
 
+-- the new thread runs this method
 abbrev pub started_on : Here → ℕ → Option Method → Did Left
 started_on h o None = Throws named.AbstractMethod
 started_on h o (Some m) =
@@ -96,6 +101,7 @@ abbrev pub run_method : Image → Option ℕ → Option Method
 run_method image None = None
 run_method image (Some c) = nearest image c (codes "run") no_arguments
 
+-- where the object has no thread yet
 abbrev pub start_unless : Here → ℕ → Option ℕ → Did Left
 start_unless h o (Some u) = Throws named.IllegalThreadState
 start_unless h o None =

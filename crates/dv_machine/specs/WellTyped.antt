@@ -35,6 +35,7 @@ use Rattle.dv_defs.specs.declared.typing.RegState.{RegState}
 abbrev pub Typings : Type 0
 Typings = ℕ → Typing
 
+-- by its method
 abbrev pub own_of : Image → Option ℕ → Method → Own
 own_of image this m = record { this = this; class = own_type image m; made = made_at image m }
 
@@ -47,6 +48,7 @@ called_on g (Some x) = by_op x.op
     by_op (Invoke c (k ∷ ks) m) = if is_constructor m then object_of (reg_at g.regs k) else None
     by_op op = None
 
+-- what stands below a frame tells its `this`
 abbrev pub this_above : Image → List Level → Option ℕ
 this_above image (level.Code g ∷ ls) = called_on g (fetch image g.method.0 g.at)
 this_above image ls = None
@@ -112,6 +114,7 @@ abbrev pub FlightFits : Image → Typings → Heap → Option ℕ → Option ℕ
 FlightFits image T heap this None f = Unit {0}
 FlightFits image T heap this (Some o) f = IsHandled image T heap this o f
 
+-- a frame, and what stands below it
 pub record CodeFine (image : Image) (T : Typings) (heap : Heap) (f : Frame) (ls : List Level) : Type 0 where
   pub frame : IsFrame image f
   pub below : BelowCode image frame.code.method ls
@@ -136,11 +139,13 @@ FlightFine image T heap t o (level.Code f ∷ ls) =
     StackFine image T heap t (Some o) ls
 FlightFine image T heap t o (level.Init c r ∷ ls) = StackFine image T heap t (Some o) (level.Init c r ∷ ls)
 
+-- the bottom of a stack
 abbrev pub lowest : List Level → Option Level
 lowest [] = None
 lowest (l ∷ []) = Some l
 lowest (l ∷ m ∷ ms) = lowest (m ∷ ms)
 
+-- a stack ends with a frame
 abbrev pub IsCode : Option Level → Type 0
 IsCode None = ⊥
 IsCode (Some (level.Code f)) = Unit {0}
@@ -163,6 +168,7 @@ ThreadFine image T heap t ls (end.Died o) = (ls ≡ []) × IsThrowable image hea
 abbrev pub nobody : Own
 nobody = record { this = None; class = of_class object_name; made = λ a. None }
 
+-- of so many elements
 abbrev pub element_types : ℕ → Ty → Types
 element_types zero t = []
 element_types (suc n) t = reg_types t ++ element_types n t
@@ -173,6 +179,7 @@ cell_types image n (kind.Object c) = class_cells image c.0
 cell_types image n (kind.Array t) = element_types n (component t)
 cell_types image n k = []
 
+-- as many cells as types, each of its type
 pub record CellsFit (image : Image) (heap : Heap) (xs : Cells) (ts : Types) : Type 0 where
   pub count : length xs ≡ length ts
   pub each : RegsConform image heap nobody xs ts
@@ -211,6 +218,7 @@ pub record IsWaiting (image : Image) (heap : Heap) (ls : List Level) (e : End) (
   pub lands : dispatch image heap method call callee object ≡ Lands landed
   pub is_wait : native_of image landed ≡ Some native.Wait
 
+-- an entry of the waiting threads: its thread waits there, and doesn't own the monitor
 pub record WaitFine (image : Image) (threads : List Thread) (sh : Shared) (w : Wait) : Type 0 where
   pub thread : Thread
   pub has_thread : slice_get threads w.thread ≡ Some thread
@@ -223,6 +231,7 @@ pub record HeldFine (threads : List Thread) (steps : ℕ) (h : Held) : Type 0 wh
   pub low : 1 ≤ h.count
   pub high : h.count ≤ steps
 
+-- the monitors and the waiting threads
 pub record MonitorsFine (image : Image) (threads : List Thread) (sh : Shared) (steps : ℕ) : Type 0 where
   pub waits : All (WaitFine image threads sh) sh.monitors.waits
   pub held : All (HeldFine threads steps) sh.monitors.held
