@@ -162,12 +162,12 @@ registers_of m = registers_in m.def.body
 abbrev pub entered_frame : Method → List Value → Bool → Frame
 entered_frame m xs pending_this =
     record {
-        method = record { 0 = m.id };
-        at = 0;
-        regs = replicate (registers_of m - length xs) v.Undef ++ xs;
-        result = pending.None;
-        caught = None;
-        this_pending = pending_this;
+      method = record { 0 = m.id };
+      at = 0;
+      regs = replicate (registers_of m - length xs) v.Undef ++ xs;
+      result = pending.None;
+      caught = None;
+      this_pending = pending_this;
     }
 
 -- a call's frame is pushed on the caller's, which stays at its invoke
@@ -205,33 +205,35 @@ call_object h native c g x xs o = landed h native (dispatch h.image h.shared.hea
 abbrev pub call_instance : Here → (Native → List Value → Did Left) → Call → Method → Value → List ℕ → Did Left
 call_instance h native c g x ks =
     reading (read_ref h.image h.shared.heap (own_type h.image g) x)
-        (λ o.
-             reading (read_super h c x)
-                 (λ p.
-                      reading (read_args h.image h.shared.heap h.frame.regs g.def.proto.params ks)
-                          (λ xs. on_object (call_object h native c g x xs) o)))
+    (λ o.
+    reading (read_super h c x)
+    (λ p.
+    reading (read_args h.image h.shared.heap h.frame.regs g.def.proto.params ks)
+    (λ xs. on_object (call_object h native c g x xs) o)))
 
 -- the receiver, then the arguments
 abbrev pub call_constructor : Here → Method → Value → List ℕ → Did Left
 call_constructor h g x ks =
     reading (read_new h.image h.shared.heap h.own g x)
-        (λ o. reading (read_args h.image h.shared.heap h.frame.regs g.def.proto.params ks) (construct h g o))
+    (λ o. reading (read_args h.image h.shared.heap h.frame.regs g.def.proto.params ks) (construct h g o))
 
 -- the first argument register holds the receiver
 abbrev pub with_receiver : Here → (Native → List Value → Did Left) → Call → Method → List ℕ → Did Left
 with_receiver h native c g [] = IsStuck why.Instruction
 with_receiver h native c g (k ∷ ks) =
     elim (is_constructor g) [
-        true ↦ call_constructor h g (reg_at h.frame.regs k) ks
-      | false ↦ call_instance h native c g (reg_at h.frame.regs k) ks ]
+      | true ↦ call_constructor h g (reg_at h.frame.regs k) ks
+      | false ↦ call_instance h native c g (reg_at h.frame.regs k) ks
+    ]
 
 -- an invoke; the second argument is what a native does
 abbrev pub invoke : Here → (Native → List Value → Did Left) → Call → List ℕ → Method → Did Left
 invoke h native c ks g =
     elim (is_static g) [
-        true ↦ reading (read_args h.image h.shared.heap h.frame.regs g.def.proto.params ks)
-              (landed h native (unless_abstract g))
-      | false ↦ with_receiver h native c g ks ]
+      | true ↦ reading (read_args h.image h.shared.heap h.frame.regs g.def.proto.params ks)
+          (landed h native (unless_abstract g))
+      | false ↦ with_receiver h native c g ks
+    ]
 
 -- ---- returns
 
@@ -255,11 +257,11 @@ initialised_in x (Some o) regs = map (initialised o) regs
 abbrev pub constructed : Frame → ℕ → Pending → Value → Frame
 constructed g next p x =
     record g {
-        at = next;
-        regs = initialised_in x (object_of x) g.regs;
-        result = p;
-        caught = None;
-        this_pending = still_pending x g.this_pending;
+      at = next;
+      regs = initialised_in x (object_of x) g.regs;
+      result = p;
+      caught = None;
+      this_pending = still_pending x g.this_pending;
     }
 
 -- the register of an invoke's receiver

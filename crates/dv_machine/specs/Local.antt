@@ -107,15 +107,15 @@ local (IntToLong a b) f next = on_next (read_int (reg_at f.regs b)) (λ x. Ok (p
 local (LongToInt a b) f next = on_next (read_two f.regs b) (λ p. Ok (put f next a (v.Num (from32 p.lo))))
 local (IntOp o a b c) f next =
     on_next (read_int (reg_at f.regs b))
-        (λ x. on_next (read_arg f.regs c) (λ y. Ok (put f next a (v.Num (operate32 o x y)))))
+    (λ x. on_next (read_arg f.regs c) (λ y. Ok (put f next a (v.Num (operate32 o x y)))))
 local (LongOp o a b c) f next =
     on_next (read_long f.regs b) (λ x. on_next (read_long f.regs c) (λ y. Ok (put_long f next a (operate64 o x y))))
 local (LongShift o a b c) f next =
     on_next (read_long f.regs b)
-        (λ x. on_next (read_int (reg_at f.regs c)) (λ y. Ok (put_long f next a (operate64 o x y))))
+    (λ x. on_next (read_int (reg_at f.regs c)) (λ y. Ok (put_long f next a (operate64 o x y))))
 local (CompareLong a b c) f next =
     on_next (read_long f.regs b)
-        (λ x. on_next (read_long f.regs c) (λ y. Ok (put f next a (v.Num (compare_long x y)))))
+    (λ x. on_next (read_long f.regs c) (λ y. Ok (put f next a (v.Num (compare_long x y)))))
 local (Goto to) f next = Ok (gone f to f.regs)
 local (IfBoth t a b to) f next = on_next (test_both t (reg_at f.regs a) (reg_at f.regs b)) (λ c. Ok (branched f next to c))
 local (IfZero t a to) f next = on_next (test_zero t (reg_at f.regs a)) (λ c. Ok (branched f next to c))

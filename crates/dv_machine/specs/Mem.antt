@@ -103,8 +103,8 @@ is_storable h o s xs = true
 abbrev pub array_put : Here → ℕ → Suffix → List Value → ℕ → Did Left
 array_put h o s xs k =
     where_true (is_storable h o s xs) named.ArrayStore
-        (onward h (with_heap h.shared (stored h.shared.heap o k (narrowed_all (component_of h o) xs)))
-             (gone h.frame h.next h.frame.regs))
+    (onward h (with_heap h.shared (stored h.shared.heap o k (narrowed_all (component_of h o) xs)))
+    (gone h.frame h.next h.frame.regs))
 
 -- a register takes an element
 abbrev pub get_element : Here → ℕ → ℕ → ℕ → Did Left
@@ -123,21 +123,21 @@ filled t (n ∷ ns) = fill_words t n ++ filled t ns
 abbrev pub fill : Here → List ℤ → ℕ → Did Left
 fill h ns o =
     where_true (nat_le (length ns) (length_of h.shared.heap o)) named.ArrayIndex
-        (onward h (with_heap h.shared (stored h.shared.heap o 0 (filled (component_of h o) ns)))
-             (gone h.frame h.next h.frame.regs))
+    (onward h (with_heap h.shared (stored h.shared.heap o 0 (filled (component_of h o) ns)))
+    (gone h.frame h.next h.frame.regs))
 
 -- the words of filled-new-array
 abbrev pub read_each : Here → Ty → List ℕ → Reads (List Value)
 read_each h t [] = Ok []
 read_each h t (k ∷ ks) =
     on_next (read_single h.image h.shared.heap t (reg_at h.frame.regs k))
-        (λ x. on_next (read_each h t ks) (λ xs. Ok (x ∷ xs)))
+    (λ x. on_next (read_each h t ks) (λ xs. Ok (x ∷ xs)))
 
 -- the new array with its elements, as a pending result
 abbrev pub filled_array : Here → List Value → Heap → Did Left
 filled_array h xs heap =
     onward h (with_heap h.shared (stored heap (newest heap) 0 xs))
-        (with_result h.frame h.next (pending.One (v.Ref (newest heap))))
+    (with_result h.frame h.next (pending.One (v.Ref (newest heap))))
 
 -- a negative size throws before room is asked for
 abbrev pub new_array : Here → ℕ → Ty → ℤ → Did Left
@@ -157,63 +157,63 @@ get_field h a x o = onward h h.shared (put_words h.frame h.next a (words_at h.sh
 abbrev pub put_field : Here → Field → List Value → ℕ → Did Left
 put_field h x ys o =
     onward h (with_heap h.shared (stored h.shared.heap o x.info.slot (narrowed_all x.def.ty ys)))
-        (gone h.frame h.next h.frame.regs)
+    (gone h.frame h.next h.frame.regs)
 
 -- an operation on the heap, a division or a cast: reads first, then null, index, store test and room
 abbrev pub mem : Here → Op → Did Left
 mem h (IntDivide o a b c) =
     reading (read_int (reg_at h.frame.regs b))
-        (λ x.
-             reading (read_arg h.frame.regs c)
-                 (λ y.
-                      where_true (not (is_zero_number y)) named.Arithmetic
-                          (onward h h.shared (put h.frame h.next a (v.Num (operate32 o x y))))))
+    (λ x.
+    reading (read_arg h.frame.regs c)
+    (λ y.
+    where_true (not (is_zero_number y)) named.Arithmetic
+    (onward h h.shared (put h.frame h.next a (v.Num (operate32 o x y))))))
 mem h (LongDivide o a b c) =
     reading (read_long h.frame.regs b)
-        (λ x.
-             reading (read_long h.frame.regs c)
-                 (λ y.
-                      where_true (not (is_zero_number y)) named.Arithmetic
-                          (onward h h.shared (put_long h.frame h.next a (operate64 o x y)))))
+    (λ x.
+    reading (read_long h.frame.regs c)
+    (λ y.
+    where_true (not (is_zero_number y)) named.Arithmetic
+    (onward h h.shared (put_long h.frame h.next a (operate64 o x y)))))
 mem h (ConstString a s) = where_room (intern h.shared.heap s) (put_object h a v.Ref)
 mem h (ConstClass a t) = where_room (class_object h.shared.heap t) (put_object h a v.Ref)
 mem h (Cast a t) =
     reading (read_any h.shared.heap (reg_at h.frame.regs a))
-        (λ o.
-             where_true (nat_eq o 0 || is_instance h t o) named.ClassCast
-                 (onward h h.shared (gone h.frame h.next h.frame.regs)))
+    (λ o.
+    where_true (nat_eq o 0 || is_instance h t o) named.ClassCast
+    (onward h h.shared (gone h.frame h.next h.frame.regs)))
 mem h (InstanceOf a b t) =
     reading (read_any h.shared.heap (reg_at h.frame.regs b))
-        (λ o. onward h h.shared (put h.frame h.next a (truth (is_instance h t o))))
+    (λ o. onward h h.shared (put h.frame h.next a (truth (is_instance h t o))))
 mem h (ArrayLength a b) =
     reading (read_array any_type h.shared.heap (reg_at h.frame.regs b))
-        (on_object (λ o. onward h h.shared (put h.frame h.next a (v.Num (pos (length_of h.shared.heap o))))))
+    (on_object (λ o. onward h h.shared (put h.frame h.next a (v.Num (pos (length_of h.shared.heap o))))))
 mem h (New a c) = where_room (alloc_object h.image h.shared.heap c) (λ heap. put_object h a (v.Uninit h.frame.at) (got heap))
 mem h (NewArray a b t) = reading (read_int (reg_at h.frame.regs b)) (new_array h a t)
 mem h (Filled rs t) =
     reading (read_each h (component t) rs)
-        (λ xs. where_room (alloc_array h.shared.heap t (length rs)) (filled_array h xs))
+    (λ xs. where_room (alloc_array h.shared.heap t (length rs)) (filled_array h xs))
 mem h (Fill a n ns) = reading (read_array (is_fill_type n) h.shared.heap (reg_at h.frame.regs a)) (on_object (fill h ns))
 mem h (Throw a) = reading (read_ref h.image h.shared.heap (of_class throwable_name) (reg_at h.frame.regs a)) (on_object ThrowsRef)
 mem h (ArrayGet s a b c) =
     reading (read_array (is_of_suffix s) h.shared.heap (reg_at h.frame.regs b))
-        (λ p. reading (read_int (reg_at h.frame.regs c)) (λ k. on_object (λ o. on_index h o k (get_element h a o)) p))
+    (λ p. reading (read_int (reg_at h.frame.regs c)) (λ k. on_object (λ o. on_index h o k (get_element h a o)) p))
 mem h (ArrayPut s a b c) =
     reading (read_array (is_of_suffix s) h.shared.heap (reg_at h.frame.regs b))
-        (λ p.
-             reading (read_int (reg_at h.frame.regs c))
-                 (λ k. reading (read_put h a s) (λ xs. on_object (λ o. on_index h o k (array_put h o s xs)) p)))
+    (λ p.
+    reading (read_int (reg_at h.frame.regs c))
+    (λ k. reading (read_put h a s) (λ xs. on_object (λ o. on_index h o k (array_put h o s xs)) p)))
 mem h (FieldGet s a b x) =
     reading (read_ref h.image h.shared.heap (class_type h.image x.info.class.0) (reg_at h.frame.regs b))
-        (on_object (get_field h a x))
+    (on_object (get_field h a x))
 mem h (FieldPut s a b x) =
     reading (read_put_receiver h x (reg_at h.frame.regs b))
-        (λ o.
-             reading (read_value h.image h.shared.heap h.frame.regs a x.def.ty) (λ ys. on_object (put_field h x ys) o))
+    (λ o.
+    reading (read_value h.image h.shared.heap h.frame.regs a x.def.ty) (λ ys. on_object (put_field h x ys) o))
 mem h (StaticGet s a x) = onward h h.shared (put_words h.frame h.next a (static_words h.shared.heap x.id x.def.ty))
 mem h (StaticPut s a x) =
     reading (read_value h.image h.shared.heap h.frame.regs a x.def.ty)
-        (λ ys.
-             onward h (with_heap h.shared (static_stored h.shared.heap x.id 0 (narrowed_all x.def.ty ys)))
-                 (gone h.frame h.next h.frame.regs))
+    (λ ys.
+    onward h (with_heap h.shared (static_stored h.shared.heap x.id 0 (narrowed_all x.def.ty ys)))
+    (gone h.frame h.next h.frame.regs))
 mem h op = IsStuck why.Instruction

@@ -71,7 +71,7 @@ units_in (x ∷ xs) = bits32 (number_of x) % 65536 ∷ units_in xs
 abbrev pub some_chars : Here → ℕ → ℤ → ℤ → Did Left
 some_chars h o (pos start) (pos count) =
     where_true (nat_le (start + count) (length_of h.shared.heap o)) named.IndexOutOfBounds
-        (new_text h (units_in (take count (drop start (cells_at h.shared.heap o)))))
+    (new_text h (units_in (take count (drop start (cells_at h.shared.heap o)))))
 some_chars h o start count = Throws named.IndexOutOfBounds
 
 -- one printing step, whole or not at all
@@ -92,12 +92,12 @@ native_step h native.Length xs = gives h (v.Num (pos (length (text_of h.shared.h
 native_step h native.CharAt xs = char_at h (text_of h.shared.heap (object_number (arg xs 0))) (number_of (arg xs 1))
 native_step h native.Equals xs =
     gives h
-        (truth
-             (same_text (text_of h.shared.heap (object_number (arg xs 0)))
-                  (kind_of h.shared.heap (object_number (arg xs 1)))))
+    (truth
+    (same_text (text_of h.shared.heap (object_number (arg xs 0)))
+    (kind_of h.shared.heap (object_number (arg xs 1)))))
 native_step h native.Concat xs =
     on_object (λ o. new_text h (text_of h.shared.heap (object_number (arg xs 0)) ++ text_of h.shared.heap o))
-        (object_number (arg xs 1))
+    (object_number (arg xs 1))
 native_step h native.OfLong xs = new_text h (signed_decimal (long_of (half_of (arg xs 0)) (half_of (arg xs 1))))
 native_step h native.OfChars xs = on_object (λ o. some_chars h o (number_of (arg xs 1)) (number_of (arg xs 2))) (object_number (arg xs 0))
 native_step h native.Print xs = on_object (λ o. printed h (utf8 (text_of h.shared.heap o))) (object_number (arg xs 0))

@@ -43,7 +43,7 @@ made heap k cells = grown heap k cells 0
 abbrev pub object_made : Image → Heap → List ℕ → Heap
 object_made image heap name =
     made heap (kind.Object (record { 0 = number_named image name }))
-        (fresh_cells (class_cells image (number_named image name)))
+    (fresh_cells (class_cells image (number_named image name)))
 
 -- the cells of a static field before strings are made
 abbrev pub number_cells : Ty → ℤ → Cells
@@ -107,13 +107,13 @@ with_out image (i ∷ is) k heap = with_out image is (suc k) (with_out_of image 
 abbrev pub empty_heap : Image → Heap
 empty_heap image =
     record {
-        kinds = [];
-        cells = [];
-        statics = field_cells image image.fields 0;
-        interned = [];
-        class_objects = [];
-        used = 0;
-        limit = None;
+      kinds = [];
+      cells = [];
+      statics = field_cells image image.fields 0;
+      interned = [];
+      class_objects = [];
+      used = 0;
+      limit = None;
     }
 
 abbrev pub is_filled : List Ty → Bool
@@ -137,10 +137,10 @@ counted_from l heap = record heap { used = 0; limit = Some l.heap }
 abbrev pub opening_heap : Image → Method → Limits → Heap
 opening_heap image m l =
     counted_from l
-        (array_made m
-             (with_strings image image.fields 0
-                  (with_out image image.fields 0
-                       (object_made image (object_made image (empty_heap image) stream_name) thread_name))))
+    (array_made m
+    (with_strings image image.fields 0
+    (with_out image image.fields 0
+    (object_made image (object_made image (empty_heap image) stream_name) thread_name))))
 
 -- none of these classes declares an initialiser
 abbrev pub none_initialised : Image → List ℕ → Bool
@@ -173,21 +173,21 @@ opening_states m cs false = with_state cs m.info.class.0 (InProgress 0)
 abbrev pub opened : Image → Limits → Method → Heap → Bool → Machine
 opened image l m heap born =
     record {
-        threads = record {
-                levels = opening_levels m (entered_frame m (main_args m heap) false) born;
-                end = end.Living;
-                object = 2;
-            } ∷
-            [];
-        shared = record {
-                heap = heap;
-                classes = opening_states m (first_states image image.classes 0) born;
-                monitors = record { held = []; waits = [] };
-                output = [];
-            };
-        steps = 0;
-        stop = None;
-        limits = l;
+      threads = record {
+        levels = opening_levels m (entered_frame m (main_args m heap) false) born;
+        end = end.Living;
+        object = 2;
+      } ∷
+          [];
+      shared = record {
+        heap = heap;
+        classes = opening_states m (first_states image image.classes 0) born;
+        monitors = record { held = []; waits = [] };
+        output = [];
+      };
+      steps = 0;
+      stop = None;
+      limits = l;
     }
 
 -- the state in which a run of a main method begins

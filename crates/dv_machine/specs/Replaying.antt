@@ -37,8 +37,9 @@ stands_on (Err y) = Wrong y
 abbrev pub one_step : Image → ℕ → ℕ → Machine → Replayed
 one_step image k t m =
     elim (ending_of image m) [
-        Some e ↦ PastEnd k
-      | None ↦ elim (runnable image m t) [ true ↦ stands_on (step image m t) | false ↦ NotRunnable k ] ]
+      | Some e ↦ PastEnd k
+      | None ↦ elim (runnable image m t) [ true ↦ stands_on (step image m t) | false ↦ NotRunnable k ]
+    ]
 
 -- the steps of the k-th entry
 abbrev pub steps_of : Image → ℕ → ℕ → ℕ → Machine → Replayed
@@ -104,18 +105,21 @@ one_more (Err y) = Err y
 abbrev pub last_step : Image → ℕ → Machine → Reads Turned
 last_step image t m =
     elim (ending_of image m) [
-        Some e ↦ Ok (record { count = 0; machine = m })
+      | Some e ↦ Ok (record { count = 0; machine = m })
       | None ↦ elim (runnable image m t) [
-              false ↦ Ok (record { count = 0; machine = m })
-            | true ↦ on_next (step image m t) (λ n. Ok (record { count = 1; machine = n })) ] ]
+        | false ↦ Ok (record { count = 0; machine = m })
+        | true ↦ on_next (step image m t) (λ n. Ok (record { count = 1; machine = n }))
+      ]
+    ]
 
 -- local steps while the next one is local, then at most one other
 abbrev pub turn : Image → ℕ → ℕ → Machine → Reads Turned
 turn image t zero m = Ok (record { count = 0; machine = m })
 turn image t (suc most) m =
     elim (next_is_local image m t && not (nat_eq m.steps m.limits.budget)) [
-        true ↦ on_next (step image m t) (λ n. one_more (turn image t most n))
-      | false ↦ last_step image t m ]
+      | true ↦ on_next (step image m t) (λ n. one_more (turn image t most n))
+      | false ↦ last_step image t m
+    ]
 
 -- ---- seeded runs; `word` gives the words of the generator
 
@@ -124,8 +128,9 @@ abbrev pub runnable_from : Image → Machine → List Thread → ℕ → List �
 runnable_from image m [] k = []
 runnable_from image m (t ∷ ts) k =
     elim (runnable_thread image m k t) [
-        true ↦ k ∷ runnable_from image m ts (suc k)
-      | false ↦ runnable_from image m ts (suc k) ]
+      | true ↦ k ∷ runnable_from image m ts (suc k)
+      | false ↦ runnable_from image m ts (suc k)
+    ]
 
 -- the thread at place (word div 256) mod their number
 abbrev pub picked : List ℕ → ℕ → ℕ
@@ -139,11 +144,12 @@ abbrev pub seeded_from : (ℕ → ℕ) → Image → ℕ → ℕ → Machine →
 seeded_from word image zero k m = Ok []
 seeded_from word image (suc fuel) k m =
     elim (ending_of image m) [
-        Some e ↦ Ok []
+      | Some e ↦ Ok []
       | None ↦ on_next (turn image (picked (runnable_from image m m.threads 0) (word k)) (1 + word k % 256) m)
-              (λ x.
-                   on_next (seeded_from word image fuel (suc k) x.machine)
-                       (λ es. Ok (logged (picked (runnable_from image m m.threads 0) (word k)) x.count es))) ]
+          (λ x.
+          on_next (seeded_from word image fuel (suc k) x.machine)
+          (λ es. Ok (logged (picked (runnable_from image m m.threads 0) (word k)) x.count es)))
+    ]
 
 -- the schedule of a run whose turns these words pick
 abbrev pub seeded_log : (ℕ → ℕ) → Image → Method → Limits → Reads (List Entry)

@@ -147,10 +147,12 @@ any_runnable image m (t ∷ ts) k = elim (runnable_thread image m k t) [ true �
 abbrev pub ending_without_stop : Image → Machine → Option Ending
 ending_without_stop image m =
     elim (all_ended m.threads) [
-        true ↦ Some ending.Done
+      | true ↦ Some ending.Done
       | false ↦ elim (nat_eq m.steps m.limits.budget) [
-              true ↦ Some ending.Steps
-            | false ↦ elim (any_runnable image m m.threads 0) [ true ↦ None | false ↦ Some ending.NoRunnable ] ] ]
+        | true ↦ Some ending.Steps
+        | false ↦ elim (any_runnable image m m.threads 0) [ true ↦ None | false ↦ Some ending.NoRunnable ]
+      ]
+    ]
 
 abbrev pub ending_by : Image → Machine → Option Ending → Option Ending
 ending_by image m (Some e) = Some e

@@ -206,14 +206,16 @@ read_args image heap regs [] ks = Ok []
 read_args image heap regs (p ∷ ps) [] = Err why.Instruction
 read_args image heap regs (p ∷ ps) (k ∷ ks) =
     elim (is_long p) [
-        true ↦ elim ks [
-              [] ↦ Err why.Instruction
-            | j ∷ js ↦ on_next (read_value image heap regs k p)
-                    (λ xs.
-                         on_next (are_neighbours k j)
-                             (λ b. on_next (read_args image heap regs ps js) (λ ys. Ok (xs ++ ys)))) ]
+      | true ↦ elim ks [
+        | [] ↦ Err why.Instruction
+        | j ∷ js ↦ on_next (read_value image heap regs k p)
+            (λ xs.
+            on_next (are_neighbours k j)
+            (λ b. on_next (read_args image heap regs ps js) (λ ys. Ok (xs ++ ys))))
+      ]
       | false ↦ on_next (read_value image heap regs k p)
-              (λ xs. on_next (read_args image heap regs ps ks) (λ ys. Ok (xs ++ ys))) ]
+          (λ xs. on_next (read_args image heap regs ps ks) (λ ys. Ok (xs ++ ys)))
+    ]
 
 -- ---- frames
 

@@ -47,7 +47,7 @@ act h op = if is_local op then local_left h op else mem h op
 abbrev pub begun : Here → ℕ → List Level → Did Left
 begun h c ls =
     pushed h (with_classes h.shared (with_state h.shared.classes c (InProgress h.thread)))
-        (level.Init (record { 0 = c }) false) ls
+    (level.Init (record { 0 = c }) false) ls
 
 -- `Init` of the class's number
 abbrev pub for_class : Here → List Level → ℕ → Ask → Did Left → Did Left
@@ -101,9 +101,9 @@ started_threads (Some t) = t ∷ []
 abbrev pub with_thread : Machine → ℕ → Thread → Left → Machine
 with_thread m t th l =
     record m {
-        threads = slice_set m.threads t th ++ started_threads l.started;
-        shared = l.shared;
-        steps = suc m.steps;
+      threads = slice_set m.threads t th ++ started_threads l.started;
+      shared = l.shared;
+      steps = suc m.steps;
     }
 
 -- only the stop and the count change
@@ -161,15 +161,15 @@ settled_flight m t th Lacking = Ok (stopped m (ending.HeapFull t))
 abbrev pub here : Image → Machine → ℕ → Method → Frame → List Level → ℕ → Here
 here image m t own f ls next =
     record {
-        image = image;
-        limits = m.limits;
-        threads = m.threads;
-        thread = t;
-        own = own;
-        shared = m.shared;
-        frame = f;
-        rest = ls;
-        next = next;
+      image = image;
+      limits = m.limits;
+      threads = m.threads;
+      thread = t;
+      own = own;
+      shared = m.shared;
+      frame = f;
+      rest = ls;
+      next = next;
     }
 
 -- a record's step sees no frame: this one stands in its place
@@ -180,9 +180,9 @@ no_frame = record { method = record { 0 = 0 }; at = 0; regs = []; result = pendi
 abbrev pub no_method : Method
 no_method =
     record {
-        id = 0;
-        info = record { class = record { 0 = 0 }; place = 0; types = []; fields = []; methods = [] };
-        def = record { name = []; proto = record { params = []; ret = None }; flags = 0; body = None };
+      id = 0;
+      info = record { class = record { 0 = 0 }; place = 0; types = []; fields = []; methods = [] };
+      def = record { name = []; proto = record { params = []; ret = None }; flags = 0; body = None };
     }
 
 -- a step at an instruction
@@ -200,8 +200,8 @@ abbrev pub step_flight : Image → Machine → ℕ → Thread → ℕ → List L
 step_flight image m t th o [] = Ok m
 step_flight image m t th o (level.Code f ∷ ls) =
     settled_flight m t th
-        (unwind_frame (here image m t no_method f ls 0) f o
-             (handler_for image m.shared.heap o (handlers_at image f.method.0 f.at)))
+    (unwind_frame (here image m t no_method f ls 0) f o
+    (handler_for image m.shared.heap o (handlers_at image f.method.0 f.at)))
 step_flight image m t th o (level.Init c r ∷ ls) = settled_flight m t th (unwind_record (here image m t no_method no_frame ls 0) c.0 o)
 
 -- a step of a thread at its top level

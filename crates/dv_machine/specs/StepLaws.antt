@@ -53,7 +53,7 @@ LongWriteKeeps =
     (image : Image) (heap : Heap) (own : Own) (xs : List Value) (ts : Types) (k lo hi : ℕ) →
     IsGood image heap own xs ts →
     IsGood image heap own (slice_set (slice_set xs k (v.Lo lo)) (suc k) (v.Hi hi))
-        (write_two ts k ty.LongLo ty.LongHi)
+    (write_two ts k ty.LongLo ty.LongHi)
 
 -- a new object, which no register of an uninitialised type holds yet
 abbrev pub NewInstanceKeeps : Type 0
@@ -62,7 +62,7 @@ NewInstanceKeeps =
     IsGood image heap own xs ts → own.made at ≡ Some c → kind_of heap o ≡ Some (kind.Object (record { 0 = c })) →
     ((j : ℕ) → IsUninit (type_at ts j) → object_of (reg_at xs j) ≢ Some o) →
     IsGood image heap own (slice_set xs k (v.Uninit at o))
-        (write_type (map (replaced at ty.Conflict) ts) k (ty.Uninit at))
+    (write_type (map (replaced at ty.Conflict) ts) k (ty.Uninit at))
 
 -- after its constructor returned, all registers that hold the object hold it initialised
 abbrev pub ConstructorKeeps : Type 0
@@ -152,8 +152,8 @@ EntryConforms =
     code_at image code.method.id ≡ Some code → length (arg_types image code.method) ≤ code.body.registers →
     IsGood image heap (own_of image this code.method) xs (arg_types image code.method) →
     Conform image heap (own_of image this code.method)
-        (entered_frame code.method xs (begins_uninitialised image code.method))
-        (entry_state image code.method code.body.registers)
+    (entered_frame code.method xs (begins_uninitialised image code.method))
+    (entry_state image code.method code.body.registers)
 
 -- a step at an instruction of this sort is fine
 abbrev pub StepsOf : (Op → Type 0) → Type 0
@@ -191,7 +191,7 @@ HeapStepsAreFine = StepsOf (λ op. (is_local op ≡ false) × (is_of_calls_or_mo
 abbrev pub ThrowerIsHandled : Type 0
 ThrowerIsHandled =
     (image : Image) (T : Typings) (m : Machine) (t : ℕ) (thread : Thread) (h : Here) (x : At) (s : RegState)
-        (after : Heap) (o : ℕ) →
+    (after : Heap) (o : ℕ) →
     IsAt image T m t thread h x s → can_throw x.op ≡ true → KeepsKinds m.shared.heap after →
     IsThrowable image after o →
     All (λ l. HandledLevel image T after (this_above image h.rest) o l) (moved_on (Some x) (level.Code h.frame ∷ []))
@@ -274,7 +274,7 @@ LeftIsWellTyped =
 abbrev pub SettledIsWellTyped : Type 0
 SettledIsWellTyped =
     (image : Image) (T : Typings) (m : Machine) (t : ℕ) (thread : Thread) (h : Here) (x : At) (s : RegState)
-        (d : Did Left) →
+    (d : Did Left) →
     IsAt image T m t thread h x s → DidFine image T m t thread x d →
     HoldsOf (WellTyped image T) (settled image m t thread (Some x) d)
 

@@ -90,11 +90,11 @@ started_on h o None = Throws named.AbstractMethod
 started_on h o (Some m) =
     if is_abstract m then Throws named.AbstractMethod
     else Go
-        (record {
-            levels = level.Code (gone h.frame h.next h.frame.regs) ∷ h.rest;
-            shared = h.shared;
-            started = Some (new_thread o m);
-        })
+    (record {
+      levels = level.Code (gone h.frame h.next h.frame.regs) ∷ h.rest;
+      shared = h.shared;
+      started = Some (new_thread o m);
+    })
 
 -- the run()V of an object's class
 abbrev pub run_method : Image → Option ℕ → Option Method
@@ -106,7 +106,7 @@ abbrev pub start_unless : Here → ℕ → Option ℕ → Did Left
 start_unless h o (Some u) = Throws named.IllegalThreadState
 start_unless h o None =
     where_true (nat_lt (length h.threads) h.limits.threads) named.OutOfMemory
-        (started_on h o (run_method h.image (class_of_kind h.image (kind_of h.shared.heap o))))
+    (started_on h o (run_method h.image (class_of_kind h.image (kind_of h.shared.heap o))))
 
 -- tested in this order: a thread of the object, the number of threads, an abstract run()V
 abbrev pub start_on : Here → ℕ → Did Left

@@ -99,7 +99,8 @@ is_named_field c name (Some y) = nat_eq y.info.class.0 c && bytes_eq y.def.name 
 -- the cell of the first such field
 abbrev pub slot_among : Image → ℕ → List ℕ → List FieldInfo → ℕ → ℕ
 slot_among image c name [] x = 0
-slot_among image c name (i ∷ is) x = elim (is_named_field c name (field_at image x)) [ true ↦ i.slot | false ↦ slot_among image c name is (suc x) ]
+slot_among image c name (i ∷ is) x =
+    elim (is_named_field c name (field_at image x)) [ true ↦ i.slot | false ↦ slot_among image c name is (suc x) ]
 
 -- the cell of a field that Throwable declares
 abbrev pub throwable_slot : Image → List ℕ → ℕ
@@ -110,11 +111,11 @@ abbrev pub wrapped : Here → ℕ → ℕ → Option Heap → Unwound
 wrapped h c o None = Lacking
 wrapped h c o (Some heap) =
     Flies (newest heap)
-        (leaves
-             (erroneous h c
-                  (with_heap h.shared
-                       (with_cell heap (newest heap) (throwable_slot h.image (codes "cause")) (v.Ref o))))
-             (below_record h c))
+    (leaves
+    (erroneous h c
+    (with_heap h.shared
+    (with_cell heap (newest heap) (throwable_slot h.image (codes "cause")) (v.Ref o))))
+    (below_record h c))
 
 -- an exception that isn't wrapped
 abbrev pub is_error : Here → ℕ → Bool

@@ -71,7 +71,7 @@ pub record IsPlaced (image : Image) (T : Typings) (heap : Heap) (this : Option �
 abbrev pub IsHandled : Image → Typings → Heap → Option ℕ → ℕ → Frame → Type 0
 IsHandled image T heap this o f =
     All (λ h. catches image heap o h.ty ≡ true → IsPlaced image T heap this (caught_frame f h.to o))
-        (handlers_at image f.method.0 f.at)
+    (handlers_at image f.method.0 f.at)
 
 -- the frame above was called by this invoke of the frame below
 pub record IsCalled (image : Image) (above : Method) (g : Frame) : Type 0 where
@@ -128,8 +128,9 @@ StackFine image T heap t flight (level.Code f ∷ ls) =
 StackFine image T heap t flight (level.Init c r ∷ ls) =
     BelowRecord image t c.0 ls ×
     elim (is_opening image t c.0 ls) [
-        true ↦ StackFine image T heap t None ls
-      | false ↦ StackFine image T heap t flight ls ]
+      | true ↦ StackFine image T heap t None ls
+      | false ↦ StackFine image T heap t flight ls
+    ]
 
 -- of the top frame of a thread with an exception in flight only the handlers are asked
 abbrev pub FlightFine : Image → Typings → Heap → ℕ → ℕ → List Level → Type 0

@@ -120,14 +120,14 @@ boot_fields = field_info 3 0 0 ∷ field_info 5 0 0 ∷ field_info 6 0 0 ∷ fie
 abbrev pub with_boot : List ClassInfo → List MethodInfo → List FieldInfo → Image
 with_boot classes methods fields =
     record {
-        classes = boot_classes ++ classes;
-        methods = boot_methods ++ methods;
-        fields = boot_fields ++ fields;
-        boot = 33;
+      classes = boot_classes ++ classes;
+      methods = boot_methods ++ methods;
+      fields = boot_fields ++ fields;
+      boot = 33;
     }
 
 -- with a class Main whose only member is a static main()V of this body, which names these types, fields and methods
 abbrev pub with_main : Body → List Ty → List ℕ → List ℕ → Image
 with_main b types fields methods =
     with_boot (class (codes "LMain;") (Some 0) [] 0 [] (method (codes "main") [] None 8 (Some b) ∷ []) [] ∷ [])
-        (info 33 0 types fields methods ∷ []) []
+    (info 33 0 types fields methods ∷ []) []

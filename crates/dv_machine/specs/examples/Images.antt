@@ -51,14 +51,14 @@ entry_over start end handlers = record { start = start; end = end; handlers = ha
 abbrev pub body_with : ℕ → List ℕ → List Try → List (List ℕ) → List Ty → Body
 body_with registers units tries strings types =
     record {
-        registers = registers;
-        units = units;
-        tries = tries;
-        strings = strings;
-        types = types;
-        fields = [];
-        methods = [];
-        raw = false;
+      registers = registers;
+      units = units;
+      tries = tries;
+      strings = strings;
+      types = types;
+      fields = [];
+      methods = [];
+      raw = false;
     }
 
 -- a body that names nothing and catches nothing
@@ -94,30 +94,30 @@ numbered (Some c) = Some (record { 0 = c })
 abbrev pub class : List ℕ → Option ℕ → List ℕ → ℕ → List FieldDef → List MethodDef → List ℕ → ClassInfo
 class name parent interfaces flags fields methods slots =
     record {
-        def = record {
-                name = name;
-                parent = None;
-                interfaces = [];
-                flags = flags;
-                fields = fields;
-                methods = methods;
-                line = 0;
-            };
-        parent = numbered parent;
-        interfaces = class_ids interfaces;
-        slots = field_ids slots;
-        table = [];
+      def = record {
+        name = name;
+        parent = None;
+        interfaces = [];
+        flags = flags;
+        fields = fields;
+        methods = methods;
+        line = 0;
+      };
+      parent = numbered parent;
+      interfaces = class_ids interfaces;
+      slots = field_ids slots;
+      table = [];
     }
 
 -- class and place, with the types, fields and methods that the body names
 abbrev pub info : ℕ → ℕ → List Ty → List ℕ → List ℕ → MethodInfo
 info c place types fields methods =
     record {
-        class = record { 0 = c };
-        place = place;
-        types = types;
-        fields = field_ids fields;
-        methods = method_ids methods;
+      class = record { 0 = c };
+      place = place;
+      types = types;
+      fields = field_ids fields;
+      methods = method_ids methods;
     }
 
 -- of a method without a body, or whose body names nothing

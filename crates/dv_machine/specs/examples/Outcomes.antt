@@ -42,9 +42,10 @@ abbrev pub worked : Image → ℕ → Machine → Reads Machine
 worked image zero m = Ok m
 worked image (suc n) m =
     elim (ending_of image m) [
-        Some e ↦ Ok m
+      | Some e ↦ Ok m
       | None ↦
-          on_next (turn image (picked (runnable_from image m m.threads 0) 0) 256 m) (λ x. worked image n x.machine) ]
+          on_next (turn image (picked (runnable_from image m m.threads 0) 0) 256 m) (λ x. worked image n x.machine)
+    ]
 
 abbrev pub outcome_of : Image → Limits → Option Method → List ℕ
 outcome_of image l None = codes "no main"

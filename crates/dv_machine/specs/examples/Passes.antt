@@ -47,14 +47,15 @@ given_handlers image n (h ∷ hs) s states = given_handlers image n hs s (given 
 abbrev pub handled : Image → ℕ → ℕ → At → RegState → States → States
 handled image n at x s states =
     elim (can_throw x.op) [
-        true ↦ given_handlers image n (handlers_at image n (thrown_at at x)) s states
-      | false ↦ states ]
+      | true ↦ given_handlers image n (handlers_at image n (thrown_at at x)) s states
+      | false ↦ states
+    ]
 
 -- an instruction that has a state passes it on
 abbrev pub passed_on : Image → Code → ℕ → Option At → Option RegState → States → States
 passed_on image code at (Some x) (Some s) states =
     handled image code.method.id at x s
-        (given_all image code.method.id (targets x) (out image code.method at x.op s) states)
+    (given_all image code.method.id (targets x) (out image code.method at x.op s) states)
 passed_on image code at x s states = states
 
 -- from the first instruction to the last
@@ -62,7 +63,7 @@ abbrev pub passed_over : Image → Code → List Tile → States → States
 passed_over image code [] states = states
 passed_over image code (t ∷ ts) states =
     passed_over image code ts
-        (passed_on image code t.at (fetch image code.method.id t.at) (state_there states t.at) states)
+    (passed_on image code t.at (fetch image code.method.id t.at) (state_there states t.at) states)
 
 -- so many times over all instructions
 abbrev pub passes : Image → Code → ℕ → States → States
