@@ -1,5 +1,5 @@
 -- The state in which a run begins.
-use Rattle.std.specs.Prelude.{ℕ, suc, Bool, true, false, ◌&&◌, List, [], ◌∷◌, ℤ, Option, Some, None, bytes_eq, codes, if◌then◌else◌}
+use Rattle.std.specs.Prelude.{ℕ, suc, Bool, true, false, ◌&&◌, List, [], ◌∷◌, ℤ, Option, Some, None, is_none, bytes_eq, codes, if◌then◌else◌}
 use Rattle.dv_defs.specs.declared.flags.Flag.TheVariants as flag
 use Rattle.dv_defs.specs.Flags.{has_flag}
 use Rattle.dv_defs.specs.Names.{string_name, thread_name, system_name, stream_name}
@@ -145,7 +145,7 @@ opening_heap image m l =
 -- none of these classes declares an initialiser
 abbrev pub none_initialised : Image → List ℕ → Bool
 none_initialised image [] = true
-none_initialised image (c ∷ cs) = elim (initialiser image c) [ Some m ↦ false | None ↦ none_initialised image cs ]
+none_initialised image (c ∷ cs) = is_none (initialiser image c) && none_initialised image cs
 
 -- a class is born initialised where neither it nor a superclass declares an initialiser
 abbrev pub is_born : Image → ℕ → Bool

@@ -1,5 +1,5 @@
 -- Which threads are runnable, and how a run stands.
-use Rattle.std.specs.Prelude.{is_none, ℕ, suc, Bool, true, false, ◌&&◌, List, [], ◌∷◌, Option, Some, None, slice_get, nat_eq, if◌then◌else◌}
+use Rattle.std.specs.Prelude.{is_none, ℕ, suc, Bool, true, false, ◌&&◌, not, List, [], ◌∷◌, Option, Some, None, slice_get, nat_eq, if◌then◌else◌}
 use Rattle.dv_defs.specs.declared.image.Image.{Image}
 use Rattle.dv_defs.specs.declared.run.Value.{Value}
 use Rattle.dv_defs.specs.declared.run.Value.TheVariants as v
@@ -136,7 +136,7 @@ runnable image m t = runnable_one image m t (slice_get m.threads t)
 -- each thread has returned or died
 abbrev pub all_ended : List Thread → Bool
 all_ended [] = true
-all_ended (t ∷ ts) = elim (is_living (Some t)) [ true ↦ false | false ↦ all_ended ts ]
+all_ended (t ∷ ts) = not (is_living (Some t)) && all_ended ts
 
 -- some thread is runnable, from the k-th on
 abbrev pub any_runnable : Image → Machine → List Thread → ℕ → Bool
