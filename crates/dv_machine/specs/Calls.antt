@@ -248,7 +248,7 @@ abbrev pub still_pending : Value → Bool → Bool
 still_pending (v.UninitThis o) b = false
 still_pending x b = b
 
--- every register that holds the object
+-- in every register that holds the object
 abbrev pub initialised_in : Value → Option ℕ → List Value → List Value
 initialised_in x None regs = regs
 initialised_in x (Some o) regs = map (initialised o) regs

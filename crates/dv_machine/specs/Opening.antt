@@ -10,7 +10,7 @@ use Rattle.dv_defs.specs.Numbers.{lo_of, hi_of}
 use Rattle.dv_defs.specs.Heap.{Heap, Cells, class_cells, fresh_cells, grown, newest, intern, Got, with_static}
 use Rattle.dv_defs.specs.Classes.{Fresh, InProgress, Ready, Classes, with_state}
 use Rattle.dv_machine.specs.Local.{const_value}
-use Rattle.dv_machine.specs.State.{Machine}
+use Rattle.dv_machine.specs.State.{Thread, Machine}
 use Rattle.dv_machine.specs.Calls.{entered_frame}
 use Rattle.dv_machine.specs.Unwinding.{number_named}
 use Rattle.dv_defs.specs.declared.names.Base.TheVariants as base
@@ -45,11 +45,11 @@ object_made image heap name =
     made heap (kind.Object (record { 0 = number_named image name }))
     (fresh_cells (class_cells image (number_named image name)))
 
--- the cells of a static field before strings are made
+-- a number, as a static field of this type keeps it
 abbrev pub number_cells : Ty → ℤ → Cells
 number_cells t n = if is_long t then v.Lo (lo_of n) ∷ v.Hi (hi_of n) ∷ [] else const_value n ∷ []
 
--- the cells of a static field; an instance field has none
+-- the cells of a static field before strings are made; an instance field has none
 abbrev pub first_cells : FieldDef → Cells
 first_cells x = if has_flag x.flags flag.Static then by_init x.init else []
   where
@@ -116,13 +116,13 @@ empty_heap image =
       limit = None;
     }
 
-abbrev pub is_filled : List Ty → Bool
-is_filled [] = false
-is_filled (p ∷ ps) = true
+abbrev pub takes_any : List Ty → Bool
+takes_any [] = false
+takes_any (p ∷ ps) = true
 
 -- main takes an array of strings, or nothing
 abbrev pub takes_array : Method → Bool
-takes_array m = is_filled m.def.proto.params
+takes_array m = takes_any m.def.proto.params
 
 -- main's array, where it takes one
 abbrev pub array_made : Method → Heap → Heap
@@ -170,15 +170,15 @@ abbrev pub opening_states : Method → Classes → Bool → Classes
 opening_states m cs true = cs
 opening_states m cs false = with_state cs m.info.class.0 (InProgress 0)
 
+-- thread 0, at main, with object 2
+abbrev pub main_thread : Method → Heap → Bool → Thread
+main_thread m heap born =
+    record { levels = opening_levels m (entered_frame m (main_args m heap) false) born; end = end.Living; object = 2 }
+
 abbrev pub opened : Image → Limits → Method → Heap → Bool → Machine
 opened image l m heap born =
     record {
-      threads = record {
-        levels = opening_levels m (entered_frame m (main_args m heap) false) born;
-        end = end.Living;
-        object = 2;
-      } ∷
-          [];
+      threads = main_thread m heap born ∷ [];
       shared = record {
         heap = heap;
         classes = opening_states m (first_states image image.classes 0) born;

@@ -49,7 +49,7 @@ begun h c ls =
     pushed h (with_classes h.shared (with_state h.shared.classes c (InProgress h.thread)))
     (level.Init (record { 0 = c }) false) ls
 
--- `Init` of the class's number
+-- a class that isn't ready is begun, waited for or erroneous
 abbrev pub for_class : Here → List Level → ℕ → Ask → Did Left → Did Left
 for_class h ls c ask.Go go = go
 for_class h ls c ask.Begin go = begun h c ls
@@ -92,16 +92,11 @@ record_step h c false = look_at h c (prior h.image c)
 
 -- ---- what becomes of an outcome
 
--- none, or the one that a step started
-abbrev pub started_threads : Option Thread → List Thread
-started_threads None = []
-started_threads (Some t) = t ∷ []
-
 -- one thread's step has been done
 abbrev pub with_thread : Machine → ℕ → Thread → Left → Machine
 with_thread m t th l =
     record m {
-      threads = slice_set m.threads t th ++ started_threads l.started;
+      threads = slice_set m.threads t th ++ option_to_list l.started;
       shared = l.shared;
       steps = suc m.steps;
     }

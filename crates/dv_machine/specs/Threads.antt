@@ -61,12 +61,11 @@ notify_on h o = holding h o (λ n. goes h (with_monitors h.shared (notified_one 
 abbrev pub notify_all_on : Here → ℕ → Did Left
 notify_all_on h o = holding h o (λ n. goes h (with_monitors h.shared (notified_all h.shared.monitors o)))
 
--- the thread of a Thread object, if it has one
 abbrev pub thread_from : List Thread → ℕ → ℕ → Option ℕ
 thread_from [] k o = None
 thread_from (t ∷ ts) k o = elim (nat_eq t.object o) [ true ↦ Some k | false ↦ thread_from ts (suc k) o ]
 
--- a thread is known by its Thread object
+-- the thread of a Thread object, if it has one
 abbrev pub thread_with : List Thread → ℕ → Option ℕ
 thread_with ts o = thread_from ts 0 o
 
