@@ -137,10 +137,10 @@ pub record HasBoot (image : Image) : Type 0 where
   pub no_fields :
       (x : ℕ) (f : Field) → field_at image x ≡ Some f → is_static_field f ≡ false →
       (bytes_eq (name_at image f.info.class.0) object_name || is_string_or_class (name_at image f.info.class.0)) ≡
-          false
+      false
   pub cause :
       type_at (class_cells image (number_named image (exception_name named.InInitializer)))
-          (throwable_slot image (codes "cause")) ≡ ty.Class (of_class throwable_name)
+      (throwable_slot image (codes "cause")) ≡ ty.Class (of_class throwable_name)
   -- System.out, the one static field that the opening fills
   pub out :
       (x : ℕ) (f : Field) → field_at image x ≡ Some f → name_at image f.info.class.0 ≡ system_name →

@@ -40,6 +40,7 @@ pub data Landing : Type 0 where
 abbrev pub unless_abstract : Method → Landing
 unless_abstract m = if is_abstract m then Lacks named.AbstractMethod else Lands m
 
+-- what a look-up gives
 abbrev pub found : Option Method → Landing
 found None = Lacks named.AbstractMethod
 found (Some m) = unless_abstract m
@@ -51,10 +52,12 @@ class_of_kind image (Some (kind.Str s)) = class_named image string_name
 class_of_kind image (Some (kind.ClassOf t)) = class_named image class_name
 class_of_kind image k = class_named image object_name
 
+-- the method of that name and prototype, from a class upwards
 abbrev pub nearest_from : Image → Option ℕ → Method → Landing
 nearest_from image None g = Lacks named.AbstractMethod
 nearest_from image (Some c) g = found (nearest image c g.def.name g.def.proto)
 
+-- the object is of a class that implements the method's interface
 abbrev pub implements_it : Image → Heap → Method → ℕ → Bool
 implements_it image heap g o = instance image (type_of image heap o) (own_type image g)
 
@@ -70,6 +73,7 @@ dispatch image heap own Call.Interface g o =
 
 -- ---- the natives
 
+-- how a native is declared
 pub record Signature : Type 0 where
   pub class : List ℕ
   pub name : List ℕ
@@ -105,6 +109,7 @@ signature native.OfChars = signed text_name (codes "ofChars") true (chars_type �
 signature native.Print = signed console_name (codes "print") true (string_type ∷ []) None
 signature native.Println = signed console_name (codes "println") true (int_type ∷ []) None
 
+-- no two of them have one class and name
 abbrev pub all_natives : List Native
 all_natives =
     native.Wait ∷ native.Notify ∷ native.NotifyAll ∷ native.Start ∷ native.Join ∷ native.CurrentThread ∷
@@ -114,6 +119,7 @@ all_natives =
 abbrev pub is_signed : List ℕ → List ℕ → Signature → Bool
 is_signed class name x = bytes_eq x.class class && bytes_eq x.name name
 
+-- the one that is declared by a class under a name
 abbrev pub native_among : List Native → List ℕ → List ℕ → Option Native
 native_among [] class name = None
 native_among (x ∷ xs) class name = elim (is_signed class name (signature x)) [ true ↦ Some x | false ↦ native_among xs class name ]
@@ -128,10 +134,12 @@ object_of (v.Uninit a o) = Some o
 object_of (v.UninitThis o) = Some o
 object_of x = None
 
+-- a constructor is called on an object that isn't initialised
 abbrev pub where_fresh : Bool → ℕ → Reads ℕ
 where_fresh true o = Ok o
 where_fresh false o = Err why.Uninitialised
 
+-- a new object of just this class
 abbrev pub is_made_of : Option Kind → ℕ → Bool
 is_made_of (Some (kind.Object c)) d = nat_eq c.0 d
 is_made_of k d = false
@@ -146,6 +154,7 @@ abbrev pub registers_in : Option Body → ℕ
 registers_in None = 0
 registers_in (Some b) = b.registers
 
+-- a method without a body has none
 abbrev pub registers_of : Method → ℕ
 registers_of m = registers_in m.def.body
 
@@ -153,12 +162,12 @@ registers_of m = registers_in m.def.body
 abbrev pub entered_frame : Method → List Value → Bool → Frame
 entered_frame m xs pending_this =
     record {
-        method = record { 0 = m.id };
-        at = 0;
-        regs = replicate (registers_of m - length xs) v.Undef ++ xs;
-        result = pending.None;
-        caught = None;
-        this_pending = pending_this;
+      method = record { 0 = m.id };
+      at = 0;
+      regs = replicate (registers_of m - length xs) v.Undef ++ xs;
+      result = pending.None;
+      caught = None;
+      this_pending = pending_this;
     }
 
 -- a call's frame is pushed on the caller's, which stays at its invoke
@@ -188,6 +197,7 @@ abbrev pub read_super : Here → Call → Value → Reads ℕ
 read_super h Call.Super x = read_ref h.image h.shared.heap (own_type h.image h.own) x
 read_super h c x = Ok 0
 
+-- a call on this object, which isn't null
 abbrev pub call_object : Here → (Native → List Value → Did Left) → Call → Method → Value → List Value → ℕ → Did Left
 call_object h native c g x xs o = landed h native (dispatch h.image h.shared.heap h.own c g o) (x ∷ xs)
 
@@ -195,31 +205,35 @@ call_object h native c g x xs o = landed h native (dispatch h.image h.shared.hea
 abbrev pub call_instance : Here → (Native → List Value → Did Left) → Call → Method → Value → List ℕ → Did Left
 call_instance h native c g x ks =
     reading (read_ref h.image h.shared.heap (own_type h.image g) x)
-        (λ o.
-             reading (read_super h c x)
-                 (λ p.
-                      reading (read_args h.image h.shared.heap h.frame.regs g.def.proto.params ks)
-                          (λ xs. on_object (call_object h native c g x xs) o)))
+    (λ o.
+    reading (read_super h c x)
+    (λ p.
+    reading (read_args h.image h.shared.heap h.frame.regs g.def.proto.params ks)
+    (λ xs. on_object (call_object h native c g x xs) o)))
 
+-- the receiver, then the arguments
 abbrev pub call_constructor : Here → Method → Value → List ℕ → Did Left
 call_constructor h g x ks =
     reading (read_new h.image h.shared.heap h.own g x)
-        (λ o. reading (read_args h.image h.shared.heap h.frame.regs g.def.proto.params ks) (construct h g o))
+    (λ o. reading (read_args h.image h.shared.heap h.frame.regs g.def.proto.params ks) (construct h g o))
 
+-- the first argument register holds the receiver
 abbrev pub with_receiver : Here → (Native → List Value → Did Left) → Call → Method → List ℕ → Did Left
 with_receiver h native c g [] = IsStuck why.Instruction
 with_receiver h native c g (k ∷ ks) =
     elim (is_constructor g) [
-        true ↦ call_constructor h g (reg_at h.frame.regs k) ks
-      | false ↦ call_instance h native c g (reg_at h.frame.regs k) ks ]
+      | true ↦ call_constructor h g (reg_at h.frame.regs k) ks
+      | false ↦ call_instance h native c g (reg_at h.frame.regs k) ks
+    ]
 
 -- an invoke; the second argument is what a native does
 abbrev pub invoke : Here → (Native → List Value → Did Left) → Call → List ℕ → Method → Did Left
 invoke h native c ks g =
     elim (is_static g) [
-        true ↦ reading (read_args h.image h.shared.heap h.frame.regs g.def.proto.params ks)
-              (landed h native (unless_abstract g))
-      | false ↦ with_receiver h native c g ks ]
+      | true ↦ reading (read_args h.image h.shared.heap h.frame.regs g.def.proto.params ks)
+          (landed h native (unless_abstract g))
+      | false ↦ with_receiver h native c g ks
+    ]
 
 -- ---- returns
 
@@ -229,10 +243,12 @@ initialised o (v.Uninit a p) = if nat_eq o p then v.Ref p else v.Uninit a p
 initialised o (v.UninitThis p) = if nat_eq o p then v.Ref p else v.UninitThis p
 initialised o x = x
 
+-- once a constructor was called on `this` it isn't pending any more
 abbrev pub still_pending : Value → Bool → Bool
 still_pending (v.UninitThis o) b = false
 still_pending x b = b
 
+-- in every register that holds the object
 abbrev pub initialised_in : Value → Option ℕ → List Value → List Value
 initialised_in x None regs = regs
 initialised_in x (Some o) regs = map (initialised o) regs
@@ -241,11 +257,11 @@ initialised_in x (Some o) regs = map (initialised o) regs
 abbrev pub constructed : Frame → ℕ → Pending → Value → Frame
 constructed g next p x =
     record g {
-        at = next;
-        regs = initialised_in x (object_of x) g.regs;
-        result = p;
-        caught = None;
-        this_pending = still_pending x g.this_pending;
+      at = next;
+      regs = initialised_in x (object_of x) g.regs;
+      result = p;
+      caught = None;
+      this_pending = still_pending x g.this_pending;
     }
 
 -- the register of an invoke's receiver
@@ -253,6 +269,7 @@ abbrev pub receiver_of : Op → Option ℕ
 receiver_of (Invoke c (k ∷ ks) g) = if is_static g then None else Some k
 receiver_of op = None
 
+-- the receiver stands in this register; an invoke without one made nothing
 abbrev pub constructed_at : Frame → ℕ → Pending → Option ℕ → Frame
 constructed_at g next p None = with_result g next p
 constructed_at g next p (Some k) = constructed g next p (reg_at g.regs k)
@@ -262,6 +279,7 @@ abbrev pub returned : Bool → Frame → At → Pending → Frame
 returned false g x p = with_result g x.next p
 returned true g x p = constructed_at g x.next p (receiver_of x.op)
 
+-- the caller goes on after its invoke
 abbrev pub back_to : Here → Pending → Frame → List Level → Option At → Did Left
 back_to h p g ls None = IsStuck why.Instruction
 back_to h p g ls (Some x) = left h h.shared (level.Code (returned (is_constructor h.own) g x p) ∷ ls)
@@ -279,11 +297,13 @@ back h p = back_on h p h.rest
 abbrev pub unless_pending : Here → Did Left → Did Left
 unless_pending h go = if is_constructor h.own && h.frame.this_pending then IsStuck why.Uninitialised else go
 
+-- the words of a result, none to two
 abbrev pub pending_words : List Value → Pending
 pending_words (v.Lo lo ∷ v.Hi hi ∷ xs) = pending.Two lo hi
 pending_words (x ∷ xs) = pending.One x
 pending_words [] = pending.None
 
+-- the value of a register as the method's result
 abbrev pub return_value : Here → ℕ → Option Ty → Did Left
 return_value h a None = IsStuck why.Result
 return_value h a (Some t) = reading (read_value h.image h.shared.heap h.frame.regs a t) (λ xs. back h (pending_words xs))

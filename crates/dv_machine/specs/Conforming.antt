@@ -31,6 +31,7 @@ pub record Own : Type 0 where
   pub class : Ty
   pub made : ℕ → Option ℕ
 
+-- the classes whose objects are strings and Class objects
 abbrev pub is_string_or_class : List ℕ → Bool
 is_string_or_class name = bytes_eq name string_name || bytes_eq name class_name
 
@@ -40,6 +41,7 @@ is_proper image (kind.Object c) = not (is_string_or_class (name_at image c.0))
 is_proper image (kind.Array t) = is_array t
 is_proper image k = true
 
+-- an object of the heap, as the image lets one be
 pub record IsObject (image : Image) (heap : Heap) (o : ℕ) : Type 0 where
   pub kind : Kind
   pub has_kind : kind_of heap o ≡ Some kind
@@ -87,9 +89,11 @@ Conforms image heap own (v.Uninit a o) (ty.Uninit b) = (a ≡ b) × IsMade image
 Conforms image heap own (v.UninitThis o) ty.UninitThis = IsThis image heap own o
 Conforms image heap own x t = ⊥
 
+-- register by register
 abbrev pub RegsConform : Image → Heap → Own → List Value → Types → Type 0
 RegsConform image heap own xs ts = (k : ℕ) → Conforms image heap own (reg_at xs k) (type_at ts k)
 
+-- the types of uninitialised objects
 abbrev pub IsUninit : RegType → Type 0
 IsUninit (ty.Uninit a) = Unit {0}
 IsUninit ty.UninitThis = Unit {0}
@@ -107,12 +111,14 @@ pub record IsGood (image : Image) (heap : Heap) (own : Own) (xs : List Value) (t
   pub count : length xs ≡ length ts
   pub apart : AreApart xs ts
 
+-- a pending result conforms to what the verifier knows of it
 abbrev pub ResultConforms : Image → Heap → Own → Pending → PendingType → Type 0
 ResultConforms image heap own p pend.None = Unit {0}
 ResultConforms image heap own (pending.One x) (pend.One t) = Conforms image heap own x t
 ResultConforms image heap own (pending.Two lo hi) pend.Long = Unit {0}
 ResultConforms image heap own p t = ⊥
 
+-- so does the exception that a handler was entered with
 abbrev pub CaughtConforms : Image → Heap → Option ℕ → Option Ty → Type 0
 CaughtConforms image heap o None = Unit {0}
 CaughtConforms image heap (Some o) (Some t) = IsOf image heap o t
@@ -127,10 +133,12 @@ pub record Conform (image : Image) (heap : Heap) (own : Own) (f : Frame) (s : Re
 
 -- ---- the references of a frame
 
+-- a reference is null or to an object
 abbrev pub RefFine : Image → Heap → Value → Type 0
 RefFine image heap (v.Ref o) = IsThere image heap o
 RefFine image heap x = Unit {0}
 
+-- so is one that is a pending result
 abbrev pub ResultFine : Image → Heap → Pending → Type 0
 ResultFine image heap (pending.One x) = RefFine image heap x
 ResultFine image heap p = Unit {0}

@@ -44,6 +44,7 @@ abbrev pub name_text : Option (List ℕ) → List ℕ
 name_text None = []
 name_text (Some name) = java_text name
 
+-- the Java name of a type's class, without dimensions
 abbrev pub type_text : Ty → List ℕ
 type_text t = name_text (class_in t.base)
 
@@ -58,6 +59,7 @@ uncaught image heap (t ∷ ts) k = of_end t.end ++ uncaught image heap ts (suc k
         newline
     of_end e = []
 
+-- by what a thread is held up
 abbrev pub blocked_text : Image → Blocked → List ℕ
 blocked_text image blocked.Monitor = codes " monitor"
 blocked_text image blocked.Wait = codes " wait"
@@ -73,6 +75,7 @@ abbrev pub blocked_lines : Image → Machine → List Thread → ℕ → List �
 blocked_lines image m [] k = []
 blocked_lines image m (t ∷ ts) k = blocked_line image k (blocked_thread image m k t) ++ blocked_lines image m ts (suc k)
 
+-- the line of the ending, after those of threads that are held up
 abbrev pub ending_lines : Image → Machine → Option Ending → List ℕ
 ending_lines image m None = []
 ending_lines image m (Some ending.Done) = codes "#end done" ++ newline
@@ -82,5 +85,6 @@ ending_lines image m (Some ending.NoRunnable) = blocked_lines image m m.threads 
 ending_lines image m (Some ending.Steps) = codes "#end steps" ++ newline
 ending_lines image m (Some ending.Output) = codes "#end output" ++ newline
 
+-- the program's bytes, then the lines of threads, then the ending
 abbrev pub final_text : Image → Machine → List ℕ
 final_text image m = closed m.shared.output ++ uncaught image m.shared.heap m.threads 0 ++ ending_lines image m (ending_of image m)

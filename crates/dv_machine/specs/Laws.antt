@@ -32,9 +32,11 @@ DecodingInvertsSpelling = (us : List ℕ) → AreUnits us → (x : Sized) → (i
 
 -- ---- order and join
 
+-- subtype is an order, and what else the laws use of types holds
 abbrev pub TypesAreOrdered : Type 0
 TypesAreOrdered = (image : Image) → IsHierarchy image → IsOrder image
 
+-- states are ordered as their types are
 pub record IsStateOrder (image : Image) : Type 0 where
   pub same : (s : RegState) → IsBelow image s s
   pub trans : (s t u : RegState) → IsBelow image s t → IsBelow image t u → IsBelow image s u
@@ -47,6 +49,7 @@ abbrev pub refers : RegType → Bool
 refers (ty.Class t) = is_reference t
 refers t = true
 
+-- a state names no primitive type where a class or an array is due
 pub record RefersRightly (s : RegState) : Type 0 where
   pub regs : All (λ t. refers t ≡ true) s.regs
   pub caught : IfSome s.caught (λ t. is_reference t ≡ true)
@@ -64,11 +67,13 @@ JoinIsLeast =
 
 -- ---- transfer and demand
 
+-- a state above leads to a state above
 abbrev pub TransferIsMonotone : Type 0
 TransferIsMonotone =
     (image : Image) → IsHierarchy image → (m : Method) (at : ℕ) (op : Op) (s t : RegState) → IsBelow image s t →
     IsBelow image (out image m at op s) (out image m at op t)
 
+-- what is satisfied with a state is satisfied with each below it
 abbrev pub DemandIsAntitone : Type 0
 DemandIsAntitone =
     (image : Image) → IsHierarchy image → (m : Method) (x : At) (s t : RegState) → IsBelow image s t →
@@ -80,5 +85,6 @@ DemandIsAntitone =
 abbrev pub AcceptanceGivesRecords : Type 0
 AcceptanceGivesRecords = (image : Image) → Accepts image → (T : Typings) × IsTyped image T
 
+-- in any image
 abbrev pub LookUpsFind : Type 0
 LookUpsFind = (image : Image) → FindsRightly image

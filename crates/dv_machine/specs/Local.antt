@@ -29,14 +29,17 @@ pending_object (pending.One v.Zero) = Ok v.Zero
 pending_object (pending.One (v.Ref o)) = Ok (v.Ref o)
 pending_object p = Err why.Result
 
+-- both words of a pending long
 abbrev pub put_pending_two : Frame → ℕ → ℕ → Pending → Reads Frame
 put_pending_two f next a (pending.Two lo hi) = Ok (put_two f next a lo hi)
 put_pending_two f next a p = Err why.Result
 
+-- the exception that a handler was entered with
 abbrev pub caught_of : Option ℕ → Reads ℕ
 caught_of None = Err why.Exception
 caught_of (Some o) = Ok o
 
+-- the second operand of an int operation
 abbrev pub read_arg : List Value → Arg → Reads ℤ
 read_arg regs (Reg r) = read_int (reg_at regs r)
 read_arg regs (Lit n) = Ok n
@@ -47,6 +50,7 @@ pub data Word : Type 0 where
   Number : (n : ℤ) → Word
   Object : (o : ℕ) → Word
 
+-- an uninitialised object and a half of a long aren't compared
 abbrev pub read_word : Value → Reads Word
 read_word v.Zero = Ok Nil
 read_word (v.Num n) = Ok (Number n)
@@ -65,14 +69,17 @@ compare_words t (Object o) Nil = Ok (compare t (pos o) (pos 0))
 compare_words t (Object o) (Number m) = Err why.Reference
 compare_words t (Object o) (Object p) = Ok (compare t (pos o) (pos p))
 
+-- equality compares numbers or references, the other tests numbers alone
 abbrev pub test_both : Test → Value → Value → Reads Bool
 test_both t x y =
     if is_equality t then on_next (read_word x) (λ a. on_next (read_word y) (λ b. compare_words t a b))
     else on_next (read_int x) (λ a. on_next (read_int y) (λ b. Ok (compare t a b)))
 
+-- against 0, or null
 abbrev pub test_zero : Test → Value → Reads Bool
 test_zero t x = test_both t x v.Zero
 
+-- a branch is taken or not
 abbrev pub branched : Frame → ℕ → ℕ → Bool → Frame
 branched f next to true = gone f to f.regs
 branched f next to false = gone f next f.regs
@@ -100,15 +107,15 @@ local (IntToLong a b) f next = on_next (read_int (reg_at f.regs b)) (λ x. Ok (p
 local (LongToInt a b) f next = on_next (read_two f.regs b) (λ p. Ok (put f next a (v.Num (from32 p.lo))))
 local (IntOp o a b c) f next =
     on_next (read_int (reg_at f.regs b))
-        (λ x. on_next (read_arg f.regs c) (λ y. Ok (put f next a (v.Num (operate32 o x y)))))
+    (λ x. on_next (read_arg f.regs c) (λ y. Ok (put f next a (v.Num (operate32 o x y)))))
 local (LongOp o a b c) f next =
     on_next (read_long f.regs b) (λ x. on_next (read_long f.regs c) (λ y. Ok (put_long f next a (operate64 o x y))))
 local (LongShift o a b c) f next =
     on_next (read_long f.regs b)
-        (λ x. on_next (read_int (reg_at f.regs c)) (λ y. Ok (put_long f next a (operate64 o x y))))
+    (λ x. on_next (read_int (reg_at f.regs c)) (λ y. Ok (put_long f next a (operate64 o x y))))
 local (CompareLong a b c) f next =
     on_next (read_long f.regs b)
-        (λ x. on_next (read_long f.regs c) (λ y. Ok (put f next a (v.Num (compare_long x y)))))
+    (λ x. on_next (read_long f.regs c) (λ y. Ok (put f next a (v.Num (compare_long x y)))))
 local (Goto to) f next = Ok (gone f to f.regs)
 local (IfBoth t a b to) f next = on_next (test_both t (reg_at f.regs a) (reg_at f.regs b)) (λ c. Ok (branched f next to c))
 local (IfZero t a to) f next = on_next (test_zero t (reg_at f.regs a)) (λ c. Ok (branched f next to c))

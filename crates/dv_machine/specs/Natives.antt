@@ -26,6 +26,7 @@ abbrev pub object_number : Value → ℕ
 object_number (v.Ref o) = o
 object_number x = 0
 
+-- a half of a long
 abbrev pub half_of : Value → ℕ
 half_of (v.Lo n) = n
 half_of (v.Hi n) = n
@@ -35,15 +36,19 @@ half_of x = 0
 abbrev pub arg : List Value → ℕ → Value
 arg xs k = slice_index_or xs k v.Undef
 
+-- the native is done, with this result
 abbrev pub gives : Here → Value → Did Left
 gives h x = onward h h.shared (with_result h.frame h.next (pending.One x))
 
+-- with a new object as its result
 abbrev pub gives_object : Here → Heap → Did Left
 gives_object h heap = onward h (with_heap h.shared heap) (with_result h.frame h.next (pending.One (v.Ref (newest heap))))
 
+-- with a new string as its result, where there is room
 abbrev pub new_text : Here → List ℕ → Did Left
 new_text h s = where_room (alloc_string h.shared.heap s) (gives_object h)
 
+-- a unit of a text, which the index may miss
 abbrev pub gives_char : Here → Option ℕ → Did Left
 gives_char h None = Throws named.IndexOutOfBounds
 gives_char h (Some c) = gives h (v.Num (pos c))
@@ -52,10 +57,12 @@ abbrev pub char_at : Here → List ℕ → ℤ → Did Left
 char_at h s (negsuc n) = Throws named.IndexOutOfBounds
 char_at h s (pos k) = gives_char h (slice_get s k)
 
+-- a string with the same units; null and other objects have none
 abbrev pub same_text : List ℕ → Option Kind → Bool
 same_text s (Some (kind.Str t)) = bytes_eq s t
 same_text s k = false
 
+-- the units of chars
 abbrev pub units_in : List Value → List ℕ
 units_in [] = []
 units_in (x ∷ xs) = bits32 (number_of x) % 65536 ∷ units_in xs
@@ -64,7 +71,7 @@ units_in (x ∷ xs) = bits32 (number_of x) % 65536 ∷ units_in xs
 abbrev pub some_chars : Here → ℕ → ℤ → ℤ → Did Left
 some_chars h o (pos start) (pos count) =
     where_true (nat_le (start + count) (length_of h.shared.heap o)) named.IndexOutOfBounds
-        (new_text h (units_in (take count (drop start (cells_at h.shared.heap o)))))
+    (new_text h (units_in (take count (drop start (cells_at h.shared.heap o)))))
 some_chars h o start count = Throws named.IndexOutOfBounds
 
 -- one printing step, whole or not at all
@@ -85,12 +92,12 @@ native_step h native.Length xs = gives h (v.Num (pos (length (text_of h.shared.h
 native_step h native.CharAt xs = char_at h (text_of h.shared.heap (object_number (arg xs 0))) (number_of (arg xs 1))
 native_step h native.Equals xs =
     gives h
-        (truth
-             (same_text (text_of h.shared.heap (object_number (arg xs 0)))
-                  (kind_of h.shared.heap (object_number (arg xs 1)))))
+    (truth
+    (same_text (text_of h.shared.heap (object_number (arg xs 0)))
+    (kind_of h.shared.heap (object_number (arg xs 1)))))
 native_step h native.Concat xs =
     on_object (λ o. new_text h (text_of h.shared.heap (object_number (arg xs 0)) ++ text_of h.shared.heap o))
-        (object_number (arg xs 1))
+    (object_number (arg xs 1))
 native_step h native.OfLong xs = new_text h (signed_decimal (long_of (half_of (arg xs 0)) (half_of (arg xs 1))))
 native_step h native.OfChars xs = on_object (λ o. some_chars h o (number_of (arg xs 1)) (number_of (arg xs 2))) (object_number (arg xs 0))
 native_step h native.Print xs = on_object (λ o. printed h (utf8 (text_of h.shared.heap o))) (object_number (arg xs 0))

@@ -24,6 +24,7 @@ pub data Replayed : Type 0 where
   PastEnd : (entry : ℕ) → Replayed
   Wrong : (why : Why) → Replayed
 
+-- where nothing was refused the replay goes on
 abbrev pub on_stands : Replayed → (Machine → Replayed) → Replayed
 on_stands (Stands m) go = go m
 on_stands r go = r
@@ -32,26 +33,33 @@ abbrev pub stands_on : Reads Machine → Replayed
 stands_on (Ok m) = Stands m
 stands_on (Err y) = Wrong y
 
+-- a step of the k-th entry: no ending stands, and its thread is runnable
 abbrev pub one_step : Image → ℕ → ℕ → Machine → Replayed
 one_step image k t m =
     elim (ending_of image m) [
-        Some e ↦ PastEnd k
-      | None ↦ elim (runnable image m t) [ true ↦ stands_on (step image m t) | false ↦ NotRunnable k ] ]
+      | Some e ↦ PastEnd k
+      | None ↦ elim (runnable image m t) [ true ↦ stands_on (step image m t) | false ↦ NotRunnable k ]
+    ]
 
+-- the steps of the k-th entry
 abbrev pub steps_of : Image → ℕ → ℕ → ℕ → Machine → Replayed
 steps_of image k t zero m = Stands m
 steps_of image k t (suc n) m = on_stands (one_step image k t m) (steps_of image k t n)
 
+-- the entries one after another, from the k-th on
 abbrev pub replay_from : Image → ℕ → List Entry → Machine → Replayed
 replay_from image k [] m = Stands m
 replay_from image k (e ∷ es) m = on_stands (steps_of image k e.thread e.steps m) (replay_from image (suc k) es)
 
+-- a schedule from the opening on
 abbrev pub replay : Image → Method → Limits → List Entry → Replayed
 replay image main l log = replay_from image 0 log (opening image main l)
 
+-- a schedule is legal where no entry is refused and the machine isn't stuck
 abbrev pub IsLegal : Image → Method → Limits → List Entry → Type 0
 IsLegal image main l log = (m : Machine) × (replay image main l log ≡ Stands m)
 
+-- legal, with an ending at its end
 abbrev pub IsFinished : Image → Method → Limits → List Entry → Type 0
 IsFinished image main l log = (m : Machine) × (e : Ending) × (replay image main l log ≡ Stands m) × (ending_of image m ≡ Some e)
 
@@ -66,6 +74,7 @@ pub record Turned : Type 0 where
   pub count : ℕ
   pub machine : Machine
 
+-- an instruction that touches the frame alone
 abbrev pub is_local_at : Option At → Bool
 is_local_at None = false
 is_local_at (Some x) = is_local x.op
@@ -74,6 +83,7 @@ abbrev pub is_local_level : Image → List Level → Bool
 is_local_level image (level.Code f ∷ ls) = is_local_at (fetch image f.method.0 f.at)
 is_local_level image ls = false
 
+-- living, with nothing in flight
 abbrev pub is_running : End → Bool
 is_running end.Living = true
 is_running e = false
@@ -86,34 +96,41 @@ thread_is_local image (Some th) = is_running th.end && is_local_level image th.l
 abbrev pub next_is_local : Image → Machine → ℕ → Bool
 next_is_local image m t = thread_is_local image (slice_get m.threads t)
 
+-- one step more
 abbrev pub one_more : Reads Turned → Reads Turned
 one_more (Ok x) = Ok (record { count = suc x.count; machine = x.machine })
 one_more (Err y) = Err y
 
+-- a step of any kind, where the thread may do one
 abbrev pub last_step : Image → ℕ → Machine → Reads Turned
 last_step image t m =
     elim (ending_of image m) [
-        Some e ↦ Ok (record { count = 0; machine = m })
+      | Some e ↦ Ok (record { count = 0; machine = m })
       | None ↦ elim (runnable image m t) [
-              false ↦ Ok (record { count = 0; machine = m })
-            | true ↦ on_next (step image m t) (λ n. Ok (record { count = 1; machine = n })) ] ]
+        | false ↦ Ok (record { count = 0; machine = m })
+        | true ↦ on_next (step image m t) (λ n. Ok (record { count = 1; machine = n }))
+      ]
+    ]
 
 -- local steps while the next one is local, then at most one other
 abbrev pub turn : Image → ℕ → ℕ → Machine → Reads Turned
 turn image t zero m = Ok (record { count = 0; machine = m })
 turn image t (suc most) m =
     elim (next_is_local image m t && not (nat_eq m.steps m.limits.budget)) [
-        true ↦ on_next (step image m t) (λ n. one_more (turn image t most n))
-      | false ↦ last_step image t m ]
+      | true ↦ on_next (step image m t) (λ n. one_more (turn image t most n))
+      | false ↦ last_step image t m
+    ]
 
 -- ---- seeded runs; `word` gives the words of the generator
 
+-- the runnable threads, by number
 abbrev pub runnable_from : Image → Machine → List Thread → ℕ → List ℕ
 runnable_from image m [] k = []
 runnable_from image m (t ∷ ts) k =
     elim (runnable_thread image m k t) [
-        true ↦ k ∷ runnable_from image m ts (suc k)
-      | false ↦ runnable_from image m ts (suc k) ]
+      | true ↦ k ∷ runnable_from image m ts (suc k)
+      | false ↦ runnable_from image m ts (suc k)
+    ]
 
 -- the thread at place (word div 256) mod their number
 abbrev pub picked : List ℕ → ℕ → ℕ
@@ -127,11 +144,13 @@ abbrev pub seeded_from : (ℕ → ℕ) → Image → ℕ → ℕ → Machine →
 seeded_from word image zero k m = Ok []
 seeded_from word image (suc fuel) k m =
     elim (ending_of image m) [
-        Some e ↦ Ok []
+      | Some e ↦ Ok []
       | None ↦ on_next (turn image (picked (runnable_from image m m.threads 0) (word k)) (1 + word k % 256) m)
-              (λ x.
-                   on_next (seeded_from word image fuel (suc k) x.machine)
-                       (λ es. Ok (logged (picked (runnable_from image m m.threads 0) (word k)) x.count es))) ]
+          (λ x.
+          on_next (seeded_from word image fuel (suc k) x.machine)
+          (λ es. Ok (logged (picked (runnable_from image m m.threads 0) (word k)) x.count es)))
+    ]
 
+-- the schedule of a run whose turns these words pick
 abbrev pub seeded_log : (ℕ → ℕ) → Image → Method → Limits → Reads (List Entry)
 seeded_log word image main l = seeded_from word image (suc l.budget) 0 (opening image main l)

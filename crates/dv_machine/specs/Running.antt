@@ -1,5 +1,5 @@
 -- Which threads are runnable, and how a run stands.
-use Rattle.std.specs.Prelude.{is_none, ℕ, suc, Bool, true, false, ◌&&◌, List, [], ◌∷◌, Option, Some, None, slice_get, nat_eq, if◌then◌else◌}
+use Rattle.std.specs.Prelude.{is_none, ℕ, suc, Bool, true, false, ◌&&◌, not, List, [], ◌∷◌, Option, Some, None, slice_get, nat_eq, if◌then◌else◌}
 use Rattle.dv_defs.specs.declared.image.Image.{Image}
 use Rattle.dv_defs.specs.declared.run.Value.{Value}
 use Rattle.dv_defs.specs.declared.run.Value.TheVariants as v
@@ -46,6 +46,7 @@ abbrev pub by_owner : ℕ → Option ℕ → Option Blocked
 by_owner t None = None
 by_owner t (Some u) = if nat_eq u t then None else Some blocked.Monitor
 
+-- null throws, so it holds nothing up
 abbrev pub blocked_enter : Monitors → ℕ → Value → Option Blocked
 blocked_enter ms t (v.Ref (suc o)) = by_owner t (owner_of ms (suc o))
 blocked_enter ms t x = None
@@ -66,19 +67,23 @@ abbrev pub blocked_join : List Thread → Option ℕ → Option Blocked
 blocked_join ts None = None
 blocked_join ts (Some u) = if is_living (slice_get ts u) then Some (blocked.Join u) else None
 
+-- a call that lands on wait or join of this object
 abbrev pub blocked_native : Machine → ℕ → ℕ → Option Native → Option Blocked
 blocked_native m t o (Some native.Wait) = blocked_wait m.shared.monitors (wait_of m.shared.monitors t)
 blocked_native m t o (Some native.Join) = blocked_join m.threads (thread_with m.threads o)
 blocked_native m t o n = None
 
+-- by the method on which a call lands
 abbrev pub blocked_landing : Image → Machine → ℕ → ℕ → Landing → Option Blocked
 blocked_landing image m t o (Lacks n) = None
 blocked_landing image m t o (Lands g) = blocked_native m t o (native_of image g)
 
+-- a call on null throws
 abbrev pub blocked_call : Image → Machine → ℕ → Method → Call → Method → Value → Option Blocked
 blocked_call image m t own c g (v.Ref (suc o)) = blocked_landing image m t (suc o) (dispatch image m.shared.heap own c g (suc o))
 blocked_call image m t own c g x = None
 
+-- a static call lands on no native that waits
 abbrev pub blocked_receiver : Image → Machine → ℕ → Method → Frame → Call → Method → Option ℕ → Option Blocked
 blocked_receiver image m t own f c g None = None
 blocked_receiver image m t own f c g (Some k) = blocked_call image m t own c g (reg_at f.regs k)
@@ -89,14 +94,17 @@ blocked_op image m t own f (Enter a) = blocked_enter m.shared.monitors t (reg_at
 blocked_op image m t own f (Invoke c ks g) = blocked_receiver image m t own f c g (receiver_of (Invoke c ks g))
 blocked_op image m t own f op = None
 
+-- a class that the instruction needs is asked for first
 abbrev pub blocked_needing : Image → Machine → ℕ → Method → Frame → Op → Option ℕ → Option Blocked
 blocked_needing image m t own f op None = blocked_op image m t own f op
 blocked_needing image m t own f op (Some c) = by_ask (ask_of m.shared.classes c t) (blocked_op image m t own f op) c
 
+-- by the method and the instruction at which a frame stands
 abbrev pub blocked_at : Image → Machine → ℕ → Frame → Option Method → Option At → Option Blocked
 blocked_at image m t f (Some own) (Some x) = blocked_needing image m t own f x.op (needs x.op)
 blocked_at image m t f own x = None
 
+-- by the top level of a stack
 abbrev pub blocked_levels : Image → Machine → ℕ → List Level → Option Blocked
 blocked_levels image m t [] = None
 blocked_levels image m t (level.Code f ∷ ls) = blocked_at image m t f (method_at image f.method.0) (fetch image f.method.0 f.at)
@@ -111,6 +119,7 @@ blocked_thread image m t th = for_end th.end
     for_end end.Living = blocked_levels image m t th.levels
     for_end e = None
 
+-- living, with nothing that holds it up
 abbrev pub runnable_thread : Image → Machine → ℕ → Thread → Bool
 runnable_thread image m t th = is_living (Some th) && is_none (blocked_thread image m t th)
 
@@ -118,26 +127,32 @@ abbrev pub runnable_one : Image → Machine → ℕ → Option Thread → Bool
 runnable_one image m t None = false
 runnable_one image m t (Some th) = runnable_thread image m t th
 
+-- a thread by its number
 abbrev pub runnable : Image → Machine → ℕ → Bool
 runnable image m t = runnable_one image m t (slice_get m.threads t)
 
 -- ---- the ending
 
+-- each thread has returned or died
 abbrev pub all_ended : List Thread → Bool
 all_ended [] = true
-all_ended (t ∷ ts) = elim (is_living (Some t)) [ true ↦ false | false ↦ all_ended ts ]
+all_ended (t ∷ ts) = not (is_living (Some t)) && all_ended ts
 
+-- some thread is runnable, from the k-th on
 abbrev pub any_runnable : Image → Machine → List Thread → ℕ → Bool
 any_runnable image m [] k = false
 any_runnable image m (t ∷ ts) k = elim (runnable_thread image m k t) [ true ↦ true | false ↦ any_runnable image m ts (suc k) ]
 
+-- what a run comes to by itself
 abbrev pub ending_without_stop : Image → Machine → Option Ending
 ending_without_stop image m =
     elim (all_ended m.threads) [
-        true ↦ Some ending.Done
+      | true ↦ Some ending.Done
       | false ↦ elim (nat_eq m.steps m.limits.budget) [
-              true ↦ Some ending.Steps
-            | false ↦ elim (any_runnable image m m.threads 0) [ true ↦ None | false ↦ Some ending.NoRunnable ] ] ]
+        | true ↦ Some ending.Steps
+        | false ↦ elim (any_runnable image m m.threads 0) [ true ↦ None | false ↦ Some ending.NoRunnable ]
+      ]
+    ]
 
 abbrev pub ending_by : Image → Machine → Option Ending → Option Ending
 ending_by image m (Some e) = Some e

@@ -68,6 +68,7 @@ pub data Did (A : Type 0) : Type 0 where
 abbrev pub Reads : Type 0 → Type 0
 Reads A = Result A Why
 
+-- a read after a read
 abbrev pub on_next : {A B : Type 0} → Reads A → (A → Reads B) → Reads B
 on_next (Ok x) go = go x
 on_next (Err y) go = Err y
@@ -89,6 +90,7 @@ where_true false n go = Throws n
 
 -- ---- registers
 
+-- a register that isn't there is undefined
 abbrev pub reg_at : List Value → ℕ → Value
 reg_at regs k = slice_index_or regs k v.Undef
 
@@ -101,6 +103,7 @@ why_not_int (v.Uninit a o) = why.Uninitialised
 why_not_int (v.UninitThis o) = why.Uninitialised
 why_not_int x = why.Reference
 
+-- a number; 0 is one
 abbrev pub read_int : Value → Reads ℤ
 read_int v.Zero = Ok (pos 0)
 read_int (v.Num n) = Ok n
@@ -110,10 +113,12 @@ read_int x = Err (why_not_int x)
 abbrev pub kept_int : Value → Reads Value
 kept_int x = on_next (read_int x) (λ n. Ok x)
 
+-- the low word of a long
 abbrev pub read_lo : Value → Reads ℕ
 read_lo (v.Lo n) = Ok n
 read_lo x = Err why.Pair
 
+-- the high word of a long
 abbrev pub read_hi : Value → Reads ℕ
 read_hi (v.Hi n) = Ok n
 read_hi x = Err why.Pair
@@ -123,6 +128,7 @@ pub record Two : Type 0 where
   pub lo : ℕ
   pub hi : ℕ
 
+-- a long stands in a register and the next one
 abbrev pub read_two : List Value → ℕ → Reads Two
 read_two regs k = on_next (read_lo (reg_at regs k)) (λ lo. on_next (read_hi (reg_at regs (suc k))) (λ hi. Ok (record { lo = lo; hi = hi })))
 
@@ -137,6 +143,7 @@ kept_object (v.Uninit a o) = Ok (v.Uninit a o)
 kept_object (v.UninitThis o) = Ok (v.UninitThis o)
 kept_object x = Err (why_not_int x)
 
+-- an object that passes the test
 abbrev pub where_ref : Bool → ℕ → Reads ℕ
 where_ref true o = Ok o
 where_ref false o = Err why.Reference
@@ -149,6 +156,7 @@ passes good (Some k) = good k
 abbrev pub tested : (Kind → Bool) → Heap → ℕ → Bool
 tested good heap o = nat_eq o 0 || passes good (kind_of heap o)
 
+-- the object of a reference, 0 for null; anything else is wrong
 abbrev pub read_tested : (Kind → Bool) → Heap → Value → Reads ℕ
 read_tested good heap v.Zero = Ok 0
 read_tested good heap (v.Ref o) = where_ref (tested good heap o) o
@@ -157,9 +165,11 @@ read_tested good heap x = Err (why_not_int x)
 abbrev pub any_kind : Kind → Bool
 any_kind k = true
 
+-- of a reference to anything
 abbrev pub read_any : Heap → Value → Reads ℕ
 read_any heap x = read_tested any_kind heap x
 
+-- an object of this kind fits a type
 abbrev pub fits_kind : Image → Ty → Kind → Bool
 fits_kind image t k = fits image (kind_type image k) t
 
@@ -167,13 +177,16 @@ fits_kind image t k = fits image (kind_type image k) t
 abbrev pub read_ref : Image → Heap → Ty → Value → Reads ℕ
 read_ref image heap t x = read_tested (fits_kind image t) heap x
 
+-- an array whose elements the test takes
 abbrev pub is_array_kind : (Ty → Bool) → Kind → Bool
 is_array_kind good (kind.Array t) = good (component t)
 is_array_kind good k = false
 
+-- of a reference to such an array, or null
 abbrev pub read_array : (Ty → Bool) → Heap → Value → Reads ℕ
 read_array good heap x = read_tested (is_array_kind good) heap x
 
+-- a value of one word, by its type
 abbrev pub read_single : Image → Heap → Ty → Value → Reads Value
 read_single image heap t x = if is_reference t then on_next (read_ref image heap t x) (λ o. Ok x) else kept_int x
 
@@ -183,6 +196,7 @@ read_value image heap regs k t =
     if is_long t then on_next (read_two regs k) (λ p. Ok (v.Lo p.lo ∷ v.Hi p.hi ∷ []))
     else on_next (read_single image heap t (reg_at regs k)) (λ x. Ok (x ∷ []))
 
+-- a long's second register is the next one
 abbrev pub are_neighbours : ℕ → ℕ → Reads Bool
 are_neighbours k j = if nat_eq j (suc k) then Ok true else Err why.Pair
 
@@ -192,14 +206,16 @@ read_args image heap regs [] ks = Ok []
 read_args image heap regs (p ∷ ps) [] = Err why.Instruction
 read_args image heap regs (p ∷ ps) (k ∷ ks) =
     elim (is_long p) [
-        true ↦ elim ks [
-              [] ↦ Err why.Instruction
-            | j ∷ js ↦ on_next (read_value image heap regs k p)
-                    (λ xs.
-                         on_next (are_neighbours k j)
-                             (λ b. on_next (read_args image heap regs ps js) (λ ys. Ok (xs ++ ys)))) ]
+      | true ↦ elim ks [
+        | [] ↦ Err why.Instruction
+        | j ∷ js ↦ on_next (read_value image heap regs k p)
+            (λ xs.
+            on_next (are_neighbours k j)
+            (λ b. on_next (read_args image heap regs ps js) (λ ys. Ok (xs ++ ys))))
+      ]
       | false ↦ on_next (read_value image heap regs k p)
-              (λ xs. on_next (read_args image heap regs ps ks) (λ ys. Ok (xs ++ ys))) ]
+          (λ xs. on_next (read_args image heap regs ps ks) (λ ys. Ok (xs ++ ys)))
+    ]
 
 -- ---- frames
 
@@ -211,6 +227,7 @@ gone f to regs = record f { at = to; regs = regs; result = pending.None; caught 
 abbrev pub put : Frame → ℕ → ℕ → Value → Frame
 put f to a x = gone f to (slice_set f.regs a x)
 
+-- a long is written at once
 abbrev pub put_two : Frame → ℕ → ℕ → ℕ → ℕ → Frame
 put_two f to a lo hi = gone f to (slice_set (slice_set f.regs a (v.Lo lo)) (suc a) (v.Hi hi))
 
@@ -229,6 +246,7 @@ put_words f to a (x ∷ y ∷ ys) = gone f to (slice_set (slice_set f.regs a x) 
 
 -- ---- what a case of a step sees
 
+-- the thread and its frame at an instruction, with all that the threads share
 pub record Here : Type 0 where
   pub image : Image
   pub limits : Limits
@@ -261,6 +279,7 @@ with_classes sh cs = record sh { classes = cs }
 abbrev pub with_output : Shared → List ℕ → Shared
 with_output sh out = record sh { output = out }
 
+-- a record has no registers
 abbrev pub regs_in : Level → ℕ
 regs_in (level.Code f) = length f.regs
 regs_in (level.Init c r) = 0

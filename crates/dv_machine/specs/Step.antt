@@ -30,6 +30,7 @@ use Rattle.dv_machine.specs.Unwinding.{Caught, Flies, Lacking, unwind_record, ha
 
 -- ---- a code level
 
+-- the frame after a local instruction, and all else as it was
 abbrev pub local_left : Here → Op → Did Left
 local_left h op = reading (local op h.frame h.next) (onward h h.shared)
 
@@ -46,15 +47,16 @@ act h op = if is_local op then local_left h op else mem h op
 abbrev pub begun : Here → ℕ → List Level → Did Left
 begun h c ls =
     pushed h (with_classes h.shared (with_state h.shared.classes c (InProgress h.thread)))
-        (level.Init (record { 0 = c }) false) ls
+    (level.Init (record { 0 = c }) false) ls
 
--- `Init` of the class's number
+-- a class that isn't ready is begun, waited for or erroneous
 abbrev pub for_class : Here → List Level → ℕ → Ask → Did Left → Did Left
 for_class h ls c ask.Go go = go
 for_class h ls c ask.Begin go = begun h c ls
 for_class h ls c (ask.Wait u) go = left h h.shared ls
 for_class h ls c ask.Bad go = Throws named.NoClassDef
 
+-- the class that an instruction needs is asked for first
 abbrev pub with_ready : Here → Op → Option ℕ → Did Left
 with_ready h op None = act h op
 with_ready h op (Some c) = for_class h (level.Code h.frame ∷ h.rest) c (ask_of h.shared.classes c h.thread) (act h op)
@@ -65,6 +67,7 @@ with_ready h op (Some c) = for_class h (level.Code h.frame ∷ h.rest) c (ask_of
 abbrev pub prior : Image → ℕ → List ℕ
 prior image c = option_to_list (parent_at image c)
 
+-- the record is dropped, and its class is in this state
 abbrev pub ended_record : Here → ℕ → ClassState → Did Left
 ended_record h c s = left h (with_classes h.shared (with_state h.shared.classes c s)) h.rest
 
@@ -77,45 +80,46 @@ initialised_by h c (Some m) =
 abbrev pub run_initialiser : Here → ℕ → Did Left
 run_initialiser h c = initialised_by h c (initialiser h.image c)
 
+-- one class after another, then the initialiser
 abbrev pub look_at : Here → ℕ → List ℕ → Did Left
 look_at h c [] = run_initialiser h c
 look_at h c (p ∷ ps) = for_class h (level.Init (record { 0 = c }) false ∷ h.rest) p (ask_of h.shared.classes p h.thread) (look_at h c ps)
 
+-- a record whose initialiser has returned is done
 abbrev pub record_step : Here → ℕ → Bool → Did Left
 record_step h c true = ended_record h c Ready
 record_step h c false = look_at h c (prior h.image c)
 
 -- ---- what becomes of an outcome
 
--- none, or the one that a step started
-abbrev pub started_threads : Option Thread → List Thread
-started_threads None = []
-started_threads (Some t) = t ∷ []
-
 -- one thread's step has been done
 abbrev pub with_thread : Machine → ℕ → Thread → Left → Machine
 with_thread m t th l =
     record m {
-        threads = slice_set m.threads t th ++ started_threads l.started;
-        shared = l.shared;
-        steps = suc m.steps;
+      threads = slice_set m.threads t th ++ option_to_list l.started;
+      shared = l.shared;
+      steps = suc m.steps;
     }
 
 -- only the stop and the count change
 abbrev pub stopped : Machine → Ending → Machine
 stopped m e = record m { steps = suc m.steps; stop = Some e }
 
+-- a thread without levels has returned
 abbrev pub end_after : List Level → End
 end_after [] = end.Returned
 end_after (l ∷ ls) = end.Living
 
+-- a thread that an exception has left without levels has died of it
 abbrev pub end_flying : ℕ → List Level → End
 end_flying o [] = end.Died o
 end_flying o (l ∷ ls) = end.Flying o
 
+-- the thread goes on with these levels
 abbrev pub gone_on : Machine → ℕ → Thread → Left → Machine
 gone_on m t th l = with_thread m t (record { levels = l.levels; end = end_after l.levels; object = th.object }) l
 
+-- the exception flies on over these levels
 abbrev pub flown : Machine → ℕ → Thread → ℕ → Left → Machine
 flown m t th o l = with_thread m t (record { levels = l.levels; end = end_flying o l.levels; object = th.object }) l
 
@@ -125,10 +129,12 @@ moved_on (Some x) (level.Code f ∷ ls) =
     if is_exit x.op then level.Code (record f { at = x.next }) ∷ ls else level.Code f ∷ ls
 moved_on x ls = ls
 
+-- a new exception flies, where there is room for its object
 abbrev pub thrown : Machine → ℕ → Thread → Option At → Option Heap → Machine
 thrown m t th x None = stopped m (ending.HeapFull t)
 thrown m t th x (Some heap) = flown m t th (newest heap) (leaves (with_heap m.shared heap) (moved_on x th.levels))
 
+-- an outcome as the state after it
 abbrev pub settled : Image → Machine → ℕ → Thread → Option At → Did Left → Reads Machine
 settled image m t th x (Go l) = Ok (gone_on m t th l)
 settled image m t th x (Throws n) = Ok (thrown m t th x (made_object image m.shared.heap n))
@@ -138,6 +144,7 @@ settled image m t th x NoRoom = Ok (stopped m (ending.StackFull t))
 settled image m t th x NoOutput = Ok (stopped m ending.Output)
 settled image m t th x (IsStuck y) = Err y
 
+-- what became of an exception as the state after it
 abbrev pub settled_flight : Machine → ℕ → Thread → Unwound → Reads Machine
 settled_flight m t th (Caught l) = Ok (gone_on m t th l)
 settled_flight m t th (Flies o l) = Ok (flown m t th o l)
@@ -145,48 +152,54 @@ settled_flight m t th Lacking = Ok (stopped m (ending.HeapFull t))
 
 -- ---- a step
 
+-- what the instruction at hand sees of a machine
 abbrev pub here : Image → Machine → ℕ → Method → Frame → List Level → ℕ → Here
 here image m t own f ls next =
     record {
-        image = image;
-        limits = m.limits;
-        threads = m.threads;
-        thread = t;
-        own = own;
-        shared = m.shared;
-        frame = f;
-        rest = ls;
-        next = next;
+      image = image;
+      limits = m.limits;
+      threads = m.threads;
+      thread = t;
+      own = own;
+      shared = m.shared;
+      frame = f;
+      rest = ls;
+      next = next;
     }
 
 -- a record's step sees no frame: this one stands in its place
 abbrev pub no_frame : Frame
 no_frame = record { method = record { 0 = 0 }; at = 0; regs = []; result = pending.None; caught = None; this_pending = false }
 
+-- nor a method
 abbrev pub no_method : Method
 no_method =
     record {
-        id = 0;
-        info = record { class = record { 0 = 0 }; place = 0; types = []; fields = []; methods = [] };
-        def = record { name = []; proto = record { params = []; ret = None }; flags = 0; body = None };
+      id = 0;
+      info = record { class = record { 0 = 0 }; place = 0; types = []; fields = []; methods = [] };
+      def = record { name = []; proto = record { params = []; ret = None }; flags = 0; body = None };
     }
 
+-- a step at an instruction
 abbrev pub step_at : Image → Machine → ℕ → Thread → Method → Frame → List Level → Option At → Reads Machine
 step_at image m t th own f ls None = Err why.Instruction
 step_at image m t th own f ls (Some x) = settled image m t th (Some x) (with_ready (here image m t own f ls x.next) x.op (needs x.op))
 
+-- a step of a frame
 abbrev pub step_code : Image → Machine → ℕ → Thread → Frame → List Level → Option Method → Reads Machine
 step_code image m t th f ls None = Err why.Instruction
 step_code image m t th f ls (Some own) = step_at image m t th own f ls (fetch image f.method.0 f.at)
 
+-- a step of a thread with an exception in flight: one level
 abbrev pub step_flight : Image → Machine → ℕ → Thread → ℕ → List Level → Reads Machine
 step_flight image m t th o [] = Ok m
 step_flight image m t th o (level.Code f ∷ ls) =
     settled_flight m t th
-        (unwind_frame (here image m t no_method f ls 0) f o
-             (handler_for image m.shared.heap o (handlers_at image f.method.0 f.at)))
+    (unwind_frame (here image m t no_method f ls 0) f o
+    (handler_for image m.shared.heap o (handlers_at image f.method.0 f.at)))
 step_flight image m t th o (level.Init c r ∷ ls) = settled_flight m t th (unwind_record (here image m t no_method no_frame ls 0) c.0 o)
 
+-- a step of a thread at its top level
 abbrev pub step_living : Image → Machine → ℕ → Thread → List Level → Reads Machine
 step_living image m t th [] = Ok m
 step_living image m t th (level.Code f ∷ ls) = step_code image m t th f ls (method_at image f.method.0)
@@ -202,5 +215,6 @@ abbrev pub step_of : Image → Machine → ℕ → Option Thread → Reads Machi
 step_of image m t None = Ok m
 step_of image m t (Some th) = step_thread image m t th th.end
 
+-- a step of a thread by its number
 abbrev pub step : Image → Machine → ℕ → Reads Machine
 step image m t = step_of image m t (slice_get m.threads t)

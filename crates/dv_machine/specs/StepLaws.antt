@@ -40,18 +40,20 @@ use Rattle.dv_machine.specs.Premises.{MayStep, IsAt, IsAtRecord, KeepsKinds, Sta
 abbrev pub IsFrom : Image → Heap → Own → List Value → Types → Value → RegType → Type 0
 IsFrom image heap own xs ts x t = ((j : ℕ) × (reg_at xs j ≡ x) × (type_at ts j ≡ t)) ⊎ ((IsUninit t → ⊥) × Conforms image heap own x t)
 
+-- a register takes such a value, and its type is written
 abbrev pub WriteKeeps : Type 0
 WriteKeeps =
     (image : Image) (heap : Heap) (own : Own) (xs : List Value) (ts : Types) (k : ℕ) (x : Value) (t : RegType) →
     IsGood image heap own xs ts → IsFrom image heap own xs ts x t →
     IsGood image heap own (slice_set xs k x) (write_type ts k t)
 
+-- two registers take a long
 abbrev pub LongWriteKeeps : Type 0
 LongWriteKeeps =
     (image : Image) (heap : Heap) (own : Own) (xs : List Value) (ts : Types) (k lo hi : ℕ) →
     IsGood image heap own xs ts →
     IsGood image heap own (slice_set (slice_set xs k (v.Lo lo)) (suc k) (v.Hi hi))
-        (write_two ts k ty.LongLo ty.LongHi)
+    (write_two ts k ty.LongLo ty.LongHi)
 
 -- a new object, which no register of an uninitialised type holds yet
 abbrev pub NewInstanceKeeps : Type 0
@@ -60,7 +62,7 @@ NewInstanceKeeps =
     IsGood image heap own xs ts → own.made at ≡ Some c → kind_of heap o ≡ Some (kind.Object (record { 0 = c })) →
     ((j : ℕ) → IsUninit (type_at ts j) → object_of (reg_at xs j) ≢ Some o) →
     IsGood image heap own (slice_set xs k (v.Uninit at o))
-        (write_type (map (replaced at ty.Conflict) ts) k (ty.Uninit at))
+    (write_type (map (replaced at ty.Conflict) ts) k (ty.Uninit at))
 
 -- after its constructor returned, all registers that hold the object hold it initialised
 abbrev pub ConstructorKeeps : Type 0
@@ -70,6 +72,7 @@ ConstructorKeeps =
     IsOf image heap o (class_type image c) →
     IsGood image heap own (map (initialised o) xs) (map (replaced at (ty.Class (class_type image c))) ts)
 
+-- the same of a frame's own receiver
 abbrev pub OwnConstructorKeeps : Type 0
 OwnConstructorKeeps =
     (image : Image) (heap : Heap) (own : Own) (xs : List Value) (ts : Types) (k o : ℕ) → IsGood image heap own xs ts →
@@ -78,6 +81,7 @@ OwnConstructorKeeps =
 
 -- ---- an added object keeps everything
 
+-- an object of this kind is there that wasn't before
 pub record IsAdded (image : Image) (before after : Heap) (o : ℕ) (k : Kind) : Type 0 where
   pub keeps : KeepsKinds before after
   pub fresh : kind_of before o ≡ None
@@ -113,9 +117,11 @@ ClassObjectIsGot =
     (kind_of g.heap g.object ≡ Some (kind.ClassOf t)) ×
     ((g.heap ≡ before) ⊎ IsAdded image before g.heap g.object (kind.ClassOf t))
 
+-- a machine on another heap
 abbrev pub on_heap : Machine → Heap → Machine
 on_heap m heap = record { threads = m.threads; shared = with_heap m.shared heap; steps = m.steps; stop = m.stop; limits = m.limits }
 
+-- a well-typed state stays so as objects are added
 abbrev pub GrowthKeeps : Type 0
 GrowthKeeps =
     (image : Image) (T : Typings) (m : Machine) (after : Heap) → Accepted image T → WellTyped image T m →
@@ -123,12 +129,14 @@ GrowthKeeps =
 
 -- ---- stores keep everything
 
+-- a cell takes a value that fits its type
 abbrev pub StoreKeeps : Type 0
 StoreKeeps =
     (image : Image) (heap : Heap) (o k : ℕ) (kind : Kind) (x : Value) → HeapFine image heap →
     kind_of heap o ≡ Some kind → Conforms image heap nobody x (type_at (cell_types image (length_of heap o) kind) k) →
     HeapFine image (with_cell heap o k x) × KeepsKinds heap (with_cell heap o k x)
 
+-- a static field takes a value that fits its type
 abbrev pub StaticStoreKeeps : Type 0
 StaticStoreKeeps =
     (image : Image) (heap : Heap) (n k : ℕ) (f : Field) (x : Value) → HeapFine image heap →
@@ -144,8 +152,8 @@ EntryConforms =
     code_at image code.method.id ≡ Some code → length (arg_types image code.method) ≤ code.body.registers →
     IsGood image heap (own_of image this code.method) xs (arg_types image code.method) →
     Conform image heap (own_of image this code.method)
-        (entered_frame code.method xs (begins_uninitialised image code.method))
-        (entry_state image code.method code.body.registers)
+    (entered_frame code.method xs (begins_uninitialised image code.method))
+    (entry_state image code.method code.body.registers)
 
 -- a step at an instruction of this sort is fine
 abbrev pub StepsOf : (Op → Type 0) → Type 0
@@ -167,6 +175,7 @@ ReturnsPop = StepsOf (λ op. is_return op ≡ true)
 abbrev pub LocalStepsAreFine : Type 0
 LocalStepsAreFine = StepsOf (λ op. is_local op ≡ true)
 
+-- what is neither local nor a step on the heap
 abbrev pub is_of_calls_or_monitors : Op → Bool
 is_of_calls_or_monitors (Invoke c ks g) = true
 is_of_calls_or_monitors (Enter a) = true
@@ -182,7 +191,7 @@ HeapStepsAreFine = StepsOf (λ op. (is_local op ≡ false) × (is_of_calls_or_mo
 abbrev pub ThrowerIsHandled : Type 0
 ThrowerIsHandled =
     (image : Image) (T : Typings) (m : Machine) (t : ℕ) (thread : Thread) (h : Here) (x : At) (s : RegState)
-        (after : Heap) (o : ℕ) →
+    (after : Heap) (o : ℕ) →
     IsAt image T m t thread h x s → can_throw x.op ≡ true → KeepsKinds m.shared.heap after →
     IsThrowable image after o →
     All (λ l. HandledLevel image T after (this_above image h.rest) o l) (moved_on (Some x) (level.Code h.frame ∷ []))
@@ -198,6 +207,7 @@ CallersAreHandled =
     IsThrowable image heap o → BelowCode image m ls → StackFine image T heap t None ls →
     StackFine image T heap t (Some o) ls
 
+-- an exception that a record lets out finds the frames below it in order
 abbrev pub NeedersAreHandled : Type 0
 NeedersAreHandled =
     (image : Image) (T : Typings) (heap : Heap) (t o c : ℕ) (r : Bool) (ls : List Level) → Accepted image T →
@@ -219,6 +229,7 @@ NeedsAreFine =
     IsAt image T m t thread h x s → DidFine image T m t thread x (act h x.op) →
     DidFine image T m t thread x (with_ready h x.op (needs x.op))
 
+-- a step of a class's record
 abbrev pub RecordsAreFine : Type 0
 RecordsAreFine =
     (image : Image) (T : Typings) (m : Machine) (t c : ℕ) (r : Bool) (thread : Thread) (h : Here) →
@@ -230,6 +241,7 @@ RecordsAreFine =
 abbrev pub MonitorStepsAreFine : Type 0
 MonitorStepsAreFine = StepsOf (λ op. ((a : ℕ) × (op ≡ Enter a)) ⊎ ((a : ℕ) × (op ≡ Exit a)))
 
+-- a thread that is started on a Thread object with a run method is in order
 abbrev pub NewThreadIsFine : Type 0
 NewThreadIsFine =
     (image : Image) (T : Typings) (heap : Heap) (n o : ℕ) (run : Method) → Accepted image T →
@@ -252,18 +264,21 @@ EndedStepsStay =
 
 -- ---- whole steps
 
+-- what a fine step leaves is well typed
 abbrev pub LeftIsWellTyped : Type 0
 LeftIsWellTyped =
     (image : Image) (T : Typings) (m : Machine) (t : ℕ) (thread : Thread) (l : Left) → WellTyped image T m →
     slice_get m.threads t ≡ Some thread → LeftFine image T m t thread l → WellTyped image T (gone_on m t thread l)
 
+-- so is what a fine outcome of an instruction becomes
 abbrev pub SettledIsWellTyped : Type 0
 SettledIsWellTyped =
     (image : Image) (T : Typings) (m : Machine) (t : ℕ) (thread : Thread) (h : Here) (x : At) (s : RegState)
-        (d : Did Left) →
+    (d : Did Left) →
     IsAt image T m t thread h x s → DidFine image T m t thread x d →
     HoldsOf (WellTyped image T) (settled image m t thread (Some x) d)
 
+-- and what one of a record becomes
 abbrev pub SettledRecordIsWellTyped : Type 0
 SettledRecordIsWellTyped =
     (image : Image) (T : Typings) (m : Machine) (t c : ℕ) (r : Bool) (thread : Thread) (h : Here) (d : Did Left) →

@@ -20,6 +20,7 @@ stays h = onward h h.shared h.frame
 abbrev pub goes : Here → Shared → Did Left
 goes h sh = onward h sh (gone h.frame h.next h.frame.regs)
 
+-- no thread owns the monitor, or this one does
 abbrev pub free_or_mine : Here → Option ℕ → Bool
 free_or_mine h None = true
 free_or_mine h (Some t) = nat_eq t h.thread
@@ -60,14 +61,15 @@ notify_on h o = holding h o (λ n. goes h (with_monitors h.shared (notified_one 
 abbrev pub notify_all_on : Here → ℕ → Did Left
 notify_all_on h o = holding h o (λ n. goes h (with_monitors h.shared (notified_all h.shared.monitors o)))
 
--- the thread of a Thread object, if it has one
 abbrev pub thread_from : List Thread → ℕ → ℕ → Option ℕ
 thread_from [] k o = None
 thread_from (t ∷ ts) k o = elim (nat_eq t.object o) [ true ↦ Some k | false ↦ thread_from ts (suc k) o ]
 
+-- the thread of a Thread object, if it has one
 abbrev pub thread_with : List Thread → ℕ → Option ℕ
 thread_with ts o = thread_from ts 0 o
 
+-- a thread that is there and has neither returned nor died
 abbrev pub is_living : Option Thread → Bool
 is_living None = false
 is_living (Some t) = alive t.end
@@ -77,30 +79,33 @@ is_living (Some t) = alive t.end
     alive (end.Flying o) = true
     alive e = false
 
+-- it begins with the run method of its object
 abbrev pub new_thread : ℕ → Method → Thread
 new_thread o m = record { levels = level.Code (entered_frame m (v.Ref o ∷ []) false) ∷ []; end = end.Living; object = o }
 
+-- the new thread runs this method
 abbrev pub started_on : Here → ℕ → Option Method → Did Left
 started_on h o None = Throws named.AbstractMethod
 started_on h o (Some m) =
     if is_abstract m then Throws named.AbstractMethod
     else Go
-        (record {
-            levels = level.Code (gone h.frame h.next h.frame.regs) ∷ h.rest;
-            shared = h.shared;
-            started = Some (new_thread o m);
-        })
+    (record {
+      levels = level.Code (gone h.frame h.next h.frame.regs) ∷ h.rest;
+      shared = h.shared;
+      started = Some (new_thread o m);
+    })
 
 -- the run()V of an object's class
 abbrev pub run_method : Image → Option ℕ → Option Method
 run_method image None = None
 run_method image (Some c) = nearest image c (codes "run") no_arguments
 
+-- where the object has no thread yet
 abbrev pub start_unless : Here → ℕ → Option ℕ → Did Left
 start_unless h o (Some u) = Throws named.IllegalThreadState
 start_unless h o None =
     where_true (nat_lt (length h.threads) h.limits.threads) named.OutOfMemory
-        (started_on h o (run_method h.image (class_of_kind h.image (kind_of h.shared.heap o))))
+    (started_on h o (run_method h.image (class_of_kind h.image (kind_of h.shared.heap o))))
 
 -- tested in this order: a thread of the object, the number of threads, an abstract run()V
 abbrev pub start_on : Here → ℕ → Did Left

@@ -40,6 +40,7 @@ pub data Unwound : Type 0 where
   Flies : (object : ℕ) (left : Left) → Unwound
   Lacking : Unwound
 
+-- what is left, with no thread started
 abbrev pub leaves : Shared → List Level → Left
 leaves sh ls = record { levels = ls; shared = sh; started = None }
 
@@ -48,6 +49,7 @@ abbrev pub unwind_frame : Here → Frame → ℕ → Option ℕ → Unwound
 unwind_frame h f o None = Flies o (leaves h.shared h.rest)
 unwind_frame h f o (Some to) = Caught (leaves h.shared (level.Code (caught_frame f to o) ∷ h.rest))
 
+-- thread 0, in a method of this class
 abbrev pub is_method_of : ℕ → ℕ → Option Method → Bool
 is_method_of t c None = false
 is_method_of t c (Some m) = nat_eq t 0 && nat_eq m.info.class.0 c
@@ -68,6 +70,7 @@ erroneous h c sh = with_classes sh (with_state sh.classes c Erroneous)
 abbrev pub number_named : Image → List ℕ → ℕ
 number_named image name = unwrap_or (class_named image name) 0
 
+-- the class of each exception that a step throws by itself
 abbrev pub exception_name : Named → List ℕ
 exception_name named.Arithmetic = codes "Ljava/lang/ArithmeticException;"
 exception_name named.NullPointer = codes "Ljava/lang/NullPointerException;"
@@ -93,24 +96,28 @@ abbrev pub is_named_field : ℕ → List ℕ → Option Field → Bool
 is_named_field c name None = false
 is_named_field c name (Some y) = nat_eq y.info.class.0 c && bytes_eq y.def.name name
 
+-- the cell of the first such field
 abbrev pub slot_among : Image → ℕ → List ℕ → List FieldInfo → ℕ → ℕ
 slot_among image c name [] x = 0
-slot_among image c name (i ∷ is) x = elim (is_named_field c name (field_at image x)) [ true ↦ i.slot | false ↦ slot_among image c name is (suc x) ]
+slot_among image c name (i ∷ is) x =
+    elim (is_named_field c name (field_at image x)) [ true ↦ i.slot | false ↦ slot_among image c name is (suc x) ]
 
 -- the cell of a field that Throwable declares
 abbrev pub throwable_slot : Image → List ℕ → ℕ
 throwable_slot image name = slot_among image (number_named image throwable_name) name image.fields 0
 
+-- in a new ExceptionInInitializerError, with it as the cause
 abbrev pub wrapped : Here → ℕ → ℕ → Option Heap → Unwound
 wrapped h c o None = Lacking
 wrapped h c o (Some heap) =
     Flies (newest heap)
-        (leaves
-             (erroneous h c
-                  (with_heap h.shared
-                       (with_cell heap (newest heap) (throwable_slot h.image (codes "cause")) (v.Ref o))))
-             (below_record h c))
+    (leaves
+    (erroneous h c
+    (with_heap h.shared
+    (with_cell heap (newest heap) (throwable_slot h.image (codes "cause")) (v.Ref o))))
+    (below_record h c))
 
+-- an exception that isn't wrapped
 abbrev pub is_error : Here → ℕ → Bool
 is_error h o = instance h.image (type_of h.image h.shared.heap o) (of_class error_name)
 

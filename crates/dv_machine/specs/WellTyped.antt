@@ -35,6 +35,7 @@ use Rattle.dv_defs.specs.declared.typing.RegState.{RegState}
 abbrev pub Typings : Type 0
 Typings = ℕ → Typing
 
+-- by its method
 abbrev pub own_of : Image → Option ℕ → Method → Own
 own_of image this m = record { this = this; class = own_type image m; made = made_at image m }
 
@@ -47,6 +48,7 @@ called_on g (Some x) = by_op x.op
     by_op (Invoke c (k ∷ ks) m) = if is_constructor m then object_of (reg_at g.regs k) else None
     by_op op = None
 
+-- what stands below a frame tells its `this`
 abbrev pub this_above : Image → List Level → Option ℕ
 this_above image (level.Code g ∷ ls) = called_on g (fetch image g.method.0 g.at)
 this_above image ls = None
@@ -69,7 +71,7 @@ pub record IsPlaced (image : Image) (T : Typings) (heap : Heap) (this : Option �
 abbrev pub IsHandled : Image → Typings → Heap → Option ℕ → ℕ → Frame → Type 0
 IsHandled image T heap this o f =
     All (λ h. catches image heap o h.ty ≡ true → IsPlaced image T heap this (caught_frame f h.to o))
-        (handlers_at image f.method.0 f.at)
+    (handlers_at image f.method.0 f.at)
 
 -- the frame above was called by this invoke of the frame below
 pub record IsCalled (image : Image) (above : Method) (g : Frame) : Type 0 where
@@ -112,6 +114,7 @@ abbrev pub FlightFits : Image → Typings → Heap → Option ℕ → Option ℕ
 FlightFits image T heap this None f = Unit {0}
 FlightFits image T heap this (Some o) f = IsHandled image T heap this o f
 
+-- a frame, and what stands below it
 pub record CodeFine (image : Image) (T : Typings) (heap : Heap) (f : Frame) (ls : List Level) : Type 0 where
   pub frame : IsFrame image f
   pub below : BelowCode image frame.code.method ls
@@ -125,8 +128,9 @@ StackFine image T heap t flight (level.Code f ∷ ls) =
 StackFine image T heap t flight (level.Init c r ∷ ls) =
     BelowRecord image t c.0 ls ×
     elim (is_opening image t c.0 ls) [
-        true ↦ StackFine image T heap t None ls
-      | false ↦ StackFine image T heap t flight ls ]
+      | true ↦ StackFine image T heap t None ls
+      | false ↦ StackFine image T heap t flight ls
+    ]
 
 -- of the top frame of a thread with an exception in flight only the handlers are asked
 abbrev pub FlightFine : Image → Typings → Heap → ℕ → ℕ → List Level → Type 0
@@ -136,11 +140,13 @@ FlightFine image T heap t o (level.Code f ∷ ls) =
     StackFine image T heap t (Some o) ls
 FlightFine image T heap t o (level.Init c r ∷ ls) = StackFine image T heap t (Some o) (level.Init c r ∷ ls)
 
+-- the bottom of a stack
 abbrev pub lowest : List Level → Option Level
 lowest [] = None
 lowest (l ∷ []) = Some l
 lowest (l ∷ m ∷ ms) = lowest (m ∷ ms)
 
+-- a stack ends with a frame
 abbrev pub IsCode : Option Level → Type 0
 IsCode None = ⊥
 IsCode (Some (level.Code f)) = Unit {0}
@@ -163,6 +169,7 @@ ThreadFine image T heap t ls (end.Died o) = (ls ≡ []) × IsThrowable image hea
 abbrev pub nobody : Own
 nobody = record { this = None; class = of_class object_name; made = λ a. None }
 
+-- of so many elements
 abbrev pub element_types : ℕ → Ty → Types
 element_types zero t = []
 element_types (suc n) t = reg_types t ++ element_types n t
@@ -173,6 +180,7 @@ cell_types image n (kind.Object c) = class_cells image c.0
 cell_types image n (kind.Array t) = element_types n (component t)
 cell_types image n k = []
 
+-- as many cells as types, each of its type
 pub record CellsFit (image : Image) (heap : Heap) (xs : Cells) (ts : Types) : Type 0 where
   pub count : length xs ≡ length ts
   pub each : RegsConform image heap nobody xs ts
@@ -211,6 +219,7 @@ pub record IsWaiting (image : Image) (heap : Heap) (ls : List Level) (e : End) (
   pub lands : dispatch image heap method call callee object ≡ Lands landed
   pub is_wait : native_of image landed ≡ Some native.Wait
 
+-- an entry of the waiting threads: its thread waits there, and doesn't own the monitor
 pub record WaitFine (image : Image) (threads : List Thread) (sh : Shared) (w : Wait) : Type 0 where
   pub thread : Thread
   pub has_thread : slice_get threads w.thread ≡ Some thread
@@ -223,6 +232,7 @@ pub record HeldFine (threads : List Thread) (steps : ℕ) (h : Held) : Type 0 wh
   pub low : 1 ≤ h.count
   pub high : h.count ≤ steps
 
+-- the monitors and the waiting threads
 pub record MonitorsFine (image : Image) (threads : List Thread) (sh : Shared) (steps : ℕ) : Type 0 where
   pub waits : All (WaitFine image threads sh) sh.monitors.waits
   pub held : All (HeldFine threads steps) sh.monitors.held

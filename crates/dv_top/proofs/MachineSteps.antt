@@ -1,6 +1,6 @@
 -- A step of the tagged machine at an instruction of a straight method.
-use Rattle.std.proofs.Common.{◌≡◌, ℕ, ◌+◌, true, false, List, [], ◌∷◌, ◌++◌, length, ap, ◌∙◌, ℤ, suc, Option, Some, None}
-use Rattle.std.specs.Prelude.{slice_set, Ok, nat_le, codes}
+use Rattle.std.proofs.Common.{◌≡◌, ℕ, ◌+◌, Bool, true, false, List, [], ◌∷◌, ◌++◌, length, refl, ap, ◌∙◌, ℤ, suc, Option, Some, None}
+use Rattle.std.specs.Prelude.{◌&&◌, slice_set, Ok, nat_le, codes, if◌then◌else◌}
 use Rattle.dv_defs.specs.declared.image.Image.{Image}
 use Rattle.dv_defs.specs.declared.run.Limits.{Limits}
 use Rattle.dv_defs.specs.declared.run.Ending.TheVariants as ending
@@ -18,10 +18,10 @@ use Rattle.dv_defs.specs.Names.{console_name}
 use Rattle.dv_defs.specs.Numbers.{operate32}
 use Rattle.dv_defs.specs.Op.{Op, Nop, ReturnVoid, Const, MoveInt, IntOp, Invoke, Reg, needs}
 use Rattle.dv_defs.specs.Parts.{Bin, Call}
-use Rattle.dv_defs.specs.Pools.{Method, method_at, name_at}
+use Rattle.dv_defs.specs.Pools.{Method, method_at, name_at, is_constructor}
 use Rattle.dv_defs.specs.Statics.{At, fetch}
 use Rattle.dv_defs.specs.Demands.{is_void}
-use Rattle.dv_machine.specs.Calls.{native_among, all_natives, landed, Lands, enter}
+use Rattle.dv_machine.specs.Calls.{native_among, all_natives, landed, landed_on, Lands, unless_pending}
 use Rattle.dv_machine.specs.Local.{const_value}
 use Rattle.dv_machine.specs.Natives.{native_step, printed}
 use Rattle.dv_machine.specs.Threads.{goes}
@@ -57,7 +57,7 @@ abbrev pub call_of : ℕ → Op
 call_of from = Invoke Call.Static (from ∷ []) println_method
 
 abbrev by_native : Here → List Value → Option Native → Did Left
-by_native h xs n = elim n [ Some n ↦ native_step h n xs | None ↦ enter h println_method xs false ]
+by_native h xs n = landed_on h (native_step h) println_method xs n
 
 -- at an instruction of the method `own`
 module _ (image : Image) (own : Method) (limits : Limits) (sh : Shared) (at next : ℕ) (regs : List Value) (steps : ℕ) (found : method_at image 1 ≡ Some own) where
@@ -96,12 +96,18 @@ module _ (image : Image) (own : Method) (limits : Limits) (sh : Shared) (at next
 
   pub step_println : (from : ℕ) (n : ℤ) → ask_of sh.classes 1 0 ≡ ask.Go → name_at image 1 ≡ console_name → read_int (reg_at regs from) ≡ Ok n → fetch image 1 at ≡ Some (at_op (call_of from) next) → nat_le (length sh.output + length (line_of n)) limits.output ≡ true → step image (machine_with limits sh at regs steps) 0 ≡ Ok (machine_with limits (with_output sh (sh.output ++ line_of n)) next regs (suc steps))
   step_println from n ready named reads is room =
-      step_prints from n ready named reads is ∙ ap (λ b. settles image limits sh at regs steps (call_of from) next (elim b [ true ↦ goes (spot image own limits sh at next regs steps) (with_output sh (sh.output ++ line_of n)) | false ↦ NoOutput ])) room
+      step_prints from n ready named reads is ∙ ap (λ b. settles image limits sh at regs steps (call_of from) next (if b then goes (spot image own limits sh at next regs steps) (with_output sh (sh.output ++ line_of n)) else NoOutput)) room
 
   pub step_stops : (from : ℕ) (n : ℤ) → ask_of sh.classes 1 0 ≡ ask.Go → name_at image 1 ≡ console_name → read_int (reg_at regs from) ≡ Ok n → fetch image 1 at ≡ Some (at_op (call_of from) next) → nat_le (length sh.output + length (line_of n)) limits.output ≡ false → step image (machine_with limits sh at regs steps) 0 ≡ Ok (stopped (machine_with limits sh at regs steps) ending.Output)
   step_stops from n ready named reads is full =
-      step_prints from n ready named reads is ∙ ap (λ b. settles image limits sh at regs steps (call_of from) next (elim b [ true ↦ goes (spot image own limits sh at next regs steps) (with_output sh (sh.output ++ line_of n)) | false ↦ NoOutput ])) full
+      step_prints from n ready named reads is ∙ ap (λ b. settles image limits sh at regs steps (call_of from) next (if b then goes (spot image own limits sh at next regs steps) (with_output sh (sh.output ++ line_of n)) else NoOutput)) full
 
   pub step_return : own.def.proto.ret ≡ None → fetch image 1 at ≡ Some (at_op ReturnVoid next) → step image (machine_with limits sh at regs steps) 0 ≡ Ok (machine_returned limits sh (suc steps))
   step_return void is =
-      step_there ReturnVoid is ∙ ap (λ r. settles image limits sh at regs steps ReturnVoid next (elim (is_void r) [ true ↦ left (spot image own limits sh at next regs steps) sh [] | false ↦ IsStuck why.Result ])) void
+      step_there ReturnVoid is ∙
+      ap (λ r. settles image limits sh at regs steps ReturnVoid next (if is_void r then unless_pending (spot image own limits sh at next regs steps) (left (spot image own limits sh at next regs steps) sh []) else IsStuck why.Result)) void ∙
+      ap (λ b. settles image limits sh at regs steps ReturnVoid next (if b then IsStuck why.Uninitialised else left (spot image own limits sh at next regs steps) sh [])) (none_pending (is_constructor own))
+    where
+      none_pending : (b : Bool) → (b && false) ≡ false
+      none_pending true = refl
+      none_pending false = refl

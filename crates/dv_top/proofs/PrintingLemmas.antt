@@ -1,5 +1,6 @@
 -- Printed texts, piece by piece.
 use Rattle.std.proofs.Common.{◌≡◌, ℕ, ◌+◌, ◌-◌, add-one, ◌<◌, ◌≤◌, List, [], ◌∷◌, ◌++◌, length, get_or, nat_eq, true, false, take, arith, ap, sym, ◌∙◌, refl, append_assoc}
+use Rattle.std.specs.Prelude.{if◌then◌else◌}
 use Rattle.std.proofs.lemmas.Bool.Decides.{nat_tests}
 use Rattle.std.proofs.Math.Seq.{take-suc}
 use Rattle.dv_machine.specs.Final.{ends_well, closed, newline}
@@ -38,10 +39,10 @@ pub ends_broken : (xs : List ℕ) → 1 ≤ length xs → (get_or xs (length xs 
 ends_broken xs some other = ends_by_last xs (omega arith) ∙ is_not_ten _ other
 
 pub closed_whole : (xs : List ℕ) → ends_well xs ≡ true → xs ≡ closed xs
-closed_whole xs e = sym (ap (λ b. elim b [ true ↦ xs | false ↦ xs ++ newline ]) e)
+closed_whole xs e = sym (ap (λ b. if b then xs else xs ++ newline) e)
 
 pub closed_broken : (xs : List ℕ) → ends_well xs ≡ false → xs ++ newline ≡ closed xs
-closed_broken xs e = sym (ap (λ b. elim b [ true ↦ xs | false ↦ xs ++ newline ]) e)
+closed_broken xs e = sym (ap (λ b. if b then xs else xs ++ newline) e)
 
 -- one line more
 pub one_fault_more : (class : List ℕ) (faults : List Fault) (f : Fault) → main_fault_text class (faults ++ f ∷ []) ≡ main_fault_text class faults ++ (main_fault_line class f ++ 10 ∷ [])

@@ -31,7 +31,7 @@ object_class =
     class (codes "Ljava/lang/Object;") None [] 0 []
     (method (codes "<init>") [] None 0 (Some (body 1 (0x000e ∷ [])))
     ∷ method (codes "equals") (of_class (codes "Ljava/lang/Object;") ∷ []) (Some of_boolean) 0
-        (Some (body 3 (0x2133 ∷ 0x0004 ∷ 0x1012 ∷ 0x000f ∷ 0x0012 ∷ 0x000f ∷ [])))
+    (Some (body 3 (0x2133 ∷ 0x0004 ∷ 0x1012 ∷ 0x000f ∷ 0x0012 ∷ 0x000f ∷ [])))
     ∷ method (codes "wait") [] None 0x410 None
     ∷ method (codes "notify") [] None 0x400 None
     ∷ method (codes "notifyAll") [] None 0x400 None ∷ []) []
@@ -87,7 +87,7 @@ thread_class =
     (field (codes "target") (of_class (codes "Ljava/lang/Runnable;")) 0 ∷ [])
     (method (codes "<init>") [] None 0 (Some (body 1 (0x1070 ∷ 0x0000 ∷ 0x0000 ∷ 0x000e ∷ [])))
     ∷ method (codes "<init>") (of_class (codes "Ljava/lang/Runnable;") ∷ []) None 0
-        (Some (body 2 (0x1070 ∷ 0x0000 ∷ 0x0000 ∷ 0x015b ∷ 0x0000 ∷ 0x000e ∷ [])))
+    (Some (body 2 (0x1070 ∷ 0x0000 ∷ 0x0000 ∷ 0x015b ∷ 0x0000 ∷ 0x000e ∷ [])))
     ∷ method (codes "run") [] None 0 (Some (body 2 (0x1054 ∷ 0x0000 ∷ 0x0038 ∷ 0x0005 ∷ 0x1072 ∷ 0x0000 ∷ 0x0000 ∷ 0x000e ∷ [])))
     ∷ method (codes "start") [] None 0x400 None
     ∷ method (codes "join") [] None 0x400 None
@@ -198,31 +198,31 @@ string_builder_class =
     class (codes "Ljava/lang/StringBuilder;") (Some 0) [] 0x10
     (field (codes "text") (of_class (codes "Ljava/lang/String;")) 0 ∷ [])
     (method (codes "<init>") [] None 0
-        (Some (body_with 2 (0x1070 ∷ 0x0000 ∷ 0x0001 ∷ 0x001a ∷ 0x0000 ∷ 0x105b ∷ 0x0000 ∷ 0x000e ∷ []) [] ([] ∷ []) []))
+    (Some (body_with 2 (0x1070 ∷ 0x0000 ∷ 0x0001 ∷ 0x001a ∷ 0x0000 ∷ 0x105b ∷ 0x0000 ∷ 0x000e ∷ []) [] ([] ∷ []) []))
     ∷ method (codes "<init>") (of_class (codes "Ljava/lang/String;") ∷ []) None 0
-        (Some (body 2 (0x1070 ∷ 0x0000 ∷ 0x0000 ∷ 0x106e ∷ 0x0001 ∷ 0x0001 ∷ 0x015b ∷ 0x0000 ∷ 0x000e ∷ [])))
+    (Some (body 2 (0x1070 ∷ 0x0000 ∷ 0x0000 ∷ 0x106e ∷ 0x0001 ∷ 0x0001 ∷ 0x015b ∷ 0x0000 ∷ 0x000e ∷ [])))
     ∷ method (codes "append") (of_class (codes "Ljava/lang/String;") ∷ [])
-        (Some (of_class (codes "Ljava/lang/StringBuilder;"))) 0
-        (Some (body_with 3
-              (0x0239 ∷ 0x0004 ∷ 0x021a ∷ 0x0000 ∷ 0x1054 ∷ 0x0000 ∷ 0x206e ∷ 0x0000 ∷ 0x0020 ∷ 0x000c ∷ 0x105b ∷
-               0x0000 ∷ 0x0111 ∷ [])
-              [] (codes "null" ∷ []) []))
+    (Some (of_class (codes "Ljava/lang/StringBuilder;"))) 0
+    (Some (body_with 3
+    (0x0239 ∷ 0x0004 ∷ 0x021a ∷ 0x0000 ∷ 0x1054 ∷ 0x0000 ∷ 0x206e ∷ 0x0000 ∷ 0x0020 ∷ 0x000c ∷ 0x105b ∷
+    0x0000 ∷ 0x0111 ∷ [])
+    [] (codes "null" ∷ []) []))
     ∷ method (codes "append") (of_int ∷ []) (Some (of_class (codes "Ljava/lang/StringBuilder;"))) 0
-        (Some (body 5 (0x4081 ∷ 0x2071 ∷ 0x0000 ∷ 0x0010 ∷ 0x000c ∷ 0x206e ∷ 0x0001 ∷ 0x0003 ∷ 0x0311 ∷ [])))
+    (Some (body 5 (0x4081 ∷ 0x2071 ∷ 0x0000 ∷ 0x0010 ∷ 0x000c ∷ 0x206e ∷ 0x0001 ∷ 0x0003 ∷ 0x0311 ∷ [])))
     ∷ method (codes "append") (of_long ∷ []) (Some (of_class (codes "Ljava/lang/StringBuilder;"))) 0
-        (Some (body 6 (0x2071 ∷ 0x0000 ∷ 0x0054 ∷ 0x000c ∷ 0x206e ∷ 0x0001 ∷ 0x0003 ∷ 0x0311 ∷ [])))
+    (Some (body 6 (0x2071 ∷ 0x0000 ∷ 0x0054 ∷ 0x000c ∷ 0x206e ∷ 0x0001 ∷ 0x0003 ∷ 0x0311 ∷ [])))
     ∷ method (codes "append") (of_char ∷ []) (Some (of_class (codes "Ljava/lang/StringBuilder;"))) 0
-        (Some (body_with 5
-              (0x1112 ∷ 0x1023 ∷ 0x0000 ∷ 0x0212 ∷ 0x0450 ∷ 0x0200 ∷ 0x3071 ∷ 0x0000 ∷ 0x0120 ∷ 0x000c ∷ 0x206e ∷
-               0x0001 ∷ 0x0003 ∷ 0x0311 ∷ [])
-              [] [] (array_of of_char ∷ [])))
+    (Some (body_with 5
+    (0x1112 ∷ 0x1023 ∷ 0x0000 ∷ 0x0212 ∷ 0x0450 ∷ 0x0200 ∷ 0x3071 ∷ 0x0000 ∷ 0x0120 ∷ 0x000c ∷ 0x206e ∷
+    0x0001 ∷ 0x0003 ∷ 0x0311 ∷ [])
+    [] [] (array_of of_char ∷ [])))
     ∷ method (codes "append") (of_boolean ∷ []) (Some (of_class (codes "Ljava/lang/StringBuilder;"))) 0
-        (Some (body_with 5
-              (0x0438 ∷ 0x0005 ∷ 0x001a ∷ 0x0000 ∷ 0x0328 ∷ 0x001a ∷ 0x0001 ∷ 0x206e ∷ 0x0000 ∷ 0x0003 ∷ 0x0311 ∷ [])
-              [] (codes "true" ∷ codes "false" ∷ []) []))
+    (Some (body_with 5
+    (0x0438 ∷ 0x0005 ∷ 0x001a ∷ 0x0000 ∷ 0x0328 ∷ 0x001a ∷ 0x0001 ∷ 0x206e ∷ 0x0000 ∷ 0x0003 ∷ 0x0311 ∷ [])
+    [] (codes "true" ∷ codes "false" ∷ []) []))
     ∷ method (codes "toString") [] (Some (of_class (codes "Ljava/lang/String;"))) 0 (Some (body 2 (0x1054 ∷ 0x0000 ∷ 0x0011 ∷ [])))
     ∷ method (codes "length") [] (Some of_int) 0
-        (Some (body 2 (0x1054 ∷ 0x0000 ∷ 0x106e ∷ 0x0000 ∷ 0x0000 ∷ 0x000a ∷ 0x000f ∷ []))) ∷ []) (1 ∷ [])
+    (Some (body 2 (0x1054 ∷ 0x0000 ∷ 0x106e ∷ 0x0000 ∷ 0x0000 ∷ 0x000a ∷ 0x000f ∷ []))) ∷ []) (1 ∷ [])
 
 --   .class final Ljava/lang/System;
 --   .super Ljava/lang/Object;
@@ -352,48 +352,48 @@ abbrev pub print_stream_class : ClassInfo
 print_stream_class =
     class (codes "Ljava/io/PrintStream;") (Some 0) [] 0 []
     (method (codes "println") [] None 0
-        (Some (body_with 2 (0x001a ∷ 0x0000 ∷ 0x1071 ∷ 0x0000 ∷ 0x0000 ∷ 0x000e ∷ []) [] ((10 ∷ []) ∷ []) []))
+    (Some (body_with 2 (0x001a ∷ 0x0000 ∷ 0x1071 ∷ 0x0000 ∷ 0x0000 ∷ 0x000e ∷ []) [] ((10 ∷ []) ∷ []) []))
     ∷ method (codes "print") (of_class (codes "Ljava/lang/String;") ∷ []) None 0
-        (Some (body_with 5 (0x0439 ∷ 0x0004 ∷ 0x041a ∷ 0x0000 ∷ 0x4007 ∷ 0x1071 ∷ 0x0000 ∷ 0x0000 ∷ 0x000e ∷ [])
-              [] (codes "null" ∷ []) []))
+    (Some (body_with 5 (0x0439 ∷ 0x0004 ∷ 0x041a ∷ 0x0000 ∷ 0x4007 ∷ 0x1071 ∷ 0x0000 ∷ 0x0000 ∷ 0x000e ∷ [])
+    [] (codes "null" ∷ []) []))
     ∷ method (codes "print") (of_int ∷ []) None 0
-        (Some (body 5 (0x4081 ∷ 0x2071 ∷ 0x0000 ∷ 0x0010 ∷ 0x000c ∷ 0x1071 ∷ 0x0001 ∷ 0x0000 ∷ 0x000e ∷ [])))
+    (Some (body 5 (0x4081 ∷ 0x2071 ∷ 0x0000 ∷ 0x0010 ∷ 0x000c ∷ 0x1071 ∷ 0x0001 ∷ 0x0000 ∷ 0x000e ∷ [])))
     ∷ method (codes "print") (of_long ∷ []) None 0
-        (Some (body 6 (0x2071 ∷ 0x0000 ∷ 0x0054 ∷ 0x000c ∷ 0x1071 ∷ 0x0001 ∷ 0x0000 ∷ 0x000e ∷ [])))
+    (Some (body 6 (0x2071 ∷ 0x0000 ∷ 0x0054 ∷ 0x000c ∷ 0x1071 ∷ 0x0001 ∷ 0x0000 ∷ 0x000e ∷ [])))
     ∷ method (codes "print") (of_char ∷ []) None 0
-        (Some (body_with 5
-              (0x1112 ∷ 0x1023 ∷ 0x0000 ∷ 0x0212 ∷ 0x0450 ∷ 0x0200 ∷ 0x3071 ∷ 0x0000 ∷ 0x0120 ∷ 0x000c ∷ 0x1071 ∷
-               0x0001 ∷ 0x0000 ∷ 0x000e ∷ [])
-              [] [] (array_of of_char ∷ [])))
+    (Some (body_with 5
+    (0x1112 ∷ 0x1023 ∷ 0x0000 ∷ 0x0212 ∷ 0x0450 ∷ 0x0200 ∷ 0x3071 ∷ 0x0000 ∷ 0x0120 ∷ 0x000c ∷ 0x1071 ∷
+    0x0001 ∷ 0x0000 ∷ 0x000e ∷ [])
+    [] [] (array_of of_char ∷ [])))
     ∷ method (codes "print") (of_boolean ∷ []) None 0
-        (Some (body_with 5
-              (0x0438 ∷ 0x0005 ∷ 0x001a ∷ 0x0000 ∷ 0x0328 ∷ 0x001a ∷ 0x0001 ∷ 0x1071 ∷ 0x0000 ∷ 0x0000 ∷ 0x000e ∷ [])
-              [] (codes "true" ∷ codes "false" ∷ []) []))
+    (Some (body_with 5
+    (0x0438 ∷ 0x0005 ∷ 0x001a ∷ 0x0000 ∷ 0x0328 ∷ 0x001a ∷ 0x0001 ∷ 0x1071 ∷ 0x0000 ∷ 0x0000 ∷ 0x000e ∷ [])
+    [] (codes "true" ∷ codes "false" ∷ []) []))
     ∷ method (codes "println") (of_class (codes "Ljava/lang/String;") ∷ []) None 0
-        (Some (body_with 5
-              (0x0439 ∷ 0x0004 ∷ 0x041a ∷ 0x0000 ∷ 0x4007 ∷ 0x011a ∷ 0x0001 ∷ 0x206e ∷ 0x0000 ∷ 0x0010 ∷ 0x000c ∷
-               0x1071 ∷ 0x0001 ∷ 0x0000 ∷ 0x000e ∷ [])
-              [] (codes "null" ∷ (10 ∷ []) ∷ []) []))
+    (Some (body_with 5
+    (0x0439 ∷ 0x0004 ∷ 0x041a ∷ 0x0000 ∷ 0x4007 ∷ 0x011a ∷ 0x0001 ∷ 0x206e ∷ 0x0000 ∷ 0x0010 ∷ 0x000c ∷
+    0x1071 ∷ 0x0001 ∷ 0x0000 ∷ 0x000e ∷ [])
+    [] (codes "null" ∷ (10 ∷ []) ∷ []) []))
     ∷ method (codes "println") (of_int ∷ []) None 0
-        (Some (body_with 5
-              (0x4081 ∷ 0x2071 ∷ 0x0000 ∷ 0x0010 ∷ 0x000c ∷ 0x011a ∷ 0x0000 ∷ 0x206e ∷ 0x0001 ∷ 0x0010 ∷ 0x000c ∷
-               0x1071 ∷ 0x0002 ∷ 0x0000 ∷ 0x000e ∷ [])
-              [] ((10 ∷ []) ∷ []) []))
+    (Some (body_with 5
+    (0x4081 ∷ 0x2071 ∷ 0x0000 ∷ 0x0010 ∷ 0x000c ∷ 0x011a ∷ 0x0000 ∷ 0x206e ∷ 0x0001 ∷ 0x0010 ∷ 0x000c ∷
+    0x1071 ∷ 0x0002 ∷ 0x0000 ∷ 0x000e ∷ [])
+    [] ((10 ∷ []) ∷ []) []))
     ∷ method (codes "println") (of_long ∷ []) None 0
-        (Some (body_with 6
-              (0x2071 ∷ 0x0000 ∷ 0x0054 ∷ 0x000c ∷ 0x011a ∷ 0x0000 ∷ 0x206e ∷ 0x0001 ∷ 0x0010 ∷ 0x000c ∷ 0x1071 ∷
-               0x0002 ∷ 0x0000 ∷ 0x000e ∷ [])
-              [] ((10 ∷ []) ∷ []) []))
+    (Some (body_with 6
+    (0x2071 ∷ 0x0000 ∷ 0x0054 ∷ 0x000c ∷ 0x011a ∷ 0x0000 ∷ 0x206e ∷ 0x0001 ∷ 0x0010 ∷ 0x000c ∷ 0x1071 ∷
+    0x0002 ∷ 0x0000 ∷ 0x000e ∷ [])
+    [] ((10 ∷ []) ∷ []) []))
     ∷ method (codes "println") (of_char ∷ []) None 0
-        (Some (body_with 5
-              (0x1112 ∷ 0x1023 ∷ 0x0000 ∷ 0x0212 ∷ 0x0450 ∷ 0x0200 ∷ 0x3071 ∷ 0x0000 ∷ 0x0120 ∷ 0x000c ∷ 0x011a ∷
-               0x0000 ∷ 0x206e ∷ 0x0001 ∷ 0x0010 ∷ 0x000c ∷ 0x1071 ∷ 0x0002 ∷ 0x0000 ∷ 0x000e ∷ [])
-              [] ((10 ∷ []) ∷ []) (array_of of_char ∷ [])))
+    (Some (body_with 5
+    (0x1112 ∷ 0x1023 ∷ 0x0000 ∷ 0x0212 ∷ 0x0450 ∷ 0x0200 ∷ 0x3071 ∷ 0x0000 ∷ 0x0120 ∷ 0x000c ∷ 0x011a ∷
+    0x0000 ∷ 0x206e ∷ 0x0001 ∷ 0x0010 ∷ 0x000c ∷ 0x1071 ∷ 0x0002 ∷ 0x0000 ∷ 0x000e ∷ [])
+    [] ((10 ∷ []) ∷ []) (array_of of_char ∷ [])))
     ∷ method (codes "println") (of_boolean ∷ []) None 0
-        (Some (body_with 5
-              (0x0438 ∷ 0x0005 ∷ 0x001a ∷ 0x0000 ∷ 0x0328 ∷ 0x001a ∷ 0x0001 ∷ 0x011a ∷ 0x0002 ∷ 0x206e ∷ 0x0000 ∷
-               0x0010 ∷ 0x000c ∷ 0x1071 ∷ 0x0001 ∷ 0x0000 ∷ 0x000e ∷ [])
-              [] (codes "true" ∷ codes "false" ∷ (10 ∷ []) ∷ []) [])) ∷ []) []
+    (Some (body_with 5
+    (0x0438 ∷ 0x0005 ∷ 0x001a ∷ 0x0000 ∷ 0x0328 ∷ 0x001a ∷ 0x0001 ∷ 0x011a ∷ 0x0002 ∷ 0x206e ∷ 0x0000 ∷
+    0x0010 ∷ 0x000c ∷ 0x1071 ∷ 0x0001 ∷ 0x0000 ∷ 0x000e ∷ [])
+    [] (codes "true" ∷ codes "false" ∷ (10 ∷ []) ∷ []) [])) ∷ []) []
 
 --   .class Ldvm/Text;
 --   .super Ljava/lang/Object;
@@ -461,17 +461,17 @@ abbrev pub throwable_class : ClassInfo
 throwable_class =
     class (codes "Ljava/lang/Throwable;") (Some 0) [] 0
     (field (codes "message") (of_class (codes "Ljava/lang/String;")) 0 ∷
-     field (codes "cause") (of_class (codes "Ljava/lang/Throwable;")) 0 ∷ [])
+    field (codes "cause") (of_class (codes "Ljava/lang/Throwable;")) 0 ∷ [])
     (method (codes "<init>") [] None 0 (Some (body 1 (0x1070 ∷ 0x0000 ∷ 0x0000 ∷ 0x000e ∷ [])))
     ∷ method (codes "<init>") (of_class (codes "Ljava/lang/String;") ∷ []) None 0
-        (Some (body 2 (0x1070 ∷ 0x0000 ∷ 0x0000 ∷ 0x015b ∷ 0x0000 ∷ 0x000e ∷ [])))
+    (Some (body 2 (0x1070 ∷ 0x0000 ∷ 0x0000 ∷ 0x015b ∷ 0x0000 ∷ 0x000e ∷ [])))
     ∷ method (codes "<init>") (of_class (codes "Ljava/lang/String;") ∷ of_class (codes "Ljava/lang/Throwable;") ∷ [])
-        None 0 (Some (body 3 (0x1070 ∷ 0x0000 ∷ 0x0000 ∷ 0x015b ∷ 0x0000 ∷ 0x025b ∷ 0x0001 ∷ 0x000e ∷ [])))
+    None 0 (Some (body 3 (0x1070 ∷ 0x0000 ∷ 0x0000 ∷ 0x015b ∷ 0x0000 ∷ 0x025b ∷ 0x0001 ∷ 0x000e ∷ [])))
     ∷ method (codes "<init>") (of_class (codes "Ljava/lang/Throwable;") ∷ []) None 0
-        (Some (body 2 (0x1070 ∷ 0x0000 ∷ 0x0000 ∷ 0x015b ∷ 0x0000 ∷ 0x000e ∷ [])))
+    (Some (body 2 (0x1070 ∷ 0x0000 ∷ 0x0000 ∷ 0x015b ∷ 0x0000 ∷ 0x000e ∷ [])))
     ∷ method (codes "getMessage") [] (Some (of_class (codes "Ljava/lang/String;"))) 0 (Some (body 2 (0x1054 ∷ 0x0000 ∷ 0x0011 ∷ [])))
     ∷ method (codes "getCause") [] (Some (of_class (codes "Ljava/lang/Throwable;"))) 0
-        (Some (body 2 (0x1054 ∷ 0x0000 ∷ 0x0011 ∷ []))) ∷ []) (3 ∷ 4 ∷ [])
+    (Some (body 2 (0x1054 ∷ 0x0000 ∷ 0x0011 ∷ []))) ∷ []) (3 ∷ 4 ∷ [])
 
 -- ---- the classes of exceptions
 
@@ -490,7 +490,7 @@ abbrev pub plain_constructors : List MethodDef
 plain_constructors =
     method (codes "<init>") [] None 0 (Some (body 1 (0x1070 ∷ 0x0000 ∷ 0x0000 ∷ 0x000e ∷ []))) ∷
     method (codes "<init>") (of_class (codes "Ljava/lang/String;") ∷ []) None 0
-        (Some (body 2 (0x2070 ∷ 0x0000 ∷ 0x0010 ∷ 0x000e ∷ []))) ∷ []
+    (Some (body 2 (0x2070 ∷ 0x0000 ∷ 0x0010 ∷ 0x000e ∷ []))) ∷ []
 
 -- and those with a cause, which some have beside them
 --   .method constructor <init>(Ljava/lang/String;Ljava/lang/Throwable;)V
@@ -506,9 +506,9 @@ plain_constructors =
 abbrev pub cause_constructors : List MethodDef
 cause_constructors =
     method (codes "<init>") (of_class (codes "Ljava/lang/String;") ∷ of_class (codes "Ljava/lang/Throwable;") ∷ [])
-        None 0 (Some (body 3 (0x3070 ∷ 0x0000 ∷ 0x0210 ∷ 0x000e ∷ []))) ∷
+    None 0 (Some (body 3 (0x3070 ∷ 0x0000 ∷ 0x0210 ∷ 0x000e ∷ []))) ∷
     method (codes "<init>") (of_class (codes "Ljava/lang/Throwable;") ∷ []) None 0
-        (Some (body 2 (0x2070 ∷ 0x0000 ∷ 0x0010 ∷ 0x000e ∷ []))) ∷ []
+    (Some (body 2 (0x2070 ∷ 0x0000 ∷ 0x0010 ∷ 0x000e ∷ []))) ∷ []
 
 -- under the superclass of this number, with these constructors and the fields of Throwable
 abbrev pub exception_under : ℕ → List ℕ → List MethodDef → ClassInfo
@@ -618,8 +618,8 @@ abbrev pub exception_in_initializer_error_class : ClassInfo
 exception_in_initializer_error_class =
     exception_under 25 (codes "Ljava/lang/ExceptionInInitializerError;")
     (plain_constructors ++
-     method (codes "<init>") (of_class (codes "Ljava/lang/Throwable;") ∷ []) None 0
-         (Some (body 2 (0x1070 ∷ 0x0000 ∷ 0x0000 ∷ 0x015b ∷ 0x0000 ∷ 0x000e ∷ []))) ∷ [])
+    method (codes "<init>") (of_class (codes "Ljava/lang/Throwable;") ∷ []) None 0
+    (Some (body 2 (0x1070 ∷ 0x0000 ∷ 0x0000 ∷ 0x015b ∷ 0x0000 ∷ 0x000e ∷ []))) ∷ [])
 
 --   .class Ljava/lang/IncompatibleClassChangeError;
 --   .super Ljava/lang/LinkageError;

@@ -10,7 +10,7 @@ use Rattle.dv_defs.specs.Joins.{array_of}
 use Rattle.dv_machine.specs.examples.Images.{of_char, method, class, info, bare, field_info}
 use Rattle.dv_machine.specs.examples.BootClasses.{boot_classes}
 
--- class and place, with the types, fields and methods that the body names
+-- by number, from 0
 abbrev pub boot_methods : List MethodInfo
 boot_methods =
     info 0 0 [] [] [] ∷
@@ -112,7 +112,7 @@ boot_methods =
     info 32 0 [] [] (83 ∷ []) ∷
     info 32 1 [] [] (84 ∷ []) ∷ []
 
--- class, place and first cell
+-- likewise
 abbrev pub boot_fields : List FieldInfo
 boot_fields = field_info 3 0 0 ∷ field_info 5 0 0 ∷ field_info 6 0 0 ∷ field_info 10 0 0 ∷ field_info 10 1 1 ∷ []
 
@@ -120,14 +120,14 @@ boot_fields = field_info 3 0 0 ∷ field_info 5 0 0 ∷ field_info 6 0 0 ∷ fie
 abbrev pub with_boot : List ClassInfo → List MethodInfo → List FieldInfo → Image
 with_boot classes methods fields =
     record {
-        classes = boot_classes ++ classes;
-        methods = boot_methods ++ methods;
-        fields = boot_fields ++ fields;
-        boot = 33;
+      classes = boot_classes ++ classes;
+      methods = boot_methods ++ methods;
+      fields = boot_fields ++ fields;
+      boot = 33;
     }
 
 -- with a class Main whose only member is a static main()V of this body, which names these types, fields and methods
 abbrev pub with_main : Body → List Ty → List ℕ → List ℕ → Image
 with_main b types fields methods =
     with_boot (class (codes "LMain;") (Some 0) [] 0 [] (method (codes "main") [] None 8 (Some b) ∷ []) [] ∷ [])
-        (info 33 0 types fields methods ∷ []) []
+    (info 33 0 types fields methods ∷ []) []

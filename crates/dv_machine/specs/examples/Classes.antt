@@ -56,10 +56,10 @@ abbrev pub crossing : Image
 crossing = with_boot
     (class (codes "LMain;") (Some 0) [] 0 []
     (method (codes "main") [] None 8
-        (Some (body_with 1
-              (0x0022 ∷ 0x0000 ∷ 0x1070 ∷ 0x0000 ∷ 0x0000 ∷ 0x106e ∷ 0x0001 ∷ 0x0000 ∷ 0x0071 ∷ 0x0002 ∷ 0x0000 ∷
-               0x000e ∷ [])
-              [] [] (of_class (codes "LT;") ∷ []))) ∷ []) [] ∷
+    (Some (body_with 1
+    (0x0022 ∷ 0x0000 ∷ 0x1070 ∷ 0x0000 ∷ 0x0000 ∷ 0x106e ∷ 0x0001 ∷ 0x0000 ∷ 0x0071 ∷ 0x0002 ∷ 0x0000 ∷
+    0x000e ∷ [])
+    [] [] (of_class (codes "LT;") ∷ []))) ∷ []) [] ∷
     class (codes "LA;") (Some 0) [] 0 []
     (method (codes "touch") [] None 8 (Some (body 0 (0x000e ∷ [])))
     ∷ method (codes "<clinit>") [] None 8 (Some (body 0 (0x0071 ∷ 0x0000 ∷ 0x0000 ∷ 0x000e ∷ []))) ∷ []) [] ∷
@@ -109,15 +109,15 @@ abbrev pub failing : Image
 failing = with_boot
     (class (codes "LMain;") (Some 0) [] 0 []
     (method (codes "main") [] None 8
-        (Some (body_with 1
-              (0x0071 ∷ 0x0000 ∷ 0x0000 ∷ 0x000e ∷ 0x1012 ∷ 0x1071 ∷ 0x0001 ∷ 0x0000 ∷ 0x0071 ∷ 0x0000 ∷ 0x0000 ∷
-               0x000e ∷ [])
-              (entry_over 0 3 (catch_type 0 4 ∷ []) ∷ [])
-              [] (of_class (codes "Ljava/lang/ExceptionInInitializerError;") ∷ []))) ∷ []) [] ∷
+    (Some (body_with 1
+    (0x0071 ∷ 0x0000 ∷ 0x0000 ∷ 0x000e ∷ 0x1012 ∷ 0x1071 ∷ 0x0001 ∷ 0x0000 ∷ 0x0071 ∷ 0x0000 ∷ 0x0000 ∷
+    0x000e ∷ [])
+    (entry_over 0 3 (catch_type 0 4 ∷ []) ∷ [])
+    [] (of_class (codes "Ljava/lang/ExceptionInInitializerError;") ∷ []))) ∷ []) [] ∷
     class (codes "LX;") (Some 0) [] 0 []
     (method (codes "<clinit>") [] None 8
-        (Some (body_with 1 (0x0022 ∷ 0x0000 ∷ 0x1070 ∷ 0x0000 ∷ 0x0000 ∷ 0x0027 ∷ [])
-              [] [] (of_class (codes "Ljava/lang/RuntimeException;") ∷ [])))
+    (Some (body_with 1 (0x0022 ∷ 0x0000 ∷ 0x1070 ∷ 0x0000 ∷ 0x0000 ∷ 0x0027 ∷ [])
+    [] [] (of_class (codes "Ljava/lang/RuntimeException;") ∷ [])))
     ∷ method (codes "t") [] None 8 (Some (body 0 (0x000e ∷ []))) ∷ []) [] ∷ [])
     (info 33 0 (of_class (codes "Ljava/lang/ExceptionInInitializerError;") ∷ []) [] (100 ∷ 40 ∷ []) ∷
     info 34 0 (of_class (codes "Ljava/lang/RuntimeException;") ∷ []) [] (55 ∷ []) ∷
@@ -167,7 +167,7 @@ ordering = with_boot
     (class (codes "LMain;") (Some 0) [] 0 []
     (method (codes "<clinit>") [] None 8 (Some (body 1 (0x1012 ∷ 0x1071 ∷ 0x0000 ∷ 0x0000 ∷ 0x000e ∷ [])))
     ∷ method (codes "main") [] None 8
-        (Some (body 1 (0x0071 ∷ 0x0000 ∷ 0x0000 ∷ 0x0060 ∷ 0x0000 ∷ 0x1071 ∷ 0x0001 ∷ 0x0000 ∷ 0x000e ∷ []))) ∷ []) [] ∷
+    (Some (body 1 (0x0071 ∷ 0x0000 ∷ 0x0000 ∷ 0x0060 ∷ 0x0000 ∷ 0x1071 ∷ 0x0001 ∷ 0x0000 ∷ 0x000e ∷ []))) ∷ []) [] ∷
     class (codes "LUpper;") (Some 0) [] 0
     (with_init (init.Num (pos 7)) (field (codes "x") of_int 8) ∷ [])
     (method (codes "<clinit>") [] None 8 (Some (body 1 (0x2012 ∷ 0x1071 ∷ 0x0000 ∷ 0x0000 ∷ 0x000e ∷ []))) ∷ []) [] ∷
@@ -205,11 +205,11 @@ abbrev pub failing_main : Image
 failing_main = with_boot
     (class (codes "LMain;") (Some 0) [] 0 []
     (method (codes "<clinit>") [] None 8
-        (Some (body_with 1 (0x0022 ∷ 0x0000 ∷ 0x1070 ∷ 0x0000 ∷ 0x0000 ∷ 0x0027 ∷ [])
-              [] [] (of_class (codes "Ljava/lang/OutOfMemoryError;") ∷ [])))
+    (Some (body_with 1 (0x0022 ∷ 0x0000 ∷ 0x1070 ∷ 0x0000 ∷ 0x0000 ∷ 0x0027 ∷ [])
+    [] [] (of_class (codes "Ljava/lang/OutOfMemoryError;") ∷ [])))
     ∷ method (codes "main") [] None 8
-        (Some (body_with 1 (0x0000 ∷ 0x000e ∷ 0x1012 ∷ 0x1071 ∷ 0x0000 ∷ 0x0000 ∷ 0x000e ∷ [])
-              (entry_over 0 2 (catch_all 2 ∷ []) ∷ []) [] [])) ∷ []) [] ∷ [])
+    (Some (body_with 1 (0x0000 ∷ 0x000e ∷ 0x1012 ∷ 0x1071 ∷ 0x0000 ∷ 0x0000 ∷ 0x000e ∷ [])
+    (entry_over 0 2 (catch_all 2 ∷ []) ∷ []) [] [])) ∷ []) [] ∷ [])
     (info 33 0 (of_class (codes "Ljava/lang/OutOfMemoryError;") ∷ []) [] (94 ∷ []) ∷
     info 33 1 [] [] (40 ∷ []) ∷ [])
     []
@@ -219,7 +219,7 @@ pub record Initialising : Type 0 where
   -- two threads initialise two classes that need each other
   pub each_waits_for_the_other :
       replay_text crossing 98 (steps 0 10 ∷ steps 1 2 ∷ []) ≡ lines
-          (codes "#blocked 0 class LA;" ∷ codes "#blocked 1 class LB;" ∷ codes "#end blocked" ∷ [])
+      (codes "#blocked 0 class LA;" ∷ codes "#blocked 1 class LB;" ∷ codes "#end blocked" ∷ [])
   -- one thread goes first
   pub one_goes_first : replay_text crossing 98 (steps 0 23 ∷ steps 1 3 ∷ []) ≡ lines (codes "#end done" ∷ [])
   -- a schedule that stops early
@@ -235,7 +235,7 @@ pub record Initialising : Type 0 where
   -- an initialiser that throws, and a second use of its class
   pub initialiser_throws :
       outcome failing 98 ≡ lines
-          (codes "1" ∷ codes "#uncaught 0 java.lang.NoClassDefFoundError" ∷ codes "#end done" ∷ [])
+      (codes "1" ∷ codes "#uncaught 0 java.lang.NoClassDefFoundError" ∷ codes "#end done" ∷ [])
   -- the program is accepted
   pub failing_is_accepted : Accepts failing
   -- main's class first, then a superclass, its class, the method; a class is initialised once

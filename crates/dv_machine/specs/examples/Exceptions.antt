@@ -29,12 +29,12 @@ use Rattle.dv_machine.specs.examples.Outcomes.{lines, outcome}
 abbrev pub exiting : Image
 exiting =
     with_main
-        (body_with 2
-             (0x0022 ∷ 0x0000 ∷ 0x1070 ∷ 0x0000 ∷ 0x0000 ∷ 0x001e ∷ 0x0112 ∷ 0x000e ∷ 0x1112 ∷ 0x1071 ∷ 0x0001 ∷
-              0x0001 ∷ 0x000e ∷ 0x2112 ∷ 0x1071 ∷ 0x0001 ∷ 0x0001 ∷ 0x000e ∷ [])
-             (entry_over 5 6 (catch_all 8 ∷ []) ∷ entry_over 6 7 (catch_all 13 ∷ []) ∷ []) []
-             (of_class (codes "Ljava/lang/Object;") ∷ []))
-        (of_class (codes "Ljava/lang/Object;") ∷ []) [] (0 ∷ 40 ∷ [])
+    (body_with 2
+    (0x0022 ∷ 0x0000 ∷ 0x1070 ∷ 0x0000 ∷ 0x0000 ∷ 0x001e ∷ 0x0112 ∷ 0x000e ∷ 0x1112 ∷ 0x1071 ∷ 0x0001 ∷
+    0x0001 ∷ 0x000e ∷ 0x2112 ∷ 0x1071 ∷ 0x0001 ∷ 0x0001 ∷ 0x000e ∷ [])
+    (entry_over 5 6 (catch_all 8 ∷ []) ∷ entry_over 6 7 (catch_all 13 ∷ []) ∷ []) []
+    (of_class (codes "Ljava/lang/Object;") ∷ []))
+    (of_class (codes "Ljava/lang/Object;") ∷ []) [] (0 ∷ 40 ∷ [])
 
 --   .class LMain;
 --   .super Ljava/lang/Object;
@@ -83,22 +83,22 @@ abbrev pub throwing : Image
 throwing = with_boot
     (class (codes "LMain;") (Some 0) [] 0 []
     (method (codes "main") [] None 8
-        (Some (body_with 2 (0x011a ∷ 0x0000 ∷ 0x0022 ∷ 0x0000 ∷ 0x2070 ∷ 0x0000 ∷ 0x0010 ∷ 0x0027 ∷ [])
-              [] (codes "no" ∷ []) (of_class (codes "Ljava/lang/RuntimeException;") ∷ [])))
+    (Some (body_with 2 (0x011a ∷ 0x0000 ∷ 0x0022 ∷ 0x0000 ∷ 0x2070 ∷ 0x0000 ∷ 0x0010 ∷ 0x0027 ∷ [])
+    [] (codes "no" ∷ []) (of_class (codes "Ljava/lang/RuntimeException;") ∷ [])))
     ∷ method (codes "deep") [] None 8 (Some (body 1 (0x0012 ∷ 0x0093 ∷ 0x0000 ∷ 0x000e ∷ [])))
     ∷ method (codes "catches") [] None 8
-        (Some (body_with 2
-              (0x0071 ∷ 0x0000 ∷ 0x0000 ∷ 0x000e ∷ 0x1112 ∷ 0x1071 ∷ 0x0001 ∷ 0x0001 ∷ 0x000e ∷ 0x000d ∷ 0x2112 ∷
-               0x1071 ∷ 0x0001 ∷ 0x0001 ∷ 0x0027 ∷ 0x3112 ∷ 0x1071 ∷ 0x0001 ∷ 0x0001 ∷ 0x000e ∷ [])
-              (entry_over 0 3 (catch_type 0 4 ∷ catch_type 1 9 ∷ catch_all 15 ∷ []) ∷ [])
-              []
-              (of_class (codes "Ljava/lang/NullPointerException;") ∷ of_class (codes "Ljava/lang/RuntimeException;") ∷ [])))
+    (Some (body_with 2
+    (0x0071 ∷ 0x0000 ∷ 0x0000 ∷ 0x000e ∷ 0x1112 ∷ 0x1071 ∷ 0x0001 ∷ 0x0001 ∷ 0x000e ∷ 0x000d ∷ 0x2112 ∷
+    0x1071 ∷ 0x0001 ∷ 0x0001 ∷ 0x0027 ∷ 0x3112 ∷ 0x1071 ∷ 0x0001 ∷ 0x0001 ∷ 0x000e ∷ [])
+    (entry_over 0 3 (catch_type 0 4 ∷ catch_type 1 9 ∷ catch_all 15 ∷ []) ∷ [])
+    []
+    (of_class (codes "Ljava/lang/NullPointerException;") ∷ of_class (codes "Ljava/lang/RuntimeException;") ∷ [])))
     ∷ method (codes "nothing") [] None 8 (Some (body 1 (0x0012 ∷ 0x0027 ∷ []))) ∷ []) [] ∷ [])
     (info 33 0 (of_class (codes "Ljava/lang/RuntimeException;") ∷ []) [] (56 ∷ []) ∷
     info 33 1 [] [] [] ∷
     info 33 2
-        (of_class (codes "Ljava/lang/NullPointerException;") ∷ of_class (codes "Ljava/lang/RuntimeException;") ∷ [])
-        [] (99 ∷ 40 ∷ []) ∷
+    (of_class (codes "Ljava/lang/NullPointerException;") ∷ of_class (codes "Ljava/lang/RuntimeException;") ∷ [])
+    [] (99 ∷ 40 ∷ []) ∷
     info 33 3 [] [] [] ∷ [])
     []
 
@@ -113,7 +113,7 @@ pub record Exceptions : Type 0 where
   -- the first handler whose type fits, and the exception thrown anew
   pub first_fitting_handler :
       outcome throwing 100 ≡ lines
-          (codes "2" ∷ codes "#uncaught 0 java.lang.ArithmeticException" ∷ codes "#end done" ∷ [])
+      (codes "2" ∷ codes "#uncaught 0 java.lang.ArithmeticException" ∷ codes "#end done" ∷ [])
   -- throw of null
   pub throw_of_null : outcome throwing 101 ≡ lines (codes "#uncaught 0 java.lang.NullPointerException" ∷ codes "#end done" ∷ [])
   -- the program is accepted

@@ -43,6 +43,7 @@ catch_type kind to = record { kind = Some kind; at = to }
 abbrev pub catch_all : ℕ → Handler
 catch_all to = record { kind = None; at = to }
 
+-- from a start up to an end, with its handlers
 abbrev pub entry_over : ℕ → ℕ → List Handler → Try
 entry_over start end handlers = record { start = start; end = end; handlers = handlers }
 
@@ -50,16 +51,17 @@ entry_over start end handlers = record { start = start; end = end; handlers = ha
 abbrev pub body_with : ℕ → List ℕ → List Try → List (List ℕ) → List Ty → Body
 body_with registers units tries strings types =
     record {
-        registers = registers;
-        units = units;
-        tries = tries;
-        strings = strings;
-        types = types;
-        fields = [];
-        methods = [];
-        raw = false;
+      registers = registers;
+      units = units;
+      tries = tries;
+      strings = strings;
+      types = types;
+      fields = [];
+      methods = [];
+      raw = false;
     }
 
+-- a body that names nothing and catches nothing
 abbrev pub body : ℕ → List ℕ → Body
 body registers units = body_with registers units [] [] []
 
@@ -70,6 +72,7 @@ method name params ret flags b = record { name = name; proto = record { params =
 abbrev pub field : List ℕ → Ty → ℕ → FieldDef
 field name t flags = record { name = name; ty = t; flags = flags; init = init.Absent }
 
+-- a static field with its value
 abbrev pub with_init : Init → FieldDef → FieldDef
 with_init i f = record { name = f.name; ty = f.ty; flags = f.flags; init = i }
 
@@ -82,6 +85,7 @@ field_ids xs = map (λ x. record { 0 = x }) xs
 abbrev pub method_ids : List ℕ → List MethodId
 method_ids ms = map (λ m. record { 0 = m }) ms
 
+-- a superclass, where there is one
 abbrev pub numbered : Option ℕ → Option ClassId
 numbered None = None
 numbered (Some c) = Some (record { 0 = c })
@@ -90,30 +94,30 @@ numbered (Some c) = Some (record { 0 = c })
 abbrev pub class : List ℕ → Option ℕ → List ℕ → ℕ → List FieldDef → List MethodDef → List ℕ → ClassInfo
 class name parent interfaces flags fields methods slots =
     record {
-        def = record {
-                name = name;
-                parent = None;
-                interfaces = [];
-                flags = flags;
-                fields = fields;
-                methods = methods;
-                line = 0;
-            };
-        parent = numbered parent;
-        interfaces = class_ids interfaces;
-        slots = field_ids slots;
-        table = [];
+      def = record {
+        name = name;
+        parent = None;
+        interfaces = [];
+        flags = flags;
+        fields = fields;
+        methods = methods;
+        line = 0;
+      };
+      parent = numbered parent;
+      interfaces = class_ids interfaces;
+      slots = field_ids slots;
+      table = [];
     }
 
 -- class and place, with the types, fields and methods that the body names
 abbrev pub info : ℕ → ℕ → List Ty → List ℕ → List ℕ → MethodInfo
 info c place types fields methods =
     record {
-        class = record { 0 = c };
-        place = place;
-        types = types;
-        fields = field_ids fields;
-        methods = method_ids methods;
+      class = record { 0 = c };
+      place = place;
+      types = types;
+      fields = field_ids fields;
+      methods = method_ids methods;
     }
 
 -- of a method without a body, or whose body names nothing

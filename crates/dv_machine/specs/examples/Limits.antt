@@ -17,9 +17,9 @@ use Rattle.dv_machine.specs.examples.Outcomes.{lines, outcome, outcome_within}
 abbrev pub fitting : Image
 fitting =
     with_main
-        (body_with 1 (0x0013 ∷ 0x003e ∷ 0x0023 ∷ 0x0000 ∷ 0x0021 ∷ 0x1071 ∷ 0x0000 ∷ 0x0000 ∷ 0x000e ∷ []) [] []
-             (array_of of_int ∷ []))
-        (array_of of_int ∷ []) [] (40 ∷ [])
+    (body_with 1 (0x0013 ∷ 0x003e ∷ 0x0023 ∷ 0x0000 ∷ 0x0021 ∷ 0x1071 ∷ 0x0000 ∷ 0x0000 ∷ 0x000e ∷ []) [] []
+    (array_of of_int ∷ []))
+    (array_of of_int ∷ []) [] (40 ∷ [])
 
 --   .registers 1
 --   const/16 v0, 0x3f
@@ -30,9 +30,9 @@ fitting =
 abbrev pub filling : Image
 filling =
     with_main
-        (body_with 1 (0x0013 ∷ 0x003f ∷ 0x0023 ∷ 0x0000 ∷ 0x0021 ∷ 0x1071 ∷ 0x0000 ∷ 0x0000 ∷ 0x000e ∷ []) [] []
-             (array_of of_int ∷ []))
-        (array_of of_int ∷ []) [] (40 ∷ [])
+    (body_with 1 (0x0013 ∷ 0x003f ∷ 0x0023 ∷ 0x0000 ∷ 0x0021 ∷ 0x1071 ∷ 0x0000 ∷ 0x0000 ∷ 0x000e ∷ []) [] []
+    (array_of of_int ∷ []))
+    (array_of of_int ∷ []) [] (40 ∷ [])
 
 --   .class LMain;
 --   .super Ljava/lang/Object;
@@ -170,8 +170,8 @@ abbrev pub starting : Image
 starting = with_boot
     (class (codes "LMain;") (Some 0) [] 0 []
     (method (codes "main") [] None 8
-        (Some (body_with 1 (0x0022 ∷ 0x0000 ∷ 0x1070 ∷ 0x0000 ∷ 0x0000 ∷ 0x106e ∷ 0x0001 ∷ 0x0000 ∷ 0xf828 ∷ [])
-              [] [] (of_class (codes "LT;") ∷ []))) ∷ []) [] ∷
+    (Some (body_with 1 (0x0022 ∷ 0x0000 ∷ 0x1070 ∷ 0x0000 ∷ 0x0000 ∷ 0x106e ∷ 0x0001 ∷ 0x0000 ∷ 0xf828 ∷ [])
+    [] [] (of_class (codes "LT;") ∷ []))) ∷ []) [] ∷
     class (codes "LT;") (Some 3) [] 0 []
     (method (codes "<init>") [] None 0 (Some (body 1 (0x1070 ∷ 0x0000 ∷ 0x0000 ∷ 0x000e ∷ []))) ∷ []) (0 ∷ []) ∷ [])
     (info 33 0 (of_class (codes "LT;") ∷ []) [] (99 ∷ 9 ∷ []) ∷
@@ -199,8 +199,8 @@ pub record Stops : Type 0 where
   -- but into eight
   pub output_suffices :
       outcome_within (record usual { output = 8 }) printing 98 ≡ lines
-          (codes "123" ∷ codes "123" ∷ codes "#end done" ∷ [])
+      (codes "123" ∷ codes "123" ∷ codes "#end done" ∷ [])
   -- a fourth thread where three may be
   pub threads_are_few :
       outcome_within (record usual { threads = 3 }) starting 98 ≡ lines
-          (codes "#uncaught 0 java.lang.OutOfMemoryError" ∷ codes "#end done" ∷ [])
+      (codes "#uncaught 0 java.lang.OutOfMemoryError" ∷ codes "#end done" ∷ [])

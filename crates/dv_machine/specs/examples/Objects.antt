@@ -141,28 +141,28 @@ abbrev pub calling : Image
 calling = with_boot
     (class (codes "LMain;") (Some 0) [] 0 []
     (method (codes "main") [] None 8
-        (Some (body_with 4
-              (0x0022 ∷ 0x0000 ∷ 0x0107 ∷ 0x1070 ∷ 0x0000 ∷ 0x0000 ∷ 0x1072 ∷ 0x0001 ∷ 0x0001 ∷ 0x106e ∷ 0x0002 ∷
-               0x0001 ∷ 0x020a ∷ 0x1071 ∷ 0x0003 ∷ 0x0002 ∷ 0x0216 ∷ 0x0014 ∷ 0x1112 ∷ 0x406e ∷ 0x0004 ∷ 0x1320 ∷
-               0x020b ∷ 0x2184 ∷ 0x1071 ∷ 0x0003 ∷ 0x0001 ∷ 0x000e ∷ [])
-              [] [] (of_class (codes "LLower;") ∷ [])))
+    (Some (body_with 4
+    (0x0022 ∷ 0x0000 ∷ 0x0107 ∷ 0x1070 ∷ 0x0000 ∷ 0x0000 ∷ 0x1072 ∷ 0x0001 ∷ 0x0001 ∷ 0x106e ∷ 0x0002 ∷
+    0x0001 ∷ 0x020a ∷ 0x1071 ∷ 0x0003 ∷ 0x0002 ∷ 0x0216 ∷ 0x0014 ∷ 0x1112 ∷ 0x406e ∷ 0x0004 ∷ 0x1320 ∷
+    0x020b ∷ 0x2184 ∷ 0x1071 ∷ 0x0003 ∷ 0x0001 ∷ 0x000e ∷ [])
+    [] [] (of_class (codes "LLower;") ∷ [])))
     ∷ method (codes "wrong") [] None 8
-        (Some (body_with 1 (0x0022 ∷ 0x0000 ∷ 0x1070 ∷ 0x0000 ∷ 0x0000 ∷ 0x1072 ∷ 0x0001 ∷ 0x0000 ∷ 0x000e ∷ [])
-              [] [] (of_class (codes "Ljava/lang/Object;") ∷ [])))
+    (Some (body_with 1 (0x0022 ∷ 0x0000 ∷ 0x1070 ∷ 0x0000 ∷ 0x0000 ∷ 0x1072 ∷ 0x0001 ∷ 0x0000 ∷ 0x000e ∷ [])
+    [] [] (of_class (codes "Ljava/lang/Object;") ∷ [])))
     ∷ method (codes "none") [] None 8
-        (Some (body_with 1 (0x0022 ∷ 0x0000 ∷ 0x1070 ∷ 0x0000 ∷ 0x0000 ∷ 0x1072 ∷ 0x0001 ∷ 0x0000 ∷ 0x000e ∷ [])
-              [] [] (of_class (codes "LEmpty;") ∷ [])))
+    (Some (body_with 1 (0x0022 ∷ 0x0000 ∷ 0x1070 ∷ 0x0000 ∷ 0x0000 ∷ 0x1072 ∷ 0x0001 ∷ 0x0000 ∷ 0x000e ∷ [])
+    [] [] (of_class (codes "LEmpty;") ∷ [])))
     ∷ method (codes "nobody") [] None 8 (Some (body 1 (0x0012 ∷ 0x1072 ∷ 0x0000 ∷ 0x0000 ∷ 0x000e ∷ [])))
     ∷ method (codes "cells") [] None 8
-        (Some (body_with 3
-              (0x0022 ∷ 0x0000 ∷ 0x1070 ∷ 0x0000 ∷ 0x0000 ∷ 0x0113 ∷ 0x01ff ∷ 0x015d ∷ 0x0000 ∷ 0x0156 ∷ 0x0000 ∷
-               0x1071 ∷ 0x0001 ∷ 0x0001 ∷ 0x0116 ∷ 0x0008 ∷ 0x015a ∷ 0x0001 ∷ 0x0153 ∷ 0x0001 ∷ 0x1184 ∷ 0x1071 ∷
-               0x0001 ∷ 0x0001 ∷ 0x0156 ∷ 0x0000 ∷ 0x1071 ∷ 0x0001 ∷ 0x0001 ∷ 0x000e ∷ [])
-              [] [] (of_class (codes "LUpper;") ∷ [])))
+    (Some (body_with 3
+    (0x0022 ∷ 0x0000 ∷ 0x1070 ∷ 0x0000 ∷ 0x0000 ∷ 0x0113 ∷ 0x01ff ∷ 0x015d ∷ 0x0000 ∷ 0x0156 ∷ 0x0000 ∷
+    0x1071 ∷ 0x0001 ∷ 0x0001 ∷ 0x0116 ∷ 0x0008 ∷ 0x015a ∷ 0x0001 ∷ 0x0153 ∷ 0x0001 ∷ 0x1184 ∷ 0x1071 ∷
+    0x0001 ∷ 0x0001 ∷ 0x0156 ∷ 0x0000 ∷ 0x1071 ∷ 0x0001 ∷ 0x0001 ∷ 0x000e ∷ [])
+    [] [] (of_class (codes "LUpper;") ∷ [])))
     ∷ method (codes "cast") [] None 8
-        (Some (body_with 1 (0x0022 ∷ 0x0000 ∷ 0x1070 ∷ 0x0000 ∷ 0x0000 ∷ 0x001f ∷ 0x0001 ∷ 0x001f ∷ 0x0002 ∷ 0x000e ∷ [])
-              [] []
-              (of_class (codes "LUpper;") ∷ of_class (codes "Ljava/lang/Runnable;") ∷ of_class (codes "LLower;") ∷ []))) ∷ []) [] ∷
+    (Some (body_with 1 (0x0022 ∷ 0x0000 ∷ 0x1070 ∷ 0x0000 ∷ 0x0000 ∷ 0x001f ∷ 0x0001 ∷ 0x001f ∷ 0x0002 ∷ 0x000e ∷ [])
+    [] []
+    (of_class (codes "LUpper;") ∷ of_class (codes "Ljava/lang/Runnable;") ∷ of_class (codes "LLower;") ∷ []))) ∷ []) [] ∷
     class (codes "LUpper;") (Some 0) (1 ∷ []) 0
     (field (codes "b") of_byte 0 ∷ field (codes "w") of_long 0 ∷ [])
     (method (codes "<init>") [] None 0 (Some (body 1 (0x1070 ∷ 0x0000 ∷ 0x0000 ∷ 0x000e ∷ [])))
@@ -170,11 +170,11 @@ calling = with_boot
     ∷ method (codes "name") [] (Some of_int) 0 (Some (body 2 (0x3012 ∷ 0x000f ∷ [])))
     ∷ method (codes "sum") (of_long ∷ of_int ∷ []) (Some of_long) 2 (Some (body 6 (0x5081 ∷ 0x009b ∷ 0x0300 ∷ 0x0010 ∷ [])))
     ∷ method (codes "twice") (of_long ∷ of_int ∷ []) (Some of_long) 0
-        (Some (body 4 (0x4070 ∷ 0x0000 ∷ 0x3210 ∷ 0x010b ∷ 0x4070 ∷ 0x0000 ∷ 0x3210 ∷ 0x010b ∷ 0x0110 ∷ []))) ∷ []) (5 ∷ 6 ∷ []) ∷
+    (Some (body 4 (0x4070 ∷ 0x0000 ∷ 0x3210 ∷ 0x010b ∷ 0x4070 ∷ 0x0000 ∷ 0x3210 ∷ 0x010b ∷ 0x0110 ∷ []))) ∷ []) (5 ∷ 6 ∷ []) ∷
     class (codes "LLower;") (Some 34) [] 0 []
     (method (codes "<init>") [] None 0 (Some (body 1 (0x1070 ∷ 0x0000 ∷ 0x0000 ∷ 0x000e ∷ [])))
     ∷ method (codes "run") [] None 0
-        (Some (body 2 (0x106f ∷ 0x0000 ∷ 0x0001 ∷ 0x2012 ∷ 0x1071 ∷ 0x0001 ∷ 0x0000 ∷ 0x000e ∷ []))) ∷ []) (5 ∷ 6 ∷ []) ∷
+    (Some (body 2 (0x106f ∷ 0x0000 ∷ 0x0001 ∷ 0x2012 ∷ 0x1071 ∷ 0x0001 ∷ 0x0000 ∷ 0x000e ∷ []))) ∷ []) (5 ∷ 6 ∷ []) ∷
     class (codes "LBare;") (Some 0) (1 ∷ []) 0x1000 []
     (method (codes "<init>") [] None 0 (Some (body 1 (0x1070 ∷ 0x0000 ∷ 0x0000 ∷ 0x000e ∷ []))) ∷ []) [] ∷
     class (codes "LEmpty;") (Some 36) [] 0 []
@@ -274,28 +274,28 @@ abbrev pub arrays : Image
 arrays = with_boot
     (class (codes "LMain;") (Some 0) [] 0 []
     (method (codes "main") [] None 8
-        (Some (body_with 4
-              (0x3012 ∷ 0x0123 ∷ 0x0000 ∷ 0x0126 ∷ 0x0015 ∷ 0x0000 ∷ 0x1012 ∷ 0x0244 ∷ 0x0001 ∷ 0x1071 ∷ 0x0000 ∷
-               0x0002 ∷ 0x2024 ∷ 0x0000 ∷ 0x0002 ∷ 0x010c ∷ 0x1221 ∷ 0x1071 ∷ 0x0000 ∷ 0x0002 ∷ 0x2212 ∷ 0x0244 ∷
-               0x0201 ∷ 0x000e ∷ 0x0300 ∷ 0x0004 ∷ 0x0002 ∷ 0x0000 ∷ 0x0005 ∷ 0x0000 ∷ 0xfffa ∷ 0xffff ∷ [])
-              [] [] (array_of of_int ∷ [])))
+    (Some (body_with 4
+    (0x3012 ∷ 0x0123 ∷ 0x0000 ∷ 0x0126 ∷ 0x0015 ∷ 0x0000 ∷ 0x1012 ∷ 0x0244 ∷ 0x0001 ∷ 0x1071 ∷ 0x0000 ∷
+    0x0002 ∷ 0x2024 ∷ 0x0000 ∷ 0x0002 ∷ 0x010c ∷ 0x1221 ∷ 0x1071 ∷ 0x0000 ∷ 0x0002 ∷ 0x2212 ∷ 0x0244 ∷
+    0x0201 ∷ 0x000e ∷ 0x0300 ∷ 0x0004 ∷ 0x0002 ∷ 0x0000 ∷ 0x0005 ∷ 0x0000 ∷ 0xfffa ∷ 0xffff ∷ [])
+    [] [] (array_of of_int ∷ [])))
     ∷ method (codes "short") [] None 8
-        (Some (body_with 3
-              (0x1012 ∷ 0x0123 ∷ 0x0000 ∷ 0x0126 ∷ 0x0005 ∷ 0x0000 ∷ 0x000e ∷ 0x0000 ∷ 0x0300 ∷ 0x0004 ∷ 0x0002 ∷
-               0x0000 ∷ 0x0005 ∷ 0x0000 ∷ 0xfffa ∷ 0xffff ∷ [])
-              [] [] (array_of of_int ∷ [])))
+    (Some (body_with 3
+    (0x1012 ∷ 0x0123 ∷ 0x0000 ∷ 0x0126 ∷ 0x0005 ∷ 0x0000 ∷ 0x000e ∷ 0x0000 ∷ 0x0300 ∷ 0x0004 ∷ 0x0002 ∷
+    0x0000 ∷ 0x0005 ∷ 0x0000 ∷ 0xfffa ∷ 0xffff ∷ [])
+    [] [] (array_of of_int ∷ [])))
     ∷ method (codes "stores") [] None 8
-        (Some (body_with 4
-              (0x1012 ∷ 0x0123 ∷ 0x0000 ∷ 0x0212 ∷ 0x024d ∷ 0x0201 ∷ 0x0322 ∷ 0x0001 ∷ 0x1070 ∷ 0x0000 ∷ 0x0003 ∷
-               0x034d ∷ 0x0201 ∷ 0x000e ∷ [])
-              [] [] (array_of (of_class (codes "Ljava/lang/String;")) ∷ of_class (codes "Ljava/lang/Object;") ∷ [])))
+    (Some (body_with 4
+    (0x1012 ∷ 0x0123 ∷ 0x0000 ∷ 0x0212 ∷ 0x024d ∷ 0x0201 ∷ 0x0322 ∷ 0x0001 ∷ 0x1070 ∷ 0x0000 ∷ 0x0003 ∷
+    0x034d ∷ 0x0201 ∷ 0x000e ∷ [])
+    [] [] (array_of (of_class (codes "Ljava/lang/String;")) ∷ of_class (codes "Ljava/lang/Object;") ∷ [])))
     ∷ method (codes "negative") [] None 8 (Some (body_with 2 (0xf012 ∷ 0x0123 ∷ 0x0000 ∷ 0x000e ∷ []) [] [] (array_of of_int ∷ [])))
     ∷ method (codes "null") [] None 8 (Some (body 3 (0x0012 ∷ 0xf112 ∷ 0x0244 ∷ 0x0100 ∷ 0x000e ∷ [])))
     ∷ method (codes "narrow") [] None 8
-        (Some (body_with 4
-              (0x2012 ∷ 0x0123 ∷ 0x0000 ∷ 0x0212 ∷ 0x3312 ∷ 0x034e ∷ 0x0201 ∷ 0x0347 ∷ 0x0201 ∷ 0x1071 ∷ 0x0000 ∷
-               0x0003 ∷ 0x2312 ∷ 0x034e ∷ 0x0201 ∷ 0x0347 ∷ 0x0201 ∷ 0x1071 ∷ 0x0000 ∷ 0x0003 ∷ 0x000e ∷ [])
-              [] [] (array_of of_boolean ∷ []))) ∷ []) [] ∷ [])
+    (Some (body_with 4
+    (0x2012 ∷ 0x0123 ∷ 0x0000 ∷ 0x0212 ∷ 0x3312 ∷ 0x034e ∷ 0x0201 ∷ 0x0347 ∷ 0x0201 ∷ 0x1071 ∷ 0x0000 ∷
+    0x0003 ∷ 0x2312 ∷ 0x034e ∷ 0x0201 ∷ 0x0347 ∷ 0x0201 ∷ 0x1071 ∷ 0x0000 ∷ 0x0003 ∷ 0x000e ∷ [])
+    [] [] (array_of of_boolean ∷ []))) ∷ []) [] ∷ [])
     (info 33 0 (array_of of_int ∷ []) [] (40 ∷ []) ∷
     info 33 1 (array_of of_int ∷ []) [] [] ∷
     info 33 2 (array_of (of_class (codes "Ljava/lang/String;")) ∷ of_class (codes "Ljava/lang/Object;") ∷ []) [] (0 ∷ []) ∷
@@ -370,26 +370,26 @@ abbrev pub texts : Image
 texts = with_boot
     (class (codes "LMain;") (Some 0) [] 0
     (with_init (init.Str (codes "hi")) (field (codes "greeting") (of_class (codes "Ljava/lang/String;")) 8) ∷
-     with_init (init.Num (negsuc 1)) (field (codes "big") of_long 8) ∷
-     with_init init.Null (field (codes "nothing") (of_class (codes "Ljava/lang/String;")) 8) ∷ [])
+    with_init (init.Num (negsuc 1)) (field (codes "big") of_long 8) ∷
+    with_init init.Null (field (codes "nothing") (of_class (codes "Ljava/lang/String;")) 8) ∷ [])
     (method (codes "main") [] None 8
-        (Some (body_with 4
-              (0x0062 ∷ 0x0000 ∷ 0x0122 ∷ 0x0000 ∷ 0x1070 ∷ 0x0000 ∷ 0x0001 ∷ 0x0262 ∷ 0x0001 ∷ 0x206e ∷ 0x0001 ∷
-               0x0021 ∷ 0x9212 ∷ 0x206e ∷ 0x0002 ∷ 0x0021 ∷ 0x0261 ∷ 0x0002 ∷ 0x306e ∷ 0x0003 ∷ 0x0321 ∷ 0x0213 ∷
-               0x0021 ∷ 0x206e ∷ 0x0004 ∷ 0x0021 ∷ 0x106e ∷ 0x0005 ∷ 0x0001 ∷ 0x020c ∷ 0x206e ∷ 0x0006 ∷ 0x0020 ∷
-               0x0262 ∷ 0x0003 ∷ 0x206e ∷ 0x0006 ∷ 0x0020 ∷ 0x1212 ∷ 0x206e ∷ 0x0007 ∷ 0x0020 ∷ 0x000e ∷ [])
-              [] [] (of_class (codes "Ljava/lang/StringBuilder;") ∷ [])))
+    (Some (body_with 4
+    (0x0062 ∷ 0x0000 ∷ 0x0122 ∷ 0x0000 ∷ 0x1070 ∷ 0x0000 ∷ 0x0001 ∷ 0x0262 ∷ 0x0001 ∷ 0x206e ∷ 0x0001 ∷
+    0x0021 ∷ 0x9212 ∷ 0x206e ∷ 0x0002 ∷ 0x0021 ∷ 0x0261 ∷ 0x0002 ∷ 0x306e ∷ 0x0003 ∷ 0x0321 ∷ 0x0213 ∷
+    0x0021 ∷ 0x206e ∷ 0x0004 ∷ 0x0021 ∷ 0x106e ∷ 0x0005 ∷ 0x0001 ∷ 0x020c ∷ 0x206e ∷ 0x0006 ∷ 0x0020 ∷
+    0x0262 ∷ 0x0003 ∷ 0x206e ∷ 0x0006 ∷ 0x0020 ∷ 0x1212 ∷ 0x206e ∷ 0x0007 ∷ 0x0020 ∷ 0x000e ∷ [])
+    [] [] (of_class (codes "Ljava/lang/StringBuilder;") ∷ [])))
     ∷ method (codes "same") [] None 8
-        (Some (body_with 3
-              (0x001a ∷ 0x0000 ∷ 0x0162 ∷ 0x0000 ∷ 0x1033 ∷ 0x0006 ∷ 0x1212 ∷ 0x1071 ∷ 0x0000 ∷ 0x0002 ∷ 0x001c ∷
-               0x0000 ∷ 0x011c ∷ 0x0000 ∷ 0x1033 ∷ 0x0006 ∷ 0x2212 ∷ 0x1071 ∷ 0x0000 ∷ 0x0002 ∷ 0x001a ∷ 0x0001 ∷
-               0x011a ∷ 0x0002 ∷ 0x206e ∷ 0x0001 ∷ 0x0010 ∷ 0x000c ∷ 0x011a ∷ 0x0000 ∷ 0x206e ∷ 0x0002 ∷ 0x0010 ∷
-               0x020a ∷ 0x1071 ∷ 0x0000 ∷ 0x0002 ∷ 0x1033 ∷ 0x0003 ∷ 0x000e ∷ 0x2212 ∷ 0x206e ∷ 0x0003 ∷ 0x0020 ∷
-               0x000e ∷ [])
-              [] (codes "hi" ∷ codes "h" ∷ codes "i" ∷ []) (array_of of_int ∷ [])))
+    (Some (body_with 3
+    (0x001a ∷ 0x0000 ∷ 0x0162 ∷ 0x0000 ∷ 0x1033 ∷ 0x0006 ∷ 0x1212 ∷ 0x1071 ∷ 0x0000 ∷ 0x0002 ∷ 0x001c ∷
+    0x0000 ∷ 0x011c ∷ 0x0000 ∷ 0x1033 ∷ 0x0006 ∷ 0x2212 ∷ 0x1071 ∷ 0x0000 ∷ 0x0002 ∷ 0x001a ∷ 0x0001 ∷
+    0x011a ∷ 0x0002 ∷ 0x206e ∷ 0x0001 ∷ 0x0010 ∷ 0x000c ∷ 0x011a ∷ 0x0000 ∷ 0x206e ∷ 0x0002 ∷ 0x0010 ∷
+    0x020a ∷ 0x1071 ∷ 0x0000 ∷ 0x0002 ∷ 0x1033 ∷ 0x0003 ∷ 0x000e ∷ 0x2212 ∷ 0x206e ∷ 0x0003 ∷ 0x0020 ∷
+    0x000e ∷ [])
+    [] (codes "hi" ∷ codes "h" ∷ codes "i" ∷ []) (array_of of_int ∷ [])))
     ∷ method (codes "units") [] None 8
-        (Some (body_with 1 (0x001a ∷ 0x0000 ∷ 0x1071 ∷ 0x0000 ∷ 0x0000 ∷ 0x000e ∷ [])
-              [] ((233 ∷ 8364 ∷ 55357 ∷ 56832 ∷ 55357 ∷ []) ∷ []) [])) ∷ []) [] ∷ [])
+    (Some (body_with 1 (0x001a ∷ 0x0000 ∷ 0x1071 ∷ 0x0000 ∷ 0x0000 ∷ 0x000e ∷ [])
+    [] ((233 ∷ 8364 ∷ 55357 ∷ 56832 ∷ 55357 ∷ []) ∷ []) [])) ∷ []) [] ∷ [])
     (info 33 0 (of_class (codes "Ljava/lang/StringBuilder;") ∷ []) (2 ∷ 5 ∷ 6 ∷ 7 ∷ []) (17 ∷ 19 ∷ 20 ∷ 21 ∷ 22 ∷ 24 ∷ 32 ∷ 36 ∷ []) ∷
     info 33 1 (array_of of_int ∷ []) (5 ∷ []) (40 ∷ 15 ∷ 14 ∷ 13 ∷ []) ∷
     info 33 2 [] [] (39 ∷ []) ∷ [])
@@ -417,8 +417,8 @@ pub record Objects : Type 0 where
   -- elements of a payload, a filled array, an index out of range
   pub elements_and_index :
       outcome arrays 98 ≡ lines
-          (codes "-6" ∷ codes "2" ∷ codes "#uncaught 0 java.lang.ArrayIndexOutOfBoundsException" ∷ codes "#end done" ∷
-           [])
+      (codes "-6" ∷ codes "2" ∷ codes "#uncaught 0 java.lang.ArrayIndexOutOfBoundsException" ∷ codes "#end done" ∷
+      [])
   -- more elements than the array has
   pub fill_is_too_long : outcome arrays 99 ≡ lines (codes "#uncaught 0 java.lang.ArrayIndexOutOfBoundsException" ∷ codes "#end done" ∷ [])
   -- null may be stored, an object of another class not
@@ -436,8 +436,8 @@ pub record Objects : Type 0 where
   -- equal literals are one object, as are Class objects; a new string is another, but equal; its character 2 is out of range
   pub literals_are_one :
       outcome texts 99 ≡ lines
-          (codes "1" ∷ codes "2" ∷ codes "1" ∷ codes "#uncaught 0 java.lang.IndexOutOfBoundsException" ∷
-           codes "#end done" ∷ [])
+      (codes "1" ∷ codes "2" ∷ codes "1" ∷ codes "#uncaught 0 java.lang.IndexOutOfBoundsException" ∷
+      codes "#end done" ∷ [])
   -- characters of two, three and four bytes; a lone surrogate is a question mark; a newline closes the last line
   pub units_as_bytes :
       outcome texts 100 ≡ 0xc3 ∷ 0xa9 ∷ 0xe2 ∷ 0x82 ∷ 0xac ∷ 0xf0 ∷ 0x9f ∷ 0x98 ∷ 0x80 ∷ 0x3f ∷ 10 ∷

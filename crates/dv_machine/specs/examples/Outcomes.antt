@@ -13,6 +13,7 @@ use Rattle.dv_machine.specs.Opening.{usual, opening}
 use Rattle.dv_machine.specs.Replaying.{Replayed, Stands, NotRunnable, PastEnd, Wrong, replay, turn, runnable_from, picked}
 use Rattle.dv_machine.specs.Final.{final_text}
 
+-- each line with LF at its end
 abbrev pub lines : List (List ℕ) → List ℕ
 lines [] = []
 lines (l ∷ ls) = l ++ 10 ∷ lines ls
@@ -31,6 +32,7 @@ abbrev pub ended : Image → Machine → List ℕ → Option Ending → List ℕ
 ended image m early None = early
 ended image m early (Some e) = final_text image m
 
+-- the final text, or why the machine is stuck
 abbrev pub shown : Image → List ℕ → Reads Machine → List ℕ
 shown image early (Ok m) = ended image m early (ending_of image m)
 shown image early (Err y) = why_text y
@@ -40,9 +42,10 @@ abbrev pub worked : Image → ℕ → Machine → Reads Machine
 worked image zero m = Ok m
 worked image (suc n) m =
     elim (ending_of image m) [
-        Some e ↦ Ok m
+      | Some e ↦ Ok m
       | None ↦
-          on_next (turn image (picked (runnable_from image m m.threads 0) 0) 256 m) (λ x. worked image n x.machine) ]
+          on_next (turn image (picked (runnable_from image m m.threads 0) 0) 256 m) (λ x. worked image n x.machine)
+    ]
 
 abbrev pub outcome_of : Image → Limits → Option Method → List ℕ
 outcome_of image l None = codes "no main"
@@ -52,9 +55,11 @@ outcome_of image l (Some m) = shown image (codes "too many turns") (worked image
 abbrev pub outcome : Image → ℕ → List ℕ
 outcome image main = outcome_of image usual (method_at image main)
 
+-- within these limits
 abbrev pub outcome_within : Limits → Image → ℕ → List ℕ
 outcome_within l image main = outcome_of image l (method_at image main)
 
+-- the final text, what an entry is refused for, or why the machine is stuck
 abbrev pub replayed_text : Image → List ℕ → Replayed → List ℕ
 replayed_text image early (Stands m) = ended image m early (ending_of image m)
 replayed_text image early (NotRunnable k) = codes "#schedule entry " ++ decimal k ++ codes ": not runnable"

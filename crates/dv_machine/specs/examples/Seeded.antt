@@ -44,8 +44,8 @@ abbrev pub two_threads : Image
 two_threads = with_boot
     (class (codes "LMain;") (Some 0) [] 0 []
     (method (codes "main") [] None 8
-        (Some (body_with 1 (0x0022 ∷ 0x0000 ∷ 0x1070 ∷ 0x0000 ∷ 0x0000 ∷ 0x106e ∷ 0x0001 ∷ 0x0000 ∷ 0x000e ∷ [])
-              [] [] (of_class (codes "LT;") ∷ []))) ∷ []) [] ∷
+    (Some (body_with 1 (0x0022 ∷ 0x0000 ∷ 0x1070 ∷ 0x0000 ∷ 0x0000 ∷ 0x106e ∷ 0x0001 ∷ 0x0000 ∷ 0x000e ∷ [])
+    [] [] (of_class (codes "LT;") ∷ []))) ∷ []) [] ∷
     class (codes "LT;") (Some 3) [] 0 []
     (method (codes "<init>") [] None 0 (Some (body 1 (0x1070 ∷ 0x0000 ∷ 0x0000 ∷ 0x000e ∷ [])))
     ∷ method (codes "run") [] None 0 (Some (body 1 (0x000e ∷ []))) ∷ []) (0 ∷ []) ∷ [])
@@ -78,8 +78,8 @@ pub record SeededRuns : Type 0 where
   -- eight steps make and start the thread; then the thread at place 0 of two returns
   pub lowest_first :
       log_of two_threads 98 [] ≡ Ok
-          (steps 0 1 ∷ steps 0 1 ∷ steps 0 1 ∷ steps 0 1 ∷ steps 0 1 ∷ steps 0 1 ∷ steps 0 1 ∷ steps 0 1 ∷ steps 0 1 ∷
-           steps 1 1 ∷ [])
+      (steps 0 1 ∷ steps 0 1 ∷ steps 0 1 ∷ steps 0 1 ∷ steps 0 1 ∷ steps 0 1 ∷ steps 0 1 ∷ steps 0 1 ∷ steps 0 1 ∷
+      steps 1 1 ∷ [])
   -- the first words of the seed 0, as the generator's own tests have them: 18195738587432868099 as one number of 64 bits
   pub words_of_zero : word_of 0 0 + word_of 0 1 * 2 ^ 32 ≡ 18195738587432868099
   -- the first word ends in 03: a turn of at most four steps
@@ -87,5 +87,5 @@ pub record SeededRuns : Type 0 where
   -- place 3 mod 2 of two
   pub second_first :
       log_of two_threads 98 (0 ∷ 0 ∷ 0 ∷ 0 ∷ 0 ∷ 0 ∷ 0 ∷ 0 ∷ 0x300 ∷ []) ≡ Ok
-          (steps 0 1 ∷ steps 0 1 ∷ steps 0 1 ∷ steps 0 1 ∷ steps 0 1 ∷ steps 0 1 ∷ steps 0 1 ∷ steps 0 1 ∷ steps 1 1 ∷
-           steps 0 1 ∷ [])
+      (steps 0 1 ∷ steps 0 1 ∷ steps 0 1 ∷ steps 0 1 ∷ steps 0 1 ∷ steps 0 1 ∷ steps 0 1 ∷ steps 0 1 ∷ steps 1 1 ∷
+      steps 0 1 ∷ [])

@@ -213,19 +213,19 @@ raw_bodies = with_boot
     ∷ method (codes "other_payload") [] None 8 (Some (body 1 (0x002b ∷ 0x0004 ∷ 0x0000 ∷ 0x000e ∷ 0x0300 ∷ 0x0001 ∷ 0x0000 ∷ 0x0000 ∷ [])))
     ∷ method (codes "odd_payload") [] None 8 (Some (body 0 (0x000e ∷ 0x0100 ∷ 0x0000 ∷ 0x0000 ∷ 0x0000 ∷ [])))
     ∷ method (codes "switch_middle") [] None 8
-        (Some (body 1 (0x002b ∷ 0x0004 ∷ 0x0000 ∷ 0x000e ∷ 0x0100 ∷ 0x0001 ∷ 0x0000 ∷ 0x0000 ∷ 0x0001 ∷ 0x0000 ∷ [])))
+    (Some (body 1 (0x002b ∷ 0x0004 ∷ 0x0000 ∷ 0x000e ∷ 0x0100 ∷ 0x0001 ∷ 0x0000 ∷ 0x0000 ∷ 0x0001 ∷ 0x0000 ∷ [])))
     ∷ method (codes "equal_keys") [] None 8
-        (Some (body 1
-              (0x002c ∷ 0x0004 ∷ 0x0000 ∷ 0x000e ∷ 0x0200 ∷ 0x0002 ∷ 0x0005 ∷ 0x0000 ∷ 0x0005 ∷ 0x0000 ∷ 0x0003 ∷
-               0x0000 ∷ 0x0003 ∷ 0x0000 ∷ [])))
+    (Some (body 1
+    (0x002c ∷ 0x0004 ∷ 0x0000 ∷ 0x000e ∷ 0x0200 ∷ 0x0002 ∷ 0x0005 ∷ 0x0000 ∷ 0x0005 ∷ 0x0000 ∷ 0x0003 ∷
+    0x0000 ∷ 0x0003 ∷ 0x0000 ∷ [])))
     ∷ method (codes "falling_keys") [] None 8
-        (Some (body 1
-              (0x002c ∷ 0x0004 ∷ 0x0000 ∷ 0x000e ∷ 0x0200 ∷ 0x0002 ∷ 0x0005 ∷ 0x0000 ∷ 0xfffb ∷ 0xffff ∷ 0x0003 ∷
-               0x0000 ∷ 0x0003 ∷ 0x0000 ∷ [])))
+    (Some (body 1
+    (0x002c ∷ 0x0004 ∷ 0x0000 ∷ 0x000e ∷ 0x0200 ∷ 0x0002 ∷ 0x0005 ∷ 0x0000 ∷ 0xfffb ∷ 0xffff ∷ 0x0003 ∷
+    0x0000 ∷ 0x0003 ∷ 0x0000 ∷ [])))
     ∷ method (codes "last_key") [] None 8
-        (Some (body 1
-              (0x002b ∷ 0x0004 ∷ 0x0000 ∷ 0x000e ∷ 0x0100 ∷ 0x0002 ∷ 0xffff ∷ 0x7fff ∷ 0x0003 ∷ 0x0000 ∷ 0x0003 ∷
-               0x0000 ∷ [])))
+    (Some (body 1
+    (0x002b ∷ 0x0004 ∷ 0x0000 ∷ 0x000e ∷ 0x0100 ∷ 0x0002 ∷ 0xffff ∷ 0x7fff ∷ 0x0003 ∷ 0x0000 ∷ 0x0003 ∷
+    0x0000 ∷ [])))
     ∷ method (codes "register") [] None 8 (Some (body 1 (0x0112 ∷ 0x000e ∷ [])))
     ∷ method (codes "half_outside") [] None 8 (Some (body 1 (0x0016 ∷ 0x0000 ∷ 0x000e ∷ [])))
     ∷ method (codes "few") (of_int ∷ of_int ∷ []) None 8 (Some (body 1 (0x000e ∷ [])))
@@ -237,26 +237,26 @@ raw_bodies = with_boot
     ∷ method (codes "initialiser") [] None 8 (Some (body 0 (0x0071 ∷ 0x0000 ∷ 0x0000 ∷ 0x000e ∷ [])))
     ∷ method (codes "words") [] None 8 (Some (body 1 (0x1071 ∷ 0x0000 ∷ 0x0000 ∷ 0x000e ∷ [])))
     ∷ method (codes "interface") [] None 8
-        (Some (body_with 1 (0x0022 ∷ 0x0000 ∷ 0x000e ∷ []) [] [] (of_class (codes "Ljava/lang/Runnable;") ∷ [])))
+    (Some (body_with 1 (0x0022 ∷ 0x0000 ∷ 0x000e ∷ []) [] [] (of_class (codes "Ljava/lang/Runnable;") ∷ [])))
     ∷ method (codes "array") [] None 8 (Some (body_with 1 (0x0022 ∷ 0x0000 ∷ 0x000e ∷ []) [] [] (array_of of_int ∷ [])))
     ∷ method (codes "primitive") [] None 8 (Some (body_with 1 (0x0022 ∷ 0x0000 ∷ 0x000e ∷ []) [] [] (of_int ∷ [])))
     ∷ method (codes "no_array") [] None 8
-        (Some (body_with 1 (0x0023 ∷ 0x0000 ∷ 0x000e ∷ []) [] [] (of_class (codes "Ljava/lang/Object;") ∷ [])))
+    (Some (body_with 1 (0x0023 ∷ 0x0000 ∷ 0x000e ∷ []) [] [] (of_class (codes "Ljava/lang/Object;") ∷ [])))
     ∷ method (codes "chars") [] None 8 (Some (body_with 1 (0x1024 ∷ 0x0000 ∷ 0x0000 ∷ 0x000e ∷ []) [] [] (array_of of_char ∷ [])))
     ∷ method (codes "cast") [] None 8 (Some (body_with 1 (0x001f ∷ 0x0000 ∷ 0x000e ∷ []) [] [] (of_int ∷ [])))
     ∷ method (codes "empty_try") [] None 8 (Some (body_with 0 (0x0000 ∷ 0x000e ∷ []) (entry_over 0 0 (catch_all 0 ∷ []) ∷ []) [] []))
     ∷ method (codes "overlap") [] None 8
-        (Some (body_with 0 (0x0000 ∷ 0x0000 ∷ 0x000e ∷ [])
-              (entry_over 0 2 (catch_all 0 ∷ []) ∷ entry_over 1 3 (catch_all 0 ∷ []) ∷ []) [] []))
+    (Some (body_with 0 (0x0000 ∷ 0x0000 ∷ 0x000e ∷ [])
+    (entry_over 0 2 (catch_all 0 ∷ []) ∷ entry_over 1 3 (catch_all 0 ∷ []) ∷ []) [] []))
     ∷ method (codes "ends_inside") [] None 8
-        (Some (body_with 1 (0x0013 ∷ 0x0005 ∷ 0x000e ∷ []) (entry_over 0 1 (catch_all 2 ∷ []) ∷ []) [] []))
+    (Some (body_with 1 (0x0013 ∷ 0x0005 ∷ 0x000e ∷ []) (entry_over 0 1 (catch_all 2 ∷ []) ∷ []) [] []))
     ∷ method (codes "no_handler_there") [] None 8 (Some (body_with 0 (0x0000 ∷ 0x000e ∷ []) (entry_over 0 1 (catch_all 5 ∷ []) ∷ []) [] []))
     ∷ method (codes "no_throwable") [] None 8
-        (Some (body_with 0 (0x0000 ∷ 0x000e ∷ []) (entry_over 0 1 (catch_type 0 1 ∷ []) ∷ [])
-              [] (of_class (codes "Ljava/lang/Object;") ∷ [])))
+    (Some (body_with 0 (0x0000 ∷ 0x000e ∷ []) (entry_over 0 1 (catch_type 0 1 ∷ []) ∷ [])
+    [] (of_class (codes "Ljava/lang/Object;") ∷ [])))
     ∷ method (codes "all_not_last") [] None 8
-        (Some (body_with 0 (0x0000 ∷ 0x000e ∷ []) (entry_over 0 1 (catch_all 1 ∷ catch_type 0 1 ∷ []) ∷ [])
-              [] (of_class (codes "Ljava/lang/Error;") ∷ [])))
+    (Some (body_with 0 (0x0000 ∷ 0x000e ∷ []) (entry_over 0 1 (catch_all 1 ∷ catch_type 0 1 ∷ []) ∷ [])
+    [] (of_class (codes "Ljava/lang/Error;") ∷ [])))
     ∷ method (codes "several") [] None 8 (Some (body 1 (0x0228 ∷ 0x0112 ∷ 0x001a ∷ 0x0000 ∷ 0x000e ∷ []))) ∷ []) (5 ∷ []) ∷ [])
     (info 33 0 [] [] [] ∷
     info 33 1 [] [] [] ∷

@@ -34,9 +34,9 @@ half = with_main (body 2 (0x0016 ∷ 0x0007 ∷ 0x1071 ∷ 0x0000 ∷ 0x0000 ∷
 abbrev pub uninitialised : Image
 uninitialised =
     with_main
-        (body_with 2 (0x0022 ∷ 0x0000 ∷ 0x0120 ∷ 0x0000 ∷ 0x000e ∷ []) [] []
-             (of_class (codes "Ljava/lang/Object;") ∷ []))
-        (of_class (codes "Ljava/lang/Object;") ∷ []) [] []
+    (body_with 2 (0x0022 ∷ 0x0000 ∷ 0x0120 ∷ 0x0000 ∷ 0x000e ∷ []) [] []
+    (of_class (codes "Ljava/lang/Object;") ∷ []))
+    (of_class (codes "Ljava/lang/Object;") ∷ []) [] []
 
 --   .registers 2
 --   const-string v0, ""
@@ -52,8 +52,8 @@ reference = with_main (body_with 2 (0x001a ∷ 0x0000 ∷ 0x1071 ∷ 0x0000 ∷ 
 abbrev pub number : Image
 number =
     with_main
-        (body_with 2 (0x1012 ∷ 0x0120 ∷ 0x0000 ∷ 0x000e ∷ []) [] [] (of_class (codes "Ljava/lang/Object;") ∷ []))
-        (of_class (codes "Ljava/lang/Object;") ∷ []) [] []
+    (body_with 2 (0x1012 ∷ 0x0120 ∷ 0x0000 ∷ 0x000e ∷ []) [] [] (of_class (codes "Ljava/lang/Object;") ∷ []))
+    (of_class (codes "Ljava/lang/Object;") ∷ []) [] []
 
 --   .registers 2
 --   const/4 v0, 0x1
@@ -90,9 +90,9 @@ falls_off = with_main (body 1 (0x0000 ∷ [])) [] [] []
 abbrev pub twice : Image
 twice =
     with_main
-        (body_with 1 (0x0022 ∷ 0x0000 ∷ 0x1070 ∷ 0x0000 ∷ 0x0000 ∷ 0x1070 ∷ 0x0000 ∷ 0x0000 ∷ 0x000e ∷ []) [] []
-             (of_class (codes "Ljava/lang/Object;") ∷ []))
-        (of_class (codes "Ljava/lang/Object;") ∷ []) [] (0 ∷ [])
+    (body_with 1 (0x0022 ∷ 0x0000 ∷ 0x1070 ∷ 0x0000 ∷ 0x0000 ∷ 0x1070 ∷ 0x0000 ∷ 0x0000 ∷ 0x000e ∷ []) [] []
+    (of_class (codes "Ljava/lang/Object;") ∷ []))
+    (of_class (codes "Ljava/lang/Object;") ∷ []) [] (0 ∷ [])
 
 -- each reason for which the machine is stuck, on code that the verifier refuses
 pub record StuckReasons : Type 0 where

@@ -98,33 +98,33 @@ waiting_program = with_boot
     (class (codes "LMain;") (Some 0) [] 0
     (field (codes "o") (of_class (codes "Ljava/lang/Object;")) 8 ∷ [])
     (method (codes "main") [] None 8
-        (Some (body_with 3
-              (0x0022 ∷ 0x0000 ∷ 0x1070 ∷ 0x0000 ∷ 0x0000 ∷ 0x0069 ∷ 0x0000 ∷ 0x0122 ∷ 0x0001 ∷ 0x1070 ∷ 0x0001 ∷
-               0x0001 ∷ 0x001d ∷ 0x001d ∷ 0x106e ∷ 0x0002 ∷ 0x0001 ∷ 0x106e ∷ 0x0003 ∷ 0x0000 ∷ 0x001e ∷ 0x001e ∷
-               0x2212 ∷ 0x1071 ∷ 0x0004 ∷ 0x0002 ∷ 0x001e ∷ 0x000e ∷ [])
-              [] [] (of_class (codes "Ljava/lang/Object;") ∷ of_class (codes "LT;") ∷ [])))
+    (Some (body_with 3
+    (0x0022 ∷ 0x0000 ∷ 0x1070 ∷ 0x0000 ∷ 0x0000 ∷ 0x0069 ∷ 0x0000 ∷ 0x0122 ∷ 0x0001 ∷ 0x1070 ∷ 0x0001 ∷
+    0x0001 ∷ 0x001d ∷ 0x001d ∷ 0x106e ∷ 0x0002 ∷ 0x0001 ∷ 0x106e ∷ 0x0003 ∷ 0x0000 ∷ 0x001e ∷ 0x001e ∷
+    0x2212 ∷ 0x1071 ∷ 0x0004 ∷ 0x0002 ∷ 0x001e ∷ 0x000e ∷ [])
+    [] [] (of_class (codes "Ljava/lang/Object;") ∷ of_class (codes "LT;") ∷ [])))
     ∷ method (codes "alone") [] None 8
-        (Some (body_with 1 (0x0022 ∷ 0x0000 ∷ 0x1070 ∷ 0x0000 ∷ 0x0000 ∷ 0x106e ∷ 0x0001 ∷ 0x0000 ∷ 0x000e ∷ [])
-              [] [] (of_class (codes "Ljava/lang/Object;") ∷ [])))
+    (Some (body_with 1 (0x0022 ∷ 0x0000 ∷ 0x1070 ∷ 0x0000 ∷ 0x0000 ∷ 0x106e ∷ 0x0001 ∷ 0x0000 ∷ 0x000e ∷ [])
+    [] [] (of_class (codes "Ljava/lang/Object;") ∷ [])))
     ∷ method (codes "forever") [] None 8
-        (Some (body_with 1 (0x0022 ∷ 0x0000 ∷ 0x1070 ∷ 0x0000 ∷ 0x0000 ∷ 0x001d ∷ 0x106e ∷ 0x0001 ∷ 0x0000 ∷ 0x000e ∷ [])
-              [] [] (of_class (codes "Ljava/lang/Object;") ∷ [])))
+    (Some (body_with 1 (0x0022 ∷ 0x0000 ∷ 0x1070 ∷ 0x0000 ∷ 0x0000 ∷ 0x001d ∷ 0x106e ∷ 0x0001 ∷ 0x0000 ∷ 0x000e ∷ [])
+    [] [] (of_class (codes "Ljava/lang/Object;") ∷ [])))
     ∷ method (codes "joins") [] None 8
-        (Some (body_with 3
-              (0x0022 ∷ 0x0000 ∷ 0x1070 ∷ 0x0000 ∷ 0x0000 ∷ 0x0122 ∷ 0x0001 ∷ 0x1070 ∷ 0x0001 ∷ 0x0001 ∷ 0x0169 ∷
-               0x0000 ∷ 0x106e ∷ 0x0002 ∷ 0x0000 ∷ 0x106e ∷ 0x0003 ∷ 0x0000 ∷ 0x106e ∷ 0x0002 ∷ 0x0000 ∷ 0x5212 ∷
-               0x1071 ∷ 0x0004 ∷ 0x0002 ∷ 0x106e ∷ 0x0003 ∷ 0x0000 ∷ 0x000e ∷ [])
-              [] [] (of_class (codes "LT;") ∷ of_class (codes "Ljava/lang/Object;") ∷ [])))
+    (Some (body_with 3
+    (0x0022 ∷ 0x0000 ∷ 0x1070 ∷ 0x0000 ∷ 0x0000 ∷ 0x0122 ∷ 0x0001 ∷ 0x1070 ∷ 0x0001 ∷ 0x0001 ∷ 0x0169 ∷
+    0x0000 ∷ 0x106e ∷ 0x0002 ∷ 0x0000 ∷ 0x106e ∷ 0x0003 ∷ 0x0000 ∷ 0x106e ∷ 0x0002 ∷ 0x0000 ∷ 0x5212 ∷
+    0x1071 ∷ 0x0004 ∷ 0x0002 ∷ 0x106e ∷ 0x0003 ∷ 0x0000 ∷ 0x000e ∷ [])
+    [] [] (of_class (codes "LT;") ∷ of_class (codes "Ljava/lang/Object;") ∷ [])))
     ∷ method (codes "joins_itself") [] None 8 (Some (body 1 (0x0071 ∷ 0x0000 ∷ 0x0000 ∷ 0x000c ∷ 0x106e ∷ 0x0001 ∷ 0x0000 ∷ 0x000e ∷ [])))
     ∷ method (codes "held") [] None 8
-        (Some (body_with 3
-              (0x0022 ∷ 0x0000 ∷ 0x1070 ∷ 0x0000 ∷ 0x0000 ∷ 0x0069 ∷ 0x0000 ∷ 0x001d ∷ 0x0122 ∷ 0x0001 ∷ 0x1070 ∷
-               0x0001 ∷ 0x0001 ∷ 0x106e ∷ 0x0002 ∷ 0x0001 ∷ 0x106e ∷ 0x0003 ∷ 0x0001 ∷ 0x000e ∷ [])
-              [] [] (of_class (codes "Ljava/lang/Object;") ∷ of_class (codes "LT;") ∷ []))) ∷ []) [] ∷
+    (Some (body_with 3
+    (0x0022 ∷ 0x0000 ∷ 0x1070 ∷ 0x0000 ∷ 0x0000 ∷ 0x0069 ∷ 0x0000 ∷ 0x001d ∷ 0x0122 ∷ 0x0001 ∷ 0x1070 ∷
+    0x0001 ∷ 0x0001 ∷ 0x106e ∷ 0x0002 ∷ 0x0001 ∷ 0x106e ∷ 0x0003 ∷ 0x0001 ∷ 0x000e ∷ [])
+    [] [] (of_class (codes "Ljava/lang/Object;") ∷ of_class (codes "LT;") ∷ []))) ∷ []) [] ∷
     class (codes "LT;") (Some 3) [] 0 []
     (method (codes "<init>") [] None 0 (Some (body 1 (0x1070 ∷ 0x0000 ∷ 0x0000 ∷ 0x000e ∷ [])))
     ∷ method (codes "run") [] None 0
-        (Some (body 2 (0x0062 ∷ 0x0000 ∷ 0x001d ∷ 0x106e ∷ 0x0000 ∷ 0x0000 ∷ 0x001e ∷ 0x000e ∷ []))) ∷ []) (0 ∷ []) ∷ [])
+    (Some (body 2 (0x0062 ∷ 0x0000 ∷ 0x001d ∷ 0x106e ∷ 0x0000 ∷ 0x0000 ∷ 0x001e ∷ 0x000e ∷ []))) ∷ []) (0 ∷ []) ∷ [])
     (info 33 0 (of_class (codes "Ljava/lang/Object;") ∷ of_class (codes "LT;") ∷ []) (5 ∷ []) (0 ∷ 104 ∷ 9 ∷ 2 ∷ 40 ∷ []) ∷
     info 33 1 (of_class (codes "Ljava/lang/Object;") ∷ []) [] (0 ∷ 2 ∷ []) ∷
     info 33 2 (of_class (codes "Ljava/lang/Object;") ∷ []) [] (0 ∷ 2 ∷ []) ∷
@@ -266,43 +266,43 @@ boxing = with_boot
     (field (codes "full") of_boolean 2 ∷ field (codes "value") of_int 2 ∷ [])
     (method (codes "<init>") [] None 0 (Some (body 1 (0x1070 ∷ 0x0000 ∷ 0x0000 ∷ 0x000e ∷ [])))
     ∷ method (codes "put") (of_int ∷ []) None 0
-        (Some (body_with 4
-              (0x021d ∷ 0x2055 ∷ 0x0000 ∷ 0x0038 ∷ 0x0006 ∷ 0x106e ∷ 0x0000 ∷ 0x0002 ∷ 0xf928 ∷ 0x2359 ∷ 0x0001 ∷
-               0x1012 ∷ 0x205c ∷ 0x0000 ∷ 0x106e ∷ 0x0001 ∷ 0x0002 ∷ 0x021e ∷ 0x000e ∷ 0x000d ∷ 0x021e ∷ 0x0027 ∷ [])
-              (entry_over 1 17 (catch_all 19 ∷ []) ∷ []) [] []))
+    (Some (body_with 4
+    (0x021d ∷ 0x2055 ∷ 0x0000 ∷ 0x0038 ∷ 0x0006 ∷ 0x106e ∷ 0x0000 ∷ 0x0002 ∷ 0xf928 ∷ 0x2359 ∷ 0x0001 ∷
+    0x1012 ∷ 0x205c ∷ 0x0000 ∷ 0x106e ∷ 0x0001 ∷ 0x0002 ∷ 0x021e ∷ 0x000e ∷ 0x000d ∷ 0x021e ∷ 0x0027 ∷ [])
+    (entry_over 1 17 (catch_all 19 ∷ []) ∷ []) [] []))
     ∷ method (codes "take") [] (Some of_int) 0
-        (Some (body_with 3
-              (0x021d ∷ 0x2055 ∷ 0x0000 ∷ 0x0039 ∷ 0x0006 ∷ 0x106e ∷ 0x0000 ∷ 0x0002 ∷ 0xf928 ∷ 0x0012 ∷ 0x205c ∷
-               0x0000 ∷ 0x106e ∷ 0x0001 ∷ 0x0002 ∷ 0x2052 ∷ 0x0001 ∷ 0x021e ∷ 0x000f ∷ 0x000d ∷ 0x021e ∷ 0x0027 ∷ [])
-              (entry_over 1 17 (catch_all 19 ∷ []) ∷ []) [] [])) ∷ []) (5 ∷ 6 ∷ []) ∷
+    (Some (body_with 3
+    (0x021d ∷ 0x2055 ∷ 0x0000 ∷ 0x0039 ∷ 0x0006 ∷ 0x106e ∷ 0x0000 ∷ 0x0002 ∷ 0xf928 ∷ 0x0012 ∷ 0x205c ∷
+    0x0000 ∷ 0x106e ∷ 0x0001 ∷ 0x0002 ∷ 0x2052 ∷ 0x0001 ∷ 0x021e ∷ 0x000f ∷ 0x000d ∷ 0x021e ∷ 0x0027 ∷ [])
+    (entry_over 1 17 (catch_all 19 ∷ []) ∷ []) [] [])) ∷ []) (5 ∷ 6 ∷ []) ∷
     class (codes "LMaker;") (Some 3) [] 0
     (field (codes "box") (of_class (codes "LBox;")) 0x10 ∷ [])
     (method (codes "<init>") (of_class (codes "LBox;") ∷ []) None 0
-        (Some (body 2 (0x1070 ∷ 0x0000 ∷ 0x0000 ∷ 0x015b ∷ 0x0000 ∷ 0x000e ∷ [])))
+    (Some (body 2 (0x1070 ∷ 0x0000 ∷ 0x0000 ∷ 0x015b ∷ 0x0000 ∷ 0x000e ∷ [])))
     ∷ method (codes "run") [] None 0
-        (Some (body_with 4
-              (0x0012 ∷ 0x0113 ∷ 0x000a ∷ 0x1035 ∷ 0x000b ∷ 0x3154 ∷ 0x0000 ∷ 0x206e ∷ 0x0000 ∷ 0x0001 ∷ 0x00d8 ∷
-               0x0100 ∷ 0xf528 ∷ 0x000d ∷ 0x000e ∷ [])
-              (entry_over 5 10 (catch_type 0 13 ∷ []) ∷ [])
-              [] (of_class (codes "Ljava/lang/InterruptedException;") ∷ []))) ∷ []) (0 ∷ 7 ∷ []) ∷
+    (Some (body_with 4
+    (0x0012 ∷ 0x0113 ∷ 0x000a ∷ 0x1035 ∷ 0x000b ∷ 0x3154 ∷ 0x0000 ∷ 0x206e ∷ 0x0000 ∷ 0x0001 ∷ 0x00d8 ∷
+    0x0100 ∷ 0xf528 ∷ 0x000d ∷ 0x000e ∷ [])
+    (entry_over 5 10 (catch_type 0 13 ∷ []) ∷ [])
+    [] (of_class (codes "Ljava/lang/InterruptedException;") ∷ []))) ∷ []) (0 ∷ 7 ∷ []) ∷
     class (codes "LMain;") (Some 0) [] 0 []
     (method (codes "main") (array_of (of_class (codes "Ljava/lang/String;")) ∷ []) None 8
-        (Some (body_with 7
-              (0x0022 ∷ 0x0000 ∷ 0x1070 ∷ 0x0000 ∷ 0x0000 ∷ 0x0122 ∷ 0x0001 ∷ 0x2070 ∷ 0x0001 ∷ 0x0001 ∷ 0x106e ∷
-               0x0002 ∷ 0x0001 ∷ 0x0112 ∷ 0x0213 ∷ 0x000a ∷ 0x2135 ∷ 0x0021 ∷ 0x0262 ∷ 0x0000 ∷ 0x0322 ∷ 0x0002 ∷
-               0x1070 ∷ 0x0003 ∷ 0x0003 ∷ 0x041a ∷ 0x0000 ∷ 0x206e ∷ 0x0004 ∷ 0x0043 ∷ 0x030c ∷ 0x106e ∷ 0x0005 ∷
-               0x0000 ∷ 0x040a ∷ 0x206e ∷ 0x0006 ∷ 0x0043 ∷ 0x030c ∷ 0x106e ∷ 0x0007 ∷ 0x0003 ∷ 0x030c ∷ 0x206e ∷
-               0x0008 ∷ 0x0032 ∷ 0x01d8 ∷ 0x0101 ∷ 0xde28 ∷ 0x000e ∷ [])
-              [] (codes "got " ∷ [])
-              (of_class (codes "LBox;") ∷ of_class (codes "LMaker;") ∷ of_class (codes "Ljava/lang/StringBuilder;") ∷ []))) ∷ []) [] ∷ [])
+    (Some (body_with 7
+    (0x0022 ∷ 0x0000 ∷ 0x1070 ∷ 0x0000 ∷ 0x0000 ∷ 0x0122 ∷ 0x0001 ∷ 0x2070 ∷ 0x0001 ∷ 0x0001 ∷ 0x106e ∷
+    0x0002 ∷ 0x0001 ∷ 0x0112 ∷ 0x0213 ∷ 0x000a ∷ 0x2135 ∷ 0x0021 ∷ 0x0262 ∷ 0x0000 ∷ 0x0322 ∷ 0x0002 ∷
+    0x1070 ∷ 0x0003 ∷ 0x0003 ∷ 0x041a ∷ 0x0000 ∷ 0x206e ∷ 0x0004 ∷ 0x0043 ∷ 0x030c ∷ 0x106e ∷ 0x0005 ∷
+    0x0000 ∷ 0x040a ∷ 0x206e ∷ 0x0006 ∷ 0x0043 ∷ 0x030c ∷ 0x106e ∷ 0x0007 ∷ 0x0003 ∷ 0x030c ∷ 0x206e ∷
+    0x0008 ∷ 0x0032 ∷ 0x01d8 ∷ 0x0101 ∷ 0xde28 ∷ 0x000e ∷ [])
+    [] (codes "got " ∷ [])
+    (of_class (codes "LBox;") ∷ of_class (codes "LMaker;") ∷ of_class (codes "Ljava/lang/StringBuilder;") ∷ []))) ∷ []) [] ∷ [])
     (info 33 0 [] [] (0 ∷ []) ∷
     info 33 1 [] (5 ∷ 6 ∷ []) (2 ∷ 4 ∷ []) ∷
     info 33 2 [] (5 ∷ 6 ∷ []) (2 ∷ 4 ∷ []) ∷
     info 34 0 [] (7 ∷ []) (6 ∷ []) ∷
     info 34 1 (of_class (codes "Ljava/lang/InterruptedException;") ∷ []) (7 ∷ []) (99 ∷ []) ∷
     info 35 0
-        (of_class (codes "LBox;") ∷ of_class (codes "LMaker;") ∷ of_class (codes "Ljava/lang/StringBuilder;") ∷ [])
-        (2 ∷ []) (98 ∷ 101 ∷ 9 ∷ 17 ∷ 19 ∷ 100 ∷ 20 ∷ 24 ∷ 32 ∷ []) ∷ [])
+    (of_class (codes "LBox;") ∷ of_class (codes "LMaker;") ∷ of_class (codes "Ljava/lang/StringBuilder;") ∷ [])
+    (2 ∷ []) (98 ∷ 101 ∷ 9 ∷ 17 ∷ 19 ∷ 100 ∷ 20 ∷ 24 ∷ 32 ∷ []) ∷ [])
     (field_info 33 0 0 ∷ field_info 33 1 1 ∷ field_info 34 0 1 ∷ [])
 
 --   .class LG0;
@@ -384,38 +384,38 @@ abbrev pub summing : Image
 summing = with_boot
     (class (codes "LG0;") (Some 0) [] 0 []
     (method (codes "s") (of_int ∷ []) (Some of_int) 8
-        (Some (body 2
-              (0x0014 ∷ 0x0005 ∷ 0x0000 ∷ 0x0197 ∷ 0x0001 ∷ 0x01da ∷ 0x1f01 ∷ 0x0013 ∷ 0x0000 ∷ 0x0190 ∷ 0x0001 ∷
-               0x010f ∷ []))) ∷ []) [] ∷
+    (Some (body 2
+    (0x0014 ∷ 0x0005 ∷ 0x0000 ∷ 0x0197 ∷ 0x0001 ∷ 0x01da ∷ 0x1f01 ∷ 0x0013 ∷ 0x0000 ∷ 0x0190 ∷ 0x0001 ∷
+    0x010f ∷ []))) ∷ []) [] ∷
     class (codes "LG1;") (Some 0) [] 0 []
     (method (codes "s") (of_int ∷ []) (Some of_int) 8
-        (Some (body 2
-              (0x0014 ∷ 0x4248 ∷ 0x000f ∷ 0x0197 ∷ 0x0001 ∷ 0x01da ∷ 0x1f01 ∷ 0x0013 ∷ 0x0001 ∷ 0x0190 ∷ 0x0001 ∷
-               0x010f ∷ []))) ∷ []) [] ∷
+    (Some (body 2
+    (0x0014 ∷ 0x4248 ∷ 0x000f ∷ 0x0197 ∷ 0x0001 ∷ 0x01da ∷ 0x1f01 ∷ 0x0013 ∷ 0x0001 ∷ 0x0190 ∷ 0x0001 ∷
+    0x010f ∷ []))) ∷ []) [] ∷
     class (codes "LW;") (Some 3) [] 0
     (field (codes "id") of_int 0 ∷ [])
     (method (codes "<init>") (of_int ∷ []) None 0 (Some (body 2 (0x1070 ∷ 0x0000 ∷ 0x0000 ∷ 0x0159 ∷ 0x0000 ∷ 0x000e ∷ [])))
     ∷ method (codes "run") [] None 0
-        (Some (body 4
-              (0x3052 ∷ 0x0000 ∷ 0x1071 ∷ 0x0000 ∷ 0x0000 ∷ 0x000a ∷ 0x1071 ∷ 0x0001 ∷ 0x0000 ∷ 0x000a ∷ 0x0162 ∷
-               0x0001 ∷ 0x011d ∷ 0x0260 ∷ 0x0002 ∷ 0x0290 ∷ 0x0002 ∷ 0x0267 ∷ 0x0002 ∷ 0x011e ∷ 0x000e ∷ []))) ∷ []) (0 ∷ 5 ∷ []) ∷
+    (Some (body 4
+    (0x3052 ∷ 0x0000 ∷ 0x1071 ∷ 0x0000 ∷ 0x0000 ∷ 0x000a ∷ 0x1071 ∷ 0x0001 ∷ 0x0000 ∷ 0x000a ∷ 0x0162 ∷
+    0x0001 ∷ 0x011d ∷ 0x0260 ∷ 0x0002 ∷ 0x0290 ∷ 0x0002 ∷ 0x0267 ∷ 0x0002 ∷ 0x011e ∷ 0x000e ∷ []))) ∷ []) (0 ∷ 5 ∷ []) ∷
     class (codes "LMain;") (Some 0) [] 0
     (field (codes "total") of_int 8 ∷ field (codes "lock") (of_class (codes "Ljava/lang/Object;")) 8 ∷ [])
     (method (codes "main") [] None 8
-        (Some (body_with 4
-              (0x0022 ∷ 0x0000 ∷ 0x1070 ∷ 0x0000 ∷ 0x0000 ∷ 0x0069 ∷ 0x0000 ∷ 0x0013 ∷ 0x0002 ∷ 0x0123 ∷ 0x0001 ∷
-               0x0212 ∷ 0x0322 ∷ 0x0002 ∷ 0x2070 ∷ 0x0001 ∷ 0x0023 ∷ 0x034d ∷ 0x0201 ∷ 0x106e ∷ 0x0002 ∷ 0x0003 ∷
-               0x02d8 ∷ 0x0102 ∷ 0x0234 ∷ 0xfff4 ∷ 0x0212 ∷ 0x0346 ∷ 0x0201 ∷ 0x106e ∷ 0x0003 ∷ 0x0003 ∷ 0x02d8 ∷
-               0x0102 ∷ 0x0234 ∷ 0xfff9 ∷ 0x0060 ∷ 0x0001 ∷ 0x1071 ∷ 0x0004 ∷ 0x0000 ∷ 0x000e ∷ [])
-              [] []
-              (of_class (codes "Ljava/lang/Object;") ∷ array_of (of_class (codes "LW;")) ∷ of_class (codes "LW;") ∷ []))) ∷ []) [] ∷ [])
+    (Some (body_with 4
+    (0x0022 ∷ 0x0000 ∷ 0x1070 ∷ 0x0000 ∷ 0x0000 ∷ 0x0069 ∷ 0x0000 ∷ 0x0013 ∷ 0x0002 ∷ 0x0123 ∷ 0x0001 ∷
+    0x0212 ∷ 0x0322 ∷ 0x0002 ∷ 0x2070 ∷ 0x0001 ∷ 0x0023 ∷ 0x034d ∷ 0x0201 ∷ 0x106e ∷ 0x0002 ∷ 0x0003 ∷
+    0x02d8 ∷ 0x0102 ∷ 0x0234 ∷ 0xfff4 ∷ 0x0212 ∷ 0x0346 ∷ 0x0201 ∷ 0x106e ∷ 0x0003 ∷ 0x0003 ∷ 0x02d8 ∷
+    0x0102 ∷ 0x0234 ∷ 0xfff9 ∷ 0x0060 ∷ 0x0001 ∷ 0x1071 ∷ 0x0004 ∷ 0x0000 ∷ 0x000e ∷ [])
+    [] []
+    (of_class (codes "Ljava/lang/Object;") ∷ array_of (of_class (codes "LW;")) ∷ of_class (codes "LW;") ∷ []))) ∷ []) [] ∷ [])
     (info 33 0 [] [] [] ∷
     info 34 0 [] [] [] ∷
     info 35 0 [] (5 ∷ []) (6 ∷ []) ∷
     info 35 1 [] (5 ∷ 7 ∷ 6 ∷ []) (98 ∷ 99 ∷ []) ∷
     info 36 0
-        (of_class (codes "Ljava/lang/Object;") ∷ array_of (of_class (codes "LW;")) ∷ of_class (codes "LW;") ∷ [])
-        (7 ∷ 6 ∷ []) (0 ∷ 100 ∷ 9 ∷ 10 ∷ 40 ∷ []) ∷ [])
+    (of_class (codes "Ljava/lang/Object;") ∷ array_of (of_class (codes "LW;")) ∷ of_class (codes "LW;") ∷ [])
+    (7 ∷ 6 ∷ []) (0 ∷ 100 ∷ 9 ∷ 10 ∷ 40 ∷ []) ∷ [])
     (field_info 35 0 1 ∷ field_info 36 0 0 ∷ field_info 36 1 0 ∷ [])
 
 -- threads and monitors
@@ -425,7 +425,7 @@ pub record Threads : Type 0 where
   -- wait gives up a monitor held twice and takes it back twice
   pub wait_keeps_the_count :
       outcome waiting_program 98 ≡ lines
-          (codes "2" ∷ codes "#uncaught 0 java.lang.IllegalMonitorStateException" ∷ codes "#end done" ∷ [])
+      (codes "2" ∷ codes "#uncaught 0 java.lang.IllegalMonitorStateException" ∷ codes "#end done" ∷ [])
   -- wait without the monitor
   pub wait_without_the_monitor :
       outcome waiting_program 99 ≡ lines (codes "#uncaught 0 java.lang.IllegalMonitorStateException" ∷ codes "#end done" ∷ [])
@@ -434,7 +434,7 @@ pub record Threads : Type 0 where
   -- join of a thread that wasn't started, of one that runs, and a second start
   pub joins_an_ended_thread :
       outcome waiting_program 101 ≡ lines
-          (codes "5" ∷ codes "#uncaught 0 java.lang.IllegalThreadStateException" ∷ codes "#end done" ∷ [])
+      (codes "5" ∷ codes "#uncaught 0 java.lang.IllegalThreadStateException" ∷ codes "#end done" ∷ [])
   -- a thread that joins itself
   pub joins_itself : outcome waiting_program 102 ≡ lines (codes "#blocked 0 join 0" ∷ codes "#end blocked" ∷ [])
   -- a monitor that is never given up
@@ -443,8 +443,8 @@ pub record Threads : Type 0 where
   -- a producer and a consumer
   pub producer_and_consumer :
       outcome boxing 103 ≡ lines
-          (codes "got 0" ∷ codes "got 1" ∷ codes "got 2" ∷ codes "got 3" ∷ codes "got 4" ∷ codes "got 5" ∷
-           codes "got 6" ∷ codes "got 7" ∷ codes "got 8" ∷ codes "got 9" ∷ codes "#end done" ∷ [])
+      (codes "got 0" ∷ codes "got 1" ∷ codes "got 2" ∷ codes "got 3" ∷ codes "got 4" ∷ codes "got 5" ∷
+      codes "got 6" ∷ codes "got 7" ∷ codes "got 8" ∷ codes "got 9" ∷ codes "#end done" ∷ [])
   -- the program is accepted
   pub boxing_is_accepted : Accepts boxing
   -- two threads sum up under a lock

@@ -18,9 +18,9 @@ falling = with_main (body 1 (0x0012 ∷ [])) [] [] []
 abbrev pub wrong_class : Image
 wrong_class =
     with_main
-        (body_with 1 (0x0022 ∷ 0x0000 ∷ 0x1070 ∷ 0x0000 ∷ 0x0000 ∷ 0x0027 ∷ []) [] []
-             (of_class (codes "Ljava/lang/Object;") ∷ []))
-        (of_class (codes "Ljava/lang/Object;") ∷ []) [] (0 ∷ [])
+    (body_with 1 (0x0022 ∷ 0x0000 ∷ 0x1070 ∷ 0x0000 ∷ 0x0000 ∷ 0x0027 ∷ []) [] []
+    (of_class (codes "Ljava/lang/Object;") ∷ []))
+    (of_class (codes "Ljava/lang/Object;") ∷ []) [] (0 ∷ [])
 
 --   .registers 2
 --   const/4 v0, 0x1
@@ -54,9 +54,9 @@ nothing_caught = with_main (body 1 (0x000d ∷ 0x000e ∷ [])) [] [] []
 abbrev pub mixed : Image
 mixed =
     with_main
-        (body_with 2 (0x1012 ∷ 0x0122 ∷ 0x0000 ∷ 0x1070 ∷ 0x0000 ∷ 0x0001 ∷ 0x1032 ∷ 0x0003 ∷ 0x0000 ∷ 0x000e ∷ []) []
-             [] (of_class (codes "Ljava/lang/Object;") ∷ []))
-        (of_class (codes "Ljava/lang/Object;") ∷ []) [] (0 ∷ [])
+    (body_with 2 (0x1012 ∷ 0x0122 ∷ 0x0000 ∷ 0x1070 ∷ 0x0000 ∷ 0x0001 ∷ 0x1032 ∷ 0x0003 ∷ 0x0000 ∷ 0x000e ∷ []) []
+    [] (of_class (codes "Ljava/lang/Object;") ∷ []))
+    (of_class (codes "Ljava/lang/Object;") ∷ []) [] (0 ∷ [])
 
 --   .registers 1
 --   invoke-static {}, Ljava/lang/Thread;->currentThread()Ljava/lang/Thread;
@@ -74,9 +74,9 @@ no_array = with_main (body 1 (0x0071 ∷ 0x0000 ∷ 0x0000 ∷ 0x000c ∷ 0x0021
 abbrev pub constructed_twice : Image
 constructed_twice =
     with_main
-        (body_with 1 (0x0022 ∷ 0x0000 ∷ 0x1070 ∷ 0x0000 ∷ 0x0000 ∷ 0x1070 ∷ 0x0000 ∷ 0x0000 ∷ 0x000e ∷ []) [] []
-             (of_class (codes "Ljava/lang/Object;") ∷ []))
-        (of_class (codes "Ljava/lang/Object;") ∷ []) [] (0 ∷ [])
+    (body_with 1 (0x0022 ∷ 0x0000 ∷ 0x1070 ∷ 0x0000 ∷ 0x0000 ∷ 0x1070 ∷ 0x0000 ∷ 0x0000 ∷ 0x000e ∷ []) [] []
+    (of_class (codes "Ljava/lang/Object;") ∷ []))
+    (of_class (codes "Ljava/lang/Object;") ∷ []) [] (0 ∷ [])
 
 --   .class LMain;
 --   .super Ljava/lang/Object;
@@ -138,7 +138,7 @@ puts_upper = with_boot
     (method (codes "<init>") [] None 0 (Some (body 1 (0x1070 ∷ 0x0000 ∷ 0x0000 ∷ 0x000e ∷ []))) ∷ []) (5 ∷ []) ∷
     class (codes "LLower;") (Some 34) [] 0 []
     (method (codes "<init>") [] None 0
-        (Some (body 2 (0x1012 ∷ 0x1059 ∷ 0x0000 ∷ 0x1070 ∷ 0x0000 ∷ 0x0001 ∷ 0x000e ∷ []))) ∷ []) (5 ∷ []) ∷ [])
+    (Some (body 2 (0x1012 ∷ 0x1059 ∷ 0x0000 ∷ 0x1070 ∷ 0x0000 ∷ 0x0001 ∷ 0x000e ∷ []))) ∷ []) (5 ∷ []) ∷ [])
     (info 33 0 [] [] [] ∷
     info 34 0 [] [] (0 ∷ []) ∷
     info 35 0 [] (5 ∷ []) (99 ∷ []) ∷ [])

@@ -51,9 +51,9 @@ half_written = with_main (body 3 (0x0016 ∷ 0x0007 ∷ 0x1112 ∷ 0x0284 ∷ 0x
 abbrev pub null_and_zero : Image
 null_and_zero =
     with_main
-        (body_with 2 (0x0012 ∷ 0x1071 ∷ 0x0000 ∷ 0x0000 ∷ 0x0120 ∷ 0x0000 ∷ 0x1071 ∷ 0x0000 ∷ 0x0001 ∷ 0x000e ∷ []) []
-             [] (of_class (codes "Ljava/lang/String;") ∷ []))
-        (of_class (codes "Ljava/lang/String;") ∷ []) [] (40 ∷ [])
+    (body_with 2 (0x0012 ∷ 0x1071 ∷ 0x0000 ∷ 0x0000 ∷ 0x0120 ∷ 0x0000 ∷ 0x1071 ∷ 0x0000 ∷ 0x0001 ∷ 0x000e ∷ []) []
+    [] (of_class (codes "Ljava/lang/String;") ∷ []))
+    (of_class (codes "Ljava/lang/String;") ∷ []) [] (40 ∷ [])
 
 --   .registers 2
 --   const/4 v0, 0x1
@@ -63,9 +63,9 @@ null_and_zero =
 abbrev pub computed_zero : Image
 computed_zero =
     with_main
-        (body_with 2 (0x1012 ∷ 0x00d8 ∷ 0xff00 ∷ 0x0120 ∷ 0x0000 ∷ 0x000e ∷ []) [] []
-             (of_class (codes "Ljava/lang/String;") ∷ []))
-        (of_class (codes "Ljava/lang/String;") ∷ []) [] []
+    (body_with 2 (0x1012 ∷ 0x00d8 ∷ 0xff00 ∷ 0x0120 ∷ 0x0000 ∷ 0x000e ∷ []) [] []
+    (of_class (codes "Ljava/lang/String;") ∷ []))
+    (of_class (codes "Ljava/lang/String;") ∷ []) [] []
 
 --   .registers 3
 --   const/4 v1, 0x0
@@ -83,11 +83,11 @@ computed_zero =
 abbrev pub two_of_one : Image
 two_of_one =
     with_main
-        (body_with 3
-             (0x0112 ∷ 0x0212 ∷ 0x0022 ∷ 0x0000 ∷ 0x0239 ∷ 0x0005 ∷ 0x0107 ∷ 0x1212 ∷ 0xfa28 ∷ 0x1070 ∷ 0x0000 ∷
-              0x0000 ∷ 0x1220 ∷ 0x0000 ∷ 0x000e ∷ [])
-             [] [] (of_class (codes "Ljava/lang/Object;") ∷ []))
-        (of_class (codes "Ljava/lang/Object;") ∷ []) [] (0 ∷ [])
+    (body_with 3
+    (0x0112 ∷ 0x0212 ∷ 0x0022 ∷ 0x0000 ∷ 0x0239 ∷ 0x0005 ∷ 0x0107 ∷ 0x1212 ∷ 0xfa28 ∷ 0x1070 ∷ 0x0000 ∷
+    0x0000 ∷ 0x1220 ∷ 0x0000 ∷ 0x000e ∷ [])
+    [] [] (of_class (codes "Ljava/lang/Object;") ∷ []))
+    (of_class (codes "Ljava/lang/Object;") ∷ []) [] (0 ∷ [])
 
 --   .registers 2
 --   const/4 v0, 0x0
@@ -102,11 +102,11 @@ two_of_one =
 abbrev pub one_a_turn : Image
 one_a_turn =
     with_main
-        (body_with 2
-             (0x0012 ∷ 0x0122 ∷ 0x0000 ∷ 0x1070 ∷ 0x0000 ∷ 0x0001 ∷ 0x00d8 ∷ 0x0100 ∷ 0x3112 ∷ 0x1034 ∷ 0xfff8 ∷
-              0x1071 ∷ 0x0001 ∷ 0x0000 ∷ 0x000e ∷ [])
-             [] [] (of_class (codes "Ljava/lang/Object;") ∷ []))
-        (of_class (codes "Ljava/lang/Object;") ∷ []) [] (0 ∷ 40 ∷ [])
+    (body_with 2
+    (0x0012 ∷ 0x0122 ∷ 0x0000 ∷ 0x1070 ∷ 0x0000 ∷ 0x0001 ∷ 0x00d8 ∷ 0x0100 ∷ 0x3112 ∷ 0x1034 ∷ 0xfff8 ∷
+    0x1071 ∷ 0x0001 ∷ 0x0000 ∷ 0x000e ∷ [])
+    [] [] (of_class (codes "Ljava/lang/Object;") ∷ []))
+    (of_class (codes "Ljava/lang/Object;") ∷ []) [] (0 ∷ 40 ∷ [])
 
 --   .class LMain;
 --   .super Ljava/lang/Object;
@@ -130,7 +130,7 @@ inner = with_boot
     class (codes "LMain$I;") (Some 0) [] 0
     (field (codes "this$0") (of_class (codes "LMain;")) 0x4010 ∷ [])
     (method (codes "<init>") (of_class (codes "LMain;") ∷ []) None 0
-        (Some (body 2 (0x015b ∷ 0x0000 ∷ 0x1070 ∷ 0x0000 ∷ 0x0000 ∷ 0x000e ∷ []))) ∷ []) (5 ∷ []) ∷ [])
+    (Some (body 2 (0x015b ∷ 0x0000 ∷ 0x1070 ∷ 0x0000 ∷ 0x0000 ∷ 0x000e ∷ []))) ∷ []) (5 ∷ []) ∷ [])
     (info 33 0 [] [] [] ∷
     info 34 0 [] (5 ∷ []) (0 ∷ []) ∷ [])
     (field_info 34 0 0 ∷ [])
@@ -158,7 +158,7 @@ inner_call = with_boot
     class (codes "LMain$I;") (Some 0) [] 0
     (field (codes "this$0") (of_class (codes "LMain;")) 0x4010 ∷ [])
     (method (codes "<init>") (of_class (codes "LMain;") ∷ []) None 0
-        (Some (body 2 (0x106e ∷ 0x0000 ∷ 0x0000 ∷ 0x015b ∷ 0x0000 ∷ 0x1070 ∷ 0x0001 ∷ 0x0000 ∷ 0x000e ∷ []))) ∷ []) (5 ∷ []) ∷ [])
+    (Some (body 2 (0x106e ∷ 0x0000 ∷ 0x0000 ∷ 0x015b ∷ 0x0000 ∷ 0x1070 ∷ 0x0001 ∷ 0x0000 ∷ 0x000e ∷ []))) ∷ []) (5 ∷ []) ∷ [])
     (info 33 0 [] [] [] ∷
     info 34 0 [] (5 ∷ []) (3 ∷ 0 ∷ []) ∷ [])
     (field_info 34 0 0 ∷ [])

@@ -1,5 +1,6 @@
 -- A well-typed state stays so after a step of one thread, where what the step leaves is in order.
 use Rattle.std.proofs.Common.{◌≡◌, ◌≢◌, ◌⊎◌, inl, inr, ℕ, zero, suc, List, [], ◌∷◌, ◌++◌, length, Option, Some, None, refl, sym, ap, ◌∙◌, subst}
+use Rattle.std.specs.Option.{option_to_list}
 use Rattle.std.specs.Prelude.{slice_get, slice_set, All}
 use Rattle.std.proofs.lemmas.Bool.{cases_eq}
 use Rattle.std.proofs.lemmas.List.{length-set}
@@ -10,7 +11,7 @@ use Rattle.dv_defs.specs.Types.{of_class}
 use Rattle.dv_defs.specs.Heap.{Heap}
 use Rattle.dv_defs.specs.Classes.{Classes, state_at}
 use Rattle.dv_machine.specs.State.{Thread, Machine, Left}
-use Rattle.dv_machine.specs.Step.{started_threads, with_thread}
+use Rattle.dv_machine.specs.Step.{with_thread}
 use Rattle.dv_machine.specs.Conforming.{IsOf, RefsFine}
 use Rattle.dv_machine.specs.WellTyped.{Typings, ThreadFine, HeapFine, MonitorsFine, records, owed, levels_in, WellTyped}
 use Rattle.dv_machine.specs.Premises.{KeepsKinds, StartedFine}
@@ -40,7 +41,7 @@ listed_cases {A} (z ∷ xs) s more n y (suc k) x e = later (listed_cases xs s mo
     later (inr h) = inr (ap suc h.0, h.1)
 
 -- past the end of the first list there is nothing, or the element more
-listed_past : (xs : List Thread) (s : Option Thread) (k : ℕ) → slice_get xs k ≡ None → (slice_get (xs ++ started_threads s) k ≡ None) ⊎ ((x : Thread) × (s ≡ Some x) × (slice_get (xs ++ started_threads s) k ≡ Some x))
+listed_past : (xs : List Thread) (s : Option Thread) (k : ℕ) → slice_get xs k ≡ None → (slice_get (xs ++ option_to_list s) k ≡ None) ⊎ ((x : Thread) × (s ≡ Some x) × (slice_get (xs ++ option_to_list s) k ≡ Some x))
 listed_past [] None k e = inl refl
 listed_past [] (Some x) zero e = inr (x, refl, refl)
 listed_past [] (Some x) (suc k) e = inl refl
@@ -49,8 +50,8 @@ listed_past (z ∷ xs) s (suc k) e = listed_past xs s k e
 
 module _ (threads : List Thread) (t : ℕ) (before after : Thread) (started : Option Thread) (has : slice_get threads t ≡ Some before) where
   -- what holds of the thread that stepped, of the others and of a new one holds of each
-  pub each_after : (P : ℕ → Thread → Type 0) → P t after → ((u : ℕ) (x : Thread) → slice_get threads u ≡ Some x → P u x) → ((x : Thread) → started ≡ Some x → P (length threads) x) → (u : ℕ) (x : Thread) → slice_get (slice_set threads t after ++ started_threads started) u ≡ Some x → P u x
-  each_after P own other new u x e = go (listed_cases (slice_set threads t after) started started_threads refl (λ y. refl) u x e) (cases_eq u t)
+  pub each_after : (P : ℕ → Thread → Type 0) → P t after → ((u : ℕ) (x : Thread) → slice_get threads u ≡ Some x → P u x) → ((x : Thread) → started ≡ Some x → P (length threads) x) → (u : ℕ) (x : Thread) → slice_get (slice_set threads t after ++ option_to_list started) u ≡ Some x → P u x
+  each_after P own other new u x e = go (listed_cases (slice_set threads t after) started option_to_list refl (λ y. refl) u x e) (cases_eq u t)
     where
       go : (slice_get (slice_set threads t after) u ≡ Some x) ⊎ ((u ≡ length (slice_set threads t after)) × (started ≡ Some x)) → (u ≡ t) ⊎ (u ≢ t) → P u x
       go (inr p) c = subst (λ (k : ℕ). P k x) (sym (p.0 ∙ length-set threads t after)) (new x p.1)
@@ -60,28 +61,28 @@ module _ (threads : List Thread) (t : ℕ) (before after : Thread) (started : Op
           subst (λ (k : ℕ). P k x) (sym s) (subst (λ (y : Thread). P t y) same own)
 
   -- the records of each thread number, also of one that is not there
-  pub records_after : (old new : Classes) → ((u c : ℕ) → records c (levels_in (slice_get threads u)) ≡ owed u (state_at old c)) → ((c : ℕ) → records c after.levels ≡ owed t (state_at new c)) → ((u c : ℕ) → u ≢ t → owed u (state_at new c) ≡ owed u (state_at old c)) → ((x : Thread) → started ≡ Some x → (c : ℕ) → records c x.levels ≡ 0) → (u c : ℕ) → records c (levels_in (slice_get (slice_set threads t after ++ started_threads started) u)) ≡ owed u (state_at new c)
+  pub records_after : (old new : Classes) → ((u c : ℕ) → records c (levels_in (slice_get threads u)) ≡ owed u (state_at old c)) → ((c : ℕ) → records c after.levels ≡ owed t (state_at new c)) → ((u c : ℕ) → u ≢ t → owed u (state_at new c) ≡ owed u (state_at old c)) → ((x : Thread) → started ≡ Some x → (c : ℕ) → records c x.levels ≡ 0) → (u c : ℕ) → records c (levels_in (slice_get (slice_set threads t after ++ option_to_list started) u)) ≡ owed u (state_at new c)
   records_after old new was mine others fresh u c = go (cases_eq u t)
     where
-      own : records c (levels_in (slice_get (slice_set threads t after ++ started_threads started) t)) ≡ owed t (state_at new c)
-      own = ap (λ (o : Option Thread). records c (levels_in o)) (get_front (slice_set threads t after) (started_threads started) t after (set_there threads t after before has)) ∙ mine c
+      own : records c (levels_in (slice_get (slice_set threads t after ++ option_to_list started) t)) ≡ owed t (state_at new c)
+      own = ap (λ (o : Option Thread). records c (levels_in o)) (get_front (slice_set threads t after) (option_to_list started) t after (set_there threads t after before has)) ∙ mine c
 
-      there : u ≢ t → (x : Thread) → slice_get threads u ≡ Some x → records c (levels_in (slice_get (slice_set threads t after ++ started_threads started) u)) ≡ owed u (state_at new c)
-      there d x e = ap (λ (o : Option Thread). records c (levels_in o)) (get_front (slice_set threads t after) (started_threads started) u x (set_other threads t u after d ∙ e) ∙ sym e) ∙ was u c ∙ sym (others u c d)
+      there : u ≢ t → (x : Thread) → slice_get threads u ≡ Some x → records c (levels_in (slice_get (slice_set threads t after ++ option_to_list started) u)) ≡ owed u (state_at new c)
+      there d x e = ap (λ (o : Option Thread). records c (levels_in o)) (get_front (slice_set threads t after) (option_to_list started) u x (set_other threads t u after d ∙ e) ∙ sym e) ∙ was u c ∙ sym (others u c d)
 
       none : u ≢ t → slice_get threads u ≡ None → 0 ≡ owed u (state_at new c)
       none d e = ap (λ (o : Option Thread). records c (levels_in o)) (sym e) ∙ was u c ∙ sym (others u c d)
 
-      past : u ≢ t → slice_get threads u ≡ None → (slice_get (slice_set threads t after ++ started_threads started) u ≡ None) ⊎ ((x : Thread) × (started ≡ Some x) × (slice_get (slice_set threads t after ++ started_threads started) u ≡ Some x)) → records c (levels_in (slice_get (slice_set threads t after ++ started_threads started) u)) ≡ owed u (state_at new c)
+      past : u ≢ t → slice_get threads u ≡ None → (slice_get (slice_set threads t after ++ option_to_list started) u ≡ None) ⊎ ((x : Thread) × (started ≡ Some x) × (slice_get (slice_set threads t after ++ option_to_list started) u ≡ Some x)) → records c (levels_in (slice_get (slice_set threads t after ++ option_to_list started) u)) ≡ owed u (state_at new c)
       past d e (inl f) = ap (λ (o : Option Thread). records c (levels_in o)) f ∙ none d e
       past d e (inr x) = ap (λ (o : Option Thread). records c (levels_in o)) x.2 ∙ fresh x.0 x.1 c ∙ none d e
 
-      other : u ≢ t → (o : Option Thread) → slice_get threads u ≡ o → records c (levels_in (slice_get (slice_set threads t after ++ started_threads started) u)) ≡ owed u (state_at new c)
+      other : u ≢ t → (o : Option Thread) → slice_get threads u ≡ o → records c (levels_in (slice_get (slice_set threads t after ++ option_to_list started) u)) ≡ owed u (state_at new c)
       other d None e = past d e (listed_past (slice_set threads t after) started u (set_other threads t u after d ∙ e))
       other d (Some x) e = there d x e
 
-      go : (u ≡ t) ⊎ (u ≢ t) → records c (levels_in (slice_get (slice_set threads t after ++ started_threads started) u)) ≡ owed u (state_at new c)
-      go (inl s) = subst (λ (k : ℕ). records c (levels_in (slice_get (slice_set threads t after ++ started_threads started) k)) ≡ owed k (state_at new c)) (sym s) own
+      go : (u ≡ t) ⊎ (u ≢ t) → records c (levels_in (slice_get (slice_set threads t after ++ option_to_list started) u)) ≡ owed u (state_at new c)
+      go (inl s) = subst (λ (k : ℕ). records c (levels_in (slice_get (slice_set threads t after ++ option_to_list started) k)) ≡ owed k (state_at new c)) (sym s) own
       go (inr d) = other d (slice_get threads u) refl
 
 -- what a step of a thread leaves, with the thread as it stands then

@@ -1,5 +1,6 @@
 -- What the natives share: their prototypes, and the caller's frame after them.
 use Rattle.std.proofs.Common.{◌≡◌, ℕ, suc, List, [], ◌∷◌, length, Bool, true, false, Option, Some, None, refl, sym, ap, ◌∙◌, subst, arith}
+use Rattle.std.specs.Option.{option_to_list}
 use Rattle.std.specs.Prelude.{All}
 use Rattle.std.proofs.lemmas.List.Elements.{All-cons, All-head}
 use Rattle.std.proofs.lemmas.Option.{none-some, same_Some}
@@ -28,7 +29,6 @@ use Rattle.dv_defs.specs.Heap.{Heap}
 use Rattle.dv_defs.specs.Monitors.{wait_of}
 use Rattle.dv_machine.specs.State.{Thread, Machine, Shared, reg_at, with_result}
 use Rattle.dv_machine.specs.Calls.{dispatch, native_of, receiver_of, signature}
-use Rattle.dv_machine.specs.Step.{started_threads}
 use Rattle.dv_machine.specs.Conforming.{Own, ResultConforms, ResultFine, RefsFine, Conform}
 use Rattle.dv_machine.specs.WellTyped.{Typings, own_of, this_above, IsPlaced, CodeFine, ThreadFine, HeapFine, records}
 use Rattle.dv_machine.specs.Premises.{KeepsKinds, StartedFine, LeftFine, ThrowFine}
@@ -143,7 +143,7 @@ module _ (image : Image) (T : Typings) (m : Machine) (t : ℕ) (thread : Thread)
       refs = after_refs;
       heap = fine;
       class_states = h.may.typed.class_states;
-      monitors = quiet_moved image m.threads t thread _ (started_threads u) m.shared shared_after m.steps (suc m.steps) grows refl (omega arith) h.has_thread h.may.typed.refs apart h.may.typed.monitors;
+      monitors = quiet_moved image m.threads t thread _ (option_to_list u) m.shared shared_after m.steps (suc m.steps) grows refl (omega arith) h.has_thread h.may.typed.refs apart h.may.typed.monitors;
       in_progress = records_after m.threads t thread _ u h.has_thread m.shared.classes m.shared.classes h.may.typed.in_progress (records_of image T m t thread (level.Code f ∷ rest) h.may.typed h.has_thread h.levels) (λ y d n. refl) none;
       started = fresh;
     }

@@ -27,7 +27,7 @@ use Rattle.dv_defs.specs.Classes.{ClassState, Fresh, InProgress, Ready, state_at
 use Rattle.dv_machine.specs.State.{Thread}
 use Rattle.dv_machine.specs.Calls.{entered_frame}
 use Rattle.dv_machine.specs.Unwinding.{is_opening, is_method_of}
-use Rattle.dv_machine.specs.Opening.{takes_array, main_args, is_born, first_states, opening_levels, opening_states, opened, opening_heap, is_filled}
+use Rattle.dv_machine.specs.Opening.{takes_array, main_args, is_born, first_states, opening_levels, opening_states, opened, opening_heap, takes_any}
 use Rattle.dv_machine.specs.Conforming.{IsOf, IsGood, RefFine, RefsFine}
 use Rattle.dv_machine.specs.WellTyped.{Typings, own_of, IsNoInitialiser, StackFine, ThreadFine, records, owed, levels_in, WellTyped}
 use Rattle.dv_machine.specs.Accepted.{Accepted}
@@ -129,8 +129,8 @@ module _ (image : Image) (T : Typings) (acc : Accepted image T) (m : Method) (l 
       by_taking b e a = subst (λ (x : Bool). ArgsFine image (opening_heap image m l) m is.code.body (if x then v.Ref (newest (opening_heap image m l)) ∷ [] else [])) (sym e) a
 
       go : (m.def.proto.params ≡ []) ⊎ (m.def.proto.params ≡ record { dims = 1; base = (of_class string_name).base } ∷ []) → ArgsFine image (opening_heap image m l) m is.code.body (main_args m (opening_heap image m l))
-      go (inl e) = by_taking false (ap is_filled e) (args_none e)
-      go (inr e) = let t = ap is_filled e in by_taking true t (args_one e ((heap_opened image T acc m l).1 t))
+      go (inl e) = by_taking false (ap takes_any e) (args_none e)
+      go (inr e) = let t = ap takes_any e in by_taking true t (args_one e ((heap_opened image T acc m l).1 t))
 
   -- ---- the thread
 
