@@ -25,7 +25,8 @@ pub record IsLongest (Is : List ℕ → Type 0) (text : List ℕ) (place : ℕ) 
 
 -- F or D stands at the place, where I could
 abbrev pub IsFloatAt : (List ℕ → Type 0) → List ℕ → ℕ → Type 0
-IsFloatAt Is text place = (place < length text) × IsTrue (is_float_letter (slice_index text place)) × Begins Is (take place text ++ codes "I")
+IsFloatAt Is text place = (place < length text) × IsTrue (is_float_letter (slice_index text place))
+    × Begins Is (take place text ++ codes "I")
 
 abbrev pub FailsAt : (List ℕ → Type 0) → List ℕ → NameError → Type 0
 FailsAt Is text (error.BadDescriptor place) = IsLongest Is text place × ¬ (IsFloatAt Is text place)

@@ -1,4 +1,5 @@
 pub mod Opcodes
+pub mod Operations
 pub mod Numbers
 pub mod Decoding
 pub mod Encoding

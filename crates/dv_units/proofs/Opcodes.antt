@@ -1,22 +1,26 @@
 -- What the tables of opcodes say, by computation.
-use Rattle.std.proofs.Common.{◌≡◌, ℕ, ◌<◌, Bool, true, false, not, ◌&&◌, ◌||◌, Option, Some, None, is_some, is_none, refl, ◌∙◌, sym, ap, ◌⊎◌, inl, inr}
+use Rattle.std.proofs.Common.{◌≡◌, ℕ, ◌<◌, Bool, true, false, not, ◌&&◌, ◌||◌, Option, Some, None, is_some, is_none, refl, ◌⊎◌, inl, inr}
 use Rattle.std.specs.Prelude.{option_map}
 use Rattle.std.proofs.lemmas.Bool.{agree_below_at}
 use Rattle.dv_defs.specs.Formats as formats
 use Rattle.dv_defs.specs.Formats.{format_at, is_float, is_unused}
-use Rattle.dv_optable.specs.Families as table
-use Rattle.dv_optable.specs.Table.{float_at}
-use Rattle.dv_optable.specs.declared.format.Format.{Format}
+use Rattle.dv_defs.specs.Families.{family_at}
+use Rattle.dv_optable.specs.Table as table
+use Rattle.dv_optable.specs.Table.{entry_at}
 use Rattle.dv_optable.proofs.Rows.{agree}
-use Rattle.dv_units.specs.Tables.{standard, has_format, FormatsAgree, FloatsAgree}
+use Rattle.dv_units.specs.Tables.{standard, standard_family, FormatsAgree, FamiliesAgree, FloatsAgree}
 
 pub formats_agree : FormatsAgree
-unfolding format_at
+unfolding format_at table.format_at entry_at table.table
 formats_agree op h = agree (λ n. option_map standard (table.format_at n)) format_at 256 op refl h
 
+pub families_agree : FamiliesAgree
+unfolding table.family_at entry_at table.table
+families_agree op h = agree (λ n. option_map standard_family (table.family_at n)) family_at 256 op refl h
+
 pub floats_agree : FloatsAgree
-unfolding is_float
-floats_agree op h = agree_below_at float_at is_float 256 op refl h
+unfolding is_float table.is_float
+floats_agree op h = agree_below_at table.is_float is_float 256 op refl h
 
 -- an opcode is unused, a float's, or one with a format
 abbrev pub IsOneOf : Bool → Bool → Option formats.Format → Type 0

@@ -1,21 +1,20 @@
 -- The parts of payloads as they are read.
-use Rattle.std.proofs.Common.{◌≡◌, ℕ, ◌+◌, ◌-◌, ◌*◌, ◌/◌, ◌%◌, ◌<◌, ◌≤◌, ◌^◌, zero, suc, ℤ, Bool, true, false, ◌&&◌, List, [], ◌∷◌, ◌++◌, length, take, drop, get_or, Some, refl, ap, sym, ◌∙◌, subst, arith, length-drop}
+use Rattle.std.proofs.Common.{◌≡◌, ℕ, ◌+◌, ◌*◌, ◌/◌, ◌<◌, ◌^◌, suc, ℤ, Bool, true, false, ◌&&◌, List, [], ◌∷◌, ◌++◌, length, take, drop, get_or, Some, refl, ap, sym, ◌∙◌, arith, length-drop}
 use Rattle.std.specs.Prelude.{nat_eq}
 use Rattle.std.proofs.lemmas.Bool.{lt-ltb}
 use Rattle.std.proofs.lemmas.Bool.Decides.{nat_tests}
 use Rattle.std.proofs.lemmas.Int.{to_z-of_z}
-use Rattle.std.proofs.lemmas.List.{drop-drop, length-take-le}
+use Rattle.std.proofs.lemmas.List.{length-take-le}
 use Rattle.std.proofs.lemmas.List.Folds.{list_all-append}
 use Rattle.std.proofs.Math.Seq.{take-add}
 use mir.Syntax.{w8}
 use mir.Val.{Fits}
 use Rattle.dv_defs.specs.declared.code.Payload.TheVariants as payload
 use Rattle.dv_defs.specs.Spelling.{all_fit, fits_signed, complement, two_units}
-use Rattle.dv_defs.specs.Tiling.{bytes_in, is_width}
+use Rattle.dv_defs.specs.Tiling.{bytes_in}
 use Rattle.dv_defs.specs.Payloads.{numbers_spelling, all_fit_signed, packed_spelling, sparse_spelling, data_spelling, payload_here}
 use Rattle.dv_defs.proofs.PayloadNumbers.{length_numbers, numbers_append}
 use Rattle.dv_defs.proofs.PayloadLaws.{both, where_it_fits, payload_here_spelled}
-use Rattle.dv_defs.proofs.DecodingFormats.{unit_parts}
 use Rattle.dv_units.specs.declared.header.Header.TheVariants as header
 use Rattle.dv_units.specs.Payloads.{IsHeader}
 use Rattle.dv_units.proofs.Headers.{data_is}

@@ -2,4 +2,3 @@ pub mod Tables
 pub mod Reading
 pub mod Laws
 pub mod Payloads
-pub mod Offsets

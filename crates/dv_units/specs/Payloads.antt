@@ -1,5 +1,5 @@
 -- What stands of a payload in units.
-use Rattle.std.specs.Prelude.{ℕ, ◌≡◌, ◌+◌, ◌*◌, ◌/◌, ◌^◌, ◌≤◌, true, List, ◌∷◌, length, take, drop, slice_index, Some, IsTrue, IsSomeAnd}
+use Rattle.std.specs.Prelude.{ℕ, ◌≡◌, ◌+◌, ◌*◌, ◌/◌, ◌^◌, ◌≤◌, List, ◌∷◌, length, take, drop, slice_index, Some, IsTrue, IsSomeAnd}
 use Rattle.std.specs.List.{list_all}
 use Rattle.dv_defs.specs.declared.code.Payload.{Payload}
 use Rattle.dv_defs.specs.Decoding.{is_zero}

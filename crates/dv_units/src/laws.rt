@@ -3,7 +3,7 @@ ghost use Rattle.std.specs.Prelude.{◌≡◌, ℕ, ◌<◌, ◌++◌, List, len
 ghost use Rattle.dv_defs.specs.declared.code.Insn.{Insn};
 ghost use Rattle.dv_defs.specs.Spelling.{spelling};
 ghost use Rattle.dv_defs.specs.Formats.{size_at};
-ghost use Rattle.dv_units.specs.Tables.{FormatsAgree, FloatsAgree};
+ghost use Rattle.dv_units.specs.Tables.{FormatsAgree, FamiliesAgree, FloatsAgree, ThrowsAgree, LocalsAgree};
 ghost use Rattle.dv_units.specs.Laws.{SpellingsAreApart, ItemsAreApart, InsnHereIsSpelled, PayloadHereIsSpelled, TilingIsUnique, TilingIsFound};
 ghost use Rattle.dv_units.specs.Reading.{StandAt, opcode_at};
 
@@ -12,10 +12,15 @@ use crate::read::decode;
 use crate::write::encode;
 use dv_defs::Insn;
 
-/// The table of opcodes and the standard's formats give each opcode the same format, and the same opcodes to floats.
+/// The table of opcodes gives each opcode the format and the family that the definitions give it, and the same
+/// opcodes to floats; and what a row says, that an instruction can throw and that it is local, is what the
+/// definitions say of its operation.
 pub fn tables_agree()
     ensures formats { FormatsAgree }
+    ensures families { FamiliesAgree }
     ensures floats { FloatsAgree }
+    ensures throws { ThrowsAgree }
+    ensures locals { LocalsAgree }
 {}
 
 /// An instruction is determined by its spelling, and no spelling begins another.

@@ -18,7 +18,8 @@ fn read_at(format: Format, units: &[u16], at: usize) -> Option<Insn>
     requires inside { at < length units.now }
     requires whole { size_in (standard format) ≤ length units.now - at }
     requires opcode { format_at (opcode_at units.now at) ≡ Some (standard format) }
-    ensures { MatchOption result (NoneStandsAt units.now at) (λ i. spelling i ≡ Some (take (size_in (standard format)) (drop at units.now))) }
+    ensures { MatchOption result (NoneStandsAt units.now at)
+        (λ i. spelling i ≡ Some (take (size_in (standard format)) (drop at units.now))) }
 {
     let (_, rest) = units.split_at(at);
     read(format, rest)

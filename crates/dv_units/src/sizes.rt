@@ -1,8 +1,7 @@
 // What an assembler asks before it writes an instruction.
 ghost use Rattle.std.specs.Prelude.{◌≡◌, is_some};
-ghost use Rattle.dv_defs.specs.Formats.{size_at};
+ghost use Rattle.dv_defs.specs.Formats.{offset_bits, size_at};
 ghost use Rattle.dv_defs.specs.Spelling.{spelling};
-ghost use Rattle.dv_units.specs.Offsets.{offset_bits};
 
 use crate::format::{format_of, table_format, units_of};
 use crate::writers::write;

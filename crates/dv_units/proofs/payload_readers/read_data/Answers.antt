@@ -1,4 +1,4 @@
-use Rattle.std.proofs.Common.{◌≡◌, ℕ, ◌+◌, ◌-◌, ◌/◌, ◌%◌, ap, take, drop, ◌∙◌, arith}
+use Rattle.std.proofs.Common.{◌≡◌, ◌+◌, ◌-◌, ◌/◌, ◌%◌, ap, take, drop, ◌∙◌, arith}
 use Rattle.dv_defs.specs.Tiling.{bytes_in}
 use Rattle.dv_units.proofs.Decoding.{units_fit}
 use Rattle.dv_units.proofs.PayloadParts.{data_parts}

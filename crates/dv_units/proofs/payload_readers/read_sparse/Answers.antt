@@ -1,4 +1,4 @@
-use Rattle.std.proofs.Common.{◌≡◌, ℕ, ◌+◌, ◌-◌, ◌*◌, ap, take, drop, sym, ◌∙◌, arith, true}
+use Rattle.std.proofs.Common.{◌≡◌, ◌+◌, ◌-◌, ◌*◌, ap, take, drop, ◌∙◌, arith}
 use Rattle.dv_defs.specs.Payloads.{numbers_spelling, all_fit_signed}
 use Rattle.dv_units.proofs.PayloadParts.{sparse_parts}
 use Rattle.dv_units.proofs.payload_readers.read_sparse.Goals as goal
