@@ -3,7 +3,7 @@ ghost use Rattle.std.specs.Prelude.{◌≡◌, ◌++◌, map, option_map, IfOk, 
 ghost use Rattle.std.specs.List.{flat_map};
 ghost use Rattle.dv_print.specs.Numbers.{label_name};
 ghost use Rattle.dv_print.specs.Named.{target_of};
-ghost use Rattle.dv_print.specs.Drafting.{op_of, labels_from, payload_item, part_item, piece_item, with_no_line, labels_at, items_at, items_of};
+ghost use Rattle.dv_print.specs.Drafting.{op_of, labels_from, payload_item, part_item, piece_item, with_no_line, labels_at, items_at, items_in, items_of};
 
 use crate::formats::pool_of;
 use crate::named::{Named, add_targets, addresses_named, target_of};
@@ -148,15 +148,29 @@ fn add_pieces(
     Ok(())
 }
 
+/// The pieces with their labels, and the label of the end.
+fn items_in(
+    alloc: Global,
+    body: &Body,
+    pieces: &Pieces,
+    named: &Named,
+) -> Result<Vec<Item>, AllocError>
+    ensures { IfOk result (λ v. v.items ≡ items_in body.now pieces.now named.now) }
+{
+    let mut items = Vec::new(alloc);
+    add_pieces(&mut items, body, pieces, named)?;
+    add_label(&mut items, named, body.units.items().len() as u32)?;
+    Ok(items)
+}
+
 /// The items of a body.
 pub fn items_of(alloc: Global, body: &Body) -> Result<Vec<Item>, AllocError>
     ensures { IfOk result (λ v. v.items ≡ items_of body.now) }
 {
     let units = body.units.items();
+    let tries = body.tries.items();
     let pieces = Pieces::of(alloc, units)?;
-    let named = addresses_named(alloc, &pieces, body.tries.items())?;
-    let mut items = Vec::new(alloc);
-    add_pieces(&mut items, body, &pieces, &named)?;
-    add_label(&mut items, &named, units.len() as u32)?;
+    let named = addresses_named(alloc, &pieces, tries)?;
+    let items = items_in(alloc, body, &pieces, &named)?;
     Ok(items)
 }
