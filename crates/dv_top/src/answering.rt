@@ -1,5 +1,5 @@
 // From the words and the source to a status and the sink.
-ghost use Rattle.std.specs.Prelude.{◌≡◌, ◌≢◌, ℕ, ◌+◌, ◌≤◌, List, [], length, map, None, Some, All, IfOk, OnOk, IsErrOf, MatchResult, string_bytes};
+ghost use Rattle.std.specs.Prelude.{◌≡◌, ◌≢◌, ℕ, ◌+◌, ◌<◌, ◌≤◌, List, [], length, map, None, Some, All, IfOk, OnOk, IsErrOf, MatchBool, MatchResult, string_bytes};
 ghost use Rattle.dv_defs.specs.Accepting.{AreImageFaults};
 ghost use Rattle.dv_defs.specs.declared.image.Image.{Image};
 ghost use Rattle.dv_io.specs.Io.{HasRisen, after_write, after_taking};
@@ -154,7 +154,7 @@ fn reply_to_text(
     ensures legal { (bytes : List ℕ) → IsReadOf bytes text.now → log.new.items ≢ []
         → (image : Image) × IsAccepted class.now bytes image × IsScheduleOf class.now image log.new.items }
 {
-    if text.len() > TEXT_LIMIT {
+    if is_too_large(text) {
         return fixed(alloc, Status::TooLarge, TOO_LARGE);
     }
     match image_of(alloc, class, text) {
@@ -162,6 +162,12 @@ fn reply_to_text(
         Err(Refusal::NotBuilt) => fixed(alloc, Status::NotBuilt, NOT_BUILT),
         Err(Refusal::Memory) => Err(AllocError),
     }
+}
+
+fn is_too_large(text: &[u8]) -> bool
+    ensures { MatchBool result (text_limit < length text.now) (length text.now ≤ text_limit) }
+{
+    text.len() > TEXT_LIMIT
 }
 
 /// Reads, assembles and links the straight text of a class.
