@@ -4,8 +4,8 @@ use Rattle.dv_defs.specs.declared.code.Insn.{Insn}
 use Rattle.dv_defs.specs.Formats.{Format, F10x, F12x, F11n, F11x, F10t, F20t, F22x, F21t, F21s, F21h, F21c, F23x, F22b, F22t, F22s, F22c, F30t, F32x, F31i, F31t, F31c, F35c, F3rc, F51l, format_at}
 use Rattle.dv_defs.specs.Spelling.{spelling, spelling_in, spelling_by, fits_in, fits_signed, spelling_10t, spelling_20t, spelling_21t, spelling_22t, spelling_30t, spelling_31t, spelling_21c, spelling_22c, spelling_31c, spelling_35c, spelling_3rc}
 use Rattle.dv_defs.proofs.InsnEq.{form_tests}
-use Rattle.dv_units.specs.Offsets.{offset_bits_in}
-use Rattle.dv_defs.specs.Formats.{has_offset, has_index}
+use Rattle.std.specs.Prelude.{unwrap_or}
+use Rattle.dv_defs.specs.Formats.{has_offset, has_index, offset_in}
 use Rattle.dv_asm.specs.Refusals.{with_operands}
 
 offset_10t : (i : Insn) (off : ℤ) → IsSome (spelling_10t (with_operands i (pos 0) 0)) → fits_signed 8 off ≡ true → IsSome (spelling_10t (with_operands i off 0))
@@ -43,7 +43,7 @@ index_3rc i index zero fitting = grind (arith, form_tests)
 
 -- the offset fits the format's, and is 0 where the format has none
 pub record OffsetFits (format : Option Format) (off : ℤ) : Type 0 where
-  pub fitting : has_offset format ≡ true → fits_signed (offset_bits_in format) off ≡ true
+  pub fitting : has_offset format ≡ true → fits_signed (unwrap_or (offset_in format) 32) off ≡ true
   pub none : has_offset format ≡ false → off ≡ pos 0
 
 -- the index fits 16 bits, and is 0 where the format has none

@@ -2,6 +2,7 @@
 use Rattle.std.proofs.Common.{ℕ, pos, false, List, [], ◌∷◌, Option, Some, None, refl}
 use Rattle.dv_defs.specs.declared.code.Insn.{Insn}
 use Rattle.dv_defs.specs.declared.names.Ty.{Ty}
+use Rattle.dv_defs.specs.Families.{pool_at}
 use Rattle.dv_defs.specs.Formats.{format_at}
 use Rattle.dv_defs.specs.Spelling.{insn_eq}
 use Rattle.dv_asm.specs.declared.draft.Draftop.{Draftop}
@@ -32,9 +33,9 @@ unfolding format_at insn_eq
 switch_forms name = record { form = refl; registers = refl; label = refl; offset = λ h. refl; entry = refl; kind = λ h. absurd (cc); index = λ h. refl }
 
 pub string_forms : (chars : List ℕ) → Forms None (pool.Str chars) (insn_of 0x1a 1 0 0)
-unfolding format_at insn_eq
+unfolding format_at pool_at insn_eq
 string_forms chars = record { form = refl; registers = refl; label = refl; offset = λ h. refl; entry = refl; kind = λ h. refl; index = λ h. refl }
 
 pub class_forms : (ty : Ty) → Forms None (pool.OfType ty) (insn_of 0x1c 1 0 0)
-unfolding format_at insn_eq
+unfolding format_at pool_at insn_eq
 class_forms ty = record { form = refl; registers = refl; label = refl; offset = λ h. refl; entry = refl; kind = λ h. refl; index = λ h. refl }

@@ -8,7 +8,7 @@ use Rattle.dv_defs.specs.declared.faults.LineKind.TheVariants as kind
 use Rattle.dv_defs.specs.declared.faults.LineError.{LineError}
 use Rattle.dv_defs.specs.declared.faults.LineError.TheVariants as error
 use Rattle.dv_defs.specs.Spelling.{spelling, fits_signed}
-use Rattle.dv_units.specs.Offsets.{offset_bits}
+use Rattle.dv_defs.specs.Formats.{offset_bits}
 use Rattle.dv_asm.specs.declared.draft.Item.{Item}
 use Rattle.dv_asm.specs.declared.draft.Catch.{Catch}
 use Rattle.dv_asm.specs.declared.draft.What.{What}

@@ -1,7 +1,7 @@
 // Registers and offsets that don't fit, and bodies that are too long.
 ghost use Rattle.std.specs.Prelude.{◌≡◌, ◌<◌, length, Some};
 ghost use Rattle.dv_defs.specs.Spelling.{fits_signed};
-ghost use Rattle.dv_units.specs.Offsets.{offset_bits};
+ghost use Rattle.dv_defs.specs.Formats.{offset_bits};
 ghost use Rattle.dv_asm.specs.Refusals.{with_operands, is_over_registers, register_range, register_range_at, offset_fits, is_over_offset, offset_range, offset_range_at, too_long, too_long_at};
 
 use crate::draft::What;

@@ -9,7 +9,7 @@ use Rattle.dv_defs.specs.Families.{family_at}
 use Rattle.dv_defs.specs.Formats.{format_at}
 use Rattle.dv_defs.specs.Numbers.{jump}
 use Rattle.dv_defs.specs.Spelling.{plain, few, spelling, insn_eq, fits_signed}
-use Rattle.dv_units.specs.Offsets.{offset_bits}
+use Rattle.dv_defs.specs.Formats.{offset_bits}
 use Rattle.dv_asm.specs.declared.draft.Item.{Item}
 use Rattle.dv_asm.specs.declared.draft.Draftop.{Draftop}
 use Rattle.dv_asm.specs.declared.draft.PoolRef.{PoolRef}
