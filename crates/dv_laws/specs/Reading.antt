@@ -32,6 +32,7 @@ Anything x = Unit {0}
 
 -- ---- numbers
 
+-- a number is read where the verifier demanded one
 abbrev pub ReadsInt : Type 0
 ReadsInt =
     (image : Image) (heap : Heap) (own : Own) (xs : List Value) (ts : Types) (k : ℕ) →
@@ -43,16 +44,19 @@ KeepsInt =
     (image : Image) (heap : Heap) (own : Own) (xs : List Value) (ts : Types) (k : ℕ) →
     RegsConform image heap own xs ts → int ts k ≡ None → HoldsOf (λ x. x ≡ reg_at xs k) (kept_int (reg_at xs k))
 
+-- so is the second operand of an int operation
 abbrev pub ReadsArgument : Type 0
 ReadsArgument =
     (image : Image) (heap : Heap) (own : Own) (xs : List Value) (ts : Types) (a : Arg) →
     RegsConform image heap own xs ts → arg_int ts a ≡ None → HoldsOf Anything (read_arg xs a)
 
+-- both words of a long are read where one was demanded
 abbrev pub ReadsTwo : Type 0
 ReadsTwo =
     (image : Image) (heap : Heap) (own : Own) (xs : List Value) (ts : Types) (k : ℕ) →
     RegsConform image heap own xs ts → long ts k ≡ None → HoldsOf Anything (read_two xs k)
 
+-- and make a number
 abbrev pub ReadsLong : Type 0
 ReadsLong =
     (image : Image) (heap : Heap) (own : Own) (xs : List Value) (ts : Types) (k : ℕ) →
@@ -60,11 +64,13 @@ ReadsLong =
 
 -- ---- references
 
+-- null or an object that is there
 abbrev pub ReadsReference : Type 0
 ReadsReference =
     (image : Image) (heap : Heap) (own : Own) (xs : List Value) (ts : Types) (k : ℕ) →
     RegsConform image heap own xs ts → ref ts k ≡ None → HoldsOf (IsThere image heap) (read_any heap (reg_at xs k))
 
+-- of a type that the demanded one takes
 abbrev pub ReadsReferenceTo : Type 0
 ReadsReferenceTo =
     (image : Image) (heap : Heap) (own : Own) (xs : List Value) (ts : Types) (k : ℕ) (t : Ty) → IsOrder image →
@@ -80,12 +86,14 @@ KeepsObject =
 
 -- ---- tests
 
+-- two numbers, or two references
 abbrev pub TestsBoth : Type 0
 TestsBoth =
     (image : Image) (heap : Heap) (own : Own) (xs : List Value) (ts : Types) (t : Test) (a b : ℕ) →
     RegsConform image heap own xs ts → both_for t ts a b ≡ None →
     HoldsOf Anything (test_both t (reg_at xs a) (reg_at xs b))
 
+-- a number, or a reference
 abbrev pub TestsZero : Type 0
 TestsZero =
     (image : Image) (heap : Heap) (own : Own) (xs : List Value) (ts : Types) (t : Test) (a : ℕ) →
@@ -109,6 +117,7 @@ IsArrayOrNull image heap good t (suc o) = IsArrayOf image heap good t (suc o)
 abbrev pub GoesDown : Image → (Ty → Bool) → Type 0
 GoesDown image good = (s t : Ty) → instance image s t ≡ true → good t ≡ true → good s ≡ true
 
+-- null, or an array whose elements the test takes
 abbrev pub ReadsArray : Type 0
 ReadsArray =
     (image : Image) (heap : Heap) (own : Own) (xs : List Value) (ts : Types) (k : ℕ) (good : Ty → Bool) →
@@ -128,12 +137,14 @@ pub record AreWords (image : Image) (heap : Heap) (xs : List Value) (ts : Types)
   pub good : (own : Own) → IsGood image heap own xs ts
   pub refs : All (RefFine image heap) xs
 
+-- the words of a value of a declared type
 abbrev pub ReadsValue : Type 0
 ReadsValue =
     (image : Image) (heap : Heap) (own : Own) (xs : List Value) (ts : Types) (k : ℕ) (t : Ty) → IsOrder image →
     RegsConform image heap own xs ts → value_for image ts k t ≡ None →
     HoldsOf (λ ys. AreWords image heap ys (reg_types t)) (read_value image heap xs k t)
 
+-- the words of all arguments
 abbrev pub ReadsArguments : Type 0
 ReadsArguments =
     (image : Image) (heap : Heap) (own : Own) (xs : List Value) (ts : Types) (ps : List Ty) (ks : List ℕ) →
@@ -166,11 +177,13 @@ ReadsReceiver =
 
 -- ---- pending results
 
+-- a pending result is a number where the verifier knows one
 abbrev pub MovesInt : Type 0
 MovesInt =
     (image : Image) (heap : Heap) (own : Own) (p : Pending) (r : PendingType) → ResultConforms image heap own p r →
     result_int r ≡ ty.Int → HoldsOf (λ x. Conforms image heap own x ty.Int) (pending_int p)
 
+-- and a reference to the type that it knows
 abbrev pub MovesReference : Type 0
 MovesReference =
     (image : Image) (heap : Heap) (own : Own) (p : Pending) (r : PendingType) (t : Ty) →

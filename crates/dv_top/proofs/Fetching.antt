@@ -22,6 +22,8 @@ use Rattle.dv_top.specs.Program.{op_of}
 use Rattle.dv_top.proofs.AssemblyLemmas.{next_address}
 use Rattle.dv_top.proofs.Images.{main_code, code_of_main, first_method}
 use Rattle.dv_top.proofs.Tiles.{tile_of, tiles_from}
+use Rattle.dv_defs.specs.declared.faults.Rule.{Rule}
+use Rattle.dv_defs.specs.declared.faults.Rule.TheVariants as rule
 
 -- ---- an instruction's operation
 
@@ -68,13 +70,13 @@ no_op_rules image code (Move to from) = refl
 no_op_rules image code (AddInt to left right) = refl
 no_op_rules image code (Println from) = refl
 
-joined : (a b : List ℕ) → a ≡ [] → b ≡ [] → a ++ b ≡ []
+joined : (a b : List Rule) → a ≡ [] → b ≡ [] → a ++ b ≡ []
 joined a b e h = ap (λ x. x ++ b) e ∙ h
 
-rules_by : (image : Image) (code : Code) (registers at : ℕ) (i : Instruction) → code.body.registers ≡ registers → IsInRange registers i → defs.op_of image code at (insn_of i) ≡ Ok (op_of i) → unless (registers_below code.body.registers (insn_of i)) 11 ++ resolved_rules image code (defs.op_of image code at (insn_of i)) ≡ []
+rules_by : (image : Image) (code : Code) (registers at : ℕ) (i : Instruction) → code.body.registers ≡ registers → IsInRange registers i → defs.op_of image code at (insn_of i) ≡ Ok (op_of i) → unless (registers_below code.body.registers (insn_of i)) (rule.S 11) ++ resolved_rules image code (defs.op_of image code at (insn_of i)) ≡ []
 rules_by image code registers at i count low is =
     let below : registers_below code.body.registers (insn_of i) ≡ true = ap (λ n. registers_below n (insn_of i)) count ∙ registers_are_below registers i low in
-    joined _ _ (ap (λ b. unless b 11) below) (ap (resolved_rules image code) is ∙ no_op_rules image code i)
+    joined _ _ (ap (λ b. unless b (rule.S 11)) below) (ap (resolved_rules image code) is ∙ no_op_rules image code i)
 
 -- it breaks none
 pub no_rules : (image : Image) (code : Code) (registers at : ℕ) (i : Instruction) → code.body.registers ≡ registers → IsInRange registers i → defs.op_of image code at (insn_of i) ≡ Ok (op_of i) → insn_rules image code at (insn_of i) ≡ []
@@ -136,7 +138,7 @@ pooled_at [] k d below = absurd (omega arith)
 pooled_at (i ∷ insns) zero d below = λ is. either_left (is_println i) (list_any is_println insns) is
 pooled_at (i ∷ insns) (suc k) d below = λ is. either_right (is_println i) (list_any is_println insns) (pooled_at insns k d (omega arith) is)
 
-abbrev at_by : List ℕ → ℕ → Resolved → Option At
+abbrev at_by : List Rule → ℕ → Resolved → Option At
 at_by rules next op = elim rules [ [] ↦ at_of next op | r ∷ rs ↦ None ]
 
 sound : (image : Image) (code : Code) (registers at : ℕ) (i : Instruction) → code.body.registers ≡ registers → IsInRange registers i → defs.op_of image code at (insn_of i) ≡ Ok (op_of i) → at_tile image code (Some (tile_of at i)) ≡ Some (record { op = op_of i; next = at + size_of i })

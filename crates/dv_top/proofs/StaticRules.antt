@@ -16,6 +16,7 @@ use Rattle.dv_top.proofs.AssemblyLemmas.{length-units_of}
 use Rattle.dv_top.proofs.Fetching.{IsPooled, op_is, no_rules, pooled_at, size_positive}
 use Rattle.dv_top.proofs.Images.{main_code, code_of_main}
 use Rattle.dv_top.proofs.Tiles.{tiles_from, tiling_is}
+use Rattle.dv_defs.specs.declared.faults.Rule.TheVariants as rule
 
 -- ---- the parts
 
@@ -36,7 +37,7 @@ any_number : (n : ℕ) → nat_le 0 n ≡ true
 any_number n = grind (arith, nat_tests)
 
 no_first_places : (class : List ℕ) (registers : ℕ) (i : Instruction) (insns : List Instruction) → first_places (image_of class registers (i ∷ insns)) (main_code registers (i ∷ insns)) ≡ []
-no_first_places class registers i insns = ap (λ b. place_unless b 0 11) (any_number registers)
+no_first_places class registers i insns = ap (λ b. place_unless b 0 (rule.S 11)) (any_number registers)
 
 some_units : (us : List ℕ) → 0 < length us → no_units us ≡ false
 some_units [] below = absurd (omega arith)
@@ -46,7 +47,7 @@ has_units : (registers : ℕ) (i : Instruction) (insns : List Instruction) → r
 has_units registers i insns few low = some_units (units_of i ++ flat_map units_of insns) (omega (arith, length-append (units_of i) (flat_map units_of insns), length-units_of registers i few low, size_positive i))
 
 abbrev sorted_if : Bool → List Place → List Place
-sorted_if b ps = elim b [ true ↦ record { at = 0; rule = 1 } ∷ [] | false ↦ sorted ps ]
+sorted_if b ps = elim b [ true ↦ record { at = 0; broken = rule.S 1 } ∷ [] | false ↦ sorted ps ]
 
 -- ---- the whole
 

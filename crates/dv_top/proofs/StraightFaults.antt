@@ -12,7 +12,7 @@ use Rattle.dv_defs.specs.Accepting.{demand_at, fault_at, typing_faults}
 use Rattle.dv_defs.specs.Demands.{Demand, demand, first, is_int, is_void, ok, onward_ok}
 use Rattle.dv_defs.specs.Flow.{Typing, IsUnderAt}
 use Rattle.dv_defs.specs.Op.{Code}
-use Rattle.dv_defs.specs.Pools.{Method}
+use Rattle.dv_defs.specs.Pools.{Method, is_constructor}
 use Rattle.dv_defs.specs.RegTypes.{Types, type_at, IsBelow}
 use Rattle.dv_defs.specs.Statics.{At, fetch}
 use Rattle.dv_defs.specs.Transfer.{copied_int, const_type}
@@ -26,6 +26,7 @@ use Rattle.dv_top.proofs.SimpleTypes.{same_int, same_truth, const_is_int, copied
 use Rattle.dv_top.proofs.States.{state_of, types_after, AreSimple, still_simple}
 use Rattle.dv_top.proofs.StraightTyping.{typing_from, insn_at, AreFetched, InRange, rest_in_range, first_in_range, state_here, none_later, Returns, returns_later, Agrees, agrees_on}
 use Rattle.dv_top.proofs.Tiles.{tiles_from}
+use Rattle.dv_defs.specs.declared.faults.Rule.TheVariants as rule
 
 -- ---- which registers hold an int
 
@@ -57,33 +58,33 @@ then_none : (d e : Demand) → e ≡ None → first d e ≡ d
 then_none None e h = h
 then_none (Some r) e h = refl
 
-both_demanded : (a b : Bool) → first (demand a 2) (demand b 2) ≡ demand (a && b) 2
+both_demanded : (a b : Bool) → first (demand a (rule.V 2)) (demand b (rule.V 2)) ≡ demand (a && b) (rule.V 2)
 both_demanded true b = refl
 both_demanded false b = refl
 
 is_onward : (image : Image) (m : Method) (at : ℕ) (i : Instruction) → is_some (fetch image m.id (at + size_of i)) ≡ true → onward_ok image m (insn_at at i) ≡ None
-is_onward image m at Nop some = ap (λ b. demand b 1) some
+is_onward image m at Nop some = ap (λ b. demand b (rule.V 1)) some
 is_onward image m at ReturnVoid some = refl
-is_onward image m at (Const4 to value) some = ap (λ b. demand b 1) some
-is_onward image m at (Const16 to value) some = ap (λ b. demand b 1) some
-is_onward image m at (Move to from) some = ap (λ b. demand b 1) some
-is_onward image m at (AddInt to left right) some = ap (λ b. demand b 1) some
-is_onward image m at (Println from) some = ap (λ b. demand b 1) some
+is_onward image m at (Const4 to value) some = ap (λ b. demand b (rule.V 1)) some
+is_onward image m at (Const16 to value) some = ap (λ b. demand b (rule.V 1)) some
+is_onward image m at (Move to from) some = ap (λ b. demand b (rule.V 1)) some
+is_onward image m at (AddInt to left right) some = ap (λ b. demand b (rule.V 1)) some
+is_onward image m at (Println from) some = ap (λ b. demand b (rule.V 1)) some
 
-reads_are : (image : Image) (m : Method) (at registers : ℕ) (ts : Types) (ints : List Bool) (i : Instruction) → IsInRange registers i → Holds registers ts ints → is_return i ≡ false → onward_ok image m (insn_at at i) ≡ None → ok image m (insn_at at i) (state_of ts) ≡ demand (reads_ints ints i) 2
+reads_are : (image : Image) (m : Method) (at registers : ℕ) (ts : Types) (ints : List Bool) (i : Instruction) → IsInRange registers i → Holds registers ts ints → is_return i ≡ false → onward_ok image m (insn_at at i) ≡ None → ok image m (insn_at at i) (state_of ts) ≡ demand (reads_ints ints i) (rule.V 2)
 reads_are image m at registers ts ints Nop low holds goes on = on
 reads_are image m at registers ts ints ReturnVoid low holds goes on = absurd (cc)
 reads_are image m at registers ts ints (Const4 to value) low holds goes on = on
 reads_are image m at registers ts ints (Const16 to value) low holds goes on = on
 reads_are image m at registers ts ints (Move to from) low holds goes on =
-    then_none (demand (is_int (type_at ts from)) 2) (onward_ok image m (insn_at at (Move to from))) on ∙ ap (λ b. demand b 2) (holds.each from low.1)
+    then_none (demand (is_int (type_at ts from)) (rule.V 2)) (onward_ok image m (insn_at at (Move to from))) on ∙ ap (λ b. demand b (rule.V 2)) (holds.each from low.1)
 reads_are image m at registers ts ints (AddInt to left right) low holds goes on =
-    then_none (first (demand (is_int (type_at ts left)) 2) (demand (is_int (type_at ts right)) 2)) (onward_ok image m (insn_at at (AddInt to left right))) on ∙
+    then_none (first (demand (is_int (type_at ts left)) (rule.V 2)) (demand (is_int (type_at ts right)) (rule.V 2))) (onward_ok image m (insn_at at (AddInt to left right))) on ∙
     (both_demanded (is_int (type_at ts left)) (is_int (type_at ts right)) ∙
-    (ap (λ a. demand (a && is_int (type_at ts right)) 2) (holds.each left low.1) ∙ ap (λ b. demand (holds_int ints left && b) 2) (holds.each right low.2)))
+    (ap (λ a. demand (a && is_int (type_at ts right)) (rule.V 2)) (holds.each left low.1) ∙ ap (λ b. demand (holds_int ints left && b) (rule.V 2)) (holds.each right low.2)))
 reads_are image m at registers ts ints (Println from) low holds goes on =
-    then_none (first (demand (is_int (type_at ts from)) 2) None) (onward_ok image m (insn_at at (Println from))) on ∙
-    (then_none (demand (is_int (type_at ts from)) 2) None refl ∙ ap (λ b. demand b 2) (holds.each from low))
+    then_none (first (demand (is_int (type_at ts from)) (rule.V 2)) None) (onward_ok image m (insn_at at (Println from))) on ∙
+    (then_none (demand (is_int (type_at ts from)) (rule.V 2)) None refl ∙ ap (λ b. demand b (rule.V 2)) (holds.each from low))
 
 return_is_ok : (image : Image) (registers : ℕ) (insns : List Instruction) (at : ℕ) (ts : Types) (i : Instruction) → is_return i ≡ true → ok image (main_method registers insns) (insn_at at i) (state_of ts) ≡ None
 return_is_ok image registers insns at ts ReturnVoid returns = refl
@@ -93,19 +94,19 @@ return_is_ok image registers insns at ts i returns = absurd (cc)
 
 same_ok : (image : Image) (m : Method) (at : ℕ) (i : Instruction) (s t : RegState) → IsBelow image s t → IsBelow image t s → ok image m (insn_at at i) s ≡ ok image m (insn_at at i) t
 same_ok image m at Nop s t p q = refl
-same_ok image m at ReturnVoid s t p q = ap (λ b. first (first (demand (is_void m.def.proto.ret) 13) (demand (not b) 12)) None) (same_truth s.this_pending t.this_pending p.this_pending q.this_pending)
+same_ok image m at ReturnVoid s t p q = ap (λ b. first (first (demand (is_void m.def.proto.ret) (rule.V 13)) (demand (not (is_constructor m && b)) (rule.V 12))) None) (same_truth s.this_pending t.this_pending p.this_pending q.this_pending)
 same_ok image m at (Const4 to value) s t p q = refl
 same_ok image m at (Const16 to value) s t p q = refl
 same_ok image m at (Move to from) s t p q =
     let on = onward_ok image m (insn_at at (Move to from)) in
-    ap (λ b. first (demand b 2) on) (same_int image (type_at s.regs from) (type_at t.regs from) (p.each from) (q.each from))
+    ap (λ b. first (demand b (rule.V 2)) on) (same_int image (type_at s.regs from) (type_at t.regs from) (p.each from) (q.each from))
 same_ok image m at (AddInt to left right) s t p q =
     let on = onward_ok image m (insn_at at (AddInt to left right)) in
-    ap (λ a. first (first (demand a 2) (demand (is_int (type_at s.regs right)) 2)) on) (same_int image (type_at s.regs left) (type_at t.regs left) (p.each left) (q.each left)) ∙
-    ap (λ b. first (first (demand (is_int (type_at t.regs left)) 2) (demand b 2)) on) (same_int image (type_at s.regs right) (type_at t.regs right) (p.each right) (q.each right))
+    ap (λ a. first (first (demand a (rule.V 2)) (demand (is_int (type_at s.regs right)) (rule.V 2))) on) (same_int image (type_at s.regs left) (type_at t.regs left) (p.each left) (q.each left)) ∙
+    ap (λ b. first (first (demand (is_int (type_at t.regs left)) (rule.V 2)) (demand b (rule.V 2))) on) (same_int image (type_at s.regs right) (type_at t.regs right) (p.each right) (q.each right))
 same_ok image m at (Println from) s t p q =
     let on = onward_ok image m (insn_at at (Println from)) in
-    ap (λ b. first (first (demand b 2) None) on) (same_int image (type_at s.regs from) (type_at t.regs from) (p.each from) (q.each from))
+    ap (λ b. first (first (demand b (rule.V 2)) None) on) (same_int image (type_at s.regs from) (type_at t.regs from) (p.each from) (q.each from))
 
 same_demand : (image : Image) (code : Code) (at : ℕ) (i : Instruction) (o u : Option RegState) → IsUnderAt image o u → IsUnderAt image u o → demand_at image code (Some (insn_at at i)) o ≡ demand_at image code (Some (insn_at at i)) u
 same_demand image code at i None None p q = refl
@@ -144,7 +145,7 @@ next_is : (image : Image) (at : ℕ) (insns : List Instruction) → Returns insn
 next_is image at [] returns fetched = absurd (cc)
 next_is image at (i ∷ insns) returns fetched = ap (λ o. is_some o) fetched.0
 
-fault_is : (at : ℕ) (b : Bool) → fault_at 1 at (demand b 2) ≡ fault_unless b at
+fault_is : (at : ℕ) (b : Bool) → fault_at 1 at (demand b (rule.V 2)) ≡ fault_unless b at
 fault_is at true = refl
 fault_is at false = refl
 

@@ -4,7 +4,7 @@ use Rattle.dv_defs.specs.declared.image.Image.{Image}
 use Rattle.dv_defs.specs.declared.run.Entry.{Entry}
 use Rattle.dv_defs.specs.Pools.{Method}
 use Rattle.dv_io.specs.Io.{after_write}
-use Rattle.dv_machine.specs.Outcomes.{usual}
+use Rattle.dv_machine.specs.Opening.{usual}
 use Rattle.dv_machine.specs.Replaying.{IsLegal}
 use Rattle.dv_top.specs.declared.status.Status.TheVariants as exit
 use Rattle.dv_top.specs.Said.{IsAccepted, IsSaid, main_of, text_limit}

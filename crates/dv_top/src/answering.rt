@@ -3,7 +3,7 @@ ghost use Rattle.std.specs.Prelude.{◌≡◌, ◌≢◌, ℕ, ◌+◌, ◌<◌,
 ghost use Rattle.dv_defs.specs.Accepting.{AreImageFaults};
 ghost use Rattle.dv_defs.specs.declared.image.Image.{Image};
 ghost use Rattle.dv_io.specs.Io.{HasRisen, after_write, after_taking};
-ghost use Rattle.dv_machine.specs.Outcomes.{usual};
+ghost use Rattle.dv_machine.specs.Opening.{usual};
 ghost use Rattle.dv_top.specs.Answering.{IsIdle, IsOfUnread, IsTold, HasTaken, IsReadOf, IsScheduleOf, MayRun, IsPrinted, IsPartlyPrinted};
 ghost use Rattle.dv_top.specs.declared.instruction.Instruction.{Instruction};
 ghost use Rattle.dv_top.specs.declared.reading.ReadError.TheVariants.{Memory as NoMemory};
