@@ -1,6 +1,8 @@
 // Each call once, and what no clause says.
 use crate::*;
 use dv_defs::{Base, Chars, Ty};
+use std::alloc::Global;
+use std::process::Abort;
 use std::test::Fail;
 
 // A text, the dimensions of its type, and the letter or the descriptor of the base.
@@ -76,13 +78,29 @@ fn base_bytes(ty: &Ty) -> &[u8] {
     }
 }
 
+fn are_bytes(rt: &impl Abort, found: &[u8], expected: &[u8]) {
+    assert_eq!(rt; found, expected);
+}
+
+fn is_type(rt: &impl Abort, ty: &Ty, dims: u8, base: &[u8]) {
+    assert_eq!(rt; ty.dims, dims);
+    are_bytes(rt, base_bytes(ty), base);
+}
+
+fn refuses_type(rt: &impl Abort, alloc: Global, text: &[u8], error: NameError) {
+    assert_eq!(rt; parse_type(alloc, text).err(), Some(error));
+}
+
+fn refuses_proto(rt: &impl Abort, alloc: Global, text: &[u8], error: NameError) {
+    assert_eq!(rt; parse_proto(alloc, text).err(), Some(error));
+}
+
 #[test]
 fn types_are_read(rt: HostRuntime) -> Result<(), Fail> {
     for (text, dims, base) in &TYPES {
         let ty = parse_type(rt.alloc(), text.as_bytes())?;
-        assert_eq!(rt; ty.dims, *dims);
-        assert_eq!(rt; base_bytes(&ty), base.as_bytes());
-        assert_eq!(rt; print_type(rt.alloc(), &ty)?.bytes(), text.as_bytes());
+        is_type(&rt, &ty, *dims, base.as_bytes());
+        are_bytes(&rt, print_type(rt.alloc(), &ty)?.bytes(), text.as_bytes());
     }
     Ok(())
 }
@@ -90,12 +108,20 @@ fn types_are_read(rt: HostRuntime) -> Result<(), Fail> {
 #[test]
 fn other_texts_are_refused_at_the_first_byte_that_fits_no_type(rt: HostRuntime) {
     for (text, place) in &NO_TYPES {
-        let refused = parse_type(rt.alloc(), text.as_bytes()).err();
-        assert_eq!(rt; refused, Some(NameError::BadDescriptor(*place)));
+        refuses_type(
+            &rt,
+            rt.alloc(),
+            text.as_bytes(),
+            NameError::BadDescriptor(*place),
+        );
     }
     for (text, place) in &FLOAT_TYPES {
-        let refused = parse_type(rt.alloc(), text.as_bytes()).err();
-        assert_eq!(rt; refused, Some(NameError::FloatType(*place)));
+        refuses_type(
+            &rt,
+            rt.alloc(),
+            text.as_bytes(),
+            NameError::FloatType(*place),
+        );
     }
 }
 
@@ -103,10 +129,8 @@ fn other_texts_are_refused_at_the_first_byte_that_fits_no_type(rt: HostRuntime) 
 fn an_array_has_at_most_255_dimensions(rt: HostRuntime) -> Result<(), Fail> {
     let mut text = vec![in rt.alloc(); b'['; 256]?;
     text.push(b'I')?;
-    let ty = parse_type(rt.alloc(), &text[1..])?;
-    assert_eq!(rt; (ty.dims, base_bytes(&ty)), (255, b"I".as_slice()));
-    let refused = parse_type(rt.alloc(), &text).err();
-    assert_eq!(rt; refused, Some(NameError::BadDescriptor(255)));
+    is_type(&rt, &parse_type(rt.alloc(), &text[1..])?, 255, b"I");
+    refuses_type(&rt, rt.alloc(), &text, NameError::BadDescriptor(255));
     Ok(())
 }
 
@@ -114,61 +138,64 @@ fn an_array_has_at_most_255_dimensions(rt: HostRuntime) -> Result<(), Fail> {
 fn prototypes_are_read(rt: HostRuntime) -> Result<(), Fail> {
     let text = b"(ILjava/lang/Object;[J)V";
     let proto = parse_proto(rt.alloc(), text)?;
-    let params = proto.params.items();
-    assert_eq!(rt; params.len(), 3);
-    assert_eq!(rt;
-        (params[0].dims, base_bytes(&params[0])),
-        (0, b"I".as_slice())
-    );
-    assert_eq!(rt;
-        (params[1].dims, base_bytes(&params[1])),
-        (0, b"Ljava/lang/Object;".as_slice())
-    );
-    assert_eq!(rt;
-        (params[2].dims, base_bytes(&params[2])),
-        (1, b"J".as_slice())
-    );
-    assert!(rt; proto.ret.is_none());
-    assert_eq!(rt; print_proto(rt.alloc(), &proto)?.bytes(), text.as_slice());
+    assert!(rt; proto.params.items().len() == 3 && proto.ret.is_none());
+    is_type(&rt, &proto.params.items()[0], 0, b"I");
+    is_type(&rt, &proto.params.items()[1], 0, b"Ljava/lang/Object;");
+    is_type(&rt, &proto.params.items()[2], 1, b"J");
+    are_bytes(&rt, print_proto(rt.alloc(), &proto)?.bytes(), text);
     Ok(())
 }
 
 #[test]
-fn prototypes_without_parameters_are_read(rt: HostRuntime) -> Result<(), Fail> {
-    let nothing = parse_proto(rt.alloc(), b"()V")?;
-    assert!(rt; nothing.params.items().is_empty() && nothing.ret.is_none());
-    assert_eq!(rt;
-        print_proto(rt.alloc(), &nothing)?.bytes(),
-        b"()V".as_slice()
+fn a_prototype_may_have_no_parameter(rt: HostRuntime) -> Result<(), Fail> {
+    let proto = parse_proto(rt.alloc(), b"()V")?;
+    assert!(rt; proto.params.items().is_empty() && proto.ret.is_none());
+    are_bytes(&rt, print_proto(rt.alloc(), &proto)?.bytes(), b"()V");
+    Ok(())
+}
+
+#[test]
+fn a_prototype_may_have_a_result(rt: HostRuntime) -> Result<(), Fail> {
+    let proto = parse_proto(rt.alloc(), b"()[LMain;")?;
+    assert!(rt; proto.params.items().is_empty());
+    is_type(
+        &rt,
+        proto.ret.as_ref().expect(&rt, "a result"),
+        1,
+        b"LMain;",
     );
-    let array = parse_proto(rt.alloc(), b"()[LMain;")?;
-    assert!(rt; array.params.items().is_empty());
-    let ret = array.ret.as_ref().expect(&rt, "a result");
-    assert_eq!(rt; (ret.dims, base_bytes(ret)), (1, b"LMain;".as_slice()));
-    assert_eq!(rt;
-        print_proto(rt.alloc(), &array)?.bytes(),
-        b"()[LMain;".as_slice()
-    );
+    are_bytes(&rt, print_proto(rt.alloc(), &proto)?.bytes(), b"()[LMain;");
     Ok(())
 }
 
 #[test]
 fn other_texts_are_refused_at_the_first_byte_that_fits_no_prototype(rt: HostRuntime) {
     for (text, place) in &NO_PROTOS {
-        let refused = parse_proto(rt.alloc(), text.as_bytes()).err();
-        assert_eq!(rt; refused, Some(NameError::BadDescriptor(*place)));
+        refuses_proto(
+            &rt,
+            rt.alloc(),
+            text.as_bytes(),
+            NameError::BadDescriptor(*place),
+        );
     }
     for (text, place) in &FLOAT_PROTOS {
-        let refused = parse_proto(rt.alloc(), text.as_bytes()).err();
-        assert_eq!(rt; refused, Some(NameError::FloatType(*place)));
+        refuses_proto(
+            &rt,
+            rt.alloc(),
+            text.as_bytes(),
+            NameError::FloatType(*place),
+        );
     }
 }
 
 #[test]
 fn the_java_text_of_a_class_has_dots(rt: HostRuntime) -> Result<(), Fail> {
-    let text = java_text(rt.alloc(), b"Ljava/lang/Error;")?;
-    assert_eq!(rt; text.bytes(), b"java.lang.Error".as_slice());
-    assert_eq!(rt; java_text(rt.alloc(), b"L")?.bytes(), b"".as_slice());
+    are_bytes(
+        &rt,
+        java_text(rt.alloc(), b"Ljava/lang/Error;")?.bytes(),
+        b"java.lang.Error",
+    );
+    are_bytes(&rt, java_text(rt.alloc(), b"L")?.bytes(), b"");
     Ok(())
 }
 
@@ -199,7 +226,7 @@ fn texts_are_units(rt: HostRuntime) -> Result<(), Fail> {
 fn units_are_bytes(rt: HostRuntime) -> Result<(), Fail> {
     for (units, text) in &STRINGS {
         let chars = Chars::of(Vec::from_slice(rt.alloc(), *units)?);
-        assert_eq!(rt; utf8_of_chars(rt.alloc(), &chars)?.bytes(), *text);
+        are_bytes(&rt, utf8_of_chars(rt.alloc(), &chars)?.bytes(), text);
     }
     Ok(())
 }

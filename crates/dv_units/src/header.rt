@@ -9,7 +9,7 @@ ghost use Rattle.dv_units.specs.Payloads.{IsHeader, header_size};
 use crate::fields::of_two_units;
 
 /// The kind of a payload with its number of targets, or with its elements' width and the number of its bytes.
-#[derive(Clone, Copy, PartialEq, Eq, Debug)]
+#[derive(Clone, Copy)]
 pub enum Header {
     Packed { size: u16 },
     Sparse { size: u16 },

@@ -27,5 +27,5 @@ pub use laws::{
 };
 pub use payloads::{decode_payload, encode_payload, payload_size};
 pub use read::decode;
-pub use sizes::{has_spelling, insn_size, offset_bits};
+pub use sizes::{has_offset, has_spelling, insn_size, offset_bits, pool_of};
 pub use write::encode;

@@ -3,7 +3,7 @@ ghost use Rattle.std.specs.Prelude.{◌≡◌, [], ◌∷◌, length};
 use std::marker::Model;
 
 /// The units of one instruction, which contracts see as their list.
-#[derive(Debug, Drop)]
+#[derive(Drop)]
 pub struct Spelled {
     units: [u16; 5],
     len: usize,
