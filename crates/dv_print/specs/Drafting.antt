@@ -1,6 +1,6 @@
 -- The draft of a body: its instructions and payloads by their addresses, with labels at the addresses that are named.
 -- Its items have no lines.
-use Rattle.std.specs.Prelude.{ℕ, ℤ, pos, List, [], ◌∷◌, ◌++◌, length, map, slice_get, Option, Some, option_map, if◌then◌else◌}
+use Rattle.std.specs.Prelude.{ℕ, ℤ, pos, List, [], ◌∷◌, ◌++◌, length, map, slice_get, Option, Some, None, option_map, if◌then◌else◌}
 use Rattle.std.specs.Option.{option_and_then, option_map_or}
 use Rattle.std.specs.List.{flat_map}
 use Rattle.dv_defs.specs.declared.code.Insn.{Insn}
@@ -9,11 +9,11 @@ use Rattle.dv_defs.specs.declared.code.Payload.TheVariants as payload
 use Rattle.dv_defs.specs.declared.code.Handler.{Handler}
 use Rattle.dv_defs.specs.declared.code.Try.{Try}
 use Rattle.dv_defs.specs.declared.names.Ty.{Ty}
+use Rattle.dv_defs.specs.declared.code.PoolKind.{PoolKind}
+use Rattle.dv_defs.specs.declared.code.PoolKind.TheVariants as kind
 use Rattle.dv_defs.specs.Body.{BodyValue}
+use Rattle.dv_defs.specs.Families.{pool_at}
 use Rattle.dv_defs.specs.Numbers.{jump}
-use Rattle.dv_optable.specs.declared.family.Family.{Family}
-use Rattle.dv_optable.specs.declared.family.Family.TheVariants as family
-use Rattle.dv_optable.specs.Families.{family_at}
 use Rattle.dv_asm.specs.declared.draft.Item.{Item}
 use Rattle.dv_asm.specs.declared.draft.Catch.{Catch}
 use Rattle.dv_asm.specs.declared.draft.Draftop.{Draftop}
@@ -23,8 +23,6 @@ use Rattle.dv_asm.specs.declared.draft.PoolRef.{PoolRef}
 use Rattle.dv_asm.specs.declared.draft.PoolRef.TheVariants as pool
 use Rattle.dv_asm.specs.Draft.{DraftValue}
 use Rattle.dv_asm.specs.Refusals.{with_operands}
-use Rattle.dv_print.specs.declared.formats.Pool.{Pool}
-use Rattle.dv_print.specs.declared.formats.Pool.TheVariants as from
 use Rattle.dv_print.specs.declared.pieces.Part.{Part}
 use Rattle.dv_print.specs.declared.pieces.Part.TheVariants as part
 use Rattle.dv_print.specs.declared.pieces.Piece.{Piece}
@@ -36,39 +34,20 @@ use Rattle.dv_print.specs.Named.{target_of, base_of, addresses_named, is_named}
 abbrev pub found_as : {X : Type 0} → (X → PoolRef) → Option X → PoolRef
 found_as entry x = option_map_or entry x pool.None
 
--- the pool that instructions of a family name
-abbrev pub pool_in : Option Family → Pool
-pool_in (Some family.ConstString) = from.Strings
-pool_in (Some family.ConstClass) = from.Types
-pool_in (Some family.CheckCast) = from.Types
-pool_in (Some family.InstanceOf) = from.Types
-pool_in (Some family.NewInstance) = from.Types
-pool_in (Some family.NewArray) = from.Types
-pool_in (Some family.FilledNewArray) = from.Types
-pool_in (Some (family.FieldGet suffix)) = from.Fields
-pool_in (Some (family.FieldPut suffix)) = from.Fields
-pool_in (Some (family.StaticGet suffix)) = from.Fields
-pool_in (Some (family.StaticPut suffix)) = from.Fields
-pool_in (Some (family.Invoke call)) = from.Methods
-pool_in f = from.Nothing
-
-unfoldable pub pool_of : ℕ → Pool
-pool_of op = pool_in (family_at op)
-
 -- the entry at an index of a pool
-abbrev pub entry_in : BodyValue → Pool → ℕ → PoolRef
-entry_in b from.Strings index = found_as pool.Str (slice_get b.strings index)
-entry_in b from.Types index = found_as pool.OfType (slice_get b.types index)
-entry_in b from.Fields index = found_as pool.Field (slice_get b.fields index)
-entry_in b from.Methods index = found_as pool.Method (slice_get b.methods index)
-entry_in b from.Nothing index = pool.None
+abbrev pub entry_in : BodyValue → Option PoolKind → ℕ → PoolRef
+entry_in b None index = pool.None
+entry_in b (Some kind.Strings) index = found_as pool.Str (slice_get b.strings index)
+entry_in b (Some kind.Types) index = found_as pool.OfType (slice_get b.types index)
+entry_in b (Some kind.Fields) index = found_as pool.Field (slice_get b.fields index)
+entry_in b (Some kind.Methods) index = found_as pool.Method (slice_get b.methods index)
 
 -- an instruction at an address: its label and its entry stand for its offset and its index
 abbrev pub op_of : BodyValue → ℕ → Insn → Draftop
 op_of b at i = record {
   insn = with_operands i (pos 0) 0;
   label = option_map label_name (target_of at i);
-  pool = entry_in b (pool_of i.op) i.index;
+  pool = entry_in b (pool_at i.op) i.index;
 }
 
 -- the labels at these distances from an address

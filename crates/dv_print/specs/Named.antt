@@ -8,16 +8,16 @@ use Rattle.dv_defs.specs.declared.code.Payload.{Payload}
 use Rattle.dv_defs.specs.declared.code.Payload.TheVariants as payload
 use Rattle.dv_defs.specs.declared.code.Handler.{Handler}
 use Rattle.dv_defs.specs.declared.code.Try.{Try}
+use Rattle.dv_defs.specs.Formats.{format_at, has_offset}
 use Rattle.dv_defs.specs.Numbers.{jump}
 use Rattle.dv_asm.specs.Items.{is_switch_opcode}
 use Rattle.dv_print.specs.declared.pieces.Part.{Part}
 use Rattle.dv_print.specs.declared.pieces.Part.TheVariants as part
 use Rattle.dv_print.specs.declared.pieces.Piece.{Piece}
-use Rattle.dv_print.specs.Operands.{has_offset}
 
 -- the address to which an instruction's offset leads, where its format has one
 abbrev pub target_of : ℕ → Insn → Option ℕ
-target_of at i = if has_offset i.op then Some (jump at i.off) else None
+target_of at i = if has_offset (format_at i.op) then Some (jump at i.off) else None
 
 -- whether a switch leads to an address
 abbrev pub part_switches_to : ℕ → ℕ → Part → Bool

@@ -10,27 +10,13 @@ use Rattle.dv_defs.specs.declared.names.MethodRef.{MethodRef}
 use Rattle.dv_names.specs.Descriptors.{descriptor, prototype}
 use Rattle.dv_optable.specs.declared.format.Format.{Format}
 use Rattle.dv_optable.specs.declared.format.Format.TheVariants as format
-use Rattle.dv_optable.specs.Families.{format_at}
-use Rattle.dv_optable.specs.Table.{Entry, entry_at}
+use Rattle.dv_optable.specs.Table.{Entry, entry_at, format_at}
 use Rattle.dv_asm.specs.declared.draft.Draftop.{Draftop}
 use Rattle.dv_asm.specs.declared.draft.PoolRef.{PoolRef}
 use Rattle.dv_asm.specs.declared.draft.PoolRef.TheVariants as pool
 use Rattle.dv_print.specs.declared.formats.Form.{Form}
 use Rattle.dv_print.specs.declared.formats.Form.TheVariants as form
 use Rattle.dv_print.specs.Numbers.{hexadecimal}
-
--- whether a format has an offset
-abbrev pub is_offset_format : Option Format → Bool
-is_offset_format (Some format.F10t) = true
-is_offset_format (Some format.F20t) = true
-is_offset_format (Some format.F21t) = true
-is_offset_format (Some format.F22t) = true
-is_offset_format (Some format.F30t) = true
-is_offset_format (Some format.F31t) = true
-is_offset_format f = false
-
-unfoldable pub has_offset : ℕ → Bool
-has_offset op = is_offset_format (format_at op)
 
 -- whether a format has a literal
 abbrev pub is_literal_format : Option Format → Bool

@@ -5,7 +5,6 @@ ghost use Rattle.dv_print.specs.Numbers.{label_name};
 ghost use Rattle.dv_print.specs.Named.{target_of};
 ghost use Rattle.dv_print.specs.Drafting.{op_of, labels_from, payload_item, part_item, piece_item, with_no_line, labels_at, items_at, items_in, items_of};
 
-use crate::formats::pool_of;
 use crate::named::{Named, add_targets, addresses_named, target_of};
 use crate::numbers::label_name;
 use crate::pieces::{Part, Piece};
@@ -13,6 +12,7 @@ use crate::pool_entries::entry_in;
 use crate::switches::Pieces;
 use dv_asm::{Draftop, Item, What};
 use dv_defs::{Body, Insn, Payload, Seq, Text};
+use dv_units::pool_of;
 use std::alloc::{AllocError, Global};
 
 /// The name of the label at an address.

@@ -1,9 +1,8 @@
 // What the operands of an opcode are.
 ghost use Rattle.std.specs.Prelude.{◌≡◌};
-ghost use Rattle.dv_print.specs.Operands.{has_offset, has_literal, form_of};
-ghost use Rattle.dv_print.specs.Drafting.{pool_of};
+ghost use Rattle.dv_print.specs.Operands.{has_literal, form_of};
 
-use dv_optable::{Family, Format, kind_of, row_of};
+use dv_optable::{Format, row_of};
 
 /// How the registers of an instruction stand: each as an operand, in braces, or in braces by the first and the last.
 #[derive(Clone, Copy, PartialEq, Eq, Debug)]
@@ -11,30 +10,6 @@ pub enum Form {
     Each,
     Braces,
     Neighbours,
-}
-
-/// The pool of a body that an instruction names, if it names one.
-#[derive(Clone, Copy, PartialEq, Eq, Debug)]
-pub enum Pool {
-    Nothing,
-    Strings,
-    Types,
-    Fields,
-    Methods,
-}
-
-/// Whether the format of an opcode has an offset.
-#[tactic(auto, unfolding(crate::specs::Operands::has_offset))]
-pub fn has_offset(op: u8) -> bool
-    ensures { result ≡ has_offset op }
-{
-    match row_of(op) {
-        Some(row) => matches!(
-            row.format,
-            Format::F10t | Format::F20t | Format::F21t | Format::F22t | Format::F30t | Format::F31t
-        ),
-        None => false,
-    }
 }
 
 /// Whether the format of an opcode has a literal.
@@ -69,30 +44,5 @@ pub fn form_of(op: u8) -> Form
             _ => Form::Each,
         },
         None => Form::Each,
-    }
-}
-
-/// The pool that an opcode names.
-#[tactic(auto, unfolding(crate::specs::Drafting::pool_of))]
-pub fn pool_of(op: u8) -> Pool
-    ensures { result ≡ pool_of op }
-{
-    match kind_of(op) {
-        Some(family) => match family {
-            Family::ConstString => Pool::Strings,
-            Family::ConstClass
-            | Family::CheckCast
-            | Family::InstanceOf
-            | Family::NewInstance
-            | Family::NewArray
-            | Family::FilledNewArray => Pool::Types,
-            Family::FieldGet(_)
-            | Family::FieldPut(_)
-            | Family::StaticGet(_)
-            | Family::StaticPut(_) => Pool::Fields,
-            Family::Invoke(_) => Pool::Methods,
-            _ => Pool::Nothing,
-        },
-        None => Pool::Nothing,
     }
 }

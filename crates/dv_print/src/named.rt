@@ -4,11 +4,11 @@ ghost use Rattle.std.specs.List.{flat_map};
 ghost use Rattle.dv_defs.specs.Numbers.{jump};
 ghost use Rattle.dv_print.specs.Named.{target_of, named_by_payload, named_by_piece, named_by_try, addresses_named, is_named};
 
-use crate::formats::has_offset;
 use crate::pieces::{Part, Piece};
 use crate::switches::Pieces;
 use dv_defs::{Insn, Payload, Try};
 use indexmap::IndexSet;
+use dv_units::has_offset;
 use std::alloc::{AllocError, Global};
 use std::marker::Model;
 

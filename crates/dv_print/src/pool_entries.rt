@@ -1,14 +1,13 @@
 // The entries of a body's pools by their indices.
-ghost use Rattle.std.specs.Prelude.{◌≡◌, IfOk};
+ghost use Rattle.std.specs.Prelude.{◌≡◌, Some, IfOk};
 ghost use Rattle.dv_print.specs.Drafting.{entry_in};
 
-use crate::formats::Pool;
 use dv_asm::PoolRef;
-use dv_defs::Body;
+use dv_defs::{Body, PoolKind};
 use std::alloc::AllocError;
 
 fn string_entry(body: &Body, index: u32) -> Result<PoolRef, AllocError>
-    ensures { IfOk result (λ r. r ≡ entry_in body.now Pool.Strings index) }
+    ensures { IfOk result (λ r. r ≡ entry_in body.now (Some PoolKind.Strings) index) }
 {
     match body.strings.items().get(index as usize) {
         Some(chars) => Ok(PoolRef::Str(chars.clone()?)),
@@ -17,7 +16,7 @@ fn string_entry(body: &Body, index: u32) -> Result<PoolRef, AllocError>
 }
 
 fn type_entry(body: &Body, index: u32) -> Result<PoolRef, AllocError>
-    ensures { IfOk result (λ r. r ≡ entry_in body.now Pool.Types index) }
+    ensures { IfOk result (λ r. r ≡ entry_in body.now (Some PoolKind.Types) index) }
 {
     match body.types.items().get(index as usize) {
         Some(ty) => Ok(PoolRef::OfType(ty.clone()?)),
@@ -26,7 +25,7 @@ fn type_entry(body: &Body, index: u32) -> Result<PoolRef, AllocError>
 }
 
 fn field_entry(body: &Body, index: u32) -> Result<PoolRef, AllocError>
-    ensures { IfOk result (λ r. r ≡ entry_in body.now Pool.Fields index) }
+    ensures { IfOk result (λ r. r ≡ entry_in body.now (Some PoolKind.Fields) index) }
 {
     match body.fields.items().get(index as usize) {
         Some(field) => Ok(PoolRef::Field(field.clone()?)),
@@ -35,7 +34,7 @@ fn field_entry(body: &Body, index: u32) -> Result<PoolRef, AllocError>
 }
 
 fn method_entry(body: &Body, index: u32) -> Result<PoolRef, AllocError>
-    ensures { IfOk result (λ r. r ≡ entry_in body.now Pool.Methods index) }
+    ensures { IfOk result (λ r. r ≡ entry_in body.now (Some PoolKind.Methods) index) }
 {
     match body.methods.items().get(index as usize) {
         Some(method) => Ok(PoolRef::Method(method.clone()?)),
@@ -43,15 +42,19 @@ fn method_entry(body: &Body, index: u32) -> Result<PoolRef, AllocError>
     }
 }
 
-/// The entry at an index of a pool.
-pub fn entry_in(body: &Body, pool: Pool, index: u32) -> Result<PoolRef, AllocError>
+/// The entry at an index of a pool, if there is one.
+pub fn entry_in(
+    body: &Body,
+    pool: Option<PoolKind>,
+    index: u32,
+) -> Result<PoolRef, AllocError>
     ensures { IfOk result (λ r. r ≡ entry_in body.now pool index) }
 {
     match pool {
-        Pool::Nothing => Ok(PoolRef::None),
-        Pool::Strings => string_entry(body, index),
-        Pool::Types => type_entry(body, index),
-        Pool::Fields => field_entry(body, index),
-        Pool::Methods => method_entry(body, index),
+        None => Ok(PoolRef::None),
+        Some(PoolKind::Strings) => string_entry(body, index),
+        Some(PoolKind::Types) => type_entry(body, index),
+        Some(PoolKind::Fields) => field_entry(body, index),
+        Some(PoolKind::Methods) => method_entry(body, index),
     }
 }

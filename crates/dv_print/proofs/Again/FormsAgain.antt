@@ -5,17 +5,16 @@ use Rattle.std.proofs.lemmas.List.{length-map}
 use Rattle.std.proofs.lemmas.Option.{slice_get-get_or}
 use Rattle.dv_defs.specs.declared.code.Payload.{Payload}
 use Rattle.dv_defs.specs.declared.code.Payload.TheVariants as payload
-use Rattle.dv_defs.specs.Families.{family_at}
-use Rattle.dv_defs.specs.Formats.{format_at}
+use Rattle.dv_defs.specs.Families.{pool_at}
+use Rattle.dv_defs.specs.Formats.{format_at, has_offset, offset_bits}
 use Rattle.dv_defs.specs.Numbers.{jump}
 use Rattle.dv_defs.specs.Spelling.{plain, few, spelling, insn_eq, fits_signed}
-use Rattle.dv_defs.specs.Formats.{offset_bits}
 use Rattle.dv_asm.specs.declared.draft.Item.{Item}
 use Rattle.dv_asm.specs.declared.draft.Draftop.{Draftop}
 use Rattle.dv_asm.specs.declared.draft.PoolRef.{PoolRef}
 use Rattle.dv_asm.specs.declared.draft.What.{What}
 use Rattle.dv_asm.specs.declared.draft.What.TheVariants as what
-use Rattle.dv_asm.specs.Draft.{DraftValue, AreFormed, IsFormed, IsOp, is_entry, is_named_by, blank}
+use Rattle.dv_asm.specs.Draft.{DraftValue, AreFormed, IsFormed, IsOp, is_entry, kind_of_entry, blank}
 use Rattle.dv_asm.specs.Items.{item_at, no_item, is_label}
 use Rattle.dv_asm.specs.Places.{address_of, distance}
 use Rattle.dv_asm.specs.Refusals.{is_over_registers, register_range, register_range_at, offset_fits, is_over_offset, offset_range, offset_range_at, item_refusal, has_label_if_any, has_labels, refused, repeated, too_long}
@@ -23,11 +22,10 @@ use Rattle.dv_asm.specs.Layout.{insn_of, offset_of, base_of, pools_of, layout}
 use Rattle.dv_asm.proofs.FirstLemmas.{first_line_none, not_when}
 use Rattle.dv_defs.specs.declared.faults.LineKind.TheVariants as kind
 use Rattle.dv_print.specs.Numbers.{label_name}
-use Rattle.dv_print.specs.Operands.{has_offset}
 use Rattle.dv_print.specs.Named as named
 use Rattle.dv_print.specs.Named.{target_of}
 use Rattle.dv_print.specs.Laws.{HasNumbers, HaveNumbers}
-use Rattle.dv_print.specs.Drafting.{pool_of, entry_in, op_of, payload_item}
+use Rattle.dv_print.specs.Drafting.{entry_in, op_of, payload_item}
 use Rattle.dv_print.proofs.Truth.{not_false, none_of, refused_none, no_line, when_not}
 use Rattle.dv_print.proofs.Pools.KeptEntries.{own_entry, has_pools, small_opcode}
 use Rattle.dv_print.proofs.Units.LaidOut.{are_short}
@@ -35,7 +33,7 @@ use Rattle.dv_print.proofs.Again.LaidDraft.{IsLaidOut, after_of, pieces, all_nam
 use Rattle.dv_print.proofs.Again.Origins.{Origin, FromOp, HasContent, origin}
 use Rattle.dv_print.proofs.Places.PieceItems.{labels_length}
 use Rattle.dv_print.proofs.Units.SpelledAgain.{branch_same}
-use Rattle.dv_print.proofs.Units.Straight.{same_offsets, no_label_by}
+use Rattle.dv_print.proofs.Units.Straight.{no_label_by}
 
 -- ---- forms
 
@@ -54,12 +52,12 @@ op_formed : (d : DraftValue) (p : ℕ) (op : Draftop) → p < length d.items →
 op_formed d p op within e f =
     let i = insn_of d.items (pools_of d.items) p op in
     let small = small_opcode (blank op.insn) (spelling (blank op.insn)) refl f.form in
-    let entry : entry_in (layout d) (pool_of i.op) i.index ≡ op.pool = own_entry (layout d) d.items p op (has_pools d) within e f in
-    let P : PoolRef → Type 0 = λ r. is_entry r ≡ true → IsTrue (is_named_by (family_at op.insn.op) r) in
+    let entry : entry_in (layout d) (pool_at i.op) i.index ≡ op.pool = own_entry (layout d) d.items p op (has_pools d) within e f in
+    let P : PoolRef → Type 0 = λ r. is_entry r ≡ true → kind_of_entry r ≡ pool_at op.insn.op in
     record {
       form = f.form;
       registers = f.registers;
-      label = some_if (has_offset i.op) (jump (address_of d.items p) i.off) ∙ same_offsets op.insn.op small;
+      label = some_if (has_offset (format_at i.op)) (jump (address_of d.items p) i.off);
       offset = λ none. refl;
       entry = ap is_entry entry ∙ f.entry;
       kind = subst P (sym entry) f.kind;
@@ -67,7 +65,7 @@ op_formed d p op within e f =
     }
 
 nop_formed : (d : DraftValue) (at : ℕ) → IsOp (op_of (layout d) at (plain 0 (few [])))
-unfolding format_at has_offset pool_of insn_eq
+unfolding format_at pool_at insn_eq
 nop_formed d at = record {
   form = refl;
   registers = refl;
@@ -212,9 +210,9 @@ op_not_over d l k f =
     let Q : What → Type 0 = λ w. IsFormed w in
     let formed : IsOp f.op = subst Q f.own (l.formed f.place no_item f.within) in
     let small = small_opcode (blank f.op.insn) (spelling (blank f.op.insn)) refl formed.form in
-    let offsets : has_offset f.op.insn.op ≡ is_some f.op.label = same_offsets f.op.insn.op small ∙ sym formed.label in
+    let offsets : has_offset (format_at f.op.insn.op) ≡ is_some f.op.label = sym formed.label in
     let has : has_label_if_any d.items f.op.label ≡ true = sym (ap (has_labels d.items) f.own) ∙ items_labelled d.items d.catches l.labels f.place f.within in
-    let none : f.op.label ≡ None → (op_of (layout d) (address_of d.items f.place) i).label ≡ None = λ e. no_label_by (has_offset i.op) (address_of d.items f.place) i.off (offsets ∙ ap is_some e) in
+    let none : f.op.label ≡ None → (op_of (layout d) (address_of d.items f.place) i).label ≡ None = λ e. no_label_by (has_offset (format_at i.op)) (address_of d.items f.place) i.off (offsets ∙ ap is_some e) in
     let same : (name : List ℕ) → f.op.label ≡ Some name → offset_of (after_of d) k (op_of (layout d) (address_of d.items f.place) i).label ≡ offset_of d.items f.place f.op.label =
     λ name e. branch_same d.items (after_of d) (layout d) (pieces d) (all_named d) f.place f.op name (known d l) (are_short d.items l.none) f.within f.own e (sym (ap (has_label_if_any d.items) e) ∙ has) (offsets ∙ ap is_some e) k f.at in
     let before = not_when (is_over_offset d.items f.place (item_at d.items f.place).what) (item_at d.items f.place).line (first_line_none (offset_range_at d.items) (length d.items) f.place (offsets_refused d.items l.none) f.within) in
@@ -222,7 +220,7 @@ op_not_over d l k f =
     ap (is_over_offset (after_of d) k) f.is ∙ ap not (same_fits d.items (after_of d) f.place k f.op.insn.op f.op.label (op_of (layout d) (address_of d.items f.place) i).label none same fits)
 
 nop_never_over : (d : DraftValue) (k at : ℕ) → is_over_offset (after_of d) k (what.Op (op_of (layout d) at (plain 0 (few [])))) ≡ false
-unfolding has_offset
+unfolding format_at
 nop_never_over d k at = refl
 
 pub offsets_again : (d : DraftValue) → IsLaidOut d → offset_range (after_of d) ≡ None

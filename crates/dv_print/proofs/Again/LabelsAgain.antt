@@ -27,7 +27,7 @@ use Rattle.dv_asm.specs.Refusals.{is_place, is_second, label_twice, label_twice_
 use Rattle.dv_asm.proofs.PlaceLemmas.{aligned_above}
 use Rattle.dv_print.specs.declared.pieces.Piece.{Piece}
 use Rattle.dv_print.specs.Numbers.{label_name}
-use Rattle.dv_print.specs.Operands.{has_offset}
+use Rattle.dv_defs.specs.Formats.{format_at, has_offset}
 use Rattle.dv_print.specs.Pieces.{piece_of}
 use Rattle.dv_print.specs.Named as named
 use Rattle.dv_print.specs.Drafting.{op_of, labels_from, payload_item, piece_item, with_no_line, labels_at, draft_of}
@@ -43,7 +43,7 @@ use Rattle.dv_print.proofs.Places.Resolved.{Stands, address_below, first_found, 
 use Rattle.dv_print.proofs.Places.Walk.{ends_below}
 use Rattle.dv_print.proofs.Places.Branches.{label_size, leads_back}
 use Rattle.dv_print.proofs.Units.KnownDraft.{stands_for, tile_listed}
-use Rattle.dv_print.proofs.Units.Straight.{same_offsets, no_label_by, nop_offset}
+use Rattle.dv_print.proofs.Units.Straight.{no_label_by, nop_offset}
 use Rattle.dv_print.proofs.Units.SpelledAgain.{branch_to, AreListed, are_listed}
 use Rattle.dv_print.proofs.Ranges.NamedHandlers.{handler_named}
 use Rattle.dv_print.proofs.Again.LaidDraft.{IsLaidOut, after_of, pieces, all_named, tiles, known, items_labelled, catches_labelled, entry_listed, rebased}
@@ -169,12 +169,12 @@ of_op : (d : DraftValue) (k : ℕ) (op : Draftop) (label : Option (List ℕ)) �
 of_op d k op None l within e labelled has =
     let formed : IsOp op = subst IsFormed e (l.formed k no_item within) in
     let small = small_opcode (blank op.insn) (spelling (blank op.insn)) refl formed.form in
-    let none : has_offset op.insn.op ≡ false = same_offsets op.insn.op small ∙ (sym formed.label ∙ ap is_some labelled) in
-    ap (has_label_if_any (after_of d)) (no_label_by (has_offset op.insn.op) (address_of d.items k) (insn_of d.items (pools_of d.items) k op).off none)
+    let none : has_offset (format_at op.insn.op) ≡ false = sym formed.label ∙ ap is_some labelled in
+    ap (has_label_if_any (after_of d)) (no_label_by (has_offset (format_at op.insn.op)) (address_of d.items k) (insn_of d.items (pools_of d.items) k op).off none)
 of_op d k op (Some name) l within e labelled has =
     let formed : IsOp op = subst IsFormed e (l.formed k no_item within) in
     let small = small_opcode (blank op.insn) (spelling (blank op.insn)) refl formed.form in
-    let some : has_offset op.insn.op ≡ true = same_offsets op.insn.op small ∙ (sym formed.label ∙ ap is_some labelled) in
+    let some : has_offset (format_at op.insn.op) ≡ true = sym formed.label ∙ ap is_some labelled in
     let to = branch_to d.items (after_of d) (layout d) (pieces d) (all_named d) k op name (known d l) within e labelled some in
     ap (λ o. has_label_if_any (after_of d) (option_map label_name o)) to.0 ∙ there d name l has to.1
 
@@ -225,7 +225,7 @@ item_has d l k within = at (origin d l k within)
     at (inl label) = label_has (after_of d) (item_at (after_of d) k).what label
     at (inr (inl n)) =
         ap (has_labels (after_of d)) n.is ∙
-        ap (has_label_if_any (after_of d)) (no_label_by (has_offset 0) (address_of (after_of d) k) (pos 0) nop_offset)
+        ap (has_label_if_any (after_of d)) (no_label_by (has_offset (format_at 0)) (address_of (after_of d) k) (pos 0) nop_offset)
     at (inr (inr (inl o))) =
         ap (has_labels (after_of d)) o.is ∙
         of_op d o.place o.op o.op.label l o.within o.own refl (ap (has_labels d.items) (sym o.own) ∙ before o.place o.within)

@@ -11,7 +11,7 @@ use Rattle.dv_defs.specs.declared.names.Ty.{Ty}
 use Rattle.dv_defs.specs.declared.names.FieldRef.{FieldRef}
 use Rattle.dv_defs.specs.declared.names.MethodRef.{MethodRef}
 use Rattle.dv_defs.specs.Body.{BodyValue}
-use Rattle.dv_defs.specs.Families.{family_at}
+use Rattle.dv_defs.specs.Families.{pool_at}
 use Rattle.dv_defs.specs.Spelling.{plain, few, all_fit, spelling}
 use Rattle.dv_defs.specs.Types.{ty_eq}
 use Rattle.dv_defs.specs.Tiling.{IsInsn, Tile, tiles_in}
@@ -26,23 +26,22 @@ use Rattle.dv_asm.specs.declared.draft.PoolRef.{PoolRef}
 use Rattle.dv_asm.specs.declared.draft.PoolRef.TheVariants as pool
 use Rattle.dv_asm.specs.declared.pools.Pools.{Pools}
 use Rattle.dv_asm.specs.declared.tries.TryRange.{TryRange}
-use Rattle.dv_asm.specs.Draft.{DraftValue, AreFormed, IsFormed, IsOp, is_entry, is_named_by, blank}
+use Rattle.dv_asm.specs.Draft.{DraftValue, AreFormed, IsFormed, IsOp, is_entry, kind_of_entry, blank}
 use Rattle.dv_asm.specs.Items.{item_at, no_item}
 use Rattle.dv_asm.specs.Places.{address_of, end_of}
 use Rattle.dv_asm.specs.Refusals.{item_refusal}
 use Rattle.dv_asm.specs.Pools.{with_entry_if_any, with_entries, pool_ref, chars_in, type_in, field_in, method_in, chars_of, type_of, field_of, method_of, field_eq, method_eq, index_of}
 use Rattle.dv_asm.specs.Layout.{kind_in, with_kinds, sorted_ranges, pools_of, units_of, body_of, layout}
-use Rattle.dv_print.specs.declared.formats.Pool.TheVariants as from
 use Rattle.dv_print.specs.declared.pieces.Piece.{Piece}
 use Rattle.dv_print.specs.Pieces.{piece_of, pieces_of}
 use Rattle.dv_print.specs.Named.{is_named, addresses_named}
-use Rattle.dv_print.specs.Drafting.{found_as, pool_of, entry_in, part_item, piece_item, labels_at, items_at, items_in, draft_of}
+use Rattle.dv_print.specs.Drafting.{found_as, entry_in, part_item, piece_item, labels_at, items_at, items_in, draft_of}
 use Rattle.dv_asm.specs.Tiles as laid
 use Rattle.dv_asm.specs.Tiles.{nops_between}
 use Rattle.dv_print.specs.Laws.{HaveNumbers, KeepsEntries, entries_in, item_entries, entries_of}
 use Rattle.dv_print.proofs.Places.ItemTiles.{tile, tiles_at, nop}
 use Rattle.dv_print.proofs.Pools.Entries.{Tells, bytes_tell, types_tell, fields_tell, methods_tell, kept, holds, at_index}
-use Rattle.dv_print.proofs.Pools.PoolKinds.{pool_for, pool_of_named, no_pool}
+use Rattle.dv_print.proofs.Pools.PoolKinds.{no_pool}
 use Rattle.dv_print.proofs.Units.LaidOut.{layout_is_tiled}
 
 -- ---- an instruction's entry
@@ -59,7 +58,7 @@ named_at eq entry t items k x within e =
     at_index eq t x (with_entries eq entry [] items) (holds eq entry t [] items k (item_at items k) x (slice_get-get_or items k no_item within) e)
 
 -- the entry of an instruction stands at its index
-found : (b : BodyValue) (items : List Item) (k : ℕ) (op : Draftop) (entry : PoolRef) → HasPools b items → k < length items → (item_at items k).what ≡ what.Op op → op.pool ≡ entry → entry_in b (pool_for entry) (index_of (pools_of items) entry) ≡ entry
+found : (b : BodyValue) (items : List Item) (k : ℕ) (op : Draftop) (entry : PoolRef) → HasPools b items → k < length items → (item_at items k).what ≡ what.Op op → op.pool ≡ entry → entry_in b (kind_of_entry entry) (index_of (pools_of items) entry) ≡ entry
 unfolding pools_of
 found b items k op pool.None h within e p = refl
 found b items k op (pool.Str chars) h within e p =
@@ -80,14 +79,15 @@ small_opcode i None e h = absurd (cc)
 small_opcode i (Some us) e h = let (f, s) = spelled_in i us e in omega (arith, (begins f i us s.units).1)
 
 -- the pool of an instruction is that of its entry
-own_pool : (op : Draftop) (entry : PoolRef) → IsOp op → op.pool ≡ entry → pool_of op.insn.op ≡ pool_for entry
-own_pool op pool.None formed p = no_pool op.insn.op (small_opcode (blank op.insn) (spelling (blank op.insn)) refl formed.form) (sym formed.entry ∙ ap is_entry p)
-own_pool op (pool.Str chars) formed p = pool_of_named op.insn.op (pool.Str chars) (small_opcode (blank op.insn) (spelling (blank op.insn)) refl formed.form) (sym (ap (is_named_by (family_at op.insn.op)) p) ∙ formed.kind (ap is_entry p))
-own_pool op (pool.OfType ty) formed p = pool_of_named op.insn.op (pool.OfType ty) (small_opcode (blank op.insn) (spelling (blank op.insn)) refl formed.form) (sym (ap (is_named_by (family_at op.insn.op)) p) ∙ formed.kind (ap is_entry p))
-own_pool op (pool.Field field) formed p = pool_of_named op.insn.op (pool.Field field) (small_opcode (blank op.insn) (spelling (blank op.insn)) refl formed.form) (sym (ap (is_named_by (family_at op.insn.op)) p) ∙ formed.kind (ap is_entry p))
-own_pool op (pool.Method method) formed p = pool_of_named op.insn.op (pool.Method method) (small_opcode (blank op.insn) (spelling (blank op.insn)) refl formed.form) (sym (ap (is_named_by (family_at op.insn.op)) p) ∙ formed.kind (ap is_entry p))
+own_pool : (op : Draftop) (entry : PoolRef) → IsOp op → op.pool ≡ entry → pool_at op.insn.op ≡ kind_of_entry entry
+own_pool op pool.None formed p =
+    no_pool op.insn.op (small_opcode (blank op.insn) (spelling (blank op.insn)) refl formed.form) (sym formed.entry ∙ ap is_entry p)
+own_pool op (pool.Str chars) formed p = sym (formed.kind (ap is_entry p)) ∙ ap kind_of_entry p
+own_pool op (pool.OfType ty) formed p = sym (formed.kind (ap is_entry p)) ∙ ap kind_of_entry p
+own_pool op (pool.Field field) formed p = sym (formed.kind (ap is_entry p)) ∙ ap kind_of_entry p
+own_pool op (pool.Method method) formed p = sym (formed.kind (ap is_entry p)) ∙ ap kind_of_entry p
 
-pub own_entry : (b : BodyValue) (items : List Item) (k : ℕ) (op : Draftop) → HasPools b items → k < length items → (item_at items k).what ≡ what.Op op → IsOp op → entry_in b (pool_of op.insn.op) (index_of (pools_of items) op.pool) ≡ op.pool
+pub own_entry : (b : BodyValue) (items : List Item) (k : ℕ) (op : Draftop) → HasPools b items → k < length items → (item_at items k).what ≡ what.Op op → IsOp op → entry_in b (pool_at op.insn.op) (index_of (pools_of items) op.pool) ≡ op.pool
 own_entry b items k op h within e formed =
     ap (λ q. entry_in b q (index_of (pools_of items) op.pool)) (own_pool op op.pool formed refl) ∙ found b items k op op.pool h within e refl
 
@@ -102,11 +102,11 @@ tile_entries b all ts = flat_map (piece_entries b all) (map piece_of ts)
 joined_entries : (b : BodyValue) (all : List Piece) (xs ys : List Tile) → tile_entries b all (xs ++ ys) ≡ tile_entries b all xs ++ tile_entries b all ys
 joined_entries b all xs ys = ap (flat_map (piece_entries b all)) (map-append piece_of xs ys) ∙ flat_map-append (piece_entries b all) (map piece_of xs) (map piece_of ys)
 
-pub nop_pool : pool_of 0 ≡ from.Nothing
-unfolding pool_of
+pub nop_pool : pool_at 0 ≡ None
+unfolding pool_at
 nop_pool = refl
 
-nop_names_none : (b : BodyValue) (index : ℕ) → entries_in (entry_in b (pool_of 0) index) ≡ []
+nop_names_none : (b : BodyValue) (index : ℕ) → entries_in (entry_in b (pool_at 0) index) ≡ []
 nop_names_none b index = ap (λ q. entries_in (entry_in b q index)) nop_pool
 
 nops_by : (c : Bool) (b : BodyValue) (all : List Piece) (end : ℕ) → tile_entries b all (if c then tile end 1 nop ∷ [] else []) ≡ []

@@ -25,7 +25,7 @@ use Rattle.dv_asm.specs.Refusals.{repeated, is_address, addresses_named, switch_
 use Rattle.dv_asm.specs.Layout.{base_of}
 use Rattle.dv_print.specs.declared.pieces.Piece.{Piece}
 use Rattle.dv_print.specs.Numbers.{label_name}
-use Rattle.dv_print.specs.Operands.{has_offset}
+use Rattle.dv_defs.specs.Formats.{format_at, has_offset}
 use Rattle.dv_print.specs.Pieces.{part_of, piece_of}
 use Rattle.dv_print.specs.Named.{target_of}
 use Rattle.dv_print.specs.Drafting.{op_of, part_item, piece_item, labels_at, items_at}
@@ -92,13 +92,13 @@ label_of a true name e = cc
 label_of a false name e = absurd (cc)
 
 -- a switch has an offset
-pub switch_offset : (op : ℕ) → is_switch_opcode op ≡ true → has_offset op ≡ true
-unfolding has_offset
+pub switch_offset : (op : ℕ) → is_switch_opcode op ≡ true → has_offset (format_at op) ≡ true
+unfolding format_at
 switch_offset op e = at (either (nat_eq op 0x2b) (nat_eq op 0x2c) e)
   where
-    at : (nat_eq op 0x2b ≡ true) ⊎ (nat_eq op 0x2c ≡ true) → has_offset op ≡ true
-    at (inl h) = ap has_offset (eqb-true op 0x2b h)
-    at (inr h) = ap has_offset (eqb-true op 0x2c h)
+    at : (nat_eq op 0x2b ≡ true) ⊎ (nat_eq op 0x2c ≡ true) → has_offset (format_at op) ≡ true
+    at (inl h) = ap (λ n. has_offset (format_at n)) (eqb-true op 0x2b h)
+    at (inr h) = ap (λ n. has_offset (format_at n)) (eqb-true op 0x2c h)
 
 -- what is known of the two drafts
 pub record Drafts (items after : List Item) (pools : Pools) (b : BodyValue) (all : List Piece) (names : List ℕ) (final : List Item) : Type 0 where
@@ -122,7 +122,7 @@ again items after pools b all names final j a d within s = at (d.placed j within
     made f =
         let o = of_insn b all f.tile s.op f.tile.item refl (sym s.is ∙ f.is) in
         let to = jump f.tile.at o.insn.off in
-        let name : s.name ≡ label_name to = label_of to (has_offset o.insn.op) s.name (sym (ap (λ (p : Draftop). p.label) o.made) ∙ s.label) in
+        let name : s.name ≡ label_name to = label_of to (has_offset (format_at o.insn.op)) s.name (sym (ap (λ (p : Draftop). p.label) o.made) ∙ s.label) in
         let t : TileTo to f.tile = record { insn = o.insn; is = o.is; opcode = sym (ap (λ (p : Draftop). is_switch_opcode p.insn.op) o.made) ∙ s.opcode; leads = refl } in
         let i = switch_item items pools f.tile to d.formed f.mem t in
         let same : to ≡ a = sym (d.leads i.place to i.within i.switch) ∙ (sym (ap (label_address after) name) ∙ s.leads) in

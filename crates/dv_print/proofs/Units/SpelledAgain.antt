@@ -25,10 +25,11 @@ use Rattle.dv_asm.specs.Pools.{index_of}
 use Rattle.dv_asm.specs.Layout.{insn_of, offset_of, base_of, targets_of, pools_of}
 use Rattle.dv_print.specs.declared.pieces.Piece.{Piece}
 use Rattle.dv_print.specs.Numbers.{label_name}
-use Rattle.dv_print.specs.Operands.{has_offset}
+use Rattle.dv_defs.specs.Families.{pool_at}
+use Rattle.dv_defs.specs.Formats.{format_at, has_offset}
 use Rattle.dv_print.specs.Named as named
 use Rattle.dv_print.specs.Named.{target_of, named_by_try, addresses_named}
-use Rattle.dv_print.specs.Drafting.{pool_of, entry_in, op_of, labels_from}
+use Rattle.dv_print.specs.Drafting.{entry_in, op_of, labels_from}
 use Rattle.dv_asm.specs.Tiles.{tiles_of}
 use Rattle.dv_print.proofs.Truth.{both, any_left, any_right}
 use Rattle.dv_print.proofs.Places.ItemTiles.{tile, tiles_at, nop, Mem, mem_to, OfItem, of_item}
@@ -36,7 +37,7 @@ use Rattle.dv_print.proofs.Pools.KeptEntries.{own_entry, small_opcode}
 use Rattle.dv_print.proofs.Units.KeptUnits.{IsSpelledAs}
 use Rattle.dv_print.proofs.Places.Branches.{leads_back}
 use Rattle.dv_print.proofs.Units.KnownDraft.{Known, leads_to, tile_listed}
-use Rattle.dv_print.proofs.Units.Straight.{same_offsets, insn_by, offset_none, same_insn, nop_spelled}
+use Rattle.dv_print.proofs.Units.Straight.{insn_by, offset_none, same_insn, nop_spelled}
 
 target_is : (at : ℕ) (i : Insn) (c : Bool) → c ≡ true → (if c then Some (jump at i.off) else None) ≡ Some (jump at i.off)
 target_is at i true e = refl
@@ -47,20 +48,20 @@ offset_some after k None name off e h = absurd (cc)
 offset_some after k (Some own) name off e h = let same : own ≡ name = cc in ap (λ n. distance after (address_of after k) n) same ∙ h
 
 -- the target of a branch is the address of its label, which is among the addresses that are named
-pub branch_to : (items after : List Item) (b : BodyValue) (all : List Piece) (names : List ℕ) (k : ℕ) (op : Draftop) (name : List ℕ) → Known items after b all names → k < length items → (item_at items k).what ≡ what.Op op → op.label ≡ Some name → has_offset op.insn.op ≡ true → (target_of (address_of items k) (insn_of items (pools_of items) k op) ≡ Some (label_address items name)) × (named.is_named names (label_address items name) ≡ true)
+pub branch_to : (items after : List Item) (b : BodyValue) (all : List Piece) (names : List ℕ) (k : ℕ) (op : Draftop) (name : List ℕ) → Known items after b all names → k < length items → (item_at items k).what ≡ what.Op op → op.label ≡ Some name → has_offset (format_at op.insn.op) ≡ true → (target_of (address_of items k) (insn_of items (pools_of items) k op) ≡ Some (label_address items name)) × (named.is_named names (label_address items name) ≡ true)
 branch_to items after b all names k op name h within e labelled offset =
     let i = insn_of items (pools_of items) k op in
     let from = address_of items k in
     let to = label_address items name in
     let off : i.off ≡ pos to -ℤ pos from = offset_some items k op.label name (pos to -ℤ pos from) labelled refl in
-    let target : target_of from i ≡ Some to = target_is from i (has_offset op.insn.op) offset ∙ ap (λ z. Some (jump from z)) off ∙ ap Some (leads_back from to) in
+    let target : target_of from i ≡ Some to = target_is from i (has_offset (format_at op.insn.op)) offset ∙ ap (λ z. Some (jump from z)) off ∙ ap Some (leads_back from to) in
     let t = tile from (size_of (what.Op op)) (IsInsn i) in
     let member = mem_to items (pools_of items) k (length items) t within (ap (tiles_at items (pools_of items) k) e) in
     let same : nat_eq to to ≡ true = grind (arith, nat_tests) in
     (target, tile_listed items after b all names to t h (ap (λ o. list_any (λ n. nat_eq n to) (option_to_list o)) target ∙ any_left (nat_eq to to) false same) member)
 
 -- a branch leads where it led
-pub branch_same : (items after : List Item) (b : BodyValue) (all : List Piece) (names : List ℕ) (k : ℕ) (op : Draftop) (name : List ℕ) → Known items after b all names → too_long items ≡ None → k < length items → (item_at items k).what ≡ what.Op op → op.label ≡ Some name → has_label items name ≡ true → has_offset op.insn.op ≡ true → (j : ℕ) → address_of after j ≡ address_of items k → offset_of after j (op_of b (address_of items k) (insn_of items (pools_of items) k op)).label ≡ (insn_of items (pools_of items) k op).off
+pub branch_same : (items after : List Item) (b : BodyValue) (all : List Piece) (names : List ℕ) (k : ℕ) (op : Draftop) (name : List ℕ) → Known items after b all names → too_long items ≡ None → k < length items → (item_at items k).what ≡ what.Op op → op.label ≡ Some name → has_label items name ≡ true → has_offset (format_at op.insn.op) ≡ true → (j : ℕ) → address_of after j ≡ address_of items k → offset_of after j (op_of b (address_of items k) (insn_of items (pools_of items) k op)).label ≡ (insn_of items (pools_of items) k op).off
 branch_same items after b all names k op name h short within e labelled has offset j at =
     let i = insn_of items (pools_of items) k op in
     let from = address_of items k in
@@ -76,13 +77,13 @@ branch_same items after b all names k op name h short within e labelled has offs
 op_spelled : (items after : List Item) (b : BodyValue) (all : List Piece) (names : List ℕ) (k : ℕ) (op : Draftop) (label : Option (List ℕ)) → Known items after b all names → k < length items → (item_at items k).what ≡ what.Op op → IsOp op → op.label ≡ label → has_label_if_any items label ≡ true → too_long items ≡ None → IsSpelledAs after (pools_of items) b all (tile (address_of items k) (size_of (what.Op op)) (IsInsn (insn_of items (pools_of items) k op)))
 op_spelled items after b all names k op None h within e formed labelled has short =
     let small = small_opcode (blank op.insn) (spelling (blank op.insn)) refl formed.form in
-    let none : has_offset op.insn.op ≡ false = same_offsets op.insn.op small ∙ (sym formed.label ∙ ap is_some labelled) in
+    let none : has_offset (format_at op.insn.op) ≡ false = sym formed.label ∙ ap is_some labelled in
     λ j at. ap spelling (same_insn after (pools_of items) b j (address_of items k) (insn_of items (pools_of items) k op) none (offset_none items k op.label labelled) (ap (index_of (pools_of items)) (own_entry b items k op h.pools within e formed)))
 op_spelled items after b all names k op (Some name) h within e formed labelled has short =
     let small = small_opcode (blank op.insn) (spelling (blank op.insn)) refl formed.form in
-    let some : has_offset op.insn.op ≡ true = same_offsets op.insn.op small ∙ (sym formed.label ∙ ap is_some labelled) in
+    let some : has_offset (format_at op.insn.op) ≡ true = sym formed.label ∙ ap is_some labelled in
     let i = insn_of items (pools_of items) k op in
-    λ j at. ap spelling (insn_by i.op i.regs i.lit (offset_of after j (op_of b (address_of items k) i).label) i.off (index_of (pools_of items) (entry_in b (pool_of i.op) i.index)) i.index
+    λ j at. ap spelling (insn_by i.op i.regs i.lit (offset_of after j (op_of b (address_of items k) i).label) i.off (index_of (pools_of items) (entry_in b (pool_at i.op) i.index)) i.index
     (branch_same items after b all names k op name h short within e labelled has some j at)
     (ap (index_of (pools_of items)) (own_entry b items k op h.pools within e formed)))
 

@@ -1,34 +1,27 @@
 -- Instructions without an offset are spelled as they were.
 use Rattle.std.proofs.Common.{◌≡◌, ℕ, ◌<◌, ℤ, pos, Bool, true, false, List, [], ◌∷◌, ◌++◌, Option, Some, None, if◌then◌else◌, refl, ap, sym, ◌∙◌}
 use Rattle.std.specs.Prelude.{option_map}
-use Rattle.std.proofs.lemmas.Bool.{agree_below_at}
 use Rattle.dv_defs.specs.declared.code.Insn.{Insn}
 use Rattle.dv_defs.specs.declared.code.Regs.{Regs}
 use Rattle.dv_defs.specs.Body.{BodyValue}
-use Rattle.dv_defs.specs.Formats.{format_at}
+use Rattle.dv_defs.specs.Families.{pool_at}
+use Rattle.dv_defs.specs.Formats.{format_at, has_offset}
 use Rattle.dv_defs.specs.Numbers.{jump}
 use Rattle.dv_defs.specs.Spelling.{plain, few, spelling}
 use Rattle.dv_defs.specs.Tiling.{Tile}
 use Rattle.dv_defs.specs.Layout.{item_spelling}
 use Rattle.dv_asm.specs.declared.draft.Item.{Item}
 use Rattle.dv_asm.specs.declared.pools.Pools.{Pools}
-use Rattle.dv_asm.specs.Draft as asm
 use Rattle.dv_asm.specs.Draft.{DraftValue, AreFormed, IsFormed, blank}
 use Rattle.dv_asm.specs.Pools.{index_of}
 use Rattle.dv_asm.specs.Layout.{insn_of, offset_of, spelling_of}
 use Rattle.dv_print.specs.declared.pieces.Piece.{Piece}
 use Rattle.dv_print.specs.Numbers.{label_name}
-use Rattle.dv_print.specs.Operands.{has_offset}
 use Rattle.dv_print.specs.Pieces.{part_of}
-use Rattle.dv_print.specs.Drafting.{pool_of, entry_in, op_of, part_item}
+use Rattle.dv_print.specs.Drafting.{entry_in, op_of, part_item}
 use Rattle.dv_print.proofs.Places.ItemTiles.{nop}
 use Rattle.dv_print.proofs.Pools.KeptEntries.{nop_pool}
 use Rattle.dv_print.proofs.Units.KeptUnits.{IsSpelledAs}
-
--- the two tables give the same opcodes offsets
-pub same_offsets : (op : ℕ) → op < 256 → has_offset op ≡ asm.has_offset (format_at op)
-unfolding has_offset format_at
-same_offsets op h = agree_below_at has_offset (λ n. asm.has_offset (format_at n)) 256 op refl h
 
 pub no_label_by : (c : Bool) (at : ℕ) (off : ℤ) → c ≡ false → option_map label_name (if c then Some (jump at off) else None) ≡ None
 no_label_by true at off e = absurd (cc)
@@ -42,13 +35,13 @@ pub insn_by : (op : ℕ) (regs : Regs) (lit : ℤ) (o o' : ℤ) (n n' : ℕ) →
 insn_by op regs lit o o' n n' p q = cc
 
 -- an instruction without an offset is the same again
-pub same_insn : (items : List Item) (pools : Pools) (b : BodyValue) (k at : ℕ) (i : Insn) → has_offset i.op ≡ false → i.off ≡ pos 0 → index_of pools (entry_in b (pool_of i.op) i.index) ≡ i.index → insn_of items pools k (op_of b at i) ≡ i
+pub same_insn : (items : List Item) (pools : Pools) (b : BodyValue) (k at : ℕ) (i : Insn) → has_offset (format_at i.op) ≡ false → i.off ≡ pos 0 → index_of pools (entry_in b (pool_at i.op) i.index) ≡ i.index → insn_of items pools k (op_of b at i) ≡ i
 same_insn items pools b k at i none still same =
-    insn_by i.op i.regs i.lit (offset_of items k (op_of b at i).label) i.off (index_of pools (entry_in b (pool_of i.op) i.index)) i.index
-    (offset_none items k (op_of b at i).label (no_label_by (has_offset i.op) at i.off none) ∙ sym still) same
+    insn_by i.op i.regs i.lit (offset_of items k (op_of b at i).label) i.off (index_of pools (entry_in b (pool_at i.op) i.index)) i.index
+    (offset_none items k (op_of b at i).label (no_label_by (has_offset (format_at i.op)) at i.off none) ∙ sym still) same
 
-pub nop_offset : has_offset 0 ≡ false
-unfolding has_offset
+pub nop_offset : has_offset (format_at 0) ≡ false
+unfolding format_at
 nop_offset = refl
 
 pub nop_spelled : (after : List Item) (pools : Pools) (b : BodyValue) (all : List Piece) (t : Tile) → t.item ≡ nop → IsSpelledAs after pools b all t

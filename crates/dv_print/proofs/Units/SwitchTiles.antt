@@ -7,7 +7,7 @@ use Rattle.std.proofs.lemmas.Bool.Decides.{nat_tests}
 use Rattle.std.proofs.lemmas.List.{length-map, get_or-map}
 use Rattle.std.proofs.lemmas.List.Quantifiers.{position-Some}
 use Rattle.dv_defs.specs.declared.code.Insn.{Insn}
-use Rattle.dv_defs.specs.Formats.{format_at}
+use Rattle.dv_defs.specs.Formats.{format_at, has_offset}
 use Rattle.dv_defs.specs.Numbers.{jump}
 use Rattle.dv_defs.specs.Spelling.{plain, few}
 use Rattle.dv_defs.specs.Tiling as tiling
@@ -17,7 +17,6 @@ use Rattle.dv_asm.specs.declared.draft.Draftop.{Draftop}
 use Rattle.dv_asm.specs.declared.draft.What.{What}
 use Rattle.dv_asm.specs.declared.draft.What.TheVariants as what
 use Rattle.dv_asm.specs.declared.pools.Pools.{Pools}
-use Rattle.dv_asm.specs.Draft as asm
 use Rattle.dv_asm.specs.Draft.{AreFormed, IsFormed, IsOp}
 use Rattle.dv_asm.specs.Items.{item_at, no_item, size_of, is_payload, is_switch_opcode, label_of_switch}
 use Rattle.dv_asm.specs.Places.{address_of, end_of, label_address, address_named_by}
@@ -144,13 +143,13 @@ of_op items pools t i k (what.Data width bytes) e (inl same) = let no = ap (λ y
 of_op items pools t i k (what.Data width bytes) e (inr h) = absurd h
 
 -- a switch has an offset
-switch_offset : (op : ℕ) → is_switch_opcode op ≡ true → asm.has_offset (format_at op) ≡ true
+switch_offset : (op : ℕ) → is_switch_opcode op ≡ true → has_offset (format_at op) ≡ true
 unfolding format_at
 switch_offset op e = at (either (nat_eq op 0x2b) (nat_eq op 0x2c) e)
   where
-    at : (nat_eq op 0x2b ≡ true) ⊎ (nat_eq op 0x2c ≡ true) → asm.has_offset (format_at op) ≡ true
-    at (inl h) = ap (λ n. asm.has_offset (format_at n)) (eqb-true op 0x2b h)
-    at (inr h) = ap (λ n. asm.has_offset (format_at n)) (eqb-true op 0x2c h)
+    at : (nat_eq op 0x2b ≡ true) ⊎ (nat_eq op 0x2c ≡ true) → has_offset (format_at op) ≡ true
+    at (inl h) = ap (λ n. has_offset (format_at n)) (eqb-true op 0x2b h)
+    at (inr h) = ap (λ n. has_offset (format_at n)) (eqb-true op 0x2c h)
 
 some_label : (label : Option (List ℕ)) → is_some label ≡ true → (name : List ℕ) × (label ≡ Some name)
 some_label None e = absurd (cc)
