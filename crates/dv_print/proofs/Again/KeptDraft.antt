@@ -1,5 +1,5 @@
 -- The draft that is made of a laid-out body is laid out as that body.
-use Rattle.std.proofs.Common.{◌≡◌, ℕ, false, List, length, None, IsTrue, refl, ap, ◌∙◌, arith}
+use Rattle.std.proofs.Common.{◌≡◌, ℕ, false, List, length, None, IsTrue, refl, ap, ◌∙◌}
 use Rattle.std.specs.List.{flat_map}
 use Rattle.dv_defs.specs.declared.code.Try.{Try}
 use Rattle.dv_defs.specs.declared.names.Ty.{Ty}

@@ -1,5 +1,5 @@
 -- The draft of a body without switches and handlers is laid out as that body.
-use Rattle.std.proofs.Common.{◌≡◌, ℕ, ◌+◌, ◌%◌, ◌<◌, zero, suc, pos, ◌-ℤ◌, Bool, true, false, ◌&&◌, ◌⊎◌, inl, inr, List, [], ◌∷◌, ◌++◌, length, map, drop, nat_lt, nat_eq, Some, if◌then◌else◌, refl, ap, sym, ◌∙◌, subst, arith, drop-cons}
+use Rattle.std.proofs.Common.{◌≡◌, ℕ, ◌+◌, ◌%◌, ◌<◌, zero, suc, pos, ◌-ℤ◌, Bool, true, false, ◌&&◌, ◌⊎◌, inl, inr, List, [], ◌∷◌, length, map, drop, nat_eq, Some, if◌then◌else◌, refl, ap, sym, ◌∙◌, subst, arith, drop-cons}
 use Rattle.std.specs.Option.{option_to_list}
 use Rattle.std.proofs.Math.Seq.{drop-length}
 use Rattle.std.specs.List.{flat_map, list_any}
@@ -18,7 +18,7 @@ use Rattle.dv_asm.specs.Places.{address_of, end_of, aligned, leads_to_payload}
 use Rattle.dv_print.specs.declared.pieces.Piece.{Piece}
 use Rattle.dv_print.specs.Named.{target_of, named_by_piece}
 use Rattle.dv_print.specs.Pieces.{piece_of}
-use Rattle.dv_asm.specs.Tiles.{tiles_of, nops_between}
+use Rattle.dv_asm.specs.Tiles.{tiles_of}
 use Rattle.dv_print.proofs.Truth.{any_left, any_right, itself}
 use Rattle.dv_print.proofs.Places.ItemTiles.{tile, tiles_at, Mem, mem_to}
 use Rattle.dv_print.proofs.Places.Walk.{stays}

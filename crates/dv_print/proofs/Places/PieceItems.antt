@@ -1,5 +1,5 @@
 -- Pieces as items: their sizes and kinds.
-use Rattle.std.proofs.Common.{◌≡◌, ℕ, ◌+◌, ◌*◌, ◌%◌, ◌<◌, ◌≤◌, suc, ℤ, Bool, true, false, ◌&&◌, ◌⊎◌, inl, inr, List, ◌∷◌, ◌++◌, length, map, take, drop, nat_eq, Some, if◌then◌else◌, refl, ap, sym, ◌∙◌, arith, drop-cons}
+use Rattle.std.proofs.Common.{◌≡◌, ℕ, ◌+◌, ◌*◌, ◌%◌, ◌<◌, ◌≤◌, suc, ℤ, Bool, true, false, ◌&&◌, ◌⊎◌, inl, inr, List, ◌∷◌, length, map, take, drop, nat_eq, Some, if◌then◌else◌, refl, ap, sym, ◌∙◌, arith, drop-cons}
 use Rattle.std.specs.List.{flat_map}
 use Rattle.std.proofs.lemmas.Bool.{eqb-true}
 use Rattle.std.proofs.lemmas.Bool.Decides.{nat_tests}

@@ -1,5 +1,5 @@
 -- In the draft that is made of a body, layout puts each piece where it was, and no nop anywhere: each nop is an item.
-use Rattle.std.proofs.Common.{◌≡◌, ℕ, ◌+◌, ◌%◌, ◌<◌, ◌≤◌, Bool, true, false, inl, inr, List, [], ◌∷◌, ◌++◌, length, drop, if◌then◌else◌, refl, ap, sym, ◌∙◌, subst, arith, length-drop, append_assoc, add-zero}
+use Rattle.std.proofs.Common.{◌≡◌, ℕ, ◌+◌, ◌%◌, Bool, true, false, inl, inr, List, [], ◌∷◌, ◌++◌, length, drop, if◌then◌else◌, refl, ap, sym, ◌∙◌, subst, arith, length-drop, append_assoc, add-zero}
 use Rattle.dv_defs.specs.Body.{BodyValue}
 use Rattle.dv_defs.specs.Tiling.{Tile}
 use Rattle.dv_defs.specs.Layout.{AreTiles}
@@ -7,7 +7,7 @@ use Rattle.dv_asm.specs.declared.draft.Item.{Item}
 use Rattle.dv_asm.specs.declared.draft.What.{What}
 use Rattle.dv_asm.specs.declared.draft.What.TheVariants as what
 use Rattle.dv_asm.specs.Items.{size_of}
-use Rattle.dv_asm.specs.Places.{aligned, leads_to_payload}
+use Rattle.dv_asm.specs.Places.{leads_to_payload}
 use Rattle.dv_print.specs.declared.pieces.Piece.{Piece}
 use Rattle.dv_print.specs.Numbers.{label_name}
 use Rattle.dv_print.specs.Pieces.{part_of, piece_of}

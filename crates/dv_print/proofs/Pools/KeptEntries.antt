@@ -1,5 +1,5 @@
 -- The draft that is made of a laid-out body names what the draft before it names.
-use Rattle.std.proofs.Common.{◌≡◌, ℕ, ◌+◌, ◌<◌, ◌≤◌, ◌%◌, zero, suc, Bool, true, false, List, [], ◌∷◌, ◌++◌, length, map, take, position, bytes_eq, nat_lt, nat_eq, Option, Some, None, IsSome, IsTrue, if◌then◌else◌, refl, ap, sym, ◌∙◌, arith, append-nil, append_assoc}
+use Rattle.std.proofs.Common.{◌≡◌, ℕ, ◌+◌, ◌<◌, ◌≤◌, zero, suc, Bool, true, false, List, [], ◌∷◌, ◌++◌, length, map, take, position, bytes_eq, nat_lt, Option, Some, None, IsSome, IsTrue, if◌then◌else◌, refl, ap, sym, ◌∙◌, arith, append-nil, append_assoc}
 use Rattle.std.specs.Option.{unwrap_or}
 use Rattle.std.specs.List.{slice_get, flat_map}
 use Rattle.std.proofs.lemmas.List.{take_more, map-append}
@@ -12,9 +12,9 @@ use Rattle.dv_defs.specs.declared.names.FieldRef.{FieldRef}
 use Rattle.dv_defs.specs.declared.names.MethodRef.{MethodRef}
 use Rattle.dv_defs.specs.Body.{BodyValue}
 use Rattle.dv_defs.specs.Families.{pool_at}
-use Rattle.dv_defs.specs.Spelling.{plain, few, all_fit, spelling}
+use Rattle.dv_defs.specs.Spelling.{all_fit, spelling}
 use Rattle.dv_defs.specs.Types.{ty_eq}
-use Rattle.dv_defs.specs.Tiling.{IsInsn, Tile, tiles_in}
+use Rattle.dv_defs.specs.Tiling.{Tile, tiles_in}
 use Rattle.dv_defs.proofs.SpellingFormats.{begins}
 use Rattle.dv_defs.proofs.SpellingLaws.{spelled_in}
 use Rattle.dv_asm.specs.declared.draft.Item.{Item}
@@ -35,7 +35,7 @@ use Rattle.dv_asm.specs.Layout.{kind_in, with_kinds, sorted_ranges, pools_of, un
 use Rattle.dv_print.specs.declared.pieces.Piece.{Piece}
 use Rattle.dv_print.specs.Pieces.{piece_of, pieces_of}
 use Rattle.dv_print.specs.Named.{is_named, addresses_named}
-use Rattle.dv_print.specs.Drafting.{found_as, entry_in, part_item, piece_item, labels_at, items_at, items_in, draft_of}
+use Rattle.dv_print.specs.Drafting.{found_as, entry_in, piece_item, labels_at, items_at, items_in, draft_of}
 use Rattle.dv_asm.specs.Tiles as laid
 use Rattle.dv_asm.specs.Tiles.{nops_between}
 use Rattle.dv_print.specs.Laws.{HaveNumbers, KeepsEntries, entries_in, item_entries, entries_of}

@@ -11,7 +11,6 @@ use Rattle.indexmap.specs.IndexSet.{insert_key}
 use Rattle.dv_defs.specs.Body.{BodyValue}
 use Rattle.dv_asm.specs.First.{when}
 use Rattle.dv_asm.specs.declared.draft.What.TheVariants as what
-use Rattle.dv_asm.specs.declared.draft.Item.{Item}
 use Rattle.dv_print.specs.declared.pieces.Piece.{Piece}
 use Rattle.dv_print.specs.Numbers.{label_name}
 use Rattle.dv_print.specs.Named.{place_of, switches_to, is_named}

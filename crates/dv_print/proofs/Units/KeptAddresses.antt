@@ -1,5 +1,5 @@
 -- Layout of the draft that is made of a laid-out body puts each label at the address of its name.
-use Rattle.std.proofs.Common.{◌≡◌, List, [], ◌∷◌, ◌++◌, length, None, IsTrue, refl, ap, ◌∙◌, arith}
+use Rattle.std.proofs.Common.{◌≡◌, List, ◌++◌, length, None, IsTrue, refl, ap, ◌∙◌}
 use Rattle.std.specs.List.{flat_map}
 use Rattle.dv_defs.specs.Body.{BodyValue}
 use Rattle.dv_defs.specs.Spelling.{all_fit}

@@ -1,5 +1,5 @@
 -- The draft that is made of a laid-out body is spelled as that body.
-use Rattle.std.proofs.Common.{◌≡◌, ℕ, ◌<◌, ◌≤◌, zero, suc, ℤ, pos, ◌-ℤ◌, Bool, true, false, ◌⊎◌, inl, inr, List, [], ◌∷◌, length, map, nat_eq, Option, Some, None, is_some, if◌then◌else◌, refl, ap, sym, ◌∙◌, subst, arith}
+use Rattle.std.proofs.Common.{◌≡◌, ℕ, ◌<◌, ℤ, pos, ◌-ℤ◌, Bool, true, false, ◌⊎◌, inl, inr, List, [], ◌∷◌, length, map, nat_eq, Option, Some, None, is_some, if◌then◌else◌, refl, ap, sym, ◌∙◌, subst, arith}
 use Rattle.std.specs.Prelude.{option_map}
 use Rattle.std.specs.List.{list_any, list_all}
 use Rattle.std.specs.Option.{option_to_list}
@@ -19,7 +19,7 @@ use Rattle.dv_asm.specs.declared.draft.What.TheVariants as what
 use Rattle.dv_asm.specs.declared.pools.Pools.{Pools}
 use Rattle.dv_asm.specs.Draft.{AreFormed, IsFormed, IsOp, blank}
 use Rattle.dv_asm.specs.Items.{item_at, no_item, size_of, is_payload}
-use Rattle.dv_asm.specs.Places.{address_of, end_of, label_address, distance}
+use Rattle.dv_asm.specs.Places.{address_of, label_address, distance}
 use Rattle.dv_asm.specs.Refusals.{has_label, has_labels, has_label_if_any, too_long}
 use Rattle.dv_asm.specs.Pools.{index_of}
 use Rattle.dv_asm.specs.Layout.{insn_of, offset_of, base_of, targets_of, pools_of}

@@ -1,5 +1,5 @@
 -- The switches that name a payload: in a draft, and among the pieces of the body that is laid out from it.
-use Rattle.std.proofs.Common.{◌≡◌, ℕ, ◌<◌, ◌≤◌, zero, suc, Bool, true, false, not, ◌&&◌, ◌⊎◌, inl, inr, List, [], ◌∷◌, ◌++◌, length, map, find, nat_lt, nat_eq, cond, Option, Some, None, is_some, if◌then◌else◌, refl, ap, sym, ◌∙◌, subst, arith}
+use Rattle.std.proofs.Common.{◌≡◌, ℕ, ◌<◌, Bool, true, false, not, ◌&&◌, ◌⊎◌, inl, inr, List, [], ◌∷◌, length, map, find, nat_eq, cond, Option, Some, None, is_some, refl, ap, sym, ◌∙◌, subst, arith}
 use Rattle.std.specs.Prelude.{option_map}
 use Rattle.std.specs.Option.{option_map_or}
 use Rattle.std.proofs.lemmas.Bool.{eqb-true}
@@ -19,7 +19,7 @@ use Rattle.dv_asm.specs.declared.draft.What.TheVariants as what
 use Rattle.dv_asm.specs.declared.pools.Pools.{Pools}
 use Rattle.dv_asm.specs.Draft.{AreFormed, IsFormed, IsOp}
 use Rattle.dv_asm.specs.Items.{item_at, no_item, size_of, is_payload, is_switch_opcode, label_of_switch}
-use Rattle.dv_asm.specs.Places.{address_of, end_of, label_address, address_named_by}
+use Rattle.dv_asm.specs.Places.{address_of, label_address, address_named_by}
 use Rattle.dv_asm.specs.Refusals.{repeated, repeated_at, is_repeated, is_place, is_payload_at, stands_payload, is_address, addresses_named, switch_of}
 use Rattle.dv_asm.specs.Layout.{insn_of, offset_of, base_of}
 use Rattle.dv_asm.proofs.FirstLemmas.{first_line_none, not_when, any_below_found}
@@ -27,7 +27,7 @@ use Rattle.dv_print.specs.declared.pieces.Piece.{Piece}
 use Rattle.dv_print.specs.Pieces.{part_of, piece_of}
 use Rattle.dv_print.specs.Named as named
 use Rattle.dv_print.specs.Named.{part_switches_to, switches_to}
-use Rattle.dv_asm.specs.Tiles.{tiles_of, nops_between}
+use Rattle.dv_asm.specs.Tiles.{tiles_of}
 use Rattle.dv_print.proofs.Truth.{both, either}
 use Rattle.dv_print.proofs.Places.ItemTiles.{tile, tiles_at, nop, Mem, mem_to, OfItem, of_item}
 use Rattle.dv_print.proofs.Places.Branches.{leads_back}
