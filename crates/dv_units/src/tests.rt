@@ -81,13 +81,17 @@ static RANGES: [(&[u16], Parts); 2] = [
     (&[0x0077, 0x0009, 0x0000], (0x77, 0, [0, 0, 0, 0, 0], 0, 0, 9)),
 ];
 
+fn are_units(rt: &impl Abort, found: &[u16], expected: &[u16]) {
+    assert_eq!(rt; found, expected);
+}
+
 fn spells(rt: &impl Abort, alloc: Global, units: &[u16], insn: &Insn) -> Result<(), AllocError> {
     assert!(rt; !units.is_empty() && units.len() < 6);
     let size = units.len() as u32;
     assert!(rt; decode(units, 0) == Ok((*insn, size)));
     let mut out = Vec::new(alloc);
     assert!(rt; encode(insn, &mut out) == Ok(size));
-    assert_eq!(rt; out.as_slice(), units);
+    are_units(rt, &out, units);
     Ok(())
 }
 
@@ -181,7 +185,7 @@ fn refuses_insn(
 ) -> Result<(), AllocError> {
     let mut out = vec![in alloc; 0x0000u16]?;
     assert!(rt; encode(insn, &mut out).err() == Some(error));
-    assert_eq!(rt; out.as_slice(), [0x0000].as_slice());
+    are_units(rt, &out, &[0x0000]);
     Ok(())
 }
 
@@ -224,16 +228,27 @@ fn refuses_opcodes(rt: HostRuntime) -> Result<(), Fail> {
     Ok(())
 }
 
+fn shows(
+    rt: &impl Abort,
+    alloc: Global,
+    error: UnitError,
+    expected: &str,
+) -> Result<(), AllocError> {
+    let shown = format!(in alloc; "{error}")?;
+    assert!(rt; shown.as_str() == expected);
+    Ok(())
+}
+
 #[test]
 fn shows_an_error(rt: HostRuntime) -> Result<(), Fail> {
-    assert_eq!(rt;
-        format!(in rt.alloc(); "{}", UnitError::Float(0xa6))?.as_str(),
-        "opcode 0xa6 of a float instruction"
-    );
-    assert_eq!(rt;
-        format!(in rt.alloc(); "{}", UnitError::Unused(0x03))?.as_str(),
-        "unused opcode 0x03"
-    );
+    let float = "opcode 0xa6 of a float instruction";
+    shows(&rt, rt.alloc(), UnitError::Float(0xa6), float)?;
+    shows(
+        &rt,
+        rt.alloc(),
+        UnitError::Unused(0x03),
+        "unused opcode 0x03",
+    )?;
     Ok(())
 }
 
@@ -244,7 +259,7 @@ fn reads_back(rt: HostRuntime) -> Result<(), Fail> {
     let mut out = vec![in rt.alloc(); 0x0000u16]?;
     assert!(rt; decode_of_encode(&add, &mut out) == Ok((add, 2)));
     assert!(rt; encode_of_decode(&[0x000e, 0x2101], 1, &mut out) == Ok(1));
-    assert_eq!(rt; out.as_slice(), [0x0000, 0x0090, 0x0201, 0x2101].as_slice());
+    are_units(&rt, &out, &[0x0000, 0x0090, 0x0201, 0x2101]);
     Ok(())
 }
 
@@ -299,25 +314,37 @@ static DATA: [(&[u16], u16, &[u8]); 5] = [
     (&[0x0300, 0x0008, 0x0000, 0x0000], 8, &[]),
 ];
 
+fn numbers(alloc: Global, numbers: &[i32]) -> Result<Seq<i32>, AllocError> {
+    Ok(Seq::of(Vec::from_slice(alloc, numbers)?))
+}
+
 fn packed(alloc: Global, first: i32, targets: &[i32]) -> Result<Payload, AllocError> {
-    Ok(Payload::Packed {
-        first,
-        targets: Seq::of(Vec::from_slice(alloc, targets)?),
-    })
+    let targets = numbers(alloc, targets)?;
+    Ok(Payload::Packed { first, targets })
 }
 
 fn sparse(alloc: Global, keys: &[i32], targets: &[i32]) -> Result<Payload, AllocError> {
-    Ok(Payload::Sparse {
-        keys: Seq::of(Vec::from_slice(alloc, keys)?),
-        targets: Seq::of(Vec::from_slice(alloc, targets)?),
-    })
+    let keys = numbers(alloc, keys)?;
+    let targets = numbers(alloc, targets)?;
+    Ok(Payload::Sparse { keys, targets })
 }
 
 fn data(alloc: Global, width: u16, bytes: &[u8]) -> Result<Payload, AllocError> {
-    Ok(Payload::Data {
-        width,
-        bytes: Seq::of(Vec::from_slice(alloc, bytes)?),
-    })
+    let bytes = Seq::of(Vec::from_slice(alloc, bytes)?);
+    Ok(Payload::Data { width, bytes })
+}
+
+fn reads_payload(
+    rt: &impl Abort,
+    alloc: Global,
+    units: &[u16],
+    payload: &Payload,
+) -> Result<(), UnitError> {
+    assert!(rt; units.len() > 1 && units.len() < 100);
+    assert!(rt; payload_size(units, 1) == Some(units.len() as u32 - 1));
+    let read = decode_payload(alloc, units, 1)?;
+    assert!(rt; read == *payload);
+    Ok(())
 }
 
 // A nop may stand before a payload.
@@ -328,12 +355,12 @@ fn spells_payload(
     payload: &Payload,
 ) -> Result<(), Fail> {
     let mut out = vec![in alloc; 0x0000u16]?;
-    assert!(rt; encode_payload(payload, &mut out) == Ok(units.len()));
-    assert!(rt; out.len() > 1 && out.len() < 100);
-    assert_eq!(rt; &out[1..], units);
-    assert!(rt; decode(&out, 0) == Ok((insn_of(&(0x00, 0, [0, 0, 0, 0, 0], 0, 0, 0), false), 1)));
-    assert!(rt; payload_size(&out, 1) == Some(u32::try_from(units.len())?));
-    assert!(rt; decode_payload(alloc, &out, 1)? == *payload);
+    assert!(rt; encode_payload(payload, &mut out)? == units.len());
+    assert!(rt; out.len() > 1);
+    are_units(rt, &out[1..], units);
+    let nop = insn_of(&(0x00, 0, [0, 0, 0, 0, 0], 0, 0, 0), false);
+    assert!(rt; decode(&out, 0)? == (nop, 1));
+    reads_payload(rt, alloc, &out, payload)?;
     Ok(())
 }
 
@@ -395,7 +422,7 @@ fn finds_no_payload_at_or_past_the_end(rt: HostRuntime) {
 fn refuses_payload(rt: &impl Abort, alloc: Global, payload: &Payload) -> Result<(), AllocError> {
     let mut out = vec![in alloc; 0x0000u16]?;
     assert!(rt; encode_payload(payload, &mut out) == Err(UnitError::BadPayload));
-    assert_eq!(rt; out.as_slice(), [0x0000].as_slice());
+    are_units(rt, &out, &[0x0000]);
     Ok(())
 }
 
