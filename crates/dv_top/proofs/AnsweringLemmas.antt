@@ -24,7 +24,6 @@ use Rattle.dv_top.specs.Said.{method_text, four_digits, rule_text, IsSaid, IsSai
 use Rattle.dv_top.specs.Straight.{IsStraight, size_of}
 use Rattle.dv_top.proofs.BodyLemmas.{each_in_range}
 use Rattle.dv_top.proofs.FaultsFound.{faults_are_found}
-use Rattle.dv_top.proofs.PieceLemmas.{after_write-none}
 use Rattle.dv_top.proofs.Images.{main_is_found}
 
 pub straight_image : (class text : List ℕ) (registers : ℕ) (insns : List Instruction) (image : Image) → IsStraight class text registers insns → image ≡ image_of class registers insns → IsImageOf class registers insns image

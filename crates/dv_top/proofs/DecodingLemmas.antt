@@ -1,5 +1,5 @@
 -- The instructions of a main method, read back one after another.
-use Rattle.std.proofs.Common.{◌≡◌, ℕ, ◌+◌, ◌<◌, ◌≤◌, List, [], ◌∷◌, ◌++◌, length, take, drop, get_or, suc, flat_map, sum_by, All, Option, Some, None, arith, ap, sym, subst, ◌∙◌, refl, length-append, length-drop}
+use Rattle.std.proofs.Common.{◌≡◌, ℕ, ◌+◌, ◌<◌, ◌≤◌, List, [], ◌∷◌, ◌++◌, length, take, drop, get_or, suc, flat_map, sum_by, All, Option, Some, None, arith, ap, sym, subst, ◌∙◌, length-append, length-drop}
 use Rattle.std.proofs.Math.Seq.{take-suc, take-length}
 use Rattle.dv_defs.specs.declared.image.Image.{Image}
 use Rattle.dv_top.specs.declared.instruction.Instruction.{Instruction}

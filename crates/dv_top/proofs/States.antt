@@ -1,5 +1,5 @@
 -- The states along straight instructions.
-use Rattle.std.proofs.Common.{◌≡◌, ℕ, zero, suc, ◌<◌, true, false, List, [], length, Option, Some, None, ap, sym, ◌∙◌, refl, subst, arith, ◌-◌, ◌++◌, append-nil}
+use Rattle.std.proofs.Common.{◌≡◌, ℕ, zero, suc, ◌<◌, true, false, [], length, Option, Some, None, ap, sym, ◌∙◌, refl, subst, arith, ◌-◌, ◌++◌, append-nil}
 use Rattle.std.proofs.Math.ListN.{set}
 use Rattle.std.specs.Prelude.{slice_set, replicate}
 use Rattle.std.proofs.lemmas.List.{length-set, length-replicate}
@@ -12,11 +12,11 @@ use Rattle.dv_defs.specs.declared.typing.RegType.{RegType}
 use Rattle.dv_defs.specs.declared.typing.RegType.TheVariants as ty
 use Rattle.dv_defs.specs.Pools.{Method}
 use Rattle.dv_defs.specs.RegTypes.{Types, type_at, under, UnderPending, UnderCaught, IsBelow}
-use Rattle.dv_defs.specs.Transfer.{out, entry_state, going, write_type, copied_int, const_type}
+use Rattle.dv_defs.specs.Transfer.{out, going, write_type, copied_int, const_type}
 use Rattle.dv_top.specs.declared.instruction.Instruction.{Instruction}
 use Rattle.dv_top.specs.declared.instruction.Instruction.TheVariants.{Nop, ReturnVoid, Const4, Const16, Move, AddInt, Println}
 use Rattle.dv_top.specs.Straight.{IsInRange}
-use Rattle.dv_top.specs.Program.{main_method, op_of}
+use Rattle.dv_top.specs.Program.{op_of}
 use Rattle.dv_top.proofs.SimpleTypes.{is_simple, reflexive, transitive, simple_is_whole, above_is_whole, const_is_simple, copied_is_simple, copied_below, simple_set, below_set, written}
 
 -- ---- registers of simple types

@@ -1,5 +1,5 @@
 // Reading a source.
-ghost use Rattle.std.specs.Prelude.{◌≡◌, ◌<◌, ◌≤◌, ◌+◌, ℕ, List, length, take, IfOk, OnOk, IsErrOf};
+ghost use Rattle.std.specs.Prelude.{◌≡◌, ◌<◌, ◌≤◌, ◌+◌, ℕ, List, take, IfOk, OnOk, IsErrOf};
 ghost use Rattle.dv_io.specs.Io.{HasRisen, after_taking};
 ghost use Rattle.dv_top.specs.declared.reading.ReadError.TheVariants.{Memory, Failed as ReadFailed};
 ghost use Rattle.dv_top.specs.Said.{text_limit};

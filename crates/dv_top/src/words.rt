@@ -1,6 +1,6 @@
 // The command line.
-ghost use Rattle.std.specs.Prelude.{◌≡◌, ◌++◌, ◌∷◌, [], map, IfOk, Some, string_bytes};
-ghost use Rattle.dv_top.specs.Words.{is_dot, is_name_byte, is_java_name, descriptor_of, class_to_run, class_of};
+ghost use Rattle.std.specs.Prelude.{◌≡◌, map, IfOk, Some, string_bytes};
+ghost use Rattle.dv_top.specs.Words.{is_name_byte, is_java_name, descriptor_of, class_to_run, class_of};
 
 use dv_defs::Text;
 use std::alloc::{AllocError, Global};
