@@ -17,7 +17,6 @@ use Rattle.dv_defs.specs.contracts.names.ProtoPartialEq.TheImpl as of_proto
 use Rattle.dv_defs.specs.contracts.names.FieldRefPartialEq.TheImpl as of_field
 use Rattle.dv_defs.specs.contracts.names.MethodRefPartialEq.TheImpl as of_method
 use Rattle.dv_defs.specs.Types.{ty_eq, base_eq, same_types, same_result, same_proto}
-use Rattle.dv_asm.specs.declared.draft.Item.{Item}
 use Rattle.dv_asm.specs.Pools.{field_eq, method_eq, with_entry, with_entry_if_any, with_entries}
 
 bases : (a b : Base) → (of_base.ghosts).eq a b ≡ base_eq a b
@@ -98,8 +97,8 @@ entry_there {X} eq keys pool entry there seen =
     sym seen ∙ (sym stays ∙ (ap (λ (xs : List X). insert_key eq xs entry) seen ∙ inserted eq pool entry))
 
 -- a pool with the entry that one more item names
-pub one_more : {X : Type 0} (own eq : X → X → Bool) → own ≡ eq → (entry_of : Item → Option X) (items : List Item) (k : ℕ) (item : Item) (pool new whole : List X) (entry : X) → k < length items → item ≡ get_or items k item → Some entry ≡ entry_of item → new ≡ with_entry own pool entry → with_entries eq entry_of pool (drop k items) ≡ whole → with_entries eq entry_of new (drop (k + 1) items) ≡ whole
-one_more {X} own eq same entry_of items k item pool new whole entry within at names added before =
-    let split : drop k items ≡ item ∷ drop (k + 1) items = drop_more items k item within ∙ ap (λ (i : Item). i ∷ drop (k + 1) items) (sym at) in
+pub one_more : {X Y : Type 0} (own eq : X → X → Bool) → own ≡ eq → (entry_of : Y → Option X) (items : List Y) (k : ℕ) (item : Y) (pool new whole : List X) (entry : X) → k < length items → item ≡ get_or items k item → Some entry ≡ entry_of item → new ≡ with_entry own pool entry → with_entries eq entry_of pool (drop k items) ≡ whole → with_entries eq entry_of new (drop (k + 1) items) ≡ whole
+one_more {X} {Y} own eq same entry_of items k item pool new whole entry within at names added before =
+    let split : drop k items ≡ item ∷ drop (k + 1) items = drop_more items k item within ∙ ap (λ (i : Y). i ∷ drop (k + 1) items) (sym at) in
     let step : new ≡ with_entry_if_any eq pool (entry_of item) = added ∙ (λ i. with_entry_if_any (same i) pool (names i)) in
     ap (λ (xs : List X). with_entries eq entry_of xs (drop (k + 1) items)) step ∙ (sym (ap (with_entries eq entry_of pool) split) ∙ before)

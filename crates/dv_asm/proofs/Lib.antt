@@ -11,3 +11,5 @@ pub mod Writing
 pub mod TestOps
 pub mod TileLemmas
 pub mod Telling
+pub mod RangeLemmas
+pub mod GroupLemmas

@@ -6,4 +6,5 @@ pub mod Refusals
 pub mod Switches
 pub mod Pools
 pub mod Layout
+pub mod Ranges
 pub mod Tiles

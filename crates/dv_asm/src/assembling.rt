@@ -2,12 +2,12 @@
 ghost use Rattle.std.specs.Prelude.{◌≡◌, ◌≤◌, None, Ok, length, IfOk, IfErr};
 ghost use Rattle.dv_defs.specs.Tiling.{tiling};
 ghost use Rattle.dv_asm.specs.Refusals.{Checks, Tells, label_refusal, item_refusal, range_refusal, refusal};
-ghost use Rattle.dv_asm.specs.Layout.{AreWritable, layout, body_of, pools_of};
+ghost use Rattle.dv_asm.specs.Layout.{AreWritable, layout, body_of, pools_of, sorted_ranges};
+ghost use Rattle.dv_asm.specs.Ranges.{ranges_in};
 ghost use Rattle.dv_asm.specs.Tiles.{tiles, tiles_of};
 
 use crate::catches::Catches;
 use crate::draft::{Catch, Draft, Item};
-use crate::handlers::sorted;
 use crate::lines::refuse;
 use crate::places::Places;
 use crate::pools::{Pools, fields, methods, strings, types};
@@ -15,6 +15,7 @@ use crate::short::Short;
 use crate::switches::Switches;
 use dv_defs::{Body, LineError, LineKind, Seq};
 use std::alloc::{AllocError, Global};
+use std::collections::BTreeMap;
 
 /// Refuses labels that stand twice, and labels that aren't there.
 fn check_labels(places: &Places, catches: &[Catch]) -> Result<(), LineError>
@@ -35,12 +36,13 @@ fn check_items(switches: &Switches) -> Result<(), LineError>
     refuse(places.too_long(), LineKind::TooLong)
 }
 
-/// Refuses empty ranges and ranges that overlap.
-fn check_ranges(catches: &Catches) -> Result<(), LineError>
-    ensures { Checks result (range_refusal catches.now.short.now catches.now.catches.now) }
+/// The ranges by their starts. Refuses empty ranges and ranges that overlap.
+fn sorted_ranges(alloc: Global, catches: &Catches) -> Result<BTreeMap<u32, u32>, LineError>
+    ensures checks { Checks result (range_refusal catches.now.short.now catches.now.catches.now) }
+    ensures value { IfOk result (λ sorted. ranges_in sorted.entries ≡ sorted_ranges catches.now.short.now catches.now.catches.now) }
 {
     refuse(catches.try_range(), LineKind::TryRange)?;
-    refuse(catches.try_overlap(), LineKind::TryOverlap)
+    catches.sorted(alloc)
 }
 
 /// What the instructions name.
@@ -58,8 +60,14 @@ fn pools(alloc: Global, items: &[Item]) -> Result<Pools, AllocError>
 
 /// The body of a draft that isn't refused.
 #[tactic(auto, unfolding(crate::specs::Layout::body_of))]
-fn body_of(alloc: Global, registers: u16, catches: &Catches) -> Result<Body, AllocError>
+fn body_of(
+    alloc: Global,
+    registers: u16,
+    catches: &Catches,
+    sorted: &BTreeMap<u32, u32>,
+) -> Result<Body, AllocError>
     requires few { registers ≤ 256 }
+    requires sorted { ranges_in sorted.now.entries ≡ sorted_ranges catches.now.short.now catches.now.catches.now }
     requires writable { AreWritable catches.now.short.now (pools_of catches.now.short.now) }
     ensures value { IfOk result (λ body. body ≡ body_of registers catches.now.short.now catches.now.catches.now) }
     ensures tiled { IfOk result (λ body. tiling body.units ≡ Ok (tiles_of catches.now.short.now (pools_of catches.now.short.now) (length catches.now.short.now))) }
@@ -74,9 +82,8 @@ fn body_of(alloc: Global, registers: u16, catches: &Catches) -> Result<Body, All
         fields,
         methods,
     } = pools;
-    let sorted = sorted(alloc, &catches.ranges)?;
-    catches.add_all_kinds(&mut types, &sorted)?;
-    let tries = catches.tries(alloc, &types, &sorted)?;
+    catches.add_all_kinds(&mut types, sorted)?;
+    let tries = catches.tries(alloc, &types, sorted)?;
     Ok(Body {
         registers,
         units: Seq::of(units),
@@ -110,7 +117,7 @@ pub fn assemble(alloc: Global, draft: &Draft) -> Result<Body, LineError>
     check_items(&switches)?;
     let short = Short::of(switches);
     let catches = Catches::of(alloc, &short, draft.catches.items())?;
-    check_ranges(&catches)?;
-    let body = body_of(alloc, draft.registers, &catches)?;
+    let sorted = sorted_ranges(alloc, &catches)?;
+    let body = body_of(alloc, draft.registers, &catches, &sorted)?;
     Ok(body)
 }

@@ -4,6 +4,7 @@
 mod assembling;
 mod catches;
 mod draft;
+mod groups;
 mod handlers;
 mod items;
 mod labels;

@@ -1,19 +1,30 @@
 // The ranges of handlers.
 ghost use Rattle.std.specs.Prelude.{◌≡◌, IfOk};
 ghost use Rattle.dv_asm.specs.Refusals.{range_of, ranges_of, is_empty, is_same, overlaps};
+ghost use Rattle.dv_asm.specs.Ranges.{range_in};
 
 use crate::draft::Catch;
 use crate::short::Short;
 use std::alloc::{AllocError, Global};
 
 /// The addresses from `start` up to and without `end`.
-#[derive(Clone, Copy, PartialEq, Eq, Debug)]
+#[derive(Clone, Copy, PartialEq, Eq, Hash, Debug)]
 pub struct TryRange {
     pub start: u32,
     pub end: u32,
 }
 
 impl TryRange {
+    /// The range from a start to an end.
+    pub fn between(start: &u32, end: &u32) -> TryRange
+        ensures { result ≡ range_in (start.now, end.now) }
+    {
+        TryRange {
+            start: *start,
+            end: *end,
+        }
+    }
+
     pub fn is_empty(self) -> bool
         ensures { result ≡ is_empty self }
     {

@@ -14,7 +14,7 @@ use Rattle.dv_asm.specs.Layout.{sorted_ranges, types_of, handler_of, catches_of,
 use Rattle.dv_print.specs.Numbers.{label_name}
 use Rattle.dv_print.specs.Drafting.{catch_of, catches_of_try, draft_of}
 use Rattle.dv_print.proofs.Truth.{no_line, when_not}
-use Rattle.dv_print.proofs.Ranges.SortedRanges.{range_by, same_range}
+use Rattle.dv_asm.proofs.RangeLemmas.{range_by, same_range}
 use Rattle.dv_print.proofs.Ranges.KeptHandlers.{AreApart, are_apart}
 use Rattle.dv_print.proofs.Again.LaidDraft.{IsLaidOut, after_of, handler_leads}
 

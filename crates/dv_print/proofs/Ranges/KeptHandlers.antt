@@ -27,7 +27,8 @@ use Rattle.dv_print.specs.Laws.{Among, IsSorted, AreRangesOf}
 use Rattle.dv_print.proofs.Truth.{neither, none_of, refused_none}
 use Rattle.dv_print.proofs.Pools.Entries.{types_tell, Holds, holds, not_before, at_index}
 use Rattle.dv_print.proofs.Pools.KeptEntries.{kinds_kept}
-use Rattle.dv_print.proofs.Ranges.SortedRanges.{range_by, same_range, is_same_as, put, folds_alike, fold_has, fold_from, Agree, sorted_where}
+use Rattle.dv_asm.proofs.RangeLemmas.{range_by, same_range, is_same_as, put, folds_alike}
+use Rattle.dv_print.proofs.Ranges.SortedRanges.{fold_has, fold_from, Agree, sorted_where}
 use Rattle.dv_print.proofs.Ranges.Settled.{Settled, settled, all_settled, settled_range, group, kinds, entries, ranges_are, groups_are, kinds_are, entries_are, sorted_are, SameGroups, same_kinds, same_entries, grouped, same_group, map_flat, sorted_again}
 
 -- ---- what no refusal of ranges says

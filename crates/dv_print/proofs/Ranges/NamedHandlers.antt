@@ -13,7 +13,7 @@ use Rattle.dv_asm.specs.Layout.{sorted_ranges, types_of, handler_of, catches_of,
 use Rattle.dv_print.specs.Named.{handler_address, named_by_try, is_named}
 use Rattle.dv_print.specs.Laws.{Among}
 use Rattle.dv_print.proofs.Truth.{any_left, any_right, itself}
-use Rattle.dv_print.proofs.Ranges.SortedRanges.{same_itself}
+use Rattle.dv_asm.proofs.RangeLemmas.{same_itself}
 use Rattle.dv_print.proofs.Ranges.KeptHandlers.{range_stands}
 
 -- ---- the addresses that handlers name

@@ -18,7 +18,8 @@ use Rattle.dv_asm.specs.Pools.{with_entries, with_entry_if_any}
 use Rattle.dv_asm.specs.Refusals.{range_of, ranges_of, is_same}
 use Rattle.dv_asm.specs.Layout.{sorted_ranges, with_kinds, catches_of, entry_of}
 use Rattle.dv_print.specs.Laws.{Among, After, IsSorted}
-use Rattle.dv_print.proofs.Ranges.SortedRanges.{same_range, is_same_as, other_start, other_start_above, put, folds_alike, after_at, AllAre, IsGroup, groups_sorted}
+use Rattle.dv_asm.proofs.RangeLemmas.{same_range, is_same_as, other_start, other_start_above, put, folds_alike}
+use Rattle.dv_print.proofs.Ranges.SortedRanges.{after_at, AllAre, IsGroup, groups_sorted}
 
 -- ---- handlers whose labels are addresses
 

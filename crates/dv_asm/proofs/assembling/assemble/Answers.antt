@@ -28,13 +28,18 @@ returns-in_err-catches-clause-refused c =
     let p = err_from_is_err_and c.from_residual-in_err-catches.result c.from_residual-in_err-catches.ensures.1 in
     rw (p.1, p.2) tt
 
-pub returns-in_err-check_ranges-clause-refused : goal.returns-in_err-check_ranges-clause-refused
-returns-in_err-check_ranges-clause-refused c =
-    let p = err_from_is_err_and c.from_residual-in_err-check_ranges.result c.from_residual-in_err-check_ranges.ensures.1 in
+pub returns-in_err-sorted-clause-refused : goal.returns-in_err-sorted-clause-refused
+returns-in_err-sorted-clause-refused c =
+    let p = err_from_is_err_and c.from_residual-in_err-sorted.result c.from_residual-in_err-sorted.ensures.1 in
     let d = c.args.draft.now in
     let placed : c.in_ok-places.places ≡ d.items = c.in_ok-places.ensures ∙ (c.items.ensures ∙ ap (λ (x : DraftValue). x.items) c.draft.view_is) in
     let caught : c.items-2.result.now ≡ d.catches = c.items-2.ensures ∙ ap (λ (x : DraftValue). x.catches) c.draft.view_is in
     let looked : c.in_ok-switches.switches ≡ d.items = c.in_ok-switches.ensures ∙ placed in
     let these : c.items-3.result.now ≡ d.catches = c.items-3.ensures ∙ ap (λ (x : DraftValue). x.catches) c.draft.view_is in
     rw (p.1, p.2)
-    (told_ranges d c.in_ok-places.places c.items-2.result.now placed caught c.in_ok-check_labels.ensures _ c.in_ok-switches.switches _ _ looked c.in_ok-check_items.ensures (c.in_ok-catches.ensures.0 ∙ (c.of-short.ensures ∙ looked)) (c.in_ok-catches.ensures.1 ∙ these) c.in_err-check_ranges.ensures)
+    (told_ranges d c.in_ok-places.places c.items-2.result.now placed caught c.in_ok-check_labels.ensures _ c.in_ok-switches.switches _ _ looked c.in_ok-check_items.ensures (c.in_ok-catches.ensures.0 ∙ (c.of-short.ensures ∙ looked)) (c.in_ok-catches.ensures.1 ∙ these) c.in_err-sorted.ensures.checks)
+
+pub returns-in_err-body-clause-refused : goal.returns-in_err-body-clause-refused
+returns-in_err-body-clause-refused c =
+    let p = err_from_is_err_and c.from_residual-in_err-body.result c.from_residual-in_err-body.ensures.1 in
+    rw (p.1, p.2) tt
