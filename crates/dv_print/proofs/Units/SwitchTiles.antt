@@ -1,5 +1,5 @@
 -- The switches that name a payload: in a draft, and among the pieces of the body that is laid out from it.
-use Rattle.std.proofs.Common.{◌≡◌, ℕ, ◌<◌, Bool, true, false, not, ◌&&◌, ◌⊎◌, inl, inr, List, [], ◌∷◌, length, map, find, nat_eq, cond, Option, Some, None, is_some, refl, ap, sym, ◌∙◌, subst, arith}
+use Rattle.std.proofs.Common.{◌≡◌, ℕ, zero, suc, ◌<◌, Bool, true, false, not, ◌&&◌, ◌||◌, ◌⊎◌, ⊎_elim, inl, inr, List, [], ◌∷◌, length, map, find, nat_eq, cond, Option, Some, None, is_some, refl, ap, sym, ◌∙◌, subst, arith}
 use Rattle.std.specs.Prelude.{option_map}
 use Rattle.std.specs.Option.{option_map_or}
 use Rattle.std.proofs.lemmas.Bool.{eqb-true}
@@ -17,12 +17,13 @@ use Rattle.dv_asm.specs.declared.draft.Draftop.{Draftop}
 use Rattle.dv_asm.specs.declared.draft.What.{What}
 use Rattle.dv_asm.specs.declared.draft.What.TheVariants as what
 use Rattle.dv_asm.specs.declared.pools.Pools.{Pools}
+use Rattle.dv_asm.specs.First.{any_below}
 use Rattle.dv_asm.specs.Draft.{AreFormed, IsFormed, IsOp}
 use Rattle.dv_asm.specs.Items.{item_at, no_item, size_of, is_payload, is_switch_opcode, label_of_switch}
 use Rattle.dv_asm.specs.Places.{address_of, label_address, address_named_by}
 use Rattle.dv_asm.specs.Refusals.{repeated, repeated_at, is_repeated, is_place, is_payload_at, stands_payload, is_address, addresses_named, switch_of}
 use Rattle.dv_asm.specs.Layout.{insn_of, offset_of, base_of}
-use Rattle.dv_asm.proofs.FirstLemmas.{first_line_none, not_when, any_below_found}
+use Rattle.dv_asm.proofs.FirstLemmas.{first_line_none, not_when}
 use Rattle.dv_print.specs.declared.pieces.Piece.{Piece}
 use Rattle.dv_print.specs.Pieces.{part_of, piece_of}
 use Rattle.dv_print.specs.Named as named
@@ -75,6 +76,15 @@ not_both false q e h = absurd (cc)
 place_is : (k : ℕ) (place : Option ℕ) → is_place k place ≡ true → place ≡ Some k
 place_is k None e = absurd (cc)
 place_is k (Some j) e = ap Some (eqb-true j k e)
+
+less_or_same : (i n : ℕ) → i < suc n → (i < n) ⊎ (i ≡ n)
+less_or_same i n within = grind arith
+
+-- a test that a number below the bound passes is passed below it
+any_below_found : (test : ℕ → Bool) (n k : ℕ) → test k ≡ true → k < n → any_below test n ≡ true
+any_below_found test zero k here within = absurd (omega arith)
+any_below_found test (suc n) k here within =
+    ⊎_elim (λ less. rw (any_below_found test n k here less) refl) (λ same. let there : test n ≡ true = sym (ap test same) ∙ here in grind arith) (less_or_same k n within)
 
 -- where no payload is named twice, a switch that names one is the first that does
 pub own_switch : (items : List Item) (k p a : ℕ) → repeated items ≡ None → k < length items → p < length items → is_payload (item_at items p).what ≡ true → address_of items p ≡ a → address_named_by items (item_at items k) ≡ Some a → switch_of items a ≡ Some k
