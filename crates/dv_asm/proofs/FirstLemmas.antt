@@ -14,6 +14,11 @@ less_or_same i n within = grind arith
 pub any_below_more : (test : ℕ → Bool) (k : ℕ) → any_below test (k + 1) ≡ any_below test k || test k
 any_below_more test k = rw add-one refl
 
+pub any_below_found : (test : ℕ → Bool) (n k : ℕ) → test k ≡ true → k < n → any_below test n ≡ true
+any_below_found test zero k here within = absurd (omega arith)
+any_below_found test (suc n) k here within =
+    ⊎_elim (λ less. rw (any_below_found test n k here less) refl) (λ same. let there : test n ≡ true = sym (ap test same) ∙ here in grind arith) (less_or_same k n within)
+
 earlier_none : (a b : Option ℕ) → earlier a b ≡ None → (a ≡ None) × (b ≡ None)
 earlier_none None b none = (refl, none)
 earlier_none (Some a) None none = absurd (cc)

@@ -70,7 +70,8 @@ fn body_of(
     requires sorted { ranges_in sorted.now.entries ≡ sorted_ranges catches.now.short.now catches.now.catches.now }
     requires writable { AreWritable catches.now.short.now (pools_of catches.now.short.now) }
     ensures value { IfOk result (λ body. body ≡ body_of registers catches.now.short.now catches.now.catches.now) }
-    ensures tiled { IfOk result (λ body. tiling body.units ≡ Ok (tiles_of catches.now.short.now (pools_of catches.now.short.now) (length catches.now.short.now))) }
+    ensures tiled { IfOk result (λ body. tiling body.units
+        ≡ Ok (tiles_of catches.now.short.now (pools_of catches.now.short.now) (length catches.now.short.now))) }
 {
     let short = catches.short;
     short.is_short();

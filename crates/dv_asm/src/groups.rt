@@ -17,7 +17,8 @@ fn add_catch<'a>(
     range: TryRange,
     catch: &'a Catch,
 ) -> Result<(), AllocError>
-    ensures { OnOk result ((r : TryRange) → found (get is_same groups.new r) ≡ found (get is_same groups.old r) ++ (if is_same range r then catch.now ∷ [] else [])) }
+    ensures { OnOk result ((r : TryRange) → found (get is_same groups.new r)
+        ≡ found (get is_same groups.old r) ++ (if is_same range r then catch.now ∷ [] else [])) }
 {
     let alloc = *groups.allocator();
     match groups.get_mut(&range) {

@@ -70,7 +70,8 @@ impl Catches<'_> {
         types: &Pool<Ty>,
         range: TryRange,
     ) -> Result<Vec<Handler>, AllocError>
-        ensures { IfOk result (λ handlers. handlers.items ≡ map (handler_of self.now.short.now types.now) (catches_of self.now.short.now self.now.catches.now range)) }
+        ensures { IfOk result (λ handlers. handlers.items
+            ≡ map (handler_of self.now.short.now types.now) (catches_of self.now.short.now self.now.catches.now range)) }
     {
         let mut handlers = Vec::new(alloc);
         let Some(catches) = self.groups.get(&range) else {
@@ -89,7 +90,8 @@ impl Catches<'_> {
         types: &Pool<Ty>,
         sorted: &BTreeMap<u32, u32>,
     ) -> Result<Vec<Try>, AllocError>
-        ensures { IfOk result (λ tries. tries.items ≡ map (entry_of self.now.short.now self.now.catches.now types.now) (ranges_in sorted.now.entries)) }
+        ensures { IfOk result (λ tries. tries.items
+            ≡ map (entry_of self.now.short.now self.now.catches.now types.now) (ranges_in sorted.now.entries)) }
     {
         let mut tries = Vec::new(alloc);
         for (start, end) in sorted {

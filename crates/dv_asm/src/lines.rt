@@ -26,7 +26,8 @@ pub fn when(test: bool, line: u32) -> Option<u32>
 /// The first of the lines that a function gives of the numbers below a bound.
 pub fn first_line<F: Fn(usize) -> Option<u32>>(bound: usize, line_at: F) -> Option<u32>
     requires callable { (k : ℕ) → k < bound → F.pre line_at k }
-    ensures { (f : ℕ → Option ℕ) → ((k : ℕ) → (line : Option ℕ) → k < bound → F.post line_at k line → line ≡ f k) → result ≡ first_line f bound }
+    ensures { (f : ℕ → Option ℕ) → ((k : ℕ) → (line : Option ℕ) → k < bound → F.post line_at k line → line ≡ f k)
+        → result ≡ first_line f bound }
 {
     let mut line = None;
     for k in 0..bound {

@@ -39,7 +39,8 @@ impl<'a> Model for Places<'a> {
 /// Whether each item leads to a payload: whether one comes next, labels before it passed over.
 fn lead_to_payloads(alloc: Global, items: &[Item]) -> Result<Vec<bool>, AllocError>
     ensures count { IfOk result (λ leading. vec_len leading ≡ length items.now) }
-    ensures value { IfOk result (λ leading. (k : ℕ) → k < length items.now → slice_index_or leading.items k false ≡ leads_to_payload (drop k items.now)) }
+    ensures value { IfOk result (λ leading. (k : ℕ) → k < length items.now
+        → slice_index_or leading.items k false ≡ leads_to_payload (drop k items.now)) }
 {
     let mut leading = vec![in alloc; false; items.len()]?;
     let mut leads = false;
@@ -85,7 +86,8 @@ fn add_label(
     item: &Item,
     place: usize,
 ) -> Result<(), AllocError>
-    ensures { OnOk result ((name : List ℕ) → get bytes_eq labels.new name ≡ option_or (get bytes_eq labels.old name) (when (is_named name item.now) place)) }
+    ensures { OnOk result ((name : List ℕ) → get bytes_eq labels.new name
+        ≡ option_or (get bytes_eq labels.old name) (when (is_named name item.now) place)) }
 {
     if let What::Label(name) = &item.what
         && !labels.contains_key(name)

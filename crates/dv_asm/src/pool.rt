@@ -8,7 +8,7 @@ use std::alloc::{AllocError, Global};
 use std::hash::Hash;
 use std::marker::Model;
 
-/// Entries in first-seen order, each once. A look-up takes constant time. To a contract it is the list of its entries.
+/// Entries in first-seen order, each once. An entry is looked up by its hash. To a contract it is the list of its entries.
 #[derive(Drop)]
 pub struct Pool<E: Eq + Hash> {
     entries: IndexSet<E>,

@@ -31,7 +31,9 @@ impl Places<'_> {
     /// Adds the address that an item names with the item's place, where it is a switch and the address isn't there.
     fn add_switch(&self, switches: &mut IndexMap<u64, usize>, k: usize) -> Result<(), AllocError>
         requires { k < length self.now }
-        ensures { OnOk result ((address : ℕ) → get nat_eq switches.new address ≡ option_or (get nat_eq switches.old address) (when (is_address address (address_named_by self.now (item_at self.now k))) k)) }
+        ensures { OnOk result ((address : ℕ) → get nat_eq switches.new address
+            ≡ option_or (get nat_eq switches.old address)
+            (when (is_address address (address_named_by self.now (item_at self.now k))) k)) }
     {
         if let Some(address) = self.address_named_by(self.item(k))
             && !switches.contains_key(&address)
@@ -55,7 +57,8 @@ impl Places<'_> {
     /// Adds the address of an item where it is a payload.
     fn add_payload(&self, payloads: &mut IndexSet<u64>, k: usize) -> Result<(), AllocError>
         requires { k < length self.now }
-        ensures { OnOk result ((address : ℕ) → contains nat_eq payloads.new address ≡ contains nat_eq payloads.old address || is_payload_at self.now address k) }
+        ensures { OnOk result ((address : ℕ) → contains nat_eq payloads.new address
+            ≡ contains nat_eq payloads.old address || is_payload_at self.now address k) }
     {
         if self.item(k).is_payload() {
             payloads.insert(self.address_of(k))?;

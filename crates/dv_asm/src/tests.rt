@@ -334,14 +334,22 @@ fn long(alloc: Global, bytes: usize) -> Result<Draft, AllocError> {
 }
 
 #[test]
-fn refuses_a_long_body(rt: HostRuntime) -> Result<(), Fail> {
-    let fitting = long(rt.alloc(), 32754)?;
-    assert_eq!(rt; units_of(rt.alloc(), &fitting)?.len(), 16384);
-    let longer = long(rt.alloc(), 32756)?;
-    assert_eq!(rt;
-        error_of(rt.alloc(), &longer),
-        refusal(5, LineKind::TooLong)
-    );
+fn takes_the_longest_body(rt: HostRuntime) -> Result<(), Fail> {
+    let draft = long(rt.alloc(), 32754)?;
+    assert_eq!(rt; units_of(rt.alloc(), &draft)?.len(), 16384);
+    Ok(())
+}
+
+// The bodies have 16,385, 32,769, 65,537 and 100,000 units. Memory is ample.
+#[test]
+fn refuses_long_bodies(rt: HostRuntime) -> Result<(), Fail> {
+    for (bytes, line) in [(32756, 5), (65524, 4), (131060, 4), (199986, 4)] {
+        let draft = long(rt.alloc(), bytes)?;
+        assert_eq!(rt;
+            error_of(rt.alloc(), &draft),
+            refusal(line, LineKind::TooLong)
+        );
+    }
     Ok(())
 }
 
@@ -369,17 +377,41 @@ fn refuses_an_empty_range(rt: HostRuntime) -> Result<(), Fail> {
     Ok(())
 }
 
-#[test]
-fn refuses_an_overlap(rt: HostRuntime) -> Result<(), Fail> {
-    let mut making = four_nops(rt.alloc())?;
+/// Handlers of ranges that touch, on lines 10 and 11, and two handlers of a range that overlaps both, on these lines.
+fn overlapping(alloc: Global, third: u32, fourth: u32) -> Result<Draft, AllocError> {
+    let mut making = four_nops(alloc)?;
     making.catch(10, None, "a", "c", "d")?;
     making.catch(11, None, "c", "d", "d")?;
-    making.catch(12, None, "b", "d", "d")?;
-    let draft = making.draft(1);
-    assert_eq!(rt;
-        error_of(rt.alloc(), &draft),
-        refusal(12, LineKind::TryOverlap)
-    );
+    making.catch(third, None, "b", "d", "d")?;
+    making.catch(fourth, None, "b", "d", "d")?;
+    Ok(making.draft(1))
+}
+
+// The first line is the least one, also where a later handler has it.
+#[test]
+fn refuses_overlaps(rt: HostRuntime) -> Result<(), Fail> {
+    for (third, fourth, line) in [(12, 13, 12), (12, 5, 5), (9, 9, 9)] {
+        let draft = overlapping(rt.alloc(), third, fourth)?;
+        assert_eq!(rt;
+            error_of(rt.alloc(), &draft),
+            refusal(line, LineKind::TryOverlap)
+        );
+    }
+    Ok(())
+}
+
+#[test]
+fn takes_ranges_that_touch(rt: HostRuntime) -> Result<(), Fail> {
+    let alloc = rt.alloc();
+    let mut making = four_nops(alloc)?;
+    making.catch(10, None, "b", "d", "d")?;
+    making.catch(11, None, "a", "b", "d")?;
+    let tries = tries_of(alloc, &making.draft(1))?;
+    let all = Handler { kind: None, at: 3 };
+    let first = vec![in alloc; all]?;
+    let second = vec![in alloc; Handler { kind: None, at: 3 }]?;
+    let expected = vec![in alloc; (0, 1, first), (1, 3, second)]?;
+    assert_eq!(rt; tries, expected);
     Ok(())
 }
 
