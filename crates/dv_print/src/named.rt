@@ -7,8 +7,8 @@ ghost use Rattle.dv_print.specs.Named.{target_of, named_by_payload, named_by_pie
 use crate::pieces::{Part, Piece};
 use crate::switches::Pieces;
 use dv_defs::{Insn, Payload, Try};
-use indexmap::IndexSet;
 use dv_units::has_offset;
+use indexmap::IndexSet;
 use std::alloc::{AllocError, Global};
 use std::marker::Model;
 

@@ -43,11 +43,7 @@ fn method_entry(body: &Body, index: u32) -> Result<PoolRef, AllocError>
 }
 
 /// The entry at an index of a pool, if there is one.
-pub fn entry_in(
-    body: &Body,
-    pool: Option<PoolKind>,
-    index: u32,
-) -> Result<PoolRef, AllocError>
+pub fn entry_in(body: &Body, pool: Option<PoolKind>, index: u32) -> Result<PoolRef, AllocError>
     ensures { IfOk result (λ r. r ≡ entry_in body.now pool index) }
 {
     match pool {
