@@ -8,11 +8,10 @@ use Rattle.dv_defs.specs.declared.typing.RegState.{RegState}
 use Rattle.dv_defs.specs.Tiling.{Tile}
 use Rattle.dv_defs.specs.Op.{Code, code_at, can_throw}
 use Rattle.dv_defs.specs.Statics.{At, fetch}
-use Rattle.dv_defs.specs.Demands.{ok}
 use Rattle.dv_defs.specs.Transfer.{entry_state, out}
 use Rattle.dv_defs.specs.Flow.{Catcher, targets, handlers_at, thrown_at, caught_state}
 use Rattle.dv_defs.specs.Joins.{join_state}
-use Rattle.dv_defs.specs.Accepting.{Place, static_places}
+use Rattle.dv_defs.specs.Accepting.{Place, static_places, demand_at}
 
 -- by address
 abbrev pub States : Type 0
@@ -78,16 +77,11 @@ abbrev pub broken_at : ℕ → Option Rule → List Place
 broken_at at None = []
 broken_at at (Some r) = record { at = at; broken = r } ∷ []
 
--- the typing rule that an instruction with a state breaks
-abbrev pub demanded : Image → Code → Option At → Option RegState → Option Rule
-demanded image code (Some x) (Some s) = ok image code.method x s
-demanded image code x s = None
-
 -- the rules that are broken, one after another
 abbrev pub broken_in : Image → Code → States → List Tile → List Place
 broken_in image code states [] = []
 broken_in image code states (t ∷ ts) =
-    broken_at t.at (demanded image code (fetch image code.method.id t.at) (state_there states t.at)) ++
+    broken_at t.at (demand_at image code (fetch image code.method.id t.at) (state_there states t.at)) ++
     broken_in image code states ts
 
 -- where a static rule is broken no typing is asked for
