@@ -1,9 +1,9 @@
 -- The text of a draft.
-use Rattle.std.specs.Prelude.{ℕ, zero, suc, ◌+◌, ◌*◌, ◌/◌, ◌%◌, ◌^◌, ◌==◌, ℤ, List, [], ◌∷◌, ◌++◌, length, take, drop, codes, decimal, Option, Some, None, if◌then◌else◌}
+use Rattle.std.specs.Prelude.{ℕ, ◌/◌, ◌==◌, ℤ, List, [], ◌∷◌, ◌++◌, length, codes, decimal, Option, Some, None, if◌then◌else◌}
 use Rattle.std.specs.Fmt.{signed_decimal}
-use Rattle.std.specs.Int.{w8, w16, w32, w64, cast_signed}
 use Rattle.std.specs.List.{flat_map, zip}
 use Rattle.dv_defs.specs.declared.names.Ty.{Ty}
+use Rattle.dv_defs.specs.Numbers.{elements}
 use Rattle.dv_defs.specs.Tiling.{is_width}
 use Rattle.dv_names.specs.Descriptors.{descriptor}
 use Rattle.dv_asm.specs.declared.draft.Item.{Item}
@@ -21,19 +21,6 @@ label_line name = label_text name ++ codes "\n"
 abbrev pub case_line : ℤ × List ℕ → List ℕ
 case_line x = signed_decimal x.0 ++ codes " -> " ++ label_text x.1 ++ codes "\n"
 
--- the number of these bytes, the lowest first
-abbrev pub number_of : List ℕ → ℕ
-number_of [] = 0
-number_of (b ∷ bytes) = b + 256 * number_of bytes
-
--- the signed number of so many bytes
-abbrev pub signed_in : ℕ → ℕ → ℤ
-signed_in width n =
-    if width == 1 then cast_signed w8 (n % 2 ^ 8) else
-    if width == 2 then cast_signed w16 (n % 2 ^ 16) else
-    if width == 4 then cast_signed w32 (n % 2 ^ 32) else
-    cast_signed w64 n
-
 -- the suffix of an array's elements of so many bytes
 abbrev pub suffix_of : ℕ → List ℕ
 suffix_of width =
@@ -42,14 +29,9 @@ suffix_of width =
     if width == 8 then codes "L" else
     []
 
--- one element of an array
-abbrev pub element_line : ℕ → List ℕ → List ℕ
-element_line width bytes = signed_decimal (signed_in width (number_of bytes)) ++ suffix_of width ++ codes "\n"
-
--- so many elements
-abbrev pub element_lines : ℕ → ℕ → List ℕ → List ℕ
-element_lines width zero bytes = []
-element_lines width (suc n) bytes = element_line width (take width bytes) ++ element_lines width n (drop width bytes)
+-- an element of so many bytes
+abbrev pub element_line : ℕ → ℤ → List ℕ
+element_line width n = signed_decimal n ++ suffix_of width ++ codes "\n"
 
 abbrev pub packed_text : ℤ → List (List ℕ) → List ℕ
 packed_text first targets =
@@ -70,7 +52,7 @@ element_count width bytes = if is_width width then length bytes / width else 0
 abbrev pub data_text : ℕ → List ℕ → List ℕ
 data_text width bytes =
     codes ".array-data " ++ decimal width ++ codes "\n" ++
-    element_lines width (element_count width bytes) bytes ++
+    flat_map (element_line width) (elements (element_count width bytes) width bytes) ++
     codes ".end array-data\n"
 
 abbrev pub what_text : What → List ℕ

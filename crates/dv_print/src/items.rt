@@ -1,8 +1,9 @@
 // The items of a draft as they are printed.
-ghost use Rattle.std.specs.Prelude.{◌≡◌, ◌<◌, ◌≤◌, ◌^◌, length, take, drop, IfOk};
+ghost use Rattle.std.specs.Prelude.{◌≡◌, ◌<◌, ◌≤◌, ◌*◌, ◌^◌, length, take, drop, IfOk, IsTrue};
 ghost use Rattle.std.specs.List.{flat_map, zip};
 ghost use Rattle.dv_defs.specs.Tiling.{is_width};
-ghost use Rattle.dv_print.specs.Draft.{label_line, case_line, number_of, signed_in, suffix_of, element_line, element_lines, packed_text, sparse_text, data_text, item_text};
+ghost use Rattle.dv_defs.specs.Numbers.{signed_at, low_first, elements};
+ghost use Rattle.dv_print.specs.Draft.{label_line, case_line, suffix_of, element_line, packed_text, sparse_text, data_text, item_text};
 
 use crate::numbers::{decimal, signed_decimal};
 use crate::operands::{insn_text, label_text};
@@ -60,25 +61,27 @@ fn case_lines(alloc: Global, keys: &[i32], names: &[Text]) -> Result<Vec<u8>, Al
 }
 
 /// The number of these bytes, the lowest first.
-fn number_of(bytes: &[u8]) -> u64
+fn low_first(bytes: &[u8]) -> u64
     requires { length bytes.now ≤ 8 }
-    ensures value { result ≡ number_of bytes.now }
-    ensures small { number_of bytes.now < 256 ^ length bytes.now }
+    ensures value { result ≡ low_first bytes.now }
+    ensures small { low_first bytes.now < 256 ^ length bytes.now }
 {
     match bytes {
-        [byte, others @ ..] => u64::from(*byte) + 256 * number_of(others),
+        [byte, others @ ..] => u64::from(*byte) + 256 * low_first(others),
         [] => 0,
     }
 }
 
-/// The signed number of so many bytes.
+/// The signed number of which these are the bytes, in an array of elements of `width` bytes.
 fn signed_in(width: u16, n: u64) -> i64
-    ensures { result ≡ signed_in width n }
+    requires width { IsTrue (is_width width) }
+    requires fits { n < 256 ^ width }
+    ensures { result ≡ signed_at (8 * width) n }
 {
     match width {
-        1 => i64::from(((n % 0x100) as u8).cast_signed()),
-        2 => i64::from(((n % 0x1_0000) as u16).cast_signed()),
-        4 => i64::from(((n % 0x1_0000_0000) as u32).cast_signed()),
+        1 => i64::from((n as u8).cast_signed()),
+        2 => i64::from((n as u16).cast_signed()),
+        4 => i64::from((n as u32).cast_signed()),
         _ => n.cast_signed(),
     }
 }
@@ -97,10 +100,11 @@ fn suffix_of(width: u16) -> &'static [u8]
 
 /// One element of an array.
 fn element_line(alloc: Global, width: u16, bytes: &[u8]) -> Result<Vec<u8>, AllocError>
-    requires { length bytes.now ≤ 8 }
-    ensures { IfOk result (λ v. v.items ≡ element_line width bytes.now) }
+    requires width { IsTrue (is_width width) }
+    requires short { length bytes.now ≤ width }
+    ensures { IfOk result (λ v. v.items ≡ element_line width (signed_at (8 * width) (low_first bytes.now))) }
 {
-    let mut text = signed_decimal(alloc, signed_in(width, number_of(bytes)))?;
+    let mut text = signed_decimal(alloc, signed_in(width, low_first(bytes)))?;
     text.extend_from_slice(suffix_of(width))?;
     text.extend_from_slice(b"\n")?;
     Ok(text)
@@ -134,8 +138,8 @@ fn element_lines(
     count: usize,
     bytes: &[u8],
 ) -> Result<Vec<u8>, AllocError>
-    requires { width ≤ 8 }
-    ensures { IfOk result (λ v. v.items ≡ element_lines width count bytes.now) }
+    requires { IsTrue (is_width width) }
+    ensures { IfOk result (λ v. v.items ≡ flat_map (element_line width) (elements count width bytes.now)) }
 {
     let mut text = Vec::new(alloc);
     let mut rest = bytes;

@@ -1,5 +1,7 @@
-use Rattle.std.proofs.Common.{◌-◌, ◌++◌, take, ap, ◌∙◌}
-use Rattle.dv_print.specs.Draft.{element_line, element_lines}
+use Rattle.std.proofs.Common.{◌-◌, ◌*◌, ◌++◌, take, ap, ◌∙◌}
+use Rattle.std.specs.List.{flat_map}
+use Rattle.dv_defs.specs.Numbers.{signed_at, low_first, elements}
+use Rattle.dv_print.specs.Draft.{element_line}
 use Rattle.dv_print.proofs.Steps.Lines.{element_more}
 use Rattle.dv_print.proofs.items.element_lines.Goals as goal
 
@@ -9,8 +11,8 @@ loop-left-preserved c =
     let rest = c.loop-left.rest.now in
     let left = c.loop-left.left - 1 in
     let text = c.loop-left.text.items in
-    let line = c.deref.ensures.value ∙ (c.in_ok-element_line.ensures ∙ ap (element_line width) c.cut.ensures.first) in
+    let line = c.deref.ensures.value ∙ (c.in_ok-element_line.ensures ∙ ap (λ bytes. element_line width (signed_at (8 * width) (low_first bytes))) c.cut.ensures.first) in
     let written = c.in_ok-extend_from_slice.ensures.items ∙ ap (λ xs. text ++ xs) line in
-    ap (λ xs. xs ++ element_lines width left c.cut.result.1.now) written ∙
-    (ap (λ bytes. (text ++ element_line width (take width rest)) ++ element_lines width left bytes) c.cut.ensures.rest ∙
-    element_more width c.loop-left.left rest (element_lines width c.args.count c.args.bytes.now) text c.loop-left-test.true c.loop-left.invariant)
+    ap (λ xs. xs ++ flat_map (element_line width) (elements left width c.cut.result.1.now)) written ∙
+    (ap (λ bytes. (text ++ element_line width (signed_at (8 * width) (low_first (take width rest)))) ++ flat_map (element_line width) (elements left width bytes)) c.cut.ensures.rest ∙
+    element_more width c.loop-left.left rest (flat_map (element_line width) (elements c.args.count width c.args.bytes.now)) text c.loop-left-test.true c.loop-left.invariant)
