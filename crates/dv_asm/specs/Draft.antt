@@ -36,11 +36,21 @@ is_entry entry = true
 -- the instruction with its registers, offset and index set to 0: it has a spelling exactly where its opcode is one of
 -- the table, it has as many registers as its format takes, its range is that of its format, and its literal fits
 abbrev pub blank : Insn → Insn
-blank i = record { op = i.op; regs = record { count = i.regs.count; first = 0 ∷ 0 ∷ 0 ∷ 0 ∷ 0 ∷ []; range = i.regs.range }; lit = i.lit; off = pos 0; index = 0 }
+blank i = record {
+  op = i.op;
+  regs = record { count = i.regs.count; first = 0 ∷ 0 ∷ 0 ∷ 0 ∷ 0 ∷ []; range = i.regs.range };
+  lit = i.lit;
+  off = pos 0;
+  index = 0;
+}
 
 -- the places of registers that aren't there are 0
 abbrev pub has_no_further : Regs → Bool
-has_no_further r = elim r.range [ true ↦ all_zero (drop 1 r.first) && (nat_lt 0 r.count || nat_eq (slice_index r.first 0) 0) | false ↦ all_zero (drop r.count r.first) ]
+has_no_further r =
+    elim r.range [
+      | true ↦ all_zero (drop 1 r.first) && (nat_lt 0 r.count || nat_eq (slice_index r.first 0) 0)
+      | false ↦ all_zero (drop r.count r.first)
+    ]
 
 -- an instruction in the form of its format: it has a label exactly where the format has an offset, an entry of its
 -- opcode's kind exactly where it has an index, and 0 in each part that the format lacks

@@ -74,7 +74,8 @@ abbrev pub catches_of : List Item → List Catch → TryRange → List Catch
 catches_of items catches r = filter (λ (c : Catch). is_same (range_of items c) r) catches
 
 abbrev pub entry_of : List Item → List Catch → List Ty → TryRange → Try
-entry_of items catches types r = record { start = r.start; end = r.end; handlers = map (handler_of items types) (catches_of items catches r) }
+entry_of items catches types r =
+    record { start = r.start; end = r.end; handlers = map (handler_of items types) (catches_of items catches r) }
 
 abbrev pub tries_of : List Item → List Catch → List Ty → List Try
 tries_of items catches types = map (entry_of items catches types) (sorted_ranges items catches)
@@ -130,7 +131,9 @@ padded address us = if nat_lt (length us) address then us ++ 0 ∷ [] else us
 -- the units of the first k items one after another, each at its address
 abbrev pub units_of : List Item → Pools → ℕ → List ℕ
 units_of items pools zero = []
-units_of items pools (suc k) = padded (address_of items k) (units_of items pools k) ++ unwrap_or (spelling_of items pools k (item_at items k).what) []
+units_of items pools (suc k) =
+    padded (address_of items k) (units_of items pools k) ++
+    unwrap_or (spelling_of items pools k (item_at items k).what) []
 
 unfoldable pub body_of : ℕ → List Item → List Catch → BodyValue
 body_of registers items catches =

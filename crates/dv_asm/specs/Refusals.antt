@@ -192,7 +192,8 @@ item_refusal items =
     (option_or (refused kind.OffsetRange (offset_range items)) (refused kind.TooLong (too_long items))))
 
 abbrev pub range_refusal : List Item → List Catch → Option Refusal
-range_refusal items catches = option_or (refused kind.TryRange (try_range items catches)) (refused kind.TryOverlap (try_overlap items catches))
+range_refusal items catches =
+    option_or (refused kind.TryRange (try_range items catches)) (refused kind.TryOverlap (try_overlap items catches))
 
 abbrev pub refusal : DraftValue → Option Refusal
 refusal d = option_or (label_refusal d.items d.catches) (option_or (item_refusal d.items) (range_refusal d.items d.catches))

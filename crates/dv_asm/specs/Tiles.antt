@@ -1,7 +1,7 @@
 -- The instructions and payloads of a draft at their addresses, aligning nops included.
-use Rattle.std.specs.Prelude.{ℕ, zero, suc, ◌≡◌, nat_lt, List, [], ◌∷◌, ◌++◌, length, Option, Some, None, Ok, IsTrue, if◌then◌else◌}
+use Rattle.std.specs.Prelude.{ℕ, zero, suc, ◌≡◌, nat_lt, List, [], ◌∷◌, ◌++◌, length, Option, Some, None, Ok, if◌then◌else◌}
 use Rattle.dv_defs.specs.declared.code.Payload.TheVariants as payload
-use Rattle.dv_defs.specs.Spelling.{plain, few, all_fit}
+use Rattle.dv_defs.specs.Spelling.{plain, few, AreUnits}
 use Rattle.dv_defs.specs.Tiling as tiling
 use Rattle.dv_defs.specs.Tiling.{IsInsn, IsPayload, Tile}
 use Rattle.dv_defs.specs.Layout.{AreTiles}
@@ -42,8 +42,12 @@ tiles d = tiles_of d.items (pools_of d.items) (length d.items)
 
 -- The units of items that have spellings are tiled by what the items are.
 abbrev pub UnitsAreTiled : Type 0
-UnitsAreTiled = (items : List Item) (pools : Pools) → AreSpelled items pools → AreTiles 0 (tiles_of items pools (length items)) (units_of items pools (length items))
+UnitsAreTiled =
+    (items : List Item) (pools : Pools) → AreSpelled items pools →
+    AreTiles 0 (tiles_of items pools (length items)) (units_of items pools (length items))
 
 -- The tiling of these units is what the items are.
 abbrev pub TilingIsItems : Type 0
-TilingIsItems = (items : List Item) (pools : Pools) → AreSpelled items pools → IsTrue (all_fit 16 (units_of items pools (length items))) → tiling.tiling (units_of items pools (length items)) ≡ Ok (tiles_of items pools (length items))
+TilingIsItems =
+    (items : List Item) (pools : Pools) → AreSpelled items pools → AreUnits (units_of items pools (length items)) →
+    tiling.tiling (units_of items pools (length items)) ≡ Ok (tiles_of items pools (length items))

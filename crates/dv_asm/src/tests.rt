@@ -40,7 +40,13 @@ fn class(alloc: Global, name: &str) -> Result<Ty, AllocError> {
 
 /// An instruction over at most two registers.
 fn insn(op: u8, count: u8, first: u16, second: u16) -> Insn
-    ensures { result ≡ record { op = op; regs = record { count = count; first = first ∷ second ∷ 0 ∷ 0 ∷ 0 ∷ []; range = false }; lit = pos 0; off = pos 0; index = 0 } }
+    ensures { result ≡ record {
+      op = op;
+      regs = record { count = count; first = first ∷ second ∷ 0 ∷ 0 ∷ 0 ∷ []; range = false };
+      lit = pos 0;
+      off = pos 0;
+      index = 0;
+    } }
 {
     Insn {
         op,

@@ -1,7 +1,7 @@
 // The units of items.
 ghost use Rattle.std.specs.Prelude.{◌≡◌, ◌<◌, ◌≤◌, ◌%◌, ◌^◌, ◌++◌, true, [], length, unwrap_or, IfOk, OnOk, IsSome, IsTrue, Ok};
 ghost use Rattle.dv_defs.specs.declared.code.Payload.TheVariants as payload;
-ghost use Rattle.dv_defs.specs.Spelling.{spelling, all_fit};
+ghost use Rattle.dv_defs.specs.Spelling.{spelling, AreUnits, all_fit};
 ghost use Rattle.dv_defs.specs.Payloads.{payload_spelling};
 ghost use Rattle.dv_defs.specs.Tiling.{is_width, tiling};
 ghost use Rattle.dv_asm.specs.Places.{address_of};
@@ -23,7 +23,7 @@ fn bytes_fit(bytes: &[u8])
 
 /// Each unit has sixteen bits.
 fn units_fit(units: &[u16])
-    ensures { all_fit 16 units.now ≡ true }
+    ensures { AreUnits units.now }
 {}
 
 /// Appends a nop, where the units end before an address.

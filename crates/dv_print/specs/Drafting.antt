@@ -28,7 +28,7 @@ use Rattle.dv_print.specs.declared.pieces.Part.TheVariants as part
 use Rattle.dv_print.specs.declared.pieces.Piece.{Piece}
 use Rattle.dv_print.specs.Numbers.{label_name}
 use Rattle.dv_print.specs.Pieces.{pieces_of}
-use Rattle.dv_print.specs.Named.{target_of, base_of, addresses_named, is_named}
+use Rattle.dv_print.specs.Named.{target_of, switch_address, label_addresses, is_label_address}
 
 -- what this is, if it is there
 abbrev pub found_as : {X : Type 0} → (X → PoolRef) → Option X → PoolRef
@@ -43,8 +43,8 @@ entry_in b (Some kind.Fields) index = found_as pool.Field (slice_get b.fields in
 entry_in b (Some kind.Methods) index = found_as pool.Method (slice_get b.methods index)
 
 -- an instruction at an address: its label and its entry stand for its offset and its index
-abbrev pub op_of : BodyValue → ℕ → Insn → Draftop
-op_of b at i = record {
+abbrev pub drafted_op : BodyValue → ℕ → Insn → Draftop
+drafted_op b at i = record {
   insn = with_operands i (pos 0) 0;
   label = option_map label_name (target_of at i);
   pool = entry_in b (pool_at i.op) i.index;
@@ -61,8 +61,8 @@ payload_item base (payload.Sparse keys targets) = what.Sparse keys (labels_from 
 payload_item base (payload.Data width bytes) = what.Data width bytes
 
 abbrev pub part_item : BodyValue → List Piece → ℕ → Part → What
-part_item b pieces at (part.Insn i) = what.Op (op_of b at i)
-part_item b pieces at (part.Payload p) = payload_item (base_of pieces at) p
+part_item b pieces at (part.Insn i) = what.Op (drafted_op b at i)
+part_item b pieces at (part.Payload p) = payload_item (switch_address pieces at) p
 
 abbrev pub with_no_line : What → Item
 with_no_line w = record { line = 0; what = w }
@@ -73,7 +73,7 @@ piece_item b pieces p = with_no_line (part_item b pieces p.at p.part)
 
 -- the label at an address, where the address is named
 abbrev pub labels_at : List ℕ → ℕ → List Item
-labels_at named address = if is_named named address then with_no_line (what.Label (label_name address)) ∷ [] else []
+labels_at named address = if is_label_address named address then with_no_line (what.Label (label_name address)) ∷ [] else []
 
 -- a piece with the label before it, where its address is named
 abbrev pub items_at : BodyValue → List Piece → List ℕ → Piece → List Item
@@ -84,20 +84,26 @@ abbrev pub items_in : BodyValue → List Piece → List ℕ → List Item
 items_in b pieces named = flat_map (items_at b pieces named) pieces ++ labels_at named (length b.units)
 
 -- the type that a handler catches
-abbrev pub kind_of : List Ty → Handler → Option Ty
-kind_of types h = option_and_then (slice_get types) h.kind
+abbrev pub handler_type : List Ty → Handler → Option Ty
+handler_type types h = option_and_then (slice_get types) h.kind
 
 abbrev pub catch_of : List Ty → Try → Handler → Catch
-catch_of types t h = record { line = 0; kind = kind_of types h; from = label_name t.start; to = label_name t.end; at = label_name h.at }
+catch_of types t h = record {
+  line = 0;
+  kind = handler_type types h;
+  from = label_name t.start;
+  to = label_name t.end;
+  at = label_name h.at;
+}
 
 abbrev pub catches_of_try : List Ty → Try → List Catch
 catches_of_try types t = map (catch_of types t) t.handlers
 
 abbrev pub items_of : BodyValue → List Item
-items_of b = let pieces = pieces_of b.units in items_in b pieces (addresses_named pieces b.tries)
+items_of b = let pieces = pieces_of b.units in items_in b pieces (label_addresses pieces b.tries)
 
-abbrev pub catches_of : BodyValue → List Catch
-catches_of b = flat_map (catches_of_try b.types) b.tries
+abbrev pub drafted_catches : BodyValue → List Catch
+drafted_catches b = flat_map (catches_of_try b.types) b.tries
 
 unfoldable pub draft_of : BodyValue → DraftValue
-draft_of b = record { registers = b.registers; items = items_of b; catches = catches_of b }
+draft_of b = record { registers = b.registers; items = items_of b; catches = drafted_catches b }

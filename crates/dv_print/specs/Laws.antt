@@ -1,7 +1,7 @@
 -- The laws of labels, and of drafts and their layout.
 use Rattle.std.specs.Prelude.{◌⊎◌, ℕ, ◌≡◌, ◌<◌, ◌≤◌, ◌^◌, List, [], ◌∷◌, length, All, Some, None, Ok, IsTrue}
 use Rattle.std.specs.List.{flat_map, slice_get}
-use Rattle.dv_defs.specs.Spelling.{all_fit, fits_signed}
+use Rattle.dv_defs.specs.Spelling.{AreUnits, all_fit, fits_signed}
 use Rattle.dv_defs.specs.Payloads.{all_fit_signed}
 use Rattle.dv_defs.specs.Tiling.{tiling}
 use Rattle.dv_asm.specs.declared.draft.Item.{Item}
@@ -40,7 +40,7 @@ HaveNumbers items = All (λ (item : Item). HasNumbers item.what) items
 abbrev pub LayoutIsTiled : Type 0
 LayoutIsTiled =
     (items : List Item) → AreFormed items → HaveNumbers items → item_refusal items ≡ None →
-    IsTrue (all_fit 16 (units_of items (pools_of items) (length items))) →
+    AreUnits (units_of items (pools_of items) (length items)) →
     tiling (units_of items (pools_of items) (length items)) ≡ Ok (tiles_of items (pools_of items) (length items))
 
 -- what instructions name, in the order of the items
@@ -62,7 +62,7 @@ pub record KeepsEntries (before after : List Item) : Type 0 where
 abbrev pub DraftKeepsEntries : Type 0
 DraftKeepsEntries =
     (d : DraftValue) → AreFormed d.items → HaveNumbers d.items → item_refusal d.items ≡ None →
-    IsTrue (all_fit 16 (layout d).units) → KeepsEntries d.items (draft_of (layout d)).items
+    AreUnits (layout d).units → KeepsEntries d.items (draft_of (layout d)).items
 
 -- a label is named by the address at which it stands
 abbrev pub IsNamedBy : What → ℕ → Type 0
@@ -78,7 +78,7 @@ pub record KeepsAddresses (after : List Item) (units : List ℕ) : Type 0 where
 abbrev pub DraftKeepsAddresses : Type 0
 DraftKeepsAddresses =
     (d : DraftValue) → AreFormed d.items → HaveNumbers d.items → item_refusal d.items ≡ None →
-    IsTrue (all_fit 16 (layout d).units) → KeepsAddresses (draft_of (layout d)).items (layout d).units
+    AreUnits (layout d).units → KeepsAddresses (draft_of (layout d)).items (layout d).units
 
 -- A label that stands in the draft of a laid-out body leads to the address of its name.
 abbrev pub LabelsLead : Type 0
@@ -89,7 +89,7 @@ LabelsLead =
 -- The draft that is made of a laid-out body is laid out as that body.
 abbrev pub DraftIsKept : Type 0
 DraftIsKept =
-    (d : DraftValue) → AreFormed d.items → HaveNumbers d.items → refusal d ≡ None → IsTrue (all_fit 16 (layout d).units) →
+    (d : DraftValue) → AreFormed d.items → HaveNumbers d.items → refusal d ≡ None → AreUnits (layout d).units →
     layout (draft_of (layout d)) ≡ layout d
 
 -- The draft is one that is assembled: its items have their forms and the numbers of their types, and it isn't refused.
@@ -101,7 +101,7 @@ pub record IsAssembled (d : DraftValue) : Type 0 where
 -- The draft that is made of a laid-out body is one that is assembled.
 abbrev pub DraftIsAssembled : Type 0
 DraftIsAssembled =
-    (d : DraftValue) → AreFormed d.items → HaveNumbers d.items → refusal d ≡ None → IsTrue (all_fit 16 (layout d).units) →
+    (d : DraftValue) → AreFormed d.items → HaveNumbers d.items → refusal d ≡ None → AreUnits (layout d).units →
     IsAssembled (draft_of (layout d))
 
 -- a range is among these

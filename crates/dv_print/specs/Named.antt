@@ -27,16 +27,16 @@ part_switches_to address at (part.Payload p) = false
 abbrev pub switches_to : ℕ → Piece → Bool
 switches_to address p = part_switches_to address p.at p.part
 
-abbrev pub place_of : Piece → ℕ
-place_of p = p.at
+abbrev pub piece_address : Piece → ℕ
+piece_address p = p.at
 
 -- the address from which a payload's targets count: that of the first switch that leads to it, else 0
-abbrev pub base_of : List Piece → ℕ → ℕ
-base_of pieces address = option_map_or place_of (find (switches_to address) pieces) 0
+abbrev pub switch_address : List Piece → ℕ → ℕ
+switch_address pieces address = option_map_or piece_address (find (switches_to address) pieces) 0
 
 -- of each address to which switches lead the address of the first one
 abbrev pub HasSwitches : {S : Type 0} → List Piece → IndexMap ℕ ℕ S → Type 0
-HasSwitches pieces switches = (address : ℕ) → get nat_eq switches address ≡ option_map place_of (find (switches_to address) pieces)
+HasSwitches pieces switches = (address : ℕ) → get nat_eq switches address ≡ option_map piece_address (find (switches_to address) pieces)
 
 -- the addresses that a payload names, if its targets count from this one
 abbrev pub named_by_payload : ℕ → Payload → List ℕ
@@ -46,7 +46,7 @@ named_by_payload base (payload.Data width bytes) = []
 
 abbrev pub named_by_part : List Piece → ℕ → Part → List ℕ
 named_by_part pieces at (part.Insn i) = option_to_list (target_of at i)
-named_by_part pieces at (part.Payload p) = named_by_payload (base_of pieces at) p
+named_by_part pieces at (part.Payload p) = named_by_payload (switch_address pieces at) p
 
 abbrev pub named_by_piece : List Piece → Piece → List ℕ
 named_by_piece pieces p = named_by_part pieces p.at p.part
@@ -58,8 +58,8 @@ abbrev pub named_by_try : Try → List ℕ
 named_by_try t = t.start ∷ t.end ∷ map handler_address t.handlers
 
 -- the addresses that branches, switches, references to payloads and tries name
-abbrev pub addresses_named : List Piece → List Try → List ℕ
-addresses_named pieces tries = flat_map (named_by_piece pieces) pieces ++ flat_map named_by_try tries
+abbrev pub label_addresses : List Piece → List Try → List ℕ
+label_addresses pieces tries = flat_map (named_by_piece pieces) pieces ++ flat_map named_by_try tries
 
-abbrev pub is_named : List ℕ → ℕ → Bool
-is_named named address = list_any (λ a. nat_eq a address) named
+abbrev pub is_label_address : List ℕ → ℕ → Bool
+is_label_address named address = list_any (λ a. nat_eq a address) named

@@ -12,8 +12,8 @@ part_of (IsInsn i) = part.Insn i
 part_of (IsPayload p) = part.Payload p
 
 -- a part with the number of its units
-abbrev pub sized : tiling.Piece → Part × ℕ
-sized p = (part_of p.item, p.size)
+abbrev pub part_sized : tiling.Piece → Part × ℕ
+part_sized p = (part_of p.item, p.size)
 
 abbrev pub insn_sized : Sized → Part × ℕ
 insn_sized x = (part.Insn x.insn, x.size)

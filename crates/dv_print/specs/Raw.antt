@@ -10,7 +10,7 @@ use Rattle.dv_defs.specs.Body.{BodyValue}
 use Rattle.dv_names.specs.Descriptors.{descriptor}
 use Rattle.dv_print.specs.Numbers.{hexadecimal}
 use Rattle.dv_print.specs.Operands.{string_text, field_text, method_text}
-use Rattle.dv_print.specs.Drafting.{kind_of}
+use Rattle.dv_print.specs.Drafting.{handler_type}
 use Rattle.dv_print.specs.Draft.{registers_text}
 
 -- an entry of a pool
@@ -55,7 +55,7 @@ caught_text (Some ty) = descriptor ty
 abbrev pub handler_line : List Ty → Try → Handler → List ℕ
 handler_line types t h =
     codes ".rawtry " ++ decimal t.start ++ codes " " ++ decimal t.end ++ codes " " ++ decimal h.at ++ codes " " ++
-    caught_text (kind_of types h) ++ codes "\n"
+    caught_text (handler_type types h) ++ codes "\n"
 
 abbrev pub try_lines : List Ty → Try → List ℕ
 try_lines types t = flat_map (handler_line types t) t.handlers

@@ -3,7 +3,7 @@ ghost use Rattle.std.specs.Prelude.{◌≡◌, ◌++◌, map, option_map, IfOk, 
 ghost use Rattle.std.specs.List.{flat_map};
 ghost use Rattle.dv_print.specs.Numbers.{label_name};
 ghost use Rattle.dv_print.specs.Named.{target_of};
-ghost use Rattle.dv_print.specs.Drafting.{op_of, labels_from, payload_item, part_item, piece_item, with_no_line, labels_at, items_at, items_in, items_of};
+ghost use Rattle.dv_print.specs.Drafting.{drafted_op, labels_from, payload_item, part_item, piece_item, with_no_line, labels_at, items_at, items_in, items_of};
 
 use crate::named::{Named, add_targets, addresses_named, target_of};
 use crate::numbers::label_name;
@@ -54,7 +54,7 @@ fn label_of(alloc: Global, address: Option<u32>) -> Result<Option<Text>, AllocEr
 
 /// An instruction at an address: its label and its entry stand for its offset and its index.
 fn op_of(alloc: Global, body: &Body, at: u16, insn: &Insn) -> Result<Draftop, AllocError>
-    ensures { IfOk result (λ op. op ≡ op_of body.now at insn.now) }
+    ensures { IfOk result (λ op. op ≡ drafted_op body.now at insn.now) }
 {
     let label = label_of(alloc, target_of(at, insn))?;
     let pool = entry_in(body, pool_of(insn.op), insn.index)?;

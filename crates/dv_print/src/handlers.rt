@@ -1,6 +1,6 @@
 // The handlers of the draft of a body.
 ghost use Rattle.std.specs.Prelude.{◌≡◌, ◌++◌, option_map, IfOk, OnOk};
-ghost use Rattle.dv_print.specs.Drafting.{kind_of, catch_of, catches_of_try, catches_of};
+ghost use Rattle.dv_print.specs.Drafting.{handler_type, catch_of, catches_of_try, drafted_catches};
 
 use crate::drafting::label;
 use dv_asm::Catch;
@@ -9,7 +9,7 @@ use std::alloc::{AllocError, Global};
 
 /// The type that a handler catches.
 pub fn kind_of<'a>(types: &'a [Ty], handler: &Handler) -> Option<&'a Ty>
-    ensures { option_map (λ t. t.now) result ≡ kind_of types.now handler.now }
+    ensures { option_map (λ t. t.now) result ≡ handler_type types.now handler.now }
 {
     match handler.kind {
         Some(kind) => types.get(kind as usize),
@@ -51,7 +51,7 @@ fn add_catches(catches: &mut Vec<Catch>, types: &[Ty], entry: &Try) -> Result<()
 
 /// The handlers of a body.
 pub fn catches_of(alloc: Global, body: &Body) -> Result<Vec<Catch>, AllocError>
-    ensures { IfOk result (λ v. v.items ≡ catches_of body.now) }
+    ensures { IfOk result (λ v. v.items ≡ drafted_catches body.now) }
 {
     let mut catches = Vec::new(alloc);
     for entry in body.tries.items() {

@@ -2,7 +2,7 @@
 ghost use Rattle.std.specs.Prelude.{◌≡◌, ◌++◌, ℕ, map, IfOk, OnOk};
 ghost use Rattle.std.specs.List.{flat_map};
 ghost use Rattle.dv_defs.specs.Numbers.{jump};
-ghost use Rattle.dv_print.specs.Named.{target_of, named_by_payload, named_by_piece, named_by_try, addresses_named, is_named};
+ghost use Rattle.dv_print.specs.Named.{target_of, named_by_payload, named_by_piece, named_by_try, label_addresses, is_label_address};
 
 use crate::pieces::{Part, Piece};
 use crate::switches::Pieces;
@@ -116,7 +116,7 @@ impl Model for Named {
 impl Named {
     /// The addresses of a list.
     fn of(alloc: Global, list: &[u32]) -> Result<Named, AllocError>
-        ensures { IfOk result (λ named. (address : ℕ) → is_named named address ≡ is_named list.now address) }
+        ensures { IfOk result (λ named. (address : ℕ) → is_label_address named address ≡ is_label_address list.now address) }
     {
         let mut addresses = IndexSet::new(alloc);
         for address in list {
@@ -126,7 +126,7 @@ impl Named {
     }
 
     pub fn has(&self, address: u32) -> bool
-        ensures { result ≡ is_named self.now address }
+        ensures { result ≡ is_label_address self.now address }
     {
         self.addresses.contains(&address)
     }
@@ -134,7 +134,8 @@ impl Named {
 
 /// The addresses that branches, switches, references to payloads and tries name.
 pub fn addresses_named(alloc: Global, pieces: &Pieces, tries: &[Try]) -> Result<Named, AllocError>
-    ensures { IfOk result (λ named. (address : ℕ) → is_named named address ≡ is_named (addresses_named pieces.now tries.now) address) }
+    ensures { IfOk result (λ named. (address : ℕ) → is_label_address named address
+        ≡ is_label_address (label_addresses pieces.now tries.now) address) }
 {
     let mut list = Vec::new(alloc);
     add_pieces(&mut list, pieces)?;

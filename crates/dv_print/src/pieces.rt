@@ -3,7 +3,7 @@ ghost use Rattle.std.specs.Prelude.{◌≡◌, ◌<◌, ◌≤◌, ◌+◌, ◌^
 ghost use Rattle.dv_defs.specs.Decoding.{insn_here};
 ghost use Rattle.dv_defs.specs.Payloads.{payload_here};
 ghost use Rattle.dv_defs.specs.Tiling.{begins_payload, piece_here};
-ghost use Rattle.dv_print.specs.Pieces.{insn_sized, payload_sized, sized, pieces_of};
+ghost use Rattle.dv_print.specs.Pieces.{insn_sized, payload_sized, part_sized, pieces_of};
 
 use dv_defs::{Insn, Payload};
 use dv_units::{UnitError, decode, decode_payload, payload_size};
@@ -60,7 +60,7 @@ fn payload_at(alloc: Global, units: &[u16], at: usize) -> Result<Option<(Part, u
 fn part_at(alloc: Global, units: &[u16], at: usize) -> Result<Option<(Part, usize)>, AllocError>
     requires inside { at < length units.now }
     requires short { length units.now ≤ 16384 }
-    ensures part { IfOk result (λ r. r ≡ option_map sized (piece_here (drop at units.now))) }
+    ensures part { IfOk result (λ r. r ≡ option_map part_sized (piece_here (drop at units.now))) }
     ensures within { IfOk result (λ r. IfSome r (λ x. (0 < x.1) × (at + x.1 ≤ length units.now))) }
 {
     if begins_payload(units[at]) {

@@ -4,7 +4,7 @@ ghost use Rattle.std.specs.Option.{option_map_or, option_or};
 ghost use Rattle.indexmap.specs.IndexMap.{get};
 ghost use Rattle.dv_asm.specs.First.{when};
 ghost use Rattle.dv_print.specs.Pieces.{pieces_of};
-ghost use Rattle.dv_print.specs.Named.{switches_to, base_of, HasSwitches};
+ghost use Rattle.dv_print.specs.Named.{switches_to, switch_address, HasSwitches};
 
 use crate::named::jump;
 use crate::pieces::{Part, Piece, pieces_of};
@@ -86,7 +86,7 @@ impl Pieces {
 
     /// The address from which a payload's targets count: that of the first switch that leads to it, else 0.
     pub fn base_of(&self, address: u16) -> u16
-        ensures { result ≡ base_of self.now address }
+        ensures { result ≡ switch_address self.now address }
     {
         match self.switches.get(&u32::from(address)) {
             Some(base) => *base,

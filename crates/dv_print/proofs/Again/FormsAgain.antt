@@ -25,7 +25,7 @@ use Rattle.dv_print.specs.Numbers.{label_name}
 use Rattle.dv_print.specs.Named as named
 use Rattle.dv_print.specs.Named.{target_of}
 use Rattle.dv_print.specs.Laws.{HasNumbers, HaveNumbers}
-use Rattle.dv_print.specs.Drafting.{entry_in, op_of, payload_item}
+use Rattle.dv_print.specs.Drafting.{entry_in, drafted_op, payload_item}
 use Rattle.dv_print.proofs.Truth.{not_false, none_of, refused_none, no_line, when_not}
 use Rattle.dv_print.proofs.Pools.KeptEntries.{own_entry, has_pools, small_opcode}
 use Rattle.dv_print.proofs.Units.LaidOut.{are_short}
@@ -48,7 +48,7 @@ some_if : (c : Bool) (a : ℕ) → is_some (option_map label_name (if c then Som
 some_if true a = refl
 some_if false a = refl
 
-op_formed : (d : DraftValue) (p : ℕ) (op : Draftop) → p < length d.items → (item_at d.items p).what ≡ what.Op op → IsOp op → IsOp (op_of (layout d) (address_of d.items p) (insn_of d.items (pools_of d.items) p op))
+op_formed : (d : DraftValue) (p : ℕ) (op : Draftop) → p < length d.items → (item_at d.items p).what ≡ what.Op op → IsOp op → IsOp (drafted_op (layout d) (address_of d.items p) (insn_of d.items (pools_of d.items) p op))
 op_formed d p op within e f =
     let i = insn_of d.items (pools_of d.items) p op in
     let small = small_opcode (blank op.insn) (spelling (blank op.insn)) refl f.form in
@@ -64,7 +64,7 @@ op_formed d p op within e f =
       index = λ none. refl;
     }
 
-nop_formed : (d : DraftValue) (at : ℕ) → IsOp (op_of (layout d) at (plain 0 (few [])))
+nop_formed : (d : DraftValue) (at : ℕ) → IsOp (drafted_op (layout d) at (plain 0 (few [])))
 unfolding format_at pool_at insn_eq
 nop_formed d at = record {
   form = refl;
@@ -97,7 +97,7 @@ item_formed d l k within = at (origin d l k within)
     at (inl label) = label_formed (item_at (after_of d) k).what label
     at (inr (inl f)) = subst P (sym f.is) (nop_formed d (address_of (after_of d) k))
     at (inr (inr (inl f))) = subst P (sym f.is) (op_formed d f.place f.op f.within f.own (subst P f.own (l.formed f.place no_item f.within)))
-    at (inr (inr (inr f))) = subst P (sym f.is) (payload_formed d f.place (named.base_of (pieces d) (address_of d.items f.place)) (item_at d.items f.place).what f.payload f.own (l.formed f.place no_item f.within))
+    at (inr (inr (inr f))) = subst P (sym f.is) (payload_formed d f.place (named.switch_address (pieces d) (address_of d.items f.place)) (item_at d.items f.place).what f.payload f.own (l.formed f.place no_item f.within))
 
 label_numbered : (w : What) → is_label w ≡ true → HasNumbers w
 label_numbered (what.Label name) e = tt
@@ -124,7 +124,7 @@ item_numbered d l k within = at (origin d l k within)
     at (inl label) = label_numbered (item_at (after_of d) k).what label
     at (inr (inl f)) = subst N (sym f.is) tt
     at (inr (inr (inl f))) = subst N (sym f.is) tt
-    at (inr (inr (inr f))) = subst N (sym f.is) (payload_numbered d f.place (named.base_of (pieces d) (address_of d.items f.place)) (item_at d.items f.place).what f.payload f.own (l.numbers f.place no_item f.within))
+    at (inr (inr (inr f))) = subst N (sym f.is) (payload_numbered d f.place (named.switch_address (pieces d) (address_of d.items f.place)) (item_at d.items f.place).what f.payload f.own (l.numbers f.place no_item f.within))
 
 some_same : (x y : Item) → Some x ≡ Some y → x ≡ y
 some_same x y e = cc
@@ -155,7 +155,7 @@ payload_not_over base (payload.Packed first targets) = refl
 payload_not_over base (payload.Sparse keys targets) = refl
 payload_not_over base (payload.Data width bytes) = refl
 
-nop_not_over : (d : DraftValue) (at : ℕ) → is_over_registers (what.Op (op_of (layout d) at (plain 0 (few [])))) ≡ false
+nop_not_over : (d : DraftValue) (at : ℕ) → is_over_registers (what.Op (drafted_op (layout d) at (plain 0 (few [])))) ≡ false
 unfolding format_at insn_eq
 nop_not_over d at = refl
 
@@ -176,7 +176,7 @@ registers_again d l = no_line (register_range_at (after_of d)) (length (after_of
         at (inr (inr (inl f))) =
             let before = not_when (is_over_registers (item_at d.items f.place).what) (item_at d.items f.place).line (first_line_none (register_range_at d.items) (length d.items) f.place (registers_refused d.items l.none) f.within) in
             ap is_over_registers f.is ∙ (sym (ap is_over_registers f.own) ∙ before)
-        at (inr (inr (inr f))) = ap is_over_registers f.is ∙ payload_not_over (named.base_of (pieces d) (address_of d.items f.place)) f.payload
+        at (inr (inr (inr f))) = ap is_over_registers f.is ∙ payload_not_over (named.switch_address (pieces d) (address_of d.items f.place)) f.payload
 
 -- ---- offsets
 
@@ -212,14 +212,14 @@ op_not_over d l k f =
     let small = small_opcode (blank f.op.insn) (spelling (blank f.op.insn)) refl formed.form in
     let offsets : has_offset (format_at f.op.insn.op) ≡ is_some f.op.label = sym formed.label in
     let has : has_label_if_any d.items f.op.label ≡ true = sym (ap (has_labels d.items) f.own) ∙ items_labelled d.items d.catches l.labels f.place f.within in
-    let none : f.op.label ≡ None → (op_of (layout d) (address_of d.items f.place) i).label ≡ None = λ e. no_label_by (has_offset (format_at i.op)) (address_of d.items f.place) i.off (offsets ∙ ap is_some e) in
-    let same : (name : List ℕ) → f.op.label ≡ Some name → offset_of (after_of d) k (op_of (layout d) (address_of d.items f.place) i).label ≡ offset_of d.items f.place f.op.label =
+    let none : f.op.label ≡ None → (drafted_op (layout d) (address_of d.items f.place) i).label ≡ None = λ e. no_label_by (has_offset (format_at i.op)) (address_of d.items f.place) i.off (offsets ∙ ap is_some e) in
+    let same : (name : List ℕ) → f.op.label ≡ Some name → offset_of (after_of d) k (drafted_op (layout d) (address_of d.items f.place) i).label ≡ offset_of d.items f.place f.op.label =
     λ name e. branch_same d.items (after_of d) (layout d) (pieces d) (all_named d) f.place f.op name (known d l) (are_short d.items l.none) f.within f.own e (sym (ap (has_label_if_any d.items) e) ∙ has) (offsets ∙ ap is_some e) k f.at in
     let before = not_when (is_over_offset d.items f.place (item_at d.items f.place).what) (item_at d.items f.place).line (first_line_none (offset_range_at d.items) (length d.items) f.place (offsets_refused d.items l.none) f.within) in
     let fits = not_false (offset_fits d.items f.place f.op.insn.op f.op.label) (sym (ap (is_over_offset d.items f.place) f.own) ∙ before) in
-    ap (is_over_offset (after_of d) k) f.is ∙ ap not (same_fits d.items (after_of d) f.place k f.op.insn.op f.op.label (op_of (layout d) (address_of d.items f.place) i).label none same fits)
+    ap (is_over_offset (after_of d) k) f.is ∙ ap not (same_fits d.items (after_of d) f.place k f.op.insn.op f.op.label (drafted_op (layout d) (address_of d.items f.place) i).label none same fits)
 
-nop_never_over : (d : DraftValue) (k at : ℕ) → is_over_offset (after_of d) k (what.Op (op_of (layout d) at (plain 0 (few [])))) ≡ false
+nop_never_over : (d : DraftValue) (k at : ℕ) → is_over_offset (after_of d) k (what.Op (drafted_op (layout d) at (plain 0 (few [])))) ≡ false
 unfolding format_at
 nop_never_over d k at = refl
 
@@ -233,4 +233,4 @@ offsets_again d l = no_line (offset_range_at (after_of d)) (length (after_of d))
         at (inl label) = never_over (after_of d) k (item_at (after_of d) k).what label
         at (inr (inl f)) = ap (is_over_offset (after_of d) k) f.is ∙ nop_never_over d k (address_of (after_of d) k)
         at (inr (inr (inl f))) = op_not_over d l k f
-        at (inr (inr (inr f))) = ap (is_over_offset (after_of d) k) f.is ∙ payload_never_over (after_of d) k (named.base_of (pieces d) (address_of d.items f.place)) f.payload
+        at (inr (inr (inr f))) = ap (is_over_offset (after_of d) k) f.is ∙ payload_never_over (after_of d) k (named.switch_address (pieces d) (address_of d.items f.place)) f.payload

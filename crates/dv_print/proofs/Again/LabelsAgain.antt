@@ -30,7 +30,7 @@ use Rattle.dv_print.specs.Numbers.{label_name}
 use Rattle.dv_defs.specs.Formats.{format_at, has_offset}
 use Rattle.dv_print.specs.Pieces.{piece_of}
 use Rattle.dv_print.specs.Named as named
-use Rattle.dv_print.specs.Drafting.{op_of, labels_from, payload_item, piece_item, with_no_line, labels_at, draft_of}
+use Rattle.dv_print.specs.Drafting.{drafted_op, labels_from, payload_item, piece_item, with_no_line, labels_at, draft_of}
 use Rattle.dv_print.specs.Laws.{KeepsAddresses, IsNamedBy}
 use Rattle.dv_print.proofs.Again.RangesAgain.{handler_from}
 use Rattle.dv_print.proofs.Truth.{both, itself, no_line, when_not}
@@ -71,11 +71,11 @@ last_gap false label = tt
 
 -- the items of tiles
 gaps : (b : BodyValue) (all : List Piece) (names : List ℕ) (n : ℕ) (ts : List Tile) (us : List ℕ) (end : ℕ) → AreTiles end ts us → Gaps (tile_items b all names ts ++ labels_at names n)
-gaps b all names n [] us end are = last_gap (named.is_named names n) (with_no_line (what.Label (label_name n)))
+gaps b all names n [] us end are = last_gap (named.is_label_address names n) (with_no_line (what.Label (label_name n)))
 gaps b all names n (t ∷ ts) us end are =
     let units = item_positive t.item (take t.size us) are.2 in
     let positive : 0 < size_of (piece_item b all (piece_of t)).what = omega (arith, units, length-take-le t.size us are.1, tile_size b all t us are.1 are.2) in
-    gaps_by (named.is_named names t.at) (with_no_line (what.Label (label_name t.at))) (piece_item b all (piece_of t)) (tile_items b all names ts) (labels_at names n) positive
+    gaps_by (named.is_label_address names t.at) (with_no_line (what.Label (label_name t.at))) (piece_item b all (piece_of t)) (tile_items b all names ts) (labels_at names n) positive
     (gaps b all names n ts (drop t.size us) (end + t.size) are.3)
 
 gap_at : (items : List Item) (m : ℕ) → Gaps items → suc m < length items → (0 < size_of (item_at items m).what) ⊎ (0 < size_of (item_at items (suc m)).what)
@@ -155,7 +155,7 @@ stood : (items : List Item) (a : ℕ) → Stands a items → HasLabelAt items a
 stood items a s = ap is_some (first_found (is_named (label_name a)) items s.0 _ s.1 (bytes_itself (label_name a))).1
 
 -- the label of an address that is named and that a label of the draft before has
-there : (d : DraftValue) (name : List ℕ) → IsLaidOut d → has_label d.items name ≡ true → named.is_named (all_named d) (label_address d.items name) ≡ true → HasLabelAt (after_of d) (label_address d.items name)
+there : (d : DraftValue) (name : List ℕ) → IsLaidOut d → has_label d.items name ≡ true → named.is_label_address (all_named d) (label_address d.items name) ≡ true → HasLabelAt (after_of d) (label_address d.items name)
 there d name l has listed = stood (after_of d) (label_address d.items name) (stands_for d.items (after_of d) (layout d) (pieces d) (all_named d) name (known d l) has listed)
 
 label_has : (items : List Item) (w : What) → is_label w ≡ true → has_labels items w ≡ true
@@ -165,7 +165,7 @@ label_has items (what.Packed first names) e = absurd (cc)
 label_has items (what.Sparse keys names) e = absurd (cc)
 label_has items (what.Data width bytes) e = absurd (cc)
 
-of_op : (d : DraftValue) (k : ℕ) (op : Draftop) (label : Option (List ℕ)) → IsLaidOut d → k < length d.items → (item_at d.items k).what ≡ what.Op op → op.label ≡ label → has_label_if_any d.items label ≡ true → has_label_if_any (after_of d) (op_of (layout d) (address_of d.items k) (insn_of d.items (pools_of d.items) k op)).label ≡ true
+of_op : (d : DraftValue) (k : ℕ) (op : Draftop) (label : Option (List ℕ)) → IsLaidOut d → k < length d.items → (item_at d.items k).what ≡ what.Op op → op.label ≡ label → has_label_if_any d.items label ≡ true → has_label_if_any (after_of d) (drafted_op (layout d) (address_of d.items k) (insn_of d.items (pools_of d.items) k op)).label ≡ true
 of_op d k op None l within e labelled has =
     let formed : IsOp op = subst IsFormed e (l.formed k no_item within) in
     let small = small_opcode (blank op.insn) (spelling (blank op.insn)) refl formed.form in
@@ -189,30 +189,30 @@ targets_there d base (name ∷ names) l has listed =
     (targets_there d base names l here.1 listed.1)
 
 -- the labels of a payload's targets
-of_targets : (d : DraftValue) (k : ℕ) (w : What) (p : Payload) (names : List (List ℕ)) → IsLaidOut d → k < length d.items → (item_at d.items k).what ≡ w → is_payload w ≡ true → tiles_at d.items (pools_of d.items) k w ≡ tile (address_of d.items k) (size_of w) (IsPayload p) ∷ [] → named.named_by_payload (named.base_of (pieces d) (address_of d.items k)) p ≡ map (jump (named.base_of (pieces d) (address_of d.items k))) (targets_of d.items (address_of d.items k) names) → list_all (has_label d.items) names ≡ true → list_all (has_label (after_of d)) (labels_from (named.base_of (pieces d) (address_of d.items k)) (targets_of d.items (address_of d.items k) names)) ≡ true
+of_targets : (d : DraftValue) (k : ℕ) (w : What) (p : Payload) (names : List (List ℕ)) → IsLaidOut d → k < length d.items → (item_at d.items k).what ≡ w → is_payload w ≡ true → tiles_at d.items (pools_of d.items) k w ≡ tile (address_of d.items k) (size_of w) (IsPayload p) ∷ [] → named.named_by_payload (named.switch_address (pieces d) (address_of d.items k)) p ≡ map (jump (named.switch_address (pieces d) (address_of d.items k))) (targets_of d.items (address_of d.items k) names) → list_all (has_label d.items) names ≡ true → list_all (has_label (after_of d)) (labels_from (named.switch_address (pieces d) (address_of d.items k)) (targets_of d.items (address_of d.items k) names)) ≡ true
 of_targets d k w p names l within e payload tiles by has =
     let address = address_of d.items k in
     let ds = targets_of d.items address names in
     let before = (rebased d l k within (ap is_payload e ∙ payload)).before in
     let t = tile address (size_of w) (IsPayload p) in
     let mem = mem_to d.items (pools_of d.items) k (length d.items) t within (ap (tiles_at d.items (pools_of d.items) k) e ∙ tiles) in
-    let all : (a : ℕ) → list_any (λ n. nat_eq n a) (map (jump (named.base_of (pieces d) address)) ds) ≡ true → named.is_named (all_named d) a ≡ true =
+    let all : (a : ℕ) → list_any (λ n. nat_eq n a) (map (jump (named.switch_address (pieces d) address)) ds) ≡ true → named.is_label_address (all_named d) a ≡ true =
     λ a h. tile_listed d.items (after_of d) (layout d) (pieces d) (all_named d) a t (known d l) (ap (list_any (λ n. nat_eq n a)) by ∙ h) mem in
-    let P : ℕ → Type 0 = λ n. (a : ℕ) → list_any (λ m. nat_eq m a) (map (jump n) ds) ≡ true → named.is_named (all_named d) a ≡ true in
+    let P : ℕ → Type 0 = λ n. (a : ℕ) → list_any (λ m. nat_eq m a) (map (jump n) ds) ≡ true → named.is_label_address (all_named d) a ≡ true in
     ap (λ n. list_all (has_label (after_of d)) (labels_from n ds)) before ∙
     targets_there d (base_of d.items address) names l has (are_listed d.items (all_named d) (base_of d.items address) names (subst P before all))
 
-of_payload : (d : DraftValue) (k : ℕ) (w : What) (p : Payload) → IsLaidOut d → k < length d.items → (item_at d.items k).what ≡ w → HasContent d k w p → has_labels d.items w ≡ true → has_labels (after_of d) (payload_item (named.base_of (pieces d) (address_of d.items k)) p) ≡ true
+of_payload : (d : DraftValue) (k : ℕ) (w : What) (p : Payload) → IsLaidOut d → k < length d.items → (item_at d.items k).what ≡ w → HasContent d k w p → has_labels d.items w ≡ true → has_labels (after_of d) (payload_item (named.switch_address (pieces d) (address_of d.items k)) p) ≡ true
 of_payload d k (what.Label name) p l within e own has = absurd own
 of_payload d k (what.Op op) p l within e own has = absurd own
 of_payload d k (what.Packed first names) p l within e own has =
-    ap (λ x. has_labels (after_of d) (payload_item (named.base_of (pieces d) (address_of d.items k)) x)) (sym own) ∙
+    ap (λ x. has_labels (after_of d) (payload_item (named.switch_address (pieces d) (address_of d.items k)) x)) (sym own) ∙
     of_targets d k (what.Packed first names) (packed_of d.items (address_of d.items k) first names) names l within e refl refl refl has
 of_payload d k (what.Sparse keys names) p l within e own has =
-    ap (λ x. has_labels (after_of d) (payload_item (named.base_of (pieces d) (address_of d.items k)) x)) (sym own) ∙
+    ap (λ x. has_labels (after_of d) (payload_item (named.switch_address (pieces d) (address_of d.items k)) x)) (sym own) ∙
     of_targets d k (what.Sparse keys names) (sparse_of d.items (address_of d.items k) keys names) names l within e refl refl refl has
 of_payload d k (what.Data width bytes) p l within e own has =
-    ap (λ x. has_labels (after_of d) (payload_item (named.base_of (pieces d) (address_of d.items k)) x)) (sym own)
+    ap (λ x. has_labels (after_of d) (payload_item (named.switch_address (pieces d) (address_of d.items k)) x)) (sym own)
 
 -- each label that an item of the draft names is one of its items
 item_has : (d : DraftValue) → IsLaidOut d → (k : ℕ) → k < length (after_of d) → has_labels (after_of d) (item_at (after_of d) k).what ≡ true

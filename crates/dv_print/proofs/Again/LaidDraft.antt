@@ -22,7 +22,7 @@ use Rattle.dv_print.specs.declared.pieces.Piece.{Piece}
 use Rattle.dv_print.specs.Numbers.{label_name}
 use Rattle.dv_print.specs.Pieces.{part_of, piece_of, pieces_of}
 use Rattle.dv_print.specs.Named as named
-use Rattle.dv_print.specs.Named.{target_of, named_by_part, named_by_piece, named_by_try, addresses_named}
+use Rattle.dv_print.specs.Named.{target_of, named_by_part, named_by_piece, named_by_try, label_addresses}
 use Rattle.dv_print.specs.Drafting.{labels_at, draft_of}
 use Rattle.dv_asm.specs.Tiles.{tiles_of}
 use Rattle.dv_print.specs.Laws.{HaveNumbers}
@@ -86,7 +86,7 @@ abbrev pub pieces : DraftValue → List Piece
 pieces d = pieces_of (layout d).units
 
 abbrev pub all_named : DraftValue → List ℕ
-all_named d = addresses_named (pieces d) (layout d).tries
+all_named d = label_addresses (pieces d) (layout d).tries
 
 abbrev pub tiles : DraftValue → List Tile
 tiles d = tiles_of d.items (pools_of d.items) (length d.items)
@@ -116,7 +116,7 @@ switch_leads d l k a within s =
     let names : named_by_piece (pieces d) (piece_of t.tile) ≡ a ∷ [] = ap (λ x. named_by_part (pieces d) t.tile.at (part_of x)) t.to.is ∙ ap option_to_list target in
     let listed = tile_listed d.items (after_of d) (layout d) (pieces d) (all_named d) a t.tile (known d l) (ap (list_any (λ n. nat_eq n a)) names ∙ any_left (nat_eq a a) false same) t.mem in
     let P : ℕ → Type 0 = λ n. label_address (after_of d) (label_name n) ≡ n in
-    subst P s.leads (leads_to d.items (after_of d) (layout d) (pieces d) (all_named d) s.name (known d l) (are_short d.items l.none) has (ap (named.is_named (all_named d)) s.leads ∙ listed))
+    subst P s.leads (leads_to d.items (after_of d) (layout d) (pieces d) (all_named d) s.name (known d l) (are_short d.items l.none) has (ap (named.is_label_address (all_named d)) s.leads ∙ listed))
 
 pub none_repeated : (items : List Item) → item_refusal items ≡ None → repeated items ≡ None
 none_repeated items none = refused_none kind.Repeated (repeated items) (none_of (refused kind.Repeated (repeated items)) _ none).0
@@ -134,7 +134,7 @@ pub rebased : (d : DraftValue) → IsLaidOut d → (k : ℕ) → k < length d.it
 rebased d l k within payload =
     let p : HasPayload d.items (address_of d.items k) = record { place = k; within = within; payload = payload; at = refl } in
     record {
-      before = ap (λ ps. named.base_of ps (address_of d.items k)) (pieces_are d l.formed l.numbers l.none l.fit) ∙ base_before d.items (pools_of d.items) (address_of d.items k) l.formed (none_repeated d.items l.none) p;
+      before = ap (λ ps. named.switch_address ps (address_of d.items k)) (pieces_are d l.formed l.numbers l.none l.fit) ∙ base_before d.items (pools_of d.items) (address_of d.items k) l.formed (none_repeated d.items l.none) p;
       after_it = base_after d.items (after_of d) (pools_of d.items) (layout d) (pieces d) (all_named d) (labels_at (all_named d) (length (layout d).units)) (address_of d.items k) (drafts d l) p;
     }
 
@@ -144,10 +144,10 @@ pub tries_are : (d : DraftValue) → (layout d).tries ≡ tries_of d.items d.cat
 unfolding body_of
 tries_are d = refl
 
-pub entry_listed : (d : DraftValue) (a : ℕ) → named.is_named (entry_names d.items d.catches) a ≡ true → named.is_named (all_named d) a ≡ true
+pub entry_listed : (d : DraftValue) (a : ℕ) → named.is_label_address (entry_names d.items d.catches) a ≡ true → named.is_label_address (all_named d) a ≡ true
 entry_listed d a e =
     list_any-append (λ n. nat_eq n a) (flat_map (named_by_piece (pieces d)) (pieces d)) (flat_map named_by_try (layout d).tries) ∙
-    any_right _ _ (ap (λ ts. named.is_named (flat_map named_by_try ts) a) (tries_are d) ∙ e)
+    any_right _ _ (ap (λ ts. named.is_label_address (flat_map named_by_try ts) a) (tries_are d) ∙ e)
 
 pub handler_leads : (d : DraftValue) → IsLaidOut d → (j : ℕ) → j < length d.catches → Leads d.items (after_of d) (catch_at d.catches j)
 handler_leads d l j within =
@@ -155,7 +155,7 @@ handler_leads d l j within =
     let first = both (has_label d.items c.from) _ (catches_labelled d.items d.catches l.labels j within) in
     let rest = both (has_label d.items c.to) (has_label d.items c.at) first.1 in
     let names = handler_named d.items d.catches j within in
-    let to : (name : List ℕ) → has_label d.items name ≡ true → named.is_named (entry_names d.items d.catches) (label_address d.items name) ≡ true → LeadsTo (after_of d) (label_address d.items name) =
+    let to : (name : List ℕ) → has_label d.items name ≡ true → named.is_label_address (entry_names d.items d.catches) (label_address d.items name) ≡ true → LeadsTo (after_of d) (label_address d.items name) =
     λ name has e. leads_to d.items (after_of d) (layout d) (pieces d) (all_named d) name (known d l) (are_short d.items l.none) has (entry_listed d (label_address d.items name) e) in
     record {
       start = to c.from first.0 names.start;

@@ -14,7 +14,7 @@ use Rattle.dv_asm.specs.Places.{address_of}
 use Rattle.dv_asm.specs.Layout.{insn_of, packed_of, sparse_of, pools_of, layout}
 use Rattle.dv_print.specs.Pieces.{part_of}
 use Rattle.dv_print.specs.Named as named
-use Rattle.dv_print.specs.Drafting.{op_of, payload_item, part_item}
+use Rattle.dv_print.specs.Drafting.{drafted_op, payload_item, part_item}
 use Rattle.dv_print.proofs.Places.ItemTiles.{tiles_at, nop, Mem, OfItem, of_item}
 use Rattle.dv_print.proofs.Units.Rebased.{IsOfTile, IsPlaced}
 use Rattle.dv_print.proofs.Again.LaidDraft.{IsLaidOut, after_of, pieces, tiles, drafts}
@@ -29,7 +29,7 @@ HasContent d p (what.Data width bytes) x = payload.Data width bytes ≡ x
 
 -- item k of the draft is a nop that layout put before a payload
 pub record FromNop (d : DraftValue) (k : ℕ) : Type 0 where
-  pub is : (item_at (after_of d) k).what ≡ what.Op (op_of (layout d) (address_of (after_of d) k) (plain 0 (few [])))
+  pub is : (item_at (after_of d) k).what ≡ what.Op (drafted_op (layout d) (address_of (after_of d) k) (plain 0 (few [])))
 
 -- item k of the draft is made of an instruction of the draft before, and stands where that stands
 pub record FromOp (d : DraftValue) (k : ℕ) : Type 0 where
@@ -37,7 +37,7 @@ pub record FromOp (d : DraftValue) (k : ℕ) : Type 0 where
   pub within : place < length d.items
   pub op : Draftop
   pub own : (item_at d.items place).what ≡ what.Op op
-  pub is : (item_at (after_of d) k).what ≡ what.Op (op_of (layout d) (address_of d.items place) (insn_of d.items (pools_of d.items) place op))
+  pub is : (item_at (after_of d) k).what ≡ what.Op (drafted_op (layout d) (address_of d.items place) (insn_of d.items (pools_of d.items) place op))
   pub at : address_of (after_of d) k ≡ address_of d.items place
 
 -- item k of the draft is made of a payload of the draft before, and stands where that stands
@@ -46,7 +46,7 @@ pub record FromPayload (d : DraftValue) (k : ℕ) : Type 0 where
   pub within : place < length d.items
   pub payload : Payload
   pub own : HasContent d place (item_at d.items place).what payload
-  pub is : (item_at (after_of d) k).what ≡ payload_item (named.base_of (pieces d) (address_of d.items place)) payload
+  pub is : (item_at (after_of d) k).what ≡ payload_item (named.switch_address (pieces d) (address_of d.items place)) payload
   pub at : address_of (after_of d) k ≡ address_of d.items place
 
 abbrev pub Origin : DraftValue → ℕ → Type 0
@@ -78,7 +78,7 @@ pub origin : (d : DraftValue) → IsLaidOut d → (k : ℕ) → k < length (afte
 origin d l k within = at ((drafts d l).placed k within)
   where
     made : (f : IsOfTile (layout d) (pieces d) (tiles d) (item_at (after_of d) k).what (address_of (after_of d) k)) → (f.tile.item ≡ nop) ⊎ OfItem d.items (pools_of d.items) f.tile → Origin d k
-    made f (inl own) = inr (inl (record { is = f.is ∙ (ap (part_at d f.tile.at) own ∙ ap (λ n. what.Op (op_of (layout d) n (plain 0 (few [])))) f.at) }))
+    made f (inl own) = inr (inl (record { is = f.is ∙ (ap (part_at d f.tile.at) own ∙ ap (λ n. what.Op (drafted_op (layout d) n (plain 0 (few [])))) f.at) }))
     made f (inr o) = of_tile d k o.place f.tile (item_at d.items o.place).what o.within refl o.own f.is f.at
 
     at : IsPlaced (layout d) (pieces d) (tiles d) (item_at (after_of d) k).what (address_of (after_of d) k) → Origin d k

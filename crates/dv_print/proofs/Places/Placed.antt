@@ -11,7 +11,7 @@ use Rattle.dv_asm.specs.Places.{leads_to_payload}
 use Rattle.dv_print.specs.declared.pieces.Piece.{Piece}
 use Rattle.dv_print.specs.Numbers.{label_name}
 use Rattle.dv_print.specs.Pieces.{part_of, piece_of}
-use Rattle.dv_print.specs.Named.{is_named}
+use Rattle.dv_print.specs.Named.{is_label_address}
 use Rattle.dv_print.specs.Drafting.{part_item, piece_item, with_no_line, labels_at}
 use Rattle.dv_print.proofs.Places.ItemTiles.{Mem}
 use Rattle.dv_print.proofs.Places.Walk.{stays, StandFrom, ArePlaced, are_placed}
@@ -48,7 +48,7 @@ tiles_stand IsAt b all named final to (t ∷ ts) us from labels holds even tiles
     let is_even : leads_to_payload (x ∷ (rest ++ final)) ≡ true → t.at % 2 ≡ 0 = λ h. even t (inl refl) (sym (leads b all t.at t.item (rest ++ final)) ∙ h) in
     let behind : StandFrom IsAt to (t.at + size_of x.what) (rest ++ final) =
     subst Q (let e : from + t.size ≡ t.at + size_of x.what = omega (arith, tiles.0, tile_size b all t us tiles.1 tiles.2) in e) later in
-    let here = label_stands IsAt to t.at (is_named named t.at) (x ∷ (rest ++ final)) labels is_even (stays t.at (x ∷ (rest ++ final)) is_even, holds t (inl refl), behind) in
+    let here = label_stands IsAt to t.at (is_label_address named t.at) (x ∷ (rest ++ final)) labels is_even (stays t.at (x ∷ (rest ++ final)) is_even, holds t (inl refl), behind) in
     let R : List Item → Type 0 = λ xs. StandFrom IsAt to t.at xs in
     let S : ℕ → Type 0 = λ n. StandFrom IsAt to n (tile_items b all named (t ∷ ts) ++ final) in
     subst S tiles.0 (subst R (sym (regroup (labels_at named t.at) x rest final)) here)
@@ -59,7 +59,7 @@ items_placed IsAt b all named items ts labels holds start tiles even =
     let to = length b.units in
     let end : StandFrom IsAt to to (labels_at named to) =
     let P : List Item → Type 0 = λ xs. StandFrom IsAt to to xs in
-    subst P (last (is_named named to)) (label_stands IsAt to to (is_named named to) [] labels (λ h. absurd (cc)) refl) in
+    subst P (last (is_label_address named to)) (label_stands IsAt to to (is_label_address named to) [] labels (λ h. absurd (cc)) refl) in
     let Q : List Item → Type 0 = λ xs. StandFrom IsAt to 0 xs in
     let R : ℕ → Type 0 = λ n. StandFrom IsAt to n (labels_at named to) in
     are_placed IsAt items to (subst Q (sym start) (tiles_stand IsAt b all named (labels_at named to) to ts b.units 0 labels holds even tiles (subst R (let e : to ≡ 0 + to = omega arith in e) end)))

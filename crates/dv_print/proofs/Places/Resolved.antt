@@ -66,16 +66,16 @@ later_in (x ∷ xs) ys j y e =
     let n : suc (length xs) + j ≡ suc (length xs + j) = omega arith in
     ap (slice_get (x ∷ xs ++ ys)) n ∙ later_in xs ys j y e
 
-pub label_here : (names : List ℕ) (a : ℕ) → named.is_named names a ≡ true → labels_at names a ≡ with_no_line (what.Label (label_name a)) ∷ []
+pub label_here : (names : List ℕ) (a : ℕ) → named.is_label_address names a ≡ true → labels_at names a ≡ with_no_line (what.Label (label_name a)) ∷ []
 label_here names a e = ap (λ c. if c then with_no_line (what.Label (label_name a)) ∷ [] else []) e
 
 abbrev pub Stands : ℕ → List Item → Type 0
 Stands a items = (j : ℕ) × (slice_get items j ≡ Some (with_no_line (what.Label (label_name a))))
 
-pub stands_in : (b : BodyValue) (all : List Piece) (names : List ℕ) (a : ℕ) (ts : List Tile) → named.is_named names a ≡ true → HasAt a ts → Stands a (tile_items b all names ts)
+pub stands_in : (b : BodyValue) (all : List Piece) (names : List ℕ) (a : ℕ) (ts : List Tile) → named.is_label_address names a ≡ true → HasAt a ts → Stands a (tile_items b all names ts)
 stands_in b all names a [] e h = absurd h
 stands_in b all names a (t ∷ ts) e (inl same) =
-    let here : named.is_named names t.at ≡ true = ap (named.is_named names) same ∙ e in
+    let here : named.is_label_address names t.at ≡ true = ap (named.is_label_address names) same ∙ e in
     let first = ap (λ ls. slice_get ((ls ++ piece_item b all (piece_of t) ∷ []) ++ tile_items b all names ts) 0) (label_here names t.at here) in
     (0, first ∙ ap (λ n. Some (with_no_line (what.Label (label_name n)))) same)
 stands_in b all names a (t ∷ ts) e (inr later) =

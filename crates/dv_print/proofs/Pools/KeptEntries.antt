@@ -34,7 +34,7 @@ use Rattle.dv_asm.specs.Pools.{with_entry_if_any, with_entries, pool_ref, chars_
 use Rattle.dv_asm.specs.Layout.{kind_in, with_kinds, sorted_ranges, pools_of, units_of, body_of, layout}
 use Rattle.dv_print.specs.declared.pieces.Piece.{Piece}
 use Rattle.dv_print.specs.Pieces.{piece_of, pieces_of}
-use Rattle.dv_print.specs.Named.{is_named, addresses_named}
+use Rattle.dv_print.specs.Named.{is_label_address, label_addresses}
 use Rattle.dv_print.specs.Drafting.{found_as, entry_in, piece_item, labels_at, items_at, items_in, draft_of}
 use Rattle.dv_asm.specs.Tiles as laid
 use Rattle.dv_asm.specs.Tiles.{nops_between}
@@ -148,7 +148,7 @@ labels_by true item e = ap (λ xs. xs ++ []) e
 labels_by false item e = refl
 
 labels_name_none : (named : List ℕ) (address : ℕ) → entries_of (labels_at named address) ≡ []
-labels_name_none named address = labels_by (is_named named address) _ refl
+labels_name_none named address = labels_by (is_label_address named address) _ refl
 
 at_entries : (b : BodyValue) (all : List Piece) (named : List ℕ) (p : Piece) → entries_of (items_at b all named p) ≡ piece_entries b all p
 at_entries b all named p =
@@ -219,7 +219,7 @@ pub pieces_are : (d : DraftValue) → AreFormed d.items → HaveNumbers d.items 
 unfolding body_of
 pieces_are d formed numbers none fit = ap (λ r. map piece_of (tiles_in r)) (layout_is_tiled d.items formed numbers none fit)
 
-pub draft_items : (b : BodyValue) → (draft_of b).items ≡ items_in b (pieces_of b.units) (addresses_named (pieces_of b.units) b.tries)
+pub draft_items : (b : BodyValue) → (draft_of b).items ≡ items_in b (pieces_of b.units) (label_addresses (pieces_of b.units) b.tries)
 unfolding draft_of
 draft_items b = refl
 
@@ -228,7 +228,7 @@ draft_keeps_entries d formed numbers none fit =
     let b = layout d in
     let all = pieces_of b.units in
     let whole : entries_of (draft_of b).items ≡ entries_of d.items =
-    ap entries_of (draft_items b) ∙ (items_entries b all (addresses_named all b.tries) ∙
+    ap entries_of (draft_items b) ∙ (items_entries b all (label_addresses all b.tries) ∙
     (ap (flat_map (piece_entries b all)) (pieces_are d formed numbers none fit) ∙
     (entries_to b all d.items (length d.items) (has_pools d) formed (omega arith) ∙ ap entries_of (take-length d.items)))) in
     record { entries = whole; pools = same_pools d.items (draft_of b).items whole }

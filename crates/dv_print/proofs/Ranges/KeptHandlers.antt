@@ -22,7 +22,7 @@ use Rattle.dv_asm.specs.Refusals.{no_catch, catch_at, range_of, ranges_of, is_em
 use Rattle.dv_asm.specs.Layout.{sorted_ranges, kind_in, with_kinds, pools_of, types_of, handler_of, catches_of, entry_of, tries_of}
 use Rattle.dv_asm.proofs.FirstLemmas.{first_line_none, not_when}
 use Rattle.dv_print.specs.Numbers.{label_name}
-use Rattle.dv_print.specs.Drafting.{kind_of, catch_of, catches_of_try}
+use Rattle.dv_print.specs.Drafting.{handler_type, catch_of, catches_of_try}
 use Rattle.dv_print.specs.Laws.{Among, IsSorted, AreRangesOf}
 use Rattle.dv_print.proofs.Truth.{neither, none_of, refused_none}
 use Rattle.dv_print.proofs.Pools.Entries.{types_tell, Holds, holds, not_before, at_index}
@@ -156,7 +156,7 @@ settled_by a b k l m n e f g = cc
 abbrev again_of : List Item → List Ty → Try → Catch → Catch
 again_of items types t c = catch_of types t (handler_of items types c)
 
-settled_again : (items after : List Item) (types : List Ty) (t : Try) (c : Catch) → Leads items after c → kind_of types (handler_of items types c) ≡ c.kind → t.start ≡ label_address items c.from → t.end ≡ label_address items c.to → settled after (again_of items types t c) ≡ settled items c
+settled_again : (items after : List Item) (types : List Ty) (t : Try) (c : Catch) → Leads items after c → handler_type types (handler_of items types c) ≡ c.kind → t.start ≡ label_address items c.from → t.end ≡ label_address items c.to → settled after (again_of items types t c) ≡ settled items c
 settled_again items after types t c leads same start end =
     let address : ℕ → ℕ = λ a. label_address after (label_name a) in
     settled_by _ _ _ _ _ _ (range_by _ _ _ _ (ap address start ∙ leads.start) (ap address end ∙ leads.end)) same leads.at
@@ -177,7 +177,7 @@ same_flat f g (x ∷ xs) same = ap (λ ys. ys ++ flat_map f xs) (same x) ∙ ap 
 -- the labels of each handler lead where they led, and its kind is in the pool
 abbrev AreKept : List Item → List Item → List Catch → List Ty → Type 0
 AreKept items after catches types =
-    (j : ℕ) → j < length catches → Leads items after (catch_at catches j) × (kind_of types (handler_of items types (catch_at catches j)) ≡ (catch_at catches j).kind)
+    (j : ℕ) → j < length catches → Leads items after (catch_at catches j) × (handler_type types (handler_of items types (catch_at catches j)) ≡ (catch_at catches j).kind)
 
 entry_again : (items after : List Item) (catches : List Catch) (types : List Ty) → AreKept items after catches types → (r : TryRange) → all_settled after (catches_of_try types (entry_of items catches types r)) ≡ group (all_settled items catches) r
 entry_again items after catches types are_kept r =

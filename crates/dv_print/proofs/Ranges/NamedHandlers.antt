@@ -10,7 +10,7 @@ use Rattle.dv_asm.specs.declared.tries.TryRange.{TryRange}
 use Rattle.dv_asm.specs.Places.{label_address}
 use Rattle.dv_asm.specs.Refusals.{catch_at, range_of, is_same}
 use Rattle.dv_asm.specs.Layout.{sorted_ranges, types_of, handler_of, catches_of, entry_of, tries_of}
-use Rattle.dv_print.specs.Named.{handler_address, named_by_try, is_named}
+use Rattle.dv_print.specs.Named.{handler_address, named_by_try, is_label_address}
 use Rattle.dv_print.specs.Laws.{Among}
 use Rattle.dv_print.proofs.Truth.{any_left, any_right, itself}
 use Rattle.dv_asm.proofs.RangeLemmas.{same_itself}
@@ -48,9 +48,9 @@ entry_names items catches = flat_map named_by_try (tries_of items catches (types
 
 -- the entries name the addresses that a handler names
 pub record IsNamedByEntries (items : List Item) (catches : List Catch) (c : Catch) : Type 0 where
-  pub start : is_named (entry_names items catches) (label_address items c.from) ≡ true
-  pub end : is_named (entry_names items catches) (label_address items c.to) ≡ true
-  pub at : is_named (entry_names items catches) (label_address items c.at) ≡ true
+  pub start : is_label_address (entry_names items catches) (label_address items c.from) ≡ true
+  pub end : is_label_address (entry_names items catches) (label_address items c.to) ≡ true
+  pub at : is_label_address (entry_names items catches) (label_address items c.at) ≡ true
 
 -- each address that a handler names is among those that the entries name
 pub handler_named : (items : List Item) (catches : List Catch) (j : ℕ) → j < length catches → IsNamedByEntries items catches (catch_at catches j)

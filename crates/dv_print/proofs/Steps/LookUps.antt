@@ -13,26 +13,26 @@ use Rattle.dv_asm.specs.First.{when}
 use Rattle.dv_asm.specs.declared.draft.What.TheVariants as what
 use Rattle.dv_print.specs.declared.pieces.Piece.{Piece}
 use Rattle.dv_print.specs.Numbers.{label_name}
-use Rattle.dv_print.specs.Named.{place_of, switches_to, is_named}
+use Rattle.dv_print.specs.Named.{piece_address, switches_to, is_label_address}
 use Rattle.dv_print.specs.Drafting.{piece_item, with_no_line, labels_at, items_in}
 
 mapped_or : {X Y : Type 0} (f : X → Y) (a b : Option X) → option_map f (option_or a b) ≡ option_or (option_map f a) (option_map f b)
 mapped_or f None b = refl
 mapped_or f (Some x) b = refl
 
-one_by : (c : Bool) (p : Piece) → option_map place_of (if c then Some p else None) ≡ when c p.at
+one_by : (c : Bool) (p : Piece) → option_map piece_address (if c then Some p else None) ≡ when c p.at
 one_by true p = refl
 one_by false p = refl
 
 -- one more piece is looked at
-pub switch_more : (pieces : List Piece) (k : ℕ) (p : Piece) (address : ℕ) → k < length pieces → p ≡ get_or pieces k p → option_map place_of (find (switches_to address) (take (k + 1) pieces)) ≡ option_or (option_map place_of (find (switches_to address) (take k pieces))) (when (switches_to address p) p.at)
+pub switch_more : (pieces : List Piece) (k : ℕ) (p : Piece) (address : ℕ) → k < length pieces → p ≡ get_or pieces k p → option_map piece_address (find (switches_to address) (take (k + 1) pieces)) ≡ option_or (option_map piece_address (find (switches_to address) (take k pieces))) (when (switches_to address p) p.at)
 switch_more pieces k p address within at =
     let next : take (k + 1) pieces ≡ take k pieces ++ p ∷ [] = take_more pieces k p within ∙ ap (λ (x : Piece). take k pieces ++ x ∷ []) (sym at) in
     let found = switches_to address in
-    ap (λ xs. option_map place_of (find found xs)) next ∙
-    (ap (option_map place_of) (find-append found (take k pieces) (p ∷ [])) ∙
-    (mapped_or place_of (find found (take k pieces)) (find found (p ∷ [])) ∙
-    ap (option_or (option_map place_of (find found (take k pieces)))) (one_by (found p) p)))
+    ap (λ xs. option_map piece_address (find found xs)) next ∙
+    (ap (option_map piece_address) (find-append found (take k pieces) (p ∷ [])) ∙
+    (mapped_or piece_address (find found (take k pieces)) (find found (p ∷ [])) ∙
+    ap (option_or (option_map piece_address (find found (take k pieces)))) (one_by (found p) p)))
 
 -- ---- addresses that are named
 
@@ -40,39 +40,39 @@ turned : (a b : ℕ) → nat_eq a b ≡ nat_eq b a
 turned a b = grind (arith, nat_tests)
 
 -- a set's look-up is that of the definition
-pub found_in_set : (addresses : List ℕ) (address : ℕ) → list_any (nat_eq address) addresses ≡ is_named addresses address
+pub found_in_set : (addresses : List ℕ) (address : ℕ) → list_any (nat_eq address) addresses ≡ is_label_address addresses address
 found_in_set addresses address = λ i. list_any (λ a. turned address a i) addresses
 
 or_false : (c : Bool) → (c || false) ≡ c
 or_false true = refl
 or_false false = refl
 
-pushed : (addresses : List ℕ) (new address : ℕ) → is_named (addresses ++ new ∷ []) address ≡ (is_named addresses address || nat_eq new address)
-pushed addresses new address = list_any-append (λ a. nat_eq a address) addresses (new ∷ []) ∙ ap (λ c. is_named addresses address || c) (or_false (nat_eq new address))
+pushed : (addresses : List ℕ) (new address : ℕ) → is_label_address (addresses ++ new ∷ []) address ≡ (is_label_address addresses address || nat_eq new address)
+pushed addresses new address = list_any-append (λ a. nat_eq a address) addresses (new ∷ []) ∙ ap (λ c. is_label_address addresses address || c) (or_false (nat_eq new address))
 
-inserted : (c : Bool) (addresses : List ℕ) (new address : ℕ) → is_named addresses new ≡ c → is_named (if c then addresses else addresses ++ new ∷ []) address ≡ (is_named addresses address || nat_eq new address)
+inserted : (c : Bool) (addresses : List ℕ) (new address : ℕ) → is_label_address addresses new ≡ c → is_label_address (if c then addresses else addresses ++ new ∷ []) address ≡ (is_label_address addresses address || nat_eq new address)
 inserted false addresses new address e = pushed addresses new address
 inserted true addresses new address e = at (nat_eq new address) refl
   where
-    at : (c : Bool) → nat_eq new address ≡ c → is_named addresses address ≡ (is_named addresses address || c)
+    at : (c : Bool) → nat_eq new address ≡ c → is_label_address addresses address ≡ (is_label_address addresses address || c)
     at true same =
-        let there : is_named addresses address ≡ true = ap (is_named addresses) (sym (eqb-true new address same)) ∙ e in
+        let there : is_label_address addresses address ≡ true = ap (is_label_address addresses) (sym (eqb-true new address same)) ∙ e in
         there ∙ sym (ap (λ c. c || true) there)
-    at false same = sym (or_false (is_named addresses address))
+    at false same = sym (or_false (is_label_address addresses address))
 
 -- one more address is named
-pub named_more : (list addresses : List ℕ) (k address : ℕ) → k < length list → ((a : ℕ) → is_named addresses a ≡ is_named (take k list) a) → is_named (insert_key nat_eq addresses (get_or list k 0)) address ≡ is_named (take (k + 1) list) address
+pub named_more : (list addresses : List ℕ) (k address : ℕ) → k < length list → ((a : ℕ) → is_label_address addresses a ≡ is_label_address (take k list) a) → is_label_address (insert_key nat_eq addresses (get_or list k 0)) address ≡ is_label_address (take (k + 1) list) address
 named_more list addresses k address within before =
     let new = get_or list k 0 in
-    ap (λ (c : Bool). is_named (if c then addresses else addresses ++ new ∷ []) address) (found_in_set addresses new) ∙
-    (inserted (is_named addresses new) addresses new address refl ∙
+    ap (λ (c : Bool). is_label_address (if c then addresses else addresses ++ new ∷ []) address) (found_in_set addresses new) ∙
+    (inserted (is_label_address addresses new) addresses new address refl ∙
     (ap (λ c. c || nat_eq new address) (before address) ∙
-    (sym (pushed (take k list) new address) ∙ ap (λ ns. is_named ns address) (sym (take_more list k 0 within)))))
+    (sym (pushed (take k list) new address) ∙ ap (λ ns. is_label_address ns address) (sym (take_more list k 0 within)))))
 
-label_same : (xs ys : List ℕ) → ((address : ℕ) → is_named xs address ≡ is_named ys address) → (address : ℕ) → labels_at xs address ≡ labels_at ys address
+label_same : (xs ys : List ℕ) → ((address : ℕ) → is_label_address xs address ≡ is_label_address ys address) → (address : ℕ) → labels_at xs address ≡ labels_at ys address
 label_same xs ys same address = ap (λ (c : Bool). if c then with_no_line (what.Label (label_name address)) ∷ [] else []) (same address)
 
 -- the items are the same for lists of the same addresses
-pub items_same : (b : BodyValue) (pieces : List Piece) (xs ys : List ℕ) → ((address : ℕ) → is_named xs address ≡ is_named ys address) → items_in b pieces xs ≡ items_in b pieces ys
+pub items_same : (b : BodyValue) (pieces : List Piece) (xs ys : List ℕ) → ((address : ℕ) → is_label_address xs address ≡ is_label_address ys address) → items_in b pieces xs ≡ items_in b pieces ys
 items_same b pieces xs ys same =
     λ i. flat_map (λ (p : Piece). label_same xs ys same p.at i ++ piece_item b pieces p ∷ []) pieces ++ label_same xs ys same (length b.units) i

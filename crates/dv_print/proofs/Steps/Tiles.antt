@@ -16,7 +16,7 @@ use Rattle.dv_units.proofs.Decoding.{fit_from}
 use Rattle.dv_units.proofs.PayloadsHere.{stands_here, taken_stands}
 use Rattle.dv_print.specs.declared.pieces.Part.{Part}
 use Rattle.dv_print.specs.declared.pieces.Piece.{Piece}
-use Rattle.dv_print.specs.Pieces.{part_of, piece_of, sized, insn_sized, payload_sized, pieces_of}
+use Rattle.dv_print.specs.Pieces.{part_of, piece_of, part_sized, insn_sized, payload_sized, pieces_of}
 
 -- a payload that stands at an address, with its units
 pub record Stands (p : Payload) (units : List ℕ) (at : ℕ) : Type 0 where
@@ -42,11 +42,11 @@ none_by (Some x) units at t e none =
 pub no_payload_here : (units : List ℕ) (at : ℕ) → all_fit 16 units ≡ true → NoPayloadStandsAt units at → payload_here (drop at units) ≡ None
 no_payload_here units at t none = none_by (payload_here (drop at units)) units at t refl none
 
-sized_payload : (o : Option SizedPayload) → option_map sized (payload_piece o) ≡ option_map payload_sized o
+sized_payload : (o : Option SizedPayload) → option_map part_sized (payload_piece o) ≡ option_map payload_sized o
 sized_payload None = refl
 sized_payload (Some x) = refl
 
-sized_insn : (o : Option Sized) → option_map sized (insn_piece o) ≡ option_map insn_sized o
+sized_insn : (o : Option Sized) → option_map part_sized (insn_piece o) ≡ option_map insn_sized o
 sized_insn None = refl
 sized_insn (Some x) = refl
 
@@ -56,24 +56,24 @@ payload_if b o = elim b [ true ↦ o | false ↦ None ]
 abbrev piece_if : Bool → Option SizedPayload → Option Sized → Option tiling.Piece
 piece_if b o i = elim b [ true ↦ payload_piece o | false ↦ insn_piece i ]
 
-payload_first : (us : List ℕ) → 0 < length us → begins_payload (get_or us 0 0) ≡ true → option_map sized (piece_here us) ≡ option_map payload_sized (payload_here us)
+payload_first : (us : List ℕ) → 0 < length us → begins_payload (get_or us 0 0) ≡ true → option_map part_sized (piece_here us) ≡ option_map payload_sized (payload_here us)
 payload_first [] h b = absurd (omega arith)
 payload_first (u ∷ us) h b =
-    ap (λ c. option_map sized (piece_if c (payload_of (u / 256) us) (insn_here (u ∷ us)))) b ∙
+    ap (λ c. option_map part_sized (piece_if c (payload_of (u / 256) us) (insn_here (u ∷ us)))) b ∙
     (sized_payload (payload_of (u / 256) us) ∙ ap (λ c. option_map payload_sized (payload_if c (payload_of (u / 256) us))) (sym b))
 
-insn_first : (us : List ℕ) → 0 < length us → begins_payload (get_or us 0 0) ≡ false → option_map sized (piece_here us) ≡ option_map insn_sized (insn_here us)
+insn_first : (us : List ℕ) → 0 < length us → begins_payload (get_or us 0 0) ≡ false → option_map part_sized (piece_here us) ≡ option_map insn_sized (insn_here us)
 insn_first [] h b = absurd (omega arith)
-insn_first (u ∷ us) h b = ap (λ c. option_map sized (piece_if c (payload_of (u / 256) us) (insn_here (u ∷ us)))) b ∙ sized_insn (insn_here (u ∷ us))
+insn_first (u ∷ us) h b = ap (λ c. option_map part_sized (piece_if c (payload_of (u / 256) us) (insn_here (u ∷ us)))) b ∙ sized_insn (insn_here (u ∷ us))
 
 first_there : (units : List ℕ) (at : ℕ) → get_or (drop at units) 0 0 ≡ get_or units at 0
 first_there units at = get_or-drop at units 0 0 ∙ ap (λ k. get_or units k 0) (add-zero at)
 
 -- what begins at an address
-pub payload_begins : (units : List ℕ) (at : ℕ) → at < length units → begins_payload (get_or units at 0) ≡ true → option_map sized (piece_here (drop at units)) ≡ option_map payload_sized (payload_here (drop at units))
+pub payload_begins : (units : List ℕ) (at : ℕ) → at < length units → begins_payload (get_or units at 0) ≡ true → option_map part_sized (piece_here (drop at units)) ≡ option_map payload_sized (payload_here (drop at units))
 payload_begins units at h b = payload_first (drop at units) (omega (arith, length-drop at units)) (ap begins_payload (first_there units at) ∙ b)
 
-pub insn_begins : (units : List ℕ) (at : ℕ) → at < length units → begins_payload (get_or units at 0) ≡ false → option_map sized (piece_here (drop at units)) ≡ option_map insn_sized (insn_here (drop at units))
+pub insn_begins : (units : List ℕ) (at : ℕ) → at < length units → begins_payload (get_or units at 0) ≡ false → option_map part_sized (piece_here (drop at units)) ≡ option_map insn_sized (insn_here (drop at units))
 insn_begins units at h b = insn_first (drop at units) (omega (arith, length-drop at units)) (ap begins_payload (first_there units at) ∙ b)
 
 -- an item has units, and they are there
@@ -89,11 +89,11 @@ fits_there units at p t h e =
       within = omega (arith, s.0, length-drop at units);
     }
 
-part_by : (o : Option tiling.Piece) (units : List ℕ) (at : ℕ) → all_fit 16 units ≡ true → at < length units → piece_here (drop at units) ≡ o → IfSome (option_map sized o) (λ x. (0 < x.1) × (at + x.1 ≤ length units))
+part_by : (o : Option tiling.Piece) (units : List ℕ) (at : ℕ) → all_fit 16 units ≡ true → at < length units → piece_here (drop at units) ≡ o → IfSome (option_map part_sized o) (λ x. (0 < x.1) × (at + x.1 ≤ length units))
 part_by None units at t h e = tt
 part_by (Some p) units at t h e = let f = fits_there units at p t h e in (f.positive, f.within)
 
-pub part_fits : (r : Option (Part × ℕ)) (units : List ℕ) (at : ℕ) → all_fit 16 units ≡ true → at < length units → r ≡ option_map sized (piece_here (drop at units)) → IfSome r (λ x. (0 < x.1) × (at + x.1 ≤ length units))
+pub part_fits : (r : Option (Part × ℕ)) (units : List ℕ) (at : ℕ) → all_fit 16 units ≡ true → at < length units → r ≡ option_map part_sized (piece_here (drop at units)) → IfSome r (λ x. (0 < x.1) × (at + x.1 ≤ length units))
 part_fits r units at t h e =
     let P : Option (Part × ℕ) → Type 0 = λ o. IfSome o (λ x. (0 < x.1) × (at + x.1 ≤ length units)) in
     subst P (sym e) (part_by (piece_here (drop at units)) units at t h refl)
@@ -168,17 +168,17 @@ more units done at p s e h k =
       rest = one_done done (tile at p) (tiled (at + p.size) 0 (drop (at + p.size) units)) ∙ (ap (λ r. with_done done (shown r)) (sym step) ∙ s.rest);
     }
 
-more_by : (o : Option tiling.Piece) (units : List ℕ) (done : List Piece) (at : ℕ) (q : Part) (size : ℕ) → AreSoFar units done at → piece_here (drop at units) ≡ o → (let r : Option (Part × ℕ) = Some (q, size) in r) ≡ option_map sized o → 0 < size → at + size ≤ length units → AreSoFar units (done ++ record { at = at; part = q } ∷ []) (at + size)
+more_by : (o : Option tiling.Piece) (units : List ℕ) (done : List Piece) (at : ℕ) (q : Part) (size : ℕ) → AreSoFar units done at → piece_here (drop at units) ≡ o → (let r : Option (Part × ℕ) = Some (q, size) in r) ≡ option_map part_sized o → 0 < size → at + size ≤ length units → AreSoFar units (done ++ record { at = at; part = q } ∷ []) (at + size)
 more_by None units done at q size s e r h k = absurd (cc)
 more_by (Some p) units done at q size s e r h k =
-    let parts : (let x : Part × ℕ = (q, size) in x) ≡ sized p = cc in
+    let parts : (let x : Part × ℕ = (q, size) in x) ≡ part_sized p = cc in
     let same_part : part_of p.item ≡ q = sym (ap (λ x. x.0) parts) in
     let same_size : p.size ≡ size = sym (ap (λ x. x.1) parts) in
     let P : Part → Type 0 = λ x. AreSoFar units (done ++ record { at = at; part = x } ∷ []) (at + size) in
     let Q : ℕ → Type 0 = λ n. AreSoFar units (done ++ piece_of (tile at p) ∷ []) (at + n) in
     subst P same_part (subst Q same_size (more units done at p s e (omega arith) (omega arith)))
 
-pub one_more : (units : List ℕ) (done : List Piece) (at : ℕ) (q : Part) (size : ℕ) → AreSoFar units done at → (let r : Option (Part × ℕ) = Some (q, size) in r) ≡ option_map sized (piece_here (drop at units)) → 0 < size → at + size ≤ length units → AreSoFar units (done ++ record { at = at; part = q } ∷ []) (at + size)
+pub one_more : (units : List ℕ) (done : List Piece) (at : ℕ) (q : Part) (size : ℕ) → AreSoFar units done at → (let r : Option (Part × ℕ) = Some (q, size) in r) ≡ option_map part_sized (piece_here (drop at units)) → 0 < size → at + size ≤ length units → AreSoFar units (done ++ record { at = at; part = q } ∷ []) (at + size)
 one_more units done at q size s r h k = more_by (piece_here (drop at units)) units done at q size s refl r h k
 
 abbrev IsShown : Option (List Piece) → Result (List Tile) ℕ → Type 0
@@ -192,12 +192,12 @@ is_shown (Err at) = refl
 shown_as : (o : Option (List Piece)) (r : Result (List Tile) ℕ) → o ≡ shown r → IsShown o r
 shown_as o r e = let P : Option (List Piece) → Type 0 = λ x. IsShown x r in subst P (sym e) (is_shown r)
 
-none_of : (o : Option tiling.Piece) → (let r : Option (Part × ℕ) = None in r) ≡ option_map sized o → o ≡ None
+none_of : (o : Option tiling.Piece) → (let r : Option (Part × ℕ) = None in r) ≡ option_map part_sized o → o ≡ None
 none_of None e = refl
 none_of (Some p) e = absurd (cc)
 
 -- where none begins at an address, there are none at all
-pub none_more : (units : List ℕ) (done : List Piece) (at : ℕ) → AreSoFar units done at → at < length units → (let r : Option (Part × ℕ) = None in r) ≡ option_map sized (piece_here (drop at units)) → [] ≡ pieces_of units
+pub none_more : (units : List ℕ) (done : List Piece) (at : ℕ) → AreSoFar units done at → at < length units → (let r : Option (Part × ℕ) = None in r) ≡ option_map part_sized (piece_here (drop at units)) → [] ≡ pieces_of units
 none_more units done at s h e =
     let room : 0 < length (drop at units) = omega (arith, length-drop at units) in
     let stops = none_next at (drop at units) (none_of (piece_here (drop at units)) e) room in

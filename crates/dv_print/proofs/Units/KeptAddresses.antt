@@ -11,7 +11,7 @@ use Rattle.dv_asm.specs.Refusals.{item_refusal}
 use Rattle.dv_asm.specs.Layout.{pools_of, body_of, layout}
 use Rattle.dv_print.specs.declared.pieces.Piece.{Piece}
 use Rattle.dv_print.specs.Pieces.{pieces_of}
-use Rattle.dv_print.specs.Named.{addresses_named}
+use Rattle.dv_print.specs.Named.{label_addresses}
 use Rattle.dv_print.specs.Drafting.{labels_at, items_at, draft_of}
 use Rattle.dv_asm.specs.Tiles.{tiles_of}
 use Rattle.dv_print.specs.Laws.{HaveNumbers, KeepsAddresses, IsNamedBy}
@@ -32,11 +32,11 @@ tiles_are d formed numbers none fit = found_tiles _ 0 _ fit (layout_is_tiled d.i
 
 -- the items of the draft are those of the tiles
 pub draft_starts : (d : DraftValue) → AreFormed d.items → HaveNumbers d.items → item_refusal d.items ≡ None → IsTrue (all_fit 16 (layout d).units) →
-    (let b = layout d in let named = addresses_named (pieces_of b.units) b.tries in (draft_of b).items ≡ tile_items b (pieces_of b.units) named (tiles_of d.items (pools_of d.items) (length d.items)) ++ labels_at named (length b.units))
+    (let b = layout d in let named = label_addresses (pieces_of b.units) b.tries in (draft_of b).items ≡ tile_items b (pieces_of b.units) named (tiles_of d.items (pools_of d.items) (length d.items)) ++ labels_at named (length b.units))
 draft_starts d formed numbers none fit =
     let b = layout d in
     let all = pieces_of b.units in
-    let named = addresses_named all b.tries in
+    let named = label_addresses all b.tries in
     draft_items b ∙ ap (λ ps. flat_map (items_at b all named) ps ++ labels_at named (length b.units)) (pieces_are d formed numbers none fit)
 
 pub draft_keeps_addresses : (d : DraftValue) → AreFormed d.items → HaveNumbers d.items → item_refusal d.items ≡ None → IsTrue (all_fit 16 (layout d).units) → KeepsAddresses (draft_of (layout d)).items (layout d).units
@@ -44,5 +44,5 @@ draft_keeps_addresses d formed numbers none fit =
     let b = layout d in
     let all = pieces_of b.units in
     let ts = tiles_of d.items (pools_of d.items) (length d.items) in
-    let p = items_placed IsNamedBy b all (addresses_named all b.tries) (draft_of b).items ts labelled (unlabelled b all ts) (draft_starts d formed numbers none fit) (tiles_are d formed numbers none fit) (even_tiles d.items (pools_of d.items)) in
+    let p = items_placed IsNamedBy b all (label_addresses all b.tries) (draft_of b).items ts labelled (unlabelled b all ts) (draft_starts d formed numbers none fit) (tiles_are d formed numbers none fit) (even_tiles d.items (pools_of d.items)) in
     record { labels = p.placed; size = p.size }

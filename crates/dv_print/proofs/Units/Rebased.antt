@@ -28,7 +28,7 @@ use Rattle.dv_print.specs.Numbers.{label_name}
 use Rattle.dv_defs.specs.Formats.{format_at, has_offset}
 use Rattle.dv_print.specs.Pieces.{part_of, piece_of}
 use Rattle.dv_print.specs.Named.{target_of}
-use Rattle.dv_print.specs.Drafting.{op_of, part_item, piece_item, labels_at, items_at}
+use Rattle.dv_print.specs.Drafting.{drafted_op, part_item, piece_item, labels_at, items_at}
 use Rattle.dv_asm.specs.Tiles.{tiles_of}
 use Rattle.dv_print.proofs.Truth.{either}
 use Rattle.dv_print.proofs.Pools.Entries.{appended, not_before}
@@ -75,13 +75,13 @@ item_in b all names t (s ∷ ts) (inr later) =
 record OfInsn (b : BodyValue) (t : Tile) (op : Draftop) : Type 0 where
   insn : Insn
   is : t.item ≡ IsInsn insn
-  made : op ≡ op_of b t.at insn
+  made : op ≡ drafted_op b t.at insn
 
 op_same : (p q : Draftop) → what.Op p ≡ what.Op q → p ≡ q
 op_same p q e = cc
 
 of_insn : (b : BodyValue) (all : List Piece) (t : Tile) (op : Draftop) (x : tiling.Item) → t.item ≡ x → what.Op op ≡ part_item b all t.at (part_of x) → OfInsn b t op
-of_insn b all t op (IsInsn i) e h = record { insn = i; is = e; made = op_same op (op_of b t.at i) h }
+of_insn b all t op (IsInsn i) e h = record { insn = i; is = e; made = op_same op (drafted_op b t.at i) h }
 of_insn b all t op (IsPayload (payload.Packed first targets)) e h = absurd (cc)
 of_insn b all t op (IsPayload (payload.Sparse keys targets)) e h = absurd (cc)
 of_insn b all t op (IsPayload (payload.Data width bytes)) e h = absurd (cc)
@@ -152,10 +152,10 @@ kept_switch items after pools b all names final k a d within s none =
     let i = t.to.insn in
     let (j, found) = item_in b all names t.tile (tiles_of items pools (length items)) t.mem in
     let here : slice_get after j ≡ Some (piece_item b all (piece_of t.tile)) = ap (λ xs. slice_get xs j) d.start ∙ appended _ final j _ found in
-    let is : (piece_item b all (piece_of t.tile)).what ≡ what.Op (op_of b t.tile.at i) = ap (λ x. part_item b all t.tile.at (part_of x)) t.to.is in
+    let is : (piece_item b all (piece_of t.tile)).what ≡ what.Op (drafted_op b t.tile.at i) = ap (λ x. part_item b all t.tile.at (part_of x)) t.to.is in
     let to : jump t.tile.at i.off ≡ a = t.to.leads in
     let label : option_map label_name (target_of t.tile.at i) ≡ Some (label_name a) = ap (λ c. option_map label_name (if c then Some (jump t.tile.at i.off) else None)) (switch_offset i.op t.to.opcode) ∙ ap (λ n. Some (label_name n)) to in
-    let switch : SwitchTo after (piece_item b all (piece_of t.tile)).what a = record { op = op_of b t.tile.at i; name = label_name a; is = is; opcode = t.to.opcode; label = label; leads = d.leads k a within s } in
+    let switch : SwitchTo after (piece_item b all (piece_of t.tile)).what a = record { op = drafted_op b t.tile.at i; name = label_name a; is = is; opcode = t.to.opcode; label = label; leads = d.leads k a within s } in
     let inside = slice_get_within after j (piece_item b all (piece_of t.tile)) here in
     let count : length (addresses_named after) ≡ length after = simp length-map in
     let named : get_or (addresses_named after) j None ≡ Some a =

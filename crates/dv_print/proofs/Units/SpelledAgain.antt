@@ -28,8 +28,8 @@ use Rattle.dv_print.specs.Numbers.{label_name}
 use Rattle.dv_defs.specs.Families.{pool_at}
 use Rattle.dv_defs.specs.Formats.{format_at, has_offset}
 use Rattle.dv_print.specs.Named as named
-use Rattle.dv_print.specs.Named.{target_of, named_by_try, addresses_named}
-use Rattle.dv_print.specs.Drafting.{entry_in, op_of, labels_from}
+use Rattle.dv_print.specs.Named.{target_of, named_by_try, label_addresses}
+use Rattle.dv_print.specs.Drafting.{entry_in, drafted_op, labels_from}
 use Rattle.dv_asm.specs.Tiles.{tiles_of}
 use Rattle.dv_print.proofs.Truth.{both, any_left, any_right}
 use Rattle.dv_print.proofs.Places.ItemTiles.{tile, tiles_at, nop, Mem, mem_to, OfItem, of_item}
@@ -48,7 +48,7 @@ offset_some after k None name off e h = absurd (cc)
 offset_some after k (Some own) name off e h = let same : own ≡ name = cc in ap (λ n. distance after (address_of after k) n) same ∙ h
 
 -- the target of a branch is the address of its label, which is among the addresses that are named
-pub branch_to : (items after : List Item) (b : BodyValue) (all : List Piece) (names : List ℕ) (k : ℕ) (op : Draftop) (name : List ℕ) → Known items after b all names → k < length items → (item_at items k).what ≡ what.Op op → op.label ≡ Some name → has_offset (format_at op.insn.op) ≡ true → (target_of (address_of items k) (insn_of items (pools_of items) k op) ≡ Some (label_address items name)) × (named.is_named names (label_address items name) ≡ true)
+pub branch_to : (items after : List Item) (b : BodyValue) (all : List Piece) (names : List ℕ) (k : ℕ) (op : Draftop) (name : List ℕ) → Known items after b all names → k < length items → (item_at items k).what ≡ what.Op op → op.label ≡ Some name → has_offset (format_at op.insn.op) ≡ true → (target_of (address_of items k) (insn_of items (pools_of items) k op) ≡ Some (label_address items name)) × (named.is_label_address names (label_address items name) ≡ true)
 branch_to items after b all names k op name h within e labelled offset =
     let i = insn_of items (pools_of items) k op in
     let from = address_of items k in
@@ -61,7 +61,7 @@ branch_to items after b all names k op name h within e labelled offset =
     (target, tile_listed items after b all names to t h (ap (λ o. list_any (λ n. nat_eq n to) (option_to_list o)) target ∙ any_left (nat_eq to to) false same) member)
 
 -- a branch leads where it led
-pub branch_same : (items after : List Item) (b : BodyValue) (all : List Piece) (names : List ℕ) (k : ℕ) (op : Draftop) (name : List ℕ) → Known items after b all names → too_long items ≡ None → k < length items → (item_at items k).what ≡ what.Op op → op.label ≡ Some name → has_label items name ≡ true → has_offset (format_at op.insn.op) ≡ true → (j : ℕ) → address_of after j ≡ address_of items k → offset_of after j (op_of b (address_of items k) (insn_of items (pools_of items) k op)).label ≡ (insn_of items (pools_of items) k op).off
+pub branch_same : (items after : List Item) (b : BodyValue) (all : List Piece) (names : List ℕ) (k : ℕ) (op : Draftop) (name : List ℕ) → Known items after b all names → too_long items ≡ None → k < length items → (item_at items k).what ≡ what.Op op → op.label ≡ Some name → has_label items name ≡ true → has_offset (format_at op.insn.op) ≡ true → (j : ℕ) → address_of after j ≡ address_of items k → offset_of after j (drafted_op b (address_of items k) (insn_of items (pools_of items) k op)).label ≡ (insn_of items (pools_of items) k op).off
 branch_same items after b all names k op name h short within e labelled has offset j at =
     let i = insn_of items (pools_of items) k op in
     let from = address_of items k in
@@ -69,7 +69,7 @@ branch_same items after b all names k op name h short within e labelled has offs
     let off : i.off ≡ pos to -ℤ pos from = offset_some items k op.label name (pos to -ℤ pos from) labelled refl in
     let target = branch_to items after b all names k op name h within e labelled offset in
     let leads = leads_to items after b all names name h short has target.1 in
-    offset_some after j (op_of b from i).label (label_name to) i.off (ap (option_map label_name) target.0)
+    offset_some after j (drafted_op b from i).label (label_name to) i.off (ap (option_map label_name) target.0)
     (ap (λ n. pos (label_address after (label_name to)) -ℤ pos n) at ∙ (ap (λ n. pos n -ℤ pos from) leads ∙ sym off))
 
 -- ---- each piece is spelled as it was
@@ -83,7 +83,7 @@ op_spelled items after b all names k op (Some name) h within e formed labelled h
     let small = small_opcode (blank op.insn) (spelling (blank op.insn)) refl formed.form in
     let some : has_offset (format_at op.insn.op) ≡ true = sym formed.label ∙ ap is_some labelled in
     let i = insn_of items (pools_of items) k op in
-    λ j at. ap spelling (insn_by i.op i.regs i.lit (offset_of after j (op_of b (address_of items k) i).label) i.off (index_of (pools_of items) (entry_in b (pool_at i.op) i.index)) i.index
+    λ j at. ap spelling (insn_by i.op i.regs i.lit (offset_of after j (drafted_op b (address_of items k) i).label) i.off (index_of (pools_of items) (entry_in b (pool_at i.op) i.index)) i.index
     (branch_same items after b all names k op name h short within e labelled has some j at)
     (ap (index_of (pools_of items)) (own_entry b items k op h.pools within e formed)))
 
@@ -92,9 +92,9 @@ op_spelled items after b all names k op (Some name) h within e formed labelled h
 -- the addresses that these labels have are among those that are named
 abbrev pub AreListed : List Item → List ℕ → List (List ℕ) → Type 0
 AreListed items names [] = Unit {0}
-AreListed items names (target ∷ targets) = (named.is_named names (label_address items target) ≡ true) × AreListed items names targets
+AreListed items names (target ∷ targets) = (named.is_label_address names (label_address items target) ≡ true) × AreListed items names targets
 
-pub are_listed : (items : List Item) (names : List ℕ) (base : ℕ) (targets : List (List ℕ)) → ((a : ℕ) → list_any (λ n. nat_eq n a) (map (jump base) (map (distance items base) targets)) ≡ true → named.is_named names a ≡ true) → AreListed items names targets
+pub are_listed : (items : List Item) (names : List ℕ) (base : ℕ) (targets : List (List ℕ)) → ((a : ℕ) → list_any (λ n. nat_eq n a) (map (jump base) (map (distance items base) targets)) ≡ true → named.is_label_address names a ≡ true) → AreListed items names targets
 are_listed items names base [] h = tt
 are_listed items names base (target ∷ targets) h =
     let to = label_address items target in
@@ -117,17 +117,17 @@ targets_same items after b all names base (target ∷ targets) h short has liste
 
 -- the targets of a payload in the draft are those in the draft before it
 pub record IsRebased (items after : List Item) (all : List Piece) (k : ℕ) : Type 0 where
-  pub before : named.base_of all (address_of items k) ≡ base_of items (address_of items k)
+  pub before : named.switch_address all (address_of items k) ≡ base_of items (address_of items k)
   pub after_it : base_of after (address_of items k) ≡ base_of items (address_of items k)
 
-switch_same : (items after : List Item) (b : BodyValue) (all : List Piece) (names : List ℕ) (k j : ℕ) (targets : List (List ℕ)) → Known items after b all names → too_long items ≡ None → IsRebased items after all k → list_all (has_label items) targets ≡ true → ((a : ℕ) → list_any (λ n. nat_eq n a) (map (jump (named.base_of all (address_of items k))) (targets_of items (address_of items k) targets)) ≡ true → named.is_named names a ≡ true) → address_of after j ≡ address_of items k → targets_of after (address_of after j) (labels_from (named.base_of all (address_of items k)) (targets_of items (address_of items k) targets)) ≡ targets_of items (address_of items k) targets
+switch_same : (items after : List Item) (b : BodyValue) (all : List Piece) (names : List ℕ) (k j : ℕ) (targets : List (List ℕ)) → Known items after b all names → too_long items ≡ None → IsRebased items after all k → list_all (has_label items) targets ≡ true → ((a : ℕ) → list_any (λ n. nat_eq n a) (map (jump (named.switch_address all (address_of items k))) (targets_of items (address_of items k) targets)) ≡ true → named.is_label_address names a ≡ true) → address_of after j ≡ address_of items k → targets_of after (address_of after j) (labels_from (named.switch_address all (address_of items k)) (targets_of items (address_of items k) targets)) ≡ targets_of items (address_of items k) targets
 switch_same items after b all names k j targets h short r has listed at =
     let address = address_of items k in
     let base = base_of items address in
     let ds = targets_of items address targets in
-    let P : ℕ → Type 0 = λ n. (a : ℕ) → list_any (λ m. nat_eq m a) (map (jump n) ds) ≡ true → named.is_named names a ≡ true in
-    ap (λ n. targets_of after n (labels_from (named.base_of all address) ds)) at ∙
-    (ap (λ n. map (distance after n) (labels_from (named.base_of all address) ds)) r.after_it ∙
+    let P : ℕ → Type 0 = λ n. (a : ℕ) → list_any (λ m. nat_eq m a) (map (jump n) ds) ≡ true → named.is_label_address names a ≡ true in
+    ap (λ n. targets_of after n (labels_from (named.switch_address all address) ds)) at ∙
+    (ap (λ n. map (distance after n) (labels_from (named.switch_address all address) ds)) r.after_it ∙
     (ap (λ n. map (distance after base) (labels_from n ds)) r.before ∙
     targets_same items after b all names base targets h short has (are_listed items names base targets (subst P r.before listed))))
 
@@ -141,7 +141,7 @@ pub record Laid (items after : List Item) (b : BodyValue) (all : List Piece) (na
   pub short : too_long items ≡ None
   pub rebased : (k : ℕ) → k < length items → is_payload (item_at items k).what ≡ true → IsRebased items after all k
 
-payload_listed : (items after : List Item) (b : BodyValue) (all : List Piece) (names : List ℕ) (k : ℕ) (w : What) (p : Payload) → Laid items after b all names → k < length items → (item_at items k).what ≡ w → tiles_at items (pools_of items) k w ≡ tile (address_of items k) (size_of w) (IsPayload p) ∷ [] → (a : ℕ) → list_any (λ n. nat_eq n a) (named.named_by_payload (named.base_of all (address_of items k)) p) ≡ true → named.is_named names a ≡ true
+payload_listed : (items after : List Item) (b : BodyValue) (all : List Piece) (names : List ℕ) (k : ℕ) (w : What) (p : Payload) → Laid items after b all names → k < length items → (item_at items k).what ≡ w → tiles_at items (pools_of items) k w ≡ tile (address_of items k) (size_of w) (IsPayload p) ∷ [] → (a : ℕ) → list_any (λ n. nat_eq n a) (named.named_by_payload (named.switch_address all (address_of items k)) p) ≡ true → named.is_label_address names a ≡ true
 payload_listed items after b all names k w p l within e tiles a h =
     let t = tile (address_of items k) (size_of w) (IsPayload p) in
     tile_listed items after b all names a t l.known h (mem_to items (pools_of items) k (length items) t within (ap (tiles_at items (pools_of items) k) e ∙ tiles))

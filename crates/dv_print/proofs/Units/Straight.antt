@@ -18,7 +18,7 @@ use Rattle.dv_asm.specs.Layout.{insn_of, offset_of, spelling_of}
 use Rattle.dv_print.specs.declared.pieces.Piece.{Piece}
 use Rattle.dv_print.specs.Numbers.{label_name}
 use Rattle.dv_print.specs.Pieces.{part_of}
-use Rattle.dv_print.specs.Drafting.{entry_in, op_of, part_item}
+use Rattle.dv_print.specs.Drafting.{entry_in, drafted_op, part_item}
 use Rattle.dv_print.proofs.Places.ItemTiles.{nop}
 use Rattle.dv_print.proofs.Pools.KeptEntries.{nop_pool}
 use Rattle.dv_print.proofs.Units.KeptUnits.{IsSpelledAs}
@@ -35,10 +35,10 @@ pub insn_by : (op : ℕ) (regs : Regs) (lit : ℤ) (o o' : ℤ) (n n' : ℕ) →
 insn_by op regs lit o o' n n' p q = cc
 
 -- an instruction without an offset is the same again
-pub same_insn : (items : List Item) (pools : Pools) (b : BodyValue) (k at : ℕ) (i : Insn) → has_offset (format_at i.op) ≡ false → i.off ≡ pos 0 → index_of pools (entry_in b (pool_at i.op) i.index) ≡ i.index → insn_of items pools k (op_of b at i) ≡ i
+pub same_insn : (items : List Item) (pools : Pools) (b : BodyValue) (k at : ℕ) (i : Insn) → has_offset (format_at i.op) ≡ false → i.off ≡ pos 0 → index_of pools (entry_in b (pool_at i.op) i.index) ≡ i.index → insn_of items pools k (drafted_op b at i) ≡ i
 same_insn items pools b k at i none still same =
-    insn_by i.op i.regs i.lit (offset_of items k (op_of b at i).label) i.off (index_of pools (entry_in b (pool_at i.op) i.index)) i.index
-    (offset_none items k (op_of b at i).label (no_label_by (has_offset (format_at i.op)) at i.off none) ∙ sym still) same
+    insn_by i.op i.regs i.lit (offset_of items k (drafted_op b at i).label) i.off (index_of pools (entry_in b (pool_at i.op) i.index)) i.index
+    (offset_none items k (drafted_op b at i).label (no_label_by (has_offset (format_at i.op)) at i.off none) ∙ sym still) same
 
 pub nop_offset : has_offset (format_at 0) ≡ false
 unfolding format_at

@@ -261,7 +261,7 @@ pub record HasPayload (items : List Item) (a : ℕ) : Type 0 where
   pub at : address_of items place ≡ a
 
 -- the targets of a payload count from the same address among the pieces as among the items
-pub base_before : (items : List Item) (pools : Pools) (a : ℕ) → AreFormed items → repeated items ≡ None → HasPayload items a → named.base_of (map piece_of (tiles_of items pools (length items))) a ≡ base_of items a
+pub base_before : (items : List Item) (pools : Pools) (a : ℕ) → AreFormed items → repeated items ≡ None → HasPayload items a → named.switch_address (map piece_of (tiles_of items pools (length items))) a ≡ base_of items a
 base_before items pools a formed once p = at (find (switches_to a) (map piece_of (tiles_of items pools (length items)))) refl
   where
     without : (place : Option ℕ) → switch_of items a ≡ place → find (switches_to a) (map piece_of (tiles_of items pools (length items))) ≡ None → 0 ≡ option_map_or (address_of items) place 0

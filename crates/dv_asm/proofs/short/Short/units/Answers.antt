@@ -5,7 +5,7 @@ use Rattle.dv_asm.specs.declared.pools.Pools.{Pools}
 use Rattle.dv_asm.specs.Items.{item_at}
 use Rattle.dv_asm.specs.Places.{address_of}
 use Rattle.dv_asm.specs.Layout.{units_of, spelling_of, padded}
-use Rattle.dv_defs.specs.Spelling.{all_fit}
+use Rattle.dv_defs.specs.Spelling.{AreUnits}
 use Rattle.dv_asm.proofs.TileLemmas.{made_units}
 use Rattle.dv_asm.proofs.short.Short.units.Goals as goal
 
@@ -28,5 +28,5 @@ loop-k-preserved c =
 
 pub returns-clause-tiled : goal.returns-clause-tiled
 returns-clause-tiled c =
-    let Fit : List ℕ → Type 0 = λ us. all_fit 16 us ≡ true in
+    let Fit : List ℕ → Type 0 = λ us. AreUnits us in
     made_units c.args.self.now c.args.pools.now c.loop-k.k c.loop-k.units.items (omega arith) c.loop-k.invariant.0 c.loop-k.invariant.1 (subst Fit c.deref.ensures.value c.units_fit.ensures)
