@@ -1,11 +1,9 @@
 -- What is put together is a body: its units are few, and the kinds of its handlers are places in the pool of types.
-use Rattle.std.proofs.Common.{◌≡◌, ◌≤◌, ◌<◌, ℕ, zero, suc, List, [], ◌∷◌, length, map, All, Option, Some, None, IfSome, position, false, refl, sym, ap, ◌∙◌, subst, arith}
+use Rattle.std.proofs.Common.{◌≡◌, ◌≤◌, ◌<◌, ℕ, zero, suc, List, [], ◌∷◌, length, map, All, Option, Some, None, IfSome, position, refl, sym, ap, ◌∙◌, subst, arith}
 use Rattle.std.proofs.lemmas.List.Quantifiers.{position-Some}
 use Rattle.dv_defs.specs.declared.names.Ty.{Ty}
 use Rattle.dv_defs.specs.declared.code.Try.{Try}
-use Rattle.dv_defs.specs.declared.names.FieldRef.{FieldRef}
-use Rattle.dv_defs.specs.declared.names.MethodRef.{MethodRef}
-use Rattle.dv_defs.specs.Body.{BodyValue, KindIn, KindsIn, IsBody}
+use Rattle.dv_defs.specs.Body.{KindIn, KindsIn, IsBody}
 use Rattle.dv_defs.specs.Types.{of_base, ty_eq}
 use Rattle.dv_defs.specs.declared.names.Base.TheVariants as base
 use Rattle.dv_asm.specs.declared.draft.Item.{Item}
@@ -13,7 +11,7 @@ use Rattle.dv_asm.specs.declared.draft.Catch.{Catch}
 use Rattle.dv_asm.specs.declared.tries.TryRange.{TryRange}
 use Rattle.dv_asm.specs.Refusals.{too_long}
 use Rattle.dv_asm.specs.declared.pools.Pools.{Pools}
-use Rattle.dv_asm.specs.Layout.{handler_of, entry_of, catches_of, units_of, pools_of, types_of, tries_of, sorted_ranges, with_kinds, body_of}
+use Rattle.dv_asm.specs.Layout.{handler_of, entry_of, catches_of, units_of, pools_of, types_of, tries_of, sorted_ranges, with_kinds, body_with, body_of}
 use Rattle.dv_asm.proofs.PlaceLemmas.{ends_within}
 use Rattle.dv_asm.proofs.UnitLemmas.{units_within}
 
@@ -35,24 +33,20 @@ kinds_in items catches types rs =
     let Fine : Try → Type 0 = λ t. All (KindIn (length types)) t.handlers in
     all_mapped Fine (entry_of items catches types) (λ r. all_mapped (KindIn (length types)) (handler_of items types) (λ c. kind_in items types c c.kind) (catches_of items catches r)) rs
 
-pub is_body : (registers : ℕ) (items : List Item) (catches : List Catch) (pools : Pools) (rs : List TryRange) (units : List ℕ) (tries : List Try) (types types' : List Ty) → registers ≤ 256 → too_long items ≡ None → units ≡ units_of items pools (length items) → tries ≡ map (entry_of items catches types) rs → types ≡ types' → IsBody registers units tries types'
-is_body registers items catches pools rs units tries types types' few short is_units is_tries same =
+pub is_body : (registers : ℕ) (items : List Item) (catches : List Catch) (pools : Pools) (rs : List TryRange) (units : List ℕ) (tries : List Try) (types : List Ty) → registers ≤ 256 → too_long items ≡ None → units ≡ units_of items pools (length items) → tries ≡ map (entry_of items catches types) rs → IsBody registers units tries types
+is_body registers items catches pools rs units tries types few short is_units is_tries =
     let Kinds : List Try → Type 0 = λ ts. KindsIn (length types) ts in
-    let OfTypes : List Ty → Type 0 = λ ts. KindsIn (length ts) tries in
     record {
       few_registers = few;
       short = omega (arith, ap length is_units, units_within items pools (length items), ends_within items short (length items) (omega arith));
-      kinds = subst OfTypes same (subst Kinds (sym is_tries) (kinds_in items catches types rs));
+      kinds = subst Kinds (sym is_tries) (kinds_in items catches types rs);
     }
 
 -- the body that is put together is the one that the definition gives
-pub is_layout : (registers : ℕ) (items : List Item) (catches : List Catch) (pools : Pools) (rs : List TryRange) (units : List ℕ) (tries : List Try) (strings : List (List ℕ)) (types : List Ty) (fields : List FieldRef) (methods : List MethodRef) → pools ≡ pools_of items → rs ≡ sorted_ranges items catches → units ≡ units_of items pools (length items) → tries ≡ map (entry_of items catches types) rs → strings ≡ pools.strings → types ≡ with_kinds items catches pools.types rs → fields ≡ pools.fields → methods ≡ pools.methods → (let body : BodyValue = record { registers = registers; units = units; tries = tries; strings = strings; types = types; fields = fields; methods = methods; raw = false } in body) ≡ body_of registers items catches
+pub is_layout : (registers : ℕ) (items : List Item) (catches : List Catch) (pools : Pools) (rs : List TryRange) (units : List ℕ) (tries : List Try) (types : List Ty) → pools ≡ pools_of items → rs ≡ sorted_ranges items catches → units ≡ units_of items pools (length items) → tries ≡ map (entry_of items catches types) rs → types ≡ with_kinds items catches pools.types rs → body_with registers units tries (record pools { types = types }) ≡ body_of registers items catches
 unfolding body_of
-is_layout registers items catches pools rs units tries strings types fields methods named sorted of_units of_tries of_strings of_types of_fields of_methods =
+is_layout registers items catches pools rs units tries types named sorted of_units of_tries of_types =
     let typed : types ≡ types_of items catches = of_types ∙ (λ i. with_kinds items catches (named i).types (sorted i)) in
     let united : units ≡ units_of items (pools_of items) (length items) = of_units ∙ ap (λ (p : Pools). units_of items p (length items)) named in
     let tried : tries ≡ tries_of items catches (types_of items catches) = of_tries ∙ (λ i. map (entry_of items catches (typed i)) (sorted i)) in
-    let stringed : strings ≡ (pools_of items).strings = of_strings ∙ ap (λ (p : Pools). p.strings) named in
-    let fielded : fields ≡ (pools_of items).fields = of_fields ∙ ap (λ (p : Pools). p.fields) named in
-    let methoded : methods ≡ (pools_of items).methods = of_methods ∙ ap (λ (p : Pools). p.methods) named in
-    λ i. record { registers = registers; units = united i; tries = tried i; strings = stringed i; types = typed i; fields = fielded i; methods = methoded i; raw = false }
+    λ i. body_with registers (united i) (tried i) (record (named i) { types = typed i })

@@ -135,6 +135,19 @@ units_of items pools (suc k) =
     padded (address_of items k) (units_of items pools k) ++
     unwrap_or (spelling_of items pools k (item_at items k).what) []
 
+-- a body of these units, entries and pools
+abbrev pub body_with : ℕ → List ℕ → List Try → Pools → BodyValue
+body_with registers units tries pools = record {
+  registers = registers;
+  units = units;
+  tries = tries;
+  strings = pools.strings;
+  types = pools.types;
+  fields = pools.fields;
+  methods = pools.methods;
+  raw = false;
+}
+
 unfoldable pub body_of : ℕ → List Item → List Catch → BodyValue
 body_of registers items catches =
     let pools = pools_of items in

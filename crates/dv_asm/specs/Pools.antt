@@ -63,6 +63,18 @@ field_of item = field_in (pool_ref item.what)
 abbrev pub method_of : Item → Option MethodRef
 method_of item = method_in (pool_ref item.what)
 
+abbrev pub no_pools : Pools
+no_pools = record { strings = []; types = []; fields = []; methods = [] }
+
+-- the pools with what an instruction names
+abbrev pub with_ref : Pools → PoolRef → Pools
+with_ref pools entry = record {
+  strings = with_entry_if_any bytes_eq pools.strings (chars_in entry);
+  types = with_entry_if_any ty_eq pools.types (type_in entry);
+  fields = with_entry_if_any field_eq pools.fields (field_in entry);
+  methods = with_entry_if_any method_eq pools.methods (method_in entry);
+}
+
 -- the place of an entry in its pool; 0 where none is named
 abbrev pub index_of : Pools → PoolRef → ℕ
 index_of pools pool.None = 0

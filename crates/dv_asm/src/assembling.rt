@@ -1,19 +1,20 @@
 // Assembles a draft.
-ghost use Rattle.std.specs.Prelude.{◌≡◌, ◌≤◌, None, Ok, length, IfOk, IfErr};
+ghost use Rattle.std.specs.Prelude.{◌≡◌, ◌≤◌, None, Ok, length, map, IfOk, IfErr, OnOk};
 ghost use Rattle.dv_defs.specs.Tiling.{tiling};
+ghost use Rattle.dv_defs.specs.Body.{IsBody};
 ghost use Rattle.dv_asm.specs.Refusals.{Checks, Tells, label_refusal, item_refusal, range_refusal, refusal};
-ghost use Rattle.dv_asm.specs.Layout.{AreWritable, layout, body_of, pools_of, sorted_ranges};
+ghost use Rattle.dv_asm.specs.Layout.{AreWritable, layout, body_of, body_with, pools_of, with_kinds, entry_of, units_of, sorted_ranges};
 ghost use Rattle.dv_asm.specs.Ranges.{ranges_in};
 ghost use Rattle.dv_asm.specs.Tiles.{tiles, tiles_of};
 
 use crate::catches::Catches;
-use crate::draft::{Catch, Draft, Item};
+use crate::draft::{Catch, Draft};
 use crate::lines::refuse;
 use crate::places::Places;
-use crate::pools::{Pools, fields, methods, strings, types};
+use crate::pools::Pools;
 use crate::short::Short;
 use crate::switches::Switches;
-use dv_defs::{Body, LineError, LineKind, Seq};
+use dv_defs::{Body, LineError, LineKind, Seq, Try};
 use std::alloc::{AllocError, Global};
 use std::collections::BTreeMap;
 
@@ -36,6 +37,17 @@ fn check_items(switches: &Switches) -> Result<(), LineError>
     refuse(places.too_long(), LineKind::TooLong)
 }
 
+/// The items with what switches name. Refuses payloads of two switches, registers and offsets that don't fit, and
+/// bodies that are too long.
+fn fitting<'a>(alloc: Global, places: &'a Places<'a>) -> Result<Short<'a>, LineError>
+    ensures checks { Checks result (item_refusal places.now) }
+    ensures value { IfOk result (λ short. short ≡ places.now) }
+{
+    let switches = Switches::of(alloc, places)?;
+    check_items(&switches)?;
+    Ok(Short::of(switches))
+}
+
 /// The ranges by their starts. Refuses empty ranges and ranges that overlap.
 fn sorted_ranges(alloc: Global, catches: &Catches) -> Result<BTreeMap<u32, u32>, LineError>
     ensures checks { Checks result (range_refusal catches.now.short.now catches.now.catches.now) }
@@ -45,21 +57,52 @@ fn sorted_ranges(alloc: Global, catches: &Catches) -> Result<BTreeMap<u32, u32>,
     catches.sorted(alloc)
 }
 
-/// What the instructions name.
-#[tactic(auto, unfolding(crate::specs::Layout::pools_of))]
-fn pools(alloc: Global, items: &[Item]) -> Result<Pools, AllocError>
-    ensures { IfOk result (λ pools. pools ≡ pools_of items.now) }
+/// The body of its units, its try entries and its pools.
+fn body_with(
+    registers: u16,
+    units: Vec<u16>,
+    tries: Vec<Try>,
+    pools: Pools,
+) -> Result<Body, AllocError>
+    requires { IsBody registers units.items tries.items pools.types }
+    ensures { IfOk result (λ body. body ≡ body_with registers units.items tries.items pools) }
 {
-    Ok(Pools {
-        strings: strings(alloc, items)?,
-        types: types(alloc, items)?,
-        fields: fields(alloc, items)?,
-        methods: methods(alloc, items)?,
+    let (strings, types, fields, methods) = pools.into_seqs()?;
+    Ok(Body {
+        registers,
+        units: Seq::of(units),
+        tries: Seq::of(tries),
+        strings,
+        types,
+        fields,
+        methods,
+        raw: false,
     })
 }
 
+/// The units and the try entries of a body. The types that its handlers catch are added to the pools.
+fn code_of(
+    alloc: Global,
+    catches: &Catches,
+    sorted: &BTreeMap<u32, u32>,
+    pools: &mut Pools,
+) -> Result<(Vec<u16>, Vec<Try>), AllocError>
+    requires { AreWritable catches.now.short.now pools.old }
+    ensures units { IfOk result (λ code. code.0.items ≡ units_of catches.now.short.now pools.old (length catches.now.short.now)) }
+    ensures tiled { IfOk result (λ code. tiling code.0.items
+        ≡ Ok (tiles_of catches.now.short.now pools.old (length catches.now.short.now))) }
+    ensures types { OnOk result (pools.new ≡ record pools.old {
+      types = with_kinds catches.now.short.now catches.now.catches.now pools.old.types (ranges_in sorted.now.entries);
+    }) }
+    ensures tries { IfOk result (λ code. code.1.items
+        ≡ map (entry_of catches.now.short.now catches.now.catches.now pools.new.types) (ranges_in sorted.now.entries)) }
+{
+    let units = catches.short.units(alloc, pools)?;
+    let tries = catches.entries(alloc, &mut pools.types, sorted)?;
+    Ok((units, tries))
+}
+
 /// The body of a draft that isn't refused.
-#[tactic(auto, unfolding(crate::specs::Layout::body_of))]
 fn body_of(
     alloc: Global,
     registers: u16,
@@ -75,26 +118,53 @@ fn body_of(
 {
     let short = catches.short;
     short.is_short();
-    let pools = pools(alloc, short.places().items())?;
-    let units = short.units(alloc, &pools)?;
-    let Pools {
-        strings,
-        mut types,
-        fields,
-        methods,
-    } = pools;
-    catches.add_all_kinds(&mut types, sorted)?;
-    let tries = catches.tries(alloc, &types, sorted)?;
-    Ok(Body {
-        registers,
-        units: Seq::of(units),
-        tries: Seq::of(tries),
-        strings: strings.into_seq()?,
-        types: types.into_seq()?,
-        fields: fields.into_seq()?,
-        methods: methods.into_seq()?,
-        raw: false,
-    })
+    let mut pools = Pools::of(alloc, short.places().items())?;
+    let (units, tries) = code_of(alloc, catches, sorted, &mut pools)?;
+    body_with(registers, units, tries, pools)
+}
+
+/// The body of items that aren't refused, with these handlers. Refuses empty ranges and ranges that overlap.
+fn with_ranges(alloc: Global, registers: u16, catches: &Catches) -> Result<Body, LineError>
+    requires few { registers ≤ 256 }
+    requires writable { AreWritable catches.now.short.now (pools_of catches.now.short.now) }
+    ensures checks { Checks result (range_refusal catches.now.short.now catches.now.catches.now) }
+    ensures value { IfOk result (λ body. body ≡ body_of registers catches.now.short.now catches.now.catches.now) }
+    ensures tiled { IfOk result (λ body. tiling body.units
+        ≡ Ok (tiles_of catches.now.short.now (pools_of catches.now.short.now) (length catches.now.short.now))) }
+{
+    let sorted = sorted_ranges(alloc, catches)?;
+    let body = body_of(alloc, registers, catches, &sorted)?;
+    Ok(body)
+}
+
+/// The body of items that aren't refused, with the handlers of a draft. Refuses empty ranges and ranges that overlap.
+fn with_catches(
+    alloc: Global,
+    registers: u16,
+    short: &Short,
+    catches: &[Catch],
+) -> Result<Body, LineError>
+    requires few { registers ≤ 256 }
+    requires writable { AreWritable short.now (pools_of short.now) }
+    ensures checks { Checks result (range_refusal short.now catches.now) }
+    ensures value { IfOk result (λ body. body ≡ body_of registers short.now catches.now) }
+    ensures tiled { IfOk result (λ body. tiling body.units ≡ Ok (tiles_of short.now (pools_of short.now) (length short.now))) }
+{
+    let catches = Catches::of(alloc, short, catches)?;
+    with_ranges(alloc, registers, &catches)
+}
+
+/// The body of a draft, whose items have these places, or the first refusal.
+fn with_places(alloc: Global, draft: &Draft, places: &Places) -> Result<Body, LineError>
+    requires { places.now ≡ draft.now.items }
+    ensures checks { Checks result (refusal draft.now) }
+    ensures value { IfOk result (λ body. body ≡ layout draft.now) }
+    ensures tiled { IfOk result (λ body. tiling body.units ≡ Ok (tiles draft.now)) }
+{
+    let catches = draft.catches.items();
+    check_labels(places, catches)?;
+    let short = fitting(alloc, places)?;
+    with_catches(alloc, draft.registers, &short, catches)
 }
 
 /// Assembles a draft: its units, its try entries and its pools.
@@ -113,12 +183,5 @@ pub fn assemble(alloc: Global, draft: &Draft) -> Result<Body, LineError>
     ensures tiled { IfOk result (λ body. tiling body.units ≡ Ok (tiles draft.now)) }
 {
     let places = Places::of(alloc, draft.items.items())?;
-    check_labels(&places, draft.catches.items())?;
-    let switches = Switches::of(alloc, places)?;
-    check_items(&switches)?;
-    let short = Short::of(switches);
-    let catches = Catches::of(alloc, &short, draft.catches.items())?;
-    let sorted = sorted_ranges(alloc, &catches)?;
-    let body = body_of(alloc, draft.registers, &catches, &sorted)?;
-    Ok(body)
+    with_places(alloc, draft, &places)
 }

@@ -50,7 +50,7 @@ impl Catches<'_> {
     }
 
     /// Adds the types that the handlers of each range catch.
-    pub fn add_all_kinds(
+    fn add_all_kinds(
         &self,
         types: &mut Pool<Ty>,
         sorted: &BTreeMap<u32, u32>,
@@ -84,7 +84,7 @@ impl Catches<'_> {
     }
 
     /// The entry of each range.
-    pub fn tries(
+    fn tries(
         &self,
         alloc: Global,
         types: &Pool<Ty>,
@@ -103,5 +103,21 @@ impl Catches<'_> {
             })?;
         }
         Ok(tries)
+    }
+
+    /// The entry of each range. The types that its handlers catch are added before.
+    pub fn entries(
+        &self,
+        alloc: Global,
+        types: &mut Pool<Ty>,
+        sorted: &BTreeMap<u32, u32>,
+    ) -> Result<Vec<Try>, AllocError>
+        ensures types { OnOk result (types.new
+            ≡ with_kinds self.now.short.now self.now.catches.now types.old (ranges_in sorted.now.entries)) }
+        ensures tries { IfOk result (λ tries. tries.items
+            ≡ map (entry_of self.now.short.now self.now.catches.now types.new) (ranges_in sorted.now.entries)) }
+    {
+        self.add_all_kinds(types, sorted)?;
+        self.tries(alloc, types, sorted)
     }
 }

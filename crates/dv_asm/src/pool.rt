@@ -63,3 +63,14 @@ impl<E: Eq + Hash + Clone + Drop> Pool<E> {
         Ok(Seq::of(entries))
     }
 }
+
+/// The entries of two pools in their order.
+pub fn into_seqs<E, F>(first: Pool<E>, second: Pool<F>) -> Result<(Seq<E>, Seq<F>), AllocError>
+where
+    E: Eq + Hash + Clone + Drop,
+    F: Eq + Hash + Clone + Drop,
+    ensures first { IfOk result (λ entries. entries.0 ≡ first) }
+    ensures second { IfOk result (λ entries. entries.1 ≡ second) }
+{
+    Ok((first.into_seq()?, second.into_seq()?))
+}

@@ -1,11 +1,11 @@
 // The pools of a body.
-ghost use Rattle.std.specs.Prelude.{◌≡◌, [], IfOk, IfSome, bytes_eq, option_map};
-ghost use Rattle.dv_defs.specs.Types.{ty_eq};
-ghost use Rattle.dv_asm.specs.Pools.{chars_of, type_of, field_of, method_of, field_eq, method_eq, with_entries, index_of};
+ghost use Rattle.std.specs.Prelude.{◌≡◌, IfOk, OnOk};
+ghost use Rattle.dv_asm.specs.Pools.{no_pools, pool_ref, with_ref, index_of};
+ghost use Rattle.dv_asm.specs.Layout.{pools_of};
 
 use crate::draft::{Item, PoolRef, What};
-use crate::pool::Pool;
-use dv_defs::{Chars, FieldRef, MethodRef, Ty};
+use crate::pool::{Pool, into_seqs};
+use dv_defs::{Chars, FieldRef, MethodRef, Seq, Ty};
 use std::alloc::{AllocError, Global};
 
 /// The strings, types, fields and methods that the instructions of a body name.
@@ -17,108 +17,6 @@ pub struct Pools {
     pub methods: Pool<MethodRef>,
 }
 
-impl Item {
-    fn chars(&self) -> Option<&Chars>
-        ensures { option_map (λ x. x.now) result ≡ chars_of self.now }
-    {
-        match &self.what {
-            What::Op(op) => match &op.pool {
-                PoolRef::Str(chars) => Some(chars),
-                _ => None,
-            },
-            _ => None,
-        }
-    }
-
-    fn ty(&self) -> Option<&Ty>
-        ensures { option_map (λ x. x.now) result ≡ type_of self.now }
-    {
-        match &self.what {
-            What::Op(op) => match &op.pool {
-                PoolRef::OfType(ty) => Some(ty),
-                _ => None,
-            },
-            _ => None,
-        }
-    }
-
-    fn field(&self) -> Option<&FieldRef>
-        ensures { option_map (λ x. x.now) result ≡ field_of self.now }
-    {
-        match &self.what {
-            What::Op(op) => match &op.pool {
-                PoolRef::Field(field) => Some(field),
-                _ => None,
-            },
-            _ => None,
-        }
-    }
-
-    fn method(&self) -> Option<&MethodRef>
-        ensures { option_map (λ x. x.now) result ≡ method_of self.now }
-    {
-        match &self.what {
-            What::Op(op) => match &op.pool {
-                PoolRef::Method(method) => Some(method),
-                _ => None,
-            },
-            _ => None,
-        }
-    }
-}
-
-/// The strings that the instructions name.
-pub fn strings(alloc: Global, items: &[Item]) -> Result<Pool<Chars>, AllocError>
-    ensures { IfOk result (λ pool. pool ≡ with_entries bytes_eq chars_of [] items.now) }
-{
-    let mut pool = Pool::new(alloc);
-    for item in items {
-        if let Some(chars) = item.chars() {
-            pool.add(chars)?;
-        }
-    }
-    Ok(pool)
-}
-
-/// The types that the instructions name.
-pub fn types(alloc: Global, items: &[Item]) -> Result<Pool<Ty>, AllocError>
-    ensures { IfOk result (λ pool. pool ≡ with_entries ty_eq type_of [] items.now) }
-{
-    let mut pool = Pool::new(alloc);
-    for item in items {
-        if let Some(ty) = item.ty() {
-            pool.add(ty)?;
-        }
-    }
-    Ok(pool)
-}
-
-/// The fields that the instructions name.
-pub fn fields(alloc: Global, items: &[Item]) -> Result<Pool<FieldRef>, AllocError>
-    ensures { IfOk result (λ pool. pool ≡ with_entries field_eq field_of [] items.now) }
-{
-    let mut pool = Pool::new(alloc);
-    for item in items {
-        if let Some(field) = item.field() {
-            pool.add(field)?;
-        }
-    }
-    Ok(pool)
-}
-
-/// The methods that the instructions name.
-pub fn methods(alloc: Global, items: &[Item]) -> Result<Pool<MethodRef>, AllocError>
-    ensures { IfOk result (λ pool. pool ≡ with_entries method_eq method_of [] items.now) }
-{
-    let mut pool = Pool::new(alloc);
-    for item in items {
-        if let Some(method) = item.method() {
-            pool.add(method)?;
-        }
-    }
-    Ok(pool)
-}
-
 /// A place as an index. No memory holds so many entries that it doesn't fit.
 pub fn index(place: usize) -> Result<u32, AllocError>
     ensures { IfOk result (λ n. n ≡ place) }
@@ -127,6 +25,73 @@ pub fn index(place: usize) -> Result<u32, AllocError>
 }
 
 impl Pools {
+    fn new(alloc: Global) -> Pools
+        ensures { result ≡ no_pools }
+    {
+        Pools {
+            strings: Pool::new(alloc),
+            types: Pool::new(alloc),
+            fields: Pool::new(alloc),
+            methods: Pool::new(alloc),
+        }
+    }
+
+    /// Adds what an instruction names at the end of its pool, unless it is there.
+    #[tactic(auto, using(crate::proofs::KeyLemmas::places))]
+    fn add(&mut self, entry: &PoolRef) -> Result<(), AllocError>
+        ensures { OnOk result (self.new ≡ with_ref self.old entry.now) }
+    {
+        match entry {
+            PoolRef::None => Ok(()),
+            PoolRef::Str(chars) => self.strings.add(chars),
+            PoolRef::OfType(ty) => self.types.add(ty),
+            PoolRef::Field(field) => self.fields.add(field),
+            PoolRef::Method(method) => self.methods.add(method),
+        }
+    }
+
+    /// Adds what an item names.
+    fn add_item(&mut self, item: &Item) -> Result<(), AllocError>
+        ensures { OnOk result (self.new ≡ with_ref self.old (pool_ref item.now.what)) }
+    {
+        match &item.what {
+            What::Op(op) => self.add(&op.pool),
+            _ => Ok(()),
+        }
+    }
+
+    /// What the items name.
+    #[tactic(auto, unfolding(crate::specs::Layout::pools_of))]
+    pub fn of(alloc: Global, items: &[Item]) -> Result<Pools, AllocError>
+        ensures { IfOk result (λ pools. pools ≡ pools_of items.now) }
+    {
+        let mut pools = Pools::new(alloc);
+        for item in items {
+            pools.add_item(item)?;
+        }
+        Ok(pools)
+    }
+
+    /// The entries of each pool in their order.
+    pub fn into_seqs(
+        self,
+    ) -> Result<(Seq<Chars>, Seq<Ty>, Seq<FieldRef>, Seq<MethodRef>), AllocError>
+        ensures strings { IfOk result (λ entries. entries.0 ≡ self.strings) }
+        ensures types { IfOk result (λ entries. entries.1 ≡ self.types) }
+        ensures fields { IfOk result (λ entries. entries.2 ≡ self.fields) }
+        ensures methods { IfOk result (λ entries. entries.3 ≡ self.methods) }
+    {
+        let Pools {
+            strings,
+            types,
+            fields,
+            methods,
+        } = self;
+        let (strings, types) = into_seqs(strings, types)?;
+        let (fields, methods) = into_seqs(fields, methods)?;
+        Ok((strings, types, fields, methods))
+    }
+
     /// The index of what an instruction names.
     #[tactic(auto, using(crate::proofs::KeyLemmas::places))]
     pub fn index_of(&self, entry: &PoolRef) -> Result<u32, AllocError>

@@ -38,7 +38,7 @@ impl<'a> Short<'a> {
     }
 
     /// The items with their places.
-    pub fn places(&self) -> &Places<'a>
+    pub fn places(&self) -> &'a Places<'a>
         ensures { result.now ≡ self.now }
     {
         self.switches.places()

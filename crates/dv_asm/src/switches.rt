@@ -82,7 +82,7 @@ impl Places<'_> {
 /// To a contract it is the list of the items.
 #[derive(Drop)]
 pub struct Switches<'a> {
-    places: Places<'a>,
+    places: &'a Places<'a>,
     first: IndexMap<u64, usize>,
     payloads: IndexSet<u64>,
 }
@@ -94,14 +94,14 @@ impl<'a> Model for Switches<'a> {
 
     ghost Value = { List Item };
 
-    ghost view = { λ s. s.places };
+    ghost view = { λ s. s.places.now };
 
-    ghost invariant = { λ s. AreFirstSwitches s.places s.first × ArePayloadAddresses s.places s.payloads };
+    ghost invariant = { λ s. AreFirstSwitches s.places.now s.first × ArePayloadAddresses s.places.now s.payloads };
 }
 
 impl<'a> Switches<'a> {
-    pub fn of(alloc: Global, places: Places<'a>) -> Result<Switches<'a>, AllocError>
-        ensures { IfOk result (λ switches. switches ≡ places.entry) }
+    pub fn of(alloc: Global, places: &'a Places<'a>) -> Result<Switches<'a>, AllocError>
+        ensures { IfOk result (λ switches. switches ≡ places.now) }
     {
         let first = places.first_switches(alloc)?;
         let payloads = places.payload_addresses(alloc)?;
@@ -113,10 +113,10 @@ impl<'a> Switches<'a> {
     }
 
     /// The items with their places.
-    pub fn places(&self) -> &Places<'a>
+    pub fn places(&self) -> &'a Places<'a>
         ensures { result.now ≡ self.now }
     {
-        &self.places
+        self.places
     }
 
     /// The first switch that names an address.

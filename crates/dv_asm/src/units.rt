@@ -51,11 +51,11 @@ fn append_insn(units: &mut Vec<u16>, insn: &Insn) -> Result<(), AllocError>
 }
 
 /// Appends the units of a payload.
-fn append_payload(units: &mut Vec<u16>, payload: &Payload) -> Result<(), AllocError>
-    requires { IsSome (payload_spelling payload.now) }
-    ensures { OnOk result (units.new.items ≡ units.old.items ++ unwrap_or (payload_spelling payload.now) []) }
+fn append_payload(units: &mut Vec<u16>, payload: Payload) -> Result<(), AllocError>
+    requires { IsSome (payload_spelling payload) }
+    ensures { OnOk result (units.new.items ≡ units.old.items ++ unwrap_or (payload_spelling payload) []) }
 {
-    match encode_payload(payload, units) {
+    match encode_payload(&payload, units) {
         Ok(_) => Ok(()),
         Err(error) => match error {
             UnitError::Memory => Err(AllocError),
@@ -117,14 +117,15 @@ impl Short<'_> {
             What::Label(_) => Ok(()),
             What::Op(op) => append_insn(units, &self.insn_of(pools, k, op)?),
             What::Packed(first, names) => {
-                let payload = self.packed_of(alloc, k, *first, names.items())?;
-                append_payload(units, &payload)
+                append_payload(units, self.packed_of(alloc, k, *first, names.items())?)
             }
             What::Sparse(keys, names) => {
-                let payload = self.sparse_of(alloc, k, keys.items(), names.items())?;
-                append_payload(units, &payload)
+                append_payload(
+                    units,
+                    self.sparse_of(alloc, k, keys.items(), names.items())?,
+                )
             }
-            What::Data(width, bytes) => append_payload(units, &data_of(*width, bytes)?),
+            What::Data(width, bytes) => append_payload(units, data_of(*width, bytes)?),
         }
     }
 
