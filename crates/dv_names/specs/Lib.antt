@@ -3,3 +3,4 @@ pub mod Grammar
 pub mod Faults
 pub mod Parts
 pub mod Units
+pub mod Written

@@ -12,7 +12,7 @@ use Rattle.dv_defs.specs.Body.{BodyValue}
 use Rattle.dv_defs.specs.Field.{FieldValue}
 use Rattle.dv_defs.specs.Flags.{has_flag}
 use Rattle.dv_names.specs.Descriptors.{descriptor, prototype}
-use Rattle.dv_print.specs.Operands.{string_text}
+use Rattle.dv_names.specs.Written.{string_text}
 use Rattle.dv_print.specs.Drafting.{draft_of}
 use Rattle.dv_print.specs.Draft.{draft_text}
 use Rattle.dv_print.specs.Raw.{raw_text}

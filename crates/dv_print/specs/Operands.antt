@@ -1,13 +1,12 @@
 -- The name and the operands of an instruction as they are printed.
-use Rattle.std.specs.Prelude.{ℕ, ◌+◌, ◌-◌, ◌&&◌, ◌||◌, ℤ, Bool, true, false, nat_eq, nat_le, nat_lt, List, [], ◌∷◌, ◌++◌, map, take, slice_index, codes, decimal, Option, Some, option_map, if◌then◌else◌}
+use Rattle.std.specs.Prelude.{ℕ, ◌+◌, ◌-◌, ◌&&◌, ℤ, Bool, true, false, nat_eq, nat_le, List, [], ◌∷◌, ◌++◌, map, take, slice_index, codes, decimal, Option, Some, option_map, if◌then◌else◌}
 use Rattle.std.specs.Fmt.{signed_decimal}
 use Rattle.std.specs.Option.{option_map_or, option_to_list}
-use Rattle.std.specs.List.{flat_map, join_by}
+use Rattle.std.specs.List.{join_by}
 use Rattle.dv_defs.specs.declared.code.Insn.{Insn}
 use Rattle.dv_defs.specs.declared.code.Regs.{Regs}
-use Rattle.dv_defs.specs.declared.names.FieldRef.{FieldRef}
-use Rattle.dv_defs.specs.declared.names.MethodRef.{MethodRef}
-use Rattle.dv_names.specs.Descriptors.{descriptor, prototype}
+use Rattle.dv_names.specs.Descriptors.{descriptor}
+use Rattle.dv_names.specs.Written.{string_text, field_text, method_text}
 use Rattle.dv_optable.specs.declared.format.Format.{Format}
 use Rattle.dv_optable.specs.declared.format.Format.TheVariants as format
 use Rattle.dv_optable.specs.Table.{Entry, entry_at, format_at}
@@ -16,7 +15,6 @@ use Rattle.dv_asm.specs.declared.draft.PoolRef.{PoolRef}
 use Rattle.dv_asm.specs.declared.draft.PoolRef.TheVariants as pool
 use Rattle.dv_print.specs.declared.formats.Form.{Form}
 use Rattle.dv_print.specs.declared.formats.Form.TheVariants as form
-use Rattle.dv_print.specs.Numbers.{hexadecimal}
 
 -- whether a format has a literal
 abbrev pub is_literal_format : Option Format → Bool
@@ -83,22 +81,6 @@ literal_operands i = if has_literal i.op then literal_text i.op i.lit ∷ [] els
 
 abbrev pub label_text : List ℕ → List ℕ
 label_text name = 58 ∷ name
-
--- printable ASCII other than the quote and the backslash
-abbrev pub is_plain : ℕ → Bool
-is_plain u = nat_le 32 u && nat_le u 126 && (nat_lt u 34 || nat_lt 34 u) && (nat_lt u 92 || nat_lt 92 u)
-
-abbrev pub unit_text : ℕ → List ℕ
-unit_text u = if is_plain u then u ∷ [] else codes "\\u" ++ hexadecimal u
-
-abbrev pub string_text : List ℕ → List ℕ
-string_text units = codes "\"" ++ flat_map unit_text units ++ codes "\""
-
-abbrev pub field_text : FieldRef → List ℕ
-field_text f = descriptor f.class ++ codes "->" ++ f.name ++ codes ":" ++ descriptor f.ty
-
-abbrev pub method_text : MethodRef → List ℕ
-method_text m = descriptor m.class ++ codes "->" ++ m.name ++ prototype m.proto
 
 abbrev pub pool_operands : PoolRef → List (List ℕ)
 pool_operands pool.None = []

@@ -8,8 +8,7 @@ use Rattle.dv_defs.specs.declared.names.FieldRef.{FieldRef}
 use Rattle.dv_defs.specs.declared.names.MethodRef.{MethodRef}
 use Rattle.dv_defs.specs.Body.{BodyValue}
 use Rattle.dv_names.specs.Descriptors.{descriptor}
-use Rattle.dv_print.specs.Numbers.{hexadecimal}
-use Rattle.dv_print.specs.Operands.{string_text, field_text, method_text}
+use Rattle.dv_names.specs.Written.{hexadecimal, string_text, field_text, method_text}
 use Rattle.dv_print.specs.Drafting.{handler_type}
 use Rattle.dv_print.specs.Draft.{registers_text}
 

@@ -1,7 +1,8 @@
 // Numbers and labels as they are printed.
 ghost use Rattle.std.specs.Prelude.{◌≡◌, ◌<◌, ◌++◌, decimal, IfOk};
 ghost use Rattle.std.specs.Fmt.{signed_decimal};
-ghost use Rattle.dv_print.specs.Numbers.{digit, hexadecimal, address_text, label_name};
+ghost use Rattle.dv_names.specs.Written.{digit, hexadecimal};
+ghost use Rattle.dv_print.specs.Numbers.{address_text, label_name};
 
 use itoa::Buffer;
 use std::alloc::{AllocError, Global};

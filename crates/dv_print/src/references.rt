@@ -1,7 +1,7 @@
 // Strings and references to members as they are printed.
 ghost use Rattle.std.specs.Prelude.{◌≡◌, ◌++◌, OnOk, IfOk};
 ghost use Rattle.std.specs.List.{flat_map};
-ghost use Rattle.dv_print.specs.Operands.{is_plain, unit_text, string_text, field_text, method_text};
+ghost use Rattle.dv_names.specs.Written.{is_raw, unit_text, string_text, field_text, method_text};
 
 use crate::numbers::hexadecimal;
 use dv_defs::{Chars, FieldRef, MethodRef};
@@ -9,8 +9,8 @@ use dv_names::{print_proto, print_type};
 use std::alloc::{AllocError, Global};
 
 /// Printable ASCII other than the quote and the backslash.
-fn is_plain(unit: u16) -> bool
-    ensures { result ≡ is_plain unit }
+fn is_raw(unit: u16) -> bool
+    ensures { result ≡ is_raw unit }
 {
     32 <= unit && unit <= 126 && unit != 34 && unit != 92
 }
@@ -19,7 +19,7 @@ fn is_plain(unit: u16) -> bool
 fn add_unit(text: &mut Vec<u8>, unit: u16) -> Result<(), AllocError>
     ensures { OnOk result (text.new.items ≡ text.old.items ++ unit_text unit) }
 {
-    if is_plain(unit) {
+    if is_raw(unit) {
         text.push(unit as u8)?;
         return Ok(());
     }

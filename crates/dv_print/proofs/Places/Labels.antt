@@ -1,7 +1,8 @@
 -- No two addresses have the same label.
 use Rattle.std.proofs.Common.{◌≡◌, ℕ, ◌+◌, ◌*◌, ◌/◌, ◌%◌, ◌<◌, ◌^◌, Bool, true, false, nat_lt, List, [], ◌∷◌, ◌++◌, length, if◌then◌else◌, refl, ap, arith}
 use Rattle.std.proofs.lemmas.Bool.Decides.{nat_tests}
-use Rattle.dv_print.specs.Numbers.{digit, hexadecimal, label_name}
+use Rattle.dv_names.specs.Written.{digit, hexadecimal}
+use Rattle.dv_print.specs.Numbers.{label_name}
 
 same_digit : (m n : ℕ) → m < 16 → n < 16 → digit m ≡ digit n → m ≡ n
 same_digit m n p q e = grind (arith, nat_tests)

@@ -1,6 +1,6 @@
 use Rattle.std.proofs.Common.{◌≡◌, ◌++◌, codes, take}
 use Rattle.std.specs.List.{flat_map}
-use Rattle.dv_print.specs.Operands.{unit_text}
+use Rattle.dv_names.specs.Written.{unit_text}
 use Rattle.dv_print.proofs.references.string_text.Given as goal
 
 abbrev pub invariant-loop-unit : goal.invariant-loop-unit

@@ -1,0 +1,4 @@
+mod Again
+mod Fields
+mod Front
+mod Ways
