@@ -1,0 +1,13 @@
+mod Arrows
+mod Characters
+mod Cuts
+mod Descriptors
+mod Labels
+mod Lacking
+mod Lists
+mod Members
+mod Numbers
+mod Printed
+mod Readings
+mod Spelling
+mod Strings

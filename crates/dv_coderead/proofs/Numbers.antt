@@ -1,0 +1,152 @@
+-- What a word is read as, where a register is due.
+use Rattle.std.proofs.Common.{◌≡◌, ℕ, ◌+◌, ◌-◌, ◌^◌, ◌<◌, ◌≤◌, ◌==◌, Bool, true, false, List, [], ◌∷◌, length, Option, Some, None, Result, Ok, Err, inl, inr, refl, sym, ap, ◌∙◌, subst, arith, append-nil, to_z, of_z, w64}
+use Rattle.std.specs.Prelude.{ℤ, pos, negsuc, ◌+ℤ◌, ◌-ℤ◌, nat_lt, if◌then◌else◌}
+use Rattle.std.specs.List.{list_all}
+use Rattle.std.proofs.lemmas.Bool.{and_parts, cases_lt, cond-true, cond-false, lt-ltb, le-ltb, ltb-true, ne_eqb}
+use Rattle.std.proofs.lemmas.Int.{ints}
+use Rattle.dv_defs.specs.declared.faults.LineKind.{LineKind}
+use Rattle.dv_defs.specs.declared.faults.LineKind.TheVariants.{Operands, RegisterRange}
+use Rattle.dv_lex.specs.Numbers.{Number, Spells, in_bits, is_decimal, value_from}
+use Rattle.dv_coderead.specs.declared.words.Frame.{Frame}
+use Rattle.dv_coderead.specs.Words.{argument_of, decimal_in, register_in, register_of}
+use Rattle.dv_coderead.specs.WordParts.{are_decimal, register_at, short_decimal}
+
+-- ---- digits
+
+abbrev pub decimal_number : List ℕ → Number
+decimal_number ds = record { negative = false; hexadecimal = false; digits = ds; suffix = [] }
+
+pub decimal_spells : (ds : List ℕ) → are_decimal ds ≡ true → Spells ds (decimal_number ds)
+decimal_spells ds are =
+    let p = and_parts (nat_lt 0 (length ds)) (list_all is_decimal ds) are in
+    record { spelled = sym (append-nil ds); some = ltb-true 0 (length ds) p.0; digits = p.1; suffix = refl }
+
+abbrev pub ranged : Option ℤ → Result ℤ LineKind
+ranged None = Err RegisterRange
+ranged (Some z) = Ok z
+
+ranged_by : (v : ℕ) (t : Bool) → (if t then Ok (pos v) else Err RegisterRange) ≡ ranged (if t then Some (pos v) else None)
+ranged_by v true = refl
+ranged_by v false = refl
+
+-- digits are read as their number in 32 bits, if it fits
+pub short_read : (ds : List ℕ) → are_decimal ds ≡ true → short_decimal (decimal_in ds) ≡ ranged (in_bits 32 (decimal_number ds))
+short_read ds are = ap short_decimal (cond-true (are_decimal ds) (Some (value_from 10 0 ds)) None are) ∙ ranged_by (value_from 10 0 ds) (nat_lt (value_from 10 0 ds) (2 ^ 31))
+
+-- other bytes are no number
+pub not_read : (ds : List ℕ) → are_decimal ds ≡ false → short_decimal (decimal_in ds) ≡ Err Operands
+not_read ds other = ap short_decimal (cond-false (are_decimal ds) (Some (value_from 10 0 ds)) None other)
+
+-- ---- a number below 2^31, and any other
+
+data IsShort (n : ℕ) : Result ℤ LineKind → Type 0 where
+  Below : n < 2 ^ 31 → IsShort n (Ok (pos n))
+  Above : 2 ^ 31 ≤ n → IsShort n (Err RegisterRange)
+
+is_short : (n : ℕ) → IsShort n (short_decimal (Some n))
+is_short n =
+    elim (cases_lt n (2 ^ 31)) [
+      | inl lt ↦ subst (IsShort n) (sym (cond-true (nat_lt n (2 ^ 31)) (Ok (pos n)) (Err RegisterRange) (lt-ltb n (2 ^ 31) lt))) (Below lt)
+      | inr le ↦ subst (IsShort n) (sym (cond-false (nat_lt n (2 ^ 31)) (Ok (pos n)) (Err RegisterRange) (le-ltb n (2 ^ 31) le))) (Above le)
+    ]
+
+-- the number that was read
+ok_by : (n : ℕ) (z : ℤ) (r : Result ℤ LineKind) → IsShort n r → r ≡ Ok z → z ≡ pos n
+ok_by n z r (Below lt) e = cc
+ok_by n z r (Above le) e = absurd (cc)
+
+-- a number that wasn't
+err_by : (n : ℕ) (k : LineKind) (r : Result ℤ LineKind) → IsShort n r → r ≡ Err k → (2 ^ 31 ≤ n) × (k ≡ RegisterRange)
+err_by n k r (Below lt) e = absurd (cc)
+err_by n k r (Above le) e = let same : k ≡ RegisterRange = cc in (le, same)
+
+-- what was read is small
+small_by : (n : ℕ) (z : ℤ) (r : Result ℤ LineKind) → IsShort n r → r ≡ Ok z → n < 2 ^ 31
+small_by n z r (Below lt) e = lt
+small_by n z r (Above le) e = absurd (cc)
+
+pub record IsSmall (z : ℤ) : Type 0 where
+  pub number : ℕ
+  pub is : z ≡ pos number
+  pub small : number < 2 ^ 31
+
+pub short_small : (o : Option ℕ) (z : ℤ) → short_decimal o ≡ Ok z → IsSmall z
+short_small None z e = absurd (cc)
+short_small (Some n) z e = record { number = n; is = ok_by n z _ (is_short n) e; small = small_by n z _ (is_short n) e }
+
+-- 64 bits hold the sum and the difference
+abbrev kept : ℤ → ℤ
+kept z = to_z w64 (of_z w64 z)
+
+pub added : (frame : Frame) (z x y : ℤ) → IsSmall z → frame.registers ≤ 65536 → frame.arguments ≤ 65536 → x ≡ pos frame.registers → y ≡ pos frame.arguments
+    → kept (kept (kept z +ℤ kept x) -ℤ kept y) ≡ z +ℤ pos frame.registers -ℤ pos frame.arguments
+added frame z x y s few_registers few_arguments e f = omega (arith, ints, s.is, s.small)
+
+-- ---- registers of numbers
+
+-- the registers begin at 0, and no number is so large
+far : (n : ℕ) → 65536 ≤ n → register_of (Some n) ≡ Err RegisterRange
+far n le = cond-false (nat_lt n 65536) (Ok n) (Err RegisterRange) (le-ltb n 65536 le)
+
+pub register_read : (o : Option ℕ) (z : ℤ) → short_decimal o ≡ Ok z → register_at z ≡ register_of o
+register_read None z e = absurd (cc)
+register_read (Some n) z e = ap register_at (ok_by n z _ (is_short n) e)
+
+pub register_refused : (o : Option ℕ) (k : LineKind) → short_decimal o ≡ Err k → register_of o ≡ Err k
+register_refused None k e = cc
+register_refused (Some n) k e = let p = err_by n k _ (is_short n) e in far n (omega (arith, p.0)) ∙ ap Err (sym p.1)
+
+-- ---- registers of arguments
+
+abbrev behind : Frame → ℕ → Result ℕ LineKind
+behind frame n = register_of (Some (frame.registers + n - frame.arguments))
+
+-- there is a register
+argument_here : (frame : Frame) (n : ℕ) → frame.arguments ≤ frame.registers + n → argument_of frame (Some n) ≡ behind frame n
+argument_here frame n le = cond-false (nat_lt (frame.registers + n) frame.arguments) (Err RegisterRange) (behind frame n) (le-ltb _ _ le)
+
+-- there is none
+argument_before : (frame : Frame) (n : ℕ) → frame.registers + n < frame.arguments → argument_of frame (Some n) ≡ Err RegisterRange
+argument_before frame n lt = cond-true (nat_lt (frame.registers + n) frame.arguments) (Err RegisterRange) (behind frame n) (lt-ltb _ _ lt)
+
+argument_number : (frame : Frame) (n : ℕ) → register_at (pos n +ℤ pos frame.registers -ℤ pos frame.arguments) ≡ argument_of frame (Some n)
+argument_number frame n =
+    let r = frame.registers in
+    let a = frame.arguments in
+    elim (cases_lt (r + n) a) [
+      | inl lt ↦ let e : pos n +ℤ pos r -ℤ pos a ≡ negsuc (a - (r + n) - 1) = omega (arith, ints) in ap register_at e ∙ sym (argument_before frame n lt)
+      | inr le ↦ let e : pos n +ℤ pos r -ℤ pos a ≡ pos (r + n - a) = omega (arith, ints) in ap register_at e ∙ sym (argument_here frame n le)
+    ]
+
+pub argument_read : (frame : Frame) (o : Option ℕ) (z : ℤ) → short_decimal o ≡ Ok z
+    → register_at (z +ℤ pos frame.registers -ℤ pos frame.arguments) ≡ argument_of frame o
+argument_read frame None z e = absurd (cc)
+argument_read frame (Some n) z e =
+    ap (λ x. register_at (x +ℤ pos frame.registers -ℤ pos frame.arguments)) (ok_by n z _ (is_short n) e) ∙ argument_number frame n
+
+pub argument_refused : (frame : Frame) → frame.arguments ≤ 65536 → (o : Option ℕ) (k : LineKind) → short_decimal o ≡ Err k → argument_of frame o ≡ Err k
+argument_refused frame few None k e = cc
+argument_refused frame few (Some n) k e =
+    let p = err_by n k _ (is_short n) e in
+    let large : 2 ^ 31 ≤ n = p.0 in
+    argument_here frame n (omega arith) ∙ far (frame.registers + n - frame.arguments) (omega arith) ∙ ap Err (sym p.1)
+
+-- ---- words
+
+pub plain_word : (frame : Frame) (w ds : List ℕ) → w ≡ 118 ∷ ds → register_in frame w ≡ register_of (decimal_in ds)
+unfolding register_in
+plain_word frame w ds e = ap (register_in frame) e
+
+pub argument_word : (frame : Frame) (w ds : List ℕ) → w ≡ 112 ∷ ds → register_in frame w ≡ argument_of frame (decimal_in ds)
+unfolding register_in
+argument_word frame w ds e = ap (register_in frame) e
+
+other_by : (frame : Frame) (b : ℕ) (bs : List ℕ) → (b == 118) ≡ false → (b == 112) ≡ false → register_in frame (b ∷ bs) ≡ Err Operands
+unfolding register_in
+other_by frame b bs no_v no_p = rw (no_v, no_p) refl
+
+pub other_word : (frame : Frame) (w : List ℕ) → ((ds : List ℕ) → w ≡ 118 ∷ ds → ⊥) → ((ds : List ℕ) → w ≡ 112 ∷ ds → ⊥) → register_in frame w ≡ Err Operands
+unfolding register_in
+other_word frame [] no_v no_p = refl
+other_word frame (b ∷ bs) no_v no_p =
+    other_by frame b bs (ne_eqb b 118 (λ e. no_v bs (ap (λ x. x ∷ bs) e))) (ne_eqb b 112 (λ e. no_p bs (ap (λ x. x ∷ bs) e)))

@@ -1,0 +1,138 @@
+// Types and references to members, read from words.
+ghost use Rattle.std.specs.Prelude.{◌≡◌, ◌∷◌, ◌++◌, IfOk};
+ghost use Rattle.dv_names.specs.Descriptors.{is_name_byte, is_plain_name, is_special_name, is_name};
+ghost use Rattle.dv_coderead.specs.Giving.{Gives};
+ghost use Rattle.dv_coderead.specs.References.{refusal_of, type_in, reference_type_in, proto_in, field_in, method_in, cut_at, arrow_parts, found_parts, member_name};
+
+use crate::Refusal;
+use dv_defs::{FieldRef, LineKind, MethodRef, Proto, Text, Ty};
+use dv_names::{NameError, parse_proto, parse_type};
+use std::alloc::Global;
+
+/// The characters that no plain name has, beside blanks and control characters.
+const MARKS: &[u8; 16] = b".;[/()<>:\"'#{},=";
+
+const CONSTRUCTOR: &[u8] = b"<init>";
+
+const CLASS_INITIALIZER: &[u8] = b"<clinit>";
+
+impl From<NameError> for Refusal {
+    ghost from_gives = { λ e r. r ≡ refusal_of e };
+
+    fn from(error: NameError) -> Refusal {
+        match error {
+            NameError::BadDescriptor(_) => Refusal::Fault(LineKind::BadDescriptor),
+            NameError::FloatType(_) => Refusal::Fault(LineKind::FloatType),
+            NameError::Memory => Refusal::Memory,
+        }
+    }
+}
+
+/// The type whose descriptor the word is.
+pub fn ty(alloc: Global, word: &[u8]) -> Result<Ty, Refusal>
+    ensures { Gives (λ t. t) result (type_in word.now) }
+{
+    Ok(parse_type(alloc, word)?)
+}
+
+/// The class or array whose descriptor the word is.
+pub fn reference_type(alloc: Global, word: &[u8]) -> Result<Ty, Refusal>
+    ensures { Gives (λ t. t) result (reference_type_in word.now) }
+{
+    let ty = ty(alloc, word)?;
+    if !ty.is_reference() {
+        return Err(Refusal::Fault(LineKind::BadDescriptor));
+    }
+    Ok(ty)
+}
+
+/// The prototype that the word is.
+pub fn proto(alloc: Global, word: &[u8]) -> Result<Proto, Refusal>
+    ensures { Gives (λ p. p) result (proto_in word.now) }
+{
+    Ok(parse_proto(alloc, word)?)
+}
+
+/// What stands before the first such byte, and behind it.
+fn cut_at(word: &[u8], mark: u8) -> Result<(&[u8], &[u8]), Refusal>
+    ensures parts { Gives (λ p. (p.0.now, p.1.now)) result (found_parts (cut_at mark word.now)) }
+    ensures whole { IfOk result (λ p. word.now ≡ p.0.now ++ (mark ∷ p.1.now)) }
+{
+    for (place, byte) in word.iter().enumerate() {
+        if *byte == mark {
+            return Ok((&word[..place], &word[place + 1..]));
+        }
+    }
+    Err(Refusal::Fault(LineKind::Operands))
+}
+
+/// What stands before the first `->`, and behind it.
+fn cut_at_arrow(word: &[u8]) -> Result<(&[u8], &[u8]), Refusal>
+    ensures { Gives (λ p. (p.0.now, p.1.now)) result (arrow_parts word.now) }
+{
+    for (place, byte) in word.iter().enumerate() {
+        if *byte == b'-' && place + 1 < word.len() && word[place + 1] == b'>' {
+            return Ok((&word[..place], &word[place + 2..]));
+        }
+    }
+    Err(Refusal::Fault(LineKind::Operands))
+}
+
+fn is_name_byte(byte: u8) -> bool
+    ensures { result ≡ is_name_byte byte }
+{
+    byte > b' ' && !MARKS.contains(&byte)
+}
+
+fn is_plain_name(word: &[u8]) -> bool
+    ensures { result ≡ is_plain_name word.now }
+{
+    !word.is_empty() && word.iter().all(|byte| is_name_byte(*byte))
+}
+
+/// Whether the word is the name of a constructor or of a class's initializer.
+fn is_special_name(word: &[u8]) -> bool
+    ensures { result ≡ is_special_name word.now }
+{
+    word == CONSTRUCTOR || word == CLASS_INITIALIZER
+}
+
+fn is_name(word: &[u8]) -> bool
+    ensures { result ≡ is_name word.now }
+{
+    is_plain_name(word) || is_special_name(word)
+}
+
+/// The name that the word is.
+fn name(alloc: Global, word: &[u8]) -> Result<Text, Refusal>
+    ensures { Gives (λ w. w) result (member_name word.now) }
+{
+    if !is_name(word) {
+        return Err(Refusal::Fault(LineKind::Operands));
+    }
+    Ok(Text::of(Vec::from_slice(alloc, word)?))
+}
+
+/// The field that the word names: a class or an array, `->`, a name, `:` and a type.
+pub fn field(alloc: Global, word: &[u8]) -> Result<FieldRef, Refusal>
+    ensures { Gives (λ f. f) result (field_in word.now) }
+{
+    let (before, member) = cut_at_arrow(word)?;
+    let class = reference_type(alloc, before)?;
+    let (own, descriptor) = cut_at(member, b':')?;
+    let name = name(alloc, own)?;
+    let ty = ty(alloc, descriptor)?;
+    Ok(FieldRef { class, name, ty })
+}
+
+/// The method that the word names: a class or an array, `->`, a name and a prototype.
+pub fn method(alloc: Global, word: &[u8]) -> Result<MethodRef, Refusal>
+    ensures { Gives (λ m. m) result (method_in word.now) }
+{
+    let (before, member) = cut_at_arrow(word)?;
+    let class = reference_type(alloc, before)?;
+    let (own, _) = cut_at(member, b'(')?;
+    let name = name(alloc, own)?;
+    let proto = proto(alloc, &member[own.len()..])?;
+    Ok(MethodRef { class, name, proto })
+}
