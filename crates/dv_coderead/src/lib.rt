@@ -2,6 +2,7 @@
 #![tactic(auto)]
 
 mod laws;
+mod names;
 mod operands;
 mod parts;
 mod pieces;

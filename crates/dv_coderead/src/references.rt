@@ -1,20 +1,13 @@
 // Types and references to members, read from words.
 ghost use Rattle.std.specs.Prelude.{◌≡◌, ◌∷◌, ◌++◌, IfOk};
-ghost use Rattle.dv_names.specs.Descriptors.{is_name_byte, is_plain_name, is_special_name, is_name};
 ghost use Rattle.dv_coderead.specs.Giving.{Gives};
 ghost use Rattle.dv_coderead.specs.References.{refusal_of, type_in, reference_type_in, proto_in, field_in, method_in, cut_at, arrow_parts, found_parts, member_name};
 
 use crate::Refusal;
+use crate::names::is_name;
 use dv_defs::{FieldRef, LineKind, MethodRef, Proto, Text, Ty};
 use dv_names::{NameError, parse_proto, parse_type};
 use std::alloc::Global;
-
-/// The characters that no plain name has, beside blanks and control characters.
-const MARKS: &[u8; 16] = b".;[/()<>:\"'#{},=";
-
-const CONSTRUCTOR: &[u8] = b"<init>";
-
-const CLASS_INITIALIZER: &[u8] = b"<clinit>";
 
 impl From<NameError> for Refusal {
     ghost from_gives = { λ e r. r ≡ refusal_of e };
@@ -76,31 +69,6 @@ fn cut_at_arrow(word: &[u8]) -> Result<(&[u8], &[u8]), Refusal>
         }
     }
     Err(Refusal::Fault(LineKind::Operands))
-}
-
-fn is_name_byte(byte: u8) -> bool
-    ensures { result ≡ is_name_byte byte }
-{
-    byte > b' ' && !MARKS.contains(&byte)
-}
-
-fn is_plain_name(word: &[u8]) -> bool
-    ensures { result ≡ is_plain_name word.now }
-{
-    !word.is_empty() && word.iter().all(|byte| is_name_byte(*byte))
-}
-
-/// Whether the word is the name of a constructor or of a class's initializer.
-fn is_special_name(word: &[u8]) -> bool
-    ensures { result ≡ is_special_name word.now }
-{
-    word == CONSTRUCTOR || word == CLASS_INITIALIZER
-}
-
-fn is_name(word: &[u8]) -> bool
-    ensures { result ≡ is_name word.now }
-{
-    is_plain_name(word) || is_special_name(word)
 }
 
 /// The name that the word is.

@@ -1,12 +1,12 @@
 // Single words of a line: numbers, strings, labels and registers.
 ghost use Rattle.std.specs.Prelude.{◌≡◌, ◌≤◌, IfOk};
-ghost use Rattle.dv_names.specs.Descriptors.{is_name, is_name_byte, is_plain_name};
 ghost use Rattle.dv_lex.specs.Literals.{IsSomeString};
 ghost use Rattle.dv_coderead.specs.Giving.{Gives};
 ghost use Rattle.dv_coderead.specs.WordParts.{are_decimal, register_at, short_decimal};
 ghost use Rattle.dv_coderead.specs.Words.{decimal_in, label_in, literal_in, register_in, string_of};
 
 use crate::Refusal;
+use crate::names::is_name;
 use dv_defs::{Chars, LineKind, Text};
 use dv_lex::{is_number, number, string_units};
 use std::alloc::{AllocError, Global};
@@ -46,28 +46,6 @@ pub fn string(alloc: Global, word: &[u8]) -> Result<Chars, AllocError>
     ensures { IfOk result (λ units. units ≡ string_of word.now) }
 {
     string_units(alloc, word)
-}
-
-/// The characters that no plain name has, beside blanks and control characters.
-const MARKS: &[u8; 16] = b".;[/()<>:\"'#{},=";
-
-fn is_name_byte(byte: u8) -> bool
-    ensures { result ≡ is_name_byte byte }
-{
-    byte > b' ' && !MARKS.contains(&byte)
-}
-
-fn is_plain_name(text: &[u8]) -> bool
-    ensures { result ≡ is_plain_name text.now }
-{
-    !text.is_empty() && text.iter().all(|byte| is_name_byte(*byte))
-}
-
-/// Whether the text is a plain name, or that of a constructor or of a class's initializer.
-fn is_name(text: &[u8]) -> bool
-    ensures { result ≡ is_name text.now }
-{
-    is_plain_name(text) || text == b"<init>".as_slice() || text == b"<clinit>".as_slice()
 }
 
 /// The name of a label, which stands behind a colon.

@@ -5,7 +5,7 @@ use Rattle.std.proofs.lemmas.Bool.{lt-ltb}
 use Rattle.std.proofs.lemmas.Iterator.{YieldsList-from_slice}
 use Rattle.std.proofs.lemmas.Iterator.Search.{all_from_yields_List}
 use Rattle.dv_names.specs.Descriptors.{is_name_byte, is_plain_name}
-use Rattle.dv_coderead.proofs.references.is_plain_name.Goals as goal
+use Rattle.dv_coderead.proofs.names.is_plain_name.Goals as goal
 
 plain_by_bytes : (w : List ℕ) → 0 < length w → is_plain_name w ≡ list_all is_name_byte w
 plain_by_bytes w some = ap (λ t. t && list_all is_name_byte w) (lt-ltb 0 (length w) some)
