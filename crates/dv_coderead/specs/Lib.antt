@@ -4,4 +4,6 @@ pub mod WordParts
 pub mod References
 pub mod Pieces
 pub mod Operands
+pub mod Heads
+pub mod Kept
 pub mod Laws

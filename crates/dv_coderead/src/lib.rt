@@ -1,6 +1,8 @@
 //! The operands of a method's instructions, read from the tokens of their lines.
 #![tactic(auto)]
 
+mod head;
+mod kept;
 mod laws;
 mod names;
 mod operands;
