@@ -6,4 +6,6 @@ pub mod Pieces
 pub mod Operands
 pub mod Heads
 pub mod Kept
+pub mod BodyLines
+pub mod Bodies
 pub mod Laws

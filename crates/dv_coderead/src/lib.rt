@@ -1,6 +1,7 @@
 //! The operands of a method's instructions, read from the tokens of their lines.
 #![tactic(auto)]
 
+mod body_line;
 mod head;
 mod kept;
 mod laws;

@@ -1,0 +1,256 @@
+-- What the lines of a method say, each judged by what the lines before it told.
+use Rattle.std.specs.Prelude.{◌≡◌, ℕ, ◌+◌, ◌*◌, ◌≤◌, ◌&&◌, ℤ, pos, Bool, true, false, List, [], ◌∷◌, codes, bytes_eq, drop, Option, Some, None, Result, Ok, Err, nat_le, nat_lt, is_some, IsSome, IsTrue, ◌==◌, if◌then◌else◌}
+use Rattle.dv_defs.specs.declared.faults.LineKind.{LineKind}
+use Rattle.dv_defs.specs.declared.faults.LineKind.TheVariants as kind
+use Rattle.dv_defs.specs.declared.names.Base.{Base}
+use Rattle.dv_defs.specs.declared.names.Base.TheVariants as base
+use Rattle.dv_defs.specs.declared.names.Ty.{Ty}
+use Rattle.dv_defs.specs.Spelling.{fits_signed}
+use Rattle.dv_defs.specs.Tiling.{is_width}
+use Rattle.dv_asm.specs.declared.draft.Catch.{Catch}
+use Rattle.dv_asm.specs.Draft.{IsOp}
+use Rattle.dv_optable.specs.Table.{format_at}
+use Rattle.dv_lex.specs.Numbers.{Number, magnitude, signed}
+use Rattle.dv_coderead.specs.declared.head.Block.TheVariants.{Packed, Sparse, Data, Units}
+use Rattle.dv_coderead.specs.declared.head.Block.{Block}
+use Rattle.dv_coderead.specs.declared.head.Directive.{Directive}
+use Rattle.dv_coderead.specs.declared.head.Directive.TheVariants as directive
+use Rattle.dv_coderead.specs.declared.head.Head.{Head}
+use Rattle.dv_coderead.specs.declared.head.Head.TheVariants as head
+use Rattle.dv_coderead.specs.declared.words.Frame.{Frame}
+use Rattle.dv_coderead.specs.declared.body_line.Opening.{Opening}
+use Rattle.dv_coderead.specs.declared.body_line.Opening.TheVariants as opening
+use Rattle.dv_coderead.specs.declared.body_line.Context.{Context}
+use Rattle.dv_coderead.specs.declared.body_line.BodyLine.{BodyLine}
+use Rattle.dv_coderead.specs.declared.body_line.BodyLine.TheVariants as line
+use Rattle.dv_coderead.specs.Giving.{◌>>=◌}
+use Rattle.dv_coderead.specs.Pieces.{Piece, AWord}
+use Rattle.dv_coderead.specs.Words.{number_in, literal_in, label_in}
+use Rattle.dv_coderead.specs.References.{type_in}
+use Rattle.dv_coderead.specs.Operands.{Part, word_at, mark_at, dots_at, behind, ended, operands_in}
+use Rattle.dv_coderead.specs.Heads.{head_of}
+
+-- a whole line, that has this part alone
+abbrev pub alone : {A : Type 0} → Part A → Result A LineKind
+alone (Ok x) = ended x.1 >>= λ nothing. Ok x.0
+alone (Err k) = Err k
+
+abbrev pub said : {A : Type 0} → (A → BodyLine) → Result A LineKind → Result BodyLine LineKind
+said f (Ok x) = Ok (f x)
+said f (Err k) = Err k
+
+-- ---- how many registers there are
+
+-- so many, and as many more as these; 256 at most
+abbrev pub counted : ℕ → Number → Result ℕ LineKind
+counted more n =
+    if n.negative && nat_lt 0 (magnitude n) then Err kind.NumberRange
+    else if nat_le (magnitude n + more) 256 then Ok (magnitude n + more)
+    else Err kind.TooManyRegisters
+
+abbrev pub count_of : ℕ → Option Number → Result ℕ LineKind
+count_of more None = Err kind.Operands
+count_of more (Some n) = counted more n
+
+unfoldable pub count_in : ℕ → List ℕ → Result ℕ LineKind
+count_in more w = count_of more (number_in w)
+
+abbrev pub framed : ℕ → Result ℕ LineKind → Result Frame LineKind
+framed arguments (Ok n) = Ok (record { registers = n; arguments = arguments })
+framed arguments (Err k) = Err k
+
+-- a count of registers, with so many more
+unfoldable pub frame_line : ℕ → ℕ → List Piece → Result Frame LineKind
+frame_line arguments more ps = framed arguments (alone (word_at (count_in more) ps))
+
+-- ---- labels and handlers
+
+unfoldable pub label_line : List Piece → Result (List ℕ) LineKind
+label_line ps = alone (word_at label_in ps)
+
+-- a class, and no array
+abbrev pub is_class_type : Base → Bool
+is_class_type (base.Class name) = true
+is_class_type b = false
+
+abbrev pub only_class : Ty → Result Ty LineKind
+only_class t = if (t.dims == 0) && is_class_type t.base then Ok t else Err kind.BadDescriptor
+
+unfoldable pub class_in : List ℕ → Result Ty LineKind
+class_in w = type_in w >>= only_class
+
+-- `{`, where a range begins, `..`, where it ends, `}`, and the label of its handler
+unfoldable pub handler_line : ℕ → Option Ty → List Piece → Result Catch LineKind
+handler_line n ty ps = do
+  inside ← mark_at 123 ps
+  from ← word_at label_in inside
+  dots ← dots_at from.1
+  to ← word_at label_in dots
+  outside ← mark_at 125 to.1
+  at ← alone (word_at label_in outside)
+  Ok (record { line = n; kind = ty; from = from.0; to = to.0; at = at })
+
+unfoldable pub catch_line : ℕ → List Piece → Result Catch LineKind
+catch_line n ps = word_at class_in ps >>= λ class. handler_line n (Some class.0) class.1
+
+-- ---- payloads
+
+-- a signed number of 32 bits
+abbrev pub key_of : Option Number → Result ℤ LineKind
+key_of None = Err kind.Operands
+key_of (Some n) = if fits_signed 32 (signed n) then Ok (signed n) else Err kind.NumberRange
+
+unfoldable pub key_in : List ℕ → Result ℤ LineKind
+key_in w = key_of (number_in w)
+
+-- how many bytes an element has: 1, 2, 4 or 8
+abbrev pub width_from : ℤ → Result ℕ LineKind
+width_from (pos n) = if is_width n then Ok n else Err kind.NumberRange
+width_from z = Err kind.NumberRange
+
+abbrev pub width_of : Option Number → Result ℕ LineKind
+width_of None = Err kind.Operands
+width_of (Some n) = width_from (signed n)
+
+unfoldable pub width_in : List ℕ → Result ℕ LineKind
+width_in w = width_of (number_in w)
+
+abbrev pub opened : {A : Type 0} → (A → Opening) → Result A LineKind → Result Opening LineKind
+opened f (Ok x) = Ok (f x)
+opened f (Err k) = Err k
+
+unfoldable pub packed_begin : List Piece → Result Opening LineKind
+packed_begin ps = opened opening.Packed (alone (word_at key_in ps))
+
+unfoldable pub sparse_begin : List Piece → Result Opening LineKind
+sparse_begin ps = opened (λ nothing. opening.Sparse) (ended ps)
+
+unfoldable pub data_begin : List Piece → Result Opening LineKind
+data_begin ps = opened opening.Data (alone (word_at width_in ps))
+
+-- the first line of a payload
+abbrev pub begin_line : Block → List Piece → Result Opening LineKind
+begin_line Packed ps = packed_begin ps
+begin_line Sparse ps = sparse_begin ps
+begin_line Data ps = data_begin ps
+begin_line Units ps = Err kind.Misplaced
+
+-- the arrow between a key and its label
+abbrev pub arrow_at : List Piece → Result (List Piece) LineKind
+arrow_at (AWord w ∷ ps) = if bytes_eq w (codes "->") then Ok ps else Err kind.Operands
+arrow_at ps = Err kind.Operands
+
+abbrev pub Case : Type 0
+Case = ℤ × List ℕ
+
+unfoldable pub case_line : List Piece → Result Case LineKind
+case_line ps = do
+  key ← word_at key_in ps
+  arrow ← arrow_at key.1
+  label ← alone (word_at label_in arrow)
+  Ok (key.0, label)
+
+-- an element of so many bytes
+unfoldable pub element_line : ℕ → List Piece → Result ℤ LineKind
+element_line width ps = alone (word_at (literal_in (8 * width)) ps)
+
+-- ---- lines that may not stand where they stand
+
+-- a line that closes or leaves a method leaves its blocks unfinished; other lines that are known are misplaced
+abbrev pub directive_refusal : Directive → LineKind
+directive_refusal directive.EndMethod = kind.Missing
+directive_refusal directive.Method = kind.Missing
+directive_refusal directive.Class = kind.Missing
+directive_refusal directive.Schedule = kind.Missing
+directive_refusal directive.OtherEnd = kind.Operands
+directive_refusal directive.Other = kind.UnknownDirective
+directive_refusal d = kind.Misplaced
+
+abbrev pub refusal_of : Head → LineKind
+refusal_of (head.Directive d) = directive_refusal d
+refusal_of head.Float = kind.FloatInsn
+refusal_of head.Other = kind.UnknownInsn
+refusal_of h = kind.Misplaced
+
+-- ---- lines of a method
+
+-- the count of registers is told once: `.registers` counts all of them, `.locals` those that hold no argument
+abbrev pub registers_line : Option Frame → ℕ → ℕ → List Piece → Result BodyLine LineKind
+registers_line None arguments more ps = said line.Registers (frame_line arguments more ps)
+registers_line (Some f) arguments more ps = Err kind.Repeated
+
+abbrev pub directive_line : ℕ → Option Frame → ℕ → Directive → List Piece → Result BodyLine LineKind
+directive_line arguments frame n directive.Registers ps = registers_line frame arguments 0 ps
+directive_line arguments frame n directive.Locals ps = registers_line frame arguments arguments ps
+directive_line arguments frame n directive.Catch ps = said line.Handler (catch_line n ps)
+directive_line arguments frame n directive.Catchall ps = said line.Handler (handler_line n None ps)
+directive_line arguments frame n (directive.Begin b) ps = said line.Begin (begin_line b ps)
+directive_line arguments frame n d ps = Err (directive_refusal d)
+
+-- labels and instructions stand behind the count of registers
+abbrev pub method_line : ℕ → Option Frame → ℕ → Head → List Piece → Result BodyLine LineKind
+method_line arguments frame n (head.Directive d) ps = directive_line arguments frame n d (behind ps)
+method_line arguments (Some f) n head.Label ps = said line.Label (label_line ps)
+method_line arguments (Some f) n (head.Opcode op) ps = said line.Op (operands_in f op (behind ps))
+method_line arguments frame n h ps = Err (refusal_of h)
+
+-- the last line of a block
+abbrev pub end_line : List Piece → Result BodyLine LineKind
+end_line ps = said (λ nothing. line.End) (ended (drop 2 ps))
+
+abbrev pub packed_line : Head → List Piece → Result BodyLine LineKind
+packed_line head.Label ps = said line.Target (label_line ps)
+packed_line (head.Directive (directive.End Packed)) ps = end_line ps
+packed_line h ps = Err (refusal_of h)
+
+abbrev pub begins_with_number : List Piece → Bool
+begins_with_number (AWord w ∷ ps) = is_some (number_in w)
+begins_with_number ps = false
+
+abbrev pub sparse_line : Head → List Piece → Result BodyLine LineKind
+sparse_line head.Other ps = if begins_with_number ps then said (λ c. line.Case c.0 c.1) (case_line ps) else Err kind.UnknownInsn
+sparse_line (head.Directive (directive.End Sparse)) ps = end_line ps
+sparse_line h ps = Err (refusal_of h)
+
+abbrev pub data_line : ℕ → Head → List Piece → Result BodyLine LineKind
+data_line width head.Other ps = if begins_with_number ps then said line.Element (element_line width ps) else Err kind.UnknownInsn
+data_line width (head.Directive (directive.End Data)) ps = end_line ps
+data_line width h ps = Err (refusal_of h)
+
+-- a line by the block in which it stands
+abbrev pub line_in : ℕ → Option Frame → ℕ → Option Opening → Head → List Piece → Result BodyLine LineKind
+line_in arguments frame n None h ps = method_line arguments frame n h ps
+line_in arguments frame n (Some (opening.Packed first)) h ps = packed_line h ps
+line_in arguments frame n (Some opening.Sparse) h ps = sparse_line h ps
+line_in arguments frame n (Some (opening.Data width)) h ps = data_line width h ps
+
+-- what the line of this number says, in a method with so many argument words
+unfoldable pub body_line : ℕ → Context → ℕ → List Piece → Result BodyLine LineKind
+body_line arguments before n ps = line_in arguments before.frame n before.block (head_of ps) ps
+
+-- ---- what calls keep
+
+-- an array's elements have a width that there is
+abbrev pub HasWidth : Opening → Type 0
+HasWidth (opening.Data width) = IsTrue (is_width width)
+HasWidth o = Unit {0}
+
+-- an opcode of the table
+abbrev pub IsHead : Head → Type 0
+IsHead (head.Opcode op) = IsSome (format_at op)
+IsHead h = Unit {0}
+
+-- an instruction has the form of its format, and elements a width that there is
+abbrev pub IsLine : BodyLine → Type 0
+IsLine (line.Op op) = IsOp op
+IsLine (line.Begin o) = HasWidth o
+IsLine (line.Registers f) = f.registers ≤ 256
+IsLine l = Unit {0}
+
+-- a line of a block stands in a block of its kind
+abbrev pub StandsIn : Option Opening → BodyLine → Type 0
+StandsIn block (line.Target name) = (first : ℤ) × (block ≡ Some (opening.Packed first))
+StandsIn block (line.Case key name) = block ≡ Some opening.Sparse
+StandsIn block (line.Element z) = (width : ℕ) × (block ≡ Some (opening.Data width))
+StandsIn block line.End = IsSome block
+StandsIn block l = block ≡ None
