@@ -8,4 +8,5 @@ pub mod Heads
 pub mod Kept
 pub mod BodyLines
 pub mod Bodies
+pub mod Drafting
 pub mod Laws

@@ -1,7 +1,9 @@
 //! The operands of a method's instructions, read from the tokens of their lines.
 #![tactic(auto)]
 
+mod body;
 mod body_line;
+mod drafting;
 mod head;
 mod kept;
 mod laws;
