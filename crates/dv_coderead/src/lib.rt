@@ -11,6 +11,8 @@ mod names;
 mod operands;
 mod parts;
 mod pieces;
+mod raw_body;
+mod raw_line;
 mod references;
 mod refusal;
 mod registers;
