@@ -1,5 +1,6 @@
 // What a line of a raw body says.
-ghost use Rattle.std.specs.Prelude.{◌≡◌, ◌+◌, ◌≤◌, ◌++◌, length, IfOk};
+ghost use Rattle.std.specs.Prelude.{◌≡◌, ◌+◌, ◌≤◌, length, true, IfOk};
+ghost use Rattle.dv_coderead.specs.declared.raw_line.RawPlace.TheVariants as place;
 ghost use Rattle.dv_lex.specs.Numbers.{value_from};
 ghost use Rattle.dv_coderead.specs.Giving.{Gives, Reads};
 ghost use Rattle.dv_coderead.specs.Pieces.{piece_in, pieces_in};
@@ -240,7 +241,7 @@ fn registers_line(pieces: &[Piece]) -> Result<u32, LineKind>
 /// A line before the count of registers.
 fn start_line(head: Head, pieces: &[Piece]) -> Result<RawLine, LineKind>
     ensures exact { Reads (λ l. l) result (start_line head (pieces_in pieces.now)) }
-    ensures line { IfOk result (IsRawLine RawPlace::Start) }
+    ensures line { IfOk result (IsRawLine place.Start) }
 {
     match head {
         Head::Directive(Directive::Registers) => {
@@ -274,7 +275,7 @@ fn again_or_refused(head: Head) -> LineKind
 /// A line behind the count of registers and before the units.
 fn pools_line(alloc: Global, head: Head, pieces: &[Piece]) -> Result<RawLine, Refusal>
     ensures exact { Gives (λ l. l) result (pools_line head (pieces_in pieces.now)) }
-    ensures line { IfOk result (IsRawLine RawPlace::Pools) }
+    ensures line { IfOk result (IsRawLine place.Pools) }
 {
     match head {
         Head::Directive(Directive::Rawref) => {
@@ -292,7 +293,7 @@ fn pools_line(alloc: Global, head: Head, pieces: &[Piece]) -> Result<RawLine, Re
 fn among_units(alloc: Global, before: u32, head: Head, pieces: &[Piece]) -> Result<RawLine, Refusal>
     requires { before ≤ 16384 }
     ensures exact { Gives (λ l. l) result (among_units before head (pieces_in pieces.now)) }
-    ensures line { IfOk result (IsRawLine (RawPlace::Units before)) }
+    ensures line { IfOk result (IsRawLine (place.Units before)) }
 {
     match head {
         Head::Directive(Directive::End(Block::Units)) => {
@@ -309,7 +310,7 @@ fn among_units(alloc: Global, before: u32, head: Head, pieces: &[Piece]) -> Resu
 /// A line behind the units.
 fn last_line(alloc: Global, head: Head, pieces: &[Piece]) -> Result<RawLine, Refusal>
     ensures exact { Gives (λ l. l) result (last_line head (pieces_in pieces.now)) }
-    ensures line { IfOk result (IsRawLine RawPlace::Behind) }
+    ensures line { IfOk result (IsRawLine place.Behind) }
 {
     match head {
         Head::Directive(Directive::Rawtry) => {
