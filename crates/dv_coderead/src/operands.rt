@@ -3,7 +3,6 @@ ghost use Rattle.std.specs.Prelude.{◌≡◌, IfSome};
 ghost use Rattle.dv_coderead.specs.Giving.{Gives, Reads};
 ghost use Rattle.dv_coderead.specs.Pieces.{piece_in, pieces_in};
 ghost use Rattle.dv_coderead.specs.Operands.{entry_at, entry_in, label_at, literal_at, operands_in, value_in, IsLiteral};
-ghost use Rattle.dv_coderead.specs.Words.{IsFrame};
 
 use crate::parts::{comma, end, next};
 use crate::pieces::Piece;
@@ -120,7 +119,6 @@ pub fn read_operands(
     op: u8,
     pieces: &[Piece],
 ) -> Result<Draftop, Refusal>
-    requires { IsFrame frame }
     ensures { Gives (λ x. x) result (operands_in frame op (pieces_in pieces.now)) }
 {
     let form = registers_of(op);
