@@ -2,6 +2,8 @@ mod Arrows
 mod Characters
 mod Cuts
 mod Descriptors
+mod Formed
+mod FormedParts
 mod Labels
 mod Lacking
 mod Lists
