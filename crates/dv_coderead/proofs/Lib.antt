@@ -9,6 +9,7 @@ mod Lacking
 mod Lists
 mod Members
 mod Numbers
+mod Passed
 mod Printed
 mod Readings
 mod Spelling
