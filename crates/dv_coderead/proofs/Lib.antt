@@ -1,5 +1,6 @@
 mod Arrows
 mod Characters
+mod Classes
 mod Cuts
 mod Descriptors
 mod Labels
@@ -7,7 +8,9 @@ mod Lacking
 mod Lists
 mod Members
 mod Numbers
+mod Opcodes
 mod Printed
 mod Readings
 mod Spelling
 mod Strings
+mod Values
