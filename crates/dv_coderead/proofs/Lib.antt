@@ -3,6 +3,8 @@ mod Characters
 mod Classes
 mod Cuts
 mod Descriptors
+mod Formed
+mod FormedParts
 mod Labels
 mod Lacking
 mod Lists
