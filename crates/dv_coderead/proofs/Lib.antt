@@ -11,6 +11,7 @@ mod Lists
 mod Members
 mod Numbers
 mod Opcodes
+mod Passed
 mod Printed
 mod Readings
 mod Spelling

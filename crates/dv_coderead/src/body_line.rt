@@ -134,7 +134,7 @@ fn class(alloc: Global, word: &[u8]) -> Result<Ty, Refusal>
 
 // ---- parts of a line: each with the pieces behind it
 
-fn count_part<'a, 'b>(
+pub fn count_part<'a, 'b>(
     more: u32,
     pieces: &'b [Piece<'a>],
 ) -> Result<(u32, &'b [Piece<'a>]), LineKind>
@@ -353,7 +353,7 @@ fn directive_refusal(directive: Directive) -> LineKind
     }
 }
 
-fn refusal_of(head: Head) -> LineKind
+pub fn refusal_of(head: Head) -> LineKind
     ensures { result ≡ refusal_of head }
 {
     match head {
@@ -367,7 +367,7 @@ fn refusal_of(head: Head) -> LineKind
 // ---- lines of a method
 
 /// What stands behind the first piece.
-fn behind<'a, 'b>(pieces: &'b [Piece<'a>]) -> &'b [Piece<'a>]
+pub fn behind<'a, 'b>(pieces: &'b [Piece<'a>]) -> &'b [Piece<'a>]
     ensures { pieces_in result.now ≡ behind (pieces_in pieces.now) }
 {
     match pieces {

@@ -225,7 +225,8 @@ fn directive_of(word: &[u8], second: Option<&[u8]>) -> Directive
 }
 
 /// The names of the instructions on floats and doubles.
-const FLOAT_NAMES: &[u8] = b"cmpl-float cmpg-float cmpl-double cmpg-double neg-float neg-double int-to-float int-to-double long-to-float long-to-double float-to-int float-to-long float-to-double double-to-int double-to-long double-to-float add-float sub-float mul-float div-float rem-float add-double sub-double mul-double div-double rem-double add-float/2addr sub-float/2addr mul-float/2addr div-float/2addr rem-float/2addr add-double/2addr sub-double/2addr mul-double/2addr div-double/2addr rem-double/2addr";
+const FLOAT_NAMES: &[u8] =
+    b"cmpl-float cmpg-float cmpl-double cmpg-double neg-float neg-double int-to-float int-to-double long-to-float long-to-double float-to-int float-to-long float-to-double double-to-int double-to-long double-to-float add-float sub-float mul-float div-float rem-float add-double sub-double mul-double div-double rem-double add-float/2addr sub-float/2addr mul-float/2addr div-float/2addr rem-float/2addr add-double/2addr sub-double/2addr mul-double/2addr div-double/2addr rem-double/2addr";
 
 fn is_float_name(word: &[u8]) -> bool
     ensures { result ≡ is_float_name word.now }

@@ -1,7 +1,9 @@
 //! The operands of a method's instructions, read from the tokens of their lines.
 #![tactic(auto)]
 
+mod body;
 mod body_line;
+mod drafting;
 mod head;
 mod kept;
 mod laws;
@@ -9,6 +11,8 @@ mod names;
 mod operands;
 mod parts;
 mod pieces;
+mod raw_body;
+mod raw_line;
 mod references;
 mod refusal;
 mod registers;

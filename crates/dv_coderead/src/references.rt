@@ -60,7 +60,7 @@ fn cut_at(word: &[u8], mark: u8) -> Result<(&[u8], &[u8]), LineKind>
 }
 
 /// What stands before the first `->`, and behind it.
-fn cut_at_arrow(word: &[u8]) -> Result<(&[u8], &[u8]), LineKind>
+pub fn cut_at_arrow(word: &[u8]) -> Result<(&[u8], &[u8]), LineKind>
     ensures { Reads (λ p. (p.0.now, p.1.now)) result (arrow_parts word.now) }
 {
     for (place, byte) in word.iter().enumerate() {

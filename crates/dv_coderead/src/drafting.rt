@@ -1,0 +1,157 @@
+// A draft that is being read, line by line.
+ghost use Rattle.std.specs.Prelude.{◌≡◌, ℕ, ◌≤◌, [], ◌∷◌, List, OnOk};
+ghost use Rattle.dv_coderead.specs.Giving.{GivesLines};
+ghost use Rattle.dv_coderead.specs.BodyLines.{IsLine, StandsIn};
+ghost use Rattle.dv_coderead.specs.Bodies.{element_bytes, nothing_before, told_next, Told};
+ghost use Rattle.dv_coderead.specs.Drafting.{catches_with, finished_with, items_with, IsDrafting};
+
+use crate::body_line::{BodyLine, Context, Opening};
+use dv_asm::{Catch, Draft, Item, What};
+use dv_defs::{LineError, LineKind, Seq, Text};
+use std::alloc::{AllocError, Global};
+use std::mem;
+
+/// The payload that is open: the line at which it began, and its labels, keys or bytes so far.
+#[derive(Debug, Drop)]
+pub struct Open {
+    pub line: u32,
+    pub labels: Vec<Text>,
+    pub keys: Vec<i32>,
+    pub bytes: Vec<u8>,
+}
+
+/// What the lines so far have given.
+#[derive(Debug, Drop)]
+pub struct Drafting {
+    pub context: Context,
+    pub open: Open,
+    pub items: Vec<Item>,
+    pub catches: Vec<Catch>,
+}
+
+impl Open {
+    fn new(alloc: Global) -> Open
+        ensures labels { result.labels.items ≡ [] }
+        ensures keys { result.keys.items ≡ [] }
+        ensures bytes { result.bytes.items ≡ [] }
+    {
+        Open {
+            line: 0,
+            labels: Vec::new(alloc),
+            keys: Vec::new(alloc),
+            bytes: Vec::new(alloc),
+        }
+    }
+}
+
+impl Drafting {
+    /// Before the first line.
+    pub fn new(alloc: Global) -> Drafting
+        ensures context { result.context ≡ nothing_before }
+        ensures items { result.items.items ≡ [] }
+        ensures catches { result.catches.items ≡ [] }
+        ensures drafting { IsDrafting result }
+    {
+        Drafting {
+            context: Context {
+                frame: None,
+                block: None,
+            },
+            open: Open::new(alloc),
+            items: Vec::new(alloc),
+            catches: Vec::new(alloc),
+        }
+    }
+
+    /// Adds the bytes of an array's element, the low byte first.
+    fn add_element(&mut self, element: i64) -> Result<(), AllocError> {
+        let Some(Opening::Data(width)) = self.context.block else {
+            return Ok(());
+        };
+        let bytes = element.cast_unsigned().to_le_bytes();
+        self.open
+            .bytes
+            .extend_from_slice(&bytes[..usize::from(width)])
+    }
+
+    /// Closes the block that is open, whose payload becomes an item.
+    fn end_block(&mut self, alloc: Global) -> Result<(), AllocError> {
+        let Some(opening) = self.context.block else {
+            return Ok(());
+        };
+        let open = mem::replace(&mut self.open, Open::new(alloc));
+        self.items.push(Item {
+            line: open.line,
+            what: payload(opening, open),
+        })?;
+        self.context.block = None;
+        Ok(())
+    }
+
+    /// Adds what a line says, which stands in its block.
+    pub fn add(&mut self, alloc: Global, line: u32, says: BodyLine) -> Result<(), AllocError>
+        requires drafting { IsDrafting self.old }
+        requires formed { IsLine says }
+        requires stands { StandsIn self.old.context.block says }
+        ensures drafting { OnOk result (IsDrafting self.new) }
+        ensures context { OnOk result (self.new.context ≡ told_next self.old.context says) }
+        ensures items { OnOk result ((ts : List Told) → items_with self.new ts ≡ items_with self.old (record { number = line; says = says } ∷ ts)) }
+        ensures catches { OnOk result ((ts : List Told) → catches_with self.new ts ≡ catches_with self.old (record { number = line; says = says } ∷ ts)) }
+    {
+        match says {
+            BodyLine::Registers(frame) => self.context.frame = Some(frame),
+            BodyLine::Label(name) => self.items.push(Item {
+                line,
+                what: What::Label(name),
+            })?,
+            BodyLine::Op(op) => self.items.push(Item {
+                line,
+                what: What::Op(op),
+            })?,
+            BodyLine::Handler(catch) => self.catches.push(catch)?,
+            BodyLine::Begin(opening) => {
+                self.context.block = Some(opening);
+                self.open.line = line;
+            }
+            BodyLine::Target(name) => self.open.labels.push(name)?,
+            BodyLine::Case(key, name) => {
+                self.open.keys.push(key)?;
+                self.open.labels.push(name)?;
+            }
+            BodyLine::Element(element) => self.add_element(element)?,
+            BodyLine::End => self.end_block(alloc)?,
+        }
+        Ok(())
+    }
+
+    /// The draft, behind the last line. `past` is the number of the line behind it.
+    ///
+    /// # Errors
+    ///
+    /// `Missing` at that line where there is no count of registers, or a block is left open.
+    pub fn finish(self, past: u32) -> Result<Draft, LineError>
+        requires { IsDrafting self }
+        ensures { GivesLines (λ d. d) result (finished_with past 0 self []) }
+    {
+        match (self.context.frame, self.context.block) {
+            (Some(frame), None) => Ok(Draft {
+                registers: frame.registers as u16,
+                items: Seq::of(self.items),
+                catches: Seq::of(self.catches),
+            }),
+            _ => Err(LineError::At {
+                line: past,
+                kind: LineKind::Missing,
+            }),
+        }
+    }
+}
+
+/// A payload that begins so and has these lines.
+fn payload(opening: Opening, open: Open) -> What {
+    match opening {
+        Opening::Packed(first) => What::Packed(first, Seq::of(open.labels)),
+        Opening::Sparse => What::Sparse(Seq::of(open.keys), Seq::of(open.labels)),
+        Opening::Data(width) => What::Data(width, Seq::of(open.bytes)),
+    }
+}
