@@ -1,5 +1,6 @@
 mod Arrows
 mod Characters
+mod Classes
 mod Cuts
 mod Descriptors
 mod Formed
@@ -9,8 +10,10 @@ mod Lacking
 mod Lists
 mod Members
 mod Numbers
+mod Opcodes
 mod Passed
 mod Printed
 mod Readings
 mod Spelling
 mod Strings
+mod Values

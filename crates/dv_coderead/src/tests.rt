@@ -1,4 +1,5 @@
 // Tests, row by row, with answers that were worked out by hand.
+mod body_lines;
 mod heads;
 mod operands;
 mod references;
