@@ -1,3 +1,4 @@
+mod Adding
 mod Arrows
 mod Characters
 mod Cuts
