@@ -138,17 +138,27 @@ impl Drafting {
         requires { IsDrafting self }
         ensures { GivesLines (λ d. d) result (finished_with past 0 self []) }
     {
-        match (self.context.frame, self.context.block) {
-            (Some(frame), None) => Ok(Draft {
-                registers: frame.registers as u16,
-                items: Seq::of(self.items),
-                catches: Seq::of(self.catches),
-            }),
-            _ => Err(LineError::At {
-                line: past,
-                kind: LineKind::Missing,
-            }),
+        let Some(frame) = self.context.frame else {
+            return Err(missing(past));
+        };
+        if self.context.block.is_some() {
+            return Err(missing(past));
         }
+        Ok(Draft {
+            registers: frame.registers as u16,
+            items: Seq::of(self.items),
+            catches: Seq::of(self.catches),
+        })
+    }
+}
+
+/// That something is missing on this line.
+pub fn missing(line: u32) -> LineError
+    ensures { result ≡ LineError.At line LineKind.Missing }
+{
+    LineError::At {
+        line,
+        kind: LineKind::Missing,
     }
 }
 
