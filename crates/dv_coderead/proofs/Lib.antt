@@ -8,6 +8,7 @@ mod Finishing
 mod Lacking
 mod Lists
 mod Members
+mod Numbering
 mod Numbers
 mod Printed
 mod Readings
