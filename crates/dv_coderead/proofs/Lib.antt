@@ -4,6 +4,7 @@ mod Characters
 mod Cuts
 mod Descriptors
 mod Labels
+mod Drafts
 mod Finishing
 mod Lacking
 mod Lists

@@ -6,5 +6,5 @@ use Rattle.dv_coderead.proofs.body.argument_words.Given as goal
 abbrev pub invariant-loop-ty : goal.invariant-loop-ty
 invariant-loop-ty l = record {
   few : l.words < 2 ^ 32;
-  all : l.words + words_of_all (drop l.ty-index l.ty-items) ≡ argument_words l.proto l.is_static
+  all : l.words + words_of_all (drop l.ty-index l.ty-items) ≡ argument_words l.proto l.is_static;
 }
