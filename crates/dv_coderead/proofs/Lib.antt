@@ -1,3 +1,4 @@
+mod Adding
 mod Arrows
 mod Characters
 mod Classes
@@ -6,9 +7,12 @@ mod Descriptors
 mod Formed
 mod FormedParts
 mod Labels
+mod Drafts
+mod Finishing
 mod Lacking
 mod Lists
 mod Members
+mod Numbering
 mod Numbers
 mod Opcodes
 mod Passed
