@@ -1,4 +1,4 @@
--- The class of a handler.
+-- Classes, and types that are none.
 use Rattle.std.proofs.Common.{◌≡◌, ℕ, ◌==◌, ◌&&◌, Bool, true, false, List, Ok, Err, refl, ap, ◌∙◌}
 use Rattle.std.proofs.lemmas.Bool.{and_from, and_left, and_right, cond-false, cond-true, eq-eqb, ne_eqb}
 use Rattle.dv_defs.specs.declared.faults.LineKind.TheVariants.{BadDescriptor}
@@ -6,7 +6,7 @@ use Rattle.dv_defs.specs.declared.names.Base.{Base}
 use Rattle.dv_defs.specs.declared.names.Base.TheVariants as base
 use Rattle.dv_defs.specs.declared.names.Text.{Text}
 use Rattle.dv_defs.specs.declared.names.Ty.{Ty}
-use Rattle.dv_coderead.specs.BodyLines.{is_class_type, only_class}
+use Rattle.dv_coderead.specs.References.{is_class_type, only_class}
 
 -- a class is taken
 pub class_taken : (t : Ty) (name : Text) → t.dims ≡ 0 → t.base ≡ base.Class name → only_class t ≡ Ok t

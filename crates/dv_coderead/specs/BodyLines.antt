@@ -2,8 +2,6 @@
 use Rattle.std.specs.Prelude.{◌≡◌, ℕ, ◌+◌, ◌*◌, ◌≤◌, ◌&&◌, ℤ, pos, negsuc, Bool, true, false, List, [], ◌∷◌, codes, bytes_eq, drop, Option, Some, None, Result, Ok, Err, nat_le, is_some, IsSome, IsTrue, ◌==◌, if◌then◌else◌}
 use Rattle.dv_defs.specs.declared.faults.LineKind.{LineKind}
 use Rattle.dv_defs.specs.declared.faults.LineKind.TheVariants as kind
-use Rattle.dv_defs.specs.declared.names.Base.{Base}
-use Rattle.dv_defs.specs.declared.names.Base.TheVariants as base
 use Rattle.dv_defs.specs.declared.names.Ty.{Ty}
 use Rattle.dv_defs.specs.Spelling.{fits_signed}
 use Rattle.dv_defs.specs.Tiling.{is_width}
@@ -26,14 +24,9 @@ use Rattle.dv_coderead.specs.declared.body_line.BodyLine.TheVariants as line
 use Rattle.dv_coderead.specs.Giving.{◌>>=◌}
 use Rattle.dv_coderead.specs.Pieces.{Piece, AWord}
 use Rattle.dv_coderead.specs.Words.{number_in, literal_in, label_in}
-use Rattle.dv_coderead.specs.References.{type_in}
-use Rattle.dv_coderead.specs.Operands.{Part, word_at, mark_at, dots_at, behind, ended, operands_in}
+use Rattle.dv_coderead.specs.References.{class_in}
+use Rattle.dv_coderead.specs.Operands.{Part, word_at, alone, mark_at, dots_at, behind, ended, operands_in}
 use Rattle.dv_coderead.specs.Heads.{head_of}
-
--- a whole line, that has this part alone
-abbrev pub alone : {A : Type 0} → Part A → Result A LineKind
-alone (Ok x) = ended x.1 >>= λ nothing. Ok x.0
-alone (Err k) = Err k
 
 abbrev pub said : {A : Type 0} → (A → BodyLine) → Result A LineKind → Result BodyLine LineKind
 said f (Ok x) = Ok (f x)
@@ -66,17 +59,6 @@ frame_line arguments more ps = framed arguments (alone (word_at (count_in more) 
 
 unfoldable pub label_line : List Piece → Result (List ℕ) LineKind
 label_line ps = alone (word_at label_in ps)
-
--- a class, and no array
-abbrev pub is_class_type : Base → Bool
-is_class_type (base.Class name) = true
-is_class_type b = false
-
-abbrev pub only_class : Ty → Result Ty LineKind
-only_class t = if (t.dims == 0) && is_class_type t.base then Ok t else Err kind.BadDescriptor
-
-unfoldable pub class_in : List ℕ → Result Ty LineKind
-class_in w = type_in w >>= only_class
 
 -- `{`, where a range begins, `..`, where it ends, `}`, and the label of its handler
 unfoldable pub handler_line : ℕ → Option Ty → List Piece → Result Catch LineKind

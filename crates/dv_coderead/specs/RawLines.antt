@@ -22,9 +22,9 @@ use Rattle.dv_coderead.specs.Giving.{◌>>=◌}
 use Rattle.dv_coderead.specs.Pieces.{Piece, AWord, AMark, AString, ACharacter}
 use Rattle.dv_coderead.specs.Words.{number_in}
 use Rattle.dv_coderead.specs.References.{type_in, field_in, method_in, cut_at, cut_at_arrow}
-use Rattle.dv_coderead.specs.Operands.{Part, word_at, behind, ended, and_behind, as_entry}
+use Rattle.dv_coderead.specs.Operands.{Part, word_at, alone, behind, ended, and_behind, as_entry}
 use Rattle.dv_coderead.specs.Heads.{head_of}
-use Rattle.dv_coderead.specs.BodyLines.{alone, count_in, refusal_of}
+use Rattle.dv_coderead.specs.BodyLines.{count_in, refusal_of}
 
 abbrev pub raw_said : {A : Type 0} → (A → RawLine) → Result A LineKind → Result RawLine LineKind
 raw_said f (Ok x) = Ok (f x)

@@ -6,16 +6,16 @@ ghost use Rattle.dv_coderead.specs.Pieces.{pieces_in};
 ghost use Rattle.dv_coderead.specs.Heads.{head_of};
 ghost use Rattle.dv_coderead.specs.Words.{label_in};
 ghost use Rattle.dv_coderead.specs.Operands.{behind, word_at};
-ghost use Rattle.dv_coderead.specs.BodyLines.{arrow_at, begin_line, begins_with_number, body_line, case_line, catch_line, class_in, count_from, count_in, data_begin, data_line, directive_line, directive_refusal, element_line, end_line, frame_line, handler_line, key_from, key_in, label_line, method_line, packed_begin, packed_line, refusal_of, registers_line, sparse_begin, sparse_line, width_from, width_in, HasWidth, IsHead, IsLine, StandsIn};
+ghost use Rattle.dv_coderead.specs.BodyLines.{arrow_at, begin_line, begins_with_number, body_line, case_line, catch_line, count_from, count_in, data_begin, data_line, directive_line, directive_refusal, element_line, end_line, frame_line, handler_line, key_from, key_in, label_line, method_line, packed_begin, packed_line, refusal_of, registers_line, sparse_begin, sparse_line, width_from, width_in, HasWidth, IsHead, IsLine, StandsIn};
 
 use crate::head::{Block, Directive, Head};
 use crate::operands::read_operands;
-use crate::parts::{dots, end, mark};
+use crate::parts::{behind, dots, end, mark};
 use crate::pieces::Piece;
 use crate::words::{self, Frame};
 use crate::{Refusal, references};
 use dv_asm::{Catch, Draftop};
-use dv_defs::{Base, LineKind, Text, Ty};
+use dv_defs::{LineKind, Text, Ty};
 use dv_lex::{is_number, number};
 use std::alloc::Global;
 
@@ -121,17 +121,6 @@ fn width(word: &[u8]) -> Result<u16, LineKind>
     width_from(words::literal(word, 33)?)
 }
 
-/// The class whose descriptor the word is.
-fn class(alloc: Global, word: &[u8]) -> Result<Ty, Refusal>
-    ensures { Gives (λ t. t) result (class_in word.now) }
-{
-    let ty = references::ty(alloc, word)?;
-    match (ty.dims, &ty.base) {
-        (0, Base::Class(_)) => Ok(ty),
-        _ => Err(Refusal::Fault(LineKind::BadDescriptor)),
-    }
-}
-
 // ---- parts of a line: each with the pieces behind it
 
 pub fn count_part<'a, 'b>(
@@ -187,7 +176,7 @@ fn class_part<'a, 'b>(
         return Err(Refusal::Fault(LineKind::Operands));
     };
     match first {
-        Piece::Word(word) => Ok((class(alloc, *word)?, rest)),
+        Piece::Word(word) => Ok((references::class(alloc, *word)?, rest)),
         _ => Err(Refusal::Fault(LineKind::Operands)),
     }
 }
@@ -365,16 +354,6 @@ pub fn refusal_of(head: Head) -> LineKind
 }
 
 // ---- lines of a method
-
-/// What stands behind the first piece.
-pub fn behind<'a, 'b>(pieces: &'b [Piece<'a>]) -> &'b [Piece<'a>]
-    ensures { pieces_in result.now ≡ behind (pieces_in pieces.now) }
-{
-    match pieces {
-        [_, rest @ ..] => rest,
-        [] => pieces,
-    }
-}
 
 /// The count of registers, which is told once.
 fn registers_line(

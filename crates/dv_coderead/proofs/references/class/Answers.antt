@@ -1,12 +1,11 @@
 use Rattle.std.proofs.Common.{ap, ◌∙◌}
 use Rattle.std.proofs.lemmas.Result.{err_from_is_err_and}
 use Rattle.dv_coderead.specs.Giving.{◌>>=◌}
-use Rattle.dv_coderead.specs.References.{type_in}
-use Rattle.dv_coderead.specs.BodyLines.{class_in, only_class}
+use Rattle.dv_coderead.specs.References.{type_in, class_in, only_class}
 use Rattle.dv_coderead.proofs.Classes.{array_refused, class_taken, primitive_refused}
 use Rattle.dv_coderead.proofs.Readings.{fails_first, reads_next}
-use Rattle.dv_coderead.proofs.body_line.class.Goals as goal
-use Rattle.dv_coderead.proofs.body_line.class.Goals.{in_default-via-in-0+in_default, in_default-via-in_default}
+use Rattle.dv_coderead.proofs.references.class.Goals as goal
+use Rattle.dv_coderead.proofs.references.class.Goals.{in_default-via-in-0+in_default, in_default-via-in_default}
 
 pub returns-in_err-ty : goal.returns-in_err-ty
 unfolding class_in
