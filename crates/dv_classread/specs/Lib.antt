@@ -1,2 +1,0 @@
-pub mod ClassLines
-pub mod Texts

@@ -1,4 +1,0 @@
-//! Classes, read from the lines of a smali text.
-#![tactic(auto)]
-
-mod class_line;
