@@ -10,6 +10,7 @@ mod Lacking
 mod Lists
 mod Members
 mod Numbering
+mod Numbered
 mod Numbers
 mod Printed
 mod Readings
