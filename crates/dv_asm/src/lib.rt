@@ -25,3 +25,5 @@ mod units;
 pub use assembling::assemble;
 pub use draft::{Catch, Draft, Draftop, Item, PoolRef, What};
 pub use laws::units_are_items;
+pub use pool::Pool;
+pub use pools::{Pools, index};

@@ -25,7 +25,8 @@ pub fn index(place: usize) -> Result<u32, AllocError>
 }
 
 impl Pools {
-    fn new(alloc: Global) -> Pools
+    /// Pools without entries.
+    pub fn new(alloc: Global) -> Pools
         ensures { result ≡ no_pools }
     {
         Pools {
@@ -38,7 +39,7 @@ impl Pools {
 
     /// Adds what an instruction names at the end of its pool, unless it is there.
     #[tactic(auto, using(crate::proofs::KeyLemmas::places))]
-    fn add(&mut self, entry: &PoolRef) -> Result<(), AllocError>
+    pub fn add(&mut self, entry: &PoolRef) -> Result<(), AllocError>
         ensures { OnOk result (self.new ≡ with_ref self.old entry.now) }
     {
         match entry {

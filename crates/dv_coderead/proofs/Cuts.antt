@@ -19,9 +19,9 @@ cut_lacking c (b ∷ w) rest none =
     let p = and_parts _ _ none in
     cond-false (eqb b c) _ _ (not_true (eqb b c) p.0) ∙ ap (with_byte b) (cut_lacking c w rest p.1)
 
--- the rest of a text, as a range of it
-pub rest_range : (w : List ℕ) (n : ℕ) → take (length w - n) (drop n w) ≡ drop n w
-rest_range w n = take_all (length w - n) (drop n w) (omega (arith, length-drop n w))
+-- the rest of a list, as a range of it
+pub rest_range : {X : Type 0} (xs : List X) (n : ℕ) → take (length xs - n) (drop n xs) ≡ drop n xs
+rest_range xs n = take_all (length xs - n) (drop n xs) (omega (arith, length-drop n xs))
 
 -- ---- from a place on
 

@@ -1,11 +1,12 @@
 -- A reference to a member, from its parts.
-use Rattle.std.proofs.Common.{◌≡◌, ℕ, List, [], ◌-◌, ◌∷◌, ◌++◌, length, take, drop, Ok, Result, refl, ap, ◌∙◌}
+use Rattle.std.proofs.Common.{◌≡◌, ℕ, List, [], ◌-◌, ◌∷◌, ◌++◌, length, take, drop, Ok, Err, Result, refl, ap, ◌∙◌}
 use Rattle.dv_defs.specs.declared.faults.LineKind.{LineKind}
 use Rattle.dv_defs.specs.declared.names.Ty.{Ty}
 use Rattle.dv_defs.specs.declared.names.Proto.{Proto}
 use Rattle.dv_defs.specs.declared.names.FieldRef.{FieldRef}
 use Rattle.dv_defs.specs.declared.names.MethodRef.{MethodRef}
 use Rattle.dv_coderead.specs.declared.refusal.Refusal.{Refusal}
+use Rattle.dv_coderead.specs.declared.refusal.Refusal.TheVariants.{Fault}
 use Rattle.dv_coderead.specs.Giving.{Fails, ◌>>=◌}
 use Rattle.dv_coderead.specs.References.{type_in, proto_in, reference_type_in, arrow_parts, found_parts, cut_at, member_name, field_in, method_in}
 use Rattle.dv_coderead.proofs.Cuts.{rest_range}
@@ -29,8 +30,8 @@ module _ {X Y : Type 0} (mark : ℕ) (last : List ℕ → Result X LineKind) (ma
   member_in w = arrow_parts w >>= by_parts
 
   module _ (w : List ℕ) where
-    pub no_arrow : (e : Refusal) → Fails e (arrow_parts w) → Fails e (member_in w)
-    no_arrow e is = fails_first (arrow_parts w) by_parts e is
+    pub no_arrow : (k : LineKind) → arrow_parts w ≡ Err k → member_in w ≡ Err k
+    no_arrow k is = fails_first (arrow_parts w) by_parts (Fault k) is
 
     module _ (parts : List ℕ × List ℕ) (cut : arrow_parts w ≡ Ok parts) where
       pub no_class : (e : Refusal) → Fails e (reference_type_in parts.0) → Fails e (member_in w)
@@ -40,8 +41,8 @@ module _ {X Y : Type 0} (mark : ℕ) (last : List ℕ → Result X LineKind) (ma
         in_type : (e : Refusal) → Fails e (behind_class parts.1 class) → Fails e (member_in w)
         in_type e is = fails_next (arrow_parts w) by_parts parts e cut (fails_next (reference_type_in parts.0) (behind_class parts.1) class e is_class is)
 
-        pub no_mark : (e : Refusal) → Fails e (found_parts (cut_at mark parts.1)) → Fails e (member_in w)
-        no_mark e is = in_type e (fails_first (found_parts (cut_at mark parts.1)) (in_class class) e is)
+        pub no_mark : (k : LineKind) → found_parts (cut_at mark parts.1) ≡ Err k → member_in w ≡ Err k
+        no_mark k is = in_type (Fault k) (fails_first (found_parts (cut_at mark parts.1)) (in_class class) (Fault k) is)
 
         module _ (member : List ℕ × List ℕ) (found : found_parts (cut_at mark parts.1) ≡ Ok member) where
           pub no_name : (e : Refusal) → Fails e (member_name member.0) → Fails e (member_in w)

@@ -29,25 +29,25 @@ ranged_by : (v : ℕ) (t : Bool) → (if t then Ok (pos v) else Err RegisterRang
 ranged_by v true = refl
 ranged_by v false = refl
 
--- digits are read as their number in 32 bits, if it fits
-pub short_read : (ds : List ℕ) → are_decimal ds ≡ true → short_decimal (decimal_in ds) ≡ ranged (in_bits 32 (decimal_number ds))
-short_read ds are = ap short_decimal (cond-true (are_decimal ds) (Some (value_from 10 0 ds)) None are) ∙ ranged_by (value_from 10 0 ds) (nat_lt (value_from 10 0 ds) (2 ^ 31))
+-- digits are read as their number in 48 bits, if it fits
+pub short_read : (ds : List ℕ) → are_decimal ds ≡ true → short_decimal (decimal_in ds) ≡ ranged (in_bits 48 (decimal_number ds))
+short_read ds are = ap short_decimal (cond-true (are_decimal ds) (Some (value_from 10 0 ds)) None are) ∙ ranged_by (value_from 10 0 ds) (nat_lt (value_from 10 0 ds) (2 ^ 47))
 
 -- other bytes are no number
 pub not_read : (ds : List ℕ) → are_decimal ds ≡ false → short_decimal (decimal_in ds) ≡ Err Operands
 not_read ds other = ap short_decimal (cond-false (are_decimal ds) (Some (value_from 10 0 ds)) None other)
 
--- ---- a number below 2^31, and any other
+-- ---- a number below 2^47, and any other
 
 data IsShort (n : ℕ) : Result ℤ LineKind → Type 0 where
-  Below : n < 2 ^ 31 → IsShort n (Ok (pos n))
-  Above : 2 ^ 31 ≤ n → IsShort n (Err RegisterRange)
+  Below : n < 2 ^ 47 → IsShort n (Ok (pos n))
+  Above : 2 ^ 47 ≤ n → IsShort n (Err RegisterRange)
 
 is_short : (n : ℕ) → IsShort n (short_decimal (Some n))
 is_short n =
-    elim (cases_lt n (2 ^ 31)) [
-      | inl lt ↦ subst (IsShort n) (sym (cond-true (nat_lt n (2 ^ 31)) (Ok (pos n)) (Err RegisterRange) (lt-ltb n (2 ^ 31) lt))) (Below lt)
-      | inr le ↦ subst (IsShort n) (sym (cond-false (nat_lt n (2 ^ 31)) (Ok (pos n)) (Err RegisterRange) (le-ltb n (2 ^ 31) le))) (Above le)
+    elim (cases_lt n (2 ^ 47)) [
+      | inl lt ↦ subst (IsShort n) (sym (cond-true (nat_lt n (2 ^ 47)) (Ok (pos n)) (Err RegisterRange) (lt-ltb n (2 ^ 47) lt))) (Below lt)
+      | inr le ↦ subst (IsShort n) (sym (cond-false (nat_lt n (2 ^ 47)) (Ok (pos n)) (Err RegisterRange) (le-ltb n (2 ^ 47) le))) (Above le)
     ]
 
 -- the number that was read
@@ -56,19 +56,19 @@ ok_by n z r (Below lt) e = cc
 ok_by n z r (Above le) e = absurd (cc)
 
 -- a number that wasn't
-err_by : (n : ℕ) (k : LineKind) (r : Result ℤ LineKind) → IsShort n r → r ≡ Err k → (2 ^ 31 ≤ n) × (k ≡ RegisterRange)
+err_by : (n : ℕ) (k : LineKind) (r : Result ℤ LineKind) → IsShort n r → r ≡ Err k → (2 ^ 47 ≤ n) × (k ≡ RegisterRange)
 err_by n k r (Below lt) e = absurd (cc)
 err_by n k r (Above le) e = let same : k ≡ RegisterRange = cc in (le, same)
 
 -- what was read is small
-small_by : (n : ℕ) (z : ℤ) (r : Result ℤ LineKind) → IsShort n r → r ≡ Ok z → n < 2 ^ 31
+small_by : (n : ℕ) (z : ℤ) (r : Result ℤ LineKind) → IsShort n r → r ≡ Ok z → n < 2 ^ 47
 small_by n z r (Below lt) e = lt
 small_by n z r (Above le) e = absurd (cc)
 
 pub record IsSmall (z : ℤ) : Type 0 where
   pub number : ℕ
   pub is : z ≡ pos number
-  pub small : number < 2 ^ 31
+  pub small : number < 2 ^ 47
 
 pub short_small : (o : Option ℕ) (z : ℤ) → short_decimal o ≡ Ok z → IsSmall z
 short_small None z e = absurd (cc)
@@ -78,9 +78,9 @@ short_small (Some n) z e = record { number = n; is = ok_by n z _ (is_short n) e;
 abbrev kept : ℤ → ℤ
 kept z = to_z w64 (of_z w64 z)
 
-pub added : (frame : Frame) (z x y : ℤ) → IsSmall z → frame.registers ≤ 65536 → frame.arguments ≤ 65536 → x ≡ pos frame.registers → y ≡ pos frame.arguments
+pub added : (frame : Frame) (z x y : ℤ) → IsSmall z → frame.registers < 2 ^ 32 → frame.arguments < 2 ^ 32 → x ≡ pos frame.registers → y ≡ pos frame.arguments
     → kept (kept (kept z +ℤ kept x) -ℤ kept y) ≡ z +ℤ pos frame.registers -ℤ pos frame.arguments
-added frame z x y s few_registers few_arguments e f = omega (arith, ints, s.is, s.small)
+added frame z x y s registers_fit arguments_fit e f = omega (arith, ints, s.is, s.small)
 
 -- ---- registers of numbers
 
@@ -124,11 +124,11 @@ argument_read frame None z e = absurd (cc)
 argument_read frame (Some n) z e =
     ap (λ x. register_at (x +ℤ pos frame.registers -ℤ pos frame.arguments)) (ok_by n z _ (is_short n) e) ∙ argument_number frame n
 
-pub argument_refused : (frame : Frame) → frame.arguments ≤ 65536 → (o : Option ℕ) (k : LineKind) → short_decimal o ≡ Err k → argument_of frame o ≡ Err k
-argument_refused frame few None k e = cc
-argument_refused frame few (Some n) k e =
+pub argument_refused : (frame : Frame) → frame.arguments < 2 ^ 32 → (o : Option ℕ) (k : LineKind) → short_decimal o ≡ Err k → argument_of frame o ≡ Err k
+argument_refused frame fits None k e = cc
+argument_refused frame fits (Some n) k e =
     let p = err_by n k _ (is_short n) e in
-    let large : 2 ^ 31 ≤ n = p.0 in
+    let large : 2 ^ 47 ≤ n = p.0 in
     argument_here frame n (omega arith) ∙ far (frame.registers + n - frame.arguments) (omega arith) ∙ ap Err (sym p.1)
 
 -- ---- words

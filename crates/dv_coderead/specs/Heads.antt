@@ -1,8 +1,7 @@
 -- What a line is, by its first word; by the first two where the first is `.end` or `.restart`.
-use Rattle.std.specs.Prelude.{◌≡◌, ℕ, ◌||◌, Bool, List, [], ◌∷◌, codes, bytes_eq, Option, Some, None, ◌==◌, if◌then◌else◌}
+use Rattle.std.specs.Prelude.{ℕ, ◌||◌, Bool, List, [], ◌∷◌, codes, bytes_eq, Option, Some, None, ◌==◌, if◌then◌else◌}
 use Rattle.std.specs.List.{list_any, slice_split}
 use Rattle.dv_optable.specs.Table.{opcode_named}
-use Rattle.dv_coderead.specs.declared.head.Block.{Block}
 use Rattle.dv_coderead.specs.declared.head.Block.TheVariants.{Packed, Sparse, Data, Units}
 use Rattle.dv_coderead.specs.declared.head.Directive.{Directive}
 use Rattle.dv_coderead.specs.declared.head.Directive.TheVariants as directive

@@ -10,10 +10,10 @@ use Rattle.dv_coderead.specs.Words.{register_of}
 abbrev pub are_decimal : List ℕ → Bool
 are_decimal ds = nat_lt 0 (length ds) && list_all is_decimal ds
 
--- a number below 2^31; any other is that of no register
+-- a number below 2^47; any other is that of no register, nor of an argument's word
 abbrev pub short_decimal : Option ℕ → Result ℤ LineKind
 short_decimal None = Err Operands
-short_decimal (Some n) = if nat_lt n (2 ^ 31) then Ok (pos n) else Err RegisterRange
+short_decimal (Some n) = if nat_lt n (2 ^ 47) then Ok (pos n) else Err RegisterRange
 
 -- the register of this number
 abbrev pub register_at : ℤ → Result ℕ LineKind

@@ -1,5 +1,5 @@
 -- What a token means where a number, a string, a label or a register is due.
-use Rattle.std.specs.Prelude.{ℕ, zero, suc, ◌+◌, ◌-◌, ◌≤◌, ◌&&◌, ℤ, Bool, List, [], ◌∷◌, ◌++◌, length, take, drop, slice_index, Option, Some, None, Result, Ok, Err, nat_lt, ◌==◌, if◌then◌else◌}
+use Rattle.std.specs.Prelude.{ℕ, zero, suc, ◌+◌, ◌-◌, ◌&&◌, ℤ, Bool, List, [], ◌∷◌, ◌++◌, length, take, drop, slice_index, Option, Some, None, Result, Ok, Err, nat_lt, ◌==◌, if◌then◌else◌}
 use Rattle.std.specs.List.{list_all}
 use Rattle.std.specs.Str.{chars}
 use Rattle.std.specs.Char.Escape.{encode_utf16}
@@ -77,10 +77,6 @@ decimal_in ds = if nat_lt 0 (length ds) && list_all is_decimal ds then Some (val
 abbrev pub register_of : Option ℕ → Result ℕ LineKind
 register_of None = Err Operands
 register_of (Some n) = if nat_lt n 65536 then Ok n else Err RegisterRange
-
--- a method of at most 2^16 registers
-abbrev pub IsFrame : Frame → Type 0
-IsFrame frame = (frame.registers ≤ 65536) × (frame.arguments ≤ 65536)
 
 -- the register of an argument's word, which has this number; none before register 0
 abbrev pub argument_of : Frame → Option ℕ → Result ℕ LineKind

@@ -1,9 +1,10 @@
 // The operands of an instruction.
-ghost use Rattle.std.specs.Prelude.{◌≡◌, IfSome};
+ghost use Rattle.std.specs.Prelude.{◌≡◌, IfOk, IfSome, IsSome};
+ghost use Rattle.dv_optable.specs.Table.{format_at};
+ghost use Rattle.dv_asm.specs.Draft.{IsOp};
 ghost use Rattle.dv_coderead.specs.Giving.{Gives, Reads};
 ghost use Rattle.dv_coderead.specs.Pieces.{piece_in, pieces_in};
 ghost use Rattle.dv_coderead.specs.Operands.{entry_at, entry_in, label_at, literal_at, operands_in, value_in, IsLiteral};
-ghost use Rattle.dv_coderead.specs.Words.{IsFrame};
 
 use crate::parts::{comma, end, next};
 use crate::pieces::Piece;
@@ -107,7 +108,7 @@ fn read_entry<'a, 'b>(
 }
 
 /// The instruction of an opcode with the operands that these pieces are: registers, then a literal, a label and an entry
-/// of a pool, as its format has them, with commas between.
+/// of a pool, as its format has them, with commas between. It is in the form of its format, if its opcode has one.
 ///
 /// # Errors
 ///
@@ -120,8 +121,8 @@ pub fn read_operands(
     op: u8,
     pieces: &[Piece],
 ) -> Result<Draftop, Refusal>
-    requires { IsFrame frame }
-    ensures { Gives (λ x. x) result (operands_in frame op (pieces_in pieces.now)) }
+    ensures exact { Gives (λ x. x) result (operands_in frame op (pieces_in pieces.now)) }
+    ensures formed { IsSome (format_at op) → IfOk result IsOp }
 {
     let form = registers_of(op);
     let (regs, rest) = read_registers(alloc, form, frame, pieces)?;

@@ -4,7 +4,6 @@ ghost use Rattle.dv_defs.specs.Spelling.{few};
 ghost use Rattle.dv_coderead.specs.Giving.{Gives, Reads};
 ghost use Rattle.dv_coderead.specs.Pieces.{pieces_in};
 ghost use Rattle.dv_coderead.specs.Operands.{braces_at, last_at, list_at, more_at, neighbours_at, next_register_at, one_at, range_of, register_at, registers_at, three_at, two_at, with_front};
-ghost use Rattle.dv_coderead.specs.Words.{IsFrame};
 
 use crate::Refusal;
 use crate::parts::{closed, comma, dots, mark};
@@ -19,7 +18,6 @@ fn register<'a, 'b>(
     frame: Frame,
     pieces: &'b [Piece<'a>],
 ) -> Result<(u16, &'b [Piece<'a>]), LineKind>
-    requires { IsFrame frame }
     ensures { Reads (λ x. (x.0, pieces_in x.1.now)) result (register_at frame (pieces_in pieces.now)) }
 {
     let [first, rest @ ..] = pieces else {
@@ -37,7 +35,6 @@ fn next_register<'a, 'b>(
     frame: Frame,
     pieces: &'b [Piece<'a>],
 ) -> Result<(u16, &'b [Piece<'a>]), LineKind>
-    requires { IsFrame frame }
     ensures { Reads (λ x. (x.0, pieces_in x.1.now)) result (next_register_at frame (pieces_in pieces.now)) }
 {
     register(frame, comma(pieces)?)
@@ -45,7 +42,6 @@ fn next_register<'a, 'b>(
 
 #[tactic(auto, unfolding(crate::specs::Operands::one_at))]
 fn one<'a, 'b>(frame: Frame, pieces: &'b [Piece<'a>]) -> Result<(Regs, &'b [Piece<'a>]), LineKind>
-    requires { IsFrame frame }
     ensures { Reads (λ x. (x.0, pieces_in x.1.now)) result (one_at frame (pieces_in pieces.now)) }
 {
     let (a, rest) = register(frame, pieces)?;
@@ -59,7 +55,6 @@ fn one<'a, 'b>(frame: Frame, pieces: &'b [Piece<'a>]) -> Result<(Regs, &'b [Piec
 
 #[tactic(auto, unfolding(crate::specs::Operands::two_at))]
 fn two<'a, 'b>(frame: Frame, pieces: &'b [Piece<'a>]) -> Result<(Regs, &'b [Piece<'a>]), LineKind>
-    requires { IsFrame frame }
     ensures { Reads (λ x. (x.0, pieces_in x.1.now)) result (two_at frame (pieces_in pieces.now)) }
 {
     let (a, rest) = register(frame, pieces)?;
@@ -74,7 +69,6 @@ fn two<'a, 'b>(frame: Frame, pieces: &'b [Piece<'a>]) -> Result<(Regs, &'b [Piec
 
 #[tactic(auto, unfolding(crate::specs::Operands::three_at))]
 fn three<'a, 'b>(frame: Frame, pieces: &'b [Piece<'a>]) -> Result<(Regs, &'b [Piece<'a>]), LineKind>
-    requires { IsFrame frame }
     ensures { Reads (λ x. (x.0, pieces_in x.1.now)) result (three_at frame (pieces_in pieces.now)) }
 {
     let (a, rest) = register(frame, pieces)?;
@@ -105,7 +99,6 @@ fn list<'a, 'b>(
     registers: Vec<u16>,
     pieces: &'b [Piece<'a>],
 ) -> Result<(Vec<u16>, &'b [Piece<'a>]), Refusal>
-    requires { IsFrame frame }
     ensures exact { Gives (λ x. (x.0.items, pieces_in x.1.now)) result
         (with_front registers.items (list_at room frame (pieces_in pieces.now))) }
     ensures few { IfOk result (λ x. length x.0.items ≤ length registers.items + room) }
@@ -152,7 +145,6 @@ fn braces<'a, 'b>(
     frame: Frame,
     pieces: &'b [Piece<'a>],
 ) -> Result<(Regs, &'b [Piece<'a>]), Refusal>
-    requires { IsFrame frame }
     ensures { Gives (λ x. (x.0, pieces_in x.1.now)) result (braces_at frame (pieces_in pieces.now)) }
 {
     let inside = mark(b'{', pieces)?;
@@ -184,7 +176,6 @@ fn last<'a, 'b>(
     first: u16,
     pieces: &'b [Piece<'a>],
 ) -> Result<(Regs, &'b [Piece<'a>]), LineKind>
-    requires { IsFrame frame }
     ensures { Reads (λ x. (x.0, pieces_in x.1.now)) result (last_at frame first (pieces_in pieces.now)) }
 {
     let rest = dots(pieces)?;
@@ -199,7 +190,6 @@ fn neighbours<'a, 'b>(
     frame: Frame,
     pieces: &'b [Piece<'a>],
 ) -> Result<(Regs, &'b [Piece<'a>]), LineKind>
-    requires { IsFrame frame }
     ensures { Reads (λ x. (x.0, pieces_in x.1.now)) result (neighbours_at frame (pieces_in pieces.now)) }
 {
     let inside = mark(b'{', pieces)?;
@@ -228,7 +218,6 @@ pub fn read_registers<'a, 'b>(
     frame: Frame,
     pieces: &'b [Piece<'a>],
 ) -> Result<(Regs, &'b [Piece<'a>]), Refusal>
-    requires { IsFrame frame }
     ensures { Gives (λ x. (x.0, pieces_in x.1.now)) result (registers_at form frame (pieces_in pieces.now)) }
 {
     match form {

@@ -73,14 +73,14 @@ fn are_decimal(digits: &[u8]) -> bool
 ///
 /// # Errors
 ///
-/// `Operands` where there are none or other bytes, `RegisterRange` where the value is 2^31 or more.
+/// `Operands` where there are none or other bytes, `RegisterRange` where the value is 2^47 or more.
 fn decimal(digits: &[u8]) -> Result<i64, LineKind>
     ensures { result ≡ short_decimal (decimal_in digits.now) }
 {
     if !are_decimal(digits) {
         return Err(LineKind::Operands);
     }
-    match number(digits, 32, 0) {
+    match number(digits, 48, 0) {
         Ok(value) => Ok(value),
         Err(_) => Err(LineKind::RegisterRange),
     }
@@ -102,7 +102,6 @@ fn register_at(number: i64) -> Result<u16, LineKind>
 ///
 /// `Operands` where the word names none, `RegisterRange` where it stands before register 0 or behind register 65535.
 pub fn register(frame: Frame, word: &[u8]) -> Result<u16, LineKind>
-    requires small { (frame.registers ≤ 65536) × (frame.arguments ≤ 65536) }
     ensures { result ≡ register_in frame word.now }
 {
     if let Some(digits) = word.strip_prefix(b"v") {

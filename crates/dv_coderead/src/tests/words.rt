@@ -26,6 +26,12 @@ const NARROW: Frame = Frame {
     arguments: 2,
 };
 
+// The most words of arguments that there can be.
+const MOST: Frame = Frame {
+    registers: 5,
+    arguments: 4294967295,
+};
+
 const HUNDRED_DIGITS: &str =
     "1234567890123456789012345678901234567890123456789012345678901234567890123456789012345678901234567890";
 
@@ -59,7 +65,7 @@ static LABELS: [(&str, Option<&str>); 8] = [
 ];
 
 // A frame, a word, and the number of the register that it names.
-static REGISTERS: [(Frame, &str, Result<u16, LineKind>); 24] = [
+static REGISTERS: [(Frame, &str, Result<u16, LineKind>); 29] = [
     (FIVE, "v0", Ok(0)),
     (FIVE, "v65535", Ok(65535)),
     (FIVE, "v65536", Err(REGISTER_RANGE)),
@@ -72,6 +78,11 @@ static REGISTERS: [(Frame, &str, Result<u16, LineKind>); 24] = [
     (NARROW, "p0", Err(REGISTER_RANGE)),
     (NARROW, "p1", Ok(0)),
     (NARROW, "v0", Ok(0)),
+    (MOST, "p4294967289", Err(REGISTER_RANGE)),
+    (MOST, "p4294967290", Ok(0)),
+    (MOST, "p4295032825", Ok(65535)),
+    (MOST, "p4295032826", Err(REGISTER_RANGE)),
+    (MOST, "p140737488355328", Err(REGISTER_RANGE)),
     (FIVE, "v2147483648", Err(REGISTER_RANGE)),
     (FIVE, "p4294967296", Err(REGISTER_RANGE)),
     (FIVE, "", Err(OPERANDS)),
@@ -130,18 +141,10 @@ fn labels_are_read(rt: HostRuntime) {
     }
 }
 
-fn is_register(rt: &impl Abort, frame: Frame, text: &str, expected: Result<u16, LineKind>) {
-    assert!(rt;
-        frame.registers <= 65536 && frame.arguments <= 65536,
-        "{text}"
-    );
-    assert_eq!(rt; register(frame, text.as_bytes()), expected, "{text}");
-}
-
 #[test]
 fn registers_are_read(rt: HostRuntime) {
     for (frame, text, expected) in &REGISTERS {
-        is_register(&rt, *frame, text, *expected);
+        assert_eq!(rt; register(*frame, text.as_bytes()), *expected, "{text}");
     }
 }
 

@@ -1,5 +1,5 @@
 use mir.Val.{SFits}
-use Rattle.std.proofs.Common.{[], ◌∷◌, Some, None, ap, sym, ◌∙◌, rules, w64}
+use Rattle.std.proofs.Common.{[], ◌∷◌, Some, None, ap, sym, ◌∙◌, arith, rules, w64}
 use Rattle.std.proofs.lemmas.Bool.Decides.{Decides-eqb}
 use Rattle.std.proofs.lemmas.Int.{to_z-of_z}
 use Rattle.std.proofs.lemmas.Result.{err_from_is_err_and}
@@ -34,7 +34,7 @@ returns-in_err-decimal-2 c =
     let digits = c.in-Some-strip_prefix.digits in
     let whole = strip_prefix_is Decides-eqb w (112 ∷ []) (Some digits) c.in-Some-strip_prefix.ensures.cases in
     let p = err_from_is_err_and c.from_residual-in_err-decimal-2.result c.from_residual-in_err-decimal-2.ensures.1 in
-    let refused = argument_word frame w digits.now whole ∙ argument_refused frame c.requires.small.1 (decimal_in digits.now) c.in_err-decimal-2.field-0.0 (sym c.in_err-decimal-2.ensures) in
+    let refused = argument_word frame w digits.now whole ∙ argument_refused frame (omega arith) (decimal_in digits.now) c.in_err-decimal-2.field-0.0 (sym c.in_err-decimal-2.ensures) in
     rw (p.1, p.2) (sym refused)
 
 pub returns-in-Some-strip_prefix : goal.returns-in-Some-strip_prefix
@@ -46,7 +46,7 @@ returns-in-Some-strip_prefix c =
     let whole = strip_prefix_is Decides-eqb w (112 ∷ []) (Some digits) c.in-Some-strip_prefix.ensures.cases in
     let o = decimal_in digits.now in
     let ok = sym c.in_ok-decimal-2.ensures in
-    let sum = added frame z c.from.result c.from-in-Some-strip_prefix.result (short_small o z ok) c.requires.small.0 c.requires.small.1 c.from.ensures c.from-in-Some-strip_prefix.ensures in
+    let sum = added frame z c.from.result c.from-in-Some-strip_prefix.result (short_small o z ok) (omega arith) (omega arith) c.from.ensures c.from-in-Some-strip_prefix.ensures in
     c.register_at-in-Some-strip_prefix.ensures ∙ ap register_at sum ∙ argument_read frame o z ok ∙ sym (argument_word frame w digits.now whole)
 
 pub returns : goal.returns
