@@ -1,11 +1,9 @@
 -- Lines of a text that isn't too long have a number behind theirs.
-use Rattle.std.proofs.Common.{◌≡◌, ℕ, zero, suc, ◌+◌, ◌-◌, ◌^◌, ◌<◌, ◌≤◌, Bool, true, false, cond, eqb, List, [], ◌∷◌, length, map, Result, Ok, Err, inl, inr, refl, sym, ap, subst, ◌∙◌, arith}
-use Rattle.std.specs.Prelude.{if◌then◌else◌}
+use Rattle.std.proofs.Common.{◌≡◌, ℕ, suc, ◌+◌, ◌-◌, ◌^◌, ◌<◌, ◌≤◌, false, eqb, List, [], ◌∷◌, length, map, Ok, Err, inl, inr, refl, sym, ap, subst, ◌∙◌, arith}
 use Rattle.std.specs.List.{All, AllByRecursion, slice_split, onto_first}
 use Rattle.std.proofs.lemmas.Bool.{ne_eqb, cases_Bool, cond-true, cond-false}
 use Rattle.std.proofs.lemmas.List.Elements.{All-from_recursion}
 use Rattle.std.proofs.lemmas.List.Splits.{length-slice_split}
-use Rattle.dv_defs.specs.declared.faults.LineKind.{LineKind}
 use Rattle.dv_lex.specs.declared.line.Line.{Line}
 use Rattle.dv_lex.specs.declared.line.GoodLines.{GoodLines}
 use Rattle.dv_lex.specs.Lexemes.{Lexemes}
