@@ -4,14 +4,15 @@ mod Characters
 mod Classes
 mod Cuts
 mod Descriptors
+mod Drafts
+mod Finishing
 mod Formed
 mod FormedParts
 mod Labels
-mod Drafts
-mod Finishing
 mod Lacking
 mod Lists
 mod Members
+mod Numbered
 mod Numbering
 mod Numbers
 mod Opcodes

@@ -1,4 +1,5 @@
 // Tests, row by row, with answers that were worked out by hand.
+mod bodies;
 mod body_lines;
 mod heads;
 mod operands;
