@@ -1,7 +1,9 @@
+mod Addresses
 mod Arrows
 mod Characters
 mod Cuts
 mod Descriptors
+mod FewRegisters
 mod Formed
 mod FormedParts
 mod Labels
@@ -11,6 +13,10 @@ mod Members
 mod Numbers
 mod Passed
 mod Printed
+mod RawAdding
+mod RawEntries
+mod RawTries
+mod RawUnits
 mod Readings
 mod Spelling
 mod Strings

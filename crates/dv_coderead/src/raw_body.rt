@@ -1,15 +1,19 @@
 // A raw body, read from its lines.
-ghost use Rattle.std.specs.Prelude.{◌≡◌, ◌≤◌, ◌<◌, [], ◌++◌, ◌∷◌, List, ℕ, length, IfOk, OnOk};
+ghost use Rattle.std.specs.Prelude.{◌≡◌, [], ◌∷◌, List, IfOk, OnOk};
 ghost use Rattle.std.specs.List.{All};
 ghost use Rattle.dv_lex.specs.Lines.{HasTokens, IsLineInside};
+ghost use Rattle.dv_defs.specs.declared.code.Try.{Try};
+ghost use Rattle.dv_defs.specs.Body.{IsBody};
 ghost use Rattle.dv_asm.specs.Pools.{no_pools};
 ghost use Rattle.dv_coderead.specs.Giving.{on_line, GivesLines};
 ghost use Rattle.dv_coderead.specs.Heads.{head_of};
 ghost use Rattle.dv_coderead.specs.Kept.{text_line, text_lines};
 ghost use Rattle.dv_coderead.specs.Drafting.{HasNext};
+ghost use Rattle.dv_coderead.specs.declared.raw_line.RawLine.{RawLine};
+ghost use Rattle.dv_coderead.specs.declared.raw_line.RawPlace.TheVariants as place;
 ghost use Rattle.dv_coderead.specs.RawLines.{raw_line, AreFew, IsRawLine};
-ghost use Rattle.dv_coderead.specs.RawBodies.{place_next, raw_body_of, raw_tries, with_caught};
-ghost use Rattle.dv_coderead.specs.RawDrafting.{raw_with, IsRawDrafting};
+ghost use Rattle.dv_coderead.specs.RawBodies.{place_next, raw_body_of, raw_finished, raw_handler, raw_tries, with_caught};
+ghost use Rattle.dv_coderead.specs.RawDrafting.{entry_of, glued, joined, raw_body_made, raw_with, IsRawDrafting};
 
 use crate::Refusal;
 use crate::body::number_behind;
@@ -34,7 +38,14 @@ pub struct RawDrafting {
 
 impl RawDrafting {
     /// Before the first line.
-    fn new(alloc: Global) -> RawDrafting {
+    fn new(alloc: Global) -> RawDrafting
+        ensures place { result.place ≡ place.Start }
+        ensures registers { result.registers ≡ 0 }
+        ensures pools { result.pools ≡ no_pools }
+        ensures units { result.units.items ≡ [] }
+        ensures handlers { result.handlers.items ≡ [] }
+        ensures drafting { IsRawDrafting result }
+    {
         RawDrafting {
             place: RawPlace::Start,
             registers: 0,
@@ -69,18 +80,11 @@ impl RawDrafting {
         Ok(())
     }
 
-    /// The body, behind the last line. `past` is the number of the line behind it.
-    ///
-    /// # Errors
-    ///
-    /// `Missing` at that line where there is no count of registers, or no units, or these aren't closed.
-    fn finish(self, alloc: Global, past: u32) -> Result<Body, LineError> {
-        let RawPlace::Behind = self.place else {
-            return Err(LineError::At {
-                line: past,
-                kind: LineKind::Missing,
-            });
-        };
+    /// The body, where this is all.
+    fn body(self, alloc: Global) -> Result<Body, AllocError>
+        requires { IsRawDrafting self }
+        ensures { IfOk result (λ b. b ≡ raw_with self []) }
+    {
         let RawDrafting {
             registers,
             mut pools,
@@ -90,18 +94,49 @@ impl RawDrafting {
         } = self;
         add_caught(&mut pools.types, handlers.as_slice())?;
         let tries = tries(alloc, &pools.types, handlers.as_slice())?;
-        let (strings, types, fields, methods) = pools.into_seqs()?;
-        Ok(Body {
-            registers: registers as u16,
-            units: Seq::of(units),
-            tries: Seq::of(tries),
-            strings,
-            types,
-            fields,
-            methods,
-            raw: true,
-        })
+        body_of(registers as u16, units, tries, pools)
     }
+
+    /// The body, behind the last line. `past` is the number of the line behind it.
+    ///
+    /// # Errors
+    ///
+    /// `Missing` at that line where there is no count of registers, or no units, or these aren't closed.
+    fn finish(self, alloc: Global, past: u32) -> Result<Body, LineError>
+        requires { IsRawDrafting self }
+        ensures { GivesLines (λ b. b) result (raw_finished past 0 self.place (raw_with self [])) }
+    {
+        let RawPlace::Behind = self.place else {
+            return Err(LineError::At {
+                line: past,
+                kind: LineKind::Missing,
+            });
+        };
+        Ok(self.body(alloc)?)
+    }
+}
+
+/// The body of its units, its try entries and its pools.
+fn body_of(
+    registers: u16,
+    units: Vec<u16>,
+    tries: Vec<Try>,
+    pools: Pools,
+) -> Result<Body, AllocError>
+    requires { IsBody registers units.items tries.items pools.types }
+    ensures { IfOk result (λ b. b ≡ raw_body_made registers units.items tries.items pools) }
+{
+    let (strings, types, fields, methods) = pools.into_seqs()?;
+    Ok(Body {
+        registers,
+        units: Seq::of(units),
+        tries: Seq::of(tries),
+        strings,
+        types,
+        fields,
+        methods,
+        raw: true,
+    })
 }
 
 /// Adds the types that handlers catch.
@@ -117,7 +152,10 @@ fn add_caught(types: &mut Pool<Ty>, handlers: &[RawHandler]) -> Result<(), Alloc
 }
 
 /// A handler by the place of its type.
-fn handler_of(types: &Pool<Ty>, handler: &RawHandler) -> Result<Handler, AllocError> {
+#[tactic(auto, using(dv_asm::proofs::KeyLemmas::places))]
+fn handler_of(types: &Pool<Ty>, handler: &RawHandler) -> Result<Handler, AllocError>
+    ensures { IfOk result (λ h. h ≡ raw_handler types.now handler.now) }
+{
     let kind = match &handler.kind {
         Some(ty) => match types.place_of(ty) {
             Some(place) => Some(index(place)?),
@@ -131,6 +169,30 @@ fn handler_of(types: &Pool<Ty>, handler: &RawHandler) -> Result<Handler, AllocEr
     })
 }
 
+/// Adds a handler to the entries: to the last of them where this has its range, else as an entry of its own.
+fn add_handler(
+    alloc: Global,
+    tries: &mut Vec<Try>,
+    handler: &RawHandler,
+    own: Handler,
+) -> Result<(), AllocError>
+    ensures { OnOk result ((us : List Try) → glued tries.new.items us ≡ glued tries.old.items (joined (entry_of handler.now own) us)) }
+{
+    match tries.last_mut() {
+        Some(last) if last.start == handler.start && last.end == handler.end => {
+            last.handlers.push(own)
+        }
+        _ => {
+            tries.push(Try {
+                start: handler.start,
+                end: handler.end,
+                handlers: Seq::of(vec![in alloc; own]?),
+            })?;
+            Ok(())
+        }
+    }
+}
+
 /// The try entries of handlers. Neighbouring ones of one range are one entry.
 fn tries(alloc: Global, types: &Pool<Ty>, handlers: &[RawHandler]) -> Result<Vec<Try>, AllocError>
     ensures { IfOk result (λ ts. ts.items ≡ raw_tries types.now handlers.now) }
@@ -138,16 +200,7 @@ fn tries(alloc: Global, types: &Pool<Ty>, handlers: &[RawHandler]) -> Result<Vec
     let mut tries: Vec<Try> = Vec::new(alloc);
     for handler in handlers {
         let own = handler_of(types, handler)?;
-        match tries.last_mut() {
-            Some(last) if last.start == handler.start && last.end == handler.end => {
-                last.handlers.push(own)?;
-            }
-            _ => tries.push(Try {
-                start: handler.start,
-                end: handler.end,
-                handlers: Seq::of(vec![in alloc; own]?),
-            })?,
-        }
+        add_handler(alloc, &mut tries, handler, own)?;
     }
     Ok(tries)
 }

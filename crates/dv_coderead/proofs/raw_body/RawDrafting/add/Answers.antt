@@ -1,0 +1,20 @@
+use Rattle.dv_coderead.proofs.RawAdding.{adds_begin, adds_end, adds_entry, adds_handler, adds_registers, adds_units}
+use Rattle.dv_coderead.proofs.raw_body.RawDrafting.add.Goals as goal
+
+pub returns-in-Registers-clause-with : goal.returns-in-Registers-clause-with
+returns-in-Registers-clause-with c = rw c.in-Registers.is (adds_registers c.args.self.now c.in-Registers.registers _)
+
+pub returns-in_ok-add-in-Entry-clause-with : goal.returns-in_ok-add-in-Entry-clause-with
+returns-in_ok-add-in-Entry-clause-with c = ?
+
+pub returns-in-Begin-clause-with : goal.returns-in-Begin-clause-with
+returns-in-Begin-clause-with c = rw c.in-Begin.is (adds_begin c.args.self.now _)
+
+pub returns-in_ok-extend_from_slice-in-Units-clause-with : goal.returns-in_ok-extend_from_slice-in-Units-clause-with
+returns-in_ok-extend_from_slice-in-Units-clause-with c = ?
+
+pub returns-in-End-clause-with : goal.returns-in-End-clause-with
+returns-in-End-clause-with c = rw c.in-End.is (adds_end c.args.self.now _)
+
+pub returns-in_ok-push-in-Handler-clause-with : goal.returns-in_ok-push-in-Handler-clause-with
+returns-in_ok-push-in-Handler-clause-with c = ?
