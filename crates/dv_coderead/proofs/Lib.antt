@@ -15,6 +15,8 @@ mod Passed
 mod Printed
 mod RawAdding
 mod RawEntries
+mod RawKinds
+mod RawReading
 mod RawTries
 mod RawUnits
 mod Readings

@@ -46,6 +46,10 @@ raw_body_made registers units tries pools = record {
 abbrev pub entry_of : RawHandler → Handler → Try
 entry_of h own = record { start = h.start; end = h.end; handlers = own ∷ [] }
 
+-- whether an entry has a handler's range
+abbrev pub stands_in : Try → RawHandler → Bool
+stands_in t h = nat_eq h.start t.start && nat_eq h.end t.end
+
 abbrev pub have_same_range : Try → Try → Bool
 have_same_range t u = nat_eq u.start t.start && nat_eq u.end t.end
 

@@ -1,5 +1,5 @@
 // A raw body, read from its lines.
-ghost use Rattle.std.specs.Prelude.{◌≡◌, [], ◌∷◌, List, IfOk, OnOk};
+ghost use Rattle.std.specs.Prelude.{◌≡◌, [], ◌∷◌, ◌++◌, List, IfOk, OnOk};
 ghost use Rattle.std.specs.List.{All};
 ghost use Rattle.dv_lex.specs.Lines.{HasTokens, IsLineInside};
 ghost use Rattle.dv_defs.specs.declared.code.Try.{Try};
@@ -13,7 +13,7 @@ ghost use Rattle.dv_coderead.specs.declared.raw_line.RawLine.{RawLine};
 ghost use Rattle.dv_coderead.specs.declared.raw_line.RawPlace.TheVariants as place;
 ghost use Rattle.dv_coderead.specs.RawLines.{raw_line, AreFew, IsRawLine};
 ghost use Rattle.dv_coderead.specs.RawBodies.{place_next, raw_body_of, raw_finished, raw_handler, raw_tries, with_caught};
-ghost use Rattle.dv_coderead.specs.RawDrafting.{entry_of, glued, joined, raw_body_made, raw_with, IsRawDrafting};
+ghost use Rattle.dv_coderead.specs.RawDrafting.{entry_of, glued, joined, raw_body_made, raw_with, stands_in, IsRawDrafting};
 
 use crate::Refusal;
 use crate::body::number_behind;
@@ -169,7 +169,31 @@ fn handler_of(types: &Pool<Ty>, handler: &RawHandler) -> Result<Handler, AllocEr
     })
 }
 
-/// Adds a handler to the entries: to the last of them where this has its range, else as an entry of its own.
+/// Whether an entry has a handler's range.
+fn has_range(entry: &Try, handler: &RawHandler) -> bool
+    ensures { result ≡ stands_in entry.now handler.now }
+{
+    handler.start == entry.start && handler.end == entry.end
+}
+
+/// Adds an entry of one handler.
+fn add_entry(
+    alloc: Global,
+    tries: &mut Vec<Try>,
+    handler: &RawHandler,
+    own: Handler,
+) -> Result<(), AllocError>
+    ensures { OnOk result (tries.new.items ≡ tries.old.items ++ entry_of handler.now own ∷ []) }
+{
+    tries.push(Try {
+        start: handler.start,
+        end: handler.end,
+        handlers: Seq::of(vec![in alloc; own]?),
+    })?;
+    Ok(())
+}
+
+/// Adds a handler to the last entry where this has its range, else as an entry of its own.
 fn add_handler(
     alloc: Global,
     tries: &mut Vec<Try>,
@@ -178,19 +202,13 @@ fn add_handler(
 ) -> Result<(), AllocError>
     ensures { OnOk result ((us : List Try) → glued tries.new.items us ≡ glued tries.old.items (joined (entry_of handler.now own) us)) }
 {
-    match tries.last_mut() {
-        Some(last) if last.start == handler.start && last.end == handler.end => {
-            last.handlers.push(own)
-        }
-        _ => {
-            tries.push(Try {
-                start: handler.start,
-                end: handler.end,
-                handlers: Seq::of(vec![in alloc; own]?),
-            })?;
-            Ok(())
-        }
+    let Some(last) = tries.last_mut() else {
+        return add_entry(alloc, tries, handler, own);
+    };
+    if !has_range(last, handler) {
+        return add_entry(alloc, tries, handler, own);
     }
+    last.handlers.push(own)
 }
 
 /// The try entries of handlers. Neighbouring ones of one range are one entry.

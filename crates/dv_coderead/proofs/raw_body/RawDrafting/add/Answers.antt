@@ -5,7 +5,7 @@ pub returns-in-Registers-clause-with : goal.returns-in-Registers-clause-with
 returns-in-Registers-clause-with c = rw c.in-Registers.is (adds_registers c.args.self.now c.in-Registers.registers _)
 
 pub returns-in_ok-add-in-Entry-clause-with : goal.returns-in_ok-add-in-Entry-clause-with
-returns-in_ok-add-in-Entry-clause-with c = ?
+returns-in_ok-add-in-Entry-clause-with c = rw c.in-Entry.is (adds_entry c.args.self.now c.in-Entry.entry _ c.in_ok-add-in-Entry.ensures)
 
 pub returns-in-Begin-clause-with : goal.returns-in-Begin-clause-with
 returns-in-Begin-clause-with c = rw c.in-Begin.is (adds_begin c.args.self.now _)
@@ -17,4 +17,4 @@ pub returns-in-End-clause-with : goal.returns-in-End-clause-with
 returns-in-End-clause-with c = rw c.in-End.is (adds_end c.args.self.now _)
 
 pub returns-in_ok-push-in-Handler-clause-with : goal.returns-in_ok-push-in-Handler-clause-with
-returns-in_ok-push-in-Handler-clause-with c = ?
+returns-in_ok-push-in-Handler-clause-with c = rw c.in-Handler.is (adds_handler c.args.self.now c.in-Handler.handler c.push.new.self c.in_ok-push-in-Handler.ensures.items)
