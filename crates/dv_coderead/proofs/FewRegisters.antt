@@ -1,5 +1,5 @@
 -- A count of registers is 256 at most.
-use Rattle.std.proofs.Common.{◌≡◌, ℕ, ◌+◌, ◌≤◌, ◌&&◌, Bool, true, false, List, [], ◌∷◌, Option, Some, None, Result, Ok, Err, refl, ap, arith}
+use Rattle.std.proofs.Common.{◌≡◌, ℕ, ◌+◌, ◌≤◌, ◌&&◌, Bool, true, false, List, [], ◌∷◌, Option, Some, None, Result, Ok, Err, refl, ap, subst, arith}
 use Rattle.std.specs.Prelude.{nat_le, nat_lt, if◌then◌else◌}
 use Rattle.std.proofs.lemmas.Bool.{leb-true}
 use Rattle.dv_defs.specs.declared.faults.LineKind.{LineKind}
@@ -27,7 +27,7 @@ few_behind : (ps rest : List Piece) (n : ℕ) (r : Result ℕ LineKind) → ((m 
 few_behind ps rest n (Ok m) bound e =
     let parts : (m, ps) ≡ (n, rest) = cc in
     let same : m ≡ n = ap (λ (x : ℕ × List Piece). x.0) parts in
-    omega (arith, bound m refl)
+    subst (λ (k : ℕ). k ≤ 256) same (bound m refl)
 few_behind ps rest n (Err k) bound e = absurd (cc)
 
 -- what a word counts

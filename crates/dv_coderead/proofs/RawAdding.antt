@@ -1,5 +1,7 @@
 -- What a line adds to a raw body that is being read.
 use Rattle.std.proofs.Common.{◌≡◌, ℕ, List, [], ◌∷◌, ◌++◌, Vec, Global, refl, sym, ap, ◌∙◌, append-nil, append_assoc}
+use Rattle.dv_defs.specs.declared.code.Try.{Try}
+use Rattle.dv_defs.specs.declared.names.Ty.{Ty}
 use Rattle.dv_asm.specs.declared.draft.PoolRef.{PoolRef}
 use Rattle.dv_asm.specs.declared.pools.Pools.{Pools}
 use Rattle.dv_asm.specs.Pools.{with_ref}
@@ -9,8 +11,8 @@ use Rattle.dv_coderead.specs.declared.raw_line.RawHandler.{RawHandler}
 use Rattle.dv_coderead.specs.declared.raw_line.RawLine.{RawLine}
 use Rattle.dv_coderead.specs.declared.raw_line.RawLine.TheVariants as line
 use Rattle.dv_coderead.specs.declared.raw_body.RawDrafting.{RawDrafting}
-use Rattle.dv_coderead.specs.RawBodies.{raw_body_by, raw_handlers, raw_refs, raw_registers, raw_units, with_refs}
-use Rattle.dv_coderead.specs.RawDrafting.{raw_with}
+use Rattle.dv_coderead.specs.RawBodies.{raw_body_by, raw_body_with, raw_handlers, raw_refs, raw_registers, raw_tries, raw_units, with_caught, with_refs}
+use Rattle.dv_coderead.specs.RawDrafting.{raw_body_made, raw_with}
 
 -- the body with later lines is that with this line and those
 abbrev pub Adds : RawDrafting → RawLine → RawDrafting → Type 0
@@ -50,3 +52,10 @@ module _ (d : RawDrafting) where
   pub adds_nothing : raw_with d [] ≡ raw_body_by d.registers d.pools d.units.items d.handlers.items
   unfolding raw_registers raw_refs raw_units raw_handlers
   adds_nothing = λ i. raw_body_by d.registers d.pools (append-nil d.units.items i) (append-nil d.handlers.items i)
+
+  -- what is put together is the body
+  pub body_made : (types : List Ty) (tries : List Try) → types ≡ with_caught d.pools.types d.handlers.items → tries ≡ raw_tries types d.handlers.items
+      → raw_body_made d.registers d.units.items tries (record d.pools { types = types }) ≡ raw_with d []
+  body_made types tries caught entries =
+      ap (λ (ts : List Try). raw_body_made d.registers d.units.items ts (record d.pools { types = types })) entries
+      ∙ ap (λ (ts : List Ty). raw_body_with d.registers d.pools ts d.units.items d.handlers.items) caught ∙ sym adds_nothing
