@@ -21,6 +21,7 @@ counted_outside n h is = eqb-true n 0 (and_parts _ _ (and_parts _ _ is).0).0
 counted_opens : (n : ℕ) (h : Head) → counts n h ≡ true → opens h ≡ false
 counted_opens n h is = not_true (opens h) (and_parts _ _ (and_parts _ _ is).0).1
 
+-- outside of annotations the depth stays where none is opened, also at the end of one
 outside_stays : (o k : Bool) → o ≡ false → cond o (0 + 1) (cond k (0 - 1) 0) ≡ 0
 outside_stays true k e = absurd (cc)
 outside_stays false true e = refl
@@ -30,32 +31,38 @@ outside_stays false false e = refl
 depth_counted : (n : ℕ) (h : Head) → counts n h ≡ true → depth_behind n h ≡ 0
 depth_counted n h is = ap (λ m. depth_behind m h) (counted_outside n h is) ∙ outside_stays (opens h) (closes h) (counted_opens n h is)
 
+-- a depth that grows by one, falls by one or stays is at most one more
 one_more : (o k : Bool) (n : ℕ) → cond o (n + 1) (cond k (n - 1) n) ≤ n + 1
 one_more true k n = omega arith
 one_more false true n = omega arith
 one_more false false n = omega arith
 
--- a line opens at most one annotation
+-- behind a line at most one more annotation is open
 depth_more : (n : ℕ) (h : Head) → depth_behind n h ≤ n + 1
 depth_more n h = one_more (opens h) (closes h) n
 
 module _ (n : ℕ) (l : TextLine) (ls : List TextLine) where
+  -- a line that counts is kept
   kept_counted : counts n (head_of l.pieces) ≡ true → kept n (l ∷ ls) ≡ l ∷ kept (depth_behind n (head_of l.pieces)) ls
   unfolding kept
   kept_counted is = cond-true (counts n (head_of l.pieces)) _ _ is
 
+  -- another one isn't
   kept_passed : counts n (head_of l.pieces) ≡ false → kept n (l ∷ ls) ≡ kept (depth_behind n (head_of l.pieces)) ls
   unfolding kept
   kept_passed is = cond-false (counts n (head_of l.pieces)) _ _ is
 
+  -- the depth behind lines is that behind the first, and then behind the others
   open_line : open_behind n (l ∷ ls) ≡ open_behind (depth_behind n (head_of l.pieces)) ls
   unfolding open_behind
   open_line = refl
 
+-- of no lines none is kept
 kept_none : (n : ℕ) → kept n [] ≡ []
 unfolding kept
 kept_none n = refl
 
+-- and the depth behind them is that before them
 open_none : (n : ℕ) → open_behind n [] ≡ n
 unfolding open_behind
 open_none n = refl
@@ -81,10 +88,8 @@ module _ (text : List ℕ) (ls : List Line) where
     pub lines : kept_from text ls from ≡ kept n (drop at (text_lines text ls))
     pub depth : open_from text ls from ≡ open_behind n (drop at (text_lines text ls))
 
-  pub at_start : (from : ℕ) → from ≤ length ls → IsPassed from 0 from
-  at_start from le = record { place = omega arith; inside = le; lines = refl; depth = refl }
-
   module _ (from n at : ℕ) (is : IsPassed from n at) where
+    -- the line here is the next, if it counts
     pub one_counts : at < length ls → (h : Head) → h ≡ head_of (line_at text ls at).pieces → counts n h ≡ true → IsNext text ls from at h
     one_counts lt h head counted =
         let l = line_at text ls at in
@@ -102,6 +107,7 @@ module _ (text : List ℕ) (ls : List Line) where
               ∙ ap (λ k. open_behind (depth_behind n k) more) (sym head) ∙ ap (λ m. open_behind m more) outside;
         }
 
+    -- or else it is passed too
     pub one_passed : at < length ls → (h : Head) → h ≡ head_of (line_at text ls at).pieces → counts n h ≡ false → IsPassed from (depth_behind n h) (at + 1)
     one_passed lt h head passed =
         let l = line_at text ls at in
@@ -117,8 +123,10 @@ module _ (text : List ℕ) (ls : List Line) where
               ∙ ap (λ k. open_behind (depth_behind n k) more) (sym head);
         }
 
+    -- at the end no line is left that counts
     pub none_left : length ls ≤ at → kept_from text ls from ≡ []
     none_left le = is.lines ∙ at_drop_all (kept n) (text_lines text ls) at (simp length-map le) ∙ kept_none n
 
+    -- and so many annotations are open
     pub depth_left : length ls ≤ at → open_from text ls from ≡ n
     depth_left le = is.depth ∙ at_drop_all (open_behind n) (text_lines text ls) at (simp length-map le) ∙ open_none n

@@ -1,7 +1,6 @@
 -- The body that the lines of a method give.
-use Rattle.std.specs.Prelude.{ℕ, ◌+◌, ◌*◌, ◌&&◌, ℤ, Bool, true, false, List, [], ◌∷◌, ◌++◌, take, Option, Some, None, is_some, not, Result, Ok, Err, nat_eq, if◌then◌else◌}
+use Rattle.std.specs.Prelude.{ℕ, ◌+◌, ◌&&◌, ℤ, Bool, List, [], ◌∷◌, ◌++◌, take, Option, Some, None, is_some, not, Result, Ok, Err, nat_eq, if◌then◌else◌}
 use Rattle.std.specs.Int.{w64, to_le_bytes}
-use Rattle.dv_defs.specs.declared.faults.LineKind.{LineKind}
 use Rattle.dv_defs.specs.declared.faults.LineKind.TheVariants.{Missing}
 use Rattle.dv_defs.specs.declared.names.Proto.{Proto}
 use Rattle.dv_defs.specs.Numbers.{bits64}
@@ -146,10 +145,14 @@ number_behind [] = 1
 number_behind (l ∷ []) = l.number + 1
 number_behind (l ∷ m ∷ ls) = number_behind (m ∷ ls)
 
--- the body of these lines, in a method with so many argument words; or the first bad line
+-- the body of the lines that count, in a method with so many argument words; or the first bad line
+abbrev pub body_from : ℕ → ℕ → ℕ → List TextLine → Result DraftValue Stop
+body_from arguments past annotations ls = told_by arguments nothing_before ls >>> λ ts.
+    finished past annotations (told_behind nothing_before ts) ts
+
+-- the body of these lines
 unfoldable pub body_of : ℕ → List TextLine → Result DraftValue Stop
-body_of arguments ls = told_by arguments nothing_before (kept 0 ls) >>> λ ts.
-    finished (number_behind ls) (open_behind 0 ls) (told_behind nothing_before ts) ts
+body_of arguments ls = body_from arguments (number_behind ls) (open_behind 0 ls) (kept 0 ls)
 
 -- how many words the arguments of a method have, its receiver among them
 abbrev pub argument_words : Proto → Bool → ℕ

@@ -1,16 +1,14 @@
 -- What the lines of a method say, each judged by what the lines before it told.
-use Rattle.std.specs.Prelude.{◌≡◌, ℕ, ◌+◌, ◌*◌, ◌≤◌, ◌&&◌, ℤ, pos, Bool, true, false, List, [], ◌∷◌, codes, bytes_eq, drop, Option, Some, None, Result, Ok, Err, nat_le, nat_lt, is_some, IsSome, IsTrue, ◌==◌, if◌then◌else◌}
+use Rattle.std.specs.Prelude.{◌≡◌, ℕ, ◌+◌, ◌*◌, ◌≤◌, ◌&&◌, ℤ, pos, negsuc, Bool, true, false, List, [], ◌∷◌, codes, bytes_eq, drop, Option, Some, None, Result, Ok, Err, nat_le, is_some, IsSome, IsTrue, ◌==◌, if◌then◌else◌}
 use Rattle.dv_defs.specs.declared.faults.LineKind.{LineKind}
 use Rattle.dv_defs.specs.declared.faults.LineKind.TheVariants as kind
-use Rattle.dv_defs.specs.declared.names.Base.{Base}
-use Rattle.dv_defs.specs.declared.names.Base.TheVariants as base
 use Rattle.dv_defs.specs.declared.names.Ty.{Ty}
 use Rattle.dv_defs.specs.Spelling.{fits_signed}
 use Rattle.dv_defs.specs.Tiling.{is_width}
 use Rattle.dv_asm.specs.declared.draft.Catch.{Catch}
 use Rattle.dv_asm.specs.Draft.{IsOp}
 use Rattle.dv_optable.specs.Table.{format_at}
-use Rattle.dv_lex.specs.Numbers.{Number, magnitude, signed}
+use Rattle.dv_lex.specs.Numbers.{Number, signed}
 use Rattle.dv_coderead.specs.declared.head.Block.TheVariants.{Packed, Sparse, Data, Units}
 use Rattle.dv_coderead.specs.declared.head.Block.{Block}
 use Rattle.dv_coderead.specs.declared.head.Directive.{Directive}
@@ -26,34 +24,28 @@ use Rattle.dv_coderead.specs.declared.body_line.BodyLine.TheVariants as line
 use Rattle.dv_coderead.specs.Giving.{◌>>=◌}
 use Rattle.dv_coderead.specs.Pieces.{Piece, AWord}
 use Rattle.dv_coderead.specs.Words.{number_in, literal_in, label_in}
-use Rattle.dv_coderead.specs.References.{type_in}
-use Rattle.dv_coderead.specs.Operands.{Part, word_at, mark_at, dots_at, behind, ended, operands_in}
+use Rattle.dv_coderead.specs.References.{class_in}
+use Rattle.dv_coderead.specs.Operands.{Part, word_at, alone, mark_at, dots_at, behind, ended, operands_in}
 use Rattle.dv_coderead.specs.Heads.{head_of}
-
--- a whole line, that has this part alone
-abbrev pub alone : {A : Type 0} → Part A → Result A LineKind
-alone (Ok x) = ended x.1 >>= λ nothing. Ok x.0
-alone (Err k) = Err k
 
 abbrev pub said : {A : Type 0} → (A → BodyLine) → Result A LineKind → Result BodyLine LineKind
 said f (Ok x) = Ok (f x)
 said f (Err k) = Err k
 
+-- what a number is read as by its value, which has no bound
+abbrev pub by_value : {A : Type 0} → (ℤ → Result A LineKind) → Option Number → Result A LineKind
+by_value f None = Err kind.Operands
+by_value f (Some n) = f (signed n)
+
 -- ---- how many registers there are
 
 -- so many, and as many more as these; 256 at most
-abbrev pub counted : ℕ → Number → Result ℕ LineKind
-counted more n =
-    if n.negative && nat_lt 0 (magnitude n) then Err kind.NumberRange
-    else if nat_le (magnitude n + more) 256 then Ok (magnitude n + more)
-    else Err kind.TooManyRegisters
-
-abbrev pub count_of : ℕ → Option Number → Result ℕ LineKind
-count_of more None = Err kind.Operands
-count_of more (Some n) = counted more n
+abbrev pub count_from : ℕ → ℤ → Result ℕ LineKind
+count_from more (pos n) = if nat_le (n + more) 256 then Ok (n + more) else Err kind.TooManyRegisters
+count_from more (negsuc n) = Err kind.NumberRange
 
 unfoldable pub count_in : ℕ → List ℕ → Result ℕ LineKind
-count_in more w = count_of more (number_in w)
+count_in more w = by_value (count_from more) (number_in w)
 
 abbrev pub framed : ℕ → Result ℕ LineKind → Result Frame LineKind
 framed arguments (Ok n) = Ok (record { registers = n; arguments = arguments })
@@ -68,17 +60,6 @@ frame_line arguments more ps = framed arguments (alone (word_at (count_in more) 
 unfoldable pub label_line : List Piece → Result (List ℕ) LineKind
 label_line ps = alone (word_at label_in ps)
 
--- a class, and no array
-abbrev pub is_class_type : Base → Bool
-is_class_type (base.Class name) = true
-is_class_type b = false
-
-abbrev pub only_class : Ty → Result Ty LineKind
-only_class t = if (t.dims == 0) && is_class_type t.base then Ok t else Err kind.BadDescriptor
-
-unfoldable pub class_in : List ℕ → Result Ty LineKind
-class_in w = type_in w >>= only_class
-
 -- `{`, where a range begins, `..`, where it ends, `}`, and the label of its handler
 unfoldable pub handler_line : ℕ → Option Ty → List Piece → Result Catch LineKind
 handler_line n ty ps = do
@@ -87,7 +68,7 @@ handler_line n ty ps = do
   dots ← dots_at from.1
   to ← word_at label_in dots
   outside ← mark_at 125 to.1
-  at ← alone (word_at label_in outside)
+  at ← label_line outside
   Ok (record { line = n; kind = ty; from = from.0; to = to.0; at = at })
 
 unfoldable pub catch_line : ℕ → List Piece → Result Catch LineKind
@@ -96,24 +77,19 @@ catch_line n ps = word_at class_in ps >>= λ class. handler_line n (Some class.0
 -- ---- payloads
 
 -- a signed number of 32 bits
-abbrev pub key_of : Option Number → Result ℤ LineKind
-key_of None = Err kind.Operands
-key_of (Some n) = if fits_signed 32 (signed n) then Ok (signed n) else Err kind.NumberRange
+abbrev pub key_from : ℤ → Result ℤ LineKind
+key_from z = if fits_signed 32 z then Ok z else Err kind.NumberRange
 
 unfoldable pub key_in : List ℕ → Result ℤ LineKind
-key_in w = key_of (number_in w)
+key_in w = by_value key_from (number_in w)
 
 -- how many bytes an element has: 1, 2, 4 or 8
 abbrev pub width_from : ℤ → Result ℕ LineKind
 width_from (pos n) = if is_width n then Ok n else Err kind.NumberRange
-width_from z = Err kind.NumberRange
-
-abbrev pub width_of : Option Number → Result ℕ LineKind
-width_of None = Err kind.Operands
-width_of (Some n) = width_from (signed n)
+width_from (negsuc n) = Err kind.NumberRange
 
 unfoldable pub width_in : List ℕ → Result ℕ LineKind
-width_in w = width_of (number_in w)
+width_in w = by_value width_from (number_in w)
 
 abbrev pub opened : {A : Type 0} → (A → Opening) → Result A LineKind → Result Opening LineKind
 opened f (Ok x) = Ok (f x)
@@ -147,7 +123,7 @@ unfoldable pub case_line : List Piece → Result Case LineKind
 case_line ps = do
   key ← word_at key_in ps
   arrow ← arrow_at key.1
-  label ← alone (word_at label_in arrow)
+  label ← label_line arrow
   Ok (key.0, label)
 
 -- an element of so many bytes

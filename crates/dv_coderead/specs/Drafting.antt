@@ -3,6 +3,7 @@ use Rattle.std.specs.Prelude.{◌≡◌, ℕ, ◌+◌, ◌%◌, ◌^◌, ◌≤�
 use Rattle.dv_defs.specs.declared.faults.LineKind.TheVariants.{Missing}
 use Rattle.dv_asm.specs.declared.draft.Item.{Item}
 use Rattle.dv_asm.specs.declared.draft.Catch.{Catch}
+use Rattle.dv_asm.specs.declared.draft.What.{What}
 use Rattle.dv_asm.specs.declared.draft.What.TheVariants as what
 use Rattle.dv_asm.specs.Draft.{DraftValue, IsFormed}
 use Rattle.dv_lex.specs.declared.line.Line.{Line}
@@ -10,18 +11,22 @@ use Rattle.dv_lex.specs.declared.line.Stop.{Stop}
 use Rattle.dv_coderead.specs.declared.words.Frame.{Frame}
 use Rattle.dv_coderead.specs.declared.body_line.Opening.{Opening}
 use Rattle.dv_coderead.specs.declared.body_line.Opening.TheVariants as opening
-use Rattle.dv_coderead.specs.declared.body_line.Context.{Context}
+use Rattle.dv_coderead.specs.declared.body_line.BodyLine.{BodyLine}
 use Rattle.dv_coderead.specs.declared.drafting.Open.{Open}
 use Rattle.dv_coderead.specs.declared.drafting.Drafting.{Drafting}
 use Rattle.dv_coderead.specs.BodyLines.{HasWidth}
-use Rattle.dv_coderead.specs.Bodies.{Told, targets, keys, case_labels, data_bytes, items_of, catches_of, told_behind, is_whole, registers_of}
+use Rattle.dv_coderead.specs.Bodies.{Told, told_next, targets, keys, case_labels, data_bytes, items_of, catches_of, told_behind, is_whole, registers_of}
 
--- the payload that is open, with its lines among these
+-- a payload that began so and has had these lines, with those behind them
+abbrev pub payload_with : Opening → Open → List Told → What
+payload_with (opening.Packed first) o ts = what.Packed first (o.labels.items ++ targets ts)
+payload_with opening.Sparse o ts = what.Sparse (o.keys.items ++ keys ts) (o.labels.items ++ case_labels ts)
+payload_with (opening.Data width) o ts = what.Data width (o.bytes.items ++ data_bytes width ts)
+
+-- the item of the payload that is open
 abbrev pub open_item : Option Opening → Open → List Told → List Item
 open_item None o ts = []
-open_item (Some (opening.Packed first)) o ts = record { line = o.line; what = what.Packed first (o.labels.items ++ targets ts) } ∷ []
-open_item (Some opening.Sparse) o ts = record { line = o.line; what = what.Sparse (o.keys.items ++ keys ts) (o.labels.items ++ case_labels ts) } ∷ []
-open_item (Some (opening.Data width)) o ts = record { line = o.line; what = what.Data width (o.bytes.items ++ data_bytes width ts) } ∷ []
+open_item (Some began) o ts = record { line = o.line; what = payload_with began o ts } ∷ []
 
 -- the items with those of these lines
 abbrev pub items_with : Drafting → List Told → List Item
@@ -55,6 +60,13 @@ pub record IsDrafting (d : Drafting) : Type 0 where
   pub width : IfSome d.context.block HasWidth
   pub items : All (λ (i : Item). IsFormed i.what) d.items.items
   pub payload : IsOpen d.context.block d.open
+
+-- the line of this number, which says this, makes of one draft another, whatever lines stand behind it
+pub record Adds (old : Drafting) (n : ℕ) (says : BodyLine) (new : Drafting) : Type 0 where
+  pub drafting : IsDrafting new
+  pub context : new.context ≡ told_next old.context says
+  pub items : (ts : List Told) → items_with new ts ≡ items_with old (record { number = n; says = says } ∷ ts)
+  pub catches : (ts : List Told) → catches_with new ts ≡ catches_with old (record { number = n; says = says } ∷ ts)
 
 -- a line has a number behind it
 abbrev pub HasNext : Line → Type 0

@@ -90,6 +90,11 @@ abbrev pub ended : List Piece → Result (Unit {0}) LineKind
 ended [] = Ok (record {})
 ended (p ∷ ps) = Err Operands
 
+-- a whole line, that has this part alone
+abbrev pub alone : {A : Type 0} → Part A → Result A LineKind
+alone (Ok x) = ended x.1 >>= λ nothing. Ok x.0
+alone (Err k) = Err k
+
 -- ---- registers
 
 abbrev pub register_at : Frame → List Piece → Part ℕ

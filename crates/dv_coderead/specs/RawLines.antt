@@ -7,7 +7,7 @@ use Rattle.dv_defs.specs.declared.names.Ty.{Ty}
 use Rattle.dv_asm.specs.declared.draft.PoolRef.{PoolRef}
 use Rattle.dv_asm.specs.declared.draft.PoolRef.TheVariants as pool
 use Rattle.dv_lex.specs.Bytes.{is_hexadecimal}
-use Rattle.dv_lex.specs.Numbers.{Number, signed, value_from}
+use Rattle.dv_lex.specs.Numbers.{value_from}
 use Rattle.dv_coderead.specs.declared.head.Block.TheVariants.{Units}
 use Rattle.dv_coderead.specs.declared.head.Directive.{Directive}
 use Rattle.dv_coderead.specs.declared.head.Directive.TheVariants as directive
@@ -22,9 +22,9 @@ use Rattle.dv_coderead.specs.Giving.{◌>>=◌}
 use Rattle.dv_coderead.specs.Pieces.{Piece, AWord, AMark, AString, ACharacter}
 use Rattle.dv_coderead.specs.Words.{number_in}
 use Rattle.dv_coderead.specs.References.{type_in, field_in, method_in, cut_at, cut_at_arrow}
-use Rattle.dv_coderead.specs.Operands.{Part, word_at, behind, ended, and_behind, as_entry}
+use Rattle.dv_coderead.specs.Operands.{Part, word_at, alone, behind, ended, and_behind, as_entry}
 use Rattle.dv_coderead.specs.Heads.{head_of}
-use Rattle.dv_coderead.specs.BodyLines.{alone, count_in, refusal_of}
+use Rattle.dv_coderead.specs.BodyLines.{by_value, count_in, refusal_of}
 
 abbrev pub raw_said : {A : Type 0} → (A → RawLine) → Result A LineKind → Result RawLine LineKind
 raw_said f (Ok x) = Ok (f x)
@@ -87,12 +87,8 @@ abbrev pub address_from : ℤ → Result ℕ LineKind
 address_from (pos n) = if nat_lt n (2 ^ 32) then Ok n else Err kind.NumberRange
 address_from (negsuc n) = Err kind.NumberRange
 
-abbrev pub address_of : Option Number → Result ℕ LineKind
-address_of None = Err kind.Operands
-address_of (Some n) = address_from (signed n)
-
 unfoldable pub address_in : List ℕ → Result ℕ LineKind
-address_in w = address_of (number_in w)
+address_in w = by_value address_from (number_in w)
 
 abbrev pub some_type : Result Ty LineKind → Result (Option Ty) LineKind
 some_type (Ok t) = Ok (Some t)

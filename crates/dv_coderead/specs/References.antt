@@ -61,6 +61,17 @@ only_reference t = if is_reference t then Ok t else Err kind.BadDescriptor
 abbrev pub reference_type_in : List ℕ → Result Ty LineKind
 reference_type_in w = type_in w >>= only_reference
 
+-- a class, and no array
+abbrev pub is_class_type : Base → Bool
+is_class_type (base.Class name) = true
+is_class_type b = false
+
+abbrev pub only_class : Ty → Result Ty LineKind
+only_class t = if (t.dims == 0) && is_class_type t.base then Ok t else Err kind.BadDescriptor
+
+unfoldable pub class_in : List ℕ → Result Ty LineKind
+class_in w = type_in w >>= only_class
+
 -- ---- prototypes
 
 -- where the types of descriptors are read: between them, behind so many brackets; or in a class's, of which this much was read

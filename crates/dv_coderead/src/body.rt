@@ -2,7 +2,7 @@
 ghost use Rattle.std.specs.Prelude.{◌≡◌, ℕ, ◌^◌, ◌<◌, List, IfOk, IfSome, SomeIff};
 ghost use Rattle.std.specs.List.{All};
 ghost use Rattle.dv_defs.specs.Types.{words_of};
-ghost use Rattle.dv_lex.specs.Lines.{lexemes_in, HasTokens, IsLineInside};
+ghost use Rattle.dv_lex.specs.Lines.{HasTokens, IsLineInside};
 ghost use Rattle.dv_coderead.specs.Giving.{on_line, GivesLines};
 ghost use Rattle.dv_coderead.specs.Heads.{head_of};
 ghost use Rattle.dv_coderead.specs.Kept.{text_line, text_lines};
@@ -12,12 +12,12 @@ ghost use Rattle.dv_coderead.specs.Drafting.{HasNext};
 
 use crate::Refusal;
 use crate::body_line::{BodyLine, Context, body_line};
-use crate::drafting::Drafting;
+use crate::drafting::{Drafting, missing};
 use crate::head::Head;
 use crate::kept::{Next, next_line};
 use crate::pieces::read_tokens;
 use dv_asm::Draft;
-use dv_defs::{Base, LineError, LineKind, Proto, Ty};
+use dv_defs::{Base, LineError, Proto, Ty};
 use dv_lex::Line;
 use std::alloc::Global;
 
@@ -114,10 +114,7 @@ pub fn read_body(
             }
             Next::End => return drafting.finish(number_behind(lines)),
             Next::Unfinished => {
-                return Err(LineError::At {
-                    line: number_behind(lines),
-                    kind: LineKind::Missing,
-                });
+                return Err(missing(number_behind(lines)));
             }
         }
     }

@@ -1,21 +1,21 @@
 // What a line of a method says.
-ghost use Rattle.std.specs.Prelude.{◌≡◌, IfOk, IfSome, IsTrue};
+ghost use Rattle.std.specs.Prelude.{◌≡◌, ◌≤◌, None, IfOk, IfSome, IsTrue};
 ghost use Rattle.dv_defs.specs.Tiling.{is_width};
 ghost use Rattle.dv_coderead.specs.Giving.{Gives, Reads};
 ghost use Rattle.dv_coderead.specs.Pieces.{pieces_in};
 ghost use Rattle.dv_coderead.specs.Heads.{head_of};
 ghost use Rattle.dv_coderead.specs.Words.{label_in};
 ghost use Rattle.dv_coderead.specs.Operands.{behind, word_at};
-ghost use Rattle.dv_coderead.specs.BodyLines.{arrow_at, begin_line, begins_with_number, body_line, case_line, catch_line, class_in, count_in, data_begin, data_line, directive_line, directive_refusal, element_line, end_line, frame_line, handler_line, key_in, label_line, method_line, packed_begin, packed_line, refusal_of, registers_line, sparse_begin, sparse_line, width_in, HasWidth, IsHead, IsLine, StandsIn};
+ghost use Rattle.dv_coderead.specs.BodyLines.{arrow_at, begin_line, begins_with_number, body_line, case_line, catch_line, count_from, count_in, data_begin, data_line, directive_line, directive_refusal, element_line, end_line, frame_line, handler_line, key_from, key_in, label_line, method_line, packed_begin, packed_line, refusal_of, registers_line, sparse_begin, sparse_line, width_from, width_in, HasWidth, IsHead, IsLine, StandsIn};
 
 use crate::head::{Block, Directive, Head};
 use crate::operands::read_operands;
-use crate::parts::{dots, end, mark};
+use crate::parts::{behind, dots, end, mark};
 use crate::pieces::Piece;
 use crate::words::{self, Frame};
 use crate::{Refusal, references};
 use dv_asm::{Catch, Draftop};
-use dv_defs::{Base, LineKind, Text, Ty};
+use dv_defs::{LineKind, Text, Ty};
 use dv_lex::{is_number, number};
 use std::alloc::Global;
 
@@ -55,16 +55,41 @@ pub enum BodyLine {
 
 // ---- words
 
-/// How many registers a word counts, with so many more: 256 at most.
-fn count(word: &[u8], more: u32) -> Result<u32, LineKind>
-    ensures { result ≡ count_in more word.now }
+/// So many registers and as many more: 256 at most.
+fn count_from(number: i64, more: u32) -> Result<u32, LineKind>
+    ensures exact { result ≡ count_from more number }
+    ensures few { IfOk result (λ n. n ≤ 256) }
 {
-    match words::literal(word, 48) {
-        Ok(n) if n < 0 => Err(LineKind::NumberRange),
-        Ok(n) if n + i64::from(more) <= 256 => Ok((n + i64::from(more)) as u32),
-        Ok(_) => Err(LineKind::TooManyRegisters),
-        Err(LineKind::NumberRange) if !word.starts_with(b"-") => Err(LineKind::TooManyRegisters),
-        Err(kind) => Err(kind),
+    if number < 0 {
+        Err(LineKind::NumberRange)
+    } else if number <= 256 - i64::from(more) {
+        Ok(number as u32 + more)
+    } else {
+        Err(LineKind::TooManyRegisters)
+    }
+}
+
+/// How many registers a word counts, with so many more.
+fn count(word: &[u8], more: u32) -> Result<u32, LineKind>
+    ensures exact { result ≡ count_in more word.now }
+    ensures few { IfOk result (λ n. n ≤ 256) }
+{
+    if !is_number(word) {
+        return Err(LineKind::Operands);
+    }
+    match number(word, 48, 0) {
+        Ok(number) => count_from(number, more),
+        Err(_) if word.starts_with(b"-") => Err(LineKind::NumberRange),
+        Err(_) => Err(LineKind::TooManyRegisters),
+    }
+}
+
+fn key_from(number: i64) -> Result<i32, LineKind>
+    ensures { result ≡ key_from number }
+{
+    match i32::try_from(number) {
+        Ok(key) => Ok(key),
+        Err(_) => Err(LineKind::NumberRange),
     }
 }
 
@@ -72,18 +97,14 @@ fn count(word: &[u8], more: u32) -> Result<u32, LineKind>
 fn key(word: &[u8]) -> Result<i32, LineKind>
     ensures { result ≡ key_in word.now }
 {
-    match i32::try_from(words::literal(word, 33)?) {
-        Ok(key) => Ok(key),
-        Err(_) => Err(LineKind::NumberRange),
-    }
+    key_from(words::literal(word, 33)?)
 }
 
-/// The width of an array's elements in bytes.
-fn width(word: &[u8]) -> Result<u16, LineKind>
-    ensures exact { result ≡ width_in word.now }
+fn width_from(number: i64) -> Result<u16, LineKind>
+    ensures exact { result ≡ width_from number }
     ensures width { IfOk result (λ w. IsTrue (is_width w)) }
 {
-    match words::literal(word, 33)? {
+    match number {
         1 => Ok(1),
         2 => Ok(2),
         4 => Ok(4),
@@ -92,15 +113,12 @@ fn width(word: &[u8]) -> Result<u16, LineKind>
     }
 }
 
-/// The class whose descriptor the word is.
-fn class(alloc: Global, word: &[u8]) -> Result<Ty, Refusal>
-    ensures { Gives (λ t. t) result (class_in word.now) }
+/// The width of an array's elements in bytes.
+fn width(word: &[u8]) -> Result<u16, LineKind>
+    ensures exact { result ≡ width_in word.now }
+    ensures width { IfOk result (λ w. IsTrue (is_width w)) }
 {
-    let ty = references::ty(alloc, word)?;
-    match (ty.dims, &ty.base) {
-        (0, Base::Class(_)) => Ok(ty),
-        _ => Err(Refusal::Fault(LineKind::BadDescriptor)),
-    }
+    width_from(words::literal(word, 33)?)
 }
 
 // ---- parts of a line: each with the pieces behind it
@@ -109,7 +127,8 @@ pub fn count_part<'a, 'b>(
     more: u32,
     pieces: &'b [Piece<'a>],
 ) -> Result<(u32, &'b [Piece<'a>]), LineKind>
-    ensures { Reads (λ x. (x.0, pieces_in x.1.now)) result (word_at (count_in more) (pieces_in pieces.now)) }
+    ensures exact { Reads (λ x. (x.0, pieces_in x.1.now)) result (word_at (count_in more) (pieces_in pieces.now)) }
+    ensures few { IfOk result (λ x. x.0 ≤ 256) }
 {
     let [first, rest @ ..] = pieces else {
         return Err(LineKind::Operands);
@@ -157,7 +176,7 @@ fn class_part<'a, 'b>(
         return Err(Refusal::Fault(LineKind::Operands));
     };
     match first {
-        Piece::Word(word) => Ok((class(alloc, *word)?, rest)),
+        Piece::Word(word) => Ok((references::class(alloc, *word)?, rest)),
         _ => Err(Refusal::Fault(LineKind::Operands)),
     }
 }
@@ -180,7 +199,8 @@ fn arrow<'a, 'b>(pieces: &'b [Piece<'a>]) -> Result<&'b [Piece<'a>], LineKind>
 /// The count of registers that is `more` than the line's.
 #[tactic(auto, unfolding(crate::specs::BodyLines::frame_line))]
 fn frame_line(arguments: u32, more: u32, pieces: &[Piece]) -> Result<Frame, LineKind>
-    ensures { Reads (λ f. f) result (frame_line arguments more (pieces_in pieces.now)) }
+    ensures exact { Reads (λ f. f) result (frame_line arguments more (pieces_in pieces.now)) }
+    ensures few { IfOk result (λ f. f.registers ≤ 256) }
 {
     let (registers, rest) = count_part(more, pieces)?;
     end(rest)?;
@@ -234,7 +254,8 @@ fn catch_line(alloc: Global, line: u32, pieces: &[Piece]) -> Result<Catch, Refus
 
 #[tactic(auto, unfolding(crate::specs::BodyLines::packed_begin))]
 fn packed_begin(pieces: &[Piece]) -> Result<Opening, LineKind>
-    ensures { Reads (λ o. o) result (packed_begin (pieces_in pieces.now)) }
+    ensures exact { Reads (λ o. o) result (packed_begin (pieces_in pieces.now)) }
+    ensures width { IfOk result HasWidth }
 {
     let (first, rest) = key_part(pieces)?;
     end(rest)?;
@@ -243,7 +264,8 @@ fn packed_begin(pieces: &[Piece]) -> Result<Opening, LineKind>
 
 #[tactic(auto, unfolding(crate::specs::BodyLines::sparse_begin))]
 fn sparse_begin(pieces: &[Piece]) -> Result<Opening, LineKind>
-    ensures { Reads (λ o. o) result (sparse_begin (pieces_in pieces.now)) }
+    ensures exact { Reads (λ o. o) result (sparse_begin (pieces_in pieces.now)) }
+    ensures width { IfOk result HasWidth }
 {
     end(pieces)?;
     Ok(Opening::Sparse)
@@ -333,16 +355,6 @@ pub fn refusal_of(head: Head) -> LineKind
 
 // ---- lines of a method
 
-/// What stands behind the first piece.
-pub fn behind<'a, 'b>(pieces: &'b [Piece<'a>]) -> &'b [Piece<'a>]
-    ensures { pieces_in result.now ≡ behind (pieces_in pieces.now) }
-{
-    match pieces {
-        [_, rest @ ..] => rest,
-        [] => pieces,
-    }
-}
-
 /// The count of registers, which is told once.
 fn registers_line(
     frame: Option<Frame>,
@@ -350,7 +362,9 @@ fn registers_line(
     more: u32,
     pieces: &[Piece],
 ) -> Result<BodyLine, LineKind>
-    ensures { Reads (λ l. l) result (registers_line frame arguments more (pieces_in pieces.now)) }
+    ensures exact { Reads (λ l. l) result (registers_line frame arguments more (pieces_in pieces.now)) }
+    ensures formed { IfOk result IsLine }
+    ensures fits { IfOk result (StandsIn None) }
 {
     if frame.is_some() {
         return Err(LineKind::Repeated);
@@ -368,6 +382,7 @@ fn directive_line(
 ) -> Result<BodyLine, Refusal>
     ensures exact { Gives (λ l. l) result (directive_line arguments frame line directive (pieces_in pieces.now)) }
     ensures formed { IfOk result IsLine }
+    ensures fits { IfOk result (StandsIn None) }
 {
     match directive {
         Directive::Registers => Ok(registers_line(frame, arguments, 0, pieces)?),
@@ -391,6 +406,7 @@ fn method_line(
     requires { IsHead head }
     ensures exact { Gives (λ l. l) result (method_line arguments frame line head (pieces_in pieces.now)) }
     ensures formed { IfOk result IsLine }
+    ensures fits { IfOk result (StandsIn None) }
 {
     match (head, frame) {
         (Head::Directive(directive), _) => {
@@ -429,8 +445,11 @@ fn packed_line(alloc: Global, head: Head, pieces: &[Piece]) -> Result<BodyLine, 
 fn begins_with_number(pieces: &[Piece]) -> bool
     ensures { result ≡ begins_with_number (pieces_in pieces.now) }
 {
-    match pieces {
-        [Piece::Word(word), ..] => is_number(*word),
+    let [first, ..] = pieces else {
+        return false;
+    };
+    match first {
+        Piece::Word(word) => is_number(*word),
         _ => false,
     }
 }

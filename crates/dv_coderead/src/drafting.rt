@@ -1,9 +1,9 @@
 // A draft that is being read, line by line.
-ghost use Rattle.std.specs.Prelude.{◌≡◌, ℕ, ◌≤◌, [], ◌∷◌, List, OnOk};
+ghost use Rattle.std.specs.Prelude.{◌≡◌, ℕ, [], OnOk};
 ghost use Rattle.dv_coderead.specs.Giving.{GivesLines};
 ghost use Rattle.dv_coderead.specs.BodyLines.{IsLine, StandsIn};
-ghost use Rattle.dv_coderead.specs.Bodies.{element_bytes, nothing_before, told_next, Told};
-ghost use Rattle.dv_coderead.specs.Drafting.{catches_with, finished_with, items_with, IsDrafting};
+ghost use Rattle.dv_coderead.specs.Bodies.{nothing_before};
+ghost use Rattle.dv_coderead.specs.Drafting.{finished_with, payload_with, Adds, IsDrafting};
 
 use crate::body_line::{BodyLine, Context, Opening};
 use dv_asm::{Catch, Draft, Item, What};
@@ -64,7 +64,11 @@ impl Drafting {
     }
 
     /// Adds the bytes of an array's element, the low byte first.
-    fn add_element(&mut self, element: i64) -> Result<(), AllocError> {
+    fn add_element(&mut self, element: i64) -> Result<(), AllocError>
+        requires drafting { IsDrafting self.old }
+        requires stands { StandsIn self.old.context.block (BodyLine.Element element) }
+        ensures { OnOk result ((n : ℕ) → Adds self.old n (BodyLine.Element element) self.new) }
+    {
         let Some(Opening::Data(width)) = self.context.block else {
             return Ok(());
         };
@@ -75,7 +79,11 @@ impl Drafting {
     }
 
     /// Closes the block that is open, whose payload becomes an item.
-    fn end_block(&mut self, alloc: Global) -> Result<(), AllocError> {
+    fn end_block(&mut self, alloc: Global) -> Result<(), AllocError>
+        requires drafting { IsDrafting self.old }
+        requires stands { StandsIn self.old.context.block BodyLine.End }
+        ensures { OnOk result ((n : ℕ) → Adds self.old n BodyLine.End self.new) }
+    {
         let Some(opening) = self.context.block else {
             return Ok(());
         };
@@ -93,10 +101,7 @@ impl Drafting {
         requires drafting { IsDrafting self.old }
         requires formed { IsLine says }
         requires stands { StandsIn self.old.context.block says }
-        ensures drafting { OnOk result (IsDrafting self.new) }
-        ensures context { OnOk result (self.new.context ≡ told_next self.old.context says) }
-        ensures items { OnOk result ((ts : List Told) → items_with self.new ts ≡ items_with self.old (record { number = line; says = says } ∷ ts)) }
-        ensures catches { OnOk result ((ts : List Told) → catches_with self.new ts ≡ catches_with self.old (record { number = line; says = says } ∷ ts)) }
+        ensures { OnOk result (Adds self.old line says self.new) }
     {
         match says {
             BodyLine::Registers(frame) => self.context.frame = Some(frame),
@@ -133,25 +138,37 @@ impl Drafting {
         requires { IsDrafting self }
         ensures { GivesLines (λ d. d) result (finished_with past 0 self []) }
     {
-        match (self.context.frame, self.context.block) {
-            (Some(frame), None) => Ok(Draft {
-                registers: frame.registers as u16,
-                items: Seq::of(self.items),
-                catches: Seq::of(self.catches),
-            }),
-            _ => Err(LineError::At {
-                line: past,
-                kind: LineKind::Missing,
-            }),
+        let Some(frame) = self.context.frame else {
+            return Err(missing(past));
+        };
+        if self.context.block.is_some() {
+            return Err(missing(past));
         }
+        Ok(Draft {
+            registers: frame.registers as u16,
+            items: Seq::of(self.items),
+            catches: Seq::of(self.catches),
+        })
     }
 }
 
-/// A payload that begins so and has these lines.
-fn payload(opening: Opening, open: Open) -> What {
+/// That something is missing on this line.
+pub fn missing(line: u32) -> LineError
+    ensures { result ≡ LineError.At line LineKind.Missing }
+{
+    LineError::At {
+        line,
+        kind: LineKind::Missing,
+    }
+}
+
+/// A payload that begins so and has had these lines.
+fn payload(opening: Opening, so_far: Open) -> What
+    ensures { result ≡ payload_with opening so_far [] }
+{
     match opening {
-        Opening::Packed(first) => What::Packed(first, Seq::of(open.labels)),
-        Opening::Sparse => What::Sparse(Seq::of(open.keys), Seq::of(open.labels)),
-        Opening::Data(width) => What::Data(width, Seq::of(open.bytes)),
+        Opening::Packed(first) => What::Packed(first, Seq::of(so_far.labels)),
+        Opening::Sparse => What::Sparse(Seq::of(so_far.keys), Seq::of(so_far.labels)),
+        Opening::Data(width) => What::Data(width, Seq::of(so_far.bytes)),
     }
 }

@@ -2,7 +2,7 @@
 ghost use Rattle.std.specs.Prelude.{◌≡◌};
 ghost use Rattle.dv_coderead.specs.Giving.{Reads};
 ghost use Rattle.dv_coderead.specs.Pieces.{pieces_in};
-ghost use Rattle.dv_coderead.specs.Operands.{comma_at, dots_at, ended, mark_at, next_at, Closes};
+ghost use Rattle.dv_coderead.specs.Operands.{behind, comma_at, dots_at, ended, mark_at, next_at, Closes};
 
 use crate::pieces::Piece;
 use dv_defs::LineKind;
@@ -67,5 +67,15 @@ pub fn end(pieces: &[Piece]) -> Result<(), LineKind>
     match pieces {
         [] => Ok(()),
         _ => Err(LineKind::Operands),
+    }
+}
+
+/// What stands behind the first piece.
+pub fn behind<'a, 'b>(pieces: &'b [Piece<'a>]) -> &'b [Piece<'a>]
+    ensures { pieces_in result.now ≡ behind (pieces_in pieces.now) }
+{
+    match pieces {
+        [_, rest @ ..] => rest,
+        [] => pieces,
     }
 }

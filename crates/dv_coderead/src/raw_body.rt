@@ -17,12 +17,13 @@ ghost use Rattle.dv_coderead.specs.RawDrafting.{entry_of, glued, joined, raw_bod
 
 use crate::Refusal;
 use crate::body::number_behind;
+use crate::drafting::missing;
 use crate::head::Head;
 use crate::kept::{Next, next_line};
 use crate::pieces::read_tokens;
 use crate::raw_line::{RawHandler, RawLine, RawPlace, raw_line};
 use dv_asm::{Pool, Pools, index};
-use dv_defs::{Body, Handler, LineError, LineKind, Seq, Try, Ty};
+use dv_defs::{Body, Handler, LineError, Seq, Try, Ty};
 use dv_lex::Line;
 use std::alloc::{AllocError, Global};
 
@@ -107,10 +108,7 @@ impl RawDrafting {
         ensures { GivesLines (λ b. b) result (raw_finished past 0 self.place (raw_with self [])) }
     {
         let RawPlace::Behind = self.place else {
-            return Err(LineError::At {
-                line: past,
-                kind: LineKind::Missing,
-            });
+            return Err(missing(past));
         };
         Ok(self.body(alloc)?)
     }
@@ -272,12 +270,7 @@ pub fn read_raw(alloc: Global, text: &[u8], lines: &[Line]) -> Result<Body, Line
                 at = place + 1;
             }
             Next::End => return drafting.finish(alloc, number_behind(lines)),
-            Next::Unfinished => {
-                return Err(LineError::At {
-                    line: number_behind(lines),
-                    kind: LineKind::Missing,
-                });
-            }
+            Next::Unfinished => return Err(missing(number_behind(lines))),
         }
     }
 }

@@ -11,9 +11,9 @@ ghost use Rattle.dv_coderead.specs.Operands.{word_at};
 ghost use Rattle.dv_coderead.specs.References.{cut_at};
 ghost use Rattle.dv_coderead.specs.RawLines.{address_from, address_in, again_or_refused, among_units, begins_with_unit, caught_in, entry_by_shape, entry_line, is_count, is_unit, last_line, member_in, pools_line, raw_handler_line, raw_line, raw_registers_line, start_line, units_in, units_line, AreFew, IsRawLine};
 
-use crate::body_line::{behind, count_part, refusal_of};
+use crate::body_line::{count_part, refusal_of};
 use crate::head::{Block, Directive, Head};
-use crate::parts::end;
+use crate::parts::{behind, end};
 use crate::pieces::Piece;
 use crate::{Refusal, references, words};
 use dv_asm::PoolRef;

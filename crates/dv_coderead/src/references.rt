@@ -1,11 +1,11 @@
 // Types and references to members, read from words.
 ghost use Rattle.std.specs.Prelude.{◌≡◌, ◌∷◌, ◌++◌, IfOk};
 ghost use Rattle.dv_coderead.specs.Giving.{Gives, Reads};
-ghost use Rattle.dv_coderead.specs.References.{refusal_of, type_in, reference_type_in, proto_in, field_in, method_in, cut_at, arrow_parts, found_parts, member_name};
+ghost use Rattle.dv_coderead.specs.References.{refusal_of, type_in, reference_type_in, class_in, proto_in, field_in, method_in, cut_at, arrow_parts, found_parts, member_name};
 
 use crate::Refusal;
 use crate::names::is_name;
-use dv_defs::{FieldRef, LineKind, MethodRef, Proto, Text, Ty};
+use dv_defs::{Base, FieldRef, LineKind, MethodRef, Proto, Text, Ty};
 use dv_names::{NameError, parse_proto, parse_type};
 use std::alloc::Global;
 
@@ -39,6 +39,17 @@ pub fn reference_type(alloc: Global, word: &[u8]) -> Result<Ty, Refusal>
     Ok(ty)
 }
 
+/// The class whose descriptor the word is.
+pub fn class(alloc: Global, word: &[u8]) -> Result<Ty, Refusal>
+    ensures { Gives (λ t. t) result (class_in word.now) }
+{
+    let ty = ty(alloc, word)?;
+    match (ty.dims, &ty.base) {
+        (0, Base::Class(_)) => Ok(ty),
+        _ => Err(Refusal::Fault(LineKind::BadDescriptor)),
+    }
+}
+
 /// The prototype that the word is.
 pub fn proto(alloc: Global, word: &[u8]) -> Result<Proto, Refusal>
     ensures { Gives (λ p. p) result (proto_in word.now) }
@@ -47,7 +58,7 @@ pub fn proto(alloc: Global, word: &[u8]) -> Result<Proto, Refusal>
 }
 
 /// What stands before the first such byte, and behind it.
-fn cut_at(word: &[u8], mark: u8) -> Result<(&[u8], &[u8]), LineKind>
+pub fn cut_at(word: &[u8], mark: u8) -> Result<(&[u8], &[u8]), LineKind>
     ensures parts { Reads (λ p. (p.0.now, p.1.now)) result (found_parts (cut_at mark word.now)) }
     ensures whole { IfOk result (λ p. word.now ≡ p.0.now ++ (mark ∷ p.1.now)) }
 {
@@ -72,7 +83,7 @@ pub fn cut_at_arrow(word: &[u8]) -> Result<(&[u8], &[u8]), LineKind>
 }
 
 /// The name that the word is.
-fn name(alloc: Global, word: &[u8]) -> Result<Text, Refusal>
+pub fn name(alloc: Global, word: &[u8]) -> Result<Text, Refusal>
     ensures { Gives (λ w. w) result (member_name word.now) }
 {
     if !is_name(word) {

@@ -49,5 +49,5 @@ pub returns-in-Unfinished : goal.returns-in-Unfinished
 returns-in-Unfinished c =
     let text = c.args.text.now in
     let d = c.loop-place.drafting in
-    rw (c.number_behind-in-Unfinished.ensures text)
+    rw (c.missing.ensures, c.number_behind-in-Unfinished.ensures text)
     (unfinished text c.args.lines.now c.loop-place.at d c.loop-place.invariant c.in-Unfinished.ensures.0 c.in-Unfinished.ensures.1)
