@@ -1,4 +1,5 @@
 mod Adding
+mod Addresses
 mod Arrows
 mod Characters
 mod Classes
@@ -18,6 +19,12 @@ mod Numbers
 mod Opcodes
 mod Passed
 mod Printed
+mod RawAdding
+mod RawEntries
+mod RawKinds
+mod RawReading
+mod RawTries
+mod RawUnits
 mod Readings
 mod Spelling
 mod Strings

@@ -9,4 +9,7 @@ pub mod Kept
 pub mod BodyLines
 pub mod Bodies
 pub mod Drafting
+pub mod RawLines
+pub mod RawBodies
+pub mod RawDrafting
 pub mod Laws

@@ -3,5 +3,6 @@ mod bodies;
 mod body_lines;
 mod heads;
 mod operands;
+mod raw;
 mod references;
 mod words;
