@@ -245,8 +245,8 @@ unclosed past zero = None
 unclosed past (suc n) = Some (missing_at past)
 
 abbrev pub end_with : Option Stop → ℕ → ℕ → Option Stop
-end_with (Some e) past open = Some e
-end_with None past open = unclosed past open
+end_with (Some e) past annotations = Some e
+end_with None past annotations = unclosed past annotations
 
 abbrev pub text_end : Option Stop → List TextLine → Option Stop
 text_end stop ls = end_with stop (number_behind ls) (open_behind 0 ls)
