@@ -27,6 +27,7 @@ use Rattle.dv_coderead.specs.Drafting.{payload_with, Adds, IsDrafting, IsOpen}
 
 -- ---- lists
 
+-- an element more, in front of others
 pushed : {A : Type 0} (front : List A) (x : A) (rest : List A) {new : List A} → new ≡ front ++ x ∷ [] → new ++ rest ≡ front ++ x ∷ rest
 pushed front x rest e = ap (λ l. l ++ rest) e ∙ append_assoc front (x ∷ []) rest
 
@@ -34,6 +35,7 @@ pushed front x rest e = ap (λ l. l ++ rest) e ∙ append_assoc front (x ∷ [])
 item_more : (items : List Item) (i : Item) (rest : List Item) {new : List Item} → new ≡ items ++ i ∷ [] → (new ++ []) ++ rest ≡ (items ++ []) ++ i ∷ rest
 item_more items i rest {new} e = ap (λ l. l ++ rest) (append-nil new) ∙ pushed items i rest e ∙ sym (ap (λ l. l ++ i ∷ rest) (append-nil items))
 
+-- an item more, in its form
 formed_more : (items new : List Item) (i : Item) → new ≡ items ++ i ∷ [] → AreFormed items → IsFormed i.what → AreFormed new
 formed_more items new i e are is =
     let P : Item → Type 0 = λ i. IsFormed i.what in
@@ -41,6 +43,7 @@ formed_more items new i e are is =
 
 -- ---- elements of arrays
 
+-- a long has as many bytes as an element of any width
 few_bytes : (width : ℕ) (z : ℤ) → IsTrue (is_width width) → width ≤ length (to_le_bytes w64 (bits64 z))
 few_bytes width z has = grind (arith, nat_tests)
 
@@ -48,6 +51,7 @@ few_bytes width z has = grind (arith, nat_tests)
 element_length : (width : ℕ) (z : ℤ) → IsTrue (is_width width) → length (element_bytes width z) ≡ width
 element_length width z has = length-take-le width (to_le_bytes w64 (bits64 z)) (few_bytes width z has)
 
+-- an element more leaves whole elements
 whole_more : (front new more : List ℕ) (width : ℕ) → new ≡ front ++ more → length more ≡ width → length front % width ≡ 0 → length new % width ≡ 0
 whole_more front new more width e size whole =
     ap (λ l. length l % width) e ∙ ap (λ k. k % width) (length-append front more ∙ ap (λ k. length front + k) size) ∙ add-mod_right (length front) width ∙ whole
@@ -55,6 +59,7 @@ whole_more front new more width e size whole =
 -- ---- lines outside payloads
 
 module _ (d : Drafting) (n : ℕ) (keeps : IsDrafting d) (outside : d.context.block ≡ None) where
+  -- the count of registers
   pub adds_registers : (f : Frame) → f.registers ≤ 256 → Adds d n (line.Registers f) (record d { context = record d.context { frame = Some f } })
   unfolding items_of catches_of
   adds_registers f few = record {
@@ -64,6 +69,7 @@ module _ (d : Drafting) (n : ℕ) (keeps : IsDrafting d) (outside : d.context.bl
     catches = λ ts. refl;
   }
 
+  -- a label, which is an item
   pub adds_label : (name : Text) (items : Vec Item Global) → items.items ≡ d.items.items ++ record { line = n; what = what.Label name } ∷ [] → Adds d n (line.Label name) (record d { items = items })
   unfolding items_of catches_of
   adds_label name items more =
@@ -75,6 +81,7 @@ module _ (d : Drafting) (n : ℕ) (keeps : IsDrafting d) (outside : d.context.bl
         catches = λ ts. refl;
       }
 
+  -- an instruction, which is an item
   pub adds_op : (op : Draftop) (items : Vec Item Global) → IsOp op → items.items ≡ d.items.items ++ record { line = n; what = what.Op op } ∷ [] → Adds d n (line.Op op) (record d { items = items })
   unfolding items_of catches_of
   adds_op op items is more =
@@ -86,6 +93,7 @@ module _ (d : Drafting) (n : ℕ) (keeps : IsDrafting d) (outside : d.context.bl
         catches = λ ts. refl;
       }
 
+  -- a handler
   pub adds_handler : (c : Catch) (catches : Vec Catch Global) → catches.items ≡ d.catches.items ++ c ∷ [] → Adds d n (line.Handler c) (record d { catches = catches })
   unfolding items_of catches_of
   adds_handler c catches more = record {
@@ -101,11 +109,13 @@ module _ (d : Drafting) (n : ℕ) (keeps : IsDrafting d) (outside : d.context.bl
   begun opening.Sparse q ts labels keys_are bytes = ap (λ k. what.Sparse (k ++ keys ts) (q.labels.items ++ case_labels ts)) keys_are ∙ ap (λ l. what.Sparse (keys ts) (l ++ case_labels ts)) labels
   begun (opening.Data width) q ts labels keys bytes = ap (λ b. what.Data width (b ++ data_bytes width ts)) bytes
 
+  -- and it can be an item
   begun_open : (o : Opening) (q : Open) → q.labels.items ≡ [] → q.keys.items ≡ [] → q.bytes.items ≡ [] → IsOpen (Some o) q
   begun_open (opening.Packed first) q labels keys bytes = (keys, bytes)
   begun_open opening.Sparse q labels keys bytes = (ap length labels ∙ sym (ap length keys), bytes)
   begun_open (opening.Data width) q labels keys bytes = (labels, keys, ap (λ b. length b % width) bytes ∙ zero-mod width)
 
+  -- the first line of a payload
   pub adds_begin : (o : Opening) → HasWidth o → Adds d n (line.Begin o) (record d { context = record d.context { block = Some o }; «open» = record d.«open» { line = n } })
   unfolding items_of catches_of
   adds_begin o has =
@@ -138,6 +148,7 @@ ended opening.Sparse q n ts = refl
 ended (opening.Data width) q n ts = refl
 
 module _ (d : Drafting) (n : ℕ) (keeps : IsDrafting d) where
+  -- a label of a packed switch
   pub adds_target : (first : ℤ) (name : Text) (labels : Vec Text Global) → d.context.block ≡ Some (opening.Packed first) → labels.items ≡ d.«open».labels.items ++ name ∷ []
       → Adds d n (line.Target name) (record d { «open» = record d.«open» { labels = labels } })
   unfolding items_of catches_of targets
@@ -148,6 +159,7 @@ module _ (d : Drafting) (n : ℕ) (keeps : IsDrafting d) where
     catches = λ ts. refl;
   }
 
+  -- a key of a sparse switch, with its label
   pub adds_case : (key : ℤ) (name : Text) (numbers : Vec ℤ Global) (labels : Vec Text Global) → d.context.block ≡ Some opening.Sparse
       → numbers.items ≡ d.«open».keys.items ++ key ∷ [] → labels.items ≡ d.«open».labels.items ++ name ∷ []
       → Adds d n (line.Case key name) (record d { «open» = record d.«open» { labels = labels; keys = numbers } })
@@ -168,6 +180,7 @@ module _ (d : Drafting) (n : ℕ) (keeps : IsDrafting d) where
         catches = λ ts. refl;
       }
 
+  -- an element of an array
   pub adds_element : (width : ℕ) (z : ℤ) (bytes : Vec ℕ Global) → d.context.block ≡ Some (opening.Data width) → bytes.items ≡ d.«open».bytes.items ++ element_bytes width z
       → Adds d n (line.Element z) (record d { «open» = record d.«open» { bytes = bytes } })
   unfolding items_of catches_of data_bytes
@@ -186,7 +199,7 @@ module _ (d : Drafting) (n : ℕ) (keeps : IsDrafting d) where
         catches = λ ts. refl;
       }
 
-  -- the payload as it stands, of which a last line says no more
+  -- the last line of a payload, which is an item as it stands
   pub adds_end : (o : Opening) (items : Vec Item Global) (q : Open) → d.context.block ≡ Some o → q.labels.items ≡ [] → q.keys.items ≡ [] → q.bytes.items ≡ []
       → items.items ≡ d.items.items ++ record { line = d.«open».line; what = payload_with o d.«open» [] } ∷ []
       → Adds d n line.End (record d { context = record d.context { block = None }; «open» = q; items = items })

@@ -22,10 +22,12 @@ use Rattle.dv_coderead.specs.Drafting.{Adds, catches_with, draft_with, finished_
 
 -- ---- what goes by what was read before
 
+-- what goes by a reading is the same for the same answers
 then_same : {A B : Type 0} (r : Result A Stop) (f g : A → Result B Stop) → ((x : A) → f x ≡ g x) → (r >>> f) ≡ (r >>> g)
 then_same (Ok x) f g same = same x
 then_same (Err e) f g same = refl
 
+-- what goes by a line and those behind it goes by those behind it
 told_then : {B : Type 0} (n : ℕ) (s : BodyLine) (r : Result (List Told) Stop) (f : List Told → Result B Stop) → (and_told n s r >>> f) ≡ (r >>> λ ts. f (record { number = n; says = s } ∷ ts))
 told_then n s (Ok ts) f = refl
 told_then n s (Err e) f = refl
@@ -37,10 +39,12 @@ abbrev pub line_read : ℕ → Context → TextLine → Result BodyLine Stop
 line_read arguments before l = on_line l.number (body_line arguments before l.number l.pieces)
 
 module _ (arguments : ℕ) (before : Context) (l : TextLine) (ls : List TextLine) where
+  -- a line that is read
   told_first : (s : BodyLine) → line_read arguments before l ≡ Ok s → told_by arguments before (l ∷ ls) ≡ and_told l.number s (told_by arguments (told_next before s) ls)
   unfolding told_by
   told_first s is = ap (λ r. r >>> λ s. and_told l.number s (told_by arguments (told_next before s) ls)) is
 
+  -- a line that is refused
   refused_first : (e : Stop) → line_read arguments before l ≡ Err e → told_by arguments before (l ∷ ls) ≡ Err e
   unfolding told_by
   refused_first e is = ap (λ r. r >>> λ s. and_told l.number s (told_by arguments (told_next before s) ls)) is
@@ -52,6 +56,7 @@ module _ (past annotations : ℕ) where
   finished_as c items catches =
       if is_whole c annotations then Ok (record { registers = registers_of c.frame; items = items; catches = catches }) else Err (record { line = past; kind = Missing })
 
+  -- what a line and those behind it make of a draft, those behind it make of the draft with the line
   finished_next : (d e : Drafting) (n : ℕ) (s : BodyLine) → Adds d n s e → (ts : List Told) → finished_with past annotations d (record { number = n; says = s } ∷ ts) ≡ finished_with past annotations e ts
   unfolding told_behind
   finished_next d e n s adds ts =
@@ -60,10 +65,12 @@ module _ (past annotations : ℕ) where
       ∙ ap (λ items. finished_as (told_behind e.context ts) items (catches_with d (t ∷ ts))) (sym (adds.items ts))
       ∙ ap (finished_as (told_behind e.context ts) (items_with e ts)) (sym (adds.catches ts))
 
+  -- what lines make of a draft without lines is what they give
   finished_new : (d : Drafting) → d.context ≡ nothing_before → d.items.items ≡ [] → d.catches.items ≡ [] → (ts : List Told)
       → finished_with past annotations d ts ≡ finished past annotations (told_behind nothing_before ts) ts
   finished_new d context items catches ts = rw (context, items, catches) refl
 
+-- nothing is whole while an annotation is open
 still_open : (b : Bool) (n : ℕ) → 0 < n → (b && nat_eq n 0) ≡ false
 still_open b n some = and_right b (nat_eq n 0) (ne_eqb n 0 (λ e. omega (arith, e)))
 
@@ -77,6 +84,7 @@ module _ (arguments : ℕ) (text : List ℕ) (lines : List Line) where
   abbrev pub draft_from : ℕ → Drafting → Result DraftValue Stop
   draft_from at d = told_by arguments d.context (kept_from text lines at) >>> finished_with past (open_from text lines at) d
 
+  -- from the first line on they make the body of a new draft
   pub from_first : (d : Drafting) → d.context ≡ nothing_before → d.items.items ≡ [] → d.catches.items ≡ [] → draft_from 0 d ≡ body_of arguments (text_lines text lines)
   unfolding body_of
   from_first d context items catches =
@@ -88,6 +96,7 @@ module _ (arguments : ℕ) (text : List ℕ) (lines : List Line) where
     abbrev l : TextLine
     l = line_at text lines at
 
+    -- the lines up to the next that counts make nothing of a draft
     from_next : (d : Drafting) → draft_from from d ≡ (told_by arguments d.context (l ∷ kept_from text lines (at + 1)) >>> finished_with past (open_from text lines (at + 1)) d)
     from_next d = rw (next.kept, next.depth) refl
 
@@ -108,6 +117,7 @@ module _ (arguments : ℕ) (text : List ℕ) (lines : List Line) where
         from_next d ∙ ap (λ r. r >>> finished_with past (open_from text lines (at + 1)) d) (refused_first arguments d.context l (kept_from text lines (at + 1)) e is)
 
   module _ (at : ℕ) (d : Drafting) (none : kept_from text lines at ≡ []) where
+    -- no further line counts
     from_none : draft_from at d ≡ finished_with past (open_from text lines at) d []
     unfolding told_by
     from_none = rw none refl

@@ -21,10 +21,12 @@ module _ (past : ℕ) (d : Drafting) where
   unfolding told_behind
   left_open f some is = rw (some, is) refl
 
+  -- no payload is open
   pub not_open : (block : Option Opening) → is_some block ≡ false → block ≡ None
   not_open None is = refl
   not_open (Some o) is = cc
 
+  -- all items are there where no payload is open
   all_items : d.context.block ≡ None → items_with d [] ≡ d.items.items
   unfolding items_of
   all_items none = rw none (append-nil (d.items.items ++ []) ∙ append-nil d.items.items)

@@ -15,14 +15,17 @@ size : List (List ℕ) → ℕ
 size [] = 0
 size (x ∷ xs) = length x + 1 + size xs
 
+-- a byte more in the first part
 size_onto : (b : ℕ) (parts : List (List ℕ)) → 0 < length parts → size (onto_first b parts) ≡ size parts + 1
 unfolding size
 size_onto b [] some = absurd (omega arith)
 size_onto b (x ∷ xs) some = omega arith
 
+-- a text falls into one part or more
 some_parts : (text : List ℕ) → 0 < length (slice_split is_line_feed text)
 some_parts text = omega (arith, length-slice_split is_line_feed text)
 
+-- the parts between line feeds are as long as the text
 split_size : (text : List ℕ) → size (slice_split is_line_feed text) ≡ length text + 1
 unfolding size
 split_size [] = refl
@@ -34,6 +37,7 @@ split_size (b ∷ bs) =
     ]
 
 module _ (limit : ℕ) where
+  -- there are no more lines than bytes
   rows_below : (n at : ℕ) (parts : List (List ℕ)) → n + size parts ≤ limit → AllByRecursion (λ (r : Row). r.number + 1 < limit) (rows_of n at parts)
   unfolding size
   rows_below n at [] few = tt
@@ -44,6 +48,7 @@ module _ (limit : ℕ) where
       rw some (below, tt)
   rows_below n at (x ∷ y ∷ more) few = (omega arith, rows_below (n + 1) (at + length x + 1) (y ∷ more) (omega arith))
 
+  -- the numbers of the lines that are good
   first_below : (n : ℕ) (found : Lexemes) (rest : Reading) → n + 1 < limit → AllByRecursion (λ (r : Read). r.number + 1 < limit) rest.lines
       → AllByRecursion (λ (r : Read). r.number + 1 < limit) (and_then_lines n found rest).lines
   first_below n (Ok ls) rest below are = (below, are)
@@ -54,10 +59,12 @@ module _ (limit : ℕ) where
   read_below [] are = tt
   read_below (r ∷ rs) are = first_below r.number (line_lexemes r.start r.bytes) (read_rows rs) are.0 (read_below rs are.1)
 
+  -- the numbers of lines as code has them
   lines_below : (text : List ℕ) (ls : List Line) → AllByRecursion (λ (r : Read). r.number + 1 < limit) (map (read_in text) ls) → AllByRecursion (λ (l : Line). l.number + 1 < limit) ls
   lines_below text [] are = tt
   lines_below text (l ∷ ls) are = (are.0, lines_below text ls are.1)
 
+-- the good lines of a text of less than 2^32 - 1 bytes
 pub have_next : (text : List ℕ) (g : GoodLines) → good_in text g ≡ reading_of text → length text < 2 ^ 32 - 1 → All HasNext g.lines
 have_next text g is few =
     let limit = 2 ^ 32 in

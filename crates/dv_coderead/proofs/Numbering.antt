@@ -5,23 +5,28 @@ use Rattle.dv_lex.specs.declared.line.Line.{Line}
 use Rattle.dv_coderead.specs.Kept.{text_lines}
 use Rattle.dv_coderead.specs.Bodies.{number_behind}
 
+-- the place of the last line
 last_place : (k : Line) (ks : List Line) → length (k ∷ ks) - 1 ≡ length ks
 last_place k ks = omega arith
 
 module _ (text : List ℕ) where
+  -- the number behind the line at the last place
   behind_place : (k : Line) (ks : List Line) (l : Line) → slice_get (k ∷ ks) (length ks) ≡ Some l → l.number + 1 ≡ number_behind (text_lines text (k ∷ ks))
   unfolding number_behind
   behind_place k [] l is = let same : Some k ≡ Some l = is in cc
   behind_place j (k ∷ ks) l is = behind_place k ks l is
 
+  -- behind the last line
   pub behind_last : (lines : List Line) (l : Line) → slice_get lines (length lines - 1) ≡ Some l → l.number + 1 ≡ number_behind (text_lines text lines)
   behind_last [] l is = cc
   behind_last (k ∷ ks) l is = behind_place k ks l (ap (slice_get (k ∷ ks)) (sym (last_place k ks)) ∙ is)
 
+  -- there is a line at the last place
   no_none : (k : Line) (ks : List Line) → slice_get (k ∷ ks) (length ks) ≡ None → ⊥
   no_none k [] is = cc
   no_none j (k ∷ ks) is = no_none k ks is
 
+  -- where there is no line
   pub behind_none : (lines : List Line) → slice_get lines (length lines - 1) ≡ None → 1 ≡ number_behind (text_lines text lines)
   unfolding number_behind
   behind_none [] is = refl
