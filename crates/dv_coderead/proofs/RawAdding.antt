@@ -6,7 +6,6 @@ use Rattle.dv_asm.specs.declared.draft.PoolRef.{PoolRef}
 use Rattle.dv_asm.specs.declared.pools.Pools.{Pools}
 use Rattle.dv_asm.specs.Pools.{with_ref}
 use Rattle.dv_coderead.specs.declared.raw_line.RawPlace.{RawPlace}
-use Rattle.dv_coderead.specs.declared.raw_line.RawPlace.TheVariants as place
 use Rattle.dv_coderead.specs.declared.raw_line.RawHandler.{RawHandler}
 use Rattle.dv_coderead.specs.declared.raw_line.RawLine.{RawLine}
 use Rattle.dv_coderead.specs.declared.raw_line.RawLine.TheVariants as line

@@ -1,8 +1,7 @@
 -- A raw body from a line on, where the lines before it are read.
-use Rattle.std.proofs.Common.{◌≡◌, ℕ, ◌+◌, ◌<◌, ◌≤◌, ◌&&◌, Bool, true, false, List, [], ◌∷◌, ◌++◌, length, slice_index_or, nat_eq, Vec, Global, Result, Ok, Err, refl, sym, ap, subst, ◌∙◌, arith}
+use Rattle.std.proofs.Common.{◌≡◌, ℕ, ◌+◌, ◌<◌, ◌≤◌, ◌&&◌, List, [], ◌∷◌, ◌++◌, length, slice_index_or, nat_eq, Result, Ok, Err, refl, sym, ap, ◌∙◌, arith}
 use Rattle.std.proofs.lemmas.Bool.{and_right, cond-false, ne_eqb}
 use Rattle.std.proofs.lemmas.List.{get_or_default}
-use Rattle.dv_defs.specs.declared.faults.LineKind.{LineKind}
 use Rattle.dv_defs.specs.declared.faults.LineKind.TheVariants.{Missing}
 use Rattle.dv_defs.specs.declared.faults.LineError.{LineError}
 use Rattle.dv_defs.specs.declared.faults.LineError.TheVariants as error
@@ -12,11 +11,10 @@ use Rattle.dv_lex.specs.declared.line.Line.{Line}
 use Rattle.dv_lex.specs.declared.line.Stop.{Stop}
 use Rattle.dv_coderead.specs.declared.raw_line.RawPlace.{RawPlace}
 use Rattle.dv_coderead.specs.declared.raw_line.RawPlace.TheVariants as place
-use Rattle.dv_coderead.specs.declared.raw_line.RawHandler.{RawHandler}
 use Rattle.dv_coderead.specs.declared.raw_line.RawLine.{RawLine}
 use Rattle.dv_coderead.specs.declared.raw_body.RawDrafting.{RawDrafting}
 use Rattle.dv_coderead.specs.declared.head.Head.{Head}
-use Rattle.dv_coderead.specs.Giving.{◌>>>◌, on_line, GivesLines, Stops}
+use Rattle.dv_coderead.specs.Giving.{◌>>>◌, on_line, Stops}
 use Rattle.dv_coderead.specs.Kept.{TextLine, kept_from, line_at, no_line, open_from, text_line, text_lines, IsNext}
 use Rattle.dv_coderead.specs.Bodies.{number_behind}
 use Rattle.dv_coderead.specs.RawLines.{raw_line, AreFew}
