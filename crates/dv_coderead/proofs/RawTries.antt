@@ -1,5 +1,5 @@
 -- Try entries of handlers, one behind another.
-use Rattle.std.proofs.Common.{◌≡◌, ℕ, zero, suc, ◌+◌, ◌<◌, ◌≤◌, ◌&&◌, Bool, true, false, nat_eq, List, [], ◌∷◌, ◌++◌, length, drop, slice_index_or, slice_set, inl, inr, refl, sym, ap, ◌∙◌, append_assoc, arith}
+use Rattle.std.proofs.Common.{◌≡◌, ℕ, zero, suc, ◌+◌, ◌<◌, ◌≤◌, ◌&&◌, true, false, nat_eq, List, [], ◌∷◌, ◌++◌, length, drop, slice_index_or, slice_set, inl, inr, refl, sym, ap, ◌∙◌, append_assoc, arith}
 use Rattle.std.proofs.lemmas.Bool.{and_parts, cases_Bool, eqb-true}
 use Rattle.std.proofs.lemmas.List.{at_drop_all, at_drop_more}
 use Rattle.dv_defs.specs.declared.code.Handler.{Handler}
@@ -21,6 +21,7 @@ module _ (h : RawHandler) (own : Handler) where
         | inr another ↦ rw (another, other) refl
       ]
 
+  -- a range's ends, where an entry has it
   same_start : (t : Try) → stands_in t h ≡ true → h.start ≡ t.start
   same_start t same = eqb-true h.start t.start (and_parts _ _ same).0
 
@@ -56,6 +57,7 @@ pub record EndsWith (ts : List Try) (k : ℕ) (t : Try) : Type 0 where
   pub whole : ts ≡ front ++ t ∷ []
   pub set : (new : Try) → slice_set ts k new ≡ front ++ new ∷ []
 
+-- some entries end with that in the last place
 pub ends_with : (ts : List Try) (k : ℕ) (t : Try) → length ts ≡ suc k → t ≡ slice_index_or ts k t → EndsWith ts k t
 ends_with [] k t long is = absurd (omega arith)
 ends_with (s ∷ []) zero t long is = record { front = []; whole = ap (λ x. x ∷ []) (sym is); set = λ new. refl }
@@ -96,6 +98,7 @@ module _ (types : List Ty) where
   joined_read h [] = refl
   joined_read h (u ∷ us) = refl
 
+  -- the entry of the first handler stands before those of the rest
   entry_first : (h : RawHandler) (hs : List RawHandler) → raw_tries types (h ∷ hs) ≡ joined (entry_of h (raw_handler types h)) (raw_tries types hs)
   unfolding raw_tries
   entry_first h hs = joined_read h (raw_tries types hs)
@@ -108,6 +111,7 @@ module _ (types : List Ty) where
   abbrev pub AreSoFar : List RawHandler → ℕ → List Try → Type 0
   AreSoFar hs at ts = raw_tries types hs ≡ glued ts (raw_tries types (drop at hs))
 
+  -- one handler more is added
   pub one_more : (hs : List RawHandler) (at : ℕ) (ts new : List Try) (h : RawHandler) (own : Handler) → at < length hs → h ≡ slice_index_or hs at h → own ≡ raw_handler types h
       → ((us : List Try) → glued new us ≡ glued ts (joined (entry_of h own) us)) → AreSoFar hs at ts → AreSoFar hs (at + 1) new
   one_more hs at ts new h own lt is same more so_far =
@@ -115,10 +119,12 @@ module _ (types : List Ty) where
       let entry = ap (λ o. joined (entry_of h o) (raw_tries types rest)) same in
       so_far ∙ ap (glued ts) (at_drop_more (raw_tries types) hs at h lt ∙ ap (λ x. raw_tries types (x ∷ rest)) (sym is) ∙ entry_first h rest ∙ sym entry) ∙ sym (more (raw_tries types rest))
 
+  -- nothing stands behind
   glued_none : (ts : List Try) → glued ts [] ≡ ts
   glued_none [] = refl
   glued_none (t ∷ []) = refl
   glued_none (t ∷ s ∷ ts) = ap (λ l. t ∷ l) (glued_none (s ∷ ts))
 
+  -- behind the last handler they are all
   pub all_entries : (hs : List RawHandler) (at : ℕ) (ts : List Try) → length hs ≤ at → AreSoFar hs at ts → ts ≡ raw_tries types hs
   all_entries hs at ts le so_far = sym (so_far ∙ ap (glued ts) (at_drop_all (raw_tries types) hs at le ∙ no_entries) ∙ glued_none ts)

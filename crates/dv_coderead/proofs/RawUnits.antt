@@ -1,5 +1,5 @@
 -- The units of a line, word by word.
-use Rattle.std.proofs.Common.{◌≡◌, ℕ, ◌+◌, ◌*◌, ◌<◌, ◌≤◌, Bool, true, false, List, [], ◌∷◌, ◌++◌, length, map, drop, slice_index_or, Result, Ok, Err, Bor, refl, sym, ap, ◌∙◌, append-nil, append_assoc, arith}
+use Rattle.std.proofs.Common.{◌≡◌, ℕ, ◌+◌, ◌*◌, ◌<◌, ◌≤◌, true, false, List, [], ◌∷◌, ◌++◌, length, drop, slice_index_or, Result, Ok, Err, Bor, refl, sym, ap, ◌∙◌, append-nil, append_assoc, arith}
 use Rattle.std.proofs.lemmas.Bool.{cond-true, cond-false}
 use Rattle.std.proofs.lemmas.List.{at_drop_all, at_drop_more}
 use Rattle.dv_defs.specs.declared.faults.LineKind.{LineKind}
@@ -36,6 +36,7 @@ pub none_in_front : (r : Result (List ℕ) LineKind) → in_front [] r ≡ r
 none_in_front (Ok vs) = refl
 none_in_front (Err k) = refl
 
+-- one unit more in front
 unit_in_front : (us : List ℕ) (u : ℕ) (r : Result (List ℕ) LineKind) → in_front us (and_unit u r) ≡ in_front (us ++ u ∷ []) r
 unit_in_front us u (Ok vs) = ap Ok (sym (append_assoc us (u ∷ []) vs))
 unit_in_front us u (Err k) = refl
@@ -58,6 +59,7 @@ piece_refused (code.Mark b) ps other = refl
 piece_refused (code.Str us) ps other = refl
 piece_refused (code.Char u) ps other = refl
 
+-- no piece, no unit
 no_units : units_in [] ≡ Ok []
 unfolding units_in
 no_units = refl
@@ -75,9 +77,11 @@ pub at_end : (ps : List CodePiece) (at : ℕ) (us : List ℕ) → length ps ≤ 
 at_end ps at us le so_far = sym so_far ∙ at_drop_all (λ l. in_front us (units_in (pieces_in l))) ps at le ∙ ap (in_front us) no_units ∙ ap Ok (append-nil us)
 
 module _ (ps : List CodePiece) (at : ℕ) (us : List ℕ) (p : CodePiece) (lt : at < length ps) (is : p ≡ slice_index_or ps at p) (so_far : IsSoFar ps at us) where
+  -- the piece stands before the rest
   piece_first : pieces_in (drop at ps) ≡ piece_in p ∷ pieces_in (drop (at + 1) ps)
   piece_first = at_drop_more pieces_in ps at p lt ∙ ap (λ x. piece_in x ∷ pieces_in (drop (at + 1) ps)) (sym is)
 
+  -- and so do its units
   units_here : in_front us (units_in (piece_in p ∷ pieces_in (drop (at + 1) ps))) ≡ units_in (pieces_in ps)
   units_here = sym (ap (λ l. in_front us (units_in l)) piece_first) ∙ so_far
 

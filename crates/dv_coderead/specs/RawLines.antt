@@ -1,5 +1,5 @@
 -- What the lines of a raw body say, each judged by where it stands.
-use Rattle.std.specs.Prelude.{◌≡◌, ℕ, ◌+◌, ◌≤◌, ◌<◌, ◌^◌, ◌&&◌, ℤ, pos, negsuc, Bool, true, false, List, [], ◌∷◌, codes, bytes_eq, length, Option, Some, None, Result, Ok, Err, nat_le, nat_lt, is_some, ◌==◌, if◌then◌else◌}
+use Rattle.std.specs.Prelude.{ℕ, ◌+◌, ◌≤◌, ◌^◌, ◌&&◌, ℤ, pos, negsuc, Bool, true, false, List, [], ◌∷◌, codes, bytes_eq, length, Option, Some, None, Result, Ok, Err, nat_le, nat_lt, is_some, ◌==◌, if◌then◌else◌}
 use Rattle.std.specs.List.{list_all}
 use Rattle.dv_defs.specs.declared.faults.LineKind.{LineKind}
 use Rattle.dv_defs.specs.declared.faults.LineKind.TheVariants as kind
@@ -9,7 +9,6 @@ use Rattle.dv_asm.specs.declared.draft.PoolRef.TheVariants as pool
 use Rattle.dv_lex.specs.Bytes.{is_hexadecimal}
 use Rattle.dv_lex.specs.Numbers.{value_from}
 use Rattle.dv_coderead.specs.declared.head.Block.TheVariants.{Units}
-use Rattle.dv_coderead.specs.declared.head.Directive.{Directive}
 use Rattle.dv_coderead.specs.declared.head.Directive.TheVariants as directive
 use Rattle.dv_coderead.specs.declared.head.Head.{Head}
 use Rattle.dv_coderead.specs.declared.head.Head.TheVariants as head
@@ -19,7 +18,7 @@ use Rattle.dv_coderead.specs.declared.raw_line.RawHandler.{RawHandler}
 use Rattle.dv_coderead.specs.declared.raw_line.RawLine.{RawLine}
 use Rattle.dv_coderead.specs.declared.raw_line.RawLine.TheVariants as line
 use Rattle.dv_coderead.specs.Giving.{◌>>=◌}
-use Rattle.dv_coderead.specs.Pieces.{Piece, AWord, AMark, AString, ACharacter}
+use Rattle.dv_coderead.specs.Pieces.{Piece, AWord, AString}
 use Rattle.dv_coderead.specs.Words.{number_in}
 use Rattle.dv_coderead.specs.References.{type_in, field_in, method_in, cut_at, cut_at_arrow}
 use Rattle.dv_coderead.specs.Operands.{Part, word_at, alone, behind, ended, and_behind, as_entry}

@@ -1,7 +1,7 @@
 use Rattle.std.proofs.Common.{◌≡◌, ◌-◌, suc, ◌∷◌, [], ◌++◌, length, vec_len, refl, sym, ap, ◌∙◌, arith}
 use Rattle.std.proofs.lemmas.Result.{on_ok_weaker}
 use Rattle.dv_coderead.specs.RawDrafting.{entry_of}
-use Rattle.dv_coderead.proofs.RawTries.{and_own, ends_with, next_entry, same_entry}
+use Rattle.dv_coderead.proofs.RawTries.{ends_with, next_entry, same_entry}
 use Rattle.dv_coderead.proofs.raw_body.add_handler.Goals as goal
 
 pub returns-then-not-has_range : goal.returns-then-not-has_range

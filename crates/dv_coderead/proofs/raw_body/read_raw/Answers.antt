@@ -1,4 +1,4 @@
-use Rattle.std.proofs.Common.{◌≡◌, [], Result, sym, ap, subst, ◌∙◌, arith}
+use Rattle.std.proofs.Common.{[], Result, sym, ap, subst, ◌∙◌}
 use Rattle.std.proofs.lemmas.Result.{err_from_is_err_and}
 use Rattle.dv_defs.specs.Body.{BodyValue}
 use Rattle.dv_lex.specs.declared.line.Stop.{Stop}

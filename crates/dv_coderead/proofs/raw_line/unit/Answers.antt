@@ -1,4 +1,4 @@
-use Rattle.std.proofs.Common.{◌≡◌, length, arith, sym, ◌∙◌}
+use Rattle.std.proofs.Common.{◌≡◌, length, arith}
 use Rattle.dv_coderead.proofs.RawUnits.{four_digits}
 use Rattle.dv_coderead.proofs.raw_line.unit.Goals as goal
 
