@@ -1,5 +1,5 @@
 -- What the lines of a class say, outside its methods, each judged by where it stands.
-use Rattle.std.specs.Prelude.{◌≡◌, ℕ, ◌+◌, ◌^◌, ◌&&◌, not, IsTrue, ℤ, pos, Bool, true, false, List, [], ◌∷◌, codes, bytes_eq, Option, Some, None, Result, Ok, Err, ◌==◌, if◌then◌else◌}
+use Rattle.std.specs.Prelude.{◌≡◌, ℕ, ◌+◌, ◌^◌, ◌&&◌, not, IsTrue, pos, Bool, true, false, List, [], ◌∷◌, codes, bytes_eq, Option, Some, None, Result, Ok, Err, ◌==◌, if◌then◌else◌}
 use Rattle.dv_defs.specs.declared.class.Init.{Init}
 use Rattle.dv_defs.specs.declared.class.Init.TheVariants as init
 use Rattle.dv_defs.specs.declared.faults.LineKind.{LineKind}
@@ -20,10 +20,9 @@ use Rattle.dv_coderead.specs.declared.head.Head.TheVariants as head
 use Rattle.dv_coderead.specs.Giving.{◌>>=◌}
 use Rattle.dv_coderead.specs.Pieces.{Piece, AWord, AMark, AString, ACharacter}
 use Rattle.dv_coderead.specs.Words.{number_in}
-use Rattle.dv_coderead.specs.References.{type_in, proto_in, cut_at, found_parts, member_name}
-use Rattle.dv_coderead.specs.Operands.{Part, word_at, behind, ended}
+use Rattle.dv_coderead.specs.References.{type_in, class_in, proto_in, cut_at, found_parts, member_name}
+use Rattle.dv_coderead.specs.Operands.{Part, word_at, alone, behind, ended}
 use Rattle.dv_coderead.specs.Heads.{head_of}
-use Rattle.dv_coderead.specs.BodyLines.{alone, class_in}
 use Rattle.dv_classread.specs.declared.class_line.Signature.{Signature}
 use Rattle.dv_classread.specs.declared.class_line.ClassHead.{ClassHead}
 use Rattle.dv_classread.specs.declared.class_line.Standing.{Standing}
@@ -73,17 +72,13 @@ flags_at flags ps = Ok (flags, ps)
 
 -- ---- classes
 
--- the descriptor of a class
-abbrev pub name_of : Base → List ℕ
-name_of (base.Class name) = name
-name_of b = []
-
-abbrev pub named : Result Ty LineKind → Result (List ℕ) LineKind
-named (Ok t) = Ok (name_of t.base)
-named (Err k) = Err k
+-- the descriptor of a class, and of no other type
+abbrev pub name_of : Base → Result (List ℕ) LineKind
+name_of (base.Class name) = Ok name
+name_of b = Err kind.BadDescriptor
 
 abbrev pub class_name : List ℕ → Result (List ℕ) LineKind
-class_name w = named (class_in w)
+class_name w = class_in w >>= λ class. name_of class.base
 
 unfoldable pub class_name_line : List Piece → Result (List ℕ) LineKind
 class_name_line ps = alone (word_at class_name ps)

@@ -1,5 +1,5 @@
 -- The classes of a text.
-use Rattle.std.specs.Prelude.{◌≡◌, ℕ, zero, suc, ◌&&◌, Bool, true, false, List, [], ◌∷◌, ◌++◌, map, drop, Option, Some, None, unwrap_or, Result, Ok, Err, if◌then◌else◌}
+use Rattle.std.specs.Prelude.{◌≡◌, ℕ, zero, suc, ◌&&◌, Bool, true, false, List, [], ◌∷◌, ◌++◌, map, drop, Option, Some, None, unwrap_or, Result, Ok, Err, nat_lt, if◌then◌else◌}
 use Rattle.dv_defs.specs.declared.class.ClassDef.{ClassDef}
 use Rattle.dv_defs.specs.declared.class.MethodDef.{MethodDef}
 use Rattle.dv_defs.specs.declared.faults.LineKind.TheVariants as kind
@@ -29,18 +29,13 @@ use Rattle.dv_classread.specs.declared.class_line.Standing.{Standing}
 use Rattle.dv_classread.specs.declared.class_line.Standing.TheVariants as standing
 use Rattle.dv_classread.specs.declared.class_line.ClassLine.{ClassLine}
 use Rattle.dv_classread.specs.declared.class_line.ClassLine.TheVariants as line
+use Rattle.dv_classread.specs.declared.program.BodyDraft.{BodyDraft}
+use Rattle.dv_classread.specs.declared.program.BodyDraft.TheVariants as body
+use Rattle.dv_classread.specs.declared.program.MethodDraft.{MethodDraft}
+use Rattle.dv_classread.specs.declared.program.ClassDraft.{ClassDraft}
 use Rattle.dv_classread.specs.ClassLines.{class_line, stands_next, lacks_super}
 
 -- ---- bodies
-
--- a body before it is assembled
-pub data AnyBody : Type 0 where
-  Drafted : DraftValue → AnyBody
-  Raw : BodyValue → AnyBody
-
-pub record MethodDraft : Type 0 where
-  pub signature : Signature
-  pub body : Option AnyBody
 
 abbrev pub is_raw_head : Head → Bool
 is_raw_head (head.Directive directive.Rawref) = true
@@ -57,19 +52,19 @@ is_raw [] = false
 is_raw (l ∷ []) = false
 is_raw (l ∷ m ∷ ls) = is_count_head (head_of l.pieces) && is_raw_head (head_of m.pieces)
 
-abbrev pub drafted : Result DraftValue Stop → Result (Option AnyBody) Stop
-drafted (Ok d) = Ok (Some (Drafted d))
+abbrev pub drafted : Result DraftValue Stop → Result (Option BodyDraft) Stop
+drafted (Ok d) = Ok (Some (body.Drafted d))
 drafted (Err e) = Err e
 
-abbrev pub raw : Result BodyValue Stop → Result (Option AnyBody) Stop
-raw (Ok b) = Ok (Some (Raw b))
+abbrev pub raw : Result BodyValue Stop → Result (Option BodyDraft) Stop
+raw (Ok b) = Ok (Some (body.Raw b))
 raw (Err e) = Err e
 
 abbrev pub arguments_of : Signature → ℕ
 arguments_of s = argument_words s.proto (has_flag s.flags Static)
 
 -- the body of a method, whose lines these are; the line behind them has this number. Without lines there is none.
-unfoldable pub method_body : Signature → ℕ → List TextLine → Result (Option AnyBody) Stop
+unfoldable pub method_body : Signature → ℕ → List TextLine → Result (Option BodyDraft) Stop
 method_body s past [] = Ok None
 method_body s past (l ∷ ls) = if is_raw (l ∷ ls) then raw (raw_body_from past 0 (l ∷ ls)) else drafted (body_from (arguments_of s) past 0 (l ∷ ls))
 
@@ -98,9 +93,14 @@ leaves_method h = false
 abbrev pub missing_at : ℕ → Stop
 missing_at n = record { line = n; kind = kind.Missing }
 
+-- the earlier of a fault and the bad line that was read, if there is one
+abbrev pub first_bad : {A : Type 0} → Stop → Result A Stop → Stop
+first_bad e (Ok x) = e
+first_bad e (Err f) = if nat_lt f.line e.line then f else e
+
 -- a method that is left or cut off is bad at its first bad line, else there
-abbrev pub left_at : Stop → ℕ → Signature → List TextLine → Result (List Told) Stop
-left_at e past s ls = method_body s past ls >>> λ b. Err e
+abbrev pub left_at : Stop → Signature → List TextLine → Result (List Told) Stop
+left_at e s ls = Err (first_bad e (method_body s e.line ls))
 
 -- where a line stands: outside methods, or behind these lines of one
 pub data Spot : Type 0 where
@@ -109,7 +109,7 @@ pub data Spot : Type 0 where
 
 -- no line is left: the text ends so, or with the fault of what is unfinished
 abbrev pub ended_in : Option Stop → ℕ → Spot → Result (List Told) Stop
-ended_in end past (InMethod s sig before) = left_at (unwrap_or end (missing_at past)) past sig before
+ended_in end past (InMethod s sig before) = left_at (unwrap_or end (missing_at past)) sig before
 ended_in (Some e) past (InClass s) = Err e
 ended_in None past (InClass s) = if lacks_super s then Err (missing_at past) else Ok []
 
@@ -122,9 +122,9 @@ abbrev pub added : ClassLine → Result (List Told) Stop → Result (List Told) 
 added (line.Method sig) ts = ts
 added l ts = and_told (Says l) ts
 
-abbrev pub method_ended : ℕ → Signature → List TextLine → TextLine → Result (List Told) Stop → Result (List Told) Stop
-method_ended past sig before l more =
-    method_body sig past before >>> λ b.
+abbrev pub method_ended : Signature → List TextLine → TextLine → Result (List Told) Stop → Result (List Told) Stop
+method_ended sig before l more =
+    method_body sig l.number before >>> λ b.
     on_line l.number (ended (drop 2 l.pieces)) >>> λ nothing.
     and_told (Method (record { signature = sig; body = b })) more
 
@@ -134,8 +134,8 @@ told_from end past spot [] = ended_in end past spot
 told_from end past (InClass s) (l ∷ ls) =
     on_line l.number (class_line s l.number l.pieces) >>> λ says. added says (told_from end past (begun s says) ls)
 told_from end past (InMethod s sig before) (l ∷ ls) =
-    if ends_method (head_of l.pieces) then method_ended l.number sig before l (told_from end past (InClass s) ls)
-    else if leaves_method (head_of l.pieces) then left_at (missing_at l.number) l.number sig before
+    if ends_method (head_of l.pieces) then method_ended sig before l (told_from end past (InClass s) ls)
+    else if leaves_method (head_of l.pieces) then left_at (missing_at l.number) sig before
     else told_from end past (InMethod s sig (before ++ l ∷ [])) ls
 
 -- ---- the classes that lines tell
@@ -177,14 +177,6 @@ unfoldable pub methods_in : List Told → List MethodDraft
 methods_in [] = []
 methods_in (t ∷ ts) = methods_by t (methods_in ts)
 
--- a class before its bodies are assembled
-pub record ClassDraft : Type 0 where
-  pub head : ClassHead
-  pub parent : Option (List ℕ)
-  pub interfaces : List (List ℕ)
-  pub fields : List FieldValue
-  pub methods : List MethodDraft
-
 abbrev pub class_by : Told → List Told → List ClassDraft → List ClassDraft
 class_by (Says (line.Class c)) ts more = record {
   head = c;
@@ -209,10 +201,10 @@ assembled_by None b = Ok (Some b)
 assembled_by (Some r) b = Err (as_stop r)
 
 -- a body as units
-unfoldable pub assembled : Option AnyBody → Result (Option BodyValue) Stop
+unfoldable pub assembled : Option BodyDraft → Result (Option BodyValue) Stop
 assembled None = Ok None
-assembled (Some (Raw b)) = Ok (Some b)
-assembled (Some (Drafted d)) = assembled_by (refusal d) (layout d)
+assembled (Some (body.Raw b)) = Ok (Some b)
+assembled (Some (body.Drafted d)) = assembled_by (refusal d) (layout d)
 
 abbrev pub method_of : Signature → Option BodyValue → MethodDef
 method_of s b = record { name = s.name; proto = s.proto; flags = s.flags; body = b }

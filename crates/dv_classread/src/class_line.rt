@@ -443,7 +443,7 @@ fn by_directive(
 ///
 /// The line's leftmost fault, or want of memory.
 #[tactic(auto, unfolding(crate::specs::ClassLines::class_line))]
-pub fn class_line(
+pub fn read_class_line(
     alloc: Global,
     standing: Standing,
     line: u32,

@@ -1,6 +1,5 @@
 -- What a line adds to a draft that is being read.
-use Rattle.std.proofs.Common.{◌≡◌, ℕ, ◌+◌, ◌%◌, ◌≤◌, true, List, [], ◌∷◌, ◌++◌, length, take, ℤ, Option, Some, None, IfSome, Vec, Global, refl, sym, ap, subst, ◌∙◌, append_assoc, append-nil, arith}
-use Rattle.std.specs.List.{All}
+use Rattle.std.proofs.Common.{◌≡◌, ℕ, ◌+◌, ◌%◌, ◌≤◌, List, [], ◌∷◌, ◌++◌, length, ℤ, Some, None, Vec, Global, refl, sym, ap, ◌∙◌, append_assoc, append-nil, arith}
 use Rattle.std.specs.Int.{w64, to_le_bytes}
 use Rattle.std.specs.Prelude.{IsTrue}
 use Rattle.std.proofs.Math.Nat.{add-mod_right, zero-mod}
@@ -19,7 +18,6 @@ use Rattle.dv_asm.specs.Draft.{AreFormed, IsFormed, IsOp}
 use Rattle.dv_coderead.specs.declared.words.Frame.{Frame}
 use Rattle.dv_coderead.specs.declared.body_line.Opening.{Opening}
 use Rattle.dv_coderead.specs.declared.body_line.Opening.TheVariants as opening
-use Rattle.dv_coderead.specs.declared.body_line.BodyLine.{BodyLine}
 use Rattle.dv_coderead.specs.declared.body_line.BodyLine.TheVariants as line
 use Rattle.dv_coderead.specs.declared.drafting.Open.{Open}
 use Rattle.dv_coderead.specs.declared.drafting.Drafting.{Drafting}

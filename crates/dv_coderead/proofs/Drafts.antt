@@ -1,5 +1,5 @@
 -- The draft of lines, line by line.
-use Rattle.std.proofs.Common.{◌≡◌, ℕ, ◌+◌, ◌<◌, Bool, true, false, List, [], ◌∷◌, ◌++◌, Result, Ok, Err, refl, sym, ap, ◌∙◌, arith}
+use Rattle.std.proofs.Common.{◌≡◌, ℕ, ◌+◌, ◌<◌, Bool, false, List, [], ◌∷◌, Result, Ok, Err, refl, sym, ap, ◌∙◌, arith}
 use Rattle.std.specs.Prelude.{◌&&◌, nat_eq, is_some, not, if◌then◌else◌}
 use Rattle.std.proofs.lemmas.Bool.{and_right, ne_eqb}
 use Rattle.dv_defs.specs.declared.faults.LineKind.TheVariants.{Missing}

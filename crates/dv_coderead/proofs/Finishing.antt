@@ -4,12 +4,11 @@ use Rattle.std.specs.Prelude.{is_some}
 use Rattle.dv_defs.specs.declared.faults.LineKind.TheVariants.{Missing}
 use Rattle.dv_asm.specs.declared.draft.Item.{Item}
 use Rattle.dv_asm.specs.declared.draft.Catch.{Catch}
-use Rattle.dv_asm.specs.Draft.{DraftValue}
 use Rattle.dv_coderead.specs.declared.words.Frame.{Frame}
 use Rattle.dv_coderead.specs.declared.body_line.Opening.{Opening}
 use Rattle.dv_coderead.specs.declared.drafting.Drafting.{Drafting}
 use Rattle.dv_coderead.specs.Bodies.{told_behind, items_of, catches_of}
-use Rattle.dv_coderead.specs.Drafting.{finished_with, items_with, open_item}
+use Rattle.dv_coderead.specs.Drafting.{finished_with, items_with}
 
 module _ (past : ℕ) (d : Drafting) where
   -- there is no count of registers

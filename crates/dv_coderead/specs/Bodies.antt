@@ -1,7 +1,6 @@
 -- The body that the lines of a method give.
-use Rattle.std.specs.Prelude.{ℕ, ◌+◌, ◌*◌, ◌&&◌, ℤ, Bool, true, false, List, [], ◌∷◌, ◌++◌, take, Option, Some, None, is_some, not, Result, Ok, Err, nat_eq, if◌then◌else◌}
+use Rattle.std.specs.Prelude.{ℕ, ◌+◌, ◌&&◌, ℤ, Bool, List, [], ◌∷◌, ◌++◌, take, Option, Some, None, is_some, not, Result, Ok, Err, nat_eq, if◌then◌else◌}
 use Rattle.std.specs.Int.{w64, to_le_bytes}
-use Rattle.dv_defs.specs.declared.faults.LineKind.{LineKind}
 use Rattle.dv_defs.specs.declared.faults.LineKind.TheVariants.{Missing}
 use Rattle.dv_defs.specs.declared.names.Proto.{Proto}
 use Rattle.dv_defs.specs.Numbers.{bits64}

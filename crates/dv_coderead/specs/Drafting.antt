@@ -11,7 +11,6 @@ use Rattle.dv_lex.specs.declared.line.Stop.{Stop}
 use Rattle.dv_coderead.specs.declared.words.Frame.{Frame}
 use Rattle.dv_coderead.specs.declared.body_line.Opening.{Opening}
 use Rattle.dv_coderead.specs.declared.body_line.Opening.TheVariants as opening
-use Rattle.dv_coderead.specs.declared.body_line.Context.{Context}
 use Rattle.dv_coderead.specs.declared.body_line.BodyLine.{BodyLine}
 use Rattle.dv_coderead.specs.declared.drafting.Open.{Open}
 use Rattle.dv_coderead.specs.declared.drafting.Drafting.{Drafting}

@@ -144,7 +144,11 @@ is_behind p = false
 abbrev pub raw_finished : ℕ → ℕ → RawPlace → BodyValue → Result BodyValue Stop
 raw_finished past annotations p b = if is_behind p && nat_eq annotations 0 then Ok b else Err (record { line = past; kind = Missing })
 
+-- the raw body of the lines that count, with so many annotations open behind them, where the number of the line behind is `past`
+abbrev pub raw_body_from : ℕ → ℕ → List TextLine → Result BodyValue Stop
+raw_body_from past annotations ls = raw_told_by place.Start ls >>> λ ts.
+    raw_finished past annotations (place_behind place.Start ts) (raw_body ts)
+
 -- the raw body of these lines, or the first bad line
 unfoldable pub raw_body_of : List TextLine → Result BodyValue Stop
-raw_body_of ls = raw_told_by place.Start (kept 0 ls) >>> λ ts.
-    raw_finished (number_behind ls) (open_behind 0 ls) (place_behind place.Start ts) (raw_body ts)
+raw_body_of ls = raw_body_from (number_behind ls) (open_behind 0 ls) (kept 0 ls)

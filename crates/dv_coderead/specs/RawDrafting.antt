@@ -1,10 +1,13 @@
 -- A raw body that is being read: what the lines so far have given, and what those behind them add.
-use Rattle.std.specs.Prelude.{◌≡◌, ℕ, ◌≤◌, List, ◌++◌, length}
+use Rattle.std.specs.Prelude.{◌≡◌, ℕ, ◌≤◌, ◌&&◌, Bool, true, List, [], ◌∷◌, ◌++◌, length, nat_eq, if◌then◌else◌}
+use Rattle.dv_defs.specs.declared.code.Handler.{Handler}
+use Rattle.dv_defs.specs.declared.code.Try.{Try}
 use Rattle.dv_defs.specs.Body.{BodyValue}
+use Rattle.dv_asm.specs.declared.pools.Pools.{Pools}
 use Rattle.dv_coderead.specs.declared.raw_line.RawPlace.{RawPlace}
 use Rattle.dv_coderead.specs.declared.raw_line.RawPlace.TheVariants as place
+use Rattle.dv_coderead.specs.declared.raw_line.RawHandler.{RawHandler}
 use Rattle.dv_coderead.specs.declared.raw_line.RawLine.{RawLine}
-use Rattle.dv_coderead.specs.declared.raw_line.RawLine.TheVariants as line
 use Rattle.dv_coderead.specs.declared.raw_body.RawDrafting.{RawDrafting}
 use Rattle.dv_coderead.specs.RawBodies.{raw_refs, raw_units, raw_handlers, raw_registers, with_refs, raw_body_by}
 
@@ -23,3 +26,40 @@ pub record IsRawDrafting (d : RawDrafting) : Type 0 where
   pub registers : d.registers ≤ 256
   pub short : length d.units.items ≤ 16384
   pub units : HasUnits d.place d.units.items
+
+-- the body of its units, its try entries and its pools
+abbrev pub raw_body_made : ℕ → List ℕ → List Try → Pools → BodyValue
+raw_body_made registers units tries pools = record {
+  registers = registers;
+  units = units;
+  tries = tries;
+  strings = pools.strings;
+  types = pools.types;
+  fields = pools.fields;
+  methods = pools.methods;
+  raw = true;
+}
+
+-- ---- try entries, one behind another
+
+-- an entry of this range alone
+abbrev pub entry_of : RawHandler → Handler → Try
+entry_of h own = record { start = h.start; end = h.end; handlers = own ∷ [] }
+
+-- whether an entry has a handler's range
+abbrev pub stands_in : Try → RawHandler → Bool
+stands_in t h = nat_eq h.start t.start && nat_eq h.end t.end
+
+abbrev pub have_same_range : Try → Try → Bool
+have_same_range t u = nat_eq u.start t.start && nat_eq u.end t.end
+
+-- an entry before others: one with the first of them, where they have one range
+abbrev pub joined : Try → List Try → List Try
+joined t [] = t ∷ []
+joined t (u ∷ us) = if have_same_range t u then record { start = t.start; end = t.end; handlers = t.handlers ++ u.handlers } ∷ us else t ∷ u ∷ us
+
+-- entries before others: the last of the former and the first of the latter are one, where they have one range
+abbrev pub glued : List Try → List Try → List Try
+glued [] us = us
+glued (t ∷ []) us = joined t us
+glued (t ∷ s ∷ ts) us = t ∷ glued (s ∷ ts) us

@@ -1,5 +1,5 @@
 -- What the lines of a raw body say, each judged by where it stands.
-use Rattle.std.specs.Prelude.{◌≡◌, ℕ, ◌+◌, ◌≤◌, ◌<◌, ◌^◌, ◌&&◌, Bool, true, false, List, [], ◌∷◌, codes, bytes_eq, length, Option, Some, None, Result, Ok, Err, nat_le, nat_lt, is_some, ◌==◌, if◌then◌else◌}
+use Rattle.std.specs.Prelude.{◌≡◌, ℕ, ◌+◌, ◌≤◌, ◌<◌, ◌^◌, ◌&&◌, ℤ, pos, negsuc, Bool, true, false, List, [], ◌∷◌, codes, bytes_eq, length, Option, Some, None, Result, Ok, Err, nat_le, nat_lt, is_some, ◌==◌, if◌then◌else◌}
 use Rattle.std.specs.List.{list_all}
 use Rattle.dv_defs.specs.declared.faults.LineKind.{LineKind}
 use Rattle.dv_defs.specs.declared.faults.LineKind.TheVariants as kind
@@ -7,7 +7,7 @@ use Rattle.dv_defs.specs.declared.names.Ty.{Ty}
 use Rattle.dv_asm.specs.declared.draft.PoolRef.{PoolRef}
 use Rattle.dv_asm.specs.declared.draft.PoolRef.TheVariants as pool
 use Rattle.dv_lex.specs.Bytes.{is_hexadecimal}
-use Rattle.dv_lex.specs.Numbers.{Number, magnitude, value_from}
+use Rattle.dv_lex.specs.Numbers.{value_from}
 use Rattle.dv_coderead.specs.declared.head.Block.TheVariants.{Units}
 use Rattle.dv_coderead.specs.declared.head.Directive.{Directive}
 use Rattle.dv_coderead.specs.declared.head.Directive.TheVariants as directive
@@ -24,7 +24,7 @@ use Rattle.dv_coderead.specs.Words.{number_in}
 use Rattle.dv_coderead.specs.References.{type_in, field_in, method_in, cut_at, cut_at_arrow}
 use Rattle.dv_coderead.specs.Operands.{Part, word_at, alone, behind, ended, and_behind, as_entry}
 use Rattle.dv_coderead.specs.Heads.{head_of}
-use Rattle.dv_coderead.specs.BodyLines.{count_in, refusal_of}
+use Rattle.dv_coderead.specs.BodyLines.{by_value, count_in, refusal_of}
 
 abbrev pub raw_said : {A : Type 0} → (A → RawLine) → Result A LineKind → Result RawLine LineKind
 raw_said f (Ok x) = Ok (f x)
@@ -83,15 +83,12 @@ begins_with_unit ps = false
 -- ---- handlers
 
 -- a number from 0 up, of 32 bits
-abbrev pub address_of : Option Number → Result ℕ LineKind
-address_of None = Err kind.Operands
-address_of (Some n) =
-    if n.negative && nat_lt 0 (magnitude n) then Err kind.NumberRange
-    else if nat_lt (magnitude n) (2 ^ 32) then Ok (magnitude n)
-    else Err kind.NumberRange
+abbrev pub address_from : ℤ → Result ℕ LineKind
+address_from (pos n) = if nat_lt n (2 ^ 32) then Ok n else Err kind.NumberRange
+address_from (negsuc n) = Err kind.NumberRange
 
 unfoldable pub address_in : List ℕ → Result ℕ LineKind
-address_in w = address_of (number_in w)
+address_in w = by_value address_from (number_in w)
 
 abbrev pub some_type : Result Ty LineKind → Result (Option Ty) LineKind
 some_type (Ok t) = Ok (Some t)
@@ -162,8 +159,12 @@ abbrev pub AreFew : RawPlace → Type 0
 AreFew (place.Units before) = before ≤ 16384
 AreFew p = Unit {0}
 
+-- a line says what may stand there
 abbrev pub IsRawLine : RawPlace → RawLine → Type 0
-IsRawLine p (line.Registers n) = n ≤ 256
+IsRawLine place.Start (line.Registers n) = n ≤ 256
+IsRawLine place.Pools (line.Entry r) = Unit {0}
+IsRawLine place.Pools line.Begin = Unit {0}
 IsRawLine (place.Units before) (line.Units us) = before + length us ≤ 16384
-IsRawLine p (line.Units us) = ⊥
-IsRawLine p l = Unit {0}
+IsRawLine (place.Units before) line.End = Unit {0}
+IsRawLine place.Behind (line.Handler h) = Unit {0}
+IsRawLine p l = ⊥

@@ -1,5 +1,5 @@
 -- What a token means where a type or a reference to a member is due.
-use Rattle.std.specs.Prelude.{ℕ, suc, ◌&&◌, List, [], ◌∷◌, ◌++◌, drop, Option, Some, None, unwrap_or, Result, Ok, Err, ◌==◌, if◌then◌else◌}
+use Rattle.std.specs.Prelude.{ℕ, suc, Bool, true, false, ◌&&◌, List, [], ◌∷◌, ◌++◌, drop, Option, Some, None, unwrap_or, Result, Ok, Err, ◌==◌, if◌then◌else◌}
 use Rattle.dv_defs.specs.declared.faults.LineKind.{LineKind}
 use Rattle.dv_defs.specs.declared.faults.LineKind.TheVariants as kind
 use Rattle.dv_defs.specs.declared.names.Base.{Base}

@@ -2,7 +2,7 @@
 ghost use Rattle.std.specs.Prelude.{◌≡◌, ℕ, ◌^◌, ◌<◌, List, IfOk, IfSome, SomeIff};
 ghost use Rattle.std.specs.List.{All};
 ghost use Rattle.dv_defs.specs.Types.{words_of};
-ghost use Rattle.dv_lex.specs.Lines.{lexemes_in, HasTokens, IsLineInside};
+ghost use Rattle.dv_lex.specs.Lines.{HasTokens, IsLineInside};
 ghost use Rattle.dv_coderead.specs.Giving.{on_line, GivesLines};
 ghost use Rattle.dv_coderead.specs.Heads.{head_of};
 ghost use Rattle.dv_coderead.specs.Kept.{text_line, text_lines};

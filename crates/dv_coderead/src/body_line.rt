@@ -5,6 +5,7 @@ ghost use Rattle.dv_coderead.specs.Giving.{Gives, Reads};
 ghost use Rattle.dv_coderead.specs.Pieces.{pieces_in};
 ghost use Rattle.dv_coderead.specs.Heads.{head_of};
 ghost use Rattle.dv_coderead.specs.Words.{label_in};
+ghost use Rattle.dv_coderead.specs.References.{class_in};
 ghost use Rattle.dv_coderead.specs.Operands.{behind, word_at};
 ghost use Rattle.dv_coderead.specs.BodyLines.{arrow_at, begin_line, begins_with_number, body_line, case_line, catch_line, count_from, count_in, data_begin, data_line, directive_line, directive_refusal, element_line, end_line, frame_line, handler_line, key_from, key_in, label_line, method_line, packed_begin, packed_line, refusal_of, registers_line, sparse_begin, sparse_line, width_from, width_in, HasWidth, IsHead, IsLine, StandsIn};
 

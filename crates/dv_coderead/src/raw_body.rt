@@ -1,24 +1,29 @@
 // A raw body, read from its lines.
-ghost use Rattle.std.specs.Prelude.{◌≡◌, ◌≤◌, ◌<◌, [], ◌++◌, ◌∷◌, List, ℕ, length, IfOk, OnOk};
+ghost use Rattle.std.specs.Prelude.{◌≡◌, [], ◌∷◌, ◌++◌, List, IfOk, OnOk};
 ghost use Rattle.std.specs.List.{All};
 ghost use Rattle.dv_lex.specs.Lines.{HasTokens, IsLineInside};
+ghost use Rattle.dv_defs.specs.declared.code.Try.{Try};
+ghost use Rattle.dv_defs.specs.Body.{IsBody};
 ghost use Rattle.dv_asm.specs.Pools.{no_pools};
 ghost use Rattle.dv_coderead.specs.Giving.{on_line, GivesLines};
 ghost use Rattle.dv_coderead.specs.Heads.{head_of};
 ghost use Rattle.dv_coderead.specs.Kept.{text_line, text_lines};
 ghost use Rattle.dv_coderead.specs.Drafting.{HasNext};
+ghost use Rattle.dv_coderead.specs.declared.raw_line.RawLine.{RawLine};
+ghost use Rattle.dv_coderead.specs.declared.raw_line.RawPlace.TheVariants as place;
 ghost use Rattle.dv_coderead.specs.RawLines.{raw_line, AreFew, IsRawLine};
-ghost use Rattle.dv_coderead.specs.RawBodies.{place_next, raw_body_of, raw_tries, with_caught};
-ghost use Rattle.dv_coderead.specs.RawDrafting.{raw_with, IsRawDrafting};
+ghost use Rattle.dv_coderead.specs.RawBodies.{place_next, raw_body_of, raw_finished, raw_handler, raw_tries, with_caught};
+ghost use Rattle.dv_coderead.specs.RawDrafting.{entry_of, glued, joined, raw_body_made, raw_with, stands_in, IsRawDrafting};
 
 use crate::Refusal;
 use crate::body::number_behind;
+use crate::drafting::missing;
 use crate::head::Head;
 use crate::kept::{Next, next_line};
 use crate::pieces::read_tokens;
 use crate::raw_line::{RawHandler, RawLine, RawPlace, raw_line};
 use dv_asm::{Pool, Pools, index};
-use dv_defs::{Body, Handler, LineError, LineKind, Seq, Try, Ty};
+use dv_defs::{Body, Handler, LineError, Seq, Try, Ty};
 use dv_lex::Line;
 use std::alloc::{AllocError, Global};
 
@@ -34,7 +39,14 @@ pub struct RawDrafting {
 
 impl RawDrafting {
     /// Before the first line.
-    fn new(alloc: Global) -> RawDrafting {
+    fn new(alloc: Global) -> RawDrafting
+        ensures place { result.place ≡ place.Start }
+        ensures registers { result.registers ≡ 0 }
+        ensures pools { result.pools ≡ no_pools }
+        ensures units { result.units.items ≡ [] }
+        ensures handlers { result.handlers.items ≡ [] }
+        ensures drafting { IsRawDrafting result }
+    {
         RawDrafting {
             place: RawPlace::Start,
             registers: 0,
@@ -69,18 +81,11 @@ impl RawDrafting {
         Ok(())
     }
 
-    /// The body, behind the last line. `past` is the number of the line behind it.
-    ///
-    /// # Errors
-    ///
-    /// `Missing` at that line where there is no count of registers, or no units, or these aren't closed.
-    fn finish(self, alloc: Global, past: u32) -> Result<Body, LineError> {
-        let RawPlace::Behind = self.place else {
-            return Err(LineError::At {
-                line: past,
-                kind: LineKind::Missing,
-            });
-        };
+    /// The body, where this is all.
+    fn body(self, alloc: Global) -> Result<Body, AllocError>
+        requires { IsRawDrafting self }
+        ensures { IfOk result (λ b. b ≡ raw_with self []) }
+    {
         let RawDrafting {
             registers,
             mut pools,
@@ -90,18 +95,46 @@ impl RawDrafting {
         } = self;
         add_caught(&mut pools.types, handlers.as_slice())?;
         let tries = tries(alloc, &pools.types, handlers.as_slice())?;
-        let (strings, types, fields, methods) = pools.into_seqs()?;
-        Ok(Body {
-            registers: registers as u16,
-            units: Seq::of(units),
-            tries: Seq::of(tries),
-            strings,
-            types,
-            fields,
-            methods,
-            raw: true,
-        })
+        body_of(registers as u16, units, tries, pools)
     }
+
+    /// The body, behind the last line. `past` is the number of the line behind it.
+    ///
+    /// # Errors
+    ///
+    /// `Missing` at that line where there is no count of registers, or no units, or these aren't closed.
+    fn finish(self, alloc: Global, past: u32) -> Result<Body, LineError>
+        requires { IsRawDrafting self }
+        ensures { GivesLines (λ b. b) result (raw_finished past 0 self.place (raw_with self [])) }
+    {
+        let RawPlace::Behind = self.place else {
+            return Err(missing(past));
+        };
+        Ok(self.body(alloc)?)
+    }
+}
+
+/// The body of its units, its try entries and its pools.
+fn body_of(
+    registers: u16,
+    units: Vec<u16>,
+    tries: Vec<Try>,
+    pools: Pools,
+) -> Result<Body, AllocError>
+    requires { IsBody registers units.items tries.items pools.types }
+    ensures { IfOk result (λ b. b ≡ raw_body_made registers units.items tries.items pools) }
+{
+    let (strings, types, fields, methods) = pools.into_seqs()?;
+    Ok(Body {
+        registers,
+        units: Seq::of(units),
+        tries: Seq::of(tries),
+        strings,
+        types,
+        fields,
+        methods,
+        raw: true,
+    })
 }
 
 /// Adds the types that handlers catch.
@@ -117,7 +150,10 @@ fn add_caught(types: &mut Pool<Ty>, handlers: &[RawHandler]) -> Result<(), Alloc
 }
 
 /// A handler by the place of its type.
-fn handler_of(types: &Pool<Ty>, handler: &RawHandler) -> Result<Handler, AllocError> {
+#[tactic(auto, using(dv_asm::proofs::KeyLemmas::places))]
+fn handler_of(types: &Pool<Ty>, handler: &RawHandler) -> Result<Handler, AllocError>
+    ensures { IfOk result (λ h. h ≡ raw_handler types.now handler.now) }
+{
     let kind = match &handler.kind {
         Some(ty) => match types.place_of(ty) {
             Some(place) => Some(index(place)?),
@@ -131,6 +167,48 @@ fn handler_of(types: &Pool<Ty>, handler: &RawHandler) -> Result<Handler, AllocEr
     })
 }
 
+/// Whether an entry has a handler's range.
+fn has_range(entry: &Try, handler: &RawHandler) -> bool
+    ensures { result ≡ stands_in entry.now handler.now }
+{
+    handler.start == entry.start && handler.end == entry.end
+}
+
+/// Adds an entry of one handler.
+fn add_entry(
+    alloc: Global,
+    tries: &mut Vec<Try>,
+    handler: &RawHandler,
+    own: Handler,
+) -> Result<(), AllocError>
+    ensures { OnOk result (tries.new.items ≡ tries.old.items ++ entry_of handler.now own ∷ []) }
+{
+    tries.push(Try {
+        start: handler.start,
+        end: handler.end,
+        handlers: Seq::of(vec![in alloc; own]?),
+    })?;
+    Ok(())
+}
+
+/// Adds a handler to the last entry where this has its range, else as an entry of its own.
+fn add_handler(
+    alloc: Global,
+    tries: &mut Vec<Try>,
+    handler: &RawHandler,
+    own: Handler,
+) -> Result<(), AllocError>
+    ensures { OnOk result ((us : List Try) → glued tries.new.items us ≡ glued tries.old.items (joined (entry_of handler.now own) us)) }
+{
+    let Some(last) = tries.last_mut() else {
+        return add_entry(alloc, tries, handler, own);
+    };
+    if !has_range(last, handler) {
+        return add_entry(alloc, tries, handler, own);
+    }
+    last.handlers.push(own)
+}
+
 /// The try entries of handlers. Neighbouring ones of one range are one entry.
 fn tries(alloc: Global, types: &Pool<Ty>, handlers: &[RawHandler]) -> Result<Vec<Try>, AllocError>
     ensures { IfOk result (λ ts. ts.items ≡ raw_tries types.now handlers.now) }
@@ -138,16 +216,7 @@ fn tries(alloc: Global, types: &Pool<Ty>, handlers: &[RawHandler]) -> Result<Vec
     let mut tries: Vec<Try> = Vec::new(alloc);
     for handler in handlers {
         let own = handler_of(types, handler)?;
-        match tries.last_mut() {
-            Some(last) if last.start == handler.start && last.end == handler.end => {
-                last.handlers.push(own)?;
-            }
-            _ => tries.push(Try {
-                start: handler.start,
-                end: handler.end,
-                handlers: Seq::of(vec![in alloc; own]?),
-            })?,
-        }
+        add_handler(alloc, &mut tries, handler, own)?;
     }
     Ok(tries)
 }
@@ -201,12 +270,7 @@ pub fn read_raw(alloc: Global, text: &[u8], lines: &[Line]) -> Result<Body, Line
                 at = place + 1;
             }
             Next::End => return drafting.finish(alloc, number_behind(lines)),
-            Next::Unfinished => {
-                return Err(LineError::At {
-                    line: number_behind(lines),
-                    kind: LineKind::Missing,
-                });
-            }
+            Next::Unfinished => return Err(missing(number_behind(lines))),
         }
     }
 }

@@ -1,12 +1,15 @@
 // What a line of a raw body says.
-ghost use Rattle.std.specs.Prelude.{◌≡◌, ◌+◌, ◌≤◌, length, true, IfOk};
+ghost use Rattle.std.specs.Prelude.{◌≡◌, ◌+◌, ◌≤◌, ◌<◌, length, true, is_some, IfOk, IsTrue};
 ghost use Rattle.dv_coderead.specs.declared.raw_line.RawPlace.TheVariants as place;
+ghost use Rattle.dv_lex.specs.Bytes.{is_hexadecimal};
+ghost use Rattle.dv_lex.specs.Literals.{digit_value};
 ghost use Rattle.dv_lex.specs.Numbers.{value_from};
 ghost use Rattle.dv_coderead.specs.Giving.{Gives, Reads};
 ghost use Rattle.dv_coderead.specs.Pieces.{piece_in, pieces_in};
 ghost use Rattle.dv_coderead.specs.Heads.{head_of};
 ghost use Rattle.dv_coderead.specs.Operands.{word_at};
-ghost use Rattle.dv_coderead.specs.RawLines.{address_in, again_or_refused, among_units, begins_with_unit, caught_in, entry_by_shape, entry_line, is_count, is_unit, last_line, member_in, pools_line, raw_handler_line, raw_line, raw_registers_line, start_line, units_in, units_line, AreFew, IsRawLine};
+ghost use Rattle.dv_coderead.specs.References.{cut_at};
+ghost use Rattle.dv_coderead.specs.RawLines.{address_from, address_in, again_or_refused, among_units, begins_with_unit, caught_in, entry_by_shape, entry_line, is_count, is_unit, last_line, member_in, pools_line, raw_handler_line, raw_line, raw_registers_line, start_line, units_in, units_line, AreFew, IsRawLine};
 
 use crate::body_line::{count_part, refusal_of};
 use crate::head::{Block, Directive, Head};
@@ -50,11 +53,18 @@ pub enum RawLine {
 
 // ---- entries of pools
 
-/// The method or the field that a word names, by what stands behind its arrow.
-fn member(alloc: Global, word: &[u8], member: &[u8]) -> Result<PoolRef, Refusal>
-    ensures { Gives (λ r. r) result (member_in word.now member.now) }
+/// Whether a parenthesis stands behind the arrow.
+fn is_method(behind: &[u8]) -> bool
+    ensures { result ≡ is_some (cut_at 40 behind.now) }
 {
-    if member.contains(&b'(') {
+    behind.contains(&b'(')
+}
+
+/// The method or the field that a word names, by what stands behind its arrow.
+fn member(alloc: Global, word: &[u8], behind: &[u8]) -> Result<PoolRef, Refusal>
+    ensures { Gives (λ r. r) result (member_in word.now behind.now) }
+{
+    if is_method(behind) {
         Ok(PoolRef::Method(references::method(alloc, word)?))
     } else {
         Ok(PoolRef::Field(references::field(alloc, word)?))
@@ -98,12 +108,15 @@ fn is_unit(word: &[u8]) -> bool
 }
 
 /// What a hexadecimal digit of either case stands for.
-fn digit(digit: u8) -> u16 {
+fn digit(digit: u8) -> u16
+    requires { IsTrue (is_hexadecimal digit) }
+    ensures value { result ≡ digit_value digit }
+    ensures small { result < 16 }
+{
     match digit {
         b'0'..=b'9' => u16::from(digit - b'0'),
         b'A'..=b'F' => u16::from(digit - b'A') + 10,
-        b'a'..=b'f' => u16::from(digit - b'a') + 10,
-        _ => 0,
+        _ => u16::from(digit - b'a') + 10,
     }
 }
 
@@ -161,13 +174,20 @@ fn begins_with_unit(pieces: &[Piece]) -> bool
 // ---- handlers
 
 /// A number from 0 up, of 32 bits.
-fn address(word: &[u8]) -> Result<u32, LineKind>
-    ensures { result ≡ address_in word.now }
+fn address_from(number: i64) -> Result<u32, LineKind>
+    ensures { result ≡ address_from number }
 {
-    match u32::try_from(words::literal(word, 48)?) {
+    match u32::try_from(number) {
         Ok(address) => Ok(address),
         Err(_) => Err(LineKind::NumberRange),
     }
+}
+
+/// The address that a word is.
+fn address(word: &[u8]) -> Result<u32, LineKind>
+    ensures { result ≡ address_in word.now }
+{
+    address_from(words::literal(word, 48)?)
 }
 
 fn address_part<'a, 'b>(pieces: &'b [Piece<'a>]) -> Result<(u32, &'b [Piece<'a>]), LineKind>

@@ -1,4 +1,4 @@
-use Rattle.std.proofs.Common.{◌≡◌, ◌+◌, ◌^◌, ◌<◌, drop, ap, sym, subst, ◌∙◌, arith}
+use Rattle.std.proofs.Common.{◌≡◌, ◌^◌, ◌<◌, subst, arith}
 use Rattle.std.proofs.lemmas.List.{at_drop_all}
 use Rattle.dv_defs.specs.Types.{words_of_all}
 use Rattle.dv_coderead.specs.Bodies.{argument_words}

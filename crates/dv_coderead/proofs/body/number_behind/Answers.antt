@@ -1,5 +1,4 @@
-use Rattle.std.proofs.Common.{sym, ap, ◌∙◌}
-use Rattle.std.specs.Option.{option_copied}
+use Rattle.std.proofs.Common.{sym}
 use Rattle.dv_coderead.proofs.Numbering.{behind_last, behind_none}
 use Rattle.dv_coderead.proofs.body.number_behind.Goals as goal
 

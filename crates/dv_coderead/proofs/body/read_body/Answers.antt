@@ -1,4 +1,4 @@
-use Rattle.std.proofs.Common.{◌≡◌, ◌+◌, List, [], Result, Err, sym, ap, subst, ◌∙◌, arith}
+use Rattle.std.proofs.Common.{[], Result, sym, ap, subst, ◌∙◌, arith}
 use Rattle.std.proofs.lemmas.List.{get_or_read}
 use Rattle.std.proofs.lemmas.Result.{err_from_is_err_and}
 use Rattle.dv_asm.specs.Draft.{DraftValue}
@@ -7,9 +7,9 @@ use Rattle.dv_lex.specs.declared.line.Stop.{Stop}
 use Rattle.dv_lex.specs.Lines.{HasTokens}
 use Rattle.dv_coderead.specs.Giving.{GivesLines}
 use Rattle.dv_coderead.specs.Kept.{no_line, text_line, text_lines}
-use Rattle.dv_coderead.specs.Bodies.{argument_words, body_of}
+use Rattle.dv_coderead.specs.Bodies.{body_of}
 use Rattle.dv_coderead.specs.Drafting.{Adds, finished_with}
-use Rattle.dv_coderead.proofs.Drafts.{draft_from, from_end, from_first, from_unfinished, line_read, one_more, refused_here, stops_all}
+use Rattle.dv_coderead.proofs.Drafts.{from_end, from_first, from_unfinished, line_read, one_more, refused_here, stops_all}
 use Rattle.dv_coderead.proofs.body.read_body.Goals as goal
 
 pub loop-place-init : goal.loop-place-init

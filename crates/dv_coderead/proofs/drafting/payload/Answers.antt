@@ -2,7 +2,6 @@ use Rattle.std.proofs.Common.{[], ◌++◌, ap, sym, ◌∙◌, SFits, w32, appe
 use Rattle.std.proofs.lemmas.Int.{to_z-of_z}
 use Rattle.dv_asm.specs.declared.draft.What.TheVariants.{Packed, Sparse, Data}
 use Rattle.dv_coderead.specs.Bodies.{targets, keys, case_labels, data_bytes}
-use Rattle.dv_coderead.specs.Drafting.{payload_with}
 use Rattle.dv_coderead.proofs.drafting.payload.Goals as goal
 
 pub returns-in-Packed : goal.returns-in-Packed

@@ -1,6 +1,5 @@
-use Rattle.std.proofs.Common.{◌≡◌, true, false, ap, sym, ◌∙◌, rules}
+use Rattle.std.proofs.Common.{◌≡◌, true, false, rules}
 use Rattle.std.specs.Prelude.{is_some}
-use Rattle.dv_asm.specs.Draft.{DraftValue}
 use Rattle.dv_coderead.proofs.Finishing.{is_whole, left_open, no_frame}
 use Rattle.dv_coderead.proofs.drafting.Drafting.finish.Goals as goal
 
