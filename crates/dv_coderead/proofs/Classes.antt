@@ -1,5 +1,5 @@
 -- Classes, and types that are none.
-use Rattle.std.proofs.Common.{◌≡◌, ℕ, ◌==◌, ◌&&◌, Bool, true, false, List, Ok, Err, refl, ap, ◌∙◌}
+use Rattle.std.proofs.Common.{◌≡◌, ◌==◌, ◌&&◌, false, Ok, Err, refl, ap}
 use Rattle.std.proofs.lemmas.Bool.{and_from, and_left, and_right, cond-false, cond-true, eq-eqb, ne_eqb}
 use Rattle.dv_defs.specs.declared.faults.LineKind.TheVariants.{BadDescriptor}
 use Rattle.dv_defs.specs.declared.names.Base.{Base}

@@ -1,5 +1,5 @@
 -- What the lines of a method say, each judged by what the lines before it told.
-use Rattle.std.specs.Prelude.{◌≡◌, ℕ, ◌+◌, ◌*◌, ◌≤◌, ◌&&◌, ℤ, pos, negsuc, Bool, true, false, List, [], ◌∷◌, codes, bytes_eq, drop, Option, Some, None, Result, Ok, Err, nat_le, is_some, IsSome, IsTrue, ◌==◌, if◌then◌else◌}
+use Rattle.std.specs.Prelude.{◌≡◌, ℕ, ◌+◌, ◌*◌, ◌≤◌, ℤ, pos, negsuc, Bool, false, List, ◌∷◌, codes, bytes_eq, drop, Option, Some, None, Result, Ok, Err, nat_le, is_some, IsSome, IsTrue, if◌then◌else◌}
 use Rattle.dv_defs.specs.declared.faults.LineKind.{LineKind}
 use Rattle.dv_defs.specs.declared.faults.LineKind.TheVariants as kind
 use Rattle.dv_defs.specs.declared.names.Ty.{Ty}
@@ -25,7 +25,7 @@ use Rattle.dv_coderead.specs.Giving.{◌>>=◌}
 use Rattle.dv_coderead.specs.Pieces.{Piece, AWord}
 use Rattle.dv_coderead.specs.Words.{number_in, literal_in, label_in}
 use Rattle.dv_coderead.specs.References.{class_in}
-use Rattle.dv_coderead.specs.Operands.{Part, word_at, alone, mark_at, dots_at, behind, ended, operands_in}
+use Rattle.dv_coderead.specs.Operands.{word_at, alone, mark_at, dots_at, behind, ended, operands_in}
 use Rattle.dv_coderead.specs.Heads.{head_of}
 
 abbrev pub said : {A : Type 0} → (A → BodyLine) → Result A LineKind → Result BodyLine LineKind
