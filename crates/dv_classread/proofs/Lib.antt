@@ -1,2 +1,14 @@
+mod Adding
+mod Assembled
+mod Between
+mod Cutting
+mod Entries
 mod Flags
+mod Going
+mod Leaving
+mod Numbered
+mod Parts
+mod Telling
 mod Values
+mod Whole
+mod Wholes

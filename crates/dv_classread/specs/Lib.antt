@@ -1,2 +1,7 @@
 pub mod ClassLines
+pub mod Methods
 pub mod Texts
+pub mod Classes
+pub mod Assembling
+pub mod Schedules
+pub mod Programs

@@ -6,7 +6,7 @@ ghost use Rattle.dv_defs.specs.Field.{value_fits};
 ghost use Rattle.dv_coderead.specs.Giving.{Gives, Reads};
 ghost use Rattle.dv_coderead.specs.Pieces.{piece_in, pieces_in};
 ghost use Rattle.dv_coderead.specs.Heads.{head_of};
-ghost use Rattle.dv_classread.specs.ClassLines.{boolean_value, by_directive, class_head_line, class_line, class_name, class_name_line, directive_refusal, field_line, fitting_value, flag_of, flags_at, init_line, inside_line, is_boolean, lacks_super, name_and_proto, name_and_type, next_class_line, number_value, refusal_of, signature_line, superclass_line, value_alone, value_in, word_value, StandsIn};
+ghost use Rattle.dv_classread.specs.ClassLines.{boolean_value, by_directive, class_head_line, class_line, class_name, class_name_line, directive_refusal, field_line, fitting_value, flag_of, flags_at, init_line, inside_line, is_boolean, lacks_super, name_and_proto, name_and_type, next_class_line, number_value, refusal_of, signature_line, stands_next, superclass_line, value_alone, value_in, word_value, StandsIn};
 
 use dv_coderead::parts::{behind, end};
 use dv_coderead::references::{class, cut_at, name, proto, ty};
@@ -14,6 +14,8 @@ use dv_coderead::words::literal;
 use dv_coderead::{Directive, Head, Piece, Refusal};
 use dv_defs::{Base, FieldDef, Flag, Init, LineKind, Proto, Text, Ty};
 use std::alloc::Global;
+
+const OBJECT: &[u8] = b"Ljava/lang/Object;";
 
 /// How a method begins: its flags, its name and its prototype.
 #[derive(Debug, Drop)]
@@ -345,7 +347,8 @@ fn directive_refusal(directive: Directive) -> LineKind
     }
 }
 
-fn refusal_of(head: Head) -> LineKind
+/// Why such a line may not stand outside methods.
+pub fn refusal_of(head: Head) -> LineKind
     ensures { result ≡ refusal_of head }
 {
     match head {
@@ -381,6 +384,17 @@ pub fn lacks_super(standing: Standing) -> bool
     match standing {
         Standing::Outside => false,
         Standing::Inside(is_object, has_super) => !is_object && !has_super,
+    }
+}
+
+/// Where the line behind this one stands.
+pub fn stands_next(standing: Standing, says: &ClassLine) -> Standing
+    ensures { result ≡ stands_next standing says.now }
+{
+    match (says, standing) {
+        (ClassLine::Class(head), _) => Standing::Inside(head.name.bytes() == OBJECT, false),
+        (ClassLine::Super(_), Standing::Inside(is_object, _)) => Standing::Inside(is_object, true),
+        _ => standing,
     }
 }
 

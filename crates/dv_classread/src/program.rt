@@ -1,7 +1,14 @@
 // Classes of a text before their bodies are assembled.
-use crate::class_line::{ClassHead, Signature};
+ghost use Rattle.std.specs.Prelude.{◌≡◌, [], None, IfOk, OnOk};
+ghost use Rattle.dv_classread.specs.declared.class_line.ClassLine.TheVariants as line;
+ghost use Rattle.dv_classread.specs.ClassLines.{stands_next};
+ghost use Rattle.dv_classread.specs.Texts.{Says, Method};
+ghost use Rattle.dv_classread.specs.Classes.{classes_with, whole_classes, Adds};
+
+use crate::class_line::{ClassHead, ClassLine, Signature, Standing, stands_next};
 use dv_asm::Draft;
 use dv_defs::{Body, FieldDef, Seq, Text};
+use std::alloc::{AllocError, Global};
 
 /// A body as it is read: a draft, or raw.
 #[derive(Debug, Drop)]
@@ -25,4 +32,125 @@ pub struct ClassDraft {
     pub interfaces: Seq<Text>,
     pub fields: Seq<FieldDef>,
     pub methods: Seq<MethodDraft>,
+}
+
+/// The classes so far, and where the next line stands. To the last class further lines may be added.
+#[derive(Debug, Drop)]
+pub struct Program {
+    pub standing: Standing,
+    pub classes: Vec<ClassDraft>,
+    pub last: Option<ClassDraft>,
+}
+
+impl ClassDraft {
+    fn new(alloc: Global, head: ClassHead) -> ClassDraft
+        ensures { result ≡ record { head = head; parent = None; interfaces = []; fields = []; methods = [] } }
+    {
+        ClassDraft {
+            head,
+            parent: None,
+            interfaces: Seq::of(Vec::new(alloc)),
+            fields: Seq::of(Vec::new(alloc)),
+            methods: Seq::of(Vec::new(alloc)),
+        }
+    }
+}
+
+impl Program {
+    /// Before the first line.
+    pub fn new(alloc: Global) -> Program
+        ensures standing { result.standing ≡ Standing.Outside }
+        ensures classes { result.classes.items ≡ [] }
+        ensures last { result.last ≡ None }
+    {
+        Program {
+            standing: Standing::Outside,
+            classes: Vec::new(alloc),
+            last: None,
+        }
+    }
+
+    /// Closes the last class.
+    fn close(&mut self) -> Result<(), AllocError>
+        ensures { OnOk result (self.new.classes.items ≡ whole_classes self.old) }
+    {
+        if let Some(class) = self.last.take() {
+            self.classes.push(class)?;
+        }
+        Ok(())
+    }
+
+    /// Begins a class.
+    fn begin(&mut self, alloc: Global, head: ClassHead) -> Result<(), AllocError>
+        ensures { OnOk result (Adds self.old (Says (line.Class head)) self.new) }
+    {
+        self.close()?;
+        self.last = Some(ClassDraft::new(alloc, head));
+        Ok(())
+    }
+
+    fn add_superclass(&mut self, name: Text)
+        ensures { Adds self.old (Says (line.Super name)) self.new }
+    {
+        if let Some(class) = &mut self.last {
+            if class.parent.is_none() {
+                class.parent = Some(name);
+            }
+        }
+    }
+
+    fn add_interface(&mut self, name: Text) -> Result<(), AllocError>
+        ensures { OnOk result (Adds self.old (Says (line.Implements name)) self.new) }
+    {
+        if let Some(class) = &mut self.last {
+            class.interfaces.push(name)?;
+        }
+        Ok(())
+    }
+
+    fn add_field(&mut self, field: FieldDef) -> Result<(), AllocError>
+        ensures { OnOk result (Adds self.old (Says (line.Field field)) self.new) }
+    {
+        if let Some(class) = &mut self.last {
+            class.fields.push(field)?;
+        }
+        Ok(())
+    }
+
+    /// Adds a method to the last class.
+    pub fn add_method(&mut self, method: MethodDraft) -> Result<(), AllocError>
+        ensures adds { OnOk result (Adds self.old (Method method) self.new) }
+        ensures standing { OnOk result (self.new.standing ≡ self.old.standing) }
+    {
+        if let Some(class) = &mut self.last {
+            class.methods.push(method)?;
+        }
+        Ok(())
+    }
+
+    /// Adds what a line says.
+    pub fn add(&mut self, alloc: Global, says: ClassLine) -> Result<(), AllocError>
+        ensures adds { OnOk result (Adds self.old (Says says) self.new) }
+        ensures standing { OnOk result (self.new.standing ≡ stands_next self.old.standing says) }
+    {
+        let standing = stands_next(self.standing, &says);
+        match says {
+            ClassLine::Class(head) => self.begin(alloc, head)?,
+            ClassLine::Super(name) => self.add_superclass(name),
+            ClassLine::Implements(name) => self.add_interface(name)?,
+            ClassLine::Field(field) => self.add_field(field)?,
+            ClassLine::Source => {}
+            ClassLine::Method(signature) => drop(signature),
+        }
+        self.standing = standing;
+        Ok(())
+    }
+
+    /// The classes, behind the last line.
+    pub fn into_classes(mut self) -> Result<Vec<ClassDraft>, AllocError>
+        ensures { IfOk result (λ v. v.items ≡ classes_with self []) }
+    {
+        self.close()?;
+        Ok(self.classes)
+    }
 }

@@ -107,7 +107,7 @@ whole_by n limit bytes text more is few =
     let short : length bytes ≤ limit = omega (arith, size, length-take n bytes) in
     (is ∙ take_all n bytes (omega arith), short)
 
-past_by : (n limit : ℕ) (bytes text : List ℕ) → text ≡ take n bytes → limit < length text → limit < length bytes
+pub past_by : (n limit : ℕ) (bytes text : List ℕ) → text ≡ take n bytes → limit < length text → limit < length bytes
 past_by n limit bytes text is many = omega (arith, ap (λ t. length t) is, length-take n bytes)
 
 pub read_whole : (bytes text : List ℕ) → IsReadOf bytes text → length text ≤ text_limit → (text ≡ bytes) × (length bytes ≤ text_limit)
@@ -132,8 +132,8 @@ built_of_read class bytes text image is few l =
 pub may_run : (words : List (List ℕ)) (bytes class : List ℕ) (log : List Entry) → class_to_run words ≡ Some class → (image : Image) × IsAccepted class bytes image × IsScheduleOf class image log → MayRun words bytes log
 may_run words bytes class log asked (image, accepted, schedule) = record { class = class; asked = asked; image = image; accepted = accepted; schedule = schedule }
 
-pub no_class : (asked : Option (List ℕ)) (class : List ℕ) → asked ≡ None → asked ≡ Some class → ⊥
-no_class asked class none some = cc
+pub none_or_some : {A : Type 0} (o : Option A) (x : A) → o ≡ None → o ≡ Some x → ⊥
+none_or_some o x none some = cc
 
 -- ---- what the sink took
 

@@ -9,6 +9,7 @@ pub mod FormLemmas
 pub mod Images
 pub mod LeastTyping
 pub mod LineLemmas
+pub mod ListingLemmas
 pub mod MachineEndings
 pub mod MachineScene
 pub mod MachineSteps

@@ -1,19 +1,26 @@
 -- One thing is said of the words, the bytes and the log.
-use Rattle.std.proofs.Common.{◌≡◌, ℕ, ◌<◌, ◌≤◌, List, [], ◌∷◌, Option, Some, arith, ap, sym, subst, ◌∙◌}
+use Rattle.std.proofs.Common.{◌≡◌, ℕ, ◌<◌, ◌≤◌, List, [], ◌∷◌, flat_map, Option, Some, Result, Ok, Err, false, arith, ap, sym, subst, ◌∙◌}
 use Rattle.dv_defs.specs.declared.faults.Fault.{Fault}
 use Rattle.dv_defs.specs.declared.image.Image.{Image}
 use Rattle.dv_defs.specs.declared.run.Entry.{Entry}
 use Rattle.dv_defs.specs.Accepting.{AreImageFaults}
+use Rattle.dv_lex.specs.declared.line.Stop.{Stop}
+use Rattle.dv_lex.specs.Lines.{reading_of}
+use Rattle.dv_print.specs.Listing.{class_text}
+use Rattle.dv_classread.specs.declared.text.Read.{Read}
+use Rattle.dv_classread.specs.Programs.{program_of}
+use Rattle.dv_console.specs.declared.refusals.Refusal.TheVariants as refusal
+use Rattle.dv_console.specs.Refusals.{refusal_text}
 use Rattle.dv_machine.specs.Final.{final_text}
 use Rattle.dv_machine.specs.Opening.{usual}
 use Rattle.dv_machine.specs.Replaying.{Replayed, Stands, replay}
 use Rattle.dv_machine.specs.Running.{ending_of}
 use Rattle.dv_machine.specs.State.{Machine}
 use Rattle.dv_top.specs.Image.{IsLinked, image_of}
-use Rattle.dv_top.specs.Said.{IsSaid, Unread, Asked, IsSaidOfClass, TooLarge, NotBuilt, Refused, Ran, IsRun, status_of, fault_text, main_of, text_limit}
+use Rattle.dv_top.specs.Said.{IsSaid, Unread, Asked, ToBeListed, IsSaidOfClass, TooLarge, NotBuilt, Refused, Ran, IsSaidOfListing, TooLargeToList, BadText, Listed, IsRun, status_of, fault_text, main_of, text_limit}
 use Rattle.dv_top.specs.Status.{code_of}
-use Rattle.dv_top.specs.Words.{class_to_run}
-use Rattle.dv_top.proofs.AnsweringLemmas.{straight_image, no_class}
+use Rattle.dv_top.specs.Words.{class_of, class_to_run, command_in}
+use Rattle.dv_top.proofs.AnsweringLemmas.{straight_image, none_or_some}
 use Rattle.dv_top.proofs.BodyLemmas.{one_straight}
 use Rattle.dv_top.proofs.FaultsFound.{faults_are_found}
 
@@ -84,11 +91,44 @@ said_once_of class bytes log s t a b (Ran image accepted r) (Ran other again q) 
     let P : Image → Type 0 = λ i. IsRun class i log s a in
     run_once class other log s t a b (subst P same r) q
 
+-- ---- listings
+
+same_read : {A B : Type 0} (r : Result A B) (x y : A) → r ≡ Ok x → r ≡ Ok y → x ≡ y
+same_read r x y e h = cc
+
+same_stop : {A B : Type 0} (r : Result A B) (x y : B) → r ≡ Err x → r ≡ Err y → x ≡ y
+same_stop r x y e h = cc
+
+read_or_bad : {A B : Type 0} (r : Result A B) (x : A) (y : B) → r ≡ Ok x → r ≡ Err y → ⊥
+read_or_bad r x y e h = cc
+
+listed_once : (bytes : List ℕ) (s t : ℕ) (a b : List ℕ) → IsSaidOfListing bytes s a → IsSaidOfListing bytes t b → Same s a t b
+listed_once bytes s t a b (TooLargeToList many r) (TooLargeToList _ q) = (r.0 ∙ sym q.0, r.1 ∙ sym q.1)
+listed_once bytes s t a b (TooLargeToList many r) (BadText few bad stops q) = absurd (too_large_or_small _ many few)
+listed_once bytes s t a b (TooLargeToList many r) (Listed few read gives q) = absurd (too_large_or_small _ many few)
+listed_once bytes s t a b (BadText few bad stops r) (TooLargeToList many q) = absurd (too_large_or_small _ many few)
+listed_once bytes s t a b (BadText few bad stops r) (BadText _ other again q) =
+    let same : bad ≡ other = same_stop (program_of false (reading_of bytes)) bad other stops again in
+    (r.0 ∙ sym q.0, r.1 ∙ (ap (λ (e : Stop). refusal_text (refusal.Line e.line e.kind)) same ∙ sym q.1))
+listed_once bytes s t a b (BadText few bad stops r) (Listed _ read gives q) = absurd (read_or_bad (program_of false (reading_of bytes)) read bad gives stops)
+listed_once bytes s t a b (Listed few read gives r) (TooLargeToList many q) = absurd (too_large_or_small _ many few)
+listed_once bytes s t a b (Listed few read gives r) (BadText _ bad stops q) = absurd (read_or_bad (program_of false (reading_of bytes)) read bad gives stops)
+listed_once bytes s t a b (Listed few read gives r) (Listed _ other again q) =
+    let same : read ≡ other = same_read (program_of false (reading_of bytes)) read other gives again in
+    (r.0 ∙ sym q.0, r.1 ∙ (ap (λ (p : Read). flat_map class_text p.classes) same ∙ sym q.1))
+
+-- ---- words
+
 pub said_once : (words : List (List ℕ)) (bytes : List ℕ) (log : List Entry) (s t : ℕ) (a b : List ℕ) → IsSaid words bytes log s a → IsSaid words bytes log t b → Same s a t b
 said_once words bytes log s t a b (Unread none r) (Unread _ q) = (r.0 ∙ sym q.0, r.1 ∙ sym q.1)
-said_once words bytes log s t a b (Unread none r) (Asked class some q) = absurd (no_class _ class none some)
-said_once words bytes log s t a b (Asked class some r) (Unread none q) = absurd (no_class _ class none some)
+said_once words bytes log s t a b (Unread none r) (Asked class some q) = absurd (none_or_some (class_to_run words) class (ap class_of none) some)
+said_once words bytes log s t a b (Unread none r) (ToBeListed asked q) = absurd (none_or_some (command_in words) _ none asked)
+said_once words bytes log s t a b (Asked class some r) (Unread none q) = absurd (none_or_some (class_to_run words) class (ap class_of none) some)
 said_once words bytes log s t a b (Asked class some r) (Asked other again q) =
     let same = same_some (class_to_run words) class other some again in
     let P : List ℕ → Type 0 = λ c. IsSaidOfClass c bytes log s a in
     said_once_of other bytes log s t a b (subst P same r) q
+said_once words bytes log s t a b (Asked class some r) (ToBeListed asked q) = absurd (none_or_some (class_to_run words) class (ap class_of asked) some)
+said_once words bytes log s t a b (ToBeListed asked r) (Unread none q) = absurd (none_or_some (command_in words) _ none asked)
+said_once words bytes log s t a b (ToBeListed asked r) (Asked class some q) = absurd (none_or_some (class_to_run words) class (ap class_of asked) some)
+said_once words bytes log s t a b (ToBeListed asked r) (ToBeListed _ q) = listed_once bytes s t a b r q

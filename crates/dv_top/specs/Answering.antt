@@ -16,7 +16,8 @@ abbrev pub IsIdle : ℕ → Type 0
 IsIdle status =
     (status ≡ code_of exit.Usage)
     ⊎ ((status ≡ code_of exit.ReadFault)
-    ⊎ ((status ≡ code_of exit.Refused) ⊎ ((status ≡ code_of exit.TooLarge) ⊎ (status ≡ code_of exit.NotBuilt))))
+    ⊎ ((status ≡ code_of exit.BadText)
+    ⊎ ((status ≡ code_of exit.Refused) ⊎ ((status ≡ code_of exit.TooLarge) ⊎ (status ≡ code_of exit.NotBuilt)))))
 
 -- the statuses of a call whose words aren't read
 abbrev pub IsOfUnread : ℕ → Type 0

@@ -1,6 +1,7 @@
 -- What is said of the words, the bytes of the text and the log: the status of the call, and what is printed.
-use Rattle.std.specs.Prelude.{◌≡◌, ℕ, ◌<◌, ◌≤◌, ◌/◌, ◌%◌, Bool, false, ◌&&◌, List, [], ◌∷◌, ◌++◌, length, map, Option, Some, None, is_some, slice_get, bytes_eq, decimal, codes}
+use Rattle.std.specs.Prelude.{◌≡◌, ℕ, ◌<◌, ◌≤◌, ◌/◌, ◌%◌, Bool, false, ◌&&◌, List, [], ◌∷◌, ◌++◌, length, map, Option, Some, None, is_some, slice_get, bytes_eq, decimal, codes, Ok, Err}
 use Rattle.std.specs.Fmt.{digit_glyph}
+use Rattle.std.specs.List.{flat_map}
 use Rattle.dv_defs.specs.declared.faults.Fault.{Fault}
 use Rattle.dv_defs.specs.declared.faults.Rule.{Rule}
 use Rattle.dv_defs.specs.declared.faults.Rule.TheVariants as rule
@@ -15,6 +16,13 @@ use Rattle.dv_defs.specs.Names.{main_name}
 use Rattle.dv_defs.specs.Pools.{Method, method_at, name_at, class_named, declared_by, is_static, no_arguments}
 use Rattle.dv_defs.specs.Types.{same_proto}
 use Rattle.dv_names.specs.Descriptors.{prototype}
+use Rattle.dv_lex.specs.declared.line.Stop.{Stop}
+use Rattle.dv_lex.specs.Lines.{reading_of}
+use Rattle.dv_print.specs.Listing.{class_text}
+use Rattle.dv_classread.specs.declared.text.Read.{Read}
+use Rattle.dv_classread.specs.Programs.{program_of}
+use Rattle.dv_console.specs.declared.refusals.Refusal.TheVariants as refusal
+use Rattle.dv_console.specs.Refusals.{refusal_text}
 use Rattle.dv_machine.specs.Final.{final_text}
 use Rattle.dv_machine.specs.Opening.{usual}
 use Rattle.dv_machine.specs.Replaying.{replay, Stands}
@@ -26,7 +34,7 @@ use Rattle.dv_top.specs.declared.status.Status.TheVariants as exit
 use Rattle.dv_top.specs.Image.{IsLinked}
 use Rattle.dv_top.specs.Status.{code_of}
 use Rattle.dv_top.specs.Straight.{IsStraight, text_before}
-use Rattle.dv_top.specs.Words.{class_to_run}
+use Rattle.dv_top.specs.Words.{command_in, class_to_run, AsksForListing}
 
 -- ---- printed texts
 
@@ -141,9 +149,20 @@ pub data IsSaidOfClass (class bytes : List ℕ) (log : List Entry) (status : ℕ
   -- the image runs
   Ran : (image : Image) → IsAccepted class bytes image → IsRun class image log status text → IsSaidOfClass class bytes log status text
 
+-- ... and of a program that is to be listed
+pub data IsSaidOfListing (bytes : List ℕ) (status : ℕ) (text : List ℕ) : Type 0 where
+  TooLargeToList : text_limit < length bytes → IsReply exit.TooLarge too_large status text → IsSaidOfListing bytes status text
+  -- a line is refused, by reading or by assembling
+  BadText : length bytes ≤ text_limit → (bad : Stop) → program_of false (reading_of bytes) ≡ Err bad
+      → IsReply exit.BadText (refusal_text (refusal.Line bad.line bad.kind)) status text → IsSaidOfListing bytes status text
+  -- the classes are listed, one after another
+  Listed : length bytes ≤ text_limit → (read : Read) → program_of false (reading_of bytes) ≡ Ok read
+      → IsReply exit.Done (flat_map class_text read.classes) status text → IsSaidOfListing bytes status text
+
 -- of the words, the bytes of the text, and the log
 pub data IsSaid (words : List (List ℕ)) (bytes : List ℕ) (log : List Entry) (status : ℕ) (text : List ℕ) : Type 0 where
   -- the words aren't read
-  Unread : class_to_run words ≡ None → IsReply exit.Usage usage status text → IsSaid words bytes log status text
+  Unread : command_in words ≡ None → IsReply exit.Usage usage status text → IsSaid words bytes log status text
   Asked : (class : List ℕ) → class_to_run words ≡ Some class → IsSaidOfClass class bytes log status text
       → IsSaid words bytes log status text
+  ToBeListed : AsksForListing words → IsSaidOfListing bytes status text → IsSaid words bytes log status text

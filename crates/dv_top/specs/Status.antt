@@ -9,6 +9,7 @@ code_of status.Uncaught = 1
 code_of status.Usage = 2
 code_of status.ReadFault = 3
 code_of status.WriteFault = 4
+code_of status.BadText = 5
 code_of status.Refused = 6
 code_of status.HeapFull = 7
 code_of status.StackFull = 8

@@ -1,5 +1,5 @@
 -- What the words of the command line ask for.
-use Rattle.std.specs.Prelude.{ℕ, Bool, true, false, ◌&&◌, ◌||◌, List, [], ◌∷◌, ◌++◌, map, Option, Some, None, nat_eq, bytes_eq, codes, if◌then◌else◌}
+use Rattle.std.specs.Prelude.{◌≡◌, ℕ, Bool, true, false, ◌&&◌, ◌||◌, List, [], ◌∷◌, ◌++◌, map, Option, Some, None, nat_eq, bytes_eq, codes, if◌then◌else◌}
 use Rattle.std.specs.Char.{is_ascii_alphanumeric}
 use Rattle.dv_top.specs.declared.words.Command.{Command}
 use Rattle.dv_top.specs.declared.words.Command.TheVariants as command
@@ -24,12 +24,20 @@ is_java_name name = is_name_rest false name
 abbrev pub descriptor_of : List ℕ → List ℕ
 descriptor_of name = 76 ∷ map (λ b. if is_dot b then 47 else b) name ++ 59 ∷ []
 
--- the class that `run NAME` names, where the words are these
-abbrev pub class_to_run : List (List ℕ) → Option (List ℕ)
-class_to_run (verb ∷ name ∷ []) = if bytes_eq verb (codes "run") && is_java_name name then Some (descriptor_of name) else None
-class_to_run words = None
+-- the command that the words are: `list` alone, or `run` with the name of a class
+abbrev pub command_in : List (List ℕ) → Option Command
+command_in (verb ∷ []) = if bytes_eq verb (codes "list") then Some command.List else None
+command_in (verb ∷ name ∷ []) = if bytes_eq verb (codes "run") && is_java_name name then Some (command.Run (descriptor_of name)) else None
+command_in words = None
+
+-- the program is to be listed
+abbrev pub AsksForListing : List (List ℕ) → Type 0
+AsksForListing words = command_in words ≡ Some command.List
 
 -- the class that a command runs
 abbrev pub class_of : Option Command → Option (List ℕ)
-class_of None = None
 class_of (Some (command.Run class)) = Some class
+class_of other = None
+
+abbrev pub class_to_run : List (List ℕ) → Option (List ℕ)
+class_to_run words = class_of (command_in words)

@@ -1,5 +1,5 @@
 // From the words and the source to a status and the sink.
-ghost use Rattle.std.specs.Prelude.{◌≡◌, ◌≢◌, ℕ, ◌+◌, ◌<◌, ◌≤◌, List, [], length, map, None, Some, All, IfOk, OnOk, IsErrOf, MatchBool, MatchResult, string_bytes};
+ghost use Rattle.std.specs.Prelude.{◌≡◌, ◌≢◌, ℕ, ◌+◌, List, [], map, None, Some, All, IfOk, IsSome, OnOk, IsErrOf, MatchResult, string_bytes};
 ghost use Rattle.dv_defs.specs.Accepting.{AreImageFaults};
 ghost use Rattle.dv_defs.specs.declared.image.Image.{Image};
 ghost use Rattle.dv_io.specs.Io.{HasRisen, after_write, after_taking};
@@ -13,19 +13,21 @@ ghost use Rattle.dv_top.specs.Program.{IsImageOf, IsEntry, faults_of};
 ghost use Rattle.dv_top.specs.Said.{IsSaid, IsSaidOfClass, IsRun, IsBuilt, IsAccepted, usage, text_limit};
 ghost use Rattle.dv_top.specs.Status.{code_of};
 ghost use Rattle.dv_top.specs.Straight.{IsStraight, IsInRange, IsMain};
-ghost use Rattle.dv_top.specs.Words.{class_to_run};
+ghost use Rattle.dv_top.specs.Words.{command_in, AsksForListing};
 
 use crate::assembling::assemble;
 use crate::decoding::instructions;
 use crate::instruction::Instruction;
 use crate::linking::link;
+use crate::listing::reply_to_listing;
 use crate::machine::run;
 use crate::printing::{NOT_BUILT, TOO_LARGE, USAGE, fault_lines, final_text};
-use crate::reading::{ReadError, TEXT_LIMIT, read_all};
+use crate::reading::{ReadError, read_all};
+use crate::reply::{Reply, fixed, is_too_large};
 use crate::status::Status;
 use crate::straight::{Refusal, read_straight};
 use crate::verifying::verify;
-use crate::words::read_words;
+use crate::words::{Command, read_words};
 use crate::writing::write_all;
 use dv_defs::{Entry, Image, Limits, Text};
 use dv_io::{Failed, Sink, Source};
@@ -41,13 +43,6 @@ const LIMITS: Limits = Limits {
     words: 16_384,
 };
 
-/// A status, and the text that goes with it.
-#[derive(Drop)]
-struct Reply {
-    status: Status,
-    text: Vec<u8>,
-}
-
 /// Does what the words ask for, and answers the status. The log, which is empty before, gets the turns of a run.
 pub fn answer<S: Source, K: Sink>(
     alloc: Global,
@@ -58,17 +53,17 @@ pub fn answer<S: Source, K: Sink>(
 ) -> Status
     requires { log.old.items ≡ [] }
 
-    ensures unread { class_to_run (map string_bytes words.now) ≡ None
+    ensures unread { command_in (map string_bytes words.now) ≡ None
         → (source.new ≡ source.old) × IsOfUnread (code_of result) }
     ensures usage { code_of result ≡ code_of Status.Usage
-        → (class_to_run (map string_bytes words.now) ≡ None) × (K.taken sink.new ≡ after_write usage (K.taken sink.old)) }
+        → (command_in (map string_bytes words.now) ≡ None) × (K.taken sink.new ≡ after_write usage (K.taken sink.old)) }
     ensures read_fault { code_of result ≡ code_of Status.ReadFault
         → HasRisen (S.faults source.old) (S.faults source.new) × (K.taken sink.new ≡ K.taken sink.old) }
     ensures write_fault { code_of result ≡ code_of Status.WriteFault → HasRisen (K.faults sink.old) (K.faults sink.new) }
     ensures no_memory { code_of result ≡ code_of Status.NoMemory → K.taken sink.new ≡ K.taken sink.old }
     ensures taken { HasTaken (K.taken sink.old) (K.taken sink.new) }
 
-    ensures source_read { (class : List ℕ) → class_to_run (map string_bytes words.now) ≡ Some class
+    ensures source_read { IsSome (command_in (map string_bytes words.now))
         → code_of result ≢ code_of Status.ReadFault → code_of result ≢ code_of Status.NoMemory
         → S.left source.new ≡ after_taking (text_limit + 1) (S.left source.old) }
     ensures said { (bytes : List ℕ) → S.left source.old ≡ Some bytes → IsTold (code_of result)
@@ -78,6 +73,7 @@ pub fn answer<S: Source, K: Sink>(
 
     ensures entries { All IsEntry log.new.items }
     ensures idle { IsIdle (code_of result) → log.new.items ≡ [] }
+    ensures listed { AsksForListing (map string_bytes words.now) → log.new.items ≡ [] }
     ensures legal { (bytes : List ℕ) → S.left source.old ≡ Some bytes → log.new.items ≢ []
         → MayRun (map string_bytes words.now) bytes log.new.items }
 {
@@ -100,22 +96,23 @@ fn reply_to_words<S: Source>(
 ) -> Result<Reply, ReadError>
     requires { log.old.items ≡ [] }
 
-    ensures unread { class_to_run (map string_bytes words.now) ≡ None
+    ensures unread { command_in (map string_bytes words.now) ≡ None
         → (source.new ≡ source.old)
         × MatchResult result (λ reply. code_of reply.status ≡ code_of Status.Usage) (λ e. e ≡ NoMemory) }
     ensures usage { IfOk result (λ reply. code_of reply.status ≡ code_of Status.Usage
-        → (class_to_run (map string_bytes words.now) ≡ None) × (reply.text.items ≡ usage)) }
+        → (command_in (map string_bytes words.now) ≡ None) × (reply.text.items ≡ usage)) }
     ensures told { IfOk result (λ reply. IsTold (code_of reply.status)) }
     ensures failed { IsErrOf result ReadError.Failed
         → HasRisen (S.faults source.old) (S.faults source.new) × (log.new.items ≡ []) }
 
-    ensures source_read { (class : List ℕ) → class_to_run (map string_bytes words.now) ≡ Some class
+    ensures source_read { IsSome (command_in (map string_bytes words.now))
         → OnOk result (S.left source.new ≡ after_taking (text_limit + 1) (S.left source.old)) }
     ensures said { (bytes : List ℕ) → S.left source.old ≡ Some bytes
         → IfOk result (λ reply. IsSaid (map string_bytes words.now) bytes log.new.items (code_of reply.status) reply.text.items) }
 
     ensures entries { All IsEntry log.new.items }
     ensures idle { IfOk result (λ reply. IsIdle (code_of reply.status) → log.new.items ≡ []) }
+    ensures listed { AsksForListing (map string_bytes words.now) → log.new.items ≡ [] }
     ensures legal { (bytes : List ℕ) → S.left source.old ≡ Some bytes → log.new.items ≢ []
         → MayRun (map string_bytes words.now) bytes log.new.items }
 {
@@ -123,22 +120,35 @@ fn reply_to_words<S: Source>(
         None => Ok(fixed(alloc, Status::Usage, USAGE)?),
         Some(command) => {
             let text = read_all(alloc, source)?;
-            Ok(reply_to_text(alloc, command.class(), &text, log)?)
+            Ok(reply_to_command(alloc, &command, &text, log)?)
         }
     }
 }
 
-/// A reply whose text is always the same.
-fn fixed(alloc: Global, status: Status, text: &[u8]) -> Result<Reply, AllocError>
-    ensures { IfOk result (λ reply. (reply.status ≡ status) × (reply.text.items ≡ text.now)) }
+/// The reply to a command, over a text of which at most one byte past the limit was read.
+fn reply_to_command(
+    alloc: Global,
+    command: &Command,
+    text: &[u8],
+    log: &mut Vec<Entry>,
+) -> Result<Reply, AllocError>
+    requires { log.old.items ≡ [] }
+    ensures told { IfOk result (λ reply. IsTold (code_of reply.status) × (code_of reply.status ≢ code_of Status.Usage)) }
+    ensures said { (words : List (List ℕ)) (bytes : List ℕ) → command_in words ≡ Some command.now → IsReadOf bytes text.now
+        → IfOk result (λ reply. IsSaid words bytes log.new.items (code_of reply.status) reply.text.items) }
+    ensures entries { All IsEntry log.new.items }
+    ensures idle { IfOk result (λ reply. IsIdle (code_of reply.status) → log.new.items ≡ []) }
+    ensures listed { command.now ≡ Command.List → log.new.items ≡ [] }
+    ensures legal { (words : List (List ℕ)) (bytes : List ℕ) → command_in words ≡ Some command.now → IsReadOf bytes text.now
+        → log.new.items ≢ [] → MayRun words bytes log.new.items }
 {
-    Ok(Reply {
-        status,
-        text: Vec::from_slice(alloc, text)?,
-    })
+    match command {
+        Command::Run { class } => reply_to_text(alloc, class, text, log),
+        Command::List => reply_to_listing(alloc, text),
+    }
 }
 
-/// The reply to a text of which at most one byte past the limit was read.
+/// The reply to a text of which at most one byte past the limit was read, where a class of it is to be run.
 fn reply_to_text(
     alloc: Global,
     class: &Text,
@@ -162,12 +172,6 @@ fn reply_to_text(
         Err(Refusal::NotBuilt) => fixed(alloc, Status::NotBuilt, NOT_BUILT),
         Err(Refusal::Memory) => Err(AllocError),
     }
-}
-
-fn is_too_large(text: &[u8]) -> bool
-    ensures { MatchBool result (text_limit < length text.now) (length text.now ≤ text_limit) }
-{
-    text.len() > TEXT_LIMIT
 }
 
 /// Reads, assembles and links the straight text of a class.

@@ -6,7 +6,7 @@ use dv_defs::Ending;
 /// The exit status of a call, with the number that the system sees.
 #[derive(Clone, Copy, PartialEq, Eq, Debug)]
 pub enum Status {
-    /// The run ended, and its first thread returned.
+    /// The run ended, and its first thread returned; or the program was listed.
     Done = 0,
     /// The run ended, and its first thread died of an exception.
     Uncaught = 1,
@@ -16,6 +16,8 @@ pub enum Status {
     ReadFault = 3,
     /// The sink failed.
     WriteFault = 4,
+    /// Reading, assembling or linking refused the text.
+    BadText = 5,
     /// The verifier refused the program.
     Refused = 6,
     /// The heap is full.

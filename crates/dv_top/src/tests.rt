@@ -17,6 +17,7 @@ return-void
 ";
 
 /// A call, and what it comes to.
+#[derive(Clone, Copy)]
 struct Row<'a> {
     words: &'a [&'a str],
     /// The text's class, and of its main method the registers, the first instructions, all nops, and the others.
@@ -59,6 +60,13 @@ const UNREAD: Row<'static> = Row {
     failing_reads: &[0],
     status: 2,
     taken: USAGE,
+    turns: &[],
+    ..RUN
+};
+
+/// A program is to be listed.
+const LIST: Row<'static> = Row {
+    words: &["list"],
     turns: &[],
     ..RUN
 };
@@ -215,7 +223,19 @@ const ROWS: &[Row<'static>] = &[
         words: &["run", "a-b"],
         ..UNREAD
     },
-    // A read and a write that fail.
+    Row {
+        words: &["list", "x"],
+        ..UNREAD
+    },
+    Row {
+        words: &["list", "list"],
+        ..UNREAD
+    },
+    Row {
+        words: &["List"],
+        ..UNREAD
+    },
+    // Reads and writes that fail.
     Row {
         registers: "2",
         body: SUM,
@@ -234,6 +254,124 @@ const ROWS: &[Row<'static>] = &[
         turns: &[4, 1],
         ..RUN
     },
+    Row {
+        failing_reads: &[0],
+        status: 3,
+        taken: "",
+        ..LIST
+    },
+    Row {
+        failing_writes: &[7],
+        status: 4,
+        taken: ".class ",
+        ..LIST
+    },
+];
+
+/// Texts that are to be listed, with the status and what is printed.
+const LISTINGS: &[(&[u8], u8, &str)] = &[
+    (b"", 0, ""),
+    (
+        b".class LMain;
+.super Ljava/lang/Object;
+.method static main()V
+.registers 1
+return-void
+.end method
+",
+        0,
+        ".class LMain;
+.super Ljava/lang/Object;
+.method static main()V
+.registers 1
+return-void
+.end method
+",
+    ),
+    // Blanks, comments, numbers and labels are printed in one form.
+    (
+        b"# two classes
+  .class\tpublic LMain;  # the first
+.super Ljava/lang/Object;
+.method static main()V
+    .registers 0x2
+:again
+    const/4 v1,-0x8
+    goto :again
+.end method
+
+.class Lb/C;
+.super LMain;
+.field static x:I=0x10
+",
+        0,
+        ".class public LMain;
+.super Ljava/lang/Object;
+.method static main()V
+.registers 2
+:L0000
+const/4 v1, -8
+goto :L0000
+.end method
+.class Lb/C;
+.super LMain;
+.field static x:I = 16
+",
+    ),
+    (b".class LMain;\n", 5, "#refused line 2: missing part\n"),
+    (
+        b".class LMain;
+.super Ljava/lang/Object;
+.method static main()V
+.registers 1
+const/4 v0, 0x8
+return-void
+.end method
+",
+        5,
+        "#refused line 5: number out of range\n",
+    ),
+    (
+        b".class LMain;
+.super Ljava/lang/Object;
+.method static main()V
+.registers 1
+return-void
+frob
+.end method
+",
+        5,
+        "#refused line 6: unknown instruction\n",
+    ),
+    (
+        b".class LMain;
+.super Ljava/lang/Object;
+.method static main()V
+.registers 1
+goto :x
+.end method
+",
+        5,
+        "#refused line 5: no label\n",
+    ),
+    (
+        b".class LMain;
+.super Ljava/lang/Object;
+.field x:F
+",
+        5,
+        "#refused line 3: float type\n",
+    ),
+    (
+        b".class LMain;
+.super Ljava/lang/Object;
+.schedule
+.end schedule
+",
+        5,
+        "#refused line 3: misplaced\n",
+    ),
+    (b"\xff\n", 5, "#refused line 1: not UTF-8\n"),
 ];
 
 #[test]
@@ -252,15 +390,27 @@ fn calls_come_to_what_their_rows_say(rt: HostRuntime) -> Result<(), Fail> {
 #[test]
 fn a_text_has_a_limit(rt: HostRuntime) -> Result<(), Fail> {
     let rows = [
-        (0, 14, "#not built\n"),
-        (8388608, 14, "#not built\n"),
-        (8388609, 13, "#refused text too large\n"),
+        (&RUN, 0, 14, "#not built\n"),
+        (&RUN, 8388608, 14, "#not built\n"),
+        (&RUN, 8388609, 13, "#refused text too large\n"),
+        (&LIST, 8388609, 13, "#refused text too large\n"),
     ];
-    for (bytes, status, taken) in rows {
+    for (row, bytes, status, taken) in rows {
         let text: Vec<u8> = vec![in rt.alloc(); b'#'; bytes]?;
-        let report = report_of(&rt, rt.alloc(), &RUN, &text)?;
+        let report = report_of(&rt, rt.alloc(), row, &text)?;
         assert_eq!(rt; report.status, status);
         assert_eq!(rt; report.sink.taken.as_slice(), taken.as_bytes());
+    }
+    Ok(())
+}
+
+#[test]
+fn texts_are_listed_or_refused(rt: HostRuntime) -> Result<(), Fail> {
+    for (text, status, taken) in LISTINGS {
+        let report = report_of(&rt, rt.alloc(), &LIST, text)?;
+        assert_eq!(rt; report.status, *status);
+        assert_eq!(rt; report.sink.taken.as_slice(), taken.as_bytes());
+        assert!(rt; report.log.is_empty());
     }
     Ok(())
 }

@@ -1,6 +1,6 @@
 // The command line.
-ghost use Rattle.std.specs.Prelude.{◌≡◌, map, IfOk, Some, string_bytes};
-ghost use Rattle.dv_top.specs.Words.{is_name_byte, is_java_name, descriptor_of, class_to_run, class_of};
+ghost use Rattle.std.specs.Prelude.{◌≡◌, map, IfOk, string_bytes};
+ghost use Rattle.dv_top.specs.Words.{is_name_byte, is_java_name, descriptor_of, command_in};
 
 use dv_defs::Text;
 use std::alloc::{AllocError, Global};
@@ -10,24 +10,21 @@ use std::alloc::{AllocError, Global};
 pub enum Command {
     /// Read the text, verify it, and run the main method of the class of this descriptor.
     Run { class: Text },
-}
-
-impl Command {
-    /// The class whose main method is to be run.
-    pub fn class(&self) -> &Text
-        ensures { class_of (Some self.now) ≡ Some result.now }
-    {
-        match self {
-            Command::Run { class } => class,
-        }
-    }
+    /// Read the text, assemble its classes, and print them.
+    List,
 }
 
 /// Reads the words of the command line, without the program's name; none where they aren't a command.
 pub fn read_words(alloc: Global, words: &[String]) -> Result<Option<Command>, AllocError>
-    ensures { IfOk result (λ command. class_of command ≡ class_to_run (map string_bytes words.now)) }
+    ensures { IfOk result (λ command. command ≡ command_in (map string_bytes words.now)) }
 {
     match words {
+        [verb] => {
+            if verb.as_bytes() != b"list".as_slice() {
+                return Ok(None);
+            }
+            Ok(Some(Command::List))
+        }
         [verb, name] => {
             let name = name.as_bytes();
             if verb.as_bytes() != b"run".as_slice() || !is_java_name(name) {

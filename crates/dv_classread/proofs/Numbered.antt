@@ -1,0 +1,193 @@
+-- The good lines of a text are numbered one by one.
+use Rattle.std.proofs.Common.{◌≡◌, ℕ, zero, suc, ◌+◌, ◌-◌, ◌^◌, ◌<◌, ◌≤◌, false, eqb, List, [], ◌∷◌, length, map, take, drop, slice_range, Option, Some, None, Ok, Err, inl, inr, refl, sym, ap, subst, ◌∙◌, arith}
+use Rattle.std.specs.Prelude.{IfSome}
+use Rattle.std.specs.List.{All, AllByRecursion, slice_split, onto_first}
+use Rattle.std.proofs.lemmas.Bool.{ne_eqb, cases_Bool, cond-true, cond-false}
+use Rattle.std.proofs.lemmas.List.{length-drop, length-map, length-take-le}
+use Rattle.std.proofs.lemmas.List.Elements.{All-from_recursion}
+use Rattle.std.proofs.lemmas.List.Splits.{length-slice_split}
+use Rattle.dv_lex.specs.declared.line.Line.{Line}
+use Rattle.dv_lex.specs.declared.line.Stop.{Stop}
+use Rattle.dv_lex.specs.declared.line.GoodLines.{GoodLines}
+use Rattle.dv_lex.specs.Lexemes.{Lexemes}
+use Rattle.dv_lex.specs.Lines.{Row, Read, Reading, and_then_lines, good_in, is_line_feed, line_lexemes, read_in, read_rows, reading_of, rows_from, rows_of}
+use Rattle.dv_coderead.specs.Bodies.{number_behind}
+use Rattle.dv_coderead.specs.Drafting.{HasNext}
+use Rattle.dv_coderead.specs.Kept.{text_lines}
+use Rattle.dv_classread.specs.Texts.{AreNumbered, EndsBefore}
+
+-- ---- rows
+
+-- rows are numbered one by one
+AreRows : ℕ → List Row → Type 0
+AreRows n [] = Unit {0}
+AreRows n (r ∷ rs) = (r.number ≡ n) × AreRows (n + 1) rs
+
+some_length : {A : Type 0} (x : A) (xs : List A) → eqb (length (x ∷ xs)) 0 ≡ false
+some_length x xs = ne_eqb (length (x ∷ xs)) 0 (λ e. omega (arith, e))
+
+rows_are : (n at : ℕ) (parts : List (List ℕ)) → AreRows n (rows_of n at parts)
+unfolding AreRows
+rows_are n at [] = tt
+rows_are n at ([] ∷ []) = tt
+rows_are n at ((b ∷ bs) ∷ []) = rw (some_length b bs) (refl, tt)
+rows_are n at (x ∷ y ∷ more) = (refl, rows_are (n + 1) (at + length x + 1) (y ∷ more))
+
+-- there are no more of them than parts, but for a last part that is empty
+size : List (List ℕ) → ℕ
+size [] = 0
+size (x ∷ xs) = length x + 1 + size xs
+
+rows_few : (n at : ℕ) (parts : List (List ℕ)) → 0 < length parts → length (rows_of n at parts) + 1 ≤ size parts
+unfolding size
+rows_few n at [] some = absurd (omega arith)
+rows_few n at ([] ∷ []) some = omega arith
+rows_few n at ((b ∷ bs) ∷ []) some = rw (some_length b bs) (omega arith)
+rows_few n at (x ∷ y ∷ more) some = let rest = rows_few (n + 1) (at + length x + 1) (y ∷ more) (omega arith) in omega (arith, rest)
+
+-- a byte more in the first part
+size_onto : (b : ℕ) (parts : List (List ℕ)) → 0 < length parts → size (onto_first b parts) ≡ size parts + 1
+unfolding size
+size_onto b [] some = absurd (omega arith)
+size_onto b (x ∷ xs) some = omega arith
+
+some_parts : (text : List ℕ) → 0 < length (slice_split is_line_feed text)
+some_parts text = omega (arith, length-slice_split is_line_feed text)
+
+-- the parts between line feeds are as long as the text
+split_size : (text : List ℕ) → size (slice_split is_line_feed text) ≡ length text + 1
+unfolding size
+split_size [] = refl
+split_size (b ∷ bs) =
+    let rest = split_size bs in
+    elim (cases_Bool (is_line_feed b)) [
+      | inl is ↦ ap size (cond-true _ _ _ is) ∙ omega (arith, rest)
+      | inr other ↦ ap size (cond-false _ _ _ other) ∙ size_onto b (slice_split is_line_feed bs) (some_parts bs) ∙ omega (arith, rest)
+    ]
+
+-- ---- good lines
+
+-- good lines are numbered one by one, and the bad line is the next
+AreRead : ℕ → List Read → Option Stop → Type 0
+AreRead n [] stop = IfSome stop (λ (e : Stop). e.line ≡ n)
+AreRead n (r ∷ rs) stop = (r.number ≡ n) × AreRead (n + 1) rs stop
+
+first_are : (n : ℕ) (found : Lexemes) (rest : Reading) → AreRead (n + 1) rest.lines rest.stop → AreRead n (and_then_lines n found rest).lines (and_then_lines n found rest).stop
+unfolding AreRead
+first_are n (Ok ls) rest are = (refl, are)
+first_are n (Err k) rest are = refl
+
+read_are : (n : ℕ) (rs : List Row) → AreRows n rs → AreRead n (read_rows rs).lines (read_rows rs).stop
+unfolding AreRows AreRead read_rows
+read_are n [] are = tt
+read_are n (r ∷ rs) are =
+    let rest = read_are (n + 1) rs are.1 in
+    subst (λ k. AreRead n (and_then_lines k (line_lexemes r.start r.bytes) (read_rows rs)).lines (and_then_lines k (line_lexemes r.start r.bytes) (read_rows rs)).stop)
+    (sym are.0) (first_are n (line_lexemes r.start r.bytes) (read_rows rs) rest)
+
+first_few : (n : ℕ) (found : Lexemes) (rest : Reading) → length (and_then_lines n found rest).lines ≤ length rest.lines + 1
+first_few n (Ok ls) rest = omega arith
+first_few n (Err k) rest = omega arith
+
+read_few : (rs : List Row) → length (read_rows rs).lines ≤ length rs
+unfolding read_rows
+read_few [] = omega arith
+read_few (r ∷ rs) = let rest = read_few rs in let first = first_few r.number (line_lexemes r.start r.bytes) (read_rows rs) in omega (arith, rest, first)
+
+-- ---- lines as code has them
+
+module _ (text : List ℕ) where
+  lines_are : (n : ℕ) (ls : List Line) (stop : Option Stop) → AreRead n (map (read_in text) ls) stop → AreNumbered n ls
+  unfolding AreRead
+  lines_are n [] stop are = tt
+  lines_are n (l ∷ ls) stop are = (are.0, lines_are (n + 1) ls stop are.1)
+
+  stop_is : (n : ℕ) (ls : List Line) (stop : Option Stop) → AreRead n (map (read_in text) ls) stop → IfSome stop (λ (e : Stop). e.line ≡ n + length ls)
+  unfolding AreRead
+  stop_is n ls None are = tt
+  stop_is n [] (Some e) are = are ∙ omega arith
+  stop_is n (l ∷ ls) (Some e) are = stop_is (n + 1) ls (Some e) are.1 ∙ omega arith
+
+  -- the number behind the last line
+  pub behind_is : (n : ℕ) (l : Line) (ls : List Line) → AreNumbered n (l ∷ ls) → number_behind (text_lines text (l ∷ ls)) ≡ n + length (l ∷ ls)
+  unfolding number_behind
+  behind_is n l [] are = ap (λ k. k + 1) are.0
+  behind_is n l (m ∷ ls) are = behind_is (n + 1) m ls are.1 ∙ omega arith
+
+  pub ends_before : (n : ℕ) (ls : List Line) → AreNumbered n ls → EndsBefore (n + length ls) (text_lines text ls)
+  ends_before n [] are = tt
+  ends_before n (l ∷ ls) are = behind_is n l ls are
+
+  pub past_is : (ls : List Line) → AreNumbered 1 ls → number_behind (text_lines text ls) ≡ 1 + length ls
+  unfolding number_behind
+  past_is [] are = refl
+  past_is (l ∷ ls) are = behind_is 1 l ls are
+
+-- lines of which there are fewer than numbers have a number behind them
+numbers_next : (n : ℕ) (ls : List Line) → AreNumbered n ls → n + length ls < 2 ^ 32 → AllByRecursion HasNext ls
+numbers_next n [] are few = tt
+numbers_next n (l ∷ ls) are few = (subst (λ k. k + 1 < 2 ^ 32) (sym are.0) (omega (arith, few)), numbers_next (n + 1) ls are.1 (omega (arith, few)))
+
+module _ (text : List ℕ) (g : GoodLines) (is : good_in text g ≡ reading_of text) where
+  -- so they are read
+  are_read : AreRead 1 (map (read_in text) g.lines) g.stop
+  are_read =
+      subst (λ (r : Reading). AreRead 1 r.lines r.stop) (sym is) (read_are 1 (rows_from 1 0 text) (rows_are 1 0 (slice_split is_line_feed text)))
+
+  pub numbered : AreNumbered 1 g.lines
+  numbered = lines_are text 1 g.lines g.stop are_read
+
+  -- the bad line is the next
+  pub stop_behind : IfSome g.stop (λ (e : Stop). e.line ≡ 1 + length g.lines)
+  stop_behind = stop_is text 1 g.lines g.stop are_read
+
+  -- there are no more lines than bytes
+  pub few_lines : length g.lines ≤ length text
+  few_lines =
+      let rows = rows_few 1 0 (slice_split is_line_feed text) (some_parts text) in
+      let read = read_few (rows_from 1 0 text) in
+      let same : length g.lines ≡ length (reading_of text).lines = sym (length-map g.lines (read_in text)) ∙ ap (λ (r : Reading). length r.lines) is in
+      omega (arith, rows, read, same, split_size text)
+
+  pub have_next : length text < 2 ^ 32 - 1 → All HasNext g.lines
+  have_next few = All-from_recursion HasNext g.lines (numbers_next 1 g.lines numbered (omega (arith, few, few_lines)))
+
+-- ---- parts of numbered lines
+
+front_numbered : (n k : ℕ) (ls : List Line) → AreNumbered n ls → AreNumbered n (take k ls)
+front_numbered n zero ls are = tt
+front_numbered n (suc k) [] are = tt
+front_numbered n (suc k) (l ∷ ls) are = (are.0, front_numbered (n + 1) k ls are.1)
+
+back_numbered : (n k : ℕ) (ls : List Line) → AreNumbered n ls → AreNumbered (n + k) (drop k ls)
+back_numbered n zero ls are = subst (λ m. AreNumbered m ls) (omega arith) are
+back_numbered n (suc k) [] are = tt
+back_numbered n (suc k) (l ∷ ls) are = subst (λ m. AreNumbered m (drop k ls)) (omega arith) (back_numbered (n + 1) k ls are.1)
+
+module _ (text : List ℕ) (ls : List Line) (are : AreNumbered 1 ls) where
+  pub front_numbers : (at : ℕ) → AreNumbered 1 (take at ls)
+  front_numbers at = front_numbered 1 at ls are
+
+  pub ends_at : (from at : ℕ) → from ≤ at → at ≤ length ls → EndsBefore (1 + at) (text_lines text (slice_range ls from at))
+  ends_at from at le within =
+      let size : length (slice_range ls from at) ≡ at - from = length-take-le (at - from) (drop from ls) (omega (arith, length-drop from ls, le, within)) ∙ omega arith in
+      let ends = ends_before text (1 + from) (slice_range ls from at) (front_numbered (1 + from) (at - from) (drop from ls) (back_numbered 1 from ls are)) in
+      subst (λ n. EndsBefore n (text_lines text (slice_range ls from at))) (ap (λ n. (1 + from) + n) size ∙ omega (arith, le)) ends
+
+-- the bad line is the one behind the good ones
+pub stop_before : (text : List ℕ) (stop : Option Stop) (ls : List Line) → AreNumbered 1 ls → IfSome stop (λ (e : Stop). e.line ≡ 1 + length ls) → IfSome stop (λ (e : Stop). EndsBefore e.line (text_lines text ls))
+stop_before text None ls are is = tt
+stop_before text (Some e) ls are is = subst (λ n. EndsBefore n (text_lines text ls)) (sym is) (ends_before text 1 ls are)
+
+-- the first lines end before the line of the next number
+pub ends_front : (text : List ℕ) (ls : List Line) → AreNumbered 1 ls → (at : ℕ) → at ≤ length ls → EndsBefore (1 + at) (text_lines text (take at ls))
+ends_front text ls are at within =
+    subst (λ n. EndsBefore (1 + n) (text_lines text (take at ls))) (length-take-le at ls within) (ends_before text 1 (take at ls) (front_numbered 1 at ls are))
+
+-- the last lines end where all do
+pub ends_behind : (text : List ℕ) (n from : ℕ) (ls : List Line) → AreNumbered 1 ls → from ≤ length ls → EndsBefore n (text_lines text ls) → EndsBefore n (text_lines text (slice_range ls from (length ls)))
+ends_behind text n from [] are le ends =
+    let first : 0 ≡ from = omega (arith, le) in
+    subst (λ k. EndsBefore n (text_lines text (slice_range [] k 0))) first tt
+ends_behind text n from (l ∷ ls) are le ends =
+    subst (λ m. EndsBefore m (text_lines text (slice_range (l ∷ ls) from (length (l ∷ ls))))) (sym (behind_is text 1 l ls are) ∙ ends) (ends_at text (l ∷ ls) are from (length (l ∷ ls)) le (omega arith))

@@ -1,0 +1,13 @@
+pub mod Printed
+pub mod Listable
+pub mod Laws
+pub mod ClassPieces
+pub mod ReadLaws
+pub mod ClassListable
+pub mod ListingLaws
+pub mod OperandPieces
+pub mod RawListable
+pub mod RawPieces
+pub mod DraftLaws
+pub mod DraftListable
+pub mod DraftPieces

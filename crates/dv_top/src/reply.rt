@@ -1,0 +1,30 @@
+// What is replied to a call.
+ghost use Rattle.std.specs.Prelude.{◌≡◌, ◌<◌, ◌≤◌, length, IfOk, MatchBool};
+ghost use Rattle.dv_top.specs.Said.{text_limit};
+
+use crate::reading::TEXT_LIMIT;
+use crate::status::Status;
+use std::alloc::{AllocError, Global};
+
+/// A status, and the text that goes with it.
+#[derive(Drop)]
+pub struct Reply {
+    pub status: Status,
+    pub text: Vec<u8>,
+}
+
+/// A reply whose text is always the same.
+pub fn fixed(alloc: Global, status: Status, text: &[u8]) -> Result<Reply, AllocError>
+    ensures { IfOk result (λ reply. (reply.status ≡ status) × (reply.text.items ≡ text.now)) }
+{
+    Ok(Reply {
+        status,
+        text: Vec::from_slice(alloc, text)?,
+    })
+}
+
+pub fn is_too_large(text: &[u8]) -> bool
+    ensures { MatchBool result (text_limit < length text.now) (length text.now ≤ text_limit) }
+{
+    text.len() > TEXT_LIMIT
+}
