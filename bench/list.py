@@ -24,6 +24,18 @@ def one_method(size):
     return HEAD + ".method static main()V\n.registers 1\n" + lines + "return-void\n.end method\n"
 
 
+def small_methods(size):
+    """Methods of four instructions, 64 to a class: 7,600 to a megabyte."""
+    head = ".class LC%05d;\n.super Ljava/lang/Object;\n"
+    method = (
+        ".method static m%02d(I)I\n.registers 3\nconst/4 v0, 0x5\nadd-int/lit8 v1, p0, 0x10\n"
+        "mul-int v0, v0, v1\nreturn v0\n.end method\n"
+    )
+    methods = "".join(method % number for number in range(64))
+    count = size // (len(methods) + len(head % 0))
+    return "".join(head % number + methods for number in range(count))
+
+
 def tiny_methods(size):
     """As many methods of one instruction as fit: 16,384 to a megabyte."""
     method = ".method static m%06d()V\n.registers 0\nreturn-void\n.end method\n"
@@ -52,7 +64,7 @@ def labels(size):
     return HEAD + ".method static main()V\n.registers 1\n" + lines + "return-void\n.end method\n"
 
 
-KINDS = [one_method, tiny_methods, one_comment, catches, labels]
+KINDS = [small_methods, one_method, tiny_methods, one_comment, catches, labels]
 
 
 def seconds(words, text):
@@ -67,19 +79,20 @@ def seconds(words, text):
 
 
 def smali_seconds(text):
-    """How long `smali` takes to assemble the same text, or nothing where it isn't there."""
+    """How long `smali` takes for the same text, a class in a file, and whether it takes it; nothing where it isn't there."""
     if shutil.which("smali") is None:
         return None
     with tempfile.TemporaryDirectory() as folder:
-        path = os.path.join(folder, "Main.smali")
-        with open(path, "wb") as file:
-            file.write(text)
+        classes = text.split(b".class ")
+        for number, class_text in enumerate(classes[1:]):
+            with open(os.path.join(folder, f"C{number:05d}.smali"), "wb") as file:
+                file.write(b".class " + class_text)
         start = time.perf_counter()
-        subprocess.run(
-            ["smali", "assemble", "-o", os.path.join(folder, "out.dex"), path],
+        done = subprocess.run(
+            ["smali", "assemble", "-o", os.path.join(folder, "out.dex"), folder],
             stdout=subprocess.DEVNULL, stderr=subprocess.DEVNULL, check=False,
         )
-        return time.perf_counter() - start
+        return time.perf_counter() - start, done.returncode
 
 
 def main():
@@ -98,7 +111,8 @@ def main():
             line = f"{kind.__name__}: {len(text) / 1e6:.1f} MB in {taken:.3f} s, {len(text) / 1e6 / taken:.1f} MB/s, status {status}"
             other = smali_seconds(text)
             if other is not None:
-                line += f"; smali {other:.2f} s, {other / taken:.1f} times as long"
+                other, smali_status = other
+                line += f"; smali {other:.2f} s, {other / taken:.1f} times as long, status {smali_status}"
             print(line, flush=True)
         print(f"{kind.__name__}: eight times the text takes {times[1] / times[0]:.1f} times as long")
 

@@ -419,7 +419,7 @@ static REFUSED: [(&str, &str, bool, u32, LineKind); 118] = [
 ];
 
 // The beginning of a text, a line that is repeated so often, what stands behind it, and its first bad line.
-static LONG: [(&str, &str, u32, &str, u32, LineKind); 3] = [
+static LONG: [(&str, &str, u32, &str, u32, LineKind); 4] = [
     (
         METHOD,
         "nop\n",
@@ -442,6 +442,14 @@ static LONG: [(&str, &str, u32, &str, u32, LineKind); 3] = [
         127,
         ":a\nreturn-void\n.end method\n",
         5,
+        LineKind::OffsetRange,
+    ),
+    (
+        ".class LA;\n.super LB;\n.method static m()V\n.registers 2\n:a\nnop\n",
+        "nop\n",
+        128,
+        "goto :a\nreturn-void\n.end method\n",
+        135,
         LineKind::OffsetRange,
     ),
 ];
