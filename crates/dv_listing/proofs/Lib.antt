@@ -1,5 +1,6 @@
 pub mod ClassListing
 pub mod ClassPieces
+pub mod Programs
 pub mod Lines
 pub mod Pieces
 pub mod Strings

@@ -64,7 +64,7 @@ no_return (b ∷ w) h =
     let k : 32 ≤ get_or (b ∷ w) (length (b ∷ w) - 1) 0 = printed_at (b ∷ w) (length (b ∷ w) - 1) (omega arith) h in
     cond-false _ _ _ (ne_eqb _ _ (λ (z : get_or (b ∷ w) (length (b ∷ w) - 1) 0 ≡ 13). omega (arith, k, z)))
 
-no_feed : (w : List ℕ) → list_all is_printed w ≡ true → AllByRecursion (λ b. is_line_feed b ≡ false) w
+pub no_feed : (w : List ℕ) → list_all is_printed w ≡ true → AllByRecursion (λ b. is_line_feed b ≡ false) w
 no_feed [] h = tt
 no_feed (b ∷ w) h = let p = and_parts _ _ h in let low = leb-true 32 b p.0 in (ne_eqb b 10 (λ (z : b ≡ 10). omega (arith, low, z)), no_feed w p.1)
 

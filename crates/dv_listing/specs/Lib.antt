@@ -5,6 +5,7 @@ pub mod ClassPieces
 pub mod ReadLaws
 pub mod ClassListable
 pub mod ListingLaws
+pub mod ProgramLaws
 pub mod OperandPieces
 pub mod RawListable
 pub mod RawPieces

@@ -40,22 +40,22 @@ use Rattle.dv_listing.proofs.ClassPieces.Read.{class_head, field_head, implement
 
 -- ---- its lines
 
-abbrev parent_pieces : Option (List ℕ) → List (List Piece)
+abbrev pub parent_pieces : Option (List ℕ) → List (List Piece)
 parent_pieces None = []
 parent_pieces (Some name) = superclass_pieces name ∷ []
 
 -- behind the first and the superclass
-abbrev member_pieces : List (List ℕ) → List FieldValue → List (List Piece) → List (List Piece)
+abbrev pub member_pieces : List (List ℕ) → List FieldValue → List (List Piece) → List (List Piece)
 member_pieces names fs pss = map interface_pieces names ++ (map field_pieces fs ++ pss)
 
-abbrev whole_pieces : ClassDef → List (List Piece) → List (List Piece)
+abbrev pub whole_pieces : ClassDef → List (List Piece) → List (List Piece)
 whole_pieces c pss = class_pieces c ∷ (parent_pieces c.parent ++ member_pieces c.interfaces c.fields pss)
 
 parent_stands : SuperclassLinesStand → (is_object : Bool) (parent : Option (List ℕ)) → IsParentText is_object parent → HaveLines (superclass_line parent) (parent_pieces parent)
 parent_stands stand is_object None h = NoLine
 parent_stands stand is_object (Some name) h = stand name h.1
 
-class_stands : ClassLinesStand → SuperclassLinesStand → InterfaceLinesStand → FieldLinesStand → (c : ClassDef) → IsListedClass c → (pss : List (List Piece))
+pub class_stands : ClassLinesStand → SuperclassLinesStand → InterfaceLinesStand → FieldLinesStand → (c : ClassDef) → IsListedClass c → (pss : List (List Piece))
     → HaveLines (flat_map method_lines c.methods) pss → HaveLines (class_text c) (whole_pieces c pss)
 unfolding class_text
 class_stands class super interface field c h pss methods =
@@ -81,7 +81,7 @@ parent_counts : (parent : Option (List ℕ)) → All Counts (parent_pieces paren
 parent_counts None = All-nil Counts
 parent_counts (Some name) = All-cons Counts (superclass_pieces name) [] (record { counts = ap (counts 0) (super_head _) }) (All-nil Counts)
 
-class_counts : (c : ClassDef) (pss : List (List Piece)) → All Counts pss → All Counts (whole_pieces c pss)
+pub class_counts : (c : ClassDef) (pss : List (List Piece)) → All Counts pss → All Counts (whole_pieces c pss)
 class_counts c pss all =
     let fields = map_counts field_pieces (λ f. record { counts = ap (counts 0) (field_head _) }) c.fields in
     let interfaces = map_counts interface_pieces (λ name. record { counts = ap (counts 0) (implements_head _) }) c.interfaces in
@@ -99,7 +99,7 @@ module _ (interface : InterfaceLinesAreRead) (field : FieldLinesAreRead) (past :
       interfaces_told past is_object has_super (map field_pieces fs ++ m.pieces) None names fs ms interface all_names
       (fields_told past is_object has_super m.pieces None fs ms field all_fields (m.told past is_object has_super closed))
 
-  parent_told : SuperclassLinesAreRead → (is_object : Bool) (parent : Option (List ℕ)) → IsParentText is_object parent → (n : ℕ)
+  pub parent_told : SuperclassLinesAreRead → (is_object : Bool) (parent : Option (List ℕ)) → IsParentText is_object parent → (n : ℕ)
       → Tell past (Inside is_object false) n (parent_pieces parent ++ member_pieces names fs m.pieces) parent names fs ms
   parent_told super is_object None is n = members_told is_object false (rw is refl) n
   parent_told super is_object (Some name) h n =
@@ -136,7 +136,7 @@ class_whole c ds e = rw e refl
 
 -- ---- a text without a schedule
 
-text_read : (r : Reading) (pss : List (List Piece)) (cs : List ClassDraft) (ds : List ClassDef) → r.stop ≡ None → map line_of r.lines ≡ numbered 1 pss → open_behind 0 (numbered 1 pss) ≡ 0
+pub text_read : (r : Reading) (pss : List (List Piece)) (cs : List ClassDraft) (ds : List ClassDef) → r.stop ≡ None → map line_of r.lines ≡ numbered 1 pss → open_behind 0 (numbered 1 pss) ≡ 0
     → drafts_of None (number_behind (numbered 1 pss)) (numbered 1 pss) ≡ Ok cs → classes_of cs ≡ Ok ds → program_of false r ≡ Ok (record { classes = ds; log = [] })
 unfolding program_of drafts_in
 text_read r pss cs ds well lines closed drafts whole =

@@ -1,0 +1,4 @@
+-- The listing of several classes.
+pub mod Behind
+pub mod Parts
+pub mod Read

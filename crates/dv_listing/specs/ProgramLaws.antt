@@ -1,0 +1,30 @@
+-- The laws of the listing of several classes, one after another.
+use Rattle.std.specs.Prelude.{◌≡◌, ℕ, ◌+◌, Bool, false, List, [], ◌∷◌, All, length, Ok}
+use Rattle.std.specs.List.{flat_map}
+use Rattle.std.specs.Str.Lines.{lines}
+use Rattle.dv_defs.specs.declared.class.ClassDef.{ClassDef}
+use Rattle.dv_lex.specs.Lines.{reading_of}
+use Rattle.dv_print.specs.Listing.{class_text}
+use Rattle.dv_classread.specs.declared.text.Read.{Read}
+use Rattle.dv_classread.specs.Programs.{program_of}
+use Rattle.dv_listing.specs.ClassListable.{IsListedClass}
+
+-- the listings of these classes, one after another
+abbrev pub classes_text : List ClassDef → List ℕ
+classes_text cs = flat_map class_text cs
+
+-- the classes as those of this text, the first of which begins on the line of this number
+abbrev pub numbered_classes : ℕ → List ClassDef → List ClassDef
+numbered_classes n [] = []
+numbered_classes n (c ∷ cs) = record c { line = n } ∷ numbered_classes (n + length (lines (class_text c))) cs
+
+-- The listings of several classes are read as these classes, but for their lines.
+abbrev pub ProgramsAreRead : Type 0
+ProgramsAreRead =
+    (cs : List ClassDef) → All IsListedClass cs → program_of false (reading_of (classes_text cs)) ≡ Ok (record { classes = numbered_classes 1 cs; log = [] })
+
+-- Whatever text was read, the listings of its classes are read as these classes, but for their lines.
+abbrev pub ReadProgramsAreReadAgain : Type 0
+ReadProgramsAreReadAgain =
+    (schedule : Bool) (text : List ℕ) (r : Read) → program_of schedule (reading_of text) ≡ Ok r
+    → program_of false (reading_of (classes_text r.classes)) ≡ Ok (record { classes = numbered_classes 1 r.classes; log = [] })

@@ -1,0 +1,39 @@
+// The laws of the listing of several classes: each is the contract of a function that does nothing.
+ghost use Rattle.dv_listing.specs.ProgramLaws.{ProgramsAreRead, ReadProgramsAreReadAgain};
+
+use crate::class_laws::{
+    class_lines_are_read, field_lines_are_read, interface_lines_are_read, method_ends_are_read,
+    method_headers_are_read, superclass_lines_are_read,
+};
+use crate::draft_laws::{
+    bodies_are_laid_out_again, draft_lines_count, drafts_are_listed_again, drafts_are_printed,
+};
+use crate::laws::printed_lines_are_read;
+use crate::raw_laws::raw_bodies_are_read;
+use crate::read_laws::read_classes_are_listed;
+
+/// What is printed of several classes is read as these classes, but for their lines.
+pub fn programs_are_read()
+    ensures { ProgramsAreRead }
+{
+    printed_lines_are_read();
+    class_lines_are_read();
+    superclass_lines_are_read();
+    interface_lines_are_read();
+    field_lines_are_read();
+    method_headers_are_read();
+    method_ends_are_read();
+    raw_bodies_are_read();
+    drafts_are_printed();
+    draft_lines_count();
+    drafts_are_listed_again();
+    bodies_are_laid_out_again();
+}
+
+/// The listing of all classes that were read is read as these classes, but for their lines.
+pub fn read_programs_are_read_again()
+    ensures { ReadProgramsAreReadAgain }
+{
+    read_classes_are_listed();
+    programs_are_read();
+}
