@@ -2,3 +2,6 @@
 pub mod Behind
 pub mod Parts
 pub mod Read
+pub mod Cutting
+pub mod Entries
+pub mod Schedules

@@ -60,7 +60,7 @@ insn_other : (o : Option ℕ) (w : List ℕ) → IsOther (insn_head o w)
 insn_other (Some op) w = tt
 insn_other None w = cond_both (is_float_name w) head.Float head.Other IsOther (λ e. tt) (λ e. tt)
 
-word_other : (w : List ℕ) (second : Option (List ℕ)) → begins_with 46 w ≡ false → begins_with 58 w ≡ false → IsOther (word_head w second)
+pub word_other : (w : List ℕ) (second : Option (List ℕ)) → begins_with 46 w ≡ false → begins_with 58 w ≡ false → IsOther (word_head w second)
 word_other w second dot colon = rw dot (rw colon (insn_other (opcode_named w) w))
 
 pub unit_head : (u : ℕ) (ps : List Piece) → IsOther (head_of (unit_piece u ∷ ps))

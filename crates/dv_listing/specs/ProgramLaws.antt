@@ -1,9 +1,11 @@
--- The laws of the listing of several classes, one after another.
-use Rattle.std.specs.Prelude.{◌≡◌, ℕ, ◌+◌, Bool, false, List, [], ◌∷◌, All, length, Ok}
+-- The laws of the listing of several classes, one after another, and of a schedule behind them.
+use Rattle.std.specs.Prelude.{◌≡◌, ℕ, ◌+◌, Bool, true, false, List, [], ◌∷◌, ◌++◌, All, length, codes, Ok}
 use Rattle.std.specs.List.{flat_map}
 use Rattle.std.specs.Str.Lines.{lines}
 use Rattle.dv_defs.specs.declared.class.ClassDef.{ClassDef}
+use Rattle.dv_defs.specs.declared.run.Entry.{Entry}
 use Rattle.dv_lex.specs.Lines.{reading_of}
+use Rattle.dv_log.specs.Writing.{log_text, IsEntry}
 use Rattle.dv_print.specs.Listing.{class_text}
 use Rattle.dv_classread.specs.declared.text.Read.{Read}
 use Rattle.dv_classread.specs.Programs.{program_of}
@@ -28,3 +30,13 @@ abbrev pub ReadProgramsAreReadAgain : Type 0
 ReadProgramsAreReadAgain =
     (schedule : Bool) (text : List ℕ) (r : Read) → program_of schedule (reading_of text) ≡ Ok r
     → program_of false (reading_of (classes_text r.classes)) ≡ Ok (record { classes = numbered_classes 1 r.classes; log = [] })
+
+-- the lines of a schedule, as they stand behind classes
+abbrev pub schedule_text : List Entry → List ℕ
+schedule_text log = codes ".schedule\n" ++ (log_text log ++ codes ".end schedule\n")
+
+-- The listings of several classes with a schedule behind them are read as these classes, but for their lines, and as that schedule.
+abbrev pub SchedulesAreRead : Type 0
+SchedulesAreRead =
+    (cs : List ClassDef) (log : List Entry) → All IsListedClass cs → All IsEntry log
+    → program_of true (reading_of (classes_text cs ++ schedule_text log)) ≡ Ok (record { classes = numbered_classes 1 cs; log = log })

@@ -1,5 +1,5 @@
-// The laws of the listing of several classes: each is the contract of a function that does nothing.
-ghost use Rattle.dv_listing.specs.ProgramLaws.{ProgramsAreRead, ReadProgramsAreReadAgain};
+// The laws of the listing of several classes, and of a schedule behind them: each is the contract of a function that does nothing.
+ghost use Rattle.dv_listing.specs.ProgramLaws.{ProgramsAreRead, ReadProgramsAreReadAgain, SchedulesAreRead};
 
 use crate::class_laws::{
     class_lines_are_read, field_lines_are_read, interface_lines_are_read, method_ends_are_read,
@@ -36,4 +36,22 @@ pub fn read_programs_are_read_again()
 {
     read_classes_are_listed();
     programs_are_read();
+}
+
+/// What is printed of several classes, with a schedule behind it, is read as these classes, but for their lines, and as that schedule.
+pub fn schedules_are_read()
+    ensures { SchedulesAreRead }
+{
+    printed_lines_are_read();
+    class_lines_are_read();
+    superclass_lines_are_read();
+    interface_lines_are_read();
+    field_lines_are_read();
+    method_headers_are_read();
+    method_ends_are_read();
+    raw_bodies_are_read();
+    drafts_are_printed();
+    draft_lines_count();
+    drafts_are_listed_again();
+    bodies_are_laid_out_again();
 }

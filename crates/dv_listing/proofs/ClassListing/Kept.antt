@@ -13,7 +13,7 @@ pub record Counts (ps : List Piece) : Type 0 where
   pub counts : counts 0 (head_of ps) ≡ true
 
 -- no annotation is opened
-depth_stays : (h : Head) → counts 0 h ≡ true → depth_behind 0 h ≡ 0
+pub depth_stays : (h : Head) → counts 0 h ≡ true → depth_behind 0 h ≡ 0
 depth_stays h e =
     let p = and_parts (not (opens h)) (not (is_passed h)) e in
     cond-false (opens h) _ _ (not-true (opens h) p.0) ∙ elim (cases_Bool (closes h)) [
