@@ -3,7 +3,7 @@ mod Assembled
 mod Between
 mod Cutting
 mod Entries
-mod Flags
+pub mod Flags
 mod Going
 mod Leaving
 mod Numbered
