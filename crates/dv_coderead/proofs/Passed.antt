@@ -14,7 +14,7 @@ use Rattle.dv_coderead.proofs.Cuts.{not_true}
 -- ---- one line
 
 -- a line that counts stands outside of annotations
-counted_outside : (n : ℕ) (h : Head) → counts n h ≡ true → n ≡ 0
+pub counted_outside : (n : ℕ) (h : Head) → counts n h ≡ true → n ≡ 0
 counted_outside n h is = eqb-true n 0 (and_parts _ _ (and_parts _ _ is).0).0
 
 -- a line that counts opens no annotation
