@@ -6,9 +6,9 @@ use Rattle.std.proofs.Math.Seq.{take-add}
 use Rattle.dv_lex.specs.declared.line.Line.{Line}
 use Rattle.dv_coderead.specs.declared.head.Head.{Head}
 use Rattle.dv_coderead.specs.Heads.{head_of}
-use Rattle.dv_coderead.specs.Kept.{TextLine, counts, depth_behind, kept, kept_from, line_at, no_line, open_behind, text_line, text_lines, IsNext}
+use Rattle.dv_coderead.specs.Kept.{TextLine, counts, depth_behind, kept, kept_from, line_at, no_line, open_behind, text_line, text_lines, IsNext, AreNumbered}
 use Rattle.dv_coderead.proofs.Passed.{counted_outside, depth_counted, kept_counted, kept_none, kept_passed, open_line, open_none}
-use Rattle.dv_classread.specs.Texts.{AreNumbered, IsClosed, kept_between}
+use Rattle.dv_classread.specs.Texts.{IsClosed, kept_between}
 
 -- ---- parts of lists
 

@@ -13,7 +13,7 @@ mod Labels
 pub mod Lacking
 mod Lists
 mod Members
-mod Numbered
+pub mod Numbered
 mod Numbering
 mod Numbers
 pub mod Opcodes

@@ -8,7 +8,7 @@ use Rattle.dv_classread.specs.declared.program.ClassDraft.{ClassDraft}
 use Rattle.dv_classread.specs.Programs.{Drafts, drafts_in, drafts_of}
 use Rattle.dv_classread.specs.Schedules.{end_with}
 use Rattle.dv_classread.specs.Texts.{EndsBefore}
-use Rattle.dv_classread.proofs.Numbered.{ends_before, stop_before}
+use Rattle.dv_classread.proofs.Ends.{ends_before, stop_before}
 use Rattle.dv_classread.proofs.Whole.{with_is, without_is}
 use Rattle.dv_classread.proofs.text.drafts_in.Goals as goal
 
