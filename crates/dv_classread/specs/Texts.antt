@@ -97,11 +97,6 @@ told_from end past (InMethod s sig before) (l ∷ ls) =
 
 -- ---- what calls keep and answer
 
--- lines are numbered one by one, the first by this number
-abbrev pub AreNumbered : ℕ → List Line → Type 0
-AreNumbered n [] = Unit {0}
-AreNumbered n (l ∷ ls) = (l.number ≡ n) × AreNumbered (n + 1) ls
-
 -- these lines end before the line of this number, unless there is none
 abbrev pub EndsBefore : ℕ → List TextLine → Type 0
 EndsBefore n [] = Unit {0}
