@@ -11,10 +11,7 @@ use Rattle.dv_classread.specs.declared.program.MethodDraft.{MethodDraft}
 use Rattle.dv_classread.specs.declared.program.Program.{Program}
 use Rattle.dv_classread.specs.Texts.{Told, Says, Method}
 use Rattle.dv_classread.specs.Classes.{Adds, class_with, classes_in, classes_with, fields_in, interfaces_in, last_with, methods_in, superclass_in, whole_classes}
-
--- an element more, in front of others
-pushed : {A : Type 0} (front : List A) (x : A) (rest : List A) {new : List A} → new ≡ front ++ x ∷ [] → new ++ rest ≡ front ++ x ∷ rest
-pushed front x rest e = ap (λ l. l ++ rest) e ∙ append_assoc front (x ∷ []) rest
+use Rattle.dv_coderead.proofs.Adding.{pushed}
 
 -- where there is none
 pub not_some : {A : Type 0} (x : Option A) → is_some x ≡ false → x ≡ None

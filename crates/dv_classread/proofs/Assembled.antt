@@ -8,10 +8,10 @@ use Rattle.dv_asm.specs.Layout.{layout}
 use Rattle.dv_asm.specs.Refusals.{Refusal, Tells, refusal}
 use Rattle.dv_lex.specs.declared.line.Stop.{Stop}
 use Rattle.dv_coderead.specs.Giving.{◌>>>◌, Stops}
+use Rattle.dv_coderead.proofs.Drafts.{stops_all}
 use Rattle.dv_classread.specs.declared.program.BodyDraft.{BodyDraft}
 use Rattle.dv_classread.specs.declared.program.BodyDraft.TheVariants as body
 use Rattle.dv_classread.specs.Assembling.{and_then, assembled, assembled_by, assembled_class, assembled_method, classes_of, methods_of}
-use Rattle.dv_classread.proofs.Going.{stops_all}
 
 -- ---- a body
 

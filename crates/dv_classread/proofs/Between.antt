@@ -1,13 +1,14 @@
 -- The lines that count between two places.
-use Rattle.std.proofs.Common.{◌≡◌, ℕ, zero, suc, ◌+◌, ◌-◌, ◌<◌, ◌≤◌, Bool, true, false, not, cond, List, [], ◌∷◌, ◌++◌, length, take, drop, slice_range, inl, inr, refl, sym, subst, ap, ◌∙◌, append-nil, arith}
-use Rattle.std.proofs.lemmas.Bool.{and_parts, cases_Bool, cond-true, cond-false, eqb-true}
+use Rattle.std.proofs.Common.{◌≡◌, ℕ, zero, suc, ◌+◌, ◌-◌, ◌<◌, ◌≤◌, true, List, [], ◌∷◌, ◌++◌, length, take, drop, slice_range, inl, inr, refl, sym, subst, ap, ◌∙◌, append-nil, arith}
+use Rattle.std.proofs.lemmas.Bool.{cases_Bool, cond-true, cond-false}
 use Rattle.std.proofs.lemmas.List.{drop-drop, drop-map, drop_more, length-drop, length-map, map-append, take-map, take_all}
 use Rattle.std.proofs.Math.Seq.{take-add}
 use Rattle.dv_lex.specs.declared.line.Line.{Line}
 use Rattle.dv_coderead.specs.declared.head.Head.{Head}
 use Rattle.dv_coderead.specs.Heads.{head_of}
-use Rattle.dv_coderead.specs.Kept.{TextLine, closes, counts, depth_behind, opens, kept, kept_from, line_at, no_line, open_behind, text_line, text_lines, IsNext}
-use Rattle.dv_classread.specs.Texts.{AreNumbered, IsClosed, kept_between}
+use Rattle.dv_coderead.specs.Kept.{TextLine, counts, depth_behind, kept, kept_from, line_at, no_line, open_behind, text_line, text_lines, IsNext, AreNumbered}
+use Rattle.dv_coderead.proofs.Passed.{counted_outside, depth_counted, kept_counted, kept_none, kept_passed, open_line, open_none}
+use Rattle.dv_classread.specs.Texts.{IsClosed, kept_between}
 
 -- ---- parts of lists
 
@@ -57,27 +58,6 @@ drop_one_by_one n (suc k) (l ∷ ls) are = subst (λ m. AreOneByOne m (drop k ls
 first_of : {A : Type 0} {x y : A} {xs ys : List A} → x ∷ xs ≡ y ∷ ys → x ≡ y
 first_of e = cc
 
-module _ (n : ℕ) (z : TextLine) (zs : List TextLine) where
-  pub kept_counted : counts n (head_of z.pieces) ≡ true → kept n (z ∷ zs) ≡ z ∷ kept (depth_behind n (head_of z.pieces)) zs
-  unfolding kept
-  kept_counted is = cond-true (counts n (head_of z.pieces)) _ _ is
-
-  pub kept_passed : counts n (head_of z.pieces) ≡ false → kept n (z ∷ zs) ≡ kept (depth_behind n (head_of z.pieces)) zs
-  unfolding kept
-  kept_passed is = cond-false (counts n (head_of z.pieces)) _ _ is
-
-  open_line : open_behind n (z ∷ zs) ≡ open_behind (depth_behind n (head_of z.pieces)) zs
-  unfolding open_behind
-  open_line = refl
-
-kept_none : (n : ℕ) → kept n [] ≡ []
-unfolding kept
-kept_none n = refl
-
-open_none : (n : ℕ) → open_behind n [] ≡ n
-unfolding open_behind
-open_none n = refl
-
 -- a line that is kept stands no earlier than the first
 kept_number : (n m : ℕ) (zs : List TextLine) → AreOneByOne m zs → (l : TextLine) (ls : List TextLine) → kept n zs ≡ l ∷ ls → m ≤ l.number
 unfolding AreOneByOne
@@ -88,22 +68,6 @@ kept_number n m (z ∷ zs) are l ls is =
       | inl counted ↦ let same = first_of (sym (kept_counted n z zs counted) ∙ is) in omega (arith, are.0, ap (λ (t : TextLine). t.number) same)
       | inr passed ↦ let rest = kept_number (depth_behind n h) (m + 1) zs are.1 l ls (sym (kept_passed n z zs passed) ∙ is) in omega (arith, rest)
     ]
-
--- a depth outside of annotations stays where none is opened
-outside_stays : (o k : Bool) → o ≡ false → cond o (0 + 1) (cond k (0 - 1) 0) ≡ 0
-outside_stays true k e = absurd (cc)
-outside_stays false true e = refl
-outside_stays false false e = refl
-
-outside : (n : ℕ) (h : Head) → counts n h ≡ true → n ≡ 0
-outside n h is = eqb-true n 0 (and_parts _ _ (and_parts _ _ is).0).0
-
-not_opened : (o : Bool) → not o ≡ true → o ≡ false
-not_opened true e = absurd (cc)
-not_opened false e = refl
-
-depth_counted : (n : ℕ) (h : Head) → counts n h ≡ true → depth_behind n h ≡ 0
-depth_counted n h is = ap (λ m. depth_behind m h) (outside n h is) ∙ outside_stays (opens h) (closes h) (not_opened (opens h) (and_parts _ _ (and_parts _ _ is).0).1)
 
 -- the first line that counts is this one, behind so many
 record IsFirst (n j : ℕ) (zs : List TextLine) (l : TextLine) : Type 0 where
@@ -121,7 +85,7 @@ module _ (l : TextLine) (ls : List TextLine) where
       elim (cases_Bool (counts n h)) [
         | inl counted ↦ record {
           before = kept_none n;
-          closed = open_none n ∙ outside n h counted;
+          closed = open_none n ∙ counted_outside n h counted;
           with_it = kept_counted n z [] counted ∙ ap (λ ks. z ∷ ks) (kept_none (depth_behind n h)) ∙ ap (λ t. t ∷ []) (first_of (sym (kept_counted n z zs counted) ∙ is));
           behind = open_line n z [] ∙ open_none (depth_behind n h) ∙ depth_counted n h counted;
         }

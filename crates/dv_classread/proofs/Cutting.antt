@@ -6,10 +6,11 @@ use Rattle.std.proofs.lemmas.List.{drop-map, drop_more, take-append-drop, take-m
 use Rattle.dv_lex.specs.declared.line.Line.{Line}
 use Rattle.dv_coderead.specs.declared.head.Head.{Head}
 use Rattle.dv_coderead.specs.Heads.{head_of}
-use Rattle.dv_coderead.specs.Kept.{TextLine, counts, depth_behind, kept, kept_from, line_at, no_line, open_behind, text_line, text_lines, IsNext}
+use Rattle.dv_coderead.specs.Kept.{TextLine, counts, depth_behind, kept, kept_from, line_at, no_line, open_behind, text_line, text_lines, IsNext, AreNumbered}
+use Rattle.dv_coderead.proofs.Passed.{kept_counted, kept_passed}
 use Rattle.dv_classread.specs.Schedules.{Cut, IsCutAt, begins_schedule, cut_at_schedule, with_line}
-use Rattle.dv_classread.specs.Texts.{AreNumbered, IsClosed, kept_between}
-use Rattle.dv_classread.proofs.Between.{closed_here, closed_more, counts_here, kept_before, kept_counted, kept_more, kept_passed, kept_to_end}
+use Rattle.dv_classread.specs.Texts.{IsClosed, kept_between}
+use Rattle.dv_classread.proofs.Between.{closed_here, closed_more, counts_here, kept_before, kept_more, kept_to_end}
 
 -- ---- lines before a schedule
 

@@ -19,7 +19,7 @@ even_by : (n : ℕ) → nat_eq (n % 2) 1 ≡ false → n % 2 ≡ 0
 even_by n out = let other = eqb-false (n % 2) 1 out in omega arith
 
 -- a flag that is not among flags has its bit free
-bit_free : (f : Flag) (flags : ℕ) → flags < 2 ^ 19 → has_flag flags f ≡ false → flags + 2 ^ bit_of f < 2 ^ 19
+pub bit_free : (f : Flag) (flags : ℕ) → flags < 2 ^ 19 → has_flag flags f ≡ false → flags + 2 ^ bit_of f < 2 ^ 19
 bit_free flag.Public flags small out = let even = even_by (flags / 2 ^ 0) out in omega arith
 bit_free flag.Private flags small out = let even = even_by (flags / 2 ^ 1) out in omega arith
 bit_free flag.Protected flags small out = let even = even_by (flags / 2 ^ 2) out in omega arith

@@ -2,10 +2,10 @@
 use Rattle.std.proofs.Common.{◌≡◌, ℕ, zero, suc, ◌<◌, List, [], ◌∷◌, ◌++◌, Option, Some, None, Result, Ok, Err, refl, sym, ap, ◌∙◌, arith}
 use Rattle.std.specs.Prelude.{unwrap_or}
 use Rattle.dv_defs.specs.declared.faults.LineError.{LineError}
-use Rattle.dv_defs.specs.declared.faults.LineError.TheVariants as error
 use Rattle.dv_lex.specs.declared.line.Stop.{Stop}
 use Rattle.dv_coderead.specs.Giving.{◌>>>◌, on_line, Stops}
 use Rattle.dv_coderead.specs.Kept.{TextLine}
+use Rattle.dv_coderead.proofs.Drafts.{then_same, stops_all}
 use Rattle.dv_classread.specs.declared.class_line.Signature.{Signature}
 use Rattle.dv_classread.specs.declared.class_line.Standing.{Standing}
 use Rattle.dv_classread.specs.declared.class_line.Standing.TheVariants.{Outside}
@@ -22,19 +22,9 @@ use Rattle.dv_classread.proofs.Telling.{told_class, told_none}
 
 -- ---- what goes by what was read before
 
--- what goes by a reading is the same for the same answers
-pub then_same : {A B : Type 0} (r : Result A Stop) (f g : A → Result B Stop) → ((x : A) → f x ≡ g x) → (r >>> f) ≡ (r >>> g)
-then_same (Ok x) f g same = same x
-then_same (Err e) f g same = refl
-
 told_then : {B : Type 0} (t : Told) (r : Result (List Told) Stop) (f : List Told → Result B Stop) → (and_told t r >>> f) ≡ (r >>> λ ts. f (t ∷ ts))
 told_then t (Ok ts) f = refl
 told_then t (Err e) f = refl
-
--- the first bad line of some is that of all
-pub stops_all : {A B : Type 0} (e : LineError) (some : Result A Stop) (all : Result B Stop) → ((s : Stop) → some ≡ Err s → all ≡ Err s) → Stops e some → Stops e all
-stops_all error.Memory some all passes is = tt
-stops_all (error.At line kind) some all passes is = passes (record { line = line; kind = kind }) is
 
 -- ---- one line
 

@@ -2,11 +2,11 @@ mod Adding
 mod Assembled
 mod Between
 mod Cutting
+mod Ends
 mod Entries
-mod Flags
+pub mod Flags
 mod Going
 mod Leaving
-mod Numbered
 mod Parts
 mod Telling
 mod Values

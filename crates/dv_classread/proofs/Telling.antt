@@ -8,11 +8,11 @@ use Rattle.dv_coderead.specs.declared.kept.Next.{Next}
 use Rattle.dv_coderead.specs.declared.kept.Next.TheVariants as next
 use Rattle.dv_coderead.specs.Giving.{◌>>>◌, on_line}
 use Rattle.dv_coderead.specs.Heads.{head_of}
-use Rattle.dv_coderead.specs.Kept.{TextLine, kept, kept_from, line_at, open_behind, open_from, text_lines, Comes, IsNext}
+use Rattle.dv_coderead.specs.Kept.{TextLine, kept, kept_from, line_at, open_behind, open_from, text_lines, Comes, IsNext, AreNumbered}
 use Rattle.dv_classread.specs.declared.class_line.Signature.{Signature}
 use Rattle.dv_classread.specs.declared.class_line.Standing.{Standing}
 use Rattle.dv_classread.specs.ClassLines.{class_line}
-use Rattle.dv_classread.specs.Texts.{Told, Spot, InClass, InMethod, AreNumbered, IsClosed, IsEnd, IsLeft, added, begun, ended_in, ends_method, kept_between, leaves_method, left_at, method_ended, missing_at, told_from, told_in_method}
+use Rattle.dv_classread.specs.Texts.{Told, Spot, InClass, InMethod, IsClosed, IsEnd, IsLeft, added, begun, ended_in, ends_method, kept_between, leaves_method, left_at, method_ended, missing_at, told_from, told_in_method}
 use Rattle.dv_classread.proofs.Between.{closed_here, closed_more, kept_before, kept_more, kept_to_end}
 
 -- ---- one line

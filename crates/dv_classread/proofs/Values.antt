@@ -1,8 +1,8 @@
 -- What the number of a field's value is read as, by the value, which has no bound.
-use Rattle.std.proofs.Common.{◌≡◌, ℕ, zero, suc, ◌-◌, ◌^◌, ◌<◌, ◌≤◌, ◌==◌, ◌&&◌, Bool, true, false, nat_eq, List, [], ◌∷◌, drop, Option, Some, None, Ok, Err, inl, inr, refl, sym, ap, subst, ◌∙◌, arith}
-use Rattle.std.specs.Prelude.{ℤ, pos, negsuc, nat_le, nat_lt, if◌then◌else◌}
+use Rattle.std.proofs.Common.{◌≡◌, ℕ, zero, suc, ◌-◌, ◌^◌, ◌<◌, ◌≤◌, ◌&&◌, Bool, true, false, nat_eq, List, [], ◌∷◌, Option, Some, None, Ok, Err, inl, inr, refl, sym, ap, subst, ◌∙◌, arith}
+use Rattle.std.specs.Prelude.{ℤ, pos, negsuc, nat_le, nat_lt}
 use Rattle.std.specs.List.{starts_with}
-use Rattle.std.proofs.lemmas.Bool.{and_left, and_parts, and_right, cases_Bool, cond-false, eqb-false, eqb-true, true≢false, leb-false, lt-leb, ltb-false, ltb-true, ne_eqb}
+use Rattle.std.proofs.lemmas.Bool.{and_left, and_parts, and_right, cases_Bool, cond-false, true≢false, leb-false, lt-leb, ltb-false, ltb-true}
 use lib.Signed.{lt_z}
 use Rattle.dv_defs.specs.declared.class.Init.TheVariants as init
 use Rattle.dv_defs.specs.declared.faults.LineKind.{LineKind}
@@ -12,7 +12,8 @@ use Rattle.dv_defs.specs.declared.names.Base.TheVariants as base
 use Rattle.dv_defs.specs.declared.names.Ty.{Ty}
 use Rattle.dv_defs.specs.Field.{number_fits, value_fits}
 use Rattle.dv_lex.specs.Numbers.{Number, in_bits, is_whole, magnitude, negated, signed}
-use Rattle.dv_coderead.specs.Words.{begins_with, fitting, literal_in, number_in, number_of, unsigned_in}
+use Rattle.dv_coderead.specs.Words.{fitting, literal_in, number_in, number_of}
+use Rattle.dv_coderead.proofs.Values.{minus_begins, negative_read}
 use Rattle.dv_classread.specs.ClassLines.{fitting_value, number_value}
 
 -- ---- numbers that no type has
@@ -119,29 +120,6 @@ module _ (n : Number) where
   held = elim (cases_Bool n.negative) [ inl minus ↦ held_minus minus | inr plus ↦ held_plus plus ]
 
 -- ---- signs
-
--- what was found
-some_by : (t : Bool) (m n : Number) → (if t then Some m else None) ≡ Some n → m ≡ n
-some_by true m n e = cc
-some_by false m n e = absurd (cc)
-
--- a number has the sign that was read in front of it
-unsigned_negative : (negative : Bool) (w : List ℕ) (n : Number) → unsigned_in negative w ≡ Some n → n.negative ≡ negative
-unsigned_negative negative w n e = ap (λ (m : Number). m.negative) (sym (some_by _ _ n e))
-
--- a number is negative where its text begins with a minus
-negative_read : (w : List ℕ) (n : Number) → number_in w ≡ Some n → n.negative ≡ begins_with 45 w
-unfolding number_in
-negative_read w n e = unsigned_negative (begins_with 45 w) (if begins_with 45 w then drop 1 w else w) n e
-
--- to begin with the text of a minus is to begin with its byte
-minus_begins : (w : List ℕ) → starts_with nat_eq w (45 ∷ []) ≡ begins_with 45 w
-minus_begins [] = refl
-minus_begins (c ∷ cs) =
-    elim (cases_Bool (c == 45)) [
-      | inl is ↦ let e = eqb-true c 45 is in rw e refl
-      | inr other ↦ ap (λ t. t && true) (ne_eqb 45 c (λ e. eqb-false c 45 other (sym e))) ∙ sym other
-    ]
 
 -- whether a word begins with a minus is whether its number is negative
 unsigned_read : (w : List ℕ) (n : Number) → number_in w ≡ Some n → starts_with nat_eq w (45 ∷ []) ≡ n.negative

@@ -8,15 +8,14 @@ use Rattle.dv_lex.specs.declared.line.Stop.{Stop}
 use Rattle.dv_lex.specs.declared.line.GoodLines.{GoodLines}
 use Rattle.dv_lex.specs.Lines.{Reading, good_in, read_in, reading_of}
 use Rattle.dv_coderead.specs.Giving.{◌>>>◌, Stops}
-use Rattle.dv_coderead.specs.Kept.{line_of, open_behind, text_line, text_lines}
+use Rattle.dv_coderead.specs.Kept.{line_of, open_behind, text_line, text_lines, AreNumbered}
 use Rattle.dv_coderead.specs.Bodies.{number_behind}
+use Rattle.dv_coderead.proofs.Drafts.{stops_all}
+use Rattle.dv_coderead.proofs.Numbered.{past_is}
 use Rattle.dv_classread.specs.declared.program.ClassDraft.{ClassDraft}
 use Rattle.dv_classread.specs.Programs.{by_cut, assembled_drafts, drafts_in, drafts_of, program_of, with_schedule, without_schedule}
 use Rattle.dv_classread.specs.Assembling.{classes_of}
 use Rattle.dv_classread.specs.Schedules.{IsCutAt, cut_at, cut_at_schedule, end_with}
-use Rattle.dv_classread.specs.Texts.{AreNumbered}
-use Rattle.dv_classread.proofs.Going.{stops_all}
-use Rattle.dv_classread.proofs.Numbered.{past_is}
 
 module _ (text : List ℕ) (ls : List Line) (are : AreNumbered 1 ls) (stop : Option Stop) where
   behind : number_behind (text_lines text ls) ≡ length ls + 1

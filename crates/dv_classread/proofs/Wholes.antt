@@ -6,9 +6,10 @@ use Rattle.dv_lex.specs.declared.line.Line.{Line}
 use Rattle.dv_lex.specs.declared.line.Stop.{Stop}
 use Rattle.dv_coderead.specs.Giving.{◌>>>◌, on_line, Stops}
 use Rattle.dv_coderead.specs.Operands.{behind, ended}
-use Rattle.dv_coderead.specs.Kept.{TextLine, kept, kept_from, line_at, open_behind, text_lines}
+use Rattle.dv_coderead.specs.Kept.{TextLine, kept, kept_from, line_at, open_behind, text_lines, AreNumbered}
 use Rattle.dv_coderead.specs.Bodies.{body_of, number_behind}
 use Rattle.dv_coderead.specs.RawBodies.{raw_body_of}
+use Rattle.dv_coderead.proofs.Drafts.{stops_all}
 use Rattle.dv_asm.specs.Draft.{DraftValue}
 use Rattle.dv_defs.specs.Body.{BodyValue}
 use Rattle.dv_classread.specs.declared.class_line.Signature.{Signature}
@@ -17,11 +18,10 @@ use Rattle.dv_classread.specs.declared.method.BodyKind.TheVariants as of_kind
 use Rattle.dv_classread.specs.declared.program.BodyDraft.{BodyDraft}
 use Rattle.dv_classread.specs.declared.program.BodyDraft.TheVariants as body
 use Rattle.dv_classread.specs.Methods.{arguments_of, body_by, drafted, kind_of, method_from, raw}
-use Rattle.dv_classread.specs.Texts.{Told, Method, InClass, InMethod, AreNumbered, EndsBefore, IsEnd, IsLeft, and_told, ended_in, first_bad, kept_between, left_at, missing_at, told_from, told_in_method}
+use Rattle.dv_classread.specs.Texts.{Told, Method, InClass, InMethod, EndsBefore, IsEnd, IsLeft, and_told, ended_in, first_bad, kept_between, left_at, missing_at, told_from, told_in_method}
 use Rattle.dv_classread.proofs.Between.{number_at}
-use Rattle.dv_classread.proofs.Going.{stops_all}
 use Rattle.dv_classread.proofs.Leaving.{body_same, left_same}
-use Rattle.dv_classread.proofs.Numbered.{ends_at}
+use Rattle.dv_classread.proofs.Ends.{ends_at}
 
 -- ---- bodies
 

@@ -97,11 +97,6 @@ told_from end past (InMethod s sig before) (l ∷ ls) =
 
 -- ---- what calls keep and answer
 
--- lines are numbered one by one, the first by this number
-abbrev pub AreNumbered : ℕ → List Line → Type 0
-AreNumbered n [] = Unit {0}
-AreNumbered n (l ∷ ls) = (l.number ≡ n) × AreNumbered (n + 1) ls
-
 -- these lines end before the line of this number, unless there is none
 abbrev pub EndsBefore : ℕ → List TextLine → Type 0
 EndsBefore n [] = Unit {0}
@@ -144,10 +139,14 @@ Ends text ls from (end_at.Left at) = IsLeft text ls from at
 Ends text ls from end_at.CutOff = (end : Option Stop) (past : ℕ) (s : Standing) (sig : Signature) → told_in_method text ls from end past s sig
     ≡ ended_in end past (InMethod s sig (kept_between text ls from (length ls)))
 
+-- from one place to the next the method is told whole
+abbrev pub IsToldTo : List ℕ → List Line → ℕ → Signature → Option Stop → ℕ → Standing → MethodDraft → ℕ → Type 0
+IsToldTo text ls from sig end past s m next =
+    (from ≤ next) × (next ≤ length ls) × (open_from text ls from ≡ open_from text ls next)
+    × (told_in_method text ls from end past s sig ≡ and_told (Method m) (told_from end past (InClass s) (kept_from text ls next)))
+
 -- A method is told whole, with the place behind it; or why it is bad. An unfinished one is told by this fault where the text ends.
 abbrev pub IsWhole : List ℕ → List Line → ℕ → Signature → Stop → Result (MethodDraft × ℕ) LineError → Type 0
 IsWhole text ls from sig fault result =
     (end : Option Stop) (past : ℕ) (s : Standing) → unwrap_or end (missing_at past) ≡ fault →
-    MatchResult result
-    (λ r. (from ≤ r.1) × (r.1 ≤ length ls) × (open_from text ls from ≡ open_from text ls r.1) × (told_in_method text ls from end past s sig ≡ and_told (Method r.0) (told_from end past (InClass s) (kept_from text ls r.1))))
-    (λ e. Stops e (told_in_method text ls from end past s sig))
+    MatchResult result (λ r. IsToldTo text ls from sig end past s r.0 r.1) (λ e. Stops e (told_in_method text ls from end past s sig))

@@ -4,11 +4,10 @@ ghost use Rattle.std.specs.List.{All};
 ghost use Rattle.dv_lex.specs.Lines.{HasTokens, IsLineInside};
 ghost use Rattle.dv_coderead.specs.Giving.{on_line, GivesLines, Stops};
 ghost use Rattle.dv_coderead.specs.Operands.{behind, ended};
-ghost use Rattle.dv_coderead.specs.Kept.{kept, kept_from, open_behind, text_line, text_lines};
-ghost use Rattle.dv_coderead.specs.Bodies.{number_behind};
-ghost use Rattle.dv_coderead.specs.Drafting.{HasNext};
+ghost use Rattle.dv_coderead.specs.Kept.{kept, kept_from, open_behind, text_line, text_lines, AreNumbered};
+ghost use Rattle.dv_coderead.specs.Bodies.{number_behind, HasNext};
 ghost use Rattle.dv_classread.specs.Methods.{begins_raw, is_count_head, is_raw_head, kind_of, method_from};
-ghost use Rattle.dv_classread.specs.Texts.{ends_method, leaves_method, left_at, AreNumbered, Ends, EndsBefore, IsWhole};
+ghost use Rattle.dv_classread.specs.Texts.{ends_method, leaves_method, left_at, Ends, EndsBefore, IsWhole};
 
 use crate::class_line::Signature;
 use crate::lines::{as_error, ended, missing_at};

@@ -6,9 +6,8 @@ ghost use Rattle.dv_coderead.specs.Giving.{on_line, GivesLines, Reads};
 ghost use Rattle.dv_coderead.specs.Operands.{behind, ended};
 ghost use Rattle.dv_coderead.specs.Pieces.{piece_in, pieces_in};
 ghost use Rattle.dv_coderead.specs.Heads.{head_of};
-ghost use Rattle.dv_coderead.specs.Kept.{text_line, text_lines};
+ghost use Rattle.dv_coderead.specs.Kept.{text_line, text_lines, AreNumbered};
 ghost use Rattle.dv_classread.specs.Schedules.{begins_schedule, entry_by, entry_in, field_in, log_from, log_line, nothing_behind, refusal_behind, schedule_from, CutsAt};
-ghost use Rattle.dv_classread.specs.Texts.{AreNumbered};
 
 use crate::class_line::refusal_of;
 use crate::lines::{as_error, ended, missing_at};

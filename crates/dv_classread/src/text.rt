@@ -4,11 +4,11 @@ ghost use Rattle.std.specs.List.{All};
 ghost use Rattle.dv_lex.specs.Lines.{reading_of, HasTokens, IsLineInside};
 ghost use Rattle.dv_coderead.specs.Giving.{on_line, GivesLines};
 ghost use Rattle.dv_coderead.specs.Heads.{head_of};
-ghost use Rattle.dv_coderead.specs.Kept.{line_at, open_behind, text_line, text_lines};
-ghost use Rattle.dv_coderead.specs.Drafting.{HasNext};
+ghost use Rattle.dv_coderead.specs.Kept.{line_at, open_behind, text_line, text_lines, AreNumbered};
+ghost use Rattle.dv_coderead.specs.Bodies.{HasNext};
 ghost use Rattle.dv_classread.specs.ClassLines.{class_line};
 ghost use Rattle.dv_classread.specs.Schedules.{cut_at, end_with, IsCutAt};
-ghost use Rattle.dv_classread.specs.Texts.{ended_in, AreNumbered, EndsBefore, InClass};
+ghost use Rattle.dv_classread.specs.Texts.{ended_in, EndsBefore, InClass};
 ghost use Rattle.dv_classread.specs.Programs.{drafts_in, drafts_of, program_of, with_schedule, CutsIf, GoesOn};
 
 use crate::assembling::assembled_classes;

@@ -12,7 +12,6 @@ use Rattle.dv_defs.specs.Tiling.{is_width}
 use Rattle.dv_asm.specs.declared.draft.Item.{Item}
 use Rattle.dv_asm.specs.declared.draft.Catch.{Catch}
 use Rattle.dv_asm.specs.declared.draft.Draftop.{Draftop}
-use Rattle.dv_asm.specs.declared.draft.What.{What}
 use Rattle.dv_asm.specs.declared.draft.What.TheVariants as what
 use Rattle.dv_asm.specs.Draft.{AreFormed, IsFormed, IsOp}
 use Rattle.dv_coderead.specs.declared.words.Frame.{Frame}
@@ -28,7 +27,7 @@ use Rattle.dv_coderead.specs.Drafting.{payload_with, Adds, IsDrafting, IsOpen}
 -- ---- lists
 
 -- an element more, in front of others
-pushed : {A : Type 0} (front : List A) (x : A) (rest : List A) {new : List A} → new ≡ front ++ x ∷ [] → new ++ rest ≡ front ++ x ∷ rest
+pub pushed : {A : Type 0} (front : List A) (x : A) (rest : List A) {new : List A} → new ≡ front ++ x ∷ [] → new ++ rest ≡ front ++ x ∷ rest
 pushed front x rest e = ap (λ l. l ++ rest) e ∙ append_assoc front (x ∷ []) rest
 
 -- an item more, where no payload is open
@@ -48,7 +47,7 @@ few_bytes : (width : ℕ) (z : ℤ) → IsTrue (is_width width) → width ≤ le
 few_bytes width z has = grind (arith, nat_tests)
 
 -- an element has as many bytes as the array's width says
-element_length : (width : ℕ) (z : ℤ) → IsTrue (is_width width) → length (element_bytes width z) ≡ width
+pub element_length : (width : ℕ) (z : ℤ) → IsTrue (is_width width) → length (element_bytes width z) ≡ width
 element_length width z has = length-take-le width (to_le_bytes w64 (bits64 z)) (few_bytes width z has)
 
 -- an element more leaves whole elements

@@ -9,7 +9,7 @@ use Rattle.dv_coderead.proofs.Strings.{written}
 two_less : (n : ℕ) → n - 2 ≡ n - 1 - 1
 two_less n = omega arith
 
-literal_written : (q : ℕ) (units text : List ℕ) → IsLiteral q units text → string_of text ≡ units
+pub literal_written : (q : ℕ) (units text : List ℕ) → IsLiteral q units text → string_of text ≡ units
 literal_written q units text is =
     let inside : take (length text - 2) (drop 1 text) ≡ is.inner = ap (λ n. take n (drop 1 text)) (two_less (length text)) ∙ inner_is q units text is in
     ap (λ l. units_of 0 (chars l)) inside ∙ written is.writes

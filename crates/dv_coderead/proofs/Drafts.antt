@@ -23,7 +23,7 @@ use Rattle.dv_coderead.specs.Drafting.{Adds, catches_with, draft_with, finished_
 -- ---- what goes by what was read before
 
 -- what goes by a reading is the same for the same answers
-then_same : {A B : Type 0} (r : Result A Stop) (f g : A → Result B Stop) → ((x : A) → f x ≡ g x) → (r >>> f) ≡ (r >>> g)
+pub then_same : {A B : Type 0} (r : Result A Stop) (f g : A → Result B Stop) → ((x : A) → f x ≡ g x) → (r >>> f) ≡ (r >>> g)
 then_same (Ok x) f g same = same x
 then_same (Err e) f g same = refl
 

@@ -68,10 +68,10 @@ last_48_zero (pos n) fits none = eq-eqb _ _ (cc)
 last_48_zero (negsuc n) fits none = eq-eqb _ _ (omega (arith, no_sign _ none, ltb-true n (2 ^ 63) fits))
 
 -- the literal of 21h, by whether the opcode is that of const/high16
-abbrev high_literal : Bool → Option Literal
+abbrev pub high_literal : Bool → Option Literal
 high_literal narrow = if narrow then Some (record { bits = 32; zeros = 16 }) else Some (record { bits = 64; zeros = 48 })
 
-abbrev high_spelling : Bool → Insn → Option (List ℕ)
+abbrev pub high_spelling : Bool → Insn → Option (List ℕ)
 high_spelling narrow i = if narrow then spelling_shifted 16 i else spelling_shifted 48 i
 
 module _ (op : ℕ) (small : fits_in 8 op ≡ true) where
@@ -126,13 +126,13 @@ module _ (op : ℕ) (small : fits_in 8 op ≡ true) where
 -- ---- labels and entries
 
 -- the formats with a label are those with an offset
-labels_agree : (o : Option Format) → has_label o ≡ has_offset (option_map standard o)
+pub labels_agree : (o : Option Format) → has_label o ≡ has_offset (option_map standard o)
 labels_agree None = refl
 labels_agree (Some F10t) = refl
 labels_agree (Some f) = refl
 
 -- the opcodes with a pool are those whose format has an index
-pools_agree : (op : ℕ) → op < 256 → is_some (pool_at op) ≡ has_index (formats.format_at op)
+pub pools_agree : (op : ℕ) → op < 256 → is_some (pool_at op) ≡ has_index (formats.format_at op)
 unfolding pool_at formats.format_at
 pools_agree op small = agree_below_at (λ n. is_some (pool_at n)) (λ n. has_index (formats.format_at n)) 256 op refl small
 

@@ -1,31 +1,31 @@
-mod Adding
+pub mod Adding
 mod Addresses
-mod Arrows
-mod Characters
+pub mod Arrows
+pub mod Characters
 mod Classes
-mod Cuts
+pub mod Cuts
 mod Descriptors
-mod Drafts
+pub mod Drafts
 mod Finishing
-mod Formed
-mod FormedParts
+pub mod Formed
+pub mod FormedParts
 mod Labels
-mod Lacking
+pub mod Lacking
 mod Lists
 mod Members
-mod Numbered
+pub mod Numbered
 mod Numbering
 mod Numbers
-mod Opcodes
-mod Passed
-mod Printed
+pub mod Opcodes
+pub mod Passed
+pub mod Printed
 mod RawAdding
 mod RawEntries
 mod RawKinds
 mod RawReading
 mod RawTries
 mod RawUnits
-mod Readings
-mod Spelling
-mod Strings
-mod Values
+pub mod Readings
+pub mod Spelling
+pub mod Strings
+pub mod Values

@@ -14,7 +14,7 @@ use Rattle.dv_coderead.proofs.Cuts.{not_true}
 -- ---- one line
 
 -- a line that counts stands outside of annotations
-counted_outside : (n : ℕ) (h : Head) → counts n h ≡ true → n ≡ 0
+pub counted_outside : (n : ℕ) (h : Head) → counts n h ≡ true → n ≡ 0
 counted_outside n h is = eqb-true n 0 (and_parts _ _ (and_parts _ _ is).0).0
 
 -- a line that counts opens no annotation
@@ -28,7 +28,7 @@ outside_stays false true e = refl
 outside_stays false false e = refl
 
 -- no annotation is open behind a line that counts
-depth_counted : (n : ℕ) (h : Head) → counts n h ≡ true → depth_behind n h ≡ 0
+pub depth_counted : (n : ℕ) (h : Head) → counts n h ≡ true → depth_behind n h ≡ 0
 depth_counted n h is = ap (λ m. depth_behind m h) (counted_outside n h is) ∙ outside_stays (opens h) (closes h) (counted_opens n h is)
 
 -- a depth that grows by one, falls by one or stays is at most one more
@@ -43,27 +43,27 @@ depth_more n h = one_more (opens h) (closes h) n
 
 module _ (n : ℕ) (l : TextLine) (ls : List TextLine) where
   -- a line that counts is kept
-  kept_counted : counts n (head_of l.pieces) ≡ true → kept n (l ∷ ls) ≡ l ∷ kept (depth_behind n (head_of l.pieces)) ls
+  pub kept_counted : counts n (head_of l.pieces) ≡ true → kept n (l ∷ ls) ≡ l ∷ kept (depth_behind n (head_of l.pieces)) ls
   unfolding kept
   kept_counted is = cond-true (counts n (head_of l.pieces)) _ _ is
 
   -- another one isn't
-  kept_passed : counts n (head_of l.pieces) ≡ false → kept n (l ∷ ls) ≡ kept (depth_behind n (head_of l.pieces)) ls
+  pub kept_passed : counts n (head_of l.pieces) ≡ false → kept n (l ∷ ls) ≡ kept (depth_behind n (head_of l.pieces)) ls
   unfolding kept
   kept_passed is = cond-false (counts n (head_of l.pieces)) _ _ is
 
   -- the depth behind lines is that behind the first, and then behind the others
-  open_line : open_behind n (l ∷ ls) ≡ open_behind (depth_behind n (head_of l.pieces)) ls
+  pub open_line : open_behind n (l ∷ ls) ≡ open_behind (depth_behind n (head_of l.pieces)) ls
   unfolding open_behind
   open_line = refl
 
 -- of no lines none is kept
-kept_none : (n : ℕ) → kept n [] ≡ []
+pub kept_none : (n : ℕ) → kept n [] ≡ []
 unfolding kept
 kept_none n = refl
 
 -- and the depth behind them is that before them
-open_none : (n : ℕ) → open_behind n [] ≡ n
+pub open_none : (n : ℕ) → open_behind n [] ≡ n
 unfolding open_behind
 open_none n = refl
 

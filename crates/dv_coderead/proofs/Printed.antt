@@ -40,10 +40,10 @@ printed_name name is = cond-true (is_name name) _ _ is
 
 -- ---- references
 
-field_split : (class arrow name colon ty : List ℕ) → class ++ arrow ++ name ++ colon ++ ty ≡ class ++ (arrow ++ (name ++ (colon ++ ty)))
+pub field_split : (class arrow name colon ty : List ℕ) → class ++ arrow ++ name ++ colon ++ ty ≡ class ++ (arrow ++ (name ++ (colon ++ ty)))
 field_split class arrow name colon ty = simp append_assoc
 
-method_split : (class arrow name proto : List ℕ) → class ++ arrow ++ name ++ proto ≡ class ++ (arrow ++ (name ++ proto))
+pub method_split : (class arrow name proto : List ℕ) → class ++ arrow ++ name ++ proto ≡ class ++ (arrow ++ (name ++ proto))
 method_split class arrow name proto = simp append_assoc
 
 pub printed_field : (f : FieldRef) → IsFieldRef f → IsTrue (is_reference f.class) → field_in (field_text f) ≡ Ok f

@@ -23,7 +23,7 @@ signed : (w : List ℕ) (m : Bool) → begins_with 45 w ≡ m → w ≡ when m (
 signed w true h = begun 45 w h
 signed w false h = refl
 
-abbrev is_based : List ℕ → Bool
+abbrev pub is_based : List ℕ → Bool
 is_based u = begins_with 48 u && begins_with 120 (drop 1 u)
 
 -- and that is `0x` or nothing, and the rest
@@ -90,7 +90,7 @@ with_suffix ds b s =
     cond-true (ends_with_suffix (ds ++ b ∷ [])) _ _ ends ∙ ap (λ n. take n (ds ++ b ∷ [])) size ∙ take-append_seam ds (b ∷ [])
 
 -- where digits and a suffix stand, the digits are found
-found_by : (h : Bool) (ds w : List ℕ) → list_all (is_digit h) ds ≡ true → is_suffix w ≡ true → without_suffix (ds ++ w) ≡ ds
+pub found_by : (h : Bool) (ds w : List ℕ) → list_all (is_digit h) ds ≡ true → is_suffix w ≡ true → without_suffix (ds ++ w) ≡ ds
 found_by h ds [] d s = ap without_suffix (append-nil ds) ∙ cond-false (ends_with_suffix ds) _ _ (no_suffix h ds d)
 found_by h ds (b ∷ []) d s = with_suffix ds b s
 found_by h ds (b ∷ c ∷ cs) d s = absurd (cc)

@@ -46,12 +46,12 @@ unsigned_negative : (negative : Bool) (w : List ℕ) (n : Number) → unsigned_i
 unsigned_negative negative w n e = ap (λ (m : Number). m.negative) (sym (some_by _ _ n e))
 
 -- a number is negative where its text begins with a minus
-negative_read : (w : List ℕ) (n : Number) → number_in w ≡ Some n → n.negative ≡ begins_with 45 w
+pub negative_read : (w : List ℕ) (n : Number) → number_in w ≡ Some n → n.negative ≡ begins_with 45 w
 unfolding number_in
 negative_read w n e = unsigned_negative (begins_with 45 w) (if begins_with 45 w then drop 1 w else w) n e
 
 -- two tests of the first byte are one
-minus_begins : (w : List ℕ) → starts_with nat_eq w (45 ∷ []) ≡ begins_with 45 w
+pub minus_begins : (w : List ℕ) → starts_with nat_eq w (45 ∷ []) ≡ begins_with 45 w
 minus_begins [] = refl
 minus_begins (c ∷ cs) =
     elim (cases_Bool (c == 45)) [

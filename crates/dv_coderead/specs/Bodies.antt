@@ -1,5 +1,5 @@
 -- The body that the lines of a method give.
-use Rattle.std.specs.Prelude.{ℕ, ◌+◌, ◌&&◌, ℤ, Bool, List, [], ◌∷◌, ◌++◌, take, Option, Some, None, is_some, not, Result, Ok, Err, nat_eq, if◌then◌else◌}
+use Rattle.std.specs.Prelude.{ℕ, ◌+◌, ◌^◌, ◌<◌, ◌&&◌, ℤ, Bool, List, [], ◌∷◌, ◌++◌, take, Option, Some, None, is_some, not, Result, Ok, Err, nat_eq, if◌then◌else◌}
 use Rattle.std.specs.Int.{w64, to_le_bytes}
 use Rattle.dv_defs.specs.declared.faults.LineKind.TheVariants.{Missing}
 use Rattle.dv_defs.specs.declared.names.Proto.{Proto}
@@ -11,6 +11,7 @@ use Rattle.dv_asm.specs.declared.draft.What.{What}
 use Rattle.dv_asm.specs.declared.draft.What.TheVariants as what
 use Rattle.dv_asm.specs.Draft.{DraftValue}
 use Rattle.dv_lex.specs.declared.line.Stop.{Stop}
+use Rattle.dv_lex.specs.declared.line.Line.{Line}
 use Rattle.dv_coderead.specs.declared.words.Frame.{Frame}
 use Rattle.dv_coderead.specs.declared.body_line.Opening.{Opening}
 use Rattle.dv_coderead.specs.declared.body_line.Opening.TheVariants as opening
@@ -144,6 +145,10 @@ unfoldable pub number_behind : List TextLine → ℕ
 number_behind [] = 1
 number_behind (l ∷ []) = l.number + 1
 number_behind (l ∷ m ∷ ls) = number_behind (m ∷ ls)
+
+-- a line has a number behind it
+abbrev pub HasNext : Line → Type 0
+HasNext l = l.number + 1 < 2 ^ 32
 
 -- the body of the lines that count, in a method with so many argument words; or the first bad line
 abbrev pub body_from : ℕ → ℕ → ℕ → List TextLine → Result DraftValue Stop

@@ -1,12 +1,11 @@
 -- A draft that is being read: what the lines so far have given, and what those behind them add.
-use Rattle.std.specs.Prelude.{◌≡◌, ℕ, ◌+◌, ◌%◌, ◌^◌, ◌≤◌, ◌<◌, List, [], ◌∷◌, ◌++◌, length, All, Option, Some, None, IfSome, Result, Ok, Err, if◌then◌else◌}
+use Rattle.std.specs.Prelude.{◌≡◌, ℕ, ◌%◌, ◌≤◌, List, [], ◌∷◌, ◌++◌, length, All, Option, Some, None, IfSome, Result, Ok, Err, if◌then◌else◌}
 use Rattle.dv_defs.specs.declared.faults.LineKind.TheVariants.{Missing}
 use Rattle.dv_asm.specs.declared.draft.Item.{Item}
 use Rattle.dv_asm.specs.declared.draft.Catch.{Catch}
 use Rattle.dv_asm.specs.declared.draft.What.{What}
 use Rattle.dv_asm.specs.declared.draft.What.TheVariants as what
 use Rattle.dv_asm.specs.Draft.{DraftValue, IsFormed}
-use Rattle.dv_lex.specs.declared.line.Line.{Line}
 use Rattle.dv_lex.specs.declared.line.Stop.{Stop}
 use Rattle.dv_coderead.specs.declared.words.Frame.{Frame}
 use Rattle.dv_coderead.specs.declared.body_line.Opening.{Opening}
@@ -67,7 +66,3 @@ pub record Adds (old : Drafting) (n : ℕ) (says : BodyLine) (new : Drafting) : 
   pub context : new.context ≡ told_next old.context says
   pub items : (ts : List Told) → items_with new ts ≡ items_with old (record { number = n; says = says } ∷ ts)
   pub catches : (ts : List Told) → catches_with new ts ≡ catches_with old (record { number = n; says = says } ∷ ts)
-
--- a line has a number behind it
-abbrev pub HasNext : Line → Type 0
-HasNext l = l.number + 1 < 2 ^ 32

@@ -25,6 +25,11 @@ text_line text l = line_of (read_in text l)
 abbrev pub text_lines : List ℕ → List Line → List TextLine
 text_lines text ls = map (text_line text) ls
 
+-- lines are numbered one by one, the first by this number
+abbrev pub AreNumbered : ℕ → List Line → Type 0
+AreNumbered n [] = Unit {0}
+AreNumbered n (l ∷ ls) = (l.number ≡ n) × AreNumbered (n + 1) ls
+
 -- ---- what is passed over
 
 abbrev pub opens : Head → Bool

@@ -7,8 +7,7 @@ ghost use Rattle.dv_coderead.specs.Giving.{on_line, GivesLines};
 ghost use Rattle.dv_coderead.specs.Heads.{head_of};
 ghost use Rattle.dv_coderead.specs.Kept.{text_line, text_lines};
 ghost use Rattle.dv_coderead.specs.BodyLines.{body_line, HasWidth, IsLine, StandsIn};
-ghost use Rattle.dv_coderead.specs.Bodies.{argument_words, body_of, number_behind};
-ghost use Rattle.dv_coderead.specs.Drafting.{HasNext};
+ghost use Rattle.dv_coderead.specs.Bodies.{argument_words, body_of, number_behind, HasNext};
 
 use crate::Refusal;
 use crate::body_line::{BodyLine, Context, body_line};

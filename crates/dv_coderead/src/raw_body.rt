@@ -8,7 +8,7 @@ ghost use Rattle.dv_asm.specs.Pools.{no_pools};
 ghost use Rattle.dv_coderead.specs.Giving.{on_line, GivesLines};
 ghost use Rattle.dv_coderead.specs.Heads.{head_of};
 ghost use Rattle.dv_coderead.specs.Kept.{text_line, text_lines};
-ghost use Rattle.dv_coderead.specs.Drafting.{HasNext};
+ghost use Rattle.dv_coderead.specs.Bodies.{HasNext};
 ghost use Rattle.dv_coderead.specs.declared.raw_line.RawLine.{RawLine};
 ghost use Rattle.dv_coderead.specs.declared.raw_line.RawPlace.TheVariants as place;
 ghost use Rattle.dv_coderead.specs.RawLines.{raw_line, AreFew, IsRawLine};

@@ -15,6 +15,7 @@ use Rattle.dv_lex.specs.Numbers.{negated}
 use Rattle.dv_lex.specs.Laws.Numbers.{IsSigned}
 use Rattle.dv_print.specs.Draft.{element_count}
 use Rattle.dv_coderead.specs.Bodies.{element_bytes}
+use Rattle.dv_listing.proofs.OperandsRead.{negated_below, negated_least}
 
 abbrev pub IsByte : ℕ → Type 0
 IsByte b = b < 256
@@ -128,14 +129,6 @@ elements_again width (suc n) bytes is count small =
     (λ i. first i ++ rest i) ∙ take-append-drop width bytes
 
 -- ---- elements fit
-
-negated_below : (m n : ℕ) → negated m ≤ℤ pos n
-negated_below zero n = omega (arith, ints)
-negated_below (suc m) n = omega (arith, ints)
-
-negated_least : (m n : ℕ) → n < m → negated m ≤ℤ negsuc n
-negated_least zero n lt = absurd (omega arith)
-negated_least (suc m) n lt = omega (arith, ints)
 
 -- a number between so many on both sides
 record IsBetween (half : ℕ) (z : ℤ) : Type 0 where

@@ -9,8 +9,6 @@ pub mod ReadPieces
 pub mod ReadWords
 pub mod ReadParts
 pub mod ReadClass
-pub mod OpFormedParts
-pub mod OpFormed
 pub mod ReadOps
 pub mod OperandForms
 pub mod RegistersRead
@@ -34,7 +32,6 @@ pub mod DraftTold
 pub mod DraftCounts
 pub mod DraftText
 pub mod DraftAgain
-pub mod OpcodeHeads
 pub mod ReadBody
 pub mod ReadRaw
 pub mod SpelledUnits

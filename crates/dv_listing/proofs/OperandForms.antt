@@ -1,10 +1,10 @@
 -- What the form of an instruction tells of its registers and its literal.
 use Rattle.std.proofs.Common.{◌≡◌, ℕ, suc, ◌%◌, ◌^◌, ◌<◌, ◌≤◌, ◌&&◌, ◌||◌, ◌==◌, Bool, true, false, ℤ, pos, negsuc, neg_ℤ, List, [], ◌∷◌, drop, get_or, Option, Some, None, option_map, IsSome, refl, sym, ap, subst, arith}
-use Rattle.std.specs.Prelude.{nat_eq, nat_le, nat_lt, int_rem, if◌then◌else◌}
+use Rattle.std.specs.Prelude.{nat_eq, nat_le, nat_lt, int_rem}
 use Rattle.std.proofs.lemmas.Bool.{and_parts, eqb-true, leb-true, ltb-true}
 use Rattle.dv_defs.specs.declared.code.Insn.{Insn}
 use Rattle.dv_defs.specs.Formats as formats
-use Rattle.dv_defs.specs.Spelling.{all_zero, complement, fits_in, fits_signed, spelled, spelling, spelling_by, spelling_in, spelling_shifted}
+use Rattle.dv_defs.specs.Spelling.{all_zero, complement, fits_in, fits_signed, spelled, spelling, spelling_by, spelling_in}
 use Rattle.dv_defs.proofs.Spelled.{spelled_is}
 use Rattle.dv_defs.proofs.SpellingFormats.{begins}
 use Rattle.dv_optable.specs.declared.format.Format.{Format}
@@ -17,6 +17,8 @@ use Rattle.dv_coderead.specs.Operands.{literal_by, registers_in}
 use Rattle.dv_coderead.specs.declared.shape.Literal.{Literal}
 use Rattle.dv_coderead.specs.declared.shape.Registers.{Registers}
 use Rattle.dv_coderead.specs.declared.shape.Registers.TheVariants as registers
+use Rattle.dv_coderead.proofs.FormedParts.{IsValue, is_range}
+use Rattle.dv_coderead.proofs.Formed.{high_literal, high_spelling}
 
 -- ---- the parts of a form
 
@@ -25,16 +27,6 @@ abbrev pub Counts : Registers → ℕ → Type 0
 Counts (registers.Each n) count = count ≡ n
 Counts registers.Braces count = count ≤ 5
 Counts registers.Neighbours count = count ≤ 255
-
-abbrev pub is_range : Registers → Bool
-is_range (registers.Each n) = false
-is_range registers.Braces = false
-is_range registers.Neighbours = true
-
--- a literal that its bits hold, whose last bits are 0; or 0 where there is none
-abbrev pub IsValue : Option Literal → ℤ → Type 0
-IsValue None z = z ≡ pos 0
-IsValue (Some l) z = (fits_signed l.bits z ≡ true) × (int_rem z (pos (2 ^ l.zeros)) ≡ pos 0)
 
 pub record IsShaped (o : Option Format) (i : Insn) : Type 0 where
   pub count : Counts (registers_in o) i.regs.count
@@ -102,13 +94,6 @@ last_48_zero (pos n) fits none = ap pos (eqb-true _ _ none)
 last_48_zero (negsuc n) fits none =
     let e : suc n % 2 ^ 48 ≡ 0 = omega (arith, eqb-true _ _ none, ltb-true n (2 ^ 63) fits) in
     ap (λ k. neg_ℤ (pos k)) e
-
--- the literal of 21h, by whether the opcode is that of const/high16
-abbrev high_literal : Bool → Option Literal
-high_literal narrow = if narrow then Some (record { bits = 32; zeros = 16 }) else Some (record { bits = 64; zeros = 48 })
-
-abbrev high_spelling : Bool → Insn → Option (List ℕ)
-high_spelling narrow i = if narrow then spelling_shifted 16 i else spelling_shifted 48 i
 
 high : (narrow : Bool) (i : Insn) → IsSome (high_spelling narrow (blank i)) → (i.regs.count ≡ 1) × (i.regs.range ≡ false) × IsValue (high_literal narrow) i.lit
 high true i is =

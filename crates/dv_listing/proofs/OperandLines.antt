@@ -24,13 +24,14 @@ use Rattle.dv_print.specs.Operands.{form_in, name_of, register_text, registers_o
 use Rattle.dv_coderead.specs.Pieces.{Piece, AWord, AMark}
 use Rattle.dv_coderead.specs.declared.shape.Literal.{Literal}
 use Rattle.dv_coderead.specs.Operands.{literal_by, registers_in}
+use Rattle.dv_coderead.proofs.FormedParts.{IsValue, is_range}
 use Rattle.dv_listing.specs.Printed.{HasPieces}
 use Rattle.dv_listing.specs.Listable.{IsEntryText, IsLabelText, IsListedOp}
 use Rattle.dv_listing.specs.OperandPieces.{comma_before, braces_pieces, entry_pieces, insn_pieces, label_pieces, listed_pieces, neighbours_pieces, op_pieces, operand_pieces, register_pieces, registers_pieces}
 use Rattle.dv_listing.proofs.OpcodeNames.{name_text, name_word}
-use Rattle.dv_listing.proofs.OperandForms.{IsValue, form_told, is_range}
+use Rattle.dv_listing.proofs.OperandForms.{form_told}
 use Rattle.dv_listing.proofs.OperandsRead.{IsShort, fits_is_small, literal_short}
-use Rattle.dv_listing.proofs.Pieces.{IsFront, blank_ends, blank_front, brace_is, comma_is, end_brace_is, front_append, front_line, mark_ends, mark_front, no_front, string_front, word_front}
+use Rattle.dv_listing.proofs.Pieces.{IsFront, blank_ends, blank_front, brace_is, comma_is, end_brace_is, front_append, front_line, mark_ends, mark_front, no_front, string_front, word_front, more_text, more_ends}
 use Rattle.dv_listing.proofs.RegistersRead.{IsRegister, all_take}
 use Rattle.dv_listing.proofs.Words.{IsWordText, constant, field_ref_text, method_ref_text, number_word, register_word, signed_word, type_text, label_text as label_word_text}
 
@@ -49,27 +50,20 @@ fronts_append [] ys (p ∷ ps) qs a b = absurd a
 fronts_append (x ∷ xs) ys [] qs a b = absurd a
 fronts_append (x ∷ xs) ys (p ∷ ps) qs a b = (a.0, fronts_append xs ys ps qs a.1 b)
 
-abbrev behind_text : List (List ℕ) → List ℕ
-behind_text xs = flat_map (λ y. codes ", " ++ y) xs
-
-behind_ends : (xs : List (List ℕ)) → begins_plain (behind_text xs) ≡ false
-behind_ends [] = refl
-behind_ends (x ∷ xs) = mark_ends 44 (32 ∷ (x ++ behind_text xs)) comma_is
-
-behind_front : (xs : List (List ℕ)) (ps : List (List Piece)) → AreFronts xs ps → IsFront (behind_text xs) (flat_map comma_before ps)
+behind_front : (xs : List (List ℕ)) (ps : List (List Piece)) → AreFronts xs ps → IsFront (more_text xs) (flat_map comma_before ps)
 behind_front [] [] are = no_front
 behind_front [] (p ∷ ps) are = absurd are
 behind_front (x ∷ xs) [] are = absurd are
 behind_front (x ∷ xs) (p ∷ ps) are =
-    mark_front 44 (32 ∷ (x ++ behind_text xs)) (p ++ flat_map comma_before ps) comma_is
-    (blank_front (x ++ behind_text xs) (p ++ flat_map comma_before ps)
-    (front_append x (behind_text xs) p (flat_map comma_before ps) (behind_ends xs) are.0 (behind_front xs ps are.1)))
+    mark_front 44 (32 ∷ (x ++ more_text xs)) (p ++ flat_map comma_before ps) comma_is
+    (blank_front (x ++ more_text xs) (p ++ flat_map comma_before ps)
+    (front_append x (more_text xs) p (flat_map comma_before ps) (more_ends xs) are.0 (behind_front xs ps are.1)))
 
 pub listed_front : (xs : List (List ℕ)) (ps : List (List Piece)) → AreFronts xs ps → IsFront (listed xs) (listed_pieces ps)
 listed_front [] [] are = no_front
 listed_front [] (p ∷ ps) are = absurd are
 listed_front (x ∷ xs) [] are = absurd are
-listed_front (x ∷ xs) (p ∷ ps) are = front_append x (behind_text xs) p (flat_map comma_before ps) (behind_ends xs) are.0 (behind_front xs ps are.1)
+listed_front (x ∷ xs) (p ∷ ps) are = front_append x (more_text xs) p (flat_map comma_before ps) (more_ends xs) are.0 (behind_front xs ps are.1)
 
 operands_front : (xs : List (List ℕ)) (ps : List (List Piece)) → AreFronts xs ps → IsFront (operands_text xs) (listed_pieces ps)
 operands_front [] [] are = no_front

@@ -1,16 +1,14 @@
 -- The operands of an instruction are read from their pieces.
-use Rattle.std.proofs.Common.{◌≡◌, ℕ, zero, suc, ◌-◌, ◌^◌, ◌<◌, ◌≤◌, ◌==◌, ◌&&◌, not, Bool, true, false, ℤ, pos, negsuc, List, [], ◌∷◌, ◌++◌, Option, Some, None, Result, Ok, is_some, option_map, IfSome, refl, sym, ap, ◌∙◌, subst, arith, pow_mono}
+use Rattle.std.proofs.Common.{◌≡◌, ℕ, zero, suc, ◌-◌, ◌^◌, ◌<◌, ◌≤◌, ◌==◌, ◌&&◌, not, Bool, true, false, ℤ, pos, negsuc, List, [], ◌∷◌, ◌++◌, Option, Some, None, Ok, is_some, option_map, IfSome, refl, sym, ap, ◌∙◌, subst, arith, pow_mono}
 use Rattle.std.specs.Prelude.{◌≤ℤ◌, codes, int_rem, unsigned_abs, if◌then◌else◌}
 use Rattle.std.specs.Fmt.{signed_decimal}
 use Rattle.std.specs.Ordering.{int_eq}
 use Rattle.std.specs.List.{flat_map}
-use Rattle.std.proofs.lemmas.Bool.{agree_below_at, cond-true, ltb-true}
+use Rattle.std.proofs.lemmas.Bool.{cond-true, ltb-true}
 use Rattle.std.proofs.lemmas.Int.{ints}
 use Rattle.std.proofs.lemmas.Bool.Decides.{Decides-int_eq}
 use Rattle.dv_defs.specs.declared.code.PoolKind.{PoolKind}
 use Rattle.dv_defs.specs.declared.code.PoolKind.TheVariants as pool_kind
-use Rattle.dv_defs.specs.declared.faults.LineKind.{LineKind}
-use Rattle.dv_defs.specs.Formats as formats
 use Rattle.dv_defs.specs.Formats.{has_index, has_offset}
 use Rattle.dv_defs.specs.Families.{pool_at}
 use Rattle.dv_defs.specs.Spelling.{fits_signed}
@@ -31,14 +29,16 @@ use Rattle.dv_print.specs.declared.formats.Form.{Form}
 use Rattle.dv_print.specs.Operands.{form_in, form_of, has_literal, is_literal_format, is_wide, literal_text, label_text}
 use Rattle.dv_coderead.specs.declared.shape.Literal.{Literal}
 use Rattle.dv_coderead.specs.declared.words.Frame.{Frame}
-use Rattle.dv_coderead.specs.Giving.{◌>>=◌}
 use Rattle.dv_coderead.specs.Pieces.{Piece, AWord, AMark, AString}
 use Rattle.dv_coderead.specs.Words.{label_in, literal_in}
 use Rattle.dv_coderead.specs.Operands.{and_behind, as_entry, entry_at, entry_in, has_label, is_first, label_at, literal_at, literal_by, operands_in, registers_at, registers_in, some_label, value_in, with_zeros}
 use Rattle.dv_coderead.specs.Laws.{TypesAreRead, FieldsAreRead, MethodsAreRead}
+use Rattle.dv_coderead.proofs.Formed.{labels_agree, pools_agree}
+use Rattle.dv_coderead.proofs.Readings.{reads_next}
+use Rattle.dv_coderead.proofs.FormedParts.{IsValue}
 use Rattle.dv_listing.specs.Listable.{IsEntryText, IsLabelText, IsListedOp}
 use Rattle.dv_listing.specs.OperandPieces.{comma_before, entry_pieces, label_pieces, literal_pieces, listed_pieces, op_pieces, registers_pieces}
-use Rattle.dv_listing.proofs.OperandForms.{IsValue, form_told}
+use Rattle.dv_listing.proofs.OperandForms.{form_told}
 use Rattle.dv_listing.proofs.RegistersRead.{Agrees, pieces_behind, registers_read}
 use Rattle.dv_listing.proofs.Words.{label_read, literal_read, plain_literal_read}
 
@@ -76,20 +76,6 @@ entry_behind (Some F20t) is = absurd (cc)
 entry_behind (Some F30t) is = absurd (cc)
 entry_behind (Some f) is = refl
 
--- the formats with a label are those with an offset, and the opcodes with a pool are those whose format has an index
-labels_agree : (o : Option Format) → has_label o ≡ has_offset (option_map standard o)
-labels_agree None = refl
-labels_agree (Some F10t) = refl
-labels_agree (Some f) = refl
-
-pools_agree : (op : ℕ) → op < 256 → is_some (pool_at op) ≡ has_index (formats.format_at op)
-unfolding pool_at formats.format_at
-pools_agree op small = agree_below_at (λ n. is_some (pool_at n)) (λ n. has_index (formats.format_at n)) 256 op refl small
-
--- one reading, and another that goes by what it gave
-reads_next : {X Y : Type 0} (read : Result X LineKind) (next : X → Result Y LineKind) (x : X) (y : Y) → read ≡ Ok x → next x ≡ Ok y → (read >>= next) ≡ Ok y
-reads_next read next x y same is = ap (λ r. r >>= next) same ∙ is
-
 -- ---- a literal
 
 -- a literal of no more than 64 bits
@@ -119,11 +105,11 @@ unfolding literal_at
 literal_none z ps e = ap (λ x. Ok (x, ps)) (sym e)
 
 -- what so many bits hold
-negated_below : (m n : ℕ) → negated m ≤ℤ pos n
+pub negated_below : (m n : ℕ) → negated m ≤ℤ pos n
 negated_below zero n = omega (arith, ints)
 negated_below (suc m) n = omega (arith, ints)
 
-negated_least : (m n : ℕ) → n < m → negated m ≤ℤ negsuc n
+pub negated_least : (m n : ℕ) → n < m → negated m ≤ℤ negsuc n
 negated_least zero n lt = absurd (omega arith)
 negated_least (suc m) n lt = omega (arith, ints)
 

@@ -237,10 +237,10 @@ abbrev pub with_commas : List (List Piece) → List Piece
 with_commas [] = []
 with_commas (ps ∷ pss) = ps ++ behind_commas pss
 
-abbrev more_text : List (List ℕ) → List ℕ
+abbrev pub more_text : List (List ℕ) → List ℕ
 more_text xs = flat_map (λ y. codes ", " ++ y) xs
 
-more_ends : (xs : List (List ℕ)) → begins_plain (more_text xs) ≡ false
+pub more_ends : (xs : List (List ℕ)) → begins_plain (more_text xs) ≡ false
 unfolding class_of
 more_ends [] = refl
 more_ends (x ∷ xs) = refl

@@ -6,8 +6,7 @@ use Rattle.std.specs.List.{All}
 use Rattle.std.specs.Str.{IsUtf8}
 use Rattle.std.proofs.Math.Nat.{add-mod_left, zero-mod}
 use Rattle.std.proofs.lemmas.Bool.{and_from, cond_both, leb-true}
-use Rattle.std.proofs.lemmas.Bool.Decides.{nat_tests}
-use Rattle.std.proofs.lemmas.List.{length-append, length-take-le}
+use Rattle.std.proofs.lemmas.List.{length-append}
 use Rattle.std.proofs.lemmas.List.Elements.{All-nil, All-cons, All-append, All-head, All-tail, All-take}
 use Rattle.dv_defs.specs.declared.faults.LineKind.{LineKind}
 use Rattle.dv_defs.specs.declared.names.Ty.{Ty}
@@ -47,7 +46,8 @@ use Rattle.dv_coderead.specs.Words.{label_in, number_in}
 use Rattle.dv_listing.specs.DraftListable.{AreNameTexts, IsClassText, IsKindText, IsListedCatch, IsListedDraft, IsListedItem, IsListedWhat}
 use Rattle.dv_listing.specs.Listable.{IsListedOp, IsNameText}
 use Rattle.dv_listing.specs.ReadLaws.{AreLineTexts, ArePieceTexts, IsLineText}
-use Rattle.dv_listing.proofs.OpcodeHeads.{head_named}
+use Rattle.dv_coderead.proofs.Opcodes.{head_named}
+use Rattle.dv_coderead.proofs.Adding.{element_length}
 use Rattle.dv_listing.proofs.ReadOps.{operands_listed}
 use Rattle.dv_listing.proofs.ReadParts.{behind_text, behind_texts, dots_leave, either, mark_leaves, of_alone, of_word}
 use Rattle.dv_listing.proofs.ReadWords.{IsTypeOf, after_such, class_listed, label_listed, weaker_ok}
@@ -321,12 +321,6 @@ byte_small (suc i) x = let q = x / 256 ^ suc i in omega arith
 bytes_small : (i k x : ℕ) → All IsByte (bytes_low_first i k x)
 bytes_small i zero x = All-nil IsByte
 bytes_small i (suc k) x = All-cons IsByte (byte_at i x) (bytes_low_first (suc i) k x) (byte_small i x) (bytes_small (suc i) k x)
-
-few_bytes : (width : ℕ) (z : ℤ) → IsTrue (is_width width) → width ≤ length (to_le_bytes w64 (bits64 z))
-few_bytes width z has = grind (arith, nat_tests)
-
-element_length : (width : ℕ) (z : ℤ) → IsTrue (is_width width) → length (element_bytes width z) ≡ width
-element_length width z has = length-take-le width (to_le_bytes w64 (bits64 z)) (few_bytes width z has)
 
 -- whole elements, as bytes
 record AreElements (width : ℕ) (bytes : List ℕ) : Type 0 where

@@ -1,8 +1,8 @@
 -- What the lines of a class say can be listed.
-use Rattle.std.proofs.Common.{◌≡◌, ℕ, zero, suc, ◌+◌, ◌/◌, ◌%◌, ◌^◌, ◌<◌, ◌==◌, ◌&&◌, Bool, true, false, nat_eq, List, [], ◌∷◌, ◌++◌, replicate, Option, Some, None, Result, Ok, Err, IfOk, IsTrue, refl, sym, ap, subst, ◌∙◌, arith, lit<}
+use Rattle.std.proofs.Common.{◌≡◌, ℕ, zero, suc, ◌<◌, ◌==◌, ◌&&◌, Bool, true, false, List, [], ◌∷◌, ◌++◌, replicate, Option, Some, None, Result, Ok, Err, IfOk, IsTrue, refl, sym, ap, subst, ◌∙◌, arith, lit<}
 use Rattle.std.specs.Prelude.{pos, bytes_eq, codes}
 use Rattle.std.specs.Str.{IsUtf8}
-use Rattle.std.proofs.lemmas.Bool.{and_from, and_parts, cond_both, eqb-false}
+use Rattle.std.proofs.lemmas.Bool.{and_from, and_parts, cond_both}
 use Rattle.std.proofs.lemmas.List.Elements.{All-head}
 use Rattle.dv_defs.specs.declared.class.Init.{Init}
 use Rattle.dv_defs.specs.declared.class.Init.TheVariants as init
@@ -13,7 +13,7 @@ use Rattle.dv_defs.specs.declared.names.Base.{Base}
 use Rattle.dv_defs.specs.declared.names.Base.TheVariants as base
 use Rattle.dv_defs.specs.declared.names.Ty.{Ty}
 use Rattle.dv_defs.specs.Field.{may_stand, value_fits}
-use Rattle.dv_defs.specs.Flags.{bit_of, has_flag}
+use Rattle.dv_defs.specs.Flags.{has_flag}
 use Rattle.dv_names.specs.Descriptors.{is_name}
 use Rattle.dv_lex.proofs.Grammar.Utf8.{before_ascii}
 use Rattle.dv_lex.specs.Numbers.{Number, signed}
@@ -32,6 +32,7 @@ use Rattle.dv_classread.specs.declared.class_line.ClassLine.TheVariants as line
 use Rattle.dv_classread.specs.declared.class_line.Standing.{Standing}
 use Rattle.dv_classread.specs.declared.class_line.Standing.TheVariants as standing
 use Rattle.dv_classread.specs.ClassLines.{and_bit, boolean_value, by_directive, by_head, class_head_line, class_line, class_name, class_name_line, field_line, fitting_value, flag_of, flags_at, init_line, inside_line, is_boolean, is_boolean_base, is_false, is_true, lacks_super, name_and_proto, name_and_type, name_of, number_value, said, signature_line, superclass_line, value_alone, value_in, with_flag, word_value, NameAndType}
+use Rattle.dv_classread.proofs.Flags.{bit_free}
 use Rattle.dv_listing.specs.Listable.{IsNameText, IsTypeText}
 use Rattle.dv_listing.specs.ClassPieces.{HasKnownFlags, IsClassText, IsInitText, IsListedField}
 use Rattle.dv_listing.specs.ReadLaws.{IsPieceText, ArePieceTexts, IsClassHeadText, IsClassLineText, IsSignatureText}
@@ -39,32 +40,6 @@ use Rattle.dv_listing.proofs.ReadWords.{IsCutAt, IsProtoOf, IsTypeOf, after_any,
 use Rattle.dv_listing.proofs.ReadParts.{GivesPart, behind_text, behind_texts, either, of_alone, of_word}
 
 -- ---- flags
-
--- what is no odd number is even
-even_by : (n : ℕ) → nat_eq (n % 2) 1 ≡ false → n % 2 ≡ 0
-even_by n out = let other = eqb-false (n % 2) 1 out in omega arith
-
--- a flag that is not among flags has its bit free
-bit_free : (f : Flag) (flags : ℕ) → flags < 2 ^ 19 → has_flag flags f ≡ false → flags + 2 ^ bit_of f < 2 ^ 19
-bit_free flag.Public flags small out = let even = even_by (flags / 2 ^ 0) out in omega arith
-bit_free flag.Private flags small out = let even = even_by (flags / 2 ^ 1) out in omega arith
-bit_free flag.Protected flags small out = let even = even_by (flags / 2 ^ 2) out in omega arith
-bit_free flag.Static flags small out = let even = even_by (flags / 2 ^ 3) out in omega arith
-bit_free flag.Final flags small out = let even = even_by (flags / 2 ^ 4) out in omega arith
-bit_free flag.Synchronized flags small out = let even = even_by (flags / 2 ^ 5) out in omega arith
-bit_free flag.Volatile flags small out = let even = even_by (flags / 2 ^ 6) out in omega arith
-bit_free flag.Bridge flags small out = let even = even_by (flags / 2 ^ 7) out in omega arith
-bit_free flag.Transient flags small out = let even = even_by (flags / 2 ^ 8) out in omega arith
-bit_free flag.Varargs flags small out = let even = even_by (flags / 2 ^ 9) out in omega arith
-bit_free flag.Native flags small out = let even = even_by (flags / 2 ^ 10) out in omega arith
-bit_free flag.Interface flags small out = let even = even_by (flags / 2 ^ 11) out in omega arith
-bit_free flag.Abstract flags small out = let even = even_by (flags / 2 ^ 12) out in omega arith
-bit_free flag.Strictfp flags small out = let even = even_by (flags / 2 ^ 13) out in omega arith
-bit_free flag.Synthetic flags small out = let even = even_by (flags / 2 ^ 14) out in omega arith
-bit_free flag.Annotation flags small out = let even = even_by (flags / 2 ^ 15) out in omega arith
-bit_free flag.Enum flags small out = let even = even_by (flags / 2 ^ 16) out in omega arith
-bit_free flag.Constructor flags small out = let even = even_by (flags / 2 ^ 17) out in omega arith
-bit_free flag.DeclaredSynchronized flags small out = let even = even_by (flags / 2 ^ 18) out in omega arith
 
 flag_listed : (flags : ℕ) (o : Option Flag) (told more : Part ℕ) → GivesPart HasKnownFlags told
     → ((f : Flag) → o ≡ Some f → has_flag flags f ≡ false → GivesPart HasKnownFlags more) → GivesPart HasKnownFlags (with_flag flags o told more)

@@ -28,7 +28,7 @@ use Rattle.dv_coderead.specs.References.{field_in, method_in, type_in}
 use Rattle.dv_coderead.specs.Words.{label_in, register_in}
 use Rattle.dv_listing.specs.Listable.{AreRegisters, IsEntryText, IsLabelText, IsListedOp, IsNameText, IsTypeText, IsFieldText, IsMethodText}
 use Rattle.dv_listing.specs.ReadLaws.{ArePieceTexts, IsPieceText}
-use Rattle.dv_listing.proofs.OpFormed.{operands_are_formed}
+use Rattle.dv_coderead.proofs.Formed.{operands_are_formed}
 use Rattle.dv_listing.proofs.ReadParts.{GivesPart, LeavesTexts, behind_text, behind_texts, comma_leaves, dots_leave, either, mark_leaves, of_word, with_rest}
 use Rattle.dv_listing.proofs.ReadWords.{IsRegister, after_any, after_such, field_word_text, label_listed, method_word_text, register_listed, type_word_text}
 
@@ -225,7 +225,7 @@ label_part_listed true first ps are =
     some_listed (word_at label_in rest) (of_word IsNameText label_in label_listed rest left))
 label_part_listed false first ps are = (tt, are)
 
-entry_made : {A : Type 0} (P : A → Type 0) (f : A → PoolRef) (read : Result A LineKind) → ((x : A) → P x → IsEntryText (f x)) → IfOk read P → IfOk (as_entry f read) IsEntryText
+pub entry_made : {A : Type 0} (P : A → Type 0) (f : A → PoolRef) (read : Result A LineKind) → ((x : A) → P x → IsEntryText (f x)) → IfOk read P → IfOk (as_entry f read) IsEntryText
 entry_made P f (Ok x) goes is = goes x is
 entry_made P f (Err k) goes is = tt
 

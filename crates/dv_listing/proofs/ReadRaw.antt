@@ -1,5 +1,5 @@
 -- The raw body that the lines of a method give can be listed.
-use Rattle.std.proofs.Common.{◌≡◌, ℕ, ◌+◌, ◌*◌, ◌^◌, ◌<◌, ◌≤◌, ◌==◌, ◌&&◌, Bool, true, false, cond, ℤ, pos, negsuc, nat_eq, List, [], ◌∷◌, ◌++◌, length, position, Option, Some, None, is_some, IfSome, Result, Ok, Err, IfOk, refl, sym, ap, subst, ◌∙◌, arith}
+use Rattle.std.proofs.Common.{◌≡◌, ℕ, ◌+◌, ◌^◌, ◌<◌, ◌≤◌, ◌==◌, ◌&&◌, Bool, true, false, cond, ℤ, pos, negsuc, nat_eq, List, [], ◌∷◌, ◌++◌, length, position, Option, Some, None, is_some, IfSome, Result, Ok, Err, IfOk, refl, sym, ap, subst, ◌∙◌, arith}
 use Rattle.std.specs.Prelude.{bytes_eq, codes, nat_le, nat_lt, not}
 use Rattle.std.specs.List.{All, list_all, position_or_len}
 use Rattle.std.specs.Str.{IsUtf8}
@@ -22,7 +22,6 @@ use Rattle.dv_asm.specs.declared.pools.Pools.{Pools}
 use Rattle.dv_asm.specs.Pools.{chars_in, field_eq, field_in, method_eq, method_in, no_pools, type_in, with_entries, with_entry, with_entry_if_any, with_ref}
 use Rattle.dv_lex.specs.declared.line.Stop.{Stop}
 use Rattle.dv_lex.specs.Bytes.{is_hexadecimal}
-use Rattle.dv_lex.specs.Literals.{digit_value}
 use Rattle.dv_lex.specs.Numbers.{value_from}
 use Rattle.dv_lex.proofs.Literals.Units.{digit_small}
 use Rattle.dv_coderead.specs.declared.head.Block.TheVariants.{Units}
@@ -38,7 +37,7 @@ use Rattle.dv_coderead.specs.BodyLines.{count_in}
 use Rattle.dv_coderead.specs.Heads.{head_of}
 use Rattle.dv_coderead.specs.Kept.{TextLine}
 use Rattle.dv_coderead.specs.Laws.{TypesAreRead, PrototypesAreRead}
-use Rattle.dv_coderead.specs.Operands.{alone, as_entry, behind, ended, word_at}
+use Rattle.dv_coderead.specs.Operands.{alone, behind, ended, word_at}
 use Rattle.dv_coderead.specs.Pieces.{Piece, AWord, AMark, AString, ACharacter}
 use Rattle.dv_coderead.specs.RawBodies.{and_entry, and_handler, and_raw, and_ref, and_units, count_by, has_range, is_behind, kind_caught, place_behind, place_next, place_of_kind, raw_body, raw_body_from, raw_finished, raw_handler, raw_handlers, raw_refs, raw_registers, raw_told_by, raw_tries, raw_units, with_caught, with_refs}
 use Rattle.dv_coderead.specs.RawLines.{AreFew, address_from, address_in, among_units, and_unit, begins_with_unit, by_arrow, caught_in, entry_by_shape, entry_here, entry_line, few_units, is_unit, last_line, member_in, pools_line, raw_handler_line, raw_line, raw_line_in, raw_registers_line, raw_said, some_type, start_line, units_in, units_line}
@@ -51,12 +50,10 @@ use Rattle.dv_listing.proofs.RawRead.{IsRawHandler}
 use Rattle.dv_listing.proofs.ReadBody.{IsCount, any_ok, count_in_few, of_value, line_then, then_listed}
 use Rattle.dv_listing.proofs.ReadParts.{GivesPart, behind_text, behind_texts, either, of_alone, of_word, with_rest}
 use Rattle.dv_listing.proofs.ReadWords.{after_such, field_word_text, method_word_text, type_word_text}
+use Rattle.dv_listing.proofs.Words.{four_value_from}
+use Rattle.dv_listing.proofs.ReadOps.{entry_made}
 
 -- ---- entries
-
-entry_made : {A : Type 0} (P : A → Type 0) (f : A → PoolRef) (read : Result A LineKind) → ((x : A) → P x → IsEntryText (f x)) → IfOk read P → IfOk (as_entry f read) IsEntryText
-entry_made P f (Ok x) goes is = goes x is
-entry_made P f (Err k) goes is = tt
 
 module _ (types : TypesAreRead) (protos : PrototypesAreRead) where
   member_listed : (w member : List ℕ) → IsUtf8 w → IfOk (member_in w member) IsEntryText
@@ -85,10 +82,6 @@ module _ (types : TypesAreRead) (protos : PrototypesAreRead) where
   entry_listed ps are = of_alone IsEntryText (entry_here ps) (here_listed ps are)
 
 -- ---- units
-
-four_value_from : (a b c d : ℕ) → value_from 16 0 (a ∷ b ∷ c ∷ d ∷ []) ≡ digit_value a * 4096 + digit_value b * 256 + digit_value c * 16 + digit_value d
-unfolding value_from
-four_value_from a b c d = omega arith
 
 unit_small : (w : List ℕ) → is_unit w ≡ true → value_from 16 0 w < 2 ^ 16
 unit_small w e = let p = and_parts (length w == 4) (list_all is_hexadecimal w) e in by_size w (eqb-true (length w) 4 p.0) p.1

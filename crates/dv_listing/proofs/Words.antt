@@ -1,16 +1,15 @@
 -- Words as they are printed, and what they are read as.
-use Rattle.std.proofs.Common.{◌≡◌, ℕ, zero, suc, ◌+◌, ◌-◌, ◌*◌, ◌/◌, ◌%◌, ◌^◌, ◌<◌, ◌≤◌, ◌==◌, Bool, true, false, ◌&&◌, List, [], ◌∷◌, ◌++◌, length, take, drop, get_or, Option, Some, None, Ok, inl, inr, refl, sym, ap, ◌∙◌, subst, arith, lit<, append-nil, length-append}
-use Rattle.std.specs.Prelude.{ℤ, pos, negsuc, ◌≤ℤ◌, unsigned_abs, not, nat_lt, slice_index, if◌then◌else◌, IsTrue}
+use Rattle.std.proofs.Common.{◌≡◌, ℕ, zero, suc, ◌+◌, ◌-◌, ◌*◌, ◌/◌, ◌%◌, ◌^◌, ◌<◌, ◌≤◌, ◌==◌, Bool, true, false, ◌&&◌, List, [], ◌∷◌, ◌++◌, length, drop, Option, Some, None, Ok, inl, inr, refl, ap, ◌∙◌, subst, arith, lit<, append-nil, length-append}
+use Rattle.std.specs.Prelude.{ℤ, pos, negsuc, ◌≤ℤ◌, unsigned_abs, not, nat_lt, if◌then◌else◌, IsTrue}
 use Rattle.std.specs.Fmt.{decimal, signed_decimal}
 use Rattle.std.specs.List.{list_all}
 use Rattle.std.specs.Str.{IsUtf8}
-use Rattle.std.proofs.Math.Seq.{take-append_seam}
-use Rattle.std.proofs.lemmas.Bool.{and_from, and_parts, and_right, or_left, cases_Bool, cond-true, cond-false, lt-ltb, ltb-true, true≢false}
+use Rattle.std.proofs.lemmas.Bool.{and_from, and_parts, and_right, or_left, cases_Bool, cond-true, lt-ltb, ltb-true}
 use Rattle.std.proofs.lemmas.Bool.Decides.{nat_tests}
 use Rattle.std.proofs.lemmas.Fmt.{decimal_by_steps_wide}
 use Rattle.std.proofs.lemmas.Int.{ints}
-use Rattle.std.proofs.lemmas.List.{drop_at, get_or_at}
-use Rattle.std.proofs.lemmas.List.Folds.{list_all-append, list_all_at}
+use Rattle.std.proofs.lemmas.List.{drop_at}
+use Rattle.std.proofs.lemmas.List.Folds.{list_all-append}
 use Rattle.std.proofs.lemmas.Str.{IsUtf8-nil, IsUtf8-append}
 use Rattle.dv_defs.specs.declared.names.Ty.{Ty}
 use Rattle.dv_defs.specs.declared.names.Proto.{Proto}
@@ -26,7 +25,8 @@ use Rattle.dv_lex.specs.Numbers.{Number, is_decimal, is_suffix, value_from, nega
 use Rattle.dv_lex.proofs.Grammar.Utf8.{before_ascii}
 use Rattle.dv_lex.proofs.Names.{name_word, label_word, type_word, proto_word, field_word, method_word}
 use Rattle.dv_coderead.specs.declared.words.Frame.{Frame}
-use Rattle.dv_coderead.specs.Words.{begins_with, decimal_in, digits_in, fitting, label_in, literal_in, number_in, number_of, register_in, register_of, unsigned_in, without_suffix}
+use Rattle.dv_coderead.specs.Words.{begins_with, decimal_in, digits_in, fitting, label_in, literal_in, number_in, number_of, register_in, register_of, unsigned_in}
+use Rattle.dv_coderead.proofs.Spelling.{found_by, is_based}
 use Rattle.dv_print.specs.Numbers.{address_text, label_name}
 use Rattle.dv_listing.specs.Listable.{IsNameText, IsTypeText, IsFieldText, IsMethodText}
 use Rattle.dv_listing.proofs.Strings.{digit_again}
@@ -114,7 +114,7 @@ hexadecimal_word n = simple_word (hexadecimal n) (lit< tt) (of_digits is_simple 
 pub hexadecimal_digits : (n : ℕ) → list_all is_hexadecimal (hexadecimal n) ≡ true
 hexadecimal_digits n = of_digits is_hexadecimal n digit_hexadecimal
 
-four_value_from : (a b c d : ℕ) → value_from 16 0 (a ∷ b ∷ c ∷ d ∷ []) ≡ digit_value a * 4096 + digit_value b * 256 + digit_value c * 16 + digit_value d
+pub four_value_from : (a b c d : ℕ) → value_from 16 0 (a ∷ b ∷ c ∷ d ∷ []) ≡ digit_value a * 4096 + digit_value b * 256 + digit_value c * 16 + digit_value d
 unfolding value_from
 four_value_from a b c d = omega arith
 
@@ -217,44 +217,6 @@ v_plain = refl
 pub register_word : (n : ℕ) → n < 65536 → IsWordText (118 ∷ decimal n)
 register_word n small = word_cons 118 (decimal n) v_plain (lit< tt) (decimal_word n (small_decimal n small))
 
--- ---- digits and a suffix
-
-abbrev ends_with_suffix : List ℕ → Bool
-ends_with_suffix r = nat_lt 0 (length r) && is_suffix (slice_index r (length r - 1) ∷ [])
-
--- no digit is a suffix
-no_mark : (b : ℕ) → is_decimal b ≡ true → is_suffix (b ∷ []) ≡ true → ⊥
-no_mark b d s = grind (arith, nat_tests)
-
-last_digit : (ds : List ℕ) (i : ℕ) → list_all is_decimal ds ≡ true → i < length ds → is_decimal (get_or ds i 0) ≡ true
-last_digit ds i d lt =
-    elim (cases_Bool (is_decimal (get_or ds i 0))) [ inl is ↦ is | inr other ↦ absurd (true≢false (sym d ∙ list_all_at is_decimal ds i 0 lt other)) ]
-
--- digits don't end with a suffix
-no_suffix : (ds : List ℕ) → list_all is_decimal ds ≡ true → ends_with_suffix ds ≡ false
-no_suffix ds d =
-    elim (cases_Bool (ends_with_suffix ds)) [
-      | inl is ↦
-          let p = and_parts (nat_lt 0 (length ds)) (is_suffix (slice_index ds (length ds - 1) ∷ [])) is in
-          let some : 0 < length ds = ltb-true 0 (length ds) p.0 in
-          absurd (no_mark (get_or ds (length ds - 1) 0) (last_digit ds (length ds - 1) d (omega arith)) p.1)
-      | inr other ↦ other
-    ]
-
--- behind digits a suffix is seen
-with_suffix : (ds : List ℕ) (b : ℕ) → is_suffix (b ∷ []) ≡ true → without_suffix (ds ++ b ∷ []) ≡ ds
-with_suffix ds b s =
-    let size : length (ds ++ b ∷ []) - 1 ≡ length ds = omega (arith, length-append ds (b ∷ [])) in
-    let some : nat_lt 0 (length (ds ++ b ∷ [])) ≡ true = lt-ltb 0 _ (omega (arith, length-append ds (b ∷ []))) in
-    let here : slice_index (ds ++ b ∷ []) (length (ds ++ b ∷ []) - 1) ≡ b = ap (λ n. slice_index (ds ++ b ∷ []) n) size ∙ get_or_at ds b [] 0 (length ds) refl in
-    let ends : ends_with_suffix (ds ++ b ∷ []) ≡ true = and_from _ _ some (ap (λ c. is_suffix (c ∷ [])) here ∙ s) in
-    cond-true (ends_with_suffix (ds ++ b ∷ [])) _ _ ends ∙ ap (λ n. take n (ds ++ b ∷ [])) size ∙ take-append_seam ds (b ∷ [])
-
-found_digits : (ds w : List ℕ) → list_all is_decimal ds ≡ true → is_suffix w ≡ true → without_suffix (ds ++ w) ≡ ds
-found_digits ds [] d s = ap without_suffix (append-nil ds) ∙ cond-false (ends_with_suffix ds) _ _ (no_suffix ds d)
-found_digits ds (b ∷ []) d s = with_suffix ds b s
-found_digits ds (b ∷ c ∷ cs) d s = absurd (cc)
-
 -- ---- a decimal number
 
 -- behind the first digit stands no x
@@ -270,9 +232,6 @@ no_x (b ∷ ds) w d s = let p = (and_parts (is_decimal b) (list_all is_decimal d
 abbrev decimal_number : Bool → List ℕ → List ℕ → Number
 decimal_number negative ds w = record { negative = negative; hexadecimal = false; digits = ds; suffix = w }
 
-abbrev based : List ℕ → Bool
-based u = begins_with 48 u && begins_with 120 (drop 1 u)
-
 abbrev by_digits : Bool → List ℕ → List ℕ → Option Number
 by_digits negative u digits =
     if nat_lt 0 (length digits) && list_all is_decimal digits then Some (decimal_number negative digits (drop (length digits) u)) else None
@@ -283,9 +242,9 @@ unsigned_read negative [] w some d s = absurd (omega arith)
 unsigned_read negative (b ∷ ds) w some d s =
     let u = b ∷ (ds ++ w) in
     let p = and_parts (is_decimal b) (list_all is_decimal ds) d in
-    let plain : based u ≡ false = and_right (b == 48) (begins_with 120 (ds ++ w)) (no_x ds w p.1 s) in
+    let plain : is_based u ≡ false = and_right (b == 48) (begins_with 120 (ds ++ w)) (no_x ds w p.1 s) in
     let test : (nat_lt 0 (length (b ∷ ds)) && list_all is_decimal (b ∷ ds)) ≡ true = and_from _ _ (lt-ltb 0 (length (b ∷ ds)) some) d in
-    ap (λ (h : Bool). digits_in negative h (if h then drop 2 u else u)) plain ∙ ap (by_digits negative u) (found_digits (b ∷ ds) w d s)
+    ap (λ (h : Bool). digits_in negative h (if h then drop 2 u else u)) plain ∙ ap (by_digits negative u) (found_by false (b ∷ ds) w d s)
     ∙ cond-true _ (Some (decimal_number negative (b ∷ ds) (drop (length (b ∷ ds)) u))) None test
     ∙ ap (λ l. Some (decimal_number negative (b ∷ ds) l)) (drop_at (b ∷ ds) w (length (b ∷ ds)) refl)
 

@@ -1,6 +1,6 @@
 -- Flags as they are printed, and read again.
 use Rattle.std.proofs.Common.{◌≡◌, ℕ, ◌+◌, ◌*◌, ◌/◌, ◌%◌, ◌^◌, ◌==◌, Bool, true, false, ◌&&◌, nat_eq, List, [], ◌∷◌, ◌++◌, length, Some, None, Ok, inl, inr, refl, sym, ap, ◌∙◌, subst, append_assoc, arith}
-use Rattle.std.specs.Prelude.{not, nat_lt, bytes_eq}
+use Rattle.std.specs.Prelude.{nat_lt, bytes_eq}
 use Rattle.std.specs.List.{flat_map, list_all}
 use Rattle.std.proofs.lemmas.Bool.{and_parts, cases_Bool, eqb-false, eqb-true, false_from_ne_true, true≢false}
 use Rattle.std.proofs.lemmas.Nat.{mod-pow-add, mod_below, pow_pos}
@@ -11,6 +11,7 @@ use Rattle.dv_defs.specs.declared.flags.Flag.TheVariants as flag
 use Rattle.dv_defs.specs.Flags.{bit_of, has_flag}
 use Rattle.dv_print.specs.Listing.{all_flags, flag_text, flag_word, flags_text}
 use Rattle.dv_coderead.specs.Pieces.{Piece, AWord}
+use Rattle.dv_coderead.proofs.Lacking.{lacks}
 use Rattle.dv_classread.specs.ClassLines.{flag_of, flags_at}
 use Rattle.dv_listing.specs.ClassPieces.{HasKnownFlags, flag_piece, flag_pieces}
 use Rattle.dv_listing.specs.Printed.{HasPieces}
@@ -83,10 +84,6 @@ no_flag w never =
       apart flag.Constructor,
       apart flag.DeclaredSynchronized,
     ) refl
-
--- a text without this byte
-abbrev pub lacks : ℕ → List ℕ → Bool
-lacks c w = list_all (λ b. not (b == c)) w
 
 -- no flag has a colon, a parenthesis or an L
 flag_lacks : (f : Flag) → (lacks 58 (flag_word f) ≡ true) × (lacks 40 (flag_word f) ≡ true) × (lacks 76 (flag_word f) ≡ true)

@@ -1,9 +1,9 @@
 -- What the printed lines of a class say.
-use Rattle.std.proofs.Common.{◌≡◌, ℕ, suc, ◌^◌, ◌<◌, ◌==◌, Bool, true, false, List, [], ◌∷◌, ◌++◌, length, Some, Ok, inl, inr, refl, sym, ap, ◌∙◌, append_assoc, arith, lit≤}
+use Rattle.std.proofs.Common.{◌≡◌, ℕ, suc, ◌^◌, ◌<◌, ◌==◌, Bool, true, false, List, [], ◌∷◌, ◌++◌, Some, Ok, refl, sym, ap, ◌∙◌, append_assoc, arith, lit≤}
 use Rattle.std.specs.Prelude.{ℤ, pos, negsuc, unsigned_abs, not, nat_lt, codes, bytes_eq, IsTrue}
 use Rattle.std.specs.Fmt.{decimal, signed_decimal}
 use Rattle.std.specs.List.{list_all}
-use Rattle.std.proofs.lemmas.Bool.{and_from, and_left, and_parts, and_right, cond-true, cond-false, eq-eqb, false_from_ne_true, not-true, not_from_true, or_cases, true≢false}
+use Rattle.std.proofs.lemmas.Bool.{and_from, and_left, and_parts, and_right, cond-true, cond-false, eq-eqb, false_from_ne_true, not_from_true, true≢false}
 use Rattle.std.proofs.lemmas.Bool.Decides.{nat_tests}
 use Rattle.std.proofs.lemmas.List.Folds.{list_all-append}
 use Rattle.std.proofs.lemmas.Slice.Eq.{bytes_eq-Decides}
@@ -15,7 +15,7 @@ use Rattle.dv_defs.specs.declared.names.Proto.{Proto}
 use Rattle.dv_defs.specs.declared.names.Ty.{Ty}
 use Rattle.dv_defs.specs.Field.{FieldValue, may_stand, value_fits}
 use Rattle.dv_defs.specs.Flags.{has_flag}
-use Rattle.dv_names.specs.Descriptors.{descriptor, prototype, is_name, is_name_byte, is_plain_name, is_special_name, IsClassName}
+use Rattle.dv_names.specs.Descriptors.{descriptor, prototype, is_name, IsClassName}
 use Rattle.dv_lex.specs.Numbers.{is_decimal}
 use Rattle.dv_coderead.specs.declared.head.Directive.TheVariants as directive
 use Rattle.dv_coderead.specs.declared.head.Head.TheVariants.{Directive}
@@ -24,13 +24,15 @@ use Rattle.dv_coderead.specs.Heads.{class_directive, directive_of, ended_by, hea
 use Rattle.dv_coderead.specs.Laws.{PrototypesAreRead, TypesAreRead}
 use Rattle.dv_coderead.specs.Operands.{and_behind, alone}
 use Rattle.dv_coderead.specs.Pieces.{Piece, AWord, AString}
-use Rattle.dv_coderead.specs.References.{class_in, cut_at, only_class, proto_in, type_in, with_byte}
+use Rattle.dv_coderead.specs.References.{class_in, cut_at, only_class, proto_in, type_in}
+use Rattle.dv_coderead.proofs.Cuts.{cut_lacking}
+use Rattle.dv_coderead.proofs.Lacking.{lacks, name_lacks}
 use Rattle.dv_classread.specs.declared.class_line.ClassLine.TheVariants as line
 use Rattle.dv_classread.specs.declared.class_line.Standing.TheVariants.{Inside}
 use Rattle.dv_classread.specs.ClassLines.{by_head, class_head_line, class_line, class_name, class_name_line, field_line, fitting_value, init_line, is_false, is_true, lacks_super, name_and_proto, name_and_type, name_of, number_value, said, signature_line, value_alone, value_in, word_value}
 use Rattle.dv_listing.specs.ClassPieces.{HasKnownFlags, IsClassText, IsListedField, IsListedSignature, class_pieces, field_pieces, flag_pieces, interface_pieces, method_pieces, superclass_pieces, value_pieces, ClassLinesAreRead, FieldLinesAreRead, InterfaceLinesAreRead, MethodEndsAreRead, MethodHeadersAreRead, SuperclassLinesAreRead}
 use Rattle.dv_listing.proofs.Words.{decimal_digits, signed_read}
-use Rattle.dv_listing.proofs.ClassPieces.Flags.{flags_read, lacks, no_flag_class, no_flag_colon, no_flag_parenthesis}
+use Rattle.dv_listing.proofs.ClassPieces.Flags.{flags_read, no_flag_class, no_flag_colon, no_flag_parenthesis}
 use Rattle.dv_listing.proofs.ClassPieces.Text.{class_type, number_small, stands_by}
 
 -- ---- heads
@@ -61,48 +63,15 @@ method_end_read = refl
 
 -- ---- texts that are cut
 
--- before the first such byte
-pub cut_lacking : (c : ℕ) (w rest : List ℕ) → lacks c w ≡ true → cut_at c (w ++ c ∷ rest) ≡ Some (w, rest)
-unfolding cut_at
-cut_lacking c [] rest none = cond-true (c == c) _ _ (eq-eqb c c refl)
-cut_lacking c (b ∷ w) rest none =
-    let p = and_parts (not (b == c)) (lacks c w) none in
-    cond-false (b == c) _ _ (not-true (b == c) p.0) ∙ ap (with_byte b) (cut_lacking c w rest p.1)
-
 -- a text with such a byte in it
 pub has_byte : (c : ℕ) (w rest : List ℕ) → lacks c (w ++ c ∷ rest) ≡ false
 has_byte c w rest = list_all-append (λ b. not (b == c)) w (c ∷ rest) ∙ and_right (lacks c w) _ (and_left (not (c == c)) (lacks c rest) (not_from_true (c == c) (eq-eqb c c refl)))
 
--- a name has no mark
-bytes_lack : (c : ℕ) → ((b : ℕ) → is_name_byte b ≡ true → not (b == c) ≡ true) → (w : List ℕ) → list_all is_name_byte w ≡ true → lacks c w ≡ true
-bytes_lack c each [] e = refl
-bytes_lack c each (b ∷ w) e = let p = and_parts (is_name_byte b) (list_all is_name_byte w) e in and_from _ _ (each b p.0) (bytes_lack c each w p.1)
-
-same_bytes : (w v : List ℕ) → bytes_eq w v ≡ true → w ≡ v
-same_bytes w v e = (bytes_eq-Decides w v).0 e
-
-name_lacks : (c : ℕ) → ((b : ℕ) → is_name_byte b ≡ true → not (b == c) ≡ true) → lacks c (codes "<init>") ≡ true → lacks c (codes "<clinit>") ≡ true
-    → (name : List ℕ) → is_name name ≡ true → lacks c name ≡ true
-name_lacks c each first second name e =
-    elim (or_cases (is_plain_name name) (is_special_name name) e) [
-      | inl p ↦ bytes_lack c each name (and_parts (nat_lt 0 (length name)) (list_all is_name_byte name) p).1
-      | inr s ↦ elim (or_cases (bytes_eq name (codes "<init>")) (bytes_eq name (codes "<clinit>")) s) [
-        | inl i ↦ ap (lacks c) (same_bytes name (codes "<init>") i) ∙ first
-        | inr k ↦ ap (lacks c) (same_bytes name (codes "<clinit>") k) ∙ second
-      ]
-    ]
-
-no_colon : (b : ℕ) → is_name_byte b ≡ true → not (b == 58) ≡ true
-no_colon b e = grind (arith, nat_tests)
-
-no_parenthesis : (b : ℕ) → is_name_byte b ≡ true → not (b == 40) ≡ true
-no_parenthesis b e = grind (arith, nat_tests)
-
 pub name_lacks_colon : (name : List ℕ) → IsTrue (is_name name) → lacks 58 name ≡ true
-name_lacks_colon name e = name_lacks 58 no_colon refl refl name e
+name_lacks_colon name e = name_lacks 58 refl refl refl name e
 
 pub name_lacks_parenthesis : (name : List ℕ) → IsTrue (is_name name) → lacks 40 name ≡ true
-name_lacks_parenthesis name e = name_lacks 40 no_parenthesis refl refl name e
+name_lacks_parenthesis name e = name_lacks 40 refl refl refl name e
 
 -- ---- classes
 
@@ -160,7 +129,7 @@ number_low (negsuc n) small = decimal_low (decimal (suc n)) (decimal_digits (suc
 
 -- a number is no other word
 low_apart : (w v : List ℕ) → list_all is_low w ≡ true → list_all is_low v ≡ false → bytes_eq w v ≡ false
-low_apart w v low high = false_from_ne_true (bytes_eq w v) (λ e. true≢false (sym low ∙ ap (list_all is_low) (same_bytes w v e) ∙ high))
+low_apart w v low high = false_from_ne_true (bytes_eq w v) (λ e. true≢false (sym low ∙ ap (list_all is_low) ((bytes_eq-Decides w v).0 e) ∙ high))
 
 number_word_read : (t : Ty) (z : ℤ) → unsigned_abs z < 10 ^ 64 → value_fits (init.Num z) t ≡ true → word_value t (signed_decimal z) ≡ Ok (init.Num z)
 unfolding word_value

@@ -4,12 +4,12 @@ use Rattle.std.proofs.lemmas.Result.{err_from_is_err_and}
 use Rattle.dv_lex.specs.declared.line.Line.{Line}
 use Rattle.dv_lex.specs.declared.line.Stop.{Stop}
 use Rattle.dv_lex.specs.Lines.{HasTokens, IsLineInside}
-use Rattle.dv_coderead.specs.Drafting.{HasNext}
 use Rattle.dv_coderead.specs.Kept.{no_line, text_lines}
+use Rattle.dv_coderead.specs.Bodies.{HasNext}
 use Rattle.dv_classread.specs.Texts.{EndsBefore}
 use Rattle.dv_classread.proofs.Between.{number_at}
 use Rattle.dv_classread.proofs.Parts.{all_part}
-use Rattle.dv_classread.proofs.Numbered.{ends_at, ends_behind}
+use Rattle.dv_classread.proofs.Ends.{ends_at, ends_behind}
 use Rattle.dv_classread.proofs.Wholes.{refused_body}
 use Rattle.dv_classread.proofs.method.whole_method.Goals as goal
 

@@ -3,7 +3,8 @@ use Rattle.std.proofs.lemmas.List.{get_or_read}
 use Rattle.std.proofs.lemmas.Result.{err_from_is_err_and}
 use Rattle.dv_lex.specs.Lines.{HasTokens}
 use Rattle.dv_coderead.specs.Kept.{kept_from, line_at, no_line, text_line}
-use Rattle.dv_classread.proofs.Going.{line_read, one_line, one_method, other_line, refused_here, refused_method, stops_all}
+use Rattle.dv_coderead.proofs.Drafts.{stops_all}
+use Rattle.dv_classread.proofs.Going.{line_read, one_line, one_method, other_line, refused_here, refused_method}
 use Rattle.dv_classread.proofs.text.add_next.Goals as goal
 
 pub told-requires-clause-tokens : goal.told-requires-clause-tokens

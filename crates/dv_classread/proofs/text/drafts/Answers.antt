@@ -3,11 +3,12 @@ use Rattle.std.specs.Prelude.{unwrap_or}
 use Rattle.std.proofs.lemmas.Result.{err_from_is_err_and}
 use Rattle.dv_coderead.specs.Giving.{◌>>>◌, Stops}
 use Rattle.dv_coderead.specs.Kept.{kept_from, open_behind, text_lines}
+use Rattle.dv_coderead.proofs.Drafts.{stops_all}
 use Rattle.dv_classread.specs.Classes.{classes_with}
 use Rattle.dv_classread.specs.Programs.{drafts_of}
 use Rattle.dv_classread.specs.Schedules.{end_with}
 use Rattle.dv_classread.specs.Texts.{ended_in, InClass}
-use Rattle.dv_classread.proofs.Going.{at_end, at_open, end_fault, stops_all}
+use Rattle.dv_classread.proofs.Going.{at_end, at_open, end_fault}
 use Rattle.dv_classread.proofs.text.drafts.Goals as goal
 
 pub loop-place-smaller : goal.loop-place-smaller

@@ -3,12 +3,12 @@ use Rattle.std.proofs.lemmas.Result.{err_from_is_err_and}
 use Rattle.dv_lex.specs.declared.line.Stop.{Stop}
 use Rattle.dv_coderead.specs.Giving.{◌>>>◌, GivesLines}
 use Rattle.dv_coderead.specs.Kept.{open_behind, text_lines}
+use Rattle.dv_coderead.proofs.Drafts.{stops_all}
 use Rattle.dv_classread.specs.declared.program.ClassDraft.{ClassDraft}
 use Rattle.dv_classread.specs.Programs.{Drafts, drafts_in, drafts_of}
 use Rattle.dv_classread.specs.Schedules.{end_with}
 use Rattle.dv_classread.specs.Texts.{EndsBefore}
-use Rattle.dv_classread.proofs.Going.{stops_all}
-use Rattle.dv_classread.proofs.Numbered.{ends_before, stop_before}
+use Rattle.dv_classread.proofs.Ends.{ends_before, stop_before}
 use Rattle.dv_classread.proofs.Whole.{with_is, without_is}
 use Rattle.dv_classread.proofs.text.drafts_in.Goals as goal
 

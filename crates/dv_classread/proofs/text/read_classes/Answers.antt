@@ -4,11 +4,11 @@ use Rattle.std.specs.List.{All}
 use Rattle.std.proofs.lemmas.Result.{err_from_is_err_and}
 use Rattle.dv_lex.specs.declared.line.Stop.{Stop}
 use Rattle.dv_lex.specs.Lines.{HasTokens}
-use Rattle.dv_coderead.specs.Drafting.{HasNext}
-use Rattle.dv_classread.specs.Texts.{AreNumbered}
-use Rattle.dv_classread.proofs.Numbered.{few_lines, have_next, numbered, stop_behind}
 use Rattle.dv_classread.proofs.Whole.{read_whole, refused_classes, refused_drafts}
 use Rattle.dv_classread.proofs.text.read_classes.Goals as goal
+use Rattle.dv_coderead.specs.Bodies.{HasNext}
+use Rattle.dv_coderead.specs.Kept.{AreNumbered}
+use Rattle.dv_coderead.proofs.Numbered.{few_lines, have_next, numbered, stop_behind}
 
 pub drafts_in-requires-clause-tokens : goal.drafts_in-requires-clause-tokens
 drafts_in-requires-clause-tokens c = subst (All (HasTokens c.args.text.now)) (sym c.items.ensures) c.in_ok-good.ensures.tokens

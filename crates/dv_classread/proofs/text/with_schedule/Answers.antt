@@ -4,9 +4,10 @@ use Rattle.std.proofs.lemmas.List.Elements.{All-take}
 use Rattle.dv_lex.specs.declared.line.Line.{Line}
 use Rattle.dv_lex.specs.Lines.{HasTokens}
 use Rattle.dv_coderead.specs.Kept.{no_line, text_lines}
+use Rattle.dv_coderead.proofs.Numbered.{front_numbered}
 use Rattle.dv_classread.specs.Texts.{EndsBefore}
 use Rattle.dv_classread.proofs.Between.{number_at}
-use Rattle.dv_classread.proofs.Numbered.{ends_front, front_numbers}
+use Rattle.dv_classread.proofs.Ends.{ends_front}
 use Rattle.dv_classread.proofs.Parts.{all_part}
 use Rattle.dv_classread.proofs.text.with_schedule.Goals as goal
 
@@ -14,7 +15,7 @@ pub drafts-requires-clause-tokens : goal.drafts-requires-clause-tokens
 drafts-requires-clause-tokens c = All-take (HasTokens c.args.text.now) c.args.place c.args.lines.now c.requires.tokens
 
 pub drafts-requires-clause-numbered : goal.drafts-requires-clause-numbered
-drafts-requires-clause-numbered c = front_numbers c.args.text.now c.args.lines.now c.requires.numbered c.args.place
+drafts-requires-clause-numbered c = front_numbered 1 c.args.place c.args.lines.now c.requires.numbered
 
 pub drafts-requires-clause-behind : goal.drafts-requires-clause-behind
 drafts-requires-clause-behind c =
