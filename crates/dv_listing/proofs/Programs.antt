@@ -5,3 +5,6 @@ pub mod Read
 pub mod Cutting
 pub mod Entries
 pub mod Schedules
+pub mod Alike
+pub mod Logs
+pub mod Unlined

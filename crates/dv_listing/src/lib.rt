@@ -21,7 +21,10 @@ pub use draft_laws::{
 pub use laws::printed_lines_are_read;
 pub use listing_laws::listings_are_read;
 pub use operand_laws::instructions_are_read;
-pub use program_laws::{programs_are_read, read_programs_are_read_again, schedules_are_read};
+pub use program_laws::{
+    entries_are_read_alike, listings_have_no_lines, programs_are_read,
+    read_programs_are_read_again, read_schedules_are_read_again, schedules_are_read,
+};
 pub use raw_laws::raw_bodies_are_read;
 pub use read_laws::{
     layouts_have_units, read_bodies_are_listed, read_class_lines_are_listed,

@@ -1,5 +1,5 @@
 // The laws of the listing of several classes, and of a schedule behind them: each is the contract of a function that does nothing.
-ghost use Rattle.dv_listing.specs.ProgramLaws.{ProgramsAreRead, ReadProgramsAreReadAgain, SchedulesAreRead};
+ghost use Rattle.dv_listing.specs.ProgramLaws.{EntriesAreReadAlike, ListingsHaveNoLines, ProgramsAreRead, ReadProgramsAreReadAgain, ReadSchedulesAreReadAgain, SchedulesAreRead};
 
 use crate::class_laws::{
     class_lines_are_read, field_lines_are_read, interface_lines_are_read, method_ends_are_read,
@@ -38,6 +38,11 @@ pub fn read_programs_are_read_again()
     programs_are_read();
 }
 
+/// The listing of classes doesn't hang on their lines.
+pub fn listings_have_no_lines()
+    ensures { ListingsHaveNoLines }
+{}
+
 /// What is printed of several classes, with a schedule behind it, is read as these classes, but for their lines, and as that schedule.
 pub fn schedules_are_read()
     ensures { SchedulesAreRead }
@@ -55,3 +60,17 @@ pub fn schedules_are_read()
     drafts_are_listed_again();
     bodies_are_laid_out_again();
 }
+
+/// The listing of all classes that were read, with the schedule that was read behind it, is read as these classes, but for their lines, and as that
+/// schedule.
+pub fn read_schedules_are_read_again()
+    ensures { ReadSchedulesAreReadAgain }
+{
+    read_classes_are_listed();
+    schedules_are_read();
+}
+
+/// The entries of a schedule behind classes are those of a schedule that stands alone.
+pub fn entries_are_read_alike()
+    ensures { EntriesAreReadAlike }
+{}

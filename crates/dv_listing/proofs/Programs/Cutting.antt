@@ -28,7 +28,7 @@ use Rattle.dv_listing.proofs.ReadBody.{any_ok, line_then, then_listed}
 pub record BeginsNone (l : TextLine) : Type 0 where
   pub none : begins_schedule (head_of l.pieces) ≡ false
 
-always : {A E : Type 0} (P : Type 0) (read : Result A E) → P → IfOk read (λ _. P)
+pub always : {A E : Type 0} (P : Type 0) (read : Result A E) → P → IfOk read (λ _. P)
 always P (Ok x) is = is
 always P (Err e) is = tt
 
