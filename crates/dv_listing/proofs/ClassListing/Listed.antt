@@ -1,41 +1,31 @@
--- The listing of a class is read as that class.
+-- The lines of a listed class, and what they tell.
 use Rattle.std.proofs.Common.{◌≡◌, ℕ, ◌+◌, Bool, true, false, List, [], ◌∷◌, ◌++◌, map, Ok, refl, sym, ap, ◌∙◌, subst, append_assoc}
 use Rattle.std.specs.Prelude.{All, Option, Some, None, Result}
 use Rattle.std.specs.List.{flat_map}
 use Rattle.std.proofs.lemmas.List.Elements.{All-nil, All-cons, All-append}
 use Rattle.dv_defs.specs.declared.class.ClassDef.{ClassDef}
 use Rattle.dv_defs.specs.declared.class.MethodDef.{MethodDef}
-use Rattle.dv_defs.specs.Body.{BodyValue}
 use Rattle.dv_defs.specs.Field.{FieldValue}
 use Rattle.dv_lex.specs.declared.line.Stop.{Stop}
-use Rattle.dv_lex.specs.Lines.{Reading, reading_of}
+use Rattle.dv_lex.specs.Lines.{Reading}
 use Rattle.dv_print.specs.Listing.{class_line as class_text_line, class_text, field_line, interface_line, method_lines, superclass_line}
 use Rattle.dv_coderead.specs.Bodies.{number_behind}
 use Rattle.dv_coderead.specs.Giving.{◌>>>◌}
 use Rattle.dv_coderead.specs.Kept.{counts, line_of, open_behind}
 use Rattle.dv_coderead.specs.Pieces.{Piece}
-use Rattle.dv_classread.specs.declared.class_line.ClassHead.{ClassHead}
-use Rattle.dv_classread.specs.declared.class_line.ClassLine.TheVariants as line
-use Rattle.dv_classread.specs.declared.class_line.Standing.TheVariants.{Outside, Inside}
+use Rattle.dv_classread.specs.declared.class_line.Standing.TheVariants.{Inside}
 use Rattle.dv_classread.specs.declared.program.ClassDraft.{ClassDraft}
-use Rattle.dv_classread.specs.declared.program.MethodDraft.{MethodDraft}
-use Rattle.dv_classread.specs.Assembling.{classes_of, methods_of}
-use Rattle.dv_classread.specs.Classes.{classes_in}
+use Rattle.dv_classread.specs.Assembling.{classes_of}
 use Rattle.dv_classread.specs.ClassLines.{is_object_name, lacks_super}
 use Rattle.dv_classread.specs.Programs.{assembled_drafts, drafts_in, drafts_of, program_of}
 use Rattle.dv_classread.specs.Schedules.{unclosed}
-use Rattle.dv_classread.specs.Texts.{Told, Says, InClass, added, told_from}
-use Rattle.dv_listing.specs.ClassListable.{IsListedBodyIfAny, IsListedClass, IsParentText}
-use Rattle.dv_listing.specs.ClassPieces.{IsClassText, IsListedField, class_pieces, field_pieces, interface_pieces, superclass_pieces, ClassLinesAreRead, ClassLinesStand, FieldLinesAreRead, FieldLinesStand, InterfaceLinesAreRead, InterfaceLinesStand, MethodEndsAreRead, MethodEndsStand, MethodHeadersAreRead, MethodHeadersStand, SuperclassLinesAreRead, SuperclassLinesStand}
-use Rattle.dv_listing.specs.Laws.{PrintedLinesAreRead}
-use Rattle.dv_listing.specs.ListingLaws.{ListingsAreRead, as_first}
+use Rattle.dv_listing.specs.ClassListable.{IsListedClass, IsParentText}
+use Rattle.dv_listing.specs.ClassPieces.{IsClassText, IsListedField, class_pieces, field_pieces, interface_pieces, superclass_pieces, ClassLinesStand, FieldLinesAreRead, FieldLinesStand, InterfaceLinesAreRead, InterfaceLinesStand, SuperclassLinesAreRead, SuperclassLinesStand}
 use Rattle.dv_listing.specs.Printed.{HaveLines, NoLine, numbered}
 use Rattle.dv_listing.proofs.Lines.{lines_append, lines_map, same_lines}
-use Rattle.dv_listing.proofs.ClassListing.Bodies.{HasBodyLines}
-use Rattle.dv_listing.proofs.ClassListing.Kept.{Counts, lines_closed, lines_kept}
-use Rattle.dv_listing.proofs.ClassListing.Methods.{ListMethods, methods_listed}
-use Rattle.dv_listing.proofs.ClassListing.Parts.{HaveParts}
-use Rattle.dv_listing.proofs.ClassListing.Told.{Tell, fields_told, interfaces_told, line_told, superclass_told}
+use Rattle.dv_listing.proofs.ClassListing.Kept.{Counts}
+use Rattle.dv_listing.proofs.ClassListing.Methods.{ListMethods}
+use Rattle.dv_listing.proofs.ClassListing.Told.{Tell, fields_told, interfaces_told, superclass_told}
 use Rattle.dv_listing.proofs.ClassPieces.Read.{class_head, field_head, implements_head, super_head}
 
 -- ---- its lines
@@ -106,34 +96,6 @@ module _ (interface : InterfaceLinesAreRead) (field : FieldLinesAreRead) (past :
       subst (λ b. Tell past (Inside b false) n (superclass_pieces name ∷ member_pieces names fs m.pieces) (Some name) names fs ms) (sym h.0)
       (superclass_told past n name (member_pieces names fs m.pieces) None names fs ms super h.1 (members_told false true refl (n + 1)))
 
--- the class before its bodies are assembled
-abbrev class_draft : ClassDef → List MethodDraft → ClassDraft
-class_draft c ds = record {
-  head = record { name = c.name; flags = c.flags; line = 1 };
-  parent = c.parent;
-  interfaces = c.interfaces;
-  fields = c.fields;
-  methods = ds;
-}
-
-class_in : (c : ClassDef) (ts : List Told) (ds : List MethodDraft) → HaveParts ts c.parent c.interfaces c.fields ds
-    → classes_in (Says (line.Class (record { name = c.name; flags = c.flags; line = 1 })) ∷ ts) ≡ class_draft c ds ∷ []
-unfolding classes_in
-class_in c ts ds h = rw (h.parent, h.interfaces, h.fields, h.methods, h.classes) refl
-
-class_told : (c : ClassDef) (past : ℕ) (rest : List (List Piece)) → ClassLinesAreRead → IsListedClass c
-    → (t : Tell past (Inside (is_object_name c.name) false) 2 rest c.parent c.interfaces c.fields c.methods) → All Counts (class_pieces c ∷ rest)
-    → drafts_of None past (numbered 1 (class_pieces c ∷ rest)) ≡ Ok (class_draft c t.drafts ∷ [])
-class_told c past rest read h t count =
-    let head : ClassHead = record { name = c.name; flags = c.flags; line = 1 } in
-    let first = line_told None past Outside 1 (class_pieces c) (line.Class head) (numbered 2 rest) (read c Outside 1 h.name h.flags refl) ∙ ap (added (line.Class head)) t.told in
-    ap (λ ls. told_from None past (InClass Outside) ls >>> λ ts. Ok (classes_in ts)) (lines_kept 1 (class_pieces c ∷ rest) count)
-    ∙ ap (λ r. r >>> λ ts. Ok (classes_in ts)) first ∙ ap Ok (class_in c t.tolds t.drafts t.parts)
-
-class_whole : (c : ClassDef) (ds : List MethodDraft) → methods_of ds ≡ Ok c.methods → classes_of (class_draft c ds ∷ []) ≡ Ok (as_first c ∷ [])
-unfolding classes_of
-class_whole c ds e = rw e refl
-
 -- ---- a text without a schedule
 
 pub text_read : (r : Reading) (pss : List (List Piece)) (cs : List ClassDraft) (ds : List ClassDef) → r.stop ≡ None → map line_of r.lines ≡ numbered 1 pss → open_behind 0 (numbered 1 pss) ≡ 0
@@ -145,18 +107,3 @@ text_read r pss cs ds well lines closed drafts whole =
     ∙ ap (λ n. (drafts_of (unclosed past n) past (numbered 1 pss) >>> λ xs. Ok (xs, [])) >>> assembled_drafts) closed
     ∙ ap (λ (d : Result (List ClassDraft) Stop). (d >>> λ xs. Ok (xs, [])) >>> assembled_drafts) drafts
     ∙ ap (λ (d : Result (List ClassDef) Stop). d >>> λ classes. Ok (record { classes = classes; log = [] })) whole
-
--- ---- the law
-
-module _ (bodies : (o : Option BodyValue) → IsListedBodyIfAny o → HasBodyLines o) (read : PrintedLinesAreRead) (class : ClassLinesStand) (super : SuperclassLinesStand) (interface : InterfaceLinesStand) (field : FieldLinesStand) (header : MethodHeadersStand) (end : MethodEndsStand) where
-  pub class_listed : ClassLinesAreRead → SuperclassLinesAreRead → InterfaceLinesAreRead → FieldLinesAreRead → MethodHeadersAreRead → MethodEndsAreRead → ListingsAreRead
-  class_listed class_read super_read interface_read field_read header_read end_read c h =
-      let m = methods_listed bodies header end header_read end_read c.methods h.methods in
-      let rest = parent_pieces c.parent ++ member_pieces c.interfaces c.fields m.pieces in
-      let pss = class_pieces c ∷ rest in
-      let past = number_behind (numbered 1 pss) in
-      let count = class_counts c m.pieces m.count in
-      let t = parent_told interface_read field_read past c.interfaces c.fields c.methods h.interfaces h.fields m super_read (is_object_name c.name) c.parent h.parent 2 in
-      let r = read (class_text c) pss (class_stands class super interface field c h m.pieces m.lines) in
-      text_read (reading_of (class_text c)) pss (class_draft c t.drafts ∷ []) (as_first c ∷ []) r.well r.lines (lines_closed 1 pss count)
-      (class_told c past rest class_read h t count) (class_whole c t.drafts t.whole)

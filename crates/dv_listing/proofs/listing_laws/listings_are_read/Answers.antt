@@ -1,14 +1,12 @@
-use Rattle.dv_listing.proofs.ClassListing.Bodies.{body_lines}
-use Rattle.dv_listing.proofs.ClassListing.Listed.{class_listed}
+use Rattle.std.proofs.Common.{ℕ, false, List, [], ◌∷◌, ap, ◌∙◌, sym, append-nil}
+use Rattle.std.proofs.lemmas.List.Elements.{All-nil, All-cons}
+use Rattle.dv_lex.specs.Lines.{reading_of}
+use Rattle.dv_print.specs.Listing.{class_text}
+use Rattle.dv_classread.specs.Programs.{program_of}
+use Rattle.dv_listing.specs.ClassListable.{IsListedClass}
 use Rattle.dv_listing.proofs.listing_laws.listings_are_read.Goals as goal
 
 pub returns : goal.returns
-returns c =
-    let class = c.class_lines_are_read.ensures in
-    let super = c.superclass_lines_are_read.ensures in
-    let interface = c.interface_lines_are_read.ensures in
-    let field = c.field_lines_are_read.ensures in
-    let header = c.method_headers_are_read.ensures in
-    let end = c.method_ends_are_read.ensures in
-    let bodies = body_lines c.drafts_are_printed.ensures c.draft_lines_count.ensures c.drafts_are_listed_again.ensures c.bodies_are_laid_out_again.ensures c.raw_bodies_are_read.ensures in
-    class_listed bodies c.printed_lines_are_read.ensures class.stand super.stand interface.stand field.stand header.stand end.stand class.read super.read interface.read field.read header.read end.read
+returns c class h =
+    ap (λ (w : List ℕ). program_of false (reading_of w)) (sym (append-nil (class_text class)))
+    ∙ c.programs_are_read.ensures (class ∷ []) (All-cons IsListedClass class [] h (All-nil IsListedClass))
