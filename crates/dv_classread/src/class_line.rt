@@ -1,5 +1,5 @@
 // What a line of a class says, outside its methods.
-ghost use Rattle.std.specs.Prelude.{◌≡◌, ◌⊎◌, ℕ, pos, IfOk, IsTrue};
+ghost use Rattle.std.specs.Prelude.{◌≡◌, IfOk, IsTrue, if◌then◌else◌};
 ghost use Rattle.dv_coderead.specs.Words.{number_in};
 ghost use Rattle.dv_coderead.specs.Operands.{word_at};
 ghost use Rattle.dv_defs.specs.Field.{value_fits};
@@ -194,13 +194,13 @@ fn is_boolean(ty: &Ty) -> bool
     }
 }
 
-fn boolean_value(ty: &Ty, number: i64) -> Result<Init, LineKind>
-    requires { (number ≡ pos 0) ⊎ (number ≡ pos 1) }
-    ensures exact { (n : ℕ) → number ≡ pos n → Reads (λ i. i) result (boolean_value ty.now n) }
+/// The value of a `boolean` field: 1 for `true`, 0 for `false`.
+fn boolean_value(ty: &Ty, value: bool) -> Result<Init, LineKind>
+    ensures exact { Reads (λ i. i) result (boolean_value ty.now (if value then 1 else 0)) }
     ensures fits { IfOk result (λ i. IsTrue (value_fits i ty.now)) }
 {
     if is_boolean(ty) {
-        Ok(Init::Num(number))
+        Ok(Init::Num(if value { 1 } else { 0 }))
     } else {
         Err(LineKind::NumberRange)
     }
@@ -212,9 +212,9 @@ fn word_value(ty: &Ty, word: &[u8]) -> Result<Init, LineKind>
     ensures fits { IfOk result (λ i. IsTrue (value_fits i ty.now)) }
 {
     if word == b"true".as_slice() {
-        boolean_value(ty, 1)
+        boolean_value(ty, true)
     } else if word == b"false".as_slice() {
-        boolean_value(ty, 0)
+        boolean_value(ty, false)
     } else if word == b"null".as_slice() {
         fitting_value(ty, Init::Null)
     } else {

@@ -1,4 +1,5 @@
 // Texts are read, listed and read again.
+use dv_boot::boot_text;
 use dv_classread::{Read, read_classes};
 use dv_defs::{ClassDef, LineError, LineKind};
 use dv_print::print_class;
@@ -38,7 +39,7 @@ fn without_lines(read: Read) -> Vec<ClassDef> {
 
 #[test]
 fn listings_are_read_again(rt: HostRuntime) -> Result<(), Fail> {
-    for (text, count) in [(PRODUCER, 3), (KINDS, 1), ("", 0)] {
+    for (text, count) in [(PRODUCER, 3), (KINDS, 1), (boot_text(), 33), ("", 0)] {
         let first = read(&rt, rt.alloc(), text.as_bytes())
             .ok()
             .expect(&rt, "a text");
