@@ -1,5 +1,4 @@
 // The classes that each program finds beside its own, as the smali text that is read when it is linked.
-
 ghost use Rattle.std.specs.Prelude.{◌≡◌, ◌<◌, ◌^◌, length};
 
 /// The text of the boot classes.

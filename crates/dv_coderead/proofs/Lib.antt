@@ -15,7 +15,7 @@ mod Lists
 mod Members
 pub mod Numbered
 mod Numbering
-mod Numbers
+pub mod Numbers
 pub mod Opcodes
 pub mod Passed
 pub mod Printed

@@ -45,7 +45,7 @@ abbrev ends_with_suffix : List ℕ → Bool
 ends_with_suffix r = nat_lt 0 (length r) && is_suffix (slice_index r (length r - 1) ∷ [])
 
 -- the last element
-last : (r : List ℕ) (n : ℕ) → n + 1 ≡ length r → drop n r ≡ slice_index r n ∷ []
+pub last : (r : List ℕ) (n : ℕ) → n + 1 ≡ length r → drop n r ≡ slice_index r n ∷ []
 last r n e = drop-cons r n 0 (omega arith) ∙ ap (λ l. slice_index r n ∷ l) (drop_all (suc n) r (omega arith))
 
 cut_by : (r : List ℕ) (t : Bool) → ends_with_suffix r ≡ t → IsCutAt r (if t then take (length r - 1) r else r)

@@ -15,6 +15,10 @@ abbrev pub short_decimal : Option ℕ → Result ℤ LineKind
 short_decimal None = Err Operands
 short_decimal (Some n) = if nat_lt n (2 ^ 47) then Ok (pos n) else Err RegisterRange
 
+-- a number below 2^63; ten times any other, and a digit, is the number of no argument's word
+abbrev pub few_tens : ℕ → Result ℤ LineKind
+few_tens n = if nat_lt n (2 ^ 63) then Ok (pos n) else Err RegisterRange
+
 -- the register of this number
 abbrev pub register_at : ℤ → Result ℕ LineKind
 register_at (pos n) = register_of (Some n)

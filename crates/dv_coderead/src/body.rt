@@ -1,5 +1,5 @@
 // The draft of a method's body, read from its lines.
-ghost use Rattle.std.specs.Prelude.{◌≡◌, ℕ, ◌^◌, ◌<◌, List, IfOk, IfSome, SomeIff};
+ghost use Rattle.std.specs.Prelude.{◌≡◌, ℕ, List, IfOk, IfSome};
 ghost use Rattle.std.specs.List.{All};
 ghost use Rattle.dv_defs.specs.Types.{words_of};
 ghost use Rattle.dv_lex.specs.Lines.{HasTokens, IsLineInside};
@@ -21,7 +21,7 @@ use dv_lex::Line;
 use std::alloc::Global;
 
 /// How many words a value of this type takes.
-fn words_of(ty: &Ty) -> u32
+fn words_of(ty: &Ty) -> u64
     ensures { result ≡ words_of ty.now }
 {
     match (ty.dims, &ty.base) {
@@ -30,15 +30,15 @@ fn words_of(ty: &Ty) -> u32
     }
 }
 
-/// How many words the arguments of a method take, its receiver among them; none where they are 2^32 or more.
-pub fn argument_words(proto: &Proto, is_static: bool) -> Option<u32>
-    ensures { SomeIff result (argument_words proto.now is_static < 2 ^ 32) (argument_words proto.now is_static) }
+/// How many words the arguments of a method take, its receiver among them.
+pub fn argument_words(proto: &Proto, is_static: bool) -> u64
+    ensures { result ≡ argument_words proto.now is_static }
 {
-    let mut words: u32 = if is_static { 0 } else { 1 };
+    let mut words: u64 = if is_static { 0 } else { 1 };
     for ty in proto.params.items() {
-        words = words.checked_add(words_of(ty))?;
+        words += words_of(ty);
     }
-    Some(words)
+    words
 }
 
 /// The number of the line behind these.
@@ -56,7 +56,7 @@ pub fn number_behind(lines: &[Line]) -> u32
 fn told(
     alloc: Global,
     text: &[u8],
-    arguments: u32,
+    arguments: u64,
     before: Context,
     line: &Line,
     head: Head,
@@ -98,9 +98,7 @@ pub fn read_body(
     requires numbers { All HasNext lines.now }
     ensures { GivesLines (λ d. d) result (body_of (argument_words proto.now is_static) (text_lines text.now lines.now)) }
 {
-    let Some(arguments) = argument_words(proto, is_static) else {
-        return Err(LineError::Memory);
-    };
+    let arguments = argument_words(proto, is_static);
     let mut drafting = Drafting::new(alloc);
     let mut at = 0;
     loop {

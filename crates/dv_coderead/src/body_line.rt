@@ -57,21 +57,21 @@ pub enum BodyLine {
 // ---- words
 
 /// So many registers and as many more: 256 at most.
-fn count_from(number: i64, more: u32) -> Result<u32, LineKind>
+fn count_from(number: i64, more: u64) -> Result<u32, LineKind>
     ensures exact { result ≡ count_from more number }
     ensures few { IfOk result (λ n. n ≤ 256) }
 {
     if number < 0 {
         Err(LineKind::NumberRange)
-    } else if number <= 256 - i64::from(more) {
-        Ok(number as u32 + more)
+    } else if more <= 256 && number <= 256 - more as i64 {
+        Ok(number as u32 + more as u32)
     } else {
         Err(LineKind::TooManyRegisters)
     }
 }
 
 /// How many registers a word counts, with so many more.
-fn count(word: &[u8], more: u32) -> Result<u32, LineKind>
+fn count(word: &[u8], more: u64) -> Result<u32, LineKind>
     ensures exact { result ≡ count_in more word.now }
     ensures few { IfOk result (λ n. n ≤ 256) }
 {
@@ -125,7 +125,7 @@ fn width(word: &[u8]) -> Result<u16, LineKind>
 // ---- parts of a line: each with the pieces behind it
 
 pub fn count_part<'a, 'b>(
-    more: u32,
+    more: u64,
     pieces: &'b [Piece<'a>],
 ) -> Result<(u32, &'b [Piece<'a>]), LineKind>
     ensures exact { Reads (λ x. (x.0, pieces_in x.1.now)) result (word_at (count_in more) (pieces_in pieces.now)) }
@@ -199,7 +199,7 @@ fn arrow<'a, 'b>(pieces: &'b [Piece<'a>]) -> Result<&'b [Piece<'a>], LineKind>
 
 /// The count of registers that is `more` than the line's.
 #[tactic(auto, unfolding(crate::specs::BodyLines::frame_line))]
-fn frame_line(arguments: u32, more: u32, pieces: &[Piece]) -> Result<Frame, LineKind>
+fn frame_line(arguments: u64, more: u64, pieces: &[Piece]) -> Result<Frame, LineKind>
     ensures exact { Reads (λ f. f) result (frame_line arguments more (pieces_in pieces.now)) }
     ensures few { IfOk result (λ f. f.registers ≤ 256) }
 {
@@ -359,8 +359,8 @@ pub fn refusal_of(head: Head) -> LineKind
 /// The count of registers, which is told once.
 fn registers_line(
     frame: Option<Frame>,
-    arguments: u32,
-    more: u32,
+    arguments: u64,
+    more: u64,
     pieces: &[Piece],
 ) -> Result<BodyLine, LineKind>
     ensures exact { Reads (λ l. l) result (registers_line frame arguments more (pieces_in pieces.now)) }
@@ -375,7 +375,7 @@ fn registers_line(
 
 fn directive_line(
     alloc: Global,
-    arguments: u32,
+    arguments: u64,
     frame: Option<Frame>,
     line: u32,
     directive: Directive,
@@ -398,7 +398,7 @@ fn directive_line(
 /// A line outside blocks. Labels and instructions stand behind the count of registers.
 fn method_line(
     alloc: Global,
-    arguments: u32,
+    arguments: u64,
     frame: Option<Frame>,
     line: u32,
     head: Head,
@@ -491,7 +491,7 @@ fn data_line(width: u16, head: Head, pieces: &[Piece]) -> Result<BodyLine, LineK
 #[tactic(auto, unfolding(crate::specs::BodyLines::body_line))]
 pub fn body_line(
     alloc: Global,
-    arguments: u32,
+    arguments: u64,
     before: Context,
     line: u32,
     head: Head,

@@ -1,9 +1,11 @@
 // Single words of a line: numbers, strings, labels and registers.
-ghost use Rattle.std.specs.Prelude.{◌≡◌, ◌≤◌, IfOk};
+ghost use Rattle.std.specs.Prelude.{◌≡◌, ◌≤◌, true, IfOk};
+ghost use Rattle.std.specs.List.{list_all};
 ghost use Rattle.dv_lex.specs.Literals.{IsSomeString};
+ghost use Rattle.dv_lex.specs.Numbers.{is_decimal, value_from};
 ghost use Rattle.dv_coderead.specs.Giving.{Gives};
-ghost use Rattle.dv_coderead.specs.WordParts.{are_decimal, register_at, short_decimal};
-ghost use Rattle.dv_coderead.specs.Words.{decimal_in, label_in, literal_in, register_in, string_of};
+ghost use Rattle.dv_coderead.specs.WordParts.{are_decimal, few_tens, register_at, short_decimal};
+ghost use Rattle.dv_coderead.specs.Words.{argument_of, decimal_in, label_in, literal_in, register_in, string_of};
 
 use crate::Refusal;
 use crate::names::is_name;
@@ -15,7 +17,7 @@ use std::alloc::{AllocError, Global};
 #[derive(Clone, Copy, PartialEq, Eq, Debug)]
 pub struct Frame {
     pub registers: u32,
-    pub arguments: u32,
+    pub arguments: u64,
 }
 
 /// The number that a word spells, which so many bits hold.
@@ -86,6 +88,24 @@ fn decimal(digits: &[u8]) -> Result<i64, LineKind>
     }
 }
 
+/// The value of the digits of a number in front of its last, if there are any.
+///
+/// # Errors
+///
+/// `RegisterRange` where the value is 2^63 or more.
+fn tens(digits: &[u8]) -> Result<i64, LineKind>
+    requires { list_all is_decimal digits.now ≡ true }
+    ensures { result ≡ few_tens (value_from 10 0 digits.now) }
+{
+    if digits.is_empty() {
+        return Ok(0);
+    }
+    match number(digits, 64, 0) {
+        Ok(value) => Ok(value),
+        Err(_) => Err(LineKind::RegisterRange),
+    }
+}
+
 /// The register of this number.
 fn register_at(number: i64) -> Result<u16, LineKind>
     ensures { result ≡ register_at number }
@@ -94,6 +114,29 @@ fn register_at(number: i64) -> Result<u16, LineKind>
         Ok(register) => Ok(register),
         Err(_) => Err(LineKind::RegisterRange),
     }
+}
+
+/// The register of the argument's word with this number, of which the last digit is counted by itself.
+///
+/// # Errors
+///
+/// `Operands` where there are no digits or other bytes, `RegisterRange` where it stands before register 0 or behind
+/// register 65535.
+fn argument(frame: Frame, digits: &[u8]) -> Result<u16, LineKind>
+    ensures { result ≡ argument_of frame (decimal_in digits.now) }
+{
+    let [front @ .., last] = digits else {
+        return Err(LineKind::Operands);
+    };
+    if !are_decimal(digits) {
+        return Err(LineKind::Operands);
+    }
+    let tens = tens(front)? - (frame.arguments / 10) as i64;
+    if tens < -1_000_000_000 || 1_000_000_000 < tens {
+        return Err(LineKind::RegisterRange);
+    }
+    let ones = i64::from(*last - b'0') - (frame.arguments % 10) as i64;
+    register_at(10 * tens + ones + i64::from(frame.registers))
 }
 
 /// The register that a word names: `v` and its number, or `p` and the number of an argument's word.
@@ -108,9 +151,7 @@ pub fn register(frame: Frame, word: &[u8]) -> Result<u16, LineKind>
         return register_at(decimal(digits)?);
     }
     if let Some(digits) = word.strip_prefix(b"p") {
-        return register_at(
-            decimal(digits)? + i64::from(frame.registers) - i64::from(frame.arguments),
-        );
+        return argument(frame, digits);
     }
     Err(LineKind::Operands)
 }

@@ -27,6 +27,7 @@ use Rattle.dv_lex.proofs.Names.{name_word, label_word, type_word, proto_word, fi
 use Rattle.dv_coderead.specs.declared.words.Frame.{Frame}
 use Rattle.dv_coderead.specs.Words.{begins_with, decimal_in, digits_in, fitting, label_in, literal_in, number_in, number_of, register_in, register_of, unsigned_in}
 use Rattle.dv_coderead.proofs.Spelling.{found_by, is_based}
+use Rattle.dv_coderead.proofs.Numbers.{value_push}
 use Rattle.dv_print.specs.Numbers.{address_text, label_name}
 use Rattle.dv_listing.specs.Listable.{IsNameText, IsTypeText, IsFieldText, IsMethodText}
 use Rattle.dv_listing.proofs.Strings.{digit_again}
@@ -145,11 +146,6 @@ pub record AreDigitsOf (n : ℕ) (ds : List ℕ) : Type 0 where
   pub some : 0 < length ds
   pub digits : list_all is_decimal ds ≡ true
   pub value : value_from 10 0 ds ≡ n
-
-value_push : (v b : ℕ) (ds : List ℕ) → value_from 10 v (ds ++ b ∷ []) ≡ value_from 10 v ds * 10 + digit_value b
-unfolding value_from
-value_push v b [] = refl
-value_push v b (d ∷ ds) = value_push (v * 10 + digit_value d) b ds
 
 one_digit : (b : ℕ) → value_from 10 0 (b ∷ []) ≡ digit_value b
 unfolding value_from

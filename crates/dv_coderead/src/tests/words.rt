@@ -26,10 +26,16 @@ const NARROW: Frame = Frame {
     arguments: 2,
 };
 
-// The most words of arguments that there can be.
+// As many words of arguments as 32 bits hold.
 const MOST: Frame = Frame {
     registers: 5,
     arguments: 4294967295,
+};
+
+// As many as 64 bits hold.
+const HUGE: Frame = Frame {
+    registers: 5,
+    arguments: 18446744073709551615,
 };
 
 const HUNDRED_DIGITS: &str =
@@ -65,7 +71,12 @@ static LABELS: [(&str, Option<&str>); 8] = [
 ];
 
 // A frame, a word, and the number of the register that it names.
-static REGISTERS: [(Frame, &str, Result<u16, LineKind>); 29] = [
+static REGISTERS: [(Frame, &str, Result<u16, LineKind>); 34] = [
+    (HUGE, "p18446744073709551610", Ok(0)),
+    (HUGE, "p18446744073709617145", Ok(65535)),
+    (HUGE, "p18446744073709551609", Err(REGISTER_RANGE)),
+    (HUGE, "p18446744073709617146", Err(REGISTER_RANGE)),
+    (HUGE, "p184467440737095516100", Err(REGISTER_RANGE)),
     (FIVE, "v0", Ok(0)),
     (FIVE, "v65535", Ok(65535)),
     (FIVE, "v65536", Err(REGISTER_RANGE)),

@@ -18,7 +18,7 @@ loop-place-init c =
     record {
       place = omega arith;
       drafting = new.drafting;
-      same = from_first c.in-Some.arguments c.args.text.now c.args.lines.now c.new-drafting.result new.context new.items new.catches;
+      same = from_first c.argument_words-arguments.result c.args.text.now c.args.lines.now c.new-drafting.result new.context new.items new.catches;
     }
 
 pub told-requires-clause-tokens : goal.told-requires-clause-tokens
@@ -31,10 +31,10 @@ returns-in_err-says-in-Line c =
     let p = err_from_is_err_and c.from_residual.result c.from_residual.ensures.1 in
     let text = c.args.text.now in
     let lines = c.args.lines.now in
-    let n = c.in-Some.arguments in
+    let n = c.argument_words-arguments.result in
     let d = c.loop-place.drafting in
     let line = get_or_read lines c.in-Line.place c.index-lines-place.result c.in-Line.ensures.inside c.index-lines-place.is no_line in
-    let whole = c.loop-place.invariant.same ∙ ap (λ n. body_of n (text_lines text lines)) c.in-Some.ensures.1 in
+    let whole = c.loop-place.invariant.same ∙ ap (λ n. body_of n (text_lines text lines)) c.argument_words-arguments.ensures in
     let read = line_read n d.context (text_line text c.index-lines-place.result) in
     rw (p.1, p.2)
     (stops_all c.in_err-says-in-Line.field-0.0 read _
@@ -45,7 +45,7 @@ pub loop-place-preserved : goal.loop-place-preserved
 loop-place-preserved c =
     let text = c.args.text.now in
     let lines = c.args.lines.now in
-    let n = c.in-Some.arguments in
+    let n = c.argument_words-arguments.result in
     let d = c.loop-place.drafting in
     let says = c.in_ok-says-in-Line.says in
     let new = c.add.new.self in
@@ -62,9 +62,9 @@ pub returns-in-End : goal.returns-in-End
 returns-in-End c =
     let text = c.args.text.now in
     let lines = c.args.lines.now in
-    let n = c.in-Some.arguments in
+    let n = c.argument_words-arguments.result in
     let d = c.loop-place.drafting in
-    let whole = c.loop-place.invariant.same ∙ ap (λ n. body_of n (text_lines text lines)) c.in-Some.ensures.1 in
+    let whole = c.loop-place.invariant.same ∙ ap (λ n. body_of n (text_lines text lines)) c.argument_words-arguments.ensures in
     let ended = ap (λ past. finished_with past 0 d []) (c.number_behind.ensures text) ∙ sym (from_end n text lines c.loop-place.at d c.in-End.ensures.0 c.in-End.ensures.1) ∙ whole in
     subst (λ (r : Result DraftValue Stop). GivesLines (λ x. x) c.finish.result r) ended c.finish.ensures
 
@@ -72,8 +72,8 @@ pub returns-in-Unfinished : goal.returns-in-Unfinished
 returns-in-Unfinished c =
     let text = c.args.text.now in
     let lines = c.args.lines.now in
-    let n = c.in-Some.arguments in
+    let n = c.argument_words-arguments.result in
     let d = c.loop-place.drafting in
-    let whole = c.loop-place.invariant.same ∙ ap (λ n. body_of n (text_lines text lines)) c.in-Some.ensures.1 in
+    let whole = c.loop-place.invariant.same ∙ ap (λ n. body_of n (text_lines text lines)) c.argument_words-arguments.ensures in
     rw (c.missing.ensures, c.number_behind-in-Unfinished.ensures text)
     (sym whole ∙ from_unfinished n text lines c.loop-place.at d c.in-Unfinished.ensures.0 c.in-Unfinished.ensures.1)

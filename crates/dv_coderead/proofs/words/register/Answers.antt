@@ -1,12 +1,12 @@
 use mir.Val.{SFits}
-use Rattle.std.proofs.Common.{[], ◌∷◌, Some, None, ap, sym, ◌∙◌, arith, rules, w64}
+use Rattle.std.proofs.Common.{[], ◌∷◌, Some, None, ap, sym, ◌∙◌, rules, w64}
 use Rattle.std.proofs.lemmas.Bool.Decides.{Decides-eqb}
 use Rattle.std.proofs.lemmas.Int.{to_z-of_z}
 use Rattle.std.proofs.lemmas.Result.{err_from_is_err_and}
 use Rattle.std.proofs.lemmas.Slice.Eq.{strip_prefix_is}
 use Rattle.dv_coderead.specs.Words.{decimal_in}
 use Rattle.dv_coderead.specs.WordParts.{register_at}
-use Rattle.dv_coderead.proofs.Numbers.{added, argument_read, argument_refused, argument_word, other_word, plain_word, register_read, register_refused, short_small}
+use Rattle.dv_coderead.proofs.Numbers.{argument_word, other_word, plain_word, register_read, register_refused}
 use Rattle.dv_coderead.proofs.words.register.Goals as goal
 
 pub returns-in_err-decimal : goal.returns-in_err-decimal
@@ -27,27 +27,12 @@ returns-in-Some c =
     c.register_at.ensures ∙ ap register_at (to_z-of_z w64 z fits) ∙ register_read (decimal_in c.in-Some.digits.now) z (sym c.in_ok-decimal.ensures)
     ∙ sym (plain_word c.args.frame w c.in-Some.digits.now whole)
 
-pub returns-in_err-decimal-2 : goal.returns-in_err-decimal-2
-returns-in_err-decimal-2 c =
-    let w = c.args.word.now in
-    let frame = c.args.frame in
-    let digits = c.in-Some-strip_prefix.digits in
-    let whole = strip_prefix_is Decides-eqb w (112 ∷ []) (Some digits) c.in-Some-strip_prefix.ensures.cases in
-    let p = err_from_is_err_and c.from_residual-in_err-decimal-2.result c.from_residual-in_err-decimal-2.ensures.1 in
-    let refused = argument_word frame w digits.now whole ∙ argument_refused frame (omega arith) (decimal_in digits.now) c.in_err-decimal-2.field-0.0 (sym c.in_err-decimal-2.ensures) in
-    rw (p.1, p.2) (sym refused)
-
 pub returns-in-Some-strip_prefix : goal.returns-in-Some-strip_prefix
 returns-in-Some-strip_prefix c =
     let w = c.args.word.now in
-    let z = c.in_ok-decimal-2.field-0 in
-    let frame = c.args.frame in
     let digits = c.in-Some-strip_prefix.digits in
     let whole = strip_prefix_is Decides-eqb w (112 ∷ []) (Some digits) c.in-Some-strip_prefix.ensures.cases in
-    let o = decimal_in digits.now in
-    let ok = sym c.in_ok-decimal-2.ensures in
-    let sum = added frame z c.from.result c.from-in-Some-strip_prefix.result (short_small o z ok) (omega arith) (omega arith) c.from.ensures c.from-in-Some-strip_prefix.ensures in
-    c.register_at-in-Some-strip_prefix.ensures ∙ ap register_at sum ∙ argument_read frame o z ok ∙ sym (argument_word frame w digits.now whole)
+    c.argument.ensures ∙ sym (argument_word c.args.frame w digits.now whole)
 
 pub returns : goal.returns
 returns c =
