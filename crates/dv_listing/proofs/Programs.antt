@@ -8,3 +8,4 @@ pub mod Schedules
 pub mod Alike
 pub mod Logs
 pub mod Unlined
+pub mod LogLines

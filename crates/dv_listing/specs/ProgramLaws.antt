@@ -11,9 +11,10 @@ use Rattle.dv_log.specs.Reading.{AreEntry}
 use Rattle.dv_log.specs.Writing.{log_text, IsEntry}
 use Rattle.dv_print.specs.Listing.{class_text}
 use Rattle.dv_coderead.specs.Pieces.{pieces_of}
+use Rattle.dv_classread.specs.declared.schedule.LogLine.TheVariants as says
 use Rattle.dv_classread.specs.declared.text.Read.{Read}
 use Rattle.dv_classread.specs.Programs.{program_of}
-use Rattle.dv_classread.specs.Schedules.{entry_in}
+use Rattle.dv_classread.specs.Schedules.{entry_in, log_line}
 use Rattle.dv_listing.specs.ClassListable.{IsListedClass}
 
 -- the listings of these classes, one after another
@@ -60,3 +61,11 @@ ReadSchedulesAreReadAgain =
 -- The tokens of a line are an entry of a schedule that stands alone exactly where they are read as that entry behind classes.
 abbrev pub EntriesAreReadAlike : Type 0
 EntriesAreReadAlike = (tokens : List Lexeme) (e : Entry) → All IsLexeme tokens → AreEntry tokens e ↔ (entry_in (pieces_of tokens) ≡ Ok e)
+
+-- The tokens say the same on a line of a schedule that stands alone and on one behind classes: nothing, or this entry.
+pub record IsReadAlike (tokens : List Lexeme) : Type 0 where
+  pub nothing : (tokens ≡ []) ↔ (log_line (pieces_of tokens) ≡ Ok says.Nothing)
+  pub entry : (e : Entry) → AreEntry tokens e ↔ (log_line (pieces_of tokens) ≡ Ok (says.One e))
+
+abbrev pub LogLinesAreReadAlike : Type 0
+LogLinesAreReadAlike = (tokens : List Lexeme) → All IsLexeme tokens → IsReadAlike tokens

@@ -22,7 +22,7 @@ pub use laws::printed_lines_are_read;
 pub use listing_laws::listings_are_read;
 pub use operand_laws::instructions_are_read;
 pub use program_laws::{
-    entries_are_read_alike, listings_have_no_lines, programs_are_read,
+    entries_are_read_alike, listings_have_no_lines, log_lines_are_read_alike, programs_are_read,
     read_programs_are_read_again, read_schedules_are_read_again, schedules_are_read,
 };
 pub use raw_laws::raw_bodies_are_read;

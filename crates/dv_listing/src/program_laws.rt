@@ -1,5 +1,5 @@
 // The laws of the listing of several classes, and of a schedule behind them: each is the contract of a function that does nothing.
-ghost use Rattle.dv_listing.specs.ProgramLaws.{EntriesAreReadAlike, ListingsHaveNoLines, ProgramsAreRead, ReadProgramsAreReadAgain, ReadSchedulesAreReadAgain, SchedulesAreRead};
+ghost use Rattle.dv_listing.specs.ProgramLaws.{EntriesAreReadAlike, ListingsHaveNoLines, LogLinesAreReadAlike, ProgramsAreRead, ReadProgramsAreReadAgain, ReadSchedulesAreReadAgain, SchedulesAreRead};
 
 use crate::class_laws::{
     class_lines_are_read, field_lines_are_read, interface_lines_are_read, method_ends_are_read,
@@ -74,3 +74,10 @@ pub fn read_schedules_are_read_again()
 pub fn entries_are_read_alike()
     ensures { EntriesAreReadAlike }
 {}
+
+/// A line of a schedule behind classes is blank, or an entry, exactly where it is in a schedule that stands alone.
+pub fn log_lines_are_read_alike()
+    ensures { LogLinesAreReadAlike }
+{
+    entries_are_read_alike();
+}

@@ -80,10 +80,10 @@ end_head : head_of end_pieces ≡ head.Directive directive.EndSchedule
 unfolding head_of directive_of class_directive method_directive raw_directive skipped_directive is_skipped two_word_directive ended_by
 end_head = refl
 
-no_mark : (b : ℕ) → is_decimal b ≡ true → ((b == 46) ≡ false) × ((b == 58) ≡ false)
+pub no_mark : (b : ℕ) → is_decimal b ≡ true → ((b == 46) ≡ false) × ((b == 58) ≡ false)
 no_mark b is = (grind (arith, nat_tests), grind (arith, nat_tests))
 
-digits_other : (ds : List ℕ) (ps : List Piece) → 0 < length ds → list_all is_decimal ds ≡ true → IsOther (head_of (AWord ds ∷ ps))
+pub digits_other : (ds : List ℕ) (ps : List Piece) → 0 < length ds → list_all is_decimal ds ≡ true → IsOther (head_of (AWord ds ∷ ps))
 unfolding head_of
 digits_other [] ps some digits = absurd (omega arith)
 digits_other (b ∷ ds) ps some digits =
@@ -115,7 +115,7 @@ entry_read e h =
 
 -- ---- lines
 
-other_line : (h : Head) (ps : List Piece) → IsOther h → log_line_by h ps ≡ log_said log.One (entry_in ps)
+pub other_line : (h : Head) (ps : List Piece) → IsOther h → log_line_by h ps ≡ log_said log.One (entry_in ps)
 other_line (head.Opcode op) ps is = refl
 other_line head.Float ps is = refl
 other_line head.Other ps is = refl
