@@ -14,7 +14,7 @@ use Rattle.dv_defs.specs.declared.names.Ty.{Ty}
 use Rattle.dv_defs.specs.Body.{BodyValue}
 use Rattle.dv_defs.specs.Families.{pool_at}
 use Rattle.dv_defs.specs.Numbers.{jump}
-use Rattle.dv_defs.specs.Spelling.{AreUnits, all_fit, plain, few, insn_eq}
+use Rattle.dv_defs.specs.Spelling.{all_fit, plain, few, insn_eq}
 use Rattle.dv_defs.specs.Types.{ty_eq}
 use Rattle.dv_asm.specs.declared.draft.Item.{Item}
 use Rattle.dv_asm.specs.declared.draft.Catch.{Catch}
@@ -49,6 +49,7 @@ use Rattle.dv_listing.proofs.DraftElements.{IsByte}
 use Rattle.dv_listing.proofs.DraftTold.{draft_read}
 use Rattle.dv_listing.proofs.Unlined.{layout_has_no_lines}
 use Rattle.dv_listing.proofs.Accepted.{refusal_has_no_lines}
+use Rattle.dv_listing.proofs.SpelledUnits.{layout_units}
 
 -- ---- a listed draft has its form
 
@@ -230,30 +231,30 @@ registers_same : (d : DraftValue) → (draft_of (layout d)).registers ≡ d.regi
 unfolding draft_of body_of
 registers_same d = refl
 
-pub listed_assembled : (d : DraftValue) → IsListedDraft d → refusal d ≡ None → AreUnits (layout d).units → IsAssembled (draft_of (layout d))
-listed_assembled d is none fit = draft_is_assembled d (listed_formed d.items is.items) (listed_numbers d.items is.items) none fit
+pub listed_assembled : (d : DraftValue) → IsListedDraft d → refusal d ≡ None → IsAssembled (draft_of (layout d))
+listed_assembled d is none = draft_is_assembled d (listed_formed d.items is.items) (listed_numbers d.items is.items) none (layout_units d)
 
-pub listed_again : (d : DraftValue) → IsListedDraft d → refusal d ≡ None → AreUnits (layout d).units → IsListedDraft (draft_of (layout d))
-listed_again d is none fit =
-    let l = laid_out d (listed_formed d.items is.items) (listed_numbers d.items is.items) none fit in
+pub listed_again : (d : DraftValue) → IsListedDraft d → refusal d ≡ None → IsListedDraft (draft_of (layout d))
+listed_again d is none =
+    let l = laid_out d (listed_formed d.items is.items) (listed_numbers d.items is.items) none (layout_units d) in
     record {
       registers = subst (λ (n : ℕ). n ≤ 256) (sym (registers_same d)) is.registers;
-      items = items_listed d l is.items (listed_assembled d is none fit).formed;
+      items = items_listed d l is.items (listed_assembled d is none).formed;
       catches = catches_listed d is.catches;
     }
 
 pub same_back : (d e : DraftValue) → SameButLines d e → SameButLines e d
 same_back d e same = record { registers = sym same.registers; items = sym same.items; catches = sym same.catches }
 
-pub laid_out_again : InstructionsAreRead → TypesAreRead → (d : DraftValue) → IsListedDraft d → refusal d ≡ None → AreUnits (layout d).units → (arguments past n : ℕ) → IsLaidOutAgain (layout d) arguments past n
-laid_out_again ops types d is none fit arguments past n =
+pub laid_out_again : InstructionsAreRead → TypesAreRead → (d : DraftValue) → IsListedDraft d → refusal d ≡ None → (arguments past n : ℕ) → IsLaidOutAgain (layout d) arguments past n
+laid_out_again ops types d is none arguments past n =
     let again = draft_of (layout d) in
-    let r = draft_read ops types again (listed_again d is none fit) arguments past n in
+    let r = draft_read ops types again (listed_again d is none) arguments past n in
     record {
       draft = r.draft;
       read = r.read;
-      accepted = refusal_has_no_lines again r.draft (same_back r.draft again r.same) (listed_assembled d is none fit).accepted;
+      accepted = refusal_has_no_lines again r.draft (same_back r.draft again r.same) (listed_assembled d is none).accepted;
       same =
           layout_has_no_lines r.draft again r.same ∙
-          draft_is_kept d (listed_formed d.items is.items) (listed_numbers d.items is.items) none fit;
+          draft_is_kept d (listed_formed d.items is.items) (listed_numbers d.items is.items) none (layout_units d);
     }

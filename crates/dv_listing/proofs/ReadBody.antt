@@ -50,7 +50,8 @@ use Rattle.dv_coderead.proofs.Opcodes.{head_named}
 use Rattle.dv_coderead.proofs.Adding.{element_length}
 use Rattle.dv_listing.proofs.ReadOps.{operands_listed}
 use Rattle.dv_listing.proofs.ReadParts.{behind_text, behind_texts, dots_leave, either, mark_leaves, of_alone, of_word}
-use Rattle.dv_listing.proofs.ReadWords.{IsTypeOf, after_such, class_listed, label_listed, weaker_ok}
+use Rattle.dv_coderead.proofs.FormedParts.{after_such}
+use Rattle.dv_listing.proofs.ReadWords.{IsTypeOf, class_listed, label_listed, weaker_ok}
 
 -- ---- what a line says
 

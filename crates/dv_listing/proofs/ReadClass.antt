@@ -36,7 +36,8 @@ use Rattle.dv_classread.proofs.Flags.{bit_free}
 use Rattle.dv_listing.specs.Listable.{IsNameText, IsTypeText}
 use Rattle.dv_listing.specs.ClassPieces.{HasKnownFlags, IsClassText, IsInitText, IsListedField}
 use Rattle.dv_listing.specs.ReadLaws.{IsPieceText, ArePieceTexts, IsClassHeadText, IsClassLineText, IsSignatureText}
-use Rattle.dv_listing.proofs.ReadWords.{IsCutAt, IsProtoOf, IsTypeOf, after_any, after_such, class_listed, cut_utf8, found_split, name_listed, proto_listed, type_word_text, weaker_ok}
+use Rattle.dv_coderead.proofs.FormedParts.{after as after_any, after_such}
+use Rattle.dv_listing.proofs.ReadWords.{IsCutAt, IsProtoOf, IsTypeOf, class_listed, cut_utf8, found_split, name_listed, proto_listed, type_word_text, weaker_ok}
 use Rattle.dv_listing.proofs.ReadParts.{GivesPart, behind_text, behind_texts, either, of_alone, of_word}
 
 -- ---- flags

@@ -30,7 +30,8 @@ use Rattle.dv_listing.specs.Listable.{AreRegisters, IsEntryText, IsLabelText, Is
 use Rattle.dv_listing.specs.ReadLaws.{ArePieceTexts, IsPieceText}
 use Rattle.dv_coderead.proofs.Formed.{operands_are_formed}
 use Rattle.dv_listing.proofs.ReadParts.{GivesPart, LeavesTexts, behind_text, behind_texts, comma_leaves, dots_leave, either, mark_leaves, of_word, with_rest}
-use Rattle.dv_listing.proofs.ReadWords.{IsRegister, after_any, after_such, field_word_text, label_listed, method_word_text, register_listed, type_word_text}
+use Rattle.dv_coderead.proofs.FormedParts.{after as after_any, after_such}
+use Rattle.dv_listing.proofs.ReadWords.{IsRegister, field_word_text, label_listed, method_word_text, register_listed, type_word_text}
 
 -- ---- opcodes
 

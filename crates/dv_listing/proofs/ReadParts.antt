@@ -7,7 +7,7 @@ use Rattle.dv_defs.specs.declared.faults.LineKind.{LineKind}
 use Rattle.dv_coderead.specs.Pieces.{Piece, AWord, AMark, AString, ACharacter}
 use Rattle.dv_coderead.specs.Operands.{Part, alone, and_behind, behind, comma_at, dots_at, ended, mark_at, word_at}
 use Rattle.dv_listing.specs.ReadLaws.{IsPieceText, ArePieceTexts}
-use Rattle.dv_listing.proofs.ReadWords.{after_any}
+use Rattle.dv_coderead.proofs.FormedParts.{after as after_any}
 
 -- the pieces behind the first
 pub behind_text : (p : Piece) (ps : List Piece) → ArePieceTexts (p ∷ ps) → ArePieceTexts ps

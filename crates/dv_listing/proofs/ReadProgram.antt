@@ -50,7 +50,6 @@ use Rattle.dv_listing.proofs.ReadBody.{any_ok, body_listed, kept_texts, line_the
 use Rattle.dv_listing.proofs.ReadClass.{line_listed}
 use Rattle.dv_listing.proofs.ReadPieces.{lines_text}
 use Rattle.dv_listing.proofs.ReadRaw.{raw_listed}
-use Rattle.dv_listing.proofs.SpelledUnits.{layout_units}
 
 -- ---- where lines stand
 
@@ -272,7 +271,7 @@ classes_listed s (Method m ∷ ts) tells = classes_listed s ts tells.1
 -- ---- bodies that are assembled
 
 accepted_listed : (d : DraftValue) (q : Option Refusal) → refusal d ≡ q → IsListedDraft d → IfOk (assembled_by q (layout d)) IsListedBodyIfAny
-accepted_listed d None e is = inr (record { draft = d; listed = is; accepted = e; units = layout_units d; same = refl })
+accepted_listed d None e is = inr (record { draft = d; listed = is; accepted = e; same = refl })
 accepted_listed d (Some r) e is = tt
 
 assembled_listed : (o : Option BodyDraft) → IsBodyText o → IfOk (assembled o) IsListedBodyIfAny

@@ -49,7 +49,8 @@ use Rattle.dv_listing.specs.ReadLaws.{AreLineTexts, ArePieceTexts, IsLineText, I
 use Rattle.dv_listing.proofs.RawRead.{IsRawHandler}
 use Rattle.dv_listing.proofs.ReadBody.{IsCount, any_ok, count_in_few, of_value, line_then, then_listed}
 use Rattle.dv_listing.proofs.ReadParts.{GivesPart, behind_text, behind_texts, either, of_alone, of_word, with_rest}
-use Rattle.dv_listing.proofs.ReadWords.{after_such, field_word_text, method_word_text, type_word_text}
+use Rattle.dv_coderead.proofs.FormedParts.{after_such}
+use Rattle.dv_listing.proofs.ReadWords.{field_word_text, method_word_text, type_word_text}
 use Rattle.dv_listing.proofs.Words.{four_value_from}
 use Rattle.dv_listing.proofs.ReadOps.{entry_made}
 

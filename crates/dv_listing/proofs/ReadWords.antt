@@ -20,25 +20,13 @@ use Rattle.dv_names.proofs.Fronts.{type_text, proto_text}
 use Rattle.dv_lex.specs.Laws.Names.{IsFieldRef, IsMethodRef}
 use Rattle.dv_lex.proofs.Grammar.Utf8.{past_ascii}
 use Rattle.dv_coderead.specs.declared.words.Frame.{Frame}
-use Rattle.dv_coderead.specs.Giving.{◌>>=◌}
 use Rattle.dv_coderead.specs.Laws.{TypesAreRead, PrototypesAreRead}
 use Rattle.dv_coderead.specs.References.{type_in, type_of, proto_in, proto_of, only_reference, reference_type_in, is_class_type, only_class, class_in, cut_at, cut_at_arrow, with_byte, found_parts, arrow_parts, member_name, field_in, method_in, unless_refused}
 use Rattle.dv_coderead.specs.Words.{argument_of, begins_with, decimal_in, label_in, register_in, register_of}
+use Rattle.dv_coderead.proofs.FormedParts.{after_such}
 use Rattle.dv_listing.specs.Listable.{IsNameText, IsTypeText, IsFieldText, IsMethodText}
 
 -- ---- one reading after another
-
-module _ {X Y : Type 0} (P : Y → Type 0) where
-  -- a reading that goes by another is such, if it is wherever that one gives what it may
-  pub after_such : (Q : X → Type 0) (read : Result X LineKind) (next : X → Result Y LineKind)
-      → IfOk read Q → ((x : X) → Q x → IfOk (next x) P) → IfOk (read >>= next) P
-  after_such Q (Ok x) next is holds = holds x is
-  after_such Q (Err k) next is holds = tt
-
-  -- ... or whatever that one gives
-  pub after_any : (read : Result X LineKind) (next : X → Result Y LineKind) → ((x : X) → IfOk (next x) P) → IfOk (read >>= next) P
-  after_any (Ok x) next holds = holds x
-  after_any (Err k) next holds = tt
 
 pub weaker_ok : {A : Type 0} (P Q : A → Type 0) (read : Result A LineKind) → ((x : A) → P x → Q x) → IfOk read P → IfOk read Q
 weaker_ok P Q (Ok x) goes is = goes x is

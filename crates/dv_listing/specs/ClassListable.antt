@@ -3,7 +3,6 @@ use Rattle.std.specs.Prelude.{◌≡◌, ◌⊎◌, ℕ, Bool, true, false, List
 use Rattle.dv_defs.specs.declared.class.ClassDef.{ClassDef}
 use Rattle.dv_defs.specs.declared.class.MethodDef.{MethodDef}
 use Rattle.dv_defs.specs.Body.{BodyValue}
-use Rattle.dv_defs.specs.Spelling.{AreUnits}
 use Rattle.dv_asm.specs.Draft.{DraftValue}
 use Rattle.dv_asm.specs.Layout.{layout}
 use Rattle.dv_asm.specs.Refusals.{refusal}
@@ -17,7 +16,6 @@ pub record IsListedLayout (b : BodyValue) : Type 0 where
   pub draft : DraftValue
   pub listed : IsListedDraft draft
   pub accepted : refusal draft ≡ None
-  pub units : AreUnits (layout draft).units
   pub same : layout draft ≡ b
 
 abbrev pub IsListedBody : BodyValue → Type 0

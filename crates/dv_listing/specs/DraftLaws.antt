@@ -2,7 +2,6 @@
 use Rattle.std.specs.Prelude.{◌≡◌, ℕ, Bool, true, not, ◌||◌, List, map, None, Ok}
 use Rattle.std.specs.List.{list_all}
 use Rattle.dv_defs.specs.Body.{BodyValue}
-use Rattle.dv_defs.specs.Spelling.{AreUnits}
 use Rattle.dv_asm.specs.declared.draft.Item.{Item}
 use Rattle.dv_asm.specs.declared.draft.What.{What}
 use Rattle.dv_asm.specs.declared.draft.Catch.{Catch}
@@ -74,7 +73,7 @@ DraftsAreRead = (d : DraftValue) → IsListedDraft d → (arguments past n : ℕ
 -- The draft that is made of the body of a listed draft is listed.
 abbrev pub DraftsAreListedAgain : Type 0
 DraftsAreListedAgain =
-    (d : DraftValue) → IsListedDraft d → refusal d ≡ None → AreUnits (layout d).units → IsListedDraft (draft_of (layout d))
+    (d : DraftValue) → IsListedDraft d → refusal d ≡ None → IsListedDraft (draft_of (layout d))
 
 -- a draft is read of the lines of a laid-out body, and it isn't refused and laid out as that body
 pub record IsLaidOutAgain (b : BodyValue) (arguments past n : ℕ) : Type 0 where
@@ -85,5 +84,4 @@ pub record IsLaidOutAgain (b : BodyValue) (arguments past n : ℕ) : Type 0 wher
 
 abbrev pub BodiesAreLaidOutAgain : Type 0
 BodiesAreLaidOutAgain =
-    (d : DraftValue) → IsListedDraft d → refusal d ≡ None → AreUnits (layout d).units →
-    (arguments past n : ℕ) → IsLaidOutAgain (layout d) arguments past n
+    (d : DraftValue) → IsListedDraft d → refusal d ≡ None → (arguments past n : ℕ) → IsLaidOutAgain (layout d) arguments past n

@@ -1,5 +1,5 @@
 -- Raw bodies that can be printed so that they are read again.
-use Rattle.std.specs.Prelude.{◌≡◌, ◌^◌, ◌<◌, ◌&&◌, not, Bool, true, false, IsTrue, bytes_eq, nat_eq, List, [], ◌∷◌, length, All}
+use Rattle.std.specs.Prelude.{◌≡◌, ◌^◌, ◌<◌, not, Bool, true, false, IsTrue, bytes_eq, List, [], ◌∷◌, length, All}
 use Rattle.std.specs.List.{list_all}
 use Rattle.dv_defs.specs.declared.code.Handler.{Handler}
 use Rattle.dv_defs.specs.declared.code.Try.{Try}
@@ -7,6 +7,7 @@ use Rattle.dv_defs.specs.Body.{BodyValue, IsBody}
 use Rattle.dv_defs.specs.Spelling.{AreUnits}
 use Rattle.dv_defs.specs.Types.{ty_eq}
 use Rattle.dv_asm.specs.Pools.{field_eq, method_eq}
+use Rattle.dv_coderead.specs.RawDrafting.{have_same_range}
 use Rattle.dv_listing.specs.Listable.{AreStringUnits, IsTypeText, IsFieldText, IsMethodText}
 
 -- no entry stands again behind itself
@@ -21,13 +22,10 @@ pub record IsTryEntry (t : Try) : Type 0 where
   pub some : 0 < length t.handlers
   pub handlers : All (λ (h : Handler). h.at < 2 ^ 32) t.handlers
 
-abbrev pub same_range : Try → Try → Bool
-same_range t u = nat_eq u.start t.start && nat_eq u.end t.end
-
 -- the next entry has another range
 abbrev pub IsApartFrom : Try → List Try → Type 0
 IsApartFrom t [] = Unit {0}
-IsApartFrom t (u ∷ us) = same_range t u ≡ false
+IsApartFrom t (u ∷ us) = have_same_range t u ≡ false
 
 abbrev pub AreTryEntries : List Try → Type 0
 AreTryEntries [] = Unit {0}

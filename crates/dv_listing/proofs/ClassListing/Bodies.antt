@@ -5,7 +5,6 @@ use Rattle.std.specs.List.{list_all}
 use Rattle.std.proofs.lemmas.Bool.{and_parts, cond-true, cond-false, or_parts, not-true}
 use Rattle.std.proofs.lemmas.List.Elements.{All-nil, All-cons}
 use Rattle.dv_defs.specs.Body.{BodyValue}
-use Rattle.dv_defs.specs.Spelling.{AreUnits}
 use Rattle.dv_asm.specs.Draft.{DraftValue}
 use Rattle.dv_asm.specs.Layout.{layout, body_of}
 use Rattle.dv_asm.specs.Refusals.{refusal}
@@ -117,23 +116,23 @@ drafted_given b sig past ls d is e accepted same = record {
 }
 
 module _ (printed : DraftsArePrinted) (count : DraftLinesCount) (listed : DraftsAreListedAgain) (again : BodiesAreLaidOutAgain) where
-  layout_body : (d : DraftValue) → IsListedDraft d → refusal d ≡ None → AreUnits (layout d).units → HasBodyLines (Some (layout d))
-  layout_body d is accepted units =
+  layout_body : (d : DraftValue) → IsListedDraft d → refusal d ≡ None → HasBodyLines (Some (layout d))
+  layout_body d is accepted =
       let b = layout d in
       let e = draft_of b in
-      let is_again = listed d is accepted units in
+      let is_again = listed d is accepted in
       let l = count e is_again in
       record {
         pieces = draft_pieces e;
         lines = subst (λ (text : List ℕ). HaveLines text (draft_pieces e)) (sym (cond-false b.raw (raw_text b) (draft_text e) (layout_drafted d))) (printed e is_again);
         inside = lines_inside (draft_pieces e) l.heads l.inside;
         read = λ sig past n.
-            let r = again d is accepted units (arguments_of sig) past n in
+            let r = again d is accepted (arguments_of sig) past n in
             drafted_given b sig past (numbered n (draft_pieces e)) r.draft (l.drafted n) r.read r.accepted r.same;
       }
 
   laid_out_body : (b : BodyValue) → IsListedLayout b → HasBodyLines (Some b)
-  laid_out_body b h = subst (λ (c : BodyValue). HasBodyLines (Some c)) h.same (layout_body h.draft h.listed h.accepted h.units)
+  laid_out_body b h = subst (λ (c : BodyValue). HasBodyLines (Some c)) h.same (layout_body h.draft h.listed h.accepted)
 
   -- ---- each of them
 
