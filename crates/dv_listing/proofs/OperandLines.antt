@@ -27,12 +27,12 @@ use Rattle.dv_coderead.specs.Operands.{literal_by, registers_in}
 use Rattle.dv_coderead.proofs.FormedParts.{IsValue, is_range}
 use Rattle.dv_listing.specs.Printed.{HasPieces}
 use Rattle.dv_listing.specs.Listable.{IsEntryText, IsLabelText, IsListedOp}
-use Rattle.dv_listing.specs.OperandPieces.{comma_before, braces_pieces, entry_pieces, insn_pieces, label_pieces, listed_pieces, neighbours_pieces, op_pieces, operand_pieces, register_pieces, registers_pieces}
+use Rattle.dv_listing.specs.OperandPieces.{braces_pieces, entry_pieces, insn_pieces, label_pieces, listed_pieces, neighbours_pieces, op_pieces, operand_pieces, register_pieces, registers_pieces}
 use Rattle.dv_listing.proofs.OpcodeNames.{name_text, name_word}
 use Rattle.dv_listing.proofs.OperandForms.{form_told}
 use Rattle.dv_listing.proofs.OperandsRead.{IsShort, fits_is_small, literal_short}
 use Rattle.dv_listing.proofs.Pieces.{IsFront, blank_ends, blank_front, brace_is, comma_is, end_brace_is, front_append, front_line, mark_ends, mark_front, no_front, string_front, word_front, more_text, more_ends}
-use Rattle.dv_listing.proofs.RegistersRead.{IsRegister, all_take}
+use Rattle.dv_listing.proofs.RegistersRead.{comma_before, IsRegister, all_take}
 use Rattle.dv_listing.proofs.Words.{IsWordText, constant, field_ref_text, method_ref_text, number_word, register_word, signed_word, type_text, label_text as label_word_text}
 
 -- ---- operands with commas between

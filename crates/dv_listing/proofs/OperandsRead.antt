@@ -37,9 +37,9 @@ use Rattle.dv_coderead.proofs.Formed.{labels_agree, pools_agree}
 use Rattle.dv_coderead.proofs.Readings.{reads_next}
 use Rattle.dv_coderead.proofs.FormedParts.{IsValue}
 use Rattle.dv_listing.specs.Listable.{IsEntryText, IsLabelText, IsListedOp}
-use Rattle.dv_listing.specs.OperandPieces.{comma_before, entry_pieces, label_pieces, literal_pieces, listed_pieces, op_pieces, registers_pieces}
+use Rattle.dv_listing.specs.OperandPieces.{entry_pieces, label_pieces, literal_pieces, listed_pieces, op_pieces, registers_pieces}
 use Rattle.dv_listing.proofs.OperandForms.{form_told}
-use Rattle.dv_listing.proofs.RegistersRead.{Agrees, pieces_behind, registers_read}
+use Rattle.dv_listing.proofs.RegistersRead.{comma_before, Agrees, pieces_behind, registers_read}
 use Rattle.dv_listing.proofs.Words.{label_read, literal_read, plain_literal_read}
 
 -- ---- what formats have

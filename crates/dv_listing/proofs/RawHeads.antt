@@ -18,10 +18,6 @@ use Rattle.dv_classread.specs.Texts.{ends_method, leaves_method}
 use Rattle.dv_listing.specs.RawPieces.{unit_piece}
 use Rattle.dv_listing.proofs.Words.{hexadecimal_digits}
 
-pub count_head : (ps : List Piece) → head_of (AWord (codes ".registers") ∷ ps) ≡ head.Directive directive.Registers
-unfolding head_of directive_of class_directive method_directive
-count_head ps = refl
-
 pub ref_head : (ps : List Piece) → head_of (AWord (codes ".rawref") ∷ ps) ≡ head.Directive directive.Rawref
 unfolding head_of directive_of class_directive method_directive raw_directive
 ref_head ps = refl

@@ -18,7 +18,8 @@ use Rattle.dv_classread.specs.Texts.{ends_method, leaves_method}
 use Rattle.dv_listing.specs.Printed.{numbered}
 use Rattle.dv_listing.specs.RawListable.{IsListedRaw}
 use Rattle.dv_listing.specs.RawPieces.{AreInside, IsInside, count_pieces, handler_pieces, handlers_of, raw_pieces, ref_piece, ref_pieces, refs_of, unit_lines, unit_pieces, units_pieces}
-use Rattle.dv_listing.proofs.RawHeads.{IsOther, count_head, ref_head, try_head, unit_head, units_end_head, units_head}
+use Rattle.dv_listing.proofs.DraftHeads.{registers_head}
+use Rattle.dv_listing.proofs.RawHeads.{IsOther, ref_head, try_head, unit_head, units_end_head, units_head}
 use Rattle.dv_listing.proofs.RawRead.{AreUnitLines, lines_are}
 
 -- ---- inside
@@ -68,7 +69,7 @@ units_inside uss are = (
 
 pub raw_inside : (b : BodyValue) → IsListedRaw b → AreInside (raw_pieces b)
 raw_inside b is = (
-  inside_by (count_pieces b.registers) (head.Directive directive.Registers) (count_head (AWord (decimal b.registers) ∷ [])) refl refl refl,
+  inside_by (count_pieces b.registers) (head.Directive directive.Registers) (registers_head (AWord (decimal b.registers) ∷ [])) refl refl refl,
   inside_append (map ref_pieces (refs_of b)) (units_pieces b.units ++ map handler_pieces (handlers_of b)) (refs_inside (refs_of b))
       (inside_append (units_pieces b.units) (map handler_pieces (handlers_of b))
       (units_inside (unit_lines (length b.units) 0 b.units) (lines_are (length b.units) 0 b.units is.units)) (handlers_inside (handlers_of b))),
@@ -78,8 +79,8 @@ raw_inside b is = (
 
 raw_by : (n count : ℕ) (rs : List PoolRef) (rest : List (List Piece)) → kind_of (numbered n (count_pieces count ∷ (map ref_pieces rs ++ ((AWord (codes ".units") ∷ []) ∷ rest)))) ≡ of_kind.Raw
 unfolding kind_of
-raw_by n count [] rest = rw (count_head (AWord (decimal count) ∷ [])) (rw units_head refl)
-raw_by n count (r ∷ rs) rest = rw (count_head (AWord (decimal count) ∷ [])) (rw (ref_head (ref_piece r)) refl)
+raw_by n count [] rest = rw (registers_head (AWord (decimal count) ∷ [])) (rw units_head refl)
+raw_by n count (r ∷ rs) rest = rw (registers_head (AWord (decimal count) ∷ [])) (rw (ref_head (ref_piece r)) refl)
 
 pub raw_is_raw : (b : BodyValue) (n : ℕ) → kind_of (numbered n (raw_pieces b)) ≡ of_kind.Raw
 raw_is_raw b n = raw_by n b.registers (refs_of b) _

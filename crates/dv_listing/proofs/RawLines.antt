@@ -25,7 +25,8 @@ use Rattle.dv_asm.specs.declared.draft.PoolRef.{PoolRef}
 use Rattle.dv_print.specs.Raw.{caught_text}
 use Rattle.dv_listing.specs.Listable.{IsTypeText}
 use Rattle.dv_listing.specs.RawPieces.{count_pieces, handler_pieces, unit_piece, unit_pieces}
-use Rattle.dv_listing.proofs.RawHeads.{IsOther, count_head, ref_head, try_head, unit_head, units_end_head, units_head}
+use Rattle.dv_listing.proofs.DraftHeads.{registers_head}
+use Rattle.dv_listing.proofs.RawHeads.{IsOther, ref_head, try_head, unit_head, units_end_head, units_head}
 use Rattle.dv_listing.proofs.Words.{decimal_read, hexadecimal_digits, hexadecimal_value}
 
 -- ---- numbers
@@ -52,7 +53,7 @@ address_read n lt =
 -- the count of registers
 pub count_line : (n : ℕ) → n ≤ 256 → raw_line place.Start (count_pieces n) ≡ Ok (line.Registers n)
 unfolding raw_line
-count_line n le = rw (count_head (AWord (decimal n) ∷ [])) (rw (count_read n le) refl)
+count_line n le = rw (registers_head (AWord (decimal n) ∷ [])) (rw (count_read n le) refl)
 
 -- an entry of a pool
 entry_read : (p : Piece) (r : PoolRef) → entry_by_shape p ≡ Ok r → entry_line (p ∷ []) ≡ Ok r

@@ -18,9 +18,13 @@ use Rattle.dv_coderead.specs.Pieces.{Piece, AWord, AMark}
 use Rattle.dv_coderead.specs.Operands.{each_at, one_at, two_at, three_at, next_register_at, list_at, with_register, braces_at, few_at, neighbours_at, last_at, range_of, registers_at, is_first, and_behind}
 use Rattle.dv_coderead.proofs.FormedParts.{is_range}
 use Rattle.dv_listing.specs.Listable.{AreRegisters}
-use Rattle.dv_listing.specs.OperandPieces.{comma_before, listed_pieces, register_pieces, neighbours_pieces, registers_pieces}
+use Rattle.dv_listing.specs.OperandPieces.{listed_pieces, register_pieces, neighbours_pieces, registers_pieces}
 use Rattle.dv_listing.proofs.OperandForms.{Counts}
 use Rattle.dv_listing.proofs.Words.{register_read}
+
+-- a comma in front
+abbrev pub comma_before : List Piece → List Piece
+comma_before ps = AMark 44 ∷ ps
 
 -- operands behind others, or the first ones
 abbrev pub pieces_behind : Bool → List (List Piece) → List Piece

@@ -20,9 +20,6 @@ use Rattle.dv_coderead.specs.Operands.{operands_in}
 use Rattle.dv_listing.specs.Printed.{HasPieces}
 use Rattle.dv_listing.specs.Listable.{IsListedOp}
 
-abbrev pub comma_before : List Piece → List Piece
-comma_before ps = AMark 44 ∷ ps
-
 -- operands with commas between
 abbrev pub listed_pieces : List (List Piece) → List Piece
 listed_pieces xs = join_by (λ x. x) (AMark 44 ∷ []) xs
