@@ -4,7 +4,7 @@ use Rattle.dv_defs.specs.declared.names.Ty.{Ty}
 use Rattle.dv_defs.specs.declared.code.Body.{Body}
 use Rattle.dv_defs.specs.declared.code.Try.{Try}
 use Rattle.dv_defs.specs.declared.code.Handler.{Handler}
-use Rattle.dv_defs.specs.declared.image.Image.{Image}
+use Rattle.dv_defs.specs.Images.{Image}
 use Rattle.dv_defs.specs.declared.typing.PendingType.TheVariants as pend
 use Rattle.dv_defs.specs.declared.typing.RegState.{RegState}
 use Rattle.dv_defs.specs.Names.{throwable_name}

@@ -3,6 +3,10 @@ pub mod Names
 pub mod Flags
 pub mod Types
 pub mod Body
+pub mod Images
+pub mod First
+pub mod Written
+pub mod Boot
 pub mod Field
 pub mod Formats
 pub mod Spelling
@@ -13,6 +17,10 @@ pub mod Decoding
 pub mod Tiling
 pub mod Pools
 pub mod Order
+pub mod LookUp
+pub mod Numbering
+pub mod LinkFaults
+pub mod Linked
 pub mod Op
 pub mod Statics
 pub mod RegTypes

@@ -6,7 +6,7 @@ use Rattle.dv_defs.specs.declared.names.Ty.{Ty}
 use Rattle.dv_defs.specs.declared.code.Insn.{Insn}
 use Rattle.dv_defs.specs.declared.faults.Rule.{Rule}
 use Rattle.dv_defs.specs.declared.faults.Rule.TheVariants as rule
-use Rattle.dv_defs.specs.declared.image.Image.{Image}
+use Rattle.dv_defs.specs.Images.{Image}
 use Rattle.dv_defs.specs.Parts.{Width, Suffix, Call, Bin, is_shift}
 use Rattle.dv_defs.specs.Families.{Family, family_at}
 use Rattle.dv_defs.specs.Names.{clinit_name}

@@ -1,7 +1,7 @@
 -- The state on entry to a method, and what each instruction makes of a state.
 use Rattle.std.specs.Prelude.{ℕ, zero, suc, ◌-◌, Bool, true, false, ◌&&◌, not, List, [], ◌∷◌, ◌++◌, length, map, replicate, ℤ, pos, negsuc, Option, Some, None, slice_set, nat_eq}
 use Rattle.dv_defs.specs.declared.names.Ty.{Ty}
-use Rattle.dv_defs.specs.declared.image.Image.{Image}
+use Rattle.dv_defs.specs.Images.{Image}
 use Rattle.dv_defs.specs.declared.typing.RegType.{RegType}
 use Rattle.dv_defs.specs.declared.typing.RegType.TheVariants as ty
 use Rattle.dv_defs.specs.declared.typing.PendingType.{PendingType}

@@ -1,6 +1,7 @@
 //! The types that the crates of the machine share, and the definitions over them.
 #![tactic(auto)]
 
+mod boot;
 mod class;
 mod code;
 mod faults;
@@ -12,6 +13,7 @@ mod run;
 mod seq;
 mod typing;
 
+pub use boot::{BOOT_CLASSES, BOOT_FIELDS, BOOT_METHODS};
 pub use class::{ClassDef, FieldDef, Init, MethodDef};
 pub use code::{Body, Handler, Insn, Payload, PoolKind, Regs, Try};
 pub use faults::{Fault, LineError, LineKind, LinkError, LinkKind, Rule, Which};

@@ -74,7 +74,7 @@ impl Chars {
 }
 
 /// The place of a class in the image.
-#[derive(Clone, Copy, PartialEq, Eq, PartialOrd, Ord, Debug)]
+#[derive(Clone, Copy, PartialEq, Eq, PartialOrd, Ord, Hash, Debug)]
 pub struct ClassId(pub u32);
 
 /// The place of a method in the image.

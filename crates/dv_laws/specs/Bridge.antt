@@ -1,5 +1,5 @@
 -- From linking and acceptance to what the laws take of an image, as a statement.
-use Rattle.dv_defs.specs.declared.image.Image.{Image}
+use Rattle.dv_defs.specs.Images.{Image}
 use Rattle.dv_defs.specs.Accepting.{Accepts}
 use Rattle.dv_machine.specs.WellTyped.{Typings}
 use Rattle.dv_machine.specs.Accepted.{IsHierarchy, KeepsSlots, HasBodies, HasPools, HasInits, HasBoot, Accepted}

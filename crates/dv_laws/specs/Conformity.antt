@@ -1,6 +1,6 @@
 -- Conformity goes up the order, as statements: of a value, of registers, of a frame.
 use Rattle.std.specs.Prelude.{◌≡◌, ℕ, true, List, length}
-use Rattle.dv_defs.specs.declared.image.Image.{Image}
+use Rattle.dv_defs.specs.Images.{Image}
 use Rattle.dv_defs.specs.declared.run.Value.{Value}
 use Rattle.dv_defs.specs.declared.machine.Frame.{Frame}
 use Rattle.dv_defs.specs.declared.typing.RegType.{RegType}

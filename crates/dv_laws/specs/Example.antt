@@ -1,5 +1,5 @@
 -- Images with all boot classes and a small program, which are accepted.
-use Rattle.dv_defs.specs.declared.image.Image.{Image}
+use Rattle.dv_defs.specs.Images.{Image}
 use Rattle.dv_machine.specs.WellTyped.{Typings}
 use Rattle.dv_machine.specs.Accepted.{Accepted}
 use Rattle.dv_machine.specs.examples.Exceptions.{throwing}

@@ -1,6 +1,6 @@
 -- What each call on monitors keeps of them, as statements.
 use Rattle.std.specs.Prelude.{◌≡◌, ℕ, suc, List, Some, None, slice_get}
-use Rattle.dv_defs.specs.declared.image.Image.{Image}
+use Rattle.dv_defs.specs.Images.{Image}
 use Rattle.dv_defs.specs.Monitors.{Held, Wait, held_of, owner_of, entered, exited, waiting, notified_one, notified_all, wait_of, resumed}
 use Rattle.dv_machine.specs.State.{Thread, Shared, with_monitors}
 use Rattle.dv_machine.specs.WellTyped.{IsWaiting, MonitorsFine}

@@ -1,7 +1,7 @@
 -- What the reads of a step give, where registers conform and the verifier's demand holds.
 use Rattle.std.specs.Prelude.{◌≡◌, ℕ, zero, suc, true, Bool, List, Option, Some, None, All}
 use Rattle.dv_defs.specs.declared.names.Ty.{Ty}
-use Rattle.dv_defs.specs.declared.image.Image.{Image}
+use Rattle.dv_defs.specs.Images.{Image}
 use Rattle.dv_defs.specs.declared.run.Value.{Value}
 use Rattle.dv_defs.specs.declared.machine.Kind.TheVariants as kind
 use Rattle.dv_defs.specs.declared.machine.Pending.{Pending}

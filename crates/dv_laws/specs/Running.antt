@@ -1,6 +1,6 @@
 -- Runs of accepted images.
 use Rattle.std.specs.Prelude.{◌≢◌, List}
-use Rattle.dv_defs.specs.declared.image.Image.{Image}
+use Rattle.dv_defs.specs.Images.{Image}
 use Rattle.dv_defs.specs.declared.run.Entry.{Entry}
 use Rattle.dv_defs.specs.declared.run.Limits.{Limits}
 use Rattle.dv_defs.specs.declared.run.Why.{Why}

@@ -1,5 +1,5 @@
 // The laws of reads, and of steps that touch one frame alone.
-ghost use Rattle.dv_defs.specs.declared.image.Image.{Image};
+ghost use Rattle.dv_defs.specs.Images.{Image};
 ghost use Rattle.dv_machine.specs.StepLaws.{LocalStepsAreFine};
 ghost use Rattle.dv_laws.specs.Reading.{ReadsInt, KeepsInt, ReadsArgument, ReadsTwo, ReadsLong, ReadsReference, ReadsReferenceTo, ReadsArray, ElementTestsGoDown, KeepsObject, TestsBoth, TestsZero, MovesInt, MovesReference};
 

@@ -15,7 +15,7 @@ use Rattle.dv_defs.specs.Heap.{Heap, kind_of}
 use Rattle.dv_machine.specs.State.{Left, Did, Throws, IsStuck, Reads, reading, reg_at, read_ref, read_value, read_args, with_result, Here, left, pushed, type_of}
 use Rattle.dv_machine.specs.Mem.{on_object}
 use Rattle.dv_defs.specs.declared.code.Body.{Body}
-use Rattle.dv_defs.specs.declared.image.Image.{Image}
+use Rattle.dv_defs.specs.Images.{Image}
 use Rattle.dv_defs.specs.declared.run.Value.{Value}
 use Rattle.dv_defs.specs.declared.run.Value.TheVariants as v
 use Rattle.dv_defs.specs.declared.run.Named.{Named}

@@ -9,7 +9,7 @@ use Rattle.dv_defs.specs.Heap.{Heap, kind_of, kind_type}
 use Rattle.dv_machine.specs.State.{reg_at}
 use Rattle.dv_machine.specs.Calls.{object_of}
 use Rattle.dv_defs.specs.declared.names.Ty.{Ty}
-use Rattle.dv_defs.specs.declared.image.Image.{Image}
+use Rattle.dv_defs.specs.Images.{Image}
 use Rattle.dv_defs.specs.declared.run.Value.{Value}
 use Rattle.dv_defs.specs.declared.run.Value.TheVariants as v
 use Rattle.dv_defs.specs.declared.machine.Pending.{Pending}

@@ -1,7 +1,7 @@
 -- What a finished run prints after all.
 use Rattle.std.specs.Prelude.{ℕ, suc, ◌++◌, Bool, true, List, [], ◌∷◌, Option, Some, None, nat_eq, decimal, codes, if◌then◌else◌}
 use Rattle.dv_defs.specs.declared.names.Ty.{Ty}
-use Rattle.dv_defs.specs.declared.image.Image.{Image}
+use Rattle.dv_defs.specs.Images.{Image}
 use Rattle.dv_defs.specs.declared.run.Value.{Value}
 use Rattle.dv_defs.specs.declared.run.Value.TheVariants as v
 use Rattle.dv_defs.specs.declared.run.Ending.{Ending}

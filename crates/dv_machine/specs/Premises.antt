@@ -1,6 +1,6 @@
 -- What the laws of steps take and give: one record for what a case may assume, one for what it leaves.
 use Rattle.std.specs.Prelude.{◌≡◌, ℕ, suc, true, false, ◌∷◌, length, Some, None, Ok, Err, slice_get, All}
-use Rattle.dv_defs.specs.declared.image.Image.{Image}
+use Rattle.dv_defs.specs.Images.{Image}
 use Rattle.dv_defs.specs.declared.machine.Kind.{Kind}
 use Rattle.dv_defs.specs.declared.machine.Level.{Level}
 use Rattle.dv_defs.specs.declared.machine.Level.TheVariants as level

@@ -1,6 +1,6 @@
 -- Which threads are runnable, and how a run stands.
 use Rattle.std.specs.Prelude.{is_none, ℕ, suc, Bool, true, false, ◌&&◌, not, List, [], ◌∷◌, Option, Some, None, slice_get, nat_eq, if◌then◌else◌}
-use Rattle.dv_defs.specs.declared.image.Image.{Image}
+use Rattle.dv_defs.specs.Images.{Image}
 use Rattle.dv_defs.specs.declared.run.Value.{Value}
 use Rattle.dv_defs.specs.declared.run.Value.TheVariants as v
 use Rattle.dv_defs.specs.declared.run.Ending.{Ending}

@@ -2,7 +2,7 @@
 use Rattle.std.specs.Prelude.{ℕ, suc, Bool, true, false, ◌&&◌, List, [], ◌∷◌, Option, Some, None, nat_eq, bytes_eq, codes, if◌then◌else◌}
 use Rattle.std.specs.Option.{unwrap_or}
 use Rattle.dv_defs.specs.declared.names.Ty.{Ty}
-use Rattle.dv_defs.specs.declared.image.Image.{Image}
+use Rattle.dv_defs.specs.Images.{Image}
 use Rattle.dv_defs.specs.declared.image.FieldInfo.{FieldInfo}
 use Rattle.dv_defs.specs.declared.run.Value.TheVariants as v
 use Rattle.dv_defs.specs.declared.run.Named.{Named}

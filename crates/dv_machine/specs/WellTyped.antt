@@ -19,7 +19,7 @@ use Rattle.dv_machine.specs.Step.{prior}
 use Rattle.dv_machine.specs.Unwinding.{is_opening, caught_frame, catches}
 use Rattle.dv_machine.specs.Conforming.{Own, IsOf, Conform, RegsConform, RefsFine}
 use Rattle.dv_defs.specs.declared.names.Ty.{Ty}
-use Rattle.dv_defs.specs.declared.image.Image.{Image}
+use Rattle.dv_defs.specs.Images.{Image}
 use Rattle.dv_defs.specs.declared.run.Value.TheVariants as v
 use Rattle.dv_defs.specs.declared.run.Native.TheVariants as native
 use Rattle.dv_defs.specs.declared.machine.Frame.{Frame}

@@ -1,9 +1,7 @@
 -- Strings and references to members as a smali text has them.
 use Rattle.std.specs.Prelude.{ℕ, ◌+◌, ◌/◌, ◌%◌, ◌&&◌, ◌||◌, Bool, nat_le, nat_lt, List, [], ◌∷◌, ◌++◌, codes, if◌then◌else◌}
 use Rattle.std.specs.List.{flat_map}
-use Rattle.dv_defs.specs.declared.names.FieldRef.{FieldRef}
-use Rattle.dv_defs.specs.declared.names.MethodRef.{MethodRef}
-use Rattle.dv_names.specs.Descriptors.{descriptor, prototype}
+pub use Rattle.dv_defs.specs.Written.{field_text, method_text}
 
 -- a hexadecimal digit
 abbrev pub digit : ℕ → ℕ
@@ -23,9 +21,3 @@ unit_text u = if is_raw u then u ∷ [] else codes "\\u" ++ hexadecimal u
 -- the units in quotes
 abbrev pub string_text : List ℕ → List ℕ
 string_text units = codes "\"" ++ flat_map unit_text units ++ codes "\""
-
-abbrev pub field_text : FieldRef → List ℕ
-field_text f = descriptor f.class ++ codes "->" ++ f.name ++ codes ":" ++ descriptor f.ty
-
-abbrev pub method_text : MethodRef → List ℕ
-method_text m = descriptor m.class ++ codes "->" ++ m.name ++ prototype m.proto

@@ -2,7 +2,7 @@
 use Rattle.std.proofs.Common.{◌≡◌, ℕ, ◌<◌, ◌≤◌, List, [], ◌∷◌, ◌++◌, length, take, codes, Option, Some, None, arith, ap, sym, subst, ◌∙◌, refl, append_assoc, true, false, Bool, if◌then◌else◌, ◌+◌}
 use Rattle.std.proofs.lemmas.List.{take_all, length-take}
 use Rattle.dv_defs.specs.declared.faults.Fault.{Fault}
-use Rattle.dv_defs.specs.declared.image.Image.{Image}
+use Rattle.dv_defs.specs.Images.{Image}
 use Rattle.dv_defs.specs.declared.run.Ending.{Ending}
 use Rattle.dv_defs.specs.declared.run.Entry.{Entry}
 use Rattle.dv_defs.specs.Accepting.{AreImageFaults}

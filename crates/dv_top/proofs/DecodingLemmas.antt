@@ -1,7 +1,7 @@
 -- The instructions of a main method, read back one after another.
 use Rattle.std.proofs.Common.{◌≡◌, ℕ, ◌+◌, ◌<◌, ◌≤◌, List, [], ◌∷◌, ◌++◌, length, take, drop, get_or, suc, flat_map, sum_by, All, Option, Some, None, arith, ap, sym, subst, ◌∙◌, length-append, length-drop}
 use Rattle.std.proofs.Math.Seq.{take-suc, take-length}
-use Rattle.dv_defs.specs.declared.image.Image.{Image}
+use Rattle.dv_defs.specs.Images.{Image}
 use Rattle.dv_top.specs.declared.instruction.Instruction.{Instruction}
 use Rattle.dv_top.specs.declared.instruction.Instruction.TheVariants.{Nop, ReturnVoid, Const4, Const16, Move, AddInt, Println}
 use Rattle.dv_top.specs.Assembly.{units_of, address_of}

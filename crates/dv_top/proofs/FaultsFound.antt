@@ -5,7 +5,7 @@ use Rattle.std.specs.List.{list_any}
 use Rattle.std.proofs.lemmas.List.Folds.{list_any-append}
 use Rattle.std.proofs.lemmas.List.Sums.{sum_by-cons}
 use Rattle.dv_defs.specs.declared.faults.Fault.{Fault}
-use Rattle.dv_defs.specs.declared.image.Image.{Image}
+use Rattle.dv_defs.specs.Images.{Image}
 use Rattle.dv_defs.specs.Accepting.{Place, FaultsBy, FaultsOf, AreImageFaults, typing_faults}
 use Rattle.dv_defs.specs.Demands.{is_int}
 use Rattle.dv_defs.specs.Flow.{Typing, IsLeast, handlers_at, handlers_in}

@@ -1,6 +1,6 @@
 -- The assignment along straight instructions is the least.
 use Rattle.std.proofs.Common.{◌≡◌, ℕ, ◌+◌, Bool, true, false, List, [], ◌∷◌, All, Option, Some, ap, sym, ◌∙◌, refl, subst, arith, nat_eq}
-use Rattle.dv_defs.specs.declared.image.Image.{Image}
+use Rattle.dv_defs.specs.Images.{Image}
 use Rattle.dv_defs.specs.declared.typing.RegState.{RegState}
 use Rattle.dv_defs.specs.Flow.{Typing, Leads, Flows, IsFlowClosed, IsUnderAt, IsLeast, handlers_at}
 use Rattle.dv_defs.specs.Pools.{Method}

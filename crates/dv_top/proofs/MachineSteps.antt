@@ -1,7 +1,7 @@
 -- A step of the tagged machine at an instruction of a straight method.
 use Rattle.std.proofs.Common.{◌≡◌, ℕ, ◌+◌, Bool, true, false, List, [], ◌∷◌, ◌++◌, length, refl, ap, ◌∙◌, ℤ, suc, Option, Some, None}
 use Rattle.std.specs.Prelude.{◌&&◌, slice_set, Ok, nat_le, codes, if◌then◌else◌}
-use Rattle.dv_defs.specs.declared.image.Image.{Image}
+use Rattle.dv_defs.specs.Images.{Image}
 use Rattle.dv_defs.specs.declared.run.Limits.{Limits}
 use Rattle.dv_defs.specs.declared.run.Ending.TheVariants as ending
 use Rattle.dv_defs.specs.declared.run.Value.{Value}

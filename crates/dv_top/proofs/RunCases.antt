@@ -4,7 +4,7 @@ use Rattle.std.specs.Prelude.{Ok, nat_le, nat_lt, slice_set, if◌then◌else◌
 use Rattle.std.proofs.Math.ListN.{length-set}
 use Rattle.std.proofs.lemmas.Bool.Decides.{nat_tests}
 use Rattle.dv_defs.specs.declared.faults.Fault.{Fault}
-use Rattle.dv_defs.specs.declared.image.Image.{Image}
+use Rattle.dv_defs.specs.Images.{Image}
 use Rattle.dv_defs.specs.declared.run.Ending.{Ending}
 use Rattle.dv_defs.specs.declared.run.Ending.TheVariants as ending
 use Rattle.dv_defs.specs.declared.run.Limits.{Limits}

@@ -1,7 +1,7 @@
 -- Steps and turns one after another.
 use Rattle.std.proofs.Common.{◌≡◌, ℕ, true, false, List, [], ◌∷◌, ◌++◌, ap, ◌∙◌, suc, zero, Some, None}
 use Rattle.std.specs.Prelude.{Ok}
-use Rattle.dv_defs.specs.declared.image.Image.{Image}
+use Rattle.dv_defs.specs.Images.{Image}
 use Rattle.dv_defs.specs.declared.run.Entry.{Entry}
 use Rattle.dv_machine.specs.Replaying.{Replayed, Stands, NotRunnable, PastEnd, Wrong, on_stands, stands_on, one_step, steps_of, replay_from}
 use Rattle.dv_machine.specs.Running.{ending_of, runnable}

@@ -1,7 +1,7 @@
 -- One thing is said of the words, the bytes and the log.
 use Rattle.std.proofs.Common.{◌≡◌, ℕ, ◌<◌, ◌≤◌, List, [], ◌∷◌, flat_map, Option, Some, Result, Ok, Err, false, arith, ap, sym, subst, ◌∙◌}
 use Rattle.dv_defs.specs.declared.faults.Fault.{Fault}
-use Rattle.dv_defs.specs.declared.image.Image.{Image}
+use Rattle.dv_defs.specs.Images.{Image}
 use Rattle.dv_defs.specs.declared.run.Entry.{Entry}
 use Rattle.dv_defs.specs.Accepting.{AreImageFaults}
 use Rattle.dv_lex.specs.declared.line.Stop.{Stop}

@@ -2,7 +2,7 @@
 use Rattle.std.proofs.Common.{◌≡◌, ℕ, ◌+◌, ◌<◌, ◌≤◌, suc, Bool, true, false, List, [], ◌∷◌, ◌++◌, length, All, Some, arith, ap, sym, ◌∙◌, refl, subst, flat_map, length-append}
 use Rattle.std.specs.Prelude.{nat_le}
 use Rattle.std.proofs.lemmas.Bool.Decides.{nat_tests}
-use Rattle.dv_defs.specs.declared.image.Image.{Image}
+use Rattle.dv_defs.specs.Images.{Image}
 use Rattle.dv_defs.specs.Accepting.{Place, static_places, places_by, places, place_unless, no_units, sorted, first_places, tile_places, try_places}
 use Rattle.dv_defs.specs.Op.{Code, code_at}
 use Rattle.dv_defs.specs.Statics.{insn_rules}

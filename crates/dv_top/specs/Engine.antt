@@ -2,7 +2,7 @@
 use Rattle.std.specs.Prelude.{◌≡◌, ℕ, ◌+◌, ◌-◌, ◌<◌, Bool, true, false, List, [], ◌++◌, length, drop, ℤ, pos, Option, Some, None, slice_index_or, slice_set, nat_lt, if◌then◌else◌}
 use Rattle.std.specs.Int.{w32, int_wrapping_add}
 use Rattle.std.specs.Fmt.{signed_decimal}
-use Rattle.dv_defs.specs.declared.image.Image.{Image}
+use Rattle.dv_defs.specs.Images.{Image}
 use Rattle.dv_defs.specs.declared.run.Ending.{Ending}
 use Rattle.dv_defs.specs.declared.run.Ending.TheVariants as ending
 use Rattle.dv_defs.specs.declared.run.Entry.{Entry}

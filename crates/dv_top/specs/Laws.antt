@@ -1,7 +1,7 @@
 -- The laws of straight texts and of their bodies.
 use Rattle.std.specs.Prelude.{ℕ, suc, ◌≡◌, ◌<◌, ◌≤◌, ◌↔◌, List, [], ◌++◌, length, drop, slice_index_or, flat_map, All, Some}
 use Rattle.dv_defs.specs.declared.faults.Fault.{Fault}
-use Rattle.dv_defs.specs.declared.image.Image.{Image}
+use Rattle.dv_defs.specs.Images.{Image}
 use Rattle.dv_defs.specs.declared.run.Entry.{Entry}
 use Rattle.dv_defs.specs.Accepting.{static_places, AreImageFaults}
 use Rattle.dv_defs.specs.Op.{Code, code_at}

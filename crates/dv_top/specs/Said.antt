@@ -5,16 +5,15 @@ use Rattle.std.specs.List.{flat_map}
 use Rattle.dv_defs.specs.declared.faults.Fault.{Fault}
 use Rattle.dv_defs.specs.declared.faults.Rule.{Rule}
 use Rattle.dv_defs.specs.declared.faults.Rule.TheVariants as rule
-use Rattle.dv_defs.specs.declared.image.Image.{Image}
+use Rattle.dv_defs.specs.Images.{Image}
 use Rattle.dv_defs.specs.declared.machine.End.{End}
 use Rattle.dv_defs.specs.declared.machine.End.TheVariants as end
 use Rattle.dv_defs.specs.declared.run.Ending.{Ending}
 use Rattle.dv_defs.specs.declared.run.Ending.TheVariants as ending
 use Rattle.dv_defs.specs.declared.run.Entry.{Entry}
 use Rattle.dv_defs.specs.Accepting.{AreImageFaults}
-use Rattle.dv_defs.specs.Names.{main_name}
-use Rattle.dv_defs.specs.Pools.{Method, method_at, name_at, class_named, declared_by, is_static, no_arguments}
-use Rattle.dv_defs.specs.Types.{same_proto}
+use Rattle.dv_defs.specs.Linked.{is_main_with}
+use Rattle.dv_defs.specs.Pools.{Method, method_at, name_at, class_named, declared_by, no_arguments}
 use Rattle.dv_names.specs.Descriptors.{prototype}
 use Rattle.dv_lex.specs.declared.line.Stop.{Stop}
 use Rattle.dv_lex.specs.Lines.{reading_of}
@@ -81,7 +80,7 @@ fault_text image faults = text_of (map (fault_line image) faults)
 
 -- a static method main()V with a body
 abbrev pub is_main : Method → Bool
-is_main m = is_static m && bytes_eq m.def.name main_name && same_proto m.def.proto no_arguments && is_some m.def.body
+is_main m = is_main_with no_arguments m
 
 -- the main method that the class of a name declares itself
 abbrev pub main_of : Image → List ℕ → Option Method

@@ -1,7 +1,7 @@
 // From the words and the source to a status and the sink.
 ghost use Rattle.std.specs.Prelude.{◌≡◌, ◌≢◌, ℕ, ◌+◌, List, [], map, None, Some, All, IfOk, IsSome, OnOk, IsErrOf, MatchResult, string_bytes};
 ghost use Rattle.dv_defs.specs.Accepting.{AreImageFaults};
-ghost use Rattle.dv_defs.specs.declared.image.Image.{Image};
+ghost use Rattle.dv_defs.specs.Images.{Image};
 ghost use Rattle.dv_io.specs.Io.{HasRisen, after_write, after_taking};
 ghost use Rattle.dv_machine.specs.Opening.{usual};
 ghost use Rattle.dv_top.specs.Answering.{IsIdle, IsOfUnread, IsTold, HasTaken, IsReadOf, IsScheduleOf, MayRun, IsPrinted, IsPartlyPrinted};
@@ -18,7 +18,7 @@ ghost use Rattle.dv_top.specs.Words.{command_in, AsksForListing};
 use crate::assembling::assemble;
 use crate::decoding::instructions;
 use crate::instruction::Instruction;
-use crate::linking::link;
+use crate::linking::{StraightImage, link};
 use crate::listing::reply_to_listing;
 use crate::machine::run;
 use crate::printing::{NOT_BUILT, TOO_LARGE, USAGE, fault_lines, final_text};
@@ -29,7 +29,7 @@ use crate::straight::{Refusal, read_straight};
 use crate::verifying::verify;
 use crate::words::{Command, read_words};
 use crate::writing::write_all;
-use dv_defs::{Entry, Image, Limits, Text};
+use dv_defs::{Entry, Limits, Text};
 use dv_io::{Failed, Sink, Source};
 use std::alloc::{AllocError, Global};
 
@@ -175,7 +175,7 @@ fn reply_to_text(
 }
 
 /// Reads, assembles and links the straight text of a class.
-fn image_of(alloc: Global, class: &Text, text: &[u8]) -> Result<Image, Refusal>
+fn image_of(alloc: Global, class: &Text, text: &[u8]) -> Result<StraightImage, Refusal>
     ensures linked { IfOk result (λ image. IsLinked class.now text.now image) }
     ensures every { (registers : ℕ) (insns : List Instruction) → IsStraight class.now text.now registers insns
         → MatchResult result (λ image. image ≡ image_of class.now registers insns) (λ e. e ≡ Refusal.Memory) }
@@ -189,7 +189,7 @@ fn image_of(alloc: Global, class: &Text, text: &[u8]) -> Result<Image, Refusal>
 fn reply_to_image(
     alloc: Global,
     class: &Text,
-    image: &Image,
+    image: &StraightImage,
     log: &mut Vec<Entry>,
 ) -> Result<Reply, AllocError>
     requires empty { log.old.items ≡ [] }

@@ -7,13 +7,12 @@ ghost use Rattle.dv_top.specs.Program.{HasMain, IsImageOf};
 ghost use Rattle.dv_top.specs.Straight.{size_of};
 
 use crate::instruction::Instruction;
-use crate::linking::MAIN_METHOD;
-use dv_defs::Image;
+use crate::linking::{MAIN_METHOD, StraightImage};
 use dv_units::decode;
 use std::alloc::{AllocError, Global};
 
 /// The instructions of the main method.
-pub fn instructions(alloc: Global, image: &Image) -> Result<Vec<Instruction>, AllocError>
+pub fn instructions(alloc: Global, image: &StraightImage) -> Result<Vec<Instruction>, AllocError>
     requires { (insns : List Instruction) × HasMain image.now insns }
     ensures { (insns : List Instruction) → HasMain image.now insns → IfOk result (λ found. found.items ≡ insns) }
 {
@@ -31,7 +30,7 @@ pub fn instructions(alloc: Global, image: &Image) -> Result<Vec<Instruction>, Al
 }
 
 /// The units of the main method.
-fn main_units(image: &Image) -> &[u16]
+fn main_units(image: &StraightImage) -> &[u16]
     ensures { (insns : List Instruction) → HasMain image.now insns → result.now ≡ flat_map units_of insns }
 {
     match units_in(image) {
@@ -41,7 +40,7 @@ fn main_units(image: &Image) -> &[u16]
 }
 
 /// ... where it has a body.
-fn units_in(image: &Image) -> Option<&[u16]>
+fn units_in(image: &StraightImage) -> Option<&[u16]>
     ensures { (insns : List Instruction) → HasMain image.now insns → MatchOption result ⊥ (λ units. units.now ≡ flat_map units_of insns) }
 {
     let info = image.methods.items().get(MAIN_METHOD.0 as usize)?;

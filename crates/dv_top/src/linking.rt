@@ -5,10 +5,11 @@ ghost use Rattle.dv_top.specs.Image.{println_def, main_def, class_of, method_of,
 use crate::assembling::println_proto;
 use crate::names::{CONSOLE, MAIN, OBJECT, PRINTLN, text};
 use dv_defs::{
-    Body, ClassDef, ClassId, ClassInfo, Flag, Image, MethodDef, MethodId, MethodInfo, MethodRef,
-    Proto, Seq, Text,
+    Body, ClassDef, ClassId, ClassInfo, FieldInfo, Flag, MethodDef, MethodId, MethodInfo,
+    MethodRef, Proto, Seq, Text,
 };
 use std::alloc::{AllocError, Global};
+use std::marker::Model;
 
 /// Object and Console, the boot classes, are the first two.
 const BOOT: u32 = 2;
@@ -23,13 +24,30 @@ const PRINTLN_METHOD: MethodId = MethodId(0);
 /// The main method of the image that `link` gives.
 pub const MAIN_METHOD: MethodId = MethodId(1);
 
+/// The image of a straight text. It isn't what linking gives, since it has two of the boot classes alone.
+#[derive(Drop)]
+pub struct StraightImage {
+    pub classes: Seq<ClassInfo>,
+    pub methods: Seq<MethodInfo>,
+    pub fields: Seq<FieldInfo>,
+    pub boot: u32,
+}
+
+impl Model for StraightImage {
+    ghost use Rattle.dv_defs.specs.Images as images;
+
+    ghost Value = { images.Image };
+
+    ghost view = { λ i. record { classes = i.classes; methods = i.methods; fields = i.fields; boot = i.boot } };
+}
+
 /// The image of Object, of Console with println, and of the class of this descriptor with a main method of this body.
-pub fn link(alloc: Global, class: &Text, body: Body) -> Result<Image, AllocError>
+pub fn link(alloc: Global, class: &Text, body: Body) -> Result<StraightImage, AllocError>
     ensures { IfOk result (λ image. image ≡ linked_of class.now body) }
 {
     let methods = methods_of(alloc, body.methods.items())?;
     let classes = classes_of(alloc, class, body)?;
-    Ok(Image {
+    Ok(StraightImage {
         classes: Seq::of(classes),
         methods: Seq::of(methods),
         fields: Seq::of(Vec::new(alloc)),

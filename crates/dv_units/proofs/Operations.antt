@@ -4,7 +4,7 @@ use Rattle.std.specs.Prelude.{Ok, Err, slice_get}
 use Rattle.dv_defs.specs.declared.code.Insn.{Insn}
 use Rattle.dv_defs.specs.declared.code.Payload.{Payload}
 use Rattle.dv_defs.specs.declared.code.Payload.TheVariants as payload
-use Rattle.dv_defs.specs.declared.image.Image.{Image}
+use Rattle.dv_defs.specs.Images.{Image}
 use Rattle.dv_defs.specs.declared.names.Ty.{Ty}
 use Rattle.dv_defs.specs.Types.{is_array}
 use Rattle.dv_defs.specs.Op as machine

@@ -1,7 +1,7 @@
 -- The table of opcodes in the definitions' words: its formats and families, and what its rows say of the machine's operations.
 use Rattle.std.specs.Prelude.{ℕ, ◌≡◌, ◌<◌, Bool, Some, Ok, is_some, option_map}
 use Rattle.dv_defs.specs.declared.code.Insn.{Insn}
-use Rattle.dv_defs.specs.declared.image.Image.{Image}
+use Rattle.dv_defs.specs.Images.{Image}
 use Rattle.dv_defs.specs.Formats as formats
 use Rattle.dv_defs.specs.Formats.{format_at, is_float}
 use Rattle.dv_defs.specs.Parts as parts

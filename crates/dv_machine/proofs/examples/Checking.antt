@@ -7,7 +7,7 @@ use Rattle.std.proofs.lemmas.Slice.Eq.{bytes_eq-Decides}
 use Rattle.dv_defs.specs.declared.names.Base.{Base}
 use Rattle.dv_defs.specs.declared.names.Base.TheVariants as base
 use Rattle.dv_defs.specs.declared.names.Ty.{Ty}
-use Rattle.dv_defs.specs.declared.image.Image.{Image}
+use Rattle.dv_defs.specs.Images.{Image}
 use Rattle.dv_defs.specs.declared.typing.RegType.{RegType}
 use Rattle.dv_defs.specs.declared.typing.RegType.TheVariants as ty
 use Rattle.dv_defs.specs.declared.typing.PendingType.{PendingType}

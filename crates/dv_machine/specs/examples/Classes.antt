@@ -1,6 +1,6 @@
 -- Examples: class initialisation.
 use Rattle.std.specs.Prelude.{◌≡◌, [], ◌∷◌, Some, None, pos, codes}
-use Rattle.dv_defs.specs.declared.image.Image.{Image}
+use Rattle.dv_defs.specs.Images.{Image}
 use Rattle.dv_defs.specs.declared.class.Init.TheVariants as init
 use Rattle.dv_defs.specs.Types.{of_class}
 use Rattle.dv_defs.specs.Accepting.{Accepts}

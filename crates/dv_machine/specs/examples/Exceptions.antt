@@ -1,6 +1,6 @@
 -- Examples: exceptions.
 use Rattle.std.specs.Prelude.{◌≡◌, [], ◌∷◌, Some, None, codes}
-use Rattle.dv_defs.specs.declared.image.Image.{Image}
+use Rattle.dv_defs.specs.Images.{Image}
 use Rattle.dv_defs.specs.Types.{of_class}
 use Rattle.dv_defs.specs.Accepting.{Accepts}
 use Rattle.dv_machine.specs.examples.Images.{catch_type, catch_all, entry_over, body, body_with, method, class, info}

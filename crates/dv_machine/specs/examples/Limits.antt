@@ -1,6 +1,6 @@
 -- Examples: stops at limits.
 use Rattle.std.specs.Prelude.{◌≡◌, [], ◌∷◌, Some, None, codes}
-use Rattle.dv_defs.specs.declared.image.Image.{Image}
+use Rattle.dv_defs.specs.Images.{Image}
 use Rattle.dv_defs.specs.Types.{of_class}
 use Rattle.dv_defs.specs.Joins.{array_of}
 use Rattle.dv_machine.specs.examples.Images.{of_int, body, body_with, method, class, info}

@@ -1,6 +1,6 @@
 -- Examples: numbers and branches.
 use Rattle.std.specs.Prelude.{◌≡◌, [], ◌∷◌, codes}
-use Rattle.dv_defs.specs.declared.image.Image.{Image}
+use Rattle.dv_defs.specs.Images.{Image}
 use Rattle.dv_defs.specs.Accepting.{Accepts}
 use Rattle.dv_machine.specs.examples.Images.{body}
 use Rattle.dv_machine.specs.examples.BootImage.{with_main}

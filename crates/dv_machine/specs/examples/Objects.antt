@@ -1,6 +1,6 @@
 -- Examples: objects, calls and strings.
 use Rattle.std.specs.Prelude.{◌≡◌, [], ◌∷◌, Some, None, negsuc, codes}
-use Rattle.dv_defs.specs.declared.image.Image.{Image}
+use Rattle.dv_defs.specs.Images.{Image}
 use Rattle.dv_defs.specs.declared.class.Init.TheVariants as init
 use Rattle.dv_defs.specs.Types.{of_class}
 use Rattle.dv_defs.specs.Joins.{array_of}

@@ -1,6 +1,6 @@
 -- Examples: turns and seeded runs.
 use Rattle.std.specs.Prelude.{◌≡◌, ℕ, ◌+◌, ◌*◌, ◌^◌, List, [], ◌∷◌, Option, Some, None, codes, slice_index_or, Ok}
-use Rattle.dv_defs.specs.declared.image.Image.{Image}
+use Rattle.dv_defs.specs.Images.{Image}
 use Rattle.dv_defs.specs.declared.run.Entry.{Entry}
 use Rattle.dv_defs.specs.Pools.{Method, method_at}
 use Rattle.dv_machine.specs.State.{Reads}

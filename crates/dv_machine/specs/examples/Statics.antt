@@ -1,6 +1,6 @@
 -- Examples: the static rules, each by a raw body that breaks it.
 use Rattle.std.specs.Prelude.{◌≡◌, [], ◌∷◌, Some, None, codes}
-use Rattle.dv_defs.specs.declared.image.Image.{Image}
+use Rattle.dv_defs.specs.Images.{Image}
 use Rattle.dv_defs.specs.Types.{of_class}
 use Rattle.dv_defs.specs.Joins.{array_of}
 use Rattle.dv_machine.specs.examples.Images.{of_int, of_char, catch_type, catch_all, entry_over, body, body_with, method, field, class, info, field_info}

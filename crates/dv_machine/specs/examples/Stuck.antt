@@ -1,6 +1,6 @@
 -- Examples: where the machine is stuck.
 use Rattle.std.specs.Prelude.{◌≡◌, [], ◌∷◌, codes}
-use Rattle.dv_defs.specs.declared.image.Image.{Image}
+use Rattle.dv_defs.specs.Images.{Image}
 use Rattle.dv_defs.specs.Types.{of_class}
 use Rattle.dv_machine.specs.examples.Images.{body, body_with}
 use Rattle.dv_machine.specs.examples.BootImage.{with_main}

@@ -1,6 +1,6 @@
 -- Examples: the typing rules, each by a method that breaks it.
 use Rattle.std.specs.Prelude.{◌≡◌, [], ◌∷◌, Some, None, codes}
-use Rattle.dv_defs.specs.declared.image.Image.{Image}
+use Rattle.dv_defs.specs.Images.{Image}
 use Rattle.dv_defs.specs.Types.{of_class}
 use Rattle.dv_machine.specs.examples.Images.{of_int, body, body_with, method, field, class, info, field_info}
 use Rattle.dv_machine.specs.examples.BootImage.{with_boot, with_main}

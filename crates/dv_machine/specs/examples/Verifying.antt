@@ -1,6 +1,6 @@
 -- Examples: what the verifier accepts and refuses, with address and rule.
 use Rattle.std.specs.Prelude.{◌≡◌, [], ◌∷◌, Some, None, codes}
-use Rattle.dv_defs.specs.declared.image.Image.{Image}
+use Rattle.dv_defs.specs.Images.{Image}
 use Rattle.dv_defs.specs.Types.{of_class}
 use Rattle.dv_defs.specs.Accepting.{Accepts}
 use Rattle.dv_machine.specs.examples.Images.{body, body_with, method, field, class, info, field_info}

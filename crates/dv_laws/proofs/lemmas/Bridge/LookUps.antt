@@ -7,7 +7,7 @@ use Rattle.dv_defs.specs.declared.names.Proto.{Proto}
 use Rattle.dv_defs.specs.declared.code.Body.{Body}
 use Rattle.dv_defs.specs.declared.class.MethodDef.{MethodDef}
 use Rattle.dv_defs.specs.declared.class.FieldDef.{FieldDef}
-use Rattle.dv_defs.specs.declared.image.Image.{Image}
+use Rattle.dv_defs.specs.Images.{Image}
 use Rattle.dv_defs.specs.declared.image.MethodInfo.{MethodInfo}
 use Rattle.dv_defs.specs.declared.image.FieldInfo.{FieldInfo}
 use Rattle.dv_defs.specs.Names.{clinit_name}

@@ -2,7 +2,7 @@
 use Rattle.std.proofs.Common.{◌≡◌, ◌≤◌, ℕ, List, ◌∷◌, Bool, true, false, Option, Some, None, refl, sym, subst}
 use Rattle.std.proofs.lemmas.List.Elements.{All-cons}
 use Rattle.std.specs.Prelude.{is_some, All}
-use Rattle.dv_defs.specs.declared.image.Image.{Image}
+use Rattle.dv_defs.specs.Images.{Image}
 use Rattle.dv_defs.specs.declared.typing.RegState.{RegState}
 use Rattle.dv_defs.specs.Op.{Code, code_at}
 use Rattle.dv_defs.specs.Statics.{At, fetch, arg_words}

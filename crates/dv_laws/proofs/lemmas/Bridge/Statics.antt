@@ -7,7 +7,7 @@ use Rattle.dv_defs.specs.declared.code.Insn.{Insn}
 use Rattle.dv_defs.specs.declared.code.Body.{Body}
 use Rattle.dv_defs.specs.declared.code.Try.{Try}
 use Rattle.dv_defs.specs.declared.code.Handler.{Handler}
-use Rattle.dv_defs.specs.declared.image.Image.{Image}
+use Rattle.dv_defs.specs.Images.{Image}
 use Rattle.dv_defs.specs.Tiling.{Tile, Item, IsInsn, IsPayload, tiling, tiles_in, tile_at, insn_in, begins_insn, begins_item}
 use Rattle.dv_defs.specs.Op.{Op, Goto, IfBoth, IfZero, Switch, Case, Code, Resolved, code_at, op_of}
 use Rattle.dv_defs.specs.Statics.{At, unless, moves_on, registers_below, all_lead, leads_to_insn, op_rules, resolved_rules, insn_rules, at_of, sound_at, at_tile, fetch_in, fetch, arg_words}

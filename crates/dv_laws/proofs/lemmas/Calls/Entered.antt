@@ -2,7 +2,7 @@
 use Rattle.std.proofs.Common.{◌≡◌, ℕ, zero, suc, ◌++◌, List, length, Option, Some, sym, ap, ◌∙◌, subst}
 use Rattle.std.specs.Prelude.{◌-◌, replicate}
 use Rattle.dv_defs.specs.declared.code.Body.{Body}
-use Rattle.dv_defs.specs.declared.image.Image.{Image}
+use Rattle.dv_defs.specs.Images.{Image}
 use Rattle.dv_defs.specs.declared.run.Value.{Value}
 use Rattle.dv_defs.specs.declared.run.Value.TheVariants as v
 use Rattle.dv_defs.specs.declared.typing.RegType.TheVariants as ty

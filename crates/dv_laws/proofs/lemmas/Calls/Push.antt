@@ -1,6 +1,6 @@
 -- Every invoke is fine.
 use Rattle.std.proofs.Common.{◌≡◌, ℕ, List, sym, ap, subst}
-use Rattle.dv_defs.specs.declared.image.Image.{Image}
+use Rattle.dv_defs.specs.Images.{Image}
 use Rattle.dv_defs.specs.declared.run.Native.TheVariants as native
 use Rattle.dv_defs.specs.declared.machine.Frame.{Frame}
 use Rattle.dv_defs.specs.declared.machine.Level.{Level}

@@ -4,7 +4,7 @@ use Rattle.std.proofs.lemmas.Bool.{cases_lt}
 use Rattle.std.proofs.lemmas.List.{get_or_past}
 use Rattle.std.specs.Prelude.{is_some, All}
 use Rattle.dv_defs.specs.declared.names.Ty.{Ty}
-use Rattle.dv_defs.specs.declared.image.Image.{Image}
+use Rattle.dv_defs.specs.Images.{Image}
 use Rattle.dv_defs.specs.Heap.{Heap}
 use Rattle.dv_defs.specs.declared.run.Value.{Value}
 use Rattle.dv_defs.specs.declared.run.Value.TheVariants as v

@@ -1,7 +1,7 @@
 -- The code of a method: whose it is, and that a method with a body has one.
 use Rattle.std.proofs.Common.{◌≡◌, ℕ, Option, Some, None, refl, sym, ap, ◌∙◌, subst}
 use Rattle.dv_defs.specs.declared.code.Body.{Body}
-use Rattle.dv_defs.specs.declared.image.Image.{Image}
+use Rattle.dv_defs.specs.Images.{Image}
 use Rattle.dv_defs.specs.Pools.{Method, method_at}
 use Rattle.dv_defs.specs.Tiling.{tiling, tiles_in}
 use Rattle.dv_defs.specs.Op.{Code, with_body, code_of, code_at}

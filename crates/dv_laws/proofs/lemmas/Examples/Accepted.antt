@@ -1,6 +1,6 @@
 -- Accepted images: each premise of the bridge by a test that computes.
 use Rattle.std.proofs.Common.{◌≡◌, ℕ, List, true, refl}
-use Rattle.dv_defs.specs.declared.image.Image.{Image}
+use Rattle.dv_defs.specs.Images.{Image}
 use Rattle.dv_defs.specs.Op.{count_up}
 use Rattle.dv_defs.specs.Pools.{class_named, method_at, field_at}
 use Rattle.dv_defs.specs.Order.{instance, fits}

@@ -3,7 +3,7 @@ use Rattle.std.proofs.Common.{◌≡◌, inl, inr, ℕ, ◌<◌, ◌≤◌, List
 use Rattle.std.specs.Prelude.{slice_get, slice_index, nat_eq, nat_lt, bytes_eq}
 use Rattle.std.proofs.lemmas.Bool.{cases_lt, and_parts, eqb-true, ltb-true}
 use Rattle.std.proofs.lemmas.Option.{slice_get_past}
-use Rattle.dv_defs.specs.declared.image.Image.{Image}
+use Rattle.dv_defs.specs.Images.{Image}
 use Rattle.dv_defs.specs.declared.image.ClassInfo.{ClassInfo}
 use Rattle.dv_defs.specs.declared.flags.Flag.TheVariants as flag
 use Rattle.dv_defs.specs.Flags.{has_flag}

@@ -4,7 +4,7 @@ use Rattle.std.specs.Prelude.{nat_lt, bytes_eq, is_some, codes}
 use Rattle.std.proofs.lemmas.Bool.{cases_lt, and_parts, and_from, ltb-true, not-true}
 use Rattle.std.proofs.lemmas.Option.{slice_get_past}
 use Rattle.dv_defs.specs.declared.code.Body.{Body}
-use Rattle.dv_defs.specs.declared.image.Image.{Image}
+use Rattle.dv_defs.specs.Images.{Image}
 use Rattle.dv_defs.specs.declared.image.MethodInfo.{MethodInfo}
 use Rattle.dv_defs.specs.declared.run.Native.{Native}
 use Rattle.dv_defs.specs.Names.{object_name, system_name, stream_name}

@@ -1,7 +1,7 @@
 -- The exceptions that a step makes itself.
 use Rattle.std.proofs.Common.{◌≡◌, ℕ, List, true, not, Option, Some, refl, sym, ap, ◌∙◌, subst}
 use Rattle.std.specs.Option.{unwrap_or}
-use Rattle.dv_defs.specs.declared.image.Image.{Image}
+use Rattle.dv_defs.specs.Images.{Image}
 use Rattle.dv_defs.specs.declared.run.Named.{Named}
 use Rattle.dv_defs.specs.declared.run.Named.TheVariants as named
 use Rattle.dv_defs.specs.declared.machine.Kind.TheVariants as kind

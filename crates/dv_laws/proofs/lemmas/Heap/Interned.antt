@@ -3,7 +3,7 @@ use Rattle.std.proofs.Common.{◌≡◌, ◌⊎◌, inl, inr, ℕ, List, [], ◌
 use Rattle.std.proofs.lemmas.List.Elements.{All-push}
 use Rattle.std.proofs.lemmas.Option.{same_Some}
 use Rattle.dv_defs.specs.declared.names.Ty.{Ty}
-use Rattle.dv_defs.specs.declared.image.Image.{Image}
+use Rattle.dv_defs.specs.Images.{Image}
 use Rattle.dv_defs.specs.declared.machine.Kind.{Kind}
 use Rattle.dv_defs.specs.declared.machine.Kind.TheVariants as kind
 use Rattle.dv_defs.specs.Heap.{Heap, Got, kind_of, has_room, newest, grown_within, alloc_string, is_text, is_class_of, found_among, with_interned, with_class_object}

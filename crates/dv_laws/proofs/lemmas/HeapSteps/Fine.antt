@@ -1,7 +1,7 @@
 -- Each instruction on the heap is fine.
 use Rattle.std.proofs.Common.{◌≡◌, ℕ, List, [], Bool, false, refl, sym, ap, ◌∙◌, subst}
 use Rattle.std.specs.Prelude.{if◌then◌else◌}
-use Rattle.dv_defs.specs.declared.image.Image.{Image}
+use Rattle.dv_defs.specs.Images.{Image}
 use Rattle.dv_defs.specs.declared.machine.Frame.{Frame}
 use Rattle.dv_defs.specs.declared.machine.Level.{Level}
 use Rattle.dv_defs.specs.declared.typing.RegState.{RegState}

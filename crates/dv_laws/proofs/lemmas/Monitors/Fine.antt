@@ -2,7 +2,7 @@
 use Rattle.std.proofs.Common.{◌≢◌, ℕ, suc, ◌≤◌, List, false, Some, subst, arith}
 use Rattle.std.specs.Prelude.{All}
 use Rattle.std.proofs.lemmas.List.Elements.{All-weaker, All-push}
-use Rattle.dv_defs.specs.declared.image.Image.{Image}
+use Rattle.dv_defs.specs.Images.{Image}
 use Rattle.dv_defs.specs.Monitors.{Held, Wait, Monitors, owner_of, waiting, as_notified, notified_one, notified_all, without, resumed}
 use Rattle.dv_machine.specs.State.{Thread, Shared, with_monitors}
 use Rattle.dv_machine.specs.WellTyped.{WaitFine, HeldFine, MonitorsFine}

@@ -4,7 +4,7 @@ use Rattle.std.proofs.lemmas.Bool.{and_parts, and_cases, and_from, or_cases, or_
 use Rattle.dv_defs.specs.declared.names.Base.{Base}
 use Rattle.dv_defs.specs.declared.names.Base.TheVariants as base
 use Rattle.dv_defs.specs.declared.names.Ty.{Ty}
-use Rattle.dv_defs.specs.declared.image.Image.{Image}
+use Rattle.dv_defs.specs.Images.{Image}
 use Rattle.dv_defs.specs.Names.{object_name}
 use Rattle.dv_defs.specs.Types.{of_class, is_array, is_class_base, is_reference, component, ty_eq}
 use Rattle.dv_defs.specs.Pools.{class_named}

@@ -1,7 +1,7 @@
 -- An instruction that is satisfied with a state is satisfied with each below it.
 use Rattle.std.proofs.Common.{◌≡◌, Bool, true, false, ℕ, ◌&&◌, not, None, refl}
 use Rattle.std.specs.Prelude.{is_some}
-use Rattle.dv_defs.specs.declared.image.Image.{Image}
+use Rattle.dv_defs.specs.Images.{Image}
 use Rattle.dv_defs.specs.declared.typing.RegState.{RegState}
 use Rattle.dv_defs.specs.Names.{throwable_name}
 use Rattle.dv_defs.specs.Types.{of_class, component}

@@ -4,7 +4,7 @@ use Rattle.std.specs.Prelude.{replicate, All}
 use Rattle.std.proofs.lemmas.List.{length-append, length-replicate}
 use Rattle.std.proofs.lemmas.List.Elements.{All-append, All-replicate}
 use Rattle.dv_defs.specs.declared.code.Body.{Body}
-use Rattle.dv_defs.specs.declared.image.Image.{Image}
+use Rattle.dv_defs.specs.Images.{Image}
 use Rattle.dv_defs.specs.declared.run.Value.{Value}
 use Rattle.dv_defs.specs.declared.run.Value.TheVariants as v
 use Rattle.dv_defs.specs.declared.machine.Level.{Level}
