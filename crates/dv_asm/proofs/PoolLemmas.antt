@@ -20,7 +20,9 @@ use Rattle.dv_asm.specs.Draft.{AreFormed, IsFormed, blank, is_entry}
 use Rattle.dv_asm.specs.Items.{item_at, no_item, size_of}
 use Rattle.dv_asm.specs.Places.{end_of}
 use Rattle.dv_asm.specs.Refusals.{too_long}
-use Rattle.dv_asm.specs.Pools.{with_entry, with_entry_if_any, with_entries, pool_ref, chars_in, type_in, field_in, method_in, field_eq, method_eq, index_of}
+use Rattle.dv_asm.specs.Pools.{with_entry_if_any, with_entries, pool_ref, chars_in, type_in, field_in, method_in, index_of}
+use Rattle.dv_defs.specs.Entries.{with_entry}
+use Rattle.dv_defs.specs.Types.{field_eq, method_eq}
 use Rattle.dv_asm.specs.Layout.{pools_of}
 use Rattle.dv_asm.proofs.PlaceLemmas.{aligned_above, ends_within}
 use Rattle.dv_asm.proofs.UnitLemmas.{insn_size}

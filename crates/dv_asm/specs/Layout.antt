@@ -23,7 +23,8 @@ use Rattle.dv_asm.specs.Draft.{DraftValue}
 use Rattle.dv_asm.specs.Items.{item_at}
 use Rattle.dv_asm.specs.Places.{address_of, label_address, distance}
 use Rattle.dv_asm.specs.Refusals.{with_operands, switch_of, range_of, ranges_of, is_same}
-use Rattle.dv_asm.specs.Pools.{with_entries, chars_of, type_of, field_of, method_of, field_eq, method_eq, index_of}
+use Rattle.dv_asm.specs.Pools.{with_entries, chars_of, type_of, field_of, method_of, index_of}
+use Rattle.dv_defs.specs.Types.{field_eq, method_eq}
 
 abbrev pub begins_from : TryRange → TryRange → Bool
 begins_from r s = nat_le r.start s.start

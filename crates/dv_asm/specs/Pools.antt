@@ -1,25 +1,16 @@
 -- The pools of a body: what its instructions name, and the types of its handlers, in first-seen order.
-use Rattle.std.specs.Prelude.{ℕ, Bool, ◌&&◌, List, [], ◌∷◌, ◌++◌, bytes_eq, position, unwrap_or, Option, Some, None}
+use Rattle.std.specs.Prelude.{ℕ, Bool, List, [], ◌∷◌, ◌++◌, bytes_eq, position, unwrap_or, Option, Some, None}
 use Rattle.dv_defs.specs.declared.names.Ty.{Ty}
 use Rattle.dv_defs.specs.declared.names.FieldRef.{FieldRef}
 use Rattle.dv_defs.specs.declared.names.MethodRef.{MethodRef}
-use Rattle.dv_defs.specs.Types.{ty_eq, same_proto}
+use Rattle.dv_defs.specs.Entries.{with_entry}
+use Rattle.dv_defs.specs.Types.{ty_eq, field_eq, method_eq}
 use Rattle.dv_asm.specs.declared.draft.Item.{Item}
 use Rattle.dv_asm.specs.declared.draft.What.{What}
 use Rattle.dv_asm.specs.declared.draft.What.TheVariants as what
 use Rattle.dv_asm.specs.declared.draft.PoolRef.{PoolRef}
 use Rattle.dv_asm.specs.declared.draft.PoolRef.TheVariants as pool
 use Rattle.dv_asm.specs.declared.pools.Pools.{Pools}
-
-abbrev pub field_eq : FieldRef → FieldRef → Bool
-field_eq a b = ty_eq a.class b.class && (bytes_eq a.name b.name && ty_eq a.ty b.ty)
-
-abbrev pub method_eq : MethodRef → MethodRef → Bool
-method_eq a b = ty_eq a.class b.class && (bytes_eq a.name b.name && same_proto a.proto b.proto)
-
--- the entries, and this one at their end, unless it is there
-abbrev pub with_entry : {X : Type 0} → (X → X → Bool) → List X → X → List X
-with_entry eq xs x = elim (position (eq x) xs) [ None ↦ xs ++ x ∷ [] | Some k ↦ xs ]
 
 abbrev pub with_entry_if_any : {X : Type 0} → (X → X → Bool) → List X → Option X → List X
 with_entry_if_any eq xs None = xs

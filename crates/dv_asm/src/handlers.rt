@@ -7,16 +7,15 @@ ghost use Rattle.dv_asm.specs.Ranges.{ranges_in};
 
 use crate::catches::Catches;
 use crate::draft::Catch;
-use crate::pool::Pool;
 use crate::pools::index;
 use crate::short::Short;
 use crate::tries::TryRange;
-use dv_defs::{Handler, Seq, Try, Ty};
+use dv_defs::{Handler, Pool, Seq, Try, Ty};
 use std::alloc::{AllocError, Global};
 use std::collections::BTreeMap;
 
 impl Short<'_> {
-    #[tactic(auto, using(crate::proofs::KeyLemmas::places))]
+    #[tactic(auto, using(dv_defs::proofs::Keys::places))]
     fn handler_of(&self, types: &Pool<Ty>, catch: &Catch) -> Result<Handler, AllocError>
         ensures { IfOk result (λ handler. handler ≡ handler_of self.now types.now catch.now) }
     {

@@ -4,9 +4,9 @@ ghost use Rattle.dv_asm.specs.Pools.{no_pools, pool_ref, with_ref, index_of};
 ghost use Rattle.dv_asm.specs.Layout.{pools_of};
 
 use crate::draft::{Item, PoolRef, What};
-use crate::pool::{Pool, into_seqs};
-use dv_defs::{Chars, FieldRef, MethodRef, Seq, Ty};
+use dv_defs::{Chars, FieldRef, MethodRef, Pool, Seq, Ty};
 use std::alloc::{AllocError, Global};
+use std::hash::Hash;
 
 /// The strings, types, fields and methods that the instructions of a body name.
 #[derive(Drop)]
@@ -38,7 +38,7 @@ impl Pools {
     }
 
     /// Adds what an instruction names at the end of its pool, unless it is there.
-    #[tactic(auto, using(crate::proofs::KeyLemmas::places))]
+    #[tactic(auto, using(dv_defs::proofs::Keys::places))]
     pub fn add(&mut self, entry: &PoolRef) -> Result<(), AllocError>
         ensures { OnOk result (self.new ≡ with_ref self.old entry.now) }
     {
@@ -94,7 +94,7 @@ impl Pools {
     }
 
     /// The index of what an instruction names.
-    #[tactic(auto, using(crate::proofs::KeyLemmas::places))]
+    #[tactic(auto, using(dv_defs::proofs::Keys::places))]
     pub fn index_of(&self, entry: &PoolRef) -> Result<u32, AllocError>
         ensures { IfOk result (λ n. n ≡ index_of self.now entry.now) }
     {
@@ -107,4 +107,15 @@ impl Pools {
         };
         index(place.unwrap_or(0))
     }
+}
+
+/// The entries of two pools in their order.
+fn into_seqs<E, F>(first: Pool<E>, second: Pool<F>) -> Result<(Seq<E>, Seq<F>), AllocError>
+where
+    E: Eq + Hash + Clone + Drop,
+    F: Eq + Hash + Clone + Drop,
+    ensures first { IfOk result (λ entries. entries.0 ≡ first) }
+    ensures second { IfOk result (λ entries. entries.1 ≡ second) }
+{
+    Ok((first.into_seq()?, second.into_seq()?))
 }

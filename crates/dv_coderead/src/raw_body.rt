@@ -22,8 +22,8 @@ use crate::head::Head;
 use crate::kept::{Next, next_line};
 use crate::pieces::read_tokens;
 use crate::raw_line::{RawHandler, RawLine, RawPlace, raw_line};
-use dv_asm::{Pool, Pools, index};
-use dv_defs::{Body, Handler, LineError, Seq, Try, Ty};
+use dv_asm::{Pools, index};
+use dv_defs::{Body, Handler, LineError, Pool, Seq, Try, Ty};
 use dv_lex::Line;
 use std::alloc::{AllocError, Global};
 
@@ -150,7 +150,7 @@ fn add_caught(types: &mut Pool<Ty>, handlers: &[RawHandler]) -> Result<(), Alloc
 }
 
 /// A handler by the place of its type.
-#[tactic(auto, using(dv_asm::proofs::KeyLemmas::places))]
+#[tactic(auto, using(dv_defs::proofs::Keys::places))]
 fn handler_of(types: &Pool<Ty>, handler: &RawHandler) -> Result<Handler, AllocError>
     ensures { IfOk result (λ h. h ≡ raw_handler types.now handler.now) }
 {

@@ -1,6 +1,6 @@
 -- What is read by a format is spelled so, and where nothing is read no instruction of the format is spelled.
-use Rattle.std.proofs.Common.{◌≡◌, ℕ, ◌+◌, ◌*◌, ◌/◌, ◌%◌, ◌<◌, ◌≤◌, ◌^◌, zero, suc, true, false, Bool, ◌&&◌, ◌||◌, ◌⊎◌, inl, inr, List, [], ◌∷◌, length, take, drop, Option, Some, None, refl, ap, sym, ◌∙◌, arith}
-use Rattle.std.specs.Prelude.{nat_eq, nat_lt, nat_le, if◌then◌else◌, ℤ}
+use Rattle.std.proofs.Common.{◌≡◌, ℕ, ◌+◌, ◌*◌, ◌/◌, ◌%◌, ◌<◌, ◌≤◌, ◌^◌, zero, suc, true, false, Bool, ◌&&◌, ◌||◌, inl, inr, List, [], ◌∷◌, length, take, drop, Option, Some, None, refl, ap, sym, ◌∙◌, arith}
+use Rattle.std.specs.Prelude.{nat_eq, nat_lt, nat_le, if◌then◌else◌}
 use Rattle.std.specs.List.{list_all}
 use Rattle.std.proofs.lemmas.Bool.{cases_Bool, leb-true, ltb-true, and_parts}
 use Rattle.std.proofs.lemmas.Bool.Decides.{nat_tests}
@@ -8,7 +8,7 @@ use Rattle.dv_defs.specs.declared.code.Insn.{Insn}
 use Rattle.dv_defs.specs.declared.code.Regs.{Regs}
 use Rattle.dv_defs.specs.Formats.{Format, size_in, F10x, F12x, F11n, F11x, F10t, F20t, F22x, F21t, F21s, F21h, F21c, F23x, F22b, F22t, F22s, F22c, F30t, F32x, F31i, F31t, F31c, F35c, F3rc, F51l}
 use Rattle.dv_defs.specs.Numbers.{signed_at}
-use Rattle.dv_defs.specs.Decoding.{Sized, sized, read_in, high_literal, where_valid, short_call, range_call, five, is_zero}
+use Rattle.dv_defs.specs.Decoding.{Sized, sized, read_in, high_literal, where_valid, five, is_zero}
 use Rattle.dv_defs.specs.Spelling.{unit, few, neighbours, plain, with_literal, with_offset, with_index, all_fit, all_zero, spelling_in, spelling_shifted, spelling_10x, spelling_12x, spelling_11n, spelling_11x, spelling_10t, spelling_20t, spelling_22x, spelling_21t, spelling_21s, spelling_21h, spelling_21c, spelling_23x, spelling_22b, spelling_22t, spelling_22s, spelling_22c, spelling_30t, spelling_32x, spelling_31i, spelling_31t, spelling_31c, spelling_35c, spelling_3rc, spelling_51l}
 use Rattle.dv_defs.proofs.InsnEq.{form_tests}
 use Rattle.dv_defs.proofs.Signed.{complement_of_signed, signed_fits}

@@ -1,18 +1,18 @@
 -- Small facts of the definitions, computed.
-use Rattle.std.specs.Prelude.{◌≡◌, ℕ, refl, List, [], ◌∷◌, ◌++◌, Option, Some, None, pos, negsuc}
+use Rattle.std.specs.Prelude.{◌≡◌, ℕ, refl, [], ◌∷◌, Option, Some, None, pos, negsuc}
 use Rattle.dv_defs.specs.Images.{Image}
 use Rattle.dv_defs.specs.declared.machine.Ask.TheVariants as ask
 use Rattle.dv_defs.specs.declared.typing.RegType.TheVariants as ty
 use Rattle.dv_defs.specs.declared.names.Base.TheVariants as base
 use Rattle.dv_defs.specs.Names.{string_name}
 use Rattle.dv_defs.specs.Types.{of_class, of_base}
-use Rattle.dv_defs.specs.Numbers.{operate32, operate64, to_byte, to_char, to_short, compare_long}
+use Rattle.dv_defs.specs.Numbers.{operate32, operate64}
 use Rattle.dv_defs.specs.Parts.{Bin}
 use Rattle.dv_defs.specs.Op.{Code, code_at}
 use Rattle.dv_defs.specs.Joins.{array_of, join_type}
 use Rattle.dv_defs.specs.Accepting.{Accepts, IsAcceptedMethod}
-use Rattle.dv_defs.specs.Heap.{Heap, alloc_array, alloc_string, newest}
-use Rattle.dv_defs.specs.Monitors.{Monitors, entered, exited, waiting, notified_one, resumed, owner_of, wait_of, Wait}
+use Rattle.dv_defs.specs.Heap.{Heap, alloc_array}
+use Rattle.dv_defs.specs.Monitors.{Monitors, entered, exited, owner_of}
 use Rattle.dv_defs.specs.Classes.{Fresh, InProgress, Ready, Erroneous, ask_of}
 
 accepted_each : (image : Image) (n : ℕ) (code : Code) → Accepts image → code_at image n ≡ Some code → IsAcceptedMethod image code

@@ -13,3 +13,4 @@ pub mod PayloadBytes
 pub mod PayloadLaws
 pub mod TilingLaws
 mod Facts
+pub mod Keys

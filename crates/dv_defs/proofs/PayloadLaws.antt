@@ -1,12 +1,12 @@
 -- `payload_here` is the inverse of `payload_spelling`.
-use Rattle.std.proofs.Common.{◌≡◌, ℕ, ◌+◌, ◌-◌, ◌*◌, ◌/◌, ◌%◌, ◌<◌, ◌≤◌, ◌^◌, zero, suc, ℤ, Bool, true, false, ◌&&◌, ◌||◌, ◌⊎◌, inl, inr, List, [], ◌∷◌, ◌++◌, length, take, drop, map, Option, Some, None, refl, ap, sym, ◌∙◌, subst, arith, append_assoc, length-append, length-drop}
-use Rattle.std.specs.Prelude.{nat_eq, nat_lt, nat_le}
+use Rattle.std.proofs.Common.{◌≡◌, ℕ, ◌+◌, ◌*◌, ◌/◌, ◌%◌, ◌<◌, ◌≤◌, ◌^◌, zero, suc, ℤ, Bool, true, false, ◌&&◌, ◌⊎◌, inl, inr, List, [], ◌∷◌, ◌++◌, length, take, drop, map, Option, Some, None, refl, ap, sym, ◌∙◌, subst, arith, length-append, length-drop}
+use Rattle.std.specs.Prelude.{nat_eq, nat_le}
 use Rattle.std.specs.List.{list_all}
-use Rattle.std.proofs.lemmas.Bool.{and_parts, ltb-true, lt-ltb, leb-true, eqb-true, or_cases, cases_Bool}
+use Rattle.std.proofs.lemmas.Bool.{and_parts, ltb-true, lt-ltb, leb-true, eqb-true}
 use Rattle.std.proofs.lemmas.Bool.Decides.{nat_tests}
-use Rattle.std.proofs.lemmas.List.{length-take-le, take-append-drop, length-map, map-append, take-map, take-append-le}
+use Rattle.std.proofs.lemmas.List.{length-take-le, take-append-drop, length-map, map-append, take-map}
 use Rattle.std.proofs.lemmas.List.Folds.{list_all-append}
-use Rattle.std.proofs.Math.Seq.{take-append_seam, drop-append_seam, take-append-add}
+use Rattle.std.proofs.Math.Seq.{take-append_seam, drop-append_seam}
 use Rattle.std.proofs.Math.Nat.{mul-div_cancel, mul-mod_left}
 use Rattle.dv_defs.specs.declared.code.Payload.{Payload}
 use Rattle.dv_defs.specs.declared.code.Payload.TheVariants as payload
@@ -14,7 +14,7 @@ use Rattle.dv_defs.specs.Numbers.{signed_at}
 use Rattle.dv_defs.specs.Spelling.{two_units, all_fit, fits_in, fits_signed, complement}
 use Rattle.dv_defs.specs.Decoding.{is_zero}
 use Rattle.dv_defs.specs.Tiling.{SizedPayload, doubles, signed_all, bytes_in, packed_with, sparse_with, is_width, data_in, data_of, data_from, payload_of, begins_payload}
-use Rattle.dv_defs.specs.Payloads.{numbers_spelling, bytes_spelling, all_fit_signed, where_fits, packed_spelling, sparse_spelling, data_spelling, payload_spelling, payload_here}
+use Rattle.dv_defs.specs.Payloads.{numbers_spelling, bytes_spelling, all_fit_signed, where_fits, data_spelling, payload_spelling, payload_here}
 use Rattle.dv_defs.proofs.DecodingFormats.{unit_parts}
 use Rattle.dv_defs.proofs.PayloadNumbers.{length_numbers, numbers_append, doubles_of, signed_back, AreRead, read_numbers}
 use Rattle.dv_defs.proofs.PayloadBytes.{padding, padding_is_zero, length_bytes, bytes_back, length_bytes_in, bytes_fit, fit_taken, units_back}

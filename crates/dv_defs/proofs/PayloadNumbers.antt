@@ -1,8 +1,8 @@
 -- The numbers of a payload in their units, both ways.
-use Rattle.std.proofs.Common.{◌≡◌, ℕ, ◌+◌, ◌-◌, ◌*◌, ◌/◌, ◌%◌, ◌<◌, ◌≤◌, ◌^◌, zero, suc, ℤ, Bool, true, false, ◌&&◌, List, [], ◌∷◌, ◌++◌, length, take, drop, map, Option, Some, None, refl, ap, sym, ◌∙◌, arith, append_assoc}
+use Rattle.std.proofs.Common.{◌≡◌, ℕ, ◌+◌, ◌*◌, ◌/◌, ◌%◌, ◌<◌, ◌≤◌, ◌^◌, zero, suc, ℤ, Bool, true, ◌&&◌, List, [], ◌∷◌, ◌++◌, length, take, map, Option, Some, None, refl, ap, ◌∙◌, arith}
 use Rattle.std.proofs.lemmas.Bool.{and_parts}
 use Rattle.dv_defs.specs.Numbers.{signed_at}
-use Rattle.dv_defs.specs.Spelling.{two_units, all_fit, fits_signed, complement}
+use Rattle.dv_defs.specs.Spelling.{all_fit, complement}
 use Rattle.dv_defs.specs.Tiling.{doubles, signed_all}
 use Rattle.dv_defs.specs.Payloads.{numbers_spelling, all_fit_signed}
 use Rattle.dv_defs.proofs.Signed.{complement_of_signed, signed_fits, signed_of_complement}

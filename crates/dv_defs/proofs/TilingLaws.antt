@@ -1,7 +1,6 @@
 -- `piece_here` is the inverse of the spelling of items, no item's spelling begins another's, and `tiling` finds the
 -- one tiling.
-use Rattle.std.proofs.Common.{◌≡◌, ℕ, ◌+◌, ◌-◌, ◌*◌, ◌/◌, ◌%◌, ◌<◌, ◌≤◌, ◌^◌, zero, suc, Bool, true, false, ◌&&◌, ◌⊎◌, inl, inr, List, [], ◌∷◌, ◌++◌, length, take, drop, get_or, Option, Some, None, Result, Ok, Err, refl, ap, sym, ◌∙◌, subst, arith, sub-one, length-drop, append-nil}
-use Rattle.std.proofs.lemmas.Bool.{and_parts}
+use Rattle.std.proofs.Common.{◌≡◌, ℕ, ◌+◌, ◌-◌, ◌*◌, ◌/◌, ◌%◌, ◌<◌, ◌≤◌, zero, suc, Bool, true, false, ◌⊎◌, inl, inr, List, [], ◌∷◌, ◌++◌, length, take, drop, get_or, Option, Some, None, Result, Ok, Err, refl, ap, sym, ◌∙◌, subst, arith, append-nil}
 use Rattle.std.proofs.lemmas.List.{length-take-le, take-append-drop, get_or-take}
 use Rattle.std.proofs.Math.Seq.{take-length}
 use Rattle.dv_defs.specs.declared.code.Insn.{Insn}
@@ -10,7 +9,7 @@ use Rattle.dv_defs.specs.declared.code.Payload.TheVariants as payload
 use Rattle.dv_defs.specs.Formats.{Format, F10x, size_in, format_at}
 use Rattle.dv_defs.specs.Spelling.{all_fit, spelling, spelling_in, spelling_10x}
 use Rattle.dv_defs.specs.Decoding.{Sized, insn_here}
-use Rattle.dv_defs.specs.Tiling.{SizedPayload, Item, IsInsn, IsPayload, Piece, Tile, payload_of, begins_payload, insn_piece, payload_piece, piece_here, with_tile, tiled, tiling}
+use Rattle.dv_defs.specs.Tiling.{SizedPayload, Item, IsInsn, IsPayload, Piece, Tile, payload_of, begins_payload, insn_piece, payload_piece, piece_here, with_tile, tiled}
 use Rattle.dv_defs.specs.Payloads.{payload_spelling, payload_here}
 use Rattle.dv_defs.specs.Layout.{item_spelling, AreTiles}
 use Rattle.dv_defs.proofs.Spelled.{spelled_is}

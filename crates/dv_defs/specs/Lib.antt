@@ -1,4 +1,5 @@
 pub mod Seq
+pub mod Entries
 pub mod Names
 pub mod Flags
 pub mod Types

@@ -1,5 +1,5 @@
 -- Why classes aren't linked: the first fault, phase by phase.
-use Rattle.std.specs.Prelude.{◌≡◌, ℕ, suc, ◌*◌, Bool, true, false, ◌&&◌, ◌||◌, not, List, [], ◌∷◌, length, take, drop, filter_map, sum_by, position, Option, Some, None, is_some, is_none, Result, Ok, Err, slice_get, nat_eq, nat_lt, bytes_eq, option_map, option_and_then}
+use Rattle.std.specs.Prelude.{◌≡◌, ℕ, suc, ◌*◌, Bool, true, false, ◌&&◌, ◌||◌, not, List, length, take, drop, filter_map, sum_by, position, Option, Some, None, is_some, is_none, Result, Ok, Err, slice_get, nat_eq, nat_lt, bytes_eq, option_map, option_and_then}
 use Rattle.std.specs.Option.{option_or}
 use Rattle.std.specs.List.{list_any}
 use Rattle.dv_defs.specs.declared.names.Ty.{Ty}
@@ -23,7 +23,7 @@ use Rattle.dv_defs.specs.Names.{object_name, init_name}
 use Rattle.dv_defs.specs.Flags.{has_flag}
 use Rattle.dv_defs.specs.Types.{class_in, ty_eq, same_proto}
 use Rattle.dv_defs.specs.Written.{field_text, method_text}
-use Rattle.dv_defs.specs.Pools.{class_named, is_interface, flags_of, methods_of, supers}
+use Rattle.dv_defs.specs.Pools.{class_named, flags_of, methods_of, supers}
 use Rattle.dv_defs.specs.Order.{above, any_of, implements, names_interface}
 use Rattle.dv_defs.specs.Boot.{Row, word, class_rows, has_row, is_in_table}
 use Rattle.dv_defs.specs.LookUp.{field_named, method_named}

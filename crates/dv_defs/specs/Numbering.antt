@@ -1,6 +1,6 @@
 -- The classes of a program before their members are resolved: each knows its superclass and its interfaces by number, and
 -- all methods and fields are numbered.
-use Rattle.std.specs.Prelude.{ℕ, suc, List, [], ◌∷◌, ◌++◌, length, map, filter_map, Option, None, option_map, option_and_then}
+use Rattle.std.specs.Prelude.{ℕ, suc, List, [], ◌∷◌, ◌++◌, length, map, filter_map, None, option_map, option_and_then}
 use Rattle.std.specs.List.{range_with_len}
 use Rattle.dv_defs.specs.declared.names.ClassId.{ClassId}
 use Rattle.dv_defs.specs.declared.class.ClassDef.{ClassDef}
@@ -62,3 +62,7 @@ numbered cs boot =
       fields = all_fields_declared 0 cs;
       boot = boot;
     }
+
+-- the names of classes in their order
+abbrev pub names_of : List ClassInfo → List (List ℕ)
+names_of cs = map (λ c. c.def.name) cs

@@ -1,5 +1,5 @@
 -- Instructions with their operands resolved: what transfer, demands and steps speak of.
-use Rattle.std.specs.Prelude.{ℕ, zero, suc, ◌+◌, ◌*◌, ◌/◌, Bool, true, false, ◌&&◌, not, List, [], ◌∷◌, length, take, drop, ℤ, pos, ◌+ℤ◌, Option, Some, None, Result, Ok, Err, slice_index, slice_get}
+use Rattle.std.specs.Prelude.{ℕ, zero, suc, ◌/◌, Bool, true, false, ◌&&◌, not, List, [], ◌∷◌, length, take, ℤ, pos, ◌+ℤ◌, Option, Some, None, Result, Ok, Err, slice_index, slice_get}
 use Rattle.dv_defs.specs.declared.names.Base.{Base}
 use Rattle.dv_defs.specs.declared.names.Ty.{Ty}
 use Rattle.dv_defs.specs.declared.names.FieldId.{FieldId}

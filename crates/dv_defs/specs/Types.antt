@@ -4,6 +4,8 @@ use Rattle.dv_defs.specs.declared.names.Base.{Base}
 use Rattle.dv_defs.specs.declared.names.Base.TheVariants as base
 use Rattle.dv_defs.specs.declared.names.Ty.{Ty}
 use Rattle.dv_defs.specs.declared.names.Proto.{Proto}
+use Rattle.dv_defs.specs.declared.names.FieldRef.{FieldRef}
+use Rattle.dv_defs.specs.declared.names.MethodRef.{MethodRef}
 
 abbrev pub of_class : List ℕ → Ty
 of_class name = record { dims = 0; base = base.Class name }
@@ -79,3 +81,9 @@ same_result a b = false
 
 abbrev pub same_proto : Proto → Proto → Bool
 same_proto p q = same_types p.params q.params && same_result p.ret q.ret
+
+abbrev pub field_eq : FieldRef → FieldRef → Bool
+field_eq a b = ty_eq a.class b.class && (bytes_eq a.name b.name && ty_eq a.ty b.ty)
+
+abbrev pub method_eq : MethodRef → MethodRef → Bool
+method_eq a b = ty_eq a.class b.class && (bytes_eq a.name b.name && same_proto a.proto b.proto)

@@ -11,7 +11,9 @@ use Rattle.dv_defs.specs.Types.{ty_eq}
 use Rattle.dv_asm.specs.declared.draft.PoolRef.{PoolRef}
 use Rattle.dv_asm.specs.declared.draft.PoolRef.TheVariants as pool
 use Rattle.dv_asm.specs.declared.pools.Pools.{Pools}
-use Rattle.dv_asm.specs.Pools.{field_eq, method_eq, no_pools, with_entry, with_ref}
+use Rattle.dv_asm.specs.Pools.{no_pools, with_ref}
+use Rattle.dv_defs.specs.Types.{field_eq, method_eq}
+use Rattle.dv_defs.specs.Entries.{with_entry}
 use Rattle.dv_coderead.specs.RawBodies.{with_refs}
 use Rattle.dv_listing.specs.RawListable.{AreApart}
 

@@ -19,7 +19,9 @@ use Rattle.dv_defs.specs.Types.{of_base, ty_eq}
 use Rattle.dv_asm.specs.declared.draft.PoolRef.{PoolRef}
 use Rattle.dv_asm.specs.declared.draft.PoolRef.TheVariants as pool
 use Rattle.dv_asm.specs.declared.pools.Pools.{Pools}
-use Rattle.dv_asm.specs.Pools.{chars_in, field_eq, field_in, method_eq, method_in, no_pools, type_in, with_entries, with_entry, with_entry_if_any, with_ref}
+use Rattle.dv_asm.specs.Pools.{chars_in, field_in, method_in, no_pools, type_in, with_entries, with_entry_if_any, with_ref}
+use Rattle.dv_defs.specs.Types.{field_eq, method_eq}
+use Rattle.dv_defs.specs.Entries.{with_entry}
 use Rattle.dv_lex.specs.declared.line.Stop.{Stop}
 use Rattle.dv_lex.specs.Bytes.{is_hexadecimal}
 use Rattle.dv_lex.specs.Numbers.{value_from}

@@ -18,7 +18,8 @@ use Rattle.dv_asm.specs.declared.draft.What.TheVariants as what
 use Rattle.dv_asm.specs.Items.{item_at, is_label, is_named, is_payload, label_of_switch, size_of}
 use Rattle.dv_asm.specs.Places.{leads_to_payload, aligned, end_of, address_of, place_of, label_address, distance, address_named_by}
 use Rattle.dv_asm.specs.Refusals.{addresses_named, is_address, switch_of, range_of, ranges_of, is_same, with_operands}
-use Rattle.dv_asm.specs.Pools.{with_entries, with_entry_if_any, chars_of, type_of, field_of, method_of, field_eq, method_eq, index_of}
+use Rattle.dv_asm.specs.Pools.{with_entries, with_entry_if_any, chars_of, type_of, field_of, method_of, index_of}
+use Rattle.dv_defs.specs.Types.{field_eq, method_eq}
 use Rattle.dv_asm.specs.Layout.{with_range, sorted_ranges, kind_in, with_kinds, pools_of, types_of, handler_of, catches_of, entry_of, tries_of, offset_of, base_of, targets_of, spelling_of, padded, units_of, body_of, layout}
 use Rattle.dv_listing.specs.DraftLaws.{what_of, unlined_catch, SameButLines}
 

@@ -6,7 +6,7 @@ use Rattle.dv_defs.specs.declared.code.Try.{Try}
 use Rattle.dv_defs.specs.Body.{BodyValue, IsBody}
 use Rattle.dv_defs.specs.Spelling.{AreUnits}
 use Rattle.dv_defs.specs.Types.{ty_eq}
-use Rattle.dv_asm.specs.Pools.{field_eq, method_eq}
+use Rattle.dv_defs.specs.Types.{field_eq, method_eq}
 use Rattle.dv_coderead.specs.RawDrafting.{have_same_range}
 use Rattle.dv_listing.specs.Listable.{AreStringUnits, IsTypeText, IsFieldText, IsMethodText}
 

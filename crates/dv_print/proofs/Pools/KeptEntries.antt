@@ -30,7 +30,8 @@ use Rattle.dv_asm.specs.Draft.{DraftValue, AreFormed, IsFormed, IsOp, is_entry, 
 use Rattle.dv_asm.specs.Items.{item_at, no_item}
 use Rattle.dv_asm.specs.Places.{address_of, end_of}
 use Rattle.dv_asm.specs.Refusals.{item_refusal}
-use Rattle.dv_asm.specs.Pools.{with_entry_if_any, with_entries, pool_ref, chars_in, type_in, field_in, method_in, chars_of, type_of, field_of, method_of, field_eq, method_eq, index_of}
+use Rattle.dv_asm.specs.Pools.{with_entry_if_any, with_entries, pool_ref, chars_in, type_in, field_in, method_in, chars_of, type_of, field_of, method_of, index_of}
+use Rattle.dv_defs.specs.Types.{field_eq, method_eq}
 use Rattle.dv_asm.specs.Layout.{kind_in, with_kinds, sorted_ranges, pools_of, units_of, body_of, layout}
 use Rattle.dv_print.specs.declared.pieces.Piece.{Piece}
 use Rattle.dv_print.specs.Pieces.{piece_of, pieces_of}

@@ -8,7 +8,8 @@ use Rattle.dv_asm.specs.Pools.{with_entries}
 use Rattle.dv_asm.specs.Layout.{catches_of}
 use Rattle.dv_asm.specs.Ranges.{found}
 use Rattle.dv_asm.proofs.GroupLemmas.{kind_of, kinds_added}
-use Rattle.dv_asm.proofs.KeyLemmas.{type_keys, one_more}
+use Rattle.dv_asm.proofs.KeyLemmas.{one_more}
+use Rattle.dv_defs.proofs.Keys.{type_keys}
 use Rattle.dv_asm.proofs.catches.Catches.add_kinds.Goals.{in-Some-kind+in_ok-add, in_default-kind}
 use Rattle.dv_asm.proofs.catches.Catches.add_kinds.Goals as goal
 

@@ -1,8 +1,8 @@
-// A pool of a body that is being assembled.
+// Entries that are looked up by their hash.
 ghost use Rattle.std.specs.Prelude.{◌≡◌, [], position, OnOk, IfOk};
-ghost use Rattle.dv_asm.specs.Pools.{with_entry};
+ghost use Rattle.dv_defs.specs.Entries.{with_entry};
 
-use dv_defs::Seq;
+use crate::Seq;
 use indexmap::IndexSet;
 use std::alloc::{AllocError, Global};
 use std::hash::Hash;
@@ -62,15 +62,4 @@ impl<E: Eq + Hash + Clone + Drop> Pool<E> {
         let entries: Vec<E> = entries.into_iter().collect(alloc)?;
         Ok(Seq::of(entries))
     }
-}
-
-/// The entries of two pools in their order.
-pub fn into_seqs<E, F>(first: Pool<E>, second: Pool<F>) -> Result<(Seq<E>, Seq<F>), AllocError>
-where
-    E: Eq + Hash + Clone + Drop,
-    F: Eq + Hash + Clone + Drop,
-    ensures first { IfOk result (λ entries. entries.0 ≡ first) }
-    ensures second { IfOk result (λ entries. entries.1 ≡ second) }
-{
-    Ok((first.into_seq()?, second.into_seq()?))
 }

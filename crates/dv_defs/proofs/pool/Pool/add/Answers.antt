@@ -1,6 +1,6 @@
 use Rattle.std.proofs.Common.{sym, ◌∙◌}
-use Rattle.dv_asm.proofs.KeyLemmas.{entry_added, entry_there}
-use Rattle.dv_asm.proofs.pool.Pool.add.Goals as goal
+use Rattle.dv_defs.proofs.Keys.{entry_added, entry_there}
+use Rattle.dv_defs.proofs.pool.Pool.add.Goals as goal
 
 pub returns-in_ok-insert : goal.returns-in_ok-insert
 returns-in_ok-insert g c =

@@ -1,0 +1,6 @@
+-- Lists in which each entry stands once, in first-seen order.
+use Rattle.std.specs.Prelude.{Bool, List, [], ◌∷◌, ◌++◌, position, Some, None}
+
+-- the entries, and this one at their end, unless it is there
+abbrev pub with_entry : {X : Type 0} → (X → X → Bool) → List X → X → List X
+with_entry eq xs x = elim (position (eq x) xs) [ None ↦ xs ++ x ∷ [] | Some k ↦ xs ]
