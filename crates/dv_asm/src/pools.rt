@@ -1,5 +1,5 @@
 // The pools of a body.
-ghost use Rattle.std.specs.Prelude.{◌≡◌, IfOk, OnOk};
+ghost use Rattle.std.specs.Prelude.{◌≡◌, ◌<◌, ◌^◌, IfOk, IsOk, OnOk};
 ghost use Rattle.dv_asm.specs.Pools.{no_pools, pool_ref, with_ref, index_of};
 ghost use Rattle.dv_asm.specs.Layout.{pools_of};
 
@@ -19,7 +19,8 @@ pub struct Pools {
 
 /// A place as an index. No memory holds so many entries that it doesn't fit.
 pub fn index(place: usize) -> Result<u32, AllocError>
-    ensures { IfOk result (λ n. n ≡ place) }
+    ensures value { IfOk result (λ n. n ≡ place) }
+    ensures fits { place < 2 ^ 32 → IsOk result }
 {
     u32::try_from(place).map_err(|_| AllocError)
 }

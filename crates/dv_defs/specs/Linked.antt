@@ -1,8 +1,9 @@
 -- What linking gives of classes: an image, or the first fault.
-use Rattle.std.specs.Prelude.{◌≡◌, ◌≢◌, ℕ, ◌+◌, Bool, true, false, ◌&&◌, not, List, [], ◌∷◌, ◌++◌, length, map, filter, filter_map, All, Option, Some, None, is_some, Result, Ok, Err, slice_get, nat_eq, bytes_eq, option_and_then, IsTrue}
+use Rattle.std.specs.Prelude.{◌≡◌, ◌≢◌, ℕ, ◌+◌, Bool, true, false, ◌&&◌, not, List, [], ◌∷◌, ◌++◌, length, map, filter, filter_map, All, Option, Some, None, is_some, Result, Ok, Err, slice_get, slice_index_or, nat_eq, bytes_eq, option_and_then, IsTrue}
 use Rattle.std.specs.Option.{option_or}
 use Rattle.std.specs.List.{list_any, range_with_len, enumerate_from}
 use Rattle.dv_defs.specs.declared.names.Proto.{Proto}
+use Rattle.dv_defs.specs.declared.names.ClassId.{ClassId}
 use Rattle.dv_defs.specs.declared.names.FieldId.{FieldId}
 use Rattle.dv_defs.specs.declared.names.MethodId.{MethodId}
 use Rattle.dv_defs.specs.declared.code.Body.{Body}
@@ -18,8 +19,9 @@ use Rattle.dv_defs.specs.Types.{of_class, words_of, same_proto}
 use Rattle.dv_defs.specs.Field.{may_stand}
 use Rattle.dv_defs.specs.Pools.{Method, Field, method_at, field_at, methods_of, class_named, supers, nearest, declared_by, is_static, is_private, is_constructor, is_static_field, is_interface, no_arguments}
 use Rattle.dv_defs.specs.Joins.{array_of}
-use Rattle.dv_defs.specs.LookUp.{field_named, method_named}
-use Rattle.dv_defs.specs.Numbering.{declared, numbered}
+use Rattle.dv_defs.specs.Order.{has_number, numbers}
+use Rattle.dv_defs.specs.LookUp.{field_named, method_named, superinterfaces}
+use Rattle.dv_defs.specs.Numbering.{declared, numbered, names_of}
 use Rattle.dv_defs.specs.LinkFaults.{Found, found, first_fault_by, boot_fault, limit_fault, is_twice, wrong_above, on_cycle, has_field_twice, wrong_methods, wrong_pools}
 
 -- ---- cells of objects
@@ -197,6 +199,12 @@ pub record IsImage (image : Image) : Type 0 where
   pub is_linked : linked (defs image.classes) image.boot ≡ Ok image
   pub named : AreNamed (defs image.classes)
   pub values : All HasValues (defs image.classes)
+
+-- what an image's classes are looked up by: their names, and of each class the superinterfaces, in any order
+pub record IsIndex (names : List (List ℕ)) (above : List (List ClassId)) (image : Image) : Type 0 where
+  pub names_are : names ≡ names_of image.classes
+  pub superinterfaces_are :
+      (c d : ℕ) → has_number d (numbers (slice_index_or above c [])) ≡ has_number d (superinterfaces image c)
 
 -- ---- the main method
 
