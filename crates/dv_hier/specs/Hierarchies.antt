@@ -1,0 +1,34 @@
+-- What the classes that are linked, and their hierarchy, are seen as, and what each keeps.
+use Rattle.std.specs.Prelude.{◌≡◌, ℕ, List, [], map, All, None}
+use Rattle.dv_defs.specs.declared.class.ClassDef.{ClassDef}
+use Rattle.dv_defs.specs.declared.image.ClassInfo.{ClassInfo}
+use Rattle.dv_defs.specs.declared.image.FieldInfo.{FieldInfo}
+use Rattle.dv_defs.specs.Numbering.{numbered, names_of}
+use Rattle.dv_defs.specs.Linked.{defs, slotted, first_phases, AreNamed, HasValues}
+
+pub record ClassesValue : Type 0 where
+  pub list : List ClassDef
+  pub boot : ℕ
+
+pub record HierarchyValue : Type 0 where
+  pub classes : List ClassInfo
+  pub fields : List FieldInfo
+  pub boot : ℕ
+
+-- the classes with the numbers of those above them and with their cells, and the fields
+abbrev pub hierarchy_of : List ClassDef → ℕ → HierarchyValue
+hierarchy_of cs boot =
+    record { classes = (slotted (numbered cs boot)).classes; fields = (slotted (numbered cs boot)).fields; boot = boot }
+
+abbrev pub without_table : ClassInfo → ClassInfo
+without_table c = record { def = c.def; parent = c.parent; interfaces = c.interfaces; slots = c.slots; table = [] }
+
+abbrev pub without_tables : HierarchyValue → HierarchyValue
+without_tables h = record { classes = map without_table h.classes; fields = h.fields; boot = h.boot }
+
+-- but for tables, a hierarchy is what the first phases give of the definitions in it
+pub record IsHierarchy (h : HierarchyValue) : Type 0 where
+  pub is_built : first_phases (defs h.classes) h.boot ≡ None
+  pub is : without_tables h ≡ hierarchy_of (defs h.classes) h.boot
+  pub named : AreNamed (defs h.classes)
+  pub values : All HasValues (defs h.classes)

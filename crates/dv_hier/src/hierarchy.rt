@@ -1,0 +1,46 @@
+// The classes that are linked, and their hierarchy.
+use dv_defs::{ClassDef, ClassInfo, FieldInfo, Pool, Seq, Text};
+use std::marker::Model;
+
+/// The classes that are linked, of which the first `boot` are the boot classes. Each has a name.
+#[derive(Drop)]
+pub struct Classes {
+    pub list: Seq<ClassDef>,
+    pub boot: u32,
+}
+
+impl Model for Classes {
+    ghost use Rattle.dv_hier.specs.Hierarchies.{ClassesValue};
+    ghost use Rattle.dv_defs.specs.Linked.{AreNamed};
+
+    ghost Value = { ClassesValue };
+
+    ghost view = { λ c. record { list = c.list; boot = c.boot } };
+
+    ghost invariant = { λ c. AreNamed c.list };
+
+    ghost inverse = { λ c. record { list = c.list; boot = c.boot } };
+}
+
+/// Classes that know their superclass and their interfaces by number, and the cells of their objects.
+/// No superclass or interface depends on itself, no class or field is told twice, and the boot classes are those that each program finds.
+#[derive(Drop)]
+pub struct Hierarchy {
+    pub classes: Seq<ClassInfo>,
+    pub fields: Seq<FieldInfo>,
+    pub boot: u32,
+    /// The classes' descriptors in their order. A contract doesn't see them beside the classes.
+    pub names: Pool<Text>,
+}
+
+impl Model for Hierarchy {
+    ghost use Rattle.std.specs.Prelude.{◌≡◌};
+    ghost use Rattle.dv_hier.specs.Hierarchies.{HierarchyValue, IsHierarchy};
+    ghost use Rattle.dv_defs.specs.Numbering.{names_of};
+
+    ghost Value = { HierarchyValue };
+
+    ghost view = { λ h. record { classes = h.classes; fields = h.fields; boot = h.boot } };
+
+    ghost invariant = { λ h. IsHierarchy (record { classes = h.classes; fields = h.fields; boot = h.boot }) × (h.names ≡ names_of h.classes) };
+}

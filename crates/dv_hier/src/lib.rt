@@ -1,0 +1,16 @@
+//! The hierarchy of the classes that are linked: which stand above which, and the cells of their objects.
+#![tactic(auto)]
+
+mod above;
+mod boot;
+mod building;
+mod cycles;
+mod fields;
+mod hierarchy;
+mod limits;
+mod names;
+mod numbering;
+mod slots;
+
+pub use building::build;
+pub use hierarchy::{Classes, Hierarchy};

@@ -1,0 +1,2 @@
+//! The laws of linking's definitions.
+#![tactic(auto)]
