@@ -1,8 +1,8 @@
 -- Laws of the first of what a function gives.
-use Rattle.std.specs.Prelude.{ℕ, zero, suc, ◌≡◌, ◌<◌, ◌+◌, Bool, true, false, List, [], ◌∷◌, Option, Some, None, ◌⊎◌, option_map}
+use Rattle.std.specs.Prelude.{ℕ, zero, suc, ◌≡◌, ◌<◌, ◌+◌, Bool, true, false, Option, Some, None, ◌⊎◌, option_map}
 use Rattle.std.specs.Option.{option_or}
-use Rattle.std.proofs.Common.{refl, ◌∙◌, add-one, arith, ⊎_elim}
-use Rattle.dv_defs.specs.First.{first_below, first_in, when}
+use Rattle.std.proofs.Common.{refl, add-one, arith, ⊎_elim}
+use Rattle.dv_defs.specs.First.{first_below, when}
 
 less_or_same : (i n : ℕ) → i < suc n → (i < n) ⊎ (i ≡ n)
 less_or_same i n within = grind arith

@@ -1,5 +1,5 @@
 -- An image without what linking adds after its classes know each other and its members are numbered.
-use Rattle.std.specs.Prelude.{◌≡◌, ℕ, ◌<◌, List, [], length, map, All, IfSome}
+use Rattle.std.specs.Prelude.{ℕ, ◌<◌, List, [], length, map, All, IfSome}
 use Rattle.dv_defs.specs.declared.class.ClassDef.{ClassDef}
 use Rattle.dv_defs.specs.declared.image.ClassInfo.{ClassInfo}
 use Rattle.dv_defs.specs.declared.image.MethodInfo.{MethodInfo}
