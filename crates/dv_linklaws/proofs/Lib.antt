@@ -1,2 +1,4 @@
 pub mod First
 pub mod Names
+pub mod Once
+pub mod Bounds
