@@ -1,9 +1,11 @@
 -- What the classes that are linked, and their hierarchy, are seen as, and what each keeps.
-use Rattle.std.specs.Prelude.{◌≡◌, ℕ, List, [], map, All, None}
+use Rattle.std.specs.Prelude.{◌≡◌, ℕ, List, [], map, All, Option, None}
 use Rattle.dv_defs.specs.declared.class.ClassDef.{ClassDef}
 use Rattle.dv_defs.specs.declared.image.ClassInfo.{ClassInfo}
 use Rattle.dv_defs.specs.declared.image.FieldInfo.{FieldInfo}
-use Rattle.dv_defs.specs.Numbering.{numbered, names_of}
+use Rattle.std.specs.Option.{option_or}
+use Rattle.dv_defs.specs.Numbering.{declared, numbered, names_of}
+use Rattle.dv_defs.specs.LinkFaults.{Found, first_fault_by, boot_fault, limit_fault, is_twice, wrong_above}
 use Rattle.dv_defs.specs.Linked.{defs, slotted, first_phases, AreNamed, HasValues}
 
 pub record ClassesValue : Type 0 where
@@ -32,3 +34,10 @@ pub record IsHierarchy (h : HierarchyValue) : Type 0 where
   pub is : without_tables h ≡ hierarchy_of (defs h.classes) h.boot
   pub named : AreNamed (defs h.classes)
   pub values : All HasValues (defs h.classes)
+
+-- the phases that go by names: the boot classes, limits, names, what stands above
+unfoldable pub naming_phases : List ClassDef → ℕ → Option Found
+naming_phases cs boot =
+    option_or (boot_fault cs boot)
+    (option_or (limit_fault cs boot)
+    (option_or (first_fault_by (is_twice (declared cs boot)) cs) (first_fault_by (wrong_above (declared cs boot)) cs)))
