@@ -1,9 +1,11 @@
 -- The pools of a body with what its items name.
-use Rattle.std.proofs.Common.{◌≡◌, ◌+◌, ◌<◌, ℕ, List, [], ◌∷◌, length, drop, get_or, Option, Some, None, refl, sym, ap, ◌∙◌}
+use Rattle.std.proofs.Common.{◌≡◌, ◌+◌, ◌<◌, ℕ, Bool, List, [], ◌∷◌, length, drop, get_or, Option, Some, None, refl, sym, ap, ◌∙◌}
+use Rattle.std.specs.Prelude.{bytes_eq}
 use Rattle.std.proofs.lemmas.List.{drop_more}
 use Rattle.dv_asm.specs.declared.draft.Item.{Item}
 use Rattle.dv_asm.specs.declared.pools.Pools.{Pools}
 use Rattle.dv_defs.specs.Entries.{with_entry}
+use Rattle.dv_defs.specs.Types.{ty_eq, field_eq, method_eq}
 use Rattle.dv_asm.specs.Pools.{with_entry_if_any, with_entries, pool_ref, chars_of, type_of, field_of, method_of, with_ref}
 
 -- a pool with the entry that one more item names
