@@ -1,5 +1,5 @@
 -- A name that an earlier class has is a fault.
-use Rattle.std.proofs.Common.{◌≡◌, ◌+◌, ◌<◌, ◌≤◌, ℕ, suc, Bool, true, false, not, List, [], ◌∷◌, ◌++◌, length, map, take, get_or, position, bytes_eq, Option, Some, None, refl, sym, ap, ◌∙◌, arith, option_map}
+use Rattle.std.proofs.Common.{◌≡◌, ◌+◌, ◌<◌, ◌≤◌, ℕ, suc, Bool, true, false, not, List, [], ◌∷◌, ◌++◌, length, map, take, get_or, position, bytes_eq, Option, Some, None, is_some, refl, sym, ap, ◌∙◌, arith, option_map}
 use Rattle.std.specs.Prelude.{nat_eq, slice_get}
 use Rattle.std.proofs.lemmas.List.{get_or-map, take_more}
 use Rattle.std.proofs.lemmas.Option.{slice_get_read}
@@ -9,26 +9,34 @@ use Rattle.std.proofs.Math.Seq.{take-length}
 use Rattle.dv_defs.specs.declared.class.ClassDef.{ClassDef}
 use Rattle.dv_defs.specs.declared.faults.LinkKind.TheVariants as kind
 use Rattle.dv_defs.specs.Entries.{with_entry}
-use Rattle.dv_defs.specs.First.{when}
-use Rattle.dv_defs.specs.LinkFaults.{Found, found, fault_at, tested, is_twice, is_number}
+use Rattle.dv_defs.specs.First.{first_below, when}
+use Rattle.dv_defs.specs.LinkFaults.{found, first_fault_by, fault_at, tested, is_twice, is_number}
 use Rattle.dv_defs.specs.Numbering.{declared}
 use Rattle.dv_defs.specs.Pools.{class_named}
 use Rattle.dv_linklaws.specs.Stripped.{def_names}
 use Rattle.dv_linklaws.proofs.Names.{declared_is_position}
+use Rattle.dv_linklaws.proofs.First.{first_below_found, first_below_more}
 use Rattle.dv_hier.proofs.Twice.{first_here, first_before}
 
 bytes_same : (xs : List ℕ) → bytes_eq xs xs ≡ true
 bytes_same xs = (bytes_eq-Decides xs xs).1 refl
 
 names_count : (cs : List ClassDef) → length (def_names cs) ≡ length cs
-names_count cs = length-map (λ (c : ClassDef). c.name) cs
+names_count cs = length-map cs (λ (c : ClassDef). c.name)
 
 name_at : (cs : List ClassDef) (i : ℕ) (c : ClassDef) → i < length cs → c ≡ get_or cs i c → get_or (def_names cs) i c.name ≡ c.name
 name_at cs i c within is = get_or-map (λ (c : ClassDef). c.name) cs i c c.name within ∙ ap (λ (c : ClassDef). c.name) (sym is)
 
+-- a list with an entry where it has no place yet
+abbrev at_end : List (List ℕ) → List ℕ → Option ℕ → List (List ℕ)
+at_end names name o = elim o [ None ↦ names ++ name ∷ [] | Some k ↦ names ]
+
 -- the names with one more class's
-pub names_more : (cs : List ClassDef) (i : ℕ) (c : ClassDef) (names more : List (List ℕ)) → i < length cs → c ≡ get_or cs i c → names ≡ take i (def_names cs) → position (bytes_eq c.name) names ≡ None → more ≡ with_entry bytes_eq names c.name → more ≡ take (i + 1) (def_names cs)
-names_more cs i c names more within is before new added = ?
+names_more : (cs : List ClassDef) (i : ℕ) (c : ClassDef) (names more : List (List ℕ)) → i < length cs → c ≡ get_or cs i c → names ≡ take i (def_names cs) → position (bytes_eq c.name) names ≡ None → more ≡ with_entry bytes_eq names c.name → more ≡ take (i + 1) (def_names cs)
+names_more cs i c names more within is before new added =
+    let room : i < length (def_names cs) = omega (arith, names_count cs) in
+    let put : with_entry bytes_eq names c.name ≡ names ++ c.name ∷ [] = ap (λ (o : Option ℕ). at_end names c.name o) new in
+    added ∙ (put ∙ ((λ j. before j ++ (sym (name_at cs i c within is) j ∷ [])) ∙ sym (take_more (def_names cs) i c.name room)))
 
 pub all_names : (cs : List ClassDef) (i : ℕ) → i ≡ length cs → take i (def_names cs) ≡ def_names cs
 all_names cs i all = ap (λ (n : ℕ). take n (def_names cs)) (all ∙ sym (names_count cs)) ∙ take-length (def_names cs)
@@ -42,7 +50,7 @@ at_place cs boot i c o within is e =
     twice_by i c (class_named (declared cs boot) c.name) o (declared_is_position cs boot c.name ∙ e)
 
 -- an earlier class has the name
-pub told_twice : (cs : List ClassDef) (boot i k : ℕ) (c : ClassDef) (names : List (List ℕ)) → i < length cs → c ≡ get_or cs i c → names ≡ take i (def_names cs) → position (bytes_eq c.name) names ≡ Some k → fault_at (is_twice (declared cs boot)) cs i ≡ Some (found c.name kind.ClassTwice)
+told_twice : (cs : List ClassDef) (boot i k : ℕ) (c : ClassDef) (names : List (List ℕ)) → i < length cs → c ≡ get_or cs i c → names ≡ take i (def_names cs) → position (bytes_eq c.name) names ≡ Some k → fault_at (is_twice (declared cs boot)) cs i ≡ Some (found c.name kind.ClassTwice)
 told_twice cs boot i k c names within is before there =
     let parts = first_before (bytes_eq c.name) (def_names cs) i k c.name (ap (position (bytes_eq c.name)) (sym before) ∙ there) (omega (arith, names_count cs)) in
     at_place cs boot i c (Some k) within is parts.0 ∙ other i k c (omega (arith, parts.1))
@@ -51,11 +59,34 @@ told_twice cs boot i k c names within is before there =
     other i k c less = grind arith
 
 -- no earlier class has the name
-pub told_once : (cs : List ClassDef) (boot i : ℕ) (c : ClassDef) (names : List (List ℕ)) → i < length cs → c ≡ get_or cs i c → names ≡ take i (def_names cs) → position (bytes_eq c.name) names ≡ None → fault_at (is_twice (declared cs boot)) cs i ≡ None
+told_once : (cs : List ClassDef) (boot i : ℕ) (c : ClassDef) (names : List (List ℕ)) → i < length cs → c ≡ get_or cs i c → names ≡ take i (def_names cs) → position (bytes_eq c.name) names ≡ None → fault_at (is_twice (declared cs boot)) cs i ≡ None
 told_once cs boot i c names within is before new =
     let same : bytes_eq c.name (get_or (def_names cs) i c.name) ≡ true = ap (bytes_eq c.name) (name_at cs i c within is) ∙ bytes_same c.name in
     at_place cs boot i c (Some i) within is
-      (first_here (bytes_eq c.name) (def_names cs) i c.name (ap (position (bytes_eq c.name)) (sym before) ∙ new) (omega (arith, names_count cs)) same) ∙ itself i c
+    (first_here (bytes_eq c.name) (def_names cs) i c.name (ap (position (bytes_eq c.name)) (sym before) ∙ new) (omega (arith, names_count cs)) same) ∙ itself i c
   where
     itself : (i : ℕ) (c : ClassDef) → option_map (found c.name) (when (not (nat_eq i i)) kind.ClassTwice) ≡ None
     itself i c = grind arith
+
+some_of : (o : Option ℕ) → is_some o ≡ true → (k : ℕ) × (o ≡ Some k)
+some_of None some = absurd (cc)
+some_of (Some k) some = (k, refl)
+
+none_of : (o : Option ℕ) → is_some o ≡ false → o ≡ None
+none_of None none = refl
+none_of (Some k) none = absurd (cc)
+
+-- the turn of a loop that finds a name among the earlier ones
+pub name_found : (cs : List ClassDef) (boot i : ℕ) (c : ClassDef) (names : List (List ℕ)) → first_below (fault_at (is_twice (declared cs boot)) cs) i ≡ None → i < length cs → c ≡ get_or cs i c → names ≡ take i (def_names cs) → is_some (position (bytes_eq c.name) names) ≡ true → first_fault_by (is_twice (declared cs boot)) cs ≡ Some (found c.name kind.ClassTwice)
+name_found cs boot i c names before within is earlier there =
+    let at = some_of (position (bytes_eq c.name) names) there in
+    first_below_found (fault_at (is_twice (declared cs boot)) cs) (length cs) i (found c.name kind.ClassTwice) before (told_twice cs boot i at.0 c names within is earlier at.1) within
+
+-- the turn of a loop that doesn't
+pub name_new : (cs : List ClassDef) (boot i : ℕ) (c : ClassDef) (names : List (List ℕ)) → first_below (fault_at (is_twice (declared cs boot)) cs) i ≡ None → i < length cs → c ≡ get_or cs i c → names ≡ take i (def_names cs) → is_some (position (bytes_eq c.name) names) ≡ false → first_below (fault_at (is_twice (declared cs boot)) cs) (i + 1) ≡ None
+name_new cs boot i c names before within is earlier new =
+    first_below_more (fault_at (is_twice (declared cs boot)) cs) i before (told_once cs boot i c names within is earlier (none_of (position (bytes_eq c.name) names) new))
+
+pub name_added : (cs : List ClassDef) (i : ℕ) (c : ClassDef) (names more : List (List ℕ)) → i < length cs → c ≡ get_or cs i c → names ≡ take i (def_names cs) → is_some (position (bytes_eq c.name) names) ≡ false → more ≡ with_entry bytes_eq names c.name → more ≡ take (i + 1) (def_names cs)
+name_added cs i c names more within is earlier new added =
+    names_more cs i c names more within is earlier (none_of (position (bytes_eq c.name) names) new) added

@@ -18,7 +18,7 @@ first_here {X} p xs i d none within here =
     let few : length (take i xs) ≡ i = length-take-le i xs (omega arith) in
     let past : i ≤ position_or_len p (take i xs) = omega (arith, place_none p (take i xs) none) in
     let before : (k : ℕ) → k < i → p (get_or xs k d) ≡ false =
-      λ k less. ap p (sym (get_or-take i xs k d less)) ∙ fails_before_first p (take i xs) k d (omega arith) in
+    λ k less. ap p (sym (get_or-take i xs k d less)) ∙ fails_before_first p (take i xs) k d (omega arith) in
     place_found p xs i (position_or_len_is p xs i d (omega arith) before (λ h. here)) within
 
 -- one of the earlier ones passes: it is the first that does
@@ -28,6 +28,6 @@ first_before {X} p xs i k d found within =
     let parts = position-Some p (take i xs) k d found in
     let less : k < i = omega (arith, parts.0) in
     let before : (j : ℕ) → j < k → p (get_or xs j d) ≡ false =
-      λ j smaller. ap p (sym (get_or-take i xs j d (omega arith))) ∙ parts.2 j smaller in
+    λ j smaller. ap p (sym (get_or-take i xs j d (omega arith))) ∙ parts.2 j smaller in
     let here : p (get_or xs k d) ≡ true = ap p (sym (get_or-take i xs k d less)) ∙ parts.1 in
     (place_found p xs k (position_or_len_is p xs k d (omega arith) before (λ h. here)) (omega arith), less)
