@@ -1,3 +1,4 @@
+pub mod FieldLemmas
 pub mod LimitLemmas
 pub mod NameLemmas
 pub mod Twice

@@ -16,7 +16,7 @@ use Rattle.dv_defs.specs.Pools.{class_named}
 use Rattle.dv_linklaws.specs.Stripped.{def_names}
 use Rattle.dv_linklaws.proofs.Names.{declared_is_position}
 use Rattle.dv_linklaws.proofs.First.{first_below_found, first_below_more}
-use Rattle.dv_hier.proofs.Twice.{first_here, first_before}
+use Rattle.dv_hier.proofs.Twice.{first_here, first_before, some_of, none_of}
 
 bytes_same : (xs : List ℕ) → bytes_eq xs xs ≡ true
 bytes_same xs = (bytes_eq-Decides xs xs).1 refl
@@ -67,14 +67,6 @@ told_once cs boot i c names within is before new =
   where
     itself : (i : ℕ) (c : ClassDef) → option_map (found c.name) (when (not (nat_eq i i)) kind.ClassTwice) ≡ None
     itself i c = grind arith
-
-some_of : (o : Option ℕ) → is_some o ≡ true → (k : ℕ) × (o ≡ Some k)
-some_of None some = absurd (cc)
-some_of (Some k) some = (k, refl)
-
-none_of : (o : Option ℕ) → is_some o ≡ false → o ≡ None
-none_of None none = refl
-none_of (Some k) none = absurd (cc)
 
 -- the turn of a loop that finds a name among the earlier ones
 pub name_found : (cs : List ClassDef) (boot i : ℕ) (c : ClassDef) (names : List (List ℕ)) → first_below (fault_at (is_twice (declared cs boot)) cs) i ≡ None → i < length cs → c ≡ get_or cs i c → names ≡ take i (def_names cs) → is_some (position (bytes_eq c.name) names) ≡ true → first_fault_by (is_twice (declared cs boot)) cs ≡ Some (found c.name kind.ClassTwice)
