@@ -1,8 +1,8 @@
 -- Fields of one name and type.
-use Rattle.std.proofs.Common.{◌≡◌, ◌+◌, ◌<◌, ◌≤◌, ℕ, suc, Bool, true, false, cond, not, ◌&&◌, ◌||◌, bytes_eq, List, [], ◌∷◌, ◌++◌, length, take, get_or, position, All, IsTrue, Option, Some, None, refl, subst, sym, ap, ◌∙◌, arith}
-use Rattle.std.specs.Prelude.{nat_eq, nat_lt, slice_get}
+use Rattle.std.proofs.Common.{◌≡◌, ◌+◌, ◌<◌, ◌≤◌, ℕ, Bool, true, false, cond, not, ◌&&◌, ◌||◌, bytes_eq, List, [], ◌∷◌, ◌++◌, length, take, get_or, position, All, IsTrue, option_map, Option, Some, None, refl, subst, sym, ap, ◌∙◌, arith}
+use Rattle.std.specs.Prelude.{nat_eq, nat_lt}
 use Rattle.std.specs.List.{list_any}
-use Rattle.std.proofs.lemmas.List.{take_more, take_all}
+use Rattle.std.proofs.lemmas.List.{take_more, take_all, length-map, get_or-map}
 use Rattle.std.proofs.lemmas.List.Elements.{All-more, All-same}
 use Rattle.std.proofs.lemmas.List.Folds.{list_any-append}
 use Rattle.std.proofs.lemmas.Option.{slice_get_read}
@@ -16,7 +16,9 @@ use Rattle.dv_defs.specs.declared.faults.LinkKind.TheVariants as kind
 use Rattle.dv_defs.specs.Field.{may_stand}
 use Rattle.dv_defs.specs.First.{first_below, when}
 use Rattle.dv_defs.specs.Types.{ty_eq, base_eq}
-use Rattle.dv_defs.specs.LinkFaults.{same_field, field_twice, is_number}
+use Rattle.dv_defs.specs.LinkFaults.{same_field, field_twice, is_number, has_field_twice, found, tested, fault_at, first_fault_by}
+use Rattle.dv_defs.specs.Linked.{defs, HasValues}
+use Rattle.dv_defs.specs.declared.image.ClassInfo.{ClassInfo}
 use Rattle.dv_defs.proofs.Keys.{type_keys}
 use Rattle.dv_linklaws.proofs.First.{first_below_found, first_below_more}
 use Rattle.dv_hier.specs.declared.fields.FieldKey.{FieldKey}
@@ -56,7 +58,7 @@ field_same : (f : FieldDef) → same_field f f ≡ true
 field_same f = (λ j. bytes_same f.name j && type_same f.ty j)
 
 -- the key of a field is like those that the field is like
-pub like_key : (k : FieldKey) (f : FieldDef) → k.name.now ≡ f.name → k.ty.now ≡ f.ty → is_like k ≡ same_field f
+like_key : (k : FieldKey) (f : FieldDef) → k.name.now ≡ f.name → k.ty.now ≡ f.ty → is_like k ≡ same_field f
 like_key k f name ty = λ j g. bytes_eq g.name (name j) && ty_eq g.ty (ty j)
 
 key_like : (k q : FieldKey) (f : FieldDef) → k.name.now ≡ f.name → k.ty.now ≡ f.ty → key_eq k q ≡ is_like q f
@@ -82,7 +84,7 @@ at_place fs i f o within is e =
     ap (λ (o : Option ℕ). when (not (is_number i o)) (kind.FieldTwice f.name)) e
 
 -- an earlier field is like this one
-pub field_told : (fs : List FieldDef) (i : ℕ) (f : FieldDef) → i < length fs → f ≡ get_or fs i f → list_any (same_field f) (take i fs) ≡ true → field_twice fs i ≡ Some (kind.FieldTwice f.name)
+field_told : (fs : List FieldDef) (i : ℕ) (f : FieldDef) → i < length fs → f ≡ get_or fs i f → list_any (same_field f) (take i fs) ≡ true → field_twice fs i ≡ Some (kind.FieldTwice f.name)
 field_told fs i f within is there =
     let at = some_of (position (same_field f) (take i fs)) (some_place (same_field f) (take i fs) ∙ there) in
     let parts = first_before (same_field f) fs i at.0 f at.1 (omega arith) in
@@ -92,7 +94,7 @@ field_told fs i f within is there =
     other i k fault less = grind arith
 
 -- no earlier field is like this one
-pub field_new : (fs : List FieldDef) (i : ℕ) (f : FieldDef) → i < length fs → f ≡ get_or fs i f → list_any (same_field f) (take i fs) ≡ false → field_twice fs i ≡ None
+field_new : (fs : List FieldDef) (i : ℕ) (f : FieldDef) → i < length fs → f ≡ get_or fs i f → list_any (same_field f) (take i fs) ≡ false → field_twice fs i ≡ None
 field_new fs i f within is new =
     let none = none_of (position (same_field f) (take i fs)) (some_place (same_field f) (take i fs) ∙ new) in
     let same : same_field f (get_or fs i f) ≡ true = ap (same_field f) (sym is) ∙ field_same f in
@@ -138,3 +140,39 @@ value_more fs i f within is before here = All-more HasValue fs i f within before
 
 pub all_values : (fs : List FieldDef) (i : ℕ) → length fs ≤ i → All HasValue (take i fs) → All HasValue fs
 all_values fs i all values = All-same HasValue fs (take i fs) (sym (take_all i fs all)) values
+
+-- ---- over classes
+
+defs_count : (infos : List ClassInfo) → length (defs infos) ≡ length infos
+defs_count infos = length-map infos (λ (c : ClassInfo). c.def)
+
+def_at : (infos : List ClassInfo) (i : ℕ) (c : ClassInfo) → i < length infos → c ≡ get_or infos i c → get_or (defs infos) i c.def ≡ c.def
+def_at infos i c within is = get_or-map (λ (c : ClassInfo). c.def) infos i c c.def within ∙ ap (λ (c : ClassInfo). c.def) (sym is)
+
+class_at : (infos : List ClassInfo) (i : ℕ) (c : ClassInfo) (o : Option LinkKind) → i < length infos → c ≡ get_or infos i c → first_below (field_twice c.def.fields) (length c.def.fields) ≡ o → fault_at has_field_twice (defs infos) i ≡ option_map (found c.def.name) o
+class_at infos i c o within is e =
+    ap (tested has_field_twice i) (slice_get_read (defs infos) (length (defs infos)) i c.def refl (omega (arith, defs_count infos)) (sym (def_at infos i c within is))) ∙
+    ap (option_map (found c.def.name)) e
+
+-- what is known of the items of a class
+pub told_of : (items fs : List FieldDef) (o p : Option (List ℕ)) → items ≡ fs → first_below (field_twice items) (length items) ≡ option_map kind.FieldTwice o → o ≡ p → first_below (field_twice fs) (length fs) ≡ option_map kind.FieldTwice p
+told_of items fs o p same twice is =
+    ap (λ (fs : List FieldDef). first_below (field_twice fs) (length fs)) (sym same) ∙ (twice ∙ ap (option_map kind.FieldTwice) is)
+
+-- the turn of a loop at a class with a field that it declares twice
+pub class_twice : (infos : List ClassInfo) (i : ℕ) (c : ClassInfo) (name : List ℕ) → first_below (fault_at has_field_twice (defs infos)) i ≡ None → i < length infos → c ≡ get_or infos i c → first_below (field_twice c.def.fields) (length c.def.fields) ≡ Some (kind.FieldTwice name) → first_fault_by has_field_twice (defs infos) ≡ Some (found c.def.name (kind.FieldTwice name))
+class_twice infos i c name before within is twice =
+    first_below_found (fault_at has_field_twice (defs infos)) (length (defs infos)) i (found c.def.name (kind.FieldTwice name)) before
+    (class_at infos i c (Some (kind.FieldTwice name)) within is twice) (omega (arith, defs_count infos))
+
+-- at another class
+pub class_once : (infos : List ClassInfo) (i : ℕ) (c : ClassInfo) → first_below (fault_at has_field_twice (defs infos)) i ≡ None → i < length infos → c ≡ get_or infos i c → first_below (field_twice c.def.fields) (length c.def.fields) ≡ None → first_below (fault_at has_field_twice (defs infos)) (i + 1) ≡ None
+class_once infos i c before within is once = first_below_more (fault_at has_field_twice (defs infos)) i before (class_at infos i c None within is once)
+
+pub class_values : (infos : List ClassInfo) (i : ℕ) (c : ClassInfo) → i < length infos → c ≡ get_or infos i c → All HasValues (take i (defs infos)) → HasValues c.def → All HasValues (take (i + 1) (defs infos))
+class_values infos i c within is before here =
+    All-more HasValues (defs infos) i c.def (omega (arith, defs_count infos)) before (subst HasValues (sym (def_at infos i c within is)) here)
+
+pub all_class_values : (infos : List ClassInfo) (i : ℕ) → length infos ≤ i → All HasValues (take i (defs infos)) → All HasValues (defs infos)
+all_class_values infos i all values =
+    All-same HasValues (defs infos) (take i (defs infos)) (sym (take_all i (defs infos) (omega (arith, defs_count infos)))) values

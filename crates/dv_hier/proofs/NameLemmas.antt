@@ -1,11 +1,10 @@
 -- A name that an earlier class has is a fault.
-use Rattle.std.proofs.Common.{◌≡◌, ◌+◌, ◌<◌, ◌≤◌, ℕ, suc, Bool, true, false, not, List, [], ◌∷◌, ◌++◌, length, map, take, get_or, position, bytes_eq, Option, Some, None, is_some, refl, sym, ap, ◌∙◌, arith, option_map}
-use Rattle.std.specs.Prelude.{nat_eq, slice_get}
+use Rattle.std.proofs.Common.{◌≡◌, ◌+◌, ◌<◌, ℕ, true, false, not, List, [], ◌∷◌, ◌++◌, length, take, get_or, position, bytes_eq, Option, Some, None, is_some, refl, sym, ap, ◌∙◌, arith, option_map}
+use Rattle.std.specs.Prelude.{nat_eq}
 use Rattle.std.proofs.lemmas.List.{get_or-map, take_more}
 use Rattle.std.proofs.lemmas.Option.{slice_get_read}
 use Rattle.std.proofs.lemmas.Slice.Eq.{bytes_eq-Decides}
 use Rattle.std.proofs.Math.ListN.{length-map}
-use Rattle.std.proofs.Math.Seq.{take-length}
 use Rattle.dv_defs.specs.declared.class.ClassDef.{ClassDef}
 use Rattle.dv_defs.specs.declared.faults.LinkKind.TheVariants as kind
 use Rattle.dv_defs.specs.Entries.{with_entry}
@@ -37,9 +36,6 @@ names_more cs i c names more within is before new added =
     let room : i < length (def_names cs) = omega (arith, names_count cs) in
     let put : with_entry bytes_eq names c.name ≡ names ++ c.name ∷ [] = ap (λ (o : Option ℕ). at_end names c.name o) new in
     added ∙ (put ∙ ((λ j. before j ++ (sym (name_at cs i c within is) j ∷ [])) ∙ sym (take_more (def_names cs) i c.name room)))
-
-pub all_names : (cs : List ClassDef) (i : ℕ) → i ≡ length cs → take i (def_names cs) ≡ def_names cs
-all_names cs i all = ap (λ (n : ℕ). take n (def_names cs)) (all ∙ sym (names_count cs)) ∙ take-length (def_names cs)
 
 twice_by : (i : ℕ) (c : ClassDef) (o p : Option ℕ) → o ≡ p → option_map (found c.name) (when (not (is_number i o)) kind.ClassTwice) ≡ option_map (found c.name) (when (not (is_number i p)) kind.ClassTwice)
 twice_by i c o p e = ap (λ (o : Option ℕ). option_map (found c.name) (when (not (is_number i o)) kind.ClassTwice)) e

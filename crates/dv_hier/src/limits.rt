@@ -25,9 +25,10 @@ struct Totals {
     cells: usize,
 }
 
-/// The cells of a method's registers by unit of its body.
+/// A method's cells: a register at a unit of its body is one.
 fn body_cells(method: &MethodDef) -> usize
     ensures cells { result ≡ cells_of_method method.now }
+    // a body has at most 16,384 units and 256 registers
     ensures few { result ≤ 4194304 }
 {
     match &method.body {
@@ -36,7 +37,7 @@ fn body_cells(method: &MethodDef) -> usize
     }
 }
 
-/// The cells of a class's methods.
+/// The cells of a class's methods together.
 fn class_cells(class: &ClassDef) -> usize
     requires few { length class.now.methods ≤ 16384 }
     ensures { result ≡ cells class.now }

@@ -1,4 +1,4 @@
-use Rattle.std.proofs.Common.{◌≡◌, ℕ, Bool, true, false, rules, ap, cond, ◌∙◌}
+use Rattle.std.proofs.Common.{◌≡◌, rules, ap, ◌∙◌}
 use Rattle.indexmap.specs.IndexSet.{contains}
 use Rattle.dv_hier.proofs.FieldLemmas.{key_eq, several_are, told_more, twice_found, twice_more, alone_more, alone_told, value_more, all_values}
 use Rattle.dv_hier.proofs.fields.field_twice.Goals as goal

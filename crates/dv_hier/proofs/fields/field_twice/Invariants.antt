@@ -1,9 +1,8 @@
-use Rattle.std.proofs.Common.{◌≡◌, ℕ, ◌&&◌, Bool, true, bytes_eq, take, None, All, IsTrue}
+use Rattle.std.proofs.Common.{◌≡◌, true, take, None, All, IsTrue}
 use Rattle.std.specs.List.{list_any}
 use Rattle.indexmap.specs.IndexSet.{contains}
 use Rattle.dv_defs.specs.First.{first_below}
 use Rattle.dv_defs.specs.Field.{may_stand}
-use Rattle.dv_defs.specs.Types.{ty_eq}
 use Rattle.dv_defs.specs.LinkFaults.{field_twice}
 use Rattle.dv_hier.specs.declared.fields.FieldKey.{FieldKey}
 use Rattle.dv_hier.proofs.fields.field_twice.Given as goal

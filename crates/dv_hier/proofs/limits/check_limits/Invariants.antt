@@ -1,4 +1,4 @@
-use Rattle.std.proofs.Common.{◌≡◌, ℕ, suc, length, take, sum_by, None}
+use Rattle.std.proofs.Common.{◌≡◌, suc, length, take, sum_by, None}
 use Rattle.dv_defs.specs.First.{first_below}
 use Rattle.dv_defs.specs.LinkFaults.{cells, fault_at, past_limits}
 use Rattle.dv_hier.proofs.limits.check_limits.Given as goal

@@ -1,4 +1,4 @@
-use Rattle.std.proofs.Common.{◌≡◌, Bool, true, false, ap, sym, ◌∙◌, get_or, is_some}
+use Rattle.std.proofs.Common.{ap, sym, ◌∙◌, get_or, is_some}
 use Rattle.dv_hier.proofs.NameLemmas.{name_found, name_new, name_added}
 use Rattle.dv_hier.proofs.names.index_names.Goals as goal
 
