@@ -1,1 +1,5 @@
 pub mod Built
+pub mod FieldLemmas
+pub mod LimitLemmas
+pub mod NameLemmas
+pub mod Twice

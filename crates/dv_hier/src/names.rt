@@ -4,7 +4,8 @@ ghost use Rattle.dv_defs.specs.LinkFaults.{Checks, first_fault_by, is_twice};
 ghost use Rattle.dv_defs.specs.Numbering.{declared};
 ghost use Rattle.dv_linklaws.specs.Stripped.{def_names};
 
-use dv_defs::{ClassDef, LinkError, Pool, Text};
+use crate::faults::error_of;
+use dv_defs::{ClassDef, LinkError, LinkKind, Pool, Text};
 use std::alloc::Global;
 
 /// The names of the classes, or the first class whose name an earlier one has.
@@ -12,5 +13,13 @@ pub fn index_names(alloc: Global, classes: &[ClassDef]) -> Result<Pool<Text>, Li
     ensures fault { (boot : ℕ) → Checks result (first_fault_by (is_twice (declared classes.now boot)) classes.now) }
     ensures names { IfOk result (λ names. names ≡ def_names classes.now) }
 {
-    Err(LinkError::Memory)
+    let mut names = Pool::new(alloc);
+    for i in 0..classes.len() {
+        let name = &classes[i].name;
+        if names.place_of(name).is_some() {
+            return Err(error_of(name, LinkKind::ClassTwice));
+        }
+        names.add(name)?;
+    }
+    Ok(names)
 }
