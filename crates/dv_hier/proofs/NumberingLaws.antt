@@ -50,5 +50,5 @@ each_made g yielded all made kept whole = kept ∙ ap (map g) (sym (map-id yield
 pub range_made : (names : List (List ℕ)) (cs : List ClassDef) (g : ClassDef → ClassInfo) (infos : List ClassInfo) → names ≡ def_names cs → infos ≡ map g cs → All (IsInRange (length names)) infos → AreInRange infos
 range_made names cs g infos known made within =
     let count : length names ≡ length infos =
-        ap length known ∙ (length-map cs (λ (c : ClassDef). c.name) ∙ sym (ap length made ∙ length-map cs g)) in
+    ap length known ∙ (length-map cs (λ (c : ClassDef). c.name) ∙ sym (ap length made ∙ length-map cs g)) in
     subst (λ (n : ℕ). All (IsInRange n) infos) count within

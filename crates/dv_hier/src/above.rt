@@ -1,6 +1,5 @@
 // What a class names as its superclass, its interfaces and the types of its members.
-ghost use Rattle.std.specs.Prelude.{◌≡◌, ◌<◌, ℕ, List, length, IfSome, not, option_map, option_and_then, slice_get};
-ghost use Rattle.std.specs.Option.{option_or};
+ghost use Rattle.std.specs.Prelude.{◌≡◌, ◌<◌, ℕ, List, length, IfSome, not, option_map, option_and_then};
 ghost use Rattle.std.specs.List.{list_any};
 ghost use Rattle.dv_defs.specs.declared.class.ClassDef.{ClassDef};
 ghost use Rattle.dv_defs.specs.First.{first_in};
@@ -11,7 +10,9 @@ ghost use Rattle.dv_defs.specs.Pools.{class_named};
 ghost use Rattle.dv_linklaws.specs.Stripped.{def_names};
 
 use crate::faults::error_of;
-use dv_defs::{Base, ClassDef, FieldDef, Flag, LinkError, LinkKind, MethodDef, Pool, Proto, Text, Ty};
+use dv_defs::{
+    Base, ClassDef, FieldDef, Flag, LinkError, LinkKind, MethodDef, Pool, Proto, Text, Ty,
+};
 
 const OBJECT: &[u8] = b"Ljava/lang/Object;";
 
@@ -26,11 +27,7 @@ pub fn check_above(classes: &[ClassDef], names: &Pool<Text>) -> Result<(), LinkE
     Ok(())
 }
 
-fn check_class(
-    classes: &[ClassDef],
-    names: &Pool<Text>,
-    class: &ClassDef,
-) -> Result<(), LinkError>
+fn check_class(classes: &[ClassDef], names: &Pool<Text>, class: &ClassDef) -> Result<(), LinkError>
     requires names { names.now ≡ def_names classes.now }
     ensures { (boot i : ℕ) → Checks result (option_map (found class.now.name) (wrong_above (declared classes.now boot) i class.now)) }
 {
@@ -50,7 +47,7 @@ fn has_wrong_kind(classes: &[ClassDef], names: &Pool<Text>, class: &ClassDef) ->
     ensures { (boot : ℕ) → result ≡ wrong_kind (declared classes.now boot) class.now }
 {
     has_wrong_parent(classes, names, class)
-        || names_other(classes, names, class.interfaces.items())
+        || names_no_interface(classes, names, class.interfaces.items())
 }
 
 fn has_wrong_parent(classes: &[ClassDef], names: &Pool<Text>, class: &ClassDef) -> bool
@@ -67,7 +64,7 @@ fn has_wrong_parent(classes: &[ClassDef], names: &Pool<Text>, class: &ClassDef) 
 }
 
 /// Whether one of the names is that of no interface.
-fn names_other(classes: &[ClassDef], names: &Pool<Text>, interfaces: &[Text]) -> bool
+fn names_no_interface(classes: &[ClassDef], names: &Pool<Text>, interfaces: &[Text]) -> bool
     requires names { names.now ≡ def_names classes.now }
     ensures { (boot : ℕ) → result ≡ list_any (λ name. not (names_interface (declared classes.now boot) (Some name))) interfaces.now }
 {
@@ -130,11 +127,7 @@ fn check_parent(names: &Pool<Text>, class: &ClassDef) -> Result<(), LinkError>
     }
 }
 
-fn check_interfaces(
-    names: &Pool<Text>,
-    class: &Text,
-    interfaces: &[Text],
-) -> Result<(), LinkError>
+fn check_interfaces(names: &Pool<Text>, class: &Text, interfaces: &[Text]) -> Result<(), LinkError>
     ensures { (cs : List ClassDef) (boot : ℕ) → names.now ≡ def_names cs
         → Checks result (option_map (found class.now) (first_in (no_class (declared cs boot)) interfaces.now)) }
 {
@@ -206,7 +199,6 @@ fn check_name(names: &Pool<Text>, class: &Text, name: &Text) -> Result<(), LinkE
 }
 
 /// The number of the class of a name.
-#[tactic(auto, using(dv_linklaws::proofs::Names::declared_is_position))]
 pub fn class_of(names: &Pool<Text>, name: &Text) -> Option<usize>
     ensures class { (cs : List ClassDef) (boot : ℕ) → names.now ≡ def_names cs → result ≡ class_named (declared cs boot) name.now }
     ensures within { IfSome result (λ c. c < length names.now) }

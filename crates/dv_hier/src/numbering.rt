@@ -27,11 +27,7 @@ pub fn number_classes(
     Ok(infos)
 }
 
-fn number_class(
-    alloc: Global,
-    class: ClassDef,
-    names: &Pool<Text>,
-) -> Result<ClassInfo, AllocError>
+fn number_class(alloc: Global, class: ClassDef, names: &Pool<Text>) -> Result<ClassInfo, AllocError>
     requires few { length names.now < 2 ^ 32 }
     ensures numbered { (cs : List ClassDef) (boot : ℕ) → names.now ≡ def_names cs
         → IfOk result (λ info. info ≡ class_numbered (declared cs boot) class) }
@@ -54,10 +50,7 @@ fn number_parent(names: &Pool<Text>, class: &ClassDef) -> Option<ClassId>
         → result ≡ option_map class_id (option_and_then (class_named (declared cs boot)) class.now.parent) }
     ensures range { IfSome result (λ p. p.0 < length names.now) }
 {
-    match &class.parent {
-        Some(parent) => number_of(names, parent),
-        None => None,
-    }
+    number_of(names, class.parent.as_ref()?)
 }
 
 fn number_interfaces(
@@ -85,8 +78,6 @@ fn number_of(names: &Pool<Text>, name: &Text) -> Option<ClassId>
         → result ≡ option_map class_id (class_named (declared cs boot) name.now) }
     ensures range { IfSome result (λ id. id.0 < length names.now) }
 {
-    match class_of(names, name) {
-        Some(place) => Some(ClassId(place as u32)),
-        None => None,
-    }
+    let place = class_of(names, name)?;
+    Some(ClassId(place as u32))
 }

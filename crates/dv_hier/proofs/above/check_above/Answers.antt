@@ -10,14 +10,14 @@ returns-in_err-check_class c =
     let cs = c.args.classes.now in
     let i = c.loop-class.class-index in
     λ boot.
-        rw (p.1, p.2)
-        (classes_told (wrong_above (declared cs boot)) c.in_err-check_class.field-0.0 cs i c.class-item.result
-        (c.loop-class.invariant boot) c.loop-class-test.true c.class-item.is (c.in_err-check_class.ensures boot i))
+    rw (p.1, p.2)
+    (classes_told (wrong_above (declared cs boot)) c.in_err-check_class.field-0.0 cs i c.class-item.result
+    (c.loop-class.invariant boot) c.loop-class-test.true c.class-item.is (c.in_err-check_class.ensures boot i))
 
 pub loop-class-preserved : goal.loop-class-preserved
 loop-class-preserved c =
     let cs = c.args.classes.now in
     let i = c.loop-class.class-index in
     λ boot.
-        classes_more (wrong_above (declared cs boot)) cs i c.class-item.result
-        (c.loop-class.invariant boot) c.loop-class-test.true c.class-item.is (c.in_ok-check_class.ensures boot i)
+    classes_more (wrong_above (declared cs boot)) cs i c.class-item.result
+    (c.loop-class.invariant boot) c.loop-class-test.true c.class-item.is (c.in_ok-check_class.ensures boot i)

@@ -2,7 +2,7 @@ use Rattle.std.proofs.Common.{◌≡◌, ℕ, Some, false, not, take}
 use Rattle.std.specs.List.{list_any}
 use Rattle.dv_defs.specs.Order.{names_interface}
 use Rattle.dv_defs.specs.Numbering.{declared}
-use Rattle.dv_hier.proofs.above.names_other.Given as goal
+use Rattle.dv_hier.proofs.above.names_no_interface.Given as goal
 
 abbrev pub invariant-loop-name : goal.invariant-loop-name
 invariant-loop-name l =
