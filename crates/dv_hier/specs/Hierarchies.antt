@@ -3,7 +3,7 @@ use Rattle.std.specs.Prelude.{◌≡◌, ℕ, List, [], map, All, None}
 use Rattle.dv_defs.specs.declared.class.ClassDef.{ClassDef}
 use Rattle.dv_defs.specs.declared.image.ClassInfo.{ClassInfo}
 use Rattle.dv_defs.specs.declared.image.FieldInfo.{FieldInfo}
-use Rattle.dv_defs.specs.Numbering.{numbered}
+use Rattle.dv_defs.specs.Numbering.{numbered, names_of}
 use Rattle.dv_defs.specs.Linked.{defs, slotted, first_phases, AreNamed, HasValues}
 
 pub record ClassesValue : Type 0 where
