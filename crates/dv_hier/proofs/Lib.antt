@@ -3,3 +3,5 @@ pub mod FieldLemmas
 pub mod LimitLemmas
 pub mod NameLemmas
 pub mod Twice
+pub mod AboveLaws
+pub mod NumberingLaws

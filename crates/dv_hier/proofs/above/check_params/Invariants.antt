@@ -1,0 +1,11 @@
+use Rattle.std.proofs.Common.{◌≡◌, ℕ, List, None, take}
+use Rattle.dv_defs.specs.declared.class.ClassDef.{ClassDef}
+use Rattle.dv_defs.specs.First.{first_in}
+use Rattle.dv_defs.specs.LinkFaults.{no_type}
+use Rattle.dv_defs.specs.Numbering.{declared}
+use Rattle.dv_linklaws.specs.Stripped.{def_names}
+use Rattle.dv_hier.proofs.above.check_params.Given as goal
+
+abbrev pub invariant-loop-ty : goal.invariant-loop-ty
+invariant-loop-ty l =
+    (cs : List ClassDef) (boot : ℕ) → l.names ≡ def_names cs → first_in (no_type (declared cs boot)) (take l.ty-index l.params) ≡ None
