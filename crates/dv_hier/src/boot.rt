@@ -1,11 +1,167 @@
 // The boot classes are those that each program finds beside its own.
-ghost use Rattle.dv_defs.specs.LinkFaults.{Checks, boot_fault};
+ghost use Rattle.std.specs.Prelude.{◌≡◌, filter, take, IfOk, Option};
+ghost use Rattle.std.specs.List.{list_any};
+ghost use Rattle.dv_defs.specs.declared.boot.TheConstants.{BOOT_CLASSES, BOOT_FIELDS, BOOT_METHODS};
+ghost use Rattle.dv_defs.specs.declared.faults.LinkKind.TheVariants as kind;
+ghost use Rattle.dv_defs.specs.declared.faults.LinkError.TheVariants as error;
+ghost use Rattle.dv_defs.specs.First.{first_in};
+ghost use Rattle.dv_defs.specs.Boot.{rows, is_row_of, field_is, fields_are, method_is, methods_are, class_is, has_row};
+ghost use Rattle.dv_defs.specs.LinkFaults.{Checks, boot_fault, row_lacks, is_foreign};
 
-use dv_defs::{ClassDef, LinkError};
+use crate::boot_rows::{flags_are, names_are, parent_is, result_is, rows, type_is, types_are, Row};
+use dv_defs::{
+    ClassDef, FieldDef, LinkError, LinkKind, MethodDef, Text, BOOT_CLASSES, BOOT_FIELDS,
+    BOOT_METHODS,
+};
+use std::alloc::{AllocError, Global};
+
+/// The rows of the classes' members.
+#[derive(Drop)]
+struct Members {
+    fields: Vec<Row>,
+    methods: Vec<Row>,
+}
+
+/// The rows of the boot classes' members.
+fn boot_members(alloc: Global) -> Result<Members, AllocError>
+    ensures fields { IfOk result (λ members. members.fields.items ≡ rows BOOT_FIELDS.now) }
+    ensures methods { IfOk result (λ members. members.methods.items ≡ rows BOOT_METHODS.now) }
+{
+    Ok(Members {
+        fields: rows(alloc, BOOT_FIELDS)?,
+        methods: rows(alloc, BOOT_METHODS)?,
+    })
+}
+
+/// Whether a field is as the row has it.
+fn field_is(row: &Row, field: &FieldDef) -> bool
+    ensures { result ≡ field_is row.now field.now }
+{
+    flags_are(row.word(1), field.flags)
+        && row.word(2) == field.name.bytes()
+        && type_is(row.word(3), &field.ty)
+}
+
+/// Whether fields are as the rows of the class have them, in their order.
+fn fields_are(rows: &[Row], class: &[u8], fields: &[FieldDef]) -> bool
+    ensures { result ≡ fields_are (filter (is_row_of class.now) rows.now) fields.now }
+{
+    let mut told = 0;
+    for row in rows {
+        if row.is_of(class) {
+            if told == fields.len() || !field_is(row, &fields[told]) {
+                return false;
+            }
+            told += 1;
+        }
+    }
+    told == fields.len()
+}
+
+/// Whether a method is as the row has it.
+fn method_is(row: &Row, method: &MethodDef) -> bool
+    ensures { result ≡ method_is row.now method.now }
+{
+    flags_are(row.word(1), method.flags)
+        && row.word(2) == method.name.bytes()
+        && result_is(row.word(3), &method.proto.ret)
+        && types_are(row.words_from(4), method.proto.params.items())
+}
+
+/// Whether methods are as the rows of the class have them, in their order.
+fn methods_are(rows: &[Row], class: &[u8], methods: &[MethodDef]) -> bool
+    ensures { result ≡ methods_are (filter (is_row_of class.now) rows.now) methods.now }
+{
+    let mut told = 0;
+    for row in rows {
+        if row.is_of(class) {
+            if told == methods.len() || !method_is(row, &methods[told]) {
+                return false;
+            }
+            told += 1;
+        }
+    }
+    told == methods.len()
+}
+
+/// Whether a class is as the row and the members' rows have it.
+fn class_is(members: &Members, row: &Row, class: &ClassDef) -> bool
+    requires fields { members.now.fields.items ≡ rows BOOT_FIELDS.now }
+    requires methods { members.now.methods.items ≡ rows BOOT_METHODS.now }
+    ensures { result ≡ class_is row.now class.now }
+{
+    let name = row.word(0);
+    flags_are(row.word(1), class.flags)
+        && parent_is(row.word(2), &class.parent)
+        && names_are(row.words_from(3), class.interfaces.items())
+        && fields_are(&members.fields, name, class.fields.items())
+        && methods_are(&members.methods, name, class.methods.items())
+}
+
+/// Whether the first class of the row's name is as the row has it.
+fn has_row(members: &Members, classes: &[ClassDef], row: &Row) -> bool
+    requires fields { members.now.fields.items ≡ rows BOOT_FIELDS.now }
+    requires methods { members.now.methods.items ≡ rows BOOT_METHODS.now }
+    ensures { result ≡ has_row classes.now row.now }
+{
+    let name = row.word(0);
+    match classes.iter().find(|class| class.name.bytes() == name) {
+        Some(class) => class_is(members, row, class),
+        None => false,
+    }
+}
+
+/// The refusal that tells that the table and the boot classes don't agree on the class of this name.
+fn not_there(alloc: Global, name: &[u8]) -> Result<LinkError, AllocError>
+    ensures { IfOk result (λ e. e ≡ error.At name.now (kind.NoClass name.now)) }
+{
+    let class = Text::of(name.to_vec(alloc)?);
+    let kind = LinkKind::NoClass(class.clone()?);
+    Ok(LinkError::At { class, kind })
+}
+
+/// The first row whose class isn't there as the row has it.
+fn check_rows(alloc: Global, table: &[Row], members: &Members, classes: &[ClassDef]) -> Result<(), LinkError>
+    requires fields { members.now.fields.items ≡ rows BOOT_FIELDS.now }
+    requires methods { members.now.methods.items ≡ rows BOOT_METHODS.now }
+    ensures { Checks result (first_in (row_lacks classes.now) table.now) }
+{
+    for row in table {
+        if !has_row(members, classes, row) {
+            return Err(not_there(alloc, row.word(0))?);
+        }
+    }
+    Ok(())
+}
+
+/// Whether a row is the class's.
+fn is_in_table(table: &[Row], name: &[u8]) -> bool
+    ensures { result ≡ list_any (is_row_of name.now) table.now }
+{
+    table.iter().any(|row| row.is_of(name))
+}
+
+/// The first class that no row of the table is for.
+fn check_foreign(alloc: Global, table: &[Row], classes: &[ClassDef]) -> Result<(), LinkError>
+    requires { table.now ≡ rows BOOT_CLASSES.now }
+    ensures { Checks result (first_in is_foreign classes.now) }
+{
+    for class in classes {
+        let name = class.name.bytes();
+        if !is_in_table(table, name) {
+            return Err(not_there(alloc, name)?);
+        }
+    }
+    Ok(())
+}
 
 /// The table's first class that isn't among the first `boot` classes as the table has it, else the first of these that the table doesn't have.
-pub fn check_boot(classes: &[ClassDef], boot: u32) -> Result<(), LinkError>
+pub fn check_boot(alloc: Global, classes: &[ClassDef], boot: u32) -> Result<(), LinkError>
     ensures { Checks result (boot_fault classes.now boot) }
 {
-    Err(LinkError::Memory)
+    let table = rows(alloc, BOOT_CLASSES)?;
+    let members = boot_members(alloc)?;
+    let boot_classes = &classes[..classes.len().min(boot as usize)];
+    check_rows(alloc, &table, &members, boot_classes)?;
+    check_foreign(alloc, &table, boot_classes)
 }
