@@ -1,13 +1,20 @@
 -- Laws of the table of boot classes.
-use Rattle.std.specs.Prelude.{ℕ, zero, suc, ◌+◌, ◌≡◌, ◌<◌, ◌≤◌, ◌-◌, ◌⊎◌, Option, Some, None, nat_lt, Bool, true, false, ◌&&◌, not, List, [], ◌∷◌, length, map, take, drop, min, nat_eq, bytes_eq}
+use Rattle.std.specs.Prelude.{ℕ, zero, suc, ◌+◌, ◌≡◌, ◌<◌, ◌≤◌, ◌-◌, ◌⊎◌, Option, Some, None, nat_lt, Bool, true, false, ◌&&◌, not, List, [], ◌∷◌, length, map, filter, take, drop, min, nat_eq, bytes_eq}
 use Rattle.std.specs.List.{list_all, list_any, zip, position_or_len}
-use Rattle.std.specs.Option.{unwrap_or}
+use Rattle.std.specs.Option.{unwrap_or, option_or}
 use Rattle.std.proofs.lemmas.List.{take_rest, drop_all, drop-map}
 use Rattle.std.proofs.lemmas.List.Sums.{prefix_len-le-length}
 use Rattle.std.proofs.Common.{refl, ◌∙◌, sym, ap, arith, Bor, cond, ⊎_elim}
 use Rattle.dv_defs.specs.declared.names.Ty.{Ty}
 use Rattle.dv_defs.specs.Types.{base_eq, ty_eq, of_base}
-use Rattle.dv_defs.specs.Boot.{base_in, type_in, names_are, types_are}
+use Rattle.dv_defs.specs.declared.class.FieldDef.{FieldDef}
+use Rattle.dv_defs.specs.declared.class.MethodDef.{MethodDef}
+use Rattle.dv_defs.specs.Boot.{Row, base_in, type_in, names_are, types_are, field_is, fields_are, method_is, methods_are}
+
+use Rattle.dv_defs.specs.declared.class.ClassDef.{ClassDef}
+use Rattle.dv_defs.specs.First.{first_in}
+use Rattle.dv_defs.specs.LinkFaults.{boot_fault}
+use Rattle.dv_hier.specs.Tables.{class_table, field_table, method_table, row_lacks_by, is_foreign_by}
 
 -- ---- types
 
@@ -96,3 +103,52 @@ types_then ws ts r same is = is ∙ sym (types_are_zip ws ts ∙ rw (same, nat_e
 
 pub names_then : (ws : List (Bor (List ℕ))) (ns : List (List ℕ)) (r : Bool) → length ws ≡ length ns → r ≡ list_all (λ p. bytes_eq p.0.now p.1) (zip ws ns) → r ≡ names_are (map (λ w. w.now) ws) ns
 names_then ws ns r same is = is ∙ sym (names_are_zip ws ns ∙ rw (same, nat_eq_same (length ns)) refl)
+
+-- ---- rows that are compared one by one
+
+-- items that are alike, one by one, and none is left over
+abbrev pub same_by : {X Y : Type 0} → (X → Y → Bool) → List X → List Y → Bool
+same_by f [] [] = true
+same_by f (x ∷ xs) (y ∷ ys) = f x y && same_by f xs ys
+same_by f xs ys = false
+
+pub fields_are_same : (rs : List Row) (fs : List FieldDef) → fields_are rs fs ≡ same_by field_is rs fs
+fields_are_same [] [] = refl
+fields_are_same [] (f ∷ fs) = refl
+fields_are_same (r ∷ rs) [] = refl
+fields_are_same (r ∷ rs) (f ∷ fs) = rw (fields_are_same rs fs) refl
+
+pub methods_are_same : (rs : List Row) (ms : List MethodDef) → methods_are rs ms ≡ same_by method_is rs ms
+methods_are_same [] [] = refl
+methods_are_same [] (m ∷ ms) = refl
+methods_are_same (r ∷ rs) [] = refl
+methods_are_same (r ∷ rs) (m ∷ ms) = rw (methods_are_same rs ms) refl
+
+-- what is left to compare, from a row on and from an item on
+abbrev pub left_by : {X Y : Type 0} → (X → Y → Bool) → (X → Bool) → List X → List Y → ℕ → ℕ → Bool
+left_by f p xs ys i k = same_by f (filter p (drop i xs)) (drop k ys)
+
+none_left : {X Y : Type 0} (f : X → Y → Bool) (ys : List Y) (k : ℕ) → k ≤ length ys → same_by f [] (drop k ys) ≡ nat_eq k (length ys)
+none_left f [] zero within = refl
+none_left f [] (suc k) within = absurd (omega arith)
+none_left f (y ∷ ys) zero within = refl
+none_left f (y ∷ ys) (suc k) within = none_left f ys k (omega arith) ∙ grind arith
+
+-- with no row left, no item may be left
+pub left_end : {X Y : Type 0} (f : X → Y → Bool) (p : X → Bool) (xs : List X) (ys : List Y) (i k : ℕ) → length xs ≤ i → k ≤ length ys → left_by f p xs ys i k ≡ nat_eq k (length ys)
+left_end f p xs ys i k over within = rw (drop_all i xs over) (none_left f ys k within)
+
+-- ---- the first of a list
+
+-- one turn of a loop that found nothing
+pub first_in_more : {X Y : Type 0} (f : X → Option Y) (xs : List X) (i : ℕ) (x : X) → drop i xs ≡ x ∷ drop (i + 1) xs → f x ≡ None → first_in f (drop i xs) ≡ first_in f (drop (i + 1) xs)
+first_in_more f xs i x here nothing = rw (here, nothing) refl
+
+-- the turn of a loop that found something
+pub first_in_found : {X Y : Type 0} (f : X → Option Y) (xs : List X) (i : ℕ) (x : X) (y : Y) → drop i xs ≡ x ∷ drop (i + 1) xs → f x ≡ Some y → first_in f (drop i xs) ≡ Some y
+first_in_found f xs i x y here found = rw (here, found) refl
+
+-- what the phase finds, with its tables by name
+pub boot_fault_is : (cs : List ClassDef) (boot : ℕ) → boot_fault cs boot ≡ option_or (first_in (row_lacks_by field_table method_table (take boot cs)) class_table) (first_in (is_foreign_by class_table) (take boot cs))
+unfolding boot_fault class_table field_table method_table
+boot_fault_is cs boot = refl

@@ -1,12 +1,12 @@
 // The boot classes are those that each program finds beside its own.
-ghost use Rattle.std.specs.Prelude.{◌≡◌, filter, take, IfOk, Option};
+ghost use Rattle.std.specs.Prelude.{◌≡◌, filter, IfOk};
 ghost use Rattle.std.specs.List.{list_any};
-ghost use Rattle.dv_defs.specs.declared.boot.TheConstants.{BOOT_CLASSES, BOOT_FIELDS, BOOT_METHODS};
 ghost use Rattle.dv_defs.specs.declared.faults.LinkKind.TheVariants as kind;
 ghost use Rattle.dv_defs.specs.declared.faults.LinkError.TheVariants as error;
 ghost use Rattle.dv_defs.specs.First.{first_in};
-ghost use Rattle.dv_defs.specs.Boot.{rows, is_row_of, field_is, fields_are, method_is, methods_are, class_is, has_row};
-ghost use Rattle.dv_defs.specs.LinkFaults.{Checks, boot_fault, row_lacks, is_foreign};
+ghost use Rattle.dv_defs.specs.Boot.{is_row_of, field_is, fields_are, method_is, methods_are};
+ghost use Rattle.dv_defs.specs.LinkFaults.{Checks, boot_fault};
+ghost use Rattle.dv_hier.specs.Tables.{class_table, field_table, method_table, class_is_by, has_row_by, row_lacks_by, is_foreign_by};
 
 use crate::boot_rows::{flags_are, names_are, parent_is, result_is, rows, type_is, types_are, Row};
 use dv_defs::{
@@ -15,19 +15,23 @@ use dv_defs::{
 };
 use std::alloc::{AllocError, Global};
 
-/// The rows of the classes' members.
+/// The table's rows: of classes, of fields and of methods.
 #[derive(Drop)]
-struct Members {
+struct Table {
+    classes: Vec<Row>,
     fields: Vec<Row>,
     methods: Vec<Row>,
 }
 
-/// The rows of the boot classes' members.
-fn boot_members(alloc: Global) -> Result<Members, AllocError>
-    ensures fields { IfOk result (λ members. members.fields.items ≡ rows BOOT_FIELDS.now) }
-    ensures methods { IfOk result (λ members. members.methods.items ≡ rows BOOT_METHODS.now) }
+#[tactic(auto, unfolding(crate::specs::Tables::class_table, crate::specs::Tables::field_table, crate::specs::Tables::method_table))]
+/// The table of boot classes.
+fn boot_table(alloc: Global) -> Result<Table, AllocError>
+    ensures classes { IfOk result (λ table. table.classes.items ≡ class_table) }
+    ensures fields { IfOk result (λ table. table.fields.items ≡ field_table) }
+    ensures methods { IfOk result (λ table. table.methods.items ≡ method_table) }
 {
-    Ok(Members {
+    Ok(Table {
+        classes: rows(alloc, BOOT_CLASSES)?,
         fields: rows(alloc, BOOT_FIELDS)?,
         methods: rows(alloc, BOOT_METHODS)?,
     })
@@ -84,29 +88,25 @@ fn methods_are(rows: &[Row], class: &[u8], methods: &[MethodDef]) -> bool
     told == methods.len()
 }
 
-/// Whether a class is as the row and the members' rows have it.
-fn class_is(members: &Members, row: &Row, class: &ClassDef) -> bool
-    requires fields { members.now.fields.items ≡ rows BOOT_FIELDS.now }
-    requires methods { members.now.methods.items ≡ rows BOOT_METHODS.now }
-    ensures { result ≡ class_is row.now class.now }
+/// Whether a class is as the row and the rows of its members have it.
+fn class_is(table: &Table, row: &Row, class: &ClassDef) -> bool
+    ensures { result ≡ class_is_by table.now.fields.items table.now.methods.items row.now class.now }
 {
     let name = row.word(0);
     flags_are(row.word(1), class.flags)
         && parent_is(row.word(2), &class.parent)
         && names_are(row.words_from(3), class.interfaces.items())
-        && fields_are(&members.fields, name, class.fields.items())
-        && methods_are(&members.methods, name, class.methods.items())
+        && fields_are(&table.fields, name, class.fields.items())
+        && methods_are(&table.methods, name, class.methods.items())
 }
 
 /// Whether the first class of the row's name is as the row has it.
-fn has_row(members: &Members, classes: &[ClassDef], row: &Row) -> bool
-    requires fields { members.now.fields.items ≡ rows BOOT_FIELDS.now }
-    requires methods { members.now.methods.items ≡ rows BOOT_METHODS.now }
-    ensures { result ≡ has_row classes.now row.now }
+fn has_row(table: &Table, classes: &[ClassDef], row: &Row) -> bool
+    ensures { result ≡ has_row_by table.now.fields.items table.now.methods.items classes.now row.now }
 {
     let name = row.word(0);
     match classes.iter().find(|class| class.name.bytes() == name) {
-        Some(class) => class_is(members, row, class),
+        Some(class) => class_is(table, row, class),
         None => false,
     }
 }
@@ -121,13 +121,11 @@ fn not_there(alloc: Global, name: &[u8]) -> Result<LinkError, AllocError>
 }
 
 /// The first row whose class isn't there as the row has it.
-fn check_rows(alloc: Global, table: &[Row], members: &Members, classes: &[ClassDef]) -> Result<(), LinkError>
-    requires fields { members.now.fields.items ≡ rows BOOT_FIELDS.now }
-    requires methods { members.now.methods.items ≡ rows BOOT_METHODS.now }
-    ensures { Checks result (first_in (row_lacks classes.now) table.now) }
+fn check_rows(alloc: Global, table: &Table, classes: &[ClassDef]) -> Result<(), LinkError>
+    ensures { Checks result (first_in (row_lacks_by table.now.fields.items table.now.methods.items classes.now) table.now.classes.items) }
 {
-    for row in table {
-        if !has_row(members, classes, row) {
+    for row in &table.classes {
+        if !has_row(table, classes, row) {
             return Err(not_there(alloc, row.word(0))?);
         }
     }
@@ -135,16 +133,15 @@ fn check_rows(alloc: Global, table: &[Row], members: &Members, classes: &[ClassD
 }
 
 /// Whether a row is the class's.
-fn is_in_table(table: &[Row], name: &[u8]) -> bool
-    ensures { result ≡ list_any (is_row_of name.now) table.now }
+fn is_in_table(table: &Table, name: &[u8]) -> bool
+    ensures { result ≡ list_any (is_row_of name.now) table.now.classes.items }
 {
-    table.iter().any(|row| row.is_of(name))
+    table.classes.iter().any(|row| row.is_of(name))
 }
 
-/// The first class that no row of the table is for.
-fn check_foreign(alloc: Global, table: &[Row], classes: &[ClassDef]) -> Result<(), LinkError>
-    requires { table.now ≡ rows BOOT_CLASSES.now }
-    ensures { Checks result (first_in is_foreign classes.now) }
+/// The first class that no row is for.
+fn check_foreign(alloc: Global, table: &Table, classes: &[ClassDef]) -> Result<(), LinkError>
+    ensures { Checks result (first_in (is_foreign_by table.now.classes.items) classes.now) }
 {
     for class in classes {
         let name = class.name.bytes();
@@ -159,9 +156,8 @@ fn check_foreign(alloc: Global, table: &[Row], classes: &[ClassDef]) -> Result<(
 pub fn check_boot(alloc: Global, classes: &[ClassDef], boot: u32) -> Result<(), LinkError>
     ensures { Checks result (boot_fault classes.now boot) }
 {
-    let table = rows(alloc, BOOT_CLASSES)?;
-    let members = boot_members(alloc)?;
+    let table = boot_table(alloc)?;
     let boot_classes = &classes[..classes.len().min(boot as usize)];
-    check_rows(alloc, &table, &members, boot_classes)?;
+    check_rows(alloc, &table, boot_classes)?;
     check_foreign(alloc, &table, boot_classes)
 }
