@@ -1,20 +1,23 @@
 -- Laws of the table of boot classes.
-use Rattle.std.specs.Prelude.{ℕ, zero, suc, ◌+◌, ◌≡◌, ◌<◌, ◌≤◌, ◌-◌, ◌⊎◌, Option, Some, None, nat_lt, Bool, true, false, ◌&&◌, not, List, [], ◌∷◌, length, map, filter, take, drop, min, nat_eq, bytes_eq}
+use Rattle.std.specs.Prelude.{ℕ, zero, suc, ◌+◌, ◌≡◌, ◌<◌, ◌≤◌, ◌-◌, ◌⊎◌, Option, Some, None, nat_lt, Bool, true, false, ◌&&◌, not, List, [], ◌∷◌, length, map, filter, find, option_map, Result, Ok, Err, take, drop, min, nat_eq, bytes_eq}
 use Rattle.std.specs.List.{list_all, list_any, zip, position_or_len}
 use Rattle.std.specs.Option.{unwrap_or, option_or}
-use Rattle.std.proofs.lemmas.List.{take_rest, drop_all, drop-map}
+use Rattle.std.specs.Result.{IsErrAnd}
+use Rattle.std.proofs.lemmas.List.{take_rest, take_all, drop_all, drop-map}
 use Rattle.std.proofs.lemmas.List.Sums.{prefix_len-le-length}
-use Rattle.std.proofs.Common.{refl, ◌∙◌, sym, ap, arith, Bor, cond, ⊎_elim}
+use Rattle.std.proofs.Common.{refl, ◌∙◌, sym, ap, subst, arith, Bor, cond, ⊎_elim}
 use Rattle.dv_defs.specs.declared.names.Ty.{Ty}
 use Rattle.dv_defs.specs.Types.{base_eq, ty_eq, of_base}
 use Rattle.dv_defs.specs.declared.class.FieldDef.{FieldDef}
 use Rattle.dv_defs.specs.declared.class.MethodDef.{MethodDef}
-use Rattle.dv_defs.specs.Boot.{Row, base_in, type_in, names_are, types_are, field_is, fields_are, method_is, methods_are}
+use Rattle.dv_defs.specs.Boot.{Row, word, base_in, type_in, names_are, types_are, field_is, fields_are, method_is, methods_are}
 
 use Rattle.dv_defs.specs.declared.class.ClassDef.{ClassDef}
 use Rattle.dv_defs.specs.First.{first_in}
-use Rattle.dv_defs.specs.LinkFaults.{boot_fault}
-use Rattle.dv_hier.specs.Tables.{class_table, field_table, method_table, row_lacks_by, is_foreign_by}
+use Rattle.dv_defs.specs.LinkFaults.{Found, Fails, Checks, boot_fault}
+use Rattle.dv_defs.specs.declared.faults.LinkError.{LinkError}
+use Rattle.dv_defs.specs.declared.faults.LinkError.TheVariants as error
+use Rattle.dv_hier.specs.Tables.{class_table, field_table, method_table, class_is_by, has_row_by, row_lacks_by, is_foreign_by}
 
 -- ---- types
 
@@ -131,24 +134,68 @@ left_by f p xs ys i k = same_by f (filter p (drop i xs)) (drop k ys)
 none_left : {X Y : Type 0} (f : X → Y → Bool) (ys : List Y) (k : ℕ) → k ≤ length ys → same_by f [] (drop k ys) ≡ nat_eq k (length ys)
 none_left f [] zero within = refl
 none_left f [] (suc k) within = absurd (omega arith)
-none_left f (y ∷ ys) zero within = refl
+none_left f (y ∷ ys) zero within = grind arith
 none_left f (y ∷ ys) (suc k) within = none_left f ys k (omega arith) ∙ grind arith
 
 -- with no row left, no item may be left
 pub left_end : {X Y : Type 0} (f : X → Y → Bool) (p : X → Bool) (xs : List X) (ys : List Y) (i k : ℕ) → length xs ≤ i → k ≤ length ys → left_by f p xs ys i k ≡ nat_eq k (length ys)
 left_end f p xs ys i k over within = rw (drop_all i xs over) (none_left f ys k within)
 
--- ---- the first of a list
+-- ---- the phase
 
--- one turn of a loop that found nothing
-pub first_in_more : {X Y : Type 0} (f : X → Option Y) (xs : List X) (i : ℕ) (x : X) → drop i xs ≡ x ∷ drop (i + 1) xs → f x ≡ None → first_in f (drop i xs) ≡ first_in f (drop (i + 1) xs)
-first_in_more f xs i x here nothing = rw (here, nothing) refl
+-- a class of the row's name was found
+pub row_found : (fields methods : List Row) (cs : List ClassDef) (row : Row) (o : Option (Bor ClassDef)) (c : Bor ClassDef) (r : Bool) → option_map (λ x. x.now) o ≡ find (λ x. bytes_eq x.name (word row 0)) cs → o ≡ Some c → r ≡ class_is_by fields methods row c.now → r ≡ has_row_by fields methods cs row
+row_found fields methods cs row o c r found is same =
+    let e : find (λ x. bytes_eq x.name (word row 0)) cs ≡ Some c.now = sym found ∙ rw is refl in
+    same ∙ sym (ap (λ (x : Option ClassDef). elim x as (λ _. Bool) [ None ↦ false | Some d ↦ class_is_by fields methods row d ]) e)
 
--- the turn of a loop that found something
-pub first_in_found : {X Y : Type 0} (f : X → Option Y) (xs : List X) (i : ℕ) (x : X) (y : Y) → drop i xs ≡ x ∷ drop (i + 1) xs → f x ≡ Some y → first_in f (drop i xs) ≡ Some y
-first_in_found f xs i x y here found = rw (here, found) refl
+pub row_not_found : (fields methods : List Row) (cs : List ClassDef) (row : Row) (o : Option (Bor ClassDef)) → option_map (λ x. x.now) o ≡ find (λ x. bytes_eq x.name (word row 0)) cs → o ≡ None → false ≡ has_row_by fields methods cs row
+row_not_found fields methods cs row o found is =
+    let e : find (λ x. bytes_eq x.name (word row 0)) cs ≡ None = sym found ∙ rw is refl in
+    sym (ap (λ (x : Option ClassDef). elim x as (λ _. Bool) [ None ↦ false | Some d ↦ class_is_by fields methods row d ]) e)
+
+-- as many items as there are, and no more than a bound
+pub take_min : {X : Type 0} (xs : List X) (n k : ℕ) → k ≡ min (length xs) n → take k xs ≡ take n xs
+take_min xs n k is =
+    ⊎_elim
+    (λ below. let e : k ≡ n = omega arith in ap (λ m. take m xs) e)
+    (λ above. let a : length xs ≤ k = omega arith in rw (take_all k xs a, take_all n xs above) refl)
+    (or_above n (length xs))
 
 -- what the phase finds, with its tables by name
-pub boot_fault_is : (cs : List ClassDef) (boot : ℕ) → boot_fault cs boot ≡ option_or (first_in (row_lacks_by field_table method_table (take boot cs)) class_table) (first_in (is_foreign_by class_table) (take boot cs))
+boot_fault_is : (cs : List ClassDef) (boot : ℕ) → boot_fault cs boot ≡ option_or (first_in (row_lacks_by field_table method_table (take boot cs)) class_table) (first_in (is_foreign_by class_table) (take boot cs))
 unfolding boot_fault class_table field_table method_table
 boot_fault_is cs boot = refl
+
+-- the rows of a table are those of the boot classes, and the classes are the first ones
+pub record AreBoot (cs given : List ClassDef) (boot : ℕ) (classes fields methods : List Row) : Type 0 where
+  pub first : given ≡ take boot cs
+  pub class_rows : classes ≡ class_table
+  pub field_rows : fields ≡ field_table
+  pub method_rows : methods ≡ method_table
+
+boot_fault_by : (cs given : List ClassDef) (boot : ℕ) (classes fields methods : List Row) → AreBoot cs given boot classes fields methods → boot_fault cs boot ≡ option_or (first_in (row_lacks_by fields methods given) classes) (first_in (is_foreign_by classes) given)
+boot_fault_by cs given boot classes fields methods h = boot_fault_is cs boot ∙ rw (h.first, h.class_rows, h.field_rows, h.method_rows) refl
+
+fails_first : (e : LinkError) (a b : Option Found) → Fails e a → Fails e (option_or a b)
+fails_first error.Memory a b h = tt
+fails_first (error.At class k) a b h = rw h refl
+
+row_fails : (cs given : List ClassDef) (boot : ℕ) (classes fields methods : List Row) (e : LinkError) → AreBoot cs given boot classes fields methods → Fails e (first_in (row_lacks_by fields methods given) classes) → Fails e (boot_fault cs boot)
+row_fails cs given boot classes fields methods e h fails =
+    subst (λ (x : Option Found). Fails e x) (sym (boot_fault_by cs given boot classes fields methods h)) (fails_first e _ _ fails)
+
+error_checks : {Y : Type 0} (r : Result Y LinkError) (e : LinkError) (fault : Option Found) → IsErrAnd r (λ d. d ≡ e) → Fails e fault → Checks r fault
+error_checks (Ok y) e fault same fails = absurd same
+error_checks (Err d) e fault same fails = subst (λ (x : LinkError). Fails x fault) (sym same) fails
+
+-- a row lacks
+pub row_checks : {Y : Type 0} (cs given : List ClassDef) (boot : ℕ) (classes fields methods : List Row) (r : Result Y LinkError) (e : LinkError) → AreBoot cs given boot classes fields methods → IsErrAnd r (λ d. d ≡ e) → Fails e (first_in (row_lacks_by fields methods given) classes) → Checks r (boot_fault cs boot)
+row_checks cs given boot classes fields methods r e h same fails =
+    error_checks r e (boot_fault cs boot) same (row_fails cs given boot classes fields methods e h fails)
+
+-- no row lacks: the phase finds what the second half does
+pub foreign_checks : {Y : Type 0} (cs given : List ClassDef) (boot : ℕ) (classes fields methods : List Row) (r : Result Y LinkError) → AreBoot cs given boot classes fields methods → first_in (row_lacks_by fields methods given) classes ≡ None → Checks r (first_in (is_foreign_by classes) given) → Checks r (boot_fault cs boot)
+foreign_checks cs given boot classes fields methods r h none checks =
+    let e : boot_fault cs boot ≡ first_in (is_foreign_by classes) given = boot_fault_by cs given boot classes fields methods h ∙ rw none refl in
+    subst (λ (x : Option Found). Checks r x) (sym e) checks
