@@ -1,6 +1,6 @@
 -- Laws of the table of boot classes.
-use Rattle.std.specs.Prelude.{ℕ, zero, suc, ◌+◌, ◌≡◌, ◌<◌, ◌≤◌, ◌-◌, ◌⊎◌, Option, Some, None, nat_lt, Bool, true, false, ◌&&◌, not, List, [], ◌∷◌, length, map, filter, find, option_map, Result, Ok, Err, take, drop, min, nat_eq, bytes_eq}
-use Rattle.std.specs.List.{list_all, list_any, zip, position_or_len}
+use Rattle.std.specs.Prelude.{ℕ, zero, suc, ◌≡◌, ◌≤◌, ◌-◌, ◌⊎◌, Option, Some, None, nat_lt, Bool, true, false, ◌&&◌, not, List, [], ◌∷◌, length, map, filter, find, option_map, Result, Ok, Err, take, drop, min, nat_eq, bytes_eq}
+use Rattle.std.specs.List.{list_all, zip, position_or_len}
 use Rattle.std.specs.Option.{unwrap_or, option_or}
 use Rattle.std.specs.Result.{IsErrAnd}
 use Rattle.std.proofs.lemmas.List.{take_rest, take_all, drop_all, drop-map}
@@ -11,7 +11,6 @@ use Rattle.dv_defs.specs.Types.{base_eq, ty_eq, of_base}
 use Rattle.dv_defs.specs.declared.class.FieldDef.{FieldDef}
 use Rattle.dv_defs.specs.declared.class.MethodDef.{MethodDef}
 use Rattle.dv_defs.specs.Boot.{Row, word, base_in, type_in, names_are, types_are, field_is, fields_are, method_is, methods_are}
-
 use Rattle.dv_defs.specs.declared.class.ClassDef.{ClassDef}
 use Rattle.dv_defs.specs.First.{first_in}
 use Rattle.dv_defs.specs.LinkFaults.{Found, Fails, Checks, boot_fault}
@@ -67,6 +66,7 @@ place_or p w r n found is = place_or_step (nat_lt (position_or_len p w) (length 
 nat_eq_same : (n : ℕ) → nat_eq n n ≡ true
 nat_eq_same n = grind arith
 
+-- the base is that of what stands after the brackets
 pub type_then : (w : List ℕ) (t : Ty) (n : ℕ) (r : Bool) → n ≡ brackets w → n ≡ t.dims → r ≡ base_eq (base_in (take (length w - n) (drop n w))) t.base → r ≡ ty_eq (type_in w) t
 type_then w t n r is same base =
     let here : r ≡ base_eq (base_in (drop n w)) t.base = rw (take_rest w n) at base in
@@ -84,6 +84,7 @@ drop_min ws place from k =
     (λ above. let a : length ws ≤ from = omega arith in rw (drop_all from ws a, drop_all place ws above) refl)
     (or_above place (length ws))
 
+-- the words from a place on, which may be behind the last one
 pub words_end : (ws : List (Bor (List ℕ))) (all : List (List ℕ)) (place from : ℕ) → all ≡ map (λ w. w.now) ws → from ≡ min place (length ws) → map (λ w. w.now) (take (length ws - from) (drop from ws)) ≡ drop place all
 words_end ws all place from e k = rw (e, take_rest ws from, drop_min ws place from k, drop-map) refl
 
@@ -101,6 +102,7 @@ names_are_zip [] (t ∷ ts) = grind arith
 names_are_zip (w ∷ ws) [] = grind arith
 names_are_zip (w ∷ ws) (t ∷ ts) = grind (arith, names_are_zip ws ts)
 
+-- of as many words as types
 pub types_then : (ws : List (Bor (List ℕ))) (ts : List Ty) (r : Bool) → length ws ≡ length ts → r ≡ list_all (λ p. ty_eq (type_in p.0.now) p.1) (zip ws ts) → r ≡ types_are (map (λ w. w.now) ws) ts
 types_then ws ts r same is = is ∙ sym (types_are_zip ws ts ∙ rw (same, nat_eq_same (length ts)) refl)
 

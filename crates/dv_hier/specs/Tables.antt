@@ -1,5 +1,5 @@
 -- The table of boot classes by name, and whether classes are those of given rows.
-use Rattle.std.specs.Prelude.{ℕ, Bool, false, ◌&&◌, not, List, drop, filter, find, Option, Some, None, bytes_eq}
+use Rattle.std.specs.Prelude.{Bool, false, ◌&&◌, not, List, drop, filter, find, Option, Some, None, bytes_eq}
 use Rattle.std.specs.List.{list_any}
 use Rattle.dv_defs.specs.declared.boot.TheConstants.{BOOT_CLASSES, BOOT_FIELDS, BOOT_METHODS}
 use Rattle.dv_defs.specs.declared.class.ClassDef.{ClassDef}

@@ -8,10 +8,10 @@ ghost use Rattle.dv_defs.specs.Boot.{is_row_of, field_is, fields_are, method_is,
 ghost use Rattle.dv_defs.specs.LinkFaults.{Checks, boot_fault};
 ghost use Rattle.dv_hier.specs.Tables.{class_table, field_table, method_table, class_is_by, has_row_by, row_lacks_by, is_foreign_by};
 
-use crate::boot_rows::{flags_are, names_are, parent_is, result_is, rows, type_is, types_are, Row};
+use crate::boot_rows::{Row, flags_are, names_are, parent_is, result_is, rows, type_is, types_are};
 use dv_defs::{
-    ClassDef, FieldDef, LinkError, LinkKind, MethodDef, Text, BOOT_CLASSES, BOOT_FIELDS,
-    BOOT_METHODS,
+    BOOT_CLASSES, BOOT_FIELDS, BOOT_METHODS, ClassDef, FieldDef, LinkError, LinkKind, MethodDef,
+    Text,
 };
 use std::alloc::{AllocError, Global};
 
@@ -23,8 +23,8 @@ struct Table {
     methods: Vec<Row>,
 }
 
-#[tactic(auto, unfolding(crate::specs::Tables::class_table, crate::specs::Tables::field_table, crate::specs::Tables::method_table))]
 /// The table of boot classes.
+#[tactic(auto, unfolding(crate::specs::Tables::class_table, crate::specs::Tables::field_table, crate::specs::Tables::method_table))]
 fn boot_table(alloc: Global) -> Result<Table, AllocError>
     ensures classes { IfOk result (λ table. table.classes.items ≡ class_table) }
     ensures fields { IfOk result (λ table. table.fields.items ≡ field_table) }

@@ -1,6 +1,6 @@
 // The table of boot classes as rows of words, and what a word says.
-ghost use Rattle.std.specs.Prelude.{◌≡◌, length, drop, filter, map, nat_eq, IfOk, bytes_eq};
-ghost use Rattle.std.specs.List.{list_any, slice_split};
+ghost use Rattle.std.specs.Prelude.{◌≡◌, drop, map, nat_eq, IfOk};
+ghost use Rattle.std.specs.List.{slice_split};
 ghost use Rattle.dv_defs.specs.Boot.{word, rows, is_row_of, flag_name, tells_flag, both_or_none, flags_are, base_in, type_in, result_is, types_are, parent_is, names_are};
 ghost use Rattle.dv_defs.specs.Flags.{has_flag};
 ghost use Rattle.dv_defs.specs.Types.{base_eq, ty_eq};
@@ -181,5 +181,9 @@ pub fn parent_is(word: &[u8], parent: &Option<Text>) -> bool
 pub fn names_are(words: &[&[u8]], names: &[Text]) -> bool
     ensures { result ≡ names_are (map (λ w. w.now) words.now) names.now }
 {
-    words.len() == names.len() && words.iter().zip(names).all(|(word, name)| *word == name.bytes())
+    words.len() == names.len()
+        && words
+            .iter()
+            .zip(names)
+            .all(|(word, name)| *word == name.bytes())
 }

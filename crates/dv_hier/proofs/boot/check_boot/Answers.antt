@@ -1,5 +1,5 @@
 use Rattle.std.proofs.Common.{take}
-use Rattle.dv_hier.proofs.Rows.{AreBoot, row_checks, foreign_checks, take_min}
+use Rattle.dv_hier.proofs.Rows.{row_checks, foreign_checks, take_min}
 use Rattle.dv_hier.proofs.boot.check_boot.Goals as goal
 
 pub returns-in_err-check_rows : goal.returns-in_err-check_rows

@@ -7,5 +7,5 @@ pub returns : goal.returns
 returns c =
     sym
     (fields_are_same _ c.args.fields.now
-      ∙ c.loop-row.invariant.left
-      ∙ left_end field_is (is_row_of c.args.class.now) c.args.rows.now c.args.fields.now c.loop-row.row-index c.loop-row.told (omega arith) (omega arith))
+    ∙ c.loop-row.invariant.left
+    ∙ left_end field_is (is_row_of c.args.class.now) c.args.rows.now c.args.fields.now c.loop-row.row-index c.loop-row.told (omega arith) (omega arith))

@@ -7,5 +7,5 @@ pub returns : goal.returns
 returns c =
     sym
     (methods_are_same _ c.args.methods.now
-      ∙ c.loop-row.invariant.left
-      ∙ left_end method_is (is_row_of c.args.class.now) c.args.rows.now c.args.methods.now c.loop-row.row-index c.loop-row.told (omega arith) (omega arith))
+    ∙ c.loop-row.invariant.left
+    ∙ left_end method_is (is_row_of c.args.class.now) c.args.rows.now c.args.methods.now c.loop-row.row-index c.loop-row.told (omega arith) (omega arith))

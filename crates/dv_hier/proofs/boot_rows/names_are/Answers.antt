@@ -8,8 +8,8 @@ pub returns-then-words-names : goal.returns-then-words-names
 returns-then-words-names c =
     names_then c.args.words.now c.args.names.now c.all.result c.if-words-names.true
     (all_from_yields_List (λ p. bytes_eq p.0.now p.1) c.all.new.self _ _ c.all.ensures.ran
-      (YieldsList-from_zip (YieldsList-from_slice c.args.words.now (cc)) (YieldsList-from_slice c.args.names.now (cc)))
-      (λ x b q k. search (rules, tests)))
+    (YieldsList-from_zip (YieldsList-from_slice c.args.words.now (cc)) (YieldsList-from_slice c.args.names.now (cc)))
+    (λ x b q k. search (rules, tests)))
 
 pub returns-else-words-names : goal.returns-else-words-names
 returns-else-words-names c = rw (names_are_zip c.args.words.now c.args.names.now) (grind arith)

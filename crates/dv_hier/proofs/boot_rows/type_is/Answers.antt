@@ -8,16 +8,16 @@ pub returns-then-dims-from : goal.returns-then-dims-from
 returns-then-dims-from c =
     type_then c.args.word.now c.args.ty.now c.unwrap_or-dims.result c.base_is.result
     (place_or is_no_bracket c.args.word.now c.position.result _
-      (position_from_yields_List is_no_bracket _ _ _ c.position.ensures.ran (YieldsList-from_slice c.args.word.now (cc)) (λ x b q k. search (rules, tests)))
-      c.unwrap_or-dims.ensures)
+    (position_from_yields_List is_no_bracket _ _ _ c.position.ensures.ran (YieldsList-from_slice c.args.word.now (cc)) (λ x b q k. search (rules, tests)))
+    c.unwrap_or-dims.ensures)
     (cc)
     c.base_is.ensures
 
 pub returns-else-dims-from : goal.returns-else-dims-from
 returns-else-dims-from c =
     let dims : c.unwrap_or-dims.result ≡ brackets c.args.word.now =
-      place_or is_no_bracket c.args.word.now c.position.result _
-      (position_from_yields_List is_no_bracket _ _ _ c.position.ensures.ran (YieldsList-from_slice c.args.word.now (cc)) (λ x b q k. search (rules, tests)))
-      c.unwrap_or-dims.ensures
+    place_or is_no_bracket c.args.word.now c.position.result _
+    (position_from_yields_List is_no_bracket _ _ _ c.position.ensures.ran (YieldsList-from_slice c.args.word.now (cc)) (λ x b q k. search (rules, tests)))
+    c.unwrap_or-dims.ensures
     in
     rw (type_in_parts c.args.word.now c.args.ty.now, ← dims) (grind arith)

@@ -10,8 +10,8 @@ pub returns-then-words-types : goal.returns-then-words-types
 returns-then-words-types c =
     types_then c.args.words.now c.args.types.now c.all.result c.if-words-types.true
     (all_from_yields_List (λ p. ty_eq (type_in p.0.now) p.1) c.all.new.self _ _ c.all.ensures.ran
-      (YieldsList-from_zip (YieldsList-from_slice c.args.words.now (cc)) (YieldsList-from_slice c.args.types.now (cc)))
-      (λ x b q k. search (rules, tests)))
+    (YieldsList-from_zip (YieldsList-from_slice c.args.words.now (cc)) (YieldsList-from_slice c.args.types.now (cc)))
+    (λ x b q k. search (rules, tests)))
 
 pub returns-else-words-types : goal.returns-else-words-types
 returns-else-words-types c = rw (types_are_zip c.args.words.now c.args.types.now) (grind arith)

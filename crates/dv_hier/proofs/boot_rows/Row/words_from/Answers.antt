@@ -1,4 +1,4 @@
-use Rattle.std.proofs.Common.{◌≡◌, arith, min, length, map}
+use Rattle.std.proofs.Common.{◌≡◌, min, length}
 use Rattle.dv_hier.proofs.Rows.{words_end}
 use Rattle.dv_hier.proofs.boot_rows.Row.words_from.Goals as goal
 
