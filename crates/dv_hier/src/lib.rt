@@ -3,6 +3,7 @@
 
 mod above;
 mod boot;
+mod boot_rows;
 mod building;
 mod cycles;
 mod faults;
