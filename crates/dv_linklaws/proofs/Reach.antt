@@ -192,3 +192,61 @@ reaches_bounded image range (suc n) t c within e =
     (λ same. rw (← same) (reaches_here image (length image.classes) c))
     (λ d has more. stable_at_last image range t c within (reaches_up image (suc (length image.classes)) t c d has (reaches_bounded image range n t d (above_in image range c d has) more)))
     e
+
+-- ---- what depends on itself
+
+fails : (b : Bool) → (b ≡ true → ⊥) → b ≡ false
+fails true h = absurd (h refl)
+fails false h = refl
+
+same_truth : (a b : Bool) → (a ≡ true → b ≡ true) → (b ≡ true → a ≡ true) → a ≡ b
+same_truth true b to back = sym (to refl)
+same_truth false true to back = back refl
+same_truth false false to back = refl
+
+abbrev IsClosed : Image → (ℕ → Bool) → Type 0
+IsClosed image p = (c d : ℕ) → p c ≡ true → has_number d (above image c) ≡ true → p d ≡ true
+
+-- beyond classes that are not it, and those above them
+pub apart_from_closed : (image : Image) (p : ℕ → Bool) → IsClosed image p → (c : ℕ) → p c ≡ false → ((d : ℕ) → has_number d (above image c) ≡ true → p d ≡ true) → any_of (λ d. implements image d c) (above image c) ≡ false
+apart_from_closed image p closed c not_it begun =
+    fails (any_of (λ d. implements image d c) (above image c))
+    (any_gives (λ d. implements image d c) (above image c) (λ d has e. absurd (let it = reaches_keeps image p closed (suc (length image.classes)) c d (begun d has) e in cc)))
+
+-- the classes that are reached from those directly above one, with all that stands above each
+pub decided_by_closed : (image : Image) (p : ℕ → Bool) → IsClosed image p → (c : ℕ) → ((d : ℕ) → has_number d (above image c) ≡ true → p d ≡ true) → (p c ≡ true → any_of (λ d. implements image d c) (above image c) ≡ true) → p c ≡ any_of (λ d. implements image d c) (above image c)
+decided_by_closed image p closed c begun reached =
+    same_truth (p c) (any_of (λ d. implements image d c) (above image c)) reached
+    (any_gives (λ d. implements image d c) (above image c) (λ d has e. reaches_keeps image p closed (suc (length image.classes)) c d (begun d has) e))
+
+-- what stands directly above what is reached is reached
+pub reached_beyond : (image : Image) → AreInRange image.classes → (c d e : ℕ) → any_of (λ b. implements image b d) (above image c) ≡ true → has_number e (above image d) ≡ true → any_of (λ b. implements image b e) (above image c) ≡ true
+reached_beyond image range c d e reached has =
+    any_gives (λ b. implements image b d) (above image c)
+    (λ b up more. any_has (λ b. implements image b e) b (above image c) up (reaches_bounded image range (suc (suc (length image.classes))) e b (above_in image range c b up) (reaches_beyond image (suc (length image.classes)) d e b has more)))
+    reached
+
+pub reached_at_once : (image : Image) (c d : ℕ) → has_number d (above image c) ≡ true → any_of (λ b. implements image b d) (above image c) ≡ true
+reached_at_once image c d has = any_has (λ b. implements image b d) d (above image c) has (reaches_here image (length image.classes) d)
+
+-- ---- images of the same classes
+
+above_same : (a b : Image) → a.classes ≡ b.classes → (c : ℕ) → above a c ≡ above b c
+above_same a b same c = ap (λ cs. with_parent (parent_of (slice_get cs c)) (interfaces_of (slice_get cs c))) same
+
+abbrev or_else : Bool → Bool → Bool
+or_else b c = elim b [ true ↦ true | false ↦ c ]
+
+any_same : (p q : ℕ → Bool) → ((c : ℕ) → p c ≡ q c) → (cs : List ℕ) → any_of p cs ≡ any_of q cs
+any_same p q h [] = refl
+any_same p q h (c ∷ cs) = ap (λ b. or_else b (any_of p cs)) (h c) ∙ ap (or_else (q c)) (any_same p q h cs)
+
+pub reaches_same : (a b : Image) → a.classes ≡ b.classes → (n t c : ℕ) → reaches a n t c ≡ reaches b n t c
+reaches_same a b same zero t c = refl
+reaches_same a b same (suc n) t c =
+    ap (or_else (nat_eq c t))
+    (any_same (reaches a n t) (reaches b n t) (reaches_same a b same n t) (above a c) ∙ ap (any_of (reaches b n t)) (above_same a b same c))
+
+pub depends_same : (a b : Image) → a.classes ≡ b.classes → (c : ℕ) → any_of (λ d. implements a d c) (above a c) ≡ any_of (λ d. implements b d c) (above b c)
+depends_same a b same c =
+    any_same (λ d. implements a d c) (λ d. implements b d c) (λ d. reaches_same a b same (suc (length a.classes)) c d ∙ ap (λ cs. reaches b (suc (length cs)) c d) same) (above a c) ∙ ap (any_of (λ d. implements b d c)) (above_same a b same c)
