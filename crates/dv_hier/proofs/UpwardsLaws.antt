@@ -3,6 +3,7 @@ use Rattle.std.specs.Prelude.{ℕ, zero, suc, ◌≡◌, ◌≢◌, ◌+◌, ◌
 use Rattle.std.specs.List.{list_all}
 use Rattle.std.proofs.Common.{refl, sym, ◌∙◌, ap, subst, inl, inr, ⊎_elim, arith, cond, get_or, set, replicate, take, add-one}
 use Rattle.std.proofs.lemmas.Bool.{or_cases}
+use Rattle.std.proofs.lemmas.List.Elements.{All-get_or}
 use Rattle.std.proofs.lemmas.Option.{slice_get_read}
 use Rattle.std.proofs.lemmas.List.Sums.{sum_by-set}
 use Rattle.std.proofs.lemmas.Bool.Decides.{eqb_tells}
@@ -223,11 +224,10 @@ met_like xs ys a u b v like met = record {
 }
 
 -- a turn of a loop
-pub met_more : (ids : List ClassId) (i : ℕ) (id : ClassId) (a : List Bool) (u : List ClassId) (b : List Bool) (v : List ClassId) (c : List Bool) (w : List ClassId) → i < length ids → id ≡ get_or ids i id → HasMet (numbers (take i ids)) a u b v → HasMet (id.0 ∷ []) b v c w → HasMet (numbers (take (i + 1) ids)) a u c w
-met_more ids i id a u b v c w within is first then =
-    subst (λ xs. HasMet xs a u c w)
-    (sym (ap numbers (take_more ids i id within ∙ ap (λ x. take i ids ++ x ∷ []) (sym is)) ∙ numbers_both (take i ids) (id ∷ [])))
-    (met_then (numbers (take i ids)) (id.0 ∷ []) a u b v c w first then)
+pub met_more : (ids : List ClassId) (i : ℕ) (id : ClassId) (a : List Bool) (u : List ClassId) (b : List Bool) (v : List ClassId) (c : List Bool) (w : List ClassId) → i < length ids → HasMet (numbers (take i ids)) a u b v → HasMet ((get_or ids i id).0 ∷ []) b v c w → HasMet (numbers (take (i + 1) ids)) a u c w
+met_more ids i id a u b v c w within first then =
+    subst (λ xs. HasMet xs a u c w) (sym (ap numbers (take_more ids i id within) ∙ numbers_both (take i ids) (get_or ids i id ∷ [])))
+    (met_then (numbers (take i ids)) ((get_or ids i id).0 ∷ []) a u b v c w first then)
 
 has_last : (d x : ℕ) (xs : List ℕ) → has_number d (xs ++ x ∷ []) ≡ has_number d (x ∷ xs)
 has_last d x xs = has_both d xs (x ∷ []) ∙ turned (has_number d xs) (nat_eq x d)
@@ -312,3 +312,35 @@ unfolding is_self_dependent
 search_ends cs c met [] whole none =
     decided_by_closed (bare cs) (is_marked met) (λ d e marked has. whole.closed d e marked refl has) c whole.begun (whole.reached c)
 search_ends cs c met (id ∷ waiting) whole none = absurd (omega arith)
+
+-- ---- a search's turns as the code has them
+
+marked_in : (marks : List Bool) (i : ℕ) → is_marked marks i ≡ true → i < length marks
+marked_in [] i marked = absurd (cc)
+marked_in (m ∷ marks) zero marked = omega arith
+marked_in (m ∷ marks) (suc i) marked = let below = marked_in marks i marked in omega arith
+
+pub begun : (cs : List ClassInfo) (c : ℕ) (info : ClassInfo) (before : List Bool) (none : List ClassId) (met : List Bool) (waiting : List ClassId) → c < length cs → info ≡ get_or cs c info → before ≡ replicate (length cs) false → none ≡ [] → HasMet (above_of info) before none met waiting → IsSearch cs c met waiting
+begun cs c info before none met waiting within is unmarked empty now =
+    search_begins cs c (length cs) met waiting refl
+    (subst (λ xs. HasMet xs (replicate (length cs) false) [] met waiting) (sym (above_is cs c info within is))
+    (subst (λ u. HasMet (above_of info) (replicate (length cs) false) u met waiting) empty
+    (subst (λ a. HasMet (above_of info) a none met waiting) unmarked now)))
+
+pub next_in : (cs : List ClassInfo) (c : ℕ) (id : ClassId) (before : List Bool) (all rest : List ClassId) → all ≡ rest ++ id ∷ [] → IsSearch cs c before all → id.0 < length cs
+next_in cs c id before all rest is so_far =
+    let waits = ap (λ ids. has_number id.0 (numbers ids)) is ∙ (ap (has_number id.0) (numbers_both rest (id ∷ [])) ∙ (has_both id.0 (numbers rest) (id.0 ∷ []) ∙ or_second (has_number id.0 (numbers rest)) (has_number id.0 (id.0 ∷ [])) (number_first id.0 []))) in
+    let below = marked_in before id.0 (so_far.waits id.0 waits) in
+    let many = so_far.many in
+    omega arith
+
+pub goes_on : (cs : List ClassInfo) (c : ℕ) → AreInRange cs → (id : ClassId) (info : ClassInfo) (before : List Bool) (all rest : List ClassId) (met : List Bool) (waiting : List ClassId) → info ≡ get_or cs id.0 info → all ≡ rest ++ id ∷ [] → IsSearch cs c before all → HasMet (above_of info) before rest met waiting → IsSearch cs c met waiting
+goes_on cs c range id info before all rest met waiting is popped so_far now =
+    search_goes_on cs c range id before rest met waiting
+    (subst (λ ids. IsSearch cs c before ids) popped so_far)
+    (subst (λ xs. HasMet xs before rest met waiting) (sym (above_is cs id.0 info (next_in cs c id before all rest popped so_far) is)) now)
+
+pub next_range : (cs : List ClassInfo) (i n : ℕ) (info : ClassInfo) → AreInRange cs → i < length cs → info ≡ get_or cs i info → n ≡ length cs → IsInRange n info
+next_range cs i n info range within is many =
+    subst (λ m. IsInRange m info) (sym many)
+    (subst (λ x. IsInRange (length cs) x) (sym is) (All-get_or (IsInRange (length cs)) cs i info within range))
