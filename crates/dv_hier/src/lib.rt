@@ -5,6 +5,7 @@ mod above;
 mod boot;
 mod building;
 mod cycles;
+mod faults;
 mod fields;
 mod hierarchy;
 mod limits;
