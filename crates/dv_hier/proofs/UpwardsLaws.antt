@@ -1,7 +1,7 @@
 -- Laws of what is marked on the ways up.
-use Rattle.std.specs.Prelude.{ℕ, zero, suc, ◌≡◌, ◌≢◌, ◌+◌, ◌<◌, nat_eq, Bool, true, false, ◌&&◌, ◌||◌, not, List, [], ◌∷◌, ◌++◌, length, count_by, Option, Some, None, slice_get, slice_index_or, All, IfSome, ◌⊎◌}
+use Rattle.std.specs.Prelude.{ℕ, zero, suc, ◌≡◌, ◌≢◌, ◌+◌, ◌<◌, nat_eq, Bool, true, false, ◌&&◌, ◌||◌, not, List, [], ◌∷◌, ◌++◌, length, Option, Some, None, ◌⊎◌}
 use Rattle.std.specs.List.{list_all}
-use Rattle.std.proofs.Common.{refl, sym, ◌∙◌, ap, subst, inl, inr, ⊎_elim, arith, cond, get_or, set, replicate, take, add-one}
+use Rattle.std.proofs.Common.{refl, sym, ◌∙◌, ap, subst, inl, inr, ⊎_elim, arith, cond, get_or, set, replicate, take}
 use Rattle.std.proofs.lemmas.Bool.{or_cases}
 use Rattle.std.proofs.lemmas.List.Elements.{All-get_or}
 use Rattle.std.proofs.lemmas.Option.{slice_get_read}
@@ -10,11 +10,10 @@ use Rattle.std.proofs.lemmas.Bool.Decides.{eqb_tells}
 use Rattle.std.proofs.lemmas.List.{length-set, get_or-set_same, get_or-set_other, length-append, length-replicate, take_more}
 use Rattle.dv_defs.specs.declared.names.ClassId.{ClassId}
 use Rattle.dv_defs.specs.declared.image.ClassInfo.{ClassInfo}
-use Rattle.dv_defs.specs.Images.{Image}
 use Rattle.dv_defs.specs.Pools.{class_number, parent_of}
 use Rattle.dv_defs.specs.Order.{has_number, numbers, interfaces_of, with_parent, above, any_of, implements}
 use Rattle.dv_linklaws.specs.Stripped.{IsInRange, AreInRange}
-use Rattle.dv_linklaws.proofs.Reach.{number_first, number_later, number_cases, apart_from_closed, decided_by_closed, reached_beyond, reached_at_once, above_in}
+use Rattle.dv_linklaws.proofs.Reach.{number_first, number_cases, apart_from_closed, decided_by_closed, reached_beyond, reached_at_once}
 use Rattle.dv_hier.specs.Upwards.{bare, above_of, is_self_dependent, is_marked, is_parent_marked, is_ready, AreFree, unmarked, HasMet}
 
 -- ---- lists of numbers
@@ -149,13 +148,13 @@ free_more cs marks i info free many within is unmarked ready =
     let begun = λ (d : ℕ) (has : has_number d (above (bare cs) i) ≡ true). ready_marks marks info ready d (subst (λ xs. has_number d xs ≡ true) (above_is cs i info within is) has) in
     record {
       closed = λ c d marked has.
-        marked_kept marks i d inside
-        (⊎_elim (λ before. free.closed c d before has) (λ here. begun d (subst (λ x. has_number d (above (bare cs) x) ≡ true) (sym here) has)) (marked_cases marks i c inside marked));
+          marked_kept marks i d inside
+          (⊎_elim (λ before. free.closed c d before has) (λ here. begun d (subst (λ x. has_number d (above (bare cs) x) ≡ true) (sym here) has)) (marked_cases marks i c inside marked));
       free = λ c marked.
-        ⊎_elim
-        (λ before. free.free c before)
-        (λ here. subst (λ x. is_self_dependent cs x ≡ false) here (apart_from_closed (bare cs) (is_marked marks) free.closed i unmarked begun))
-        (marked_cases marks i c inside marked);
+          ⊎_elim
+          (λ before. free.free c before)
+          (λ here. subst (λ x. is_self_dependent cs x ≡ false) here (apart_from_closed (bare cs) (is_marked marks) free.closed i unmarked begun))
+          (marked_cases marks i c inside marked);
     }
 
 -- ---- what was met
@@ -173,9 +172,9 @@ met_first marks waiting id within free = record {
   many = length-set marks id.0 true;
   marked = λ d. marked_set marks id.0 d within;
   waits = λ d.
-    ap (has_number d) (numbers_both waiting (id ∷ []))
-    ∙ (has_both d (numbers waiting) (id.0 ∷ [])
-    ∙ ap (λ b. has_number d (numbers waiting) || b) (has_all (has_number d (id.0 ∷ [])) (is_marked marks d) (λ h. subst (λ x. is_marked marks x ≡ false) (only d id.0 h) free)));
+      ap (has_number d) (numbers_both waiting (id ∷ []))
+      ∙ (has_both d (numbers waiting) (id.0 ∷ [])
+      ∙ ap (λ b. has_number d (numbers waiting) || b) (has_all (has_number d (id.0 ∷ [])) (is_marked marks d) (λ h. subst (λ x. is_marked marks x ≡ false) (only d id.0 h) free)));
   left = let fewer = unmarked_set marks id.0 within free in let more = length-append waiting (id ∷ []) in omega arith;
 }
 
@@ -203,11 +202,11 @@ pub met_then : (xs ys : List ℕ) (a : List Bool) (u : List ClassId) (b : List B
 met_then xs ys a u b v c w first then = record {
   many = then.many ∙ first.many;
   marked = λ d.
-    both_marked (is_marked a d) (has_number d xs) (has_number d ys) (is_marked b d) (is_marked c d) (first.marked d) (then.marked d)
-    ∙ ap (λ h. is_marked a d || h) (sym (has_both d xs ys));
+      both_marked (is_marked a d) (has_number d xs) (has_number d ys) (is_marked b d) (is_marked c d) (first.marked d) (then.marked d)
+      ∙ ap (λ h. is_marked a d || h) (sym (has_both d xs ys));
   waits = λ d.
-    both_wait (has_number d (numbers u)) (has_number d xs) (has_number d ys) (is_marked a d) (is_marked b d) (has_number d (numbers v)) (has_number d (numbers w)) (first.waits d) (first.marked d) (then.waits d)
-    ∙ ap (λ h. has_number d (numbers u) || (h && not (is_marked a d))) (sym (has_both d xs ys));
+      both_wait (has_number d (numbers u)) (has_number d xs) (has_number d ys) (is_marked a d) (is_marked b d) (has_number d (numbers v)) (has_number d (numbers w)) (first.waits d) (first.marked d) (then.waits d)
+      ∙ ap (λ h. has_number d (numbers u) || (h && not (is_marked a d))) (sym (has_both d xs ys));
   left = then.left ∙ first.left;
 }
 
@@ -279,28 +278,28 @@ search_goes_on cs c range id before rest met waiting so_far now =
       many = now.many ∙ so_far.many;
       begun = λ d has. kept d (so_far.begun d has);
       reached = λ d marked.
-        ⊎_elim
-        (λ old. so_far.reached d old)
-        (λ new. reached_beyond (bare cs) range c id.0 d (so_far.reached id.0 id_met) new)
-        (or_cases (is_marked before d) (has_number d up) (sym (now.marked d) ∙ marked));
+          ⊎_elim
+          (λ old. so_far.reached d old)
+          (λ new. reached_beyond (bare cs) range c id.0 d (so_far.reached id.0 id_met) new)
+          (or_cases (is_marked before d) (has_number d up) (sym (now.marked d) ∙ marked));
       closed = λ d e marked free has.
-        ⊎_elim
-        (λ old.
+          ⊎_elim
+          (λ old.
           ⊎_elim
           (λ same. next e (subst (λ x. has_number e (above (bare cs) x) ≡ true) (sym same.1) has))
           (λ other. kept e (so_far.closed d e old (waited d ∙ (ap (λ b. b || has_number d (id.0 ∷ [])) (none_of_both (has_number d (numbers rest)) (has_number d up && not (is_marked before d)) (sym (now.waits d) ∙ free)) ∙ has_only d id.0 other.1)) has))
           (eqb_tells id.0 d))
-        (λ fresh.
+          (λ fresh.
           absurd
           (let new = new_if (is_marked before d) (has_number d up) fresh (sym (now.marked d) ∙ marked) in
           let waits = now.waits d ∙ new_waits (has_number d (numbers rest)) (has_number d up) (is_marked before d) new fresh in
           cc))
-        (true_or_false (is_marked before d));
+          (true_or_false (is_marked before d));
       waits = λ d waits.
-        ⊎_elim
-        (λ old. kept d (so_far.waits d (waited d ∙ or_first (has_number d (numbers rest)) (has_number d (id.0 ∷ [])) old)))
-        (λ new. next d (and_first (has_number d up) (not (is_marked before d)) new))
-        (or_cases (has_number d (numbers rest)) (has_number d up && not (is_marked before d)) (sym (now.waits d) ∙ waits));
+          ⊎_elim
+          (λ old. kept d (so_far.waits d (waited d ∙ or_first (has_number d (numbers rest)) (has_number d (id.0 ∷ [])) old)))
+          (λ new. next d (and_first (has_number d up) (not (is_marked before d)) new))
+          (or_cases (has_number d (numbers rest)) (has_number d up && not (is_marked before d)) (sym (now.waits d) ∙ waits));
     }
   where
     new_if : (m h : Bool) → m ≡ false → m || h ≡ true → h ≡ true

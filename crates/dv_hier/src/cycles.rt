@@ -7,6 +7,7 @@ ghost use Rattle.dv_defs.specs.Order.{numbers};
 ghost use Rattle.dv_linklaws.specs.Stripped.{IsInRange, AreInRange};
 ghost use Rattle.dv_hier.specs.Upwards.{AreFree, HasMet, above_of, is_ready as ready, is_self_dependent};
 
+use crate::faults::error_of;
 use dv_defs::{ClassId, ClassInfo, LinkError, LinkKind};
 use std::alloc::{AllocError, Global};
 
@@ -127,10 +128,7 @@ pub fn check_cycles(alloc: Global, infos: &[ClassInfo]) -> Result<(), LinkError>
     let free = free_classes(alloc, infos)?;
     for i in 0..infos.len() {
         if !free[i] && depends_on_itself(alloc, infos, i)? {
-            return Err(LinkError::At {
-                class: infos[i].def.name.clone()?,
-                kind: LinkKind::SuperCycle,
-            });
+            return Err(error_of(&infos[i].def.name, LinkKind::SuperCycle));
         }
     }
     Ok(())

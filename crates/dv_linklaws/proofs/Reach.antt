@@ -1,12 +1,12 @@
 -- Laws of what is reached by going up from class to class.
-use Rattle.std.specs.Prelude.{ℕ, zero, suc, ◌≡◌, ◌+◌, ◌<◌, ◌≤◌, Bool, true, false, List, [], ◌∷◌, length, Option, Some, None, nat_eq, slice_get, All, IfSome, ◌⊎◌}
+use Rattle.std.specs.Prelude.{ℕ, zero, suc, ◌≡◌, ◌<◌, ◌≤◌, Bool, true, false, List, [], ◌∷◌, length, Option, Some, None, nat_eq, slice_get, All, IfSome, ◌⊎◌}
 use Rattle.std.proofs.Common.{refl, sym, ◌∙◌, ap, subst, inl, inr, ⊎_elim, arith}
 use Rattle.std.proofs.lemmas.Bool.{eqb-true, eq-eqb}
 use Rattle.std.proofs.lemmas.List.Elements.{All-head, All-tail}
 use Rattle.dv_defs.specs.declared.names.ClassId.{ClassId}
 use Rattle.dv_defs.specs.declared.image.ClassInfo.{ClassInfo}
 use Rattle.dv_defs.specs.Images.{Image}
-use Rattle.dv_defs.specs.Pools.{class_number, parent_of, parent_at}
+use Rattle.dv_defs.specs.Pools.{class_number, parent_of}
 use Rattle.dv_defs.specs.Order.{has_number, numbers, interfaces_of, with_parent, above, any_of, reaches, implements}
 use Rattle.dv_linklaws.specs.Stripped.{IsInRange, AreInRange}
 
@@ -170,10 +170,10 @@ stable_or_many image range t zero = inl (omega arith)
 stable_or_many image range t (suc k) =
     ⊎_elim
     (λ many.
-      ⊎_elim
-      (λ less. inl (omega arith))
-      (λ same. inr (stable_on image range t k (count_same (reaches image k t) (reaches image (suc k) t) (length image.classes) (λ c _ e. reaches_more image k t c e) same)))
-      (less_or_not (count (reaches image k t) (length image.classes)) (count (reaches image (suc k) t) (length image.classes))))
+    ⊎_elim
+    (λ less. inl (omega arith))
+    (λ same. inr (stable_on image range t k (count_same (reaches image k t) (reaches image (suc k) t) (length image.classes) (λ c _ e. reaches_more image k t c e) same)))
+    (less_or_not (count (reaches image k t) (length image.classes)) (count (reaches image (suc k) t) (length image.classes))))
     (λ stable. inr (stable_on image range t k stable))
     (stable_or_many image range t k)
 

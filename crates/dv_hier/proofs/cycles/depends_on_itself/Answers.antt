@@ -1,12 +1,11 @@
-use Rattle.std.proofs.Common.{sym, ◌∙◌, arith, ◌≡◌, ◌<◌, length, vec_len, false}
+use Rattle.std.proofs.Common.{◌∙◌, arith, ◌≡◌, length, vec_len, false}
 use Rattle.std.proofs.lemmas.List.{get_or_read_under}
-use Rattle.dv_hier.specs.Upwards.{is_marked, is_self_dependent}
 use Rattle.dv_hier.proofs.UpwardsLaws.{begun, next_in, next_range, goes_on, search_ends}
 use Rattle.dv_hier.proofs.cycles.depends_on_itself.Goals as goal
 
 pub loop-id-init : goal.loop-id-init
 loop-id-init c =
-    begun c.args.infos.now c.args.class c.index-infos-class.result c.in_ok-vec.field-0.items c.new.result.items c.meet_above.new.self.met.items c.meet_above.new.self.waiting.items c.requires.class_in c.index-infos-class.is (c.in_ok-vec.ensures.items_if_clones_equal (λ x y e. e)) c.new.ensures.items c.in_ok-meet_above.ensures
+    begun c.args.infos.now c.args.class c.index-infos-class.result c.in_ok-vec.field-0.items c.new.result.items c.meet_above.new.self.met.items c.meet_above.new.self.waiting.items c.requires.class_in c.index-infos-class.is (c.in_ok-vec.ensures.items_if_clones_equal (λ y same. same)) c.new.ensures.items c.in_ok-meet_above.ensures
 
 pub bounds-infos-id : goal.bounds-infos-id
 bounds-infos-id c =

@@ -8,7 +8,7 @@ pub loop-i-preserved : goal.loop-i-preserved
 loop-i-preserved c =
     elim c.if-not-done-i.branch [
       | then-not-done-i+then-is_ready w ↦
-        subst (AreFree c.args.infos.now) (sym w.done-is)
-        (free_more c.args.infos.now c.loop-i.done c.loop-i.i w.index-infos-i.result c.loop-i.invariant (omega arith) (omega arith) w.index-infos-i.is w.if-not-done-i.true (sym w.is_ready.ensures ∙ w.if-is_ready.true))
+          subst (AreFree c.args.infos.now) (sym w.done-is)
+          (free_more c.args.infos.now c.loop-i.done c.loop-i.i w.index-infos-i.result c.loop-i.invariant (omega arith) (omega arith) w.index-infos-i.is w.if-not-done-i.true (sym w.is_ready.ensures ∙ w.if-is_ready.true))
       | else-not-done-i w ↦ subst (AreFree c.args.infos.now) (sym w.done-is) c.loop-i.invariant
     ]

@@ -1,5 +1,5 @@
 use Rattle.std.proofs.Common.{sym, subst, ◌∙◌, arith, true, false}
-use Rattle.std.specs.Prelude.{[], ◌∷◌, ◌≡◌, ◌<◌, length, slice_set}
+use Rattle.std.specs.Prelude.{[], ◌∷◌, ◌≡◌, slice_set}
 use Rattle.std.proofs.lemmas.List.{get_or_read_under}
 use Rattle.dv_hier.specs.Upwards.{HasMet, is_marked}
 use Rattle.dv_hier.proofs.UpwardsLaws.{met_first}
