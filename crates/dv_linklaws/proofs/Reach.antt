@@ -13,7 +13,7 @@ use Rattle.dv_linklaws.specs.Stripped.{IsInRange, AreInRange}
 less_or_same : (i n : ℕ) → i < suc n → (i < n) ⊎ (i ≡ n)
 less_or_same i n within = grind arith
 
-less_or_not : (m n : ℕ) → (m < n) ⊎ (n ≤ m)
+pub less_or_not : (m n : ℕ) → (m < n) ⊎ (n ≤ m)
 less_or_not m n = grind arith
 
 -- ---- lists of numbers
@@ -114,7 +114,8 @@ above_in image range c d h =
 
 -- ---- so many steps do
 
-count : (ℕ → Bool) → ℕ → ℕ
+-- how many numbers below a bound pass
+pub count : (ℕ → Bool) → ℕ → ℕ
 count p zero = 0
 count p (suc n) = elim (p n) [ true ↦ suc (count p n) | false ↦ count p n ]
 
@@ -122,7 +123,7 @@ more_at : (b : Bool) (n : ℕ) → elim b [ true ↦ suc n | false ↦ n ] ≤ s
 more_at true n = omega arith
 more_at false n = omega arith
 
-count_most : (p : ℕ → Bool) (n : ℕ) → count p n ≤ n
+pub count_most : (p : ℕ → Bool) (n : ℕ) → count p n ≤ n
 unfolding count
 count_most p zero = omega arith
 count_most p (suc n) =
@@ -143,13 +144,13 @@ turn_back true false m n h le e = absurd (let e : false ≡ true = h refl in cc)
 turn_back false true m n h le e = absurd (omega arith)
 turn_back false false m n h le e = (e, λ f. f)
 
-count_le : (p q : ℕ → Bool) (n : ℕ) → ((d : ℕ) → d < n → p d ≡ true → q d ≡ true) → count p n ≤ count q n
+pub count_le : (p q : ℕ → Bool) (n : ℕ) → ((d : ℕ) → d < n → p d ≡ true → q d ≡ true) → count p n ≤ count q n
 unfolding count
 count_le p q zero h = omega arith
 count_le p q (suc n) h =
     turn_same (p n) (q n) (count p n) (count q n) (h n (omega arith)) (count_le p q n (λ d below. h d (omega arith)))
 
-count_same : (p q : ℕ → Bool) (n : ℕ) → ((d : ℕ) → d < n → p d ≡ true → q d ≡ true) → count q n ≤ count p n → (d : ℕ) → d < n → q d ≡ true → p d ≡ true
+pub count_same : (p q : ℕ → Bool) (n : ℕ) → ((d : ℕ) → d < n → p d ≡ true → q d ≡ true) → count q n ≤ count p n → (d : ℕ) → d < n → q d ≡ true → p d ≡ true
 unfolding count
 count_same p q zero h le d below = absurd (omega arith)
 count_same p q (suc n) h le d below =
