@@ -1,11 +1,12 @@
 -- Laws of what is marked on the ways up.
-use Rattle.std.specs.Prelude.{ℕ, zero, suc, ◌≡◌, ◌≢◌, ◌+◌, ◌<◌, nat_eq, Bool, true, false, ◌&&◌, ◌||◌, not, List, [], ◌∷◌, ◌++◌, length, Option, Some, None, ◌⊎◌}
+use Rattle.std.specs.Prelude.{ℕ, zero, suc, ◌≡◌, ◌≢◌, ◌+◌, ◌<◌, ◌≤◌, nat_eq, Bool, true, false, ◌&&◌, ◌||◌, not, List, [], ◌∷◌, ◌++◌, length, Option, Some, None, ◌⊎◌}
+use Rattle.std.specs.Bool.{MatchBool}
 use Rattle.std.specs.List.{list_all}
 use Rattle.std.proofs.Common.{refl, sym, ◌∙◌, ap, subst, inl, inr, ⊎_elim, arith, cond, get_or, set, replicate, take}
 use Rattle.std.proofs.lemmas.Bool.{or_cases}
 use Rattle.std.proofs.lemmas.List.Elements.{All-get_or}
 use Rattle.std.proofs.lemmas.Option.{slice_get_read}
-use Rattle.std.proofs.lemmas.List.Sums.{sum_by-set}
+use Rattle.std.proofs.lemmas.List.Sums.{sum_by-set, count_by-le-length}
 use Rattle.std.proofs.lemmas.Bool.Decides.{eqb_tells}
 use Rattle.std.proofs.lemmas.List.{length-set, get_or-set_same, get_or-set_other, length-append, length-replicate, take_more}
 use Rattle.dv_defs.specs.declared.names.ClassId.{ClassId}
@@ -13,8 +14,11 @@ use Rattle.dv_defs.specs.declared.image.ClassInfo.{ClassInfo}
 use Rattle.dv_defs.specs.Pools.{class_number, parent_of}
 use Rattle.dv_defs.specs.Order.{has_number, numbers, interfaces_of, with_parent, above, any_of, implements}
 use Rattle.dv_linklaws.specs.Stripped.{IsInRange, AreInRange}
-use Rattle.dv_linklaws.proofs.Reach.{number_first, number_cases, apart_from_closed, decided_by_closed, reached_beyond, reached_at_once}
-use Rattle.dv_hier.specs.Upwards.{bare, above_of, is_self_dependent, is_marked, is_parent_marked, is_ready, AreFree, unmarked, HasMet}
+use Rattle.dv_linklaws.proofs.Reach.{number_first, number_later, number_cases, apart_from_closed, decided_by_closed, reached_beyond, reached_at_once}
+use Rattle.dv_hier.specs.Upwards.{bare, above_of, is_self_dependent, is_marked, is_parent_marked, is_ready, AreFree, HasEachReady, unmarked, HasMet}
+
+less_or_same : (i n : ℕ) → i < suc n → (i < n) ⊎ (i ≡ n)
+less_or_same i n within = grind arith
 
 -- ---- lists of numbers
 
@@ -111,6 +115,10 @@ both : (a b : Bool) → a && b ≡ true → (a ≡ true) × (b ≡ true)
 both true b h = (refl, h)
 both false b h = absurd (cc)
 
+both_hold : (a b : Bool) → a ≡ true → b ≡ true → a && b ≡ true
+both_hold true b h holds = holds
+both_hold false b h holds = absurd (cc)
+
 all_marked : (marks : List Bool) (cs : List ClassId) → list_all (λ c. is_marked marks c.0) cs ≡ true → (d : ℕ) → has_number d (numbers cs) ≡ true → is_marked marks d ≡ true
 all_marked marks [] h d has = absurd (cc)
 all_marked marks (c ∷ cs) h d has =
@@ -141,7 +149,7 @@ free_none cs n = record {
 }
 
 -- one more, above which all is marked
-pub free_more : (cs : List ClassInfo) (marks : List Bool) (i : ℕ) (info : ClassInfo) → AreFree cs marks → length marks ≡ length cs → i < length cs → info ≡ get_or cs i info → is_marked marks i ≡ false → is_ready marks info ≡ true → AreFree cs (set marks i true)
+free_more : (cs : List ClassInfo) (marks : List Bool) (i : ℕ) (info : ClassInfo) → AreFree cs marks → length marks ≡ length cs → i < length cs → info ≡ get_or cs i info → is_marked marks i ≡ false → is_ready marks info ≡ true → AreFree cs (set marks i true)
 unfolding is_self_dependent
 free_more cs marks i info free many within is unmarked ready =
     let inside : i < length marks = omega arith in
@@ -156,6 +164,64 @@ free_more cs marks i info free many within is unmarked ready =
           (λ here. subst (λ x. is_self_dependent cs x ≡ false) here (apart_from_closed (bare cs) (is_marked marks) free.closed i unmarked begun))
           (marked_cases marks i c inside marked);
     }
+
+-- ---- rounds
+
+all_if : (marks : List Bool) (cs : List ClassId) → ((d : ℕ) → has_number d (numbers cs) ≡ true → is_marked marks d ≡ true) → list_all (λ c. is_marked marks c.0) cs ≡ true
+all_if marks [] h = refl
+all_if marks (c ∷ cs) h =
+    both_hold (is_marked marks c.0) (list_all (λ c. is_marked marks c.0) cs) (h c.0 (number_first c.0 (numbers cs))) (all_if marks cs (λ d has. h d (number_later d c.0 (numbers cs) has)))
+
+ready_if_marked : (marks : List Bool) (parent : Option ClassId) (cs : List ClassId) → ((d : ℕ) → has_number d (with_parent (class_number parent) (numbers cs)) ≡ true → is_marked marks d ≡ true) → list_all (λ c. is_marked marks c.0) cs && is_parent_marked marks parent ≡ true
+ready_if_marked marks None cs h = both_hold (list_all (λ c. is_marked marks c.0) cs) true (all_if marks cs h) refl
+ready_if_marked marks (Some p) cs h =
+    both_hold (list_all (λ c. is_marked marks c.0) cs) (is_marked marks p.0) (all_if marks cs (λ d has. h d (number_later d p.0 (numbers cs) has))) (h p.0 (number_first p.0 (numbers cs)))
+
+each_more : (cs : List ClassInfo) (marks : List Bool) (i : ℕ) → HasEachReady cs marks i → (((d : ℕ) → has_number d (above (bare cs) i) ≡ true → is_marked marks d ≡ true) → is_marked marks i ≡ true) → HasEachReady cs marks (i + 1)
+each_more cs marks i before here c within ready =
+    ⊎_elim
+    (λ less. before c less ready)
+    (λ same. subst (λ x. is_marked marks x ≡ true) (sym same) (here (λ d has. ready d (subst (λ x. has_number d (above (bare cs) x) ≡ true) (sym same) has))))
+    (less_or_same c i (let e : c < suc i = omega arith in e))
+
+at_false : (b : Bool) (A B C : Type 0) → (B → C) → MatchBool b A B → MatchBool b A C
+at_false true A B C to h = h
+at_false false A B C to h = to h
+
+-- a round as far as the first i classes: where none was marked, each above which all is marked was
+abbrev pub IsRound : List ClassInfo → ℕ → List Bool → Bool → ℕ → Type 0
+IsRound cs start marks changed i =
+    AreFree cs marks × MatchBool changed (unmarked marks < start) ((unmarked marks ≡ start) × HasEachReady cs marks i)
+
+-- a turn at a class that is marked, or above which not all is marked
+turn_by : (cs : List ClassInfo) (start : ℕ) (marks : List Bool) (changed : Bool) (i : ℕ) → (((d : ℕ) → has_number d (above (bare cs) i) ≡ true → is_marked marks d ≡ true) → is_marked marks i ≡ true) → IsRound cs start marks changed i → IsRound cs start marks changed (i + 1)
+turn_by cs start marks changed i here before =
+    (before.0, at_false changed (unmarked marks < start) ((unmarked marks ≡ start) × HasEachReady cs marks i) ((unmarked marks ≡ start) × HasEachReady cs marks (i + 1)) (λ h. (h.0, each_more cs marks i h.1 here)) before.1)
+
+pub turn_marked : (cs : List ClassInfo) (start : ℕ) (marks : List Bool) (changed : Bool) (i : ℕ) → is_marked marks i ≡ true → IsRound cs start marks changed i → IsRound cs start marks changed (i + 1)
+turn_marked cs start marks changed i marked = turn_by cs start marks changed i (λ ready. marked)
+
+pub turn_unready : (cs : List ClassInfo) (start : ℕ) (marks : List Bool) (changed : Bool) (i : ℕ) (info : ClassInfo) → i < length cs → info ≡ get_or cs i info → is_ready marks info ≡ false → IsRound cs start marks changed i → IsRound cs start marks changed (i + 1)
+turn_unready cs start marks changed i info within is unready =
+    turn_by cs start marks changed i
+    (λ ready. absurd (let e = ready_if_marked marks info.parent info.interfaces (λ d has. ready d (subst (λ xs. has_number d xs ≡ true) (sym (above_is cs i info within is)) has)) in cc))
+
+fewer_left : (start now next : ℕ) (changed : Bool) (E : Type 0) → suc next ≡ now → MatchBool changed (now < start) ((now ≡ start) × E) → next < start
+fewer_left start now next true E fewer h = omega arith
+fewer_left start now next false E fewer h = let same = h.0 in omega arith
+
+-- a turn that marks a class
+pub turn_marks : (cs : List ClassInfo) (start : ℕ) (marks : List Bool) (changed : Bool) (i : ℕ) (info : ClassInfo) → length marks ≡ length cs → i < length cs → info ≡ get_or cs i info → is_marked marks i ≡ false → is_ready marks info ≡ true → IsRound cs start marks changed i → IsRound cs start (set marks i true) true (i + 1)
+turn_marks cs start marks changed i info many within is free ready before =
+    (free_more cs marks i info before.0 many within is free ready, fewer_left start (unmarked marks) (unmarked (set marks i true)) changed (HasEachReady cs marks i) (unmarked_set marks i (let inside : i < length marks = omega arith in inside) free) before.1)
+
+pub unmarked_most : (marks : List Bool) → unmarked marks ≤ length marks
+unmarked_most marks = count_by-le-length not marks
+
+-- where all are marked
+pub each_of_all : (cs : List ClassInfo) (marks : List Bool) (n : ℕ) → unmarked marks ≡ 0 → n ≡ length marks → HasEachReady cs marks n
+each_of_all cs marks n none many c within ready =
+    ⊎_elim (λ marked. marked) (λ free. absurd (let e = unmarked_set marks c (let below : c < length marks = omega arith in below) free in omega arith)) (true_or_false (is_marked marks c))
 
 -- ---- what was met
 

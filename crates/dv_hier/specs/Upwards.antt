@@ -1,5 +1,5 @@
 -- What is found by going up from class to class.
-use Rattle.std.specs.Prelude.{◌≡◌, ℕ, ◌+◌, Bool, true, false, ◌&&◌, ◌||◌, not, List, [], length, count_by, Option, Some, None, slice_index_or}
+use Rattle.std.specs.Prelude.{◌≡◌, ℕ, ◌+◌, ◌<◌, Bool, true, false, ◌&&◌, ◌||◌, not, List, [], length, count_by, Option, Some, None, slice_index_or}
 use Rattle.std.specs.List.{list_all}
 use Rattle.dv_defs.specs.declared.names.ClassId.{ClassId}
 use Rattle.dv_defs.specs.declared.image.ClassInfo.{ClassInfo}
@@ -32,6 +32,11 @@ is_ready marks info = list_all (λ c. is_marked marks c.0) info.interfaces && is
 pub record AreFree (cs : List ClassInfo) (marks : List Bool) : Type 0 where
   pub closed : (c d : ℕ) → is_marked marks c ≡ true → has_number d (above (bare cs) c) ≡ true → is_marked marks d ≡ true
   pub free : (c : ℕ) → is_marked marks c ≡ true → is_self_dependent cs c ≡ false
+
+-- of the first n classes, each above which all is marked is marked
+abbrev pub HasEachReady : List ClassInfo → List Bool → ℕ → Type 0
+HasEachReady cs marks n =
+    (c : ℕ) → c < n → ((d : ℕ) → has_number d (above (bare cs) c) ≡ true → is_marked marks d ≡ true) → is_marked marks c ≡ true
 
 abbrev pub unmarked : List Bool → ℕ
 unmarked marks = count_by not marks

@@ -1,11 +1,12 @@
 // Classes that depend on themselves.
 ghost use Rattle.std.specs.Prelude.{◌≡◌, ◌<◌, ◌^◌, [], ◌∷◌, length, All, IfOk, OnOk, vec_len};
+ghost use Rattle.std.specs.Bool.{MatchBool};
 ghost use Rattle.dv_defs.specs.Images.{Image};
 ghost use Rattle.dv_defs.specs.LinkFaults.{Checks, first_fault_by, on_cycle};
 ghost use Rattle.dv_defs.specs.Linked.{defs};
 ghost use Rattle.dv_defs.specs.Order.{numbers};
 ghost use Rattle.dv_linklaws.specs.Stripped.{IsInRange, AreInRange};
-ghost use Rattle.dv_hier.specs.Upwards.{AreFree, HasMet, above_of, is_ready as ready, is_self_dependent};
+ghost use Rattle.dv_hier.specs.Upwards.{AreFree, HasEachReady, unmarked, HasMet, above_of, is_ready as ready, is_self_dependent};
 
 use crate::faults::error_of;
 use dv_defs::{ClassId, ClassInfo, LinkError, LinkKind};
@@ -27,12 +28,13 @@ fn is_ready(done: &[bool], info: &ClassInfo) -> bool
     }
 }
 
-/// Marks the classes above which all is done, those after others that this round marks among them, and tells whether there were any.
+/// Goes over the classes once and marks each above which all is marked by then. Tells whether there was one.
 fn mark_ready(infos: &[ClassInfo], done: &mut [bool]) -> bool
     requires range { AreInRange infos.now }
     requires many { length done.old ≡ length infos.now }
     requires free { AreFree infos.now done.old }
-    ensures { AreFree infos.now done.new }
+    ensures free { AreFree infos.now done.new }
+    ensures changed { MatchBool result (unmarked done.new < unmarked done.old) (HasEachReady infos.now done.new (length infos.now)) }
 {
     let mut changed = false;
     for i in 0..infos.len() {
@@ -44,11 +46,12 @@ fn mark_ready(infos: &[ClassInfo], done: &mut [bool]) -> bool
     changed
 }
 
-/// Marks classes that don't depend on themselves: all, where no class depends on itself.
+/// Marks the classes from which each way up ends, which don't depend on themselves.
 fn free_classes(alloc: Global, infos: &[ClassInfo]) -> Result<Vec<bool>, AllocError>
     requires { AreInRange infos.now }
     ensures many { IfOk result (λ done. vec_len done ≡ length infos.now) }
     ensures free { IfOk result (λ done. AreFree infos.now done.items) }
+    ensures ready { IfOk result (λ done. HasEachReady infos.now done.items (length infos.now)) }
 {
     let mut done = vec![in alloc; false; infos.len()]?;
     for round in 0..infos.len() {
@@ -67,6 +70,7 @@ struct Search {
 }
 
 impl Search {
+    /// Meets a class, which waits if it is new.
     fn meet(&mut self, id: ClassId) -> Result<(), AllocError>
         requires { id.0 < vec_len self.old.met }
         ensures { OnOk result (HasMet (id.0 ∷ []) self.old.met.items self.old.waiting.items self.new.met.items self.new.waiting.items) }
