@@ -1,12 +1,12 @@
 -- Laws of what is marked on the ways up.
-use Rattle.std.specs.Prelude.{ℕ, zero, suc, ◌≡◌, ◌≢◌, ◌+◌, ◌<◌, ◌≤◌, nat_eq, Bool, true, false, ◌&&◌, ◌||◌, not, List, [], ◌∷◌, ◌++◌, length, Option, Some, None, ◌⊎◌}
+use Rattle.std.specs.Prelude.{ℕ, zero, suc, ◌≡◌, ◌≢◌, ◌+◌, ◌<◌, nat_eq, Bool, true, false, ◌&&◌, ◌||◌, not, List, [], ◌∷◌, ◌++◌, length, Option, Some, None, ◌⊎◌}
 use Rattle.std.specs.Bool.{MatchBool}
 use Rattle.std.specs.List.{list_all}
 use Rattle.std.proofs.Common.{refl, sym, ◌∙◌, ap, subst, inl, inr, ⊎_elim, arith, cond, get_or, set, replicate, take}
 use Rattle.std.proofs.lemmas.Bool.{or_cases}
 use Rattle.std.proofs.lemmas.List.Elements.{All-get_or}
 use Rattle.std.proofs.lemmas.Option.{slice_get_read}
-use Rattle.std.proofs.lemmas.List.Sums.{sum_by-set, count_by-le-length}
+use Rattle.std.proofs.lemmas.List.Sums.{sum_by-set}
 use Rattle.std.proofs.lemmas.Bool.Decides.{eqb_tells}
 use Rattle.std.proofs.lemmas.List.{length-set, get_or-set_same, get_or-set_other, length-append, length-replicate, take_more}
 use Rattle.dv_defs.specs.declared.names.ClassId.{ClassId}
@@ -22,19 +22,9 @@ less_or_same i n within = grind arith
 
 -- ---- lists of numbers
 
-has_nothing : (w h m : Bool) → (h ≡ true → m ≡ true) → w ≡ w || (h && not m)
-has_nothing true h m f = refl
-has_nothing false false m f = refl
-has_nothing false true m f = rw (f refl) refl
-
 has_all : (h m : Bool) → (h ≡ true → m ≡ false) → h ≡ h && not m
 has_all false m f = refl
 has_all true m f = rw (f refl) refl
-
-has_already : (m h : Bool) → (h ≡ true → m ≡ true) → m ≡ m || h
-has_already true h f = refl
-has_already false false f = refl
-has_already false true f = absurd (let e : false ≡ true = f refl in cc)
 
 abbrev or_else : Bool → Bool → Bool
 or_else b c = elim b [ true ↦ true | false ↦ c ]
@@ -142,12 +132,6 @@ unmarked_all zero d = refl
 unmarked_all (suc n) zero = refl
 unmarked_all (suc n) (suc d) = unmarked_all n d
 
-pub free_none : (cs : List ClassInfo) (n : ℕ) → AreFree cs (replicate n false)
-free_none cs n = record {
-  closed = λ c d marked has. absurd (let e = unmarked_all n c in cc);
-  free = λ c marked. absurd (let e = unmarked_all n c in cc);
-}
-
 -- one more, above which all is marked
 free_more : (cs : List ClassInfo) (marks : List Bool) (i : ℕ) (info : ClassInfo) → AreFree cs marks → length marks ≡ length cs → i < length cs → info ≡ get_or cs i info → is_marked marks i ≡ false → is_ready marks info ≡ true → AreFree cs (set marks i true)
 unfolding is_self_dependent
@@ -215,23 +199,7 @@ pub turn_marks : (cs : List ClassInfo) (start : ℕ) (marks : List Bool) (change
 turn_marks cs start marks changed i info many within is free ready before =
     (free_more cs marks i info before.0 many within is free ready, fewer_left start (unmarked marks) (unmarked (set marks i true)) changed (HasEachReady cs marks i) (unmarked_set marks i (let inside : i < length marks = omega arith in inside) free) before.1)
 
-pub unmarked_most : (marks : List Bool) → unmarked marks ≤ length marks
-unmarked_most marks = count_by-le-length not marks
-
--- where all are marked
-pub each_of_all : (cs : List ClassInfo) (marks : List Bool) (n : ℕ) → unmarked marks ≡ 0 → n ≡ length marks → HasEachReady cs marks n
-each_of_all cs marks n none many c within ready =
-    ⊎_elim (λ marked. marked) (λ free. absurd (let e = unmarked_set marks c (let below : c < length marks = omega arith in below) free in omega arith)) (true_or_false (is_marked marks c))
-
 -- ---- what was met
-
-pub met_before : (marks : List Bool) (waiting : List ClassId) (id : ClassId) → is_marked marks id.0 ≡ true → HasMet (id.0 ∷ []) marks waiting marks waiting
-met_before marks waiting id met = record {
-  many = refl;
-  marked = λ d. has_already (is_marked marks d) (has_number d (id.0 ∷ [])) (λ h. rw (← only d id.0 h) met);
-  waits = λ d. has_nothing (has_number d (numbers waiting)) (has_number d (id.0 ∷ [])) (is_marked marks d) (λ h. rw (← only d id.0 h) met);
-  left = refl;
-}
 
 pub met_first : (marks : List Bool) (waiting : List ClassId) (id : ClassId) → id.0 < length marks → is_marked marks id.0 ≡ false → HasMet (id.0 ∷ []) marks waiting (set marks id.0 true) (waiting ++ id ∷ [])
 met_first marks waiting id within free = record {
@@ -276,36 +244,11 @@ met_then xs ys a u b v c w first then = record {
   left = then.left ∙ first.left;
 }
 
-pub met_none : (a : List Bool) (u : List ClassId) → HasMet [] a u a u
-met_none a u = record { many = refl; marked = λ d. has_already (is_marked a d) false (λ h. absurd (cc)); waits = λ d. has_already (has_number d (numbers u)) false (λ h. absurd (cc)); left = refl }
-
--- in another order
-met_like : (xs ys : List ℕ) (a : List Bool) (u : List ClassId) (b : List Bool) (v : List ClassId) → ((d : ℕ) → has_number d xs ≡ has_number d ys) → HasMet xs a u b v → HasMet ys a u b v
-met_like xs ys a u b v like met = record {
-  many = met.many;
-  marked = λ d. met.marked d ∙ ap (λ h. is_marked a d || h) (like d);
-  waits = λ d. met.waits d ∙ ap (λ h. has_number d (numbers u) || (h && not (is_marked a d))) (like d);
-  left = met.left;
-}
-
 -- a turn of a loop
 pub met_more : (ids : List ClassId) (i : ℕ) (id : ClassId) (a : List Bool) (u : List ClassId) (b : List Bool) (v : List ClassId) (c : List Bool) (w : List ClassId) → i < length ids → HasMet (numbers (take i ids)) a u b v → HasMet ((get_or ids i id).0 ∷ []) b v c w → HasMet (numbers (take (i + 1) ids)) a u c w
 met_more ids i id a u b v c w within first then =
     subst (λ xs. HasMet xs a u c w) (sym (ap numbers (take_more ids i id within) ∙ numbers_both (take i ids) (get_or ids i id ∷ [])))
     (met_then (numbers (take i ids)) ((get_or ids i id).0 ∷ []) a u b v c w first then)
-
-has_last : (d x : ℕ) (xs : List ℕ) → has_number d (xs ++ x ∷ []) ≡ has_number d (x ∷ xs)
-has_last d x xs = has_both d xs (x ∷ []) ∙ turned (has_number d xs) (nat_eq x d)
-  where
-    turned : (a b : Bool) → a || or_else b false ≡ or_else b a
-    turned true true = refl
-    turned true false = refl
-    turned false true = refl
-    turned false false = refl
-
-pub met_parent : (cs : List ℕ) (id : ClassId) (a : List Bool) (u : List ClassId) (b : List Bool) (v : List ClassId) (c : List Bool) (w : List ClassId) → HasMet cs a u b v → HasMet (id.0 ∷ []) b v c w → HasMet (id.0 ∷ cs) a u c w
-met_parent cs id a u b v c w first then =
-    met_like (cs ++ id.0 ∷ []) (id.0 ∷ cs) a u c w (λ d. has_last d id.0 cs) (met_then cs (id.0 ∷ []) a u b v c w first then)
 
 -- ---- a search
 
