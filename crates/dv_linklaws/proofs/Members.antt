@@ -277,6 +277,24 @@ field_numbered image is i k c f class there =
     rw (← fields_before image.classes i)
     (field_in_lists image is i k c.def.fields f (field_list_there image.classes i c class) there)
 
+-- what stands at that number
+pub field_info_numbered : (image : Image) → IsNumbered image → (i k : ℕ) (c : ClassInfo) (f : FieldDef)
+    → slice_get image.classes i ≡ Some c → slice_get c.def.fields k ≡ Some f
+    → slice_get image.fields (first_field image.classes i + k) ≡ Some (field_info i k)
+field_info_numbered image is i k c f class there =
+    let e : 0 + i ≡ i = omega arith in
+    let info = rw e at (all_get (λ j l x m. field_info j l) (field_lists image.classes) 0 0 i k c.def.fields f (field_list_there image.classes i c class) there) in
+    rw (is.fields, fields_from 0 0 image.classes, ← fields_before image.classes i) info
+
+fields_counted : (cs : List ClassInfo) → count (field_lists cs) ≡ sum_by (λ c. length c.def.fields) cs
+fields_counted [] = refl
+fields_counted (c ∷ cs) = rw (sum_by-cons (λ d. length d.def.fields) c cs) (ap (λ n. length c.def.fields + n) (fields_counted cs))
+
+-- all fields are those of the classes
+pub field_count : (image : Image) → IsNumbered image → length image.fields ≡ sum_by (λ c. length c.def.fields) image.classes
+field_count image is =
+    rw (is.fields, fields_from 0 0 image.classes, all_length (λ j k x m. field_info j k) 0 0 (field_lists image.classes)) (fields_counted image.classes)
+
 fields_all : (image : Image) → IsNumbered image → all_fields image ≡ all_from field_of 0 0 (field_lists image.classes)
 fields_all image is =
     let len : length image.fields ≡ count (field_lists image.classes) =
@@ -360,6 +378,24 @@ pub method_numbered : (image : Image) → IsNumbered image → (i k : ℕ) (c : 
 method_numbered image is i k c f class there =
     rw (← methods_before image.classes i)
     (method_in_lists image is i k c.def.methods f (method_list_there image.classes i c class) there)
+
+-- what stands at that number
+pub method_info_numbered : (image : Image) → IsNumbered image → (i k : ℕ) (c : ClassInfo) (f : MethodDef)
+    → slice_get image.classes i ≡ Some c → slice_get c.def.methods k ≡ Some f
+    → slice_get image.methods (first_method image.classes i + k) ≡ Some (method_info i k)
+method_info_numbered image is i k c f class there =
+    let e : 0 + i ≡ i = omega arith in
+    let info = rw e at (all_get (λ j l x m. method_info j l) (method_lists image.classes) 0 0 i k c.def.methods f (method_list_there image.classes i c class) there) in
+    rw (is.methods, methods_from 0 0 image.classes, ← methods_before image.classes i) info
+
+methods_counted : (cs : List ClassInfo) → count (method_lists cs) ≡ sum_by (λ c. length c.def.methods) cs
+methods_counted [] = refl
+methods_counted (c ∷ cs) = rw (sum_by-cons (λ d. length d.def.methods) c cs) (ap (λ n. length c.def.methods + n) (methods_counted cs))
+
+-- all methods are those of the classes
+pub method_count : (image : Image) → IsNumbered image → length image.methods ≡ sum_by (λ c. length c.def.methods) image.classes
+method_count image is =
+    rw (is.methods, methods_from 0 0 image.classes, all_length (λ j k x m. method_info j k) 0 0 (method_lists image.classes)) (methods_counted image.classes)
 
 methods_all : (image : Image) → IsNumbered image → all_methods image ≡ all_from method_of 0 0 (method_lists image.classes)
 methods_all image is =
