@@ -1,5 +1,5 @@
 -- The laws of cells, told of the classes alone.
-use Rattle.std.specs.Prelude.{All, ℕ, zero, suc, ◌≡◌, ◌<◌, ◌≤◌, ◌+◌, ◌-◌, ◌*◌, Bool, true, false, not, ◌&&◌, List, [], ◌∷◌, ◌++◌, length, map, take, sum_by, Option, Some, None, slice_get}
+use Rattle.std.specs.Prelude.{All, ℕ, zero, suc, ◌≡◌, ◌<◌, ◌≤◌, ◌+◌, List, [], ◌∷◌, ◌++◌, length, map, take, sum_by, Option, Some, None, slice_get}
 use Rattle.std.specs.List.{range_with_len}
 use Rattle.std.proofs.Common.{refl, ap, sym, ◌∙◌, arith, get_or, append_assoc, append-nil}
 use Rattle.std.proofs.lemmas.List.Sums.{sum_by-cons, sum_by-take-le}
@@ -8,13 +8,10 @@ use Rattle.std.proofs.Math.Seq.{get_or-append_seam}
 use Rattle.std.proofs.lemmas.List.FromFn.{get_or-map-range_with_len, length-map-range_with_len, map-range_with_len_more}
 use Rattle.dv_defs.specs.declared.names.ClassId.{ClassId}
 use Rattle.dv_defs.specs.declared.names.FieldId.{FieldId}
-use Rattle.dv_defs.specs.declared.class.ClassDef.{ClassDef}
-use Rattle.dv_defs.specs.declared.class.FieldDef.{FieldDef}
 use Rattle.dv_defs.specs.declared.image.ClassInfo.{ClassInfo}
-use Rattle.dv_defs.specs.declared.image.FieldInfo.{FieldInfo}
 use Rattle.dv_defs.specs.Pools.{class_number, parent_of}
-use Rattle.dv_defs.specs.Order.{has_number, numbers}
-use Rattle.dv_hier.specs.Slots.{has_cell, cells_from, cell_words, words_in, slot_after, infos_from, first_field, walked, superclasses, own_cells, cells_in, words_of_class, chain_cells, chain_words, object_cells, own_infos, infos_below, slots_below, total_words, IsAcyclic}
+use Rattle.dv_defs.specs.Order.{numbers}
+use Rattle.dv_hier.specs.Slots.{cells_from, words_in, first_field, walked, own_cells, words_of_class, chain_cells, chain_words}
 
 -- ---- first fields
 
@@ -110,7 +107,7 @@ pub popped_cells : (cs : List ClassInfo) (whole xs : List ClassId) (id : ClassId
     → now ++ chain_cells cs (numbers xs) ≡ all
 popped_cells cs whole xs id c first before now all is there at added so_far =
     let split : before ++ (own_cells cs id.0 ++ chain_cells cs (numbers xs)) ≡ all =
-        rw (is, numbers_append xs (id ∷ []), chain_cells_end cs (numbers xs) id.0) at so_far in
+    rw (is, numbers_append xs (id ∷ []), chain_cells_end cs (numbers xs) id.0) at so_far in
     rw (added, at, append_assoc) (rw there at split)
 
 pub popped_words : (cs : List ClassInfo) (whole xs : List ClassId) (id : ClassId) (c : ClassInfo)
@@ -118,7 +115,7 @@ pub popped_words : (cs : List ClassInfo) (whole xs : List ClassId) (id : ClassId
     → chain_words cs (numbers whole) ≡ words_in c.def c.def.fields + chain_words cs (numbers xs)
 popped_words cs whole xs id c is there =
     let split : chain_words cs (numbers whole) ≡ words_of_class (slice_get cs id.0) + chain_words cs (numbers xs) =
-        rw (is, numbers_append xs (id ∷ [])) (chain_words_end cs (numbers xs) id.0) in
+    rw (is, numbers_append xs (id ∷ [])) (chain_words_end cs (numbers xs) id.0) in
     rw there at split
 
 pub words_room : (now own rest whole all bound : ℕ) → whole ≡ own + rest → now + whole ≡ all → all < bound → now + own < bound

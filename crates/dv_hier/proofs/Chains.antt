@@ -1,7 +1,6 @@
 -- No class stands twice in a chain of superclasses, so a chain's cells are no more than all fields are.
 use Rattle.std.specs.Prelude.{ℕ, zero, suc, ◌≡◌, ◌≢◌, ◌<◌, ◌≤◌, ◌+◌, ◌-◌, ◌*◌, Bool, true, false, List, [], ◌∷◌, ◌++◌, length, map, sum_by, Option, Some, None, slice_get, nat_eq}
-use Rattle.std.specs.List.{range_with_len}
-use Rattle.std.proofs.Common.{refl, sym, ◌∙◌, arith, get_or, add-one}
+use Rattle.std.proofs.Common.{refl, arith, get_or, add-one}
 use Rattle.std.proofs.lemmas.Bool.Decides.{nat_tests}
 use Rattle.std.proofs.lemmas.List.Sums.{sum_by-cons}
 use Rattle.std.proofs.lemmas.List.FromFn.{map-range_with_len_more}
@@ -13,7 +12,7 @@ use Rattle.dv_defs.specs.declared.image.FieldInfo.{FieldInfo}
 use Rattle.dv_defs.specs.Types.{words_of, is_long}
 use Rattle.dv_defs.specs.Pools.{parent_of}
 use Rattle.dv_defs.specs.Order.{has_number}
-use Rattle.dv_hier.specs.Slots.{has_cell, cells_from, cell_words, words_in, infos_from, first_field, walked, superclasses, own_cells, words_of_class, chain_cells, chain_words, object_cells, infos_below, slots_below, IsAcyclic}
+use Rattle.dv_hier.specs.Slots.{has_cell, cells_from, cell_words, words_in, infos_from, first_field, walked, superclasses, words_of_class, chain_cells, chain_words, object_cells, infos_below, slots_below, IsAcyclic}
 
 abbrev pub IsDistinct : List ℕ → Type 0
 IsDistinct [] = Unit {0}

@@ -1,5 +1,5 @@
 -- The cells that an image has, told of its classes alone.
-use Rattle.std.specs.Prelude.{ℕ, zero, suc, ◌≡◌, ◌≢◌, ◌<◌, ◌≤◌, ◌+◌, ◌-◌, Bool, true, false, not, ◌&&◌, List, [], ◌∷◌, ◌++◌, length, map, filter, take, zip, sum_by, Option, Some, None, slice_get, nat_eq, option_map}
+use Rattle.std.specs.Prelude.{ℕ, zero, suc, ◌≡◌, ◌<◌, ◌≤◌, ◌+◌, ◌-◌, Bool, true, false, List, [], ◌∷◌, ◌++◌, length, map, filter, take, zip, sum_by, Option, Some, None, slice_get, nat_eq}
 use Rattle.std.specs.List.{range_with_len, enumerate_from}
 use Rattle.std.proofs.Common.{refl, ap, sym, ◌∙◌, arith, add-one, append-nil, append_assoc, subst}
 use Rattle.std.proofs.lemmas.Bool.Decides.{nat_tests}
@@ -14,11 +14,11 @@ use Rattle.dv_defs.specs.declared.image.ClassInfo.{ClassInfo}
 use Rattle.dv_defs.specs.declared.image.FieldInfo.{FieldInfo}
 use Rattle.dv_defs.specs.Images.{Image}
 use Rattle.dv_defs.specs.Types.{words_of}
-use Rattle.dv_defs.specs.Pools.{Field, field_at, fields_of, parent_at, parent_of, walk, supers}
+use Rattle.dv_defs.specs.Pools.{Field, field_at, fields_of, parent_at, walk, supers}
 use Rattle.dv_defs.specs.Order.{has_number}
 use Rattle.dv_defs.specs.Numbering.{class_id, numbered}
-use Rattle.dv_defs.specs.Linked.{has_cells, all_fields, cells_of_class, cells_along, slots_at, words_at, words_before, slot_of, slot_at, field_with_slot, class_with_slots, slotted}
-use Rattle.dv_linklaws.proofs.Members.{IsNumbered, numbered_is, own_from, field_of, field_info, fields_of_class, field_numbered, field_info_numbered, field_count}
+use Rattle.dv_defs.specs.Linked.{has_cells, cells_of_class, cells_along, slots_at, words_at, words_before, slot_of, slot_at, field_with_slot, class_with_slots, slotted}
+use Rattle.dv_linklaws.proofs.Members.{HasFields, numbered_fields, own_from, field_of, field_info, fields_of_class, field_numbered, field_info_numbered, field_count}
 use Rattle.dv_hier.specs.Slots.{has_cell, cells_from, cell_words, words_in, slot_after, infos_from, first_field, walked, superclasses, cells_in, own_cells, words_of_class, chain_cells, chain_words, object_cells, infos_in, infos_below, slots_below, info_with, IsAcyclic}
 use Rattle.dv_hier.proofs.Cells.{first_more}
 
@@ -43,6 +43,7 @@ cells_are_from image c info there place id (f ∷ fs) = go (has_cell info.def f)
   where
     same : has_cells image (field_of c place id f) ≡ has_cell info.def f
     same = rw there refl
+
     go : (b : Bool) → has_cell info.def f ≡ b
         → map (λ g. record { 0 = g.id }) (filter (has_cells image) (own_from field_of c (suc place) (suc id) fs)) ≡ cells_from info.def (suc id) fs
         → map (λ g. record { 0 = g.id }) (filter (has_cells image) (own_from field_of c place id (f ∷ fs))) ≡ cells_from info.def id (f ∷ fs)
@@ -54,16 +55,16 @@ own_are : (image : Image) (c id : ℕ) (o : Option ClassInfo) → slice_get imag
 own_are image c id None there = refl
 own_are image c id (Some info) there = cells_are_from image c info there 0 id info.def.fields
 
-cells_of_class_are : (image : Image) → IsNumbered image → (c : ℕ) → cells_of_class image c ≡ own_cells image.classes c
+cells_of_class_are : (image : Image) → HasFields image → (c : ℕ) → cells_of_class image c ≡ own_cells image.classes c
 cells_of_class_are image is c =
     ap (λ fs. map (λ (f : Field). record { 0 = f.id }) fs) (fields_of_class image is (has_cells image) c)
     ∙ own_are image c (first_field image.classes c) (slice_get image.classes c) refl
 
-cells_along_are : (image : Image) → IsNumbered image → (cs : List ℕ) → cells_along image cs ≡ chain_cells image.classes cs
+cells_along_are : (image : Image) → HasFields image → (cs : List ℕ) → cells_along image cs ≡ chain_cells image.classes cs
 cells_along_are image is [] = refl
 cells_along_are image is (c ∷ cs) = rw (cells_along_are image is cs, cells_of_class_are image is c) refl
 
-slots_are : (image : Image) → IsNumbered image → (c : ℕ) → c < length image.classes → slots_at image c ≡ object_cells image.classes c
+slots_are : (image : Image) → HasFields image → (c : ℕ) → c < length image.classes → slots_at image c ≡ object_cells image.classes c
 slots_are image is c within =
     ap (cells_along image) (supers_are image c within) ∙ cells_along_are image is (c ∷ superclasses image.classes c)
 
@@ -84,7 +85,7 @@ stand_next image c place id f fs stand k g there =
     let e : suc id + k ≡ id + suc k = omega arith in let z : suc place + k ≡ place + suc k = omega arith in
     rw (e, z) (stand (suc k) g there)
 
-stand_all : (image : Image) → IsNumbered image → (c : ℕ) (info : ClassInfo) → slice_get image.classes c ≡ Some info
+stand_all : (image : Image) → HasFields image → (c : ℕ) (info : ClassInfo) → slice_get image.classes c ≡ Some info
     → Stand image c 0 (first_field image.classes c) info.def.fields
 stand_all image is c info class k f there =
     let z : 0 + k ≡ k = omega arith in rw z (field_numbered image is c k info f class there)
@@ -106,17 +107,18 @@ own_words_are image c place id def (f ∷ fs) stand =
   where
     here : words_at image id ≡ words_of f.ty
     here = rw (stand_here image c place id f fs stand, words_at) refl
+
     go : (b : Bool) → has_cell def f ≡ b → words_along image (cells_from def (suc id) fs) ≡ words_in def fs
         → words_along image (cells_from def id (f ∷ fs)) ≡ words_in def (f ∷ fs)
     go true e rest = rw (e, cells_from, words_in, cell_words) (rw (here, rest) refl)
     go false e rest = rw (e, cells_from, words_in, cell_words) (rw rest (omega arith))
 
-words_of_own : (image : Image) → IsNumbered image → (c : ℕ) (o : Option ClassInfo) → slice_get image.classes c ≡ o
+words_of_own : (image : Image) → HasFields image → (c : ℕ) (o : Option ClassInfo) → slice_get image.classes c ≡ o
     → words_along image (cells_in (first_field image.classes c) o) ≡ words_of_class o
 words_of_own image is c None there = refl
 words_of_own image is c (Some info) there = own_words_are image c 0 (first_field image.classes c) info.def info.def.fields (stand_all image is c info there)
 
-words_of_chain : (image : Image) → IsNumbered image → (cs : List ℕ) → words_along image (chain_cells image.classes cs) ≡ chain_words image.classes cs
+words_of_chain : (image : Image) → HasFields image → (cs : List ℕ) → words_along image (chain_cells image.classes cs) ≡ chain_words image.classes cs
 words_of_chain image is [] = refl
 words_of_chain image is (c ∷ cs) =
     let h : words_along image (chain_cells image.classes cs) ≡ chain_words image.classes cs = words_of_chain image is cs in
@@ -163,7 +165,7 @@ own_other image c place id def (f ∷ fs) stand x g at differ =
     go true e rest = rw (e, cells_from) (unlike image id x (field_of c place id f) g (stand_here image c place id f fs stand) at differ, rest)
     go false e rest = rw (e, cells_from) rest
 
-class_other : (image : Image) → IsNumbered image → (c : ℕ) (o : Option ClassInfo) → slice_get image.classes c ≡ o
+class_other : (image : Image) → HasFields image → (c : ℕ) (o : Option ClassInfo) → slice_get image.classes c ≡ o
     → (x : ℕ) (g : Field) → field_at image x ≡ Some g → nat_eq c g.info.class.0 ≡ false → AreOther x (cells_in (first_field image.classes c) o)
 class_other image is c None there x g at differ = tt
 class_other image is c (Some info) there x g at differ =
@@ -173,7 +175,7 @@ neither : (b h : Bool) → elim b [ true ↦ true | false ↦ h ] ≡ false → 
 neither true h none = absurd (cc)
 neither false h none = (refl, none)
 
-chain_other : (image : Image) → IsNumbered image → (cs : List ℕ) (x : ℕ) (g : Field) → field_at image x ≡ Some g
+chain_other : (image : Image) → HasFields image → (cs : List ℕ) (x : ℕ) (g : Field) → field_at image x ≡ Some g
     → has_number g.info.class.0 cs ≡ false → AreOther x (chain_cells image.classes cs)
 chain_other image is [] x g at none = tt
 chain_other image is (c ∷ cs) x g at none =
@@ -201,8 +203,10 @@ own_before image c place id def (g ∷ fs) (suc k) f stand there cell =
   where
     here : words_at image id ≡ words_of g.ty
     here = rw (stand_here image c place id g fs stand, words_at) refl
+
     apart : nat_eq id (suc id + k) ≡ false
     apart = grind (arith, nat_tests)
+
     go : (b : Bool) → has_cell def g ≡ b
         → words_before image (suc id + k) (cells_from def (suc id) fs) ≡ words_in def (take k fs)
         → words_before image (suc id + k) (cells_from def id (g ∷ fs)) ≡ words_in def (take (suc k) (g ∷ fs))
@@ -211,25 +215,30 @@ own_before image c place id def (g ∷ fs) (suc k) f stand there cell =
 
 -- ---- slots
 
-slot_is : (image : Image) → IsNumbered image → IsAcyclic image.classes → (i k : ℕ) (info : ClassInfo) (f : FieldDef)
+slot_is : (image : Image) → HasFields image → IsAcyclic image.classes → (i k : ℕ) (info : ClassInfo) (f : FieldDef)
     → slice_get image.classes i ≡ Some info → slice_get info.def.fields k ≡ Some f
     → slot_at image (first_field image.classes i + k)
-        ≡ slot_after info.def (chain_words image.classes (superclasses image.classes i) + words_in info.def (take k info.def.fields)) f
+    ≡ slot_after info.def (chain_words image.classes (superclasses image.classes i) + words_in info.def (take k info.def.fields)) f
 slot_is image is acyclic i k info f class there = rw (at, slot_at) (go (has_cell info.def f) refl)
   where
     x : ℕ
     x = first_field image.classes i + k
+
     at : field_at image (first_field image.classes i + k) ≡ Some (field_of i k (first_field image.classes i + k) f)
     at = field_numbered image is i k info f class there
+
     same : has_cells image (field_of i k (first_field image.classes i + k) f) ≡ has_cell info.def f
     same = rw class refl
+
     within : i < length image.classes
     within = slice_get_within image.classes i info class
+
     own : own_cells image.classes i ≡ cells_from info.def (first_field image.classes i) info.def.fields
     own = rw class refl
+
     go : (b : Bool) → has_cell info.def f ≡ b
         → slot_of image (field_of i k (first_field image.classes i + k) f)
-            ≡ slot_after info.def (chain_words image.classes (superclasses image.classes i) + words_in info.def (take k info.def.fields)) f
+        ≡ slot_after info.def (chain_words image.classes (superclasses image.classes i) + words_in info.def (take k info.def.fields)) f
     go false e = let h = same ∙ e in rw (h, slot_of, e, slot_after) refl
     go true e =
         let h = same ∙ e in
@@ -237,8 +246,8 @@ slot_is image is acyclic i k info f class there = rw (at, slot_at) (go (has_cell
         let split = before_append image (first_field image.classes i + k) (chain_cells image.classes (superclasses image.classes i)) (own_cells image.classes i) others in
         let last = own_before image i 0 (first_field image.classes i) info.def info.def.fields k f (stand_all image is i info class) there e in
         let cells : words_before image (first_field image.classes i + k) (slots_at image i) ≡ chain_words image.classes (superclasses image.classes i) + words_in info.def (take k info.def.fields) =
-            ap (words_before image (first_field image.classes i + k)) (slots_are image is i within)
-            ∙ (split ∙ rw (own, last, words_of_chain image is (superclasses image.classes i)) refl) in
+        ap (words_before image (first_field image.classes i + k)) (slots_are image is i within)
+        ∙ (split ∙ rw (own, last, words_of_chain image is (superclasses image.classes i)) refl) in
         rw (h, slot_of, e, slot_after) cells
 
 infos_get : (def : ClassDef) (i place words : ℕ) (fs : List FieldDef) (k : ℕ) (y : FieldInfo) → slice_get (infos_from def i place words fs) k ≡ Some y
@@ -271,7 +280,7 @@ take_more_all xs (y ∷ ys) n same =
     let here : slice_get xs n ≡ Some y = rw z at (same 0 y refl) in
     let e : n + suc (length ys) ≡ suc n + length ys = omega arith in
     let rest : take (suc n) xs ++ ys ≡ take (suc n + length ys) xs =
-        take_more_all xs ys (suc n) (λ k w there. let f : suc n + k ≡ n + suc k = omega arith in rw f (same (suc k) w there)) in
+    take_more_all xs ys (suc n) (λ k w there. let f : suc n + k ≡ n + suc k = omega arith in rw f (same (suc k) w there)) in
     let opened : (take n xs ++ y ∷ []) ++ ys ≡ take (suc n + length ys) xs = rw (take_one xs n y here) at rest in
     rw e (sym (append_assoc (take n xs) (y ∷ []) ys) ∙ opened)
 
@@ -290,7 +299,7 @@ present (x ∷ xs) (suc n) within none = present xs n (omega arith) none
 abbrev with_slots : Image → List FieldInfo
 with_slots image = map (field_with_slot image) (enumerate_from 0 image.fields)
 
-with_slot_at : (image : Image) → IsNumbered image → IsAcyclic image.classes → (i : ℕ) (info : ClassInfo) → slice_get image.classes i ≡ Some info
+with_slot_at : (image : Image) → HasFields image → IsAcyclic image.classes → (i : ℕ) (info : ClassInfo) → slice_get image.classes i ≡ Some info
     → (k : ℕ) (y : FieldInfo) → slice_get (infos_from info.def i 0 (chain_words image.classes (superclasses image.classes i)) info.def.fields) k ≡ Some y
     → slice_get (with_slots image) (first_field image.classes i + k) ≡ Some y
 with_slot_at image is acyclic i info class k y there =
@@ -303,18 +312,18 @@ with_slot_at image is acyclic i info class k y there =
     rw (slice_get-map (field_with_slot image) (enumerate_from 0 image.fields) (first_field image.classes i + k), counted, w)
     (rw (slot_is image is acyclic i k info got.0 class got.1.0) (ap (λ v. Some v) (sym (rw z at got.1.1))))
 
-below_more : (image : Image) → IsNumbered image → IsAcyclic image.classes → (n : ℕ) (o : Option ClassInfo) → n < length image.classes → slice_get image.classes n ≡ o
+below_more : (image : Image) → HasFields image → IsAcyclic image.classes → (n : ℕ) (o : Option ClassInfo) → n < length image.classes → slice_get image.classes n ≡ o
     → take (first_field image.classes n) (with_slots image) ++ infos_in n (chain_words image.classes (superclasses image.classes n)) o
-        ≡ take (first_field image.classes (n + 1)) (with_slots image)
+    ≡ take (first_field image.classes (n + 1)) (with_slots image)
 below_more image is acyclic n None within there = absurd (present image.classes n within there)
 below_more image is acyclic n (Some info) within there =
     let own = infos_from info.def n 0 (chain_words image.classes (superclasses image.classes n)) info.def.fields in
     let grown = take_more_all (with_slots image) own (first_field image.classes n) (with_slot_at image is acyclic n info there) in
     let more : first_field image.classes (n + 1) ≡ first_field image.classes n + length own =
-        first_more image.classes n info there ∙ ap (λ m. first_field image.classes n + m) (sym (infos_length info.def n 0 (chain_words image.classes (superclasses image.classes n)) info.def.fields)) in
+    first_more image.classes n info there ∙ ap (λ m. first_field image.classes n + m) (sym (infos_length info.def n 0 (chain_words image.classes (superclasses image.classes n)) info.def.fields)) in
     rw more grown
 
-infos_are : (image : Image) → IsNumbered image → IsAcyclic image.classes → (n : ℕ) → n ≤ length image.classes
+infos_are : (image : Image) → HasFields image → IsAcyclic image.classes → (n : ℕ) → n ≤ length image.classes
     → infos_below image.classes n ≡ take (first_field image.classes n) (with_slots image)
 infos_are image is acyclic zero less = refl
 infos_are image is acyclic (suc n) less =
@@ -322,15 +331,15 @@ infos_are image is acyclic (suc n) less =
     let more = below_more image is acyclic n (slice_get image.classes n) (omega arith) refl in
     rw so_far (rw add-one at more)
 
-pub slotted_fields : (image : Image) → IsNumbered image → IsAcyclic image.classes
+pub slotted_fields : (image : Image) → HasFields image → IsAcyclic image.classes
     → infos_below image.classes (length image.classes) ≡ (slotted image).fields
 unfolding slotted
 slotted_fields image is acyclic =
     let all : take (length image.classes) image.classes ≡ image.classes = take-length image.classes in
     let many : first_field image.classes (length image.classes) ≡ length image.fields =
-        ap (λ cs. sum_by (λ (c : ClassInfo). length c.def.fields) cs) all ∙ sym (field_count image is) in
+    ap (λ cs. sum_by (λ (c : ClassInfo). length c.def.fields) cs) all ∙ sym (field_count image is) in
     let as_many : length (with_slots image) ≡ length image.fields =
-        length-map (enumerate_from 0 image.fields) (field_with_slot image) ∙ length-enumerate_from 0 image.fields in
+    length-map (enumerate_from 0 image.fields) (field_with_slot image) ∙ length-enumerate_from 0 image.fields in
     let enough : length (with_slots image) ≤ first_field image.classes (length image.classes) = omega (arith, many, as_many) in
     infos_are image is acyclic (length image.classes) (omega arith) ∙ take_all (first_field image.classes (length image.classes)) (with_slots image) enough
 
@@ -347,7 +356,7 @@ joined_are image cells a (c ∷ cs) same =
     let rest = joined_are image cells (a + 1) cs (λ k within. let e : (a + 1) + k ≡ a + suc k = omega arith in rw e (same (suc k) (omega arith))) in
     rw here (ap (λ ds. class_with_slots image (a, c) ∷ ds) rest)
 
-pub slotted_classes : (image : Image) → IsNumbered image
+pub slotted_classes : (image : Image) → HasFields image
     → map info_with (zip image.classes (slots_below image.classes (length image.classes))) ≡ (slotted image).classes
 unfolding slotted
 slotted_classes image is =
@@ -360,10 +369,10 @@ pub made_classes : (cs : List ClassDef) (boot : ℕ) (infos made : List ClassInf
     → slots ≡ slots_below infos (length infos) → made ≡ map info_with (zip infos slots) → made ≡ (slotted (numbered cs boot)).classes
 made_classes cs boot infos made slots are laid joined =
     joined ∙ (ap (λ ss. map info_with (zip infos ss)) laid
-    ∙ (ap (λ ds. map info_with (zip ds (slots_below ds (length ds)))) are ∙ slotted_classes (numbered cs boot) (numbered_is cs boot)))
+    ∙ (ap (λ ds. map info_with (zip ds (slots_below ds (length ds)))) are ∙ slotted_classes (numbered cs boot) (numbered_fields cs boot)))
 
 pub made_fields : (cs : List ClassDef) (boot : ℕ) (infos : List ClassInfo) (fields : List FieldInfo) → infos ≡ (numbered cs boot).classes
     → IsAcyclic infos → fields ≡ infos_below infos (length infos) → fields ≡ (slotted (numbered cs boot)).fields
 made_fields cs boot infos fields are acyclic laid =
     laid ∙ (ap (λ ds. infos_below ds (length ds)) are
-    ∙ slotted_fields (numbered cs boot) (numbered_is cs boot) (subst (λ ds. IsAcyclic ds) are acyclic))
+    ∙ slotted_fields (numbered cs boot) (numbered_fields cs boot) (subst (λ ds. IsAcyclic ds) are acyclic))

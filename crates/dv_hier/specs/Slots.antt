@@ -1,7 +1,6 @@
 -- The cells of objects, told of the classes alone.
 use Rattle.std.specs.Prelude.{◌≡◌, ℕ, zero, suc, ◌+◌, ◌-◌, Bool, true, false, ◌&&◌, not, List, [], ◌∷◌, ◌++◌, length, map, take, sum_by, Option, Some, None, slice_get}
 use Rattle.std.specs.List.{range_with_len}
-use Rattle.dv_defs.specs.declared.names.ClassId.{ClassId}
 use Rattle.dv_defs.specs.declared.names.FieldId.{FieldId}
 use Rattle.dv_defs.specs.declared.class.ClassDef.{ClassDef}
 use Rattle.dv_defs.specs.declared.class.FieldDef.{FieldDef}
@@ -10,7 +9,7 @@ use Rattle.dv_defs.specs.declared.image.FieldInfo.{FieldInfo}
 use Rattle.dv_defs.specs.declared.flags.Flag.TheVariants as flag
 use Rattle.dv_defs.specs.Flags.{has_flag}
 use Rattle.dv_defs.specs.Types.{words_of}
-use Rattle.dv_defs.specs.Pools.{class_number, parent_of, fields_of}
+use Rattle.dv_defs.specs.Pools.{parent_of}
 use Rattle.dv_defs.specs.Order.{has_number}
 use Rattle.dv_defs.specs.Numbering.{class_id}
 

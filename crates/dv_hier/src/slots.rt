@@ -1,5 +1,5 @@
 // The cells of objects, and the fields by number.
-ghost use Rattle.std.specs.Prelude.{◌≡◌, ◌<◌, ◌≤◌, ◌+◌, ◌*◌, ◌^◌, ◌++◌, ℕ, List, length, map, sum_by, zip, All, None, IfOk, OnOk};
+ghost use Rattle.std.specs.Prelude.{◌≡◌, ◌<◌, ◌+◌, ◌^◌, ◌++◌, ℕ, List, length, map, sum_by, zip, All, None, IfOk, OnOk};
 ghost use Rattle.std.specs.List.{range_with_len};
 ghost use Rattle.dv_defs.specs.declared.class.ClassDef.{ClassDef};
 ghost use Rattle.dv_defs.specs.Images.{Image};
@@ -14,7 +14,7 @@ ghost use Rattle.dv_linklaws.specs.Stripped.{AreInRange};
 use dv_defs::{Base, ClassDef, ClassId, ClassInfo, FieldDef, FieldId, FieldInfo, Flag, Seq, Ty};
 use std::alloc::{AllocError, Global};
 
-// A long has two words.
+/// How many words a value of the type has.
 fn words_of(ty: &Ty) -> u32
     ensures { result ≡ types.words_of ty.now }
 {
@@ -25,14 +25,14 @@ fn words_of(ty: &Ty) -> u32
     }
 }
 
-// Whether a field of the class has a cell in an object.
+/// Whether a field of the class has a cell in an object.
 fn has_cell(class: &ClassDef, field: &FieldDef) -> bool
     ensures { result ≡ spec.has_cell class.now field.now }
 {
     !Flag::Static.is_in(field.flags) && !Flag::Interface.is_in(class.flags)
 }
 
-// The fields of cells in their order, and how many words the cells have.
+/// The fields of cells in their order, and how many words the cells have.
 #[derive(Drop)]
 struct Cells {
     fields: Vec<FieldId>,
@@ -40,7 +40,7 @@ struct Cells {
 }
 
 impl Cells {
-    // Adds a class's own cells. `first` is the number of its first field.
+    /// Adds a class's own cells. `first` is the number of its first field.
     fn add(&mut self, class: &ClassDef, first: u32) -> Result<(), AllocError>
         requires few_fields { first + length class.now.fields < 2 ^ 32 }
         requires few_words { self.old.words + spec.words_in class.now class.now.fields < 2 ^ 32 }
@@ -57,7 +57,7 @@ impl Cells {
     }
 }
 
-// Adds a class's fields. The superclasses' cells have so many words.
+/// Adds a class's fields, with the slots of its cells, which stand after `words` words of its superclasses' cells.
 fn add_fields(
     fields: &mut Vec<FieldInfo>,
     class: &ClassDef,
@@ -75,12 +75,16 @@ fn add_fields(
             slot = end;
             end += words_of(&field.ty);
         }
-        fields.push(FieldInfo { class: id, place: place as u32, slot })?;
+        fields.push(FieldInfo {
+            class: id,
+            place: place as u32,
+            slot,
+        })?;
     }
     Ok(())
 }
 
-// The number of each class's first field.
+/// The number of each class's first field.
 fn first_fields(alloc: Global, infos: &[ClassInfo]) -> Result<Vec<u32>, AllocError>
     requires few_fields { sum_by (λ c. length c.def.fields) infos.now < 2 ^ 31 }
     ensures { IfOk result (λ firsts. firsts.items ≡ map (spec.first_field infos.now) (range_with_len 0 (length infos.now))) }
@@ -94,8 +98,12 @@ fn first_fields(alloc: Global, infos: &[ClassInfo]) -> Result<Vec<u32>, AllocErr
     Ok(firsts)
 }
 
-// The superclasses of a class, nearest first.
-fn superclasses(alloc: Global, infos: &[ClassInfo], class: usize) -> Result<Vec<ClassId>, AllocError>
+/// The superclasses of a class, nearest first.
+fn superclasses(
+    alloc: Global,
+    infos: &[ClassInfo],
+    class: usize,
+) -> Result<Vec<ClassId>, AllocError>
     requires range { AreInRange infos.now }
     requires class { class < length infos.now }
     ensures chain { IfOk result (λ chain. numbers chain.items ≡ spec.superclasses infos.now class) }
@@ -113,8 +121,13 @@ fn superclasses(alloc: Global, infos: &[ClassInfo], class: usize) -> Result<Vec<
     Ok(chain)
 }
 
-// The cells of these classes, the last one's first.
-fn inherited(alloc: Global, infos: &[ClassInfo], firsts: &[u32], mut chain: Vec<ClassId>) -> Result<Cells, AllocError>
+/// The cells of a chain of superclasses, nearest first. The farthest one's cells come first.
+fn inherited(
+    alloc: Global,
+    infos: &[ClassInfo],
+    firsts: &[u32],
+    mut chain: Vec<ClassId>,
+) -> Result<Cells, AllocError>
     requires range { All (λ c. c.0 < length infos.now) chain.items }
     requires few_fields { sum_by (λ c. length c.def.fields) infos.now < 2 ^ 31 }
     requires few_words { spec.chain_words infos.now (numbers chain.items) < 2 ^ 32 }
@@ -122,7 +135,10 @@ fn inherited(alloc: Global, infos: &[ClassInfo], firsts: &[u32], mut chain: Vec<
     ensures fields { IfOk result (λ cells. cells.fields.items ≡ spec.chain_cells infos.now (numbers chain.items)) }
     ensures words { IfOk result (λ cells. cells.words ≡ spec.chain_words infos.now (numbers chain.items)) }
 {
-    let mut cells = Cells { fields: Vec::new(alloc), words: 0 };
+    let mut cells = Cells {
+        fields: Vec::new(alloc),
+        words: 0,
+    };
     while let Some(id) = chain.pop() {
         let class = id.0 as usize;
         cells.add(&infos[class].def, firsts[class])?;
@@ -130,13 +146,14 @@ fn inherited(alloc: Global, infos: &[ClassInfo], firsts: &[u32], mut chain: Vec<
     Ok(cells)
 }
 
-// The cells of each class's objects, and the fields with their slots.
+/// The cells of each class's objects, and the fields with their slots.
 #[derive(Drop)]
 struct Layout {
     slots: Vec<Seq<FieldId>>,
     fields: Vec<FieldInfo>,
 }
 
+/// The layout of all classes. `firsts` are the numbers of their first fields.
 fn lay_out(alloc: Global, infos: &[ClassInfo], firsts: &[u32]) -> Result<Layout, AllocError>
     requires range { AreInRange infos.now }
     requires few { length infos.now < 2 ^ 32 }
@@ -146,24 +163,46 @@ fn lay_out(alloc: Global, infos: &[ClassInfo], firsts: &[u32]) -> Result<Layout,
     ensures slots { IfOk result (λ layout. layout.slots.items ≡ spec.slots_below infos.now (length infos.now)) }
     ensures fields { IfOk result (λ layout. layout.fields.items ≡ spec.infos_below infos.now (length infos.now)) }
 {
-    let mut layout = Layout { slots: Vec::new(alloc), fields: Vec::new(alloc) };
+    let mut layout = Layout {
+        slots: Vec::new(alloc),
+        fields: Vec::new(alloc),
+    };
     for (class, info) in infos.iter().enumerate() {
         let chain = superclasses(alloc, infos, class)?;
         let mut cells = inherited(alloc, infos, firsts, chain)?;
-        add_fields(&mut layout.fields, &info.def, ClassId(class as u32), cells.words)?;
+        add_fields(
+            &mut layout.fields,
+            &info.def,
+            ClassId(class as u32),
+            cells.words,
+        )?;
         cells.add(&info.def, firsts[class])?;
         layout.slots.push(Seq::of(cells.fields))?;
     }
     Ok(layout)
 }
 
+/// The class with these cells.
 fn with_slots(info: ClassInfo, slots: Seq<FieldId>) -> ClassInfo
     ensures { result ≡ spec.info_with (info, slots) }
 {
-    let ClassInfo { def, parent, interfaces, slots: _, table } = info;
-    ClassInfo { def, parent, interfaces, slots, table }
+    let ClassInfo {
+        def,
+        parent,
+        interfaces,
+        slots: _,
+        table,
+    } = info;
+    ClassInfo {
+        def,
+        parent,
+        interfaces,
+        slots,
+        table,
+    }
 }
 
+/// Each class with its cells.
 fn joined(
     alloc: Global,
     infos: Vec<ClassInfo>,
@@ -178,7 +217,7 @@ fn joined(
         .collect(alloc)
 }
 
-/// The classes with the cells of their objects.
+/// The classes with the cells of their objects, and all fields by number with their slots.
 pub fn add_slots(
     alloc: Global,
     infos: Vec<ClassInfo>,

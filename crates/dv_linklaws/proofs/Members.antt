@@ -1,7 +1,7 @@
 -- Laws of members by number: the members of a class stand together, from the number of the earlier classes' members on.
 use Rattle.std.specs.Prelude.{ℕ, zero, suc, ◌≡◌, ◌<◌, ◌+◌, Bool, true, false, ◌&&◌, List, [], ◌∷◌, ◌++◌, length, map, take, filter, filter_map, find, sum_by, Option, Some, None, slice_get, slice_index_or, nat_eq}
-use Rattle.std.specs.List.{range_with_len, cons_option}
-use Rattle.std.proofs.Common.{refl, ap, sym, arith}
+use Rattle.std.specs.List.{range_with_len, cons_option, enumerate_from}
+use Rattle.std.proofs.Common.{refl, ap, sym, ◌∙◌, arith}
 use Rattle.std.proofs.lemmas.List.{append-nil}
 use Rattle.std.proofs.lemmas.Bool.Decides.{nat_tests}
 use Rattle.std.proofs.lemmas.List.Elements.{filter-append, filter_map-append}
@@ -16,7 +16,7 @@ use Rattle.dv_defs.specs.declared.image.MethodInfo.{MethodInfo}
 use Rattle.dv_defs.specs.Images.{Image}
 use Rattle.dv_defs.specs.Pools.{Method, Field, method_at, field_at, methods_of, fields_of, pick, declared_by, with_info}
 use Rattle.dv_defs.specs.Numbering.{class_id, class_numbered, declared, numbered, all_methods_declared, all_fields_declared}
-use Rattle.dv_defs.specs.Linked.{all_fields, all_methods, defs}
+use Rattle.dv_defs.specs.Linked.{all_fields, all_methods, defs, class_with_slots, class_with_table, slotted, tabled}
 
 -- ---- lists
 
@@ -189,20 +189,41 @@ all_of_class make class_of test is (ms ∷ mss) i id (suc c) =
 
 -- ---- an image whose members are numbered as they are declared
 
-pub record IsNumbered (image : Image) : Type 0 where
-  pub methods : image.methods ≡ all_methods_declared 0 (defs image.classes)
-  pub fields : image.fields ≡ all_fields_declared 0 (defs image.classes)
+abbrev pub HasMethods : Image → Type 0
+HasMethods image = image.methods ≡ all_methods_declared 0 (defs image.classes)
+
+abbrev pub HasFields : Image → Type 0
+HasFields image = image.fields ≡ all_fields_declared 0 (defs image.classes)
 
 defs_numbered : (image : Image) (cs : List ClassDef) → defs (map (class_numbered image) cs) ≡ cs
 defs_numbered image [] = refl
 defs_numbered image (c ∷ cs) = ap (λ ds. c ∷ ds) (defs_numbered image cs)
 
-pub numbered_is : (cs : List ClassDef) (boot : ℕ) → IsNumbered (numbered cs boot)
+pub numbered_methods : (cs : List ClassDef) (boot : ℕ) → HasMethods (numbered cs boot)
 unfolding numbered
-numbered_is cs boot = record {
-  methods = ap (all_methods_declared 0) (sym (defs_numbered (declared cs boot) cs));
-  fields = ap (all_fields_declared 0) (sym (defs_numbered (declared cs boot) cs));
-}
+numbered_methods cs boot = ap (all_methods_declared 0) (sym (defs_numbered (declared cs boot) cs))
+
+pub numbered_fields : (cs : List ClassDef) (boot : ℕ) → HasFields (numbered cs boot)
+unfolding numbered
+numbered_fields cs boot = ap (all_fields_declared 0) (sym (defs_numbered (declared cs boot) cs))
+
+defs_slotted : (image : Image) (a : ℕ) (cs : List ClassInfo) → defs (map (class_with_slots image) (enumerate_from a cs)) ≡ defs cs
+defs_slotted image a [] = refl
+defs_slotted image a (c ∷ cs) = ap (λ ds. c.def ∷ ds) (defs_slotted image (a + 1) cs)
+
+defs_tabled : (image : Image) (a : ℕ) (cs : List ClassInfo) → defs (map (class_with_table image) (enumerate_from a cs)) ≡ defs cs
+defs_tabled image a [] = refl
+defs_tabled image a (c ∷ cs) = ap (λ ds. c.def ∷ ds) (defs_tabled image (a + 1) cs)
+
+-- slots leave the methods as they are
+pub slotted_methods : (image : Image) → HasMethods image → HasMethods (slotted image)
+unfolding slotted
+slotted_methods image has = has ∙ ap (all_methods_declared 0) (sym (defs_slotted image 0 image.classes))
+
+-- and so do tables
+pub tabled_methods : (image : Image) → HasMethods image → HasMethods (tabled image)
+unfolding tabled
+tabled_methods image has = has ∙ ap (all_methods_declared 0) (sym (defs_tabled image 0 image.classes))
 
 own_numbered : {M X : Type 0} (make : ℕ → ℕ → X) (i k id : ℕ) (ms : List M)
     → map (make i) (range_with_len k (length ms)) ≡ own_from (λ j l x m. make j l) i k id ms
@@ -260,17 +281,17 @@ field_list_there [] i c is = absurd (cc)
 field_list_there (d ∷ cs) zero c is = let same : d ≡ c = cc in rw same refl
 field_list_there (d ∷ cs) (suc i) c is = field_list_there cs i c is
 
-field_in_lists : (image : Image) → IsNumbered image → (i k : ℕ) (fs : List FieldDef) (f : FieldDef)
+field_in_lists : (image : Image) → HasFields image → (i k : ℕ) (fs : List FieldDef) (f : FieldDef)
     → slice_get (field_lists image.classes) i ≡ Some fs → slice_get fs k ≡ Some f
     → field_at image (before (field_lists image.classes) i + k) ≡ Some (field_of i k (before (field_lists image.classes) i + k) f)
 unfolding field_at
 field_in_lists image is i k fs f class there =
     let e : 0 + i ≡ i = omega arith in
     let info = rw e at (all_get (λ j l x m. field_info j l) (field_lists image.classes) 0 0 i k fs f class there) in
-    rw (is.fields, fields_from 0 0 image.classes, info, field_list_is image.classes i fs class, there) refl
+    rw (is, fields_from 0 0 image.classes, info, field_list_is image.classes i fs class, there) refl
 
 -- field k of class i has the number of the earlier classes' fields, and k
-pub field_numbered : (image : Image) → IsNumbered image → (i k : ℕ) (c : ClassInfo) (f : FieldDef)
+pub field_numbered : (image : Image) → HasFields image → (i k : ℕ) (c : ClassInfo) (f : FieldDef)
     → slice_get image.classes i ≡ Some c → slice_get c.def.fields k ≡ Some f
     → field_at image (first_field image.classes i + k) ≡ Some (field_of i k (first_field image.classes i + k) f)
 field_numbered image is i k c f class there =
@@ -278,27 +299,27 @@ field_numbered image is i k c f class there =
     (field_in_lists image is i k c.def.fields f (field_list_there image.classes i c class) there)
 
 -- what stands at that number
-pub field_info_numbered : (image : Image) → IsNumbered image → (i k : ℕ) (c : ClassInfo) (f : FieldDef)
+pub field_info_numbered : (image : Image) → HasFields image → (i k : ℕ) (c : ClassInfo) (f : FieldDef)
     → slice_get image.classes i ≡ Some c → slice_get c.def.fields k ≡ Some f
     → slice_get image.fields (first_field image.classes i + k) ≡ Some (field_info i k)
 field_info_numbered image is i k c f class there =
     let e : 0 + i ≡ i = omega arith in
     let info = rw e at (all_get (λ j l x m. field_info j l) (field_lists image.classes) 0 0 i k c.def.fields f (field_list_there image.classes i c class) there) in
-    rw (is.fields, fields_from 0 0 image.classes, ← fields_before image.classes i) info
+    rw (is, fields_from 0 0 image.classes, ← fields_before image.classes i) info
 
 fields_counted : (cs : List ClassInfo) → count (field_lists cs) ≡ sum_by (λ c. length c.def.fields) cs
 fields_counted [] = refl
 fields_counted (c ∷ cs) = rw (sum_by-cons (λ d. length d.def.fields) c cs) (ap (λ n. length c.def.fields + n) (fields_counted cs))
 
 -- all fields are those of the classes
-pub field_count : (image : Image) → IsNumbered image → length image.fields ≡ sum_by (λ c. length c.def.fields) image.classes
+pub field_count : (image : Image) → HasFields image → length image.fields ≡ sum_by (λ c. length c.def.fields) image.classes
 field_count image is =
-    rw (is.fields, fields_from 0 0 image.classes, all_length (λ j k x m. field_info j k) 0 0 (field_lists image.classes)) (fields_counted image.classes)
+    rw (is, fields_from 0 0 image.classes, all_length (λ j k x m. field_info j k) 0 0 (field_lists image.classes)) (fields_counted image.classes)
 
-fields_all : (image : Image) → IsNumbered image → all_fields image ≡ all_from field_of 0 0 (field_lists image.classes)
+fields_all : (image : Image) → HasFields image → all_fields image ≡ all_from field_of 0 0 (field_lists image.classes)
 fields_all image is =
     let len : length image.fields ≡ count (field_lists image.classes) =
-    rw (is.fields, fields_from 0 0 image.classes) (all_length (λ j k x m. field_info j k) 0 0 (field_lists image.classes)) in
+    rw (is, fields_from 0 0 image.classes) (all_length (λ j k x m. field_info j k) 0 0 (field_lists image.classes)) in
     rw len
     (all_are (field_at image) field_of (field_lists image.classes) 0 0
     (λ i k fs f class there.
@@ -307,7 +328,7 @@ fields_all image is =
     rw (e, z) (field_in_lists image is i k fs f class there)))
 
 -- of all fields just a class's own are left, in their order
-pub fields_of_class : (image : Image) → IsNumbered image → (test : Field → Bool) (i : ℕ)
+pub fields_of_class : (image : Image) → HasFields image → (test : Field → Bool) (i : ℕ)
     → filter (λ f. nat_eq f.info.class.0 i && test f) (all_fields image) ≡ filter test (own_fields image i)
 fields_of_class image is test i =
     let e : 0 + i ≡ i = omega arith in
@@ -362,17 +383,17 @@ method_list_there [] i c is = absurd (cc)
 method_list_there (d ∷ cs) zero c is = let same : d ≡ c = cc in rw same refl
 method_list_there (d ∷ cs) (suc i) c is = method_list_there cs i c is
 
-method_in_lists : (image : Image) → IsNumbered image → (i k : ℕ) (fs : List MethodDef) (f : MethodDef)
+method_in_lists : (image : Image) → HasMethods image → (i k : ℕ) (fs : List MethodDef) (f : MethodDef)
     → slice_get (method_lists image.classes) i ≡ Some fs → slice_get fs k ≡ Some f
     → method_at image (before (method_lists image.classes) i + k) ≡ Some (method_of i k (before (method_lists image.classes) i + k) f)
 unfolding method_at
 method_in_lists image is i k fs f class there =
     let e : 0 + i ≡ i = omega arith in
     let info = rw e at (all_get (λ j l x m. method_info j l) (method_lists image.classes) 0 0 i k fs f class there) in
-    rw (is.methods, methods_from 0 0 image.classes, info, method_list_is image.classes i fs class, there) refl
+    rw (is, methods_from 0 0 image.classes, info, method_list_is image.classes i fs class, there) refl
 
 -- method k of class i has the number of the earlier classes' methods, and k
-pub method_numbered : (image : Image) → IsNumbered image → (i k : ℕ) (c : ClassInfo) (f : MethodDef)
+pub method_numbered : (image : Image) → HasMethods image → (i k : ℕ) (c : ClassInfo) (f : MethodDef)
     → slice_get image.classes i ≡ Some c → slice_get c.def.methods k ≡ Some f
     → method_at image (first_method image.classes i + k) ≡ Some (method_of i k (first_method image.classes i + k) f)
 method_numbered image is i k c f class there =
@@ -380,27 +401,27 @@ method_numbered image is i k c f class there =
     (method_in_lists image is i k c.def.methods f (method_list_there image.classes i c class) there)
 
 -- what stands at that number
-pub method_info_numbered : (image : Image) → IsNumbered image → (i k : ℕ) (c : ClassInfo) (f : MethodDef)
+pub method_info_numbered : (image : Image) → HasMethods image → (i k : ℕ) (c : ClassInfo) (f : MethodDef)
     → slice_get image.classes i ≡ Some c → slice_get c.def.methods k ≡ Some f
     → slice_get image.methods (first_method image.classes i + k) ≡ Some (method_info i k)
 method_info_numbered image is i k c f class there =
     let e : 0 + i ≡ i = omega arith in
     let info = rw e at (all_get (λ j l x m. method_info j l) (method_lists image.classes) 0 0 i k c.def.methods f (method_list_there image.classes i c class) there) in
-    rw (is.methods, methods_from 0 0 image.classes, ← methods_before image.classes i) info
+    rw (is, methods_from 0 0 image.classes, ← methods_before image.classes i) info
 
 methods_counted : (cs : List ClassInfo) → count (method_lists cs) ≡ sum_by (λ c. length c.def.methods) cs
 methods_counted [] = refl
 methods_counted (c ∷ cs) = rw (sum_by-cons (λ d. length d.def.methods) c cs) (ap (λ n. length c.def.methods + n) (methods_counted cs))
 
 -- all methods are those of the classes
-pub method_count : (image : Image) → IsNumbered image → length image.methods ≡ sum_by (λ c. length c.def.methods) image.classes
+pub method_count : (image : Image) → HasMethods image → length image.methods ≡ sum_by (λ c. length c.def.methods) image.classes
 method_count image is =
-    rw (is.methods, methods_from 0 0 image.classes, all_length (λ j k x m. method_info j k) 0 0 (method_lists image.classes)) (methods_counted image.classes)
+    rw (is, methods_from 0 0 image.classes, all_length (λ j k x m. method_info j k) 0 0 (method_lists image.classes)) (methods_counted image.classes)
 
-methods_all : (image : Image) → IsNumbered image → all_methods image ≡ all_from method_of 0 0 (method_lists image.classes)
+methods_all : (image : Image) → HasMethods image → all_methods image ≡ all_from method_of 0 0 (method_lists image.classes)
 methods_all image is =
     let len : length image.methods ≡ count (method_lists image.classes) =
-    rw (is.methods, methods_from 0 0 image.classes) (all_length (λ j k x m. method_info j k) 0 0 (method_lists image.classes)) in
+    rw (is, methods_from 0 0 image.classes) (all_length (λ j k x m. method_info j k) 0 0 (method_lists image.classes)) in
     rw len
     (all_are (method_at image) method_of (method_lists image.classes) 0 0
     (λ i k fs f class there.
@@ -409,7 +430,7 @@ methods_all image is =
     rw (e, z) (method_in_lists image is i k fs f class there)))
 
 -- of all methods just a class's own are left, in their order
-pub methods_of_class : (image : Image) → IsNumbered image → (test : Method → Bool) (i : ℕ)
+pub methods_of_class : (image : Image) → HasMethods image → (test : Method → Bool) (i : ℕ)
     → filter (λ f. nat_eq f.info.class.0 i && test f) (all_methods image) ≡ filter test (own_methods image i)
 methods_of_class image is test i =
     let e : 0 + i ≡ i = omega arith in
@@ -457,7 +478,7 @@ declared_by_is image c good =
     pick_is image image.methods 0 (λ m. nat_eq m.info.class.0 c && good m) (λ k. let z : 0 + k ≡ k = omega arith in rw z refl)
 
 -- and where methods are numbered
-pub declared_by_own : (image : Image) → IsNumbered image → (i : ℕ) (good : Method → Bool)
+pub declared_by_own : (image : Image) → HasMethods image → (i : ℕ) (good : Method → Bool)
     → declared_by image i good ≡ find good (own_methods image i)
 declared_by_own image is i good =
     rw (declared_by_is image i good, find_is (λ m. nat_eq m.info.class.0 i && good m) (all_methods image), methods_of_class image is good i)

@@ -1,4 +1,4 @@
-use Rattle.std.proofs.Common.{◌≡◌, ◌+◌, ◌<◌, ◌≤◌, refl, length, get_or, sum_by, arith}
+use Rattle.std.proofs.Common.{◌≡◌, ◌+◌, ◌≤◌, refl, length, get_or, sum_by, arith}
 use Rattle.std.proofs.lemmas.Option.{slice_get_read}
 use Rattle.dv_defs.specs.Order.{numbers}
 use Rattle.dv_hier.specs.Slots.{chain_words, first_field, words_in}
@@ -50,8 +50,9 @@ loop-class-preserved c =
     let i = c.loop-class.class in
     let info = c.index-infos-class.result in
     let there = slice_get_read cs (length cs) i info refl c.loop-class-test.true c.index-infos-class.is in
-    let first : get_or c.args.firsts.now i 0 ≡ first_field cs i = first_at cs c.args.firsts.now i 0 c.requires.firsts c.loop-class-test.true in
-    ( laid_slots cs i info (numbers c.in_ok-chain.chain.items) (get_or c.args.firsts.now i 0) c.in_ok-cells.cells.fields.items c.add.new.self.fields.items c.loop-class.layout.slots.items c.push.new.self.items
-        there c.in_ok-chain.ensures.chain first c.in_ok-cells.ensures.fields c.in_ok-add.ensures.fields c.loop-class.invariant.0 (rw c.of.ensures at c.in_ok-push.ensures.items)
-    , laid_fields cs i info (numbers c.in_ok-chain.chain.items) c.in_ok-cells.cells.words c.loop-class.layout.fields.items c.add_fields.new.fields.items
-        there c.in_ok-chain.ensures.chain c.in_ok-cells.ensures.words c.loop-class.invariant.1 c.in_ok-add_fields.ensures)
+    let first : get_or c.args.firsts.now i 0 ≡ first_field cs i = first_at cs c.args.firsts.now i 0 c.requires.firsts c.loop-class-test.true in (
+      laid_slots cs i info (numbers c.in_ok-chain.chain.items) (get_or c.args.firsts.now i 0) c.in_ok-cells.cells.fields.items c.add.new.self.fields.items c.loop-class.layout.slots.items c.push.new.self.items
+          there c.in_ok-chain.ensures.chain first c.in_ok-cells.ensures.fields c.in_ok-add.ensures.fields c.loop-class.invariant.0 (rw c.of.ensures at c.in_ok-push.ensures.items),
+      laid_fields cs i info (numbers c.in_ok-chain.chain.items) c.in_ok-cells.cells.words c.loop-class.layout.fields.items c.add_fields.new.fields.items
+          there c.in_ok-chain.ensures.chain c.in_ok-cells.ensures.words c.loop-class.invariant.1 c.in_ok-add_fields.ensures,
+    )

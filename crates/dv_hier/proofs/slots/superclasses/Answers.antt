@@ -17,9 +17,10 @@ loop-preserved c =
     let info = get_or cs i c.index-infos-id.result in
     let within : i < length cs = rw c.in-Some.is at c.loop.invariant.2 in
     let fuel : length cs - c.loop.counter ≡ suc (length cs - (c.loop.counter + 1)) = omega arith in
-    let there = slice_get-get_or cs i c.index-infos-id.result within in
-    ( rw c.in_ok-push.ensures.items
-        (chain_more cs c.loop.chain.items (length cs - c.loop.counter) (length cs - (c.loop.counter + 1)) c.loop.above c.in-Some.id info
-            (spec.superclasses cs c.args.class) fuel c.in-Some.is there c.loop.invariant.0)
-    , rw c.in_ok-push.ensures.items (All-push (λ x. x.0 < length cs) c.loop.chain.items c.in-Some.id c.loop.invariant.1 within)
-    , (c.requires.range i c.index-infos-id.result within).parent)
+    let there = slice_get-get_or cs i c.index-infos-id.result within in (
+      rw c.in_ok-push.ensures.items
+          (chain_more cs c.loop.chain.items (length cs - c.loop.counter) (length cs - (c.loop.counter + 1)) c.loop.above c.in-Some.id info
+          (spec.superclasses cs c.args.class) fuel c.in-Some.is there c.loop.invariant.0),
+      rw c.in_ok-push.ensures.items (All-push (λ x. x.0 < length cs) c.loop.chain.items c.in-Some.id c.loop.invariant.1 within),
+      (c.requires.range i c.index-infos-id.result within).parent,
+    )
