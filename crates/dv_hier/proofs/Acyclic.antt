@@ -1,5 +1,5 @@
 -- Where no class depends on itself, none is among its superclasses.
-use Rattle.std.specs.Prelude.{ℕ, zero, suc, ◌≡◌, ◌<◌, ◌≤◌, ◌-◌, Bool, true, false, List, [], length, Option, Some, None, slice_get, nat_eq}
+use Rattle.std.specs.Prelude.{ℕ, zero, suc, ◌≡◌, ◌<◌, ◌≤◌, ◌-◌, false, List, [], length, Option, Some, None, slice_get, nat_eq}
 use Rattle.std.proofs.Common.{refl, arith}
 use Rattle.std.proofs.lemmas.List.{length-map}
 use Rattle.std.proofs.lemmas.Option.{slice_get-map, slice_get_within}
@@ -12,11 +12,7 @@ use Rattle.dv_defs.specs.LinkFaults.{first_fault_by, fault_at, found, on_cycle}
 use Rattle.dv_defs.specs.Linked.{defs}
 use Rattle.dv_linklaws.proofs.First.{first_below_none, when_none, map_none}
 use Rattle.dv_hier.specs.Slots.{walked, IsAcyclic}
-use Rattle.dv_hier.proofs.Cells.{walked_none}
-
-neither : (b h : Bool) → elim b [ true ↦ true | false ↦ h ] ≡ false → (b ≡ false) × (h ≡ false)
-neither true h none = absurd (cc)
-neither false h none = (refl, none)
+use Rattle.dv_hier.proofs.Cells.{neither, walked_none}
 
 -- what no way up reaches stands in no chain
 unreached : (image : Image) (d n m : ℕ) (o : Option ℕ) (ds : List ℕ) → n ≤ m

@@ -1,5 +1,5 @@
 -- The laws of cells, told of the classes alone.
-use Rattle.std.specs.Prelude.{All, ℕ, zero, suc, ◌≡◌, ◌<◌, ◌≤◌, ◌+◌, List, [], ◌∷◌, ◌++◌, length, map, take, sum_by, Option, Some, None, slice_get}
+use Rattle.std.specs.Prelude.{All, Bool, true, false, ℕ, zero, suc, ◌≡◌, ◌<◌, ◌≤◌, ◌+◌, List, [], ◌∷◌, ◌++◌, length, map, take, sum_by, Option, Some, None, slice_get}
 use Rattle.std.specs.List.{range_with_len}
 use Rattle.std.proofs.Common.{refl, ap, sym, ◌∙◌, arith, get_or, append_assoc, append-nil}
 use Rattle.std.proofs.lemmas.List.Sums.{sum_by-cons, sum_by-take-le}
@@ -12,6 +12,11 @@ use Rattle.dv_defs.specs.declared.image.ClassInfo.{ClassInfo}
 use Rattle.dv_defs.specs.Pools.{class_number, parent_of}
 use Rattle.dv_defs.specs.Order.{numbers}
 use Rattle.dv_hier.specs.Slots.{cells_from, words_in, first_field, walked, own_cells, words_of_class, chain_cells, chain_words}
+
+-- two alternatives, none of which holds
+pub neither : (b h : Bool) → elim b [ true ↦ true | false ↦ h ] ≡ false → (b ≡ false) × (h ≡ false)
+neither true h none = absurd (cc)
+neither false h none = (refl, none)
 
 -- ---- first fields
 

@@ -13,6 +13,7 @@ use Rattle.dv_defs.specs.Types.{words_of, is_long}
 use Rattle.dv_defs.specs.Pools.{parent_of}
 use Rattle.dv_defs.specs.Order.{has_number}
 use Rattle.dv_hier.specs.Slots.{has_cell, cells_from, cell_words, words_in, infos_from, first_field, walked, superclasses, words_of_class, chain_cells, chain_words, object_cells, infos_below, slots_below, IsAcyclic}
+use Rattle.dv_hier.proofs.Cells.{neither}
 
 abbrev pub IsDistinct : List ℕ → Type 0
 IsDistinct [] = Unit {0}
@@ -20,16 +21,12 @@ IsDistinct (c ∷ cs) = (has_number c cs ≡ false) × IsDistinct cs
 
 -- ---- chains
 
-not_first : (b h : Bool) → elim b [ true ↦ true | false ↦ h ] ≡ false → (b ≡ false) × (h ≡ false)
-not_first true h none = absurd (cc)
-not_first false h none = (refl, none)
-
 shorter : (cs : List ClassInfo) (d n m : ℕ) (o : Option ℕ) → n ≤ m → has_number d (walked cs m o) ≡ false → has_number d (walked cs n o) ≡ false
 shorter cs d zero m o less none = refl
 shorter cs d (suc n) zero o less none = absurd (omega arith)
 shorter cs d (suc n) (suc m) None less none = refl
 shorter cs d (suc n) (suc m) (Some c) less none =
-    let parts = not_first (nat_eq c d) (has_number d (walked cs m (parent_of (slice_get cs c)))) none in
+    let parts = neither (nat_eq c d) (has_number d (walked cs m (parent_of (slice_get cs c)))) none in
     rw (parts.0, has_number) (shorter cs d n m (parent_of (slice_get cs c)) (omega arith) parts.1)
 
 distinct_walk : (cs : List ClassInfo) → IsAcyclic cs → (n : ℕ) (o : Option ℕ) → n ≤ length cs → IsDistinct (walked cs n o)
@@ -74,7 +71,7 @@ cleared_sum : (ws : List ℕ) (c : ℕ) (ds : List ℕ) → has_number c ds ≡ 
 unfolding sum_at
 cleared_sum ws c [] none = refl
 cleared_sum ws c (d ∷ ds) none =
-    let parts = not_first (nat_eq d c) (has_number c ds) none in
+    let parts = neither (nat_eq d c) (has_number c ds) none in
     let failed : nat_eq d c ≡ false = parts.0 in
     let other : d ≢ c = grind (arith, nat_tests) in
     rw (cleared_sum ws c ds parts.1, cleared_other ws c d other) refl

@@ -20,7 +20,7 @@ use Rattle.dv_defs.specs.Numbering.{class_id, numbered}
 use Rattle.dv_defs.specs.Linked.{has_cells, cells_of_class, cells_along, slots_at, words_at, words_before, slot_of, slot_at, field_with_slot, class_with_slots, slotted}
 use Rattle.dv_linklaws.proofs.Members.{HasFields, numbered_fields, own_from, field_of, field_info, fields_of_class, field_numbered, field_info_numbered, field_count}
 use Rattle.dv_hier.specs.Slots.{has_cell, cells_from, cell_words, words_in, slot_after, infos_from, first_field, walked, superclasses, cells_in, own_cells, words_of_class, chain_cells, chain_words, object_cells, infos_in, infos_below, slots_below, info_with, IsAcyclic}
-use Rattle.dv_hier.proofs.Cells.{first_more}
+use Rattle.dv_hier.proofs.Cells.{neither, first_more}
 
 -- ---- chains
 
@@ -170,10 +170,6 @@ class_other : (image : Image) → HasFields image → (c : ℕ) (o : Option Clas
 class_other image is c None there x g at differ = tt
 class_other image is c (Some info) there x g at differ =
     own_other image c 0 (first_field image.classes c) info.def info.def.fields (stand_all image is c info there) x g at differ
-
-neither : (b h : Bool) → elim b [ true ↦ true | false ↦ h ] ≡ false → (b ≡ false) × (h ≡ false)
-neither true h none = absurd (cc)
-neither false h none = (refl, none)
 
 chain_other : (image : Image) → HasFields image → (cs : List ℕ) (x : ℕ) (g : Field) → field_at image x ≡ Some g
     → has_number g.info.class.0 cs ≡ false → AreOther x (chain_cells image.classes cs)

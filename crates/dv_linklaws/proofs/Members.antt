@@ -345,7 +345,7 @@ first_method cs i = sum_by (λ c. length c.def.methods) (take i cs)
 
 -- a method of a class, by the class, its place there and its number
 abbrev pub method_of : ℕ → ℕ → ℕ → MethodDef → Method
-method_of i k id f = record { id = id; info = record { class = class_id i; place = k; types = []; fields = []; methods = [] }; def = f }
+method_of i k id m = record { id = id; info = record { class = class_id i; place = k; types = []; fields = []; methods = [] }; def = m }
 
 abbrev pub own_methods : Image → ℕ → List Method
 own_methods image i = own_from method_of i 0 (first_method image.classes i) (methods_of (slice_get image.classes i))
@@ -373,40 +373,40 @@ method_list_at [] i = refl
 method_list_at (c ∷ cs) zero = refl
 method_list_at (c ∷ cs) (suc i) = method_list_at cs i
 
-method_list_is : (cs : List ClassInfo) (i : ℕ) (fs : List MethodDef) → slice_get (method_lists cs) i ≡ Some fs → methods_of (slice_get cs i) ≡ fs
-method_list_is [] i fs is = absurd (cc)
-method_list_is (c ∷ cs) zero fs is = cc
-method_list_is (c ∷ cs) (suc i) fs is = method_list_is cs i fs is
+method_list_is : (cs : List ClassInfo) (i : ℕ) (ms : List MethodDef) → slice_get (method_lists cs) i ≡ Some ms → methods_of (slice_get cs i) ≡ ms
+method_list_is [] i ms is = absurd (cc)
+method_list_is (c ∷ cs) zero ms is = cc
+method_list_is (c ∷ cs) (suc i) ms is = method_list_is cs i ms is
 
 method_list_there : (cs : List ClassInfo) (i : ℕ) (c : ClassInfo) → slice_get cs i ≡ Some c → slice_get (method_lists cs) i ≡ Some c.def.methods
 method_list_there [] i c is = absurd (cc)
 method_list_there (d ∷ cs) zero c is = let same : d ≡ c = cc in rw same refl
 method_list_there (d ∷ cs) (suc i) c is = method_list_there cs i c is
 
-method_in_lists : (image : Image) → HasMethods image → (i k : ℕ) (fs : List MethodDef) (f : MethodDef)
-    → slice_get (method_lists image.classes) i ≡ Some fs → slice_get fs k ≡ Some f
-    → method_at image (before (method_lists image.classes) i + k) ≡ Some (method_of i k (before (method_lists image.classes) i + k) f)
+method_in_lists : (image : Image) → HasMethods image → (i k : ℕ) (ms : List MethodDef) (m : MethodDef)
+    → slice_get (method_lists image.classes) i ≡ Some ms → slice_get ms k ≡ Some m
+    → method_at image (before (method_lists image.classes) i + k) ≡ Some (method_of i k (before (method_lists image.classes) i + k) m)
 unfolding method_at
-method_in_lists image is i k fs f class there =
+method_in_lists image is i k ms m class there =
     let e : 0 + i ≡ i = omega arith in
-    let info = rw e at (all_get (λ j l x m. method_info j l) (method_lists image.classes) 0 0 i k fs f class there) in
-    rw (is, methods_from 0 0 image.classes, info, method_list_is image.classes i fs class, there) refl
+    let info = rw e at (all_get (λ j l x m. method_info j l) (method_lists image.classes) 0 0 i k ms m class there) in
+    rw (is, methods_from 0 0 image.classes, info, method_list_is image.classes i ms class, there) refl
 
 -- method k of class i has the number of the earlier classes' methods, and k
-pub method_numbered : (image : Image) → HasMethods image → (i k : ℕ) (c : ClassInfo) (f : MethodDef)
-    → slice_get image.classes i ≡ Some c → slice_get c.def.methods k ≡ Some f
-    → method_at image (first_method image.classes i + k) ≡ Some (method_of i k (first_method image.classes i + k) f)
-method_numbered image is i k c f class there =
+pub method_numbered : (image : Image) → HasMethods image → (i k : ℕ) (c : ClassInfo) (m : MethodDef)
+    → slice_get image.classes i ≡ Some c → slice_get c.def.methods k ≡ Some m
+    → method_at image (first_method image.classes i + k) ≡ Some (method_of i k (first_method image.classes i + k) m)
+method_numbered image is i k c m class there =
     rw (← methods_before image.classes i)
-    (method_in_lists image is i k c.def.methods f (method_list_there image.classes i c class) there)
+    (method_in_lists image is i k c.def.methods m (method_list_there image.classes i c class) there)
 
 -- what stands at that number
-pub method_info_numbered : (image : Image) → HasMethods image → (i k : ℕ) (c : ClassInfo) (f : MethodDef)
-    → slice_get image.classes i ≡ Some c → slice_get c.def.methods k ≡ Some f
+pub method_info_numbered : (image : Image) → HasMethods image → (i k : ℕ) (c : ClassInfo) (m : MethodDef)
+    → slice_get image.classes i ≡ Some c → slice_get c.def.methods k ≡ Some m
     → slice_get image.methods (first_method image.classes i + k) ≡ Some (method_info i k)
-method_info_numbered image is i k c f class there =
+method_info_numbered image is i k c m class there =
     let e : 0 + i ≡ i = omega arith in
-    let info = rw e at (all_get (λ j l x m. method_info j l) (method_lists image.classes) 0 0 i k c.def.methods f (method_list_there image.classes i c class) there) in
+    let info = rw e at (all_get (λ j l x m. method_info j l) (method_lists image.classes) 0 0 i k c.def.methods m (method_list_there image.classes i c class) there) in
     rw (is, methods_from 0 0 image.classes, ← methods_before image.classes i) info
 
 methods_counted : (cs : List ClassInfo) → count (method_lists cs) ≡ sum_by (λ c. length c.def.methods) cs
@@ -424,20 +424,20 @@ methods_all image is =
     rw (is, methods_from 0 0 image.classes) (all_length (λ j k x m. method_info j k) 0 0 (method_lists image.classes)) in
     rw len
     (all_are (method_at image) method_of (method_lists image.classes) 0 0
-    (λ i k fs f class there.
+    (λ i k ms m class there.
     let e : 0 + (before (method_lists image.classes) i + k) ≡ before (method_lists image.classes) i + k = omega arith in
     let z : 0 + i ≡ i = omega arith in
-    rw (e, z) (method_in_lists image is i k fs f class there)))
+    rw (e, z) (method_in_lists image is i k ms m class there)))
 
 -- of all methods just a class's own are left, in their order
 pub methods_of_class : (image : Image) → HasMethods image → (test : Method → Bool) (i : ℕ)
-    → filter (λ f. nat_eq f.info.class.0 i && test f) (all_methods image) ≡ filter test (own_methods image i)
+    → filter (λ m. nat_eq m.info.class.0 i && test m) (all_methods image) ≡ filter test (own_methods image i)
 methods_of_class image is test i =
     let e : 0 + i ≡ i = omega arith in
     let z : 0 + before (method_lists image.classes) i ≡ before (method_lists image.classes) i = omega arith in
     rw (methods_all image is)
     (rw (e, z, method_list_at image.classes i, methods_before image.classes i) at
-    (all_of_class method_of (λ f. f.info.class.0) test (λ j k id m. refl) (method_lists image.classes) 0 0 i))
+    (all_of_class method_of (λ m. m.info.class.0) test (λ j k id m. refl) (method_lists image.classes) 0 0 i))
 
 -- ---- what a class declares itself
 
