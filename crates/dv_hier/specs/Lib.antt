@@ -1,3 +1,4 @@
 pub mod Hierarchies
 pub mod Tables
 pub mod Upwards
+pub mod Slots

@@ -4,3 +4,4 @@ pub mod Once
 pub mod Bounds
 pub mod Reach
 pub mod ReachPlaces
+pub mod Members
