@@ -23,7 +23,7 @@ fn check_names(alloc: Global, classes: &[ClassDef], boot: u32) -> Result<Pool<Te
     ensures names { IfOk result (λ names. names ≡ def_names classes.now) }
     ensures few { IfOk result (λ names. (length classes.now < 2 ^ 32) × (sum_by (λ c. length c.fields) classes.now < 2 ^ 31)) }
 {
-    check_boot(classes, boot)?;
+    check_boot(alloc, classes, boot)?;
     check_limits(classes, boot)?;
     let names = index_names(alloc, classes)?;
     check_above(classes, &names)?;

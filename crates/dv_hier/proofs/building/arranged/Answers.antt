@@ -2,7 +2,7 @@ use Rattle.std.proofs.Common.{sym, subst, ◌∙◌, ◌≡◌, None}
 use Rattle.std.specs.Prelude.{All}
 use Rattle.std.proofs.lemmas.Result.{err_from_is_err_and}
 use Rattle.dv_defs.specs.LinkFaults.{Fails, first_fault_by, on_cycle, has_field_twice}
-use Rattle.dv_defs.specs.Linked.{HasValues}
+use Rattle.dv_defs.specs.Linked.{defs, HasValues}
 use Rattle.dv_defs.specs.Numbering.{numbered}
 use Rattle.dv_hier.proofs.Built.{defs_at, few_numbered, few_fields_numbered, cycle_fails, fields_fail, all_pass}
 use Rattle.dv_hier.proofs.building.arranged.Goals as goal
@@ -18,6 +18,11 @@ add_slots-requires-clause-few c =
 pub add_slots-requires-clause-few_fields : goal.add_slots-requires-clause-few_fields
 add_slots-requires-clause-few_fields c =
     few_fields_numbered c.args.classes.items 0 c.in_ok-infos.infos.items (c.in_ok-infos.ensures.numbered 0) c.requires.few_fields
+
+pub add_slots-requires-clause-acyclic : goal.add_slots-requires-clause-acyclic
+add_slots-requires-clause-acyclic c image at =
+    subst (λ is. first_fault_by (on_cycle image) (defs is) ≡ None) c.as_slice.ensures.value
+    (c.in_ok-check_cycles.ensures image (at ∙ sym c.as_slice.ensures.value))
 
 pub returns-in_err-check_cycles-clause-fault : goal.returns-in_err-check_cycles-clause-fault
 returns-in_err-check_cycles-clause-fault c boot none =
