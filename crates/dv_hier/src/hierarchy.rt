@@ -1,4 +1,7 @@
 // The classes that are linked, and their hierarchy.
+ghost use Rattle.std.specs.Prelude.{◌≡◌, ◌↔◌, IsTrue, IsSome, IfSome};
+ghost use Rattle.dv_defs.specs.Linked.{AreNamed};
+
 use dv_defs::{ClassDef, ClassInfo, FieldInfo, Pool, Seq, Text};
 use std::marker::Model;
 
@@ -20,6 +23,34 @@ impl Model for Classes {
     ghost invariant = { λ c. AreNamed c.list };
 
     ghost inverse = { λ c. record { list = c.list; boot = c.boot } };
+}
+
+/// Whether each class has a name.
+fn are_named(list: &[ClassDef]) -> bool
+    ensures { IsTrue result ↔ AreNamed list.now }
+{
+    for class in list {
+        if class.name.bytes().is_empty() {
+            return false;
+        }
+    }
+    true
+}
+
+impl Classes {
+    /// These classes, or none where one of them has no name.
+    pub fn new(list: Vec<ClassDef>, boot: u32) -> Option<Classes>
+        ensures named { IsSome result ↔ AreNamed list.items }
+        ensures classes { IfSome result (λ classes. classes ≡ record { list = list.items; boot = boot }) }
+    {
+        if !are_named(list.as_slice()) {
+            return None;
+        }
+        Some(Classes {
+            list: Seq::of(list),
+            boot,
+        })
+    }
 }
 
 /// Classes that know their superclass and their interfaces by number, and the cells of their objects.
