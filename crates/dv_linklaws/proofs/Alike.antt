@@ -1,13 +1,11 @@
 -- What an image says of its classes it says without slots, tables and resolved pools.
 use Rattle.std.specs.Prelude.{ℕ, zero, suc, ◌≡◌, Bool, true, false, List, [], ◌∷◌, ◌++◌, length, map, flat_map, Option, Some, None, slice_get, nat_eq, bytes_eq, option_map, option_to_list}
 use Rattle.std.specs.List.{range_with_len, enumerate_from}
-use Rattle.std.proofs.Common.{refl, sym, ap, ◌∙◌, ◌+◌}
+use Rattle.std.proofs.Common.{refl, ap, ◌∙◌, ◌+◌}
 use Rattle.std.proofs.lemmas.List.{length-map, map-append}
 use Rattle.std.proofs.lemmas.Option.{slice_get-map}
 use Rattle.dv_defs.specs.declared.code.Body.{Body}
 use Rattle.dv_defs.specs.declared.class.ClassDef.{ClassDef}
-use Rattle.dv_defs.specs.declared.class.MethodDef.{MethodDef}
-use Rattle.dv_defs.specs.declared.class.FieldDef.{FieldDef}
 use Rattle.dv_defs.specs.declared.flags.Flag.TheVariants as flag
 use Rattle.dv_defs.specs.declared.image.ClassInfo.{ClassInfo}
 use Rattle.dv_defs.specs.declared.image.MethodInfo.{MethodInfo}
@@ -15,7 +13,7 @@ use Rattle.dv_defs.specs.declared.image.FieldInfo.{FieldInfo}
 use Rattle.dv_defs.specs.Flags.{has_flag}
 use Rattle.dv_defs.specs.Images.{Image}
 use Rattle.dv_defs.specs.Pools.{find_from, class_named, parent_of, parent_at, declared_name, name_at, flags_of, methods_of, fields_of, is_interface, is_abstract_class, walk, supers}
-use Rattle.dv_defs.specs.Order.{with_parent, interfaces_of, above, any_of, reaches, extends, implements}
+use Rattle.dv_defs.specs.Order.{with_parent, interfaces_of, above, any_of, reaches, implements}
 use Rattle.dv_defs.specs.LookUp.{upward, interfaces_at, interfaces_first, field_classes, superinterfaces, method_classes}
 use Rattle.dv_defs.specs.Numbering.{class_id, methods_declared, all_methods_declared, fields_declared, all_fields_declared, class_numbered, declared, numbered}
 use Rattle.dv_defs.specs.Linked.{body_at, field_ids, method_ids, method_with_pools, class_with_slots, class_with_table, field_with_slot, slotted, tabled, resolved}
@@ -79,9 +77,9 @@ stripped_tabled image =
 
 pools_dropped : (image : Image) (i : MethodInfo) (o : Option Body)
     → method_info_stripped (elim o [
-        | None ↦ i
-        | Some b ↦ record { class = i.class; place = i.place; types = b.types; fields = field_ids image b; methods = method_ids image b }
-      ]) ≡ method_info_stripped i
+      | None ↦ i
+      | Some b ↦ record { class = i.class; place = i.place; types = b.types; fields = field_ids image b; methods = method_ids image b }
+    ]) ≡ method_info_stripped i
 pools_dropped image i None = refl
 pools_dropped image i (Some b) = refl
 

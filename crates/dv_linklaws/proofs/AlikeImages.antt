@@ -1,5 +1,5 @@
 -- Two images that are alike but for slots, tables and resolved pools give the same look-ups.
-use Rattle.std.specs.Prelude.{ℕ, ◌≡◌, Bool, List, length, Option, Some, None, Result, Ok, Err, slice_get, option_map}
+use Rattle.std.specs.Prelude.{ℕ, ◌≡◌, Bool, List, length, Option, Some, None, slice_get, option_map}
 use Rattle.std.proofs.Common.{refl, sym, ap, ◌∙◌}
 use Rattle.dv_defs.specs.declared.names.Ty.{Ty}
 use Rattle.dv_defs.specs.declared.names.Proto.{Proto}
@@ -7,7 +7,6 @@ use Rattle.dv_defs.specs.declared.names.FieldRef.{FieldRef}
 use Rattle.dv_defs.specs.declared.names.MethodRef.{MethodRef}
 use Rattle.dv_defs.specs.declared.class.ClassDef.{ClassDef}
 use Rattle.dv_defs.specs.Images.{Image}
-use Rattle.dv_defs.specs.LinkFaults.{Found}
 use Rattle.dv_defs.specs.Pools.{Method, Field, class_named, parent_at, name_at, flags_of, methods_of, fields_of, is_interface, method_at, field_at, declared_by, nearest, supers, initialiser}
 use Rattle.dv_defs.specs.Order.{above, reaches, implements}
 use Rattle.dv_defs.specs.LookUp.{interfaces_at, field_classes, field_found, superinterfaces, method_classes, method_found, class_referred, field_named, method_named}
