@@ -5,3 +5,6 @@ pub mod Bounds
 pub mod Reach
 pub mod ReachPlaces
 pub mod Members
+pub mod Alike
+pub mod AlikeMembers
+pub mod AlikeImages
