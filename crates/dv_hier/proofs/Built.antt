@@ -1,6 +1,6 @@
 -- What building keeps of the classes that are handed in.
-use Rattle.std.proofs.Common.{◌≡◌, ◌+◌, ◌<◌, ◌≤◌, ℕ, zero, suc, List, [], ◌∷◌, length, map, Option, Some, None, refl, sym, ap, subst, ◌∙◌, arith}
-use Rattle.std.specs.Prelude.{◌^◌, Result, Ok, Err, sum_by, All}
+use Rattle.std.proofs.Common.{◌≡◌, ◌+◌, ◌<◌, ℕ, List, [], ◌∷◌, length, map, Option, Some, None, refl, sym, ap, subst, ◌∙◌, arith}
+use Rattle.std.specs.Prelude.{◌^◌, sum_by, All}
 use Rattle.std.proofs.lemmas.List.{length-map}
 use Rattle.std.proofs.lemmas.List.Sums.{sum_by-cons}
 use Rattle.std.specs.Option.{option_or}
@@ -11,7 +11,7 @@ use Rattle.dv_defs.specs.declared.faults.LinkError.{LinkError}
 use Rattle.dv_defs.specs.declared.faults.LinkError.TheVariants as error
 use Rattle.dv_defs.specs.Images.{Image}
 use Rattle.dv_defs.specs.Numbering.{declared, numbered, class_numbered, names_of}
-use Rattle.dv_defs.specs.LinkFaults.{Found, Fails, found, first_fault_by, boot_fault, limit_fault, is_twice, wrong_above, on_cycle, has_field_twice}
+use Rattle.dv_defs.specs.LinkFaults.{Found, Fails, first_fault_by, boot_fault, limit_fault, is_twice, wrong_above, on_cycle, has_field_twice}
 use Rattle.dv_defs.specs.Linked.{defs, slotted, class_with_slots, first_phases, AreNamed, HasValues}
 use Rattle.dv_linklaws.specs.Stripped.{def_names}
 use Rattle.dv_hier.specs.Hierarchies.{HierarchyValue, IsHierarchy, without_table, without_tables, hierarchy_of, naming_phases}

@@ -4,7 +4,7 @@ use Rattle.dv_defs.specs.declared.class.ClassDef.{ClassDef}
 use Rattle.dv_defs.specs.declared.image.ClassInfo.{ClassInfo}
 use Rattle.dv_defs.specs.declared.image.FieldInfo.{FieldInfo}
 use Rattle.std.specs.Option.{option_or}
-use Rattle.dv_defs.specs.Numbering.{declared, numbered, names_of}
+use Rattle.dv_defs.specs.Numbering.{declared, numbered}
 use Rattle.dv_defs.specs.LinkFaults.{Found, first_fault_by, boot_fault, limit_fault, is_twice, wrong_above}
 use Rattle.dv_defs.specs.Linked.{defs, slotted, first_phases, AreNamed, HasValues}
 

@@ -125,7 +125,6 @@ fn depends_on_itself(alloc: Global, infos: &[ClassInfo], class: usize) -> Result
 
 /// The first class that depends on itself.
 pub fn check_cycles(alloc: Global, infos: &[ClassInfo]) -> Result<(), LinkError>
-    requires few { length infos.now < 2 ^ 32 }
     requires range { AreInRange infos.now }
     ensures { (image : Image) → image.classes ≡ infos.now → Checks result (first_fault_by (on_cycle image) (defs infos.now)) }
 {

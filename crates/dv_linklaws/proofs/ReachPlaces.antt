@@ -1,5 +1,5 @@
 -- An order of classes of which none depends on itself: each stands after those above it.
-use Rattle.std.specs.Prelude.{ℕ, suc, ◌≡◌, ◌<◌, ◌≤◌, Bool, true, false, length}
+use Rattle.std.specs.Prelude.{ℕ, suc, ◌≡◌, ◌<◌, Bool, true, false, length}
 use Rattle.std.proofs.Common.{refl, ⊎_elim, arith}
 use Rattle.dv_defs.specs.Images.{Image}
 use Rattle.dv_defs.specs.Order.{has_number, above, any_of, implements}

@@ -7,10 +7,6 @@ use Rattle.dv_defs.specs.Numbering.{numbered}
 use Rattle.dv_hier.proofs.Built.{defs_at, few_numbered, few_fields_numbered, cycle_fails, fields_fail, all_pass}
 use Rattle.dv_hier.proofs.building.arranged.Goals as goal
 
-pub check_cycles-requires-clause-few : goal.check_cycles-requires-clause-few
-check_cycles-requires-clause-few c =
-    few_numbered c.args.classes.items 0 c.as_slice.result.now (c.as_slice.ensures.value ∙ c.in_ok-infos.ensures.numbered 0) c.requires.few
-
 pub add_slots-requires-clause-few : goal.add_slots-requires-clause-few
 add_slots-requires-clause-few c =
     few_numbered c.args.classes.items 0 c.in_ok-infos.infos.items (c.in_ok-infos.ensures.numbered 0) c.requires.few

@@ -1,6 +1,6 @@
 use Rattle.std.proofs.Common.{◌≡◌, None, sym, ap, subst, ◌∙◌}
 use Rattle.std.proofs.lemmas.Result.{err_from_is_err_and}
-use Rattle.dv_defs.specs.LinkFaults.{Fails, Checks}
+use Rattle.dv_defs.specs.LinkFaults.{Fails}
 use Rattle.dv_defs.specs.Linked.{first_phases, AreNamed}
 use Rattle.dv_defs.specs.Numbering.{names_of}
 use Rattle.dv_linklaws.specs.Stripped.{def_names}
