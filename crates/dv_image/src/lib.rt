@@ -1,0 +1,9 @@
+//! Questions about an image: subtypes, and the nearest common superclass.
+#![tactic(auto)]
+
+mod classes;
+mod common;
+mod subtypes;
+
+pub use common::common_super;
+pub use subtypes::{assignable, sub};
