@@ -521,8 +521,7 @@ fn interfaces_may_be_reached_by_many_ways(rt: HostRuntime) -> Result<(), Fail> {
         alloc,
         ".class interface abstract LX0;\n.super Ljava/lang/Object;\n.class interface abstract LY0;\n.super Ljava/lang/Object;\n",
     )?;
-    for n in 1..21 {
-        let below = n - 1;
+    for (below, n) in (0..20).zip(1..21) {
         for name in ["X", "Y"] {
             text.push_str(&format!(in alloc;
                 ".class interface abstract L{name}{n};\n.super Ljava/lang/Object;\n.implements LX{below};\n.implements LY{below};\n"
