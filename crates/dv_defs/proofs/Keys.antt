@@ -36,7 +36,7 @@ results None (Some u) = refl
 results (Some t) None = refl
 results (Some t) (Some u) = types t u
 
-protos : (p q : Proto) → (of_proto.ghosts).eq p q ≡ same_proto p q
+pub protos : (p q : Proto) → (of_proto.ghosts).eq p q ≡ same_proto p q
 protos p q = λ i. lists p.params q.params i && results p.ret q.ret i
 
 fields : (a b : FieldRef) → (of_field.ghosts).eq a b ≡ field_eq a b

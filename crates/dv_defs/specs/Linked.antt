@@ -19,8 +19,8 @@ use Rattle.dv_defs.specs.Types.{of_class, words_of, same_proto}
 use Rattle.dv_defs.specs.Field.{may_stand}
 use Rattle.dv_defs.specs.Pools.{Method, Field, method_at, field_at, methods_of, class_named, supers, nearest, declared_by, is_static, is_private, is_constructor, is_static_field, is_interface, no_arguments}
 use Rattle.dv_defs.specs.Joins.{array_of}
-use Rattle.dv_defs.specs.Order.{has_number, numbers}
-use Rattle.dv_defs.specs.LookUp.{field_named, method_named, superinterfaces}
+use Rattle.dv_defs.specs.Order.{numbers}
+use Rattle.dv_defs.specs.LookUp.{field_named, method_named, interfaces_above, once}
 use Rattle.dv_defs.specs.Numbering.{declared, numbered, names_of}
 use Rattle.dv_defs.specs.LinkFaults.{Found, found, first_fault_by, boot_fault, limit_fault, is_twice, wrong_above, on_cycle, has_field_twice, wrong_methods, wrong_pools}
 
@@ -200,11 +200,10 @@ pub record IsImage (image : Image) : Type 0 where
   pub named : AreNamed (defs image.classes)
   pub values : All HasValues (defs image.classes)
 
--- what an image's classes are looked up by: their names, and of each class the superinterfaces, in any order
+-- what an image's classes are looked up by: their names, and of each class the interfaces that it names and those above them
 pub record IsIndex (names : List (List ℕ)) (above : List (List ClassId)) (image : Image) : Type 0 where
   pub names_are : names ≡ names_of image.classes
-  pub superinterfaces_are :
-      (c d : ℕ) → has_number d (numbers (slice_index_or above c [])) ≡ has_number d (superinterfaces image c)
+  pub above_are : (c : ℕ) → numbers (slice_index_or above c []) ≡ once (interfaces_above image c)
 
 -- ---- the main method
 

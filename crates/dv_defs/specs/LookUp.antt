@@ -1,5 +1,5 @@
 -- Where references to members lead (JVMS 5.4.3.2 and 5.4.3.3, as AOSP's linker has them).
-use Rattle.std.specs.Prelude.{ℕ, zero, suc, Bool, true, false, ◌&&◌, List, [], ◌∷◌, ◌++◌, length, flat_map, Option, Some, None, slice_get, nat_eq, bytes_eq, option_to_list, option_and_then}
+use Rattle.std.specs.Prelude.{ℕ, zero, suc, Bool, true, false, ◌&&◌, not, List, [], ◌∷◌, ◌++◌, length, filter, flat_map, Option, Some, None, slice_get, nat_eq, bytes_eq, option_to_list, option_and_then}
 use Rattle.dv_defs.specs.declared.names.Ty.{Ty}
 use Rattle.dv_defs.specs.declared.names.Proto.{Proto}
 use Rattle.dv_defs.specs.declared.names.FieldRef.{FieldRef}
@@ -27,10 +27,18 @@ interfaces_first image c = interfaces_at image c ++ option_to_list (parent_at im
 abbrev pub field_classes : Image → ℕ → List ℕ
 field_classes image c = upward (interfaces_first image) (length image.classes) c
 
--- the superinterfaces of a class, depth first, its own before those of its superclass
+-- the interfaces that a class names and those above them, depth first
+abbrev pub interfaces_above : Image → ℕ → List ℕ
+interfaces_above image c = flat_map (upward (interfaces_at image) (length image.classes)) (interfaces_at image c)
+
+-- the superinterfaces of a class, its own before those of its superclass
 abbrev pub superinterfaces : Image → ℕ → List ℕ
-superinterfaces image c =
-    flat_map (λ s. flat_map (upward (interfaces_at image) (length image.classes)) (interfaces_at image s)) (supers image c)
+superinterfaces image c = flat_map (interfaces_above image) (supers image c)
+
+-- each number once, where it stands first
+abbrev pub once : List ℕ → List ℕ
+once [] = []
+once (c ∷ cs) = c ∷ filter (λ d. not (nat_eq c d)) (once cs)
 
 -- where a method is looked for: in the class, then in its superclasses, nearest first, then in all superinterfaces in order
 abbrev pub method_classes : Image → ℕ → List ℕ

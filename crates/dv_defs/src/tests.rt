@@ -33,6 +33,20 @@ fn a_seq_keeps_its_items(rt: HostRuntime) -> Result<(), Fail> {
 }
 
 #[test]
+fn a_pool_has_each_entry_once(rt: HostRuntime) -> Result<(), Fail> {
+    let alloc = rt.alloc();
+    let (main, other) = (text(alloc, b"LMain;")?, text(alloc, b"LOther;")?);
+    let mut pool = Pool::new(alloc);
+    pool.add(&main)?;
+    pool.add(&other)?;
+    pool.add(&main)?;
+    assert_eq!(rt; pool.place_of(&other), Some(1));
+    assert_eq!(rt; pool.place_of(&text(alloc, b"LNone;")?), None);
+    assert_eq!(rt; pool.into_seq()?.items(), [main, other].as_slice());
+    Ok(())
+}
+
+#[test]
 fn texts_and_chars_are_their_items(rt: HostRuntime) -> Result<(), Fail> {
     let name = text(rt.alloc(), b"LMain;")?;
     assert_eq!(rt; name.bytes(), b"LMain;".as_slice());
