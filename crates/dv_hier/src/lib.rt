@@ -15,4 +15,5 @@ mod numbering;
 mod slots;
 
 pub use building::build;
+pub use faults::error_of;
 pub use hierarchy::{Classes, Hierarchy};
