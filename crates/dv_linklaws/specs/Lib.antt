@@ -1,1 +1,2 @@
 pub mod Stripped
+pub mod Ordered
