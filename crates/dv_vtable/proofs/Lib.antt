@@ -1,0 +1,3 @@
+pub mod OrderedImages
+pub mod TableLaws
+pub mod TabledLaws
