@@ -24,7 +24,8 @@ use Rattle.dv_defs.specs.Linked.{defs, slotted, tabled, class_with_table, table_
 use Rattle.dv_linklaws.specs.Stripped.{AreInRange, stripped, class_stripped, method_info_stripped, field_info_stripped}
 use Rattle.dv_linklaws.proofs.First.{or_none, map_none, first_below_none}
 use Rattle.dv_linklaws.proofs.Alike.{stripped_numbered, stripped_slotted}
-use Rattle.dv_linklaws.proofs.AlikeImages.{AreAlike, alike_supers, alike_methods_of, alike_slotted, alike_back}
+use Rattle.dv_linklaws.proofs.AlikeFaults.{alike_wrong_methods}
+use Rattle.dv_linklaws.proofs.AlikeImages.{AreAlike, alike_slotted}
 use Rattle.dv_linklaws.proofs.Bounds.{few_classes, few_methods}
 use Rattle.dv_linklaws.proofs.Members.{slotted_methods, numbered_methods}
 use Rattle.dv_vtable.proofs.OrderedImages.{phases_ordered, ordered_alike}
@@ -92,19 +93,7 @@ few_hierarchy h is =
     let few = few_defs (defs h.classes) h.boot is.is_built in
     (omega (arith, few.0, length-map h.classes (λ (c : ClassInfo). c.def)), rw (method_counts h.classes) few.1)
 
--- ---- what is wrong with methods doesn't depend on slots, tables and pools
-
-alike_forbids : (a b : Image) → AreAlike a b → (m : MethodDef) (d : ℕ) → forbids a m d ≡ forbids b m d
-alike_forbids a b alike m d = ap (list_any (λ n. is_final n && same_method m n)) (alike_methods_of a b alike d)
-
-alike_overrides : (a b : Image) → AreAlike a b → (i : ℕ) (m : MethodDef) → overrides_final a i m ≡ overrides_final b i m
-alike_overrides a b alike i m =
-    λ j. when (is_open m && not (bytes_eq m.name init_name) && list_any (λ d. alike_forbids a b alike m d j) (drop 1 (alike_supers a b alike i j))) (kind.FinalOverride m.name)
-
-pub alike_wrong_methods : (a b : Image) → AreAlike a b → (i : ℕ) (c : ClassDef) → wrong_methods a i c ≡ wrong_methods b i c
-alike_wrong_methods a b alike i c =
-    λ j. option_or (first_below (method_twice c.methods) (length c.methods))
-    (option_or (first_in (body_wrong (alike j).boot i c) c.methods) (first_in (λ m. alike_overrides a b alike i m j) c.methods))
+-- ---- what is wrong with methods
 
 pub hierarchy_methods : (h : HierarchyValue) → IsHierarchy h → first_fault_by (wrong_methods (image_of h)) (defs h.classes) ≡ method_phase (defs h.classes) h.boot
 unfolding method_phase
