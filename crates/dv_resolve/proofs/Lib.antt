@@ -1,0 +1,2 @@
+pub mod OrderedImages
+pub mod LinkedLaws
