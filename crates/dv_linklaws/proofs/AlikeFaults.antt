@@ -36,7 +36,7 @@ abbrev by_method : Method → MethodId
 by_method m = record { 0 = m.id }
 
 -- what is given of what is found is found
-map_filtered : {X Y Z : Type 0} (g : Y → Z) (f : X → Option Y) (xs : List X) → map g (filter_map f xs) ≡ filter_map (λ x. option_map g (f x)) xs
+pub map_filtered : {X Y Z : Type 0} (g : Y → Z) (f : X → Option Y) (xs : List X) → map g (filter_map f xs) ≡ filter_map (λ x. option_map g (f x)) xs
 map_filtered g f [] = refl
 map_filtered {X} {Y} {Z} g f (x ∷ xs) = here (f x) (map_filtered g f xs)
   where

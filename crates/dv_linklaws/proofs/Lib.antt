@@ -9,3 +9,4 @@ pub mod Alike
 pub mod AlikeMembers
 pub mod AlikeImages
 pub mod AlikeFaults
+pub mod AlikeTables
