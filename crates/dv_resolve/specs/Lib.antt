@@ -1,2 +1,3 @@
+pub mod Interfaces
 pub mod Members
 pub mod Answers
