@@ -1,2 +1,4 @@
 pub mod OrderedImages
 pub mod LinkedLaws
+pub mod AddedLaws
+pub mod InterfaceLaws
