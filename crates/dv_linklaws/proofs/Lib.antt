@@ -10,3 +10,4 @@ pub mod AlikeMembers
 pub mod AlikeImages
 pub mod AlikeFaults
 pub mod AlikeTables
+pub mod OrderedImages
