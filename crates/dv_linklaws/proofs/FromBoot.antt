@@ -11,7 +11,7 @@ use Rattle.dv_defs.specs.declared.flags.Flag.TheVariants as flag
 use Rattle.dv_defs.specs.First.{first_in}
 use Rattle.dv_defs.specs.Flags.{has_flag}
 use Rattle.dv_defs.specs.Names.{object_name}
-use Rattle.dv_defs.specs.Boot.{Row, word, class_rows, flags_are, parent_is, names_are, fields_are, methods_are, field_rows, method_rows, class_is, has_row, is_in_table}
+use Rattle.dv_defs.specs.Boot.{Row, word, tells_flag, both_or_none, class_rows, flags_are, parent_is, names_are, fields_are, methods_are, field_rows, method_rows, class_is, has_row, is_in_table}
 use Rattle.dv_defs.specs.LinkFaults.{boot_fault, row_lacks, is_foreign, not_there}
 use Rattle.dv_linklaws.proofs.First.{or_none, when_none}
 
@@ -55,11 +55,11 @@ record IsFoundAt (p : ClassDef → Bool) (cs : List ClassDef) (c : ClassDef) : T
 
 found_at : (p : ClassDef → Bool) (cs : List ClassDef) (c : ClassDef) → find p cs ≡ Some c → IsFoundAt p cs c
 found_at p [] c h = absurd (cc)
-found_at p (d ∷ ds) c h = by (p d) refl h
+found_at p (d ∷ ds) c h = by (p d) refl (λ later. found_at p ds c later) h
   where
-    by : (b : Bool) → p d ≡ b → cond b (Some d) (find p ds) ≡ Some c → IsFoundAt p (d ∷ ds) c
-    by true e same = let here : d ≡ c = cc in record { place = 0; at = same; passes = subst (λ x. p x ≡ true) here e }
-    by false e later = let there = found_at p ds c later in record { place = suc there.place; at = there.at; passes = there.passes }
+    by : (b : Bool) → p d ≡ b → (find p ds ≡ Some c → IsFoundAt p ds c) → cond b (Some d) (find p ds) ≡ Some c → IsFoundAt p (d ∷ ds) c
+    by true e rest same = let here : d ≡ c = cc in record { place = 0; at = same; passes = subst (λ x. p x ≡ true) here e }
+    by false e rest later = let there = rest later in record { place = suc there.place; at = there.at; passes = there.passes }
 
 front_at : (cs : List ClassDef) (k i : ℕ) (c : ClassDef) → slice_get (take k cs) i ≡ Some c → slice_get cs i ≡ Some c
 front_at cs zero i c h = absurd (cc)
@@ -73,13 +73,17 @@ record IsLike (row : Row) (c : ClassDef) : Type 0 where
   interfaces : names_are (drop 3 row) c.interfaces ≡ true
   fields : fields_are (field_rows (word row 0)) c.fields ≡ true
 
+five : (p q r s t : Bool) → (p && q && r && s && t) ≡ true → (p ≡ true) × (q ≡ true) × (r ≡ true) × (s ≡ true)
+five true true true true t h = (refl, refl, refl, refl)
+five true true true false t h = absurd (cc)
+five true true false s t h = absurd (cc)
+five true false r s t h = absurd (cc)
+five false q r s t h = absurd (cc)
+
 like_by : (row : Row) (c : ClassDef) → class_is row c ≡ true → IsLike row c
 like_by row c is =
-    let a = and_parts (flags_are (word row 1) c.flags) (parent_is (word row 2) c.parent && names_are (drop 3 row) c.interfaces && fields_are (field_rows (word row 0)) c.fields && methods_are (method_rows (word row 0)) c.methods) is in
-    let b = and_parts (parent_is (word row 2) c.parent) (names_are (drop 3 row) c.interfaces && fields_are (field_rows (word row 0)) c.fields && methods_are (method_rows (word row 0)) c.methods) a.1 in
-    let d = and_parts (names_are (drop 3 row) c.interfaces) (fields_are (field_rows (word row 0)) c.fields && methods_are (method_rows (word row 0)) c.methods) b.1 in
-    let e = and_parts (fields_are (field_rows (word row 0)) c.fields) (methods_are (method_rows (word row 0)) c.methods) d.1 in
-    record { flags = a.0; parent = b.0; interfaces = d.0; fields = e.0 }
+    let parts = five (flags_are (word row 1) c.flags) (parent_is (word row 2) c.parent) (names_are (drop 3 row) c.interfaces) (fields_are (field_rows (word row 0)) c.fields) (methods_are (method_rows (word row 0)) c.methods) is in
+    record { flags = parts.0; parent = parts.1; interfaces = parts.2; fields = parts.3 }
 
 record HasLike (row : Row) (cs : List ClassDef) : Type 0 where
   class : ClassDef
@@ -117,14 +121,16 @@ root_fields = refl
 
 fifth : (p : Flag → Bool) (a b c d e : Flag) (rest : List Flag) → list_all p (a ∷ b ∷ c ∷ d ∷ e ∷ rest) ≡ true → p e ≡ true
 fifth p a b c d e rest all =
-    let first = and_parts (p a) (p b && p c && p d && p e && list_all p rest) all in
-    let second = and_parts (p b) (p c && p d && p e && list_all p rest) first.1 in
-    let third = and_parts (p c) (p d && p e && list_all p rest) second.1 in
-    let fourth = and_parts (p d) (p e && list_all p rest) third.1 in
+    let first = and_parts (p a) (list_all p (b ∷ c ∷ d ∷ e ∷ rest)) all in
+    let second = and_parts (p b) (list_all p (c ∷ d ∷ e ∷ rest)) first.1 in
+    let third = and_parts (p c) (list_all p (d ∷ e ∷ rest)) second.1 in
+    let fourth = and_parts (p d) (list_all p (e ∷ rest)) third.1 in
     (and_parts (p e) (list_all p rest) fourth.1).0
 
 no_interface : (flags : ℕ) → flags_are (codes "-") flags ≡ true → has_flag flags flag.Interface ≡ false
-no_interface flags are = ?
+no_interface flags are =
+    not-true (has_flag flags flag.Interface)
+    (fifth (λ f. both_or_none (tells_flag (codes "-") f) (has_flag flags f)) flag.Static flag.Final flag.Private flag.Native flag.Interface (flag.Abstract ∷ flag.Volatile ∷ []) are)
 
 -- class Object, with nothing above it and without fields
 pub record HasObject (cs : List ClassDef) : Type 0 where
