@@ -11,5 +11,6 @@ pub mod AlikeImages
 pub mod AlikeFaults
 pub mod AlikeTables
 pub mod FromBoot
+pub mod FromFaults
 pub mod FromPhases
 pub mod OrderedImages
