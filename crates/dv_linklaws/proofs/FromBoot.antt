@@ -1,5 +1,5 @@
 -- Class Object stands among the classes where the boot classes are those of the table: alone, with no interface and no field.
-use Rattle.std.proofs.Common.{◌≡◌, ◌<◌, ℕ, zero, suc, Bool, true, false, not, ◌&&◌, cond, List, [], ◌∷◌, length, take, drop, get_or, Option, Some, None, refl, sym, ap, subst, ◌∙◌, arith}
+use Rattle.std.proofs.Common.{◌≡◌, ◌<◌, ℕ, zero, suc, Bool, true, false, not, ◌&&◌, cond, List, [], ◌∷◌, length, take, drop, get_or, Option, Some, None, refl, subst, arith}
 use Rattle.std.specs.Prelude.{bytes_eq, slice_get, find, codes}
 use Rattle.std.specs.List.{list_all}
 use Rattle.std.proofs.lemmas.Bool.{and_parts, not-true, not-false}
@@ -11,7 +11,7 @@ use Rattle.dv_defs.specs.declared.flags.Flag.TheVariants as flag
 use Rattle.dv_defs.specs.First.{first_in}
 use Rattle.dv_defs.specs.Flags.{has_flag}
 use Rattle.dv_defs.specs.Names.{object_name}
-use Rattle.dv_defs.specs.Boot.{Row, word, tells_flag, both_or_none, class_rows, flags_are, parent_is, names_are, fields_are, methods_are, field_rows, method_rows, class_is, has_row, is_in_table}
+use Rattle.dv_defs.specs.Boot.{Row, word, tells_flag, both_or_none, class_rows, flags_are, parent_is, names_are, fields_are, methods_are, field_rows, method_rows, class_is, has_row}
 use Rattle.dv_defs.specs.LinkFaults.{boot_fault, row_lacks, is_foreign, not_there}
 use Rattle.dv_linklaws.proofs.First.{or_none, when_none}
 
@@ -21,9 +21,7 @@ use Rattle.dv_linklaws.proofs.First.{or_none, when_none}
 root_row : Row
 root_row = object_name ∷ codes "-" ∷ codes "-" ∷ []
 
-first_row : (rows : List Row) → Row
-first_row rows = get_or rows 0 []
-
+-- the table begins with it
 table_first : get_or class_rows 0 [] ≡ root_row
 unfolding root_row
 table_first = refl
@@ -67,6 +65,7 @@ front_at [] (suc k) i c h = h
 front_at (d ∷ ds) (suc k) zero c h = h
 front_at (d ∷ ds) (suc k) (suc i) c h = front_at ds k i c h
 
+-- a class is as a row has it, but for its methods
 record IsLike (row : Row) (c : ClassDef) : Type 0 where
   flags : flags_are (word row 1) c.flags ≡ true
   parent : parent_is (word row 2) c.parent ≡ true
@@ -85,6 +84,7 @@ like_by row c is =
     let parts = five (flags_are (word row 1) c.flags) (parent_is (word row 2) c.parent) (names_are (drop 3 row) c.interfaces) (fields_are (field_rows (word row 0)) c.fields) (methods_are (method_rows (word row 0)) c.methods) is in
     record { flags = parts.0; parent = parts.1; interfaces = parts.2; fields = parts.3 }
 
+-- there is a class of a row's name that is as the row has it
 record HasLike (row : Row) (cs : List ClassDef) : Type 0 where
   class : ClassDef
   place : ℕ

@@ -3,27 +3,26 @@ use Rattle.std.proofs.Common.{◌≡◌, ◌<◌, ℕ, zero, suc, Bool, true, fa
 use Rattle.std.specs.Prelude.{nat_eq, bytes_eq, position, slice_get, filter_map, option_map, option_and_then, All, IfSome}
 use Rattle.std.specs.Option.{option_or}
 use Rattle.std.specs.List.{list_any, cons_option}
-use Rattle.std.proofs.lemmas.Bool.{eqb-true, not-true, not-false, or_parts}
+use Rattle.std.proofs.lemmas.Bool.{eqb-true, not-false, or_parts}
 use Rattle.std.proofs.lemmas.Slice.Eq.{bytes_eq-Decides}
 use Rattle.std.proofs.lemmas.Option.{slice_get-map, slice_get_within}
 use Rattle.std.proofs.lemmas.List.{length-map}
 use Rattle.std.proofs.lemmas.List.Elements.{All-nil, All-cons}
 use Rattle.std.proofs.lemmas.List.Quantifiers.{position-Some}
 use Rattle.dv_defs.specs.declared.class.ClassDef.{ClassDef}
-use Rattle.dv_defs.specs.declared.image.ClassInfo.{ClassInfo}
 use Rattle.dv_defs.specs.declared.names.ClassId.{ClassId}
 use Rattle.dv_defs.specs.declared.faults.LinkKind.{LinkKind}
 use Rattle.dv_defs.specs.declared.faults.LinkKind.TheVariants as kind
 use Rattle.dv_defs.specs.declared.flags.Flag.TheVariants as flag
 use Rattle.dv_defs.specs.Images.{Image}
-use Rattle.dv_defs.specs.First.{first_in, when}
+use Rattle.dv_defs.specs.First.{when}
 use Rattle.dv_defs.specs.Flags.{has_flag}
 use Rattle.dv_defs.specs.Names.{object_name}
 use Rattle.dv_defs.specs.Pools.{class_named, class_number, parent_of, parent_at, flags_of, is_interface}
 use Rattle.dv_defs.specs.Order.{has_number, numbers, interfaces_of, above, any_of, implements, names_interface}
 use Rattle.dv_defs.specs.LookUp.{interfaces_at}
 use Rattle.dv_defs.specs.Numbering.{class_id, class_declared, class_numbered, declared, numbered, names_of}
-use Rattle.dv_defs.specs.LinkFaults.{first_fault_by, boot_fault, limit_fault, is_twice, is_number, no_class, no_type, no_proto, names_no_class, wrong_superclass, wrong_kind, wrong_above, final_at, on_cycle, has_field_twice}
+use Rattle.dv_defs.specs.LinkFaults.{first_fault_by, boot_fault, limit_fault, is_twice, is_number, no_class, names_no_class, wrong_superclass, wrong_kind, wrong_above, final_at, on_cycle, has_field_twice}
 use Rattle.dv_defs.specs.Linked.{first_phases}
 use Rattle.dv_linklaws.specs.Stripped.{def_names, IsInRange, AreInRange}
 use Rattle.dv_linklaws.proofs.First.{or_none, when_none}

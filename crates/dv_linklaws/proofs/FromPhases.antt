@@ -1,5 +1,5 @@
 -- Where the first phases find nothing, the numbered classes are in order.
-use Rattle.std.proofs.Common.{◌≡◌, ◌<◌, ℕ, true, false, List, [], length, map, Option, Some, None, refl, sym, ap, subst, ◌∙◌, arith}
+use Rattle.std.proofs.Common.{◌≡◌, ◌<◌, ℕ, true, false, List, [], length, map, Option, Some, None, refl, sym, ap, ◌∙◌, arith}
 use Rattle.std.specs.Prelude.{slice_get, filter_map, option_map, option_and_then}
 use Rattle.std.proofs.lemmas.Option.{slice_get_within}
 use Rattle.dv_defs.specs.declared.class.ClassDef.{ClassDef}
@@ -7,7 +7,7 @@ use Rattle.dv_defs.specs.declared.flags.Flag.TheVariants as flag
 use Rattle.dv_defs.specs.Flags.{has_flag}
 use Rattle.dv_defs.specs.Names.{object_name}
 use Rattle.dv_defs.specs.Pools.{class_named, class_number, parent_at, flags_of, fields_of, is_interface}
-use Rattle.dv_defs.specs.Order.{numbers, interfaces_of}
+use Rattle.dv_defs.specs.Order.{numbers}
 use Rattle.dv_defs.specs.LookUp.{interfaces_at}
 use Rattle.dv_defs.specs.Numbering.{class_id, class_numbered, declared, numbered}
 use Rattle.dv_defs.specs.Linked.{first_phases}

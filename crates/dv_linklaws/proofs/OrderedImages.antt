@@ -26,10 +26,8 @@ unless_ok None y z h = (refl, cc)
 unless_ok (Some fault) y z h = absurd (cc)
 
 -- no phase finds a fault
-pub record HasNoFault (cs : List ClassDef) (boot : ℕ) : Type 0 where
-  pub first : first_phases cs boot ≡ None
-  pub methods : method_phase cs boot ≡ None
-  pub pools : pool_phase cs boot ≡ None
+abbrev pub HasNoFault : List ClassDef → ℕ → Type 0
+HasNoFault cs boot = (first_phases cs boot ≡ None) × (method_phase cs boot ≡ None) × (pool_phase cs boot ≡ None)
 
 linked_ok : (cs : List ClassDef) (boot : ℕ) (image : Image) → linked cs boot ≡ Ok image → HasNoFault cs boot × (resolved (tabled (slotted (numbered cs boot))) ≡ image)
 unfolding linked
@@ -37,13 +35,13 @@ linked_ok cs boot image e =
     let both = unless_ok (option_or (first_phases cs boot) (option_or (method_phase cs boot) (pool_phase cs boot))) (resolved (tabled (slotted (numbered cs boot)))) image e in
     let first = or_none (first_phases cs boot) (option_or (method_phase cs boot) (pool_phase cs boot)) both.0 in
     let rest = or_none (method_phase cs boot) (pool_phase cs boot) first.1 in
-    (record { first = first.0; methods = rest.0; pools = rest.1 }, both.1)
+    ((first.0, rest.0, rest.1), both.1)
 
 -- the numbered classes of an image's definitions
 abbrev pub own_numbered : Image → Image
 own_numbered image = numbered (defs image.classes) image.boot
 
-pub image_phases : (image : Image) → IsImage image → HasNoFault (defs image.classes) image.boot
+pub image_phases : (image : Image) → IsImage image → (first_phases (defs image.classes) image.boot ≡ None) × (method_phase (defs image.classes) image.boot ≡ None) × (pool_phase (defs image.classes) image.boot ≡ None)
 image_phases image is = (linked_ok (defs image.classes) image.boot image is.is_linked).0
 
 -- the image is what linking makes of the numbered classes
@@ -127,4 +125,4 @@ ordered_alike a b alike ordered =
 pub image_ordered : (image : Image) → IsImage image → IsOrdered image
 image_ordered image is =
     ordered_alike (own_numbered image) image (alike_back image (own_numbered image) (image_alike image is))
-    (phases_ordered (defs image.classes) image.boot (image_phases image is).first)
+    (phases_ordered (defs image.classes) image.boot (image_phases image is).0)
