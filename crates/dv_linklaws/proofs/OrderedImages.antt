@@ -109,8 +109,8 @@ ordered_alike a b alike ordered =
     record {
       range = range_alike a b alike ordered.range;
       acyclic = λ c within.
-        sym (any_alike (λ d. implements a d c) (λ d. implements b d c) (λ d. alike_implements a b alike d c) (above a c) ∙ ap (any_of (λ d. implements b d c)) (alike_above a b alike c)) ∙
-        ordered.acyclic c (subst (λ n. c < n) (sym (alike_length a b alike)) within);
+          sym (any_alike (λ d. implements a d c) (λ d. implements b d c) (λ d. alike_implements a b alike d c) (above a c) ∙ ap (any_of (λ d. implements b d c)) (alike_above a b alike c)) ∙
+          ordered.acyclic c (subst (λ n. c < n) (sym (alike_length a b alike)) within);
       object = ordered.object;
       object_named = sym (alike_class_named a b alike object_name) ∙ ordered.object_named;
       object_in = subst (λ n. ordered.object < n) (alike_length a b alike) ordered.object_in;
