@@ -10,4 +10,7 @@ pub mod AlikeMembers
 pub mod AlikeImages
 pub mod AlikeFaults
 pub mod AlikeTables
+pub mod FromBoot
+pub mod FromFaults
+pub mod FromPhases
 pub mod OrderedImages
