@@ -68,6 +68,10 @@ or_more : (a b c : Bool) → (a || (b || c)) ≡ ((a || b) || c)
 or_more true b c = refl
 or_more false b c = refl
 
+-- a set without keys, at the superclass of the class
+pub finals_start : (cs : List ClassInfo) (c : ℕ) (info : ClassInfo) (k : MethodKey) (had : Bool) → slice_get cs c ≡ Some info → had ≡ false → (had || list_any (class_has_final cs k) (walked cs (length cs - 1) (class_number info.parent))) ≡ final_above cs c k
+finals_start cs c info k had there none = rw none (ap (λ (o : Option ClassInfo). list_any (class_has_final cs k) (walked cs (length cs - 1) (parent_of o))) (sym there))
+
 pub finals_end : (cs : List ClassInfo) (n : ℕ) (o : Option ClassId) (k : MethodKey) (had whole : Bool) → o ≡ None → (had || list_any (class_has_final cs k) (walked cs n (class_number o))) ≡ whole → had ≡ whole
 finals_end cs n o k had whole none so_far =
     sym (or_false had) ∙ (rw (none, walked_none cs n) at so_far)
