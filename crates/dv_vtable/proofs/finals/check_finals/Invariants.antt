@@ -1,14 +1,8 @@
-use Rattle.std.proofs.Common.{◌≡◌, ◌<◌, ◌||◌, ◌&&◌, not, ℕ, length, bytes_eq, option_map, IfOk, OnOk, ◌+◌, ◌-◌, ◌*◌, ◌≤◌}
-use Rattle.indexmap.specs.IndexSet.{contains}
+use Rattle.std.proofs.Common.{◌≡◌, None, take}
 use Rattle.dv_defs.specs.First.{first_in}
 use Rattle.dv_defs.specs.Images.{Image}
-use Rattle.dv_defs.specs.LinkFaults as spec
-use Rattle.dv_defs.specs.LinkFaults.{Checks, found, overrides_final}
-use Rattle.dv_defs.specs.Names.{init_name}
-use Rattle.dv_linklaws.specs.Stripped.{AreInRange}
-use Rattle.dv_vtable.specs.declared.keys.MethodKey.{MethodKey as Key}
-use Rattle.dv_vtable.specs.Finals.{final_above, has_final}
+use Rattle.dv_defs.specs.LinkFaults.{overrides_final}
 use Rattle.dv_vtable.proofs.finals.check_finals.Given as goal
 
 abbrev pub invariant-loop-method : goal.invariant-loop-method
-invariant-loop-method l = ?
+invariant-loop-method l = (image : Image) → image.classes ≡ l.infos → first_in (overrides_final image l.place) (take l.method-index l.method-items) ≡ None
