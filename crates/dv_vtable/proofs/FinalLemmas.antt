@@ -13,7 +13,7 @@ use Rattle.dv_defs.specs.Images.{Image}
 use Rattle.dv_defs.specs.Types.{same_proto}
 use Rattle.dv_defs.specs.Names.{init_name}
 use Rattle.dv_defs.specs.Pools.{class_number, methods_of, parent_at, parent_of, walk, supers}
-use Rattle.dv_defs.specs.First.{first_in, when}
+use Rattle.dv_defs.specs.First.{when}
 use Rattle.dv_defs.specs.declared.faults.LinkError.{LinkError}
 use Rattle.dv_defs.specs.LinkFaults.{Fails, Found, forbids, found, is_final, is_open, overrides_final, same_method}
 use Rattle.dv_hier.specs.Slots.{walked, superclasses}
@@ -132,8 +132,3 @@ pub override_free : (image : Image) (cs : List ClassInfo) (place : ℕ) (class :
 override_free image cs place class m k has is within named proto also fails =
     ap (λ (b : Bool). option_map (found class) (when b (kind.FinalOverride m.name)))
     (lacks_last (is_open m) (not (bytes_eq m.name init_name)) (list_any (forbids image m) (drop 1 (supers image place))) has (also ∙ final_is image cs place m k is within named proto) fails)
-
--- the end of a loop in which no method was found
-pub none_told : (f : MethodDef → Option LinkKind) (class : List ℕ) (items ms : List MethodDef) (i : ℕ) → items ≡ ms → length items ≤ i → first_in f (take i items) ≡ None → option_map (found class) (first_in f ms) ≡ None
-none_told f class items ms i same over none =
-    ap (λ (xs : List MethodDef). option_map (found class) (first_in f xs)) (sym same ∙ sym (take_all i items over)) ∙ ap (option_map (found class)) none

@@ -1,14 +1,19 @@
 -- Methods of one name and prototype, and what a class's methods are checked for.
 use Rattle.std.proofs.Common.{◌≡◌, ◌+◌, ◌<◌, ◌≤◌, ℕ, Bool, true, false, not, List, length, take, get_or, position, Option, Some, None, refl, sym, ap, ◌∙◌, arith}
-use Rattle.std.specs.Prelude.{nat_eq, nat_lt}
+use Rattle.std.specs.Prelude.{nat_eq, nat_lt, option_map}
 use Rattle.std.specs.List.{list_any}
+use Rattle.std.proofs.lemmas.List.{take_all, length-map, get_or-map}
 use Rattle.std.proofs.lemmas.Option.{slice_get_read}
 use Rattle.dv_defs.specs.declared.class.MethodDef.{MethodDef}
+use Rattle.dv_defs.specs.declared.faults.LinkError.{LinkError}
 use Rattle.dv_defs.specs.declared.faults.LinkKind.{LinkKind}
 use Rattle.dv_defs.specs.declared.faults.LinkKind.TheVariants as kind
-use Rattle.dv_defs.specs.First.{first_below, when}
-use Rattle.dv_defs.specs.LinkFaults.{same_method, method_twice, is_number}
+use Rattle.dv_defs.specs.declared.image.ClassInfo.{ClassInfo}
+use Rattle.dv_defs.specs.First.{first_below, first_in, when}
+use Rattle.dv_defs.specs.LinkFaults.{LinkTest, Fails, fault_at, first_fault_by, found, same_method, method_twice, is_number}
+use Rattle.dv_defs.specs.Linked.{defs}
 use Rattle.dv_linklaws.proofs.First.{first_below_found, first_below_more}
+use Rattle.dv_hier.proofs.AboveLaws.{classes_more, classes_told}
 use Rattle.dv_hier.proofs.Twice.{first_here, first_before, some_place, some_of, none_of}
 use Rattle.dv_vtable.specs.declared.keys.MethodKey.{MethodKey}
 use Rattle.dv_vtable.proofs.KeyLemmas.{is_like, like_key, method_same}
@@ -69,3 +74,32 @@ alone_more ms i m before within is alone =
 
 pub alone_told : (n : ℕ) → n ≤ 1 → nat_lt 1 n ≡ true → {X : Type 0} → X
 alone_told n alone several = absurd (grind arith)
+
+-- ---- each method for itself
+
+-- the end of a loop in which no method was found
+pub none_told : (f : MethodDef → Option LinkKind) (class : List ℕ) (items ms : List MethodDef) (i : ℕ) → items ≡ ms → length items ≤ i → first_in f (take i items) ≡ None → option_map (found class) (first_in f ms) ≡ None
+none_told f class items ms i same over none =
+    ap (λ (xs : List MethodDef). option_map (found class) (first_in f xs)) (sym same ∙ sym (take_all i items over)) ∙ ap (option_map (found class)) none
+
+-- ---- over classes
+
+defs_count : (infos : List ClassInfo) → length (defs infos) ≡ length infos
+defs_count infos = length-map infos (λ (c : ClassInfo). c.def)
+
+def_at : (infos : List ClassInfo) (i : ℕ) (c : ClassInfo) → i < length infos → c ≡ get_or infos i c → c.def ≡ get_or (defs infos) i c.def
+def_at infos i c within is = sym (get_or-map (λ (c : ClassInfo). c.def) infos i c c.def within ∙ ap (λ (c : ClassInfo). c.def) (sym is))
+
+-- one turn of a loop over classes that found nothing
+pub class_more : (test : LinkTest) (infos : List ClassInfo) (i : ℕ) (c : ClassInfo) → first_below (fault_at test (defs infos)) i ≡ None → i < length infos → c ≡ get_or infos i c → option_map (found c.def.name) (test i c.def) ≡ None → first_below (fault_at test (defs infos)) (i + 1) ≡ None
+class_more test infos i c before within is none = classes_more test (defs infos) i c.def before (omega (arith, defs_count infos)) (def_at infos i c within is) none
+
+-- the turn that found something
+pub class_told : (test : LinkTest) (e : LinkError) (infos : List ClassInfo) (i : ℕ) (c : ClassInfo) → first_below (fault_at test (defs infos)) i ≡ None → i < length infos → c ≡ get_or infos i c → Fails e (option_map (found c.def.name) (test i c.def)) → Fails e (first_fault_by test (defs infos))
+class_told test e infos i c before within is told = classes_told test e (defs infos) i c.def before (omega (arith, defs_count infos)) (def_at infos i c within is) told
+
+-- the end of the loop
+pub classes_done : (test : LinkTest) (infos : List ClassInfo) (i : ℕ) → first_below (fault_at test (defs infos)) i ≡ None → length infos ≤ i → i ≤ length infos → first_fault_by test (defs infos) ≡ None
+classes_done test infos i before over upto =
+    let all : length (defs infos) ≡ i = omega (arith, defs_count infos) in
+    ap (first_below (fault_at test (defs infos))) all ∙ before

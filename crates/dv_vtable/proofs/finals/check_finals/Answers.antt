@@ -1,13 +1,10 @@
 use Rattle.std.proofs.Common.{◌≡◌, rules, ap, sym, ◌∙◌, None}
 use Rattle.std.specs.Prelude.{option_map}
-use Rattle.std.proofs.lemmas.List.{take_all}
-use Rattle.indexmap.specs.IndexSet.{contains}
-use Rattle.dv_defs.specs.First.{first_in}
 use Rattle.dv_defs.specs.LinkFaults.{found, overrides_final}
 use Rattle.dv_vtable.specs.Finals.{final_above}
-use Rattle.dv_vtable.proofs.KeyLemmas.{key_eq}
 use Rattle.dv_hier.proofs.AboveLaws.{first_in_more, first_in_told}
-use Rattle.dv_vtable.proofs.FinalLemmas.{override_told, override_lacks, override_free, none_told}
+use Rattle.dv_vtable.proofs.FinalLemmas.{override_told, override_lacks, override_free}
+use Rattle.dv_vtable.proofs.MethodLemmas.{none_told}
 use Rattle.dv_vtable.proofs.finals.check_finals.Goals as goal
 use Rattle.dv_vtable.proofs.finals.check_finals.Goals.{else-may_override-via-then-may_override+else-contains, else-may_override-via-else-may_override}
 
