@@ -1,5 +1,5 @@
 -- Final methods of superclasses.
-use Rattle.std.proofs.Common.{◌≡◌, ◌+◌, ◌-◌, ◌<◌, ◌≤◌, ℕ, zero, suc, Bool, true, false, cond, not, ◌&&◌, ◌||◌, bytes_eq, List, [], ◌∷◌, length, take, drop, get_or, Option, Some, None, refl, sym, ap, ◌∙◌, arith}
+use Rattle.std.proofs.Common.{◌≡◌, ◌+◌, ◌-◌, ◌<◌, ◌≤◌, ℕ, zero, suc, Bool, true, false, cond, not, ◌&&◌, ◌||◌, bytes_eq, List, ◌∷◌, length, take, drop, get_or, Option, Some, None, refl, sym, ap, ◌∙◌, arith}
 use Rattle.std.specs.Prelude.{slice_get, option_map}
 use Rattle.std.specs.List.{list_any}
 use Rattle.std.proofs.lemmas.List.{take_all}
@@ -7,7 +7,6 @@ use Rattle.std.proofs.lemmas.List.Folds.{list_any_more}
 use Rattle.dv_defs.specs.declared.class.MethodDef.{MethodDef}
 use Rattle.dv_defs.specs.declared.image.ClassInfo.{ClassInfo}
 use Rattle.dv_defs.specs.declared.names.ClassId.{ClassId}
-use Rattle.dv_defs.specs.declared.faults.LinkKind.{LinkKind}
 use Rattle.dv_defs.specs.declared.faults.LinkKind.TheVariants as kind
 use Rattle.dv_defs.specs.Images.{Image}
 use Rattle.dv_defs.specs.Types.{same_proto}
@@ -15,7 +14,7 @@ use Rattle.dv_defs.specs.Names.{init_name}
 use Rattle.dv_defs.specs.Pools.{class_number, methods_of, parent_at, parent_of, walk, supers}
 use Rattle.dv_defs.specs.First.{when}
 use Rattle.dv_defs.specs.declared.faults.LinkError.{LinkError}
-use Rattle.dv_defs.specs.LinkFaults.{Fails, Found, forbids, found, is_final, is_open, overrides_final, same_method}
+use Rattle.dv_defs.specs.LinkFaults.{Fails, Found, forbids, found, is_final, is_open, overrides_final}
 use Rattle.dv_hier.specs.Slots.{walked, superclasses}
 use Rattle.dv_hier.proofs.Cells.{walked_none}
 use Rattle.dv_vtable.specs.declared.keys.MethodKey.{MethodKey}

@@ -1,5 +1,5 @@
 -- Which methods of the superclasses may not be overridden.
-use Rattle.std.specs.Prelude.{◌≡◌, ℕ, Bool, ◌&&◌, List, bytes_eq, slice_get}
+use Rattle.std.specs.Prelude.{ℕ, Bool, ◌&&◌, List, bytes_eq, slice_get}
 use Rattle.std.specs.List.{list_any}
 use Rattle.dv_defs.specs.declared.class.MethodDef.{MethodDef}
 use Rattle.dv_defs.specs.declared.image.ClassInfo.{ClassInfo}

@@ -1,5 +1,5 @@
 // Final methods that a class overrides.
-ghost use Rattle.std.specs.Prelude.{◌≡◌, ◌<◌, ◌||◌, ◌&&◌, not, ℕ, length, bytes_eq, option_map, IfOk, OnOk};
+ghost use Rattle.std.specs.Prelude.{◌≡◌, ◌<◌, ◌||◌, ◌&&◌, not, length, bytes_eq, option_map, IfOk, OnOk};
 ghost use Rattle.indexmap.specs.IndexSet.{contains};
 ghost use Rattle.dv_defs.specs.First.{first_in};
 ghost use Rattle.dv_defs.specs.Images.{Image};
@@ -86,10 +86,7 @@ pub fn check_finals<'a>(
     let finals = finals_above(alloc, infos, place)?;
     for method in class.methods.items() {
         if may_override(method) && finals.contains(&key_of(method)) {
-            return Err(error_of(
-                &class.name,
-                LinkKind::FinalOverride(method.name.clone()?),
-            ));
+            return Err(error_of(&class.name, LinkKind::FinalOverride(method.name.clone()?)));
         }
     }
     Ok(())

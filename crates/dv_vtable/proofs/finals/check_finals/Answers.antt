@@ -1,4 +1,4 @@
-use Rattle.std.proofs.Common.{◌≡◌, rules, ap, sym, ◌∙◌, None}
+use Rattle.std.proofs.Common.{◌≡◌, rules, sym, ◌∙◌, None}
 use Rattle.std.specs.Prelude.{option_map}
 use Rattle.dv_defs.specs.LinkFaults.{found, overrides_final}
 use Rattle.dv_vtable.specs.Finals.{final_above}
@@ -32,10 +32,10 @@ loop-method-preserved c =
     λ image is.
     let none : option_map (found class.name) (overrides_final image c.args.place m) ≡ None = elim c.else-may_override.branch [
       | else-may_override-via-then-may_override+else-contains w ↦
-        let has : w.contains.result ≡ final_above cs c.args.place w.key_of.result = w.contains.ensures ∙ c.in_ok-finals.ensures w.key_of.result in
-        override_free image cs c.args.place class.name m w.key_of.result w.contains.result is c.requires.place w.key_of.ensures.name w.key_of.ensures.proto has w.if-contains.false
+          let has : w.contains.result ≡ final_above cs c.args.place w.key_of.result = w.contains.ensures ∙ c.in_ok-finals.ensures w.key_of.result in
+          override_free image cs c.args.place class.name m w.key_of.result w.contains.result is c.requires.place w.key_of.ensures.name w.key_of.ensures.proto has w.if-contains.false
       | else-may_override-via-else-may_override w ↦
-        override_lacks image c.args.place class.name m c.may_override.result c.may_override.ensures w.if-may_override.false
+          override_lacks image c.args.place class.name m c.may_override.result c.may_override.ensures w.if-may_override.false
     ] in
     first_in_more (overrides_final image c.args.place) class.name c.items-method-items.result.now i m (c.loop-method.invariant image is) c.loop-method-test.true c.method-item.is none
 
