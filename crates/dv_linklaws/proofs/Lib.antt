@@ -8,3 +8,4 @@ pub mod Members
 pub mod Alike
 pub mod AlikeMembers
 pub mod AlikeImages
+pub mod OnceNumbers
