@@ -9,3 +9,5 @@ pub mod Alike
 pub mod AlikeMembers
 pub mod AlikeImages
 pub mod OnceNumbers
+pub mod Upward
+pub mod FieldOrder
