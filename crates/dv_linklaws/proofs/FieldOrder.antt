@@ -9,9 +9,9 @@ use Rattle.dv_defs.specs.declared.class.FieldDef.{FieldDef}
 use Rattle.dv_defs.specs.declared.image.FieldInfo.{FieldInfo}
 use Rattle.dv_defs.specs.Images.{Image}
 use Rattle.dv_defs.specs.First.{first_in}
-use Rattle.dv_defs.specs.Pools.{Field, parent_at, walk, supers, is_interface, fields_of, with_field, with_field_info}
+use Rattle.dv_defs.specs.Pools.{Field, parent_at, walk, supers, is_interface, fields_of, with_field}
 use Rattle.dv_defs.specs.Order.{has_number, above}
-use Rattle.dv_defs.specs.LookUp.{upward, interfaces_at, interfaces_first, interfaces_above, once, pick_field, is_field_of, field_declared, field_classes, field_found}
+use Rattle.dv_defs.specs.LookUp.{upward, interfaces_at, interfaces_first, interfaces_above, once, pick_field, is_field_of, field_declared, field_found}
 use Rattle.dv_linklaws.specs.Ordered.{IsOrdered}
 use Rattle.dv_linklaws.proofs.Reach.{above_in}
 use Rattle.dv_linklaws.proofs.ReachPlaces.{place, place_bounded, place_rises}

@@ -11,3 +11,4 @@ pub mod AlikeImages
 pub mod OnceNumbers
 pub mod Upward
 pub mod FieldOrder
+pub mod Implemented

@@ -1,15 +1,14 @@
 -- Laws of going up from a class by numbers that fall: the steps after which it is cut off aren't met.
-use Rattle.std.specs.Prelude.{ℕ, zero, suc, ◌≡◌, ◌<◌, Bool, true, false, List, [], ◌∷◌, ◌++◌, length, flat_map, Option, Some, None, nat_eq, slice_get, option_to_list, ◌⊎◌}
+use Rattle.std.specs.Prelude.{ℕ, zero, suc, ◌≡◌, ◌<◌, true, List, [], ◌∷◌, ◌++◌, length, flat_map, Option, Some, None, option_to_list, ◌⊎◌}
 use Rattle.std.specs.Option.{option_or}
 use Rattle.std.proofs.Common.{refl, sym, ap, ◌∙◌, inl, inr, ⊎_elim, arith}
-use Rattle.std.proofs.lemmas.Bool.{eqb-true}
 use Rattle.dv_defs.specs.Images.{Image}
 use Rattle.dv_defs.specs.First.{first_in}
-use Rattle.dv_defs.specs.Pools.{parent_at, walk, supers}
-use Rattle.dv_defs.specs.Order.{has_number, above, interfaces_of, with_parent}
+use Rattle.dv_defs.specs.Pools.{parent_at, walk}
+use Rattle.dv_defs.specs.Order.{has_number, above, with_parent}
 use Rattle.dv_defs.specs.LookUp.{upward, interfaces_at, interfaces_first}
 use Rattle.dv_linklaws.specs.Stripped.{AreInRange}
-use Rattle.dv_linklaws.proofs.Reach.{number_first, number_later, number_cases, above_in}
+use Rattle.dv_linklaws.proofs.Reach.{number_first, number_later, number_cases}
 use Rattle.dv_linklaws.proofs.ReachPlaces.{place, IsAcyclic, place_bounded, place_rises}
 
 -- ---- lists
