@@ -1,7 +1,7 @@
 -- Where a field is found: in each class of the walk up and in the interfaces above that class.
-use Rattle.std.specs.Prelude.{ℕ, zero, suc, ◌≡◌, ◌<◌, Bool, true, false, ◌&&◌, List, [], ◌∷◌, ◌++◌, length, flat_map, Option, Some, None, nat_eq, slice_get, option_to_list}
+use Rattle.std.specs.Prelude.{ℕ, zero, suc, ◌≡◌, ◌<◌, ◌≤◌, Bool, true, false, ◌&&◌, List, [], ◌∷◌, ◌++◌, length, flat_map, Option, Some, None, nat_eq, slice_get, option_to_list}
 use Rattle.std.specs.Option.{option_or}
-use Rattle.std.proofs.Common.{refl, sym, ap, ◌∙◌, arith}
+use Rattle.std.proofs.Common.{refl, sym, ap, ◌∙◌, ⊎_elim, arith}
 use Rattle.std.proofs.lemmas.Bool.{eqb-true}
 use Rattle.std.proofs.lemmas.Grind.{flat_map-append}
 use Rattle.dv_defs.specs.declared.names.Ty.{Ty}
@@ -13,10 +13,10 @@ use Rattle.dv_defs.specs.Pools.{Field, parent_at, walk, supers, is_interface, fi
 use Rattle.dv_defs.specs.Order.{has_number, above}
 use Rattle.dv_defs.specs.LookUp.{upward, interfaces_at, interfaces_first, interfaces_above, once, pick_field, is_field_of, field_declared, field_found}
 use Rattle.dv_linklaws.specs.Ordered.{IsOrdered}
-use Rattle.dv_linklaws.proofs.Reach.{above_in}
+use Rattle.dv_linklaws.proofs.Reach.{above_in, less_or_not}
 use Rattle.dv_linklaws.proofs.ReachPlaces.{place, place_bounded, place_rises}
 use Rattle.dv_linklaws.proofs.OnceNumbers.{first_in_once}
-use Rattle.dv_linklaws.proofs.Upward.{first_in_append, first_in_flat, classes_stand, parent_is_above}
+use Rattle.dv_linklaws.proofs.Upward.{first_in_append, first_in_flat, classes_stand, parent_is_above, parent_beyond, interfaces_beyond, walk_alone, upward_alone}
 
 -- ---- a class without fields declares none
 
@@ -118,3 +118,19 @@ unfolding field_found
 field_found_along image ordered c within name t =
     found_along image ordered (field_declared image name t) (declares_none image name t ordered.object ordered.object_fields) (length image.classes) c within
     (place_bounded image ordered.acyclic c within)
+
+-- and so is what a number that is no class's declares
+pub field_found_anywhere : (image : Image) → IsOrdered image → (c : ℕ) (name : List ℕ) (t : Ty) → field_found image c name t ≡ first_in (field_declared image name t) (flat_map (λ s. s ∷ once (interfaces_above image s)) (supers image c))
+unfolding field_found
+field_found_anywhere image ordered c name t =
+    ⊎_elim (λ within. field_found_along image ordered c within name t) beyond (less_or_not c (length image.classes))
+  where
+    beyond : length image.classes ≤ c → field_found image c name t ≡ first_in (field_declared image name t) (flat_map (λ s. s ∷ once (interfaces_above image s)) (supers image c))
+    beyond out =
+        let some : 0 < length image.classes = omega (arith, ordered.object_in) in
+        let alone : supers image c ≡ c ∷ [] = walk_alone image (length image.classes) c some (parent_beyond image c out) in
+        ap (first_in (field_declared image name t))
+        (upward_alone (interfaces_first image) (length image.classes) c some
+        (ap (λ (o : Option ℕ). interfaces_at image c ++ option_to_list o) (parent_beyond image c out) ∙ ap (λ (cs : List ℕ). cs ++ []) (interfaces_beyond image c out)) ∙
+        sym (ap (flat_map (λ s. s ∷ once (interfaces_above image s))) alone ∙
+        ap (λ (cs : List ℕ). (c ∷ once (flat_map (upward (interfaces_at image) (length image.classes)) cs)) ++ []) (interfaces_beyond image c out)))

@@ -12,3 +12,5 @@ pub mod OnceNumbers
 pub mod Upward
 pub mod FieldOrder
 pub mod Implemented
+pub mod OrderedImages
+pub mod ImageMembers

@@ -1,11 +1,12 @@
 -- Laws of going up from a class by numbers that fall: the steps after which it is cut off aren't met.
-use Rattle.std.specs.Prelude.{ℕ, zero, suc, ◌≡◌, ◌<◌, true, List, [], ◌∷◌, ◌++◌, length, flat_map, Option, Some, None, option_to_list, ◌⊎◌}
+use Rattle.std.specs.Prelude.{ℕ, zero, suc, ◌≡◌, ◌<◌, ◌≤◌, true, List, [], ◌∷◌, ◌++◌, length, flat_map, Option, Some, None, option_to_list, ◌⊎◌}
 use Rattle.std.specs.Option.{option_or}
 use Rattle.std.proofs.Common.{refl, sym, ap, ◌∙◌, inl, inr, ⊎_elim, arith}
+use Rattle.std.proofs.lemmas.Option.{slice_get_past}
 use Rattle.dv_defs.specs.Images.{Image}
 use Rattle.dv_defs.specs.First.{first_in}
-use Rattle.dv_defs.specs.Pools.{parent_at, walk}
-use Rattle.dv_defs.specs.Order.{has_number, above, with_parent}
+use Rattle.dv_defs.specs.Pools.{parent_of, parent_at, walk}
+use Rattle.dv_defs.specs.Order.{has_number, above, interfaces_of, with_parent}
 use Rattle.dv_defs.specs.LookUp.{upward, interfaces_at, interfaces_first}
 use Rattle.dv_linklaws.specs.Stripped.{AreInRange}
 use Rattle.dv_linklaws.proofs.Reach.{number_first, number_later, number_cases}
@@ -144,3 +145,22 @@ walk_same image range acyclic (suc m) (suc n) c m_more n_more =
     (walk_same_from image m n (parent_at image c)
     (λ p is. let less = place_rises image range acyclic c p (parent_is_above image c p is) in walk_same image range acyclic m n p (omega arith) (omega arith))
     (walk_top image m ∙ sym (walk_top image n)))
+
+-- ---- numbers that are no class's
+
+pub parent_beyond : (image : Image) (c : ℕ) → length image.classes ≤ c → parent_at image c ≡ None
+parent_beyond image c beyond = ap parent_of (slice_get_past image.classes c beyond)
+
+pub interfaces_beyond : (image : Image) (c : ℕ) → length image.classes ≤ c → interfaces_at image c ≡ []
+interfaces_beyond image c beyond = ap interfaces_of (slice_get_past image.classes c beyond)
+
+pub above_beyond : (image : Image) (c : ℕ) → length image.classes ≤ c → above image c ≡ []
+above_beyond image c beyond = ap (λ o. with_parent (parent_of o) (interfaces_of o)) (slice_get_past image.classes c beyond)
+
+pub walk_alone : (image : Image) (n c : ℕ) → 0 < n → parent_at image c ≡ None → walk image n (Some c) ≡ c ∷ []
+walk_alone image zero c some none = absurd (omega arith)
+walk_alone image (suc n) c some none = ap (λ o. c ∷ walk image n o) none ∙ ap (λ xs. c ∷ xs) (walk_top image n)
+
+pub upward_alone : (up : ℕ → List ℕ) (n c : ℕ) → 0 < n → up c ≡ [] → upward up n c ≡ c ∷ []
+upward_alone up zero c some none = absurd (omega arith)
+upward_alone up (suc n) c some none = ap (λ xs. c ∷ flat_map (upward up n) xs) none
