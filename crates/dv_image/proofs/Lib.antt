@@ -1,2 +1,5 @@
 pub mod Walks
 pub mod Joining
+pub mod Ascending
+pub mod IndexLaws
+pub mod OrderedImages

@@ -3,7 +3,8 @@
 
 mod classes;
 mod common;
+mod instances;
 mod subtypes;
 
 pub use common::common_super;
-pub use subtypes::{assignable, sub};
+pub use subtypes::{assignable, instance, sub};

@@ -12,5 +12,4 @@ pub mod OnceNumbers
 pub mod Upward
 pub mod FieldOrder
 pub mod Implemented
-pub mod OrderedImages
 pub mod ImageMembers
