@@ -13,3 +13,4 @@ pub mod Upward
 pub mod FieldOrder
 pub mod Implemented
 pub mod ImageMembers
+pub mod FieldNumbers
