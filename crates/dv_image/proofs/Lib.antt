@@ -2,4 +2,6 @@ pub mod Walks
 pub mod Joining
 pub mod Ascending
 pub mod IndexLaws
+pub mod FieldWalks
+pub mod FieldSearch
 pub mod OrderedImages

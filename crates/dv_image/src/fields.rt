@@ -1,9 +1,9 @@
 // Where a field of an image is found by its name and type (JVMS 5.4.3.2).
-ghost use Rattle.std.specs.Prelude.{◌≡◌, ◌<◌, ◌∷◌, length, nat_lt, IfSome};
+ghost use Rattle.std.specs.Prelude.{◌≡◌, ◌<◌, ◌∷◌, length, nat_lt, option_map, IfSome};
 ghost use Rattle.dv_defs.specs.First.{first_in};
 ghost use Rattle.dv_defs.specs.LookUp.{field_declared, field_found, interfaces_above, once};
 ghost use Rattle.dv_defs.specs.Order.{numbers};
-ghost use Rattle.dv_linklaws.specs.FieldPlaces.{is_like as is_like_field, place_from, place_in_class, field_count_at, number_at, id_of};
+ghost use Rattle.dv_linklaws.specs.FieldPlaces.{is_like as is_like_field, place_from, field_count_at, number_at, id_of};
 
 use crate::classes::parent_of;
 use dv_defs::{ClassId, FieldDef, FieldId, Image, Ty};
@@ -70,9 +70,9 @@ fn declared_field(image: &Image, class: usize, name: &[u8], ty: &Ty) -> Option<F
     }
 }
 
-/// The place of a field among those that a class declares.
+/// The place of a field among those that a class declares, which says its number.
 fn place_at(image: &Image, class: usize, name: &[u8], ty: &Ty) -> Option<usize>
-    ensures place { result ≡ place_in_class image.now class name.now ty.now }
+    ensures declared { id_of (field_declared image.now name.now ty.now class) ≡ option_map (λ k. record { 0 = number_at image.now class k }) result }
     ensures within { IfSome result (λ k. k < field_count_at image.now class) }
 {
     match image.classes.items().get(class) {
