@@ -1,2 +1,7 @@
 pub mod Walks
 pub mod Joining
+pub mod Ascending
+pub mod IndexLaws
+pub mod FieldWalks
+pub mod FieldSearch
+pub mod OrderedImages

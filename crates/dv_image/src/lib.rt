@@ -3,7 +3,10 @@
 
 mod classes;
 mod common;
+mod fields;
+mod instances;
 mod subtypes;
 
 pub use common::common_super;
-pub use subtypes::{assignable, sub};
+pub use fields::field_of;
+pub use subtypes::{assignable, instance, sub};

@@ -14,3 +14,9 @@ pub mod FromBoot
 pub mod FromFaults
 pub mod FromPhases
 pub mod OrderedImages
+pub mod OnceNumbers
+pub mod Upward
+pub mod FieldOrder
+pub mod Implemented
+pub mod ImageMembers
+pub mod FieldNumbers
