@@ -1,5 +1,5 @@
 -- The entries of a map into which items are put one by one. A key that is there keeps its place, and a new one goes last.
-use Rattle.std.proofs.Common.{◌≡◌, Bool, true, false, cond, not, ◌||◌, List, [], ◌∷◌, ◌++◌, map, filter, Option, Some, None, refl, sym, ap, subst, ◌∙◌, append_assoc, append-nil}
+use Rattle.std.proofs.Common.{◌≡◌, Bool, true, false, cond, not, ◌&&◌, ◌||◌, List, [], ◌∷◌, ◌++◌, map, filter, Option, Some, None, refl, sym, ap, subst, ◌∙◌, append_assoc, append-nil}
 use Rattle.std.specs.List.{list_any, find}
 use Rattle.std.specs.Cmp.{IsEquivalence}
 use Rattle.std.proofs.lemmas.List.Folds.{list_any-append}
@@ -190,3 +190,34 @@ module _ {X K V : Type 0} (eq : K → K → Bool) (laws : IsEquivalence eq) (key
       (put_is ys xs (replaced eq key id x v) apart others.1)
       (λ a. put_is ys (xs ++ x ∷ []) (replaced eq key id x v) a others.1)
       (list_any (like eq key x) xs) refl
+
+-- ---- items that pass a test
+
+none_filtered : {X : Type 0} (p q : X → Bool) (xs : List X) → list_any p xs ≡ false → list_any p (filter q xs) ≡ false
+none_filtered p q [] none = refl
+none_filtered p q (x ∷ xs) none = let parts = neither (p x) (list_any p xs) none in go (q x) refl parts.0 (none_filtered p q xs parts.1)
+  where
+    go : (b : Bool) → q x ≡ b → p x ≡ false → list_any p (filter q xs) ≡ false → list_any p (filter q (x ∷ xs)) ≡ false
+    go true e here rest = rw (e, here) rest
+    go false e here rest = rw e rest
+
+pub apart_filtered : {X K : Type 0} (eq : K → K → Bool) (key : X → K) (q : X → Bool) (xs : List X) → IsApart eq key xs → IsApart eq key (filter q xs)
+apart_filtered eq key q [] apart = tt
+apart_filtered eq key q (x ∷ xs) apart = go (q x) refl (apart_filtered eq key q xs apart.1)
+  where
+    go : (b : Bool) → q x ≡ b → IsApart eq key (filter q xs) → IsApart eq key (filter q (x ∷ xs))
+    go true e rest = rw e (none_filtered (like eq key x) q xs apart.0, rest)
+    go false e rest = rw e rest
+
+-- the first that passes two tests is the first of those that pass one
+pub found_filtered : {X : Type 0} (p q r : X → Bool) → ((x : X) → p x ≡ (q x && r x)) → (xs : List X) → find p xs ≡ find r (filter q xs)
+found_filtered p q r both [] = refl
+found_filtered p q r both (x ∷ xs) = go (q x) refl (found_filtered p q r both xs)
+  where
+    go : (b : Bool) → q x ≡ b → find p xs ≡ find r (filter q xs) → find p (x ∷ xs) ≡ find r (filter q (x ∷ xs))
+    go true e rest =
+        let same : p x ≡ r x = both x ∙ ap (λ b. b && r x) e in
+        rw (same, e, rest) refl
+    go false e rest =
+        let no : p x ≡ false = both x ∙ ap (λ b. b && r x) e in
+        rw (no, e) rest

@@ -1,3 +1,4 @@
 pub mod KeyLemmas
 pub mod Inserting
 pub mod SameKeys
+pub mod CallableLaws
