@@ -10,7 +10,7 @@ use Rattle.dv_defs.specs.declared.image.ClassInfo.{ClassInfo}
 use Rattle.dv_defs.specs.Order.{numbers}
 use Rattle.dv_defs.specs.Pools.{methods_of}
 use Rattle.dv_vtable.specs.declared.keys.MethodKey.{MethodKey}
-use Rattle.dv_vtable.specs.Chains.{Key, same_key, key_in, key_told, told, is_in_tables, method_number, entered, first_method, entered_class, entered_chain}
+use Rattle.dv_vtable.specs.Chains.{Key, same_key, key_in, key_told, told, is_in_tables, method_number, entered, first_method, entered_class, entered_chain, chain_table}
 use Rattle.dv_vtable.proofs.KeyLemmas.{key_eq, key_like}
 use Rattle.dv_vtable.proofs.SameKeys.{key_laws}
 
@@ -64,7 +64,12 @@ entered_none ms first i m es all within is left so_far =
     sym (entered_by (told es) first i m (drop (i + 1) ms) false left)
     ∙ (ap (entered (told es) (first + i)) (sym (next ms i m within is)) ∙ so_far)
 
--- ---- one class
+-- a map that stays
+pub told_same : (ms : List MethodDef) (first i : ℕ) (es new : List (MethodKey × MethodId)) (all : List (Key × MethodId)) → new ≡ es
+    → entered (told es) (first + i) (drop i ms) ≡ all → entered (told new) (first + i) (drop i ms) ≡ all
+told_same ms first i es new all same so_far = ap (λ fs. entered (told fs) (first + i) (drop i ms)) same ∙ so_far
+
+-- ---- chains
 
 numbers_append : (xs ys : List ClassId) → numbers (xs ++ ys) ≡ numbers xs ++ numbers ys
 numbers_append [] ys = refl
@@ -86,3 +91,13 @@ chain_popped cs whole xs id c first es new all is there at put so_far =
     ap (λ fs. entered_chain cs fs (numbers xs)) (sym own)
     ∙ (sym (chain_end cs es (numbers xs) id.0)
     ∙ (ap (entered_chain cs es) (sym (ap numbers is ∙ numbers_append xs (id ∷ []))) ∙ so_far))
+
+told_values : (es : List (MethodKey × MethodId)) → map (λ e. e.1) es ≡ map (λ e. e.1) (told es)
+told_values [] = refl
+told_values (e ∷ es) = ap (λ ids. e.1 ∷ ids) (told_values es)
+
+-- what a map has once a chain is done
+pub table_told : (cs : List ClassInfo) (es : List (MethodKey × MethodId)) (left : List ClassId) (whole : List ℕ) → left ≡ []
+    → entered_chain cs (told es) (numbers left) ≡ entered_chain cs [] whole → map (λ e. e.1) es ≡ chain_table cs whole
+table_told cs es left whole done so_far =
+    told_values es ∙ ap (map (λ e. e.1)) (ap (λ ids. entered_chain cs (told es) (numbers ids)) (sym done) ∙ so_far)
