@@ -4,3 +4,4 @@ pub mod SameKeys
 pub mod CallableLaws
 pub mod MethodNumbers
 pub mod EnteredLaws
+pub mod TableLaws

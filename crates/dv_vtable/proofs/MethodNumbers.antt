@@ -4,6 +4,10 @@ use Rattle.std.specs.List.{range_with_len}
 use Rattle.std.proofs.Common.{refl, sym, ap, ◌∙◌, arith, get_or, append_assoc}
 use Rattle.std.proofs.lemmas.List.Sums.{sum_by-cons, sum_by-take-le}
 use Rattle.std.proofs.lemmas.List.FromFn.{get_or-map-range_with_len, length-map-range_with_len, map-range_with_len_more}
+use Rattle.dv_defs.specs.declared.names.Ty.{Ty}
+use Rattle.dv_defs.specs.declared.names.ClassId.{ClassId}
+use Rattle.dv_defs.specs.declared.names.FieldId.{FieldId}
+use Rattle.dv_defs.specs.declared.names.MethodId.{MethodId}
 use Rattle.dv_defs.specs.declared.image.ClassInfo.{ClassInfo}
 use Rattle.dv_defs.specs.declared.image.MethodInfo.{MethodInfo}
 use Rattle.dv_linklaws.proofs.Members.{method_info}
@@ -44,7 +48,12 @@ pub as_many_firsts : (cs : List ClassInfo) (firsts : List ℕ) → firsts ≡ ma
 as_many_firsts cs firsts are = rw are (length-map-range_with_len (first_method cs) 0 (length cs))
 
 -- the turn of a loop over a class's methods
-pub numbered_more : (id place : ℕ) (before now new : List MethodInfo) → now ≡ before ++ map (method_info id) (range_with_len 0 place)
-    → new ≡ now ++ method_info id place ∷ [] → new ≡ before ++ map (method_info id) (range_with_len 0 (place + 1))
-numbered_more id place before now new so_far pushed =
-    rw (map-range_with_len_more (method_info id) 0 place place (omega arith), pushed, so_far, append_assoc) refl
+pub numbered_more : (id : ClassId) (place : ℕ) (types : List Ty) (fields : List FieldId) (methods : List MethodId) (before now new : List MethodInfo)
+    → types ≡ [] → fields ≡ [] → methods ≡ []
+    → now ≡ before ++ map (method_info id.0) (range_with_len 0 place)
+    → new ≡ now ++ record { class = id; place = place; types = types; fields = fields; methods = methods } ∷ []
+    → new ≡ before ++ map (method_info id.0) (range_with_len 0 (place + 1))
+numbered_more id place types fields methods before now new no_types no_fields no_methods so_far pushed =
+    let made : new ≡ now ++ method_info id.0 place ∷ [] =
+    pushed ∙ (λ j. now ++ record { class = id; place = place; types = no_types j; fields = no_fields j; methods = no_methods j } ∷ []) in
+    rw (map-range_with_len_more (method_info id.0) 0 place place (omega arith), made, so_far, append_assoc) refl
