@@ -55,7 +55,7 @@ first_place : (ms : List MethodDef) → first_below (method_twice ms) (length ms
     → position (same_method m) ms ≡ Some k
 first_place ms once k m there =
     let none = first_below_none (method_twice ms) (length ms) k once (slice_get_within ms k m there) in
-    let told : when (not (is_number k (position (same_method m) ms))) (kind.MethodTwice m.name) ≡ None = rw there at none in
+    let told : when (not (is_number k (position (same_method m) ms))) (kind.MethodTwice m.name) ≡ None = rw (there, method_twice) at none in
     number_is k (position (same_method m) ms) (when_none (not (is_number k (position (same_method m) ms))) (kind.MethodTwice m.name) told)
 
 once_unlike : (ms : List MethodDef) → first_below (method_twice ms) (length ms) ≡ None → AreUnlike ms
