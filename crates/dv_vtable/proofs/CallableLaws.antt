@@ -1,23 +1,20 @@
 -- The tables that an image has, told of its classes alone: a class's methods are put into the entries of the classes above it.
-use Rattle.std.specs.Prelude.{All, ℕ, zero, suc, ◌≡◌, ◌<◌, ◌+◌, Bool, true, false, ◌&&◌, not, List, [], ◌∷◌, ◌++◌, length, map, filter, position, Option, Some, None, slice_get, nat_eq, bytes_eq}
+use Rattle.std.specs.Prelude.{All, ℕ, suc, ◌≡◌, Bool, true, false, ◌&&◌, not, List, [], ◌∷◌, filter, Option, Some, None, slice_get, bytes_eq}
 use Rattle.std.specs.List.{list_any, find}
-use Rattle.std.proofs.Common.{refl, ap, sym, subst, ◌∙◌, arith, cond, get_or}
-use Rattle.std.proofs.lemmas.Bool.Decides.{nat_tests}
+use Rattle.std.proofs.Common.{refl, ap, sym, subst, ◌∙◌, arith}
 use Rattle.std.proofs.lemmas.List.Elements.{recursion_from_All, All-append, All-filter, filter_passes}
-use Rattle.std.proofs.lemmas.List.Quantifiers.{position-Some}
 use Rattle.std.proofs.lemmas.Slice.Eq.{bytes_eq-Decides}
 use Rattle.indexmap.specs.IndexMap.{insert_entry}
 use Rattle.dv_defs.specs.declared.names.MethodId.{MethodId}
-use Rattle.dv_defs.specs.declared.class.ClassDef.{ClassDef}
 use Rattle.dv_defs.specs.declared.class.MethodDef.{MethodDef}
 use Rattle.dv_defs.specs.declared.image.ClassInfo.{ClassInfo}
 use Rattle.dv_defs.specs.Images.{Image}
 use Rattle.dv_defs.specs.Names.{init_name}
 use Rattle.dv_defs.specs.Types.{same_proto}
-use Rattle.dv_defs.specs.Pools.{Method, methods_of, declared_by, is_static, is_private, is_virtual_of, first_of_classes}
+use Rattle.dv_defs.specs.Pools.{Method, methods_of, is_static, is_private, is_virtual_of, first_of_classes}
 use Rattle.dv_defs.specs.Linked.{is_callable, callable_of_class, callable_along}
 use Rattle.dv_linklaws.proofs.Members.{HasMethods, own_from, own_methods, method_of, methods_of_class, declared_by_own}
-use Rattle.dv_vtable.specs.Chains.{Key, same_key, key_in, is_in_tables, method_number, entered, first_method, entered_class, entered_chain}
+use Rattle.dv_vtable.specs.Chains.{Key, same_key, key_in, is_in_tables, method_number, entered, first_method, entered_chain}
 use Rattle.dv_vtable.proofs.Inserting.{neither, like, is_new, IsApart, apart_more, put, after, entries, put_is, apart_filtered, found_filtered}
 use Rattle.dv_vtable.proofs.SameKeys.{key_laws}
 
@@ -28,8 +25,8 @@ abbrev pub id_of : Method → MethodId
 id_of m = method_number m.id
 
 -- what a method's key leads to in entries
-abbrev pub MethodEntries : (Method → MethodId) → List Method → List (Key × MethodId)
-MethodEntries v ms = entries same_key key_of id_of v ms
+abbrev pub method_entries : (Method → MethodId) → List Method → List (Key × MethodId)
+method_entries v ms = entries same_key key_of id_of v ms
 
 abbrev pub IsApartBy : {X : Type 0} → (X → Key) → List X → Type 0
 IsApartBy key xs = IsApart same_key key xs
@@ -96,7 +93,7 @@ all_callable image is (c ∷ cs) =
     (All-filter (is_new same_key key_of (callable_along image cs)) (λ m. is_callable m ≡ true) (callable_of_class image c) own)
 
 entries_same : (v w : Method → MethodId) → ((m : Method) → is_callable m ≡ true → v m ≡ w m) → (ms : List Method) → AreCallable ms
-    → MethodEntries v ms ≡ MethodEntries w ms
+    → method_entries v ms ≡ method_entries w ms
 entries_same v w same [] callable = refl
 entries_same v w same (m ∷ ms) callable =
     let parts = recursion_from_All (λ x. is_callable x ≡ true) (m ∷ ms) callable in
@@ -145,7 +142,7 @@ apart_along image is apart (c ∷ cs) =
 
 -- the entries of a chain: of each callable method, in order, the key with where a call of it lands
 pub chain_entries : (image : Image) → HasMethods image → AreApart image.classes → (cs : List ℕ)
-    → entered_chain image.classes [] cs ≡ MethodEntries (landing image cs) (callable_along image cs)
+    → entered_chain image.classes [] cs ≡ method_entries (landing image cs) (callable_along image cs)
 chain_entries image is apart [] = refl
 chain_entries image is apart (c ∷ cs) =
     let above = chain_entries image is apart cs in

@@ -1,5 +1,5 @@
 -- The entries of a map into which items are put one by one. A key that is there keeps its place, and a new one goes last.
-use Rattle.std.proofs.Common.{◌≡◌, Bool, true, false, cond, not, ◌&&◌, ◌||◌, List, [], ◌∷◌, ◌++◌, map, filter, Option, Some, None, refl, sym, ap, subst, ◌∙◌, append_assoc, append-nil}
+use Rattle.std.proofs.Common.{◌≡◌, Bool, true, false, cond, not, ◌&&◌, ◌||◌, List, [], ◌∷◌, ◌++◌, map, filter, Some, None, refl, sym, ap, subst, ◌∙◌, append_assoc, append-nil}
 use Rattle.std.specs.List.{list_any, find}
 use Rattle.std.specs.Cmp.{IsEquivalence}
 use Rattle.std.proofs.lemmas.List.Folds.{list_any-append}
@@ -71,7 +71,7 @@ module _ {X K : Type 0} (eq : K → K → Bool) (laws : IsEquivalence eq) (key :
   grown x xs ys none new =
       let kept : filter (is_new eq key xs) (x ∷ ys) ≡ x ∷ filter (is_new eq key xs) ys =
       ap (λ b. cond (not b) (x ∷ filter (is_new eq key xs) ys) (filter (is_new eq key xs) ys)) new in
-      append_assoc xs (x ∷ []) (filter (is_new eq key (xs ++ x ∷ []))  ys)
+      append_assoc xs (x ∷ []) (filter (is_new eq key (xs ++ x ∷ [])) ys)
       ∙ (ap (λ zs. xs ++ x ∷ zs) (filter_grown x xs ys none) ∙ ap (λ zs. xs ++ zs) (sym kept))
 
   left_out : (x : X) (xs ys : List X) → list_any (like eq key x) xs ≡ true

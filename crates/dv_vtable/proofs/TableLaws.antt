@@ -1,7 +1,6 @@
 -- The tables of an image's classes are those that its classes alone tell.
-use Rattle.std.specs.Prelude.{All, ℕ, zero, suc, ◌≡◌, ◌<◌, ◌+◌, Bool, true, false, not, List, [], ◌∷◌, ◌++◌, length, map, zip, position, Option, Some, None, slice_get, nat_eq}
+use Rattle.std.specs.Prelude.{All, ℕ, zero, suc, ◌≡◌, ◌<◌, ◌+◌, false, not, List, [], ◌∷◌, ◌++◌, length, map, zip, position, Option, Some, None, slice_get}
 use Rattle.std.specs.List.{range_with_len, enumerate_from, list_any}
-use Rattle.std.specs.Cmp.{IsEquivalence}
 use Rattle.std.proofs.Common.{refl, ap, sym, subst, ◌∙◌, arith, get_or}
 use Rattle.std.proofs.lemmas.Bool.Decides.{nat_tests}
 use Rattle.std.proofs.lemmas.List.{length-map, get_or-map}
@@ -12,7 +11,6 @@ use Rattle.dv_defs.specs.declared.names.MethodId.{MethodId}
 use Rattle.dv_defs.specs.declared.class.ClassDef.{ClassDef}
 use Rattle.dv_defs.specs.declared.class.MethodDef.{MethodDef}
 use Rattle.dv_defs.specs.declared.image.ClassInfo.{ClassInfo}
-use Rattle.dv_defs.specs.declared.faults.LinkKind.{LinkKind}
 use Rattle.dv_defs.specs.declared.faults.LinkKind.TheVariants as kind
 use Rattle.dv_defs.specs.Images.{Image}
 use Rattle.dv_defs.specs.First.{first_below, when}
@@ -23,10 +21,10 @@ use Rattle.dv_defs.specs.Linked.{defs, callable_along, entry, table_at, class_wi
 use Rattle.dv_hier.specs.Slots.{walked}
 use Rattle.dv_linklaws.proofs.First.{first_below_none, when_none}
 use Rattle.dv_linklaws.proofs.Members.{HasMethods}
-use Rattle.dv_vtable.specs.Chains.{Key, same_key, key_in, chain_of, entered_chain, chain_table, table_of, tables_below, info_with}
-use Rattle.dv_vtable.proofs.Inserting.{like, IsApart}
+use Rattle.dv_vtable.specs.Chains.{same_key, key_in, chain_of, chain_table, table_of, tables_below, info_with}
+use Rattle.dv_vtable.proofs.Inserting.{like}
 use Rattle.dv_vtable.proofs.SameKeys.{key_laws}
-use Rattle.dv_vtable.proofs.CallableLaws.{MethodEntries, IsApartBy, AreApart, landing, chain_entries}
+use Rattle.dv_vtable.proofs.CallableLaws.{method_entries, IsApartBy, AreApart, landing, chain_entries}
 
 -- ---- no class declares a method twice
 
@@ -43,9 +41,10 @@ later_unlike m (n ∷ ms) unlike =
 
 unlike_apart : (ms : List MethodDef) → AreUnlike ms → IsApartBy key_in ms
 unlike_apart [] unlike = tt
-unlike_apart (m ∷ ms) unlike =
-    (later_unlike m ms (λ k n there. unlike (suc k) 0 n m (omega arith) there refl),
-    unlike_apart ms (λ k j x y less there earlier. unlike (suc k) (suc j) x y (omega arith) there earlier))
+unlike_apart (m ∷ ms) unlike = (
+  later_unlike m ms (λ k n there. unlike (suc k) 0 n m (omega arith) there refl),
+  unlike_apart ms (λ k j x y less there earlier. unlike (suc k) (suc j) x y (omega arith) there earlier),
+)
 
 number_is : (k : ℕ) (o : Option ℕ) → not (is_number k o) ≡ false → o ≡ Some k
 number_is k None is = absurd (cc)
@@ -93,7 +92,7 @@ walk_is image (suc n) (Some c) = ap (λ cs. c ∷ cs) (walk_is image n (parent_a
 chain_is : (image : Image) (c : ℕ) → chain_of image.classes c ≡ supers image c
 chain_is image c = sym (walk_is image (length image.classes) (Some c))
 
-values_are : (v : Method → MethodId) (ms : List Method) → map (λ e. e.1) (MethodEntries v ms) ≡ map v ms
+values_are : (v : Method → MethodId) (ms : List Method) → map (λ e. e.1) (method_entries v ms) ≡ map v ms
 values_are v [] = refl
 values_are v (m ∷ ms) = ap (λ ids. v m ∷ ids) (values_are v ms)
 

@@ -1,5 +1,5 @@
 -- Tables of methods, told of the classes alone.
-use Rattle.std.specs.Prelude.{ℕ, zero, suc, Bool, true, false, ◌&&◌, not, List, [], ◌∷◌, length, map, take, sum_by, Some, slice_get, bytes_eq}
+use Rattle.std.specs.Prelude.{ℕ, suc, Bool, true, false, ◌&&◌, not, List, [], ◌∷◌, length, map, take, sum_by, Some, slice_get, bytes_eq}
 use Rattle.std.specs.List.{range_with_len}
 use Rattle.indexmap.specs.IndexMap.{insert_entry}
 use Rattle.dv_defs.specs.declared.names.Proto.{Proto}

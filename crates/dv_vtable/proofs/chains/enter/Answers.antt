@@ -14,10 +14,10 @@ loop-place-preserved c =
     let all = spec.entered (spec.told c.args.methods.now.entries) c.args.first ms in
     elim c.if-is_in_tables.branch [
       | then-is_in_tables+in_ok-insert w ↦
-        entered_one ms c.args.first i m w.key_of.result c.loop-place.methods.entries c.if-is_in_tables.methods.entries all
-        within is w.key_of.ensures.name w.key_of.ensures.proto (sym c.is_in_tables.ensures ∙ w.if-is_in_tables.true)
-        (ap (λ s. s.entries) w.methods-is ∙ w.in_ok-insert.ensures.entries) c.loop-place.invariant
+          entered_one ms c.args.first i m w.key_of.result c.loop-place.methods.entries c.if-is_in_tables.methods.entries all
+          within is w.key_of.ensures.name w.key_of.ensures.proto (sym c.is_in_tables.ensures ∙ w.if-is_in_tables.true)
+          (ap (λ s. s.entries) w.methods-is ∙ w.in_ok-insert.ensures.entries) c.loop-place.invariant
       | else-is_in_tables w ↦
-        told_same ms c.args.first (i + 1) c.loop-place.methods.entries c.if-is_in_tables.methods.entries all (ap (λ s. s.entries) w.methods-is)
-        (entered_none ms c.args.first i m c.loop-place.methods.entries all within is (sym c.is_in_tables.ensures ∙ w.if-is_in_tables.false) c.loop-place.invariant)
+          told_same ms c.args.first (i + 1) c.loop-place.methods.entries c.if-is_in_tables.methods.entries all (ap (λ s. s.entries) w.methods-is)
+          (entered_none ms c.args.first i m c.loop-place.methods.entries all within is (sym c.is_in_tables.ensures ∙ w.if-is_in_tables.false) c.loop-place.invariant)
     ]
