@@ -3,8 +3,10 @@
 
 mod bodies;
 mod finals;
+mod chains;
 mod keys;
 mod methods;
+mod numbering;
 mod tabled;
 mod tabling;
 
