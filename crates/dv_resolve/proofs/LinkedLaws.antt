@@ -2,6 +2,7 @@
 use Rattle.std.proofs.Common.{◌≡◌, ◌+◌, ◌<◌, ℕ, suc, List, [], ◌∷◌, length, map, Option, Some, None, Result, Ok, Err, refl, sym, ap, subst, ◌∙◌, arith}
 use Rattle.std.specs.Prelude.{◌^◌, sum_by, All, slice_index_or}
 use Rattle.std.specs.Option.{option_or}
+use Rattle.std.specs.List.{enumerate_from}
 use Rattle.std.proofs.lemmas.List.{length-map}
 use Rattle.std.proofs.lemmas.List.Sums.{sum_by-cons}
 use Rattle.dv_defs.specs.declared.names.ClassId.{ClassId}
@@ -15,7 +16,7 @@ use Rattle.dv_defs.specs.LookUp.{interfaces_above, once}
 use Rattle.dv_defs.specs.Order.{numbers}
 use Rattle.dv_defs.specs.Numbering.{declared, numbered, all_methods_declared, all_fields_declared, names_of}
 use Rattle.dv_defs.specs.LinkFaults.{Found, Fails, first_fault_by, boot_fault, limit_fault, is_twice, wrong_pools}
-use Rattle.dv_defs.specs.Linked.{defs, slotted, tabled, resolved, method_with_pools, first_phases, method_phase, pool_phase, unless_found, linked, IsImage, IsIndex}
+use Rattle.dv_defs.specs.Linked.{defs, slotted, tabled, class_with_table, resolved, method_with_pools, first_phases, method_phase, pool_phase, unless_found, linked, IsImage, IsIndex}
 use Rattle.dv_linklaws.specs.Stripped.{stripped, class_stripped, method_info_stripped, field_info_stripped}
 use Rattle.dv_linklaws.specs.Ordered.{IsOrdered}
 use Rattle.dv_linklaws.proofs.First.{or_none}
@@ -26,7 +27,9 @@ use Rattle.dv_linklaws.proofs.Members.{HasMethods, HasFields}
 use Rattle.dv_linklaws.proofs.FromPhases.{phases_ordered}
 use Rattle.dv_linklaws.proofs.OrderedImages.{ordered_alike}
 use Rattle.dv_resolve.specs.Answers.{Answers}
-use Rattle.dv_hier.specs.Hierarchies.{HierarchyValue, IsHierarchy}
+use Rattle.dv_hier.specs.Hierarchies.{HierarchyValue, IsHierarchy, hierarchy_of}
+use Rattle.dv_hier.proofs.Built.{defs_slotted}
+use Rattle.dv_vtable.specs.Tables.{TabledValue, IsTabled, tabled_of}
 
 -- the image of classes before their pools are resolved
 abbrev pub before_pools : List ClassDef → ℕ → Image
@@ -42,61 +45,99 @@ unfolding linked
 linked_whole cs boot first second =
     λ j. unless_found (option_or (first j) (option_or (second j) (pool_phase cs boot))) (resolved (before_pools cs boot))
 
-module _ (h : HierarchyValue) (is : IsHierarchy h) (methods : List MethodInfo) (checked : method_phase (defs h.classes) h.boot ≡ None)
-    (classes_are : h.classes ≡ (before_pools (defs h.classes) h.boot).classes) (fields_are : h.fields ≡ (before_pools (defs h.classes) h.boot).fields)
-    (methods_are : methods ≡ (before_pools (defs h.classes) h.boot).methods) where
-  pub own_alike : AreAlike (image_of h.classes methods h.boot) (numbered (defs h.classes) h.boot)
+module _ (t : TabledValue) (kept : IsTabled t) (is : IsHierarchy t.h) where
+  classes_are : t.h.classes ≡ (before_pools (defs t.h.classes) t.h.boot).classes
+  classes_are = ap (λ (x : TabledValue). x.h.classes) kept.is
+
+  fields_are : t.h.fields ≡ (before_pools (defs t.h.classes) t.h.boot).fields
+  fields_are = ap (λ (x : TabledValue). x.h.fields) kept.is
+
+  methods_are : t.methods ≡ (before_pools (defs t.h.classes) t.h.boot).methods
+  methods_are = ap (λ (x : TabledValue). x.methods) kept.is
+
+  pub own_alike : AreAlike (image_of t.h.classes t.methods t.h.boot) (numbered (defs t.h.classes) t.h.boot)
   unfolding numbered slotted tabled
   own_alike =
       (λ j. record {
         classes = map class_stripped (classes_are j);
         methods = map method_info_stripped (methods_are j);
-        fields = map field_info_stripped (all_fields_declared 0 (defs h.classes));
-        boot = h.boot;
+        fields = map field_info_stripped (all_fields_declared 0 (defs t.h.classes));
+        boot = t.h.boot;
       }) ∙ (λ j. record {
-        classes = (alike_tabled (defs h.classes) h.boot j).classes;
-        methods = (alike_tabled (defs h.classes) h.boot j).methods;
-        fields = map field_info_stripped (all_fields_declared 0 (defs h.classes));
-        boot = h.boot;
+        classes = (alike_tabled (defs t.h.classes) t.h.boot j).classes;
+        methods = (alike_tabled (defs t.h.classes) t.h.boot j).methods;
+        fields = map field_info_stripped (all_fields_declared 0 (defs t.h.classes));
+        boot = t.h.boot;
       })
 
-  pub own_ordered : IsOrdered (image_of h.classes methods h.boot)
-  own_ordered = ordered_alike (numbered (defs h.classes) h.boot) (image_of h.classes methods h.boot) (sym own_alike) (phases_ordered (defs h.classes) h.boot is.is_built)
+  pub own_ordered : IsOrdered (image_of t.h.classes t.methods t.h.boot)
+  own_ordered = ordered_alike (numbered (defs t.h.classes) t.h.boot) (image_of t.h.classes t.methods t.h.boot) (sym own_alike) (phases_ordered (defs t.h.classes) t.h.boot is.is_built)
 
-  pub own_methods : HasMethods (image_of h.classes methods h.boot)
+  pub own_methods : HasMethods (image_of t.h.classes t.methods t.h.boot)
   unfolding numbered slotted tabled
   own_methods = methods_are
 
-  pub own_pools : first_fault_by (wrong_pools (image_of h.classes methods h.boot)) (defs h.classes) ≡ pool_phase (defs h.classes) h.boot
+  pub own_pools : first_fault_by (wrong_pools (image_of t.h.classes t.methods t.h.boot)) (defs t.h.classes) ≡ pool_phase (defs t.h.classes) t.h.boot
   unfolding pool_phase
-  own_pools = λ j. first_fault_by (λ i c. alike_wrong_pools (image_of h.classes methods h.boot) (numbered (defs h.classes) h.boot) own_alike i c j) (defs h.classes)
+  own_pools = λ j. first_fault_by (λ i c. alike_wrong_pools (image_of t.h.classes t.methods t.h.boot) (numbered (defs t.h.classes) t.h.boot) own_alike i c j) (defs t.h.classes)
 
-  resolved_methods : map (method_with_pools (image_of h.classes methods h.boot)) methods ≡ (resolved (before_pools (defs h.classes) h.boot)).methods
+  resolved_methods : map (method_with_pools (image_of t.h.classes t.methods t.h.boot)) t.methods ≡ (resolved (before_pools (defs t.h.classes) t.h.boot)).methods
   unfolding resolved tabled slotted numbered
   resolved_methods =
-      λ j. map (λ i. alike_with_pools (image_of h.classes methods h.boot) (before_pools (defs h.classes) h.boot) (own_alike ∙ sym (alike_tabled (defs h.classes) h.boot)) i j) (methods_are j)
+      λ j. map (λ i. alike_with_pools (image_of t.h.classes t.methods t.h.boot) (before_pools (defs t.h.classes) t.h.boot) (own_alike ∙ sym (alike_tabled (defs t.h.classes) t.h.boot)) i j) (methods_are j)
 
   -- the image whole
-  resolved_is : (done : List MethodInfo) → done ≡ map (method_with_pools (image_of h.classes methods h.boot)) methods
-      → record { classes = h.classes; methods = done; fields = h.fields; boot = h.boot } ≡ resolved (before_pools (defs h.classes) h.boot)
+  resolved_is : (done : List MethodInfo) → done ≡ map (method_with_pools (image_of t.h.classes t.methods t.h.boot)) t.methods
+      → record { classes = t.h.classes; methods = done; fields = t.h.fields; boot = t.h.boot } ≡ resolved (before_pools (defs t.h.classes) t.h.boot)
   unfolding resolved tabled slotted numbered
   resolved_is done made =
-      λ j. record { classes = classes_are j; methods = (made ∙ resolved_methods) j; fields = fields_are j; boot = h.boot }
+      λ j. record { classes = classes_are j; methods = (made ∙ resolved_methods) j; fields = fields_are j; boot = t.h.boot }
 
-  pub linked_is : (done : List MethodInfo) → done ≡ map (method_with_pools (image_of h.classes methods h.boot)) methods → pool_phase (defs h.classes) h.boot ≡ None
-      → linked (defs h.classes) h.boot ≡ Ok (record { classes = h.classes; methods = done; fields = h.fields; boot = h.boot })
+  pub linked_is : (done : List MethodInfo) → done ≡ map (method_with_pools (image_of t.h.classes t.methods t.h.boot)) t.methods → pool_phase (defs t.h.classes) t.h.boot ≡ None
+      → linked (defs t.h.classes) t.h.boot ≡ Ok (record { classes = t.h.classes; methods = done; fields = t.h.fields; boot = t.h.boot })
   linked_is done made none =
-      linked_whole (defs h.classes) h.boot is.is_built checked ∙
-      (ap (λ f. unless_found f (resolved (before_pools (defs h.classes) h.boot))) none ∙ ap (λ i. Ok i) (sym (resolved_is done made)))
+      linked_whole (defs t.h.classes) t.h.boot is.is_built kept.is_checked ∙
+      (ap (λ f. unless_found f (resolved (before_pools (defs t.h.classes) t.h.boot))) none ∙ ap (λ i. Ok i) (sym (resolved_is done made)))
 
   -- and it keeps what an image keeps
   pub linked_kept : (done : List MethodInfo) (names : List (List ℕ)) (above : List (List ClassId))
-      → done ≡ map (method_with_pools (image_of h.classes methods h.boot)) methods → pool_phase (defs h.classes) h.boot ≡ None
-      → names ≡ names_of h.classes
-      → ((c : ℕ) → numbers (slice_index_or above c []) ≡ once (interfaces_above (image_of h.classes methods h.boot) c))
-      → IsImage (record { classes = h.classes; methods = done; fields = h.fields; boot = h.boot }) × IsIndex names above (record { classes = h.classes; methods = done; fields = h.fields; boot = h.boot })
+      → done ≡ map (method_with_pools (image_of t.h.classes t.methods t.h.boot)) t.methods → pool_phase (defs t.h.classes) t.h.boot ≡ None
+      → names ≡ names_of t.h.classes
+      → ((c : ℕ) → numbers (slice_index_or above c []) ≡ once (interfaces_above (image_of t.h.classes t.methods t.h.boot) c))
+      → IsImage (record { classes = t.h.classes; methods = done; fields = t.h.fields; boot = t.h.boot }) × IsIndex names above (record { classes = t.h.classes; methods = done; fields = t.h.fields; boot = t.h.boot })
   linked_kept done names above made none named listed =
       (record { is_linked = linked_is done made none; named = is.named; values = is.values }, record { names_are = named; above_are = listed })
+
+-- ---- what is told of the classes that a call is handed, with their names and the interfaces above them
+
+-- it holds of each image of these classes whose members are numbered
+abbrev pub Holds : List ClassInfo → List (List ℕ) → List (List ClassId) → (Image → Type 0) → Type 0
+Holds is names above told =
+    (image : Image) → image.classes ≡ is → HasMethods image → HasFields image → IsOrdered image → names ≡ names_of image.classes
+    → ((c : ℕ) → numbers (slice_index_or above c []) ≡ once (interfaces_above image c)) → told image
+
+-- the interfaces above the classes are listed
+abbrev pub AreAbove : List ClassInfo → List (List ClassId) → Type 0
+AreAbove is above = (image : Image) → image.classes ≡ is → IsOrdered image → (c : ℕ) → numbers (slice_index_or above c []) ≡ once (interfaces_above image c)
+
+pub listed_for : (classes infos : List ClassInfo) → infos ≡ classes → (lists above : List (List ClassId)) → above ≡ lists → AreAbove infos lists → AreAbove classes above
+listed_for classes infos same lists above is listed = λ image own ordered c. ap (λ (ls : List (List ClassId)). numbers (slice_index_or ls c [])) is ∙ listed image (own ∙ sym same) ordered c
+
+pub listed_own : (t : TabledValue) → IsTabled t → IsHierarchy t.h → (above : List (List ClassId)) → AreAbove t.h.classes above → (c : ℕ) → numbers (slice_index_or above c []) ≡ once (interfaces_above (image_of t.h.classes t.methods t.h.boot) c)
+listed_own t kept is above listed = listed (image_of t.h.classes t.methods t.h.boot) refl (own_ordered t kept is)
+
+module _ (t : TabledValue) (kept : IsTabled t) (is : IsHierarchy t.h) (names : List (List ℕ)) (above : List (List ClassId)) (named : names ≡ names_of t.h.classes) where
+  -- of the image of the classes themselves
+  pub own_told : (infos : List ClassInfo) → infos ≡ t.h.classes → (told : Image → Type 0) → AreAbove t.h.classes above → Holds infos names above told → told (image_of t.h.classes t.methods t.h.boot)
+  own_told infos same told listed holds =
+      holds (image_of t.h.classes t.methods t.h.boot) (sym same) (own_methods t kept is) refl (own_ordered t kept is) named
+      (listed (image_of t.h.classes t.methods t.h.boot) refl (own_ordered t kept is))
+
+  pub pools_told : (infos : List ClassInfo) → infos ≡ t.h.classes → (P : Option Found → Type 0) → AreAbove t.h.classes above
+      → Holds infos names above (λ image. P (first_fault_by (wrong_pools image) (defs infos))) → P (pool_phase (defs t.h.classes) t.h.boot)
+  pools_told infos same P listed holds =
+      subst P ((λ j. first_fault_by (wrong_pools (image_of t.h.classes t.methods t.h.boot)) (defs (same j))) ∙ own_pools t kept is)
+      (own_told infos same (λ image. P (first_fault_by (wrong_pools image) (defs infos))) listed holds)
 
 -- ---- faults, phase by phase
 
@@ -145,3 +186,18 @@ pub few_of : (h : HierarchyValue) → IsHierarchy h → (length h.classes < 2 ^ 
 few_of h is =
     let few = few_defs (defs h.classes) h.boot is.is_built in
     (omega (arith, few.0, length-map h.classes (λ (c : ClassInfo). c.def)), (rw (method_counts h.classes) few.1.0, rw (field_counts h.classes) few.1.1))
+
+-- ---- the definitions of classes with tables
+
+defs_with : (image : Image) (k : ℕ) (is : List ClassInfo) → defs (map (class_with_table image) (enumerate_from k is)) ≡ defs is
+defs_with image k [] = refl
+defs_with image k (i ∷ is) = ap (λ cs. i.def ∷ cs) (defs_with image (k + 1) is)
+
+pub defs_tabled : (cs : List ClassDef) (boot : ℕ) → defs (tabled_of cs boot).h.classes ≡ cs
+unfolding tabled
+defs_tabled cs boot = defs_with (slotted (numbered cs boot)) 0 (slotted (numbered cs boot)).classes ∙ defs_slotted cs boot
+
+pub defs_of_tabled : (cs : List ClassDef) (boot : ℕ) (h : HierarchyValue) (t : TabledValue) → h ≡ hierarchy_of cs boot → t ≡ tabled_of (defs h.classes) h.boot → (defs t.h.classes ≡ cs) × (t.h.boot ≡ boot)
+defs_of_tabled cs boot h t made is =
+    let own : defs h.classes ≡ cs = ap (λ (x : HierarchyValue). defs x.classes) made ∙ defs_slotted cs boot in
+    (ap (λ (x : TabledValue). defs x.h.classes) is ∙ (defs_tabled (defs h.classes) h.boot ∙ own), ap (λ (x : TabledValue). x.h.boot) is ∙ ap (λ (x : HierarchyValue). x.boot) made)
