@@ -21,7 +21,7 @@ use Rattle.dv_linklaws.proofs.Members.{HasFields, numbered_fields, first_field, 
 use Rattle.dv_linklaws.proofs.Alike.{stripped_numbered}
 use Rattle.dv_linklaws.proofs.AlikeMembers.{stripped_field_declared}
 use Rattle.dv_linklaws.proofs.AlikeImages.{alike_field_id, alike_fields_of}
-use Rattle.dv_linklaws.proofs.ImageMembers.{image_alike}
+use Rattle.dv_linklaws.proofs.OrderedImages.{image_alike}
 
 abbrev all_count : List ClassInfo → ℕ
 all_count cs = sum_by (λ c. length c.def.fields) cs

@@ -8,6 +8,11 @@ pub mod Members
 pub mod Alike
 pub mod AlikeMembers
 pub mod AlikeImages
+pub mod AlikeFaults
+pub mod FromBoot
+pub mod FromFaults
+pub mod FromPhases
+pub mod OrderedImages
 pub mod OnceNumbers
 pub mod Upward
 pub mod FieldOrder

@@ -6,7 +6,7 @@ use Rattle.dv_linklaws.specs.FieldPlaces.{id_of}
 use Rattle.dv_linklaws.specs.Ordered.{IsOrdered}
 use Rattle.dv_linklaws.proofs.FieldOrder.{field_found_anywhere}
 use Rattle.dv_image.proofs.FieldWalks.{found_in}
-use Rattle.dv_image.proofs.OrderedImages.{image_ordered}
+use Rattle.dv_linklaws.proofs.OrderedImages.{image_ordered}
 use Rattle.dv_image.proofs.fields.field_of.Goals as goal
 
 pub loop-left-init : goal.loop-left-init
