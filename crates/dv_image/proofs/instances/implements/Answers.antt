@@ -1,4 +1,4 @@
-use Rattle.std.proofs.Common.{◌≡◌, length, Some, ap, sym, subst, ◌∙◌}
+use Rattle.std.proofs.Common.{length, Some, ap, sym, subst, ◌∙◌}
 use Rattle.dv_defs.specs.Images.{Image}
 use Rattle.dv_defs.specs.Pools.{walk}
 use Rattle.dv_linklaws.proofs.Implemented.{implements_anywhere}
