@@ -1,6 +1,6 @@
 -- What the index of an image says of the interfaces above a class.
-use Rattle.std.proofs.Common.{◌≡◌, ℕ, zero, suc, List, [], ◌∷◌, Option, Some, None, refl, ap, sym, subst, ◌∙◌}
-use Rattle.std.specs.Prelude.{slice_get, slice_index_or, false, unwrap_or}
+use Rattle.std.proofs.Common.{◌≡◌, ℕ, zero, suc, List, [], ◌∷◌, Option, ap, sym, ◌∙◌}
+use Rattle.std.specs.Prelude.{slice_get, slice_index_or, unwrap_or}
 use Rattle.dv_defs.specs.declared.names.ClassId.{ClassId}
 use Rattle.dv_defs.specs.Images.{Image}
 use Rattle.dv_defs.specs.Order.{has_number, numbers}

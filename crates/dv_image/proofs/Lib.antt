@@ -4,4 +4,3 @@ pub mod Ascending
 pub mod IndexLaws
 pub mod FieldWalks
 pub mod FieldSearch
-pub mod OrderedImages

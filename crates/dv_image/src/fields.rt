@@ -11,7 +11,7 @@ use dv_defs::{ClassId, FieldDef, FieldId, Image, Ty};
 /// The field of a name and a type: in each class of the walk up, and then in the interfaces above that class.
 #[tactic(auto, using(crate::proofs::FieldWalks::found_on, crate::proofs::FieldWalks::found_here, crate::proofs::FieldWalks::found_top, crate::proofs::FieldWalks::found_done))]
 pub fn field_of(image: &Image, class: ClassId, name: &[u8], ty: &Ty) -> Option<FieldId>
-    ensures { result ≡ id_of (field_found image.now class.0 name.now ty.now) }
+    ensures { result ≡ option_map (λ f. record { 0 = f.id }) (field_found image.now class.0 name.now ty.now) }
 {
     let mut at = Some(class.0 as usize);
     let mut left = image.classes.len();

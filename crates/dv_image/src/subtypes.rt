@@ -55,7 +55,8 @@ fn is_under_class(image: &Image, ascent: Ascent, dims: u8, a: &Base, name: &Text
     ensures { result ≡ under_class image.now (by ascent image.now) dims a.now name.now }
 {
     match a {
-        Base::Class(own) => is_object(name) || dims == 0 && is_named_under(image, ascent, own, name),
+        Base::Class(own) => is_object(name)
+            || dims == 0 && is_named_under(image, ascent, own, name),
         _ => dims > 0 && is_object(name),
     }
 }

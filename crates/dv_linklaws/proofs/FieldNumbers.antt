@@ -21,7 +21,8 @@ use Rattle.dv_linklaws.proofs.Members.{HasFields, numbered_fields, first_field, 
 use Rattle.dv_linklaws.proofs.Alike.{stripped_numbered}
 use Rattle.dv_linklaws.proofs.AlikeMembers.{stripped_field_declared}
 use Rattle.dv_linklaws.proofs.AlikeImages.{alike_field_id, alike_fields_of}
-use Rattle.dv_linklaws.proofs.ImageMembers.{image_alike}
+use Rattle.dv_linklaws.proofs.FieldOrder.{field_or}
+use Rattle.dv_linklaws.proofs.OrderedImages.{image_alike}
 
 abbrev all_count : List ClassInfo → ℕ
 all_count cs = sum_by (λ c. length c.def.fields) cs
@@ -84,9 +85,6 @@ placed (c ∷ cs) n within =
 first_of : {X : Type 0} → List X → Option X
 first_of [] = None
 first_of (x ∷ xs) = Some x
-
-abbrev field_or : (Field → Bool) → Option Field → Option Field → Option Field
-field_or good rest o = elim o [ None ↦ rest | Some f ↦ elim (good f) [ true ↦ Some f | false ↦ rest ] ]
 
 first_picked : (good : Field → Bool) (o : Option Field) (fs : List Field) (rest : Option Field) → rest ≡ first_of (filter good fs) → field_or good rest o ≡ first_of (filter good (cons_option o fs))
 unfolding first_of

@@ -20,7 +20,7 @@ use Rattle.dv_linklaws.proofs.Upward.{first_in_append, first_in_flat, classes_st
 
 -- ---- a class without fields declares none
 
-abbrev field_or : (Field → Bool) → Option Field → Option Field → Option Field
+abbrev pub field_or : (Field → Bool) → Option Field → Option Field → Option Field
 field_or good rest o = elim o [ None ↦ rest | Some f ↦ elim (good f) [ true ↦ Some f | false ↦ rest ] ]
 
 abbrev when_or : Bool → Field → Option Field → Option Field

@@ -8,6 +8,7 @@ use Rattle.dv_defs.specs.LookUp.{upward, interfaces_at, interfaces_above, superi
 use Rattle.dv_linklaws.specs.Ordered.{IsOrdered}
 use Rattle.dv_linklaws.proofs.Reach.{above_in, number_first, number_later, number_cases, reaches_here, reaches_up, reaches_gives, reaches_bounded, less_or_not}
 use Rattle.dv_linklaws.proofs.ReachPlaces.{place, place_bounded, place_rises}
+use Rattle.dv_linklaws.proofs.OnceNumbers.{or_else}
 use Rattle.dv_linklaws.proofs.Upward.{has_right, has_cases, has_in_flat, flat_gives, interfaces_stand, walk_same, above_beyond, parent_beyond, interfaces_beyond, walk_alone, parent_is_above, interface_is_above, above_is}
 
 same_truth : (a b : Bool) → (a ≡ true → b ≡ true) → (b ≡ true → a ≡ true) → a ≡ b
@@ -184,9 +185,6 @@ implements_is image ordered c d within =
     (or_gives (extends image c d) (has_number d (superinterfaces image c))
     (extended_is_under image ordered c d within)
     (interfaces_under image ordered (length image.classes) c d within))
-
-abbrev or_else : Bool → Bool → Bool
-or_else b c = elim b [ true ↦ true | false ↦ c ]
 
 or_itself : (b : Bool) → or_else b false ≡ (or_else b false || false)
 or_itself true = refl

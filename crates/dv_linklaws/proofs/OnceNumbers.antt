@@ -26,7 +26,7 @@ first_in_once f (c ∷ cs) =
     let rest : first_in f (once cs) ≡ first_in f cs = first_in_once f cs in
     or_same (f c) (first_in f (filter (λ d. not (nat_eq c d)) (once cs))) (first_in f cs) (λ none. first_in_without f c (once cs) none ∙ rest)
 
-abbrev or_else : Bool → Bool → Bool
+abbrev pub or_else : Bool → Bool → Bool
 or_else b c = elim b [ true ↦ true | false ↦ c ]
 
 -- another number may be left out

@@ -1,4 +1,4 @@
-use Rattle.std.proofs.Common.{◌≡◌, length, ap}
+use Rattle.std.proofs.Common.{length, ap}
 use Rattle.dv_image.proofs.FieldSearch.{numbered, after_class, after_place, not_after, past_all}
 use Rattle.dv_image.proofs.fields.is_after.Goals as goal
 
