@@ -2,6 +2,7 @@
 #![tactic(auto)]
 
 mod interfaces;
+mod lookups;
 mod main_method;
 mod members;
 mod pools;

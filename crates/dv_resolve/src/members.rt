@@ -1,17 +1,17 @@
 // Members looked up by what a reference names.
-ghost use Rattle.std.specs.Prelude.{◌≡◌, ◌<◌, ◌+◌, ◌^◌, ℕ, [], length, sum_by, slice_index_or, option_map, IfOk, OnOk};
+ghost use Rattle.std.specs.Prelude.{◌≡◌, ◌<◌, ◌+◌, ◌^◌, ℕ, [], length, sum_by, slice_index_or, IfOk, OnOk};
 ghost use Rattle.std.specs.Option.{option_or};
 ghost use Rattle.indexmap.specs.IndexMap.{get};
 ghost use Rattle.dv_defs.specs.Images.{Image};
-ghost use Rattle.dv_defs.specs.LookUp.{field_named as named_field, interfaces_above, method_named as named_method, once};
+ghost use Rattle.dv_defs.specs.LookUp.{interfaces_above, once};
 ghost use Rattle.dv_defs.specs.Numbering.{names_of};
 ghost use Rattle.dv_defs.specs.Order.{numbers};
 ghost use Rattle.dv_linklaws.specs.Ordered.{IsOrdered};
 ghost use Rattle.dv_linklaws.proofs.Members.{HasFields, HasMethods};
 ghost use Rattle.dv_resolve.specs.Firsts.{first_field_own, first_fields_from, first_method_own, first_methods_from};
-ghost use Rattle.dv_resolve.specs.Members.{Knows, field_key_eq, method_key_eq, of_field, of_method};
+ghost use Rattle.dv_resolve.specs.Members.{Knows, field_key_eq, method_key_eq};
 
-use dv_defs::{ClassId, ClassInfo, FieldDef, FieldRef, MethodDef, MethodRef, Pool, Proto, Seq, Text, Ty};
+use dv_defs::{ClassId, ClassInfo, FieldDef, MethodDef, Pool, Proto, Seq, Text, Ty};
 use indexmap::IndexMap;
 use std::alloc::{AllocError, Global};
 
@@ -172,19 +172,5 @@ impl<'a> Members<'a> {
             methods,
             fields,
         })
-    }
-
-    /// The field that a reference leads to (JVMS 5.4.3.2): of the class, then of its superinterfaces, then of its superclass, and so on.
-    pub fn field_named(&self, reference: &FieldRef) -> Option<Member>
-        ensures { (image : Image) → Knows self.now image → result ≡ option_map of_field (named_field image reference.now) }
-    {
-        None
-    }
-
-    /// The method that a reference leads to (JVMS 5.4.3.3): of the class and its superclasses, then of their superinterfaces.
-    pub fn method_named(&self, reference: &MethodRef) -> Option<Member>
-        ensures { (image : Image) → Knows self.now image → result ≡ option_map of_method (named_method image reference.now) }
-    {
-        None
     }
 }
