@@ -6,6 +6,10 @@ use Rattle.std.proofs.lemmas.List.{drop_all}
 use Rattle.dv_defs.specs.declared.image.ClassInfo.{ClassInfo}
 use Rattle.dv_defs.specs.declared.names.ClassId.{ClassId}
 use Rattle.dv_defs.specs.Images.{Image}
+use Rattle.dv_defs.specs.declared.names.Base.TheVariants as base
+use Rattle.dv_defs.specs.declared.names.Ty.{Ty}
+use Rattle.dv_defs.specs.LookUp.{class_referred}
+use Rattle.dv_defs.specs.Types.{is_array}
 use Rattle.dv_defs.specs.Order.{numbers}
 use Rattle.dv_defs.specs.Pools.{Method, class_named, class_number, declared_by, find_from, first_of_classes, parent_at, walk}
 
@@ -30,3 +34,23 @@ named_later cs i c name aim within is other before = sym (named_cut cs i c name 
 
 pub named_nowhere : (cs : List ClassInfo) (i : ℕ) (name : List ℕ) (aim : Option ℕ) → length cs ≤ i → find_from (drop i cs) i name ≡ aim → None ≡ aim
 named_nowhere cs i name aim all before = sym (ap (λ (xs : List ClassInfo). find_from xs i name) (drop_all i cs all)) ∙ before
+
+pub referred_plain : (image : Image) (t : Ty) (name : List ℕ) → t.dims ≤ 0 → t.base ≡ base.Class name → class_referred image t ≡ class_named image name
+referred_plain image t name plain is = let e : is_array t ≡ false = grind arith in rw (e, is) refl
+
+-- ---- up the superclasses
+
+-- what a walk has left
+pub walk_more : (image : Image) (many count c : ℕ) → count < many → walk image (many - count) (Some c) ≡ c ∷ walk image (many - (count + 1)) (parent_at image c)
+walk_more image many count c within =
+    let e : many - count ≡ suc (many - (count + 1)) = omega arith in
+    ap (λ n. walk image n (Some c)) e
+
+pub walk_top : (image : Image) (n : ℕ) → walk image n None ≡ []
+walk_top image zero = refl
+walk_top image (suc n) = refl
+
+pub walk_done : (image : Image) (many count : ℕ) (at : Option ℕ) → many ≤ count → walk image (many - count) at ≡ []
+walk_done image many count at done =
+    let e : many - count ≡ 0 = omega arith in
+    ap (λ n. walk image n at) e
