@@ -8,3 +8,7 @@ pub mod Members
 pub mod Alike
 pub mod AlikeMembers
 pub mod AlikeImages
+pub mod OnceNumbers
+pub mod Upward
+pub mod FieldOrder
+pub mod Implemented
