@@ -7,20 +7,24 @@ use Rattle.std.proofs.lemmas.List.{drop_all}
 use Rattle.dv_defs.specs.declared.image.ClassInfo.{ClassInfo}
 use Rattle.dv_defs.specs.declared.names.Base.TheVariants as base
 use Rattle.dv_defs.specs.declared.names.ClassId.{ClassId}
+use Rattle.dv_defs.specs.declared.names.FieldRef.{FieldRef}
 use Rattle.dv_defs.specs.declared.names.MethodRef.{MethodRef}
 use Rattle.dv_defs.specs.declared.names.Proto.{Proto}
 use Rattle.dv_defs.specs.declared.names.Ty.{Ty}
 use Rattle.dv_defs.specs.First.{first_in}
 use Rattle.dv_defs.specs.Images.{Image}
-use Rattle.dv_defs.specs.LookUp.{class_referred, interfaces_above, is_method_of, method_classes, method_found, method_named, once, superinterfaces}
+use Rattle.dv_defs.specs.LookUp.{class_referred, field_declared, field_found, field_named, interfaces_above, is_method_of, method_classes, method_found, method_named, once, superinterfaces}
 use Rattle.dv_defs.specs.Names.{object_name}
 use Rattle.dv_defs.specs.Order.{numbers}
 use Rattle.dv_defs.specs.Pools.{Method, class_named, class_number, declared_by, find_from, first_of_classes, parent_at, supers, walk}
 use Rattle.dv_defs.specs.Types.{class_in, is_array}
+use Rattle.dv_linklaws.specs.Ordered.{IsOrdered}
+use Rattle.dv_linklaws.proofs.FieldOrder.{field_found_along}
 use Rattle.dv_linklaws.proofs.OnceNumbers.{first_in_once}
 use Rattle.dv_linklaws.proofs.Upward.{first_in_append}
 use Rattle.dv_resolve.specs.declared.members.Member.{Member}
-use Rattle.dv_resolve.specs.Members.{of_method}
+use Rattle.dv_resolve.specs.Firsts.{field_beside}
+use Rattle.dv_resolve.specs.Members.{of_field, of_method}
 
 -- ---- the class of a name
 
@@ -93,8 +97,10 @@ module _ {Y : Type 0} (h : ℕ → Option Y) (of : Y → Member) (image : Image)
       let e : many - count ≡ suc (many - (count + 1)) = omega arith in
       λ p. first_in h (walk image (e p) (class_number (is p)))
 
-  pub walk_begins : (infos : List ClassInfo) (c : ℕ) → image.classes ≡ infos → first_in h (walk image (length infos) (Some c)) ≡ first_in h (supers image c)
-  walk_begins infos c same = λ p. first_in h (walk image (length (sym same p)) (Some c))
+  pub walk_begins : (infos : List ClassInfo) (c : ℕ) → image.classes ≡ infos → first_in h (walk image (length infos - 0) (Some c)) ≡ first_in h (supers image c)
+  walk_begins infos c same =
+      let e : length infos - 0 ≡ length infos = omega arith in
+      ap (λ n. first_in h (walk image n (Some c))) e ∙ (λ p. first_in h (walk image (length (sym same p)) (Some c)))
 
   -- a class that gives something
   pub walk_found : (many count : ℕ) (at : Option ClassId) (id : ClassId) (aim : Option Y) (o : Option Member) (x : Member) → count < many → at ≡ Some id
@@ -150,7 +156,7 @@ pub first_beside : (image : Image) (c : ℕ) (good : Method → Bool) → first_
 first_beside image c good =
     first_is image (superinterfaces image c) good
     ∙ (flat_first (declares image good) (interfaces_above image) (supers image c)
-    ∙ ap (λ (h : ℕ → Option Method). first_in h (supers image c)) (λ p d. first_is image (interfaces_above image d) good (~ p)))
+    ∙ ap (λ (h : ℕ → Option Method). first_in h (supers image c)) (λ p d. sym (first_is image (interfaces_above image d) good) p))
 
 -- in the interfaces of a class, each asked once
 pub first_listed : (image : Image) (c : ℕ) (listed : List ClassId) (good : Method → Bool) → numbers listed ≡ once (interfaces_above image c) → first_of_classes image (numbers listed) good ≡ first_of_classes image (interfaces_above image c) good
@@ -168,7 +174,7 @@ found_by image c name proto =
     let good = is_method_of name proto in
     first_is image (method_classes image c) good
     ∙ (first_in_append (declares image good) (supers image c) (superinterfaces image c)
-    ∙ (λ p. option_or (first_is image (supers image c) good (~ p)) (first_is image (superinterfaces image c) good (~ p))))
+    ∙ (λ p. option_or (sym (first_is image (supers image c) good) p) (sym (first_is image (superinterfaces image c) good) p)))
 
 from_class : (image : Image) (r : MethodRef) (at : Option ClassId) (class : ClassId) → class_number at ≡ class_referred image r.class → at ≡ Some class → method_named image r ≡ method_found image class.0 r.name r.proto
 from_class image r at class refers is = ap (option_and_then (λ c. method_found image c r.name r.proto)) (sym refers ∙ ap class_number is)
@@ -188,3 +194,16 @@ named_beside image r at class o refers is none found =
     found
     ∙ ap (option_map of_method) (sym (or_more of_method (first_of_classes image (supers image class.0) good) (first_of_classes image (superinterfaces image class.0) good) none)
     ∙ sym (from_class image r at class refers is ∙ found_by image class.0 r.name r.proto))
+
+-- ---- a field by a reference
+
+pub named_along : (image : Image) (r : FieldRef) (at : Option ClassId) (class : ClassId) (o : Option Member) → IsOrdered image → class_number at ≡ class_referred image r.class → at ≡ Some class
+    → o ≡ option_map of_field (first_in (field_beside image r.name r.ty) (supers image class.0)) → o ≡ option_map of_field (field_named image r)
+named_along image r at class o ordered refers is found =
+    let here : class_referred image r.class ≡ Some class.0 = sym refers ∙ ap class_number is in
+    let within = referred_in image r.class class.0 here in
+    found
+    ∙ ap (option_map of_field)
+    (sym (flat_first (field_declared image r.name r.ty) (λ c. c ∷ once (interfaces_above image c)) (supers image class.0))
+    ∙ (sym (field_found_along image ordered class.0 within r.name r.ty)
+    ∙ ap (option_and_then (λ c. field_found image c r.name r.ty)) (sym here)))

@@ -1,13 +1,15 @@
 // Where references to members lead.
 ghost use Rattle.std.specs.Prelude.{◌≡◌, [], slice_index_or, option_map};
+ghost use Rattle.dv_defs.specs.First.{first_in};
 ghost use Rattle.dv_defs.specs.Images.{Image};
-ghost use Rattle.dv_defs.specs.LookUp.{class_referred, field_named as named_field, interfaces_above, is_method_of, method_named as named_method, superinterfaces};
+ghost use Rattle.dv_defs.specs.LookUp.{class_referred, field_declared, field_named as named_field, is_method_of, method_named as named_method, superinterfaces};
 ghost use Rattle.dv_defs.specs.Names.{object_name};
 ghost use Rattle.dv_defs.specs.Order.{numbers};
 ghost use Rattle.dv_defs.specs.Pools.{class_named, class_number, declared_by, first_of_classes, parent_at, supers};
+ghost use Rattle.dv_resolve.specs.Firsts.{field_beside as first_beside};
 ghost use Rattle.dv_resolve.specs.Members.{Knows, of_field, of_method};
 
-use crate::members::{Member, Members, MethodKey};
+use crate::members::{FieldKey, Member, Members, MethodKey};
 use dv_defs::{Base, ClassId, FieldRef, MethodRef, Proto, Text, Ty};
 
 const OBJECT: &[u8] = b"Ljava/lang/Object;";
@@ -123,12 +125,60 @@ fn method_beside(members: &Members<'_>, class: ClassId, name: &Text, proto: &Pro
     None
 }
 
+/// The field that a class declares.
+fn field_of(members: &Members<'_>, class: ClassId, name: &Text, ty: &Ty) -> Option<Member>
+    ensures { (image : Image) → Knows members.now image → result ≡ option_map of_field (field_declared image name.now ty.now class.0) }
+{
+    let key = FieldKey { class, name, ty };
+    members.fields.get(&key).copied()
+}
+
+/// The first field that one of these classes declares.
+fn field_among(members: &Members<'_>, classes: &[ClassId], name: &Text, ty: &Ty) -> Option<Member>
+    ensures { (image : Image) → Knows members.now image
+        → result ≡ option_map of_field (first_in (field_declared image name.now ty.now) (numbers classes.now)) }
+{
+    for i in 0..classes.len() {
+        if let Some(member) = field_of(members, classes[i], name, ty) {
+            return Some(member);
+        }
+    }
+    None
+}
+
+/// The field that a class or the first of its superinterfaces declares.
+fn field_beside(members: &Members<'_>, class: ClassId, name: &Text, ty: &Ty) -> Option<Member>
+    ensures { (image : Image) → Knows members.now image → result ≡ option_map of_field (first_beside image name.now ty.now class.0) }
+{
+    match field_of(members, class, name, ty) {
+        Some(member) => Some(member),
+        None => field_among(members, interfaces_of(members, class), name, ty),
+    }
+}
+
+/// The field that a class or the nearest of its superclasses has, each with its superinterfaces.
+fn field_along(members: &Members<'_>, class: ClassId, name: &Text, ty: &Ty) -> Option<Member>
+    ensures { (image : Image) → Knows members.now image
+        → result ≡ option_map of_field (first_in (first_beside image name.now ty.now) (supers image class.0)) }
+{
+    let mut at = Some(class);
+    for _ in 0..members.infos.len() {
+        let id = at?;
+        if let Some(member) = field_beside(members, id, name, ty) {
+            return Some(member);
+        }
+        at = parent_of(members, id);
+    }
+    None
+}
+
 impl<'a> Members<'a> {
     /// The field that a reference leads to (JVMS 5.4.3.2): of the class, then of its superinterfaces, then of its superclass, and so on.
     pub fn field_named(&self, reference: &FieldRef) -> Option<Member>
         ensures { (image : Image) → Knows self.now image → result ≡ option_map of_field (named_field image reference.now) }
     {
-        None
+        let class = class_of(self, &reference.class)?;
+        field_along(self, class, &reference.name, &reference.ty)
     }
 
     /// The method that a reference leads to (JVMS 5.4.3.3): of the class and its superclasses, then of their superinterfaces.
