@@ -1,5 +1,5 @@
 -- A map that takes the members of a class one by one, where none is under its key yet, leads from each key to the first.
-use Rattle.std.proofs.Common.{◌≡◌, ◌+◌, ◌<◌, ◌≤◌, ℕ, suc, Bool, true, false, cond, ◌&&◌, List, [], ◌∷◌, length, drop, get_or, Option, Some, None, refl, sym, ap, ◌∙◌, arith, add-one, if◌then◌else◌}
+use Rattle.std.proofs.Common.{◌≡◌, ◌+◌, ◌<◌, ◌≤◌, ℕ, suc, Bool, true, false, cond, ◌&&◌, List, length, drop, get_or, Option, Some, None, refl, sym, ap, ◌∙◌, arith, add-one, if◌then◌else◌}
 use Rattle.std.proofs.Math.Seq.{drop-cons}
 use Rattle.std.proofs.lemmas.List.{drop_all}
 use Rattle.std.specs.Prelude.{nat_eq, bytes_eq}
@@ -12,7 +12,6 @@ use Rattle.dv_defs.specs.declared.class.FieldDef.{FieldDef}
 use Rattle.dv_defs.specs.declared.class.MethodDef.{MethodDef}
 use Rattle.dv_defs.specs.declared.names.ClassId.{ClassId}
 use Rattle.dv_defs.specs.Numbering.{class_id}
-use Rattle.dv_defs.specs.Types.{ty_eq}
 use Rattle.dv_resolve.specs.declared.members.Member.{Member}
 use Rattle.dv_resolve.specs.declared.members.MethodKey.{MethodKey}
 use Rattle.dv_resolve.specs.declared.members.FieldKey.{FieldKey}

@@ -14,8 +14,8 @@ use Rattle.dv_defs.specs.Linked.{all_fields}
 use Rattle.dv_defs.specs.LookUp.{pick_field, field_declared, is_field_of, is_method_of}
 use Rattle.dv_defs.specs.Types.{same_proto, ty_eq}
 use Rattle.dv_defs.specs.Numbering.{class_id}
-use Rattle.dv_defs.specs.Pools.{Field, Method, declared_by, field_at, fields_of, methods_of, with_field_info}
-use Rattle.dv_linklaws.proofs.Members.{HasFields, HasMethods, own_from, own_fields, own_methods, field_of, method_of, fields_of_class, declared_by_own, first_field, first_method}
+use Rattle.dv_defs.specs.Pools.{Field, declared_by, field_at, fields_of, methods_of, with_field_info}
+use Rattle.dv_linklaws.proofs.Members.{HasFields, HasMethods, own_from, own_fields, field_of, method_of, fields_of_class, declared_by_own, first_field, first_method}
 use Rattle.dv_resolve.specs.declared.members.Member.{Member}
 use Rattle.dv_resolve.specs.declared.members.MethodKey.{MethodKey}
 use Rattle.dv_resolve.specs.declared.members.FieldKey.{FieldKey}
@@ -77,6 +77,7 @@ own_first {X = X} make of good test flags d k id (m ∷ ms) tests makes =
   where
     x : X
     x = make d k id m
+
     go : (b : Bool) → good (make d k id m) ≡ b → first_own (only d test) flags d (suc id) ms ≡ option_map of (find good (own_from make d (suc k) (suc id) ms))
         → (if b then Some (record { id = id; class = class_id d; flags = flags m }) else first_own (only d test) flags d (suc id) ms) ≡ option_map of (find good (make d k id m ∷ own_from make d (suc k) (suc id) ms))
     go true e rest = rw (e, makes k id m) refl

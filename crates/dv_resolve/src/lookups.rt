@@ -81,7 +81,12 @@ fn method_of(members: &Members<'_>, class: ClassId, name: &Text, proto: &Proto) 
 }
 
 /// The first method that one of these classes declares.
-fn method_among(members: &Members<'_>, classes: &[ClassId], name: &Text, proto: &Proto) -> Option<Member>
+fn method_among(
+    members: &Members<'_>,
+    classes: &[ClassId],
+    name: &Text,
+    proto: &Proto,
+) -> Option<Member>
     ensures { (image : Image) → Knows members.now image
         → result ≡ option_map of_method (first_of_classes image (numbers classes.now) (is_method_of name.now proto.now)) }
 {
@@ -110,7 +115,12 @@ fn method_above(members: &Members<'_>, class: ClassId, name: &Text, proto: &Prot
 }
 
 /// The method that the first of a class's superinterfaces declares, its own before those of its superclass.
-fn method_beside(members: &Members<'_>, class: ClassId, name: &Text, proto: &Proto) -> Option<Member>
+fn method_beside(
+    members: &Members<'_>,
+    class: ClassId,
+    name: &Text,
+    proto: &Proto,
+) -> Option<Member>
     ensures { (image : Image) → Knows members.now image
         → result ≡ option_map of_method (first_of_classes image (superinterfaces image class.0) (is_method_of name.now proto.now)) }
 {

@@ -1,4 +1,4 @@
-use Rattle.std.proofs.Common.{◌≡◌, ◌<◌, ◌^◌, length, Some, ap, sym, ◌∙◌, arith}
+use Rattle.std.proofs.Common.{◌≡◌, ◌<◌, ◌^◌, length, Some, sym, ◌∙◌, arith}
 use Rattle.dv_defs.specs.LookUp.{class_referred}
 use Rattle.dv_resolve.proofs.Walking.{referred_in}
 use Rattle.dv_resolve.proofs.lookups.class_of.Goals as goal

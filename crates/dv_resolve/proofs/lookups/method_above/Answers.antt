@@ -1,5 +1,4 @@
-use Rattle.std.proofs.Common.{◌≡◌, ◌-◌, List, [], length, Some, option_map, ap, sym, ◌∙◌}
-use Rattle.std.specs.Prelude.{slice_index_or}
+use Rattle.std.proofs.Common.{◌-◌, length, option_map, ap, sym, ◌∙◌}
 use Rattle.dv_defs.specs.First.{first_in}
 use Rattle.dv_defs.specs.LookUp.{is_method_of}
 use Rattle.dv_defs.specs.Pools.{declared_by, supers}

@@ -1,4 +1,4 @@
-use Rattle.std.proofs.Common.{◌≡◌, ◌-◌, List, [], length, Some, option_map, ap, sym, ◌∙◌}
+use Rattle.std.proofs.Common.{◌-◌, List, [], length, option_map, ap, sym, ◌∙◌}
 use Rattle.std.specs.Prelude.{slice_index_or}
 use Rattle.dv_defs.specs.First.{first_in}
 use Rattle.dv_defs.specs.declared.names.ClassId.{ClassId}

@@ -1,4 +1,4 @@
-use Rattle.std.proofs.Common.{◌≡◌, sym, ◌∙◌}
+use Rattle.std.proofs.Common.{sym, ◌∙◌}
 use Rattle.dv_resolve.proofs.Walking.{named_above, named_beside}
 use Rattle.dv_resolve.proofs.members.Members.method_named.Goals as goal
 
