@@ -5,7 +5,6 @@ use Rattle.std.proofs.Common.{refl, ap, sym, ◌∙◌, arith, add-one}
 use Rattle.std.proofs.Math.Seq.{drop-cons}
 use Rattle.std.proofs.lemmas.List.{drop_all}
 use Rattle.dv_defs.specs.declared.image.ClassInfo.{ClassInfo}
-use Rattle.dv_defs.specs.declared.names.Base.TheVariants as base
 use Rattle.dv_defs.specs.declared.names.ClassId.{ClassId}
 use Rattle.dv_defs.specs.declared.names.FieldRef.{FieldRef}
 use Rattle.dv_defs.specs.declared.names.MethodRef.{MethodRef}
@@ -47,12 +46,6 @@ named_later cs i c name aim within is other before = sym (named_cut cs i c name 
 
 pub named_nowhere : (cs : List ClassInfo) (i : ℕ) (name : List ℕ) (aim : Option ℕ) → length cs ≤ i → find_from (drop i cs) i name ≡ aim → None ≡ aim
 named_nowhere cs i name aim all before = sym (ap (λ (xs : List ClassInfo). find_from xs i name) (drop_all i cs all)) ∙ before
-
--- the class of a type without dimensions
-pub referred_plain : (image : Image) (t : Ty) (name : List ℕ) → t.dims ≤ 0 → t.base ≡ base.Class name → class_referred image t ≡ class_named image name
-referred_plain image t name plain is =
-    let e : is_array t ≡ false = grind arith in
-    λ p. elim (e p) as (λ _. Option ℕ) [ true ↦ class_named image object_name | false ↦ option_and_then (class_named image) (class_in (is p)) ]
 
 found_in : (cs : List ClassInfo) (k : ℕ) (name : List ℕ) (c : ℕ) → find_from cs k name ≡ Some c → c < k + length cs
 found_in [] k name c found = absurd (cc)

@@ -1,11 +1,12 @@
 // Where references to members lead.
-ghost use Rattle.std.specs.Prelude.{◌≡◌, [], slice_index_or, option_map};
+ghost use Rattle.std.specs.Prelude.{◌≡◌, [], slice_index_or, option_and_then, option_map};
 ghost use Rattle.dv_defs.specs.First.{first_in};
 ghost use Rattle.dv_defs.specs.Images.{Image};
 ghost use Rattle.dv_defs.specs.LookUp.{class_referred, field_declared, field_named as named_field, is_method_of, method_named as named_method, superinterfaces};
 ghost use Rattle.dv_defs.specs.Names.{object_name};
 ghost use Rattle.dv_defs.specs.Order.{numbers};
 ghost use Rattle.dv_defs.specs.Pools.{class_named, class_number, declared_by, first_of_classes, parent_at, supers};
+ghost use Rattle.dv_defs.specs.Types.{class_in};
 ghost use Rattle.dv_resolve.specs.Firsts.{field_beside as first_beside};
 ghost use Rattle.dv_resolve.specs.Members.{Knows, of_field, of_method};
 
@@ -18,13 +19,22 @@ const OBJECT: &[u8] = b"Ljava/lang/Object;";
 fn object_of(members: &Members<'_>) -> Option<usize>
     ensures { (image : Image) → Knows members.now image → result ≡ class_named image object_name }
 {
-    let infos = members.infos;
-    for i in 0..infos.len() {
-        if infos[i].def.name.bytes() == OBJECT {
+    for (i, info) in members.infos.iter().enumerate() {
+        if info.def.name.bytes() == OBJECT {
             return Some(i);
         }
     }
     None
+}
+
+/// The place of the class that a type without dimensions is.
+fn place_in(members: &Members<'_>, base: &Base) -> Option<usize>
+    ensures { (image : Image) → Knows members.now image → result ≡ option_and_then (class_named image) (class_in base.now) }
+{
+    match base {
+        Base::Class(name) => members.names.place_of(name),
+        _ => None,
+    }
 }
 
 /// The place of the class in which a look-up begins: of an array type it is Object.
@@ -32,11 +42,9 @@ fn place_of(members: &Members<'_>, ty: &Ty) -> Option<usize>
     ensures { (image : Image) → Knows members.now image → result ≡ class_referred image ty.now }
 {
     if ty.dims > 0 {
-        return object_of(members);
-    }
-    match &ty.base {
-        Base::Class(name) => members.names.place_of(name),
-        _ => None,
+        object_of(members)
+    } else {
+        place_in(members, &ty.base)
     }
 }
 
@@ -90,8 +98,8 @@ fn method_among(
     ensures { (image : Image) → Knows members.now image
         → result ≡ option_map of_method (first_of_classes image (numbers classes.now) (is_method_of name.now proto.now)) }
 {
-    for i in 0..classes.len() {
-        if let Some(member) = method_of(members, classes[i], name, proto) {
+    for class in classes {
+        if let Some(member) = method_of(members, *class, name, proto) {
             return Some(member);
         }
     }
@@ -148,8 +156,8 @@ fn field_among(members: &Members<'_>, classes: &[ClassId], name: &Text, ty: &Ty)
     ensures { (image : Image) → Knows members.now image
         → result ≡ option_map of_field (first_in (field_declared image name.now ty.now) (numbers classes.now)) }
 {
-    for i in 0..classes.len() {
-        if let Some(member) = field_of(members, classes[i], name, ty) {
+    for class in classes {
+        if let Some(member) = field_of(members, *class, name, ty) {
             return Some(member);
         }
     }
