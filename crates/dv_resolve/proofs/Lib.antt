@@ -1,3 +1,6 @@
 pub mod LinkedLaws
 pub mod AddedLaws
 pub mod InterfaceLaws
+mod Added
+mod Declared
+mod Walking

@@ -1,3 +1,4 @@
 pub mod Interfaces
 pub mod Members
 pub mod Answers
+pub mod Firsts

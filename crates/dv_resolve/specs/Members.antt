@@ -1,5 +1,5 @@
 -- What the members of a program are looked up by.
-use Rattle.std.specs.Prelude.{◌≡◌, ℕ, Bool, [], slice_index_or, option_map}
+use Rattle.std.specs.Prelude.{◌≡◌, ◌<◌, ◌^◌, ℕ, Bool, [], length, slice_index_or, option_map}
 use Rattle.indexmap.specs.IndexMap.{get}
 use Rattle.dv_defs.specs.Images.{Image}
 use Rattle.dv_defs.specs.Pools.{Method, Field, declared_by}
@@ -29,6 +29,7 @@ field_key_eq = (of_field_key.ghosts).eq
 -- each member is found by the class that declares it, its name and its prototype or type
 pub record Knows (members : Members) (image : Image) : Type 0 where
   pub classes : image.classes ≡ members.infos.now
+  pub few : length image.classes < 2 ^ 32
   pub ordered : IsOrdered image
   pub names : members.names.now ≡ names_of image.classes
   pub interfaces : (c : ℕ) → numbers (slice_index_or members.interfaces.now c []) ≡ once (interfaces_above image c)

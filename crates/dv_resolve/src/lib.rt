@@ -3,6 +3,7 @@
 
 mod interfaces;
 mod linking;
+mod lookups;
 mod main_method;
 mod members;
 mod pools;

@@ -1,14 +1,17 @@
 // Members looked up by what a reference names.
-ghost use Rattle.std.specs.Prelude.{◌≡◌, ◌<◌, ◌^◌, ℕ, [], length, sum_by, slice_index_or, option_map, IfOk};
+ghost use Rattle.std.specs.Prelude.{◌≡◌, ◌<◌, ◌+◌, ◌^◌, ℕ, [], length, sum_by, slice_index_or, IfOk, OnOk};
+ghost use Rattle.std.specs.Option.{option_or};
+ghost use Rattle.indexmap.specs.IndexMap.{get};
 ghost use Rattle.dv_defs.specs.Images.{Image};
-ghost use Rattle.dv_defs.specs.LookUp.{field_named as named_field, interfaces_above, method_named as named_method, once};
+ghost use Rattle.dv_defs.specs.LookUp.{interfaces_above, once};
 ghost use Rattle.dv_defs.specs.Numbering.{names_of};
 ghost use Rattle.dv_defs.specs.Order.{numbers};
 ghost use Rattle.dv_linklaws.specs.Ordered.{IsOrdered};
 ghost use Rattle.dv_linklaws.proofs.Members.{HasFields, HasMethods};
-ghost use Rattle.dv_resolve.specs.Members.{Knows, of_field, of_method};
+ghost use Rattle.dv_resolve.specs.Firsts.{first_field_own, first_fields_from, first_method_own, first_methods_from};
+ghost use Rattle.dv_resolve.specs.Members.{Knows, field_key_eq, method_key_eq};
 
-use dv_defs::{ClassId, ClassInfo, FieldRef, MethodRef, Pool, Proto, Seq, Text, Ty};
+use dv_defs::{ClassId, ClassInfo, FieldDef, MethodDef, Pool, Proto, Seq, Text, Ty};
 use indexmap::IndexMap;
 use std::alloc::{AllocError, Global};
 
@@ -47,6 +50,102 @@ pub struct Members<'a> {
     pub fields: IndexMap<FieldKey<'a>, Member>,
 }
 
+/// Adds a class's methods, whose numbers begin with `first`. Of equal ones the first is kept.
+fn add_methods<'a>(
+    found: &mut IndexMap<MethodKey<'a>, Member>,
+    class: ClassId,
+    methods: &'a [MethodDef],
+    first: u32,
+) -> Result<(), AllocError>
+    requires few { first + length methods.now < 2 ^ 32 }
+    ensures { OnOk result ((k : MethodKey) → get method_key_eq found.new k
+        ≡ option_or (get method_key_eq found.old k) (first_method_own k class.0 first methods.now)) }
+{
+    for (place, method) in methods.iter().enumerate() {
+        let key = MethodKey {
+            class,
+            name: &method.name,
+            proto: &method.proto,
+        };
+        if !found.contains_key(&key) {
+            let member = Member {
+                id: first + place as u32,
+                class,
+                flags: method.flags,
+            };
+            found.insert(key, member)?;
+        }
+    }
+    Ok(())
+}
+
+/// Adds a class's fields, whose numbers begin with `first`. Of equal ones the first is kept.
+fn add_fields<'a>(
+    found: &mut IndexMap<FieldKey<'a>, Member>,
+    class: ClassId,
+    fields: &'a [FieldDef],
+    first: u32,
+) -> Result<(), AllocError>
+    requires few { first + length fields.now < 2 ^ 32 }
+    ensures { OnOk result ((k : FieldKey) → get field_key_eq found.new k
+        ≡ option_or (get field_key_eq found.old k) (first_field_own k class.0 first fields.now)) }
+{
+    for (place, field) in fields.iter().enumerate() {
+        let key = FieldKey {
+            class,
+            name: &field.name,
+            ty: &field.ty,
+        };
+        if !found.contains_key(&key) {
+            let member = Member {
+                id: first + place as u32,
+                class,
+                flags: field.flags,
+            };
+            found.insert(key, member)?;
+        }
+    }
+    Ok(())
+}
+
+/// The methods of all classes, numbered class by class.
+fn methods_of<'a>(
+    alloc: Global,
+    infos: &'a [ClassInfo],
+) -> Result<IndexMap<MethodKey<'a>, Member>, AllocError>
+    requires few { length infos.now < 2 ^ 32 }
+    requires few_methods { sum_by (λ c. length c.def.methods) infos.now < 2 ^ 31 }
+    ensures { IfOk result (λ found. (k : MethodKey) → get method_key_eq found k ≡ first_methods_from k 0 0 infos.now) }
+{
+    let mut found = IndexMap::new(alloc);
+    let mut first = 0;
+    for (class, info) in infos.iter().enumerate() {
+        let methods = info.def.methods.items();
+        add_methods(&mut found, ClassId(class as u32), methods, first)?;
+        first += methods.len() as u32;
+    }
+    Ok(found)
+}
+
+/// The fields of all classes, numbered class by class.
+fn fields_of<'a>(
+    alloc: Global,
+    infos: &'a [ClassInfo],
+) -> Result<IndexMap<FieldKey<'a>, Member>, AllocError>
+    requires few { length infos.now < 2 ^ 32 }
+    requires few_fields { sum_by (λ c. length c.def.fields) infos.now < 2 ^ 31 }
+    ensures { IfOk result (λ found. (k : FieldKey) → get field_key_eq found k ≡ first_fields_from k 0 0 infos.now) }
+{
+    let mut found = IndexMap::new(alloc);
+    let mut first = 0;
+    for (class, info) in infos.iter().enumerate() {
+        let fields = info.def.fields.items();
+        add_fields(&mut found, ClassId(class as u32), fields, first)?;
+        first += fields.len() as u32;
+    }
+    Ok(found)
+}
+
 impl<'a> Members<'a> {
     /// The members of these classes.
     pub fn of(
@@ -64,20 +163,14 @@ impl<'a> Members<'a> {
             → ((c : ℕ) → numbers (slice_index_or interfaces.now c []) ≡ once (interfaces_above image c))
             → IfOk result (λ members. Knows members image) }
     {
-        Err(AllocError)
-    }
-
-    /// The field that a reference leads to (JVMS 5.4.3.2): of the class, then of its superinterfaces, then of its superclass, and so on.
-    pub fn field_named(&self, reference: &FieldRef) -> Option<Member>
-        ensures { (image : Image) → Knows self.now image → result ≡ option_map of_field (named_field image reference.now) }
-    {
-        None
-    }
-
-    /// The method that a reference leads to (JVMS 5.4.3.3): of the class and its superclasses, then of their superinterfaces.
-    pub fn method_named(&self, reference: &MethodRef) -> Option<Member>
-        ensures { (image : Image) → Knows self.now image → result ≡ option_map of_method (named_method image reference.now) }
-    {
-        None
+        let methods = methods_of(alloc, infos)?;
+        let fields = fields_of(alloc, infos)?;
+        Ok(Members {
+            infos,
+            names,
+            interfaces,
+            methods,
+            fields,
+        })
     }
 }

@@ -1,0 +1,12 @@
+use Rattle.std.proofs.Common.{◌≡◌, drop}
+use Rattle.dv_defs.specs.First.{first_in}
+use Rattle.dv_defs.specs.Images.{Image}
+use Rattle.dv_defs.specs.LookUp.{field_declared}
+use Rattle.dv_defs.specs.Order.{numbers}
+use Rattle.dv_resolve.specs.Members.{Knows}
+use Rattle.dv_resolve.proofs.lookups.field_among.Given as goal
+
+abbrev pub invariant-loop-class : goal.invariant-loop-class
+invariant-loop-class l =
+    (image : Image) → Knows l.members image
+    → first_in (field_declared image l.name l.ty) (numbers (drop l.class-index l.classes)) ≡ first_in (field_declared image l.name l.ty) (numbers l.classes)
