@@ -4,8 +4,10 @@
 mod interfaces;
 mod main_method;
 mod members;
+mod pool_types;
 mod pools;
 mod resolving;
+mod texts;
 
 pub use interfaces::interfaces_of_all;
 pub use main_method::find_main;
