@@ -46,25 +46,28 @@ fn check_class(
 ) -> Result<(), LinkError>
     ensures { (image : Image) → Knows members.now image → Checks result (option_map (found class.now.name) (wrong_pools image place class.now)) }
 {
-    check_bodies(alloc, members, place, class, Pass::Classes)?;
-    check_bodies(alloc, members, place, class, Pass::Fields)?;
-    check_bodies(alloc, members, place, class, Pass::Methods)?;
-    check_bodies(alloc, members, place, class, Pass::Access)
+    let name = &class.name;
+    let methods = class.methods.items();
+    check_bodies(alloc, members, place, name, methods, Pass::Classes)?;
+    check_bodies(alloc, members, place, name, methods, Pass::Fields)?;
+    check_bodies(alloc, members, place, name, methods, Pass::Methods)?;
+    check_bodies(alloc, members, place, name, methods, Pass::Access)
 }
 
-/// What is asked first in vain of the bodies of a class.
+/// What is asked first in vain of the bodies of a class's methods.
 fn check_bodies(
     alloc: Global,
     members: &Members<'_>,
     place: usize,
-    class: &ClassDef,
+    class: &Text,
+    methods: &[MethodDef],
     pass: Pass,
 ) -> Result<(), LinkError>
     ensures { (image : Image) → Knows members.now image
-        → Checks result (option_map (found class.now.name) (first_in (fault_by image place pass) (bodies class.now))) }
+        → Checks result (option_map (found class.now) (first_in (λ m. option_and_then (fault_by image place pass) m.body) methods.now)) }
 {
-    for method in class.methods.items() {
-        check_method(alloc, members, place, &class.name, method, pass)?;
+    for method in methods {
+        check_method(alloc, members, place, class, method, pass)?;
     }
     Ok(())
 }
