@@ -1,3 +1,4 @@
 pub mod Members
 pub mod Answers
 pub mod Passes
+pub mod Ids
