@@ -1,2 +1,3 @@
 pub mod PoolLaws
 pub mod IdLaws
+pub mod MainLaws
