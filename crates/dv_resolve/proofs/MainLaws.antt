@@ -1,5 +1,5 @@
 -- The search for a main method.
-use Rattle.std.proofs.Common.{◌≡◌, ◌+◌, ◌<◌, ◌≤◌, ℕ, zero, suc, Bool, true, false, ◌&&◌, List, [], ◌∷◌, length, drop, Option, Some, None, Result, Ok, Err, get_or, refl, sym, ap, ◌∙◌, add-one, arith}
+use Rattle.std.proofs.Common.{◌≡◌, ◌+◌, ◌<◌, ◌≤◌, ℕ, zero, suc, Bool, true, false, ◌&&◌, List, [], ◌∷◌, length, drop, Option, Some, None, Result, Ok, Err, get_or, refl, sym, ap, subst, ◌∙◌, add-one, arith}
 use Rattle.std.specs.Prelude.{slice_get, option_map, sum_by}
 use Rattle.std.specs.List.{range_with_len}
 use Rattle.std.specs.Option.{option_or}
@@ -15,17 +15,18 @@ use Rattle.dv_defs.specs.declared.names.Ty.{Ty}
 use Rattle.dv_defs.specs.declared.faults.LinkError.{LinkError}
 use Rattle.dv_defs.specs.declared.faults.LinkError.TheVariants as error
 use Rattle.dv_defs.specs.declared.faults.LinkKind.{LinkKind}
+use Rattle.dv_defs.specs.declared.faults.LinkKind.TheVariants as kind
 use Rattle.dv_defs.specs.Images.{Image}
 use Rattle.dv_defs.specs.LinkFaults.{Fails, Found, boot_fault, limit_fault, first_fault_by, found, is_twice, wrong_above, on_cycle, has_field_twice}
-use Rattle.dv_defs.specs.Linked.{IsImage, defs, first_phases, linked, method_phase, method_with_pools, pool_phase, resolved, slotted, tabled, unless_found}
+use Rattle.dv_defs.specs.Linked.{IsImage, defs, first_phases, linked, main_found, main_of, method_phase, method_with_pools, pool_phase, resolved, slotted, tabled, unless_found}
 use Rattle.dv_defs.specs.Numbering.{all_methods_declared, declared, methods_declared, numbered}
-use Rattle.dv_defs.specs.Pools.{Method, declared_by, methods_of, pick, with_def, with_info}
+use Rattle.dv_defs.specs.Pools.{Method, class_named}
 use Rattle.dv_defs.specs.Types.{same_types, ty_eq}
 use Rattle.dv_linklaws.proofs.Bounds.{few_methods}
 use Rattle.dv_linklaws.proofs.First.{or_none}
-use Rattle.dv_resolve.specs.Answers.{Answers}
+use Rattle.dv_resolve.specs.Answers.{Answers, numbered_main}
 use Rattle.dv_resolve.specs.Ids.{method_id}
-use Rattle.dv_resolve.specs.Mains.{is_of}
+use Rattle.dv_resolve.specs.Mains.{main_or_none}
 
 -- ---- parameters
 
@@ -43,57 +44,6 @@ several_types (a ∷ (b ∷ ts)) t many = and_false (ty_eq a t)
 pub some_types : (ts : List Ty) → 1 ≤ length ts → false ≡ same_types ts []
 some_types [] some = absurd (omega arith)
 some_types (a ∷ ts) some = refl
-
--- ---- the first method that a test picks
-
-at_place : (image : Image) (ms : List MethodInfo) (i : ℕ) (x : MethodInfo) (good : Method → Bool) → i < length ms → x ≡ get_or ms i x → pick image (drop i ms) i good ≡ pick image (x ∷ drop (i + 1) ms) i good
-at_place image ms i x good within is =
-    let here : drop i ms ≡ x ∷ drop (suc i) ms = drop-cons ms i x within ∙ ap (λ (y : MethodInfo). y ∷ drop (suc i) ms) (sym is) in
-    rw add-one (ap (λ (xs : List MethodInfo). pick image xs i good) here)
-
--- what is picked where a method stands first
-abbrev chosen : Image → List MethodInfo → ℕ → (Method → Bool) → Option Method → Option Method
-chosen image xs i good o =
-    elim o [ None ↦ pick image xs (suc i) good | Some m ↦ elim (good m) [ true ↦ Some m | false ↦ pick image xs (suc i) good ] ]
-
-passed : (image : Image) (xs : List MethodInfo) (i : ℕ) (good : Method → Bool) (o : Option Method) → is_of good o ≡ false → chosen image xs i good o ≡ pick image xs (suc i) good
-passed image xs i good None fails = refl
-passed image xs i good (Some m) fails = ap (λ (b : Bool). elim b as (λ _. Option Method) [ true ↦ Some m | false ↦ pick image xs (suc i) good ]) fails
-
-own_number : (i : ℕ) (x : MethodInfo) (o : Option MethodDef) (m : Method) → Some m ≡ with_def i x o → m.id ≡ i
-own_number i x None m is = absurd (cc)
-own_number i x (Some d) m is = ap (λ (o : Option Method). elim o as (λ _. ℕ) [ None ↦ i | Some n ↦ n.id ]) is
-
-picked : (image : Image) (x : MethodInfo) (xs : List MethodInfo) (i : ℕ) (good : Method → Bool) (o : Option Method) → o ≡ with_info image i (Some x) → is_of good o ≡ true → option_map method_id (chosen image xs i good o) ≡ Some (record { 0 = i })
-picked image x xs i good None is holds = absurd (cc)
-picked image x xs i good (Some m) is holds =
-    let number : m.id ≡ i = own_number i x (slice_get (methods_of (slice_get image.classes x.class.0)) x.place) m is in
-    ap (λ (b : Bool). option_map method_id (elim b as (λ _. Option Method) [ true ↦ Some m | false ↦ pick image xs (suc i) good ])) holds ∙
-    ap (λ (n : ℕ). Some (let id : MethodId = record { 0 = n } in id)) number
-
--- one turn of a loop over methods whose test fails
-pub pick_more : (image : Image) (i : ℕ) (x : MethodInfo) (good : Method → Bool) (b : Bool) → i < length image.methods → x ≡ get_or image.methods i x
-    → pick image image.methods 0 good ≡ pick image (drop i image.methods) i good → b ≡ is_of good (with_info image i (Some x)) → b ≡ false
-    → pick image image.methods 0 good ≡ pick image (drop (i + 1) image.methods) (i + 1) good
-pick_more image i x good b within is before same fails =
-    let next : pick image (x ∷ drop (i + 1) image.methods) i good ≡ pick image (drop (i + 1) image.methods) (i + 1) good =
-    passed image (drop (i + 1) image.methods) i good (with_info image i (Some x)) (sym same ∙ fails) ∙ ap (λ (n : ℕ). pick image (drop (i + 1) image.methods) n good) (omega arith) in
-    before ∙ (at_place image image.methods i x good within is ∙ next)
-
--- the turn whose test holds
-pub pick_found : (image : Image) (i : ℕ) (x : MethodInfo) (good : Method → Bool) (b : Bool) → i < length image.methods → x ≡ get_or image.methods i x
-    → pick image image.methods 0 good ≡ pick image (drop i image.methods) i good → b ≡ is_of good (with_info image i (Some x)) → b ≡ true
-    → Some (record { 0 = i }) ≡ option_map method_id (pick image image.methods 0 good)
-pick_found image i x good b within is before same holds =
-    sym (ap (option_map method_id) (before ∙ at_place image image.methods i x good within is) ∙
-    picked image x (drop (i + 1) image.methods) i good (with_info image i (Some x)) refl (sym same ∙ holds))
-
--- no test held
-pub pick_none : (image : Image) (i : ℕ) (good : Method → Bool) → length image.methods ≤ i
-    → pick image image.methods 0 good ≡ pick image (drop i image.methods) i good
-    → None ≡ option_map method_id (pick image image.methods 0 good)
-pick_none image i good over before =
-    sym (ap (option_map method_id) (before ∙ ap (λ (xs : List MethodInfo). pick image xs i good) (drop_all i image.methods over)))
 
 -- ---- how many methods there are
 
@@ -135,3 +85,41 @@ refused given class k error.Memory is told = tt
 refused given class k (error.At c l) is told =
     let same : Some (found class k) ≡ Some (found c l) = told (Some (found class k)) refl in
     is ∙ ap (λ (o : Option Found). elim o as (λ _. Result _ Found) [ None ↦ Err (found class k) | Some f ↦ Err f ]) same
+
+-- a class has no main method
+pub none_found : (name : List ℕ) (o : Option Method) → None ≡ option_map method_id o → numbered_main (main_or_none name o) ≡ Err (found name kind.NoMain)
+none_found name None is = refl
+none_found name (Some m) is = absurd (cc)
+
+-- ---- the class of a name
+
+abbrev given_by : Image → List ℕ → Option ℕ → Result Method Found
+given_by image name None = Err (found name (kind.NoClass name))
+given_by image name (Some c) = main_or_none name (main_of image c)
+
+looked_up : (image : Image) (name : List ℕ) → main_found image name ≡ given_by image name (class_named image name)
+unfolding main_found
+looked_up image name = by (class_named image name)
+  where
+    of_class : (o : Option Method) → elim o as (λ _. Result Method Found) [ None ↦ Err (found name kind.NoMain) | Some m ↦ Ok m ] ≡ main_or_none name o
+    of_class None = refl
+    of_class (Some m) = refl
+
+    by : (o : Option ℕ) → elim o as (λ _. Result Method Found) [ None ↦ Err (found name (kind.NoClass name)) | Some c ↦ elim (main_of image c) [ None ↦ Err (found name kind.NoMain) | Some m ↦ Ok m ] ] ≡ given_by image name o
+    by None = refl
+    by (Some c) = of_class (main_of image c)
+
+-- where there is the class, its main method is asked for
+pub answers_found : (image : Image) (name : List ℕ) (c : ℕ) (x : Result MethodId LinkError) → Some c ≡ class_named image name
+    → Answers (numbered_main (main_or_none name (main_of image c))) x → Answers (numbered_main (main_found image name)) x
+answers_found image name c x is answer =
+    let given : main_found image name ≡ main_or_none name (main_of image c) = looked_up image name ∙ ap (given_by image name) (sym is) in
+    subst (λ (r : Result Method Found). Answers (numbered_main r) x) (sym given) answer
+
+-- where there is none, it is not there
+pub answers_missing : (image : Image) (name text : List ℕ) (e : LinkError) → None ≡ class_named image name → text ≡ name
+    → ((fault : Option Found) → fault ≡ Some (found name (kind.NoClass text)) → Fails e fault) → Answers (numbered_main (main_found image name)) (Err e)
+answers_missing image name text e is same told =
+    let given : main_found image name ≡ Err (found name (kind.NoClass text)) =
+    looked_up image name ∙ ap (given_by image name) (sym is) ∙ ap (λ (n : List ℕ). Err (found name (kind.NoClass n))) (sym same) in
+    refused (numbered_main (main_found image name)) name (kind.NoClass text) e (ap numbered_main given) told

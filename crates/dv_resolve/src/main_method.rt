@@ -31,9 +31,15 @@ pub fn find_main(alloc: Global, image: &Image, name: &[u8]) -> Result<MethodId, 
     ensures { Answers (numbered_main (main_found image.now name.now)) result }
 {
     let name = Text::of(Vec::from_slice(alloc, name)?);
-    match class_of(image, &name) {
-        Some(class) => main_of_class(image, class, &name),
-        None => Err(error_of(&name, LinkKind::NoClass(name.clone()?))),
+    main_named(image, &name)
+}
+
+fn main_named(image: &Image, name: &Text) -> Result<MethodId, LinkError>
+    ensures { Answers (numbered_main (main_found image.now name.now)) result }
+{
+    match class_of(image, name) {
+        Some(class) => main_of_class(image, class, name),
+        None => Err(error_of(name, LinkKind::NoClass(name.clone()?))),
     }
 }
 
