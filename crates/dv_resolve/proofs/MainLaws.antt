@@ -1,15 +1,11 @@
 -- The search for a main method.
-use Rattle.std.proofs.Common.{◌≡◌, ◌+◌, ◌<◌, ◌≤◌, ℕ, zero, suc, Bool, true, false, ◌&&◌, List, [], ◌∷◌, length, drop, Option, Some, None, Result, Ok, Err, get_or, refl, sym, ap, subst, ◌∙◌, add-one, arith}
-use Rattle.std.specs.Prelude.{slice_get, option_map, sum_by}
-use Rattle.std.specs.List.{range_with_len}
+use Rattle.std.proofs.Common.{◌≡◌, ◌≤◌, ℕ, suc, Bool, true, false, ◌&&◌, List, [], ◌∷◌, length, Option, Some, None, Result, Ok, Err, refl, sym, ap, subst, ◌∙◌, arith}
+use Rattle.std.specs.Prelude.{option_map, sum_by}
 use Rattle.std.specs.Option.{option_or}
-use Rattle.std.proofs.lemmas.List.{drop_all, length-append, length-map}
+use Rattle.std.proofs.lemmas.List.{length-append, length-map}
 use Rattle.std.proofs.lemmas.List.FromFn.{length-map-range_with_len}
 use Rattle.std.proofs.lemmas.List.Sums.{sum_by-cons}
-use Rattle.std.proofs.Math.Seq.{drop-cons}
 use Rattle.dv_defs.specs.declared.class.ClassDef.{ClassDef}
-use Rattle.dv_defs.specs.declared.class.MethodDef.{MethodDef}
-use Rattle.dv_defs.specs.declared.image.MethodInfo.{MethodInfo}
 use Rattle.dv_defs.specs.declared.names.MethodId.{MethodId}
 use Rattle.dv_defs.specs.declared.names.Ty.{Ty}
 use Rattle.dv_defs.specs.declared.faults.LinkError.{LinkError}
@@ -17,7 +13,7 @@ use Rattle.dv_defs.specs.declared.faults.LinkError.TheVariants as error
 use Rattle.dv_defs.specs.declared.faults.LinkKind.{LinkKind}
 use Rattle.dv_defs.specs.declared.faults.LinkKind.TheVariants as kind
 use Rattle.dv_defs.specs.Images.{Image}
-use Rattle.dv_defs.specs.LinkFaults.{Fails, Found, boot_fault, limit_fault, first_fault_by, found, is_twice, wrong_above, on_cycle, has_field_twice}
+use Rattle.dv_defs.specs.LinkFaults.{Fails, Found, boot_fault, limit_fault, first_fault_by, found, is_twice}
 use Rattle.dv_defs.specs.Linked.{IsImage, defs, first_phases, linked, main_found, main_of, method_phase, method_with_pools, pool_phase, resolved, slotted, tabled, unless_found}
 use Rattle.dv_defs.specs.Numbering.{all_methods_declared, declared, methods_declared, numbered}
 use Rattle.dv_defs.specs.Pools.{Method, class_named}

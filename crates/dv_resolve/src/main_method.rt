@@ -9,11 +9,14 @@ ghost use Rattle.dv_resolve.specs.Answers.{Answers, numbered_main};
 ghost use Rattle.dv_resolve.specs.Ids.{method_id};
 ghost use Rattle.dv_resolve.specs.Mains.{is_main_def, is_of, main_or_none, proto_of, test_of};
 
-use dv_defs::{Base, Flag, Image, LinkError, LinkKind, MethodDef, MethodId, MethodInfo, Proto, Text, Ty};
+use dv_defs::{
+    Base, Flag, Image, LinkError, LinkKind, MethodDef, MethodId, MethodInfo, Proto, Text, Ty,
+};
 use dv_hier::error_of;
 use std::alloc::Global;
 
 const MAIN: &[u8] = b"main";
+
 const STRING: &[u8] = b"Ljava/lang/String;";
 
 /// What a main method takes.

@@ -256,9 +256,7 @@ fn is_out_of_reach(member: Option<Member>, place: usize) -> bool
     ensures { result ≡ is_foreign_private place member }
 {
     match member {
-        Some(member) => {
-            Flag::Private.is_in(member.flags) && member.class.0 as usize != place
-        }
+        Some(member) => { Flag::Private.is_in(member.flags) && member.class.0 as usize != place }
         None => false,
     }
 }
