@@ -4,3 +4,6 @@ pub mod InterfaceLaws
 mod Added
 mod Declared
 mod Walking
+pub mod PoolLaws
+pub mod IdLaws
+pub mod MainLaws

@@ -2,3 +2,6 @@ pub mod Interfaces
 pub mod Members
 pub mod Answers
 pub mod Firsts
+pub mod Passes
+pub mod Ids
+pub mod Mains

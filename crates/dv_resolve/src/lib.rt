@@ -6,8 +6,10 @@ mod linking;
 mod lookups;
 mod main_method;
 mod members;
+mod pool_types;
 mod pools;
 mod resolving;
+mod texts;
 
 pub use linking::link;
 pub use main_method::find_main;

@@ -1,0 +1,10 @@
+use Rattle.std.proofs.Common.{◌≡◌, None, take}
+use Rattle.dv_defs.specs.First.{first_in}
+use Rattle.dv_defs.specs.Images.{Image}
+use Rattle.dv_defs.specs.LinkFaults.{no_field}
+use Rattle.dv_resolve.specs.Members.{Knows}
+use Rattle.dv_resolve.proofs.pools.check_fields.Given as goal
+
+abbrev pub invariant-loop-field : goal.invariant-loop-field
+invariant-loop-field l =
+    (image : Image) → Knows l.members image → first_in (no_field image) (take l.field-index l.fields) ≡ None
