@@ -11,3 +11,4 @@ pub mod AlikeImages
 pub mod AlikeFaults
 pub mod AlikeTables
 pub mod OrderedImages
+pub mod TableLaws
