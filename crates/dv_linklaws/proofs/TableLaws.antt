@@ -1,8 +1,8 @@
 -- The table of a class has what a look-up by name and prototype lands on.
-use Rattle.std.specs.Prelude.{ℕ, zero, suc, ◌≡◌, ◌≤◌, ◌<◌, ◌+◌, Bool, true, false, ◌&&◌, ◌||◌, not, List, [], ◌∷◌, ◌++◌, length, map, filter, filter_map, find, sum_by, All, Option, Some, None, is_some, Ok, slice_get, nat_eq, bytes_eq, option_map}
+use Rattle.std.specs.Prelude.{ℕ, zero, suc, ◌≡◌, ◌≤◌, ◌+◌, Bool, true, false, ◌&&◌, ◌||◌, not, List, [], ◌∷◌, length, map, filter, filter_map, find, sum_by, All, Option, Some, None, is_some, Ok, slice_get, nat_eq, bytes_eq, option_map}
 use Rattle.std.specs.Option.{option_or}
 use Rattle.std.specs.List.{list_any, cons_option, range_with_len, enumerate_from}
-use Rattle.std.proofs.Common.{refl, ap, sym, subst, ◌∙◌, arith, cond, add-one}
+use Rattle.std.proofs.Common.{refl, ap, sym, subst, ◌∙◌, arith, cond}
 use Rattle.std.proofs.lemmas.Bool.{and_parts, eqb-true}
 use Rattle.std.proofs.lemmas.List.{length-map}
 use Rattle.std.proofs.lemmas.List.Elements.{All-nil, All-cons, All-head, All-tail, All-append, All-filter}
@@ -23,10 +23,10 @@ use Rattle.dv_defs.specs.Images.{Image}
 use Rattle.dv_defs.specs.Names.{init_name}
 use Rattle.dv_defs.specs.Types.{base_eq, ty_eq, same_types, same_result, same_proto}
 use Rattle.dv_defs.specs.Pools.{Method, method_at, methods_of, with_def, with_info, is_static, is_private, declared_by, is_virtual_of, first_of_classes, nearest, parent_of, walk, supers}
-use Rattle.dv_defs.specs.Numbering.{declared, numbered}
+use Rattle.dv_defs.specs.Numbering.{class_numbered, declared, numbered}
 use Rattle.dv_defs.specs.LinkFaults.{Found, first_fault_by, boot_fault, limit_fault, is_twice}
-use Rattle.dv_defs.specs.Linked.{is_callable, all_methods, callable_of_class, is_new, overrides, callable_along, entry, table_at, class_with_table, slotted, tabled, resolved, first_phases, method_phase, pool_phase, unless_found, linked, defs, IsImage}
-use Rattle.dv_linklaws.specs.Stripped.{stripped, method_info_stripped}
+use Rattle.dv_defs.specs.Linked.{is_callable, all_methods, callable_of_class, is_new, callable_along, entry, table_at, class_with_table, slotted, tabled, resolved, first_phases, method_phase, pool_phase, unless_found, linked, defs, IsImage}
+use Rattle.dv_linklaws.specs.Stripped.{method_info_stripped}
 use Rattle.dv_linklaws.proofs.First.{or_none}
 use Rattle.dv_linklaws.proofs.Bounds.{few_methods}
 use Rattle.dv_linklaws.proofs.Members.{declared_by_is, numbered_methods, method_count}
@@ -417,3 +417,27 @@ methods_defined [] = refl
 methods_defined (c ∷ cs) =
     sum_by-cons (λ c. length c.def.methods) c cs ∙
     (ap (λ n. length c.def.methods + n) (methods_defined cs) ∙ sym (sum_by-cons (λ c. length c.methods) c.def (defs cs)))
+
+defs_kept : (image : Image) (cs : List ClassDef) → defs (map (class_numbered image) cs) ≡ cs
+defs_kept image [] = refl
+defs_kept image (c ∷ cs) = ap (λ ds. c ∷ ds) (defs_kept image cs)
+
+numbered_count : (cs : List ClassDef) (boot : ℕ) → length (numbered cs boot).methods ≡ sum_by (λ c. length c.methods) cs
+unfolding numbered
+numbered_count cs boot =
+    method_count (numbered cs boot) (numbered_methods cs boot) ∙
+    (methods_defined (map (class_numbered (declared cs boot)) cs) ∙ ap (sum_by (λ c. length c.methods)) (defs_kept (declared cs boot) cs))
+
+few_by : (cs : List ClassDef) (boot : ℕ) → first_phases cs boot ≡ None → sum_by (λ c. length c.methods) cs ≤ 19618
+unfolding first_phases
+few_by cs boot none =
+    let first = or_none (boot_fault cs boot) _ none in
+    let second = or_none (limit_fault cs boot) _ first.1 in
+    let third = or_none (first_fault_by (is_twice (declared cs boot)) cs) _ second.1 in
+    few_methods cs boot first.0 second.0 third.0
+
+-- an image's methods have numbers of 32 bits
+pub image_few_methods : (image : Image) → IsImage image → length image.methods ≤ 19618
+image_few_methods image is =
+    let alike = alike_by (λ (i : Image). length i.methods) (λ i. length-map i.methods method_info_stripped) image (own_numbered image) (as_numbered image is) in
+    subst (λ n. n ≤ 19618) (sym (alike ∙ numbered_count (defs image.classes) image.boot)) (few_by (defs image.classes) image.boot (parts_of image is).0)
