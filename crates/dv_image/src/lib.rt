@@ -1,9 +1,11 @@
-//! Questions about an image: subtypes, and the nearest common superclass.
+//! Questions about an image: subtypes, the nearest common superclass, and the methods that calls land on.
 #![tactic(auto)]
 
+mod calls;
 mod classes;
 mod common;
 mod subtypes;
 
+pub use calls::{lookup_interface, lookup_virtual};
 pub use common::common_super;
 pub use subtypes::{assignable, sub};

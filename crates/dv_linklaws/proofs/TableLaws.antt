@@ -26,6 +26,7 @@ use Rattle.dv_defs.specs.Pools.{Method, method_at, methods_of, with_def, with_in
 use Rattle.dv_defs.specs.Numbering.{class_numbered, declared, numbered}
 use Rattle.dv_defs.specs.LinkFaults.{Found, first_fault_by, boot_fault, limit_fault, is_twice}
 use Rattle.dv_defs.specs.Linked.{is_callable, all_methods, callable_of_class, is_new, callable_along, entry, table_at, class_with_table, slotted, tabled, resolved, first_phases, method_phase, pool_phase, unless_found, linked, defs, IsImage}
+use Rattle.dv_linklaws.specs.Landing.{has_key, has_key_at, landing_of}
 use Rattle.dv_linklaws.specs.Stripped.{method_info_stripped}
 use Rattle.dv_linklaws.proofs.First.{or_none}
 use Rattle.dv_linklaws.proofs.Bounds.{few_methods}
@@ -132,9 +133,6 @@ some_of None e = absurd (cc)
 some_of (Some x) e = (x, refl)
 
 -- ---- methods of a name and prototype
-
-abbrev pub has_key : List ℕ → Proto → Method → Bool
-has_key name proto m = bytes_eq m.def.name name && same_proto m.def.proto proto
 
 or_not : (a b : Bool) → (a || (not a && b)) ≡ (b || a)
 or_not true true = refl
@@ -258,10 +256,6 @@ nearest_virtual image c name proto m is = (first_has image (supers image c) (is_
 
 -- ---- a class's table by name and prototype
 
--- whether the method of this number has a name and prototype
-abbrev pub has_key_at : Image → List ℕ → Proto → MethodId → Bool
-has_key_at image name proto id = elim (method_at image id.0) as (λ _. Bool) [ None ↦ false | Some m ↦ has_key name proto m ]
-
 abbrev entry_by : Option Method → ℕ → MethodId
 entry_by o id = record { 0 = elim o as (λ _. ℕ) [ None ↦ id | Some n ↦ n.id ] }
 
@@ -277,9 +271,6 @@ entry_key image c name proto m own = here (nearest image c m.def.name m.def.prot
         let parts = nearest_has image c m.def.name m.def.proto n e in
         ap (λ (o : Option Method). elim o as (λ _. Bool) [ None ↦ false | Some n ↦ has_key name proto n ]) parts.0 ∙
         (λ j. bytes_eq (parts.1.0 j) name && same_proto (parts.1.1 j) proto)
-
-abbrev pub landing_of : Image → ℕ → List ℕ → Proto → Option MethodId
-landing_of image c name proto = option_map (λ m. record { 0 = m.id }) (nearest image c name proto)
 
 agree : (enter : Method → MethodId) (o n : Option Method) → is_some o ≡ is_some n → ((m : Method) → o ≡ Some m → enter m ≡ entry_by n m.id)
     → option_map enter o ≡ option_map (λ m. record { 0 = m.id }) n

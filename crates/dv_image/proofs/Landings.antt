@@ -1,0 +1,105 @@
+-- Steps of the look-ups that calls make.
+use Rattle.std.specs.Prelude.{ℕ, zero, suc, ◌≡◌, ◌<◌, ◌≤◌, ◌+◌, ◌-◌, Bool, true, false, ◌&&◌, not, List, [], ◌∷◌, length, drop, find, Option, Some, None, slice_get, nat_eq, bytes_eq, option_map}
+use Rattle.std.proofs.Common.{refl, ap, sym, subst, ◌∙◌, arith, cond, get_or, add-one, drop-cons}
+use Rattle.std.proofs.lemmas.Bool.{and_parts}
+use Rattle.dv_defs.specs.declared.names.Proto.{Proto}
+use Rattle.dv_defs.specs.declared.names.MethodId.{MethodId}
+use Rattle.dv_defs.specs.declared.class.MethodDef.{MethodDef}
+use Rattle.dv_defs.specs.declared.image.ClassInfo.{ClassInfo}
+use Rattle.dv_defs.specs.declared.image.MethodInfo.{MethodInfo}
+use Rattle.dv_defs.specs.Images.{Image}
+use Rattle.dv_defs.specs.Names.{init_name}
+use Rattle.dv_defs.specs.Pools.{Method, method_at, is_virtual_of, with_info, pick, declared_by, first_of_classes, nearest, parent_at, walk, supers}
+use Rattle.dv_defs.specs.Linked.{IsImage, table_at}
+use Rattle.dv_linklaws.specs.Landing.{has_key, has_key_at, landing_of}
+use Rattle.dv_linklaws.proofs.TableLaws.{table_agrees, image_table, nearest_outside}
+use Rattle.dv_image.specs.Calls.{landing, def_at, def_in, def_has_key, is_virtual_def, takes_call, number_of, declared_number, landing_among}
+
+-- ---- the called method
+
+known_by : (image : Image) (c : ℕ) (o : Option Method) (d : MethodDef) → Some d ≡ option_map (λ m. m.def) o
+    → elim o as (λ _. Option MethodId) [ None ↦ None | Some m ↦ landing_of image c m.def.name m.def.proto ] ≡ landing_of image c d.name d.proto
+known_by image c None d is = absurd (cc)
+known_by image c (Some m) d is = let same : m.def ≡ d = cc in ap (λ (e : MethodDef). landing_of image c e.name e.proto) same
+
+-- where a call of a method of this definition lands
+pub landing_known : (image : Image) (c id : ℕ) (d : MethodDef) → Some d ≡ def_at image id → landing image c id ≡ landing_of image c d.name d.proto
+landing_known image c id d is = known_by image c (method_at image id) d is
+
+unknown_by : (image : Image) (c : ℕ) (o : Option Method) → None ≡ option_map (λ (m : Method). m.def) o
+    → elim o as (λ _. Option MethodId) [ None ↦ None | Some m ↦ landing_of image c m.def.name m.def.proto ] ≡ None
+unknown_by image c None is = refl
+unknown_by image c (Some m) is = absurd (cc)
+
+pub landing_unknown : (image : Image) (c id : ℕ) → None ≡ def_at image id → landing image c id ≡ None
+landing_unknown image c id is = unknown_by image c (method_at image id) is
+
+-- the walk is the one that the definition tells
+pub landing_walked : (image : Image) (c : ℕ) (name : List ℕ) (proto : Proto) → landing_among image (supers image c) name proto ≡ landing_of image c name proto
+unfolding nearest
+landing_walked image c name proto = refl
+
+-- and the table has it
+pub landing_tabled : (image : Image) → IsImage image → (c : ℕ) (info : ClassInfo) (name : List ℕ) (proto : Proto) → slice_get image.classes c ≡ Some info → bytes_eq name init_name ≡ false
+    → find (has_key_at image name proto) info.table ≡ landing_of image c name proto
+landing_tabled image is c info name proto there plain =
+    ap (find (has_key_at image name proto)) (image_table image is c info there) ∙ table_agrees image c name proto plain
+
+-- ---- up the superclasses
+
+or_number : (o p : Option Method) → number_of o ≡ None → number_of (elim o as (λ _. Option Method) [ Some m ↦ Some m | None ↦ p ]) ≡ number_of p
+or_number None p none = refl
+or_number (Some m) p none = absurd (cc)
+
+this_number : (o p : Option Method) (id : MethodId) → number_of o ≡ Some id → number_of (elim o as (λ _. Option Method) [ Some m ↦ Some m | None ↦ p ]) ≡ Some id
+this_number None p id some = absurd (cc)
+this_number (Some m) p id some = some
+
+-- a class that declares none
+pub climb_on : (image : Image) (left c : ℕ) (name : List ℕ) (proto : Proto) → 0 < left → declared_number image c name proto ≡ None
+    → landing_among image (walk image left (Some c)) name proto ≡ landing_among image (walk image (left - 1) (parent_at image c)) name proto
+climb_on image zero c name proto some none = absurd (omega arith)
+climb_on image (suc n) c name proto some none =
+    let less : n ≡ suc n - 1 = omega arith in
+    or_number (declared_by image c (is_virtual_of name proto)) (first_of_classes image (walk image n (parent_at image c)) (is_virtual_of name proto)) none ∙
+    ap (λ k. landing_among image (walk image k (parent_at image c)) name proto) less
+
+pub climb_found : (image : Image) (left c : ℕ) (name : List ℕ) (proto : Proto) (id : MethodId) → 0 < left → declared_number image c name proto ≡ Some id
+    → landing_among image (walk image left (Some c)) name proto ≡ Some id
+climb_found image zero c name proto id some found = absurd (omega arith)
+climb_found image (suc n) c name proto id some found =
+    this_number (declared_by image c (is_virtual_of name proto)) (first_of_classes image (walk image n (parent_at image c)) (is_virtual_of name proto)) id found
+
+pub climb_top : (image : Image) (left : ℕ) (name : List ℕ) (proto : Proto) → landing_among image (walk image left None) name proto ≡ None
+climb_top image zero name proto = refl
+climb_top image (suc n) name proto = refl
+
+pub climb_done : (image : Image) (left : ℕ) (name : List ℕ) (proto : Proto) (at : Option ℕ) → left ≤ 0 → landing_among image (walk image left at) name proto ≡ None
+climb_done image zero name proto at none = refl
+climb_done image (suc n) name proto at none = absurd (omega arith)
+
+-- ---- one list after another
+
+-- the rest of a list from an item on
+rest_from : {X : Type 0} (xs : List X) (i : ℕ) (x : X) → i < length xs → x ≡ get_or xs i x → drop i xs ≡ x ∷ drop (i + 1) xs
+rest_from xs i x within is = rw add-one (drop-cons xs i x ∙ ap (λ y. y ∷ drop (suc i) xs) (sym is))
+
+no_rest : {X : Type 0} (xs : List X) (i : ℕ) → length xs ≤ i → drop i xs ≡ []
+no_rest [] i past = ?
+no_rest (x ∷ xs) i past = ?
+
+pub find_on : {X : Type 0} (test : X → Bool) (xs : List X) (i : ℕ) (x : X) → i < length xs → x ≡ get_or xs i x → test x ≡ false → find test (drop i xs) ≡ find test (drop (i + 1) xs)
+find_on test xs i x within is fails =
+    ap (find test) (rest_from xs i x within is) ∙ ap (λ b. cond b (Some x) (find test (drop (i + 1) xs))) fails
+
+pub find_here : {X : Type 0} (test : X → Bool) (xs : List X) (i : ℕ) (x : X) → i < length xs → x ≡ get_or xs i x → test x ≡ true → find test (drop i xs) ≡ Some x
+find_here test xs i x within is passes =
+    ap (find test) (rest_from xs i x within is) ∙ ap (λ b. cond b (Some x) (find test (drop (i + 1) xs))) passes
+
+pub find_end : {X : Type 0} (test : X → Bool) (xs : List X) (i : ℕ) → length xs ≤ i → find test (drop i xs) ≡ None
+find_end test xs i past = ap (find test) (no_rest xs i past)
+
+-- ---- the methods of a class
+
+abbrev pub picked_from : Image → List MethodInfo → ℕ → ℕ → List ℕ → Proto → Option MethodId
+picked_from image infos i c name proto = number_of (pick image infos i (λ m. nat_eq m.info.class.0 c && is_virtual_of name proto m))
