@@ -1,19 +1,36 @@
 -- Steps of the look-ups that calls make.
 use Rattle.std.specs.Prelude.{ℕ, zero, suc, ◌≡◌, ◌<◌, ◌≤◌, ◌+◌, ◌-◌, Bool, true, false, ◌&&◌, not, List, [], ◌∷◌, length, drop, find, Option, Some, None, slice_get, nat_eq, bytes_eq, option_map}
 use Rattle.std.proofs.Common.{refl, ap, sym, subst, ◌∙◌, arith, cond, get_or, add-one, drop-cons}
-use Rattle.std.proofs.lemmas.Bool.{and_parts}
+use Rattle.std.proofs.lemmas.List.{drop_all}
 use Rattle.dv_defs.specs.declared.names.Proto.{Proto}
 use Rattle.dv_defs.specs.declared.names.MethodId.{MethodId}
 use Rattle.dv_defs.specs.declared.class.MethodDef.{MethodDef}
 use Rattle.dv_defs.specs.declared.image.ClassInfo.{ClassInfo}
 use Rattle.dv_defs.specs.declared.image.MethodInfo.{MethodInfo}
+use Rattle.dv_defs.specs.declared.flags.Flag.TheVariants as flag
+use Rattle.dv_defs.specs.Flags.{has_flag}
+use Rattle.dv_defs.specs.Types.{same_proto}
 use Rattle.dv_defs.specs.Images.{Image}
 use Rattle.dv_defs.specs.Names.{init_name}
-use Rattle.dv_defs.specs.Pools.{Method, method_at, is_virtual_of, with_info, pick, declared_by, first_of_classes, nearest, parent_at, walk, supers}
+use Rattle.dv_defs.specs.Pools.{Method, method_at, is_virtual_of, with_def, pick, declared_by, first_of_classes, nearest, parent_at, walk, supers}
 use Rattle.dv_defs.specs.Linked.{IsImage, table_at}
 use Rattle.dv_linklaws.specs.Landing.{has_key, has_key_at, landing_of}
 use Rattle.dv_linklaws.proofs.TableLaws.{table_agrees, image_table, nearest_outside}
 use Rattle.dv_image.specs.Calls.{landing, def_at, def_in, def_has_key, is_virtual_def, takes_call, number_of, declared_number, landing_among}
+
+-- ---- definitions by number
+
+def_kept : (id : ℕ) (info : MethodInfo) (o : Option MethodDef) → option_map (λ m. m.def) (with_def id info o) ≡ o
+def_kept id info None = refl
+def_kept id info (Some def) = refl
+
+pub def_found : (image : Image) (id : ℕ) (info : MethodInfo) → slice_get image.methods id ≡ Some info → def_at image id ≡ def_in image info
+unfolding method_at
+def_found image id info there = rw there (def_kept id info (def_in image info))
+
+pub def_missing : (image : Image) (id : ℕ) → slice_get image.methods id ≡ None → def_at image id ≡ None
+unfolding method_at
+def_missing image id none = rw none refl
 
 -- ---- the called method
 
@@ -82,11 +99,7 @@ climb_done image (suc n) name proto at none = absurd (omega arith)
 
 -- the rest of a list from an item on
 rest_from : {X : Type 0} (xs : List X) (i : ℕ) (x : X) → i < length xs → x ≡ get_or xs i x → drop i xs ≡ x ∷ drop (i + 1) xs
-rest_from xs i x within is = rw add-one (drop-cons xs i x ∙ ap (λ y. y ∷ drop (suc i) xs) (sym is))
-
-no_rest : {X : Type 0} (xs : List X) (i : ℕ) → length xs ≤ i → drop i xs ≡ []
-no_rest [] i past = ?
-no_rest (x ∷ xs) i past = ?
+rest_from xs i x within is = rw add-one (drop-cons xs i x within ∙ ap (λ y. y ∷ drop (suc i) xs) (sym is))
 
 pub find_on : {X : Type 0} (test : X → Bool) (xs : List X) (i : ℕ) (x : X) → i < length xs → x ≡ get_or xs i x → test x ≡ false → find test (drop i xs) ≡ find test (drop (i + 1) xs)
 find_on test xs i x within is fails =
@@ -97,9 +110,67 @@ find_here test xs i x within is passes =
     ap (find test) (rest_from xs i x within is) ∙ ap (λ b. cond b (Some x) (find test (drop (i + 1) xs))) passes
 
 pub find_end : {X : Type 0} (test : X → Bool) (xs : List X) (i : ℕ) → length xs ≤ i → find test (drop i xs) ≡ None
-find_end test xs i past = ap (find test) (no_rest xs i past)
+find_end test xs i past = ap (find test) (drop_all i xs past)
 
 -- ---- the methods of a class
 
 abbrev pub picked_from : Image → List MethodInfo → ℕ → ℕ → List ℕ → Proto → Option MethodId
 picked_from image infos i c name proto = number_of (pick image infos i (λ m. nat_eq m.info.class.0 c && is_virtual_of name proto m))
+
+same_test : (s p n q : Bool) → (not s && not p && n && q) ≡ ((not s && not p) && (n && q))
+same_test true p n q = refl
+same_test false true n q = refl
+same_test false false n q = refl
+
+takes_by : ℕ → List ℕ → Proto → MethodInfo → Option MethodDef → Bool
+takes_by c name proto info o = elim o as (λ _. Bool) [ None ↦ false | Some def ↦ nat_eq info.class.0 c && (is_virtual_def def && def_has_key name proto def) ]
+
+-- the first of a method and those after it
+first_by : ℕ → ℕ → List ℕ → Proto → MethodInfo → Option MethodDef → Option Method → Option Method
+first_by c i name proto info o rest =
+    elim (with_def i info o) as (λ _. Option Method) [
+      | None ↦ rest
+      | Some m ↦ elim (nat_eq m.info.class.0 c && is_virtual_of name proto m) as (λ _. Option Method) [ true ↦ Some m | false ↦ rest ]
+    ]
+
+step_on : (c i : ℕ) (name : List ℕ) (proto : Proto) (info : MethodInfo) (o : Option MethodDef) (rest : Option Method) → takes_by c name proto info o ≡ false
+    → number_of (first_by c i name proto info o rest) ≡ number_of rest
+unfolding takes_by first_by
+step_on c i name proto info None rest fails = refl
+step_on c i name proto info (Some d) rest fails =
+    let m : Method = record { id = i; info = info; def = d } in
+    let test : (nat_eq info.class.0 c && is_virtual_of name proto m) ≡ false =
+    ap (λ b. nat_eq info.class.0 c && b) (same_test (has_flag d.flags flag.Static) (has_flag d.flags flag.Private) (bytes_eq d.name name) (same_proto d.proto proto)) ∙ fails in
+    ap (λ b. number_of (elim b as (λ _. Option Method) [ true ↦ Some m | false ↦ rest ])) test
+
+step_here : (c i : ℕ) (name : List ℕ) (proto : Proto) (info : MethodInfo) (o : Option MethodDef) (rest : Option Method) → takes_by c name proto info o ≡ true
+    → number_of (first_by c i name proto info o rest) ≡ Some (record { 0 = i })
+unfolding takes_by first_by
+step_here c i name proto info None rest passes = absurd (cc)
+step_here c i name proto info (Some d) rest passes =
+    let m : Method = record { id = i; info = info; def = d } in
+    let test : (nat_eq info.class.0 c && is_virtual_of name proto m) ≡ true =
+    ap (λ b. nat_eq info.class.0 c && b) (same_test (has_flag d.flags flag.Static) (has_flag d.flags flag.Private) (bytes_eq d.name name) (same_proto d.proto proto)) ∙ passes in
+    ap (λ b. number_of (elim b as (λ _. Option Method) [ true ↦ Some m | false ↦ rest ])) test
+
+-- a method that isn't one of these
+pub pick_on : (image : Image) (infos : List MethodInfo) (i c : ℕ) (name : List ℕ) (proto : Proto) (info : MethodInfo) → i < length infos → info ≡ get_or infos i info
+    → takes_call image c name proto info ≡ false → picked_from image (drop i infos) i c name proto ≡ picked_from image (drop (i + 1) infos) (i + 1) c name proto
+unfolding takes_by first_by
+pick_on image infos i c name proto info within is fails =
+    let good : Method → Bool = λ m. nat_eq m.info.class.0 c && is_virtual_of name proto m in
+    ap (λ is. number_of (pick image is i good)) (rest_from infos i info within is) ∙
+    (step_on c i name proto info (def_in image info) (pick image (drop (i + 1) infos) (suc i) good) fails ∙
+    ap (λ k. number_of (pick image (drop (i + 1) infos) k good)) (sym (add-one i)))
+
+pub pick_here : (image : Image) (infos : List MethodInfo) (i c : ℕ) (name : List ℕ) (proto : Proto) (info : MethodInfo) → i < length infos → info ≡ get_or infos i info
+    → takes_call image c name proto info ≡ true → picked_from image (drop i infos) i c name proto ≡ Some (record { 0 = i })
+unfolding takes_by first_by
+pick_here image infos i c name proto info within is passes =
+    let good : Method → Bool = λ m. nat_eq m.info.class.0 c && is_virtual_of name proto m in
+    ap (λ is. number_of (pick image is i good)) (rest_from infos i info within is) ∙
+    step_here c i name proto info (def_in image info) (pick image (drop (i + 1) infos) (suc i) good) passes
+
+pub pick_end : (image : Image) (infos : List MethodInfo) (i c : ℕ) (name : List ℕ) (proto : Proto) → length infos ≤ i → picked_from image (drop i infos) i c name proto ≡ None
+pick_end image infos i c name proto past =
+    ap (λ is. number_of (pick image is i (λ m. nat_eq m.info.class.0 c && is_virtual_of name proto m))) (drop_all i infos past)
