@@ -1,7 +1,9 @@
 -- Steps of the look-ups that calls make.
-use Rattle.std.specs.Prelude.{ℕ, zero, suc, ◌≡◌, ◌<◌, ◌≤◌, ◌+◌, ◌-◌, Bool, true, false, ◌&&◌, not, List, [], ◌∷◌, length, drop, find, Option, Some, None, slice_get, nat_eq, bytes_eq, option_map}
+use Rattle.std.specs.Prelude.{ℕ, zero, suc, ◌≡◌, ◌<◌, ◌≤◌, ◌+◌, ◌-◌, Bool, true, false, ◌&&◌, not, List, [], ◌∷◌, length, drop, find, Option, Some, None, slice_get, nat_eq, nat_lt, bytes_eq, option_map}
 use Rattle.std.proofs.Common.{refl, ap, sym, subst, ◌∙◌, arith, cond, get_or, add-one, drop-cons}
+use Rattle.std.proofs.lemmas.Bool.Decides.{nat_tests}
 use Rattle.std.proofs.lemmas.List.{drop_all}
+use Rattle.std.proofs.lemmas.Option.{slice_get_read, slice_get_past}
 use Rattle.dv_defs.specs.declared.names.Proto.{Proto}
 use Rattle.dv_defs.specs.declared.names.MethodId.{MethodId}
 use Rattle.dv_defs.specs.declared.class.MethodDef.{MethodDef}
@@ -17,6 +19,16 @@ use Rattle.dv_defs.specs.Linked.{IsImage, table_at}
 use Rattle.dv_linklaws.specs.Landing.{has_key, has_key_at, landing_of}
 use Rattle.dv_linklaws.proofs.TableLaws.{table_agrees, image_table, nearest_outside}
 use Rattle.dv_image.specs.Calls.{landing, def_at, def_in, def_has_key, is_virtual_def, takes_call, number_of, declared_number, landing_among}
+
+-- ---- what is read of a list that is another
+
+pub read_at : {X : Type 0} (xs ys : List X) (i : ℕ) (x : X) → xs ≡ ys → true ≡ nat_lt i (length xs) → x ≡ get_or xs i x → slice_get ys i ≡ Some x
+read_at xs ys i x same within is =
+    let inside : i < length xs = grind (arith, nat_tests) in
+    sym (ap (λ zs. slice_get zs i) same) ∙ slice_get_read xs (length xs) i x refl inside is
+
+pub read_past : {X : Type 0} (xs ys : List X) (i : ℕ) → xs ≡ ys → length xs ≤ i → slice_get ys i ≡ None
+read_past xs ys i same past = sym (ap (λ zs. slice_get zs i) same) ∙ slice_get_past xs i past
 
 -- ---- definitions by number
 
