@@ -1,6 +1,6 @@
 -- Steps of the look-ups that calls make.
-use Rattle.std.specs.Prelude.{ℕ, zero, suc, ◌≡◌, ◌<◌, ◌≤◌, ◌+◌, ◌-◌, Bool, true, false, ◌&&◌, not, List, [], ◌∷◌, length, drop, find, Option, Some, None, slice_get, nat_eq, nat_lt, bytes_eq, option_map}
-use Rattle.std.proofs.Common.{refl, ap, sym, subst, ◌∙◌, arith, cond, get_or, add-one, drop-cons}
+use Rattle.std.specs.Prelude.{ℕ, zero, suc, ◌≡◌, ◌<◌, ◌≤◌, ◌+◌, ◌-◌, Bool, true, false, ◌&&◌, not, List, ◌∷◌, length, drop, find, Option, Some, None, slice_get, nat_eq, nat_lt, bytes_eq, option_map}
+use Rattle.std.proofs.Common.{refl, ap, sym, ◌∙◌, arith, cond, get_or, add-one, drop-cons}
 use Rattle.std.proofs.lemmas.Bool.Decides.{nat_tests}
 use Rattle.std.proofs.lemmas.List.{drop_all}
 use Rattle.std.proofs.lemmas.Option.{slice_get_read, slice_get_past}
@@ -15,9 +15,9 @@ use Rattle.dv_defs.specs.Types.{same_proto}
 use Rattle.dv_defs.specs.Images.{Image}
 use Rattle.dv_defs.specs.Names.{init_name}
 use Rattle.dv_defs.specs.Pools.{Method, method_at, is_virtual_of, with_def, pick, declared_by, first_of_classes, nearest, parent_at, walk, supers}
-use Rattle.dv_defs.specs.Linked.{IsImage, table_at}
-use Rattle.dv_linklaws.specs.Landing.{has_key, has_key_at, landing_of}
-use Rattle.dv_linklaws.proofs.TableLaws.{table_agrees, image_table, nearest_outside}
+use Rattle.dv_defs.specs.Linked.{IsImage}
+use Rattle.dv_linklaws.specs.Landing.{has_key_at, landing_of}
+use Rattle.dv_linklaws.proofs.TableLaws.{table_agrees, image_table}
 use Rattle.dv_image.specs.Calls.{landing, def_at, def_in, def_has_key, is_virtual_def, takes_call, number_of, declared_number, landing_among}
 
 -- ---- what is read of a list that is another
