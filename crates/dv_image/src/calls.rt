@@ -90,6 +90,7 @@ fn land_by_table(image: &Image, class: ClassId, called: &MethodDef) -> Option<Me
     }
 }
 
+/// The first of some methods that has the called method's name and prototype.
 fn first_entry(image: &Image, table: &[MethodId], called: &MethodDef) -> Option<MethodId>
     ensures { result ≡ find (has_key_at image.now called.now.name called.now.proto) table.now }
 {
@@ -133,6 +134,7 @@ fn declared(image: &Image, class: usize, called: &MethodDef) -> Option<MethodId>
     None
 }
 
+/// Whether it is such a method of the class.
 fn takes_call(image: &Image, class: usize, info: &MethodInfo, called: &MethodDef) -> bool
     ensures { result ≡ is_taker image.now class called.now.name called.now.proto info.now }
 {
@@ -142,7 +144,7 @@ fn takes_call(image: &Image, class: usize, info: &MethodInfo, called: &MethodDef
     }
 }
 
-/// An instance method that is not private.
+/// Whether it is an instance method that is not private.
 fn is_virtual(own: &MethodDef) -> bool
     ensures { result ≡ is_virtual_def own.now }
 {
