@@ -1,3 +1,8 @@
 pub mod Walks
 pub mod Joining
 pub mod Landings
+pub mod Ascending
+pub mod IndexLaws
+pub mod FieldWalks
+pub mod FieldSearch
+pub mod OrderedImages

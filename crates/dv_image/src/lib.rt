@@ -4,8 +4,11 @@
 mod calls;
 mod classes;
 mod common;
+mod fields;
+mod instances;
 mod subtypes;
 
 pub use calls::{lookup_interface, lookup_virtual};
 pub use common::common_super;
-pub use subtypes::{assignable, sub};
+pub use fields::field_of;
+pub use subtypes::{assignable, instance, sub};

@@ -10,5 +10,14 @@ pub mod AlikeMembers
 pub mod AlikeImages
 pub mod AlikeFaults
 pub mod AlikeTables
+pub mod FromBoot
+pub mod FromFaults
+pub mod FromPhases
 pub mod OrderedImages
 pub mod TableLaws
+pub mod OnceNumbers
+pub mod Upward
+pub mod FieldOrder
+pub mod Implemented
+pub mod ImageMembers
+pub mod FieldNumbers

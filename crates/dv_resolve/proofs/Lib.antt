@@ -1,2 +1,3 @@
-pub mod OrderedImages
 pub mod LinkedLaws
+pub mod AddedLaws
+pub mod InterfaceLaws

@@ -23,7 +23,8 @@ use Rattle.dv_linklaws.proofs.Bounds.{few_classes, few_methods, few_fields}
 use Rattle.dv_linklaws.proofs.AlikeImages.{AreAlike, alike_tabled}
 use Rattle.dv_linklaws.proofs.AlikeFaults.{alike_wrong_pools, alike_with_pools}
 use Rattle.dv_linklaws.proofs.Members.{HasMethods, HasFields}
-use Rattle.dv_resolve.proofs.OrderedImages.{phases_ordered, ordered_alike}
+use Rattle.dv_linklaws.proofs.FromPhases.{phases_ordered}
+use Rattle.dv_linklaws.proofs.OrderedImages.{ordered_alike}
 use Rattle.dv_resolve.specs.Answers.{Answers}
 use Rattle.dv_hier.specs.Hierarchies.{HierarchyValue, IsHierarchy}
 

@@ -2,13 +2,11 @@
 #![tactic(auto)]
 
 mod interfaces;
+mod linking;
 mod main_method;
 mod members;
 mod pools;
 mod resolving;
 
-pub use interfaces::interfaces_of_all;
+pub use linking::link;
 pub use main_method::find_main;
-pub use members::Members;
-pub use pools::check_pools;
-pub use resolving::resolve_pools;

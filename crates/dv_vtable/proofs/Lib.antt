@@ -1,3 +1,10 @@
-pub mod OrderedImages
-pub mod TableLaws
 pub mod TabledLaws
+pub mod KeyLemmas
+pub mod MethodLemmas
+pub mod FinalLemmas
+pub mod Inserting
+pub mod SameKeys
+pub mod CallableLaws
+pub mod MethodNumbers
+pub mod EnteredLaws
+pub mod TableLaws

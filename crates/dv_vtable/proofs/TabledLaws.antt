@@ -28,8 +28,9 @@ use Rattle.dv_linklaws.proofs.AlikeFaults.{alike_wrong_methods}
 use Rattle.dv_linklaws.proofs.AlikeImages.{AreAlike, alike_slotted}
 use Rattle.dv_linklaws.proofs.Bounds.{few_classes, few_methods}
 use Rattle.dv_linklaws.proofs.Members.{slotted_methods, numbered_methods}
-use Rattle.dv_vtable.proofs.OrderedImages.{phases_ordered, ordered_alike}
-use Rattle.dv_vtable.proofs.TableLaws.{alike_table_at}
+use Rattle.dv_linklaws.proofs.FromPhases.{phases_ordered}
+use Rattle.dv_linklaws.proofs.OrderedImages.{ordered_alike}
+use Rattle.dv_linklaws.proofs.AlikeTables.{alike_table_at}
 use Rattle.dv_hier.specs.Hierarchies.{HierarchyValue, IsHierarchy, without_table, without_tables, hierarchy_of}
 use Rattle.dv_hier.proofs.Built.{defs_slotted, names_slotted}
 use Rattle.dv_vtable.specs.Tables.{TabledValue, IsTabled, tabled_of}

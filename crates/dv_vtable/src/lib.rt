@@ -1,8 +1,12 @@
 //! The methods of the classes that are linked: which may not stand as they are declared, and what a call on an object lands on.
 #![tactic(auto)]
 
+mod bodies;
+mod finals;
+mod chains;
 mod keys;
 mod methods;
+mod numbering;
 mod tabled;
 mod tabling;
 

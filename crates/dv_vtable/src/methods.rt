@@ -1,12 +1,54 @@
 // Methods that a class may not declare as it does.
-ghost use Rattle.std.specs.Prelude.{◌≡◌};
+ghost use Rattle.std.specs.Prelude.{◌≡◌, ◌<◌, length, option_map, IfOk};
+ghost use Rattle.dv_defs.specs.declared.faults.LinkKind.TheVariants as kind;
+ghost use Rattle.dv_defs.specs.First.{first_below};
 ghost use Rattle.dv_defs.specs.Images.{Image};
-ghost use Rattle.dv_defs.specs.LinkFaults.{Checks, first_fault_by, wrong_methods};
+ghost use Rattle.dv_defs.specs.LinkFaults.{Checks, first_fault_by, found, method_twice as first_twice, wrong_methods};
 ghost use Rattle.dv_defs.specs.Linked.{defs};
 ghost use Rattle.dv_linklaws.specs.Stripped.{AreInRange};
 
-use dv_defs::{ClassInfo, LinkError};
-use std::alloc::Global;
+use crate::bodies::check_bodies;
+use crate::finals::check_finals;
+use crate::keys::key_of;
+use dv_defs::{ClassDef, ClassInfo, LinkError, LinkKind, MethodDef, Text};
+use dv_hier::error_of;
+use indexmap::IndexSet;
+use std::alloc::{AllocError, Global};
+
+/// The name of the first method that an earlier one is like. A lone method needs no set.
+fn method_twice(alloc: Global, methods: &[MethodDef]) -> Result<Option<Text>, AllocError>
+    ensures { IfOk result (λ name. first_below (first_twice methods.now) (length methods.now) ≡ option_map kind.MethodTwice name) }
+{
+    let several = methods.len() > 1;
+    let mut seen = IndexSet::new(alloc);
+    for i in 0..methods.len() {
+        let key = key_of(&methods[i]);
+        if several && !seen.insert(key)? {
+            return Ok(Some(key.name.clone()?));
+        }
+    }
+    Ok(None)
+}
+
+/// The first method of a class that may not stand as it is declared. `place` is the number of the class.
+fn check_class(
+    alloc: Global,
+    infos: &[ClassInfo],
+    boot: u32,
+    place: usize,
+    class: &ClassDef,
+) -> Result<(), LinkError>
+    requires range { AreInRange infos.now }
+    requires place { place < length infos.now }
+    ensures { (image : Image) → image.classes ≡ infos.now → image.boot ≡ boot
+        → Checks result (option_map (found class.now.name) (wrong_methods image place class.now)) }
+{
+    if let Some(name) = method_twice(alloc, class.methods.items())? {
+        return Err(error_of(&class.name, LinkKind::MethodTwice(name)));
+    }
+    check_bodies(boot, place, class)?;
+    check_finals(alloc, infos, place, class)
+}
 
 /// The first class with a method that it declares twice, that has a body where it may not or none where it must, or that overrides
 /// a final one (JLS 8.4.2, 8.4.3.3).
@@ -14,5 +56,8 @@ pub fn check_methods(alloc: Global, infos: &[ClassInfo], boot: u32) -> Result<()
     requires range { AreInRange infos.now }
     ensures { (image : Image) → image.classes ≡ infos.now → image.boot ≡ boot → Checks result (first_fault_by (wrong_methods image) (defs infos.now)) }
 {
-    Err(LinkError::Memory)
+    for (place, info) in infos.iter().enumerate() {
+        check_class(alloc, infos, boot, place, &info.def)?;
+    }
+    Ok(())
 }

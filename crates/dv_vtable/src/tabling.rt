@@ -1,14 +1,74 @@
 // Tables of methods, and the methods by number.
-ghost use Rattle.std.specs.Prelude.{◌≡◌, ◌<◌, ◌^◌, length, sum_by, All, IfOk, None};
+ghost use Rattle.std.specs.Prelude.{◌≡◌, ◌<◌, ◌^◌, length, map, zip, sum_by, All, IfOk, None};
+ghost use Rattle.std.specs.List.{range_with_len};
 ghost use Rattle.dv_defs.specs.First.{first_below};
 ghost use Rattle.dv_defs.specs.Images.{Image};
 ghost use Rattle.dv_defs.specs.LinkFaults.{method_twice};
 ghost use Rattle.dv_defs.specs.Linked.{defs, tabled};
 ghost use Rattle.dv_defs.specs.Numbering.{all_methods_declared};
 ghost use Rattle.dv_linklaws.specs.Stripped.{AreInRange};
+ghost use Rattle.dv_vtable.specs.Chains as spec;
 
-use dv_defs::{ClassInfo, MethodInfo};
+use crate::chains::{chain_of, table_of};
+use crate::numbering::{first_methods, number_methods};
+use dv_defs::{ClassId, ClassInfo, MethodId, MethodInfo, Seq};
 use std::alloc::{AllocError, Global};
+
+/// The table of each class. `firsts` are the numbers of their first methods.
+fn all_tables(
+    alloc: Global,
+    infos: &[ClassInfo],
+    firsts: &[u32],
+) -> Result<Vec<Seq<MethodId>>, AllocError>
+    requires range { AreInRange infos.now }
+    requires few { length infos.now < 2 ^ 32 }
+    requires few_methods { sum_by (λ c. length c.def.methods) infos.now < 2 ^ 31 }
+    requires firsts { firsts.now ≡ map (spec.first_method infos.now) (range_with_len 0 (length infos.now)) }
+    ensures { IfOk result (λ tables. tables.items ≡ spec.tables_below infos.now (length infos.now)) }
+{
+    let mut tables = Vec::new(alloc);
+    for class in 0..infos.len() {
+        let chain = chain_of(alloc, infos, ClassId(class as u32))?;
+        let table = table_of(alloc, infos, firsts, chain)?;
+        tables.push(Seq::of(table))?;
+    }
+    Ok(tables)
+}
+
+/// The class with this table.
+fn with_table(info: ClassInfo, table: Seq<MethodId>) -> ClassInfo
+    ensures { result ≡ spec.info_with (info, table) }
+{
+    let ClassInfo {
+        def,
+        parent,
+        interfaces,
+        slots,
+        table: _,
+    } = info;
+    ClassInfo {
+        def,
+        parent,
+        interfaces,
+        slots,
+        table,
+    }
+}
+
+/// Each class with its table.
+fn joined(
+    alloc: Global,
+    infos: Vec<ClassInfo>,
+    tables: Vec<Seq<MethodId>>,
+) -> Result<Vec<ClassInfo>, AllocError>
+    ensures { IfOk result (λ done. done.items ≡ map spec.info_with (zip infos.items tables.items)) }
+{
+    infos
+        .into_iter()
+        .zip(tables)
+        .map(|(info, table)| with_table(info, table))
+        .collect(alloc)
+}
 
 /// The classes with their tables, and all methods by number with nothing resolved.
 pub fn add_tables(
@@ -24,5 +84,9 @@ pub fn add_tables(
         → IfOk result (λ done. done.0.items ≡ (tabled image).classes) }
     ensures methods { IfOk result (λ done. done.1.items ≡ all_methods_declared 0 (defs infos.items)) }
 {
-    Err(AllocError)
+    let methods = number_methods(alloc, &infos)?;
+    let firsts = first_methods(alloc, &infos)?;
+    let tables = all_tables(alloc, &infos, &firsts)?;
+    let classes = joined(alloc, infos, tables)?;
+    Ok((classes, methods))
 }
