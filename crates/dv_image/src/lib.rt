@@ -1,12 +1,14 @@
-//! Questions about an image: subtypes, and the nearest common superclass.
+//! Questions about an image: subtypes, the nearest common superclass, and the methods that calls land on.
 #![tactic(auto)]
 
+mod calls;
 mod classes;
 mod common;
 mod fields;
 mod instances;
 mod subtypes;
 
+pub use calls::{lookup_interface, lookup_virtual};
 pub use common::common_super;
 pub use fields::field_of;
 pub use subtypes::{assignable, instance, sub};

@@ -14,6 +14,7 @@ pub mod FromBoot
 pub mod FromFaults
 pub mod FromPhases
 pub mod OrderedImages
+pub mod TableLaws
 pub mod OnceNumbers
 pub mod Upward
 pub mod FieldOrder

@@ -1,3 +1,4 @@
 pub mod Stripped
 pub mod Ordered
+pub mod Landing
 pub mod FieldPlaces
