@@ -2,4 +2,8 @@
 #![tactic(auto)]
 
 #[cfg(test)]
+mod images;
+#[cfg(test)]
+mod member_rows;
+#[cfg(test)]
 mod tests;

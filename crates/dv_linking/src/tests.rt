@@ -1,9 +1,11 @@
-// The hierarchies of programs behind the boot classes, and the first faults of what isn't linked.
+// Programs behind the boot classes: their hierarchies, and the first faults of what isn't linked.
+use crate::member_rows;
 use dv_boot::boot_text;
 use dv_classread::read_classes;
 use dv_console::{Refusal, refusal_line};
 use dv_defs::{ClassDef, LinkError};
 use dv_hier::{Classes, Hierarchy, build};
+use dv_resolve::link;
 use std::alloc::{AllocError, Global};
 use std::process::Abort;
 use std::test::Fail;
@@ -216,7 +218,7 @@ fn read<R: Abort>(rt: &R, alloc: Global, text: &str) -> Vec<ClassDef> {
 }
 
 // The boot classes, and then those of a text.
-fn with_boot<R: Abort>(rt: &R, alloc: Global, text: &str) -> Result<Vec<ClassDef>, AllocError> {
+pub fn with_boot<R: Abort>(rt: &R, alloc: Global, text: &str) -> Result<Vec<ClassDef>, AllocError> {
     let mut classes = read(rt, alloc, boot_text());
     for class in read(rt, alloc, text) {
         classes.push(class)?;
@@ -240,7 +242,7 @@ fn told<R: Abort>(
     list: Vec<ClassDef>,
     boot: u32,
 ) -> Result<Vec<u8>, AllocError> {
-    match built(rt, alloc, list, boot) {
+    match link(alloc, Classes::new(list, boot).expect(rt, "names")) {
         Ok(_) => Ok(Vec::new(alloc)),
         Err(LinkError::At { class, kind }) => {
             let line = refusal_line(alloc, &Refusal::Link(class, kind))?;
@@ -250,16 +252,22 @@ fn told<R: Abort>(
     }
 }
 
-#[test]
-fn the_first_fault_is_told(rt: HostRuntime) -> Result<(), Fail> {
-    for (text, line) in PROGRAMS {
-        let list = with_boot(&rt, rt.alloc(), text)?;
+fn assert_rows<R: Abort>(rt: &R, alloc: Global, rows: &[(&str, &str)]) -> Result<(), AllocError> {
+    for (text, line) in rows {
+        let list = with_boot(rt, alloc, text)?;
         assert_eq!(rt;
-            told(&rt, rt.alloc(), list, BOOT)?.as_slice(),
+            told(rt, alloc, list, BOOT)?.as_slice(),
             line.as_bytes(),
             "{text}"
         );
     }
+    Ok(())
+}
+
+#[test]
+fn the_first_fault_is_told(rt: HostRuntime) -> Result<(), Fail> {
+    assert_rows(&rt, rt.alloc(), PROGRAMS.as_slice())?;
+    assert_rows(&rt, rt.alloc(), member_rows::PROGRAMS.as_slice())?;
     Ok(())
 }
 
