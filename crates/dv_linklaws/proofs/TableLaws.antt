@@ -1,6 +1,5 @@
 -- The table of a class has what a look-up by name and prototype lands on.
-use Rattle.std.specs.Prelude.{ℕ, zero, suc, ◌≡◌, ◌≤◌, ◌+◌, Bool, true, false, ◌&&◌, ◌||◌, not, List, [], ◌∷◌, length, map, filter, filter_map, find, sum_by, All, Option, Some, None, is_some, Ok, slice_get, nat_eq, bytes_eq, option_map}
-use Rattle.std.specs.Option.{option_or}
+use Rattle.std.specs.Prelude.{ℕ, zero, suc, ◌≡◌, ◌≤◌, ◌+◌, Bool, true, false, ◌&&◌, ◌||◌, not, List, [], ◌∷◌, length, map, filter, filter_map, find, sum_by, All, Option, Some, None, is_some, slice_get, nat_eq, bytes_eq, option_map}
 use Rattle.std.specs.List.{list_any, cons_option, range_with_len, enumerate_from}
 use Rattle.std.proofs.Common.{refl, ap, sym, subst, ◌∙◌, arith, cond}
 use Rattle.std.proofs.lemmas.Bool.{and_parts, eqb-true}
@@ -24,15 +23,15 @@ use Rattle.dv_defs.specs.Names.{init_name}
 use Rattle.dv_defs.specs.Types.{base_eq, ty_eq, same_types, same_result, same_proto}
 use Rattle.dv_defs.specs.Pools.{Method, method_at, methods_of, with_def, with_info, is_static, is_private, declared_by, is_virtual_of, first_of_classes, nearest, parent_of, walk, supers}
 use Rattle.dv_defs.specs.Numbering.{class_numbered, declared, numbered}
-use Rattle.dv_defs.specs.LinkFaults.{Found, first_fault_by, boot_fault, limit_fault, is_twice}
-use Rattle.dv_defs.specs.Linked.{is_callable, all_methods, callable_of_class, is_new, callable_along, entry, table_at, class_with_table, slotted, tabled, resolved, first_phases, method_phase, pool_phase, unless_found, linked, defs, IsImage}
+use Rattle.dv_defs.specs.Linked.{is_callable, all_methods, callable_of_class, is_new, callable_along, entry, table_at, class_with_table, slotted, tabled, resolved, defs, IsImage}
 use Rattle.dv_linklaws.specs.Landing.{has_key, has_key_at, landing_of}
 use Rattle.dv_linklaws.specs.Stripped.{method_info_stripped}
-use Rattle.dv_linklaws.proofs.First.{or_none}
 use Rattle.dv_linklaws.proofs.Bounds.{few_methods}
 use Rattle.dv_linklaws.proofs.Members.{declared_by_is, numbered_methods, method_count}
-use Rattle.dv_linklaws.proofs.AlikeImages.{AreAlike, alike_by, alike_slotted, alike_linked}
+use Rattle.dv_linklaws.proofs.AlikeImages.{AreAlike, alike_by, alike_slotted}
 use Rattle.dv_linklaws.proofs.AlikeTables.{alike_table_at}
+use Rattle.dv_linklaws.proofs.ImageMembers.{image_passes}
+use Rattle.dv_linklaws.proofs.OrderedImages.{own_numbered, image_is, image_alike}
 
 -- ---- prototypes that are the same are equal
 
@@ -354,29 +353,8 @@ nearest_outside image c name proto none =
 
 -- ---- the tables of an image
 
-unless_ok : (o : Option Found) (y z : Image) → unless_found o y ≡ Ok z → (o ≡ None) × (y ≡ z)
-unless_ok None y z h = (refl, cc)
-unless_ok (Some fault) y z h = absurd (cc)
-
--- what linking numbers of the definitions in an image
-abbrev own_numbered : Image → Image
-own_numbered image = numbered (defs image.classes) image.boot
-
-linked_parts : (cs : List ClassDef) (boot : ℕ) (image : Image) → linked cs boot ≡ Ok image → (first_phases cs boot ≡ None) × (resolved (tabled (slotted (numbered cs boot))) ≡ image)
-unfolding linked
-linked_parts cs boot image e =
-    let both = unless_ok (option_or (first_phases cs boot) (option_or (method_phase cs boot) (pool_phase cs boot))) (resolved (tabled (slotted (numbered cs boot)))) image e in
-    ((or_none (first_phases cs boot) (option_or (method_phase cs boot) (pool_phase cs boot)) both.0).0, both.1)
-
-module _ (image : Image) (is : IsImage image) where
-  parts_of : (first_phases (defs image.classes) image.boot ≡ None) × (resolved (tabled (slotted (own_numbered image))) ≡ image)
-  parts_of = linked_parts (defs image.classes) image.boot image is.is_linked
-
-  as_numbered : AreAlike image (own_numbered image)
-  as_numbered = subst (λ made. AreAlike made (own_numbered image)) parts_of.1 (alike_linked (defs image.classes) image.boot)
-
-  as_slotted : AreAlike (slotted (own_numbered image)) image
-  as_slotted = alike_slotted (defs image.classes) image.boot ∙ sym as_numbered
+as_slotted : (image : Image) → IsImage image → AreAlike (slotted (own_numbered image)) image
+as_slotted image is = alike_slotted (defs image.classes) image.boot ∙ sym (image_alike image is)
 
 classes_made : (before : Image) → (resolved (tabled before)).classes ≡ map (class_with_table before) (enumerate_from 0 before.classes)
 unfolding resolved tabled
@@ -396,7 +374,7 @@ table_placed before (d ∷ cs) a (suc c) info there =
 pub image_table : (image : Image) → IsImage image → (c : ℕ) (info : ClassInfo) → slice_get image.classes c ≡ Some info → info.table ≡ table_at image c
 image_table image is c info there =
     let made : image.classes ≡ map (class_with_table (slotted (own_numbered image))) (enumerate_from 0 (slotted (own_numbered image)).classes) =
-    sym (ap (λ (i : Image). i.classes) (parts_of image is).1) ∙ classes_made (slotted (own_numbered image)) in
+    sym (ap (λ (i : Image). i.classes) (image_is image is)) ∙ classes_made (slotted (own_numbered image)) in
     let placed = table_placed (slotted (own_numbered image)) (slotted (own_numbered image)).classes 0 c info (sym (ap (λ cs. slice_get cs c) made) ∙ there) in
     let z : 0 + c ≡ c = omega arith in
     rw z at placed ∙ alike_table_at (slotted (own_numbered image)) image (as_slotted image is) c
@@ -419,16 +397,9 @@ numbered_count cs boot =
     method_count (numbered cs boot) (numbered_methods cs boot) ∙
     (methods_defined (map (class_numbered (declared cs boot)) cs) ∙ ap (sum_by (λ c. length c.methods)) (defs_kept (declared cs boot) cs))
 
-few_by : (cs : List ClassDef) (boot : ℕ) → first_phases cs boot ≡ None → sum_by (λ c. length c.methods) cs ≤ 19618
-unfolding first_phases
-few_by cs boot none =
-    let first = or_none (boot_fault cs boot) _ none in
-    let second = or_none (limit_fault cs boot) _ first.1 in
-    let third = or_none (first_fault_by (is_twice (declared cs boot)) cs) _ second.1 in
-    few_methods cs boot first.0 second.0 third.0
-
 -- an image's methods have numbers of 32 bits
 pub image_few_methods : (image : Image) → IsImage image → length image.methods ≤ 19618
 image_few_methods image is =
-    let alike = alike_by (λ (i : Image). length i.methods) (λ i. length-map i.methods method_info_stripped) image (own_numbered image) (as_numbered image is) in
-    subst (λ n. n ≤ 19618) (sym (alike ∙ numbered_count (defs image.classes) image.boot)) (few_by (defs image.classes) image.boot (parts_of image is).0)
+    let alike = alike_by (λ (i : Image). length i.methods) (λ i. length-map i.methods method_info_stripped) image (own_numbered image) (image_alike image is) in
+    let passed = image_passes image is in
+    subst (λ n. n ≤ 19618) (sym (alike ∙ numbered_count (defs image.classes) image.boot)) (few_methods (defs image.classes) image.boot passed.0 passed.1 passed.2)
