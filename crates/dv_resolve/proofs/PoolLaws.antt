@@ -1,5 +1,5 @@
 -- Faults of pools, one pass after another and class by class.
-use Rattle.std.proofs.Common.{◌≡◌, ◌+◌, ◌<◌, ◌≤◌, ℕ, zero, suc, List, [], ◌∷◌, length, take, Option, Some, None, Result, Err, get_or, refl, sym, ap, subst, ◌∙◌, arith}
+use Rattle.std.proofs.Common.{◌≡◌, ◌+◌, ◌<◌, ℕ, List, [], ◌∷◌, length, Option, Some, None, Result, Err, get_or, refl, sym, ap, subst, ◌∙◌, arith}
 use Rattle.std.specs.Prelude.{filter_map, option_map, option_and_then}
 use Rattle.std.specs.List.{cons_option}
 use Rattle.std.specs.Option.{option_or}
@@ -12,7 +12,7 @@ use Rattle.dv_defs.specs.declared.faults.LinkError.{LinkError}
 use Rattle.dv_defs.specs.declared.faults.LinkKind.{LinkKind}
 use Rattle.dv_defs.specs.First.{first_in, first_below}
 use Rattle.dv_defs.specs.Images.{Image}
-use Rattle.dv_defs.specs.LinkFaults.{Checks, Fails, Found, LinkTest, bodies, fault_at, first_fault_by, found, wrong_pools}
+use Rattle.dv_defs.specs.LinkFaults.{Checks, Fails, LinkTest, bodies, fault_at, first_fault_by, found, wrong_pools}
 use Rattle.dv_defs.specs.Linked.{defs}
 use Rattle.dv_hier.proofs.AboveLaws.{classes_more, classes_told, first_told, then_checked}
 

@@ -1,5 +1,5 @@
 -- What is asked of the pools of a body, pass by pass.
-use Rattle.std.specs.Prelude.{◌≡◌, ℕ, Bool, true, false, ◌&&◌, not, Option, Some, None, nat_eq}
+use Rattle.std.specs.Prelude.{ℕ, Bool, false, ◌&&◌, not, Option, Some, None, nat_eq}
 use Rattle.dv_defs.specs.declared.code.Body.{Body}
 use Rattle.dv_defs.specs.declared.faults.LinkKind.{LinkKind}
 use Rattle.dv_defs.specs.declared.flags.Flag.TheVariants as flag

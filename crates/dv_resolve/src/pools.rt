@@ -2,9 +2,8 @@
 ghost use Rattle.std.specs.Prelude.{◌≡◌, option_map, option_and_then};
 ghost use Rattle.dv_defs.specs.First.{first_in};
 ghost use Rattle.dv_defs.specs.Images.{Image};
-ghost use Rattle.dv_defs.specs.LinkFaults.{bodies, found, Checks, first_fault_by, no_class_in_pools, no_field, no_method, private_field, private_in_pools, private_method, wrong_pools};
+ghost use Rattle.dv_defs.specs.LinkFaults.{found, Checks, first_fault_by, no_field, no_method, private_field, private_in_pools, private_method, wrong_pools};
 ghost use Rattle.dv_defs.specs.Linked.{defs};
-ghost use Rattle.dv_defs.specs.Numbering.{names_of};
 ghost use Rattle.dv_resolve.specs.Members.{Knows};
 ghost use Rattle.dv_resolve.specs.Passes.{fault_by, is_foreign_private};
 
@@ -54,7 +53,7 @@ fn check_class(
     check_bodies(alloc, members, place, name, methods, Pass::Access)
 }
 
-/// What is asked first in vain of the bodies of a class's methods.
+/// The first fault that a pass finds in the bodies of these methods.
 fn check_bodies(
     alloc: Global,
     members: &Members<'_>,
