@@ -25,7 +25,7 @@ in_parent : (d : ℕ) (o : Option ℕ) (cs : List ℕ) → has_number d cs ≡ t
 in_parent d None cs has = has
 in_parent d (Some p) cs has = number_later d p cs has
 
-interface_above : (image : Image) (c d : ℕ) → has_number d (interfaces_at image c) ≡ true → has_number d (above image c) ≡ true
+pub interface_above : (image : Image) (c d : ℕ) → has_number d (interfaces_at image c) ≡ true → has_number d (above image c) ≡ true
 interface_above image c d has = in_parent d (parent_at image c) (interfaces_at image c) has
 
 module _ (image : Image) (o : IsOrdered image) where

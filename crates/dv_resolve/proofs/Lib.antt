@@ -1,3 +1,4 @@
 pub mod LinkedLaws
 pub mod AddedLaws
 pub mod InterfaceLaws
+pub mod RoundLaws
