@@ -1,5 +1,5 @@
 -- One more interface, one more class, one more round of lists.
-use Rattle.std.proofs.Common.{◌≡◌, ◌≢◌, ◌+◌, ◌<◌, ◌≤◌, ℕ, zero, suc, Bool, true, false, ◌&&◌, List, [], ◌∷◌, ◌++◌, length, take, drop, get_or, set, map, flat_map, position, is_some, Option, Some, None, Result, Ok, Err, option_map, refl, sym, ap, subst, ◌∙◌, ⊎_elim, arith}
+use Rattle.std.proofs.Common.{◌≡◌, ◌≢◌, ◌+◌, ◌<◌, ◌≤◌, ℕ, zero, suc, Bool, true, false, ◌&&◌, ◌||◌, List, [], ◌∷◌, ◌++◌, length, take, drop, get_or, set, map, flat_map, position, is_some, Option, Some, None, Result, Ok, Err, option_map, refl, sym, ap, subst, ◌∙◌, ⊎_elim, arith}
 use Rattle.std.specs.Prelude.{nat_eq, nat_lt, slice_get}
 use Rattle.std.specs.List.{list_any, list_all}
 use Rattle.std.proofs.lemmas.List.{drop_more, take_more, take_all, map-append, length-map, length-set, get_or-map, get_or_past, get_or-set_same}
@@ -32,7 +32,7 @@ has_by_entry : (x : ClassId) (xs : List ClassId) → list_any (id_eq x) xs ≡ h
 has_by_entry x [] = refl
 has_by_entry x (y ∷ ys) = here (id_eq x y) (nat_eq y.0 x.0) (grind arith) (has_by_entry x ys)
   where
-    here : (a b : Bool) → a ≡ b → list_any (id_eq x) ys ≡ has_number x.0 (numbers ys) → elim a as (λ _. Bool) [ true ↦ true | false ↦ list_any (id_eq x) ys ] ≡ elim b as (λ _. Bool) [ true ↦ true | false ↦ has_number x.0 (numbers ys) ]
+    here : (a b : Bool) → a ≡ b → list_any (id_eq x) ys ≡ has_number x.0 (numbers ys) → (a || list_any (id_eq x) ys) ≡ elim b as (λ _. Bool) [ true ↦ true | false ↦ has_number x.0 (numbers ys) ]
     here true true same rest = refl
     here true false same rest = absurd (cc)
     here false true same rest = absurd (cc)
@@ -80,6 +80,14 @@ absent_at {X} lists c o found is = ap has_list (slice_get_past lists c (let past
 -- what is found at a place
 pub found_at : (lists : Lists) (c : ℕ) (o : Option (List ClassId)) → c < length lists → o ≡ get_or lists c o → slice_get lists c ≡ Some o
 found_at lists c o within is = slice_get_read lists (length lists) c o refl within is
+
+-- a class is listed where a list is found
+pub listed_at : (lists : Lists) (c : ℕ) (o : Option (List ClassId)) → c < length lists → o ≡ get_or lists c o → is_listed lists c ≡ is_some o
+listed_at lists c o within is = ap has_list (found_at lists c o within is) ∙ here o
+  where
+    here : (o : Option (List ClassId)) → has_list (Some o) ≡ is_some o
+    here None = refl
+    here (Some ids) = refl
 
 -- ---- no lists
 

@@ -1,29 +1,17 @@
-use Rattle.std.proofs.Common.{List, Option, Some, get_or, ap, sym, ◌∙◌}
+use Rattle.std.proofs.Common.{List, Option, Some, is_some, not, get_or, ap, sym, ◌∙◌}
 use Rattle.std.proofs.lemmas.List.{drop_all}
 use Rattle.dv_defs.specs.Order.{numbers}
 use Rattle.dv_defs.specs.declared.names.ClassId.{ClassId}
-use Rattle.dv_resolve.specs.Interfaces.{are_ready, has_list}
-use Rattle.dv_resolve.proofs.RoundLaws.{nobody, absent_at, found_at, one_ready}
+use Rattle.dv_resolve.specs.Interfaces.{are_ready}
+use Rattle.dv_resolve.proofs.RoundLaws.{nobody, absent_at, listed_at, one_ready}
 use Rattle.dv_resolve.proofs.interfaces.are_listed.Goals as goal
 
 pub returns-in_default : goal.returns-in_default
-returns-in_default c = ?
-
-pub returns-in_default-2 : goal.returns-in_default-2
-returns-in_default-2 c =
+returns-in_default c =
     let lists = c.args.lists.now in
     let is = c.args.interfaces.now in
     let i = c.loop-id.id-index in
     sym (one_ready lists is i nobody _ c.loop-id-test.true (absent_at lists (get_or is i nobody).0 c.get.result c.get.ensures.lookup.0 c.in_default.is)) ∙ c.loop-id.invariant
-
-pub loop-id-preserved : goal.loop-id-preserved
-loop-id-preserved c =
-    let lists = c.args.lists.now in
-    let is = c.args.interfaces.now in
-    let i = c.loop-id.id-index in
-    let at = c.in-Some-Some.ensures.lookup in
-    sym (one_ready lists is i nobody _ c.loop-id-test.true
-    (ap has_list (found_at lists (get_or is i nobody).0 c.in-Some-Some.field-0.now at.3.0 at.1) ∙ ap (λ (o : Option (List ClassId)). has_list (Some o)) c.in-Some-Some.field-0-is)) ∙ c.loop-id.invariant
 
 pub returns : goal.returns
 returns c =

@@ -1,32 +1,28 @@
-use Rattle.std.proofs.Common.{rules, ◌≡◌, ◌<◌, ℕ, true, [], length, map, slice_get, slice_index_or, IfOk, OnOk, ◌+◌, ◌-◌, ◌*◌, ◌≤◌, ◌/◌, ◌%◌, Bool, false, nat_eq, nat_lt, List, ◌∷◌, ◌++◌, slice_set, bit_and, bit_or, Fits, w8, w32, w64, Bor, MutBor}
-use Rattle.dv_defs.specs.Images.{Image}
-use Rattle.dv_defs.specs.LookUp.{interfaces_above, once}
-use Rattle.dv_defs.specs.Order.{interfaces_of, numbers}
-use Rattle.dv_linklaws.specs.Ordered.{IsOrdered}
-use Rattle.dv_resolve.specs.Interfaces.{added, are_ready, AreRight, is_listed, list_of, listed, or_empty}
-use Rattle.dv_resolve.specs.Interfaces.{unlisted as without_list}
+use Rattle.std.proofs.Common.{refl, ap, sym, ◌∙◌, arith}
+use Rattle.dv_resolve.proofs.RoundLaws.{IsRound, round_start, round_listed, round_open, round_put}
+use Rattle.dv_resolve.proofs.interfaces.fill.Goals.{then-is_none+then-are_listed+in_ok-list_above+in-Some-1, then-is_none+then-are_listed+in_ok-list_above+in-None-1, then-is_none+else-are_listed, else-is_none}
 use Rattle.dv_resolve.proofs.interfaces.fill.Goals as goal
 
--- src/interfaces.rt:66:5
 pub loop-class-init : goal.loop-class-init
-loop-class-init c = ?
+loop-class-init c = round_start c.args.infos.now c.args.lists.now.items c.requires
 
--- src/interfaces.rt:66:5
 pub loop-class-preserved : goal.loop-class-preserved
-loop-class-preserved c = ?
+loop-class-preserved c =
+    elim c.if-is_none.branch [
+      | then-is_none+then-are_listed+in_ok-list_above+in-Some-1 w ↦ ?
+      | then-is_none+then-are_listed+in_ok-list_above+in-None-1 w ↦ ?
+      | then-is_none+else-are_listed w ↦ ?
+      | else-is_none w ↦ ?
+    ]
 
--- src/interfaces.rt:53:1
 pub returns-clause-right : goal.returns-clause-right
-returns-clause-right c = ?
+returns-clause-right c = c.loop-class.invariant.right
 
--- src/interfaces.rt:53:1
 pub returns-clause-kept : goal.returns-clause-kept
-returns-clause-kept c = ?
+returns-clause-kept c = c.loop-class.invariant.kept
 
--- src/interfaces.rt:53:1
 pub returns-clause-ready : goal.returns-clause-ready
-returns-clause-ready c = ?
+returns-clause-ready c = λ k within. c.loop-class.invariant.ready k (omega (arith, within, c.loop-class-test.false))
 
--- src/interfaces.rt:53:1
 pub returns-clause-whole : goal.returns-clause-whole
-returns-clause-whole c = ?
+returns-clause-whole c = λ all k within. c.loop-class.invariant.all all k (omega (arith, within, c.loop-class-test.false))
