@@ -1,5 +1,5 @@
 -- One more interface, one more class, one more round of lists.
-use Rattle.std.proofs.Common.{◌≡◌, ◌≢◌, ◌+◌, ◌<◌, ◌≤◌, ℕ, zero, suc, Bool, true, false, ◌&&◌, ◌||◌, List, [], ◌∷◌, ◌++◌, length, take, drop, get_or, set, map, flat_map, position, is_some, Option, Some, None, Result, Ok, Err, option_map, refl, sym, ap, subst, ◌∙◌, ⊎_elim, arith}
+use Rattle.std.proofs.Common.{◌≡◌, ◌≢◌, ◌+◌, ◌<◌, ◌≤◌, ℕ, zero, suc, Bool, true, false, ◌&&◌, ◌||◌, List, [], ◌∷◌, ◌++◌, length, take, drop, get_or, set, map, flat_map, position, is_some, not, Option, Some, None, Result, Ok, Err, option_map, refl, sym, ap, subst, ◌∙◌, ⊎_elim, arith}
 use Rattle.std.specs.Prelude.{nat_eq, nat_lt, slice_get}
 use Rattle.std.specs.List.{list_any, list_all}
 use Rattle.std.proofs.lemmas.List.{drop_more, take_more, take_all, map-append, length-map, length-set, get_or-map, get_or_past, get_or-set_same}
@@ -250,3 +250,28 @@ all_right infos lists done image is same right whole made c = ⊎_elim inside ou
         ap (λ (ds : List (List ClassId)). numbers (get_or ds c [])) made ∙
         (ap numbers (get_or_past (map or_empty lists) c [] (omega (arith, past, same, length-map lists or_empty))) ∙
         sym (ap (λ (o : Option ClassInfo). once (flat_map (upward (interfaces_at image) (length image.classes)) (interfaces_of o))) (slice_get_past image.classes c (omega (arith, past, ap length is)))))
+
+-- ---- the three ways of a turn
+
+interfaces_read : (infos : List ClassInfo) (k : ℕ) (info : ClassInfo) (is : List ClassId) → k < length infos → is ≡ (get_or infos k info).interfaces → numbers is ≡ interfaces_of (slice_get infos k)
+interfaces_read infos k info is within own = ap numbers own ∙ sym (ap interfaces_of (slice_get-get_or infos k info within))
+
+pub turn_put : (infos : List ClassInfo) (first lists asked read new : Lists) (whole next told : Bool) (k : ℕ) (info : ClassInfo) (own is : List ClassId) → IsRound infos first lists whole k → k < length infos → is ≡ (get_or infos k info).interfaces
+    → asked ≡ lists → told ≡ are_ready asked (numbers is) → told ≡ true → read ≡ lists → numbers own ≡ listed read (numbers is) → new ≡ set lists k (Some own) → next ≡ whole → IsRound infos first new next (k + 1)
+turn_put infos first lists asked read new whole next told k info own is r within given same answer true_is other list made kept =
+    subst (λ (b : Bool). IsRound infos first new b (k + 1)) (sym kept)
+    (round_put infos first lists new whole k own (numbers is) r within made (list ∙ ap (λ (ls : Lists). listed ls (numbers is)) other) (interfaces_read infos k info is within given)
+    (sym (ap (λ (ls : Lists). are_ready ls (numbers is)) same) ∙ (sym answer ∙ true_is)))
+
+pub turn_open : (infos : List ClassInfo) (first lists asked new : Lists) (whole next told : Bool) (k : ℕ) (info : ClassInfo) (is : List ClassId) → IsRound infos first lists whole k → k < length infos → is ≡ (get_or infos k info).interfaces
+    → asked ≡ lists → told ≡ are_ready asked (numbers is) → told ≡ false → new ≡ lists → next ≡ false → IsRound infos first new next (k + 1)
+turn_open infos first lists asked new whole next told k info is r within given same answer false_is kept none =
+    subst (λ (ls : Lists). IsRound infos first ls next (k + 1)) (sym {A = Lists} kept) (subst (λ (b : Bool). IsRound infos first lists b (k + 1)) (sym none)
+    (round_open infos first lists whole k r
+    (ap (are_ready lists) (sym (interfaces_read infos k info is within given)) ∙ (sym (ap (λ (ls : Lists). are_ready ls (numbers is)) same) ∙ (sym answer ∙ false_is)))))
+
+pub turn_listed : (infos : List ClassInfo) (first lists new : Lists) (whole next lacks : Bool) (k : ℕ) (o : Option (List ClassId)) → IsRound infos first lists whole k → k < length infos → o ≡ get_or lists k o
+    → is_some o ≡ not lacks → lacks ≡ false → new ≡ lists → next ≡ whole → IsRound infos first new next (k + 1)
+turn_listed infos first lists new whole next lacks k o r within at found has kept same =
+    subst (λ (ls : Lists). IsRound infos first ls next (k + 1)) (sym {A = Lists} kept) (subst (λ (b : Bool). IsRound infos first lists b (k + 1)) (sym same)
+    (round_listed infos first lists whole k r (listed_at lists k o (omega (arith, within, r.same)) at ∙ (found ∙ ap not has))))
