@@ -1,7 +1,7 @@
 -- One more interface, one more class, one more round of lists.
-use Rattle.std.proofs.Common.{◌≡◌, ◌≢◌, ◌+◌, ◌<◌, ◌≤◌, ℕ, zero, suc, Bool, true, false, ◌&&◌, ◌||◌, List, [], ◌∷◌, ◌++◌, length, take, drop, get_or, set, map, flat_map, position, is_some, not, Option, Some, None, Result, Ok, Err, option_map, refl, sym, ap, subst, ◌∙◌, ⊎_elim, arith}
+use Rattle.std.proofs.Common.{◌≡◌, ◌+◌, ◌<◌, ◌≤◌, ℕ, zero, suc, Bool, true, false, ◌&&◌, ◌||◌, List, [], ◌∷◌, ◌++◌, length, take, drop, get_or, set, map, flat_map, position, is_some, not, Option, Some, None, option_map, refl, sym, ap, subst, ◌∙◌, ⊎_elim, arith}
 use Rattle.std.specs.Prelude.{nat_eq, nat_lt, slice_get}
-use Rattle.std.specs.List.{list_any, list_all}
+use Rattle.std.specs.List.{list_any}
 use Rattle.std.proofs.lemmas.List.{drop_more, take_more, take_all, map-append, length-map, length-set, get_or-map, get_or_past, get_or-set_same}
 use Rattle.std.proofs.lemmas.Option.{slice_get_read, slice_get_past, slice_get-get_or, slice_get-map}
 use Rattle.dv_defs.specs.declared.names.ClassId.{ClassId}
@@ -9,7 +9,7 @@ use Rattle.dv_defs.specs.declared.image.ClassInfo.{ClassInfo}
 use Rattle.dv_defs.specs.contracts.names.ClassIdPartialEq.TheImpl as of_id
 use Rattle.dv_defs.specs.Entries.{with_entry}
 use Rattle.dv_defs.specs.Images.{Image}
-use Rattle.dv_defs.specs.Order.{has_number, numbers, above, interfaces_of}
+use Rattle.dv_defs.specs.Order.{has_number, numbers, interfaces_of}
 use Rattle.dv_defs.specs.LookUp.{upward, interfaces_at, interfaces_above, once}
 use Rattle.dv_hier.proofs.Twice.{some_place}
 use Rattle.dv_linklaws.specs.Ordered.{IsOrdered}

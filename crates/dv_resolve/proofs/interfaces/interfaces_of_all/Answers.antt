@@ -1,4 +1,3 @@
-use Rattle.std.proofs.Common.{◌≡◌, ℕ, [], get_or, arith}
 use Rattle.std.proofs.lemmas.Result.{IfOk-weaker}
 use Rattle.dv_resolve.proofs.RoundLaws.{filled_start, filled_more, filled_whole, all_right}
 use Rattle.dv_resolve.proofs.interfaces.interfaces_of_all.Goals as goal
