@@ -1,18 +1,14 @@
 -- The interfaces above a class, from those above the interfaces that it names.
-use Rattle.std.specs.Prelude.{◌≡◌, ℕ, zero, suc, ◌<◌, ◌≤◌, Bool, true, false, ◌&&◌, List, [], ◌∷◌, ◌++◌, length, flat_map, map, Option, Some, None, slice_get, slice_index_or, nat_eq}
-use Rattle.std.specs.List.{list_all}
+use Rattle.std.specs.Prelude.{◌≡◌, ℕ, zero, suc, ◌<◌, Bool, true, false, ◌&&◌, List, [], ◌∷◌, ◌++◌, length, flat_map, Option, Some, None, nat_eq}
 use Rattle.std.proofs.Common.{refl, sym, ap, subst, ◌∙◌, arith}
-use Rattle.std.proofs.lemmas.List.{length-map}
-use Rattle.dv_defs.specs.declared.names.ClassId.{ClassId}
-use Rattle.dv_defs.specs.declared.image.ClassInfo.{ClassInfo}
 use Rattle.dv_defs.specs.Images.{Image}
 use Rattle.dv_defs.specs.Pools.{parent_at}
-use Rattle.dv_defs.specs.Order.{has_number, numbers, with_parent, above, interfaces_of}
+use Rattle.dv_defs.specs.Order.{has_number, with_parent, above}
 use Rattle.dv_defs.specs.LookUp.{upward, interfaces_at, interfaces_above, once}
 use Rattle.dv_linklaws.specs.Ordered.{IsOrdered}
 use Rattle.dv_linklaws.proofs.Reach.{number_first, number_later, above_in}
 use Rattle.dv_linklaws.proofs.ReachPlaces.{place, place_bounded, place_rises}
-use Rattle.dv_resolve.specs.Interfaces.{added, Lists, has_list, is_listed, are_ready, listed_in, list_of, listed, AreRight, unlisted, or_empty}
+use Rattle.dv_resolve.specs.Interfaces.{added, Lists, is_listed, are_ready, list_of, listed, AreRight, unlisted}
 use Rattle.dv_resolve.proofs.AddedLaws.{once_added, added_flat}
 
 -- functions that are the same of the numbers of a list
@@ -25,7 +21,7 @@ in_parent : (d : ℕ) (o : Option ℕ) (cs : List ℕ) → has_number d cs ≡ t
 in_parent d None cs has = has
 in_parent d (Some p) cs has = number_later d p cs has
 
-interface_above : (image : Image) (c d : ℕ) → has_number d (interfaces_at image c) ≡ true → has_number d (above image c) ≡ true
+pub interface_above : (image : Image) (c d : ℕ) → has_number d (interfaces_at image c) ≡ true → has_number d (above image c) ≡ true
 interface_above image c d has = in_parent d (parent_at image c) (interfaces_at image c) has
 
 module _ (image : Image) (o : IsOrdered image) where

@@ -7,3 +7,4 @@ mod Walking
 pub mod PoolLaws
 pub mod IdLaws
 pub mod MainLaws
+pub mod RoundLaws

@@ -24,11 +24,27 @@ fn are_listed(lists: &[Option<Seq<ClassId>>], interfaces: &[ClassId]) -> bool
     ensures { result ≡ are_ready lists.now (numbers interfaces.now) }
 {
     for id in interfaces {
-        let Some(Some(_)) = lists.get(id.0 as usize) else {
+        let Some(list) = lists.get(id.0 as usize) else {
             return false;
         };
+        if list.is_none() {
+            return false;
+        }
     }
     true
+}
+
+/// The list of a class: empty, where it has none.
+fn list_at(lists: &[Option<Seq<ClassId>>], class: ClassId) -> &[ClassId]
+    ensures { numbers result.now ≡ list_of lists.now class.0 }
+{
+    let Some(list) = lists.get(class.0 as usize) else {
+        return &[];
+    };
+    match list {
+        Some(above) => above.items(),
+        None => &[],
+    }
 }
 
 /// These interfaces and those above them, by these interfaces' lists.
@@ -42,9 +58,7 @@ fn list_above(
     let mut pool = Pool::new(alloc);
     for id in interfaces {
         pool.add(id)?;
-        if let Some(Some(above)) = lists.get(id.0 as usize) {
-            add_all(&mut pool, above.items())?;
-        }
+        add_all(&mut pool, list_at(lists, *id))?;
     }
     pool.into_seq()
 }

@@ -1,20 +1,15 @@
-use Rattle.std.proofs.Common.{rules, ◌≡◌, ◌<◌, ℕ, true, [], length, map, slice_get, slice_index_or, IfOk, OnOk, ◌+◌, ◌-◌, ◌*◌, ◌≤◌, ◌/◌, ◌%◌, Bool, false, nat_eq, nat_lt, List, ◌∷◌, ◌++◌, slice_set, bit_and, bit_or, Fits, w8, w32, w64, Bor, MutBor}
-use Rattle.dv_defs.specs.Images.{Image}
-use Rattle.dv_defs.specs.LookUp.{interfaces_above, once}
-use Rattle.dv_defs.specs.Order.{interfaces_of, numbers}
-use Rattle.dv_linklaws.specs.Ordered.{IsOrdered}
-use Rattle.dv_resolve.specs.Interfaces.{added, are_ready, AreRight, is_listed, list_of, listed, or_empty}
-use Rattle.dv_resolve.specs.Interfaces.{unlisted as without_list}
+use Rattle.std.proofs.Common.{List, ap, sym, ◌∙◌}
+use Rattle.std.proofs.lemmas.List.{drop_all}
+use Rattle.dv_defs.specs.Order.{numbers}
+use Rattle.dv_defs.specs.declared.names.ClassId.{ClassId}
+use Rattle.dv_resolve.specs.Interfaces.{added}
+use Rattle.dv_resolve.proofs.RoundLaws.{nobody, one_added}
 use Rattle.dv_resolve.proofs.interfaces.add_all.Goals as goal
 
--- src/interfaces.rt:16:5
-pub loop-id-init : goal.loop-id-init
-loop-id-init c = ?
-
--- src/interfaces.rt:16:5
 pub loop-id-preserved : goal.loop-id-preserved
-loop-id-preserved c = ?
+loop-id-preserved c =
+    one_added c.args.classes.now c.loop-id.id-index nobody c.loop-id.pool c.add.new.self _ c.loop-id-test.true c.in_ok-add.ensures c.loop-id.invariant
 
--- src/interfaces.rt:13:1
 pub returns : goal.returns
-returns c = ?
+returns c =
+    sym (ap (λ (ds : List ClassId). added (numbers c.loop-id.pool) (numbers ds)) (drop_all c.loop-id.id-index c.args.classes.now c.loop-id-test.false)) ∙ c.loop-id.invariant

@@ -1,11 +1,6 @@
-use Rattle.std.proofs.Common.{◌≡◌, ◌<◌, ℕ, true, [], length, map, slice_get, slice_index_or, IfOk, OnOk, ◌+◌, ◌-◌, ◌*◌, ◌≤◌}
-use Rattle.dv_defs.specs.Images.{Image}
-use Rattle.dv_defs.specs.LookUp.{interfaces_above, once}
-use Rattle.dv_defs.specs.Order.{interfaces_of, numbers}
-use Rattle.dv_linklaws.specs.Ordered.{IsOrdered}
-use Rattle.dv_resolve.specs.Interfaces.{added, are_ready, AreRight, is_listed, list_of, listed, or_empty}
-use Rattle.dv_resolve.specs.Interfaces.{unlisted as without_list}
+use Rattle.std.proofs.Common.{◌≡◌, map}
+use Rattle.dv_resolve.specs.Interfaces.{or_empty}
 use Rattle.dv_resolve.proofs.interfaces.finished.Given as goal
 
 abbrev pub invariant-loop-list : goal.invariant-loop-list
-invariant-loop-list l = ?
+invariant-loop-list l = l.done.items ≡ map or_empty l.yielded

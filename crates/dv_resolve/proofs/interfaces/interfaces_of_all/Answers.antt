@@ -1,28 +1,26 @@
-use Rattle.std.proofs.Common.{rules, ◌≡◌, ◌<◌, ℕ, true, [], length, map, slice_get, slice_index_or, IfOk, OnOk, ◌+◌, ◌-◌, ◌*◌, ◌≤◌, ◌/◌, ◌%◌, Bool, false, nat_eq, nat_lt, List, ◌∷◌, ◌++◌, slice_set, bit_and, bit_or, Fits, w8, w32, w64, Bor, MutBor}
-use Rattle.dv_defs.specs.Images.{Image}
-use Rattle.dv_defs.specs.LookUp.{interfaces_above, once}
-use Rattle.dv_defs.specs.Order.{interfaces_of, numbers}
-use Rattle.dv_linklaws.specs.Ordered.{IsOrdered}
-use Rattle.dv_resolve.specs.Interfaces.{added, are_ready, AreRight, is_listed, list_of, listed, or_empty}
-use Rattle.dv_resolve.specs.Interfaces.{unlisted as without_list}
+use Rattle.std.proofs.lemmas.Result.{IfOk-weaker}
+use Rattle.dv_resolve.proofs.RoundLaws.{filled_start, filled_more, filled_whole, all_right}
 use Rattle.dv_resolve.proofs.interfaces.interfaces_of_all.Goals as goal
 
--- src/interfaces.rt:117:5
 pub loop-init : goal.loop-init
-loop-init c = ?
+loop-init c = filled_start c.args.infos.now c.in_ok-lists.lists.items c.in_ok-lists.ensures
 
--- src/interfaces.rt:118:12
 pub fill-requires : goal.fill-requires
-fill-requires c = ?
+fill-requires c = c.loop.invariant.same
 
--- src/interfaces.rt:119:13
 pub returns-then-branch : goal.returns-then-branch
-returns-then-branch c = ?
+returns-then-branch c = λ image is o. IfOk-weaker c.finished.result _ _
+    (λ done made. all_right c.args.infos.now c.fill.new.lists.items done.items image is c.fill.ensures.length
+    (c.in_ok-fill.ensures.right image is o (c.loop.invariant.right image is o)) (c.in_ok-fill.ensures.whole c.if-branch.true) made)
+    c.finished.ensures
 
--- src/interfaces.rt:117:5
 pub loop-preserved : goal.loop-preserved
-loop-preserved c = ?
+loop-preserved c =
+    filled_more c.args.infos.now c.loop.lists.items c.fill.new.lists.items c.loop.counter c.loop.invariant c.fill.ensures.length
+    c.in_ok-fill.ensures.right c.in_ok-fill.ensures.ready
 
--- src/interfaces.rt:109:1
 pub returns : goal.returns
-returns c = ?
+returns c = λ image is o. IfOk-weaker c.finished-2.result _ _
+    (λ done made. all_right c.args.infos.now c.loop.lists.items done.items image is c.loop.invariant.same
+    (c.loop.invariant.right image is o) (filled_whole c.args.infos.now c.loop.lists.items c.loop.counter c.loop.invariant c.loop-test.false image is o) made)
+    c.finished-2.ensures

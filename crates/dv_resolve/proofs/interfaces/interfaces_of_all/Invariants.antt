@@ -1,11 +1,5 @@
-use Rattle.std.proofs.Common.{◌≡◌, ◌<◌, ℕ, true, [], length, map, slice_get, slice_index_or, IfOk, OnOk, ◌+◌, ◌-◌, ◌*◌, ◌≤◌}
-use Rattle.dv_defs.specs.Images.{Image}
-use Rattle.dv_defs.specs.LookUp.{interfaces_above, once}
-use Rattle.dv_defs.specs.Order.{interfaces_of, numbers}
-use Rattle.dv_linklaws.specs.Ordered.{IsOrdered}
-use Rattle.dv_resolve.specs.Interfaces.{added, are_ready, AreRight, is_listed, list_of, listed, or_empty}
-use Rattle.dv_resolve.specs.Interfaces.{unlisted as without_list}
+use Rattle.dv_resolve.proofs.RoundLaws.{AreFilled}
 use Rattle.dv_resolve.proofs.interfaces.interfaces_of_all.Given as goal
 
 abbrev pub invariant-loop : goal.invariant-loop
-invariant-loop l = ?
+invariant-loop l = AreFilled l.infos l.lists.items l.counter

@@ -1,20 +1,10 @@
-use Rattle.std.proofs.Common.{rules, ◌≡◌, ◌<◌, ℕ, true, [], length, map, slice_get, slice_index_or, IfOk, OnOk, ◌+◌, ◌-◌, ◌*◌, ◌≤◌, ◌/◌, ◌%◌, Bool, false, nat_eq, nat_lt, List, ◌∷◌, ◌++◌, slice_set, bit_and, bit_or, Fits, w8, w32, w64, Bor, MutBor}
-use Rattle.dv_defs.specs.Images.{Image}
-use Rattle.dv_defs.specs.LookUp.{interfaces_above, once}
-use Rattle.dv_defs.specs.Order.{interfaces_of, numbers}
-use Rattle.dv_linklaws.specs.Ordered.{IsOrdered}
-use Rattle.dv_resolve.specs.Interfaces.{added, are_ready, AreRight, is_listed, list_of, listed, or_empty}
-use Rattle.dv_resolve.specs.Interfaces.{unlisted as without_list}
+use Rattle.std.proofs.Common.{ap, ◌∙◌}
+use Rattle.dv_defs.specs.Order.{numbers}
+use Rattle.dv_resolve.specs.Interfaces.{added}
+use Rattle.dv_resolve.proofs.RoundLaws.{nobody, one_listed}
 use Rattle.dv_resolve.proofs.interfaces.list_above.Goals as goal
 
--- src/interfaces.rt:43:5
-pub loop-id-init : goal.loop-id-init
-loop-id-init c = ?
-
--- src/interfaces.rt:43:5
 pub loop-id-preserved : goal.loop-id-preserved
-loop-id-preserved c = ?
-
--- src/interfaces.rt:35:1
-pub returns : goal.returns
-returns c = ?
+loop-id-preserved c =
+    one_listed c.args.lists.now c.args.interfaces.now c.loop-id.id-index nobody c.loop-id.pool c.add.new.self (numbers c.add_all.new.pool) _ c.loop-id-test.true
+    c.in_ok-add.ensures (c.in_ok-add_all.ensures ∙ ap (added (numbers c.add.new.self)) c.list_at.ensures) c.loop-id.invariant

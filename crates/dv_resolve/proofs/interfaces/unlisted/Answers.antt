@@ -1,20 +1,9 @@
-use Rattle.std.proofs.Common.{rules, ◌≡◌, ◌<◌, ℕ, true, [], length, map, slice_get, slice_index_or, IfOk, OnOk, ◌+◌, ◌-◌, ◌*◌, ◌≤◌, ◌/◌, ◌%◌, Bool, false, nat_eq, nat_lt, List, ◌∷◌, ◌++◌, slice_set, bit_and, bit_or, Fits, w8, w32, w64, Bor, MutBor}
-use Rattle.dv_defs.specs.Images.{Image}
-use Rattle.dv_defs.specs.LookUp.{interfaces_above, once}
-use Rattle.dv_defs.specs.Order.{interfaces_of, numbers}
-use Rattle.dv_linklaws.specs.Ordered.{IsOrdered}
-use Rattle.dv_resolve.specs.Interfaces.{added, are_ready, AreRight, is_listed, list_of, listed, or_empty}
-use Rattle.dv_resolve.specs.Interfaces.{unlisted as without_list}
+use Rattle.dv_resolve.proofs.RoundLaws.{one_unlisted, all_unlisted}
 use Rattle.dv_resolve.proofs.interfaces.unlisted.Goals as goal
 
--- src/interfaces.rt:84:5
-pub loop-init : goal.loop-init
-loop-init c = ?
-
--- src/interfaces.rt:84:5
 pub loop-preserved : goal.loop-preserved
-loop-preserved c = ?
+loop-preserved c =
+    one_unlisted c.args.infos.now c.loop.index c.loop-item.result c.loop.lists.items c.push.new.self.items c.loop-test.true c.loop.invariant c.in_ok-push.ensures.items
 
--- src/interfaces.rt:80:1
 pub returns : goal.returns
-returns c = ?
+returns c = all_unlisted c.args.infos.now c.loop.index c.loop.lists.items c.loop-test.false c.loop.invariant
