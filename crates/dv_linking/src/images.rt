@@ -30,12 +30,16 @@ fn ty(alloc: Global, (dims, name): (u8, &str)) -> Result<Ty, AllocError> {
 }
 
 const OBJECT: &str = "Ljava/lang/Object;";
+
 const STRING: &str = "Ljava/lang/String;";
+
 const THREAD: &str = "Ljava/lang/Thread;";
+
 const RUNNABLE: &str = "Ljava/lang/Runnable;";
 
 // A program whose class LC; stands under LB;, and this under Thread, and whose interface LJ; stands under LI;.
-const TYPES: &str = ".class LC;\n.super LB;\n.implements LJ;\n.class LB;\n.super Ljava/lang/Thread;\n.class interface abstract LJ;\n.super Ljava/lang/Object;\n.implements LI;\n.class interface abstract LI;\n.super Ljava/lang/Object;\n";
+const TYPES: &str =
+    ".class LC;\n.super LB;\n.implements LJ;\n.class LB;\n.super Ljava/lang/Thread;\n.class interface abstract LJ;\n.super Ljava/lang/Object;\n.implements LI;\n.class interface abstract LI;\n.super Ljava/lang/Object;\n";
 
 type TypeOf = (u8, &'static str);
 
@@ -76,7 +80,11 @@ fn types_are_under_others(rt: HostRuntime) -> Result<(), Fail> {
         let (dims, name) = a;
         assert_eq!(rt; sub(&image, &first, &second), under, "{dims} {name}");
         assert_eq!(rt; assignable(&image, &first, &second), taken, "{dims} {name}");
-        assert_eq!(rt; instance(&image, &first, &second), instance_of, "{dims} {name}");
+        assert_eq!(rt;
+            instance(&image, &first, &second),
+            instance_of,
+            "{dims} {name}"
+        );
     }
     Ok(())
 }
@@ -158,7 +166,8 @@ fn with_methods(alloc: Global, lines: &str) -> Result<String, AllocError> {
 }
 
 // A private method of the name doesn't override.
-const CALLS: &str = "LA; Ljava/lang/Object; f g private_h static_s <init>\nLB; LA; private_f h g\nLC; LB; f static_g\nLD; LC; h\n";
+const CALLS: &str =
+    "LA; Ljava/lang/Object; f g private_h static_s <init>\nLB; LA; private_f h g\nLC; LB; f static_g\nLD; LC; h\n";
 
 // The class of an object, the class and the name of the method that is called, and the class whose method of the name is run.
 static LANDINGS: [(&str, &str, &str, &str); 19] = [
@@ -191,8 +200,16 @@ fn calls_land_on_the_nearest_method(rt: HostRuntime) -> Result<(), Fail> {
         let on = class(alloc, &image, object)?;
         let called = method(&image, class(alloc, &image, declaring)?, name).expect(&rt, "a method");
         let landing = method(&image, class(alloc, &image, lands)?, name);
-        assert_eq!(rt; lookup_virtual(&image, on, called), landing, "{object} {declaring} {name}");
-        assert_eq!(rt; lookup_interface(&image, on, called), landing, "{object} {declaring} {name}");
+        assert_eq!(rt;
+            lookup_virtual(&image, on, called),
+            landing,
+            "{object} {declaring} {name}"
+        );
+        assert_eq!(rt;
+            lookup_interface(&image, on, called),
+            landing,
+            "{object} {declaring} {name}"
+        );
     }
     assert_eq!(rt; lookup_virtual(&image, ClassId(0), MethodId(9_999)), None);
     assert_eq!(rt; lookup_interface(&image, ClassId(9_999), MethodId(0)), None);
@@ -223,7 +240,8 @@ fn tables_keep_the_places_of_the_superclass(rt: HostRuntime) -> Result<(), Fail>
 }
 
 // In LB; and LI; stand fields of one name and type, LC; names LJ; under LI; before LK;.
-const FIELDS: &str = ".class interface abstract LI;\n.super Ljava/lang/Object;\n.field static x:I\n.field static y:I\n.class interface abstract LJ;\n.super Ljava/lang/Object;\n.implements LI;\n.field static z:I\n.class interface abstract LK;\n.super Ljava/lang/Object;\n.field static x:I\n.field static z:I\n.field static w:J\n.class LB;\n.super Ljava/lang/Object;\n.field x:I\n.field w:J\n.field u:I\n.class LC;\n.super LB;\n.implements LJ;\n.implements LK;\n.field z:J\n";
+const FIELDS: &str =
+    ".class interface abstract LI;\n.super Ljava/lang/Object;\n.field static x:I\n.field static y:I\n.class interface abstract LJ;\n.super Ljava/lang/Object;\n.implements LI;\n.field static z:I\n.class interface abstract LK;\n.super Ljava/lang/Object;\n.field static x:I\n.field static z:I\n.field static w:J\n.class LB;\n.super Ljava/lang/Object;\n.field x:I\n.field w:J\n.field u:I\n.class LC;\n.super LB;\n.implements LJ;\n.implements LK;\n.field z:J\n";
 
 // A class, a field's name and type, and the number of the field that is found: the first five are the boot classes'.
 static FOUND: [(&str, &str, &str, Option<u32>); 12] = [
@@ -274,7 +292,10 @@ fn pools_lead_to_members(rt: HostRuntime) -> Result<(), Fail> {
 
 // Methods of a class LA;, and the place there of the main method: 9 where there is none.
 static MAINS: [(&str, u32); 8] = [
-    (".method static main()V\n.registers 1\nreturn-void\n.end method\n", 0),
+    (
+        ".method static main()V\n.registers 1\nreturn-void\n.end method\n",
+        0,
+    ),
     (
         ".method static main([Ljava/lang/String;)V\n.registers 1\nreturn-void\n.end method\n",
         0,
@@ -291,7 +312,10 @@ static MAINS: [(&str, u32); 8] = [
         ".method main([Ljava/lang/String;)V\n.registers 2\nreturn-void\n.end method\n.method static main()V\n.registers 1\nreturn-void\n.end method\n",
         1,
     ),
-    (".method main()V\n.registers 1\nreturn-void\n.end method\n", 9),
+    (
+        ".method main()V\n.registers 1\nreturn-void\n.end method\n",
+        9,
+    ),
     (
         ".method static main()I\n.registers 1\nconst/4 v0, 0\nreturn v0\n.end method\n.method static main(Ljava/lang/String;)V\n.registers 1\nreturn-void\n.end method\n.method static main([[Ljava/lang/String;)V\n.registers 1\nreturn-void\n.end method\n",
         9,
@@ -303,7 +327,10 @@ static MAINS: [(&str, u32); 8] = [
 fn a_class_has_a_main_method(rt: HostRuntime) -> Result<(), Fail> {
     let alloc = rt.alloc();
     for (methods, place) in MAINS {
-        let mut program = String::from_str(alloc, ".class LB;\n.super LA;\n.class LA;\n.super Ljava/lang/Object;\n")?;
+        let mut program = String::from_str(
+            alloc,
+            ".class LB;\n.super LA;\n.class LA;\n.super Ljava/lang/Object;\n",
+        )?;
         program.push_str(methods)?;
         let image = linked(&rt, alloc, &program)?;
         let own = class(alloc, &image, "LA;")?;
@@ -318,10 +345,19 @@ fn a_class_has_a_main_method(rt: HostRuntime) -> Result<(), Fail> {
             }
         }
         // a main method isn't inherited
-        let inherited = find_main(alloc, &image, b"LB;").err().expect(&rt, "a refusal");
+        let inherited = find_main(alloc, &image, b"LB;")
+            .err()
+            .expect(&rt, "a refusal");
         assert_refused(&rt, &inherited, b"LB;", LinkKind::NoMain);
-        let missing = find_main(alloc, &image, b"LX;").err().expect(&rt, "a refusal");
-        assert_refused(&rt, &missing, b"LX;", LinkKind::NoClass(text(alloc, "LX;")?));
+        let missing = find_main(alloc, &image, b"LX;")
+            .err()
+            .expect(&rt, "a refusal");
+        assert_refused(
+            &rt,
+            &missing,
+            b"LX;",
+            LinkKind::NoClass(text(alloc, "LX;")?),
+        );
     }
     Ok(())
 }

@@ -1,5 +1,5 @@
 -- What is wrong with methods and with pools, and what pools lead to, is the same of images that are alike.
-use Rattle.std.specs.Prelude.{ℕ, ◌≡◌, ◌&&◌, Bool, not, List, [], ◌∷◌, length, drop, map, filter_map, Option, Some, None, slice_get, nat_eq, bytes_eq, is_none, option_map, option_and_then}
+use Rattle.std.specs.Prelude.{ℕ, ◌≡◌, ◌&&◌, not, List, [], ◌∷◌, length, drop, map, filter_map, Option, Some, None, slice_get, nat_eq, bytes_eq, is_none, option_map, option_and_then}
 use Rattle.std.specs.Option.{option_or}
 use Rattle.std.specs.List.{list_any, cons_option}
 use Rattle.std.proofs.Common.{refl, sym, ap, ◌∙◌}
@@ -21,9 +21,9 @@ use Rattle.dv_defs.specs.Flags.{has_flag}
 use Rattle.dv_defs.specs.Names.{init_name}
 use Rattle.dv_defs.specs.Types.{class_in}
 use Rattle.dv_defs.specs.Written.{field_text, method_text}
-use Rattle.dv_defs.specs.Pools.{Method, Field, class_named, methods_of, supers}
+use Rattle.dv_defs.specs.Pools.{Method, Field}
 use Rattle.dv_defs.specs.LookUp.{field_named, method_named}
-use Rattle.dv_defs.specs.LinkFaults.{no_class, no_type, no_proto, no_class_in_field, no_class_in_method, no_class_in_pools, no_field, no_method, private_field, private_method, private_in_pools, wrong_pools, bodies, method_twice, is_open, is_final, same_method, forbids, overrides_final, body_wrong, wrong_methods}
+use Rattle.dv_defs.specs.LinkFaults.{no_class, no_type, no_class_in_pools, no_field, no_method, private_field, private_method, wrong_pools, bodies, method_twice, is_open, is_final, same_method, forbids, overrides_final, body_wrong, wrong_methods}
 use Rattle.dv_defs.specs.Linked.{body_in, body_at, field_ids, method_ids, method_with_pools}
 use Rattle.dv_linklaws.specs.Stripped.{field_stripped, method_stripped}
 use Rattle.dv_linklaws.proofs.AlikeMembers.{stripped_field_named, stripped_method_named}

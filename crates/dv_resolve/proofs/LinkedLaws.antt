@@ -1,6 +1,6 @@
 -- Classes with tables and resolved pools are what linking gives of the definitions in them.
-use Rattle.std.proofs.Common.{◌≡◌, ◌+◌, ◌<◌, ℕ, suc, List, [], ◌∷◌, length, map, Option, Some, None, Result, Ok, Err, refl, sym, ap, subst, ◌∙◌, arith}
-use Rattle.std.specs.Prelude.{◌^◌, sum_by, All, slice_index_or}
+use Rattle.std.proofs.Common.{◌≡◌, ◌+◌, ◌<◌, ℕ, List, [], ◌∷◌, length, map, Option, None, Result, Ok, Err, refl, sym, ap, subst, ◌∙◌, arith}
+use Rattle.std.specs.Prelude.{◌^◌, sum_by, slice_index_or}
 use Rattle.std.specs.Option.{option_or}
 use Rattle.std.specs.List.{enumerate_from}
 use Rattle.std.proofs.lemmas.List.{length-map}
@@ -14,10 +14,10 @@ use Rattle.dv_defs.specs.declared.faults.LinkError.TheVariants as error
 use Rattle.dv_defs.specs.Images.{Image}
 use Rattle.dv_defs.specs.LookUp.{interfaces_above, once}
 use Rattle.dv_defs.specs.Order.{numbers}
-use Rattle.dv_defs.specs.Numbering.{declared, numbered, all_methods_declared, all_fields_declared, names_of}
+use Rattle.dv_defs.specs.Numbering.{declared, numbered, all_fields_declared, names_of}
 use Rattle.dv_defs.specs.LinkFaults.{Found, Fails, first_fault_by, boot_fault, limit_fault, is_twice, wrong_pools}
 use Rattle.dv_defs.specs.Linked.{defs, slotted, tabled, class_with_table, resolved, method_with_pools, first_phases, method_phase, pool_phase, unless_found, linked, IsImage, IsIndex}
-use Rattle.dv_linklaws.specs.Stripped.{stripped, class_stripped, method_info_stripped, field_info_stripped}
+use Rattle.dv_linklaws.specs.Stripped.{class_stripped, method_info_stripped, field_info_stripped}
 use Rattle.dv_linklaws.specs.Ordered.{IsOrdered}
 use Rattle.dv_linklaws.proofs.First.{or_none}
 use Rattle.dv_linklaws.proofs.Bounds.{few_classes, few_methods, few_fields}

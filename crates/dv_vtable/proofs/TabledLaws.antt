@@ -1,38 +1,29 @@
 -- A hierarchy with tables is what linking gives of the definitions in it, as far as methods.
-use Rattle.std.proofs.Common.{◌≡◌, ◌+◌, ◌<◌, ℕ, suc, Bool, List, [], ◌∷◌, length, map, drop, Option, Some, None, refl, sym, ap, subst, ◌∙◌, arith}
-use Rattle.std.specs.Prelude.{◌^◌, ◌&&◌, not, sum_by, All, slice_get, bytes_eq, slice_index_or, Result, Ok, Err}
-use Rattle.std.specs.List.{enumerate_from, list_any}
+use Rattle.std.proofs.Common.{◌≡◌, ◌+◌, ◌<◌, ℕ, List, [], ◌∷◌, length, map, Some, None, refl, sym, ap, subst, ◌∙◌, arith}
+use Rattle.std.specs.Prelude.{◌^◌, sum_by, All, slice_get, slice_index_or}
+use Rattle.std.specs.List.{enumerate_from}
 use Rattle.std.proofs.lemmas.List.{length-map}
 use Rattle.std.proofs.lemmas.List.Sums.{sum_by-cons}
 use Rattle.std.proofs.lemmas.Option.{slice_get-get_or}
 use Rattle.dv_defs.specs.declared.class.ClassDef.{ClassDef}
-use Rattle.dv_defs.specs.declared.class.MethodDef.{MethodDef}
 use Rattle.dv_defs.specs.declared.image.ClassInfo.{ClassInfo}
-use Rattle.dv_defs.specs.declared.image.MethodInfo.{MethodInfo}
-use Rattle.dv_defs.specs.declared.image.FieldInfo.{FieldInfo}
-use Rattle.dv_defs.specs.declared.faults.LinkKind.{LinkKind}
-use Rattle.dv_defs.specs.declared.faults.LinkKind.TheVariants as kind
 use Rattle.dv_defs.specs.Images.{Image}
-use Rattle.dv_defs.specs.First.{first_below, first_in, when}
-use Rattle.std.specs.Option.{option_or}
-use Rattle.dv_defs.specs.Names.{init_name}
-use Rattle.dv_defs.specs.Pools.{methods_of, supers}
+use Rattle.dv_defs.specs.First.{first_below}
 use Rattle.dv_defs.specs.Numbering.{declared, numbered, all_methods_declared, names_of}
 use Rattle.dv_defs.specs.declared.faults.LinkError.{LinkError}
-use Rattle.dv_defs.specs.LinkFaults.{Found, Fails, found, LinkTest, fault_at, tested, first_fault_by, boot_fault, limit_fault, is_twice, method_twice, is_open, is_final, same_method, forbids, overrides_final, body_wrong, wrong_methods}
+use Rattle.dv_defs.specs.LinkFaults.{Fails, found, fault_at, tested, first_fault_by, boot_fault, limit_fault, is_twice, method_twice, wrong_methods}
 use Rattle.dv_defs.specs.Linked.{defs, slotted, tabled, class_with_table, table_at, first_phases, method_phase, AreNamed, HasValues}
 use Rattle.dv_linklaws.specs.Stripped.{AreInRange, stripped, class_stripped, method_info_stripped, field_info_stripped}
 use Rattle.dv_linklaws.proofs.First.{or_none, map_none, first_below_none}
-use Rattle.dv_linklaws.proofs.Alike.{stripped_numbered, stripped_slotted}
+use Rattle.dv_linklaws.proofs.Alike.{stripped_slotted}
 use Rattle.dv_linklaws.proofs.AlikeFaults.{alike_wrong_methods}
 use Rattle.dv_linklaws.proofs.AlikeImages.{AreAlike, alike_slotted}
 use Rattle.dv_linklaws.proofs.Bounds.{few_classes, few_methods}
-use Rattle.dv_linklaws.proofs.Members.{slotted_methods, numbered_methods}
 use Rattle.dv_linklaws.proofs.FromPhases.{phases_ordered}
 use Rattle.dv_linklaws.proofs.OrderedImages.{ordered_alike}
 use Rattle.dv_linklaws.proofs.AlikeTables.{alike_table_at}
 use Rattle.dv_hier.specs.Hierarchies.{HierarchyValue, IsHierarchy, without_table, without_tables, hierarchy_of}
-use Rattle.dv_hier.proofs.Built.{defs_slotted, names_slotted}
+use Rattle.dv_hier.proofs.Built.{defs_slotted}
 use Rattle.dv_vtable.specs.Tables.{TabledValue, IsTabled, tabled_of}
 
 -- ---- the image of a hierarchy

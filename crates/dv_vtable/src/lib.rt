@@ -2,8 +2,8 @@
 #![tactic(auto)]
 
 mod bodies;
-mod finals;
 mod chains;
+mod finals;
 mod keys;
 mod methods;
 mod numbering;

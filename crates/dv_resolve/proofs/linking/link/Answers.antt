@@ -1,7 +1,7 @@
-use Rattle.std.proofs.Common.{◌≡◌, None, Err, refl, sym, ap, subst, ◌∙◌}
+use Rattle.std.proofs.Common.{◌≡◌, Err, refl, ap, subst, ◌∙◌}
 use Rattle.std.proofs.lemmas.Result.{err_from_is_err_and}
 use Rattle.dv_defs.specs.LinkFaults.{Fails}
-use Rattle.dv_defs.specs.Linked.{defs, linked, first_phases, method_phase}
+use Rattle.dv_defs.specs.Linked.{defs, linked, method_phase}
 use Rattle.dv_hier.proofs.Built.{defs_slotted}
 use Rattle.dv_hier.specs.Hierarchies.{HierarchyValue}
 use Rattle.dv_resolve.specs.Answers.{Answers}

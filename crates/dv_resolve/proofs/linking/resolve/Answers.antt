@@ -1,12 +1,9 @@
-use Rattle.std.proofs.Common.{◌≡◌, ℕ, length, sym, ap, subst, ◌∙◌, refl}
-use Rattle.std.specs.Prelude.{◌^◌, ◌<◌, sum_by, map, List, [], slice_index_or, Err, None}
+use Rattle.std.proofs.Common.{◌≡◌, length, sym, ap, subst, ◌∙◌, refl}
+use Rattle.std.specs.Prelude.{◌^◌, ◌<◌, sum_by, map, Err, None}
 use Rattle.std.proofs.lemmas.Result.{err_from_is_err_and}
-use Rattle.dv_defs.specs.declared.names.ClassId.{ClassId}
-use Rattle.dv_defs.specs.declared.image.ClassInfo.{ClassInfo}
-use Rattle.dv_defs.specs.declared.image.MethodInfo.{MethodInfo}
 use Rattle.dv_defs.specs.LinkFaults.{Fails}
 use Rattle.dv_defs.specs.Linked.{defs, linked, pool_phase, method_with_pools}
-use Rattle.dv_hier.specs.Hierarchies.{HierarchyValue, IsHierarchy}
+use Rattle.dv_hier.specs.Hierarchies.{HierarchyValue}
 use Rattle.dv_vtable.specs.Tables.{TabledValue, IsTabled}
 use Rattle.dv_resolve.specs.Answers.{Answers}
 use Rattle.dv_resolve.proofs.LinkedLaws.{few_of, AreAbove, listed_for, listed_own, pools_fail, pools_told, own_told, linked_is, linked_kept, image_of}

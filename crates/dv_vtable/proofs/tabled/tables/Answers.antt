@@ -7,7 +7,7 @@ use Rattle.dv_defs.specs.Linked.{defs, method_phase}
 use Rattle.dv_defs.specs.Numbering.{names_of, all_methods_declared}
 use Rattle.dv_linklaws.specs.Stripped.{AreInRange}
 use Rattle.dv_hier.specs.Hierarchies.{HierarchyValue, IsHierarchy}
-use Rattle.dv_vtable.specs.Tables.{TabledValue, IsTabled, tabled_of}
+use Rattle.dv_vtable.specs.Tables.{tabled_of}
 use Rattle.dv_vtable.proofs.TabledLaws.{with_tables, hierarchy_range, few_hierarchy, failed_classes, passed_classes, none_wrong, made_classes, tabled_names, tabled_hierarchy, tabled_is, tabled_kept}
 use Rattle.dv_vtable.proofs.tabled.tables.Goals as goal
 
@@ -47,9 +47,10 @@ add_tables-requires-clause-once c =
 pub invariant_of-result : goal.invariant_of-result
 invariant_of-result c =
     let h : HierarchyValue = record { classes = c.h.inside.classes; fields = c.h.inside.fields; boot = c.h.inside.boot } in
-    let made : c.of.result ≡ (with_tables h).classes = c.of.ensures ∙ made_classes h c.into_vec.result.items c.in_ok-classes.classes.items c.into_vec.ensures c.in_ok-classes.ensures.classes in
-    (subst IsHierarchy (λ j. record { classes = sym made j; fields = h.fields; boot = h.boot }) (tabled_hierarchy h c.h.invariant.0),
-    c.h.invariant.1 ∙ (sym (tabled_names h c.h.invariant.0) ∙ ap names_of (sym made)))
+    let made : c.of.result ≡ (with_tables h).classes = c.of.ensures ∙ made_classes h c.into_vec.result.items c.in_ok-classes.classes.items c.into_vec.ensures c.in_ok-classes.ensures.classes in (
+      subst IsHierarchy (λ j. record { classes = sym made j; fields = h.fields; boot = h.boot }) (tabled_hierarchy h c.h.invariant.0),
+      c.h.invariant.1 ∙ (sym (tabled_names h c.h.invariant.0) ∙ ap names_of (sym made)),
+    )
 
 pub invariant_of-result-2 : goal.invariant_of-result-2
 invariant_of-result-2 c =
