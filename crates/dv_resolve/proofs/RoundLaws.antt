@@ -70,6 +70,7 @@ one_listed lists cs i d pool new next whole within made more before =
 pub one_ready : (lists : Lists) (cs : List ClassId) (i : ℕ) (d : ClassId) (b : Bool) → i < length cs → is_listed lists (get_or cs i d).0 ≡ b → are_ready lists (numbers (drop i cs)) ≡ (b && are_ready lists (numbers (drop (i + 1) cs)))
 one_ready lists cs i d b within has = ap (are_ready lists) (left_numbers cs i d within) ∙ ap (λ (x : Bool). x && are_ready lists (numbers (drop (i + 1) cs))) has
 
+-- what a read past the end of a list gives
 abbrev pub nobody : ClassId
 nobody = record { 0 = 0 }
 
