@@ -1,2 +1,4 @@
 pub mod Each
 pub mod HierarchyLaw
+pub mod InitsLaw
+pub mod PoolsLaw
