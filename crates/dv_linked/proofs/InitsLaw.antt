@@ -1,9 +1,8 @@
 -- The values of a linked image's fields stand where they may.
-use Rattle.std.specs.Prelude.{ℕ, ◌≡◌, true, List, [], Option, Some, None, slice_get, option_map, All, IsTrue}
+use Rattle.std.specs.Prelude.{ℕ, ◌≡◌, true, List, Option, Some, None, slice_get, option_map, All, IsTrue}
 use Rattle.std.proofs.Common.{refl, ap, subst, ◌∙◌}
 use Rattle.std.proofs.lemmas.Option.{slice_get-map}
 use Rattle.std.proofs.lemmas.List.Elements.{All-nil}
-use Rattle.dv_defs.specs.declared.class.ClassDef.{ClassDef}
 use Rattle.dv_defs.specs.declared.class.FieldDef.{FieldDef}
 use Rattle.dv_defs.specs.declared.image.ClassInfo.{ClassInfo}
 use Rattle.dv_defs.specs.declared.image.FieldInfo.{FieldInfo}
