@@ -2,3 +2,5 @@ pub mod Each
 pub mod HierarchyLaw
 pub mod InitsLaw
 pub mod PoolsLaw
+pub mod BootRows
+pub mod BodiesLaw
