@@ -4,3 +4,5 @@ pub mod InitsLaw
 pub mod PoolsLaw
 pub mod BootRows
 pub mod BodiesLaw
+pub mod SlotCells
+pub mod SlotsLaw
