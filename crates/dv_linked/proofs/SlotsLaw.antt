@@ -17,13 +17,16 @@ use Rattle.dv_laws.proofs.lemmas.Order.Types.{AreUnder, IsUnder, type_is, flat_u
 use Rattle.dv_defs.specs.Pools.{Field, field_at, name_at, class_type, class_named, supers, walk, parent_at, is_interface, is_static_field, declared_name, fields_of, with_field, with_field_info}
 use Rattle.dv_defs.specs.Order.{has_number, instance, under_type, implements, extends}
 use Rattle.dv_defs.specs.RegTypes.{reg_types, type_at}
-use Rattle.dv_defs.specs.Heap.{slot_types, slots_of, class_cells}
-use Rattle.dv_defs.specs.Linked.{IsImage, defs, slotted, tabled, resolved, class_with_slots, class_with_table, field_with_slot, has_cells, cells_along, slots_at, slot_at, slot_of, words_before}
+use Rattle.dv_defs.specs.Heap.{type_of_field, slot_types, slots_of, class_cells}
+use Rattle.dv_defs.specs.Linked.{IsImage, defs, slotted, tabled, resolved, class_with_slots, class_with_table, field_with_slot, has_cells, cells_along, cells_of_class, slots_at, slot_at, slot_of, words_before}
 use Rattle.dv_defs.specs.LookUp.{superinterfaces, interfaces_above, interfaces_at, upward}
 use Rattle.dv_linklaws.specs.Stripped.{field_stripped}
 use Rattle.dv_linklaws.specs.Ordered.{IsOrdered}
-use Rattle.dv_linklaws.proofs.AlikeImages.{AreAlike, alike_field_at, alike_is_interface, alike_supers}
-use Rattle.dv_linklaws.proofs.OrderedImages.{own_numbered, image_is, image_alike, image_fields, image_ordered}
+use Rattle.dv_defs.specs.declared.flags.Flag.TheVariants as flag
+use Rattle.dv_defs.specs.Flags.{has_flag}
+use Rattle.dv_linklaws.proofs.AlikeMembers.{stripped_field_at}
+use Rattle.dv_linklaws.proofs.AlikeImages.{AreAlike, alike_length, alike_by_field, alike_field_at, alike_is_interface, alike_supers}
+use Rattle.dv_linklaws.proofs.OrderedImages.{own_numbered, image_is, image_alike, image_fields, image_ordered, ordered_alike}
 use Rattle.dv_linklaws.proofs.ReachPlaces.{place, place_bounded}
 use Rattle.dv_linklaws.proofs.Upward.{walk_same, flat_gives}
 use Rattle.dv_linklaws.proofs.Implemented.{implements_is}
@@ -117,6 +120,18 @@ module _ (image : Image) (is : IsImage image) where
   base : Image
   base = own_numbered image
 
+  alike : AreAlike image base
+  unfolding base
+  alike = image_alike image is
+
+  fields_of_base : image.fields ≡ map (field_with_slot base) (enumerate_from 0 base.fields)
+  unfolding base
+  fields_of_base = image_fields image is
+
+  classes_of_base : image.classes ≡ map (class_with_table (slotted base)) (enumerate_from 0 (map (class_with_slots base) (enumerate_from 0 base.classes)))
+  unfolding base
+  classes_of_base = sym (ap (λ (made : Image). made.classes) (image_is image is)) ∙ classes_made (own_numbered image)
+
   ordered : IsOrdered image
   ordered = image_ordered image is
 
@@ -179,3 +194,95 @@ module _ (image : Image) (is : IsImage image) where
               let low : a.low ≡ c = cc in
               let high : a.high ≡ d = cc in
               implemented ((λ j. implements image (sym low j) (sym high j)) ∙ a.tested)
+
+  -- ---- what a field and a class have
+
+  -- the field as it is numbered, before it has a slot
+  record IsBase (x : ℕ) (f g : Field) : Type 0 where
+    there : field_at base x ≡ Some g
+    def : g.def ≡ f.def
+    class : g.info.class.0 ≡ f.info.class.0
+
+  base_field : (x : ℕ) (f : Field) → field_at image x ≡ Some f → (g : Field) × IsBase x f g
+  base_field x f at = by (field_at base x) refl (sym (ap (option_map field_stripped) at) ∙ alike_field_at image base alike x)
+    where
+      by : (o : Option Field) → field_at base x ≡ o → option_map field_stripped (Some f) ≡ option_map field_stripped o → (g : Field) × IsBase x f g
+      by None e h = absurd (cc)
+      by (Some g) e h =
+          let same : field_stripped f ≡ field_stripped g = cc in
+          (g, record { there = e; def = sym (ap (λ (y : Field). y.def) same); class = sym (ap (λ (y : Field). y.info.class.0) same) })
+
+  slot_is : (x : ℕ) (f : Field) → field_at image x ≡ Some f → f.info.slot ≡ slot_at base x
+  slot_is x f at =
+      let stands = field_in image x f at in
+      slot_placed base base.fields 0 x f.info (sym (ap (λ (fs : List FieldInfo). slice_get fs x) fields_of_base) ∙ stands.info_at) ∙
+      (let z : 0 + x ≡ x = omega arith in ap (slot_at base) z)
+
+  slots_are : (c : ℕ) (info : ClassInfo) → slice_get image.classes c ≡ Some info → info.slots ≡ slots_at base c
+  slots_are c info at =
+      slots_placed (slotted base) base base.classes 0 c info (sym (ap (λ (cs : List ClassInfo). slice_get cs c) classes_of_base) ∙ at) ∙
+      (let z : 0 + c ≡ c = omega arith in ap (slots_at base) z)
+
+  -- the types of cells are those of the numbered fields
+  types_same : (xs : List FieldId) → slot_types image xs ≡ slot_types base xs
+  types_same [] = refl
+  types_same (y ∷ ys) = λ j. own j ++ types_same ys j
+    where
+      own : type_of_field (field_at image y.0) ≡ type_of_field (field_at base y.0)
+      own = alike_by_field (λ i. field_at i y.0) (λ i. stripped_field_at i y.0) type_of_field kept image base alike
+        where
+          kept : (o : Option Field) → type_of_field (option_map field_stripped o) ≡ type_of_field o
+          kept None = refl
+          kept (Some f) = refl
+
+  base_ordered : IsOrdered base
+  base_ordered = ordered_alike image base alike ordered
+
+  count : length image.classes ≡ length base.classes
+  count = alike_length image base alike
+
+  -- the walk up of a class goes on from each class in it
+  walk_parts : (c d : ℕ) → c < length image.classes → d < length image.classes → extends image c d ≡ true → (front : List ℕ) × (supers base c ≡ front ++ supers base d)
+  walk_parts c d within inside below =
+      let few : c < length base.classes = omega (arith, within, count) in
+      let also : d < length base.classes = omega (arith, inside, count) in
+      let has : has_number d (supers base c) ≡ true = ap (has_number d) (sym (alike_supers image base alike c)) ∙ below in
+      let parts = walk_from base base_ordered.range base_ordered.acyclic (length base.classes) c d (place_bounded base base_ordered.acyclic c few) has in
+      (parts.0, parts.3 ∙ ap (λ ds. parts.0 ++ ds) (walk_same base base_ordered.range base_ordered.acyclic parts.1 (length base.classes) d parts.2 (place_bounded base base_ordered.acyclic d also)))
+
+  -- a field stands among the cells of its class
+  has_slot : (x : ℕ) (g : Field) → field_at base x ≡ Some g → has_cells base g ≡ true → g.info.class.0 < length base.classes → has_field x (slots_at base g.info.class.0) ≡ true
+  has_slot x g at cells within =
+      let own = field_there base x g at in
+      let starts = walk_starts base (length base.classes) g.info.class.0 (omega (arith, within)) in
+      ap (λ cs. has_field x (cells_along base cs)) starts.1 ∙
+      has_later x (cells_along base starts.0) (cells_of_class base g.info.class.0) (has_own base x g at own.1 own.0 cells)
+
+  at_front : (c x : ℕ) (f : Field) → field_at image x ≡ Some f → is_static_field f ≡ false → is_interface image f.info.class.0 ≡ false → c < length image.classes
+      → instance image (class_type image c) (class_type image f.info.class.0) ≡ true → (j : ℕ) → j < words_of f.def.ty
+      → type_at (class_cells image c) (f.info.slot + j) ≡ type_at (reg_types f.def.ty) j
+  at_front c x f at instance_field concrete within below j less =
+      let stands = field_in image x f at in
+      let d = f.info.class.0 in
+      let inside : d < length image.classes = within_at image.classes d stands.class stands.class_at in
+      let g = base_field x f at in
+      let own : g.0.info.class.0 ≡ d = g.1.class in
+      let static : is_static_field g.0 ≡ false = ap (λ (m : FieldDef). has_flag m.flags flag.Static) g.1.def ∙ instance_field in
+      let flat : is_interface base g.0.info.class.0 ≡ false = ap (is_interface base) own ∙ (sym (alike_is_interface image base alike d) ∙ concrete) in
+      let cells : has_cells base g.0 ≡ true = (λ i. not (static i) && not (flat i)) in
+      let slot : f.info.slot ≡ words_before base x (slots_at base d) =
+      slot_is x f at ∙ (ap (λ (o : Option Field). elim o as (λ _. ℕ) [ None ↦ 0 | Some h ↦ slot_of base h ]) g.1.there ∙
+      (ap (λ (b : Bool). elim b as (λ _. ℕ) [ true ↦ words_before base g.0.id (slots_at base g.0.info.class.0) | false ↦ 0 ]) cells ∙
+      (λ i. words_before base ((field_there base x g.0 g.1.there).1 i) (slots_at base (own i))))) in
+      let info = class_of_number image.classes c within in
+      let parts = walk_parts c d within inside (is_below c x f at concrete within below) in
+      let more = along_front base parts.0 (supers base d) in
+      let slots : slots_of (slice_get image.classes c) ≡ slots_at base d ++ more.0 = ap slots_of info.1 ∙ (slots_are c info.0 info.1 ∙ (ap (cells_along base) parts.1 ∙ more.1)) in
+      let types : class_cells image c ≡ slot_types base (slots_at base d ++ more.0) = ap (slot_types image) slots ∙ types_same (slots_at base d ++ more.0) in
+      let has : has_field x (slots_at base d) ≡ true = subst (λ e. has_field x (slots_at base e) ≡ true) own (has_slot x g.0 g.1.there cells (omega (arith, own, inside, count))) in
+      (λ i. type_at (types i) (slot i + j)) ∙
+      (cells_at_front base x g.0 g.1.there (slots_at base d) more.0 has j (subst (λ (m : FieldDef). j < words_of m.ty) (sym g.1.def) less) ∙
+      ap (λ (m : FieldDef). type_at (reg_types m.ty) j) g.1.def)
+
+  pub image_slots : KeepsSlots image
+  image_slots = record { at = at_front }
