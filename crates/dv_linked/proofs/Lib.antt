@@ -1,0 +1,2 @@
+pub mod BootLaw
+pub mod BootRows

@@ -1,0 +1,137 @@
+-- A linked image has the boot classes that a step names, each with what the step counts on.
+use Rattle.std.proofs.Common.{◌≡◌, ◌+◌, ◌<◌, ℕ, zero, suc, Bool, true, false, not, ◌&&◌, ◌||◌, List, [], ◌∷◌, length, drop, Option, Some, None, refl, sym, ap, subst, ◌∙◌, arith}
+use Rattle.std.specs.Prelude.{bytes_eq, nat_eq, slice_get, codes, All}
+use Rattle.std.specs.List.{list_any, list_all}
+use Rattle.std.proofs.lemmas.Bool.{and_parts, not-true, not-false}
+use Rattle.std.proofs.lemmas.Slice.Eq.{bytes_eq-Decides}
+use Rattle.std.proofs.lemmas.Option.{slice_get_within}
+use Rattle.std.proofs.lemmas.List.Elements.{All-nil, All-cons}
+use Rattle.dv_defs.specs.declared.class.ClassDef.{ClassDef}
+use Rattle.dv_defs.specs.declared.class.FieldDef.{FieldDef}
+use Rattle.dv_defs.specs.declared.image.ClassInfo.{ClassInfo}
+use Rattle.dv_defs.specs.declared.run.Named.{Named}
+use Rattle.dv_defs.specs.declared.run.Named.TheVariants as named
+use Rattle.dv_defs.specs.Images.{Image}
+use Rattle.dv_defs.specs.Names.{object_name, class_name, string_name, thread_name, throwable_name, stream_name, system_name, init_name}
+use Rattle.dv_defs.specs.Types.{of_class}
+use Rattle.dv_defs.specs.Pools.{Method, Field, method_at, field_at, is_static, is_static_field, is_constructor, class_named, name_at, declared_name, parent_at}
+use Rattle.dv_defs.specs.Order.{implements, instance, fits, is_interface_type}
+use Rattle.dv_defs.specs.Boot.{Row, word, class_rows, parent_is, method_is, field_rows, method_rows}
+use Rattle.dv_defs.specs.Linked.{IsImage}
+use Rattle.dv_machine.specs.Conforming.{is_string_or_class}
+use Rattle.dv_machine.specs.Unwinding.{exception_name}
+use Rattle.dv_machine.specs.Accepted.{IsNamed}
+use Rattle.dv_linklaws.proofs.Reach.{reaches_here, reaches_up, reaches_bounded}
+use Rattle.dv_linklaws.proofs.Upward.{parent_is_above}
+use Rattle.dv_linklaws.proofs.OrderedImages.{image_ordered}
+use Rattle.dv_linked.proofs.BootRows.{HasRow, row_there, row_class, parent_by, method_row, field_row, not_any, MethodIn, method_in, FieldIn, field_in}
+
+dash : List ℕ
+dash = codes "-"
+
+-- a superclass that a row tells
+told_parent : (w : List ℕ) (o : Option (List ℕ)) → parent_is w o ≡ true → bytes_eq w (codes "-") ≡ false → o ≡ Some w
+told_parent w None is some = absurd (let both : false ≡ true = sym some ∙ is in cc)
+told_parent w (Some name) is some =
+    let same : bytes_eq w name ≡ true = (and_parts (not (bytes_eq w (codes "-"))) (bytes_eq w name) is).1 in
+    ap Some (sym ((bytes_eq-Decides w name).0 same))
+
+module _ (image : Image) (is : IsImage image) where
+  -- ---- the classes that are there
+
+  named_row : (k : ℕ) (row : Row) → slice_get class_rows k ≡ Some row → IsNamed image (word row 0)
+  named_row k row at = let has = row_there image is k row at in (has.number, has.named)
+
+  pub boot_there : All (IsNamed image) (object_name ∷ class_name ∷ string_name ∷ thread_name ∷ throwable_name ∷ stream_name ∷ [])
+  boot_there =
+      All-cons (IsNamed image) object_name _ (named_row 0 _ refl)
+      (All-cons (IsNamed image) class_name _ (named_row 2 _ refl)
+      (All-cons (IsNamed image) string_name _ (named_row 4 _ refl)
+      (All-cons (IsNamed image) thread_name _ (named_row 3 _ refl)
+      (All-cons (IsNamed image) throwable_name _ (named_row 10 _ refl)
+      (All-cons (IsNamed image) stream_name _ (named_row 7 _ refl)
+      (All-nil (IsNamed image)))))))
+
+  -- ---- the exceptions
+
+  throwable : HasRow image (throwable_name ∷ codes "-" ∷ object_name ∷ [])
+  throwable = row_there image is 10 (throwable_name ∷ codes "-" ∷ object_name ∷ []) refl
+
+  -- a class under Throwable
+  record IsThrown (name : List ℕ) : Type 0 where
+    number : ℕ
+    named : class_named image name ≡ Some number
+    under : implements image number throwable.number ≡ true
+
+  top : IsThrown throwable_name
+  top = record { number = throwable.number; named = throwable.named; under = reaches_here image (length image.classes) throwable.number }
+
+  below : (k : ℕ) (name parent : List ℕ) → slice_get class_rows k ≡ Some (name ∷ codes "-" ∷ parent ∷ []) → bytes_eq parent (codes "-") ≡ false → IsThrown parent → IsThrown name
+  below k name parent at some above =
+      let has = row_there image is k (name ∷ codes "-" ∷ parent ∷ []) at in
+      let up : parent_at image has.number ≡ Some above.number =
+      parent_by image is has.number has.class has.at parent above.number (told_parent parent has.class.def.parent has.as_row.parent some) above.named in
+      record {
+        number = has.number;
+        named = has.named;
+        under =
+            reaches_bounded image (image_ordered image is).range (suc (suc (length image.classes))) throwable.number has.number
+            (slice_get_within image.classes has.number has.class has.at)
+            (reaches_up image (suc (length image.classes)) throwable.number has.number above.number
+            (parent_is_above image has.number above.number up) above.under);
+      }
+
+  exception : IsThrown (codes "Ljava/lang/Exception;")
+  exception = below 11 (codes "Ljava/lang/Exception;") throwable_name refl refl top
+
+  error : IsThrown (codes "Ljava/lang/Error;")
+  error = below 12 (codes "Ljava/lang/Error;") throwable_name refl refl top
+
+  runtime : IsThrown (codes "Ljava/lang/RuntimeException;")
+  runtime = below 13 (codes "Ljava/lang/RuntimeException;") (codes "Ljava/lang/Exception;") refl refl exception
+
+  bounds : IsThrown (codes "Ljava/lang/IndexOutOfBoundsException;")
+  bounds = below 20 (codes "Ljava/lang/IndexOutOfBoundsException;") (codes "Ljava/lang/RuntimeException;") refl refl runtime
+
+  argument : IsThrown (codes "Ljava/lang/IllegalArgumentException;")
+  argument = below 21 (codes "Ljava/lang/IllegalArgumentException;") (codes "Ljava/lang/RuntimeException;") refl refl runtime
+
+  linkage : IsThrown (codes "Ljava/lang/LinkageError;")
+  linkage = below 24 (codes "Ljava/lang/LinkageError;") (codes "Ljava/lang/Error;") refl refl error
+
+  machine : IsThrown (codes "Ljava/lang/VirtualMachineError;")
+  machine = below 25 (codes "Ljava/lang/VirtualMachineError;") (codes "Ljava/lang/Error;") refl refl error
+
+  change : IsThrown (codes "Ljava/lang/IncompatibleClassChangeError;")
+  change = below 28 (codes "Ljava/lang/IncompatibleClassChangeError;") (codes "Ljava/lang/LinkageError;") refl refl linkage
+
+  thrown_by : (n : Named) → IsThrown (exception_name n)
+  thrown_by named.Arithmetic = below 15 (codes "Ljava/lang/ArithmeticException;") (codes "Ljava/lang/RuntimeException;") refl refl runtime
+  thrown_by named.NullPointer = below 16 (codes "Ljava/lang/NullPointerException;") (codes "Ljava/lang/RuntimeException;") refl refl runtime
+  thrown_by named.NegativeArraySize = below 17 (codes "Ljava/lang/NegativeArraySizeException;") (codes "Ljava/lang/RuntimeException;") refl refl runtime
+  thrown_by named.ArrayIndex = below 22 (codes "Ljava/lang/ArrayIndexOutOfBoundsException;") (codes "Ljava/lang/IndexOutOfBoundsException;") refl refl bounds
+  thrown_by named.ArrayStore = below 19 (codes "Ljava/lang/ArrayStoreException;") (codes "Ljava/lang/RuntimeException;") refl refl runtime
+  thrown_by named.ClassCast = below 18 (codes "Ljava/lang/ClassCastException;") (codes "Ljava/lang/RuntimeException;") refl refl runtime
+  thrown_by named.IllegalMonitorState = below 19 (codes "Ljava/lang/IllegalMonitorStateException;") (codes "Ljava/lang/RuntimeException;") refl refl runtime
+  thrown_by named.IllegalThreadState = below 23 (codes "Ljava/lang/IllegalThreadStateException;") (codes "Ljava/lang/IllegalArgumentException;") refl refl argument
+  thrown_by named.IndexOutOfBounds = bounds
+  thrown_by named.OutOfMemory = below 30 (codes "Ljava/lang/OutOfMemoryError;") (codes "Ljava/lang/VirtualMachineError;") refl refl machine
+  thrown_by named.NoClassDef = below 26 (codes "Ljava/lang/NoClassDefFoundError;") (codes "Ljava/lang/LinkageError;") refl refl linkage
+  thrown_by named.InInitializer = below 27 (codes "Ljava/lang/ExceptionInInitializerError;") (codes "Ljava/lang/LinkageError;") refl refl linkage
+  thrown_by named.ClassChange = change
+  thrown_by named.AbstractMethod = below 29 (codes "Ljava/lang/AbstractMethodError;") (codes "Ljava/lang/IncompatibleClassChangeError;") refl refl change
+
+  pub boot_exceptions : (n : Named) → IsNamed image (exception_name n)
+  boot_exceptions n = let thrown = thrown_by n in (thrown.number, thrown.named)
+
+  both_are : (name : List ℕ) → IsThrown name → instance image (of_class name) (of_class throwable_name) ≡ true
+  unfolding instance
+  both_are name thrown = ?
+
+  pub boot_thrown : (n : Named) → fits image (of_class (exception_name n)) (of_class throwable_name) ≡ true
+  unfolding fits
+  boot_thrown n = by (is_interface_type image (of_class throwable_name))
+    where
+      by : (b : Bool) → elim b [ true ↦ true | false ↦ instance image (of_class (exception_name n)) (of_class throwable_name) ] ≡ true
+      by true = refl
+      by false = both_are (exception_name n) (thrown_by n)
