@@ -13,9 +13,9 @@ use Rattle.dv_defs.specs.declared.run.Named.{Named}
 use Rattle.dv_defs.specs.declared.run.Named.TheVariants as named
 use Rattle.dv_defs.specs.Images.{Image}
 use Rattle.dv_defs.specs.Names.{object_name, class_name, string_name, thread_name, throwable_name, stream_name, system_name, init_name}
-use Rattle.dv_defs.specs.Types.{of_class}
+use Rattle.dv_defs.specs.Types.{of_class, ty_eq}
 use Rattle.dv_defs.specs.Pools.{Method, Field, method_at, field_at, is_static, is_static_field, is_constructor, class_named, name_at, declared_name, parent_at}
-use Rattle.dv_defs.specs.Order.{implements, instance, fits, is_interface_type}
+use Rattle.dv_defs.specs.Order.{implements, both_found, instance, fits, is_interface_type}
 use Rattle.dv_defs.specs.Boot.{Row, word, class_rows, parent_is, method_is, field_rows, method_rows}
 use Rattle.dv_defs.specs.Linked.{IsImage}
 use Rattle.dv_machine.specs.Conforming.{is_string_or_class}
@@ -25,9 +25,6 @@ use Rattle.dv_linklaws.proofs.Reach.{reaches_here, reaches_up, reaches_bounded}
 use Rattle.dv_linklaws.proofs.Upward.{parent_is_above}
 use Rattle.dv_linklaws.proofs.OrderedImages.{image_ordered}
 use Rattle.dv_linked.proofs.BootRows.{HasRow, row_there, row_class, parent_by, method_row, field_row, not_any, MethodIn, method_in, FieldIn, field_in}
-
-dash : List ℕ
-dash = codes "-"
 
 -- a superclass that a row tells
 told_parent : (w : List ℕ) (o : Option (List ℕ)) → parent_is w o ≡ true → bytes_eq w (codes "-") ≡ false → o ≡ Some w
@@ -44,12 +41,12 @@ module _ (image : Image) (is : IsImage image) where
 
   pub boot_there : All (IsNamed image) (object_name ∷ class_name ∷ string_name ∷ thread_name ∷ throwable_name ∷ stream_name ∷ [])
   boot_there =
-      All-cons (IsNamed image) object_name _ (named_row 0 _ refl)
-      (All-cons (IsNamed image) class_name _ (named_row 2 _ refl)
-      (All-cons (IsNamed image) string_name _ (named_row 4 _ refl)
-      (All-cons (IsNamed image) thread_name _ (named_row 3 _ refl)
-      (All-cons (IsNamed image) throwable_name _ (named_row 10 _ refl)
-      (All-cons (IsNamed image) stream_name _ (named_row 7 _ refl)
+      All-cons (IsNamed image) object_name (class_name ∷ string_name ∷ thread_name ∷ throwable_name ∷ stream_name ∷ []) (named_row 0 _ refl)
+      (All-cons (IsNamed image) class_name (string_name ∷ thread_name ∷ throwable_name ∷ stream_name ∷ []) (named_row 2 _ refl)
+      (All-cons (IsNamed image) string_name (thread_name ∷ throwable_name ∷ stream_name ∷ []) (named_row 4 _ refl)
+      (All-cons (IsNamed image) thread_name (throwable_name ∷ stream_name ∷ []) (named_row 3 _ refl)
+      (All-cons (IsNamed image) throwable_name (stream_name ∷ []) (named_row 10 _ refl)
+      (All-cons (IsNamed image) stream_name [] (named_row 7 _ refl)
       (All-nil (IsNamed image)))))))
 
   -- ---- the exceptions
@@ -91,42 +88,49 @@ module _ (image : Image) (is : IsImage image) where
   runtime = below 13 (codes "Ljava/lang/RuntimeException;") (codes "Ljava/lang/Exception;") refl refl exception
 
   bounds : IsThrown (codes "Ljava/lang/IndexOutOfBoundsException;")
-  bounds = below 20 (codes "Ljava/lang/IndexOutOfBoundsException;") (codes "Ljava/lang/RuntimeException;") refl refl runtime
+  bounds = below 21 (codes "Ljava/lang/IndexOutOfBoundsException;") (codes "Ljava/lang/RuntimeException;") refl refl runtime
 
   argument : IsThrown (codes "Ljava/lang/IllegalArgumentException;")
-  argument = below 21 (codes "Ljava/lang/IllegalArgumentException;") (codes "Ljava/lang/RuntimeException;") refl refl runtime
+  argument = below 22 (codes "Ljava/lang/IllegalArgumentException;") (codes "Ljava/lang/RuntimeException;") refl refl runtime
 
   linkage : IsThrown (codes "Ljava/lang/LinkageError;")
-  linkage = below 24 (codes "Ljava/lang/LinkageError;") (codes "Ljava/lang/Error;") refl refl error
+  linkage = below 25 (codes "Ljava/lang/LinkageError;") (codes "Ljava/lang/Error;") refl refl error
 
   machine : IsThrown (codes "Ljava/lang/VirtualMachineError;")
-  machine = below 25 (codes "Ljava/lang/VirtualMachineError;") (codes "Ljava/lang/Error;") refl refl error
+  machine = below 26 (codes "Ljava/lang/VirtualMachineError;") (codes "Ljava/lang/Error;") refl refl error
 
   change : IsThrown (codes "Ljava/lang/IncompatibleClassChangeError;")
-  change = below 28 (codes "Ljava/lang/IncompatibleClassChangeError;") (codes "Ljava/lang/LinkageError;") refl refl linkage
+  change = below 29 (codes "Ljava/lang/IncompatibleClassChangeError;") (codes "Ljava/lang/LinkageError;") refl refl linkage
 
   thrown_by : (n : Named) → IsThrown (exception_name n)
   thrown_by named.Arithmetic = below 15 (codes "Ljava/lang/ArithmeticException;") (codes "Ljava/lang/RuntimeException;") refl refl runtime
   thrown_by named.NullPointer = below 16 (codes "Ljava/lang/NullPointerException;") (codes "Ljava/lang/RuntimeException;") refl refl runtime
   thrown_by named.NegativeArraySize = below 17 (codes "Ljava/lang/NegativeArraySizeException;") (codes "Ljava/lang/RuntimeException;") refl refl runtime
-  thrown_by named.ArrayIndex = below 22 (codes "Ljava/lang/ArrayIndexOutOfBoundsException;") (codes "Ljava/lang/IndexOutOfBoundsException;") refl refl bounds
+  thrown_by named.ArrayIndex = below 23 (codes "Ljava/lang/ArrayIndexOutOfBoundsException;") (codes "Ljava/lang/IndexOutOfBoundsException;") refl refl bounds
   thrown_by named.ArrayStore = below 19 (codes "Ljava/lang/ArrayStoreException;") (codes "Ljava/lang/RuntimeException;") refl refl runtime
   thrown_by named.ClassCast = below 18 (codes "Ljava/lang/ClassCastException;") (codes "Ljava/lang/RuntimeException;") refl refl runtime
-  thrown_by named.IllegalMonitorState = below 19 (codes "Ljava/lang/IllegalMonitorStateException;") (codes "Ljava/lang/RuntimeException;") refl refl runtime
-  thrown_by named.IllegalThreadState = below 23 (codes "Ljava/lang/IllegalThreadStateException;") (codes "Ljava/lang/IllegalArgumentException;") refl refl argument
+  thrown_by named.IllegalMonitorState = below 20 (codes "Ljava/lang/IllegalMonitorStateException;") (codes "Ljava/lang/RuntimeException;") refl refl runtime
+  thrown_by named.IllegalThreadState = below 24 (codes "Ljava/lang/IllegalThreadStateException;") (codes "Ljava/lang/IllegalArgumentException;") refl refl argument
   thrown_by named.IndexOutOfBounds = bounds
-  thrown_by named.OutOfMemory = below 30 (codes "Ljava/lang/OutOfMemoryError;") (codes "Ljava/lang/VirtualMachineError;") refl refl machine
-  thrown_by named.NoClassDef = below 26 (codes "Ljava/lang/NoClassDefFoundError;") (codes "Ljava/lang/LinkageError;") refl refl linkage
-  thrown_by named.InInitializer = below 27 (codes "Ljava/lang/ExceptionInInitializerError;") (codes "Ljava/lang/LinkageError;") refl refl linkage
+  thrown_by named.OutOfMemory = below 31 (codes "Ljava/lang/OutOfMemoryError;") (codes "Ljava/lang/VirtualMachineError;") refl refl machine
+  thrown_by named.NoClassDef = below 27 (codes "Ljava/lang/NoClassDefFoundError;") (codes "Ljava/lang/LinkageError;") refl refl linkage
+  thrown_by named.InInitializer = below 28 (codes "Ljava/lang/ExceptionInInitializerError;") (codes "Ljava/lang/LinkageError;") refl refl linkage
   thrown_by named.ClassChange = change
-  thrown_by named.AbstractMethod = below 29 (codes "Ljava/lang/AbstractMethodError;") (codes "Ljava/lang/IncompatibleClassChangeError;") refl refl change
+  thrown_by named.AbstractMethod = below 30 (codes "Ljava/lang/AbstractMethodError;") (codes "Ljava/lang/IncompatibleClassChangeError;") refl refl change
 
   pub boot_exceptions : (n : Named) → IsNamed image (exception_name n)
   boot_exceptions n = let thrown = thrown_by n in (thrown.number, thrown.named)
 
   both_are : (name : List ℕ) → IsThrown name → instance image (of_class name) (of_class throwable_name) ≡ true
   unfolding instance
-  both_are name thrown = ?
+  both_are name thrown = by (ty_eq (of_class name) (of_class throwable_name))
+    where
+      numbered : both_found (implements image) (class_named image name) (class_named image throwable_name) ≡ true
+      numbered = ap (λ o. both_found (implements image) o (class_named image throwable_name)) thrown.named ∙ ap (both_found (implements image) (Some thrown.number)) throwable.named ∙ thrown.under
+
+      by : (b : Bool) → elim b [ true ↦ true | false ↦ both_found (implements image) (class_named image name) (class_named image throwable_name) ] ≡ true
+      by true = refl
+      by false = numbered
 
   pub boot_thrown : (n : Named) → fits image (of_class (exception_name n)) (of_class throwable_name) ≡ true
   unfolding fits
