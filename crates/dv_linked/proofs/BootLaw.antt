@@ -8,6 +8,7 @@ use Rattle.std.proofs.lemmas.Option.{slice_get_within}
 use Rattle.std.proofs.lemmas.List.Elements.{All-nil, All-cons}
 use Rattle.dv_defs.specs.declared.class.ClassDef.{ClassDef}
 use Rattle.dv_defs.specs.declared.class.FieldDef.{FieldDef}
+use Rattle.dv_defs.specs.declared.class.MethodDef.{MethodDef}
 use Rattle.dv_defs.specs.declared.image.ClassInfo.{ClassInfo}
 use Rattle.dv_defs.specs.declared.run.Named.{Named}
 use Rattle.dv_defs.specs.declared.run.Named.TheVariants as named
@@ -16,7 +17,7 @@ use Rattle.dv_defs.specs.Names.{object_name, class_name, string_name, thread_nam
 use Rattle.dv_defs.specs.Types.{of_class, ty_eq}
 use Rattle.dv_defs.specs.Pools.{Method, Field, method_at, field_at, is_static, is_static_field, is_constructor, class_named, name_at, declared_name, parent_at}
 use Rattle.dv_defs.specs.Order.{implements, both_found, instance, fits, is_interface_type}
-use Rattle.dv_defs.specs.Boot.{Row, word, class_rows, parent_is, method_is, field_rows, method_rows}
+use Rattle.dv_defs.specs.Boot.{Row, word, class_rows, flags_are, parent_is, method_is, field_rows, method_rows, result_is, types_are, fields_are}
 use Rattle.dv_defs.specs.Linked.{IsImage}
 use Rattle.dv_machine.specs.Conforming.{is_string_or_class}
 use Rattle.dv_machine.specs.Unwinding.{exception_name}
@@ -32,6 +33,20 @@ told_parent w None is some = absurd (let both : false ≡ true = sym some ∙ is
 told_parent w (Some name) is some =
     let same : bytes_eq w name ≡ true = (and_parts (not (bytes_eq w (codes "-"))) (bytes_eq w name) is).1 in
     ap Some (sym ((bytes_eq-Decides w name).0 same))
+
+refuted : (b : Bool) → (b ≡ true → true ≡ false) → b ≡ false
+refuted true h = h refl
+refuted false h = refl
+
+second : (p q r s : Bool) → (p && q && r && s) ≡ true → q ≡ true
+second true true r s h = refl
+second true false r s h = absurd (cc)
+second false q r s h = absurd (cc)
+
+-- a method's name is that of its row
+method_name : (row : Row) (m : MethodDef) → method_is row m ≡ true → bytes_eq (word row 2) m.name ≡ true
+method_name row m is =
+    second (flags_are (word row 1) m.flags) (bytes_eq (word row 2) m.name) (result_is (word row 3) m.proto.ret) (types_are (drop 4 row) m.proto.params) is
 
 module _ (image : Image) (is : IsImage image) where
   -- ---- the classes that are there
@@ -139,3 +154,87 @@ module _ (image : Image) (is : IsImage image) where
       by : (b : Bool) → elim b [ true ↦ true | false ↦ instance image (of_class (exception_name n)) (of_class throwable_name) ] ≡ true
       by true = refl
       by false = both_are (exception_name n) (thrown_by n)
+
+  -- ---- the classes String, Class and Object
+
+  object : HasRow image (object_name ∷ codes "-" ∷ codes "-" ∷ [])
+  object = row_there image is 0 (object_name ∷ codes "-" ∷ codes "-" ∷ []) refl
+
+  class : HasRow image (class_name ∷ codes "final" ∷ object_name ∷ [])
+  class = row_there image is 2 (class_name ∷ codes "final" ∷ object_name ∷ []) refl
+
+  string : HasRow image (string_name ∷ codes "final" ∷ object_name ∷ [])
+  string = row_there image is 4 (string_name ∷ codes "final" ∷ object_name ∷ []) refl
+
+  -- where no row of a class tells a name, none of its methods has it
+  bare_by : (row : Row) → HasRow image row → list_any (λ r. bytes_eq (word r 2) init_name) (method_rows (word row 0)) ≡ false → (m : Method) → (own : MethodIn image m) → own.class.def.name ≡ word row 0 → bytes_eq m.def.name init_name ≡ false
+  bare_by row has none m own name =
+      let same = row_class image is row has m.info.class.0 own.class own.class_at name in
+      let stands : slice_get has.class.def.methods m.info.place ≡ Some m.def = subst (λ (c : ClassInfo). slice_get c.def.methods m.info.place ≡ Some m.def) same.1 own.there in
+      let found = method_row (method_rows (word row 0)) has.class.def.methods m.info.place m.def has.as_row.methods stands in
+      let other : bytes_eq (word found.0 2) init_name ≡ false = not_any (λ r. bytes_eq (word r 2) init_name) (method_rows (word row 0)) m.info.place found.0 none found.1 in
+      let alike : word found.0 2 ≡ m.def.name = (bytes_eq-Decides (word found.0 2) m.def.name).0 (method_name found.0 m.def found.2) in
+      subst (λ n. bytes_eq n init_name ≡ false) alike other
+
+  pub boot_no_bare : (n : ℕ) (m : Method) → method_at image n ≡ Some m → is_constructor m ≡ true → is_string_or_class (name_at image m.info.class.0) ≡ false
+  boot_no_bare n m at made = by (method_in image n m at)
+    where
+      apart : (own : MethodIn image m) (row : Row) → HasRow image row → list_any (λ r. bytes_eq (word r 2) init_name) (method_rows (word row 0)) ≡ false → bytes_eq own.class.def.name (word row 0) ≡ false
+      apart own row has none =
+          refuted (bytes_eq own.class.def.name (word row 0))
+          (λ same. sym (and_parts (not (is_static m)) (bytes_eq m.def.name init_name) made).1 ∙ bare_by row has none m own ((bytes_eq-Decides own.class.def.name (word row 0)).0 same))
+
+      by : MethodIn image m → is_string_or_class (name_at image m.info.class.0) ≡ false
+      by own =
+          ap (λ c. is_string_or_class (declared_name c)) own.class_at ∙
+          rw (apart own (string_name ∷ codes "final" ∷ object_name ∷ []) string refl) (apart own (class_name ∷ codes "final" ∷ object_name ∷ []) class refl)
+
+  under_object : (row : Row) → HasRow image row → word row 2 ≡ object_name → (c : ℕ) (info : ClassInfo) → slice_get image.classes c ≡ Some info → info.def.name ≡ word row 0 → parent_at image c ≡ Some object.number
+  under_object row has root c info at name =
+      let same = row_class image is row has c info at name in
+      let some : bytes_eq (word row 2) (codes "-") ≡ false = ap (λ w. bytes_eq w (codes "-")) root in
+      let told : info.def.parent ≡ Some (word row 2) = ap (λ (i : ClassInfo). i.def.parent) same.1 ∙ told_parent (word row 2) has.class.def.parent has.as_row.parent some in
+      parent_by image is c info at object_name object.number (told ∙ ap Some root) object.named
+
+  pub boot_alone : (c p : ℕ) → is_string_or_class (name_at image c) ≡ true → parent_at image c ≡ Some p → name_at image p ≡ object_name
+  boot_alone c p special above = by (slice_get image.classes c) refl
+    where
+      named_object : parent_at image c ≡ Some object.number → name_at image p ≡ object_name
+      named_object up =
+          let both : Some p ≡ Some object.number = sym above ∙ up in
+          let same : p ≡ object.number = cc in
+          ap (name_at image) same ∙ ap declared_name object.at ∙ object.name
+
+      which : (info : ClassInfo) → slice_get image.classes c ≡ Some info → (b : Bool) → bytes_eq info.def.name string_name ≡ b → (b || bytes_eq info.def.name class_name) ≡ true → name_at image p ≡ object_name
+      which info at true e h = named_object (under_object (string_name ∷ codes "final" ∷ object_name ∷ []) string refl c info at ((bytes_eq-Decides info.def.name string_name).0 e))
+      which info at false e h = named_object (under_object (class_name ∷ codes "final" ∷ object_name ∷ []) class refl c info at ((bytes_eq-Decides info.def.name class_name).0 h))
+
+      by : (o : Option ClassInfo) → slice_get image.classes c ≡ o → name_at image p ≡ object_name
+      by None at = absurd (let both : false ≡ true = sym (ap (λ o. is_string_or_class (declared_name o)) at) ∙ special in cc)
+      by (Some info) at = which info at (bytes_eq info.def.name string_name) refl (sym (ap (λ o. is_string_or_class (declared_name o)) at) ∙ special)
+
+  -- where the table has no field of a class, none is of it
+  fieldless : (row : Row) → HasRow image row → field_rows (word row 0) ≡ [] → (x : ℕ) (f : Field) (own : FieldIn image x f) → bytes_eq own.class.def.name (word row 0) ≡ false
+  fieldless row has none x f own = refuted (bytes_eq own.class.def.name (word row 0)) by
+    where
+      by : bytes_eq own.class.def.name (word row 0) ≡ true → true ≡ false
+      by same =
+          let is_class = row_class image is row has f.info.class.0 own.class own.class_at ((bytes_eq-Decides own.class.def.name (word row 0)).0 same) in
+          let stands : slice_get has.class.def.fields f.info.place ≡ Some f.def = subst (λ (c : ClassInfo). slice_get c.def.fields f.info.place ≡ Some f.def) is_class.1 own.there in
+          let are : fields_are [] has.class.def.fields ≡ true = subst (λ rows. fields_are rows has.class.def.fields ≡ true) none has.as_row.fields in
+          let found = field_row [] has.class.def.fields f.info.place f.def are stands in
+          absurd (let nothing : slice_get [] f.info.place ≡ Some found.0 = found.1 in cc)
+
+  pub boot_no_fields : (x : ℕ) (f : Field) → field_at image x ≡ Some f → is_static_field f ≡ false → (bytes_eq (name_at image f.info.class.0) object_name || is_string_or_class (name_at image f.info.class.0)) ≡ false
+  boot_no_fields x f at instance_field = by (field_in image x f at)
+    where
+      by : FieldIn image x f → (bytes_eq (name_at image f.info.class.0) object_name || is_string_or_class (name_at image f.info.class.0)) ≡ false
+      by own =
+          ap (λ c. bytes_eq (declared_name c) object_name || is_string_or_class (declared_name c)) own.class_at ∙
+          rw (fieldless (object_name ∷ codes "-" ∷ codes "-" ∷ []) object refl x f own, fieldless (string_name ∷ codes "final" ∷ object_name ∷ []) string refl x f own)
+          (fieldless (class_name ∷ codes "final" ∷ object_name ∷ []) class refl x f own)
+
+  -- ---- the class System
+
+  system : HasRow image (system_name ∷ codes "final" ∷ object_name ∷ [])
+  system = row_there image is 6 (system_name ∷ codes "final" ∷ object_name ∷ []) refl
