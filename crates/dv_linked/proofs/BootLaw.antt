@@ -12,16 +12,19 @@ use Rattle.dv_defs.specs.declared.class.MethodDef.{MethodDef}
 use Rattle.dv_defs.specs.declared.image.ClassInfo.{ClassInfo}
 use Rattle.dv_defs.specs.declared.run.Named.{Named}
 use Rattle.dv_defs.specs.declared.run.Named.TheVariants as named
+use Rattle.dv_defs.specs.declared.flags.Flag.TheVariants as flag
+use Rattle.dv_defs.specs.Flags.{has_flag}
 use Rattle.dv_defs.specs.Images.{Image}
 use Rattle.dv_defs.specs.Names.{object_name, class_name, string_name, thread_name, throwable_name, stream_name, system_name, init_name}
 use Rattle.dv_defs.specs.Types.{of_class, ty_eq}
 use Rattle.dv_defs.specs.Pools.{Method, Field, method_at, field_at, is_static, is_static_field, is_constructor, class_named, name_at, declared_name, parent_at}
 use Rattle.dv_defs.specs.Order.{implements, both_found, instance, fits, is_interface_type}
-use Rattle.dv_defs.specs.Boot.{Row, word, class_rows, flags_are, parent_is, method_is, field_rows, method_rows, result_is, types_are, fields_are}
+use Rattle.dv_defs.specs.Boot.{Row, word, class_rows, flags_are, parent_is, method_is, field_rows, method_rows, result_is, types_are, field_is, fields_are, type_in, effective, tells_flag, both_or_none}
 use Rattle.dv_defs.specs.Linked.{IsImage}
 use Rattle.dv_machine.specs.Conforming.{is_string_or_class}
 use Rattle.dv_machine.specs.Unwinding.{exception_name}
 use Rattle.dv_machine.specs.Accepted.{IsNamed}
+use Rattle.dv_laws.proofs.lemmas.Order.Equal.{ty_is}
 use Rattle.dv_linklaws.proofs.Reach.{reaches_here, reaches_up, reaches_bounded}
 use Rattle.dv_linklaws.proofs.Upward.{parent_is_above}
 use Rattle.dv_linklaws.proofs.OrderedImages.{image_ordered}
@@ -47,6 +50,31 @@ second false q r s h = absurd (cc)
 method_name : (row : Row) (m : MethodDef) → method_is row m ≡ true → bytes_eq (word row 2) m.name ≡ true
 method_name row m is =
     second (flags_are (word row 1) m.flags) (bytes_eq (word row 2) m.name) (result_is (word row 3) m.proto.ret) (types_are (drop 4 row) m.proto.params) is
+
+three : (p q r : Bool) → (p && q && r) ≡ true → (p ≡ true) × (q ≡ true) × (r ≡ true)
+three true true true h = (refl, refl, refl)
+three true true false h = absurd (cc)
+three true false r h = absurd (cc)
+three false q r h = absurd (cc)
+
+field_parts : (row : Row) (f : FieldDef) → field_is row f ≡ true → (flags_are (word row 1) f.flags ≡ true) × (bytes_eq (word row 2) f.name ≡ true) × (ty_eq (type_in (word row 3)) f.ty ≡ true)
+field_parts row f is = three (flags_are (word row 1) f.flags) (bytes_eq (word row 2) f.name) (ty_eq (type_in (word row 3)) f.ty) is
+
+-- the row of System.out, System's only field
+unfoldable out_row : Row
+out_row = system_name ∷ codes "static+final" ∷ codes "out" ∷ stream_name ∷ []
+
+system_fields : field_rows system_name ≡ out_row ∷ []
+unfolding out_row
+system_fields = refl
+
+only : (k : ℕ) (row other : Row) → slice_get (row ∷ []) k ≡ Some other → other ≡ row
+only zero row other at = let same : row ≡ other = cc in sym same
+only (suc k) row other at = absurd (cc)
+
+told_static : (flags : ℕ) → flags_are (codes "static+final") flags ≡ true → has_flag flags flag.Static ≡ true
+told_static flags are =
+    (and_parts (has_flag flags flag.Static) (list_all (λ f. both_or_none (tells_flag (codes "static+final") f) (has_flag flags f)) (drop 1 effective)) are).0
 
 module _ (image : Image) (is : IsImage image) where
   -- ---- the classes that are there
@@ -238,3 +266,17 @@ module _ (image : Image) (is : IsImage image) where
 
   system : HasRow image (system_name ∷ codes "final" ∷ object_name ∷ [])
   system = row_there image is 6 (system_name ∷ codes "final" ∷ object_name ∷ []) refl
+
+  pub boot_out : (x : ℕ) (f : Field) → field_at image x ≡ Some f → name_at image f.info.class.0 ≡ system_name → f.def.name ≡ codes "out" → (is_static_field f ≡ true) × (f.def.ty ≡ of_class stream_name)
+  unfolding out_row
+  boot_out x f at of_system out = by (field_in image x f at)
+    where
+      by : FieldIn image x f → (is_static_field f ≡ true) × (f.def.ty ≡ of_class stream_name)
+      by own =
+          let is_class = row_class image is (system_name ∷ codes "final" ∷ object_name ∷ []) system f.info.class.0 own.class own.class_at (sym (ap declared_name own.class_at) ∙ of_system) in
+          let stands : slice_get system.class.def.fields f.info.place ≡ Some f.def = subst (λ (c : ClassInfo). slice_get c.def.fields f.info.place ≡ Some f.def) is_class.1 own.there in
+          let are : fields_are (out_row ∷ []) system.class.def.fields ≡ true = subst (λ rows. fields_are rows system.class.def.fields ≡ true) system_fields system.as_row.fields in
+          let found = field_row (out_row ∷ []) system.class.def.fields f.info.place f.def are stands in
+          let told : field_is out_row f.def ≡ true = subst (λ row. field_is row f.def ≡ true) (only f.info.place out_row found.0 found.1) found.2 in
+          let parts = field_parts out_row f.def told in
+          (told_static f.def.flags parts.0, sym (ty_is (type_in (word out_row 3)) f.def.ty parts.2))
