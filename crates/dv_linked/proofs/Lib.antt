@@ -1,2 +1,4 @@
+pub mod BootCause
 pub mod BootLaw
+pub mod BootParts
 pub mod BootRows
