@@ -1,6 +1,6 @@
 -- In a linked image there is a class for each row of the table of boot classes, as the row has it.
-use Rattle.std.proofs.Common.{◌≡◌, ◌<◌, ℕ, zero, suc, Bool, true, false, not, cond, ◌&&◌, List, [], ◌∷◌, length, take, drop, map, Option, Some, None, refl, sym, ap, subst, ◌∙◌, arith}
-use Rattle.std.specs.Prelude.{bytes_eq, slice_get, find, codes, option_map, option_and_then}
+use Rattle.std.proofs.Common.{◌≡◌, ℕ, zero, suc, Bool, true, false, not, cond, ◌&&◌, List, [], ◌∷◌, take, drop, Option, Some, None, refl, sym, ap, subst, ◌∙◌}
+use Rattle.std.specs.Prelude.{bytes_eq, slice_get, find, option_map, option_and_then}
 use Rattle.std.specs.List.{list_any}
 use Rattle.std.proofs.lemmas.Bool.{and_parts, not-false, or_parts}
 use Rattle.std.proofs.lemmas.Slice.Eq.{bytes_eq-Decides}
@@ -82,7 +82,7 @@ info_of [] i d h = absurd (cc)
 info_of (c ∷ cs) zero d h = let same : c.def ≡ d = cc in (c, refl, same)
 info_of (c ∷ cs) (suc i) d h = info_of cs i d h
 
-def_of : (cs : List ClassInfo) (i : ℕ) (c : ClassInfo) → slice_get cs i ≡ Some c → slice_get (defs cs) i ≡ Some c.def
+pub def_of : (cs : List ClassInfo) (i : ℕ) (c : ClassInfo) → slice_get cs i ≡ Some c → slice_get (defs cs) i ≡ Some c.def
 def_of cs i c at = slice_get-map (λ (d : ClassInfo). d.def) cs i ∙ ap (option_map (λ (d : ClassInfo). d.def)) at
 
 pub record IsAs (row : Row) (c : ClassDef) : Type 0 where

@@ -3,6 +3,10 @@ pub mod HierarchyLaw
 pub mod InitsLaw
 pub mod PoolsLaw
 pub mod BootRows
+pub mod BootParts
+pub mod BootCause
+pub mod BootLaw
 pub mod BodiesLaw
 pub mod SlotCells
 pub mod SlotsLaw
+pub mod LinkedLaw
