@@ -1,4 +1,5 @@
 pub mod BootCause
+pub mod BootCells
 pub mod BootLaw
 pub mod BootParts
 pub mod BootRows
