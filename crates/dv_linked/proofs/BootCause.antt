@@ -15,24 +15,23 @@ use Rattle.dv_defs.specs.declared.flags.Flag.TheVariants as flag
 use Rattle.dv_defs.specs.Flags.{has_flag}
 use Rattle.dv_defs.specs.Images.{Image}
 use Rattle.dv_defs.specs.Names.{object_name, string_name, throwable_name}
-use Rattle.dv_defs.specs.Types.{of_class, words_of}
+use Rattle.dv_defs.specs.Types.{of_class}
 use Rattle.dv_defs.specs.RegTypes.{type_at, reg_types}
 use Rattle.dv_defs.specs.Heap.{class_cells}
-use Rattle.dv_defs.specs.Pools.{Field, field_at, is_interface, flags_of, class_type, declared_name}
-use Rattle.dv_defs.specs.Order.{instance}
+use Rattle.dv_defs.specs.Pools.{Field, class_named, field_at, is_interface, flags_of}
 use Rattle.dv_defs.specs.Boot.{Row, word, flags_are, field_rows, field_is, fields_are, type_in, tells_flag, both_or_none}
 use Rattle.dv_defs.specs.Numbering.{class_numbered, declared, numbered}
 use Rattle.dv_defs.specs.Linked.{IsImage, defs}
 use Rattle.dv_machine.specs.Unwinding.{exception_name, number_named, is_named_field, slot_among, throwable_slot}
-use Rattle.dv_machine.specs.Accepted.{KeepsSlots}
 use Rattle.dv_laws.proofs.lemmas.Order.Equal.{ty_is}
 use Rattle.dv_linklaws.specs.Stripped.{field_stripped}
 use Rattle.dv_linklaws.proofs.Members.{numbered_fields, first_field, field_of, field_numbered}
 use Rattle.dv_linklaws.proofs.AlikeImages.{alike_field_at}
 use Rattle.dv_linklaws.proofs.FromFaults.{numbered_at}
-use Rattle.dv_linklaws.proofs.OrderedImages.{image_alike}
-use Rattle.dv_linked.proofs.BootRows.{HasRow, row_there, field_row, FieldIn, field_in, def_of}
-use Rattle.dv_linked.proofs.BootParts.{boot_instance, field_parts}
+use Rattle.dv_linklaws.proofs.OrderedImages.{own_numbered, image_alike}
+use Rattle.dv_linked.proofs.BootRows.{HasRow, row_there, parent_by, field_row, FieldIn, field_in, def_of}
+use Rattle.dv_linked.proofs.BootParts.{told_parent, field_parts}
+use Rattle.dv_linked.proofs.BootCells.{Keeps, kept_down, kept_own, kept_type}
 
 -- ---- the first field of a name
 
@@ -189,26 +188,36 @@ module _ (image : Image) (is : IsImage image) where
       let found = field_row (message_row ∷ cause_row ∷ []) throwable.class.def.fields f.info.place f.def two_fields stands in
       its_row f.info.place found.0 f.def found.1 found.2 name
 
-  cell_type : (slots : KeepsSlots image) → type_at (class_cells image initializer.number) cause_picked.field.info.slot ≡ ty.Class (of_class throwable_name)
+  -- ---- Throwable's cells in the classes down to ExceptionInInitializerError
+
+  linkage : HasRow image (codes "Ljava/lang/LinkageError;" ∷ codes "-" ∷ codes "Ljava/lang/Error;" ∷ [])
+  linkage = row_there image is 25 (codes "Ljava/lang/LinkageError;" ∷ codes "-" ∷ codes "Ljava/lang/Error;" ∷ []) refl
+
+  error : HasRow image (codes "Ljava/lang/Error;" ∷ codes "-" ∷ throwable_name ∷ [])
+  error = row_there image is 12 (codes "Ljava/lang/Error;" ∷ codes "-" ∷ throwable_name ∷ []) refl
+
+  down : (id words : ℕ) (name parent : List ℕ) (has : HasRow image (name ∷ codes "-" ∷ parent ∷ [])) (p : ℕ) → class_named image parent ≡ Some p → bytes_eq parent (codes "-") ≡ false → Keeps (own_numbered image) id words p → Keeps (own_numbered image) id words has.number
+  down id words name parent has p named some keeps =
+      kept_down image is id words has.number p (slice_get_within image.classes has.number has.class has.at)
+      (parent_by image is has.number has.class has.at parent p (told_parent parent has.class.def.parent has.as_row.parent some) named) keeps
+
+  cell_type : type_at (class_cells image initializer.number) cause_picked.field.info.slot ≡ ty.Class (of_class throwable_name)
   unfolding cause_row
-  cell_type slots =
+  cell_type =
       let f : Field = cause_picked.field in
-      let parts = field_parts cause_row f.def (cause_like f (field_in image cause_picked.id f cause_picked.at) cause_picked.class cause_picked.named) in
+      let id : ℕ = cause_picked.id in
+      let parts = field_parts cause_row f.def (cause_like f (field_in image id f cause_picked.at) cause_picked.class cause_picked.named) in
       let type_is : of_class throwable_name ≡ f.def.ty = ty_is (type_in (word cause_row 3)) f.def.ty parts.2 in
       let not_interface : is_interface image f.info.class.0 ≡ false =
       ap (is_interface image) cause_picked.class ∙ (ap (λ c. has_flag (flags_of c) flag.Interface) throwable.at ∙ (plain throwable.class.def.flags throwable.as_row.flags).1) in
-      let lower : class_type image initializer.number ≡ of_class (exception_name named.InInitializer) = ap (λ c. of_class (declared_name c)) initializer.at ∙ ap of_class initializer.name in
-      let upper : class_type image f.info.class.0 ≡ of_class throwable_name = ap (class_type image) cause_picked.class ∙ (ap (λ c. of_class (declared_name c)) throwable.at ∙ ap of_class throwable.name) in
-      let under : instance image (class_type image initializer.number) (class_type image f.info.class.0) ≡ true =
-      ap (λ t. instance image t (class_type image f.info.class.0)) lower ∙ (ap (instance image (of_class (exception_name named.InInitializer))) upper ∙ boot_instance image is named.InInitializer) in
-      let some : 0 < words_of f.def.ty = subst (λ t. 0 < words_of t) type_is (omega arith) in
-      let kept : type_at (class_cells image initializer.number) (f.info.slot + 0) ≡ type_at (reg_types f.def.ty) 0 =
-      slots.at initializer.number cause_picked.id f cause_picked.at (plain f.def.flags parts.0).0 not_interface (slice_get_within image.classes initializer.number initializer.class initializer.at) under 0 some in
-      let same : f.info.slot ≡ f.info.slot + 0 = omega arith in
-      ap (type_at (class_cells image initializer.number)) same ∙ (kept ∙ ap (λ t. type_at (reg_types t) 0) (sym type_is))
+      let own : Keeps (own_numbered image) id f.info.slot throwable.number =
+      subst (Keeps (own_numbered image) id f.info.slot) cause_picked.class (kept_own image is id f cause_picked.at (plain f.def.flags parts.0).0 not_interface) in
+      let below : Keeps (own_numbered image) id f.info.slot error.number = down id f.info.slot (codes "Ljava/lang/Error;") throwable_name error throwable.number throwable.named refl own in
+      let lower : Keeps (own_numbered image) id f.info.slot linkage.number = down id f.info.slot (codes "Ljava/lang/LinkageError;") (codes "Ljava/lang/Error;") linkage error.number error.named refl below in
+      let lowest : Keeps (own_numbered image) id f.info.slot initializer.number = down id f.info.slot (codes "Ljava/lang/ExceptionInInitializerError;") (codes "Ljava/lang/LinkageError;") initializer linkage.number linkage.named refl lower in
+      kept_type image is id f cause_picked.at initializer.number initializer.class initializer.at lowest ∙ ap (λ t. type_at (reg_types t) 0) (sym type_is)
 
-  -- where fields keep their cells
-  pub boot_cause : KeepsSlots image → type_at (class_cells image (number_named image (exception_name named.InInitializer))) (throwable_slot image (codes "cause")) ≡ ty.Class (of_class throwable_name)
-  boot_cause slots =
+  pub boot_cause : type_at (class_cells image (number_named image (exception_name named.InInitializer))) (throwable_slot image (codes "cause")) ≡ ty.Class (of_class throwable_name)
+  boot_cause =
       ap (λ o. type_at (class_cells image (unwrap_or o 0)) (throwable_slot image (codes "cause"))) initializer.named ∙
-      (ap (type_at (class_cells image initializer.number)) cause_picked.cell_is ∙ cell_type slots)
+      (ap (type_at (class_cells image initializer.number)) cause_picked.cell_is ∙ cell_type)

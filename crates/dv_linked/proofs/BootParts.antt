@@ -30,7 +30,7 @@ use Rattle.dv_linklaws.proofs.OrderedImages.{image_ordered}
 use Rattle.dv_linked.proofs.BootRows.{HasRow, row_there, row_class, parent_by, method_row, field_row, not_any, MethodIn, method_in, FieldIn, field_in}
 
 -- a superclass that a row tells
-told_parent : (w : List ℕ) (o : Option (List ℕ)) → parent_is w o ≡ true → bytes_eq w (codes "-") ≡ false → o ≡ Some w
+pub told_parent : (w : List ℕ) (o : Option (List ℕ)) → parent_is w o ≡ true → bytes_eq w (codes "-") ≡ false → o ≡ Some w
 told_parent w None is some = absurd (let both : false ≡ true = sym some ∙ is in cc)
 told_parent w (Some name) is some =
     let same : bytes_eq w name ≡ true = (and_parts (not (bytes_eq w (codes "-"))) (bytes_eq w name) is).1 in
@@ -174,9 +174,6 @@ module _ (image : Image) (is : IsImage image) where
       by : (b : Bool) → elim b [ true ↦ true | false ↦ both_found (implements image) (class_named image name) (class_named image throwable_name) ] ≡ true
       by true = refl
       by false = numbered
-
-  pub boot_instance : (n : Named) → instance image (of_class (exception_name n)) (of_class throwable_name) ≡ true
-  boot_instance n = both_are (exception_name n) (thrown_by n)
 
   pub boot_thrown : (n : Named) → fits image (of_class (exception_name n)) (of_class throwable_name) ≡ true
   unfolding fits

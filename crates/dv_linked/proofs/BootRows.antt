@@ -85,6 +85,7 @@ info_of (c ∷ cs) (suc i) d h = info_of cs i d h
 pub def_of : (cs : List ClassInfo) (i : ℕ) (c : ClassInfo) → slice_get cs i ≡ Some c → slice_get (defs cs) i ≡ Some c.def
 def_of cs i c at = slice_get-map (λ (d : ClassInfo). d.def) cs i ∙ ap (option_map (λ (d : ClassInfo). d.def)) at
 
+-- a class is as a row has it
 pub record IsAs (row : Row) (c : ClassDef) : Type 0 where
   pub flags : flags_are (word row 1) c.flags ≡ true
   pub parent : parent_is (word row 2) c.parent ≡ true
@@ -166,6 +167,7 @@ module _ (image : Image) (is : IsImage image) where
 
 -- ---- members by their rows
 
+-- each method of a class is as a row of it has it
 pub method_row : (rows : List Row) (ms : List MethodDef) (k : ℕ) (m : MethodDef) → methods_are rows ms ≡ true → slice_get ms k ≡ Some m → (row : Row) × (slice_get rows k ≡ Some row) × (method_is row m ≡ true)
 method_row [] [] k m are at = absurd (cc)
 method_row [] (n ∷ ms) k m are at = absurd (cc)
@@ -175,6 +177,7 @@ method_row (r ∷ rows) (n ∷ ms) zero m are at =
     (r, refl, subst (λ x. method_is r x ≡ true) same (and_parts (method_is r n) (methods_are rows ms) are).0)
 method_row (r ∷ rows) (n ∷ ms) (suc k) m are at = method_row rows ms k m (and_parts (method_is r n) (methods_are rows ms) are).1 at
 
+-- and each field
 pub field_row : (rows : List Row) (fs : List FieldDef) (k : ℕ) (f : FieldDef) → fields_are rows fs ≡ true → slice_get fs k ≡ Some f → (row : Row) × (slice_get rows k ≡ Some row) × (field_is row f ≡ true)
 field_row [] [] k f are at = absurd (cc)
 field_row [] (g ∷ fs) k f are at = absurd (cc)
@@ -184,6 +187,7 @@ field_row (r ∷ rows) (g ∷ fs) zero f are at =
     (r, refl, subst (λ x. field_is r x ≡ true) same (and_parts (field_is r g) (fields_are rows fs) are).0)
 field_row (r ∷ rows) (g ∷ fs) (suc k) f are at = field_row rows fs k f (and_parts (field_is r g) (fields_are rows fs) are).1 at
 
+-- a test that no row passes fails at each
 pub not_any : (p : Row → Bool) (rows : List Row) (k : ℕ) (row : Row) → list_any p rows ≡ false → slice_get rows k ≡ Some row → p row ≡ false
 not_any p [] k row none at = absurd (cc)
 not_any p (r ∷ rows) zero row none at =
@@ -222,6 +226,7 @@ pub record FieldIn (image : Image) (n : ℕ) (f : Field) : Type 0 where
   pub class_at : slice_get image.classes f.info.class.0 ≡ Some class
   pub there : slice_get class.def.fields f.info.place ≡ Some f.def
   pub info_at : slice_get image.fields n ≡ Some f.info
+  pub id_is : f.id ≡ n
 
 pub field_in : (image : Image) (n : ℕ) (f : Field) → field_at image n ≡ Some f → FieldIn image n f
 unfolding field_at
@@ -232,7 +237,7 @@ field_in image n f e = by (slice_get image.fields n) refl e
     at_place info i c class (Some def) d h =
         let made : Field = record { id = n; info = info; def = def } in
         let same : made ≡ f = cc in
-        let here : FieldIn image n made = record { class = c; class_at = class; there = d; info_at = i } in
+        let here : FieldIn image n made = record { class = c; class_at = class; there = d; info_at = i; id_is = refl } in
         subst (FieldIn image n) same here
 
     at_class : (info : FieldInfo) → slice_get image.fields n ≡ Some info → (o : Option ClassInfo) → slice_get image.classes info.class.0 ≡ o → with_field n info (slice_get (fields_of o) info.place) ≡ Some f → FieldIn image n f

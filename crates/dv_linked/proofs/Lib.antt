@@ -5,6 +5,7 @@ pub mod PoolsLaw
 pub mod BootRows
 pub mod BootParts
 pub mod BootCause
+pub mod BootCells
 pub mod BootLaw
 pub mod BodiesLaw
 pub mod SlotCells
