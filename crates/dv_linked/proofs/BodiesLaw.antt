@@ -11,7 +11,6 @@ use Rattle.dv_defs.specs.declared.code.Body.{Body}
 use Rattle.dv_defs.specs.declared.class.ClassDef.{ClassDef}
 use Rattle.dv_defs.specs.declared.class.MethodDef.{MethodDef}
 use Rattle.dv_defs.specs.declared.image.ClassInfo.{ClassInfo}
-use Rattle.dv_defs.specs.declared.faults.LinkKind.{LinkKind}
 use Rattle.dv_defs.specs.declared.faults.LinkKind.TheVariants as kind
 use Rattle.dv_defs.specs.declared.flags.Flag.TheVariants as flag
 use Rattle.dv_defs.specs.declared.run.Native.{Native}
@@ -19,19 +18,18 @@ use Rattle.dv_defs.specs.Images.{Image}
 use Rattle.dv_defs.specs.First.{first_in, first_below}
 use Rattle.dv_defs.specs.Flags.{has_flag}
 use Rattle.dv_defs.specs.Types.{ty_eq}
-use Rattle.dv_defs.specs.Pools.{Method, method_at, methods_of, name_at, is_static, is_native, is_abstract}
+use Rattle.dv_defs.specs.Pools.{Method, name_at, is_static, is_native, is_abstract}
 use Rattle.dv_defs.specs.Numbering.{numbered}
-use Rattle.dv_defs.specs.Boot.{Row, word, rows, class_rows, is_row_of, method_rows, tells_flag, both_or_none, flags_are, effective, type_in, result_is, types_are, method_is, methods_are, is_in_table}
-use Rattle.dv_defs.specs.LinkFaults.{found, fault_at, tested, first_fault_by, boot_fault, row_lacks, is_foreign, not_there, method_twice, wrong_body, wrong_native, wrong_concrete, body_wrong, overrides_final, wrong_methods}
+use Rattle.dv_defs.specs.Boot.{Row, word, rows, class_rows, is_row_of, method_rows, tells_flag, both_or_none, flags_are, type_in, result_is, types_are, method_is, methods_are, is_in_table}
+use Rattle.dv_defs.specs.LinkFaults.{found, fault_at, tested, boot_fault, row_lacks, is_foreign, not_there, method_twice, wrong_body, wrong_native, wrong_concrete, body_wrong, overrides_final, wrong_methods}
 use Rattle.dv_defs.specs.Linked.{IsImage, defs, method_phase}
 use Rattle.dv_linklaws.proofs.First.{or_none, when_none, map_none, first_below_none}
 use Rattle.dv_linklaws.proofs.FromFaults.{no_first_fault}
 use Rattle.dv_linklaws.proofs.OrderedImages.{image_phases}
 use Rattle.dv_linklaws.proofs.TableLaws.{proto_is}
-use Rattle.dv_defs.specs.Types.{same_types, same_result, same_proto}
 use Rattle.dv_machine.specs.Accepted.{HasBodies}
-use Rattle.dv_machine.specs.Calls.{Signature, signature, all_natives, native_among, native_of}
-use Rattle.dv_linked.proofs.BootRows.{HasRow, IsAs, MethodIn, method_in, method_row, named_own, row_there, row_class}
+use Rattle.dv_machine.specs.Calls.{signature, all_natives, native_among, native_of}
+use Rattle.dv_linked.proofs.BootRows.{MethodIn, method_in, method_row, row_there, row_class}
 
 -- ---- what isn't found in a list
 

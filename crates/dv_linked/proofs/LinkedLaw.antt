@@ -1,7 +1,4 @@
 -- What linking gives of an image is what the laws of the machine take.
-use Rattle.dv_defs.specs.Images.{Image}
-use Rattle.dv_defs.specs.Linked.{IsImage}
-use Rattle.dv_laws.specs.Bridge.{HasLinking}
 use Rattle.dv_linked.specs.Laws.{LinkedImagesHaveLinking, LinkedTypesAreOrdered, LinkedRunsNeverGoWrong}
 use Rattle.dv_laws.proofs.lemmas.Order.Laws.{types_are_ordered}
 use Rattle.dv_laws.proofs.lemmas.Bridge.Laws.{bridge_holds}

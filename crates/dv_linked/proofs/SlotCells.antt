@@ -1,6 +1,6 @@
 -- The cells of an object: where a field's stand, and that those of a superclass come first.
-use Rattle.std.proofs.Common.{◌≡◌, ◌+◌, ◌-◌, ◌<◌, ◌≤◌, ℕ, zero, suc, Bool, true, false, cond, ◌&&◌, List, [], ◌∷◌, ◌++◌, length, map, Option, Some, None, refl, sym, ap, subst, ◌∙◌, arith}
-use Rattle.std.specs.Prelude.{slice_get, slice_index_or, filter, filter_map, nat_eq}
+use Rattle.std.proofs.Common.{◌≡◌, ◌+◌, ◌<◌, ◌≤◌, ℕ, zero, suc, Bool, true, false, cond, ◌&&◌, List, [], ◌∷◌, ◌++◌, length, map, Option, Some, None, refl, sym, ap, subst, ◌∙◌, arith}
+use Rattle.std.specs.Prelude.{filter, filter_map, nat_eq}
 use Rattle.std.specs.List.{range_with_len, cons_option}
 use Rattle.std.proofs.lemmas.List.{length-append}
 use Rattle.dv_defs.specs.declared.names.FieldId.{FieldId}
@@ -13,7 +13,7 @@ use Rattle.dv_defs.specs.Pools.{Field, field_at, walk, parent_at}
 use Rattle.dv_defs.specs.Order.{has_number}
 use Rattle.dv_defs.specs.RegTypes.{reg_types, single_type, type_at}
 use Rattle.dv_defs.specs.Heap.{type_of_field, slot_types}
-use Rattle.dv_defs.specs.Linked.{all_fields, cells_of_class, cells_along, words_at, words_before, has_cells}
+use Rattle.dv_defs.specs.Linked.{cells_of_class, cells_along, words_at, words_before, has_cells}
 use Rattle.dv_linklaws.specs.Stripped.{AreInRange}
 use Rattle.dv_linklaws.proofs.ReachPlaces.{IsAcyclic, place, place_rises}
 use Rattle.dv_linklaws.proofs.Upward.{parent_is_above}
@@ -89,15 +89,17 @@ cells_at image x f there (y ∷ ys) has j less = by (nat_eq y.0 x) refl has (cel
         let own : cells ≡ reg_types f.def.ty = ap (λ n. type_of_field (field_at image n)) (same_number y.0 x e) ∙ ap type_of_field there in
         let none : before (nat_eq y.0 x) ≡ 0 = ap before e in
         let first : before (nat_eq y.0 x) + j ≡ j = omega (arith, none) in
-        let many : length cells ≡ words_of f.def.ty = ap length own ∙ cells_of_type f.def.ty in
-        (ap (type_at (cells ++ slot_types image ys)) first ∙ (at_left cells (slot_types image ys) j (omega (arith, many, less)) ∙ ap (λ ts. type_at ts j) own),
-        omega (arith, first, many, less, length-append cells (slot_types image ys)))
+        let many : length cells ≡ words_of f.def.ty = ap length own ∙ cells_of_type f.def.ty in (
+          ap (type_at (cells ++ slot_types image ys)) first ∙ (at_left cells (slot_types image ys) j (omega (arith, many, less)) ∙ ap (λ ts. type_at ts j) own),
+          omega (arith, first, many, less, length-append cells (slot_types image ys)),
+        )
     by false e has rest =
         let behind = rest has j less in
         let many : length cells ≡ words_at image y.0 = cells_of_field image y.0 in
-        let first : before (nat_eq y.0 x) + j ≡ words_at image y.0 + words_before image x ys + j = ap (λ b. before b + j) e in
-        (at_right cells (slot_types image ys) (before (nat_eq y.0 x) + j) (words_before image x ys + j) (omega (arith, first, many)) ∙ behind.0,
-        omega (arith, first, many, behind.1, length-append cells (slot_types image ys)))
+        let first : before (nat_eq y.0 x) + j ≡ words_at image y.0 + words_before image x ys + j = ap (λ b. before b + j) e in (
+          at_right cells (slot_types image ys) (before (nat_eq y.0 x) + j) (words_before image x ys + j) (omega (arith, first, many)) ∙ behind.0,
+          omega (arith, first, many, behind.1, length-append cells (slot_types image ys)),
+        )
 
 -- and still where more cells follow
 pub cells_at_front : (image : Image) (x : ℕ) (f : Field) → field_at image x ≡ Some f → (xs ys : List FieldId) → has_field x xs ≡ true → (j : ℕ) → j < words_of f.def.ty

@@ -2,8 +2,6 @@
 use Rattle.std.proofs.Common.{◌≡◌, ◌+◌, ◌<◌, ℕ, zero, suc, Bool, true, false, not, ◌&&◌, ◌||◌, List, [], ◌∷◌, ◌++◌, length, map, ◌⊎◌, inl, inr, Option, Some, None, refl, sym, ap, subst, ◌∙◌, arith}
 use Rattle.std.specs.Prelude.{slice_get, nat_eq, flat_map, option_map}
 use Rattle.std.specs.List.{enumerate_from}
-use Rattle.std.proofs.lemmas.Option.{slice_get-map}
-use Rattle.std.proofs.lemmas.Slice.Eq.{bytes_eq-Decides}
 use Rattle.dv_defs.specs.declared.names.FieldId.{FieldId}
 use Rattle.dv_defs.specs.declared.image.ClassInfo.{ClassInfo}
 use Rattle.dv_defs.specs.declared.image.FieldInfo.{FieldInfo}
@@ -15,10 +13,10 @@ use Rattle.dv_defs.specs.declared.names.Base.TheVariants as base_kind
 use Rattle.dv_defs.specs.declared.class.FieldDef.{FieldDef}
 use Rattle.dv_laws.proofs.lemmas.Order.Types.{AreUnder, IsUnder, type_is, flat_under}
 use Rattle.dv_defs.specs.Pools.{Field, field_at, name_at, class_type, class_named, supers, walk, parent_at, is_interface, is_static_field, declared_name, fields_of, with_field, with_field_info}
-use Rattle.dv_defs.specs.Order.{has_number, instance, under_type, implements, extends}
+use Rattle.dv_defs.specs.Order.{has_number, instance, implements, extends}
 use Rattle.dv_defs.specs.RegTypes.{reg_types, type_at}
 use Rattle.dv_defs.specs.Heap.{type_of_field, slot_types, slots_of, class_cells}
-use Rattle.dv_defs.specs.Linked.{IsImage, defs, slotted, tabled, resolved, class_with_slots, class_with_table, field_with_slot, has_cells, cells_along, cells_of_class, slots_at, slot_at, slot_of, words_before}
+use Rattle.dv_defs.specs.Linked.{IsImage, slotted, tabled, resolved, class_with_slots, class_with_table, field_with_slot, has_cells, cells_along, cells_of_class, slots_at, slot_at, slot_of, words_before}
 use Rattle.dv_defs.specs.LookUp.{superinterfaces, interfaces_above, interfaces_at, upward}
 use Rattle.dv_linklaws.specs.Stripped.{field_stripped}
 use Rattle.dv_linklaws.specs.Ordered.{IsOrdered}
@@ -27,11 +25,11 @@ use Rattle.dv_defs.specs.Flags.{has_flag}
 use Rattle.dv_linklaws.proofs.AlikeMembers.{stripped_field_at}
 use Rattle.dv_linklaws.proofs.AlikeImages.{AreAlike, alike_length, alike_by_field, alike_field_at, alike_is_interface, alike_supers}
 use Rattle.dv_linklaws.proofs.OrderedImages.{own_numbered, image_is, image_alike, image_fields, image_ordered, ordered_alike}
-use Rattle.dv_linklaws.proofs.ReachPlaces.{place, place_bounded}
+use Rattle.dv_linklaws.proofs.ReachPlaces.{place_bounded}
 use Rattle.dv_linklaws.proofs.Upward.{walk_same, flat_gives}
 use Rattle.dv_linklaws.proofs.Implemented.{implements_is}
 use Rattle.dv_machine.specs.Accepted.{KeepsSlots}
-use Rattle.dv_linked.proofs.BootRows.{FieldIn, field_in, named_own}
+use Rattle.dv_linked.proofs.BootRows.{field_in, named_own}
 use Rattle.dv_linked.proofs.SlotCells.{has_field, cells_at_front, has_own, has_later, along_front, walk_from}
 
 -- ---- what linking puts into classes and fields
