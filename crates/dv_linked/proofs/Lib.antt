@@ -1,0 +1,13 @@
+pub mod Each
+pub mod HierarchyLaw
+pub mod InitsLaw
+pub mod PoolsLaw
+pub mod BootRows
+pub mod BootParts
+pub mod BootCause
+pub mod BootCells
+pub mod BootLaw
+pub mod BodiesLaw
+pub mod SlotCells
+pub mod SlotsLaw
+pub mod LinkedLaw

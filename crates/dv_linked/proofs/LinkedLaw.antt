@@ -1,0 +1,30 @@
+-- What linking gives of an image is what the laws of the machine take.
+use Rattle.dv_linked.specs.Laws.{LinkedImagesHaveLinking, LinkedTypesAreOrdered, LinkedRunsNeverGoWrong}
+use Rattle.dv_laws.proofs.lemmas.Order.Laws.{types_are_ordered}
+use Rattle.dv_laws.proofs.lemmas.Bridge.Laws.{bridge_holds}
+use Rattle.dv_laws.proofs.lemmas.Opening.State.{opening_is_well_typed}
+use Rattle.dv_laws.proofs.lemmas.Steps.Sound.{steps_are_sound}
+use Rattle.dv_laws.proofs.lemmas.Steps.Runs.{runs_never_go_wrong}
+use Rattle.dv_linked.proofs.HierarchyLaw.{image_hierarchy}
+use Rattle.dv_linked.proofs.SlotsLaw.{image_slots}
+use Rattle.dv_linked.proofs.BodiesLaw.{image_bodies}
+use Rattle.dv_linked.proofs.PoolsLaw.{image_pools}
+use Rattle.dv_linked.proofs.InitsLaw.{image_inits}
+use Rattle.dv_linked.proofs.BootLaw.{image_boot}
+
+pub linked_images_have_linking : LinkedImagesHaveLinking
+linked_images_have_linking image is =
+    record {
+      hierarchy = image_hierarchy image is;
+      slots = image_slots image is;
+      bodies = image_bodies image is;
+      pools = image_pools image is;
+      inits = image_inits image is;
+      boot = image_boot image is;
+    }
+
+pub linked_types_are_ordered : LinkedTypesAreOrdered
+linked_types_are_ordered image is = types_are_ordered image (image_hierarchy image is)
+
+pub linked_runs_never_go_wrong : LinkedRunsNeverGoWrong
+linked_runs_never_go_wrong image is = runs_never_go_wrong bridge_holds opening_is_well_typed steps_are_sound image (linked_images_have_linking image is)

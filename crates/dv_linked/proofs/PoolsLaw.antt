@@ -1,0 +1,150 @@
+-- The pools of a linked image name what it has.
+use Rattle.std.specs.Prelude.{ℕ, ◌≡◌, ◌<◌, List, length, Option, Some, None, slice_get, option_map}
+use Rattle.std.proofs.Common.{refl, sym, ap, subst, ◌∙◌}
+use Rattle.std.proofs.lemmas.Option.{slice_get-map, slice_get_within}
+use Rattle.dv_defs.specs.declared.names.ClassId.{ClassId}
+use Rattle.dv_defs.specs.declared.code.Body.{Body}
+use Rattle.dv_defs.specs.declared.class.MethodDef.{MethodDef}
+use Rattle.dv_defs.specs.declared.class.FieldDef.{FieldDef}
+use Rattle.dv_defs.specs.declared.image.ClassInfo.{ClassInfo}
+use Rattle.dv_defs.specs.declared.image.FieldInfo.{FieldInfo}
+use Rattle.dv_defs.specs.declared.image.MethodInfo.{MethodInfo}
+use Rattle.dv_defs.specs.Images.{Image}
+use Rattle.dv_defs.specs.Pools.{Method, Field, method_at, field_at, methods_of, fields_of, with_def, with_info, with_field, with_field_info}
+use Rattle.dv_defs.specs.Op.{Code, code_at, code_of, with_body}
+use Rattle.dv_defs.specs.Tiling.{tiling, tiles_in}
+use Rattle.dv_defs.specs.Numbering.{numbered}
+use Rattle.dv_defs.specs.Linked.{IsImage, defs, body_in, body_at, field_ids, method_ids, method_with_pools}
+use Rattle.dv_machine.specs.Accepted.{HasPools}
+use Rattle.dv_linklaws.proofs.OrderedImages.{image_methods_own}
+
+-- ---- the classes of members
+
+-- a class that declares a member is there
+declares_field : (cs : List ClassInfo) (c k : ℕ) (o : Option ClassInfo) → slice_get cs c ≡ o → (def : FieldDef) → slice_get (fields_of o) k ≡ Some def → c < length cs
+declares_field cs c k None at def is = absurd (cc)
+declares_field cs c k (Some info) at def is = slice_get_within cs c info at
+
+declares_method : (cs : List ClassInfo) (c k : ℕ) (o : Option ClassInfo) → slice_get cs c ≡ o → (def : MethodDef) → slice_get (methods_of o) k ≡ Some def → c < length cs
+declares_method cs c k None at def is = absurd (cc)
+declares_method cs c k (Some info) at def is = slice_get_within cs c info at
+
+-- a member with its definition
+field_is : (x : ℕ) (info : FieldInfo) (o : Option FieldDef) (f : Field) → with_field x info o ≡ Some f → (info ≡ f.info) × (o ≡ Some f.def)
+field_is x info None f is = absurd (cc)
+field_is x info (Some def) f is =
+    let made : Field = record { id = x; info = info; def = def } in
+    let same : made ≡ f = cc in
+    (ap (λ (g : Field). g.info) same, ap (λ (g : Field). Some g.def) same)
+
+method_is : (n : ℕ) (info : MethodInfo) (o : Option MethodDef) (m : Method) → with_def n info o ≡ Some m → (info ≡ m.info) × (o ≡ Some m.def)
+method_is n info None m is = absurd (cc)
+method_is n info (Some def) m is =
+    let made : Method = record { id = n; info = info; def = def } in
+    let same : made ≡ m = cc in
+    (ap (λ (g : Method). g.info) same, ap (λ (g : Method). Some g.def) same)
+
+-- what a member's number stands for
+abbrev IsFieldIn : Image → ℕ → Field → Type 0
+IsFieldIn image x f = (slice_get image.fields x ≡ Some f.info) × (slice_get (fields_of (slice_get image.classes f.info.class.0)) f.info.place ≡ Some f.def)
+
+abbrev IsMethodIn : Image → ℕ → Method → Type 0
+IsMethodIn image n m = (slice_get image.methods n ≡ Some m.info) × (slice_get (methods_of (slice_get image.classes m.info.class.0)) m.info.place ≡ Some m.def)
+
+field_in : (image : Image) (x : ℕ) (f : Field) (o : Option FieldInfo) → slice_get image.fields x ≡ o → with_field_info image x o ≡ Some f → IsFieldIn image x f
+field_in image x f None at is = absurd (cc)
+field_in image x f (Some info) at is =
+    let parts = field_is x info (slice_get (fields_of (slice_get image.classes info.class.0)) info.place) f is in (
+      at ∙ ap Some parts.0,
+      sym (ap (λ (i : FieldInfo). slice_get (fields_of (slice_get image.classes i.class.0)) i.place) parts.0) ∙ parts.1,
+    )
+
+method_in : (image : Image) (n : ℕ) (m : Method) (o : Option MethodInfo) → slice_get image.methods n ≡ o → with_info image n o ≡ Some m → IsMethodIn image n m
+method_in image n m None at is = absurd (cc)
+method_in image n m (Some info) at is =
+    let parts = method_is n info (slice_get (methods_of (slice_get image.classes info.class.0)) info.place) m is in (
+      at ∙ ap Some parts.0,
+      sym (ap (λ (i : MethodInfo). slice_get (methods_of (slice_get image.classes i.class.0)) i.place) parts.0) ∙ parts.1,
+    )
+
+field_there : (image : Image) (x : ℕ) (f : Field) → field_at image x ≡ Some f → IsFieldIn image x f
+unfolding field_at
+field_there image x f at = field_in image x f (slice_get image.fields x) refl at
+
+method_there : (image : Image) (n : ℕ) (m : Method) → method_at image n ≡ Some m → IsMethodIn image n m
+unfolding method_at
+method_there image n m at = method_in image n m (slice_get image.methods n) refl at
+
+class_of_field : (image : Image) (x : ℕ) (f : Field) → field_at image x ≡ Some f → f.info.class.0 < length image.classes
+class_of_field image x f at =
+    declares_field image.classes f.info.class.0 f.info.place (slice_get image.classes f.info.class.0) refl f.def (field_there image x f at).1
+
+class_of_method : (image : Image) (n : ℕ) (m : Method) → method_at image n ≡ Some m → m.info.class.0 < length image.classes
+class_of_method image n m at =
+    declares_method image.classes m.info.class.0 m.info.place (slice_get image.classes m.info.class.0) refl m.def (method_there image n m at).1
+
+-- ---- the types of pools
+
+abbrev with_pools_of : Image → MethodInfo → Option Body → MethodInfo
+with_pools_of image i o =
+    elim o [
+      | None ↦ i
+      | Some b ↦ record { class = i.class; place = i.place; types = b.types; fields = field_ids image b; methods = method_ids image b }
+    ]
+
+-- a method with pools has the class and the place that it has without
+same_place : (image : Image) (i : MethodInfo) (o : Option Body) → ((with_pools_of image i o).class ≡ i.class) × ((with_pools_of image i o).place ≡ i.place)
+same_place image i None = (refl, refl)
+same_place image i (Some b) = (refl, refl)
+
+-- and the types of its body
+with_pools_types : (image : Image) (i : MethodInfo) (m : Method) (b : Body) → method_with_pools image i ≡ m.info → slice_get (methods_of (slice_get image.classes m.info.class.0)) m.info.place ≡ Some m.def → m.def.body ≡ Some b → m.info.types ≡ b.types
+with_pools_types image i m b pooled declared body =
+    let kept = same_place image i (body_at image i) in
+    let class_same : i.class ≡ m.info.class = sym kept.0 ∙ ap (λ (j : MethodInfo). j.class) pooled in
+    let place_same : i.place ≡ m.info.place = sym kept.1 ∙ ap (λ (j : MethodInfo). j.place) pooled in
+    let found : body_at image i ≡ Some b =
+    ap (λ (c : ClassId). body_in (slice_get (methods_of (slice_get image.classes c.0)) i.place)) class_same ∙
+    (ap (λ (k : ℕ). body_in (slice_get (methods_of (slice_get image.classes m.info.class.0)) k)) place_same ∙
+    (ap body_in declared ∙ body)) in
+    sym (ap (λ (j : MethodInfo). j.types) pooled) ∙ ap (λ (o : Option Body). (with_pools_of image i o).types) found
+
+module _ (image : Image) (is : IsImage image) where
+  abbrev own : Image
+  own = numbered (defs image.classes) image.boot
+
+  method_types : (n : ℕ) (m : Method) (b : Body) → method_at image n ≡ Some m → m.def.body ≡ Some b → m.info.types ≡ b.types
+  method_types n m b at body = by (slice_get own.methods n) refl
+    where
+      by : (o : Option MethodInfo) → slice_get own.methods n ≡ o → m.info.types ≡ b.types
+      by o unpooled = from o (sym told ∙ (method_there image n m at).0)
+        where
+          told : slice_get image.methods n ≡ option_map (method_with_pools image) o
+          told =
+              ap (λ (ms : List MethodInfo). slice_get ms n) (image_methods_own image is) ∙
+              (slice_get-map (method_with_pools image) own.methods n ∙ ap (option_map (method_with_pools image)) unpooled)
+
+          from : (o : Option MethodInfo) → option_map (method_with_pools image) o ≡ Some m.info → m.info.types ≡ b.types
+          from None e = absurd (cc)
+          from (Some i) e =
+              let pooled : method_with_pools image i ≡ m.info = cc in
+              with_pools_types image i m b pooled (method_there image n m at).1 body
+
+  types_of_body : (n : ℕ) (m : Method) → method_at image n ≡ Some m → (o : Option Body) → m.def.body ≡ o → (code : Code) → with_body m o ≡ Some code → code.method.info.types ≡ code.body.types
+  types_of_body n m at None body code is_code = absurd (cc)
+  types_of_body n m at (Some b) body code is_code =
+      let made : Code = record { method = m; body = b; tiles = tiles_in (tiling b.units) } in
+      let same : made ≡ code = cc in
+      subst (λ (c : Code). c.method.info.types ≡ c.body.types) same (method_types n m b at body)
+
+  types_of_method : (n : ℕ) (o : Option Method) → method_at image n ≡ o → (code : Code) → code_of o ≡ Some code → code.method.info.types ≡ code.body.types
+  types_of_method n None at code is_code = absurd (cc)
+  types_of_method n (Some m) at code is_code = types_of_body n m at m.def.body refl code is_code
+
+  types_of_code : (n : ℕ) (code : Code) → code_at image n ≡ Some code → code.method.info.types ≡ code.body.types
+  unfolding code_at
+  types_of_code n code at = types_of_method n (method_at image n) refl code at
+
+pub image_pools : (image : Image) → IsImage image → HasPools image
+image_pools image is =
+    record { fields = class_of_field image; methods = class_of_method image; types = types_of_code image is }

@@ -1,0 +1,19 @@
+//! Laws of linked images. Each law is the contract of a function that does nothing.
+#![tactic(auto)]
+
+ghost use Rattle.dv_linked.specs.Laws.{LinkedImagesHaveLinking, LinkedTypesAreOrdered, LinkedRunsNeverGoWrong};
+
+/// Each image that linking gives is what the laws of the machine take of an image.
+pub fn linked_images_have_linking()
+    ensures law { LinkedImagesHaveLinking }
+{}
+
+/// In each image that linking gives subtype is an order, and assignable, instance and fits go along it.
+pub fn linked_types_are_ordered()
+    ensures law { LinkedTypesAreOrdered }
+{}
+
+/// No run of a main method of a linked image that the verifier accepts is ever stuck, on any schedule.
+pub fn linked_runs_never_go_wrong()
+    ensures law { LinkedRunsNeverGoWrong }
+{}
