@@ -1,10 +1,15 @@
 -- What linking gives of an image is what the laws of the machine take.
-use Rattle.dv_linked.specs.Laws.{LinkedImagesHaveLinking, LinkedTypesAreOrdered, LinkedRunsNeverGoWrong}
+use Rattle.dv_linked.specs.Laws.{LinkedImagesHaveLinking, LinkedTypesAreOrdered, LinkedTypesHaveCommon, LinkedTablesAgree, LinkedRunsNeverGoWrong}
 use Rattle.dv_laws.proofs.lemmas.Order.Laws.{types_are_ordered}
 use Rattle.dv_laws.proofs.lemmas.Bridge.Laws.{bridge_holds}
 use Rattle.dv_laws.proofs.lemmas.Opening.State.{opening_is_well_typed}
 use Rattle.dv_laws.proofs.lemmas.Steps.Sound.{steps_are_sound}
 use Rattle.dv_laws.proofs.lemmas.Steps.Runs.{runs_never_go_wrong}
+use Rattle.std.proofs.Common.{ap, ◌∙◌}
+use Rattle.std.specs.Prelude.{find}
+use Rattle.dv_laws.proofs.lemmas.Order.Arrays.{super_common}
+use Rattle.dv_linklaws.specs.Landing.{has_key_at}
+use Rattle.dv_linklaws.proofs.TableLaws.{image_table, table_agrees}
 use Rattle.dv_linked.proofs.HierarchyLaw.{image_hierarchy}
 use Rattle.dv_linked.proofs.SlotsLaw.{image_slots}
 use Rattle.dv_linked.proofs.BodiesLaw.{image_bodies}
@@ -28,3 +33,12 @@ linked_types_are_ordered image is = types_are_ordered image (image_hierarchy ima
 
 pub linked_runs_never_go_wrong : LinkedRunsNeverGoWrong
 linked_runs_never_go_wrong image is = runs_never_go_wrong bridge_holds opening_is_well_typed steps_are_sound image (linked_images_have_linking image is)
+
+pub linked_types_have_common : LinkedTypesHaveCommon
+linked_types_have_common image is a b first second =
+    let common = super_common image (image_hierarchy image is) a b first second in
+    record { first = common.first; second = common.second; least = common.least }
+
+pub linked_tables_agree : LinkedTablesAgree
+linked_tables_agree image is c info there name p other =
+    ap (find (has_key_at image name p)) (image_table image is c info there) ∙ table_agrees image c name p other

@@ -1,8 +1,17 @@
 -- What holds of each linked image, as statements.
+use Rattle.std.specs.Prelude.{◌≡◌, ℕ, true, false, List, Some, slice_get, bytes_eq, find}
+use Rattle.dv_defs.specs.declared.image.ClassInfo.{ClassInfo}
+use Rattle.dv_defs.specs.declared.names.Proto.{Proto}
+use Rattle.dv_defs.specs.declared.names.Ty.{Ty}
 use Rattle.dv_defs.specs.Accepting.{Accepts}
 use Rattle.dv_defs.specs.Images.{Image}
 use Rattle.dv_defs.specs.Linked.{IsImage}
+use Rattle.dv_defs.specs.Joins.{common_super}
+use Rattle.dv_defs.specs.Names.{init_name}
+use Rattle.dv_defs.specs.Order.{sub}
 use Rattle.dv_defs.specs.Pools.{Method}
+use Rattle.dv_defs.specs.Types.{is_reference}
+use Rattle.dv_linklaws.specs.Landing.{has_key_at, landing_of}
 use Rattle.dv_defs.specs.declared.run.Limits.{Limits}
 use Rattle.dv_machine.specs.Accepted.{IsOrder}
 use Rattle.dv_machine.specs.StepLaws.{IsMain}
@@ -16,6 +25,25 @@ LinkedImagesHaveLinking = (image : Image) → IsImage image → HasLinking image
 -- its subtypes are ordered
 abbrev pub LinkedTypesAreOrdered : Type 0
 LinkedTypesAreOrdered = (image : Image) → IsImage image → IsOrder image
+
+-- a type that is above both and under each other that is
+pub record IsNearestCommon (image : Image) (a b c : Ty) : Type 0 where
+  pub first : sub image a c ≡ true
+  pub second : sub image b c ≡ true
+  pub least : (e : Ty) → sub image a e ≡ true → sub image b e ≡ true → sub image c e ≡ true
+
+-- two reference types have it
+abbrev pub LinkedTypesHaveCommon : Type 0
+LinkedTypesHaveCommon =
+    (image : Image) → IsImage image → (a b : Ty) → is_reference a ≡ true → is_reference b ≡ true →
+    IsNearestCommon image a b (common_super image a b)
+
+-- the table of a class has, at the first place with a name and a prototype, what look-up finds: none where it finds none
+abbrev pub LinkedTablesAgree : Type 0
+LinkedTablesAgree =
+    (image : Image) → IsImage image → (c : ℕ) (info : ClassInfo) → slice_get image.classes c ≡ Some info →
+    (name : List ℕ) (p : Proto) → bytes_eq name init_name ≡ false →
+    find (has_key_at image name p) info.table ≡ landing_of image c name p
 
 -- and where the verifier accepts it, no run is ever stuck
 abbrev pub LinkedRunsNeverGoWrong : Type 0
