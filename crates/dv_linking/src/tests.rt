@@ -218,7 +218,7 @@ fn read<R: Abort>(rt: &R, alloc: Global, text: &str) -> Vec<ClassDef> {
 }
 
 // The boot classes, and then those of a text.
-pub fn with_boot<R: Abort>(rt: &R, alloc: Global, text: &str) -> Result<Vec<ClassDef>, AllocError> {
+fn with_boot<R: Abort>(rt: &R, alloc: Global, text: &str) -> Result<Vec<ClassDef>, AllocError> {
     let mut classes = read(rt, alloc, boot_text());
     for class in read(rt, alloc, text) {
         classes.push(class)?;
