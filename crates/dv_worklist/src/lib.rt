@@ -1,0 +1,9 @@
+//! The least assignment of states to places that is closed under their flow, by a worklist
+//! (Kildall 1973; Nielson, Nielson and Hankin, "Principles of Program Analysis", 2.4).
+#![tactic(auto)]
+
+mod flows;
+mod solve;
+
+pub use flows::{Flow, Onward};
+pub use solve::least;
