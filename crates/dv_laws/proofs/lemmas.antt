@@ -1,6 +1,5 @@
 -- The lemmas, by topic; what belongs to one function of src stands in a folder of its own beside this.
 pub mod Common
-pub mod Order
 pub mod Bridge
 pub mod Examples
 pub mod Registers

@@ -2,7 +2,8 @@
 use Rattle.dv_defs.specs.Images.{Image}
 use Rattle.dv_defs.specs.Accepting.{Accepts}
 use Rattle.dv_machine.specs.WellTyped.{Typings}
-use Rattle.dv_machine.specs.Accepted.{IsHierarchy, KeepsSlots, HasBodies, HasPools, HasInits, HasBoot, Accepted}
+use Rattle.dv_orders.specs.Hierarchy.{IsHierarchy}
+use Rattle.dv_machine.specs.Accepted.{KeepsSlots, HasBodies, HasPools, HasInits, HasBoot, Accepted}
 
 -- what linking gives of an image
 pub record HasLinking (image : Image) : Type 0 where

@@ -8,7 +8,7 @@ use Rattle.dv_defs.specs.declared.typing.RegState.{RegState}
 use Rattle.dv_defs.specs.Heap.{Heap}
 use Rattle.dv_defs.specs.RegTypes.{Types, type_at, under, IsBelow}
 use Rattle.dv_machine.specs.Conforming.{Own, Conforms, IsGood, Conform}
-use Rattle.dv_machine.specs.Accepted.{IsOrder}
+use Rattle.dv_orders.specs.Hierarchy.{IsOrder}
 
 -- a value that conforms to a type conforms to each type above it
 abbrev pub ValueConformityGoesUp : Type 0

@@ -22,7 +22,8 @@ use Rattle.dv_machine.specs.State.{reg_at, read_int, kept_int, read_two, read_lo
 use Rattle.dv_machine.specs.Local.{read_arg, test_both, test_zero, pending_int, pending_object}
 use Rattle.dv_machine.specs.Calls.{object_of, read_new, pending_words}
 use Rattle.dv_machine.specs.Conforming.{Own, Conforms, RegsConform, IsGood, IsThere, Fits, ResultConforms, RefFine}
-use Rattle.dv_machine.specs.Accepted.{IsOrder, Accepted}
+use Rattle.dv_orders.specs.Hierarchy.{IsOrder}
+use Rattle.dv_machine.specs.Accepted.{Accepted}
 use Rattle.dv_machine.specs.Premises.{HoldsOf}
 use Rattle.dv_machine.specs.WellTyped.{Typings, own_of}
 

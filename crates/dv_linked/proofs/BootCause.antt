@@ -23,7 +23,7 @@ use Rattle.dv_defs.specs.Boot.{Row, word, flags_are, field_rows, field_is, field
 use Rattle.dv_defs.specs.Numbering.{class_numbered, declared, numbered}
 use Rattle.dv_defs.specs.Linked.{IsImage, defs}
 use Rattle.dv_machine.specs.Unwinding.{exception_name, number_named, is_named_field, slot_among, throwable_slot}
-use Rattle.dv_laws.proofs.lemmas.Order.Equal.{ty_is}
+use Rattle.dv_orders.proofs.Equal.{ty_is}
 use Rattle.dv_linklaws.specs.Stripped.{field_stripped}
 use Rattle.dv_linklaws.proofs.Members.{numbered_fields, first_field, field_of, field_numbered}
 use Rattle.dv_linklaws.proofs.AlikeImages.{alike_field_at}

@@ -23,7 +23,7 @@ use Rattle.dv_defs.specs.Linked.{IsImage}
 use Rattle.dv_machine.specs.Conforming.{is_string_or_class}
 use Rattle.dv_machine.specs.Unwinding.{exception_name}
 use Rattle.dv_machine.specs.Accepted.{IsNamed}
-use Rattle.dv_laws.proofs.lemmas.Order.Equal.{ty_is}
+use Rattle.dv_orders.proofs.Equal.{ty_is}
 use Rattle.dv_linklaws.proofs.Reach.{reaches_here, reaches_up, reaches_bounded}
 use Rattle.dv_linklaws.proofs.Upward.{parent_is_above}
 use Rattle.dv_linklaws.proofs.OrderedImages.{image_ordered}

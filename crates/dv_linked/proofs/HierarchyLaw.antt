@@ -11,7 +11,7 @@ use Rattle.dv_defs.specs.Names.{object_name}
 use Rattle.dv_defs.specs.Pools.{class_named, declared_name, name_at, parent_at, is_interface}
 use Rattle.dv_defs.specs.Numbering.{declared, numbered, names_of}
 use Rattle.dv_defs.specs.Linked.{IsImage, defs}
-use Rattle.dv_machine.specs.Accepted.{IsHierarchy}
+use Rattle.dv_orders.specs.Hierarchy.{IsHierarchy}
 use Rattle.dv_linklaws.specs.Ordered.{IsOrdered}
 use Rattle.dv_linklaws.proofs.Names.{named_is_position}
 use Rattle.dv_linklaws.proofs.Reach.{above_in}

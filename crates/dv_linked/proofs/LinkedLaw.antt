@@ -1,13 +1,13 @@
 -- What linking gives of an image is what the laws of the machine take.
 use Rattle.dv_linked.specs.Laws.{LinkedImagesHaveLinking, LinkedTypesAreOrdered, LinkedTypesHaveCommon, LinkedTablesAgree, LinkedRunsNeverGoWrong}
-use Rattle.dv_laws.proofs.lemmas.Order.Laws.{types_are_ordered}
+use Rattle.dv_orders.proofs.Laws.{types_are_ordered}
 use Rattle.dv_laws.proofs.lemmas.Bridge.Laws.{bridge_holds}
 use Rattle.dv_laws.proofs.lemmas.Opening.State.{opening_is_well_typed}
 use Rattle.dv_laws.proofs.lemmas.Steps.Sound.{steps_are_sound}
 use Rattle.dv_laws.proofs.lemmas.Steps.Runs.{runs_never_go_wrong}
 use Rattle.std.proofs.Common.{ap, ◌∙◌}
 use Rattle.std.specs.Prelude.{find}
-use Rattle.dv_laws.proofs.lemmas.Order.Arrays.{super_common}
+use Rattle.dv_orders.proofs.Arrays.{super_common}
 use Rattle.dv_linklaws.specs.Landing.{has_key_at}
 use Rattle.dv_linklaws.proofs.TableLaws.{image_table, table_agrees}
 use Rattle.dv_linked.proofs.HierarchyLaw.{image_hierarchy}

@@ -11,7 +11,7 @@ use Rattle.dv_defs.specs.Types.{words_of, of_class}
 use Rattle.dv_defs.specs.declared.names.Ty.{Ty}
 use Rattle.dv_defs.specs.declared.names.Base.TheVariants as base_kind
 use Rattle.dv_defs.specs.declared.class.FieldDef.{FieldDef}
-use Rattle.dv_laws.proofs.lemmas.Order.Types.{AreUnder, IsUnder, type_is, flat_under}
+use Rattle.dv_orders.proofs.Types.{AreUnder, IsUnder, type_is, flat_under}
 use Rattle.dv_defs.specs.Pools.{Field, field_at, name_at, class_type, class_named, supers, walk, parent_at, is_interface, is_static_field, declared_name, fields_of, with_field, with_field_info}
 use Rattle.dv_defs.specs.Order.{has_number, instance, implements, extends}
 use Rattle.dv_defs.specs.RegTypes.{reg_types, type_at}

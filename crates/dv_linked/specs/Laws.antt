@@ -13,7 +13,7 @@ use Rattle.dv_defs.specs.Pools.{Method}
 use Rattle.dv_defs.specs.Types.{is_reference}
 use Rattle.dv_linklaws.specs.Landing.{has_key_at, landing_of}
 use Rattle.dv_defs.specs.declared.run.Limits.{Limits}
-use Rattle.dv_machine.specs.Accepted.{IsOrder}
+use Rattle.dv_orders.specs.Hierarchy.{IsOrder}
 use Rattle.dv_machine.specs.StepLaws.{IsMain}
 use Rattle.dv_laws.specs.Bridge.{HasLinking}
 use Rattle.dv_laws.specs.Running.{NeverGoesWrong}

@@ -1,5 +1,6 @@
 -- The statements of the laws, side by side.
-use Rattle.dv_machine.specs.Laws.{DecodingInvertsSpelling, TypesAreOrdered, StatesAreOrdered, JoinIsLeast, TransferIsMonotone, DemandIsAntitone, AcceptanceGivesRecords, LookUpsFind}
+use Rattle.dv_machine.specs.Laws.{DecodingInvertsSpelling, AcceptanceGivesRecords, LookUpsFind}
+use Rattle.dv_orders.specs.Laws.{TypesAreOrdered, StatesAreOrdered, JoinIsLeast, TransferIsMonotone, DemandIsAntitone}
 use Rattle.dv_machine.specs.StepLaws.{WriteKeeps, LongWriteKeeps, NewInstanceKeeps, ConstructorKeeps, OwnConstructorKeeps, ObjectIsAdded, ArrayIsAdded, StringIsAdded, StringIsInterned, ClassObjectIsGot, GrowthKeeps, StoreKeeps, StaticStoreKeeps, EntryConforms, InvokesPush, ReturnsPop, LocalStepsAreFine, HeapStepsAreFine, ThrowerIsHandled, CallersAreHandled, NeedersAreHandled, FlightsAreFine, NeedsAreFine, RecordsAreFine, MonitorStepsAreFine, NewThreadIsFine, BlockedStepsWait, EndedStepsStay, LeftIsWellTyped, SettledIsWellTyped, SettledRecordIsWellTyped, OpeningIsWellTyped, StepsAreSound}
 
 pub record AllLaws : Type 0 where

@@ -1,5 +1,5 @@
--- Facts that many topics use: contradictions, options, lists, demands, and the code of methods.
-pub mod Demands
+-- Facts that many topics use: objects and registers, lists, the code of methods, and conformity along the order of states.
+pub mod Conformity
 pub mod Facts
 pub mod Lists
 pub mod MethodCode

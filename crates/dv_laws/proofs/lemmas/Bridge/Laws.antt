@@ -1,6 +1,6 @@
 -- A linked image that the verifier accepts is what the laws take.
 use Rattle.dv_laws.specs.Bridge.{BridgeHolds}
-use Rattle.dv_laws.proofs.lemmas.Order.Laws.{types_are_ordered}
+use Rattle.dv_orders.proofs.Laws.{types_are_ordered}
 use Rattle.dv_laws.proofs.lemmas.Bridge.LookUps.{look_ups_find}
 use Rattle.dv_laws.proofs.lemmas.Bridge.Records.{acceptance_gives_records}
 

@@ -15,9 +15,9 @@ use Rattle.dv_defs.specs.Types.{ty_eq, same_types, same_result, same_proto}
 use Rattle.dv_defs.specs.Pools.{Method, Field, with_def, with_info, methods_of, method_at, with_field, with_field_info, fields_of, field_at, is_static, is_private, pick, declared_by, is_virtual_of, first_of_classes, nearest, no_arguments, is_initialiser, initialiser, supers}
 use Rattle.dv_defs.specs.Order.{has_number}
 use Rattle.dv_machine.specs.Laws.{LookUpsFind}
-use Rattle.dv_laws.proofs.lemmas.Common.Facts.{no, by_second, is_there}
-use Rattle.dv_laws.proofs.lemmas.Order.Walks.{has_head}
-use Rattle.dv_laws.proofs.lemmas.Order.Equal.{ty_is, names_are}
+use Rattle.dv_orders.proofs.Facts.{no, by_second, is_there}
+use Rattle.dv_orders.proofs.Walks.{has_head}
+use Rattle.dv_orders.proofs.Equal.{ty_is, names_are}
 
 -- ---- by number
 

@@ -13,8 +13,8 @@ use Rattle.dv_defs.specs.Op.{Op, Goto, IfBoth, IfZero, Switch, Case, Code, Resol
 use Rattle.dv_defs.specs.Statics.{At, unless, moves_on, registers_below, all_lead, leads_to_insn, op_rules, resolved_rules, insn_rules, at_of, sound_at, at_tile, fetch_in, fetch, arg_words}
 use Rattle.dv_defs.specs.Flow.{Catcher, catchers, handlers_of, handlers_in, handlers_at, jumps}
 use Rattle.dv_defs.specs.Accepting.{Place, is_before, inserted, sorted, places, place_unless, item_places, tile_places, is_handler_type, handlers_good, try_places, first_places, no_units, places_by, static_places}
-use Rattle.dv_laws.proofs.lemmas.Common.Facts.{no}
-use Rattle.dv_laws.proofs.lemmas.Common.Demands.{only_rule}
+use Rattle.dv_orders.proofs.Facts.{no}
+use Rattle.dv_orders.proofs.Demanded.{only_rule}
 use Rattle.dv_laws.proofs.lemmas.Common.MethodCode.{code_is}
 use Rattle.dv_defs.specs.declared.faults.Rule.{Rule}
 use Rattle.dv_defs.specs.declared.faults.Rule.TheVariants as rule

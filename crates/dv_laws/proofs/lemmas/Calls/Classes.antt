@@ -17,9 +17,9 @@ use Rattle.dv_machine.specs.Calls.{class_of_kind}
 use Rattle.dv_machine.specs.Conforming.{IsOf}
 use Rattle.dv_machine.specs.WellTyped.{Typings}
 use Rattle.dv_machine.specs.Accepted.{Accepted}
-use Rattle.dv_laws.proofs.lemmas.Common.Facts.{no}
-use Rattle.dv_laws.proofs.lemmas.Order.Walks.{up, up_is, up_later, refuel_up, extends_same, is_above, named_is}
-use Rattle.dv_laws.proofs.lemmas.Order.Interfaces.{fits_reference}
+use Rattle.dv_orders.proofs.Facts.{no}
+use Rattle.dv_orders.proofs.Walks.{up, up_is, up_later, refuel_up, extends_same, is_above, named_is}
+use Rattle.dv_orders.proofs.Interfaces.{fits_reference}
 
 module _ (image : Image) where
   sub_named : (c d : ℕ) → class_named image (name_at image c) ≡ Some c → class_named image (name_at image d) ≡ Some d → extends image c d ≡ true → sub image (class_type image c) (class_type image d) ≡ true

@@ -32,16 +32,17 @@ use Rattle.dv_machine.specs.WellTyped.{Typings, own_of, this_above, called_on}
 use Rattle.dv_machine.specs.Accepted.{Accepted}
 use Rattle.dv_machine.specs.Premises.{DidFine, HoldsOf}
 use Rattle.dv_laws.specs.Reading.{AreWords, IsUnder, ReadsReceiver}
-use Rattle.dv_laws.proofs.lemmas.Common.Demands.{first_none, demanded}
+use Rattle.dv_orders.proofs.Demanded.{first_none, demanded}
 use Rattle.std.proofs.lemmas.Bool.{eqb-true, or_cases, eq-eqb}
 use Rattle.std.proofs.lemmas.Option.{same_Some, none-some}
-use Rattle.dv_laws.proofs.lemmas.Common.Facts.{no, fits_of}
+use Rattle.dv_orders.proofs.Facts.{no}
+use Rattle.dv_laws.proofs.lemmas.Common.Facts.{fits_of}
 use Rattle.dv_laws.proofs.lemmas.Returns.Constructed.{receiver_demanded, not_static}
 use Rattle.dv_laws.proofs.lemmas.Returns.Built.{IsProperAt, receiver_proper, receiver_there, this_proper, exactly_is}
 use Rattle.dv_laws.proofs.lemmas.Readers.Words.{reads_arguments, cons_good, this_good}
 use Rattle.dv_laws.proofs.lemmas.Local.Still.{IsQuiet}
 use Rattle.dv_laws.proofs.lemmas.Local.Stands.{Stands, read_then}
-use Rattle.dv_laws.proofs.lemmas.Order.Equal.{names_are}
+use Rattle.dv_orders.proofs.Equal.{names_are}
 use Rattle.dv_laws.proofs.lemmas.Calls.Classes.{parent_sub}
 use Rattle.dv_laws.proofs.lemmas.Calls.Words.{constructor_types, instance_types, begins_by_class, all_plain}
 use Rattle.dv_laws.proofs.lemmas.Calls.Dispatched.{constructor_not_native, of_instance}

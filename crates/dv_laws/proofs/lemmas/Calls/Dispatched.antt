@@ -15,9 +15,9 @@ use Rattle.dv_machine.specs.Calls.{Lands, Lacks, unless_abstract, found, nearest
 use Rattle.dv_machine.specs.Conforming.{IsOf}
 use Rattle.dv_machine.specs.WellTyped.{Typings, IsNoInitialiser}
 use Rattle.dv_machine.specs.Accepted.{Accepted}
-use Rattle.dv_laws.proofs.lemmas.Common.Facts.{no}
+use Rattle.dv_orders.proofs.Facts.{no}
 use Rattle.dv_laws.proofs.lemmas.Calls.Classes.{parent_sub, looked_up_fits, supers_sub}
-use Rattle.dv_laws.proofs.lemmas.Order.Equal.{names_are}
+use Rattle.dv_orders.proofs.Equal.{names_are}
 use Rattle.dv_laws.proofs.lemmas.Bridge.LookUps.{declared}
 
 -- ---- initialisers

@@ -32,8 +32,8 @@ use Rattle.dv_machine.specs.Conforming.{IsOf, Fits}
 use Rattle.dv_machine.specs.WellTyped.{Typings, own_of, this_above}
 use Rattle.dv_machine.specs.Premises.{DidFine, HoldsOf}
 use Rattle.dv_laws.specs.Reading.{AreWords}
-use Rattle.dv_laws.proofs.lemmas.Common.Facts.{no}
-use Rattle.dv_laws.proofs.lemmas.Common.Demands.{first_none, first_rule}
+use Rattle.dv_orders.proofs.Facts.{no}
+use Rattle.dv_orders.proofs.Demanded.{first_none, first_rule}
 use Rattle.dv_laws.proofs.lemmas.Calls.Resolved.{is_named}
 use Rattle.dv_laws.proofs.lemmas.Returns.Built.{invoke_named}
 use Rattle.dv_laws.proofs.lemmas.Readers.Plain.{reads_reference_to, holds_more}

@@ -23,7 +23,7 @@ use Rattle.dv_machine.specs.Step.{here}
 use Rattle.dv_machine.specs.WellTyped.{Typings, own_of, this_above, called_on, IsCalled, IsNoInitialiser}
 use Rattle.dv_machine.specs.Premises.{ThrowFine, DidFine}
 use Rattle.dv_laws.specs.Reading.{AreWords}
-use Rattle.dv_laws.proofs.lemmas.Common.Facts.{no}
+use Rattle.dv_orders.proofs.Facts.{no}
 use Rattle.dv_laws.proofs.lemmas.Monitors.Owners.{entry_none}
 use Rattle.dv_laws.proofs.lemmas.Local.Still.{IsQuiet}
 use Rattle.dv_laws.proofs.lemmas.Local.Stands.{Stands}

@@ -27,7 +27,7 @@ use Rattle.dv_machine.specs.Conforming.{IsGood, RefFine, RefsFine, Conform}
 use Rattle.dv_machine.specs.WellTyped.{Typings, own_of, this_above, records, IsPlaced, IsCalled, IsNoInitialiser, CodeFine}
 use Rattle.dv_machine.specs.Premises.{LeftFine, DidFine}
 use Rattle.dv_laws.proofs.lemmas.Calls.Entered.{entered_conforms}
-use Rattle.dv_laws.proofs.lemmas.Order.States.{frame_up}
+use Rattle.dv_laws.proofs.lemmas.Common.Conformity.{frame_up}
 use Rattle.dv_laws.proofs.lemmas.Local.Still.{still, same_shared, IsQuiet}
 use Rattle.dv_laws.proofs.lemmas.Local.Stands.{Stands, code_fine, frame_refs, rest_refs, stack_fine}
 use Rattle.dv_laws.proofs.lemmas.Common.MethodCode.{registers_are, the_code, code_there}

@@ -16,7 +16,7 @@ use Rattle.dv_defs.specs.Pools.{Method, Field, method_at, field_at, class_named}
 use Rattle.dv_defs.specs.Tiling.{Tile, tile_at, insn_in}
 use Rattle.dv_defs.specs.Op.{Op, Invoke, FieldGet, FieldPut, StaticGet, StaticPut, IntDivide, IntOp, LongDivide, LongShift, LongOp, New, Arg, Code, code_at, Resolved, on_pool, resolved_field, resolved_method, move_op, result_op, packed_op, sparse_op, fill_op, class_of_base, new_op, resolve, resolve_by, op_of}
 use Rattle.dv_defs.specs.Statics.{At, at_of, sound_at, at_tile, fetch_in, fetch, insn_rules}
-use Rattle.dv_laws.proofs.lemmas.Order.Walks.{named_inside}
+use Rattle.dv_orders.proofs.Walks.{named_inside}
 use Rattle.dv_defs.specs.declared.faults.Rule.{Rule}
 use Rattle.dv_defs.specs.declared.faults.Rule.TheVariants as rule
 

@@ -19,8 +19,8 @@ use Rattle.dv_defs.specs.Heap.{class_cells}
 use Rattle.dv_machine.specs.Conforming.{is_string_or_class}
 use Rattle.dv_machine.specs.Unwinding.{exception_name, number_named, throwable_slot}
 use Rattle.dv_machine.specs.Accepted.{IsNamed, HasBoot}
-use Rattle.dv_laws.proofs.lemmas.Common.Facts.{is_there}
-use Rattle.dv_laws.proofs.lemmas.Order.Equal.{names_are, reg_type_is}
+use Rattle.dv_orders.proofs.Facts.{is_there}
+use Rattle.dv_orders.proofs.Equal.{names_are, reg_type_is}
 use Rattle.dv_laws.proofs.lemmas.Examples.Tests.{all_below, below_is, from_or, if_some, some_is}
 use Rattle.dv_laws.proofs.lemmas.Examples.Members.{are_fields_fine, are_methods_fine, not_bare, out_is, placed_is}
 

@@ -10,9 +10,9 @@ use Rattle.dv_defs.specs.Flags.{has_flag}
 use Rattle.dv_defs.specs.Names.{object_name}
 use Rattle.dv_defs.specs.Pools.{class_named, parent_of, parent_at, name_at, is_interface, flags_of}
 use Rattle.dv_defs.specs.Order.{has_number, with_parent, above, interfaces_of}
-use Rattle.dv_machine.specs.Accepted.{IsHierarchy}
-use Rattle.dv_laws.proofs.lemmas.Common.Facts.{no, either}
-use Rattle.dv_laws.proofs.lemmas.Order.Equal.{names_are}
+use Rattle.dv_orders.specs.Hierarchy.{IsHierarchy}
+use Rattle.dv_orders.proofs.Facts.{no, either}
+use Rattle.dv_orders.proofs.Equal.{names_are}
 use Rattle.dv_laws.proofs.lemmas.Examples.Tests.{all_below, below_is, from_or, if_some, some_is}
 
 -- a test holds of each of these numbers

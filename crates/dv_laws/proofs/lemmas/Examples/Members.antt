@@ -19,8 +19,8 @@ use Rattle.dv_defs.specs.Heap.{class_cells}
 use Rattle.dv_machine.specs.Conforming.{is_string_or_class}
 use Rattle.dv_machine.specs.Calls.{native_of, signature}
 use Rattle.dv_machine.specs.Accepted.{KeepsSlots, HasBodies, HasPools, HasInits}
-use Rattle.dv_laws.proofs.lemmas.Common.Facts.{no, is_there}
-use Rattle.dv_laws.proofs.lemmas.Order.Equal.{ty_is, reg_type_is, names_equal}
+use Rattle.dv_orders.proofs.Facts.{no, is_there}
+use Rattle.dv_orders.proofs.Equal.{ty_is, reg_type_is, names_equal}
 use Rattle.dv_laws.proofs.lemmas.Bridge.LookUps.{proto_is, same_list}
 use Rattle.dv_laws.proofs.lemmas.Examples.Tests.{all_below, below_is, from_or, or_else, if_some, some_is}
 use Rattle.dv_laws.proofs.lemmas.Common.MethodCode.{code_is}

@@ -1,7 +1,7 @@
 -- Tests of each number below a bound, of one test or another, and of what an option holds.
 use Rattle.std.proofs.Common.{◌≡◌, inl, inr, ℕ, zero, suc, ◌<◌, Bool, true, false, ◌&&◌, ◌||◌, not, Option, Some, None, subst, arith}
 use Rattle.std.proofs.lemmas.Bool.{cases_lt, and_parts}
-use Rattle.dv_laws.proofs.lemmas.Common.Facts.{no}
+use Rattle.dv_orders.proofs.Facts.{no}
 
 abbrev pub all_below : (ℕ → Bool) → ℕ → Bool
 all_below f zero = true

@@ -19,7 +19,7 @@ use Rattle.dv_machine.specs.WellTyped.{Typings, this_above, IsPlaced, IsHandled,
 use Rattle.dv_machine.specs.Accepted.{Accepted}
 use Rattle.dv_machine.specs.Premises.{IsAt, KeepsKinds}
 use Rattle.dv_machine.specs.StepLaws.{ThrowerIsHandled, CallersAreHandled, NeedersAreHandled}
-use Rattle.dv_laws.proofs.lemmas.Common.Facts.{no}
+use Rattle.dv_orders.proofs.Facts.{no}
 use Rattle.dv_laws.proofs.lemmas.Growth.Kinds.{Either, conform_grown}
 use Rattle.dv_laws.proofs.lemmas.Exceptions.Handlers.{placed_handled, handlers_placed}
 

@@ -23,7 +23,7 @@ use Rattle.dv_machine.specs.Conforming.{RefsFine}
 use Rattle.dv_machine.specs.WellTyped.{Typings, this_above, IsHandled, IsThrowable, CodeFine, StackFine, lowest, IsCode, ThreadFine, HeapFine, records, owed, levels_in, WellTyped}
 use Rattle.dv_machine.specs.Premises.{IsAt, IsAtRecord, KeepsKinds}
 use Rattle.dv_machine.specs.StepLaws.{SettledIsWellTyped, SettledRecordIsWellTyped}
-use Rattle.dv_laws.proofs.lemmas.Common.Facts.{nothing}
+use Rattle.dv_orders.proofs.Facts.{nothing}
 use Rattle.dv_laws.proofs.lemmas.Common.Lists.{all_at}
 use Rattle.dv_laws.proofs.lemmas.Growth.Kinds.{all_refs_grown, stack_grown}
 use Rattle.dv_laws.proofs.lemmas.Growth.Keeps.{stopped_typed}

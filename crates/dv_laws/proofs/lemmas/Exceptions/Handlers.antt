@@ -21,8 +21,8 @@ use Rattle.dv_machine.specs.Unwinding.{catches, caught_frame}
 use Rattle.dv_machine.specs.Conforming.{IsOf, Conform}
 use Rattle.dv_machine.specs.WellTyped.{Typings, own_of, IsPlaced, IsHandled, IsThrowable}
 use Rattle.dv_machine.specs.Accepted.{Accepted, IsFine, FindsRightly}
-use Rattle.dv_laws.proofs.lemmas.Order.States.{frame_up}
-use Rattle.dv_laws.proofs.lemmas.Order.Interfaces.{fits_reference}
+use Rattle.dv_laws.proofs.lemmas.Common.Conformity.{frame_up}
+use Rattle.dv_orders.proofs.Interfaces.{fits_reference}
 
 -- ---- code
 

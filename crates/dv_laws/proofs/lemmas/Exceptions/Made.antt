@@ -15,7 +15,7 @@ use Rattle.dv_machine.specs.Conforming.{is_string_or_class}
 use Rattle.dv_machine.specs.WellTyped.{Typings, IsThrowable, HeapFine}
 use Rattle.dv_machine.specs.Accepted.{Accepted}
 use Rattle.dv_machine.specs.StepLaws.{IsAdded}
-use Rattle.dv_laws.proofs.lemmas.Order.Walks.{named_is}
+use Rattle.dv_orders.proofs.Walks.{named_is}
 use Rattle.dv_laws.proofs.lemmas.Heap.Added.{object_is_added}
 
 number_is : (image : Image) (name : List ℕ) (c : ℕ) → class_named image name ≡ Some c → number_named image name ≡ c

@@ -19,7 +19,7 @@ use Rattle.dv_machine.specs.Conforming.{IsObject, IsThere, RefsFine}
 use Rattle.dv_machine.specs.WellTyped.{Typings, this_above, IsPlaced, IsThrowable, StackFine, FlightFine, lowest, IsCode, ThreadFine, WaitFine, records, WellTyped}
 use Rattle.dv_machine.specs.Accepted.{Accepted}
 use Rattle.dv_machine.specs.Premises.{HoldsOf}
-use Rattle.dv_laws.proofs.lemmas.Common.Facts.{nothing}
+use Rattle.dv_orders.proofs.Facts.{nothing}
 use Rattle.dv_laws.proofs.lemmas.Growth.Kinds.{either_map}
 use Rattle.dv_laws.proofs.lemmas.Growth.Threads.{records_after, left_is_well_typed}
 use Rattle.dv_laws.proofs.lemmas.Monitors.Owners.{entry_none}

@@ -9,8 +9,8 @@ use Rattle.dv_defs.specs.declared.machine.Kind.TheVariants as kind
 use Rattle.dv_defs.specs.Heap.{Heap, Got, kind_of, has_room, newest, grown_within, alloc_string, is_text, is_class_of, found_among, with_interned, with_class_object}
 use Rattle.dv_machine.specs.WellTyped.{HeapFine}
 use Rattle.dv_machine.specs.StepLaws.{IsAdded, StringIsInterned, ClassObjectIsGot}
-use Rattle.dv_laws.proofs.lemmas.Common.Facts.{no}
-use Rattle.dv_laws.proofs.lemmas.Order.Equal.{ty_is, names_are}
+use Rattle.dv_orders.proofs.Facts.{no}
+use Rattle.dv_orders.proofs.Equal.{ty_is, names_are}
 use Rattle.dv_laws.proofs.lemmas.Heap.Cells.{fit_grown}
 use Rattle.dv_laws.proofs.lemmas.Heap.Added.{is_added, room_is, bare_fits, string_is_added}
 

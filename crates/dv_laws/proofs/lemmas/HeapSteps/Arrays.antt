@@ -33,7 +33,7 @@ use Rattle.dv_machine.specs.Conforming.{Conforms}
 use Rattle.dv_machine.specs.WellTyped.{Typings, own_of, this_above, nobody}
 use Rattle.dv_machine.specs.Premises.{ThrowFine, DidFine, HoldsOf}
 use Rattle.dv_laws.specs.Reading.{Anything, IsArrayOf, IsArrayOrNull, GoesDown}
-use Rattle.dv_laws.proofs.lemmas.Common.Facts.{no}
+use Rattle.dv_orders.proofs.Facts.{no}
 use Rattle.dv_laws.proofs.lemmas.HeapSteps.Left.{put_left}
 use Rattle.dv_laws.proofs.lemmas.HeapSteps.Plain.{demand_of, out_of, throws}
 use Rattle.dv_laws.proofs.lemmas.HeapSteps.Cells.{cell_ref, words_at_is}
@@ -42,7 +42,7 @@ use Rattle.dv_laws.proofs.lemmas.HeapSteps.Fields.{conform_within, words_left}
 use Rattle.dv_laws.proofs.lemmas.Local.Stands.{Stands, read_then}
 use Rattle.dv_laws.proofs.lemmas.Readers.Plain.{reads_int, holds_more}
 use Rattle.dv_laws.proofs.lemmas.Readers.Arrays.{reads_array, tests_go_down}
-use Rattle.dv_laws.proofs.lemmas.Common.Demands.{first_none, demanded}
+use Rattle.dv_orders.proofs.Demanded.{first_none, demanded}
 use Rattle.dv_defs.specs.declared.faults.Rule.TheVariants as rule
 
 -- a type of one word is written as it is

@@ -19,7 +19,7 @@ use Rattle.dv_machine.specs.Mem.{words_at, narrowed, narrowed_all, stored, stati
 use Rattle.dv_machine.specs.Conforming.{Own, Fits, IsThere, Conforms, IsUninit, RefFine}
 use Rattle.dv_machine.specs.WellTyped.{nobody, cell_types, HeapFine}
 use Rattle.dv_machine.specs.Premises.{KeepsKinds}
-use Rattle.dv_laws.proofs.lemmas.Common.Facts.{plus_zero, plus_suc}
+use Rattle.dv_orders.proofs.Facts.{plus_zero, plus_suc}
 use Rattle.dv_laws.proofs.lemmas.Growth.Kinds.{conforms_grown}
 use Rattle.dv_laws.proofs.lemmas.Heap.Cells.{IsCell, AreCells, same_cell_types}
 use Rattle.dv_laws.proofs.lemmas.Heap.Stored.{store_keeps, static_store_keeps}

@@ -20,9 +20,9 @@ use Rattle.dv_machine.specs.State.{reg_at}
 use Rattle.dv_machine.specs.Mem.{narrowed, fill_words, filled}
 use Rattle.dv_machine.specs.Conforming.{Conforms}
 use Rattle.dv_machine.specs.WellTyped.{nobody, element_types}
-use Rattle.dv_laws.proofs.lemmas.Common.Facts.{no}
+use Rattle.dv_orders.proofs.Facts.{no}
 use Rattle.dv_laws.proofs.lemmas.Heap.Cells.{reg_count}
-use Rattle.dv_laws.proofs.lemmas.Order.Equal.{base_plain}
+use Rattle.dv_orders.proofs.Equal.{base_plain}
 
 -- ---- places
 

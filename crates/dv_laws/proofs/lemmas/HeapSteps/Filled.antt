@@ -33,7 +33,8 @@ use Rattle.dv_machine.specs.WellTyped.{Typings, own_of, this_above, nobody, elem
 use Rattle.dv_machine.specs.Premises.{KeepsKinds, ThrowFine, DidFine, HoldsOf}
 use Rattle.dv_machine.specs.StepLaws.{IsAdded}
 use Rattle.dv_laws.specs.Reading.{Anything}
-use Rattle.dv_laws.proofs.lemmas.Common.Facts.{fits_of, zero_plus}
+use Rattle.dv_laws.proofs.lemmas.Common.Facts.{fits_of}
+use Rattle.dv_orders.proofs.Facts.{zero_plus}
 use Rattle.dv_laws.proofs.lemmas.Growth.Kinds.{conforms_grown}
 use Rattle.dv_laws.proofs.lemmas.Heap.Added.{array_is_added}
 use Rattle.dv_laws.proofs.lemmas.HeapSteps.Left.{room_then, true_then, result_left}
@@ -47,7 +48,7 @@ use Rattle.dv_laws.proofs.lemmas.Local.Stands.{Stands, read_then}
 use Rattle.dv_laws.proofs.lemmas.Readers.Plain.{next_holds, reads_int}
 use Rattle.dv_laws.proofs.lemmas.Readers.Words.{IsWord, AreWordsOf, words, single_holds}
 use Rattle.dv_laws.proofs.lemmas.Readers.Arrays.{tests_go_down}
-use Rattle.dv_laws.proofs.lemmas.Common.Demands.{first_none, only_rule}
+use Rattle.dv_orders.proofs.Demanded.{first_none, only_rule}
 use Rattle.dv_defs.specs.declared.faults.Rule.TheVariants as rule
 
 module _ (image : Image) (T : Typings) (m : Machine) (t : ℕ) (thread : Thread) (own : Method) (f : Frame) (rest : List Level) (x : At) (s : RegState) (h : Stands image T m t thread own f rest x s) (code : Code) (rules : op_rules image code x.op ≡ []) (apart : (c : Call) (ks : List ℕ) (g : Method) → x.op ≡ Invoke c ks g → ⊥) where

@@ -15,7 +15,7 @@ use Rattle.dv_machine.specs.Step.{act, local_left, here}
 use Rattle.dv_machine.specs.WellTyped.{Typings}
 use Rattle.dv_machine.specs.Premises.{DidFine}
 use Rattle.dv_machine.specs.StepLaws.{is_of_calls_or_monitors, HeapStepsAreFine}
-use Rattle.dv_laws.proofs.lemmas.Common.Facts.{no}
+use Rattle.dv_orders.proofs.Facts.{no}
 use Rattle.dv_laws.proofs.lemmas.HeapSteps.Plain.{divide_int, divide_long, const_string, const_class, new_array_fine, new_fine, throw_fine, instance_of, array_length, cast_fine}
 use Rattle.dv_laws.proofs.lemmas.HeapSteps.Members.{field_get, field_put, static_get, static_put}
 use Rattle.dv_laws.proofs.lemmas.HeapSteps.Arrays.{array_get}

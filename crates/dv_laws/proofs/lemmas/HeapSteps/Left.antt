@@ -31,13 +31,13 @@ use Rattle.dv_machine.specs.Conforming.{IsGood, RefFine, ResultFine, RefsFine, R
 use Rattle.dv_machine.specs.WellTyped.{Typings, own_of, this_above, HeapFine, records}
 use Rattle.dv_machine.specs.Premises.{KeepsKinds, LeftFine, ThrowFine, DidFine}
 use Rattle.dv_machine.specs.StepLaws.{IsFrom}
-use Rattle.dv_laws.proofs.lemmas.Common.Facts.{nothing}
+use Rattle.dv_orders.proofs.Facts.{nothing}
 use Rattle.dv_laws.proofs.lemmas.Growth.Kinds.{good_grown, refs_grown, all_refs_grown, stack_grown}
 use Rattle.dv_laws.proofs.lemmas.Growth.Threads.{records_after}
 use Rattle.dv_laws.proofs.lemmas.Monitors.Owners.{entry_none}
 use Rattle.dv_laws.proofs.lemmas.Monitors.Moved.{quiet_moved}
 use Rattle.dv_laws.proofs.lemmas.Exceptions.Flown.{living_fine, records_of, lowest_top}
-use Rattle.dv_laws.proofs.lemmas.Order.States.{frame_up}
+use Rattle.dv_laws.proofs.lemmas.Common.Conformity.{frame_up}
 use Rattle.dv_laws.proofs.lemmas.Registers.Written.{write_keeps, long_write_keeps}
 use Rattle.dv_laws.proofs.lemmas.Local.Stands.{Stands, rest_refs, frame_refs}
 use Rattle.dv_laws.proofs.lemmas.Local.Fine.{quiet}

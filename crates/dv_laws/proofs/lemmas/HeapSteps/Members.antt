@@ -26,7 +26,7 @@ use Rattle.dv_machine.specs.Conforming.{Fits, Conforms}
 use Rattle.dv_machine.specs.WellTyped.{Typings, own_of, this_above, nobody}
 use Rattle.dv_machine.specs.Premises.{ThrowFine, DidFine, HoldsOf}
 use Rattle.dv_laws.specs.Reading.{AreWords}
-use Rattle.dv_laws.proofs.lemmas.Common.Facts.{no, zero_plus}
+use Rattle.dv_orders.proofs.Facts.{no, zero_plus}
 use Rattle.dv_laws.proofs.lemmas.Heap.Cells.{reg_cells}
 use Rattle.dv_laws.proofs.lemmas.HeapSteps.Left.{gone_left}
 use Rattle.dv_laws.proofs.lemmas.HeapSteps.Plain.{demand_of, out_of, throws}
@@ -37,7 +37,7 @@ use Rattle.dv_laws.proofs.lemmas.Local.Stands.{Stands, read_then}
 use Rattle.dv_laws.proofs.lemmas.Readers.Plain.{reads_reference_to, holds_more}
 use Rattle.dv_laws.proofs.lemmas.Readers.Words.{reads_value}
 use Rattle.dv_laws.proofs.lemmas.Calls.Resolved.{IsNamed, is_named}
-use Rattle.dv_laws.proofs.lemmas.Common.Demands.{first_none, demanded, only_rule}
+use Rattle.dv_orders.proofs.Demanded.{first_none, demanded, only_rule}
 use Rattle.dv_defs.specs.declared.faults.Rule.TheVariants as rule
 
 module _ (image : Image) (T : Typings) (m : Machine) (t : ℕ) (thread : Thread) (own : Method) (f : Frame) (rest : List Level) (x : At) (s : RegState) (h : Stands image T m t thread own f rest x s) (code : Code) (rules : op_rules image code x.op ≡ []) (apart : (c : Call) (ks : List ℕ) (g : Method) → x.op ≡ Invoke c ks g → ⊥) where

@@ -17,11 +17,11 @@ use Rattle.dv_defs.specs.Heap.{kind_type, class_cells}
 use Rattle.dv_machine.specs.Conforming.{is_string_or_class, is_proper}
 use Rattle.dv_machine.specs.WellTyped.{Typings}
 use Rattle.dv_machine.specs.Accepted.{Accepted}
-use Rattle.dv_laws.proofs.lemmas.Common.Facts.{no}
-use Rattle.dv_laws.proofs.lemmas.Order.Equal.{names_equal, of_one_name}
-use Rattle.dv_laws.proofs.lemmas.Order.Types.{type_is, flat_under, AreUnder, IsUnder}
-use Rattle.dv_laws.proofs.lemmas.Order.Walks.{named_is, named_inside, above_is, reach_is, object_reaches}
-use Rattle.dv_laws.proofs.lemmas.Order.Interfaces.{above_interface}
+use Rattle.dv_orders.proofs.Facts.{no}
+use Rattle.dv_orders.proofs.Equal.{names_equal, of_one_name}
+use Rattle.dv_orders.proofs.Types.{type_is, flat_under, AreUnder, IsUnder}
+use Rattle.dv_orders.proofs.Walks.{named_is, named_inside, above_is, reach_is, object_reaches}
+use Rattle.dv_orders.proofs.Interfaces.{above_interface}
 
 same_base : (a b : List ℕ) → base.Class a ≡ base.Class b → a ≡ b
 same_base a b e = cc

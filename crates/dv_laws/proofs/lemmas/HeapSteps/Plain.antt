@@ -42,7 +42,8 @@ use Rattle.dv_machine.specs.WellTyped.{Typings, own_of, this_above, HeapFine}
 use Rattle.dv_machine.specs.Premises.{KeepsKinds, ThrowFine, DidFine, HoldsOf}
 use Rattle.dv_machine.specs.StepLaws.{IsAdded}
 use Rattle.dv_laws.specs.Reading.{Anything, IsArrayOrNull}
-use Rattle.dv_laws.proofs.lemmas.Common.Facts.{nothing, fits_of}
+use Rattle.dv_orders.proofs.Facts.{nothing}
+use Rattle.dv_laws.proofs.lemmas.Common.Facts.{fits_of}
 use Rattle.dv_laws.proofs.lemmas.Heap.Added.{object_is_added, array_is_added}
 use Rattle.dv_laws.proofs.lemmas.Heap.Interned.{string_is_interned, class_object_is_got}
 use Rattle.dv_laws.proofs.lemmas.HeapSteps.Left.{room_then, true_then, no_wait, grown_good, heap_left, put_left, put_long_left}
@@ -54,8 +55,8 @@ use Rattle.dv_laws.proofs.lemmas.Local.Stands.{Stands, frame_refs, read_then}
 use Rattle.dv_laws.proofs.lemmas.Growth.Kinds.{refs_grown}
 use Rattle.dv_laws.proofs.lemmas.Readers.Plain.{reads_int, reads_argument, reads_long, reads_reference, reads_reference_to}
 use Rattle.dv_laws.proofs.lemmas.Readers.Arrays.{reads_array, tests_go_down}
-use Rattle.dv_laws.proofs.lemmas.Common.Demands.{first_none, only_rule}
-use Rattle.dv_laws.proofs.lemmas.Order.Interfaces.{instance_reference}
+use Rattle.dv_orders.proofs.Demanded.{first_none, only_rule}
+use Rattle.dv_orders.proofs.Interfaces.{instance_reference}
 use Rattle.dv_defs.specs.declared.faults.Rule.TheVariants as rule
 
 -- the object of an uninitialised value is there

@@ -28,7 +28,7 @@ use Rattle.dv_machine.specs.Conforming.{Own, Conforms, IsThere}
 use Rattle.dv_machine.specs.WellTyped.{Typings, own_of, this_above, nobody, element_types}
 use Rattle.dv_machine.specs.Premises.{DidFine, HoldsOf}
 use Rattle.dv_laws.specs.Reading.{Anything}
-use Rattle.dv_laws.proofs.lemmas.Common.Facts.{no}
+use Rattle.dv_orders.proofs.Facts.{no}
 use Rattle.dv_laws.proofs.lemmas.Heap.Cells.{reg_cells}
 use Rattle.dv_laws.proofs.lemmas.HeapSteps.Left.{gone_left}
 use Rattle.dv_laws.proofs.lemmas.HeapSteps.Cells.{fits_there, narrowed_count, narrowed_each, stored_fine}
@@ -36,8 +36,8 @@ use Rattle.dv_laws.proofs.lemmas.HeapSteps.Elements.{element_at, short_types, lo
 use Rattle.dv_laws.proofs.lemmas.HeapSteps.Arrays.{component_is}
 use Rattle.dv_laws.proofs.lemmas.Local.Stands.{Stands}
 use Rattle.dv_laws.proofs.lemmas.Readers.Plain.{next_holds, reads_int, reads_two, reads_reference}
-use Rattle.dv_laws.proofs.lemmas.Common.Demands.{demanded}
-use Rattle.dv_laws.proofs.lemmas.Order.Interfaces.{instance_reference}
+use Rattle.dv_orders.proofs.Demanded.{demanded}
+use Rattle.dv_orders.proofs.Interfaces.{instance_reference}
 use Rattle.dv_defs.specs.declared.faults.Rule.TheVariants as rule
 
 -- ---- what a store takes

@@ -25,7 +25,7 @@ use Rattle.dv_machine.specs.Conforming.{RefsFine, Conform}
 use Rattle.dv_machine.specs.WellTyped.{Typings, own_of, this_above, records, IsWaiting}
 use Rattle.dv_machine.specs.Premises.{LeftFine, DidFine, HoldsOf}
 use Rattle.dv_machine.specs.StepLaws.{LocalStepsAreFine}
-use Rattle.dv_laws.proofs.lemmas.Common.Facts.{no}
+use Rattle.dv_orders.proofs.Facts.{no}
 use Rattle.dv_laws.proofs.lemmas.Local.Still.{still, same_shared, IsQuiet}
 use Rattle.dv_laws.proofs.lemmas.Local.Stands.{Stands, stands, replaced_fine, frame_refs, rest_refs}
 use Rattle.dv_laws.proofs.lemmas.Local.Steps.{sound, all_in}

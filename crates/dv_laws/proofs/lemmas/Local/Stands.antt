@@ -20,7 +20,7 @@ use Rattle.dv_machine.specs.State.{Thread, Machine, Here, Shared, Reads, Did, Le
 use Rattle.dv_machine.specs.Conforming.{Conform, RefsFine}
 use Rattle.dv_machine.specs.WellTyped.{Typings, own_of, this_above, lowest, IsCode, BelowCode, IsPlaced, CodeFine, StackFine, ThreadFine}
 use Rattle.dv_machine.specs.Premises.{MayStep, IsAt, HoldsOf, DidFine}
-use Rattle.dv_laws.proofs.lemmas.Order.States.{frame_up}
+use Rattle.dv_laws.proofs.lemmas.Common.Conformity.{frame_up}
 use Rattle.dv_laws.proofs.lemmas.Common.Lists.{all_at}
 use Rattle.dv_laws.proofs.lemmas.Common.MethodCode.{code_is}
 

@@ -31,8 +31,9 @@ use Rattle.dv_machine.specs.Local.{local, const_value, pending_int, pending_obje
 use Rattle.dv_machine.specs.Conforming.{Own, Conforms, IsGood, IsUninit, IsThere, RefFine, RefsFine, ResultConforms, CaughtConforms, Conform}
 use Rattle.dv_machine.specs.Premises.{HoldsOf}
 use Rattle.dv_laws.specs.Reading.{Anything}
-use Rattle.dv_laws.proofs.lemmas.Common.Facts.{no, fits_of, ref_at}
-use Rattle.dv_laws.proofs.lemmas.Common.Demands.{first_none, demanded}
+use Rattle.dv_orders.proofs.Facts.{no}
+use Rattle.dv_laws.proofs.lemmas.Common.Facts.{fits_of, ref_at}
+use Rattle.dv_orders.proofs.Demanded.{first_none, demanded}
 use Rattle.dv_laws.proofs.lemmas.Registers.Written.{Source, old, plain, write_source, write_long_good}
 use Rattle.dv_laws.proofs.lemmas.Readers.Plain.{next_holds, kept_int_holds, object_holds, there_of, reads_int, reads_argument, reads_two, reads_long, tests_both, tests_zero, moves_int, moves_reference}
 use Rattle.dv_laws.proofs.lemmas.Readers.Words.{int_word, class_word}

@@ -25,7 +25,7 @@ use Rattle.dv_machine.specs.Conforming.{IsThere, RefsFine, Conform}
 use Rattle.dv_machine.specs.WellTyped.{Typings, own_of, this_above, ThreadFine, MonitorsFine, records}
 use Rattle.dv_machine.specs.Premises.{LeftFine, ThrowFine, DidFine, HoldsOf}
 use Rattle.dv_machine.specs.StepLaws.{MonitorStepsAreFine}
-use Rattle.dv_laws.proofs.lemmas.Common.Facts.{nothing}
+use Rattle.dv_orders.proofs.Facts.{nothing}
 use Rattle.dv_laws.proofs.lemmas.Growth.Keeps.{monitors_later}
 use Rattle.dv_laws.proofs.lemmas.Growth.Threads.{records_after}
 use Rattle.dv_laws.proofs.lemmas.Monitors.Owners.{entry_none}

@@ -39,7 +39,8 @@ use Rattle.dv_machine.specs.Conforming.{Own, IsOf, ResultConforms, ResultFine, I
 use Rattle.dv_machine.specs.WellTyped.{Typings, IsWaiting, WaitFine, MonitorsFine, records}
 use Rattle.dv_machine.specs.Premises.{DidFine, ThrowFine, StartedFine}
 use Rattle.dv_machine.specs.StepLaws.{IsAdded}
-use Rattle.dv_laws.proofs.lemmas.Common.Facts.{fits_of, nothing}
+use Rattle.dv_laws.proofs.lemmas.Common.Facts.{fits_of}
+use Rattle.dv_orders.proofs.Facts.{nothing}
 use Rattle.dv_laws.proofs.lemmas.Readers.Plain.{there_of}
 use Rattle.dv_laws.proofs.lemmas.Heap.Added.{string_is_added}
 use Rattle.dv_laws.proofs.lemmas.Monitors.Steps.{staying, monitor_left}
@@ -54,7 +55,7 @@ use Rattle.dv_laws.proofs.lemmas.Monitors.Owners.{quiet_from, entry_none}
 use Rattle.dv_laws.proofs.lemmas.Monitors.Fine.{waiting_keeps, notifying_keeps, resuming_keeps}
 use Rattle.dv_laws.proofs.lemmas.Monitors.Moved.{moved}
 use Rattle.dv_laws.proofs.lemmas.Exceptions.Flown.{records_of}
-use Rattle.dv_laws.proofs.lemmas.Order.Equal.{names_are}
+use Rattle.dv_orders.proofs.Equal.{names_are}
 use Rattle.dv_laws.proofs.lemmas.Records.Started.{new_thread_is_fine}
 use Rattle.dv_laws.proofs.lemmas.Calls.Dispatched.{constructor_not_native}
 use Rattle.dv_laws.proofs.lemmas.Calls.Words.{instance_types, begins_plain}

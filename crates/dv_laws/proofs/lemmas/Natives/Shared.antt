@@ -32,12 +32,12 @@ use Rattle.dv_machine.specs.Calls.{dispatch, native_of, receiver_of, signature}
 use Rattle.dv_machine.specs.Conforming.{Own, ResultConforms, ResultFine, RefsFine, Conform}
 use Rattle.dv_machine.specs.WellTyped.{Typings, own_of, this_above, IsPlaced, CodeFine, ThreadFine, HeapFine, records}
 use Rattle.dv_machine.specs.Premises.{KeepsKinds, StartedFine, LeftFine, ThrowFine}
-use Rattle.dv_laws.proofs.lemmas.Common.Facts.{nothing}
+use Rattle.dv_orders.proofs.Facts.{nothing}
 use Rattle.dv_laws.proofs.lemmas.Growth.Kinds.{good_grown, stack_grown, refs_grown, all_refs_grown}
 use Rattle.dv_laws.proofs.lemmas.Growth.Threads.{records_after}
 use Rattle.dv_laws.proofs.lemmas.Monitors.Moved.{quiet_moved}
 use Rattle.dv_laws.proofs.lemmas.Exceptions.Flown.{records_of}
-use Rattle.dv_laws.proofs.lemmas.Order.States.{frame_up}
+use Rattle.dv_laws.proofs.lemmas.Common.Conformity.{frame_up}
 use Rattle.dv_laws.proofs.lemmas.Local.Still.{IsQuiet}
 use Rattle.dv_laws.proofs.lemmas.Local.Stands.{Stands, same_lowest, stack_fine, code_fine, frame_refs, rest_refs}
 use Rattle.dv_laws.proofs.lemmas.Calls.Invoked.{WaitsAt, quiet_at, throws, no_entry, CallsNative, IsReceiver, no_receiver_of}

@@ -25,7 +25,7 @@ use Rattle.dv_machine.specs.Local.{const_value}
 use Rattle.dv_machine.specs.Opening.{number_cells, first_cells, field_cells, cells_of}
 use Rattle.dv_machine.specs.Conforming.{Conforms}
 use Rattle.dv_machine.specs.WellTyped.{nobody, CellsFit}
-use Rattle.dv_laws.proofs.lemmas.Common.Facts.{no, zero_plus, plus_suc}
+use Rattle.dv_orders.proofs.Facts.{no, zero_plus, plus_suc}
 use Rattle.dv_laws.proofs.lemmas.Heap.Cells.{reg_cells, fresh_fit}
 
 -- ---- the first cells of static fields

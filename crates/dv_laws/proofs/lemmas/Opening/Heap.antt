@@ -30,14 +30,14 @@ use Rattle.dv_machine.specs.WellTyped.{Typings, nobody, element_types, CellsFit,
 use Rattle.dv_machine.specs.Accepted.{Accepted, IsNamed}
 use Rattle.dv_machine.specs.Premises.{KeepsKinds}
 use Rattle.dv_machine.specs.StepLaws.{IsAdded}
-use Rattle.dv_laws.proofs.lemmas.Common.Facts.{no, nothing, plus_zero}
+use Rattle.dv_orders.proofs.Facts.{no, nothing, plus_zero}
 use Rattle.dv_laws.proofs.lemmas.Heap.Cells.{fresh_fit, class_are_cells, array_length, fit_grown, fit_same}
 use Rattle.dv_laws.proofs.lemmas.Heap.Added.{new_kind, new_cells, is_added, bare_fits}
 use Rattle.dv_laws.proofs.lemmas.Heap.Interned.{string_is_interned}
 use Rattle.dv_laws.proofs.lemmas.Heap.Stored.{static_store_keeps}
-use Rattle.dv_laws.proofs.lemmas.Order.Walks.{named_is}
+use Rattle.dv_orders.proofs.Walks.{named_is}
 use Rattle.dv_laws.proofs.lemmas.Opening.Cells.{first_fit, field_within, cells_of_field, field_cells_at}
-use Rattle.dv_laws.proofs.lemmas.Order.Equal.{names_are}
+use Rattle.dv_orders.proofs.Equal.{names_are}
 
 -- ---- objects of boot classes
 

@@ -32,7 +32,8 @@ use Rattle.dv_machine.specs.Conforming.{IsOf, IsGood, RefFine, RefsFine}
 use Rattle.dv_machine.specs.WellTyped.{Typings, own_of, IsNoInitialiser, StackFine, ThreadFine, records, owed, levels_in, WellTyped}
 use Rattle.dv_machine.specs.Accepted.{Accepted}
 use Rattle.dv_machine.specs.StepLaws.{IsMain, OpeningIsWellTyped}
-use Rattle.dv_laws.proofs.lemmas.Common.Facts.{nothing, fits_of, zero_plus, plus_suc, plus_zero}
+use Rattle.dv_orders.proofs.Facts.{nothing, zero_plus, plus_suc, plus_zero}
+use Rattle.dv_laws.proofs.lemmas.Common.Facts.{fits_of}
 use Rattle.dv_laws.proofs.lemmas.Records.States.{begun_mine, begun_others}
 use Rattle.dv_laws.proofs.lemmas.Records.Entered.{none_good, refs_entered, entered_code, entered_placed}
 use Rattle.dv_laws.proofs.lemmas.Records.Fine.{static_begins}

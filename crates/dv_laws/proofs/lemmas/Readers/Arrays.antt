@@ -22,14 +22,14 @@ use Rattle.dv_defs.specs.Demands.{is_array_of}
 use Rattle.dv_defs.specs.Heap.{Heap, kind_of, kind_type}
 use Rattle.dv_machine.specs.State.{read_array, is_array_kind}
 use Rattle.dv_machine.specs.Conforming.{Own, Conforms}
-use Rattle.dv_machine.specs.Accepted.{IsOrder}
+use Rattle.dv_orders.specs.Hierarchy.{IsOrder}
 use Rattle.dv_machine.specs.Premises.{HoldsOf}
 use Rattle.dv_laws.specs.Reading.{IsArrayOf, IsArrayOrNull, GoesDown, ReadsArray, ElementTestsGoDown}
-use Rattle.dv_laws.proofs.lemmas.Common.Facts.{no}
-use Rattle.dv_laws.proofs.lemmas.Common.Demands.{demanded}
-use Rattle.dv_laws.proofs.lemmas.Order.Types.{IsUnder, type_is, under_reference}
+use Rattle.dv_orders.proofs.Facts.{no}
+use Rattle.dv_orders.proofs.Demanded.{demanded}
+use Rattle.dv_orders.proofs.Types.{IsUnder, type_is, under_reference}
 use Rattle.dv_laws.proofs.lemmas.Readers.Plain.{where_holds, tested_there}
-use Rattle.dv_laws.proofs.lemmas.Order.Equal.{base_plain}
+use Rattle.dv_orders.proofs.Equal.{base_plain}
 
 -- ---- what tests of elements take
 

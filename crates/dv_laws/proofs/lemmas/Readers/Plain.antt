@@ -21,11 +21,11 @@ use Rattle.dv_defs.specs.Heap.{Heap, kind_of}
 use Rattle.dv_machine.specs.State.{passes, Reads, on_next, reg_at, read_int, kept_int, read_lo, read_hi, read_two, read_any, read_ref, tested, any_kind, fits_kind, where_ref, kept_object}
 use Rattle.dv_machine.specs.Local.{Word, Nil, Number, Object, read_word, compare_words}
 use Rattle.dv_machine.specs.Conforming.{Own, Conforms, RegsConform, IsThere, Fits}
-use Rattle.dv_machine.specs.Accepted.{IsOrder}
+use Rattle.dv_orders.specs.Hierarchy.{IsOrder}
 use Rattle.dv_machine.specs.Premises.{HoldsOf}
 use Rattle.dv_laws.specs.Reading.{Anything, ReadsInt, KeepsInt, ReadsArgument, ReadsTwo, ReadsLong, ReadsReference, ReadsReferenceTo, KeepsObject, TestsBoth, TestsZero, MovesInt, MovesReference}
-use Rattle.dv_laws.proofs.lemmas.Common.Facts.{no}
-use Rattle.dv_laws.proofs.lemmas.Common.Demands.{first_none, demanded}
+use Rattle.dv_orders.proofs.Facts.{no}
+use Rattle.dv_orders.proofs.Demanded.{first_none, demanded}
 use Rattle.dv_defs.specs.declared.faults.Rule.TheVariants as rule
 
 -- one read after another

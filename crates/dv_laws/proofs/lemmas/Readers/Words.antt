@@ -19,11 +19,11 @@ use Rattle.dv_defs.specs.Heap.{Heap}
 use Rattle.dv_machine.specs.State.{Reads, on_next, reg_at, read_two, read_ref, kept_int, read_single, read_value, are_neighbours, read_args}
 use Rattle.dv_machine.specs.Calls.{pending_words}
 use Rattle.dv_machine.specs.Conforming.{Own, Conforms, RegsConform, IsUninit, AreApart, IsGood, Fits, RefFine, ResultConforms}
-use Rattle.dv_machine.specs.Accepted.{IsOrder}
+use Rattle.dv_orders.specs.Hierarchy.{IsOrder}
 use Rattle.dv_machine.specs.Premises.{HoldsOf}
 use Rattle.dv_laws.specs.Reading.{Anything, AreWords, ReadsValue, ReadsArguments, WordsPend}
-use Rattle.dv_laws.proofs.lemmas.Common.Facts.{no}
-use Rattle.dv_laws.proofs.lemmas.Common.Demands.{first_none, demanded}
+use Rattle.dv_orders.proofs.Facts.{no}
+use Rattle.dv_orders.proofs.Demanded.{first_none, demanded}
 use Rattle.dv_laws.proofs.lemmas.Readers.Plain.{next_holds, holds_more, two_holds, kept_int_holds, ref_conforms, ref_holds, there_of}
 
 -- ---- lists of words with their types

@@ -17,7 +17,7 @@ use Rattle.dv_machine.specs.Conforming.{Own, IsGood, Conform, RefFine, RefsFine}
 use Rattle.dv_machine.specs.WellTyped.{Typings, own_of, IsPlaced, CodeFine, BelowCode}
 use Rattle.dv_machine.specs.Accepted.{Accepted}
 use Rattle.dv_laws.proofs.lemmas.Calls.Entered.{entered_conforms}
-use Rattle.dv_laws.proofs.lemmas.Order.States.{frame_up}
+use Rattle.dv_laws.proofs.lemmas.Common.Conformity.{frame_up}
 use Rattle.dv_laws.proofs.lemmas.Common.MethodCode.{the_code, code_there, registers_are}
 
 -- no registers

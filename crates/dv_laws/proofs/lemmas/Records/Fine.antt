@@ -29,7 +29,7 @@ use Rattle.dv_machine.specs.WellTyped.{Typings, own_of, BelowRecord, StackFine, 
 use Rattle.dv_machine.specs.Accepted.{Accepted}
 use Rattle.dv_machine.specs.Premises.{LeftFine, RecordDidFine}
 use Rattle.dv_machine.specs.StepLaws.{RecordsAreFine}
-use Rattle.dv_laws.proofs.lemmas.Common.Facts.{nothing}
+use Rattle.dv_orders.proofs.Facts.{nothing}
 use Rattle.dv_laws.proofs.lemmas.Growth.Threads.{records_after}
 use Rattle.dv_laws.proofs.lemmas.Monitors.Owners.{entry_none}
 use Rattle.dv_laws.proofs.lemmas.Monitors.Moved.{quiet_moved}
@@ -37,7 +37,7 @@ use Rattle.dv_laws.proofs.lemmas.Exceptions.Flown.{lowest_rest, living_fine, ref
 use Rattle.dv_laws.proofs.lemmas.Records.States.{IsIdle, dropped_mine, dropped_others, begun_mine, begun_others}
 use Rattle.dv_laws.proofs.lemmas.Records.Entered.{none_good, refs_entered, entered_code, entered_placed}
 use Rattle.dv_laws.proofs.lemmas.Calls.Words.{static_types}
-use Rattle.dv_laws.proofs.lemmas.Order.Walks.{has_head}
+use Rattle.dv_orders.proofs.Walks.{has_head}
 
 -- ---- an initialiser has no receiver and no arguments
 

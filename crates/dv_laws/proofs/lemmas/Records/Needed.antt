@@ -29,7 +29,7 @@ use Rattle.dv_machine.specs.WellTyped.{Typings, StackFine, ThreadFine, records, 
 use Rattle.dv_machine.specs.Accepted.{Accepted}
 use Rattle.dv_machine.specs.Premises.{LeftFine, ThrowFine, DidFine}
 use Rattle.dv_machine.specs.StepLaws.{NeedsAreFine}
-use Rattle.dv_laws.proofs.lemmas.Common.Facts.{nothing}
+use Rattle.dv_orders.proofs.Facts.{nothing}
 use Rattle.dv_laws.proofs.lemmas.Growth.Threads.{records_after}
 use Rattle.dv_laws.proofs.lemmas.Monitors.Moved.{quiet_moved}
 use Rattle.dv_laws.proofs.lemmas.Monitors.Owners.{entry_none}
@@ -39,7 +39,7 @@ use Rattle.dv_laws.proofs.lemmas.Records.States.{begun_mine, begun_others}
 use Rattle.dv_laws.proofs.lemmas.Local.Stands.{Stands, stands}
 use Rattle.dv_laws.proofs.lemmas.Local.Fine.{quiet}
 use Rattle.dv_laws.proofs.lemmas.Calls.Resolved.{IsNamed, is_named}
-use Rattle.dv_laws.proofs.lemmas.Common.Demands.{first_rule}
+use Rattle.dv_orders.proofs.Demanded.{first_rule}
 use Rattle.dv_defs.specs.declared.faults.Rule.TheVariants as rule
 
 -- ---- what needs a class

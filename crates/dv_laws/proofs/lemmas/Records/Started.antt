@@ -27,7 +27,8 @@ use Rattle.dv_machine.specs.WellTyped.{Typings, own_of}
 use Rattle.dv_machine.specs.Accepted.{Accepted}
 use Rattle.dv_machine.specs.Premises.{StartedFine}
 use Rattle.dv_machine.specs.StepLaws.{NewThreadIsFine}
-use Rattle.dv_laws.proofs.lemmas.Common.Facts.{no, nothing, fits_of}
+use Rattle.dv_orders.proofs.Facts.{no, nothing}
+use Rattle.dv_laws.proofs.lemmas.Common.Facts.{fits_of}
 use Rattle.dv_laws.proofs.lemmas.Calls.Classes.{looked_up_fits}
 use Rattle.dv_laws.proofs.lemmas.Exceptions.Rises.{object_there}
 use Rattle.dv_laws.proofs.lemmas.Records.Entered.{refs_entered, entered_code, entered_placed}

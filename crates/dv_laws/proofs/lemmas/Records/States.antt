@@ -9,7 +9,7 @@ use Rattle.dv_defs.specs.declared.machine.Level.TheVariants as level
 use Rattle.dv_defs.specs.Classes.{ClassState, Fresh, InProgress, Ready, Erroneous, Classes, state_at, with_state}
 use Rattle.dv_machine.specs.Unwinding.{is_opening}
 use Rattle.dv_machine.specs.WellTyped.{records, owed}
-use Rattle.dv_laws.proofs.lemmas.Common.Facts.{no}
+use Rattle.dv_orders.proofs.Facts.{no}
 
 abbrev one_if : Bool → ℕ
 one_if b = if b then 1 else 0

@@ -29,11 +29,11 @@ use Rattle.dv_machine.specs.Conforming.{Conforms, IsThere, is_proper, is_string_
 use Rattle.dv_machine.specs.WellTyped.{Typings, own_of, called_on, this_above, IsPlaced, StackFine}
 use Rattle.dv_machine.specs.Accepted.{Accepted}
 use Rattle.dv_laws.specs.Returning.{IsBuilt}
-use Rattle.dv_laws.proofs.lemmas.Common.Demands.{demanded}
+use Rattle.dv_orders.proofs.Demanded.{demanded}
 use Rattle.dv_laws.proofs.lemmas.Calls.Resolved.{IsNamed, is_named}
 use Rattle.std.proofs.lemmas.Bool.{eqb-true}
 use Rattle.std.proofs.lemmas.Option.{same_Some}
-use Rattle.dv_laws.proofs.lemmas.Common.Facts.{no}
+use Rattle.dv_orders.proofs.Facts.{no}
 use Rattle.dv_laws.proofs.lemmas.Returns.Constructed.{receiver_demanded}
 use Rattle.dv_laws.proofs.lemmas.Common.MethodCode.{code_is}
 

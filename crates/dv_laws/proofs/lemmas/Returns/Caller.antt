@@ -28,7 +28,7 @@ use Rattle.dv_machine.specs.Conforming.{Conform, Conforms, ResultFine, RefsFine,
 use Rattle.dv_machine.specs.WellTyped.{Typings, own_of, this_above, BelowCode, IsPlaced, IsCalled, CodeFine, StackFine, records}
 use Rattle.dv_machine.specs.Premises.{LeftFine}
 use Rattle.dv_laws.specs.Returning.{IsBuilt, IsBack}
-use Rattle.dv_laws.proofs.lemmas.Order.States.{frame_up}
+use Rattle.dv_laws.proofs.lemmas.Common.Conformity.{frame_up}
 use Rattle.dv_laws.proofs.lemmas.Calls.Resolved.{is_named}
 use Rattle.dv_laws.proofs.lemmas.Local.Still.{still, same_shared, IsQuiet}
 use Rattle.dv_laws.proofs.lemmas.Local.Stands.{Stands, rest_refs, rest_lowest, same_lowest}

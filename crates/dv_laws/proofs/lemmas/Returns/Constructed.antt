@@ -24,8 +24,8 @@ use Rattle.dv_machine.specs.Calls.{receiver_of, constructed, returned, initialis
 use Rattle.dv_machine.specs.Conforming.{Own, Conforms, IsGood, ResultConforms, Conform}
 use Rattle.dv_machine.specs.WellTyped.{own_of}
 use Rattle.dv_laws.specs.Returning.{IsBuilt, ReturnedConforms}
-use Rattle.dv_laws.proofs.lemmas.Common.Facts.{no}
-use Rattle.dv_laws.proofs.lemmas.Common.Demands.{first_none}
+use Rattle.dv_orders.proofs.Facts.{no}
+use Rattle.dv_orders.proofs.Demanded.{first_none}
 use Rattle.dv_laws.proofs.lemmas.Registers.Made.{made_good, own_good}
 
 -- a constructor is an instance method

@@ -29,8 +29,8 @@ use Rattle.dv_machine.specs.WellTyped.{Typings, own_of, this_above, StackFine, r
 use Rattle.dv_machine.specs.Premises.{DidFine}
 use Rattle.dv_machine.specs.StepLaws.{ReturnsPop}
 use Rattle.dv_laws.specs.Reading.{AreWords}
-use Rattle.dv_laws.proofs.lemmas.Common.Facts.{no}
-use Rattle.dv_laws.proofs.lemmas.Common.Demands.{first_none, demanded}
+use Rattle.dv_orders.proofs.Facts.{no}
+use Rattle.dv_orders.proofs.Demanded.{first_none, demanded}
 use Rattle.dv_laws.proofs.lemmas.Readers.Words.{reads_value, words_pend}
 use Rattle.dv_laws.proofs.lemmas.Local.Still.{still, IsQuiet}
 use Rattle.dv_laws.proofs.lemmas.Local.Stands.{Stands, stands, rest_refs, rest_lowest, read_then}

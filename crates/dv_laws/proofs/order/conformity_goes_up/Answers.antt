@@ -1,5 +1,5 @@
 -- The clauses of `conformity_goes_up`, each by its lemma.
-use Rattle.dv_laws.proofs.lemmas.Order.States.{value_conformity_goes_up, register_conformity_goes_up, frame_conformity_goes_up}
+use Rattle.dv_laws.proofs.lemmas.Common.Conformity.{value_conformity_goes_up, register_conformity_goes_up, frame_conformity_goes_up}
 use Rattle.dv_laws.proofs.order.conformity_goes_up.Goals as goal
 
 pub returns-clause-values : goal.returns-clause-values

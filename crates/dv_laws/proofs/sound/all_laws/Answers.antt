@@ -1,10 +1,10 @@
 -- Each law by its lemma.
 use Rattle.dv_laws.proofs.lemmas.Bridge.Decoding.{decoding_inverts_spelling}
-use Rattle.dv_laws.proofs.lemmas.Order.Laws.{types_are_ordered}
-use Rattle.dv_laws.proofs.lemmas.Order.States.{states_are_ordered}
-use Rattle.dv_laws.proofs.lemmas.Order.Joins.{join_is_least}
-use Rattle.dv_laws.proofs.lemmas.Order.Transfer.{transfer_is_monotone}
-use Rattle.dv_laws.proofs.lemmas.Order.Satisfied.{demand_is_antitone}
+use Rattle.dv_orders.proofs.Laws.{types_are_ordered}
+use Rattle.dv_orders.proofs.States.{states_are_ordered}
+use Rattle.dv_orders.proofs.Joins.{join_is_least}
+use Rattle.dv_orders.proofs.Transfer.{transfer_is_monotone}
+use Rattle.dv_orders.proofs.Satisfied.{demand_is_antitone}
 use Rattle.dv_laws.proofs.lemmas.Bridge.Records.{acceptance_gives_records}
 use Rattle.dv_laws.proofs.lemmas.Bridge.LookUps.{look_ups_find}
 use Rattle.dv_laws.proofs.lemmas.Registers.Written.{write_keeps, long_write_keeps}

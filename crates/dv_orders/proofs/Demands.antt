@@ -16,15 +16,15 @@ use Rattle.dv_defs.specs.Order.{sub, extends, assignable}
 use Rattle.dv_defs.specs.Statics.{is_of_suffix}
 use Rattle.dv_defs.specs.RegTypes.{Types, type_at, under, UnderPending, UnderCaught}
 use Rattle.dv_defs.specs.Demands.{Demand, first, demand, is_int, is_lo, is_hi, is_ref, is_movable, is_assignable, is_array_of, int, long, ref, ref_to, array, single_for, value_for, is_fill_type, any_type}
-use Rattle.dv_machine.specs.Accepted.{IsHierarchy}
-use Rattle.dv_laws.proofs.lemmas.Common.Facts.{no}
-use Rattle.dv_laws.proofs.lemmas.Order.Equal.{base_plain}
-use Rattle.dv_laws.proofs.lemmas.Order.Types.{type_is}
-use Rattle.dv_laws.proofs.lemmas.Order.Laws.{sub_trans}
-use Rattle.dv_laws.proofs.lemmas.Order.Regs.{AreBelow}
-use Rattle.dv_laws.proofs.lemmas.Common.Demands.{first_none, met, test_met, demanded}
-use Rattle.dv_laws.proofs.lemmas.Order.Interfaces.{assignable_is, assignable_open, assignable_closed}
-use Rattle.dv_laws.proofs.lemmas.Order.Changed.{sub_component, sub_reference}
+use Rattle.dv_orders.specs.Hierarchy.{IsHierarchy}
+use Rattle.dv_orders.proofs.Facts.{no}
+use Rattle.dv_orders.proofs.Equal.{base_plain}
+use Rattle.dv_orders.proofs.Types.{type_is}
+use Rattle.dv_orders.proofs.Laws.{sub_trans}
+use Rattle.dv_orders.proofs.Regs.{AreBelow}
+use Rattle.dv_orders.proofs.Demanded.{first_none, met, test_met, demanded}
+use Rattle.dv_orders.proofs.Interfaces.{assignable_is, assignable_open, assignable_closed}
+use Rattle.dv_orders.proofs.Changed.{sub_component, sub_reference}
 use Rattle.dv_defs.specs.declared.faults.Rule.{Rule}
 use Rattle.dv_defs.specs.declared.faults.Rule.TheVariants as rule
 

@@ -3,7 +3,7 @@ use Rattle.std.proofs.Common.{◌≡◌, List, [], ◌++◌, Bool, true, false, 
 use Rattle.dv_defs.specs.declared.faults.Rule.{Rule}
 use Rattle.dv_defs.specs.Statics.{unless}
 use Rattle.dv_defs.specs.Demands.{Demand, first, demand}
-use Rattle.dv_laws.proofs.lemmas.Common.Facts.{no}
+use Rattle.dv_orders.proofs.Facts.{no}
 
 -- ---- demands
 

@@ -10,11 +10,11 @@ use Rattle.dv_defs.specs.Statics.{is_of_suffix}
 use Rattle.dv_defs.specs.Op.{Op, MoveInt, MoveLong, MoveObject, ResultInt, ResultLong, ResultObject, TakeCaught, IntUnary, LongUnary, IntToLong, LongToInt, IntOp, LongOp, LongShift, CompareLong, IfBoth, IfZero, Switch, IntDivide, LongDivide, Enter, Exit, Cast, InstanceOf, ArrayLength, NewArray, Filled, Fill, Throw, ArrayGet, ArrayPut, FieldGet, FieldPut, StaticPut, Invoke, ReturnVoid, Return}
 use Rattle.dv_defs.specs.RegTypes.{type_at, IsBelow}
 use Rattle.dv_defs.specs.Demands.{this_initialised, first, demand, is_movable, int, long, array, value_for, result_width, same_width, is_void, value_returned, put_for, is_fill_type, any_type, put_receiver, is_pending_int, is_pending_ref, is_pending_long, demands, onward_ok}
-use Rattle.dv_machine.specs.Accepted.{IsHierarchy}
-use Rattle.dv_machine.specs.Laws.{DemandIsAntitone}
-use Rattle.dv_laws.proofs.lemmas.Order.Regs.{AreBelow}
-use Rattle.dv_laws.proofs.lemmas.Order.Demands.{Along, first_along, demand_along, same_along, movable_along, pending_along, caught_along, not_along, any_down, fill_down, suffix_down, int_met, long_met, ref_met, ref_to_met, array_met, value_met}
-use Rattle.dv_laws.proofs.lemmas.Order.Antitone.{invoke_met, two_longs, int_and, both_met, zero_met, put_met, each_met, returned_met, put_receiver_met}
+use Rattle.dv_orders.specs.Hierarchy.{IsHierarchy}
+use Rattle.dv_orders.specs.Laws.{DemandIsAntitone}
+use Rattle.dv_orders.proofs.Regs.{AreBelow}
+use Rattle.dv_orders.proofs.Demands.{Along, first_along, demand_along, same_along, movable_along, pending_along, caught_along, not_along, any_down, fill_down, suffix_down, int_met, long_met, ref_met, ref_to_met, array_met, value_met}
+use Rattle.dv_orders.proofs.Antitone.{invoke_met, two_longs, int_and, both_met, zero_met, put_met, each_met, returned_met, put_receiver_met}
 use Rattle.dv_defs.specs.declared.faults.Rule.TheVariants as rule
 
 -- the same where both stand under one more condition

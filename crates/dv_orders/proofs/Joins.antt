@@ -12,13 +12,13 @@ use Rattle.dv_defs.specs.declared.typing.RegState.{RegState}
 use Rattle.dv_defs.specs.Types.{is_reference}
 use Rattle.dv_defs.specs.RegTypes.{Types, type_at, under, UnderPending, UnderCaught, IsBelow}
 use Rattle.dv_defs.specs.Joins.{join_classes, join_type, joined, same_type, join_result, join_caught, join_state}
-use Rattle.dv_machine.specs.Accepted.{IsHierarchy, IsOrder}
-use Rattle.dv_machine.specs.Laws.{refers, RefersRightly, JoinIsLeast}
-use Rattle.dv_laws.proofs.lemmas.Common.Facts.{no}
-use Rattle.dv_laws.proofs.lemmas.Order.Equal.{reg_type_is, reg_type_same}
-use Rattle.dv_laws.proofs.lemmas.Order.Laws.{types_are_ordered}
-use Rattle.dv_laws.proofs.lemmas.Order.States.{under_same}
-use Rattle.dv_laws.proofs.lemmas.Order.Arrays.{super_common}
+use Rattle.dv_orders.specs.Hierarchy.{IsHierarchy, IsOrder}
+use Rattle.dv_orders.specs.Laws.{refers, RefersRightly, JoinIsLeast}
+use Rattle.dv_orders.proofs.Facts.{no}
+use Rattle.dv_orders.proofs.Equal.{reg_type_is, reg_type_same}
+use Rattle.dv_orders.proofs.Laws.{types_are_ordered}
+use Rattle.dv_orders.proofs.States.{under_same}
+use Rattle.dv_orders.proofs.Arrays.{super_common}
 
 -- a type above both of two, under each other that is
 record IsTypeJoin (image : Image) (s t j : RegType) : Type 0 where

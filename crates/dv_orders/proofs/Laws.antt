@@ -9,12 +9,12 @@ use Rattle.dv_defs.specs.Names.{object_name}
 use Rattle.dv_defs.specs.Types.{of_class, is_array, is_reference, component}
 use Rattle.dv_defs.specs.Pools.{class_named, name_at}
 use Rattle.dv_defs.specs.Order.{under_class, sub, instance, assignable, fits, extends, implements, is_interface_type}
-use Rattle.dv_machine.specs.Accepted.{IsHierarchy}
-use Rattle.dv_machine.specs.Laws.{TypesAreOrdered}
-use Rattle.dv_laws.proofs.lemmas.Order.Walks.{named_is, extends_trans, implements_trans, extends_implements, object_extends, object_implements, extends_near}
-use Rattle.dv_laws.proofs.lemmas.Order.Equal.{ty_from}
-use Rattle.dv_laws.proofs.lemmas.Order.Types.{IsClassOrder, type_is, type_same, type_trans, under_component, object_above, flat_under, under_from, type_weaker, above_object}
-use Rattle.dv_laws.proofs.lemmas.Order.Interfaces.{fits_is, fits_open, fits_closed, interface_is_flat, interface_is_reference, instance_reference, fits_reference, open_above, IsObjectType, assignable_is}
+use Rattle.dv_orders.specs.Hierarchy.{IsHierarchy}
+use Rattle.dv_orders.specs.Laws.{TypesAreOrdered}
+use Rattle.dv_orders.proofs.Walks.{named_is, extends_trans, implements_trans, extends_implements, object_extends, object_implements, extends_near}
+use Rattle.dv_orders.proofs.Equal.{ty_from}
+use Rattle.dv_orders.proofs.Types.{IsClassOrder, type_is, type_same, type_trans, under_component, object_above, flat_under, under_from, type_weaker, above_object}
+use Rattle.dv_orders.proofs.Interfaces.{fits_is, fits_open, fits_closed, interface_is_flat, interface_is_reference, instance_reference, fits_reference, open_above, IsObjectType, assignable_is}
 
 pub extends_order : (image : Image) → IsHierarchy image → IsClassOrder image (extends image)
 extends_order image h = record { trans = extends_trans image h; top = object_extends image h }

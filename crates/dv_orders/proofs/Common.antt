@@ -9,11 +9,11 @@ use Rattle.dv_defs.specs.Types.{of_class, is_class_base, is_reference}
 use Rattle.dv_defs.specs.Pools.{class_named, class_type, name_at, parent_at, walk, supers}
 use Rattle.dv_defs.specs.Order.{has_number, class_under, sub, extends}
 use Rattle.dv_defs.specs.Joins.{object_type, first_common, common_classes}
-use Rattle.dv_machine.specs.Accepted.{IsHierarchy}
-use Rattle.dv_laws.proofs.lemmas.Common.Facts.{no, by_second}
-use Rattle.dv_laws.proofs.lemmas.Order.Walks.{has_head, up, up_is, is_above, named_inside, extends_same, refuel_up}
-use Rattle.dv_laws.proofs.lemmas.Order.Equal.{ty_from, of_one_name}
-use Rattle.dv_laws.proofs.lemmas.Order.Types.{type_is, is_type, flat_under, is_under, object_above}
+use Rattle.dv_orders.specs.Hierarchy.{IsHierarchy}
+use Rattle.dv_orders.proofs.Facts.{no, by_second}
+use Rattle.dv_orders.proofs.Walks.{has_head, up, up_is, is_above, named_inside, extends_same, refuel_up}
+use Rattle.dv_orders.proofs.Equal.{ty_from, of_one_name}
+use Rattle.dv_orders.proofs.Types.{type_is, is_type, flat_under, is_under, object_above}
 
 -- ---- the first of some classes among others
 

@@ -17,13 +17,13 @@ use Rattle.dv_defs.specs.Op.{Op, MoveInt, MoveLong, MoveObject, ResultInt, Resul
 use Rattle.dv_defs.specs.RegTypes.{Types, type_at, under, IsBelow}
 use Rattle.dv_defs.specs.Demands.{made_at}
 use Rattle.dv_defs.specs.Transfer.{write_type, write_long, write_for, going, with_pending, copied_int, copied_object, const_type, result_int, result_ref, after_result_long, caught_type, replaced, replaced_this, lost, class_or_conflict, pending_of, after_constructor, first_of, after_invoke, object_element, after_get, out}
-use Rattle.dv_machine.specs.Accepted.{IsHierarchy, IsOrder}
-use Rattle.dv_machine.specs.Laws.{TransferIsMonotone}
-use Rattle.dv_laws.proofs.lemmas.Common.Facts.{no}
-use Rattle.dv_laws.proofs.lemmas.Order.Laws.{types_are_ordered}
-use Rattle.dv_laws.proofs.lemmas.Order.States.{under_same, pending_same}
-use Rattle.dv_laws.proofs.lemmas.Order.Regs.{AreBelow, write_below, write_long_below, write_for_below, map_below}
-use Rattle.dv_laws.proofs.lemmas.Order.Changed.{int_below, object_below, lost_below, replaced_lost, this_lost, replaced_below, this_below, elements_below, result_int_below, result_ref_below, result_long_below, caught_below}
+use Rattle.dv_orders.specs.Hierarchy.{IsHierarchy, IsOrder}
+use Rattle.dv_orders.specs.Laws.{TransferIsMonotone}
+use Rattle.dv_orders.proofs.Facts.{no}
+use Rattle.dv_orders.proofs.Laws.{types_are_ordered}
+use Rattle.dv_orders.proofs.States.{under_same, pending_same}
+use Rattle.dv_orders.proofs.Regs.{AreBelow, write_below, write_long_below, write_for_below, map_below}
+use Rattle.dv_orders.proofs.Changed.{int_below, object_below, lost_below, replaced_lost, this_lost, replaced_below, this_below, elements_below, result_int_below, result_ref_below, result_long_below, caught_below}
 
 module _ (image : Image) (h : IsHierarchy image) where
   ord : IsOrder image

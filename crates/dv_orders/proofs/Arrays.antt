@@ -11,12 +11,12 @@ use Rattle.dv_defs.specs.Pools.{class_named}
 use Rattle.dv_defs.specs.Order.{under_class, sub, extends}
 use Rattle.dv_defs.specs.Op.{class_of_base}
 use Rattle.dv_defs.specs.Joins.{object_type, common_classes, array_of, joins_by_component, common_flat, common_at, common_super}
-use Rattle.dv_machine.specs.Accepted.{IsHierarchy}
-use Rattle.dv_laws.proofs.lemmas.Order.Equal.{ty_from, ty_is, ty_equal, names_are}
-use Rattle.dv_laws.proofs.lemmas.Order.Types.{type_is, is_type, type_same, base_is_class, class_is_reference, array_is_reference, under_class_reference}
-use Rattle.dv_laws.proofs.lemmas.Order.Laws.{sub_same}
-use Rattle.dv_laws.proofs.lemmas.Order.Common.{IsCommon, is_of_class, under_object, classes_common}
-use Rattle.dv_laws.proofs.lemmas.Order.Changed.{sub_component}
+use Rattle.dv_orders.specs.Hierarchy.{IsHierarchy}
+use Rattle.dv_orders.proofs.Equal.{ty_from, ty_is, ty_equal, names_are}
+use Rattle.dv_orders.proofs.Types.{type_is, is_type, type_same, base_is_class, class_is_reference, array_is_reference, under_class_reference}
+use Rattle.dv_orders.proofs.Laws.{sub_same}
+use Rattle.dv_orders.proofs.Common.{IsCommon, is_of_class, under_object, classes_common}
+use Rattle.dv_orders.proofs.Changed.{sub_component}
 
 -- ---- arrays
 

@@ -10,10 +10,10 @@ use Rattle.dv_defs.specs.Names.{object_name}
 use Rattle.dv_defs.specs.Types.{class_in, is_reference}
 use Rattle.dv_defs.specs.Pools.{class_named, name_at, parent_at, is_interface}
 use Rattle.dv_defs.specs.Order.{sub, instance, assignable, fits, implements, reaches, interfaces_of, names_interface, is_interface_type}
-use Rattle.dv_machine.specs.Accepted.{IsHierarchy}
-use Rattle.dv_laws.proofs.lemmas.Common.Facts.{no, first_chosen, second_chosen}
-use Rattle.dv_laws.proofs.lemmas.Order.Walks.{above_is, named_is, reach_is, object_reaches}
-use Rattle.dv_laws.proofs.lemmas.Order.Types.{type_is, under_reference, class_is_reference, has_class, flat_under}
+use Rattle.dv_orders.specs.Hierarchy.{IsHierarchy}
+use Rattle.dv_orders.proofs.Facts.{no, first_chosen, second_chosen}
+use Rattle.dv_orders.proofs.Walks.{above_is, named_is, reach_is, object_reaches}
+use Rattle.dv_orders.proofs.Types.{type_is, under_reference, class_is_reference, has_class, flat_under}
 
 -- ---- interfaces
 

@@ -10,9 +10,9 @@ use Rattle.dv_defs.specs.Names.{object_name}
 use Rattle.dv_defs.specs.Types.{ty_eq, class_in, is_array, is_class_base, is_reference, component}
 use Rattle.dv_defs.specs.Pools.{class_named, name_at}
 use Rattle.dv_defs.specs.Order.{ClassTest, both_found, class_under, under_class, under_base, under_type}
-use Rattle.dv_laws.proofs.lemmas.Common.Facts.{no, either, by_first, by_second, first_chosen}
-use Rattle.dv_laws.proofs.lemmas.Order.Equal.{ty_is, ty_equal, names_are, names_equal}
-use Rattle.dv_laws.proofs.lemmas.Order.Walks.{named_inside, named_is}
+use Rattle.dv_orders.proofs.Facts.{no, either, by_first, by_second, first_chosen}
+use Rattle.dv_orders.proofs.Equal.{ty_is, ty_equal, names_are, names_equal}
+use Rattle.dv_orders.proofs.Walks.{named_inside, named_is}
 
 -- ---- references
 

@@ -11,12 +11,12 @@ use Rattle.dv_defs.specs.Types.{is_array, is_reference, component}
 use Rattle.dv_defs.specs.Order.{sub, extends}
 use Rattle.dv_defs.specs.RegTypes.{Types, under, UnderPending, UnderCaught}
 use Rattle.dv_defs.specs.Transfer.{write_two, write_long, copied_int, copied_object, result_int, result_ref, after_result_long, caught_type, replaced, replaced_this, lost, object_element}
-use Rattle.dv_machine.specs.Accepted.{IsHierarchy, IsOrder}
-use Rattle.dv_laws.proofs.lemmas.Common.Facts.{no}
-use Rattle.dv_laws.proofs.lemmas.Order.Types.{under_component, under_reference}
-use Rattle.dv_laws.proofs.lemmas.Order.Laws.{extends_order, types_are_ordered}
-use Rattle.dv_laws.proofs.lemmas.Order.States.{under_same}
-use Rattle.dv_laws.proofs.lemmas.Order.Regs.{AreBelow, write_two_below, write_long_below}
+use Rattle.dv_orders.specs.Hierarchy.{IsHierarchy, IsOrder}
+use Rattle.dv_orders.proofs.Facts.{no}
+use Rattle.dv_orders.proofs.Types.{under_component, under_reference}
+use Rattle.dv_orders.proofs.Laws.{extends_order, types_are_ordered}
+use Rattle.dv_orders.proofs.States.{under_same}
+use Rattle.dv_orders.proofs.Regs.{AreBelow, write_two_below, write_long_below}
 
 -- ---- what is copied
 

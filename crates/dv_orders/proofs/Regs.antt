@@ -10,9 +10,9 @@ use Rattle.dv_defs.specs.declared.typing.RegType.TheVariants as ty
 use Rattle.dv_defs.specs.Types.{is_long}
 use Rattle.dv_defs.specs.RegTypes.{Types, type_at, under, single_type}
 use Rattle.dv_defs.specs.Transfer.{broken_lo, broken_hi, break_before, break_after, write_type, write_two, write_long, write_for}
-use Rattle.dv_machine.specs.Accepted.{IsOrder}
-use Rattle.dv_laws.proofs.lemmas.Common.Facts.{no}
-use Rattle.dv_laws.proofs.lemmas.Order.States.{under_same}
+use Rattle.dv_orders.specs.Hierarchy.{IsOrder}
+use Rattle.dv_orders.proofs.Facts.{no}
+use Rattle.dv_orders.proofs.States.{under_same}
 
 -- each register type is under the other's
 pub record AreBelow (image : Image) (ss ts : Types) : Type 0 where

@@ -13,11 +13,11 @@ use Rattle.dv_defs.specs.Pools.{Method, Field, is_static, is_constructor, own_ty
 use Rattle.dv_defs.specs.Op.{Arg, Reg, Lit}
 use Rattle.dv_defs.specs.RegTypes.{Types, type_at, under}
 use Rattle.dv_defs.specs.Demands.{Demand, first, demand, is_int, is_ref, is_assignable, int, long, ref, ref_to, single_for, args_for, receiver_for, super_for, instance_call, invoke_for, value_returned, arg_int, both_for, zero_for, put_for, each_for, is_own_field, put_receiver}
-use Rattle.dv_machine.specs.Accepted.{IsHierarchy}
-use Rattle.dv_laws.proofs.lemmas.Common.Facts.{no}
-use Rattle.dv_laws.proofs.lemmas.Order.Regs.{AreBelow}
-use Rattle.dv_laws.proofs.lemmas.Order.Demands.{Along, first_along, demand_along, same_along, int_along, int_met, long_met, is_ref_met, ref_met, ref_to_met, single_met, value_met}
-use Rattle.dv_laws.proofs.lemmas.Common.Demands.{first_none, demanded}
+use Rattle.dv_orders.specs.Hierarchy.{IsHierarchy}
+use Rattle.dv_orders.proofs.Facts.{no}
+use Rattle.dv_orders.proofs.Regs.{AreBelow}
+use Rattle.dv_orders.proofs.Demands.{Along, first_along, demand_along, same_along, int_along, int_met, long_met, is_ref_met, ref_met, ref_to_met, single_met, value_met}
+use Rattle.dv_orders.proofs.Demanded.{first_none, demanded}
 
 -- an argument of two words, and one of one
 abbrev wide_args : Image → Types → List Ty → ℕ → List ℕ → Demand

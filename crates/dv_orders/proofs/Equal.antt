@@ -10,7 +10,7 @@ use Rattle.dv_defs.specs.declared.typing.RegType.{RegType}
 use Rattle.dv_defs.specs.declared.typing.RegType.TheVariants as ty
 use Rattle.dv_defs.specs.Types.{base_eq, ty_eq, of_class, is_class_base}
 use Rattle.dv_defs.specs.Joins.{same_type}
-use Rattle.dv_laws.proofs.lemmas.Common.Facts.{no}
+use Rattle.dv_orders.proofs.Facts.{no}
 
 pub base_is : (a b : Base) → base_eq a b ≡ true → a ≡ b
 base_is base.Z base.Z e = refl

@@ -7,9 +7,9 @@ use Rattle.dv_defs.specs.declared.image.ClassInfo.{ClassInfo}
 use Rattle.dv_defs.specs.Names.{object_name}
 use Rattle.dv_defs.specs.Pools.{find_from, class_named, parent_at, declared_name, name_at, walk}
 use Rattle.dv_defs.specs.Order.{has_number, with_parent, interfaces_of, above, any_of, reaches, extends, implements}
-use Rattle.dv_machine.specs.Accepted.{IsHierarchy}
-use Rattle.dv_laws.proofs.lemmas.Common.Facts.{no, either, by_first, by_second}
-use Rattle.dv_laws.proofs.lemmas.Order.Equal.{names_are}
+use Rattle.dv_orders.specs.Hierarchy.{IsHierarchy}
+use Rattle.dv_orders.proofs.Facts.{no, either, by_first, by_second}
+use Rattle.dv_orders.proofs.Equal.{names_are}
 
 pub has_head : (d : ℕ) (cs : List ℕ) → has_number d (d ∷ cs) ≡ true
 has_head d cs = by_first (nat_eq d d) (has_number d cs) (eq-eqb d d refl)
