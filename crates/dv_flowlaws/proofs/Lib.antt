@@ -1,1 +1,5 @@
 pub mod DimsMet
+pub mod EntriesFit
+pub mod OperandsMet
+pub mod TransferFits
+pub mod Written
