@@ -14,9 +14,9 @@ use Rattle.dv_defs.specs.Pools.{Method, is_static, own_type, name_at}
 use Rattle.dv_defs.specs.Op.{Code}
 use Rattle.dv_defs.specs.Statics.{receiver_words, arg_words}
 use Rattle.dv_defs.specs.RegTypes.{Types, single_type, reg_types, all_types}
-use Rattle.dv_defs.specs.Transfer.{begins_uninitialised, receiver_type, arg_types, entry_state}
-use Rattle.dv_defs.specs.Flow.{Catcher, caught_as, caught_state, handlers_at}
-use Rattle.dv_flowlaws.specs.Clean.{IsClean, IsHandler}
+use Rattle.dv_defs.specs.Transfer.{begins_uninitialised, receiver_type, arg_types}
+use Rattle.dv_defs.specs.Flow.{Catcher, caught_as, caught_state}
+use Rattle.dv_flowlaws.specs.Clean.{IsHandler}
 use Rattle.dv_flowlaws.specs.Fitting.{TypeFits, RegFits, StateFits, dims_of, dims_met}
 use Rattle.dv_flowlaws.specs.Laws.{EntriesFit, CaughtStatesFit}
 use Rattle.dv_flowlaws.proofs.DimsMet.{body_met, params_met}

@@ -1,10 +1,9 @@
 -- What an instruction makes of a state that fits, fits.
-use Rattle.std.proofs.Common.{◌≡◌, ◌≤◌, ℕ, List, [], ◌∷◌, ◌++◌, Bool, true, false, Option, Some, None, refl, sym, ap, ◌∙◌, subst}
-use Rattle.std.specs.Prelude.{map, Ok}
+use Rattle.std.proofs.Common.{◌≡◌, ◌≤◌, ℕ, List, [], ◌∷◌, ◌++◌, Bool, true, false, Option, Some, None, sym, ◌∙◌, subst}
+use Rattle.std.specs.Prelude.{map}
 use Rattle.std.proofs.lemmas.Bool.{and_parts}
 use Rattle.std.proofs.lemmas.Option.{same_Some}
 use Rattle.dv_defs.specs.declared.names.Ty.{Ty}
-use Rattle.dv_defs.specs.declared.faults.Rule.{Rule}
 use Rattle.dv_defs.specs.declared.faults.Rule.TheVariants as rule
 use Rattle.dv_defs.specs.declared.typing.RegType.{RegType}
 use Rattle.dv_defs.specs.declared.typing.RegType.TheVariants as ty
@@ -14,16 +13,16 @@ use Rattle.dv_defs.specs.declared.typing.RegState.{RegState}
 use Rattle.dv_defs.specs.Images.{Image}
 use Rattle.dv_defs.specs.Parts.{Suffix}
 use Rattle.dv_defs.specs.Names.{string_name, class_name}
-use Rattle.dv_defs.specs.Types.{is_array, is_reference, is_base, component, of_class}
+use Rattle.dv_defs.specs.Types.{is_array, is_reference, of_class}
 use Rattle.dv_defs.specs.Pools.{Method, is_constructor, own_type, name_at}
 use Rattle.dv_defs.specs.Tiling.{begins_insn}
 use Rattle.dv_defs.specs.Op.{Op, MoveInt, MoveLong, MoveObject, ResultInt, ResultLong, ResultObject, TakeCaught, Const, ConstLong, IntUnary, LongUnary, IntToLong, LongToInt, IntOp, LongOp, LongShift, CompareLong, IntDivide, LongDivide, ConstString, ConstClass, Cast, InstanceOf, ArrayLength, New, NewArray, Filled, ArrayGet, FieldGet, StaticGet, Invoke, Code, op_of}
-use Rattle.dv_defs.specs.Statics.{At, fetch, op_rules, resolved_rules, insn_rules, unless, is_filled_type, moves_on, registers_below}
+use Rattle.dv_defs.specs.Statics.{At, op_rules, resolved_rules, unless, is_filled_type, moves_on, registers_below}
 use Rattle.dv_defs.specs.RegTypes.{Types, type_at}
 use Rattle.dv_defs.specs.Demands.{made_at}
 use Rattle.dv_defs.specs.Transfer.{write_type, write_long, write_for, going, with_pending, copied_int, copied_object, const_type, result_int, result_ref, after_result_long, caught_type, replaced, replaced_this, lost, class_or_conflict, pending_of, after_constructor, first_of, after_invoke, object_element, after_get, out}
 use Rattle.dv_orders.proofs.Demanded.{only_rule}
-use Rattle.dv_flowlaws.specs.Clean.{IsClean, IsFetched}
+use Rattle.dv_flowlaws.specs.Clean.{IsFetched}
 use Rattle.dv_flowlaws.specs.Fitting.{RegFits, PendingFits, StateFits, dims_met}
 use Rattle.dv_flowlaws.specs.Laws.{TransferFits}
 use Rattle.dv_flowlaws.proofs.OperandsMet.{OperandsMet, operands_met}
