@@ -1,5 +1,5 @@
 -- What is above another type ranks less.
-use Rattle.std.proofs.Common.{◌≡◌, ◌⊎◌, inl, inr, ℕ, zero, suc, ◌+◌, ◌*◌, ◌<◌, ◌≤◌, List, length, true, Option, Some, None, refl, sym, ap, ◌∙◌, subst, arith}
+use Rattle.std.proofs.Common.{◌≡◌, ◌⊎◌, inl, inr, ℕ, zero, suc, ◌+◌, ◌*◌, ◌<◌, ◌≤◌, List, length, true, ◌&&◌, Option, Some, None, refl, sym, ap, ◌∙◌, subst, arith}
 use Rattle.std.specs.Prelude.{bytes_eq}
 use Rattle.std.proofs.lemmas.Bool.{and_parts}
 use Rattle.std.proofs.Math.Nat.{mul-le-mul_left}
@@ -11,10 +11,11 @@ use Rattle.dv_defs.specs.Names.{object_name}
 use Rattle.dv_defs.specs.Types.{is_class_base}
 use Rattle.dv_defs.specs.Pools.{class_named, name_at, supers}
 use Rattle.dv_defs.specs.Op.{class_of_base}
-use Rattle.dv_defs.specs.Order.{under_class, sub, extends}
+use Rattle.dv_defs.specs.Order.{class_under, under_class, sub, extends}
 use Rattle.dv_orders.specs.Hierarchy.{IsHierarchy}
-use Rattle.dv_orders.proofs.Equal.{ty_from, names_are}
-use Rattle.dv_orders.proofs.Types.{base_is_class, type_is, flat_under, AreUnder, IsUnder}
+use Rattle.dv_orders.proofs.Facts.{either}
+use Rattle.dv_orders.proofs.Equal.{ty_from}
+use Rattle.dv_orders.proofs.Types.{base_is_class, type_is, under_is, flat_under, AreUnder}
 use Rattle.dv_orders.proofs.Walks.{named_inside, named_is}
 use Rattle.dv_flowlaws.specs.Fitting.{base_rank, type_rank, ranks}
 use Rattle.dv_flowlaws.specs.Laws.{HasObject}
@@ -38,6 +39,10 @@ base_bounded image b = found_bounded image (class_of_base image b)
 -- more dimensions outweigh each base
 deeper : (w m n r q k : ℕ) → m ≡ suc k + n → r < w → n * w + r < m * w + q
 deeper w m n r q k e l = subst (λ (z : ℕ). n * w + r < z * w + q) (sym e) (omega (arith, l))
+
+-- of as many, the base decides
+level : (w m n r q : ℕ) → m ≡ n → r < q → n * w + r < m * w + q
+level w m n r q e l = subst (λ (z : ℕ). n * w + r < z * w + q) (sym e) (omega (arith, l))
 
 pub rank_bounded : (image : Image) (most : ℕ) (t : Ty) → t.dims ≤ most → type_rank image t < ranks image most
 rank_bounded image most t l =
@@ -68,8 +73,32 @@ module _ (image : Image) (h : IsHierarchy image) (has : HasObject image) where
     | inr less ↦ inr (subst (λ (z : Base). base_rank image (base.Class d) < base_rank image z) (sym u.is_class) (subst (λ (z : Option ℕ). found_rank image z < found_rank image (class_named image u.name)) (sym u.has_high) (subst (λ (z : Option ℕ). found_rank image (Some u.high) < found_rank image z) (sym u.has_low) less)))
   ]
 
+  under_is_class : (a : Base) (d : List ℕ) → under_class image (extends image) 0 a d ≡ true → is_class_base a ≡ true
+  under_is_class a d u = elim (either (is_class_base a && bytes_eq d object_name) (class_under image (extends image) a d) u) [
+    | inl top ↦ (and_parts (is_class_base a) (bytes_eq d object_name) top).0
+    | inr under ↦ (let x = under_is image (extends image) a d under in subst (λ (z : Base). is_class_base z ≡ true) (sym x.is_class) refl)
+  ]
+
   flat_rank : (a : Base) (d : List ℕ) → under_class image (extends image) 0 a d ≡ true → (a ≡ base.Class d) ⊎ (base_rank image (base.Class d) < base_rank image a)
   flat_rank a d u = elim (flat_under image (extends image) 0 a d refl u) [
-    | inl top ↦ ?
+    | inl top ↦ top_rank a d (under_is_class a d u) top
     | inr under ↦ under_rank a d under
+  ]
+
+  -- with as many dimensions
+  level_rank : (s t : Ty) (d : List ℕ) → t.base ≡ base.Class d → s.dims ≡ t.dims → (s.base ≡ base.Class d) ⊎ (base_rank image (base.Class d) < base_rank image s.base) → (s ≡ t) ⊎ (type_rank image t < type_rank image s)
+  level_rank s t d c e (inl same) = inl (ty_from s t e (same ∙ sym c))
+  level_rank s t d c e (inr less) =
+      let below : base_rank image t.base < base_rank image s.base = subst (λ (z : Base). base_rank image z < base_rank image s.base) (sym c) less in
+      inr (level (length image.classes + 2) s.dims t.dims (base_rank image t.base) (base_rank image s.base) e below)
+
+  under_rises : (s t : Ty) (d : List ℕ) (n : ℕ) → t.base ≡ base.Class d → s.dims ≡ n + t.dims → under_class image (extends image) n s.base d ≡ true → (s ≡ t) ⊎ (type_rank image t < type_rank image s)
+  under_rises s t d zero c e u = level_rank s t d c (omega (arith, e)) (flat_rank s.base d u)
+  under_rises s t d (suc k) c e u = inr (deeper (length image.classes + 2) s.dims t.dims (base_rank image t.base) (base_rank image s.base) k e (base_bounded image t.base))
+
+  pub type_rises : (s t : Ty) → sub image s t ≡ true → (s ≡ t) ⊎ (type_rank image t < type_rank image s)
+  unfolding sub
+  type_rises s t e = elim (type_is image (extends image) s t e) [
+    | inl same ↦ inl same
+    | inr u ↦ under_rises s t u.name u.more u.is_class u.dims u.tested
   ]
