@@ -1,5 +1,5 @@
 -- The join of two states that fit fits.
-use Rattle.std.proofs.Common.{◌≡◌, ◌⊎◌, inl, inr, ℕ, zero, suc, ◌+◌, ◌-◌, ◌<◌, ◌≤◌, List, [], ◌∷◌, length, Bool, true, false, ◌&&◌, ◌||◌, Option, Some, None, refl, sym, ap, ◌∙◌, subst, arith}
+use Rattle.std.proofs.Common.{◌≡◌, ℕ, zero, suc, ◌-◌, ◌<◌, List, [], ◌∷◌, length, Bool, true, false, ◌&&◌, ◌||◌, Option, Some, refl, sym, ap, ◌∙◌, arith}
 use Rattle.std.specs.Prelude.{All, IfSome}
 use Rattle.std.proofs.lemmas.Bool.{and_parts, ltb-true}
 use Rattle.dv_defs.specs.declared.names.Ty.{Ty}
@@ -7,16 +7,15 @@ use Rattle.dv_defs.specs.declared.typing.RegType.{RegType}
 use Rattle.dv_defs.specs.declared.typing.RegType.TheVariants as ty
 use Rattle.dv_defs.specs.declared.typing.PendingType.{PendingType}
 use Rattle.dv_defs.specs.declared.typing.PendingType.TheVariants as pend
-use Rattle.dv_defs.specs.declared.typing.RegState.{RegState}
 use Rattle.dv_defs.specs.Images.{Image}
 use Rattle.dv_defs.specs.Types.{is_array, is_reference, component, ty_eq}
 use Rattle.dv_defs.specs.Order.{has_number}
 use Rattle.dv_defs.specs.Pools.{class_type, supers}
 use Rattle.dv_defs.specs.Op.{Code, class_of_base}
 use Rattle.dv_defs.specs.RegTypes.{Types, under}
-use Rattle.dv_defs.specs.Joins.{object_type, first_common, common_classes, array_of, joins_by_component, common_flat, common_at, common_super, join_classes, join_type, joined, same_type, join_result, join_caught, join_state}
+use Rattle.dv_defs.specs.Joins.{object_type, first_common, common_classes, array_of, joins_by_component, common_flat, common_at, common_super, join_classes, join_type, joined, same_type, join_result, join_caught}
 use Rattle.dv_orders.proofs.Types.{array_is_reference}
-use Rattle.dv_flowlaws.specs.Fitting.{dims_met, TypeFits, RegFits, PendingFits, StateFits}
+use Rattle.dv_flowlaws.specs.Fitting.{dims_met, TypeFits, RegFits, PendingFits}
 use Rattle.dv_flowlaws.specs.Laws.{JoinsFit}
 
 -- ---- common superclasses
@@ -53,10 +52,11 @@ component_fits most a f r = record { reference = r; dims = (let d = f.dims in om
 array_fits : (most : ℕ) (a t : Ty) → TypeFits most a → 0 < a.dims → TypeFits (most - 1) t → TypeFits most (array_of t)
 array_fits most a t f l g = record { reference = array_is_reference (array_of t) (omega arith); dims = (let d = f.dims in let e = g.dims in omega (arith, d, e, l)) }
 
-abbrev Fitting : Image → ℕ → Type 0
-Fitting image n = (most : ℕ) (a b : Ty) → TypeFits most a → TypeFits most (common_at image n a b)
+-- common superclasses fit, with so many dimensions left to go through
+abbrev CommonFits : Image → ℕ → Type 0
+CommonFits image n = (most : ℕ) (a b : Ty) → TypeFits most a → TypeFits most (common_at image n a b)
 
-component_common : (image : Image) (n most : ℕ) (a b : Ty) → Fitting image n → TypeFits most a → (j : Bool) → joins_by_component a b ≡ j → TypeFits most (elim j [ true ↦ array_of (common_at image n (component a) (component b)) | false ↦ common_flat image a b ])
+component_common : (image : Image) (n most : ℕ) (a b : Ty) → CommonFits image n → TypeFits most a → (j : Bool) → joins_by_component a b ≡ j → TypeFits most (elim j [ true ↦ array_of (common_at image n (component a) (component b)) | false ↦ common_flat image a b ])
 component_common image n most a b inner f true e =
     let p = and_parts (is_array a && is_array b && is_reference (component a)) (is_reference (component b)) e in
     let q = and_parts (is_array a && is_array b) (is_reference (component a)) p.0 in
@@ -65,7 +65,7 @@ component_common image n most a b inner f true e =
     (inner (most - 1) (component a) (component b) (component_fits most a f q.1))
 component_common image n most a b inner f false e = flat_fits most (common_flat image a b) (flat_flat image a b)
 
-equal_common : (image : Image) (n most : ℕ) (a b : Ty) → Fitting image n → TypeFits most a → (q : Bool) → TypeFits most (elim q [ true ↦ a | false ↦ elim (joins_by_component a b) [ true ↦ array_of (common_at image n (component a) (component b)) | false ↦ common_flat image a b ] ])
+equal_common : (image : Image) (n most : ℕ) (a b : Ty) → CommonFits image n → TypeFits most a → (q : Bool) → TypeFits most (elim q [ true ↦ a | false ↦ elim (joins_by_component a b) [ true ↦ array_of (common_at image n (component a) (component b)) | false ↦ common_flat image a b ] ])
 equal_common image n most a b inner f true = f
 equal_common image n most a b inner f false = component_common image n most a b inner f (joins_by_component a b) refl
 

@@ -73,6 +73,7 @@ module _ (image : Image) (h : IsHierarchy image) (has : HasObject image) where
     | inr less ↦ inr (subst (λ (z : Base). base_rank image (base.Class d) < base_rank image z) (sym u.is_class) (subst (λ (z : Option ℕ). found_rank image z < found_rank image (class_named image u.name)) (sym u.has_high) (subst (λ (z : Option ℕ). found_rank image (Some u.high) < found_rank image z) (sym u.has_low) less)))
   ]
 
+  -- what is under a class without dimensions between names one
   under_is_class : (a : Base) (d : List ℕ) → under_class image (extends image) 0 a d ≡ true → is_class_base a ≡ true
   under_is_class a d u = elim (either (is_class_base a && bytes_eq d object_name) (class_under image (extends image) a d) u) [
     | inl top ↦ (and_parts (is_class_base a) (bytes_eq d object_name) top).0

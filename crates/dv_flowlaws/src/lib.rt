@@ -3,5 +3,4 @@
 //! Each law is the contract of a function that does nothing.
 #![tactic(auto)]
 
-
 pub mod ranks;
