@@ -4,3 +4,4 @@
 #![tactic(auto)]
 
 pub mod fits;
+pub mod ranks;
