@@ -123,7 +123,8 @@ fn common_class(image: &Image, a: &Base, b: &Base) -> Option<usize>
     }
 }
 
-fn class_of_base(image: &Image, base: &Base) -> Option<usize>
+/// The place of the class that a type without dimensions names, where it names one.
+pub fn class_of_base(image: &Image, base: &Base) -> Option<usize>
     ensures { result ≡ named_by image.now base.now }
 {
     match base {

@@ -1,0 +1,31 @@
+// Operations at the addresses of a body that breaks no static rule.
+ghost use Rattle.std.specs.Prelude.{◌≡◌, ◌≤◌, true, Some, length};
+ghost use Rattle.dv_defs.specs.Statics.{fetch};
+ghost use Rattle.dv_defs.specs.Tiling.{begins_insn};
+ghost use Rattle.dv_flowlaws.specs.Clean.{IsClean};
+ghost use Rattle.dv_ops.specs.Meaning.{code_of, meant};
+ghost use Rattle.dv_fetch.specs.Places.{IsBoundary};
+
+use crate::resolve::resolve;
+use dv_defs::Image;
+use dv_ops::{Coded, Op};
+use dv_units::decode;
+
+/// The operation that stands at an address, and the address after it.
+pub fn op_at<'a>(image: &'a Image, code: &Coded<'a>, at: u32) -> (Op<'a>, u32)
+    requires clean { IsClean image.now (code_of code.now) }
+    requires begins { begins_insn (code_of code.now).tiles at ≡ true }
+    ensures fetched { fetch image.now code.now.method.id.0 at ≡ Some (record { op = meant (code_of code.now) at result.0; next = result.1 }) }
+    ensures next { IsBoundary (code_of code.now) result.1 }
+    ensures short { result.1 ≤ 16384 }
+{
+    ..
+}
+
+/// Whether an instruction begins where the one before ends.
+pub fn begins_insn_next(code: &Coded<'_>, at: u32) -> bool
+    requires { IsBoundary (code_of code.now) at }
+    ensures { result ≡ begins_insn (code_of code.now).tiles at }
+{
+    ..
+}

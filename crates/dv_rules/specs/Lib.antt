@@ -1,0 +1,4 @@
+pub mod Asking
+pub mod Edges
+pub mod Made
+pub mod Verified
