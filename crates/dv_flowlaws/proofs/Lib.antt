@@ -1,0 +1,4 @@
+pub mod Each
+pub mod HierarchyLaw
+pub mod StatesLaw
+pub mod FaultsLaw

@@ -3,3 +3,5 @@
 //! Each law is the contract of a function that does nothing.
 #![tactic(auto)]
 
+pub mod faults;
+pub mod hierarchies;
