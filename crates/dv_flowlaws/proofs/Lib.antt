@@ -1,4 +1,9 @@
 pub mod Each
+pub mod MethodCode
+pub mod NoPlaces
+pub mod Statics
+pub mod Targets
+pub mod CleanLaw
 pub mod HierarchyLaw
 pub mod StatesLaw
 pub mod FaultsLaw

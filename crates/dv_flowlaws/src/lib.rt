@@ -3,5 +3,6 @@
 //! Each law is the contract of a function that does nothing.
 #![tactic(auto)]
 
+pub mod clean;
 pub mod faults;
 pub mod hierarchies;
