@@ -1,4 +1,4 @@
--- Facts that many topics use: objects and registers, lists, the registers of methods, and conformity along the order of states.
+-- Facts that many topics use: objects and registers, lists, the code of methods, and conformity along the order of states.
 pub mod Conformity
 pub mod Facts
 pub mod Lists
