@@ -8,3 +8,12 @@ pub mod Depths
 pub mod JoinsFit
 pub mod StateRanks
 pub mod TypeRanks
+pub mod Each
+pub mod MethodCode
+pub mod NoPlaces
+pub mod Statics
+pub mod Targets
+pub mod CleanLaw
+pub mod HierarchyLaw
+pub mod StatesLaw
+pub mod FaultsLaw

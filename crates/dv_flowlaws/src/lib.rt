@@ -5,3 +5,6 @@
 
 pub mod fits;
 pub mod ranks;
+pub mod clean;
+pub mod faults;
+pub mod hierarchies;

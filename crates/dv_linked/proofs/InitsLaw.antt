@@ -11,7 +11,7 @@ use Rattle.dv_defs.specs.Field.{may_stand}
 use Rattle.dv_defs.specs.Pools.{Field, fields_of, field_at, with_field, with_field_info}
 use Rattle.dv_defs.specs.Linked.{IsImage, HasValues, defs}
 use Rattle.dv_machine.specs.Accepted.{HasInits}
-use Rattle.dv_linked.proofs.Each.{all_at}
+use Rattle.dv_flowlaws.proofs.Each.{all_at}
 
 abbrev Stands : FieldDef → Type 0
 Stands f = IsTrue (may_stand f.init f.ty f.flags)

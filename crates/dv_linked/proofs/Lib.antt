@@ -1,5 +1,3 @@
-pub mod Each
-pub mod HierarchyLaw
 pub mod InitsLaw
 pub mod PoolsLaw
 pub mod BootRows

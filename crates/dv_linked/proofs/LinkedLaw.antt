@@ -10,7 +10,7 @@ use Rattle.std.specs.Prelude.{find}
 use Rattle.dv_orders.proofs.Arrays.{super_common}
 use Rattle.dv_linklaws.specs.Landing.{has_key_at}
 use Rattle.dv_linklaws.proofs.TableLaws.{image_table, table_agrees}
-use Rattle.dv_linked.proofs.HierarchyLaw.{image_hierarchy}
+use Rattle.dv_flowlaws.proofs.HierarchyLaw.{image_hierarchy}
 use Rattle.dv_linked.proofs.SlotsLaw.{image_slots}
 use Rattle.dv_linked.proofs.BodiesLaw.{image_bodies}
 use Rattle.dv_linked.proofs.PoolsLaw.{image_pools}

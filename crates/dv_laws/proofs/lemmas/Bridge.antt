@@ -3,4 +3,3 @@ pub mod Decoding
 pub mod Laws
 pub mod LookUps
 pub mod Records
-pub mod Statics

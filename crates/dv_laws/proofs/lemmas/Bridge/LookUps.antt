@@ -5,36 +5,21 @@ use Rattle.std.proofs.lemmas.Bool.{eqb-true, and_parts, not-true}
 use Rattle.dv_defs.specs.declared.names.Ty.{Ty}
 use Rattle.dv_defs.specs.declared.names.Proto.{Proto}
 use Rattle.dv_defs.specs.declared.code.Body.{Body}
-use Rattle.dv_defs.specs.declared.class.MethodDef.{MethodDef}
 use Rattle.dv_defs.specs.declared.class.FieldDef.{FieldDef}
 use Rattle.dv_defs.specs.Images.{Image}
 use Rattle.dv_defs.specs.declared.image.MethodInfo.{MethodInfo}
 use Rattle.dv_defs.specs.declared.image.FieldInfo.{FieldInfo}
 use Rattle.dv_defs.specs.Names.{clinit_name}
 use Rattle.dv_defs.specs.Types.{ty_eq, same_types, same_result, same_proto}
-use Rattle.dv_defs.specs.Pools.{Method, Field, with_def, with_info, methods_of, method_at, with_field, with_field_info, fields_of, field_at, is_static, is_private, pick, declared_by, is_virtual_of, first_of_classes, nearest, no_arguments, is_initialiser, initialiser, supers}
+use Rattle.dv_defs.specs.Pools.{Method, Field, with_info, method_at, with_field, with_field_info, fields_of, field_at, is_static, is_private, pick, declared_by, is_virtual_of, first_of_classes, nearest, no_arguments, is_initialiser, initialiser, supers}
 use Rattle.dv_defs.specs.Order.{has_number}
 use Rattle.dv_machine.specs.Laws.{LookUpsFind}
 use Rattle.dv_orders.proofs.Facts.{no, by_second, is_there}
 use Rattle.dv_orders.proofs.Walks.{has_head}
 use Rattle.dv_orders.proofs.Equal.{ty_is, names_are}
+use Rattle.dv_flowlaws.proofs.MethodCode.{method_id}
 
 -- ---- by number
-
-def_id : (id : ℕ) (info : MethodInfo) (o : Option MethodDef) (m : Method) → with_def id info o ≡ Some m → m.id ≡ id
-def_id id info None m e = absurd (cc)
-def_id id info (Some d) m e =
-    let made : Method = record { id = id; info = info; def = d } in
-    let same : made ≡ m = cc in
-    sym (ap (λ (x : Method). x.id) same)
-
-info_id : (image : Image) (id : ℕ) (o : Option MethodInfo) (m : Method) → with_info image id o ≡ Some m → m.id ≡ id
-info_id image id None m e = absurd (cc)
-info_id image id (Some info) m e = def_id id info (slice_get (methods_of (slice_get image.classes info.class.0)) info.place) m e
-
-pub method_id : (image : Image) (n : ℕ) (m : Method) → method_at image n ≡ Some m → m.id ≡ n
-unfolding method_at
-method_id image n m e = info_id image n (slice_get image.methods n) m e
 
 field_id_from : (id : ℕ) (info : FieldInfo) (o : Option FieldDef) (f : Field) → with_field id info o ≡ Some f → f.id ≡ id
 field_id_from id info None f e = absurd (cc)

@@ -14,10 +14,10 @@ use Rattle.dv_machine.specs.WellTyped.{Typings}
 use Rattle.dv_machine.specs.Accepted.{IsFine}
 use Rattle.dv_machine.specs.Laws.{AcceptanceGivesRecords}
 use Rattle.dv_orders.proofs.Facts.{is_there}
-use Rattle.dv_laws.proofs.lemmas.Bridge.LookUps.{method_id}
-use Rattle.dv_laws.proofs.lemmas.Bridge.Statics.{IsStatic, IsThere, IsCaught, is_static_body, has_room, fetched_rules, jumps_there, handlers_there}
+use Rattle.dv_flowlaws.proofs.Statics.{IsStatic, IsThere, is_static_body, has_room, fetched_rules}
+use Rattle.dv_flowlaws.proofs.Targets.{IsCaught, jumps_there, handlers_there}
 use Rattle.dv_orders.proofs.Demanded.{first_none, demanded}
-use Rattle.dv_laws.proofs.lemmas.Common.MethodCode.{code_is}
+use Rattle.dv_flowlaws.proofs.MethodCode.{method_id, code_is}
 use Rattle.dv_defs.specs.declared.faults.Rule.TheVariants as rule
 
 -- ---- edges

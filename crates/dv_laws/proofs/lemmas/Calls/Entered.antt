@@ -15,7 +15,8 @@ use Rattle.dv_machine.specs.Conforming.{Own, IsGood, Conform}
 use Rattle.dv_machine.specs.WellTyped.{own_of}
 use Rattle.dv_machine.specs.StepLaws.{EntryConforms}
 use Rattle.dv_laws.proofs.lemmas.Readers.Words.{cons_good}
-use Rattle.dv_laws.proofs.lemmas.Common.MethodCode.{code_is, registers_are}
+use Rattle.dv_flowlaws.proofs.MethodCode.{code_is}
+use Rattle.dv_laws.proofs.lemmas.Common.MethodCode.{registers_are}
 
 pad_good : (image : Image) (heap : Heap) (own : Own) (n : ℕ) (xs : List Value) (ts : Types) → IsGood image heap own xs ts → IsGood image heap own (replicate n v.Undef ++ xs) (replicate n ty.Conflict ++ ts)
 pad_good image heap own zero xs ts h = h

@@ -30,7 +30,8 @@ use Rattle.dv_laws.proofs.lemmas.Calls.Entered.{entered_conforms}
 use Rattle.dv_laws.proofs.lemmas.Common.Conformity.{frame_up}
 use Rattle.dv_laws.proofs.lemmas.Local.Still.{still, same_shared, IsQuiet}
 use Rattle.dv_laws.proofs.lemmas.Local.Stands.{Stands, code_fine, frame_refs, rest_refs, stack_fine}
-use Rattle.dv_laws.proofs.lemmas.Common.MethodCode.{registers_are, the_code, code_there}
+use Rattle.dv_flowlaws.proofs.MethodCode.{the_code, code_there}
+use Rattle.dv_laws.proofs.lemmas.Common.MethodCode.{registers_are}
 use Rattle.dv_laws.proofs.lemmas.Heap.Cells.{reg_count}
 
 -- ---- how many words the arguments are

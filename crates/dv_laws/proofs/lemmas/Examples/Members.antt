@@ -23,7 +23,7 @@ use Rattle.dv_orders.proofs.Facts.{no, is_there}
 use Rattle.dv_orders.proofs.Equal.{ty_is, reg_type_is, names_equal}
 use Rattle.dv_laws.proofs.lemmas.Bridge.LookUps.{proto_is, same_list}
 use Rattle.dv_laws.proofs.lemmas.Examples.Tests.{all_below, below_is, from_or, or_else, if_some, some_is}
-use Rattle.dv_laws.proofs.lemmas.Common.MethodCode.{code_is}
+use Rattle.dv_flowlaws.proofs.MethodCode.{code_is}
 use Rattle.dv_laws.proofs.lemmas.Opening.Cells.{field_within}
 
 -- ---- fields

@@ -22,7 +22,7 @@ use Rattle.dv_machine.specs.WellTyped.{Typings, own_of, this_above, lowest, IsCo
 use Rattle.dv_machine.specs.Premises.{MayStep, IsAt, HoldsOf, DidFine}
 use Rattle.dv_laws.proofs.lemmas.Common.Conformity.{frame_up}
 use Rattle.dv_laws.proofs.lemmas.Common.Lists.{all_at}
-use Rattle.dv_laws.proofs.lemmas.Common.MethodCode.{code_is}
+use Rattle.dv_flowlaws.proofs.MethodCode.{code_is}
 
 -- what a step does after a read
 pub read_then : (image : Image) (T : Typings) (m : Machine) (t : ℕ) (thread : Thread) (x : At) {A : Type 0} (P : A → Type 0) (r : Reads A) (go : A → Did Left) → HoldsOf P r → ((y : A) → P y → DidFine image T m t thread x (go y)) → DidFine image T m t thread x (reading r go)

@@ -40,7 +40,7 @@ use Rattle.dv_laws.proofs.lemmas.Records.Fine.{static_begins}
 use Rattle.dv_laws.proofs.lemmas.Records.Started.{one_good}
 use Rattle.dv_laws.proofs.lemmas.Exceptions.Rises.{object_there}
 use Rattle.dv_laws.proofs.lemmas.Opening.Heap.{IsOpened, heap_opened, same_fits, named_of}
-use Rattle.dv_laws.proofs.lemmas.Common.MethodCode.{code_is}
+use Rattle.dv_flowlaws.proofs.MethodCode.{code_is}
 use Rattle.dv_laws.proofs.lemmas.Calls.Words.{static_types}
 use Rattle.dv_laws.proofs.lemmas.Calls.Dispatched.{named_otherwise}
 

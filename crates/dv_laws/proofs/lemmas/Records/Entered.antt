@@ -18,7 +18,8 @@ use Rattle.dv_machine.specs.WellTyped.{Typings, own_of, IsPlaced, CodeFine, Belo
 use Rattle.dv_machine.specs.Accepted.{Accepted}
 use Rattle.dv_laws.proofs.lemmas.Calls.Entered.{entered_conforms}
 use Rattle.dv_laws.proofs.lemmas.Common.Conformity.{frame_up}
-use Rattle.dv_laws.proofs.lemmas.Common.MethodCode.{the_code, code_there, registers_are}
+use Rattle.dv_flowlaws.proofs.MethodCode.{the_code, code_there}
+use Rattle.dv_laws.proofs.lemmas.Common.MethodCode.{registers_are}
 
 -- no registers
 pub none_good : (image : Image) (heap : Heap) (own : Own) → IsGood image heap own [] []

@@ -32,7 +32,7 @@ use Rattle.dv_laws.proofs.lemmas.Common.Facts.{fits_of}
 use Rattle.dv_laws.proofs.lemmas.Calls.Classes.{looked_up_fits}
 use Rattle.dv_laws.proofs.lemmas.Exceptions.Rises.{object_there}
 use Rattle.dv_laws.proofs.lemmas.Records.Entered.{refs_entered, entered_code, entered_placed}
-use Rattle.dv_laws.proofs.lemmas.Common.MethodCode.{the_code, code_there}
+use Rattle.dv_flowlaws.proofs.MethodCode.{the_code, code_there}
 use Rattle.dv_laws.proofs.lemmas.Calls.Words.{instance_types}
 use Rattle.dv_laws.proofs.lemmas.Calls.Dispatched.{NoneNamed, no_native}
 

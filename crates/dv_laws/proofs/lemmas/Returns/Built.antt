@@ -35,7 +35,7 @@ use Rattle.std.proofs.lemmas.Bool.{eqb-true}
 use Rattle.std.proofs.lemmas.Option.{same_Some}
 use Rattle.dv_orders.proofs.Facts.{no}
 use Rattle.dv_laws.proofs.lemmas.Returns.Constructed.{receiver_demanded}
-use Rattle.dv_laws.proofs.lemmas.Common.MethodCode.{code_is}
+use Rattle.dv_flowlaws.proofs.MethodCode.{code_is}
 
 -- what the verifier found of the instruction of a placed frame
 pub record IsVerified (image : Image) (T : Typings) (m : Method) (f : Frame) (x : At) (s : RegState) : Type 0 where

@@ -27,7 +27,7 @@ use Rattle.dv_laws.proofs.lemmas.Records.Fine.{rest_fine, records_are_fine}
 use Rattle.dv_laws.proofs.lemmas.Records.Needed.{needs_are_fine}
 use Rattle.dv_laws.proofs.lemmas.Exceptions.Flown.{settled_is_well_typed, settled_record_is_well_typed}
 use Rattle.dv_laws.proofs.lemmas.Exceptions.Records.{flights_are_fine}
-use Rattle.dv_laws.proofs.lemmas.Common.MethodCode.{code_is}
+use Rattle.dv_flowlaws.proofs.MethodCode.{code_is}
 
 -- the sorts of operations, each with a law of its own
 IsMonitor : Op → Type 0

@@ -19,7 +19,8 @@ use Rattle.dv_linklaws.proofs.ReachPlaces.{place, place_bounded, place_rises}
 use Rattle.dv_linklaws.proofs.FromFaults.{no_first_fault, named_same, named_at}
 use Rattle.dv_linklaws.proofs.AlikeImages.{alike_class_named}
 use Rattle.dv_linklaws.proofs.OrderedImages.{image_ordered, image_phases, image_alike}
-use Rattle.dv_linked.proofs.Each.{all_at}
+use Rattle.dv_flowlaws.specs.Laws.{LinkedClassesAreHierarchies}
+use Rattle.dv_flowlaws.proofs.Each.{all_at}
 
 info_at : (cs : List ClassInfo) (c : ℕ) → c < length cs → (info : ClassInfo) × (slice_get cs c ≡ Some info)
 info_at [] c within = absurd (omega arith)
@@ -88,3 +89,9 @@ module _ (image : Image) (is : IsImage image) where
 
 pub image_hierarchy : (image : Image) → IsImage image → IsHierarchy image
 image_hierarchy image is = hierarchy_by image is (image_ordered image is)
+
+-- and Object is there
+pub linked_classes_are_hierarchies : LinkedClassesAreHierarchies
+linked_classes_are_hierarchies image is =
+    let ordered = image_ordered image is in
+    (hierarchy_by image is ordered, (ordered.object, ordered.object_named))
