@@ -9,23 +9,12 @@ ghost use Rattle.dv_rules.specs.Edges.{edges_of};
 use dv_defs::{Image, Ty};
 use dv_ops::{Coded, Op};
 use std::alloc::{AllocError, Global};
-use std::marker::Model;
 
 /// An edge to the instruction at an address. One to a handler has the type that is caught there, Throwable where all is.
 #[derive(PartialEq, Eq, Debug, Drop)]
 pub struct Edge {
     pub to: u32,
     pub handler: Option<Ty>,
-}
-
-impl Model for Edge {
-    ghost use Rattle.dv_rules.specs.Edges.{EdgeValue};
-
-    ghost Value = { EdgeValue };
-
-    ghost view = { λ e. record { to = e.to; handler = e.handler } };
-
-    ghost inverse = { λ e. record { to = e.to; handler = e.handler } };
 }
 
 /// The edges from the operation at an address: to the next instruction and to targets, then to handlers.
