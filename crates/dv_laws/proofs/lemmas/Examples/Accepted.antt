@@ -31,7 +31,7 @@ linking image n p = record {
   hierarchy = hierarchy_by image (places n) p.classes;
   slots = slots_by image p.fields;
   bodies = bodies_by image p.methods;
-  pools = pools_by image p.methods p.fields;
+  pools = pools_by image p.methods;
   inits = inits_by image p.fields;
   boot = boot_by image p.boot p.fields p.methods;
 }

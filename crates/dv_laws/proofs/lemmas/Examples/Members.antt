@@ -1,7 +1,7 @@
 -- Tests that find the fields and methods of an image as linking leaves them.
 use Rattle.std.proofs.Common.{◌≡◌, inl, inr, ℕ, ◌+◌, ◌<◌, length, Bool, true, false, ◌&&◌, ◌||◌, not, Option, Some, None, refl, sym, ap}
-use Rattle.std.specs.Prelude.{nat_lt, bytes_eq, is_some, codes}
-use Rattle.std.proofs.lemmas.Bool.{cases_lt, and_parts, and_from, ltb-true, not-true}
+use Rattle.std.specs.Prelude.{bytes_eq, is_some, codes}
+use Rattle.std.proofs.lemmas.Bool.{cases_lt, and_parts, and_from, not-true}
 use Rattle.std.proofs.lemmas.Option.{slice_get_past}
 use Rattle.dv_defs.specs.declared.code.Body.{Body}
 use Rattle.dv_defs.specs.Images.{Image}
@@ -47,7 +47,7 @@ abbrev pub is_placed : Image → Field → Bool
 is_placed image f = is_static_field f || not (bytes_eq (name_at image f.info.class.0) object_name || is_string_or_class (name_at image f.info.class.0))
 
 abbrev pub is_field_fine : Image → Field → Bool
-is_field_fine image f = has_slots image f && (nat_lt f.info.class.0 (length image.classes) && (may_stand f.def.init f.def.ty f.def.flags && (is_out image f && is_placed image f)))
+is_field_fine image f = has_slots image f && (may_stand f.def.init f.def.ty f.def.flags && (is_out image f && is_placed image f))
 
 abbrev pub are_fields_fine : Image → Bool
 are_fields_fine image = all_below (λ x. if_some (is_field_fine image) (field_at image x)) (length image.fields)
@@ -58,18 +58,16 @@ module _ (image : Image) (e : are_fields_fine image ≡ true) where
 
   record FieldTested (f : Field) : Type 0 where
     slots : has_slots image f ≡ true
-    inside : nat_lt f.info.class.0 (length image.classes) ≡ true
     init : may_stand f.def.init f.def.ty f.def.flags ≡ true
     out : is_out image f ≡ true
     placed : is_placed image f ≡ true
 
   field_parts : (x : ℕ) (f : Field) → field_at image x ≡ Some f → FieldTested f
   field_parts x f h =
-      let p = and_parts (has_slots image f) (nat_lt f.info.class.0 (length image.classes) && (may_stand f.def.init f.def.ty f.def.flags && (is_out image f && is_placed image f))) (field_tested x f h) in
-      let q = and_parts (nat_lt f.info.class.0 (length image.classes)) (may_stand f.def.init f.def.ty f.def.flags && (is_out image f && is_placed image f)) p.1 in
-      let r = and_parts (may_stand f.def.init f.def.ty f.def.flags) (is_out image f && is_placed image f) q.1 in
-      let w = and_parts (is_out image f) (is_placed image f) r.1 in
-      record { slots = p.0; inside = q.0; init = r.0; out = w.0; placed = w.1 }
+      let p = and_parts (has_slots image f) (may_stand f.def.init f.def.ty f.def.flags && (is_out image f && is_placed image f)) (field_tested x f h) in
+      let q = and_parts (may_stand f.def.init f.def.ty f.def.flags) (is_out image f && is_placed image f) p.1 in
+      let w = and_parts (is_out image f) (is_placed image f) q.1 in
+      record { slots = p.0; init = q.0; out = w.0; placed = w.1 }
 
   slot_kept : (c x : ℕ) (f : Field) → field_at image x ≡ Some f → is_static_field f ≡ false → is_interface image f.info.class.0 ≡ false → c < length image.classes → instance image (class_type image c) (class_type image f.info.class.0) ≡ true → (j : ℕ) → j < words_of f.def.ty → type_at (class_cells image c) (f.info.slot + j) ≡ type_at (reg_types f.def.ty) j
   slot_kept c x f h static face l u j k =
@@ -83,9 +81,6 @@ module _ (image : Image) (e : are_fields_fine image ≡ true) where
 
   pub inits_by : HasInits image
   inits_by = record { inits = λ x f h. (field_parts x f h).init }
-
-  pub field_class : (x : ℕ) (f : Field) → field_at image x ≡ Some f → f.info.class.0 < length image.classes
-  field_class x f h = ltb-true f.info.class.0 (length image.classes) (field_parts x f h).inside
 
   pub out_is : (x : ℕ) (f : Field) → field_at image x ≡ Some f → name_at image f.info.class.0 ≡ system_name → f.def.name ≡ codes "out" → (is_static_field f ≡ true) × (f.def.ty ≡ of_class stream_name)
   out_is x f h a b =
@@ -119,7 +114,7 @@ abbrev pub is_not_bare : Image → Method → Bool
 is_not_bare image m = not (is_constructor m) || not (is_string_or_class (name_at image m.info.class.0))
 
 abbrev pub is_method_fine : Image → Method → Bool
-is_method_fine image m = has_code image m && (if_some (is_native_fine m) (native_of image m) && (nat_lt m.info.class.0 (length image.classes) && (if_some (λ b. same_types m.info.types b.types) m.def.body && is_not_bare image m)))
+is_method_fine image m = has_code image m && (if_some (is_native_fine m) (native_of image m) && (if_some (λ b. same_types m.info.types b.types) m.def.body && is_not_bare image m))
 
 abbrev pub are_methods_fine : Image → Bool
 are_methods_fine image = all_below (λ n. if_some (is_method_fine image) (method_at image n)) (length image.methods)
@@ -138,20 +133,17 @@ module _ (image : Image) (e : are_methods_fine image ≡ true) where
   record MethodTested (m : Method) : Type 0 where
     code : has_code image m ≡ true
     native : if_some (is_native_fine m) (native_of image m) ≡ true
-    inside : nat_lt m.info.class.0 (length image.classes) ≡ true
     types : if_some (λ b. same_types m.info.types b.types) m.def.body ≡ true
     bare : is_not_bare image m ≡ true
 
   method_parts : (n : ℕ) (m : Method) → method_at image n ≡ Some m → MethodTested m
   method_parts n m h =
       let native : Bool = if_some (is_native_fine m) (native_of image m) in
-      let inside : Bool = nat_lt m.info.class.0 (length image.classes) in
       let types : Bool = if_some (λ b. same_types m.info.types b.types) m.def.body in
-      let p = and_parts (has_code image m) (native && (inside && (types && is_not_bare image m))) (method_tested n m h) in
-      let q = and_parts native (inside && (types && is_not_bare image m)) p.1 in
-      let r = and_parts inside (types && is_not_bare image m) q.1 in
-      let s = and_parts types (is_not_bare image m) r.1 in
-      record { code = p.0; native = q.0; inside = r.0; types = s.0; bare = s.1 }
+      let p = and_parts (has_code image m) (native && (types && is_not_bare image m)) (method_tested n m h) in
+      let q = and_parts native (types && is_not_bare image m) p.1 in
+      let r = and_parts types (is_not_bare image m) q.1 in
+      record { code = p.0; native = q.0; types = r.0; bare = r.1 }
 
   body_is : (n : ℕ) (m : Method) → method_at image n ≡ Some m → is_abstract m ≡ false → native_of image m ≡ None → (b : Body) × (m.def.body ≡ Some b)
   body_is n m h a k =
@@ -167,16 +159,13 @@ module _ (image : Image) (e : are_methods_fine image ≡ true) where
   pub bodies_by : HasBodies image
   bodies_by = record { body = body_is; native = native_is }
 
-  pub method_class : (n : ℕ) (m : Method) → method_at image n ≡ Some m → m.info.class.0 < length image.classes
-  method_class n m h = ltb-true m.info.class.0 (length image.classes) (method_parts n m h).inside
-
   types_are : (n : ℕ) (code : Code) → code_at image n ≡ Some code → code.method.info.types ≡ code.body.types
   types_are n code h =
       let c = code_is image n code h in
       same_list code.method.info.types code.body.types (some_is (λ (b : Body). same_types code.method.info.types b.types) code.method.def.body code.body (method_parts n code.method c.method).types c.body)
 
-  pub pools_by : are_fields_fine image ≡ true → HasPools image
-  pools_by f = record { fields = field_class image f; methods = method_class; types = types_are }
+  pub pools_by : HasPools image
+  pools_by = record { types = types_are }
 
   pub not_bare : (n : ℕ) (m : Method) → method_at image n ≡ Some m → is_constructor m ≡ true → is_string_or_class (name_at image m.info.class.0) ≡ false
   not_bare n m h c = not-true (is_string_or_class (name_at image m.info.class.0)) (from_or (is_constructor m) (not (is_string_or_class (name_at image m.info.class.0))) (method_parts n m h).bare c)
