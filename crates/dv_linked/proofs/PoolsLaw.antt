@@ -1,16 +1,12 @@
 -- The pools of a linked image are those of its bodies.
-use Rattle.std.specs.Prelude.{ℕ, ◌≡◌, ◌<◌, List, length, Option, Some, None, slice_get, option_map}
+use Rattle.std.specs.Prelude.{ℕ, ◌≡◌, List, Option, Some, None, slice_get, option_map}
 use Rattle.std.proofs.Common.{refl, sym, ap, subst, ◌∙◌}
-use Rattle.std.proofs.lemmas.Option.{slice_get-map, slice_get_within}
+use Rattle.std.proofs.lemmas.Option.{slice_get-map}
 use Rattle.dv_defs.specs.declared.names.ClassId.{ClassId}
 use Rattle.dv_defs.specs.declared.code.Body.{Body}
-use Rattle.dv_defs.specs.declared.class.MethodDef.{MethodDef}
-use Rattle.dv_defs.specs.declared.class.FieldDef.{FieldDef}
-use Rattle.dv_defs.specs.declared.image.ClassInfo.{ClassInfo}
-use Rattle.dv_defs.specs.declared.image.FieldInfo.{FieldInfo}
 use Rattle.dv_defs.specs.declared.image.MethodInfo.{MethodInfo}
 use Rattle.dv_defs.specs.Images.{Image}
-use Rattle.dv_defs.specs.Pools.{Method, Field, method_at, field_at, methods_of, fields_of, with_def, with_info, with_field, with_field_info}
+use Rattle.dv_defs.specs.Pools.{Method, method_at, methods_of}
 use Rattle.dv_defs.specs.Op.{Code, code_at, code_of, with_body}
 use Rattle.dv_defs.specs.Tiling.{tiling, tiles_in}
 use Rattle.dv_defs.specs.Numbering.{numbered}
