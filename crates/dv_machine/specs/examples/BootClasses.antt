@@ -87,13 +87,18 @@ class_class =
 abbrev pub thread_class : ClassInfo
 thread_class =
     linked (Some 0) (1 ∷ []) (0 ∷ []) (1 ∷ 2 ∷ 3 ∷ 4 ∷ 8 ∷ 9 ∷ 10 ∷ [])
-    (class (codes "Ljava/lang/Thread;") (Some (codes "Ljava/lang/Object;")) (codes "Ljava/lang/Runnable;" ∷ []) 0 (field (codes "target") (of_class (codes "Ljava/lang/Runnable;")) 0 ∷ [])
+    (class (codes "Ljava/lang/Thread;") (Some (codes "Ljava/lang/Object;")) (codes "Ljava/lang/Runnable;" ∷ []) 0
+    (field (codes "target") (of_class (codes "Ljava/lang/Runnable;")) 0 ∷ [])
     (method (codes "<init>") [] None 0 (Some (naming [] (object_init_ref ∷ [])
     (body 1 (0x1070 ∷ 0x0000 ∷ 0x0000 ∷ 0x000e ∷ []))))
     ∷ method (codes "<init>") (of_class (codes "Ljava/lang/Runnable;") ∷ []) None 0
-    (Some (naming (field_ref (codes "Ljava/lang/Thread;") (codes "target") (of_class (codes "Ljava/lang/Runnable;")) ∷ []) (object_init_ref ∷ [])
+    (Some (naming
+    (field_ref (codes "Ljava/lang/Thread;") (codes "target") (of_class (codes "Ljava/lang/Runnable;")) ∷ [])
+    (object_init_ref ∷ [])
     (body 2 (0x1070 ∷ 0x0000 ∷ 0x0000 ∷ 0x015b ∷ 0x0000 ∷ 0x000e ∷ []))))
-    ∷ method (codes "run") [] None 0 (Some (naming (field_ref (codes "Ljava/lang/Thread;") (codes "target") (of_class (codes "Ljava/lang/Runnable;")) ∷ []) (method_ref (codes "Ljava/lang/Runnable;") (codes "run") [] None ∷ [])
+    ∷ method (codes "run") [] None 0 (Some (naming
+    (field_ref (codes "Ljava/lang/Thread;") (codes "target") (of_class (codes "Ljava/lang/Runnable;")) ∷ [])
+    (method_ref (codes "Ljava/lang/Runnable;") (codes "run") [] None ∷ [])
     (body 2 (0x1054 ∷ 0x0000 ∷ 0x0038 ∷ 0x0005 ∷ 0x1072 ∷ 0x0000 ∷ 0x0000 ∷ 0x000e ∷ []))))
     ∷ method (codes "start") [] None 0x400 None
     ∷ method (codes "join") [] None 0x400 None
@@ -203,41 +208,64 @@ string_class =
 abbrev pub string_builder_class : ClassInfo
 string_builder_class =
     linked (Some 0) [] (1 ∷ []) (1 ∷ 2 ∷ 3 ∷ 4 ∷ 19 ∷ 20 ∷ 21 ∷ 22 ∷ 23 ∷ 24 ∷ 25 ∷ [])
-    (class (codes "Ljava/lang/StringBuilder;") (Some (codes "Ljava/lang/Object;")) [] 0x10 (field (codes "text") (of_class (codes "Ljava/lang/String;")) 0 ∷ [])
+    (class (codes "Ljava/lang/StringBuilder;") (Some (codes "Ljava/lang/Object;")) [] 0x10
+    (field (codes "text") (of_class (codes "Ljava/lang/String;")) 0 ∷ [])
     (method (codes "<init>") [] None 0
-    (Some (naming (field_ref (codes "Ljava/lang/StringBuilder;") (codes "text") (of_class (codes "Ljava/lang/String;")) ∷ []) (object_init_ref ∷ [])
+    (Some (naming
+    (field_ref (codes "Ljava/lang/StringBuilder;") (codes "text") (of_class (codes "Ljava/lang/String;")) ∷ [])
+    (object_init_ref ∷ [])
     (body_with 2 (0x1070 ∷ 0x0000 ∷ 0x0001 ∷ 0x001a ∷ 0x0000 ∷ 0x105b ∷ 0x0000 ∷ 0x000e ∷ []) [] ([] ∷ []) [])))
     ∷ method (codes "<init>") (of_class (codes "Ljava/lang/String;") ∷ []) None 0
-    (Some (naming (field_ref (codes "Ljava/lang/StringBuilder;") (codes "text") (of_class (codes "Ljava/lang/String;")) ∷ []) (object_init_ref ∷ method_ref (codes "Ljava/lang/String;") (codes "length") [] (Some of_int) ∷ [])
+    (Some (naming
+    (field_ref (codes "Ljava/lang/StringBuilder;") (codes "text") (of_class (codes "Ljava/lang/String;")) ∷ [])
+    (object_init_ref ∷ method_ref (codes "Ljava/lang/String;") (codes "length") [] (Some of_int) ∷ [])
     (body 2 (0x1070 ∷ 0x0000 ∷ 0x0000 ∷ 0x106e ∷ 0x0001 ∷ 0x0001 ∷ 0x015b ∷ 0x0000 ∷ 0x000e ∷ []))))
     ∷ method (codes "append") (of_class (codes "Ljava/lang/String;") ∷ [])
     (Some (of_class (codes "Ljava/lang/StringBuilder;"))) 0
-    (Some (naming (field_ref (codes "Ljava/lang/StringBuilder;") (codes "text") (of_class (codes "Ljava/lang/String;")) ∷ []) (method_ref (codes "Ljava/lang/String;") (codes "concat") (of_class (codes "Ljava/lang/String;") ∷ []) (Some (of_class (codes "Ljava/lang/String;"))) ∷ [])
+    (Some (naming
+    (field_ref (codes "Ljava/lang/StringBuilder;") (codes "text") (of_class (codes "Ljava/lang/String;")) ∷ [])
+    (method_ref (codes "Ljava/lang/String;") (codes "concat") (of_class (codes "Ljava/lang/String;") ∷ [])
+    (Some (of_class (codes "Ljava/lang/String;"))) ∷ [])
     (body_with 3
     (0x0239 ∷ 0x0004 ∷ 0x021a ∷ 0x0000 ∷ 0x1054 ∷ 0x0000 ∷ 0x206e ∷ 0x0000 ∷ 0x0020 ∷ 0x000c ∷ 0x105b ∷
     0x0000 ∷ 0x0111 ∷ [])
     [] (codes "null" ∷ []) [])))
     ∷ method (codes "append") (of_int ∷ []) (Some (of_class (codes "Ljava/lang/StringBuilder;"))) 0
-    (Some (naming [] (method_ref (codes "Ldvm/Text;") (codes "ofLong") (of_long ∷ []) (Some (of_class (codes "Ljava/lang/String;"))) ∷ method_ref (codes "Ljava/lang/StringBuilder;") (codes "append") (of_class (codes "Ljava/lang/String;") ∷ []) (Some (of_class (codes "Ljava/lang/StringBuilder;"))) ∷ [])
+    (Some (naming []
+    (method_ref (codes "Ldvm/Text;") (codes "ofLong") (of_long ∷ []) (Some (of_class (codes "Ljava/lang/String;"))) ∷
+    method_ref (codes "Ljava/lang/StringBuilder;") (codes "append") (of_class (codes "Ljava/lang/String;") ∷ [])
+    (Some (of_class (codes "Ljava/lang/StringBuilder;"))) ∷ [])
     (body 5 (0x4081 ∷ 0x2071 ∷ 0x0000 ∷ 0x0010 ∷ 0x000c ∷ 0x206e ∷ 0x0001 ∷ 0x0003 ∷ 0x0311 ∷ []))))
     ∷ method (codes "append") (of_long ∷ []) (Some (of_class (codes "Ljava/lang/StringBuilder;"))) 0
-    (Some (naming [] (method_ref (codes "Ldvm/Text;") (codes "ofLong") (of_long ∷ []) (Some (of_class (codes "Ljava/lang/String;"))) ∷ method_ref (codes "Ljava/lang/StringBuilder;") (codes "append") (of_class (codes "Ljava/lang/String;") ∷ []) (Some (of_class (codes "Ljava/lang/StringBuilder;"))) ∷ [])
+    (Some (naming []
+    (method_ref (codes "Ldvm/Text;") (codes "ofLong") (of_long ∷ []) (Some (of_class (codes "Ljava/lang/String;"))) ∷
+    method_ref (codes "Ljava/lang/StringBuilder;") (codes "append") (of_class (codes "Ljava/lang/String;") ∷ [])
+    (Some (of_class (codes "Ljava/lang/StringBuilder;"))) ∷ [])
     (body 6 (0x2071 ∷ 0x0000 ∷ 0x0054 ∷ 0x000c ∷ 0x206e ∷ 0x0001 ∷ 0x0003 ∷ 0x0311 ∷ []))))
     ∷ method (codes "append") (of_char ∷ []) (Some (of_class (codes "Ljava/lang/StringBuilder;"))) 0
-    (Some (naming [] (method_ref (codes "Ldvm/Text;") (codes "ofChars") (array_of of_char ∷ of_int ∷ of_int ∷ []) (Some (of_class (codes "Ljava/lang/String;"))) ∷ method_ref (codes "Ljava/lang/StringBuilder;") (codes "append") (of_class (codes "Ljava/lang/String;") ∷ []) (Some (of_class (codes "Ljava/lang/StringBuilder;"))) ∷ [])
+    (Some (naming []
+    (method_ref (codes "Ldvm/Text;") (codes "ofChars") (array_of of_char ∷ of_int ∷ of_int ∷ [])
+    (Some (of_class (codes "Ljava/lang/String;"))) ∷
+    method_ref (codes "Ljava/lang/StringBuilder;") (codes "append") (of_class (codes "Ljava/lang/String;") ∷ [])
+    (Some (of_class (codes "Ljava/lang/StringBuilder;"))) ∷ [])
     (body_with 5
     (0x1112 ∷ 0x1023 ∷ 0x0000 ∷ 0x0212 ∷ 0x0450 ∷ 0x0200 ∷ 0x3071 ∷ 0x0000 ∷ 0x0120 ∷ 0x000c ∷ 0x206e ∷
     0x0001 ∷ 0x0003 ∷ 0x0311 ∷ [])
     [] [] (array_of of_char ∷ []))))
     ∷ method (codes "append") (of_boolean ∷ []) (Some (of_class (codes "Ljava/lang/StringBuilder;"))) 0
-    (Some (naming [] (method_ref (codes "Ljava/lang/StringBuilder;") (codes "append") (of_class (codes "Ljava/lang/String;") ∷ []) (Some (of_class (codes "Ljava/lang/StringBuilder;"))) ∷ [])
+    (Some (naming []
+    (method_ref (codes "Ljava/lang/StringBuilder;") (codes "append") (of_class (codes "Ljava/lang/String;") ∷ [])
+    (Some (of_class (codes "Ljava/lang/StringBuilder;"))) ∷ [])
     (body_with 5
     (0x0438 ∷ 0x0005 ∷ 0x001a ∷ 0x0000 ∷ 0x0328 ∷ 0x001a ∷ 0x0001 ∷ 0x206e ∷ 0x0000 ∷ 0x0003 ∷ 0x0311 ∷ [])
     [] (codes "true" ∷ codes "false" ∷ []) [])))
-    ∷ method (codes "toString") [] (Some (of_class (codes "Ljava/lang/String;"))) 0 (Some (naming (field_ref (codes "Ljava/lang/StringBuilder;") (codes "text") (of_class (codes "Ljava/lang/String;")) ∷ []) []
+    ∷ method (codes "toString") [] (Some (of_class (codes "Ljava/lang/String;"))) 0 (Some (naming
+    (field_ref (codes "Ljava/lang/StringBuilder;") (codes "text") (of_class (codes "Ljava/lang/String;")) ∷ []) []
     (body 2 (0x1054 ∷ 0x0000 ∷ 0x0011 ∷ []))))
     ∷ method (codes "length") [] (Some of_int) 0
-    (Some (naming (field_ref (codes "Ljava/lang/StringBuilder;") (codes "text") (of_class (codes "Ljava/lang/String;")) ∷ []) (method_ref (codes "Ljava/lang/String;") (codes "length") [] (Some of_int) ∷ [])
+    (Some (naming
+    (field_ref (codes "Ljava/lang/StringBuilder;") (codes "text") (of_class (codes "Ljava/lang/String;")) ∷ [])
+    (method_ref (codes "Ljava/lang/String;") (codes "length") [] (Some of_int) ∷ [])
     (body 2 (0x1054 ∷ 0x0000 ∷ 0x106e ∷ 0x0000 ∷ 0x0000 ∷ 0x000a ∷ 0x000f ∷ [])))) ∷ []))
 
 --   .class final Ljava/lang/System;
@@ -246,7 +274,8 @@ string_builder_class =
 abbrev pub system_class : ClassInfo
 system_class =
     linked (Some 0) [] [] (1 ∷ 2 ∷ 3 ∷ 4 ∷ [])
-    (class (codes "Ljava/lang/System;") (Some (codes "Ljava/lang/Object;")) [] 0x10 (field (codes "out") (of_class (codes "Ljava/io/PrintStream;")) 0x18 ∷ [])
+    (class (codes "Ljava/lang/System;") (Some (codes "Ljava/lang/Object;")) [] 0x10
+    (field (codes "out") (of_class (codes "Ljava/io/PrintStream;")) 0x18 ∷ [])
     [])
 
 --   .class Ljava/io/PrintStream;
@@ -369,55 +398,84 @@ print_stream_class =
     linked (Some 0) [] [] (1 ∷ 2 ∷ 3 ∷ 4 ∷ 26 ∷ 27 ∷ 28 ∷ 29 ∷ 30 ∷ 31 ∷ 32 ∷ 33 ∷ 34 ∷ 35 ∷ 36 ∷ [])
     (class (codes "Ljava/io/PrintStream;") (Some (codes "Ljava/lang/Object;")) [] 0 []
     (method (codes "println") [] None 0
-    (Some (naming [] (method_ref (codes "Ldvm/Console;") (codes "print") (of_class (codes "Ljava/lang/String;") ∷ []) None ∷ [])
+    (Some (naming []
+    (method_ref (codes "Ldvm/Console;") (codes "print") (of_class (codes "Ljava/lang/String;") ∷ []) None ∷ [])
     (body_with 2 (0x001a ∷ 0x0000 ∷ 0x1071 ∷ 0x0000 ∷ 0x0000 ∷ 0x000e ∷ []) [] ((10 ∷ []) ∷ []) [])))
     ∷ method (codes "print") (of_class (codes "Ljava/lang/String;") ∷ []) None 0
-    (Some (naming [] (method_ref (codes "Ldvm/Console;") (codes "print") (of_class (codes "Ljava/lang/String;") ∷ []) None ∷ [])
+    (Some (naming []
+    (method_ref (codes "Ldvm/Console;") (codes "print") (of_class (codes "Ljava/lang/String;") ∷ []) None ∷ [])
     (body_with 5 (0x0439 ∷ 0x0004 ∷ 0x041a ∷ 0x0000 ∷ 0x4007 ∷ 0x1071 ∷ 0x0000 ∷ 0x0000 ∷ 0x000e ∷ [])
     [] (codes "null" ∷ []) [])))
     ∷ method (codes "print") (of_int ∷ []) None 0
-    (Some (naming [] (method_ref (codes "Ldvm/Text;") (codes "ofLong") (of_long ∷ []) (Some (of_class (codes "Ljava/lang/String;"))) ∷ method_ref (codes "Ldvm/Console;") (codes "print") (of_class (codes "Ljava/lang/String;") ∷ []) None ∷ [])
+    (Some (naming []
+    (method_ref (codes "Ldvm/Text;") (codes "ofLong") (of_long ∷ []) (Some (of_class (codes "Ljava/lang/String;"))) ∷
+    method_ref (codes "Ldvm/Console;") (codes "print") (of_class (codes "Ljava/lang/String;") ∷ []) None ∷ [])
     (body 5 (0x4081 ∷ 0x2071 ∷ 0x0000 ∷ 0x0010 ∷ 0x000c ∷ 0x1071 ∷ 0x0001 ∷ 0x0000 ∷ 0x000e ∷ []))))
     ∷ method (codes "print") (of_long ∷ []) None 0
-    (Some (naming [] (method_ref (codes "Ldvm/Text;") (codes "ofLong") (of_long ∷ []) (Some (of_class (codes "Ljava/lang/String;"))) ∷ method_ref (codes "Ldvm/Console;") (codes "print") (of_class (codes "Ljava/lang/String;") ∷ []) None ∷ [])
+    (Some (naming []
+    (method_ref (codes "Ldvm/Text;") (codes "ofLong") (of_long ∷ []) (Some (of_class (codes "Ljava/lang/String;"))) ∷
+    method_ref (codes "Ldvm/Console;") (codes "print") (of_class (codes "Ljava/lang/String;") ∷ []) None ∷ [])
     (body 6 (0x2071 ∷ 0x0000 ∷ 0x0054 ∷ 0x000c ∷ 0x1071 ∷ 0x0001 ∷ 0x0000 ∷ 0x000e ∷ []))))
     ∷ method (codes "print") (of_char ∷ []) None 0
-    (Some (naming [] (method_ref (codes "Ldvm/Text;") (codes "ofChars") (array_of of_char ∷ of_int ∷ of_int ∷ []) (Some (of_class (codes "Ljava/lang/String;"))) ∷ method_ref (codes "Ldvm/Console;") (codes "print") (of_class (codes "Ljava/lang/String;") ∷ []) None ∷ [])
+    (Some (naming []
+    (method_ref (codes "Ldvm/Text;") (codes "ofChars") (array_of of_char ∷ of_int ∷ of_int ∷ [])
+    (Some (of_class (codes "Ljava/lang/String;"))) ∷
+    method_ref (codes "Ldvm/Console;") (codes "print") (of_class (codes "Ljava/lang/String;") ∷ []) None ∷ [])
     (body_with 5
     (0x1112 ∷ 0x1023 ∷ 0x0000 ∷ 0x0212 ∷ 0x0450 ∷ 0x0200 ∷ 0x3071 ∷ 0x0000 ∷ 0x0120 ∷ 0x000c ∷ 0x1071 ∷
     0x0001 ∷ 0x0000 ∷ 0x000e ∷ [])
     [] [] (array_of of_char ∷ []))))
     ∷ method (codes "print") (of_boolean ∷ []) None 0
-    (Some (naming [] (method_ref (codes "Ldvm/Console;") (codes "print") (of_class (codes "Ljava/lang/String;") ∷ []) None ∷ [])
+    (Some (naming []
+    (method_ref (codes "Ldvm/Console;") (codes "print") (of_class (codes "Ljava/lang/String;") ∷ []) None ∷ [])
     (body_with 5
     (0x0438 ∷ 0x0005 ∷ 0x001a ∷ 0x0000 ∷ 0x0328 ∷ 0x001a ∷ 0x0001 ∷ 0x1071 ∷ 0x0000 ∷ 0x0000 ∷ 0x000e ∷ [])
     [] (codes "true" ∷ codes "false" ∷ []) [])))
     ∷ method (codes "println") (of_class (codes "Ljava/lang/String;") ∷ []) None 0
-    (Some (naming [] (method_ref (codes "Ljava/lang/String;") (codes "concat") (of_class (codes "Ljava/lang/String;") ∷ []) (Some (of_class (codes "Ljava/lang/String;"))) ∷ method_ref (codes "Ldvm/Console;") (codes "print") (of_class (codes "Ljava/lang/String;") ∷ []) None ∷ [])
+    (Some (naming []
+    (method_ref (codes "Ljava/lang/String;") (codes "concat") (of_class (codes "Ljava/lang/String;") ∷ [])
+    (Some (of_class (codes "Ljava/lang/String;"))) ∷
+    method_ref (codes "Ldvm/Console;") (codes "print") (of_class (codes "Ljava/lang/String;") ∷ []) None ∷ [])
     (body_with 5
     (0x0439 ∷ 0x0004 ∷ 0x041a ∷ 0x0000 ∷ 0x4007 ∷ 0x011a ∷ 0x0001 ∷ 0x206e ∷ 0x0000 ∷ 0x0010 ∷ 0x000c ∷
     0x1071 ∷ 0x0001 ∷ 0x0000 ∷ 0x000e ∷ [])
     [] (codes "null" ∷ (10 ∷ []) ∷ []) [])))
     ∷ method (codes "println") (of_int ∷ []) None 0
-    (Some (naming [] (method_ref (codes "Ldvm/Text;") (codes "ofLong") (of_long ∷ []) (Some (of_class (codes "Ljava/lang/String;"))) ∷ method_ref (codes "Ljava/lang/String;") (codes "concat") (of_class (codes "Ljava/lang/String;") ∷ []) (Some (of_class (codes "Ljava/lang/String;"))) ∷ method_ref (codes "Ldvm/Console;") (codes "print") (of_class (codes "Ljava/lang/String;") ∷ []) None ∷ [])
+    (Some (naming []
+    (method_ref (codes "Ldvm/Text;") (codes "ofLong") (of_long ∷ []) (Some (of_class (codes "Ljava/lang/String;"))) ∷
+    method_ref (codes "Ljava/lang/String;") (codes "concat") (of_class (codes "Ljava/lang/String;") ∷ [])
+    (Some (of_class (codes "Ljava/lang/String;"))) ∷
+    method_ref (codes "Ldvm/Console;") (codes "print") (of_class (codes "Ljava/lang/String;") ∷ []) None ∷ [])
     (body_with 5
     (0x4081 ∷ 0x2071 ∷ 0x0000 ∷ 0x0010 ∷ 0x000c ∷ 0x011a ∷ 0x0000 ∷ 0x206e ∷ 0x0001 ∷ 0x0010 ∷ 0x000c ∷
     0x1071 ∷ 0x0002 ∷ 0x0000 ∷ 0x000e ∷ [])
     [] ((10 ∷ []) ∷ []) [])))
     ∷ method (codes "println") (of_long ∷ []) None 0
-    (Some (naming [] (method_ref (codes "Ldvm/Text;") (codes "ofLong") (of_long ∷ []) (Some (of_class (codes "Ljava/lang/String;"))) ∷ method_ref (codes "Ljava/lang/String;") (codes "concat") (of_class (codes "Ljava/lang/String;") ∷ []) (Some (of_class (codes "Ljava/lang/String;"))) ∷ method_ref (codes "Ldvm/Console;") (codes "print") (of_class (codes "Ljava/lang/String;") ∷ []) None ∷ [])
+    (Some (naming []
+    (method_ref (codes "Ldvm/Text;") (codes "ofLong") (of_long ∷ []) (Some (of_class (codes "Ljava/lang/String;"))) ∷
+    method_ref (codes "Ljava/lang/String;") (codes "concat") (of_class (codes "Ljava/lang/String;") ∷ [])
+    (Some (of_class (codes "Ljava/lang/String;"))) ∷
+    method_ref (codes "Ldvm/Console;") (codes "print") (of_class (codes "Ljava/lang/String;") ∷ []) None ∷ [])
     (body_with 6
     (0x2071 ∷ 0x0000 ∷ 0x0054 ∷ 0x000c ∷ 0x011a ∷ 0x0000 ∷ 0x206e ∷ 0x0001 ∷ 0x0010 ∷ 0x000c ∷ 0x1071 ∷
     0x0002 ∷ 0x0000 ∷ 0x000e ∷ [])
     [] ((10 ∷ []) ∷ []) [])))
     ∷ method (codes "println") (of_char ∷ []) None 0
-    (Some (naming [] (method_ref (codes "Ldvm/Text;") (codes "ofChars") (array_of of_char ∷ of_int ∷ of_int ∷ []) (Some (of_class (codes "Ljava/lang/String;"))) ∷ method_ref (codes "Ljava/lang/String;") (codes "concat") (of_class (codes "Ljava/lang/String;") ∷ []) (Some (of_class (codes "Ljava/lang/String;"))) ∷ method_ref (codes "Ldvm/Console;") (codes "print") (of_class (codes "Ljava/lang/String;") ∷ []) None ∷ [])
+    (Some (naming []
+    (method_ref (codes "Ldvm/Text;") (codes "ofChars") (array_of of_char ∷ of_int ∷ of_int ∷ [])
+    (Some (of_class (codes "Ljava/lang/String;"))) ∷
+    method_ref (codes "Ljava/lang/String;") (codes "concat") (of_class (codes "Ljava/lang/String;") ∷ [])
+    (Some (of_class (codes "Ljava/lang/String;"))) ∷
+    method_ref (codes "Ldvm/Console;") (codes "print") (of_class (codes "Ljava/lang/String;") ∷ []) None ∷ [])
     (body_with 5
     (0x1112 ∷ 0x1023 ∷ 0x0000 ∷ 0x0212 ∷ 0x0450 ∷ 0x0200 ∷ 0x3071 ∷ 0x0000 ∷ 0x0120 ∷ 0x000c ∷ 0x011a ∷
     0x0000 ∷ 0x206e ∷ 0x0001 ∷ 0x0010 ∷ 0x000c ∷ 0x1071 ∷ 0x0002 ∷ 0x0000 ∷ 0x000e ∷ [])
     [] ((10 ∷ []) ∷ []) (array_of of_char ∷ []))))
     ∷ method (codes "println") (of_boolean ∷ []) None 0
-    (Some (naming [] (method_ref (codes "Ljava/lang/String;") (codes "concat") (of_class (codes "Ljava/lang/String;") ∷ []) (Some (of_class (codes "Ljava/lang/String;"))) ∷ method_ref (codes "Ldvm/Console;") (codes "print") (of_class (codes "Ljava/lang/String;") ∷ []) None ∷ [])
+    (Some (naming []
+    (method_ref (codes "Ljava/lang/String;") (codes "concat") (of_class (codes "Ljava/lang/String;") ∷ [])
+    (Some (of_class (codes "Ljava/lang/String;"))) ∷
+    method_ref (codes "Ldvm/Console;") (codes "print") (of_class (codes "Ljava/lang/String;") ∷ []) None ∷ [])
     (body_with 5
     (0x0438 ∷ 0x0005 ∷ 0x001a ∷ 0x0000 ∷ 0x0328 ∷ 0x001a ∷ 0x0001 ∷ 0x011a ∷ 0x0002 ∷ 0x206e ∷ 0x0000 ∷
     0x0010 ∷ 0x000c ∷ 0x1071 ∷ 0x0001 ∷ 0x0000 ∷ 0x000e ∷ [])
@@ -490,23 +548,33 @@ console_class =
 abbrev pub throwable_class : ClassInfo
 throwable_class =
     linked (Some 0) [] (3 ∷ 4 ∷ []) (1 ∷ 2 ∷ 3 ∷ 4 ∷ 45 ∷ 46 ∷ [])
-    (class (codes "Ljava/lang/Throwable;") (Some (codes "Ljava/lang/Object;")) [] 0 (field (codes "message") (of_class (codes "Ljava/lang/String;")) 0 ∷
+    (class (codes "Ljava/lang/Throwable;") (Some (codes "Ljava/lang/Object;")) [] 0
+    (field (codes "message") (of_class (codes "Ljava/lang/String;")) 0 ∷
     field (codes "cause") (of_class (codes "Ljava/lang/Throwable;")) 0 ∷ [])
     (method (codes "<init>") [] None 0 (Some (naming [] (object_init_ref ∷ [])
     (body 1 (0x1070 ∷ 0x0000 ∷ 0x0000 ∷ 0x000e ∷ []))))
     ∷ method (codes "<init>") (of_class (codes "Ljava/lang/String;") ∷ []) None 0
-    (Some (naming (field_ref (codes "Ljava/lang/Throwable;") (codes "message") (of_class (codes "Ljava/lang/String;")) ∷ []) (object_init_ref ∷ [])
+    (Some (naming
+    (field_ref (codes "Ljava/lang/Throwable;") (codes "message") (of_class (codes "Ljava/lang/String;")) ∷ [])
+    (object_init_ref ∷ [])
     (body 2 (0x1070 ∷ 0x0000 ∷ 0x0000 ∷ 0x015b ∷ 0x0000 ∷ 0x000e ∷ []))))
     ∷ method (codes "<init>") (of_class (codes "Ljava/lang/String;") ∷ of_class (codes "Ljava/lang/Throwable;") ∷ [])
-    None 0 (Some (naming (field_ref (codes "Ljava/lang/Throwable;") (codes "message") (of_class (codes "Ljava/lang/String;")) ∷ field_ref (codes "Ljava/lang/Throwable;") (codes "cause") (of_class (codes "Ljava/lang/Throwable;")) ∷ []) (object_init_ref ∷ [])
+    None 0 (Some (naming
+    (field_ref (codes "Ljava/lang/Throwable;") (codes "message") (of_class (codes "Ljava/lang/String;")) ∷
+    field_ref (codes "Ljava/lang/Throwable;") (codes "cause") (of_class (codes "Ljava/lang/Throwable;")) ∷ [])
+    (object_init_ref ∷ [])
     (body 3 (0x1070 ∷ 0x0000 ∷ 0x0000 ∷ 0x015b ∷ 0x0000 ∷ 0x025b ∷ 0x0001 ∷ 0x000e ∷ []))))
     ∷ method (codes "<init>") (of_class (codes "Ljava/lang/Throwable;") ∷ []) None 0
-    (Some (naming (field_ref (codes "Ljava/lang/Throwable;") (codes "cause") (of_class (codes "Ljava/lang/Throwable;")) ∷ []) (object_init_ref ∷ [])
+    (Some (naming
+    (field_ref (codes "Ljava/lang/Throwable;") (codes "cause") (of_class (codes "Ljava/lang/Throwable;")) ∷ [])
+    (object_init_ref ∷ [])
     (body 2 (0x1070 ∷ 0x0000 ∷ 0x0000 ∷ 0x015b ∷ 0x0000 ∷ 0x000e ∷ []))))
-    ∷ method (codes "getMessage") [] (Some (of_class (codes "Ljava/lang/String;"))) 0 (Some (naming (field_ref (codes "Ljava/lang/Throwable;") (codes "message") (of_class (codes "Ljava/lang/String;")) ∷ []) []
+    ∷ method (codes "getMessage") [] (Some (of_class (codes "Ljava/lang/String;"))) 0 (Some (naming
+    (field_ref (codes "Ljava/lang/Throwable;") (codes "message") (of_class (codes "Ljava/lang/String;")) ∷ []) []
     (body 2 (0x1054 ∷ 0x0000 ∷ 0x0011 ∷ []))))
     ∷ method (codes "getCause") [] (Some (of_class (codes "Ljava/lang/Throwable;"))) 0
-    (Some (naming (field_ref (codes "Ljava/lang/Throwable;") (codes "cause") (of_class (codes "Ljava/lang/Throwable;")) ∷ []) []
+    (Some (naming
+    (field_ref (codes "Ljava/lang/Throwable;") (codes "cause") (of_class (codes "Ljava/lang/Throwable;")) ∷ []) []
     (body 2 (0x1054 ∷ 0x0000 ∷ 0x0011 ∷ [])))) ∷ []))
 
 -- ---- the classes of exceptions
@@ -563,7 +631,8 @@ exception_under parent super name constructors =
 --   .class Ljava/lang/Exception;
 --   .super Ljava/lang/Throwable;
 abbrev pub exception_class : ClassInfo
-exception_class = exception_under 10 (codes "Ljava/lang/Throwable;") (codes "Ljava/lang/Exception;") all_constructors
+exception_class =
+    exception_under 10 (codes "Ljava/lang/Throwable;") (codes "Ljava/lang/Exception;") all_constructors
 
 --   .class Ljava/lang/Error;
 --   .super Ljava/lang/Throwable;
@@ -579,17 +648,20 @@ runtime_exception_class =
 --   .class Ljava/lang/InterruptedException;
 --   .super Ljava/lang/Exception;
 abbrev pub interrupted_exception_class : ClassInfo
-interrupted_exception_class = exception_under 11 (codes "Ljava/lang/Exception;") (codes "Ljava/lang/InterruptedException;") plain_constructors
+interrupted_exception_class =
+    exception_under 11 (codes "Ljava/lang/Exception;") (codes "Ljava/lang/InterruptedException;") plain_constructors
 
 --   .class Ljava/lang/ArithmeticException;
 --   .super Ljava/lang/RuntimeException;
 abbrev pub arithmetic_exception_class : ClassInfo
-arithmetic_exception_class = exception_under 13 (codes "Ljava/lang/RuntimeException;") (codes "Ljava/lang/ArithmeticException;") plain_constructors
+arithmetic_exception_class =
+    exception_under 13 (codes "Ljava/lang/RuntimeException;") (codes "Ljava/lang/ArithmeticException;") plain_constructors
 
 --   .class Ljava/lang/NullPointerException;
 --   .super Ljava/lang/RuntimeException;
 abbrev pub null_pointer_exception_class : ClassInfo
-null_pointer_exception_class = exception_under 13 (codes "Ljava/lang/RuntimeException;") (codes "Ljava/lang/NullPointerException;") plain_constructors
+null_pointer_exception_class =
+    exception_under 13 (codes "Ljava/lang/RuntimeException;") (codes "Ljava/lang/NullPointerException;") plain_constructors
 
 --   .class Ljava/lang/NegativeArraySizeException;
 --   .super Ljava/lang/RuntimeException;
@@ -600,12 +672,14 @@ negative_array_size_exception_class =
 --   .class Ljava/lang/ClassCastException;
 --   .super Ljava/lang/RuntimeException;
 abbrev pub class_cast_exception_class : ClassInfo
-class_cast_exception_class = exception_under 13 (codes "Ljava/lang/RuntimeException;") (codes "Ljava/lang/ClassCastException;") plain_constructors
+class_cast_exception_class =
+    exception_under 13 (codes "Ljava/lang/RuntimeException;") (codes "Ljava/lang/ClassCastException;") plain_constructors
 
 --   .class Ljava/lang/ArrayStoreException;
 --   .super Ljava/lang/RuntimeException;
 abbrev pub array_store_exception_class : ClassInfo
-array_store_exception_class = exception_under 13 (codes "Ljava/lang/RuntimeException;") (codes "Ljava/lang/ArrayStoreException;") plain_constructors
+array_store_exception_class =
+    exception_under 13 (codes "Ljava/lang/RuntimeException;") (codes "Ljava/lang/ArrayStoreException;") plain_constructors
 
 --   .class Ljava/lang/IllegalMonitorStateException;
 --   .super Ljava/lang/RuntimeException;
@@ -640,17 +714,20 @@ illegal_thread_state_exception_class =
 --   .class Ljava/lang/LinkageError;
 --   .super Ljava/lang/Error;
 abbrev pub linkage_error_class : ClassInfo
-linkage_error_class = exception_under 12 (codes "Ljava/lang/Error;") (codes "Ljava/lang/LinkageError;") plain_constructors
+linkage_error_class =
+    exception_under 12 (codes "Ljava/lang/Error;") (codes "Ljava/lang/LinkageError;") plain_constructors
 
 --   .class Ljava/lang/VirtualMachineError;
 --   .super Ljava/lang/Error;
 abbrev pub virtual_machine_error_class : ClassInfo
-virtual_machine_error_class = exception_under 12 (codes "Ljava/lang/Error;") (codes "Ljava/lang/VirtualMachineError;") plain_constructors
+virtual_machine_error_class =
+    exception_under 12 (codes "Ljava/lang/Error;") (codes "Ljava/lang/VirtualMachineError;") plain_constructors
 
 --   .class Ljava/lang/NoClassDefFoundError;
 --   .super Ljava/lang/LinkageError;
 abbrev pub no_class_def_found_error_class : ClassInfo
-no_class_def_found_error_class = exception_under 25 (codes "Ljava/lang/LinkageError;") (codes "Ljava/lang/NoClassDefFoundError;") plain_constructors
+no_class_def_found_error_class =
+    exception_under 25 (codes "Ljava/lang/LinkageError;") (codes "Ljava/lang/NoClassDefFoundError;") plain_constructors
 
 --   .class Ljava/lang/ExceptionInInitializerError;
 --   .super Ljava/lang/LinkageError;
@@ -678,17 +755,20 @@ incompatible_class_change_error_class =
 --   .class Ljava/lang/AbstractMethodError;
 --   .super Ljava/lang/IncompatibleClassChangeError;
 abbrev pub abstract_method_error_class : ClassInfo
-abstract_method_error_class = exception_under 29 (codes "Ljava/lang/IncompatibleClassChangeError;") (codes "Ljava/lang/AbstractMethodError;") plain_constructors
+abstract_method_error_class =
+    exception_under 29 (codes "Ljava/lang/IncompatibleClassChangeError;") (codes "Ljava/lang/AbstractMethodError;") plain_constructors
 
 --   .class Ljava/lang/OutOfMemoryError;
 --   .super Ljava/lang/VirtualMachineError;
 abbrev pub out_of_memory_error_class : ClassInfo
-out_of_memory_error_class = exception_under 26 (codes "Ljava/lang/VirtualMachineError;") (codes "Ljava/lang/OutOfMemoryError;") plain_constructors
+out_of_memory_error_class =
+    exception_under 26 (codes "Ljava/lang/VirtualMachineError;") (codes "Ljava/lang/OutOfMemoryError;") plain_constructors
 
 --   .class Ljava/lang/StackOverflowError;
 --   .super Ljava/lang/VirtualMachineError;
 abbrev pub stack_overflow_error_class : ClassInfo
-stack_overflow_error_class = exception_under 26 (codes "Ljava/lang/VirtualMachineError;") (codes "Ljava/lang/StackOverflowError;") plain_constructors
+stack_overflow_error_class =
+    exception_under 26 (codes "Ljava/lang/VirtualMachineError;") (codes "Ljava/lang/StackOverflowError;") plain_constructors
 
 -- by number, from 0
 abbrev pub boot_classes : List ClassInfo

@@ -57,7 +57,10 @@ crossing = with_boot
     (linked (Some 0) [] [] (1 ∷ 2 ∷ 3 ∷ 4 ∷ [])
     (class (codes "LMain;") (Some (codes "Ljava/lang/Object;")) [] 0 []
     (method (codes "main") [] None 8
-    (Some (naming [] (method_ref (codes "LT;") (codes "<init>") [] None ∷ method_ref (codes "LT;") (codes "start") [] None ∷ method_ref (codes "LB;") (codes "touch") [] None ∷ [])
+    (Some (naming []
+    (method_ref (codes "LT;") (codes "<init>") [] None ∷
+    method_ref (codes "LT;") (codes "start") [] None ∷
+    method_ref (codes "LB;") (codes "touch") [] None ∷ [])
     (body_with 1
     (0x0022 ∷ 0x0000 ∷ 0x1070 ∷ 0x0000 ∷ 0x0000 ∷ 0x106e ∷ 0x0001 ∷ 0x0000 ∷ 0x0071 ∷ 0x0002 ∷ 0x0000 ∷
     0x000e ∷ [])
@@ -74,7 +77,8 @@ crossing = with_boot
     (body 0 (0x0071 ∷ 0x0000 ∷ 0x0000 ∷ 0x000e ∷ [])))) ∷ [])) ∷
     linked (Some 3) [] (0 ∷ []) (1 ∷ 2 ∷ 3 ∷ 4 ∷ 104 ∷ 9 ∷ 10 ∷ [])
     (class (codes "LT;") (Some (codes "Ljava/lang/Thread;")) [] 0 []
-    (method (codes "<init>") [] None 0 (Some (naming [] (method_ref (codes "Ljava/lang/Thread;") (codes "<init>") [] None ∷ [])
+    (method (codes "<init>") [] None 0
+    (Some (naming [] (method_ref (codes "Ljava/lang/Thread;") (codes "<init>") [] None ∷ [])
     (body 1 (0x1070 ∷ 0x0000 ∷ 0x0000 ∷ 0x000e ∷ []))))
     ∷ method (codes "run") [] None 0 (Some (naming [] (method_ref (codes "LA;") (codes "touch") [] None ∷ [])
     (body 1 (0x0071 ∷ 0x0000 ∷ 0x0000 ∷ 0x000e ∷ [])))) ∷ [])) ∷ [])
@@ -182,10 +186,13 @@ ordering = with_boot
     (method (codes "<clinit>") [] None 8 (Some (naming [] (println_ref ∷ [])
     (body 1 (0x1012 ∷ 0x1071 ∷ 0x0000 ∷ 0x0000 ∷ 0x000e ∷ []))))
     ∷ method (codes "main") [] None 8
-    (Some (naming (field_ref (codes "LUpper;") (codes "x") of_int ∷ []) (method_ref (codes "LLower;") (codes "f") [] None ∷ println_ref ∷ [])
+    (Some (naming
+    (field_ref (codes "LUpper;") (codes "x") of_int ∷ [])
+    (method_ref (codes "LLower;") (codes "f") [] None ∷ println_ref ∷ [])
     (body 1 (0x0071 ∷ 0x0000 ∷ 0x0000 ∷ 0x0060 ∷ 0x0000 ∷ 0x1071 ∷ 0x0001 ∷ 0x0000 ∷ 0x000e ∷ [])))) ∷ [])) ∷
     linked (Some 0) [] [] (1 ∷ 2 ∷ 3 ∷ 4 ∷ [])
-    (class (codes "LUpper;") (Some (codes "Ljava/lang/Object;")) [] 0 (with_init (init.Num (pos 7)) (field (codes "x") of_int 8) ∷ [])
+    (class (codes "LUpper;") (Some (codes "Ljava/lang/Object;")) [] 0
+    (with_init (init.Num (pos 7)) (field (codes "x") of_int 8) ∷ [])
     (method (codes "<clinit>") [] None 8 (Some (naming [] (println_ref ∷ [])
     (body 1 (0x2012 ∷ 0x1071 ∷ 0x0000 ∷ 0x0000 ∷ 0x000e ∷ [])))) ∷ [])) ∷
     linked (Some 34) [] [] (1 ∷ 2 ∷ 3 ∷ 4 ∷ [])

@@ -85,7 +85,8 @@ throwing = with_boot
     (linked (Some 0) [] [] (1 ∷ 2 ∷ 3 ∷ 4 ∷ [])
     (class (codes "LMain;") (Some (codes "Ljava/lang/Object;")) [] 0 []
     (method (codes "main") [] None 8
-    (Some (naming [] (method_ref (codes "Ljava/lang/RuntimeException;") (codes "<init>") (of_class (codes "Ljava/lang/String;") ∷ []) None ∷ [])
+    (Some (naming []
+    (method_ref (codes "Ljava/lang/RuntimeException;") (codes "<init>") (of_class (codes "Ljava/lang/String;") ∷ []) None ∷ [])
     (body_with 2 (0x011a ∷ 0x0000 ∷ 0x0022 ∷ 0x0000 ∷ 0x2070 ∷ 0x0000 ∷ 0x0010 ∷ 0x0027 ∷ [])
     [] (codes "no" ∷ []) (of_class (codes "Ljava/lang/RuntimeException;") ∷ []))))
     ∷ method (codes "deep") [] None 8 (Some (body 1 (0x0012 ∷ 0x0093 ∷ 0x0000 ∷ 0x000e ∷ [])))

@@ -56,9 +56,11 @@ abbrev pub deep : Image
 deep = with_boot
     (linked (Some 0) [] [] (1 ∷ 2 ∷ 3 ∷ 4 ∷ [])
     (class (codes "LMain;") (Some (codes "Ljava/lang/Object;")) [] 0 []
-    (method (codes "f") (of_int ∷ []) None 8 (Some (naming [] (method_ref (codes "LMain;") (codes "f") (of_int ∷ []) None ∷ [])
+    (method (codes "f") (of_int ∷ []) None 8
+    (Some (naming [] (method_ref (codes "LMain;") (codes "f") (of_int ∷ []) None ∷ [])
     (body 1 (0x0038 ∷ 0x0007 ∷ 0x00d8 ∷ 0xff00 ∷ 0x1071 ∷ 0x0000 ∷ 0x0000 ∷ 0x000e ∷ []))))
-    ∷ method (codes "main") [] None 8 (Some (naming [] (method_ref (codes "LMain;") (codes "f") (of_int ∷ []) None ∷ [])
+    ∷ method (codes "main") [] None 8
+    (Some (naming [] (method_ref (codes "LMain;") (codes "f") (of_int ∷ []) None ∷ [])
     (body 1 (0x0013 ∷ 0x03fe ∷ 0x1071 ∷ 0x0000 ∷ 0x0000 ∷ 0x000e ∷ [])))) ∷ [])) ∷ [])
     (info 33 0 [] [] (98 ∷ []) ∷
     info 33 1 [] [] (98 ∷ []) ∷ [])
@@ -84,9 +86,11 @@ abbrev pub deeper : Image
 deeper = with_boot
     (linked (Some 0) [] [] (1 ∷ 2 ∷ 3 ∷ 4 ∷ [])
     (class (codes "LMain;") (Some (codes "Ljava/lang/Object;")) [] 0 []
-    (method (codes "f") (of_int ∷ []) None 8 (Some (naming [] (method_ref (codes "LMain;") (codes "f") (of_int ∷ []) None ∷ [])
+    (method (codes "f") (of_int ∷ []) None 8
+    (Some (naming [] (method_ref (codes "LMain;") (codes "f") (of_int ∷ []) None ∷ [])
     (body 1 (0x0038 ∷ 0x0007 ∷ 0x00d8 ∷ 0xff00 ∷ 0x1071 ∷ 0x0000 ∷ 0x0000 ∷ 0x000e ∷ []))))
-    ∷ method (codes "main") [] None 8 (Some (naming [] (method_ref (codes "LMain;") (codes "f") (of_int ∷ []) None ∷ [])
+    ∷ method (codes "main") [] None 8
+    (Some (naming [] (method_ref (codes "LMain;") (codes "f") (of_int ∷ []) None ∷ [])
     (body 1 (0x0013 ∷ 0x03ff ∷ 0x1071 ∷ 0x0000 ∷ 0x0000 ∷ 0x000e ∷ [])))) ∷ [])) ∷ [])
     (info 33 0 [] [] (98 ∷ []) ∷
     info 33 1 [] [] (98 ∷ []) ∷ [])
@@ -112,9 +116,11 @@ abbrev pub wide : Image
 wide = with_boot
     (linked (Some 0) [] [] (1 ∷ 2 ∷ 3 ∷ 4 ∷ [])
     (class (codes "LMain;") (Some (codes "Ljava/lang/Object;")) [] 0 []
-    (method (codes "f") (of_int ∷ []) None 8 (Some (naming [] (method_ref (codes "LMain;") (codes "f") (of_int ∷ []) None ∷ [])
+    (method (codes "f") (of_int ∷ []) None 8
+    (Some (naming [] (method_ref (codes "LMain;") (codes "f") (of_int ∷ []) None ∷ [])
     (body 1 (0x0038 ∷ 0x0007 ∷ 0x00d8 ∷ 0xff00 ∷ 0x1071 ∷ 0x0000 ∷ 0x0000 ∷ 0x000e ∷ []))))
-    ∷ method (codes "main") [] None 8 (Some (naming [] (method_ref (codes "LMain;") (codes "f") (of_int ∷ []) None ∷ [])
+    ∷ method (codes "main") [] None 8
+    (Some (naming [] (method_ref (codes "LMain;") (codes "f") (of_int ∷ []) None ∷ [])
     (body 1 (0x0013 ∷ 0x003e ∷ 0x1071 ∷ 0x0000 ∷ 0x0000 ∷ 0x000e ∷ [])))) ∷ [])) ∷ [])
     (info 33 0 [] [] (98 ∷ []) ∷
     info 33 1 [] [] (98 ∷ []) ∷ [])
@@ -140,9 +146,11 @@ abbrev pub wider : Image
 wider = with_boot
     (linked (Some 0) [] [] (1 ∷ 2 ∷ 3 ∷ 4 ∷ [])
     (class (codes "LMain;") (Some (codes "Ljava/lang/Object;")) [] 0 []
-    (method (codes "f") (of_int ∷ []) None 8 (Some (naming [] (method_ref (codes "LMain;") (codes "f") (of_int ∷ []) None ∷ [])
+    (method (codes "f") (of_int ∷ []) None 8
+    (Some (naming [] (method_ref (codes "LMain;") (codes "f") (of_int ∷ []) None ∷ [])
     (body 1 (0x0038 ∷ 0x0007 ∷ 0x00d8 ∷ 0xff00 ∷ 0x1071 ∷ 0x0000 ∷ 0x0000 ∷ 0x000e ∷ []))))
-    ∷ method (codes "main") [] None 8 (Some (naming [] (method_ref (codes "LMain;") (codes "f") (of_int ∷ []) None ∷ [])
+    ∷ method (codes "main") [] None 8
+    (Some (naming [] (method_ref (codes "LMain;") (codes "f") (of_int ∷ []) None ∷ [])
     (body 1 (0x0013 ∷ 0x003f ∷ 0x1071 ∷ 0x0000 ∷ 0x0000 ∷ 0x000e ∷ [])))) ∷ [])) ∷ [])
     (info 33 0 [] [] (98 ∷ []) ∷
     info 33 1 [] [] (98 ∷ []) ∷ [])
@@ -186,12 +194,14 @@ starting = with_boot
     (linked (Some 0) [] [] (1 ∷ 2 ∷ 3 ∷ 4 ∷ [])
     (class (codes "LMain;") (Some (codes "Ljava/lang/Object;")) [] 0 []
     (method (codes "main") [] None 8
-    (Some (naming [] (method_ref (codes "LT;") (codes "<init>") [] None ∷ method_ref (codes "LT;") (codes "start") [] None ∷ [])
+    (Some (naming []
+    (method_ref (codes "LT;") (codes "<init>") [] None ∷ method_ref (codes "LT;") (codes "start") [] None ∷ [])
     (body_with 1 (0x0022 ∷ 0x0000 ∷ 0x1070 ∷ 0x0000 ∷ 0x0000 ∷ 0x106e ∷ 0x0001 ∷ 0x0000 ∷ 0xf828 ∷ [])
     [] [] (of_class (codes "LT;") ∷ [])))) ∷ [])) ∷
     linked (Some 3) [] (0 ∷ []) (1 ∷ 2 ∷ 3 ∷ 4 ∷ 8 ∷ 9 ∷ 10 ∷ [])
     (class (codes "LT;") (Some (codes "Ljava/lang/Thread;")) [] 0 []
-    (method (codes "<init>") [] None 0 (Some (naming [] (method_ref (codes "Ljava/lang/Thread;") (codes "<init>") [] None ∷ [])
+    (method (codes "<init>") [] None 0
+    (Some (naming [] (method_ref (codes "Ljava/lang/Thread;") (codes "<init>") [] None ∷ [])
     (body 1 (0x1070 ∷ 0x0000 ∷ 0x0000 ∷ 0x000e ∷ [])))) ∷ [])) ∷ [])
     (info 33 0 (of_class (codes "LT;") ∷ []) [] (99 ∷ 9 ∷ []) ∷
     info 34 0 [] [] (6 ∷ []) ∷ [])

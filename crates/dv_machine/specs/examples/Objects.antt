@@ -142,7 +142,12 @@ calling = with_boot
     (linked (Some 0) [] [] (1 ∷ 2 ∷ 3 ∷ 4 ∷ [])
     (class (codes "LMain;") (Some (codes "Ljava/lang/Object;")) [] 0 []
     (method (codes "main") [] None 8
-    (Some (naming [] (method_ref (codes "LLower;") (codes "<init>") [] None ∷ method_ref (codes "Ljava/lang/Runnable;") (codes "run") [] None ∷ method_ref (codes "LUpper;") (codes "name") [] (Some of_int) ∷ println_ref ∷ method_ref (codes "LUpper;") (codes "twice") (of_long ∷ of_int ∷ []) (Some of_long) ∷ [])
+    (Some (naming []
+    (method_ref (codes "LLower;") (codes "<init>") [] None ∷
+    method_ref (codes "Ljava/lang/Runnable;") (codes "run") [] None ∷
+    method_ref (codes "LUpper;") (codes "name") [] (Some of_int) ∷
+    println_ref ∷
+    method_ref (codes "LUpper;") (codes "twice") (of_long ∷ of_int ∷ []) (Some of_long) ∷ [])
     (body_with 4
     (0x0022 ∷ 0x0000 ∷ 0x0107 ∷ 0x1070 ∷ 0x0000 ∷ 0x0000 ∷ 0x1072 ∷ 0x0001 ∷ 0x0001 ∷ 0x106e ∷ 0x0002 ∷
     0x0001 ∷ 0x020a ∷ 0x1071 ∷ 0x0003 ∷ 0x0002 ∷ 0x0216 ∷ 0x0014 ∷ 0x1112 ∷ 0x406e ∷ 0x0004 ∷ 0x1320 ∷
@@ -153,13 +158,18 @@ calling = with_boot
     (body_with 1 (0x0022 ∷ 0x0000 ∷ 0x1070 ∷ 0x0000 ∷ 0x0000 ∷ 0x1072 ∷ 0x0001 ∷ 0x0000 ∷ 0x000e ∷ [])
     [] [] (of_class (codes "Ljava/lang/Object;") ∷ []))))
     ∷ method (codes "none") [] None 8
-    (Some (naming [] (method_ref (codes "LEmpty;") (codes "<init>") [] None ∷ method_ref (codes "Ljava/lang/Runnable;") (codes "run") [] None ∷ [])
+    (Some (naming []
+    (method_ref (codes "LEmpty;") (codes "<init>") [] None ∷
+    method_ref (codes "Ljava/lang/Runnable;") (codes "run") [] None ∷ [])
     (body_with 1 (0x0022 ∷ 0x0000 ∷ 0x1070 ∷ 0x0000 ∷ 0x0000 ∷ 0x1072 ∷ 0x0001 ∷ 0x0000 ∷ 0x000e ∷ [])
     [] [] (of_class (codes "LEmpty;") ∷ []))))
-    ∷ method (codes "nobody") [] None 8 (Some (naming [] (method_ref (codes "Ljava/lang/Runnable;") (codes "run") [] None ∷ [])
+    ∷ method (codes "nobody") [] None 8
+    (Some (naming [] (method_ref (codes "Ljava/lang/Runnable;") (codes "run") [] None ∷ [])
     (body 1 (0x0012 ∷ 0x1072 ∷ 0x0000 ∷ 0x0000 ∷ 0x000e ∷ []))))
     ∷ method (codes "cells") [] None 8
-    (Some (naming (field_ref (codes "LUpper;") (codes "b") of_byte ∷ field_ref (codes "LUpper;") (codes "w") of_long ∷ []) (method_ref (codes "LUpper;") (codes "<init>") [] None ∷ println_ref ∷ [])
+    (Some (naming
+    (field_ref (codes "LUpper;") (codes "b") of_byte ∷ field_ref (codes "LUpper;") (codes "w") of_long ∷ [])
+    (method_ref (codes "LUpper;") (codes "<init>") [] None ∷ println_ref ∷ [])
     (body_with 3
     (0x0022 ∷ 0x0000 ∷ 0x1070 ∷ 0x0000 ∷ 0x0000 ∷ 0x0113 ∷ 0x01ff ∷ 0x015d ∷ 0x0000 ∷ 0x0156 ∷ 0x0000 ∷
     0x1071 ∷ 0x0001 ∷ 0x0001 ∷ 0x0116 ∷ 0x0008 ∷ 0x015a ∷ 0x0001 ∷ 0x0153 ∷ 0x0001 ∷ 0x1184 ∷ 0x1071 ∷
@@ -171,7 +181,8 @@ calling = with_boot
     [] []
     (of_class (codes "LUpper;") ∷ of_class (codes "Ljava/lang/Runnable;") ∷ of_class (codes "LLower;") ∷ [])))) ∷ [])) ∷
     linked (Some 0) (1 ∷ []) (5 ∷ 6 ∷ []) (1 ∷ 2 ∷ 3 ∷ 4 ∷ 105 ∷ 106 ∷ 108 ∷ [])
-    (class (codes "LUpper;") (Some (codes "Ljava/lang/Object;")) (codes "Ljava/lang/Runnable;" ∷ []) 0 (field (codes "b") of_byte 0 ∷ field (codes "w") of_long 0 ∷ [])
+    (class (codes "LUpper;") (Some (codes "Ljava/lang/Object;")) (codes "Ljava/lang/Runnable;" ∷ []) 0
+    (field (codes "b") of_byte 0 ∷ field (codes "w") of_long 0 ∷ [])
     (method (codes "<init>") [] None 0 (Some (naming [] (object_init_ref ∷ [])
     (body 1 (0x1070 ∷ 0x0000 ∷ 0x0000 ∷ 0x000e ∷ []))))
     ∷ method (codes "run") [] None 0 (Some (naming [] (println_ref ∷ [])
@@ -390,11 +401,29 @@ arrays = with_boot
 abbrev pub texts : Image
 texts = with_boot
     (linked (Some 0) [] [] (1 ∷ 2 ∷ 3 ∷ 4 ∷ [])
-    (class (codes "LMain;") (Some (codes "Ljava/lang/Object;")) [] 0 (with_init (init.Str (codes "hi")) (field (codes "greeting") (of_class (codes "Ljava/lang/String;")) 8) ∷
+    (class (codes "LMain;") (Some (codes "Ljava/lang/Object;")) [] 0
+    (with_init (init.Str (codes "hi")) (field (codes "greeting") (of_class (codes "Ljava/lang/String;")) 8) ∷
     with_init (init.Num (negsuc 1)) (field (codes "big") of_long 8) ∷
     with_init init.Null (field (codes "nothing") (of_class (codes "Ljava/lang/String;")) 8) ∷ [])
     (method (codes "main") [] None 8
-    (Some (naming (field_ref (codes "Ljava/lang/System;") (codes "out") (of_class (codes "Ljava/io/PrintStream;")) ∷ field_ref (codes "LMain;") (codes "greeting") (of_class (codes "Ljava/lang/String;")) ∷ field_ref (codes "LMain;") (codes "big") of_long ∷ field_ref (codes "LMain;") (codes "nothing") (of_class (codes "Ljava/lang/String;")) ∷ []) (method_ref (codes "Ljava/lang/StringBuilder;") (codes "<init>") [] None ∷ method_ref (codes "Ljava/lang/StringBuilder;") (codes "append") (of_class (codes "Ljava/lang/String;") ∷ []) (Some (of_class (codes "Ljava/lang/StringBuilder;"))) ∷ method_ref (codes "Ljava/lang/StringBuilder;") (codes "append") (of_int ∷ []) (Some (of_class (codes "Ljava/lang/StringBuilder;"))) ∷ method_ref (codes "Ljava/lang/StringBuilder;") (codes "append") (of_long ∷ []) (Some (of_class (codes "Ljava/lang/StringBuilder;"))) ∷ method_ref (codes "Ljava/lang/StringBuilder;") (codes "append") (of_char ∷ []) (Some (of_class (codes "Ljava/lang/StringBuilder;"))) ∷ method_ref (codes "Ljava/lang/StringBuilder;") (codes "toString") [] (Some (of_class (codes "Ljava/lang/String;"))) ∷ method_ref (codes "Ljava/io/PrintStream;") (codes "println") (of_class (codes "Ljava/lang/String;") ∷ []) None ∷ method_ref (codes "Ljava/io/PrintStream;") (codes "println") (of_boolean ∷ []) None ∷ [])
+    (Some (naming
+    (field_ref (codes "Ljava/lang/System;") (codes "out") (of_class (codes "Ljava/io/PrintStream;")) ∷
+    field_ref (codes "LMain;") (codes "greeting") (of_class (codes "Ljava/lang/String;")) ∷
+    field_ref (codes "LMain;") (codes "big") of_long ∷
+    field_ref (codes "LMain;") (codes "nothing") (of_class (codes "Ljava/lang/String;")) ∷ [])
+    (method_ref (codes "Ljava/lang/StringBuilder;") (codes "<init>") [] None ∷
+    method_ref (codes "Ljava/lang/StringBuilder;") (codes "append") (of_class (codes "Ljava/lang/String;") ∷ [])
+    (Some (of_class (codes "Ljava/lang/StringBuilder;"))) ∷
+    method_ref (codes "Ljava/lang/StringBuilder;") (codes "append") (of_int ∷ [])
+    (Some (of_class (codes "Ljava/lang/StringBuilder;"))) ∷
+    method_ref (codes "Ljava/lang/StringBuilder;") (codes "append") (of_long ∷ [])
+    (Some (of_class (codes "Ljava/lang/StringBuilder;"))) ∷
+    method_ref (codes "Ljava/lang/StringBuilder;") (codes "append") (of_char ∷ [])
+    (Some (of_class (codes "Ljava/lang/StringBuilder;"))) ∷
+    method_ref (codes "Ljava/lang/StringBuilder;") (codes "toString") []
+    (Some (of_class (codes "Ljava/lang/String;"))) ∷
+    method_ref (codes "Ljava/io/PrintStream;") (codes "println") (of_class (codes "Ljava/lang/String;") ∷ []) None ∷
+    method_ref (codes "Ljava/io/PrintStream;") (codes "println") (of_boolean ∷ []) None ∷ [])
     (body_with 4
     (0x0062 ∷ 0x0000 ∷ 0x0122 ∷ 0x0000 ∷ 0x1070 ∷ 0x0000 ∷ 0x0001 ∷ 0x0262 ∷ 0x0001 ∷ 0x206e ∷ 0x0001 ∷
     0x0021 ∷ 0x9212 ∷ 0x206e ∷ 0x0002 ∷ 0x0021 ∷ 0x0261 ∷ 0x0002 ∷ 0x306e ∷ 0x0003 ∷ 0x0321 ∷ 0x0213 ∷
@@ -402,7 +431,14 @@ texts = with_boot
     0x0262 ∷ 0x0003 ∷ 0x206e ∷ 0x0006 ∷ 0x0020 ∷ 0x1212 ∷ 0x206e ∷ 0x0007 ∷ 0x0020 ∷ 0x000e ∷ [])
     [] [] (of_class (codes "Ljava/lang/StringBuilder;") ∷ []))))
     ∷ method (codes "same") [] None 8
-    (Some (naming (field_ref (codes "LMain;") (codes "greeting") (of_class (codes "Ljava/lang/String;")) ∷ []) (println_ref ∷ method_ref (codes "Ljava/lang/String;") (codes "concat") (of_class (codes "Ljava/lang/String;") ∷ []) (Some (of_class (codes "Ljava/lang/String;"))) ∷ method_ref (codes "Ljava/lang/String;") (codes "equals") (of_class (codes "Ljava/lang/Object;") ∷ []) (Some of_boolean) ∷ method_ref (codes "Ljava/lang/String;") (codes "charAt") (of_int ∷ []) (Some of_char) ∷ [])
+    (Some (naming
+    (field_ref (codes "LMain;") (codes "greeting") (of_class (codes "Ljava/lang/String;")) ∷ [])
+    (println_ref ∷
+    method_ref (codes "Ljava/lang/String;") (codes "concat") (of_class (codes "Ljava/lang/String;") ∷ [])
+    (Some (of_class (codes "Ljava/lang/String;"))) ∷
+    method_ref (codes "Ljava/lang/String;") (codes "equals") (of_class (codes "Ljava/lang/Object;") ∷ [])
+    (Some of_boolean) ∷
+    method_ref (codes "Ljava/lang/String;") (codes "charAt") (of_int ∷ []) (Some of_char) ∷ [])
     (body_with 3
     (0x001a ∷ 0x0000 ∷ 0x0162 ∷ 0x0000 ∷ 0x1033 ∷ 0x0006 ∷ 0x1212 ∷ 0x1071 ∷ 0x0000 ∷ 0x0002 ∷ 0x001c ∷
     0x0000 ∷ 0x011c ∷ 0x0000 ∷ 0x1033 ∷ 0x0006 ∷ 0x2212 ∷ 0x1071 ∷ 0x0000 ∷ 0x0002 ∷ 0x001a ∷ 0x0001 ∷
@@ -411,7 +447,8 @@ texts = with_boot
     0x000e ∷ [])
     [] (codes "hi" ∷ codes "h" ∷ codes "i" ∷ []) (array_of of_int ∷ []))))
     ∷ method (codes "units") [] None 8
-    (Some (naming [] (method_ref (codes "Ldvm/Console;") (codes "print") (of_class (codes "Ljava/lang/String;") ∷ []) None ∷ [])
+    (Some (naming []
+    (method_ref (codes "Ldvm/Console;") (codes "print") (of_class (codes "Ljava/lang/String;") ∷ []) None ∷ [])
     (body_with 1 (0x001a ∷ 0x0000 ∷ 0x1071 ∷ 0x0000 ∷ 0x0000 ∷ 0x000e ∷ [])
     [] ((233 ∷ 8364 ∷ 55357 ∷ 56832 ∷ 55357 ∷ []) ∷ []) []))) ∷ [])) ∷ [])
     (info 33 0 (of_class (codes "Ljava/lang/StringBuilder;") ∷ []) (2 ∷ 5 ∷ 6 ∷ 7 ∷ []) (17 ∷ 19 ∷ 20 ∷ 21 ∷ 22 ∷ 24 ∷ 32 ∷ 36 ∷ []) ∷

@@ -45,12 +45,14 @@ two_threads = with_boot
     (linked (Some 0) [] [] (1 ∷ 2 ∷ 3 ∷ 4 ∷ [])
     (class (codes "LMain;") (Some (codes "Ljava/lang/Object;")) [] 0 []
     (method (codes "main") [] None 8
-    (Some (naming [] (method_ref (codes "LT;") (codes "<init>") [] None ∷ method_ref (codes "LT;") (codes "start") [] None ∷ [])
+    (Some (naming []
+    (method_ref (codes "LT;") (codes "<init>") [] None ∷ method_ref (codes "LT;") (codes "start") [] None ∷ [])
     (body_with 1 (0x0022 ∷ 0x0000 ∷ 0x1070 ∷ 0x0000 ∷ 0x0000 ∷ 0x106e ∷ 0x0001 ∷ 0x0000 ∷ 0x000e ∷ [])
     [] [] (of_class (codes "LT;") ∷ [])))) ∷ [])) ∷
     linked (Some 3) [] (0 ∷ []) (1 ∷ 2 ∷ 3 ∷ 4 ∷ 100 ∷ 9 ∷ 10 ∷ [])
     (class (codes "LT;") (Some (codes "Ljava/lang/Thread;")) [] 0 []
-    (method (codes "<init>") [] None 0 (Some (naming [] (method_ref (codes "Ljava/lang/Thread;") (codes "<init>") [] None ∷ [])
+    (method (codes "<init>") [] None 0
+    (Some (naming [] (method_ref (codes "Ljava/lang/Thread;") (codes "<init>") [] None ∷ [])
     (body 1 (0x1070 ∷ 0x0000 ∷ 0x0000 ∷ 0x000e ∷ []))))
     ∷ method (codes "run") [] None 0 (Some (body 1 (0x000e ∷ []))) ∷ [])) ∷ [])
     (info 33 0 (of_class (codes "LT;") ∷ []) [] (99 ∷ 9 ∷ []) ∷

@@ -197,7 +197,8 @@ use Rattle.dv_machine.specs.examples.Passes.{faults_of, S, V}
 abbrev pub raw_bodies : Image
 raw_bodies = with_boot
     (linked (Some 0) [] (5 ∷ []) (1 ∷ 2 ∷ 3 ∷ 4 ∷ [])
-    (class (codes "LMain;") (Some (codes "Ljava/lang/Object;")) [] 0 (field (codes "x") of_int 0 ∷ field (codes "y") of_int 8 ∷ [])
+    (class (codes "LMain;") (Some (codes "Ljava/lang/Object;")) [] 0
+    (field (codes "x") of_int 0 ∷ field (codes "y") of_int 8 ∷ [])
     (method (codes "<clinit>") [] None 8 (Some (body 0 (0x000e ∷ [])))
     ∷ method (codes "middle") [] None 8 (Some (body 1 (0x0228 ∷ 0x0013 ∷ 0x0005 ∷ 0x000e ∷ [])))
     ∷ method (codes "payload_flow") [] None 8 (Some (body 1 (0x0000 ∷ 0x0000 ∷ 0x0100 ∷ 0x0000 ∷ 0x0000 ∷ 0x0000 ∷ [])))
@@ -235,9 +236,11 @@ raw_bodies = with_boot
     (body 1 (0x0060 ∷ 0x0000 ∷ 0x000e ∷ []))))
     ∷ method (codes "suffix") [] None 8 (Some (naming (field_ref (codes "LMain;") (codes "y") of_int ∷ []) []
     (body 1 (0x0063 ∷ 0x0000 ∷ 0x000e ∷ []))))
-    ∷ method (codes "not_virtual") [] None 8 (Some (naming [] (method_ref (codes "LMain;") (codes "float") [] None ∷ [])
+    ∷ method (codes "not_virtual") [] None 8
+    (Some (naming [] (method_ref (codes "LMain;") (codes "float") [] None ∷ [])
     (body 0 (0x006e ∷ 0x0000 ∷ 0x0000 ∷ 0x000e ∷ []))))
-    ∷ method (codes "initialiser") [] None 8 (Some (naming [] (method_ref (codes "LMain;") (codes "<clinit>") [] None ∷ [])
+    ∷ method (codes "initialiser") [] None 8
+    (Some (naming [] (method_ref (codes "LMain;") (codes "<clinit>") [] None ∷ [])
     (body 0 (0x0071 ∷ 0x0000 ∷ 0x0000 ∷ 0x000e ∷ []))))
     ∷ method (codes "words") [] None 8 (Some (naming [] (method_ref (codes "LMain;") (codes "float") [] None ∷ [])
     (body 1 (0x1071 ∷ 0x0000 ∷ 0x0000 ∷ 0x000e ∷ []))))

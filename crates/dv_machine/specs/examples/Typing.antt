@@ -36,7 +36,9 @@ moved_int = with_main (body 2 (0x1012 ∷ 0x0107 ∷ 0x000e ∷ [])) [] [] []
 --   move-result-object v0
 --   return-void
 abbrev pub no_result_left : Image
-no_result_left = with_main (naming [] (method_ref (codes "Ljava/lang/Thread;") (codes "currentThread") [] (Some (of_class (codes "Ljava/lang/Thread;"))) ∷ [])
+no_result_left = with_main (naming []
+    (method_ref (codes "Ljava/lang/Thread;") (codes "currentThread") []
+    (Some (of_class (codes "Ljava/lang/Thread;"))) ∷ [])
     (body 1 (0x0071 ∷ 0x0000 ∷ 0x0000 ∷ 0x0000 ∷ 0x000c ∷ 0x000e ∷ []))) [] [] (11 ∷ [])
 
 --   .registers 1
@@ -67,7 +69,9 @@ mixed =
 --   array-length v0, v0
 --   return-void
 abbrev pub no_array : Image
-no_array = with_main (naming [] (method_ref (codes "Ljava/lang/Thread;") (codes "currentThread") [] (Some (of_class (codes "Ljava/lang/Thread;"))) ∷ [])
+no_array = with_main (naming []
+    (method_ref (codes "Ljava/lang/Thread;") (codes "currentThread") []
+    (Some (of_class (codes "Ljava/lang/Thread;"))) ∷ [])
     (body 1 (0x0071 ∷ 0x0000 ∷ 0x0000 ∷ 0x000c ∷ 0x0021 ∷ 0x000e ∷ []))) [] [] (11 ∷ [])
 
 --   .registers 1
@@ -142,13 +146,16 @@ puts_upper = with_boot
     (class (codes "LMain;") (Some (codes "Ljava/lang/Object;")) [] 0 []
     (method (codes "main") [] None 8 (Some (body 0 (0x000e ∷ []))) ∷ [])) ∷
     linked (Some 0) [] (5 ∷ []) (1 ∷ 2 ∷ 3 ∷ 4 ∷ [])
-    (class (codes "LUpper;") (Some (codes "Ljava/lang/Object;")) [] 0 (field (codes "x") of_int 0 ∷ [])
+    (class (codes "LUpper;") (Some (codes "Ljava/lang/Object;")) [] 0
+    (field (codes "x") of_int 0 ∷ [])
     (method (codes "<init>") [] None 0 (Some (naming [] (object_init_ref ∷ [])
     (body 1 (0x1070 ∷ 0x0000 ∷ 0x0000 ∷ 0x000e ∷ [])))) ∷ [])) ∷
     linked (Some 34) [] (5 ∷ []) (1 ∷ 2 ∷ 3 ∷ 4 ∷ [])
     (class (codes "LLower;") (Some (codes "LUpper;")) [] 0 []
     (method (codes "<init>") [] None 0
-    (Some (naming (field_ref (codes "LUpper;") (codes "x") of_int ∷ []) (method_ref (codes "LUpper;") (codes "<init>") [] None ∷ [])
+    (Some (naming
+    (field_ref (codes "LUpper;") (codes "x") of_int ∷ [])
+    (method_ref (codes "LUpper;") (codes "<init>") [] None ∷ [])
     (body 2 (0x1012 ∷ 0x1059 ∷ 0x0000 ∷ 0x1070 ∷ 0x0000 ∷ 0x0001 ∷ 0x000e ∷ [])))) ∷ [])) ∷ [])
     (info 33 0 [] [] [] ∷
     info 34 0 [] [] (0 ∷ []) ∷

@@ -135,9 +135,12 @@ inner = with_boot
     (class (codes "LMain;") (Some (codes "Ljava/lang/Object;")) [] 0 []
     (method (codes "main") [] None 8 (Some (body 0 (0x000e ∷ []))) ∷ [])) ∷
     linked (Some 0) [] (5 ∷ []) (1 ∷ 2 ∷ 3 ∷ 4 ∷ [])
-    (class (codes "LMain$I;") (Some (codes "Ljava/lang/Object;")) [] 0 (field (codes "this$0") (of_class (codes "LMain;")) 0x4010 ∷ [])
+    (class (codes "LMain$I;") (Some (codes "Ljava/lang/Object;")) [] 0
+    (field (codes "this$0") (of_class (codes "LMain;")) 0x4010 ∷ [])
     (method (codes "<init>") (of_class (codes "LMain;") ∷ []) None 0
-    (Some (naming (field_ref (codes "LMain$I;") (codes "this$0") (of_class (codes "LMain;")) ∷ []) (object_init_ref ∷ [])
+    (Some (naming
+    (field_ref (codes "LMain$I;") (codes "this$0") (of_class (codes "LMain;")) ∷ [])
+    (object_init_ref ∷ [])
     (body 2 (0x015b ∷ 0x0000 ∷ 0x1070 ∷ 0x0000 ∷ 0x0000 ∷ 0x000e ∷ [])))) ∷ [])) ∷ [])
     (info 33 0 [] [] [] ∷
     info 34 0 [] (5 ∷ []) (0 ∷ []) ∷ [])
@@ -165,9 +168,12 @@ inner_call = with_boot
     (class (codes "LMain;") (Some (codes "Ljava/lang/Object;")) [] 0 []
     (method (codes "main") [] None 8 (Some (body 0 (0x000e ∷ []))) ∷ [])) ∷
     linked (Some 0) [] (5 ∷ []) (1 ∷ 2 ∷ 3 ∷ 4 ∷ [])
-    (class (codes "LMain$I;") (Some (codes "Ljava/lang/Object;")) [] 0 (field (codes "this$0") (of_class (codes "LMain;")) 0x4010 ∷ [])
+    (class (codes "LMain$I;") (Some (codes "Ljava/lang/Object;")) [] 0
+    (field (codes "this$0") (of_class (codes "LMain;")) 0x4010 ∷ [])
     (method (codes "<init>") (of_class (codes "LMain;") ∷ []) None 0
-    (Some (naming (field_ref (codes "LMain$I;") (codes "this$0") (of_class (codes "LMain;")) ∷ []) (method_ref (codes "Ljava/lang/Object;") (codes "notify") [] None ∷ object_init_ref ∷ [])
+    (Some (naming
+    (field_ref (codes "LMain$I;") (codes "this$0") (of_class (codes "LMain;")) ∷ [])
+    (method_ref (codes "Ljava/lang/Object;") (codes "notify") [] None ∷ object_init_ref ∷ [])
     (body 2 (0x106e ∷ 0x0000 ∷ 0x0000 ∷ 0x015b ∷ 0x0000 ∷ 0x1070 ∷ 0x0001 ∷ 0x0000 ∷ 0x000e ∷ [])))) ∷ [])) ∷ [])
     (info 33 0 [] [] [] ∷
     info 34 0 [] (5 ∷ []) (3 ∷ 0 ∷ []) ∷ [])
