@@ -1,5 +1,5 @@
--- How the examples write images: whole, as linking makes them of the definitions of their classes. Lines and the flags that
--- say nothing to the machine, `public` and `constructor` among them, are left out.
+-- How the examples write images: whole, as linking makes them of the definitions in them; the crate dv_linked shows it of each.
+-- Lines are left out, and flags that say nothing to the machine, as `public` and `constructor`.
 use Rattle.std.specs.Prelude.{ℕ, false, List, [], ◌∷◌, map, Option, Some, None, codes}
 use Rattle.dv_defs.specs.declared.names.Base.TheVariants as base
 use Rattle.dv_defs.specs.declared.names.Ty.{Ty}
