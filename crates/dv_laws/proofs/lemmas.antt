@@ -1,7 +1,6 @@
 -- The lemmas, by topic; what belongs to one function of src stands in a folder of its own beside this.
 pub mod Common
 pub mod Bridge
-pub mod Examples
 pub mod Registers
 pub mod Readers
 pub mod Local

@@ -4,5 +4,4 @@ pub mod Returning
 pub mod Reading
 pub mod Conformity
 pub mod Bridge
-pub mod Example
 pub mod Running

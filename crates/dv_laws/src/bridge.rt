@@ -1,7 +1,6 @@
 // The laws of decoding and acceptance: what look-ups find, and the records that acceptance gives.
 ghost use Rattle.dv_machine.specs.Laws.{DecodingInvertsSpelling, AcceptanceGivesRecords, LookUpsFind};
 ghost use Rattle.dv_laws.specs.Bridge.{BridgeHolds};
-ghost use Rattle.dv_laws.specs.Example.{IsAccepted, calls_example, handlers_example};
 
 /// An instruction stands where its spelling does.
 pub fn decoding_inverts_spelling()
@@ -24,10 +23,4 @@ pub fn acceptance_gives_records()
 #[tactic(auto, using(crate::proofs::lemmas::Bridge::Laws::bridge_holds))]
 pub fn bridge_holds()
     ensures law { BridgeHolds }
-{}
-
-/// Images with all boot classes and a small program are what the laws take.
-pub fn examples_are_accepted()
-    ensures calls { IsAccepted calls_example }
-    ensures handlers { IsAccepted handlers_example }
 {}

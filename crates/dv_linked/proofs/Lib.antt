@@ -9,3 +9,4 @@ pub mod BodiesLaw
 pub mod SlotCells
 pub mod SlotsLaw
 pub mod LinkedLaw
+pub mod Examples

@@ -1,6 +1,7 @@
 //! Laws of linked images. Each law is the contract of a function that does nothing.
 #![tactic(auto)]
 
+ghost use Rattle.dv_linked.specs.Examples.{ExamplesAreLinked, ExamplesAreAccepted};
 ghost use Rattle.dv_linked.specs.Laws.{LinkedImagesHaveLinking, LinkedTypesAreOrdered, LinkedTypesHaveCommon, LinkedTablesAgree, LinkedRunsNeverGoWrong};
 
 /// Each image that linking gives is what the laws of the machine take of an image.
@@ -26,4 +27,14 @@ pub fn linked_tables_agree()
 /// No run of a main method of a linked image that the verifier accepts is ever stuck, on any schedule.
 pub fn linked_runs_never_go_wrong()
     ensures law { LinkedRunsNeverGoWrong }
+{}
+
+/// Each image of the machine's computed examples is what linking gives of the definitions in it.
+pub fn examples_are_linked()
+    ensures law { ExamplesAreLinked }
+{}
+
+/// So those among them that the verifier accepts are what the laws take: no law speaks of nothing.
+pub fn examples_are_accepted()
+    ensures law { ExamplesAreAccepted }
 {}

@@ -1,6 +1,5 @@
 -- What the laws take of an accepted image, made once of its linking and of a typing of each method.
-use Rattle.std.specs.Prelude.{◌≡◌, ◌≢◌, ◌||◌, ◌≤◌, ◌<◌, ℕ, ◌+◌, true, false, List, [], ◌∷◌, length, Some, None, slice_get, All, bytes_eq, codes}
-use Rattle.dv_defs.specs.declared.names.Ty.{Ty}
+use Rattle.std.specs.Prelude.{◌≡◌, ◌||◌, ◌≤◌, ◌<◌, ℕ, ◌+◌, true, false, List, [], ◌∷◌, length, Some, None, All, bytes_eq, codes}
 use Rattle.dv_defs.specs.declared.names.Proto.{Proto}
 use Rattle.dv_defs.specs.declared.code.Body.{Body}
 use Rattle.dv_defs.specs.Images.{Image}
@@ -12,9 +11,9 @@ use Rattle.dv_defs.specs.declared.typing.RegState.{RegState}
 use Rattle.dv_defs.specs.Names.{object_name, class_name, string_name, thread_name, throwable_name, stream_name, system_name}
 use Rattle.dv_defs.specs.Field.{may_stand}
 use Rattle.dv_machine.specs.Conforming.{is_string_or_class}
-use Rattle.dv_defs.specs.Types.{of_class, is_array, component, is_reference, words_of}
+use Rattle.dv_defs.specs.Types.{of_class, words_of}
 use Rattle.dv_defs.specs.Pools.{Method, Field, method_at, field_at, is_static, is_static_field, is_constructor, is_abstract, is_interface, class_type, class_named, name_at, parent_at, supers, nearest, initialiser, no_arguments}
-use Rattle.dv_defs.specs.Order.{sub, instance, fits, assignable, has_number, above, interfaces_of}
+use Rattle.dv_defs.specs.Order.{instance, fits, has_number}
 use Rattle.dv_defs.specs.Op.{Code, code_at, can_throw}
 use Rattle.dv_defs.specs.Statics.{At, fetch, op_rules, arg_words}
 use Rattle.dv_defs.specs.RegTypes.{type_at, reg_types}
@@ -25,6 +24,7 @@ use Rattle.dv_defs.specs.Heap.{class_cells}
 use Rattle.dv_machine.specs.Calls.{native_of, signature}
 use Rattle.dv_machine.specs.Unwinding.{exception_name, number_named, throwable_slot}
 use Rattle.dv_machine.specs.WellTyped.{Typings}
+use Rattle.dv_orders.specs.Hierarchy.{IsHierarchy, IsOrder}
 
 -- ---- what acceptance gives
 
@@ -76,10 +76,8 @@ pub record HasBodies (image : Image) : Type 0 where
       (n : ℕ) (m : Method) (k : Native) → method_at image n ≡ Some m → native_of image m ≡ Some k →
       (m.def.proto ≡ (signature k).proto) × (is_static m ≡ (signature k).is_static)
 
--- the resolved pools name what the image has
+-- a method's resolved pools are those of its body
 pub record HasPools (image : Image) : Type 0 where
-  pub fields : (x : ℕ) (f : Field) → field_at image x ≡ Some f → f.info.class.0 < length image.classes
-  pub methods : (n : ℕ) (m : Method) → method_at image n ≡ Some m → m.info.class.0 < length image.classes
   pub types : (n : ℕ) (code : Code) → code_at image n ≡ Some code → code.method.info.types ≡ code.body.types
 
 -- a field's value stands on a static field that it fits

@@ -1,23 +1,11 @@
 -- The laws of types, of transfer and demand, and of acceptance, as statements.
-use Rattle.std.specs.Prelude.{◌≡◌, ℕ, Bool, true, List, length, Some, None, All, IfSome}
+use Rattle.std.specs.Prelude.{◌≡◌, ℕ, List, length, Some}
 use Rattle.dv_defs.specs.Images.{Image}
-use Rattle.dv_defs.specs.declared.typing.RegType.{RegType}
-use Rattle.dv_defs.specs.declared.typing.RegType.TheVariants as ty
-use Rattle.dv_defs.specs.declared.typing.RegState.{RegState}
 use Rattle.std.specs.Prelude.{◌≤◌, ◌↔◌, take}
-use Rattle.dv_defs.specs.Types.{is_reference}
-use Rattle.dv_defs.specs.Pools.{Method}
 use Rattle.dv_defs.specs.Spelling.{spelling, AreUnits}
 use Rattle.dv_defs.specs.Decoding.{Sized, insn_here}
-use Rattle.dv_defs.specs.Op.{Op}
-use Rattle.dv_defs.specs.Statics.{At}
-use Rattle.dv_defs.specs.RegTypes.{IsBelow}
-use Rattle.dv_defs.specs.Demands.{ok}
-use Rattle.dv_defs.specs.Transfer.{out}
-use Rattle.dv_defs.specs.Joins.{join_state}
 use Rattle.dv_defs.specs.Accepting.{Accepts}
 use Rattle.dv_machine.specs.WellTyped.{Typings}
-use Rattle.dv_orders.specs.Hierarchy.{IsHierarchy, IsOrder}
 use Rattle.dv_machine.specs.Accepted.{IsTyped, FindsRightly}
 
 -- ---- instructions and units

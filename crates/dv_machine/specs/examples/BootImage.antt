@@ -7,7 +7,7 @@ use Rattle.dv_defs.specs.declared.image.ClassInfo.{ClassInfo}
 use Rattle.dv_defs.specs.declared.image.FieldInfo.{FieldInfo}
 use Rattle.dv_defs.specs.declared.image.MethodInfo.{MethodInfo}
 use Rattle.dv_defs.specs.Joins.{array_of}
-use Rattle.dv_machine.specs.examples.Images.{of_char, method, class, info, bare, field_info}
+use Rattle.dv_machine.specs.examples.Images.{of_char, method, class, linked, info, bare, field_info}
 use Rattle.dv_machine.specs.examples.BootClasses.{boot_classes}
 
 -- by number, from 0
@@ -129,5 +129,6 @@ with_boot classes methods fields =
 -- with a class Main whose only member is a static main()V of this body, which names these types, fields and methods
 abbrev pub with_main : Body → List Ty → List ℕ → List ℕ → Image
 with_main b types fields methods =
-    with_boot (class (codes "LMain;") (Some 0) [] 0 [] (method (codes "main") [] None 8 (Some b) ∷ []) [] ∷ [])
+    with_boot (linked (Some 0) [] [] (1 ∷ 2 ∷ 3 ∷ 4 ∷ [])
+    (class (codes "LMain;") (Some (codes "Ljava/lang/Object;")) [] 0 [] (method (codes "main") [] None 8 (Some b) ∷ [])) ∷ [])
     (info 33 0 types fields methods ∷ []) []

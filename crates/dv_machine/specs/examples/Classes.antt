@@ -4,7 +4,7 @@ use Rattle.dv_defs.specs.Images.{Image}
 use Rattle.dv_defs.specs.declared.class.Init.TheVariants as init
 use Rattle.dv_defs.specs.Types.{of_class}
 use Rattle.dv_defs.specs.Accepting.{Accepts}
-use Rattle.dv_machine.specs.examples.Images.{of_int, catch_type, catch_all, entry_over, body, body_with, method, field, with_init, class, info, field_info}
+use Rattle.dv_machine.specs.examples.Images.{of_int, catch_type, catch_all, entry_over, body, body_with, method, field, with_init, class, info, field_info, naming, method_ref, field_ref, println_ref, linked}
 use Rattle.dv_machine.specs.examples.BootImage.{with_boot}
 use Rattle.dv_machine.specs.examples.Outcomes.{lines, outcome, replay_text, steps}
 
@@ -54,21 +54,34 @@ use Rattle.dv_machine.specs.examples.Outcomes.{lines, outcome, replay_text, step
 --   .end method
 abbrev pub crossing : Image
 crossing = with_boot
-    (class (codes "LMain;") (Some 0) [] 0 []
+    (linked (Some 0) [] [] (1 ∷ 2 ∷ 3 ∷ 4 ∷ [])
+    (class (codes "LMain;") (Some (codes "Ljava/lang/Object;")) [] 0 []
     (method (codes "main") [] None 8
-    (Some (body_with 1
+    (Some (naming []
+    (method_ref (codes "LT;") (codes "<init>") [] None ∷
+    method_ref (codes "LT;") (codes "start") [] None ∷
+    method_ref (codes "LB;") (codes "touch") [] None ∷ [])
+    (body_with 1
     (0x0022 ∷ 0x0000 ∷ 0x1070 ∷ 0x0000 ∷ 0x0000 ∷ 0x106e ∷ 0x0001 ∷ 0x0000 ∷ 0x0071 ∷ 0x0002 ∷ 0x0000 ∷
     0x000e ∷ [])
-    [] [] (of_class (codes "LT;") ∷ []))) ∷ []) [] ∷
-    class (codes "LA;") (Some 0) [] 0 []
+    [] [] (of_class (codes "LT;") ∷ [])))) ∷ [])) ∷
+    linked (Some 0) [] [] (1 ∷ 2 ∷ 3 ∷ 4 ∷ [])
+    (class (codes "LA;") (Some (codes "Ljava/lang/Object;")) [] 0 []
     (method (codes "touch") [] None 8 (Some (body 0 (0x000e ∷ [])))
-    ∷ method (codes "<clinit>") [] None 8 (Some (body 0 (0x0071 ∷ 0x0000 ∷ 0x0000 ∷ 0x000e ∷ []))) ∷ []) [] ∷
-    class (codes "LB;") (Some 0) [] 0 []
+    ∷ method (codes "<clinit>") [] None 8 (Some (naming [] (method_ref (codes "LB;") (codes "touch") [] None ∷ [])
+    (body 0 (0x0071 ∷ 0x0000 ∷ 0x0000 ∷ 0x000e ∷ [])))) ∷ [])) ∷
+    linked (Some 0) [] [] (1 ∷ 2 ∷ 3 ∷ 4 ∷ [])
+    (class (codes "LB;") (Some (codes "Ljava/lang/Object;")) [] 0 []
     (method (codes "touch") [] None 8 (Some (body 0 (0x000e ∷ [])))
-    ∷ method (codes "<clinit>") [] None 8 (Some (body 0 (0x0071 ∷ 0x0000 ∷ 0x0000 ∷ 0x000e ∷ []))) ∷ []) [] ∷
-    class (codes "LT;") (Some 3) [] 0 []
-    (method (codes "<init>") [] None 0 (Some (body 1 (0x1070 ∷ 0x0000 ∷ 0x0000 ∷ 0x000e ∷ [])))
-    ∷ method (codes "run") [] None 0 (Some (body 1 (0x0071 ∷ 0x0000 ∷ 0x0000 ∷ 0x000e ∷ []))) ∷ []) (0 ∷ []) ∷ [])
+    ∷ method (codes "<clinit>") [] None 8 (Some (naming [] (method_ref (codes "LA;") (codes "touch") [] None ∷ [])
+    (body 0 (0x0071 ∷ 0x0000 ∷ 0x0000 ∷ 0x000e ∷ [])))) ∷ [])) ∷
+    linked (Some 3) [] (0 ∷ []) (1 ∷ 2 ∷ 3 ∷ 4 ∷ 104 ∷ 9 ∷ 10 ∷ [])
+    (class (codes "LT;") (Some (codes "Ljava/lang/Thread;")) [] 0 []
+    (method (codes "<init>") [] None 0
+    (Some (naming [] (method_ref (codes "Ljava/lang/Thread;") (codes "<init>") [] None ∷ [])
+    (body 1 (0x1070 ∷ 0x0000 ∷ 0x0000 ∷ 0x000e ∷ []))))
+    ∷ method (codes "run") [] None 0 (Some (naming [] (method_ref (codes "LA;") (codes "touch") [] None ∷ [])
+    (body 1 (0x0071 ∷ 0x0000 ∷ 0x0000 ∷ 0x000e ∷ [])))) ∷ [])) ∷ [])
     (info 33 0 (of_class (codes "LT;") ∷ []) [] (103 ∷ 9 ∷ 101 ∷ []) ∷
     info 34 0 [] [] [] ∷
     info 34 1 [] [] (101 ∷ []) ∷
@@ -107,18 +120,22 @@ crossing = with_boot
 --   .end method
 abbrev pub failing : Image
 failing = with_boot
-    (class (codes "LMain;") (Some 0) [] 0 []
+    (linked (Some 0) [] [] (1 ∷ 2 ∷ 3 ∷ 4 ∷ [])
+    (class (codes "LMain;") (Some (codes "Ljava/lang/Object;")) [] 0 []
     (method (codes "main") [] None 8
-    (Some (body_with 1
+    (Some (naming [] (method_ref (codes "LX;") (codes "t") [] None ∷ println_ref ∷ [])
+    (body_with 1
     (0x0071 ∷ 0x0000 ∷ 0x0000 ∷ 0x000e ∷ 0x1012 ∷ 0x1071 ∷ 0x0001 ∷ 0x0000 ∷ 0x0071 ∷ 0x0000 ∷ 0x0000 ∷
     0x000e ∷ [])
     (entry_over 0 3 (catch_type 0 4 ∷ []) ∷ [])
-    [] (of_class (codes "Ljava/lang/ExceptionInInitializerError;") ∷ []))) ∷ []) [] ∷
-    class (codes "LX;") (Some 0) [] 0 []
+    [] (of_class (codes "Ljava/lang/ExceptionInInitializerError;") ∷ [])))) ∷ [])) ∷
+    linked (Some 0) [] [] (1 ∷ 2 ∷ 3 ∷ 4 ∷ [])
+    (class (codes "LX;") (Some (codes "Ljava/lang/Object;")) [] 0 []
     (method (codes "<clinit>") [] None 8
-    (Some (body_with 1 (0x0022 ∷ 0x0000 ∷ 0x1070 ∷ 0x0000 ∷ 0x0000 ∷ 0x0027 ∷ [])
-    [] [] (of_class (codes "Ljava/lang/RuntimeException;") ∷ [])))
-    ∷ method (codes "t") [] None 8 (Some (body 0 (0x000e ∷ []))) ∷ []) [] ∷ [])
+    (Some (naming [] (method_ref (codes "Ljava/lang/RuntimeException;") (codes "<init>") [] None ∷ [])
+    (body_with 1 (0x0022 ∷ 0x0000 ∷ 0x1070 ∷ 0x0000 ∷ 0x0000 ∷ 0x0027 ∷ [])
+    [] [] (of_class (codes "Ljava/lang/RuntimeException;") ∷ []))))
+    ∷ method (codes "t") [] None 8 (Some (body 0 (0x000e ∷ []))) ∷ [])) ∷ [])
     (info 33 0 (of_class (codes "Ljava/lang/ExceptionInInitializerError;") ∷ []) [] (100 ∷ 40 ∷ []) ∷
     info 34 0 (of_class (codes "Ljava/lang/RuntimeException;") ∷ []) [] (55 ∷ []) ∷
     info 34 1 [] [] [] ∷ [])
@@ -164,16 +181,26 @@ failing = with_boot
 --   .end method
 abbrev pub ordering : Image
 ordering = with_boot
-    (class (codes "LMain;") (Some 0) [] 0 []
-    (method (codes "<clinit>") [] None 8 (Some (body 1 (0x1012 ∷ 0x1071 ∷ 0x0000 ∷ 0x0000 ∷ 0x000e ∷ [])))
+    (linked (Some 0) [] [] (1 ∷ 2 ∷ 3 ∷ 4 ∷ [])
+    (class (codes "LMain;") (Some (codes "Ljava/lang/Object;")) [] 0 []
+    (method (codes "<clinit>") [] None 8 (Some (naming [] (println_ref ∷ [])
+    (body 1 (0x1012 ∷ 0x1071 ∷ 0x0000 ∷ 0x0000 ∷ 0x000e ∷ []))))
     ∷ method (codes "main") [] None 8
-    (Some (body 1 (0x0071 ∷ 0x0000 ∷ 0x0000 ∷ 0x0060 ∷ 0x0000 ∷ 0x1071 ∷ 0x0001 ∷ 0x0000 ∷ 0x000e ∷ []))) ∷ []) [] ∷
-    class (codes "LUpper;") (Some 0) [] 0
+    (Some (naming
+    (field_ref (codes "LUpper;") (codes "x") of_int ∷ [])
+    (method_ref (codes "LLower;") (codes "f") [] None ∷ println_ref ∷ [])
+    (body 1 (0x0071 ∷ 0x0000 ∷ 0x0000 ∷ 0x0060 ∷ 0x0000 ∷ 0x1071 ∷ 0x0001 ∷ 0x0000 ∷ 0x000e ∷ [])))) ∷ [])) ∷
+    linked (Some 0) [] [] (1 ∷ 2 ∷ 3 ∷ 4 ∷ [])
+    (class (codes "LUpper;") (Some (codes "Ljava/lang/Object;")) [] 0
     (with_init (init.Num (pos 7)) (field (codes "x") of_int 8) ∷ [])
-    (method (codes "<clinit>") [] None 8 (Some (body 1 (0x2012 ∷ 0x1071 ∷ 0x0000 ∷ 0x0000 ∷ 0x000e ∷ []))) ∷ []) [] ∷
-    class (codes "LLower;") (Some 34) [] 0 []
-    (method (codes "<clinit>") [] None 8 (Some (body 1 (0x3012 ∷ 0x1071 ∷ 0x0000 ∷ 0x0000 ∷ 0x000e ∷ [])))
-    ∷ method (codes "f") [] None 8 (Some (body 1 (0x4012 ∷ 0x1071 ∷ 0x0000 ∷ 0x0000 ∷ 0x000e ∷ []))) ∷ []) [] ∷ [])
+    (method (codes "<clinit>") [] None 8 (Some (naming [] (println_ref ∷ [])
+    (body 1 (0x2012 ∷ 0x1071 ∷ 0x0000 ∷ 0x0000 ∷ 0x000e ∷ [])))) ∷ [])) ∷
+    linked (Some 34) [] [] (1 ∷ 2 ∷ 3 ∷ 4 ∷ [])
+    (class (codes "LLower;") (Some (codes "LUpper;")) [] 0 []
+    (method (codes "<clinit>") [] None 8 (Some (naming [] (println_ref ∷ [])
+    (body 1 (0x3012 ∷ 0x1071 ∷ 0x0000 ∷ 0x0000 ∷ 0x000e ∷ []))))
+    ∷ method (codes "f") [] None 8 (Some (naming [] (println_ref ∷ [])
+    (body 1 (0x4012 ∷ 0x1071 ∷ 0x0000 ∷ 0x0000 ∷ 0x000e ∷ [])))) ∷ [])) ∷ [])
     (info 33 0 [] [] (40 ∷ []) ∷
     info 33 1 [] (5 ∷ []) (102 ∷ 40 ∷ []) ∷
     info 34 0 [] [] (40 ∷ []) ∷
@@ -203,13 +230,16 @@ ordering = with_boot
 --   .end method
 abbrev pub failing_main : Image
 failing_main = with_boot
-    (class (codes "LMain;") (Some 0) [] 0 []
+    (linked (Some 0) [] [] (1 ∷ 2 ∷ 3 ∷ 4 ∷ [])
+    (class (codes "LMain;") (Some (codes "Ljava/lang/Object;")) [] 0 []
     (method (codes "<clinit>") [] None 8
-    (Some (body_with 1 (0x0022 ∷ 0x0000 ∷ 0x1070 ∷ 0x0000 ∷ 0x0000 ∷ 0x0027 ∷ [])
-    [] [] (of_class (codes "Ljava/lang/OutOfMemoryError;") ∷ [])))
+    (Some (naming [] (method_ref (codes "Ljava/lang/OutOfMemoryError;") (codes "<init>") [] None ∷ [])
+    (body_with 1 (0x0022 ∷ 0x0000 ∷ 0x1070 ∷ 0x0000 ∷ 0x0000 ∷ 0x0027 ∷ [])
+    [] [] (of_class (codes "Ljava/lang/OutOfMemoryError;") ∷ []))))
     ∷ method (codes "main") [] None 8
-    (Some (body_with 1 (0x0000 ∷ 0x000e ∷ 0x1012 ∷ 0x1071 ∷ 0x0000 ∷ 0x0000 ∷ 0x000e ∷ [])
-    (entry_over 0 2 (catch_all 2 ∷ []) ∷ []) [] [])) ∷ []) [] ∷ [])
+    (Some (naming [] (println_ref ∷ [])
+    (body_with 1 (0x0000 ∷ 0x000e ∷ 0x1012 ∷ 0x1071 ∷ 0x0000 ∷ 0x0000 ∷ 0x000e ∷ [])
+    (entry_over 0 2 (catch_all 2 ∷ []) ∷ []) [] []))) ∷ [])) ∷ [])
     (info 33 0 (of_class (codes "Ljava/lang/OutOfMemoryError;") ∷ []) [] (94 ∷ []) ∷
     info 33 1 [] [] (40 ∷ []) ∷ [])
     []

@@ -3,7 +3,7 @@ use Rattle.std.specs.Prelude.{◌≡◌, [], ◌∷◌, Some, None, codes}
 use Rattle.dv_defs.specs.Images.{Image}
 use Rattle.dv_defs.specs.Types.{of_class}
 use Rattle.dv_defs.specs.Accepting.{Accepts}
-use Rattle.dv_machine.specs.examples.Images.{catch_type, catch_all, entry_over, body, body_with, method, class, info}
+use Rattle.dv_machine.specs.examples.Images.{catch_type, catch_all, entry_over, body, body_with, method, class, info, naming, method_ref, println_ref, object_init_ref, linked}
 use Rattle.dv_machine.specs.examples.BootImage.{with_boot, with_main}
 use Rattle.dv_machine.specs.examples.Outcomes.{lines, outcome}
 
@@ -29,11 +29,12 @@ use Rattle.dv_machine.specs.examples.Outcomes.{lines, outcome}
 abbrev pub exiting : Image
 exiting =
     with_main
+    (naming [] (object_init_ref ∷ println_ref ∷ [])
     (body_with 2
     (0x0022 ∷ 0x0000 ∷ 0x1070 ∷ 0x0000 ∷ 0x0000 ∷ 0x001e ∷ 0x0112 ∷ 0x000e ∷ 0x1112 ∷ 0x1071 ∷ 0x0001 ∷
     0x0001 ∷ 0x000e ∷ 0x2112 ∷ 0x1071 ∷ 0x0001 ∷ 0x0001 ∷ 0x000e ∷ [])
     (entry_over 5 6 (catch_all 8 ∷ []) ∷ entry_over 6 7 (catch_all 13 ∷ []) ∷ []) []
-    (of_class (codes "Ljava/lang/Object;") ∷ []))
+    (of_class (codes "Ljava/lang/Object;") ∷ [])))
     (of_class (codes "Ljava/lang/Object;") ∷ []) [] (0 ∷ 40 ∷ [])
 
 --   .class LMain;
@@ -81,19 +82,23 @@ exiting =
 --   .end method
 abbrev pub throwing : Image
 throwing = with_boot
-    (class (codes "LMain;") (Some 0) [] 0 []
+    (linked (Some 0) [] [] (1 ∷ 2 ∷ 3 ∷ 4 ∷ [])
+    (class (codes "LMain;") (Some (codes "Ljava/lang/Object;")) [] 0 []
     (method (codes "main") [] None 8
-    (Some (body_with 2 (0x011a ∷ 0x0000 ∷ 0x0022 ∷ 0x0000 ∷ 0x2070 ∷ 0x0000 ∷ 0x0010 ∷ 0x0027 ∷ [])
-    [] (codes "no" ∷ []) (of_class (codes "Ljava/lang/RuntimeException;") ∷ [])))
+    (Some (naming []
+    (method_ref (codes "Ljava/lang/RuntimeException;") (codes "<init>") (of_class (codes "Ljava/lang/String;") ∷ []) None ∷ [])
+    (body_with 2 (0x011a ∷ 0x0000 ∷ 0x0022 ∷ 0x0000 ∷ 0x2070 ∷ 0x0000 ∷ 0x0010 ∷ 0x0027 ∷ [])
+    [] (codes "no" ∷ []) (of_class (codes "Ljava/lang/RuntimeException;") ∷ []))))
     ∷ method (codes "deep") [] None 8 (Some (body 1 (0x0012 ∷ 0x0093 ∷ 0x0000 ∷ 0x000e ∷ [])))
     ∷ method (codes "catches") [] None 8
-    (Some (body_with 2
+    (Some (naming [] (method_ref (codes "LMain;") (codes "deep") [] None ∷ println_ref ∷ [])
+    (body_with 2
     (0x0071 ∷ 0x0000 ∷ 0x0000 ∷ 0x000e ∷ 0x1112 ∷ 0x1071 ∷ 0x0001 ∷ 0x0001 ∷ 0x000e ∷ 0x000d ∷ 0x2112 ∷
     0x1071 ∷ 0x0001 ∷ 0x0001 ∷ 0x0027 ∷ 0x3112 ∷ 0x1071 ∷ 0x0001 ∷ 0x0001 ∷ 0x000e ∷ [])
     (entry_over 0 3 (catch_type 0 4 ∷ catch_type 1 9 ∷ catch_all 15 ∷ []) ∷ [])
     []
-    (of_class (codes "Ljava/lang/NullPointerException;") ∷ of_class (codes "Ljava/lang/RuntimeException;") ∷ [])))
-    ∷ method (codes "nothing") [] None 8 (Some (body 1 (0x0012 ∷ 0x0027 ∷ []))) ∷ []) [] ∷ [])
+    (of_class (codes "Ljava/lang/NullPointerException;") ∷ of_class (codes "Ljava/lang/RuntimeException;") ∷ []))))
+    ∷ method (codes "nothing") [] None 8 (Some (body 1 (0x0012 ∷ 0x0027 ∷ []))) ∷ [])) ∷ [])
     (info 33 0 (of_class (codes "Ljava/lang/RuntimeException;") ∷ []) [] (56 ∷ []) ∷
     info 33 1 [] [] [] ∷
     info 33 2

@@ -1,11 +1,10 @@
--- How the examples write images. An image that linking makes has more: these leave out the table of methods of each class
--- (a call is looked up through the superclasses, by name and prototype), and in each body the names of the fields and methods
--- in its pools (the record of a method has the fields and methods themselves). They also leave out lines, the names of
--- superclasses and interfaces in the definition of a class, and the flag `constructor`. No definition of the machine
--- or of the verifier reads any of these.
-use Rattle.std.specs.Prelude.{ℕ, false, List, [], map, Option, Some, None}
+-- How the examples write images: whole, as linking makes them of the definitions in them; the crate dv_linked shows it of each.
+-- Lines are left out, and flags that say nothing to the machine, as `public` and `constructor`.
+use Rattle.std.specs.Prelude.{ℕ, false, List, [], ◌∷◌, map, Option, Some, None, codes}
 use Rattle.dv_defs.specs.declared.names.Base.TheVariants as base
 use Rattle.dv_defs.specs.declared.names.Ty.{Ty}
+use Rattle.dv_defs.specs.declared.names.FieldRef.{FieldRef}
+use Rattle.dv_defs.specs.declared.names.MethodRef.{MethodRef}
 use Rattle.dv_defs.specs.declared.names.ClassId.{ClassId}
 use Rattle.dv_defs.specs.declared.names.MethodId.{MethodId}
 use Rattle.dv_defs.specs.declared.names.FieldId.{FieldId}
@@ -14,12 +13,13 @@ use Rattle.dv_defs.specs.declared.code.Try.{Try}
 use Rattle.dv_defs.specs.declared.code.Handler.{Handler}
 use Rattle.dv_defs.specs.declared.class.Init.{Init}
 use Rattle.dv_defs.specs.declared.class.Init.TheVariants as init
+use Rattle.dv_defs.specs.declared.class.ClassDef.{ClassDef}
 use Rattle.dv_defs.specs.declared.class.FieldDef.{FieldDef}
 use Rattle.dv_defs.specs.declared.class.MethodDef.{MethodDef}
 use Rattle.dv_defs.specs.declared.image.ClassInfo.{ClassInfo}
 use Rattle.dv_defs.specs.declared.image.FieldInfo.{FieldInfo}
 use Rattle.dv_defs.specs.declared.image.MethodInfo.{MethodInfo}
-use Rattle.dv_defs.specs.Types.{of_base}
+use Rattle.dv_defs.specs.Types.{of_base, of_class}
 
 abbrev pub of_int : Ty
 of_int = of_base base.I
@@ -61,9 +61,29 @@ body_with registers units tries strings types =
       raw = false;
     }
 
--- a body that names nothing and catches nothing
+-- a body that catches nothing, without strings and types
 abbrev pub body : ℕ → List ℕ → Body
 body registers units = body_with registers units [] [] []
+
+-- a field as a body names it: by class, name and type
+abbrev pub field_ref : List ℕ → List ℕ → Ty → FieldRef
+field_ref class name t = record { class = of_class class; name = name; ty = t }
+
+-- a method as a body names it: by class, name, parameters and result
+abbrev pub method_ref : List ℕ → List ℕ → List Ty → Option Ty → MethodRef
+method_ref class name params ret =
+    record { class = of_class class; name = name; proto = record { params = params; ret = ret } }
+
+-- two that many bodies name
+abbrev pub object_init_ref : MethodRef
+object_init_ref = method_ref (codes "Ljava/lang/Object;") (codes "<init>") [] None
+
+abbrev pub println_ref : MethodRef
+println_ref = method_ref (codes "Ldvm/Console;") (codes "println") (of_int ∷ []) None
+
+-- a body with the fields and methods that it names
+abbrev pub naming : List FieldRef → List MethodRef → Body → Body
+naming fields methods b = record b { fields = fields; methods = methods }
 
 -- name, parameters, result, flags: static 0x8, native 0x400, abstract 0x1000
 abbrev pub method : List ℕ → List Ty → Option Ty → ℕ → Option Body → MethodDef
@@ -90,23 +110,28 @@ abbrev pub numbered : Option ℕ → Option ClassId
 numbered None = None
 numbered (Some c) = Some (record { 0 = c })
 
--- name, superclass, interfaces, flags (final 0x10, interface 0x800), fields, methods, slots
-abbrev pub class : List ℕ → Option ℕ → List ℕ → ℕ → List FieldDef → List MethodDef → List ℕ → ClassInfo
-class name parent interfaces flags fields methods slots =
+-- name, superclass, interfaces, flags (final 0x10, interface 0x800), fields, methods
+abbrev pub class : List ℕ → Option (List ℕ) → List (List ℕ) → ℕ → List FieldDef → List MethodDef → ClassDef
+class name parent interfaces flags fields methods =
     record {
-      def = record {
-        name = name;
-        parent = None;
-        interfaces = [];
-        flags = flags;
-        fields = fields;
-        methods = methods;
-        line = 0;
-      };
+      name = name;
+      parent = parent;
+      interfaces = interfaces;
+      flags = flags;
+      fields = fields;
+      methods = methods;
+      line = 0;
+    }
+
+-- a class with what linking finds: its superclass, its interfaces, the fields of an object, the table of methods
+abbrev pub linked : Option ℕ → List ℕ → List ℕ → List ℕ → ClassDef → ClassInfo
+linked parent interfaces slots table def =
+    record {
+      def = def;
       parent = numbered parent;
       interfaces = class_ids interfaces;
       slots = field_ids slots;
-      table = [];
+      table = method_ids table;
     }
 
 -- class and place, with the types, fields and methods that the body names

@@ -3,7 +3,7 @@ use Rattle.std.specs.Prelude.{◌≡◌, [], ◌∷◌, Some, None, codes}
 use Rattle.dv_defs.specs.Images.{Image}
 use Rattle.dv_defs.specs.Types.{of_class}
 use Rattle.dv_defs.specs.Joins.{array_of}
-use Rattle.dv_machine.specs.examples.Images.{of_int, body, body_with, method, class, info}
+use Rattle.dv_machine.specs.examples.Images.{of_int, body, body_with, method, class, info, naming, method_ref, println_ref, linked}
 use Rattle.dv_machine.specs.examples.BootImage.{with_boot, with_main}
 use Rattle.dv_machine.specs.Opening.{usual}
 use Rattle.dv_machine.specs.examples.Outcomes.{lines, outcome, outcome_within}
@@ -17,8 +17,9 @@ use Rattle.dv_machine.specs.examples.Outcomes.{lines, outcome, outcome_within}
 abbrev pub fitting : Image
 fitting =
     with_main
+    (naming [] (println_ref ∷ [])
     (body_with 1 (0x0013 ∷ 0x003e ∷ 0x0023 ∷ 0x0000 ∷ 0x0021 ∷ 0x1071 ∷ 0x0000 ∷ 0x0000 ∷ 0x000e ∷ []) [] []
-    (array_of of_int ∷ []))
+    (array_of of_int ∷ [])))
     (array_of of_int ∷ []) [] (40 ∷ [])
 
 --   .registers 1
@@ -30,8 +31,9 @@ fitting =
 abbrev pub filling : Image
 filling =
     with_main
+    (naming [] (println_ref ∷ [])
     (body_with 1 (0x0013 ∷ 0x003f ∷ 0x0023 ∷ 0x0000 ∷ 0x0021 ∷ 0x1071 ∷ 0x0000 ∷ 0x0000 ∷ 0x000e ∷ []) [] []
-    (array_of of_int ∷ []))
+    (array_of of_int ∷ [])))
     (array_of of_int ∷ []) [] (40 ∷ [])
 
 --   .class LMain;
@@ -52,9 +54,14 @@ filling =
 --   .end method
 abbrev pub deep : Image
 deep = with_boot
-    (class (codes "LMain;") (Some 0) [] 0 []
-    (method (codes "f") (of_int ∷ []) None 8 (Some (body 1 (0x0038 ∷ 0x0007 ∷ 0x00d8 ∷ 0xff00 ∷ 0x1071 ∷ 0x0000 ∷ 0x0000 ∷ 0x000e ∷ [])))
-    ∷ method (codes "main") [] None 8 (Some (body 1 (0x0013 ∷ 0x03fe ∷ 0x1071 ∷ 0x0000 ∷ 0x0000 ∷ 0x000e ∷ []))) ∷ []) [] ∷ [])
+    (linked (Some 0) [] [] (1 ∷ 2 ∷ 3 ∷ 4 ∷ [])
+    (class (codes "LMain;") (Some (codes "Ljava/lang/Object;")) [] 0 []
+    (method (codes "f") (of_int ∷ []) None 8
+    (Some (naming [] (method_ref (codes "LMain;") (codes "f") (of_int ∷ []) None ∷ [])
+    (body 1 (0x0038 ∷ 0x0007 ∷ 0x00d8 ∷ 0xff00 ∷ 0x1071 ∷ 0x0000 ∷ 0x0000 ∷ 0x000e ∷ []))))
+    ∷ method (codes "main") [] None 8
+    (Some (naming [] (method_ref (codes "LMain;") (codes "f") (of_int ∷ []) None ∷ [])
+    (body 1 (0x0013 ∷ 0x03fe ∷ 0x1071 ∷ 0x0000 ∷ 0x0000 ∷ 0x000e ∷ [])))) ∷ [])) ∷ [])
     (info 33 0 [] [] (98 ∷ []) ∷
     info 33 1 [] [] (98 ∷ []) ∷ [])
     []
@@ -77,9 +84,14 @@ deep = with_boot
 --   .end method
 abbrev pub deeper : Image
 deeper = with_boot
-    (class (codes "LMain;") (Some 0) [] 0 []
-    (method (codes "f") (of_int ∷ []) None 8 (Some (body 1 (0x0038 ∷ 0x0007 ∷ 0x00d8 ∷ 0xff00 ∷ 0x1071 ∷ 0x0000 ∷ 0x0000 ∷ 0x000e ∷ [])))
-    ∷ method (codes "main") [] None 8 (Some (body 1 (0x0013 ∷ 0x03ff ∷ 0x1071 ∷ 0x0000 ∷ 0x0000 ∷ 0x000e ∷ []))) ∷ []) [] ∷ [])
+    (linked (Some 0) [] [] (1 ∷ 2 ∷ 3 ∷ 4 ∷ [])
+    (class (codes "LMain;") (Some (codes "Ljava/lang/Object;")) [] 0 []
+    (method (codes "f") (of_int ∷ []) None 8
+    (Some (naming [] (method_ref (codes "LMain;") (codes "f") (of_int ∷ []) None ∷ [])
+    (body 1 (0x0038 ∷ 0x0007 ∷ 0x00d8 ∷ 0xff00 ∷ 0x1071 ∷ 0x0000 ∷ 0x0000 ∷ 0x000e ∷ []))))
+    ∷ method (codes "main") [] None 8
+    (Some (naming [] (method_ref (codes "LMain;") (codes "f") (of_int ∷ []) None ∷ [])
+    (body 1 (0x0013 ∷ 0x03ff ∷ 0x1071 ∷ 0x0000 ∷ 0x0000 ∷ 0x000e ∷ [])))) ∷ [])) ∷ [])
     (info 33 0 [] [] (98 ∷ []) ∷
     info 33 1 [] [] (98 ∷ []) ∷ [])
     []
@@ -102,9 +114,14 @@ deeper = with_boot
 --   .end method
 abbrev pub wide : Image
 wide = with_boot
-    (class (codes "LMain;") (Some 0) [] 0 []
-    (method (codes "f") (of_int ∷ []) None 8 (Some (body 1 (0x0038 ∷ 0x0007 ∷ 0x00d8 ∷ 0xff00 ∷ 0x1071 ∷ 0x0000 ∷ 0x0000 ∷ 0x000e ∷ [])))
-    ∷ method (codes "main") [] None 8 (Some (body 1 (0x0013 ∷ 0x003e ∷ 0x1071 ∷ 0x0000 ∷ 0x0000 ∷ 0x000e ∷ []))) ∷ []) [] ∷ [])
+    (linked (Some 0) [] [] (1 ∷ 2 ∷ 3 ∷ 4 ∷ [])
+    (class (codes "LMain;") (Some (codes "Ljava/lang/Object;")) [] 0 []
+    (method (codes "f") (of_int ∷ []) None 8
+    (Some (naming [] (method_ref (codes "LMain;") (codes "f") (of_int ∷ []) None ∷ [])
+    (body 1 (0x0038 ∷ 0x0007 ∷ 0x00d8 ∷ 0xff00 ∷ 0x1071 ∷ 0x0000 ∷ 0x0000 ∷ 0x000e ∷ []))))
+    ∷ method (codes "main") [] None 8
+    (Some (naming [] (method_ref (codes "LMain;") (codes "f") (of_int ∷ []) None ∷ [])
+    (body 1 (0x0013 ∷ 0x003e ∷ 0x1071 ∷ 0x0000 ∷ 0x0000 ∷ 0x000e ∷ [])))) ∷ [])) ∷ [])
     (info 33 0 [] [] (98 ∷ []) ∷
     info 33 1 [] [] (98 ∷ []) ∷ [])
     []
@@ -127,9 +144,14 @@ wide = with_boot
 --   .end method
 abbrev pub wider : Image
 wider = with_boot
-    (class (codes "LMain;") (Some 0) [] 0 []
-    (method (codes "f") (of_int ∷ []) None 8 (Some (body 1 (0x0038 ∷ 0x0007 ∷ 0x00d8 ∷ 0xff00 ∷ 0x1071 ∷ 0x0000 ∷ 0x0000 ∷ 0x000e ∷ [])))
-    ∷ method (codes "main") [] None 8 (Some (body 1 (0x0013 ∷ 0x003f ∷ 0x1071 ∷ 0x0000 ∷ 0x0000 ∷ 0x000e ∷ []))) ∷ []) [] ∷ [])
+    (linked (Some 0) [] [] (1 ∷ 2 ∷ 3 ∷ 4 ∷ [])
+    (class (codes "LMain;") (Some (codes "Ljava/lang/Object;")) [] 0 []
+    (method (codes "f") (of_int ∷ []) None 8
+    (Some (naming [] (method_ref (codes "LMain;") (codes "f") (of_int ∷ []) None ∷ [])
+    (body 1 (0x0038 ∷ 0x0007 ∷ 0x00d8 ∷ 0xff00 ∷ 0x1071 ∷ 0x0000 ∷ 0x0000 ∷ 0x000e ∷ []))))
+    ∷ method (codes "main") [] None 8
+    (Some (naming [] (method_ref (codes "LMain;") (codes "f") (of_int ∷ []) None ∷ [])
+    (body 1 (0x0013 ∷ 0x003f ∷ 0x1071 ∷ 0x0000 ∷ 0x0000 ∷ 0x000e ∷ [])))) ∷ [])) ∷ [])
     (info 33 0 [] [] (98 ∷ []) ∷
     info 33 1 [] [] (98 ∷ []) ∷ [])
     []
@@ -147,7 +169,8 @@ looping = with_main (body 0 (0x0000 ∷ 0xff28 ∷ [])) [] [] []
 --   invoke-static {v0}, Ldvm/Console;->println(I)V
 --   return-void
 abbrev pub printing : Image
-printing = with_main (body 1 (0x0013 ∷ 0x007b ∷ 0x1071 ∷ 0x0000 ∷ 0x0000 ∷ 0x1071 ∷ 0x0000 ∷ 0x0000 ∷ 0x000e ∷ [])) [] [] (40 ∷ [])
+printing = with_main (naming [] (println_ref ∷ [])
+    (body 1 (0x0013 ∷ 0x007b ∷ 0x1071 ∷ 0x0000 ∷ 0x0000 ∷ 0x1071 ∷ 0x0000 ∷ 0x0000 ∷ 0x000e ∷ []))) [] [] (40 ∷ [])
 
 --   .class LMain;
 --   .super Ljava/lang/Object;
@@ -168,12 +191,18 @@ printing = with_main (body 1 (0x0013 ∷ 0x007b ∷ 0x1071 ∷ 0x0000 ∷ 0x0000
 --   .end method
 abbrev pub starting : Image
 starting = with_boot
-    (class (codes "LMain;") (Some 0) [] 0 []
+    (linked (Some 0) [] [] (1 ∷ 2 ∷ 3 ∷ 4 ∷ [])
+    (class (codes "LMain;") (Some (codes "Ljava/lang/Object;")) [] 0 []
     (method (codes "main") [] None 8
-    (Some (body_with 1 (0x0022 ∷ 0x0000 ∷ 0x1070 ∷ 0x0000 ∷ 0x0000 ∷ 0x106e ∷ 0x0001 ∷ 0x0000 ∷ 0xf828 ∷ [])
-    [] [] (of_class (codes "LT;") ∷ []))) ∷ []) [] ∷
-    class (codes "LT;") (Some 3) [] 0 []
-    (method (codes "<init>") [] None 0 (Some (body 1 (0x1070 ∷ 0x0000 ∷ 0x0000 ∷ 0x000e ∷ []))) ∷ []) (0 ∷ []) ∷ [])
+    (Some (naming []
+    (method_ref (codes "LT;") (codes "<init>") [] None ∷ method_ref (codes "LT;") (codes "start") [] None ∷ [])
+    (body_with 1 (0x0022 ∷ 0x0000 ∷ 0x1070 ∷ 0x0000 ∷ 0x0000 ∷ 0x106e ∷ 0x0001 ∷ 0x0000 ∷ 0xf828 ∷ [])
+    [] [] (of_class (codes "LT;") ∷ [])))) ∷ [])) ∷
+    linked (Some 3) [] (0 ∷ []) (1 ∷ 2 ∷ 3 ∷ 4 ∷ 8 ∷ 9 ∷ 10 ∷ [])
+    (class (codes "LT;") (Some (codes "Ljava/lang/Thread;")) [] 0 []
+    (method (codes "<init>") [] None 0
+    (Some (naming [] (method_ref (codes "Ljava/lang/Thread;") (codes "<init>") [] None ∷ [])
+    (body 1 (0x1070 ∷ 0x0000 ∷ 0x0000 ∷ 0x000e ∷ [])))) ∷ [])) ∷ [])
     (info 33 0 (of_class (codes "LT;") ∷ []) [] (99 ∷ 9 ∷ []) ∷
     info 34 0 [] [] (6 ∷ []) ∷ [])
     []

@@ -5,7 +5,7 @@ use Rattle.dv_defs.specs.declared.class.Init.TheVariants as init
 use Rattle.dv_defs.specs.Types.{of_class}
 use Rattle.dv_defs.specs.Joins.{array_of}
 use Rattle.dv_defs.specs.Accepting.{Accepts}
-use Rattle.dv_machine.specs.examples.Images.{of_int, of_long, of_boolean, of_byte, body, body_with, method, field, with_init, class, info, field_info}
+use Rattle.dv_machine.specs.examples.Images.{of_int, of_long, of_boolean, of_byte, body, body_with, method, field, with_init, class, info, field_info, of_char, naming, method_ref, field_ref, println_ref, object_init_ref, linked}
 use Rattle.dv_machine.specs.examples.BootImage.{with_boot}
 use Rattle.dv_machine.specs.examples.Outcomes.{lines, outcome}
 
@@ -139,46 +139,74 @@ use Rattle.dv_machine.specs.examples.Outcomes.{lines, outcome}
 --   .end method
 abbrev pub calling : Image
 calling = with_boot
-    (class (codes "LMain;") (Some 0) [] 0 []
+    (linked (Some 0) [] [] (1 ∷ 2 ∷ 3 ∷ 4 ∷ [])
+    (class (codes "LMain;") (Some (codes "Ljava/lang/Object;")) [] 0 []
     (method (codes "main") [] None 8
-    (Some (body_with 4
+    (Some (naming []
+    (method_ref (codes "LLower;") (codes "<init>") [] None ∷
+    method_ref (codes "Ljava/lang/Runnable;") (codes "run") [] None ∷
+    method_ref (codes "LUpper;") (codes "name") [] (Some of_int) ∷
+    println_ref ∷
+    method_ref (codes "LUpper;") (codes "twice") (of_long ∷ of_int ∷ []) (Some of_long) ∷ [])
+    (body_with 4
     (0x0022 ∷ 0x0000 ∷ 0x0107 ∷ 0x1070 ∷ 0x0000 ∷ 0x0000 ∷ 0x1072 ∷ 0x0001 ∷ 0x0001 ∷ 0x106e ∷ 0x0002 ∷
     0x0001 ∷ 0x020a ∷ 0x1071 ∷ 0x0003 ∷ 0x0002 ∷ 0x0216 ∷ 0x0014 ∷ 0x1112 ∷ 0x406e ∷ 0x0004 ∷ 0x1320 ∷
     0x020b ∷ 0x2184 ∷ 0x1071 ∷ 0x0003 ∷ 0x0001 ∷ 0x000e ∷ [])
-    [] [] (of_class (codes "LLower;") ∷ [])))
+    [] [] (of_class (codes "LLower;") ∷ []))))
     ∷ method (codes "wrong") [] None 8
-    (Some (body_with 1 (0x0022 ∷ 0x0000 ∷ 0x1070 ∷ 0x0000 ∷ 0x0000 ∷ 0x1072 ∷ 0x0001 ∷ 0x0000 ∷ 0x000e ∷ [])
-    [] [] (of_class (codes "Ljava/lang/Object;") ∷ [])))
+    (Some (naming [] (object_init_ref ∷ method_ref (codes "Ljava/lang/Runnable;") (codes "run") [] None ∷ [])
+    (body_with 1 (0x0022 ∷ 0x0000 ∷ 0x1070 ∷ 0x0000 ∷ 0x0000 ∷ 0x1072 ∷ 0x0001 ∷ 0x0000 ∷ 0x000e ∷ [])
+    [] [] (of_class (codes "Ljava/lang/Object;") ∷ []))))
     ∷ method (codes "none") [] None 8
-    (Some (body_with 1 (0x0022 ∷ 0x0000 ∷ 0x1070 ∷ 0x0000 ∷ 0x0000 ∷ 0x1072 ∷ 0x0001 ∷ 0x0000 ∷ 0x000e ∷ [])
-    [] [] (of_class (codes "LEmpty;") ∷ [])))
-    ∷ method (codes "nobody") [] None 8 (Some (body 1 (0x0012 ∷ 0x1072 ∷ 0x0000 ∷ 0x0000 ∷ 0x000e ∷ [])))
+    (Some (naming []
+    (method_ref (codes "LEmpty;") (codes "<init>") [] None ∷
+    method_ref (codes "Ljava/lang/Runnable;") (codes "run") [] None ∷ [])
+    (body_with 1 (0x0022 ∷ 0x0000 ∷ 0x1070 ∷ 0x0000 ∷ 0x0000 ∷ 0x1072 ∷ 0x0001 ∷ 0x0000 ∷ 0x000e ∷ [])
+    [] [] (of_class (codes "LEmpty;") ∷ []))))
+    ∷ method (codes "nobody") [] None 8
+    (Some (naming [] (method_ref (codes "Ljava/lang/Runnable;") (codes "run") [] None ∷ [])
+    (body 1 (0x0012 ∷ 0x1072 ∷ 0x0000 ∷ 0x0000 ∷ 0x000e ∷ []))))
     ∷ method (codes "cells") [] None 8
-    (Some (body_with 3
+    (Some (naming
+    (field_ref (codes "LUpper;") (codes "b") of_byte ∷ field_ref (codes "LUpper;") (codes "w") of_long ∷ [])
+    (method_ref (codes "LUpper;") (codes "<init>") [] None ∷ println_ref ∷ [])
+    (body_with 3
     (0x0022 ∷ 0x0000 ∷ 0x1070 ∷ 0x0000 ∷ 0x0000 ∷ 0x0113 ∷ 0x01ff ∷ 0x015d ∷ 0x0000 ∷ 0x0156 ∷ 0x0000 ∷
     0x1071 ∷ 0x0001 ∷ 0x0001 ∷ 0x0116 ∷ 0x0008 ∷ 0x015a ∷ 0x0001 ∷ 0x0153 ∷ 0x0001 ∷ 0x1184 ∷ 0x1071 ∷
     0x0001 ∷ 0x0001 ∷ 0x0156 ∷ 0x0000 ∷ 0x1071 ∷ 0x0001 ∷ 0x0001 ∷ 0x000e ∷ [])
-    [] [] (of_class (codes "LUpper;") ∷ [])))
+    [] [] (of_class (codes "LUpper;") ∷ []))))
     ∷ method (codes "cast") [] None 8
-    (Some (body_with 1 (0x0022 ∷ 0x0000 ∷ 0x1070 ∷ 0x0000 ∷ 0x0000 ∷ 0x001f ∷ 0x0001 ∷ 0x001f ∷ 0x0002 ∷ 0x000e ∷ [])
+    (Some (naming [] (method_ref (codes "LUpper;") (codes "<init>") [] None ∷ [])
+    (body_with 1 (0x0022 ∷ 0x0000 ∷ 0x1070 ∷ 0x0000 ∷ 0x0000 ∷ 0x001f ∷ 0x0001 ∷ 0x001f ∷ 0x0002 ∷ 0x000e ∷ [])
     [] []
-    (of_class (codes "LUpper;") ∷ of_class (codes "Ljava/lang/Runnable;") ∷ of_class (codes "LLower;") ∷ []))) ∷ []) [] ∷
-    class (codes "LUpper;") (Some 0) (1 ∷ []) 0
+    (of_class (codes "LUpper;") ∷ of_class (codes "Ljava/lang/Runnable;") ∷ of_class (codes "LLower;") ∷ [])))) ∷ [])) ∷
+    linked (Some 0) (1 ∷ []) (5 ∷ 6 ∷ []) (1 ∷ 2 ∷ 3 ∷ 4 ∷ 105 ∷ 106 ∷ 108 ∷ [])
+    (class (codes "LUpper;") (Some (codes "Ljava/lang/Object;")) (codes "Ljava/lang/Runnable;" ∷ []) 0
     (field (codes "b") of_byte 0 ∷ field (codes "w") of_long 0 ∷ [])
-    (method (codes "<init>") [] None 0 (Some (body 1 (0x1070 ∷ 0x0000 ∷ 0x0000 ∷ 0x000e ∷ [])))
-    ∷ method (codes "run") [] None 0 (Some (body 2 (0x1012 ∷ 0x1071 ∷ 0x0000 ∷ 0x0000 ∷ 0x000e ∷ [])))
+    (method (codes "<init>") [] None 0 (Some (naming [] (object_init_ref ∷ [])
+    (body 1 (0x1070 ∷ 0x0000 ∷ 0x0000 ∷ 0x000e ∷ []))))
+    ∷ method (codes "run") [] None 0 (Some (naming [] (println_ref ∷ [])
+    (body 2 (0x1012 ∷ 0x1071 ∷ 0x0000 ∷ 0x0000 ∷ 0x000e ∷ []))))
     ∷ method (codes "name") [] (Some of_int) 0 (Some (body 2 (0x3012 ∷ 0x000f ∷ [])))
     ∷ method (codes "sum") (of_long ∷ of_int ∷ []) (Some of_long) 2 (Some (body 6 (0x5081 ∷ 0x009b ∷ 0x0300 ∷ 0x0010 ∷ [])))
     ∷ method (codes "twice") (of_long ∷ of_int ∷ []) (Some of_long) 0
-    (Some (body 4 (0x4070 ∷ 0x0000 ∷ 0x3210 ∷ 0x010b ∷ 0x4070 ∷ 0x0000 ∷ 0x3210 ∷ 0x010b ∷ 0x0110 ∷ []))) ∷ []) (5 ∷ 6 ∷ []) ∷
-    class (codes "LLower;") (Some 34) [] 0 []
-    (method (codes "<init>") [] None 0 (Some (body 1 (0x1070 ∷ 0x0000 ∷ 0x0000 ∷ 0x000e ∷ [])))
+    (Some (naming [] (method_ref (codes "LUpper;") (codes "sum") (of_long ∷ of_int ∷ []) (Some of_long) ∷ [])
+    (body 4 (0x4070 ∷ 0x0000 ∷ 0x3210 ∷ 0x010b ∷ 0x4070 ∷ 0x0000 ∷ 0x3210 ∷ 0x010b ∷ 0x0110 ∷ [])))) ∷ [])) ∷
+    linked (Some 34) [] (5 ∷ 6 ∷ []) (1 ∷ 2 ∷ 3 ∷ 4 ∷ 110 ∷ 106 ∷ 108 ∷ [])
+    (class (codes "LLower;") (Some (codes "LUpper;")) [] 0 []
+    (method (codes "<init>") [] None 0 (Some (naming [] (method_ref (codes "LUpper;") (codes "<init>") [] None ∷ [])
+    (body 1 (0x1070 ∷ 0x0000 ∷ 0x0000 ∷ 0x000e ∷ []))))
     ∷ method (codes "run") [] None 0
-    (Some (body 2 (0x106f ∷ 0x0000 ∷ 0x0001 ∷ 0x2012 ∷ 0x1071 ∷ 0x0001 ∷ 0x0000 ∷ 0x000e ∷ []))) ∷ []) (5 ∷ 6 ∷ []) ∷
-    class (codes "LBare;") (Some 0) (1 ∷ []) 0x1000 []
-    (method (codes "<init>") [] None 0 (Some (body 1 (0x1070 ∷ 0x0000 ∷ 0x0000 ∷ 0x000e ∷ []))) ∷ []) [] ∷
-    class (codes "LEmpty;") (Some 36) [] 0 []
-    (method (codes "<init>") [] None 0 (Some (body 1 (0x1070 ∷ 0x0000 ∷ 0x0000 ∷ 0x000e ∷ []))) ∷ []) [] ∷ [])
+    (Some (naming [] (method_ref (codes "LUpper;") (codes "run") [] None ∷ println_ref ∷ [])
+    (body 2 (0x106f ∷ 0x0000 ∷ 0x0001 ∷ 0x2012 ∷ 0x1071 ∷ 0x0001 ∷ 0x0000 ∷ 0x000e ∷ [])))) ∷ [])) ∷
+    linked (Some 0) (1 ∷ []) [] (1 ∷ 2 ∷ 3 ∷ 4 ∷ [])
+    (class (codes "LBare;") (Some (codes "Ljava/lang/Object;")) (codes "Ljava/lang/Runnable;" ∷ []) 0x1000 []
+    (method (codes "<init>") [] None 0 (Some (naming [] (object_init_ref ∷ [])
+    (body 1 (0x1070 ∷ 0x0000 ∷ 0x0000 ∷ 0x000e ∷ [])))) ∷ [])) ∷
+    linked (Some 36) [] [] (1 ∷ 2 ∷ 3 ∷ 4 ∷ [])
+    (class (codes "LEmpty;") (Some (codes "LBare;")) [] 0 []
+    (method (codes "<init>") [] None 0 (Some (naming [] (method_ref (codes "LBare;") (codes "<init>") [] None ∷ [])
+    (body 1 (0x1070 ∷ 0x0000 ∷ 0x0000 ∷ 0x000e ∷ [])))) ∷ [])) ∷ [])
     (info 33 0 (of_class (codes "LLower;") ∷ []) [] (109 ∷ 5 ∷ 106 ∷ 40 ∷ 108 ∷ []) ∷
     info 33 1 (of_class (codes "Ljava/lang/Object;") ∷ []) [] (0 ∷ 5 ∷ []) ∷
     info 33 2 (of_class (codes "LEmpty;") ∷ []) [] (112 ∷ 5 ∷ []) ∷
@@ -272,30 +300,34 @@ calling = with_boot
 --   .end method
 abbrev pub arrays : Image
 arrays = with_boot
-    (class (codes "LMain;") (Some 0) [] 0 []
+    (linked (Some 0) [] [] (1 ∷ 2 ∷ 3 ∷ 4 ∷ [])
+    (class (codes "LMain;") (Some (codes "Ljava/lang/Object;")) [] 0 []
     (method (codes "main") [] None 8
-    (Some (body_with 4
+    (Some (naming [] (println_ref ∷ [])
+    (body_with 4
     (0x3012 ∷ 0x0123 ∷ 0x0000 ∷ 0x0126 ∷ 0x0015 ∷ 0x0000 ∷ 0x1012 ∷ 0x0244 ∷ 0x0001 ∷ 0x1071 ∷ 0x0000 ∷
     0x0002 ∷ 0x2024 ∷ 0x0000 ∷ 0x0002 ∷ 0x010c ∷ 0x1221 ∷ 0x1071 ∷ 0x0000 ∷ 0x0002 ∷ 0x2212 ∷ 0x0244 ∷
     0x0201 ∷ 0x000e ∷ 0x0300 ∷ 0x0004 ∷ 0x0002 ∷ 0x0000 ∷ 0x0005 ∷ 0x0000 ∷ 0xfffa ∷ 0xffff ∷ [])
-    [] [] (array_of of_int ∷ [])))
+    [] [] (array_of of_int ∷ []))))
     ∷ method (codes "short") [] None 8
     (Some (body_with 3
     (0x1012 ∷ 0x0123 ∷ 0x0000 ∷ 0x0126 ∷ 0x0005 ∷ 0x0000 ∷ 0x000e ∷ 0x0000 ∷ 0x0300 ∷ 0x0004 ∷ 0x0002 ∷
     0x0000 ∷ 0x0005 ∷ 0x0000 ∷ 0xfffa ∷ 0xffff ∷ [])
     [] [] (array_of of_int ∷ [])))
     ∷ method (codes "stores") [] None 8
-    (Some (body_with 4
+    (Some (naming [] (object_init_ref ∷ [])
+    (body_with 4
     (0x1012 ∷ 0x0123 ∷ 0x0000 ∷ 0x0212 ∷ 0x024d ∷ 0x0201 ∷ 0x0322 ∷ 0x0001 ∷ 0x1070 ∷ 0x0000 ∷ 0x0003 ∷
     0x034d ∷ 0x0201 ∷ 0x000e ∷ [])
-    [] [] (array_of (of_class (codes "Ljava/lang/String;")) ∷ of_class (codes "Ljava/lang/Object;") ∷ [])))
+    [] [] (array_of (of_class (codes "Ljava/lang/String;")) ∷ of_class (codes "Ljava/lang/Object;") ∷ []))))
     ∷ method (codes "negative") [] None 8 (Some (body_with 2 (0xf012 ∷ 0x0123 ∷ 0x0000 ∷ 0x000e ∷ []) [] [] (array_of of_int ∷ [])))
     ∷ method (codes "null") [] None 8 (Some (body 3 (0x0012 ∷ 0xf112 ∷ 0x0244 ∷ 0x0100 ∷ 0x000e ∷ [])))
     ∷ method (codes "narrow") [] None 8
-    (Some (body_with 4
+    (Some (naming [] (println_ref ∷ [])
+    (body_with 4
     (0x2012 ∷ 0x0123 ∷ 0x0000 ∷ 0x0212 ∷ 0x3312 ∷ 0x034e ∷ 0x0201 ∷ 0x0347 ∷ 0x0201 ∷ 0x1071 ∷ 0x0000 ∷
     0x0003 ∷ 0x2312 ∷ 0x034e ∷ 0x0201 ∷ 0x0347 ∷ 0x0201 ∷ 0x1071 ∷ 0x0000 ∷ 0x0003 ∷ 0x000e ∷ [])
-    [] [] (array_of of_boolean ∷ []))) ∷ []) [] ∷ [])
+    [] [] (array_of of_boolean ∷ [])))) ∷ [])) ∷ [])
     (info 33 0 (array_of of_int ∷ []) [] (40 ∷ []) ∷
     info 33 1 (array_of of_int ∷ []) [] [] ∷
     info 33 2 (array_of (of_class (codes "Ljava/lang/String;")) ∷ of_class (codes "Ljava/lang/Object;") ∷ []) [] (0 ∷ []) ∷
@@ -368,28 +400,57 @@ arrays = with_boot
 --   .end method
 abbrev pub texts : Image
 texts = with_boot
-    (class (codes "LMain;") (Some 0) [] 0
+    (linked (Some 0) [] [] (1 ∷ 2 ∷ 3 ∷ 4 ∷ [])
+    (class (codes "LMain;") (Some (codes "Ljava/lang/Object;")) [] 0
     (with_init (init.Str (codes "hi")) (field (codes "greeting") (of_class (codes "Ljava/lang/String;")) 8) ∷
     with_init (init.Num (negsuc 1)) (field (codes "big") of_long 8) ∷
     with_init init.Null (field (codes "nothing") (of_class (codes "Ljava/lang/String;")) 8) ∷ [])
     (method (codes "main") [] None 8
-    (Some (body_with 4
+    (Some (naming
+    (field_ref (codes "Ljava/lang/System;") (codes "out") (of_class (codes "Ljava/io/PrintStream;")) ∷
+    field_ref (codes "LMain;") (codes "greeting") (of_class (codes "Ljava/lang/String;")) ∷
+    field_ref (codes "LMain;") (codes "big") of_long ∷
+    field_ref (codes "LMain;") (codes "nothing") (of_class (codes "Ljava/lang/String;")) ∷ [])
+    (method_ref (codes "Ljava/lang/StringBuilder;") (codes "<init>") [] None ∷
+    method_ref (codes "Ljava/lang/StringBuilder;") (codes "append") (of_class (codes "Ljava/lang/String;") ∷ [])
+    (Some (of_class (codes "Ljava/lang/StringBuilder;"))) ∷
+    method_ref (codes "Ljava/lang/StringBuilder;") (codes "append") (of_int ∷ [])
+    (Some (of_class (codes "Ljava/lang/StringBuilder;"))) ∷
+    method_ref (codes "Ljava/lang/StringBuilder;") (codes "append") (of_long ∷ [])
+    (Some (of_class (codes "Ljava/lang/StringBuilder;"))) ∷
+    method_ref (codes "Ljava/lang/StringBuilder;") (codes "append") (of_char ∷ [])
+    (Some (of_class (codes "Ljava/lang/StringBuilder;"))) ∷
+    method_ref (codes "Ljava/lang/StringBuilder;") (codes "toString") []
+    (Some (of_class (codes "Ljava/lang/String;"))) ∷
+    method_ref (codes "Ljava/io/PrintStream;") (codes "println") (of_class (codes "Ljava/lang/String;") ∷ []) None ∷
+    method_ref (codes "Ljava/io/PrintStream;") (codes "println") (of_boolean ∷ []) None ∷ [])
+    (body_with 4
     (0x0062 ∷ 0x0000 ∷ 0x0122 ∷ 0x0000 ∷ 0x1070 ∷ 0x0000 ∷ 0x0001 ∷ 0x0262 ∷ 0x0001 ∷ 0x206e ∷ 0x0001 ∷
     0x0021 ∷ 0x9212 ∷ 0x206e ∷ 0x0002 ∷ 0x0021 ∷ 0x0261 ∷ 0x0002 ∷ 0x306e ∷ 0x0003 ∷ 0x0321 ∷ 0x0213 ∷
     0x0021 ∷ 0x206e ∷ 0x0004 ∷ 0x0021 ∷ 0x106e ∷ 0x0005 ∷ 0x0001 ∷ 0x020c ∷ 0x206e ∷ 0x0006 ∷ 0x0020 ∷
     0x0262 ∷ 0x0003 ∷ 0x206e ∷ 0x0006 ∷ 0x0020 ∷ 0x1212 ∷ 0x206e ∷ 0x0007 ∷ 0x0020 ∷ 0x000e ∷ [])
-    [] [] (of_class (codes "Ljava/lang/StringBuilder;") ∷ [])))
+    [] [] (of_class (codes "Ljava/lang/StringBuilder;") ∷ []))))
     ∷ method (codes "same") [] None 8
-    (Some (body_with 3
+    (Some (naming
+    (field_ref (codes "LMain;") (codes "greeting") (of_class (codes "Ljava/lang/String;")) ∷ [])
+    (println_ref ∷
+    method_ref (codes "Ljava/lang/String;") (codes "concat") (of_class (codes "Ljava/lang/String;") ∷ [])
+    (Some (of_class (codes "Ljava/lang/String;"))) ∷
+    method_ref (codes "Ljava/lang/String;") (codes "equals") (of_class (codes "Ljava/lang/Object;") ∷ [])
+    (Some of_boolean) ∷
+    method_ref (codes "Ljava/lang/String;") (codes "charAt") (of_int ∷ []) (Some of_char) ∷ [])
+    (body_with 3
     (0x001a ∷ 0x0000 ∷ 0x0162 ∷ 0x0000 ∷ 0x1033 ∷ 0x0006 ∷ 0x1212 ∷ 0x1071 ∷ 0x0000 ∷ 0x0002 ∷ 0x001c ∷
     0x0000 ∷ 0x011c ∷ 0x0000 ∷ 0x1033 ∷ 0x0006 ∷ 0x2212 ∷ 0x1071 ∷ 0x0000 ∷ 0x0002 ∷ 0x001a ∷ 0x0001 ∷
     0x011a ∷ 0x0002 ∷ 0x206e ∷ 0x0001 ∷ 0x0010 ∷ 0x000c ∷ 0x011a ∷ 0x0000 ∷ 0x206e ∷ 0x0002 ∷ 0x0010 ∷
     0x020a ∷ 0x1071 ∷ 0x0000 ∷ 0x0002 ∷ 0x1033 ∷ 0x0003 ∷ 0x000e ∷ 0x2212 ∷ 0x206e ∷ 0x0003 ∷ 0x0020 ∷
     0x000e ∷ [])
-    [] (codes "hi" ∷ codes "h" ∷ codes "i" ∷ []) (array_of of_int ∷ [])))
+    [] (codes "hi" ∷ codes "h" ∷ codes "i" ∷ []) (array_of of_int ∷ []))))
     ∷ method (codes "units") [] None 8
-    (Some (body_with 1 (0x001a ∷ 0x0000 ∷ 0x1071 ∷ 0x0000 ∷ 0x0000 ∷ 0x000e ∷ [])
-    [] ((233 ∷ 8364 ∷ 55357 ∷ 56832 ∷ 55357 ∷ []) ∷ []) [])) ∷ []) [] ∷ [])
+    (Some (naming []
+    (method_ref (codes "Ldvm/Console;") (codes "print") (of_class (codes "Ljava/lang/String;") ∷ []) None ∷ [])
+    (body_with 1 (0x001a ∷ 0x0000 ∷ 0x1071 ∷ 0x0000 ∷ 0x0000 ∷ 0x000e ∷ [])
+    [] ((233 ∷ 8364 ∷ 55357 ∷ 56832 ∷ 55357 ∷ []) ∷ []) []))) ∷ [])) ∷ [])
     (info 33 0 (of_class (codes "Ljava/lang/StringBuilder;") ∷ []) (2 ∷ 5 ∷ 6 ∷ 7 ∷ []) (17 ∷ 19 ∷ 20 ∷ 21 ∷ 22 ∷ 24 ∷ 32 ∷ 36 ∷ []) ∷
     info 33 1 (array_of of_int ∷ []) (5 ∷ []) (40 ∷ 15 ∷ 14 ∷ 13 ∷ []) ∷
     info 33 2 [] [] (39 ∷ []) ∷ [])

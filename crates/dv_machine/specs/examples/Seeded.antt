@@ -7,7 +7,7 @@ use Rattle.dv_machine.specs.State.{Reads}
 use Rattle.dv_machine.specs.Replaying.{seeded_log}
 use Rattle.dv_machine.specs.Seeds.{word_of, log_of_seed}
 use Rattle.dv_defs.specs.Types.{of_class}
-use Rattle.dv_machine.specs.examples.Images.{body, body_with, method, class, info}
+use Rattle.dv_machine.specs.examples.Images.{body, body_with, method, class, info, naming, method_ref, linked}
 use Rattle.dv_machine.specs.examples.BootImage.{with_boot, with_main}
 use Rattle.dv_machine.specs.Opening.{usual}
 use Rattle.dv_machine.specs.examples.Outcomes.{steps}
@@ -42,13 +42,19 @@ four_steps = with_main (body 0 (0x0000 ∷ 0x0000 ∷ 0x0000 ∷ 0x000e ∷ []))
 --   .end method
 abbrev pub two_threads : Image
 two_threads = with_boot
-    (class (codes "LMain;") (Some 0) [] 0 []
+    (linked (Some 0) [] [] (1 ∷ 2 ∷ 3 ∷ 4 ∷ [])
+    (class (codes "LMain;") (Some (codes "Ljava/lang/Object;")) [] 0 []
     (method (codes "main") [] None 8
-    (Some (body_with 1 (0x0022 ∷ 0x0000 ∷ 0x1070 ∷ 0x0000 ∷ 0x0000 ∷ 0x106e ∷ 0x0001 ∷ 0x0000 ∷ 0x000e ∷ [])
-    [] [] (of_class (codes "LT;") ∷ []))) ∷ []) [] ∷
-    class (codes "LT;") (Some 3) [] 0 []
-    (method (codes "<init>") [] None 0 (Some (body 1 (0x1070 ∷ 0x0000 ∷ 0x0000 ∷ 0x000e ∷ [])))
-    ∷ method (codes "run") [] None 0 (Some (body 1 (0x000e ∷ []))) ∷ []) (0 ∷ []) ∷ [])
+    (Some (naming []
+    (method_ref (codes "LT;") (codes "<init>") [] None ∷ method_ref (codes "LT;") (codes "start") [] None ∷ [])
+    (body_with 1 (0x0022 ∷ 0x0000 ∷ 0x1070 ∷ 0x0000 ∷ 0x0000 ∷ 0x106e ∷ 0x0001 ∷ 0x0000 ∷ 0x000e ∷ [])
+    [] [] (of_class (codes "LT;") ∷ [])))) ∷ [])) ∷
+    linked (Some 3) [] (0 ∷ []) (1 ∷ 2 ∷ 3 ∷ 4 ∷ 100 ∷ 9 ∷ 10 ∷ [])
+    (class (codes "LT;") (Some (codes "Ljava/lang/Thread;")) [] 0 []
+    (method (codes "<init>") [] None 0
+    (Some (naming [] (method_ref (codes "Ljava/lang/Thread;") (codes "<init>") [] None ∷ [])
+    (body 1 (0x1070 ∷ 0x0000 ∷ 0x0000 ∷ 0x000e ∷ []))))
+    ∷ method (codes "run") [] None 0 (Some (body 1 (0x000e ∷ []))) ∷ [])) ∷ [])
     (info 33 0 (of_class (codes "LT;") ∷ []) [] (99 ∷ 9 ∷ []) ∷
     info 34 0 [] [] (6 ∷ []) ∷
     info 34 1 [] [] [] ∷ [])

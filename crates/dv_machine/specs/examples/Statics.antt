@@ -3,7 +3,7 @@ use Rattle.std.specs.Prelude.{◌≡◌, [], ◌∷◌, Some, None, codes}
 use Rattle.dv_defs.specs.Images.{Image}
 use Rattle.dv_defs.specs.Types.{of_class}
 use Rattle.dv_defs.specs.Joins.{array_of}
-use Rattle.dv_machine.specs.examples.Images.{of_int, of_char, catch_type, catch_all, entry_over, body, body_with, method, field, class, info, field_info}
+use Rattle.dv_machine.specs.examples.Images.{of_int, of_char, catch_type, catch_all, entry_over, body, body_with, method, field, class, info, field_info, naming, method_ref, field_ref, linked}
 use Rattle.dv_machine.specs.examples.BootImage.{with_boot}
 use Rattle.dv_machine.specs.examples.Passes.{faults_of, S, V}
 
@@ -196,7 +196,8 @@ use Rattle.dv_machine.specs.examples.Passes.{faults_of, S, V}
 --   .end method
 abbrev pub raw_bodies : Image
 raw_bodies = with_boot
-    (class (codes "LMain;") (Some 0) [] 0
+    (linked (Some 0) [] (5 ∷ []) (1 ∷ 2 ∷ 3 ∷ 4 ∷ [])
+    (class (codes "LMain;") (Some (codes "Ljava/lang/Object;")) [] 0
     (field (codes "x") of_int 0 ∷ field (codes "y") of_int 8 ∷ [])
     (method (codes "<clinit>") [] None 8 (Some (body 0 (0x000e ∷ [])))
     ∷ method (codes "middle") [] None 8 (Some (body 1 (0x0228 ∷ 0x0013 ∷ 0x0005 ∷ 0x000e ∷ [])))
@@ -231,11 +232,18 @@ raw_bodies = with_boot
     ∷ method (codes "few") (of_int ∷ of_int ∷ []) None 8 (Some (body 1 (0x000e ∷ [])))
     ∷ method (codes "no_string") [] None 8 (Some (body 1 (0x001a ∷ 0x0000 ∷ 0x000e ∷ [])))
     ∷ method (codes "no_long_field") [] None 8 (Some (body 1 (0x0061 ∷ 0x0000 ∷ 0x000e ∷ [])))
-    ∷ method (codes "instance_form") [] None 8 (Some (body 1 (0x0060 ∷ 0x0000 ∷ 0x000e ∷ [])))
-    ∷ method (codes "suffix") [] None 8 (Some (body 1 (0x0063 ∷ 0x0000 ∷ 0x000e ∷ [])))
-    ∷ method (codes "not_virtual") [] None 8 (Some (body 0 (0x006e ∷ 0x0000 ∷ 0x0000 ∷ 0x000e ∷ [])))
-    ∷ method (codes "initialiser") [] None 8 (Some (body 0 (0x0071 ∷ 0x0000 ∷ 0x0000 ∷ 0x000e ∷ [])))
-    ∷ method (codes "words") [] None 8 (Some (body 1 (0x1071 ∷ 0x0000 ∷ 0x0000 ∷ 0x000e ∷ [])))
+    ∷ method (codes "instance_form") [] None 8 (Some (naming (field_ref (codes "LMain;") (codes "x") of_int ∷ []) []
+    (body 1 (0x0060 ∷ 0x0000 ∷ 0x000e ∷ []))))
+    ∷ method (codes "suffix") [] None 8 (Some (naming (field_ref (codes "LMain;") (codes "y") of_int ∷ []) []
+    (body 1 (0x0063 ∷ 0x0000 ∷ 0x000e ∷ []))))
+    ∷ method (codes "not_virtual") [] None 8
+    (Some (naming [] (method_ref (codes "LMain;") (codes "float") [] None ∷ [])
+    (body 0 (0x006e ∷ 0x0000 ∷ 0x0000 ∷ 0x000e ∷ []))))
+    ∷ method (codes "initialiser") [] None 8
+    (Some (naming [] (method_ref (codes "LMain;") (codes "<clinit>") [] None ∷ [])
+    (body 0 (0x0071 ∷ 0x0000 ∷ 0x0000 ∷ 0x000e ∷ []))))
+    ∷ method (codes "words") [] None 8 (Some (naming [] (method_ref (codes "LMain;") (codes "float") [] None ∷ [])
+    (body 1 (0x1071 ∷ 0x0000 ∷ 0x0000 ∷ 0x000e ∷ []))))
     ∷ method (codes "interface") [] None 8
     (Some (body_with 1 (0x0022 ∷ 0x0000 ∷ 0x000e ∷ []) [] [] (of_class (codes "Ljava/lang/Runnable;") ∷ [])))
     ∷ method (codes "array") [] None 8 (Some (body_with 1 (0x0022 ∷ 0x0000 ∷ 0x000e ∷ []) [] [] (array_of of_int ∷ [])))
@@ -257,7 +265,7 @@ raw_bodies = with_boot
     ∷ method (codes "all_not_last") [] None 8
     (Some (body_with 0 (0x0000 ∷ 0x000e ∷ []) (entry_over 0 1 (catch_all 1 ∷ catch_type 0 1 ∷ []) ∷ [])
     [] (of_class (codes "Ljava/lang/Error;") ∷ [])))
-    ∷ method (codes "several") [] None 8 (Some (body 1 (0x0228 ∷ 0x0112 ∷ 0x001a ∷ 0x0000 ∷ 0x000e ∷ []))) ∷ []) (5 ∷ []) ∷ [])
+    ∷ method (codes "several") [] None 8 (Some (body 1 (0x0228 ∷ 0x0112 ∷ 0x001a ∷ 0x0000 ∷ 0x000e ∷ []))) ∷ [])) ∷ [])
     (info 33 0 [] [] [] ∷
     info 33 1 [] [] [] ∷
     info 33 2 [] [] [] ∷

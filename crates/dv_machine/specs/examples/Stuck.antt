@@ -2,7 +2,7 @@
 use Rattle.std.specs.Prelude.{◌≡◌, [], ◌∷◌, codes}
 use Rattle.dv_defs.specs.Images.{Image}
 use Rattle.dv_defs.specs.Types.{of_class}
-use Rattle.dv_machine.specs.examples.Images.{body, body_with}
+use Rattle.dv_machine.specs.examples.Images.{body, body_with, naming, println_ref, object_init_ref}
 use Rattle.dv_machine.specs.examples.BootImage.{with_main}
 use Rattle.dv_machine.specs.examples.Outcomes.{outcome}
 
@@ -10,7 +10,8 @@ use Rattle.dv_machine.specs.examples.Outcomes.{outcome}
 --   invoke-static {v0}, Ldvm/Console;->println(I)V
 --   return-void
 abbrev pub undefined : Image
-undefined = with_main (body 1 (0x1071 ∷ 0x0000 ∷ 0x0000 ∷ 0x000e ∷ [])) [] [] (40 ∷ [])
+undefined = with_main (naming [] (println_ref ∷ [])
+    (body 1 (0x1071 ∷ 0x0000 ∷ 0x0000 ∷ 0x000e ∷ []))) [] [] (40 ∷ [])
 
 --   .registers 3
 --   const-wide/16 v0, 0x7
@@ -25,7 +26,8 @@ broken = with_main (body 3 (0x0016 ∷ 0x0007 ∷ 0x1112 ∷ 0x0284 ∷ 0x000e �
 --   invoke-static {v0}, Ldvm/Console;->println(I)V
 --   return-void
 abbrev pub half : Image
-half = with_main (body 2 (0x0016 ∷ 0x0007 ∷ 0x1071 ∷ 0x0000 ∷ 0x0000 ∷ 0x000e ∷ [])) [] [] (40 ∷ [])
+half = with_main (naming [] (println_ref ∷ [])
+    (body 2 (0x0016 ∷ 0x0007 ∷ 0x1071 ∷ 0x0000 ∷ 0x0000 ∷ 0x000e ∷ []))) [] [] (40 ∷ [])
 
 --   .registers 2
 --   new-instance v0, Ljava/lang/Object;
@@ -43,7 +45,8 @@ uninitialised =
 --   invoke-static {v0}, Ldvm/Console;->println(I)V
 --   return-void
 abbrev pub reference : Image
-reference = with_main (body_with 2 (0x001a ∷ 0x0000 ∷ 0x1071 ∷ 0x0000 ∷ 0x0000 ∷ 0x000e ∷ []) [] ([] ∷ []) []) [] [] (40 ∷ [])
+reference = with_main (naming [] (println_ref ∷ [])
+    (body_with 2 (0x001a ∷ 0x0000 ∷ 0x1071 ∷ 0x0000 ∷ 0x0000 ∷ 0x000e ∷ []) [] ([] ∷ []) [])) [] [] (40 ∷ [])
 
 --   .registers 2
 --   const/4 v0, 0x1
@@ -90,8 +93,9 @@ falls_off = with_main (body 1 (0x0000 ∷ [])) [] [] []
 abbrev pub twice : Image
 twice =
     with_main
+    (naming [] (object_init_ref ∷ [])
     (body_with 1 (0x0022 ∷ 0x0000 ∷ 0x1070 ∷ 0x0000 ∷ 0x0000 ∷ 0x1070 ∷ 0x0000 ∷ 0x0000 ∷ 0x000e ∷ []) [] []
-    (of_class (codes "Ljava/lang/Object;") ∷ []))
+    (of_class (codes "Ljava/lang/Object;") ∷ [])))
     (of_class (codes "Ljava/lang/Object;") ∷ []) [] (0 ∷ [])
 
 -- each reason for which the machine is stuck, on code that the verifier refuses

@@ -4,7 +4,7 @@ use Rattle.dv_defs.specs.Images.{Image}
 use Rattle.dv_defs.specs.Types.{of_class}
 use Rattle.dv_defs.specs.Joins.{array_of}
 use Rattle.dv_defs.specs.Accepting.{Accepts}
-use Rattle.dv_machine.specs.examples.Images.{of_int, of_boolean, catch_type, catch_all, entry_over, body, body_with, method, field, class, info, field_info}
+use Rattle.dv_machine.specs.examples.Images.{of_int, of_boolean, catch_type, catch_all, entry_over, body, body_with, method, field, class, info, field_info, naming, method_ref, field_ref, println_ref, object_init_ref, linked}
 use Rattle.dv_machine.specs.examples.BootImage.{with_boot}
 use Rattle.dv_machine.specs.examples.Outcomes.{lines, outcome}
 
@@ -95,36 +95,69 @@ use Rattle.dv_machine.specs.examples.Outcomes.{lines, outcome}
 --   .end method
 abbrev pub waiting_program : Image
 waiting_program = with_boot
-    (class (codes "LMain;") (Some 0) [] 0
+    (linked (Some 0) [] [] (1 ∷ 2 ∷ 3 ∷ 4 ∷ [])
+    (class (codes "LMain;") (Some (codes "Ljava/lang/Object;")) [] 0
     (field (codes "o") (of_class (codes "Ljava/lang/Object;")) 8 ∷ [])
     (method (codes "main") [] None 8
-    (Some (body_with 3
+    (Some (naming
+    (field_ref (codes "LMain;") (codes "o") (of_class (codes "Ljava/lang/Object;")) ∷ [])
+    (object_init_ref ∷
+    method_ref (codes "LT;") (codes "<init>") [] None ∷
+    method_ref (codes "LT;") (codes "start") [] None ∷
+    method_ref (codes "Ljava/lang/Object;") (codes "wait") [] None ∷
+    println_ref ∷ [])
+    (body_with 3
     (0x0022 ∷ 0x0000 ∷ 0x1070 ∷ 0x0000 ∷ 0x0000 ∷ 0x0069 ∷ 0x0000 ∷ 0x0122 ∷ 0x0001 ∷ 0x1070 ∷ 0x0001 ∷
     0x0001 ∷ 0x001d ∷ 0x001d ∷ 0x106e ∷ 0x0002 ∷ 0x0001 ∷ 0x106e ∷ 0x0003 ∷ 0x0000 ∷ 0x001e ∷ 0x001e ∷
     0x2212 ∷ 0x1071 ∷ 0x0004 ∷ 0x0002 ∷ 0x001e ∷ 0x000e ∷ [])
-    [] [] (of_class (codes "Ljava/lang/Object;") ∷ of_class (codes "LT;") ∷ [])))
+    [] [] (of_class (codes "Ljava/lang/Object;") ∷ of_class (codes "LT;") ∷ []))))
     ∷ method (codes "alone") [] None 8
-    (Some (body_with 1 (0x0022 ∷ 0x0000 ∷ 0x1070 ∷ 0x0000 ∷ 0x0000 ∷ 0x106e ∷ 0x0001 ∷ 0x0000 ∷ 0x000e ∷ [])
-    [] [] (of_class (codes "Ljava/lang/Object;") ∷ [])))
+    (Some (naming [] (object_init_ref ∷ method_ref (codes "Ljava/lang/Object;") (codes "wait") [] None ∷ [])
+    (body_with 1 (0x0022 ∷ 0x0000 ∷ 0x1070 ∷ 0x0000 ∷ 0x0000 ∷ 0x106e ∷ 0x0001 ∷ 0x0000 ∷ 0x000e ∷ [])
+    [] [] (of_class (codes "Ljava/lang/Object;") ∷ []))))
     ∷ method (codes "forever") [] None 8
-    (Some (body_with 1 (0x0022 ∷ 0x0000 ∷ 0x1070 ∷ 0x0000 ∷ 0x0000 ∷ 0x001d ∷ 0x106e ∷ 0x0001 ∷ 0x0000 ∷ 0x000e ∷ [])
-    [] [] (of_class (codes "Ljava/lang/Object;") ∷ [])))
+    (Some (naming [] (object_init_ref ∷ method_ref (codes "Ljava/lang/Object;") (codes "wait") [] None ∷ [])
+    (body_with 1 (0x0022 ∷ 0x0000 ∷ 0x1070 ∷ 0x0000 ∷ 0x0000 ∷ 0x001d ∷ 0x106e ∷ 0x0001 ∷ 0x0000 ∷ 0x000e ∷ [])
+    [] [] (of_class (codes "Ljava/lang/Object;") ∷ []))))
     ∷ method (codes "joins") [] None 8
-    (Some (body_with 3
+    (Some (naming
+    (field_ref (codes "LMain;") (codes "o") (of_class (codes "Ljava/lang/Object;")) ∷ [])
+    (method_ref (codes "LT;") (codes "<init>") [] None ∷
+    object_init_ref ∷
+    method_ref (codes "LT;") (codes "join") [] None ∷
+    method_ref (codes "LT;") (codes "start") [] None ∷
+    println_ref ∷ [])
+    (body_with 3
     (0x0022 ∷ 0x0000 ∷ 0x1070 ∷ 0x0000 ∷ 0x0000 ∷ 0x0122 ∷ 0x0001 ∷ 0x1070 ∷ 0x0001 ∷ 0x0001 ∷ 0x0169 ∷
     0x0000 ∷ 0x106e ∷ 0x0002 ∷ 0x0000 ∷ 0x106e ∷ 0x0003 ∷ 0x0000 ∷ 0x106e ∷ 0x0002 ∷ 0x0000 ∷ 0x5212 ∷
     0x1071 ∷ 0x0004 ∷ 0x0002 ∷ 0x106e ∷ 0x0003 ∷ 0x0000 ∷ 0x000e ∷ [])
-    [] [] (of_class (codes "LT;") ∷ of_class (codes "Ljava/lang/Object;") ∷ [])))
-    ∷ method (codes "joins_itself") [] None 8 (Some (body 1 (0x0071 ∷ 0x0000 ∷ 0x0000 ∷ 0x000c ∷ 0x106e ∷ 0x0001 ∷ 0x0000 ∷ 0x000e ∷ [])))
+    [] [] (of_class (codes "LT;") ∷ of_class (codes "Ljava/lang/Object;") ∷ []))))
+    ∷ method (codes "joins_itself") [] None 8 (Some (naming []
+    (method_ref (codes "Ljava/lang/Thread;") (codes "currentThread") []
+    (Some (of_class (codes "Ljava/lang/Thread;"))) ∷
+    method_ref (codes "Ljava/lang/Thread;") (codes "join") [] None ∷ [])
+    (body 1 (0x0071 ∷ 0x0000 ∷ 0x0000 ∷ 0x000c ∷ 0x106e ∷ 0x0001 ∷ 0x0000 ∷ 0x000e ∷ []))))
     ∷ method (codes "held") [] None 8
-    (Some (body_with 3
+    (Some (naming
+    (field_ref (codes "LMain;") (codes "o") (of_class (codes "Ljava/lang/Object;")) ∷ [])
+    (object_init_ref ∷
+    method_ref (codes "LT;") (codes "<init>") [] None ∷
+    method_ref (codes "LT;") (codes "start") [] None ∷
+    method_ref (codes "LT;") (codes "join") [] None ∷ [])
+    (body_with 3
     (0x0022 ∷ 0x0000 ∷ 0x1070 ∷ 0x0000 ∷ 0x0000 ∷ 0x0069 ∷ 0x0000 ∷ 0x001d ∷ 0x0122 ∷ 0x0001 ∷ 0x1070 ∷
     0x0001 ∷ 0x0001 ∷ 0x106e ∷ 0x0002 ∷ 0x0001 ∷ 0x106e ∷ 0x0003 ∷ 0x0001 ∷ 0x000e ∷ [])
-    [] [] (of_class (codes "Ljava/lang/Object;") ∷ of_class (codes "LT;") ∷ []))) ∷ []) [] ∷
-    class (codes "LT;") (Some 3) [] 0 []
-    (method (codes "<init>") [] None 0 (Some (body 1 (0x1070 ∷ 0x0000 ∷ 0x0000 ∷ 0x000e ∷ [])))
+    [] [] (of_class (codes "Ljava/lang/Object;") ∷ of_class (codes "LT;") ∷ [])))) ∷ [])) ∷
+    linked (Some 3) [] (0 ∷ []) (1 ∷ 2 ∷ 3 ∷ 4 ∷ 105 ∷ 9 ∷ 10 ∷ [])
+    (class (codes "LT;") (Some (codes "Ljava/lang/Thread;")) [] 0 []
+    (method (codes "<init>") [] None 0
+    (Some (naming [] (method_ref (codes "Ljava/lang/Thread;") (codes "<init>") [] None ∷ [])
+    (body 1 (0x1070 ∷ 0x0000 ∷ 0x0000 ∷ 0x000e ∷ []))))
     ∷ method (codes "run") [] None 0
-    (Some (body 2 (0x0062 ∷ 0x0000 ∷ 0x001d ∷ 0x106e ∷ 0x0000 ∷ 0x0000 ∷ 0x001e ∷ 0x000e ∷ []))) ∷ []) (0 ∷ []) ∷ [])
+    (Some (naming
+    (field_ref (codes "LMain;") (codes "o") (of_class (codes "Ljava/lang/Object;")) ∷ [])
+    (method_ref (codes "Ljava/lang/Object;") (codes "notify") [] None ∷ [])
+    (body 2 (0x0062 ∷ 0x0000 ∷ 0x001d ∷ 0x106e ∷ 0x0000 ∷ 0x0000 ∷ 0x001e ∷ 0x000e ∷ [])))) ∷ [])) ∷ [])
     (info 33 0 (of_class (codes "Ljava/lang/Object;") ∷ of_class (codes "LT;") ∷ []) (5 ∷ []) (0 ∷ 104 ∷ 9 ∷ 2 ∷ 40 ∷ []) ∷
     info 33 1 (of_class (codes "Ljava/lang/Object;") ∷ []) [] (0 ∷ 2 ∷ []) ∷
     info 33 2 (of_class (codes "Ljava/lang/Object;") ∷ []) [] (0 ∷ 2 ∷ []) ∷
@@ -262,39 +295,71 @@ waiting_program = with_boot
 --   .end method
 abbrev pub boxing : Image
 boxing = with_boot
-    (class (codes "LBox;") (Some 0) [] 0
+    (linked (Some 0) [] (5 ∷ 6 ∷ []) (1 ∷ 2 ∷ 3 ∷ 4 ∷ 99 ∷ 100 ∷ [])
+    (class (codes "LBox;") (Some (codes "Ljava/lang/Object;")) [] 0
     (field (codes "full") of_boolean 2 ∷ field (codes "value") of_int 2 ∷ [])
-    (method (codes "<init>") [] None 0 (Some (body 1 (0x1070 ∷ 0x0000 ∷ 0x0000 ∷ 0x000e ∷ [])))
+    (method (codes "<init>") [] None 0 (Some (naming [] (object_init_ref ∷ [])
+    (body 1 (0x1070 ∷ 0x0000 ∷ 0x0000 ∷ 0x000e ∷ []))))
     ∷ method (codes "put") (of_int ∷ []) None 0
-    (Some (body_with 4
+    (Some (naming
+    (field_ref (codes "LBox;") (codes "full") of_boolean ∷ field_ref (codes "LBox;") (codes "value") of_int ∷ [])
+    (method_ref (codes "LBox;") (codes "wait") [] None ∷
+    method_ref (codes "LBox;") (codes "notifyAll") [] None ∷ [])
+    (body_with 4
     (0x021d ∷ 0x2055 ∷ 0x0000 ∷ 0x0038 ∷ 0x0006 ∷ 0x106e ∷ 0x0000 ∷ 0x0002 ∷ 0xf928 ∷ 0x2359 ∷ 0x0001 ∷
     0x1012 ∷ 0x205c ∷ 0x0000 ∷ 0x106e ∷ 0x0001 ∷ 0x0002 ∷ 0x021e ∷ 0x000e ∷ 0x000d ∷ 0x021e ∷ 0x0027 ∷ [])
-    (entry_over 1 17 (catch_all 19 ∷ []) ∷ []) [] []))
+    (entry_over 1 17 (catch_all 19 ∷ []) ∷ []) [] [])))
     ∷ method (codes "take") [] (Some of_int) 0
-    (Some (body_with 3
+    (Some (naming
+    (field_ref (codes "LBox;") (codes "full") of_boolean ∷ field_ref (codes "LBox;") (codes "value") of_int ∷ [])
+    (method_ref (codes "LBox;") (codes "wait") [] None ∷
+    method_ref (codes "LBox;") (codes "notifyAll") [] None ∷ [])
+    (body_with 3
     (0x021d ∷ 0x2055 ∷ 0x0000 ∷ 0x0039 ∷ 0x0006 ∷ 0x106e ∷ 0x0000 ∷ 0x0002 ∷ 0xf928 ∷ 0x0012 ∷ 0x205c ∷
     0x0000 ∷ 0x106e ∷ 0x0001 ∷ 0x0002 ∷ 0x2052 ∷ 0x0001 ∷ 0x021e ∷ 0x000f ∷ 0x000d ∷ 0x021e ∷ 0x0027 ∷ [])
-    (entry_over 1 17 (catch_all 19 ∷ []) ∷ []) [] [])) ∷ []) (5 ∷ 6 ∷ []) ∷
-    class (codes "LMaker;") (Some 3) [] 0
+    (entry_over 1 17 (catch_all 19 ∷ []) ∷ []) [] []))) ∷ [])) ∷
+    linked (Some 3) [] (0 ∷ 7 ∷ []) (1 ∷ 2 ∷ 3 ∷ 4 ∷ 102 ∷ 9 ∷ 10 ∷ [])
+    (class (codes "LMaker;") (Some (codes "Ljava/lang/Thread;")) [] 0
     (field (codes "box") (of_class (codes "LBox;")) 0x10 ∷ [])
     (method (codes "<init>") (of_class (codes "LBox;") ∷ []) None 0
-    (Some (body 2 (0x1070 ∷ 0x0000 ∷ 0x0000 ∷ 0x015b ∷ 0x0000 ∷ 0x000e ∷ [])))
+    (Some (naming
+    (field_ref (codes "LMaker;") (codes "box") (of_class (codes "LBox;")) ∷ [])
+    (method_ref (codes "Ljava/lang/Thread;") (codes "<init>") [] None ∷ [])
+    (body 2 (0x1070 ∷ 0x0000 ∷ 0x0000 ∷ 0x015b ∷ 0x0000 ∷ 0x000e ∷ []))))
     ∷ method (codes "run") [] None 0
-    (Some (body_with 4
+    (Some (naming
+    (field_ref (codes "LMaker;") (codes "box") (of_class (codes "LBox;")) ∷ [])
+    (method_ref (codes "LBox;") (codes "put") (of_int ∷ []) None ∷ [])
+    (body_with 4
     (0x0012 ∷ 0x0113 ∷ 0x000a ∷ 0x1035 ∷ 0x000b ∷ 0x3154 ∷ 0x0000 ∷ 0x206e ∷ 0x0000 ∷ 0x0001 ∷ 0x00d8 ∷
     0x0100 ∷ 0xf528 ∷ 0x000d ∷ 0x000e ∷ [])
     (entry_over 5 10 (catch_type 0 13 ∷ []) ∷ [])
-    [] (of_class (codes "Ljava/lang/InterruptedException;") ∷ []))) ∷ []) (0 ∷ 7 ∷ []) ∷
-    class (codes "LMain;") (Some 0) [] 0 []
+    [] (of_class (codes "Ljava/lang/InterruptedException;") ∷ [])))) ∷ [])) ∷
+    linked (Some 0) [] [] (1 ∷ 2 ∷ 3 ∷ 4 ∷ [])
+    (class (codes "LMain;") (Some (codes "Ljava/lang/Object;")) [] 0 []
     (method (codes "main") (array_of (of_class (codes "Ljava/lang/String;")) ∷ []) None 8
-    (Some (body_with 7
+    (Some (naming
+    (field_ref (codes "Ljava/lang/System;") (codes "out") (of_class (codes "Ljava/io/PrintStream;")) ∷ [])
+    (method_ref (codes "LBox;") (codes "<init>") [] None ∷
+    method_ref (codes "LMaker;") (codes "<init>") (of_class (codes "LBox;") ∷ []) None ∷
+    method_ref (codes "LMaker;") (codes "start") [] None ∷
+    method_ref (codes "Ljava/lang/StringBuilder;") (codes "<init>") [] None ∷
+    method_ref (codes "Ljava/lang/StringBuilder;") (codes "append") (of_class (codes "Ljava/lang/String;") ∷ [])
+    (Some (of_class (codes "Ljava/lang/StringBuilder;"))) ∷
+    method_ref (codes "LBox;") (codes "take") [] (Some of_int) ∷
+    method_ref (codes "Ljava/lang/StringBuilder;") (codes "append") (of_int ∷ [])
+    (Some (of_class (codes "Ljava/lang/StringBuilder;"))) ∷
+    method_ref (codes "Ljava/lang/StringBuilder;") (codes "toString") []
+    (Some (of_class (codes "Ljava/lang/String;"))) ∷
+    method_ref (codes "Ljava/io/PrintStream;") (codes "println") (of_class (codes "Ljava/lang/String;") ∷ []) None ∷ [])
+    (body_with 7
     (0x0022 ∷ 0x0000 ∷ 0x1070 ∷ 0x0000 ∷ 0x0000 ∷ 0x0122 ∷ 0x0001 ∷ 0x2070 ∷ 0x0001 ∷ 0x0001 ∷ 0x106e ∷
     0x0002 ∷ 0x0001 ∷ 0x0112 ∷ 0x0213 ∷ 0x000a ∷ 0x2135 ∷ 0x0021 ∷ 0x0262 ∷ 0x0000 ∷ 0x0322 ∷ 0x0002 ∷
     0x1070 ∷ 0x0003 ∷ 0x0003 ∷ 0x041a ∷ 0x0000 ∷ 0x206e ∷ 0x0004 ∷ 0x0043 ∷ 0x030c ∷ 0x106e ∷ 0x0005 ∷
     0x0000 ∷ 0x040a ∷ 0x206e ∷ 0x0006 ∷ 0x0043 ∷ 0x030c ∷ 0x106e ∷ 0x0007 ∷ 0x0003 ∷ 0x030c ∷ 0x206e ∷
     0x0008 ∷ 0x0032 ∷ 0x01d8 ∷ 0x0101 ∷ 0xde28 ∷ 0x000e ∷ [])
     [] (codes "got " ∷ [])
-    (of_class (codes "LBox;") ∷ of_class (codes "LMaker;") ∷ of_class (codes "Ljava/lang/StringBuilder;") ∷ []))) ∷ []) [] ∷ [])
+    (of_class (codes "LBox;") ∷ of_class (codes "LMaker;") ∷ of_class (codes "Ljava/lang/StringBuilder;") ∷ [])))) ∷ [])) ∷ [])
     (info 33 0 [] [] (0 ∷ []) ∷
     info 33 1 [] (5 ∷ 6 ∷ []) (2 ∷ 4 ∷ []) ∷
     info 33 2 [] (5 ∷ 6 ∷ []) (2 ∷ 4 ∷ []) ∷
@@ -382,33 +447,54 @@ boxing = with_boot
 --   .end method
 abbrev pub summing : Image
 summing = with_boot
-    (class (codes "LG0;") (Some 0) [] 0 []
+    (linked (Some 0) [] [] (1 ∷ 2 ∷ 3 ∷ 4 ∷ [])
+    (class (codes "LG0;") (Some (codes "Ljava/lang/Object;")) [] 0 []
     (method (codes "s") (of_int ∷ []) (Some of_int) 8
     (Some (body 2
     (0x0014 ∷ 0x0005 ∷ 0x0000 ∷ 0x0197 ∷ 0x0001 ∷ 0x01da ∷ 0x1f01 ∷ 0x0013 ∷ 0x0000 ∷ 0x0190 ∷ 0x0001 ∷
-    0x010f ∷ []))) ∷ []) [] ∷
-    class (codes "LG1;") (Some 0) [] 0 []
+    0x010f ∷ []))) ∷ [])) ∷
+    linked (Some 0) [] [] (1 ∷ 2 ∷ 3 ∷ 4 ∷ [])
+    (class (codes "LG1;") (Some (codes "Ljava/lang/Object;")) [] 0 []
     (method (codes "s") (of_int ∷ []) (Some of_int) 8
     (Some (body 2
     (0x0014 ∷ 0x4248 ∷ 0x000f ∷ 0x0197 ∷ 0x0001 ∷ 0x01da ∷ 0x1f01 ∷ 0x0013 ∷ 0x0001 ∷ 0x0190 ∷ 0x0001 ∷
-    0x010f ∷ []))) ∷ []) [] ∷
-    class (codes "LW;") (Some 3) [] 0
+    0x010f ∷ []))) ∷ [])) ∷
+    linked (Some 3) [] (0 ∷ 5 ∷ []) (1 ∷ 2 ∷ 3 ∷ 4 ∷ 101 ∷ 9 ∷ 10 ∷ [])
+    (class (codes "LW;") (Some (codes "Ljava/lang/Thread;")) [] 0
     (field (codes "id") of_int 0 ∷ [])
-    (method (codes "<init>") (of_int ∷ []) None 0 (Some (body 2 (0x1070 ∷ 0x0000 ∷ 0x0000 ∷ 0x0159 ∷ 0x0000 ∷ 0x000e ∷ [])))
+    (method (codes "<init>") (of_int ∷ []) None 0 (Some (naming
+    (field_ref (codes "LW;") (codes "id") of_int ∷ [])
+    (method_ref (codes "Ljava/lang/Thread;") (codes "<init>") [] None ∷ [])
+    (body 2 (0x1070 ∷ 0x0000 ∷ 0x0000 ∷ 0x0159 ∷ 0x0000 ∷ 0x000e ∷ []))))
     ∷ method (codes "run") [] None 0
-    (Some (body 4
+    (Some (naming
+    (field_ref (codes "LW;") (codes "id") of_int ∷
+    field_ref (codes "LMain;") (codes "lock") (of_class (codes "Ljava/lang/Object;")) ∷
+    field_ref (codes "LMain;") (codes "total") of_int ∷ [])
+    (method_ref (codes "LG0;") (codes "s") (of_int ∷ []) (Some of_int) ∷
+    method_ref (codes "LG1;") (codes "s") (of_int ∷ []) (Some of_int) ∷ [])
+    (body 4
     (0x3052 ∷ 0x0000 ∷ 0x1071 ∷ 0x0000 ∷ 0x0000 ∷ 0x000a ∷ 0x1071 ∷ 0x0001 ∷ 0x0000 ∷ 0x000a ∷ 0x0162 ∷
-    0x0001 ∷ 0x011d ∷ 0x0260 ∷ 0x0002 ∷ 0x0290 ∷ 0x0002 ∷ 0x0267 ∷ 0x0002 ∷ 0x011e ∷ 0x000e ∷ []))) ∷ []) (0 ∷ 5 ∷ []) ∷
-    class (codes "LMain;") (Some 0) [] 0
+    0x0001 ∷ 0x011d ∷ 0x0260 ∷ 0x0002 ∷ 0x0290 ∷ 0x0002 ∷ 0x0267 ∷ 0x0002 ∷ 0x011e ∷ 0x000e ∷ [])))) ∷ [])) ∷
+    linked (Some 0) [] [] (1 ∷ 2 ∷ 3 ∷ 4 ∷ [])
+    (class (codes "LMain;") (Some (codes "Ljava/lang/Object;")) [] 0
     (field (codes "total") of_int 8 ∷ field (codes "lock") (of_class (codes "Ljava/lang/Object;")) 8 ∷ [])
     (method (codes "main") [] None 8
-    (Some (body_with 4
+    (Some (naming
+    (field_ref (codes "LMain;") (codes "lock") (of_class (codes "Ljava/lang/Object;")) ∷
+    field_ref (codes "LMain;") (codes "total") of_int ∷ [])
+    (object_init_ref ∷
+    method_ref (codes "LW;") (codes "<init>") (of_int ∷ []) None ∷
+    method_ref (codes "LW;") (codes "start") [] None ∷
+    method_ref (codes "LW;") (codes "join") [] None ∷
+    println_ref ∷ [])
+    (body_with 4
     (0x0022 ∷ 0x0000 ∷ 0x1070 ∷ 0x0000 ∷ 0x0000 ∷ 0x0069 ∷ 0x0000 ∷ 0x0013 ∷ 0x0002 ∷ 0x0123 ∷ 0x0001 ∷
     0x0212 ∷ 0x0322 ∷ 0x0002 ∷ 0x2070 ∷ 0x0001 ∷ 0x0023 ∷ 0x034d ∷ 0x0201 ∷ 0x106e ∷ 0x0002 ∷ 0x0003 ∷
     0x02d8 ∷ 0x0102 ∷ 0x0234 ∷ 0xfff4 ∷ 0x0212 ∷ 0x0346 ∷ 0x0201 ∷ 0x106e ∷ 0x0003 ∷ 0x0003 ∷ 0x02d8 ∷
     0x0102 ∷ 0x0234 ∷ 0xfff9 ∷ 0x0060 ∷ 0x0001 ∷ 0x1071 ∷ 0x0004 ∷ 0x0000 ∷ 0x000e ∷ [])
     [] []
-    (of_class (codes "Ljava/lang/Object;") ∷ array_of (of_class (codes "LW;")) ∷ of_class (codes "LW;") ∷ []))) ∷ []) [] ∷ [])
+    (of_class (codes "Ljava/lang/Object;") ∷ array_of (of_class (codes "LW;")) ∷ of_class (codes "LW;") ∷ [])))) ∷ [])) ∷ [])
     (info 33 0 [] [] [] ∷
     info 34 0 [] [] [] ∷
     info 35 0 [] (5 ∷ []) (6 ∷ []) ∷

@@ -2,7 +2,7 @@
 use Rattle.std.specs.Prelude.{◌≡◌, [], ◌∷◌, Some, None, codes}
 use Rattle.dv_defs.specs.Images.{Image}
 use Rattle.dv_defs.specs.Types.{of_class}
-use Rattle.dv_machine.specs.examples.Images.{of_int, body, body_with, method, field, class, info, field_info}
+use Rattle.dv_machine.specs.examples.Images.{of_int, body, body_with, method, field, class, info, field_info, naming, method_ref, field_ref, object_init_ref, linked}
 use Rattle.dv_machine.specs.examples.BootImage.{with_boot, with_main}
 use Rattle.dv_machine.specs.examples.Passes.{faults_of, V}
 
@@ -18,8 +18,9 @@ falling = with_main (body 1 (0x0012 ∷ [])) [] [] []
 abbrev pub wrong_class : Image
 wrong_class =
     with_main
+    (naming [] (object_init_ref ∷ [])
     (body_with 1 (0x0022 ∷ 0x0000 ∷ 0x1070 ∷ 0x0000 ∷ 0x0000 ∷ 0x0027 ∷ []) [] []
-    (of_class (codes "Ljava/lang/Object;") ∷ []))
+    (of_class (codes "Ljava/lang/Object;") ∷ [])))
     (of_class (codes "Ljava/lang/Object;") ∷ []) [] (0 ∷ [])
 
 --   .registers 2
@@ -35,7 +36,10 @@ moved_int = with_main (body 2 (0x1012 ∷ 0x0107 ∷ 0x000e ∷ [])) [] [] []
 --   move-result-object v0
 --   return-void
 abbrev pub no_result_left : Image
-no_result_left = with_main (body 1 (0x0071 ∷ 0x0000 ∷ 0x0000 ∷ 0x0000 ∷ 0x000c ∷ 0x000e ∷ [])) [] [] (11 ∷ [])
+no_result_left = with_main (naming []
+    (method_ref (codes "Ljava/lang/Thread;") (codes "currentThread") []
+    (Some (of_class (codes "Ljava/lang/Thread;"))) ∷ [])
+    (body 1 (0x0071 ∷ 0x0000 ∷ 0x0000 ∷ 0x0000 ∷ 0x000c ∷ 0x000e ∷ []))) [] [] (11 ∷ [])
 
 --   .registers 1
 --   move-exception v0
@@ -54,8 +58,9 @@ nothing_caught = with_main (body 1 (0x000d ∷ 0x000e ∷ [])) [] [] []
 abbrev pub mixed : Image
 mixed =
     with_main
+    (naming [] (object_init_ref ∷ [])
     (body_with 2 (0x1012 ∷ 0x0122 ∷ 0x0000 ∷ 0x1070 ∷ 0x0000 ∷ 0x0001 ∷ 0x1032 ∷ 0x0003 ∷ 0x0000 ∷ 0x000e ∷ []) []
-    [] (of_class (codes "Ljava/lang/Object;") ∷ []))
+    [] (of_class (codes "Ljava/lang/Object;") ∷ [])))
     (of_class (codes "Ljava/lang/Object;") ∷ []) [] (0 ∷ [])
 
 --   .registers 1
@@ -64,7 +69,10 @@ mixed =
 --   array-length v0, v0
 --   return-void
 abbrev pub no_array : Image
-no_array = with_main (body 1 (0x0071 ∷ 0x0000 ∷ 0x0000 ∷ 0x000c ∷ 0x0021 ∷ 0x000e ∷ [])) [] [] (11 ∷ [])
+no_array = with_main (naming []
+    (method_ref (codes "Ljava/lang/Thread;") (codes "currentThread") []
+    (Some (of_class (codes "Ljava/lang/Thread;"))) ∷ [])
+    (body 1 (0x0071 ∷ 0x0000 ∷ 0x0000 ∷ 0x000c ∷ 0x0021 ∷ 0x000e ∷ []))) [] [] (11 ∷ [])
 
 --   .registers 1
 --   new-instance v0, Ljava/lang/Object;
@@ -74,8 +82,9 @@ no_array = with_main (body 1 (0x0071 ∷ 0x0000 ∷ 0x0000 ∷ 0x000c ∷ 0x0021
 abbrev pub constructed_twice : Image
 constructed_twice =
     with_main
+    (naming [] (object_init_ref ∷ [])
     (body_with 1 (0x0022 ∷ 0x0000 ∷ 0x1070 ∷ 0x0000 ∷ 0x0000 ∷ 0x1070 ∷ 0x0000 ∷ 0x0000 ∷ 0x000e ∷ []) [] []
-    (of_class (codes "Ljava/lang/Object;") ∷ []))
+    (of_class (codes "Ljava/lang/Object;") ∷ [])))
     (of_class (codes "Ljava/lang/Object;") ∷ []) [] (0 ∷ [])
 
 --   .class LMain;
@@ -92,10 +101,12 @@ constructed_twice =
 --   .end method
 abbrev pub early : Image
 early = with_boot
-    (class (codes "LMain;") (Some 0) [] 0 []
-    (method (codes "main") [] None 8 (Some (body 0 (0x000e ∷ []))) ∷ []) [] ∷
-    class (codes "LEarly;") (Some 0) [] 0 []
-    (method (codes "<init>") [] None 0 (Some (body 1 (0x000e ∷ []))) ∷ []) [] ∷ [])
+    (linked (Some 0) [] [] (1 ∷ 2 ∷ 3 ∷ 4 ∷ [])
+    (class (codes "LMain;") (Some (codes "Ljava/lang/Object;")) [] 0 []
+    (method (codes "main") [] None 8 (Some (body 0 (0x000e ∷ []))) ∷ [])) ∷
+    linked (Some 0) [] [] (1 ∷ 2 ∷ 3 ∷ 4 ∷ [])
+    (class (codes "LEarly;") (Some (codes "Ljava/lang/Object;")) [] 0 []
+    (method (codes "<init>") [] None 0 (Some (body 1 (0x000e ∷ []))) ∷ [])) ∷ [])
     (info 33 0 [] [] [] ∷
     info 34 0 [] [] [] ∷ [])
     []
@@ -131,14 +142,21 @@ wrong_form = with_main (body 1 (0x0012 ∷ 0x000f ∷ [])) [] [] []
 --   .end method
 abbrev pub puts_upper : Image
 puts_upper = with_boot
-    (class (codes "LMain;") (Some 0) [] 0 []
-    (method (codes "main") [] None 8 (Some (body 0 (0x000e ∷ []))) ∷ []) [] ∷
-    class (codes "LUpper;") (Some 0) [] 0
+    (linked (Some 0) [] [] (1 ∷ 2 ∷ 3 ∷ 4 ∷ [])
+    (class (codes "LMain;") (Some (codes "Ljava/lang/Object;")) [] 0 []
+    (method (codes "main") [] None 8 (Some (body 0 (0x000e ∷ []))) ∷ [])) ∷
+    linked (Some 0) [] (5 ∷ []) (1 ∷ 2 ∷ 3 ∷ 4 ∷ [])
+    (class (codes "LUpper;") (Some (codes "Ljava/lang/Object;")) [] 0
     (field (codes "x") of_int 0 ∷ [])
-    (method (codes "<init>") [] None 0 (Some (body 1 (0x1070 ∷ 0x0000 ∷ 0x0000 ∷ 0x000e ∷ []))) ∷ []) (5 ∷ []) ∷
-    class (codes "LLower;") (Some 34) [] 0 []
+    (method (codes "<init>") [] None 0 (Some (naming [] (object_init_ref ∷ [])
+    (body 1 (0x1070 ∷ 0x0000 ∷ 0x0000 ∷ 0x000e ∷ [])))) ∷ [])) ∷
+    linked (Some 34) [] (5 ∷ []) (1 ∷ 2 ∷ 3 ∷ 4 ∷ [])
+    (class (codes "LLower;") (Some (codes "LUpper;")) [] 0 []
     (method (codes "<init>") [] None 0
-    (Some (body 2 (0x1012 ∷ 0x1059 ∷ 0x0000 ∷ 0x1070 ∷ 0x0000 ∷ 0x0001 ∷ 0x000e ∷ []))) ∷ []) (5 ∷ []) ∷ [])
+    (Some (naming
+    (field_ref (codes "LUpper;") (codes "x") of_int ∷ [])
+    (method_ref (codes "LUpper;") (codes "<init>") [] None ∷ [])
+    (body 2 (0x1012 ∷ 0x1059 ∷ 0x0000 ∷ 0x1070 ∷ 0x0000 ∷ 0x0001 ∷ 0x000e ∷ [])))) ∷ [])) ∷ [])
     (info 33 0 [] [] [] ∷
     info 34 0 [] [] (0 ∷ []) ∷
     info 35 0 [] (5 ∷ []) (99 ∷ []) ∷ [])

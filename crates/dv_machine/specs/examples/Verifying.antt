@@ -3,7 +3,7 @@ use Rattle.std.specs.Prelude.{◌≡◌, [], ◌∷◌, Some, None, codes}
 use Rattle.dv_defs.specs.Images.{Image}
 use Rattle.dv_defs.specs.Types.{of_class}
 use Rattle.dv_defs.specs.Accepting.{Accepts}
-use Rattle.dv_machine.specs.examples.Images.{body, body_with, method, field, class, info, field_info}
+use Rattle.dv_machine.specs.examples.Images.{body, body_with, method, field, class, info, field_info, naming, method_ref, field_ref, println_ref, object_init_ref, linked}
 use Rattle.dv_machine.specs.examples.BootImage.{with_boot, with_main}
 use Rattle.dv_machine.specs.examples.Outcomes.{lines, outcome}
 use Rattle.dv_machine.specs.examples.Passes.{faults_of, V}
@@ -20,7 +20,8 @@ boot_alone = with_boot [] [] []
 --   invoke-static {v1}, Ldvm/Console;->println(I)V
 --   return-void
 abbrev pub unwritten : Image
-unwritten = with_main (body 2 (0x1012 ∷ 0x0038 ∷ 0x0003 ∷ 0x5112 ∷ 0x1071 ∷ 0x0000 ∷ 0x0001 ∷ 0x000e ∷ [])) [] [] (40 ∷ [])
+unwritten = with_main (naming [] (println_ref ∷ [])
+    (body 2 (0x1012 ∷ 0x0038 ∷ 0x0003 ∷ 0x5112 ∷ 0x1071 ∷ 0x0000 ∷ 0x0001 ∷ 0x000e ∷ []))) [] [] (40 ∷ [])
 
 --   .registers 2
 --   const/4 v1, 0x6
@@ -31,7 +32,8 @@ unwritten = with_main (body 2 (0x1012 ∷ 0x0038 ∷ 0x0003 ∷ 0x5112 ∷ 0x107
 --   invoke-static {v1}, Ldvm/Console;->println(I)V
 --   return-void
 abbrev pub written : Image
-written = with_main (body 2 (0x6112 ∷ 0x1012 ∷ 0x0038 ∷ 0x0003 ∷ 0x5112 ∷ 0x1071 ∷ 0x0000 ∷ 0x0001 ∷ 0x000e ∷ [])) [] [] (40 ∷ [])
+written = with_main (naming [] (println_ref ∷ [])
+    (body 2 (0x6112 ∷ 0x1012 ∷ 0x0038 ∷ 0x0003 ∷ 0x5112 ∷ 0x1071 ∷ 0x0000 ∷ 0x0001 ∷ 0x000e ∷ []))) [] [] (40 ∷ [])
 
 --   .registers 3
 --   const-wide/16 v0, 0x7
@@ -40,7 +42,8 @@ written = with_main (body 2 (0x6112 ∷ 0x1012 ∷ 0x0038 ∷ 0x0003 ∷ 0x5112 
 --   invoke-static {v2}, Ldvm/Console;->println(I)V
 --   return-void
 abbrev pub half_written : Image
-half_written = with_main (body 3 (0x0016 ∷ 0x0007 ∷ 0x1112 ∷ 0x0284 ∷ 0x1071 ∷ 0x0000 ∷ 0x0002 ∷ 0x000e ∷ [])) [] [] (40 ∷ [])
+half_written = with_main (naming [] (println_ref ∷ [])
+    (body 3 (0x0016 ∷ 0x0007 ∷ 0x1112 ∷ 0x0284 ∷ 0x1071 ∷ 0x0000 ∷ 0x0002 ∷ 0x000e ∷ []))) [] [] (40 ∷ [])
 
 --   .registers 2
 --   const/4 v0, 0x0
@@ -51,8 +54,9 @@ half_written = with_main (body 3 (0x0016 ∷ 0x0007 ∷ 0x1112 ∷ 0x0284 ∷ 0x
 abbrev pub null_and_zero : Image
 null_and_zero =
     with_main
+    (naming [] (println_ref ∷ [])
     (body_with 2 (0x0012 ∷ 0x1071 ∷ 0x0000 ∷ 0x0000 ∷ 0x0120 ∷ 0x0000 ∷ 0x1071 ∷ 0x0000 ∷ 0x0001 ∷ 0x000e ∷ []) []
-    [] (of_class (codes "Ljava/lang/String;") ∷ []))
+    [] (of_class (codes "Ljava/lang/String;") ∷ [])))
     (of_class (codes "Ljava/lang/String;") ∷ []) [] (40 ∷ [])
 
 --   .registers 2
@@ -83,10 +87,11 @@ computed_zero =
 abbrev pub two_of_one : Image
 two_of_one =
     with_main
+    (naming [] (object_init_ref ∷ [])
     (body_with 3
     (0x0112 ∷ 0x0212 ∷ 0x0022 ∷ 0x0000 ∷ 0x0239 ∷ 0x0005 ∷ 0x0107 ∷ 0x1212 ∷ 0xfa28 ∷ 0x1070 ∷ 0x0000 ∷
     0x0000 ∷ 0x1220 ∷ 0x0000 ∷ 0x000e ∷ [])
-    [] [] (of_class (codes "Ljava/lang/Object;") ∷ []))
+    [] [] (of_class (codes "Ljava/lang/Object;") ∷ [])))
     (of_class (codes "Ljava/lang/Object;") ∷ []) [] (0 ∷ [])
 
 --   .registers 2
@@ -102,10 +107,11 @@ two_of_one =
 abbrev pub one_a_turn : Image
 one_a_turn =
     with_main
+    (naming [] (object_init_ref ∷ println_ref ∷ [])
     (body_with 2
     (0x0012 ∷ 0x0122 ∷ 0x0000 ∷ 0x1070 ∷ 0x0000 ∷ 0x0001 ∷ 0x00d8 ∷ 0x0100 ∷ 0x3112 ∷ 0x1034 ∷ 0xfff8 ∷
     0x1071 ∷ 0x0001 ∷ 0x0000 ∷ 0x000e ∷ [])
-    [] [] (of_class (codes "Ljava/lang/Object;") ∷ []))
+    [] [] (of_class (codes "Ljava/lang/Object;") ∷ [])))
     (of_class (codes "Ljava/lang/Object;") ∷ []) [] (0 ∷ 40 ∷ [])
 
 --   .class LMain;
@@ -125,12 +131,17 @@ one_a_turn =
 --   .end method
 abbrev pub inner : Image
 inner = with_boot
-    (class (codes "LMain;") (Some 0) [] 0 []
-    (method (codes "main") [] None 8 (Some (body 0 (0x000e ∷ []))) ∷ []) [] ∷
-    class (codes "LMain$I;") (Some 0) [] 0
+    (linked (Some 0) [] [] (1 ∷ 2 ∷ 3 ∷ 4 ∷ [])
+    (class (codes "LMain;") (Some (codes "Ljava/lang/Object;")) [] 0 []
+    (method (codes "main") [] None 8 (Some (body 0 (0x000e ∷ []))) ∷ [])) ∷
+    linked (Some 0) [] (5 ∷ []) (1 ∷ 2 ∷ 3 ∷ 4 ∷ [])
+    (class (codes "LMain$I;") (Some (codes "Ljava/lang/Object;")) [] 0
     (field (codes "this$0") (of_class (codes "LMain;")) 0x4010 ∷ [])
     (method (codes "<init>") (of_class (codes "LMain;") ∷ []) None 0
-    (Some (body 2 (0x015b ∷ 0x0000 ∷ 0x1070 ∷ 0x0000 ∷ 0x0000 ∷ 0x000e ∷ []))) ∷ []) (5 ∷ []) ∷ [])
+    (Some (naming
+    (field_ref (codes "LMain$I;") (codes "this$0") (of_class (codes "LMain;")) ∷ [])
+    (object_init_ref ∷ [])
+    (body 2 (0x015b ∷ 0x0000 ∷ 0x1070 ∷ 0x0000 ∷ 0x0000 ∷ 0x000e ∷ [])))) ∷ [])) ∷ [])
     (info 33 0 [] [] [] ∷
     info 34 0 [] (5 ∷ []) (0 ∷ []) ∷ [])
     (field_info 34 0 0 ∷ [])
@@ -153,12 +164,17 @@ inner = with_boot
 --   .end method
 abbrev pub inner_call : Image
 inner_call = with_boot
-    (class (codes "LMain;") (Some 0) [] 0 []
-    (method (codes "main") [] None 8 (Some (body 0 (0x000e ∷ []))) ∷ []) [] ∷
-    class (codes "LMain$I;") (Some 0) [] 0
+    (linked (Some 0) [] [] (1 ∷ 2 ∷ 3 ∷ 4 ∷ [])
+    (class (codes "LMain;") (Some (codes "Ljava/lang/Object;")) [] 0 []
+    (method (codes "main") [] None 8 (Some (body 0 (0x000e ∷ []))) ∷ [])) ∷
+    linked (Some 0) [] (5 ∷ []) (1 ∷ 2 ∷ 3 ∷ 4 ∷ [])
+    (class (codes "LMain$I;") (Some (codes "Ljava/lang/Object;")) [] 0
     (field (codes "this$0") (of_class (codes "LMain;")) 0x4010 ∷ [])
     (method (codes "<init>") (of_class (codes "LMain;") ∷ []) None 0
-    (Some (body 2 (0x106e ∷ 0x0000 ∷ 0x0000 ∷ 0x015b ∷ 0x0000 ∷ 0x1070 ∷ 0x0001 ∷ 0x0000 ∷ 0x000e ∷ []))) ∷ []) (5 ∷ []) ∷ [])
+    (Some (naming
+    (field_ref (codes "LMain$I;") (codes "this$0") (of_class (codes "LMain;")) ∷ [])
+    (method_ref (codes "Ljava/lang/Object;") (codes "notify") [] None ∷ object_init_ref ∷ [])
+    (body 2 (0x106e ∷ 0x0000 ∷ 0x0000 ∷ 0x015b ∷ 0x0000 ∷ 0x1070 ∷ 0x0001 ∷ 0x0000 ∷ 0x000e ∷ [])))) ∷ [])) ∷ [])
     (info 33 0 [] [] [] ∷
     info 34 0 [] (5 ∷ []) (3 ∷ 0 ∷ []) ∷ [])
     (field_info 34 0 0 ∷ [])

@@ -49,6 +49,7 @@ use Rattle.dv_laws.proofs.lemmas.Calls.Dispatched.{constructor_not_native, of_in
 use Rattle.dv_laws.proofs.lemmas.Calls.Pushed.{enter_fine}
 use Rattle.dv_laws.proofs.lemmas.Calls.Invoked.{receiver_is, quiet_at, throws, called_by, this_is, called_fine}
 use Rattle.dv_laws.proofs.lemmas.Calls.Instance.{invoke_demand, callee_there}
+use Rattle.dv_laws.proofs.lemmas.Common.Members.{class_of_method}
 
 -- ---- the receiver
 
@@ -59,7 +60,7 @@ module _ (image : Image) (T : Typings) (a : Accepted image T) (heap : Heap) (own
     where
       by_parent : (p : Option ℕ) → parent_at image own.info.class.0 ≡ p → is_exactly p g.info.class.0 ≡ true → sub image (own_type image own) (own_type image g) ≡ true
       by_parent None q e = no e
-      by_parent (Some p) q e = subst (λ z. sub image (own_type image own) (class_type image z) ≡ true) (eqb-true p g.info.class.0 e) (parent_sub image T a own.info.class.0 p (a.pools.methods has_own.0 own has_own.1) q)
+      by_parent (Some p) q e = subst (λ z. sub image (own_type image own) (class_type image z) ≡ true) (eqb-true p g.info.class.0 e) (parent_sub image T a own.info.class.0 p (class_of_method image has_own.0 own has_own.1) q)
 
       by_side : (nat_eq own.info.class.0 g.info.class.0 ≡ true) ⊎ (is_exactly (parent_at image own.info.class.0) g.info.class.0 ≡ true) → sub image (own_type image own) (own_type image g) ≡ true
       by_side (inl q) = subst (λ z. sub image (own_type image own) (class_type image z) ≡ true) (eqb-true own.info.class.0 g.info.class.0 q) (a.order.same (own_type image own))

@@ -19,6 +19,7 @@ use Rattle.dv_orders.proofs.Facts.{no}
 use Rattle.dv_laws.proofs.lemmas.Calls.Classes.{parent_sub, looked_up_fits, supers_sub}
 use Rattle.dv_orders.proofs.Equal.{names_are}
 use Rattle.dv_laws.proofs.lemmas.Bridge.LookUps.{declared}
+use Rattle.dv_laws.proofs.lemmas.Common.Members.{class_of_method}
 
 -- ---- initialisers
 
@@ -100,7 +101,7 @@ module _ (image : Image) (T : Typings) (a : Accepted image T) (heap : Heap) wher
           instance = z.3;
           same_sort = ap (λ b. not b && bytes_eq y.def.name init_name) (z.3 ∙ sym static) ∙ ap (λ b. not (is_static g) && bytes_eq b init_name) z.1;
           concrete = w.0;
-          fits = f y.info.class.0 (a.pools.methods y.id y z.0) z.4;
+          fits = f y.info.class.0 (class_of_method image y.id y z.0) z.4;
         })
 
     near_landing : (c : Option ℕ) (k : Method) (o : ℕ) → ((b d : ℕ) → c ≡ Some b → d < length image.classes → has_number d (supers image b) ≡ true → IsOf image heap (suc o) (class_type image d)) → nearest_from image c g ≡ Lands k → IsLanding g k o

@@ -44,6 +44,7 @@ use Rattle.dv_laws.proofs.lemmas.Calls.Words.{static_types, instance_types, begi
 use Rattle.dv_laws.proofs.lemmas.Calls.Dispatched.{IsLanding, landing, named_otherwise, of_instance, same_lands}
 use Rattle.dv_laws.proofs.lemmas.Calls.Invoked.{receiver_is, no_receiver_of, WaitsAt, quiet_at, throws, NativesDo, landed_fine, called_fine}
 use Rattle.dv_defs.specs.declared.faults.Rule.TheVariants as rule
+use Rattle.dv_laws.proofs.lemmas.Common.Members.{class_of_method}
 
 lands_lacks : (k : Method) (n : Named) → Lands k ≡ Lacks n → ⊥
 lands_lacks k n e = cc
@@ -158,7 +159,7 @@ module _ (image : Image) (T : Typings) (m : Machine) (t : ℕ) (thread : Thread)
     pub landing_fine : NativesDo image T m t thread own f rest x s h c ks g e → (o : ℕ) → value ≡ v.Ref (suc o) → IsOf image heap (suc o) (own_type image g) → (c ≡ Call.Super → IsOf image heap (suc o) (own_type image own)) → (ys : List Value) → AreWords image heap ys (all_types g.def.proto.params) → (d : Landing) → dispatch image heap own c g (suc o) ≡ d → DidFine image T m t thread x (landed here_it (native_step here_it) d (v.Ref (suc o) ∷ ys))
     landing_fine natives o q fits up ys w (Lacks n) i = throws image T m t thread own f rest x s h c ks g e (quiet_unless o q (λ l r u. lands_lacks l n (sym r ∙ i)))
     landing_fine natives o q fits up ys w (Lands l) i =
-        let inside = h.may.accepted.pools.methods f.method.0 own h.has_own in
+        let inside = class_of_method image f.method.0 own h.has_own in
         let z = landing image T h.may.accepted heap g callee_number.0 callee_number.1 static own c l o inside fits up i in
         let words = landed_words l o ys z w in
         landed_fine image T m t thread own f rest x s h c ks g e natives l (v.Ref (suc o) ∷ ys) z.concrete z.there

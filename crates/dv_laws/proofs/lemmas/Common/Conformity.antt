@@ -1,6 +1,6 @@
 -- Conformity goes up the order of states.
 use Rattle.std.proofs.Common.{◌≡◌, ℕ, zero, suc, true, length, List, Option, Some, None, refl, ◌∙◌, subst}
-use Rattle.std.proofs.lemmas.Bool.{eqb-true, eq-eqb}
+use Rattle.std.proofs.lemmas.Bool.{eqb-true}
 use Rattle.dv_defs.specs.declared.names.Ty.{Ty}
 use Rattle.dv_defs.specs.Images.{Image}
 use Rattle.dv_defs.specs.declared.run.Value.{Value}

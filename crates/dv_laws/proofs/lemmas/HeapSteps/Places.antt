@@ -22,13 +22,14 @@ use Rattle.dv_orders.proofs.Equal.{names_equal, of_one_name}
 use Rattle.dv_orders.proofs.Types.{type_is, flat_under, AreUnder, IsUnder}
 use Rattle.dv_orders.proofs.Walks.{named_is, named_inside, above_is, reach_is, object_reaches}
 use Rattle.dv_orders.proofs.Interfaces.{above_interface}
+use Rattle.dv_laws.proofs.lemmas.Common.Members.{class_of_field}
 
 same_base : (a b : List ℕ) → base.Class a ≡ base.Class b → a ≡ b
 same_base a b e = cc
 
 module _ (image : Image) (T : Typings) (acc : Accepted image T) (n : ℕ) (x : Field) (has : field_at image n ≡ Some x) (placed : is_static_field x ≡ false) (concrete : is_interface image x.info.class.0 ≡ false) where
   in_image : x.info.class.0 < length image.classes
-  in_image = acc.pools.fields n x has
+  in_image = class_of_field image n x has
 
   apart : (bytes_eq (name_at image x.info.class.0) object_name ≡ false) × (is_string_or_class (name_at image x.info.class.0) ≡ false)
   apart = or_parts _ _ (acc.boot.no_fields n x has placed)

@@ -43,6 +43,7 @@ use Rattle.dv_laws.proofs.lemmas.Opening.Heap.{IsOpened, heap_opened, same_fits,
 use Rattle.dv_flowlaws.proofs.MethodCode.{code_is}
 use Rattle.dv_laws.proofs.lemmas.Calls.Words.{static_types}
 use Rattle.dv_laws.proofs.lemmas.Calls.Dispatched.{named_otherwise}
+use Rattle.dv_laws.proofs.lemmas.Common.Members.{class_of_method}
 
 -- ---- main is no initialiser
 
@@ -158,7 +159,7 @@ module _ (image : Image) (T : Typings) (acc : Accepted image T) (m : Method) (l 
   main_refs = refs_entered image (opening_heap image m l) m (main_args m (opening_heap image m l)) false args_fine.refs
 
   in_image : m.info.class.0 < length image.classes
-  in_image = acc.pools.methods m.id m is.there
+  in_image = class_of_method image m.id m is.there
 
   -- ---- the state, by whether main's class is born initialised
 

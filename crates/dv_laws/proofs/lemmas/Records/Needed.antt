@@ -41,15 +41,16 @@ use Rattle.dv_laws.proofs.lemmas.Local.Fine.{quiet}
 use Rattle.dv_laws.proofs.lemmas.Calls.Resolved.{IsNamed, is_named}
 use Rattle.dv_orders.proofs.Demanded.{first_rule}
 use Rattle.dv_defs.specs.declared.faults.Rule.TheVariants as rule
+use Rattle.dv_laws.proofs.lemmas.Common.Members.{class_of_field, class_of_method}
 
 -- ---- what needs a class
 
 -- the class is one of the image
 needed_there : (image : Image) (T : Typings) → Accepted image T → (op : Op) (c : ℕ) → IsNamed image op → needs op ≡ Some c → c < length image.classes
 needed_there image T acc (New a d) c i e = subst (λ (k : ℕ). k < length image.classes) (same_Some d c e) i
-needed_there image T acc (StaticGet s a x) c i e = subst (λ (k : ℕ). k < length image.classes) (same_Some x.info.class.0 c e) (acc.pools.fields i.0 x i.1)
-needed_there image T acc (StaticPut s a x) c i e = subst (λ (k : ℕ). k < length image.classes) (same_Some x.info.class.0 c e) (acc.pools.fields i.0 x i.1)
-needed_there image T acc (Invoke Call.Static ks g) c i e = subst (λ (k : ℕ). k < length image.classes) (same_Some g.info.class.0 c e) (acc.pools.methods i.0 g i.1)
+needed_there image T acc (StaticGet s a x) c i e = subst (λ (k : ℕ). k < length image.classes) (same_Some x.info.class.0 c e) (class_of_field image i.0 x i.1)
+needed_there image T acc (StaticPut s a x) c i e = subst (λ (k : ℕ). k < length image.classes) (same_Some x.info.class.0 c e) (class_of_field image i.0 x i.1)
+needed_there image T acc (Invoke Call.Static ks g) c i e = subst (λ (k : ℕ). k < length image.classes) (same_Some g.info.class.0 c e) (class_of_method image i.0 g i.1)
 needed_there image T acc op c i e = absurd (cc)
 
 -- a static call has no receiver

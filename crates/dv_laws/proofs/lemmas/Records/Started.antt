@@ -35,6 +35,7 @@ use Rattle.dv_laws.proofs.lemmas.Records.Entered.{refs_entered, entered_code, en
 use Rattle.dv_flowlaws.proofs.MethodCode.{the_code, code_there}
 use Rattle.dv_laws.proofs.lemmas.Calls.Words.{instance_types}
 use Rattle.dv_laws.proofs.lemmas.Calls.Dispatched.{NoneNamed, no_native}
+use Rattle.dv_laws.proofs.lemmas.Common.Members.{class_of_method}
 
 -- ---- the method run
 
@@ -74,7 +75,7 @@ module _ (image : Image) (T : Typings) (acc : Accepted image T) (heap : Heap) (n
 
   -- the object fits the class of the method
   receiver_fits : IsOf image heap o (own_type image run)
-  receiver_fits = looked_up_fits image T acc heap o (of_class thread_name) c run.info.class.0 refl i (ap (class_of_kind image) i.object.has_kind ∙ own) (acc.pools.methods run.id run near.0) near.4
+  receiver_fits = looked_up_fits image T acc heap o (of_class thread_name) c run.info.class.0 refl i (ap (class_of_kind image) i.object.has_kind ∙ own) (class_of_method image run.id run near.0) near.4
 
   no_initialiser : initialiser image run.info.class.0 ≢ Some run
   no_initialiser e = no (sym near.3 ∙ (acc.finds.initialisers run.info.class.0 run e).1)
