@@ -1,73 +1,14 @@
 -- The test of one state under another says that it is below it.
-use Rattle.std.proofs.Common.{◌≡◌, ℕ, zero, suc, ◌↔◌, Bool, true, false, not, ◌&&◌, ◌||◌, List, [], ◌∷◌, length, Option, Some, None, refl, sym, ap, ◌∙◌, subst, arith}
-use Rattle.std.specs.Prelude.{nat_eq, bytes_eq, IsTrue}
-use Rattle.std.proofs.lemmas.Bool.{eqb-true, eq-eqb, and_parts, and_from}
-use Rattle.std.proofs.lemmas.Slice.Eq.{bytes_eq-Decides}
-use Rattle.dv_defs.specs.declared.names.Base.{Base}
-use Rattle.dv_defs.specs.declared.names.Base.TheVariants as base
+use Rattle.std.proofs.Common.{◌≡◌, ℕ, zero, suc, ◌↔◌, Bool, true, false, not, ◌&&◌, ◌||◌, [], ◌∷◌, length, Option, Some, None, refl, sym, ap, subst, arith}
+use Rattle.std.proofs.lemmas.Bool.{and_parts, and_from}
 use Rattle.dv_defs.specs.declared.names.Ty.{Ty}
 use Rattle.dv_defs.specs.Images.{Image}
-use Rattle.dv_defs.specs.declared.typing.RegType.{RegType}
-use Rattle.dv_defs.specs.declared.typing.RegType.TheVariants as ty
 use Rattle.dv_defs.specs.declared.typing.PendingType.{PendingType}
 use Rattle.dv_defs.specs.declared.typing.PendingType.TheVariants as pend
 use Rattle.dv_defs.specs.declared.typing.RegState.{RegState}
-use Rattle.dv_defs.specs.Types.{base_eq, ty_eq}
-use Rattle.dv_defs.specs.Order.{sub}
 use Rattle.dv_defs.specs.RegTypes.{Types, type_at, under, UnderPending, UnderCaught, IsBelow}
-use Rattle.dv_defs.specs.Joins.{same_type}
 use Rattle.dv_types.specs.Under.{regs_under, pending_under, caught_under, state_under}
-
--- ---- types that the test finds the same
-
-base_is : (a b : Base) → base_eq a b ≡ true → a ≡ b
-base_is base.Z base.Z e = refl
-base_is base.B base.B e = refl
-base_is base.C base.C e = refl
-base_is base.S base.S e = refl
-base_is base.I base.I e = refl
-base_is base.J base.J e = refl
-base_is (base.Class x) (base.Class y) e = ap base.Class ((bytes_eq-Decides x y).0 e)
-base_is a b e = absurd (cc)
-
-base_same : (a : Base) → base_eq a a ≡ true
-base_same base.Z = refl
-base_same base.B = refl
-base_same base.C = refl
-base_same base.S = refl
-base_same base.I = refl
-base_same base.J = refl
-base_same (base.Class x) = (bytes_eq-Decides x x).1 refl
-
-ty_is : (a b : Ty) → ty_eq a b ≡ true → a ≡ b
-ty_is a b e =
-    let p = and_parts (nat_eq a.dims b.dims) (base_eq a.base b.base) e in
-    let made : ℕ → Base → Ty = λ n x. record { dims = n; base = x } in
-    ap (λ n. made n a.base) (eqb-true a.dims b.dims p.0) ∙ ap (made b.dims) (base_is a.base b.base p.1)
-
-ty_same : (a : Ty) → ty_eq a a ≡ true
-ty_same a = and_from (nat_eq a.dims a.dims) (base_eq a.base a.base) (eq-eqb a.dims a.dims refl) (base_same a.base)
-
-pub type_is : (s t : RegType) → same_type s t ≡ true → s ≡ t
-type_is ty.Conflict ty.Conflict e = refl
-type_is ty.Zero ty.Zero e = refl
-type_is ty.Int ty.Int e = refl
-type_is ty.LongLo ty.LongLo e = refl
-type_is ty.LongHi ty.LongHi e = refl
-type_is (ty.Class a) (ty.Class b) e = ap ty.Class (ty_is a b e)
-type_is (ty.Uninit a) (ty.Uninit b) e = ap ty.Uninit (eqb-true a b e)
-type_is ty.UninitThis ty.UninitThis e = refl
-type_is s t e = absurd (cc)
-
-pub type_same : (s : RegType) → same_type s s ≡ true
-type_same ty.Conflict = refl
-type_same ty.Zero = refl
-type_same ty.Int = refl
-type_same ty.LongLo = refl
-type_same ty.LongHi = refl
-type_same (ty.Class a) = ty_same a
-type_same (ty.Uninit a) = eq-eqb a a refl
-type_same ty.UninitThis = refl
+use Rattle.dv_types.proofs.Same.{type_is, type_same}
 
 -- ---- registers
 

@@ -1,5 +1,5 @@
 -- One register after another.
-use Rattle.std.proofs.Common.{◌≡◌, ◌≢◌, ℕ, zero, suc, ◌+◌, ◌<◌, ◌≤◌, Bool, true, false, ◌&&◌, List, [], ◌∷◌, ◌++◌, length, drop, refl, sym, ap, ◌∙◌, arith, get_or, add-one, drop-cons, append_assoc}
+use Rattle.std.proofs.Common.{◌≡◌, ◌≢◌, ℕ, suc, ◌+◌, ◌<◌, ◌≤◌, Bool, true, false, ◌&&◌, List, [], ◌∷◌, length, drop, refl, sym, ap, ◌∙◌, arith, get_or, add-one, drop-cons}
 use Rattle.std.proofs.lemmas.List.{drop_all}
 use Rattle.dv_defs.specs.Images.{Image}
 use Rattle.dv_defs.specs.declared.typing.RegType.{RegType}
@@ -26,7 +26,7 @@ under_fails image ss ts i s t within count at bt is =
     ap (λ b. b && regs_under image (drop (i + 1) ss) (drop (i + 1) ts)) is
 
 pub under_end : (image : Image) (ss ts : Types) (i : ℕ) → length ss ≤ i → length ss ≡ length ts → regs_under image (drop i ss) (drop i ts) ≡ true
-under_end image ss ts i past count = λ k. regs_under image (drop_all ss i past k) (drop_all ts i (omega (arith, past, count)) k)
+under_end image ss ts i past count = λ k. regs_under image (drop_all i ss past k) (drop_all i ts (omega (arith, past, count)) k)
 
 and_false : (b c : Bool) → c ≡ false → (b && c) ≡ false
 and_false true c e = e
@@ -46,4 +46,4 @@ joined_on image ss ts i s t within count at bt =
     λ k. joined image (rest_from ss i s within at k) (rest_from ts i t (omega (arith, within, count)) bt k)
 
 pub joined_end : (image : Image) (ss ts : Types) (i : ℕ) → length ss ≤ i → joined image (drop i ss) (drop i ts) ≡ []
-joined_end image ss ts i past = ap (λ xs. joined image xs (drop i ts)) (drop_all ss i past)
+joined_end image ss ts i past = ap (λ xs. joined image xs (drop i ts)) (drop_all i ss past)

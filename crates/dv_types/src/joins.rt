@@ -81,7 +81,6 @@ fn join_registers(
 }
 
 /// A pending result that both have.
-#[tactic(auto, using(crate::proofs::Same::register_types))]
 fn join_results(a: &PendingType, b: &PendingType) -> Result<PendingType, AllocError>
     ensures { IfOk result (λ p. p ≡ result_of_both a.now b.now) }
 {

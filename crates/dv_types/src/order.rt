@@ -30,6 +30,13 @@ pub fn is_below(image: &Image, a: &RegState, b: &RegState) -> bool
     ensures test { result ≡ state_under image.now a.now b.now }
     ensures below { IsTrue result ↔ IsBelow image.now a.now b.now }
 {
+    is_state_under(image, a, b)
+}
+
+/// The test of it, part by part.
+fn is_state_under(image: &Image, a: &RegState, b: &RegState) -> bool
+    ensures { result ≡ state_under image.now a.now b.now }
+{
     are_under(image, a.regs.items(), b.regs.items())
         && is_pending_under(&a.result, &b.result)
         && is_caught_under(image, &a.caught, &b.caught)
@@ -53,7 +60,6 @@ fn are_under(image: &Image, a: &[RegType], b: &[RegType]) -> bool
 }
 
 /// Whether the pending result is equal, or none above.
-#[tactic(auto, using(crate::proofs::Same::register_types))]
 fn is_pending_under(a: &PendingType, b: &PendingType) -> bool
     ensures { result ≡ pending_under a.now b.now }
 {
