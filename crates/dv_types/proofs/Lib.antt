@@ -1,0 +1,3 @@
+mod Same
+pub mod Below
+mod Registers
