@@ -1,1 +1,3 @@
 pub mod Flow
+pub mod Waiting
+pub mod Work

@@ -4,6 +4,7 @@
 
 mod flows;
 mod solve;
+mod waiting;
 
 pub use flows::{Flow, Onward};
 pub use solve::least;
