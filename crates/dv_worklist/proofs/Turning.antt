@@ -66,8 +66,8 @@ opened {S} f fits xs flags place later taken p = rw taken record {
 -- and one less waits
 pub taken_less : (flags : List Bool) (place : ℕ) (later : List Bool) → Waits flags place → later ≡ set flags place false → count_waiting later + 1 ≡ count_waiting flags
 taken_less flags place later w taken =
-    let e = sum_by-set (λ flag. cond flag 1 0) flags place false false (waits_within flags place w) in
-    rw taken (rw w at e)
+    let e = rw w at (sum_by-set (λ flag. cond flag 1 0) flags place false false (waits_within flags place w)) in
+    rw taken (omega (arith, e))
 
 -- what the turn of a place keeps
 pub next_step : {S : Type 0} (f : Flow S) (fits : ℕ → S → Type 0) (rank : S → ℕ) (top : ℕ)
