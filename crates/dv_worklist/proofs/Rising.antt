@@ -1,5 +1,5 @@
 -- A place that rises keeps what is known of the worklist.
-use Rattle.std.proofs.Common.{◌≡◌, ◌≢◌, ◌<◌, ◌≤◌, ◌+◌, ℕ, Bool, true, false, cond, List, length, Option, Some, None, refl, sym, ◌∙◌, subst, arith, inl, inr, ◌⊎◌, set, get_or}
+use Rattle.std.proofs.Common.{◌≡◌, ◌≢◌, ◌<◌, ◌≤◌, ℕ, Bool, true, false, cond, List, length, Option, Some, None, refl, sym, ◌∙◌, subst, arith, inl, inr, ◌⊎◌, set}
 use Rattle.std.proofs.lemmas.Bool.{cases_eq, not-true, not-false}
 use Rattle.std.proofs.lemmas.List.{get_or-set_same, get_or-set_other}
 use Rattle.std.proofs.Math.ListN.{length-set}
@@ -7,7 +7,7 @@ use Rattle.std.proofs.lemmas.List.Sums.{sum_by-set}
 use Rattle.std.proofs.lemmas.Option.{same_Some}
 use Rattle.dv_worklist.specs.Flow.{Flow, Assignment, assigned, HasAbove, AllFit, IsClosed, IsLawful}
 use Rattle.dv_worklist.specs.Waiting.{Waits}
-use Rattle.dv_worklist.specs.Work.{rises, raised, IsPartly, IsGrown, room, count_waiting, work_left, IsTurn}
+use Rattle.dv_worklist.specs.Work.{rises, raised, IsPartly, IsGrown, room, work_left, IsTurn}
 
 -- high is the least state above s and above what the place has
 pub record IsHigher {S : Type 0} (f : Flow S) (fits : ℕ → S → Type 0) (rank : S → ℕ) (top place : ℕ) (old : Option S) (s high : S) : Type 0 where

@@ -1,10 +1,10 @@
 -- What goes on from one place arrives, piece by piece.
-use Rattle.std.proofs.Common.{◌≡◌, ◌<◌, ◌≤◌, ◌+◌, ℕ, true, List, length, Option, Some, None, Bool, refl, sym, ◌∙◌, subst, arith, inl, inr, get_or}
+use Rattle.std.proofs.Common.{◌≡◌, ◌<◌, ◌≤◌, ◌+◌, ℕ, List, length, Option, Some, None, Bool, refl, sym, ◌∙◌, subst, arith, inl, inr, get_or}
 use Rattle.std.specs.Prelude.{slice_get}
 use Rattle.std.proofs.lemmas.Bool.{cases_eq}
 use Rattle.std.proofs.lemmas.Option.{same_Some, slice_get_within, slice_get_read}
 use Rattle.dv_worklist.specs.declared.flows.Onward.{Onward}
-use Rattle.dv_worklist.specs.Flow.{Flow, Assignment, assigned, HasAbove, Arrives, AllFit, IsClosed, IsUnder, IsLawful}
+use Rattle.dv_worklist.specs.Flow.{Flow, Assignment, assigned, HasAbove, Arrives, IsClosed, IsLawful}
 use Rattle.dv_worklist.specs.Work.{rises, states_after, waiting_after, goes_on, IsPartly, none_busy, busy_at, IsTurn, IsSpread}
 use Rattle.dv_worklist.proofs.Rising.{turned, has_after}
 

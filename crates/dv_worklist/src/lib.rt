@@ -6,5 +6,8 @@ mod flows;
 mod solve;
 mod waiting;
 
+#[cfg(test)]
+mod tests;
+
 pub use flows::{Flow, Onward};
 pub use solve::least;

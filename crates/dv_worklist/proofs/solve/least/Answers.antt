@@ -1,4 +1,3 @@
-use Rattle.std.proofs.Common.{arith, sym, ◌∙◌}
 use Rattle.dv_worklist.proofs.Turning.{first_step, opened, ended}
 use Rattle.dv_worklist.proofs.solve.least.Goals as goal
 
