@@ -4,10 +4,9 @@
 
 mod flows;
 mod solve;
-mod waiting;
-
 #[cfg(test)]
 mod tests;
+mod waiting;
 
 pub use flows::{Flow, Onward};
 pub use solve::least;

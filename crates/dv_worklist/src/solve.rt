@@ -29,11 +29,11 @@ pub fn least<F: Flow>(flow: &F, alloc: Global) -> Result<Vec<Option<F::State>>, 
 fn no_states<F: Flow>(flow: &F, alloc: Global) -> Result<Vec<Option<F::State>>, AllocError>
     ensures { IfOk result (λ v. v.items ≡ replicate (F.graph flow.now).size None) }
 {
-    let mut states = Vec::new(alloc);
+    let mut nothing = Vec::new(alloc);
     for _ in 0..flow.size() {
-        states.push(None)?;
+        nothing.push(None)?;
     }
-    Ok(states)
+    Ok(nothing)
 }
 
 // Raises by all that goes on from a place.
