@@ -1,0 +1,4 @@
+pub mod Numbers
+pub mod Rising
+pub mod Spreading
+pub mod Turning

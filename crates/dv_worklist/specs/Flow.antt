@@ -42,7 +42,7 @@ pub record IsLeast {S : Type 0} (f : Flow S) (a : Assignment S) : Type 0 where
   pub closed : IsClosed f a
   pub least : (b : Assignment S) → IsClosed f b → IsUnder f a b
 
-
+-- each state fits its place
 abbrev pub AllFit : {S : Type 0} → (ℕ → S → Type 0) → Assignment S → Type 0
 AllFit {S} fits a = (place : ℕ) (s : S) → a place ≡ Some s → fits place s
 

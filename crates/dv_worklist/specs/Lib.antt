@@ -1,1 +1,4 @@
 pub mod Flow
+pub mod Numbers
+pub mod Waiting
+pub mod Work

@@ -4,6 +4,9 @@
 
 mod flows;
 mod solve;
+#[cfg(test)]
+mod tests;
+mod waiting;
 
 pub use flows::{Flow, Onward};
 pub use solve::least;

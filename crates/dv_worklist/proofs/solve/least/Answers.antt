@@ -1,0 +1,26 @@
+use Rattle.std.proofs.Common.{arith}
+use Rattle.dv_worklist.proofs.Turning.{first_step, waits_within, opened, taken_less, next_step, ended}
+use Rattle.dv_worklist.proofs.solve.least.Goals as goal
+
+pub loop-place-init : goal.loop-place-init
+loop-place-init g c =
+    first_step _ _ _ _ c.requires.lawful c.in_ok-states.states.items c.in_ok-waiting.waiting c.in_ok-entry.entry c.raise.new.states.items c.raise.new.waiting
+    c.requires.some c.in_ok-states.ensures (cc (c.in_ok-waiting.ensures, c.size.ensures)) c.in_ok-entry.ensures c.in_ok-raise.ensures.states c.in_ok-raise.ensures.waiting
+
+pub turn-requires-clause-place : goal.turn-requires-clause-place
+turn-requires-clause-place g c =
+    omega (arith, c.loop-place.invariant.partly.flagged, waits_within c.loop-place.waiting c.in-Some.place c.in-Some.ensures.lowest.0)
+
+pub turn-requires-clause-partly : goal.turn-requires-clause-partly
+turn-requires-clause-partly g c =
+    opened _ _ c.loop-place.states.items c.loop-place.waiting c.in-Some.place c.take.new.self c.in-Some.ensures.taken c.loop-place.invariant.partly
+
+pub loop-place-preserved : goal.loop-place-preserved
+loop-place-preserved g c = next_step _ _ _ _ c.loop-place.states.items c.take.new.self _ _ c.loop-place.invariant.entry c.in_ok-turn.ensures
+
+pub loop-place-smaller : goal.loop-place-smaller
+loop-place-smaller g c =
+    omega (arith, c.in_ok-turn.ensures.less, taken_less c.loop-place.waiting c.in-Some.place c.take.new.self c.in-Some.ensures.lowest.0 c.in-Some.ensures.taken)
+
+pub returns-clause-least : goal.returns-clause-least
+returns-clause-least g c = ended _ _ c.loop-place.states.items c.loop-place.waiting c.in_default.ensures.lowest c.loop-place.invariant

@@ -1,0 +1,77 @@
+//! A flow of numbers whose least closed assignment was worked out by hand.
+ghost use Rattle.std.specs.Prelude.{◌≡◌};
+ghost use Rattle.dv_worklist.specs.Numbers.{brought};
+
+use crate::flows::{Flow, Onward};
+use crate::solve::least;
+use std::alloc::{AllocError, Global};
+use std::test::Fail;
+
+// The numbers up to 3, ordered by size.
+#[derive(Drop)]
+struct Numbers {
+    alloc: Global,
+}
+
+// What a number brings by a way.
+fn brought(number: u8, to: usize, at_least: u8) -> Onward<u8>
+    ensures { result ≡ brought number (to, at_least) }
+{
+    Onward {
+        to,
+        state: number.max(at_least),
+    }
+}
+
+impl Flow for Numbers {
+    type State = u8;
+
+    ghost use Rattle.dv_worklist.specs.Numbers.{numbers, number_fits, number_rank};
+
+    ghost graph = { λ _. numbers };
+
+    ghost fits = { λ _. number_fits };
+
+    ghost rank = { λ _. number_rank };
+
+    ghost top = { λ _. 4 };
+
+    fn size(&self) -> usize {
+        6
+    }
+
+    fn entry(&self) -> Result<u8, AllocError> {
+        Ok(0)
+    }
+
+    fn onward(&self, place: usize, number: &u8) -> Result<Vec<Onward<u8>>, AllocError> {
+        match place {
+            0 => Ok(vec![in self.alloc; brought(*number, 1, 0), brought(*number, 3, 0)]?),
+            1 => Ok(vec![in self.alloc; brought(*number, 2, 1)]?),
+            2 => Ok(vec![in self.alloc; brought(*number, 1, 0), brought(*number, 4, 0)]?),
+            3 => Ok(vec![in self.alloc; brought(*number, 4, 2)]?),
+            5 => Ok(vec![in self.alloc; brought(*number, 4, 3)]?),
+            _ => Ok(Vec::new(self.alloc)),
+        }
+    }
+
+    fn under(&self, low: &u8, high: &u8) -> bool {
+        *low <= *high
+    }
+
+    fn join(&self, _place: usize, one: &u8, other: &u8) -> Result<u8, AllocError> {
+        let other = *other;
+        Ok(other.max(*one))
+    }
+}
+
+// Places 1 and 2 are a loop in which 1 is brought, so 1 is raised twice, from nothing to 0 and to 1. Place 4 gets 1 from
+// the loop and 2 from the branch. No way leads to place 5.
+#[test]
+fn the_least_numbers_are_found(rt: HostRuntime) -> Result<(), Fail> {
+    let numbers = Numbers { alloc: rt.alloc() };
+    let found = least(&numbers, rt.alloc())?;
+    let wanted = [Some(0), Some(1), Some(1), Some(0), Some(2), None];
+    assert_eq!(rt; found.as_slice(), &wanted[..]);
+    Ok(())
+}
