@@ -1,0 +1,10 @@
+//! The least assignment of states to the instructions of a method, or the method's faults.
+#![tactic(auto)]
+
+mod errors;
+mod faults;
+mod flow;
+mod infer;
+
+pub use errors::InferError;
+pub use infer::infer;
