@@ -25,6 +25,7 @@ pub fn infer(alloc: Global, image: &Image, method: MethodId) -> Result<Map, Infe
     requires body { IsSome (code_at image.now method.0) }
     ensures static { (code : Code) → code_at image.now method.0 ≡ Some code → IfOk result (λ _. static_places image.now code ≡ []) }
     ensures typing { (code : Code) → code_at image.now method.0 ≡ Some code → IfOk result (λ m. IsTyping image.now code (typing_of m)) }
+    ensures faultless { (code : Code) → code_at image.now method.0 ≡ Some code → IfOk result (λ _. AreFaults image.now code []) }
     ensures least { (code : Code) → code_at image.now method.0 ≡ Some code → IfOk result (λ m. IsLeast image.now code (typing_of m)) }
     ensures faults { (code : Code) → code_at image.now method.0 ≡ Some code → IfFaults result (λ fs. AreFaults image.now code fs) }
     ensures some { IfFaults result (λ fs. fs ≢ []) }

@@ -2,6 +2,7 @@
 #![tactic(auto)]
 
 mod errors;
+mod judge;
 mod verify;
 
 pub use errors::VerifyError;

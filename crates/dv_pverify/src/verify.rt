@@ -1,14 +1,15 @@
-// Methods one after another.
+// All methods of an image.
 ghost use Rattle.std.specs.Prelude.{◌≡◌, ◌≢◌, [], IfOk};
 ghost use Rattle.dv_defs.specs.Accepting.{Accepts, AreImageFaults};
 ghost use Rattle.dv_pverify.specs.Errors.{IfFaults};
 
 use crate::errors::VerifyError;
-use dv_defs::Image;
+use crate::judge::{Judged, judge_range};
+use dv_defs::{Image, Seq};
 use dv_rules::Verified;
 use std::alloc::Global;
 
-/// Verifies each method with a body.
+/// Verifies each method with a body, one after another.
 ///
 /// # Errors
 ///
@@ -21,5 +22,9 @@ pub fn verify_one_by_one(alloc: Global, image: Image) -> Result<Verified, Verify
     ensures some { IfFaults result (λ _ fs. fs ≢ []) }
     ensures refused { IfFaults result (λ _ _. Accepts image → ⊥) }
 {
-    ..
+    let count = image.methods.len() as u32;
+    match judge_range(alloc, &image, 0, count) {
+        Ok(judged) => verdict(image, judged),
+        Err(_) => Err(VerifyError::Memory),
+    }
 }
