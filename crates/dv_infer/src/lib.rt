@@ -4,7 +4,7 @@
 mod errors;
 mod faults;
 mod flow;
-mod infer;
+mod method;
 
 pub use errors::InferError;
-pub use infer::infer;
+pub use method::infer;

@@ -23,7 +23,7 @@ use std::alloc::Global;
 /// `Faults` exactly where the body breaks a static rule or has no typing: the method's faults. `Memory`.
 pub fn infer(alloc: Global, image: &Image, method: MethodId) -> Result<Map, InferError>
     requires body { IsSome (code_at image.now method.0) }
-    ensures static { (code : Code) → code_at image.now method.0 ≡ Some code → IfOk result (λ _. static_places image.now code ≡ []) }
+    ensures unbroken { (code : Code) → code_at image.now method.0 ≡ Some code → IfOk result (λ _. static_places image.now code ≡ []) }
     ensures typing { (code : Code) → code_at image.now method.0 ≡ Some code → IfOk result (λ m. IsTyping image.now code (typing_of m)) }
     ensures faultless { (code : Code) → code_at image.now method.0 ≡ Some code → IfOk result (λ _. AreFaults image.now code []) }
     ensures least { (code : Code) → code_at image.now method.0 ≡ Some code → IfOk result (λ m. IsLeast image.now code (typing_of m)) }
