@@ -1,14 +1,11 @@
 -- The worklist's least assignment is the method's least assignment.
-use Rattle.std.specs.Prelude.{slice_get, All}
-use Rattle.std.proofs.Common.{◌≡◌, ℕ, List, true, Option, Some, None, refl, sym, ◌∙◌, subst}
-use Rattle.std.proofs.lemmas.Option.{same_Some}
+use Rattle.std.proofs.Common.{◌≡◌, ℕ, true, Option, Some, None, refl, sym, subst}
 use Rattle.std.proofs.lemmas.List.Elements.{All-weaker}
 use Rattle.dv_defs.specs.declared.typing.RegState.{RegState}
 use Rattle.dv_defs.specs.Images.{Image}
 use Rattle.dv_defs.specs.Tiling.{begins_insn}
-use Rattle.dv_defs.specs.Op.{Code, can_throw}
+use Rattle.dv_defs.specs.Op.{Code}
 use Rattle.dv_defs.specs.Statics.{At, fetch}
-use Rattle.dv_defs.specs.RegTypes.{IsBelow}
 use Rattle.dv_defs.specs.Transfer.{entry_state, out}
 use Rattle.dv_defs.specs.Flow.{Typing, Leads, Flows, IsFlowClosed, IsUnderAt, targets, handlers_at, thrown_at, caught_state}
 use Rattle.dv_types.proofs.Below.{below_from, below_to}

@@ -1,14 +1,13 @@
 -- A least assignment without faults is a typing, and where it has one there is no typing.
-use Rattle.std.proofs.Common.{◌≡◌, inl, inr, ℕ, List, [], ◌∷◌, ◌++◌, true, Option, Some, None, refl, sym, ap, ◌∙◌, subst}
+use Rattle.std.proofs.Common.{◌≡◌, inl, inr, ℕ, List, [], ◌∷◌, ◌++◌, true, Option, Some, None, refl, ap, ◌∙◌, subst}
 use Rattle.dv_defs.specs.declared.faults.Fault.{Fault}
 use Rattle.dv_defs.specs.declared.typing.RegState.{RegState}
 use Rattle.dv_defs.specs.Images.{Image}
 use Rattle.dv_defs.specs.Tiling.{Tile, begins_insn}
 use Rattle.dv_defs.specs.Op.{Code}
 use Rattle.dv_defs.specs.Statics.{At, fetch}
-use Rattle.dv_defs.specs.RegTypes.{IsBelow}
 use Rattle.dv_defs.specs.Demands.{Demand, ok}
-use Rattle.dv_defs.specs.Flow.{Typing, IsTyping, IsUnderAt, IsLeast}
+use Rattle.dv_defs.specs.Flow.{Typing, IsTyping, IsUnderAt}
 use Rattle.dv_defs.specs.Accepting.{demand_at, fault_at, typing_faults}
 use Rattle.dv_orders.proofs.Satisfied.{demand_is_antitone}
 use Rattle.dv_flowlaws.proofs.NoPlaces.{none_left, none_right}

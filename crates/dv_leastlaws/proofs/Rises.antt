@@ -1,22 +1,22 @@
 -- What goes on from a lower state goes on from a higher one, in the same order.
 use Rattle.std.specs.Prelude.{slice_get}
-use Rattle.std.proofs.Common.{◌≡◌, ℕ, zero, suc, List, [], ◌∷◌, ◌++◌, map, Bool, true, Some, refl, ap, subst}
+use Rattle.std.proofs.Common.{◌≡◌, ℕ, zero, suc, List, [], ◌∷◌, ◌++◌, map, Bool, true, Some, refl, subst}
 use Rattle.std.proofs.lemmas.Option.{same_Some}
 use Rattle.dv_worklist.specs.declared.flows.Onward.{Onward}
 
 module _ {S : Type 0} (under : S → S → Bool) where
   -- at the same place in the other list, to the same place, with a state above
-  abbrev pub IsUnderAt : List (Onward S) → ℕ → Onward S → Type 0
-  IsUnderAt ys k o = (p : Onward S) × (slice_get ys k ≡ Some p) × (p.to ≡ o.to) × (under o.state p.state ≡ true)
+  abbrev pub HasHigher : List (Onward S) → ℕ → Onward S → Type 0
+  HasHigher ys k o = (p : Onward S) × (slice_get ys k ≡ Some p) × (p.to ≡ o.to) × (under o.state p.state ≡ true)
 
   abbrev pub Rises : List (Onward S) → List (Onward S) → Type 0
-  Rises xs ys = (k : ℕ) (o : Onward S) → slice_get xs k ≡ Some o → IsUnderAt ys k o
+  Rises xs ys = (k : ℕ) (o : Onward S) → slice_get xs k ≡ Some o → HasHigher ys k o
 
   pub rises_nil : (ys : List (Onward S)) → Rises [] ys
   rises_nil ys = λ k o at. absurd (cc)
 
   rises_cons : (a b : Onward S) (xs ys : List (Onward S)) → b.to ≡ a.to → under a.state b.state ≡ true → Rises xs ys → Rises (a ∷ xs) (b ∷ ys)
-  rises_cons a b xs ys to above r zero o at = subst (λ (z : Onward S). IsUnderAt (b ∷ ys) zero z) (same_Some a o at) (b, refl, to, above)
+  rises_cons a b xs ys to above r zero o at = subst (λ (z : Onward S). HasHigher (b ∷ ys) zero z) (same_Some a o at) (b, refl, to, above)
   rises_cons a b xs ys to above r (suc k) o at = r k o at
 
   -- so does what each element makes, and then what follows
