@@ -1,5 +1,5 @@
 -- The laws that tie the worklist's least assignment to typings, as statements.
-use Rattle.std.specs.Prelude.{◌≡◌, ℕ, suc, zero, List, [], ◌++◌, length, Option, Some, None}
+use Rattle.std.specs.Prelude.{◌≡◌, ℕ, suc, zero, List, [], ◌++◌, length, Option}
 use Rattle.dv_worklist.specs.Flow as worklist
 use Rattle.dv_worklist.specs.Flow.{AllFit, IsLawful, assigned}
 use Rattle.dv_defs.specs.declared.faults.Fault.{Fault}
