@@ -1,16 +1,164 @@
 // The static faults of a method.
-ghost use Rattle.std.specs.Prelude.{◌≡◌, Some, IsSome, IfOk, map};
-ghost use Rattle.dv_defs.specs.Accepting.{static_fault, static_places};
+ghost use Rattle.std.specs.Prelude.{◌≡◌, ◌<◌, ◌∷◌, ◌++◌, [], All, Ok, Some, IsSome, IfOk, OnOk, map, nat_le};
+ghost use Rattle.dv_defs.specs.Accepting.{first_places, item_places, places_by, rule_at as broken_rule, static_fault, static_places, tile_places};
 ghost use Rattle.dv_defs.specs.Op.{Code, code_at};
+ghost use Rattle.dv_defs.specs.Tiling.{tiling};
+ghost use Rattle.dv_defs.specs.Statics.{arg_words};
+ghost use Rattle.dv_ops.specs.Meaning.{code_of, method_of};
+ghost use Rattle.dv_static.specs.Placed.{place_of, places_of};
+ghost use Rattle.dv_static.specs.Tiles.{item_of, tile_of};
 
-use dv_defs::{Fault, Image, MethodId};
+use crate::insns::add_insn_places;
+use crate::members::words_left;
+use crate::payloads::add_payload_places;
+use crate::places::{Place, add_unless, in_order};
+use crate::starts::Starts;
+use crate::tiles::{Item, Tile, Tiled, tiles_of};
+use crate::tries::add_try_places;
+use dv_defs::{Fault, Image, MethodId, Rule};
+use dv_ops::{Coded, coded_at};
+use dv_optable::is_float;
 use std::alloc::{AllocError, Global};
 
 /// The static rules that a method's body breaks, by address and rule, each once. Where its units aren't instructions and payloads one
 /// after another, that is the one fault.
-pub fn static_faults(alloc: Global, image: &Image, method: MethodId) -> Result<Vec<Fault>, AllocError>
+pub fn static_faults(
+    alloc: Global,
+    image: &Image,
+    method: MethodId,
+) -> Result<Vec<Fault>, AllocError>
     requires { IsSome (code_at image.now method.0) }
     ensures { (code : Code) → code_at image.now method.0 ≡ Some code → IfOk result (λ v. v.items ≡ map (static_fault method.0) (static_places image.now code)) }
 {
-    ..
+    let code = coded_at(image, method).unwrap();
+    let places = body_places(alloc, image, &code)?;
+    faults_of(alloc, method, &places)
+}
+
+/// What is broken at places of a method.
+fn faults_of(alloc: Global, method: MethodId, places: &[Place]) -> Result<Vec<Fault>, AllocError>
+    ensures { IfOk result (λ v. v.items ≡ map (static_fault method.0) (places_of places.now)) }
+{
+    let mut faults = Vec::new(alloc);
+    for place in places {
+        faults.push(Fault {
+            method,
+            address: place.at,
+            rule: place.rule,
+        })?;
+    }
+    Ok(faults)
+}
+
+/// What a body breaks, in order.
+#[tactic(auto, unfolding(dv_defs::specs::Accepting::static_places))]
+fn body_places(alloc: Global, image: &Image, code: &Coded<'_>) -> Result<Vec<Place>, AllocError>
+    ensures { IfOk result (λ v. places_of v.items ≡ static_places image.now (code_of code.now)) }
+{
+    let body = code.body;
+    match tiles_of(alloc, body.units.items())? {
+        Tiled::Whole(tiles) => whole_places(alloc, image, code, tiles.items()),
+        Tiled::Broken(at) => one_place(alloc, at, rule_at(body.units.items(), at)),
+    }
+}
+
+fn one_place(alloc: Global, at: u32, rule: Rule) -> Result<Vec<Place>, AllocError>
+    ensures { IfOk result (λ v. places_of v.items ≡ record { at = at; broken = rule } ∷ []) }
+{
+    let mut places = Vec::new(alloc);
+    places.push(Place { at, rule })?;
+    Ok(places)
+}
+
+/// Why no item begins at an address: S2 where the opcode of a float stands there, else S1.
+fn rule_at(units: &[u16], at: u32) -> Rule
+    ensures { result ≡ broken_rule units.now at }
+{
+    match units.get(at as usize) {
+        Some(unit) => {
+            if is_float((*unit % 256) as u8) {
+                Rule::S(2)
+            } else {
+                Rule::S(1)
+            }
+        }
+        None => Rule::S(1),
+    }
+}
+
+/// What a body breaks whose units are items one after another.
+fn whole_places(
+    alloc: Global,
+    image: &Image,
+    code: &Coded<'_>,
+    tiles: &[Tile],
+) -> Result<Vec<Place>, AllocError>
+    requires { tiling code.now.body.now.units ≡ Ok (map tile_of tiles.now) }
+    ensures { IfOk result (λ v. places_of v.items ≡ places_by image.now (code_of code.now) (Ok (map tile_of tiles.now))) }
+{
+    if code.body.units.is_empty() {
+        return one_place(alloc, 0, Rule::S(1));
+    }
+    let starts = Starts::new(alloc, tiles, code.body.units.len())?;
+    let mut places = Vec::new(alloc);
+    add_first_places(code, &starts, &mut places)?;
+    add_tile_places(image, code, &starts, tiles, &mut places)?;
+    add_try_places(alloc, image, code, &starts, &mut places)?;
+    in_order(places)
+}
+
+/// Adds S3, where no instruction begins at address 0, and S11, where there are fewer registers than words of arguments.
+fn add_first_places(
+    code: &Coded<'_>,
+    starts: &Starts<'_>,
+    places: &mut Vec<Place>,
+) -> Result<(), AllocError>
+    requires { (code_of code.now).tiles ≡ map tile_of starts.now }
+    ensures { (image : Image) → OnOk result (places_of places.new.items ≡ places_of places.old.items ++ first_places image (code_of code.now)) }
+{
+    add_unless(starts.begins_insn(0), 0, Rule::S(3), places)?;
+    add_unless(has_room(code), 0, Rule::S(11), places)
+}
+
+/// Whether the words of a method's arguments have registers.
+fn has_room(code: &Coded<'_>) -> bool
+    ensures { result ≡ nat_le (arg_words (method_of code.now.method)) code.now.body.now.registers }
+{
+    words_left(&code.method, code.body.registers as usize).is_some()
+}
+
+/// Adds what the items of a body break.
+fn add_tile_places<'a>(
+    image: &'a Image,
+    code: &Coded<'a>,
+    starts: &Starts<'_>,
+    tiles: &[Tile],
+    places: &mut Vec<Place>,
+) -> Result<(), AllocError>
+    requires starts { (code_of code.now).tiles ≡ map tile_of starts.now }
+    requires short { All (λ t. t.at < 16384) tiles.now }
+    ensures { OnOk result (places_of places.new.items ≡ places_of places.old.items ++ tile_places image.now (code_of code.now) (map tile_of tiles.now)) }
+{
+    for tile in tiles {
+        add_item_places(image, code, starts, tile, places)?;
+    }
+    Ok(())
+}
+
+/// Adds what an item breaks.
+fn add_item_places<'a>(
+    image: &'a Image,
+    code: &Coded<'a>,
+    starts: &Starts<'_>,
+    tile: &Tile,
+    places: &mut Vec<Place>,
+) -> Result<(), AllocError>
+    requires starts { (code_of code.now).tiles ≡ map tile_of starts.now }
+    requires short { tile.now.at < 16384 }
+    ensures { OnOk result (places_of places.new.items ≡ places_of places.old.items ++ item_places image.now (code_of code.now) tile.now.at (item_of tile.now.item)) }
+{
+    match &tile.item {
+        Item::Insn(insn) => add_insn_places(image, code, starts, tile.at, insn, places),
+        Item::Payload(payload) => add_payload_places(tile.at, payload, places),
+    }
 }
