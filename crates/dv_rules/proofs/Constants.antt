@@ -1,5 +1,5 @@
 -- The types of constants.
-use Rattle.std.proofs.Common.{◌≡◌, ℕ, zero, suc, refl}
+use Rattle.std.proofs.Common.{◌≡◌, zero, suc, refl}
 use Rattle.std.specs.Prelude.{ℤ, pos, negsuc}
 use mathlib.Core.Logic.{◌≢◌}
 use Rattle.dv_defs.specs.declared.typing.RegType.TheVariants as ty

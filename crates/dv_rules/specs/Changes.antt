@@ -14,6 +14,7 @@ use Rattle.dv_defs.specs.Transfer.{write_type, write_two, replaced, replaced_thi
 use Rattle.dv_rules.specs.declared.changes.Change.{Change}
 use Rattle.dv_rules.specs.declared.changes.Change.TheVariants as change
 
+-- the number of a class, where there is one
 abbrev pub number : Option ClassId → Option ℕ
 number c = option_map (λ c. c.0) c
 
@@ -64,6 +65,7 @@ abbrev pub pending_with : Option RegType → Bool → Bool
 pending_with (Some ty.UninitThis) b = false
 pending_with r b = b
 
+-- and whether `this` is pending
 abbrev pub this_after : Op → RegState → Bool
 this_after (Invoke c ks g) s = pending_with (receiver_in s.regs ks g) s.this_pending
 this_after op s = s.this_pending

@@ -1,5 +1,6 @@
 // Changes of the types of registers.
 ghost use Rattle.std.specs.Prelude.{◌≡◌, IfOk, map};
+ghost use Rattle.dv_defs.specs.Pools.{class_type as type_of_class};
 ghost use Rattle.dv_defs.specs.Transfer.{class_or_conflict as class_or_unknown, lost as lost_type, replaced as replaced_type, replaced_this as replaced_this_type};
 ghost use Rattle.dv_rules.specs.Changes.{changed as registers_after, number, renewed as renewed_by, written};
 
@@ -40,6 +41,7 @@ pub fn changed(
     Ok(after)
 }
 
+/// Writes what a change writes.
 fn write_change(regs: &mut Vec<RegType>, change: Change)
     ensures { regs.new.items ≡ written change regs.old.items }
 {
@@ -51,6 +53,7 @@ fn write_change(regs: &mut Vec<RegType>, change: Change)
     }
 }
 
+/// Clones of the types, each as the change makes it.
 fn renew(
     alloc: Global,
     image: &Image,
@@ -106,6 +109,7 @@ fn replaced(
     }
 }
 
+/// An object of a class; unknown without a class.
 fn class_or_conflict(
     alloc: Global,
     image: &Image,
@@ -126,7 +130,7 @@ fn replaced_this(
     class: ClassId,
     ty: &RegType,
 ) -> Result<RegType, AllocError>
-    ensures { IfOk result (λ t. t ≡ replaced_this_type (class_or_unknown image.now (Some class.0)) ty.now) }
+    ensures { IfOk result (λ t. t ≡ replaced_this_type (RegType.Class (type_of_class image.now class.0)) ty.now) }
 {
     match ty {
         RegType::UninitThis => Ok(RegType::Class(class_type(alloc, image, class)?)),

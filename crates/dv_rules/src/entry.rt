@@ -6,8 +6,8 @@ ghost use Rattle.dv_defs.specs.Statics.{arg_words};
 ghost use Rattle.dv_defs.specs.Transfer.{arg_types as types_of_args, begins_uninitialised as is_uninitialised, entry_state, receiver_type};
 ghost use Rattle.dv_ops.specs.Meaning.{method_of};
 
+use crate::calls::is_constructor;
 use crate::registers::{class_type, is_long, single_type};
-use crate::transfer::is_constructor;
 use dv_defs::{Flag, Image, PendingType, RegState, RegType, Seq, Ty};
 use dv_ops::{Coded, Method};
 use std::alloc::{AllocError, Global};
@@ -57,11 +57,7 @@ fn unknown(alloc: Global, count: usize) -> Result<Vec<RegType>, AllocError>
 }
 
 /// The types of a method's arguments, the receiver's first.
-fn arg_types(
-    alloc: Global,
-    image: &Image,
-    method: &Method<'_>,
-) -> Result<Vec<RegType>, AllocError>
+fn arg_types(alloc: Global, image: &Image, method: &Method<'_>) -> Result<Vec<RegType>, AllocError>
     ensures { IfOk result (λ v. v.items ≡ types_of_args image.now (method_of method.now)) }
 {
     let mut types = receiver_types(alloc, image, method)?;

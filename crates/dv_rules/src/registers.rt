@@ -40,6 +40,7 @@ fn break_before(regs: &mut Vec<RegType>, k: u16)
     }
 }
 
+/// A low half at a place is broken.
 #[tactic(auto, using(crate::proofs::Breaking::kept_lo, crate::proofs::Breaking::broke_lo))]
 fn break_lo(regs: &mut Vec<RegType>, k: usize)
     ensures { regs.new.items ≡ slice_set regs.old.items k (broken_lo (type_at regs.old.items k)) }
@@ -49,6 +50,7 @@ fn break_lo(regs: &mut Vec<RegType>, k: usize)
     }
 }
 
+/// A high half at a place is broken.
 #[tactic(auto, using(crate::proofs::Breaking::kept_hi, crate::proofs::Breaking::broke_hi))]
 fn break_hi(regs: &mut Vec<RegType>, k: usize)
     ensures { regs.new.items ≡ slice_set regs.old.items k (broken_hi (type_at regs.old.items k)) }

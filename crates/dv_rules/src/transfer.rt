@@ -2,26 +2,26 @@
 ghost use Rattle.std.specs.Prelude.{◌≡◌, ◌<◌, ℕ, true, ◌&&◌, IfOk, option_map};
 ghost use Rattle.dv_defs.specs.Flow.{caught_state};
 ghost use Rattle.dv_defs.specs.Images as images;
-ghost use Rattle.dv_defs.specs.Op.{Code, named_registers};
-ghost use Rattle.dv_defs.specs.Pools.{is_constructor as is_constructor_of};
+ghost use Rattle.dv_defs.specs.Op.{Code};
 ghost use Rattle.dv_defs.specs.RegTypes.{Types, type_at};
-ghost use Rattle.dv_defs.specs.Transfer.{after_get, after_result_long, caught_type as type_caught, const_type as type_of_const, copied_int as int_copied, copied_object as object_copied, first_of, object_element as element_of, out, pending_of as pending_result, result_int as int_result, result_ref as reference_result, write_for};
+ghost use Rattle.dv_defs.specs.Transfer.{after_get, after_result_long, caught_type as type_caught, const_type as type_of_const, copied_int as int_copied, copied_object as object_copied, object_element as element_of, out, result_int as int_result, result_ref as reference_result, write_for};
 ghost use Rattle.dv_defs.specs.Types.{component as component_of, is_array as is_array_type, is_reference as is_reference_type, of_class};
 ghost use Rattle.dv_units.specs.Tables.{standard_suffix};
 ghost use Rattle.dv_ops.specs.Meaning.{code_of, meant, method_of};
-ghost use Rattle.dv_rules.specs.Changes.{call_change, changed as registers_after, pending_after as pending_left, pending_with, receiver_in, this_after as this_left};
+ghost use Rattle.dv_rules.specs.Changes.{changed as registers_after, pending_after as pending_left, this_after as this_left};
 ghost use Rattle.dv_rules.specs.Made.{made_for};
 
+use crate::calls::{change_of_call, pending_of, this_after_call};
 use crate::changes::{Change, changed};
 use crate::registers::{is_long, single_type};
-use dv_defs::{Base, ClassId, Flag, Image, PendingType, RegState, RegType, Regs, Seq, Text, Ty};
-use dv_ops::{Coded, Field, Method, Op};
+use dv_defs::{Base, ClassId, Image, PendingType, RegState, RegType, Seq, Text, Ty};
+use dv_ops::{Coded, Field, Op};
 use dv_optable::Suffix;
 use std::alloc::{AllocError, Global};
 
 const CLASS: &[u8] = b"Ljava/lang/Class;";
+
 const STRING: &[u8] = b"Ljava/lang/String;";
-const INIT: &[u8] = b"<init>";
 
 /// The state after the operation at an address. `made` is the class of the object that a constructor call is to initialise.
 #[tactic(auto, using(crate::proofs::Leaving::parts))]
@@ -178,11 +178,7 @@ fn caught_type(caught: &Option<Ty>) -> Result<RegType, AllocError>
 fn const_type(n: i64) -> RegType
     ensures { result ≡ type_of_const n }
 {
-    if n == 0 {
-        RegType::Zero
-    } else {
-        RegType::Int
-    }
+    if n == 0 { RegType::Zero } else { RegType::Int }
 }
 
 fn type_named(alloc: Global, name: &[u8]) -> Result<RegType, AllocError>
@@ -249,44 +245,6 @@ fn value_got(a: u16, field: &Field<'_>) -> Result<Change, AllocError>
     }
 }
 
-/// A constructor call initialises its receiver, in each register that holds it.
-fn change_of_call(
-    code: &Coded<'_>,
-    regs: &[RegType],
-    args: &Regs,
-    method: &Method<'_>,
-    made: Option<ClassId>,
-) -> Change
-    ensures { result ≡ call_change (method_of code.now.method) made (receiver_in regs.now (named_registers args.now) (method_of method.now)) }
-{
-    if !is_constructor(method) {
-        return Change::Nothing;
-    }
-    match regs.get(first_register(args) as usize) {
-        Some(RegType::Uninit(at)) => Change::Made(*at, made),
-        Some(RegType::UninitThis) => Change::This(code.method.info.class),
-        _ => Change::Lost,
-    }
-}
-
-pub fn is_constructor(method: &Method<'_>) -> bool
-    ensures { result ≡ is_constructor_of (method_of method.now) }
-{
-    !Flag::Static.is_in(method.def.flags) && method.def.name.bytes() == INIT
-}
-
-/// The first register that an instruction names.
-#[tactic(auto, using(crate::proofs::Calling::none_named, crate::proofs::Calling::first_named))]
-fn first_register(args: &Regs) -> u16
-    ensures { result ≡ first_of (named_registers args.now) }
-{
-    if args.count == 0 {
-        0
-    } else {
-        args.first[0]
-    }
-}
-
 /// The pending result after an operation.
 fn pending_after(op: &Op<'_>) -> Result<PendingType, AllocError>
     ensures { (code : Code) (at : ℕ) → IfOk result (λ p. p ≡ pending_left (meant code at op.now)) }
@@ -298,44 +256,12 @@ fn pending_after(op: &Op<'_>) -> Result<PendingType, AllocError>
     }
 }
 
-/// The pending result of a call.
-fn pending_of(ret: &Option<Ty>) -> Result<PendingType, AllocError>
-    ensures { IfOk result (λ p. p ≡ pending_result ret.now) }
-{
-    match ret {
-        Some(ty) => pending_value(ty),
-        None => Ok(PendingType::None),
-    }
-}
-
-fn pending_value(ty: &Ty) -> Result<PendingType, AllocError>
-    ensures { IfOk result (λ p. p ≡ pending_result (Some ty.now)) }
-{
-    if is_long(ty) {
-        Ok(PendingType::Long)
-    } else {
-        Ok(PendingType::One(single_type(ty)?))
-    }
-}
-
 /// Whether `this` is pending after an operation.
 fn this_after(op: &Op<'_>, state: &RegState) -> bool
     ensures { (code : Code) (at : ℕ) → result ≡ this_left (meant code at op.now) state.now }
 {
     match op {
         Op::Invoke(_, args, method) => this_after_call(state, args, method),
-        _ => state.this_pending,
-    }
-}
-
-fn this_after_call(state: &RegState, args: &Regs, method: &Method<'_>) -> bool
-    ensures { result ≡ pending_with (receiver_in state.now.regs (named_registers args.now) (method_of method.now)) state.now.this_pending }
-{
-    if !is_constructor(method) {
-        return state.this_pending;
-    }
-    match state.regs.items().get(first_register(args) as usize) {
-        Some(RegType::UninitThis) => false,
         _ => state.this_pending,
     }
 }
