@@ -1,0 +1,5 @@
+mod Breaking
+mod Calling
+mod Constants
+mod Leaving
+mod Renewing

@@ -1,4 +1,5 @@
 pub mod Asking
+pub mod Changes
 pub mod Edges
 pub mod Made
 pub mod Verified

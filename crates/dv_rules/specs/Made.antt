@@ -1,5 +1,5 @@
 -- The object that a constructor call is to initialise.
-use Rattle.std.specs.Prelude.{ℕ, true, false, List, Option, Some, None, option_and_then}
+use Rattle.std.specs.Prelude.{ℕ, true, false, Option, Some, None, option_and_then}
 use Rattle.dv_defs.specs.Images.{Image}
 use Rattle.dv_defs.specs.declared.typing.RegType.{RegType}
 use Rattle.dv_defs.specs.declared.typing.RegType.TheVariants as ty

@@ -2,6 +2,8 @@
 //! along which states flow (AOSP, "Dalvik bytecode constraints"; V1 to V14 are this product's own names).
 #![tactic(auto)]
 
+mod calls;
+mod changes;
 mod demands;
 mod edges;
 mod entry;
