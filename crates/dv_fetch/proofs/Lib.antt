@@ -1,3 +1,4 @@
 pub mod Pieces
 pub mod Tiles
 pub mod Passing
+pub mod Standing

@@ -79,3 +79,7 @@ begins_at units ts at t a = begins_at_by (piece_here (drop at units)) units ts a
 
 pub come_to : (units : List ℕ) (tiles : List Tile) (at : ℕ) → all_fit 16 units ≡ true → IsWalk units tiles at at → begins_as_insn (drop at units) ≡ begins_insn tiles at
 come_to units tiles at t w = begins_at units w.rest at t w.from ∙ sym (ap begins w.same)
+
+-- of a tile that was met
+pub begins_tile : (units : List ℕ) (from at : ℕ) (ts : List Tile) (t : Tile) → IsMet units from ts at t → begins_as_insn (drop at units) ≡ is_some (insn_in t.item)
+begins_tile units from at ts t m = begins_by (drop at units) (record { item = t.item; size = t.size }) m.piece

@@ -5,7 +5,17 @@ ghost use Rattle.dv_defs.specs.Payloads.{payload_here};
 ghost use Rattle.dv_defs.specs.Tiling.{begins_payload, piece_here};
 ghost use Rattle.dv_fetch.specs.Places.{begins_as_insn};
 
+use dv_ops::Coded;
 use dv_units::{decode, payload_size};
+
+/// The units of a body.
+pub fn units_of<'a>(code: &Coded<'a>) -> &'a [u16]
+    ensures units { result.now ≡ code.now.body.now.units }
+    ensures short { length result.now ≤ 16384 }
+{
+    let body = code.body;
+    body.units.items()
+}
 
 /// Whether a unit begins a payload.
 fn begins_payload(unit: u16) -> bool

@@ -12,7 +12,8 @@ pub fn string_at<'a>(code: &Coded<'a>, place: usize) -> Result<&'a Chars, Rule>
     ensures { MatchResult result (λ s. slice_get code.now.body.now.strings place ≡ Some s.now)
         (λ rule. (rule ≡ Rule.S 12) × (slice_get code.now.body.now.strings place ≡ None)) }
 {
-    code.body.strings.items().get(place).ok_or(Rule::S(12))
+    let body = code.body;
+    body.strings.items().get(place).ok_or(Rule::S(12))
 }
 
 /// The type at a place of the method's pool.

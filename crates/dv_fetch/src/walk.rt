@@ -3,7 +3,7 @@ ghost use Rattle.std.specs.Prelude.{◌≡◌, ◌≤◌, Ok, length};
 ghost use Rattle.dv_defs.specs.Tiling.{begins_insn, tiling, tiles_in};
 ghost use Rattle.dv_ops.specs.Meaning.{code_of};
 
-use crate::items::{begins_as_insn, item_units};
+use crate::items::{begins_as_insn, item_units, units_of};
 use dv_ops::Coded;
 
 /// Whether an instruction begins at an address: the items before it are gone through. Takes no memory.
@@ -11,7 +11,7 @@ pub fn begins_insn_at(code: &Coded<'_>, at: u32) -> bool
     requires tiled { tiling code.now.body.now.units ≡ Ok (code_of code.now).tiles }
     ensures { result ≡ begins_insn (code_of code.now).tiles at }
 {
-    begins_insn_in(code.body.units.items(), at as usize)
+    begins_insn_in(units_of(code), at as usize)
 }
 
 fn begins_insn_in(units: &[u16], at: usize) -> bool
