@@ -2,3 +2,4 @@ pub mod Pieces
 pub mod Tiles
 pub mod Passing
 pub mod Standing
+pub mod Classes

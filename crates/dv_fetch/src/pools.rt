@@ -1,5 +1,5 @@
 // What the indices of instructions name. S12 where there is none of the index.
-ghost use Rattle.std.specs.Prelude.{◌≡◌, ℕ, None, Some, Ok, Err, MatchResult, slice_get};
+ghost use Rattle.std.specs.Prelude.{◌≡◌, ◌<◌, ℕ, length, None, Some, Ok, Err, MatchResult, slice_get};
 ghost use Rattle.dv_defs.specs.Op.{New, new_op, on_pool, resolved_field, resolved_method};
 ghost use Rattle.dv_ops.specs.Meaning.{field_of, method_of};
 
@@ -50,6 +50,15 @@ pub fn called_at<'a>(image: &'a Image, code: &Coded<'a>, place: usize) -> Result
     }
 }
 
+/// The class at a place. An image has no more than 1,057 classes.
+fn class_id(image: &Image, place: usize) -> ClassId
+    requires { place < length image.now.classes }
+    ensures { result.0 ≡ place }
+{
+    let _classes = &image.classes;
+    ClassId(place as u32)
+}
+
 /// The class that a type names: S16 where it is an array or names none.
 fn class_named_by(image: &Image, ty: &Ty) -> Result<ClassId, Rule>
     ensures { MatchResult result (λ c. (a : ℕ) → new_op image.now a ty.now ≡ Ok (New a c.0)) (λ rule. (a : ℕ) → new_op image.now a ty.now ≡ Err rule) }
@@ -58,7 +67,7 @@ fn class_named_by(image: &Image, ty: &Ty) -> Result<ClassId, Rule>
         return Err(Rule::S(16));
     }
     match class_of_base(image, &ty.base) {
-        Some(class) => Ok(ClassId(class as u32)),
+        Some(class) => Ok(class_id(image, class)),
         None => Err(Rule::S(16)),
     }
 }
