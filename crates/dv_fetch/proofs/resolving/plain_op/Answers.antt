@@ -1,7 +1,7 @@
 use Rattle.std.proofs.Common.{◌≡◌, ℤ, Ok, ap, sym, ◌∙◌, subst, rules, get_or}
 use Rattle.std.proofs.lemmas.Int.{to_z-of_z}
 use mir.Syntax.{w64}
-use mir.Val.{SFits, to_z, of_z}
+use mir.Val.{SFits}
 use Rattle.dv_defs.specs.Op.{Lit, int_op, resolve}
 use Rattle.dv_optable.specs.declared.family.Family.{Family}
 use Rattle.dv_ops.specs.Meaning.{meant}
