@@ -1,5 +1,5 @@
 // Methods judged one after another.
-ghost use Rattle.std.specs.Prelude.{◌≡◌, ◌≤◌, ◌+◌, ◌-◌, ◌++◌, ◌∷◌, [], length, IfOk, OnOk};
+ghost use Rattle.std.specs.Prelude.{◌≡◌, ◌≤◌, ◌<◌, ◌+◌, ◌^◌, ◌++◌, ◌∷◌, [], length, IfOk, IsSome, OnOk};
 ghost use Rattle.dv_defs.specs.Op.{code_at};
 ghost use Rattle.dv_pverify.specs.Judging.{AreJudged, Judges};
 
@@ -16,9 +16,27 @@ pub struct Judged {
     pub faults: Vec<Fault>,
 }
 
+/// Judges all methods of an image.
+pub fn judge_all(alloc: Global, image: &Image) -> Result<Judged, AllocError>
+    ensures judged { IfOk result (λ j. AreJudged image.now 0 j.maps.items j.faults.items) }
+    ensures count { IfOk result (λ j. length j.maps.items ≡ length image.now.methods) }
+{
+    judge_range(alloc, image, 0, count_of(image))
+}
+
+/// The number of an image's methods.
+fn count_of(image: &Image) -> u32
+    ensures { result ≡ length image.now.methods }
+{
+    let methods = image.methods.items();
+    methods.len() as u32
+}
+
 /// Judges so many methods from one on.
-pub fn judge_range(alloc: Global, image: &Image, from: u32, count: u32) -> Result<Judged, AllocError>
-    requires { from + count ≤ length image.now.methods }
+#[tactic(auto, using(crate::proofs::Judged::judged_one))]
+fn judge_range(alloc: Global, image: &Image, from: u32, count: u32) -> Result<Judged, AllocError>
+    requires range { from + count ≤ length image.now.methods }
+    requires fits { from + count < 2 ^ 32 }
     ensures judged { IfOk result (λ j. AreJudged image.now from j.maps.items j.faults.items) }
     ensures count { IfOk result (λ j. length j.maps.items ≡ count) }
 {
@@ -48,9 +66,21 @@ fn add(judged: &mut Judged, map: Map, faults: Vec<Fault>) -> Result<(), AllocErr
 fn judge(alloc: Global, image: &Image, method: MethodId) -> Result<(Map, Vec<Fault>), AllocError>
     ensures { IfOk result (λ r. Judges image.now (code_at image.now method.0) r.0 r.1.items) }
 {
-    if coded_at(image, method).is_none() {
-        return Ok((empty_map(alloc), Vec::new(alloc)));
+    match coded_at(image, method) {
+        Some(_) => judge_body(alloc, image, method),
+        None => Ok((empty_map(alloc), Vec::new(alloc))),
     }
+}
+
+/// The same of a method with a body.
+fn judge_body(
+    alloc: Global,
+    image: &Image,
+    method: MethodId,
+) -> Result<(Map, Vec<Fault>), AllocError>
+    requires { IsSome (code_at image.now method.0) }
+    ensures { IfOk result (λ r. Judges image.now (code_at image.now method.0) r.0 r.1.items) }
+{
     match infer(alloc, image, method) {
         Ok(map) => Ok((map, Vec::new(alloc))),
         Err(InferError::Faults(faults)) => Ok((empty_map(alloc), faults.into_vec())),

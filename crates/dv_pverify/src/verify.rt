@@ -1,10 +1,11 @@
 // All methods of an image.
-ghost use Rattle.std.specs.Prelude.{◌≡◌, ◌≢◌, [], IfOk};
+ghost use Rattle.std.specs.Prelude.{◌≡◌, ◌≢◌, [], IfOk, length};
 ghost use Rattle.dv_defs.specs.Accepting.{Accepts, AreImageFaults};
 ghost use Rattle.dv_pverify.specs.Errors.{IfFaults};
+ghost use Rattle.dv_pverify.specs.Judging.{AreJudged};
 
 use crate::errors::VerifyError;
-use crate::judge::{Judged, judge_range};
+use crate::judge::{Judged, judge_all};
 use dv_defs::{Image, Seq};
 use dv_rules::Verified;
 use std::alloc::Global;
@@ -22,9 +23,29 @@ pub fn verify_one_by_one(alloc: Global, image: Image) -> Result<Verified, Verify
     ensures some { IfFaults result (λ _ fs. fs ≢ []) }
     ensures refused { IfFaults result (λ _ _. Accepts image → ⊥) }
 {
-    let count = image.methods.len() as u32;
-    match judge_range(alloc, &image, 0, count) {
+    match judge_all(alloc, &image) {
         Ok(judged) => verdict(image, judged),
         Err(_) => Err(VerifyError::Memory),
+    }
+}
+
+/// Accepted where no method has a fault.
+#[tactic(auto, using(crate::proofs::Judged::all_faults, crate::proofs::Judged::is_refused))]
+fn verdict(image: Image, judged: Judged) -> Result<Verified, VerifyError>
+    requires judged { AreJudged image 0 judged.maps.items judged.faults.items }
+    requires count { length judged.maps.items ≡ length image.methods }
+    ensures same { IfOk result (λ v. v.image ≡ image) }
+    ensures accepted { IfOk result (λ _. Accepts image) }
+    ensures image { IfFaults result (λ i _. i ≡ image) }
+    ensures faults { IfFaults result (λ _ fs. AreImageFaults image fs) }
+    ensures some { IfFaults result (λ _ fs. fs ≢ []) }
+    ensures refused { IfFaults result (λ _ _. Accepts image → ⊥) }
+{
+    let maps = Seq::of(judged.maps);
+    let faults = Seq::of(judged.faults);
+    if faults.is_empty() {
+        Ok(Verified { image, maps })
+    } else {
+        Err(VerifyError::Faults { image, faults })
     }
 }
