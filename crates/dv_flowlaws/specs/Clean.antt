@@ -1,7 +1,6 @@
 -- What holds of a body that breaks no static rule.
 use Rattle.std.specs.Prelude.{◌≡◌, ◌≤◌, ℕ, ◌+◌, true, [], Some, Ok, All, IfSome, slice_get}
 use Rattle.dv_defs.specs.declared.code.Insn.{Insn}
-use Rattle.dv_defs.specs.declared.names.Ty.{Ty}
 use Rattle.dv_defs.specs.Images.{Image}
 use Rattle.dv_defs.specs.Types.{is_reference}
 use Rattle.dv_defs.specs.Tiling.{Tile, IsInsn, tiling, tile_at, begins_insn}

@@ -1,16 +1,16 @@
 -- The laws by which the least assignment is found, as statements.
-use Rattle.std.specs.Prelude.{◌≡◌, ◌<◌, ◌⊎◌, ℕ, true, [], List, Some, All}
+use Rattle.std.specs.Prelude.{◌≡◌, ◌<◌, ◌⊎◌, ℕ, [], List, Some, All}
 use Rattle.dv_defs.specs.declared.faults.Fault.{Fault}
 use Rattle.dv_defs.specs.declared.typing.RegState.{RegState}
 use Rattle.dv_defs.specs.Images.{Image}
 use Rattle.dv_defs.specs.Linked.{IsImage}
 use Rattle.dv_defs.specs.Names.{object_name}
 use Rattle.dv_defs.specs.Pools.{class_named}
-use Rattle.dv_defs.specs.Op.{Code, code_at, can_throw}
+use Rattle.dv_defs.specs.Op.{Code, code_at}
 use Rattle.dv_defs.specs.Statics.{At, fetch}
 use Rattle.dv_defs.specs.RegTypes.{IsBelow}
 use Rattle.dv_defs.specs.Transfer.{entry_state, out}
-use Rattle.dv_defs.specs.Flow.{Catcher, handlers_at, thrown_at, caught_state}
+use Rattle.dv_defs.specs.Flow.{handlers_at, caught_state}
 use Rattle.dv_defs.specs.Joins.{join_state}
 use Rattle.dv_defs.specs.Accepting.{AreFaults, AreImageFaults, static_places}
 use Rattle.dv_orders.specs.Hierarchy.{IsHierarchy}

@@ -3,8 +3,8 @@
 //! Each law is the contract of a function that does nothing.
 #![tactic(auto)]
 
-pub mod fits;
-pub mod ranks;
 pub mod clean;
 pub mod faults;
+pub mod fits;
 pub mod hierarchies;
+pub mod ranks;
