@@ -1,0 +1,5 @@
+mod Above
+mod Appended
+mod Cases
+mod Lefts
+mod Ranges
