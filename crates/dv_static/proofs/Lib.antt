@@ -3,3 +3,4 @@ mod Appended
 mod Cases
 mod Lefts
 mod Ranges
+mod Unresolved

@@ -62,8 +62,7 @@ pub fn fits_call(image: &Image, own: &Method<'_>, call: Call, method: &Method<'_
         Call::Virtual => is_virtual(image, method),
         Call::Super => is_virtual(image, method)
             && is_proper_super(image, own.info.class, method.info.class),
-        Call::Interface => !is_static
-            && has_interface_flag(image, method.info.class.0 as usize),
+        Call::Interface => !is_static && has_interface_flag(image, method.info.class.0 as usize),
     }
 }
 

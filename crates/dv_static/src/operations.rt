@@ -52,10 +52,19 @@ fn test_of<A: Addresses>(image: &Image, addresses: &A, at: u32, op: &Op<'_>) -> 
     ensures { (code : Code) → A.tiles addresses.now ≡ code.tiles → unless result.0 (rule.S result.1) ≡ op_rules image.now code (meant code at op.now) }
 {
     match op {
-        Op::Goto(to) | Op::IfBoth(_, _, _, to) | Op::IfZero(_, _, to) => (addresses.begins_insn(*to), 4),
+        Op::Goto(to) | Op::IfBoth(_, _, _, to) | Op::IfZero(_, _, to) => (
+            addresses.begins_insn(*to),
+            4,
+        ),
         Op::Switch(_, to) => (switch_leads(addresses, at, *to), 8),
-        Op::FieldGet(suffix, _, _, field) | Op::FieldPut(suffix, _, _, field) => (fits_instance_field(image, *suffix, field), 13),
-        Op::StaticGet(suffix, _, field) | Op::StaticPut(suffix, _, field) => (fits_static_field(*suffix, field), 13),
+        Op::FieldGet(suffix, _, _, field) | Op::FieldPut(suffix, _, _, field) => (
+            fits_instance_field(image, *suffix, field),
+            13,
+        ),
+        Op::StaticGet(suffix, _, field) | Op::StaticPut(suffix, _, field) => (
+            fits_static_field(*suffix, field),
+            13,
+        ),
         Op::New(_, class) => (is_instantiable(image, *class), 16),
         Op::NewArray(_, _, ty) => (ty.dims > 0, 16),
         Op::Filled(_, ty) => (is_filled_type(ty), 16),
