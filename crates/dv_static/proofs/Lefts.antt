@@ -1,6 +1,6 @@
 -- Words left beside the arguments of methods.
-use Rattle.std.proofs.Common.{◌≡◌, ◌≢◌, ◌⊎◌, inl, inr, ◌+◌, ◌-◌, ◌<◌, ◌≤◌, ℕ, zero, suc, Bool, true, false, List, [], ◌∷◌, length, drop, Option, Some, None, refl, sym, ap, ◌∙◌, arith, get_or, add-one, drop-cons}
-use Rattle.std.specs.Prelude.{nat_eq, nat_le}
+use Rattle.std.proofs.Common.{◌≡◌, ◌⊎◌, inl, inr, ◌+◌, ◌-◌, ◌<◌, ◌≤◌, ℕ, suc, Bool, true, false, List, [], ◌∷◌, length, drop, Option, Some, None, refl, sym, ap, ◌∙◌, arith, get_or, add-one, drop-cons}
+use Rattle.std.specs.Prelude.{nat_le}
 use Rattle.std.proofs.lemmas.Bool.{cases_lt}
 use Rattle.std.proofs.lemmas.List.{drop_all}
 use Rattle.dv_defs.specs.declared.names.Ty.{Ty}
@@ -50,11 +50,3 @@ types_short left ts i t within at less =
 pub types_end : (left : ℕ) (ts : List Ty) (i : ℕ) → length ts ≤ i → left_beside left (words_of_all (drop i ts)) ≡ Some left
 types_end left ts i past =
     ap (λ us. left_beside left (words_of_all us)) (drop_all i ts past) ∙ (fitted left 0 (omega arith) ∙ ap Some (omega arith))
-
--- ---- none left over
-
-same : (room words : ℕ) → room ≡ words → nat_eq room words ≡ true
-same room words e = grind arith
-
-other : (room words : ℕ) → room ≢ words → nat_eq room words ≡ false
-other room words e = grind arith

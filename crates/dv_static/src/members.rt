@@ -18,7 +18,7 @@ const INIT: &[u8] = b"<init>";
 const CLINIT: &[u8] = b"<clinit>";
 
 /// Whether a type is one that a suffix is for.
-pub fn is_of_suffix(suffix: Suffix, ty: &Ty) -> bool
+fn is_of_suffix(suffix: Suffix, ty: &Ty) -> bool
     ensures { result ≡ is_suffixed (standard_suffix suffix) ty.now }
 {
     match suffix {
