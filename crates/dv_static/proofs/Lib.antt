@@ -1,0 +1,2 @@
+pub mod ItemsHere
+pub mod TilesSoFar

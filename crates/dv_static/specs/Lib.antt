@@ -1,2 +1,1 @@
 pub mod Tiles
-pub mod Placed

@@ -1,16 +1,6 @@
 //! The static rules of a method's body, S1 to S18 (the product's own names; AOSP, "Dalvik bytecode constraints").
 #![tactic(auto)]
 
-mod branches;
-mod faults;
-mod insns;
-mod members;
-mod operations;
-mod payloads;
-mod places;
-mod registers;
-mod starts;
 mod tiles;
-mod tries;
 
-pub use faults::static_faults;
+pub use tiles::{Tiled, tiles_of};
