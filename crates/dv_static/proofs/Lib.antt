@@ -1,2 +1,5 @@
 pub mod ItemsHere
 pub mod TilesSoFar
+pub mod PlaceOrder
+pub mod Rising
+pub mod OrderedPlaces
