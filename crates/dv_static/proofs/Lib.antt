@@ -3,3 +3,4 @@ pub mod TilesSoFar
 pub mod PlaceOrder
 pub mod Rising
 pub mod OrderedPlaces
+pub mod StartLemmas

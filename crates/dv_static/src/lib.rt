@@ -2,7 +2,9 @@
 #![tactic(auto)]
 
 mod places;
+mod starts;
 mod tiles;
 
 pub use places::{Place, in_order};
-pub use tiles::{Tiled, tiles_of};
+pub use starts::Starts;
+pub use tiles::{Item, Tile, Tiled, tiles_of};
