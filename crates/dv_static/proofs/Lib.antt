@@ -4,3 +4,5 @@ pub mod PlaceOrder
 pub mod Rising
 pub mod OrderedPlaces
 pub mod StartLemmas
+pub mod RisingKeys
+pub mod TryLemmas

@@ -1,3 +1,4 @@
 pub mod Tiles
 pub mod Placed
 pub mod Starting
+pub mod Trying

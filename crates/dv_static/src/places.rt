@@ -1,6 +1,6 @@
 // Broken rules with their addresses, in order.
-ghost use Rattle.std.specs.Prelude.{◌≡◌, IfOk};
-ghost use Rattle.dv_defs.specs.Accepting.{sorted};
+ghost use Rattle.std.specs.Prelude.{◌≡◌, ◌++◌, IfOk, OnOk};
+ghost use Rattle.dv_defs.specs.Accepting.{place_unless, sorted};
 ghost use Rattle.dv_static.specs.Placed.{order_of, places_of};
 
 use dv_defs::Rule;
@@ -37,6 +37,21 @@ fn order_of(place: Place) -> Order
             number,
         },
     }
+}
+
+/// Adds a place, unless all is well there.
+pub fn add_unless(
+    places: &mut Vec<Place>,
+    good: bool,
+    at: u32,
+    rule: Rule,
+) -> Result<(), AllocError>
+    ensures { OnOk result (places_of places.new.items ≡ places_of places.old.items ++ place_unless good at rule) }
+{
+    if !good {
+        places.push(Place { at, rule })?;
+    }
+    Ok(())
 }
 
 /// By address, then by rule, each once.
