@@ -5,4 +5,3 @@ pub mod Rising
 pub mod OrderedPlaces
 pub mod StartLemmas
 pub mod RisingKeys
-pub mod TryLemmas

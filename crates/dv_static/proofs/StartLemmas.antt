@@ -84,29 +84,6 @@ tile_missing ts at e = sym (missing 0 ts at (sym e))
 pub record AreStartsFrom (k : ℕ) (ts : List Tile) (places : List (Option ℕ)) : Type 0 where
   pub starts : (at : ℕ) → get_or places at None ≡ place_from k (drop k ts) at
 
-no_places : (n at : ℕ) → get_or (replicate n None) at None ≡ (let r : Option ℕ = None in r)
-no_places zero at = refl
-no_places (suc n) zero = refl
-no_places (suc n) (suc at) = no_places n at
-
-none_left : (ts : List Tile) → drop (length ts) ts ≡ []
-none_left [] = refl
-none_left (t ∷ ts) = none_left ts
-
-pub at_start : (ts : List Tile) (n : ℕ) → AreStartsFrom (length ts) ts (replicate n None)
-at_start ts n = record { starts = λ at. no_places n at ∙ ap (λ us. place_from (length ts) us at) (sym (none_left ts)) }
-
-one_by : (b : Bool) (k : ℕ) (t : Tile) (ts : List Tile) (places : List (Option ℕ)) (at : ℕ) → nat_eq t.at at ≡ b → t.at < length places → get_or places at None ≡ place_from (suc k) ts at → get_or (set places t.at (Some k)) at None ≡ place_if b k ts at
-one_by true k t ts places at test h e =
-    let same = eqb-true t.at at test in
-    ap (λ i. get_or (set places t.at (Some k)) i None) (sym same) ∙ get_or-set_same places t.at (Some k) None h
-one_by false k t ts places at test h e = get_or-set_other places t.at at (Some k) None (λ q. eqb-false t.at at test (sym q)) ∙ e
-
-pub one_more : (k : ℕ) (ts : List Tile) (t : Tile) (places : List (Option ℕ)) → AreStartsFrom (suc k) ts places → k < length ts → t ≡ get_or ts k t → t.at < length places → AreStartsFrom k ts (set places t.at (Some k))
-one_more k ts t places s h read within =
-    let here : drop k ts ≡ t ∷ drop (suc k) ts = drop-cons ts k t h ∙ ap (λ x. x ∷ drop (suc k) ts) (sym read) in
-    record { starts = λ at. one_by (nat_eq t.at at) k t (drop (suc k) ts) places at refl within (s.starts at) ∙ ap (λ us. place_from k us at) (sym here) }
-
 -- ---- the items of a whole tiling begin below its end
 
 abbrev AllBelow : ℕ → Result (List tiling.Tile) ℕ → Type 0

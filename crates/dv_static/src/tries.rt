@@ -49,10 +49,11 @@ fn is_good_handler(
     requires throwable { throwable.now ≡ of_class throwable_name }
     ensures { result ≡ handler_good image.now (code_of code.now) is_last handler.now }
 {
+    let body = code.body;
     starts.begins_insn(handler.at)
         && match handler.kind {
             None => is_last,
-            Some(place) => is_handler_type(image, throwable, code.body.types.items(), place),
+            Some(place) => is_handler_type(image, throwable, body.types.items(), place),
         }
 }
 
@@ -82,9 +83,10 @@ fn is_good_range(code: &Coded<'_>, starts: &Starts<'_>, before: u32, entry: &Try
     requires { (code_of code.now).tiles ≡ map tile_of starts.now }
     ensures { result ≡ range_good (code_of code.now) before entry.now }
 {
+    let body = code.body;
     starts.begins_insn(entry.start)
         && entry.start < entry.end
-        && (starts.begins_item(entry.end) || entry.end as usize == code.body.units.len())
+        && (starts.begins_item(entry.end) || entry.end as usize == body.units.len())
         && before <= entry.start
 }
 
@@ -122,7 +124,8 @@ pub fn add_try_places(
     ensures { OnOk result (places_of places.new.items ≡ places_of places.old.items ++ try_places image.now (code_of code.now) 0 code.now.body.now.tries) }
 {
     let throwable = throwable_type(alloc)?;
-    let tries = code.body.tries.items();
+    let body = code.body;
+    let tries = body.tries.items();
     let mut before = 0;
     for i in 0..tries.len() {
         let entry = &tries[i];
