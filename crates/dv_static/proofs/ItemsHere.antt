@@ -1,7 +1,7 @@
 -- What stands at an address of units.
-use Rattle.std.proofs.Common.{◌≡◌, ℕ, ◌+◌, ◌-◌, ◌<◌, ◌≤◌, ◌/◌, zero, suc, Bool, true, false, List, [], ◌∷◌, ◌++◌, length, drop, get_or, Option, Some, None, Result, Ok, Err, IsSomeAnd, refl, ap, sym, ◌∙◌, subst, arith, length-drop, append-nil, append_assoc, add-zero}
-use Rattle.std.specs.Prelude.{map, option_map, IfSome, IfOk}
-use Rattle.std.proofs.lemmas.List.{drop-drop, get_or-drop, length-take-le}
+use Rattle.std.proofs.Common.{◌≡◌, ℕ, ◌+◌, ◌<◌, ◌≤◌, ◌/◌, Bool, true, false, List, [], ◌∷◌, length, drop, get_or, Option, Some, None, Result, Ok, Err, IsSomeAnd, refl, ap, sym, ◌∙◌, subst, arith, length-drop, add-zero}
+use Rattle.std.specs.Prelude.{option_map, IfSome, IfOk}
+use Rattle.std.proofs.lemmas.List.{get_or-drop, length-take-le}
 use Rattle.dv_defs.specs.declared.code.Payload.{Payload}
 use Rattle.dv_defs.specs.Spelling.{all_fit}
 use Rattle.dv_defs.specs.Decoding.{Sized, insn_here}
@@ -100,4 +100,3 @@ item_fits r units at t h e =
 pub payload_fits : {E : Type 0} (r : Result (Option (Item × ℕ)) E) (units : List ℕ) (at : ℕ) → all_fit 16 units ≡ true → at < length units → begins_payload (get_or units at 0) ≡ true → IfOk r (λ x. x ≡ option_map payload_sized (payload_here (drop at units))) → IfOk r (λ x. IfSome x (λ y. (0 < y.1) × (at + y.1 ≤ length units)))
 payload_fits (Ok x) units at t h b e = item_fits x units at t h (e ∙ sym (payload_begins units at h b))
 payload_fits (Err x) units at t h b e = tt
-

@@ -1,12 +1,12 @@
 -- A vector of places that is sorted by a stable sort and rid of neighbours that are the same is `sorted`.
-use Rattle.std.proofs.Common.{◌≡◌, ◌⊎◌, inl, inr, ℕ, zero, suc, ◌+◌, ◌<◌, ◌≤◌, Bool, true, false, ◌&&◌, ◌||◌, cond, List, [], ◌∷◌, length, get_or, refl, sym, ap, ◌∙◌, subst, arith}
-use Rattle.std.specs.Prelude.{map, nat_eq, nat_lt, All, Contains}
+use Rattle.std.proofs.Common.{◌≡◌, inl, inr, ℕ, zero, suc, ◌+◌, ◌<◌, Bool, true, false, ◌&&◌, cond, List, [], ◌∷◌, length, get_or, refl, sym, ap, ◌∙◌, arith}
+use Rattle.std.specs.Prelude.{nat_eq, Contains}
 use Rattle.std.specs.List.{dedup, dedup_from}
 use Rattle.std.specs.List.Sorted.{IsPermutation, IsSortedBy}
 use Rattle.std.specs.Ordering.{is_lt, nat_cmp, bool_cmp, ordering_then}
 use Rattle.std.proofs.lemmas.List.Sorted.{Contains-permutation, IsPermutation-sym}
 use Rattle.std.proofs.lemmas.Bool.Decides.{nat_tests}
-use borrow.Author.Tests.{eqb-true, eq-eqb}
+use borrow.Author.Tests.{eqb-true}
 use Rattle.dv_defs.specs.declared.faults.Rule.{Rule}
 use Rattle.dv_defs.specs.declared.faults.Rule.TheVariants as rule
 use Rattle.dv_defs.specs.Accepting as accepting
@@ -15,21 +15,15 @@ use Rattle.dv_static.specs.declared.places.Place.{Place}
 use Rattle.dv_static.specs.declared.places.Order.{Order}
 use Rattle.dv_static.specs.contracts.places.PlacePartialEq.TheImpl as of_place
 use Rattle.dv_static.specs.Placed.{place_of, places_of, order_of}
-use Rattle.dv_static.proofs.PlaceOrder.{asym, trans, total}
+use Rattle.dv_static.proofs.PlaceOrder.{trans, total}
 use Rattle.dv_static.proofs.Rising.{In, Leads, Rises, unique, rises_sorted, from_sorted, to_sorted}
 
 -- what the sort compares by
 abbrev pub is_less : Order → Order → Bool
-is_less x y = is_lt (ordering_then (nat_cmp x.at y.at) (ordering_then (bool_cmp x.typing y.typing) (nat_cmp x.number y.number)))
+is_less x y = is_lt (ordering_then (nat_cmp x.address y.address) (ordering_then (bool_cmp x.typing y.typing) (nat_cmp x.number y.number)))
 
 abbrev pub less : Place → Place → Bool
 less x y = is_less (order_of x) (order_of y)
-
-abbrev at_then : ℕ → ℕ → Bool → Bool
-at_then a b r = nat_lt a b || (nat_eq a b && r)
-
-less_number : (m n : ℕ) → is_lt (nat_cmp m n) ≡ nat_lt m n
-less_number m n = grind (arith, nat_tests)
 
 same_less : (a b : ℕ) (r s : Rule) → is_less (order_of (record { at = a; rule = r })) (order_of (record { at = b; rule = s })) ≡ is_before (record { at = a; broken = r }) (record { at = b; broken = s })
 same_less a b (rule.S m) (rule.S n) = grind (arith, nat_tests)

@@ -1,5 +1,5 @@
 -- A list of places that rises is told by its members, and `sorted` rises.
-use Rattle.std.proofs.Common.{◌≡◌, ◌⊎◌, inl, inr, Bool, true, false, List, [], ◌∷◌, refl, sym, ap, ◌∙◌, subst}
+use Rattle.std.proofs.Common.{◌≡◌, ◌⊎◌, inl, inr, Bool, true, false, List, [], ◌∷◌, refl, sym, ap, ◌∙◌}
 use Rattle.dv_defs.specs.Accepting.{Place, is_before, inserted, sorted}
 use Rattle.dv_static.proofs.PlaceOrder.{asym, trans, total}
 
@@ -44,8 +44,8 @@ unique (p ∷ ps) [] l m f g = absurd (f p (inl refl))
 unique (p ∷ ps) (q ∷ qs) l m f g =
     let first = first_by p q ps qs l.0 m.0 (f p (inl refl)) (g q (inl refl)) in
     let rest = unique ps qs l.1 m.1
-        (λ r i. rest_by p q r ps qs first l.0 i (f r (inr i)))
-        (λ r i. rest_by q p r qs ps (sym first) m.0 i (g r (inr i))) in
+    (λ r i. rest_by p q r ps qs first l.0 i (f r (inr i)))
+    (λ r i. rest_by q p r qs ps (sym first) m.0 i (g r (inr i))) in
     cc
 
 -- ---- `sorted` rises and has the same members

@@ -1,9 +1,7 @@
 -- The place of an item by its address, and the item there.
-use Rattle.std.proofs.Common.{◌≡◌, ℕ, zero, suc, ◌+◌, ◌-◌, ◌<◌, ◌≤◌, Bool, true, false, List, [], ◌∷◌, length, drop, set, replicate, get_or, Option, Some, None, Result, Ok, Err, refl, sym, ap, ◌∙◌, subst, arith, rules}
-use Rattle.std.specs.Prelude.{map, option_map, nat_eq, All, IfSome}
-use Rattle.std.proofs.lemmas.List.{get_or_read, get_or_past, get_or-set_same, get_or-set_other}
-use Rattle.std.proofs.Math.Seq.{drop-cons}
-use borrow.Author.Tests.{eqb-true, eqb-false}
+use Rattle.std.proofs.Common.{◌≡◌, ℕ, zero, suc, ◌+◌, ◌-◌, ◌<◌, ◌≤◌, Bool, true, false, List, [], ◌∷◌, length, drop, get_or, Option, Some, None, Result, Ok, Err, refl, sym, ap, ◌∙◌, subst, arith}
+use Rattle.std.specs.Prelude.{map, nat_eq, All, IfSome}
+use Rattle.std.proofs.lemmas.List.{get_or_read, get_or_past}
 use Rattle.dv_defs.specs.Tiling as tiling
 use Rattle.dv_defs.specs.Tiling.{tile_at, tiled, with_tile, piece_here}
 use Rattle.dv_static.specs.declared.tiles.Tile.{Tile}

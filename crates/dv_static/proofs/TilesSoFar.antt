@@ -75,7 +75,7 @@ more units done at p t s e h k same =
     record {
       within = k;
       rest = ap (λ ts. with_done ts (tiled (at + p.size) 0 (drop (at + p.size) units))) all ∙
-             (one_done (map tile_of done) (tile at p) (tiled (at + p.size) 0 (drop (at + p.size) units)) ∙ (ap (with_done (map tile_of done)) (sym step) ∙ s.rest));
+          (one_done (map tile_of done) (tile at p) (tiled (at + p.size) 0 (drop (at + p.size) units)) ∙ (ap (with_done (map tile_of done)) (sym step) ∙ s.rest));
     }
 
 more_by : (o : Option tiling.Piece) (units : List ℕ) (done : List Tile) (at : ℕ) (i : Item) (size : ℕ) → AreSoFar units done at → piece_here (drop at units) ≡ o → (let r : Option (Item × ℕ) = Some (i, size) in r) ≡ option_map item_sized o → 0 < size → at + size ≤ length units → AreSoFar units (done ++ record { at = at; size = size; item = i } ∷ []) (at + size)

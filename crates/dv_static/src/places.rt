@@ -15,8 +15,8 @@ pub struct Place {
 
 /// What places are ordered by: the address, then whether the rule is one of typing, then its number.
 #[derive(Clone, Copy, PartialEq, Eq, PartialOrd, Ord)]
-pub struct Order {
-    at: u32,
+struct Order {
+    address: u32,
     typing: bool,
     number: u8,
 }
@@ -27,12 +27,12 @@ fn order_of(place: Place) -> Order
     let Place { at, rule } = place;
     match rule {
         Rule::S(number) => Order {
-            at,
+            address: at,
             typing: false,
             number,
         },
         Rule::V(number) => Order {
-            at,
+            address: at,
             typing: true,
             number,
         },

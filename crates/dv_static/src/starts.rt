@@ -30,11 +30,7 @@ impl<'a> Model for Starts<'a> {
 }
 
 /// For each address the place of the first item that begins there.
-fn starts_of(
-    alloc: Global,
-    tiles: &[Tile],
-    units: usize,
-) -> Result<Vec<Option<usize>>, AllocError>
+fn starts_of(alloc: Global, tiles: &[Tile], units: usize) -> Result<Vec<Option<usize>>, AllocError>
     requires { All (λ t. t.at < units) tiles.now }
     ensures { IfOk result (λ places. AreStarts tiles.now places.items) }
 {
@@ -47,11 +43,7 @@ fn starts_of(
 
 impl<'a> Starts<'a> {
     /// The items of so many units by their addresses.
-    pub fn new(
-        alloc: Global,
-        tiles: &'a [Tile],
-        units: usize,
-    ) -> Result<Starts<'a>, AllocError>
+    pub fn new(alloc: Global, tiles: &'a [Tile], units: usize) -> Result<Starts<'a>, AllocError>
         requires { All (λ t. t.at < units) tiles.now }
         ensures { IfOk result (λ starts. starts ≡ tiles.now) }
     {

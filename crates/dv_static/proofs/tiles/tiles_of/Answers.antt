@@ -1,4 +1,4 @@
-use Rattle.std.proofs.Common.{◌≡◌, ℕ, ◌+◌, ◌<◌, ◌≤◌, List, length, drop, Option, sym, ◌∙◌, subst}
+use Rattle.std.proofs.Common.{◌≡◌, ℕ, ◌+◌, ◌<◌, ◌≤◌, List, length, drop, Option, sym, subst}
 use Rattle.std.specs.Prelude.{option_map, IfSome}
 use Rattle.dv_defs.specs.Tiling.{piece_here}
 use Rattle.dv_static.specs.declared.tiles.Item.{Item}

@@ -1,4 +1,4 @@
-use Rattle.std.proofs.Common.{◌≡◌, ℕ, List, length, Option, sym, subst, ◌∙◌, arith}
+use Rattle.std.proofs.Common.{List, length, subst, arith}
 use Rattle.std.specs.Prelude.{IfSome, ◌<◌}
 use Rattle.dv_static.specs.declared.tiles.Tile.{Tile}
 use Rattle.dv_static.proofs.StartLemmas.{place_read, place_within}

@@ -1,6 +1,5 @@
-use Rattle.std.proofs.Common.{◌≡◌, ◌<◌, ℕ, List, length, map, Option, Some, None, sym, subst, ap, ◌∙◌, arith}
+use Rattle.std.proofs.Common.{◌≡◌, map, Some, sym, ap, ◌∙◌}
 use Rattle.dv_defs.specs.Tiling.{tile_at}
-use Rattle.dv_static.specs.declared.tiles.Tile.{Tile}
 use Rattle.dv_static.specs.Tiles.{tile_of}
 use Rattle.dv_static.specs.Starting.{place_from}
 use Rattle.dv_static.proofs.StartLemmas.{tile_found, tile_missing}
