@@ -4,3 +4,10 @@ mod Cases
 mod Lefts
 mod Ranges
 mod Unresolved
+pub mod ItemsHere
+pub mod TilesSoFar
+pub mod PlaceOrder
+pub mod Rising
+pub mod OrderedPlaces
+pub mod StartLemmas
+pub mod RisingKeys
