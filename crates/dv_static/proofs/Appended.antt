@@ -1,19 +1,11 @@
 -- Places added one after another.
-use Rattle.std.proofs.Common.{◌≡◌, ℕ, Bool, true, false, List, [], ◌∷◌, ◌++◌, refl, sym, ap, ◌∙◌, append_assoc}
-use Rattle.std.proofs.lemmas.List.{map-append, append-nil}
+use Rattle.std.proofs.Common.{◌≡◌, ℕ, List, ◌++◌, sym, ap, ◌∙◌, append_assoc}
+use Rattle.std.proofs.lemmas.List.{map-append}
 use Rattle.dv_defs.specs.declared.faults.Rule.{Rule}
 use Rattle.dv_defs.specs.Accepting as accepting
-use Rattle.dv_defs.specs.Accepting.{place_unless, places}
-use Rattle.dv_static.specs.declared.places.Place.{Place}
-use Rattle.dv_static.specs.Placed.{place_of, places_of}
+use Rattle.dv_defs.specs.Accepting.{places}
 
-pub one_more : (ps : List Place) (at : ℕ) (r : Rule) → places_of (ps ++ record { at = at; rule = r } ∷ []) ≡ places_of ps ++ place_unless false at r
-one_more ps at r = map-append place_of ps (record { at = at; rule = r } ∷ [])
-
-pub no_more : (ps : List Place) (at : ℕ) (r : Rule) → places_of ps ≡ places_of ps ++ place_unless true at r
-no_more ps at r = sym (append-nil (places_of ps))
-
-pub two_parts : (at : ℕ) (xs ys : List Rule) → places at (xs ++ ys) ≡ places at xs ++ places at ys
+two_parts : (at : ℕ) (xs ys : List Rule) → places at (xs ++ ys) ≡ places at xs ++ places at ys
 two_parts at xs ys = map-append (λ r. record { at = at; broken = r }) xs ys
 
 -- after others

@@ -1,5 +1,5 @@
 // Where branches and switches lead to: S5, S6 and S8.
-ghost use Rattle.std.specs.Prelude.{◌≡◌, ◌<◌, ◌||◌, not, Some, nat_eq, option_map, take};
+ghost use Rattle.std.specs.Prelude.{◌≡◌, ◌<◌, ◌||◌, not, Some, map, nat_eq, option_map, take};
 ghost use Rattle.dv_defs.specs.Families.{family_at};
 ghost use Rattle.dv_defs.specs.Numbers.{jump as jump_of};
 ghost use Rattle.dv_defs.specs.Statics.{is_branch as is_branch_of, moves_on as is_moving, is_zero_offset};
@@ -7,9 +7,10 @@ ghost use Rattle.dv_defs.specs.Tiling.{payload_at};
 ghost use Rattle.dv_ops.specs.Meaning.{has_payload_of};
 ghost use Rattle.dv_units.specs.Tables.{standard_family};
 ghost use Rattle.dv_static.specs.Jumps.{cases_lead, offsets_lead, payload_stands};
+ghost use Rattle.dv_static.specs.Tiles.{tile_of};
 
-use crate::addresses::Addresses;
 use crate::families::family_of;
+use crate::starts::Starts;
 use dv_defs::{Insn, Payload};
 use dv_optable::Family;
 
@@ -71,11 +72,11 @@ fn jump(at: u32, off: i32) -> u32
 }
 
 /// Whether a payload of its kind stands at an instruction's target, where it needs one.
-pub fn has_payload<A: Addresses>(addresses: &A, at: u32, insn: &Insn) -> bool
+pub fn has_payload(starts: &Starts<'_>, at: u32, insn: &Insn) -> bool
     requires { at < 16384 }
-    ensures { result ≡ payload_stands (A.tiles addresses.now) at insn.now }
+    ensures { result ≡ payload_stands (map tile_of starts.now) at insn.now }
 {
-    let payload = addresses.payload_at(target(at, insn));
+    let payload = starts.payload_at(target(at, insn));
     is_of_family(family_of(insn.op), payload)
 }
 
@@ -91,51 +92,46 @@ fn is_of_family(family: Option<Family>, payload: Option<&Payload>) -> bool
 }
 
 /// Whether each target of the switch at an address, by its payload, leads to an instruction.
-pub fn switch_leads<A: Addresses>(addresses: &A, at: u32, payload: u32) -> bool
+pub fn switch_leads(starts: &Starts<'_>, at: u32, payload: u32) -> bool
     requires { at < 16384 }
-    ensures { result ≡ cases_lead (A.tiles addresses.now) at (payload_at (A.tiles addresses.now) payload) }
+    ensures { result ≡ cases_lead (map tile_of starts.now) at (payload_at (map tile_of starts.now) payload) }
 {
-    match addresses.payload_at(payload) {
-        Some(payload) => payload_leads(addresses, at, payload),
+    match starts.payload_at(payload) {
+        Some(payload) => payload_leads(starts, at, payload),
         None => true,
     }
 }
 
 #[tactic(auto, using(crate::proofs::Cases::packed_cases, crate::proofs::Cases::sparse_cases))]
-fn payload_leads<A: Addresses>(addresses: &A, at: u32, payload: &Payload) -> bool
+fn payload_leads(starts: &Starts<'_>, at: u32, payload: &Payload) -> bool
     requires { at < 16384 }
-    ensures { result ≡ cases_lead (A.tiles addresses.now) at (Some payload.now) }
+    ensures { result ≡ cases_lead (map tile_of starts.now) at (Some payload.now) }
 {
     match payload {
-        Payload::Packed { targets, .. } => all_begin(addresses, at, targets.items()),
-        Payload::Sparse { keys, targets } => first_begin(
-            addresses,
-            at,
-            targets.items(),
-            keys.len(),
-        ),
+        Payload::Packed { targets, .. } => all_begin(starts, at, targets.items()),
+        Payload::Sparse { keys, targets } => first_begin(starts, at, targets.items(), keys.len()),
         Payload::Data { .. } => true,
     }
 }
 
 /// Whether the first of some targets, so many of them, lead to instructions.
-fn first_begin<A: Addresses>(addresses: &A, at: u32, targets: &[i32], count: usize) -> bool
+fn first_begin(starts: &Starts<'_>, at: u32, targets: &[i32], count: usize) -> bool
     requires { at < 16384 }
-    ensures { result ≡ offsets_lead (A.tiles addresses.now) at (take count targets.now) }
+    ensures { result ≡ offsets_lead (map tile_of starts.now) at (take count targets.now) }
 {
     if count < targets.len() {
-        all_begin(addresses, at, &targets[..count])
+        all_begin(starts, at, &targets[..count])
     } else {
-        all_begin(addresses, at, targets)
+        all_begin(starts, at, targets)
     }
 }
 
-fn all_begin<A: Addresses>(addresses: &A, at: u32, targets: &[i32]) -> bool
+fn all_begin(starts: &Starts<'_>, at: u32, targets: &[i32]) -> bool
     requires { at < 16384 }
-    ensures { result ≡ offsets_lead (A.tiles addresses.now) at targets.now }
+    ensures { result ≡ offsets_lead (map tile_of starts.now) at targets.now }
 {
     for target in targets {
-        if !addresses.begins_insn(jump(at, *target)) {
+        if !starts.begins_insn(jump(at, *target)) {
             return false;
         }
     }

@@ -1,8 +1,6 @@
 //! The static rules of a method's body, S1 to S18 (the product's own names; AOSP, "Dalvik bytecode constraints").
 #![tactic(auto)]
 
-mod addresses;
-mod appending;
 mod branches;
 mod families;
 mod faults;
