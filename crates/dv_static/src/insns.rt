@@ -12,8 +12,8 @@ use crate::operations::add_op_places;
 use crate::places::{Place, add_unless};
 use crate::registers::registers_below;
 use crate::starts::Starts;
-use dv_fetch::resolve;
 use dv_defs::{Image, Insn, Rule};
+use dv_fetch::resolve;
 use dv_ops::{Coded, Op};
 use std::alloc::AllocError;
 
