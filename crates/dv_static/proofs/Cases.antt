@@ -1,5 +1,5 @@
 -- The cases of switches and the targets of their payloads.
-use Rattle.std.proofs.Common.{◌≡◌, ℕ, zero, suc, Bool, true, false, ◌&&◌, List, [], ◌∷◌, length, take, refl, ap}
+use Rattle.std.proofs.Common.{◌≡◌, ℕ, ◌&&◌, List, [], ◌∷◌, length, take, refl, ap}
 use Rattle.std.specs.Prelude.{ℤ, pos, ◌+ℤ◌, Some}
 use Rattle.dv_defs.specs.declared.code.Payload.TheVariants as payload
 use Rattle.dv_defs.specs.Numbers.{jump}

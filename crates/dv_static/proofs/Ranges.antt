@@ -1,5 +1,5 @@
 -- Registers that follow one another.
-use Rattle.std.proofs.Common.{◌≡◌, ℕ, zero, suc, ◌+◌, ◌<◌, ◌≤◌, Bool, true, false, ◌&&◌, List, refl, sym, ap, ◌∙◌, arith}
+use Rattle.std.proofs.Common.{◌≡◌, ℕ, zero, suc, ◌+◌, ◌<◌, ◌≤◌, Bool, true, false, ◌&&◌, refl, ap, arith}
 use Rattle.std.specs.Prelude.{nat_lt, length}
 use Rattle.dv_defs.specs.Op.{count_up}
 use Rattle.dv_static.specs.Registers.{all_below}

@@ -1,5 +1,5 @@
 -- Where the payload that an instruction needs doesn't stand at its target, there is no operation.
-use Rattle.std.proofs.Common.{◌≡◌, ℕ, true, false, Option, Some, None, refl}
+use Rattle.std.proofs.Common.{◌≡◌, ℕ, false, Option, Some, refl}
 use Rattle.std.specs.Prelude.{Err}
 use Rattle.dv_defs.specs.declared.code.Insn.{Insn}
 use Rattle.dv_defs.specs.declared.code.Payload.{Payload}
