@@ -55,7 +55,8 @@ pub fn is_interface(image: &Image, name: &Text) -> bool
     }
 }
 
-fn has_interface_flag(image: &Image, class: usize) -> bool
+/// Whether a class is an interface.
+pub fn has_interface_flag(image: &Image, class: usize) -> bool
     ensures { result ≡ is_interface_at image.now class }
 {
     match image.classes.items().get(class) {

@@ -9,7 +9,7 @@ mod instances;
 mod subtypes;
 
 pub use calls::{lookup_interface, lookup_virtual};
-pub use classes::class_of;
+pub use classes::{class_of, has_interface_flag, parent_of};
 pub use common::{class_of_base, common_super};
 pub use fields::field_of;
 pub use subtypes::{assignable, instance, sub};

@@ -1,6 +1,8 @@
 -- The items of a body as the code has them.
-use Rattle.std.specs.Prelude.{ℕ, List, map, Option, Some, None, Result, Ok, Err}
+use Rattle.std.specs.Prelude.{ℕ, List, map, Result, Ok, Err}
+use Rattle.dv_defs.specs.Decoding.{Sized}
 use Rattle.dv_defs.specs.Tiling as tiling
+use Rattle.dv_defs.specs.Tiling.{SizedPayload}
 use Rattle.dv_static.specs.declared.tiles.Item.{Item}
 use Rattle.dv_static.specs.declared.tiles.Item.TheVariants as item
 use Rattle.dv_static.specs.declared.tiles.Tile.{Tile}
@@ -18,3 +20,17 @@ tile_of t = record { at = t.at; size = t.size; item = item_of t.item }
 abbrev pub tiled_of : Tiled → Result (List tiling.Tile) ℕ
 tiled_of (tiled.Whole ts) = Ok (map tile_of ts)
 tiled_of (tiled.Broken at) = Err at
+
+-- an item as the code has it, with the number of its units
+abbrev pub code_item : tiling.Item → Item
+code_item (tiling.IsInsn i) = item.Insn i
+code_item (tiling.IsPayload p) = item.Payload p
+
+abbrev pub item_sized : tiling.Piece → Item × ℕ
+item_sized p = (code_item p.item, p.size)
+
+abbrev pub insn_sized : Sized → Item × ℕ
+insn_sized x = (item.Insn x.insn, x.size)
+
+abbrev pub payload_sized : SizedPayload → Item × ℕ
+payload_sized x = (item.Payload x.payload, x.size)

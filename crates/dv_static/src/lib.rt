@@ -2,6 +2,7 @@
 #![tactic(auto)]
 
 mod branches;
+mod families;
 mod faults;
 mod insns;
 mod members;

@@ -1,0 +1,82 @@
+// The static rules of an instruction.
+ghost use Rattle.std.specs.Prelude.{◌≡◌, ◌<◌, ◌++◌, OnOk, map};
+ghost use Rattle.dv_defs.specs.Accepting.{places as places_at};
+ghost use Rattle.dv_defs.specs.Op.{op_of};
+ghost use Rattle.dv_defs.specs.Statics.{insn_rules, resolved_rules};
+ghost use Rattle.dv_ops.specs.Meaning.{code_of, meant_or_rule};
+ghost use Rattle.dv_static.specs.Placed.{places_of};
+ghost use Rattle.dv_static.specs.Tiles.{tile_of};
+
+use crate::branches::{has_payload, moves_on};
+use crate::operations::add_op_places;
+use crate::places::{Place, add_unless};
+use crate::registers::registers_below;
+use crate::starts::Starts;
+use dv_defs::{Image, Insn, Rule};
+use dv_fetch::resolve;
+use dv_ops::{Coded, Op};
+use std::alloc::AllocError;
+
+/// Adds what an instruction at an address breaks: S5, S11, and what its operation breaks or why it has none.
+#[tactic(auto, using(crate::proofs::Appended::three_after))]
+pub fn add_insn_places<'a>(
+    image: &'a Image,
+    code: &Coded<'a>,
+    starts: &Starts<'_>,
+    at: u32,
+    insn: &Insn,
+    places: &mut Vec<Place>,
+) -> Result<(), AllocError>
+    requires at { at < 16384 }
+    requires tiles { (code_of code.now).tiles ≡ map tile_of starts.now }
+    ensures { OnOk result (places_of places.new.items ≡ places_of places.old.items ++ places_at at (insn_rules image.now (code_of code.now) at insn.now)) }
+{
+    let body = code.body;
+    add_unless(places, moves_on(insn), at, Rule::S(5))?;
+    add_unless(
+        places,
+        registers_below(body.registers, insn),
+        at,
+        Rule::S(11),
+    )?;
+    let resolved = resolved_at(image, code, starts, at, insn);
+    add_resolved_places(image, code, starts, at, &resolved, places)
+}
+
+/// The operation of an instruction, or the rule for which there is none.
+#[tactic(auto, using(crate::proofs::Unresolved::unresolved))]
+fn resolved_at<'a>(
+    image: &'a Image,
+    code: &Coded<'a>,
+    starts: &Starts<'_>,
+    at: u32,
+    insn: &Insn,
+) -> Result<Op<'a>, Rule>
+    requires at { at < 16384 }
+    requires tiles { (code_of code.now).tiles ≡ map tile_of starts.now }
+    ensures { meant_or_rule (code_of code.now) at result ≡ op_of image.now (code_of code.now) at insn.now }
+{
+    if !has_payload(starts, at, insn) {
+        return Err(Rule::S(6));
+    }
+    resolve(image, code, at, insn)
+}
+
+/// Adds what an operation breaks, or the rule for which there is none.
+fn add_resolved_places(
+    image: &Image,
+    code: &Coded<'_>,
+    starts: &Starts<'_>,
+    at: u32,
+    resolved: &Result<Op<'_>, Rule>,
+    places: &mut Vec<Place>,
+) -> Result<(), AllocError>
+    requires at { at < 16384 }
+    requires tiles { (code_of code.now).tiles ≡ map tile_of starts.now }
+    ensures { OnOk result (places_of places.new.items ≡ places_of places.old.items ++ places_at at (resolved_rules image.now (code_of code.now) (meant_or_rule (code_of code.now) at resolved.now))) }
+{
+    match resolved {
+        Ok(op) => add_op_places(image, code, starts, at, op, places),
+        Err(rule) => add_unless(places, false, at, *rule),
+    }
+}
