@@ -1,6 +1,7 @@
 pub mod ItemsHere
 pub mod TilesSoFar
 pub mod PlaceOrder
+pub mod PlaceTests
 pub mod Rising
 pub mod OrderedPlaces
 pub mod StartLemmas
