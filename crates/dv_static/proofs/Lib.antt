@@ -7,6 +7,7 @@ mod Unresolved
 pub mod ItemsHere
 pub mod TilesSoFar
 pub mod PlaceOrder
+pub mod PlaceTests
 pub mod Rising
 pub mod OrderedPlaces
 pub mod StartLemmas

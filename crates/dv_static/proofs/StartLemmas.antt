@@ -123,3 +123,6 @@ pub all_within : (units : List ℕ) (ts : List Tile) → tiling.tiling units ≡
 all_within units ts e =
     let all = subst (AllBelow (length units)) e (below 0 0 (length units) units (omega arith)) in
     λ k d l. subst (λ (t : tiling.Tile). t.at < length units) (get_map ts k d l) (all k (tile_of d) (omega (arith, length_map ts, l)))
+
+pub all_short : (units : List ℕ) (ts : List Tile) → length units ≤ 16384 → tiling.tiling units ≡ Ok (map tile_of ts) → All (λ t. t.at < 16384) ts
+all_short units ts h e = λ k d l. let w = all_within units ts e k d l in omega arith

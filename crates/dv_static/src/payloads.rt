@@ -32,18 +32,18 @@ fn end_in_range(first: i32, count: usize) -> bool
 
 /// Adds the rules that the payload at an address breaks.
 pub fn add_payload_places(
-    places: &mut Vec<Place>,
     at: u32,
     payload: &Payload,
+    places: &mut Vec<Place>,
 ) -> Result<(), AllocError>
     ensures { OnOk result (places_of places.new.items ≡ places_of places.old.items ++ payload_places at payload.now) }
 {
-    add_unless(places, at % 2 == 0, at, Rule::S(7))?;
+    add_unless(at % 2 == 0, at, Rule::S(7), places)?;
     match payload {
         Payload::Packed { first, targets } => {
-            add_unless(places, end_in_range(*first, targets.len()), at, Rule::S(10))
+            add_unless(end_in_range(*first, targets.len()), at, Rule::S(10), places)
         }
-        Payload::Sparse { keys, .. } => add_unless(places, rise(keys.items()), at, Rule::S(9)),
+        Payload::Sparse { keys, .. } => add_unless(rise(keys.items()), at, Rule::S(9), places),
         Payload::Data { .. } => Ok(()),
     }
 }

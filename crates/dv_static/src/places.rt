@@ -41,10 +41,10 @@ fn order_of(place: Place) -> Order
 
 /// Adds a place, unless all is well there.
 pub fn add_unless(
-    places: &mut Vec<Place>,
     good: bool,
     at: u32,
     rule: Rule,
+    places: &mut Vec<Place>,
 ) -> Result<(), AllocError>
     ensures { OnOk result (places_of places.new.items ≡ places_of places.old.items ++ place_unless good at rule) }
 {

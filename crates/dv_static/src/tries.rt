@@ -105,11 +105,11 @@ fn add_entry_places(
     ensures { OnOk result (places_of places.new.items ≡ places_of places.old.items ++ entry_places image.now (code_of code.now) before entry.now) }
 {
     let range = is_good_range(code, starts, before, entry);
-    add_unless(places, range, entry.start, Rule::S(17))?;
+    add_unless(range, entry.start, Rule::S(17), places)?;
     let handlers = entry.handlers.items();
     let caught = !handlers.is_empty()
         && are_good_handlers(image, code, starts, throwable, handlers);
-    add_unless(places, caught, entry.start, Rule::S(18))
+    add_unless(caught, entry.start, Rule::S(18), places)
 }
 
 /// Adds the rules that the try entries of a body break.
