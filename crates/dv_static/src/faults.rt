@@ -87,6 +87,7 @@ fn rule_at(units: &[u16], at: u32) -> Rule
 }
 
 /// What a body breaks whose units are items one after another.
+#[tactic(auto, using(crate::proofs::StartLemmas::all_within, crate::proofs::StartLemmas::all_short))]
 fn whole_places(
     alloc: Global,
     image: &Image,
@@ -96,10 +97,11 @@ fn whole_places(
     requires { tiling code.now.body.now.units ≡ Ok (map tile_of tiles.now) }
     ensures { IfOk result (λ v. places_of v.items ≡ places_by image.now (code_of code.now) (Ok (map tile_of tiles.now))) }
 {
-    if code.body.units.is_empty() {
+    let body = code.body;
+    if body.units.is_empty() {
         return one_place(alloc, 0, Rule::S(1));
     }
-    let starts = Starts::new(alloc, tiles, code.body.units.len())?;
+    let starts = Starts::new(alloc, tiles, body.units.len())?;
     let mut places = Vec::new(alloc);
     add_first_places(code, &starts, &mut places)?;
     add_tile_places(image, code, &starts, tiles, &mut places)?;
@@ -124,7 +126,8 @@ fn add_first_places(
 fn has_room(code: &Coded<'_>) -> bool
     ensures { result ≡ nat_le (arg_words (method_of code.now.method)) code.now.body.now.registers }
 {
-    words_left(&code.method, code.body.registers as usize).is_some()
+    let body = code.body;
+    words_left(&code.method, body.registers as usize).is_some()
 }
 
 /// Adds what the items of a body break.
