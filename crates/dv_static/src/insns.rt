@@ -32,12 +32,12 @@ pub fn add_insn_places<'a>(
     ensures { OnOk result (places_of places.new.items ≡ places_of places.old.items ++ places_at at (insn_rules image.now (code_of code.now) at insn.now)) }
 {
     let body = code.body;
-    add_unless(places, moves_on(insn), at, Rule::S(5))?;
+    add_unless(moves_on(insn), at, Rule::S(5), places)?;
     add_unless(
-        places,
         registers_below(body.registers, insn),
         at,
         Rule::S(11),
+        places,
     )?;
     let resolved = resolved_at(image, code, starts, at, insn);
     add_resolved_places(image, code, starts, at, &resolved, places)
@@ -77,6 +77,6 @@ fn add_resolved_places(
 {
     match resolved {
         Ok(op) => add_op_places(image, code, starts, at, op, places),
-        Err(rule) => add_unless(places, false, at, *rule),
+        Err(rule) => add_unless(false, at, *rule, places),
     }
 }

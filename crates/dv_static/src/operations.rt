@@ -40,7 +40,7 @@ pub fn add_op_places(
         }
         _ => {
             let (is_good, number) = test_of(image, starts, at, op);
-            add_unless(places, is_good, at, Rule::S(number))
+            add_unless(is_good, at, Rule::S(number), places)
         }
     }
 }
@@ -86,8 +86,8 @@ fn add_call_places(
 ) -> Result<(), AllocError>
     ensures { OnOk result (places_of places.new.items ≡ places_of places.old.items ++ places_at at (call_rules image.now (method_of own.now) (standard_call call) (named_registers regs.now) (method_of method.now))) }
 {
-    add_unless(places, fits_call(image, own, call, method), at, Rule::S(14))?;
-    add_unless(places, fits_arguments(regs, method), at, Rule::S(15))
+    add_unless(fits_call(image, own, call, method), at, Rule::S(14), places)?;
+    add_unless(fits_arguments(regs, method), at, Rule::S(15), places)
 }
 
 /// Whether a class has instances of its own.
