@@ -1,1 +1,2 @@
 pub mod FirstRegister
+pub mod HandlerSteps
