@@ -1,2 +1,5 @@
+pub mod CleanSwitch
 pub mod FirstRegister
 pub mod HandlerSteps
+pub mod Standing
+pub mod SwitchTargets

@@ -1,4 +1,5 @@
 pub mod Asking
+pub mod Distances
 pub mod Edges
 pub mod Made
 pub mod Verified
