@@ -1,5 +1,6 @@
 pub mod Asking
 pub mod Distances
+pub mod EdgeParts
 pub mod Edges
 pub mod Made
 pub mod Verified
