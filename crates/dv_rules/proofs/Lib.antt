@@ -1,4 +1,5 @@
 pub mod CleanSwitch
+pub mod EdgeLists
 pub mod FirstRegister
 pub mod HandlerSteps
 pub mod Standing
