@@ -9,7 +9,7 @@ use Rattle.dv_defs.specs.Statics.{At, fetch}
 use Rattle.dv_defs.specs.Demands.{goes_on}
 use Rattle.dv_defs.specs.Flow.{Catcher, jumps, targets, handlers_at, thrown_at}
 use Rattle.dv_flowlaws.specs.Clean.{IsHandler, IsClean}
-use Rattle.dv_rules.specs.declared.edges.Edge.{Edge}
+use Rattle.dv_rules.specs.declared.flow.Edge.{Edge}
 use Rattle.dv_rules.specs.Edges.{plain_edge, handler_edge, edges_of}
 use Rattle.dv_rules.specs.EdgeParts.{edges_onward, edges_thrown}
 

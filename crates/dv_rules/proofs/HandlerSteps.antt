@@ -5,7 +5,7 @@ use Rattle.dv_defs.specs.declared.code.Body.{Body}
 use Rattle.dv_defs.specs.declared.code.Try.{Try}
 use Rattle.dv_defs.specs.declared.code.Handler.{Handler}
 use Rattle.dv_defs.specs.Flow.{Catcher, catchers, caught_as, handlers_of}
-use Rattle.dv_rules.specs.declared.edges.Edge.{Edge}
+use Rattle.dv_rules.specs.declared.flow.Edge.{Edge}
 use Rattle.dv_rules.specs.Edges.{handler_edge}
 
 -- the edge to a handler

@@ -6,7 +6,7 @@ use Rattle.dv_defs.specs.Op.{Op, Code, can_throw}
 use Rattle.dv_defs.specs.Statics.{At}
 use Rattle.dv_defs.specs.Demands.{goes_on}
 use Rattle.dv_defs.specs.Flow.{handlers_at, thrown_at}
-use Rattle.dv_rules.specs.declared.edges.Edge.{Edge}
+use Rattle.dv_rules.specs.declared.flow.Edge.{Edge}
 use Rattle.dv_rules.specs.Edges.{plain_edge, handler_edge}
 
 -- to the next address, where control goes on and an instruction begins there

@@ -7,7 +7,7 @@ use Rattle.dv_ops.specs.Meaning.{code_of, meant}
 use Rattle.dv_ops.specs.declared.op.Op.{Op}
 use Rattle.dv_ops.specs.declared.op.Op.TheVariants as op
 use Rattle.dv_rules.specs.Edges.{plain_edge}
-use Rattle.dv_rules.proofs.edges.push_jumps.Goals as goal
+use Rattle.dv_rules.proofs.flow.push_jumps.Goals as goal
 
 no_jumps : (code : Code) (at : ℕ) (o : Op) → ((to : ℕ) → o ≡ op.Goto to → ⊥) → ((t : Test) (a b to : ℕ) → o ≡ op.IfBoth t a b to → ⊥) → ((t : Test) (a to : ℕ) → o ≡ op.IfZero t a to → ⊥) → ((a to : ℕ) → o ≡ op.Switch a to → ⊥) → jumps (meant code at o) ≡ []
 no_jumps code at (op.Goto to) goto both zero switch = absurd (goto to refl)
