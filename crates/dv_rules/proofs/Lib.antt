@@ -1,5 +1,7 @@
 pub mod CleanSwitch
+pub mod CodeAsked
 pub mod EdgeLists
+pub mod EdgeUses
 pub mod FirstRegister
 pub mod HandlerSteps
 pub mod NothingMade

@@ -1,4 +1,5 @@
 pub mod Asking
+pub mod Carried
 pub mod Distances
 pub mod EdgeParts
 pub mod Edges
