@@ -5,7 +5,7 @@ ghost use Rattle.dv_defs.specs.Names.{throwable_name};
 ghost use Rattle.dv_defs.specs.Flow.{catchers, caught_as, handlers_at, handlers_of};
 ghost use Rattle.dv_rules.specs.Edges.{handler_edge};
 
-use crate::edges::Edge;
+use crate::flow::Edge;
 use dv_defs::{Base, Body, Handler, Image, MethodId, Text, Try, Ty};
 use dv_ops::coded_at;
 use std::alloc::{AllocError, Global};

@@ -11,8 +11,11 @@ ghost use Rattle.dv_rules.specs.Edges.{edges_of};
 
 use crate::flow::{Edge, edges_from};
 use crate::receiver::class_to_make;
-use crate::stub::{entry_of, ok_of, op_at, out_of};
+use crate::demands::ok_of;
+use crate::entry::entry_of;
+use crate::transfer::out_of;
 use dv_defs::{Image, MethodId, RegState, Rule};
+use dv_fetch::op_at;
 use dv_ops::{Coded, coded_at};
 use std::alloc::{AllocError, Global};
 

@@ -10,9 +10,8 @@ ghost use Rattle.dv_flowlaws.specs.Clean.{IsClean};
 ghost use Rattle.dv_ops.specs.Meaning.{code_of, meant, method_of};
 ghost use Rattle.dv_rules.specs.Made.{made_for, place_of, receiver_place};
 
-use crate::stub::op_at;
 use dv_defs::{ClassId, Flag, Image, RegState, RegType, Regs};
-use dv_fetch::begins_insn_at;
+use dv_fetch::{begins_insn_at, op_at};
 use dv_ops::{Coded, Method, Op};
 
 const INIT: &[u8] = b"<init>";

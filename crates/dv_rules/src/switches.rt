@@ -11,7 +11,7 @@ ghost use Rattle.dv_ops.specs.Meaning.{code_of};
 ghost use Rattle.dv_rules.specs.Distances.{distances, is_switch};
 ghost use Rattle.dv_rules.specs.Edges.{plain_edge};
 
-use crate::edges::{Edge, push_target};
+use crate::flow::{Edge, push_target};
 use dv_defs::{Image, Insn, Payload};
 use dv_ops::Coded;
 use dv_units::{UnitError, decode, decode_payload};
