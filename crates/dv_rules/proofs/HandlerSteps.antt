@@ -22,24 +22,28 @@ first_typed : (b : Body) (k : Option ℕ) (at : ℕ) (hs : List Handler) → is_
 first_typed b None at hs e = absurd (cc)
 first_typed b (Some k) at hs e = refl
 
+turned : (b none : Bool) → none ≡ not b → b ≡ not none
+turned true none e = sym (ap not e)
+turned false none e = sym (ap not e)
+
 here : (hs : List Handler) (i : ℕ) (d : Handler) → i < length hs → drop i hs ≡ get_or hs i d ∷ drop (i + 1) hs
 here hs i d h = rw (add-one, drop-cons hs i d) refl
 
 -- the first handler that catches all is the last one
 pub last_caught : (b : Body) (hs : List Handler) (i : ℕ) (d : Handler) (none : Bool) (olds edges : List Edge) → i < length hs →
-    is_some (get_or hs i d).kind ≡ not none → none ≡ true →
+    none ≡ not (is_some (get_or hs i d).kind) → none ≡ true →
     olds ≡ edges ++ map handler_edge (catchers b (drop i hs)) → edges ++ edge_by b (get_or hs i d) ∷ [] ≡ olds
 last_caught b hs i d none olds edges h k e kept =
-    let all = first_all b (get_or hs i d).kind (get_or hs i d).at (drop (i + 1) hs) (k ∙ ap not e) in
+    let all = first_all b (get_or hs i d).kind (get_or hs i d).at (drop (i + 1) hs) (turned _ none k ∙ ap not e) in
     sym (kept ∙ ap (λ xs. edges ++ xs) (ap (λ xs. map handler_edge (catchers b xs)) (here hs i d h) ∙ all))
 
 -- another has more after it
 pub more_caught : (b : Body) (hs : List Handler) (i : ℕ) (d : Handler) (none : Bool) (olds edges : List Edge) → i < length hs →
-    is_some (get_or hs i d).kind ≡ not none → none ≡ false →
+    none ≡ not (is_some (get_or hs i d).kind) → none ≡ false →
     olds ≡ edges ++ map handler_edge (catchers b (drop i hs)) →
     olds ≡ (edges ++ edge_by b (get_or hs i d) ∷ []) ++ map handler_edge (catchers b (drop (i + 1) hs))
 more_caught b hs i d none olds edges h k e kept =
-    let typed = first_typed b (get_or hs i d).kind (get_or hs i d).at (drop (i + 1) hs) (k ∙ ap not e) in
+    let typed = first_typed b (get_or hs i d).kind (get_or hs i d).at (drop (i + 1) hs) (turned _ none k ∙ ap not e) in
     kept ∙
     (ap (λ xs. edges ++ xs) (ap (λ xs. map handler_edge (catchers b xs)) (here hs i d h) ∙ typed) ∙
     sym (append_assoc edges (edge_by b (get_or hs i d) ∷ []) (map handler_edge (catchers b (drop (i + 1) hs)))))

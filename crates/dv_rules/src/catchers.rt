@@ -1,5 +1,5 @@
 // Edges to the handlers of an address.
-ghost use Rattle.std.specs.Prelude.{◌≡◌, [], ◌∷◌, ◌++◌, map, nat_le, nat_lt, ◌&&◌, IfOk, OnOk, find, slice_get, option_and_then, option_map};
+ghost use Rattle.std.specs.Prelude.{◌≡◌, [], ◌∷◌, ◌++◌, map, nat_le, nat_lt, ◌&&◌, not, IfOk, OnOk, find, is_some, slice_get, option_and_then, option_map};
 ghost use Rattle.dv_defs.specs.Types.{of_class};
 ghost use Rattle.dv_defs.specs.Names.{throwable_name};
 ghost use Rattle.dv_defs.specs.Flow.{catchers, caught_as, handlers_at, handlers_of};
@@ -75,11 +75,18 @@ fn push_catchers(
 {
     for handler in handlers {
         push_handler(alloc, body, handler, edges)?;
-        if handler.kind.is_none() {
+        if catches_all(handler) {
             return Ok(());
         }
     }
     Ok(())
+}
+
+/// Whether a handler catches all.
+fn catches_all(handler: &Handler) -> bool
+    ensures { result ≡ not (is_some handler.now.kind) }
+{
+    handler.kind.is_none()
 }
 
 /// Adds an edge to a handler.

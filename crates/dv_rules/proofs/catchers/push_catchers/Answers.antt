@@ -6,11 +6,11 @@ use Rattle.dv_rules.proofs.catchers.push_catchers.Goals as goal
 
 pub loop-handler-preserved : goal.loop-handler-preserved
 loop-handler-preserved c =
-    let more = more_caught c.args.body.now c.args.handlers.now c.loop-handler.handler-index _ c.is_none.result _ c.loop-handler.edges.items (omega arith) c.is_none.ensures c.if-is_none.false c.loop-handler.invariant in
+    let more = more_caught c.args.body.now c.args.handlers.now c.loop-handler.handler-index _ c.catches_all.result _ c.loop-handler.edges.items (omega arith) c.catches_all.ensures c.if-catches_all.false c.loop-handler.invariant in
     let rest = map handler_edge (catchers c.args.body.now (drop (c.loop-handler.handler-index + 1) c.args.handlers.now)) in
     more ∙ ap (λ xs. xs ++ rest) (sym c.in_ok-push_handler.ensures)
 
-pub returns-then-is_none : goal.returns-then-is_none
-returns-then-is_none c =
-    let last = last_caught c.args.body.now c.args.handlers.now c.loop-handler.handler-index _ c.is_none.result _ c.loop-handler.edges.items (omega arith) c.is_none.ensures c.if-is_none.true c.loop-handler.invariant in
+pub returns-then-catches_all : goal.returns-then-catches_all
+returns-then-catches_all c =
+    let last = last_caught c.args.body.now c.args.handlers.now c.loop-handler.handler-index _ c.catches_all.result _ c.loop-handler.edges.items (omega arith) c.catches_all.ensures c.if-catches_all.true c.loop-handler.invariant in
     c.in_ok-push_handler.ensures ∙ last
