@@ -13,7 +13,6 @@ use Rattle.dv_flowlaws.specs.Clean.{IsClean, IsFetched}
 use Rattle.dv_rules.specs.Distances.{distances, is_switch}
 use Rattle.dv_rules.proofs.SwitchTargets.{HasCases, switch_cases, targets_at}
 
-
 same_at : (x y : At) → (let o : Option At = Some x in o) ≡ Some y → x ≡ y
 same_at x y e = cc
 

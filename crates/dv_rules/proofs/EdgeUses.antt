@@ -110,6 +110,6 @@ leads_along image code typing at x s clean flows =
     (λ to. begins_insn code.tiles to ≡ true → LeadsAlong image code typing at x s (plain_edge to))
     (λ to leads b. let (y, f) = clean.each to b in leads y f.fetched) (targets x) flows.onward)
     (λ throws.
-        All-weaker (λ h. (y : At) → fetch image code.method.id h.to ≡ Some y → Leads image typing (caught_state s h) h.to)
-        (λ h. begins_insn code.tiles h.to ≡ true → LeadsAlong image code typing at x s (handler_edge h))
-        (λ h leads b. let (y, f) = clean.each h.to b in leads y f.fetched) (handlers_at image code.method.id (thrown_at at x)) (flows.handled throws))
+    All-weaker (λ h. (y : At) → fetch image code.method.id h.to ≡ Some y → Leads image typing (caught_state s h) h.to)
+    (λ h. begins_insn code.tiles h.to ≡ true → LeadsAlong image code typing at x s (handler_edge h))
+    (λ h leads b. let (y, f) = clean.each h.to b in leads y f.fetched) (handlers_at image code.method.id (thrown_at at x)) (flows.handled throws))

@@ -9,10 +9,10 @@ ghost use Rattle.dv_ops.specs.Meaning.{code_of};
 ghost use Rattle.dv_rules.specs.Asking.{HasCode, HasInsn, HasOp};
 ghost use Rattle.dv_rules.specs.Edges.{edges_of};
 
-use crate::flow::{Edge, edges_from};
-use crate::receiver::class_to_make;
 use crate::demands::ok_of;
 use crate::entry::entry_of;
+use crate::flow::{Edge, edges_from};
+use crate::receiver::class_to_make;
 use crate::transfer::out_of;
 use dv_defs::{Image, MethodId, RegState, Rule};
 use dv_fetch::op_at;

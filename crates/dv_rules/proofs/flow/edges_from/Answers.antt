@@ -1,6 +1,5 @@
 use Rattle.dv_ops.specs.Meaning.{code_of, meant}
 use Rattle.dv_rules.proofs.EdgeLists.{all_edges}
-use Rattle.dv_rules.proofs.EdgeUses.{flows_along}
 use Rattle.dv_rules.proofs.flow.edges_from.Goals as goal
 
 pub returns : goal.returns
