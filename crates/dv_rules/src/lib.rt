@@ -17,6 +17,6 @@ pub use demands::{demand_of, ok_of};
 pub use entry::entry_of;
 pub use flow::{Edge, edges_from};
 pub use public::{edges, entry_state, ok, out};
-pub use receiver::{class_to_make, made_by, receiver_of};
+pub use receiver::{made_by, receiver_of};
 pub use transfer::{caught_with, out_of};
 pub use verified::{Map, Verified};
