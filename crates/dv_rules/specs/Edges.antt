@@ -5,7 +5,7 @@ use Rattle.dv_defs.specs.Tiling.{begins_insn}
 use Rattle.dv_defs.specs.Op.{Code, can_throw}
 use Rattle.dv_defs.specs.Statics.{At}
 use Rattle.dv_defs.specs.Flow.{Catcher, targets, handlers_at, thrown_at, caught_as}
-use Rattle.dv_rules.specs.declared.edges.Edge.{Edge}
+use Rattle.dv_rules.specs.declared.flow.Edge.{Edge}
 
 abbrev pub plain_edge : ℕ → Edge
 plain_edge to = record { to = to; handler = None }

@@ -4,18 +4,20 @@
 
 mod calls;
 mod changes;
+mod catchers;
 mod demands;
-mod edges;
 mod entry;
+mod flow;
 mod public;
 mod receiver;
 mod registers;
+mod switches;
 mod transfer;
 mod verified;
 
 pub use demands::{demand_of, ok_of};
-pub use edges::{Edge, edges_from};
 pub use entry::entry_of;
+pub use flow::{Edge, edges_from};
 pub use public::{edges, entry_state, ok, out};
 pub use receiver::{made_by, receiver_of};
 pub use transfer::{caught_with, out_of};
