@@ -6,3 +6,4 @@ pub mod Starting
 pub mod Tiles
 pub mod Trying
 pub mod Words
+pub mod Finding

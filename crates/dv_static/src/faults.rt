@@ -1,10 +1,12 @@
 // The static faults of a method.
-ghost use Rattle.std.specs.Prelude.{◌≡◌, ◌<◌, ◌∷◌, ◌++◌, [], All, Ok, Some, IsSome, IfOk, OnOk, map, nat_le};
-ghost use Rattle.dv_defs.specs.Accepting.{first_places, item_places, places_by, rule_at as broken_rule, static_fault, static_places, tile_places};
+ghost use Rattle.std.specs.Prelude.{◌≡◌, ◌<◌, ◌∷◌, ◌++◌, ◌%◌, [], All, Ok, Some, IsSome, IfOk, OnOk, map, nat_le};
+ghost use Rattle.dv_defs.specs.Accepting.{first_places, item_places, no_units, places_by, rule_at as rule_there, rule_of_unit as rule_of, sorted, static_fault, static_places, tile_places};
+ghost use Rattle.dv_defs.specs.Formats.{is_float as is_float_opcode};
 ghost use Rattle.dv_defs.specs.Op.{Code, code_at};
 ghost use Rattle.dv_defs.specs.Tiling.{tiling};
 ghost use Rattle.dv_defs.specs.Statics.{arg_words};
 ghost use Rattle.dv_ops.specs.Meaning.{code_of, method_of};
+ghost use Rattle.dv_static.specs.Finding.{places_found};
 ghost use Rattle.dv_static.specs.Placed.{place_of, places_of};
 ghost use Rattle.dv_static.specs.Tiles.{item_of, tile_of};
 
@@ -40,14 +42,20 @@ fn faults_of(alloc: Global, method: MethodId, places: &[Place]) -> Result<Vec<Fa
     ensures { IfOk result (λ v. v.items ≡ map (static_fault method.0) (places_of places.now)) }
 {
     let mut faults = Vec::new(alloc);
-    for place in places {
-        faults.push(Fault {
-            method,
-            address: place.at,
-            rule: place.rule,
-        })?;
+    for i in 0..places.len() {
+        faults.push(fault_of(method, places[i]))?;
     }
     Ok(faults)
+}
+
+fn fault_of(method: MethodId, place: Place) -> Fault
+    ensures { result ≡ static_fault method.0 (place_of place) }
+{
+    Fault {
+        method,
+        address: place.at,
+        rule: place.rule,
+    }
 }
 
 /// What a body breaks, in order.
@@ -72,11 +80,18 @@ fn one_place(alloc: Global, at: u32, rule: Rule) -> Result<Vec<Place>, AllocErro
 
 /// Why no item begins at an address: S2 where the opcode of a float stands there, else S1.
 fn rule_at(units: &[u16], at: u32) -> Rule
-    ensures { result ≡ broken_rule units.now at }
+    ensures { result ≡ rule_there units.now at }
 {
-    match units.get(at as usize) {
+    rule_of_unit(units.get(at as usize).copied())
+}
+
+/// The same by the unit that stands there.
+fn rule_of_unit(unit: Option<u16>) -> Rule
+    ensures { result ≡ rule_of unit }
+{
+    match unit {
         Some(unit) => {
-            if is_float((*unit % 256) as u8) {
+            if begins_float(unit) {
                 Rule::S(2)
             } else {
                 Rule::S(1)
@@ -86,8 +101,15 @@ fn rule_at(units: &[u16], at: u32) -> Rule
     }
 }
 
+/// Whether a unit has the opcode of a float.
+#[tactic(auto, using(dv_units::proofs::Opcodes::floats_agree))]
+fn begins_float(unit: u16) -> bool
+    ensures { result ≡ is_float_opcode (unit % 256) }
+{
+    is_float((unit % 256) as u8)
+}
+
 /// What a body breaks whose units are items one after another.
-#[tactic(auto, using(crate::proofs::StartLemmas::all_within, crate::proofs::StartLemmas::all_short))]
 fn whole_places(
     alloc: Global,
     image: &Image,
@@ -97,16 +119,61 @@ fn whole_places(
     requires { tiling code.now.body.now.units ≡ Ok (map tile_of tiles.now) }
     ensures { IfOk result (λ v. places_of v.items ≡ places_by image.now (code_of code.now) (Ok (map tile_of tiles.now))) }
 {
-    let body = code.body;
-    if body.units.is_empty() {
-        return one_place(alloc, 0, Rule::S(1));
+    if has_no_units(code) {
+        one_place(alloc, 0, Rule::S(1))
+    } else {
+        all_places(alloc, image, code, tiles)
     }
+}
+
+fn has_no_units(code: &Coded<'_>) -> bool
+    ensures { result ≡ no_units code.now.body.now.units }
+{
+    let body = code.body;
+    is_empty(body.units.items())
+}
+
+fn is_empty(units: &[u16]) -> bool
+    ensures { result ≡ no_units units.now }
+{
+    matches!(units, [])
+}
+
+/// What the items and the try entries of a body break, in order.
+#[tactic(auto, using(crate::proofs::StartLemmas::all_within, crate::proofs::StartLemmas::all_short))]
+fn all_places(
+    alloc: Global,
+    image: &Image,
+    code: &Coded<'_>,
+    tiles: &[Tile],
+) -> Result<Vec<Place>, AllocError>
+    requires { tiling code.now.body.now.units ≡ Ok (map tile_of tiles.now) }
+    ensures { IfOk result (λ v. places_of v.items ≡ sorted (places_found image.now (code_of code.now) (map tile_of tiles.now))) }
+{
+    let body = code.body;
     let starts = Starts::new(alloc, tiles, body.units.len())?;
-    let mut places = Vec::new(alloc);
-    add_first_places(code, &starts, &mut places)?;
-    add_tile_places(image, code, &starts, tiles, &mut places)?;
-    add_try_places(alloc, image, code, &starts, &mut places)?;
+    let places = found_places(alloc, image, code, &starts, tiles)?;
     in_order(places)
+}
+
+/// The same as they are found.
+#[tactic(auto, using(crate::proofs::Appended::three_lists))]
+fn found_places(
+    alloc: Global,
+    image: &Image,
+    code: &Coded<'_>,
+    starts: &Starts<'_>,
+    tiles: &[Tile],
+) -> Result<Vec<Place>, AllocError>
+    requires starts { (code_of code.now).tiles ≡ map tile_of starts.now }
+    requires short { All (λ t. t.at < 16384) tiles.now }
+    ensures { IfOk result (λ v. places_of v.items ≡ places_found image.now (code_of code.now) (map tile_of tiles.now)) }
+{
+    let mut places = Vec::new(alloc);
+    add_first_places(code, starts, &mut places)?;
+    add_tile_places(image, code, starts, tiles, &mut places)?;
+    add_try_places(alloc, image, code, starts, &mut places)?;
+    Ok(places)
 }
 
 /// Adds S3, where no instruction begins at address 0, and S11, where there are fewer registers than words of arguments.
@@ -142,8 +209,8 @@ fn add_tile_places<'a>(
     requires short { All (λ t. t.at < 16384) tiles.now }
     ensures { OnOk result (places_of places.new.items ≡ places_of places.old.items ++ tile_places image.now (code_of code.now) (map tile_of tiles.now)) }
 {
-    for tile in tiles {
-        add_item_places(image, code, starts, tile, places)?;
+    for i in 0..tiles.len() {
+        add_item_places(image, code, starts, &tiles[i], places)?;
     }
     Ok(())
 }
