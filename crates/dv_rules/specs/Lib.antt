@@ -1,4 +1,2 @@
-pub mod Asking
-pub mod Edges
 pub mod Made
-pub mod Verified
+pub mod Wanted

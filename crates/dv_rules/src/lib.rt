@@ -2,19 +2,5 @@
 //! along which states flow (AOSP, "Dalvik bytecode constraints"; V1 to V14 are this product's own names).
 #![tactic(auto)]
 
-mod demands;
-mod edges;
-mod entry;
-mod public;
-mod receiver;
-mod registers;
-mod transfer;
-mod verified;
-
-pub use demands::{demand_of, ok_of};
-pub use edges::{Edge, edges_from};
-pub use entry::entry_of;
-pub use public::{edges, entry_state, ok, out};
-pub use receiver::{made_by, receiver_of};
-pub use transfer::{caught_with, out_of};
-pub use verified::{Map, Verified};
+mod assigning;
+mod reads;
