@@ -1,2 +1,3 @@
+pub mod Elements
 pub mod Made
 pub mod Wanted

@@ -26,7 +26,7 @@ pub enum Wanted<'a> {
 pub fn ref_to(
     image: &Image,
     regs: &Seq<RegType>,
-    register: u16,
+    register: usize,
     wanted: &Wanted<'_>,
 ) -> Option<Rule>
     ensures { result ≡ ref_to_type image.now regs.now register (type_wanted image.now wanted.now) }
@@ -40,12 +40,12 @@ pub fn ref_to(
 fn is_assignable(
     image: &Image,
     regs: &Seq<RegType>,
-    register: u16,
+    register: usize,
     wanted: &Wanted<'_>,
 ) -> bool
     ensures { result ≡ is_assignable_type image.now (type_at regs.now register) (type_wanted image.now wanted.now) }
 {
-    match regs.items().get(usize::from(register)) {
+    match regs.items().get(register) {
         Some(RegType::Class(ty)) => is_type_assignable(image, ty, wanted),
         _ => true,
     }
@@ -108,6 +108,7 @@ fn is_assignable_to(image: &Image, ty: &Ty, name: &Text) -> bool
 }
 
 /// The same by the descriptor's bytes.
+#[tactic(auto, using(crate::proofs::Unknown::unknown_class))]
 fn is_assignable_to_named(image: &Image, ty: &Ty, name: &[u8]) -> bool
     ensures { result ≡ assignable image.now ty.now (of_class name.now) }
 {
@@ -118,6 +119,7 @@ fn is_assignable_to_named(image: &Image, ty: &Ty, name: &[u8]) -> bool
 }
 
 /// The first class of these bytes for its descriptor.
+#[tactic(auto, unfolding(dv_defs::specs::Pools::class_named))]
 fn class_of<'a>(image: &'a Image, name: &[u8]) -> Option<&'a ClassInfo>
     ensures { MatchOption result (class_named image.now name.now ≡ None) (λ c. c.now.def.name ≡ name.now) }
 {

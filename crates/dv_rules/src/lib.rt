@@ -2,5 +2,7 @@
 //! along which states flow (AOSP, "Dalvik bytecode constraints"; V1 to V14 are this product's own names).
 #![tactic(auto)]
 
+mod arrays;
 mod assigning;
 mod reads;
+mod values;
