@@ -1,1 +1,2 @@
+pub mod RegisterLists
 pub mod Unknown

@@ -21,16 +21,16 @@ pub enum Elements {
 }
 
 /// V10: an array of such elements.
-pub fn array(regs: &Seq<RegType>, register: usize, elements: Elements) -> Option<Rule>
+pub fn array(regs: &Seq<RegType>, register: u32, elements: Elements) -> Option<Rule>
     ensures { result ≡ array_at regs.now register (is_wanted elements) }
 {
     demand(is_array_of(regs, register, elements), Rule::V(10))
 }
 
-fn is_array_of(regs: &Seq<RegType>, register: usize, elements: Elements) -> bool
+fn is_array_of(regs: &Seq<RegType>, register: u32, elements: Elements) -> bool
     ensures { result ≡ is_array_of_these (is_wanted elements) (type_at regs.now register) }
 {
-    match regs.items().get(register) {
+    match regs.items().get(register as usize) {
         Some(RegType::Zero) => true,
         Some(RegType::Class(ty)) => ty.dims > 0 && has_type(elements, ty.dims - 1, &ty.base),
         _ => false,

@@ -26,7 +26,7 @@ pub enum Wanted<'a> {
 pub fn ref_to(
     image: &Image,
     regs: &Seq<RegType>,
-    register: usize,
+    register: u32,
     wanted: &Wanted<'_>,
 ) -> Option<Rule>
     ensures { result ≡ ref_to_type image.now regs.now register (type_wanted image.now wanted.now) }
@@ -40,12 +40,12 @@ pub fn ref_to(
 fn is_assignable(
     image: &Image,
     regs: &Seq<RegType>,
-    register: usize,
+    register: u32,
     wanted: &Wanted<'_>,
 ) -> bool
     ensures { result ≡ is_assignable_type image.now (type_at regs.now register) (type_wanted image.now wanted.now) }
 {
-    match regs.items().get(register) {
+    match regs.items().get(register as usize) {
         Some(RegType::Class(ty)) => is_type_assignable(image, ty, wanted),
         _ => true,
     }

@@ -4,5 +4,6 @@
 
 mod arrays;
 mod assigning;
+mod named;
 mod reads;
 mod values;

@@ -11,7 +11,7 @@ use dv_defs::{Base, Image, RegType, Rule, Seq, Ty};
 use dv_optable::Suffix;
 
 /// A value by its declared type.
-pub fn value(image: &Image, regs: &Seq<RegType>, register: usize, ty: &Ty) -> Option<Rule>
+pub fn value(image: &Image, regs: &Seq<RegType>, register: u32, ty: &Ty) -> Option<Rule>
     ensures { result ≡ value_for image.now regs.now register ty.now }
 {
     if is_long(ty) {
@@ -25,7 +25,7 @@ pub fn value(image: &Image, regs: &Seq<RegType>, register: usize, ty: &Ty) -> Op
 pub fn single(
     image: &Image,
     regs: &Seq<RegType>,
-    register: usize,
+    register: u32,
     dims: u8,
     base: &Base,
 ) -> Option<Rule>
@@ -52,7 +52,7 @@ pub fn is_reference(dims: u8, base: &Base) -> bool
 }
 
 /// What an array-put of a suffix puts.
-pub fn put(regs: &Seq<RegType>, register: usize, suffix: Suffix) -> Option<Rule>
+pub fn put(regs: &Seq<RegType>, register: u32, suffix: Suffix) -> Option<Rule>
     ensures { result ≡ put_for regs.now register (standard_suffix suffix) }
 {
     match suffix {
