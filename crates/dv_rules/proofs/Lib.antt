@@ -1,2 +1,4 @@
+pub mod ArgumentLists
+pub mod Receivers
 pub mod RegisterLists
 pub mod Unknown

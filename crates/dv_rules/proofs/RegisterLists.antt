@@ -1,7 +1,8 @@
 -- The registers at the places of a list of them.
-use Rattle.std.proofs.Common.{◌≡◌, ℕ, zero, suc, ◌+◌, ◌<◌, ◌≤◌, List, [], ◌∷◌, length, take, Some, None, refl, ap, arith, ◌∙◌}
+use Rattle.std.proofs.Common.{◌≡◌, ℕ, zero, suc, ◌+◌, ◌<◌, ◌≤◌, Bool, true, false, List, [], ◌∷◌, length, take, Some, None, refl, ap, arith, ◌∙◌}
 use Rattle.std.specs.Prelude.{slice_get, slice_index, nat_eq}
-use Rattle.dv_defs.specs.Op.{count_up}
+use Rattle.dv_defs.specs.declared.code.Regs.{Regs}
+use Rattle.dv_defs.specs.Op.{count_up, named_registers}
 
 pub counted_up : (from n k : ℕ) → k < n → slice_get (count_up from n) k ≡ Some (from + k)
 counted_up from zero k h = absurd (omega arith)
@@ -24,3 +25,10 @@ taken_out zero k xs h = refl
 taken_out (suc n) k [] h = refl
 taken_out (suc n) zero (x ∷ xs) h = absurd (omega arith)
 taken_out (suc n) (suc k) (x ∷ xs) h = taken_out n k xs (omega arith)
+
+by_form : (r : Regs) (k : ℕ) (b : Bool) → r.count ≤ k → slice_get (elim b as (λ _. List ℕ) [ true ↦ count_up (slice_index r.first 0) r.count | false ↦ take r.count r.first ]) k ≡ None
+by_form r k true h = counted_out (slice_index r.first 0) r.count k h
+by_form r k false h = taken_out r.count k r.first h
+
+pub named_out : (r : Regs) (k : ℕ) → r.count ≤ k → slice_get (named_registers r) k ≡ None
+named_out r k h = by_form r k r.range h

@@ -1,3 +1,5 @@
+pub mod Arguments
 pub mod Elements
 pub mod Made
+pub mod Returns
 pub mod Wanted

@@ -2,8 +2,11 @@
 //! along which states flow (AOSP, "Dalvik bytecode constraints"; V1 to V14 are this product's own names).
 #![tactic(auto)]
 
+mod arguments;
 mod arrays;
 mod assigning;
+mod calls;
 mod named;
 mod reads;
+mod returns;
 mod values;
