@@ -6,7 +6,13 @@ mod arguments;
 mod arrays;
 mod assigning;
 mod calls;
+mod demands;
+mod fields;
 mod named;
+mod operands;
+mod payloads;
 mod reads;
 mod returns;
 mod values;
+
+pub use demands::demand_of;
