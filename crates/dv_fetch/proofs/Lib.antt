@@ -1,0 +1,5 @@
+pub mod Pieces
+pub mod Tiles
+pub mod Passing
+pub mod Standing
+pub mod Classes

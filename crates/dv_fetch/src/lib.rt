@@ -2,9 +2,12 @@
 #![tactic(auto)]
 
 mod fetch;
-mod resolve;
+mod items;
+mod parts;
+mod pools;
+mod resolving;
 mod walk;
 
 pub use fetch::{begins_insn_next, op_at};
-pub use resolve::resolve;
+pub use resolving::resolve;
 pub use walk::begins_insn_at;
