@@ -1,4 +1,7 @@
 pub mod ArgumentLists
+pub mod Onward
+pub mod PayloadWalk
+pub mod PayloadWidths
 pub mod Receivers
 pub mod RegisterLists
 pub mod Unknown

@@ -1,6 +1,9 @@
 // What instructions demand of states.
 ghost use Rattle.std.specs.Prelude.{◌≡◌, ℕ, option_map};
-ghost use Rattle.dv_defs.specs.Demands.{demands};
+ghost use Rattle.dv_defs.specs.Demands.{demands, goes_on as goes_on_after, ok, onward_ok};
+ghost use Rattle.dv_defs.specs.Op.{Code};
+ghost use Rattle.dv_flowlaws.specs.Clean.{IsClean};
+ghost use Rattle.dv_fetch.specs.Places.{IsBoundary};
 ghost use Rattle.dv_ops.specs.Meaning.{code_of, meant, method_of};
 ghost use Rattle.dv_rules.specs.Made.{made_for};
 
@@ -11,9 +14,10 @@ use crate::calls::invoke;
 use crate::fields::{element, element_put, field_put, field_value};
 use crate::operands::{both, has_int, has_long, has_reference, int_and, shift, two_longs, zero};
 use crate::payloads::width_at;
-use crate::reads::{demand, int, is_movable, long, reference};
+use crate::reads::{demand, first, int, is_movable, long, reference};
 use crate::returns::{return_value, return_void};
 use dv_defs::{ClassId, Image, RegState, Rule};
+use dv_fetch::begins_insn_next;
 use dv_ops::{Coded, Op};
 
 /// The rule of the first demand on a state that fails, but for V1. `made` is the class of the object that a constructor call is to
@@ -77,4 +81,46 @@ pub fn demand_of(
         }
         _ => None,
     }
+}
+
+/// The rule of the first demand that fails, V1 last: none where the state is good for the operation. Takes no memory.
+pub fn ok_of(
+    image: &Image,
+    code: &Coded<'_>,
+    op: &Op<'_>,
+    next: u32,
+    made: Option<ClassId>,
+    state: &RegState,
+) -> Option<Rule>
+    requires clean { IsClean image.now (code_of code.now) }
+    requires next { IsBoundary (code_of code.now) next }
+    requires made { (at : ℕ) → option_map (λ c. c.0) made ≡ made_for image.now (method_of code.now.method) (meant (code_of code.now) at op.now) state.now.regs }
+    ensures { (at : ℕ) → result ≡ ok image.now (method_of code.now.method) (record { op = meant (code_of code.now) at op.now; next = next }) state.now }
+{
+    first(
+        demand_of(image, code, op, made, state),
+        onward(image, code, op, next),
+    )
+}
+
+/// V1: control goes on to an instruction. What is fetched of a body without static faults is what begins there.
+fn onward(image: &Image, code: &Coded<'_>, op: &Op<'_>, next: u32) -> Option<Rule>
+    requires clean { IsClean image.now (code_of code.now) }
+    requires next { IsBoundary (code_of code.now) next }
+    ensures { (at : ℕ) → result ≡ onward_ok image.now (method_of code.now.method) (record { op = meant (code_of code.now) at op.now; next = next }) }
+{
+    if goes_on(op) {
+        demand(begins_insn_next(code, next), Rule::V(1))
+    } else {
+        None
+    }
+}
+
+fn goes_on(op: &Op<'_>) -> bool
+    ensures { (code : Code) (at : ℕ) → result ≡ goes_on_after (meant code at op.now) }
+{
+    !matches!(
+        op,
+        Op::Goto(_) | Op::Throw(_) | Op::ReturnVoid | Op::Return(_, _)
+    )
 }

@@ -15,4 +15,4 @@ mod reads;
 mod returns;
 mod values;
 
-pub use demands::demand_of;
+pub use demands::{demand_of, ok_of};
