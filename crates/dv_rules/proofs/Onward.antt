@@ -1,5 +1,5 @@
 -- Of a body without static faults, an instruction is fetched where one begins, and nothing elsewhere.
-use Rattle.std.proofs.Common.{◌≡◌, ℕ, Bool, true, false, Option, Some, None, refl, ap, sym, ◌∙◌, is_some}
+use Rattle.std.proofs.Common.{◌≡◌, ℕ, Bool, true, false, Option, Some, None, refl, ap, ◌∙◌, is_some}
 use Rattle.dv_defs.specs.Images.{Image}
 use Rattle.dv_defs.specs.Op.{Code, Op}
 use Rattle.dv_defs.specs.Demands.{Demand, demand, goes_on, onward_ok}

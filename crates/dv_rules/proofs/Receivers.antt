@@ -1,5 +1,5 @@
 -- The first of the registers that an invoke names.
-use Rattle.std.proofs.Common.{◌≡◌, ℕ, suc, true, false, List, [], ◌∷◌, drop, Some, None, refl, ap, sym, ◌∙◌}
+use Rattle.std.proofs.Common.{◌≡◌, ℕ, List, [], ◌∷◌, drop, Some, None, refl, ap}
 use Rattle.std.specs.Prelude.{slice_get}
 use Rattle.dv_defs.specs.declared.faults.Rule.TheVariants as rule
 use Rattle.dv_defs.specs.Demands.{first, args_for, instance_call}

@@ -1,5 +1,5 @@
 // Arguments of calls, and elements of a filled-new-array.
-ghost use Rattle.std.specs.Prelude.{◌≡◌, ◌<◌, ℕ, [], ◌∷◌, None, IsNone, drop};
+ghost use Rattle.std.specs.Prelude.{◌≡◌, ◌<◌, [], ◌∷◌, IsNone, drop};
 ghost use Rattle.dv_defs.specs.Demands.{args_for, each_for};
 ghost use Rattle.dv_defs.specs.Op.{named_registers};
 ghost use Rattle.dv_defs.specs.Types.{component, words_of};
@@ -32,13 +32,7 @@ pub fn args(
 }
 
 /// The first of them.
-fn arg(
-    image: &Image,
-    regs: &Seq<RegType>,
-    ty: &Ty,
-    named: &Regs,
-    place: usize,
-) -> Option<Rule>
+fn arg(image: &Image, regs: &Seq<RegType>, ty: &Ty, named: &Regs, place: usize) -> Option<Rule>
     ensures arg { result ≡ args_for image.now regs.now (ty.now ∷ []) (drop place (named_registers named.now)) }
     ensures few { IsNone result → place < 256 }
 {
@@ -78,13 +72,7 @@ pub fn elements(image: &Image, regs: &Seq<RegType>, named: &Regs, ty: &Ty) -> Op
     each(image, regs, named, ty.dims.saturating_sub(1), &ty.base)
 }
 
-fn each(
-    image: &Image,
-    regs: &Seq<RegType>,
-    named: &Regs,
-    dims: u8,
-    base: &Base,
-) -> Option<Rule>
+fn each(image: &Image, regs: &Seq<RegType>, named: &Regs, dims: u8, base: &Base) -> Option<Rule>
     ensures { result ≡ each_for image.now regs.now (named_registers named.now) (type_of dims base.now) }
 {
     for place in 0..usize::from(named.count) {

@@ -1,5 +1,5 @@
 // Types that references are assignable to. Asking takes no memory, so a type is given by its parts or by its class.
-ghost use Rattle.std.specs.Prelude.{◌≡◌, true, MatchOption, None};
+ghost use Rattle.std.specs.Prelude.{◌≡◌, MatchOption, None};
 ghost use Rattle.dv_defs.specs.Demands.{is_assignable as is_assignable_type, ref_to as ref_to_type};
 ghost use Rattle.dv_defs.specs.Order.{assignable, is_interface_type};
 ghost use Rattle.dv_defs.specs.Pools.{class_named};
@@ -37,12 +37,7 @@ pub fn ref_to(
     )
 }
 
-fn is_assignable(
-    image: &Image,
-    regs: &Seq<RegType>,
-    register: u32,
-    wanted: &Wanted<'_>,
-) -> bool
+fn is_assignable(image: &Image, regs: &Seq<RegType>, register: u32, wanted: &Wanted<'_>) -> bool
     ensures { result ≡ is_assignable_type image.now (type_at regs.now register) (type_wanted image.now wanted.now) }
 {
     match regs.items().get(register as usize) {

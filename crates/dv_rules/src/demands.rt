@@ -61,11 +61,7 @@ pub fn demand_of(
         Op::ArrayGet(suffix, _, b, c) => element(regs, *suffix, *b, *c),
         Op::ArrayPut(suffix, a, b, c) => element_put(regs, *suffix, *a, *b, *c),
         Op::Filled(named, ty) => elements(image, regs, named, ty),
-        Op::Fill(a, to) => array(
-            regs,
-            u32::from(*a),
-            Elements::OfWidth(width_at(code, *to)),
-        ),
+        Op::Fill(a, to) => array(regs, u32::from(*a), Elements::OfWidth(width_at(code, *to))),
         Op::Throw(a) => ref_to(image, regs, u32::from(*a), &Wanted::Throwable),
         Op::FieldGet(_, _, b, field) => {
             ref_to(image, regs, u32::from(*b), &Wanted::Class(field.info.class))
@@ -76,9 +72,7 @@ pub fn demand_of(
             invoke(image, &code.method, regs, *call, named, method, made)
         }
         Op::ReturnVoid => return_void(&code.method, state),
-        Op::Return(width, a) => {
-            return_value(image, &code.method, *width, u32::from(*a), state)
-        }
+        Op::Return(width, a) => { return_value(image, &code.method, *width, u32::from(*a), state) }
         _ => None,
     }
 }

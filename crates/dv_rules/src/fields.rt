@@ -32,12 +32,7 @@ pub fn field_put(
 }
 
 /// The value that is put into a field.
-pub fn field_value(
-    image: &Image,
-    regs: &Seq<RegType>,
-    from: u16,
-    field: &Field<'_>,
-) -> Option<Rule>
+pub fn field_value(image: &Image, regs: &Seq<RegType>, from: u16, field: &Field<'_>) -> Option<Rule>
     ensures { result ≡ value_for image.now regs.now from field.now.def.now.ty }
 {
     let def = field.def;

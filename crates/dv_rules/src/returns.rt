@@ -1,7 +1,6 @@
 // What returns demand.
 ghost use Rattle.std.specs.Prelude.{◌≡◌, not, ◌&&◌};
-ghost use Rattle.dv_defs.specs.Demands.{Demand, first as one_then, demand as demand_that, is_void as is_void_result, result_width as width_of_result, same_width, this_initialised as initialised, value_returned as returned};
-ghost use Rattle.dv_defs.specs.declared.faults.Rule.TheVariants as rule;
+ghost use Rattle.dv_defs.specs.Demands.{is_void as is_void_result, result_width as width_of_result, same_width, this_initialised as initialised, value_returned as returned};
 ghost use Rattle.dv_ops.specs.Meaning.{method_of};
 ghost use Rattle.dv_units.specs.Tables.{standard_width};
 ghost use Rattle.dv_rules.specs.Returns.{return_void_for, return_for};
@@ -17,10 +16,8 @@ use dv_optable::Width;
 pub fn return_void(own: &Method<'_>, state: &RegState) -> Option<Rule>
     ensures { result ≡ return_void_for (method_of own.now) state.now }
 {
-    first(
-        demand(own.def.proto.ret.is_none(), Rule::V(13)),
-        this_initialised(own, state),
-    )
+    let void = demand(own.def.proto.ret.is_none(), Rule::V(13));
+    first(void, this_initialised(own, state))
 }
 
 /// What the return of a value demands.

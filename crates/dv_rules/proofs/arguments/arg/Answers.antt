@@ -1,8 +1,6 @@
-use Rattle.std.proofs.Common.{◌≡◌, ◌+◌, suc, sym, ◌∙◌, ap, add-one}
-use Rattle.std.specs.Prelude.{slice_get}
+use Rattle.std.proofs.Common.{sym, ◌∙◌, add-one}
 use Rattle.dv_defs.specs.Op.{named_registers}
 use Rattle.dv_rules.proofs.ArgumentLists.{no_arg, single_arg, long_arg}
-use Rattle.dv_rules.specs.Arguments.{long_arg_for}
 use Rattle.dv_rules.proofs.arguments.arg.Goals as goal
 
 pub returns-in_default-clause-arg : goal.returns-in_default-clause-arg

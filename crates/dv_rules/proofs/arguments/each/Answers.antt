@@ -1,4 +1,4 @@
-use Rattle.std.proofs.Common.{◌≡◌, ◌+◌, ◌≤◌, suc, sym, ◌∙◌, ap, add-one, arith}
+use Rattle.std.proofs.Common.{sym, ◌∙◌, add-one, arith}
 use Rattle.dv_defs.specs.Op.{named_registers}
 use Rattle.dv_image.specs.Common.{type_of}
 use Rattle.dv_rules.proofs.ArgumentLists.{no_element, next_element, broken_element}

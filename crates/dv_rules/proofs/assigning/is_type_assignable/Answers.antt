@@ -1,4 +1,3 @@
-use Rattle.std.proofs.Common.{◌≡◌}
 use Rattle.dv_rules.proofs.assigning.is_type_assignable.Goals as goal
 
 pub returns-in-Throwable : goal.returns-in-Throwable

@@ -1,5 +1,4 @@
-use Rattle.std.proofs.Common.{◌≡◌, ◌+◌, ◌≤◌, ap, sym, ◌∙◌, arith, rules, is_ok, drop}
-use Rattle.dv_defs.specs.Tiling.{tiled}
+use Rattle.std.proofs.Common.{◌+◌, ◌≤◌, ap, sym, ◌∙◌, arith, rules, is_ok}
 use Rattle.dv_units.proofs.Decoding.{units_fit}
 use Rattle.dv_rules.proofs.PayloadWalk.{passes, stops, ok_with}
 use Rattle.dv_fetch.proofs.Tiles.{tile}

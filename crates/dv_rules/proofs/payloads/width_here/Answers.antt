@@ -1,5 +1,5 @@
-use Rattle.std.proofs.Common.{◌≡◌, ℕ, ◌+◌, ◌≤◌, List, Result, true, nat_eq, ap, sym, ◌∙◌, arith, rules, drop}
-use Rattle.dv_defs.specs.Tiling.{Tile, tiled}
+use Rattle.std.proofs.Common.{◌≡◌, ℕ, ◌+◌, ◌≤◌, List, Result, true, nat_eq, ap, sym, ◌∙◌, arith, rules}
+use Rattle.dv_defs.specs.Tiling.{Tile}
 use Rattle.dv_units.proofs.Decoding.{units_fit}
 use Rattle.dv_rules.proofs.PayloadWalk.{passes, width_from, width_met, width_lost}
 use Rattle.dv_fetch.proofs.Tiles.{tile}

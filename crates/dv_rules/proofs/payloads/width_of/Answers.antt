@@ -1,6 +1,6 @@
-use Rattle.std.proofs.Common.{◌≡◌, ◌+◌, ap, sym, ◌∙◌, arith, drop, get_or, add-zero, length-drop}
+use Rattle.std.proofs.Common.{◌≡◌, ap, sym, ◌∙◌, drop, get_or, add-zero}
 use Rattle.std.proofs.lemmas.List.{get_or-drop}
-use Rattle.dv_rules.proofs.PayloadWidths.{width_of_data, width_of_other, cut_data}
+use Rattle.dv_rules.proofs.PayloadWidths.{width_of_data}
 use Rattle.dv_rules.proofs.payloads.width_of.Goals as goal
 
 pub returns-then-units-at-gt1 : goal.returns-then-units-at-gt1
