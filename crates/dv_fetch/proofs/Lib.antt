@@ -3,3 +3,4 @@ pub mod Tiles
 pub mod Passing
 pub mod Standing
 pub mod Classes
+pub mod Fetched

@@ -1,12 +1,12 @@
 -- A walk over the items of units from their start to an address.
-use Rattle.std.proofs.Common.{◌≡◌, ℕ, ◌+◌, ◌/◌, ◌<◌, ◌≤◌, Bool, true, false, not, List, [], ◌∷◌, length, drop, Option, Some, None, Result, Ok, Err, refl, ap, sym, ◌∙◌, subst, arith, length-drop, is_some, ◌⊎◌, inl, inr}
+use Rattle.std.proofs.Common.{◌≡◌, ℕ, ◌+◌, ◌/◌, ◌<◌, Bool, true, false, not, List, [], ◌∷◌, drop, Option, Some, None, Ok, refl, ap, sym, ◌∙◌, subst, arith, is_some}
 use Rattle.std.specs.Prelude.{option_map}
 use Rattle.dv_defs.specs.Spelling.{all_fit}
 use Rattle.dv_defs.specs.Decoding.{Sized, insn_here}
-use Rattle.dv_defs.specs.Tiling.{Piece, SizedPayload, Tile, IsInsn, IsPayload, begins_payload, payload_of, payload_piece, insn_piece, piece_here, tiling, tiled, tiles_in, tile_at, insn_in, insn_at, begins_insn, begins_item}
+use Rattle.dv_defs.specs.Tiling.{Piece, SizedPayload, Tile, IsInsn, IsPayload, begins_payload, payload_of, payload_piece, insn_piece, piece_here, tiling, tiles_in, tile_at, insn_in, begins_insn}
 use Rattle.dv_fetch.specs.Places.{begins_as_insn}
 use Rattle.dv_fetch.proofs.Pieces.{none_past}
-use Rattle.dv_fetch.proofs.Tiles.{AreFrom, IsMet, tile, step, end, none_before, met_first, met_later, meets, one_or_end}
+use Rattle.dv_fetch.proofs.Tiles.{AreFrom, IsMet, tile, step, end, none_before, met_first, met_later}
 
 -- what stands at an address is to be found from here on
 pub record IsWalk (units : List ℕ) (tiles : List Tile) (here at : ℕ) : Type 0 where

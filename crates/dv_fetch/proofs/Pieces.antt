@@ -1,5 +1,5 @@
 -- What stands where units begin, and how many units it has.
-use Rattle.std.proofs.Common.{◌≡◌, ℕ, ◌+◌, ◌<◌, ◌≤◌, ◌/◌, zero, suc, Bool, true, false, List, [], ◌∷◌, length, take, drop, get_or, Option, Some, None, refl, ap, sym, ◌∙◌, subst, arith, length-drop, add-zero}
+use Rattle.std.proofs.Common.{◌≡◌, ℕ, ◌<◌, ◌≤◌, ◌/◌, zero, suc, Bool, true, false, List, [], ◌∷◌, length, take, drop, get_or, Option, Some, None, refl, ap, sym, ◌∙◌, arith, length-drop, add-zero}
 use Rattle.std.specs.Prelude.{option_map, IfSome}
 use Rattle.std.proofs.lemmas.List.{get_or-drop, length-take-le}
 use Rattle.dv_defs.specs.declared.code.Payload.{Payload}
@@ -7,11 +7,10 @@ use Rattle.dv_defs.specs.Spelling.{all_fit}
 use Rattle.dv_defs.specs.Decoding.{Sized, insn_here}
 use Rattle.dv_defs.specs.Tiling.{SizedPayload, Piece, begins_payload, payload_of, payload_piece, insn_piece, piece_here}
 use Rattle.dv_defs.specs.Payloads.{payload_spelling, payload_here}
-use Rattle.dv_defs.proofs.PayloadLaws.{payload_here_spelled, spelled_payload_here}
+use Rattle.dv_defs.proofs.PayloadLaws.{payload_here_spelled}
 use Rattle.dv_units.specs.Reading.{StandAt}
 use Rattle.dv_units.proofs.Decoding.{fit_from}
 use Rattle.dv_units.proofs.PayloadsHere.{none_stands, taken_stands}
-use Rattle.dv_fetch.specs.Places.{begins_as_insn}
 
 abbrev payload_if : Bool → Option SizedPayload → Option SizedPayload
 payload_if b o = elim b [ true ↦ o | false ↦ None ]

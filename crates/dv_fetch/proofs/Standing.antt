@@ -1,13 +1,13 @@
 -- The instruction that stands at an address.
-use Rattle.std.proofs.Common.{◌≡◌, ℕ, ◌+◌, ◌-◌, ◌/◌, ◌<◌, ◌≤◌, Bool, true, false, not, List, [], ◌∷◌, length, drop, Option, Some, None, Result, Ok, Err, refl, ap, sym, ◌∙◌, subst, arith, is_some, ◌⊎◌, inl, inr}
+use Rattle.std.proofs.Common.{◌≡◌, ℕ, ◌+◌, ◌/◌, ◌≤◌, Bool, true, false, List, [], ◌∷◌, length, drop, Option, Some, None, Result, Ok, Err, refl, ap, sym, ◌∙◌, subst, arith, is_some, ◌⊎◌, inl, inr}
 use Rattle.dv_defs.specs.declared.code.Insn.{Insn}
 use Rattle.dv_defs.specs.declared.code.Payload.{Payload}
 use Rattle.dv_defs.specs.Spelling.{all_fit}
 use Rattle.dv_defs.specs.Decoding.{Sized, insn_here}
-use Rattle.dv_defs.specs.Tiling.{Item, IsInsn, IsPayload, Piece, SizedPayload, Tile, begins_payload, payload_of, payload_piece, insn_piece, piece_here, tiling, tiles_in, tile_at, insn_in, begins_insn, begins_item}
+use Rattle.dv_defs.specs.Tiling.{Item, IsInsn, IsPayload, Piece, SizedPayload, Tile, begins_payload, payload_of, payload_piece, insn_piece, piece_here, tiling, tiles_in, tile_at, insn_in, begins_insn}
 use Rattle.dv_fetch.specs.Places.{IsEdge, begins_as_insn}
 use Rattle.dv_fetch.proofs.Pieces.{none_past}
-use Rattle.dv_fetch.proofs.Tiles.{AreFrom, FitsThere, IsMet, meets, one_or_end}
+use Rattle.dv_fetch.proofs.Tiles.{FitsThere, IsMet, meets, one_or_end}
 use Rattle.dv_fetch.proofs.Passing.{begins_tile}
 
 -- ---- units that have tiles
@@ -62,13 +62,16 @@ stands_item : (x : Item) (units : List ℕ) (at : ℕ) (b n : ℕ) → all_fit 1
 stands_item (IsPayload p) units at b n fit h e = absurd (cc (h))
 stands_item (IsInsn i) units at b n fit h e =
     let m = met units at (record { at = b; size = n; item = IsInsn i }) fit e in
-    let P : ℕ → Type 0 = λ a. tile_at (tiles_in (tiling units)) at ≡ Some (record { at = a; size = n; item = IsInsn i }) in
-    (i, n, record {
-      tile = subst P m.own e;
-      here = insn_first (drop at units) i n m.piece;
-      fits = m.fits;
-      next = next_edge units at (record { at = b; size = n; item = IsInsn i }) fit m;
-    })
+    let P : ℕ → Type 0 = λ a. tile_at (tiles_in (tiling units)) at ≡ Some (record { at = a; size = n; item = IsInsn i }) in (
+      i,
+      n,
+      record {
+        tile = subst P m.own e;
+        here = insn_first (drop at units) i n m.piece;
+        fits = m.fits;
+        next = next_edge units at (record { at = b; size = n; item = IsInsn i }) fit m;
+      },
+    )
 
 stands_by : (o : Option Tile) (units : List ℕ) (at : ℕ) → all_fit 16 units ≡ true → begins o ≡ true → tile_at (tiles_in (tiling units)) at ≡ o → (i : Insn) × (m : ℕ) × Stands units at i m
 stands_by None units at fit h e = absurd (cc (h))

@@ -98,6 +98,7 @@ none_with t b (Err at) ts e none h = absurd (cc)
 none_first : (o : Option Piece) (us : List ℕ) (at b : ℕ) (ts : List Tile) → b < at → tile_first at o us ≡ Ok ts → ((k : ℕ) (rest : List Tile) → tiled (suc at) k us ≡ Ok rest → tile_at rest b ≡ None) → tile_at ts b ≡ None
 none_first None us at b ts h e none = absurd (cc)
 none_first (Some p) us at b ts h e none = none_with (tile at p) b (tiled (suc at) (p.size - 1) us) ts (apart at b h) (λ rest k. none (p.size - 1) rest k) e
+
 none_below : (us : List ℕ) (at k b : ℕ) (ts : List Tile) → b < at → tiled at k us ≡ Ok ts → tile_at ts b ≡ None
 none_below [] at zero b ts h e = let empty : [] ≡ ts = cc in ap (λ xs. tile_at xs b) (sym empty)
 none_below [] at (suc k) b ts h e = absurd (cc)

@@ -1,5 +1,5 @@
 -- Addresses of a body.
-use Rattle.std.specs.Prelude.{◌≡◌, ◌⊎◌, ◌<◌, ℕ, Bool, true, false, not, List, [], ◌∷◌, length}
+use Rattle.std.specs.Prelude.{◌≡◌, ◌⊎◌, ℕ, Bool, true, false, not, List, [], ◌∷◌, length}
 use Rattle.dv_defs.specs.Op.{Code}
 use Rattle.dv_defs.specs.Tiling.{begins_item, begins_payload, tiling, tiles_in}
 

@@ -1,27 +1,22 @@
 // Instructions resolved (AOSP, "Dalvik bytecode format").
-ghost use Rattle.std.specs.Prelude.{◌≡◌, ◌<◌, true, None, Ok, Err, MatchResult, option_map};
+ghost use Rattle.std.specs.Prelude.{◌≡◌, ◌<◌, true, None, Some, Ok, option_map};
 ghost use Rattle.dv_defs.specs.Families.{family_at, pool_in};
-ghost use Rattle.dv_defs.specs.Op.{Code, Arg, Op as Operation, int_op, long_op, move_op, new_op, op_of, resolve as resolved, resolved_field, resolved_method, result_op};
+ghost use Rattle.dv_defs.specs.Op.{Code, op_of, resolve as resolved};
 ghost use Rattle.dv_defs.specs.Images.{Image as Linked};
 ghost use Rattle.dv_defs.specs.Tiling.{payload_at};
 ghost use Rattle.dv_defs.specs.Numbers.{jump};
-ghost use Rattle.dv_ops.specs.Meaning.{arg_of, code_of, field_of, has_payload, has_payload_of, meant, meant_or_rule, method_of};
-ghost use Rattle.dv_units.specs.Tables.{standard_bin, standard_family, standard_width};
+ghost use Rattle.dv_ops.specs.Meaning.{code_of, has_payload, has_payload_of, meant, meant_or_rule};
+ghost use Rattle.dv_units.specs.Tables.{standard_family};
 
-use crate::pools::{called_at, class_at, named_field_at, string_at, type_at};
 use crate::parts::{int_op, long_op, move_op, result_op, target};
+use crate::pools::{called_at, class_at, named_field_at, string_at, type_at};
 use dv_defs::{Image, Insn, Rule};
 use dv_ops::{Arg, Coded, Op};
 use dv_optable::{Family, kind_of};
 
 /// The operation of an instruction at an address, or the static rule for which there is none: S12 where its index is no place in its
 /// pool, S16 where new-instance names no class.
-pub fn resolve<'a>(
-    image: &'a Image,
-    code: &Coded<'a>,
-    at: u32,
-    insn: &Insn,
-) -> Result<Op<'a>, Rule>
+pub fn resolve<'a>(image: &'a Image, code: &Coded<'a>, at: u32, insn: &Insn) -> Result<Op<'a>, Rule>
     requires { at < 16384 }
     ensures { has_payload (code_of code.now) at insn.now ≡ true → meant_or_rule (code_of code.now) at result ≡ op_of image.now (code_of code.now) at insn.now }
 {

@@ -1,5 +1,5 @@
-use Rattle.std.proofs.Common.{◌≡◌, ℕ, ◌+◌, ◌-◌, drop, Option, Some, sym, ◌∙◌, ap, subst, arith}
-use Rattle.dv_defs.specs.Tiling.{Tile, IsInsn, tile_at, tiles_in, tiling}
+use Rattle.std.proofs.Common.{◌≡◌, ℕ, ◌+◌, ◌-◌, Some, subst, arith}
+use Rattle.dv_defs.specs.Tiling.{IsInsn, tile_at, tiles_in, tiling}
 use Rattle.dv_units.proofs.Decoding.{units_fit}
 use Rattle.dv_fetch.proofs.Standing.{stands, read_stands}
 use Rattle.dv_fetch.proofs.fetch.insn_in.Goals as goal

@@ -1,4 +1,4 @@
-use Rattle.std.proofs.Common.{◌≡◌, ℕ, Option, Some, None, drop, refl}
+use Rattle.std.proofs.Common.{Some, None, drop, refl}
 use Rattle.dv_defs.specs.Payloads.{payload_here}
 use Rattle.dv_units.proofs.Decoding.{units_fit}
 use Rattle.dv_fetch.proofs.Pieces.{size_by}

@@ -1,5 +1,4 @@
-use Rattle.std.proofs.Common.{◌≡◌, ◌<◌, ◌^◌, length, ap, arith, rules, subst}
-use Rattle.dv_defs.specs.Images.{Image}
+use Rattle.std.proofs.Common.{◌<◌, ◌^◌, arith, rules, subst}
 use Rattle.dv_defs.specs.Linked.{IsImage}
 use Rattle.dv_fetch.proofs.Classes.{few}
 use Rattle.dv_fetch.proofs.pools.class_id.Goals as goal

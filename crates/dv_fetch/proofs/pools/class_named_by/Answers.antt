@@ -1,4 +1,4 @@
-use Rattle.std.proofs.Common.{◌≡◌, sym, ◌∙◌}
+use Rattle.std.proofs.Common.{sym}
 use Rattle.dv_fetch.proofs.Classes.{base_inside}
 use Rattle.dv_fetch.proofs.pools.class_named_by.Goals as goal
 

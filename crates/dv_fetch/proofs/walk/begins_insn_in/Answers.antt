@@ -1,7 +1,7 @@
-use Rattle.std.proofs.Common.{◌≡◌, ℕ, ◌+◌, ◌≤◌, false, nat_eq, length, ◌∙◌, arith, rules, refl}
+use Rattle.std.proofs.Common.{◌≡◌, ◌+◌, ◌≤◌, false, nat_eq, ◌∙◌, arith, rules}
 use Rattle.dv_defs.specs.Tiling.{tiling, tiles_in}
 use Rattle.dv_units.proofs.Decoding.{units_fit}
-use Rattle.dv_fetch.proofs.Passing.{IsWalk, passed_by, passed_over}
+use Rattle.dv_fetch.proofs.Passing.{passed_by, passed_over}
 use Rattle.dv_fetch.proofs.walk.begins_insn_in.Goals as goal
 
 pub overflow_add-here : goal.overflow_add-here

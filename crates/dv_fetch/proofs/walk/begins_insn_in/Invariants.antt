@@ -1,4 +1,4 @@
-use Rattle.std.proofs.Common.{◌-◌, ◌≤◌, length}
+use Rattle.std.proofs.Common.{◌-◌}
 use Rattle.dv_defs.specs.Tiling.{tiling, tiles_in}
 use Rattle.dv_fetch.proofs.Passing.{IsWalk}
 use Rattle.dv_fetch.proofs.walk.begins_insn_in.Given as goal
