@@ -51,7 +51,7 @@ pub fn is_base_under(image: &Image, ascent: Ascent, dims: u8, a: &Base, b: &Base
     }
 }
 
-/// Whether a type of so many dimensions over the first is under the class of this descriptor, which isn't itself.
+/// Whether a type of so many dimensions over the first is under the class of this descriptor; that they are equal is asked before.
 pub fn is_under_class(image: &Image, ascent: Ascent, dims: u8, a: &Base, name: &Text) -> bool
     ensures { result ≡ under_class image.now (by ascent image.now) dims a.now name.now }
 {
