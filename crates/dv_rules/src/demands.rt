@@ -10,7 +10,7 @@ ghost use Rattle.dv_rules.specs.Made.{made_for};
 use crate::arguments::elements;
 use crate::arrays::{Elements, array};
 use crate::assigning::{Wanted, ref_to};
-use crate::calls::invoke;
+use crate::invokes::invoke;
 use crate::fields::{element, element_put, field_put, field_value};
 use crate::operands::{both, has_int, has_long, has_reference, int_and, shift, two_longs, zero};
 use crate::payloads::width_at;

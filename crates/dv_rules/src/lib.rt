@@ -5,7 +5,7 @@
 mod arguments;
 mod arrays;
 mod assigning;
-mod calls;
+mod invokes;
 mod demands;
 mod edges;
 mod entry;

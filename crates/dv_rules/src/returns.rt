@@ -5,7 +5,7 @@ ghost use Rattle.dv_ops.specs.Meaning.{method_of};
 ghost use Rattle.dv_units.specs.Tables.{standard_width};
 ghost use Rattle.dv_rules.specs.Returns.{return_void_for, return_for};
 
-use crate::calls::is_constructor;
+use crate::invokes::is_constructor;
 use crate::reads::{demand, first};
 use crate::values::{is_long, is_reference, value};
 use dv_defs::{Image, RegState, RegType, Rule, Seq, Ty};
