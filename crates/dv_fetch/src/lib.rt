@@ -11,5 +11,6 @@ mod tests;
 mod walk;
 
 pub use fetch::{begins_insn_next, op_at};
+pub use items::{item_units, units_of};
 pub use resolving::resolve;
 pub use walk::begins_insn_at;

@@ -10,6 +10,7 @@ mod subtypes;
 
 pub use calls::{lookup_interface, lookup_virtual};
 pub use classes::{class_of, has_interface_flag, parent_of};
+pub use classes::{OBJECT, class_of, is_interface};
 pub use common::{class_of_base, common_super};
 pub use fields::field_of;
-pub use subtypes::{assignable, instance, sub};
+pub use subtypes::{Ascent, assignable, instance, is_base_under, is_under_class, sub};

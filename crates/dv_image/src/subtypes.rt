@@ -42,7 +42,7 @@ fn is_type_under(image: &Image, ascent: Ascent, a: &Ty, b: &Ty) -> bool
 }
 
 /// Whether a type of so many dimensions over the first is under the second.
-fn is_base_under(image: &Image, ascent: Ascent, dims: u8, a: &Base, b: &Base) -> bool
+pub fn is_base_under(image: &Image, ascent: Ascent, dims: u8, a: &Base, b: &Base) -> bool
     ensures { result ≡ under_base image.now (by ascent image.now) dims a.now b.now }
 {
     match b {
@@ -51,7 +51,8 @@ fn is_base_under(image: &Image, ascent: Ascent, dims: u8, a: &Base, b: &Base) ->
     }
 }
 
-fn is_under_class(image: &Image, ascent: Ascent, dims: u8, a: &Base, name: &Text) -> bool
+/// Whether a type of so many dimensions over the first is under the class of this descriptor; that they are equal is asked before.
+pub fn is_under_class(image: &Image, ascent: Ascent, dims: u8, a: &Base, name: &Text) -> bool
     ensures { result ≡ under_class image.now (by ascent image.now) dims a.now name.now }
 {
     match a {

@@ -5,14 +5,25 @@
 mod calls;
 mod changes;
 mod catchers;
+mod arguments;
+mod arrays;
+mod assigning;
+mod invokes;
 mod demands;
 mod entry;
 mod flow;
+mod fields;
+mod named;
+mod operands;
+mod payloads;
 mod public;
+mod reads;
 mod receiver;
 mod registers;
 mod switches;
+mod returns;
 mod transfer;
+mod values;
 mod verified;
 
 pub use demands::{demand_of, ok_of};
