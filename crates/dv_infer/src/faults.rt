@@ -24,7 +24,11 @@ pub fn typing_faults(
     let mut faults = Vec::new(alloc);
     for at in 0..states.len() {
         if let Some(rule) = rule_at(image, code, at as u32, &states[at]) {
-            faults.push(Fault { method: code.method.id, address: at as u32, rule })?;
+            faults.push(Fault {
+                method: code.method.id,
+                address: at as u32,
+                rule,
+            })?;
         }
     }
     Ok(faults)

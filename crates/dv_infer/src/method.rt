@@ -36,11 +36,17 @@ pub fn infer(alloc: Global, image: &Image, method: MethodId) -> Result<Map, Infe
         return Err(InferError::Faults(Seq::of(faults)));
     }
     let code = coded_at(image, method).unwrap();
-    let flow = MethodFlow { alloc, image, code: &code };
+    let flow = MethodFlow {
+        alloc,
+        image,
+        code: &code,
+    };
     let states = least(&flow, alloc)?;
     let faults = typing_faults(alloc, image, &code, &states)?;
     if !faults.is_empty() {
         return Err(InferError::Faults(Seq::of(faults)));
     }
-    Ok(Map { states: Seq::of(states) })
+    Ok(Map {
+        states: Seq::of(states),
+    })
 }
