@@ -1,6 +1,6 @@
 -- What the maps and faults of judged methods say of the image.
 use Rattle.std.proofs.Common.{◌≡◌, ◌≢◌, ◌<◌, ◌+◌, ℕ, zero, suc, List, [], ◌∷◌, ◌++◌, length, Option, Some, None, refl, sym, ap, ◌∙◌, subst, arith, append-nil}
-use Rattle.std.specs.Prelude.{slice_get, IsSome}
+use Rattle.std.specs.Prelude.{slice_get, IsSome, Err}
 use Rattle.dv_defs.specs.declared.faults.Fault.{Fault}
 use Rattle.dv_defs.specs.declared.image.MethodInfo.{MethodInfo}
 use Rattle.dv_defs.specs.Images.{Image}
@@ -11,6 +11,9 @@ use Rattle.dv_defs.specs.Flow.{IsTyping}
 use Rattle.dv_defs.specs.Accepting.{FaultsOf, AreFaults, AreFaultsFrom, AreImageFaults, Accepts, IsAcceptedMethod, static_places}
 use Rattle.dv_rules.specs.declared.verified.Map.{Map}
 use Rattle.dv_rules.specs.Verified.{typing_of, typing_at, IsVerified}
+use Rattle.dv_infer.specs.Errors.{IfFaults}
+use Rattle.dv_infer.specs.declared.errors.InferError.{InferError}
+use Rattle.dv_infer.specs.declared.errors.InferError.TheVariants.{Faults}
 use Rattle.dv_pverify.specs.Judging.{IsJudged, Judges, AreJudged}
 
 -- ---- one more method
@@ -146,3 +149,8 @@ judges_faults image (Some code) m fs some faults there refused = record {
 pub no_items : {A : Type 0} (xs : List A) → length xs ≡ 0 → xs ≡ []
 no_items [] e = refl
 no_items (x ∷ xs) e = absurd (omega (arith, e))
+
+-- ---- an error that tells faults
+
+pub faults_told : (e : InferError) (fs : List Fault) (P : List Fault → Type 0) → e ≡ Faults fs → IfFaults {A = Map} (Err e) P → P fs
+faults_told e fs P is h = subst (λ (x : InferError). IfFaults {A = Map} (Err x) P) is h

@@ -3,7 +3,7 @@ use Rattle.dv_defs.specs.Linked.{IsImage}
 use Rattle.dv_linklaws.proofs.TableLaws.{image_few_methods}
 use Rattle.dv_pverify.proofs.judge.count_of.Goals as goal
 
-pub overflow_cast : goal.overflow_cast
-overflow_cast c =
+pub overflow_cast-result : goal.overflow_cast-result
+overflow_cast-result c =
     let same : c.items-methods.result.now ≡ c.args.image.now.methods = search rules in
     omega (arith, image_few_methods c.args.image.now (subst IsImage c.image.view_is c.image.invariant.0), ap length same)

@@ -14,7 +14,7 @@ loop-method-preserved c =
     let one : AreJudged image from (ms ++ c.in_ok-map.map ∷ []) (fs ++ c.in_ok-map.faults.items) =
     judged_one image from c.loop-method.method ms fs c.in_ok-map.faults.items c.in_ok-map.map (sym c.loop-method.invariant.count) c.loop-method.invariant.judged c.in_ok-map.ensures in
     record {
-      judged = subst (λ (xs : List Map). AreJudged image from xs c.add.new.judged.faults.items) (sym c.add.ensures.maps)
-          (subst (λ (gs : List Fault). AreJudged image from (ms ++ c.in_ok-map.map ∷ []) gs) (sym c.add.ensures.faults) one);
-      count = omega (arith, ap length c.add.ensures.maps, length-append ms (c.in_ok-map.map ∷ []), c.loop-method.invariant.count);
+      judged = subst (λ (xs : List Map). AreJudged image from xs c.add.new.judged.faults.items) (sym c.in_ok-add.ensures.maps)
+          (subst (λ (gs : List Fault). AreJudged image from (ms ++ c.in_ok-map.map ∷ []) gs) (sym c.in_ok-add.ensures.faults) one);
+      count = omega (arith, ap length c.in_ok-add.ensures.maps, length-append ms (c.in_ok-map.map ∷ []), c.loop-method.invariant.count);
     }
