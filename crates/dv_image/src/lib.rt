@@ -9,8 +9,7 @@ mod instances;
 mod subtypes;
 
 pub use calls::{lookup_interface, lookup_virtual};
-pub use classes::{class_of, has_interface_flag, parent_of};
-pub use classes::{OBJECT, class_of, is_interface};
+pub use classes::{OBJECT, class_of, has_interface_flag, is_interface, parent_of};
 pub use common::{class_of_base, common_super};
 pub use fields::field_of;
 pub use subtypes::{Ascent, assignable, instance, is_base_under, is_under_class, sub};
