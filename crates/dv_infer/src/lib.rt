@@ -5,8 +5,8 @@ mod along;
 mod errors;
 mod faults;
 mod flow;
-//mod method;
+mod method;
 mod receivers;
 
 pub use errors::InferError;
-//pub use method::infer;
+pub use method::infer;
