@@ -22,7 +22,7 @@ pub no_demand_at : (image : Image) (code : Code) (x : Option At) (s : Option Reg
 no_demand_at image code x s e = no_demand image code x ∙ sym (ap (demand_at image code x) e)
 
 -- the state read at a place is the one assigned
-read_is : (xs : List (Option RegState)) (k : ℕ) (o : Option RegState) → k < length xs → o ≡ slice_index_or xs k o → assigned xs k ≡ o
+pub read_is : (xs : List (Option RegState)) (k : ℕ) (o : Option RegState) → k < length xs → o ≡ slice_index_or xs k o → assigned xs k ≡ o
 read_is xs k o within read = get_or_default xs k None o within ∙ sym read
 
 fit_of : (fits : ℕ → RegState → Type 0) (k : ℕ) (typing : Typing) (o : Option RegState) → typing k ≡ o → AllFit fits typing → IfSome o (fits k)

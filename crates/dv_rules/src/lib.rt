@@ -2,17 +2,17 @@
 //! along which states flow (AOSP, "Dalvik bytecode constraints"; V1 to V14 are this product's own names).
 #![tactic(auto)]
 
-mod calls;
-mod changes;
-mod catchers;
 mod arguments;
 mod arrays;
 mod assigning;
-mod invokes;
+mod calls;
+mod catchers;
+mod changes;
 mod demands;
 mod entry;
-mod flow;
 mod fields;
+mod flow;
+mod invokes;
 mod named;
 mod operands;
 mod payloads;
@@ -20,8 +20,8 @@ mod public;
 mod reads;
 mod receiver;
 mod registers;
-mod switches;
 mod returns;
+mod switches;
 mod transfer;
 mod values;
 mod verified;

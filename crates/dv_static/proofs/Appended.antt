@@ -1,5 +1,5 @@
 -- Places added one after another.
-use Rattle.std.proofs.Common.{◌≡◌, ℕ, List, [], ◌++◌, sym, ap, ◌∙◌, append_assoc}
+use Rattle.std.proofs.Common.{◌≡◌, ℕ, List, ◌++◌, sym, ap, ◌∙◌, append_assoc}
 use Rattle.std.proofs.lemmas.List.{map-append}
 use Rattle.dv_defs.specs.declared.faults.Rule.{Rule}
 use Rattle.dv_defs.specs.Accepting as accepting
@@ -14,7 +14,3 @@ two_after ps at xs ys = append_assoc ps (places at xs) (places at ys) ∙ ap (λ
 
 pub three_after : (ps : List accepting.Place) (at : ℕ) (xs ys zs : List Rule) → ((ps ++ places at xs) ++ places at ys) ++ places at zs ≡ ps ++ places at ((xs ++ ys) ++ zs)
 three_after ps at xs ys zs = ap (λ qs. qs ++ places at zs) (two_after ps at xs ys) ∙ two_after ps at (xs ++ ys) zs
-
--- three lists put behind each other, one after another
-pub three_lists : (ps qs rs ss : List accepting.Place) → ps ≡ [] → ((ps ++ qs) ++ rs) ++ ss ≡ qs ++ rs ++ ss
-three_lists ps qs rs ss e = ap (λ (xs : List accepting.Place). ((xs ++ qs) ++ rs) ++ ss) e

@@ -157,7 +157,6 @@ fn all_places(
 }
 
 /// The same as they are found.
-#[tactic(auto, using(crate::proofs::Appended::three_lists))]
 fn found_places(
     alloc: Global,
     image: &Image,

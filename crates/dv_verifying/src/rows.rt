@@ -3,11 +3,7 @@
 // The registers and the body of a static method `main()V`.
 pub static MAINS: [(&str, &str, &str); 56] = [
     // one straight path; a register that is not written on each path
-    (
-        "0",
-        "return-void",
-        "",
-    ),
+    ("0", "return-void", ""),
     (
         "2",
         "const/4 v0, 0x1\nif-eqz v0, :a\nconst/4 v1, 0x5\n:a\ninvoke-static {v1}, Ldvm/Console;->println(I)V\nreturn-void",
@@ -111,11 +107,7 @@ pub static MAINS: [(&str, &str, &str); 56] = [
         "const/4 v0, 0x0\ninvoke-virtual {v0}, Ljava/lang/Thread;->start()V\nreturn-void",
         "",
     ),
-    (
-        "1",
-        "const-string v0, \"a\"\nthrow v0",
-        "main 0002 V5\n",
-    ),
+    ("1", "const-string v0, \"a\"\nthrow v0", "main 0002 V5\n"),
     (
         "1",
         "const-string v0, \"a\"\ninvoke-interface {v0}, Ljava/lang/Runnable;->run()V\nreturn-void",
@@ -127,11 +119,7 @@ pub static MAINS: [(&str, &str, &str); 56] = [
         "const/4 v0, 0x1\nmove-object v1, v0\nreturn-void",
         "main 0001 V6\n",
     ),
-    (
-        "2",
-        "const/4 v0, 0x0\nmove-object v1, v0\nreturn-void",
-        "",
-    ),
+    ("2", "const/4 v0, 0x0\nmove-object v1, v0\nreturn-void", ""),
     // V7: the result of the call before
     (
         "1",
@@ -213,11 +201,7 @@ pub static MAINS: [(&str, &str, &str); 56] = [
         "main 0002 V11\n",
     ),
     // V13: the form of the return
-    (
-        "2",
-        "const/4 v0, 0x1\nreturn v0",
-        "main 0001 V13\n",
-    ),
+    ("2", "const/4 v0, 0x1\nreturn v0", "main 0001 V13\n"),
     // switches
     (
         "2",
@@ -235,11 +219,7 @@ pub static MAINS: [(&str, &str, &str); 56] = [
         "",
     ),
     // an address without a state is not looked at
-    (
-        "2",
-        "goto :a\nmove v0, v1\n:a\nreturn-void",
-        "",
-    ),
+    ("2", "goto :a\nmove v0, v1\n:a\nreturn-void", ""),
     // S11, S14, S15, S16
     (
         "1",
@@ -261,11 +241,7 @@ pub static MAINS: [(&str, &str, &str); 56] = [
         "new-instance v0, Ljava/lang/Runnable;\nreturn-void",
         "main 0000 S16\n",
     ),
-    (
-        "1",
-        "new-instance v0, [I\nreturn-void",
-        "main 0000 S16\n",
-    ),
+    ("1", "new-instance v0, [I\nreturn-void", "main 0000 S16\n"),
     (
         "2",
         "const/4 v0, 0x1\nnew-array v0, v0, I\nreturn-void",
@@ -306,46 +282,14 @@ pub static MAINS: [(&str, &str, &str); 56] = [
 
 // The same, of raw bodies.
 pub static RAW_MAINS: [(&str, &str, &str); 37] = [
-    (
-        "1",
-        ".units\n.end units",
-        "main 0000 S1\n",
-    ),
-    (
-        "1",
-        ".units\n003e\n.end units",
-        "main 0000 S1\n",
-    ),
-    (
-        "1",
-        ".units\n00a6 0000\n.end units",
-        "main 0000 S2\n",
-    ),
-    (
-        "1",
-        ".units\n0013\n.end units",
-        "main 0000 S1\n",
-    ),
-    (
-        "1",
-        ".units\n000e 0013\n.end units",
-        "main 0001 S1\n",
-    ),
-    (
-        "1",
-        ".units\n0028\n.end units",
-        "main 0000 S5\n",
-    ),
-    (
-        "2",
-        ".units\n0112 0212 000e\n.end units",
-        "main 0001 S11\n",
-    ),
-    (
-        "1",
-        ".units\n0100\n.end units",
-        "main 0000 S1\n",
-    ),
+    ("1", ".units\n.end units", "main 0000 S1\n"),
+    ("1", ".units\n003e\n.end units", "main 0000 S1\n"),
+    ("1", ".units\n00a6 0000\n.end units", "main 0000 S2\n"),
+    ("1", ".units\n0013\n.end units", "main 0000 S1\n"),
+    ("1", ".units\n000e 0013\n.end units", "main 0001 S1\n"),
+    ("1", ".units\n0028\n.end units", "main 0000 S5\n"),
+    ("2", ".units\n0112 0212 000e\n.end units", "main 0001 S11\n"),
+    ("1", ".units\n0100\n.end units", "main 0000 S1\n"),
     (
         "1",
         ".units\n0100 0000 0000 0000\n.end units",
@@ -386,56 +330,16 @@ pub static RAW_MAINS: [(&str, &str, &str); 37] = [
         ".rawref I\n.units\n0012 0023 0000 000e\n.end units",
         "main 0001 S16\n",
     ),
-    (
-        "1",
-        ".units\n000f\n.end units",
-        "main 0000 V13\n",
-    ),
-    (
-        "1",
-        ".units\n000a 000e\n.end units",
-        "main 0000 V7\n",
-    ),
-    (
-        "1",
-        ".units\n000d 000e\n.end units",
-        "main 0000 V8\n",
-    ),
-    (
-        "1",
-        ".units\n0012 0000\n.end units",
-        "main 0001 V1\n",
-    ),
-    (
-        "1",
-        ".units\n0328 0013 0005 000e\n.end units",
-        "",
-    ),
-    (
-        "1",
-        ".units\n0016 0007 000e\n.end units",
-        "main 0000 S11\n",
-    ),
-    (
-        "2",
-        ".units\n0127\n.end units",
-        "main 0000 V4\n",
-    ),
-    (
-        "1",
-        ".units\n0012 0027\n.end units",
-        "",
-    ),
-    (
-        "1",
-        ".units\n002a 0000 0000\n.end units",
-        "",
-    ),
-    (
-        "1",
-        ".units\n0071 0000 0001\n.end units",
-        "main 0000 S1\n",
-    ),
+    ("1", ".units\n000f\n.end units", "main 0000 V13\n"),
+    ("1", ".units\n000a 000e\n.end units", "main 0000 V7\n"),
+    ("1", ".units\n000d 000e\n.end units", "main 0000 V8\n"),
+    ("1", ".units\n0012 0000\n.end units", "main 0001 V1\n"),
+    ("1", ".units\n0328 0013 0005 000e\n.end units", ""),
+    ("1", ".units\n0016 0007 000e\n.end units", "main 0000 S11\n"),
+    ("2", ".units\n0127\n.end units", "main 0000 V4\n"),
+    ("1", ".units\n0012 0027\n.end units", ""),
+    ("1", ".units\n002a 0000 0000\n.end units", ""),
+    ("1", ".units\n0071 0000 0001\n.end units", "main 0000 S1\n"),
     (
         "1",
         ".units\n000e\n.end units\n.rawtry 0x0 0x0 0x0 all",
@@ -456,11 +360,7 @@ pub static RAW_MAINS: [(&str, &str, &str); 37] = [
         ".units\n0000 0000 0100 0000 0000 0000\n.end units",
         "main 0001 V1\n",
     ),
-    (
-        "1",
-        ".units\n000e 0000 0100 0000 0000 0000\n.end units",
-        "",
-    ),
+    ("1", ".units\n000e 0000 0100 0000 0000 0000\n.end units", ""),
     (
         "1",
         ".units\n0012 002b 0005 0000 000e 0000 0100 0001 ffff 7fff 0003 0000\n.end units",

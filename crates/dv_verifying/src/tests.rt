@@ -102,7 +102,11 @@ fn assert_mains<R: Abort>(
     for (registers, body, faults) in rows {
         let text = main_with(alloc, registers, body)?;
         let text = str::from_utf8(&text).ok().expect(rt, "a text");
-        assert_eq!(rt; told(rt, alloc, text)?.as_slice(), faults.as_bytes(), "{body}");
+        assert_eq!(rt;
+            told(rt, alloc, text)?.as_slice(),
+            faults.as_bytes(),
+            "{body}"
+        );
     }
     Ok(())
 }

@@ -15,6 +15,6 @@ loop-method-preserved c =
     judged_one image from c.loop-method.method ms fs c.in_ok-map.faults.items c.in_ok-map.map (sym c.loop-method.invariant.count) c.loop-method.invariant.judged c.in_ok-map.ensures in
     record {
       judged = subst (λ (xs : List Map). AreJudged image from xs c.add.new.judged.faults.items) (sym c.add.ensures.maps)
-      (subst (λ (gs : List Fault). AreJudged image from (ms ++ c.in_ok-map.map ∷ []) gs) (sym c.add.ensures.faults) one);
+          (subst (λ (gs : List Fault). AreJudged image from (ms ++ c.in_ok-map.map ∷ []) gs) (sym c.add.ensures.faults) one);
       count = omega (arith, ap length c.add.ensures.maps, length-append ms (c.in_ok-map.map ∷ []), c.loop-method.invariant.count);
     }
