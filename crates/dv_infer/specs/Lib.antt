@@ -1,1 +1,4 @@
+pub mod Along
 pub mod Errors
+pub mod Judged
+pub mod Owned

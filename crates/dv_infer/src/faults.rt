@@ -1,12 +1,17 @@
 // The typing faults of a method.
-ghost use Rattle.std.specs.Prelude.{◌≡◌, length, IfOk};
+ghost use Rattle.std.specs.Prelude.{◌≡◌, ◌++◌, length, Some, IfOk, OnOk, IfSome};
+ghost use Rattle.dv_defs.specs.Accepting.{demand_at, fault_at};
+ghost use Rattle.dv_defs.specs.Statics.{fetch};
 ghost use Rattle.dv_worklist.specs.Flow.{AllFit, assigned};
 ghost use Rattle.dv_leastlaws.specs.Flowing.{IsReady, fits_at};
 ghost use Rattle.dv_leastlaws.specs.Laws.{faults_from};
 ghost use Rattle.dv_ops.specs.Meaning.{code_of};
 
-use dv_defs::{Fault, Image, RegState, Rule};
+use crate::receivers::made_of;
+use dv_defs::{Fault, Image, MethodId, RegState, Rule};
+use dv_fetch::{op_at, units_of};
 use dv_ops::Coded;
+use dv_rules::ok_of;
 use std::alloc::{AllocError, Global};
 
 /// The demands that the states of a least assignment fail, by address.
@@ -22,14 +27,56 @@ pub fn typing_faults(
     ensures { IfOk result (λ v. v.items ≡ faults_from image.now (code_of code.now) (assigned states.now) 0 (length code.now.body.now.units)) }
 {
     let mut faults = Vec::new(alloc);
-    for at in 0..states.len() {
-        if let Some(rule) = rule_at(image, code, at as u32, &states[at]) {
-            faults.push(Fault {
-                method: code.method.id,
-                address: at as u32,
-                rule,
-            })?;
-        }
+    for at in 0..units_of(code).len() {
+        let rule = rule_at(image, code, at as u32, &states[at]);
+        push_fault(code.method.id, at as u32, rule, &mut faults)?;
     }
     Ok(faults)
+}
+
+/// Adds the fault at an address, where a rule is broken there.
+fn push_fault(
+    method: MethodId,
+    at: u32,
+    rule: Option<Rule>,
+    faults: &mut Vec<Fault>,
+) -> Result<(), AllocError>
+    ensures { OnOk result (faults.new.items ≡ faults.old.items ++ fault_at method.0 at rule) }
+{
+    if let Some(rule) = rule {
+        faults.push(Fault {
+            method,
+            address: at,
+            rule,
+        })?;
+    }
+    Ok(())
+}
+
+/// The rule of the first demand that the state at an address fails; none where no state stands there.
+fn rule_at(
+    image: &Image,
+    code: &Coded<'_>,
+    at: u32,
+    state: &Option<RegState>,
+) -> Option<Rule>
+    requires ready { IsReady image.now (code_of code.now) }
+    requires fits { IfSome state.now (fits_at image.now (code_of code.now) at) }
+    ensures { result ≡ demand_at image.now (code_of code.now) (fetch image.now code.now.method.id.0 at) state.now }
+{
+    match state {
+        Some(state) => rule_of(image, code, at, state),
+        None => None,
+    }
+}
+
+/// The rule of the first demand of the instruction at an address that a state fails.
+fn rule_of(image: &Image, code: &Coded<'_>, at: u32, state: &RegState) -> Option<Rule>
+    requires ready { IsReady image.now (code_of code.now) }
+    requires fits { fits_at image.now (code_of code.now) at state.now }
+    ensures { result ≡ demand_at image.now (code_of code.now) (fetch image.now code.now.method.id.0 at) (Some state.now) }
+{
+    let (op, next) = op_at(image, code, at);
+    let made = made_of(image, code, &op, state);
+    ok_of(image, code, &op, next, made, state)
 }

@@ -1,43 +1,66 @@
 // The states of a method as they flow.
-ghost use Rattle.std.specs.Prelude.{◌≡◌, ◌<◌, true, length, Some, IfOk};
+ghost use Rattle.std.specs.Prelude.{◌≡◌, ◌<◌, length, Some, IfOk};
 ghost use Rattle.dv_defs.specs.Statics.{fetch};
-ghost use Rattle.dv_defs.specs.Tiling.{begins_insn};
 ghost use Rattle.dv_leastlaws.specs.Flowing.{IsReady, fits_at, onward_from};
-ghost use Rattle.dv_flowlaws.specs.Fitting.{StateFits};
 ghost use Rattle.dv_ops.specs.Meaning.{code_of};
 
-use dv_defs::{ClassId, Image, RegState};
-use dv_fetch::op_at;
-use dv_ops::{Coded, Op};
-use dv_rules::{Edge, caught_with, edges_from, entry_of, made_by, out_of, receiver_of};
+use crate::along::along;
+use crate::receivers::made_of;
+use dv_defs::{Image, RegState};
+use dv_fetch::{op_at, units_of};
+use dv_ops::Coded;
+use dv_rules::{edges_from, entry_of, out_of};
 use dv_types::{is_below, join};
 use dv_worklist::{Flow, Onward};
 use std::alloc::{AllocError, Global};
+use std::marker::Model;
 
 /// A method of a linked image with a body that breaks no static rule.
+#[derive(Drop)]
 pub struct MethodFlow<'a> {
-    pub alloc: Global,
-    pub image: &'a Image,
-    pub code: &'a Coded<'a>,
-    ghost ready: { IsReady image.now (code_of code.now) },
+    alloc: Global,
+    image: &'a Image,
+    code: &'a Coded<'a>,
+}
+
+impl<'a> Model for MethodFlow<'a> {
+    ghost use Rattle.dv_leastlaws.specs.Flowing.{IsReady};
+    ghost use Rattle.dv_ops.specs.Meaning.{code_of};
+    ghost use Rattle.dv_infer.specs.Owned.{OwnedCode};
+
+    ghost Value = { OwnedCode };
+
+    ghost view = { λ m. record { image = m.image.now; code = code_of m.code.now } };
+
+    ghost invariant = { λ m. IsReady m.image.now (code_of m.code.now) };
+}
+
+impl<'a> MethodFlow<'a> {
+    /// The states of a method's body.
+    pub fn new(alloc: Global, image: &'a Image, code: &'a Coded<'a>) -> MethodFlow<'a>
+        requires { IsReady image.now (code_of code.now) }
+        ensures { result ≡ record { image = image.now; code = code_of code.now } }
+    {
+        MethodFlow { alloc, image, code }
+    }
 }
 
 impl<'a> Flow for MethodFlow<'a> {
     type State = RegState;
 
     ghost use Rattle.dv_leastlaws.specs.Flowing.{flow_of, fits_at, rank_of, top_of};
-    ghost use Rattle.dv_ops.specs.Meaning.{code_of};
 
-    ghost graph = { λ m. flow_of m.image.now (code_of m.code.now) };
+    ghost graph = { λ m. flow_of m.image m.code };
 
-    ghost fits = { λ m. fits_at m.image.now (code_of m.code.now) };
+    ghost fits = { λ m. fits_at m.image m.code };
 
-    ghost rank = { λ m. rank_of m.image.now (code_of m.code.now) };
+    ghost rank = { λ m. rank_of m.image m.code };
 
-    ghost top = { λ m. top_of m.image.now (code_of m.code.now) };
+    ghost top = { λ m. top_of m.image m.code };
 
     fn size(&self) -> usize {
-        self.code.body.units.len()
+        let body = self.code.body;
+        body.units.len()
     }
 
     fn entry(&self) -> Result<RegState, AllocError> {
@@ -45,21 +68,26 @@ impl<'a> Flow for MethodFlow<'a> {
     }
 
     fn onward(&self, place: usize, state: &RegState) -> Result<Vec<Onward<RegState>>, AllocError> {
-        onward(self.alloc, self.image, self.code, place as u32, state)
+        let at = address(self.code, place);
+        onward(self.alloc, self.image, self.code, at, state)
     }
 
     fn under(&self, low: &RegState, high: &RegState) -> bool {
         is_below(self.image, low, high)
     }
 
-    fn join(
-        &self,
-        _place: usize,
-        one: &RegState,
-        other: &RegState,
-    ) -> Result<RegState, AllocError> {
+    fn join(&self, _place: usize, one: &RegState, other: &RegState) -> Result<RegState, AllocError> {
         join(self.alloc, self.image, one, other)
     }
+}
+
+/// The address of a unit, of which a body has few.
+fn address(code: &Coded<'_>, place: usize) -> u32
+    requires { place < length code.now.body.now.units }
+    ensures { result ≡ place }
+{
+    let _units = units_of(code);
+    place as u32
 }
 
 /// What goes on from the instruction at an address with a state: the state after it to the next instruction and to targets, the state
@@ -80,10 +108,4 @@ fn onward(
     let after = out_of(alloc, image, code, at, &op, made, state)?;
     let edges = edges_from(alloc, image, code, at, &op, next)?;
     along(alloc, state, after, edges)
-}
-
-/// The class of the object that a constructor call is to initialise.
-fn made_of(image: &Image, code: &Coded<'_>, op: &Op<'_>, state: &RegState) -> Option<ClassId> {
-    let place = receiver_of(code, op, state)?;
-    made_by(image, code, place)
 }

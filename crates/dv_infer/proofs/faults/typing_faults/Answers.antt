@@ -1,0 +1,31 @@
+use Rattle.std.proofs.Common.{◌≡◌, ◌<◌, ◌≤◌, length, sym, ◌∙◌, ap, subst, arith, ℕ}
+use Rattle.dv_defs.specs.Statics.{fetch}
+use Rattle.dv_defs.specs.Accepting.{demand_at}
+use Rattle.dv_worklist.specs.Flow.{assigned}
+use Rattle.dv_leastlaws.specs.Flowing.{fits_at}
+use Rattle.dv_leastlaws.specs.Laws.{faults_from}
+use Rattle.dv_ops.specs.Meaning.{code_of}
+use Rattle.dv_infer.proofs.Faulting.{fit_read, read_is, faults_on, faults_end}
+use Rattle.dv_infer.proofs.faults.typing_faults.Goals as goal
+
+pub rule_at-rule-requires-clause-fits : goal.rule_at-rule-requires-clause-fits
+rule_at-rule-requires-clause-fits c =
+    fit_read (fits_at c.args.image.now (code_of c.args.code.now)) c.args.states.now c.loop-at.at c.index-states-at.result ? c.index-states-at.is c.requires.fit
+
+pub loop-at-preserved : goal.loop-at-preserved
+loop-at-preserved c =
+    let n = length c.args.code.now.body.now.units in
+    let within : c.loop-at.at < n = ? in
+    faults_on c.args.image.now (code_of c.args.code.now) (assigned c.args.states.now) n c.loop-at.at c.loop-at.faults.items c.push_fault.new.faults.items
+    (faults_from c.args.image.now (code_of c.args.code.now) (assigned c.args.states.now) 0 n) c.rule_at-rule.result within
+    (c.rule_at-rule.ensures ∙
+    ap (demand_at c.args.image.now (code_of c.args.code.now) (fetch c.args.image.now c.args.code.now.method.id.0 c.loop-at.at))
+    (sym (read_is c.args.states.now c.loop-at.at c.index-states-at.result ? c.index-states-at.is)))
+    c.in_ok-push_fault.ensures c.loop-at.invariant
+
+pub returns : goal.returns
+returns c =
+    let n = length c.args.code.now.body.now.units in
+    let past : n ≤ c.loop-at.at = ? in
+    faults_end c.args.image.now (code_of c.args.code.now) (assigned c.args.states.now) n c.loop-at.at c.loop-at.faults.items
+    (faults_from c.args.image.now (code_of c.args.code.now) (assigned c.args.states.now) 0 n) past c.loop-at.invariant
