@@ -1,5 +1,5 @@
 -- What the least assignment of a body says of it.
-use Rattle.std.proofs.Common.{◌≡◌, ◌≢◌, ℕ, ◌<◌, List, [], length, Option, Some, refl, sym, ◌∙◌, subst, arith}
+use Rattle.std.proofs.Common.{◌≡◌, ◌≢◌, ℕ, List, [], length, Option, Some, sym, ◌∙◌, subst}
 use Rattle.dv_defs.specs.declared.faults.Fault.{Fault}
 use Rattle.dv_defs.specs.declared.typing.RegState.{RegState}
 use Rattle.dv_defs.specs.Images.{Image}
@@ -18,7 +18,6 @@ use Rattle.dv_leastlaws.proofs.ByAddress.{faults_are_by_address}
 use Rattle.dv_leastlaws.proofs.Closed.{least_assignments_are_least}
 use Rattle.dv_leastlaws.proofs.Judged.{no_faults_give_typings, faults_refuse_typings}
 use Rattle.dv_leastlaws.proofs.Lawful.{flows_are_lawful}
-use Rattle.dv_leastlaws.proofs.Tiles.{within}
 use Rattle.dv_infer.specs.Judged.{IsJudged, AreJudged}
 use Rattle.dv_infer.specs.Owned.{OwnedCode}
 
@@ -35,22 +34,14 @@ is_ready image n code is has none =
 
 -- ---- its flow
 
-abbrev owned : Image → Code → OwnedCode
+abbrev pub owned : Image → Code → OwnedCode
 owned image code = record { image = image; code = code }
 
 module _ (image : Image) (code : Code) (ready : IsReady image code) (m : OwnedCode) (e : m ≡ owned image code) where
-  pub has_places : 0 < length m.code.body.units
-  has_places =
-      let inside : 0 < length code.body.units = omega (arith, (within code.body.units 0 0 code.tiles ready.clean.tiled 0 ready.clean.start).1) in
-      subst (λ (o : OwnedCode). 0 < length o.code.body.units) (sym e) inside
-
   pub is_lawful : IsLawful (flow_of m.image m.code) (fits_at m.image m.code) (rank_of m.image m.code) (top_of m.image m.code)
   is_lawful =
       subst (λ (o : OwnedCode). IsLawful (flow_of o.image o.code) (fits_at o.image o.code) (rank_of o.image o.code) (top_of o.image o.code)) (sym e)
       (flows_are_lawful image code ready)
-
-  pub counts : (xs : List (Option RegState)) → length xs ≡ (flow_of m.image m.code).size → length xs ≡ length code.body.units
-  counts xs count = subst (λ (o : OwnedCode). length xs ≡ length o.code.body.units) e count
 
   pub fits : (xs : List (Option RegState)) → AllFit (fits_at m.image m.code) (assigned xs) → AllFit (fits_at image code) (assigned xs)
   fits xs fit = subst (λ (o : OwnedCode). AllFit (fits_at o.image o.code) (assigned xs)) e fit

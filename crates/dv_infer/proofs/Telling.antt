@@ -1,5 +1,5 @@
 -- The clauses of what is found.
-use Rattle.std.proofs.Common.{◌≡◌, ◌≢◌, ℕ, List, [], ◌∷◌, map, Option, Some, Result, Ok, Err, IfOk, refl, sym, ap, ◌∙◌, subst}
+use Rattle.std.proofs.Common.{◌≡◌, ◌≢◌, ℕ, List, [], ◌∷◌, length, map, Some, Result, Ok, Err, IfOk, refl, sym, ap, ◌∙◌, subst, arith}
 use Rattle.std.proofs.lemmas.Result.{IfOk-weaker}
 use Rattle.dv_defs.specs.declared.faults.Fault.{Fault}
 use Rattle.dv_defs.specs.Images.{Image}
@@ -14,23 +14,19 @@ use Rattle.dv_infer.specs.declared.errors.InferError.TheVariants as error
 use Rattle.dv_infer.specs.Errors.{IfFaults}
 use Rattle.dv_infer.specs.Judged.{IsJudged, AreJudged}
 
--- ---- a method has one body
-
-some_is : (a b : Code) → (let o : Option Code = Some a in o) ≡ Some b → a ≡ b
-some_is a b e = cc
-
-pub one_code : (P : Code → Type 0) (o : Option Code) (a b : Code) → o ≡ Some a → o ≡ Some b → P a → P b
-one_code P o a b e h p = subst P (some_is a b (sym e ∙ h)) p
-
 -- ---- static faults
+
+pub none_of : (fs : List Fault) → length fs ≡ 0 → fs ≡ []
+none_of [] e = refl
+none_of (f ∷ fs) e = absurd (omega (arith, e))
 
 no_places : (n : ℕ) (ps : List Place) → map (static_fault n) ps ≡ [] → ps ≡ []
 no_places n [] e = refl
 no_places n (p ∷ ps) e = absurd (cc)
 
 -- where none are told there are none
-pub none_broken : (n : ℕ) (ps : List Place) (fs : List Fault) → fs ≡ map (static_fault n) ps → fs ≡ [] → ps ≡ []
-none_broken n ps fs told none = no_places n ps (sym told ∙ none)
+pub none_broken : (n : ℕ) (ps : List Place) (fs : List Fault) → fs ≡ map (static_fault n) ps → length fs ≡ 0 → ps ≡ []
+none_broken n ps fs told none = no_places n ps (sym told ∙ none_of fs none)
 
 faults_by : (image : Image) (code : Code) (n : ℕ) (ps : List Place) (fs : List Fault) → code.method.id ≡ n → fs ≡ map (static_fault n) ps → fs ≢ [] → FaultsBy image code ps fs
 faults_by image code n [] fs own told some = absurd (some told)
@@ -53,9 +49,6 @@ faults_weaker (Ok m) P Q on h = tt
 module _ (image : Image) (code : Code) (none : static_places image code ≡ []) (r : Result Map InferError) where
   by_least : (typing : Typing) (fs : List Fault) → IsLeast image code typing → fs ≡ typing_faults image code typing code.tiles → AreFaults image code fs
   by_least typing fs least are = subst (λ (ps : List Place). FaultsBy image code ps fs) (sym none) (typing, least, are)
-
-  pub unbroken_told : IfOk r (IsJudged image code) → IfOk r (λ m. static_places image code ≡ [])
-  unbroken_told = IfOk-weaker r (IsJudged image code) (λ m. static_places image code ≡ []) (λ m j. none)
 
   pub typing_told : IfOk r (IsJudged image code) → IfOk r (λ m. IsTyping image code (typing_of m))
   typing_told = IfOk-weaker r (IsJudged image code) (λ m. IsTyping image code (typing_of m)) (λ m j. j.typing)

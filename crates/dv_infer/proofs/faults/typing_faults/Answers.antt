@@ -1,4 +1,4 @@
-use Rattle.std.proofs.Common.{◌≡◌, ◌<◌, ◌≤◌, length, sym, ◌∙◌, ap, subst, arith, ℕ}
+use Rattle.std.proofs.Common.{◌≡◌, ◌<◌, ◌≤◌, length, sym, ◌∙◌, ap, arith}
 use Rattle.dv_defs.specs.Statics.{fetch}
 use Rattle.dv_defs.specs.Accepting.{demand_at}
 use Rattle.dv_worklist.specs.Flow.{assigned}
