@@ -1,3 +1,5 @@
 pub mod Carrying
 pub mod Faulting
+pub mod Finding
 pub mod Receiving
+pub mod Telling

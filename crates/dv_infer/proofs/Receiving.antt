@@ -1,5 +1,5 @@
 -- The places of uninitialised objects in a state that fits are instructions.
-use Rattle.std.proofs.Common.{◌≡◌, ℕ, ◌<◌, ◌⊎◌, inl, inr, true, List, [], ◌∷◌, length, zero, suc, Bool, false, Some, None, Option, sym, subst, ap, ◌∙◌}
+use Rattle.std.proofs.Common.{◌≡◌, ℕ, true, [], ◌∷◌, zero, suc, Bool, false, Some, None, Option, sym, subst, ap, ◌∙◌}
 use Rattle.std.specs.Prelude.{All, option_map, option_and_then}
 use Rattle.std.proofs.lemmas.List.Elements.{All-head, All-tail}
 use Rattle.dv_defs.specs.declared.names.ClassId.{ClassId}

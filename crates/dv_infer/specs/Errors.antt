@@ -1,5 +1,5 @@
 -- What is said of an answer that tells faults.
-use Rattle.std.specs.Prelude.{List, Result, Ok, Err}
+use Rattle.std.specs.Prelude.{List, Result, Err}
 use Rattle.dv_defs.specs.declared.faults.Fault.{Fault}
 use Rattle.dv_infer.specs.declared.errors.InferError.{InferError}
 use Rattle.dv_infer.specs.declared.errors.InferError.TheVariants as error

@@ -54,12 +54,7 @@ fn push_fault(
 }
 
 /// The rule of the first demand that the state at an address fails; none where no state stands there.
-fn rule_at(
-    image: &Image,
-    code: &Coded<'_>,
-    at: u32,
-    state: &Option<RegState>,
-) -> Option<Rule>
+fn rule_at(image: &Image, code: &Coded<'_>, at: u32, state: &Option<RegState>) -> Option<Rule>
     requires ready { IsReady image.now (code_of code.now) }
     requires fits { IfSome state.now (fits_at image.now (code_of code.now) at) }
     ensures { result ≡ demand_at image.now (code_of code.now) (fetch image.now code.now.method.id.0 at) state.now }

@@ -76,7 +76,12 @@ impl<'a> Flow for MethodFlow<'a> {
         is_below(self.image, low, high)
     }
 
-    fn join(&self, _place: usize, one: &RegState, other: &RegState) -> Result<RegState, AllocError> {
+    fn join(
+        &self,
+        _place: usize,
+        one: &RegState,
+        other: &RegState,
+    ) -> Result<RegState, AllocError> {
         join(self.alloc, self.image, one, other)
     }
 }

@@ -48,6 +48,7 @@ fn judge_unbroken(alloc: Global, image: &Image, method: MethodId) -> Result<Map,
     requires unbroken { (code : Code) → code_at image.now method.0 ≡ Some code → static_places image.now code ≡ [] }
     ensures typing { (code : Code) → code_at image.now method.0 ≡ Some code → IfOk result (IsJudged image.now code) }
     ensures faults { (code : Code) → code_at image.now method.0 ≡ Some code → IfFaults result (AreJudged image.now code) }
+    ensures some { IfFaults result (λ fs. fs ≢ []) }
 {
     let code = coded_at(image, method).unwrap();
     let _classes = &image.classes;

@@ -10,12 +10,7 @@ use dv_ops::{Coded, Op};
 use dv_rules::{made_by, receiver_of};
 
 /// The class of the object that a constructor call is to initialise. The places in a state that fits are instructions, so none is looked for.
-pub fn made_of(
-    image: &Image,
-    code: &Coded<'_>,
-    op: &Op<'_>,
-    state: &RegState,
-) -> Option<ClassId>
+pub fn made_of(image: &Image, code: &Coded<'_>, op: &Op<'_>, state: &RegState) -> Option<ClassId>
     requires clean { IsClean image.now (code_of code.now) }
     requires fits { StateFits image.now (code_of code.now) state.now }
     ensures { (at : ℕ) → option_map (λ c. c.0) result ≡ made_for image.now (method_of code.now.method) (meant (code_of code.now) at op.now) state.now.regs }

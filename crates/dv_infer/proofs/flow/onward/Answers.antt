@@ -1,4 +1,4 @@
-use Rattle.std.proofs.Common.{◌≡◌, IfOk, map}
+use Rattle.std.proofs.Common.{◌≡◌, map}
 use Rattle.std.proofs.lemmas.Result.{IfOk-weaker}
 use Rattle.dv_defs.specs.Statics.{fetch}
 use Rattle.dv_leastlaws.specs.Flowing.{onward_from}

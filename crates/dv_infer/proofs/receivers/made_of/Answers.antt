@@ -1,4 +1,4 @@
-use Rattle.std.proofs.Common.{sym, ◌∙◌}
+use Rattle.std.proofs.Common.{sym}
 use Rattle.dv_ops.specs.Meaning.{code_of, meant, method_of}
 use Rattle.dv_infer.proofs.Receiving.{receiver_begins, made_there}
 use Rattle.dv_infer.proofs.receivers.made_of.Goals as goal

@@ -1,0 +1,36 @@
+use Rattle.std.proofs.Common.{◌≡◌, ◌≢◌, [], length, sym, ◌∙◌, subst, ap, rules, arith, vec_len}
+use Rattle.std.proofs.lemmas.Bool.{eqb-true}
+use Rattle.dv_worklist.specs.Flow.{AllFit, assigned}
+use Rattle.dv_leastlaws.specs.Flowing.{fits_at}
+use Rattle.dv_leastlaws.specs.Laws.{faults_from}
+use Rattle.dv_ops.specs.Meaning.{code_of}
+use Rattle.dv_infer.specs.Judged.{IsJudged, AreJudged}
+use Rattle.dv_infer.proofs.Finding.{is_lawful, fits, is_judged, are_judged}
+use Rattle.dv_infer.proofs.Telling.{none_of}
+use Rattle.dv_infer.proofs.method.judge.Goals as goal
+
+pub least-requires-clause-lawful : goal.least-requires-clause-lawful
+least-requires-clause-lawful c = is_lawful c.args.image.now (code_of c.args.code.now) c.requires.ready c.new-flow.result c.new-flow.ensures
+
+pub typing_faults-requires-clause-fit : goal.typing_faults-requires-clause-fit
+typing_faults-requires-clause-fit c =
+    fits c.args.image.now (code_of c.args.code.now) c.requires.ready c.new-flow.result c.new-flow.ensures c.deref.result.now
+    (subst (λ xs. AllFit (fits_at c.new-flow.result.image c.new-flow.result.code) (assigned xs)) (sym c.deref.ensures.value) c.in_ok-states.ensures.fits)
+
+pub returns-then-is_empty-clause-typing : goal.returns-then-is_empty-clause-typing
+returns-then-is_empty-clause-typing c =
+    let code = code_of c.args.code.now in
+    let told = c.in_ok-faults.ensures ∙ ap (λ xs. faults_from c.args.image.now code (assigned xs) 0 (length code.body.units)) c.deref.ensures.value in
+    let none : c.in_ok-faults.faults.items ≡ [] = none_of c.in_ok-faults.faults.items (let e = eqb-true (vec_len c.in_ok-faults.faults) 0 (sym c.is_empty.ensures ∙ c.if-is_empty.true) in omega (arith, c.in_ok-faults.faults.ok.0, e)) in
+    subst (λ xs. IsJudged c.args.image.now code (record { states = xs })) (sym c.of.ensures)
+    (is_judged c.args.image.now code c.requires.ready c.new-flow.result c.new-flow.ensures c.in_ok-states.states.items
+    c.in_ok-states.ensures.fits c.in_ok-states.ensures.least c.in_ok-faults.faults.items told none)
+
+pub returns-else-is_empty-clause-faults : goal.returns-else-is_empty-clause-faults
+returns-else-is_empty-clause-faults c =
+    let code = code_of c.args.code.now in
+    let told = c.in_ok-faults.ensures ∙ ap (λ xs. faults_from c.args.image.now code (assigned xs) 0 (length code.body.units)) c.deref.ensures.value in
+    let some : c.in_ok-faults.faults.items ≢ [] = search rules in
+    subst (AreJudged c.args.image.now code) (sym c.of-else-is_empty.ensures)
+    (are_judged c.args.image.now code c.requires.ready c.new-flow.result c.new-flow.ensures c.in_ok-states.states.items
+    c.in_ok-states.ensures.fits c.in_ok-states.ensures.least c.in_ok-faults.faults.items told some)
