@@ -2,11 +2,12 @@
 use crate::rows;
 use dv_boot::boot_text;
 use dv_classread::read_classes;
-use dv_defs::{ClassDef, Fault, Image, Rule};
+use dv_defs::{Base, ClassDef, Fault, Image, RegType, Rule, Text, Ty};
 use dv_hier::Classes;
 use dv_ops::method_at;
 use dv_pverify::{VerifyError, verify_one_by_one};
 use dv_resolve::link;
+use dv_types::join_types;
 use std::alloc::{AllocError, Global};
 use std::process::Abort;
 use std::str;
@@ -94,11 +95,7 @@ fn main_with(alloc: Global, registers: &str, body: &str) -> Result<Vec<u8>, Allo
     Ok(text)
 }
 
-fn assert_mains<R: Abort>(
-    rt: &R,
-    alloc: Global,
-    rows: &[(&str, &str, &str)],
-) -> Result<(), AllocError> {
+fn assert_mains<R: Abort>(rt: &R, alloc: Global, rows: &[(&str, &str, &str)]) -> Result<(), Fail> {
     for (registers, body, faults) in rows {
         let text = main_with(alloc, registers, body)?;
         let text = str::from_utf8(&text).ok().expect(rt, "a text");
@@ -113,9 +110,12 @@ fn assert_mains<R: Abort>(
 
 #[test]
 fn bodies_have_the_faults_that_the_rules_tell(rt: HostRuntime) -> Result<(), Fail> {
-    assert_mains(&rt, rt.alloc(), rows::MAINS.as_slice())?;
-    assert_mains(&rt, rt.alloc(), rows::RAW_MAINS.as_slice())?;
-    Ok(())
+    assert_mains(&rt, rt.alloc(), rows::MAINS.as_slice())
+}
+
+#[test]
+fn raw_bodies_have_the_faults_that_the_rules_tell(rt: HostRuntime) -> Result<(), Fail> {
+    assert_mains(&rt, rt.alloc(), rows::RAW_MAINS.as_slice())
 }
 
 #[test]
@@ -133,5 +133,86 @@ fn classes_have_the_faults_that_the_rules_tell(rt: HostRuntime) -> Result<(), Fa
 #[test]
 fn boot_classes_are_accepted(rt: HostRuntime) -> Result<(), Fail> {
     assert_eq!(rt; told(&rt, rt.alloc(), "")?.as_slice(), b"".as_slice());
+    Ok(())
+}
+
+// A register type in a table.
+#[derive(Clone, Copy)]
+enum Kind {
+    Conflict,
+    Zero,
+    Int,
+    Class(u8, &'static str),
+}
+
+fn register_type(alloc: Global, kind: Kind) -> Result<RegType, AllocError> {
+    match kind {
+        Kind::Conflict => Ok(RegType::Conflict),
+        Kind::Zero => Ok(RegType::Zero),
+        Kind::Int => Ok(RegType::Int),
+        Kind::Class(dims, name) => {
+            let name = Text::of(Vec::from_slice(alloc, name.as_bytes())?);
+            Ok(RegType::Class(Ty {
+                dims,
+                base: Base::Class(name),
+            }))
+        }
+    }
+}
+
+const STRING: &str = "Ljava/lang/String;";
+
+const OBJECT: &str = "Ljava/lang/Object;";
+
+const ERROR: &str = "Ljava/lang/Error;";
+
+const EXCEPTION: &str = "Ljava/lang/Exception;";
+
+const THROWABLE: &str = "Ljava/lang/Throwable;";
+
+// Two register types and their join.
+static JOINS: [(Kind, Kind, Kind); 8] = [
+    (Kind::Zero, Kind::Int, Kind::Int),
+    (Kind::Zero, Kind::Class(0, STRING), Kind::Class(0, STRING)),
+    (Kind::Int, Kind::Class(0, STRING), Kind::Conflict),
+    (Kind::Class(0, STRING), Kind::Zero, Kind::Class(0, STRING)),
+    (
+        Kind::Class(0, ERROR),
+        Kind::Class(0, EXCEPTION),
+        Kind::Class(0, THROWABLE),
+    ),
+    (
+        Kind::Class(1, STRING),
+        Kind::Class(1, ERROR),
+        Kind::Class(1, OBJECT),
+    ),
+    (
+        Kind::Class(2, STRING),
+        Kind::Class(1, ERROR),
+        Kind::Class(1, OBJECT),
+    ),
+    (Kind::Conflict, Kind::Zero, Kind::Conflict),
+];
+
+fn is_join(alloc: Global, image: &Image, row: (Kind, Kind, Kind)) -> Result<bool, AllocError> {
+    let one = register_type(alloc, row.0)?;
+    let other = register_type(alloc, row.1)?;
+    let wanted = register_type(alloc, row.2)?;
+    Ok(join_types(alloc, image, &one, &other)? == wanted)
+}
+
+fn are_joins(alloc: Global, image: &Image) -> Result<bool, AllocError> {
+    for row in JOINS {
+        if !is_join(alloc, image, row)? {
+            return Ok(false);
+        }
+    }
+    Ok(true)
+}
+
+#[test]
+fn register_types_join_as_the_rules_tell(rt: HostRuntime) -> Result<(), Fail> {
+    let image = linked(&rt, rt.alloc(), "")?;
+    assert!(rt; are_joins(rt.alloc(), &image)?);
     Ok(())
 }
