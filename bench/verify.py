@@ -105,6 +105,13 @@ def nested(loops=200, units=16_384, registers=256):
     return HEAD + method("main", registers, body + "return-void\n")
 
 
+def strings(count, units=16_384):
+    """Methods whose 256 registers all hold strings, to their ends."""
+    head = "".join('const-string v%d, "a"\n' % k for k in range(256))
+    body = head + "nop\n" * (units - 513) + "return-void\n"
+    return HEAD + "".join(method("m%d" % k, 256, body) for k in range(count))
+
+
 CASES = [
     ("no class", 0, lambda: ""),
     ("straight, 1,000 units", 1_000, lambda: straight(1_000)),
@@ -114,6 +121,8 @@ CASES = [
     ("objects, 16,384 units", 16_384, lambda: objects(16_384)),
     ("1,000 methods of 100 instructions", 199_000, lambda: methods(1_000)),
     ("200 nested loops, 16,384 units, 256 registers", 16_384, lambda: nested()),
+    ("256 strings in registers, 16,384 units", 16_384, lambda: strings(1)),
+    ("eight times 256 strings, the limit of cells", 131_072, lambda: strings(8)),
 ]
 
 
