@@ -1,13 +1,9 @@
 #!/usr/bin/env python3
-"""Times the verifier on texts of one and of many methods, and prints seconds, microseconds a unit and megabytes.
+"""Times `dvm verify` on texts of one and of many methods, and prints processor seconds, microseconds a unit and megabytes.
 
-No command of the program verifies yet. So this makes a program of its own beside a copy of the crates, in a temporary folder: it reads a
-text, links and verifies it, and ends with status 0 where it is accepted, 1 where it has faults. The copy takes the crates' folders out/
-along, so run `rt all check` first, or wait longer. Usage: bench/verify.py [--tried], where --tried builds without proof, with checks.
+Usage: bench/verify.py [PROGRAM], where PROGRAM is a built `dvm` (crates/dvm/out/dvm).
 """
 import os
-import resource
-import shutil
 import subprocess
 import sys
 import tempfile
@@ -15,57 +11,6 @@ import time
 
 TOP = os.path.dirname(os.path.dirname(os.path.abspath(__file__)))
 HEAD = ".class LMain;\n.super Ljava/lang/Object;\n"
-DEPS = "dv_defs dv_classread dv_boot dv_hier dv_resolve dv_pverify"
-MAIN = """//! Reads a text, links it and verifies it.
-#![tactic(auto)]
-
-use dv_boot::boot_text;
-use dv_classread::read_classes;
-use dv_defs::{ClassDef, Image};
-use dv_hier::Classes;
-use dv_pverify::{VerifyError, verify_one_by_one};
-use dv_resolve::link;
-use std::alloc::Global;
-use std::io::Read;
-use std::process::ExitCode;
-
-fn main(rt: HostRuntime) -> ExitCode {
-    let mut text = Vec::new(rt.alloc());
-    if rt.stdin().read_to_end(&mut text).is_err() {
-        return ExitCode::from(3);
-    }
-    ExitCode::from(verdict(rt.alloc(), &text))
-}
-
-fn classes_of(alloc: Global, text: &[u8]) -> Option<Vec<ClassDef>> {
-    if text.len() >= 4_000_000 {
-        return None;
-    }
-    match read_classes(alloc, text, false) {
-        Ok(read) => Some(read.classes.into_vec()),
-        Err(_) => None,
-    }
-}
-
-fn image_of(alloc: Global, text: &[u8]) -> Option<Image> {
-    let mut classes = classes_of(alloc, boot_text().as_bytes())?;
-    let mut own = classes_of(alloc, text)?;
-    classes.append(&mut own).ok()?;
-    let classes = Classes::new(classes, 33)?;
-    link(alloc, classes).ok()
-}
-
-fn verdict(alloc: Global, text: &[u8]) -> u8 {
-    match image_of(alloc, text) {
-        Some(image) => match verify_one_by_one(alloc, image) {
-            Ok(_) => 0,
-            Err(VerifyError::Faults { .. }) => 1,
-            Err(VerifyError::Memory) => 2,
-        },
-        None => 4,
-    }
-}
-"""
 
 
 def method(name, registers, body):
@@ -126,37 +71,25 @@ CASES = [
 ]
 
 
-def build(tried):
-    copy = tempfile.mkdtemp()
-    leave = shutil.ignore_patterns("out") if tried else None
-    shutil.copytree(os.path.join(TOP, "crates"), os.path.join(copy, "crates"), symlinks=True, ignore=leave)
-    shutil.copy(os.path.join(TOP, "HANDLES"), copy)
-    with open(os.path.join(TOP, "crates.txt")) as have, open(os.path.join(copy, "crates.txt"), "w") as made:
-        made.write(have.read() + "benched: " + DEPS + "\n")
-    source = os.path.join(copy, "crates", "benched", "src")
-    os.makedirs(source)
-    with open(os.path.join(source, "main.rt"), "w") as main:
-        main.write(MAIN)
-    return copy, os.path.join(copy, "crates", "benched"), ["rt", "try"] if tried else ["rt", "run"]
+def run(program, text):
+    """The status, the processor seconds, the seconds by the clock and the megabytes of one run."""
+    with tempfile.TemporaryFile() as source:
+        source.write(text.encode())
+        source.seek(0)
+        begun = time.time()
+        child = subprocess.Popen([program, "verify"], stdin=source, stdout=subprocess.DEVNULL)
+        _, status, used = os.wait4(child.pid, 0)
+    return os.waitstatus_to_exitcode(status), used.ru_utime + used.ru_stime, time.time() - begun, used.ru_maxrss // 1024
 
 
 def main():
-    tried = "--tried" in sys.argv
-    copy, folder, command = build(tried)
-    try:
-        program = os.path.join(folder, "out", "benched")
-        subprocess.run(command, cwd=folder, input=b"", check=True, stdout=subprocess.DEVNULL)
-        for name, units, text in CASES:
-            before = resource.getrusage(resource.RUSAGE_CHILDREN)
-            begun = time.time()
-            run = command + ["--seconds", "600"] if tried else [program]
-            done = subprocess.run(run, cwd=folder, input=text().encode(), stdout=subprocess.DEVNULL)
-            after = resource.getrusage(resource.RUSAGE_CHILDREN)
-            used = after.ru_utime - before.ru_utime
-            per = " %.2f us a unit" % (used * 1e6 / units) if units else ""
-            print("%-48s status %d  %.3f s, %.3f s by the clock,%s  %d MB" % (name, done.returncode, used, time.time() - begun, per, after.ru_maxrss // 1024))
-    finally:
-        shutil.rmtree(copy)
+    program = sys.argv[1] if len(sys.argv) > 1 else os.path.join(TOP, "crates", "dvm", "out", "dvm")
+    if not os.access(program, os.X_OK):
+        sys.exit(f"{program} isn't built: run ./dvm verify < /dev/null")
+    for name, units, text in CASES:
+        status, used, clock, megabytes = run(program, text())
+        per = f" {used * 1e6 / units:.2f} us a unit" if units else ""
+        print(f"{name:<48} status {status}  {used:.3f} s, {clock:.3f} s by the clock,{per}  {megabytes} MB", flush=True)
 
 
 main()

@@ -1,3 +1,4 @@
+# Refused by the typing rules: v0 is printed and was never written, so it holds no int (V2).
 .class LMain;
 .super Ljava/lang/Object;
 .method static main()V

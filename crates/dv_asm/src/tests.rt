@@ -28,7 +28,7 @@ impl Model for Making {
 }
 
 fn text(alloc: Global, name: &str) -> Result<Text, AllocError> {
-    Ok(Text::of(Vec::from_slice(alloc, name.as_bytes())?))
+    Text::of(Vec::from_slice(alloc, name.as_bytes())?)
 }
 
 fn class(alloc: Global, name: &str) -> Result<Ty, AllocError> {

@@ -89,7 +89,7 @@ pub fn name(alloc: Global, word: &[u8]) -> Result<Text, Refusal>
     if !is_name(word) {
         return Err(Refusal::Fault(LineKind::Operands));
     }
-    Ok(Text::of(Vec::from_slice(alloc, word)?))
+    Ok(Text::of(Vec::from_slice(alloc, word)?)?)
 }
 
 /// The field that the word names: a class or an array, `->`, a name, `:` and a type.

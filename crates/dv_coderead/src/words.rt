@@ -59,7 +59,7 @@ pub fn label(alloc: Global, word: &[u8]) -> Result<Text, Refusal>
     ensures { Gives (λ name. name) result (label_in word.now) }
 {
     match word.strip_prefix(b":") {
-        Some(name) if is_name(name) => Ok(Text::of(Vec::from_slice(alloc, name)?)),
+        Some(name) if is_name(name) => Ok(Text::of(Vec::from_slice(alloc, name)?)?),
         _ => Err(Refusal::Fault(LineKind::Operands)),
     }
 }

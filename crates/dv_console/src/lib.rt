@@ -1,9 +1,21 @@
-//! The lines that tell why a program is refused.
+//! What a command line asks for, and the lines that tell refusals and faults.
 #![tactic(auto)]
 
+mod command;
+#[cfg(test)]
+mod fault_tests;
+mod faults;
+mod keys;
 mod kinds;
+mod names;
 mod refusals;
 #[cfg(test)]
 mod tests;
+#[cfg(test)]
+mod word_tests;
+mod words;
 
+pub use command::{Cmd, WordError};
+pub use faults::{accepted_line, fault_line, method_fault_line};
 pub use refusals::{Refusal, refusal_line};
+pub use words::read_words;

@@ -55,5 +55,5 @@ pub fn refusal_line(alloc: Global, refusal: &Refusal) -> Result<Text, AllocError
     let mut line = Vec::from_slice(alloc, b"#refused ")?;
     add_refusal(&mut line, refusal)?;
     line.push(b'\n')?;
-    Ok(Text::of(line))
+    Text::of(line)
 }

@@ -199,7 +199,7 @@ static CLASSES: [(&str, Cause, &str); 18] = [
 ];
 
 fn text(alloc: Global, s: &str) -> Result<Text, AllocError> {
-    Ok(Text::of(Vec::from_slice(alloc, s.as_bytes())?))
+    Text::of(Vec::from_slice(alloc, s.as_bytes())?)
 }
 
 fn kind_of(alloc: Global, cause: Cause) -> Result<LinkKind, AllocError> {

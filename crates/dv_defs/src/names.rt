@@ -1,34 +1,45 @@
 // Texts, ids, types and references to members.
-ghost use Rattle.std.specs.Prelude.{◌≡◌};
+ghost use Rattle.std.specs.Prelude.{◌≡◌, nat_eq, IfOk};
+ghost use Rattle.std.specs.Cmp.{partial_equiv_from_equiv};
+ghost use Rattle.std.specs.Cmp.Lexicographic.{pointwise, nat_list_eq_equiv};
+ghost use Rattle.std.specs.Hash as fed;
+ghost use Rattle.std.specs.Cmp.Rules.{hashing};
+ghost use Rattle.std.proofs.Common.{rules};
 
 use crate::Seq;
 use std::alloc::AllocError;
+use std::fmt;
+use std::hash::{Hash, Hasher};
 use std::marker::Model;
+use std::sync::Arc;
 
-/// Bytes of a text, mostly UTF-8.
-#[derive(Clone, PartialEq, Eq, Hash, Debug, Drop)]
+/// Bytes of a text, mostly UTF-8. A clone shares them, and takes no memory.
+#[derive(Drop)]
 pub struct Text {
-    bytes: Seq<u8>,
+    bytes: Arc<Seq<u8>>,
 }
 
 impl Model for Text {
     ghost use Rattle.std.specs.Prelude.{List, ℕ};
+    ghost use Rattle.std.specs.Arc.{arc_value};
 
     ghost Value = { List ℕ };
 
-    ghost view = { λ t. t.bytes };
-
-    ghost inverse = { λ b. record { bytes = b } };
+    ghost view = { λ t. arc_value t.bytes };
 }
 
 impl Text {
     /// The text of these bytes.
-    pub fn of(bytes: Vec<u8>) -> Text
-        ensures { result ≡ bytes.items }
+    ///
+    /// # Errors
+    ///
+    /// Want of memory.
+    pub fn of(bytes: Vec<u8>) -> Result<Text, AllocError>
+        ensures { IfOk result (λ t. t ≡ bytes.items) }
     {
-        Text {
-            bytes: Seq::of(bytes),
-        }
+        let alloc = *bytes.allocator();
+        let bytes = Arc::new(alloc, Seq::of(bytes))?;
+        Ok(Text { bytes })
     }
 
     /// The text's bytes.
@@ -36,6 +47,45 @@ impl Text {
         ensures { result.now ≡ self.now }
     {
         self.bytes.items()
+    }
+}
+
+impl Clone for Text {
+    ghost is_clone = { λ x y. y ≡ x };
+
+    fn clone(&self) -> Result<Text, AllocError> {
+        let bytes = self.bytes.clone()?;
+        Ok(Text { bytes })
+    }
+}
+
+impl PartialEq for Text {
+    ghost eq = { pointwise nat_eq };
+
+    ghost laws = { partial_equiv_from_equiv nat_list_eq_equiv };
+
+    fn eq(&self, other: &Text) -> bool {
+        self.bytes() == other.bytes()
+    }
+}
+
+impl Eq for Text {
+    ghost laws = { nat_list_eq_equiv };
+}
+
+impl Hash for Text {
+    ghost hash_input = { fed.slice fed.u8 };
+
+    ghost respects_eq = { Prim.search (hashing, rules) };
+
+    fn hash<H: Hasher>(&self, state: &mut H) {
+        self.bytes().hash(state);
+    }
+}
+
+impl fmt::Debug for Text {
+    fn fmt<W: fmt::Write>(&self, f: &mut fmt::Formatter<W>) -> fmt::Result {
+        self.bytes().fmt(f)
     }
 }
 

@@ -4,7 +4,7 @@ use std::alloc::{AllocError, Global};
 use std::test::Fail;
 
 fn text(alloc: Global, bytes: &[u8]) -> Result<Text, AllocError> {
-    Ok(Text::of(Vec::from_slice(alloc, bytes)?))
+    Text::of(Vec::from_slice(alloc, bytes)?)
 }
 
 fn class_of(alloc: Global, dims: u8, name: &[u8]) -> Result<Ty, AllocError> {

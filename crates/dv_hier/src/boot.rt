@@ -115,7 +115,7 @@ fn has_row(table: &Table, classes: &[ClassDef], row: &Row) -> bool
 fn not_there(alloc: Global, name: &[u8]) -> Result<LinkError, AllocError>
     ensures { IfOk result (λ e. e ≡ error.At name.now (kind.NoClass name.now)) }
 {
-    let class = Text::of(name.to_vec(alloc)?);
+    let class = Text::of(name.to_vec(alloc)?)?;
     let kind = LinkKind::NoClass(class.clone()?);
     Ok(LinkError::At { class, kind })
 }

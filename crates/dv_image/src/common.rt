@@ -92,7 +92,7 @@ fn common_flat(
 fn object_type(alloc: Global) -> Result<Ty, AllocError>
     ensures { IfOk result (λ t. t ≡ type_object) }
 {
-    let name = Text::of(Vec::from_slice(alloc, OBJECT)?);
+    let name = Text::of(Vec::from_slice(alloc, OBJECT)?)?;
     Ok(Ty {
         dims: 0,
         base: Base::Class(name),
@@ -105,7 +105,7 @@ fn type_at(alloc: Global, image: &Image, class: usize) -> Result<Ty, AllocError>
 {
     let name = match image.classes.items().get(class) {
         Some(info) => info.def.name.clone()?,
-        None => Text::of(Vec::new(alloc)),
+        None => Text::of(Vec::new(alloc))?,
     };
     Ok(Ty {
         dims: 0,

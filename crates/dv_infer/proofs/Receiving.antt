@@ -14,7 +14,7 @@ use Rattle.dv_defs.specs.RegTypes.{Types, type_at}
 use Rattle.dv_defs.specs.Demands.{made_at}
 use Rattle.dv_defs.specs.Transfer.{first_of}
 use Rattle.dv_flowlaws.specs.Fitting.{RegFits, StateFits, dims_met}
-use Rattle.dv_rules.specs.Made.{place_of, receiver_place, made_for}
+use Rattle.dv_demands.specs.Made.{place_of, receiver_place, made_for}
 
 -- of a type
 here : (most : ℕ) (code : Code) (t : RegType) (place : ℕ) → RegFits most code t → place_of t ≡ Some place → begins_insn code.tiles place ≡ true

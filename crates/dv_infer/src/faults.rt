@@ -9,9 +9,9 @@ ghost use Rattle.dv_ops.specs.Meaning.{code_of};
 
 use crate::receivers::made_of;
 use dv_defs::{Fault, Image, MethodId, RegState, Rule};
+use dv_demands::ok_of;
 use dv_fetch::{op_at, units_of};
 use dv_ops::Coded;
-use dv_rules::ok_of;
 use std::alloc::{AllocError, Global};
 
 /// The demands that the states of a least assignment fail, by address.

@@ -3,7 +3,7 @@ ghost use Rattle.std.specs.Prelude.{◌≡◌, ℕ, option_map};
 ghost use Rattle.dv_flowlaws.specs.Clean.{IsClean};
 ghost use Rattle.dv_flowlaws.specs.Fitting.{StateFits};
 ghost use Rattle.dv_ops.specs.Meaning.{code_of, meant, method_of};
-ghost use Rattle.dv_rules.specs.Made.{made_for};
+ghost use Rattle.dv_demands.specs.Made.{made_for};
 
 use dv_defs::{ClassId, Image, RegState};
 use dv_ops::{Coded, Op};

@@ -77,7 +77,7 @@ fn entries(alloc: Global, threes: &[Three]) -> Result<Vec<Entry>, AllocError> {
 fn texts(alloc: Global, lines: &[&[u8]]) -> Result<Vec<Text>, AllocError> {
     let mut texts = Vec::new(alloc);
     for line in lines {
-        texts.push(Text::of(Vec::from_slice(alloc, *line)?))?;
+        texts.push(Text::of(Vec::from_slice(alloc, *line)?)?)?;
     }
     Ok(texts)
 }
@@ -99,7 +99,7 @@ fn schedules_are_read(rt: HostRuntime) -> Result<(), Fail> {
     for (lines, threes) in &GOOD {
         let mut texts = Vec::new(rt.alloc());
         for line in *lines {
-            texts.push(Text::of(Vec::from_slice(rt.alloc(), line.as_bytes())?))?;
+            texts.push(Text::of(Vec::from_slice(rt.alloc(), line.as_bytes())?)?)?;
         }
         assert!(rt; texts.len() < 100);
         let expected = entries(rt.alloc(), *threes)?;

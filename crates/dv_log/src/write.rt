@@ -38,5 +38,5 @@ pub fn print_log(alloc: Global, log: &[Entry]) -> Result<Text, AllocError>
     for entry in log {
         add_entry(&mut text, *entry)?;
     }
-    Ok(Text::of(text))
+    Text::of(text)
 }

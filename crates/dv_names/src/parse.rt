@@ -59,7 +59,7 @@ fn type_at(alloc: Global, text: &[u8], start: usize) -> Result<(Ty, usize), Name
         return Err(no_type(first, at));
     }
     let end = class_end(text, at + 1)?;
-    let name = Text::of(Vec::from_slice(alloc, &text[at..end])?);
+    let name = Text::of(Vec::from_slice(alloc, &text[at..end])?)?;
     let base = Base::Class(name);
     Ok((Ty { dims, base }, end))
 }

@@ -33,7 +33,7 @@ fn type_bytes(alloc: Global, ty: &Ty) -> Result<Vec<u8>, AllocError>
 pub fn print_type(alloc: Global, ty: &Ty) -> Result<Text, AllocError>
     ensures { IfOk result (λ t. t ≡ descriptor ty.now) }
 {
-    Ok(Text::of(type_bytes(alloc, ty)?))
+    Text::of(type_bytes(alloc, ty)?)
 }
 
 /// The prototype: the parameters' descriptors in parentheses, and the result's, or `V`.
@@ -49,7 +49,7 @@ pub fn print_proto(alloc: Global, proto: &Proto) -> Result<Text, AllocError>
         Some(ty) => bytes.extend_from_slice(&type_bytes(alloc, ty)?)?,
         None => bytes.push(b'V')?,
     }
-    Ok(Text::of(bytes))
+    Text::of(bytes)
 }
 
 /// The byte, or a dot for a slash.
@@ -71,5 +71,5 @@ pub fn java_text(alloc: Global, class: &[u8]) -> Result<Text, AllocError>
         &class[1..class.len() - 1]
     };
     let bytes = name.iter().map(|b| dotted(*b)).collect(alloc)?;
-    Ok(Text::of(bytes))
+    Text::of(bytes)
 }

@@ -66,7 +66,7 @@ fn utf8_of_units(alloc: Global, units: &[u16]) -> Result<Text, AllocError>
         text.push(c)?;
         at = next;
     }
-    Ok(Text::of(text.into_bytes()))
+    Text::of(text.into_bytes())
 }
 
 /// The guest string in UTF-8, with `?` for each surrogate that has no partner.

@@ -59,5 +59,5 @@ pub fn print_class(alloc: Global, class: &ClassDef) -> Result<Text, AllocError>
     text.extend_from_slice(&interface_lines(alloc, class.interfaces.items())?)?;
     text.extend_from_slice(&field_lines(alloc, class.fields.items())?)?;
     text.extend_from_slice(&all_method_lines(alloc, class.methods.items())?)?;
-    Ok(Text::of(text))
+    Text::of(text)
 }

@@ -19,7 +19,7 @@ use std::alloc::{AllocError, Global};
 pub fn label(alloc: Global, address: u32) -> Result<Text, AllocError>
     ensures { IfOk result (λ t. t ≡ label_name address) }
 {
-    Ok(Text::of(label_name(alloc, address)?))
+    Text::of(label_name(alloc, address)?)
 }
 
 /// The names of the labels at these addresses.

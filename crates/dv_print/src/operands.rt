@@ -29,7 +29,7 @@ fn register_text(alloc: Global, register: u16) -> Result<Text, AllocError>
 {
     let mut text = vec![in alloc; b'v']?;
     text.extend_from_slice(&decimal(alloc, u64::from(register))?)?;
-    Ok(Text::of(text))
+    Text::of(text)
 }
 
 fn register_texts(alloc: Global, registers: &[u16]) -> Result<Vec<Text>, AllocError>
@@ -86,7 +86,7 @@ fn braces_text(alloc: Global, regs: &Regs) -> Result<Text, AllocError>
     let mut text = Vec::from_slice(alloc, b"{")?;
     text.extend_from_slice(&listed(alloc, &texts)?)?;
     text.extend_from_slice(b"}")?;
-    Ok(Text::of(text))
+    Text::of(text)
 }
 
 /// Neighbouring registers by the first and the last of them.
@@ -94,7 +94,7 @@ fn neighbours_text(alloc: Global, first: u16, count: u8) -> Result<Text, AllocEr
     ensures { IfOk result (λ t. t ≡ neighbours_text first count) }
 {
     if count == 0 {
-        return Ok(Text::of(Vec::from_slice(alloc, b"{}")?));
+        return Ok(Text::of(Vec::from_slice(alloc, b"{}")?)?);
     }
     let last = u64::from(first) + (u64::from(count) - 1);
     let mut text = Vec::from_slice(alloc, b"{v")?;
@@ -102,7 +102,7 @@ fn neighbours_text(alloc: Global, first: u16, count: u8) -> Result<Text, AllocEr
     text.extend_from_slice(b" .. v")?;
     text.extend_from_slice(&decimal(alloc, last)?)?;
     text.extend_from_slice(b"}")?;
-    Ok(Text::of(text))
+    Text::of(text)
 }
 
 /// The list of one text.
@@ -132,7 +132,7 @@ fn literal_text(alloc: Global, op: u8, literal: i64) -> Result<Text, AllocError>
     if 0x16 <= op && op <= 0x19 {
         text.extend_from_slice(b"L")?;
     }
-    Ok(Text::of(text))
+    Text::of(text)
 }
 
 /// Appends the literal of an instruction, where its format has one.
@@ -151,7 +151,7 @@ pub fn label_text(alloc: Global, name: &Text) -> Result<Text, AllocError>
 {
     let mut text = vec![in alloc; b':']?;
     text.extend_from_slice(name.bytes())?;
-    Ok(Text::of(text))
+    Text::of(text)
 }
 
 /// Appends a label, where there is one.
@@ -171,10 +171,10 @@ fn add_entry(texts: &mut Vec<Text>, entry: &PoolRef) -> Result<(), AllocError>
     let alloc = *texts.allocator();
     match entry {
         PoolRef::None => {}
-        PoolRef::Str(chars) => texts.push(Text::of(string_text(alloc, chars)?))?,
+        PoolRef::Str(chars) => texts.push(Text::of(string_text(alloc, chars)?)?)?,
         PoolRef::OfType(ty) => texts.push(print_type(alloc, ty)?)?,
-        PoolRef::Field(field) => texts.push(Text::of(field_text(alloc, field)?))?,
-        PoolRef::Method(method) => texts.push(Text::of(method_text(alloc, method)?))?,
+        PoolRef::Field(field) => texts.push(Text::of(field_text(alloc, field)?)?)?,
+        PoolRef::Method(method) => texts.push(Text::of(method_text(alloc, method)?)?)?,
     }
     Ok(())
 }

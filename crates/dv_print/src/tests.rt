@@ -11,7 +11,7 @@ use std::alloc::{AllocError, Global};
 use std::test::Fail;
 
 fn text(alloc: Global, bytes: &[u8]) -> Result<Text, AllocError> {
-    Ok(Text::of(Vec::from_slice(alloc, bytes)?))
+    Text::of(Vec::from_slice(alloc, bytes)?)
 }
 
 fn class(alloc: Global, name: &[u8]) -> Result<Ty, AllocError> {

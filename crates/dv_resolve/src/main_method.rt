@@ -33,7 +33,7 @@ pub enum MainForm {
 pub fn find_main(alloc: Global, image: &Image, name: &[u8]) -> Result<MethodId, LinkError>
     ensures { Answers (numbered_main (main_found image.now name.now)) result }
 {
-    let name = Text::of(Vec::from_slice(alloc, name)?);
+    let name = Text::of(Vec::from_slice(alloc, name)?)?;
     main_named(image, &name)
 }
 

@@ -39,5 +39,5 @@ fn joined(
     bytes.extend_from_slice(name.bytes())?;
     bytes.extend_from_slice(mark)?;
     bytes.extend_from_slice(ty.bytes())?;
-    Ok(Text::of(bytes))
+    Text::of(bytes)
 }

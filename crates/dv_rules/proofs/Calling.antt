@@ -15,7 +15,7 @@ use Rattle.dv_defs.specs.RegTypes.{type_at}
 use Rattle.dv_defs.specs.Demands.{made_at}
 use Rattle.dv_defs.specs.Transfer.{after_constructor, after_invoke, class_or_conflict, first_of, pending_of, replaced, with_pending}
 use Rattle.dv_rules.specs.Changes.{call_change, changed, number, receiver_in}
-use Rattle.dv_rules.specs.Made.{made_for, place_of}
+use Rattle.dv_demands.specs.Made.{made_for, place_of}
 
 at_type : (image : Image) (m : Method) (s : RegState) (made : Option ClassId) (t : RegType) →
     number made ≡ option_and_then (made_at image m) (place_of t) →

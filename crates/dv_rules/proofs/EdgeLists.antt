@@ -1,10 +1,10 @@
 -- The edges from an instruction of a body that breaks no static rule.
-use Rattle.std.proofs.Common.{◌≡◌, ℕ, Bool, true, false, List, [], ◌∷◌, ◌++◌, map, cond, Option, Some, All, refl, ap, sym, ◌∙◌, append_assoc}
+use Rattle.std.proofs.Common.{◌≡◌, ℕ, Bool, true, false, List, [], ◌∷◌, ◌++◌, map, cond, Some, All, refl, ap, sym, ◌∙◌}
 use Rattle.std.specs.Prelude.{filter}
 use Rattle.std.proofs.lemmas.List.Elements.{All-head, All-tail, All-weaker}
 use Rattle.dv_defs.specs.Images.{Image}
 use Rattle.dv_defs.specs.Tiling.{begins_insn}
-use Rattle.dv_defs.specs.Op.{Op, Code, can_throw}
+use Rattle.dv_defs.specs.Op.{Code, can_throw}
 use Rattle.dv_defs.specs.Statics.{At, fetch}
 use Rattle.dv_defs.specs.Demands.{goes_on}
 use Rattle.dv_defs.specs.Flow.{Catcher, jumps, targets, handlers_at, thrown_at}

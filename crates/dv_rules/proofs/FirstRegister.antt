@@ -1,5 +1,5 @@
 -- The first of the registers that an instruction names.
-use Rattle.std.proofs.Common.{◌≡◌, ◌≢◌, ℕ, zero, suc, Bool, true, false, List, [], ◌∷◌, take, get_or, refl, ap, sym, ◌∙◌}
+use Rattle.std.proofs.Common.{◌≡◌, ◌≢◌, ℕ, zero, suc, Bool, true, false, List, [], ◌∷◌, take, get_or, refl}
 use Rattle.dv_defs.specs.declared.code.Regs.{Regs}
 use Rattle.dv_defs.specs.Op.{count_up, named_registers}
 use Rattle.dv_defs.specs.Transfer.{first_of}

@@ -12,10 +12,3 @@ pub mod HandlerSteps
 pub mod NothingMade
 pub mod Standing
 pub mod SwitchTargets
-pub mod ArgumentLists
-pub mod Onward
-pub mod PayloadWalk
-pub mod PayloadWidths
-pub mod Receivers
-pub mod RegisterLists
-pub mod Unknown

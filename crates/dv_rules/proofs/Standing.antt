@@ -1,5 +1,5 @@
 -- Items stand in the units at their addresses.
-use Rattle.std.proofs.Common.{◌≡◌, ℕ, ◌+◌, ◌<◌, ◌≤◌, zero, Bool, true, false, ◌⊎◌, inl, inr, List, [], ◌∷◌, length, take, drop, Option, Some, None, Ok, is_some, nat_eq, refl, ap, sym, ◌∙◌, subst, arith, length-drop}
+use Rattle.std.proofs.Common.{◌≡◌, ℕ, ◌+◌, ◌<◌, ◌≤◌, Bool, true, false, ◌⊎◌, inl, inr, List, [], ◌∷◌, length, take, drop, Option, Some, None, Ok, is_some, nat_eq, refl, ap, sym, ◌∙◌, subst, arith, length-drop}
 use Rattle.std.proofs.lemmas.Bool.{eqb-true}
 use Rattle.std.proofs.lemmas.List.{drop-drop, length-take-le}
 use Rattle.dv_defs.specs.declared.code.Insn.{Insn}

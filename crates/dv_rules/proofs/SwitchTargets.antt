@@ -1,5 +1,5 @@
 -- The cases of a switch are those of the payload that its instruction names.
-use Rattle.std.proofs.Common.{◌≡◌, ℕ, suc, ◌&&◌, Bool, true, false, List, [], ◌∷◌, length, map, ℤ, pos, ◌+ℤ◌, Option, Some, None, is_some, nat_eq, slice_get, refl, ap, sym, ◌∙◌, subst, arith}
+use Rattle.std.proofs.Common.{◌≡◌, ℕ, Bool, true, false, List, [], ◌∷◌, length, map, ℤ, pos, ◌+ℤ◌, Option, Some, None, is_some, slice_get, refl, ap, subst, arith}
 use Rattle.std.specs.Prelude.{Ok, Err}
 use Rattle.std.proofs.lemmas.Bool.{and_parts, eqb-true}
 use Rattle.dv_defs.specs.declared.code.Insn.{Insn}

@@ -1,12 +1,7 @@
-pub mod Arguments
 pub mod Asking
 pub mod Changes
 pub mod Carried
 pub mod Distances
 pub mod EdgeParts
 pub mod Edges
-pub mod Elements
-pub mod Made
-pub mod Returns
 pub mod Verified
-pub mod Wanted

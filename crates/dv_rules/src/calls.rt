@@ -1,18 +1,16 @@
 // What calls change.
 ghost use Rattle.std.specs.Prelude.{◌≡◌, IfOk};
 ghost use Rattle.dv_defs.specs.Op.{named_registers};
-ghost use Rattle.dv_defs.specs.Pools.{is_constructor as is_constructor_of};
 ghost use Rattle.dv_defs.specs.Transfer.{first_of, pending_of as pending_result};
 ghost use Rattle.dv_ops.specs.Meaning.{method_of};
 ghost use Rattle.dv_rules.specs.Changes.{call_change, pending_with, receiver_in};
 
 use crate::changes::Change;
 use crate::registers::{is_long, single_type};
-use dv_defs::{ClassId, Flag, PendingType, RegState, RegType, Regs, Ty};
+use dv_defs::{ClassId, PendingType, RegState, RegType, Regs, Ty};
+use dv_demands::is_constructor;
 use dv_ops::{Coded, Method};
 use std::alloc::AllocError;
-
-const INIT: &[u8] = b"<init>";
 
 /// A constructor call initialises its receiver, in each register that holds it.
 pub fn change_of_call(
@@ -32,13 +30,6 @@ pub fn change_of_call(
         Some(RegType::UninitThis) => Change::This(code.method.info.class),
         _ => Change::Lost,
     }
-}
-
-/// Whether a method is a constructor.
-pub fn is_constructor(method: &Method<'_>) -> bool
-    ensures { result ≡ is_constructor_of (method_of method.now) }
-{
-    !Flag::Static.is_in(method.def.flags) && method.def.name.bytes() == INIT
 }
 
 /// The first register that an instruction names.

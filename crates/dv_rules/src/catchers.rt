@@ -132,6 +132,6 @@ fn throwable(alloc: Global) -> Result<Ty, AllocError>
 {
     Ok(Ty {
         dims: 0,
-        base: Base::Class(Text::of(Vec::from_slice(alloc, THROWABLE)?)),
+        base: Base::Class(Text::of(Vec::from_slice(alloc, THROWABLE)?)?),
     })
 }

@@ -1,14 +1,13 @@
 // The state on entry to a method.
-ghost use Rattle.std.specs.Prelude.{◌≡◌, ◌≤◌, ◌++◌, ◌-◌, length, replicate, IfOk, OnOk};
+ghost use Rattle.std.specs.Prelude.{◌≡◌, ◌++◌, ◌-◌, length, replicate, IfOk, OnOk};
 ghost use Rattle.dv_defs.specs.Pools.{is_of_object as is_of_object_class};
 ghost use Rattle.dv_defs.specs.RegTypes.{all_types, reg_types};
-ghost use Rattle.dv_defs.specs.Statics.{arg_words};
 ghost use Rattle.dv_defs.specs.Transfer.{arg_types as types_of_args, begins_uninitialised as is_uninitialised, entry_state, receiver_type};
 ghost use Rattle.dv_ops.specs.Meaning.{method_of};
 
-use crate::calls::is_constructor;
 use crate::registers::{class_type, is_long, single_type};
 use dv_defs::{Flag, Image, PendingType, RegState, RegType, Seq, Ty};
+use dv_demands::is_constructor;
 use dv_ops::{Coded, Method};
 use std::alloc::{AllocError, Global};
 
@@ -16,7 +15,6 @@ const OBJECT: &[u8] = b"Ljava/lang/Object;";
 
 /// The state on entry: the arguments stand in the last registers, and what is below them is not known.
 pub fn entry_of(alloc: Global, image: &Image, code: &Coded<'_>) -> Result<RegState, AllocError>
-    requires { arg_words (method_of code.now.method) ≤ code.now.body.now.registers }
     ensures { IfOk result (λ s. s ≡ entry_state image.now (method_of code.now.method) code.now.body.now.registers) }
 {
     let body = code.body;

@@ -112,7 +112,7 @@ pub fn class_type(alloc: Global, image: &Image, class: ClassId) -> Result<Ty, Al
 {
     let name = match image.classes.items().get(class.0 as usize) {
         Some(info) => info.def.name.clone()?,
-        None => Text::of(Vec::new(alloc)),
+        None => Text::of(Vec::new(alloc))?,
     };
     Ok(Ty {
         dims: 0,

@@ -9,7 +9,7 @@ ghost use Rattle.dv_defs.specs.Types.{component as component_of, is_array as is_
 ghost use Rattle.dv_units.specs.Tables.{standard_suffix};
 ghost use Rattle.dv_ops.specs.Meaning.{code_of, meant, method_of};
 ghost use Rattle.dv_rules.specs.Changes.{changed as registers_after, pending_after as pending_left, this_after as this_left};
-ghost use Rattle.dv_rules.specs.Made.{made_for};
+ghost use Rattle.dv_demands.specs.Made.{made_for};
 
 use crate::calls::{change_of_call, pending_of, this_after_call};
 use crate::changes::{Change, changed};
@@ -184,7 +184,7 @@ fn const_type(n: i64) -> RegType
 fn type_named(alloc: Global, name: &[u8]) -> Result<RegType, AllocError>
     ensures { IfOk result (λ t. t ≡ RegType.Class (of_class name.now)) }
 {
-    let name = Text::of(Vec::from_slice(alloc, name)?);
+    let name = Text::of(Vec::from_slice(alloc, name)?)?;
     Ok(RegType::Class(Ty {
         dims: 0,
         base: Base::Class(name),

@@ -20,7 +20,7 @@ const THROWABLE: &[u8] = b"Ljava/lang/Throwable;";
 fn throwable_type(alloc: Global) -> Result<Ty, AllocError>
     ensures { IfOk result (λ t. t ≡ of_class throwable_name) }
 {
-    let name = Text::of(Vec::from_slice(alloc, THROWABLE)?);
+    let name = Text::of(Vec::from_slice(alloc, THROWABLE)?)?;
     Ok(Ty {
         dims: 0,
         base: Base::Class(name),

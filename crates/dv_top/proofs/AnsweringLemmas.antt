@@ -1,5 +1,5 @@
 -- What the parts of an answer give together.
-use Rattle.std.proofs.Common.{◌≡◌, ℕ, ◌<◌, ◌≤◌, List, [], ◌∷◌, ◌++◌, length, take, codes, Option, Some, None, arith, ap, sym, subst, ◌∙◌, refl, append_assoc, true, false, Bool, if◌then◌else◌, ◌+◌}
+use Rattle.std.proofs.Common.{◌≡◌, ℕ, ◌<◌, ◌≤◌, List, [], ◌∷◌, ◌++◌, length, take, codes, Option, Some, None, arith, ap, sym, subst, ◌∙◌, refl, true, false, Bool, if◌then◌else◌, ◌+◌}
 use Rattle.std.proofs.lemmas.List.{take_all, length-take}
 use Rattle.dv_defs.specs.declared.faults.Fault.{Fault}
 use Rattle.dv_defs.specs.Images.{Image}
@@ -17,10 +17,11 @@ use Rattle.dv_top.specs.Image.{IsLinked, image_of}
 use Rattle.dv_top.specs.Pieces.{TookPart}
 use Rattle.dv_top.specs.Status.{code_of}
 use Rattle.dv_top.specs.Words.{class_to_run}
-use Rattle.dv_top.specs.Printing.{main_fault_line, main_fault_text}
+use Rattle.dv_console.specs.Faults.{fault_line_of, fault_text, signature}
+use Rattle.dv_top.specs.Printing.{main_fault_text}
 use Rattle.dv_top.specs.Program.{IsImageOf, HasMain, HasRun, main_method, faults_of, faults_from, fault_unless, is_return, reads_ints, ints_after, no_ints, printed_text, status_by}
 use Rattle.dv_defs.specs.Pools.{method_at}
-use Rattle.dv_top.specs.Said.{method_text, four_digits, rule_text, IsSaid, IsSaidOfClass, TooLarge, NotBuilt, Refused, Ran, IsRun, IsBuilt, IsAccepted, fault_line, fault_text, too_large, not_built, text_limit}
+use Rattle.dv_top.specs.Said.{IsSaid, IsSaidOfClass, TooLarge, NotBuilt, Refused, Ran, IsRun, IsBuilt, IsAccepted, fault_lines, too_large, not_built, text_limit}
 use Rattle.dv_top.specs.Straight.{IsStraight, size_of}
 use Rattle.dv_top.proofs.BodyLemmas.{each_in_range}
 use Rattle.dv_top.proofs.FaultsFound.{faults_are_found}
@@ -80,19 +81,18 @@ each_of_main : (at : ℕ) (ints : List Bool) (insns : List Instruction) → Each
 each_of_main at ints [] = tt
 each_of_main at ints (i ∷ is) = chosen (is_return i) (fault_unless (reads_ints ints i) at ++ faults_from (at + size_of i) (ints_after ints i) is) (joined (reads_ints ints i) at (faults_from (at + size_of i) (ints_after ints i) is) (each_of_main (at + size_of i) (ints_after ints i) is))
 
-main_text : (class : List ℕ) (registers : ℕ) (insns : List Instruction) (image : Image) → IsImageOf class registers insns image → method_text image (method_at image 1) ≡ class ++ codes "->main()V"
-main_text class registers insns image p = ap (λ m. method_text image m) (main_is_found class registers insns image p).1 ∙ ap (λ i. method_text i (Some (main_method registers insns))) p.is
+main_text : (class : List ℕ) (registers : ℕ) (insns : List Instruction) (image : Image) → IsImageOf class registers insns image → signature image (method_at image 1) ≡ class ++ codes "->main()V"
+main_text class registers insns image p = ap (λ m. signature image m) (main_is_found class registers insns image p).1 ∙ ap (λ i. signature i (Some (main_method registers insns))) p.is
 
-same_fault_line : (class : List ℕ) (registers : ℕ) (insns : List Instruction) (image : Image) (f : Fault) → IsImageOf class registers insns image → f.method.0 ≡ 1 → fault_line image f ≡ main_fault_line class f
+same_fault_line : (class : List ℕ) (registers : ℕ) (insns : List Instruction) (image : Image) (f : Fault) → IsImageOf class registers insns image → f.method.0 ≡ 1 → fault_text image f ≡ fault_line_of (class ++ codes "->main()V") f
 same_fault_line class registers insns image f p of =
-    let rest = codes " " ++ (four_digits f.address ++ (codes " " ++ rule_text f.rule)) in
-    let text : method_text image (method_at image f.method.0) ≡ class ++ codes "->main()V" = ap (λ n. method_text image (method_at image n)) of ∙ main_text class registers insns image p in
-    ap (λ t. codes "#fault " ++ (t ++ rest)) text ∙ ap (λ t. codes "#fault " ++ t) (append_assoc class (codes "->main()V") rest)
+    let text : signature image (method_at image f.method.0) ≡ class ++ codes "->main()V" = ap (λ n. signature image (method_at image n)) of ∙ main_text class registers insns image p in
+    ap (λ t. fault_line_of t f) text
 
-same_fault_text : (class : List ℕ) (registers : ℕ) (insns : List Instruction) (image : Image) (fs : List Fault) → IsImageOf class registers insns image → EachOfMain fs → fault_text image fs ≡ main_fault_text class fs
+same_fault_text : (class : List ℕ) (registers : ℕ) (insns : List Instruction) (image : Image) (fs : List Fault) → IsImageOf class registers insns image → EachOfMain fs → fault_lines image fs ≡ main_fault_text class fs
 same_fault_text class registers insns image [] p each = refl
 same_fault_text class registers insns image (f ∷ fs) p each =
-    ap (λ t. t ++ 10 ∷ fault_text image fs) (same_fault_line class registers insns image f p each.0) ∙ ap (λ t. main_fault_line class f ++ 10 ∷ t) (same_fault_text class registers insns image fs p each.1)
+    ap (λ t. t ++ fault_lines image fs) (same_fault_line class registers insns image f p each.0) ∙ ap (λ t. fault_line_of (class ++ codes "->main()V") f ++ t) (same_fault_text class registers insns image fs p each.1)
 
 pub said_of_refusal : (class bytes : List ℕ) (registers : ℕ) (insns : List Instruction) (image : Image) (log : List Entry) (faults : List Fault) (status : ℕ) (text : List ℕ) → IsBuilt class bytes image → IsImageOf class registers insns image → faults ≡ faults_of insns → (faults ≡ [] → ⊥) → status ≡ code_of exit.Refused → text ≡ main_fault_text class faults → IsSaidOfClass class bytes log status text
 said_of_refusal class bytes registers insns image log [] status text built p found some told prints = absurd (some refl)

@@ -1,3 +1,4 @@
+pub mod AnswerLemmas
 pub mod AnsweringLemmas
 pub mod AssemblyLemmas
 pub mod BodyLemmas
@@ -28,3 +29,4 @@ pub mod StraightFaults
 mod StraightRows
 pub mod StraightTyping
 pub mod Tiles
+pub mod VerifyingLemmas

@@ -16,13 +16,17 @@ use Rattle.dv_machine.specs.Opening.{usual}
 use Rattle.dv_machine.specs.Replaying.{Replayed, Stands, replay}
 use Rattle.dv_machine.specs.Running.{ending_of}
 use Rattle.dv_machine.specs.State.{Machine}
+use Rattle.dv_top.specs.declared.words.Command.{Command}
+use Rattle.dv_top.specs.declared.words.Command.TheVariants as command
 use Rattle.dv_top.specs.Image.{IsLinked, image_of}
-use Rattle.dv_top.specs.Said.{IsSaid, Unread, Asked, ToBeListed, IsSaidOfClass, TooLarge, NotBuilt, Refused, Ran, IsSaidOfListing, TooLargeToList, BadText, Listed, IsRun, status_of, fault_text, main_of, text_limit}
+use Rattle.dv_top.specs.Laws.{VerdictsAreExact}
+use Rattle.dv_top.specs.Said.{IsSaid, Unread, Asked, ToBeListed, ToBeVerified, IsSaidOfClass, TooLarge, NotBuilt, Refused, Ran, IsSaidOfListing, TooLargeToList, BadText, Listed, IsRun, status_of, fault_lines, main_of, text_limit}
 use Rattle.dv_top.specs.Status.{code_of}
-use Rattle.dv_top.specs.Words.{class_of, class_to_run, command_in}
+use Rattle.dv_top.specs.Words.{asked_in, class_of, class_to_run}
 use Rattle.dv_top.proofs.AnsweringLemmas.{straight_image, none_or_some}
 use Rattle.dv_top.proofs.BodyLemmas.{one_straight}
 use Rattle.dv_top.proofs.FaultsFound.{faults_are_found}
+use Rattle.dv_top.proofs.VerifyingLemmas.{verified_once, is_verdict}
 
 -- two answers are one
 abbrev Same : ℕ → List ℕ → ℕ → List ℕ → Type 0
@@ -75,7 +79,7 @@ said_once_of class bytes log s t a b (Refused image built f fs are r) (Refused o
     let same = linked_once class bytes image other built.linked again.linked in
     let P : Image → Type 0 = λ i. AreImageFaults i (f ∷ fs) in
     let faults = faults_once class bytes other (f ∷ fs) (g ∷ gs) again.linked (subst P same are) too in
-    (r.0 ∙ sym q.0, r.1 ∙ (ap (λ i. fault_text i (f ∷ fs)) same ∙ (ap (λ xs. fault_text other xs) faults ∙ sym q.1)))
+    (r.0 ∙ sym q.0, r.1 ∙ (ap (λ i. fault_lines i (f ∷ fs)) same ∙ (ap (λ xs. fault_lines other xs) faults ∙ sym q.1)))
 said_once_of class bytes log s t a b (Refused image built f fs are r) (Ran other accepted q) =
     let same = linked_once class bytes image other built.linked accepted.built.linked in
     let P : Image → Type 0 = λ i. AreImageFaults i (f ∷ fs) in
@@ -119,16 +123,33 @@ listed_once bytes s t a b (Listed few read gives r) (Listed _ other again q) =
 
 -- ---- words
 
+same_command : (o : Option Command) → o ≡ Some command.List → o ≡ Some command.Verify → ⊥
+same_command o list verify = cc
+
 pub said_once : (words : List (List ℕ)) (bytes : List ℕ) (log : List Entry) (s t : ℕ) (a b : List ℕ) → IsSaid words bytes log s a → IsSaid words bytes log t b → Same s a t b
 said_once words bytes log s t a b (Unread none r) (Unread _ q) = (r.0 ∙ sym q.0, r.1 ∙ sym q.1)
 said_once words bytes log s t a b (Unread none r) (Asked class some q) = absurd (none_or_some (class_to_run words) class (ap class_of none) some)
-said_once words bytes log s t a b (Unread none r) (ToBeListed asked q) = absurd (none_or_some (command_in words) _ none asked)
+said_once words bytes log s t a b (Unread none r) (ToBeListed asked q) = absurd (none_or_some (asked_in words) _ none asked)
+said_once words bytes log s t a b (Unread none r) (ToBeVerified asked q) = absurd (none_or_some (asked_in words) _ none asked)
 said_once words bytes log s t a b (Asked class some r) (Unread none q) = absurd (none_or_some (class_to_run words) class (ap class_of none) some)
 said_once words bytes log s t a b (Asked class some r) (Asked other again q) =
     let same = same_some (class_to_run words) class other some again in
     let P : List ℕ → Type 0 = λ c. IsSaidOfClass c bytes log s a in
     said_once_of other bytes log s t a b (subst P same r) q
 said_once words bytes log s t a b (Asked class some r) (ToBeListed asked q) = absurd (none_or_some (class_to_run words) class (ap class_of asked) some)
-said_once words bytes log s t a b (ToBeListed asked r) (Unread none q) = absurd (none_or_some (command_in words) _ none asked)
+said_once words bytes log s t a b (Asked class some r) (ToBeVerified asked q) = absurd (none_or_some (class_to_run words) class (ap class_of asked) some)
+said_once words bytes log s t a b (ToBeListed asked r) (Unread none q) = absurd (none_or_some (asked_in words) _ none asked)
 said_once words bytes log s t a b (ToBeListed asked r) (Asked class some q) = absurd (none_or_some (class_to_run words) class (ap class_of asked) some)
 said_once words bytes log s t a b (ToBeListed asked r) (ToBeListed _ q) = listed_once bytes s t a b r q
+said_once words bytes log s t a b (ToBeListed list r) (ToBeVerified verify q) = absurd (same_command (asked_in words) list verify)
+said_once words bytes log s t a b (ToBeVerified asked r) (Unread none q) = absurd (none_or_some (asked_in words) _ none asked)
+said_once words bytes log s t a b (ToBeVerified asked r) (Asked class some q) = absurd (none_or_some (class_to_run words) class (ap class_of asked) some)
+said_once words bytes log s t a b (ToBeVerified verify r) (ToBeListed list q) = absurd (same_command (asked_in words) list verify)
+said_once words bytes log s t a b (ToBeVerified asked r) (ToBeVerified _ q) = verified_once bytes s t a b r q
+
+-- what is said of a program that is to be verified is exact
+pub verdicts_are_exact : VerdictsAreExact
+verdicts_are_exact words bytes log status text asked few (Unread none r) = absurd (none_or_some (asked_in words) _ none asked)
+verdicts_are_exact words bytes log status text asked few (Asked class some r) = absurd (none_or_some (class_to_run words) class (ap class_of asked) some)
+verdicts_are_exact words bytes log status text asked few (ToBeListed list r) = absurd (same_command (asked_in words) list asked)
+verdicts_are_exact words bytes log status text asked few (ToBeVerified _ r) = is_verdict bytes status text few r

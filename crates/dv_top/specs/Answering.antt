@@ -1,15 +1,16 @@
 -- What the parts of an answer tell.
-use Rattle.std.specs.Prelude.{◌≡◌, ◌≢◌, ◌⊎◌, ℕ, ◌+◌, List, take, Option, Some}
+use Rattle.std.specs.Prelude.{◌≡◌, ◌≢◌, ◌⊎◌, ℕ, ◌+◌, List, [], take, All, Option, Some, None, IsSome}
 use Rattle.dv_defs.specs.Images.{Image}
 use Rattle.dv_defs.specs.declared.run.Entry.{Entry}
 use Rattle.dv_defs.specs.Pools.{Method}
-use Rattle.dv_io.specs.Io.{after_write}
+use Rattle.dv_io.specs.Io.{HasRisen, after_taking, after_write}
 use Rattle.dv_machine.specs.Opening.{usual}
 use Rattle.dv_machine.specs.Replaying.{IsLegal}
 use Rattle.dv_top.specs.declared.status.Status.TheVariants as exit
-use Rattle.dv_top.specs.Said.{IsAccepted, IsSaid, main_of, text_limit}
+use Rattle.dv_top.specs.Program.{IsEntry}
+use Rattle.dv_top.specs.Said.{IsAccepted, IsSaid, main_of, text_limit, usage}
 use Rattle.dv_top.specs.Status.{code_of}
-use Rattle.dv_top.specs.Words.{class_to_run}
+use Rattle.dv_top.specs.Words.{asked_in, class_to_run}
 
 -- a status with which nothing ran
 abbrev pub IsIdle : ℕ → Type 0
@@ -66,3 +67,35 @@ pub record IsPartlyPrinted
   pub said : IsSaid words bytes log status text
   pub count : ℕ
   pub took : after ≡ after_write (take count text) before
+
+-- What an answer owes, by its status and its log, of the words, and of the source and the sink before and after it. A source tells the
+-- bytes that are left and a sink those that it took, where they tell them; both count their faults.
+pub record IsAnswer
+    {S K : Type 0} (left : S → Option (List ℕ)) (read_faults : S → ℕ) (taken : K → Option (List ℕ)) (write_faults : K → ℕ)
+    (words : List (List ℕ)) (source source_after : S) (sink sink_after : K) (log : List Entry) (status : ℕ) : Type 0 where
+  -- words that aren't read: nothing is taken from the source, and the usage is told
+  pub unread : asked_in words ≡ None → (source_after ≡ source) × IsOfUnread status
+  pub usage : status ≡ code_of exit.Usage → (asked_in words ≡ None) × (taken sink_after ≡ after_write usage (taken sink))
+  -- a read failed, and nothing was written
+  pub read_fault : status ≡ code_of exit.ReadFault
+      → HasRisen (read_faults source) (read_faults source_after) × (taken sink_after ≡ taken sink)
+  -- a write failed
+  pub write_fault : status ≡ code_of exit.WriteFault → HasRisen (write_faults sink) (write_faults sink_after)
+  -- memory was wanting, and nothing was written
+  pub no_memory : status ≡ code_of exit.NoMemory → taken sink_after ≡ taken sink
+  -- what the sink holds beyond what it held was taken in this call
+  pub took : HasTaken (taken sink) (taken sink_after)
+  -- the source is read to its end, or to one byte past the limit
+  pub source_read : IsSome (asked_in words) → status ≢ code_of exit.ReadFault → status ≢ code_of exit.NoMemory
+      → left source_after ≡ after_taking (text_limit + 1) (left source)
+  -- each other status, and all that the sink took, are what is said of the words, the bytes and the log
+  pub said : (bytes : List ℕ) → left source ≡ Some bytes → IsTold status → IsPrinted words bytes log status (taken sink) (taken sink_after)
+  -- a sink that failed took a front of what is said
+  pub part : (bytes : List ℕ) → left source ≡ Some bytes → status ≡ code_of exit.WriteFault
+      → IsPartlyPrinted words bytes log (taken sink) (taken sink_after)
+  -- the log has entries of eight workers, of 1 to 256 steps, and none where nothing ran
+  pub entries : All IsEntry log
+  pub idle : IsIdle status → log ≡ []
+  pub not_run : class_to_run words ≡ None → log ≡ []
+  -- a log with entries is a legal schedule of an accepted image, also where a write failed or memory is wanting
+  pub legal : (bytes : List ℕ) → left source ≡ Some bytes → log ≢ [] → MayRun words bytes log

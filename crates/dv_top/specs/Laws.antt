@@ -1,18 +1,23 @@
 -- The laws of straight texts and of their bodies.
-use Rattle.std.specs.Prelude.{ℕ, suc, ◌≡◌, ◌<◌, ◌≤◌, ◌↔◌, List, [], ◌++◌, length, drop, slice_index_or, flat_map, All, Some}
+use Rattle.std.specs.Prelude.{ℕ, suc, ◌≡◌, ◌<◌, ◌≤◌, ◌↔◌, List, [], ◌++◌, length, drop, slice_index_or, flat_map, All, Some, Ok, Err}
 use Rattle.dv_defs.specs.declared.faults.Fault.{Fault}
 use Rattle.dv_defs.specs.Images.{Image}
 use Rattle.dv_defs.specs.declared.run.Entry.{Entry}
-use Rattle.dv_defs.specs.Accepting.{static_places, AreImageFaults}
+use Rattle.dv_defs.specs.Accepting.{Accepts, static_places, AreImageFaults}
 use Rattle.dv_defs.specs.Op.{Code, code_at}
 use Rattle.dv_defs.specs.Pools.{method_at}
 use Rattle.dv_defs.specs.Spelling.{spelling}
 use Rattle.dv_defs.specs.Statics.{fetch}
+use Rattle.dv_console.specs.declared.refusals.Refusal.{Refusal}
+use Rattle.dv_program.specs.Images.{image_in}
 use Rattle.dv_top.specs.declared.instruction.Instruction.{Instruction}
+use Rattle.dv_top.specs.declared.status.Status.TheVariants as exit
 use Rattle.dv_top.specs.Program.{IsImageOf, main_method, op_of, faults_of}
-use Rattle.dv_top.specs.Said.{main_of, IsSaid}
+use Rattle.dv_top.specs.Said.{main_of, text_limit, IsSaid}
+use Rattle.dv_top.specs.Status.{code_of}
 use Rattle.dv_top.specs.Straight.{IsInRange, IsStraight, size_of}
 use Rattle.dv_top.specs.Assembly.{insn_of, units_of, address_of}
+use Rattle.dv_top.specs.Words.{AsksForVerifying}
 
 -- a text is a straight text of a class in one way at most
 abbrev pub IsReadOneWay : Type 0
@@ -68,3 +73,16 @@ abbrev pub IsSaidOnce : Type 0
 IsSaidOnce =
     (words : List (List ℕ)) (bytes : List ℕ) (log : List Entry) (s t : ℕ) (a b : List ℕ) → IsSaid words bytes log s a
     → IsSaid words bytes log t b → (s ≡ t) × (a ≡ b)
+
+-- reading, assembling or linking refuses a text exactly where it has no image, the verifier exactly where the image isn't accepted,
+-- and a text is accepted exactly where its image is
+pub record IsVerdict (bytes : List ℕ) (status : ℕ) : Type 0 where
+  pub no_image : (status ≡ code_of exit.BadText) ↔ ((why : Refusal) × (image_in bytes ≡ Err why))
+  pub refused : (status ≡ code_of exit.Refused) ↔ ((image : Image) × (image_in bytes ≡ Ok image) × (Accepts image → ⊥))
+  pub accepted : (status ≡ code_of exit.Done) ↔ ((image : Image) × (image_in bytes ≡ Ok image) × Accepts image)
+
+-- what is said of a program that is to be verified, and whose text isn't too large
+abbrev pub VerdictsAreExact : Type 0
+VerdictsAreExact =
+    (words : List (List ℕ)) (bytes : List ℕ) (log : List Entry) (status : ℕ) (text : List ℕ) → AsksForVerifying words
+    → length bytes ≤ text_limit → IsSaid words bytes log status text → IsVerdict bytes status

@@ -1,27 +1,26 @@
 -- What is said of the words, the bytes of the text and the log: the status of the call, and what is printed.
-use Rattle.std.specs.Prelude.{◌≡◌, ℕ, ◌<◌, ◌≤◌, ◌/◌, ◌%◌, Bool, false, ◌&&◌, List, [], ◌∷◌, ◌++◌, length, map, Option, Some, None, is_some, slice_get, bytes_eq, decimal, codes, Ok, Err}
-use Rattle.std.specs.Fmt.{digit_glyph}
+use Rattle.std.specs.Prelude.{◌≡◌, ℕ, ◌<◌, ◌≤◌, Bool, false, List, [], ◌∷◌, length, Option, Some, None, slice_get, codes, Ok, Err}
 use Rattle.std.specs.List.{flat_map}
 use Rattle.dv_defs.specs.declared.faults.Fault.{Fault}
-use Rattle.dv_defs.specs.declared.faults.Rule.{Rule}
-use Rattle.dv_defs.specs.declared.faults.Rule.TheVariants as rule
 use Rattle.dv_defs.specs.Images.{Image}
 use Rattle.dv_defs.specs.declared.machine.End.{End}
 use Rattle.dv_defs.specs.declared.machine.End.TheVariants as end
 use Rattle.dv_defs.specs.declared.run.Ending.{Ending}
 use Rattle.dv_defs.specs.declared.run.Ending.TheVariants as ending
 use Rattle.dv_defs.specs.declared.run.Entry.{Entry}
-use Rattle.dv_defs.specs.Accepting.{AreImageFaults}
+use Rattle.dv_defs.specs.Accepting.{Accepts, AreImageFaults}
 use Rattle.dv_defs.specs.Linked.{is_main_with}
-use Rattle.dv_defs.specs.Pools.{Method, method_at, name_at, class_named, declared_by, no_arguments}
-use Rattle.dv_names.specs.Descriptors.{prototype}
+use Rattle.dv_defs.specs.Pools.{Method, class_named, declared_by, no_arguments}
 use Rattle.dv_lex.specs.declared.line.Stop.{Stop}
 use Rattle.dv_lex.specs.Lines.{reading_of}
 use Rattle.dv_print.specs.Listing.{class_text}
 use Rattle.dv_classread.specs.declared.text.Read.{Read}
 use Rattle.dv_classread.specs.Programs.{program_of}
+use Rattle.dv_console.specs.declared.refusals.Refusal.{Refusal}
 use Rattle.dv_console.specs.declared.refusals.Refusal.TheVariants as refusal
+use Rattle.dv_console.specs.Faults.{accepted_text, fault_text}
 use Rattle.dv_console.specs.Refusals.{refusal_text}
+use Rattle.dv_program.specs.Images.{image_in}
 use Rattle.dv_machine.specs.Final.{final_text}
 use Rattle.dv_machine.specs.Opening.{usual}
 use Rattle.dv_machine.specs.Replaying.{replay, Stands}
@@ -33,7 +32,7 @@ use Rattle.dv_top.specs.declared.status.Status.TheVariants as exit
 use Rattle.dv_top.specs.Image.{IsLinked}
 use Rattle.dv_top.specs.Status.{code_of}
 use Rattle.dv_top.specs.Straight.{IsStraight, text_before}
-use Rattle.dv_top.specs.Words.{command_in, class_to_run, AsksForListing}
+use Rattle.dv_top.specs.Words.{asked_in, class_to_run, AsksForListing, AsksForVerifying}
 
 -- ---- printed texts
 
@@ -54,27 +53,9 @@ too_large = text_of (codes "#refused text too large" ∷ [])
 abbrev pub not_built : List ℕ
 not_built = text_of (codes "#not built" ∷ [])
 
--- an address with four hexadecimal digits
-abbrev pub four_digits : ℕ → List ℕ
-four_digits n = map (digit_glyph false) (n / 4096 % 16 ∷ n / 256 % 16 ∷ n / 16 % 16 ∷ n % 16 ∷ [])
-
-abbrev pub rule_text : Rule → List ℕ
-rule_text (rule.S number) = codes "S" ++ decimal number
-rule_text (rule.V number) = codes "V" ++ decimal number
-
--- the class, the name and the prototype of a method
-abbrev pub method_text : Image → Option Method → List ℕ
-method_text image None = []
-method_text image (Some m) = name_at image m.info.class.0 ++ (codes "->" ++ (m.def.name ++ prototype m.def.proto))
-
--- a fault's method, address and rule
-abbrev pub fault_line : Image → Fault → List ℕ
-fault_line image f =
-    codes "#fault " ++ (method_text image (method_at image f.method.0)
-    ++ (codes " " ++ (four_digits f.address ++ (codes " " ++ rule_text f.rule))))
-
-abbrev pub fault_text : Image → List Fault → List ℕ
-fault_text image faults = text_of (map (fault_line image) faults)
+-- the lines of faults
+abbrev pub fault_lines : Image → List Fault → List ℕ
+fault_lines image faults = flat_map (fault_text image) faults
 
 -- ---- runs
 
@@ -144,7 +125,7 @@ pub data IsSaidOfClass (class bytes : List ℕ) (log : List Entry) (status : ℕ
       → IsReply exit.NotBuilt not_built status text → IsSaidOfClass class bytes log status text
   -- the verifier refuses the image: it has faults
   Refused : (image : Image) → IsBuilt class bytes image → (first : Fault) (others : List Fault) → AreImageFaults image (first ∷ others)
-      → IsReply exit.Refused (fault_text image (first ∷ others)) status text → IsSaidOfClass class bytes log status text
+      → IsReply exit.Refused (fault_lines image (first ∷ others)) status text → IsSaidOfClass class bytes log status text
   -- the image runs
   Ran : (image : Image) → IsAccepted class bytes image → IsRun class image log status text → IsSaidOfClass class bytes log status text
 
@@ -158,10 +139,25 @@ pub data IsSaidOfListing (bytes : List ℕ) (status : ℕ) (text : List ℕ) : T
   Listed : length bytes ≤ text_limit → (read : Read) → program_of false (reading_of bytes) ≡ Ok read
       → IsReply exit.Done (flat_map class_text read.classes) status text → IsSaidOfListing bytes status text
 
+-- ... and of a program that is to be verified
+pub data IsSaidOfVerifying (bytes : List ℕ) (status : ℕ) (text : List ℕ) : Type 0 where
+  TooLargeToVerify : text_limit < length bytes → IsReply exit.TooLarge too_large status text → IsSaidOfVerifying bytes status text
+  -- reading, assembling or linking refuses the text
+  NoImage : length bytes ≤ text_limit → (why : Refusal) → image_in bytes ≡ Err why → IsReply exit.BadText (refusal_text why) status text
+      → IsSaidOfVerifying bytes status text
+  -- the image isn't accepted: it has faults
+  Faulty : length bytes ≤ text_limit → (image : Image) → image_in bytes ≡ Ok image → (Accepts image → ⊥)
+      → (faults : List Fault) → AreImageFaults image faults → IsReply exit.Refused (fault_lines image faults) status text
+      → IsSaidOfVerifying bytes status text
+  -- the image is accepted
+  Accepted : length bytes ≤ text_limit → (image : Image) → image_in bytes ≡ Ok image → Accepts image
+      → IsReply exit.Done (accepted_text image) status text → IsSaidOfVerifying bytes status text
+
 -- of the words, the bytes of the text, and the log
 pub data IsSaid (words : List (List ℕ)) (bytes : List ℕ) (log : List Entry) (status : ℕ) (text : List ℕ) : Type 0 where
   -- the words aren't read
-  Unread : command_in words ≡ None → IsReply exit.Usage usage status text → IsSaid words bytes log status text
+  Unread : asked_in words ≡ None → IsReply exit.Usage usage status text → IsSaid words bytes log status text
   Asked : (class : List ℕ) → class_to_run words ≡ Some class → IsSaidOfClass class bytes log status text
       → IsSaid words bytes log status text
   ToBeListed : AsksForListing words → IsSaidOfListing bytes status text → IsSaid words bytes log status text
+  ToBeVerified : AsksForVerifying words → IsSaidOfVerifying bytes status text → IsSaid words bytes log status text

@@ -4,7 +4,7 @@ ghost use Rattle.dv_defs.specs.Accepting.{AreImageFaults};
 ghost use Rattle.dv_defs.specs.Images.{Image};
 ghost use Rattle.dv_io.specs.Io.{HasRisen, after_write, after_taking};
 ghost use Rattle.dv_machine.specs.Opening.{usual};
-ghost use Rattle.dv_top.specs.Answering.{IsIdle, IsOfUnread, IsTold, HasTaken, IsReadOf, IsScheduleOf, MayRun, IsPrinted, IsPartlyPrinted};
+ghost use Rattle.dv_top.specs.Answering.{IsAnswer, IsIdle, IsTold, IsReadOf, IsScheduleOf, MayRun};
 ghost use Rattle.dv_top.specs.declared.instruction.Instruction.{Instruction};
 ghost use Rattle.dv_top.specs.declared.reading.ReadError.TheVariants.{Memory as NoMemory};
 ghost use Rattle.dv_top.specs.Engine.{IsLegalLog};
@@ -13,7 +13,7 @@ ghost use Rattle.dv_top.specs.Program.{IsImageOf, IsEntry, faults_of};
 ghost use Rattle.dv_top.specs.Said.{IsSaid, IsSaidOfClass, IsRun, IsBuilt, IsAccepted, usage, text_limit};
 ghost use Rattle.dv_top.specs.Status.{code_of};
 ghost use Rattle.dv_top.specs.Straight.{IsStraight, IsInRange, IsMain};
-ghost use Rattle.dv_top.specs.Words.{command_in, AsksForListing};
+ghost use Rattle.dv_top.specs.Words.{asked_in, class_of, class_to_run};
 
 use crate::assembling::assemble;
 use crate::decoding::instructions;
@@ -21,27 +21,18 @@ use crate::instruction::Instruction;
 use crate::linking::{StraightImage, link};
 use crate::listing::reply_to_listing;
 use crate::machine::run;
-use crate::printing::{NOT_BUILT, TOO_LARGE, USAGE, fault_lines, final_text};
+use crate::printing::{NOT_BUILT, TOO_LARGE, USAGE, final_text, main_fault_lines};
 use crate::reading::{ReadError, read_all};
 use crate::reply::{Reply, fixed, is_too_large};
 use crate::status::Status;
 use crate::straight::{Refusal, read_straight};
+use crate::verdict::reply_to_verifying;
 use crate::verifying::verify;
-use crate::words::{Command, read_words};
+use crate::words::{Command, LIMITS, command_of};
 use crate::writing::write_all;
-use dv_defs::{Entry, Limits, Text};
+use dv_defs::{Entry, Text};
 use dv_io::{Failed, Sink, Source};
 use std::alloc::{AllocError, Global};
-
-/// The limits of a run.
-const LIMITS: Limits = Limits {
-    budget: 10_000_000,
-    heap: 1_048_576,
-    output: 16_777_216,
-    threads: 64,
-    levels: 1_024,
-    words: 16_384,
-};
 
 /// Does what the words ask for, and answers the status. The log, which is empty before, gets the turns of a run.
 pub fn answer<S: Source, K: Sink>(
@@ -53,29 +44,8 @@ pub fn answer<S: Source, K: Sink>(
 ) -> Status
     requires { log.old.items ≡ [] }
 
-    ensures unread { command_in (map string_bytes words.now) ≡ None
-        → (source.new ≡ source.old) × IsOfUnread (code_of result) }
-    ensures usage { code_of result ≡ code_of Status.Usage
-        → (command_in (map string_bytes words.now) ≡ None) × (K.taken sink.new ≡ after_write usage (K.taken sink.old)) }
-    ensures read_fault { code_of result ≡ code_of Status.ReadFault
-        → HasRisen (S.faults source.old) (S.faults source.new) × (K.taken sink.new ≡ K.taken sink.old) }
-    ensures write_fault { code_of result ≡ code_of Status.WriteFault → HasRisen (K.faults sink.old) (K.faults sink.new) }
-    ensures no_memory { code_of result ≡ code_of Status.NoMemory → K.taken sink.new ≡ K.taken sink.old }
-    ensures taken { HasTaken (K.taken sink.old) (K.taken sink.new) }
-
-    ensures source_read { IsSome (command_in (map string_bytes words.now))
-        → code_of result ≢ code_of Status.ReadFault → code_of result ≢ code_of Status.NoMemory
-        → S.left source.new ≡ after_taking (text_limit + 1) (S.left source.old) }
-    ensures said { (bytes : List ℕ) → S.left source.old ≡ Some bytes → IsTold (code_of result)
-        → IsPrinted (map string_bytes words.now) bytes log.new.items (code_of result) (K.taken sink.old) (K.taken sink.new) }
-    ensures part { (bytes : List ℕ) → S.left source.old ≡ Some bytes → code_of result ≡ code_of Status.WriteFault
-        → IsPartlyPrinted (map string_bytes words.now) bytes log.new.items (K.taken sink.old) (K.taken sink.new) }
-
-    ensures entries { All IsEntry log.new.items }
-    ensures idle { IsIdle (code_of result) → log.new.items ≡ [] }
-    ensures listed { AsksForListing (map string_bytes words.now) → log.new.items ≡ [] }
-    ensures legal { (bytes : List ℕ) → S.left source.old ≡ Some bytes → log.new.items ≢ []
-        → MayRun (map string_bytes words.now) bytes log.new.items }
+    ensures { IsAnswer S.left S.faults K.taken K.faults (map string_bytes words.now) source.old source.new sink.old sink.new
+        log.new.items (code_of result) }
 {
     match reply_to_words(alloc, words, source, log) {
         Ok(reply) => match write_all(sink, &reply.text) {
@@ -96,27 +66,27 @@ fn reply_to_words<S: Source>(
 ) -> Result<Reply, ReadError>
     requires { log.old.items ≡ [] }
 
-    ensures unread { command_in (map string_bytes words.now) ≡ None
+    ensures unread { asked_in (map string_bytes words.now) ≡ None
         → (source.new ≡ source.old)
         × MatchResult result (λ reply. code_of reply.status ≡ code_of Status.Usage) (λ e. e ≡ NoMemory) }
     ensures usage { IfOk result (λ reply. code_of reply.status ≡ code_of Status.Usage
-        → (command_in (map string_bytes words.now) ≡ None) × (reply.text.items ≡ usage)) }
+        → (asked_in (map string_bytes words.now) ≡ None) × (reply.text.items ≡ usage)) }
     ensures told { IfOk result (λ reply. IsTold (code_of reply.status)) }
     ensures failed { IsErrOf result ReadError.Failed
         → HasRisen (S.faults source.old) (S.faults source.new) × (log.new.items ≡ []) }
 
-    ensures source_read { IsSome (command_in (map string_bytes words.now))
+    ensures source_read { IsSome (asked_in (map string_bytes words.now))
         → OnOk result (S.left source.new ≡ after_taking (text_limit + 1) (S.left source.old)) }
     ensures said { (bytes : List ℕ) → S.left source.old ≡ Some bytes
         → IfOk result (λ reply. IsSaid (map string_bytes words.now) bytes log.new.items (code_of reply.status) reply.text.items) }
 
     ensures entries { All IsEntry log.new.items }
     ensures idle { IfOk result (λ reply. IsIdle (code_of reply.status) → log.new.items ≡ []) }
-    ensures listed { AsksForListing (map string_bytes words.now) → log.new.items ≡ [] }
+    ensures not_run { class_to_run (map string_bytes words.now) ≡ None → log.new.items ≡ [] }
     ensures legal { (bytes : List ℕ) → S.left source.old ≡ Some bytes → log.new.items ≢ []
         → MayRun (map string_bytes words.now) bytes log.new.items }
 {
-    match read_words(alloc, words)? {
+    match command_of(alloc, words)? {
         None => Ok(fixed(alloc, Status::Usage, USAGE)?),
         Some(command) => {
             let text = read_all(alloc, source)?;
@@ -134,16 +104,17 @@ fn reply_to_command(
 ) -> Result<Reply, AllocError>
     requires { log.old.items ≡ [] }
     ensures told { IfOk result (λ reply. IsTold (code_of reply.status) × (code_of reply.status ≢ code_of Status.Usage)) }
-    ensures said { (words : List (List ℕ)) (bytes : List ℕ) → command_in words ≡ Some command.now → IsReadOf bytes text.now
+    ensures said { (words : List (List ℕ)) (bytes : List ℕ) → asked_in words ≡ Some command.now → IsReadOf bytes text.now
         → IfOk result (λ reply. IsSaid words bytes log.new.items (code_of reply.status) reply.text.items) }
     ensures entries { All IsEntry log.new.items }
     ensures idle { IfOk result (λ reply. IsIdle (code_of reply.status) → log.new.items ≡ []) }
-    ensures listed { command.now ≡ Command.List → log.new.items ≡ [] }
-    ensures legal { (words : List (List ℕ)) (bytes : List ℕ) → command_in words ≡ Some command.now → IsReadOf bytes text.now
+    ensures not_run { class_of (Some command.now) ≡ None → log.new.items ≡ [] }
+    ensures legal { (words : List (List ℕ)) (bytes : List ℕ) → asked_in words ≡ Some command.now → IsReadOf bytes text.now
         → log.new.items ≢ [] → MayRun words bytes log.new.items }
 {
     match command {
         Command::Run { class } => reply_to_text(alloc, class, text, log),
+        Command::Verify => reply_to_verifying(alloc, text),
         Command::List => reply_to_listing(alloc, text),
     }
 }
@@ -208,7 +179,7 @@ fn reply_to_image(
     } else {
         Ok(Reply {
             status: Status::Refused,
-            text: fault_lines(alloc, class.bytes(), &faults)?,
+            text: main_fault_lines(alloc, class.bytes(), &faults)?,
         })
     }
 }

@@ -1,5 +1,5 @@
 // The laws of straight texts and of their bodies.
-ghost use Rattle.dv_top.specs.Laws.{IsReadOneWay, IsSpelledInItsSize, EachStandsAtItsAddress, MainIsFound, EachIsFetched, StaticRulesHold, FaultsAreFound, IsSaidOnce};
+ghost use Rattle.dv_top.specs.Laws.{IsReadOneWay, IsSpelledInItsSize, EachStandsAtItsAddress, MainIsFound, EachIsFetched, StaticRulesHold, FaultsAreFound, IsSaidOnce, VerdictsAreExact};
 
 /// A text is a straight text of a class in one way at most.
 pub fn one_way()
@@ -39,4 +39,9 @@ pub fn faults_found()
 /// One status and one text are said of the words, the bytes and the log.
 pub fn said_once()
     ensures { IsSaidOnce }
+{}
+
+/// A text that is to be verified is refused where it has no image, or where its image isn't accepted, and nowhere else.
+pub fn verdicts_exact()
+    ensures { VerdictsAreExact }
 {}

@@ -1,18 +1,17 @@
 // The reply to a text that is to be listed.
 ghost use Rattle.std.specs.Prelude.{◌≡◌, ◌≢◌, ℕ, List, IfOk};
 ghost use Rattle.std.specs.List.{flat_map};
-ghost use Rattle.dv_console.specs.Refusals.{refusal_text};
 ghost use Rattle.dv_print.specs.Listing.{class_text};
 ghost use Rattle.dv_top.specs.Answering.{IsTold, IsReadOf};
 ghost use Rattle.dv_top.specs.Said.{IsSaidOfListing};
 ghost use Rattle.dv_top.specs.Status.{code_of};
 
 use crate::printing::TOO_LARGE;
-use crate::reply::{Reply, fixed, is_too_large};
+use crate::reply::{Reply, fixed, is_too_large, refused};
 use crate::status::Status;
 use dv_classread::read_classes;
-use dv_console::{Refusal, refusal_line};
-use dv_defs::{ClassDef, LineError, LineKind};
+use dv_console::Refusal;
+use dv_defs::{ClassDef, LineError};
 use dv_print::print_class;
 use std::alloc::{AllocError, Global};
 
@@ -28,17 +27,9 @@ pub fn reply_to_listing(alloc: Global, text: &[u8]) -> Result<Reply, AllocError>
     }
     match read_classes(alloc, text, false) {
         Ok(read) => listing_of(alloc, read.classes.items()),
-        Err(LineError::At { line, kind }) => refusal_of(alloc, line, kind),
+        Err(LineError::At { line, kind }) => refused(alloc, &Refusal::Line(line, kind)),
         Err(LineError::Memory) => Err(AllocError),
     }
-}
-
-/// The reply to a text with a line that is refused.
-fn refusal_of(alloc: Global, line: u32, kind: LineKind) -> Result<Reply, AllocError>
-    ensures { IfOk result (λ reply. (reply.status ≡ Status.BadText) × (reply.text.items ≡ refusal_text (Refusal.Line line kind))) }
-{
-    let told = refusal_line(alloc, &Refusal::Line(line, kind))?;
-    fixed(alloc, Status::BadText, told.bytes())
 }
 
 /// The reply to a text with these classes: their listings, one after another.

@@ -17,7 +17,7 @@ pub const MAIN: &[u8] = b"main";
 pub fn text(alloc: Global, bytes: &[u8]) -> Result<Text, AllocError>
     ensures { IfOk result (λ text. text ≡ bytes.now) }
 {
-    Ok(Text::of(Vec::from_slice(alloc, bytes)?))
+    Text::of(Vec::from_slice(alloc, bytes)?)
 }
 
 pub fn class_of(alloc: Global, name: &[u8]) -> Result<Ty, AllocError>

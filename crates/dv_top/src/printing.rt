@@ -1,12 +1,12 @@
 // The printed texts.
-ghost use Rattle.std.specs.Prelude.{◌≡◌, ◌<◌, ◌++◌, ◌∷◌, [], IfOk, OnOk, false, string_bytes};
-ghost use Rattle.std.specs.Fmt.{digit_glyph};
-ghost use Rattle.dv_top.specs.Printing.{main_fault_line, main_fault_text};
+ghost use Rattle.std.specs.Prelude.{◌≡◌, IfOk, string_bytes};
+ghost use Rattle.dv_top.specs.Printing.{main_fault_text};
 ghost use Rattle.dv_top.specs.Program.{printed_text, ending_line};
-ghost use Rattle.dv_top.specs.Said.{four_digits, rule_text};
+ghost use Rattle.dv_top.specs.Said.{fault_lines};
 ghost use Rattle.dv_machine.specs.Final.{closed};
 
-use dv_defs::{Ending, Fault, Rule};
+use dv_console::{fault_line, method_fault_line};
+use dv_defs::{Ending, Fault, Image};
 use std::alloc::{AllocError, Global};
 
 /// What is printed where the words aren't read.
@@ -20,66 +20,31 @@ pub const TOO_LARGE: &[u8] = b"#refused text too large\n";
 pub const NOT_BUILT: &[u8] = b"#not built\n";
 
 /// The lines of the faults of main in the class of this descriptor.
-pub fn fault_lines(alloc: Global, class: &[u8], faults: &[Fault]) -> Result<Vec<u8>, AllocError>
+pub fn main_fault_lines(
+    alloc: Global,
+    class: &[u8],
+    faults: &[Fault],
+) -> Result<Vec<u8>, AllocError>
     ensures { IfOk result (λ lines. lines.items ≡ main_fault_text class.now faults.now) }
 {
+    let mut method = Vec::from_slice(alloc, class)?;
+    method.extend_from_slice(b"->main()V")?;
     let mut lines = Vec::new(alloc);
     for fault in faults {
-        push_fault_line(alloc, &mut lines, class, fault)?;
+        lines.extend_from_slice(method_fault_line(alloc, &method, fault)?.bytes())?;
     }
     Ok(lines)
 }
 
-fn push_fault_line(
-    alloc: Global,
-    lines: &mut Vec<u8>,
-    class: &[u8],
-    fault: &Fault,
-) -> Result<(), AllocError>
-    ensures { OnOk result (lines.new.items ≡ lines.old.items ++ (main_fault_line class.now fault.now ++ 10 ∷ [])) }
+/// The lines of the faults of an image.
+pub fn fault_lines(alloc: Global, image: &Image, faults: &[Fault]) -> Result<Vec<u8>, AllocError>
+    ensures { IfOk result (λ lines. lines.items ≡ fault_lines image.now faults.now) }
 {
-    lines.extend_from_slice(b"#fault ")?;
-    lines.extend_from_slice(class)?;
-    lines.extend_from_slice(b"->main()V ")?;
-    lines.extend_from_slice(&four_digits(fault.address))?;
-    lines.extend_from_slice(b" ")?;
-    let rule = rule_text(alloc, fault.rule)?;
-    lines.extend_from_slice(rule.as_bytes())?;
-    lines.extend_from_slice(b"\n")?;
-    Ok(())
-}
-
-/// The last four hexadecimal digits of an address.
-fn four_digits(address: u32) -> [u8; 4]
-    ensures { result ≡ four_digits address }
-{
-    [
-        digit(address / 4096 % 16),
-        digit(address / 256 % 16),
-        digit(address / 16 % 16),
-        digit(address % 16),
-    ]
-}
-
-/// A lower-case hexadecimal digit.
-fn digit(value: u32) -> u8
-    requires { value < 16 }
-    ensures { result ≡ digit_glyph false value }
-{
-    if value < 10 {
-        b'0' + value as u8
-    } else {
-        b'a' + (value - 10) as u8
+    let mut lines = Vec::new(alloc);
+    for fault in faults {
+        lines.extend_from_slice(fault_line(alloc, image, fault)?.bytes())?;
     }
-}
-
-fn rule_text(alloc: Global, rule: Rule) -> Result<String, AllocError>
-    ensures { IfOk result (λ text. string_bytes text ≡ rule_text rule) }
-{
-    match rule {
-        Rule::S(number) => format!(in alloc; "S{number}"),
-        Rule::V(number) => format!(in alloc; "V{number}"),
-    }
+    Ok(lines)
 }
 
 /// The final text: the printed bytes, each line of which is whole, and the line of the ending.

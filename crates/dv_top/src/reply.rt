@@ -1,9 +1,11 @@
 // What is replied to a call.
 ghost use Rattle.std.specs.Prelude.{◌≡◌, ◌<◌, ◌≤◌, length, IfOk, MatchBool};
+ghost use Rattle.dv_console.specs.Refusals.{refusal_text};
 ghost use Rattle.dv_top.specs.Said.{text_limit};
 
 use crate::reading::TEXT_LIMIT;
 use crate::status::Status;
+use dv_console::{Refusal, refusal_line};
 use std::alloc::{AllocError, Global};
 
 /// A status, and the text that goes with it.
@@ -21,6 +23,14 @@ pub fn fixed(alloc: Global, status: Status, text: &[u8]) -> Result<Reply, AllocE
         status,
         text: Vec::from_slice(alloc, text)?,
     })
+}
+
+/// The reply to a text that is refused before it is verified.
+pub fn refused(alloc: Global, refusal: &Refusal) -> Result<Reply, AllocError>
+    ensures { IfOk result (λ reply. (reply.status ≡ Status.BadText) × (reply.text.items ≡ refusal_text refusal.now)) }
+{
+    let line = refusal_line(alloc, refusal)?;
+    fixed(alloc, Status::BadText, line.bytes())
 }
 
 pub fn is_too_large(text: &[u8]) -> bool

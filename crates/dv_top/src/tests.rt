@@ -2,6 +2,7 @@
 use super::*;
 use dv_io::{MemSink, MemSource, NoGate};
 use std::alloc::AllocError;
+use std::process::Abort;
 use std::test::Fail;
 
 const USAGE: &str = "#usage dvm run NAME [workers=N | seed=N] [budget=N] [heap=N] [log=yes]
@@ -18,22 +19,22 @@ return-void
 
 /// A call, and what it comes to.
 #[derive(Clone, Copy)]
-struct Row<'a> {
-    words: &'a [&'a str],
+pub struct Row<'a> {
+    pub words: &'a [&'a str],
     /// The text's class, and of its main method the registers, the first instructions, all nops, and the others.
-    class: &'a str,
-    registers: &'a str,
-    nops: u32,
-    body: &'a str,
-    failing_reads: &'a [u64],
-    failing_writes: &'a [u64],
-    status: u8,
-    taken: &'a str,
+    pub class: &'a str,
+    pub registers: &'a str,
+    pub nops: u32,
+    pub body: &'a str,
+    pub failing_reads: &'a [u64],
+    pub failing_writes: &'a [u64],
+    pub status: u8,
+    pub taken: &'a str,
     /// The steps of each turn.
-    turns: &'a [u32],
+    pub turns: &'a [u32],
 }
 
-const RUN: Row<'static> = Row {
+pub const RUN: Row<'static> = Row {
     words: &["run", "Main"],
     class: "LMain;",
     registers: "0",
@@ -56,7 +57,7 @@ const NOT_BUILT: Row<'static> = Row {
 };
 
 /// The source isn't read, for its first read would fail.
-const UNREAD: Row<'static> = Row {
+pub const UNREAD: Row<'static> = Row {
     failing_reads: &[0],
     status: 2,
     taken: USAGE,
@@ -376,15 +377,7 @@ goto :x
 
 #[test]
 fn calls_come_to_what_their_rows_say(rt: HostRuntime) -> Result<(), Fail> {
-    for row in ROWS {
-        let text = text_of(rt.alloc(), row)?;
-        let report = report_of(&rt, rt.alloc(), row, text.as_bytes())?;
-        assert_eq!(rt; report.status, row.status, "{text}");
-        assert_eq!(rt; report.sink.taken.as_slice(), row.taken.as_bytes());
-        let log = log_of(rt.alloc(), row.turns)?;
-        assert_eq!(rt; report.log.as_slice(), log.as_slice());
-    }
-    Ok(())
+    assert_rows(&rt, rt.alloc(), ROWS)
 }
 
 #[test]
@@ -415,6 +408,23 @@ fn texts_are_listed_or_refused(rt: HostRuntime) -> Result<(), Fail> {
     Ok(())
 }
 
+/// Each call comes to what its row says.
+pub fn assert_rows<R: Abort + Threads + Sync>(
+    rt: &R,
+    alloc: Global,
+    rows: &[Row],
+) -> Result<(), Fail> {
+    for row in rows {
+        let text = text_of(alloc, row)?;
+        let report = report_of(rt, alloc, row, text.as_bytes())?;
+        assert_eq!(rt; report.status, row.status, "{text}");
+        assert_eq!(rt; report.sink.taken.as_slice(), row.taken.as_bytes());
+        let log = log_of(alloc, row.turns)?;
+        assert_eq!(rt; report.log.as_slice(), log.as_slice());
+    }
+    Ok(())
+}
+
 fn text_of(alloc: Global, row: &Row) -> Result<String, AllocError> {
     let mut text = String::new(alloc);
     text.push_str(".class ")?;
@@ -431,7 +441,7 @@ fn text_of(alloc: Global, row: &Row) -> Result<String, AllocError> {
 }
 
 /// What the row's words come to over a text.
-fn report_of<R: Threads + Sync>(
+pub fn report_of<R: Threads + Sync>(
     rt: &R,
     alloc: Global,
     row: &Row,

@@ -1,76 +1,73 @@
 // The command line.
 ghost use Rattle.std.specs.Prelude.{◌≡◌, map, IfOk, string_bytes};
-ghost use Rattle.dv_top.specs.Words.{is_name_byte, is_java_name, descriptor_of, command_in};
+ghost use Rattle.dv_top.specs.Words.{asked_in, built, is_usual};
 
-use dv_defs::Text;
+use dv_console::{Cmd, WordError, read_words};
+use dv_defs::{Limits, Text};
 use std::alloc::{AllocError, Global};
 
-/// What the words ask for.
+/// What the words ask for, of what is built.
 #[derive(Drop)]
 pub enum Command {
     /// Read the text, verify it, and run the main method of the class of this descriptor.
     Run { class: Text },
+    /// Read the text, link it and verify it.
+    Verify,
     /// Read the text, assemble its classes, and print them.
     List,
 }
 
-/// Reads the words of the command line, without the program's name; none where they aren't a command.
-pub fn read_words(alloc: Global, words: &[String]) -> Result<Option<Command>, AllocError>
-    ensures { IfOk result (λ command. command ≡ command_in (map string_bytes words.now)) }
+/// The limits of a run.
+pub const LIMITS: Limits = Limits {
+    budget: 10_000_000,
+    heap: 1_048_576,
+    output: 16_777_216,
+    threads: 64,
+    levels: 1_024,
+    words: 16_384,
+};
+
+/// Whether the settings of a run are those that it has where the words set nothing.
+fn is_usual(workers: u32, seed: Option<u64>, limits: Limits, log: bool) -> bool
+    ensures { result ≡ is_usual workers seed limits log }
 {
-    match words {
-        [verb] => {
-            if verb.as_bytes() != b"list".as_slice() {
-                return Ok(None);
+    workers == 1
+        && seed.is_none()
+        && limits.budget == LIMITS.budget
+        && limits.heap == LIMITS.heap
+        && !log
+}
+
+/// The command, if it is built.
+fn built(command: Cmd) -> Option<Command>
+    ensures { result ≡ built command }
+{
+    match command {
+        Cmd::Run {
+            name,
+            workers,
+            seed,
+            limits,
+            log,
+        } => {
+            if !is_usual(workers, seed, limits, log) {
+                return None;
             }
-            Ok(Some(Command::List))
+            Some(Command::Run { class: name })
         }
-        [verb, name] => {
-            let name = name.as_bytes();
-            if verb.as_bytes() != b"run".as_slice() || !is_java_name(name) {
-                return Ok(None);
-            }
-            let class = descriptor_of(alloc, name)?;
-            Ok(Some(Command::Run { class }))
-        }
-        _ => Ok(None),
+        Cmd::Verify => Some(Command::Verify),
+        Cmd::List => Some(Command::List),
+        Cmd::Replay { .. } | Cmd::Demo { .. } => None,
     }
 }
 
-/// Whether a text is pieces joined by dots, each of one letter, digit, `_` or `$` at least.
-fn is_java_name(name: &[u8]) -> bool
-    ensures { result ≡ is_java_name name.now }
+/// Reads the words of the command line, without the program's name; none where they aren't a command that is built.
+pub fn command_of(alloc: Global, words: &[String]) -> Result<Option<Command>, AllocError>
+    ensures { IfOk result (λ command. command ≡ asked_in (map string_bytes words.now)) }
 {
-    let mut begun = false;
-    for b in name {
-        if *b == b'.' {
-            if !begun {
-                return false;
-            }
-            begun = false;
-        } else if is_name_byte(*b) {
-            begun = true;
-        } else {
-            return false;
-        }
+    match read_words(alloc, words) {
+        Ok(command) => Ok(built(command)),
+        Err(WordError::Usage) => Ok(None),
+        Err(WordError::Memory) => Err(AllocError),
     }
-    begun
-}
-
-fn is_name_byte(b: u8) -> bool
-    ensures { result ≡ is_name_byte b }
-{
-    b.is_ascii_alphanumeric() || b == b'_' || b == b'$'
-}
-
-/// The descriptor of the class of a Java name.
-fn descriptor_of(alloc: Global, name: &[u8]) -> Result<Text, AllocError>
-    ensures { IfOk result (λ class. class ≡ descriptor_of name.now) }
-{
-    let mut descriptor = Vec::from_slice(alloc, b"L")?;
-    for b in name {
-        descriptor.push(if *b == b'.' { b'/' } else { *b })?;
-    }
-    descriptor.push(b';')?;
-    Ok(Text::of(descriptor))
 }

@@ -2,6 +2,14 @@
 #![tactic(auto)]
 
 #[cfg(test)]
+mod order_tests;
+#[cfg(test)]
 mod rows;
+#[cfg(test)]
+mod rule_rows;
+#[cfg(test)]
+mod rule_tests;
+#[cfg(test)]
+mod states;
 #[cfg(test)]
 mod tests;

@@ -1,8 +1,9 @@
 // Programs with the boot classes before them: the faults that the verifier tells.
 use crate::rows;
+use crate::states::{Kind, register_type};
 use dv_boot::boot_text;
 use dv_classread::read_classes;
-use dv_defs::{Base, ClassDef, Fault, Image, RegType, Rule, Text, Ty};
+use dv_defs::{ClassDef, Fault, Image, Rule};
 use dv_hier::Classes;
 use dv_ops::method_at;
 use dv_pverify::{VerifyError, verify_one_by_one};
@@ -21,7 +22,8 @@ fn read<R: Abort>(rt: &R, alloc: Global, text: &str) -> Vec<ClassDef> {
     read.ok().expect(rt, "a text").classes.into_vec()
 }
 
-fn linked<R: Abort>(rt: &R, alloc: Global, text: &str) -> Result<Image, AllocError> {
+/// The image of a text behind the boot classes.
+pub fn linked<R: Abort>(rt: &R, alloc: Global, text: &str) -> Result<Image, AllocError> {
     let mut classes = read(rt, alloc, boot_text());
     for class in read(rt, alloc, text) {
         classes.push(class)?;
@@ -136,33 +138,13 @@ fn boot_classes_are_accepted(rt: HostRuntime) -> Result<(), Fail> {
     Ok(())
 }
 
-// A register type in a table.
-#[derive(Clone, Copy)]
-enum Kind {
-    Conflict,
-    Zero,
-    Int,
-    Class(u8, &'static str),
-}
-
-fn register_type(alloc: Global, kind: Kind) -> Result<RegType, AllocError> {
-    match kind {
-        Kind::Conflict => Ok(RegType::Conflict),
-        Kind::Zero => Ok(RegType::Zero),
-        Kind::Int => Ok(RegType::Int),
-        Kind::Class(dims, name) => {
-            let name = Text::of(Vec::from_slice(alloc, name.as_bytes())?);
-            Ok(RegType::Class(Ty {
-                dims,
-                base: Base::Class(name),
-            }))
-        }
-    }
-}
-
 const STRING: &str = "Ljava/lang/String;";
 
-const OBJECT: &str = "Ljava/lang/Object;";
+const STRINGS: &str = "[Ljava/lang/String;";
+
+const ERRORS: &str = "[Ljava/lang/Error;";
+
+const OBJECTS: &str = "[Ljava/lang/Object;";
 
 const ERROR: &str = "Ljava/lang/Error;";
 
@@ -173,37 +155,42 @@ const THROWABLE: &str = "Ljava/lang/Throwable;";
 // Two register types and their join.
 static JOINS: [(Kind, Kind, Kind); 8] = [
     (Kind::Zero, Kind::Int, Kind::Int),
-    (Kind::Zero, Kind::Class(0, STRING), Kind::Class(0, STRING)),
-    (Kind::Int, Kind::Class(0, STRING), Kind::Conflict),
-    (Kind::Class(0, STRING), Kind::Zero, Kind::Class(0, STRING)),
+    (Kind::Zero, Kind::Class(STRING), Kind::Class(STRING)),
+    (Kind::Int, Kind::Class(STRING), Kind::Conflict),
+    (Kind::Class(STRING), Kind::Zero, Kind::Class(STRING)),
     (
-        Kind::Class(0, ERROR),
-        Kind::Class(0, EXCEPTION),
-        Kind::Class(0, THROWABLE),
+        Kind::Class(ERROR),
+        Kind::Class(EXCEPTION),
+        Kind::Class(THROWABLE),
     ),
     (
-        Kind::Class(1, STRING),
-        Kind::Class(1, ERROR),
-        Kind::Class(1, OBJECT),
+        Kind::Class(STRINGS),
+        Kind::Class(ERRORS),
+        Kind::Class(OBJECTS),
     ),
     (
-        Kind::Class(2, STRING),
-        Kind::Class(1, ERROR),
-        Kind::Class(1, OBJECT),
+        Kind::Class("[[Ljava/lang/String;"),
+        Kind::Class(ERRORS),
+        Kind::Class(OBJECTS),
     ),
     (Kind::Conflict, Kind::Zero, Kind::Conflict),
 ];
 
-fn is_join(alloc: Global, image: &Image, row: (Kind, Kind, Kind)) -> Result<bool, AllocError> {
-    let one = register_type(alloc, row.0)?;
-    let other = register_type(alloc, row.1)?;
-    let wanted = register_type(alloc, row.2)?;
+fn is_join<R: Abort>(
+    rt: &R,
+    alloc: Global,
+    image: &Image,
+    row: (Kind, Kind, Kind),
+) -> Result<bool, AllocError> {
+    let one = register_type(rt, alloc, row.0);
+    let other = register_type(rt, alloc, row.1);
+    let wanted = register_type(rt, alloc, row.2);
     Ok(join_types(alloc, image, &one, &other)? == wanted)
 }
 
-fn are_joins(alloc: Global, image: &Image) -> Result<bool, AllocError> {
+fn are_joins<R: Abort>(rt: &R, alloc: Global, image: &Image) -> Result<bool, AllocError> {
     for row in JOINS {
-        if !is_join(alloc, image, row)? {
+        if !is_join(rt, alloc, image, row)? {
             return Ok(false);
         }
     }
@@ -213,6 +200,6 @@ fn are_joins(alloc: Global, image: &Image) -> Result<bool, AllocError> {
 #[test]
 fn register_types_join_as_the_rules_tell(rt: HostRuntime) -> Result<(), Fail> {
     let image = linked(&rt, rt.alloc(), "")?;
-    assert!(rt; are_joins(rt.alloc(), &image)?);
+    assert!(rt; are_joins(&rt, rt.alloc(), &image)?);
     Ok(())
 }

@@ -4,13 +4,15 @@ use Rattle.std.proofs.lemmas.Result.{err_from_is_err_and}
 use Rattle.dv_lex.specs.declared.line.Line.{Line}
 use Rattle.dv_lex.specs.declared.line.Stop.{Stop}
 use Rattle.dv_lex.specs.Lines.{HasTokens, IsLineInside}
-use Rattle.dv_coderead.specs.Kept.{no_line, text_lines}
+use Rattle.dv_coderead.specs.Giving.{on_line, Stops}
+use Rattle.dv_coderead.specs.Operands.{behind, ended}
+use Rattle.dv_coderead.specs.Kept.{no_line, text_line, text_lines}
 use Rattle.dv_coderead.specs.Bodies.{HasNext}
 use Rattle.dv_classread.specs.Texts.{EndsBefore}
 use Rattle.dv_classread.proofs.Between.{number_at}
 use Rattle.dv_classread.proofs.Parts.{all_part}
 use Rattle.dv_classread.proofs.Ends.{ends_at, ends_behind}
-use Rattle.dv_classread.proofs.Wholes.{refused_body}
+use Rattle.dv_classread.proofs.Wholes.{refused_body, refused_last}
 use Rattle.dv_classread.proofs.method.whole_method.Goals as goal
 
 pub method_body-requires-clause-tokens : goal.method_body-requires-clause-tokens
@@ -23,6 +25,16 @@ pub returns-in_err-body-in-Ended : goal.returns-in_err-body-in-Ended
 returns-in_err-body-in-Ended c = λ end past s is.
     let p = err_from_is_err_and c.from_residual.result c.from_residual.ensures.1 in
     rw (p.1, p.2) (refused_body c.args.text.now c.args.lines.now c.requires.numbered c.args.from c.args.signature c.in-Ended.at c.in-Ended.ensures end past s c.in_err-body-in-Ended.field-0.0 c.in_err-body-in-Ended.ensures)
+
+pub returns-in_err-last_line-in-Ended : goal.returns-in_err-last_line-in-Ended
+returns-in_err-last_line-in-Ended c = λ end past s is.
+    let text = c.args.text.now in
+    let lines = c.args.lines.now in
+    let line = get_or_read lines c.in-Ended.at c.index-lines-at.result c.in-Ended.ensures.inside c.index-lines-at.is no_line in
+    let e = c.in_err-last_line-in-Ended.field-0.0 in
+    let stops = subst (λ (l : Line). Stops e (on_line (text_line text l).number (ended (behind (behind (text_line text l).pieces))))) line c.in_err-last_line-in-Ended.ensures in
+    let p = err_from_is_err_and c.from_residual-in_err-last_line-in-Ended.result c.from_residual-in_err-last_line-in-Ended.ensures.1 in
+    rw (p.1, p.2) (refused_last text lines c.requires.numbered c.args.from c.args.signature c.in-Ended.at c.in-Ended.ensures end past s c.in_ok-body-in-Ended.body c.in_ok-body-in-Ended.ensures e stops)
 
 pub last_line-requires-clause-tokens : goal.last_line-requires-clause-tokens
 last_line-requires-clause-tokens c =

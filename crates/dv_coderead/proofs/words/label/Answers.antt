@@ -5,10 +5,10 @@ use Rattle.dv_coderead.proofs.Labels.{label_read, label_unmarked, label_unnamed}
 use Rattle.dv_coderead.proofs.words.label.Goals as goal
 use Rattle.dv_coderead.proofs.words.label.Goals.{in_default-via-in-Some+else-is_name, in_default-via-in_default}
 
-pub returns-in_ok-from_slice-in-Some : goal.returns-in_ok-from_slice-in-Some
-returns-in_ok-from_slice-in-Some c =
+pub returns-in_ok-of-in-Some : goal.returns-in_ok-of-in-Some
+returns-in_ok-of-in-Some c =
     let whole = strip_prefix_is Decides-eqb c.args.word.now (58 ∷ []) (Some c.in-Some.name) c.in-Some.ensures.cases in
-    label_read c.args.word.now c.in-Some.name.now whole (sym c.is_name.ensures ∙ c.if-is_name.true) ∙ ap Ok (sym (c.of.ensures ∙ c.in_ok-from_slice-in-Some.ensures.items))
+    label_read c.args.word.now c.in-Some.name.now whole (sym c.is_name.ensures ∙ c.if-is_name.true) ∙ ap Ok (sym (c.in_ok-of-in-Some.ensures ∙ c.in_ok-from_slice-in-Some.ensures.items))
 
 pub returns-in_default : goal.returns-in_default
 returns-in_default c =

@@ -30,6 +30,6 @@ pub returns : goal.returns
 returns c =
     let b = c.brackets_end-at.ensures in
     let e = c.in_ok-end.ensures in
-    let name = c.of-name.ensures ∙ c.in_ok-from_slice.ensures.items in
-    let s = class_spelled c.args.text.now c.args.start c.brackets_end-at.result b.few.0 b.within b.few.1 b.brackets (omega arith) c.if-first-ne76.false c.in_ok-end.end e.0.0 e.0.1 (e.1 Alone) c.of-name.result name in
+    let name = c.in_ok-name.ensures ∙ c.in_ok-from_slice.ensures.items in
+    let s = class_spelled c.args.text.now c.args.start c.brackets_end-at.result b.few.0 b.within b.few.1 b.brackets (omega arith) c.if-first-ne76.false c.in_ok-end.end e.0.0 e.0.1 (e.1 Alone) c.in_ok-name.name name in
     ((omega arith, e.0.1), (b.few.1, s.0), s.1)

@@ -1,6 +1,6 @@
 use Rattle.std.proofs.Common.{Some, ap, ◌∙◌}
 use Rattle.std.proofs.lemmas.Result.{IfOk-weaker}
-use Rattle.dv_top.specs.Said.{Asked, ToBeListed}
+use Rattle.dv_top.specs.Said.{Asked, ToBeListed, ToBeVerified}
 use Rattle.dv_top.specs.Words.{class_of}
 use Rattle.dv_top.proofs.AnsweringLemmas.{may_run}
 use Rattle.dv_top.proofs.answering.reply_to_command.Goals as goal
@@ -15,3 +15,7 @@ returns-in-Run-clause-legal c words bytes is read some = may_run words bytes c.i
 pub returns-in-List-clause-said : goal.returns-in-List-clause-said
 returns-in-List-clause-said c words bytes is read =
     IfOk-weaker c.reply_to_listing.result _ _ (λ reply said. ToBeListed (is ∙ ap Some c.in-List.is) said) (c.reply_to_listing.ensures.said bytes read)
+
+pub returns-in-Verify-clause-said : goal.returns-in-Verify-clause-said
+returns-in-Verify-clause-said c words bytes is read =
+    IfOk-weaker c.reply_to_verifying.result _ _ (λ reply said. ToBeVerified (is ∙ ap Some c.in-Verify.is) said) (c.reply_to_verifying.ensures.said bytes read)

@@ -65,5 +65,5 @@ returns-clause-said c bytes built =
     let same : c.deref.result.now ≡ insns = c.deref.ensures.value ∙ c.in_ok-insns.ensures insns (has_main c.args.class.now registers insns c.args.image.now p) in
     let found : c.in_ok-faults.faults.items ≡ faults_of insns = c.in_ok-faults.ensures ∙ ap faults_of same in
     let some : c.in_ok-faults.faults.items ≡ [] → ⊥ = λ e. absurd (grind (arith, common_steps)) in
-    let prints : c.in_ok-fault_lines.field-0.items ≡ main_fault_text c.args.class.now c.in_ok-faults.faults.items = c.in_ok-fault_lines.ensures ∙ (ap (λ name. main_fault_text name c.deref-else-is_empty.result.now) c.bytes.ensures ∙ ap (λ fs. main_fault_text c.args.class.now fs) c.deref-else-is_empty.ensures.value) in
-    said_of_refusal c.args.class.now bytes registers insns c.args.image.now c.args.log.now.items c.in_ok-faults.faults.items (code_of Refused) c.in_ok-fault_lines.field-0.items built p found some refl prints
+    let prints : c.in_ok-main_fault_lines.field-0.items ≡ main_fault_text c.args.class.now c.in_ok-faults.faults.items = c.in_ok-main_fault_lines.ensures ∙ (ap (λ name. main_fault_text name c.deref-else-is_empty.result.now) c.bytes.ensures ∙ ap (λ fs. main_fault_text c.args.class.now fs) c.deref-else-is_empty.ensures.value) in
+    said_of_refusal c.args.class.now bytes registers insns c.args.image.now c.args.log.now.items c.in_ok-faults.faults.items (code_of Refused) c.in_ok-main_fault_lines.field-0.items built p found some refl prints

@@ -16,4 +16,4 @@ returns-in-Ok-clause-said c bytes read =
 
 pub returns-in-Err-At-clause-said : goal.returns-in-Err-At-clause-said
 returns-in-Err-At-clause-said c bytes read =
-    IfOk-weaker c.refusal_of.result _ _ (λ reply h. said_bad bytes c.args.text.now (record { line = c.in-Err-At.line; kind = c.in-Err-At.kind }) _ _ read (MatchBool-at_false _ _ c.if-is_too_large.false c.is_too_large.ensures) (rw c.in-Err-At.field-0-is at c.in-Err-At.ensures) (ap code_of h.0) h.1) c.refusal_of.ensures
+    IfOk-weaker c.refused.result _ _ (λ reply h. said_bad bytes c.args.text.now (record { line = c.in-Err-At.line; kind = c.in-Err-At.kind }) _ _ read (MatchBool-at_false _ _ c.if-is_too_large.false c.is_too_large.ensures) (rw c.in-Err-At.field-0-is at c.in-Err-At.ensures) (ap code_of h.0) h.1) c.refused.ensures

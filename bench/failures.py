@@ -1,0 +1,58 @@
+#!/usr/bin/env python3
+"""Makes each allocation, read and write of `dvm verify` fail in turn, on each example, and counts how the runs end.
+
+A run whose allocation fails must end with status 11 and print nothing, or as the run in which nothing fails, where the program does without;
+one whose read fails with status 3 and nothing printed; one whose write fails with status 4 and a front of the text. Needs a C compiler.
+Usage: bench/failures.py [PROGRAM [EXAMPLE ..]], where PROGRAM is a built `dvm` (crates/dvm/out/dvm).
+"""
+import collections
+import os
+import subprocess
+import sys
+import tempfile
+
+TOP = os.path.dirname(os.path.dirname(os.path.abspath(__file__)))
+
+
+def run(program, text, shim, **failing):
+    """The status and what is printed, where failing says what fails."""
+    with open(text, "rb") as source:
+        done = subprocess.run(
+            [program, "verify"], stdin=source, capture_output=True, env={**os.environ, "LD_PRELOAD": shim, **failing}
+        )
+    return done.returncode, done.stdout
+
+
+def judged(kind, whole, got):
+    """How a run ended in which one call of this kind failed, against the run in which none did."""
+    status, printed = got
+    if got == whole:
+        return "as if nothing had failed" if kind == "FAIL_ALLOC" else "WRONG"
+    good = {
+        "FAIL_ALLOC": status == 11 and printed == b"",
+        "FAIL_READ": status == 3 and printed == b"",
+        "FAIL_WRITE": status == 4 and whole[1].startswith(printed),
+    }
+    return f"status {status}" if good[kind] else "WRONG"
+
+
+def main():
+    program = sys.argv[1] if len(sys.argv) > 1 else f"{TOP}/crates/dvm/out/dvm"
+    texts = sys.argv[2:] or sorted(f"{TOP}/examples/{name}" for name in os.listdir(f"{TOP}/examples") if name.endswith(".smali"))
+    wrong = 0
+    with tempfile.TemporaryDirectory() as room:
+        shim = f"{room}/failures.so"
+        subprocess.run(["cc", "-O1", "-fPIC", "-shared", "-o", shim, f"{TOP}/bench/failures.c"], check=True)
+        for text in texts:
+            whole = run(program, text, shim, COUNTS=f"{room}/counts")
+            with open(f"{room}/counts", encoding="ascii") as file:
+                counts = dict(zip(("FAIL_ALLOC", "FAIL_READ", "FAIL_WRITE"), map(int, file.read().split())))
+            for kind, count in counts.items():
+                ends = collections.Counter(judged(kind, whole, run(program, text, shim, **{kind: str(n)})) for n in range(1, count + 1))
+                wrong += ends["WRONG"]
+                print(os.path.basename(text), kind[5:].lower(), count, dict(ends), flush=True)
+    sys.exit(wrong != 0)
+
+
+if __name__ == "__main__":
+    main()

@@ -1,0 +1,7 @@
+//! Texts are read and linked, and the image is asked: tests that cross crates.
+#![tactic(auto)]
+
+#[cfg(test)]
+mod rows;
+#[cfg(test)]
+mod tests;

@@ -1,0 +1,4 @@
+pub mod BootTexts
+pub mod LinkedTexts
+pub mod ReadLines
+pub mod ReadTexts

@@ -1,0 +1,53 @@
+// The reply to a text that is to be verified.
+ghost use Rattle.std.specs.Prelude.{◌≡◌, ◌≢◌, ◌≤◌, ℕ, List, Ok, IfOk, length};
+ghost use Rattle.dv_console.specs.Faults.{accepted_text};
+ghost use Rattle.dv_console.specs.Refusals.{refusal_text};
+ghost use Rattle.dv_program.specs.Images.{image_in};
+ghost use Rattle.dv_top.specs.Answering.{IsTold, IsReadOf};
+ghost use Rattle.dv_top.specs.Said.{IsSaidOfVerifying, text_limit};
+ghost use Rattle.dv_top.specs.Status.{code_of};
+
+use crate::printing::{TOO_LARGE, fault_lines};
+use crate::reply::{Reply, fixed, is_too_large, refused};
+use crate::status::Status;
+use dv_console::accepted_line;
+use dv_defs::Image;
+use dv_program::{ProgramError, read_program};
+use dv_pverify::{VerifyError, verify_one_by_one};
+use std::alloc::{AllocError, Global};
+
+/// The reply to a text of which at most one byte past the limit was read: how many methods are accepted, the line of its refusal,
+/// or the lines of its faults.
+pub fn reply_to_verifying(alloc: Global, text: &[u8]) -> Result<Reply, AllocError>
+    ensures told { IfOk result (λ reply. IsTold (code_of reply.status) × (code_of reply.status ≢ code_of Status.Usage)) }
+    ensures said { (bytes : List ℕ) → IsReadOf bytes text.now
+        → IfOk result (λ reply. IsSaidOfVerifying bytes (code_of reply.status) reply.text.items) }
+{
+    if is_too_large(text) {
+        return fixed(alloc, Status::TooLarge, TOO_LARGE);
+    }
+    match read_program(alloc, text) {
+        Ok(image) => verdict(alloc, image),
+        Err(ProgramError::Refused(refusal)) => refused(alloc, &refusal),
+        Err(ProgramError::Memory) => Err(AllocError),
+    }
+}
+
+/// The reply to a text with this image.
+fn verdict(alloc: Global, image: Image) -> Result<Reply, AllocError>
+    ensures told { IfOk result (λ reply. IsTold (code_of reply.status) × (code_of reply.status ≢ code_of Status.Usage)) }
+    ensures said { (bytes : List ℕ) → length bytes ≤ text_limit → image_in bytes ≡ Ok image
+        → IfOk result (λ reply. IsSaidOfVerifying bytes (code_of reply.status) reply.text.items) }
+{
+    match verify_one_by_one(alloc, image) {
+        Ok(verified) => {
+            let line = accepted_line(alloc, &verified.image)?;
+            fixed(alloc, Status::Done, line.bytes())
+        }
+        Err(VerifyError::Faults { image, faults }) => Ok(Reply {
+            status: Status::Refused,
+            text: fault_lines(alloc, &image, faults.items())?,
+        }),
+        Err(VerifyError::Memory) => Err(AllocError),
+    }
+}

@@ -1,0 +1,3 @@
+pub mod Erasing
+pub mod Frames
+pub mod Heaps

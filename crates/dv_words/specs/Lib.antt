@@ -1,0 +1,7 @@
+pub mod Erasure
+pub mod Heaps
+pub mod Laws
+pub mod Stacks
+pub mod Standing
+pub mod State
+pub mod Words

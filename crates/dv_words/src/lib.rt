@@ -1,0 +1,11 @@
+//! The engine's state on plain words: what frames, stacks, heaps, threads and machines are without tags, what each call makes of them, and
+//! erasure, which ties them to the tagged machine.
+#![tactic(auto)]
+
+pub mod laws;
+mod state;
+
+pub use state::{Frame, Kept, Kind, Level};
+
+#[cfg(test)]
+mod tests;
