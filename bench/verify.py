@@ -1,5 +1,6 @@
 #!/usr/bin/env python3
 """Times `dvm verify` on texts of one and of many methods, and prints processor seconds, microseconds a unit and megabytes.
+Megabytes below what this script takes itself, about 13, can't be told.
 
 Usage: bench/verify.py [PROGRAM], where PROGRAM is a built `dvm` (crates/dvm/out/dvm).
 """
