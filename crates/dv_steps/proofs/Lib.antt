@@ -1,0 +1,5 @@
+mod Registers
+mod Numbers
+mod Reading
+mod Comparing
+mod LocalSteps
