@@ -3,3 +3,4 @@ mod Numbers
 mod Reading
 mod Comparing
 mod LocalSteps
+mod Objects
