@@ -4,3 +4,4 @@ mod Reading
 mod Comparing
 mod LocalSteps
 mod Objects
+mod Added
