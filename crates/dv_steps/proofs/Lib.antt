@@ -5,3 +5,6 @@ mod Comparing
 mod LocalSteps
 mod Objects
 mod Added
+mod Narrowing
+mod MemReading
+mod Short

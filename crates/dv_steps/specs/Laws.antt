@@ -1,11 +1,30 @@
 -- The steps on words go where the tagged machine's go, wherever these aren't stuck.
-use Rattle.std.specs.Prelude.{◌≡◌, ℕ, Ok}
+use Rattle.std.specs.Prelude.{◌≡◌, ◌⊎◌, ◌<◌, ◌^◌, ◌/◌, ℕ, suc, false, ◌∷◌, Some, None, Ok, All, length}
+use Rattle.std.specs.List.{AllZip}
 use Rattle.dv_defs.specs.declared.machine.Frame as tagged
-use Rattle.dv_defs.specs.Op.{Op, Const, IntDivide, IntOp, Arg, Reg, Lit}
+use Rattle.dv_defs.specs.declared.machine.Kind.{Kind}
+use Rattle.dv_defs.specs.declared.machine.Kind.TheVariants as kind
+use Rattle.dv_defs.specs.declared.machine.Level.TheVariants as level
+use Rattle.dv_defs.specs.declared.names.ClassId.{ClassId}
+use Rattle.dv_defs.specs.declared.run.Value.{Value}
+use Rattle.dv_defs.specs.declared.run.Value.TheVariants as v
+use Rattle.dv_defs.specs.Heap.{Cells, Heap, kind_of}
+use Rattle.dv_defs.specs.Images.{Image}
+use Rattle.dv_defs.specs.Names.{string_name}
+use Rattle.dv_defs.specs.Op.{Op, Const, FieldGet, FieldPut, Fill, Filled, IntDivide, IntOp, Arg, Reg, Lit}
+use Rattle.dv_defs.specs.Order.{fits}
+use Rattle.dv_defs.specs.Pools.{Field, class_type}
+use Rattle.dv_defs.specs.Types.{component, of_class, words_of}
 use Rattle.dv_machine.specs.Local.{local}
+use Rattle.dv_machine.specs.Mem.{mem}
+use Rattle.dv_machine.specs.State.{Did, Go, Here, IsStuck, Left, NoOutput, NoRoom, NoWords, Throws, ThrowsRef, with_heap}
 use Rattle.dv_words.specs.declared.state.Frame.{Frame}
-use Rattle.dv_words.specs.Standing.{FitsInt, FrameFits, FrameStands}
+use Rattle.dv_words.specs.Standing.{FitsInt, FrameFits, FrameStands, HeapFits, HeapStands}
+use Rattle.dv_words.specs.State.{WordHeap}
 use Rattle.dv_steps.specs.Local.{word_local}
+use Rattle.dv_steps.specs.Mem.{WordHere, WordLeft, word_mem}
+
+-- ---- local instructions
 
 -- a constant that the operation has is an int of 32 bits, as the units spell it
 abbrev pub ArgFits : Arg → Type 0
@@ -16,6 +35,7 @@ abbrev pub ConstantFits : Op → Type 0
 ConstantFits (Const a n) = FitsInt n
 ConstantFits (IntOp o a b c) = ArgFits c
 ConstantFits (IntDivide o a b c) = ArgFits c
+ConstantFits (Fill a width ns) = (width ≡ 8) ⊎ All FitsInt ns
 ConstantFits op = Unit {0}
 
 -- of each local instruction
@@ -24,6 +44,64 @@ LocalStepsFollow =
     (op : Op) (next : ℕ) (s : Frame) (f g : tagged.Frame) → ConstantFits op → FrameFits s → FrameStands s f → local op f next ≡ Ok g →
     FrameStands (word_local op s next) g
 
--- words stay words of 32 bits
-abbrev pub LocalStepsFit : Type 0
-LocalStepsFit = (op : Op) (next : ℕ) (s : Frame) → ConstantFits op → FrameFits s → FrameFits (word_local op s next)
+-- ---- instructions on objects
+
+-- an array's length is an int
+abbrev pub IsShort : Kind → Cells → Type 0
+IsShort (kind.Array t) xs = length xs / words_of (component t) < 2 ^ 31
+IsShort k xs = Unit {0}
+
+abbrev pub ArraysAreShort : Heap → Type 0
+ArraysAreShort heap = AllZip IsShort heap.kinds heap.cells
+
+-- no string fits the class that declares the field
+abbrev pub IsNoString : Image → Field → Type 0
+IsNoString image x = fits image (of_class string_name) (class_type image x.info.class.0) ≡ false
+
+-- what the units spell, and what linking gives: a filled array is short, and a string has no field
+abbrev pub OperandsFit : Image → Op → Type 0
+OperandsFit image (FieldGet s a b x) = IsNoString image x
+OperandsFit image (FieldPut s a b x) = IsNoString image x
+OperandsFit image (Filled rs t) = length rs < 2 ^ 31
+OperandsFit image op = ConstantFits op
+
+-- what a constructor makes is an object of a class
+abbrev pub IsMade : Heap → Value → Type 0
+IsMade heap (v.UninitThis (suc o)) = (c : ClassId) × (kind_of heap (suc o) ≡ Some (kind.Object c))
+IsMade heap x = Unit {0}
+
+-- a step that goes on leaves a frame and a heap that stand for the tagged machine's, and nothing else has changed
+pub record LeftStands (h : Here) (t : WordLeft) (l : Left) : Type 0 where
+  pub frame : tagged.Frame
+  pub levels : l.levels ≡ level.Code frame ∷ h.rest
+  pub shared : l.shared ≡ with_heap h.shared l.shared.heap
+  pub started : l.started ≡ None
+  pub frame_stands : FrameStands t.frame frame
+  pub heap_stands : HeapStands t.heap l.shared.heap
+  pub short : ArraysAreShort l.shared.heap
+
+-- a step does what the tagged one does; where that is stuck it may do anything
+abbrev pub DidStands : Here → Did WordLeft → Did Left → Type 0
+DidStands h d (IsStuck why) = Unit {0}
+DidStands h (Go t) (Go l) = LeftStands h t l
+DidStands h (Throws n) (Throws m) = n ≡ m
+DidStands h (ThrowsRef o) (ThrowsRef p) = o ≡ p
+DidStands h NoWords NoWords = Unit {0}
+DidStands h NoRoom NoRoom = Unit {0}
+DidStands h NoOutput NoOutput = Unit {0}
+DidStands h d e = ⊥
+
+-- the words stand for the frame that steps and for the heap
+pub record HereStands (w : WordHere) (h : Here) : Type 0 where
+  pub image : w.image ≡ h.image
+  pub next : w.next ≡ h.next
+  pub frame : FrameStands w.frame h.frame
+  pub heap : HeapStands w.heap h.shared.heap
+  pub short : ArraysAreShort h.shared.heap
+  pub made : All (IsMade h.shared.heap) h.frame.regs
+
+-- of each instruction on objects, each division and each cast
+abbrev pub MemStepsFollow : Type 0
+MemStepsFollow =
+    (op : Op) (w : WordHere) (h : Here) → OperandsFit h.image op → FrameFits w.frame → HeapFits w.heap → HereStands w h →
+    DidStands h (word_mem w op) (mem h op)
