@@ -97,7 +97,7 @@ long_element false t n xs is are =
     let both : AreWords (0 ∷ replicate (n * words_of t) 0) (zero_cell (single_type t) ∷ xs) = (zero_stands (single_type t), are) in
     element_of t n xs _ (single_type t ∷ []) size types both
 
-elements_stand : (n : ℕ) (t : Ty) → AreWords (replicate (n * words_of (component t)) 0) (fresh_elements t n)
+pub elements_stand : (n : ℕ) (t : Ty) → AreWords (replicate (n * words_of (component t)) 0) (fresh_elements t n)
 elements_stand zero t = let none : 0 * words_of (component t) ≡ 0 = omega arith in subst (λ (k : ℕ). AreWords (replicate k 0) []) (sym none) tt
 elements_stand (suc n) t = long_element (is_long (component t)) (component t) n _ refl (elements_stand n t)
 

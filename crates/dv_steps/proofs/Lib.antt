@@ -8,3 +8,4 @@ mod Added
 mod Narrowing
 mod MemReading
 mod Short
+mod MemSteps

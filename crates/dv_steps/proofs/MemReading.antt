@@ -24,6 +24,11 @@ use Rattle.dv_steps.specs.Local.{arg_at, reg_word}
 use Rattle.dv_steps.specs.Mem.{WordLeft, narrowed, narrowed_all, words_in}
 use Rattle.dv_steps.proofs.Narrowing.{long_narrowed, number_narrowed, reference_narrowed, zero_narrowed}
 
+-- what a store to a field or element takes: words, and what is kept of them
+pub record Taken (t : Ty) (ws : List ℕ) (xs : List Value) : Type 0 where
+  pub words : AreWords ws xs
+  pub kept : AreWords (narrowed_all t ws) (machine.narrowed_all t xs)
+
 module _ (h : Here) (d : Did WordLeft) where
   -- a stuck step asks nothing
   abbrev Stands : Did Left → Type 0
@@ -51,6 +56,11 @@ module _ (h : Here) (d : Did WordLeft) where
   on_passed true o go s = s refl
   on_passed false o go s = tt
 
+  -- whatever is read
+  pub reads_whatever : {A : Type 0} (read : Reads A) (go : A → Did Left) → ((x : A) → Stands (go x)) → Stands (reading read go)
+  reads_whatever (Ok x) go s = s x
+  reads_whatever (Err y) go s = tt
+
   -- null, or an object that the test takes
   pub reads_tested : (good : Kind → Bool) (heap : Heap) (y : Value) (w : ℕ) (go : ℕ → Did Left) → IsWord w y → (tested good heap w ≡ true → Stands (go w)) → Stands (reading (read_tested good heap y) go)
   reads_tested good heap v.Zero w go is s = subst (λ (n : ℕ). (tested good heap n ≡ true → Stands (go n))) is s refl
@@ -60,11 +70,6 @@ module _ (h : Here) (d : Did WordLeft) where
   pub reads_arg : (regs : List Value) (s : Frame) (c : Arg) (go : ℤ → Did Left) → ((k : ℕ) → IsWord (reg_word s k) (reg_at regs k)) → Stands (go (arg_at s c)) → Stands (reading (read_arg regs c) go)
   reads_arg regs s (Reg r) go is t = reads_int (reg_at regs r) (reg_word s r) go (is r) t
   reads_arg regs s (Lit n) go is t = t
-
-  -- what a store to a field or element takes: words, and what is kept of them
-  pub record Taken (t : Ty) (ws : List ℕ) (xs : List Value) : Type 0 where
-    pub words : AreWords ws xs
-    pub kept : AreWords (narrowed_all t ws) (machine.narrowed_all t xs)
 
   abbrev Takes : Ty → List ℕ → (List Value → Did Left) → Type 0
   Takes t ws go = (xs : List Value) → Taken t ws xs → Stands (go xs)
