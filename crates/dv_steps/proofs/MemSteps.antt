@@ -1,5 +1,5 @@
 -- Instructions on objects, divisions and casts on words go where the tagged ones go.
-use Rattle.std.proofs.Common.{◌≡◌, ◌⊎◌, inl, inr, ℕ, zero, suc, pred, ◌+◌, ◌*◌, ◌<◌, ◌^◌, ◌++◌, Bool, true, false, ◌||◌, not, Option, Some, None, Ok, Err, List, [], ◌∷◌, ℤ, pos, negsuc, All, length, map, refl, sym, ap, ◌∙◌, subst, arith}
+use Rattle.std.proofs.Common.{◌≡◌, ◌⊎◌, inl, inr, ℕ, zero, suc, pred, ◌+◌, ◌*◌, ◌<◌, ◌^◌, ◌++◌, Bool, true, false, ◌||◌, not, Option, Some, None, Ok, Err, List, [], ◌∷◌, ℤ, pos, negsuc, All, length, map, replicate, refl, sym, ap, ◌∙◌, subst, arith}
 use Rattle.std.specs.Prelude.{if◌then◌else◌, nat_eq, nat_le, nat_lt, slice_get, slice_set}
 use Rattle.std.proofs.lemmas.Bool.{and_parts}
 use Rattle.std.proofs.lemmas.List.Elements.{All-head, All-tail}
@@ -9,20 +9,24 @@ use Rattle.dv_defs.specs.declared.machine.Frame as tagged_frame
 use Rattle.dv_defs.specs.declared.machine.Kind.{Kind}
 use Rattle.dv_defs.specs.declared.machine.Kind.TheVariants as kind_of_tagged
 use Rattle.dv_defs.specs.declared.machine.Level.TheVariants as level
+use Rattle.dv_defs.specs.declared.names.ClassId.{ClassId}
 use Rattle.dv_defs.specs.declared.names.Ty.{Ty}
+use Rattle.dv_defs.specs.declared.machine.Pending.TheVariants as pending
 use Rattle.dv_defs.specs.declared.run.Named.{Named}
 use Rattle.dv_defs.specs.declared.run.Named.TheVariants as named
 use Rattle.dv_defs.specs.declared.run.Value.{Value}
 use Rattle.dv_defs.specs.declared.run.Value.TheVariants as v
-use Rattle.dv_defs.specs.Demands.{any_type, is_fill_type}
+use Rattle.dv_defs.specs.Demands.{any_type, is_fill_type, is_own_field}
+use Rattle.dv_defs.specs.declared.run.Why.TheVariants as why
 use Rattle.dv_defs.specs.Heap as tagged
 use Rattle.dv_defs.specs.Heap.{Heap}
 use Rattle.dv_defs.specs.Images.{Image}
 use Rattle.dv_defs.specs.Numbers.{hi_of, lo_of, operate32, operate64}
-use Rattle.dv_defs.specs.Names.{string_name}
+use Rattle.dv_defs.specs.Names.{string_name, throwable_name}
 use Rattle.dv_defs.specs.Op.{Op, IntDivide, LongDivide, ConstString, ConstClass, Cast, InstanceOf, ArrayLength, New, NewArray, Filled, Fill, Throw, ArrayGet, ArrayPut, FieldGet, FieldPut, StaticGet, StaticPut, Arg, Reg, Lit}
 use Rattle.dv_defs.specs.Order.{fits, instance}
 use Rattle.dv_defs.specs.Parts.{Bin, Suffix}
+use Rattle.dv_defs.specs.Pools.{Field, class_type}
 use Rattle.dv_defs.specs.Statics.{is_of_suffix}
 use Rattle.dv_defs.specs.Types.{component, is_long, is_reference, of_class, words_of}
 use Rattle.dv_machine.specs.Mem as machine
@@ -30,12 +34,14 @@ use Rattle.dv_machine.specs.Mem.{is_zero_number, mem}
 use Rattle.dv_machine.specs.State as steps
 use Rattle.dv_machine.specs.State.{Did, Go, Here, IsStuck, Left, NoWords, Throws, ThrowsRef, any_kind, fits_kind, is_array_kind, on_next, passes, reading, reg_at, tested, truth, where_true, with_heap}
 use Rattle.dv_words.specs.declared.state.Frame.{Frame}
+use Rattle.dv_words.specs.declared.state.Kept.TheVariants as kept
+use Rattle.dv_words.specs.declared.state.Kind.TheVariants as kind
 use Rattle.dv_words.specs.Heaps as words
 use Rattle.dv_words.specs.Stacks as stack
 use Rattle.dv_words.specs.Standing.{AllFit, AreWords, Fits, FitsInt, FrameFits, FrameStands, HeapFits, HeapStands, IsWord}
 use Rattle.dv_words.specs.State.{WordHeap}
 use Rattle.dv_words.specs.Words.{int_of, word_at, word_of}
-use Rattle.dv_steps.specs.Laws.{ArgFits, ArraysAreShort, DidStands, HereStands, LeftStands, MemStepsFollow, OperandsFit}
+use Rattle.dv_steps.specs.Laws.{ArgFits, ArraysAreShort, DidStands, HereStands, IsMade, IsNoString, LeftStands, MemStepsFollow, OperandsFit}
 use Rattle.dv_steps.specs.Local.{arg_at, int_at, long_at, put, put_two, reg_word}
 use Rattle.dv_steps.specs.Mem as over
 use Rattle.dv_steps.specs.Mem.{WordHere, WordLeft, onward, word_mem}
@@ -43,9 +49,9 @@ use Rattle.dv_steps.proofs.Added.{GotOneStands, GotStands, OptionStands, array_a
 use Rattle.dv_steps.proofs.LocalSteps.{word_fits}
 use Rattle.dv_steps.proofs.MemReading.{IsArray, Taken, array_there, passed, reads_arg, reads_int, reads_long, reads_tested, reads_two, reads_whatever, takes_int, takes_long, takes_reference}
 use Rattle.dv_steps.proofs.Narrowing.{number_narrowed, reference_narrowed, zero_narrowed}
-use Rattle.dv_steps.proofs.Numbers.{again, int_fits, operate_again}
+use Rattle.dv_steps.proofs.Numbers.{again, bits_small, int_fits, operate_again}
 use Rattle.dv_steps.proofs.Objects.{IsPlain, is_static_word, is_word_in, length_is, type_is, words_stored, statics_stored}
-use Rattle.dv_steps.proofs.Short.{IsShortGot, IsShortOption, array_length, array_short, class_object_short, grown_short, intern_short, object_short, stored_short}
+use Rattle.dv_steps.proofs.Short.{IsShortGot, IsShortOption, array_length, array_short, class_object_short, grown_short, intern_short, new_array_short, object_short, static_short, stored_short}
 use Rattle.dv_steps.proofs.Registers.{is_word_at, stand_gone, stand_put, stand_put_two, words_set}
 
 module _ (w : WordHere) (h : Here) (frame_fits : FrameFits w.frame) (stands : HereStands w h) where
@@ -341,3 +347,246 @@ module _ (w : WordHere) (h : Here) (frame_fits : FrameFits w.frame) (stands : He
       let d = word_mem w (ArrayPut s a b c) in
       reads_tested h d (is_array_kind (is_of_suffix s)) h.shared.heap (reg_at h.frame.regs b) (reg_word w.frame b) _ (is_at b)
       (λ t. reads_int h d (reg_at h.frame.regs c) (reg_word w.frame c) _ (is_at c) (array_put_by s a b c (reg_word w.frame b) d refl t refl))
+
+  -- ---- fields
+
+  single_put : (a : ℕ) (t : Ty) (go : List Value → Did Left) (d : Did WordLeft) (b : Bool) (x : Value) → is_reference t ≡ b → IsWord (reg_word w.frame a) x → ((xs : List Value) → Taken t (reg_word w.frame a ∷ []) xs → DidStands h d (go xs)) → DidStands h d (reading (on_next (if b then on_next (steps.read_ref h.image h.shared.heap t x) (λ o. Ok x) else steps.kept_int x) (λ y. Ok (y ∷ []))) go)
+  single_put a t go d true v.Zero ref is take = take (v.Zero ∷ []) (record { words = (is, tt); kept = (zero_narrowed t (reg_word w.frame a) is, tt) })
+  single_put a t go d true (v.Ref p) ref is take = by (tested (fits_kind h.image t) h.shared.heap p)
+    where
+      by : (b : Bool) → DidStands h d (reading (on_next (on_next (steps.where_ref b p) (λ o. Ok (v.Ref p))) (λ y. Ok (y ∷ []))) go)
+      by true = take (v.Ref p ∷ []) (record { words = (is, tt); kept = (reference_narrowed t (reg_word w.frame a) ref (reg_fits a) ∙ is, tt) })
+      by false = tt
+  single_put a t go d true x ref is take = tt
+  single_put a t go d false v.Zero ref is take = take (v.Zero ∷ []) (record { words = (is, tt); kept = (zero_narrowed t (reg_word w.frame a) is, tt) })
+  single_put a t go d false (v.Num n) ref is take = take (v.Num n ∷ []) (record { words = (is, tt); kept = (number_narrowed t (reg_word w.frame a) n (reg_fits a) is, tt) })
+  single_put a t go d false x ref is take = tt
+
+  value_by : (b : Bool) (a : ℕ) (t : Ty) (go : List Value → Did Left) (d : Did WordLeft) → is_long t ≡ b → ((xs : List Value) → Taken t (over.words_in w.frame a b) xs → DidStands h d (go xs)) → DidStands h d (reading (if b then on_next (steps.read_two h.frame.regs a) (λ p. Ok (v.Lo p.lo ∷ v.Hi p.hi ∷ [])) else on_next (steps.read_single h.image h.shared.heap t (reg_at h.frame.regs a)) (λ x. Ok (x ∷ []))) go)
+  value_by true a t go d is take = takes_long h d t (reg_at h.frame.regs a) (reg_at h.frame.regs (suc a)) (reg_word w.frame a) (reg_word w.frame (suc a)) go is (reg_fits a) (reg_fits (suc a)) (is_at a) (is_at (suc a)) take
+  value_by false a t go d is take = single_put a t go d (is_reference t) (reg_at h.frame.regs a) refl (is_at a) take
+
+  value_taken : (a : ℕ) (t : Ty) (go : List Value → Did Left) (d : Did WordLeft) → ((xs : List Value) → Taken t (over.words_in w.frame a (is_long t)) xs → DidStands h d (go xs)) → DidStands h d (reading (steps.read_value h.image h.shared.heap h.frame.regs a t) go)
+  value_taken a t go d take = value_by (is_long t) a t go d refl take
+
+  field_got : (s : Suffix) (a b : ℕ) (x : Field) → IsNoString h.image x → DidStands h (word_mem w (FieldGet s a b x)) (mem h (FieldGet s a b x))
+  field_got s a b x never =
+      let t = class_type h.image x.info.class.0 in
+      reads_tested h (word_mem w (FieldGet s a b x)) (fits_kind h.image t) h.shared.heap (reg_at h.frame.regs b) (reg_word w.frame b) _ (is_at b)
+      (λ passes. on_object_stands (reg_word w.frame b) (over.get_field w a x) (machine.get_field h a x)
+      (λ p e. got p (fits_plain p t never (subst (λ (n : ℕ). tested (fits_kind h.image t) h.shared.heap n ≡ true) e passes))))
+    where
+      got : (p : ℕ) → IsPlain (tagged.kind_of h.shared.heap (suc p)) → DidStands h (over.get_field w a x (suc p)) (machine.get_field h a x (suc p))
+      got p plain =
+          let ws = over.words_at w.heap (suc p) x.info.slot x.def.ty in
+          let xs = machine.words_at h.shared.heap (suc p) x.info.slot x.def.ty in
+          same_heap (over.put_words w.frame w.next a ws) (steps.put_words h.frame h.next a xs) (put_words_stand a ws xs (words_at_stand p x.info.slot x.def.ty plain))
+
+  -- an object whose field may be put is no string
+  abbrev IsReceiver : ℕ → Type 0
+  IsReceiver o = (p : ℕ) → o ≡ suc p → IsPlain (tagged.kind_of h.shared.heap (suc p))
+
+  made_at : (xs : List Value) (k : ℕ) → All (IsMade h.shared.heap) xs → IsMade h.shared.heap (reg_at xs k)
+  made_at [] k all = tt
+  made_at (x ∷ xs) zero all = All-head (IsMade h.shared.heap) x xs all
+  made_at (x ∷ xs) (suc k) all = made_at xs k (All-tail (IsMade h.shared.heap) x xs all)
+
+  object_plain : (k : Option Kind) (c : ClassId) → k ≡ Some (kind_of_tagged.Object c) → IsPlain k
+  object_plain None c is = tt
+  object_plain (Some (kind_of_tagged.Array u)) c is = tt
+  object_plain (Some (kind_of_tagged.Object d)) c is = tt
+  object_plain (Some (kind_of_tagged.ClassOf u)) c is = tt
+  object_plain (Some (kind_of_tagged.Str u)) c is = absurd (cc)
+
+  receives_any : (x : Field) (y : Value) (u : ℕ) (go : ℕ → Did Left) (d : Did WordLeft) → IsNoString h.image x → IsWord u y → (IsReceiver u → DidStands h d (go u)) → DidStands h d (reading (steps.read_ref h.image h.shared.heap (class_type h.image x.info.class.0) y) go)
+  receives_any x y u go d never is s =
+      let t = class_type h.image x.info.class.0 in
+      reads_tested h d (fits_kind h.image t) h.shared.heap y u go is
+      (λ passes. s (λ p e. fits_plain p t never (subst (λ (n : ℕ). tested (fits_kind h.image t) h.shared.heap n ≡ true) e passes)))
+
+  receives : (x : Field) (y : Value) (u : ℕ) (go : ℕ → Did Left) (d : Did WordLeft) → IsNoString h.image x → IsMade h.shared.heap y → IsWord u y → (IsReceiver u → DidStands h d (go u)) → DidStands h d (reading (machine.read_put_receiver h x y) go)
+  receives x (v.UninitThis o) u go d never made is s = own (is_own_field h.own x) o made is
+    where
+      plain : (o : ℕ) → IsMade h.shared.heap (v.UninitThis o) → u ≡ o → IsReceiver u
+      plain zero made is p e = absurd (let no_null : zero ≡ suc p = sym is ∙ e in omega (arith, no_null))
+      plain (suc o) made is p e = let same : o ≡ p = omega (arith, is, e) in subst (λ (q : ℕ). IsPlain (tagged.kind_of h.shared.heap (suc q))) same (object_plain (tagged.kind_of h.shared.heap (suc o)) made.0 made.1)
+
+      own : (b : Bool) (o : ℕ) → IsMade h.shared.heap (v.UninitThis o) → u ≡ o → DidStands h d (reading (if b then Ok o else Err why.Uninitialised) go)
+      own true o made is = subst (λ (n : ℕ). DidStands h d (go n)) is (s (plain o made is))
+      own false o made is = tt
+  receives x v.Undef u go d never made is s = receives_any x v.Undef u go d never is s
+  receives x v.Zero u go d never made is s = receives_any x v.Zero u go d never is s
+  receives x (v.Num n) u go d never made is s = receives_any x (v.Num n) u go d never is s
+  receives x (v.Lo n) u go d never made is s = receives_any x (v.Lo n) u go d never is s
+  receives x (v.Hi n) u go d never made is s = receives_any x (v.Hi n) u go d never is s
+  receives x (v.Ref o) u go d never made is s = receives_any x (v.Ref o) u go d never is s
+  receives x (v.Uninit c o) u go d never made is s = receives_any x (v.Uninit c o) u go d never is s
+
+  field_put : (s : Suffix) (a b : ℕ) (x : Field) → IsNoString h.image x → DidStands h (word_mem w (FieldPut s a b x)) (mem h (FieldPut s a b x))
+  field_put s a b x never =
+      let d = word_mem w (FieldPut s a b x) in
+      let o = reg_word w.frame b in
+      let ws = over.words_in w.frame a (is_long x.def.ty) in
+      receives x (reg_at h.frame.regs b) o _ d never (made_at h.frame.regs b stands.made) (is_at b)
+      (λ plain. value_taken a x.def.ty (λ ys. machine.on_object (machine.put_field h x ys) o) d
+      (λ xs taken. on_object_stands o (over.put_field w a x) (machine.put_field h x xs)
+      (λ p e. stored_stands p x.info.slot (over.narrowed_all x.def.ty ws) (machine.narrowed_all x.def.ty xs) (plain p e) taken.kept)))
+
+  static_got : (s : Suffix) (a : ℕ) (x : Field) → DidStands h (word_mem w (StaticGet s a x)) (mem h (StaticGet s a x))
+  static_got s a x =
+      let ws = over.static_words w.heap x.id x.def.ty in
+      let xs = machine.static_words h.shared.heap x.id x.def.ty in
+      same_heap (over.put_words w.frame w.next a ws) (steps.put_words h.frame h.next a xs) (put_words_stand a ws xs (static_by (is_long x.def.ty) x.id))
+
+  static_put : (s : Suffix) (a : ℕ) (x : Field) → DidStands h (word_mem w (StaticPut s a x)) (mem h (StaticPut s a x))
+  static_put s a x =
+      let ws = over.narrowed_all x.def.ty (over.words_in w.frame a (is_long x.def.ty)) in
+      value_taken a x.def.ty _ (word_mem w (StaticPut s a x))
+      (λ xs taken. left_stands (stack.gone w.frame w.next) (steps.gone h.frame h.next h.frame.regs) (over.static_stored w.heap x.id 0 ws) (machine.static_stored h.shared.heap x.id 0 (machine.narrowed_all x.def.ty xs)) gone_stands
+      (statics_stored w.heap h.shared.heap x.id 0 ws (machine.narrowed_all x.def.ty xs) stands.heap taken.kept)
+      (static_short h.shared.heap x.id 0 (machine.narrowed_all x.def.ty xs) stands.short))
+
+  -- ---- arrays that are filled
+
+  append_words : (ws us : List ℕ) (xs ys : List Value) → AreWords ws xs → AreWords us ys → AreWords (ws ++ us) (xs ++ ys)
+  append_words [] us [] ys are more = more
+  append_words [] us (x ∷ xs) ys are more = absurd are
+  append_words (u ∷ ws) us [] ys are more = absurd are
+  append_words (u ∷ ws) us (x ∷ xs) ys are more = (are.0, append_words ws us xs ys are.1 more)
+
+  element_by : (b : Bool) (t : Ty) (n : ℤ) → ((b ≡ true) ⊎ FitsInt n) → AreWords (if b then lo_of n ∷ hi_of n ∷ [] else over.narrowed t (word_of n) ∷ []) (if b then v.Lo (lo_of n) ∷ v.Hi (hi_of n) ∷ [] else machine.narrowed t (v.Num n) ∷ [])
+  element_by true t n l = (refl, (refl, tt))
+  element_by false t n (inl is) = absurd (cc)
+  element_by false t n (inr l) = (number_narrowed t (word_of n) n (bits_small n l) (again n l), tt)
+
+  filled_long : (t : Ty) (ns : List ℤ) → is_long t ≡ true → AreWords (over.filled t ns) (machine.filled t ns)
+  filled_long t [] is = tt
+  filled_long t (n ∷ ns) is = append_words _ _ _ _ (element_by (is_long t) t n (inl is)) (filled_long t ns is)
+
+  filled_ints : (t : Ty) (ns : List ℤ) → All FitsInt ns → AreWords (over.filled t ns) (machine.filled t ns)
+  filled_ints t [] all = tt
+  filled_ints t (n ∷ ns) all = append_words _ _ _ _ (element_by (is_long t) t n (inr (All-head FitsInt n ns all))) (filled_ints t ns (All-tail FitsInt n ns all))
+
+  filled_stand : (width : ℕ) (t : Ty) (ns : List ℤ) → (width ≡ 8) ⊎ All FitsInt ns → is_fill_type width t ≡ true → AreWords (over.filled t ns) (machine.filled t ns)
+  filled_stand width t ns (inl eight) is = filled_long t ns (subst (λ (n : ℕ). is_fill_type n t ≡ true) eight is)
+  filled_stand width t ns (inr all) is = filled_ints t ns all
+
+  filling : (width : ℕ) (ns : List ℤ) (p : ℕ) → (width ≡ 8) ⊎ All FitsInt ns → IsArray (is_fill_type width) h.shared.heap (suc p) → DidStands h (over.fill w ns (suc p)) (machine.fill h ns (suc p))
+  filling width ns p l array =
+      let t = machine.component_of h (suc p) in
+      let e = steps.onward h (with_heap h.shared (machine.stored h.shared.heap (suc p) 0 (machine.filled t ns))) (steps.gone h.frame h.next h.frame.regs) in
+      where_alike (nat_le (length ns) (words.length_of w.heap (suc p))) (nat_le (length ns) (tagged.length_of h.shared.heap (suc p))) named.ArrayIndex
+      (onward (over.stored w.heap (suc p) 0 (over.filled (over.component_of w (suc p)) ns)) (stack.gone w.frame w.next)) e
+      (ap (nat_le (length ns)) (length_is w.heap h.shared.heap p stands.heap))
+      (subst (λ (u : Ty). DidStands h (onward (over.stored w.heap (suc p) 0 (over.filled u ns)) (stack.gone w.frame w.next)) e) (sym (component_is (suc p)))
+      (stored_stands p 0 (over.filled t ns) (machine.filled t ns) (plain_array (is_fill_type width) p array) (filled_stand width t ns l (array_type (is_fill_type width) p array))))
+
+  filled_in : (a width : ℕ) (ns : List ℤ) → (width ≡ 8) ⊎ All FitsInt ns → DidStands h (word_mem w (Fill a width ns)) (mem h (Fill a width ns))
+  filled_in a width ns l =
+      reads_tested h (word_mem w (Fill a width ns)) (is_array_kind (is_fill_type width)) h.shared.heap (reg_at h.frame.regs a) (reg_word w.frame a) _ (is_at a)
+      (λ t. on_object_stands (reg_word w.frame a) (over.fill w ns) (machine.fill h ns) (λ p e. filling width ns p l (array_at (is_fill_type width) (reg_word w.frame a) p e t)))
+
+  thrown : (a : ℕ) → DidStands h (word_mem w (Throw a)) (mem h (Throw a))
+  thrown a =
+      reads_tested h (word_mem w (Throw a)) (fits_kind h.image (of_class throwable_name)) h.shared.heap (reg_at h.frame.regs a) (reg_word w.frame a) _ (is_at a)
+      (λ t. on_object_stands (reg_word w.frame a) ThrowsRef ThrowsRef (λ p e. refl))
+
+  -- ---- filled-new-array
+
+  abbrev IsSame : steps.Reads Value → Value → Type 0
+  IsSame (Ok y) x = y ≡ x
+  IsSame (Err e) x = Unit {0}
+
+  single_same : (b : Bool) (t : Ty) (x : Value) → IsSame (if b then on_next (steps.read_ref h.image h.shared.heap t x) (λ o. Ok x) else steps.kept_int x) x
+  single_same true t v.Zero = refl
+  single_same true t (v.Ref o) = by (tested (fits_kind h.image t) h.shared.heap o)
+    where
+      by : (b : Bool) → IsSame (on_next (steps.where_ref b o) (λ p. Ok (v.Ref o))) (v.Ref o)
+      by true = refl
+      by false = tt
+  single_same true t x = tt
+  single_same false t v.Zero = refl
+  single_same false t (v.Num n) = refl
+  single_same false t x = tt
+
+  abbrev Each : List ℕ → (List Value → Did Left) → Did WordLeft → Type 0
+  Each rs go d = (xs : List Value) → AreWords (map (reg_word w.frame) rs) xs → DidStands h d (go xs)
+
+  inner : (x : Value) (read : steps.Reads (List Value)) (go : List Value → Did Left) (d : Did WordLeft) → DidStands h d (reading read (λ xs. go (x ∷ xs))) → DidStands h d (reading (on_next read (λ xs. Ok (x ∷ xs))) go)
+  inner x (Ok xs) go d s = s
+  inner x (Err e) go d s = tt
+
+  one_each : (k : ℕ) (rest : steps.Reads (List Value)) (go : List Value → Did Left) (d : Did WordLeft) (read : steps.Reads Value) → IsSame read (reg_at h.frame.regs k) → DidStands h d (reading rest (λ xs. go (reg_at h.frame.regs k ∷ xs))) → DidStands h d (reading (on_next read (λ x. on_next rest (λ xs. Ok (x ∷ xs)))) go)
+  one_each k rest go d (Err e) same s = tt
+  one_each k rest go d (Ok y) same s = inner y rest go d (subst (λ x. DidStands h d (reading rest (λ xs. go (x ∷ xs)))) (sym same) s)
+
+  each : (t : Ty) (rs : List ℕ) (go : List Value → Did Left) (d : Did WordLeft) → Each rs go d → DidStands h d (reading (machine.read_each h t rs) go)
+  each t [] go d take = take [] tt
+  each t (k ∷ ks) go d take =
+      one_each k (machine.read_each h t ks) go d (steps.read_single h.image h.shared.heap t (reg_at h.frame.regs k)) (single_same (is_reference t) t (reg_at h.frame.regs k))
+      (each t ks (λ xs. go (reg_at h.frame.regs k ∷ xs)) d (λ xs are. take (reg_at h.frame.regs k ∷ xs) (is_at k, are)))
+
+  count_pushed : (ks : List Kind) (k : Kind) → length (ks ++ k ∷ []) ≡ suc (length ks)
+  count_pushed [] k = refl
+  count_pushed (q ∷ ks) k = ap suc (count_pushed ks k)
+
+  last_pushed : (ks : List Kind) (k : Kind) → slice_get (ks ++ k ∷ []) (length ks) ≡ Some k
+  last_pushed [] k = refl
+  last_pushed (q ∷ ks) k = last_pushed ks k
+
+  filled_array_stands : (x : WordHeap) (y : Heap) (n : ℕ) (ws : List ℕ) (xs : List Value) → HeapStands x y → ArraysAreShort y → tagged.newest y ≡ suc n → IsPlain (tagged.kind_of y (suc n)) → AreWords ws xs → DidStands h (over.filled_array w ws x) (machine.filled_array h xs y)
+  filled_array_stands x y n ws xs s short new plain are =
+      let same : words.newest x ≡ tagged.newest y = newest_is x y s in
+      let heaps : HeapStands (over.stored x (suc n) 0 ws) (machine.stored y (suc n) 0 xs) = words_stored x y n 0 ws xs plain s are in
+      let one = subst (λ (m : ℕ). HeapStands (over.stored x m 0 ws) (machine.stored y (suc n) 0 xs)) (sym (same ∙ new)) heaps in
+      let both = subst (λ (m : ℕ). HeapStands (over.stored x (words.newest x) 0 ws) (machine.stored y m 0 xs)) (sym new) one in
+      let frame : FrameStands (stack.given (stack.gone w.frame w.next) (kept.One (words.newest x))) (steps.with_result h.frame h.next (pending.One (v.Ref (tagged.newest y)))) =
+          record { method = stands.frame.method; at = stands.next; regs = stands.frame.regs; result = same; caught = refl } in
+      left_stands (stack.given (stack.gone w.frame w.next) (kept.One (words.newest x))) (steps.with_result h.frame h.next (pending.One (v.Ref (tagged.newest y)))) (over.stored x (words.newest x) 0 ws) (machine.stored y (tagged.newest y) 0 xs) frame both
+      (stored_short y (tagged.newest y) 0 xs short)
+
+  room_by : (a b : Bool) (x : WordHeap) (y : Heap) (d : WordHeap → Did WordLeft) (e : Heap → Did Left) → a ≡ b → DidStands h (d x) (e y) → DidStands h (steps.where_room (elim a [ true ↦ Some x | false ↦ None ]) d) (steps.where_room (elim b [ true ↦ Some y | false ↦ None ]) e)
+  room_by true true x y d e same s = s
+  room_by false false x y d e same s = tt
+  room_by true false x y d e same s = absurd (cc)
+  room_by false true x y d e same s = absurd (cc)
+
+  new_filled : (rs : List ℕ) (t : Ty) → length rs < 2 ^ 31 → DidStands h (word_mem w (Filled rs t)) (mem h (Filled rs t))
+  new_filled rs t few =
+      let n = length rs in
+      let ws = map (reg_word w.frame) rs in
+      let cost = 2 + n * words_of (component t) in
+      let x = words.grown w.heap (kind.Array t) (replicate (n * words_of (component t)) 0) cost in
+      let y = tagged.grown h.shared.heap (kind_of_tagged.Array t) (tagged.fresh_elements t n) cost in
+      let stand : HeapStands x y = grown_stands w.heap h.shared.heap (kind_of_tagged.Array t) (replicate (n * words_of (component t)) 0) (tagged.fresh_elements t n) cost stands.heap (elements_stand n t) in
+      let new = count_pushed h.shared.heap.kinds (kind_of_tagged.Array t) in
+      let plain = array_plain (tagged.kind_of y (suc (length h.shared.heap.kinds))) t (last_pushed h.shared.heap.kinds (kind_of_tagged.Array t)) in
+      each (component t) rs _ (word_mem w (Filled rs t))
+      (λ xs are. room_by (words.has_room w.heap cost) (tagged.has_room h.shared.heap cost) x y (over.filled_array w ws) (machine.filled_array h xs) (room_is w.heap h.shared.heap cost stands.heap)
+      (filled_array_stands x y (length h.shared.heap.kinds) ws xs stand (new_array_short h.shared.heap t n few stands.short) new plain are))
+
+  -- ---- each of them
+
+  pub mem_stands : (op : Op) → OperandsFit h.image op → DidStands h (word_mem w op) (mem h op)
+  mem_stands (IntDivide o a b c) l = divided o a b c l
+  mem_stands (LongDivide o a b c) l = divided_long o a b c
+  mem_stands (ConstString a u) l = room_got a _ _ (intern_stands w.heap h.shared.heap u stands.heap) (intern_short h.shared.heap u stands.short)
+  mem_stands (ConstClass a t) l = room_got a _ _ (class_object_stands w.heap h.shared.heap t stands.heap) (class_object_short h.shared.heap t stands.short)
+  mem_stands (Cast a t) l = cast a t
+  mem_stands (InstanceOf a b t) l = asked a b t
+  mem_stands (ArrayLength a b) l = length_got a b
+  mem_stands (New a c) l = new_object a c
+  mem_stands (NewArray a b t) l = made_array a b t
+  mem_stands (Filled rs t) l = new_filled rs t l
+  mem_stands (Fill a width ns) l = filled_in a width ns l
+  mem_stands (Throw a) l = thrown a
+  mem_stands (ArrayGet s a b c) l = array_got s a b c
+  mem_stands (ArrayPut s a b c) l = array_put s a b c
+  mem_stands (FieldGet s a b x) l = field_got s a b x l
+  mem_stands (FieldPut s a b x) l = field_put s a b x l
+  mem_stands (StaticGet s a x) l = static_got s a x
+  mem_stands (StaticPut s a x) l = static_put s a x
+  mem_stands op l = tt
+
+pub mem_steps_follow : MemStepsFollow
+mem_steps_follow op w h l fits stands = mem_stands w h fits stands op l

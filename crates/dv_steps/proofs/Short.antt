@@ -8,11 +8,11 @@ use Rattle.dv_defs.specs.declared.machine.Kind.TheVariants as kind
 use Rattle.dv_defs.specs.declared.names.Ty.{Ty}
 use Rattle.dv_defs.specs.declared.run.Value.{Value}
 use Rattle.dv_defs.specs.declared.typing.RegType.TheVariants as ty
-use Rattle.dv_defs.specs.Heap.{Cells, Heap, alloc_array, alloc_object, cells_at, class_cells, class_object, Got, copies, fresh_cells, fresh_elements, grown, has_room, intern, kind_of, length_of, with_cell, with_class_object, with_interned}
+use Rattle.dv_defs.specs.Heap.{Cells, Heap, alloc_array, alloc_object, cells_at, class_cells, class_object, Got, copies, fresh_cells, fresh_elements, grown, has_room, intern, kind_of, length_of, with_cell, with_class_object, with_interned, with_static}
 use Rattle.dv_defs.specs.Images.{Image}
 use Rattle.dv_defs.specs.RegTypes.{reg_types, single_type}
 use Rattle.dv_defs.specs.Types.{component, is_long, words_of}
-use Rattle.dv_machine.specs.Mem.{stored}
+use Rattle.dv_machine.specs.Mem.{static_stored, stored}
 use Rattle.dv_steps.specs.Laws.{ArraysAreShort, IsShort}
 
 -- ---- what an array's length is
@@ -44,6 +44,10 @@ all_set (k ∷ ks) (xs ∷ xss) (suc o) j x all = (all.0, all_set ks xss o j x a
 pub stored_short : (heap : Heap) (o k : ℕ) (xs : List Value) → ArraysAreShort heap → ArraysAreShort (stored heap o k xs)
 stored_short heap o k [] all = all
 stored_short heap o k (x ∷ xs) all = stored_short (with_cell heap o k x) o (suc k) xs (all_set heap.kinds heap.cells (pred o) k x all)
+
+pub static_short : (heap : Heap) (f half : ℕ) (xs : List Value) → ArraysAreShort heap → ArraysAreShort (static_stored heap f half xs)
+static_short heap f half [] all = all
+static_short heap f half (x ∷ xs) all = static_short (with_static heap f half x) f (suc half) xs all
 
 -- ---- new objects
 
@@ -93,8 +97,11 @@ by_width false t n is =
     whole : (n : ℕ) → n * 1 / 1 ≡ n
     whole n = omega arith
 
+pub new_array_short : (heap : Heap) (t : Ty) (n : ℕ) → n < 2 ^ 31 → ArraysAreShort heap → ArraysAreShort (grown heap (kind.Array t) (fresh_elements t n) (2 + n * words_of (component t)))
+new_array_short heap t n few all = grown_short heap (kind.Array t) (fresh_elements t n) (2 + n * words_of (component t)) all (subst (λ (m : ℕ). m < 2 ^ 31) (sym (by_width (is_long (component t)) (component t) n refl)) few)
+
 pub array_short : (heap : Heap) (t : Ty) (n : ℕ) → n < 2 ^ 31 → ArraysAreShort heap → IsShortOption (alloc_array heap t n)
-array_short heap t n few all = within (has_room heap _) _ (grown_short heap (kind.Array t) (fresh_elements t n) (2 + n * words_of (component t)) all (subst (λ (m : ℕ). m < 2 ^ 31) (sym (by_width (is_long (component t)) (component t) n refl)) few))
+array_short heap t n few all = within (has_room heap _) _ (new_array_short heap t n few all)
 
 -- ---- objects that stand once
 

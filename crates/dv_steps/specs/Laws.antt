@@ -19,7 +19,7 @@ use Rattle.dv_machine.specs.Local.{local}
 use Rattle.dv_machine.specs.Mem.{mem}
 use Rattle.dv_machine.specs.State.{Did, Go, Here, IsStuck, Left, NoOutput, NoRoom, NoWords, Throws, ThrowsRef, with_heap}
 use Rattle.dv_words.specs.declared.state.Frame.{Frame}
-use Rattle.dv_words.specs.Standing.{FitsInt, FrameFits, FrameStands, HeapFits, HeapStands}
+use Rattle.dv_words.specs.Standing.{FitsInt, FrameFits, FrameStands, HeapStands}
 use Rattle.dv_words.specs.State.{WordHeap}
 use Rattle.dv_steps.specs.Local.{word_local}
 use Rattle.dv_steps.specs.Mem.{WordHere, WordLeft, word_mem}
@@ -103,5 +103,5 @@ pub record HereStands (w : WordHere) (h : Here) : Type 0 where
 -- of each instruction on objects, each division and each cast
 abbrev pub MemStepsFollow : Type 0
 MemStepsFollow =
-    (op : Op) (w : WordHere) (h : Here) → OperandsFit h.image op → FrameFits w.frame → HeapFits w.heap → HereStands w h →
+    (op : Op) (w : WordHere) (h : Here) → OperandsFit h.image op → FrameFits w.frame → HereStands w h →
     DidStands h (word_mem w op) (mem h op)
