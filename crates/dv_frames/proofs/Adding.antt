@@ -26,11 +26,12 @@ frame_added ks ls vs ws zs h b rk rl rv ru ml mw a p q base f g i j =
   where
     top : reverse ls ≡ level.Code h (length vs) ∷ reverse ks
     top = ap reverse f ∙ reverse_on ks (level.Code h b) ∙ ap (λ (n : ℕ). level.Code h n ∷ reverse ks) base
+
     laid : AreLaid (reverse ls) ws
     laid =
-      let P : List Level → Type 0 = λ rs. AreLaid rs ws in
-      let Q : List ℕ → Type 0 = λ us. AreLaid (level.Code h (length vs) ∷ reverse ks) us in
-      subst P (sym top) (subst Q (sym g) (laid_on (reverse ks) vs zs h a.laid))
+        let P : List Level → Type 0 = λ rs. AreLaid rs ws in
+        let Q : List ℕ → Type 0 = λ us. AreLaid (level.Code h (length vs) ∷ reverse ks) us in
+        subst P (sym top) (subst Q (sym g) (laid_on (reverse ks) vs zs h a.laid))
 
 pub record_added : (ks ls : List Level) (ws : List ℕ) (c : ClassId) (r : Bool) (rk rl ru ml mw : ℕ) → IsArena ks ws rk ru ml mw → length ks < ml → ls ≡ ks ++ level.Init c r ∷ [] → rk ≤ rl → IsArena ls ws rl ru ml mw
 record_added ks ls ws c r rk rl ru ml mw a p f i =

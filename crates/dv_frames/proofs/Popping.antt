@@ -34,10 +34,10 @@ room_for_frame a s ks h b us v l p q e f =
     let few : length ks + 1 ≤ a.most_levels = omega (arith, ap length e, length-append ks (level.Code h b ∷ [])) in
     let whole : length (drop b a.words.items) + length (take b a.words.items) ≤ a.most_words = omega (arith, length-drop b a.words.items, length-take b a.words.items, below.0) in
     subst R (sym f) (again a.levels.items ks (level.Code h b) a.words.items a.most_levels a.most_words s (stack_of ks (take b a.words.items) a.most_levels a.most_words) e v
-      (has_space ks (take b a.words.items) a.most_levels a.most_words (length (drop b a.words.items)) below.1 (omega arith) whole))
+    (has_space ks (take b a.words.items) a.most_levels a.most_words (length (drop b a.words.items)) below.1 (omega arith) whole))
 
 pub room_for_record : (a : Inside) (s : WordStack) (ks : List Level) (c : ClassId) (r : Bool) → stack_in a ≡ s → IsLaid a → length a.levels.items ≤ a.most_levels → length a.words.items ≤ a.most_words → a.levels.items ≡ ks ++ level.Init c r ∷ [] → HasRoomAgain s (stack_of ks a.words.items a.most_levels a.most_words)
 room_for_record a s ks c r v l p q e =
     let few : length ks + 1 ≤ a.most_levels = omega (arith, ap length e, length-append ks (level.Init c r ∷ [])) in
     again a.levels.items ks (level.Init c r) a.words.items a.most_levels a.most_words s (stack_of ks a.words.items a.most_levels a.most_words) e v
-      (has_space ks a.words.items a.most_levels a.most_words 0 (laid_below a.levels.items ks (level.Init c r) a.words.items e l) (omega arith) (omega arith))
+    (has_space ks a.words.items a.most_levels a.most_words 0 (laid_below a.levels.items ks (level.Init c r) a.words.items e l) (omega arith) (omega arith))
