@@ -55,12 +55,10 @@ pub fn given(head: Head, kept: Kept) -> Head
 pub fn handling(head: Head, at: u32, object: u32) -> Head
     ensures { result ≡ on_head (λ f. frames.handling f at object) head }
 {
-    Head {
-        method: head.method,
-        at,
-        result: Kept::None,
-        caught: Some(object),
-    }
+    let mut on = head;
+    go(&mut on, at);
+    on.caught = Some(object);
+    on
 }
 
 /// The head of a frame.

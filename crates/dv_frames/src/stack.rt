@@ -106,12 +106,12 @@ impl Stack {
         let count = count(args);
         let zeros = usize::from(registers).saturating_sub(count);
         self.check_room(zeros + count)?;
-        let base = self.words.len();
-        let from = base_of(self.levels.as_slice(), base);
+        let end = self.words.len();
+        let from = base_of(self.levels.as_slice(), end);
         add_zeros(&mut self.words, zeros);
-        add_args(&mut self.words, from, base, args);
+        add_args(&mut self.words, from, end, args);
         let head = begin(method);
-        add_level(&mut self.levels, Level::Code { head, base });
+        add_level(&mut self.levels, Level::Code { head, base: end });
         Ok(())
     }
 
