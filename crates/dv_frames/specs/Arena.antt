@@ -24,6 +24,7 @@ pub record IsArena (levels : List Level) (words : List ℕ) (room_for_levels roo
   pub laid : AreLaid (reverse levels) words
   pub few_levels : length levels ≤ most_levels
   pub few_words : length words ≤ most_words
+  -- the levels can be counted in 32 bits
   pub counted : most_levels < 2 ^ 32
   -- there is room for all that may be pushed
   pub level_room : most_levels ≤ room_for_levels

@@ -1,4 +1,4 @@
--- What is on top of a stack.
+-- What is on top of a stack, and what a push and the start of a record make of one.
 use Rattle.std.specs.Prelude.{◌≡◌, true, List, ◌∷◌, Option, Some, None, Result, Ok, Err}
 use Rattle.dv_words.specs.declared.state.Level.{Level}
 use Rattle.dv_words.specs.declared.state.Level.TheVariants as level

@@ -6,16 +6,16 @@ ghost use Rattle.dv_words.specs.declared.state.Level.TheVariants as words_level;
 ghost use Rattle.dv_frames.specs.Heads.{frame as framed};
 ghost use Rattle.dv_frames.specs.Tops.{head_of, started, top_of, IsCode, IsPushed};
 
-use crate::args::{add_args, add_words, add_zeros, count};
+use crate::arguments::{add_args, add_words, add_zeros, count};
 use crate::heads::{Head, begin, given, go, handling, head_of_frame};
 use crate::levels::{Level, Top, add_level, base_of, last, set_last, start_last};
-use crate::regs::{at, set_at};
+use crate::registers::{read, write};
 use dv_defs::{ClassId, MethodId, Regs, Seq};
 use dv_words::{Frame, Kept};
 use std::alloc::{AllocError, Global};
 use std::marker::Model;
 
-/// A stack has no room for the level: its levels or its words would be too many.
+/// A stack has no room for one level more: its levels or its words would be too many.
 #[derive(Clone, Copy, PartialEq, Eq, Debug)]
 pub struct Full;
 
@@ -76,7 +76,8 @@ impl Stack {
         }
     }
 
-    /// Pushes the first frame of a method: its registers are 0, but for the argument words in the last ones.
+    /// Pushes the first frame of a method. Its registers are 0, but for the argument words in the last ones; where it has fewer
+    /// registers than argument words, these are its registers.
     ///
     /// # Errors
     ///
@@ -95,7 +96,7 @@ impl Stack {
         Ok(())
     }
 
-    /// Pushes the first frame of a method, whose arguments are registers of the frame on top.
+    /// Pushes the first frame of a method, whose argument words are those registers of the frame on top, as a push does.
     ///
     /// # Errors
     ///
@@ -115,7 +116,7 @@ impl Stack {
         Ok(())
     }
 
-    /// Pushes the record of a class that isn't running yet.
+    /// Pushes the record of a class whose initialiser wasn't called yet (JLS 12.4.2).
     ///
     /// # Errors
     ///
@@ -198,7 +199,7 @@ impl Stack {
     }
 
     /// The registers of the frame on top, none where that isn't code.
-    fn regs(&self) -> &[u32]
+    fn registers(&self) -> &[u32]
         ensures { result.now ≡ top_regs self.now.levels }
     {
         let base = base_of(self.levels.as_slice(), self.words.len());
@@ -209,7 +210,7 @@ impl Stack {
     pub fn word(&self, reg: u32) -> u32
         ensures { result ≡ word_at (top_regs self.now.levels) reg }
     {
-        at(self.regs(), reg as usize)
+        read(self.registers(), reg as usize)
     }
 
     /// Writes a register of the frame on top, where it is there.
@@ -217,7 +218,7 @@ impl Stack {
         ensures { self.new ≡ changed (λ f. with_word f reg word) self.old }
     {
         let base = base_of(self.levels.as_slice(), self.words.len());
-        set_at(&mut self.words[base..], reg as usize, word);
+        write(&mut self.words[base..], reg as usize, word);
     }
 
     /// Puts another head on the frame on top, where there is one.
@@ -277,7 +278,7 @@ impl Stack {
         let Some(head) = self.head() else {
             unreachable!()
         };
-        let regs = Vec::from_slice(*self.words.allocator(), self.regs())?;
+        let regs = Vec::from_slice(*self.words.allocator(), self.registers())?;
         Ok(Frame {
             method: head.method,
             at: head.at,

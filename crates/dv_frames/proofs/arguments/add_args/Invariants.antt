@@ -1,7 +1,7 @@
 use Rattle.std.proofs.Common.{◌≡◌, ◌≤◌, ◌++◌, take, drop, map, vec_capacity}
 use Rattle.dv_defs.specs.Op.{named_registers}
 use Rattle.dv_words.specs.Words.{word_at}
-use Rattle.dv_frames.proofs.args.add_args.Given as goal
+use Rattle.dv_frames.proofs.arguments.add_args.Given as goal
 
 abbrev pub invariant-loop-k : goal.invariant-loop-k
 invariant-loop-k l = record {

@@ -7,12 +7,12 @@ ghost use Rattle.dv_words.specs.Words.{word_at};
 pub fn word(words: &[u32], reg: u16) -> u32
     ensures { result ≡ word_at words.now reg }
 {
-    at(words, usize::from(reg))
+    read(words, usize::from(reg))
 }
 
 /// The word at a place, 0 past the end.
 #[inline]
-pub fn at(words: &[u32], place: usize) -> u32
+pub fn read(words: &[u32], place: usize) -> u32
     ensures { result ≡ word_at words.now place }
 {
     match words.get(place) {
@@ -27,7 +27,7 @@ pub fn two_words(words: &[u32], reg: u16) -> (u32, u32)
     ensures { result ≡ (word_at words.now reg, word_at words.now (suc reg)) }
 {
     let place = usize::from(reg);
-    (at(words, place), at(words, place + 1))
+    (read(words, place), read(words, place + 1))
 }
 
 /// Writes a register, where it is there.
@@ -35,12 +35,12 @@ pub fn two_words(words: &[u32], reg: u16) -> (u32, u32)
 pub fn set_word(words: &mut [u32], reg: u16, word: u32)
     ensures { words.new ≡ slice_set words.old reg word }
 {
-    set_at(words, usize::from(reg), word);
+    write(words, usize::from(reg), word);
 }
 
 /// Writes the word at a place, where it is there.
 #[inline]
-pub fn set_at(words: &mut [u32], place: usize, word: u32)
+pub fn write(words: &mut [u32], place: usize, word: u32)
     ensures { words.new ≡ slice_set words.old place word }
 {
     if place < words.len() {
@@ -54,8 +54,8 @@ pub fn set_two(words: &mut [u32], reg: u16, low: u32, high: u32)
     ensures { words.new ≡ slice_set (slice_set words.old reg low) (suc reg) high }
 {
     let place = usize::from(reg);
-    set_at(words, place, low);
-    set_at(words, place + 1, high);
+    write(words, place, low);
+    write(words, place + 1, high);
 }
 
 /// Tells a caller's proof that words have 32 bits. It does nothing.

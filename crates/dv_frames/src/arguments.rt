@@ -1,9 +1,9 @@
 // The words of a frame as it is entered: zeros, and then the arguments.
-ghost use Rattle.std.specs.Prelude.{◌≡◌, ◌+◌, ◌<◌, ◌≤◌, ◌^◌, ◌++◌, ◌∷◌, [], drop, length, map, replicate, slice_index, take, vec_capacity, vec_len};
+ghost use Rattle.std.specs.Prelude.{◌≡◌, ◌+◌, ◌<◌, ◌≤◌, ◌++◌, ◌∷◌, [], drop, length, map, replicate, slice_index, take, vec_capacity, vec_len};
 ghost use Rattle.dv_defs.specs.Op.{named_registers};
 ghost use Rattle.dv_words.specs.Words.{word_at};
 
-use crate::regs::at;
+use crate::registers::read;
 use dv_defs::Regs;
 
 /// Adds so many zeros where there is room.
@@ -36,8 +36,7 @@ pub fn count(args: &Regs) -> usize
 /// A register that an instruction names.
 fn register(args: &Regs, place: usize) -> usize
     requires { place < length (named_registers args.now) }
-    ensures register { result ≡ slice_index (named_registers args.now) place }
-    ensures small { result < 2 ^ 17 }
+    ensures { result ≡ slice_index (named_registers args.now) place }
 {
     if args.range {
         usize::from(args.first[0]) + place
@@ -52,7 +51,7 @@ fn word_within(words: &[u32], from: usize, end: usize, reg: usize) -> u32
     requires rises { from ≤ end }
     ensures { result ≡ word_at (drop from (take end words.now)) reg }
 {
-    at(&words[from..end], reg)
+    read(&words[from..end], reg)
 }
 
 /// Adds a word where there is room.
