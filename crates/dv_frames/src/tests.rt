@@ -1,65 +1,232 @@
 // Stacks with ample memory, by rows worked by hand.
 use crate::*;
-use dv_defs::{ClassId, MethodId, Regs, Seq};
-use dv_words::{Frame, Kept};
-use std::process::Abort;
+use dv_defs::{ClassId, MethodId, Regs};
+use dv_words::Kept;
 use std::test::Fail;
 
 const CALLER: MethodId = MethodId(3);
 
 const CALLEE: MethodId = MethodId(5);
 
-// The registers of the caller in the rows below.
+const CLASS: ClassId = ClassId(6);
+
+// The registers of the caller in the rows of arguments.
 const WORDS: [u32; 8] = [10, 20, 30, 40, 50, 60, 70, 0xffff_ffff];
 
-fn is_at(rt: &impl Abort, stack: &Stack, method: MethodId, at: u32) {
-    let top = Top::Code { method, at };
-    assert_eq!(rt; stack.top(), Some(top));
-    assert_eq!(rt; stack.place(), (method, at));
+/// What is called.
+#[derive(Clone, Copy, Debug)]
+enum Call {
+    Push(MethodId, u16, [u32; 2]),
+    Record,
+    Start,
+    Set(u32, u32),
+    Go(u32),
+    Give(Kept),
+    Handle(u32, u32),
+    Pop,
+}
+
+fn make(stack: &mut Stack, call: Call) -> Result<(), Full> {
+    match call {
+        Call::Push(method, registers, args) => stack.push(method, registers, &args)?,
+        Call::Record => stack.push_record(CLASS)?,
+        Call::Start => stack.start_record(),
+        Call::Set(reg, word) => stack.set_word(reg, word),
+        Call::Go(at) => stack.go(at),
+        Call::Give(kept) => stack.give(kept),
+        Call::Handle(at, object) => stack.enter_handler(at, object),
+        Call::Pop => {
+            stack.pop();
+        }
+    }
+    Ok(())
+}
+
+/// A frame's method, address, result and caught object, or whether a record is running.
+#[derive(Clone, Copy, PartialEq, Eq, Debug)]
+enum Seen {
+    Nothing,
+    Code(MethodId, u32, Kept, Option<u32>),
+    Record(bool),
+}
+
+fn on_top(stack: &Stack) -> Seen {
+    match stack.top() {
+        None => Seen::Nothing,
+        Some(Top::Init { running, .. }) => Seen::Record(running),
+        Some(Top::Code { .. }) => {
+            let (method, at) = stack.place();
+            match stack.head() {
+                Some(head) => Seen::Code(method, at, head.result, head.caught),
+                None => Seen::Nothing,
+            }
+        }
+    }
 }
 
 #[test]
-fn levels_are_counted(rt: HostRuntime) -> Result<(), Fail> {
-    let mut stack = Stack::new(rt.alloc(), 1024, 16384)?;
-    assert_eq!(rt; stack.top(), None);
-    for _ in 0..1024 {
-        stack.push(CALLER, 0, &[])?;
+fn calls_in_turn(rt: HostRuntime) -> Result<(), Fail> {
+    let none = Kept::None;
+    // A call, whether there is room for it, and then the levels, what is on top, and its first three registers.
+    let rows = [
+        (Call::Pop, true, 0, Seen::Nothing, [0, 0, 0]),
+        (Call::Go(1), true, 0, Seen::Nothing, [0, 0, 0]),
+        (
+            Call::Push(CALLER, 3, [8, 9]),
+            true,
+            1,
+            Seen::Code(CALLER, 0, none, None),
+            [0, 8, 9],
+        ),
+        (
+            Call::Set(0, 7),
+            true,
+            1,
+            Seen::Code(CALLER, 0, none, None),
+            [7, 8, 9],
+        ),
+        (
+            Call::Set(3, 1),
+            true,
+            1,
+            Seen::Code(CALLER, 0, none, None),
+            [7, 8, 9],
+        ),
+        (
+            Call::Start,
+            true,
+            1,
+            Seen::Code(CALLER, 0, none, None),
+            [7, 8, 9],
+        ),
+        (
+            Call::Go(4),
+            true,
+            1,
+            Seen::Code(CALLER, 4, none, None),
+            [7, 8, 9],
+        ),
+        (
+            Call::Push(CALLEE, 4, [1, 2]),
+            false,
+            1,
+            Seen::Code(CALLER, 4, none, None),
+            [7, 8, 9],
+        ),
+        (
+            Call::Push(CALLEE, 0, [1, 2]),
+            true,
+            2,
+            Seen::Code(CALLEE, 0, none, None),
+            [1, 2, 0],
+        ),
+        (
+            Call::Handle(6, 77),
+            true,
+            2,
+            Seen::Code(CALLEE, 6, none, Some(77)),
+            [1, 2, 0],
+        ),
+        (
+            Call::Give(Kept::One(5)),
+            true,
+            2,
+            Seen::Code(CALLEE, 6, Kept::One(5), Some(77)),
+            [1, 2, 0],
+        ),
+        (
+            Call::Handle(2, 78),
+            true,
+            2,
+            Seen::Code(CALLEE, 2, none, Some(78)),
+            [1, 2, 0],
+        ),
+        (
+            Call::Give(Kept::Two(5, 6)),
+            true,
+            2,
+            Seen::Code(CALLEE, 2, Kept::Two(5, 6), Some(78)),
+            [1, 2, 0],
+        ),
+        (
+            Call::Go(3),
+            true,
+            2,
+            Seen::Code(CALLEE, 3, none, None),
+            [1, 2, 0],
+        ),
+        (Call::Record, true, 3, Seen::Record(false), [0, 0, 0]),
+        (Call::Set(0, 1), true, 3, Seen::Record(false), [0, 0, 0]),
+        (Call::Go(1), true, 3, Seen::Record(false), [0, 0, 0]),
+        (Call::Record, false, 3, Seen::Record(false), [0, 0, 0]),
+        (Call::Start, true, 3, Seen::Record(true), [0, 0, 0]),
+        (
+            Call::Pop,
+            true,
+            2,
+            Seen::Code(CALLEE, 3, none, None),
+            [1, 2, 0],
+        ),
+        (
+            Call::Pop,
+            true,
+            1,
+            Seen::Code(CALLER, 4, none, None),
+            [7, 8, 9],
+        ),
+        (
+            Call::Push(CALLEE, 0, [3, 4]),
+            true,
+            2,
+            Seen::Code(CALLEE, 0, none, None),
+            [3, 4, 0],
+        ),
+    ];
+    let mut stack = Stack::new(rt.alloc(), 3, 6)?;
+    for (next, fits, levels, top, words) in rows {
+        assert_eq!(rt; make(&mut stack, next).is_ok(), fits, "{next:?}");
+        assert_eq!(rt; stack.levels(), levels, "{next:?}");
+        assert_eq!(rt; on_top(&stack), top, "{next:?}");
+        assert_eq!(rt;
+            [stack.word(0), stack.word(1), stack.word(2)],
+            words,
+            "{next:?}"
+        );
     }
-    stack.go(7);
-    assert_eq!(rt; stack.push(CALLEE, 0, &[]), Err(Full));
-    assert_eq!(rt; stack.push_record(ClassId(1)), Err(Full));
-    assert_eq!(rt; stack.levels(), 1024);
-    is_at(&rt, &stack, CALLER, 7);
-    let top = Top::Code {
-        method: CALLER,
-        at: 7,
-    };
-    assert_eq!(rt; stack.pop(), Some(top));
-    stack.push(CALLER, 0, &[])?;
-    assert_eq!(rt; stack.levels(), 1024);
+    Ok(())
+}
+
+fn filled(stack: &mut Stack, registers: u16, count: u32) -> Result<(), Full> {
+    for _ in 0..count {
+        stack.push(CALLER, registers, &[])?;
+    }
     Ok(())
 }
 
 #[test]
-fn words_are_counted(rt: HostRuntime) -> Result<(), Fail> {
-    let mut stack = Stack::new(rt.alloc(), 1024, 16384)?;
-    for _ in 0..64 {
-        stack.push(CALLER, 256, &[])?;
+fn room_is_counted(rt: HostRuntime) -> Result<(), Fail> {
+    // Of 1,024 levels and 16,384 words: the registers of a frame, and how many such frames there may be.
+    for (registers, most) in [
+        (0, 1024),
+        (16, 1024),
+        (17, 963),
+        (256, 64),
+        (16384, 1),
+        (16385, 0),
+    ] {
+        let mut stack = Stack::new(rt.alloc(), 1024, 16384)?;
+        filled(&mut stack, registers, most)?;
+        assert_eq!(rt;
+            stack.push(CALLEE, registers, &[]),
+            Err(Full),
+            "{registers}"
+        );
+        assert_eq!(rt; stack.levels(), most, "{registers}");
+        if stack.pop().is_some() {
+            filled(&mut stack, registers, 1)?;
+        }
+        assert_eq!(rt; stack.levels(), most, "{registers}");
     }
-    stack.set_word(255, 9);
-    assert_eq!(rt; stack.push(CALLEE, 1, &[]), Err(Full));
-    assert_eq!(rt; stack.push(CALLEE, 0, &[4]), Err(Full));
-    assert_eq!(rt; stack.levels(), 64);
-    assert_eq!(rt;
-        (stack.word(0), stack.word(255), stack.word(256)),
-        (0, 9, 0)
-    );
-    stack.push(CALLEE, 0, &[])?;
-    assert_eq!(rt; stack.levels(), 65);
-    stack.pop();
-    stack.pop();
-    stack.push(CALLEE, 256, &[])?;
-    assert_eq!(rt; (stack.levels(), stack.word(255)), (64, 0));
     Ok(())
 }
 
@@ -86,113 +253,25 @@ fn arguments_are_the_last_registers(rt: HostRuntime) -> Result<(), Fail> {
             range,
         };
         stack.push_call(CALLEE, registers, &args)?;
-        is_at(&rt, &stack, CALLEE, 0);
         let frame = stack.copy_top()?;
         assert_eq!(rt; frame.regs.items(), words);
-        stack.pop();
-        assert_eq!(rt; stack.word(7), 0xffff_ffff);
     }
     Ok(())
 }
 
 #[test]
-fn a_call_finds_no_room(rt: HostRuntime) -> Result<(), Fail> {
-    let mut stack = Stack::new(rt.alloc(), 3, 5)?;
-    stack.push(CALLER, 3, &[1])?;
-    let args = Regs {
-        count: 1,
-        first: [2, 0, 0, 0, 0],
-        range: false,
-    };
-    assert_eq!(rt; stack.push_call(CALLEE, 3, &args), Err(Full));
-    assert_eq!(rt; stack.word(2), 1);
-    stack.push_call(CALLEE, 2, &args)?;
-    assert_eq!(rt; (stack.word(0), stack.word(1)), (0, 1));
-    Ok(())
-}
-
-#[test]
-fn records_start(rt: HostRuntime) -> Result<(), Fail> {
-    let mut stack = Stack::new(rt.alloc(), 4, 4)?;
-    stack.push(CALLER, 1, &[8])?;
-    stack.push_record(ClassId(6))?;
-    let class = ClassId(6);
-    let waits = Top::Init {
-        class,
-        running: false,
-    };
-    let runs = Top::Init {
-        class,
-        running: true,
-    };
-    assert_eq!(rt; stack.top(), Some(waits));
-    assert_eq!(rt; stack.head(), None);
-    assert_eq!(rt; stack.word(0), 0);
-    stack.set_word(0, 3);
-    stack.go(9);
-    stack.start_record();
-    assert_eq!(rt; stack.top(), Some(runs));
-    assert_eq!(rt; stack.pop(), Some(runs));
-    stack.start_record();
-    is_at(&rt, &stack, CALLER, 0);
-    assert_eq!(rt; stack.word(0), 8);
-    Ok(())
-}
-
-#[test]
-fn frames_go_on(rt: HostRuntime) -> Result<(), Fail> {
-    let mut stack = Stack::new(rt.alloc(), 4, 4)?;
-    assert_eq!(rt; stack.pop(), None);
-    stack.push(CALLER, 2, &[8])?;
-    stack.give(Kept::Two(1, 2));
-    let gave = Head {
-        method: CALLER,
-        at: 0,
-        result: Kept::Two(1, 2),
-        caught: None,
-    };
-    assert_eq!(rt; stack.head(), Some(gave));
-    assert_eq!(rt; (low_word(gave.result), high_word(gave.result)), (1, 2));
-    stack.enter_handler(4, 77);
-    let caught = handling(begin(CALLER), 4, 77);
-    assert_eq!(rt; stack.head(), Some(caught));
-    assert_eq!(rt;
-        (caught.at, caught.result, caught.caught),
-        (4, Kept::None, Some(77))
-    );
-    stack.go(6);
-    is_at(&rt, &stack, CALLER, 6);
-    let mut gone = caught;
-    go(&mut gone, 6);
-    assert_eq!(rt; stack.head(), Some(gone));
-    assert_eq!(rt; (gone.at, gone.result, gone.caught), (6, Kept::None, None));
-    Ok(())
-}
-
-#[test]
 fn a_frame_is_copied_and_put_back(rt: HostRuntime) -> Result<(), Fail> {
-    let mut stack = Stack::new(rt.alloc(), 4, 4)?;
-    stack.push(CALLER, 1, &[8])?;
-    stack.push(CALLEE, 3, &[9])?;
+    let mut stack = Stack::new(rt.alloc(), 2, 4)?;
+    stack.push(CALLER, 3, &[8])?;
     stack.give(Kept::One(12));
-    is_at(&rt, &stack, CALLEE, 0);
     let mut frame = stack.copy_top()?;
-    let was = Frame {
-        method: CALLEE,
-        at: 0,
-        regs: Seq::of(vec![in rt.alloc(); 0u32, 0, 9]?),
-        result: Kept::One(12),
-        caught: None,
-    };
-    assert_eq!(rt; frame, was);
-    stack.go(5);
-    stack.set_word(0, 33);
+    assert_eq!(rt; frame.regs.items(), [0, 0, 8].as_slice());
+    stack.enter_handler(5, 6);
+    stack.set_word(2, 33);
     frame.at = 2;
     stack.set_top(&frame);
-    is_at(&rt, &stack, CALLEE, 2);
     assert_eq!(rt; stack.copy_top()?, frame);
-    stack.pop();
-    assert_eq!(rt; stack.word(0), 8);
+    assert_eq!(rt; on_top(&stack), Seen::Code(CALLER, 2, Kept::One(12), None));
     Ok(())
 }
 
@@ -210,7 +289,6 @@ fn registers_are_read_and_written(rt: HostRuntime) {
         let mut words = [4, 5, 6];
         words_are_whole(&words);
         assert_eq!(rt; two_words(&words, reg), two);
-        assert_eq!(rt; word(&words, reg), two.0);
         set_two(&mut words, reg, 1, 2);
         assert_eq!(rt; words, written);
         set_word(&mut words, reg, two.0);
@@ -220,26 +298,43 @@ fn registers_are_read_and_written(rt: HostRuntime) {
 
 #[test]
 fn results_have_words(rt: HostRuntime) {
-    let rows = [
+    for (kept, low, high) in [
         (Kept::None, 0, 0),
         (Kept::One(7), 7, 0),
         (Kept::Two(7, 8), 7, 8),
-    ];
-    for (kept, low, high) in rows {
+    ] {
         assert_eq!(rt; (low_word(kept), high_word(kept)), (low, high));
     }
 }
 
 #[test]
-fn levels_are_written(rt: HostRuntime) -> Result<(), Fail> {
-    let head = begin(CALLER);
-    let mut levels = vec![in rt.alloc(); Level::Code { head, base: 4 }]?;
-    set_last(&mut levels, begin(CALLEE));
-    let changed = Level::Code {
-        head: begin(CALLEE),
-        base: 4,
+fn heads_go_on(rt: HostRuntime) {
+    let mut head = given(handling(begin(CALLER), 4, 77), Kept::One(1));
+    let handles = Head {
+        method: CALLER,
+        at: 4,
+        result: Kept::One(1),
+        caught: Some(77),
     };
-    assert_eq!(rt; last(levels.as_slice()), Some(changed));
-    assert_eq!(rt; (base_of(levels.as_slice(), 9), base_of(&[], 9)), (4, 9));
-    Ok(())
+    assert_eq!(rt; head, handles);
+    go(&mut head, 6);
+    let mut levels = [Level::Code {
+        head: handles,
+        base: 4,
+    }];
+    set_last(&mut levels, head);
+    let went = Head {
+        method: CALLER,
+        at: 6,
+        result: Kept::None,
+        caught: None,
+    };
+    assert_eq!(rt;
+        last(&levels),
+        Some(Level::Code {
+            head: went,
+            base: 4
+        })
+    );
+    assert_eq!(rt; (base_of(&levels, 9), base_of(&[], 9)), (4, 9));
 }
