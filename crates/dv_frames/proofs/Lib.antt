@@ -1,0 +1,5 @@
+pub mod Adding
+pub mod Cutting
+pub mod Naming
+pub mod Popping
+pub mod Room

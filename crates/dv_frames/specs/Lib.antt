@@ -1,0 +1,3 @@
+pub mod Heads
+pub mod Arena
+pub mod Tops

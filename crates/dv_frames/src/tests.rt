@@ -1,0 +1,340 @@
+// Stacks with ample memory, by rows worked by hand.
+use crate::*;
+use dv_defs::{ClassId, MethodId, Regs};
+use dv_words::Kept;
+use std::test::Fail;
+
+const CALLER: MethodId = MethodId(3);
+
+const CALLEE: MethodId = MethodId(5);
+
+const CLASS: ClassId = ClassId(6);
+
+// The registers of the caller in the rows of arguments.
+const WORDS: [u32; 8] = [10, 20, 30, 40, 50, 60, 70, 0xffff_ffff];
+
+/// What is called.
+#[derive(Clone, Copy, Debug)]
+enum Call {
+    Push(MethodId, u16, [u32; 2]),
+    Record,
+    Start,
+    Set(u32, u32),
+    Go(u32),
+    Give(Kept),
+    Handle(u32, u32),
+    Pop,
+}
+
+fn make(stack: &mut Stack, call: Call) -> Result<(), Full> {
+    match call {
+        Call::Push(method, registers, args) => stack.push(method, registers, &args)?,
+        Call::Record => stack.push_record(CLASS)?,
+        Call::Start => stack.start_record(),
+        Call::Set(reg, word) => stack.set_word(reg, word),
+        Call::Go(at) => stack.go(at),
+        Call::Give(kept) => stack.give(kept),
+        Call::Handle(at, object) => stack.enter_handler(at, object),
+        Call::Pop => {
+            stack.pop();
+        }
+    }
+    Ok(())
+}
+
+/// A frame's method, address, result and caught object, or whether a record is running.
+#[derive(Clone, Copy, PartialEq, Eq, Debug)]
+enum Seen {
+    Nothing,
+    Code(MethodId, u32, Kept, Option<u32>),
+    Record(bool),
+}
+
+fn on_top(stack: &Stack) -> Seen {
+    match stack.top() {
+        None => Seen::Nothing,
+        Some(Top::Init { running, .. }) => Seen::Record(running),
+        Some(Top::Code { .. }) => {
+            let (method, at) = stack.place();
+            match stack.head() {
+                Some(head) => Seen::Code(method, at, head.result, head.caught),
+                None => Seen::Nothing,
+            }
+        }
+    }
+}
+
+#[test]
+fn calls_in_turn(rt: HostRuntime) -> Result<(), Fail> {
+    let none = Kept::None;
+    // A call, whether there is room for it, and then the levels, what is on top, and its first three registers.
+    let rows = [
+        (Call::Pop, true, 0, Seen::Nothing, [0, 0, 0]),
+        (Call::Go(1), true, 0, Seen::Nothing, [0, 0, 0]),
+        (
+            Call::Push(CALLER, 3, [8, 9]),
+            true,
+            1,
+            Seen::Code(CALLER, 0, none, None),
+            [0, 8, 9],
+        ),
+        (
+            Call::Set(0, 7),
+            true,
+            1,
+            Seen::Code(CALLER, 0, none, None),
+            [7, 8, 9],
+        ),
+        (
+            Call::Set(3, 1),
+            true,
+            1,
+            Seen::Code(CALLER, 0, none, None),
+            [7, 8, 9],
+        ),
+        (
+            Call::Start,
+            true,
+            1,
+            Seen::Code(CALLER, 0, none, None),
+            [7, 8, 9],
+        ),
+        (
+            Call::Go(4),
+            true,
+            1,
+            Seen::Code(CALLER, 4, none, None),
+            [7, 8, 9],
+        ),
+        (
+            Call::Push(CALLEE, 4, [1, 2]),
+            false,
+            1,
+            Seen::Code(CALLER, 4, none, None),
+            [7, 8, 9],
+        ),
+        (
+            Call::Push(CALLEE, 0, [1, 2]),
+            true,
+            2,
+            Seen::Code(CALLEE, 0, none, None),
+            [1, 2, 0],
+        ),
+        (
+            Call::Handle(6, 77),
+            true,
+            2,
+            Seen::Code(CALLEE, 6, none, Some(77)),
+            [1, 2, 0],
+        ),
+        (
+            Call::Give(Kept::One(5)),
+            true,
+            2,
+            Seen::Code(CALLEE, 6, Kept::One(5), Some(77)),
+            [1, 2, 0],
+        ),
+        (
+            Call::Handle(2, 78),
+            true,
+            2,
+            Seen::Code(CALLEE, 2, none, Some(78)),
+            [1, 2, 0],
+        ),
+        (
+            Call::Give(Kept::Two(5, 6)),
+            true,
+            2,
+            Seen::Code(CALLEE, 2, Kept::Two(5, 6), Some(78)),
+            [1, 2, 0],
+        ),
+        (
+            Call::Go(3),
+            true,
+            2,
+            Seen::Code(CALLEE, 3, none, None),
+            [1, 2, 0],
+        ),
+        (Call::Record, true, 3, Seen::Record(false), [0, 0, 0]),
+        (Call::Set(0, 1), true, 3, Seen::Record(false), [0, 0, 0]),
+        (Call::Go(1), true, 3, Seen::Record(false), [0, 0, 0]),
+        (Call::Record, false, 3, Seen::Record(false), [0, 0, 0]),
+        (Call::Start, true, 3, Seen::Record(true), [0, 0, 0]),
+        (
+            Call::Pop,
+            true,
+            2,
+            Seen::Code(CALLEE, 3, none, None),
+            [1, 2, 0],
+        ),
+        (
+            Call::Pop,
+            true,
+            1,
+            Seen::Code(CALLER, 4, none, None),
+            [7, 8, 9],
+        ),
+        (
+            Call::Push(CALLEE, 0, [3, 4]),
+            true,
+            2,
+            Seen::Code(CALLEE, 0, none, None),
+            [3, 4, 0],
+        ),
+    ];
+    let mut stack = Stack::new(rt.alloc(), 3, 6)?;
+    for (next, fits, levels, top, words) in rows {
+        assert_eq!(rt; make(&mut stack, next).is_ok(), fits, "{next:?}");
+        assert_eq!(rt; stack.levels(), levels, "{next:?}");
+        assert_eq!(rt; on_top(&stack), top, "{next:?}");
+        assert_eq!(rt;
+            [stack.word(0), stack.word(1), stack.word(2)],
+            words,
+            "{next:?}"
+        );
+    }
+    Ok(())
+}
+
+fn filled(stack: &mut Stack, registers: u16, count: u32) -> Result<(), Full> {
+    for _ in 0..count {
+        stack.push(CALLER, registers, &[])?;
+    }
+    Ok(())
+}
+
+#[test]
+fn room_is_counted(rt: HostRuntime) -> Result<(), Fail> {
+    // Of 1,024 levels and 16,384 words: the registers of a frame, and how many such frames there may be.
+    for (registers, most) in [
+        (0, 1024),
+        (16, 1024),
+        (17, 963),
+        (256, 64),
+        (16384, 1),
+        (16385, 0),
+    ] {
+        let mut stack = Stack::new(rt.alloc(), 1024, 16384)?;
+        filled(&mut stack, registers, most)?;
+        assert_eq!(rt;
+            stack.push(CALLEE, registers, &[]),
+            Err(Full),
+            "{registers}"
+        );
+        assert_eq!(rt; stack.levels(), most, "{registers}");
+        if stack.pop().is_some() {
+            filled(&mut stack, registers, 1)?;
+        }
+        assert_eq!(rt; stack.levels(), most, "{registers}");
+    }
+    Ok(())
+}
+
+#[test]
+fn arguments_are_the_last_registers(rt: HostRuntime) -> Result<(), Fail> {
+    // Whether the form is the range form, how many registers it names, those that it writes, how many the method has, and what they are.
+    let rows: [(bool, u8, [u16; 5], u16, &[u32]); 9] = [
+        (false, 0, [0, 0, 0, 0, 0], 2, &[0, 0]),
+        (false, 1, [7, 1, 1, 1, 1], 1, &[0xffff_ffff]),
+        (false, 2, [3, 1, 0, 0, 0], 4, &[0, 0, 40, 20]),
+        (false, 5, [4, 3, 2, 1, 0], 5, &[50, 40, 30, 20, 10]),
+        (false, 2, [5, 6, 0, 0, 0], 1, &[60, 70]),
+        (true, 0, [2, 0, 0, 0, 0], 1, &[0]),
+        (true, 3, [1, 0, 0, 0, 0], 4, &[0, 20, 30, 40]),
+        (true, 8, [0, 0, 0, 0, 0], 8, &WORDS),
+        (true, 3, [6, 0, 0, 0, 0], 3, &[70, 0xffff_ffff, 0]),
+    ];
+    for (range, count, first, registers, words) in rows {
+        let mut stack = Stack::new(rt.alloc(), 2, 16)?;
+        stack.push(CALLER, 0, &WORDS)?;
+        let args = Regs {
+            count,
+            first,
+            range,
+        };
+        stack.push_call(CALLEE, registers, &args)?;
+        let frame = stack.copy_top()?;
+        assert_eq!(rt; frame.regs.items(), words);
+    }
+    Ok(())
+}
+
+#[test]
+fn a_frame_is_copied_and_put_back(rt: HostRuntime) -> Result<(), Fail> {
+    let mut stack = Stack::new(rt.alloc(), 2, 4)?;
+    stack.push(CALLER, 3, &[8])?;
+    stack.give(Kept::One(12));
+    let mut frame = stack.copy_top()?;
+    assert_eq!(rt; frame.regs.items(), [0, 0, 8].as_slice());
+    stack.enter_handler(5, 6);
+    stack.set_word(2, 33);
+    frame.at = 2;
+    stack.set_top(&frame);
+    assert_eq!(rt; stack.copy_top()?, frame);
+    assert_eq!(rt; on_top(&stack), Seen::Code(CALLER, 2, Kept::One(12), None));
+    Ok(())
+}
+
+#[test]
+fn registers_are_read_and_written(rt: HostRuntime) {
+    // The register, what is read there of 4, 5 and 6, and what stands there after 1 and 2 are written from it on.
+    let rows = [
+        (0, (4, 5), [1, 2, 6]),
+        (1, (5, 6), [4, 1, 2]),
+        (2, (6, 0), [4, 5, 1]),
+        (3, (0, 0), [4, 5, 6]),
+        (65535, (0, 0), [4, 5, 6]),
+    ];
+    for (reg, two, written) in rows {
+        let mut words = [4, 5, 6];
+        words_are_whole(&words);
+        assert_eq!(rt; two_words(&words, reg), two);
+        set_two(&mut words, reg, 1, 2);
+        assert_eq!(rt; words, written);
+        set_word(&mut words, reg, two.0);
+        assert_eq!(rt; word(&words, reg), two.0);
+    }
+}
+
+#[test]
+fn results_have_words(rt: HostRuntime) {
+    for (kept, low, high) in [
+        (Kept::None, 0, 0),
+        (Kept::One(7), 7, 0),
+        (Kept::Two(7, 8), 7, 8),
+    ] {
+        assert_eq!(rt; (low_word(kept), high_word(kept)), (low, high));
+    }
+}
+
+#[test]
+fn heads_go_on(rt: HostRuntime) {
+    let mut head = given(handling(begin(CALLER), 4, 77), Kept::One(1));
+    let handles = Head {
+        method: CALLER,
+        at: 4,
+        result: Kept::One(1),
+        caught: Some(77),
+    };
+    assert_eq!(rt; head, handles);
+    go(&mut head, 6);
+    let mut levels = [Level::Code {
+        head: handles,
+        base: 4,
+    }];
+    set_last(&mut levels, head);
+    let went = Head {
+        method: CALLER,
+        at: 6,
+        result: Kept::None,
+        caught: None,
+    };
+    assert_eq!(rt;
+        last(&levels),
+        Some(Level::Code {
+            head: went,
+            base: 4
+        })
+    );
+    assert_eq!(rt; (base_of(&levels, 9), base_of(&[], 9)), (4, 9));
+}
