@@ -1,8 +1,6 @@
 -- The head of a frame: all of it but its registers.
 use Rattle.std.specs.Prelude.{ℕ, List, []}
 use Rattle.dv_words.specs.declared.state.Frame.{Frame}
-use Rattle.dv_words.specs.declared.state.Kept.{Kept}
-use Rattle.dv_words.specs.declared.state.Kept.TheVariants as kept
 use Rattle.dv_frames.specs.declared.heads.Head.{Head}
 
 -- the frame of a head with these registers
@@ -15,14 +13,3 @@ head_in f = record { method = f.method; at = f.at; result = f.result; caught = f
 -- what becomes of a head where this becomes of its frame
 abbrev pub on_head : (Frame → Frame) → Head → Head
 on_head g h = head_in (g (frame h []))
-
--- the word of a result, of a long its low word; 0 where none is kept
-abbrev pub low_word : Kept → ℕ
-low_word kept.None = 0
-low_word (kept.One w) = w
-low_word (kept.Two low high) = low
-
--- the high word of a long, 0 where none is kept
-abbrev pub high_word : Kept → ℕ
-high_word (kept.Two low high) = high
-high_word k = 0

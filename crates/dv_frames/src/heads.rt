@@ -1,7 +1,7 @@
 // A frame without its registers.
 ghost use Rattle.std.specs.Prelude.{◌≡◌, []};
 ghost use Rattle.dv_words.specs.Stacks as frames;
-ghost use Rattle.dv_frames.specs.Heads.{head_in, high_word as high_word_of, low_word as low_word_of, on_head};
+ghost use Rattle.dv_frames.specs.Heads.{head_in, on_head};
 
 use dv_defs::MethodId;
 use dv_words::{Frame, Kept};
@@ -76,7 +76,7 @@ pub fn head_of_frame(frame: &Frame) -> Head
 /// The word of a result, of a long its low word; 0 where none is kept.
 #[inline]
 pub fn low_word(kept: Kept) -> u32
-    ensures { result ≡ low_word_of kept }
+    ensures { result ≡ frames.low_word kept }
 {
     match kept {
         Kept::None => 0,
@@ -88,7 +88,7 @@ pub fn low_word(kept: Kept) -> u32
 /// The high word of a long, 0 where none is kept.
 #[inline]
 pub fn high_word(kept: Kept) -> u32
-    ensures { result ≡ high_word_of kept }
+    ensures { result ≡ frames.high_word kept }
 {
     match kept {
         Kept::Two(_, high) => high,

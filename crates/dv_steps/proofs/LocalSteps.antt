@@ -20,7 +20,8 @@ use Rattle.dv_words.specs.declared.state.Kept.TheVariants as kept
 use Rattle.dv_words.specs.Standing.{AllFit, Fits, FitsInt, FrameFits, FrameStands, IsResult, IsWord}
 use Rattle.dv_words.specs.Words.{int_of, word_at, word_of}
 use Rattle.dv_steps.specs.Laws.{ArgFits, ConstantFits, LocalStepsFollow}
-use Rattle.dv_steps.specs.Local.{arg_at, branched, caught_word, high_of, int_at, low_of, long_at, put, put_two, reg_word, word_local}
+use Rattle.dv_words.specs.Stacks.{high_word, low_word}
+use Rattle.dv_steps.specs.Local.{arg_at, branched, caught_word, int_at, long_at, put, put_two, reg_word, word_local}
 use Rattle.dv_steps.proofs.Comparing.{on_test}
 use Rattle.dv_steps.proofs.Numbers.{again, compare_again, from_again, int_fits, operate_again, unary_again}
 use Rattle.dv_steps.proofs.Reading.{on_caught, on_int, on_kept_int, on_kept_object, on_long, on_pending_int, on_pending_object, on_two}
@@ -59,7 +60,7 @@ module _ (next : ℕ) (s : Frame) (f g : tagged_frame.Frame) (fits : FrameFits s
   putting_two : (a low high : ℕ) → (let r : Reads tagged_frame.Frame = Ok (tagged.put_two f next a low high) in r) ≡ Ok g → FrameStands (put_two s next a low high) g
   putting_two a low high e = along (put_two s next a low high) (tagged.put_two f next a low high) g (stand_put_two s f next a low high h) e
 
-  moved_long : (k : Kept) (p : Pending) (a : ℕ) → IsResult k p → put_pending_two f next a p ≡ Ok g → FrameStands (put_two s next a (low_of k) (high_of k)) g
+  moved_long : (k : Kept) (p : Pending) (a : ℕ) → IsResult k p → put_pending_two f next a p ≡ Ok g → FrameStands (put_two s next a (low_word k) (high_word k)) g
   moved_long (kept.Two low high) (pending.Two lo hi) a is e = putting_two a low high (rw (is.0, is.1) e)
   moved_long kept.None (pending.Two lo hi) a is e = absurd is
   moved_long (kept.One w) (pending.Two lo hi) a is e = absurd is
@@ -83,9 +84,9 @@ module _ (next : ℕ) (s : Frame) (f g : tagged_frame.Frame) (fits : FrameFits s
   follows (MoveInt a b) l e = on_kept_int (FrameStands (put s next a (reg_word s b))) (reg_at f.regs b) (reg_word s b) _ g (is_at b) (λ x is d. putting a _ x is d) e
   follows (MoveLong a b) l e = putting_two a _ _ (on_two (reg_at f.regs b) (reg_at f.regs (suc b)) (reg_word s b) (reg_word s (suc b)) _ g (is_at b) (is_at (suc b)) e)
   follows (MoveObject a b) l e = on_kept_object (FrameStands (put s next a (reg_word s b))) (reg_at f.regs b) (reg_word s b) _ g (is_at b) (λ x is d. putting a _ x is d) e
-  follows (ResultInt a) l e = on_pending_int (FrameStands (put s next a (low_of s.result))) f.result s.result _ g h.result (λ x is d. putting a _ x is d) e
+  follows (ResultInt a) l e = on_pending_int (FrameStands (put s next a (low_word s.result))) f.result s.result _ g h.result (λ x is d. putting a _ x is d) e
   follows (ResultLong a) l e = moved_long s.result f.result a h.result e
-  follows (ResultObject a) l e = on_pending_object (FrameStands (put s next a (low_of s.result))) f.result s.result _ g h.result (λ x is d. putting a _ x is d) e
+  follows (ResultObject a) l e = on_pending_object (FrameStands (put s next a (low_word s.result))) f.result s.result _ g h.result (λ x is d. putting a _ x is d) e
   follows (TakeCaught a) l e = putting a (caught_word s.caught) (v.Ref (caught_word s.caught)) refl (on_caught f.caught s.caught _ g h.caught e)
   follows (Const a n) l e = putting a (word_of n) (const_value n) (const_stands n l) e
   follows (ConstLong a n) l e = putting_two a _ _ e

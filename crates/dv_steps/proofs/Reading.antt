@@ -11,7 +11,8 @@ use Rattle.dv_words.specs.declared.state.Kept.{Kept}
 use Rattle.dv_words.specs.declared.state.Kept.TheVariants as kept
 use Rattle.dv_words.specs.Standing.{IsResult, IsWord}
 use Rattle.dv_words.specs.Words.{int_of}
-use Rattle.dv_steps.specs.Local.{caught_word, low_of}
+use Rattle.dv_words.specs.Stacks.{low_word}
+use Rattle.dv_steps.specs.Local.{caught_word}
 
 pub on_int : {A : Type 0} (y : Value) (w : ℕ) (go : ℤ → Reads A) (g : A) → IsWord w y → on_next (read_int y) go ≡ Ok g → go (int_of w) ≡ Ok g
 on_int v.Zero w go g is e = subst (λ (n : ℕ). go (int_of n) ≡ Ok g) (sym is) e
@@ -46,14 +47,14 @@ on_long (v.Lo n) (v.Hi m) w u go g is js e = rw (is, js) e
 on_long (v.Lo n) y w u go g is js e = absurd (cc)
 on_long x y w u go g is js e = absurd (cc)
 
-pub on_pending_int : {A : Type 0} (P : A → Type 0) (p : Pending) (k : Kept) (go : Value → Reads A) (g : A) → IsResult k p → ((x : Value) → IsWord (low_of k) x → go x ≡ Ok g → P g) → on_next (pending_int p) go ≡ Ok g → P g
+pub on_pending_int : {A : Type 0} (P : A → Type 0) (p : Pending) (k : Kept) (go : Value → Reads A) (g : A) → IsResult k p → ((x : Value) → IsWord (low_word k) x → go x ≡ Ok g → P g) → on_next (pending_int p) go ≡ Ok g → P g
 on_pending_int P (pending.One v.Zero) (kept.One w) go g is next e = next v.Zero is e
 on_pending_int P (pending.One (v.Num n)) (kept.One w) go g is next e = next (v.Num n) is e
 on_pending_int P (pending.One x) (kept.Two low high) go g is next e = absurd is
 on_pending_int P (pending.One x) kept.None go g is next e = absurd is
 on_pending_int P p k go g is next e = absurd (cc)
 
-pub on_pending_object : {A : Type 0} (P : A → Type 0) (p : Pending) (k : Kept) (go : Value → Reads A) (g : A) → IsResult k p → ((x : Value) → IsWord (low_of k) x → go x ≡ Ok g → P g) → on_next (pending_object p) go ≡ Ok g → P g
+pub on_pending_object : {A : Type 0} (P : A → Type 0) (p : Pending) (k : Kept) (go : Value → Reads A) (g : A) → IsResult k p → ((x : Value) → IsWord (low_word k) x → go x ≡ Ok g → P g) → on_next (pending_object p) go ≡ Ok g → P g
 on_pending_object P (pending.One v.Zero) (kept.One w) go g is next e = next v.Zero is e
 on_pending_object P (pending.One (v.Ref o)) (kept.One w) go g is next e = next (v.Ref o) is e
 on_pending_object P (pending.One x) (kept.Two low high) go g is next e = absurd is

@@ -5,9 +5,7 @@ use Rattle.dv_defs.specs.Numbers.{operate32, operate64, unary_at, compare, compa
 use Rattle.dv_defs.specs.Op.{Op, Nop, MoveInt, MoveLong, MoveObject, ResultInt, ResultLong, ResultObject, TakeCaught, Const, ConstLong, IntUnary, LongUnary, IntToLong, LongToInt, IntOp, LongOp, LongShift, CompareLong, Goto, IfBoth, IfZero, Switch, Arg, Reg, Lit}
 use Rattle.dv_machine.specs.Local.{case_of}
 use Rattle.dv_words.specs.declared.state.Frame.{Frame}
-use Rattle.dv_words.specs.declared.state.Kept.{Kept}
-use Rattle.dv_words.specs.declared.state.Kept.TheVariants as kept
-use Rattle.dv_words.specs.Stacks.{gone, with_word}
+use Rattle.dv_words.specs.Stacks.{gone, high_word, low_word, with_word}
 use Rattle.dv_words.specs.Words.{int_of, word_at, word_of}
 
 -- ---- what registers hold
@@ -25,16 +23,6 @@ long_at s k = long_of (reg_word s k) (reg_word s (suc k))
 abbrev pub arg_at : Frame → Arg → ℤ
 arg_at s (Reg r) = int_at s r
 arg_at s (Lit n) = n
-
--- the words of a result, 0 where none is kept
-abbrev pub low_of : Kept → ℕ
-low_of kept.None = 0
-low_of (kept.One w) = w
-low_of (kept.Two low high) = low
-
-abbrev pub high_of : Kept → ℕ
-high_of (kept.Two low high) = high
-high_of k = 0
 
 -- the object that was caught, 0 where there is none
 abbrev pub caught_word : Option ℕ → ℕ
@@ -66,9 +54,9 @@ word_local Nop s next = gone s next
 word_local (MoveInt a b) s next = put s next a (reg_word s b)
 word_local (MoveLong a b) s next = put_two s next a (reg_word s b) (reg_word s (suc b))
 word_local (MoveObject a b) s next = put s next a (reg_word s b)
-word_local (ResultInt a) s next = put s next a (low_of s.result)
-word_local (ResultLong a) s next = put_two s next a (low_of s.result) (high_of s.result)
-word_local (ResultObject a) s next = put s next a (low_of s.result)
+word_local (ResultInt a) s next = put s next a (low_word s.result)
+word_local (ResultLong a) s next = put_two s next a (low_word s.result) (high_word s.result)
+word_local (ResultObject a) s next = put s next a (low_word s.result)
 word_local (TakeCaught a) s next = put s next a (caught_word s.caught)
 word_local (Const a n) s next = put_int s next a n
 word_local (ConstLong a n) s next = put_long s next a n

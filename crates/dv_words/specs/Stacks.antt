@@ -29,6 +29,17 @@ gone f to = record { method = f.method; at = to; regs = f.regs; result = kept.No
 abbrev pub given : Frame → Kept → Frame
 given f k = record { method = f.method; at = f.at; regs = f.regs; result = k; caught = f.caught }
 
+-- the word of a result, of a long its low word; 0 where none is kept
+abbrev pub low_word : Kept → ℕ
+low_word kept.None = 0
+low_word (kept.One w) = w
+low_word (kept.Two low high) = low
+
+-- the high word of a long, 0 where none is kept
+abbrev pub high_word : Kept → ℕ
+high_word (kept.Two low high) = high
+high_word k = 0
+
 -- on at a handler that caught an object
 abbrev pub handling : Frame → ℕ → ℕ → Frame
 handling f to o = record { method = f.method; at = to; regs = f.regs; result = kept.None; caught = Some o }
