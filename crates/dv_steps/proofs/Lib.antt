@@ -9,3 +9,4 @@ mod Narrowing
 mod MemReading
 mod Short
 mod MemSteps
+pub mod Fetching
