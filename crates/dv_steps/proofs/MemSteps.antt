@@ -41,7 +41,7 @@ use Rattle.dv_words.specs.Stacks as stack
 use Rattle.dv_words.specs.Standing.{AllFit, AreWords, Fits, FitsInt, FrameFits, FrameStands, HeapFits, HeapStands, IsWord}
 use Rattle.dv_words.specs.State.{WordHeap}
 use Rattle.dv_words.specs.Words.{int_of, word_at, word_of}
-use Rattle.dv_steps.specs.Laws.{ArgFits, ArraysAreShort, DidStands, HereStands, IsMade, IsNoString, LeftStands, MemStepsFollow, OperandsFit}
+use Rattle.dv_steps.specs.Laws.{ArgFits, IsBounded, DidStands, HereStands, IsMade, IsNoString, LeftStands, MemStepsFollow, OperandsFit}
 use Rattle.dv_steps.specs.Local.{arg_at, int_at, long_at, put, put_two, reg_word}
 use Rattle.dv_steps.specs.Mem as over
 use Rattle.dv_steps.specs.Mem.{WordHere, WordLeft, onward, word_mem}
@@ -51,7 +51,7 @@ use Rattle.dv_steps.proofs.MemReading.{IsArray, Taken, array_there, passed, read
 use Rattle.dv_steps.proofs.Narrowing.{number_narrowed, reference_narrowed, zero_narrowed}
 use Rattle.dv_steps.proofs.Numbers.{again, bits_small, int_fits, operate_again}
 use Rattle.dv_steps.proofs.Objects.{IsPlain, is_static_word, is_word_in, length_is, type_is, words_stored, statics_stored}
-use Rattle.dv_steps.proofs.Short.{IsShortGot, IsShortOption, array_length, array_short, class_object_short, grown_short, intern_short, new_array_short, object_short, static_short, stored_short}
+use Rattle.dv_steps.proofs.Short.{IsBoundedGot, IsBoundedOption, array_length, array_bounded, class_object_bounded, grown_bounded, intern_bounded, new_array_bounded, object_bounded, static_bounded, stored_bounded}
 use Rattle.dv_steps.proofs.Registers.{is_word_at, stand_gone, stand_put, stand_put_two, words_set}
 
 module _ (w : WordHere) (h : Here) (frame_fits : FrameFits w.frame) (stands : HereStands w h) where
@@ -63,12 +63,12 @@ module _ (w : WordHere) (h : Here) (frame_fits : FrameFits w.frame) (stands : He
 
   -- ---- what is left
 
-  left_stands : (s : Frame) (f : tagged_frame.Frame) (x : WordHeap) (y : Heap) → FrameStands s f → HeapStands x y → ArraysAreShort y → DidStands h (onward x s) (steps.onward h (with_heap h.shared y) f)
-  left_stands s f x y a b c = record { frame = f; levels = refl; shared = refl; started = refl; frame_stands = a; heap_stands = b; short = c }
+  left_stands : (s : Frame) (f : tagged_frame.Frame) (x : WordHeap) (y : Heap) → FrameStands s f → HeapStands x y → IsBounded y → DidStands h (onward x s) (steps.onward h (with_heap h.shared y) f)
+  left_stands s f x y a b c = record { frame = f; levels = refl; shared = refl; started = refl; frame_stands = a; heap_stands = b; bounded = c }
 
   -- the heap is as it was
   same_heap : (s : Frame) (f : tagged_frame.Frame) → FrameStands s f → DidStands h (onward w.heap s) (steps.onward h h.shared f)
-  same_heap s f a = record { frame = f; levels = refl; shared = refl; started = refl; frame_stands = a; heap_stands = stands.heap; short = stands.short }
+  same_heap s f a = record { frame = f; levels = refl; shared = refl; started = refl; frame_stands = a; heap_stands = stands.heap; bounded = stands.bounded }
 
 
   -- ---- tests
@@ -203,35 +203,35 @@ module _ (w : WordHere) (h : Here) (frame_fits : FrameFits w.frame) (stands : He
 
   -- ---- objects that are made
 
-  got_stands : (a : ℕ) (tag : ℕ → Value) (g : words.Got) (x : tagged.Got) → ((u o : ℕ) → u ≡ o → IsWord u (tag o)) → GotOneStands g x → ArraysAreShort x.heap → DidStands h (over.put_object w a g) (machine.put_object h a tag x)
+  got_stands : (a : ℕ) (tag : ℕ → Value) (g : words.Got) (x : tagged.Got) → ((u o : ℕ) → u ≡ o → IsWord u (tag o)) → GotOneStands g x → IsBounded x.heap → DidStands h (over.put_object w a g) (machine.put_object h a tag x)
   got_stands a tag g x is s short = left_stands (put w.frame w.next a g.object) (steps.put h.frame h.next a (tag x.object)) g.heap x.heap (put_stands a g.object (tag x.object) (is g.object x.object s.object)) s.heap short
 
-  room_got : (a : ℕ) (g : Option words.Got) (x : Option tagged.Got) → GotStands g x → IsShortGot x → DidStands h (steps.where_room g (over.put_object w a)) (steps.where_room x (machine.put_object h a v.Ref))
+  room_got : (a : ℕ) (g : Option words.Got) (x : Option tagged.Got) → GotStands g x → IsBoundedGot x → DidStands h (steps.where_room g (over.put_object w a)) (steps.where_room x (machine.put_object h a v.Ref))
   room_got a None None s short = tt
   room_got a None (Some x) s short = absurd s
   room_got a (Some g) None s short = absurd s
   room_got a (Some g) (Some x) s short = got_stands a v.Ref g x (λ u o e. e) s short
 
-  room_made : (a : ℕ) (tag : ℕ → Value) (g : Option WordHeap) (x : Option Heap) → ((u o : ℕ) → u ≡ o → IsWord u (tag o)) → OptionStands g x → IsShortOption x → DidStands h (steps.where_room g (λ heap. over.put_object w a (over.got heap))) (steps.where_room x (λ heap. machine.put_object h a tag (machine.got heap)))
+  room_made : (a : ℕ) (tag : ℕ → Value) (g : Option WordHeap) (x : Option Heap) → ((u o : ℕ) → u ≡ o → IsWord u (tag o)) → OptionStands g x → IsBoundedOption x → DidStands h (steps.where_room g (λ heap. over.put_object w a (over.got heap))) (steps.where_room x (λ heap. machine.put_object h a tag (machine.got heap)))
   room_made a tag None None is s short = tt
   room_made a tag None (Some x) is s short = absurd s
   room_made a tag (Some g) None is s short = absurd s
   room_made a tag (Some g) (Some x) is s short = got_stands a tag (over.got g) (machine.got x) is (record { object = newest_is g x s; heap = s }) short
 
-  new_array_stands : (a : ℕ) (t : Ty) (n : ℤ) → FitsInt n → DidStands h (over.new_array w a t n) (machine.new_array h a t n)
-  new_array_stands a t (negsuc n) l = refl
-  new_array_stands a t (pos n) l = room_made a v.Ref _ _ (λ u o e. e) (array_added w.heap h.shared.heap t n stands.heap) (array_short h.shared.heap t n l stands.short)
+  new_array_stands : (a : ℕ) (t : Ty) (n : ℤ) → DidStands h (over.new_array w a t n) (machine.new_array h a t n)
+  new_array_stands a t (negsuc n) = refl
+  new_array_stands a t (pos n) = room_made a v.Ref _ _ (λ u o e. e) (array_added w.heap h.shared.heap t n stands.heap) (array_bounded h.shared.heap t n stands.bounded)
 
   new_object : (a c : ℕ) → DidStands h (word_mem w (New a c)) (mem h (New a c))
   new_object a c =
       let same : words.alloc_object w.image w.heap c ≡ words.alloc_object h.image w.heap c = ap (λ i. words.alloc_object i w.heap c) stands.image in
       subst (λ (o : Option WordHeap). DidStands h (steps.where_room o (λ heap. over.put_object w a (over.got heap))) (mem h (New a c))) (sym same)
-      (room_made a (v.Uninit h.frame.at) _ _ (λ u o e. e) (object_added h.image w.heap h.shared.heap c stands.heap) (object_short h.image h.shared.heap c stands.short))
+      (room_made a (v.Uninit h.frame.at) _ _ (λ u o e. e) (object_added h.image w.heap h.shared.heap c stands.heap) (object_bounded h.image h.shared.heap c stands.bounded))
 
   made_array : (a b : ℕ) (t : Ty) → DidStands h (word_mem w (NewArray a b t)) (mem h (NewArray a b t))
   made_array a b t =
       reads_int h (word_mem w (NewArray a b t)) (reg_at h.frame.regs b) (reg_word w.frame b) (machine.new_array h a t) (is_at b)
-      (new_array_stands a t (int_at w.frame b) (int_fits (reg_word w.frame b) (reg_fits b)))
+      (new_array_stands a t (int_at w.frame b))
 
   -- ---- arrays
 
@@ -246,7 +246,7 @@ module _ (w : WordHere) (h : Here) (frame_fits : FrameFits w.frame) (stands : He
       let n = words.length_of w.heap (suc p) in
       let m = tagged.length_of h.shared.heap (suc p) in
       let same : n ≡ m = length_is w.heap h.shared.heap p stands.heap in
-      let few : m < 2 ^ 31 = array_length h.shared.heap p array.ty stands.short array.kind in
+      let few : m < 2 ^ 31 = array_length h.shared.heap p array.ty stands.bounded array.kind in
       same_heap (put w.frame w.next a n) (steps.put h.frame h.next a (v.Num (pos m))) (put_stands a n (v.Num (pos m)) (ap int_of same ∙ to_z_pos w32 m few))
 
   length_got : (a b : ℕ) → DidStands h (word_mem w (ArrayLength a b)) (mem h (ArrayLength a b))
@@ -313,7 +313,7 @@ module _ (w : WordHere) (h : Here) (frame_fits : FrameFits w.frame) (stands : He
   stored_stands : (p k : ℕ) (ws : List ℕ) (xs : List Value) → IsPlain (tagged.kind_of h.shared.heap (suc p)) → AreWords ws xs → DidStands h (onward (over.stored w.heap (suc p) k ws) (stack.gone w.frame w.next)) (steps.onward h (with_heap h.shared (machine.stored h.shared.heap (suc p) k xs)) (steps.gone h.frame h.next h.frame.regs))
   stored_stands p k ws xs plain are =
       left_stands (stack.gone w.frame w.next) (steps.gone h.frame h.next h.frame.regs) (over.stored w.heap (suc p) k ws) (machine.stored h.shared.heap (suc p) k xs) gone_stands
-      (words_stored w.heap h.shared.heap p k ws xs plain stands.heap are) (stored_short h.shared.heap (suc p) k xs stands.short)
+      (words_stored w.heap h.shared.heap p k ws xs plain stands.heap are) (stored_bounded h.shared.heap (suc p) k xs stands.bounded)
 
   element_put : (s : Suffix) (a p k : ℕ) (xs : List Value) → IsPlain (tagged.kind_of h.shared.heap (suc p)) → Puts s a (machine.component_of h (suc p)) xs → DidStands h (over.array_put w (suc p) s a k) (machine.array_put h (suc p) s xs k)
   element_put s a p k xs plain puts =
@@ -444,7 +444,7 @@ module _ (w : WordHere) (h : Here) (frame_fits : FrameFits w.frame) (stands : He
       value_taken a x.def.ty _ (word_mem w (StaticPut s a x))
       (λ xs taken. left_stands (stack.gone w.frame w.next) (steps.gone h.frame h.next h.frame.regs) (over.static_stored w.heap x.id 0 ws) (machine.static_stored h.shared.heap x.id 0 (machine.narrowed_all x.def.ty xs)) gone_stands
       (statics_stored w.heap h.shared.heap x.id 0 ws (machine.narrowed_all x.def.ty xs) stands.heap taken.kept)
-      (static_short h.shared.heap x.id 0 (machine.narrowed_all x.def.ty xs) stands.short))
+      (static_bounded h.shared.heap x.id 0 (machine.narrowed_all x.def.ty xs) stands.bounded))
 
   -- ---- arrays that are filled
 
@@ -534,7 +534,7 @@ module _ (w : WordHere) (h : Here) (frame_fits : FrameFits w.frame) (stands : He
   last_pushed [] k = refl
   last_pushed (q ∷ ks) k = last_pushed ks k
 
-  filled_array_stands : (x : WordHeap) (y : Heap) (n : ℕ) (ws : List ℕ) (xs : List Value) → HeapStands x y → ArraysAreShort y → tagged.newest y ≡ suc n → IsPlain (tagged.kind_of y (suc n)) → AreWords ws xs → DidStands h (over.filled_array w ws x) (machine.filled_array h xs y)
+  filled_array_stands : (x : WordHeap) (y : Heap) (n : ℕ) (ws : List ℕ) (xs : List Value) → HeapStands x y → IsBounded y → tagged.newest y ≡ suc n → IsPlain (tagged.kind_of y (suc n)) → AreWords ws xs → DidStands h (over.filled_array w ws x) (machine.filled_array h xs y)
   filled_array_stands x y n ws xs s short new plain are =
       let same : words.newest x ≡ tagged.newest y = newest_is x y s in
       let heaps : HeapStands (over.stored x (suc n) 0 ws) (machine.stored y (suc n) 0 xs) = words_stored x y n 0 ws xs plain s are in
@@ -543,16 +543,16 @@ module _ (w : WordHere) (h : Here) (frame_fits : FrameFits w.frame) (stands : He
       let frame : FrameStands (stack.given (stack.gone w.frame w.next) (kept.One (words.newest x))) (steps.with_result h.frame h.next (pending.One (v.Ref (tagged.newest y)))) =
           record { method = stands.frame.method; at = stands.next; regs = stands.frame.regs; result = same; caught = refl } in
       left_stands (stack.given (stack.gone w.frame w.next) (kept.One (words.newest x))) (steps.with_result h.frame h.next (pending.One (v.Ref (tagged.newest y)))) (over.stored x (words.newest x) 0 ws) (machine.stored y (tagged.newest y) 0 xs) frame both
-      (stored_short y (tagged.newest y) 0 xs short)
+      (stored_bounded y (tagged.newest y) 0 xs short)
 
-  room_by : (a b : Bool) (x : WordHeap) (y : Heap) (d : WordHeap → Did WordLeft) (e : Heap → Did Left) → a ≡ b → DidStands h (d x) (e y) → DidStands h (steps.where_room (elim a [ true ↦ Some x | false ↦ None ]) d) (steps.where_room (elim b [ true ↦ Some y | false ↦ None ]) e)
-  room_by true true x y d e same s = s
+  room_by : (a b : Bool) (x : WordHeap) (y : Heap) (d : WordHeap → Did WordLeft) (e : Heap → Did Left) → a ≡ b → (b ≡ true → DidStands h (d x) (e y)) → DidStands h (steps.where_room (elim a [ true ↦ Some x | false ↦ None ]) d) (steps.where_room (elim b [ true ↦ Some y | false ↦ None ]) e)
+  room_by true true x y d e same s = s refl
   room_by false false x y d e same s = tt
   room_by true false x y d e same s = absurd (cc)
   room_by false true x y d e same s = absurd (cc)
 
-  new_filled : (rs : List ℕ) (t : Ty) → length rs < 2 ^ 31 → DidStands h (word_mem w (Filled rs t)) (mem h (Filled rs t))
-  new_filled rs t few =
+  new_filled : (rs : List ℕ) (t : Ty) → DidStands h (word_mem w (Filled rs t)) (mem h (Filled rs t))
+  new_filled rs t =
       let n = length rs in
       let ws = map (reg_word w.frame) rs in
       let cost = 2 + n * words_of (component t) in
@@ -563,21 +563,21 @@ module _ (w : WordHere) (h : Here) (frame_fits : FrameFits w.frame) (stands : He
       let plain = array_plain (tagged.kind_of y (suc (length h.shared.heap.kinds))) t (last_pushed h.shared.heap.kinds (kind_of_tagged.Array t)) in
       each (component t) rs _ (word_mem w (Filled rs t))
       (λ xs are. room_by (words.has_room w.heap cost) (tagged.has_room h.shared.heap cost) x y (over.filled_array w ws) (machine.filled_array h xs) (room_is w.heap h.shared.heap cost stands.heap)
-      (filled_array_stands x y (length h.shared.heap.kinds) ws xs stand (new_array_short h.shared.heap t n few stands.short) new plain are))
+      (λ room. filled_array_stands x y (length h.shared.heap.kinds) ws xs stand (new_array_bounded h.shared.heap t n stands.bounded room) new plain are))
 
   -- ---- each of them
 
   pub mem_stands : (op : Op) → OperandsFit h.image op → DidStands h (word_mem w op) (mem h op)
   mem_stands (IntDivide o a b c) l = divided o a b c l
   mem_stands (LongDivide o a b c) l = divided_long o a b c
-  mem_stands (ConstString a u) l = room_got a _ _ (intern_stands w.heap h.shared.heap u stands.heap) (intern_short h.shared.heap u stands.short)
-  mem_stands (ConstClass a t) l = room_got a _ _ (class_object_stands w.heap h.shared.heap t stands.heap) (class_object_short h.shared.heap t stands.short)
+  mem_stands (ConstString a u) l = room_got a _ _ (intern_stands w.heap h.shared.heap u stands.heap) (intern_bounded h.shared.heap u stands.bounded)
+  mem_stands (ConstClass a t) l = room_got a _ _ (class_object_stands w.heap h.shared.heap t stands.heap) (class_object_bounded h.shared.heap t stands.bounded)
   mem_stands (Cast a t) l = cast a t
   mem_stands (InstanceOf a b t) l = asked a b t
   mem_stands (ArrayLength a b) l = length_got a b
   mem_stands (New a c) l = new_object a c
   mem_stands (NewArray a b t) l = made_array a b t
-  mem_stands (Filled rs t) l = new_filled rs t l
+  mem_stands (Filled rs t) l = new_filled rs t
   mem_stands (Fill a width ns) l = filled_in a width ns l
   mem_stands (Throw a) l = thrown a
   mem_stands (ArrayGet s a b c) l = array_got s a b c

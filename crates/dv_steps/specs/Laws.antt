@@ -11,7 +11,7 @@ use Rattle.dv_defs.specs.declared.run.Value.TheVariants as v
 use Rattle.dv_defs.specs.Heap.{Cells, Heap, kind_of}
 use Rattle.dv_defs.specs.Images.{Image}
 use Rattle.dv_defs.specs.Names.{string_name}
-use Rattle.dv_defs.specs.Op.{Op, Const, FieldGet, FieldPut, Fill, Filled, IntDivide, IntOp, Arg, Reg, Lit}
+use Rattle.dv_defs.specs.Op.{Op, Const, FieldGet, FieldPut, Fill, IntDivide, IntOp, Arg, Reg, Lit}
 use Rattle.dv_defs.specs.Order.{fits}
 use Rattle.dv_defs.specs.Pools.{Field, class_type}
 use Rattle.dv_defs.specs.Types.{component, of_class, words_of}
@@ -46,23 +46,27 @@ LocalStepsFollow =
 
 -- ---- instructions on objects
 
--- an array's length is an int
+-- the length of an array or a string is an int
 abbrev pub IsShort : Kind → Cells → Type 0
 IsShort (kind.Array t) xs = length xs / words_of (component t) < 2 ^ 31
+IsShort (kind.Str s) xs = length s < 2 ^ 31
 IsShort k xs = Unit {0}
 
-abbrev pub ArraysAreShort : Heap → Type 0
-ArraysAreShort heap = AllZip IsShort heap.kinds heap.cells
+-- words are counted, and may be no more than ints can say
+pub record IsBounded (heap : Heap) : Type 0 where
+  pub short : AllZip IsShort heap.kinds heap.cells
+  pub limit : ℕ
+  pub counted : heap.limit ≡ Some limit
+  pub few : limit < 2 ^ 31
 
 -- no string fits the class that declares the field
 abbrev pub IsNoString : Image → Field → Type 0
 IsNoString image x = fits image (of_class string_name) (class_type image x.info.class.0) ≡ false
 
--- what the units spell, and what linking gives: a filled array is short, and a string has no field
+-- what the units spell, and what linking gives: a string has no field
 abbrev pub OperandsFit : Image → Op → Type 0
 OperandsFit image (FieldGet s a b x) = IsNoString image x
 OperandsFit image (FieldPut s a b x) = IsNoString image x
-OperandsFit image (Filled rs t) = length rs < 2 ^ 31
 OperandsFit image op = ConstantFits op
 
 -- what a constructor makes is an object of a class
@@ -78,7 +82,7 @@ pub record LeftStands (h : Here) (t : WordLeft) (l : Left) : Type 0 where
   pub started : l.started ≡ None
   pub frame_stands : FrameStands t.frame frame
   pub heap_stands : HeapStands t.heap l.shared.heap
-  pub short : ArraysAreShort l.shared.heap
+  pub bounded : IsBounded l.shared.heap
 
 -- a step does what the tagged one does; where that is stuck it may do anything
 abbrev pub DidStands : Here → Did WordLeft → Did Left → Type 0
@@ -97,7 +101,7 @@ pub record HereStands (w : WordHere) (h : Here) : Type 0 where
   pub next : w.next ≡ h.next
   pub frame : FrameStands w.frame h.frame
   pub heap : HeapStands w.heap h.shared.heap
-  pub short : ArraysAreShort h.shared.heap
+  pub bounded : IsBounded h.shared.heap
   pub made : All (IsMade h.shared.heap) h.frame.regs
 
 -- of each instruction on objects, each division and each cast
