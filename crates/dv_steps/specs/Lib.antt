@@ -1,8 +1,11 @@
+pub mod Calls
 pub mod Fetching
 pub mod Laws
 pub mod Local
 pub mod Mem
 pub mod Natives
+pub mod Step
 pub mod Stepping
 pub mod Steps
 pub mod Threads
+pub mod Unwinding
