@@ -1,3 +1,4 @@
 pub mod Erasing
 pub mod Frames
 pub mod Heaps
+pub mod Machines

@@ -4,11 +4,12 @@ use Rattle.dv_defs.specs.declared.run.Value.{Value}
 use Rattle.dv_defs.specs.declared.machine.Frame as tagged
 use Rattle.dv_defs.specs.declared.machine.Level as tagged_level
 use Rattle.dv_defs.specs.Heap.{Heap}
+use Rattle.dv_machine.specs.State.{Machine}
 use Rattle.dv_words.specs.declared.state.Frame.{Frame}
 use Rattle.dv_words.specs.declared.state.Level.{Level}
-use Rattle.dv_words.specs.Erasure.{erased, erased_frame, erased_heap, erased_levels}
-use Rattle.dv_words.specs.Standing.{Fits, FrameFits, FrameStands, HeapFits, HeapStands, IsWhole, IsWholeFrame, IsWholeHeap, IsWholeLevel, IsWord, LevelFits, LevelsStand}
-use Rattle.dv_words.specs.State.{WordHeap}
+use Rattle.dv_words.specs.Erasure.{erased, erased_frame, erased_heap, erased_levels, erased_machine}
+use Rattle.dv_words.specs.Standing.{Fits, FrameFits, FrameStands, HeapFits, HeapStands, IsWhole, IsWholeFrame, IsWholeHeap, IsWholeLevel, IsWholeMachine, IsWord, LevelFits, LevelsStand, MachineFits, MachineStands}
+use Rattle.dv_words.specs.State.{WordHeap, WordMachine}
 
 abbrev pub ErasureIsExact : Type 0
 ErasureIsExact = (w : ℕ) (x : Value) → Fits w → IsWhole x → IsWord w x ↔ (w ≡ erased x)
@@ -23,3 +24,9 @@ LevelsAreErased = (ss : List Level) (ls : List tagged_level.Level) → All Level
 abbrev pub HeapsAreErased : Type 0
 HeapsAreErased =
     (w : WordHeap) (h : Heap) → length h.cells ≡ length h.kinds → HeapFits w → IsWholeHeap h → HeapStands w h ↔ (w ≡ erased_heap h)
+
+-- of machines; of threads and of what they share it follows from levels and heaps, field by field
+abbrev pub MachinesAreErased : Type 0
+MachinesAreErased =
+    (w : WordMachine) (m : Machine) → length m.shared.heap.cells ≡ length m.shared.heap.kinds → MachineFits w → IsWholeMachine m →
+    MachineStands w m ↔ (w ≡ erased_machine m)

@@ -11,13 +11,14 @@ use Rattle.dv_defs.specs.declared.machine.Level.TheVariants as level_of_tagged
 use Rattle.dv_defs.specs.declared.machine.Pending.{Pending}
 use Rattle.dv_defs.specs.declared.machine.Pending.TheVariants as pending
 use Rattle.dv_defs.specs.Heap.{Heap}
+use Rattle.dv_machine.specs.State.{Machine, Shared, Thread}
 use Rattle.dv_words.specs.declared.state.Frame.{Frame}
 use Rattle.dv_words.specs.declared.state.Kept.{Kept}
 use Rattle.dv_words.specs.declared.state.Kept.TheVariants as kept
 use Rattle.dv_words.specs.declared.state.Level.{Level}
 use Rattle.dv_words.specs.declared.state.Level.TheVariants as level
 use Rattle.dv_words.specs.Erasure.{erased_kind}
-use Rattle.dv_words.specs.State.{WordHeap}
+use Rattle.dv_words.specs.State.{WordHeap, WordMachine, WordShared, WordThread}
 use Rattle.dv_words.specs.Words.{int_of}
 
 -- what was never written is 0, and so are null and the int 0; an int is the word read as a signed number; a half of a long and the number of
@@ -76,6 +77,24 @@ pub record HeapStands (w : WordHeap) (h : Heap) : Type 0 where
   pub used : w.used ≡ h.used
   pub limit : w.limit ≡ h.limit
 
+pub record ThreadStands (w : WordThread) (t : Thread) : Type 0 where
+  pub levels : LevelsStand w.levels t.levels
+  pub end : w.end ≡ t.end
+  pub object : w.object ≡ t.object
+
+pub record SharedStands (w : WordShared) (s : Shared) : Type 0 where
+  pub heap : HeapStands w.heap s.heap
+  pub classes : w.classes ≡ s.classes
+  pub monitors : w.monitors ≡ s.monitors
+  pub output : w.output ≡ s.output
+
+pub record MachineStands (w : WordMachine) (m : Machine) : Type 0 where
+  pub threads : AllZip ThreadStands w.threads m.threads
+  pub shared : SharedStands w.shared m.shared
+  pub steps : w.steps ≡ m.steps
+  pub stop : w.stop ≡ m.stop
+  pub limits : w.limits ≡ m.limits
+
 -- ---- 32 bits
 
 abbrev pub FitsInt : ℤ → Type 0
@@ -122,5 +141,17 @@ abbrev pub LevelFits : Level → Type 0
 LevelFits (level.Code s) = FrameFits s
 LevelFits (level.Init c r) = Unit {0}
 
+abbrev pub IsWholeThread : Thread → Type 0
+IsWholeThread t = All IsWholeLevel t.levels
+
+abbrev pub IsWholeMachine : Machine → Type 0
+IsWholeMachine m = All IsWholeThread m.threads × IsWholeHeap m.shared.heap
+
 abbrev pub HeapFits : WordHeap → Type 0
 HeapFits w = All AllFit w.cells × All AllFit w.statics
+
+abbrev pub ThreadFits : WordThread → Type 0
+ThreadFits w = All LevelFits w.levels
+
+abbrev pub MachineFits : WordMachine → Type 0
+MachineFits w = All ThreadFits w.threads × HeapFits w.shared.heap

@@ -1,5 +1,5 @@
 // The laws of erasure. Each law is the contract of a function that does nothing.
-ghost use Rattle.dv_words.specs.Laws.{ErasureIsExact, FramesAreErased, HeapsAreErased, LevelsAreErased};
+ghost use Rattle.dv_words.specs.Laws.{ErasureIsExact, FramesAreErased, HeapsAreErased, LevelsAreErased, MachinesAreErased};
 
 /// A word of 32 bits stands for just the values that it is the erasure of.
 pub fn erasure_is_exact()
@@ -19,4 +19,9 @@ pub fn levels_are_erased()
 /// The same of heaps.
 pub fn heaps_are_erased()
     ensures law { HeapsAreErased }
+{}
+
+/// The same of machines.
+pub fn machines_are_erased()
+    ensures law { MachinesAreErased }
 {}
