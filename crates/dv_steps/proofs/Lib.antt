@@ -10,3 +10,4 @@ mod MemReading
 mod Short
 mod MemSteps
 pub mod Fetching
+mod Outcomes

@@ -5,6 +5,7 @@ pub mod Local
 pub mod Mem
 pub mod Natives
 pub mod Step
+pub mod StepLaws
 pub mod Stepping
 pub mod Steps
 pub mod Threads

@@ -1,0 +1,100 @@
+-- A step of a thread on words goes where the tagged machine's goes, wherever that isn't stuck.
+use Rattle.std.specs.Prelude.{◌≡◌, ℕ, false, List, Option, Some, None, Ok, All, length}
+use Rattle.std.specs.List.{AllZip}
+use Rattle.dv_defs.specs.declared.machine.Level.{Level}
+use Rattle.dv_defs.specs.declared.machine.Level.TheVariants as level
+use Rattle.dv_defs.specs.Images.{Image}
+use Rattle.dv_defs.specs.Op.{Op, Invoke}
+use Rattle.dv_defs.specs.Pools.{Field, field_at, is_static_field}
+use Rattle.dv_defs.specs.Statics as statics
+use Rattle.dv_defs.specs.Statics.{arg_words, fetch}
+use Rattle.dv_machine.specs.Accepted.{FindsRightly, HasBodies}
+use Rattle.dv_machine.specs.State.{Did, Go, Here, IsStuck, Left, Machine, NoOutput, NoRoom, NoWords, Thread, Throws, ThrowsRef}
+use Rattle.dv_machine.specs.Step as machine
+use Rattle.dv_words.specs.Standing.{FrameFits, FrameStands, LevelsStand, MachineFits, MachineStands, SharedStands, ThreadStands}
+use Rattle.dv_words.specs.State.{WordMachine, WordThread}
+use Rattle.dv_steps.specs.Laws.{IsBounded, IsMade, IsNoString, OperandsFit}
+use Rattle.dv_steps.specs.Step.{act, step}
+use Rattle.dv_steps.specs.Steps as words
+
+-- ---- what the image gives
+
+-- look-ups find what they say, natives have their own prototypes, and strings have no field
+pub record ImageFits (image : Image) : Type 0 where
+  pub finds : FindsRightly image
+  pub bodies : HasBodies image
+  pub no_strings : (n : ℕ) (x : Field) → field_at image n ≡ Some x → is_static_field x ≡ false → IsNoString image x
+
+-- an invoke names as many registers as the method has argument words
+abbrev pub RegistersFit : Op → Type 0
+RegistersFit (Invoke c ks g) = length ks ≡ arg_words g
+RegistersFit op = Unit {0}
+
+-- what stands at an address has operands that fit
+abbrev pub OperationsFit : Image → Type 0
+OperationsFit image = (n at : ℕ) (x : statics.At) → fetch image n at ≡ Some x → OperandsFit image x.op × RegistersFit x.op
+
+-- ---- a step at an instruction
+
+-- the words stand for what the instruction at hand sees
+pub record AtStands (w : words.At) (h : Here) : Type 0 where
+  pub image : w.image ≡ h.image
+  pub limits : w.limits ≡ h.limits
+  pub thread : w.thread ≡ h.thread
+  pub own : w.own ≡ h.own
+  pub next : w.next ≡ h.next
+  pub threads : AllZip ThreadStands w.threads h.threads
+  pub shared : SharedStands w.shared h.shared
+  pub frame : FrameStands w.frame h.frame
+  pub rest : LevelsStand w.rest h.rest
+  pub bounded : IsBounded h.shared.heap
+  pub made : All (IsMade h.shared.heap) h.frame.regs
+
+abbrev pub StartedStands : Option WordThread → Option Thread → Type 0
+StartedStands None None = Unit {0}
+StartedStands (Some w) (Some t) = ThreadStands w t
+StartedStands w t = ⊥
+
+pub record LeavesStand (w : words.Left) (l : Left) : Type 0 where
+  pub levels : LevelsStand w.levels l.levels
+  pub shared : SharedStands w.shared l.shared
+  pub started : StartedStands w.started l.started
+  pub bounded : IsBounded l.shared.heap
+
+-- a step does what the tagged one does; where that is stuck it may do anything
+abbrev pub OutcomeStands : Did words.Left → Did Left → Type 0
+OutcomeStands d (IsStuck why) = Unit {0}
+OutcomeStands (Go w) (Go l) = LeavesStand w l
+OutcomeStands (Throws n) (Throws m) = n ≡ m
+OutcomeStands (ThrowsRef o) (ThrowsRef p) = o ≡ p
+OutcomeStands NoWords NoWords = Unit {0}
+OutcomeStands NoRoom NoRoom = Unit {0}
+OutcomeStands NoOutput NoOutput = Unit {0}
+OutcomeStands d e = ⊥
+
+-- of every operation
+abbrev pub ActsFollow : Type 0
+ActsFollow =
+    (op : Op) (w : words.At) (h : Here) → ImageFits h.image → OperandsFit h.image op → RegistersFit op → FrameFits w.frame →
+    AtStands w h → OutcomeStands (act w op) (machine.act h op)
+
+-- ---- a step of a thread
+
+-- what constructors make in the frames of a thread are objects of classes
+abbrev pub LevelIsMade : Machine → Level → Type 0
+LevelIsMade m (level.Code f) = All (IsMade m.shared.heap) f.regs
+LevelIsMade m (level.Init c r) = Unit {0}
+
+abbrev pub ThreadIsMade : Machine → Thread → Type 0
+ThreadIsMade m t = All (LevelIsMade m) t.levels
+
+-- what a step takes of the tagged machine's state; all of it holds in well-typed states
+pub record IsFit (m : Machine) : Type 0 where
+  pub bounded : IsBounded m.shared.heap
+  pub made : All (ThreadIsMade m) m.threads
+
+-- from words that stand for a state, the step on words leads to words that stand for the state after the tagged step
+abbrev pub StepsFollow : Type 0
+StepsFollow =
+    (image : Image) (w : WordMachine) (m n : Machine) (t : ℕ) → ImageFits image → OperationsFit image → MachineFits w → IsFit m →
+    MachineStands w m → machine.step image m t ≡ Ok n → MachineStands (step image w t) n × IsBounded n.shared.heap
