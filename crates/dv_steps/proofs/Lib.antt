@@ -11,3 +11,5 @@ mod Short
 mod MemSteps
 pub mod Fetching
 mod Outcomes
+mod ThreadSteps
+mod NativeSteps

@@ -41,7 +41,7 @@ use Rattle.dv_words.specs.Stacks as stack
 use Rattle.dv_words.specs.Standing.{AllFit, AreWords, Fits, FitsInt, FrameFits, FrameStands, HeapFits, HeapStands, IsWord}
 use Rattle.dv_words.specs.State.{WordHeap}
 use Rattle.dv_words.specs.Words.{int_of, word_at, word_of}
-use Rattle.dv_steps.specs.Laws.{ArgFits, IsBounded, DidStands, HereStands, IsMade, IsNoString, LeftStands, MemStepsFollow, OperandsFit}
+use Rattle.dv_steps.specs.Laws.{ArgFits, IsBounded, DidStands, HereStands, IsMade, IsNoString, IsPlain, LeftStands, MemStepsFollow, OperandsFit}
 use Rattle.dv_steps.specs.Local.{arg_at, int_at, long_at, put, put_two, reg_word}
 use Rattle.dv_steps.specs.Mem as over
 use Rattle.dv_steps.specs.Mem.{WordHere, WordLeft, onward, word_mem}
@@ -50,7 +50,7 @@ use Rattle.dv_steps.proofs.LocalSteps.{word_fits}
 use Rattle.dv_steps.proofs.MemReading.{IsArray, Taken, array_there, passed, reads_arg, reads_int, reads_long, reads_tested, reads_two, reads_whatever, takes_int, takes_long, takes_reference}
 use Rattle.dv_steps.proofs.Narrowing.{number_narrowed, reference_narrowed, zero_narrowed}
 use Rattle.dv_steps.proofs.Numbers.{again, bits_small, int_fits, operate_again}
-use Rattle.dv_steps.proofs.Objects.{IsPlain, is_static_word, is_word_in, length_is, type_is, words_stored, statics_stored}
+use Rattle.dv_steps.proofs.Objects.{is_static_word, is_word_in, length_is, type_is, words_stored, statics_stored}
 use Rattle.dv_steps.proofs.Short.{IsBoundedGot, IsBoundedOption, array_length, array_bounded, class_object_bounded, grown_bounded, intern_bounded, new_array_bounded, object_bounded, static_bounded, stored_bounded}
 use Rattle.dv_steps.proofs.Registers.{is_word_at, stand_gone, stand_put, stand_put_two, words_set}
 
@@ -570,7 +570,7 @@ module _ (w : WordHere) (h : Here) (frame_fits : FrameFits w.frame) (stands : He
   pub mem_stands : (op : Op) → OperandsFit h.image op → DidStands h (word_mem w op) (mem h op)
   mem_stands (IntDivide o a b c) l = divided o a b c l
   mem_stands (LongDivide o a b c) l = divided_long o a b c
-  mem_stands (ConstString a u) l = room_got a _ _ (intern_stands w.heap h.shared.heap u stands.heap) (intern_bounded h.shared.heap u stands.bounded)
+  mem_stands (ConstString a u) l = room_got a _ _ (intern_stands w.heap h.shared.heap u stands.heap) (intern_bounded h.shared.heap u l stands.bounded)
   mem_stands (ConstClass a t) l = room_got a _ _ (class_object_stands w.heap h.shared.heap t stands.heap) (class_object_bounded h.shared.heap t stands.bounded)
   mem_stands (Cast a t) l = cast a t
   mem_stands (InstanceOf a b t) l = asked a b t

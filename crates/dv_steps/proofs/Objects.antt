@@ -20,6 +20,7 @@ use Rattle.dv_words.specs.Heaps.{with_static, with_word, word_in, words_of_objec
 use Rattle.dv_words.specs.Standing.{AreWords, HeapStands, IsWord, ObjectStands, ObjectsStand}
 use Rattle.dv_words.specs.State.{WordHeap}
 use Rattle.dv_words.specs.Words.{word_at}
+use Rattle.dv_steps.specs.Laws.{IsPlain}
 use Rattle.dv_steps.specs.Mem as over
 use Rattle.dv_steps.proofs.Registers.{is_word_at, words_set}
 
@@ -70,11 +71,6 @@ same_length [] [] are = refl
 same_length [] (x ∷ xs) are = absurd are
 same_length (w ∷ ws) [] are = absurd are
 same_length (w ∷ ws) (x ∷ xs) are = ap suc (same_length ws xs are.1)
-
--- it isn't a string
-abbrev pub IsPlain : Option tagged_kind.Kind → Type 0
-IsPlain (Some (kind_of_tagged.Str s)) = ⊥
-IsPlain k = Unit {0}
 
 plain_words : (k : Option tagged_kind.Kind) (ws : List ℕ) (xs : List Value) → IsPlain k → StandAt k ws xs → AreWords ws xs
 plain_words None ws xs plain at = rw (at.0, at.1) tt

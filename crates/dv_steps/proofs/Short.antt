@@ -1,5 +1,5 @@
 -- Arrays stay as short as ints can say.
-use Rattle.std.proofs.Common.{◌≡◌, ℕ, zero, suc, pred, ◌+◌, ◌*◌, ◌/◌, ◌<◌, ◌≤◌, ◌^◌, ◌++◌, Bool, true, false, List, [], ◌∷◌, Option, Some, None, length, refl, sym, ap, ◌∙◌, subst, arith}
+use Rattle.std.proofs.Common.{◌≡◌, ℕ, zero, suc, pred, ◌+◌, ◌*◌, ◌/◌, ◌<◌, ◌≤◌, ◌^◌, ◌++◌, Bool, true, false, List, [], ◌∷◌, Option, Some, None, All, length, refl, sym, ap, ◌∙◌, subst, arith}
 use Rattle.std.specs.Prelude.{nat_le, slice_get, slice_index_or, slice_set}
 use Rattle.std.specs.List.{AllZip}
 use Rattle.std.proofs.lemmas.Bool.Decides.{nat_tests}
@@ -14,7 +14,7 @@ use Rattle.dv_defs.specs.Images.{Image}
 use Rattle.dv_defs.specs.RegTypes.{reg_types, single_type}
 use Rattle.dv_defs.specs.Types.{component, is_long, words_of}
 use Rattle.dv_machine.specs.Mem.{static_stored, stored}
-use Rattle.dv_steps.specs.Laws.{IsBounded, IsShort}
+use Rattle.dv_steps.specs.Laws.{IsBounded, IsShort, IsUnit}
 
 -- ---- what an array's length is
 
@@ -27,7 +27,7 @@ short_at (q ∷ ks) (xs ∷ xss) (suc o) k all is = short_at ks xss o k all.1 is
 pub array_length : (heap : Heap) (o : ℕ) (t : Ty) → IsBounded heap → kind_of heap (suc o) ≡ Some (kind.Array t) → length_of heap (suc o) < 2 ^ 31
 array_length heap o t b is = let s : length (cells_at heap (suc o)) / words_of (component t) < 2 ^ 31 = short_at heap.kinds heap.cells o (kind.Array t) b.short is in rw is s
 
-pub string_length : (heap : Heap) (o : ℕ) (s : List ℕ) → IsBounded heap → kind_of heap (suc o) ≡ Some (kind.Str s) → length s < 2 ^ 31
+pub string_length : (heap : Heap) (o : ℕ) (s : List ℕ) → IsBounded heap → kind_of heap (suc o) ≡ Some (kind.Str s) → (length s < 2 ^ 31) × All IsUnit s
 string_length heap o s b is = short_at heap.kinds heap.cells o (kind.Str s) b.short is
 
 -- what has room is less than ints can say
@@ -125,13 +125,13 @@ new_array_bounded heap t n b room =
 pub array_bounded : (heap : Heap) (t : Ty) (n : ℕ) → IsBounded heap → IsBoundedOption (alloc_array heap t n)
 array_bounded heap t n b = within (has_room heap _) _ (new_array_bounded heap t n b)
 
-new_string : (heap : Heap) (s : List ℕ) → IsBounded heap → has_room heap (2 + length s) ≡ true → IsBounded (grown heap (kind.Str s) [] (2 + length s))
-new_string heap s b room =
+new_string : (heap : Heap) (s : List ℕ) → All IsUnit s → IsBounded heap → has_room heap (2 + length s) ≡ true → IsBounded (grown heap (kind.Str s) [] (2 + length s))
+new_string heap s units b room =
     let all : 2 + length s < 2 ^ 31 = fits_within heap (2 + length s) b room in
-    grown_bounded heap (kind.Str s) [] (2 + length s) b (omega (arith, all))
+    grown_bounded heap (kind.Str s) [] (2 + length s) b (omega (arith, all), units)
 
-pub string_bounded : (heap : Heap) (s : List ℕ) → IsBounded heap → IsBoundedOption (alloc_string heap s)
-string_bounded heap s b = within (has_room heap _) _ (new_string heap s b)
+pub string_bounded : (heap : Heap) (s : List ℕ) → All IsUnit s → IsBounded heap → IsBoundedOption (alloc_string heap s)
+string_bounded heap s units b = within (has_room heap _) _ (new_string heap s units b)
 
 -- ---- objects that stand once
 
@@ -151,8 +151,8 @@ found_bounded : (found : Option ℕ) (heap : Heap) (new : Option Got) → IsBoun
 found_bounded None heap new all short = short
 found_bounded (Some o) heap new all short = all
 
-pub intern_bounded : (heap : Heap) (s : List ℕ) → IsBounded heap → IsBoundedGot (intern heap s)
-intern_bounded heap s b = found_bounded _ heap _ b (interned_bounded _ (string_bounded heap s b))
+pub intern_bounded : (heap : Heap) (s : List ℕ) → All IsUnit s → IsBounded heap → IsBoundedGot (intern heap s)
+intern_bounded heap s units b = found_bounded _ heap _ b (interned_bounded _ (string_bounded heap s units b))
 
 pub class_object_bounded : (heap : Heap) (t : Ty) → IsBounded heap → IsBoundedGot (class_object heap t)
 class_object_bounded heap t b = found_bounded _ heap _ b (class_bounded _ (within (has_room heap 2) _ (λ room. grown_bounded heap (kind.ClassOf t) [] 2 b tt)))

@@ -1,5 +1,5 @@
 -- The steps on words go where the tagged machine's go, wherever these aren't stuck.
-use Rattle.std.specs.Prelude.{◌≡◌, ◌⊎◌, ◌<◌, ◌^◌, ◌/◌, ℕ, suc, false, ◌∷◌, Some, None, Ok, All, length}
+use Rattle.std.specs.Prelude.{◌≡◌, ◌⊎◌, ◌<◌, ◌^◌, ◌/◌, ℕ, suc, false, ◌∷◌, Option, Some, None, Ok, All, length}
 use Rattle.std.specs.List.{AllZip}
 use Rattle.dv_defs.specs.declared.machine.Frame as tagged
 use Rattle.dv_defs.specs.declared.machine.Kind.{Kind}
@@ -11,7 +11,7 @@ use Rattle.dv_defs.specs.declared.run.Value.TheVariants as v
 use Rattle.dv_defs.specs.Heap.{Cells, Heap, kind_of}
 use Rattle.dv_defs.specs.Images.{Image}
 use Rattle.dv_defs.specs.Names.{string_name}
-use Rattle.dv_defs.specs.Op.{Op, Const, FieldGet, FieldPut, Fill, IntDivide, IntOp, Arg, Reg, Lit}
+use Rattle.dv_defs.specs.Op.{Op, Const, ConstString, FieldGet, FieldPut, Fill, IntDivide, IntOp, Arg, Reg, Lit}
 use Rattle.dv_defs.specs.Order.{fits}
 use Rattle.dv_defs.specs.Pools.{Field, class_type}
 use Rattle.dv_defs.specs.Types.{component, of_class, words_of}
@@ -46,10 +46,14 @@ LocalStepsFollow =
 
 -- ---- instructions on objects
 
+-- a string has UTF-16 units
+abbrev pub IsUnit : ℕ → Type 0
+IsUnit u = u < 2 ^ 16
+
 -- the length of an array or a string is an int
 abbrev pub IsShort : Kind → Cells → Type 0
 IsShort (kind.Array t) xs = length xs / words_of (component t) < 2 ^ 31
-IsShort (kind.Str s) xs = length s < 2 ^ 31
+IsShort (kind.Str s) xs = (length s < 2 ^ 31) × All IsUnit s
 IsShort k xs = Unit {0}
 
 -- words are counted, and may be no more than ints can say
@@ -63,11 +67,17 @@ pub record IsBounded (heap : Heap) : Type 0 where
 abbrev pub IsNoString : Image → Field → Type 0
 IsNoString image x = fits image (of_class string_name) (class_type image x.info.class.0) ≡ false
 
--- what the units spell, and what linking gives: a string has no field
+-- what the units and pools spell, and what linking gives: a string has no field
 abbrev pub OperandsFit : Image → Op → Type 0
+OperandsFit image (ConstString a s) = All IsUnit s
 OperandsFit image (FieldGet s a b x) = IsNoString image x
 OperandsFit image (FieldPut s a b x) = IsNoString image x
 OperandsFit image op = ConstantFits op
+
+-- there is no string
+abbrev pub IsPlain : Option Kind → Type 0
+IsPlain (Some (kind.Str s)) = ⊥
+IsPlain k = Unit {0}
 
 -- what a constructor makes is an object of a class
 abbrev pub IsMade : Heap → Value → Type 0

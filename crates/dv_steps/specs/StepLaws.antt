@@ -1,19 +1,24 @@
 -- A step of a thread on words goes where the tagged machine's goes, wherever that isn't stuck.
-use Rattle.std.specs.Prelude.{◌≡◌, ℕ, false, List, Option, Some, None, Ok, All, length}
+use Rattle.std.specs.Prelude.{◌≡◌, ℕ, suc, true, false, List, Option, Some, None, Ok, All, length}
 use Rattle.std.specs.List.{AllZip}
 use Rattle.dv_defs.specs.declared.machine.Level.{Level}
 use Rattle.dv_defs.specs.declared.machine.Level.TheVariants as level
+use Rattle.dv_defs.specs.declared.run.Value.{Value}
+use Rattle.dv_defs.specs.declared.run.Value.TheVariants as v
+use Rattle.dv_defs.specs.Heap.{Heap, cells_at, kind_of}
 use Rattle.dv_defs.specs.Images.{Image}
 use Rattle.dv_defs.specs.Op.{Op, Invoke}
 use Rattle.dv_defs.specs.Pools.{Field, field_at, is_static_field}
 use Rattle.dv_defs.specs.Statics as statics
 use Rattle.dv_defs.specs.Statics.{arg_words, fetch}
 use Rattle.dv_machine.specs.Accepted.{FindsRightly, HasBodies}
+use Rattle.dv_machine.specs.Calls.{chars_type}
+use Rattle.dv_machine.specs.State.{fits_kind, passes}
 use Rattle.dv_machine.specs.State.{Did, Go, Here, IsStuck, Left, Machine, NoOutput, NoRoom, NoWords, Thread, Throws, ThrowsRef}
 use Rattle.dv_machine.specs.Step as machine
 use Rattle.dv_words.specs.Standing.{FrameFits, FrameStands, LevelsStand, MachineFits, MachineStands, SharedStands, ThreadStands}
 use Rattle.dv_words.specs.State.{WordMachine, WordThread}
-use Rattle.dv_steps.specs.Laws.{IsBounded, IsMade, IsNoString, OperandsFit}
+use Rattle.dv_steps.specs.Laws.{IsBounded, IsMade, IsNoString, IsPlain, OperandsFit}
 use Rattle.dv_steps.specs.Step.{act, step}
 use Rattle.dv_steps.specs.Steps as words
 
@@ -36,6 +41,18 @@ OperationsFit image = (n at : ℕ) (x : statics.At) → fetch image n at ≡ Som
 
 -- ---- a step at an instruction
 
+-- a value that is a number
+abbrev pub IsNumber : Value → Type 0
+IsNumber v.Zero = Unit {0}
+IsNumber (v.Num n) = Unit {0}
+IsNumber x = ⊥
+
+-- what is an array of chars is no string, and its cells are numbers
+abbrev pub CharsAreNumbers : Image → Heap → Type 0
+CharsAreNumbers image heap =
+    (o : ℕ) → passes (fits_kind image chars_type) (kind_of heap (suc o)) ≡ true →
+    IsPlain (kind_of heap (suc o)) × All IsNumber (cells_at heap (suc o))
+
 -- the words stand for what the instruction at hand sees
 pub record AtStands (w : words.At) (h : Here) : Type 0 where
   pub image : w.image ≡ h.image
@@ -49,6 +66,7 @@ pub record AtStands (w : words.At) (h : Here) : Type 0 where
   pub rest : LevelsStand w.rest h.rest
   pub bounded : IsBounded h.shared.heap
   pub made : All (IsMade h.shared.heap) h.frame.regs
+  pub chars : CharsAreNumbers h.image h.shared.heap
 
 abbrev pub StartedStands : Option WordThread → Option Thread → Type 0
 StartedStands None None = Unit {0}
@@ -89,12 +107,13 @@ abbrev pub ThreadIsMade : Machine → Thread → Type 0
 ThreadIsMade m t = All (LevelIsMade m) t.levels
 
 -- what a step takes of the tagged machine's state; all of it holds in well-typed states
-pub record IsFit (m : Machine) : Type 0 where
+pub record IsFit (image : Image) (m : Machine) : Type 0 where
   pub bounded : IsBounded m.shared.heap
+  pub chars : CharsAreNumbers image m.shared.heap
   pub made : All (ThreadIsMade m) m.threads
 
 -- from words that stand for a state, the step on words leads to words that stand for the state after the tagged step
 abbrev pub StepsFollow : Type 0
 StepsFollow =
-    (image : Image) (w : WordMachine) (m n : Machine) (t : ℕ) → ImageFits image → OperationsFit image → MachineFits w → IsFit m →
+    (image : Image) (w : WordMachine) (m n : Machine) (t : ℕ) → ImageFits image → OperationsFit image → MachineFits w → IsFit image m →
     MachineStands w m → machine.step image m t ≡ Ok n → MachineStands (step image w t) n × IsBounded n.shared.heap
