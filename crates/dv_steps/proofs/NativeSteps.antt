@@ -1,8 +1,14 @@
 -- The native methods on words go where the tagged machine's go, of arguments that were read.
-use Rattle.std.proofs.Common.{◌≡◌, ℕ, zero, suc, ◌+◌, ◌%◌, ◌^◌, ◌<◌, ◌++◌, Bool, true, false, Option, Some, None, List, [], ◌∷◌, ℤ, pos, negsuc, All, length, map, take, drop, mod-lt, lit<, refl, sym, ap, ◌∙◌, subst, arith}
+use Rattle.std.proofs.Common.{◌≡◌, ◌⊎◌, inl, inr, ℕ, zero, suc, ◌+◌, ◌-◌, ◌*◌, ◌≤◌, ◌%◌, ◌^◌, ◌<◌, ◌++◌, Bool, true, false, Option, Some, None, List, [], ◌∷◌, ℤ, pos, negsuc, All, length, map, take, drop, mod-lt, lit<, refl, sym, ap, ◌∙◌, subst, arith}
 use Rattle.std.specs.Prelude.{bytes_eq, if◌then◌else◌, nat_le, slice_get, slice_index_or}
-use Rattle.std.specs.Fmt.{signed_decimal}
-use Rattle.std.specs.Int.{w32}
+use Rattle.std.specs.Fmt.{decimal, signed_decimal}
+use Rattle.std.specs.Int.Signed.{mag}
+use Rattle.std.specs.Str.{IsAscii}
+use Rattle.std.proofs.lemmas.Bool.{cases_lt}
+use Rattle.std.proofs.lemmas.Fmt.{IsAscii-decimal}
+use Rattle.std.proofs.lemmas.Str.Ascii.{All-from_ascii}
+use Rattle.std.proofs.Math.Facts.{to_z-neg}
+use Rattle.std.specs.Int.{w32, w64, cast_signed}
 use Rattle.std.specs.Option.{option_map}
 use Rattle.std.proofs.lemmas.Int.{of_z-to_z, to_z_pos}
 use Rattle.std.proofs.lemmas.List.Elements.{All-append, All-cons, All-drop, All-head, All-nil, All-tail, All-take}
@@ -21,9 +27,11 @@ use Rattle.dv_defs.specs.Numbers.{bits32, long_of}
 use Rattle.dv_defs.specs.Texts.{utf8}
 use Rattle.dv_machine.specs.Mem.{on_object}
 use Rattle.dv_machine.specs.Natives as machine
+use Rattle.dv_machine.specs.Calls.{chars_type}
+use Rattle.dv_machine.specs.State.{fits_kind, passes}
 use Rattle.dv_machine.specs.State.{Did, Here, Left, NoOutput, Throws, truth, where_room, with_heap, with_output, with_result}
 use Rattle.dv_machine.specs.Texts as texts
-use Rattle.dv_machine.specs.Threads.{goes as machine_goes}
+use Rattle.dv_machine.specs.Threads.{goes as machine_goes, own_object}
 use Rattle.dv_words.specs.declared.state.Frame.{Frame}
 use Rattle.dv_words.specs.declared.state.Kept.TheVariants as kept
 use Rattle.dv_words.specs.declared.state.Kind.{Kind}
@@ -38,7 +46,9 @@ use Rattle.dv_steps.specs.Mem.{truth_word}
 use Rattle.dv_steps.specs.Natives as over
 use Rattle.dv_steps.specs.StepLaws.{AtStands, IsNumber, OutcomeStands}
 use Rattle.dv_steps.specs.Steps as steps
+use Rattle.dv_steps.specs.Threads as threads
 use Rattle.dv_steps.proofs.Added.{OptionStands, newest_is, string_added}
+use Rattle.dv_steps.proofs.LocalSteps.{word_fits}
 use Rattle.dv_steps.proofs.Objects.{StandAt, are_words, kind_is, length_is, stands_at}
 use Rattle.dv_steps.proofs.Outcomes.{goes_on, if_alike, on_object_alike, onward_stands, where_alike, with_heaps, with_same_output}
 use Rattle.dv_steps.proofs.Registers.{is_word_at}
@@ -194,3 +204,141 @@ module _ (w : steps.At) (h : Here) (stands : AtStands w h) where
   units_fit : (xs : List Value) → All IsUnit (machine.units_in xs)
   units_fit [] = All-nil IsUnit
   units_fit (x ∷ xs) = All-cons IsUnit _ _ (mod-lt (bits32 (machine.number_of x)) (lit< tt)) (units_fit xs)
+
+  taken : (n : ℕ) (ws : List ℕ) (xs : List Value) → AreWords ws xs → AreWords (take n ws) (take n xs)
+  taken zero ws xs are = tt
+  taken (suc n) [] [] are = tt
+  taken (suc n) [] (x ∷ xs) are = absurd are
+  taken (suc n) (u ∷ ws) [] are = absurd are
+  taken (suc n) (u ∷ ws) (x ∷ xs) are = (are.0, taken n ws xs are.1)
+
+  dropped : (n : ℕ) (ws : List ℕ) (xs : List Value) → AreWords ws xs → AreWords (drop n ws) (drop n xs)
+  dropped zero ws xs are = are
+  dropped (suc n) [] [] are = tt
+  dropped (suc n) [] (x ∷ xs) are = absurd are
+  dropped (suc n) (u ∷ ws) [] are = absurd are
+  dropped (suc n) (u ∷ ws) (x ∷ xs) are = dropped n ws xs are.1
+
+  -- the words of an object fit
+  object_fits : (wss : List (List ℕ)) (o : ℕ) → All AllFit wss → AllFit (slice_index_or wss o [])
+  object_fits [] o all = All-nil Fits
+  object_fits (ws ∷ wss) zero all = All-head AllFit ws wss all
+  object_fits (ws ∷ wss) (suc o) all = object_fits wss o (All-tail AllFit ws wss all)
+
+  chars_stand : (o : ℕ) (a b : ℤ) → IsPlain (tagged.kind_of h.shared.heap (suc o)) → All IsNumber (tagged.cells_at h.shared.heap (suc o)) → OutcomeStands (over.some_chars w (suc o) a b) (machine.some_chars h (suc o) a b)
+  chars_stand o (negsuc a) b plain all = refl
+  chars_stand o (pos a) (negsuc b) plain all = refl
+  chars_stand o (pos a) (pos b) plain all =
+      let ws = words.words_of_object w.shared.heap (suc o) in
+      let xs = tagged.cells_at h.shared.heap (suc o) in
+      let are = taken b (drop a ws) (drop a xs) (dropped a ws xs (are_words w.shared.heap h.shared.heap o stands.shared.heap plain)) in
+      let fits = All-take Fits b (drop a ws) (All-drop Fits a ws (object_fits w.shared.heap.cells o stands.heap_fits.0)) in
+      let numbers = All-take IsNumber b (drop a xs) (All-drop IsNumber a xs all) in
+      where_alike _ _ named.IndexOutOfBounds (over.new_text w (over.units_in (take b (drop a ws)))) (machine.new_text h (machine.units_in (take b (drop a xs))))
+      (ap (nat_le (a + b)) (length_is w.shared.heap h.shared.heap o stands.shared.heap))
+      (new_text_stands _ _ (units_are (take b (drop a ws)) (take b (drop a xs)) fits numbers are) (units_fit (take b (drop a xs))))
+
+  -- ---- numbers as text
+
+  long_mag : (a b : ℕ) → Fits a → Fits b → mag (long_of a b) < 2 ^ 63
+  long_mag a b f g = by (cases_lt (a + b * 2 ^ 32) (2 ^ 63))
+    where
+      by : (a + b * 2 ^ 32 < 2 ^ 63) ⊎ (2 ^ 63 ≤ a + b * 2 ^ 32) → mag (long_of a b) < 2 ^ 63
+      by (inl below) = subst (λ (z : ℤ). mag z < 2 ^ 63) (sym (to_z_pos w64 (a + b * 2 ^ 32) below)) below
+      by (inr above) =
+          let m : ℕ = a + b * 2 ^ 32 in
+          let whole : m < 2 ^ 64 = omega (arith, f, g) in
+          let k : ℕ = 2 ^ 64 - suc m in
+          let back : 2 ^ 64 - suc k ≡ m = omega (arith, whole) in
+          let small : k < 2 ^ 63 = omega (arith, above, whole) in
+          subst (λ (z : ℤ). mag z < 2 ^ 63) (sym (to_z-neg w64 k small) ∙ ap (cast_signed w64) back) small
+
+  ascii_units : (s : List ℕ) → IsAscii s → All IsUnit s
+  ascii_units s all = bytes_fit s (All-from_ascii s all)
+    where
+      bytes_fit : (s : List ℕ) → All (λ (c : ℕ). c < 128) s → All IsUnit s
+      bytes_fit [] all = All-nil IsUnit
+      bytes_fit (c ∷ cs) all = All-cons IsUnit c cs (let l : c < 128 = All-head (λ (c : ℕ). c < 128) c cs all in omega (arith, l)) (bytes_fit cs (All-tail (λ (c : ℕ). c < 128) c cs all))
+
+  decimal_units : (z : ℤ) → mag z < 2 ^ 63 → All IsUnit (signed_decimal z)
+  decimal_units (pos n) l = ascii_units (decimal n) (IsAscii-decimal n (omega (arith, l)))
+  decimal_units (negsuc n) l = All-cons IsUnit 45 _ (omega arith) (ascii_units _ (IsAscii-decimal (suc n) (omega (arith, l))))
+
+  -- ---- each of them
+
+  -- what its arguments are
+  abbrev pub ArgumentsAre : Native → List Value → Type 0
+  ArgumentsAre native.CharAt xs = IsReference (machine.arg xs 0) × IsNumber (machine.arg xs 1)
+  ArgumentsAre native.Equals xs = IsReference (machine.arg xs 0) × IsReference (machine.arg xs 1)
+  ArgumentsAre native.Concat xs = IsReference (machine.arg xs 0) × IsReference (machine.arg xs 1)
+  ArgumentsAre native.OfLong xs = IsHalf (machine.arg xs 0) × IsHalf (machine.arg xs 1)
+  ArgumentsAre native.OfChars xs =
+      IsReference (machine.arg xs 0) × IsNumber (machine.arg xs 1) × IsNumber (machine.arg xs 2) ×
+      ((o : ℕ) → machine.object_number (machine.arg xs 0) ≡ suc o → passes (fits_kind h.image chars_type) (tagged.kind_of h.shared.heap (suc o)) ≡ true)
+  ArgumentsAre native.Println xs = IsNumber (machine.arg xs 0)
+  ArgumentsAre native.CurrentThread xs = Unit {0}
+  ArgumentsAre n xs = IsReference (machine.arg xs 0)
+
+  pub native_stands : (n : Native) (ws : List ℕ) (xs : List Value) → AllFit ws → AreWords ws xs → ArgumentsAre n xs → OutcomeStands (over.native_step w n ws) (machine.native_step h n xs)
+  native_stands n ws xs fits are = by n
+    where
+      word_is : (k : ℕ) → IsWord (over.arg ws k) (machine.arg xs k)
+      word_is k = is_word_at ws xs k are
+
+      object : (k : ℕ) → IsReference (machine.arg xs k) → over.arg ws k ≡ machine.object_number (machine.arg xs k)
+      object k ref = object_is (over.arg ws k) (machine.arg xs k) ref (word_is k)
+
+      number : (k : ℕ) → IsNumber (machine.arg xs k) → int_of (over.arg ws k) ≡ machine.number_of (machine.arg xs k)
+      number k is = number_is (over.arg ws k) (machine.arg xs k) is (word_is k)
+
+      half : (k : ℕ) → IsHalf (machine.arg xs k) → over.arg ws k ≡ machine.half_of (machine.arg xs k)
+      half k is = half_is (over.arg ws k) (machine.arg xs k) is (word_is k)
+
+      on : (go : ℕ → Did steps.Left) (e : Did Left) → ((k : ℕ) → IsReference (machine.arg xs k) → OutcomeStands (go (machine.object_number (machine.arg xs k))) e → OutcomeStands (go (over.arg ws k)) e)
+      on go e k ref s = subst (λ (o : ℕ). OutcomeStands (go o) e) (sym (object k ref)) s
+
+      concatenated : (o p : ℕ) → OutcomeStands (over.new_text w (over.text_of w.shared.heap o ++ over.text_of w.shared.heap p)) (machine.new_text h (texts.text_of h.shared.heap o ++ texts.text_of h.shared.heap p))
+      concatenated o p =
+          new_text_stands _ _ (ap (λ us. us ++ over.text_of w.shared.heap p) (same_text o) ∙ ap (λ us. texts.text_of h.shared.heap o ++ us) (same_text p))
+          (All-append IsUnit (texts.text_of h.shared.heap o) (texts.text_of h.shared.heap p) (text_fits h.shared.heap o stands.bounded).1 (text_fits h.shared.heap p stands.bounded).1)
+
+      by : (n : Native) → ArgumentsAre n xs → OutcomeStands (over.native_step w n ws) (machine.native_step h n xs)
+      by native.Wait ref = on (threads.wait_on w) (machine.native_step h native.Wait xs) 0 ref (wait_stands w h stands (machine.object_number (machine.arg xs 0)))
+      by native.Notify ref = on (threads.notify_on w) (machine.native_step h native.Notify xs) 0 ref (notify_stands w h stands (machine.object_number (machine.arg xs 0)))
+      by native.NotifyAll ref = on (threads.notify_all_on w) (machine.native_step h native.NotifyAll xs) 0 ref (notify_all_stands w h stands (machine.object_number (machine.arg xs 0)))
+      by native.Start ref = on (threads.start_on w) (machine.native_step h native.Start xs) 0 ref (start_stands w h stands (machine.object_number (machine.arg xs 0)))
+      by native.Join ref = on (threads.join_on w) (machine.native_step h native.Join xs) 0 ref (join_stands w h stands (machine.object_number (machine.arg xs 0)))
+      by native.CurrentThread t = gives_stands (threads.own_object w) (v.Ref (own_object h)) (own_object_is w h stands)
+      by native.Length ref = on (λ o. over.gives w (length (over.text_of w.shared.heap o))) (machine.native_step h native.Length xs) 0 ref (length_stands (machine.object_number (machine.arg xs 0)))
+      by native.CharAt (ref, is) =
+          on (λ o. over.char_at w (over.text_of w.shared.heap o) (int_of (over.arg ws 1))) (machine.native_step h native.CharAt xs) 0 ref
+          (subst (λ (n : ℤ). OutcomeStands (over.char_at w (over.text_of w.shared.heap (machine.object_number (machine.arg xs 0))) n) (machine.native_step h native.CharAt xs)) (sym (number 1 is)) (char_stands (machine.object_number (machine.arg xs 0)) (machine.number_of (machine.arg xs 1))))
+      by native.Equals (ref, other) =
+          let o = machine.object_number (machine.arg xs 0) in
+          let p = machine.object_number (machine.arg xs 1) in
+          on (λ o. over.gives w (truth_word (over.same_text w o (over.arg ws 1)))) (machine.native_step h native.Equals xs) 0 ref
+          (on (λ p. over.gives w (truth_word (over.same_text w o p))) (machine.native_step h native.Equals xs) 1 other
+          (gives_stands _ _ (truth_stands (over.same_text w o p) (machine.same_text (texts.text_of h.shared.heap o) (tagged.kind_of h.shared.heap p)) (equal_is o p))))
+      by native.Concat (ref, other) =
+          let o = machine.object_number (machine.arg xs 0) in
+          on (λ o. on_object (λ p. over.new_text w (over.text_of w.shared.heap o ++ over.text_of w.shared.heap p)) (over.arg ws 1)) (machine.native_step h native.Concat xs) 0 ref
+          (on_object_alike (over.arg ws 1) (machine.object_number (machine.arg xs 1)) (λ p. over.new_text w (over.text_of w.shared.heap o ++ over.text_of w.shared.heap p)) (λ p. machine.new_text h (texts.text_of h.shared.heap o ++ texts.text_of h.shared.heap p)) (object 1 other)
+          (λ q e. concatenated o (suc q)))
+      by native.OfLong (low, high) =
+          let a = machine.half_of (machine.arg xs 0) in
+          let b = machine.half_of (machine.arg xs 1) in
+          let same : long_of (over.arg ws 0) (over.arg ws 1) ≡ long_of a b = ap (λ (n : ℕ). long_of n (over.arg ws 1)) (half 0 low) ∙ ap (long_of a) (half 1 high) in
+          let f : Fits a = subst Fits (half 0 low) (word_fits ws 0 fits) in
+          let g : Fits b = subst Fits (half 1 high) (word_fits ws 1 fits) in
+          new_text_stands _ _ (ap signed_decimal same) (decimal_units (long_of a b) (long_mag a b f g))
+      by native.OfChars (ref, start, count, array) =
+          let a = machine.number_of (machine.arg xs 1) in
+          let b = machine.number_of (machine.arg xs 2) in
+          on_object_alike (over.arg ws 0) (machine.object_number (machine.arg xs 0)) (λ o. over.some_chars w o (int_of (over.arg ws 1)) (int_of (over.arg ws 2))) (λ o. machine.some_chars h o a b) (object 0 ref)
+          (λ q e. let chars = stands.chars q (array q e) in
+          subst (λ (m : ℤ). OutcomeStands (over.some_chars w (suc q) m (int_of (over.arg ws 2))) (machine.some_chars h (suc q) a b)) (sym (number 1 start))
+          (subst (λ (m : ℤ). OutcomeStands (over.some_chars w (suc q) a m) (machine.some_chars h (suc q) a b)) (sym (number 2 count)) (chars_stand q a b chars.0 chars.1)))
+      by native.Print ref =
+          on_object_alike (over.arg ws 0) (machine.object_number (machine.arg xs 0)) (λ o. over.printed w (utf8 (over.text_of w.shared.heap o))) (λ o. machine.printed h (utf8 (texts.text_of h.shared.heap o))) (object 0 ref)
+          (λ q e. printed_stands _ _ (ap utf8 (same_text (suc q))))
+      by native.Println is = printed_stands _ _ (ap (λ n. signed_decimal n ++ 10 ∷ []) (number 0 is))

@@ -16,7 +16,7 @@ use Rattle.dv_machine.specs.Calls.{chars_type}
 use Rattle.dv_machine.specs.State.{fits_kind, passes}
 use Rattle.dv_machine.specs.State.{Did, Go, Here, IsStuck, Left, Machine, NoOutput, NoRoom, NoWords, Thread, Throws, ThrowsRef}
 use Rattle.dv_machine.specs.Step as machine
-use Rattle.dv_words.specs.Standing.{FrameFits, FrameStands, LevelsStand, MachineFits, MachineStands, SharedStands, ThreadStands}
+use Rattle.dv_words.specs.Standing.{FrameFits, FrameStands, HeapFits, LevelsStand, MachineFits, MachineStands, SharedStands, ThreadStands}
 use Rattle.dv_words.specs.State.{WordMachine, WordThread}
 use Rattle.dv_steps.specs.Laws.{IsBounded, IsMade, IsNoString, IsPlain, OperandsFit}
 use Rattle.dv_steps.specs.Step.{act, step}
@@ -67,6 +67,8 @@ pub record AtStands (w : words.At) (h : Here) : Type 0 where
   pub bounded : IsBounded h.shared.heap
   pub made : All (IsMade h.shared.heap) h.frame.regs
   pub chars : CharsAreNumbers h.image h.shared.heap
+  pub frame_fits : FrameFits w.frame
+  pub heap_fits : HeapFits w.shared.heap
 
 abbrev pub StartedStands : Option WordThread → Option Thread → Type 0
 StartedStands None None = Unit {0}
@@ -93,8 +95,7 @@ OutcomeStands d e = ⊥
 -- of every operation
 abbrev pub ActsFollow : Type 0
 ActsFollow =
-    (op : Op) (w : words.At) (h : Here) → ImageFits h.image → OperandsFit h.image op → RegistersFit op → FrameFits w.frame →
-    AtStands w h → OutcomeStands (act w op) (machine.act h op)
+    (op : Op) (w : words.At) (h : Here) → ImageFits h.image → OperandsFit h.image op → RegistersFit op → AtStands w h → OutcomeStands (act w op) (machine.act h op)
 
 -- ---- a step of a thread
 
