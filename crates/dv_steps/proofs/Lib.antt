@@ -13,3 +13,4 @@ pub mod Fetching
 mod Outcomes
 mod ThreadSteps
 mod NativeSteps
+mod Arguments

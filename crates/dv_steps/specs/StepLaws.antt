@@ -8,7 +8,7 @@ use Rattle.dv_defs.specs.declared.run.Value.TheVariants as v
 use Rattle.dv_defs.specs.Heap.{Heap, cells_at, kind_of}
 use Rattle.dv_defs.specs.Images.{Image}
 use Rattle.dv_defs.specs.Op.{Op, Invoke}
-use Rattle.dv_defs.specs.Pools.{Field, field_at, is_static_field}
+use Rattle.dv_defs.specs.Pools.{Field, field_at, is_static_field, method_at}
 use Rattle.dv_defs.specs.Statics as statics
 use Rattle.dv_defs.specs.Statics.{arg_words, fetch}
 use Rattle.dv_machine.specs.Accepted.{FindsRightly, HasBodies}
@@ -30,14 +30,14 @@ pub record ImageFits (image : Image) : Type 0 where
   pub bodies : HasBodies image
   pub no_strings : (n : ℕ) (x : Field) → field_at image n ≡ Some x → is_static_field x ≡ false → IsNoString image x
 
--- an invoke names as many registers as the method has argument words
-abbrev pub RegistersFit : Op → Type 0
-RegistersFit (Invoke c ks g) = length ks ≡ arg_words g
-RegistersFit op = Unit {0}
+-- an invoke is of a method of the image, and names as many registers as that has argument words
+abbrev pub CallFits : Image → Op → Type 0
+CallFits image (Invoke c ks g) = (length ks ≡ arg_words g) × (method_at image g.id ≡ Some g)
+CallFits image op = Unit {0}
 
 -- what stands at an address has operands that fit
 abbrev pub OperationsFit : Image → Type 0
-OperationsFit image = (n at : ℕ) (x : statics.At) → fetch image n at ≡ Some x → OperandsFit image x.op × RegistersFit x.op
+OperationsFit image = (n at : ℕ) (x : statics.At) → fetch image n at ≡ Some x → OperandsFit image x.op × CallFits image x.op
 
 -- ---- a step at an instruction
 
@@ -95,7 +95,7 @@ OutcomeStands d e = ⊥
 -- of every operation
 abbrev pub ActsFollow : Type 0
 ActsFollow =
-    (op : Op) (w : words.At) (h : Here) → ImageFits h.image → OperandsFit h.image op → RegistersFit op → AtStands w h → OutcomeStands (act w op) (machine.act h op)
+    (op : Op) (w : words.At) (h : Here) → ImageFits h.image → OperandsFit h.image op → CallFits h.image op → AtStands w h → OutcomeStands (act w op) (machine.act h op)
 
 -- ---- a step of a thread
 
