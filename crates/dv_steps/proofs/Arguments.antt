@@ -7,6 +7,7 @@ use Rattle.dv_defs.specs.declared.machine.Pending.TheVariants as pending
 use Rattle.dv_defs.specs.declared.names.Ty.{Ty}
 use Rattle.dv_defs.specs.declared.run.Native.{Native}
 use Rattle.dv_defs.specs.declared.run.Native.TheVariants as native
+use Rattle.dv_defs.specs.declared.run.Why.TheVariants as why
 use Rattle.dv_defs.specs.declared.run.Value.{Value}
 use Rattle.dv_defs.specs.declared.run.Value.TheVariants as v
 use Rattle.dv_defs.specs.Heap.{Heap, kind_of}
@@ -77,6 +78,18 @@ pub data ValueOf (image : Image) (heap : Heap) (t : Ty) : Bool → List Value �
   Wide : (lo hi : ℕ) → ValueOf image heap t true (v.Lo lo ∷ v.Hi hi ∷ [])
   Single : (x : Value) → IsSingle image heap t (is_reference t) x → ValueOf image heap t false (x ∷ [])
 
+-- one argument, by whether it is a long or a reference, and the others
+abbrev pub OfOne : Image → Heap → Ty → Bool → Bool → List Value → (List Value → Type 0) → Type 0
+OfOne image heap t true r (x ∷ y ∷ xs) rest = IsHalf x × IsHalf y × rest xs
+OfOne image heap t false true (x ∷ xs) rest = RefFits image heap t x × rest xs
+OfOne image heap t false false (x ∷ xs) rest = IsNumber x × rest xs
+OfOne image heap t b r xs rest = ⊥
+
+-- the arguments of these parameters
+abbrev pub AreOf : Image → Heap → List Ty → List Value → Type 0
+AreOf image heap [] xs = xs ≡ []
+AreOf image heap (p ∷ ps) xs = OfOne image heap p (is_long p) (is_reference p) xs (AreOf image heap ps)
+
 module _ (s : Frame) (regs : List Value) (is_at : (k : ℕ) → IsWord (reg_word s k) (reg_at regs k)) where
   pub two_read : (k : ℕ) → WhereRead (read_two regs k) (λ p. (reg_word s k ≡ p.lo) × (reg_word s (suc k) ≡ p.hi))
   two_read k = by (reg_at regs k) (reg_at regs (suc k)) (is_at k) (is_at (suc k))
@@ -100,6 +113,66 @@ module _ (s : Frame) (regs : List Value) (is_at : (k : ℕ) → IsWord (reg_word
 
   pub value_read : (image : Image) (heap : Heap) (t : Ty) (k : ℕ) → WhereRead (read_value image heap regs k t) (λ xs. AreWords (words_in s k (is_long t)) xs × ValueOf image heap t (is_long t) xs)
   value_read image heap t k = value_by image heap t k (is_long t)
+
+  -- ---- arguments
+
+  words_over : (b : Bool) (p : Ty) (ps : List Ty) → is_long p ≡ b → words_of p ≡ (elim b [ true ↦ 2 | false ↦ 1 ])
+  words_over b p ps is = ap (λ (c : Bool). elim c [ true ↦ 2 | false ↦ 1 ]) is
+
+  neighbours_read : (k j : ℕ) → WhereRead (are_neighbours k j) (λ b. j ≡ suc k)
+  neighbours_read k j = by (nat_eq j (suc k)) refl
+    where
+      by : (b : Bool) → nat_eq j (suc k) ≡ b → WhereRead (if b then Ok true else Err why.Pair) (λ c. j ≡ suc k)
+      by true is = grind (arith, is)
+      by false is = tt
+
+  abbrev Arguments : Image → Heap → List Ty → List ℕ → List Value → Type 0
+  Arguments image heap ps ks xs = AreWords (map (reg_word s) ks) xs × AreOf image heap ps xs
+
+  single_args : (image : Image) (heap : Heap) (p : Ty) (ps : List Ty) (k : ℕ) (ks : List ℕ) → is_long p ≡ false → WhereRead (read_args image heap regs ps ks) (Arguments image heap ps ks) →
+      WhereRead (on_next (read_value image heap regs k p) (λ xs. on_next (read_args image heap regs ps ks) (λ ys. Ok (xs ++ ys)))) (Arguments image heap (p ∷ ps) (k ∷ ks))
+  single_args image heap p ps k ks is rest =
+      where_next (λ xs. AreWords (words_in s k (is_long p)) xs × ValueOf image heap p (is_long p) xs) (Arguments image heap (p ∷ ps) (k ∷ ks)) (read_value image heap regs k p) _ (value_read image heap p k)
+      (λ xs one. where_next (Arguments image heap ps ks) (Arguments image heap (p ∷ ps) (k ∷ ks)) (read_args image heap regs ps ks) (λ ys. Ok (xs ++ ys)) rest
+      (λ ys all. one_more xs ys (is_long p) is one.0 one.1 all.0 all.1))
+    where
+      one_more : (xs ys : List Value) (b : Bool) → b ≡ false → AreWords (words_in s k b) xs → ValueOf image heap p b xs → AreWords (map (reg_word s) ks) ys → AreOf image heap ps ys → Arguments image heap (p ∷ ps) (k ∷ ks) (xs ++ ys)
+      one_more xs ys false e are (Single x fits) more all = ((are.0, more), subst (λ (c : Bool). OfOne image heap p c (is_reference p) (x ∷ ys) (AreOf image heap ps)) (sym is) (single (is_reference p) fits all))
+        where
+          single : (r : Bool) → IsSingle image heap p r x → AreOf image heap ps ys → OfOne image heap p false r (x ∷ ys) (AreOf image heap ps)
+          single true fits all = (fits, all)
+          single false fits all = (fits, all)
+      one_more xs ys true e are form more all = absurd (cc)
+
+  wide_args : (image : Image) (heap : Heap) (p : Ty) (ps : List Ty) (k j : ℕ) (ks : List ℕ) → is_long p ≡ true → WhereRead (read_args image heap regs ps ks) (Arguments image heap ps ks) →
+      WhereRead (on_next (read_value image heap regs k p) (λ xs. on_next (are_neighbours k j) (λ b. on_next (read_args image heap regs ps ks) (λ ys. Ok (xs ++ ys))))) (Arguments image heap (p ∷ ps) (k ∷ j ∷ ks))
+  wide_args image heap p ps k j ks is rest =
+      where_next (λ xs. AreWords (words_in s k (is_long p)) xs × ValueOf image heap p (is_long p) xs) (Arguments image heap (p ∷ ps) (k ∷ j ∷ ks)) (read_value image heap regs k p) _ (value_read image heap p k)
+      (λ xs one. where_next (λ b. j ≡ suc k) (Arguments image heap (p ∷ ps) (k ∷ j ∷ ks)) (are_neighbours k j) _ (neighbours_read k j)
+      (λ b next. where_next (Arguments image heap ps ks) (Arguments image heap (p ∷ ps) (k ∷ j ∷ ks)) (read_args image heap regs ps ks) (λ ys. Ok (xs ++ ys)) rest
+      (λ ys all. two_more xs ys (is_long p) is next one.0 one.1 all.0 all.1)))
+    where
+      two_more : (xs ys : List Value) (b : Bool) → b ≡ true → j ≡ suc k → AreWords (words_in s k b) xs → ValueOf image heap p b xs → AreWords (map (reg_word s) ks) ys → AreOf image heap ps ys → Arguments image heap (p ∷ ps) (k ∷ j ∷ ks) (xs ++ ys)
+      two_more xs ys true e next are (Wide lo hi) more all = ((are.0, (ap (reg_word s) next ∙ are.1.0, more)), subst (λ (c : Bool). OfOne image heap p c (is_reference p) (v.Lo lo ∷ v.Hi hi ∷ ys) (AreOf image heap ps)) (sym is) (tt, tt, all))
+      two_more xs ys false e next are form more all = absurd (cc)
+
+  pub args_read : (image : Image) (heap : Heap) (ps : List Ty) (ks : List ℕ) → length ks ≡ words_of_all ps → WhereRead (read_args image heap regs ps ks) (Arguments image heap ps ks)
+  args_read image heap [] [] count = (tt, refl)
+  args_read image heap [] (k ∷ ks) count = absurd (omega (arith, count))
+  args_read image heap (p ∷ ps) [] count = tt
+  args_read image heap (p ∷ ps) (k ∷ ks) count = by (is_long p) refl ks count (args_read image heap ps)
+    where
+      by : (b : Bool) → is_long p ≡ b → (ks : List ℕ) → length (k ∷ ks) ≡ words_of_all (p ∷ ps) → ((js : List ℕ) → length js ≡ words_of_all ps → WhereRead (read_args image heap regs ps js) (Arguments image heap ps js)) →
+          WhereRead (elim b [
+            | true ↦ elim ks [
+              | [] ↦ Err why.Instruction
+              | j ∷ js ↦ on_next (read_value image heap regs k p) (λ xs. on_next (are_neighbours k j) (λ c. on_next (read_args image heap regs ps js) (λ ys. Ok (xs ++ ys))))
+            ]
+            | false ↦ on_next (read_value image heap regs k p) (λ xs. on_next (read_args image heap regs ps ks) (λ ys. Ok (xs ++ ys)))
+          ]) (Arguments image heap (p ∷ ps) (k ∷ ks))
+      by true is [] count rest = tt
+      by true is (j ∷ js) count rest = let two = words_over true p ps is in wide_args image heap p ps k j js is (rest js (omega (arith, count, two)))
+      by false is ks count rest = let one = words_over false p ps is in single_args image heap p ps k ks is (rest ks (omega (arith, count, one)))
 
   -- ---- a result
 
