@@ -126,7 +126,7 @@ module _ (s : Frame) (regs : List Value) (is_at : (k : ℕ) → IsWord (reg_word
       by true is = grind (arith, is)
       by false is = tt
 
-  abbrev Arguments : Image → Heap → List Ty → List ℕ → List Value → Type 0
+  abbrev pub Arguments : Image → Heap → List Ty → List ℕ → List Value → Type 0
   Arguments image heap ps ks xs = AreWords (map (reg_word s) ks) xs × AreOf image heap ps xs
 
   single_args : (image : Image) (heap : Heap) (p : Ty) (ps : List Ty) (k : ℕ) (ks : List ℕ) → is_long p ≡ false → WhereRead (read_args image heap regs ps ks) (Arguments image heap ps ks) →

@@ -14,3 +14,4 @@ mod Outcomes
 mod ThreadSteps
 mod NativeSteps
 mod Arguments
+mod CallSteps
