@@ -75,120 +75,41 @@ fn is_seen(stack: &Stack, levels: u32, top: Seen, words: [u32; 3]) -> bool {
 #[test]
 fn calls_in_turn(rt: HostRuntime) -> Result<(), Fail> {
     let none = Kept::None;
+    let nothing = Seen::Nothing;
+    let caller = Seen::Code(CALLER, 0, none, None);
+    let gone = Seen::Code(CALLER, 4, none, None);
+    let callee = Seen::Code(CALLEE, 0, none, None);
+    let handles = Seen::Code(CALLEE, 6, none, Some(77));
+    let given = Seen::Code(CALLEE, 6, Kept::One(5), Some(77));
+    let handles_again = Seen::Code(CALLEE, 2, none, Some(78));
+    let given_long = Seen::Code(CALLEE, 2, Kept::Two(5, 6), Some(78));
+    let gone_on = Seen::Code(CALLEE, 3, none, None);
+    let waits = Seen::Record(false);
+    let runs = Seen::Record(true);
     // A call, whether there is room for it, and then the levels, what is on top, and its first three registers.
     let rows = [
-        (Call::Pop, true, 0, Seen::Nothing, [0, 0, 0]),
-        (Call::Go(1), true, 0, Seen::Nothing, [0, 0, 0]),
-        (
-            Call::Push(CALLER, 3, [8, 9]),
-            true,
-            1,
-            Seen::Code(CALLER, 0, none, None),
-            [0, 8, 9],
-        ),
-        (
-            Call::Set(0, 7),
-            true,
-            1,
-            Seen::Code(CALLER, 0, none, None),
-            [7, 8, 9],
-        ),
-        (
-            Call::Set(3, 1),
-            true,
-            1,
-            Seen::Code(CALLER, 0, none, None),
-            [7, 8, 9],
-        ),
-        (
-            Call::Start,
-            true,
-            1,
-            Seen::Code(CALLER, 0, none, None),
-            [7, 8, 9],
-        ),
-        (
-            Call::Go(4),
-            true,
-            1,
-            Seen::Code(CALLER, 4, none, None),
-            [7, 8, 9],
-        ),
-        (
-            Call::Push(CALLEE, 4, [1, 2]),
-            false,
-            1,
-            Seen::Code(CALLER, 4, none, None),
-            [7, 8, 9],
-        ),
-        (
-            Call::Push(CALLEE, 0, [1, 2]),
-            true,
-            2,
-            Seen::Code(CALLEE, 0, none, None),
-            [1, 2, 0],
-        ),
-        (
-            Call::Handle(6, 77),
-            true,
-            2,
-            Seen::Code(CALLEE, 6, none, Some(77)),
-            [1, 2, 0],
-        ),
-        (
-            Call::Give(Kept::One(5)),
-            true,
-            2,
-            Seen::Code(CALLEE, 6, Kept::One(5), Some(77)),
-            [1, 2, 0],
-        ),
-        (
-            Call::Handle(2, 78),
-            true,
-            2,
-            Seen::Code(CALLEE, 2, none, Some(78)),
-            [1, 2, 0],
-        ),
-        (
-            Call::Give(Kept::Two(5, 6)),
-            true,
-            2,
-            Seen::Code(CALLEE, 2, Kept::Two(5, 6), Some(78)),
-            [1, 2, 0],
-        ),
-        (
-            Call::Go(3),
-            true,
-            2,
-            Seen::Code(CALLEE, 3, none, None),
-            [1, 2, 0],
-        ),
-        (Call::Record, true, 3, Seen::Record(false), [0, 0, 0]),
-        (Call::Set(0, 1), true, 3, Seen::Record(false), [0, 0, 0]),
-        (Call::Go(1), true, 3, Seen::Record(false), [0, 0, 0]),
-        (Call::Record, false, 3, Seen::Record(false), [0, 0, 0]),
-        (Call::Start, true, 3, Seen::Record(true), [0, 0, 0]),
-        (
-            Call::Pop,
-            true,
-            2,
-            Seen::Code(CALLEE, 3, none, None),
-            [1, 2, 0],
-        ),
-        (
-            Call::Pop,
-            true,
-            1,
-            Seen::Code(CALLER, 4, none, None),
-            [7, 8, 9],
-        ),
-        (
-            Call::Push(CALLEE, 0, [3, 4]),
-            true,
-            2,
-            Seen::Code(CALLEE, 0, none, None),
-            [3, 4, 0],
-        ),
+        (Call::Pop, true, 0, nothing, [0, 0, 0]),
+        (Call::Go(1), true, 0, nothing, [0, 0, 0]),
+        (Call::Push(CALLER, 3, [8, 9]), true, 1, caller, [0, 8, 9]),
+        (Call::Set(0, 7), true, 1, caller, [7, 8, 9]),
+        (Call::Set(3, 1), true, 1, caller, [7, 8, 9]),
+        (Call::Start, true, 1, caller, [7, 8, 9]),
+        (Call::Go(4), true, 1, gone, [7, 8, 9]),
+        (Call::Push(CALLEE, 4, [1, 2]), false, 1, gone, [7, 8, 9]),
+        (Call::Push(CALLEE, 0, [1, 2]), true, 2, callee, [1, 2, 0]),
+        (Call::Handle(6, 77), true, 2, handles, [1, 2, 0]),
+        (Call::Give(Kept::One(5)), true, 2, given, [1, 2, 0]),
+        (Call::Handle(2, 78), true, 2, handles_again, [1, 2, 0]),
+        (Call::Give(Kept::Two(5, 6)), true, 2, given_long, [1, 2, 0]),
+        (Call::Go(3), true, 2, gone_on, [1, 2, 0]),
+        (Call::Record, true, 3, waits, [0, 0, 0]),
+        (Call::Set(0, 1), true, 3, waits, [0, 0, 0]),
+        (Call::Go(1), true, 3, waits, [0, 0, 0]),
+        (Call::Record, false, 3, waits, [0, 0, 0]),
+        (Call::Start, true, 3, runs, [0, 0, 0]),
+        (Call::Pop, true, 2, gone_on, [1, 2, 0]),
+        (Call::Pop, true, 1, gone, [7, 8, 9]),
+        (Call::Push(CALLEE, 0, [3, 4]), true, 2, callee, [3, 4, 0]),
     ];
     let mut stack = Stack::new(rt.alloc(), 3, 6)?;
     for (row, (next, fits, levels, top, words)) in rows.into_iter().enumerate() {
