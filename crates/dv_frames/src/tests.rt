@@ -14,7 +14,7 @@ const CLASS: ClassId = ClassId(6);
 const WORDS: [u32; 8] = [10, 20, 30, 40, 50, 60, 70, 0xffff_ffff];
 
 /// What is called.
-#[derive(Clone, Copy, Debug)]
+#[derive(Clone, Copy)]
 enum Call {
     Push(MethodId, u16, [u32; 2]),
     Record,
@@ -43,7 +43,7 @@ fn make(stack: &mut Stack, call: Call) -> Result<(), Full> {
 }
 
 /// A frame's method, address, result and caught object, or whether a record is running.
-#[derive(Clone, Copy, PartialEq, Eq, Debug)]
+#[derive(Clone, Copy, PartialEq, Eq)]
 enum Seen {
     Nothing,
     Code(MethodId, u32, Kept, Option<u32>),
@@ -64,143 +64,72 @@ fn on_top(stack: &Stack) -> Seen {
     }
 }
 
+fn is_seen(stack: &Stack, levels: u32, top: Seen, words: [u32; 3]) -> bool {
+    stack.levels() == levels
+        && on_top(stack) == top
+        && stack.word(0) == words[0]
+        && stack.word(1) == words[1]
+        && stack.word(2) == words[2]
+}
+
 #[test]
 fn calls_in_turn(rt: HostRuntime) -> Result<(), Fail> {
     let none = Kept::None;
+    let nothing = Seen::Nothing;
+    let caller = Seen::Code(CALLER, 0, none, None);
+    let gone = Seen::Code(CALLER, 4, none, None);
+    let callee = Seen::Code(CALLEE, 0, none, None);
+    let handles = Seen::Code(CALLEE, 6, none, Some(77));
+    let given = Seen::Code(CALLEE, 6, Kept::One(5), Some(77));
+    let handles_again = Seen::Code(CALLEE, 2, none, Some(78));
+    let given_long = Seen::Code(CALLEE, 2, Kept::Two(5, 6), Some(78));
+    let gone_on = Seen::Code(CALLEE, 3, none, None);
+    let waits = Seen::Record(false);
+    let runs = Seen::Record(true);
     // A call, whether there is room for it, and then the levels, what is on top, and its first three registers.
     let rows = [
-        (Call::Pop, true, 0, Seen::Nothing, [0, 0, 0]),
-        (Call::Go(1), true, 0, Seen::Nothing, [0, 0, 0]),
-        (
-            Call::Push(CALLER, 3, [8, 9]),
-            true,
-            1,
-            Seen::Code(CALLER, 0, none, None),
-            [0, 8, 9],
-        ),
-        (
-            Call::Set(0, 7),
-            true,
-            1,
-            Seen::Code(CALLER, 0, none, None),
-            [7, 8, 9],
-        ),
-        (
-            Call::Set(3, 1),
-            true,
-            1,
-            Seen::Code(CALLER, 0, none, None),
-            [7, 8, 9],
-        ),
-        (
-            Call::Start,
-            true,
-            1,
-            Seen::Code(CALLER, 0, none, None),
-            [7, 8, 9],
-        ),
-        (
-            Call::Go(4),
-            true,
-            1,
-            Seen::Code(CALLER, 4, none, None),
-            [7, 8, 9],
-        ),
-        (
-            Call::Push(CALLEE, 4, [1, 2]),
-            false,
-            1,
-            Seen::Code(CALLER, 4, none, None),
-            [7, 8, 9],
-        ),
-        (
-            Call::Push(CALLEE, 0, [1, 2]),
-            true,
-            2,
-            Seen::Code(CALLEE, 0, none, None),
-            [1, 2, 0],
-        ),
-        (
-            Call::Handle(6, 77),
-            true,
-            2,
-            Seen::Code(CALLEE, 6, none, Some(77)),
-            [1, 2, 0],
-        ),
-        (
-            Call::Give(Kept::One(5)),
-            true,
-            2,
-            Seen::Code(CALLEE, 6, Kept::One(5), Some(77)),
-            [1, 2, 0],
-        ),
-        (
-            Call::Handle(2, 78),
-            true,
-            2,
-            Seen::Code(CALLEE, 2, none, Some(78)),
-            [1, 2, 0],
-        ),
-        (
-            Call::Give(Kept::Two(5, 6)),
-            true,
-            2,
-            Seen::Code(CALLEE, 2, Kept::Two(5, 6), Some(78)),
-            [1, 2, 0],
-        ),
-        (
-            Call::Go(3),
-            true,
-            2,
-            Seen::Code(CALLEE, 3, none, None),
-            [1, 2, 0],
-        ),
-        (Call::Record, true, 3, Seen::Record(false), [0, 0, 0]),
-        (Call::Set(0, 1), true, 3, Seen::Record(false), [0, 0, 0]),
-        (Call::Go(1), true, 3, Seen::Record(false), [0, 0, 0]),
-        (Call::Record, false, 3, Seen::Record(false), [0, 0, 0]),
-        (Call::Start, true, 3, Seen::Record(true), [0, 0, 0]),
-        (
-            Call::Pop,
-            true,
-            2,
-            Seen::Code(CALLEE, 3, none, None),
-            [1, 2, 0],
-        ),
-        (
-            Call::Pop,
-            true,
-            1,
-            Seen::Code(CALLER, 4, none, None),
-            [7, 8, 9],
-        ),
-        (
-            Call::Push(CALLEE, 0, [3, 4]),
-            true,
-            2,
-            Seen::Code(CALLEE, 0, none, None),
-            [3, 4, 0],
-        ),
+        (Call::Pop, true, 0, nothing, [0, 0, 0]),
+        (Call::Go(1), true, 0, nothing, [0, 0, 0]),
+        (Call::Push(CALLER, 3, [8, 9]), true, 1, caller, [0, 8, 9]),
+        (Call::Set(0, 7), true, 1, caller, [7, 8, 9]),
+        (Call::Set(3, 1), true, 1, caller, [7, 8, 9]),
+        (Call::Start, true, 1, caller, [7, 8, 9]),
+        (Call::Go(4), true, 1, gone, [7, 8, 9]),
+        (Call::Push(CALLEE, 4, [1, 2]), false, 1, gone, [7, 8, 9]),
+        (Call::Push(CALLEE, 0, [1, 2]), true, 2, callee, [1, 2, 0]),
+        (Call::Handle(6, 77), true, 2, handles, [1, 2, 0]),
+        (Call::Give(Kept::One(5)), true, 2, given, [1, 2, 0]),
+        (Call::Handle(2, 78), true, 2, handles_again, [1, 2, 0]),
+        (Call::Give(Kept::Two(5, 6)), true, 2, given_long, [1, 2, 0]),
+        (Call::Go(3), true, 2, gone_on, [1, 2, 0]),
+        (Call::Record, true, 3, waits, [0, 0, 0]),
+        (Call::Set(0, 1), true, 3, waits, [0, 0, 0]),
+        (Call::Go(1), true, 3, waits, [0, 0, 0]),
+        (Call::Record, false, 3, waits, [0, 0, 0]),
+        (Call::Start, true, 3, runs, [0, 0, 0]),
+        (Call::Pop, true, 2, gone_on, [1, 2, 0]),
+        (Call::Pop, true, 1, gone, [7, 8, 9]),
+        (Call::Push(CALLEE, 0, [3, 4]), true, 2, callee, [3, 4, 0]),
     ];
     let mut stack = Stack::new(rt.alloc(), 3, 6)?;
-    for (next, fits, levels, top, words) in rows {
-        assert_eq!(rt; make(&mut stack, next).is_ok(), fits, "{next:?}");
-        assert_eq!(rt; stack.levels(), levels, "{next:?}");
-        assert_eq!(rt; on_top(&stack), top, "{next:?}");
-        assert_eq!(rt;
-            [stack.word(0), stack.word(1), stack.word(2)],
-            words,
-            "{next:?}"
+    for (row, (next, fits, levels, top, words)) in rows.into_iter().enumerate() {
+        let answered = make(&mut stack, next).is_ok() == fits;
+        assert!(rt;
+            answered && is_seen(&stack, levels, top, words),
+            "row {row}"
         );
     }
     Ok(())
 }
 
-fn filled(stack: &mut Stack, registers: u16, count: u32) -> Result<(), Full> {
+// So many frames fit, and no more.
+fn is_filled_by(stack: &mut Stack, registers: u16, count: u32) -> bool {
     for _ in 0..count {
-        stack.push(CALLER, registers, &[])?;
+        if stack.push(CALLER, registers, &[]).is_err() {
+            return false;
+        }
     }
-    Ok(())
+    stack.push(CALLEE, registers, &[]) == Err(Full)
 }
 
 #[test]
@@ -215,24 +144,19 @@ fn room_is_counted(rt: HostRuntime) -> Result<(), Fail> {
         (16385, 0),
     ] {
         let mut stack = Stack::new(rt.alloc(), 1024, 16384)?;
-        filled(&mut stack, registers, most)?;
-        assert_eq!(rt;
-            stack.push(CALLEE, registers, &[]),
-            Err(Full),
-            "{registers}"
-        );
-        assert_eq!(rt; stack.levels(), most, "{registers}");
+        assert!(rt; is_filled_by(&mut stack, registers, most), "{registers}");
         if stack.pop().is_some() {
-            filled(&mut stack, registers, 1)?;
+            assert!(rt; is_filled_by(&mut stack, registers, 1), "{registers}");
         }
-        assert_eq!(rt; stack.levels(), most, "{registers}");
+        assert_eq!(rt; stack.levels(), most);
     }
     Ok(())
 }
 
 #[test]
 fn arguments_are_the_last_registers(rt: HostRuntime) -> Result<(), Fail> {
-    // Whether the form is the range form, how many registers it names, those that it writes, how many the method has, and what they are.
+    // Whether the form is the range form, how many registers it names, those that it writes, how many the method has, and what they are
+    // then. There is no room for a third level.
     let rows: [(bool, u8, [u16; 5], u16, &[u32]); 9] = [
         (false, 0, [0, 0, 0, 0, 0], 2, &[0, 0]),
         (false, 1, [7, 1, 1, 1, 1], 1, &[0xffff_ffff]),
@@ -254,7 +178,8 @@ fn arguments_are_the_last_registers(rt: HostRuntime) -> Result<(), Fail> {
         };
         stack.push_call(CALLEE, registers, &args)?;
         let frame = stack.copy_top()?;
-        assert_eq!(rt; frame.regs.items(), words);
+        let full = stack.push_call(CALLEE, registers, &args) == Err(Full);
+        assert!(rt; full && frame.regs.items() == words);
     }
     Ok(())
 }
@@ -265,13 +190,12 @@ fn a_frame_is_copied_and_put_back(rt: HostRuntime) -> Result<(), Fail> {
     stack.push(CALLER, 3, &[8])?;
     stack.give(Kept::One(12));
     let mut frame = stack.copy_top()?;
-    assert_eq!(rt; frame.regs.items(), [0, 0, 8].as_slice());
     stack.enter_handler(5, 6);
     stack.set_word(2, 33);
     frame.at = 2;
     stack.set_top(&frame);
-    assert_eq!(rt; stack.copy_top()?, frame);
-    assert_eq!(rt; on_top(&stack), Seen::Code(CALLER, 2, Kept::One(12), None));
+    let put_back = Seen::Code(CALLER, 2, Kept::One(12), None);
+    assert!(rt; is_seen(&stack, 1, put_back, [0, 0, 8]));
     Ok(())
 }
 
@@ -288,11 +212,11 @@ fn registers_are_read_and_written(rt: HostRuntime) {
     for (reg, two, written) in rows {
         let mut words = [4, 5, 6];
         words_are_whole(&words);
-        assert_eq!(rt; two_words(&words, reg), two);
+        let reads = two_words(&words, reg) == two;
         set_two(&mut words, reg, 1, 2);
-        assert_eq!(rt; words, written);
+        let writes = words == written;
         set_word(&mut words, reg, two.0);
-        assert_eq!(rt; word(&words, reg), two.0);
+        assert!(rt; reads && writes && word(&words, reg) == two.0);
     }
 }
 
@@ -303,7 +227,7 @@ fn results_have_words(rt: HostRuntime) {
         (Kept::One(7), 7, 0),
         (Kept::Two(7, 8), 7, 8),
     ] {
-        assert_eq!(rt; (low_word(kept), high_word(kept)), (low, high));
+        assert!(rt; low_word(kept) == low && high_word(kept) == high);
     }
 }
 
@@ -316,7 +240,7 @@ fn heads_go_on(rt: HostRuntime) {
         result: Kept::One(1),
         caught: Some(77),
     };
-    assert_eq!(rt; head, handles);
+    assert!(rt; head == handles);
     go(&mut head, 6);
     let mut levels = [Level::Code {
         head: handles,
@@ -329,12 +253,10 @@ fn heads_go_on(rt: HostRuntime) {
         result: Kept::None,
         caught: None,
     };
-    assert_eq!(rt;
-        last(&levels),
-        Some(Level::Code {
+    let changed = last(&levels)
+        == Some(Level::Code {
             head: went,
-            base: 4
-        })
-    );
-    assert_eq!(rt; (base_of(&levels, 9), base_of(&[], 9)), (4, 9));
+            base: 4,
+        });
+    assert!(rt; changed && base_of(&levels, 9) == 4 && base_of(&[], 9) == 9);
 }
