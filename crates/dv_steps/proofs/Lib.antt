@@ -15,3 +15,4 @@ mod ThreadSteps
 mod NativeSteps
 mod Arguments
 mod CallSteps
+mod ActSteps
