@@ -16,3 +16,4 @@ mod NativeSteps
 mod Arguments
 mod CallSteps
 mod ActSteps
+mod RecordSteps
