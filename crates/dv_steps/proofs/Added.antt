@@ -74,7 +74,7 @@ zero_stands ty.LongLo = refl
 zero_stands ty.LongHi = refl
 zero_stands t = refl
 
-zeros_stand : (ts : List RegType) → AreWords (replicate (length ts) 0) (fresh_cells ts)
+pub zeros_stand : (ts : List RegType) → AreWords (replicate (length ts) 0) (fresh_cells ts)
 zeros_stand [] = tt
 zeros_stand (t ∷ ts) = (zero_stands t, zeros_stand ts)
 

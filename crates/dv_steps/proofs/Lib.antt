@@ -17,3 +17,4 @@ mod Arguments
 mod CallSteps
 mod ActSteps
 mod RecordSteps
+mod ThreadStep

@@ -1,9 +1,11 @@
 -- Class initialisation and exceptions in flight on words go where the tagged machine's go.
-use Rattle.std.proofs.Common.{◌≡◌, ℕ, zero, suc, ◌++◌, Bool, true, false, ◌&&◌, Option, Some, None, Ok, Err, List, [], ◌∷◌, All, refl, sym, ap, ◌∙◌, subst}
-use Rattle.std.specs.Prelude.{codes, if◌then◌else◌, slice_set}
+use Rattle.std.proofs.Common.{◌≡◌, ℕ, zero, suc, ◌+◌, ◌++◌, Bool, true, false, ◌&&◌, Option, Some, None, Ok, Err, List, [], ◌∷◌, All, length, replicate, refl, sym, ap, ◌∙◌, subst}
+use Rattle.std.specs.Prelude.{codes, if◌then◌else◌, slice_get}
 use Rattle.dv_defs.specs.declared.machine.Ask.{Ask}
 use Rattle.dv_defs.specs.declared.machine.Ask.TheVariants as ask
 use Rattle.dv_defs.specs.declared.machine.Frame as tagged_frame
+use Rattle.dv_defs.specs.declared.machine.Kind.{Kind}
+use Rattle.dv_defs.specs.declared.machine.Kind.TheVariants as kind_of_tagged
 use Rattle.dv_defs.specs.declared.machine.Level as tagged_level
 use Rattle.dv_defs.specs.declared.machine.Level.TheVariants as level_of_tagged
 use Rattle.dv_defs.specs.declared.names.ClassId.{ClassId}
@@ -14,7 +16,7 @@ use Rattle.dv_defs.specs.declared.run.Value.TheVariants as v
 use Rattle.dv_defs.specs.Classes.{ClassState, Classes, Erroneous, InProgress, Ready, ask_of, with_state}
 use Rattle.dv_defs.specs.Flow.{Catcher}
 use Rattle.dv_defs.specs.Heap as tagged
-use Rattle.dv_defs.specs.Heap.{Heap}
+use Rattle.dv_defs.specs.Heap.{Heap, class_cells}
 use Rattle.dv_defs.specs.Images.{Image}
 use Rattle.dv_defs.specs.Names.{error_name}
 use Rattle.dv_defs.specs.Op.{Op, ConstString, Enter, Exit, FieldGet, FieldPut, Invoke, Return, ReturnVoid, is_local, needs}
@@ -30,13 +32,14 @@ use Rattle.dv_machine.specs.Step as step
 use Rattle.dv_machine.specs.Threads as threads
 use Rattle.dv_machine.specs.Unwinding as flight
 use Rattle.dv_words.specs.declared.state.Frame.{Frame}
+use Rattle.dv_words.specs.declared.state.Kind.TheVariants as kind
 use Rattle.dv_words.specs.declared.state.Level.{Level}
 use Rattle.dv_words.specs.declared.state.Level.TheVariants as level
 use Rattle.dv_words.specs.Heaps as words
 use Rattle.dv_words.specs.Stacks as stacks
 use Rattle.dv_words.specs.Standing.{FrameStands, HeapStands, IsWord, LevelsStand, SharedStands}
 use Rattle.dv_words.specs.State.{WordHeap, WordShared}
-use Rattle.dv_steps.specs.Laws.{ConstantFits, DidStands, HereStands, IsBounded, LeftStands, OperandsFit}
+use Rattle.dv_steps.specs.Laws.{IsBounded, IsPlain, OperandsFit}
 use Rattle.dv_steps.specs.Local.{reg_word, word_local}
 use Rattle.dv_steps.specs.Mem.{WordHere, WordLeft, type_of, word_mem}
 use Rattle.dv_steps.specs.Step as over
@@ -47,7 +50,7 @@ use Rattle.dv_steps.specs.Unwinding as falling
 use Rattle.dv_steps.specs.Calls as word_calls
 use Rattle.dv_steps.proofs.ActSteps.{act_stands}
 use Rattle.dv_defs.specs.declared.names.Ty.{Ty}
-use Rattle.dv_steps.proofs.Added.{OptionStands, newest_is, object_added}
+use Rattle.dv_steps.proofs.Added.{grown_stands, newest_is, room_is, zeros_stand}
 use Rattle.dv_steps.proofs.Arguments.{RefFits, WhereRead, ref_read, then_stands}
 use Rattle.dv_steps.proofs.CallSteps.{invoke_stands, return_form_stands, return_void_stands}
 use Rattle.dv_steps.proofs.LocalSteps.{local_steps_follow}
@@ -55,7 +58,7 @@ use Rattle.dv_steps.proofs.MemSteps.{mem_steps_follow}
 use Rattle.dv_steps.proofs.Objects.{cell_stands, type_is}
 use Rattle.dv_steps.proofs.Outcomes.{left_stands, on_object_alike, onward_stands, pushed_stands, with_same_classes}
 use Rattle.dv_steps.proofs.Registers.{is_word_at}
-use Rattle.dv_steps.proofs.Short.{IsBoundedOption, object_bounded}
+use Rattle.dv_steps.proofs.Short.{grown_bounded, stored_bounded}
 use Rattle.dv_steps.proofs.ThreadSteps.{entered_stands, enter_stands, exit_stands}
 
 module _ (w : steps.At) (h : Here) (stands : AtStands w h) where
@@ -170,3 +173,56 @@ module _ (w : steps.At) (h : Here) (stands : AtStands w h) where
   erroneous_stands : (c : ℕ) (x : WordShared) (y : Shared) → SharedStands x y → SharedStands (falling.erroneous c x) (flight.erroneous h c y)
   erroneous_stands c x y shared = with_same_classes x y _ _ shared (ap (λ cs. with_state cs c Erroneous) shared.classes)
 
+  -- ---- a record that an exception reaches
+
+  count_pushed : (ks : List Kind) (k : Kind) → length (ks ++ k ∷ []) ≡ suc (length ks)
+  count_pushed [] k = refl
+  count_pushed (q ∷ ks) k = ap suc (count_pushed ks k)
+
+  object_plain : (ks : List Kind) (c : ClassId) → IsPlain (slice_get (ks ++ kind_of_tagged.Object c ∷ []) (length ks))
+  object_plain [] c = tt
+  object_plain (q ∷ ks) c = object_plain ks c
+
+  wrapped_room : (c o n : ℕ) (a b : Bool) (x : WordHeap) (y : Heap) → a ≡ b → HeapStands x y → IsBounded y → tagged.newest y ≡ suc n → IsPlain (tagged.kind_of y (suc n)) →
+      UnwoundStands (falling.wrapped w c o (elim a [ true ↦ Some x | false ↦ None ])) (flight.wrapped h c o (elim b [ true ↦ Some y | false ↦ None ]))
+  wrapped_room c o n false false x y e s bounded new plain = tt
+  wrapped_room c o n true false x y e s bounded new plain = absurd (cc)
+  wrapped_room c o n false true x y e s bounded new plain = absurd (cc)
+  wrapped_room c o n true true x y e s bounded new plain =
+      let k = flight.throwable_slot h.image (codes "cause") in
+      let same : words.newest x ≡ tagged.newest y = newest_is x y s in
+      let one : HeapStands (words.with_word x (suc n) k o) (tagged.with_cell y (suc n) k (v.Ref o)) = cell_stands o (v.Ref o) refl k x y n plain s in
+      let two = subst (λ (m : ℕ). HeapStands (words.with_word x m k o) (tagged.with_cell y (suc n) k (v.Ref o))) (sym (same ∙ new)) one in
+      let both = subst (λ (m : ℕ). HeapStands (words.with_word x (words.newest x) k o) (tagged.with_cell y m k (v.Ref o))) (sym new) two in
+      let placed = subst (λ i. HeapStands (words.with_word x (words.newest x) (flight.throwable_slot i (codes "cause")) o) (tagged.with_cell y (tagged.newest y) k (v.Ref o))) (sym stands.image) both in
+      (same, leaves_stand _ _ (falling.below_record w c) (flight.below_record h c)
+      (erroneous_stands c (steps.with_heap w.shared (words.with_word x (words.newest x) (flight.throwable_slot w.image (codes "cause")) o)) (machine.with_heap h.shared (tagged.with_cell y (tagged.newest y) k (v.Ref o)))
+      (record { heap = placed; classes = stands.shared.classes; monitors = stands.shared.monitors; output = stands.shared.output }))
+      (below_stands c) (stored_bounded y (tagged.newest y) k (v.Ref o ∷ []) bounded))
+
+  wrapped_stands : (c o : ℕ) → UnwoundStands (falling.wrapped w c o (falling.made_object w.image w.shared.heap named.InInitializer)) (flight.wrapped h c o (flight.made_object h.image h.shared.heap named.InInitializer))
+  wrapped_stands c o =
+      let d = flight.number_named h.image (flight.exception_name named.InInitializer) in
+      let cells = class_cells h.image d in
+      let cost = 2 + length cells in
+      let x = words.grown w.shared.heap (kind.Object (record { 0 = d })) (replicate (length cells) 0) cost in
+      let y = tagged.grown h.shared.heap (kind_of_tagged.Object (record { 0 = d })) (tagged.fresh_cells cells) cost in
+      let s : HeapStands x y = grown_stands w.shared.heap h.shared.heap (kind_of_tagged.Object (record { 0 = d })) (replicate (length cells) 0) (tagged.fresh_cells cells) cost stands.shared.heap (zeros_stand cells) in
+      subst (λ i. UnwoundStands (falling.wrapped w c o (falling.made_object i w.shared.heap named.InInitializer)) (flight.wrapped h c o (flight.made_object h.image h.shared.heap named.InInitializer))) (sym stands.image)
+      (wrapped_room c o (length h.shared.heap.kinds) (words.has_room w.shared.heap cost) (tagged.has_room h.shared.heap cost) x y (room_is w.shared.heap h.shared.heap cost stands.shared.heap) s
+      (grown_bounded h.shared.heap (kind_of_tagged.Object (record { 0 = d })) (tagged.fresh_cells cells) cost stands.bounded tt)
+      (count_pushed h.shared.heap.kinds (kind_of_tagged.Object (record { 0 = d }))) (object_plain h.shared.heap.kinds (record { 0 = d })))
+
+  error_is : (o : ℕ) → falling.is_error w o ≡ flight.is_error h o
+  error_is o = ap (λ i. instance i (type_of i w.shared.heap o) (of_class error_name)) stands.image ∙ ap (λ t. instance h.image t (of_class error_name)) (type_is h.image w.shared.heap h.shared.heap o stands.shared.heap)
+
+  record_by : (a b : Bool) (c o : ℕ) → a ≡ b →
+      UnwoundStands (if a then falling.Flies o (steps.leaves (falling.erroneous c w.shared) (falling.below_record w c)) else falling.wrapped w c o (falling.made_object w.image w.shared.heap named.InInitializer))
+      (if b then flight.Flies o (flight.leaves (flight.erroneous h c h.shared) (flight.below_record h c)) else flight.wrapped h c o (flight.made_object h.image h.shared.heap named.InInitializer))
+  record_by true true c o e = (refl, leaves_stand _ _ (falling.below_record w c) (flight.below_record h c) (erroneous_stands c w.shared h.shared stands.shared) (below_stands c) stands.bounded)
+  record_by false false c o e = wrapped_stands c o
+  record_by true false c o e = absurd (cc)
+  record_by false true c o e = absurd (cc)
+
+  pub record_unwound : (c o : ℕ) → UnwoundStands (falling.unwind_record w c o) (flight.unwind_record h c o)
+  record_unwound c o = record_by (falling.is_error w o) (flight.is_error h o) c o (error_is o)
