@@ -3,12 +3,13 @@ use Rattle.std.proofs.Common.{◌≡◌, ℕ, zero, suc, ◌++◌, Bool, true, f
 use Rattle.std.specs.Prelude.{if◌then◌else◌, slice_get, slice_set}
 use Rattle.std.specs.List.{AllZip}
 use Rattle.std.specs.Option.{option_to_list}
-use Rattle.std.proofs.lemmas.List.Elements.{All-head, All-tail}
+use Rattle.std.proofs.lemmas.List.Elements.{All-head, All-nil, All-tail}
 use Rattle.dv_defs.specs.declared.machine.End.{End}
 use Rattle.dv_defs.specs.declared.machine.End.TheVariants as end
 use Rattle.dv_defs.specs.declared.machine.Frame as tagged_frame
 use Rattle.dv_defs.specs.declared.machine.Level as tagged_level
 use Rattle.dv_defs.specs.declared.machine.Level.TheVariants as level_of_tagged
+use Rattle.dv_defs.specs.declared.names.ClassId.{ClassId}
 use Rattle.dv_defs.specs.declared.names.MethodId.{MethodId}
 use Rattle.dv_defs.specs.declared.run.Ending.{Ending}
 use Rattle.dv_defs.specs.declared.run.Ending.TheVariants as ending
@@ -29,7 +30,7 @@ use Rattle.dv_words.specs.declared.state.Frame.{Frame}
 use Rattle.dv_words.specs.declared.state.Level.{Level}
 use Rattle.dv_words.specs.declared.state.Level.TheVariants as level
 use Rattle.dv_words.specs.Heaps as words
-use Rattle.dv_words.specs.Standing.{FrameFits, FrameStands, HeapFits, HeapStands, IsResult, LevelFits, LevelsStand, MachineFits, MachineStands, SharedStands, ThreadFits, ThreadStands}
+use Rattle.dv_words.specs.Standing.{Fits, FrameFits, FrameStands, HeapFits, HeapStands, IsResult, LevelFits, LevelsStand, MachineFits, MachineStands, SharedStands, ThreadFits, ThreadStands}
 use Rattle.dv_words.specs.State.{WordHeap, WordMachine, WordShared, WordThread}
 use Rattle.dv_steps.specs.Laws.{IsBounded, IsMade, OperandsFit}
 use Rattle.dv_steps.specs.Step as over
@@ -139,3 +140,121 @@ module _ (w : WordMachine) (m : Machine) (t : ℕ) (stands : MachineStands w m) 
   settled_stands image a NoRoom NoRoom n s is = subst (After (over.stopped w (ending.StackFull t))) (same_machine _ n is) (stopped_stands (ending.StackFull t))
   settled_stands image a NoOutput NoOutput n s is = subst (After (over.stopped w ending.Output)) (same_machine _ n is) (stopped_stands ending.Output)
   settled_stands image a d e n s is = absurd s
+
+  settled_flight_stands : (a : steps.At) (h : machine.Here) (there : AtStands a h) (d : falling.Unwound) (e : flight.Unwound) (n : Machine) → UnwoundStands a h there d e → step.settled_flight m t th e ≡ Ok n → After (over.settled_flight w t x d) n
+  settled_flight_stands a h there (falling.Caught s) (flight.Caught l) n left is = subst (After (over.gone_on w t x s)) (same_machine _ n is) (gone_stands s l left)
+  settled_flight_stands a h there (falling.Flies o s) (flight.Flies p l) n left is = subst (After (over.flown w t x o s)) (same_machine _ n is) (flown_stands o p s l left.0 left.1)
+  settled_flight_stands a h there falling.Lacking flight.Lacking n left is = subst (After (over.stopped w (ending.HeapFull t))) (same_machine _ n is) (stopped_stands (ending.HeapFull t))
+  settled_flight_stands a h there d e n left is = absurd left
+
+-- ---- a step
+
+module _ (image : Image) (w : WordMachine) (m : Machine) (t : ℕ) (image_fits : ImageFits image) (operations : OperationsFit image) (fits : MachineFits w) (fit : IsFit image m) (stands : MachineStands w m) (x : WordThread) (th : Thread) (one : ThreadStands x th) (n : Machine) where
+  same_state : (let r : Reads Machine = Ok m in r) ≡ Ok n → After w n
+  same_state is = subst (After w) (same_machine w m t stands fit.bounded x th one m n is) (stands, fit.bounded)
+
+  -- what the instruction at hand sees
+  here_stands : (own : Method) (s : Frame) (f : tagged_frame.Frame) (ss : List Level) (ls : List tagged_level.Level) (next : ℕ) → FrameStands s f → LevelsStand ss ls → FrameFits s → All (IsMade m.shared.heap) f.regs → AtStands (over.here image w t own s ss next) (step.here image m t own f ls next)
+  here_stands own s f ss ls next frame rest small made = record {
+    image = refl;
+    limits = stands.limits;
+    thread = refl;
+    own = refl;
+    next = refl;
+    threads = stands.threads;
+    shared = stands.shared;
+    frame = frame;
+    rest = rest;
+    bounded = fit.bounded;
+    made = made;
+    chars = fit.chars;
+    frame_fits = small;
+    heap_fits = fits.1;
+  }
+
+  no_frames : FrameStands over.no_frame step.no_frame
+  no_frames = record { method = refl; at = refl; regs = tt; result = tt; caught = refl }
+
+  no_frame_fits : FrameFits over.no_frame
+  no_frame_fits = (All-nil Fits, tt)
+
+  at_by : (own : Method) (s : Frame) (f : tagged_frame.Frame) (ss : List Level) (ls : List tagged_level.Level) (a : Option statics.At) → FrameStands s f → LevelsStand ss ls → FrameFits s → All (IsMade m.shared.heap) f.regs →
+      ((y : statics.At) → a ≡ Some y → OperandsFit image y.op × CallFits image y.op) → step.step_at image m t th own f ls a ≡ Ok n → After (over.step_at image w t x own s ss a) n
+  at_by own s f ss ls None frame rest small made ops is = absurd (cc)
+  at_by own s f ss ls (Some a) frame rest small made ops is =
+      let there = here_stands own s f ss ls a.next frame rest small made in
+      let good = ops a refl in
+      settled_stands w m t stands fit.bounded x th one image (Some a) _ _ n (ready_stands (over.here image w t own s ss a.next) (step.here image m t own f ls a.next) there a.op (needs a.op) image_fits good.0 good.1) is
+
+  code_by : (s : Frame) (f : tagged_frame.Frame) (ss : List Level) (ls : List tagged_level.Level) (own : Option Method) → FrameStands s f → LevelsStand ss ls → FrameFits s → All (IsMade m.shared.heap) f.regs → step.step_code image m t th f ls own ≡ Ok n → After (over.step_code image w t x s ss own) n
+  code_by s f ss ls None frame rest small made is = absurd (cc)
+  code_by s f ss ls (Some own) frame rest small made is =
+      let same : fetch image s.method.0 s.at ≡ fetch image f.method.0 f.at = ap (λ (k : MethodId). fetch image k.0 s.at) frame.method ∙ ap (fetch image f.method.0) frame.at in
+      subst (λ (a : Option statics.At). After (over.step_at image w t x own s ss a) n) (sym same)
+      (at_by own s f ss ls (fetch image f.method.0 f.at) frame rest small made (λ y found. operations f.method.0 f.at y found) is)
+
+  living_by : (ss : List Level) (ls : List tagged_level.Level) → LevelsStand ss ls → All LevelFits ss → All (LevelIsMade m) ls → step.step_living image m t th ls ≡ Ok n → After (over.step_living image w t x ss) n
+  living_by [] [] all small made is = same_state is
+  living_by [] (l ∷ ls) all small made is = absurd all
+  living_by (s ∷ ss) [] all small made is = absurd all
+  living_by (level.Init c r ∷ ss) (level_of_tagged.Code f ∷ ls) all small made is = absurd all.0
+  living_by (level.Code s ∷ ss) (level_of_tagged.Init d q ∷ ls) all small made is = absurd all.0
+  living_by (level.Code s ∷ ss) (level_of_tagged.Code f ∷ ls) all small made is =
+      let frame : FrameStands s f = all.0 in
+      subst (λ (own : Option Method). After (over.step_code image w t x s ss own) n) (sym (ap (λ (k : MethodId). method_at image k.0) frame.method))
+      (code_by s f ss ls (method_at image f.method.0) frame all.1 (All-head LevelFits (level.Code s) ss small) (All-head (LevelIsMade m) (level_of_tagged.Code f) ls made) is)
+  living_by (level.Init c r ∷ ss) (level_of_tagged.Init d q ∷ ls) all small made is =
+      let there = here_stands step.no_method over.no_frame step.no_frame ss ls 0 no_frames all.1 no_frame_fits (All-nil (IsMade m.shared.heap)) in
+      subst (λ (k : ClassId). After (over.settled image w t x None (over.record_step (over.here image w t step.no_method over.no_frame ss 0) k.0 r)) n) (sym all.0.0)
+      (subst (λ (b : Bool). After (over.settled image w t x None (over.record_step (over.here image w t step.no_method over.no_frame ss 0) d.0 b)) n) (sym all.0.1)
+      (settled_stands w m t stands fit.bounded x th one image None _ _ n (record_stands (over.here image w t step.no_method over.no_frame ss 0) (step.here image m t step.no_method step.no_frame ls 0) there d.0 q) is))
+
+  flight_by : (o : ℕ) (ss : List Level) (ls : List tagged_level.Level) → LevelsStand ss ls → All LevelFits ss → All (LevelIsMade m) ls → step.step_flight image m t th o ls ≡ Ok n → After (over.step_flight image w t x o ss) n
+  flight_by o [] [] all small made is = same_state is
+  flight_by o [] (l ∷ ls) all small made is = absurd all
+  flight_by o (s ∷ ss) [] all small made is = absurd all
+  flight_by o (level.Init c r ∷ ss) (level_of_tagged.Code f ∷ ls) all small made is = absurd all.0
+  flight_by o (level.Code s ∷ ss) (level_of_tagged.Init d q ∷ ls) all small made is = absurd all.0
+  flight_by o (level.Code s ∷ ss) (level_of_tagged.Code f ∷ ls) all small made is =
+      let frame : FrameStands s f = all.0 in
+      let there = here_stands step.no_method s f ss ls 0 frame all.1 (All-head LevelFits (level.Code s) ss small) (All-head (LevelIsMade m) (level_of_tagged.Code f) ls made) in
+      let catchers = handlers_at image f.method.0 f.at in
+      let same : handlers_at image s.method.0 s.at ≡ catchers = ap (λ (k : MethodId). handlers_at image k.0 s.at) frame.method ∙ ap (handlers_at image f.method.0) frame.at in
+      let to : falling.handler_for image w.shared.heap o (handlers_at image s.method.0 s.at) ≡ flight.handler_for image m.shared.heap o catchers =
+          ap (falling.handler_for image w.shared.heap o) same ∙ handler_is (over.here image w t step.no_method s ss 0) (step.here image m t step.no_method f ls 0) there image o catchers in
+      subst (λ (k : Option ℕ). After (over.settled_flight w t x (falling.unwind_frame (over.here image w t step.no_method s ss 0) s o k)) n) (sym to)
+      (settled_flight_stands w m t stands fit.bounded x th one (over.here image w t step.no_method s ss 0) (step.here image m t step.no_method f ls 0) there _ _ n (frame_unwound (over.here image w t step.no_method s ss 0) (step.here image m t step.no_method f ls 0) there s f o (flight.handler_for image m.shared.heap o catchers) frame) is)
+  flight_by o (level.Init c r ∷ ss) (level_of_tagged.Init d q ∷ ls) all small made is =
+      let there = here_stands step.no_method over.no_frame step.no_frame ss ls 0 no_frames all.1 no_frame_fits (All-nil (IsMade m.shared.heap)) in
+      subst (λ (k : ClassId). After (over.settled_flight w t x (falling.unwind_record (over.here image w t step.no_method over.no_frame ss 0) k.0 o)) n) (sym all.0.0)
+      (settled_flight_stands w m t stands fit.bounded x th one (over.here image w t step.no_method over.no_frame ss 0) (step.here image m t step.no_method step.no_frame ls 0) there _ _ n (record_unwound (over.here image w t step.no_method over.no_frame ss 0) (step.here image m t step.no_method step.no_frame ls 0) there d.0 o) is)
+
+  end_by : (a b : End) → a ≡ b → ThreadFits x → ThreadIsMade m th → step.step_thread image m t th b ≡ Ok n → After (over.step_thread image w t x a) n
+  end_by a end.Living same small made is = subst (λ (e : End). After (over.step_thread image w t x e) n) (sym same) (living_by x.levels th.levels one.levels small made is)
+  end_by a (end.Flying o) same small made is = subst (λ (e : End). After (over.step_thread image w t x e) n) (sym same) (flight_by o x.levels th.levels one.levels small made is)
+  end_by a end.Returned same small made is = subst (λ (e : End). After (over.step_thread image w t x e) n) (sym same) (same_state is)
+  end_by a (end.Died o) same small made is = subst (λ (e : End). After (over.step_thread image w t x e) n) (sym same) (same_state is)
+
+-- ---- a thread by its number
+
+fits_at : (ws : List WordThread) (k : ℕ) (x : WordThread) → All ThreadFits ws → slice_get ws k ≡ Some x → ThreadFits x
+fits_at [] k x all is = absurd (cc)
+fits_at (w ∷ ws) zero x all is = let e : w ≡ x = cc in subst ThreadFits e (All-head ThreadFits w ws all)
+fits_at (w ∷ ws) (suc k) x all is = fits_at ws k x (All-tail ThreadFits w ws all) is
+
+made_at : (m : Machine) (ts : List Thread) (k : ℕ) (t : Thread) → All (ThreadIsMade m) ts → slice_get ts k ≡ Some t → ThreadIsMade m t
+made_at m [] k t all is = absurd (cc)
+made_at m (u ∷ ts) zero t all is = let e : u ≡ t = cc in subst (ThreadIsMade m) e (All-head (ThreadIsMade m) u ts all)
+made_at m (u ∷ ts) (suc k) t all is = made_at m ts k t (All-tail (ThreadIsMade m) u ts all) is
+
+pub steps_follow : StepsFollow
+steps_follow image w m n t image_fits operations fits fit stands is = by (slice_get w.threads t) (slice_get m.threads t) refl refl (thread_at w.threads m.threads t stands.threads) is
+  where
+    same : (let r : Reads Machine = Ok m in r) ≡ Ok n → m ≡ n
+    same e = cc
+
+    by : (a : Option WordThread) (b : Option Thread) → slice_get w.threads t ≡ a → slice_get m.threads t ≡ b → BothStand a b → step.step_of image m t b ≡ Ok n → MachineStands (over.step_of image w t a) n × IsBounded n.shared.heap
+    by None None has found both e = subst (λ (k : Machine). MachineStands w k × IsBounded k.shared.heap) (same e) (stands, fit.bounded)
+    by None (Some th) has found both e = absurd both
+    by (Some x) None has found both e = absurd both
+    by (Some x) (Some th) has found both e = end_by image w m t image_fits operations fits fit stands x th both n x.end th.end both.end (fits_at w.threads t x fits.0 has) (made_at m m.threads t th fit.made found) e
