@@ -9,10 +9,10 @@ use Rattle.dv_defs.specs.declared.code.Payload.{Payload}
 use Rattle.dv_defs.specs.declared.code.Body.{Body}
 use Rattle.dv_defs.specs.Pools.{Method, method_at}
 use Rattle.dv_defs.specs.Op.{Code, code_at, code_of, with_body, op_of, Resolved}
-use Rattle.dv_steps.specs.Fetching.{IsFetched, IsThere, StandsAt}
+use Rattle.dv_steps.specs.Fetching.{FetchedIsDecoded, FetchedIsThere, IsFetched, IsSpelled, IsThere, PayloadsAreThere, StandsAt}
 use Rattle.dv_defs.specs.Statics.{At, fetch, fetch_in, at_tile, at_of, sound_at, insn_rules}
 use Rattle.dv_defs.specs.Decoding.{Sized, insn_here}
-use Rattle.dv_defs.specs.Tiling.{Item, IsInsn, IsPayload, Piece, Tile, SizedPayload, tiled, tiling, tiles_in, tile_at, with_tile, piece_here, insn_piece, payload_piece, begins_payload, payload_of, insn_in}
+use Rattle.dv_defs.specs.Tiling.{Item, IsInsn, IsPayload, Piece, Tile, SizedPayload, tiled, tiling, tiles_in, tile_at, with_tile, piece_here, insn_piece, payload_piece, begins_payload, payload_of, insn_in, payload_at, payload_in}
 
 -- the tile of an address begins where the address is
 pub record IsHere (t : Tile) (to : ℕ) (us : List ℕ) : Type 0 where
@@ -205,3 +205,33 @@ after_read units at size i e image n x s =
 
 pub none_after : (units : List ℕ) (at to : ℕ) → insn_here (drop at units) ≡ None → IsAfter units at to
 none_after units at to e image n x s = let r = read_here image n at units x s in absurd (let d : None ≡ Some (let z : Sized = record { insn = r.insn; size = r.size } in z) = sym e ∙ r.read in cc d)
+
+-- ---- as laws
+
+pub fetched_is_there : FetchedIsThere
+fetched_is_there image n at units x s = read_here image n at units x s
+
+pub fetched_is_decoded : FetchedIsDecoded
+fetched_is_decoded image n at code i size x has stands read = is_fetched image code at i size x n has stands read
+
+-- ---- payloads
+
+payload_tile : (o : Option Tile) (p : Payload) → elim o [ None ↦ None | Some t ↦ payload_in t.item ] ≡ Some p → (t : Tile) × (o ≡ Some t) × (t.item ≡ IsPayload p)
+payload_tile None p e = absurd (cc)
+payload_tile (Some t) p e = (t, refl, item t.item e)
+  where
+    item : (y : Item) → payload_in y ≡ Some p → y ≡ IsPayload p
+    item (IsInsn i) d = absurd (cc)
+    item (IsPayload q) d = ap IsPayload (same_Some q p d)
+
+payload_by : (units : List ℕ) (at : ℕ) (p : Payload) (r : Result (List Tile) ℕ) → tiling units ≡ r → payload_at (tiles_in r) at ≡ Some p → IsSpelled units at p
+payload_by units at p (Err a) is e = absurd (cc)
+payload_by units at p (Ok ts) is e =
+    let t = payload_tile (tile_at ts at) p e in
+    let h = tile_found units 0 0 at ts t.0 is t.1 in
+    let on : h.on ≡ at = sym (omega (arith, h.place)) in
+    let piece = subst (λ (k : ℕ). piece_here (drop k units) ≡ Some (record { item = t.0.item; size = t.0.size })) on h.here.piece in
+    record { size = t.0.size; read = subst (λ (y : Item). piece_here (drop at units) ≡ Some (record { item = y; size = t.0.size })) t.2 piece }
+
+pub payloads_are_there : PayloadsAreThere
+payloads_are_there units at p e = payload_by units at p (tiling units) refl e

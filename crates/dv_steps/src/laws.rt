@@ -1,5 +1,7 @@
 // The laws of the steps on words.
+ghost use Rattle.dv_steps.specs.Fetching.{FetchedIsDecoded, FetchedIsThere, PayloadsAreThere, TilesAreOfUnits};
 ghost use Rattle.dv_steps.specs.Laws.{LocalStepsFollow, MemStepsFollow};
+ghost use Rattle.dv_steps.specs.StepLaws.{StepsFollow};
 
 /// A local instruction on words that stand for a tagged frame goes where the tagged one goes, wherever that isn't stuck.
 pub fn local_steps_follow()
@@ -10,4 +12,30 @@ pub fn local_steps_follow()
 /// on to words that stand again, throws the same, or lacks words alike; wherever that isn't stuck.
 pub fn mem_steps_follow()
     ensures law { MemStepsFollow }
+{}
+
+/// A step of a thread on words that stand for a state leads to words that stand for the state after the tagged step, wherever that isn't stuck:
+/// every instruction, native, record of class initialisation and exception in flight.
+pub fn steps_follow()
+    ensures law { StepsFollow }
+{}
+
+/// Where an operation is fetched, the units spell an instruction, and the next one stands behind it.
+pub fn fetched_is_there()
+    ensures law { FetchedIsThere }
+{}
+
+/// The operation that is fetched is that of the instruction that the units spell there.
+pub fn fetched_is_decoded()
+    ensures law { FetchedIsDecoded }
+{}
+
+/// The items of a method are those of its units.
+pub fn tiles_are_of_units()
+    ensures law { TilesAreOfUnits }
+{}
+
+/// A payload that the items of units have is spelled where it stands.
+pub fn payloads_are_there()
+    ensures law { PayloadsAreThere }
 {}
