@@ -26,8 +26,7 @@ pub(crate) fn first_states(alloc: Global, image: &Image) -> Result<Vec<State>, A
 
 /// What is known of the classes at first: those that declare an initialiser are fresh.
 fn with_initialisers(alloc: Global, image: &Image) -> Result<Vec<Option<State>>, AllocError>
-    ensures known { IfOk result (λ v. AreKnown image.now v.items) }
-    ensures count { IfOk result (λ v. length v.items ≡ length image.now.classes) }
+    ensures { IfOk result (λ v. AreKnown image.now v.items) }
 {
     let mut known = vec![in alloc; None; image.classes.len()]?;
     let methods = methods_of(image);
@@ -43,7 +42,6 @@ fn with_initialisers(alloc: Global, image: &Image) -> Result<Vec<Option<State>>,
 /// something is known of, and is ready where there is none.
 fn state_of(image: &Image, known: &[Option<State>], class: usize) -> State
     requires within { class < length known.now }
-    requires count { length known.now ≡ length image.now.classes }
     requires known { AreKnown image.now known.now }
     ensures { class_state result ≡ first_state image.now class }
 {
@@ -62,7 +60,6 @@ fn state_of(image: &Image, known: &[Option<State>], class: usize) -> State
 /// Writes the state of a class down for it and for those above it, up to the first one that something is known of.
 fn write_up(image: &Image, known: &mut [Option<State>], class: usize, state: State)
     requires within { class < length known.old }
-    requires count { length known.old ≡ length image.now.classes }
     requires known { AreKnown image.now known.old }
     requires state { class_state state ≡ first_state image.now class }
     ensures { AreKnown image.now known.new }

@@ -13,7 +13,6 @@ use dv_ops::{Method, method_at};
 const CLINIT: &[u8] = b"<clinit>";
 
 /// The method that initialises a class, where it declares one: static, `<clinit>()V`, with a body (JLS 12.4, JVMS 2.9.2).
-#[tactic(auto, unfolding(dv_defs::specs::Pools::initialiser))]
 pub fn initialiser(image: &Image, class: ClassId) -> Option<Method<'_>>
     ensures { option_map method_of result ≡ initialiser_of image.now class.0 }
 {

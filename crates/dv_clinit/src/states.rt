@@ -108,8 +108,9 @@ impl ClassStates {
     fn set(&mut self, class: ClassId, state: State)
         ensures { self.new ≡ with_state self.old class.0 (class_state state) }
     {
-        if let Some(place) = self.states.get_mut(class.0 as usize) {
-            *place = state;
+        let place = class.0 as usize;
+        if place < self.states.len() {
+            self.states[place] = state;
         }
     }
 }

@@ -1,0 +1,4 @@
+pub mod BirthLaws
+pub mod Declared
+pub mod Numbered
+pub mod Marking
