@@ -69,7 +69,7 @@ fn threads_are_told(rt: HostRuntime) -> Result<(), Fail> {
     Ok(())
 }
 
-fn call<R: Abort>(rt: &R, states: &mut ClassStates, class: ClassId, thread: u32, call: Call) {
+fn do_call<R: Abort>(rt: &R, states: &mut ClassStates, class: ClassId, thread: u32, call: Call) {
     match call {
         Call::Begin => {
             assert!(rt; states.ask(class, thread) == Ask::Begin);
@@ -90,7 +90,7 @@ fn call<R: Abort>(rt: &R, states: &mut ClassStates, class: ClassId, thread: u32,
 fn states_follow_one_another(rt: HostRuntime) -> Result<(), Fail> {
     let mut states = states(&rt)?;
     for (class, thread, what, state) in CALLS {
-        call(&rt, &mut states, ClassId(class), thread, what);
+        do_call(&rt, &mut states, ClassId(class), thread, what);
         assert_eq!(rt; states.state(ClassId(class)), state, "{class} {thread} {what:?}");
     }
     // the others are as before
