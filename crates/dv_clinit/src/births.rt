@@ -15,7 +15,7 @@ pub(crate) fn first_states(alloc: Global, image: &Image) -> Result<Vec<State>, A
     ensures { IfOk result (λ v. class_states v.items ≡ opening_states image.now image.now.classes 0) }
 {
     let mut known = with_initialisers(alloc, image)?;
-    let mut states = Vec::new(alloc);
+    let mut states = Vec::with_capacity(alloc, known.len())?;
     for class in 0..known.len() {
         let state = state_of(image, &known, class);
         write_up(image, &mut known, class, state);
