@@ -1,5 +1,5 @@
 -- In what state a class begins: by its own initialiser, and by its superclass.
-use Rattle.std.proofs.Common.{◌≡◌, ◌<◌, ◌≤◌, ◌-◌, ◌+◌, ℕ, zero, suc, Bool, true, false, ◌&&◌, List, [], ◌∷◌, ◌++◌, ◌≢◌, length, get_or, set, take, drop, Option, Some, None, refl, sym, ap, ◌∙◌, subst, arith}
+use Rattle.std.proofs.Common.{◌≡◌, ◌<◌, ◌-◌, ◌+◌, ℕ, zero, suc, Bool, true, false, ◌&&◌, List, [], ◌∷◌, ◌++◌, ◌≢◌, length, get_or, set, take, drop, Option, Some, None, refl, sym, ap, ◌∙◌, subst, arith}
 use Rattle.std.specs.Prelude.{is_none, map, nat_eq, if◌then◌else◌}
 use Rattle.std.specs.List.{range_with_len}
 use Rattle.std.proofs.Math.Seq.{take-append_seam}
@@ -10,8 +10,8 @@ use Rattle.std.proofs.lemmas.List.FromFn.{map-range_with_len_more}
 use Rattle.dv_defs.specs.declared.image.ClassInfo.{ClassInfo}
 use Rattle.dv_defs.specs.Images.{Image}
 use Rattle.dv_defs.specs.Linked.{IsImage}
-use Rattle.dv_defs.specs.Pools.{Method, initialiser, parent_at, supers, walk}
-use Rattle.dv_defs.specs.Classes.{ClassState, Fresh, Ready}
+use Rattle.dv_defs.specs.Pools.{Method, initialiser, parent_at, walk}
+use Rattle.dv_defs.specs.Classes.{Fresh, Ready}
 use Rattle.dv_machine.specs.Opening.{first_states, is_born, none_initialised}
 use Rattle.dv_linklaws.proofs.OrderedImages.{image_ordered}
 use Rattle.dv_linklaws.proofs.Reach.{above_in}

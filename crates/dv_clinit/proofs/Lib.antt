@@ -2,3 +2,4 @@ pub mod BirthLaws
 pub mod Declared
 pub mod Numbered
 pub mod Marking
+pub mod Writing

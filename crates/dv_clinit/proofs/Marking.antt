@@ -1,5 +1,5 @@
 -- What is known of classes once the first of an image's methods are looked at.
-use Rattle.std.proofs.Common.{◌≡◌, ◌≢◌, ◌<◌, ◌≤◌, ◌+◌, ◌-◌, ℕ, zero, suc, Bool, true, false, List, [], ◌∷◌, length, get_or, set, Option, Some, None, refl, sym, ap, subst, ◌∙◌, arith}
+use Rattle.std.proofs.Common.{◌≡◌, ◌≢◌, ◌<◌, ◌≤◌, ◌+◌, ℕ, Bool, true, false, List, length, get_or, set, Option, Some, None, refl, sym, ap, subst, ◌∙◌, arith}
 use Rattle.std.specs.Prelude.{nat_eq}
 use Rattle.std.proofs.lemmas.Bool.{eqb-true, eq-eqb}
 use Rattle.std.proofs.lemmas.Grind.{get_or-set_at}
@@ -7,7 +7,7 @@ use Rattle.std.proofs.lemmas.List.{get_or-set_other, length-set}
 use Rattle.dv_defs.specs.Classes.{Fresh}
 use Rattle.dv_defs.specs.Images.{Image}
 use Rattle.dv_defs.specs.Linked.{IsImage}
-use Rattle.dv_defs.specs.Pools.{Method, initialiser}
+use Rattle.dv_defs.specs.Pools.{Method}
 use Rattle.dv_clinit.specs.declared.states.State.{State}
 use Rattle.dv_clinit.specs.declared.states.State.TheVariants as state
 use Rattle.dv_clinit.specs.Initialisers.{initialiser_at}

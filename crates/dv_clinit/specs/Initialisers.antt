@@ -1,5 +1,5 @@
 -- The initialisers among an image's methods, as the code looks for them.
-use Rattle.std.specs.Prelude.{◌≡◌, ◌≤◌, ◌<◌, ℕ, Bool, ◌&&◌, List, length, Option, Some, None, is_some, slice_index_or, bytes_eq, if◌then◌else◌}
+use Rattle.std.specs.Prelude.{◌≤◌, ◌<◌, ℕ, Bool, ◌&&◌, List, length, Option, Some, None, is_some, slice_index_or, bytes_eq, if◌then◌else◌}
 use Rattle.dv_defs.specs.declared.class.MethodDef.{MethodDef}
 use Rattle.dv_defs.specs.declared.image.MethodInfo.{MethodInfo}
 use Rattle.dv_defs.specs.declared.flags.Flag.TheVariants as flag

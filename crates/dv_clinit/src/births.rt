@@ -1,7 +1,7 @@
 // The states of classes as a run begins, in time linear in the classes and their methods.
 ghost use Rattle.std.specs.Prelude.{◌≡◌, ◌<◌, length, map, IfOk};
 ghost use Rattle.dv_machine.specs.Opening.{first_states as opening_states};
-ghost use Rattle.dv_clinit.specs.Births.{AreKnown, first_state};
+ghost use Rattle.dv_clinit.specs.Births.{AreKnown, IsWrittenUp, first_state};
 ghost use Rattle.dv_clinit.specs.States.{class_state, class_states};
 
 use crate::State;
@@ -62,7 +62,8 @@ fn write_up(image: &Image, known: &mut [Option<State>], class: usize, state: Sta
     requires within { class < length known.old }
     requires known { AreKnown image.now known.old }
     requires state { class_state state ≡ first_state image.now class }
-    ensures { AreKnown image.now known.new }
+    ensures known { AreKnown image.now known.new }
+    ensures written { IsWrittenUp image.now known.old known.new class }
 {
     let mut at = class;
     while known[at].is_none() {

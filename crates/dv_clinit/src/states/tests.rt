@@ -91,7 +91,11 @@ fn states_follow_one_another(rt: HostRuntime) -> Result<(), Fail> {
     let mut states = states(&rt)?;
     for (class, thread, what, state) in CALLS {
         do_call(&rt, &mut states, ClassId(class), thread, what);
-        assert_eq!(rt; states.state(ClassId(class)), state, "{class} {thread} {what:?}");
+        assert_eq!(rt;
+            states.state(ClassId(class)),
+            state,
+            "{class} {thread} {what:?}"
+        );
     }
     // the others are as before
     assert_eq!(rt; states.state(ClassId(4)), State::Ready);

@@ -12,8 +12,8 @@ loop-at-preserved c =
     record {
       within = climb_inside c.args.image.now c.args.known.now c.requires.known c.loop-at.at c.in-Some-parent_of.above parent;
       same =
-        sym (climb_alike c.args.image.now c.args.known.now c.requires.known c.loop-at.at c.in-Some-parent_of.above c.loop-at.invariant.within c.in_default.is parent) ∙
-        c.loop-at.invariant.same;
+          sym (climb_alike c.args.image.now c.args.known.now c.requires.known c.loop-at.at c.in-Some-parent_of.above c.loop-at.invariant.within c.in_default.is parent) ∙
+          c.loop-at.invariant.same;
     }
 
 pub returns-in-None : goal.returns-in-None

@@ -1,6 +1,6 @@
-use Rattle.std.proofs.Common.{sym, ap, subst, ◌∙◌, arith, length, rules}
+use Rattle.std.proofs.Common.{sym, ap, arith, length}
 use Rattle.dv_clinit.proofs.Declared.{class_inside}
-use Rattle.dv_clinit.proofs.Marking.{AreMarked, all_marked, mark, pass_over}
+use Rattle.dv_clinit.proofs.Marking.{all_marked, mark, pass_over}
 use Rattle.dv_clinit.proofs.births.with_initialisers.Goals as goal
 use Rattle.dv_clinit.proofs.births.with_initialisers.Goals.{in-Some, in_default}
 

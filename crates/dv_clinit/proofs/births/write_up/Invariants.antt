@@ -2,6 +2,7 @@ use Rattle.std.proofs.Common.{◌≡◌, ◌<◌, length}
 use Rattle.dv_linklaws.proofs.ReachPlaces.{place}
 use Rattle.dv_clinit.specs.Births.{AreKnown, first_state}
 use Rattle.dv_clinit.specs.States.{class_state}
+use Rattle.dv_clinit.proofs.Writing.{IsOnTheWay}
 use Rattle.dv_clinit.proofs.births.write_up.Given as goal
 
 abbrev pub invariant-loop-state : goal.invariant-loop-state
@@ -9,6 +10,7 @@ invariant-loop-state l =
     record {
       within : l.at < length l.known;
       known : AreKnown l.image l.known;
+      way : IsOnTheWay l.image l.initial.known l.known l.class l.at;
       same : class_state l.state ≡ first_state l.image l.at;
     }
 

@@ -1,4 +1,4 @@
-use Rattle.std.proofs.Common.{sym, ap, ◌∙◌, arith}
+use Rattle.std.proofs.Common.{sym, ◌∙◌, arith}
 use Rattle.dv_clinit.proofs.Declared.{go_on, is_here, no_more, same_by_test, sought_at}
 use Rattle.dv_clinit.proofs.methods.initialiser.Goals as goal
 

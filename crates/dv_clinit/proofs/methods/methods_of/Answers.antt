@@ -1,4 +1,4 @@
-use Rattle.std.proofs.Common.{◌≡◌, ap, subst, sym, arith, length}
+use Rattle.std.proofs.Common.{ap, subst, sym, arith, length}
 use Rattle.std.specs.List.Sorted.{IsNonDecreasingBy}
 use Rattle.dv_clinit.specs.Initialisers.{class_of}
 use Rattle.dv_clinit.proofs.Numbered.{methods_few, methods_rise}
