@@ -189,7 +189,10 @@ fn assert_births<R: Abort>(rt: &R, alloc: Global, text: &str, births: &[Birth]) 
     }
     for (class, state, method) in births {
         assert!(rt; states.state(ClassId(*class)) == *state, "{class}");
-        assert!(rt; initialiser_of(&image, ClassId(*class)) == *method, "{class}");
+        assert!(rt;
+            initialiser_of(&image, ClassId(*class)) == *method,
+            "{class}"
+        );
     }
 }
 
