@@ -2,6 +2,8 @@
 #![tactic(auto)]
 
 #[cfg(test)]
+mod births;
+#[cfg(test)]
 mod rows;
 #[cfg(test)]
 mod tests;

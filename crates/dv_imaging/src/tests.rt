@@ -20,7 +20,7 @@ fn read<R: Abort>(rt: &R, alloc: Global, text: &str) -> Vec<ClassDef> {
     read.ok().expect(rt, "a text").classes.into_vec()
 }
 
-fn linked<R: Abort>(rt: &R, alloc: Global, text: &str) -> Image {
+pub fn linked<R: Abort>(rt: &R, alloc: Global, text: &str) -> Image {
     let mut classes = read(rt, alloc, boot_text());
     for class in read(rt, alloc, text) {
         classes.push(class).ok().expect(rt, "memory");

@@ -1,0 +1,5 @@
+pub mod BirthLaws
+pub mod Declared
+pub mod Numbered
+pub mod Marking
+pub mod Writing

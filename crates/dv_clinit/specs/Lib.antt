@@ -1,0 +1,3 @@
+pub mod Births
+pub mod Initialisers
+pub mod States
