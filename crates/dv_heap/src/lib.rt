@@ -1,0 +1,6 @@
+//! The guest's heap on words: one vector of words with a table of where the objects begin.
+#![tactic(auto)]
+
+mod blocks;
+mod contents;
+mod kinds;
