@@ -94,7 +94,8 @@ impl Blocks {
 
     /// How many blocks there are.
     pub fn len(&self) -> usize
-        ensures { result ≡ length self.now }
+        ensures count { result ≡ length self.now }
+        ensures fits { result < 2 ^ 63 }
     {
         self.starts.len()
     }

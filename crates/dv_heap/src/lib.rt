@@ -4,3 +4,4 @@
 mod blocks;
 mod contents;
 mod kinds;
+mod objects;
