@@ -1,2 +1,3 @@
 pub mod Blocks
 pub mod Objects
+pub mod Fields

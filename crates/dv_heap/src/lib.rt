@@ -5,3 +5,6 @@ mod blocks;
 mod contents;
 mod kinds;
 mod objects;
+mod types;
+mod fields;
+mod statics;
