@@ -1,11 +1,11 @@
 -- Objects as blocks whose tags say their kinds.
-use Rattle.std.proofs.Common.{◌≡◌, ℕ, zero, suc, ◌+◌, ◌<◌, ◌≤◌, ◌++◌, Bool, Option, Some, None, List, [], ◌∷◌, length, get_or, map, refl, sym, ap, ◌∙◌, subst, arith, pred, is_some, length-append, ltb-true, Result, Ok, Err}
+use Rattle.std.proofs.Common.{◌≡◌, ℕ, zero, suc, ◌+◌, ◌<◌, ◌≤◌, ◌++◌, Some, List, [], ◌∷◌, length, map, refl, sym, ap, ◌∙◌, subst, arith, pred, is_some, length-append, ltb-true, Result, Ok, Err}
 use Rattle.std.specs.Prelude.{slice_set, slice_index_or, slice_get, nat_lt, IsSome, OnErr}
-use Rattle.std.proofs.lemmas.List.{get_or_append_left, map-append, map-set, length-map}
+use Rattle.std.proofs.lemmas.List.{get_or_append_left, map-append, length-map}
 use Rattle.dv_words.specs.declared.state.Kind.{Kind}
 use Rattle.dv_words.specs.declared.state.Kind.TheVariants as kind
-use Rattle.dv_heap.specs.Blocks.{Block, no_block, block_at, written}
-use Rattle.dv_heap.specs.Objects.{Objects, kind_by, words_by, objects_in, AreTagged, IsContinued, kind_in, words_in, with_object, with_object_word}
+use Rattle.dv_heap.specs.Blocks.{Block, block_at, written}
+use Rattle.dv_heap.specs.Objects.{Objects, kind_by, words_by, objects_in, AreTagged, IsContinued, kind_in, with_object, with_object_word}
 
 -- ---- reading
 
@@ -55,7 +55,7 @@ kinds_same ks [] i k w = refl
 kinds_same ks (b ∷ bs) zero k w = refl
 kinds_same ks (b ∷ bs) (suc i) k w = ap (λ (xs : List Kind). kind_by ks b ∷ xs) (kinds_same ks bs i k w)
 
-cells_written : (bs : List Block) (i k w : ℕ) → map words_by (slice_set bs i (written (block_at bs i) k w)) ≡ slice_set (map words_by bs) i (slice_set (slice_index_or (map words_by bs) i []) k w)
+pub cells_written : (bs : List Block) (i k w : ℕ) → map words_by (slice_set bs i (written (block_at bs i) k w)) ≡ slice_set (map words_by bs) i (slice_set (slice_index_or (map words_by bs) i []) k w)
 cells_written [] i k w = refl
 cells_written (b ∷ bs) zero k w = refl
 cells_written (b ∷ bs) (suc i) k w = ap (λ (xs : List (List ℕ)). b.words ∷ xs) (cells_written bs i k w)

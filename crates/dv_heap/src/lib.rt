@@ -3,8 +3,13 @@
 
 mod blocks;
 mod contents;
+mod error;
+mod fields;
+mod heap;
 mod kinds;
 mod objects;
-mod types;
-mod fields;
 mod statics;
+mod types;
+
+pub use error::HeapError;
+pub use heap::Heap;

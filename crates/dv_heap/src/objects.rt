@@ -94,8 +94,7 @@ impl Objects {
         requires within { place < length (words_in self.old object) }
         ensures { self.new ≡ with_object_word self.old object place word }
     {
-        self.blocks
-            .set_word(block_of(object), place as usize, word);
+        self.blocks.set_word(block_of(object), place as usize, word);
     }
 
     /// The number of one object more. Where that is no `u32`, memory is wanting.

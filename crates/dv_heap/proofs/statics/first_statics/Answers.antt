@@ -1,4 +1,4 @@
-use Rattle.std.proofs.Common.{refl, ap, ◌∙◌}
+use Rattle.std.proofs.Common.{ap, ◌∙◌}
 use Rattle.dv_defs.specs.Images.{Image}
 use Rattle.dv_heap.proofs.FieldWords.{statics_on}
 use Rattle.dv_heap.proofs.statics.first_statics.Goals as goal

@@ -1,4 +1,3 @@
-use Rattle.std.proofs.Common.{arith}
 use Rattle.dv_heap.proofs.Tagging.{tag_is_place, kind_is_read}
 use Rattle.dv_heap.proofs.objects.Objects.kind.Goals as goal
 
