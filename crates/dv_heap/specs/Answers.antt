@@ -1,7 +1,8 @@
 -- What the calls of a heap answer.
-use Rattle.std.specs.Prelude.{◌≡◌, ◌<◌, ℕ, [], Option, None, Some, Result, Ok, Err, length, slice_index_or}
+use Rattle.std.specs.Prelude.{◌≡◌, ◌<◌, ℕ, List, [], ◌∷◌, ◌++◌, Option, None, Some, Result, Ok, Err, length, slice_index_or}
 use Rattle.dv_heap.specs.declared.error.HeapError.{HeapError}
 use Rattle.dv_heap.specs.declared.error.HeapError.TheVariants as error
+use Rattle.dv_words.specs.declared.state.Kind.{Kind}
 use Rattle.dv_words.specs.State.{WordHeap}
 use Rattle.dv_words.specs.Heaps.{Got, newest, words_of_object}
 
@@ -16,6 +17,19 @@ abbrev pub IsGot : Result ℕ HeapError → Option Got → ℕ → WordHeap → 
 IsGot (Ok o) got cost old new = got ≡ Some (record { object = o; heap = new })
 IsGot (Err (error.Full used needed)) got cost old new = (got ≡ None) × (used ≡ old.used) × (needed ≡ cost) × (new ≡ old)
 IsGot (Err (error.Memory e)) got cost old new = new ≡ old
+
+-- the heap with one object more, and so many words used
+abbrev pub grown_to : WordHeap → Kind → List ℕ → ℕ → WordHeap
+grown_to h k ws used =
+    record {
+      kinds = h.kinds ++ k ∷ [];
+      cells = h.cells ++ ws ∷ [];
+      statics = h.statics;
+      interned = h.interned;
+      class_objects = h.class_objects;
+      used = used;
+      limit = h.limit;
+    }
 
 -- the object has that word
 pub record HasWord (h : WordHeap) (o k : ℕ) : Type 0 where

@@ -1,6 +1,7 @@
 -- How a heap is kept: the objects, the static fields, and the strings and Class objects that stand once, by what they are looked up by.
 use Rattle.std.specs.Prelude.{◌≡◌, ◌<◌, ◌^◌, ℕ, List, [], ◌∷◌, length, map, Option, Some, slice_index}
 use Rattle.dv_defs.specs.declared.names.Ty.{Ty}
+use Rattle.dv_words.specs.declared.state.Kind.{Kind}
 use Rattle.dv_words.specs.declared.state.Kind.TheVariants as kind
 use Rattle.dv_words.specs.State.{WordHeap}
 use Rattle.dv_heap.specs.Blocks.{Block}
@@ -35,6 +36,10 @@ AreClasses x (e ∷ es) = (kind_in x e.1 ≡ Some (kind.ClassOf e.0)) × AreClas
 -- the words of strings are units
 abbrev pub HaveUnits : Objects → Type 0
 HaveUnits x = (o k : ℕ) → kind_in x o ≡ Some kind.Str → slice_index (words_in x o) k < 2 ^ 16
+
+-- words that an object of this kind may have
+abbrev pub AreUnits : Kind → List ℕ → Type 0
+AreUnits k ws = k ≡ kind.Str → (j : ℕ) → slice_index ws j < 2 ^ 16
 
 pub record IsKept (x : Objects) (texts : List (List ℕ × ℕ)) (classes : List (Ty × ℕ)) : Type 0 where
   pub count : length x.cells ≡ length x.kinds

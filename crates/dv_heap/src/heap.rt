@@ -4,6 +4,8 @@ ghost use Rattle.dv_words.specs.declared.state.Kind.TheVariants as kind;
 ghost use Rattle.dv_words.specs.Heaps.{kind_of, length_of, words_of_object, word_in, with_word, static_in, with_static, uncounted, counting};
 ghost use Rattle.dv_heap.specs.Answers.{HasWord, HasStatic};
 
+mod allocating;
+
 use crate::blocks::Blocks;
 use crate::objects::Objects;
 use crate::statics::first_statics;

@@ -7,6 +7,7 @@ mod error;
 mod fields;
 mod heap;
 mod kinds;
+mod making;
 mod objects;
 mod statics;
 mod types;
