@@ -1,10 +1,13 @@
 // The heap of the guest.
-ghost use Rattle.std.specs.Prelude.{◌≡◌, ◌≢◌, ◌<◌, ◌+◌, ◌^◌, length, slice_index, is_some, Some, IsSome, IfOk};
+ghost use Rattle.std.specs.Prelude.{◌≡◌, ◌≢◌, ◌<◌, ◌+◌, ◌^◌, [], map, None, length, slice_index, is_some, Some, IsSome, IfOk};
 ghost use Rattle.dv_words.specs.declared.state.Kind.TheVariants as kind;
 ghost use Rattle.dv_words.specs.Heaps.{kind_of, length_of, words_of_object, word_in, with_word, static_in, with_static, uncounted, counting};
 ghost use Rattle.dv_heap.specs.Answers.{HasWord, HasStatic};
+ghost use Rattle.dv_heap.specs.Objects.{words_by};
 
 mod allocating;
+#[cfg(test)]
+mod tests;
 
 use crate::blocks::Blocks;
 use crate::objects::Objects;
@@ -40,6 +43,20 @@ impl Model for Heap {
 }
 
 impl Heap {
+    /// No objects, these static fields, and no limit.
+    fn over(alloc: Global, statics: Blocks) -> Heap
+        ensures { result ≡ record { kinds = []; cells = []; statics = map words_by statics; interned = []; class_objects = []; used = 0; limit = None } }
+    {
+        Heap {
+            objects: Objects::new(alloc),
+            statics,
+            interned: IndexMap::new(alloc),
+            class_objects: IndexMap::new(alloc),
+            used: 0,
+            limit: None,
+        }
+    }
+
     /// No objects, the static fields as they are declared, and no limit.
     ///
     /// # Errors
@@ -48,14 +65,7 @@ impl Heap {
     pub fn uncounted(alloc: Global, image: &Image) -> Result<Heap, AllocError>
         ensures { IfOk result (λ heap. heap ≡ uncounted image.now) }
     {
-        Ok(Heap {
-            objects: Objects::new(alloc),
-            statics: first_statics(alloc, image)?,
-            interned: IndexMap::new(alloc),
-            class_objects: IndexMap::new(alloc),
-            used: 0,
-            limit: None,
-        })
+        Ok(Heap::over(alloc, first_statics(alloc, image)?))
     }
 
     /// The same with a limit of so many words.

@@ -58,7 +58,7 @@ fn add_static(statics: &mut Blocks, field: &FieldDef) -> Result<(), AllocError>
 }
 
 /// Adds the block of a field, which has no words where the field isn't static.
-fn add_field(statics: &mut Blocks, field: Option<&FieldDef>) -> Result<(), AllocError>
+pub fn add_field(statics: &mut Blocks, field: Option<&FieldDef>) -> Result<(), AllocError>
     ensures { OnOk result (statics.new ≡ statics.old ++ record { tag = 0; words = first_words (option_map (λ x. x.now) field.entry) } ∷ []) }
 {
     match field {

@@ -1,5 +1,5 @@
 // New objects, and strings and Class objects that stand once.
-ghost use Rattle.std.specs.Prelude.{◌≡◌, ◌<◌, ◌≤◌, ℕ, ◌+◌, ◌^◌, [], length, slice_index, true, false, IfOk, IfErr, OnErr, Some, None, Ok};
+ghost use Rattle.std.specs.Prelude.{◌≡◌, ◌<◌, ◌≤◌, ℕ, ◌+◌, ◌^◌, [], length, slice_index, replicate, true, false, IfOk, IfErr, OnErr, Some, None, Ok};
 ghost use Rattle.dv_defs.specs.Heap.{found_among};
 ghost use Rattle.dv_words.specs.Heaps as heaps;
 ghost use Rattle.dv_words.specs.Heaps.{has_room, counted_by, newest, cost_of_object, cost_of_array, is_text, is_class_of};
@@ -63,6 +63,15 @@ impl Heap {
         Ok(number)
     }
 
+    /// Makes an object of a class with so many words, all 0.
+    fn alloc_words(&mut self, class: ClassId, words: u32) -> Result<u32, HeapError>
+        ensures { IsGot result (newest_of (heaps.grown_within self.old (Kind.Object class) (replicate words 0) (2 + words))) (2 + words) self.old self.new }
+    {
+        let used = self.room_for(2 + u64::from(words))?;
+        let number = self.add(Kind::Object(class), &Contents::Zeros(words), used)?;
+        Ok(number)
+    }
+
     /// Makes an object of a class, all 0.
     ///
     /// # Errors
@@ -72,9 +81,7 @@ impl Heap {
         ensures { IsGot result (newest_of (heaps.alloc_object image.now self.old class.0)) (cost_of_object image.now class.0) self.old self.new }
     {
         let words = words_of_class(image, class)?;
-        let used = self.room_for(2 + u64::from(words))?;
-        let number = self.add(Kind::Object(class), &Contents::Zeros(words), used)?;
-        Ok(number)
+        self.alloc_words(class, words)
     }
 
     /// Makes an array of this type with so many elements, all 0.
