@@ -64,7 +64,7 @@ impl Heap {
     }
 
     /// Makes an object of a class with so many words, all 0.
-    fn alloc_words(&mut self, class: ClassId, words: u32) -> Result<u32, HeapError>
+    pub(super) fn alloc_words(&mut self, class: ClassId, words: u32) -> Result<u32, HeapError>
         ensures { IsGot result (newest_of (heaps.grown_within self.old (Kind.Object class) (replicate words 0) (2 + words))) (2 + words) self.old self.new }
     {
         let used = self.room_for(2 + u64::from(words))?;
