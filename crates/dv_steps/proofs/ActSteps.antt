@@ -1,59 +1,32 @@
 -- What an operation, a record and a flight make of words stands for what they make of the tagged machine.
-use Rattle.std.proofs.Common.{◌≡◌, ℕ, zero, suc, ◌++◌, Bool, true, false, ◌&&◌, Option, Some, None, Ok, Err, List, [], ◌∷◌, All, refl, sym, ap, ◌∙◌, subst}
-use Rattle.std.specs.Prelude.{codes, if◌then◌else◌, slice_set}
-use Rattle.dv_defs.specs.declared.machine.Ask.{Ask}
-use Rattle.dv_defs.specs.declared.machine.Ask.TheVariants as ask
+use Rattle.std.proofs.Common.{◌≡◌, ℕ, suc, Bool, true, false, Option, Some, None, Ok, Err, ◌∷◌, refl, sym, subst}
+use Rattle.std.specs.Prelude.{if◌then◌else◌}
 use Rattle.dv_defs.specs.declared.machine.Frame as tagged_frame
-use Rattle.dv_defs.specs.declared.machine.Level as tagged_level
-use Rattle.dv_defs.specs.declared.machine.Level.TheVariants as level_of_tagged
-use Rattle.dv_defs.specs.declared.names.ClassId.{ClassId}
-use Rattle.dv_defs.specs.declared.names.MethodId.{MethodId}
-use Rattle.dv_defs.specs.declared.run.Named.TheVariants as named
 use Rattle.dv_defs.specs.declared.run.Value.{Value}
 use Rattle.dv_defs.specs.declared.run.Value.TheVariants as v
-use Rattle.dv_defs.specs.Classes.{ClassState, Classes, Erroneous, InProgress, Ready, ask_of, with_state}
-use Rattle.dv_defs.specs.Flow.{Catcher}
-use Rattle.dv_defs.specs.Heap as tagged
-use Rattle.dv_defs.specs.Heap.{Heap}
-use Rattle.dv_defs.specs.Images.{Image}
-use Rattle.dv_defs.specs.Names.{error_name}
-use Rattle.dv_defs.specs.Op.{Op, ConstString, Enter, Exit, FieldGet, FieldPut, Invoke, Return, ReturnVoid, is_local, needs}
-use Rattle.dv_defs.specs.Order.{instance}
-use Rattle.dv_defs.specs.Pools.{Method, initialiser, method_at}
-use Rattle.dv_defs.specs.Types.{of_class}
-use Rattle.dv_machine.specs.Calls as calls
+use Rattle.dv_defs.specs.Op.{Op, ConstString, Enter, Exit, FieldGet, FieldPut, Invoke, Return, ReturnVoid, is_local}
 use Rattle.dv_machine.specs.Local.{local}
 use Rattle.dv_machine.specs.Mem.{mem, on_object}
 use Rattle.dv_machine.specs.State as machine
 use Rattle.dv_machine.specs.State.{Did, Go, Here, IsStuck, Left, NoOutput, NoRoom, NoWords, Reads, Shared, Throws, ThrowsRef, read_any, reading, reg_at}
 use Rattle.dv_machine.specs.Step as step
 use Rattle.dv_machine.specs.Threads as threads
-use Rattle.dv_machine.specs.Unwinding as flight
-use Rattle.dv_words.specs.declared.state.Frame.{Frame}
-use Rattle.dv_words.specs.declared.state.Level.{Level}
 use Rattle.dv_words.specs.declared.state.Level.TheVariants as level
-use Rattle.dv_words.specs.Heaps as words
-use Rattle.dv_words.specs.Stacks as stacks
-use Rattle.dv_words.specs.Standing.{FrameStands, HeapStands, IsWord, LevelsStand, SharedStands}
-use Rattle.dv_words.specs.State.{WordHeap, WordShared}
-use Rattle.dv_steps.specs.Laws.{ConstantFits, DidStands, HereStands, IsBounded, LeftStands, OperandsFit}
+use Rattle.dv_words.specs.Standing.{FrameStands, IsWord, LevelsStand, SharedStands}
+use Rattle.dv_steps.specs.Laws.{ConstantFits, DidStands, HereStands, LeftStands, OperandsFit}
 use Rattle.dv_steps.specs.Local.{reg_word, word_local}
-use Rattle.dv_steps.specs.Mem.{WordHere, WordLeft, type_of, word_mem}
+use Rattle.dv_steps.specs.Mem.{WordLeft, word_mem}
 use Rattle.dv_steps.specs.Step as over
-use Rattle.dv_steps.specs.StepLaws.{ActsFollow, AtStands, CallFits, ImageFits, LeavesStand, OutcomeStands, StartedStands}
+use Rattle.dv_steps.specs.StepLaws.{AtStands, CallFits, ImageFits, LeavesStand, OutcomeStands, StartedStands}
 use Rattle.dv_steps.specs.Steps as steps
 use Rattle.dv_steps.specs.Threads as word_threads
-use Rattle.dv_steps.specs.Unwinding as falling
-use Rattle.dv_steps.proofs.Added.{OptionStands, newest_is, object_added}
-use Rattle.dv_steps.proofs.Arguments.{RefFits, WhereRead, ref_read, then_stands}
+use Rattle.dv_steps.proofs.Arguments.{WhereRead, then_stands}
 use Rattle.dv_steps.proofs.CallSteps.{invoke_stands, return_form_stands, return_void_stands}
 use Rattle.dv_steps.proofs.LocalSteps.{local_steps_follow}
 use Rattle.dv_steps.proofs.MemSteps.{mem_steps_follow}
-use Rattle.dv_steps.proofs.Objects.{cell_stands, type_is}
-use Rattle.dv_steps.proofs.Outcomes.{left_stands, on_object_alike, onward_stands, pushed_stands, with_same_classes}
+use Rattle.dv_steps.proofs.Outcomes.{on_object_alike, onward_stands}
 use Rattle.dv_steps.proofs.Registers.{is_word_at}
-use Rattle.dv_steps.proofs.Short.{IsBoundedOption, object_bounded}
-use Rattle.dv_steps.proofs.ThreadSteps.{entered_stands, enter_stands, exit_stands}
+use Rattle.dv_steps.proofs.ThreadSteps.{enter_stands, exit_stands}
 
 module _ (w : steps.At) (h : Here) (stands : AtStands w h) where
   is_at : (k : ℕ) → IsWord (reg_word w.frame k) (reg_at h.frame.regs k)

@@ -1,6 +1,6 @@
 -- A new object on words stands for the tagged heap's new object.
-use Rattle.std.proofs.Common.{◌≡◌, ℕ, zero, suc, pred, ◌+◌, ◌*◌, ◌++◌, Bool, true, false, List, [], ◌∷◌, Option, Some, None, All, length, map, replicate, refl, sym, ap, ◌∙◌, subst, arith}
-use Rattle.std.specs.Prelude.{bytes_eq, nat_le, slice_get}
+use Rattle.std.proofs.Common.{◌≡◌, ℕ, zero, suc, ◌+◌, ◌*◌, ◌++◌, Bool, true, false, List, [], ◌∷◌, Option, Some, None, length, map, replicate, refl, sym, ap, ◌∙◌, subst, arith}
+use Rattle.std.specs.Prelude.{bytes_eq, nat_le}
 use Rattle.std.specs.Option.{option_map}
 use Rattle.dv_defs.specs.declared.names.Ty.{Ty}
 use Rattle.dv_defs.specs.declared.machine.Kind as tagged_kind
@@ -13,8 +13,7 @@ use Rattle.dv_defs.specs.Heap as tagged
 use Rattle.dv_defs.specs.Heap.{Heap, class_cells, copies, fresh_cells, fresh_elements, found_among, zero_cell}
 use Rattle.dv_defs.specs.Images.{Image}
 use Rattle.dv_defs.specs.RegTypes.{reg_types, single_type}
-use Rattle.dv_defs.specs.Types.{component, is_long, ty_eq, words_of}
-use Rattle.dv_words.specs.declared.state.Kind.{Kind}
+use Rattle.dv_defs.specs.Types.{component, is_long, words_of}
 use Rattle.dv_words.specs.declared.state.Kind.TheVariants as kind
 use Rattle.dv_words.specs.Erasure.{erased_kind}
 use Rattle.dv_words.specs.Heaps as words

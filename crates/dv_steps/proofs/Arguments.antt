@@ -1,26 +1,20 @@
 -- What a step read of the tagged machine, when it wasn't stuck.
-use Rattle.std.proofs.Common.{◌≡◌, ℕ, zero, suc, ◌+◌, ◌++◌, Bool, true, false, ◌||◌, Option, Some, None, Result, Ok, Err, List, [], ◌∷◌, ℤ, length, map, refl, sym, ap, ◌∙◌, subst, arith}
+use Rattle.std.proofs.Common.{◌≡◌, ℕ, suc, ◌++◌, Bool, true, false, Ok, Err, List, [], ◌∷◌, length, map, refl, sym, ap, ◌∙◌, subst, arith}
 use Rattle.std.specs.Prelude.{if◌then◌else◌, nat_eq}
 use Rattle.dv_defs.specs.declared.machine.Kind.{Kind}
-use Rattle.dv_defs.specs.declared.machine.Pending.{Pending}
-use Rattle.dv_defs.specs.declared.machine.Pending.TheVariants as pending
 use Rattle.dv_defs.specs.declared.names.Ty.{Ty}
-use Rattle.dv_defs.specs.declared.run.Native.{Native}
-use Rattle.dv_defs.specs.declared.run.Native.TheVariants as native
 use Rattle.dv_defs.specs.declared.run.Why.TheVariants as why
 use Rattle.dv_defs.specs.declared.run.Value.{Value}
 use Rattle.dv_defs.specs.declared.run.Value.TheVariants as v
 use Rattle.dv_defs.specs.Heap.{Heap, kind_of}
 use Rattle.dv_defs.specs.Images.{Image}
 use Rattle.dv_defs.specs.Types.{is_long, is_reference, words_of, words_of_all}
-use Rattle.dv_machine.specs.Calls.{pending_words, signature}
+use Rattle.dv_machine.specs.Calls.{pending_words}
 use Rattle.dv_machine.specs.Natives.{object_number}
-use Rattle.dv_machine.specs.State.{Did, Here, IsStuck, Left, Reads, Two, are_neighbours, fits_kind, kept_int, on_next, passes, read_args, read_hi, read_int, read_lo, read_ref, read_single, read_tested, read_two, read_value, reading, reg_at, tested, where_ref}
+use Rattle.dv_machine.specs.State.{Did, Left, Reads, Two, are_neighbours, fits_kind, kept_int, on_next, passes, read_args, read_hi, read_lo, read_ref, read_single, read_two, read_value, reading, reg_at, tested, where_ref}
 use Rattle.dv_words.specs.declared.state.Frame.{Frame}
-use Rattle.dv_words.specs.declared.state.Kept.{Kept}
 use Rattle.dv_words.specs.declared.state.Kept.TheVariants as kept
 use Rattle.dv_words.specs.Standing.{AreWords, IsResult, IsWord}
-use Rattle.dv_words.specs.Words.{int_of}
 use Rattle.dv_steps.specs.Calls.{kept_at}
 use Rattle.dv_steps.specs.Local.{reg_word}
 use Rattle.dv_steps.specs.Mem.{words_in}

@@ -1,11 +1,8 @@
 -- Invokes and returns on words go where the tagged machine's go.
-use Rattle.std.proofs.Common.{◌≡◌, ℕ, zero, suc, ◌+◌, ◌++◌, Bool, true, false, not, ◌&&◌, Option, Some, None, Ok, Err, List, [], ◌∷◌, All, length, map, refl, sym, ap, ◌∙◌, subst, arith}
+use Rattle.std.proofs.Common.{◌≡◌, ℕ, suc, ◌+◌, Bool, true, false, not, ◌&&◌, Option, Some, None, Ok, Err, List, [], ◌∷◌, length, map, refl, sym, ap, ◌∙◌, subst, arith}
 use Rattle.std.specs.Prelude.{if◌then◌else◌, nat_eq}
-use Rattle.std.specs.Option.{option_map}
 use Rattle.std.proofs.lemmas.List.Elements.{All-cons, All-nil}
 use Rattle.dv_defs.specs.declared.machine.Frame as tagged_frame
-use Rattle.dv_defs.specs.declared.machine.Kind as tagged_kind
-use Rattle.dv_defs.specs.declared.machine.Kind.TheVariants as kind_of_tagged
 use Rattle.dv_defs.specs.declared.machine.Level as tagged_level
 use Rattle.dv_defs.specs.declared.machine.Level.TheVariants as level_of_tagged
 use Rattle.dv_defs.specs.declared.machine.Pending.{Pending}
@@ -22,17 +19,15 @@ use Rattle.dv_defs.specs.Demands.{is_own_or_super, is_void, result_width, same_w
 use Rattle.dv_defs.specs.Heap as tagged
 use Rattle.dv_defs.specs.Heap.{Heap}
 use Rattle.dv_defs.specs.Images.{Image}
-use Rattle.dv_defs.specs.Op.{Op, Invoke}
 use Rattle.dv_defs.specs.Order.{instance}
 use Rattle.dv_defs.specs.Parts.{Call, Width}
 use Rattle.dv_defs.specs.Pools.{Method, is_abstract, is_constructor, is_of_object, is_static, method_at, nearest, own_type, parent_at}
 use Rattle.dv_defs.specs.Statics as statics
 use Rattle.dv_defs.specs.Statics.{arg_words, fetch}
 use Rattle.dv_defs.specs.Types.{is_long, words_of_all}
-use Rattle.dv_machine.specs.Accepted.{FindsRightly, HasBodies}
+use Rattle.dv_machine.specs.Accepted.{FindsRightly}
 use Rattle.dv_machine.specs.Calls as machine
 use Rattle.dv_machine.specs.Calls.{Landing, Lacks, Lands, native_of, nearest_from, signature, unless_abstract}
-use Rattle.dv_machine.specs.Mem.{on_object}
 use Rattle.dv_machine.specs.Natives as natives
 use Rattle.dv_machine.specs.Natives.{object_number}
 use Rattle.dv_machine.specs.State.{Did, Here, Left, Throws, reading, reg_at}
@@ -45,15 +40,13 @@ use Rattle.dv_words.specs.declared.state.Level.TheVariants as level
 use Rattle.dv_words.specs.Heaps as words
 use Rattle.dv_words.specs.Stacks as stacks
 use Rattle.dv_words.specs.Standing.{AllFit, AreWords, Fits, FrameStands, IsResult, IsWord, LevelsStand}
-use Rattle.dv_words.specs.Words.{word_at}
 use Rattle.dv_steps.specs.Calls as over
 use Rattle.dv_steps.specs.Local.{reg_word}
 use Rattle.dv_steps.specs.Mem.{type_of}
-use Rattle.dv_steps.specs.Natives.{native_step}
 use Rattle.dv_steps.specs.StepLaws.{AtStands, ImageFits, OutcomeStands}
 use Rattle.dv_steps.specs.Steps as steps
 use Rattle.dv_steps.specs.Threads.{class_of_kind}
-use Rattle.dv_steps.proofs.Arguments.{AreOf, Arguments, RefFits, Taken, ValueOf, WhereRead, args_read, ref_read, result_stands, then_stands, value_read}
+use Rattle.dv_steps.proofs.Arguments.{AreOf, Arguments, RefFits, WhereRead, args_read, ref_read, result_stands, then_stands, value_read}
 use Rattle.dv_steps.proofs.LocalSteps.{word_fits}
 use Rattle.dv_steps.proofs.NativeSteps.{ArgumentsAre, IsReference, native_stands, object_is as object_word}
 use Rattle.dv_steps.proofs.Objects.{type_is}
@@ -363,7 +356,7 @@ module _ (w : steps.At) (h : Here) (stands : AtStands w h) where
   back_on_stands k p (level.Code s ∷ ss) (level_of_tagged.Code g ∷ ls) all is =
       let frame : FrameStands s g = all.0 in
       let same : fetch w.image s.method.0 s.at ≡ fetch h.image g.method.0 g.at =
-          ap (λ i. fetch i s.method.0 s.at) stands.image ∙ ap (λ (m : MethodId). fetch h.image m.0 s.at) frame.method ∙ ap (fetch h.image g.method.0) frame.at in
+      ap (λ i. fetch i s.method.0 s.at) stands.image ∙ ap (λ (m : MethodId). fetch h.image m.0 s.at) frame.method ∙ ap (fetch h.image g.method.0) frame.at in
       subst (λ x. OutcomeStands (over.back_to w k s ss x) (machine.back_to h p g ls (fetch h.image g.method.0 g.at))) (sym same)
       (back_to_stands s g k p ss ls (fetch h.image g.method.0 g.at) frame all.1 is)
 

@@ -1,10 +1,9 @@
 -- Tests of words decide as tests of values.
 use Rattle.std.proofs.Common.{◌≡◌, ℕ, Bool, true, false, not, Ok, ℤ, pos, refl, sym, ap, ◌∙◌, subst}
-use Rattle.std.specs.Int.{w32, cast_unsigned}
+use Rattle.std.specs.Int.{w32}
 use Rattle.std.specs.Ordering.{int_eq}
 use Rattle.std.proofs.lemmas.Bool.Decides.{Decides-int_eq}
 use Rattle.std.proofs.lemmas.Int.{of_z-to_z}
-use Rattle.dv_defs.specs.declared.machine.Frame as tagged_frame
 use Rattle.dv_defs.specs.declared.run.Value.{Value}
 use Rattle.dv_defs.specs.declared.run.Value.TheVariants as v
 use Rattle.dv_defs.specs.Numbers.{compare}
@@ -13,7 +12,6 @@ use Rattle.dv_machine.specs.Local.{compare_words, read_word, test_both}
 use Rattle.dv_machine.specs.State.{Reads, on_next, read_int}
 use Rattle.dv_words.specs.Standing.{Fits, IsWord}
 use Rattle.dv_words.specs.Words.{int_of, word_of}
-use Rattle.dv_steps.proofs.Reading.{on_int}
 
 both_ways : (r s : Bool) → (r ≡ true → s ≡ true) → (s ≡ true → r ≡ true) → r ≡ s
 both_ways true s to back = sym (to refl)

@@ -1,15 +1,13 @@
 -- Local instructions on words go where the tagged ones go.
-use Rattle.std.proofs.Common.{◌≡◌, ℕ, zero, suc, ◌<◌, ◌^◌, List, [], ◌∷◌, Bool, true, false, Ok, Err, ℤ, pos, negsuc, All, refl, sym, ap, subst, arith}
-use Rattle.std.specs.Int.{w32, w64}
+use Rattle.std.proofs.Common.{◌≡◌, ℕ, zero, suc, List, [], ◌∷◌, Bool, true, false, Ok, ℤ, pos, negsuc, refl, subst, arith}
 use Rattle.std.proofs.lemmas.List.Elements.{All-head, All-tail}
 use Rattle.dv_defs.specs.declared.machine.Frame as tagged_frame
 use Rattle.dv_defs.specs.declared.machine.Pending.{Pending}
 use Rattle.dv_defs.specs.declared.machine.Pending.TheVariants as pending
 use Rattle.dv_defs.specs.declared.run.Value.{Value}
 use Rattle.dv_defs.specs.declared.run.Value.TheVariants as v
-use Rattle.dv_defs.specs.Numbers.{compare, compare_long, from32, long_of, operate32, operate64, unary_at}
 use Rattle.dv_defs.specs.Op.{Op, Nop, MoveInt, MoveLong, MoveObject, ResultInt, ResultLong, ResultObject, TakeCaught, Const, ConstLong, IntUnary, LongUnary, IntToLong, LongToInt, IntOp, LongOp, LongShift, CompareLong, Goto, IfBoth, IfZero, Switch, Arg, Reg, Lit}
-use Rattle.dv_defs.specs.Parts.{Bin, Test}
+use Rattle.dv_defs.specs.Parts.{Bin}
 use Rattle.dv_machine.specs.Local as tagged_local
 use Rattle.dv_machine.specs.Local.{local, const_value, put_pending_two, read_arg}
 use Rattle.dv_machine.specs.State as tagged
@@ -18,10 +16,10 @@ use Rattle.dv_words.specs.declared.state.Frame.{Frame}
 use Rattle.dv_words.specs.declared.state.Kept.{Kept}
 use Rattle.dv_words.specs.declared.state.Kept.TheVariants as kept
 use Rattle.dv_words.specs.Standing.{AllFit, Fits, FitsInt, FrameFits, FrameStands, IsResult, IsWord}
-use Rattle.dv_words.specs.Words.{int_of, word_at, word_of}
+use Rattle.dv_words.specs.Words.{word_at, word_of}
 use Rattle.dv_steps.specs.Laws.{ArgFits, ConstantFits, LocalStepsFollow}
 use Rattle.dv_words.specs.Stacks.{high_word, low_word}
-use Rattle.dv_steps.specs.Local.{arg_at, branched, caught_word, int_at, long_at, put, put_two, reg_word, word_local}
+use Rattle.dv_steps.specs.Local.{branched, caught_word, int_at, long_at, put, put_two, reg_word, word_local}
 use Rattle.dv_steps.proofs.Comparing.{on_test}
 use Rattle.dv_steps.proofs.Numbers.{again, compare_again, from_again, int_fits, operate_again, unary_again}
 use Rattle.dv_steps.proofs.Reading.{on_caught, on_int, on_kept_int, on_kept_object, on_long, on_pending_int, on_pending_object, on_two}

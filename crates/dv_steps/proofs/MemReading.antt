@@ -1,7 +1,6 @@
 -- What a step on objects read, the words have: one lemma for each kind of read.
-use Rattle.std.proofs.Common.{◌≡◌, ℕ, zero, suc, Bool, true, false, ◌||◌, Option, Some, None, Ok, Err, List, [], ◌∷◌, ℤ, pos, refl, sym, ap, ◌∙◌, subst, arith}
+use Rattle.std.proofs.Common.{◌≡◌, ℕ, suc, Bool, true, false, ◌||◌, Option, Some, None, Ok, Err, List, [], ◌∷◌, ℤ, refl, sym, ap, ◌∙◌, subst, arith}
 use Rattle.std.specs.Prelude.{nat_eq}
-use Rattle.dv_defs.specs.declared.machine.Kind as tagged_kind
 use Rattle.dv_defs.specs.declared.machine.Kind.{Kind}
 use Rattle.dv_defs.specs.declared.machine.Kind.TheVariants as kind_of_tagged
 use Rattle.dv_defs.specs.declared.names.Ty.{Ty}
@@ -9,19 +8,18 @@ use Rattle.dv_defs.specs.declared.run.Value.{Value}
 use Rattle.dv_defs.specs.declared.run.Value.TheVariants as v
 use Rattle.dv_defs.specs.Heap as tagged
 use Rattle.dv_defs.specs.Heap.{Heap}
-use Rattle.dv_defs.specs.Images.{Image}
 use Rattle.dv_defs.specs.Numbers.{long_of}
 use Rattle.dv_defs.specs.Op.{Arg, Reg, Lit}
 use Rattle.dv_defs.specs.Types.{component, is_long, is_reference}
 use Rattle.dv_machine.specs.Local.{read_arg}
 use Rattle.dv_machine.specs.Mem as machine
-use Rattle.dv_machine.specs.State.{Did, Here, IsStuck, Left, Reads, Two, any_kind, fits_kind, is_array_kind, on_next, passes, read_any, read_hi, read_int, read_lo, read_long, read_single, read_tested, read_two, read_value, reading, reg_at, tested, where_ref}
+use Rattle.dv_machine.specs.State.{Did, Here, Left, Reads, Two, is_array_kind, on_next, passes, read_hi, read_int, read_lo, read_tested, reading, reg_at, tested, where_ref}
 use Rattle.dv_words.specs.declared.state.Frame.{Frame}
-use Rattle.dv_words.specs.Standing.{AllFit, AreWords, Fits, FrameFits, FrameStands, IsWord}
+use Rattle.dv_words.specs.Standing.{AreWords, Fits, IsWord}
 use Rattle.dv_words.specs.Words.{int_of}
 use Rattle.dv_steps.specs.Laws.{DidStands}
 use Rattle.dv_steps.specs.Local.{arg_at, reg_word}
-use Rattle.dv_steps.specs.Mem.{WordLeft, narrowed, narrowed_all, words_in}
+use Rattle.dv_steps.specs.Mem.{WordLeft, narrowed_all}
 use Rattle.dv_steps.proofs.Narrowing.{long_narrowed, number_narrowed, reference_narrowed, zero_narrowed}
 
 -- what a store to a field or element takes: words, and what is kept of them

@@ -1,14 +1,12 @@
 -- Instructions on objects, divisions and casts on words go where the tagged ones go.
-use Rattle.std.proofs.Common.{◌≡◌, ◌⊎◌, inl, inr, ℕ, zero, suc, pred, ◌+◌, ◌*◌, ◌<◌, ◌^◌, ◌++◌, Bool, true, false, ◌||◌, not, Option, Some, None, Ok, Err, List, [], ◌∷◌, ℤ, pos, negsuc, All, length, map, replicate, refl, sym, ap, ◌∙◌, subst, arith}
+use Rattle.std.proofs.Common.{◌≡◌, ◌⊎◌, inl, inr, ℕ, zero, suc, ◌+◌, ◌*◌, ◌<◌, ◌^◌, ◌++◌, Bool, true, false, ◌||◌, not, Option, Some, None, Ok, Err, List, [], ◌∷◌, ℤ, pos, negsuc, All, length, map, replicate, refl, sym, ap, ◌∙◌, subst, arith}
 use Rattle.std.specs.Prelude.{if◌then◌else◌, nat_eq, nat_le, nat_lt, slice_get, slice_set}
-use Rattle.std.proofs.lemmas.Bool.{and_parts}
 use Rattle.std.proofs.lemmas.List.Elements.{All-head, All-tail}
 use Rattle.std.proofs.lemmas.Int.{to_z_pos}
 use Rattle.std.specs.Int.{w32}
 use Rattle.dv_defs.specs.declared.machine.Frame as tagged_frame
 use Rattle.dv_defs.specs.declared.machine.Kind.{Kind}
 use Rattle.dv_defs.specs.declared.machine.Kind.TheVariants as kind_of_tagged
-use Rattle.dv_defs.specs.declared.machine.Level.TheVariants as level
 use Rattle.dv_defs.specs.declared.names.ClassId.{ClassId}
 use Rattle.dv_defs.specs.declared.names.Ty.{Ty}
 use Rattle.dv_defs.specs.declared.machine.Pending.TheVariants as pending
@@ -20,7 +18,6 @@ use Rattle.dv_defs.specs.Demands.{any_type, is_fill_type, is_own_field}
 use Rattle.dv_defs.specs.declared.run.Why.TheVariants as why
 use Rattle.dv_defs.specs.Heap as tagged
 use Rattle.dv_defs.specs.Heap.{Heap}
-use Rattle.dv_defs.specs.Images.{Image}
 use Rattle.dv_defs.specs.Numbers.{hi_of, lo_of, operate32, operate64}
 use Rattle.dv_defs.specs.Names.{string_name, throwable_name}
 use Rattle.dv_defs.specs.Op.{Op, IntDivide, LongDivide, ConstString, ConstClass, Cast, InstanceOf, ArrayLength, New, NewArray, Filled, Fill, Throw, ArrayGet, ArrayPut, FieldGet, FieldPut, StaticGet, StaticPut, Arg, Reg, Lit}
@@ -38,21 +35,21 @@ use Rattle.dv_words.specs.declared.state.Kept.TheVariants as kept
 use Rattle.dv_words.specs.declared.state.Kind.TheVariants as kind
 use Rattle.dv_words.specs.Heaps as words
 use Rattle.dv_words.specs.Stacks as stack
-use Rattle.dv_words.specs.Standing.{AllFit, AreWords, Fits, FitsInt, FrameFits, FrameStands, HeapFits, HeapStands, IsWord}
+use Rattle.dv_words.specs.Standing.{AreWords, Fits, FitsInt, FrameFits, FrameStands, HeapStands, IsWord}
 use Rattle.dv_words.specs.State.{WordHeap}
-use Rattle.dv_words.specs.Words.{int_of, word_at, word_of}
-use Rattle.dv_steps.specs.Laws.{ArgFits, IsBounded, DidStands, HereStands, IsMade, IsNoString, IsPlain, LeftStands, MemStepsFollow, OperandsFit}
+use Rattle.dv_words.specs.Words.{int_of, word_of}
+use Rattle.dv_steps.specs.Laws.{ArgFits, IsBounded, DidStands, HereStands, IsMade, IsNoString, IsPlain, MemStepsFollow, OperandsFit}
 use Rattle.dv_steps.specs.Local.{arg_at, int_at, long_at, put, put_two, reg_word}
 use Rattle.dv_steps.specs.Mem as over
 use Rattle.dv_steps.specs.Mem.{WordHere, WordLeft, onward, word_mem}
 use Rattle.dv_steps.proofs.Added.{GotOneStands, GotStands, OptionStands, array_added, elements_stand, class_object_stands, grown_stands, intern_stands, newest_is, object_added, room_is}
 use Rattle.dv_steps.proofs.LocalSteps.{word_fits}
-use Rattle.dv_steps.proofs.MemReading.{IsArray, Taken, array_there, passed, reads_arg, reads_int, reads_long, reads_tested, reads_two, reads_whatever, takes_int, takes_long, takes_reference}
+use Rattle.dv_steps.proofs.MemReading.{IsArray, Taken, array_there, passed, reads_arg, reads_int, reads_long, reads_tested, reads_whatever, takes_int, takes_long}
 use Rattle.dv_steps.proofs.Narrowing.{number_narrowed, reference_narrowed, zero_narrowed}
 use Rattle.dv_steps.proofs.Numbers.{again, bits_small, int_fits, operate_again}
 use Rattle.dv_steps.proofs.Objects.{is_static_word, is_word_in, length_is, type_is, words_stored, statics_stored}
-use Rattle.dv_steps.proofs.Short.{IsBoundedGot, IsBoundedOption, array_length, array_bounded, class_object_bounded, grown_bounded, intern_bounded, new_array_bounded, object_bounded, static_bounded, stored_bounded}
-use Rattle.dv_steps.proofs.Registers.{is_word_at, stand_gone, stand_put, stand_put_two, words_set}
+use Rattle.dv_steps.proofs.Short.{IsBoundedGot, IsBoundedOption, array_length, array_bounded, class_object_bounded, intern_bounded, new_array_bounded, object_bounded, static_bounded, stored_bounded}
+use Rattle.dv_steps.proofs.Registers.{is_word_at, stand_gone, stand_put, words_set}
 
 module _ (w : WordHere) (h : Here) (frame_fits : FrameFits w.frame) (stands : HereStands w h) where
   abbrev is_at : (k : ℕ) → IsWord (reg_word w.frame k) (reg_at h.frame.regs k)
@@ -69,7 +66,6 @@ module _ (w : WordHere) (h : Here) (frame_fits : FrameFits w.frame) (stands : He
   -- the heap is as it was
   same_heap : (s : Frame) (f : tagged_frame.Frame) → FrameStands s f → DidStands h (onward w.heap s) (steps.onward h h.shared f)
   same_heap s f a = record { frame = f; levels = refl; shared = refl; started = refl; frame_stands = a; heap_stands = stands.heap; bounded = stands.bounded }
-
 
   -- ---- tests
 
@@ -164,8 +160,8 @@ module _ (w : WordHere) (h : Here) (frame_fits : FrameFits w.frame) (stands : He
       let s = put w.frame w.next a (word_of n) in
       let f = steps.put h.frame h.next a (v.Num n) in
       let done : DidStands h d (where_true (not (is_zero_number y)) named.Arithmetic (steps.onward h h.shared f)) =
-          where_alike (not (is_zero_number y)) (not (is_zero_number y)) named.Arithmetic (onward w.heap s) (steps.onward h h.shared f) refl
-          (same_heap s f (put_stands a (word_of n) (v.Num n) (operate_again o (int_at w.frame b) y (int_fits (reg_word w.frame b) (reg_fits b)) (arg_fits c l)))) in
+      where_alike (not (is_zero_number y)) (not (is_zero_number y)) named.Arithmetic (onward w.heap s) (steps.onward h h.shared f) refl
+      (same_heap s f (put_stands a (word_of n) (v.Num n) (operate_again o (int_at w.frame b) y (int_fits (reg_word w.frame b) (reg_fits b)) (arg_fits c l)))) in
       reads_int h d (reg_at h.frame.regs b) (reg_word w.frame b) _ (is_at b) (reads_arg h d h.frame.regs w.frame c _ is_at done)
 
   divided_long : (o : Bin) (a b c : ℕ) → DidStands h (word_mem w (LongDivide o a b c)) (mem h (LongDivide o a b c))
@@ -176,8 +172,8 @@ module _ (w : WordHere) (h : Here) (frame_fits : FrameFits w.frame) (stands : He
       let s = put_two w.frame w.next a (lo_of n) (hi_of n) in
       let f = steps.put_long h.frame h.next a n in
       let done : DidStands h d (where_true (not (is_zero_number y)) named.Arithmetic (steps.onward h h.shared f)) =
-          where_alike (not (is_zero_number y)) (not (is_zero_number y)) named.Arithmetic (onward w.heap s) (steps.onward h h.shared f) refl
-          (same_heap s f (put_two_stands a (lo_of n) (hi_of n) (v.Lo (lo_of n)) (v.Hi (hi_of n)) refl refl)) in
+      where_alike (not (is_zero_number y)) (not (is_zero_number y)) named.Arithmetic (onward w.heap s) (steps.onward h h.shared f) refl
+      (same_heap s f (put_two_stands a (lo_of n) (hi_of n) (v.Lo (lo_of n)) (v.Hi (hi_of n)) refl refl)) in
       reads_long h d (reg_at h.frame.regs b) (reg_at h.frame.regs (suc b)) (reg_word w.frame b) (reg_word w.frame (suc b)) _ (is_at b) (is_at (suc b))
       (reads_long h d (reg_at h.frame.regs c) (reg_at h.frame.regs (suc c)) (reg_word w.frame c) (reg_word w.frame (suc c)) _ (is_at c) (is_at (suc c)) done)
 
@@ -541,7 +537,7 @@ module _ (w : WordHere) (h : Here) (frame_fits : FrameFits w.frame) (stands : He
       let one = subst (λ (m : ℕ). HeapStands (over.stored x m 0 ws) (machine.stored y (suc n) 0 xs)) (sym (same ∙ new)) heaps in
       let both = subst (λ (m : ℕ). HeapStands (over.stored x (words.newest x) 0 ws) (machine.stored y m 0 xs)) (sym new) one in
       let frame : FrameStands (stack.given (stack.gone w.frame w.next) (kept.One (words.newest x))) (steps.with_result h.frame h.next (pending.One (v.Ref (tagged.newest y)))) =
-          record { method = stands.frame.method; at = stands.next; regs = stands.frame.regs; result = same; caught = refl } in
+      record { method = stands.frame.method; at = stands.next; regs = stands.frame.regs; result = same; caught = refl } in
       left_stands (stack.given (stack.gone w.frame w.next) (kept.One (words.newest x))) (steps.with_result h.frame h.next (pending.One (v.Ref (tagged.newest y)))) (over.stored x (words.newest x) 0 ws) (machine.stored y (tagged.newest y) 0 xs) frame both
       (stored_bounded y (tagged.newest y) 0 xs short)
 

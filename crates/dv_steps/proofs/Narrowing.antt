@@ -1,21 +1,20 @@
 -- What a store keeps of a word stands for what it keeps of the value.
-use Rattle.std.proofs.Common.{◌≡◌, ℕ, zero, suc, ◌*◌, ◌%◌, ◌^◌, ◌<◌, Bool, true, false, List, [], ◌∷◌, All, ℤ, pos, mod-lt, lit<, refl, sym, ap, ◌∙◌, subst, arith}
-use Rattle.std.specs.Prelude.{if◌then◌else◌, nat_eq, ◌&&◌, ◌||◌}
+use Rattle.std.proofs.Common.{◌≡◌, ℕ, ◌%◌, ◌^◌, ◌<◌, Bool, true, false, ℤ, pos, mod-lt, lit<, refl, ap, ◌∙◌, subst, arith}
+use Rattle.std.specs.Prelude.{if◌then◌else◌, ◌||◌}
 use Rattle.std.specs.Int.{w32}
 use Rattle.std.proofs.lemmas.Bool.{and_parts}
 use Rattle.std.proofs.lemmas.Int.{of_z-to_z}
 use Rattle.dv_defs.specs.declared.names.Base.{Base}
 use Rattle.dv_defs.specs.declared.names.Base.TheVariants as base
 use Rattle.dv_defs.specs.declared.names.Ty.{Ty}
-use Rattle.dv_defs.specs.declared.run.Value.{Value}
 use Rattle.dv_defs.specs.declared.run.Value.TheVariants as v
 use Rattle.dv_defs.specs.Numbers.{bits32}
 use Rattle.dv_defs.specs.Types.{base_eq, is_array, is_class_base, is_long, is_reference}
 use Rattle.dv_machine.specs.Mem as machine
 use Rattle.dv_machine.specs.Mem.{narrowed_number}
-use Rattle.dv_words.specs.Standing.{AreWords, Fits, FitsInt, IsWord}
+use Rattle.dv_words.specs.Standing.{Fits, FitsInt, IsWord}
 use Rattle.dv_words.specs.Words.{int_of, word_of}
-use Rattle.dv_steps.specs.Mem.{narrowed, narrowed_all}
+use Rattle.dv_steps.specs.Mem.{narrowed}
 use Rattle.dv_steps.proofs.Numbers.{IsAgain, again, byte_fits, int_fits, short_fits}
 
 number_again : (b : Base) (n : ℤ) → FitsInt n → IsAgain (narrowed_number b n)

@@ -1,5 +1,5 @@
 -- The native methods on words go where the tagged machine's go, of arguments that were read.
-use Rattle.std.proofs.Common.{◌≡◌, ◌⊎◌, inl, inr, ℕ, zero, suc, ◌+◌, ◌-◌, ◌*◌, ◌≤◌, ◌%◌, ◌^◌, ◌<◌, ◌++◌, Bool, true, false, Option, Some, None, List, [], ◌∷◌, ℤ, pos, negsuc, All, length, map, take, drop, mod-lt, lit<, refl, sym, ap, ◌∙◌, subst, arith}
+use Rattle.std.proofs.Common.{◌≡◌, ◌⊎◌, inl, inr, ℕ, zero, suc, ◌+◌, ◌-◌, ◌*◌, ◌≤◌, ◌%◌, ◌^◌, ◌<◌, ◌++◌, Bool, true, false, Option, Some, None, List, [], ◌∷◌, ℤ, pos, negsuc, All, length, take, drop, mod-lt, lit<, refl, sym, ap, ◌∙◌, subst, arith}
 use Rattle.std.specs.Prelude.{bytes_eq, if◌then◌else◌, nat_le, slice_get, slice_index_or}
 use Rattle.std.specs.Fmt.{decimal, signed_decimal}
 use Rattle.std.specs.Int.Signed.{mag}
@@ -29,18 +29,16 @@ use Rattle.dv_machine.specs.Mem.{on_object}
 use Rattle.dv_machine.specs.Natives as machine
 use Rattle.dv_machine.specs.Calls.{chars_type}
 use Rattle.dv_machine.specs.State.{fits_kind, passes}
-use Rattle.dv_machine.specs.State.{Did, Here, Left, NoOutput, Throws, truth, where_room, with_heap, with_output, with_result}
+use Rattle.dv_machine.specs.State.{Did, Here, Left, NoOutput, truth, where_room, with_heap, with_output, with_result}
 use Rattle.dv_machine.specs.Texts as texts
 use Rattle.dv_machine.specs.Threads.{goes as machine_goes, own_object}
-use Rattle.dv_words.specs.declared.state.Frame.{Frame}
 use Rattle.dv_words.specs.declared.state.Kept.TheVariants as kept
-use Rattle.dv_words.specs.declared.state.Kind.{Kind}
 use Rattle.dv_words.specs.Erasure.{erased_kind}
 use Rattle.dv_words.specs.Heaps as words
 use Rattle.dv_words.specs.Stacks as stacks
 use Rattle.dv_words.specs.Standing.{AllFit, AreWords, Fits, FrameStands, HeapStands, IsWord}
 use Rattle.dv_words.specs.State.{WordHeap}
-use Rattle.dv_words.specs.Words.{int_of, word_at, word_of}
+use Rattle.dv_words.specs.Words.{int_of, word_of}
 use Rattle.dv_steps.specs.Laws.{IsBounded, IsPlain, IsUnit}
 use Rattle.dv_steps.specs.Mem.{truth_word}
 use Rattle.dv_steps.specs.Natives as over

@@ -1,16 +1,16 @@
 -- What the machine's operations on ints give is an int of 32 bits, which is the number of its word.
-use Rattle.std.proofs.Common.{◌≡◌, ℕ, zero, suc, ◌+◌, ◌-◌, ◌*◌, ◌/◌, ◌%◌, ◌^◌, ◌<◌, ◌≤◌, ◌⊎◌, inl, inr, Bool, true, false, ℤ, pos, negsuc, lit<, mod-lt, refl, sym, ap, ◌∙◌, subst, arith}
-use Rattle.std.specs.Prelude.{nat_lt, int_lt, int_rem, int_div, neg_ℤ}
-use Rattle.std.specs.Int.{Width, w8, w16, w32, cast_signed, cast_unsigned, int_wrapping_div, int_shr, bit_not}
+use Rattle.std.proofs.Common.{◌≡◌, ℕ, zero, suc, ◌-◌, ◌*◌, ◌/◌, ◌%◌, ◌^◌, ◌<◌, ◌≤◌, ◌⊎◌, inl, inr, Bool, true, false, ℤ, pos, negsuc, lit<, mod-lt, refl, sym, ap, ◌∙◌, subst, arith}
+use Rattle.std.specs.Prelude.{int_lt, int_rem, int_div, neg_ℤ}
+use Rattle.std.specs.Int.{Width, w8, w16, w32, cast_signed, int_shr}
 use Rattle.std.specs.Int.Signed.{mag, mag_rem}
-use Rattle.std.specs.Int.Bits.{bit_and, bit_or, bit_xor, and_lt, or_lt, xor_lt}
+use Rattle.std.specs.Int.Bits.{and_lt, or_lt, xor_lt}
 use Rattle.std.proofs.lemmas.Bool.{cases_lt}
-use Rattle.std.proofs.lemmas.Int.{of_z-to_z, to_z_pos, rem_below}
+use Rattle.std.proofs.lemmas.Int.{of_z-to_z, to_z_pos}
 use Rattle.std.proofs.lemmas.Nat.{shr_le}
 use Rattle.std.proofs.Math.Facts.{to_z-neg}
 use Rattle.std.proofs.Math.Nat.{div-le_self, mod-le}
 use Rattle.dv_defs.specs.declared.run.Value.TheVariants as v
-use Rattle.dv_defs.specs.Numbers.{bits32, compare_long, from32, operate32, sign_of, to_byte, to_char, to_short, unary_at}
+use Rattle.dv_defs.specs.Numbers.{bits32, compare_long, from32, operate32, sign_of, unary_at}
 use Rattle.dv_defs.specs.Parts.{Bin, Unary}
 use Rattle.dv_words.proofs.Erasing.{to_word}
 use Rattle.dv_words.specs.Standing.{Fits, FitsInt}

@@ -1,25 +1,22 @@
 -- Objects on words stand for the tagged heap's objects, before a write and after it.
-use Rattle.std.proofs.Common.{◌≡◌, ℕ, zero, suc, pred, ◌/◌, List, [], ◌∷◌, Option, Some, None, length, map, refl, sym, ap, ◌∙◌, subst, arith}
+use Rattle.std.proofs.Common.{◌≡◌, ℕ, zero, suc, ◌/◌, List, [], ◌∷◌, Option, Some, None, length, map, refl, sym, ap, ◌∙◌, subst}
 use Rattle.std.specs.Prelude.{slice_get, slice_index_or, slice_set}
 use Rattle.std.specs.Option.{option_map}
 use Rattle.std.specs.List.{AllZip}
 use Rattle.dv_defs.specs.declared.machine.Kind as tagged_kind
 use Rattle.dv_defs.specs.declared.machine.Kind.TheVariants as kind_of_tagged
 use Rattle.dv_defs.specs.declared.run.Value.{Value}
-use Rattle.dv_defs.specs.declared.run.Value.TheVariants as v
 use Rattle.dv_defs.specs.Heap as tagged
 use Rattle.dv_defs.specs.Heap.{Heap}
 use Rattle.dv_defs.specs.Images.{Image}
 use Rattle.dv_defs.specs.Types.{component, words_of}
 use Rattle.dv_machine.specs.State as machine
 use Rattle.dv_machine.specs.Mem.{stored as machine_stored, static_stored as machine_static_stored}
-use Rattle.dv_words.specs.declared.state.Kind.{Kind}
 use Rattle.dv_words.specs.Erasure.{erased_kind}
 use Rattle.dv_words.specs.Heaps as words
 use Rattle.dv_words.specs.Heaps.{with_static, with_word, word_in, words_of_object}
 use Rattle.dv_words.specs.Standing.{AreWords, HeapStands, IsWord, ObjectStands, ObjectsStand}
 use Rattle.dv_words.specs.State.{WordHeap}
-use Rattle.dv_words.specs.Words.{word_at}
 use Rattle.dv_steps.specs.Laws.{IsPlain}
 use Rattle.dv_steps.specs.Mem as over
 use Rattle.dv_steps.proofs.Registers.{is_word_at, words_set}

@@ -1,14 +1,12 @@
 -- What a step on words leaves stands for what the tagged one leaves: the parts that all operations share.
-use Rattle.std.proofs.Common.{◌≡◌, ℕ, zero, suc, ◌+◌, Bool, true, false, ◌&&◌, Option, Some, None, List, [], ◌∷◌, length, refl, sym, ap, ◌∙◌, subst}
+use Rattle.std.proofs.Common.{◌≡◌, ℕ, zero, suc, ◌+◌, Bool, true, false, ◌&&◌, None, List, [], ◌∷◌, length, refl, sym, ap, ◌∙◌, subst}
 use Rattle.std.specs.Prelude.{if◌then◌else◌, nat_le}
-use Rattle.std.specs.List.{AllZip}
 use Rattle.dv_defs.specs.declared.machine.Frame as tagged_frame
 use Rattle.dv_defs.specs.declared.machine.Level as tagged_level
 use Rattle.dv_defs.specs.declared.machine.Level.TheVariants as level_of_tagged
 use Rattle.dv_defs.specs.declared.run.Limits.{Limits}
 use Rattle.dv_defs.specs.declared.run.Named.{Named}
 use Rattle.dv_defs.specs.declared.run.Named.TheVariants as named
-use Rattle.dv_defs.specs.declared.run.Value.{Value}
 use Rattle.dv_defs.specs.Classes.{Classes}
 use Rattle.dv_defs.specs.Heap.{Heap}
 use Rattle.dv_defs.specs.Monitors.{Monitors}
@@ -19,7 +17,7 @@ use Rattle.dv_words.specs.declared.state.Frame.{Frame}
 use Rattle.dv_words.specs.declared.state.Level.{Level}
 use Rattle.dv_words.specs.declared.state.Level.TheVariants as level
 use Rattle.dv_words.specs.Stacks.{gone, size_of, words_in}
-use Rattle.dv_words.specs.Standing.{AreWords, FrameStands, HeapStands, LevelStands, LevelsStand, SharedStands}
+use Rattle.dv_words.specs.Standing.{FrameStands, HeapStands, LevelStands, LevelsStand, SharedStands}
 use Rattle.dv_words.specs.State.{WordHeap, WordShared}
 use Rattle.dv_steps.specs.Laws.{IsBounded}
 use Rattle.dv_steps.specs.StepLaws.{AtStands, OutcomeStands}

@@ -1,5 +1,5 @@
 -- Class initialisation and exceptions in flight on words go where the tagged machine's go.
-use Rattle.std.proofs.Common.{◌≡◌, ℕ, zero, suc, ◌+◌, ◌++◌, Bool, true, false, ◌&&◌, Option, Some, None, Ok, Err, List, [], ◌∷◌, All, length, replicate, refl, sym, ap, ◌∙◌, subst}
+use Rattle.std.proofs.Common.{◌≡◌, ℕ, suc, ◌+◌, ◌++◌, Bool, true, false, Option, Some, None, List, [], ◌∷◌, length, replicate, refl, sym, ap, ◌∙◌, subst}
 use Rattle.std.specs.Prelude.{codes, if◌then◌else◌, slice_get}
 use Rattle.dv_defs.specs.declared.machine.Ask.{Ask}
 use Rattle.dv_defs.specs.declared.machine.Ask.TheVariants as ask
@@ -11,25 +11,21 @@ use Rattle.dv_defs.specs.declared.machine.Level.TheVariants as level_of_tagged
 use Rattle.dv_defs.specs.declared.names.ClassId.{ClassId}
 use Rattle.dv_defs.specs.declared.names.MethodId.{MethodId}
 use Rattle.dv_defs.specs.declared.run.Named.TheVariants as named
-use Rattle.dv_defs.specs.declared.run.Value.{Value}
 use Rattle.dv_defs.specs.declared.run.Value.TheVariants as v
-use Rattle.dv_defs.specs.Classes.{ClassState, Classes, Erroneous, InProgress, Ready, ask_of, with_state}
+use Rattle.dv_defs.specs.Classes.{ClassState, Erroneous, InProgress, Ready, ask_of, with_state}
 use Rattle.dv_defs.specs.Flow.{Catcher}
 use Rattle.dv_defs.specs.Heap as tagged
 use Rattle.dv_defs.specs.Heap.{Heap, class_cells}
 use Rattle.dv_defs.specs.Images.{Image}
 use Rattle.dv_defs.specs.Names.{error_name}
-use Rattle.dv_defs.specs.Op.{Op, ConstString, Enter, Exit, FieldGet, FieldPut, Invoke, Return, ReturnVoid, is_local, needs}
+use Rattle.dv_defs.specs.Op.{Op}
 use Rattle.dv_defs.specs.Order.{instance}
 use Rattle.dv_defs.specs.Pools.{Method, initialiser, method_at}
 use Rattle.dv_defs.specs.Types.{of_class}
 use Rattle.dv_machine.specs.Calls as calls
-use Rattle.dv_machine.specs.Local.{local}
-use Rattle.dv_machine.specs.Mem.{mem, on_object}
 use Rattle.dv_machine.specs.State as machine
 use Rattle.dv_machine.specs.State.{Did, Go, Here, IsStuck, Left, NoOutput, NoRoom, NoWords, Reads, Shared, Throws, ThrowsRef, read_any, reading, reg_at}
 use Rattle.dv_machine.specs.Step as step
-use Rattle.dv_machine.specs.Threads as threads
 use Rattle.dv_machine.specs.Unwinding as flight
 use Rattle.dv_words.specs.declared.state.Frame.{Frame}
 use Rattle.dv_words.specs.declared.state.Kind.TheVariants as kind
@@ -37,29 +33,22 @@ use Rattle.dv_words.specs.declared.state.Level.{Level}
 use Rattle.dv_words.specs.declared.state.Level.TheVariants as level
 use Rattle.dv_words.specs.Heaps as words
 use Rattle.dv_words.specs.Stacks as stacks
-use Rattle.dv_words.specs.Standing.{FrameStands, HeapStands, IsWord, LevelsStand, SharedStands}
+use Rattle.dv_words.specs.Standing.{FrameStands, HeapStands, LevelsStand, SharedStands}
 use Rattle.dv_words.specs.State.{WordHeap, WordShared}
 use Rattle.dv_steps.specs.Laws.{IsBounded, IsPlain, OperandsFit}
-use Rattle.dv_steps.specs.Local.{reg_word, word_local}
-use Rattle.dv_steps.specs.Mem.{WordHere, WordLeft, type_of, word_mem}
+use Rattle.dv_steps.specs.Mem.{type_of}
 use Rattle.dv_steps.specs.Step as over
-use Rattle.dv_steps.specs.StepLaws.{ActsFollow, AtStands, CallFits, ImageFits, LeavesStand, OutcomeStands, StartedStands}
+use Rattle.dv_steps.specs.StepLaws.{AtStands, CallFits, ImageFits, LeavesStand, OutcomeStands}
 use Rattle.dv_steps.specs.Steps as steps
-use Rattle.dv_steps.specs.Threads as word_threads
 use Rattle.dv_steps.specs.Unwinding as falling
 use Rattle.dv_steps.specs.Calls as word_calls
 use Rattle.dv_steps.proofs.ActSteps.{act_stands}
 use Rattle.dv_defs.specs.declared.names.Ty.{Ty}
 use Rattle.dv_steps.proofs.Added.{grown_stands, newest_is, room_is, zeros_stand}
-use Rattle.dv_steps.proofs.Arguments.{RefFits, WhereRead, ref_read, then_stands}
-use Rattle.dv_steps.proofs.CallSteps.{invoke_stands, return_form_stands, return_void_stands}
-use Rattle.dv_steps.proofs.LocalSteps.{local_steps_follow}
-use Rattle.dv_steps.proofs.MemSteps.{mem_steps_follow}
 use Rattle.dv_steps.proofs.Objects.{cell_stands, type_is}
-use Rattle.dv_steps.proofs.Outcomes.{left_stands, on_object_alike, onward_stands, pushed_stands, with_same_classes}
-use Rattle.dv_steps.proofs.Registers.{is_word_at}
+use Rattle.dv_steps.proofs.Outcomes.{left_stands, pushed_stands, with_same_classes}
 use Rattle.dv_steps.proofs.Short.{grown_bounded, stored_bounded}
-use Rattle.dv_steps.proofs.ThreadSteps.{entered_stands, enter_stands, exit_stands}
+use Rattle.dv_steps.proofs.ThreadSteps.{entered_stands}
 
 module _ (w : steps.At) (h : Here) (stands : AtStands w h) where
   -- ---- classes
@@ -194,11 +183,13 @@ module _ (w : steps.At) (h : Here) (stands : AtStands w h) where
       let one : HeapStands (words.with_word x (suc n) k o) (tagged.with_cell y (suc n) k (v.Ref o)) = cell_stands o (v.Ref o) refl k x y n plain s in
       let two = subst (λ (m : ℕ). HeapStands (words.with_word x m k o) (tagged.with_cell y (suc n) k (v.Ref o))) (sym (same ∙ new)) one in
       let both = subst (λ (m : ℕ). HeapStands (words.with_word x (words.newest x) k o) (tagged.with_cell y m k (v.Ref o))) (sym new) two in
-      let placed = subst (λ i. HeapStands (words.with_word x (words.newest x) (flight.throwable_slot i (codes "cause")) o) (tagged.with_cell y (tagged.newest y) k (v.Ref o))) (sym stands.image) both in
-      (same, leaves_stand _ _ (falling.below_record w c) (flight.below_record h c)
-      (erroneous_stands c (steps.with_heap w.shared (words.with_word x (words.newest x) (flight.throwable_slot w.image (codes "cause")) o)) (machine.with_heap h.shared (tagged.with_cell y (tagged.newest y) k (v.Ref o)))
-      (record { heap = placed; classes = stands.shared.classes; monitors = stands.shared.monitors; output = stands.shared.output }))
-      (below_stands c) (stored_bounded y (tagged.newest y) k (v.Ref o ∷ []) bounded))
+      let placed = subst (λ i. HeapStands (words.with_word x (words.newest x) (flight.throwable_slot i (codes "cause")) o) (tagged.with_cell y (tagged.newest y) k (v.Ref o))) (sym stands.image) both in (
+        same,
+        leaves_stand _ _ (falling.below_record w c) (flight.below_record h c)
+            (erroneous_stands c (steps.with_heap w.shared (words.with_word x (words.newest x) (flight.throwable_slot w.image (codes "cause")) o)) (machine.with_heap h.shared (tagged.with_cell y (tagged.newest y) k (v.Ref o)))
+            (record { heap = placed; classes = stands.shared.classes; monitors = stands.shared.monitors; output = stands.shared.output }))
+            (below_stands c) (stored_bounded y (tagged.newest y) k (v.Ref o ∷ []) bounded),
+      )
 
   wrapped_stands : (c o : ℕ) → UnwoundStands (falling.wrapped w c o (falling.made_object w.image w.shared.heap named.InInitializer)) (flight.wrapped h c o (flight.made_object h.image h.shared.heap named.InInitializer))
   wrapped_stands c o =

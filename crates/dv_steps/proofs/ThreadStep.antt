@@ -1,5 +1,5 @@
 -- A step of a thread on words goes where the tagged machine's goes.
-use Rattle.std.proofs.Common.{◌≡◌, ℕ, zero, suc, ◌++◌, Bool, true, false, Option, Some, None, Ok, Err, List, [], ◌∷◌, All, refl, sym, ap, ◌∙◌, subst}
+use Rattle.std.proofs.Common.{◌≡◌, ℕ, zero, suc, ◌++◌, Bool, true, false, Option, Some, None, Ok, List, [], ◌∷◌, All, refl, sym, ap, ◌∙◌, subst}
 use Rattle.std.specs.Prelude.{if◌then◌else◌, slice_get, slice_set}
 use Rattle.std.specs.List.{AllZip}
 use Rattle.std.specs.Option.{option_to_list}
@@ -30,11 +30,11 @@ use Rattle.dv_words.specs.declared.state.Frame.{Frame}
 use Rattle.dv_words.specs.declared.state.Level.{Level}
 use Rattle.dv_words.specs.declared.state.Level.TheVariants as level
 use Rattle.dv_words.specs.Heaps as words
-use Rattle.dv_words.specs.Standing.{Fits, FrameFits, FrameStands, HeapFits, HeapStands, IsResult, LevelFits, LevelsStand, MachineFits, MachineStands, SharedStands, ThreadFits, ThreadStands}
-use Rattle.dv_words.specs.State.{WordHeap, WordMachine, WordShared, WordThread}
+use Rattle.dv_words.specs.Standing.{Fits, FrameFits, FrameStands, LevelFits, LevelsStand, MachineFits, MachineStands, ThreadFits, ThreadStands}
+use Rattle.dv_words.specs.State.{WordHeap, WordMachine, WordThread}
 use Rattle.dv_steps.specs.Laws.{IsBounded, IsMade, OperandsFit}
 use Rattle.dv_steps.specs.Step as over
-use Rattle.dv_steps.specs.StepLaws.{AtStands, CallFits, CharsAreNumbers, ImageFits, IsFit, LeavesStand, LevelIsMade, OperationsFit, OutcomeStands, StartedStands, StepsFollow, ThreadIsMade}
+use Rattle.dv_steps.specs.StepLaws.{AtStands, CallFits, ImageFits, IsFit, LeavesStand, LevelIsMade, OperationsFit, OutcomeStands, StartedStands, StepsFollow, ThreadIsMade}
 use Rattle.dv_steps.specs.Steps as steps
 use Rattle.dv_steps.specs.Unwinding as falling
 use Rattle.dv_steps.proofs.Added.{OptionStands, newest_is, object_added}
@@ -83,13 +83,16 @@ module _ (w : WordMachine) (m : Machine) (t : ℕ) (stands : MachineStands w m) 
   stopped_stands e = (record { threads = stands.threads; shared = stands.shared; steps = ap suc stands.steps; stop = refl; limits = stands.limits }, bounded)
 
   with_stands : (y : WordThread) (u : Thread) (s : steps.Left) (l : Left) → ThreadStands y u → LeavesStand s l → After (over.with_thread w t y s) (step.with_thread m t u l)
-  with_stands y u s l new left = (record {
-    threads = threads_more (slice_set w.threads t y) (slice_set m.threads t u) s.started l.started (threads_set w.threads m.threads t y u stands.threads new) left.started;
-    shared = left.shared;
-    steps = ap suc stands.steps;
-    stop = stands.stop;
-    limits = stands.limits;
-  }, left.bounded)
+  with_stands y u s l new left = (
+    record {
+      threads = threads_more (slice_set w.threads t y) (slice_set m.threads t u) s.started l.started (threads_set w.threads m.threads t y u stands.threads new) left.started;
+      shared = left.shared;
+      steps = ap suc stands.steps;
+      stop = stands.stop;
+      limits = stands.limits;
+    },
+    left.bounded,
+  )
 
   gone_stands : (s : steps.Left) (l : Left) → LeavesStand s l → After (over.gone_on w t x s) (step.gone_on m t th l)
   gone_stands s l left = with_stands (record { levels = s.levels; end = over.end_after s.levels; object = x.object }) (record { levels = l.levels; end = step.end_after l.levels; object = th.object }) s l (record { levels = left.levels; end = end_is s.levels l.levels left.levels; object = one.object }) left
@@ -221,7 +224,7 @@ module _ (image : Image) (w : WordMachine) (m : Machine) (t : ℕ) (image_fits :
       let catchers = handlers_at image f.method.0 f.at in
       let same : handlers_at image s.method.0 s.at ≡ catchers = ap (λ (k : MethodId). handlers_at image k.0 s.at) frame.method ∙ ap (handlers_at image f.method.0) frame.at in
       let to : falling.handler_for image w.shared.heap o (handlers_at image s.method.0 s.at) ≡ flight.handler_for image m.shared.heap o catchers =
-          ap (falling.handler_for image w.shared.heap o) same ∙ handler_is (over.here image w t step.no_method s ss 0) (step.here image m t step.no_method f ls 0) there image o catchers in
+      ap (falling.handler_for image w.shared.heap o) same ∙ handler_is (over.here image w t step.no_method s ss 0) (step.here image m t step.no_method f ls 0) there image o catchers in
       subst (λ (k : Option ℕ). After (over.settled_flight w t x (falling.unwind_frame (over.here image w t step.no_method s ss 0) s o k)) n) (sym to)
       (settled_flight_stands w m t stands fit.bounded x th one (over.here image w t step.no_method s ss 0) (step.here image m t step.no_method f ls 0) there _ _ n (frame_unwound (over.here image w t step.no_method s ss 0) (step.here image m t step.no_method f ls 0) there s f o (flight.handler_for image m.shared.heap o catchers) frame) is)
   flight_by o (level.Init c r ∷ ss) (level_of_tagged.Init d q ∷ ls) all small made is =

@@ -18,13 +18,13 @@ use Rattle.dv_defs.specs.Monitors.{Held, Monitors, Wait, entered, exited, held_o
 use Rattle.dv_defs.specs.Pools.{Method, is_abstract}
 use Rattle.dv_machine.specs.Calls as calls
 use Rattle.dv_machine.specs.State.{gone as tagged_gone}
-use Rattle.dv_machine.specs.State.{Did, Go, Here, Left, Thread, Throws, onward, with_monitors}
+use Rattle.dv_machine.specs.State.{Did, Go, Here, Left, Thread, Throws, with_monitors}
 use Rattle.dv_machine.specs.Threads as machine
 use Rattle.dv_words.specs.declared.state.Level.TheVariants as level
 use Rattle.dv_words.specs.Erasure.{erased_kind}
 use Rattle.dv_words.specs.Heaps as words
 use Rattle.dv_words.specs.Stacks as stacks
-use Rattle.dv_words.specs.Standing.{AreWords, FrameStands, IsWord, ThreadStands}
+use Rattle.dv_words.specs.Standing.{AreWords, FrameStands, ThreadStands}
 use Rattle.dv_words.specs.State.{WordThread}
 use Rattle.dv_steps.specs.StepLaws.{AtStands, OutcomeStands}
 use Rattle.dv_steps.specs.Steps as steps
@@ -196,9 +196,9 @@ module _ (w : steps.At) (h : Here) (stands : AtStands w h) where
   start_by o (Some u) = refl
   start_by o None =
       let few : nat_lt (length w.threads) w.limits.threads ≡ nat_lt (length h.threads) h.limits.threads =
-          ap (λ (n : ℕ). nat_lt n w.limits.threads) (count_threads w.threads h.threads stands.threads) ∙ ap (λ (l : Limits). nat_lt (length h.threads) l.threads) stands.limits in
+      ap (λ (n : ℕ). nat_lt n w.limits.threads) (count_threads w.threads h.threads stands.threads) ∙ ap (λ (l : Limits). nat_lt (length h.threads) l.threads) stands.limits in
       let found : over.run_method w.image (over.class_of_kind w.image (words.kind_of w.shared.heap o)) ≡ machine.run_method h.image (calls.class_of_kind h.image (tagged.kind_of h.shared.heap o)) =
-          ap (λ i. over.run_method i (over.class_of_kind w.image (words.kind_of w.shared.heap o))) stands.image ∙ ap (over.run_method h.image) (class_is o) ∙ run_by (calls.class_of_kind h.image (tagged.kind_of h.shared.heap o)) in
+      ap (λ i. over.run_method i (over.class_of_kind w.image (words.kind_of w.shared.heap o))) stands.image ∙ ap (over.run_method h.image) (class_is o) ∙ run_by (calls.class_of_kind h.image (tagged.kind_of h.shared.heap o)) in
       where_alike _ _ named.OutOfMemory (over.started_on w o (over.run_method w.image (over.class_of_kind w.image (words.kind_of w.shared.heap o)))) (machine.started_on h o (machine.run_method h.image (calls.class_of_kind h.image (tagged.kind_of h.shared.heap o)))) few
       (subst (λ (m : Option Method). OutcomeStands (over.started_on w o m) (machine.started_on h o (machine.run_method h.image (calls.class_of_kind h.image (tagged.kind_of h.shared.heap o))))) (sym found) (started_by o (machine.run_method h.image (calls.class_of_kind h.image (tagged.kind_of h.shared.heap o)))))
     where

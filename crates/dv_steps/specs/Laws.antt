@@ -20,7 +20,6 @@ use Rattle.dv_machine.specs.Mem.{mem}
 use Rattle.dv_machine.specs.State.{Did, Go, Here, IsStuck, Left, NoOutput, NoRoom, NoWords, Throws, ThrowsRef, with_heap}
 use Rattle.dv_words.specs.declared.state.Frame.{Frame}
 use Rattle.dv_words.specs.Standing.{FitsInt, FrameFits, FrameStands, HeapStands}
-use Rattle.dv_words.specs.State.{WordHeap}
 use Rattle.dv_steps.specs.Local.{word_local}
 use Rattle.dv_steps.specs.Mem.{WordHere, WordLeft, word_mem}
 

@@ -1,13 +1,11 @@
 -- Steps at the address of a frame, as calls do them.
-use Rattle.std.specs.Prelude.{◌≡◌, ◌≤◌, ◌<◌, ℕ, zero, suc, Bool, true, false, Option, Some, None, Result, Ok, Err, List, length}
-use Rattle.dv_defs.specs.declared.code.Insn.{Insn}
+use Rattle.std.specs.Prelude.{◌≡◌, ◌≤◌, ◌<◌, ℕ, zero, suc, Bool, true, false, Option, Some, None, Result, Ok, Err}
 use Rattle.dv_defs.specs.declared.run.Next.{Next}
 use Rattle.dv_defs.specs.declared.run.Next.TheVariants as next
-use Rattle.dv_defs.specs.Decoding.{insn_here}
 use Rattle.dv_defs.specs.Images.{Image}
-use Rattle.dv_defs.specs.Op.{Op, is_local}
+use Rattle.dv_defs.specs.Op.{is_local}
 use Rattle.dv_defs.specs.Statics.{At, fetch}
-use Rattle.dv_machine.specs.State.{Did, Go, IsStuck, NoOutput, NoRoom, NoWords, Throws, ThrowsRef}
+use Rattle.dv_machine.specs.State.{Did, Go, NoWords, Throws, ThrowsRef}
 use Rattle.dv_words.specs.declared.state.Frame.{Frame}
 use Rattle.dv_words.specs.State.{WordHeap, WordStack}
 use Rattle.dv_words.specs.Stacks.{changed}

@@ -1,5 +1,5 @@
 -- What a step on words sees and leaves.
-use Rattle.std.specs.Prelude.{ℕ, suc, ◌+◌, Bool, true, false, ◌&&◌, List, [], ◌∷◌, length, map, Option, Some, None, nat_le, if◌then◌else◌}
+use Rattle.std.specs.Prelude.{ℕ, suc, ◌+◌, ◌&&◌, List, ◌∷◌, length, Option, None, nat_le, if◌then◌else◌}
 use Rattle.dv_defs.specs.declared.run.Limits.{Limits}
 use Rattle.dv_defs.specs.Classes.{Classes}
 use Rattle.dv_defs.specs.Images.{Image}

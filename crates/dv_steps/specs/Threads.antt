@@ -2,7 +2,6 @@
 use Rattle.std.specs.Prelude.{ℕ, suc, Bool, true, false, List, [], ◌∷◌, length, Option, Some, None, nat_eq, nat_lt, codes, slice_get, if◌then◌else◌}
 use Rattle.dv_defs.specs.declared.machine.End.{End}
 use Rattle.dv_defs.specs.declared.machine.End.TheVariants as end
-use Rattle.dv_defs.specs.declared.names.MethodId.{MethodId}
 use Rattle.dv_defs.specs.declared.run.Named.TheVariants as named
 use Rattle.dv_defs.specs.Images.{Image}
 use Rattle.dv_defs.specs.Monitors.{Held, Wait, entered, exited, held_of, notified_all, notified_one, owner_of, resumed, wait_of, waiting}
@@ -15,7 +14,7 @@ use Rattle.dv_words.specs.declared.state.Kind.TheVariants as kind
 use Rattle.dv_words.specs.declared.state.Level.TheVariants as level
 use Rattle.dv_words.specs.Heaps.{kind_of}
 use Rattle.dv_words.specs.Stacks as stacks
-use Rattle.dv_words.specs.State.{WordHeap, WordThread}
+use Rattle.dv_words.specs.State.{WordThread}
 use Rattle.dv_steps.specs.Steps.{At, Left, goes, onward, stays, with_monitors}
 
 -- ---- monitors

@@ -1,5 +1,5 @@
 -- Exceptions in flight on words (JLS 11.3, 12.4.2): as the tagged machine's.
-use Rattle.std.specs.Prelude.{ℕ, Bool, true, false, ◌&&◌, List, [], ◌∷◌, codes, Option, Some, None, nat_eq, if◌then◌else◌}
+use Rattle.std.specs.Prelude.{ℕ, Bool, true, false, List, [], ◌∷◌, codes, Option, Some, None, if◌then◌else◌}
 use Rattle.dv_defs.specs.declared.names.Ty.{Ty}
 use Rattle.dv_defs.specs.declared.run.Named.{Named}
 use Rattle.dv_defs.specs.declared.run.Named.TheVariants as named
@@ -8,7 +8,7 @@ use Rattle.dv_defs.specs.Flow.{Catcher}
 use Rattle.dv_defs.specs.Images.{Image}
 use Rattle.dv_defs.specs.Names.{error_name}
 use Rattle.dv_defs.specs.Order.{instance}
-use Rattle.dv_defs.specs.Pools.{Method, method_at}
+use Rattle.dv_defs.specs.Pools.{method_at}
 use Rattle.dv_defs.specs.Types.{of_class}
 use Rattle.dv_machine.specs.Unwinding.{exception_name, is_method_of, number_named, throwable_slot}
 use Rattle.dv_words.specs.declared.state.Frame.{Frame}
