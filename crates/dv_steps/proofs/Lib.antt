@@ -18,3 +18,4 @@ mod CallSteps
 mod ActSteps
 mod RecordSteps
 mod ThreadStep
+mod Operands

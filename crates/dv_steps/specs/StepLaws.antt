@@ -1,5 +1,5 @@
 -- A step of a thread on words goes where the tagged machine's goes, wherever that isn't stuck.
-use Rattle.std.specs.Prelude.{◌≡◌, ℕ, suc, true, false, Option, Some, None, Ok, All, length}
+use Rattle.std.specs.Prelude.{◌≡◌, ℕ, suc, true, false, List, Option, Some, None, Ok, All, length, slice_get}
 use Rattle.std.specs.List.{AllZip}
 use Rattle.dv_defs.specs.declared.machine.Level.{Level}
 use Rattle.dv_defs.specs.declared.machine.Level.TheVariants as level
@@ -7,7 +7,7 @@ use Rattle.dv_defs.specs.declared.run.Value.{Value}
 use Rattle.dv_defs.specs.declared.run.Value.TheVariants as v
 use Rattle.dv_defs.specs.Heap.{Heap, cells_at, kind_of}
 use Rattle.dv_defs.specs.Images.{Image}
-use Rattle.dv_defs.specs.Op.{Op, Invoke}
+use Rattle.dv_defs.specs.Op.{Code, Op, Invoke, code_at}
 use Rattle.dv_defs.specs.Pools.{Field, field_at, is_static_field, method_at}
 use Rattle.dv_defs.specs.Statics as statics
 use Rattle.dv_defs.specs.Statics.{arg_words, fetch}
@@ -18,7 +18,7 @@ use Rattle.dv_machine.specs.State.{Did, Go, Here, IsStuck, Left, Machine, NoOutp
 use Rattle.dv_machine.specs.Step as machine
 use Rattle.dv_words.specs.Standing.{FrameFits, FrameStands, HeapFits, LevelsStand, MachineFits, MachineStands, SharedStands, ThreadStands}
 use Rattle.dv_words.specs.State.{WordMachine, WordThread}
-use Rattle.dv_steps.specs.Laws.{IsBounded, IsMade, IsNoString, IsPlain, OperandsFit}
+use Rattle.dv_steps.specs.Laws.{IsBounded, IsMade, IsNoString, IsPlain, IsUnit, OperandsFit}
 use Rattle.dv_steps.specs.Step.{act, step}
 use Rattle.dv_steps.specs.Steps as words
 
@@ -118,3 +118,14 @@ abbrev pub StepsFollow : Type 0
 StepsFollow =
     (image : Image) (w : WordMachine) (m n : Machine) (t : ℕ) → ImageFits image → OperationsFit image → MachineFits w → IsFit image m →
     MachineStands w m → machine.step image m t ≡ Ok n → MachineStands (step image w t) n × IsBounded n.shared.heap
+
+-- ---- what the units and pools spell
+
+-- strings in pools have UTF-16 units
+abbrev pub StringsFit : Image → Type 0
+StringsFit image =
+    (n : ℕ) (code : Code) (k : ℕ) (s : List ℕ) → code_at image n ≡ Some code → slice_get code.body.strings k ≡ Some s → All IsUnit s
+
+-- so what stands at an address has operands that fit
+abbrev pub FetchedOperandsFit : Type 0
+FetchedOperandsFit = (image : Image) → ImageFits image → StringsFit image → OperationsFit image
