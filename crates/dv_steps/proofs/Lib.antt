@@ -19,3 +19,4 @@ mod ActSteps
 mod RecordSteps
 mod ThreadStep
 mod Operands
+mod Fitting

@@ -36,13 +36,13 @@ signed_by half whole n few twice = by (nat_lt n half) refl
 signed_4 : (n : ℕ) → FitsInt (signed_at 4 n)
 signed_4 n = signed_by 8 16 n (omega arith) refl
 
-signed_8 : (n : ℕ) → FitsInt (signed_at 8 n)
+pub signed_8 : (n : ℕ) → FitsInt (signed_at 8 n)
 signed_8 n = signed_by 128 256 n (omega arith) refl
 
-signed_16 : (n : ℕ) → FitsInt (signed_at 16 n)
+pub signed_16 : (n : ℕ) → FitsInt (signed_at 16 n)
 signed_16 n = signed_by 32768 65536 n (omega arith) refl
 
-signed_32 : (n : ℕ) → FitsInt (signed_at 32 n)
+pub signed_32 : (n : ℕ) → FitsInt (signed_at 32 n)
 signed_32 n = signed_by 2147483648 4294967296 n (omega arith) refl
 
 -- ---- the literal that an instruction has, by its format
@@ -107,7 +107,7 @@ read_literal f op a us x e = absurd (cc)
 
 -- ---- of const and the operations with a literal it is an int
 
-abbrev has_literal : Option Family → Bool
+abbrev pub has_literal : Option Family → Bool
 has_literal (Some Family.Const) = true
 has_literal (Some (Family.IntLiteral o)) = true
 has_literal f = false

@@ -1,0 +1,207 @@
+-- What is fetched has operands that fit.
+use Rattle.std.proofs.Common.{◌≡◌, ◌≢◌, ◌⊎◌, inl, inr, ℕ, zero, suc, ◌+◌, ◌*◌, ◌/◌, ◌++◌, Bool, true, false, ◌&&◌, ◌||◌, not, Option, Some, None, Result, Ok, Err, List, [], ◌∷◌, ℤ, All, length, take, drop, refl, sym, ap, ◌∙◌, subst, arith}
+use Rattle.std.specs.Prelude.{nat_eq, nat_le, slice_get}
+use Rattle.std.proofs.lemmas.Bool.{and_parts, cases_eq}
+use Rattle.std.proofs.lemmas.Bool.Decides.{nat_tests}
+use Rattle.std.proofs.lemmas.List.Elements.{All-cons, All-nil}
+use Rattle.std.proofs.lemmas.Option.{same_Some}
+use Rattle.dv_defs.specs.declared.code.Insn.{Insn}
+use Rattle.dv_defs.specs.declared.code.Payload.{Payload}
+use Rattle.dv_defs.specs.declared.code.Payload.TheVariants as payload
+use Rattle.dv_defs.specs.declared.faults.Rule.{Rule}
+use Rattle.dv_defs.specs.declared.faults.Rule.TheVariants as rule
+use Rattle.dv_defs.specs.declared.names.FieldId.{FieldId}
+use Rattle.dv_defs.specs.declared.names.MethodId.{MethodId}
+use Rattle.dv_defs.specs.declared.names.Ty.{Ty}
+use Rattle.std.specs.List.{list_all}
+use Rattle.dv_defs.specs.Decoding.{Sized, insn_here, is_zero}
+use Rattle.dv_defs.specs.Families.{Family, family_at}
+use Rattle.dv_defs.specs.Images.{Image}
+use Rattle.dv_defs.specs.Numbers.{elements, jump, low_first, signed_at}
+use Rattle.dv_defs.specs.Op.{Arg, Code, Lit, Op, Reg, Resolved, IntDivide, IntOp, LongDivide, LongOp, LongShift, ConstString, FieldGet, FieldPut, Fill, Invoke, code_at, fill_op, int_op, long_op, move_op, new_op, on_pool, op_of, packed_op, resolve, resolve_by, resolved_field, resolved_method, result_op, sparse_op}
+use Rattle.dv_defs.specs.Parts.{Bin, Call, Suffix, Test, Unary, Width, is_division, is_shift}
+use Rattle.dv_defs.specs.Pools.{Field, Method, field_at, is_interface, is_static_field, method_at}
+use Rattle.dv_defs.specs.Statics.{At, arg_words, fetch, fits_call, fits_instance_field, insn_rules, is_of_suffix, moves_on, op_rules, registers_below, resolved_rules, unless}
+use Rattle.dv_defs.specs.Tiling.{IsInsn, IsPayload, Item, Piece, SizedPayload, begins_payload, bytes_in, data_in, data_of, data_from, doubles, insn_piece, is_width, packed_with, payload_at, payload_of, payload_piece, piece_here, sparse_with, tiles_in, tiling}
+use Rattle.dv_words.specs.Standing.{FitsInt}
+use Rattle.dv_steps.specs.Fetching.{IsFetched, IsSpelled, IsThere, StandsAt}
+use Rattle.dv_steps.specs.Laws.{ArgFits, ConstantFits, IsUnit, OperandsFit}
+use Rattle.dv_steps.specs.StepLaws.{CallFits, FetchedOperandsFit, ImageFits, OperationsFit, StringsFit}
+use Rattle.dv_steps.proofs.Fetching.{fetched_is_decoded, fetched_is_there, payloads_are_there, tiles_are}
+use Rattle.dv_steps.proofs.Operands.{has_literal, literal_fits, signed_16, signed_32, signed_8}
+
+abbrev Fit : Image → Op → Type 0
+Fit image op = OperandsFit image op × CallFits image op
+
+plain : (image : Image) (a op : Op) → (let r : Resolved = Ok a in r) ≡ Ok op → Fit image a → Fit image op
+plain image a op e fit = let same : a ≡ op = cc in subst (Fit image) same fit
+
+-- ---- rules that aren't broken
+
+none_left : (xs ys : List Rule) → xs ++ ys ≡ [] → ys ≡ []
+none_left [] ys e = e
+none_left (x ∷ xs) ys e = absurd (cc)
+
+kept_to : (b : Bool) (r : Rule) → unless b r ≡ [] → b ≡ true
+kept_to true r e = refl
+kept_to false r e = absurd (cc)
+
+no_fault : (image : Image) (code : Code) (at : ℕ) (i : Insn) (op : Op) → op_of image code at i ≡ Ok op → insn_rules image code at i ≡ [] → op_rules image code op ≡ []
+no_fault image code at i op is rules =
+    sym (ap (resolved_rules image code) is) ∙ none_left (unless (moves_on i) (rule.S 5) ++ unless (registers_below code.body.registers i) (rule.S 11)) (resolved_rules image code (op_of image code at i)) rules
+
+-- ---- payloads
+
+widths : (w : ℕ) → is_width w ≡ true → (w ≡ 8) ⊎ ((w ≡ 1) ⊎ ((w ≡ 2) ⊎ (w ≡ 4)))
+widths w is = by (cases_eq w 8) (cases_eq w 1) (cases_eq w 2) (cases_eq w 4)
+  where
+    by : (w ≡ 8) ⊎ (w ≢ 8) → (w ≡ 1) ⊎ (w ≢ 1) → (w ≡ 2) ⊎ (w ≢ 2) → (w ≡ 4) ⊎ (w ≢ 4) → (w ≡ 8) ⊎ ((w ≡ 1) ⊎ ((w ≡ 2) ⊎ (w ≡ 4)))
+    by (inl e) b c d = inl e
+    by (inr a) (inl e) c d = inr (inl e)
+    by (inr a) (inr b) (inl e) d = inr (inr (inl e))
+    by (inr a) (inr b) (inr c) (inl e) = inr (inr (inr e))
+    by (inr a) (inr b) (inr c) (inr d) = absurd (grind (arith, nat_tests, is, a, b, c, d))
+
+elements_by : (width : ℕ) → ((n : ℕ) → FitsInt (signed_at (8 * width) n)) → (n : ℕ) (bs : List ℕ) → All FitsInt (elements n width bs)
+elements_by width small zero bs = All-nil FitsInt
+elements_by width small (suc n) bs = All-cons FitsInt _ _ (small (low_first (take width bs))) (elements_by width small n (drop width bs))
+
+elements_fit : (width : ℕ) (n : ℕ) (bs : List ℕ) → is_width width ≡ true → (width ≡ 8) ⊎ All FitsInt (elements n width bs)
+elements_fit width n bs is = by (widths width is)
+  where
+    at_width : (w : ℕ) → width ≡ w → ((k : ℕ) → FitsInt (signed_at (8 * w) k)) → All FitsInt (elements n width bs)
+    at_width w e small = subst (λ (v : ℕ). All FitsInt (elements n v bs)) (sym e) (elements_by w small n bs)
+
+    by : (width ≡ 8) ⊎ ((width ≡ 1) ⊎ ((width ≡ 2) ⊎ (width ≡ 4))) → (width ≡ 8) ⊎ All FitsInt (elements n width bs)
+    by (inl e) = inl e
+    by (inr (inl e)) = inr (at_width 1 e signed_8)
+    by (inr (inr (inl e))) = inr (at_width 2 e signed_16)
+    by (inr (inr (inr e))) = inr (at_width 4 e signed_32)
+
+-- the width of a payload of data is one that may be
+abbrev RightWidth : Payload → Type 0
+RightWidth (payload.Data w bs) = is_width w ≡ true
+RightWidth p = Unit {0}
+
+-- so of an item, and of what is read
+abbrev RightSized : Option SizedPayload → Type 0
+RightSized None = Unit {0}
+RightSized (Some x) = RightWidth x.payload
+
+packed_right : (n : ℕ) (ks : Option (List ℕ)) → RightSized (packed_with n ks)
+packed_right n None = tt
+packed_right n (Some []) = tt
+packed_right n (Some (k ∷ ts)) = tt
+
+sparse_right : (n : ℕ) (ks : Option (List ℕ)) → RightSized (sparse_with n ks)
+sparse_right n None = tt
+sparse_right n (Some ks) = tt
+
+data_right : (w count units : ℕ) (us : List ℕ) → RightSized (data_of w count units us)
+data_right w count units us = by (is_width w && nat_le units (length us)) refl
+  where
+    inside : (b : Bool) → is_width w ≡ true → RightSized (elim b [ true ↦ Some (record { payload = payload.Data w (take count (bytes_in (take units us))); size = units + 4 }) | false ↦ None ])
+    inside true is = is
+    inside false is = tt
+
+    by : (b : Bool) → (is_width w && nat_le units (length us)) ≡ b → RightSized (elim b [ true ↦ data_in w count (bytes_in (take units us)) units | false ↦ None ])
+    by true is = inside (list_all is_zero (drop count (bytes_in (take units us)))) (and_parts (is_width w) (nat_le units (length us)) is).0
+    by false is = tt
+
+from_right : (w : ℕ) (us : List ℕ) → RightSized (data_from w us)
+from_right w [] = tt
+from_right w (a ∷ []) = tt
+from_right w (a ∷ b ∷ us) = data_right w _ _ us
+
+payload_right : (kind : ℕ) (us : List ℕ) → RightSized (payload_of kind us)
+payload_right kind [] = tt
+payload_right kind (n ∷ us) = by (nat_eq kind 1) (nat_eq kind 2)
+  where
+    by : (a b : Bool) → RightSized (elim a [ true ↦ packed_with n (doubles (suc n) us) | false ↦ elim b [ true ↦ sparse_with n (doubles (n + n) us) | false ↦ data_from n us ] ])
+    by true b = packed_right n (doubles (suc n) us)
+    by false true = sparse_right n (doubles (n + n) us)
+    by false false = from_right n us
+
+piece_right : (o : Option SizedPayload) (p : Payload) (size : ℕ) → RightSized o → payload_piece o ≡ Some (record { item = IsPayload p; size = size }) → RightWidth p
+piece_right None p size right e = absurd (cc)
+piece_right (Some x) p size right e =
+    let same : IsPayload x.payload ≡ IsPayload p = ap (λ (z : Piece). z.item) (same_Some (record { item = IsPayload x.payload; size = x.size }) (record { item = IsPayload p; size = size }) e) in
+    let payloads : x.payload ≡ p = cc in
+    subst RightWidth payloads right
+
+not_insn : (o : Option Sized) (p : Payload) (size : ℕ) → insn_piece o ≡ Some (record { item = IsPayload p; size = size }) → ⊥
+not_insn None p size e = cc
+not_insn (Some x) p size e =
+    let same : IsInsn x.insn ≡ IsPayload p = ap (λ (z : Piece). z.item) (same_Some (record { item = IsInsn x.insn; size = x.size }) (record { item = IsPayload p; size = size }) e) in
+    cc same
+
+abbrev marked : Bool → Option SizedPayload → Option Sized → Option Piece
+marked b p i = elim b [ true ↦ payload_piece p | false ↦ insn_piece i ]
+
+here_right : (us : List ℕ) (p : Payload) (size : ℕ) → piece_here us ≡ Some (record { item = IsPayload p; size = size }) → RightWidth p
+here_right [] p size e = absurd (cc)
+here_right (u ∷ us) p size e = by (begins_payload u) e
+  where
+    by : (b : Bool) → marked b (payload_of (u / 256) us) (insn_here (u ∷ us)) ≡ Some (record { item = IsPayload p; size = size }) → RightWidth p
+    by true is = piece_right (payload_of (u / 256) us) p size (payload_right (u / 256) us) is
+    by false is = absurd (not_insn (insn_here (u ∷ us)) p size is)
+
+payload_fits : (image : Image) (n : ℕ) (code : Code) (at : ℕ) (p : Payload) → code_at image n ≡ Some code → payload_at code.tiles at ≡ Some p → RightWidth p
+payload_fits image n code at p has e =
+    let spelled = payloads_are_there code.body.units at p (ap (λ ts. payload_at ts at) (sym (tiles_are image n code has)) ∙ e) in
+    here_right (drop at code.body.units) p spelled.size spelled.read
+
+-- ---- each family
+
+module _ (image : Image) (n : ℕ) (code : Code) (at : ℕ) (i : Insn) (op : Op) (image_fits : ImageFits image) (strings : StringsFit image) (has : code_at image n ≡ Some code) (rules : op_rules image code op ≡ []) (literal : has_literal (family_at i.op) ≡ true → FitsInt i.lit) where
+  abbrev Is : Resolved → Type 0
+  Is r = r ≡ Ok op
+
+  moved : (x : Width) (a b : ℕ) → Fit image (move_op x a b)
+  moved Width.Narrow a b = (tt, tt)
+  moved Width.Wide a b = (tt, tt)
+  moved Width.Reference a b = (tt, tt)
+
+  resulted : (x : Width) (a : ℕ) → Fit image (result_op x a)
+  resulted Width.Narrow a = (tt, tt)
+  resulted Width.Wide a = (tt, tt)
+  resulted Width.Reference a = (tt, tt)
+
+  calculated : (o : Bin) (a b : ℕ) (c : Arg) → ArgFits c → Fit image (int_op o a b c)
+  calculated o a b c fits = by (is_division o)
+    where
+      by : (d : Bool) → Fit image (elim d [ true ↦ IntDivide o a b c | false ↦ IntOp o a b c ])
+      by true = (fits, tt)
+      by false = (fits, tt)
+
+  calculated_long : (o : Bin) (a b c : ℕ) → Fit image (long_op o a b c)
+  calculated_long o a b c = by (is_division o) (is_shift o)
+    where
+      by : (d e : Bool) → Fit image (elim d [ true ↦ LongDivide o a b c | false ↦ elim e [ true ↦ LongShift o a b c | false ↦ LongOp o a b c ] ])
+      by true e = (tt, tt)
+      by false true = (tt, tt)
+      by false false = (tt, tt)
+
+  string_by : (a : ℕ) (s : Option (List ℕ)) → slice_get code.body.strings i.index ≡ s → Is (on_pool s (λ u. Ok (ConstString a u))) → Fit image op
+  string_by a None is e = absurd (cc)
+  string_by a (Some u) is e = plain image (ConstString a u) op e (strings n code i.index u has is, tt)
+
+  type_by : (t : Option Ty) (go : Ty → Resolved) → ((u : Ty) → Is (go u) → Fit image op) → Is (on_pool t go) → Fit image op
+  type_by None go fit e = absurd (cc)
+  type_by (Some u) go fit e = fit u e
+
+  filled_by : (a : ℕ) (p : Option Payload) → payload_at code.tiles (jump at i.off) ≡ p → Is (fill_op a p) → Fit image op
+  filled_by a None is e = absurd (cc)
+  filled_by a (Some (payload.Packed k ts)) is e = absurd (cc)
+  filled_by a (Some (payload.Sparse ks ts)) is e = absurd (cc)
+  filled_by a (Some (payload.Data width bytes)) is e =
+      plain image (Fill a width (elements (length bytes / width) width bytes)) op e
+      (elements_fit width (length bytes / width) bytes (payload_fits image n code (jump at i.off) (payload.Data width bytes) has is), tt)
+
+  packed_by : (a : ℕ) (p : Option Payload) → Is (packed_op at a p) → Fit image op
+  packed_by a (Some (payload.Packed k ts)) e = plain image _ op e (tt, tt)
+  packed_by a p e = absurd (cc)
+
+  sparse_by : (a : ℕ) (p : Option Payload) → Is (sparse_op at a p) → Fit image op
+  sparse_by a (Some (payload.Sparse ks ts)) e = plain image _ op e (tt, tt)
+  sparse_by a p e = absurd (cc)
