@@ -18,11 +18,12 @@ use Rattle.dv_defs.specs.Decoding.{Sized, insn_here, is_zero}
 use Rattle.dv_defs.specs.Families.{Family, family_at}
 use Rattle.dv_defs.specs.Images.{Image}
 use Rattle.dv_defs.specs.Numbers.{elements, jump, low_first, signed_at}
-use Rattle.dv_defs.specs.Op.{Arg, Code, Lit, Op, Reg, Resolved, IntDivide, IntOp, LongDivide, LongOp, LongShift, ConstString, FieldGet, FieldPut, Fill, Invoke, code_at, fill_op, int_op, long_op, move_op, new_op, on_pool, op_of, packed_op, resolve, resolve_by, resolved_field, resolved_method, result_op, sparse_op}
+use Rattle.dv_defs.specs.Op.{Arg, class_of_base, Code, Lit, Op, Reg, Resolved, IntDivide, IntOp, LongDivide, LongOp, LongShift, New, StaticGet, StaticPut, ConstString, FieldGet, FieldPut, Fill, Invoke, code_at, fill_op, int_op, long_op, move_op, new_op, on_pool, op_of, packed_op, resolve, resolve_by, resolved_field, resolved_method, result_op, sparse_op}
 use Rattle.dv_defs.specs.Parts.{Bin, Call, Suffix, Test, Unary, Width, is_division, is_shift}
 use Rattle.dv_defs.specs.Pools.{Field, Method, field_at, is_interface, is_static_field, method_at}
-use Rattle.dv_defs.specs.Statics.{At, arg_words, fetch, fits_call, fits_instance_field, insn_rules, is_of_suffix, moves_on, op_rules, registers_below, resolved_rules, unless}
+use Rattle.dv_defs.specs.Statics.{At, arg_words, fetch, fetch_in, fits_call, fits_instance_field, insn_rules, is_of_suffix, moves_on, op_rules, registers_below, resolved_rules, unless}
 use Rattle.dv_defs.specs.Tiling.{IsInsn, IsPayload, Item, Piece, SizedPayload, begins_payload, bytes_in, data_in, data_of, data_from, doubles, insn_piece, is_width, packed_with, payload_at, payload_of, payload_piece, piece_here, sparse_with, tiles_in, tiling}
+use Rattle.dv_defs.specs.Types.{is_array}
 use Rattle.dv_words.specs.Standing.{FitsInt}
 use Rattle.dv_steps.specs.Fetching.{IsFetched, IsSpelled, IsThere, StandsAt}
 use Rattle.dv_steps.specs.Laws.{ArgFits, ConstantFits, IsUnit, OperandsFit}
@@ -205,3 +206,105 @@ module _ (image : Image) (n : ℕ) (code : Code) (at : ℕ) (i : Insn) (op : Op)
   sparse_by : (a : ℕ) (p : Option Payload) → Is (sparse_op at a p) → Fit image op
   sparse_by a (Some (payload.Sparse ks ts)) e = plain image _ op e (tt, tt)
   sparse_by a p e = absurd (cc)
+
+  same_op : (a b : Op) → (let r : Resolved = Ok a in r) ≡ Ok b → a ≡ b
+  same_op a b e = cc
+
+  -- of an instance field
+  instance_field : (s : Suffix) (x : Field) → unless (fits_instance_field image s x) (rule.S 13) ≡ [] → is_static_field x ≡ false
+  instance_field s x none =
+      let fits = kept_to (fits_instance_field image s x) (rule.S 13) none in
+      not_true (is_static_field x) (and_parts (not (is_static_field x)) (is_of_suffix s x.def.ty) (and_parts (not (is_static_field x) && is_of_suffix s x.def.ty) (not (is_interface image x.info.class.0)) fits).0).0
+    where
+      not_true : (b : Bool) → not b ≡ true → b ≡ false
+      not_true true e = absurd (cc)
+      not_true false e = refl
+
+  field_by : (go : Field → Op) (f : Option FieldId) → ((x : Field) (k : ℕ) → field_at image k ≡ Some x → go x ≡ op → Fit image op) → Is (on_pool (resolved_field image f) (λ x. Ok (go x))) → Fit image op
+  field_by go None fit e = absurd (cc)
+  field_by go (Some f) fit e = by (field_at image f.0) refl e
+    where
+      by : (o : Option Field) → field_at image f.0 ≡ o → Is (on_pool o (λ x. Ok (go x))) → Fit image op
+      by None is d = absurd (cc)
+      by (Some x) is d = fit x f.0 is (same_op (go x) op d)
+
+  got_field : (s : Suffix) (a b k : ℕ) (x : Field) → field_at image k ≡ Some x → FieldGet s a b x ≡ op → Fit image op
+  got_field s a b k x there same =
+      let none : op_rules image code (FieldGet s a b x) ≡ [] = ap (op_rules image code) same ∙ rules in
+      subst (Fit image) same (image_fits.no_strings k x there (instance_field s x none), tt)
+
+  put_field : (s : Suffix) (a b k : ℕ) (x : Field) → field_at image k ≡ Some x → FieldPut s a b x ≡ op → Fit image op
+  put_field s a b k x there same =
+      let none : op_rules image code (FieldPut s a b x) ≡ [] = ap (op_rules image code) same ∙ rules in
+      subst (Fit image) same (image_fits.no_strings k x there (instance_field s x none), tt)
+
+  method_by : (c : Call) (ks : List ℕ) (m : Option MethodId) → Is (on_pool (resolved_method image m) (λ g. Ok (Invoke c ks g))) → Fit image op
+  method_by c ks None e = absurd (cc)
+  method_by c ks (Some m) e = by (method_at image m.0) refl e
+    where
+      by : (o : Option Method) → method_at image m.0 ≡ o → Is (on_pool o (λ g. Ok (Invoke c ks g))) → Fit image op
+      by None is d = absurd (cc)
+      by (Some g) is d =
+          let same = same_op (Invoke c ks g) op d in
+          let none : op_rules image code (Invoke c ks g) ≡ [] = ap (op_rules image code) same ∙ rules in
+          let count = kept_to (nat_eq (length ks) (arg_words g)) (rule.S 15) (none_left (unless (fits_call image code.method c g) (rule.S 14)) (unless (nat_eq (length ks) (arg_words g)) (rule.S 15)) none) in
+          let words : length ks ≡ arg_words g = grind (arith, nat_tests, count) in
+          let own : method_at image g.id ≡ Some g = ap (method_at image) (image_fits.finds.methods m.0 g is) ∙ is in
+          subst (Fit image) same (tt, (words, own))
+
+  class_by : (a : ℕ) (t : Ty) → Is (new_op image a t) → Fit image op
+  class_by a t e = by_array (is_array t) e
+    where
+      by_class : (c : Option ℕ) → Is (elim c [ None ↦ Err (rule.S 16) | Some k ↦ Ok (New a k) ]) → Fit image op
+      by_class None d = absurd (cc)
+      by_class (Some k) d = plain image (New a k) op d (tt, tt)
+
+      by_array : (b : Bool) → Is (elim b [ true ↦ Err (rule.S 16) | false ↦ elim (class_of_base image t.base) [ None ↦ Err (rule.S 16) | Some k ↦ Ok (New a k) ] ]) → Fit image op
+      by_array true d = absurd (cc)
+      by_array false d = by_class (class_of_base image t.base) d
+
+  pub fits_of : (f : Family) → (has_literal (Some f) ≡ true → FitsInt i.lit) → Is (resolve image code at i f) → Fit image op
+  fits_of (Family.Move x) l e = plain image _ op e (moved x _ _)
+  fits_of (Family.MoveResult x) l e = plain image _ op e (resulted x _)
+  fits_of Family.Const l e = plain image _ op e (l refl, tt)
+  fits_of Family.ConstString l e = string_by _ (slice_get code.body.strings i.index) refl e
+  fits_of Family.ConstClass l e = type_by (slice_get code.method.info.types i.index) _ (λ t d. plain image _ op d (tt, tt)) e
+  fits_of Family.CheckCast l e = type_by (slice_get code.method.info.types i.index) _ (λ t d. plain image _ op d (tt, tt)) e
+  fits_of Family.InstanceOf l e = type_by (slice_get code.method.info.types i.index) _ (λ t d. plain image _ op d (tt, tt)) e
+  fits_of Family.NewInstance l e = type_by (slice_get code.method.info.types i.index) _ (λ t d. class_by _ t d) e
+  fits_of Family.NewArray l e = type_by (slice_get code.method.info.types i.index) _ (λ t d. plain image _ op d (tt, tt)) e
+  fits_of Family.FilledNewArray l e = type_by (slice_get code.method.info.types i.index) _ (λ t d. plain image _ op d (tt, tt)) e
+  fits_of Family.FillArrayData l e = filled_by _ (payload_at code.tiles (jump at i.off)) refl e
+  fits_of Family.PackedSwitch l e = packed_by _ (payload_at code.tiles (jump at i.off)) e
+  fits_of Family.SparseSwitch l e = sparse_by _ (payload_at code.tiles (jump at i.off)) e
+  fits_of (Family.FieldGet s) l e = field_by (FieldGet s _ _) (slice_get code.method.info.fields i.index) (λ x k there same. got_field s _ _ k x there same) e
+  fits_of (Family.FieldPut s) l e = field_by (FieldPut s _ _) (slice_get code.method.info.fields i.index) (λ x k there same. put_field s _ _ k x there same) e
+  fits_of (Family.StaticGet s) l e = field_by (StaticGet s _) (slice_get code.method.info.fields i.index) (λ x k there same. subst (Fit image) same (tt, tt)) e
+  fits_of (Family.StaticPut s) l e = field_by (StaticPut s _) (slice_get code.method.info.fields i.index) (λ x k there same. subst (Fit image) same (tt, tt)) e
+  fits_of (Family.Invoke c) l e = method_by c _ (slice_get code.method.info.methods i.index) e
+  fits_of (Family.IntBinary o) l e = plain image _ op e (calculated o _ _ _ tt)
+  fits_of (Family.IntTwo o) l e = plain image _ op e (calculated o _ _ _ tt)
+  fits_of (Family.IntLiteral o) l e = plain image _ op e (calculated o _ _ _ (l refl))
+  fits_of (Family.LongBinary o) l e = plain image _ op e (calculated_long o _ _ _)
+  fits_of (Family.LongTwo o) l e = plain image _ op e (calculated_long o _ _ _)
+  fits_of f l e = plain image _ op e (tt, tt)
+
+  pub fits_by : (o : Option Family) → family_at i.op ≡ o → Is (resolve_by image code at i o) → Fit image op
+  fits_by None is e = absurd (cc)
+  fits_by (Some f) is e = fits_of f (λ h. literal (ap has_literal is ∙ h)) e
+
+pub fetched_operands_fit : FetchedOperandsFit
+unfolding fetch
+fetched_operands_fit image fits strings n at x found = by (code_at image n) refl found
+  where
+    fetched : fetch image n at ≡ Some x
+    fetched = found
+
+    by : (c : Option Code) → code_at image n ≡ c → fetch_in image at c ≡ Some x → Fit image x.op
+    by None is e = absurd (cc)
+    by (Some code) is e =
+        let stands : StandsAt image n code.body.units at x = record { code = code; has_code = is; same_units = refl; has_at = fetched } in
+        let there = fetched_is_there image n at code.body.units x stands in
+        let decoded = fetched_is_decoded image n at code there.insn there.size x is fetched there.read in
+        fits_by image n code at there.insn x.op fits strings is (no_fault image code at there.insn x.op decoded.op decoded.rules)
+        (λ has. literal_fits (drop at code.body.units) (record { insn = there.insn; size = there.size }) there.read has) (family_at there.insn.op) refl decoded.op

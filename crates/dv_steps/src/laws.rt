@@ -1,7 +1,7 @@
 // The laws of the steps on words.
 ghost use Rattle.dv_steps.specs.Fetching.{FetchedIsDecoded, FetchedIsThere, PayloadsAreThere, TilesAreOfUnits};
 ghost use Rattle.dv_steps.specs.Laws.{LocalStepsFollow, MemStepsFollow};
-ghost use Rattle.dv_steps.specs.StepLaws.{StepsFollow};
+ghost use Rattle.dv_steps.specs.StepLaws.{FetchedOperandsFit, StepsFollow};
 
 /// A local instruction on words that stand for a tagged frame goes where the tagged one goes, wherever that isn't stuck.
 pub fn local_steps_follow()
@@ -38,4 +38,10 @@ pub fn tiles_are_of_units()
 /// A payload that the items of units have is spelled where it stands.
 pub fn payloads_are_there()
     ensures law { PayloadsAreThere }
+{}
+
+/// What stands at an address has operands that fit, in an image whose look-ups find what they say and whose pools have UTF-16 strings: constants
+/// have 32 bits, invokes name as many registers as there are argument words, and a field isn't a string's.
+pub fn fetched_operands_fit()
+    ensures law { FetchedOperandsFit }
 {}
