@@ -13,7 +13,7 @@ use Rattle.dv_machine.specs.Step as step
 use Rattle.dv_machine.specs.Threads as threads
 use Rattle.dv_words.specs.declared.state.Level.TheVariants as level
 use Rattle.dv_words.specs.Standing.{FrameStands, IsWord, LevelsStand, SharedStands}
-use Rattle.dv_steps.specs.Laws.{ConstantFits, DidStands, HereStands, LeftStands, OperandsFit}
+use Rattle.dv_steps.specs.Laws.{ConstantFits, DidStands, HereStands, LeftStands, OperandsFit, PutsInMade}
 use Rattle.dv_steps.specs.Local.{reg_word, word_local}
 use Rattle.dv_steps.specs.Mem.{WordLeft, word_mem}
 use Rattle.dv_steps.specs.Step as over
@@ -44,7 +44,7 @@ module _ (w : steps.At) (h : Here) (stands : AtStands w h) where
   -- ---- the frame and the heap
 
   here_stands : HereStands (steps.mem_here w) h
-  here_stands = record { image = stands.image; next = stands.next; frame = stands.frame; heap = stands.shared.heap; bounded = stands.bounded; made = stands.made }
+  here_stands = record { image = stands.image; next = stands.next; frame = stands.frame; heap = stands.shared.heap; bounded = stands.bounded }
 
   left_by : (t : WordLeft) (l : Left) → LeftStands h t l → LeavesStand (steps.with_left w t) l
   left_by t l s = record {
@@ -68,17 +68,17 @@ module _ (w : steps.At) (h : Here) (stands : AtStands w h) where
   carried_by NoOutput NoOutput s = tt
   carried_by d e s = absurd s
 
-  mem_by : (op : Op) → OperandsFit h.image op → OutcomeStands (steps.mem_left w op) (mem h op)
-  mem_by op fits = carried_by (word_mem (steps.mem_here w) op) (mem h op) (mem_steps_follow op (steps.mem_here w) h fits stands.frame_fits here_stands)
+  mem_by : (op : Op) → OperandsFit h.image op → PutsInMade h.shared.heap h.frame.regs op → OutcomeStands (steps.mem_left w op) (mem h op)
+  mem_by op fits made = carried_by (word_mem (steps.mem_here w) op) (mem h op) (mem_steps_follow op (steps.mem_here w) h fits made stands.frame_fits here_stands)
 
   -- ---- every operation
 
-  others : (op : Op) → ConstantFits op → OperandsFit h.image op → OutcomeStands (if is_local op then steps.local_left w op else steps.mem_left w op) (if is_local op then step.local_left h op else mem h op)
-  others op constant fits = by (is_local op)
+  others : (op : Op) → ConstantFits op → OperandsFit h.image op → PutsInMade h.shared.heap h.frame.regs op → OutcomeStands (if is_local op then steps.local_left w op else steps.mem_left w op) (if is_local op then step.local_left h op else mem h op)
+  others op constant fits made = by (is_local op)
     where
       by : (b : Bool) → OutcomeStands (if b then steps.local_left w op else steps.mem_left w op) (if b then step.local_left h op else mem h op)
       by true = local_by op (local op h.frame h.next) refl constant
-      by false = mem_by op fits
+      by false = mem_by op fits made
 
   monitor_by : (a : ℕ) (d : ℕ → Did steps.Left) (e : ℕ → Did Left) → ((o : ℕ) → OutcomeStands (d o) (e o)) → OutcomeStands (on_object d (reg_word w.frame a)) (reading (read_any h.shared.heap (reg_at h.frame.regs a)) (on_object e))
   monitor_by a d e s =
@@ -94,13 +94,13 @@ module _ (w : steps.At) (h : Here) (stands : AtStands w h) where
           by false = tt
       any_read x is = tt
 
-  pub act_stands : (op : Op) → ImageFits h.image → OperandsFit h.image op → CallFits h.image op → OutcomeStands (over.act w op) (step.act h op)
-  act_stands (Invoke c ks g) image fits call = invoke_stands w h stands c ks g image call.0 call.1
-  act_stands ReturnVoid image fits call = return_void_stands w h stands
-  act_stands (Return x a) image fits call = return_form_stands w h stands x a
-  act_stands (Enter a) image fits call = monitor_by a (word_threads.monitor_enter w) (threads.monitor_enter h) (enter_stands w h stands)
-  act_stands (Exit a) image fits call = monitor_by a (word_threads.monitor_exit w) (threads.monitor_exit h) (exit_stands w h stands)
-  act_stands (ConstString a s) image fits call = others (ConstString a s) tt fits
-  act_stands (FieldGet s a b x) image fits call = others (FieldGet s a b x) tt fits
-  act_stands (FieldPut s a b x) image fits call = others (FieldPut s a b x) tt fits
-  act_stands op image fits call = others op fits fits
+  pub act_stands : (op : Op) → ImageFits h.image → OperandsFit h.image op → PutsInMade h.shared.heap h.frame.regs op → CallFits h.image op → OutcomeStands (over.act w op) (step.act h op)
+  act_stands (Invoke c ks g) image fits made call = invoke_stands w h stands c ks g image call.0 call.1
+  act_stands ReturnVoid image fits made call = return_void_stands w h stands
+  act_stands (Return x a) image fits made call = return_form_stands w h stands x a
+  act_stands (Enter a) image fits made call = monitor_by a (word_threads.monitor_enter w) (threads.monitor_enter h) (enter_stands w h stands)
+  act_stands (Exit a) image fits made call = monitor_by a (word_threads.monitor_exit w) (threads.monitor_exit h) (exit_stands w h stands)
+  act_stands (ConstString a s) image fits made call = others (ConstString a s) tt fits made
+  act_stands (FieldGet s a b x) image fits made call = others (FieldGet s a b x) tt fits made
+  act_stands (FieldPut s a b x) image fits made call = others (FieldPut s a b x) tt fits made
+  act_stands op image fits made call = others op fits fits made

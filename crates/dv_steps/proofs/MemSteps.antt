@@ -38,7 +38,7 @@ use Rattle.dv_words.specs.Stacks as stack
 use Rattle.dv_words.specs.Standing.{AreWords, Fits, FitsInt, FrameFits, FrameStands, HeapStands, IsWord}
 use Rattle.dv_words.specs.State.{WordHeap}
 use Rattle.dv_words.specs.Words.{int_of, word_of}
-use Rattle.dv_steps.specs.Laws.{ArgFits, IsBounded, DidStands, HereStands, IsMade, IsNoString, IsPlain, MemStepsFollow, OperandsFit}
+use Rattle.dv_steps.specs.Laws.{ArgFits, IsBounded, DidStands, HereStands, IsMade, IsNoString, IsPlain, MemStepsFollow, OperandsFit, PutsInMade}
 use Rattle.dv_steps.specs.Local.{arg_at, int_at, long_at, put, put_two, reg_word}
 use Rattle.dv_steps.specs.Mem as over
 use Rattle.dv_steps.specs.Mem.{WordHere, WordLeft, onward, word_mem}
@@ -382,11 +382,6 @@ module _ (w : WordHere) (h : Here) (frame_fits : FrameFits w.frame) (stands : He
   abbrev IsReceiver : ℕ → Type 0
   IsReceiver o = (p : ℕ) → o ≡ suc p → IsPlain (tagged.kind_of h.shared.heap (suc p))
 
-  made_at : (xs : List Value) (k : ℕ) → All (IsMade h.shared.heap) xs → IsMade h.shared.heap (reg_at xs k)
-  made_at [] k all = tt
-  made_at (x ∷ xs) zero all = All-head (IsMade h.shared.heap) x xs all
-  made_at (x ∷ xs) (suc k) all = made_at xs k (All-tail (IsMade h.shared.heap) x xs all)
-
   object_plain : (k : Option Kind) (c : ClassId) → k ≡ Some (kind_of_tagged.Object c) → IsPlain k
   object_plain None c is = tt
   object_plain (Some (kind_of_tagged.Array u)) c is = tt
@@ -418,12 +413,12 @@ module _ (w : WordHere) (h : Here) (frame_fits : FrameFits w.frame) (stands : He
   receives x (v.Ref o) u go d never made is s = receives_any x (v.Ref o) u go d never is s
   receives x (v.Uninit c o) u go d never made is s = receives_any x (v.Uninit c o) u go d never is s
 
-  field_put : (s : Suffix) (a b : ℕ) (x : Field) → IsNoString h.image x → DidStands h (word_mem w (FieldPut s a b x)) (mem h (FieldPut s a b x))
-  field_put s a b x never =
+  field_put : (s : Suffix) (a b : ℕ) (x : Field) → IsNoString h.image x → IsMade h.shared.heap (reg_at h.frame.regs b) → DidStands h (word_mem w (FieldPut s a b x)) (mem h (FieldPut s a b x))
+  field_put s a b x never made =
       let d = word_mem w (FieldPut s a b x) in
       let o = reg_word w.frame b in
       let ws = over.words_in w.frame a (is_long x.def.ty) in
-      receives x (reg_at h.frame.regs b) o _ d never (made_at h.frame.regs b stands.made) (is_at b)
+      receives x (reg_at h.frame.regs b) o _ d never made (is_at b)
       (λ plain. value_taken a x.def.ty (λ ys. machine.on_object (machine.put_field h x ys) o) d
       (λ xs taken. on_object_stands o (over.put_field w a x) (machine.put_field h x xs)
       (λ p e. stored_stands p x.info.slot (over.narrowed_all x.def.ty ws) (machine.narrowed_all x.def.ty xs) (plain p e) taken.kept)))
@@ -563,26 +558,26 @@ module _ (w : WordHere) (h : Here) (frame_fits : FrameFits w.frame) (stands : He
 
   -- ---- each of them
 
-  pub mem_stands : (op : Op) → OperandsFit h.image op → DidStands h (word_mem w op) (mem h op)
-  mem_stands (IntDivide o a b c) l = divided o a b c l
-  mem_stands (LongDivide o a b c) l = divided_long o a b c
-  mem_stands (ConstString a u) l = room_got a _ _ (intern_stands w.heap h.shared.heap u stands.heap) (intern_bounded h.shared.heap u l stands.bounded)
-  mem_stands (ConstClass a t) l = room_got a _ _ (class_object_stands w.heap h.shared.heap t stands.heap) (class_object_bounded h.shared.heap t stands.bounded)
-  mem_stands (Cast a t) l = cast a t
-  mem_stands (InstanceOf a b t) l = asked a b t
-  mem_stands (ArrayLength a b) l = length_got a b
-  mem_stands (New a c) l = new_object a c
-  mem_stands (NewArray a b t) l = made_array a b t
-  mem_stands (Filled rs t) l = new_filled rs t
-  mem_stands (Fill a width ns) l = filled_in a width ns l
-  mem_stands (Throw a) l = thrown a
-  mem_stands (ArrayGet s a b c) l = array_got s a b c
-  mem_stands (ArrayPut s a b c) l = array_put s a b c
-  mem_stands (FieldGet s a b x) l = field_got s a b x l
-  mem_stands (FieldPut s a b x) l = field_put s a b x l
-  mem_stands (StaticGet s a x) l = static_got s a x
-  mem_stands (StaticPut s a x) l = static_put s a x
-  mem_stands op l = tt
+  pub mem_stands : (op : Op) → OperandsFit h.image op → PutsInMade h.shared.heap h.frame.regs op → DidStands h (word_mem w op) (mem h op)
+  mem_stands (IntDivide o a b c) l made = divided o a b c l
+  mem_stands (LongDivide o a b c) l made = divided_long o a b c
+  mem_stands (ConstString a u) l made = room_got a _ _ (intern_stands w.heap h.shared.heap u stands.heap) (intern_bounded h.shared.heap u l stands.bounded)
+  mem_stands (ConstClass a t) l made = room_got a _ _ (class_object_stands w.heap h.shared.heap t stands.heap) (class_object_bounded h.shared.heap t stands.bounded)
+  mem_stands (Cast a t) l made = cast a t
+  mem_stands (InstanceOf a b t) l made = asked a b t
+  mem_stands (ArrayLength a b) l made = length_got a b
+  mem_stands (New a c) l made = new_object a c
+  mem_stands (NewArray a b t) l made = made_array a b t
+  mem_stands (Filled rs t) l made = new_filled rs t
+  mem_stands (Fill a width ns) l made = filled_in a width ns l
+  mem_stands (Throw a) l made = thrown a
+  mem_stands (ArrayGet s a b c) l made = array_got s a b c
+  mem_stands (ArrayPut s a b c) l made = array_put s a b c
+  mem_stands (FieldGet s a b x) l made = field_got s a b x l
+  mem_stands (FieldPut s a b x) l made = field_put s a b x l made
+  mem_stands (StaticGet s a x) l made = static_got s a x
+  mem_stands (StaticPut s a x) l made = static_put s a x
+  mem_stands op l made = tt
 
 pub mem_steps_follow : MemStepsFollow
-mem_steps_follow op w h l fits stands = mem_stands w h fits stands op l
+mem_steps_follow op w h l made fits stands = mem_stands w h fits stands op l made

@@ -35,7 +35,7 @@ use Rattle.dv_words.specs.Heaps as words
 use Rattle.dv_words.specs.Stacks as stacks
 use Rattle.dv_words.specs.Standing.{FrameStands, HeapStands, LevelsStand, SharedStands}
 use Rattle.dv_words.specs.State.{WordHeap, WordShared}
-use Rattle.dv_steps.specs.Laws.{IsBounded, IsPlain, OperandsFit}
+use Rattle.dv_steps.specs.Laws.{IsBounded, IsPlain, OperandsFit, PutsInMade}
 use Rattle.dv_steps.specs.Mem.{type_of}
 use Rattle.dv_steps.specs.Step as over
 use Rattle.dv_steps.specs.StepLaws.{AtStands, CallFits, ImageFits, LeavesStand, OutcomeStands}
@@ -73,9 +73,9 @@ module _ (w : steps.At) (h : Here) (stands : AtStands w h) where
   class_stands : (c : ℕ) (ss : List Level) (ls : List tagged_level.Level) (d : Did steps.Left) (e : Did Left) → LevelsStand ss ls → OutcomeStands d e → OutcomeStands (over.for_class w ss c (ask_of w.shared.classes c w.thread) d) (step.for_class h ls c (ask_of h.shared.classes c h.thread) e)
   class_stands c ss ls d e all s = subst (λ (a : Ask). OutcomeStands (over.for_class w ss c a d) (step.for_class h ls c (ask_of h.shared.classes c h.thread) e)) (sym (asked_is c)) (class_by c ss ls (ask_of h.shared.classes c h.thread) d e all s)
 
-  pub ready_stands : (op : Op) (c : Option ℕ) → ImageFits h.image → OperandsFit h.image op → CallFits h.image op → OutcomeStands (over.with_ready w op c) (step.with_ready h op c)
-  ready_stands op None image fits call = act_stands w h stands op image fits call
-  ready_stands op (Some c) image fits call = class_stands c (level.Code w.frame ∷ w.rest) (level_of_tagged.Code h.frame ∷ h.rest) (over.act w op) (step.act h op) (stands.frame, stands.rest) (act_stands w h stands op image fits call)
+  pub ready_stands : (op : Op) (c : Option ℕ) → ImageFits h.image → OperandsFit h.image op → PutsInMade h.shared.heap h.frame.regs op → CallFits h.image op → OutcomeStands (over.with_ready w op c) (step.with_ready h op c)
+  ready_stands op None image fits made call = act_stands w h stands op image fits made call
+  ready_stands op (Some c) image fits made call = class_stands c (level.Code w.frame ∷ w.rest) (level_of_tagged.Code h.frame ∷ h.rest) (over.act w op) (step.act h op) (stands.frame, stands.rest) (act_stands w h stands op image fits made call)
 
   -- ---- records
 

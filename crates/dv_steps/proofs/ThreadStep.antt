@@ -32,9 +32,9 @@ use Rattle.dv_words.specs.declared.state.Level.TheVariants as level
 use Rattle.dv_words.specs.Heaps as words
 use Rattle.dv_words.specs.Standing.{Fits, FrameFits, FrameStands, LevelFits, LevelsStand, MachineFits, MachineStands, ThreadFits, ThreadStands}
 use Rattle.dv_words.specs.State.{WordHeap, WordMachine, WordThread}
-use Rattle.dv_steps.specs.Laws.{IsBounded, IsMade, OperandsFit}
+use Rattle.dv_steps.specs.Laws.{IsBounded, OperandsFit, PutsInMade}
 use Rattle.dv_steps.specs.Step as over
-use Rattle.dv_steps.specs.StepLaws.{AtStands, CallFits, ImageFits, IsFit, LeavesStand, LevelIsMade, OperationsFit, OutcomeStands, StartedStands, StepsFollow, ThreadIsMade}
+use Rattle.dv_steps.specs.StepLaws.{AtStands, CallFits, ImageFits, IsFit, LeavesStand, OperationsFit, OutcomeStands, StartedStands, StepsFollow}
 use Rattle.dv_steps.specs.Steps as steps
 use Rattle.dv_steps.specs.Unwinding as falling
 use Rattle.dv_steps.proofs.Added.{OptionStands, newest_is, object_added}
@@ -157,8 +157,8 @@ module _ (image : Image) (w : WordMachine) (m : Machine) (t : ℕ) (image_fits :
   same_state is = subst (After w) (same_machine w m t stands fit.bounded x th one m n is) (stands, fit.bounded)
 
   -- what the instruction at hand sees
-  here_stands : (own : Method) (s : Frame) (f : tagged_frame.Frame) (ss : List Level) (ls : List tagged_level.Level) (next : ℕ) → FrameStands s f → LevelsStand ss ls → FrameFits s → All (IsMade m.shared.heap) f.regs → AtStands (over.here image w t own s ss next) (step.here image m t own f ls next)
-  here_stands own s f ss ls next frame rest small made = record {
+  here_stands : (own : Method) (s : Frame) (f : tagged_frame.Frame) (ss : List Level) (ls : List tagged_level.Level) (next : ℕ) → FrameStands s f → LevelsStand ss ls → FrameFits s → AtStands (over.here image w t own s ss next) (step.here image m t own f ls next)
+  here_stands own s f ss ls next frame rest small = record {
     image = refl;
     limits = stands.limits;
     thread = refl;
@@ -169,7 +169,6 @@ module _ (image : Image) (w : WordMachine) (m : Machine) (t : ℕ) (image_fits :
     frame = frame;
     rest = rest;
     bounded = fit.bounded;
-    made = made;
     chars = fit.chars;
     frame_fits = small;
     heap_fits = fits.1;
@@ -181,22 +180,22 @@ module _ (image : Image) (w : WordMachine) (m : Machine) (t : ℕ) (image_fits :
   no_frame_fits : FrameFits over.no_frame
   no_frame_fits = (All-nil Fits, tt)
 
-  at_by : (own : Method) (s : Frame) (f : tagged_frame.Frame) (ss : List Level) (ls : List tagged_level.Level) (a : Option statics.At) → FrameStands s f → LevelsStand ss ls → FrameFits s → All (IsMade m.shared.heap) f.regs →
-      ((y : statics.At) → a ≡ Some y → OperandsFit image y.op × CallFits image y.op) → step.step_at image m t th own f ls a ≡ Ok n → After (over.step_at image w t x own s ss a) n
-  at_by own s f ss ls None frame rest small made ops is = absurd (cc)
-  at_by own s f ss ls (Some a) frame rest small made ops is =
-      let there = here_stands own s f ss ls a.next frame rest small made in
+  at_by : (own : Method) (s : Frame) (f : tagged_frame.Frame) (ss : List Level) (ls : List tagged_level.Level) (a : Option statics.At) → FrameStands s f → LevelsStand ss ls → FrameFits s →
+      ((y : statics.At) → a ≡ Some y → OperandsFit image y.op × CallFits image y.op × PutsInMade m.shared.heap f.regs y.op) → step.step_at image m t th own f ls a ≡ Ok n → After (over.step_at image w t x own s ss a) n
+  at_by own s f ss ls None frame rest small ops is = absurd (cc)
+  at_by own s f ss ls (Some a) frame rest small ops is =
+      let there = here_stands own s f ss ls a.next frame rest small in
       let good = ops a refl in
-      settled_stands w m t stands fit.bounded x th one image (Some a) _ _ n (ready_stands (over.here image w t own s ss a.next) (step.here image m t own f ls a.next) there a.op (needs a.op) image_fits good.0 good.1) is
+      settled_stands w m t stands fit.bounded x th one image (Some a) _ _ n (ready_stands (over.here image w t own s ss a.next) (step.here image m t own f ls a.next) there a.op (needs a.op) image_fits good.0 good.2 good.1) is
 
-  code_by : (s : Frame) (f : tagged_frame.Frame) (ss : List Level) (ls : List tagged_level.Level) (own : Option Method) → FrameStands s f → LevelsStand ss ls → FrameFits s → All (IsMade m.shared.heap) f.regs → step.step_code image m t th f ls own ≡ Ok n → After (over.step_code image w t x s ss own) n
+  code_by : (s : Frame) (f : tagged_frame.Frame) (ss : List Level) (ls : List tagged_level.Level) (own : Option Method) → FrameStands s f → LevelsStand ss ls → FrameFits s → ((y : statics.At) → fetch image f.method.0 f.at ≡ Some y → PutsInMade m.shared.heap f.regs y.op) → step.step_code image m t th f ls own ≡ Ok n → After (over.step_code image w t x s ss own) n
   code_by s f ss ls None frame rest small made is = absurd (cc)
   code_by s f ss ls (Some own) frame rest small made is =
       let same : fetch image s.method.0 s.at ≡ fetch image f.method.0 f.at = ap (λ (k : MethodId). fetch image k.0 s.at) frame.method ∙ ap (fetch image f.method.0) frame.at in
       subst (λ (a : Option statics.At). After (over.step_at image w t x own s ss a) n) (sym same)
-      (at_by own s f ss ls (fetch image f.method.0 f.at) frame rest small made (λ y found. operations f.method.0 f.at y found) is)
+      (at_by own s f ss ls (fetch image f.method.0 f.at) frame rest small (λ y found. let good = operations f.method.0 f.at y found in (good.0, good.1, made y found)) is)
 
-  living_by : (ss : List Level) (ls : List tagged_level.Level) → LevelsStand ss ls → All LevelFits ss → All (LevelIsMade m) ls → step.step_living image m t th ls ≡ Ok n → After (over.step_living image w t x ss) n
+  living_by : (ss : List Level) (ls : List tagged_level.Level) → LevelsStand ss ls → All LevelFits ss → ((f : tagged_frame.Frame) (ks : List tagged_level.Level) (y : statics.At) → ls ≡ level_of_tagged.Code f ∷ ks → fetch image f.method.0 f.at ≡ Some y → PutsInMade m.shared.heap f.regs y.op) → step.step_living image m t th ls ≡ Ok n → After (over.step_living image w t x ss) n
   living_by [] [] all small made is = same_state is
   living_by [] (l ∷ ls) all small made is = absurd all
   living_by (s ∷ ss) [] all small made is = absurd all
@@ -205,36 +204,36 @@ module _ (image : Image) (w : WordMachine) (m : Machine) (t : ℕ) (image_fits :
   living_by (level.Code s ∷ ss) (level_of_tagged.Code f ∷ ls) all small made is =
       let frame : FrameStands s f = all.0 in
       subst (λ (own : Option Method). After (over.step_code image w t x s ss own) n) (sym (ap (λ (k : MethodId). method_at image k.0) frame.method))
-      (code_by s f ss ls (method_at image f.method.0) frame all.1 (All-head LevelFits (level.Code s) ss small) (All-head (LevelIsMade m) (level_of_tagged.Code f) ls made) is)
+      (code_by s f ss ls (method_at image f.method.0) frame all.1 (All-head LevelFits (level.Code s) ss small) (λ y found. made f ls y refl found) is)
   living_by (level.Init c r ∷ ss) (level_of_tagged.Init d q ∷ ls) all small made is =
-      let there = here_stands step.no_method over.no_frame step.no_frame ss ls 0 no_frames all.1 no_frame_fits (All-nil (IsMade m.shared.heap)) in
+      let there = here_stands step.no_method over.no_frame step.no_frame ss ls 0 no_frames all.1 no_frame_fits in
       subst (λ (k : ClassId). After (over.settled image w t x None (over.record_step (over.here image w t step.no_method over.no_frame ss 0) k.0 r)) n) (sym all.0.0)
       (subst (λ (b : Bool). After (over.settled image w t x None (over.record_step (over.here image w t step.no_method over.no_frame ss 0) d.0 b)) n) (sym all.0.1)
       (settled_stands w m t stands fit.bounded x th one image None _ _ n (record_stands (over.here image w t step.no_method over.no_frame ss 0) (step.here image m t step.no_method step.no_frame ls 0) there d.0 q) is))
 
-  flight_by : (o : ℕ) (ss : List Level) (ls : List tagged_level.Level) → LevelsStand ss ls → All LevelFits ss → All (LevelIsMade m) ls → step.step_flight image m t th o ls ≡ Ok n → After (over.step_flight image w t x o ss) n
-  flight_by o [] [] all small made is = same_state is
-  flight_by o [] (l ∷ ls) all small made is = absurd all
-  flight_by o (s ∷ ss) [] all small made is = absurd all
-  flight_by o (level.Init c r ∷ ss) (level_of_tagged.Code f ∷ ls) all small made is = absurd all.0
-  flight_by o (level.Code s ∷ ss) (level_of_tagged.Init d q ∷ ls) all small made is = absurd all.0
-  flight_by o (level.Code s ∷ ss) (level_of_tagged.Code f ∷ ls) all small made is =
+  flight_by : (o : ℕ) (ss : List Level) (ls : List tagged_level.Level) → LevelsStand ss ls → All LevelFits ss → step.step_flight image m t th o ls ≡ Ok n → After (over.step_flight image w t x o ss) n
+  flight_by o [] [] all small is = same_state is
+  flight_by o [] (l ∷ ls) all small is = absurd all
+  flight_by o (s ∷ ss) [] all small is = absurd all
+  flight_by o (level.Init c r ∷ ss) (level_of_tagged.Code f ∷ ls) all small is = absurd all.0
+  flight_by o (level.Code s ∷ ss) (level_of_tagged.Init d q ∷ ls) all small is = absurd all.0
+  flight_by o (level.Code s ∷ ss) (level_of_tagged.Code f ∷ ls) all small is =
       let frame : FrameStands s f = all.0 in
-      let there = here_stands step.no_method s f ss ls 0 frame all.1 (All-head LevelFits (level.Code s) ss small) (All-head (LevelIsMade m) (level_of_tagged.Code f) ls made) in
+      let there = here_stands step.no_method s f ss ls 0 frame all.1 (All-head LevelFits (level.Code s) ss small) in
       let catchers = handlers_at image f.method.0 f.at in
       let same : handlers_at image s.method.0 s.at ≡ catchers = ap (λ (k : MethodId). handlers_at image k.0 s.at) frame.method ∙ ap (handlers_at image f.method.0) frame.at in
       let to : falling.handler_for image w.shared.heap o (handlers_at image s.method.0 s.at) ≡ flight.handler_for image m.shared.heap o catchers =
       ap (falling.handler_for image w.shared.heap o) same ∙ handler_is (over.here image w t step.no_method s ss 0) (step.here image m t step.no_method f ls 0) there image o catchers in
       subst (λ (k : Option ℕ). After (over.settled_flight w t x (falling.unwind_frame (over.here image w t step.no_method s ss 0) s o k)) n) (sym to)
       (settled_flight_stands w m t stands fit.bounded x th one (over.here image w t step.no_method s ss 0) (step.here image m t step.no_method f ls 0) there _ _ n (frame_unwound (over.here image w t step.no_method s ss 0) (step.here image m t step.no_method f ls 0) there s f o (flight.handler_for image m.shared.heap o catchers) frame) is)
-  flight_by o (level.Init c r ∷ ss) (level_of_tagged.Init d q ∷ ls) all small made is =
-      let there = here_stands step.no_method over.no_frame step.no_frame ss ls 0 no_frames all.1 no_frame_fits (All-nil (IsMade m.shared.heap)) in
+  flight_by o (level.Init c r ∷ ss) (level_of_tagged.Init d q ∷ ls) all small is =
+      let there = here_stands step.no_method over.no_frame step.no_frame ss ls 0 no_frames all.1 no_frame_fits in
       subst (λ (k : ClassId). After (over.settled_flight w t x (falling.unwind_record (over.here image w t step.no_method over.no_frame ss 0) k.0 o)) n) (sym all.0.0)
       (settled_flight_stands w m t stands fit.bounded x th one (over.here image w t step.no_method over.no_frame ss 0) (step.here image m t step.no_method step.no_frame ls 0) there _ _ n (record_unwound (over.here image w t step.no_method over.no_frame ss 0) (step.here image m t step.no_method step.no_frame ls 0) there d.0 o) is)
 
-  end_by : (a b : End) → a ≡ b → ThreadFits x → ThreadIsMade m th → step.step_thread image m t th b ≡ Ok n → After (over.step_thread image w t x a) n
-  end_by a end.Living same small made is = subst (λ (e : End). After (over.step_thread image w t x e) n) (sym same) (living_by x.levels th.levels one.levels small made is)
-  end_by a (end.Flying o) same small made is = subst (λ (e : End). After (over.step_thread image w t x e) n) (sym same) (flight_by o x.levels th.levels one.levels small made is)
+  end_by : (a b : End) → a ≡ b → ThreadFits x → (b ≡ end.Living → (f : tagged_frame.Frame) (ks : List tagged_level.Level) (y : statics.At) → th.levels ≡ level_of_tagged.Code f ∷ ks → fetch image f.method.0 f.at ≡ Some y → PutsInMade m.shared.heap f.regs y.op) → step.step_thread image m t th b ≡ Ok n → After (over.step_thread image w t x a) n
+  end_by a end.Living same small made is = subst (λ (e : End). After (over.step_thread image w t x e) n) (sym same) (living_by x.levels th.levels one.levels small (made refl) is)
+  end_by a (end.Flying o) same small made is = subst (λ (e : End). After (over.step_thread image w t x e) n) (sym same) (flight_by o x.levels th.levels one.levels small is)
   end_by a end.Returned same small made is = subst (λ (e : End). After (over.step_thread image w t x e) n) (sym same) (same_state is)
   end_by a (end.Died o) same small made is = subst (λ (e : End). After (over.step_thread image w t x e) n) (sym same) (same_state is)
 
@@ -244,11 +243,6 @@ fits_at : (ws : List WordThread) (k : ℕ) (x : WordThread) → All ThreadFits w
 fits_at [] k x all is = absurd (cc)
 fits_at (w ∷ ws) zero x all is = let e : w ≡ x = cc in subst ThreadFits e (All-head ThreadFits w ws all)
 fits_at (w ∷ ws) (suc k) x all is = fits_at ws k x (All-tail ThreadFits w ws all) is
-
-made_at : (m : Machine) (ts : List Thread) (k : ℕ) (t : Thread) → All (ThreadIsMade m) ts → slice_get ts k ≡ Some t → ThreadIsMade m t
-made_at m [] k t all is = absurd (cc)
-made_at m (u ∷ ts) zero t all is = let e : u ≡ t = cc in subst (ThreadIsMade m) e (All-head (ThreadIsMade m) u ts all)
-made_at m (u ∷ ts) (suc k) t all is = made_at m ts k t (All-tail (ThreadIsMade m) u ts all) is
 
 pub steps_follow : StepsFollow
 steps_follow image w m n t image_fits operations fits fit stands is = by (slice_get w.threads t) (slice_get m.threads t) refl refl (thread_at w.threads m.threads t stands.threads) is
@@ -260,4 +254,4 @@ steps_follow image w m n t image_fits operations fits fit stands is = by (slice_
     by None None has found both e = subst (λ (k : Machine). MachineStands w k × IsBounded k.shared.heap) (same e) (stands, fit.bounded)
     by None (Some th) has found both e = absurd both
     by (Some x) None has found both e = absurd both
-    by (Some x) (Some th) has found both e = end_by image w m t image_fits operations fits fit stands x th both n x.end th.end both.end (fits_at w.threads t x fits.0 has) (made_at m m.threads t th fit.made found) e
+    by (Some x) (Some th) has found both e = end_by image w m t image_fits operations fits fit stands x th both n x.end th.end both.end (fits_at w.threads t x fits.0 has) (λ living f ks y levels there. fit.made t th f ks y found living levels there) e

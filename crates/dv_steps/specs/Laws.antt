@@ -1,5 +1,5 @@
 -- The steps on words go where the tagged machine's go, wherever these aren't stuck.
-use Rattle.std.specs.Prelude.{◌≡◌, ◌⊎◌, ◌<◌, ◌^◌, ◌/◌, ℕ, suc, false, ◌∷◌, Option, Some, None, Ok, All, length}
+use Rattle.std.specs.Prelude.{◌≡◌, ◌⊎◌, ◌<◌, ◌^◌, ◌/◌, ℕ, suc, false, ◌∷◌, List, Option, Some, None, Ok, All, length}
 use Rattle.std.specs.List.{AllZip}
 use Rattle.dv_defs.specs.declared.machine.Frame as tagged
 use Rattle.dv_defs.specs.declared.machine.Kind.{Kind}
@@ -17,7 +17,7 @@ use Rattle.dv_defs.specs.Pools.{Field, class_type}
 use Rattle.dv_defs.specs.Types.{component, of_class, words_of}
 use Rattle.dv_machine.specs.Local.{local}
 use Rattle.dv_machine.specs.Mem.{mem}
-use Rattle.dv_machine.specs.State.{Did, Go, Here, IsStuck, Left, NoOutput, NoRoom, NoWords, Throws, ThrowsRef, with_heap}
+use Rattle.dv_machine.specs.State.{Did, Go, Here, IsStuck, Left, NoOutput, NoRoom, NoWords, Throws, ThrowsRef, reg_at, with_heap}
 use Rattle.dv_words.specs.declared.state.Frame.{Frame}
 use Rattle.dv_words.specs.Standing.{FitsInt, FrameFits, FrameStands, HeapStands}
 use Rattle.dv_steps.specs.Local.{word_local}
@@ -83,6 +83,11 @@ abbrev pub IsMade : Heap → Value → Type 0
 IsMade heap (v.UninitThis (suc o)) = (c : ClassId) × (kind_of heap (suc o) ≡ Some (kind.Object c))
 IsMade heap x = Unit {0}
 
+-- a field of an object that isn't initialised is put in one that a constructor makes
+abbrev pub PutsInMade : Heap → List Value → Op → Type 0
+PutsInMade heap regs (FieldPut s a b x) = IsMade heap (reg_at regs b)
+PutsInMade heap regs op = Unit {0}
+
 -- a step that goes on leaves a frame and a heap that stand for the tagged machine's, and nothing else has changed
 pub record LeftStands (h : Here) (t : WordLeft) (l : Left) : Type 0 where
   pub frame : tagged.Frame
@@ -111,10 +116,9 @@ pub record HereStands (w : WordHere) (h : Here) : Type 0 where
   pub frame : FrameStands w.frame h.frame
   pub heap : HeapStands w.heap h.shared.heap
   pub bounded : IsBounded h.shared.heap
-  pub made : All (IsMade h.shared.heap) h.frame.regs
 
 -- of each instruction on objects, each division and each cast
 abbrev pub MemStepsFollow : Type 0
 MemStepsFollow =
-    (op : Op) (w : WordHere) (h : Here) → OperandsFit h.image op → FrameFits w.frame → HereStands w h →
+    (op : Op) (w : WordHere) (h : Here) → OperandsFit h.image op → PutsInMade h.shared.heap h.frame.regs op → FrameFits w.frame → HereStands w h →
     DidStands h (word_mem w op) (mem h op)

@@ -1,6 +1,8 @@
 -- A step of a thread on words goes where the tagged machine's goes, wherever that isn't stuck.
-use Rattle.std.specs.Prelude.{◌≡◌, ℕ, suc, true, false, List, Option, Some, None, Ok, All, length, slice_get}
+use Rattle.std.specs.Prelude.{◌≡◌, ◌∷◌, ℕ, suc, true, false, List, Option, Some, None, Ok, All, length, slice_get}
 use Rattle.std.specs.List.{AllZip}
+use Rattle.dv_defs.specs.declared.machine.End.TheVariants as end
+use Rattle.dv_defs.specs.declared.machine.Frame.{Frame}
 use Rattle.dv_defs.specs.declared.machine.Level.{Level}
 use Rattle.dv_defs.specs.declared.machine.Level.TheVariants as level
 use Rattle.dv_defs.specs.declared.run.Value.{Value}
@@ -18,7 +20,7 @@ use Rattle.dv_machine.specs.State.{Did, Go, Here, IsStuck, Left, Machine, NoOutp
 use Rattle.dv_machine.specs.Step as machine
 use Rattle.dv_words.specs.Standing.{FrameFits, FrameStands, HeapFits, LevelsStand, MachineFits, MachineStands, SharedStands, ThreadStands}
 use Rattle.dv_words.specs.State.{WordMachine, WordThread}
-use Rattle.dv_steps.specs.Laws.{IsBounded, IsMade, IsNoString, IsPlain, IsUnit, OperandsFit}
+use Rattle.dv_steps.specs.Laws.{IsBounded, IsNoString, IsPlain, IsUnit, OperandsFit, PutsInMade}
 use Rattle.dv_steps.specs.Step.{act, step}
 use Rattle.dv_steps.specs.Steps as words
 
@@ -65,7 +67,6 @@ pub record AtStands (w : words.At) (h : Here) : Type 0 where
   pub frame : FrameStands w.frame h.frame
   pub rest : LevelsStand w.rest h.rest
   pub bounded : IsBounded h.shared.heap
-  pub made : All (IsMade h.shared.heap) h.frame.regs
   pub chars : CharsAreNumbers h.image h.shared.heap
   pub frame_fits : FrameFits w.frame
   pub heap_fits : HeapFits w.shared.heap
@@ -95,23 +96,21 @@ OutcomeStands d e = ⊥
 -- of every operation
 abbrev pub ActsFollow : Type 0
 ActsFollow =
-    (op : Op) (w : words.At) (h : Here) → ImageFits h.image → OperandsFit h.image op → CallFits h.image op → AtStands w h → OutcomeStands (act w op) (machine.act h op)
+    (op : Op) (w : words.At) (h : Here) → ImageFits h.image → OperandsFit h.image op → PutsInMade h.shared.heap h.frame.regs op → CallFits h.image op → AtStands w h → OutcomeStands (act w op) (machine.act h op)
 
 -- ---- a step of a thread
 
--- what constructors make in the frames of a thread are objects of classes
-abbrev pub LevelIsMade : Machine → Level → Type 0
-LevelIsMade m (level.Code f) = All (IsMade m.shared.heap) f.regs
-LevelIsMade m (level.Init c r) = Unit {0}
+-- where a thread is about to put a field of an object that isn't initialised, a constructor makes that object
+abbrev pub PutsAreMade : Image → Machine → Type 0
+PutsAreMade image m =
+    (t : ℕ) (th : Thread) (f : Frame) (ls : List Level) (x : statics.At) → slice_get m.threads t ≡ Some th → th.end ≡ end.Living →
+    th.levels ≡ level.Code f ∷ ls → fetch image f.method.0 f.at ≡ Some x → PutsInMade m.shared.heap f.regs x.op
 
-abbrev pub ThreadIsMade : Machine → Thread → Type 0
-ThreadIsMade m t = All (LevelIsMade m) t.levels
-
--- what a step takes of the tagged machine's state; all of it holds in well-typed states
+-- what a step takes of the tagged machine's state; all of it holds in well-typed states whose heap is bounded
 pub record IsFit (image : Image) (m : Machine) : Type 0 where
   pub bounded : IsBounded m.shared.heap
   pub chars : CharsAreNumbers image m.shared.heap
-  pub made : All (ThreadIsMade m) m.threads
+  pub made : PutsAreMade image m
 
 -- from words that stand for a state, the step on words leads to words that stand for the state after the tagged step
 abbrev pub StepsFollow : Type 0
