@@ -4,6 +4,7 @@ pub mod Laws
 pub mod Local
 pub mod Mem
 pub mod Natives
+pub mod Opening
 pub mod Step
 pub mod StepLaws
 pub mod Stepping

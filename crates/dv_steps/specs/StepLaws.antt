@@ -1,26 +1,29 @@
 -- A step of a thread on words goes where the tagged machine's goes, wherever that isn't stuck.
-use Rattle.std.specs.Prelude.{◌≡◌, ◌∷◌, ℕ, suc, true, false, List, Option, Some, None, Ok, All, length, slice_get}
+use Rattle.std.specs.Prelude.{◌≡◌, ◌<◌, ◌^◌, ◌∷◌, ℕ, suc, true, false, List, Option, Some, None, Ok, All, length, slice_get}
 use Rattle.std.specs.List.{AllZip}
 use Rattle.dv_defs.specs.declared.machine.End.TheVariants as end
 use Rattle.dv_defs.specs.declared.machine.Frame.{Frame}
 use Rattle.dv_defs.specs.declared.machine.Level.{Level}
 use Rattle.dv_defs.specs.declared.machine.Level.TheVariants as level
+use Rattle.dv_defs.specs.declared.run.Limits.{Limits}
 use Rattle.dv_defs.specs.declared.run.Value.{Value}
 use Rattle.dv_defs.specs.declared.run.Value.TheVariants as v
 use Rattle.dv_defs.specs.Heap.{Heap, cells_at, kind_of}
 use Rattle.dv_defs.specs.Images.{Image}
 use Rattle.dv_defs.specs.Op.{Code, Op, Invoke, code_at}
-use Rattle.dv_defs.specs.Pools.{Field, field_at, is_static_field, method_at}
+use Rattle.dv_defs.specs.Pools.{Field, Method, field_at, is_static_field, method_at}
 use Rattle.dv_defs.specs.Statics as statics
 use Rattle.dv_defs.specs.Statics.{arg_words, fetch}
 use Rattle.dv_machine.specs.Accepted.{FindsRightly, HasBodies}
 use Rattle.dv_machine.specs.Calls.{chars_type}
 use Rattle.dv_machine.specs.State.{fits_kind, passes}
 use Rattle.dv_machine.specs.State.{Did, Go, Here, IsStuck, Left, Machine, NoOutput, NoRoom, NoWords, Thread, Throws, ThrowsRef}
+use Rattle.dv_machine.specs.Opening.{field_cells, opening, string_of}
 use Rattle.dv_machine.specs.Step as machine
-use Rattle.dv_words.specs.Standing.{FrameFits, FrameStands, HeapFits, LevelsStand, MachineFits, MachineStands, SharedStands, ThreadStands}
+use Rattle.dv_words.specs.Standing.{AreWhole, FrameFits, FrameStands, HeapFits, LevelsStand, MachineFits, MachineStands, SharedStands, ThreadStands}
 use Rattle.dv_words.specs.State.{WordMachine, WordThread}
 use Rattle.dv_steps.specs.Laws.{IsBounded, IsNoString, IsPlain, IsUnit, OperandsFit, PutsInMade}
+use Rattle.dv_steps.specs.Opening as words_opening
 use Rattle.dv_steps.specs.Step.{act, step}
 use Rattle.dv_steps.specs.Steps as words
 
@@ -128,3 +131,20 @@ StringsFit image =
 -- so what stands at an address has operands that fit
 abbrev pub FetchedOperandsFit : Type 0
 FetchedOperandsFit = (image : Image) → ImageFits image → StringsFit image → OperationsFit image
+
+-- ---- the opening
+
+-- numbers with which static fields are declared have 32 bits, or are a long's
+abbrev pub StaticsAreWhole : Image → Type 0
+StaticsAreWhole image = All AreWhole (field_cells image image.fields 0)
+
+-- strings with which they are declared are short, and have UTF-16 units
+abbrev pub InitsAreTexts : Image → Type 0
+InitsAreTexts image =
+    (k : ℕ) (x : Field) (s : List ℕ) → field_at image k ≡ Some x → string_of x.def.init ≡ Some s → (length s < 2 ^ 31) × All IsUnit s
+
+-- the words in which a run begins stand for the tagged machine's opening state
+abbrev pub OpeningStands : Type 0
+OpeningStands =
+    (image : Image) (m : Method) (l : Limits) → StaticsAreWhole image → InitsAreTexts image → l.heap < 2 ^ 31 →
+    MachineStands (words_opening.opening image m l) (opening image m l) × IsBounded (opening image m l).shared.heap
