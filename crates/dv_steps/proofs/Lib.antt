@@ -20,3 +20,5 @@ mod RecordSteps
 mod ThreadStep
 mod Operands
 mod Fitting
+mod OpeningState
+mod Slices

@@ -65,7 +65,7 @@ static_bounded heap f half (x ∷ xs) b = static_bounded (with_static heap f hal
 
 -- ---- new objects
 
-pushed : (ks : List Kind) (xss : List Cells) (k : Kind) (xs : Cells) → AllZip IsShort ks xss → IsShort k xs → AllZip IsShort (ks ++ k ∷ []) (xss ++ xs ∷ [])
+pub pushed : (ks : List Kind) (xss : List Cells) (k : Kind) (xs : Cells) → AllZip IsShort ks xss → IsShort k xs → AllZip IsShort (ks ++ k ∷ []) (xss ++ xs ∷ [])
 pushed [] [] k xs all one = (one, tt)
 pushed [] (ys ∷ xss) k xs all one = absurd all
 pushed (q ∷ ks) [] k xs all one = absurd all

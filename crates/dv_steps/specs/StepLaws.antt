@@ -1,5 +1,5 @@
 -- A step of a thread on words goes where the tagged machine's goes, wherever that isn't stuck.
-use Rattle.std.specs.Prelude.{◌≡◌, ◌<◌, ◌^◌, ◌∷◌, ℕ, suc, true, false, List, Option, Some, None, Ok, All, length, slice_get}
+use Rattle.std.specs.Prelude.{◌≡◌, ◌<◌, ◌^◌, ◌∷◌, ◌+◌, ℕ, zero, suc, true, false, List, Option, Some, None, Ok, All, length, slice_get, slice_set}
 use Rattle.std.specs.List.{AllZip}
 use Rattle.dv_defs.specs.declared.machine.End.TheVariants as end
 use Rattle.dv_defs.specs.declared.machine.Frame.{Frame}
@@ -20,11 +20,15 @@ use Rattle.dv_machine.specs.State.{fits_kind, passes}
 use Rattle.dv_machine.specs.State.{Did, Go, Here, IsStuck, Left, Machine, NoOutput, NoRoom, NoWords, Thread, Throws, ThrowsRef}
 use Rattle.dv_machine.specs.Opening.{field_cells, opening, string_of}
 use Rattle.dv_machine.specs.Step as machine
+use Rattle.dv_words.specs.declared.state.Frame as words_frame
+use Rattle.dv_words.specs.declared.state.Level as words_level
+use Rattle.dv_words.specs.declared.state.Level.TheVariants as level_of_words
 use Rattle.dv_words.specs.Standing.{AreWhole, FrameFits, FrameStands, HeapFits, LevelsStand, MachineFits, MachineStands, SharedStands, ThreadStands}
 use Rattle.dv_words.specs.State.{WordMachine, WordThread}
 use Rattle.dv_steps.specs.Laws.{IsBounded, IsNoString, IsPlain, IsUnit, OperandsFit, PutsInMade}
 use Rattle.dv_steps.specs.Opening as words_opening
 use Rattle.dv_steps.specs.Step.{act, step}
+use Rattle.dv_steps.specs.Stepping.{locals_here}
 use Rattle.dv_steps.specs.Steps as words
 
 -- ---- what the image gives
@@ -148,3 +152,25 @@ abbrev pub OpeningStands : Type 0
 OpeningStands =
     (image : Image) (m : Method) (l : Limits) → StaticsAreWhole image → InitsAreTexts image → l.heap < 2 ^ 31 →
     MachineStands (words_opening.opening image m l) (opening image m l) × IsBounded (opening image m l).shared.heap
+
+-- ---- slices
+
+-- so many steps of a thread
+abbrev pub steps_of : Image → ℕ → WordMachine → ℕ → WordMachine
+steps_of image zero w t = w
+steps_of image (suc n) w t = step image (steps_of image n w t) t
+
+-- a living thread has another frame on top, after so many steps
+abbrev pub with_top : WordMachine → ℕ → WordThread → words_frame.Frame → List words_level.Level → ℕ → WordMachine
+with_top w t th s ls n =
+    record w {
+      threads = slice_set w.threads t (record { levels = level_of_words.Code s ∷ ls; end = end.Living; object = th.object });
+      steps = w.steps + n;
+    }
+
+-- so many local instructions of a frame are as many steps of its thread
+abbrev pub LocalsAreSteps : Type 0
+LocalsAreSteps =
+    (image : Image) (w : WordMachine) (t n : ℕ) (th : WordThread) (s u : words_frame.Frame) (ls : List words_level.Level) →
+    slice_get w.threads t ≡ Some th → th.end ≡ end.Living → th.levels ≡ level_of_words.Code s ∷ ls → locals_here image n s ≡ Some u →
+    steps_of image n w t ≡ with_top w t th u ls n

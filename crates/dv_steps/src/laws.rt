@@ -1,7 +1,7 @@
 // The laws of the steps on words.
 ghost use Rattle.dv_steps.specs.Fetching.{FetchedIsDecoded, FetchedIsThere, PayloadsAreThere, TilesAreOfUnits};
 ghost use Rattle.dv_steps.specs.Laws.{LocalStepsFollow, MemStepsFollow};
-ghost use Rattle.dv_steps.specs.StepLaws.{FetchedOperandsFit, StepsFollow};
+ghost use Rattle.dv_steps.specs.StepLaws.{FetchedOperandsFit, LocalsAreSteps, OpeningStands, StepsFollow};
 
 /// A local instruction on words that stand for a tagged frame goes where the tagged one goes, wherever that isn't stuck.
 pub fn local_steps_follow()
@@ -44,4 +44,14 @@ pub fn payloads_are_there()
 /// have 32 bits, invokes name as many registers as there are argument words, and a field isn't a string's.
 pub fn fetched_operands_fit()
     ensures law { FetchedOperandsFit }
+{}
+
+/// The words in which a run begins stand for the tagged machine's opening state.
+pub fn opening_stands()
+    ensures law { OpeningStands }
+{}
+
+/// So many local instructions of a living thread's frame are as many steps of the thread.
+pub fn locals_are_steps()
+    ensures law { LocalsAreSteps }
 {}
