@@ -70,23 +70,23 @@ pub record IsPut (old new : List (Option Holding)) (f g : ℕ → Option ℕ) (t
 pub indexed-put : (old new : List (Option Holding)) (f g : ℕ → Option ℕ) (to : ℕ) (h : Holding) → IsIndexed old f → IsPut old new f g to h → IsIndexed new g
 indexed-put old new f g to h fits put = record {
   stands = λ object place e.
-    elim (cases_eq h.object object) [
-      | inl same ↦
-        let there : to ≡ place = same_Some to place (sym put.place ∙ ap g same ∙ e) in
-        ap (λ k. object_in (slot_at new k)) (sym there) ∙ ap object_in put.stands ∙ ap (λ n. Some n) same
-      | inr other ↦
-        let was : object_in (slot_at old place) ≡ Some object = fits.stands object place (sym (put.other_places object (ne_eqb h.object object other)) ∙ e) in
-        ap object_in (put.others place (λ s. none-some object (sym (ap (λ k. object_in (slot_at old k)) s ∙ ap object_in put.was_empty) ∙ was))) ∙ was
-    ];
+      elim (cases_eq h.object object) [
+        | inl same ↦
+            let there : to ≡ place = same_Some to place (sym put.place ∙ ap g same ∙ e) in
+            ap (λ k. object_in (slot_at new k)) (sym there) ∙ ap object_in put.stands ∙ ap (λ n. Some n) same
+        | inr other ↦
+            let was : object_in (slot_at old place) ≡ Some object = fits.stands object place (sym (put.other_places object (ne_eqb h.object object other)) ∙ e) in
+            ap object_in (put.others place (λ s. none-some object (sym (ap (λ k. object_in (slot_at old k)) s ∙ ap object_in put.was_empty) ∙ was))) ∙ was
+      ];
   found = λ object place e.
-    elim (cases_eq place to) [
-      | inl there ↦
-        let same : h.object ≡ object = same_Some h.object object (sym (ap (λ k. object_in (slot_at new k)) there ∙ ap object_in put.stands) ∙ e) in
-        ap g (sym same) ∙ put.place ∙ ap (λ n. Some n) (sym there)
-      | inr other ↦
-        let was : f object ≡ Some place = fits.found object place (sym (ap object_in (put.others place other)) ∙ e) in
-        put.other_places object (ne_eqb h.object object (λ same. none-some place (sym (sym (ap f same) ∙ put.was_nowhere) ∙ was))) ∙ was
-    ];
+      elim (cases_eq place to) [
+        | inl there ↦
+            let same : h.object ≡ object = same_Some h.object object (sym (ap (λ k. object_in (slot_at new k)) there ∙ ap object_in put.stands) ∙ e) in
+            ap g (sym same) ∙ put.place ∙ ap (λ n. Some n) (sym there)
+        | inr other ↦
+            let was : f object ≡ Some place = fits.found object place (sym (ap object_in (put.others place other)) ∙ e) in
+            put.other_places object (ne_eqb h.object object (λ same. none-some place (sym (sym (ap f same) ∙ put.was_nowhere) ∙ was))) ∙ was
+      ];
 }
 
 -- a monitor taken out of its slot
@@ -100,19 +100,19 @@ pub record IsTaken (old new : List (Option Holding)) (f g : ℕ → Option ℕ) 
 pub indexed-taken : (old new : List (Option Holding)) (f g : ℕ → Option ℕ) (from object : ℕ) → IsIndexed old f → IsTaken old new f g from object → IsIndexed new g
 indexed-taken old new f g from object fits took = record {
   stands = λ other place e.
-    elim (cases_eq object other) [
-      | inl same ↦ absurd (none-some place (sym (sym (ap g same) ∙ took.nowhere) ∙ e))
-      | inr apart ↦
-        let was : object_in (slot_at old place) ≡ Some other = fits.stands other place (sym (took.other_places other (ne_eqb object other apart)) ∙ e) in
-        ap object_in (took.others place (λ s. apart (same_Some object other (sym (fits.stands object from took.was_there) ∙ sym (ap (λ k. object_in (slot_at old k)) s) ∙ was)))) ∙ was
-    ];
+      elim (cases_eq object other) [
+        | inl same ↦ absurd (none-some place (sym (sym (ap g same) ∙ took.nowhere) ∙ e))
+        | inr apart ↦
+            let was : object_in (slot_at old place) ≡ Some other = fits.stands other place (sym (took.other_places other (ne_eqb object other apart)) ∙ e) in
+            ap object_in (took.others place (λ s. apart (same_Some object other (sym (fits.stands object from took.was_there) ∙ sym (ap (λ k. object_in (slot_at old k)) s) ∙ was)))) ∙ was
+      ];
   found = λ other place e.
-    elim (cases_eq place from) [
-      | inl there ↦ absurd (none-some other (sym (ap (λ k. object_in (slot_at new k)) there ∙ ap object_in took.empty) ∙ e))
-      | inr away ↦
-        let was : f other ≡ Some place = fits.found other place (sym (ap object_in (took.others place away)) ∙ e) in
-        took.other_places other (ne_eqb object other (λ same. away (same_Some place from (sym was ∙ sym (ap f same) ∙ took.was_there)))) ∙ was
-    ];
+      elim (cases_eq place from) [
+        | inl there ↦ absurd (none-some other (sym (ap (λ k. object_in (slot_at new k)) there ∙ ap object_in took.empty) ∙ e))
+        | inr away ↦
+            let was : f other ≡ Some place = fits.found other place (sym (ap object_in (took.others place away)) ∙ e) in
+            took.other_places other (ne_eqb object other (λ same. away (same_Some place from (sym was ∙ sym (ap f same) ∙ took.was_there)))) ∙ was
+      ];
 }
 
 -- the last slot is empty, and taken off
@@ -145,13 +145,13 @@ indexed-moved slots f g to from h fits at down empty there others =
     let still : to < length (set slots from None) = omega (arith, length-set slots from None) in
     let was : f h.object ≡ Some from = fits.found h.object from (ap object_in at) in
     let middle : IsIndexed (set slots from None) (λ object. cond (nat_eq h.object object) None (f object)) =
-            indexed-taken slots (set slots from None) f (λ object. cond (nat_eq h.object object) None (f object)) from h.object fits (record {
-            was_there = was;
-            empty = get_or-set_same slots from None None inside;
-            others = λ place away. get_or-set_other slots from place None None away;
-            nowhere = rw (eq-eqb h.object h.object refl);
-            other_places = λ other apart. rw apart;
-        }) in
+    indexed-taken slots (set slots from None) f (λ object. cond (nat_eq h.object object) None (f object)) from h.object fits (record {
+      was_there = was;
+      empty = get_or-set_same slots from None None inside;
+      others = λ place away. get_or-set_other slots from place None None away;
+      nowhere = rw (eq-eqb h.object h.object refl);
+      other_places = λ other apart. rw apart;
+    }) in
     indexed-put (set slots from None) (set (set slots from None) to (Some h)) (λ object. cond (nat_eq h.object object) None (f object)) g to h middle (record {
       was_empty = emptied slots to from h at down empty inside;
       was_nowhere = rw (eq-eqb h.object h.object refl);
@@ -239,12 +239,12 @@ pub indexed-recounted : (slots : List (Option Holding)) (f : ℕ → Option ℕ)
     → IsIndexed (set slots place (Some g)) f
 indexed-recounted slots f place h g fits at same =
     indexed-same slots (set slots place (Some g)) f fits (λ k.
-      elim (cases_eq k place) [
-        | inl there ↦
+    elim (cases_eq k place) [
+      | inl there ↦
           ap (λ j. object_in (slot_at (set slots place (Some g)) j)) there ∙ ap object_in (get_or-set_same slots place (Some g) None (within slots place h at))
           ∙ ap (λ n. Some n) same ∙ sym (ap object_in at) ∙ sym (ap (λ j. object_in (slot_at slots j)) there)
-        | inr away ↦ ap object_in (get_or-set_other slots place k (Some g) None away)
-      ])
+      | inr away ↦ ap object_in (get_or-set_other slots place k (Some g) None away)
+    ])
 
 module _ (slots : List (Option Holding)) (f : ℕ → Option ℕ) (fits : IsIndexed slots f) (object place : ℕ) (h : Holding) (at : slot_at slots place ≡ Some h) (same : h.object ≡ object) where
   alone : StandsOnly slots place h.object

@@ -78,10 +78,10 @@ entered_in-present (None ∷ slots) (suc place) h t n at only = entered_in-prese
 entered_in-present (Some g ∷ slots) zero h t n at only =
     let e : g ≡ h = same_Some g h at in
     entered_in-here (held_value g) (present slots) h.object t n (ap (λ (x : Holding). x.object) e)
-        ∙ ap (λ (x : Holding). held_value (record { object = h.object; thread = t; count = x.count + n }) ∷ present slots) e
+    ∙ ap (λ (x : Holding). held_value (record { object = h.object; thread = t; count = x.count + n }) ∷ present slots) e
 entered_in-present (Some g ∷ slots) (suc place) h t n at only =
     entered_in-past (held_value g) (present slots) h.object t n (only-first g slots place h.object only)
-        ∙ ap (λ hs. held_value g ∷ hs) (entered_in-present slots place h t n at (only-rest (Some g) slots place h.object only))
+    ∙ ap (λ hs. held_value g ∷ hs) (entered_in-present slots place h t n at (only-rest (Some g) slots place h.object only))
 
 pub entered_in-absent : (slots : List (Option Holding)) (o t n : ℕ) → StandsNowhere slots o
     → entered_in (present slots) o t n ≡ present (slots ++ Some (record { object = o; thread = t; count = n }) ∷ [])
@@ -89,7 +89,7 @@ entered_in-absent [] o t n nowhere = refl
 entered_in-absent (None ∷ slots) o t n nowhere = entered_in-absent slots o t n (λ place e. nowhere (suc place) e)
 entered_in-absent (Some g ∷ slots) o t n nowhere =
     entered_in-past (held_value g) (present slots) o t n (λ e. nowhere 0 (ap (λ m. Some m) e))
-        ∙ ap (λ hs. held_value g ∷ hs) (entered_in-absent slots o t n (λ place e. nowhere (suc place) e))
+    ∙ ap (λ hs. held_value g ∷ hs) (entered_in-absent slots o t n (λ place e. nowhere (suc place) e))
 
 pub given_up-present : (slots : List (Option Holding)) (place : ℕ) (h : Holding) → slot_at slots place ≡ Some h → StandsOnly slots place h.object
     → given_up (present slots) h.object ≡ present (set slots place None)
@@ -100,14 +100,14 @@ given_up-present (Some g ∷ slots) zero h at only =
     let e : g ≡ h = same_Some g h at in given_up-here (held_value g) (present slots) h.object (ap (λ (x : Holding). x.object) e)
 given_up-present (Some g ∷ slots) (suc place) h at only =
     given_up-past (held_value g) (present slots) h.object (only-first g slots place h.object only)
-        ∙ ap (λ hs. held_value g ∷ hs) (given_up-present slots place h at (only-rest (Some g) slots place h.object only))
+    ∙ ap (λ hs. held_value g ∷ hs) (given_up-present slots place h at (only-rest (Some g) slots place h.object only))
 
 pub given_up-absent : (slots : List (Option Holding)) (o : ℕ) → StandsNowhere slots o → given_up (present slots) o ≡ present slots
 given_up-absent [] o nowhere = refl
 given_up-absent (None ∷ slots) o nowhere = given_up-absent slots o (λ place e. nowhere (suc place) e)
 given_up-absent (Some g ∷ slots) o nowhere =
     given_up-past (held_value g) (present slots) o (λ e. nowhere 0 (ap (λ n. Some n) e))
-        ∙ ap (λ hs. held_value g ∷ hs) (given_up-absent slots o (λ place e. nowhere (suc place) e))
+    ∙ ap (λ hs. held_value g ∷ hs) (given_up-absent slots o (λ place e. nowhere (suc place) e))
 
 pub exited_in-counted : (slots : List (Option Holding)) (place : ℕ) (h : Holding) → slot_at slots place ≡ Some h → StandsOnly slots place h.object → 1 < h.count
     → exited_in (present slots) h.object ≡ present (set slots place (Some (record { object = h.object; thread = h.thread; count = h.count - 1 })))
@@ -117,10 +117,10 @@ exited_in-counted (None ∷ slots) (suc place) h at only l = exited_in-counted s
 exited_in-counted (Some g ∷ slots) zero h at only l =
     let e : g ≡ h = same_Some g h at in
     exited_in-here (held_value g) (present slots) h.object (ap (λ (x : Holding). x.object) e)
-        ∙ ap (λ (x : Holding). less_one (held_value x) (present slots)) e ∙ less_one-more (held_value h) (present slots) l
+    ∙ ap (λ (x : Holding). less_one (held_value x) (present slots)) e ∙ less_one-more (held_value h) (present slots) l
 exited_in-counted (Some g ∷ slots) (suc place) h at only l =
     exited_in-past (held_value g) (present slots) h.object (only-first g slots place h.object only)
-        ∙ ap (λ hs. held_value g ∷ hs) (exited_in-counted slots place h at (only-rest (Some g) slots place h.object only) l)
+    ∙ ap (λ hs. held_value g ∷ hs) (exited_in-counted slots place h at (only-rest (Some g) slots place h.object only) l)
 
 pub exited_in-last : (slots : List (Option Holding)) (place : ℕ) (h : Holding) → slot_at slots place ≡ Some h → StandsOnly slots place h.object → h.count ≤ 1
     → exited_in (present slots) h.object ≡ given_up (present slots) h.object
@@ -131,12 +131,12 @@ exited_in-last (Some g ∷ slots) zero h at only l =
     let e : g ≡ h = same_Some g h at in
     let o : g.object ≡ h.object = ap (λ (x : Holding). x.object) e in
     exited_in-here (held_value g) (present slots) h.object o
-        ∙ ap (λ (x : Holding). less_one (held_value x) (present slots)) e ∙ less_one-last (held_value h) (present slots) l
-        ∙ sym (given_up-here (held_value g) (present slots) h.object o)
+    ∙ ap (λ (x : Holding). less_one (held_value x) (present slots)) e ∙ less_one-last (held_value h) (present slots) l
+    ∙ sym (given_up-here (held_value g) (present slots) h.object o)
 exited_in-last (Some g ∷ slots) (suc place) h at only l =
     exited_in-past (held_value g) (present slots) h.object (only-first g slots place h.object only)
-        ∙ ap (λ hs. held_value g ∷ hs) (exited_in-last slots place h at (only-rest (Some g) slots place h.object only) l)
-        ∙ sym (given_up-past (held_value g) (present slots) h.object (only-first g slots place h.object only))
+    ∙ ap (λ hs. held_value g ∷ hs) (exited_in-last slots place h at (only-rest (Some g) slots place h.object only) l)
+    ∙ sym (given_up-past (held_value g) (present slots) h.object (only-first g slots place h.object only))
 
 -- ---- slots that are the same, but for empty ones at the end; a monitor moved down over empty slots
 

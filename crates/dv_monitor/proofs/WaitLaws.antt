@@ -98,8 +98,8 @@ notify_each-all o [] (x ∷ xs) e all = absurd (omega arith)
 notify_each-all o (w ∷ ws) [] e all = absurd (omega arith)
 notify_each-all o (w ∷ ws) (x ∷ xs) e all =
     ap (λ (y : kept.Wait). wait_value y ∷ wait_values xs) (all 0 w (omega arith))
-        ∙ ap (λ vs. wait_value (told_of o w) ∷ vs) (notify_each-all o ws xs (omega arith) (λ k d l. all (suc k) d (omega arith)))
-        ∙ told-by (nat_eq w.object o) w (notify_each o (wait_values ws))
+    ∙ ap (λ vs. wait_value (told_of o w) ∷ vs) (notify_each-all o ws xs (omega arith) (λ k d l. all (suc k) d (omega arith)))
+    ∙ told-by (nat_eq w.object o) w (notify_each o (wait_values ws))
 
 -- ---- a thread that takes its monitor back
 
@@ -121,4 +121,4 @@ taken-back ms o t w held waits found notified entered left =
     let make : List Held → List Wait → Monitors = λ hs ws. record { held = hs; waits = ws } in
     rw found
     (ap (λ hs. make hs waits) (entered ∙ ap (λ x. entered_in ms.held x t w.kept) (sym object) ∙ ap (λ x. entered_in ms.held w.object x w.kept) (sym thread))
-     ∙ ap (λ ws. make (entered_in ms.held w.object w.thread w.kept) ws) (left ∙ ap (λ x. without x ms.waits) (sym thread)))
+    ∙ ap (λ ws. make (entered_in ms.held w.object w.thread w.kept) ws) (left ∙ ap (λ x. without x ms.waits) (sym thread)))

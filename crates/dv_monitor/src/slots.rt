@@ -11,7 +11,7 @@ use std::collections::HashMap;
 /// The place of each object's monitor.
 pub type Places = HashMap<u32, usize>;
 
-// So many slots more than twice the monitors stand before they are closed up.
+// Slots are closed up where there are more than four for each monitor and for so many more.
 const SLACK: usize = 32;
 
 /// The monitor of an object, and its place.
@@ -42,7 +42,7 @@ pub fn take_out(slots: &mut Vec<Option<Holding>>, places: &mut Places, object: u
     let _ = places.remove(&object);
     slots[place] = None;
     drop_empty_end(slots);
-    if slots.len() / 2 > places.len() + SLACK {
+    if slots.len() / 4 > places.len() + SLACK {
         close_up(slots, places);
     }
 }

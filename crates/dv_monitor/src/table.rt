@@ -1,7 +1,7 @@
 // Monitors, their owners, and the threads that wait.
 ghost use Rattle.std.specs.Prelude.{◌≡◌, ◌-◌, ◌^◌, ◌<◌, ◌↔◌, IfErr, IfOk, IfSome, IsOk, IsSome, IsSomeAnd, IsTrue, None, OnErr, OnOk, Some};
 ghost use Rattle.std.specs.Option.{ForSome, option_map};
-ghost use Rattle.dv_defs.specs.Monitors.{entered, exited, held_of, notified_all, notified_one, owner_of, resumed, wait_of, waiting};
+ghost use Rattle.dv_defs.specs.Monitors.{entered, exited, notified_all, notified_one, owner_of, resumed, wait_of, waiting};
 ghost use Rattle.dv_monitor.specs.Errors.{RefusesWait};
 ghost use Rattle.dv_monitor.specs.State.{count_of, no_monitors};
 ghost use Rattle.dv_monitor.specs.Waits.{wait_value};
@@ -29,8 +29,9 @@ impl Model for Monitors {
     ghost Value = { MonitorState };
 
     ghost view = { λ m. record {
-        monitors = record { held = m.held.held; waits = wait_values m.waits.items };
-        ready = nat_lt (vec_len m.waits) m.held.room && nat_lt (vec_len m.waits) (vec_capacity m.waits) } };
+      monitors = record { held = m.held.held; waits = wait_values m.waits.items };
+      ready = nat_lt (vec_len m.waits) m.held.room && nat_lt (vec_len m.waits) (vec_capacity m.waits);
+    } };
 
     ghost invariant = { λ m. vec_len m.waits ≤ m.held.room };
 }
@@ -59,7 +60,7 @@ impl Monitors {
     /// Enters a monitor that is free, or that the thread owns already (JLS 17.1).
     pub fn enter(&mut self, object: u32, thread: u32) -> Result<(), AllocError>
         requires free_or_owned { ForSome (owner_of self.old.monitors object) (λ owner. owner ≡ thread) }
-        requires countable { ForSome (held_of self.old.monitors object) (λ held. held.count < 2 ^ 64 - 1) }
+        requires countable { count_of self.old.monitors object < 2 ^ 64 - 1 }
         ensures ok { OnOk result (self.new.monitors ≡ entered self.old.monitors object thread 1) }
         ensures err { OnErr result (self.new.monitors ≡ self.old.monitors) }
         ensures ready { IsTrue self.old.ready → IsOk result }
@@ -146,6 +147,16 @@ impl Monitors {
         ensures { result ≡ owner_of self.now.monitors object }
     {
         Some(self.held.get(object)?.thread)
+    }
+
+    /// How often the owner has entered an object's monitor, 0 where it is free.
+    pub fn count(&self, object: u32) -> u64
+        ensures { result ≡ count_of self.now.monitors object }
+    {
+        match self.held.get(object) {
+            Some(holding) => holding.count,
+            None => 0,
+        }
     }
 
     /// Whether the thread waits.

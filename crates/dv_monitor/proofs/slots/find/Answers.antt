@@ -14,7 +14,7 @@ bounds-slots-place c =
 pub offset_bounds-slots-place : goal.offset_bounds-slots-place
 offset_bounds-slots-place c =
     let within : c.in_ok-place.field-0.now < length c.args.slots.now =
-        within-object c.args.slots.now c.in_ok-place.field-0.now c.args.object (c.requires.stands c.args.object c.in_ok-place.field-0.now (sym c.in_ok-place.ensures.value)) in
+    within-object c.args.slots.now c.in_ok-place.field-0.now c.args.object (c.requires.stands c.args.object c.in_ok-place.field-0.now (sym c.in_ok-place.ensures.value)) in
     search rules
 
 pub returns-in_err-holding-clause-free : goal.returns-in_err-holding-clause-free

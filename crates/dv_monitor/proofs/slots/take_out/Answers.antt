@@ -11,8 +11,8 @@ index_mut-requires c =
 pub close_up-requires : goal.close_up-requires
 close_up-requires c = record {
   indexed =
-    indexed-taken_out c.args.slots.now.items c.drop_empty_end.new.slots.items (get nat_eq c.args.places.now) (get nat_eq c.remove.new.self) c.args.object c.args.place c.requires.indexed
-    c.requires.stands c.drop_empty_end.ensures.slots c.remove.ensures.updates.1 c.remove.ensures.updates.2;
+      indexed-taken_out c.args.slots.now.items c.drop_empty_end.new.slots.items (get nat_eq c.args.places.now) (get nat_eq c.remove.new.self) c.args.object c.args.place c.requires.indexed
+      c.requires.stands c.drop_empty_end.ensures.slots c.remove.ensures.updates.1 c.remove.ensures.updates.2;
 }
 
 pub returns-else-len-clause-indexed : goal.returns-else-len-clause-indexed
@@ -24,7 +24,7 @@ pub returns-then-len-clause-present : goal.returns-then-len-clause-present
 returns-then-len-clause-present c =
     c.close_up.ensures.present
     ∙ present-taken_out c.args.slots.now.items c.drop_empty_end.new.slots.items (get nat_eq c.args.places.now) (get nat_eq c.remove.new.self) c.args.object c.args.place
-      c.requires.indexed c.requires.stands c.drop_empty_end.ensures.slots
+    c.requires.indexed c.requires.stands c.drop_empty_end.ensures.slots
 
 pub returns-else-len-clause-present : goal.returns-else-len-clause-present
 returns-else-len-clause-present c =

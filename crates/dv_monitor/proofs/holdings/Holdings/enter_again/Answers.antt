@@ -15,4 +15,4 @@ pub returns-clause-entered : goal.returns-clause-entered
 returns-clause-entered c =
     let at = rw c.deref.ensures.value at c.in-Some.ensures.slot in
     λ h. present-entered c.self.inside.slots.items (get nat_eq c.self.inside.places) c.self.invariant c.args.object c.in-Some.place c.in-Some.holding at c.in-Some.ensures.object c.args.thread 1
-      ∙ ap (λ (s : HeldList). entered_in s.held c.args.object c.args.thread 1) c.self.view_is
+    ∙ ap (λ (s : HeldList). entered_in s.held c.args.object c.args.thread 1) c.self.view_is
