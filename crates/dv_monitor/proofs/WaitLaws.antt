@@ -1,8 +1,8 @@
 -- The threads that wait, by the place of one.
-use Rattle.std.proofs.Common.{◌≡◌, ℕ, zero, suc, ◌+◌, ◌<◌, ◌≤◌, ◌&&◌, not, cond, Bool, true, false, List, [], ◌∷◌, ◌++◌, Option, Some, None, refl, ap, sym, ◌∙◌, arith, get_or, set, length, nat_eq, inl, inr, IfSome, IsSome, IsSomeAnd, IsTrue, rules}
+use Rattle.std.proofs.Common.{◌≡◌, ℕ, zero, suc, ◌<◌, ◌&&◌, not, cond, Bool, true, false, List, [], ◌∷◌, Option, Some, None, refl, ap, sym, ◌∙◌, arith, get_or, set, length, nat_eq, inl, inr, IfSome, IsSome, IsSomeAnd, IsTrue, rules}
 use Rattle.std.specs.List.{find, position, position_or_len, remove}
 use Rattle.std.specs.Option.{option_map}
-use Rattle.std.proofs.lemmas.Bool.{cases_lt, eqb-true, ne_eqb, eq-eqb, lt-ltb}
+use Rattle.std.proofs.lemmas.Bool.{cases_lt, eqb-true, lt-ltb}
 use Rattle.std.proofs.lemmas.List.Quantifiers.{position-Some}
 use Rattle.std.proofs.lemmas.List.Sums.{fails_before_first}
 use Rattle.std.proofs.lemmas.Option.{none-some, same_Some}

@@ -1,6 +1,5 @@
 -- Monitors that are owned, in slots of which some are empty, and their places by object.
-use Rattle.std.specs.Prelude.{◌≡◌, ℕ, ◌-◌, List, [], ◌∷◌, Option, Some, None, min, slice_index_or}
-use Rattle.std.specs.Option.{option_map}
+use Rattle.std.specs.Prelude.{◌≡◌, ℕ, List, [], ◌∷◌, Option, Some, None, slice_index_or}
 use Rattle.dv_defs.specs.Monitors.{Held, held_in}
 use Rattle.dv_monitor.specs.declared.holding.Holding.{Holding}
 

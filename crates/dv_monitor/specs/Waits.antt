@@ -1,5 +1,5 @@
 -- Waiting threads as they are kept.
-use Rattle.std.specs.Prelude.{ℕ, List, map}
+use Rattle.std.specs.Prelude.{List, map}
 use Rattle.dv_defs.specs.Monitors.{Wait}
 use Rattle.dv_monitor.specs.declared.wait.Wait as kept
 

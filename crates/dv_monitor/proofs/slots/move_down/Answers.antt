@@ -1,4 +1,4 @@
-use Rattle.std.proofs.Common.{ap, nat_eq, refl, Some, IsSome, ℕ, ◌≡◌}
+use Rattle.std.proofs.Common.{ap, nat_eq, refl, Some, IsSome, ◌≡◌}
 use Rattle.std.specs.HashMap.{get}
 use Rattle.dv_monitor.specs.Slots.{object_in}
 use Rattle.dv_monitor.proofs.PlaceLaws.{emptied-after, indexed-moved, some-read}

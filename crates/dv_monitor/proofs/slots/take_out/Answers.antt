@@ -1,4 +1,4 @@
-use Rattle.std.proofs.Common.{arith, length, nat_eq, set, ◌<◌, ◌∙◌, None}
+use Rattle.std.proofs.Common.{arith, length, nat_eq, ◌<◌, ◌∙◌}
 use Rattle.std.specs.HashMap.{get}
 use Rattle.dv_monitor.proofs.PlaceLaws.{indexed-taken_out, present-taken_out, within-object}
 use Rattle.dv_monitor.proofs.slots.take_out.Goals as goal

@@ -1,4 +1,4 @@
-use Rattle.std.proofs.Common.{◌≡◌, ℕ, ◌<◌, ◌≤◌, get_or, length}
+use Rattle.std.proofs.Common.{◌≡◌, ℕ, ◌<◌, ◌≤◌, get_or}
 use Rattle.dv_monitor.specs.declared.wait.Wait as kept
 use Rattle.dv_monitor.proofs.WaitLaws.{told_of}
 use Rattle.dv_monitor.proofs.waits.notify_all.Given as goal

@@ -1,6 +1,5 @@
 use Rattle.std.proofs.Common.{List, ap, ◌∙◌, nat_eq}
 use Rattle.std.specs.List.{position}
-use Rattle.std.specs.Vec.{vec_items}
 use Rattle.dv_monitor.specs.declared.wait.Wait as kept
 use Rattle.dv_monitor.specs.Waits.{wait_values}
 use Rattle.dv_monitor.proofs.WaitLaws.{place-some, taken-at}

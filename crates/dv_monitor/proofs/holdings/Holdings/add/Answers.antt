@@ -1,4 +1,4 @@
-use Rattle.std.proofs.Common.{ap, length, nat_eq, refl, sym, None, Some, ◌≡◌, ◌∙◌}
+use Rattle.std.proofs.Common.{ap, length, nat_eq, None, Some, ◌≡◌, ◌∙◌}
 use Rattle.std.specs.HashMap.{get}
 use Rattle.dv_defs.specs.Monitors.{entered_in, held_in}
 use Rattle.dv_monitor.specs.Slots.{HeldList, present}

@@ -1,4 +1,4 @@
-use Rattle.std.proofs.Common.{ap, nat_eq, refl, ◌+◌, ◌∙◌}
+use Rattle.std.proofs.Common.{ap, nat_eq, refl, ◌∙◌}
 use Rattle.std.specs.HashMap.{get}
 use Rattle.dv_defs.specs.Monitors.{entered_in}
 use Rattle.dv_monitor.specs.Slots.{HeldList}
@@ -8,8 +8,7 @@ use Rattle.dv_monitor.proofs.holdings.Holdings.enter_again.Goals as goal
 pub invariant_of-self : goal.invariant_of-self
 invariant_of-self c =
     let at = rw c.deref.ensures.value at c.in-Some.ensures.slot in
-    indexed-recounted c.self.inside.slots.items (get nat_eq c.self.inside.places) c.in-Some.place c.in-Some.holding
-    (record { object = c.in-Some.holding.object; thread = c.args.thread; count = c.in-Some.holding.count + 1 }) c.self.invariant at refl
+    indexed-recounted c.self.inside.slots.items (get nat_eq c.self.inside.places) c.in-Some.place c.in-Some.holding _ c.self.invariant at refl
 
 pub returns-clause-entered : goal.returns-clause-entered
 returns-clause-entered c =

@@ -1,4 +1,4 @@
-use Rattle.std.proofs.Common.{ap, nat_eq, refl, ◌-◌, ◌∙◌}
+use Rattle.std.proofs.Common.{ap, nat_eq, refl, ◌∙◌}
 use Rattle.std.specs.HashMap.{get}
 use Rattle.dv_defs.specs.Monitors.{exited_in}
 use Rattle.dv_monitor.specs.Slots.{HeldList}
@@ -8,8 +8,7 @@ use Rattle.dv_monitor.proofs.holdings.Holdings.exit.Goals as goal
 pub invariant_of-self-else-holding-le1 : goal.invariant_of-self-else-holding-le1
 invariant_of-self-else-holding-le1 c =
     let at = rw c.deref.ensures.value at c.in-Some.ensures.slot in
-    indexed-recounted c.self.inside.slots.items (get nat_eq c.self.inside.places) c.in-Some.place c.in-Some.holding
-    (record { object = c.in-Some.holding.object; thread = c.in-Some.holding.thread; count = c.in-Some.holding.count - 1 }) c.self.invariant at refl
+    indexed-recounted c.self.inside.slots.items (get nat_eq c.self.inside.places) c.in-Some.place c.in-Some.holding _ c.self.invariant at refl
 
 pub returns-then-holding-le1-clause-ok : goal.returns-then-holding-le1-clause-ok
 returns-then-holding-le1-clause-ok c =
