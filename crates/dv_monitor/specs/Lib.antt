@@ -1,0 +1,4 @@
+pub mod Slots
+pub mod Waits
+pub mod State
+pub mod Errors

@@ -1,0 +1,34 @@
+-- Monitors that are owned, in slots of which some are empty, and their places by object.
+use Rattle.std.specs.Prelude.{◌≡◌, ℕ, List, [], ◌∷◌, Option, Some, None, slice_index_or}
+use Rattle.dv_defs.specs.Monitors.{Held, held_in}
+use Rattle.dv_monitor.specs.declared.holding.Holding.{Holding}
+
+abbrev pub held_value : Holding → Held
+held_value h = record { object = h.object; thread = h.thread; count = h.count }
+
+-- the monitors in the slots, in the slots' order
+abbrev pub present : List (Option Holding) → List Held
+present [] = []
+present (None ∷ slots) = present slots
+present (Some h ∷ slots) = held_value h ∷ present slots
+
+-- past the end there is none
+abbrev pub slot_at : List (Option Holding) → ℕ → Option Holding
+slot_at slots place = slice_index_or slots place None
+
+abbrev pub object_in : Option Holding → Option ℕ
+object_in None = None
+object_in (Some h) = Some h.object
+
+-- an object has just the place where its monitor stands, so no two slots have one object
+pub record IsIndexed (slots : List (Option Holding)) (place_of : ℕ → Option ℕ) : Type 0 where
+  pub stands : (object place : ℕ) → place_of object ≡ Some place → object_in (slot_at slots place) ≡ Some object
+  pub found : (object place : ℕ) → object_in (slot_at slots place) ≡ Some object → place_of object ≡ Some place
+
+-- the owned monitors in the order of their first entering, and how many more find room without memory
+pub record HeldList : Type 0 where
+  pub held : List Held
+  pub room : ℕ
+
+abbrev pub owner_in : List Held → ℕ → Option ℕ
+owner_in held object = elim (held_in held object) [ None ↦ None | Some h ↦ Some h.thread ]
