@@ -1,5 +1,5 @@
 // The heap of the guest.
-ghost use Rattle.std.specs.Prelude.{◌≡◌, ◌≢◌, ℕ, ◌<◌, ◌+◌, ◌^◌, [], map, None, length, slice_index, is_some, Some, IsSome, IfOk};
+ghost use Rattle.std.specs.Prelude.{◌≡◌, ◌≢◌, ℕ, ◌<◌, ◌+◌, ◌^◌, [], map, None, length, slice_index, slice_index_or, is_some, Some, IsSome, IfOk};
 ghost use Rattle.dv_words.specs.declared.state.Kind.TheVariants as kind;
 ghost use Rattle.dv_words.specs.Heaps.{kind_of, length_of, words_of_object, word_in, with_word, static_in, with_static, uncounted, counting};
 ghost use Rattle.dv_heap.specs.Answers.{HasWord, HasStatic};
@@ -164,6 +164,18 @@ impl Heap {
         ensures { result ≡ word_in self.now object at }
     {
         self.objects.word(object, at) as u16
+    }
+
+    /// How many words a static field has; none where no static field has the number.
+    pub fn static_size(&self, field: FieldId) -> u32
+        ensures { result ≡ length (slice_index_or self.now.statics field.0 []) }
+    {
+        let place = field.0 as usize;
+        if place < self.statics.len() {
+            self.statics.size(place)
+        } else {
+            0
+        }
     }
 
     /// A word of a static field.
