@@ -4,6 +4,8 @@
 #[cfg(test)]
 mod births;
 #[cfg(test)]
+mod heaps;
+#[cfg(test)]
 mod rows;
 #[cfg(test)]
 mod tests;
