@@ -1,5 +1,5 @@
 -- What is fetched has operands that fit.
-use Rattle.std.proofs.Common.{◌≡◌, ◌≢◌, ◌⊎◌, inl, inr, ℕ, zero, suc, ◌+◌, ◌*◌, ◌/◌, ◌++◌, Bool, true, false, ◌&&◌, ◌||◌, not, Option, Some, None, Result, Ok, Err, List, [], ◌∷◌, ℤ, All, length, take, drop, refl, sym, ap, ◌∙◌, subst, arith}
+use Rattle.std.proofs.Common.{◌≡◌, ◌≢◌, ◌⊎◌, inl, inr, ℕ, zero, suc, ◌+◌, ◌*◌, ◌/◌, ◌++◌, Bool, true, false, ◌&&◌, not, Option, Some, None, Ok, Err, List, [], ◌∷◌, All, length, take, drop, refl, sym, ap, ◌∙◌, subst, arith}
 use Rattle.std.specs.Prelude.{nat_eq, nat_le, slice_get}
 use Rattle.std.proofs.lemmas.Bool.{and_parts, cases_eq}
 use Rattle.std.proofs.lemmas.Bool.Decides.{nat_tests}
@@ -18,16 +18,16 @@ use Rattle.dv_defs.specs.Decoding.{Sized, insn_here, is_zero}
 use Rattle.dv_defs.specs.Families.{Family, family_at}
 use Rattle.dv_defs.specs.Images.{Image}
 use Rattle.dv_defs.specs.Numbers.{elements, jump, low_first, signed_at}
-use Rattle.dv_defs.specs.Op.{Arg, class_of_base, Code, Lit, Op, Reg, Resolved, IntDivide, IntOp, LongDivide, LongOp, LongShift, New, StaticGet, StaticPut, ConstString, FieldGet, FieldPut, Fill, Invoke, code_at, fill_op, int_op, long_op, move_op, new_op, on_pool, op_of, packed_op, resolve, resolve_by, resolved_field, resolved_method, result_op, sparse_op}
-use Rattle.dv_defs.specs.Parts.{Bin, Call, Suffix, Test, Unary, Width, is_division, is_shift}
+use Rattle.dv_defs.specs.Op.{Arg, class_of_base, Code, Op, Resolved, IntDivide, IntOp, LongDivide, LongOp, LongShift, New, StaticGet, StaticPut, ConstString, FieldGet, FieldPut, Fill, Invoke, code_at, fill_op, int_op, long_op, move_op, new_op, on_pool, op_of, packed_op, resolve, resolve_by, resolved_field, resolved_method, result_op, sparse_op}
+use Rattle.dv_defs.specs.Parts.{Bin, Call, Suffix, Width, is_division, is_shift}
 use Rattle.dv_defs.specs.Pools.{Field, Method, field_at, is_interface, is_static_field, method_at}
-use Rattle.dv_defs.specs.Statics.{At, arg_words, fetch, fetch_in, fits_call, fits_instance_field, insn_rules, is_of_suffix, moves_on, op_rules, registers_below, resolved_rules, unless}
-use Rattle.dv_defs.specs.Tiling.{IsInsn, IsPayload, Item, Piece, SizedPayload, begins_payload, bytes_in, data_in, data_of, data_from, doubles, insn_piece, is_width, packed_with, payload_at, payload_of, payload_piece, piece_here, sparse_with, tiles_in, tiling}
+use Rattle.dv_defs.specs.Statics.{arg_words, fetch, fetch_in, fits_call, fits_instance_field, insn_rules, is_of_suffix, moves_on, op_rules, registers_below, resolved_rules, unless}
+use Rattle.dv_defs.specs.Tiling.{IsInsn, IsPayload, Piece, SizedPayload, begins_payload, bytes_in, data_in, data_of, data_from, doubles, insn_piece, is_width, packed_with, payload_at, payload_of, payload_piece, piece_here, sparse_with}
 use Rattle.dv_defs.specs.Types.{is_array}
 use Rattle.dv_words.specs.Standing.{FitsInt}
-use Rattle.dv_steps.specs.Fetching.{IsFetched, IsSpelled, IsThere, StandsAt}
-use Rattle.dv_steps.specs.Laws.{ArgFits, ConstantFits, IsUnit, OperandsFit}
-use Rattle.dv_steps.specs.StepLaws.{CallFits, FetchedOperandsFit, ImageFits, OperationsFit, StringsFit}
+use Rattle.dv_steps.specs.Fetching.{StandsAt}
+use Rattle.dv_steps.specs.Laws.{ArgFits, OperandsFit}
+use Rattle.dv_steps.specs.StepLaws.{CallFits, FetchedOperandsFit, ImageFits, StringsFit}
 use Rattle.dv_steps.proofs.Fetching.{fetched_is_decoded, fetched_is_there, payloads_are_there, tiles_are}
 use Rattle.dv_steps.proofs.Operands.{has_literal, literal_fits, signed_16, signed_32, signed_8}
 

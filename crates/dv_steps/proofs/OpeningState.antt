@@ -1,11 +1,10 @@
 -- The words in which a run begins stand for the tagged machine's opening state.
-use Rattle.std.proofs.Common.{◌≡◌, ℕ, zero, suc, ◌+◌, ◌<◌, ◌^◌, ◌++◌, Bool, true, false, Option, Some, None, List, [], ◌∷◌, All, length, map, replicate, refl, sym, ap, ◌∙◌, subst, arith}
+use Rattle.std.proofs.Common.{◌≡◌, ℕ, suc, ◌+◌, ◌<◌, ◌^◌, Bool, true, false, Option, Some, None, List, [], ◌∷◌, All, length, replicate, refl, arith}
 use Rattle.std.specs.Prelude.{if◌then◌else◌}
 use Rattle.std.specs.List.{AllZip}
 use Rattle.dv_defs.specs.declared.image.FieldInfo.{FieldInfo}
 use Rattle.dv_defs.specs.declared.machine.Kind.{Kind}
 use Rattle.dv_defs.specs.declared.machine.Kind.TheVariants as kind_of_tagged
-use Rattle.dv_defs.specs.declared.machine.Level.TheVariants as level_of_tagged
 use Rattle.dv_defs.specs.declared.names.Base.TheVariants as base
 use Rattle.dv_defs.specs.declared.run.Limits.{Limits}
 use Rattle.dv_defs.specs.declared.run.Value.{Value}
@@ -20,7 +19,6 @@ use Rattle.dv_machine.specs.Opening as machine
 use Rattle.dv_machine.specs.Opening.{is_born, is_out, string_of, takes_array}
 use Rattle.dv_machine.specs.Unwinding.{number_named}
 use Rattle.dv_words.proofs.Erasing.{stand_lists}
-use Rattle.dv_words.specs.declared.state.Level.TheVariants as level
 use Rattle.dv_words.specs.Erasure.{erased_kind}
 use Rattle.dv_words.specs.Heaps as words
 use Rattle.dv_words.specs.Standing.{AreWords, HeapStands, IsWord, LevelsStand, MachineStands, ObjectStands}
@@ -144,13 +142,16 @@ module _ (image : Image) (m : Method) (l : Limits) (whole : StaticsAreWhole imag
   levels_stand false = ((refl, refl), (entered_stands m _ _ false args_stand, tt))
 
   opening_stands : MachineStands (over.opening image m l) (machine.opening image m l) × IsBounded (machine.opening image m l).shared.heap
-  opening_stands = (record {
-    threads = (record { levels = levels_stand (is_born image m.info.class.0); end = refl; object = refl }, tt);
-    shared = record { heap = heap_stands; classes = refl; monitors = refl; output = refl };
-    steps = refl;
-    stop = refl;
-    limits = refl;
-  }, bounded)
+  opening_stands = (
+    record {
+      threads = (record { levels = levels_stand (is_born image m.info.class.0); end = refl; object = refl }, tt);
+      shared = record { heap = heap_stands; classes = refl; monitors = refl; output = refl };
+      steps = refl;
+      stop = refl;
+      limits = refl;
+    },
+    bounded,
+  )
 
 pub opening_stand : OpeningStands
 opening_stand image m l whole texts few = opening_stands image m l whole texts few

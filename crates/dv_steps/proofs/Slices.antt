@@ -1,10 +1,10 @@
 -- Local instructions of a frame are steps of its thread.
-use Rattle.std.proofs.Common.{◌≡◌, ℕ, zero, suc, ◌+◌, ◌++◌, Bool, true, false, ◌&&◌, not, Option, Some, None, List, [], ◌∷◌, refl, sym, ap, ◌∙◌, subst, arith}
+use Rattle.std.proofs.Common.{◌≡◌, ℕ, zero, suc, ◌+◌, ◌++◌, Bool, true, false, Option, Some, None, List, [], ◌∷◌, refl, sym, ap, ◌∙◌, arith}
 use Rattle.std.specs.Prelude.{slice_get, slice_set}
 use Rattle.dv_defs.specs.declared.machine.End.{End}
 use Rattle.dv_defs.specs.declared.machine.End.TheVariants as end
 use Rattle.dv_defs.specs.Images.{Image}
-use Rattle.dv_defs.specs.Op.{ArrayGet, ArrayLength, ArrayPut, Cast, Code, ConstClass, ConstString, Enter, Exit, FieldGet, FieldPut, Fill, Filled, InstanceOf, IntDivide, LongDivide, NewArray, Op, Invoke, New, Return, ReturnVoid, StaticGet, StaticPut, Throw, code_at, code_of, is_local, needs, with_body}
+use Rattle.dv_defs.specs.Op.{ArrayGet, ArrayLength, ArrayPut, Cast, Code, ConstClass, ConstString, Enter, Exit, FieldGet, FieldPut, Fill, Filled, InstanceOf, IntDivide, LongDivide, NewArray, Op, Invoke, New, Return, ReturnVoid, StaticGet, StaticPut, Throw, code_at, code_of, is_local, needs}
 use Rattle.dv_defs.specs.Pools.{Method, method_at}
 use Rattle.dv_defs.specs.Statics.{At, fetch, fetch_in}
 use Rattle.dv_words.specs.declared.state.Frame.{Frame}
@@ -12,7 +12,7 @@ use Rattle.dv_words.specs.declared.state.Level.{Level}
 use Rattle.dv_words.specs.declared.state.Level.TheVariants as level
 use Rattle.dv_words.specs.State.{WordMachine, WordThread}
 use Rattle.dv_steps.specs.Local.{word_local}
-use Rattle.dv_steps.specs.Step.{act, here, settled, step, step_at, step_code, step_living, step_of, step_thread, with_ready}
+use Rattle.dv_steps.specs.Step.{act, here, settled, step, step_at, step_code, step_living, step_of, with_ready}
 use Rattle.dv_steps.specs.StepLaws.{LocalsAreSteps, steps_of, with_top}
 use Rattle.dv_steps.specs.Stepping.{local_by, local_here, locals_here, on_frame}
 use Rattle.dv_steps.specs.Steps as steps
