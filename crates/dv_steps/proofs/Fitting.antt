@@ -210,11 +210,12 @@ module _ (image : Image) (n : ℕ) (code : Code) (at : ℕ) (i : Insn) (op : Op)
   same_op : (a b : Op) → (let r : Resolved = Ok a in r) ≡ Ok b → a ≡ b
   same_op a b e = cc
 
-  -- of an instance field
-  instance_field : (s : Suffix) (x : Field) → unless (fits_instance_field image s x) (rule.S 13) ≡ [] → is_static_field x ≡ false
+  -- of an instance field, which no interface declares
+  instance_field : (s : Suffix) (x : Field) → unless (fits_instance_field image s x) (rule.S 13) ≡ [] → (is_static_field x ≡ false) × (is_interface image x.info.class.0 ≡ false)
   instance_field s x none =
-      let fits = kept_to (fits_instance_field image s x) (rule.S 13) none in
-      not_true (is_static_field x) (and_parts (not (is_static_field x)) (is_of_suffix s x.def.ty) (and_parts (not (is_static_field x) && is_of_suffix s x.def.ty) (not (is_interface image x.info.class.0)) fits).0).0
+      let fits = and_parts (not (is_static_field x) && is_of_suffix s x.def.ty) (not (is_interface image x.info.class.0)) (kept_to (fits_instance_field image s x) (rule.S 13) none) in
+      let instance = and_parts (not (is_static_field x)) (is_of_suffix s x.def.ty) fits.0 in
+      (not_true (is_static_field x) instance.0, not_true (is_interface image x.info.class.0) fits.1)
     where
       not_true : (b : Bool) → not b ≡ true → b ≡ false
       not_true true e = absurd (cc)
@@ -231,12 +232,14 @@ module _ (image : Image) (n : ℕ) (code : Code) (at : ℕ) (i : Insn) (op : Op)
   got_field : (s : Suffix) (a b k : ℕ) (x : Field) → field_at image k ≡ Some x → FieldGet s a b x ≡ op → Fit image op
   got_field s a b k x there same =
       let none : op_rules image code (FieldGet s a b x) ≡ [] = ap (op_rules image code) same ∙ rules in
-      subst (Fit image) same (image_fits.no_strings k x there (instance_field s x none), tt)
+      let (instance, concrete) = instance_field s x none in
+      subst (Fit image) same (image_fits.no_strings k x there instance concrete, tt)
 
   put_field : (s : Suffix) (a b k : ℕ) (x : Field) → field_at image k ≡ Some x → FieldPut s a b x ≡ op → Fit image op
   put_field s a b k x there same =
       let none : op_rules image code (FieldPut s a b x) ≡ [] = ap (op_rules image code) same ∙ rules in
-      subst (Fit image) same (image_fits.no_strings k x there (instance_field s x none), tt)
+      let (instance, concrete) = instance_field s x none in
+      subst (Fit image) same (image_fits.no_strings k x there instance concrete, tt)
 
   method_by : (c : Call) (ks : List ℕ) (m : Option MethodId) → Is (on_pool (resolved_method image m) (λ g. Ok (Invoke c ks g))) → Fit image op
   method_by c ks None e = absurd (cc)

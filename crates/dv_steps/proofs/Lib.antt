@@ -17,8 +17,8 @@ mod Arguments
 mod CallSteps
 mod ActSteps
 mod RecordSteps
-mod ThreadStep
+pub mod ThreadStep
 mod Operands
-mod Fitting
+pub mod Fitting
 mod OpeningState
 mod Slices

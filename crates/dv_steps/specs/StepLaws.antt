@@ -11,7 +11,7 @@ use Rattle.dv_defs.specs.declared.run.Value.TheVariants as v
 use Rattle.dv_defs.specs.Heap.{Heap, cells_at, kind_of}
 use Rattle.dv_defs.specs.Images.{Image}
 use Rattle.dv_defs.specs.Op.{Code, Op, Invoke, code_at}
-use Rattle.dv_defs.specs.Pools.{Field, Method, field_at, is_static_field, method_at}
+use Rattle.dv_defs.specs.Pools.{Field, Method, field_at, is_interface, is_static_field, method_at}
 use Rattle.dv_defs.specs.Statics as statics
 use Rattle.dv_defs.specs.Statics.{arg_words, fetch}
 use Rattle.dv_machine.specs.Accepted.{FindsRightly, HasBodies}
@@ -33,11 +33,13 @@ use Rattle.dv_steps.specs.Steps as words
 
 -- ---- what the image gives
 
--- look-ups find what they say, natives have their own prototypes, and strings have no field
+-- look-ups find what they say, natives have their own prototypes, and strings have no field that has a place in an object
 pub record ImageFits (image : Image) : Type 0 where
   pub finds : FindsRightly image
   pub bodies : HasBodies image
-  pub no_strings : (n : ℕ) (x : Field) → field_at image n ≡ Some x → is_static_field x ≡ false → IsNoString image x
+  pub no_strings :
+      (n : ℕ) (x : Field) → field_at image n ≡ Some x → is_static_field x ≡ false → is_interface image x.info.class.0 ≡ false →
+      IsNoString image x
 
 -- an invoke is of a method of the image, and names as many registers as that has argument words
 abbrev pub CallFits : Image → Op → Type 0
