@@ -20,5 +20,5 @@ mod RecordSteps
 pub mod ThreadStep
 mod Operands
 pub mod Fitting
-mod OpeningState
+pub mod OpeningState
 mod Slices

@@ -1,0 +1,4 @@
+mod Fields
+mod Chars
+mod Puts
+mod Steps

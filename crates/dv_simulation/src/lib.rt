@@ -1,0 +1,26 @@
+//! On accepted images the steps on words simulate the tagged machine's: a runnable thread's step is never stuck there, so the words after it stand
+//! for the state after it. Each law is the contract of a function that does nothing.
+#![tactic(auto)]
+
+ghost use Rattle.dv_simulation.specs.Laws.{AcceptedImagesFit, AcceptedStepsFollow, OpeningsAreSimulated, TypedStatesFit};
+
+/// An image that the verifier accepts is what the laws of steps on words take.
+pub fn accepted_images_fit()
+    ensures law { AcceptedImagesFit }
+{}
+
+/// A well-typed state of such an image, with a heap that is counted and short strings and arrays, is what they take.
+pub fn typed_states_fit()
+    ensures law { TypedStatesFit }
+{}
+
+/// From words that stand for a well-typed state, a step of a runnable thread on words leads to words that stand for the state after the tagged
+/// step; that one isn't stuck, and is well typed again.
+pub fn accepted_steps_follow()
+    ensures law { AcceptedStepsFollow }
+{}
+
+/// The words in which a run of a main method begins stand for the tagged machine's opening state, which is well typed and whose heap is bounded.
+pub fn openings_are_simulated()
+    ensures law { OpeningsAreSimulated }
+{}
