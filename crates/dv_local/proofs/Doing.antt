@@ -4,16 +4,23 @@ use Rattle.std.specs.Prelude.{slice_index}
 use Rattle.std.proofs.lemmas.Option.{same_Some}
 use Rattle.dv_defs.specs.declared.code.Insn.{Insn}
 use Rattle.dv_defs.specs.Decoding.{Sized}
+use Rattle.dv_defs.specs.declared.code.Payload.{Payload}
+use Rattle.dv_defs.specs.declared.code.Payload.TheVariants as payload
 use Rattle.dv_defs.specs.Families.{Family, family_at}
+use Rattle.dv_defs.specs.Numbers.{jump}
 use Rattle.dv_defs.specs.Images.{Image}
 use Rattle.dv_defs.specs.Parts.{Bin, Width, is_division, is_shift}
-use Rattle.dv_defs.specs.Op.{Arg, Code, IntDivide, LongDivide, Op, Resolved, int_op, long_op, move_op, result_op, Nop, MoveInt, MoveLong, MoveObject, ResultInt, ResultLong, ResultObject, TakeCaught, Const, ConstLong, IntUnary, LongUnary, IntToLong, LongToInt, IntOp, LongOp, LongShift, CompareLong, Goto, IfBoth, IfZero, Switch, is_local, op_of, resolve, resolve_by}
-use Rattle.dv_defs.specs.Tiling.{tiles_in, tiling}
-use Rattle.dv_steps.specs.Local.{branched, word_local}
+use Rattle.dv_defs.specs.Op.{Arg, Case, cases_packed, cases_sparse, packed_op, reg, sparse_op, Code, IntDivide, LongDivide, Op, Resolved, int_op, long_op, move_op, result_op, Nop, MoveInt, MoveLong, MoveObject, ResultInt, ResultLong, ResultObject, TakeCaught, Const, ConstLong, IntUnary, LongUnary, IntToLong, LongToInt, IntOp, LongOp, LongShift, CompareLong, Goto, IfBoth, IfZero, Switch, is_local, op_of, resolve, resolve_by}
+use Rattle.dv_defs.specs.Tiling.{Tile, payload_at}
+use Rattle.dv_machine.specs.Local.{case_of}
+use Rattle.dv_steps.specs.Fetching.{IsSpelled}
+use Rattle.dv_steps.specs.Local.{branched, int_at, word_local}
+use Rattle.dv_words.specs.Stacks.{gone}
 use Rattle.dv_words.specs.declared.state.Frame.{Frame}
 use Rattle.dv_local.specs.declared.here.Here.{Here}
 use Rattle.dv_local.specs.Spelled.{Did, IsOpHere}
 use Rattle.dv_local.proofs.Formats.{IsInsn, sized_as}
+use Rattle.dv_local.proofs.Payloads.{payloads_are_there}
 
 same_op : (o p : Op) → (let r : Resolved = Ok o in r) ≡ Ok p → o ≡ p
 same_op o p e = cc
@@ -119,3 +126,55 @@ same_three f a a' b b' c c' p q r = ap (λ x. f x b c) p ∙ same_two (f a') b b
 
 pub same_four : {A B C D : Type 0} (f : A → B → C → D → Frame) (a a' : A) (b b' : B) (c c' : C) (d d' : D) → a ≡ a' → b ≡ b' → c ≡ c' → d ≡ d' → f a b c d ≡ f a' b' c' d'
 same_four f a a' b b' c c' d d' p q r s = ap (λ x. f x b c d) p ∙ same_three (f a') b b' c c' d d' q r s
+
+-- ---- switches
+
+-- a switch goes on where its cases say
+module _ (h : Here) (s t : Frame) (a to n : ℕ) (goes : t ≡ gone s to) where
+  abbrev Leads : List Case → Type 0
+  Leads cases = to ≡ case_of cases (int_at s a) n
+
+  at_switch : (cases : List Case) (op : Op) → Leads cases → (let o : Op = Switch a cases in o) ≡ op → (is_local op ≡ true) × (t ≡ word_local op s n)
+  at_switch cases op l e = (subst (λ (o : Op). is_local o ≡ true) e refl, goes ∙ ap (gone s) l ∙ ap (λ (o : Op). word_local o s n) e)
+
+  abbrev PackedLead : List ℕ → ℕ → Type 0
+  PackedLead units place = (first : ℤ) (targets : List ℤ) → IsSpelled units place (payload.Packed first targets) → Leads (cases_packed h.at first targets)
+
+  abbrev SparseLead : List ℕ → ℕ → Type 0
+  SparseLead units place = (keys targets : List ℤ) → IsSpelled units place (payload.Sparse keys targets) → Leads (cases_sparse h.at keys targets)
+
+  at_packed : (place : ℕ) (o : Option Payload) (op : Op) → ((p : Payload) → o ≡ Some p → IsSpelled h.units.now place p) → PackedLead h.units.now place → packed_op h.at a o ≡ Ok op → (is_local op ≡ true) × (t ≡ word_local op s n)
+  at_packed place None op there l e = absurd (cc)
+  at_packed place (Some (payload.Sparse ks ts)) op there l e = absurd (cc)
+  at_packed place (Some (payload.Data w bs)) op there l e = absurd (cc)
+  at_packed place (Some (payload.Packed k ts)) op there l e = at_switch (cases_packed h.at k ts) op (l k ts (there (payload.Packed k ts) refl)) (same_op _ op e)
+
+  at_sparse : (place : ℕ) (o : Option Payload) (op : Op) → ((p : Payload) → o ≡ Some p → IsSpelled h.units.now place p) → SparseLead h.units.now place → sparse_op h.at a o ≡ Ok op → (is_local op ≡ true) × (t ≡ word_local op s n)
+  at_sparse place None op there l e = absurd (cc)
+  at_sparse place (Some (payload.Packed k ts)) op there l e = absurd (cc)
+  at_sparse place (Some (payload.Data w bs)) op there l e = absurd (cc)
+  at_sparse place (Some (payload.Sparse ks ts)) op there l e = at_switch (cases_sparse h.at ks ts) op (l ks ts (there (payload.Sparse ks ts) refl)) (same_op _ op e)
+
+  -- what the items have there is spelled there
+  spelled : (op : Op) (next : ℕ) (x : IsOpHere h op next) (place : ℕ) (p : Payload) → payload_at x.code.tiles place ≡ Some p → IsSpelled h.units.now place p
+  spelled op next x place p e = payloads_are_there h.units.now place p (ap (λ (ts : List Tile). payload_at ts place) (sym x.tiles) ∙ e)
+
+  did_all : ((op : Op) (next : ℕ) → IsOpHere h op next → (is_local op ≡ true) × (t ≡ word_local op s next)) → Did h s t
+  did_all all = record { method = ap (λ (g : Frame). g.method) goes; local = λ op next x. (all op next x).0; goes = λ op next x. (all op next x).1 }
+
+  at_next : (op : Op) (next : ℕ) → next ≡ n → (is_local op ≡ true) × (t ≡ word_local op s n) → (is_local op ≡ true) × (t ≡ word_local op s next)
+  at_next op next e r = (r.0, r.1 ∙ ap (word_local op s) (sym e))
+
+  pub did_packed : (size : ℕ) (i : Insn) → n ≡ h.at + size → reg i 0 ≡ a → IsInsn h size i → family_at i.op ≡ Some Family.PackedSwitch → PackedLead h.units.now (jump h.at i.off) → Did h s t
+  did_packed size i sized named is f l = did_all (λ op next x.
+      let r = resolves h size i Family.PackedSwitch op next is f x in
+      at_next op next (r.1 ∙ sym sized)
+      (at_packed (jump h.at i.off) (payload_at x.code.tiles (jump h.at i.off)) op (spelled op next x (jump h.at i.off)) l
+      (ap (λ (b : ℕ). packed_op h.at b (payload_at x.code.tiles (jump h.at i.off))) (sym named) ∙ r.0)))
+
+  pub did_sparse : (size : ℕ) (i : Insn) → n ≡ h.at + size → reg i 0 ≡ a → IsInsn h size i → family_at i.op ≡ Some Family.SparseSwitch → SparseLead h.units.now (jump h.at i.off) → Did h s t
+  did_sparse size i sized named is f l = did_all (λ op next x.
+      let r = resolves h size i Family.SparseSwitch op next is f x in
+      at_next op next (r.1 ∙ sym sized)
+      (at_sparse (jump h.at i.off) (payload_at x.code.tiles (jump h.at i.off)) op (spelled op next x (jump h.at i.off)) l
+      (ap (λ (b : ℕ). sparse_op h.at b (payload_at x.code.tiles (jump h.at i.off))) (sym named) ∙ r.0)))

@@ -1,3 +1,4 @@
 pub mod Doing
 pub mod Formats
+pub mod Payloads
 pub mod Switches
