@@ -1,4 +1,5 @@
 pub mod Doing
 pub mod Formats
+pub mod Opcodes
 pub mod Payloads
 pub mod Switches
