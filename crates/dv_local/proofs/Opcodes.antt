@@ -1,9 +1,11 @@
 -- Which opcodes are those of local instructions.
 use Rattle.std.proofs.Common.{◌≡◌, ℕ, zero, suc, ◌<◌, ◌%◌, ◌/◌, ◌∷◌, [], List, Bool, true, false, ◌&&◌, ◌||◌, Option, Some, None, option_map, refl, sym, ap, ◌∙◌, subst, arith, mod-lt, lit<}
-use Rattle.std.specs.Prelude.{nat_eq}
+use Rattle.std.specs.Prelude.{nat_eq, nat_le, nat_lt, take, drop}
+use Rattle.std.specs.List.{list_all}
+use Rattle.dv_defs.specs.Spelling.{few, neighbours, with_index}
 use Rattle.std.specs.Bool.{beq}
 use Rattle.std.proofs.lemmas.Bool.{agree_below_at}
-use Rattle.dv_defs.specs.Decoding.{Sized, insn_here, range_call, read_by, read_in, short_call, where_valid, where_zero}
+use Rattle.dv_defs.specs.Decoding.{Sized, five, insn_here, is_zero, read_by, read_in, sized, where_valid, where_zero}
 use Rattle.dv_defs.specs.Formats.{Format, F10x, F12x, F11n, F11x, F10t, F20t, F22x, F21t, F21s, F21h, F21c, F23x, F22b, F22t, F22s, F22c, F30t, F32x, F31i, F31t, F31c, F35c, F3rc, F51l, format_at}
 use Rattle.dv_defs.specs.Op as machine
 use Rattle.dv_defs.specs.Op.{Op}
@@ -76,10 +78,10 @@ has_opcode F31c op a (v ∷ []) = tt
 has_opcode F31c op a (v ∷ w ∷ us) = refl
 has_opcode F35c op a [] = tt
 has_opcode F35c op a (v ∷ []) = tt
-has_opcode F35c op a (v ∷ w ∷ us) = valid_has op _ _ refl
+has_opcode F35c op a (v ∷ w ∷ us) = valid_has op (nat_le (a / 16) 5 && list_all is_zero (drop (a / 16) (five (a % 16) w))) (sized 3 (with_index op (few (take (a / 16) (five (a % 16) w))) v)) refl
 has_opcode F3rc op a [] = tt
 has_opcode F3rc op a (v ∷ []) = tt
-has_opcode F3rc op a (v ∷ w ∷ us) = valid_has op _ _ refl
+has_opcode F3rc op a (v ∷ w ∷ us) = valid_has op (nat_lt 0 a || nat_eq w 0) (sized 3 (with_index op (neighbours w a) v)) refl
 has_opcode F51l op a [] = tt
 has_opcode F51l op a (v ∷ []) = tt
 has_opcode F51l op a (v ∷ w ∷ []) = tt
@@ -120,7 +122,7 @@ opcode_local k c h e = from_row (table.family_at k) (is_local_opcode k) c (all_s
 pub here_local : (h : Here) (op : Op) (next : ℕ) → IsOpHere h op next → machine.is_local op ≡ is_local_opcode (h.first % 256)
 here_local h op next x =
     let k : x.insn.op ≡ h.first % 256 = opcode_read h.first (rest_of h) (record { insn = x.insn; size = x.size }) x.read in
-    let few : h.first % 256 < 256 = mod-lt h.first 256 (lit< tt) in
+    let few : h.first % 256 < 256 = mod-lt h.first (lit< tt) in
     let small : x.insn.op < 256 = omega (arith, k, few) in
     sym (ap is_local_opcode (sym k) ∙ opcode_local x.insn.op (machine.is_local op) small (locals_agree x.image x.code h.at x.insn op small x.resolved))
 
@@ -162,4 +164,4 @@ are_all : (n : ℕ) → n < 256 → is_local_opcode n ≡ has n local_opcodes
 are_all n h = agree_below_at is_local_opcode (λ k. has k local_opcodes) 256 n refl h
 
 pub none_local : (h : Here) (s : Frame) → IsNone (h.first % 256) local_opcodes → SteppedHere h false s s
-none_local h s e = not_done h s (are_all (h.first % 256) (mod-lt h.first 256 (lit< tt)) ∙ has_not (h.first % 256) local_opcodes e)
+none_local h s e = not_done h s (are_all (h.first % 256) (mod-lt h.first (lit< tt)) ∙ has_not (h.first % 256) local_opcodes e)
