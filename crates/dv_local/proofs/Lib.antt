@@ -1,5 +1,6 @@
 pub mod Doing
 pub mod Formats
+pub mod Looping
 pub mod Opcodes
 pub mod Payloads
 pub mod Switches

@@ -4,6 +4,7 @@
 mod arithmetic;
 mod branching;
 mod dispatch;
+mod frames;
 mod here;
 mod moving;
 mod numbers;
@@ -11,5 +12,7 @@ mod spelled_arithmetic;
 mod spelled_branches;
 mod spelled_moves;
 mod step;
+mod tops;
 
-pub use step::run;
+pub use frames::{is_local, local_step, run_slice};
+pub use tops::{step_top, steps_top};
