@@ -3,7 +3,7 @@ use Rattle.std.specs.Prelude.{◌≡◌, ◌≤◌, ℕ, Bool, true, false, List
 use Rattle.dv_defs.specs.Images.{Image}
 use Rattle.dv_defs.specs.Op.{Code, Op, code_at, is_local}
 use Rattle.dv_steps.specs.Local.{word_local}
-use Rattle.dv_steps.specs.Stepping.{RanLocally}
+use Rattle.dv_steps.specs.Stepping.{RanLocally, StepsLocally}
 use Rattle.dv_words.specs.declared.state.Frame.{Frame}
 use Rattle.dv_local.specs.Spelled.{IsOp}
 
@@ -24,3 +24,7 @@ pub record HasUnits (image : Image) (n : ℕ) (units : List ℕ) : Type 0 where
 pub record RanUnits (units : List ℕ) (most done : ℕ) (s t : Frame) : Type 0 where
   pub few : done ≤ most
   pub ran : (image : Image) → HasUnits image s.method.0 units → RanLocally image most done s t
+
+-- a step, in each image where the frame's method has these units
+pub record StepsUnits (units : List ℕ) (done : Bool) (s t : Frame) : Type 0 where
+  pub steps : (image : Image) → HasUnits image s.method.0 units → StepsLocally image done s t

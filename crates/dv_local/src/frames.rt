@@ -7,7 +7,7 @@ ghost use Rattle.dv_frames.specs.Heads.{frame as framed, head_in};
 ghost use Rattle.dv_steps.specs.Stepping.{RanLocally, StepsLocally};
 ghost use Rattle.dv_local.specs.Units.{HasUnits};
 
-use crate::step::{is_local_opcode, run, step};
+use crate::step::{is_local_opcode, run, step_once};
 use dv_defs::{Image, Insn, MethodId};
 use dv_frames::Head;
 use dv_ops::{Coded, coded_at};
@@ -70,7 +70,7 @@ pub fn local_step(image: &Image, frame: &mut Frame) -> bool
         return false;
     };
     let mut head = head_of(frame);
-    let done = step(units, frame.regs.items_mut(), &mut head);
+    let done = step_once(units, frame.regs.items_mut(), &mut head);
     set_head(frame, head);
     done
 }

@@ -8,6 +8,7 @@ mod frames;
 mod here;
 mod moving;
 mod numbers;
+mod slice;
 mod spelled_arithmetic;
 mod spelled_branches;
 mod spelled_moves;
@@ -15,4 +16,5 @@ mod step;
 mod tops;
 
 pub use frames::{is_local, local_step, run_slice};
+pub use slice::Slice;
 pub use tops::{step_top, steps_top};

@@ -2,7 +2,7 @@
 ghost use Rattle.std.specs.Prelude.{◌≡◌, ◌≤◌, ◌<◌, length, false};
 ghost use Rattle.dv_frames.specs.Heads.{frame};
 ghost use Rattle.dv_local.specs.Local.{is_local_opcode};
-ghost use Rattle.dv_local.specs.Units.{RanUnits, SteppedUnits};
+ghost use Rattle.dv_local.specs.Units.{RanUnits, StepsUnits, SteppedUnits};
 
 use crate::dispatch::step_here;
 use crate::here::Here;
@@ -36,7 +36,7 @@ pub fn is_local_opcode(opcode: u8) -> bool
 
 /// Does the instruction at the head's address, where it is a local one; else nothing changes.
 #[inline(always)]
-pub fn step(units: &[u16], words: &mut [u32], head: &mut Head) -> bool
+fn step(units: &[u16], words: &mut [u32], head: &mut Head) -> bool
     requires { length units.now ≤ 16384 }
     ensures { SteppedUnits units.now result (frame head.old words.old) (frame head.new words.new) }
 {
@@ -50,6 +50,14 @@ pub fn step(units: &[u16], words: &mut [u32], head: &mut Head) -> bool
         first: units[place],
     };
     step_here(&here, words, head)
+}
+
+/// Does the instruction at the head's address in each image with these units, where it is a local one; else nothing changes.
+pub fn step_once(units: &[u16], words: &mut [u32], head: &mut Head) -> bool
+    requires { length units.now ≤ 16384 }
+    ensures { StepsUnits units.now result (frame head.old words.old) (frame head.new words.new) }
+{
+    step(units, words, head)
 }
 
 /// Does local instructions one after another, so many at most, up to the first that isn't one; gives how many were done.

@@ -2,10 +2,10 @@
 ghost use Rattle.std.specs.Prelude.{◌≡◌, ◌≤◌, drop, length, take};
 ghost use Rattle.dv_frames.specs.Heads.{frame};
 ghost use Rattle.dv_local.specs.Tops.{RanTop, StepsTop};
-ghost use Rattle.dv_local.specs.Units.{RanUnits, SteppedUnits};
+ghost use Rattle.dv_local.specs.Units.{RanUnits, StepsUnits};
 
 use crate::frames::units_of;
-use crate::step::{run, step};
+use crate::step::{run, step_once};
 use dv_defs::Image;
 use dv_frames::{Head, Stack, base_of, set_last};
 
@@ -14,9 +14,9 @@ fn step_in(units: &[u16], words: &mut [u32], base: usize, head: &mut Head) -> bo
     requires short { length units.now ≤ 16384 }
     requires within { base ≤ length words.old }
     ensures below { take base words.new ≡ take base words.old }
-    ensures stepped { SteppedUnits units.now result (frame head.old (drop base words.old)) (frame head.new (drop base words.new)) }
+    ensures steps { StepsUnits units.now result (frame head.old (drop base words.old)) (frame head.new (drop base words.new)) }
 {
-    step(units, &mut words[base..], head)
+    step_once(units, &mut words[base..], head)
 }
 
 /// Steps of the frame whose words are those from a place of the arena on.
