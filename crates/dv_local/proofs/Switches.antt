@@ -65,9 +65,6 @@ case_found (c ∷ cs) (suc count) key to n next (suc i) h l before e =
 
 -- ---- the cases of lists
 
-
-
-
 plus_zero : (k : ℤ) → k +ℤ pos 0 ≡ k
 plus_zero k = omega (arith, ints)
 
@@ -159,9 +156,11 @@ begins (u ∷ us) p size e = by (begins_payload u) e
     from_payload : (o : Option SizedPayload) → payload_of (u / 256) us ≡ o → payload_piece o ≡ Some (let z : Piece = record { item = IsPayload p; size = size } in z) → Begins (u ∷ us) p size
     from_payload None d f = absurd (cc)
     from_payload (Some x) d f = record { kind = u; rest = us; units = refl; of = d ∙ ap Some (payloads_same x p size f) }
+
     from_insn : (o : Option Sized) → insn_piece o ≡ Some (let z : Piece = record { item = IsPayload p; size = size } in z) → Begins (u ∷ us) p size
     from_insn None f = absurd (cc)
     from_insn (Some x) f = absurd (let d : IsInsn x.insn ≡ IsPayload p = ap (λ (z : Piece). z.item) (same_Some (let z : Piece = record { item = IsInsn x.insn; size = x.size } in z) (record { item = IsPayload p; size = size }) f) in cc d)
+
     by : (b : Bool) → by_begin b u us ≡ Some (let z : Piece = record { item = IsPayload p; size = size } in z) → Begins (u ∷ us) p size
     by true f = from_payload _ refl f
     by false f = from_insn _ f
@@ -238,6 +237,7 @@ packed_units kind (n ∷ vs) first targets size e = by (nat_eq kind 1) (nat_eq k
     from (Some (k ∷ ts)) d f =
         let same : payload.Packed (signed_at 32 k) (signed_all ts) ≡ payload.Packed first targets = ap (λ (z : SizedPayload). z.payload) (same_Some (let z : SizedPayload = record { payload = payload.Packed (signed_at 32 k) (signed_all ts); size = n * 2 + 4 } in z) (record { payload = payload.Packed first targets; size = size }) f) in
         record { count = n; numbers = vs; key = k; cases = ts; units = refl; doubles_are = d; first_is = cc same; targets_are = cc same }
+
     by : (b d : Bool) → IsSized (payload.Packed first targets) size (by_kinds n vs b d) → PackedUnits (n ∷ vs) first targets
     by true d f = from (doubles (suc n) vs) refl f
     by false true f = absurd (let z : 1 ≡ 2 = kind_is 2 _ _ size (sparse_kind n (doubles (n + n) vs)) f in omega (arith, z))
@@ -252,6 +252,7 @@ sparse_units kind (n ∷ vs) keys targets size e = by (nat_eq kind 1) (nat_eq ki
     from (Some xs) d f =
         let same : payload.Sparse (signed_all (take n xs)) (signed_all (drop n xs)) ≡ payload.Sparse keys targets = ap (λ (z : SizedPayload). z.payload) (same_Some (let z : SizedPayload = record { payload = payload.Sparse (signed_all (take n xs)) (signed_all (drop n xs)); size = n * 4 + 2 } in z) (record { payload = payload.Sparse keys targets; size = size }) f) in
         record { count = n; numbers = vs; all = xs; units = refl; doubles_are = d; keys_are = cc same; targets_are = cc same }
+
     by : (b d : Bool) → IsSized (payload.Sparse keys targets) size (by_kinds n vs b d) → SparseUnits (n ∷ vs) keys targets
     by true d f = absurd (let z : 2 ≡ 1 = kind_is 1 _ _ size (packed_kind n (doubles (suc n) vs)) f in omega (arith, z))
     by false true f = from (doubles (n + n) vs) refl f
@@ -292,14 +293,16 @@ packed_cases units at place first targets s =
     let key : p.key ≡ double_at units (place + 2) = number_behind units b.kind p.count p.numbers (p.key ∷ p.cases) (suc p.count) place 0 (place + 2) us d (omega arith) (omega arith) in
     let is_first : first ≡ int_at units (place + 2) = p.first_is ∙ ap (signed_at 32) key in
     let cases : List Case = cases_packed at first targets in
-    let same : cases_packed at first (signed_all p.cases) ≡ cases_packed at first targets = ap (cases_packed at first) (sym p.targets_are) in
-    (is_first, subst (λ (cs : List Case). AreCases cs (slice_index units (place + 1)) (λ j. first +ℤ pos j) (λ j. jump at (int_at units (place + 4 + 2 * j)))) same
-    (record {
-      count_is = packed_length at first p.cases ∙ many;
-      at = λ j l. packed_at at first p.cases j (omega (arith, l, many)) ∙
-          ap (λ (x : ℕ). (let o : Option Case = Some (record { key = first +ℤ pos j; to = jump at (signed_at 32 x) }) in o))
-          (number_behind units b.kind p.count p.numbers (p.key ∷ p.cases) (suc p.count) place (suc j) (place + 4 + 2 * j) us d (omega (arith, l, count)) (omega arith));
-    }))
+    let same : cases_packed at first (signed_all p.cases) ≡ cases_packed at first targets = ap (cases_packed at first) (sym p.targets_are) in (
+      is_first,
+      subst (λ (cs : List Case). AreCases cs (slice_index units (place + 1)) (λ j. first +ℤ pos j) (λ j. jump at (int_at units (place + 4 + 2 * j)))) same
+          (record {
+            count_is = packed_length at first p.cases ∙ many;
+            at = λ j l. packed_at at first p.cases j (omega (arith, l, many)) ∙
+                ap (λ (x : ℕ). (let o : Option Case = Some (record { key = first +ℤ pos j; to = jump at (signed_at 32 x) }) in o))
+                (number_behind units b.kind p.count p.numbers (p.key ∷ p.cases) (suc p.count) place (suc j) (place + 4 + 2 * j) us d (omega (arith, l, count)) (omega arith));
+          }),
+    )
 
 -- the cases of a sparse switch
 pub sparse_cases : (units : List ℕ) (at place : ℕ) (keys targets : List ℤ) → IsSpelled units place (payload.Sparse keys targets) →

@@ -83,7 +83,10 @@ pub fn packed_target(units: &[u16], at: u32, place: usize, value: i32, next: u32
     let first = signed_double(double_at(units, place + 2));
     match case_of_number(first, unit(units, place + 1), value) {
         None => next,
-        Some(case) => jump(at, signed_double(double_at(units, place + 4 + 2 * usize::from(case)))),
+        Some(case) => jump(
+            at,
+            signed_double(double_at(units, place + 4 + 2 * usize::from(case))),
+        ),
     }
 }
 

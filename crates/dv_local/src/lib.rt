@@ -18,3 +18,6 @@ mod tops;
 pub use frames::{is_local, local_step, run_slice};
 pub use slice::Slice;
 pub use tops::{step_top, steps_top};
+
+#[cfg(test)]
+mod tests;

@@ -5,9 +5,7 @@ ghost use Rattle.std.specs.Int.{w32, w64};
 ghost use Rattle.dv_defs.specs.Parts.{Neg, Not, is_division, is_shift};
 ghost use Rattle.dv_units.specs.Tables.{standard_bin, standard_test, standard_unary};
 
-use dv_num::{
-    shl_i32, shl_i64, shr_i32, shr_i64, to_byte, to_char, to_short, ushr_i32, ushr_i64,
-};
+use dv_num::{shl_i32, shl_i64, shr_i32, shr_i64, to_byte, to_char, to_short, ushr_i32, ushr_i64};
 use dv_optable::{Bin, Test, Unary};
 
 /// An address that no instruction has: a body has at most 16,384 units.

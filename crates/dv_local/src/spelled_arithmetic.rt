@@ -92,7 +92,14 @@ pub fn compare_23x(opcode: u8, here: &Here<'_>, words: &mut [u32], head: &mut He
     ensures { Did here.now (frame head.old words.old) (frame head.new words.new) }
 {
     let (a, operands) = (here.high(), here.unit(0));
-    compared_longs(a, operands % 256, operands / 256, here.after(2), words, head);
+    compared_longs(
+        a,
+        operands % 256,
+        operands / 256,
+        here.after(2),
+        words,
+        head,
+    );
 }
 
 /// `AAop CCBB`: an operation on ints, vAA, vBB, vCC.

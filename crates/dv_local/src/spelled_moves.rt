@@ -59,7 +59,14 @@ pub fn move_32x(opcode: u8, width: Width, here: &Here<'_>, words: &mut [u32], he
     requires short { here.now.at < 2 ^ 16 }
     ensures { Did here.now (frame head.old words.old) (frame head.new words.new) }
 {
-    move_register(width, here.unit(0), here.unit(1), here.after(3), words, head);
+    move_register(
+        width,
+        here.unit(0),
+        here.unit(1),
+        here.after(3),
+        words,
+        head,
+    );
 }
 
 /// `AAop`: move-result vAA.

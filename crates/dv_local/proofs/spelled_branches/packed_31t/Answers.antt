@@ -22,6 +22,6 @@ returns c =
     did_packed c.args.here.now (frame c.args.head.now c.args.words.now) _ (c.args.here.now.first / 256) c.packed_target-to.result (c.args.here.now.at + 3) (c.goto.ensures 0) 3 (with_offset c.args.opcode (few (c.args.here.now.first / 256 ∷ [])) (signed_at 32 (double_after c.args.here.now 0))) refl refl
     (read_as c.args.here.now c.args.opcode F31t 3 _ c.requires.opcode c.requires.format (reads_31t c.args.opcode (c.args.here.now.first / 256) (rest_of c.args.here.now))) c.requires.family
     (λ first targets spelled.
-      c.packed_target-to.ensures first targets (subst (λ (p : ℕ). IsSpelled c.args.here.now.units.now p (payload.Packed first targets)) (sym place) spelled) ∙
-      ap (λ v. case_of (cases_packed c.args.here.now.at first targets) v c.after.result) ((let f : SFits w32 c.int_in-value.result = search rules in to_z-of_z w32 c.int_in-value.result f) ∙ value) ∙
-      ap (λ m. case_of (cases_packed c.args.here.now.at first targets) (int_at (frame c.args.head.now c.args.words.now) (c.args.here.now.first / 256)) m) c.after.ensures)
+    c.packed_target-to.ensures first targets (subst (λ (p : ℕ). IsSpelled c.args.here.now.units.now p (payload.Packed first targets)) (sym place) spelled) ∙
+    ap (λ v. case_of (cases_packed c.args.here.now.at first targets) v c.after.result) ((let f : SFits w32 c.int_in-value.result = search rules in to_z-of_z w32 c.int_in-value.result f) ∙ value) ∙
+    ap (λ m. case_of (cases_packed c.args.here.now.at first targets) (int_at (frame c.args.head.now c.args.words.now) (c.args.here.now.first / 256)) m) c.after.ensures)
