@@ -1,4 +1,6 @@
 // Single steps and runs by rows worked by hand from the bytecode format page.
+ghost use Rattle.std.specs.Prelude.{◌≤◌, length};
+
 use crate::step::run;
 use dv_defs::MethodId;
 use dv_frames::{Head, begin, given, handling};
@@ -14,15 +16,24 @@ const LEAST: u32 = 0x8000_0000;
 /// Units, four registers before a step from address 0, these after it, and the address then.
 type Row = (&'static [u16], [u32; 4], [u32; 4], u32);
 
+/// The registers and the address after a step from address 0, and how many were done.
+fn stepped(units: &[u16], before: [u32; 4]) -> ([u32; 4], u32, u32)
+    requires { length units.now ≤ 16384 }
+{
+    let mut words = before;
+    let mut head = begin(METHOD);
+    let done = run(units, &mut words, &mut head, 1);
+    (words, head.at, done)
+}
+
 fn check(rt: &impl Abort, rows: &[Row]) {
     for (units, before, after, at) in rows {
-        let mut words = *before;
-        let mut head = begin(METHOD);
         assert!(rt; units.len() <= 16384);
-        let done = run(units, &mut words, &mut head, 1);
-        assert_eq!(rt; done, 1, "{units:?}");
-        assert_eq!(rt; words, *after, "{units:?} on {before:?}");
-        assert_eq!(rt; head.at, *at, "{units:?} on {before:?}");
+        assert_eq!(rt;
+            stepped(units, *before),
+            (*after, *at, 1),
+            "{units:?} on {before:?}"
+        );
     }
 }
 
