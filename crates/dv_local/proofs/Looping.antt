@@ -1,0 +1,136 @@
+-- From what is spelled at an address to what an image fetches there, and steps one after another.
+use Rattle.std.proofs.Common.{◌≡◌, ◌<◌, ◌≤◌, ℕ, zero, suc, ◌+◌, List, [], ◌∷◌, length, drop, Bool, true, false, Option, Some, None, refl, sym, ap, ◌∙◌, subst, arith, drop-cons, add-one}
+use Rattle.std.specs.Prelude.{slice_index}
+use Rattle.std.proofs.lemmas.Option.{same_Some}
+use Rattle.std.proofs.lemmas.List.{length-drop}
+use Rattle.dv_defs.specs.declared.names.MethodId.{MethodId}
+use Rattle.dv_defs.specs.Decoding.{insn_here}
+use Rattle.dv_defs.specs.Images.{Image}
+use Rattle.dv_defs.specs.Op.{Op, is_local}
+use Rattle.dv_defs.specs.Statics.{At, fetch}
+use Rattle.dv_defs.specs.Tiling.{tiles_in, tiling}
+use Rattle.dv_steps.specs.Local.{word_local}
+use Rattle.dv_steps.specs.Stepping.{RanLocally, StepsLocally, local_by, local_here, locals_here, on_frame}
+use Rattle.dv_steps.proofs.Fetching.{is_fetched, read_here, tiles_are}
+use Rattle.dv_words.specs.declared.state.Frame.{Frame}
+use Rattle.dv_local.specs.declared.here.Here.{Here}
+use Rattle.dv_local.specs.Spelled.{IsOp, IsOpHere, SteppedHere, rest_of}
+use Rattle.dv_local.specs.Units.{HasUnits, RanUnits, SteppedUnits}
+
+-- ---- at an address of units
+
+module _ (h : Here) (done : Bool) (s t : Frame) (at : s.at ≡ h.at) (split : drop h.at h.units.now ≡ h.first ∷ rest_of h) where
+  op_here : (op : Op) (next : ℕ) → IsOp h.units.now s.at (drop s.at h.units.now) op next → IsOpHere h op next
+  op_here op next x =
+      let y : IsOp h.units.now h.at (drop h.at h.units.now) op next = subst (λ (n : ℕ). IsOp h.units.now n (drop n h.units.now) op next) at x in
+      subst (λ (us : List ℕ). IsOp h.units.now h.at us op next) split y
+
+  pub stepped : SteppedHere h done s t → SteppedUnits h.units.now done s t
+  stepped d = record {
+    method = d.method;
+    local = λ op next x. d.local op next (op_here op next x);
+    goes = λ op next x e. d.goes op next (op_here op next x) e;
+    stays = d.stays;
+  }
+
+pub split_at : (units : List ℕ) (at : ℕ) → at < length units → drop at units ≡ slice_index units at ∷ drop (suc at) units
+split_at units at l = drop-cons units at 0 l
+
+no_units : (units : List ℕ) → length units ≡ 0 → units ≡ []
+no_units [] e = refl
+no_units (u ∷ us) e = absurd (let d : suc (length us) ≡ 0 = e in omega (arith, d))
+
+-- past the end nothing is spelled
+pub past_end : (units : List ℕ) (s : Frame) → length units ≤ s.at → SteppedUnits units false s s
+past_end units s l = record {
+  method = refl;
+  local = λ op next x. absurd (none op next x);
+  goes = λ op next x e. absurd (cc e);
+  stays = λ e. refl;
+}
+  where
+    none : (op : Op) (next : ℕ) → IsOp units s.at (drop s.at units) op next → ⊥
+    none op next x =
+        let e : drop s.at units ≡ [] = no_units (drop s.at units) (omega (arith, length-drop s.at units, l)) in
+        let d : None ≡ Some (record { insn = x.insn; size = x.size }) = sym (ap insn_here e) ∙ x.read in cc d
+
+-- ---- what is fetched is spelled there
+
+pub fetched_op : (image : Image) (n at : ℕ) (units : List ℕ) (x : At) → HasUnits image n units → fetch image n at ≡ Some x → IsOp units at (drop at units) x.op x.next
+fetched_op image n at units x u e =
+    let r = read_here image n at units x (record { code = u.code; has_code = u.has_code; same_units = u.same_units; has_at = e }) in
+    let read = subst (λ (us : List ℕ). insn_here (drop at us) ≡ Some (record { insn = r.insn; size = r.size })) (sym u.same_units) r.read in
+    let f = is_fetched image u.code at r.insn r.size x n u.has_code e read in
+    record {
+      image = image;
+      code = u.code;
+      tiles = tiles_are image n u.code u.has_code ∙ ap (λ (us : List ℕ). tiles_in (tiling us)) u.same_units;
+      insn = r.insn;
+      size = r.size;
+      read = r.read;
+      resolved = f.op;
+      after = r.next;
+    }
+
+-- a step over units is a step of an image
+pub steps_locally : (image : Image) (units : List ℕ) (done : Bool) (s t : Frame) → HasUnits image s.method.0 units → SteppedUnits units done s t → StepsLocally image done s t
+steps_locally image units done s t u d = record {
+  local = λ x e. d.local x.op x.next (fetched_op image s.method.0 s.at units x u e);
+  goes = λ x e l. d.goes x.op x.next (fetched_op image s.method.0 s.at units x u e) (sym (d.local x.op x.next (fetched_op image s.method.0 s.at units x u e)) ∙ l);
+  stays = d.stays;
+}
+
+-- ---- one after another
+
+-- so many steps lead there, in each image where the method has these units
+pub record Reached (units : List ℕ) (n : ℕ) (s t : Frame) : Type 0 where
+  pub method : t.method ≡ s.method
+  pub there : (image : Image) → HasUnits image s.method.0 units → (u : Frame) → locals_here image n s ≡ Some u → t ≡ u
+
+pub reached_start : (units : List ℕ) (s : Frame) → Reached units 0 s s
+reached_start units s = record { method = refl; there = λ image u v e. same_Some s v e }
+
+has_units_of : (image : Image) (m n : MethodId) (units : List ℕ) → m ≡ n → HasUnits image n.0 units → HasUnits image m.0 units
+has_units_of image m n units e u = subst (λ (k : MethodId). HasUnits image k.0 units) (sym e) u
+
+abbrev by_local : Bool → Frame → Option Frame
+by_local b f = elim b [ true ↦ Some f | false ↦ None ]
+
+module _ (image : Image) (units : List ℕ) (t v : Frame) (u : HasUnits image t.method.0 units) (d : SteppedUnits units true t v) where
+  local_op : (x : At) (b : Bool) (w : Frame) → fetch image t.method.0 t.at ≡ Some x → by_local b (word_local x.op t x.next) ≡ Some w → v ≡ w
+  local_op x false w f e = absurd (cc e)
+  local_op x true w f e = d.goes x.op x.next (fetched_op image t.method.0 t.at units x u f) refl ∙ same_Some _ w e
+
+  local_at : (o : Option At) (w : Frame) → fetch image t.method.0 t.at ≡ o → local_by o t ≡ Some w → v ≡ w
+  local_at None w f e = absurd (cc e)
+  local_at (Some x) w f e = local_op x (is_local x.op) w f e
+
+  local_next : (w : Frame) → local_here image t ≡ Some w → v ≡ w
+  local_next w e = local_at (fetch image t.method.0 t.at) w refl e
+
+pub reached_on : (units : List ℕ) (n : ℕ) (s t v : Frame) → Reached units n s t → SteppedUnits units true t v → Reached units (suc n) s v
+reached_on units n s t v r d = record { method = d.method ∙ r.method; there = λ image u w e. by image u w (locals_here image n s) refl e }
+  where
+    by : (image : Image) → HasUnits image s.method.0 units → (w : Frame) (o : Option Frame) → locals_here image n s ≡ o → on_frame o (local_here image) ≡ Some w → v ≡ w
+    by image u w None f e = absurd (cc e)
+    by image u w (Some p) f e =
+        let same : t ≡ p = r.there image u p f in
+        local_next image units t v (has_units_of image t.method s.method units r.method u) d w (ap (local_here image) same ∙ e)
+
+-- all that may be done was done
+pub ran_all : (units : List ℕ) (most : ℕ) (s t : Frame) → Reached units most s t → RanUnits units most most s t
+ran_all units most s t r = record {
+  few = omega arith;
+  ran = λ image u. record { few = omega arith; reached = r.there image u; whole = λ l x e. absurd (omega (arith, l)) };
+}
+
+-- no local instruction stands where it ended
+pub ran_some : (units : List ℕ) (most done : ℕ) (s t v : Frame) → done ≤ most → Reached units done s t → SteppedUnits units false t v → RanUnits units most done s v
+ran_some units most done s t v l r d = record {
+  few = l;
+  ran = λ image u.
+      let same : v ≡ t = d.stays refl in
+      let has = has_units_of image t.method s.method units r.method u in
+      subst (λ (w : Frame). RanLocally image most done s w) (sym same)
+      (record { few = l; reached = r.there image u; whole = λ m x e. d.local x.op x.next (fetched_op image t.method.0 t.at units x has e) });
+}

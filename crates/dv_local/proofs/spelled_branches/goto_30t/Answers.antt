@@ -1,0 +1,21 @@
+use Rattle.std.proofs.Common.{◌+◌, ◌/◌, [], ◌∙◌, refl, ap}
+use Rattle.dv_defs.specs.Formats.{F30t}
+use Rattle.dv_defs.specs.Families as family
+use Rattle.dv_defs.specs.Numbers.{jump, signed_at}
+use Rattle.dv_defs.specs.Op.{Goto}
+use Rattle.dv_defs.specs.Spelling.{few, with_offset}
+use Rattle.dv_frames.specs.Heads.{frame}
+use Rattle.dv_steps.specs.Local.{word_local}
+use Rattle.dv_local.specs.Spelled.{rest_of, double_after}
+use Rattle.dv_local.proofs.Doing.{did_one}
+use Rattle.dv_local.proofs.Formats.{read_as, reads_30t}
+use Rattle.std.proofs.Common.{rules, w32, SFits}
+use Rattle.std.proofs.lemmas.Int.{to_z-of_z}
+use Rattle.dv_local.proofs.spelled_branches.goto_30t.Goals as goal
+
+pub returns : goal.returns
+returns c =
+    did_one c.args.here.now 3 (with_offset c.args.opcode (few []) (signed_at 32 (double_after c.args.here.now 0))) family.Goto (Goto (jump c.args.here.now.at (signed_at 32 (double_after c.args.here.now 0)))) _ _
+    (read_as c.args.here.now c.args.opcode F30t 3 _ c.requires.opcode c.requires.format (reads_30t c.args.opcode (c.args.here.now.first / 256) (rest_of c.args.here.now)))
+    c.requires.family (λ image code. refl) (refl)
+    (c.goto.ensures (c.args.here.now.at + 3) ∙ ap (λ o. word_local (Goto o) (frame c.args.head.now c.args.words.now) (c.args.here.now.at + 3)) (c.jump.ensures ∙ ap (jump c.args.here.now.at) ((let f : SFits w32 c.signed_double.result = search rules in to_z-of_z w32 c.signed_double.result f) ∙ c.signed_double.ensures ∙ ap (signed_at 32) c.double.ensures)))

@@ -1,0 +1,21 @@
+use Rattle.std.proofs.Common.{◌/◌, ◌∷◌, [], ◌∙◌, refl, ap}
+use Rattle.dv_defs.specs.Formats.{F31i}
+use Rattle.dv_defs.specs.Families as family
+use Rattle.dv_defs.specs.Numbers.{signed_at}
+use Rattle.dv_defs.specs.Op.{Const}
+use Rattle.dv_defs.specs.Spelling.{few, with_literal}
+use Rattle.dv_frames.specs.Heads.{frame}
+use Rattle.dv_steps.specs.Local.{word_local}
+use Rattle.dv_local.specs.Spelled.{rest_of, double_after}
+use Rattle.dv_local.proofs.Doing.{did_one, same_three}
+use Rattle.dv_local.proofs.Formats.{read_as, reads_31i}
+use Rattle.std.proofs.Common.{rules, w32, SFits}
+use Rattle.std.proofs.lemmas.Int.{to_z-of_z}
+use Rattle.dv_local.proofs.spelled_moves.const_31i.Goals as goal
+
+pub returns : goal.returns
+returns c =
+    did_one c.args.here.now 3 (with_literal c.args.opcode (few (c.args.here.now.first / 256 ∷ [])) (signed_at 32 (double_after c.args.here.now 0))) family.Const (Const (c.args.here.now.first / 256) (signed_at 32 (double_after c.args.here.now 0))) _ _
+    (read_as c.args.here.now c.args.opcode F31i 3 _ c.requires.opcode c.requires.format (reads_31i c.args.opcode (c.args.here.now.first / 256) (rest_of c.args.here.now)))
+    c.requires.family (λ image code. refl) (refl)
+    (c.set_int.ensures ∙ same_three (λ a k n. word_local (Const a k) (frame c.args.head.now c.args.words.now) n) _ _ _ _ _ _ c.high.ensures ((let f : SFits w32 c.signed_double-int.result = search rules in to_z-of_z w32 c.signed_double-int.result f) ∙ c.signed_double-int.ensures ∙ ap (signed_at 32) c.double.ensures) c.after.ensures)

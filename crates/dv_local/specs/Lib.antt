@@ -1,0 +1,5 @@
+pub mod Local
+pub mod Spelled
+pub mod Switching
+pub mod Tops
+pub mod Units
