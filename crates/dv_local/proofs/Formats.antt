@@ -1,5 +1,5 @@
 -- What is read by each format.
-use Rattle.std.proofs.Common.{◌≡◌, ℕ, zero, suc, ◌+◌, ◌*◌, ◌/◌, ◌%◌, ◌^◌, List, [], ◌∷◌, Option, Some, None, ℤ, refl, sym, ap, ◌∙◌}
+use Rattle.std.proofs.Common.{◌≡◌, ℕ, zero, suc, ◌+◌, ◌*◌, ◌/◌, ◌%◌, ◌^◌, List, [], ◌∷◌, Option, Some, sym, ap, ◌∙◌}
 use Rattle.std.specs.Prelude.{slice_index}
 use Rattle.std.proofs.lemmas.Option.{same_Some}
 use Rattle.dv_defs.specs.declared.code.Insn.{Insn}
@@ -8,7 +8,7 @@ use Rattle.dv_defs.specs.Formats.{Format, F10x, F12x, F11n, F11x, F10t, F20t, F2
 use Rattle.dv_defs.specs.Numbers.{signed_at}
 use Rattle.dv_defs.specs.Spelling.{few, plain, with_literal, with_offset}
 use Rattle.dv_local.specs.declared.here.Here.{Here}
-use Rattle.dv_local.specs.Spelled.{double_after, rest_of, unit_after}
+use Rattle.dv_local.specs.Spelled.{rest_of}
 
 abbrev pub sized_as : ℕ → Insn → Sized
 sized_as n i = record { insn = i; size = n }

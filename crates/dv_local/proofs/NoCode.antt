@@ -1,8 +1,8 @@
 -- Where a method has no body nothing is fetched, and nothing is done.
-use Rattle.std.proofs.Common.{◌≡◌, ℕ, List, [], ◌∷◌, Bool, true, false, Option, Some, None, refl, sym, ap, ◌∙◌, subst, arith}
+use Rattle.std.proofs.Common.{◌≡◌, ℕ, List, [], ◌∷◌, false, Option, Some, None, refl, sym, ap, ◌∙◌, arith}
 use Rattle.std.proofs.lemmas.Option.{same_Some}
 use Rattle.dv_defs.specs.Images.{Image}
-use Rattle.dv_defs.specs.Op.{Code, code_at}
+use Rattle.dv_defs.specs.Op.{code_at}
 use Rattle.dv_defs.specs.Statics.{At, fetch, fetch_in}
 use Rattle.dv_steps.specs.Stepping.{RanLocally, StepsLocally}
 use Rattle.dv_defs.specs.declared.names.MethodId.{MethodId}
@@ -14,7 +14,7 @@ use Rattle.dv_words.specs.State.{WordStack}
 use Rattle.dv_frames.specs.declared.heads.Head.{Head}
 use Rattle.dv_frames.specs.Heads.{head_in}
 use Rattle.dv_frames.specs.Tops.{head_of}
-use Rattle.dv_local.specs.Tops.{RanTop, StepsTop, TopBecame, TopRan, TopStepped}
+use Rattle.dv_local.specs.Tops.{RanTop, StepsTop, TopRan, TopStepped}
 
 nothing_fetched : (image : Image) (n at : ℕ) (x : At) → code_at image n ≡ None → fetch image n at ≡ Some x → ⊥
 unfolding fetch

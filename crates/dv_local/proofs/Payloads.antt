@@ -1,10 +1,10 @@
 -- A payload that a method's items have is spelled where it stands.
-use Rattle.std.proofs.Common.{◌≡◌, ℕ, ◌+◌, List, [], ◌∷◌, drop, Option, Some, None, Result, Ok, Err, refl, sym, ap, ◌∙◌, subst, arith}
+use Rattle.std.proofs.Common.{◌≡◌, ℕ, List, drop, Option, Some, None, Result, Ok, Err, refl, sym, ap, ◌∙◌, subst, arith}
 use Rattle.std.proofs.lemmas.Option.{same_Some}
 use Rattle.dv_defs.specs.declared.code.Payload.{Payload}
-use Rattle.dv_defs.specs.Tiling.{Item, IsInsn, IsPayload, Piece, Tile, payload_at, payload_in, piece_here, tile_at, tiles_in, tiling}
+use Rattle.dv_defs.specs.Tiling.{Item, IsInsn, IsPayload, Piece, Tile, payload_in, piece_here, tile_at, tiles_in, tiling}
 use Rattle.dv_steps.specs.Fetching.{IsSpelled, PayloadsAreThere}
-use Rattle.dv_steps.proofs.Fetching.{IsOn, tile_found}
+use Rattle.dv_steps.proofs.Fetching.{tile_found}
 
 payload_item : (y : Item) (p : Payload) → payload_in y ≡ Some p → y ≡ IsPayload p
 payload_item (IsInsn i) p e = absurd (cc)

@@ -1,5 +1,5 @@
 -- Where switches lead, by the payload in the units.
-use Rattle.std.proofs.Common.{◌≡◌, ◌≢◌, ◌<◌, ◌≤◌, ℕ, zero, suc, ◌+◌, ◌-◌, ◌*◌, ◌/◌, ◌%◌, ◌^◌, List, [], ◌∷◌, length, map, take, drop, Bool, true, false, Option, Some, None, ℤ, pos, ◌+ℤ◌, refl, sym, ap, ◌∙◌, subst, arith}
+use Rattle.std.proofs.Common.{◌≡◌, ◌≢◌, ◌<◌, ℕ, zero, suc, ◌+◌, ◌*◌, ◌/◌, ◌^◌, List, [], ◌∷◌, length, take, drop, Bool, true, false, Option, Some, None, ℤ, pos, ◌+ℤ◌, refl, sym, ap, ◌∙◌, subst, arith}
 use Rattle.std.specs.Prelude.{◌&&◌, nat_eq, nat_le, slice_get, slice_index}
 use Rattle.std.specs.Ordering.{int_eq}
 use Rattle.std.proofs.lemmas.Bool.Decides.{Decides-int_eq}
@@ -10,10 +10,9 @@ use Rattle.dv_defs.specs.declared.code.Payload.{Payload}
 use Rattle.dv_defs.specs.declared.code.Payload.TheVariants as payload
 use Rattle.dv_defs.specs.Numbers.{jump, signed_at}
 use Rattle.dv_defs.specs.Op.{Case, cases_packed, cases_sparse}
-use Rattle.dv_defs.specs.declared.code.Insn.{Insn}
 use Rattle.dv_defs.specs.Decoding.{Sized, insn_here, is_zero}
 use Rattle.std.specs.List.{list_all}
-use Rattle.dv_defs.specs.Tiling.{IsInsn, IsPayload, Item, Piece, SizedPayload, begins_payload, bytes_in, data_from, data_in, data_of, doubles, insn_piece, is_width, packed_with, payload_of, payload_piece, piece_here, signed_all, sparse_with}
+use Rattle.dv_defs.specs.Tiling.{IsInsn, IsPayload, Piece, SizedPayload, begins_payload, bytes_in, data_from, data_in, doubles, insn_piece, is_width, packed_with, payload_of, payload_piece, piece_here, signed_all, sparse_with}
 use Rattle.dv_machine.specs.Local.{case_of}
 use Rattle.dv_steps.specs.Fetching.{IsSpelled}
 use Rattle.dv_local.specs.Switching.{IsCase, IsFirstKey, IsNoCase, double_at, int_at}

@@ -1,7 +1,7 @@
 // What arithmetic makes of a frame.
 ghost use Rattle.std.specs.Prelude.{◌≡◌, suc, false, true};
 ghost use Rattle.dv_defs.specs.Numbers.{long_of};
-ghost use Rattle.dv_defs.specs.Op.{CompareLong, IntOp, IntToLong, IntUnary, Lit, LongOp, LongShift, LongToInt, LongUnary, Reg, long_op};
+ghost use Rattle.dv_defs.specs.Op.{CompareLong, IntOp, IntToLong, IntUnary, Lit, LongOp, LongShift, LongToInt, LongUnary, Reg};
 ghost use Rattle.dv_defs.specs.Parts.{Neg, Not, is_division, is_shift};
 ghost use Rattle.dv_frames.specs.Heads.{frame};
 ghost use Rattle.dv_steps.specs.Local.{word_local};

@@ -1,5 +1,5 @@
 // Local instructions by their opcodes (AOSP, "Dalvik bytecode format").
-ghost use Rattle.std.specs.Prelude.{◌≡◌, ◌^◌, ◌<◌};
+ghost use Rattle.std.specs.Prelude.{◌^◌, ◌<◌};
 ghost use Rattle.dv_frames.specs.Heads.{frame};
 ghost use Rattle.dv_local.specs.Spelled.{SteppedHere};
 

@@ -1,5 +1,5 @@
 // Branches and switches, as their formats spell them: in `BAop` and the like the letters of a unit are nibbles, the highest first.
-ghost use Rattle.std.specs.Prelude.{◌≡◌, ◌%◌, ◌^◌, ◌<◌, Some, false, true};
+ghost use Rattle.std.specs.Prelude.{◌≡◌, ◌%◌, ◌^◌, ◌<◌, Some};
 ghost use Rattle.dv_defs.specs.Families as family;
 ghost use Rattle.dv_defs.specs.Families.{family_at};
 ghost use Rattle.dv_defs.specs.Formats.{F10t, F20t, F21t, F22t, F30t, F31t, format_at};

@@ -1,5 +1,5 @@
 // Moves and constants, as their formats spell them: in `BAop` and the like the letters of a unit are nibbles, the highest first.
-ghost use Rattle.std.specs.Prelude.{◌≡◌, ◌%◌, ◌^◌, ◌<◌, Some, false, true};
+ghost use Rattle.std.specs.Prelude.{◌≡◌, ◌%◌, ◌^◌, ◌<◌, Some};
 ghost use Rattle.dv_defs.specs.Families as family;
 ghost use Rattle.dv_defs.specs.Families.{family_at};
 ghost use Rattle.dv_defs.specs.Formats.{F10x, F11n, F11x, F12x, F21h, F21s, F22x, F31i, F32x, F51l, format_at};

@@ -1,5 +1,5 @@
 // The loop over a method's units.
-ghost use Rattle.std.specs.Prelude.{◌≡◌, ◌≤◌, ◌<◌, length, false};
+ghost use Rattle.std.specs.Prelude.{◌≡◌, ◌≤◌, length};
 ghost use Rattle.dv_frames.specs.Heads.{frame};
 ghost use Rattle.dv_local.specs.Local.{is_local_opcode};
 ghost use Rattle.dv_local.specs.Units.{RanUnits, StepsUnits, SteppedUnits};

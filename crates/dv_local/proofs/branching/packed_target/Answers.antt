@@ -1,8 +1,7 @@
-use Rattle.std.proofs.Common.{◌≡◌, ◌+◌, ◌*◌, ◌∙◌, ℕ, ℤ, pos, ◌+ℤ◌, List, refl, sym, ap, rules, w32, SFits, arith, of_z, to_z}
-use Rattle.std.specs.Prelude.{slice_index}
+use Rattle.std.proofs.Common.{◌≡◌, ◌+◌, ◌*◌, ◌∙◌, pos, ◌+ℤ◌, sym, ap, rules, w32, SFits, arith, of_z, to_z}
 use Rattle.std.proofs.lemmas.Int.{to_z-of_z}
 use Rattle.dv_defs.specs.Numbers.{jump, signed_at}
-use Rattle.dv_local.specs.Switching.{IsCase, IsNoCase, double_at, int_at}
+use Rattle.dv_local.specs.Switching.{double_at, int_at}
 use Rattle.dv_local.proofs.Switches.{packed_found, packed_none}
 use Rattle.dv_local.proofs.branching.packed_target.Goals as goal
 

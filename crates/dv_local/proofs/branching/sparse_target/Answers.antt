@@ -1,8 +1,8 @@
-use Rattle.std.proofs.Common.{◌≡◌, ◌+◌, ◌*◌, ◌<◌, ◌∙◌, ℕ, ℤ, List, refl, sym, ap, subst, rules, w32, SFits, arith, of_z, to_z}
+use Rattle.std.proofs.Common.{◌≡◌, ◌+◌, ◌*◌, ◌<◌, ◌∙◌, ℕ, ℤ, ap, subst, rules, w32, SFits, arith, of_z, to_z}
 use Rattle.std.specs.Prelude.{slice_index}
 use Rattle.std.proofs.lemmas.Int.{to_z-of_z}
 use Rattle.dv_defs.specs.Numbers.{jump, signed_at}
-use Rattle.dv_local.specs.Switching.{IsFirstKey, double_at, int_at}
+use Rattle.dv_local.specs.Switching.{IsFirstKey, double_at}
 use Rattle.dv_local.proofs.Switches.{sparse_found, sparse_none}
 use Rattle.dv_local.proofs.branching.sparse_target.Goals as goal
 
