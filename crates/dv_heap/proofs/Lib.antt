@@ -1,0 +1,4 @@
+pub mod Laying
+pub mod Tagging
+pub mod FieldWords
+pub mod Kept

@@ -1,0 +1,5 @@
+pub mod Blocks
+pub mod Objects
+pub mod Fields
+pub mod Answers
+pub mod Keeping

@@ -1,0 +1,16 @@
+//! The guest's heap on words: one vector of words with a table of where the objects begin.
+#![tactic(auto)]
+
+mod blocks;
+mod contents;
+mod error;
+mod fields;
+mod heap;
+mod kinds;
+mod making;
+mod objects;
+mod statics;
+mod types;
+
+pub use error::HeapError;
+pub use heap::Heap;

@@ -1,0 +1,5 @@
+pub mod Tops
+pub mod Operands
+pub mod Values
+pub mod Elements
+pub mod Stepping

@@ -1,0 +1,42 @@
+-- The instruction at which the frame on top of a stack goes on.
+use Rattle.std.specs.Prelude.{◌≡◌, ℕ, Bool, true, false, drop, Some}
+use Rattle.dv_defs.specs.declared.code.Insn.{Insn}
+use Rattle.dv_defs.specs.Decoding.{insn_here}
+use Rattle.dv_defs.specs.Images.{Image}
+use Rattle.dv_defs.specs.Op.{Op, Code, code_at, IntDivide, LongDivide, ConstString, ConstClass, Cast, InstanceOf, ArrayLength, New, NewArray, Filled, Fill, Throw, ArrayGet, ArrayPut, FieldGet, FieldPut, StaticGet, StaticPut}
+use Rattle.dv_defs.specs.Statics.{At, fetch}
+use Rattle.dv_words.specs.declared.state.Frame.{Frame}
+use Rattle.dv_words.specs.declared.state.Level.TheVariants as level
+use Rattle.dv_words.specs.Stacks.{first}
+use Rattle.dv_words.specs.State.{WordStack}
+
+-- the frame is on top, the instruction is spelled where it goes on, and this is the operation with the address after it
+pub record GoesOnAt (image : Image) (stack : WordStack) (insn : Insn) (s : Frame) (x : At) : Type 0 where
+  pub on_top : first stack.levels ≡ Some (level.Code s)
+  pub code : Code
+  pub has_code : code_at image s.method.0 ≡ Some code
+  pub size : ℕ
+  pub spelled : insn_here (drop s.at code.body.units) ≡ Some (record { insn = insn; size = size })
+  pub fetched : fetch image s.method.0 s.at ≡ Some x
+
+-- on objects, arrays and fields, a division or a cast
+abbrev pub is_mem : Op → Bool
+is_mem (IntDivide o a b c) = true
+is_mem (LongDivide o a b c) = true
+is_mem (ConstString a s) = true
+is_mem (ConstClass a t) = true
+is_mem (Cast a t) = true
+is_mem (InstanceOf a b t) = true
+is_mem (ArrayLength a b) = true
+is_mem (New a c) = true
+is_mem (NewArray a b t) = true
+is_mem (Filled rs t) = true
+is_mem (Fill a n ns) = true
+is_mem (Throw a) = true
+is_mem (ArrayGet s a b c) = true
+is_mem (ArrayPut s a b c) = true
+is_mem (FieldGet s a b x) = true
+is_mem (FieldPut s a b x) = true
+is_mem (StaticGet s a x) = true
+is_mem (StaticPut s a x) = true
+is_mem op = false

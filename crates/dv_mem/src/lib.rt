@@ -1,0 +1,11 @@
+//! Instructions on objects, arrays and fields, divisions and casts, on plain words (AOSP, "Dalvik bytecode format").
+#![tactic(auto)]
+
+mod divisions;
+mod elements;
+mod fields;
+mod instances;
+mod made;
+mod narrowing;
+mod registers;
+mod words;
