@@ -1,3 +1,5 @@
 pub mod Tops
 pub mod Cutting
-pub mod Storing
+pub mod Making
+pub mod Arrays
+pub mod Owners

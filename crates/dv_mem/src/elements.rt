@@ -10,6 +10,7 @@ ghost use Rattle.dv_machine.specs.State.{Did};
 ghost use Rattle.dv_units.specs.Tables.{standard_suffix};
 ghost use Rattle.dv_words.specs.declared.state.Kind.TheVariants as kind;
 ghost use Rattle.dv_words.specs.Heaps.{kind_of};
+ghost use Rattle.dv_words.specs.Words.{int_of};
 ghost use Rattle.dv_steps.specs.Local.{reg_word};
 ghost use Rattle.dv_steps.specs.Mem as steps;
 ghost use Rattle.dv_steps.specs.Mem.{WordHere, WordLeft, array_put, on_index, word_mem};
@@ -20,7 +21,7 @@ ghost use Rattle.dv_mem.specs.Tops.{Answers, seen, top_frame};
 
 use crate::instances::is_storable;
 use crate::narrowing::kept;
-use crate::registers::{go_on, int, put, word};
+use crate::registers::{go_on, put, word};
 use crate::words::{self, load, store};
 use dv_defs::{Image, Named, Next};
 use dv_frames::Stack;
@@ -60,16 +61,17 @@ fn slot_of(size: u32, wide: bool, index: i32) -> Option<u32>
 /// # Errors
 ///
 /// The exception that null, or an index out of range, throws (JLS 15.13).
-fn find(heap: &Heap, array: u32, wide: bool, index: i32) -> Result<Element, Named>
+fn find(heap: &Heap, array: u32, wide: bool, index: u32) -> Result<Element, Named>
     ensures there { IfOk result (λ e. AreWithin heap.now e.array e.slot (width_of wide)) }
+    ensures same { IfOk result (λ e. e.array ≡ array) }
     ensures exists { IfOk result (λ e. IsSome (kind_of heap.now e.array)) }
     ensures found { (h : WordHere) (s : Ending) (go : ℕ → ℕ → Did WordLeft) → h.heap ≡ heap.now → steps.is_wide s ≡ wide → IsNullOrArray (is_of_suffix s) heap.now array →
-        on_object (λ o. on_index h o index (go o)) array ≡ by_found (λ e. go e.array e.slot) result }
+        on_object (λ o. on_index h o (int_of index) (go o)) array ≡ by_found (λ e. go e.array e.slot) result }
 {
     if array == 0 || !heap.exists(array) {
         return Err(Named::NullPointer);
     }
-    match slot_of(heap.size(array), wide, index) {
+    match slot_of(heap.size(array), wide, index.cast_signed()) {
         Some(slot) => Ok(Element { array, slot }),
         None => Err(Named::ArrayIndex),
     }
@@ -94,7 +96,9 @@ pub fn array_get(heap: &Heap, stack: &mut Stack, next: u32, suffix: Suffix, a: u
         Answers result (word_mem (seen image stack.old heap.now next) (ArrayGet (standard_suffix suffix) a b c)) stack.old heap.now stack.new heap.now }
 {
     let wide = is_wide(suffix);
-    match find(heap, word(stack, b), wide, int(stack, c)) {
+    let array = word(stack, b);
+    let index = word(stack, c);
+    match find(heap, array, wide, index) {
         Err(named) => Next::Throw(named),
         Ok(found) => {
             words::put(stack, next, a, load(heap, found.array, found.slot, wide));
@@ -157,7 +161,9 @@ pub fn array_put(
     ensures { IsNullOrArray (is_of_suffix (standard_suffix suffix)) heap.old (reg_word (top_frame stack.old) b) →
         Answered result (word_mem (seen image.now stack.old heap.old next) (ArrayPut (standard_suffix suffix) a b c)) stack.old heap.old stack.new heap.new }
 {
-    match find(heap, word(stack, b), is_wide(suffix), int(stack, c)) {
+    let array = word(stack, b);
+    let index = word(stack, c);
+    match find(heap, array, is_wide(suffix), index) {
         Err(named) => Ok(Next::Throw(named)),
         Ok(found) => put_found(image, heap, stack, next, suffix, a, found),
     }

@@ -1,5 +1,5 @@
 // What fields and elements keep of a word.
-ghost use Rattle.std.specs.Prelude.{◌≡◌, true};
+ghost use Rattle.std.specs.Prelude.{◌≡◌, length, true};
 ghost use Rattle.dv_defs.specs.declared.names.Ty.{Ty as Kept};
 ghost use Rattle.dv_defs.specs.declared.names.Base.TheVariants as base;
 ghost use Rattle.dv_defs.specs.Statics.{is_of_suffix};
@@ -87,7 +87,8 @@ fn cut_by_suffix(suffix: Suffix, word: u32) -> u32
 
 /// What an element keeps of these words, by the suffix of the operation.
 pub fn kept(suffix: Suffix, value: Words) -> Words
-    ensures { (t : Kept) → is_of_suffix (standard_suffix suffix) t ≡ true → listed result ≡ steps.narrowed_all t (listed value) }
+    ensures count { length (listed result) ≡ length (listed value) }
+    ensures kept { (t : Kept) → is_of_suffix (standard_suffix suffix) t ≡ true → listed result ≡ steps.narrowed_all t (listed value) }
 {
     match value {
         Words::One(word) => Words::One(cut_by_suffix(suffix, word)),
