@@ -13,6 +13,11 @@ abbrev pub slot_in : ℕ → Bool → ℤ → Option ℕ
 slot_in size wide (negsuc n) = None
 slot_in size wide (pos k) = if nat_lt k (size / width_of wide) then Some (k * width_of wide) else None
 
+-- a number of elements
+abbrev pub count_of : ℤ → Option ℕ
+count_of (pos n) = Some n
+count_of (negsuc n) = None
+
 -- on with what was found, or the exception
 abbrev pub by_found : {A E : Type 0} → (A → Did E) → Result A Named → Did E
 by_found go (Ok x) = go x

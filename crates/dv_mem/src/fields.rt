@@ -1,5 +1,5 @@
 // Instance fields and static fields.
-ghost use Rattle.std.specs.Prelude.{◌≡◌, ◌≢◌, ◌↔◌, ℕ, Some, IfOk, IsSome, IsTrue};
+ghost use Rattle.std.specs.Prelude.{◌≡◌, ◌≢◌, ◌<◌, ◌+◌, ℕ, false, length, Some, IfOk, IsSome, IsTrue};
 ghost use Rattle.dv_defs.specs.Images.{Image as Linked};
 ghost use Rattle.dv_defs.specs.Op.{FieldGet, FieldPut, StaticGet, StaticPut};
 ghost use Rattle.dv_defs.specs.Parts.{Suffix as Ending};
@@ -8,7 +8,7 @@ ghost use Rattle.dv_machine.specs.Mem.{on_object};
 ghost use Rattle.dv_machine.specs.State.{Did};
 ghost use Rattle.dv_ops.specs.Meaning.{field_of};
 ghost use Rattle.dv_words.specs.declared.state.Kind.TheVariants as kind;
-ghost use Rattle.dv_words.specs.Heaps.{kind_of};
+ghost use Rattle.dv_words.specs.Heaps.{kind_of, words_of_object};
 ghost use Rattle.dv_steps.specs.Local.{reg_word};
 ghost use Rattle.dv_steps.specs.Mem.{WordLeft, word_mem};
 ghost use Rattle.dv_mem.specs.Elements.{by_found, width_of};
@@ -33,9 +33,16 @@ fn is_long(ty: &Ty) -> bool
 
 /// Whether an object is no string and has so many words from a place on.
 fn has_words(heap: &Heap, object: u32, slot: u32, wide: bool) -> bool
-    ensures { IsTrue result ↔ (AreWithin heap.now object slot (width_of wide) × IsSome (kind_of heap.now object) × (kind_of heap.now object ≢ Some kind.Str)) }
+    ensures there { IsTrue result → AreWithin heap.now object slot (width_of wide) }
+    ensures no_string { IsTrue result → kind_of heap.now object ≢ Some kind.Str }
+    ensures lacking { result ≡ false → 0 < object → IsSome (kind_of heap.now object) → kind_of heap.now object ≢ Some kind.Str →
+        length (words_of_object heap.now object) < slot + width_of wide }
 {
-    object != 0 && heap.exists(object) && !is_string(heap, object) && slot < heap.size(object) && (!wide || slot + 1 < heap.size(object))
+    if object == 0 || !heap.exists(object) || is_string(heap, object) {
+        return false;
+    }
+    let size = heap.size(object);
+    slot < size && (!wide || slot + 1 < size)
 }
 
 /// The object with the field.

@@ -5,12 +5,14 @@ ghost use Rattle.dv_defs.specs.Op.{ConstClass, ConstString, Filled, New, NewArra
 ghost use Rattle.dv_machine.specs.State.{where_room};
 ghost use Rattle.dv_words.specs.Heaps.{Got};
 ghost use Rattle.dv_words.specs.State.{WordHeap};
+ghost use Rattle.dv_words.specs.Words.{int_of};
 ghost use Rattle.dv_heap.specs.Answers.{IsGot};
 ghost use Rattle.dv_steps.specs.Mem.{put_object, word_mem};
 ghost use Rattle.dv_steps.specs.Stepping.{Answered};
+ghost use Rattle.dv_mem.specs.Elements.{count_of};
 ghost use Rattle.dv_mem.specs.Tops.{Answers, seen};
 
-use crate::registers::{int, put, word};
+use crate::registers::{put, word};
 use dv_defs::{Chars, ClassId, Image, Named, Next, Ty};
 use dv_frames::Stack;
 use dv_heap::{Heap, HeapError};
@@ -91,6 +93,13 @@ pub fn new_instance(
     put_made(stack, next, a, made)
 }
 
+/// The int of a word as a number of elements, none where it is negative.
+fn count(word: u32) -> Option<u32>
+    ensures { result ≡ count_of (int_of word) }
+{
+    u32::try_from(word.cast_signed()).ok()
+}
+
 /// new-array: a negative size throws before room is asked for.
 ///
 /// # Errors
@@ -106,13 +115,11 @@ pub fn new_array(
 ) -> Result<Next, AllocError>
     ensures { (image : Linked) → Answered result (word_mem (seen image stack.old heap.old next) (NewArray a b ty.now)) stack.old heap.old stack.new heap.new }
 {
-    match u32::try_from(int(stack, b)) {
-        Err(_) => Ok(Next::Throw(Named::NegativeArraySize)),
-        Ok(length) => {
-            let made = heap.alloc_array(ty, length);
-            put_made(stack, next, a, made)
-        }
-    }
+    let Some(length) = count(word(stack, b)) else {
+        return Ok(Next::Throw(Named::NegativeArraySize));
+    };
+    let made = heap.alloc_array(ty, length);
+    put_made(stack, next, a, made)
 }
 
 /// throw.
