@@ -3,3 +3,6 @@ pub mod Cutting
 pub mod Making
 pub mod Arrays
 pub mod Owners
+pub mod Storing
+pub mod Bytes
+pub mod Writing

@@ -2,4 +2,5 @@ pub mod Tops
 pub mod Operands
 pub mod Values
 pub mod Elements
+pub mod Payloads
 pub mod Stepping

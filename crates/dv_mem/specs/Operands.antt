@@ -2,7 +2,7 @@
 use Rattle.std.specs.Prelude.{◌≡◌, ◌≢◌, ◌<◌, ◌≤◌, ◌+◌, ◌^◌, ℕ, Bool, true, length, IsSome, Some, slice_index_or, []}
 use Rattle.dv_defs.specs.declared.names.Ty.{Ty}
 use Rattle.dv_defs.specs.Demands.{any_type, is_fill_type}
-use Rattle.dv_defs.specs.Op.{Op, IntDivide, LongDivide, ArrayLength, ArrayGet, ArrayPut, Fill, FieldGet, FieldPut, StaticGet, StaticPut}
+use Rattle.dv_defs.specs.Op.{Op, IntDivide, LongDivide, ArrayLength, ArrayGet, ArrayPut, Fill, Filled, FieldGet, FieldPut, StaticGet, StaticPut}
 use Rattle.dv_defs.specs.Parts.{is_division}
 use Rattle.dv_defs.specs.Pools.{Field}
 use Rattle.dv_defs.specs.Statics.{is_of_suffix}
@@ -48,6 +48,7 @@ abbrev pub AreOperands : WordHere → Op → Type 0
 AreOperands h (IntDivide o a b c) = (is_division o ≡ true) × ArgFits c
 AreOperands h (LongDivide o a b c) = is_division o ≡ true
 AreOperands h (ArrayLength a b) = IsNullOrArray any_type h.heap (reg_word h.frame b)
+AreOperands h (Filled rs t) = length h.heap.cells ≡ length h.heap.kinds
 AreOperands h (Fill a width ns) = IsNullOrArray (is_fill_type width) h.heap (reg_word h.frame a)
 AreOperands h (ArrayGet s a b c) = IsNullOrArray (is_of_suffix s) h.heap (reg_word h.frame b)
 AreOperands h (ArrayPut s a b c) = IsNullOrArray (is_of_suffix s) h.heap (reg_word h.frame b)

@@ -8,7 +8,12 @@ use Rattle.dv_defs.specs.Statics.{At, fetch}
 use Rattle.dv_words.specs.declared.state.Frame.{Frame}
 use Rattle.dv_words.specs.declared.state.Level.TheVariants as level
 use Rattle.dv_words.specs.Stacks.{first}
-use Rattle.dv_words.specs.State.{WordStack}
+use Rattle.dv_words.specs.State.{WordHeap, WordStack}
+use Rattle.dv_defs.specs.Tiling.{payload_at}
+use Rattle.dv_ops.specs.declared.op.Op as op
+use Rattle.dv_ops.specs.declared.op.Op.TheVariants as op_is
+use Rattle.dv_ops.specs.Meaning.{field_of, is_data}
+use Rattle.dv_mem.specs.Operands.{HasStaticWords}
 
 -- the frame is on top, the instruction is spelled where it goes on, and this is the operation with the address after it
 pub record GoesOnAt (image : Image) (stack : WordStack) (insn : Insn) (s : Frame) (x : At) : Type 0 where
@@ -40,3 +45,14 @@ is_mem (FieldPut s a b x) = true
 is_mem (StaticGet s a x) = true
 is_mem (StaticPut s a x) = true
 is_mem op = false
+
+-- a payload of data stands where fill-array-data says
+abbrev pub IsReadable : Code → op.Op → Type 0
+IsReadable code (op_is.Fill a to) = is_data (payload_at code.tiles to) ≡ true
+IsReadable code o = Unit {0}
+
+-- a static field that the operation names has its words
+abbrev pub HasFields : WordHeap → op.Op → Type 0
+HasFields heap (op_is.StaticGet s a x) = HasStaticWords heap (field_of x)
+HasFields heap (op_is.StaticPut s a x) = HasStaticWords heap (field_of x)
+HasFields heap o = Unit {0}

@@ -1,5 +1,5 @@
 // Elements of arrays.
-ghost use Rattle.std.specs.Prelude.{◌≡◌, ◌↔◌, ℕ, Some, Ok, IfOk, IsSome, IsTrue};
+ghost use Rattle.std.specs.Prelude.{◌≡◌, ℕ, Some, Ok, IfOk, IsSome};
 ghost use Rattle.dv_defs.specs.Demands.{any_type};
 ghost use Rattle.dv_defs.specs.Images.{Image as Linked};
 ghost use Rattle.dv_defs.specs.Op.{ArrayGet, ArrayLength, ArrayPut};
@@ -8,7 +8,6 @@ ghost use Rattle.dv_defs.specs.Statics.{is_of_suffix};
 ghost use Rattle.dv_machine.specs.Mem.{on_object};
 ghost use Rattle.dv_machine.specs.State.{Did};
 ghost use Rattle.dv_units.specs.Tables.{standard_suffix};
-ghost use Rattle.dv_words.specs.declared.state.Kind.TheVariants as kind;
 ghost use Rattle.dv_words.specs.Heaps.{kind_of};
 ghost use Rattle.dv_words.specs.Words.{int_of};
 ghost use Rattle.dv_steps.specs.Local.{reg_word};
@@ -22,12 +21,11 @@ ghost use Rattle.dv_mem.specs.Tops.{Answers, seen, top_frame};
 use crate::instances::is_storable;
 use crate::narrowing::kept;
 use crate::registers::{go_on, put, word};
-use crate::words::{self, load, store};
+use crate::words::{self, is_string, load, store};
 use dv_defs::{Image, Named, Next};
 use dv_frames::Stack;
 use dv_heap::Heap;
 use dv_optable::Suffix;
-use dv_words::Kind;
 use std::alloc::AllocError;
 
 /// An element: the number of its array, and the place of its first word there.
@@ -105,14 +103,6 @@ pub fn array_get(heap: &Heap, stack: &mut Stack, next: u32, suffix: Suffix, a: u
             Next::On
         }
     }
-}
-
-/// Whether an object is a string.
-pub fn is_string(heap: &Heap, object: u32) -> bool
-    requires { IsSome (kind_of heap.now object) }
-    ensures { IsTrue result ↔ (kind_of heap.now object ≡ Some kind.Str) }
-{
-    matches!(heap.kind(object), Kind::Str)
 }
 
 /// Stores a register to an element that is there.

@@ -1,5 +1,5 @@
 // Instance fields and static fields.
-ghost use Rattle.std.specs.Prelude.{◌≡◌, ◌≢◌, ◌<◌, ◌+◌, ℕ, false, length, Some, IfOk, IsSome, IsTrue};
+ghost use Rattle.std.specs.Prelude.{◌≡◌, ◌≢◌, ◌≤◌, ℕ, Some, IfOk};
 ghost use Rattle.dv_defs.specs.Images.{Image as Linked};
 ghost use Rattle.dv_defs.specs.Op.{FieldGet, FieldPut, StaticGet, StaticPut};
 ghost use Rattle.dv_defs.specs.Parts.{Suffix as Ending};
@@ -8,41 +8,34 @@ ghost use Rattle.dv_machine.specs.Mem.{on_object};
 ghost use Rattle.dv_machine.specs.State.{Did};
 ghost use Rattle.dv_ops.specs.Meaning.{field_of};
 ghost use Rattle.dv_words.specs.declared.state.Kind.TheVariants as kind;
-ghost use Rattle.dv_words.specs.Heaps.{kind_of, words_of_object};
+ghost use Rattle.dv_words.specs.Heaps.{kind_of};
 ghost use Rattle.dv_steps.specs.Local.{reg_word};
 ghost use Rattle.dv_steps.specs.Mem.{WordLeft, word_mem};
-ghost use Rattle.dv_mem.specs.Elements.{by_found, width_of};
+ghost use Rattle.dv_mem.specs.Elements.{by_found};
 ghost use Rattle.dv_mem.specs.Operands.{AreWithin, HasStaticWords, IsNullOrOwner};
 ghost use Rattle.dv_mem.specs.Tops.{Answers, seen, top_frame};
 
-use crate::elements::is_string;
 use crate::narrowing::narrowed_words;
 use crate::registers::{go_on, word};
-use crate::words::{self, load, load_static, store, store_static};
+use crate::words::{self, has_words, load, load_static, store, store_static};
 use dv_defs::{Base, Named, Next, Ty};
 use dv_frames::Stack;
 use dv_heap::Heap;
 use dv_ops::Field;
 
 /// Whether a value of the type has two words.
-fn is_long(ty: &Ty) -> bool
+pub fn is_long(ty: &Ty) -> bool
     ensures { result ≡ types.is_long ty.now }
 {
     ty.dims == 0 && matches!(ty.base, Base::J)
 }
 
-/// Whether an object is no string and has so many words from a place on.
-fn has_words(heap: &Heap, object: u32, slot: u32, wide: bool) -> bool
-    ensures there { IsTrue result → AreWithin heap.now object slot (width_of wide) }
-    ensures no_string { IsTrue result → kind_of heap.now object ≢ Some kind.Str }
-    ensures lacking { result ≡ false → 0 < object → IsSome (kind_of heap.now object) → kind_of heap.now object ≢ Some kind.Str →
-        length (words_of_object heap.now object) < slot + width_of wide }
+/// How many words a value of the type has.
+pub fn words_of(ty: &Ty) -> u32
+    ensures words { result ≡ types.words_of ty.now }
+    ensures few { result ≤ 2 }
 {
-    if object == 0 || !heap.exists(object) || is_string(heap, object) {
-        return false;
-    }
-    let size = heap.size(object);
-    slot < size && (!wide || slot + 1 < size)
+    if is_long(ty) { 2 } else { 1 }
 }
 
 /// The object with the field.
@@ -56,7 +49,7 @@ fn owner(heap: &Heap, object: u32, field: &Field<'_>) -> Result<u32, Named>
     ensures found { (go : ℕ → Did WordLeft) → IsNullOrOwner (field_of field.now) heap.now object → on_object go object ≡ by_found go result }
 {
     let def = field.def;
-    if has_words(heap, object, field.info.slot, is_long(&def.ty)) {
+    if has_words(heap, object, field.info.slot, words_of(&def.ty)) {
         Ok(object)
     } else {
         Err(Named::NullPointer)

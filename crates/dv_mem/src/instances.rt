@@ -92,7 +92,7 @@ fn is_instance(
 }
 
 /// The type of an array's elements.
-fn component(array: &Ty) -> Result<Ty, AllocError>
+pub fn component(array: &Ty) -> Result<Ty, AllocError>
     ensures { IfOk result (λ t. t ≡ types.component array.now) }
 {
     Ok(Ty {

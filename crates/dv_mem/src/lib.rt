@@ -4,8 +4,12 @@
 mod divisions;
 mod elements;
 mod fields;
+mod filled;
+mod filling;
 mod instances;
 mod made;
 mod narrowing;
+mod payload;
 mod registers;
+mod step;
 mod words;

@@ -8,12 +8,19 @@ ghost use Rattle.dv_mem.specs.Tops.{top_frame};
 use dv_frames::Stack;
 use dv_words::Kept;
 
-/// The word of a register, 0 where there is none.
+/// The word of a register by its number, 0 where there is none.
 #[tactic(auto, using(crate::proofs::Tops::top_registers))]
+pub fn word_at(stack: &Stack, reg: u32) -> u32
+    ensures { result ≡ steps.reg_word (top_frame stack.now) reg }
+{
+    stack.word(reg)
+}
+
+/// The word of a register, 0 where there is none.
 pub fn word(stack: &Stack, reg: u16) -> u32
     ensures { result ≡ steps.reg_word (top_frame stack.now) reg }
 {
-    stack.word(u32::from(reg))
+    word_at(stack, u32::from(reg))
 }
 
 /// The int in a register.
@@ -24,11 +31,10 @@ pub fn int(stack: &Stack, reg: u16) -> i32
 }
 
 /// The word of the register after one, 0 where there is none.
-#[tactic(auto, using(crate::proofs::Tops::top_registers))]
 pub fn next_word(stack: &Stack, reg: u16) -> u32
     ensures { result ≡ steps.reg_word (top_frame stack.now) (suc reg) }
 {
-    stack.word(u32::from(reg) + 1)
+    word_at(stack, u32::from(reg) + 1)
 }
 
 /// The long in a register and the one after it.

@@ -1,7 +1,7 @@
 // The words of one value of a field or an element.
-ghost use Rattle.std.specs.Prelude.{◌≡◌, ◌≢◌, ◌<◌, ◌^◌, ◌≤◌, Some, length, slice_index_or, []};
+ghost use Rattle.std.specs.Prelude.{◌≡◌, ◌≢◌, ◌↔◌, ◌<◌, ◌≤◌, ◌+◌, false, Some, IsSome, IsTrue, length, slice_index_or, []};
 ghost use Rattle.dv_words.specs.declared.state.Kind.TheVariants as kind;
-ghost use Rattle.dv_words.specs.Heaps.{kind_of};
+ghost use Rattle.dv_words.specs.Heaps.{kind_of, words_of_object};
 ghost use Rattle.dv_words.specs.Stacks.{changed};
 ghost use Rattle.dv_steps.specs.Mem as steps;
 ghost use Rattle.dv_mem.specs.Elements.{width_of};
@@ -13,6 +13,7 @@ use crate::registers;
 use dv_defs::FieldId;
 use dv_frames::Stack;
 use dv_heap::Heap;
+use dv_words::Kind;
 
 /// The words of a value: one, or the two of a long, the low one first.
 #[derive(Clone, Copy, PartialEq, Eq, Debug)]
@@ -41,6 +42,27 @@ pub fn put(stack: &mut Stack, next: u32, reg: u16, value: Words)
         Words::One(word) => registers::put(stack, next, reg, word),
         Words::Two(low, high) => registers::put_two(stack, next, reg, low, high),
     }
+}
+
+/// Whether an object is a string.
+pub fn is_string(heap: &Heap, object: u32) -> bool
+    requires { IsSome (kind_of heap.now object) }
+    ensures { IsTrue result ↔ (kind_of heap.now object ≡ Some kind.Str) }
+{
+    matches!(heap.kind(object), Kind::Str)
+}
+
+/// Whether an object is no string and has so many words from a place on.
+pub fn has_words(heap: &Heap, object: u32, slot: u32, count: u32) -> bool
+    ensures there { IsTrue result → AreWithin heap.now object slot count }
+    ensures no_string { IsTrue result → kind_of heap.now object ≢ Some kind.Str }
+    ensures lacking { result ≡ false → 0 < object → IsSome (kind_of heap.now object) → kind_of heap.now object ≢ Some kind.Str →
+        length (words_of_object heap.now object) < slot + count }
+{
+    if object == 0 || !heap.exists(object) || is_string(heap, object) {
+        return false;
+    }
+    u64::from(slot) + u64::from(count) <= u64::from(heap.size(object))
 }
 
 /// A value of an object.
