@@ -1,7 +1,8 @@
 -- Elements by the suffixes of operations, and the objects that arrays take.
-use Rattle.std.proofs.Common.{◌≡◌, ℕ, zero, suc, ◌<◌, Bool, true, false, List, [], ◌∷◌, length, Option, Some, None, Result, Ok, Err, IfOk, refl, sym, ap, ◌∙◌, subst, arith}
-use Rattle.std.specs.Prelude.{nat_eq, nat_lt, ◌&&◌, ◌||◌, if◌then◌else◌}
+use Rattle.std.proofs.Common.{◌≡◌, ℕ, zero, suc, ◌<◌, ◌≤◌, Bool, true, false, List, [], ◌∷◌, length, ℤ, Option, Some, None, Result, Ok, Err, IfOk, refl, sym, ap, ◌∙◌, subst, arith}
+use Rattle.std.specs.Prelude.{nat_eq, nat_le, nat_lt, ◌&&◌, ◌||◌, if◌then◌else◌}
 use Rattle.std.proofs.lemmas.Bool.{and_parts}
+use Rattle.std.proofs.lemmas.Bool.Decides.{nat_tests}
 use Rattle.dv_defs.specs.declared.names.Base.{Base}
 use Rattle.dv_defs.specs.declared.names.Base.TheVariants as base
 use Rattle.dv_defs.specs.declared.names.Ty.{Ty}
@@ -15,12 +16,12 @@ use Rattle.dv_defs.specs.declared.run.Named.TheVariants as named
 use Rattle.dv_words.specs.declared.state.Frame.{Frame}
 use Rattle.dv_words.specs.declared.state.Kind.{Kind}
 use Rattle.dv_words.specs.declared.state.Kind.TheVariants as kind
-use Rattle.dv_words.specs.Heaps.{kind_of}
+use Rattle.dv_words.specs.Heaps.{kind_of, length_of}
 use Rattle.dv_words.specs.State.{WordHeap}
 use Rattle.dv_words.specs.Words.{int_of}
 use Rattle.dv_words.specs.Stacks.{gone}
 use Rattle.dv_steps.specs.Local.{reg_word}
-use Rattle.dv_steps.specs.Mem.{WordHere, WordLeft, array_put, component_of, is_instance, is_storable, is_wide, narrowed_all, on_index, onward, stored, type_of_kind, words_at, words_in}
+use Rattle.dv_steps.specs.Mem.{WordHere, WordLeft, array_put, component_of, fill, filled, is_instance, is_storable, is_wide, narrowed_all, on_index, onward, stored, type_of_kind, words_at, words_in}
 use Rattle.dv_mem.specs.Elements.{width_of}
 use Rattle.dv_mem.specs.Operands.{IsArray}
 use Rattle.dv_mem.specs.Values.{words_from}
@@ -106,3 +107,26 @@ module _ (h : WordHere) (o : ℕ) (s : Suffix) (a k : ℕ) where
       let F : Bool → List ℕ → Did WordLeft = λ b us. where_true b named.ArrayStore (onward (stored h.heap o k us) (gone h.frame h.next)) in
       ap (λ (b : Bool). F b (narrowed_all (component_of h o) (words_in h.frame a (is_wide s)))) e ∙
       ap (F true) (ap (λ (x : Ty). narrowed_all x (words_in h.frame a (is_wide s))) (component_is h o t kind) ∙ sym same)
+
+-- ---- fills
+
+too_few : (a b : ℕ) → b < a → nat_le a b ≡ false
+too_few a b l = grind (arith, nat_tests)
+
+no_fewer : (a b : ℕ) → a ≤ b → nat_le a b ≡ true
+no_fewer a b l = grind (arith, nat_tests)
+
+module _ (h : WordHere) (ns : List ℤ) (o n count : ℕ) where
+  pub short_fill : length ns ≡ count → n ≡ length_of h.heap o → n < count → fill h ns o ≡ Throws named.ArrayIndex
+  short_fill all size few =
+      let no_room : nat_le (length ns) (length_of h.heap o) ≡ false = too_few (length ns) (length_of h.heap o) (omega (arith, all, size, few)) in
+      ap (λ (b : Bool). where_true b named.ArrayIndex (onward (stored h.heap o 0 (filled (component_of h o) ns)) (gone h.frame h.next))) no_room
+
+  pub whole_fill : length ns ≡ count → n ≡ length_of h.heap o → count ≤ n → fill h ns o ≡ onward (stored h.heap o 0 (filled (component_of h o) ns)) (gone h.frame h.next)
+  whole_fill all size enough =
+      let some : nat_le (length ns) (length_of h.heap o) ≡ true = no_fewer (length ns) (length_of h.heap o) (omega (arith, all, size, enough)) in
+      ap (λ (b : Bool). where_true b named.ArrayIndex (onward (stored h.heap o 0 (filled (component_of h o) ns)) (gone h.frame h.next))) some
+
+pub object_goes : {A : Type 0} (go : ℕ → Did A) (o : ℕ) → 0 < o → on_object go o ≡ go o
+object_goes go zero some = absurd (omega (arith, some))
+object_goes go (suc o) some = refl

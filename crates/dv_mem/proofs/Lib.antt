@@ -6,3 +6,4 @@ pub mod Owners
 pub mod Storing
 pub mod Bytes
 pub mod Writing
+pub mod Data

@@ -75,3 +75,6 @@ has_stored h g o n k xs are is l =
 
 pub no_string_stored : (h g : WordHeap) (o k : ℕ) (xs : List ℕ) → kind_of h o ≢ Some kind.Str → g ≡ stored h o k xs → kind_of g o ≢ Some kind.Str
 no_string_stored h g o k xs plain is e = plain (sym (ap (λ (f : WordHeap). kind_of f o) is ∙ kind_stays h o k xs o) ∙ e)
+
+pub size_after : (h g : WordHeap) (o k : ℕ) (xs : List ℕ) → g ≡ stored h o k xs → length (words_of_object g o) ≡ length (words_of_object h o)
+size_after h g o k xs is = ap (λ (f : WordHeap). length (words_of_object f o)) is ∙ size_stays h o k xs

@@ -90,3 +90,17 @@ room t k n l = by (is_long t)
     by : (b : Bool) → let w : ℕ = elim b [ true ↦ 2 | false ↦ 1 ] in k * w + w ≤ n * w
     by true = omega (arith, l)
     by false = omega (arith, l)
+
+pub words_some : (t : Ty) → 0 < words_of t
+words_some t = by (is_long t)
+  where
+    by : (b : Bool) → let w : ℕ = elim b [ true ↦ 2 | false ↦ 1 ] in 0 < w
+    by true = omega arith
+    by false = omega arith
+
+take_whole : (xs : List ℤ) → take (length xs) xs ≡ xs
+take_whole [] = refl
+take_whole (x ∷ xs) = ap (λ (ys : List ℤ). x ∷ ys) (take_whole xs)
+
+pub take_elements : (n w : ℕ) (bs : List ℕ) (k : ℕ) → k ≡ n → take k (elements n w bs) ≡ elements n w bs
+take_elements n w bs k e = ap (λ (m : ℕ). take m (elements n w bs)) (e ∙ sym (element_count n w bs)) ∙ take_whole (elements n w bs)

@@ -1,5 +1,5 @@
 -- The elements of fill-array-data, as numbers low byte first.
-use Rattle.std.specs.Prelude.{◌≡◌, ◌≤◌, ℕ, zero, suc, ◌+◌, ◌*◌, Bool, List, [], ◌∷◌, length, slice_index, ℤ, Option, if◌then◌else◌}
+use Rattle.std.specs.Prelude.{◌≡◌, ◌≤◌, ◌^◌, ℕ, zero, suc, ◌+◌, ◌*◌, Bool, List, [], ◌∷◌, length, drop, slice_index, ℤ, Option, if◌then◌else◌}
 use Rattle.dv_defs.specs.declared.code.Payload.{Payload}
 use Rattle.dv_defs.specs.Numbers.{elements, hi_of, lo_of, signed_at}
 use Rattle.dv_defs.specs.Tiling.{bytes_in}
@@ -24,3 +24,8 @@ pub record AreElements (size count : ℕ) (units : List ℕ) (p : Option Payload
   pub width : size ≡ width_in p
   pub values : elements count size (bytes_in units) ≡ elements_in p
   pub whole : count * size ≤ 2 * length units
+
+-- units begin with a payload of data: behind its mark its width, the number of elements, and these
+pub record HasData (units : List ℕ) (p : Option Payload) : Type 0 where
+  pub inside : 4 ≤ length units
+  pub are : AreElements (slice_index units 1) (slice_index units 2 + slice_index units 3 * 2 ^ 16) (drop 4 units) p

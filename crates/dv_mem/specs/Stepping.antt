@@ -1,18 +1,17 @@
 -- The instruction at which the frame on top of a stack goes on.
-use Rattle.std.specs.Prelude.{◌≡◌, ℕ, Bool, true, false, drop, Some}
+use Rattle.std.specs.Prelude.{◌≡◌, ◌<◌, ℕ, Bool, true, false, drop, length, Some, Ok}
 use Rattle.dv_defs.specs.declared.code.Insn.{Insn}
 use Rattle.dv_defs.specs.Decoding.{insn_here}
 use Rattle.dv_defs.specs.Images.{Image}
-use Rattle.dv_defs.specs.Op.{Op, Code, code_at, IntDivide, LongDivide, ConstString, ConstClass, Cast, InstanceOf, ArrayLength, New, NewArray, Filled, Fill, Throw, ArrayGet, ArrayPut, FieldGet, FieldPut, StaticGet, StaticPut}
+use Rattle.dv_defs.specs.Op.{Op, Code, code_at, op_of, IntDivide, LongDivide, ConstString, ConstClass, Cast, InstanceOf, ArrayLength, New, NewArray, Filled, Fill, Throw, ArrayGet, ArrayPut, FieldGet, FieldPut, StaticGet, StaticPut}
 use Rattle.dv_defs.specs.Statics.{At, fetch}
 use Rattle.dv_words.specs.declared.state.Frame.{Frame}
 use Rattle.dv_words.specs.declared.state.Level.TheVariants as level
 use Rattle.dv_words.specs.Stacks.{first}
 use Rattle.dv_words.specs.State.{WordHeap, WordStack}
-use Rattle.dv_defs.specs.Tiling.{payload_at}
 use Rattle.dv_ops.specs.declared.op.Op as op
 use Rattle.dv_ops.specs.declared.op.Op.TheVariants as op_is
-use Rattle.dv_ops.specs.Meaning.{field_of, is_data}
+use Rattle.dv_ops.specs.Meaning.{field_of}
 use Rattle.dv_mem.specs.Operands.{HasStaticWords}
 
 -- the frame is on top, the instruction is spelled where it goes on, and this is the operation with the address after it
@@ -23,6 +22,17 @@ pub record GoesOnAt (image : Image) (stack : WordStack) (insn : Insn) (s : Frame
   pub size : ℕ
   pub spelled : insn_here (drop s.at code.body.units) ≡ Some (record { insn = insn; size = size })
   pub fetched : fetch image s.method.0 s.at ≡ Some x
+
+-- the frame is on top, and this is the operation that the instruction means where it goes on
+pub record IsMeant (image : Image) (stack : WordStack) (insn : Insn) (s : Frame) (op : Op) : Type 0 where
+  pub on_top : first stack.levels ≡ Some (level.Code s)
+  pub code : Code
+  pub has_code : code_at image s.method.0 ≡ Some code
+  pub within : s.at < length code.body.units
+  pub means : op_of image code s.at insn ≡ Ok op
+
+abbrev pub AreAsBefore : WordStack → WordHeap → WordStack → WordHeap → Type 0
+AreAsBefore s h s' h' = (s' ≡ s) × (h' ≡ h)
 
 -- on objects, arrays and fields, a division or a cast
 abbrev pub is_mem : Op → Bool
@@ -45,11 +55,6 @@ is_mem (FieldPut s a b x) = true
 is_mem (StaticGet s a x) = true
 is_mem (StaticPut s a x) = true
 is_mem op = false
-
--- a payload of data stands where fill-array-data says
-abbrev pub IsReadable : Code → op.Op → Type 0
-IsReadable code (op_is.Fill a to) = is_data (payload_at code.tiles to) ≡ true
-IsReadable code o = Unit {0}
 
 -- a static field that the operation names has its words
 abbrev pub HasFields : WordHeap → op.Op → Type 0

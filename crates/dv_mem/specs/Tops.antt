@@ -24,8 +24,11 @@ abbrev pub top_frame : WordStack → Frame
 top_frame s = frame_in s.levels
 
 -- what an operation sees
+abbrev pub here : Image → Frame → WordHeap → ℕ → WordHere
+here image f h next = record { image = image; frame = f; heap = h; next = next }
+
 abbrev pub seen : Image → WordStack → WordHeap → ℕ → WordHere
-seen image s h next = record { image = image; frame = top_frame s; heap = h; next = next }
+seen image s h next = here image (top_frame s) h next
 
 -- an answer that doesn't want memory
 abbrev pub Answers : Next → Did WordLeft → WordStack → WordHeap → WordStack → WordHeap → Type 0

@@ -6,7 +6,7 @@ ghost use Rattle.dv_defs.specs.Numbers.{elements};
 ghost use Rattle.dv_defs.specs.Op.{Fill};
 ghost use Rattle.dv_defs.specs.Tiling.{bytes_in, payload_at, tiles_in, tiling};
 ghost use Rattle.dv_defs.specs.Types as types;
-ghost use Rattle.dv_ops.specs.Meaning.{elements_in, is_data, width_in};
+ghost use Rattle.dv_ops.specs.Meaning.{elements_in, width_in};
 ghost use Rattle.dv_words.specs.declared.state.Kind.TheVariants as kind;
 ghost use Rattle.dv_words.specs.Heaps.{kind_of, words_of_object};
 ghost use Rattle.dv_steps.specs.Local.{reg_word};
@@ -116,6 +116,7 @@ fn fill_array(
 /// # Errors
 ///
 /// Want of memory; all is as before then.
+#[tactic(auto, using(crate::proofs::Data::typed_is_data))]
 pub fn fill(
     units: &[u16],
     heap: &mut Heap,
@@ -125,7 +126,7 @@ pub fn fill(
     to: u32,
 ) -> Result<Next, AllocError>
     ensures { (image : Linked) → let p = payload_at (tiles_in (tiling units.now)) to in
-        is_data p ≡ true → IsNullOrArray (is_fill_type (width_in p)) heap.old (reg_word (top_frame stack.old) a) →
+        IsNullOrArray (is_fill_type (width_in p)) heap.old (reg_word (top_frame stack.old) a) →
         Answered result (word_mem (seen image stack.old heap.old next) (Fill a (width_in p) (elements_in p))) stack.old heap.old stack.new heap.new }
 {
     let array = word(stack, a);

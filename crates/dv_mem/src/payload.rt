@@ -1,10 +1,9 @@
 // The elements of fill-array-data, read where they stand (AOSP, "Dalvik bytecode format", fill-array-data-payload format).
-ghost use Rattle.std.specs.Prelude.{◌≡◌, ◌*◌, ◌<◌, ◌≤◌, ◌^◌, true, slice_index, nat_eq, length, IfSome, IsSomeAnd};
-ghost use Rattle.dv_defs.specs.declared.names.Ty.{Ty as Kept};
-ghost use Rattle.dv_defs.specs.Demands.{is_fill_type};
+ghost use Rattle.std.specs.Prelude.{◌≡◌, ◌*◌, ◌<◌, ◌≤◌, ◌^◌, true, Option, drop, slice_index, nat_eq, length, IfSome, IsSomeAnd};
+ghost use Rattle.dv_defs.specs.declared.code.Payload.{Payload};
 ghost use Rattle.dv_defs.specs.Tiling.{bytes_in, is_width, payload_at, tiles_in, tiling};
 ghost use Rattle.dv_ops.specs.Meaning.{is_data};
-ghost use Rattle.dv_mem.specs.Payloads.{AreElements, element_at, number_at, words_of_number};
+ghost use Rattle.dv_mem.specs.Payloads.{AreElements, HasData, element_at, number_at, words_of_number};
 ghost use Rattle.dv_mem.specs.Values.{listed};
 
 use crate::words::Words;
@@ -17,26 +16,48 @@ pub struct Data<'a> {
     pub units: &'a [u16],
 }
 
+/// The units from an address on.
+fn units_from(units: &[u16], at: usize) -> &[u16]
+    requires { at ≤ length units.now }
+    ensures { result.now ≡ drop at units.now }
+{
+    &units[at..]
+}
+
+/// The data that begin units behind their mark: the size of an element, the number of elements, and the elements.
+fn data_in(units: &[u16]) -> Option<Data<'_>>
+    ensures found { (p : Option Payload) → HasData units.now p → IsSomeAnd result (λ d. AreElements d.width d.count d.units.now p) }
+    ensures whole { IfSome result (λ d. d.count * d.width ≤ 2 * length d.units.now) }
+{
+    if units.len() < 4 {
+        return None;
+    }
+    let width = units[1];
+    let count = u32::from(units[2]) + u32::from(units[3]) * 0x1_0000;
+    let rest = units_from(units, 4);
+    let bytes = u64::from(count) * u64::from(width);
+    if (bytes + 1) / 2 > rest.len() as u64 {
+        return None;
+    }
+    Some(Data {
+        width,
+        count,
+        units: rest,
+    })
+}
+
 /// The payload of fill-array-data at an address.
+#[tactic(auto, using(crate::proofs::Data::data_there))]
 pub fn data_at(units: &[u16], at: u32) -> Option<Data<'_>>
     ensures found { is_data (payload_at (tiles_in (tiling units.now)) at) ≡ true →
         IsSomeAnd result (λ d. AreElements d.width d.count d.units.now (payload_at (tiles_in (tiling units.now)) at)) }
     ensures whole { IfSome result (λ d. d.count * d.width ≤ 2 * length d.units.now) }
 {
-    let rest = units.get(at as usize..)?;
-    let [_, width, low, high, data @ ..] = rest else {
-        return None;
-    };
-    let count = u32::from(*low) + u32::from(*high) * 0x1_0000;
-    let bytes = u64::from(count) * u64::from(*width);
-    if bytes.div_ceil(2) > data.len() as u64 {
+    let at = at as usize;
+    if units.len() < at {
         return None;
     }
-    Some(Data {
-        width: *width,
-        count,
-        units: data,
-    })
+    data_in(units_from(units, at))
 }
 
 /// A unit, 0 past the end.

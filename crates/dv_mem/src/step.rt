@@ -1,7 +1,7 @@
 // A step of the frame on top: an instruction on objects, arrays and fields, a division or a cast.
 ghost use Rattle.std.specs.Prelude.{◌≡◌, ◌+◌, ◌≤◌, ℕ, true, false, length, None, Some};
 ghost use Rattle.dv_defs.specs.Formats.{size_at};
-ghost use Rattle.dv_defs.specs.Op.{Code};
+ghost use Rattle.dv_defs.specs.Op.{Code, Op as Operation};
 ghost use Rattle.dv_defs.specs.Statics.{At};
 ghost use Rattle.dv_defs.specs.Tiling.{tiling, tiles_in};
 ghost use Rattle.dv_ops.specs.Meaning.{meant};
@@ -9,8 +9,8 @@ ghost use Rattle.dv_words.specs.declared.state.Frame.{Frame as Activation};
 ghost use Rattle.dv_steps.specs.Mem.{word_mem};
 ghost use Rattle.dv_steps.specs.Stepping.{Answered};
 ghost use Rattle.dv_mem.specs.Operands.{AreOperands, HasStatic};
-ghost use Rattle.dv_mem.specs.Stepping.{GoesOnAt, HasFields, IsReadable, is_mem};
-ghost use Rattle.dv_mem.specs.Tops.{seen};
+ghost use Rattle.dv_mem.specs.Stepping.{AreAsBefore, GoesOnAt, HasFields, IsMeant, is_mem};
+ghost use Rattle.dv_mem.specs.Tops.{here, seen};
 
 use crate::divisions::{divide_ints, divide_longs};
 use crate::elements::{array_get, array_length, array_put};
@@ -27,6 +27,14 @@ use dv_ops::{Op, coded_at};
 use dv_units::insn_size;
 use std::alloc::AllocError;
 
+/// The number of units of an instruction with an opcode, 0 where the opcode has no format.
+fn size_of(op: u8) -> u32
+    ensures size { result ≡ size_at op }
+    ensures few { result ≤ 5 }
+{
+    insn_size(op) as u32
+}
+
 /// Does an operation, if it is one on objects, arrays and fields, a division or a cast. The units are those of the method on top.
 fn operate(
     image: &Image,
@@ -37,7 +45,7 @@ fn operate(
     op: Op<'_>,
 ) -> Result<Next, AllocError>
     requires { HasFields heap.old op }
-    ensures does { (code : Code) (at : ℕ) → code.tiles ≡ tiles_in (tiling units.now) → IsReadable code op.entry → is_mem (meant code at op.entry) ≡ true → AreOperands (seen image.now stack.old heap.old next) (meant code at op.entry) →
+    ensures does { (code : Code) (at : ℕ) → code.tiles ≡ tiles_in (tiling units.now) → is_mem (meant code at op.entry) ≡ true → AreOperands (seen image.now stack.old heap.old next) (meant code at op.entry) →
         Answered result (word_mem (seen image.now stack.old heap.old next) (meant code at op.entry)) stack.old heap.old stack.new heap.new }
     ensures stack_stays { (code : Code) (at : ℕ) → is_mem (meant code at op.entry) ≡ false → stack.new ≡ stack.old }
     ensures heap_stays { (code : Code) (at : ℕ) → is_mem (meant code at op.entry) ≡ false → heap.new ≡ heap.old }
@@ -63,4 +71,40 @@ fn operate(
         Op::StaticPut(_, a, field) => Ok(static_put(heap, stack, next, a, &field)),
         _ => Ok(Next::On),
     }
+}
+
+/// The next step of the frame on top, whose instruction this is: one on objects, arrays and fields, a division or a cast. Where it is
+/// another, or none stands there, nothing is done.
+///
+/// # Errors
+///
+/// Want of memory; all is as before then.
+pub fn mem_step(
+    image: &Image,
+    heap: &mut Heap,
+    stack: &mut Stack,
+    insn: &Insn,
+) -> Result<Next, AllocError>
+    requires { (s : Activation) (op : Operation) → IsMeant image.now stack.old insn.now s op → HasStatic heap.old op }
+    ensures does { (s : Activation) (x : At) → GoesOnAt image.now stack.old insn.now s x → is_mem x.op ≡ true → AreOperands (here image.now s heap.old x.next) x.op →
+        Answered result (word_mem (here image.now s heap.old x.next) x.op) stack.old heap.old stack.new heap.new }
+
+    // Any other operation, or none.
+    ensures other { (s : Activation) (op : Operation) → IsMeant image.now stack.old insn.now s op → is_mem op ≡ false → AreAsBefore stack.old heap.old stack.new heap.new }
+    ensures none { ((s : Activation) (op : Operation) → IsMeant image.now stack.old insn.now s op → ⊥) → AreAsBefore stack.old heap.old stack.new heap.new }
+{
+    let Some(head) = stack.head() else {
+        return Ok(Next::On);
+    };
+    let Some(code) = coded_at(image, head.method) else {
+        return Ok(Next::On);
+    };
+    let units = units_of(&code);
+    if head.at as usize >= units.len() {
+        return Ok(Next::On);
+    }
+    let Ok(op) = resolve(image, &code, head.at, insn) else {
+        return Ok(Next::On);
+    };
+    operate(image, units, heap, stack, head.at + size_of(insn.op), op)
 }

@@ -1,0 +1,16 @@
+use Rattle.dv_mem.proofs.step.mem_step.Goals as goal
+
+pub returns-in_default-resolve-clause-does : goal.returns-in_default-resolve-clause-does
+returns-in_default-resolve-clause-does c = ?
+
+pub operate-requires : goal.operate-requires
+operate-requires c = ?
+
+pub returns-clause-does : goal.returns-clause-does
+returns-clause-does c = ?
+
+pub returns-clause-other : goal.returns-clause-other
+returns-clause-other c = ?
+
+pub returns-clause-none : goal.returns-clause-none
+returns-clause-none c = ?
