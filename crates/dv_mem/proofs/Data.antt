@@ -26,15 +26,16 @@ typed_is_data (Some (payload.Sparse ks ts)) t e = absurd (cc e)
 
 -- ---- elements of the first bytes
 
+none_taken : (m : ℕ) → (let xs : List ℕ = [] in xs) ≡ take m []
+none_taken zero = refl
+none_taken (suc m) = refl
+
 drop_take : (d m : ℕ) (ys : List ℕ) → drop d (take (d + m) ys) ≡ take m (drop d ys)
 drop_take zero m ys = let same : 0 + m ≡ m = omega arith in ap (λ (k : ℕ). take k ys) same
 drop_take (suc d) m [] =
     let same : suc d + m ≡ suc (d + m) = omega arith in
-    ap (λ (k : ℕ). drop (suc d) (take k [])) same ∙ none m
-  where
-    none : (m : ℕ) → [] ≡ take m []
-    none zero = refl
-    none (suc m) = refl
+    let before : drop (suc d) (take (suc d + m) []) ≡ [] = ap (λ (k : ℕ). drop (suc d) (take k [])) same in
+    before ∙ none_taken m
 drop_take (suc d) m (y ∷ ys) =
     let same : suc d + m ≡ suc (d + m) = omega arith in
     ap (λ (k : ℕ). drop (suc d) (take k (y ∷ ys))) same ∙ drop_take d m ys

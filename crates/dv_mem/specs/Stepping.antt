@@ -11,7 +11,7 @@ use Rattle.dv_words.specs.Stacks.{first}
 use Rattle.dv_words.specs.State.{WordHeap, WordStack}
 use Rattle.dv_ops.specs.declared.op.Op as op
 use Rattle.dv_ops.specs.declared.op.Op.TheVariants as op_is
-use Rattle.dv_ops.specs.Meaning.{field_of}
+use Rattle.dv_ops.specs.Meaning.{field_of, has_payload}
 use Rattle.dv_mem.specs.Operands.{HasStaticWords}
 
 -- the frame is on top, the instruction is spelled where it goes on, and this is the operation with the address after it
@@ -23,13 +23,22 @@ pub record GoesOnAt (image : Image) (stack : WordStack) (insn : Insn) (s : Frame
   pub spelled : insn_here (drop s.at code.body.units) ≡ Some (record { insn = insn; size = size })
   pub fetched : fetch image s.method.0 s.at ≡ Some x
 
--- the frame is on top, and this is the operation that the instruction means where it goes on
-pub record IsMeant (image : Image) (stack : WordStack) (insn : Insn) (s : Frame) (op : Op) : Type 0 where
+-- the frame is on top, and goes on inside its method's units
+pub record IsOnTop (stack : WordStack) (image : Image) (s : Frame) (code : Code) : Type 0 where
   pub on_top : first stack.levels ≡ Some (level.Code s)
-  pub code : Code
   pub has_code : code_at image s.method.0 ≡ Some code
   pub within : s.at < length code.body.units
+
+-- this is the operation that the instruction means there
+pub record IsMeant (image : Image) (stack : WordStack) (insn : Insn) (s : Frame) (op : Op) : Type 0 where
+  pub code : Code
+  pub on_top : IsOnTop stack image s code
   pub means : op_of image code s.at insn ≡ Ok op
+
+-- it means none, though a payload stands where it says, if it says so
+abbrev pub MeansNone : Image → WordStack → Insn → Type 0
+MeansNone image stack insn =
+    (s : Frame) (code : Code) → IsOnTop stack image s code → (has_payload code s.at insn ≡ true) × ((op : Op) → op_of image code s.at insn ≡ Ok op → ⊥)
 
 abbrev pub AreAsBefore : WordStack → WordHeap → WordStack → WordHeap → Type 0
 AreAsBefore s h s' h' = (s' ≡ s) × (h' ≡ h)

@@ -47,7 +47,6 @@ fn data_in(units: &[u16]) -> Option<Data<'_>>
 }
 
 /// The payload of fill-array-data at an address.
-#[tactic(auto, using(crate::proofs::Data::data_there))]
 pub fn data_at(units: &[u16], at: u32) -> Option<Data<'_>>
     ensures found { is_data (payload_at (tiles_in (tiling units.now)) at) ≡ true →
         IsSomeAnd result (λ d. AreElements d.width d.count d.units.now (payload_at (tiles_in (tiling units.now)) at)) }

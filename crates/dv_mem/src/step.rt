@@ -1,15 +1,18 @@
 // A step of the frame on top: an instruction on objects, arrays and fields, a division or a cast.
-ghost use Rattle.std.specs.Prelude.{◌≡◌, ◌+◌, ◌≤◌, ℕ, true, false, length, None, Some};
+ghost use Rattle.std.specs.Prelude.{◌≡◌, ◌≤◌, ℕ, Option, true, false, option_map};
+ghost use Rattle.dv_defs.specs.declared.code.Payload.{Payload};
+ghost use Rattle.dv_defs.specs.Families.{family_at};
 ghost use Rattle.dv_defs.specs.Formats.{size_at};
 ghost use Rattle.dv_defs.specs.Op.{Code, Op as Operation};
 ghost use Rattle.dv_defs.specs.Statics.{At};
 ghost use Rattle.dv_defs.specs.Tiling.{tiling, tiles_in};
-ghost use Rattle.dv_ops.specs.Meaning.{meant};
+ghost use Rattle.dv_ops.specs.Meaning.{has_payload_of, meant};
+ghost use Rattle.dv_units.specs.Tables.{standard_family};
 ghost use Rattle.dv_words.specs.declared.state.Frame.{Frame as Activation};
 ghost use Rattle.dv_steps.specs.Mem.{word_mem};
 ghost use Rattle.dv_steps.specs.Stepping.{Answered};
 ghost use Rattle.dv_mem.specs.Operands.{AreOperands, HasStatic};
-ghost use Rattle.dv_mem.specs.Stepping.{AreAsBefore, GoesOnAt, HasFields, IsMeant, is_mem};
+ghost use Rattle.dv_mem.specs.Stepping.{AreAsBefore, GoesOnAt, HasFields, IsMeant, MeansNone, is_mem};
 ghost use Rattle.dv_mem.specs.Tops.{here, seen};
 
 use crate::divisions::{divide_ints, divide_longs};
@@ -24,8 +27,27 @@ use dv_fetch::{resolve, units_of};
 use dv_frames::Stack;
 use dv_heap::Heap;
 use dv_ops::{Op, coded_at};
+use dv_optable::{Family, kind_of};
 use dv_units::insn_size;
 use std::alloc::AllocError;
+
+/// The family of an opcode, none where it is unused or a float's.
+#[tactic(auto, using(dv_units::proofs::Opcodes::families_agree))]
+fn family_of(op: u8) -> Option<Family>
+    ensures { option_map standard_family result ≡ family_at op }
+{
+    kind_of(op)
+}
+
+/// Whether the instructions of an opcode have a payload.
+fn has_payload(op: u8) -> bool
+    ensures { (p : Option Payload) → result ≡ false → has_payload_of (family_at op) p ≡ true }
+{
+    matches!(
+        family_of(op),
+        Some(Family::PackedSwitch | Family::SparseSwitch | Family::FillArrayData)
+    )
+}
 
 /// The number of units of an instruction with an opcode, 0 where the opcode has no format.
 fn size_of(op: u8) -> u32
@@ -91,7 +113,7 @@ pub fn mem_step(
 
     // Any other operation, or none.
     ensures other { (s : Activation) (op : Operation) → IsMeant image.now stack.old insn.now s op → is_mem op ≡ false → AreAsBefore stack.old heap.old stack.new heap.new }
-    ensures none { ((s : Activation) (op : Operation) → IsMeant image.now stack.old insn.now s op → ⊥) → AreAsBefore stack.old heap.old stack.new heap.new }
+    ensures none { MeansNone image.now stack.old insn.now → AreAsBefore stack.old heap.old stack.new heap.new }
 {
     let Some(head) = stack.head() else {
         return Ok(Next::On);
@@ -106,5 +128,8 @@ pub fn mem_step(
     let Ok(op) = resolve(image, &code, head.at, insn) else {
         return Ok(Next::On);
     };
+    if has_payload(insn.op) && !matches!(op, Op::Fill(_, _)) {
+        return Ok(Next::On);
+    }
     operate(image, units, heap, stack, head.at + size_of(insn.op), op)
 }
