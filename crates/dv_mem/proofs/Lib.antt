@@ -7,3 +7,4 @@ pub mod Storing
 pub mod Bytes
 pub mod Writing
 pub mod Data
+pub mod OnTop

@@ -1,7 +1,8 @@
 -- The instruction at which the frame on top of a stack goes on.
-use Rattle.std.specs.Prelude.{◌≡◌, ◌<◌, ℕ, Bool, true, false, drop, length, Some, Ok}
+use Rattle.std.specs.Prelude.{◌≡◌, ◌<◌, ℕ, Bool, true, false, drop, length, Option, Some, Ok}
 use Rattle.dv_defs.specs.declared.code.Insn.{Insn}
 use Rattle.dv_defs.specs.Decoding.{insn_here}
+use Rattle.dv_defs.specs.Families.{Family}
 use Rattle.dv_defs.specs.Images.{Image}
 use Rattle.dv_defs.specs.Op.{Op, Code, code_at, op_of, IntDivide, LongDivide, ConstString, ConstClass, Cast, InstanceOf, ArrayLength, New, NewArray, Filled, Fill, Throw, ArrayGet, ArrayPut, FieldGet, FieldPut, StaticGet, StaticPut}
 use Rattle.dv_defs.specs.Statics.{At, fetch}
@@ -70,3 +71,15 @@ abbrev pub HasFields : WordHeap → op.Op → Type 0
 HasFields heap (op_is.StaticGet s a x) = HasStaticWords heap (field_of x)
 HasFields heap (op_is.StaticPut s a x) = HasStaticWords heap (field_of x)
 HasFields heap o = Unit {0}
+
+-- ---- instructions with a payload
+
+abbrev pub is_with_payload : Option Family → Bool
+is_with_payload (Some Family.PackedSwitch) = true
+is_with_payload (Some Family.SparseSwitch) = true
+is_with_payload (Some Family.FillArrayData) = true
+is_with_payload f = false
+
+abbrev pub is_fill : op.Op → Bool
+is_fill (op_is.Fill a to) = true
+is_fill o = false

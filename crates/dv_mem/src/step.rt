@@ -1,18 +1,18 @@
 // A step of the frame on top: an instruction on objects, arrays and fields, a division or a cast.
-ghost use Rattle.std.specs.Prelude.{◌≡◌, ◌≤◌, ℕ, Option, true, false, option_map};
-ghost use Rattle.dv_defs.specs.declared.code.Payload.{Payload};
+ghost use Rattle.std.specs.Prelude.{◌≡◌, ◌↔◌, ◌<◌, ◌≤◌, ◌||◌, not, ℕ, true, false, length, option_map, IsTrue};
 ghost use Rattle.dv_defs.specs.Families.{family_at};
 ghost use Rattle.dv_defs.specs.Formats.{size_at};
 ghost use Rattle.dv_defs.specs.Op.{Code, Op as Operation};
+ghost use Rattle.dv_defs.specs.Spelling.{all_fit};
 ghost use Rattle.dv_defs.specs.Statics.{At};
 ghost use Rattle.dv_defs.specs.Tiling.{tiling, tiles_in};
-ghost use Rattle.dv_ops.specs.Meaning.{has_payload_of, meant};
+ghost use Rattle.dv_ops.specs.Meaning.{meant};
 ghost use Rattle.dv_units.specs.Tables.{standard_family};
 ghost use Rattle.dv_words.specs.declared.state.Frame.{Frame as Activation};
 ghost use Rattle.dv_steps.specs.Mem.{word_mem};
 ghost use Rattle.dv_steps.specs.Stepping.{Answered};
 ghost use Rattle.dv_mem.specs.Operands.{AreOperands, HasStatic};
-ghost use Rattle.dv_mem.specs.Stepping.{AreAsBefore, GoesOnAt, HasFields, IsMeant, MeansNone, is_mem};
+ghost use Rattle.dv_mem.specs.Stepping.{AreAsBefore, GoesOnAt, HasFields, IsMeant, MeansNone, is_fill, is_mem, is_with_payload};
 ghost use Rattle.dv_mem.specs.Tops.{here, seen};
 
 use crate::divisions::{divide_ints, divide_longs};
@@ -41,12 +41,33 @@ fn family_of(op: u8) -> Option<Family>
 
 /// Whether the instructions of an opcode have a payload.
 fn has_payload(op: u8) -> bool
-    ensures { (p : Option Payload) → result ≡ false → has_payload_of (family_at op) p ≡ true }
+    ensures { result ≡ is_with_payload (family_at op) }
 {
     matches!(
         family_of(op),
         Some(Family::PackedSwitch | Family::SparseSwitch | Family::FillArrayData)
     )
+}
+
+fn is_fill(op: &Op<'_>) -> bool
+    ensures { result ≡ is_fill op.now }
+{
+    matches!(op, Op::Fill(_, _))
+}
+
+/// Whether an instruction of this opcode may be that operation: of those with a payload, fill-array-data alone is done here.
+fn may_be(opcode: u8, op: &Op<'_>) -> bool
+    ensures { result ≡ (not (is_with_payload (family_at opcode)) || is_fill op.now) }
+{
+    !has_payload(opcode) || is_fill(op)
+}
+
+/// Whether an address lies in units, which have 16 bits.
+fn is_within(units: &[u16], at: u32) -> bool
+    ensures within { IsTrue result ↔ (at < length units.now) }
+    ensures whole { all_fit 16 units.now ≡ true }
+{
+    (at as usize) < units.len()
 }
 
 /// The number of units of an instruction with an opcode, 0 where the opcode has no format.
@@ -122,13 +143,13 @@ pub fn mem_step(
         return Ok(Next::On);
     };
     let units = units_of(&code);
-    if head.at as usize >= units.len() {
+    if !is_within(units, head.at) {
         return Ok(Next::On);
     }
     let Ok(op) = resolve(image, &code, head.at, insn) else {
         return Ok(Next::On);
     };
-    if has_payload(insn.op) && !matches!(op, Op::Fill(_, _)) {
+    if !may_be(insn.op, &op) {
         return Ok(Next::On);
     }
     operate(image, units, heap, stack, head.at + size_of(insn.op), op)
