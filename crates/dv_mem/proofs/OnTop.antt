@@ -68,13 +68,13 @@ frame_is stack s e = frame_first stack.levels s e
 
 -- what the head on top and the method's code say of the frame
 pub record Agrees (h : Head) (own : Code) (s : Frame) (code : Code) : Type 0 where
-  pub head : h ≡ head_in s
-  pub code : own ≡ code
+  pub same_head : h ≡ head_in s
+  pub same_code : own ≡ code
 
-pub agrees : (image : Image) (stack : WordStack) (h : Head) (own : Code) (s : Frame) (code : Code) → Some h ≡ head_of (first stack.levels) → Some own ≡ code_at image h.method.0 → IsOnTop stack image s code → Agrees h own s code
-agrees image stack h own s code is has top =
-    let same : h ≡ head_in s = same_Some h (head_in s) (is ∙ ap head_of top.on_top) in
-    record { head = same; code = same_Some own code (has ∙ ap (λ (x : Head). code_at image x.method.0) same ∙ top.has_code) }
+pub agrees : (image : Image) (stack : WordStack) (h : Head) (own : Code) (s : Frame) (code : Code) → Some h ≡ head_of (first stack.levels) → Some own ≡ code_at image h.method.0 → first stack.levels ≡ Some (level.Code s) → code_at image s.method.0 ≡ Some code → Agrees h own s code
+agrees image stack h own s code is has on_top has_code =
+    let same : h ≡ head_in s = same_Some h (head_in s) (is ∙ ap head_of on_top) in
+    record { same_head = same; same_code = same_Some own code (has ∙ ap (λ (x : Head). code_at image x.method.0) same ∙ has_code) }
 
 -- ---- the instruction that is spelled there
 
@@ -119,8 +119,8 @@ goes_on image stack insn s x fits g =
 pub meant_there : (image : Image) (code : Code) (at : ℕ) (insn : Insn) (op : def.Op) (r : Result Op Rule) → (has_payload code at insn ≡ true → meant_or_rule code at r ≡ op_of image code at insn) → op_of image code at insn ≡ Ok op → meant_or_rule code at r ≡ Ok op
 meant_there image code at insn op r resolves means = resolves (payload_there image code at insn op means) ∙ means
 
-pub op_is : (code : Code) (at : ℕ) (o : Op) (op : def.Op) → meant_or_rule code at (Ok o) ≡ Ok op → meant code at o ≡ op
-op_is code at o op e = let whole : (let r : Resolved = Ok (meant code at o) in r) ≡ Ok op = e in cc whole
+pub op_meant : (code : Code) (at : ℕ) (o : Op) (op : def.Op) → meant_or_rule code at (Ok o) ≡ Ok op → meant code at o ≡ op
+op_meant code at o op e = let whole : (let r : Resolved = Ok (meant code at o) in r) ≡ Ok op = e in cc whole
 
 pub no_rule : (code : Code) (at : ℕ) (broken : Rule) (op : def.Op) → meant_or_rule code at (Err broken) ≡ Ok op → ⊥
 no_rule code at broken op e = absurd (let whole : (let r : Resolved = Err broken in r) ≡ Ok op = e in cc whole)
@@ -196,3 +196,33 @@ has_fields heap code at i o may has = by (is_with_payload (family_at i.op)) (is_
     by false b none is e = static_of heap code at o (has (without_payload (family_at i.op) (payload_at code.tiles (jump at i.off)) none))
     by true true some is e = fill_has heap o is
     by true false some is e = absurd (cc e)
+
+-- ---- from the head and the code that were read
+
+module _ (image : Image) (stack : WordStack) (insn : Insn) (h : Head) (own : Code) (is : Some h ≡ head_of (first stack.levels)) (has : Some own ≡ code_at image h.method.0) where
+  pub fits_all : all_fit 16 own.body.units ≡ true → (s : Frame) → first stack.levels ≡ Some (level.Code s) → (code : Code) → code_at image s.method.0 ≡ Some code → all_fit 16 code.body.units ≡ true
+  fits_all fit s on_top code has_code =
+      let same = (agrees image stack h own s code is has on_top has_code).same_code in
+      ap (λ (c : Code). all_fit 16 c.body.units) (sym same) ∙ fit
+
+  pub means_own : (s : Frame) (op : def.Op) → IsMeant image stack insn s op → op_of image own h.at insn ≡ Ok op
+  means_own s op m =
+      let same = agrees image stack h own s m.code is has m.on_top.on_top m.on_top.has_code in
+      ap (λ (x : Head). op_of image own x.at insn) same.same_head ∙ ap (λ (c : Code). op_of image c s.at insn) same.same_code ∙ m.means
+
+  pub frame_on_top : IsCodeOf (first stack.levels) h
+  frame_on_top = code_of_head (first stack.levels) h is
+
+  pub on_top_own : h.at < length own.body.units → IsOnTop stack image frame_on_top.frame own
+  on_top_own within =
+      record {
+        on_top = frame_on_top.is;
+        has_code = ap (λ (x : Head). code_at image x.method.0) (sym frame_on_top.same) ∙ sym has;
+        within = omega (arith, within, ap (λ (x : Head). x.at) frame_on_top.same);
+      }
+
+  pub means_there : (o : Op) → meant_or_rule own h.at (Ok o) ≡ op_of image own h.at insn → op_of image own frame_on_top.frame.at insn ≡ Ok (meant own h.at o)
+  means_there o e = ap (λ (x : Head). op_of image own x.at insn) (sym frame_on_top.same) ∙ sym e
+
+  pub payload_here : has_payload own frame_on_top.frame.at insn ≡ true → has_payload own h.at insn ≡ true
+  payload_here p = ap (λ (x : Head). has_payload own x.at insn) frame_on_top.same ∙ p

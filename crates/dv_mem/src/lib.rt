@@ -13,3 +13,8 @@ mod payload;
 mod registers;
 mod step;
 mod words;
+
+pub use step::mem_step;
+
+#[cfg(test)]
+mod tests;
