@@ -43,7 +43,7 @@ fn is_wide(suffix: Suffix) -> bool
 }
 
 /// The place of an element's first word among so many words.
-fn slot_of(size: u32, wide: bool, index: i32) -> Option<u32>
+pub fn slot_of(size: u32, wide: bool, index: i32) -> Option<u32>
     ensures { result ≡ slot_in size wide index }
 {
     let index = u32::try_from(index).ok()?;
@@ -89,7 +89,15 @@ pub fn array_length(heap: &Heap, stack: &mut Stack, next: u32, a: u16, b: u16) -
 }
 
 /// aget and its kin: register a takes the element of array b at index c.
-pub fn array_get(heap: &Heap, stack: &mut Stack, next: u32, suffix: Suffix, a: u16, b: u16, c: u16) -> Next
+pub fn array_get(
+    heap: &Heap,
+    stack: &mut Stack,
+    next: u32,
+    suffix: Suffix,
+    a: u16,
+    b: u16,
+    c: u16,
+) -> Next
     ensures { (image : Linked) → IsNullOrArray (is_of_suffix (standard_suffix suffix)) heap.now (reg_word (top_frame stack.old) b) →
         Answers result (word_mem (seen image stack.old heap.now next) (ArrayGet (standard_suffix suffix) a b c)) stack.old heap.now stack.new heap.now }
 {

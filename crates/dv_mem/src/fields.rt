@@ -57,7 +57,14 @@ fn owner(heap: &Heap, object: u32, field: &Field<'_>) -> Result<u32, Named>
 }
 
 /// iget and its kin: register a takes the field of b.
-pub fn field_get(heap: &Heap, stack: &mut Stack, next: u32, a: u16, b: u16, field: &Field<'_>) -> Next
+pub fn field_get(
+    heap: &Heap,
+    stack: &mut Stack,
+    next: u32,
+    a: u16,
+    b: u16,
+    field: &Field<'_>,
+) -> Next
     ensures { (image : Linked) (s : Ending) → IsNullOrOwner (field_of field.now) heap.now (reg_word (top_frame stack.old) b) →
         Answers result (word_mem (seen image stack.old heap.now next) (FieldGet s a b (field_of field.now))) stack.old heap.now stack.new heap.now }
 {
@@ -73,7 +80,14 @@ pub fn field_get(heap: &Heap, stack: &mut Stack, next: u32, a: u16, b: u16, fiel
 }
 
 /// iput and its kin: the field of b takes register a.
-pub fn field_put(heap: &mut Heap, stack: &mut Stack, next: u32, a: u16, b: u16, field: &Field<'_>) -> Next
+pub fn field_put(
+    heap: &mut Heap,
+    stack: &mut Stack,
+    next: u32,
+    a: u16,
+    b: u16,
+    field: &Field<'_>,
+) -> Next
     ensures { (image : Linked) (s : Ending) → IsNullOrOwner (field_of field.now) heap.old (reg_word (top_frame stack.old) b) →
         Answers result (word_mem (seen image stack.old heap.old next) (FieldPut s a b (field_of field.now))) stack.old heap.old stack.new heap.new }
 {
@@ -82,7 +96,12 @@ pub fn field_put(heap: &mut Heap, stack: &mut Stack, next: u32, a: u16, b: u16, 
         Err(named) => Next::Throw(named),
         Ok(object) => {
             let value = words::register(stack, a, is_long(&def.ty));
-            store(heap, object, field.info.slot, narrowed_words(&def.ty, value));
+            store(
+                heap,
+                object,
+                field.info.slot,
+                narrowed_words(&def.ty, value),
+            );
             go_on(stack, next);
             Next::On
         }

@@ -94,7 +94,7 @@ pub fn new_instance(
 }
 
 /// The int of a word as a number of elements, none where it is negative.
-fn count(word: u32) -> Option<u32>
+pub fn count(word: u32) -> Option<u32>
     ensures { result ≡ count_of (int_of word) }
 {
     u32::try_from(word.cast_signed()).ok()

@@ -59,7 +59,11 @@ fn cut(base: &Base, word: u32) -> u32
 pub fn narrowed(ty: &Ty, word: u32) -> u32
     ensures { result ≡ steps.narrowed ty.now word }
 {
-    if ty.dims > 0 { word } else { cut(&ty.base, word) }
+    if ty.dims > 0 {
+        word
+    } else {
+        cut(&ty.base, word)
+    }
 }
 
 /// What a value of a type keeps of these words.
@@ -92,6 +96,9 @@ pub fn kept(suffix: Suffix, value: Words) -> Words
 {
     match value {
         Words::One(word) => Words::One(cut_by_suffix(suffix, word)),
-        Words::Two(low, high) => Words::Two(cut_by_suffix(suffix, low), cut_by_suffix(suffix, high)),
+        Words::Two(low, high) => Words::Two(
+            cut_by_suffix(suffix, low),
+            cut_by_suffix(suffix, high),
+        ),
     }
 }

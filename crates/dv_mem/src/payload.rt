@@ -76,7 +76,11 @@ fn byte(units: &[u16], place: usize) -> u32
     ensures few { result < 256 }
 {
     let unit = u32::from(unit(units, place / 2));
-    if place % 2 == 0 { unit % 256 } else { unit / 256 }
+    if place % 2 == 0 {
+        unit % 256
+    } else {
+        unit / 256
+    }
 }
 
 /// The number of two bytes, the low one first.

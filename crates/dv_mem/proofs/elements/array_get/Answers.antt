@@ -18,7 +18,7 @@ returns-in-Err c image is =
     let suffix = standard_suffix c.args.suffix in
     let array : IsNullOrArray (is_of_suffix suffix) c.args.heap.now c.word-array.result = subst (IsNullOrArray (is_of_suffix suffix) c.args.heap.now) (sym c.word-array.ensures) is in
     let found = located here (get_element here c.args.a) c.word-array.result (reg_word (top_frame c.args.stack.now) c.args.b) c.word-index.result (reg_word (top_frame c.args.stack.now) c.args.c) _ c.word-array.ensures c.word-index.ensures
-        (c.in-Err.ensures.found here suffix (get_element here c.args.a) refl (sym c.is_wide-wide.ensures) array) in
+    (c.in-Err.ensures.found here suffix (get_element here c.args.a) refl (sym c.is_wide-wide.ensures) array) in
     let P : Did WordLeft → Type 0 = λ d. Answers (next.Throw c.in-Err.named) d c.args.stack.now c.args.heap.now c.args.stack.now c.args.heap.now in
     subst P (sym found) (refl, refl, refl)
 
@@ -29,7 +29,7 @@ returns-in-Ok c image is =
     let array : IsNullOrArray (is_of_suffix suffix) c.args.heap.now c.word-array.result = subst (IsNullOrArray (is_of_suffix suffix) c.args.heap.now) (sym c.word-array.ensures) is in
     let there = subst (IsNullOrArray (is_of_suffix suffix) c.args.heap.now) (sym c.in-Ok.ensures.same) array c.in-Ok.ensures.there.positive in
     let found = located here (get_element here c.args.a) c.word-array.result (reg_word (top_frame c.args.stack.now) c.args.b) c.word-index.result (reg_word (top_frame c.args.stack.now) c.args.c) _ c.word-array.ensures c.word-index.ensures
-        (c.in-Ok.ensures.found here suffix (get_element here c.args.a) refl (sym c.is_wide-wide.ensures) array) in
+    (c.in-Ok.ensures.found here suffix (get_element here c.args.a) refl (sym c.is_wide-wide.ensures) array) in
     let words = c.load.ensures ∙ ap (words_from c.args.heap.now c.in-Ok.found.array c.in-Ok.found.slot) c.is_wide-wide.ensures ∙ sym (element_words here suffix c.in-Ok.found.array c.in-Ok.found.slot there) in
     let P : Did WordLeft → Type 0 = λ d. Answers next.On d c.args.stack.now c.args.heap.now c.put.new.stack c.args.heap.now in
     subst P (sym found) (c.put.ensures ∙ ap (λ (ws : List ℕ). changed (λ f. put_words (top_frame c.args.stack.now) c.args.next c.args.a ws) c.args.stack.now) words, refl)

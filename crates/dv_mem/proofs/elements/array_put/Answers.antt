@@ -18,7 +18,7 @@ returns-in-Err c is =
     let go : ℕ → ℕ → Did WordLeft = λ o. array_put here o suffix c.args.a in
     let array : IsNullOrArray (is_of_suffix suffix) c.args.heap.now c.word-array.result = subst (IsNullOrArray (is_of_suffix suffix) c.args.heap.now) (sym c.word-array.ensures) is in
     let found = located here go c.word-array.result (reg_word (top_frame c.args.stack.now) c.args.b) c.word-index.result (reg_word (top_frame c.args.stack.now) c.args.c) _ c.word-array.ensures c.word-index.ensures
-        (c.in-Err.ensures.found here suffix go refl (sym c.is_wide.ensures) array) in
+    (c.in-Err.ensures.found here suffix go refl (sym c.is_wide.ensures) array) in
     let P : Did WordLeft → Type 0 = λ d. Answers (next.Throw c.in-Err.named) d c.args.stack.now c.args.heap.now c.args.stack.now c.args.heap.now in
     subst P (sym found) (refl, refl, refl)
 
@@ -30,6 +30,6 @@ returns-in-Ok c is =
     let array : IsNullOrArray (is_of_suffix suffix) c.args.heap.now c.word-array.result = subst (IsNullOrArray (is_of_suffix suffix) c.args.heap.now) (sym c.word-array.ensures) is in
     let there = subst (IsNullOrArray (is_of_suffix suffix) c.args.heap.now) (sym c.in-Ok.ensures.same) array c.in-Ok.ensures.there.positive in
     let found = located here go c.word-array.result (reg_word (top_frame c.args.stack.now) c.args.b) c.word-index.result (reg_word (top_frame c.args.stack.now) c.args.c) _ c.word-array.ensures c.word-index.ensures
-        (c.in-Ok.ensures.found here suffix go refl (sym c.is_wide.ensures) array) in
+    (c.in-Ok.ensures.found here suffix go refl (sym c.is_wide.ensures) array) in
     let P : Did WordLeft → Type 0 = λ d. Answered c.put_found.result d c.args.stack.now c.args.heap.now c.put_found.new.stack c.put_found.new.heap in
     subst P (sym found) (c.put_found.ensures there)

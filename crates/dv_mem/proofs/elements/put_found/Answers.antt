@@ -20,7 +20,7 @@ returns-then-not-branch c is =
     let suffix = standard_suffix c.args.suffix in
     let test = (c.in_ok-is_storable).ensures (is_of_suffix suffix) (top_frame c.args.stack.now) c.args.next is in
     let no : is_storable here c.args.found.array suffix (reg_word (top_frame c.args.stack.now) c.args.a) ≡ false =
-        sym (ap (is_storable here c.args.found.array suffix) c.word.ensures) ∙ sym test ∙ c.if-not-branch.true in
+    sym (ap (is_storable here c.args.found.array suffix) c.word.ensures) ∙ sym test ∙ c.if-not-branch.true in
     let P : Did WordLeft → Type 0 = λ d. Answers (next.Throw named.ArrayStore) d c.args.stack.now c.args.heap.now c.args.stack.now c.args.heap.now in
     subst P (sym (refused_store here c.args.found.array suffix c.args.a c.args.found.slot no)) (refl, refl, refl)
 
@@ -28,7 +28,7 @@ pub store-requires-clause-there : goal.store-requires-clause-there
 store-requires-clause-there c =
     let suffix = standard_suffix c.args.suffix in
     let count : length (listed c.kept.result) ≡ width_of (is_wide suffix) =
-        c.kept.ensures.count ∙ ap (λ ws. length ws) (c.register-value.ensures ∙ ap (words_in (top_frame c.args.stack.now) c.args.a) c.is_wide.ensures) ∙ count_in (top_frame c.args.stack.now) c.args.a (is_wide suffix) in
+    c.kept.ensures.count ∙ ap (λ ws. length ws) (c.register-value.ensures ∙ ap (words_in (top_frame c.args.stack.now) c.args.a) c.is_wide.ensures) ∙ count_in (top_frame c.args.stack.now) c.args.a (is_wide suffix) in
     subst (AreWithin c.args.heap.now c.args.found.array c.args.found.slot) (sym count) c.requires.there
 
 pub returns : goal.returns
@@ -37,7 +37,7 @@ returns c is =
     let suffix = standard_suffix c.args.suffix in
     let test = (c.in_ok-is_storable).ensures (is_of_suffix suffix) (top_frame c.args.stack.now) c.args.next is in
     let holds : is_storable here c.args.found.array suffix (reg_word (top_frame c.args.stack.now) c.args.a) ≡ true =
-        sym (ap (is_storable here c.args.found.array suffix) c.word.ensures) ∙ sym test ∙ c.if-not-branch.false in
+    sym (ap (is_storable here c.args.found.array suffix) c.word.ensures) ∙ sym test ∙ c.if-not-branch.false in
     let words = c.kept.ensures.kept (component is.ty) is.passes ∙ ap (narrowed_all (component is.ty)) (c.register-value.ensures ∙ ap (words_in (top_frame c.args.stack.now) c.args.a) c.is_wide.ensures) in
     let P : Did WordLeft → Type 0 = λ d. Answers next.On d c.args.stack.now c.args.heap.now c.go_on.new.stack c.store.new.heap in
     subst P (sym (taken_store here c.args.found.array suffix c.args.a c.args.found.slot is.ty (listed c.kept.result) holds is.kind words)) (c.go_on.ensures, c.store.ensures)

@@ -9,5 +9,5 @@ pub returns-else-has_words : goal.returns-else-has_words
 returns-else-has_words c image same =
     let fresh = array_made c.args.heap.now c.args.ty.now c.count-length.result c.in-Ok.array c.alloc_array.new.self same c.in-Ok.ensures in
     let few : length (words_of_object c.alloc_array.new.self c.in-Ok.array) < 0 + c.count-length.result =
-        c.has_words.ensures.lacking c.if-has_words.false fresh.positive (is_there c.alloc_array.new.self c.in-Ok.array _ fresh.kind) (other_kind c.alloc_array.new.self c.in-Ok.array c.args.ty.now fresh.kind) in
+    c.has_words.ensures.lacking c.if-has_words.false fresh.positive (is_there c.alloc_array.new.self c.in-Ok.array _ fresh.kind) (other_kind c.alloc_array.new.self c.in-Ok.array c.args.ty.now fresh.kind) in
     absurd (omega (arith, few, fresh.size))

@@ -64,10 +64,10 @@ returns-clause-does c s x goes mem are =
     let top = (agrees c.args.image.now c.args.stack.now c.in-Some.head own s goes.code c.in-Some.ensures c.in-Some-coded_at.ensures goes.on_top goes.has_code).same_head in
     let next : at + c.size_of.result ≡ x.next = omega (arith, m.next, c.size_of.ensures.size, ap (λ h. h.at) top) in
     let P : Frame → ℕ → Op → Type 0 = λ f n o.
-        is_mem o ≡ true → AreOperands (here c.args.image.now f c.args.heap.now n) o →
-        Answered c.operate.result (word_mem (here c.args.image.now f c.args.heap.now n) o) c.args.stack.now c.args.heap.now c.operate.new.stack c.operate.new.heap in
+    is_mem o ≡ true → AreOperands (here c.args.image.now f c.args.heap.now n) o →
+    Answered c.operate.result (word_mem (here c.args.image.now f c.args.heap.now n) o) c.args.stack.now c.args.heap.now c.operate.new.stack c.operate.new.heap in
     let done : P (top_frame c.args.stack.now) (at + c.size_of.result) (meant own at c.in-Ok.op) =
-        c.operate.ensures.does own at (ap (λ us. tiles_in (tiling us)) (sym c.units_of-units.ensures.units)) in
+    c.operate.ensures.does own at (ap (λ us. tiles_in (tiling us)) (sym c.units_of-units.ensures.units)) in
     let by_op = subst (P (top_frame c.args.stack.now) (at + c.size_of.result)) is done in
     let Q : ℕ → Type 0 = λ n. P (top_frame c.args.stack.now) n x.op in
     let by_next = subst Q next by_op in
