@@ -265,12 +265,15 @@ const PAYLOADS: &[(&[u16], [Words; 2])] = &[
 
 #[test]
 fn payloads_are_read_in_place(rt: HostRuntime) {
-    for (units, [first, second]) in PAYLOADS {
+    for row in PAYLOADS {
+        let units = row.0;
+        let [first, second] = row.1;
         match data_at(units, 1) {
             Some(data) => {
+                let words = data.units;
                 assert_eq!(rt; data.count, 2);
-                assert_eq!(rt; element(data.width, data.units, 0), *first);
-                assert_eq!(rt; element(data.width, data.units, 1), *second);
+                assert_eq!(rt; element(data.width, words, 0), first);
+                assert_eq!(rt; element(data.width, words, 1), second);
             }
             None => assert!(rt; false),
         }
