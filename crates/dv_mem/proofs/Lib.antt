@@ -1,0 +1,10 @@
+pub mod Tops
+pub mod Cutting
+pub mod Making
+pub mod Arrays
+pub mod Owners
+pub mod Storing
+pub mod Bytes
+pub mod Writing
+pub mod Data
+pub mod OnTop

@@ -1,0 +1,6 @@
+pub mod Tops
+pub mod Operands
+pub mod Values
+pub mod Elements
+pub mod Payloads
+pub mod Stepping

@@ -1,0 +1,20 @@
+//! Instructions on objects, arrays and fields, divisions and casts, on plain words (AOSP, "Dalvik bytecode format").
+#![tactic(auto)]
+
+mod divisions;
+mod elements;
+mod fields;
+mod filled;
+mod filling;
+mod instances;
+mod made;
+mod narrowing;
+mod payload;
+mod registers;
+mod step;
+mod words;
+
+pub use step::mem_step;
+
+#[cfg(test)]
+mod tests;
