@@ -66,15 +66,19 @@ fn write(heap: &mut Heap, object: u32, slot: u32, word: u32) {
     }
 }
 
+fn slot_of<R: Abort>(rt: &R, place: usize) -> u32 {
+    u32::try_from(place).ok().expect(rt, "few words")
+}
+
 fn assert_words<R: Abort>(rt: &R, heap: &Heap, object: u32, words: &[u32]) {
-    for (slot, word) in words.iter().enumerate() {
+    for (place, word) in words.iter().enumerate() {
         assert!(rt;
-            word_at(heap, object, slot as u32) == Some(*word),
-            "{object} {slot}"
+            word_at(heap, object, slot_of(rt, place)) == Some(*word),
+            "{object} {place}"
         );
     }
     assert!(rt;
-        word_at(heap, object, words.len() as u32).is_none(),
+        word_at(heap, object, slot_of(rt, words.len())).is_none(),
         "{object}"
     );
 }
