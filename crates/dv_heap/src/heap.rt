@@ -1,5 +1,5 @@
 // The heap of the guest.
-ghost use Rattle.std.specs.Prelude.{◌≡◌, ◌≢◌, ◌<◌, ◌+◌, ◌^◌, [], map, None, length, slice_index, is_some, Some, IsSome, IfOk};
+ghost use Rattle.std.specs.Prelude.{◌≡◌, ◌≢◌, ℕ, ◌<◌, ◌+◌, ◌^◌, [], map, None, length, slice_index, is_some, Some, IsSome, IfOk};
 ghost use Rattle.dv_words.specs.declared.state.Kind.TheVariants as kind;
 ghost use Rattle.dv_words.specs.Heaps.{kind_of, length_of, words_of_object, word_in, with_word, static_in, with_static, uncounted, counting};
 ghost use Rattle.dv_heap.specs.Answers.{HasWord, HasStatic};
@@ -134,7 +134,8 @@ impl Heap {
     /// The words of an object. Those of a string are its units.
     pub fn words(&self, object: u32) -> &[u32]
         requires { IsSome (kind_of self.now object) }
-        ensures { result.now ≡ words_of_object self.now object }
+        ensures words { result.now ≡ words_of_object self.now object }
+        ensures units { kind_of self.now object ≡ Some kind.Str → (k : ℕ) → slice_index result.now k < 2 ^ 16 }
     {
         self.objects.words(object)
     }

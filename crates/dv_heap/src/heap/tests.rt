@@ -7,8 +7,8 @@ use crate::blocks::Blocks;
 use crate::error::HeapError;
 use dv_defs::{Base, Chars, ClassId, FieldId, Text, Ty};
 use dv_words::Kind;
-use fields::{FIELD_ROWS, fields};
-use rows::{Answer, Ask, GROWING, ROWS, TypeOf};
+use fields::{FIELD_ROWS, FIELD_WORDS, FIELD_WRITES, fields};
+use rows::{Answer, Ask, GROWING, ROWS, TypeOf, WRITTEN};
 use std::alloc::{AllocError, Global};
 use std::process::Abort;
 use std::test::Fail;
@@ -96,31 +96,6 @@ fn check_words<R: Abort>(rt: &R, heap: &Heap, object: u32, length: u32, words: &
     }
 }
 
-fn check_kind<R: Abort>(rt: &R, heap: &Heap, object: u32, kind: &Kind) {
-    assert!(rt; heap.exists(object));
-    assert_eq!(rt; heap.kind(object), kind);
-}
-
-#[test]
-fn words_are_written(rt: HostRuntime) -> Result<(), Fail> {
-    let longs = type_of(rt.alloc(), (1, "J"))?;
-    let mut heap = heap(rt.alloc(), Some(100));
-    let narrow = heap.alloc_words(ClassId(7), 3).map_err(|_| "full")?;
-    let array = heap.alloc_array(&longs, 2).map_err(|_| "full")?;
-    let last = heap.alloc_words(ClassId(8), 1).map_err(|_| "full")?;
-    write(&rt, &mut heap, narrow, 2, 5);
-    write(&rt, &mut heap, array, 0, 0xffff_ffff);
-    write(&rt, &mut heap, array, 3, 7);
-    write(&rt, &mut heap, last, 0, 9);
-    check_words(&rt, &heap, narrow, 3, &[0, 0, 5]);
-    check_words(&rt, &heap, array, 2, &[0xffff_ffff, 0, 0, 7]);
-    check_words(&rt, &heap, last, 1, &[9]);
-    check_kind(&rt, &heap, narrow, &Kind::Object(ClassId(7)));
-    check_kind(&rt, &heap, array, &Kind::Array(longs));
-    check_kind(&rt, &heap, last, &Kind::Object(ClassId(8)));
-    Ok(())
-}
-
 fn unit<R: Abort>(rt: &R, heap: &Heap, object: u32, at: u32) -> u16 {
     assert!(rt; heap.exists(object));
     assert!(rt; matches!(heap.kind(object), Kind::Str));
@@ -128,31 +103,43 @@ fn unit<R: Abort>(rt: &R, heap: &Heap, object: u32, at: u32) -> u16 {
     heap.unit(object, at)
 }
 
+fn kind(alloc: Global, ask: &Ask) -> Result<Kind, AllocError> {
+    match ask {
+        Ask::Object(_) => Ok(Kind::Object(ClassId(7))),
+        Ask::Array(ty, _) => Ok(Kind::Array(type_of(alloc, *ty)?)),
+        Ask::Text(_) | Ask::Intern(_) => Ok(Kind::Str),
+        Ask::ClassOf(ty) => Ok(Kind::ClassOf(type_of(alloc, *ty)?)),
+    }
+}
+
+/// Makes what is asked for, each an object more, and checks what it is.
+fn made<R: Abort>(rt: &R, alloc: Global, heap: &mut Heap, asks: &[Ask]) -> Result<(), AllocError> {
+    for ask in asks {
+        let found = answer(asked(alloc, heap, ask));
+        assert!(rt; matches!(found, Answer::Got(_)));
+        if let Answer::Got(object) = found {
+            assert!(rt; heap.exists(object));
+            assert_eq!(rt; heap.kind(object), &kind(alloc, ask)?);
+        }
+    }
+    Ok(())
+}
+
 #[test]
-fn strings_have_their_units(rt: HostRuntime) -> Result<(), Fail> {
-    let mut heap = heap(rt.alloc(), Some(100));
-    let text = heap
-        .alloc_string(&[0xd83d, 0xde00, 0xffff, 0])
-        .map_err(|_| "full")?;
-    let known = heap
-        .intern(&chars(rt.alloc(), &[0xde00])?)
-        .map_err(|_| "full")?;
-    let class = heap
-        .class_object(&type_of(rt.alloc(), (0, "J"))?)
-        .map_err(|_| "full")?;
-    check_words(&rt, &heap, text, 4, &[0xd83d, 0xde00, 0xffff, 0]);
-    check_words(&rt, &heap, known, 1, &[0xde00]);
-    check_words(&rt, &heap, class, 0, &[]);
-    assert_eq!(rt; unit(&rt, &heap, text, 1), 0xde00);
-    assert_eq!(rt; unit(&rt, &heap, text, 2), 0xffff);
-    assert_eq!(rt; unit(&rt, &heap, known, 0), 0xde00);
-    check_kind(&rt, &heap, known, &Kind::Str);
-    check_kind(
-        &rt,
-        &heap,
-        class,
-        &Kind::ClassOf(type_of(rt.alloc(), (0, "J"))?),
-    );
+fn words_are_written(rt: HostRuntime) -> Result<(), Fail> {
+    for row in WRITTEN {
+        let mut heap = heap(rt.alloc(), Some(100));
+        made(&rt, rt.alloc(), &mut heap, row.asks)?;
+        for (object, slot, word) in row.writes {
+            write(&rt, &mut heap, *object, *slot, *word);
+        }
+        for (object, length, words) in row.words {
+            check_words(&rt, &heap, *object, *length, words);
+        }
+        for (object, at, expected) in row.units {
+            assert_eq!(rt; unit(&rt, &heap, *object, *at), *expected);
+        }
+    }
     Ok(())
 }
 
@@ -170,16 +157,12 @@ fn static_fields_are_as_declared(rt: HostRuntime) -> Result<(), Fail> {
 #[test]
 fn static_fields_are_written(rt: HostRuntime) -> Result<(), Fail> {
     let mut heap = Heap::over(rt.alloc(), fields(&rt, rt.alloc())?);
-    static_write(&rt, &mut heap, 0, 1, 5);
-    static_write(&rt, &mut heap, 3, 0, 6);
-    static_write(&rt, &mut heap, 2, 0, 7);
-    assert_eq!(rt; static_word(&rt, &heap, 0, 0), 0xffff_fffe);
-    assert_eq!(rt; static_word(&rt, &heap, 0, 1), 5);
-    assert_eq!(rt; static_word(&rt, &heap, 1, 0), 3);
-    assert_eq!(rt; static_word(&rt, &heap, 1, 1), 1);
-    assert_eq!(rt; static_word(&rt, &heap, 2, 0), 7);
-    assert_eq!(rt; static_word(&rt, &heap, 2, 1), 0);
-    assert_eq!(rt; static_word(&rt, &heap, 3, 0), 6);
+    for (field, half, word) in FIELD_WRITES {
+        static_write(&rt, &mut heap, *field, *half, *word);
+    }
+    for (field, half, word) in FIELD_WORDS {
+        assert_eq!(rt; static_word(&rt, &heap, *field, *half), *word);
+    }
     Ok(())
 }
 

@@ -41,6 +41,21 @@ pub static FIELD_ROWS: &[FieldRow] = &[
     (0, (0, "I"), Given::Absent, &[]),
 ];
 
+/// A field, the half of its value, and the word that is written there.
+pub static FIELD_WRITES: &[(u32, u32, u32)] = &[(0, 1, 5), (3, 0, 6), (2, 0, 7)];
+
+/// What stands there afterwards.
+pub static FIELD_WORDS: &[(u32, u32, u32)] = &[
+    (0, 0, 0xffff_fffe),
+    (0, 1, 5),
+    (1, 0, 3),
+    (1, 1, 1),
+    (2, 0, 7),
+    (2, 1, 0),
+    (3, 0, 6),
+    (4, 0, 0),
+];
+
 fn init(alloc: Global, given: Given) -> Result<Init, AllocError> {
     match given {
         Given::Absent => Ok(Init::Absent),

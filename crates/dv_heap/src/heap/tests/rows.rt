@@ -158,3 +158,41 @@ pub static GROWING: &[Asked] = &[
     (Ask::ClassOf((0, STRING)), Answer::Got(8), 284, 8),
     (Ask::ClassOf((1, "I")), Answer::Got(9), 286, 9),
 ];
+
+/// Objects that are made, the words that are written to them (object, slot, word), the length and the words of each afterwards, and units
+/// of strings (object, place, unit).
+pub struct Written {
+    pub asks: &'static [Ask],
+    pub writes: &'static [(u32, u32, u32)],
+    pub words: &'static [(u32, u32, &'static [u32])],
+    pub units: &'static [(u32, u32, u16)],
+}
+
+pub static WRITTEN: &[Written] = &[
+    Written {
+        asks: &[Ask::Object(3), Ask::Array((1, "J"), 2), Ask::Object(1)],
+        writes: &[(1, 2, 5), (2, 0, 0xffff_ffff), (2, 3, 7), (3, 0, 9)],
+        words: &[
+            (1, 3, &[0, 0, 5]),
+            (2, 2, &[0xffff_ffff, 0, 0, 7]),
+            (3, 1, &[9]),
+        ],
+        units: &[],
+    },
+    Written {
+        asks: &[
+            Ask::Text(&[0xd83d, 0xde00, 0xffff, 0]),
+            Ask::Intern(LONE),
+            Ask::ClassOf((0, "J")),
+            Ask::Array((2, "J"), 2),
+        ],
+        writes: &[(4, 1, 2)],
+        words: &[
+            (1, 4, &[0xd83d, 0xde00, 0xffff, 0]),
+            (2, 1, &[0xde00]),
+            (3, 0, &[]),
+            (4, 2, &[0, 2]),
+        ],
+        units: &[(1, 1, 0xde00), (1, 2, 0xffff), (2, 0, 0xde00)],
+    },
+];
