@@ -1,15 +1,14 @@
 -- Elements by the suffixes of operations, and the objects that arrays take.
-use Rattle.std.proofs.Common.{◌≡◌, ℕ, zero, suc, ◌<◌, ◌≤◌, Bool, true, false, List, [], ◌∷◌, length, ℤ, Option, Some, None, Result, Ok, Err, IfOk, refl, sym, ap, ◌∙◌, subst, arith}
-use Rattle.std.specs.Prelude.{nat_eq, nat_le, nat_lt, ◌&&◌, ◌||◌, if◌then◌else◌}
+use Rattle.std.proofs.Common.{◌≡◌, ℕ, zero, suc, ◌<◌, ◌≤◌, Bool, true, false, List, length, ℤ, Some, Result, Ok, Err, IfOk, refl, sym, ap, ◌∙◌, arith}
+use Rattle.std.specs.Prelude.{nat_eq, nat_le, nat_lt, ◌&&◌, ◌||◌}
 use Rattle.std.proofs.lemmas.Bool.{and_parts}
 use Rattle.std.proofs.lemmas.Bool.Decides.{nat_tests}
 use Rattle.dv_defs.specs.declared.names.Base.{Base}
 use Rattle.dv_defs.specs.declared.names.Base.TheVariants as base
 use Rattle.dv_defs.specs.declared.names.Ty.{Ty}
-use Rattle.dv_defs.specs.Images.{Image}
 use Rattle.dv_defs.specs.Parts.{Suffix}
 use Rattle.dv_defs.specs.Statics.{is_of_suffix}
-use Rattle.dv_defs.specs.Types.{base_eq, component, is_array, is_base, is_class_base, is_long, is_reference}
+use Rattle.dv_defs.specs.Types.{base_eq, component, is_base, is_class_base, is_long}
 use Rattle.dv_machine.specs.Mem.{on_object}
 use Rattle.dv_machine.specs.State.{Did, Throws, where_true}
 use Rattle.dv_defs.specs.declared.run.Named.TheVariants as named
@@ -17,7 +16,6 @@ use Rattle.dv_words.specs.declared.state.Frame.{Frame}
 use Rattle.dv_words.specs.declared.state.Kind.{Kind}
 use Rattle.dv_words.specs.declared.state.Kind.TheVariants as kind
 use Rattle.dv_words.specs.Heaps.{kind_of, length_of}
-use Rattle.dv_words.specs.State.{WordHeap}
 use Rattle.dv_words.specs.Words.{int_of}
 use Rattle.dv_words.specs.Stacks.{gone}
 use Rattle.dv_steps.specs.Local.{reg_word}

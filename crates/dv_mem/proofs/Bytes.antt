@@ -1,5 +1,5 @@
 -- The bytes of units, and the numbers that they are.
-use Rattle.std.proofs.Common.{◌≡◌, ℕ, zero, suc, ◌+◌, ◌*◌, ◌/◌, ◌%◌, ◌<◌, List, [], ◌∷◌, length, get_or, refl, sym, ap, ◌∙◌, subst, arith}
+use Rattle.std.proofs.Common.{◌≡◌, ℕ, zero, suc, ◌*◌, ◌/◌, ◌%◌, List, [], ◌∷◌, get_or, refl, sym, ap, ◌∙◌, arith}
 use Rattle.dv_defs.specs.Tiling.{bytes_in}
 
 pub low_byte : (us : List ℕ) (k : ℕ) → get_or (bytes_in us) (2 * k) 0 ≡ get_or us k 0 % 256

@@ -1,6 +1,6 @@
 -- The payload of data that stands in units.
 use Rattle.std.proofs.Common.{◌≡◌, ℕ, zero, suc, ◌+◌, ◌*◌, ◌/◌, ◌%◌, ◌^◌, ◌<◌, ◌≤◌, List, [], ◌∷◌, length, take, drop, Bool, true, false, ℤ, Option, Some, None, refl, sym, ap, ◌∙◌, subst, arith}
-use Rattle.std.specs.Prelude.{nat_eq, nat_le, ◌&&◌, ◌||◌}
+use Rattle.std.specs.Prelude.{nat_eq, nat_le, ◌&&◌}
 use Rattle.std.proofs.lemmas.Bool.{and_parts}
 use Rattle.std.proofs.lemmas.Bool.Decides.{nat_tests}
 use Rattle.std.proofs.lemmas.List.{take-take}
@@ -13,9 +13,9 @@ use Rattle.dv_defs.specs.Demands.{is_fill_type}
 use Rattle.dv_defs.specs.Numbers.{elements, low_first, signed_at}
 use Rattle.dv_defs.specs.Spelling.{all_fit}
 use Rattle.dv_defs.specs.Tiling.{Piece, Tile, SizedPayload, begins_payload, bytes_in, data_from, doubles, insn_piece, is_width, packed_with, payload_at, payload_in, payload_of, payload_piece, piece_here, sparse_with, tile_at, tiles_in, tiling}
-use Rattle.dv_ops.specs.Meaning.{elements_in, is_data, width_in}
+use Rattle.dv_ops.specs.Meaning.{is_data, width_in}
 use Rattle.dv_fetch.proofs.Standing.{met}
-use Rattle.dv_mem.specs.Payloads.{AreElements, HasData}
+use Rattle.dv_mem.specs.Payloads.{HasData}
 
 -- elements have a size only where data stand
 pub typed_is_data : (p : Option Payload) (t : Ty) → is_fill_type (width_in p) t ≡ true → is_data p ≡ true

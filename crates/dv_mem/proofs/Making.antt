@@ -1,5 +1,5 @@
 -- What is made is the newest object of its heap.
-use Rattle.std.proofs.Common.{◌≡◌, ◌<◌, ◌≤◌, ◌+◌, ◌*◌, ◌++◌, ℕ, zero, suc, ℤ, pos, negsuc, Bool, true, false, List, [], ◌∷◌, length, replicate, Option, Some, None, Result, refl, sym, ap, subst, arith, length-append, ◌∙◌, ◌≢◌}
+use Rattle.std.proofs.Common.{◌≡◌, ◌<◌, ◌≤◌, ◌*◌, ◌++◌, ℕ, suc, ℤ, pos, negsuc, Bool, true, false, List, [], ◌∷◌, length, replicate, Option, Some, None, Result, refl, sym, ap, subst, arith, length-append, ◌∙◌, ◌≢◌}
 use Rattle.std.specs.Prelude.{IsSome, is_some, slice_get, slice_index_or}
 use Rattle.std.proofs.lemmas.List.{length-replicate}
 use Rattle.dv_defs.specs.Types.{component, is_long, words_of}

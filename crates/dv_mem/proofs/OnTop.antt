@@ -1,10 +1,9 @@
 -- What the instruction at which the frame on top goes on means.
-use Rattle.std.proofs.Common.{◌≡◌, ℕ, ◌+◌, ◌-◌, ◌/◌, ◌<◌, ◌≤◌, List, [], ◌∷◌, zero, suc, length, drop, take, Bool, true, false, Option, Some, None, Result, Ok, Err, refl, sym, ap, ◌∙◌, subst, arith, length-drop}
+use Rattle.std.proofs.Common.{◌≡◌, ℕ, ◌+◌, ◌/◌, ◌<◌, ◌≤◌, List, [], ◌∷◌, zero, suc, length, drop, take, Bool, true, false, Option, Some, None, Result, Ok, Err, refl, sym, ap, ◌∙◌, arith, length-drop}
 use Rattle.std.specs.Prelude.{◌||◌, not}
 use Rattle.std.proofs.lemmas.Option.{same_Some}
 use Rattle.dv_defs.specs.declared.code.Insn.{Insn}
 use Rattle.dv_defs.specs.declared.faults.Rule.{Rule}
-use Rattle.dv_defs.specs.declared.names.MethodId.{MethodId}
 use Rattle.dv_defs.specs.Decoding.{insn_here}
 use Rattle.dv_defs.specs.Formats.{size_at, size_by}
 use Rattle.dv_defs.specs.Images.{Image}
@@ -16,7 +15,7 @@ use Rattle.dv_defs.specs.Numbers.{elements, jump}
 use Rattle.dv_defs.specs.Tiling.{payload_at}
 use Rattle.dv_defs.specs.Op.{Code, Resolved, cases_packed, cases_sparse, code_at, fill_op, op_of, packed_op, resolve_by, sparse_op}
 use Rattle.dv_defs.specs.Spelling.{all_fit, spelling}
-use Rattle.dv_defs.specs.Statics.{At, fetch}
+use Rattle.dv_defs.specs.Statics.{At}
 use Rattle.dv_defs.proofs.DecodingLaws.{insn_here_spelled}
 use Rattle.dv_defs.proofs.SpellingFormats.{begins}
 use Rattle.dv_defs.proofs.SpellingLaws.{spelled_in}
@@ -33,8 +32,7 @@ use Rattle.dv_words.specs.State.{WordHeap, WordStack}
 use Rattle.dv_frames.specs.declared.heads.Head.{Head}
 use Rattle.dv_frames.specs.Heads.{head_in}
 use Rattle.dv_frames.specs.Tops.{head_of}
-use Rattle.dv_steps.specs.Fetching.{IsFetched}
-use Rattle.dv_steps.proofs.Fetching.{is_fetched, tiles_are}
+use Rattle.dv_steps.proofs.Fetching.{is_fetched}
 use Rattle.dv_mem.specs.Operands.{HasStatic}
 use Rattle.dv_mem.specs.Stepping.{GoesOnAt, HasFields, IsMeant, IsOnTop, is_fill, is_mem, is_with_payload}
 use Rattle.dv_mem.specs.Tops.{frame_in, top_frame}

@@ -1,5 +1,5 @@
 -- Stores one after another; they leave kinds and sizes as they are.
-use Rattle.std.proofs.Common.{◌≡◌, ◌≢◌, ℕ, zero, suc, pred, ◌+◌, ◌<◌, ◌≤◌, ◌++◌, List, [], ◌∷◌, length, get_or, take, map, refl, sym, ap, ◌∙◌, subst, arith, add-zero, length-set, Some}
+use Rattle.std.proofs.Common.{◌≡◌, ◌≢◌, ℕ, zero, suc, pred, ◌+◌, ◌<◌, ◌++◌, List, [], ◌∷◌, length, get_or, take, map, refl, sym, ap, ◌∙◌, arith, add-zero, length-set, Some}
 use Rattle.std.specs.Prelude.{slice_index_or, slice_set}
 use Rattle.dv_words.specs.Heaps.{kind_of, with_word, words_of_object}
 use Rattle.dv_words.specs.State.{WordHeap}

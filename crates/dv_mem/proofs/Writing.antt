@@ -1,7 +1,6 @@
 -- The elements that fill-array-data writes, one after another.
-use Rattle.std.proofs.Common.{◌≡◌, ℕ, zero, suc, ◌+◌, ◌*◌, ◌<◌, ◌≤◌, ◌++◌, List, [], ◌∷◌, length, get_or, take, drop, Bool, true, false, ℤ, refl, sym, ap, ◌∙◌, subst, arith, length-append, append_assoc, append-nil, suc-mul}
+use Rattle.std.proofs.Common.{◌≡◌, ℕ, zero, suc, ◌+◌, ◌*◌, ◌<◌, ◌≤◌, ◌++◌, List, [], ◌∷◌, length, get_or, take, drop, Bool, true, false, ℤ, refl, sym, ap, ◌∙◌, arith, length-append, append_assoc, append-nil, suc-mul}
 use Rattle.std.specs.Prelude.{if◌then◌else◌}
-use Rattle.std.proofs.lemmas.List.{get_or-drop}
 use Rattle.dv_defs.specs.declared.names.Ty.{Ty}
 use Rattle.dv_defs.specs.Numbers.{elements, hi_of, lo_of, low_first, signed_at}
 use Rattle.dv_defs.specs.Types.{is_long, words_of}

@@ -7,7 +7,6 @@ use Rattle.dv_defs.specs.Parts.{is_division}
 use Rattle.dv_defs.specs.Pools.{Field}
 use Rattle.dv_defs.specs.Statics.{is_of_suffix}
 use Rattle.dv_defs.specs.Types.{component, words_of}
-use Rattle.dv_words.specs.declared.state.Kind.{Kind}
 use Rattle.dv_words.specs.declared.state.Kind.TheVariants as kind
 use Rattle.dv_words.specs.Heaps.{kind_of, words_of_object}
 use Rattle.dv_words.specs.State.{WordHeap}

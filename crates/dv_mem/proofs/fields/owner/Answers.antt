@@ -1,4 +1,4 @@
-use Rattle.std.proofs.Common.{◌≡◌, ◌∙◌, ◌+◌, ◌<◌, ℕ, length, ap, subst}
+use Rattle.std.proofs.Common.{◌∙◌, ◌+◌, ◌<◌, ℕ, length, ap, subst}
 use Rattle.dv_defs.specs.Types.{words_of}
 use Rattle.dv_ops.specs.Meaning.{field_of}
 use Rattle.dv_words.specs.Heaps.{words_of_object}

@@ -1,7 +1,6 @@
-use Rattle.std.proofs.Common.{◌≡◌, ◌≢◌, ◌<◌, ◌+◌, Some, sym, ◌∙◌, arith}
-use Rattle.std.specs.Prelude.{IsSome, length}
-use Rattle.dv_words.specs.declared.state.Kind.TheVariants as kind
-use Rattle.dv_words.specs.Heaps.{kind_of, words_of_object}
+use Rattle.std.proofs.Common.{◌<◌, ◌+◌, arith}
+use Rattle.std.specs.Prelude.{length}
+use Rattle.dv_words.specs.Heaps.{words_of_object}
 use Rattle.dv_mem.proofs.Making.{array_made, is_there, other_kind}
 use Rattle.dv_mem.proofs.filled.filled_new_array.Goals as goal
 

@@ -1,4 +1,4 @@
-use Rattle.std.proofs.Common.{◌<◌, ◌≤◌, List, ℕ, length, sym, subst, arith, length-drop}
+use Rattle.std.proofs.Common.{List, ℕ, sym, subst, arith, length-drop}
 use Rattle.dv_defs.specs.Tiling.{payload_at, tiles_in, tiling}
 use Rattle.dv_units.proofs.Decoding.{units_fit}
 use Rattle.dv_mem.specs.Payloads.{HasData}

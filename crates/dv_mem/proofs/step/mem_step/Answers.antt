@@ -1,5 +1,5 @@
-use Rattle.std.proofs.Common.{◌≡◌, ◌∙◌, ◌+◌, ◌<◌, ℕ, List, length, true, Some, Ok, sym, ap, subst, arith}
-use Rattle.dv_defs.specs.Op.{Op, op_of}
+use Rattle.std.proofs.Common.{◌≡◌, ◌∙◌, ◌+◌, ◌<◌, ℕ, List, length, true, sym, ap, subst, arith}
+use Rattle.dv_defs.specs.Op.{Op}
 use Rattle.dv_defs.specs.Spelling.{all_fit}
 use Rattle.dv_defs.specs.Tiling.{tiles_in, tiling}
 use Rattle.dv_ops.specs.Meaning.{code_of, meant, meant_or_rule}

@@ -1,9 +1,9 @@
-use Rattle.std.proofs.Common.{◌≡◌, ◌∙◌, ℕ, List, Result, Ok, sym, ap, subst}
+use Rattle.std.proofs.Common.{List, Result, Ok, sym, subst}
 use Rattle.std.specs.declared.alloc.AllocError.{AllocError}
 use Rattle.dv_defs.specs.declared.run.Next.{Next}
 use Rattle.dv_defs.specs.Demands.{is_fill_type}
 use Rattle.dv_defs.specs.Op.{Fill}
-use Rattle.dv_defs.specs.Tiling.{Tile, payload_at, tiles_in, tiling}
+use Rattle.dv_defs.specs.Tiling.{Tile, payload_at}
 use Rattle.dv_ops.specs.declared.op.Op.{Op}
 use Rattle.dv_ops.specs.Meaning.{elements_in, meant, width_in}
 use Rattle.dv_units.specs.Tables.{standard_suffix}
