@@ -28,13 +28,12 @@ use Rattle.dv_words.specs.declared.state.Frame.{Frame}
 use Rattle.dv_words.specs.declared.state.Level.{Level}
 use Rattle.dv_words.specs.declared.state.Level.TheVariants as level
 use Rattle.dv_words.specs.Stacks.{first}
-use Rattle.dv_words.specs.State.{WordHeap, WordStack}
+use Rattle.dv_words.specs.State.{WordStack}
 use Rattle.dv_frames.specs.declared.heads.Head.{Head}
 use Rattle.dv_frames.specs.Heads.{head_in}
 use Rattle.dv_frames.specs.Tops.{head_of}
 use Rattle.dv_steps.proofs.Fetching.{is_fetched}
-use Rattle.dv_mem.specs.Operands.{HasStatic}
-use Rattle.dv_mem.specs.Stepping.{GoesOnAt, HasFields, IsMeant, IsOnTop, is_fill, is_mem, is_with_payload}
+use Rattle.dv_mem.specs.Stepping.{GoesOnAt, IsMeant, IsOnTop, is_fill, is_mem, is_with_payload}
 use Rattle.dv_mem.specs.Tops.{frame_in, top_frame}
 
 -- ---- the frame on top
@@ -49,9 +48,6 @@ pub code_of_head : (o : Option Level) (h : Head) → Some h ≡ head_of o → Is
 code_of_head (Some (level.Code f)) h e = record { frame = f; is = refl; same = same_Some h (head_in f) e }
 code_of_head (Some (level.Init c r)) h e = absurd (cc e)
 code_of_head None h e = absurd (cc e)
-
-pub no_head : (o : Option Level) (s : Frame) → None ≡ head_of o → o ≡ Some (level.Code s) → ⊥
-no_head o s e is = absurd (let both : (let x : Option Head = None in x) ≡ Some (head_in s) = e ∙ ap head_of is in cc both)
 
 frame_first : (ls : List Level) (s : Frame) → first ls ≡ Some (level.Code s) → frame_in ls ≡ s
 frame_first [] s e = absurd (cc e)
@@ -125,12 +121,6 @@ no_rule code at broken op e = absurd (let whole : (let r : Resolved = Err broken
 
 -- ---- instructions with a payload
 
-pub without_payload : (f : Option Family) (p : Option Payload) → is_with_payload f ≡ false → has_payload_of f p ≡ true
-without_payload (Some Family.PackedSwitch) p e = absurd (cc e)
-without_payload (Some Family.SparseSwitch) p e = absurd (cc e)
-without_payload (Some Family.FillArrayData) p e = absurd (cc e)
-without_payload f p e = refl
-
 switch_no_mem : (at a : ℕ) (op : def.Op) (p : Option Payload) → packed_op at a p ≡ Ok op → is_mem op ≡ true → ⊥
 switch_no_mem at a op (Some (payload.Packed k ts)) e mem = let whole : (let r : Resolved = Ok (def.Switch a (cases_packed at k ts)) in r) ≡ Ok op = e in let same : def.Switch a (cases_packed at k ts) ≡ op = cc whole in absurd (let never : false ≡ true = ap is_mem same ∙ mem in cc never)
 switch_no_mem at a op None e mem = absurd (cc e)
@@ -174,26 +164,6 @@ may_be_it image code at i o op may means is mem =
     let fills = payload_fills (family_at i.op) image code at i op parts.0 means mem in
     let fill = meant_fill code at o (ap is_fill_op is ∙ fills) in
     absurd (let both : true ≡ false = sym fill ∙ parts.1 in cc both)
-
--- ---- static fields
-
-static_of : (heap : WordHeap) (code : Code) (at : ℕ) (o : Op) → HasStatic heap (meant code at o) → HasFields heap o
-static_of heap code at (op_is.StaticGet s a x) has = has
-static_of heap code at (op_is.StaticPut s a x) has = has
-static_of heap code at o has = tt
-
-fill_has : (heap : WordHeap) (o : Op) → is_fill o ≡ true → HasFields heap o
-fill_has heap (op_is.StaticGet s a x) e = absurd (cc e)
-fill_has heap (op_is.StaticPut s a x) e = absurd (cc e)
-fill_has heap o e = tt
-
-pub has_fields : (heap : WordHeap) (code : Code) (at : ℕ) (i : Insn) (o : Op) → (not (is_with_payload (family_at i.op)) || is_fill o) ≡ true → (has_payload code at i ≡ true → HasStatic heap (meant code at o)) → HasFields heap o
-has_fields heap code at i o may has = by (is_with_payload (family_at i.op)) (is_fill o) refl refl may
-  where
-    by : (a b : Bool) → is_with_payload (family_at i.op) ≡ a → is_fill o ≡ b → (not a || b) ≡ true → HasFields heap o
-    by false b none is e = static_of heap code at o (has (without_payload (family_at i.op) (payload_at code.tiles (jump at i.off)) none))
-    by true true some is e = fill_has heap o is
-    by true false some is e = absurd (cc e)
 
 -- ---- from the head and the code that were read
 

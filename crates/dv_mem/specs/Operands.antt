@@ -53,10 +53,6 @@ AreOperands h (ArrayGet s a b c) = IsNullOrArray (is_of_suffix s) h.heap (reg_wo
 AreOperands h (ArrayPut s a b c) = IsNullOrArray (is_of_suffix s) h.heap (reg_word h.frame b)
 AreOperands h (FieldGet s a b x) = IsNullOrOwner x h.heap (reg_word h.frame b)
 AreOperands h (FieldPut s a b x) = IsNullOrOwner x h.heap (reg_word h.frame b)
+AreOperands h (StaticGet s a x) = HasStaticWords h.heap x
+AreOperands h (StaticPut s a x) = HasStaticWords h.heap x
 AreOperands h op = Unit {0}
-
--- a static field that the operation names has its words
-abbrev pub HasStatic : WordHeap → Op → Type 0
-HasStatic heap (StaticGet s a x) = HasStaticWords heap x
-HasStatic heap (StaticPut s a x) = HasStaticWords heap x
-HasStatic heap op = Unit {0}

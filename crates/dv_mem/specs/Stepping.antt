@@ -12,8 +12,7 @@ use Rattle.dv_words.specs.Stacks.{first}
 use Rattle.dv_words.specs.State.{WordHeap, WordStack}
 use Rattle.dv_ops.specs.declared.op.Op as op
 use Rattle.dv_ops.specs.declared.op.Op.TheVariants as op_is
-use Rattle.dv_ops.specs.Meaning.{field_of, has_payload}
-use Rattle.dv_mem.specs.Operands.{HasStaticWords}
+use Rattle.dv_ops.specs.Meaning.{has_payload}
 
 -- the frame is on top, the instruction is spelled where it goes on, and this is the operation with the address after it
 pub record GoesOnAt (image : Image) (stack : WordStack) (insn : Insn) (s : Frame) (x : At) : Type 0 where
@@ -65,12 +64,6 @@ is_mem (FieldPut s a b x) = true
 is_mem (StaticGet s a x) = true
 is_mem (StaticPut s a x) = true
 is_mem op = false
-
--- a static field that the operation names has its words
-abbrev pub HasFields : WordHeap → op.Op → Type 0
-HasFields heap (op_is.StaticGet s a x) = HasStaticWords heap (field_of x)
-HasFields heap (op_is.StaticPut s a x) = HasStaticWords heap (field_of x)
-HasFields heap o = Unit {0}
 
 -- ---- instructions with a payload
 

@@ -110,11 +110,13 @@ pub fn field_put(
 
 /// sget and its kin: register a takes the static field.
 pub fn static_get(heap: &Heap, stack: &mut Stack, next: u32, a: u16, field: &Field<'_>) -> Next
-    requires { HasStaticWords heap.now (field_of field.now) }
-    ensures { (image : Linked) (s : Ending) →
+    ensures { (image : Linked) (s : Ending) → HasStaticWords heap.now (field_of field.now) →
         Answers result (word_mem (seen image stack.old heap.now next) (StaticGet s a (field_of field.now))) stack.old heap.now stack.new heap.now }
 {
     let def = field.def;
+    if heap.static_size(field.id) < words_of(&def.ty) {
+        return Next::On;
+    }
     let value = load_static(heap, field.id, is_long(&def.ty));
     words::put(stack, next, a, value);
     Next::On
@@ -122,11 +124,13 @@ pub fn static_get(heap: &Heap, stack: &mut Stack, next: u32, a: u16, field: &Fie
 
 /// sput and its kin: the static field takes register a.
 pub fn static_put(heap: &mut Heap, stack: &mut Stack, next: u32, a: u16, field: &Field<'_>) -> Next
-    requires { HasStaticWords heap.old (field_of field.now) }
-    ensures { (image : Linked) (s : Ending) →
+    ensures { (image : Linked) (s : Ending) → HasStaticWords heap.old (field_of field.now) →
         Answers result (word_mem (seen image stack.old heap.old next) (StaticPut s a (field_of field.now))) stack.old heap.old stack.new heap.new }
 {
     let def = field.def;
+    if heap.static_size(field.id) < words_of(&def.ty) {
+        return Next::On;
+    }
     let value = words::register(stack, a, is_long(&def.ty));
     store_static(heap, field.id, narrowed_words(&def.ty, value));
     go_on(stack, next);

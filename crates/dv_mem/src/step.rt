@@ -11,8 +11,8 @@ ghost use Rattle.dv_units.specs.Tables.{standard_family};
 ghost use Rattle.dv_words.specs.declared.state.Frame.{Frame as Activation};
 ghost use Rattle.dv_steps.specs.Mem.{word_mem};
 ghost use Rattle.dv_steps.specs.Stepping.{Answered};
-ghost use Rattle.dv_mem.specs.Operands.{AreOperands, HasStatic};
-ghost use Rattle.dv_mem.specs.Stepping.{AreAsBefore, GoesOnAt, HasFields, IsMeant, MeansNone, is_fill, is_mem, is_with_payload};
+ghost use Rattle.dv_mem.specs.Operands.{AreOperands};
+ghost use Rattle.dv_mem.specs.Stepping.{AreAsBefore, GoesOnAt, IsMeant, MeansNone, is_fill, is_mem, is_with_payload};
 ghost use Rattle.dv_mem.specs.Tops.{here, seen};
 
 use crate::divisions::{divide_ints, divide_longs};
@@ -87,7 +87,6 @@ fn operate(
     next: u32,
     op: Op<'_>,
 ) -> Result<Next, AllocError>
-    requires { HasFields heap.old op }
     ensures does { (code : Code) (at : ℕ) → code.tiles ≡ tiles_in (tiling units.now) → is_mem (meant code at op.entry) ≡ true → AreOperands (seen image.now stack.old heap.old next) (meant code at op.entry) →
         Answered result (word_mem (seen image.now stack.old heap.old next) (meant code at op.entry)) stack.old heap.old stack.new heap.new }
     ensures stack_stays { (code : Code) (at : ℕ) → is_mem (meant code at op.entry) ≡ false → stack.new ≡ stack.old }
@@ -128,7 +127,6 @@ pub fn mem_step(
     stack: &mut Stack,
     insn: &Insn,
 ) -> Result<Next, AllocError>
-    requires { (s : Activation) (op : Operation) → IsMeant image.now stack.old insn.now s op → HasStatic heap.old op }
     ensures does { (s : Activation) (x : At) → GoesOnAt image.now stack.old insn.now s x → is_mem x.op ≡ true → AreOperands (here image.now s heap.old x.next) x.op →
         Answered result (word_mem (here image.now s heap.old x.next) x.op) stack.old heap.old stack.new heap.new }
 

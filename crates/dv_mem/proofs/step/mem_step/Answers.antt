@@ -9,7 +9,7 @@ use Rattle.dv_steps.specs.Stepping.{Answered}
 use Rattle.dv_mem.specs.Operands.{AreOperands}
 use Rattle.dv_mem.specs.Stepping.{is_mem}
 use Rattle.dv_mem.specs.Tops.{here, top_frame}
-use Rattle.dv_mem.proofs.OnTop.{agrees, fits_all, frame_is, frame_on_top, goes_on, has_fields, may_be_it, means_own, means_there, meant_there, no_rule, on_top_own, op_meant, payload_here}
+use Rattle.dv_mem.proofs.OnTop.{agrees, fits_all, frame_is, frame_on_top, goes_on, may_be_it, means_own, means_there, meant_there, no_rule, on_top_own, op_meant, payload_here}
 use Rattle.dv_mem.proofs.step.mem_step.Goals as goal
 
 pub returns-in_default-resolve-clause-does : goal.returns-in_default-resolve-clause-does
@@ -34,22 +34,6 @@ returns-then-not-may_be-clause-does c s x goes mem are =
     let e = meant_there c.args.image.now own at c.args.insn.now x.op c.resolve.result c.resolve.ensures means in
     let is = op_meant own at c.in-Ok.op x.op (sym (ap (meant_or_rule own at) c.in-Ok.is) ∙ e) in
     absurd (may_be_it c.args.image.now own at c.args.insn.now c.in-Ok.op x.op (sym c.may_be.ensures ∙ c.if-not-may_be.true) means is mem)
-
-pub operate-requires : goal.operate-requires
-operate-requires c =
-    let own = code_of c.in-Some-coded_at.code in
-    let at = c.in-Some.head.at in
-    let within : at < length c.units_of-units.result.now = c.is_within.ensures.within.0 c.if-not-is_within.false in
-    let inside : at < length own.body.units = omega (arith, within, ap (λ (us : List ℕ). length us) c.units_of-units.ensures.units) in
-    let top = frame_on_top c.args.image.now c.args.stack.now c.args.insn.now c.in-Some.head own c.in-Some.ensures c.in-Some-coded_at.ensures in
-    has_fields c.args.heap.now own at c.args.insn.now c.in-Ok.op (sym c.may_be.ensures ∙ c.if-not-may_be.false)
-    (λ p.
-    c.requires top.frame (meant own at c.in-Ok.op)
-    (record {
-      code = own;
-      on_top = on_top_own c.args.image.now c.args.stack.now c.args.insn.now c.in-Some.head own c.in-Some.ensures c.in-Some-coded_at.ensures inside;
-      means = means_there c.args.image.now c.args.stack.now c.args.insn.now c.in-Some.head own c.in-Some.ensures c.in-Some-coded_at.ensures c.in-Ok.op (sym (ap (meant_or_rule own at) c.in-Ok.is) ∙ c.resolve.ensures p);
-    }))
 
 pub returns-clause-does : goal.returns-clause-does
 returns-clause-does c s x goes mem are =

@@ -75,14 +75,14 @@ returns-in-StaticGet-clause-does c code at tiles mem operands =
     let here = seen c.args.image.now c.args.stack.now c.args.heap.now c.args.next in
     let result : Result Next AllocError = Ok c.static_get.result in
     let P : Op → Type 0 = λ o. AreOperands here (meant code at o) → Answered result (word_mem here (meant code at o)) c.args.stack.now c.args.heap.now c.static_get.new.stack c.args.heap.now in
-    subst P (sym c.in-StaticGet.is) (λ are. c.static_get.ensures c.args.image.now (standard_suffix (c.in-StaticGet).field-0)) operands
+    subst P (sym c.in-StaticGet.is) (λ are. c.static_get.ensures c.args.image.now (standard_suffix (c.in-StaticGet).field-0) are) operands
 
 pub returns-in-StaticPut-clause-does : goal.returns-in-StaticPut-clause-does
 returns-in-StaticPut-clause-does c code at tiles mem operands =
     let here = seen c.args.image.now c.args.stack.now c.args.heap.now c.args.next in
     let result : Result Next AllocError = Ok c.static_put.result in
     let P : Op → Type 0 = λ o. AreOperands here (meant code at o) → Answered result (word_mem here (meant code at o)) c.args.stack.now c.args.heap.now c.static_put.new.stack c.static_put.new.heap in
-    subst P (sym c.in-StaticPut.is) (λ are. c.static_put.ensures c.args.image.now (standard_suffix (c.in-StaticPut).field-0)) operands
+    subst P (sym c.in-StaticPut.is) (λ are. c.static_put.ensures c.args.image.now (standard_suffix (c.in-StaticPut).field-0) are) operands
 
 pub returns-in-Fill-clause-does : goal.returns-in-Fill-clause-does
 returns-in-Fill-clause-does c code at tiles mem operands =
