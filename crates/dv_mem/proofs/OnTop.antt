@@ -23,7 +23,7 @@ use Rattle.dv_fetch.proofs.Fetched.{payload_there}
 use Rattle.dv_units.proofs.Decoding.{fit_from}
 use Rattle.dv_ops.specs.declared.op.Op.{Op}
 use Rattle.dv_ops.specs.declared.op.Op.TheVariants as op_is
-use Rattle.dv_ops.specs.Meaning.{has_payload, has_payload_of, meant, meant_or_rule}
+use Rattle.dv_ops.specs.Meaning.{has_payload, meant, meant_or_rule}
 use Rattle.dv_words.specs.declared.state.Frame.{Frame}
 use Rattle.dv_words.specs.declared.state.Level.{Level}
 use Rattle.dv_words.specs.declared.state.Level.TheVariants as level
