@@ -1,5 +1,5 @@
 // A guest thread's stack.
-ghost use Rattle.std.specs.Prelude.{◌≡◌, ◌<◌, ◌^◌, length, true, false, IfOk, IfSome, OnErr, OnOk, Some};
+ghost use Rattle.std.specs.Prelude.{◌≡◌, length, true, false, IfOk, IfSome, OnErr, OnOk, Some};
 ghost use Rattle.dv_words.specs.Stacks.{arg_words, changed, empty, entered, first, given as given_frame, gone, handling as handling_frame, has_room, popped, size_of, top_regs, with_word};
 ghost use Rattle.dv_words.specs.Words.{word_at};
 ghost use Rattle.dv_words.specs.declared.state.Level.TheVariants as words_level;
@@ -63,12 +63,11 @@ impl Stack {
 
     /// Whether there is room for a level with so many words.
     fn check_room(&self, more: usize) -> Result<(), Full>
-        requires { more < 2 ^ 33 }
         ensures room { OnOk result (has_room self.now more ≡ true) }
         ensures full { OnErr result (has_room self.now more ≡ false) }
     {
         if self.levels.len() < self.most_levels as usize
-            && more + self.words.len() <= self.most_words as usize
+            && more <= (self.most_words as usize).saturating_sub(self.words.len())
         {
             Ok(())
         } else {
@@ -83,11 +82,10 @@ impl Stack {
     ///
     /// Full, where the levels or the words would be too many; the stack is as before then.
     pub fn push(&mut self, method: MethodId, registers: u16, args: &[u32]) -> Result<(), Full>
-        requires { length args.now < 2 ^ 32 }
         ensures { IsPushed result self.old (words_level.Code (entered method registers args.now)) self.new }
     {
         let zeros = usize::from(registers).saturating_sub(args.len());
-        self.check_room(zeros + args.len())?;
+        self.check_room(args.len().max(usize::from(registers)))?;
         let base = self.words.len();
         add_zeros(&mut self.words, zeros);
         add_words(&mut self.words, args);

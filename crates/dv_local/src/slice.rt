@@ -1,5 +1,5 @@
 // A run of local steps of one thread.
-ghost use Rattle.std.specs.Prelude.{◌≡◌, ◌+◌, ◌<◌, ◌^◌};
+ghost use Rattle.std.specs.Prelude.{◌≡◌, ◌+◌, ◌-◌, ◌^◌, min};
 ghost use Rattle.dv_steps.specs.Stepping.{RanLocally};
 
 use crate::frames::run_slice;
@@ -16,14 +16,15 @@ pub struct Slice {
 }
 
 impl Slice {
-    /// Does local steps from the end on, so many at most, up to the first instruction that isn't local; gives how many were done.
+    /// Does local steps from the end on, so many at most, and no more than `steps` can count, up to the first instruction that isn't
+    /// local; gives how many were done.
     pub fn run(&mut self, image: &Image, most: u32) -> u32
-        requires { self.old.steps + most < 2 ^ 32 }
-        ensures ran { RanLocally image.now most result self.old.end self.new.end }
+        ensures ran { RanLocally image.now (min most (2 ^ 32 - 1 - self.old.steps)) result self.old.end self.new.end }
         ensures counted { self.new.steps ≡ self.old.steps + result }
         ensures thread { self.new.thread ≡ self.old.thread }
         ensures start { self.new.start ≡ self.old.start }
     {
+        let most = most.min(u32::MAX - self.steps);
         let done = run_slice(image, &mut self.end, most);
         self.steps += done;
         done

@@ -1,3 +1,4 @@
+pub mod Answering
 pub mod Calls
 pub mod Fetching
 pub mod Laws
@@ -5,6 +6,7 @@ pub mod Local
 pub mod Mem
 pub mod Natives
 pub mod Opening
+pub mod Running
 pub mod Step
 pub mod StepLaws
 pub mod Stepping

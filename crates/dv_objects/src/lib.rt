@@ -1,0 +1,8 @@
+//! What the objects of a heap are: their classes, and the types of which they are instances. Nothing here takes memory.
+#![tactic(auto)]
+
+mod classes;
+mod instances;
+
+pub use classes::class_of;
+pub use instances::{is_instance, is_of_class};
