@@ -12,6 +12,7 @@ use Rattle.dv_steps.specs.Mem.{type_of, type_of_kind}
 
 typed_nothing : (image : Image) (k : Option Kind) → is_some k ≡ false → type_of_kind image k ≡ of_class object_name
 typed_nothing image None e = refl
+typed_nothing image (Some k) e = absurd (cc e)
 
 -- what isn't there is an Object
 pub none_under : (image : Image) (h : WordHeap) (o : ℕ) (name : List ℕ) (b : Bool) → is_some (kind_of h o) ≡ false →
