@@ -1,5 +1,6 @@
 -- What is on top of a stack, and what a push and the start of a record make of one.
-use Rattle.std.specs.Prelude.{◌≡◌, true, List, ◌∷◌, Option, Some, None, Result, Ok, Err}
+use Rattle.std.specs.Prelude.{◌≡◌, ℕ, true, List, ◌∷◌, Option, Some, None, Result, Ok, Err}
+use Rattle.dv_words.specs.declared.state.Frame.{Frame}
 use Rattle.dv_words.specs.declared.state.Level.{Level}
 use Rattle.dv_words.specs.declared.state.Level.TheVariants as level
 use Rattle.dv_words.specs.State.{WordStack}
@@ -37,3 +38,7 @@ started s = with_levels s (running s.levels)
 abbrev pub IsPushed : Result (Unit {0}) Full → WordStack → Level → WordStack → Type 0
 IsPushed (Ok u) s l t = pushed s l ≡ Some t
 IsPushed (Err e) s l t = (pushed s l ≡ None) × (t ≡ s)
+
+-- at another address, with all else as before
+abbrev pub moved : Frame → ℕ → Frame
+moved f to = record { method = f.method; at = to; regs = f.regs; result = f.result; caught = f.caught }

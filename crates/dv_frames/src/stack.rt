@@ -4,7 +4,7 @@ ghost use Rattle.dv_words.specs.Stacks.{arg_words, changed, empty, entered, firs
 ghost use Rattle.dv_words.specs.Words.{word_at};
 ghost use Rattle.dv_words.specs.declared.state.Level.TheVariants as words_level;
 ghost use Rattle.dv_frames.specs.Heads.{frame as framed};
-ghost use Rattle.dv_frames.specs.Tops.{head_of, started, top_of, IsCode, IsPushed};
+ghost use Rattle.dv_frames.specs.Tops.{head_of, moved, started, top_of, IsCode, IsPushed};
 
 use crate::arguments::{add_args, add_words, add_zeros, count};
 use crate::heads::{Head, begin, given, go, handling, head_of_frame};
@@ -251,6 +251,15 @@ impl Stack {
     {
         if let Some(head) = self.head() {
             self.set_head(handling(head, at, object));
+        }
+    }
+
+    /// The frame on top stands at another address, and keeps all else: an exception of monitor-exit is searched at the next one.
+    pub fn move_to(&mut self, at: u32)
+        ensures { self.new ≡ changed (λ f. moved f at) self.old }
+    {
+        if let Some(head) = self.head() {
+            self.set_head(Head { at, ..head });
         }
     }
 

@@ -260,3 +260,20 @@ fn heads_go_on(rt: HostRuntime) {
         });
     assert!(rt; changed && base_of(&levels, 9) == 4 && base_of(&[], 9) == 9);
 }
+
+#[test]
+fn a_frame_that_is_moved_keeps_all_else(rt: HostRuntime) -> Result<(), Fail> {
+    let mut stack = Stack::new(rt.alloc(), 2, 4)?;
+    stack.push(CALLER, 1, &[9]).map_err(|_| "full")?;
+    stack.enter_handler(4, 77);
+    stack.give(Kept::One(1));
+    stack.move_to(6);
+    let handles = Head {
+        method: CALLER,
+        at: 6,
+        result: Kept::One(1),
+        caught: Some(77),
+    };
+    assert!(rt; stack.head() == Some(handles) && stack.word(0) == 9);
+    Ok(())
+}

@@ -1,4 +1,4 @@
-use Rattle.std.proofs.Common.{arith, ◌+◌, ◌++◌, ◌∙◌, ap, append_assoc, length, length-append, replicate, ℕ, List}
+use Rattle.std.proofs.Common.{arith, ◌++◌, ◌∙◌, ap, append_assoc, length, length-append, replicate, ℕ, List}
 use Rattle.std.specs.Prelude.{vec_capacity}
 use Rattle.std.proofs.lemmas.List.{length-replicate}
 use Rattle.dv_frames.proofs.Adding.{frame_added}
