@@ -2,3 +2,8 @@ mod Fields
 mod Chars
 mod Puts
 mod Steps
+mod Landings
+mod Waits
+mod Receivers
+mod Blocked
+mod Endings

@@ -3,6 +3,7 @@
 #![tactic(auto)]
 
 ghost use Rattle.dv_simulation.specs.Laws.{AcceptedImagesFit, AcceptedStepsFollow, OpeningsAreSimulated, TypedStatesFit};
+ghost use Rattle.dv_simulation.specs.RunningLaws.{RunningFollows};
 
 /// An image that the verifier accepts is what the laws of steps on words take.
 pub fn accepted_images_fit()
@@ -23,4 +24,10 @@ pub fn accepted_steps_follow()
 /// The words in which a run of a main method begins stand for the tagged machine's opening state, which is well typed and whose heap is bounded.
 pub fn openings_are_simulated()
     ensures law { OpeningsAreSimulated }
+{}
+
+/// What holds a thread up, which threads are runnable, and how a run stands are told by words that stand for a well-typed state: these are the
+/// tagged machine's.
+pub fn running_follows()
+    ensures law { RunningFollows }
 {}

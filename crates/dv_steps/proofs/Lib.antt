@@ -1,9 +1,9 @@
-mod Registers
+pub mod Registers
 mod Numbers
 mod Reading
 mod Comparing
 mod LocalSteps
-mod Objects
+pub mod Objects
 mod Added
 mod Narrowing
 mod MemReading
@@ -11,8 +11,8 @@ mod Short
 mod MemSteps
 pub mod Fetching
 mod Outcomes
-mod ThreadSteps
-mod NativeSteps
+pub mod ThreadSteps
+pub mod NativeSteps
 mod Arguments
 mod CallSteps
 mod ActSteps

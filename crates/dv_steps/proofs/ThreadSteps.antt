@@ -54,7 +54,7 @@ entered_stands m ws xs p are =
 
 -- ---- classes of objects
 
-class_by : (image : Image) (k : Option tagged_kind.Kind) → over.class_of_kind image (option_map erased_kind k) ≡ calls.class_of_kind image k
+pub class_by : (image : Image) (k : Option tagged_kind.Kind) → over.class_of_kind image (option_map erased_kind k) ≡ calls.class_of_kind image k
 class_by image None = refl
 class_by image (Some (kind_of_tagged.Object c)) = refl
 class_by image (Some (kind_of_tagged.Array t)) = refl
@@ -72,7 +72,7 @@ same_or k false false x y e rest = rest
 same_or k true false x y e rest = absurd (cc)
 same_or k false true x y e rest = absurd (cc)
 
-thread_from_is : (ws : List WordThread) (ts : List Thread) (k o : ℕ) → AllZip ThreadStands ws ts → over.thread_from ws k o ≡ machine.thread_from ts k o
+pub thread_from_is : (ws : List WordThread) (ts : List Thread) (k o : ℕ) → AllZip ThreadStands ws ts → over.thread_from ws k o ≡ machine.thread_from ts k o
 thread_from_is [] [] k o stand = refl
 thread_from_is [] (t ∷ ts) k o stand = absurd stand
 thread_from_is (w ∷ ws) [] k o stand = absurd stand
@@ -100,7 +100,7 @@ alive_is e t same = ap over.is_alive same ∙ by t.end refl
     by end.Returned is = rw is refl
     by (end.Died o) is = rw is refl
 
-living_is : (w : Option WordThread) (t : Option Thread) → BothStand w t → over.is_living w ≡ machine.is_living t
+pub living_is : (w : Option WordThread) (t : Option Thread) → BothStand w t → over.is_living w ≡ machine.is_living t
 living_is None None stand = refl
 living_is None (Some t) stand = absurd stand
 living_is (Some w) None stand = absurd stand
