@@ -16,7 +16,6 @@ use Rattle.dv_machine.specs.WellTyped.{Typings, WellTyped}
 use Rattle.dv_words.specs.Standing.{MachineStands, ThreadStands}
 use Rattle.dv_words.specs.State.{WordMachine, WordThread}
 use Rattle.dv_steps.specs.Running as words
-use Rattle.dv_steps.specs.Threads as over
 use Rattle.dv_steps.proofs.ThreadSteps.{BothStand, living_is, thread_at}
 use Rattle.dv_simulation.specs.RunningLaws.{RunningFollows}
 use Rattle.dv_simulation.proofs.Blocked.{IsPlacedThread, all_placed, placed_thread, thread_is}

@@ -1,5 +1,5 @@
 -- What an instruction waits for is told by the words: a monitor, a notify, or a thread that it joins.
-use Rattle.std.proofs.Common.{◌≡◌, ℕ, zero, suc, Bool, true, false, Option, Some, None, refl, ap, ◌∙◌}
+use Rattle.std.proofs.Common.{◌≡◌, ℕ, zero, suc, Bool, true, Option, Some, None, refl, ap, ◌∙◌}
 use Rattle.std.specs.Prelude.{if◌then◌else◌}
 use Rattle.dv_defs.specs.declared.machine.Blocked.TheVariants as blocked
 use Rattle.dv_defs.specs.declared.run.Native.{Native}
