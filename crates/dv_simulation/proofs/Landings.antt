@@ -39,16 +39,16 @@ module _ (image : Image) (w : WordHeap) (h : Heap) (stands : HeapStands w h) whe
       ap (λ (t : Ty). if instance image t (own_type image g) then nearest_from image (class_of_kind image (words.kind_of w o)) g else Lacks named.ClassChange) (type_is image w h o stands) ∙
       ap (λ (c : Option ℕ). if machine.implements_it image h g o then nearest_from image c g else Lacks named.ClassChange) (class_is o)
 
--- ---- constructors
+-- ---- calls of constructors
 
--- a call that lands does so on a method with a body of its own
+-- what a call lands on is no native
 abbrev pub NoNative : Image → Landing → Type 0
 NoNative image (Lands m) = native_of image m ≡ None
 NoNative image (Lacks n) = Unit {0}
 
 module _ (image : Image) (finds : FindsRightly image) (g : Method) (is : is_constructor g ≡ true) where
-  no_native : (m : Method) → is_constructor m ≡ true → NoNative image (unless_abstract m)
-  no_native m same = by (is_abstract m)
+  unless_native : (m : Method) → is_constructor m ≡ true → NoNative image (unless_abstract m)
+  unless_native m same = by (is_abstract m)
     where
       by : (b : Bool) → NoNative image (if b then Lacks named.AbstractMethod else Lands m)
       by true = tt
@@ -60,15 +60,15 @@ module _ (image : Image) (finds : FindsRightly image) (g : Method) (is : is_cons
   none_found c (Some m) e =
       let rightly = finds.nearest_is c g.def.name g.def.proto m e in
       let sort : is_constructor m ≡ is_constructor g = ap (λ b. not b && bytes_eq m.def.name init_name) (rightly.3 ∙ sym (not_static g is)) ∙ ap (λ n. not (is_static g) && bytes_eq n init_name) rightly.1 in
-      no_native m (sort ∙ is)
+      unless_native m (sort ∙ is)
 
   none_near : (c : Option ℕ) → NoNative image (nearest_from image c g)
   none_near None = tt
   none_near (Some c) = none_found c (nearest image c g.def.name g.def.proto) refl
 
   pub lands_on_no_native : (w : WordHeap) (own : Method) (c : Call) (o : ℕ) → NoNative image (over.dispatch image w own c g o)
-  lands_on_no_native w own Call.Static o = no_native g is
-  lands_on_no_native w own Call.Direct o = no_native g is
+  lands_on_no_native w own Call.Static o = unless_native g is
+  lands_on_no_native w own Call.Direct o = unless_native g is
   lands_on_no_native w own Call.Super o = none_near (parent_at image own.info.class.0)
   lands_on_no_native w own Call.Virtual o = none_near (class_of_kind image (words.kind_of w o))
   lands_on_no_native w own Call.Interface o = by (over.implements_it image w g o)
