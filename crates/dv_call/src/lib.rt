@@ -1,0 +1,11 @@
+//! Invokes and returns of the frame on top of a guest thread's stack, on plain words (AOSP, "Dalvik bytecode format"; JLS 15.12.4).
+//! Nothing here takes memory.
+#![tactic(auto)]
+
+mod invokes;
+mod landings;
+mod laws;
+
+pub use invokes::{enter, invoke};
+pub use landings::{Landed, land};
+pub use laws::invokes_land;
