@@ -17,11 +17,11 @@ use Rattle.dv_words.specs.State.{WordHeap, WordStack}
 use Rattle.dv_steps.specs.Calls as steps
 use Rattle.dv_steps.specs.Calls.{dispatch}
 use Rattle.dv_steps.specs.Steps.{At, Left}
-use Rattle.dv_call.specs.Landings.{InvokesLand, IsOwn, IsRunning, IsSeen, Landed, Enters, Fails, called, called_in, constructs, done, on_landing, on_object, on_receiver, first_of, run_by}
+use Rattle.dv_call.specs.Landings.{InvokesLand, IsOwn, IsRunning, IsSeen, Landed, Enters, Fails, called, called_in, running_in, constructs, done, on_landing, on_object, on_receiver, first_of, run_by}
 
 pub running : (image : Image) (heap : WordHeap) (stack : WordStack) (h : At) → IsSeen image heap stack h → IsOwn h → IsRunning image stack h.own
 running image heap stack h s own =
-    record { frame = h.frame; on_top = ap first s.is_stack.levels; is = ap (λ (i : Image). method_at i h.frame.method.0) (sym s.same_image) ∙ own }
+    ap (λ (ls : List Level). running_in image (first ls)) s.is_stack.levels ∙ (ap (λ (i : Image). method_at i h.frame.method.0) (sym s.same_image) ∙ own)
 
 -- what a call comes to, by what it sees
 pub from_seen : (image : Image) (heap : WordHeap) (stack : WordStack) (h : At) (c : Call) (g : Method) (ws : List ℕ) → IsSeen image heap stack h → called_in image heap h.own c g ws ≡ called h c g ws

@@ -1,5 +1,5 @@
 -- What an invoke comes to, before anything is done (AOSP, "invoke-kind"; JLS 15.12.4).
-use Rattle.std.specs.Prelude.{◌≡◌, ℕ, zero, suc, Bool, true, false, List, [], ◌∷◌, Option, Some, None, if◌then◌else◌}
+use Rattle.std.specs.Prelude.{◌≡◌, ℕ, zero, suc, Bool, true, false, List, [], ◌∷◌, map, Option, Some, None, if◌then◌else◌}
 use Rattle.dv_defs.specs.declared.run.Named.{Named}
 use Rattle.dv_defs.specs.declared.run.Named.TheVariants as named
 use Rattle.dv_defs.specs.declared.run.Native.{Native}
@@ -9,12 +9,13 @@ use Rattle.dv_defs.specs.Pools.{Method, is_abstract, is_constructor, is_static, 
 use Rattle.dv_machine.specs.Calls.{Landing, Lacks, Lands, native_of, unless_abstract}
 use Rattle.dv_machine.specs.State.{Did, Throws}
 use Rattle.dv_ops.specs.Meaning.{method_of}
-use Rattle.dv_words.specs.declared.state.Frame.{Frame}
+use Rattle.dv_words.specs.declared.state.Level.{Level}
 use Rattle.dv_words.specs.declared.state.Level.TheVariants as level
 use Rattle.dv_words.specs.Stacks.{first}
 use Rattle.dv_words.specs.State.{WordHeap, WordStack}
 use Rattle.dv_steps.specs.Answering.{IsStackOf}
 use Rattle.dv_steps.specs.Calls.{dispatch, enter, invoked}
+use Rattle.dv_steps.specs.Local.{reg_word}
 use Rattle.dv_steps.specs.Natives.{native_step}
 use Rattle.dv_steps.specs.Steps.{At, Left, left}
 use Rattle.dv_call.specs.declared.landings.Landed as code
@@ -72,6 +73,10 @@ abbrev pub is_native : Landed → Bool
 is_native (Runs n) = true
 is_native x = false
 
+-- an invoke of the words in these registers runs a native
+abbrev pub runs_native : At → Call → List ℕ → Method → Bool
+runs_native h c ks g = is_native (called h c g (map (reg_word h.frame) ks))
+
 -- what a step does then
 abbrev pub done : At → List ℕ → Landed → Did Left
 done h ws (Enters m) = enter h m ws
@@ -99,11 +104,13 @@ IsOwn h = method_at h.image h.frame.method.0 ≡ Some h.own
 abbrev pub IsNumbered : Image → Method → Type 0
 IsNumbered image g = method_at image g.id ≡ Some g
 
--- this method runs in the frame on top
-pub record IsRunning (image : Image) (stack : WordStack) (own : Method) : Type 0 where
-  pub frame : Frame
-  pub on_top : first stack.levels ≡ Some (level.Code frame)
-  pub is : method_at image frame.method.0 ≡ Some own
+-- the method that runs in a frame on top
+abbrev pub running_in : Image → Option Level → Option Method
+running_in image (Some (level.Code f)) = method_at image f.method.0
+running_in image l = None
+
+abbrev pub IsRunning : Image → WordStack → Method → Type 0
+IsRunning image stack own = running_in image (first stack.levels) ≡ Some own
 
 -- the nearest method on which a call of this one may land, from a class up
 abbrev pub nearest_in : Image → Option ℕ → Method → Option Method

@@ -9,7 +9,7 @@ ghost use Rattle.dv_words.specs.Stacks.{arg_words};
 ghost use Rattle.dv_steps.specs.Answering.{IsStackOf, Leads, LeavesStack};
 ghost use Rattle.dv_steps.specs.Calls as steps;
 ghost use Rattle.dv_steps.specs.Steps.{At};
-ghost use Rattle.dv_call.specs.Landings.{IsNumbered, IsOwn, IsSeen, called, is_native};
+ghost use Rattle.dv_call.specs.Landings.{IsNumbered, IsOwn, IsSeen, runs_native};
 
 use crate::landings::{Landed, land};
 use dv_defs::{Image, Next, Regs};
@@ -49,10 +49,10 @@ pub fn invoke(
     method: Method<'_>,
 ) -> Next
     ensures does { (h : At) → IsSeen image.now heap.now stack.old h → IsOwn h → IsNumbered image.now (method_of method.entry) →
-        is_native (called h (standard_call call) (method_of method.entry) (arg_words stack.old regs.now)) ≡ false →
+        runs_native h (standard_call call) (named_registers regs.now) (method_of method.entry) ≡ false →
         Leads {E = AllocError} (Ok result) (steps.invoke h (standard_call call) (named_registers regs.now) (method_of method.entry)) (LeavesStack h.shared stack.old stack.new) (stack.new ≡ stack.old) }
     ensures native { (h : At) → IsSeen image.now heap.now stack.old h → IsOwn h → IsNumbered image.now (method_of method.entry) →
-        is_native (called h (standard_call call) (method_of method.entry) (arg_words stack.old regs.now)) ≡ true → stack.new ≡ stack.old }
+        runs_native h (standard_call call) (named_registers regs.now) (method_of method.entry) ≡ true → stack.new ≡ stack.old }
 {
     match land(image, heap, stack, call, regs, method) {
         Landed::Method(method) => enter(stack, &method, regs),

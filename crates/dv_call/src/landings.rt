@@ -11,6 +11,7 @@ ghost use Rattle.dv_steps.specs.Steps.{At};
 ghost use Rattle.dv_call.specs.Landings as calls;
 ghost use Rattle.dv_call.specs.Landings.{IsNumbered, IsOwn, IsRunning, IsSeen, called, constructs, first_of, landed_of, nearest_in, on_landing};
 
+use crate::tops::running;
 use dv_boot::native;
 use dv_defs::{ClassId, Flag, Image, Named, Native, Regs};
 use dv_frames::Stack;
@@ -91,8 +92,7 @@ fn land_from<'a>(image: &'a Image, class: Option<usize>, method: Method<'a>) -> 
 fn above(image: &Image, stack: &Stack) -> Option<usize>
     ensures { (own : pools.Method) → IsRunning image.now stack.now own → result ≡ pools.parent_at image.now own.info.class.0 }
 {
-    let head = stack.head()?;
-    let own = method_at(image, head.method)?;
+    let own = running(image, stack)?;
     parent_of(image, own.info.class.0 as usize)
 }
 

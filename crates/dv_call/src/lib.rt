@@ -5,7 +5,12 @@
 mod invokes;
 mod landings;
 mod laws;
+mod returns;
+mod step;
+mod tops;
 
 pub use invokes::{enter, invoke};
 pub use landings::{Landed, land};
 pub use laws::invokes_land;
+pub use returns::{return_value, return_void};
+pub use step::call_step;
