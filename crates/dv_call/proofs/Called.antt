@@ -5,19 +5,21 @@ use Rattle.dv_defs.specs.declared.code.Regs.{Regs}
 use Rattle.dv_defs.specs.Op.{count_up, named_registers}
 use Rattle.dv_words.specs.Words.{word_at}
 use Rattle.dv_defs.specs.Parts.{Call}
-use Rattle.dv_defs.specs.Pools.{Method, is_abstract, is_constructor, is_native, is_static, method_at, name_at}
+use Rattle.dv_defs.specs.Pools.{Method, is_abstract, is_constructor, is_native as has_flag, is_static, method_at, name_at}
 use Rattle.std.specs.Prelude.{if◌then◌else◌, slice_index}
 use Rattle.dv_defs.specs.declared.run.Named.TheVariants as named
 use Rattle.dv_defs.specs.declared.run.Native.{Native}
 use Rattle.dv_machine.specs.State.{Did, Throws}
 use Rattle.dv_machine.specs.Calls.{Landing, Lacks, Lands, all_natives, native_among, native_of, unless_abstract}
 use Rattle.dv_words.specs.declared.state.Level.{Level}
-use Rattle.dv_words.specs.Stacks.{first}
+use Rattle.dv_words.specs.Stacks.{arg_words, first, top_regs}
 use Rattle.dv_words.specs.State.{WordHeap, WordStack}
+use Rattle.dv_steps.specs.Answering.{IsStackOf}
 use Rattle.dv_steps.specs.Calls as steps
 use Rattle.dv_steps.specs.Calls.{dispatch}
+use Rattle.dv_steps.specs.Local.{reg_word}
 use Rattle.dv_steps.specs.Steps.{At, Left}
-use Rattle.dv_call.specs.Landings.{InvokesLand, IsOwn, IsRunning, IsSeen, Landed, Enters, Fails, called, called_in, running_in, constructs, done, on_landing, on_object, on_receiver, first_of, run_by}
+use Rattle.dv_call.specs.Landings.{InvokesLand, IsOwn, IsRunning, IsSeen, Landed, Enters, Fails, called, called_in, is_native, runs_native, running_in, constructs, done, on_landing, on_object, on_receiver, first_of, run_by}
 
 pub running : (image : Image) (heap : WordHeap) (stack : WordStack) (h : At) → IsSeen image heap stack h → IsOwn h → IsRunning image stack h.own
 running image heap stack h s own =
@@ -75,9 +77,23 @@ first_word ws r some five = by_range ws r.first r.count r.range some (omega (ari
 abbrev where_native : Bool → Option Native → Option Native
 where_native b n = elim b [ true ↦ n | false ↦ None ]
 
-pub native_found : (image : Image) (m : Method) (n : Option Native) (class name : List ℕ) → is_native m ≡ true → class ≡ name_at image m.info.class.0 → name ≡ m.def.name → n ≡ native_among all_natives class name → n ≡ native_of image m
+pub native_found : (image : Image) (m : Method) (n : Option Native) (class name : List ℕ) → has_flag m ≡ true → class ≡ name_at image m.info.class.0 → name ≡ m.def.name → n ≡ native_among all_natives class name → n ≡ native_of image m
 native_found image m n class name flag same_class same_name is =
     is ∙
     (ap (λ (k : List ℕ). native_among all_natives k name) same_class ∙
     (ap (native_among all_natives (name_at image m.info.class.0)) same_name ∙
     sym (ap (λ (b : Bool). where_native b (native_among all_natives (name_at image m.info.class.0) m.def.name)) flag)))
+
+-- ---- invokes of what stands in registers
+
+module _ (stack : WordStack) (h : At) (c : Call) (regs : Regs) (g : Method) (is : IsStackOf stack h) where
+  args_are : arg_words stack regs ≡ map (reg_word h.frame) (named_registers regs)
+  args_are = ap (λ (ls : List Level). map (word_at (top_regs ls)) (named_registers regs)) is.levels
+
+  -- an invoke does what its call comes to
+  pub invoke_is : (x : Landed) → called h c g (arg_words stack regs) ≡ x → steps.invoke h c (named_registers regs) g ≡ done h (arg_words stack regs) x
+  invoke_is x e = ap (steps.invoked h c g) (sym args_are) ∙ (invokes_land h c g (arg_words stack regs) ∙ ap (done h (arg_words stack regs)) e)
+
+  -- and runs a native where that does
+  pub runs_it : (x : Landed) → called h c g (arg_words stack regs) ≡ x → runs_native h c (named_registers regs) g ≡ is_native x
+  runs_it x e = ap (λ (ws : List ℕ). is_native (called h c g ws)) (sym args_are) ∙ ap is_native e
