@@ -148,14 +148,14 @@ fn dispatch<'a>(
 }
 
 /// Whether a method is a constructor (JVMS 2.9.1).
-fn is_constructor(method: &Method<'_>) -> bool
+pub fn is_constructor(method: &Method<'_>) -> bool
     ensures { result ≡ pools.is_constructor (method_of method.now) }
 {
     !Flag::Static.is_in(method.def.flags) && method.def.name.bytes() == INIT
 }
 
 /// A constructor is called as it is named.
-fn construct(method: Method<'_>) -> Landed<'_>
+pub fn construct(method: Method<'_>) -> Landed<'_>
     ensures { landed_of result ≡ constructs (method_of method.entry) }
 {
     if Flag::Abstract.is_in(method.def.flags) {
@@ -166,7 +166,7 @@ fn construct(method: Method<'_>) -> Landed<'_>
 }
 
 /// The first word of those in the registers that an invoke names.
-fn receiver(stack: &Stack, regs: &Regs) -> Option<u32>
+pub fn receiver(stack: &Stack, regs: &Regs) -> Option<u32>
     ensures { result ≡ first_of (arg_words stack.now regs.now) }
 {
     if regs.count == 0 {

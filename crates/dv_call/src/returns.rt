@@ -23,7 +23,7 @@ use dv_units::insn_size;
 use dv_words::Kept;
 
 /// The number of units of an instruction with an opcode, 0 where the opcode has no format.
-pub fn size_of(op: u8) -> u32
+fn size_of(op: u8) -> u32
     ensures size { result ≡ size_at op }
     ensures few { result ≤ 5 }
 {
@@ -31,7 +31,7 @@ pub fn size_of(op: u8) -> u32
 }
 
 /// The address after the instruction that stands at this one, none past the units.
-fn next_in(units: &[u16], at: u32) -> Option<u32>
+pub fn next_in(units: &[u16], at: u32) -> Option<u32>
     requires { length units.now ≤ 16384 }
     ensures { (x : Fetched) → IsThere units.now at x → result ≡ Some x.next }
 {
@@ -87,7 +87,7 @@ fn is_long(ty: &Ty) -> bool
 }
 
 /// Whether a method gives a long.
-fn gives_long(method: &Method<'_>) -> bool
+pub fn gives_long(method: &Method<'_>) -> bool
     ensures { result ≡ steps.is_wide (method_of method.now).def.proto.ret }
 {
     match &method.def.proto.ret {
@@ -107,7 +107,7 @@ fn top_gives_long(image: &Image, stack: &Stack) -> bool
 }
 
 /// The word in a register of the frame on top, or the two of a long there and in the next one.
-fn kept_at(stack: &Stack, reg: u16, wide: bool) -> Kept
+pub fn kept_at(stack: &Stack, reg: u16, wide: bool) -> Kept
     ensures { (h : At) → IsStackOf stack.now h → result ≡ steps.kept_at h.frame reg wide }
 {
     let low = stack.word(u32::from(reg));
