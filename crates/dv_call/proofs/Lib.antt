@@ -1,0 +1,4 @@
+pub mod Called
+pub mod Nearest
+pub mod Resumed
+pub mod AtInsn

@@ -1,0 +1,3 @@
+pub mod Landings
+pub mod Returns
+pub mod Stepping
