@@ -1,5 +1,5 @@
 -- The cell of the first field of a name that a class declares, one field after another.
-use Rattle.std.proofs.Common.{◌≡◌, refl, ap, subst, ◌∙◌, ℕ, suc, ◌+◌, ◌<◌, List, length, drop, get_or, Bool, true, false, drop-cons, arith}
+use Rattle.std.proofs.Common.{◌≡◌, ap, ◌∙◌, ℕ, suc, ◌+◌, ◌<◌, List, length, drop, get_or, Bool, true, false, drop-cons, arith}
 use Rattle.dv_defs.specs.declared.image.FieldInfo.{FieldInfo}
 use Rattle.dv_defs.specs.Images.{Image}
 use Rattle.dv_defs.specs.Pools.{field_at}

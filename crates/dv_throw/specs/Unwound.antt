@@ -14,7 +14,6 @@ use Rattle.dv_words.specs.declared.state.Level.{Level}
 use Rattle.dv_words.specs.Heaps.{Got, newest, with_word}
 use Rattle.dv_words.specs.Stacks.{below, changed, handling, popped, with_levels}
 use Rattle.dv_words.specs.State.{WordHeap, WordShared, WordStack}
-use Rattle.dv_steps.specs.Answering.{LeavesStack}
 use Rattle.dv_steps.specs.Mem.{type_of}
 use Rattle.dv_steps.specs.Steps.{At, Left, with_classes, with_heap}
 use Rattle.dv_steps.specs.Unwinding.{Caught, Flies, Lacking, Unwound, is_opening, made_object}

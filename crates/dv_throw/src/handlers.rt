@@ -68,3 +68,6 @@ fn catches(image: &Image, heap: &Heap, object: u32, body: &Body, handler: &Handl
         None => true,
     }
 }
+
+#[cfg(test)]
+mod tests;

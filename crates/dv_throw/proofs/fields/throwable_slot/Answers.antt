@@ -1,5 +1,4 @@
-use Rattle.std.proofs.Common.{◌≡◌, ◌<◌, ◌^◌, length, arith, rules, ap, sym, subst, ◌∙◌}
-use Rattle.dv_defs.specs.Linked.{IsImage}
+use Rattle.std.proofs.Common.{◌≡◌, ◌<◌, ◌^◌, length, arith, rules, ap, sym, ◌∙◌}
 use Rattle.dv_defs.specs.Images.{Image}
 use Rattle.dv_machine.specs.Unwinding.{is_named_field}
 use Rattle.dv_linklaws.proofs.ImageMembers.{image_fields_few}

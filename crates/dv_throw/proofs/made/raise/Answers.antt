@@ -1,4 +1,4 @@
-use Rattle.std.proofs.Common.{◌≡◌, Option, Some, sym, subst, ◌∙◌}
+use Rattle.std.proofs.Common.{Option, sym, subst, ◌∙◌}
 use Rattle.dv_words.specs.Heaps.{Got}
 use Rattle.dv_throw.specs.Unwound.{IsObject}
 use Rattle.dv_throw.proofs.Raising.{raised_error, raised_wrapped}
