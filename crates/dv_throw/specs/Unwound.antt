@@ -1,0 +1,99 @@
+-- What calls make of an exception in flight.
+use Rattle.std.specs.Prelude.{◌≡◌, ℕ, Option, Some, None, Result, Ok, Err, codes, option_map, if◌then◌else◌, List, []}
+use Rattle.std.specs.declared.alloc.AllocError.{AllocError}
+use Rattle.dv_defs.specs.declared.run.Named.TheVariants as named
+use Rattle.dv_defs.specs.declared.run.Next.{Next}
+use Rattle.dv_defs.specs.declared.run.Next.TheVariants as next
+use Rattle.dv_defs.specs.Classes.{Classes, Erroneous, with_state}
+use Rattle.dv_defs.specs.Images.{Image}
+use Rattle.dv_defs.specs.Names.{error_name}
+use Rattle.dv_defs.specs.Order.{instance}
+use Rattle.dv_defs.specs.Types.{of_class}
+use Rattle.dv_machine.specs.Unwinding.{throwable_slot}
+use Rattle.dv_words.specs.declared.state.Level.{Level}
+use Rattle.dv_words.specs.Heaps.{Got, newest, with_word}
+use Rattle.dv_words.specs.Stacks.{below, changed, handling, popped, with_levels}
+use Rattle.dv_words.specs.State.{WordHeap, WordShared, WordStack}
+use Rattle.dv_steps.specs.Mem.{type_of}
+use Rattle.dv_steps.specs.Steps.{At, Left, with_classes, with_heap}
+use Rattle.dv_steps.specs.Unwinding.{Caught, Flies, Lacking, Unwound, is_opening, made_object}
+
+-- ---- new exceptions
+
+-- the answer throws the newest object of this heap, or the words for it are lacking
+abbrev pub IsMade : Result Next AllocError → Option WordHeap → WordHeap → WordHeap → Type 0
+IsMade (Ok (next.ThrowRef o)) made old new = (made ≡ Some new) × (o ≡ newest new)
+IsMade (Ok next.NoWords) made old new = (made ≡ None) × (new ≡ old)
+IsMade (Err memory) made old new = new ≡ old
+IsMade answer made old new = ⊥
+
+-- the object, with the heap that has it; none where words are lacking
+abbrev pub IsObject : Result (Option ℕ) AllocError → Option Got → WordHeap → WordHeap → Type 0
+IsObject (Ok (Some o)) got old new = got ≡ Some (record { object = o; heap = new })
+IsObject (Ok None) got old new = (got ≡ None) × (new ≡ old)
+IsObject (Err memory) got old new = new ≡ old
+
+-- the newest object has this cause
+abbrev pub caused_by : Image → ℕ → WordHeap → Got
+caused_by image o heap =
+    record { object = newest heap; heap = with_word heap (newest heap) (throwable_slot image (codes "cause")) o }
+
+-- what flies on where an initialiser ended by an exception: an Error itself, anything else as the cause of a new one
+abbrev pub raised : Image → WordHeap → ℕ → Option Got
+raised image heap o =
+    if instance image (type_of image heap o) (of_class error_name) then Some (record { object = o; heap = heap })
+    else option_map (caused_by image o) (made_object image heap named.InInitializer)
+
+-- ---- levels
+
+-- without thread 0's first frame, where the record above it was the one that the opening made
+abbrev pub below_opening : Image → ℕ → ℕ → List Level → List Level
+below_opening image t c ls = if is_opening image t c ls then [] else ls
+
+-- ---- answers
+
+-- the thread of this number steps, with this heap and these states of classes
+pub record IsSeen (image : Image) (heap : WordHeap) (classes : Classes) (thread : ℕ) (h : At) : Type 0 where
+  pub image_is : h.image ≡ image
+  pub heap_is : h.shared.heap ≡ heap
+  pub classes_are : h.shared.classes ≡ classes
+  pub thread_is : h.thread ≡ thread
+
+-- what all share, but with this heap and these states of classes
+abbrev pub sharing : WordShared → WordHeap → Classes → WordShared
+sharing sh heap classes = with_classes (with_heap sh heap) classes
+
+-- all is as before
+pub record Stays (stack stack' : WordStack) (heap heap' : WordHeap) (classes classes' : Classes) : Type 0 where
+  pub stack_stays : stack' ≡ stack
+  pub heap_stays : heap' ≡ heap
+  pub classes_stay : classes' ≡ classes
+
+-- an answer is what became of the exception: what it leaves is left, and where words or memory are lacking all stays
+abbrev pub Unwinds : Result Next AllocError → Unwound → (Left → Type 0) → Type 0 → Type 0
+Unwinds (Ok next.On) (Caught l) leaves stays = leaves l
+Unwinds (Ok (next.ThrowRef o)) (Flies p l) leaves stays = (o ≡ p) × leaves l
+Unwinds (Ok next.NoWords) Lacking leaves stays = stays
+Unwinds (Err memory) u leaves stays = stays
+Unwinds answer u leaves stays = ⊥
+
+-- ---- a level
+
+-- the frame on top enters a handler, or is dropped where none catches the exception
+abbrev pub IsThrough : Next → Option ℕ → ℕ → WordStack → WordStack → Type 0
+IsThrough next.On (Some to) o stack stack' = stack' ≡ changed (λ f. handling f to o) stack
+IsThrough (next.ThrowRef p) None o stack stack' = (p ≡ o) × (stack' ≡ popped stack)
+IsThrough answer to o stack stack' = ⊥
+
+-- the record on top is dropped, its class is erroneous, and this flies on
+pub record IsEnded (image : Image) (t c : ℕ) (g : Got) (o : ℕ) (stack stack' : WordStack) (heap' : WordHeap) (classes classes' : Classes) : Type 0 where
+  pub object_is : o ≡ g.object
+  pub heap_is : heap' ≡ g.heap
+  pub classes_are : classes' ≡ with_state classes c Erroneous
+  pub stack_is : stack' ≡ with_levels stack (below_opening image t c (below stack.levels))
+
+abbrev pub Ends : Result Next AllocError → Option Got → (Got → ℕ → Type 0) → Type 0 → Type 0
+Ends (Ok (next.ThrowRef o)) (Some g) ended stays = ended g o
+Ends (Ok next.NoWords) None ended stays = stays
+Ends (Err memory) g ended stays = stays
+Ends answer g ended stays = ⊥
