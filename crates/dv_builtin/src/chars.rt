@@ -1,6 +1,7 @@
 // Arrays of chars.
 ghost use Rattle.std.specs.Prelude.{◌≡◌, option_map};
 ghost use Rattle.dv_words.specs.Heaps.{words_of_object};
+ghost use Rattle.dv_words.specs.Words.{int_of};
 ghost use Rattle.dv_builtin.specs.Natives.{IsChars};
 ghost use Rattle.dv_builtin.specs.Parts.{chars_in};
 
@@ -17,11 +18,11 @@ pub fn chars_of(heap: &Heap, array: u32) -> &[u32]
     }
 }
 
-/// So many chars from a place on, none where they aren't all there.
-pub fn some_chars(chars: &[u32], start: i32, count: i32) -> Option<&[u32]>
-    ensures { option_map (λ s. s.now) result ≡ chars_in chars.now start count }
+/// So many chars from a place on, by the words of two ints; none where they aren't all there.
+pub fn some_chars(chars: &[u32], start: u32, count: u32) -> Option<&[u32]>
+    ensures { option_map (λ s. s.now) result ≡ chars_in chars.now (int_of start) (int_of count) }
 {
-    let start = usize::try_from(start).ok()?;
-    let count = usize::try_from(count).ok()?;
+    let start = usize::try_from(start.cast_signed()).ok()?;
+    let count = usize::try_from(count.cast_signed()).ok()?;
     chars.get(start..start + count)
 }

@@ -40,7 +40,6 @@ fn char_at(text: &[u32], at: usize) -> (char, usize)
 /// How many bytes a text has.
 pub fn utf8_len(text: &[u32]) -> usize
     requires units { (k : ℕ) → slice_index text.now k < 2 ^ 16 }
-    requires few { length text.now < 2 ^ 32 }
     ensures { result ≡ length (utf8 text.now) }
 {
     let mut len = 0;

@@ -136,8 +136,8 @@ pub fn of_chars(
     if array == 0 {
         return Ok(Next::Throw(Named::NullPointer));
     }
-    let start = argument(stack, regs, 1).cast_signed();
-    let count = argument(stack, regs, 2).cast_signed();
+    let start = argument(stack, regs, 1);
+    let count = argument(stack, regs, 2);
     let Some(chars) = some_chars(chars_of(heap, array), start, count) else {
         return Ok(Next::Throw(Named::IndexOutOfBounds));
     };

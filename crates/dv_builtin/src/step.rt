@@ -44,7 +44,10 @@ fn next_address(image: &Image, stack: &Stack, insn: &Insn) -> Option<u32>
 {
     let head = stack.head()?;
     let code = coded_at(image, head.method)?;
-    is_within(units_of(&code), head.at).then(|| head.at + size_of(insn.op))
+    if !is_within(units_of(&code), head.at) {
+        return None;
+    }
+    Some(head.at + size_of(insn.op))
 }
 
 /// Does a native method of String, of dvm.Text or of dvm.Console at the instruction that calls it. `limit` is the number of bytes that
