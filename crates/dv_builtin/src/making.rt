@@ -1,9 +1,9 @@
 // New strings.
-ghost use Rattle.std.specs.Prelude.{◌≡◌, ℕ, List, ◌<◌, ◌++◌, IfOk};
+ghost use Rattle.std.specs.Prelude.{◌≡◌, ℕ, List, ◌<◌, ◌^◌, ◌++◌, IfOk, slice_index};
 ghost use Rattle.dv_defs.specs.Numbers.{long_of};
 ghost use Rattle.dv_defs.specs.declared.run.Native.TheVariants as natives;
 ghost use Rattle.dv_words.specs.Stacks.{arg_words};
-ghost use Rattle.dv_steps.specs.Natives.{arg, native_step, new_text, text_of, units_in};
+ghost use Rattle.dv_steps.specs.Natives.{arg, native_step, new_text, units_in};
 ghost use Rattle.dv_steps.specs.Steps.{At};
 ghost use Rattle.dv_builtin.specs.Natives.{IsChars};
 ghost use Rattle.dv_builtin.specs.Seeing.{Does, Sees};
@@ -38,17 +38,12 @@ fn new_text(
     }
 }
 
-/// The units of two strings, one after the other.
-fn joined(
-    alloc: Global,
-    heap: &Heap,
-    first: u32,
-    second: u32,
-) -> Result<Vec<u16>, AllocError>
-    ensures { IfOk result (λ units. units.items ≡ text_of heap.now first ++ text_of heap.now second) }
+/// The units of two texts, one after the other.
+pub fn joined(alloc: Global, front: &[u32], back: &[u32]) -> Result<Vec<u16>, AllocError>
+    requires front { (k : ℕ) → slice_index front.now k < 2 ^ 16 }
+    requires back { (k : ℕ) → slice_index back.now k < 2 ^ 16 }
+    ensures { IfOk result (λ units. units.items ≡ front.now ++ back.now) }
 {
-    let front = text_of(heap, first);
-    let back = text_of(heap, second);
     let mut units = Vec::with_capacity(alloc, front.len() + back.len())?;
     add_units(&mut units, front)?;
     add_units(&mut units, back)?;
@@ -74,13 +69,14 @@ pub fn concat(
     if other == 0 {
         return Ok(Next::Throw(Named::NullPointer));
     }
-    let alloc = *stack.words.allocator();
-    let units = joined(alloc, heap, string, other)?;
+    let front = text_of(heap, string);
+    let back = text_of(heap, other);
+    let units = joined(*stack.words.allocator(), front, back)?;
     new_text(heap, stack, next, units.as_slice())
 }
 
 /// The long of two words.
-fn long(low: u32, high: u32) -> i64
+pub fn long(low: u32, high: u32) -> i64
     ensures { result ≡ long_of low high }
 {
     (u64::from(low) + u64::from(high) * 0x1_0000_0000).cast_signed()

@@ -17,7 +17,7 @@ use itoa::Buffer;
 use std::alloc::AllocError;
 
 /// Whether so many bytes more may be printed; there is room for them then.
-fn take_room(output: &mut Vec<u8>, more: usize, limit: u32) -> Result<bool, AllocError>
+pub fn take_room(output: &mut Vec<u8>, more: usize, limit: u32) -> Result<bool, AllocError>
     ensures items { output.new.items ≡ output.old.items }
     ensures may { IfOk result (λ may. may ≡ nat_le (length output.old.items + more) limit) }
     ensures room { IfOk result (λ may. may ≡ true → vec_len output.new + more ≤ vec_capacity output.new) }

@@ -54,7 +54,7 @@ fn same_text(heap: &Heap, first: u32, second: u32) -> bool
 }
 
 /// The unit at an index.
-fn unit_at(text: &[u32], index: i32) -> Option<u32>
+pub fn unit_at(text: &[u32], index: i32) -> Option<u32>
     ensures { result ≡ unit_in text.now index }
 {
     let place = usize::try_from(index).ok()?;
