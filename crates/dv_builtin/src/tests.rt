@@ -68,9 +68,9 @@ fn chars_are_taken_where_they_all_are_there(rt: HostRuntime) {
 fn units_are_the_low_bits_of_words(rt: HostRuntime) -> Result<(), Fail> {
     let mut units = Vec::from_slice(rt.alloc(), &[5])?;
     add_units(&mut units, &[97, 0x1_0062, MINUS_1, LEAST])?;
-    assert_eq!(rt; units.as_slice(), &[5, 97, 98, 0xffff, 0]);
+    assert_eq!(rt; units.as_slice(), [5, 97, 98, 0xffff, 0].as_slice());
     let units = joined(rt.alloc(), &[97, 0xd83d], &[0xde00])?;
-    assert_eq!(rt; units.as_slice(), &[97, 0xd83d, 0xde00]);
+    assert_eq!(rt; units.as_slice(), [97, 0xd83d, 0xde00].as_slice());
     Ok(())
 }
 
@@ -114,7 +114,7 @@ fn texts_are_printed_in_utf8(rt: HostRuntime) -> Result<(), Fail> {
         let mut output = Vec::from_slice(rt.alloc(), b"1\n")?;
         output.reserve(len)?;
         add_utf8(&mut output, units);
-        assert_eq!(rt; &output[..2], b"1\n");
+        assert_eq!(rt; &output[..2], b"1\n".as_slice());
         assert_eq!(rt; &output[2..], *bytes, "{units:?}");
     }
     Ok(())
@@ -128,7 +128,7 @@ fn room_is_up_to_the_limit(rt: HostRuntime) -> Result<(), Fail> {
     assert!(rt; take_room(&mut output, 0, 3)?);
     assert!(rt; !take_room(&mut output, 0, 2)?);
     assert!(rt; !take_room(&mut output, usize::MAX, u32::MAX)?);
-    assert_eq!(rt; output.as_slice(), b"abc");
+    assert_eq!(rt; output.as_slice(), b"abc".as_slice());
     Ok(())
 }
 
@@ -147,11 +147,11 @@ const PRINTLN: Regs = Regs {
     range: false,
 };
 
-fn check_frame<R: Abort>(rt: &R, stack: &Stack, at: u32, result: Kept) {
+fn check_frame<R: Abort>(rt: &R, stack: &Stack, at: u32, kept: Kept) {
     match stack.head() {
         Some(head) => {
             assert_eq!(rt; head.at, at);
-            assert_eq!(rt; head.result, result);
+            assert_eq!(rt; head.result, kept);
         }
         None => assert!(rt; false),
     }
@@ -160,13 +160,16 @@ fn check_frame<R: Abort>(rt: &R, stack: &Stack, at: u32, result: Kept) {
 
 #[test]
 fn ints_are_printed_as_lines(rt: HostRuntime) -> Result<(), Fail> {
-    for (word, line) in [(0, "0\n"), (MINUS_1, "-1\n"), (LEAST, "-2147483648\n")] {
+    for (word, printed) in [
+        (0, "ab0\n"),
+        (MINUS_1, "ab-1\n"),
+        (LEAST, "ab-2147483648\n"),
+    ] {
         let mut output = Vec::from_slice(rt.alloc(), b"ab")?;
         let mut stack = stack(rt.alloc(), &[4, word])?;
         let next = println(&mut stack, &mut output, 14, 6, &PRINTLN)?;
         assert_eq!(rt; next, Next::On);
-        assert_eq!(rt; &output[..2], b"ab");
-        assert_eq!(rt; &output[2..], line.as_bytes());
+        assert_eq!(rt; output.as_slice(), printed.as_bytes());
         check_frame(&rt, &stack, 6, Kept::None);
     }
     Ok(())
@@ -178,7 +181,7 @@ fn a_line_that_passes_the_limit_is_not_printed(rt: HostRuntime) -> Result<(), Fa
     let mut stack = stack(rt.alloc(), &[4, LEAST])?;
     let next = println(&mut stack, &mut output, 13, 6, &PRINTLN)?;
     assert_eq!(rt; next, Next::NoOutput);
-    assert_eq!(rt; output.as_slice(), b"ab");
+    assert_eq!(rt; output.as_slice(), b"ab".as_slice());
     check_frame(&rt, &stack, 0, Kept::One(9));
     Ok(())
 }
