@@ -1,5 +1,5 @@
 -- The chars of an array.
-use Rattle.std.proofs.Common.{◌≡◌, ◌∙◌, ◌/◌, ◌<◌, ◌+◌, ℕ, zero, suc, ℤ, pos, negsuc, Bool, true, false, cond, List, length, take, drop, Option, Some, None, refl, sym, ap, subst, arith}
+use Rattle.std.proofs.Common.{◌≡◌, ◌∙◌, ◌/◌, ◌<◌, ◌+◌, ℕ, zero, suc, ℤ, pos, negsuc, Bool, true, false, cond, List, length, take, drop, Some, None, refl, sym, ap, arith}
 use Rattle.std.specs.Prelude.{◌&&◌, nat_eq, nat_le}
 use Rattle.std.proofs.lemmas.Option.{same_Some}
 use Rattle.dv_defs.specs.declared.names.Base.{Base}
@@ -7,11 +7,10 @@ use Rattle.dv_defs.specs.declared.names.Base.TheVariants as base
 use Rattle.dv_defs.specs.declared.names.Ty.{Ty}
 use Rattle.dv_defs.specs.declared.run.Named.TheVariants as named
 use Rattle.dv_defs.specs.declared.run.Native.TheVariants as native
-use Rattle.dv_defs.specs.Types.{base_eq, component, is_base, is_long, words_of}
+use Rattle.dv_defs.specs.Types.{base_eq, component, is_base, is_long}
 use Rattle.dv_machine.specs.Mem.{on_object}
-use Rattle.dv_machine.specs.State.{Did, Throws, where_true}
-use Rattle.dv_words.specs.declared.state.Kind.TheVariants as kind
-use Rattle.dv_words.specs.Heaps.{kind_of, length_of, words_of_object}
+use Rattle.dv_machine.specs.State.{Did, where_true}
+use Rattle.dv_words.specs.Heaps.{length_of, words_of_object}
 use Rattle.dv_words.specs.State.{WordHeap}
 use Rattle.dv_words.specs.Words.{int_of}
 use Rattle.dv_steps.specs.Natives.{arg, native_step, new_text, some_chars, units_in}

@@ -1,5 +1,5 @@
 -- The instruction at which the frame on top goes on, and the address after it.
-use Rattle.std.proofs.Common.{◌≡◌, ◌∙◌, ◌+◌, ◌<◌, ◌≤◌, ℕ, zero, suc, List, [], ◌∷◌, length, take, drop, true, map, Option, Some, None, refl, sym, ap, subst, arith, length-drop}
+use Rattle.std.proofs.Common.{◌≡◌, ◌∙◌, ◌+◌, ◌≤◌, ℕ, zero, suc, List, [], ◌∷◌, length, take, drop, true, map, Some, refl, sym, ap, arith}
 use Rattle.std.proofs.lemmas.Option.{same_Some}
 use Rattle.dv_defs.specs.declared.code.Insn.{Insn}
 use Rattle.dv_defs.specs.Decoding.{insn_here}
@@ -8,14 +8,11 @@ use Rattle.dv_defs.specs.Op.{Code, Invoke, Op, code_at, named_registers}
 use Rattle.dv_defs.specs.Parts.{Call}
 use Rattle.dv_defs.specs.Pools.{Method}
 use Rattle.dv_defs.specs.Spelling.{all_fit, spelling}
-use Rattle.dv_defs.specs.Statics as statics
 use Rattle.dv_defs.proofs.DecodingLaws.{insn_here_spelled}
 use Rattle.dv_defs.proofs.SpellingFormats.{begins}
 use Rattle.dv_defs.proofs.SpellingLaws.{spelled_in}
 use Rattle.dv_units.proofs.Decoding.{fit_from}
-use Rattle.dv_words.specs.declared.state.Frame.{Frame}
 use Rattle.dv_words.specs.declared.state.Level.{Level}
-use Rattle.dv_words.specs.declared.state.Level.TheVariants as level
 use Rattle.dv_words.specs.Stacks.{arg_words, first, top_regs}
 use Rattle.dv_words.specs.State.{WordStack}
 use Rattle.dv_words.specs.Words.{word_at}

@@ -5,7 +5,6 @@ use Rattle.dv_defs.specs.declared.code.Insn.{Insn}
 use Rattle.dv_defs.specs.declared.code.Payload.{Payload}
 use Rattle.dv_defs.specs.declared.code.Payload.TheVariants as payload
 use Rattle.dv_defs.specs.declared.faults.Rule.TheVariants as rule
-use Rattle.dv_defs.specs.declared.names.Ty.{Ty}
 use Rattle.dv_defs.specs.Images.{Image}
 use Rattle.dv_defs.specs.Numbers.{jump}
 use Rattle.dv_defs.specs.Parts.{Width, Bin, Call, is_division, is_shift}
@@ -13,7 +12,7 @@ use Rattle.dv_defs.specs.Pools.{Method}
 use Rattle.dv_defs.specs.Types.{is_array}
 use Rattle.dv_defs.specs.Families.{Family, family_at}
 use Rattle.dv_defs.specs.Tiling.{payload_at}
-use Rattle.dv_defs.specs.Op.{Op, Arg, Code, Resolved, Invoke, IntDivide, IntOp, LongDivide, LongShift, LongOp, New, reg, named_registers, resolved_field, resolved_method, on_pool, move_op, result_op, int_op, long_op, packed_op, sparse_op, fill_op, class_of_base, new_op, resolve, resolve_by, op_of}
+use Rattle.dv_defs.specs.Op.{Op, Arg, Code, Resolved, Invoke, IntDivide, IntOp, LongDivide, LongShift, LongOp, New, reg, named_registers, resolved_field, resolved_method, on_pool, move_op, result_op, packed_op, sparse_op, fill_op, class_of_base, new_op, resolve, resolve_by, op_of}
 
 module _ (i : Insn) where
   abbrev Passes : Op → Type 0

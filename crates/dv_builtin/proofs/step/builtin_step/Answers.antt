@@ -1,8 +1,6 @@
-use Rattle.std.proofs.Common.{◌≡◌, ◌∙◌, ℕ, List, Option, Some, None, map, sym, ap, subst}
+use Rattle.std.proofs.Common.{◌≡◌, ◌∙◌, ℕ, List, Some, None, sym, subst}
 use Rattle.std.proofs.lemmas.Option.{same_Some}
 use Rattle.dv_defs.specs.Op.{Invoke}
-use Rattle.dv_words.specs.Stacks.{arg_words}
-use Rattle.dv_steps.specs.Local.{reg_word}
 use Rattle.dv_steps.specs.Natives.{native_step}
 use Rattle.dv_builtin.specs.Natives.{TextsFit}
 use Rattle.dv_builtin.specs.Seeing.{Does}
