@@ -1,0 +1,4 @@
+mod LowBits
+mod ArrayChars
+mod Invokes
+mod Following

@@ -1,0 +1,3 @@
+pub mod Natives
+pub mod Seeing
+pub mod Parts
