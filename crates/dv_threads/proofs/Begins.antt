@@ -1,8 +1,10 @@
 -- Threads that begin, and threads by their objects.
-use Rattle.std.proofs.Common.{◌≡◌, ℕ, zero, suc, ◌+◌, ◌-◌, ◌<◌, ◌≤◌, ◌++◌, Bool, true, false, cond, List, [], ◌∷◌, length, replicate, Option, Some, None, refl, sym, ap, ◌∙◌, subst, arith, add-one, length-append, length-replicate}
+use Rattle.std.proofs.Common.{◌≡◌, ℕ, zero, suc, ◌+◌, ◌-◌, ◌<◌, ◌≤◌, ◌++◌, Bool, true, false, cond, List, [], ◌∷◌, length, replicate, Option, Some, None, refl, sym, ap, ◌∙◌, subst, arith, add-one, length-append}
 use Rattle.std.specs.Prelude.{◌==◌, ◌&&◌, is_some, nat_eq, nat_le, nat_lt, position, slice_get}
 use Rattle.std.specs.List.{position_from}
 use Rattle.std.proofs.lemmas.Bool.Decides.{nat_tests}
+use Rattle.std.proofs.lemmas.Iterator.Adapters.{position_from-zero}
+use Rattle.std.proofs.lemmas.List.{length-replicate}
 use Rattle.dv_defs.specs.declared.machine.End.{End}
 use Rattle.dv_defs.specs.declared.names.MethodId.{MethodId}
 use Rattle.dv_words.specs.declared.state.Frame.{Frame}
@@ -34,8 +36,9 @@ first_is l w f t e = first_by (empty l w) f t (has_room (empty l w) (size_of (le
 
 few_words : (m : MethodId) (registers o : ℕ) → registers ≤ 256 → length (entered m registers (o ∷ [])).regs ≤ 256
 few_words m registers o few =
-    let parts = length-append (replicate (registers - 1) 0) (o ∷ []) in
-    let zeros : length (replicate (registers - 1) 0) ≡ registers - 1 = length-replicate (registers - 1) 0 in
+    let zero_word : ℕ = 0 in
+    let parts = length-append (replicate (registers - 1) zero_word) (o ∷ []) in
+    let zeros : length (replicate (registers - 1) zero_word) ≡ registers - 1 = length-replicate (registers - 1) zero_word in
     omega (arith, parts, zeros)
 
 room_by : (l w n : ℕ) → 1 ≤ l → n ≤ w → (nat_le 1 l && nat_le (n + 0) w) ≡ true
@@ -92,7 +95,8 @@ object_at (x ∷ ss) (f ∷ es) (p ∷ os) (suc u) own is = object_at ss es os u
 module _ (old : Threads) (thread next : ℕ) (own : WordThread) (h : At) (is : IsThreadOf old thread next own h) (o : ℕ) where
   -- the thread of an object, by the objects
   pub thread_is : thread_with h.threads o ≡ position (λ x. x == o) old.objects.items
-  thread_is = ap (λ ts. thread_with ts o) is.threads ∙ found_from old.stacks.items old.ends.items old.objects.items 0 o is.aligned.ends is.aligned.objects
+  thread_is = ap (λ ts. thread_with ts o) is.threads ∙
+      (found_from old.stacks.items old.ends.items old.objects.items 0 o is.aligned.ends is.aligned.objects ∙ sym (position_from-zero (λ x. x == o) old.objects.items))
 
   pub count_is : length h.threads ≡ length old.objects.items
   count_is = ap (λ (ts : List WordThread). length ts) is.threads ∙ zip_length old.stacks.items old.ends.items old.objects.items is.aligned.ends is.aligned.objects
