@@ -1,5 +1,6 @@
 -- The instructions on monitors by their families.
 use Rattle.std.proofs.Common.{◌≡◌, ℕ, Bool, true, false, Option, Some, None, Ok, Err, refl, sym, ap, ◌∙◌}
+use Rattle.std.specs.Prelude.{slice_get}
 use Rattle.dv_defs.specs.declared.code.Insn.{Insn}
 use Rattle.dv_defs.specs.declared.code.Payload.{Payload}
 use Rattle.dv_defs.specs.declared.code.Payload.TheVariants as payload
@@ -95,7 +96,7 @@ module _ (image : Image) (code : Code) (at : ℕ) (i : Insn) where
   plain Family.ConstClass none op one e = pooled _ _ (λ x. made _ refl) op one e
   plain Family.CheckCast none op one e = pooled _ _ (λ x. made _ refl) op one e
   plain Family.InstanceOf none op one e = pooled _ _ (λ x. made _ refl) op one e
-  plain Family.NewInstance none op one e = pooled _ _ (λ t. news image (reg i 0) t) op one e
+  plain Family.NewInstance none op one e = pooled (slice_get code.method.info.types i.index) (new_op image (reg i 0)) (λ t. news image (reg i 0) t) op one e
   plain Family.NewArray none op one e = pooled _ _ (λ x. made _ refl) op one e
   plain Family.FilledNewArray none op one e = pooled _ _ (λ x. made _ refl) op one e
   plain Family.FillArrayData none op one e = fills _ _ op one e
