@@ -1,0 +1,5 @@
+pub mod Stacks
+pub mod Kept
+pub mod Owning
+pub mod Starting
+pub mod Stepping

@@ -1,0 +1,35 @@
+-- Threads as they begin, and those that are joined.
+use Rattle.std.specs.Prelude.{◌≡◌, ℕ, Bool, false, [], ◌∷◌, Option, Some, None, Result, Ok, Err, slice_get}
+use Rattle.dv_defs.specs.declared.machine.End.TheVariants as end
+use Rattle.dv_defs.specs.declared.names.MethodId.{MethodId}
+use Rattle.dv_defs.specs.Pools.{Method}
+use Rattle.dv_machine.specs.State.{Did, Go}
+use Rattle.dv_words.specs.declared.state.Frame.{Frame}
+use Rattle.dv_words.specs.declared.state.Level.TheVariants as level
+use Rattle.dv_words.specs.Heaps.{kind_of}
+use Rattle.dv_words.specs.Stacks.{entered, gone, pushed}
+use Rattle.dv_words.specs.State.{WordStack, WordThread}
+use Rattle.dv_frames.specs.declared.stack.Full.{Full}
+use Rattle.dv_steps.specs.Steps.{At, Left}
+use Rattle.dv_steps.specs.Threads.{class_of_kind, is_living, run_method}
+
+-- a stack with this frame, or there was no room for it
+abbrev pub IsFirst : WordStack → Frame → Result WordStack Full → Type 0
+IsFirst s f (Ok t) = pushed s (level.Code f) ≡ Some t
+IsFirst s f (Err e) = pushed s (level.Code f) ≡ None
+
+-- a thread that begins with a method on its object
+abbrev pub begun : MethodId → ℕ → ℕ → WordThread
+begun m registers object = record { levels = level.Code (entered m registers (object ∷ [])) ∷ []; end = end.Living; object = object }
+
+-- the instruction is done, and this thread was started
+abbrev pub started_by : At → WordThread → Did Left
+started_by h th = Go (record { levels = level.Code (gone h.frame h.next) ∷ h.rest; shared = h.shared; started = Some th })
+
+-- the run()V of an object's class
+abbrev pub run_of : At → ℕ → Option Method
+run_of h o = run_method h.image (class_of_kind h.image (kind_of h.shared.heap o))
+
+abbrev pub other_lives : At → Option ℕ → Bool
+other_lives h None = false
+other_lives h (Some u) = is_living (slice_get h.threads u)
