@@ -1,5 +1,5 @@
 -- Elements by the suffixes of operations, and the objects that arrays take.
-use Rattle.std.proofs.Common.{◌≡◌, ℕ, zero, suc, ◌<◌, ◌≤◌, Bool, true, false, List, length, ℤ, Some, Result, Ok, Err, IfOk, refl, sym, ap, ◌∙◌, arith}
+use Rattle.std.proofs.Common.{◌≡◌, ℕ, zero, suc, ◌<◌, ◌≤◌, Bool, true, false, List, length, ℤ, Some, refl, sym, ap, ◌∙◌, arith}
 use Rattle.std.specs.Prelude.{nat_eq, nat_le, nat_lt, ◌&&◌, ◌||◌}
 use Rattle.std.proofs.lemmas.Bool.{and_parts}
 use Rattle.std.proofs.lemmas.Bool.Decides.{nat_tests}
@@ -88,10 +88,6 @@ storable_object h o zero k t u holds some has is same e = absurd (omega (arith, 
 storable_object h o (suc p) k t u holds some has is same e =
     let kind : kind_of h.heap o ≡ Some (kind.Array t) = sym has ∙ ap Some is in
     e ∙ ap (λ (x : Ty). is_instance h x (suc p)) (same ∙ sym (component_is h o t kind))
-
-pub mapped : {X E : Type 0} (P Q : X → Type 0) (r : Result X E) → ((x : X) → P x → Q x) → IfOk r P → IfOk r Q
-mapped P Q (Ok x) f h = f x h
-mapped P Q (Err e) f h = tt
 
 -- ---- stores
 

@@ -1,4 +1,7 @@
 pub mod Tops
+pub mod Divided
+pub mod Alike
+pub mod Typed
 pub mod Cutting
 pub mod Making
 pub mod Arrays

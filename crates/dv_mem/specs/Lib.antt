@@ -4,3 +4,4 @@ pub mod Values
 pub mod Elements
 pub mod Payloads
 pub mod Stepping
+pub mod Laws

@@ -13,7 +13,6 @@ ghost use Rattle.dv_words.specs.Words.{int_of};
 ghost use Rattle.dv_steps.specs.Local.{reg_word};
 ghost use Rattle.dv_steps.specs.Mem as steps;
 ghost use Rattle.dv_steps.specs.Mem.{WordHere, WordLeft, array_put, on_index, word_mem};
-ghost use Rattle.dv_steps.specs.Stepping.{Answered};
 ghost use Rattle.dv_mem.specs.Elements.{by_found, slot_in, width_of};
 ghost use Rattle.dv_mem.specs.Operands.{AreWithin, IsArray, IsNullOrArray};
 ghost use Rattle.dv_mem.specs.Tops.{Answers, seen, top_frame};
@@ -26,7 +25,6 @@ use dv_defs::{Image, Named, Next};
 use dv_frames::Stack;
 use dv_heap::Heap;
 use dv_optable::Suffix;
-use std::alloc::AllocError;
 
 /// An element: the number of its array, and the place of its first word there.
 #[derive(Clone, Copy, PartialEq, Eq, Debug)]
@@ -122,30 +120,25 @@ fn put_found(
     suffix: Suffix,
     a: u16,
     found: Element,
-) -> Result<Next, AllocError>
+) -> Next
     requires there { AreWithin heap.old found.array found.slot (width_of (steps.is_wide (standard_suffix suffix))) }
     requires exists { IsSome (kind_of heap.old found.array) }
     ensures { IsArray (is_of_suffix (standard_suffix suffix)) heap.old found.array →
-        Answered result (array_put (seen image.now stack.old heap.old next) found.array (standard_suffix suffix) a found.slot) stack.old heap.old stack.new heap.new }
+        Answers result (array_put (seen image.now stack.old heap.old next) found.array (standard_suffix suffix) a found.slot) stack.old heap.old stack.new heap.new }
 {
-    let alloc = *stack.words.allocator();
     let value = words::register(stack, a, is_wide(suffix));
-    if !is_storable(alloc, image, heap, found.array, suffix, word(stack, a))? {
-        return Ok(Next::Throw(Named::ArrayStore));
+    if !is_storable(image, heap, found.array, suffix, word(stack, a)) {
+        return Next::Throw(Named::ArrayStore);
     }
     if is_string(heap, found.array) {
-        return Ok(Next::On);
+        return Next::On;
     }
     store(heap, found.array, found.slot, kept(suffix, value));
     go_on(stack, next);
-    Ok(Next::On)
+    Next::On
 }
 
 /// aput and its kin: the element of array b at index c takes register a.
-///
-/// # Errors
-///
-/// Want of memory; all is as before then.
 pub fn array_put(
     image: &Image,
     heap: &mut Heap,
@@ -155,14 +148,14 @@ pub fn array_put(
     a: u16,
     b: u16,
     c: u16,
-) -> Result<Next, AllocError>
+) -> Next
     ensures { IsNullOrArray (is_of_suffix (standard_suffix suffix)) heap.old (reg_word (top_frame stack.old) b) →
-        Answered result (word_mem (seen image.now stack.old heap.old next) (ArrayPut (standard_suffix suffix) a b c)) stack.old heap.old stack.new heap.new }
+        Answers result (word_mem (seen image.now stack.old heap.old next) (ArrayPut (standard_suffix suffix) a b c)) stack.old heap.old stack.new heap.new }
 {
     let array = word(stack, b);
     let index = word(stack, c);
     match find(heap, array, is_wide(suffix), index) {
-        Err(named) => Ok(Next::Throw(named)),
+        Err(named) => Next::Throw(named),
         Ok(found) => put_found(image, heap, stack, next, suffix, a, found),
     }
 }

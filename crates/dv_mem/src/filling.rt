@@ -1,5 +1,5 @@
 // fill-array-data.
-ghost use Rattle.std.specs.Prelude.{◌≡◌, ◌≢◌, ◌*◌, ◌<◌, ◌≤◌, ◌^◌, true, false, Some, length, IsSome, IsTrue};
+ghost use Rattle.std.specs.Prelude.{◌≡◌, ◌≢◌, ◌*◌, ◌<◌, ◌≤◌, ◌^◌, true, false, Some, length, IfOk, IsSome, IsTrue};
 ghost use Rattle.dv_defs.specs.Demands.{is_fill_type};
 ghost use Rattle.dv_defs.specs.Images.{Image as Linked};
 ghost use Rattle.dv_defs.specs.Numbers.{elements};
@@ -19,7 +19,6 @@ ghost use Rattle.dv_mem.specs.Tops.{Answers, seen, top_frame};
 ghost use Rattle.dv_mem.specs.Values.{listed};
 
 use crate::fields::{is_long, words_of};
-use crate::instances::component;
 use crate::narrowing::narrowed_words;
 use crate::payload::{Data, data_at, element};
 use crate::registers::{go_on, word};
@@ -29,6 +28,16 @@ use dv_frames::Stack;
 use dv_heap::Heap;
 use dv_words::Kind;
 use std::alloc::AllocError;
+
+/// The type of an array's elements.
+fn component(array: &Ty) -> Result<Ty, AllocError>
+    ensures { IfOk result (λ t. t ≡ types.component array.now) }
+{
+    Ok(Ty {
+        dims: array.dims.saturating_sub(1),
+        base: array.base.clone()?,
+    })
+}
 
 /// What an array of elements of this type keeps of an element.
 fn kept(ty: &Ty, width: u16, units: &[u16], place: u32) -> Words

@@ -7,6 +7,7 @@ mod fields;
 mod filled;
 mod filling;
 mod instances;
+mod laws;
 mod made;
 mod narrowing;
 mod payload;
@@ -14,6 +15,7 @@ mod registers;
 mod step;
 mod words;
 
+pub use laws::operands_stand;
 pub use step::mem_step;
 
 #[cfg(test)]

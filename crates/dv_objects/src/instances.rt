@@ -9,7 +9,7 @@ ghost use Rattle.dv_objects.specs.Types.{is_class_type};
 use crate::classes::{CLASS, STRING};
 use dv_defs::{Base, ClassId, Image, Ty};
 use dv_heap::Heap;
-use dv_image::{OBJECT, boot_class, instance, is_class_instance};
+use dv_image::{Ascent, OBJECT, boot_class, is_base_under, is_class_instance};
 use dv_words::Kind;
 
 /// Whether a boot class is under the class of a descriptor, which stands at this place.
@@ -85,18 +85,52 @@ pub fn is_of_class(
     }
 }
 
+/// Whether an array's type is under the type of so many dimensions over a base.
+#[tactic(auto, unfolding(dv_defs::specs::Order::instance))]
+fn is_array_instance(image: &Image, array: &Ty, dims: u8, base: &Base) -> bool
+    ensures { result ≡ is_under image.now array.now (record { dims = dims; base = base.now }) }
+{
+    if array.dims == dims && array.base == *base {
+        return true;
+    }
+    dims <= array.dims
+        && is_base_under(
+            image,
+            Ascent::Superinterfaces,
+            array.dims - dims,
+            &array.base,
+            base,
+        )
+}
+
 /// Whether an object is an instance of a type that is no class: an array may be.
 #[tactic(auto, unfolding(dv_defs::specs::Order::instance))]
-fn is_of_no_class(image: &Image, heap: &Heap, object: u32, ty: &Ty) -> bool
-    requires { is_class_type ty.now ≡ false }
-    ensures { result ≡ is_under image.now (type_of image.now heap.now object) ty.now }
+fn is_of_no_class(image: &Image, heap: &Heap, object: u32, dims: u8, base: &Base) -> bool
+    requires { is_class_type (record { dims = dims; base = base.now }) ≡ false }
+    ensures { result ≡ is_under image.now (type_of image.now heap.now object) (record { dims = dims; base = base.now }) }
 {
     if !heap.exists(object) {
         return false;
     }
     match heap.kind(object) {
-        Kind::Array(own) => instance(image, own, ty),
+        Kind::Array(own) => is_array_instance(image, own, dims, base),
         _ => false,
+    }
+}
+
+/// Whether an object is an instance of the type of so many dimensions over a base. What isn't there is an Object.
+pub fn is_instance_of(image: &Image, heap: &Heap, object: u32, dims: u8, base: &Base) -> bool
+    ensures { result ≡ is_under image.now (type_of image.now heap.now object) (record { dims = dims; base = base.now }) }
+{
+    match base {
+        Base::Class(name) if dims == 0 => is_of_class(
+            image,
+            heap,
+            object,
+            name.bytes(),
+            dv_image::class_of(image, name),
+        ),
+        _ => is_of_no_class(image, heap, object, dims, base),
     }
 }
 
@@ -104,14 +138,5 @@ fn is_of_no_class(image: &Image, heap: &Heap, object: u32, ty: &Ty) -> bool
 pub fn is_instance(image: &Image, heap: &Heap, object: u32, ty: &Ty) -> bool
     ensures { result ≡ is_under image.now (type_of image.now heap.now object) ty.now }
 {
-    match &ty.base {
-        Base::Class(name) if ty.dims == 0 => is_of_class(
-            image,
-            heap,
-            object,
-            name.bytes(),
-            dv_image::class_of(image, name),
-        ),
-        _ => is_of_no_class(image, heap, object, ty),
-    }
+    is_instance_of(image, heap, object, ty.dims, &ty.base)
 }

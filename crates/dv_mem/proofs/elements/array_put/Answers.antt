@@ -5,7 +5,6 @@ use Rattle.dv_machine.specs.State.{Did}
 use Rattle.dv_units.specs.Tables.{standard_suffix}
 use Rattle.dv_steps.specs.Local.{reg_word}
 use Rattle.dv_steps.specs.Mem.{WordLeft, array_put}
-use Rattle.dv_steps.specs.Stepping.{Answered}
 use Rattle.dv_mem.specs.Operands.{IsNullOrArray}
 use Rattle.dv_mem.specs.Tops.{Answers, seen, top_frame}
 use Rattle.dv_mem.proofs.Arrays.{located}
@@ -31,5 +30,5 @@ returns-in-Ok c is =
     let there = subst (IsNullOrArray (is_of_suffix suffix) c.args.heap.now) (sym c.in-Ok.ensures.same) array c.in-Ok.ensures.there.positive in
     let found = located here go c.word-array.result (reg_word (top_frame c.args.stack.now) c.args.b) c.word-index.result (reg_word (top_frame c.args.stack.now) c.args.c) _ c.word-array.ensures c.word-index.ensures
     (c.in-Ok.ensures.found here suffix go refl (sym c.is_wide.ensures) array) in
-    let P : Did WordLeft → Type 0 = λ d. Answered c.put_found.result d c.args.stack.now c.args.heap.now c.put_found.new.stack c.put_found.new.heap in
+    let P : Did WordLeft → Type 0 = λ d. Answers c.put_found.result d c.args.stack.now c.args.heap.now c.put_found.new.stack c.put_found.new.heap in
     subst P (sym found) (c.put_found.ensures there)

@@ -14,13 +14,13 @@ use Rattle.dv_mem.specs.Values.{listed}
 use Rattle.dv_mem.proofs.Arrays.{count_in, refused_store, taken_store}
 use Rattle.dv_mem.proofs.elements.put_found.Goals as goal
 
-pub returns-then-not-branch : goal.returns-then-not-branch
-returns-then-not-branch c is =
+pub returns-then-not-is_storable : goal.returns-then-not-is_storable
+returns-then-not-is_storable c is =
     let here = seen c.args.image.now c.args.stack.now c.args.heap.now c.args.next in
     let suffix = standard_suffix c.args.suffix in
-    let test = (c.in_ok-is_storable).ensures (is_of_suffix suffix) (top_frame c.args.stack.now) c.args.next is in
+    let test = c.is_storable.ensures (is_of_suffix suffix) (top_frame c.args.stack.now) c.args.next is in
     let no : is_storable here c.args.found.array suffix (reg_word (top_frame c.args.stack.now) c.args.a) ≡ false =
-    sym (ap (is_storable here c.args.found.array suffix) c.word.ensures) ∙ sym test ∙ c.if-not-branch.true in
+    sym (ap (is_storable here c.args.found.array suffix) c.word.ensures) ∙ sym test ∙ c.if-not-is_storable.true in
     let P : Did WordLeft → Type 0 = λ d. Answers (next.Throw named.ArrayStore) d c.args.stack.now c.args.heap.now c.args.stack.now c.args.heap.now in
     subst P (sym (refused_store here c.args.found.array suffix c.args.a c.args.found.slot no)) (refl, refl, refl)
 
@@ -35,9 +35,9 @@ pub returns : goal.returns
 returns c is =
     let here = seen c.args.image.now c.args.stack.now c.args.heap.now c.args.next in
     let suffix = standard_suffix c.args.suffix in
-    let test = (c.in_ok-is_storable).ensures (is_of_suffix suffix) (top_frame c.args.stack.now) c.args.next is in
+    let test = c.is_storable.ensures (is_of_suffix suffix) (top_frame c.args.stack.now) c.args.next is in
     let holds : is_storable here c.args.found.array suffix (reg_word (top_frame c.args.stack.now) c.args.a) ≡ true =
-    sym (ap (is_storable here c.args.found.array suffix) c.word.ensures) ∙ sym test ∙ c.if-not-branch.false in
+    sym (ap (is_storable here c.args.found.array suffix) c.word.ensures) ∙ sym test ∙ c.if-not-is_storable.false in
     let words = c.kept.ensures.kept (component is.ty) is.passes ∙ ap (narrowed_all (component is.ty)) (c.register-value.ensures ∙ ap (words_in (top_frame c.args.stack.now) c.args.a) c.is_wide.ensures) in
     let P : Did WordLeft → Type 0 = λ d. Answers next.On d c.args.stack.now c.args.heap.now c.go_on.new.stack c.store.new.heap in
     subst P (sym (taken_store here c.args.found.array suffix c.args.a c.args.found.slot is.ty (listed c.kept.result) holds is.kind words)) (c.go_on.ensures, c.store.ensures)

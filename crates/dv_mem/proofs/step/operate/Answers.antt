@@ -52,7 +52,7 @@ returns-in-ArrayGet-clause-does c code at tiles mem operands =
 pub returns-in-ArrayPut-clause-does : goal.returns-in-ArrayPut-clause-does
 returns-in-ArrayPut-clause-does c code at tiles mem operands =
     let here = seen c.args.image.now c.args.stack.now c.args.heap.now c.args.next in
-    let result : Result Next AllocError = c.array_put.result in
+    let result : Result Next AllocError = Ok c.array_put.result in
     let P : Op → Type 0 = λ o. AreOperands here (meant code at o) → Answered result (word_mem here (meant code at o)) c.args.stack.now c.args.heap.now c.array_put.new.stack c.array_put.new.heap in
     subst P (sym c.in-ArrayPut.is) (λ are. c.array_put.ensures are) operands
 
