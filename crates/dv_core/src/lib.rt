@@ -1,0 +1,13 @@
+//! The engine on plain words: guest threads step by step (AOSP, "Dalvik bytecode format"; JLS 11.3, 12.4, 17).
+#![tactic(auto)]
+
+mod code;
+mod flight;
+mod guest;
+mod instructions;
+mod records;
+mod settling;
+mod vm;
+
+pub use guest::Guest;
+pub use vm::Vm;
