@@ -1,5 +1,5 @@
 -- A class is found under its own name.
-use Rattle.std.proofs.Common.{◌≡◌, ◌∙◌, ◌∷◌, List, [], ℕ, Option, Some, refl, sym, ap}
+use Rattle.std.proofs.Common.{◌≡◌, ◌∙◌, ◌∷◌, List, [], ℕ, Some, refl, sym, ap}
 use Rattle.std.specs.Prelude.{bytes_eq, option_map, position, slice_get}
 use Rattle.std.proofs.lemmas.Option.{slice_get-map}
 use Rattle.dv_defs.specs.declared.image.ClassInfo.{ClassInfo}
