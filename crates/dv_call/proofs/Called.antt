@@ -1,5 +1,5 @@
 -- What calls see, and what they come to.
-use Rattle.std.proofs.Common.{◌≡◌, ◌∙◌, ◌∷◌, List, [], ℕ, zero, suc, Bool, true, false, Option, Some, None, refl, sym, ap, subst, ◌<◌, length, take, map, arith}
+use Rattle.std.proofs.Common.{◌≡◌, ◌∙◌, ◌∷◌, List, [], ℕ, zero, suc, Bool, true, false, Option, Some, None, refl, sym, ap, ◌<◌, length, take, map, arith}
 use Rattle.dv_defs.specs.Images.{Image}
 use Rattle.dv_defs.specs.declared.code.Regs.{Regs}
 use Rattle.dv_defs.specs.Op.{count_up, named_registers}

@@ -1,5 +1,5 @@
 -- The nearest method on which a call may land.
-use Rattle.std.proofs.Common.{◌≡◌, ◌≤◌, ◌<◌, ◌^◌, ◌∙◌, ◌∷◌, List, [], ℕ, zero, suc, length, true, false, Option, Some, None, refl, sym, ap, subst, arith}
+use Rattle.std.proofs.Common.{◌≡◌, ◌≤◌, ◌∙◌, List, ℕ, zero, suc, length, true, false, Option, Some, None, refl, sym, ap, subst, arith}
 use Rattle.std.specs.Prelude.{Bool, nat_eq, option_and_then, option_map, slice_get}
 use Rattle.std.proofs.lemmas.Option.{slice_get_past, same_Some}
 use Rattle.std.proofs.lemmas.Bool.{eqb-true}
@@ -9,13 +9,11 @@ use Rattle.dv_defs.specs.declared.names.Proto.{Proto}
 use Rattle.dv_defs.specs.declared.image.ClassInfo.{ClassInfo}
 use Rattle.dv_defs.specs.declared.image.MethodInfo.{MethodInfo}
 use Rattle.dv_defs.specs.Images.{Image}
-use Rattle.dv_defs.specs.Linked.{IsImage}
 use Rattle.dv_defs.specs.Order.{has_number}
-use Rattle.dv_defs.specs.Pools.{Method, method_at, methods_of, nearest, parent_at, parent_of, supers, walk, with_def, with_info}
-use Rattle.dv_fetch.proofs.Classes.{few}
+use Rattle.dv_defs.specs.Pools.{Method, method_at, methods_of, nearest, parent_at, parent_of, walk, with_def, with_info}
 use Rattle.dv_image.specs.Calls.{landing}
 use Rattle.dv_laws.proofs.lemmas.Bridge.LookUps.{look_ups_find}
-use Rattle.dv_call.specs.Landings.{IsNumbered, nearest_in}
+use Rattle.dv_call.specs.Landings.{IsNumbered}
 
 -- ---- where the number of the landing is known
 

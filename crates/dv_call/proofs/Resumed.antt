@@ -1,7 +1,7 @@
 -- What is fetched at a caller's address.
-use Rattle.std.proofs.Common.{◌≡◌, ◌∙◌, ◌∷◌, List, [], ℕ, Option, Some, None, refl, sym, ap}
+use Rattle.std.proofs.Common.{◌≡◌, ◌∙◌, ℕ, Some, None, sym, ap}
 use Rattle.dv_defs.specs.Images.{Image}
-use Rattle.dv_defs.specs.Op.{Code, code_at}
+use Rattle.dv_defs.specs.Op.{code_at}
 use Rattle.dv_defs.specs.Statics.{At, fetch, fetch_in}
 
 -- nothing is fetched of a method without a body

@@ -100,12 +100,9 @@ fn above(image: &Image, stack: &Stack) -> Option<usize>
 fn implements(image: &Image, heap: &Heap, object: u32, method: &Method<'_>) -> bool
     ensures { result ≡ steps.implements_it image.now heap.now (method_of method.now) object }
 {
-    match image.classes.items().get(method.info.class.0 as usize) {
-        Some(class) => {
-            let name = &class.def.name;
-            let place = dv_image::class_of(image, name);
-            is_of_class(image, heap, object, name.bytes(), place)
-        }
+    let place = method.info.class.0 as usize;
+    match image.classes.items().get(place) {
+        Some(class) => is_of_class(image, heap, object, class.def.name.bytes(), Some(place)),
         None => is_of_class(image, heap, object, b"", boot_class(image, b"")),
     }
 }

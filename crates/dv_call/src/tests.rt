@@ -3,7 +3,8 @@ use crate::invokes::enter;
 use crate::landings::{Landed, construct, is_constructor, receiver};
 use crate::returns::{gives_long, kept_at, next_in};
 use dv_defs::{
-    Base, Body, ClassId, Flag, MethodDef, MethodId, MethodInfo, Named as Exception, Next, Proto, Regs, Seq, Text, Ty,
+    Base, Body, ClassId, Flag, MethodDef, MethodId, MethodInfo, Named as Exception, Next, Proto,
+    Regs, Seq, Text, Ty,
 };
 use dv_frames::Stack;
 use dv_ops::Method;
@@ -105,7 +106,11 @@ fn arguments_stand_in_the_last_registers(rt: HostRuntime) -> Result<(), Fail> {
             None => None,
         };
         let def = declared(alloc, b"run", 0, None, code)?;
-        assert_eq!(rt; enter(&mut stack, &called(&info, &def), &regs), Next::On, "{regs:?}");
+        assert_eq!(rt;
+            enter(&mut stack, &called(&info, &def), &regs),
+            Next::On,
+            "{regs:?}"
+        );
         let seen = [
             stack.word(0),
             stack.word(1),
@@ -115,7 +120,11 @@ fn arguments_stand_in_the_last_registers(rt: HostRuntime) -> Result<(), Fail> {
         ];
         assert_eq!(rt; seen.as_slice(), words.as_slice(), "{regs:?}");
         assert_eq!(rt; stack.levels(), 2);
-        assert_eq!(rt; enter(&mut stack, &called(&info, &def), &regs), Next::NoRoom, "{regs:?}");
+        assert_eq!(rt;
+            enter(&mut stack, &called(&info, &def), &regs),
+            Next::NoRoom,
+            "{regs:?}"
+        );
         stack.pop();
         match stack.head() {
             Some(head) => assert_eq!(rt; (head.method, head.at), (CALLER, 0)),
@@ -124,7 +133,14 @@ fn arguments_stand_in_the_last_registers(rt: HostRuntime) -> Result<(), Fail> {
     }
     let mut stack = stack(alloc)?;
     let def = declared(alloc, b"run", 0, None, Some(body(alloc, 6)))?;
-    assert_eq!(rt; enter(&mut stack, &called(&info, &def), &named((1, [0, 0, 0, 0, 0], true))), Next::NoRoom);
+    assert_eq!(rt;
+        enter(
+            &mut stack,
+            &called(&info, &def),
+            &named((1, [0, 0, 0, 0, 0], true))
+        ),
+        Next::NoRoom
+    );
     assert_eq!(rt; stack.levels(), 1);
     Ok(())
 }
@@ -193,22 +209,18 @@ fn a_long_result_has_two_words(rt: HostRuntime) -> Result<(), Fail> {
     Ok(())
 }
 
-fn ty(dims: u8, base: Base) -> Ty {
-    Ty { dims, base }
+/// Whether a method that gives a value of so many dimensions over a base gives a long.
+fn gives(alloc: Global, dims: u8, base: Base) -> Result<bool, Fail> {
+    let info = info(alloc);
+    let def = declared(alloc, b"run", 0, Some(Ty { dims, base }), None)?;
+    Ok(gives_long(&called(&info, &def)))
 }
 
 #[test]
 fn only_a_long_is_long(rt: HostRuntime) -> Result<(), Fail> {
-    let alloc = rt.alloc();
-    let info = info(alloc);
-    let long = declared(alloc, b"run", 0, Some(ty(0, Base::J)), None)?;
-    let longs = declared(alloc, b"run", 0, Some(ty(1, Base::J)), None)?;
-    let int = declared(alloc, b"run", 0, Some(ty(0, Base::I)), None)?;
-    let void = declared(alloc, b"run", 0, None, None)?;
-    assert!(rt; gives_long(&called(&info, &long)));
-    assert!(rt; !gives_long(&called(&info, &longs)));
-    assert!(rt; !gives_long(&called(&info, &int)));
-    assert!(rt; !gives_long(&called(&info, &void)));
+    assert!(rt; gives(rt.alloc(), 0, Base::J)?);
+    assert!(rt; !gives(rt.alloc(), 1, Base::J)?);
+    assert!(rt; !gives(rt.alloc(), 0, Base::I)?);
     Ok(())
 }
 

@@ -1,7 +1,7 @@
-use Rattle.std.proofs.Common.{◌≡◌, ◌∙◌, Ok, true, false, sym, ap, subst}
+use Rattle.std.proofs.Common.{◌≡◌, Ok, true, false, subst}
 use Rattle.std.specs.declared.alloc.AllocError.{AllocError}
 use Rattle.dv_defs.specs.Op.{Op}
-use Rattle.dv_ops.specs.Meaning.{code_of, meant}
+use Rattle.dv_ops.specs.Meaning.{code_of}
 use Rattle.dv_steps.specs.Answering.{Leads, LeavesStack}
 use Rattle.dv_steps.specs.Step.{act}
 use Rattle.dv_steps.specs.StepLaws.{CallFits}
