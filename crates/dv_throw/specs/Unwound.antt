@@ -1,4 +1,4 @@
--- What calls make of an exception in flight.
+-- What the parts of a step make of an exception in flight.
 use Rattle.std.specs.Prelude.{◌≡◌, ℕ, Option, Some, None, Result, Ok, Err, codes, option_map, if◌then◌else◌, List, []}
 use Rattle.std.specs.declared.alloc.AllocError.{AllocError}
 use Rattle.dv_defs.specs.declared.run.Named.TheVariants as named
@@ -13,19 +13,11 @@ use Rattle.dv_machine.specs.Unwinding.{throwable_slot}
 use Rattle.dv_words.specs.declared.state.Level.{Level}
 use Rattle.dv_words.specs.Heaps.{Got, newest, with_word}
 use Rattle.dv_words.specs.Stacks.{below, changed, handling, popped, with_levels}
-use Rattle.dv_words.specs.State.{WordHeap, WordShared, WordStack}
+use Rattle.dv_words.specs.State.{WordHeap, WordStack}
 use Rattle.dv_steps.specs.Mem.{type_of}
-use Rattle.dv_steps.specs.Steps.{At, Left, with_classes, with_heap}
-use Rattle.dv_steps.specs.Unwinding.{Caught, Flies, Lacking, Unwound, is_opening, made_object}
+use Rattle.dv_steps.specs.Unwinding.{is_opening, made_object}
 
--- ---- new exceptions
-
--- the answer throws the newest object of this heap, or the words for it are lacking
-abbrev pub IsMade : Result Next AllocError → Option WordHeap → WordHeap → WordHeap → Type 0
-IsMade (Ok (next.ThrowRef o)) made old new = (made ≡ Some new) × (o ≡ newest new)
-IsMade (Ok next.NoWords) made old new = (made ≡ None) × (new ≡ old)
-IsMade (Err memory) made old new = new ≡ old
-IsMade answer made old new = ⊥
+-- ---- objects
 
 -- the object, with the heap that has it; none where words are lacking
 abbrev pub IsObject : Result (Option ℕ) AllocError → Option Got → WordHeap → WordHeap → Type 0
@@ -49,35 +41,6 @@ raised image heap o =
 -- without thread 0's first frame, where the record above it was the one that the opening made
 abbrev pub below_opening : Image → ℕ → ℕ → List Level → List Level
 below_opening image t c ls = if is_opening image t c ls then [] else ls
-
--- ---- answers
-
--- the thread of this number steps, with this heap and these states of classes
-pub record IsSeen (image : Image) (heap : WordHeap) (classes : Classes) (thread : ℕ) (h : At) : Type 0 where
-  pub image_is : h.image ≡ image
-  pub heap_is : h.shared.heap ≡ heap
-  pub classes_are : h.shared.classes ≡ classes
-  pub thread_is : h.thread ≡ thread
-
--- what all share, but with this heap and these states of classes
-abbrev pub sharing : WordShared → WordHeap → Classes → WordShared
-sharing sh heap classes = with_classes (with_heap sh heap) classes
-
--- all is as before
-pub record Stays (stack stack' : WordStack) (heap heap' : WordHeap) (classes classes' : Classes) : Type 0 where
-  pub stack_stays : stack' ≡ stack
-  pub heap_stays : heap' ≡ heap
-  pub classes_stay : classes' ≡ classes
-
--- an answer is what became of the exception: what it leaves is left, and where words or memory are lacking all stays
-abbrev pub Unwinds : Result Next AllocError → Unwound → (Left → Type 0) → Type 0 → Type 0
-Unwinds (Ok next.On) (Caught l) leaves stays = leaves l
-Unwinds (Ok (next.ThrowRef o)) (Flies p l) leaves stays = (o ≡ p) × leaves l
-Unwinds (Ok next.NoWords) Lacking leaves stays = stays
-Unwinds (Err memory) u leaves stays = stays
-Unwinds answer u leaves stays = ⊥
-
--- ---- a level
 
 -- the frame on top enters a handler, or is dropped where none catches the exception
 abbrev pub IsThrough : Next → Option ℕ → ℕ → WordStack → WordStack → Type 0

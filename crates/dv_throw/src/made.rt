@@ -5,7 +5,8 @@ ghost use Rattle.dv_words.specs.declared.state.Kind.TheVariants as kind;
 ghost use Rattle.dv_words.specs.Heaps.{kind_of, with_word};
 ghost use Rattle.dv_heap.specs.Answers.{newest_of};
 ghost use Rattle.dv_steps.specs.Unwinding.{made_object};
-ghost use Rattle.dv_throw.specs.Unwound.{IsMade, IsObject, caused_by, raised};
+ghost use Rattle.dv_throw.specs.Answers.{IsMade};
+ghost use Rattle.dv_throw.specs.Unwound.{IsObject, caused_by, raised};
 
 use crate::fields::throwable_slot;
 use crate::names::{ERROR, exception_name, number_named};

@@ -7,7 +7,8 @@ ghost use Rattle.dv_words.specs.declared.state.Level.TheVariants as words_level;
 ghost use Rattle.dv_steps.specs.Answering.{LeavesStack};
 ghost use Rattle.dv_steps.specs.Steps.{At};
 ghost use Rattle.dv_steps.specs.Unwinding.{handler_for as catching, unwind_frame as frame_unwound, unwind_record as record_unwound};
-ghost use Rattle.dv_throw.specs.Unwound.{Ends, IsEnded, IsSeen, IsThrough, Stays, Unwinds, raised, sharing};
+ghost use Rattle.dv_throw.specs.Answers.{IsSeen, Stays, Unwinds, sharing};
+ghost use Rattle.dv_throw.specs.Unwound.{Ends, IsEnded, IsThrough, raised};
 
 use crate::handlers::handler_for;
 use crate::made::raise;
