@@ -21,7 +21,7 @@ use dv_heap::Heap;
 use std::alloc::AllocError;
 
 /// The word of the first register that is named, 0 where none is.
-fn first_word(stacks: &[Stack], thread: u32, regs: &Regs) -> u32
+pub fn first_word(stacks: &[Stack], thread: u32, regs: &Regs) -> u32
     ensures { (s : WordStack) → slice_get stacks.now thread ≡ Some s → result ≡ arg (arg_words s regs.now) 0 }
 {
     if regs.count == 0 {

@@ -164,7 +164,9 @@ pub fn thread_step(
     };
     match native {
         Some(native) => {
-            native_step(image, heap, limits, threads, thread, next, native, &insn.regs)
+            native_step(
+                image, heap, limits, threads, thread, next, native, &insn.regs,
+            )
         }
         None => monitor_step(threads, thread, next, insn),
     }

@@ -1,7 +1,6 @@
-use Rattle.std.proofs.Common.{◌≡◌, ℕ, List, Bool, true, Option, Some, Ok, map, refl, ap, sym, ◌∙◌, subst}
+use Rattle.std.proofs.Common.{◌≡◌, ℕ, List, Some, map, refl, ap, sym, ◌∙◌, subst}
 use Rattle.std.specs.Prelude.{slice_get}
 use Rattle.std.proofs.lemmas.Option.{same_Some}
-use Rattle.dv_defs.specs.declared.run.Native.{Native}
 use Rattle.dv_defs.specs.Op.{Enter, Exit, named_registers}
 use Rattle.dv_steps.specs.Local.{reg_word}
 use Rattle.dv_steps.specs.Natives.{native_step}
