@@ -41,7 +41,7 @@ returns-in-Some-native-clause-calls c own h op n is sees room at some ours =
     let native : c.in-Some-native.native ≡ n = same_Some c.in-Some-native.native n (sym c.in-Some-native.is ∙ some) in
     led c.native_step.result (native_step h n ws) (native_step h c.in-Some-native.native ws) (LeavesThreads old new own h) (AreAsBefore old new)
     (ap (λ k. native_step h k ws) (sym native))
-    (c.native_step.ensures own h own_is sees room (ap is_of_threads native ∙ ours))
+    (c.native_step.ensures.does own h own_is sees room (ap is_of_threads native ∙ ours))
 
 pub returns-in-None-clause-enters : goal.returns-in-None-clause-enters
 returns-in-None-clause-enters c own h a is same at none few =
