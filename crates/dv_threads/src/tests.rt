@@ -240,7 +240,9 @@ fn want_of_memory_changes_nothing(rt: HostRuntime) -> Result<(), Fail> {
     }
     assert!(rt; threads.monitors.waiting(0) && threads.monitors.owner(5).is_none());
     if start_with(&LIMITS, &mut threads, 1, 9, 30, RUN, 3).is_err() {
-        assert!(rt; threads.stacks.len() == 3 && threads.objects.len() == 3 && threads.ends.len() == 3);
+        assert!(rt;
+            threads.stacks.len() == 3 && threads.objects.len() == 3 && threads.ends.len() == 3
+        );
         assert!(rt; place(&threads, 1) == Some((100, Kept::None)));
         let answer = start_with(&LIMITS, &mut threads, 1, 9, 30, RUN, 3)?;
         assert!(rt; answer == Next::On);
