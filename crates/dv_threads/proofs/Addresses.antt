@@ -1,11 +1,11 @@
 -- The address after the instruction at which a frame goes on.
-use Rattle.std.proofs.Common.{◌≡◌, ℕ, zero, suc, ◌+◌, ◌<◌, ◌≤◌, List, [], ◌∷◌, length, drop, take, true, Option, Some, None, refl, sym, ap, ◌∙◌, subst, arith, length-drop}
+use Rattle.std.proofs.Common.{◌≡◌, ℕ, zero, suc, ◌+◌, ◌<◌, ◌≤◌, List, [], ◌∷◌, length, drop, take, true, Some, refl, sym, ap, ◌∙◌, arith, length-drop}
 use Rattle.std.proofs.lemmas.Option.{same_Some}
 use Rattle.dv_defs.specs.declared.code.Insn.{Insn}
 use Rattle.dv_defs.specs.Decoding.{insn_here}
 use Rattle.dv_defs.specs.Formats.{size_at, size_by}
 use Rattle.dv_defs.specs.Images.{Image}
-use Rattle.dv_defs.specs.Op.{Code, Op, code_at, op_of}
+use Rattle.dv_defs.specs.Op.{Code, Op, code_at}
 use Rattle.dv_defs.specs.Spelling.{all_fit, spelling}
 use Rattle.dv_defs.proofs.DecodingLaws.{insn_here_spelled}
 use Rattle.dv_defs.proofs.SpellingFormats.{begins}

@@ -1,5 +1,5 @@
 -- What steps leave of threads.
-use Rattle.std.proofs.Common.{◌≡◌, ℕ, zero, suc, ◌<◌, ◌++◌, List, [], ◌∷◌, length, map, Option, Some, None, Result, refl, sym, ap, ◌∙◌, subst, arith}
+use Rattle.std.proofs.Common.{◌≡◌, ℕ, zero, suc, ◌<◌, ◌++◌, List, [], ◌∷◌, length, map, Option, Some, Result, refl, sym, ap, ◌∙◌, subst, arith}
 use Rattle.std.specs.Prelude.{slice_get, slice_set}
 use Rattle.std.specs.Vec.{with_items}
 use Rattle.std.proofs.lemmas.List.{with_items_is}
@@ -17,7 +17,7 @@ use Rattle.dv_machine.specs.State.{Did}
 use Rattle.dv_steps.specs.Answering.{Leads}
 use Rattle.dv_steps.specs.Steps.{At, Left, leaves, with_monitors}
 use Rattle.dv_threads.specs.declared.threads.Threads.{Threads}
-use Rattle.dv_threads.specs.Kept.{AreAligned, AreAsBefore, IsThreadOf, LeavesThreads, bounds, threads_of, zipped}
+use Rattle.dv_threads.specs.Kept.{AreAsBefore, IsThreadOf, LeavesThreads, bounds, threads_of, zipped}
 use Rattle.dv_threads.specs.Stacks.{changed_at}
 
 -- ---- lists
@@ -161,17 +161,17 @@ module _ (old new : Threads) (thread next : ℕ) (own : WordThread) (h : At) (is
       let count : length new.stacks.items ≡ suc (length old.stacks.items) = ap (λ (ss : List WordStack). length ss) stacks ∙ (one_more (changed_at old.stacks.items thread g) s ∙ ap suc (changed_length g old.stacks.items thread)) in
       record {
         threads =
-          (λ j. zipped (stacks j) (ends j) (objects j)) ∙
-          (zip_more (changed_at old.stacks.items thread g) old.ends.items old.objects.items s end.Living o
-          (is.aligned.ends ∙ sym (changed_length g old.stacks.items thread)) (is.aligned.objects ∙ sym (changed_length g old.stacks.items thread)) ∙
-          ap (λ ts. ts ++ record { levels = s.levels; end = end.Living; object = o } ∷ []) (moved g f top));
+            (λ j. zipped (stacks j) (ends j) (objects j)) ∙
+            (zip_more (changed_at old.stacks.items thread g) old.ends.items old.objects.items s end.Living o
+            (is.aligned.ends ∙ sym (changed_length g old.stacks.items thread)) (is.aligned.objects ∙ sym (changed_length g old.stacks.items thread)) ∙
+            ap (λ ts. ts ++ record { levels = s.levels; end = end.Living; object = o } ∷ []) (moved g f top));
         shared = ap (with_monitors h.shared) (is.monitors ∙ sym monitors);
         aligned = record {
           ends = ap (λ (es : List End). length es) ends ∙ (one_more old.ends.items end.Living ∙ (ap suc is.aligned.ends ∙ sym count));
           objects = ap (λ (os : List ℕ). length os) objects ∙ (one_more old.objects.items o ∙ (ap suc is.aligned.objects ∙ sym count));
         };
         bounded =
-          ap (λ (ss : List WordStack). map bounds ss) stacks ∙
-          (map_more bounds (changed_at old.stacks.items thread g) s ∙
-          (λ j. changed_bounds g old.stacks.items thread j ++ room j ∷ []));
+            ap (λ (ss : List WordStack). map bounds ss) stacks ∙
+            (map_more bounds (changed_at old.stacks.items thread g) s ∙
+            (λ j. changed_bounds g old.stacks.items thread j ++ room j ∷ []));
       }

@@ -1,5 +1,5 @@
 // Entering and leaving monitors, and notifying (JLS 17.1, 17.2.2).
-ghost use Rattle.std.specs.Prelude.{◌≡◌, ◌-◌, ◌<◌, ◌^◌, IsTrue, false};
+ghost use Rattle.std.specs.Prelude.{◌≡◌, ◌-◌, ◌<◌, ◌≤◌, ◌^◌, IsTrue, false, length};
 ghost use Rattle.std.specs.Option.{ForSome};
 ghost use Rattle.dv_defs.specs.Monitors.{owner_of};
 ghost use Rattle.dv_machine.specs.Mem.{on_object};
@@ -41,8 +41,9 @@ pub fn monitor_enter(
     next: u32,
     object: u32,
 ) -> Result<Next, AllocError>
-    ensures { (own : WordThread) (h : At) → IsThreadOf threads.old thread next own h → count_of threads.old.monitors.monitors object < 2 ^ 64 - 1 →
+    ensures does { (own : WordThread) (h : At) → IsThreadOf threads.old thread next own h → count_of threads.old.monitors.monitors object < 2 ^ 64 - 1 →
         Leads result (on_object (steps.monitor_enter h) object) (LeavesThreads threads.old threads.new own h) (AreAsBefore threads.old threads.new) }
+    ensures absent { length threads.old.stacks.items ≤ thread → AreAsBefore threads.old threads.new }
 {
     if !is_there(threads, thread) {
         return Ok(Next::On);
@@ -70,19 +71,20 @@ fn exit(threads: &mut Threads, thread: u32, next: u32, object: u32) -> Next
     Next::On
 }
 
-/// monitor-exit of the object: null throws, and only the owner goes on. It takes no memory.
+/// monitor-exit of the object: null throws, and only the owner goes on.
 ///
 /// # Errors
 ///
-/// None.
+/// None: it takes no memory.
 pub fn monitor_exit(
     threads: &mut Threads,
     thread: u32,
     next: u32,
     object: u32,
 ) -> Result<Next, AllocError>
-    ensures { (own : WordThread) (h : At) → IsThreadOf threads.old thread next own h →
+    ensures does { (own : WordThread) (h : At) → IsThreadOf threads.old thread next own h →
         Leads result (on_object (steps.monitor_exit h) object) (LeavesThreads threads.old threads.new own h) (AreAsBefore threads.old threads.new) }
+    ensures absent { length threads.old.stacks.items ≤ thread → AreAsBefore threads.old threads.new }
 {
     if !is_there(threads, thread) {
         return Ok(Next::On);

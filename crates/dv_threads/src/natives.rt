@@ -1,5 +1,5 @@
 // The natives of threads and monitors.
-ghost use Rattle.std.specs.Prelude.{◌≡◌, ◌<◌, ◌^◌, map, slice_get, Some, true};
+ghost use Rattle.std.specs.Prelude.{◌≡◌, ◌≤◌, Some, false, length, map, slice_get, true};
 ghost use Rattle.dv_defs.specs.Op.{named_registers};
 ghost use Rattle.dv_words.specs.Stacks.{arg_words};
 ghost use Rattle.dv_words.specs.State.{WordStack, WordThread};
@@ -21,7 +21,7 @@ use dv_heap::Heap;
 use std::alloc::AllocError;
 
 /// The word of the first register that is named, 0 where none is.
-fn first_word(stacks: &[Stack], thread: u32, regs: &Regs) -> u32
+pub fn first_word(stacks: &[Stack], thread: u32, regs: &Regs) -> u32
     ensures { (s : WordStack) → slice_get stacks.now thread ≡ Some s → result ≡ arg (arg_words s regs.now) 0 }
 {
     if regs.count == 0 {
@@ -49,8 +49,10 @@ pub fn native_step(
     native: Native,
     regs: &Regs,
 ) -> Result<Next, AllocError>
-    ensures { (own : WordThread) (h : At) → IsThreadOf threads.old thread next own h → Sees image.now heap.now limits.now h → HasRoom h.limits → is_of_threads native ≡ true →
+    ensures does { (own : WordThread) (h : At) → IsThreadOf threads.old thread next own h → Sees image.now heap.now limits.now h → HasRoom h.limits → is_of_threads native ≡ true →
         Leads result (steps.native_step h native (map (reg_word h.frame) (named_registers regs.now))) (LeavesThreads threads.old threads.new own h) (AreAsBefore threads.old threads.new) }
+    ensures other { is_of_threads native ≡ false → AreAsBefore threads.old threads.new }
+    ensures absent { length threads.old.stacks.items ≤ thread → AreAsBefore threads.old threads.new }
 {
     if !is_there(threads, thread) {
         return Ok(Next::On);

@@ -81,7 +81,7 @@ fn add(threads: &mut Threads, stack: Stack, object: u32)
 }
 
 /// Thread.start of an object that has no thread, by the method with which it begins.
-fn start_with(
+pub fn start_with(
     limits: &Limits,
     threads: &mut Threads,
     thread: u32,

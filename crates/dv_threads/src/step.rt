@@ -113,6 +113,7 @@ fn monitor_step(
         Leads result (on_object (steps.monitor_enter h) (reg_word h.frame a)) (LeavesThreads threads.old threads.new own h) (AreAsBefore threads.old threads.new) }
     ensures exits { (own : WordThread) (h : At) (image : Linked) (code : Code) (at a : ℕ) → IsThreadOf threads.old thread next own h → op_of image code at insn.now ≡ Ok (Exit a) →
         Leads result (on_object (steps.monitor_exit h) (reg_word h.frame a)) (LeavesThreads threads.old threads.new own h) (AreAsBefore threads.old threads.new) }
+    ensures absent { length threads.old.stacks.items ≤ thread → AreAsBefore threads.old threads.new }
 {
     let object = word(&threads.stacks, thread, insn.regs.first[0]);
     if is_enter(insn.op) {
@@ -158,13 +159,16 @@ pub fn thread_step(
     ensures calls { (own : WordThread) (h : At) (op : Op) (n : Called) → IsThreadOf threads.old thread h.next own h → Sees image.now heap.now limits.now h → HasRoom h.limits →
         IsAtInsn h insn.now op → native ≡ Some n → is_of_threads n ≡ true →
         Leads result (natives.native_step h n (map (reg_word h.frame) (named_registers insn.now.regs))) (LeavesThreads threads.old threads.new own h) (AreAsBefore threads.old threads.new) }
+    ensures absent { length threads.old.stacks.items ≤ thread → AreAsBefore threads.old threads.new }
 {
     let Some(next) = next_of(image, &threads.stacks, thread, insn.op) else {
         return Ok(Next::On);
     };
     match native {
         Some(native) => {
-            native_step(image, heap, limits, threads, thread, next, native, &insn.regs)
+            native_step(
+                image, heap, limits, threads, thread, next, native, &insn.regs,
+            )
         }
         None => monitor_step(threads, thread, next, insn),
     }

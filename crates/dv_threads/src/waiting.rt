@@ -45,12 +45,7 @@ fn take_back(threads: &mut Threads, thread: u32, next: u32, wait: &Wait) -> Next
 }
 
 /// Object.wait, of which this is the first or the second step.
-pub fn wait(
-    threads: &mut Threads,
-    thread: u32,
-    next: u32,
-    object: u32,
-) -> Result<Next, AllocError>
+pub fn wait(threads: &mut Threads, thread: u32, next: u32, object: u32) -> Result<Next, AllocError>
     ensures { (own : WordThread) (h : At) → IsThreadOf threads.old thread next own h →
         Leads result (wait_on h object) (LeavesThreads threads.old threads.new own h) (AreAsBefore threads.old threads.new) }
 {

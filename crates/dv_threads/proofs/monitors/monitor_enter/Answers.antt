@@ -1,4 +1,4 @@
-use Rattle.std.proofs.Common.{◌≡◌, ℕ, ◌<◌, Ok, Some, refl, sym, ap, ◌∙◌, arith}
+use Rattle.std.proofs.Common.{◌<◌, Ok, refl, sym, ◌∙◌, arith}
 use Rattle.std.specs.Vec.{with_items}
 use Rattle.dv_threads.specs.declared.threads.Threads.{Threads}
 use Rattle.dv_defs.specs.declared.run.Next.TheVariants as next
@@ -11,8 +11,8 @@ use Rattle.dv_threads.proofs.Leaving.{blocked, goes_on, led, rewritten}
 use Rattle.dv_threads.proofs.Owning.{enters, on_some, waits}
 use Rattle.dv_threads.proofs.monitors.monitor_enter.Goals as goal
 
-pub returns-then-not-is_enterable : goal.returns-then-not-is_enterable
-returns-then-not-is_enterable c own h is few =
+pub returns-then-not-is_enterable-clause-does : goal.returns-then-not-is_enterable-clause-does
+returns-then-not-is_enterable-clause-does c own h is few =
     let old = c.args.threads.now in
     let o = c.args.object in
     let some : 0 < o = omega arith in
@@ -21,8 +21,8 @@ returns-then-not-is_enterable c own h is few =
     (on_some (monitor_enter h) o some ∙ waits h o old.monitors.monitors c.args.thread is.monitors is.number other)
     (blocked old old c.args.thread c.args.next own h is (record { stacks = refl; ends = refl; objects = refl; monitors = refl }))
 
-pub returns : goal.returns
-returns c own h is few =
+pub returns-clause-does : goal.returns-clause-does
+returns-clause-does c own h is few =
     let old = c.args.threads.now in
     let new : Threads = record { stacks = with_items old.stacks c.go_on.new.stacks; ends = old.ends; objects = old.objects; monitors = c.enter.new.self } in
     let o = c.args.object in
@@ -33,3 +33,9 @@ returns c own h is few =
     (goes_on old new c.args.thread c.args.next own h is (entered old.monitors.monitors o c.args.thread 1)
     (rewritten old c.go_on.new.stacks c.deref_mut.result.now c.args.thread (λ f. gone f c.args.next) c.go_on.ensures c.deref_mut.ensures.value) refl refl
     (sym c.in_ok-enter.ensures.ok))
+
+pub returns-then-not-is_enterable-clause-absent : goal.returns-then-not-is_enterable-clause-absent
+returns-then-not-is_enterable-clause-absent c none = absurd (omega (arith, none, c.is_there.ensures.0 c.if-not-is_there.false))
+
+pub returns-clause-absent : goal.returns-clause-absent
+returns-clause-absent c none = absurd (omega (arith, none, c.is_there.ensures.0 c.if-not-is_there.false))

@@ -8,8 +8,8 @@ use Rattle.dv_threads.proofs.Leaving.{led}
 use Rattle.dv_threads.proofs.Operands.{object_is}
 use Rattle.dv_threads.proofs.natives.native_step.Goals as goal
 
-pub returns-in-Wait : goal.returns-in-Wait
-returns-in-Wait c own h is sees room ours =
+pub returns-in-Wait-clause-does : goal.returns-in-Wait-clause-does
+returns-in-Wait-clause-does c own h is sees room ours =
     let old = c.args.threads.now in
     let new = c.wait.new.threads in
     let regs = c.args.regs.now in
@@ -20,8 +20,8 @@ returns-in-Wait c own h is sees room ours =
     ((λ j. native_step h (c.in-Wait.is j) ws) ∙ ap (wait_on h) (sym object))
     (c.wait.ensures own h is)
 
-pub returns-in-Notify : goal.returns-in-Notify
-returns-in-Notify c own h is sees room ours =
+pub returns-in-Notify-clause-does : goal.returns-in-Notify-clause-does
+returns-in-Notify-clause-does c own h is sees room ours =
     let old = c.args.threads.now in
     let new = c.notify.new.threads in
     let regs = c.args.regs.now in
@@ -32,8 +32,8 @@ returns-in-Notify c own h is sees room ours =
     ((λ j. native_step h (c.in-Notify.is j) ws) ∙ ap (notify_on h) (sym object))
     (c.notify.ensures own h is)
 
-pub returns-in-NotifyAll : goal.returns-in-NotifyAll
-returns-in-NotifyAll c own h is sees room ours =
+pub returns-in-NotifyAll-clause-does : goal.returns-in-NotifyAll-clause-does
+returns-in-NotifyAll-clause-does c own h is sees room ours =
     let old = c.args.threads.now in
     let new = c.notify_all.new.threads in
     let regs = c.args.regs.now in
@@ -44,8 +44,8 @@ returns-in-NotifyAll c own h is sees room ours =
     ((λ j. native_step h (c.in-NotifyAll.is j) ws) ∙ ap (notify_all_on h) (sym object))
     (c.notify_all.ensures own h is)
 
-pub returns-in-Start : goal.returns-in-Start
-returns-in-Start c own h is sees room ours =
+pub returns-in-Start-clause-does : goal.returns-in-Start-clause-does
+returns-in-Start-clause-does c own h is sees room ours =
     let old = c.args.threads.now in
     let new = c.start.new.threads in
     let regs = c.args.regs.now in
@@ -56,8 +56,8 @@ returns-in-Start c own h is sees room ours =
     ((λ j. native_step h (c.in-Start.is j) ws) ∙ ap (start_on h) (sym object))
     (c.start.ensures own h is sees room)
 
-pub returns-in-Join : goal.returns-in-Join
-returns-in-Join c own h is sees room ours =
+pub returns-in-Join-clause-does : goal.returns-in-Join-clause-does
+returns-in-Join-clause-does c own h is sees room ours =
     let old = c.args.threads.now in
     let new = c.join.new.threads in
     let regs = c.args.regs.now in

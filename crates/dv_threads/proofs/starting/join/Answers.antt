@@ -1,4 +1,4 @@
-use Rattle.std.proofs.Common.{Ok, refl, sym, ap, ◌∙◌}
+use Rattle.std.proofs.Common.{Ok, refl, sym, ◌∙◌}
 use Rattle.std.specs.Vec.{with_items}
 use Rattle.dv_threads.specs.declared.threads.Threads.{Threads}
 use Rattle.dv_defs.specs.declared.run.Next.TheVariants as next

@@ -1,4 +1,4 @@
-use Rattle.std.proofs.Common.{◌≡◌, ap, sym, refl, ◌∙◌}
+use Rattle.std.proofs.Common.{ap, sym, ◌∙◌}
 use Rattle.std.specs.Prelude.{◌==◌, position}
 use Rattle.dv_image.proofs.Landings.{read_at}
 use Rattle.dv_threads.proofs.Begins.{alive_in, no_other, other_is}

@@ -1,4 +1,4 @@
-use Rattle.std.proofs.Common.{◌≡◌, ℕ, ◌-◌, ◌<◌, ◌^◌, Bool, true, false, ap, sym, ◌∙◌, subst}
+use Rattle.std.proofs.Common.{◌≡◌, ℕ, ◌-◌, ◌<◌, ◌^◌, true, false, ap, sym, ◌∙◌, subst}
 use Rattle.std.specs.Prelude.{slice_get}
 use Rattle.dv_defs.specs.Op.{reg}
 use Rattle.dv_machine.specs.Mem.{on_object}
@@ -25,7 +25,7 @@ returns-then-is_enter-clause-enters c own h image code at a is means few =
     let fewer : count_of old.monitors.monitors c.word-object.result < 2 ^ 64 - 1 = subst P (λ j. count_of (is.monitors j) (sym object j)) few in
     led c.monitor_enter.result (on_object (monitor_enter h) (reg_word h.frame a)) (on_object (monitor_enter h) c.word-object.result) (LeavesThreads old new own h) (AreAsBefore old new)
     (ap (on_object (monitor_enter h)) (sym object))
-    (c.monitor_enter.ensures own h is fewer)
+    (c.monitor_enter.ensures.does own h is fewer)
 
 pub returns-then-is_enter-clause-exits : goal.returns-then-is_enter-clause-exits
 returns-then-is_enter-clause-exits c own h image code at a is means =
@@ -48,7 +48,7 @@ returns-then-is_exit-clause-exits c own h image code at a is means =
     (ap (λ ls. word_at (top_regs ls) (reg insn 0)) is.is_stack.levels ∙ ap (reg_word h.frame) (sym e.register)) in
     led c.monitor_exit.result (on_object (monitor_exit h) (reg_word h.frame a)) (on_object (monitor_exit h) c.word-object.result) (LeavesThreads old new own h) (AreAsBefore old new)
     (ap (on_object (monitor_exit h)) (sym object))
-    (c.monitor_exit.ensures own h is)
+    (c.monitor_exit.ensures.does own h is)
 
 pub returns-clause-enters : goal.returns-clause-enters
 returns-clause-enters c own h image code at a is means few =

@@ -1,7 +1,6 @@
-use Rattle.std.proofs.Common.{◌≡◌, ℕ, List, Bool, true, Option, Some, Ok, map, refl, ap, sym, ◌∙◌, subst}
+use Rattle.std.proofs.Common.{◌≡◌, ℕ, List, Some, map, refl, ap, sym, ◌∙◌, subst}
 use Rattle.std.specs.Prelude.{slice_get}
 use Rattle.std.proofs.lemmas.Option.{same_Some}
-use Rattle.dv_defs.specs.declared.run.Native.{Native}
 use Rattle.dv_defs.specs.Op.{Enter, Exit, named_registers}
 use Rattle.dv_steps.specs.Local.{reg_word}
 use Rattle.dv_steps.specs.Natives.{native_step}
@@ -42,7 +41,7 @@ returns-in-Some-native-clause-calls c own h op n is sees room at some ours =
     let native : c.in-Some-native.native ≡ n = same_Some c.in-Some-native.native n (sym c.in-Some-native.is ∙ some) in
     led c.native_step.result (native_step h n ws) (native_step h c.in-Some-native.native ws) (LeavesThreads old new own h) (AreAsBefore old new)
     (ap (λ k. native_step h k ws) (sym native))
-    (c.native_step.ensures own h own_is sees room (ap is_of_threads native ∙ ours))
+    (c.native_step.ensures.does own h own_is sees room (ap is_of_threads native ∙ ours))
 
 pub returns-in-None-clause-enters : goal.returns-in-None-clause-enters
 returns-in-None-clause-enters c own h a is same at none few =

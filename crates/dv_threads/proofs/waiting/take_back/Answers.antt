@@ -1,4 +1,4 @@
-use Rattle.std.proofs.Common.{◌≡◌, ℕ, Bool, true, false, Ok, Some, None, refl, sym, ap, ◌∙◌}
+use Rattle.std.proofs.Common.{◌≡◌, true, false, Ok, Some, refl, sym}
 use Rattle.std.specs.Prelude.{is_some}
 use Rattle.std.specs.Vec.{with_items}
 use Rattle.dv_threads.specs.declared.threads.Threads.{Threads}
