@@ -1,4 +1,5 @@
-//! The native methods of texts on plain words: of String, of dvm.Text and of dvm.Console.
+//! The native methods of texts on plain words: of String (Java SE API, java.lang.String), of dvm.Text and of dvm.Console. A string is
+//! its units of UTF-16.
 #![tactic(auto)]
 
 mod chars;

@@ -17,8 +17,8 @@ use dv_heap::Heap;
 use std::alloc::AllocError;
 
 /// Does a native method of String, of dvm.Text or of dvm.Console, with the words of the registers that are named, the receiver's first.
-/// `limit` is the number of bytes that may be printed in all, `next` the address after the instruction. Where it is another native,
-/// nothing is done.
+/// `limit` is the number of bytes that may be printed in all, and `next` the address after the instruction, in units. Where it is another
+/// native, nothing is done.
 ///
 /// # Errors
 ///

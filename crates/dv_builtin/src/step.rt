@@ -38,7 +38,7 @@ fn size_of(op: u8) -> u32
     insn_size(op) as u32
 }
 
-/// The address after an instruction of this opcode at which the frame on top goes on, none where it goes on outside its method.
+/// The address after the instruction, at which the frame on top goes on; none where that goes on outside its method.
 fn next_address(image: &Image, stack: &Stack, insn: &Insn) -> Option<u32>
     ensures { (h : At) (op : Op) → h.image ≡ image.now → IsStackOf stack.now h → IsAtInsn h insn.now op → result ≡ Some h.next }
 {
@@ -50,8 +50,9 @@ fn next_address(image: &Image, stack: &Stack, insn: &Insn) -> Option<u32>
     Some(head.at + size_of(insn.op))
 }
 
-/// Does a native method of String, of dvm.Text or of dvm.Console at the instruction that calls it. `limit` is the number of bytes that
-/// may be printed in all. Where it is another native, or the frame on top doesn't go on at such an instruction, nothing is done.
+/// Does a native method of String, of dvm.Text or of dvm.Console at the instruction that calls it, which is the one at which the frame on
+/// top goes on. `limit` is the number of bytes that may be printed in all. Where it is another native, or the frame goes on outside its
+/// method, nothing is done.
 ///
 /// # Errors
 ///

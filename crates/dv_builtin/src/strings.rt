@@ -36,7 +36,7 @@ pub fn text_of(heap: &Heap, object: u32) -> &[u32]
 }
 
 /// How many units a string has.
-pub fn length_of(heap: &Heap, object: u32) -> u32
+fn length_of(heap: &Heap, object: u32) -> u32
     ensures { result ≡ length (text_of heap.now object) }
 {
     if is_string(heap, object) {
