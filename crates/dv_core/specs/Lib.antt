@@ -1,3 +1,0 @@
-pub mod Guests
-pub mod Machines
-pub mod Fitting
