@@ -21,10 +21,6 @@ use Rattle.dv_steps.specs.Local.{reg_word}
 use Rattle.dv_steps.specs.Steps.{At, Left}
 use Rattle.dv_call.specs.Landings.{InvokesLand, IsOwn, IsRunning, IsSeen, Landed, Enters, Fails, called, called_in, is_native, runs_native, running_in, constructs, done, on_landing, on_object, on_receiver, first_of, run_by}
 
-pub running : (image : Image) (heap : WordHeap) (stack : WordStack) (h : At) → IsSeen image heap stack h → IsOwn h → IsRunning image stack h.own
-running image heap stack h s own =
-    ap (λ (ls : List Level). running_in image (first ls)) s.is_stack.levels ∙ (ap (λ (i : Image). method_at i h.frame.method.0) (sym s.same_image) ∙ own)
-
 -- what a call comes to, by what it sees
 pub from_seen : (image : Image) (heap : WordHeap) (stack : WordStack) (h : At) (c : Call) (g : Method) (ws : List ℕ) → IsSeen image heap stack h → called_in image heap h.own c g ws ≡ called h c g ws
 from_seen image heap stack h c g ws s =
