@@ -5,7 +5,7 @@ use Rattle.dv_defs.specs.declared.code.Regs.{Regs}
 use Rattle.dv_defs.specs.Op.{count_up, named_registers}
 use Rattle.dv_words.specs.Words.{word_at}
 use Rattle.dv_defs.specs.Parts.{Call}
-use Rattle.dv_defs.specs.Pools.{Method, is_abstract, is_constructor, is_native as has_flag, is_static, method_at, name_at}
+use Rattle.dv_defs.specs.Pools.{Method, is_abstract, is_constructor, is_native as has_flag, is_static, name_at}
 use Rattle.std.specs.Prelude.{if◌then◌else◌, slice_index}
 use Rattle.dv_defs.specs.declared.run.Named.TheVariants as named
 use Rattle.dv_defs.specs.declared.run.Native.{Native}
@@ -19,11 +19,7 @@ use Rattle.dv_steps.specs.Calls as steps
 use Rattle.dv_steps.specs.Calls.{dispatch}
 use Rattle.dv_steps.specs.Local.{reg_word}
 use Rattle.dv_steps.specs.Steps.{At, Left}
-use Rattle.dv_call.specs.Landings.{InvokesLand, IsOwn, IsRunning, IsSeen, Landed, Enters, Fails, called, called_in, is_native, runs_native, running_in, constructs, done, on_landing, on_object, on_receiver, first_of, run_by}
-
-pub running : (image : Image) (heap : WordHeap) (stack : WordStack) (h : At) → IsSeen image heap stack h → IsOwn h → IsRunning image stack h.own
-running image heap stack h s own =
-    ap (λ (ls : List Level). running_in image (first ls)) s.is_stack.levels ∙ (ap (λ (i : Image). method_at i h.frame.method.0) (sym s.same_image) ∙ own)
+use Rattle.dv_call.specs.Landings.{InvokesLand, IsSeen, Landed, Enters, Fails, called, called_in, is_native, runs_native, constructs, done, on_landing, on_object, on_receiver, first_of, run_by}
 
 -- what a call comes to, by what it sees
 pub from_seen : (image : Image) (heap : WordHeap) (stack : WordStack) (h : At) (c : Call) (g : Method) (ws : List ℕ) → IsSeen image heap stack h → called_in image heap h.own c g ws ≡ called h c g ws
