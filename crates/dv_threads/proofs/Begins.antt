@@ -1,15 +1,13 @@
 -- Threads that begin, and threads by their objects.
-use Rattle.std.proofs.Common.{◌≡◌, ℕ, zero, suc, ◌+◌, ◌-◌, ◌<◌, ◌≤◌, Bool, true, false, cond, List, [], ◌∷◌, length, replicate, Option, Some, None, refl, sym, ap, ◌∙◌, arith, add-one, length-append}
-use Rattle.std.specs.Prelude.{◌==◌, ◌&&◌, is_some, nat_eq, nat_le, nat_lt, position, slice_get}
+use Rattle.std.proofs.Common.{◌≡◌, ℕ, zero, suc, ◌+◌, ◌<◌, ◌≤◌, Bool, true, false, cond, List, [], ◌∷◌, length, Option, Some, None, refl, sym, ap, ◌∙◌, arith, add-one}
+use Rattle.std.specs.Prelude.{◌==◌, is_some, nat_eq, nat_lt, position, slice_get}
 use Rattle.std.specs.List.{position_from}
 use Rattle.std.proofs.lemmas.Bool.Decides.{nat_tests}
 use Rattle.std.proofs.lemmas.Iterator.Adapters.{position_from-zero}
-use Rattle.std.proofs.lemmas.List.{length-replicate}
 use Rattle.dv_defs.specs.declared.machine.End.{End}
-use Rattle.dv_defs.specs.declared.names.MethodId.{MethodId}
 use Rattle.dv_words.specs.declared.state.Frame.{Frame}
 use Rattle.dv_words.specs.declared.state.Level.TheVariants as level
-use Rattle.dv_words.specs.Stacks.{empty, entered, has_room, pushed, size_of, with_levels}
+use Rattle.dv_words.specs.Stacks.{empty, has_room, pushed, size_of, with_levels}
 use Rattle.dv_words.specs.State.{WordStack, WordThread}
 use Rattle.dv_defs.specs.declared.run.Named.TheVariants as named
 use Rattle.dv_defs.specs.Images.{Image}
@@ -33,27 +31,6 @@ first_by s f t false e = absurd (cc)
 
 pub first_is : (l w : ℕ) (f : Frame) (t : WordStack) → pushed (empty l w) (level.Code f) ≡ Some t → t ≡ with_levels (empty l w) (level.Code f ∷ [])
 first_is l w f t e = first_by (empty l w) f t (has_room (empty l w) (size_of (level.Code f))) e
-
-few_words : (m : MethodId) (registers o : ℕ) → registers ≤ 256 → length (entered m registers (o ∷ [])).regs ≤ 256
-few_words m registers o few =
-    let zero_word : ℕ = 0 in
-    let parts = length-append (replicate (registers - 1) zero_word) (o ∷ []) in
-    let zeros : length (replicate (registers - 1) zero_word) ≡ registers - 1 = length-replicate (registers - 1) zero_word in
-    omega (arith, parts, zeros)
-
-room_by : (l w n : ℕ) → 1 ≤ l → n ≤ w → (nat_le 1 l && nat_le (n + 0) w) ≡ true
-room_by l w n levels words =
-    let a : nat_le 1 l ≡ true = grind (arith, nat_tests) in
-    let b : nat_le (n + 0) w ≡ true = grind (arith, nat_tests) in
-    (λ j. a j && b j)
-
-pub first_fits : (l w : ℕ) (m : MethodId) (registers o : ℕ) → 1 ≤ l → 256 ≤ w → registers ≤ 256 → pushed (empty l w) (level.Code (entered m registers (o ∷ []))) ≡ None → ⊥
-first_fits l w m registers o levels words few none =
-    let f = entered m registers (o ∷ []) in
-    let fit = few_words m registers o few in
-    let room : has_room (empty l w) (size_of (level.Code f)) ≡ true = room_by l w (length f.regs) levels (omega (arith, fit)) in
-    let found = ap (λ b. elim b as (λ _. Option WordStack) [ true ↦ Some (with_levels (empty l w) (level.Code f ∷ [])) | false ↦ None ]) room in
-    absurd (let both : (let q : Option WordStack = None in q) ≡ Some (with_levels (empty l w) (level.Code f ∷ [])) = sym none ∙ found in cc)
 
 -- ---- a thread by its object
 

@@ -26,16 +26,6 @@ pub first_named : (ws : List ℕ) (r : Regs) → (r.count ≡ 0 → ⊥) → 0 <
 unfolding named_by
 first_named ws r some long = first_by ws r.count r.first r.range some long
 
-none_by : (ws : List ℕ) (n : ℕ) (xs : List ℕ) (b : Bool) → n ≡ 0 → slice_index_or (map (word_at ws) (named_by n xs b)) 0 0 ≡ 0
-unfolding named_by
-none_by ws zero xs true none = refl
-none_by ws zero xs false none = refl
-none_by ws (suc n) xs b none = absurd (omega arith)
-
-pub none_named : (ws : List ℕ) (r : Regs) → r.count ≡ 0 → slice_index_or (map (word_at ws) (named_registers r)) 0 0 ≡ 0
-unfolding named_by
-none_named ws r none = none_by ws r.count r.first r.range none
-
 -- the word by its thread
 pub object_is : (old : Threads) (thread next : ℕ) (own : WordThread) (h : At) (is : IsThreadOf old thread next own h) (r : Regs) (w : ℕ) (ss : List WordStack) → ss ≡ old.stacks.items
     → ((s : WordStack) → slice_get ss thread ≡ Some s → w ≡ arg (arg_words s r) 0) → w ≡ arg (map (reg_word h.frame) (named_registers r)) 0

@@ -11,13 +11,6 @@ use Rattle.dv_linklaws.proofs.TableLaws.{nearest_has}
 abbrev number : Option Method → Option MethodId
 number o = option_map (λ m. record { 0 = m.id }) o
 
-none_by : (o : Option Method) → number o ≡ None → o ≡ None
-none_by None e = refl
-none_by (Some m) e = absurd (cc)
-
-pub none_runs : (image : Image) (c : ℕ) (name : List ℕ) (proto : Proto) → landing_of image c name proto ≡ None → nearest image c name proto ≡ None
-none_runs image c name proto none = none_by (nearest image c name proto) none
-
 found_by : (image : Image) (c : ℕ) (name : List ℕ) (proto : Proto) (o : Option Method) (id : MethodId) → nearest image c name proto ≡ o → number o ≡ Some id → method_at image id.0 ≡ nearest image c name proto
 found_by image c name proto None id is e = absurd (cc)
 found_by image c name proto (Some m) id is e =
