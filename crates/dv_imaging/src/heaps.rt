@@ -59,7 +59,7 @@ fn word_at(heap: &Heap, object: u32, slot: u32) -> Option<u32> {
     }
 }
 
-fn write(heap: &mut Heap, object: u32, slot: u32, word: u32) {
+pub fn write(heap: &mut Heap, object: u32, slot: u32, word: u32) {
     let there = object > 0 && heap.exists(object) && slot < heap.size(object);
     if there && !matches!(heap.kind(object), Kind::Str) {
         heap.put(object, slot, word);
