@@ -66,7 +66,7 @@ pub fn write(heap: &mut Heap, object: u32, slot: u32, word: u32) {
     }
 }
 
-fn slot_of<R: Abort>(rt: &R, place: usize) -> u32 {
+pub fn slot_of<R: Abort>(rt: &R, place: usize) -> u32 {
     u32::try_from(place).ok().expect(rt, "few words")
 }
 

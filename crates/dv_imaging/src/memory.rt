@@ -1,6 +1,6 @@
 // Steps of instructions on objects, arrays and fields over the image of a program, whose methods are the bodies of the rows.
-use crate::heaps::write;
-use crate::memory_rows::{After, CLASSES, Case, MADE, Made, ROOM, ROWS};
+use crate::heaps::{slot_of, write};
+use crate::memory_rows::{After, CLASSES, Case, MADE, Made, ROOM, ROWS, Row};
 use crate::tests::{linked, type_of};
 use dv_defs::{Image, Insn, MethodId, Next};
 use dv_fetch::units_of;
@@ -15,10 +15,14 @@ use std::process::Abort;
 
 const RETURN_VOID: u8 = 0x0e;
 
+fn rows() -> &'static [Row] {
+    ROWS
+}
+
 fn program(alloc: Global) -> Result<String, AllocError> {
     let mut text = String::new(alloc);
     text.push_str(CLASSES)?;
-    for (n, row) in ROWS.iter().enumerate() {
+    for (n, row) in rows().iter().enumerate() {
         let method = format!(in alloc;
             ".method static m{n}()V\n.registers 4\n{}\nreturn-void\n.end method\n",
             row.0
@@ -39,7 +43,7 @@ fn make<R: Abort>(
     let object = match made {
         Made::Array(dims, base) => {
             let ty = type_of(rt, alloc, (*dims, base));
-            let size = words.len() as u32;
+            let size = slot_of(rt, words.len());
             let length = if *base == "J" { size / 2 } else { size };
             heap.alloc_array(&ty, length)?
         }
@@ -47,7 +51,7 @@ fn make<R: Abort>(
         Made::Object(class) => heap.alloc_object(image, *class)?,
     };
     for (slot, word) in words.iter().enumerate() {
-        write(heap, object, slot as u32, *word);
+        write(heap, object, slot_of(rt, slot), *word);
     }
     Ok(object)
 }
@@ -81,6 +85,14 @@ fn insn_at(image: &Image, stack: &Stack) -> Option<Insn> {
     Some(insn)
 }
 
+/// The address at which the frame on top goes on.
+fn address(stack: &Stack) -> Option<u32> {
+    match stack.head() {
+        Some(head) => Some(head.at),
+        None => None,
+    }
+}
+
 /// Steps to a return, or to the first answer that doesn't go on.
 fn steps<R: Abort>(rt: &R, image: &Image, heap: &mut Heap, stack: &mut Stack) -> Next {
     for _ in 0..4 {
@@ -88,12 +100,12 @@ fn steps<R: Abort>(rt: &R, image: &Image, heap: &mut Heap, stack: &mut Stack) ->
         if insn.op == RETURN_VOID {
             return Next::On;
         }
-        let before = stack.place();
+        let before = address(stack);
         let answer = mem_step(image, heap, stack, &insn)
             .ok()
             .expect(rt, "memory");
         if answer != Next::On {
-            assert!(rt; stack.place() == before);
+            assert!(rt; address(stack) == before);
             return answer;
         }
     }
@@ -191,11 +203,13 @@ fn assert_case<R: Abort>(
 fn instructions_do_what_is_written(rt: HostRuntime) {
     let text = program(rt.alloc()).ok().expect(&rt, "memory");
     let image = linked(&rt, rt.alloc(), &text);
-    let first = image.methods.len() - ROWS.len();
-    for (n, row) in ROWS.iter().enumerate() {
-        let method = MethodId((first + n) as u32);
+    let first = image.methods.len().checked_sub(rows().len());
+    let first = first.expect(&rt, "a method for each row");
+    for (n, row) in rows().iter().enumerate() {
+        let place = first.checked_add(n).expect(&rt, "few methods");
         let (body, cases) = row;
         for case in *cases {
+            let method = MethodId(place as u32);
             assert_case(&rt, rt.alloc(), &image, method, body, case);
         }
     }
