@@ -59,14 +59,14 @@ fn word_at(heap: &Heap, object: u32, slot: u32) -> Option<u32> {
     }
 }
 
-fn write(heap: &mut Heap, object: u32, slot: u32, word: u32) {
+pub fn write(heap: &mut Heap, object: u32, slot: u32, word: u32) {
     let there = object > 0 && heap.exists(object) && slot < heap.size(object);
     if there && !matches!(heap.kind(object), Kind::Str) {
         heap.put(object, slot, word);
     }
 }
 
-fn slot_of<R: Abort>(rt: &R, place: usize) -> u32 {
+pub fn slot_of<R: Abort>(rt: &R, place: usize) -> u32 {
     u32::try_from(place).ok().expect(rt, "few words")
 }
 

@@ -6,6 +6,10 @@ mod births;
 #[cfg(test)]
 mod heaps;
 #[cfg(test)]
+mod memory;
+#[cfg(test)]
+mod memory_rows;
+#[cfg(test)]
 mod rows;
 #[cfg(test)]
 mod tests;

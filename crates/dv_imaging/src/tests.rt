@@ -37,13 +37,17 @@ fn name_of<R: Abort>(rt: &R, alloc: Global, name: &str) -> Text {
 
 fn base_of<R: Abort>(rt: &R, alloc: Global, name: &str) -> Base {
     match name {
+        "Z" => Base::Z,
+        "B" => Base::B,
+        "C" => Base::C,
+        "S" => Base::S,
         "I" => Base::I,
         "J" => Base::J,
         _ => Base::Class(name_of(rt, alloc, name)),
     }
 }
 
-fn type_of<R: Abort>(rt: &R, alloc: Global, (dims, name): TypeOf) -> Ty {
+pub fn type_of<R: Abort>(rt: &R, alloc: Global, (dims, name): TypeOf) -> Ty {
     let base = base_of(rt, alloc, name);
     Ty { dims, base }
 }
