@@ -1,0 +1,4 @@
+pub mod Seen
+pub mod Outcomes
+pub mod Found
+pub mod Acts
