@@ -1,1 +1,5 @@
 pub mod Settled
+pub mod Seen
+pub mod Outcomes
+pub mod Found
+pub mod Acts

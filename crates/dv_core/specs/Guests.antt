@@ -1,7 +1,8 @@
 -- The state that steps change, and what a step sees and leaves of it.
-use Rattle.std.specs.Prelude.{◌≡◌, ℕ, ◌++◌, ◌∷◌, All, Some, slice_get, slice_set}
+use Rattle.std.specs.Prelude.{◌≡◌, ℕ, ◌++◌, ◌∷◌, All, Bool, Option, Some, None, slice_get, slice_set}
 use Rattle.std.specs.Option.{option_to_list}
 use Rattle.dv_defs.specs.declared.code.Insn.{Insn}
+use Rattle.dv_defs.specs.declared.names.ClassId.{ClassId}
 use Rattle.dv_defs.specs.declared.run.Limits.{Limits}
 use Rattle.dv_defs.specs.Images.{Image}
 use Rattle.dv_defs.specs.Pools.{method_at}
@@ -9,6 +10,7 @@ use Rattle.dv_defs.specs.Statics as statics
 use Rattle.dv_defs.specs.Statics.{fetch}
 use Rattle.dv_words.specs.declared.state.Level.TheVariants as level
 use Rattle.dv_words.specs.State.{WordShared, WordStack, WordThread}
+use Rattle.dv_steps.specs.Step.{moved_on}
 use Rattle.dv_steps.specs.Steps.{At, Left}
 use Rattle.dv_threads.specs.Kept.{AreAligned, bounds, threads_of}
 use Rattle.dv_core.specs.declared.guest.Guest.{Guest}
@@ -50,3 +52,14 @@ pub record Stays (limits : Limits) (old new : Guest) : Type 0 where
   pub threads : threads_of new.threads ≡ threads_of old.threads
   pub shared : shared_of new ≡ shared_of old
   pub ordered : IsOrdered limits new
+
+-- its top level is code at this operation, or a record
+abbrev pub StandsAt : WordThread → At → Option statics.At → Type 0
+StandsAt own h (Some x) = IsAtOp own h x
+StandsAt own h None = (c : ClassId) × (r : Bool) × (own.levels ≡ level.Init c r ∷ h.rest)
+
+-- a thread whose exception is to fly stands behind its monitor-exit, if it stands at one
+pub record LeavesExit (old new : Guest) (own : WordThread) (h : At) (x : Option statics.At) : Type 0 where
+  pub threads : threads_of new.threads ≡ slice_set (threads_of old.threads) h.thread (record { levels = moved_on x own.levels; end = own.end; object = own.object })
+  pub shared : shared_of new ≡ shared_of old
+  pub ordered : IsOrdered h.limits new

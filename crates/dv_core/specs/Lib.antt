@@ -1,3 +1,5 @@
 pub mod Guests
 pub mod Machines
 pub mod Fitting
+pub mod Standing
+pub mod Settling

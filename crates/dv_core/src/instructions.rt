@@ -1,7 +1,13 @@
 // The instruction at which a frame goes on, and the class that it needs.
 ghost use Rattle.std.specs.Prelude.{◌≡◌, ℕ, option_map};
 ghost use Rattle.dv_defs.specs.Op.{Code, needs};
+ghost use Rattle.dv_defs.specs.Statics as statics;
 ghost use Rattle.dv_ops.specs.Meaning.{meant};
+ghost use Rattle.dv_words.specs.State.{WordThread};
+ghost use Rattle.dv_steps.specs.Answering.{IsStackOf};
+ghost use Rattle.dv_steps.specs.Steps.{At};
+ghost use Rattle.dv_core.specs.Guests.{IsAtOp};
+ghost use Rattle.dv_core.specs.Standing.{IsFound};
 
 use dv_defs::{ClassId, Image, Insn};
 use dv_frames::Stack;
@@ -20,6 +26,7 @@ pub struct Instruction<'a> {
 
 /// The instruction at which the frame on top goes on.
 pub fn instruction_of<'a>(image: &'a Image, stack: &Stack) -> Option<Instruction<'a>>
+    ensures { (own : WordThread) (h : At) (x : statics.At) → h.image ≡ image.now → IsStackOf stack.now h → IsAtOp own h x → IsFound result h x.op }
 {
     let head = stack.head()?;
     let code = coded_at(image, head.method)?;
