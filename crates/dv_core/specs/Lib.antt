@@ -1,3 +1,4 @@
 pub mod Guests
 pub mod Machines
 pub mod Fitting
+pub mod Recording

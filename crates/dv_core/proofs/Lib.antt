@@ -1,0 +1,2 @@
+pub mod RecordStacks
+pub mod Flights
