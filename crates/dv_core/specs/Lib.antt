@@ -3,3 +3,4 @@ pub mod Machines
 pub mod Fitting
 pub mod Standing
 pub mod Settling
+pub mod Recording

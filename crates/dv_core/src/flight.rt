@@ -6,7 +6,7 @@ ghost use Rattle.dv_words.specs.declared.state.Frame.{Frame as Activation};
 ghost use Rattle.dv_words.specs.declared.state.Level.TheVariants as level;
 ghost use Rattle.dv_steps.specs.Steps.{At};
 ghost use Rattle.dv_steps.specs.Unwinding.{handler_for, unwind_frame, unwind_record};
-ghost use Rattle.dv_throw.specs.Unwound.{Unwinds};
+ghost use Rattle.dv_throw.specs.Answers.{Unwinds};
 ghost use Rattle.dv_core.specs.Fitting.{RecordFits};
 ghost use Rattle.dv_core.specs.Guests.{IsSeen, Leaves, Stays};
 
@@ -20,7 +20,12 @@ use std::alloc::AllocError;
 /// # Errors
 ///
 /// Want of memory; all is as before then.
-pub fn step_flight(image: &Image, guest: &mut Guest, thread: u32, flying: u32) -> Result<Next, AllocError>
+pub fn step_flight(
+    image: &Image,
+    guest: &mut Guest,
+    thread: u32,
+    flying: u32,
+) -> Result<Next, AllocError>
     ensures code { (own : WordThread) (h : At) (f : Activation) → IsSeen image.now h.limits guest.old thread own h → own.levels ≡ level.Code f ∷ h.rest →
         Unwinds result (unwind_frame h f flying (handler_for image.now h.shared.heap flying (handlers_at image.now f.method.0 f.at)))
         (Leaves guest.old guest.new own h) (Stays h.limits guest.old guest.new) }
@@ -32,5 +37,12 @@ pub fn step_flight(image: &Image, guest: &mut Guest, thread: u32, flying: u32) -
         return Ok(Next::ThrowRef(flying));
     }
     let stack = &mut guest.threads.stacks[place];
-    unwind_step(image, &mut guest.heap, stack, &mut guest.classes, thread, flying)
+    unwind_step(
+        image,
+        &mut guest.heap,
+        stack,
+        &mut guest.classes,
+        thread,
+        flying,
+    )
 }
