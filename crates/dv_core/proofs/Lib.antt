@@ -5,3 +5,9 @@ pub mod Found
 pub mod Acts
 pub mod RecordStacks
 pub mod Flights
+pub mod Stands
+pub mod Callers
+pub mod InProgress
+pub mod Counts
+pub mod CharArrays
+pub mod Steppable

@@ -4,3 +4,4 @@ pub mod Fitting
 pub mod Standing
 pub mod Settling
 pub mod Recording
+pub mod Laws

@@ -5,6 +5,7 @@ mod code;
 mod flight;
 mod guest;
 mod instructions;
+pub mod laws;
 mod records;
 mod settling;
 mod vm;
