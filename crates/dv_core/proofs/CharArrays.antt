@@ -63,7 +63,7 @@ module _ (image : Image) (T : Typings) (acc : Accepted image T) (heap : Heap) (w
   by_kind o (kind_of_tagged.Str s) is e = absurd (flat (kind_type image (kind_of_tagged.Str s)) refl (acc.order.components (kind_type image (kind_of_tagged.Str s)) chars_type e refl).0)
   by_kind o (kind_of_tagged.ClassOf t) is e = absurd (flat (kind_type image (kind_of_tagged.ClassOf t)) refl (acc.order.components (kind_type image (kind_of_tagged.ClassOf t)) chars_type e refl).0)
 
-  pub chars_met : (y : Value) (u : ℕ) → IsWord u y → HoldsOf (λ o. Fits image heap o chars_type) (read_ref image heap chars_type y) → 0 < u → IsChars w u
+  chars_met : (y : Value) (u : ℕ) → IsWord u y → HoldsOf (λ o. Fits image heap o chars_type) (read_ref image heap chars_type y) → 0 < u → IsChars w u
   chars_met v.Zero u is h some = absurd (no_null u is some)
   chars_met (v.Ref zero) u is h some = absurd (no_null u is some)
   chars_met (v.Ref (suc o)) u is h some =

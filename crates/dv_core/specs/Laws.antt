@@ -11,7 +11,7 @@ use Rattle.dv_core.specs.declared.vm.Vm.{Vm}
 use Rattle.dv_core.specs.Guests.{IsOrdered}
 use Rattle.dv_core.specs.Machines.{IsSteppable, machine_of}
 
--- of each thread: the image is accepted, the lists of threads are in order, a stack has room for a frame, and steps are counted on
+-- of an accepted image whose strings have UTF-16 units; the steps are counted on, and a stack has room for a frame
 abbrev pub StepsFit : Type 0
 StepsFit =
     (image : Image) (T : Typings) (v : Vm) (m : Machine) (t : ℕ) → Accepted image T → StringsFit image → IsSimulated image T (machine_of v) m →
