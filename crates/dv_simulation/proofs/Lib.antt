@@ -1,4 +1,4 @@
-mod Fields
+pub mod Fields
 mod Chars
 mod Puts
 mod Steps

@@ -1,0 +1,13 @@
+pub mod Settled
+pub mod Seen
+pub mod Outcomes
+pub mod Found
+pub mod Acts
+pub mod RecordStacks
+pub mod Flights
+pub mod Stands
+pub mod Callers
+pub mod InProgress
+pub mod Counts
+pub mod CharArrays
+pub mod Steppable
