@@ -1,7 +1,0 @@
-pub mod Guests
-pub mod Machines
-pub mod Fitting
-pub mod Standing
-pub mod Settling
-pub mod Recording
-pub mod Laws

@@ -1,8 +1,0 @@
-// What a step of the engine takes holds wherever code is accepted.
-ghost use Rattle.dv_core.specs.Laws.{StepsFit};
-
-/// In words that stand for a well-typed state of an accepted image, what a step of a thread takes holds: its frame stands at an instruction whose
-/// operands fit, its caller at the invoke, and a record of a class on top is of one that the thread has in progress.
-pub fn steps_fit()
-    ensures law { StepsFit }
-{}
