@@ -19,7 +19,7 @@ use dv_ops::Method;
 use dv_optable::Call;
 
 /// The number of registers of a method, 0 where it has no body.
-fn registers_of(method: &Method<'_>) -> u16
+pub fn registers_of(method: &Method<'_>) -> u16
     ensures { result ≡ machine.registers_of (method_of method.now) }
 {
     match &method.def.body {

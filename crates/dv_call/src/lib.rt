@@ -9,7 +9,7 @@ mod returns;
 mod step;
 mod tops;
 
-pub use invokes::{enter, invoke};
+pub use invokes::{enter, invoke, registers_of};
 pub use landings::{Landed, land};
 pub use laws::invokes_land;
 pub use returns::{return_value, return_void};

@@ -1,5 +1,5 @@
 // What needs no image, on a stack by hand: an image is made of a whole text, so rows of calls stand in a crate above.
-use crate::invokes::enter;
+use crate::invokes::{enter, registers_of};
 use crate::landings::{Landed, construct, is_constructor, receiver};
 use crate::returns::{gives_long, kept_at, next_in};
 use dv_defs::{
@@ -101,11 +101,12 @@ fn arguments_stand_in_the_last_registers(rt: HostRuntime) -> Result<(), Fail> {
     for (row, registers, words) in FRAMES {
         let regs = named(*row);
         let mut stack = stack(alloc)?;
-        let code = match registers {
-            Some(registers) => Some(body(alloc, *registers)),
-            None => None,
+        let (code, count) = match registers {
+            Some(registers) => (Some(body(alloc, *registers)), u16::from(*registers)),
+            None => (None, 0),
         };
         let def = declared(alloc, b"run", 0, None, code)?;
+        assert_eq!(rt; registers_of(&called(&info, &def)), count);
         assert_eq!(rt;
             enter(&mut stack, &called(&info, &def), &regs),
             Next::On,
