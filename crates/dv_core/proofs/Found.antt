@@ -1,0 +1,89 @@
+-- The instruction that is read where the frame on top goes on is the one that is fetched there.
+use Rattle.std.proofs.Common.{◌≡◌, ◌∙◌, ◌+◌, ◌<◌, ℕ, List, [], ◌∷◌, drop, length, true, Some, None, Result, Ok, Err, sym, ap, arith, length-drop}
+use Rattle.std.proofs.lemmas.Option.{same_Some}
+use Rattle.dv_defs.specs.declared.code.Insn.{Insn}
+use Rattle.dv_defs.specs.declared.faults.Rule.{Rule}
+use Rattle.dv_defs.specs.Decoding.{Sized, insn_here}
+use Rattle.dv_defs.specs.Images.{Image}
+use Rattle.dv_defs.specs.Op.{Code, Resolved, code_at, op_of}
+use Rattle.dv_defs.specs.Statics as statics
+use Rattle.dv_defs.specs.Statics.{fetch}
+use Rattle.dv_fetch.proofs.Fetched.{payload_there}
+use Rattle.dv_ops.specs.declared.op.Op.{Op}
+use Rattle.dv_ops.specs.Meaning.{has_payload, meant, meant_or_rule}
+use Rattle.dv_words.specs.declared.state.Level.{Level}
+use Rattle.dv_words.specs.Stacks.{first}
+use Rattle.dv_words.specs.State.{WordStack, WordThread}
+use Rattle.dv_frames.specs.declared.heads.Head.{Head}
+use Rattle.dv_frames.specs.Heads.{head_in}
+use Rattle.dv_frames.specs.Tops.{head_of}
+use Rattle.dv_steps.proofs.Fetching.{is_fetched, is_read}
+use Rattle.dv_steps.specs.Answering.{IsAtInsn, IsStackOf}
+use Rattle.dv_steps.specs.Fetching.{IsFetched, IsThere}
+use Rattle.dv_steps.specs.Steps.{At}
+use Rattle.dv_call.proofs.Resumed.{no_code}
+use Rattle.dv_core.specs.Guests.{IsAtOp}
+use Rattle.dv_core.specs.Standing.{IsFound}
+
+some_here : (us : List ℕ) (i : Insn) (n : ℕ) → insn_here us ≡ Some (record { insn = i; size = n }) → 0 < length us
+some_here [] i n e = absurd (cc e)
+some_here (u ∷ us) i n e = omega arith
+
+module _ (image : Image) (stack : WordStack) (own : WordThread) (h : At) (x : statics.At) (same : h.image ≡ image) (is : IsStackOf stack h) (at : IsAtOp own h x) where
+  top_head : head_of (first stack.levels) ≡ Some (head_in h.frame)
+  top_head = ap (λ (ls : List Level). head_of (first ls)) is.levels
+
+  pub no_head : None ≡ head_of (first stack.levels) → ⊥
+  no_head none = absurd (let whole : None ≡ Some (head_in h.frame) = none ∙ top_head in cc whole)
+
+  module _ (head : Head) (has : Some head ≡ head_of (first stack.levels)) where
+    same_head : head ≡ head_in h.frame
+    same_head = same_Some head (head_in h.frame) (has ∙ top_head)
+
+    fetched_there : fetch image head.method.0 head.at ≡ Some x
+    fetched_there = (λ j. fetch (sym same j) (same_head j).method.0 (same_head j).at) ∙ at.fetched
+
+    pub some_code : None ≡ code_at image head.method.0 → ⊥
+    some_code none = no_code image head.method.0 head.at x (sym none) fetched_there
+
+    module _ (code : Code) (has_code : Some code ≡ code_at image head.method.0) where
+      there : IsThere code.body.units head.at x
+      there = is_read image code head.at x head.method.0 (sym has_code) fetched_there
+
+      pub inside : head.at < length code.body.units
+      inside =
+          let some = some_here (drop head.at code.body.units) there.insn there.size there.read in
+          omega (arith, some, length-drop head.at code.body.units)
+
+      pub some_insn : insn_here (drop head.at code.body.units) ≡ None → ⊥
+      some_insn none = absurd (let whole : None ≡ Some (let z : Sized = record { insn = there.insn; size = there.size } in z) = sym none ∙ there.read in cc whole)
+
+      module _ (insn : Insn) (size : ℕ) (read : insn_here (drop head.at code.body.units) ≡ Some (record { insn = insn; size = size })) where
+        fetched : IsFetched image code head.at insn size x
+        fetched = is_fetched image code head.at insn size x head.method.0 (sym has_code) fetched_there read
+
+        spelled : IsAtInsn h insn x.op
+        spelled = record {
+          own = at.method;
+          code = code;
+          has_code = (λ j. code_at (same j) (sym same_head j).method.0) ∙ sym has_code;
+          size = size;
+          spelled = (λ j. insn_here (drop (sym same_head j).at code.body.units)) ∙ read;
+          fetched = at.fetched ∙ (λ j. Some (record { op = x.op; next = sym at.next j }));
+        }
+
+        module _ (r : Result Op Rule) (resolves : has_payload code head.at insn ≡ true → meant_or_rule code head.at r ≡ op_of image code head.at insn) where
+          answered : meant_or_rule code head.at r ≡ Ok x.op
+          answered = resolves (payload_there image code head.at insn x.op fetched.op) ∙ fetched.op
+
+          pub no_rule : (broken : Rule) → r ≡ Err broken → ⊥
+          no_rule broken e = absurd (let whole : (let q : Resolved = Err broken in q) ≡ Ok x.op = ap (meant_or_rule code head.at) (sym e) ∙ answered in cc whole)
+
+          pub found : (o : Op) (next : ℕ) → r ≡ Ok o → next ≡ head.at + size → IsFound (Some (record { insn = insn; op = o; next = next })) h x.op
+          found o next e after = record {
+            spelled = spelled;
+            code = code;
+            at = head.at;
+            means = let whole : (let q : Resolved = Ok (meant code head.at o) in q) ≡ Ok x.op = ap (meant_or_rule code head.at) (sym e) ∙ answered in cc whole;
+            next = after ∙ (sym fetched.next ∙ sym at.next);
+          }

@@ -1,0 +1,33 @@
+use Rattle.std.proofs.Common.{◌∙◌, refl, sym, ap, subst}
+use Rattle.dv_defs.specs.Op as ops
+use Rattle.dv_core.proofs.Waits.{at_here, has_code, here, stack_here, thread_here}
+use Rattle.dv_steps.specs.Running.{blocked_at, blocked_needing}
+use Rattle.dv_steps.specs.StepLaws.{CallFits}
+use Rattle.dv_call.specs.Landings.{IsSeen}
+use Rattle.dv_core.specs.Machines.{machine_with}
+use Rattle.dv_core.proofs.waiting.blocked_code.Goals as goal
+
+pub returns-in_err-here : goal.returns-in_err-here
+returns-in_err-here c s e l f ls are finds levels watched =
+    let image = c.args.image.now in
+    let g = c.args.guest.now in
+    let stack = c.args.stack.now in
+    let t = c.args.thread in
+    let has = has_code image f watched.stands in
+    absurd (c.in_err-here.ensures (thread_here image g stack f ls levels t has) (here image g stack f ls levels t has) has.x refl (stack_here image g stack f ls levels t has) (at_here image g stack f ls levels t has))
+
+pub returns : goal.returns
+returns c s e l f ls are finds levels watched =
+    let image = c.args.image.now in
+    let g = c.args.guest.now in
+    let stack = c.args.stack.now in
+    let t = c.args.thread in
+    let m = machine_with g s e l in
+    let has = has_code image f watched.stands in
+    let h = here image g stack f ls levels t has in
+    let found = c.in_ok-here.ensures (thread_here image g stack f ls levels t has) h has.x refl (stack_here image g stack f ls levels t has) (at_here image g stack f ls levels t has) in
+    let seen : IsSeen image g.heap stack h = record { same_image = refl; same_heap = refl; is_stack = stack_here image g stack f ls levels t has } in
+    let fits = subst (CallFits image) (sym found.means) (watched.call has.x has.fetched) in
+    c.blocked_needing.ensures s e l h found.code found.at are finds seen has.method fits ∙
+    (ap (λ (o : ops.Op). blocked_needing image m t has.own f o (ops.needs o)) found.means ∙
+    sym (λ j. blocked_at image m t f (has.method j) (has.fetched j)))

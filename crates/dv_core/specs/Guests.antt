@@ -1,0 +1,57 @@
+-- The state that steps change, and what a step sees and leaves of it.
+use Rattle.std.specs.Prelude.{◌≡◌, ℕ, ◌++◌, ◌∷◌, All, Bool, Option, Some, None, slice_get, slice_set}
+use Rattle.std.specs.Option.{option_to_list}
+use Rattle.dv_defs.specs.declared.names.ClassId.{ClassId}
+use Rattle.dv_defs.specs.declared.run.Limits.{Limits}
+use Rattle.dv_defs.specs.Images.{Image}
+use Rattle.dv_defs.specs.Pools.{method_at}
+use Rattle.dv_defs.specs.Statics as statics
+use Rattle.dv_defs.specs.Statics.{fetch}
+use Rattle.dv_words.specs.declared.state.Level.TheVariants as level
+use Rattle.dv_words.specs.State.{WordShared, WordStack, WordThread}
+use Rattle.dv_steps.specs.Steps.{At, Left}
+use Rattle.dv_threads.specs.Kept.{AreAligned, bounds, threads_of}
+use Rattle.dv_core.specs.declared.guest.Guest.{Guest}
+
+-- what all threads share
+abbrev pub shared_of : Guest → WordShared
+shared_of g = record { heap = g.heap; classes = g.classes; monitors = g.threads.monitors.monitors; output = g.output.items }
+
+-- the lists of threads are equally long, and each stack is as large as the limits say
+pub record IsOrdered (limits : Limits) (g : Guest) : Type 0 where
+  pub aligned : AreAligned g.threads
+  pub bounded : All (λ (s : WordStack). bounds s ≡ (limits.levels, limits.words)) g.threads.stacks.items
+
+-- the thread of this number steps
+pub record IsSeen (i : Image) (l : Limits) (g : Guest) (thread : ℕ) (own : WordThread) (h : At) : Type 0 where
+  pub image : h.image ≡ i
+  pub limits : h.limits ≡ l
+  pub number : h.thread ≡ thread
+  pub threads : h.threads ≡ threads_of g.threads
+  pub shared : h.shared ≡ shared_of g
+  pub there : slice_get (threads_of g.threads) thread ≡ Some own
+  pub ordered : IsOrdered l g
+
+-- its frame on top goes on at this operation
+pub record IsAtOp (own : WordThread) (h : At) (x : statics.At) : Type 0 where
+  pub levels : own.levels ≡ level.Code h.frame ∷ h.rest
+  pub method : method_at h.image h.frame.method.0 ≡ Some h.own
+  pub fetched : fetch h.image h.frame.method.0 h.frame.at ≡ Some x
+  pub next : h.next ≡ x.next
+
+-- the thread has the levels that are left, another may have been started, and all share this
+pub record Leaves (old new : Guest) (own : WordThread) (h : At) (l : Left) : Type 0 where
+  pub threads : threads_of new.threads ≡ slice_set (threads_of old.threads) h.thread (record { levels = l.levels; end = own.end; object = own.object }) ++ option_to_list l.started
+  pub shared : l.shared ≡ shared_of new
+  pub ordered : IsOrdered h.limits new
+
+-- all is as before; room that was taken doesn't count
+pub record Stays (limits : Limits) (old new : Guest) : Type 0 where
+  pub threads : threads_of new.threads ≡ threads_of old.threads
+  pub shared : shared_of new ≡ shared_of old
+  pub ordered : IsOrdered limits new
+
+-- its top level is code at this operation, or a record
+abbrev pub StandsAt : WordThread → At → Option statics.At → Type 0
+StandsAt own h (Some x) = IsAtOp own h x
+StandsAt own h None = (c : ClassId) × (r : Bool) × (own.levels ≡ level.Init c r ∷ h.rest)

@@ -1,0 +1,298 @@
+// A step of a thread at an instruction.
+ghost use Rattle.std.specs.Prelude.{◌≡◌, ◌∷◌, ◌<◌, ◌^◌, ◌-◌, Ok, Some, false, map, slice_get, true};
+ghost use Rattle.std.specs.declared.alloc.AllocError.{AllocError};
+ghost use Rattle.dv_defs.specs.Op as ops;
+ghost use Rattle.dv_defs.specs.Op.{named_registers};
+ghost use Rattle.dv_defs.specs.Statics as statics;
+ghost use Rattle.dv_defs.specs.Classes.{ask_of};
+ghost use Rattle.dv_defs.specs.Images.{Image as Linked};
+ghost use Rattle.dv_defs.specs.declared.run.Limits.{Limits as Bounds};
+ghost use Rattle.dv_machine.specs.Mem.{on_object};
+ghost use Rattle.dv_monitor.specs.State.{count_of};
+ghost use Rattle.dv_ops.specs.Meaning.{method_of};
+ghost use Rattle.dv_units.specs.Tables.{standard_call};
+ghost use Rattle.dv_words.specs.State.{WordStack, WordThread};
+ghost use Rattle.dv_words.specs.Stacks.{top_regs};
+ghost use Rattle.dv_words.specs.Words.{word_at};
+ghost use Rattle.dv_words.specs.declared.state.Level.TheVariants as level;
+ghost use Rattle.dv_steps.specs.Answering.{IsAtInsn, Leads};
+ghost use Rattle.dv_steps.specs.Calls as calls;
+ghost use Rattle.dv_steps.specs.Local.{reg_word, word_local};
+ghost use Rattle.dv_steps.specs.Natives as natives;
+ghost use Rattle.dv_steps.specs.Step as steps;
+ghost use Rattle.dv_steps.specs.Step.{with_ready};
+ghost use Rattle.dv_steps.specs.Steps.{At, leaves, mem_here, mem_left};
+ghost use Rattle.dv_steps.specs.Threads as threads;
+ghost use Rattle.dv_mem.specs.Operands.{AreOperands};
+ghost use Rattle.dv_mem.specs.Stepping.{is_mem};
+ghost use Rattle.dv_call.specs.Returns.{CallerStands};
+ghost use Rattle.dv_threads.specs.Kept.{HasRoom};
+ghost use Rattle.dv_threads.specs.Stepping.{is_of_threads};
+ghost use Rattle.dv_builtin.specs.Natives.{TextsFit};
+ghost use Rattle.dv_core.specs.Fitting.{StepFits};
+ghost use Rattle.dv_core.specs.Guests.{IsAtOp, IsSeen, Leaves, Stays};
+ghost use Rattle.dv_core.specs.Standing.{IsFound, IsHere};
+
+use crate::guest::Guest;
+use crate::instructions::{Instruction, instruction_of, needs};
+use crate::records::begin;
+use dv_call::{Landed, enter, land, return_value, return_void};
+use dv_defs::{Ask, ClassId, Image, Insn, Limits, Named, Native, Next, Regs};
+use dv_local::step_top;
+use dv_mem::mem_step;
+use dv_ops::{Method, Op};
+use dv_optable::Call;
+use dv_threads::{monitor_enter, monitor_exit};
+use std::alloc::AllocError;
+
+/// A step of a living thread whose top level is code: the class that its instruction needs is asked for first (JLS 12.4.1).
+///
+/// # Errors
+///
+/// Want of memory; all is as before then.
+pub fn step_code(
+    image: &Image,
+    limits: &Limits,
+    guest: &mut Guest,
+    thread: u32,
+) -> Result<Next, AllocError>
+    ensures { (own : WordThread) (h : At) (x : statics.At) → IsSeen image.now limits.now guest.old thread own h → IsAtOp own h x → StepFits h x.op →
+        Leads result (with_ready h x.op (ops.needs x.op)) (Leaves guest.old guest.new own h) (Stays limits.now guest.old guest.new) }
+{
+    if step_locally(image, guest, thread) {
+        return Ok(Next::On);
+    }
+    let Some(here) = instruction_at(image, guest, thread) else {
+        return Ok(Next::On);
+    };
+    match needs(&here.op) {
+        None => act(image, limits, guest, thread, &here),
+        Some(class) => with_class(image, limits, guest, thread, &here, class),
+    }
+}
+
+/// Does the instruction on top where it touches its frame alone.
+fn step_locally(image: &Image, guest: &mut Guest, thread: u32) -> bool
+    ensures local { (l : Bounds) (own : WordThread) (h : At) (x : statics.At) → IsSeen image.now l guest.old thread own h → IsAtOp own h x → ops.is_local x.op ≡ result }
+    ensures does { (l : Bounds) (own : WordThread) (h : At) (x : statics.At) → IsSeen image.now l guest.old thread own h → IsAtOp own h x → result ≡ true → Leaves guest.old guest.new own h (leaves h.shared (level.Code (word_local x.op h.frame h.next) ∷ h.rest)) }
+    ensures stays { (l : Bounds) (own : WordThread) (h : At) (x : statics.At) → IsSeen image.now l guest.old thread own h → IsAtOp own h x → result ≡ false → Stays l guest.old guest.new }
+{
+    let place = thread as usize;
+    if place >= guest.threads.stacks.len() {
+        return false;
+    }
+    step_top(image, &mut guest.threads.stacks[place])
+}
+
+/// The instruction at which a thread's frame on top goes on.
+fn instruction_at<'a>(image: &'a Image, guest: &Guest, thread: u32) -> Option<Instruction<'a>>
+    ensures { (l : Bounds) (own : WordThread) (h : At) (x : statics.At) → IsSeen image.now l guest.now thread own h → IsAtOp own h x → IsFound result h x.op }
+{
+    let place = thread as usize;
+    if place >= guest.threads.stacks.len() {
+        return None;
+    }
+    instruction_of(image, &guest.threads.stacks[place])
+}
+
+/// An instruction that needs a class: it is done where the class is ready, or is being initialised by this thread; else the class is
+/// begun, waited for, or throws (JLS 12.4.2).
+fn with_class(
+    image: &Image,
+    limits: &Limits,
+    guest: &mut Guest,
+    thread: u32,
+    here: &Instruction<'_>,
+    class: ClassId,
+) -> Result<Next, AllocError>
+    ensures { (own : WordThread) (h : At) (x : statics.At) → IsSeen image.now limits.now guest.old thread own h → IsAtOp own h x → StepFits h x.op → ops.is_local x.op ≡ false → IsHere here.now h x.op →
+        Leads result (steps.for_class h (level.Code h.frame ∷ h.rest) class.0 (ask_of h.shared.classes class.0 h.thread) (steps.act h x.op)) (Leaves guest.old guest.new own h) (Stays limits.now guest.old guest.new) }
+{
+    match guest.classes.ask(class, thread) {
+        Ask::Go => act(image, limits, guest, thread, here),
+        Ask::Begin => Ok(begin(guest, thread, class)),
+        Ask::Wait(_) => Ok(Next::On),
+        Ask::Bad => Ok(Next::Throw(Named::NoClassDef)),
+    }
+}
+
+/// Does an instruction whose class is ready.
+fn act(
+    image: &Image,
+    limits: &Limits,
+    guest: &mut Guest,
+    thread: u32,
+    here: &Instruction<'_>,
+) -> Result<Next, AllocError>
+    ensures { (own : WordThread) (h : At) (x : statics.At) → IsSeen image.now limits.now guest.old thread own h → IsAtOp own h x → StepFits h x.op → ops.is_local x.op ≡ false → IsHere here.now h x.op →
+        Leads result (steps.act h x.op) (Leaves guest.old guest.new own h) (Stays limits.now guest.old guest.new) }
+{
+    match here.op {
+        Op::Invoke(call, regs, method) => {
+            invoke(image, limits, guest, thread, here.next, call, &regs, method)
+        }
+        Op::ReturnVoid => Ok(leave(image, guest, thread)),
+        Op::Return(_, reg) => Ok(leave_with(image, guest, thread, reg)),
+        Op::Enter(reg) => enter_monitor(guest, thread, here.next, reg),
+        Op::Exit(reg) => leave_monitor(guest, thread, here.next, reg),
+        _ => touch(image, guest, thread, &here.insn),
+    }
+}
+
+/// monitor-enter of the object in a register.
+fn enter_monitor(guest: &mut Guest, thread: u32, next: u32, reg: u16) -> Result<Next, AllocError>
+    ensures { (i : Linked) (l : Bounds) (own : WordThread) (h : At) (x : statics.At) → IsSeen i l guest.old thread own h → IsAtOp own h x → h.next ≡ next → count_of h.shared.monitors (reg_word h.frame reg) < 2 ^ 64 - 1 →
+        Leads result (on_object (threads.monitor_enter h) (reg_word h.frame reg)) (Leaves guest.old guest.new own h) (Stays l guest.old guest.new) }
+{
+    let object = word(guest, thread, reg);
+    monitor_enter(&mut guest.threads, thread, next, object)
+}
+
+/// monitor-exit of the object in a register.
+fn leave_monitor(guest: &mut Guest, thread: u32, next: u32, reg: u16) -> Result<Next, AllocError>
+    ensures { (i : Linked) (l : Bounds) (own : WordThread) (h : At) (x : statics.At) → IsSeen i l guest.old thread own h → IsAtOp own h x → h.next ≡ next →
+        Leads result (on_object (threads.monitor_exit h) (reg_word h.frame reg)) (Leaves guest.old guest.new own h) (Stays l guest.old guest.new) }
+{
+    let object = word(guest, thread, reg);
+    monitor_exit(&mut guest.threads, thread, next, object)
+}
+
+/// A register of a thread's frame on top, 0 where there is none.
+fn word(guest: &Guest, thread: u32, reg: u16) -> u32
+    ensures { (s : WordStack) → slice_get guest.now.threads.stacks.items thread ≡ Some s → result ≡ word_at (top_regs s.levels) reg }
+{
+    match guest.threads.stacks.get(thread as usize) {
+        Some(stack) => stack.word(u32::from(reg)),
+        None => 0,
+    }
+}
+
+/// An instruction on objects, arrays and fields, a division or a cast.
+fn touch(image: &Image, guest: &mut Guest, thread: u32, insn: &Insn) -> Result<Next, AllocError>
+    ensures { (l : Bounds) (own : WordThread) (h : At) (x : statics.At) → IsSeen image.now l guest.old thread own h → IsAtOp own h x → IsAtInsn h insn.now x.op → is_mem x.op ≡ true → AreOperands (mem_here h) x.op →
+        Leads result (mem_left h x.op) (Leaves guest.old guest.new own h) (Stays l guest.old guest.new) }
+{
+    let place = thread as usize;
+    if place >= guest.threads.stacks.len() {
+        return Ok(Next::On);
+    }
+    mem_step(
+        image,
+        &mut guest.heap,
+        &mut guest.threads.stacks[place],
+        insn,
+    )
+}
+
+/// An invoke: a method is entered, a native method is done, or an exception is thrown.
+fn invoke(
+    image: &Image,
+    limits: &Limits,
+    guest: &mut Guest,
+    thread: u32,
+    next: u32,
+    call: Call,
+    regs: &Regs,
+    method: Method<'_>,
+) -> Result<Next, AllocError>
+    ensures { (own : WordThread) (h : At) (x : statics.At) → IsSeen image.now limits.now guest.old thread own h → IsAtOp own h x → StepFits h (ops.Invoke (standard_call call) (named_registers regs.now) (method_of method.entry)) → h.next ≡ next →
+        Leads result (calls.invoke h (standard_call call) (named_registers regs.now) (method_of method.entry)) (Leaves guest.old guest.new own h) (Stays limits.now guest.old guest.new) }
+{
+    let place = thread as usize;
+    if place >= guest.threads.stacks.len() {
+        return Ok(Next::On);
+    }
+    match land(
+        image,
+        &guest.heap,
+        &guest.threads.stacks[place],
+        call,
+        regs,
+        method,
+    ) {
+        Landed::Method(landed) => Ok(enter(&mut guest.threads.stacks[place], &landed, regs)),
+        Landed::Native(native) => run_native(image, limits, guest, thread, next, native, regs),
+        Landed::Throws(named) => Ok(Next::Throw(named)),
+        Landed::Nothing => Ok(Next::On),
+    }
+}
+
+/// Whether a native is one of threads and monitors; the others are of texts.
+fn is_of_threads(native: Native) -> bool
+    ensures { result ≡ is_of_threads native }
+{
+    matches!(
+        native,
+        Native::Wait
+            | Native::Notify
+            | Native::NotifyAll
+            | Native::Start
+            | Native::Join
+            | Native::CurrentThread
+    )
+}
+
+/// Does a native method.
+fn run_native(
+    image: &Image,
+    limits: &Limits,
+    guest: &mut Guest,
+    thread: u32,
+    next: u32,
+    native: Native,
+    regs: &Regs,
+) -> Result<Next, AllocError>
+    ensures { (own : WordThread) (h : At) (x : statics.At) → IsSeen image.now limits.now guest.old thread own h → IsAtOp own h x → HasRoom h.limits → TextsFit h.shared.heap native (map (reg_word h.frame) (named_registers regs.now)) → h.next ≡ next →
+        Leads result (natives.native_step h native (map (reg_word h.frame) (named_registers regs.now))) (Leaves guest.old guest.new own h) (Stays limits.now guest.old guest.new) }
+{
+    if is_of_threads(native) {
+        return dv_threads::native_step(
+            image,
+            &guest.heap,
+            limits,
+            &mut guest.threads,
+            thread,
+            next,
+            native,
+            regs,
+        );
+    }
+    let place = thread as usize;
+    if place >= guest.threads.stacks.len() {
+        return Ok(Next::On);
+    }
+    let stack = &mut guest.threads.stacks[place];
+    dv_builtin::native_step(
+        &mut guest.heap,
+        stack,
+        &mut guest.output,
+        limits.output,
+        next,
+        native,
+        regs,
+    )
+}
+
+/// return-void.
+fn leave(image: &Image, guest: &mut Guest, thread: u32) -> Next
+    ensures { (l : Bounds) (own : WordThread) (h : At) (x : statics.At) → IsSeen image.now l guest.old thread own h → IsAtOp own h x → CallerStands h →
+        Leads {E = AllocError} (Ok result) (calls.return_void h) (Leaves guest.old guest.new own h) (Stays l guest.old guest.new) }
+{
+    let place = thread as usize;
+    if place >= guest.threads.stacks.len() {
+        return Next::On;
+    }
+    return_void(image, &mut guest.threads.stacks[place])
+}
+
+/// A return with a value.
+fn leave_with(image: &Image, guest: &mut Guest, thread: u32, reg: u16) -> Next
+    ensures { (l : Bounds) (own : WordThread) (h : At) (x : statics.At) → IsSeen image.now l guest.old thread own h → IsAtOp own h x → CallerStands h →
+        Leads {E = AllocError} (Ok result) (calls.return_form h reg) (Leaves guest.old guest.new own h) (Stays l guest.old guest.new) }
+{
+    let place = thread as usize;
+    if place >= guest.threads.stacks.len() {
+        return Next::On;
+    }
+    return_value(image, &mut guest.threads.stacks[place], reg)
+}

@@ -1,0 +1,65 @@
+// The instruction at which a frame goes on, and the class that it needs.
+ghost use Rattle.std.specs.Prelude.{◌≡◌, ℕ, option_map};
+ghost use Rattle.dv_defs.specs.Op.{Code, needs};
+ghost use Rattle.dv_defs.specs.Statics as statics;
+ghost use Rattle.dv_ops.specs.Meaning.{meant};
+ghost use Rattle.dv_words.specs.State.{WordThread};
+ghost use Rattle.dv_steps.specs.Answering.{IsStackOf};
+ghost use Rattle.dv_steps.specs.Steps.{At};
+ghost use Rattle.dv_core.specs.Guests.{IsAtOp};
+ghost use Rattle.dv_core.specs.Standing.{IsFound};
+
+use dv_defs::{ClassId, Image, Insn};
+use dv_fetch::{resolve, units_of};
+use dv_frames::Stack;
+use dv_ops::{Op, coded_at};
+use dv_optable::Call;
+use dv_units::decode;
+
+/// An instruction, its operation, and the address after it.
+#[derive(Clone, Copy)]
+pub struct Instruction<'a> {
+    pub insn: Insn,
+    pub op: Op<'a>,
+    pub next: u32,
+}
+
+/// The instruction at which the frame on top goes on.
+pub fn instruction_of<'a>(image: &'a Image, stack: &Stack) -> Option<Instruction<'a>>
+    ensures { (own : WordThread) (h : At) (x : statics.At) → h.image ≡ image.now → IsStackOf stack.now h → IsAtOp own h x → IsFound result h x.op }
+{
+    let Some(head) = stack.head() else {
+        return None;
+    };
+    let Some(code) = coded_at(image, head.method) else {
+        return None;
+    };
+    let units = units_of(&code);
+    if head.at as usize >= units.len() {
+        return None;
+    }
+    let Ok((insn, size)) = decode(units, head.at as usize) else {
+        return None;
+    };
+    let Ok(op) = resolve(image, &code, head.at, &insn) else {
+        return None;
+    };
+    Some(Instruction {
+        insn,
+        op,
+        next: head.at + size,
+    })
+}
+
+/// The class that an operation needs initialised (JLS 12.4.1).
+pub fn needs(op: &Op<'_>) -> Option<ClassId>
+    ensures { (code : Code) (at : ℕ) → option_map (λ c. c.0) result ≡ needs (meant code at op.now) }
+{
+    match op {
+        Op::New(_, class) => Some(*class),
+        Op::StaticGet(_, _, field) => Some(field.info.class),
+        Op::StaticPut(_, _, field) => Some(field.info.class),
+        Op::Invoke(Call::Static, _, method) => Some(method.info.class),
+        _ => None,
+    }
+}

@@ -1,0 +1,16 @@
+//! The engine on plain words: guest threads step by step (AOSP, "Dalvik bytecode format"; JLS 11.3, 12.4, 17).
+#![tactic(auto)]
+
+mod code;
+mod ending;
+mod flight;
+mod guest;
+mod instructions;
+pub mod laws;
+mod records;
+mod settling;
+mod vm;
+mod waiting;
+
+pub use guest::Guest;
+pub use vm::Vm;

@@ -1,0 +1,127 @@
+// The engine: guest threads, what they share, and how far the run is.
+ghost use Rattle.std.specs.Prelude.{◌≡◌, ◌<◌, ◌-◌, ◌^◌, ◌∷◌, [], Bool, Some, None, slice_get};
+ghost use Rattle.dv_defs.specs.declared.machine.End.TheVariants as end;
+ghost use Rattle.dv_defs.specs.Flow.{handlers_at};
+ghost use Rattle.dv_defs.specs.Op as ops;
+ghost use Rattle.dv_defs.specs.Statics as statics;
+ghost use Rattle.dv_words.specs.State.{WordThread};
+ghost use Rattle.dv_words.specs.declared.state.Frame.{Frame as Activation};
+ghost use Rattle.dv_words.specs.declared.state.Level.TheVariants as level;
+ghost use Rattle.dv_steps.specs.Step as steps;
+ghost use Rattle.dv_steps.specs.Step.{record_step, settled, settled_flight, step, with_ready};
+ghost use Rattle.dv_steps.specs.Steps.{At};
+ghost use Rattle.dv_steps.specs.Unwinding.{handler_for, unwind_frame, unwind_record};
+ghost use Rattle.dv_words.specs.Stacks.{first};
+ghost use Rattle.dv_frames.specs.Tops.{top_of};
+ghost use Rattle.dv_threads.specs.Kept.{threads_of};
+ghost use Rattle.dv_core.specs.Fitting.{RecordFits, StepFits};
+ghost use Rattle.dv_core.specs.Guests.{IsAtOp, IsOrdered, IsSeen};
+ghost use Rattle.dv_core.specs.Machines.{IsStepped, IsSteppable, machine_of};
+
+use crate::code::step_code;
+use crate::flight::step_flight;
+use crate::guest::Guest;
+use crate::records::step_record;
+use dv_defs::{ClassId, End, Ending, Image, Limits};
+use dv_frames::Top;
+use std::alloc::AllocError;
+
+/// A run as it stands: the guest's state, the steps done, what stopped the run where something did, and its limits.
+#[derive(Drop)]
+pub struct Vm {
+    pub guest: Guest,
+    pub steps: u64,
+    pub stop: Option<Ending>,
+    pub limits: Limits,
+}
+
+impl Vm {
+    /// A step of a guest thread. Nothing is done where there is no such thread, or it has ended.
+    ///
+    /// # Errors
+    ///
+    /// Want of memory; the state is as before then.
+    pub fn step(&mut self, image: &Image, thread: u32) -> Result<(), AllocError>
+        ensures { IsSteppable image.now self.old thread → IsStepped result self.old self.new (step image.now (machine_of self.old) thread) }
+    {
+        let Some(end) = self.end_of(thread) else {
+            return Ok(());
+        };
+        match end {
+            End::Living => self.step_living(image, thread),
+            End::Flying(object) => self.step_flying(image, thread, object),
+            _ => Ok(()),
+        }
+    }
+
+    /// How a thread stands.
+    fn end_of(&self, thread: u32) -> Option<End>
+        ensures { result ≡ slice_get self.now.guest.threads.ends.items thread }
+    {
+        self.guest.threads.ends.get(thread as usize).copied()
+    }
+
+    /// What is on top of a thread's stack.
+    fn top_of(&self, thread: u32) -> Option<Top>
+        ensures { (own : WordThread) → slice_get (threads_of self.now.guest.threads) thread ≡ Some own → result ≡ top_of (first own.levels) }
+    {
+        match self.guest.threads.stacks.get(thread as usize) {
+            Some(stack) => stack.top(),
+            None => None,
+        }
+    }
+
+    /// A step of a living thread.
+    fn step_living(&mut self, image: &Image, thread: u32) -> Result<(), AllocError>
+        ensures { (own : WordThread) → IsSteppable image.now self.old thread → slice_get (threads_of self.old.guest.threads) thread ≡ Some own → own.end ≡ end.Living →
+            IsStepped result self.old self.new (steps.step_living image.now (machine_of self.old) thread own own.levels) }
+    {
+        let Some(top) = self.top_of(thread) else {
+            return Ok(());
+        };
+        match top {
+            Top::Code { .. } => self.step_at_code(image, thread),
+            Top::Init { class, running } => self.step_at_record(image, thread, class, running),
+        }
+    }
+
+    /// A step of a living thread at an instruction.
+    fn step_at_code(&mut self, image: &Image, thread: u32) -> Result<(), AllocError>
+        ensures { (own : WordThread) (h : At) (x : statics.At) → IsSeen image.now self.old.limits self.old.guest thread own h → IsAtOp own h x → StepFits h x.op → self.old.steps < 2 ^ 64 - 1 →
+            IsStepped result self.old self.new (settled image.now (machine_of self.old) thread own (Some x) (with_ready h x.op (ops.needs x.op))) }
+    {
+        let answer = step_code(image, &self.limits, &mut self.guest, thread)?;
+        self.settle(image, thread, answer)
+    }
+
+    /// A step of a living thread at the record of a class.
+    fn step_at_record(
+        &mut self,
+        image: &Image,
+        thread: u32,
+        class: ClassId,
+        running: bool,
+    ) -> Result<(), AllocError>
+        ensures { (own : WordThread) (h : At) → IsSeen image.now self.old.limits self.old.guest thread own h → own.levels ≡ level.Init class running ∷ h.rest → RecordFits h class → self.old.steps < 2 ^ 64 - 1 →
+            IsStepped result self.old self.new (settled image.now (machine_of self.old) thread own None (record_step h class.0 running)) }
+    {
+        let answer = step_record(image, &mut self.guest, thread, class, running);
+        self.settle(image, thread, answer)
+    }
+
+    /// A step of a thread with an exception in flight.
+    fn step_flying(&mut self, image: &Image, thread: u32, object: u32) -> Result<(), AllocError>
+        ensures code { (own : WordThread) (h : At) (f : Activation) → IsSeen image.now self.old.limits self.old.guest thread own h → own.levels ≡ level.Code f ∷ h.rest → self.old.steps < 2 ^ 64 - 1 →
+            IsStepped result self.old self.new (settled_flight (machine_of self.old) thread own (unwind_frame h f object (handler_for image.now h.shared.heap object (handlers_at image.now f.method.0 f.at)))) }
+        ensures record { (own : WordThread) (h : At) (c : ClassId) (r : Bool) → IsSeen image.now self.old.limits self.old.guest thread own h → own.levels ≡ level.Init c r ∷ h.rest → RecordFits h c → self.old.steps < 2 ^ 64 - 1 →
+            IsStepped result self.old self.new (settled_flight (machine_of self.old) thread own (unwind_record h c.0 object)) }
+        ensures none { (own : WordThread) → IsOrdered self.old.limits self.old.guest → slice_get (threads_of self.old.guest.threads) thread ≡ Some own → own.levels ≡ [] → IsStepped result self.old self.new (machine_of self.old) }
+    {
+        let Some(_top) = self.top_of(thread) else {
+            return Ok(());
+        };
+        let answer = step_flight(image, &mut self.guest, thread, object)?;
+        self.settle_flight(thread, answer);
+        Ok(())
+    }
+}
