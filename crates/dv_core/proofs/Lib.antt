@@ -18,3 +18,5 @@ pub mod Counts
 pub mod CharArrays
 pub mod Steppable
 pub mod Stepped
+pub mod Began
+pub mod Opened

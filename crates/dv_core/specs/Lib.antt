@@ -6,3 +6,4 @@ pub mod Settling
 pub mod Recording
 pub mod Watching
 pub mod Laws
+pub mod Openings

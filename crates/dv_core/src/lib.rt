@@ -7,6 +7,7 @@ mod flight;
 mod guest;
 mod instructions;
 pub mod laws;
+mod opening;
 mod records;
 mod settling;
 mod vm;

@@ -1,6 +1,9 @@
 // Steps of instructions on objects, arrays and fields over the image of a program, whose methods are the bodies of the rows.
 use crate::heaps::{slot_of, write};
-use crate::memory_rows::{After, CLASSES, Case, MADE, Made, ROOM, ROWS, Row};
+use crate::memory_rows::{
+    ARRAYS_FILLED, After, CASTS, CLASSES, Case, DIVISIONS, ELEMENTS_READ, ELEMENTS_STORED, FIELDS, INSTANCES,
+    LENGTHS, MADE, Made, OBJECTS_MADE, OBJECTS_STORED, ROOM, Row, STATIC_FIELDS, TEXTS_AND_CLASSES, THROWS,
+};
 use crate::tests::{linked, type_of};
 use dv_defs::{Image, Insn, MethodId, Next};
 use dv_fetch::units_of;
@@ -15,14 +18,10 @@ use std::process::Abort;
 
 const RETURN_VOID: u8 = 0x0e;
 
-fn rows() -> &'static [Row] {
-    ROWS
-}
-
-fn program(alloc: Global) -> Result<String, AllocError> {
+fn program(alloc: Global, rows: &[Row]) -> Result<String, AllocError> {
     let mut text = String::new(alloc);
     text.push_str(CLASSES)?;
-    for (n, row) in rows().iter().enumerate() {
+    for (n, row) in rows.iter().enumerate() {
         let method = format!(in alloc;
             ".method static m{n}()V\n.registers 4\n{}\nreturn-void\n.end method\n",
             row.0
@@ -199,18 +198,83 @@ fn assert_case<R: Abort>(
     }
 }
 
-#[test]
-fn instructions_do_what_is_written(rt: HostRuntime) {
-    let text = program(rt.alloc()).ok().expect(&rt, "memory");
-    let image = linked(&rt, rt.alloc(), &text);
-    let first = image.methods.len().checked_sub(rows().len());
-    let first = first.expect(&rt, "a method for each row");
-    for (n, row) in rows().iter().enumerate() {
-        let place = first.checked_add(n).expect(&rt, "few methods");
+/// Does each case of each row, over the image of a program that has the rows' bodies.
+fn assert_rows<R: Abort>(rt: &R, alloc: Global, rows: &[Row]) {
+    let text = program(alloc, rows).ok().expect(rt, "memory");
+    let image = linked(rt, alloc, &text);
+    let first = image.methods.len().checked_sub(rows.len());
+    let first = first.expect(rt, "a method for each row");
+    for (n, row) in rows.iter().enumerate() {
+        let place = first.checked_add(n).expect(rt, "few methods");
         let (body, cases) = row;
         for case in *cases {
             let method = MethodId(place as u32);
-            assert_case(&rt, rt.alloc(), &image, method, body, case);
+            assert_case(rt, alloc, &image, method, body, case);
         }
     }
+}
+
+#[test]
+fn elements_are_read(rt: HostRuntime) {
+    assert_rows(&rt, rt.alloc(), ELEMENTS_READ);
+}
+
+#[test]
+fn elements_are_stored(rt: HostRuntime) {
+    assert_rows(&rt, rt.alloc(), ELEMENTS_STORED);
+}
+
+#[test]
+fn arrays_take_what_fits(rt: HostRuntime) {
+    assert_rows(&rt, rt.alloc(), OBJECTS_STORED);
+}
+
+#[test]
+fn arrays_have_lengths(rt: HostRuntime) {
+    assert_rows(&rt, rt.alloc(), LENGTHS);
+}
+
+#[test]
+fn fields_are_read_and_put(rt: HostRuntime) {
+    assert_rows(&rt, rt.alloc(), FIELDS);
+}
+
+#[test]
+fn static_fields_are_read_and_put(rt: HostRuntime) {
+    assert_rows(&rt, rt.alloc(), STATIC_FIELDS);
+}
+
+#[test]
+fn objects_are_made(rt: HostRuntime) {
+    assert_rows(&rt, rt.alloc(), OBJECTS_MADE);
+}
+
+#[test]
+fn texts_and_classes_stand_once(rt: HostRuntime) {
+    assert_rows(&rt, rt.alloc(), TEXTS_AND_CLASSES);
+}
+
+#[test]
+fn arrays_are_filled(rt: HostRuntime) {
+    assert_rows(&rt, rt.alloc(), ARRAYS_FILLED);
+}
+
+#[test]
+fn casts_pass_or_throw(rt: HostRuntime) {
+    assert_rows(&rt, rt.alloc(), CASTS);
+}
+
+#[test]
+fn instances_are_told(rt: HostRuntime) {
+    assert_rows(&rt, rt.alloc(), INSTANCES);
+}
+
+#[test]
+fn divisions_divide_or_throw(rt: HostRuntime) {
+    assert_rows(&rt, rt.alloc(), DIVISIONS);
+}
+
+#[test]
+fn throws_throw(rt: HostRuntime) {
+    assert_rows(&rt, rt.alloc(), THROWS);
 }

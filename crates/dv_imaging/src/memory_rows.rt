@@ -122,8 +122,8 @@ const ZERO: Next = Next::Throw(Named::Arithmetic);
 
 const FULL: Next = Next::NoWords;
 
-pub const ROWS: &[Row] = &[
-    // Elements that are read: of null, at -1, at the length, and there.
+/// Elements that are read: of null, at -1, at the length, and there.
+pub const ELEMENTS_READ: &[Row] = &[
     (
         "aget v0, v1, v2",
         &[
@@ -191,7 +191,10 @@ pub const ROWS: &[Row] = &[
             ),
         ],
     ),
-    // Elements that are stored, narrow ones by their low bits.
+];
+
+/// Elements that are stored, narrow ones by their low bits.
+pub const ELEMENTS_STORED: &[Row] = &[
     (
         "aput v0, v1, v2",
         &[
@@ -254,7 +257,10 @@ pub const ROWS: &[Row] = &[
             ),
         ],
     ),
-    // What an array of objects takes: null, and instances of its elements' type; the index is tested first.
+];
+
+/// What an array of objects takes: null, and instances of its elements' type; the index is tested first.
+pub const OBJECTS_STORED: &[Row] = &[
     (
         "aput-object v0, v1, v2",
         &[
@@ -272,7 +278,10 @@ pub const ROWS: &[Row] = &[
             ([Q, IS, 0, 0], ON, Same),
         ],
     ),
-    // How many elements an array has.
+];
+
+/// How many elements an array has.
+pub const LENGTHS: &[Row] = &[
     (
         "array-length v0, v1",
         &[
@@ -282,7 +291,10 @@ pub const ROWS: &[Row] = &[
             ([9, PS, 0, 0], ON, Registers([2, PS, 0, 0])),
         ],
     ),
-    // Fields of objects.
+];
+
+/// Fields of objects.
+pub const FIELDS: &[Row] = &[
     (
         "iget v0, v1, LP;->i:I",
         &[
@@ -326,7 +338,10 @@ pub const ROWS: &[Row] = &[
             ([TEXT, Q, 0, 0], ON, Words(Q, &[30, 31, 32, TEXT])),
         ],
     ),
-    // Static fields, as they are declared and as they are put.
+];
+
+/// Static fields, as they are declared and as they are put.
+pub const STATIC_FIELDS: &[Row] = &[
     (
         "sget v0, LP;->s:I",
         &[([9, 0, 0, 0], ON, Registers([7, 0, 0, 0]))],
@@ -355,7 +370,10 @@ pub const ROWS: &[Row] = &[
         "sput-byte v0, LP;->b:B\nsget-byte v1, LP;->b:B",
         &[([0x1ff, 9, 0, 0], ON, Registers([0x1ff, MINUS_1, 0, 0]))],
     ),
-    // Objects that are made, up to the last word of the heap.
+];
+
+/// Objects that are made, up to the last word of the heap.
+pub const OBJECTS_MADE: &[Row] = &[
     (
         "new-instance v0, LP;",
         &[([9, 0, 0, 0], ON, New([NEW, 0, 0, 0], &[(NEW, &[0, 0, 0])]))],
@@ -405,7 +423,10 @@ pub const ROWS: &[Row] = &[
         "filled-new-array {v0, v1, v2, v3}, [I",
         &[([7, 8, 9, 6], FULL, Same)],
     ),
-    // Strings and Class objects, which stand once.
+];
+
+/// Strings and Class objects, which stand once.
+pub const TEXTS_AND_CLASSES: &[Row] = &[
     (
         "const-string v0, \"abc\"\nconst-string v1, \"abc\"",
         &[(
@@ -443,7 +464,10 @@ pub const ROWS: &[Row] = &[
             New([NEW, 9, 0, 0], &[(NEW, &[97, 98, 99])]),
         )],
     ),
-    // Arrays that are filled: whole, in part, and not at all where they are too short.
+];
+
+/// Arrays that are filled: whole, in part, and not at all where they are too short.
+pub const ARRAYS_FILLED: &[Row] = &[
     (
         "fill-array-data v0, :data\nreturn-void\n:data\n.array-data 4\n1\n-1\n3\n.end array-data",
         &[([INTS, 0, 0, 0], ON, Words(INTS, &[1, MINUS_1, 3]))],
@@ -484,7 +508,10 @@ pub const ROWS: &[Row] = &[
         "fill-array-data v0, :data\nreturn-void\n:data\n.array-data 2\n-1\n.end array-data",
         &[([SHORTS, 0, 0, 0], ON, Words(SHORTS, &[MINUS_1, 7]))],
     ),
-    // Casts: null passes.
+];
+
+/// Casts: null passes.
+pub const CASTS: &[Row] = &[
     (
         "check-cast v0, Ljava/lang/String;",
         &[
@@ -524,7 +551,10 @@ pub const ROWS: &[Row] = &[
             ([TEXT, 0, 0, 0], CAST, Same),
         ],
     ),
-    // Instances: null is none.
+];
+
+/// Instances: null is none.
+pub const INSTANCES: &[Row] = &[
     (
         "instance-of v0, v1, Ljava/lang/String;",
         &[
@@ -564,7 +594,10 @@ pub const ROWS: &[Row] = &[
             ([9, INTS, 0, 0], ON, Registers([0, INTS, 0, 0])),
         ],
     ),
-    // Divisions.
+];
+
+/// Divisions.
+pub const DIVISIONS: &[Row] = &[
     (
         "div-int v0, v1, v2",
         &[
@@ -587,7 +620,10 @@ pub const ROWS: &[Row] = &[
             Registers([1, 0, MINUS_2, MINUS_1]),
         )],
     ),
-    // Throws.
+];
+
+/// Throws.
+pub const THROWS: &[Row] = &[
     (
         "throw v0",
         &[
