@@ -1,8 +1,9 @@
 // Steps of instructions on objects, arrays and fields over the image of a program, whose methods are the bodies of the rows.
 use crate::heaps::{slot_of, write};
 use crate::memory_rows::{
-    ARRAYS_FILLED, After, CASTS, CLASSES, Case, DIVISIONS, ELEMENTS_READ, ELEMENTS_STORED, FIELDS, INSTANCES,
-    LENGTHS, MADE, Made, OBJECTS_MADE, OBJECTS_STORED, ROOM, Row, STATIC_FIELDS, TEXTS_AND_CLASSES, THROWS,
+    ARRAYS_FILLED, After, CASTS, CLASSES, Case, DIVISIONS, ELEMENTS_READ, ELEMENTS_STORED, FIELDS,
+    INSTANCES, LENGTHS, MADE, Made, OBJECTS_MADE, OBJECTS_STORED, ROOM, Row, STATIC_FIELDS,
+    TEXTS_AND_CLASSES, THROWS,
 };
 use crate::tests::{linked, type_of};
 use dv_defs::{Image, Insn, MethodId, Next};
@@ -208,7 +209,7 @@ fn assert_rows<R: Abort>(rt: &R, alloc: Global, rows: &[Row]) {
         let place = first.checked_add(n).expect(rt, "few methods");
         let (body, cases) = row;
         for case in *cases {
-            let method = MethodId(place as u32);
+            let method = MethodId(slot_of(rt, place));
             assert_case(rt, alloc, &image, method, body, case);
         }
     }

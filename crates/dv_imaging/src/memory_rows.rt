@@ -260,38 +260,34 @@ pub const ELEMENTS_STORED: &[Row] = &[
 ];
 
 /// What an array of objects takes: null, and instances of its elements' type; the index is tested first.
-pub const OBJECTS_STORED: &[Row] = &[
-    (
-        "aput-object v0, v1, v2",
-        &[
-            ([TEXT, 0, MINUS_1, 0], NULL, Same),
-            ([TEXT, PS, MINUS_1, 0], INDEX, Same),
-            ([TEXT, PS, 2, 0], INDEX, Same),
-            ([TEXT, PS, 0, 0], STORE, Same),
-            ([INTS, PS, 0, 0], STORE, Same),
-            ([PS, PS, 0, 0], STORE, Same),
-            ([P, IS, 0, 0], STORE, Same),
-            ([P, PS, 1, 0], ON, Words(PS, &[P, P])),
-            ([Q, PS, 1, 0], ON, Words(PS, &[P, Q])),
-            ([0, PS, 0, 0], ON, Words(PS, &[0, 0])),
-            ([0, IS, 0, 0], ON, Words(IS, &[0])),
-            ([Q, IS, 0, 0], ON, Same),
-        ],
-    ),
-];
+pub const OBJECTS_STORED: &[Row] = &[(
+    "aput-object v0, v1, v2",
+    &[
+        ([TEXT, 0, MINUS_1, 0], NULL, Same),
+        ([TEXT, PS, MINUS_1, 0], INDEX, Same),
+        ([TEXT, PS, 2, 0], INDEX, Same),
+        ([TEXT, PS, 0, 0], STORE, Same),
+        ([INTS, PS, 0, 0], STORE, Same),
+        ([PS, PS, 0, 0], STORE, Same),
+        ([P, IS, 0, 0], STORE, Same),
+        ([P, PS, 1, 0], ON, Words(PS, &[P, P])),
+        ([Q, PS, 1, 0], ON, Words(PS, &[P, Q])),
+        ([0, PS, 0, 0], ON, Words(PS, &[0, 0])),
+        ([0, IS, 0, 0], ON, Words(IS, &[0])),
+        ([Q, IS, 0, 0], ON, Same),
+    ],
+)];
 
 /// How many elements an array has.
-pub const LENGTHS: &[Row] = &[
-    (
-        "array-length v0, v1",
-        &[
-            ([9, 0, 0, 0], NULL, Same),
-            ([9, INTS, 0, 0], ON, Registers([3, INTS, 0, 0])),
-            ([9, LONGS, 0, 0], ON, Registers([2, LONGS, 0, 0])),
-            ([9, PS, 0, 0], ON, Registers([2, PS, 0, 0])),
-        ],
-    ),
-];
+pub const LENGTHS: &[Row] = &[(
+    "array-length v0, v1",
+    &[
+        ([9, 0, 0, 0], NULL, Same),
+        ([9, INTS, 0, 0], ON, Registers([3, INTS, 0, 0])),
+        ([9, LONGS, 0, 0], ON, Registers([2, LONGS, 0, 0])),
+        ([9, PS, 0, 0], ON, Registers([2, PS, 0, 0])),
+    ],
+)];
 
 /// Fields of objects.
 pub const FIELDS: &[Row] = &[
@@ -623,12 +619,10 @@ pub const DIVISIONS: &[Row] = &[
 ];
 
 /// Throws.
-pub const THROWS: &[Row] = &[
-    (
-        "throw v0",
-        &[
-            ([0, 0, 0, 0], NULL, Same),
-            ([ERROR, 0, 0, 0], Next::ThrowRef(ERROR), Same),
-        ],
-    ),
-];
+pub const THROWS: &[Row] = &[(
+    "throw v0",
+    &[
+        ([0, 0, 0, 0], NULL, Same),
+        ([ERROR, 0, 0, 0], Next::ThrowRef(ERROR), Same),
+    ],
+)];
