@@ -1,5 +1,5 @@
 #!/usr/bin/env python3
-"""Times the calls of the engine's state: bench/state/NAME.txt, one of stack, heap and monitors, is made a program in a copy of the crates,
+"""Times the calls of the engine's state: bench/state/NAME.txt, one of stack, heap, monitors, local and objects, is made a program in a copy of the crates,
 proved, built and run. Each line of its output has what was done, how much of it, and microseconds of processor time.
 
 Usage: bench/state.py NAME.
