@@ -3,3 +3,4 @@ pub mod Cutting
 pub mod Naming
 pub mod Popping
 pub mod Room
+pub mod Bits

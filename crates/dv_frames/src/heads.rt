@@ -1,6 +1,7 @@
 // A frame without its registers.
 ghost use Rattle.std.specs.Prelude.{◌≡◌, []};
 ghost use Rattle.dv_words.specs.Stacks as frames;
+ghost use Rattle.dv_words.specs.Standing.{CaughtFits, KeptFits};
 ghost use Rattle.dv_frames.specs.Heads.{head_in, on_head};
 
 use dv_defs::MethodId;
@@ -14,6 +15,27 @@ pub struct Head {
     pub at: u32,
     pub result: Kept,
     pub caught: Option<u32>,
+}
+
+/// A kept result is of `u32`s: does nothing.
+pub fn kept_fits(kept: Kept)
+    ensures { KeptFits kept }
+{
+    match kept {
+        Kept::None => {}
+        Kept::One(_word) => {}
+        Kept::Two(_low, _high) => {}
+    }
+}
+
+/// The number of what is caught is a `u32`: does nothing.
+pub fn caught_fits(caught: Option<u32>)
+    ensures { CaughtFits caught }
+{
+    match caught {
+        None => {}
+        Some(_object) => {}
+    }
 }
 
 /// As a method begins.

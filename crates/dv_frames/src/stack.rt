@@ -2,18 +2,27 @@
 ghost use Rattle.std.specs.Prelude.{◌≡◌, length, true, false, IfOk, IfSome, OnErr, OnOk, Some};
 ghost use Rattle.dv_words.specs.Stacks.{arg_words, changed, empty, entered, first, given as given_frame, gone, handling as handling_frame, has_room, popped, size_of, top_regs, with_word};
 ghost use Rattle.dv_words.specs.Words.{word_at};
+ghost use Rattle.dv_words.specs.Standing.{AllFit, IsSmall};
+ghost use Rattle.dv_words.specs.declared.state.Frame.{Frame as Activation};
 ghost use Rattle.dv_words.specs.declared.state.Level.TheVariants as words_level;
 ghost use Rattle.dv_frames.specs.Heads.{frame as framed};
 ghost use Rattle.dv_frames.specs.Tops.{head_of, moved, started, top_of, IsCode, IsPushed};
 
 use crate::arguments::{add_args, add_words, add_zeros, count};
-use crate::heads::{Head, begin, given, go, handling, head_of_frame};
+use crate::heads::{Head, begin, caught_fits, given, go, handling, head_of_frame, kept_fits};
 use crate::levels::{Level, Top, add_level, base_of, last, set_last, start_last};
 use crate::registers::{read, write};
 use dv_defs::{ClassId, MethodId, Regs, Seq};
 use dv_words::{Frame, Kept};
 use std::alloc::{AllocError, Global};
 use std::marker::Model;
+
+/// Words are `u32`: does nothing.
+fn words_fit(words: &[u32])
+    ensures { AllFit words.now }
+{
+    let _ = words.len();
+}
 
 /// A stack has no room for one level more: its levels or its words would be too many.
 #[derive(Clone, Copy, PartialEq, Eq, Debug)]
@@ -172,6 +181,18 @@ impl Stack {
                 at: head.at,
             }),
             Some(Level::Init { class, running }) => Some(Top::Init { class, running }),
+        }
+    }
+
+    /// What the frame on top holds are `u32`s: does nothing. The laws of steps take it.
+    #[tactic(auto, using(crate::proofs::Bits::on_top))]
+    pub fn top_fits(&self)
+        ensures { (f : Activation) → first self.now.levels ≡ Some (words_level.Code f) → IsSmall f }
+    {
+        words_fit(self.words.as_slice());
+        if let Some(Level::Code { head, .. }) = last(self.levels.as_slice()) {
+            kept_fits(head.result);
+            caught_fits(head.caught);
         }
     }
 

@@ -2,3 +2,4 @@ pub mod Laying
 pub mod Tagging
 pub mod FieldWords
 pub mod Kept
+pub mod Bits

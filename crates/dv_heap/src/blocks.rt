@@ -1,7 +1,9 @@
 // Blocks of words in one vector, with a table of where they begin.
-ghost use Rattle.std.specs.Prelude.{◌≡◌, ◌<◌, ◌≤◌, ◌+◌, ◌++◌, ◌∷◌, ◌^◌, [], take, drop, length, slice_index, slice_set, OnOk, OnErr, IfOk, IsOk, vec_len};
+ghost use Rattle.std.specs.Prelude.{◌≡◌, ◌<◌, ◌≤◌, ◌+◌, ◌++◌, ◌∷◌, ◌^◌, [], All, map, take, drop, length, slice_index, slice_set, OnOk, OnErr, IfOk, IsOk, vec_len};
+ghost use Rattle.dv_words.specs.Standing.{AllFit};
 ghost use Rattle.std.specs.Vec.{vec_capacity};
 ghost use Rattle.dv_heap.specs.Blocks.{block_at, written, filling, laid_block};
+ghost use Rattle.dv_heap.specs.Objects.{words_by};
 
 use crate::contents::Contents;
 use std::alloc::{AllocError, Global};
@@ -23,6 +25,13 @@ impl Model for Blocks {
     ghost view = { λ b. read_all b.starts.items b.words.items };
 
     ghost invariant = { λ b. AreLaid b.starts.items b.words.items };
+}
+
+/// Words are `u32`.
+fn have_bits(words: &[u32])
+    ensures { AllFit words.now }
+{
+    let _ = words.len();
 }
 
 /// Adds the units as words, for which there is room.
@@ -90,6 +99,14 @@ impl Blocks {
             words: Vec::new(alloc),
             starts: Vec::new(alloc),
         }
+    }
+
+    /// Words are `u32`: does nothing.
+    #[tactic(auto, using(crate::proofs::Bits::read_fits))]
+    pub fn words_fit(&self)
+        ensures { All AllFit (map words_by self.now) }
+    {
+        have_bits(&self.words);
     }
 
     /// How many blocks there are.

@@ -1,5 +1,6 @@
 // The heap of the guest.
 ghost use Rattle.std.specs.Prelude.{◌≡◌, ◌≢◌, ℕ, ◌<◌, ◌+◌, ◌^◌, [], map, None, length, slice_index, slice_index_or, is_some, Some, IsSome, IfOk};
+ghost use Rattle.dv_words.specs.Standing.{HeapFits};
 ghost use Rattle.dv_words.specs.declared.state.Kind.TheVariants as kind;
 ghost use Rattle.dv_words.specs.Heaps.{kind_of, length_of, words_of_object, word_in, with_word, static_in, with_static, uncounted, counting};
 ghost use Rattle.dv_heap.specs.Answers.{HasWord, HasStatic};
@@ -55,6 +56,14 @@ impl Heap {
             used: 0,
             limit: None,
         }
+    }
+
+    /// The heap's words are `u32`: does nothing. The laws of steps take it.
+    pub fn words_fit(&self)
+        ensures { HeapFits self.now }
+    {
+        self.objects.words_fit();
+        self.statics.words_fit();
     }
 
     /// No objects, the static fields as they are declared, and no limit.

@@ -1,5 +1,6 @@
 // Objects by their numbers: a block of words for each, whose tag says its kind.
-ghost use Rattle.std.specs.Prelude.{◌≡◌, ◌<◌, ◌+◌, [], length, slice_index, is_some, pred, IfOk, OnErr, IsSome, Some};
+ghost use Rattle.std.specs.Prelude.{◌≡◌, ◌<◌, ◌+◌, [], All, length, slice_index, is_some, pred, IfOk, OnErr, IsSome, Some};
+ghost use Rattle.dv_words.specs.Standing.{AllFit};
 ghost use Rattle.dv_heap.specs.Blocks.{filling};
 ghost use Rattle.dv_heap.specs.Objects.{kind_in, words_in, with_object, with_object_word};
 
@@ -46,6 +47,13 @@ impl Objects {
             blocks: Blocks::new(alloc),
             kinds: Kinds::new(alloc),
         }
+    }
+
+    /// Words are `u32`: does nothing.
+    pub fn words_fit(&self)
+        ensures { All AllFit self.now.cells }
+    {
+        self.blocks.words_fit();
     }
 
     /// Whether an object has this number.

@@ -10,12 +10,12 @@ use Rattle.dv_machine.specs.State.{Machine}
 use Rattle.dv_machine.specs.Step as machine
 use Rattle.dv_machine.specs.StepLaws.{IsMain}
 use Rattle.dv_machine.specs.WellTyped.{Typings, WellTyped}
-use Rattle.dv_words.specs.Standing.{MachineFits, MachineStands}
+use Rattle.dv_words.specs.Standing.{MachineStands}
 use Rattle.dv_words.specs.State.{WordMachine}
 use Rattle.dv_steps.specs.Laws.{IsBounded}
 use Rattle.dv_steps.specs.Opening as words
 use Rattle.dv_steps.specs.Step.{step}
-use Rattle.dv_steps.specs.StepLaws.{ImageFits, InitsAreTexts, IsFit, StaticsAreWhole, StringsFit}
+use Rattle.dv_steps.specs.StepLaws.{ImageFits, InitsAreTexts, IsFit, ReadsFit, StaticsAreWhole, StringsFit}
 
 -- look-ups find what they say, natives have their own prototypes, no string has a field
 abbrev pub AcceptedImagesFit : Type 0
@@ -41,7 +41,7 @@ pub record IsSimulatedStep (image : Image) (T : Typings) (w : WordMachine) (m : 
 -- from a state with no ending, of each runnable thread
 abbrev pub AcceptedStepsFollow : Type 0
 AcceptedStepsFollow =
-    (image : Image) (T : Typings) (w : WordMachine) (m : Machine) (t : ℕ) → Accepted image T → StringsFit image → MachineFits w →
+    (image : Image) (T : Typings) (w : WordMachine) (m : Machine) (t : ℕ) → Accepted image T → StringsFit image → ReadsFit w t →
     IsSimulated image T w m → ending_of image m ≡ None → runnable image m t ≡ true → IsSimulatedStep image T w m t
 
 -- the words in which a run of a main method begins stand for the tagged machine's opening state, which is well typed

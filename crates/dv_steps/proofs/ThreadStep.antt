@@ -1,9 +1,9 @@
 -- A step of a thread on words goes where the tagged machine's goes.
-use Rattle.std.proofs.Common.{◌≡◌, ℕ, zero, suc, ◌++◌, Bool, true, false, Option, Some, None, Ok, List, [], ◌∷◌, All, refl, sym, ap, ◌∙◌, subst}
+use Rattle.std.proofs.Common.{◌≡◌, ℕ, zero, suc, ◌++◌, Bool, true, false, Option, Some, None, Ok, List, [], ◌∷◌, refl, sym, ap, ◌∙◌, subst}
 use Rattle.std.specs.Prelude.{if◌then◌else◌, slice_get, slice_set}
 use Rattle.std.specs.List.{AllZip}
 use Rattle.std.specs.Option.{option_to_list}
-use Rattle.std.proofs.lemmas.List.Elements.{All-head, All-nil, All-tail}
+use Rattle.std.proofs.lemmas.List.Elements.{All-nil}
 use Rattle.dv_defs.specs.declared.machine.End.{End}
 use Rattle.dv_defs.specs.declared.machine.End.TheVariants as end
 use Rattle.dv_defs.specs.declared.machine.Frame as tagged_frame
@@ -30,11 +30,11 @@ use Rattle.dv_words.specs.declared.state.Frame.{Frame}
 use Rattle.dv_words.specs.declared.state.Level.{Level}
 use Rattle.dv_words.specs.declared.state.Level.TheVariants as level
 use Rattle.dv_words.specs.Heaps as words
-use Rattle.dv_words.specs.Standing.{Fits, FrameFits, FrameStands, LevelFits, LevelsStand, MachineFits, MachineStands, ThreadFits, ThreadStands}
+use Rattle.dv_words.specs.Standing.{Fits, FrameFits, FrameStands, LevelsStand, MachineStands, ThreadStands}
 use Rattle.dv_words.specs.State.{WordHeap, WordMachine, WordThread}
 use Rattle.dv_steps.specs.Laws.{IsBounded, OperandsFit, PutsInMade}
 use Rattle.dv_steps.specs.Step as over
-use Rattle.dv_steps.specs.StepLaws.{AtStands, CallFits, ImageFits, IsFit, LeavesStand, OperationsFit, OutcomeStands, StartedStands, StepsFollow}
+use Rattle.dv_steps.specs.StepLaws.{AtStands, CallFits, ImageFits, IsFit, LeavesStand, OperationsFit, OutcomeStands, ReadsFit, StartedStands, StepsFollow, TopFits}
 use Rattle.dv_steps.specs.Steps as steps
 use Rattle.dv_steps.specs.Unwinding as falling
 use Rattle.dv_steps.proofs.Added.{OptionStands, newest_is, object_added}
@@ -152,7 +152,7 @@ module _ (w : WordMachine) (m : Machine) (t : ℕ) (stands : MachineStands w m) 
 
 -- ---- a step
 
-module _ (image : Image) (w : WordMachine) (m : Machine) (t : ℕ) (image_fits : ImageFits image) (operations : OperationsFit image) (fits : MachineFits w) (fit : IsFit image m) (stands : MachineStands w m) (x : WordThread) (th : Thread) (one : ThreadStands x th) (n : Machine) where
+module _ (image : Image) (w : WordMachine) (m : Machine) (t : ℕ) (image_fits : ImageFits image) (operations : OperationsFit image) (fits : ReadsFit w t) (fit : IsFit image m) (stands : MachineStands w m) (x : WordThread) (th : Thread) (one : ThreadStands x th) (n : Machine) where
   same_state : (let r : Reads Machine = Ok m in r) ≡ Ok n → After w n
   same_state is = subst (After w) (same_machine w m t stands fit.bounded x th one m n is) (stands, fit.bounded)
 
@@ -171,7 +171,7 @@ module _ (image : Image) (w : WordMachine) (m : Machine) (t : ℕ) (image_fits :
     bounded = fit.bounded;
     chars = fit.chars;
     frame_fits = small;
-    heap_fits = fits.1;
+    heap_fits = fits.heap;
   }
 
   no_frames : FrameStands over.no_frame step.no_frame
@@ -195,7 +195,7 @@ module _ (image : Image) (w : WordMachine) (m : Machine) (t : ℕ) (image_fits :
       subst (λ (a : Option statics.At). After (over.step_at image w t x own s ss a) n) (sym same)
       (at_by own s f ss ls (fetch image f.method.0 f.at) frame rest small (λ y found. let good = operations f.method.0 f.at y found in (good.0, good.1, made y found)) is)
 
-  living_by : (ss : List Level) (ls : List tagged_level.Level) → LevelsStand ss ls → All LevelFits ss → ((f : tagged_frame.Frame) (ks : List tagged_level.Level) (y : statics.At) → ls ≡ level_of_tagged.Code f ∷ ks → fetch image f.method.0 f.at ≡ Some y → PutsInMade m.shared.heap f.regs y.op) → step.step_living image m t th ls ≡ Ok n → After (over.step_living image w t x ss) n
+  living_by : (ss : List Level) (ls : List tagged_level.Level) → LevelsStand ss ls → TopFits ss → ((f : tagged_frame.Frame) (ks : List tagged_level.Level) (y : statics.At) → ls ≡ level_of_tagged.Code f ∷ ks → fetch image f.method.0 f.at ≡ Some y → PutsInMade m.shared.heap f.regs y.op) → step.step_living image m t th ls ≡ Ok n → After (over.step_living image w t x ss) n
   living_by [] [] all small made is = same_state is
   living_by [] (l ∷ ls) all small made is = absurd all
   living_by (s ∷ ss) [] all small made is = absurd all
@@ -204,14 +204,14 @@ module _ (image : Image) (w : WordMachine) (m : Machine) (t : ℕ) (image_fits :
   living_by (level.Code s ∷ ss) (level_of_tagged.Code f ∷ ls) all small made is =
       let frame : FrameStands s f = all.0 in
       subst (λ (own : Option Method). After (over.step_code image w t x s ss own) n) (sym (ap (λ (k : MethodId). method_at image k.0) frame.method))
-      (code_by s f ss ls (method_at image f.method.0) frame all.1 (All-head LevelFits (level.Code s) ss small) (λ y found. made f ls y refl found) is)
+      (code_by s f ss ls (method_at image f.method.0) frame all.1 small (λ y found. made f ls y refl found) is)
   living_by (level.Init c r ∷ ss) (level_of_tagged.Init d q ∷ ls) all small made is =
       let there = here_stands step.no_method over.no_frame step.no_frame ss ls 0 no_frames all.1 no_frame_fits in
       subst (λ (k : ClassId). After (over.settled image w t x None (over.record_step (over.here image w t step.no_method over.no_frame ss 0) k.0 r)) n) (sym all.0.0)
       (subst (λ (b : Bool). After (over.settled image w t x None (over.record_step (over.here image w t step.no_method over.no_frame ss 0) d.0 b)) n) (sym all.0.1)
       (settled_stands w m t stands fit.bounded x th one image None _ _ n (record_stands (over.here image w t step.no_method over.no_frame ss 0) (step.here image m t step.no_method step.no_frame ls 0) there d.0 q) is))
 
-  flight_by : (o : ℕ) (ss : List Level) (ls : List tagged_level.Level) → LevelsStand ss ls → All LevelFits ss → step.step_flight image m t th o ls ≡ Ok n → After (over.step_flight image w t x o ss) n
+  flight_by : (o : ℕ) (ss : List Level) (ls : List tagged_level.Level) → LevelsStand ss ls → TopFits ss → step.step_flight image m t th o ls ≡ Ok n → After (over.step_flight image w t x o ss) n
   flight_by o [] [] all small is = same_state is
   flight_by o [] (l ∷ ls) all small is = absurd all
   flight_by o (s ∷ ss) [] all small is = absurd all
@@ -219,7 +219,7 @@ module _ (image : Image) (w : WordMachine) (m : Machine) (t : ℕ) (image_fits :
   flight_by o (level.Code s ∷ ss) (level_of_tagged.Init d q ∷ ls) all small is = absurd all.0
   flight_by o (level.Code s ∷ ss) (level_of_tagged.Code f ∷ ls) all small is =
       let frame : FrameStands s f = all.0 in
-      let there = here_stands step.no_method s f ss ls 0 frame all.1 (All-head LevelFits (level.Code s) ss small) in
+      let there = here_stands step.no_method s f ss ls 0 frame all.1 small in
       let catchers = handlers_at image f.method.0 f.at in
       let same : handlers_at image s.method.0 s.at ≡ catchers = ap (λ (k : MethodId). handlers_at image k.0 s.at) frame.method ∙ ap (handlers_at image f.method.0) frame.at in
       let to : falling.handler_for image w.shared.heap o (handlers_at image s.method.0 s.at) ≡ flight.handler_for image m.shared.heap o catchers =
@@ -231,18 +231,13 @@ module _ (image : Image) (w : WordMachine) (m : Machine) (t : ℕ) (image_fits :
       subst (λ (k : ClassId). After (over.settled_flight w t x (falling.unwind_record (over.here image w t step.no_method over.no_frame ss 0) k.0 o)) n) (sym all.0.0)
       (settled_flight_stands w m t stands fit.bounded x th one (over.here image w t step.no_method over.no_frame ss 0) (step.here image m t step.no_method step.no_frame ls 0) there _ _ n (record_unwound (over.here image w t step.no_method over.no_frame ss 0) (step.here image m t step.no_method step.no_frame ls 0) there d.0 o) is)
 
-  end_by : (a b : End) → a ≡ b → ThreadFits x → (b ≡ end.Living → (f : tagged_frame.Frame) (ks : List tagged_level.Level) (y : statics.At) → th.levels ≡ level_of_tagged.Code f ∷ ks → fetch image f.method.0 f.at ≡ Some y → PutsInMade m.shared.heap f.regs y.op) → step.step_thread image m t th b ≡ Ok n → After (over.step_thread image w t x a) n
+  end_by : (a b : End) → a ≡ b → TopFits x.levels → (b ≡ end.Living → (f : tagged_frame.Frame) (ks : List tagged_level.Level) (y : statics.At) → th.levels ≡ level_of_tagged.Code f ∷ ks → fetch image f.method.0 f.at ≡ Some y → PutsInMade m.shared.heap f.regs y.op) → step.step_thread image m t th b ≡ Ok n → After (over.step_thread image w t x a) n
   end_by a end.Living same small made is = subst (λ (e : End). After (over.step_thread image w t x e) n) (sym same) (living_by x.levels th.levels one.levels small (made refl) is)
   end_by a (end.Flying o) same small made is = subst (λ (e : End). After (over.step_thread image w t x e) n) (sym same) (flight_by o x.levels th.levels one.levels small is)
   end_by a end.Returned same small made is = subst (λ (e : End). After (over.step_thread image w t x e) n) (sym same) (same_state is)
   end_by a (end.Died o) same small made is = subst (λ (e : End). After (over.step_thread image w t x e) n) (sym same) (same_state is)
 
 -- ---- a thread by its number
-
-fits_at : (ws : List WordThread) (k : ℕ) (x : WordThread) → All ThreadFits ws → slice_get ws k ≡ Some x → ThreadFits x
-fits_at [] k x all is = absurd (cc)
-fits_at (w ∷ ws) zero x all is = let e : w ≡ x = cc in subst ThreadFits e (All-head ThreadFits w ws all)
-fits_at (w ∷ ws) (suc k) x all is = fits_at ws k x (All-tail ThreadFits w ws all) is
 
 pub steps_follow : StepsFollow
 steps_follow image w m n t image_fits operations fits fit stands is = by (slice_get w.threads t) (slice_get m.threads t) refl refl (thread_at w.threads m.threads t stands.threads) is
@@ -254,4 +249,4 @@ steps_follow image w m n t image_fits operations fits fit stands is = by (slice_
     by None None has found both e = subst (λ (k : Machine). MachineStands w k × IsBounded k.shared.heap) (same e) (stands, fit.bounded)
     by None (Some th) has found both e = absurd both
     by (Some x) None has found both e = absurd both
-    by (Some x) (Some th) has found both e = end_by image w m t image_fits operations fits fit stands x th both n x.end th.end both.end (fits_at w.threads t x fits.0 has) (λ living f ks y levels there. fit.made t th f ks y found living levels there) e
+    by (Some x) (Some th) has found both e = end_by image w m t image_fits operations fits fit stands x th both n x.end th.end both.end (fits.top x has) (λ living f ks y levels there. fit.made t th f ks y found living levels there) e

@@ -23,7 +23,7 @@ use Rattle.dv_machine.specs.Step as machine
 use Rattle.dv_words.specs.declared.state.Frame as words_frame
 use Rattle.dv_words.specs.declared.state.Level as words_level
 use Rattle.dv_words.specs.declared.state.Level.TheVariants as level_of_words
-use Rattle.dv_words.specs.Standing.{AreWhole, FrameFits, FrameStands, HeapFits, LevelsStand, MachineFits, MachineStands, SharedStands, ThreadStands}
+use Rattle.dv_words.specs.Standing.{AreWhole, FrameFits, FrameStands, HeapFits, LevelsStand, MachineStands, SharedStands, ThreadStands}
 use Rattle.dv_words.specs.State.{WordMachine, WordThread}
 use Rattle.dv_steps.specs.Laws.{IsBounded, IsNoString, IsPlain, IsUnit, OperandsFit, PutsInMade}
 use Rattle.dv_steps.specs.Opening as words_opening
@@ -121,10 +121,20 @@ pub record IsFit (image : Image) (m : Machine) : Type 0 where
   pub chars : CharsAreNumbers image m.shared.heap
   pub made : PutsAreMade image m
 
+-- the words of the frame on top, where that is code, have 32 bits
+abbrev pub TopFits : List words_level.Level → Type 0
+TopFits (level_of_words.Code s ∷ ls) = FrameFits s
+TopFits ls = Unit {0}
+
+-- the words that a step of this thread reads: those of its frame on top, and those of the heap
+pub record ReadsFit (w : WordMachine) (t : ℕ) : Type 0 where
+  pub top : (th : WordThread) → slice_get w.threads t ≡ Some th → TopFits th.levels
+  pub heap : HeapFits w.shared.heap
+
 -- from words that stand for a state, the step on words leads to words that stand for the state after the tagged step
 abbrev pub StepsFollow : Type 0
 StepsFollow =
-    (image : Image) (w : WordMachine) (m n : Machine) (t : ℕ) → ImageFits image → OperationsFit image → MachineFits w → IsFit image m →
+    (image : Image) (w : WordMachine) (m n : Machine) (t : ℕ) → ImageFits image → OperationsFit image → ReadsFit w t → IsFit image m →
     MachineStands w m → machine.step image m t ≡ Ok n → MachineStands (step image w t) n × IsBounded n.shared.heap
 
 -- ---- what the units and pools spell

@@ -1,5 +1,5 @@
 -- The tagged values, frames and heaps that words stand for, by cases.
-use Rattle.std.specs.Prelude.{◌≡◌, ◌<◌, ◌^◌, ℕ, List, [], ◌∷◌, ℤ, pos, negsuc, All, map}
+use Rattle.std.specs.Prelude.{◌≡◌, ◌<◌, ◌^◌, ℕ, List, [], ◌∷◌, ℤ, pos, negsuc, Option, Some, None, All, map}
 use Rattle.std.specs.List.{AllZip}
 use Rattle.dv_defs.specs.declared.run.Value.{Value}
 use Rattle.dv_defs.specs.declared.run.Value.TheVariants as v
@@ -136,6 +136,23 @@ ResultFits k = Unit {0}
 
 abbrev pub FrameFits : Frame → Type 0
 FrameFits s = AllFit s.regs × ResultFits s.result
+
+-- the same of both words of a long
+abbrev pub KeptFits : Kept → Type 0
+KeptFits kept.None = Unit {0}
+KeptFits (kept.One w) = Fits w
+KeptFits (kept.Two low high) = Fits low × Fits high
+
+-- ... and of the number of an object that is caught
+abbrev pub CaughtFits : Option ℕ → Type 0
+CaughtFits None = Unit {0}
+CaughtFits (Some o) = Fits o
+
+-- all that a frame holds has 32 bits
+pub record IsSmall (s : Frame) : Type 0 where
+  pub regs : AllFit s.regs
+  pub result : KeptFits s.result
+  pub caught : CaughtFits s.caught
 
 abbrev pub LevelFits : Level → Type 0
 LevelFits (level.Code s) = FrameFits s
