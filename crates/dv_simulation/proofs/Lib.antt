@@ -7,3 +7,6 @@ mod Waits
 mod Receivers
 mod Blocked
 mod Endings
+mod Starts
+mod Others
+mod Locals
