@@ -10,3 +10,4 @@ mod Endings
 mod Starts
 mod Others
 mod Locals
+mod Statics

@@ -4,6 +4,7 @@
 
 ghost use Rattle.dv_simulation.specs.Laws.{AcceptedImagesFit, AcceptedStepsFollow, OpeningsAreSimulated, TypedStatesFit};
 ghost use Rattle.dv_simulation.specs.RunningLaws.{RunningFollows};
+ghost use Rattle.dv_simulation.specs.ImageLaws.{StaticsAreWholeOfLinked};
 ghost use Rattle.dv_simulation.specs.KeepLaws.{LocalsStay, NextIsAlike, StepsLeaveOthers};
 
 /// An image that the verifier accepts is what the laws of steps on words take.
@@ -47,4 +48,9 @@ pub fn locals_stay()
 /// Whether a thread's next step is local is told by words that stand for the state.
 pub fn next_is_alike()
     ensures law { NextIsAlike }
+{}
+
+/// Numbers with which the static fields of a linked image are declared have 32 bits, or are a long's.
+pub fn statics_are_whole_of_linked()
+    ensures law { StaticsAreWholeOfLinked }
 {}
