@@ -7,3 +7,7 @@ mod Waits
 mod Receivers
 mod Blocked
 mod Endings
+mod Starts
+mod Others
+mod Locals
+mod Statics
