@@ -1,13 +1,13 @@
 pub mod Fields
-mod Chars
-mod Puts
-mod Steps
-mod Landings
-mod Waits
-mod Receivers
-mod Blocked
-mod Endings
-mod Starts
-mod Others
-mod Locals
-mod Statics
+pub mod Chars
+pub mod Puts
+pub mod Steps
+pub mod Landings
+pub mod Waits
+pub mod Receivers
+pub mod Blocked
+pub mod Endings
+pub mod Starts
+pub mod Others
+pub mod Locals
+pub mod Statics

@@ -1,5 +1,5 @@
 -- What an engine that stands at a state of the tagged machine comes to.
-use Rattle.std.specs.Prelude.{◌≡◌, ◌≤◌, ◌<◌, ◌+◌, ◌^◌, ◌&&◌, ℕ, Bool, false, not, length, is_none, nat_eq, Result, Ok, Err}
+use Rattle.std.specs.Prelude.{◌≡◌, ◌≤◌, ◌<◌, ◌+◌, ◌^◌, ◌&&◌, ℕ, Bool, false, not, length, is_none, nat_eq, nat_lt, Result, Ok, Err}
 use Rattle.dv_defs.specs.declared.run.Limits.{Limits}
 use Rattle.dv_defs.specs.Images.{Image}
 use Rattle.dv_machine.specs.Accepted.{Accepted}
@@ -41,6 +41,10 @@ pub record StandsAt (image : Image) (T : Typings) (v : Vm) (m : Machine) : Type 
   pub counted : v.limits.budget < 2 ^ 64
 
 -- ---- what it may do
+
+-- nothing stopped the run, and its steps aren't spent
+abbrev pub goes_on : Vm → Bool
+goes_on v = is_none v.stop && nat_lt v.steps v.limits.budget
 
 -- the run goes on, and the thread is runnable
 abbrev pub may_step : Image → Machine → ℕ → Bool

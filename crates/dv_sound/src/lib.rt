@@ -2,6 +2,7 @@
 //! machine that is stuck.
 #![tactic(auto)]
 
+mod error;
 mod moves;
 mod playing;
 mod premises;
@@ -9,5 +10,8 @@ mod replay;
 mod safe;
 mod seeded;
 
-pub use replay::ReplayError;
+pub use error::ReplayError;
 pub use safe::SafeVm;
+
+#[cfg(test)]
+mod tests;

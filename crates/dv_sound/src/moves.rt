@@ -11,11 +11,22 @@ use dv_core::Vm;
 use dv_defs::Image;
 use std::alloc::AllocError;
 
+/// Whether nothing stopped the run, and its steps aren't spent.
+fn goes_on(vm: &Vm) -> bool
+    ensures { result ≡ moves.goes_on vm.now }
+{
+    vm.stop.is_none() && vm.steps < vm.limits.budget
+}
+
 /// Whether the run goes on and a thread is runnable.
 pub fn may_step(image: &Image, vm: &Vm, thread: u32) -> bool
     ensures { (T : Typings) (m : Machine) → IsGood image.now T → StandsAt image.now T vm.now m → result ≡ moves.may_step image.now m thread }
 {
-    vm.stop.is_none() && vm.steps < vm.limits.budget && vm.runnable(image, thread)
+    if goes_on(vm) {
+        vm.runnable(image, thread)
+    } else {
+        false
+    }
 }
 
 /// A step of a thread that may step.
@@ -59,7 +70,7 @@ pub fn run_on(image: &Image, vm: &mut Vm, thread: u32, most: u32) -> u32
 /// Want of memory; the engine stands where it stood then.
 pub fn last_on(image: &Image, vm: &mut Vm, thread: u32) -> Result<u32, AllocError>
     ensures few { IfOk result (λ n. n ≤ 1) }
-    ensures { (T : Typings) (m : Machine) → IsGood image.now T → StandsAt image.now T vm.old m → Lasts result image.now T m thread vm.old vm.new }
+    ensures last { (T : Typings) (m : Machine) → IsGood image.now T → StandsAt image.now T vm.old m → Lasts result image.now T m thread vm.old vm.new }
 {
     if !may_step(image, vm, thread) {
         return Ok(0);

@@ -7,7 +7,7 @@ ghost use Rattle.dv_core.specs.Guests.{IsOrdered};
 ghost use Rattle.dv_core.specs.Machines.{machine_of};
 ghost use Rattle.dv_core.specs.Watching.{AreWatchable};
 ghost use Rattle.dv_sound.specs.Moves.{AreUsable};
-ghost use Rattle.dv_sound.specs.Runs.{HasMain, IsAt, IsAtSome, IsOpened, IsReady, IsSameRun, IsTurned, MayTurn, NoneIsReady};
+ghost use Rattle.dv_sound.specs.Runs.{HasMain, IsAt, IsAtSome, IsKept, IsOpened, IsReady, IsSameRun, IsTurned, MayTurn, NoneIsReady};
 
 use crate::moves::{may_step, take_turn};
 use crate::premises::{inits_fit, is_accepted, strings_fit};
@@ -83,6 +83,20 @@ impl<'v> SafeVm<'v> {
             log: Vec::new(alloc),
             lent: Vec::new(alloc),
         })
+    }
+
+    /// An engine that a schedule led to where it stands, no thread of which is lent.
+    pub fn standing(verified: &'v Verified, main: MethodId, vm: Vm, log: Vec<Entry>, lent: Vec<u32>) -> SafeVm<'v>
+        requires kept { IsKept verified.now.image main vm log.items lent.items }
+        ensures { result ≡ record { verified = verified.now; main = main; machine = machine_of vm; log = log.items; lent = lent.items } }
+    {
+        SafeVm {
+            verified,
+            main,
+            vm,
+            log,
+            lent,
+        }
     }
 
     /// The program that is run.
