@@ -7,3 +7,9 @@ mod Waits
 mod Receivers
 mod Blocked
 mod Endings
+mod Bits
+mod Constants
+mod Small
+mod Going
+mod Replays
+mod Locals

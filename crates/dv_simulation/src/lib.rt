@@ -4,6 +4,7 @@
 
 ghost use Rattle.dv_simulation.specs.Laws.{AcceptedImagesFit, AcceptedStepsFollow, OpeningsAreSimulated, TypedStatesFit};
 ghost use Rattle.dv_simulation.specs.RunningLaws.{RunningFollows};
+ghost use Rattle.dv_simulation.specs.TurnLaws.{LocalsFollow};
 
 /// An image that the verifier accepts is what the laws of steps on words take.
 pub fn accepted_images_fit()
@@ -30,4 +31,9 @@ pub fn openings_are_simulated()
 /// tagged machine's.
 pub fn running_follows()
     ensures law { RunningFollows }
+{}
+
+/// So many local instructions of the frame on top, done on words, are as many steps of the tagged machine: of a turn and of a schedule.
+pub fn locals_follow()
+    ensures law { LocalsFollow }
 {}
