@@ -9,5 +9,11 @@ pub mod Blocked
 pub mod Endings
 pub mod Starts
 pub mod Others
-pub mod Locals
+pub mod Staying
 pub mod Statics
+pub mod Bits
+pub mod Constants
+pub mod Small
+pub mod Going
+pub mod Replays
+pub mod Locals

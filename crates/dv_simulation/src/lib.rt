@@ -6,6 +6,7 @@ ghost use Rattle.dv_simulation.specs.Laws.{AcceptedImagesFit, AcceptedStepsFollo
 ghost use Rattle.dv_simulation.specs.RunningLaws.{RunningFollows};
 ghost use Rattle.dv_simulation.specs.ImageLaws.{StaticsAreWholeOfLinked};
 ghost use Rattle.dv_simulation.specs.KeepLaws.{LocalsStay, NextIsAlike, StepsLeaveOthers};
+ghost use Rattle.dv_simulation.specs.TurnLaws.{LocalsFollow};
 
 /// An image that the verifier accepts is what the laws of steps on words take.
 pub fn accepted_images_fit()
@@ -53,4 +54,7 @@ pub fn next_is_alike()
 /// Numbers with which the static fields of a linked image are declared have 32 bits, or are a long's.
 pub fn statics_are_whole_of_linked()
     ensures law { StaticsAreWholeOfLinked }
+/// So many local instructions of the frame on top, done on words, are as many steps of the tagged machine: of a turn and of a schedule.
+pub fn locals_follow()
+    ensures law { LocalsFollow }
 {}
