@@ -54,6 +54,8 @@ pub fn next_is_alike()
 /// Numbers with which the static fields of a linked image are declared have 32 bits, or are a long's.
 pub fn statics_are_whole_of_linked()
     ensures law { StaticsAreWholeOfLinked }
+{}
+
 /// So many local instructions of the frame on top, done on words, are as many steps of the tagged machine: of a turn and of a schedule.
 pub fn locals_follow()
     ensures law { LocalsFollow }

@@ -110,3 +110,23 @@ none_of (Some x) e = absurd (cc e)
 
 pub may_parts : (image : Image) (m : Machine) (t : ℕ) → may_step image m t ≡ true → (ending_of image m ≡ None) × (runnable image m t ≡ true)
 may_parts image m t e = let both = and_parts (is_none (ending_of image m)) (runnable image m t) e in (none_of (ending_of image m) both.0, both.1)
+
+-- where the run goes on, the budget has room for a step
+module _ (image : Image) (T : Typings) (v : Vm) (m : Machine) (good : IsGood image T) (at : StandsAt image T v m) where
+  budget_open : ending_of image m ≡ None → nat_eq m.steps m.limits.budget ≡ false
+  budget_open going = by m.stop refl
+    where
+      unspent : (b : Bool) → nat_eq m.steps m.limits.budget ≡ b → ending_without_stop image m ≡ None → nat_eq m.steps m.limits.budget ≡ false
+      unspent false e none = e
+      unspent true e none = ended (all_ended m.threads) (sym (ap (λ x. by_ended (all_ended m.threads) (by_budget x (by_runnable (any_runnable image m m.threads 0)))) e) ∙ none)
+        where
+          ended : (b : Bool) → by_ended b (Some ending.Steps) ≡ None → nat_eq m.steps m.limits.budget ≡ false
+          ended true d = absurd (cc d)
+          ended false d = absurd (cc d)
+
+      by : (o : Option Ending) → m.stop ≡ o → nat_eq m.steps m.limits.budget ≡ false
+      by (Some x) stopped = let d : None ≡ Some x = sym going ∙ ap (ending_by image m) stopped in absurd (cc d)
+      by None stopped = unspent (nat_eq m.steps m.limits.budget) refl (sym (ap (ending_by image m) stopped) ∙ going)
+
+  pub budget_left : ending_of image m ≡ None → v.steps < v.limits.budget
+  budget_left going = let e : nat_lt v.steps v.limits.budget ≡ true = steps_left image T v m good at ∙ ap not (budget_open going) in ltb-true v.steps v.limits.budget e
