@@ -1,5 +1,5 @@
 -- What an engine that stands at a state of the tagged machine comes to.
-use Rattle.std.specs.Prelude.{◌≡◌, ◌≤◌, ◌<◌, ◌+◌, ◌^◌, ◌&&◌, ℕ, Bool, false, not, length, is_none, nat_eq, nat_lt, Result, Ok, Err}
+use Rattle.std.specs.Prelude.{◌≡◌, ◌≢◌, ◌≤◌, ◌<◌, ◌+◌, ◌^◌, ◌&&◌, ℕ, Bool, true, false, not, List, length, is_none, nat_eq, nat_lt, Result, Ok, Err}
 use Rattle.dv_defs.specs.declared.run.Limits.{Limits}
 use Rattle.dv_defs.specs.Images.{Image}
 use Rattle.dv_machine.specs.Accepted.{Accepted}
@@ -8,7 +8,11 @@ use Rattle.dv_machine.specs.Running.{ending_of, runnable}
 use Rattle.dv_machine.specs.State.{Machine}
 use Rattle.dv_machine.specs.Step.{step}
 use Rattle.dv_machine.specs.WellTyped.{Typings}
-use Rattle.dv_steps.specs.StepLaws.{StringsFit}
+use Rattle.dv_words.specs.declared.state.Frame.{Frame}
+use Rattle.dv_words.specs.declared.state.Level.{Level}
+use Rattle.dv_words.specs.State.{WordMachine, WordThread}
+use Rattle.dv_steps.specs.StepLaws.{StringsFit, with_top}
+use Rattle.dv_simulation.specs.KeepLaws.{next_is_local_of}
 use Rattle.dv_simulation.specs.Laws.{IsSimulated}
 use Rattle.dv_simulation.specs.TurnLaws.{more}
 use Rattle.dv_threads.specs.Kept.{threads_of}
@@ -54,7 +58,17 @@ may_step image m t = is_none (ending_of image m) && runnable image m t
 abbrev pub goes_locally : Image → ℕ → Machine → Bool
 goes_locally image t m = next_is_local image m t && not (nat_eq m.steps m.limits.budget)
 
+-- so many steps as are asked for, or as the budget has room for
+pub record IsAffordable (steps budget asked most : ℕ) : Type 0 where
+  pub few : most ≤ asked
+  pub room : steps + most ≤ budget
+  pub all : most < asked → steps + most ≡ budget
+
 -- ---- what it comes to
+
+-- the next steps of the other threads stay local
+abbrev pub KeepsLocals : Image → ℕ → Vm → Vm → Type 0
+KeepsLocals image t old new = (u : ℕ) → u ≢ t → next_is_local_of image (machine_of old) u ≡ true → next_is_local_of image (machine_of new) u ≡ true
 
 -- want of memory: it stands where it stood
 pub record IsKeptAt (image : Image) (T : Typings) (m : Machine) (old new : Vm) : Type 0 where
@@ -70,6 +84,12 @@ pub record IsStep (image : Image) (T : Typings) (m : Machine) (t : ℕ) (new : V
 abbrev pub Steps : {E : Type 0} → Result (Unit {0}) E → Image → Typings → Machine → ℕ → Vm → Vm → Type 0
 Steps (Ok u) image T m t old new = IsStep image T m t new
 Steps (Err memory) image T m t old new = IsKeptAt image T m old new
+
+-- the frame on top of a thread did so many steps, which touched it alone
+pub record HasRun (old new : WordMachine) (t done : ℕ) (own : WordThread) (f : Frame) (ls : List Level) : Type 0 where
+  pub frame : Frame
+  pub sized : length frame.regs ≡ length f.regs
+  pub machine : new ≡ with_top old t own frame ls done
 
 -- so many local steps were done, and the next one isn't local or has no room, where more might have been done
 pub record IsRun (image : Image) (T : Typings) (m : Machine) (t most done : ℕ) (new : Vm) : Type 0 where
