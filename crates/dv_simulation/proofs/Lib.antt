@@ -13,3 +13,4 @@ mod Small
 mod Going
 mod Replays
 mod Locals
+mod LastSteps

@@ -4,7 +4,7 @@
 
 ghost use Rattle.dv_simulation.specs.Laws.{AcceptedImagesFit, AcceptedStepsFollow, OpeningsAreSimulated, TypedStatesFit};
 ghost use Rattle.dv_simulation.specs.RunningLaws.{RunningFollows};
-ghost use Rattle.dv_simulation.specs.TurnLaws.{LocalsFollow};
+ghost use Rattle.dv_simulation.specs.TurnLaws.{LastStepsFollow, LocalsFollow};
 
 /// An image that the verifier accepts is what the laws of steps on words take.
 pub fn accepted_images_fit()
@@ -36,4 +36,9 @@ pub fn running_follows()
 /// So many local instructions of the frame on top, done on words, are as many steps of the tagged machine: of a turn and of a schedule.
 pub fn locals_follow()
     ensures law { LocalsFollow }
+{}
+
+/// The last step of a turn is told by words that stand for a well-typed state: whether one is done, and the state after it.
+pub fn last_steps_follow()
+    ensures law { LastStepsFollow }
 {}
