@@ -14,3 +14,4 @@ mod Going
 mod Replays
 mod Locals
 mod LastSteps
+mod Turns

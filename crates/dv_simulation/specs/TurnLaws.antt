@@ -5,9 +5,9 @@ use Rattle.dv_defs.specs.declared.run.Ending.{Ending}
 use Rattle.dv_defs.specs.Images.{Image}
 use Rattle.dv_machine.specs.Accepted.{Accepted}
 use Rattle.dv_machine.specs.Replaying.{Stands, Turned, last_step, steps_of, turn}
-use Rattle.dv_machine.specs.Running.{ending_of}
+use Rattle.dv_machine.specs.Running.{ending_of, runnable}
 use Rattle.dv_machine.specs.State.{Machine, Reads}
-use Rattle.dv_machine.specs.WellTyped.{Typings}
+use Rattle.dv_machine.specs.WellTyped.{Typings, WellTyped}
 use Rattle.dv_words.specs.declared.state.Frame.{Frame}
 use Rattle.dv_words.specs.declared.state.Level.{Level}
 use Rattle.dv_words.specs.declared.state.Level.TheVariants as level
@@ -66,3 +66,25 @@ abbrev pub LastStepsFollow : Type 0
 LastStepsFollow =
     (image : Image) (T : Typings) (w : WordMachine) (m : Machine) (t : ℕ) → Accepted image T → StringsFit image →
     IsSimulated image T w m → ReadsFit w t → LastStepFollows image T w m t
+
+-- ---- turns of the tagged machine
+
+-- the steps of a turn are steps of a schedule, where nothing has stopped the run before it
+abbrev pub TurnsReplay : Type 0
+TurnsReplay =
+    (image : Image) (m : Machine) (x : Turned) (t most k : ℕ) → m.stop ≡ None → turn image t most m ≡ Ok x →
+    steps_of image k t x.count m ≡ Stands x.machine
+
+-- some steps are done and no more than may be, each is counted, and the budget is kept
+pub record IsAdvanced (m : Machine) (most : ℕ) (x : Turned) : Type 0 where
+  pub some : 1 ≤ x.count
+  pub few : x.count ≤ most
+  pub steps : x.machine.steps ≡ m.steps + x.count
+  pub limits : x.machine.limits ≡ m.limits
+  pub within : m.steps ≤ m.limits.budget → x.machine.steps ≤ m.limits.budget
+
+-- a turn of a thread that may step, from a well-typed state with no ending
+abbrev pub TurnsAdvance : Type 0
+TurnsAdvance =
+    (image : Image) (T : Typings) (m : Machine) (x : Turned) (t most : ℕ) → WellTyped image T m → ending_of image m ≡ None →
+    runnable image m t ≡ true → 1 ≤ most → turn image t most m ≡ Ok x → IsAdvanced m most x

@@ -4,7 +4,7 @@
 
 ghost use Rattle.dv_simulation.specs.Laws.{AcceptedImagesFit, AcceptedStepsFollow, OpeningsAreSimulated, TypedStatesFit};
 ghost use Rattle.dv_simulation.specs.RunningLaws.{RunningFollows};
-ghost use Rattle.dv_simulation.specs.TurnLaws.{LastStepsFollow, LocalsFollow};
+ghost use Rattle.dv_simulation.specs.TurnLaws.{LastStepsFollow, LocalsFollow, TurnsAdvance, TurnsReplay};
 
 /// An image that the verifier accepts is what the laws of steps on words take.
 pub fn accepted_images_fit()
@@ -41,4 +41,14 @@ pub fn locals_follow()
 /// The last step of a turn is told by words that stand for a well-typed state: whether one is done, and the state after it.
 pub fn last_steps_follow()
     ensures law { LastStepsFollow }
+{}
+
+/// The steps of a turn of the tagged machine are steps of a schedule's entry, where nothing stopped the run before.
+pub fn turns_replay()
+    ensures law { TurnsReplay }
+{}
+
+/// A turn of a thread that may step, from a well-typed state with no ending, does some steps and no more than it may; each is counted.
+pub fn turns_advance()
+    ensures law { TurnsAdvance }
 {}
