@@ -15,3 +15,4 @@ mod Replays
 mod Locals
 mod LastSteps
 mod Turns
+mod Counting

@@ -13,7 +13,7 @@ use Rattle.dv_simulation.proofs.Going.{IsAtLocal, at_local, goes_on, local_step,
 use Rattle.dv_simulation.proofs.LastSteps.{last_by}
 use Rattle.dv_simulation.proofs.Replays.{step_done}
 
-abbrev turned : ℕ → Machine → Turned
+abbrev pub turned : ℕ → Machine → Turned
 turned n m = record { count = n; machine = m }
 
 -- a turn of one step more than these does none, one of any kind, or a local one and then a turn of these
@@ -22,7 +22,7 @@ pub data Way (image : Image) (t most : ℕ) (m : Machine) (x : Turned) : Type 0 
   Steps : (n : Machine) → ending_of image m ≡ None → runnable image m t ≡ true → step image m t ≡ Ok n → turned 1 n ≡ x → Way image t most m x
   Begins : (n : Machine) (y : Turned) → IsAtLocal image m t → nat_eq m.steps m.limits.budget ≡ false → step image m t ≡ Ok n → turn image t most n ≡ Ok y → turned (suc y.count) y.machine ≡ x → Way image t most m x
 
-same_turn : (x y : Turned) → (let r : Reads Turned = Ok x in r) ≡ Ok y → x ≡ y
+pub same_turn : (x y : Turned) → (let r : Reads Turned = Ok x in r) ≡ Ok y → x ≡ y
 same_turn x y e = cc
 
 module _ (image : Image) (t most : ℕ) (m : Machine) (x : Turned) where
