@@ -4,7 +4,7 @@
 
 ghost use Rattle.dv_simulation.specs.Laws.{AcceptedImagesFit, AcceptedStepsFollow, OpeningsAreSimulated, TypedStatesFit};
 ghost use Rattle.dv_simulation.specs.RunningLaws.{RunningFollows};
-ghost use Rattle.dv_simulation.specs.TurnLaws.{LastStepsFollow, LocalsFollow, TurnsAdvance, TurnsReplay};
+ghost use Rattle.dv_simulation.specs.TurnLaws.{LastStepsFollow, LocalsFollow, ReplayAppends, ReplaysGoOn, TurnsAdvance, TurnsReplay};
 
 /// An image that the verifier accepts is what the laws of steps on words take.
 pub fn accepted_images_fit()
@@ -51,4 +51,10 @@ pub fn turns_replay()
 /// A turn of a thread that may step, from a well-typed state with no ending, does some steps and no more than it may; each is counted.
 pub fn turns_advance()
     ensures law { TurnsAdvance }
+{}
+
+/// A schedule goes on from the state to which its first entries lead, unless one of those is refused; so one entry more leads where its steps lead.
+pub fn replays_go_on()
+    ensures goes_on { ReplaysGoOn }
+    ensures appends { ReplayAppends }
 {}
