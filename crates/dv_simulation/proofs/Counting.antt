@@ -1,5 +1,5 @@
 -- Each step of a turn is counted, and the budget is kept.
-use Rattle.std.proofs.Common.{◌≡◌, ◌≢◌, ◌≤◌, ◌+◌, ℕ, zero, suc, Bool, true, false, Option, Some, None, Ok, Err, List, [], ◌∷◌, refl, sym, ap, ◌∙◌, subst, arith}
+use Rattle.std.proofs.Common.{◌≡◌, ◌≢◌, ◌≤◌, ◌+◌, ℕ, zero, suc, true, false, Option, Some, None, Ok, Err, List, [], ◌∷◌, refl, sym, ap, ◌∙◌, subst, arith}
 use Rattle.std.specs.Prelude.{is_none, nat_eq, slice_get}
 use Rattle.std.proofs.lemmas.Bool.{and_parts}
 use Rattle.std.proofs.lemmas.Bool.Decides.{nat_tests}
@@ -16,13 +16,13 @@ use Rattle.dv_defs.specs.Images.{Image}
 use Rattle.dv_defs.specs.Pools.{Method, method_at}
 use Rattle.dv_defs.specs.Statics.{At, fetch}
 use Rattle.dv_machine.specs.Replaying.{Turned, turn}
-use Rattle.dv_machine.specs.Running.{blocked_thread, ending_of, runnable, runnable_one, runnable_thread}
+use Rattle.dv_machine.specs.Running.{blocked_thread, ending_of, runnable, runnable_one}
 use Rattle.dv_machine.specs.State.{Did, Go, IsStuck, Left, Machine, NoOutput, NoRoom, NoWords, Reads, Thread, Throws, ThrowsRef}
-use Rattle.dv_machine.specs.Step.{settled, settled_flight, step, step_at, step_code, step_flight, step_living, step_of, step_thread, thrown}
+use Rattle.dv_machine.specs.Step.{settled, settled_flight, step, step_at, step_flight, step_living, step_of, step_thread, thrown}
 use Rattle.dv_machine.specs.Threads.{is_living}
 use Rattle.dv_machine.specs.Unwinding.{Caught, Flies, Lacking, Unwound, made_object}
 use Rattle.dv_machine.specs.WellTyped.{ThreadFine, Typings, WellTyped}
-use Rattle.dv_simulation.specs.TurnLaws.{IsAdvanced, TurnsAdvance}
+use Rattle.dv_simulation.specs.TurnLaws.{TurnsAdvance}
 use Rattle.dv_simulation.proofs.Going.{has_steps_left, local_step, topped}
 use Rattle.dv_simulation.proofs.Turns.{Begins, Ends, Steps, Way, same_turn, turned, way_of}
 

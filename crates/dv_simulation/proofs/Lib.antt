@@ -16,3 +16,5 @@ mod Locals
 mod LastSteps
 mod Turns
 mod Counting
+mod Picked
+mod Seeded

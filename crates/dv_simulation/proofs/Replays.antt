@@ -1,12 +1,9 @@
 -- Steps of a schedule one after another, and entries after entries.
-use Rattle.std.proofs.Common.{◌≡◌, ℕ, zero, suc, ◌+◌, ◌++◌, Bool, true, false, Option, Some, None, Ok, Err, List, [], ◌∷◌, length, refl, sym, ap, ◌∙◌, arith}
+use Rattle.std.proofs.Common.{◌≡◌, ℕ, zero, suc, ◌+◌, ◌++◌, Bool, true, false, Option, Some, None, Ok, Err, [], ◌∷◌, length, refl, sym, ap, ◌∙◌, arith}
 use Rattle.dv_defs.specs.declared.run.Ending.{Ending}
-use Rattle.dv_defs.specs.declared.run.Entry.{Entry}
-use Rattle.dv_defs.specs.declared.run.Limits.{Limits}
 use Rattle.dv_defs.specs.Images.{Image}
-use Rattle.dv_defs.specs.Pools.{Method}
 use Rattle.dv_machine.specs.Opening.{opening}
-use Rattle.dv_machine.specs.Replaying.{NotRunnable, PastEnd, Replayed, Stands, Wrong, on_stands, one_step, replay, replay_from, stands_on, steps_of}
+use Rattle.dv_machine.specs.Replaying.{NotRunnable, PastEnd, Replayed, Stands, Wrong, on_stands, one_step, replay_from, stands_on, steps_of}
 use Rattle.dv_machine.specs.Running.{ending_of, runnable}
 use Rattle.dv_machine.specs.State.{Machine, Reads}
 use Rattle.dv_machine.specs.Step.{step}

@@ -1,10 +1,10 @@
 -- What a turn is made of, and that its steps are steps of a schedule.
-use Rattle.std.proofs.Common.{◌≡◌, ℕ, zero, suc, Bool, true, false, Option, Some, None, Ok, Err, refl, sym, ap, ◌∙◌, subst}
+use Rattle.std.proofs.Common.{◌≡◌, ℕ, zero, suc, Bool, true, false, Option, Some, None, Ok, Err, refl, ap, ◌∙◌, subst}
 use Rattle.std.specs.Prelude.{◌&&◌, nat_eq, not}
 use Rattle.std.proofs.lemmas.Bool.{and_parts}
 use Rattle.dv_defs.specs.declared.run.Ending.{Ending}
 use Rattle.dv_defs.specs.Images.{Image}
-use Rattle.dv_machine.specs.Replaying.{Replayed, Stands, Turned, last_step, next_is_local, on_stands, one_more, steps_of, turn}
+use Rattle.dv_machine.specs.Replaying.{Stands, Turned, last_step, next_is_local, on_stands, one_more, steps_of, turn}
 use Rattle.dv_machine.specs.Running.{ending_of, runnable}
 use Rattle.dv_machine.specs.State.{Machine, Reads, on_next}
 use Rattle.dv_machine.specs.Step.{step}

@@ -4,7 +4,7 @@
 
 ghost use Rattle.dv_simulation.specs.Laws.{AcceptedImagesFit, AcceptedStepsFollow, OpeningsAreSimulated, TypedStatesFit};
 ghost use Rattle.dv_simulation.specs.RunningLaws.{RunningFollows};
-ghost use Rattle.dv_simulation.specs.TurnLaws.{LastStepsFollow, LocalsFollow, ReplayAppends, ReplaysGoOn, TurnsAdvance, TurnsReplay};
+ghost use Rattle.dv_simulation.specs.TurnLaws.{LastStepsFollow, LocalsFollow, ReplayAppends, ReplaysGoOn, SeedBegins, SeedEnds, SeedGoesOn, SeedPicksRunnable, TurnsAdvance, TurnsReplay};
 
 /// An image that the verifier accepts is what the laws of steps on words take.
 pub fn accepted_images_fit()
@@ -57,4 +57,13 @@ pub fn turns_advance()
 pub fn replays_go_on()
     ensures goes_on { ReplaysGoOn }
     ensures appends { ReplayAppends }
+{}
+
+/// Turns of the threads that the words pick make the seeded schedule: it begins with no turn, each turn from a well-typed state with no ending is an
+/// entry more, of a thread that may step, and where an ending stands it is whole.
+pub fn seeded_runs()
+    ensures begins { SeedBegins }
+    ensures picks { SeedPicksRunnable }
+    ensures goes_on { SeedGoesOn }
+    ensures ends { SeedEnds }
 {}
