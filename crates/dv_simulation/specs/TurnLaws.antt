@@ -129,7 +129,9 @@ SeedBegins = (word : ℕ → ℕ) (image : Image) (main : Method) (l : Limits) �
 
 -- the thread that a word picks may step, where no ending stands
 abbrev pub SeedPicksRunnable : Type 0
-SeedPicksRunnable = (image : Image) (m : Machine) (w : ℕ) → ending_of image m ≡ None → runnable image m (picked (runnable_from image m m.threads 0) w) ≡ true
+SeedPicksRunnable =
+    (image : Image) (m : Machine) (w : ℕ) → ending_of image m ≡ None →
+    runnable image m (picked (runnable_from image m m.threads 0) w) ≡ true
 
 -- one turn more, of the thread that the next word picks and as long as it says, from a well-typed state with no ending
 abbrev pub SeedGoesOn : Type 0

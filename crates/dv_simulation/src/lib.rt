@@ -1,5 +1,6 @@
 //! On accepted images the steps on words simulate the tagged machine's: a runnable thread's step is never stuck there, so the words after it stand
-//! for the state after it. Each law is the contract of a function that does nothing.
+//! for the state after it. So do those after many local steps in one go. Turns of the tagged machine are entries of schedules, and make the seeded
+//! one. Each law is the contract of a function that does nothing.
 #![tactic(auto)]
 
 ghost use Rattle.dv_simulation.specs.Laws.{AcceptedImagesFit, AcceptedStepsFollow, OpeningsAreSimulated, TypedStatesFit};
