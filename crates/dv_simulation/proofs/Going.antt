@@ -96,6 +96,15 @@ not_stopped image m going = by m.stop going
     by None e = refl
     by (Some x) e = absurd (cc)
 
+-- ... and has steps left
+pub has_steps_left : (image : Image) (m : Machine) → ending_of image m ≡ None → nat_eq m.steps m.limits.budget ≡ false
+has_steps_left image m going = by (all_ended m.threads) (nat_eq m.steps m.limits.budget) (sym (ap (ending_by image m) (not_stopped image m going)) ∙ going)
+  where
+    by : (ended spent : Bool) → elim ended as (λ z. Option Ending) [ true ↦ Some ending.Done | false ↦ elim spent as (λ z. Option Ending) [ true ↦ Some ending.Steps | false ↦ elim (any_runnable image m m.threads 0) as (λ z. Option Ending) [ true ↦ None | false ↦ Some ending.NoRunnable ] ] ] ≡ None → spent ≡ false
+    by true spent e = absurd (cc)
+    by false true e = absurd (cc)
+    by false false e = refl
+
 -- ---- operations
 
 unheld : (image : Image) (m : Machine) (t : ℕ) (own : Method) (f : Frame) (op : Op) → is_local op ≡ true → blocked_op image m t own f op ≡ None

@@ -17,3 +17,8 @@ pub mod Small
 pub mod Going
 pub mod Replays
 pub mod Locals
+pub mod LastSteps
+pub mod Turns
+pub mod Counting
+pub mod Picked
+pub mod Seeded

@@ -1,11 +1,13 @@
 -- Steps of a schedule one after another, and entries after entries.
-use Rattle.std.proofs.Common.{◌≡◌, ℕ, zero, suc, ◌+◌, Bool, true, false, Option, Some, None, Ok, Err, refl, sym, ap, ◌∙◌, arith}
+use Rattle.std.proofs.Common.{◌≡◌, ℕ, zero, suc, ◌+◌, ◌++◌, Bool, true, false, Option, Some, None, Ok, Err, [], ◌∷◌, length, refl, sym, ap, ◌∙◌, arith}
 use Rattle.dv_defs.specs.declared.run.Ending.{Ending}
 use Rattle.dv_defs.specs.Images.{Image}
-use Rattle.dv_machine.specs.Replaying.{NotRunnable, PastEnd, Replayed, Stands, Wrong, on_stands, one_step, stands_on, steps_of}
+use Rattle.dv_machine.specs.Opening.{opening}
+use Rattle.dv_machine.specs.Replaying.{NotRunnable, PastEnd, Replayed, Stands, Wrong, on_stands, one_step, replay_from, stands_on, steps_of}
 use Rattle.dv_machine.specs.Running.{ending_of, runnable}
 use Rattle.dv_machine.specs.State.{Machine, Reads}
 use Rattle.dv_machine.specs.Step.{step}
+use Rattle.dv_simulation.specs.TurnLaws.{ReplayAppends, ReplaysGoOn}
 
 -- a refusal ends all that comes after
 stands_twice : (r : Replayed) (f g h : Machine → Replayed) → ((m : Machine) → on_stands (f m) g ≡ h m) → on_stands (on_stands r f) g ≡ on_stands r h
@@ -37,3 +39,22 @@ steps_after image k t (suc n) j m =
     let one : suc n + j ≡ suc (n + j) = omega arith in
     ap (λ (i : ℕ). steps_of image k t i m) one ∙
     sym (stands_twice (one_step image k t m) (steps_of image k t n) (steps_of image k t j) (steps_of image k t (n + j)) (λ z. sym (steps_after image k t n j z)))
+
+-- ---- entries
+
+-- a place that is counted from the front
+place_after : (k n : ℕ) → suc k + n ≡ k + suc n
+place_after k n = omega arith
+
+pub replays_go_on : ReplaysGoOn
+replays_go_on image m k [] fs = let none : k + 0 ≡ k = omega arith in ap (λ (i : ℕ). replay_from image i fs m) (sym none)
+replays_go_on image m k (e ∷ es) fs =
+    sym (stands_twice (steps_of image k e.thread e.steps m) (replay_from image (suc k) es) (replay_from image (k + suc (length es)) fs) (replay_from image (suc k) (es ++ fs))
+    (λ z. ap (λ (i : ℕ). on_stands (replay_from image (suc k) es z) (replay_from image i fs)) (sym (place_after k (length es))) ∙ sym (replays_go_on image z (suc k) es fs)))
+
+pub replay_appends : ReplayAppends
+replay_appends image main l log e m n leads done =
+    let first : Machine = opening image main l in
+    let from : 0 + length log ≡ length log = omega arith in
+    replays_go_on image first 0 log (e ∷ []) ∙ ap (λ (i : ℕ). on_stands (replay_from image 0 log first) (replay_from image i (e ∷ []))) from ∙
+    ap (λ r. on_stands r (replay_from image (length log) (e ∷ []))) leads ∙ ap (λ r. on_stands r (replay_from image (suc (length log)) [])) done

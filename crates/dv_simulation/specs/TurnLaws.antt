@@ -1,13 +1,17 @@
 -- Turns of accepted images, told by words, and the runs that turns make.
-use Rattle.std.specs.Prelude.{◌≡◌, ◌≤◌, ◌+◌, ℕ, true, false, List, ◌∷◌, Some, None, Ok, Err, slice_get}
+use Rattle.std.specs.Prelude.{◌≡◌, ◌≤◌, ◌+◌, ◌-◌, ◌%◌, ◌++◌, ℕ, suc, true, false, List, [], ◌∷◌, length, Some, None, Ok, Err, slice_get}
 use Rattle.dv_defs.specs.declared.machine.End.TheVariants as end
 use Rattle.dv_defs.specs.declared.run.Ending.{Ending}
+use Rattle.dv_defs.specs.declared.run.Entry.{Entry}
+use Rattle.dv_defs.specs.declared.run.Limits.{Limits}
 use Rattle.dv_defs.specs.Images.{Image}
+use Rattle.dv_defs.specs.Pools.{Method}
 use Rattle.dv_machine.specs.Accepted.{Accepted}
-use Rattle.dv_machine.specs.Replaying.{Stands, Turned, last_step, steps_of, turn}
-use Rattle.dv_machine.specs.Running.{ending_of}
+use Rattle.dv_machine.specs.Opening.{opening}
+use Rattle.dv_machine.specs.Replaying.{Stands, Turned, last_step, on_stands, picked, replay, replay_from, runnable_from, seeded_from, seeded_log, steps_of, turn}
+use Rattle.dv_machine.specs.Running.{ending_of, runnable}
 use Rattle.dv_machine.specs.State.{Machine, Reads}
-use Rattle.dv_machine.specs.WellTyped.{Typings}
+use Rattle.dv_machine.specs.WellTyped.{Typings, WellTyped}
 use Rattle.dv_words.specs.declared.state.Frame.{Frame}
 use Rattle.dv_words.specs.declared.state.Level.{Level}
 use Rattle.dv_words.specs.declared.state.Level.TheVariants as level
@@ -66,3 +70,79 @@ abbrev pub LastStepsFollow : Type 0
 LastStepsFollow =
     (image : Image) (T : Typings) (w : WordMachine) (m : Machine) (t : ℕ) → Accepted image T → StringsFit image →
     IsSimulated image T w m → ReadsFit w t → LastStepFollows image T w m t
+
+-- ---- turns of the tagged machine
+
+-- the steps of a turn are steps of a schedule, where nothing has stopped the run before it
+abbrev pub TurnsReplay : Type 0
+TurnsReplay =
+    (image : Image) (m : Machine) (x : Turned) (t most k : ℕ) → m.stop ≡ None → turn image t most m ≡ Ok x →
+    steps_of image k t x.count m ≡ Stands x.machine
+
+-- some steps are done and no more than may be, each is counted, and the budget is kept
+pub record IsAdvanced (m : Machine) (most : ℕ) (x : Turned) : Type 0 where
+  pub some : 1 ≤ x.count
+  pub few : x.count ≤ most
+  pub steps : x.machine.steps ≡ m.steps + x.count
+  pub limits : x.machine.limits ≡ m.limits
+  pub within : m.steps ≤ m.limits.budget → x.machine.steps ≤ m.limits.budget
+
+-- a turn of a thread that may step, from a well-typed state with no ending
+abbrev pub TurnsAdvance : Type 0
+TurnsAdvance =
+    (image : Image) (T : Typings) (m : Machine) (x : Turned) (t most : ℕ) → WellTyped image T m → ending_of image m ≡ None →
+    runnable image m t ≡ true → 1 ≤ most → turn image t most m ≡ Ok x → IsAdvanced m most x
+
+-- ---- schedules
+
+-- entries after entries: the later ones are replayed from the state to which the first ones lead, unless one of those is refused
+abbrev pub ReplaysGoOn : Type 0
+ReplaysGoOn =
+    (image : Image) (m : Machine) (k : ℕ) (es fs : List Entry) →
+    replay_from image k (es ++ fs) m ≡ on_stands (replay_from image k es m) (replay_from image (k + length es) fs)
+
+-- a schedule with one entry more leads where its steps lead
+abbrev pub ReplayAppends : Type 0
+ReplayAppends =
+    (image : Image) (main : Method) (l : Limits) (log : List Entry) (e : Entry) (m n : Machine) →
+    replay image main l log ≡ Stands m → steps_of image (length log) e.thread e.steps m ≡ Stands n →
+    replay image main l (log ++ e ∷ []) ≡ Stands n
+
+-- ---- seeded runs
+
+-- a schedule with more entries
+abbrev pub appended : List Entry → Reads (List Entry) → Reads (List Entry)
+appended log (Ok es) = Ok (log ++ es)
+appended log (Err y) = Err y
+
+-- a schedule of turns that the words picked: it leads to this state, and what they pick from there on makes it the seeded one
+pub record IsSeededSoFar (word : ℕ → ℕ) (image : Image) (main : Method) (l : Limits) (log : List Entry) (m : Machine) : Type 0 where
+  pub replayed : replay image main l log ≡ Stands m
+  pub few : length log ≤ m.steps
+  pub within : m.steps ≤ l.budget
+  pub limits : m.limits ≡ l
+  pub rest : seeded_log word image main l ≡ appended log (seeded_from word image (suc l.budget - length log) (length log) m)
+
+-- no turn yet
+abbrev pub SeedBegins : Type 0
+SeedBegins = (word : ℕ → ℕ) (image : Image) (main : Method) (l : Limits) → IsSeededSoFar word image main l [] (opening image main l)
+
+-- the thread that a word picks may step, where no ending stands
+abbrev pub SeedPicksRunnable : Type 0
+SeedPicksRunnable =
+    (image : Image) (m : Machine) (w : ℕ) → ending_of image m ≡ None →
+    runnable image m (picked (runnable_from image m m.threads 0) w) ≡ true
+
+-- one turn more, of the thread that the next word picks and as long as it says, from a well-typed state with no ending
+abbrev pub SeedGoesOn : Type 0
+SeedGoesOn =
+    (word : ℕ → ℕ) (image : Image) (T : Typings) (main : Method) (l : Limits) (log : List Entry) (m : Machine) (t : ℕ) (x : Turned) →
+    IsSeededSoFar word image main l log m → WellTyped image T m → ending_of image m ≡ None →
+    t ≡ picked (runnable_from image m m.threads 0) (word (length log)) → turn image t (1 + word (length log) % 256) m ≡ Ok x →
+    IsSeededSoFar word image main l (log ++ record { worker = 0; thread = t; steps = x.count } ∷ []) x.machine
+
+-- with an ending it is the whole schedule
+abbrev pub SeedEnds : Type 0
+SeedEnds =
+    (word : ℕ → ℕ) (image : Image) (main : Method) (l : Limits) (log : List Entry) (m : Machine) (e : Ending) →
+    IsSeededSoFar word image main l log m → ending_of image m ≡ Some e → seeded_log word image main l ≡ Ok log
