@@ -16,7 +16,8 @@ use Rattle.dv_machine.specs.WellTyped.{Typings}
 use Rattle.dv_words.specs.State.{WordMachine}
 use Rattle.dv_simulation.proofs.Replays.{replay_appends}
 use Rattle.dv_simulation.proofs.Staying.{next_is_alike}
-use Rattle.dv_simulation.proofs.Turns.{turns_advance, turns_replay}
+use Rattle.dv_simulation.proofs.Counting.{turns_advance}
+use Rattle.dv_simulation.proofs.Turns.{turns_replay}
 use Rattle.dv_core.specs.declared.vm.Vm.{Vm}
 use Rattle.dv_core.specs.Machines.{machine_of}
 use Rattle.dv_sound.specs.Moves.{IsGood, IsTurn, KeepsLocals, StandsAt, may_step}
@@ -46,7 +47,7 @@ kept_first image main l v o = record {
 -- ---- after a turn
 
 module _ (image : Image) (main : MethodId) (v : Vm) (log : List Entry) (lent : List ℕ) (k : IsKept image main v log lent) (t most n worker : ℕ) (new : Vm) (may : may_step image k.machine t ≡ true) (some : 1 ≤ most)
-         (turned : IsTurn image k.typings k.machine t most n new) where
+    (turned : IsTurn image k.typings k.machine t most n new) where
   limits_stay : new.limits ≡ v.limits
   limits_stay =
       let parts = may_parts image k.machine t may in

@@ -9,6 +9,7 @@ use Rattle.dv_machine.specs.Running.{ending_of, runnable}
 use Rattle.dv_machine.specs.State.{Machine, Reads}
 use Rattle.dv_machine.specs.Step.{step}
 use Rattle.dv_machine.specs.WellTyped.{Typings}
+use Rattle.dv_simulation.proofs.Replays.{step_done, steps_after}
 use Rattle.dv_core.specs.declared.vm.Vm.{Vm}
 use Rattle.dv_sound.specs.declared.error.ReplayError.{ReplayError}
 use Rattle.dv_sound.specs.declared.error.ReplayError.TheVariants as error
@@ -32,21 +33,9 @@ module _ (image : Image) (k t : ℕ) (m : Machine) where
   one_held none may = ap (by_ending image k t m) none ∙ ap (by_may image k t m) (sym (ap (λ (o : Option Ending). is_none o && runnable image m t) none) ∙ may)
 
   pub one_done : (n : Machine) → may_step image m t ≡ true → step image m t ≡ Ok n → one_step image k t m ≡ Stands n
-  one_done n may is =
-      let parts = may_parts image m t may in
-      ap (by_ending image k t m) parts.0 ∙ ap (by_may image k t m) parts.1 ∙ ap stands_on is
+  one_done n may is = let parts = may_parts image m t may in step_done image k t m n parts.0 parts.1 is
 
 -- ---- the steps of an entry
-
-pub steps_more : (image : Image) (k t a b : ℕ) (m : Machine) → steps_of image k t (a + b) m ≡ on_stands (steps_of image k t a m) (steps_of image k t b)
-steps_more image k t zero b m = refl
-steps_more image k t (suc a) b m = by (one_step image k t m)
-  where
-    by : (r : Replayed) → on_stands r (steps_of image k t (a + b)) ≡ on_stands (on_stands r (steps_of image k t a)) (steps_of image k t b)
-    by (Stands n) = steps_more image k t a b n
-    by (NotRunnable j) = refl
-    by (PastEnd j) = refl
-    by (Wrong y) = refl
 
 -- what refuses a first part refuses the whole
 pub refused_on : (e : ReplayError) (r : Replayed) (go : Machine → Replayed) → Refuses e r → Refuses e (on_stands r go)
@@ -98,5 +87,5 @@ left_on image first now new whole k t n left few lefts leds T m good at =
     record {
       at = d.after;
       stands = d.stands;
-      same = l.same ∙ ap (λ j. steps_of image k t j l.at) (sym split) ∙ steps_more image k t n (left - n) l.at ∙ ap (λ (r : Replayed). on_stands r (steps_of image k t (left - n))) d.leads;
+      same = l.same ∙ ap (λ j. steps_of image k t j l.at) (sym split) ∙ steps_after image k t n (left - n) l.at ∙ ap (λ (r : Replayed). on_stands r (steps_of image k t (left - n))) d.leads;
     }

@@ -50,7 +50,7 @@ living_at : (w : WordMachine) (t : ℕ) (own : WordThread) (f : Frame) (ls : Lis
 living_at w t own f ls r = record { there = r.there; living = r.living; levels = r.levels }
 
 module _ (image : Image) (T : Typings) (w : WordMachine) (m : Machine) (good : IsGood image T) (sim : IsSimulated image T w m) (going : ending_of image m ≡ None) (t : ℕ) (own : WordThread) (f : Frame) (ls : List Level) (runs : RunsFrame w t own f ls)
-         (small : IsSmall f) (heap : HeapFits w.shared.heap) (most done : ℕ) (u : Frame) (ran : RanLocally image most done f u) (room : w.steps + done ≤ w.limits.budget) where
+    (small : IsSmall f) (heap : HeapFits w.shared.heap) (most done : ℕ) (u : Frame) (ran : RanLocally image most done f u) (room : w.steps + done ≤ w.limits.budget) where
   follow : (n : ℕ) (v : Frame) → n ≤ done → locals_here image n f ≡ Some v → AreSimulatedLocals image T w (with_top w t own v ls n) m t n × IsSmall v
   follow n v le e = locals_follow image T w m t n own f v ls good.accepted good.strings sim (living_at w t own f ls runs) small heap going e (let r = room in omega (arith, le, r))
 

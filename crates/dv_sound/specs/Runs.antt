@@ -1,5 +1,5 @@
 -- What contracts see of a machine that keeps its log.
-use Rattle.std.specs.Prelude.{◌≡◌, ◌≢◌, ◌<◌, ℕ, true, ◌++◌, List, [], ◌∷◌, length, All, Option, Some, None, Ok}
+use Rattle.std.specs.Prelude.{◌≡◌, ◌≢◌, ◌<◌, ℕ, true, false, ◌++◌, List, [], ◌∷◌, length, All, Option, Some, None, Ok}
 use Rattle.dv_defs.specs.declared.names.MethodId.{MethodId}
 use Rattle.dv_defs.specs.declared.run.Entry.{Entry}
 use Rattle.dv_defs.specs.declared.run.Limits.{Limits}
@@ -98,3 +98,30 @@ pub record IsReady (r : Run) (m : Machine) (thread : ℕ) : Type 0 where
 -- each runnable thread is lent
 abbrev pub NoneIsReady : Run → Machine → Type 0
 NoneIsReady r m = (u : ℕ) → runnable r.verified.image m u ≡ true → All (λ t. t ≢ u) r.lent → ⊥
+
+-- ---- runs of the lowest thread
+
+-- the lowest of the runnable threads
+pub record IsLowest (image : Image) (m : Machine) (thread : ℕ) : Type 0 where
+  pub runnable : runnable image m thread ≡ true
+  pub lowest : (u : ℕ) → u < thread → runnable image m u ≡ false
+
+-- a turn of that thread by worker 0, of 256 steps at most, with the state after it
+pub record IsLowestTurn (image : Image) (m : Machine) (e : Entry) (n : Machine) : Type 0 where
+  pub goes_on : ending_of image m ≡ None
+  pub worker : e.worker ≡ 0
+  pub thread : IsLowest image m e.thread
+  pub turned : turn image e.thread 256 m ≡ Ok (record { count = e.steps; machine = n })
+
+-- such turns one after another lead from a state to another
+abbrev pub LeadsLowest : Image → List Entry → Machine → Machine → Type 0
+LeadsLowest image [] m n = m ≡ n
+LeadsLowest image (e ∷ es) m n = (k : Machine) × IsLowestTurn image m e k × LeadsLowest image es k n
+
+-- such turns were done, and logged
+pub record RanLowest (old new : Run) (main : Method) (m : Machine) : Type 0 where
+  pub turns : List Entry
+  pub logs : new.log ≡ old.log ++ turns
+  pub after : Machine
+  pub at : IsAt new main after
+  pub leads : LeadsLowest old.verified.image turns m after

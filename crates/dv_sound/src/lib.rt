@@ -7,6 +7,7 @@ mod moves;
 mod playing;
 mod premises;
 mod replay;
+mod running;
 mod safe;
 mod seeded;
 

@@ -90,12 +90,7 @@ pub fn last_on(image: &Image, vm: &mut Vm, thread: u32) -> Result<u32, AllocErro
 }
 
 /// The rest of a turn that begins with local steps: these, and then at most one other. Where that one finds no memory, they are taken back.
-fn turn_locally(
-    image: &Image,
-    vm: &mut Vm,
-    thread: u32,
-    most: u32,
-) -> Result<u32, AllocError>
+fn turn_locally(image: &Image, vm: &mut Vm, thread: u32, most: u32) -> Result<u32, AllocError>
     ensures few { IfOk result (λ n. n ≤ most) }
     ensures turned { (T : Typings) (m : Machine) → IsGood image.now T → StandsAt image.now T vm.old m → running.ending_of image.now m ≡ Nothing → goes_locally image.now thread m ≡ true →
         Turns result image.now T m thread most vm.old vm.new }

@@ -46,13 +46,7 @@ fn play_some(
 }
 
 /// The steps of an entry.
-fn play(
-    image: &Image,
-    vm: &mut Vm,
-    entry: u32,
-    thread: u32,
-    steps: u32,
-) -> Result<(), ReplayError>
+fn play(image: &Image, vm: &mut Vm, entry: u32, thread: u32, steps: u32) -> Result<(), ReplayError>
     ensures { (T : Typings) (m : Machine) → IsGood image.now T → StandsAt image.now T vm.old m → Plays result image.now T (steps_of image.now entry thread steps m) vm.new }
 {
     let mut left = steps;

@@ -1,5 +1,5 @@
 // A machine whose state is the replay of its log.
-ghost use Rattle.std.specs.Prelude.{◌≡◌, ◌≤◌, [], IfOk, IsTrue, MatchOption, OnErr, All, ◌≢◌, ◌↔◌, false};
+ghost use Rattle.std.specs.Prelude.{◌≡◌, ◌≤◌, [], IfOk, IsTrue, MatchOption, OnErr, All, ◌≢◌, ◌↔◌, false, length};
 ghost use Rattle.dv_defs.specs.Pools.{Method};
 ghost use Rattle.dv_machine.specs.Running as running;
 ghost use Rattle.dv_machine.specs.State.{Machine};
@@ -86,7 +86,13 @@ impl<'v> SafeVm<'v> {
     }
 
     /// An engine that a schedule led to where it stands, no thread of which is lent.
-    pub fn standing(verified: &'v Verified, main: MethodId, vm: Vm, log: Vec<Entry>, lent: Vec<u32>) -> SafeVm<'v>
+    pub fn standing(
+        verified: &'v Verified,
+        main: MethodId,
+        vm: Vm,
+        log: Vec<Entry>,
+        lent: Vec<u32>,
+    ) -> SafeVm<'v>
         requires kept { IsKept verified.now.image main vm log.items lent.items }
         ensures { result ≡ record { verified = verified.now; main = main; machine = machine_of vm; log = log.items; lent = lent.items } }
     {
@@ -160,7 +166,10 @@ impl<'v> SafeVm<'v> {
             return Ok(0);
         }
         let SafeVm {
-            verified, vm, log, ..
+            verified,
+            vm,
+            log,
+            ..
         } = self;
         let image = &verified.image;
         if !may_step(image, vm, thread) {
@@ -174,5 +183,25 @@ impl<'v> SafeVm<'v> {
             steps,
         })?;
         Ok(steps)
+    }
+
+    /// The lowest thread that is runnable and at home; none where none is.
+    pub fn ready(&self) -> Option<u32>
+        ensures { (main : Method) (m : Machine) → IsAt self.now main m → MatchOption result (NoneIsReady self.now m) (λ t. IsReady self.now m t) }
+    {
+        let image = &self.verified.image;
+        for thread in 0..self.threads() {
+            if !self.is_lent(thread) && self.vm.runnable(image, thread) {
+                return Some(thread);
+            }
+        }
+        None
+    }
+
+    /// How many threads there are.
+    pub fn threads(&self) -> u32
+        ensures { (main : Method) (m : Machine) → IsAt self.now main m → result ≡ length m.threads }
+    {
+        self.vm.guest.threads.stacks.len() as u32
     }
 }

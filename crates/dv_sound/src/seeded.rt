@@ -14,13 +14,6 @@ use rand_pcg::Pcg32;
 use std::alloc::AllocError;
 
 impl<'v> SafeVm<'v> {
-    /// How many threads there are.
-    fn threads(&self) -> u32
-        ensures { (main : Method) (m : Machine) → IsAt self.now main m → result ≡ length m.threads }
-    {
-        self.vm().guest.threads.stacks.len() as u32
-    }
-
     /// How many threads are runnable.
     fn runnable_count(&self) -> u32
         ensures { (main : Method) (m : Machine) → IsAt self.now main m → result ≡ length (runnable_from self.now.verified.image m m.threads 0) }
