@@ -113,7 +113,7 @@ may_parts image m t e = let both = and_parts (is_none (ending_of image m)) (runn
 
 -- where the run goes on, the budget has room for a step
 module _ (image : Image) (T : Typings) (v : Vm) (m : Machine) (good : IsGood image T) (at : StandsAt image T v m) where
-  budget_open : ending_of image m ≡ None → nat_eq m.steps m.limits.budget ≡ false
+  pub budget_open : ending_of image m ≡ None → nat_eq m.steps m.limits.budget ≡ false
   budget_open going = by m.stop refl
     where
       unspent : (b : Bool) → nat_eq m.steps m.limits.budget ≡ b → ending_without_stop image m ≡ None → nat_eq m.steps m.limits.budget ≡ false

@@ -1,8 +1,8 @@
 pub mod Going
 pub mod Stepping
-pub mod Running
-pub mod Turning
 pub mod Sizes
-pub mod Playing
+pub mod LocalRuns
+pub mod Turning
+pub mod Played
 pub mod Others
 pub mod Keeping

@@ -84,11 +84,11 @@ module _ (image : Image) (T : Typings) (old : Vm) (m : Machine) (t : ℕ) (good 
       let most = at.counted in
       steps_fit image T old m t good.accepted good.strings at.simulated at.ordered room (omega (arith, less, most))
 
-  module _ {E : Type 0} (new : Vm) (reads : ReadsFit (machine_of old) t) where
+  module _ (new : Vm) (reads : ReadsFit (machine_of old) t) where
     followed : IsSimulatedStep image T (machine_of old) m t
     followed = let parts = may_parts image m t may in accepted_steps_follow image T (machine_of old) m t good.accepted good.strings reads at.simulated parts.0 parts.1
 
-    pub stepped : (r : Result (Unit {0}) E) → IsStepped r old new (step image (machine_of old) t) → Steps r image T m t old new
+    pub stepped : {E : Type 0} (r : Result (Unit {0}) E) → IsStepped r old new (step image (machine_of old) t) → Steps r image T m t old new
     stepped (Ok u) is =
         let limits : new.limits ≡ old.limits = ap (λ (w : WordMachine). w.limits) is.0 ∙ (steps_leave_others image (machine_of old) t).limits in
         record {

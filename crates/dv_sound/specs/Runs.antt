@@ -86,12 +86,12 @@ pub record IsTurned (old new : Run) (main : Method) (m : Machine) (worker thread
 -- the run goes on, the thread is runnable, and it is at home
 pub record MayTurn (r : Run) (m : Machine) (thread : ℕ) : Type 0 where
   pub goes_on : ending_of r.verified.image m ≡ None
-  pub runnable : runnable r.verified.image m thread ≡ true
+  pub runs : runnable r.verified.image m thread ≡ true
   pub at_home : All (λ t. t ≢ thread) r.lent
 
 -- the lowest thread of those that are runnable and at home
 pub record IsReady (r : Run) (m : Machine) (thread : ℕ) : Type 0 where
-  pub runnable : runnable r.verified.image m thread ≡ true
+  pub runs : runnable r.verified.image m thread ≡ true
   pub at_home : All (λ t. t ≢ thread) r.lent
   pub lowest : (u : ℕ) → u < thread → runnable r.verified.image m u ≡ true → All (λ t. t ≢ u) r.lent → ⊥
 
@@ -103,7 +103,7 @@ NoneIsReady r m = (u : ℕ) → runnable r.verified.image m u ≡ true → All (
 
 -- the lowest of the runnable threads
 pub record IsLowest (image : Image) (m : Machine) (thread : ℕ) : Type 0 where
-  pub runnable : runnable image m thread ≡ true
+  pub runs : runnable image m thread ≡ true
   pub lowest : (u : ℕ) → u < thread → runnable image m u ≡ false
 
 -- a turn of that thread by worker 0, of 256 steps at most, with the state after it

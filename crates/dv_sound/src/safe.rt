@@ -117,13 +117,12 @@ impl<'v> SafeVm<'v> {
         ensures log { result.now ≡ self.now.log }
         ensures leads { IsAtSome self.now }
     {
-        let _ = &self.vm;
         &self.log
     }
 
     /// The schedule that was done, given away.
     pub fn into_log(self) -> Vec<Entry>
-        ensures { result.items ≡ self.log }
+        ensures { result.items ≡ self.entry.log }
     {
         self.log
     }
@@ -140,7 +139,8 @@ impl<'v> SafeVm<'v> {
     pub fn ending(&self) -> Option<Ending>
         ensures { (main : Method) (m : Machine) → IsAt self.now main m → result ≡ running.ending_of self.now.verified.image m }
     {
-        self.vm.ending(&self.verified.image)
+        let verified = self.verified;
+        self.vm.ending(&verified.image)
     }
 
     /// Whether a thread is lent.
@@ -171,7 +171,8 @@ impl<'v> SafeVm<'v> {
             log,
             ..
         } = self;
-        let image = &verified.image;
+        let program = *verified;
+        let image = &program.image;
         if !may_step(image, vm, thread) {
             return Ok(0);
         }
@@ -189,7 +190,8 @@ impl<'v> SafeVm<'v> {
     pub fn ready(&self) -> Option<u32>
         ensures { (main : Method) (m : Machine) → IsAt self.now main m → MatchOption result (NoneIsReady self.now m) (λ t. IsReady self.now m t) }
     {
-        let image = &self.verified.image;
+        let verified = self.verified;
+        let image = &verified.image;
         for thread in 0..self.threads() {
             if !self.is_lent(thread) && self.vm.runnable(image, thread) {
                 return Some(thread);
