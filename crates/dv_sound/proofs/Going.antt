@@ -69,7 +69,7 @@ module _ (image : Image) (m : Machine) (t : ℕ) (may : runnable image m t ≡ t
 -- ---- an engine
 
 module _ (image : Image) (T : Typings) (v : Vm) (m : Machine) (good : IsGood image T) (at : StandsAt image T v m) where
-  few_stacks : length v.guest.threads.stacks.items < 2 ^ 32
+  pub few_stacks : length v.guest.threads.stacks.items < 2 ^ 32
   few_stacks =
       let ts = v.guest.threads in
       let same : length (threads_of ts) ≡ length ts.stacks.items = many ts.stacks.items ts.ends.items ts.objects.items at.ordered.aligned.ends at.ordered.aligned.objects in

@@ -35,6 +35,13 @@ module _ (image : Image) (k t : ℕ) (m : Machine) where
   pub one_done : (n : Machine) → may_step image m t ≡ true → step image m t ≡ Ok n → one_step image k t m ≡ Stands n
   one_done n may is = let parts = may_parts image m t may in step_done image k t m n parts.0 parts.1 is
 
+-- they are told
+pub past_told : (k : ℕ) (r : Replayed) → r ≡ PastEnd k → Refuses (error.Long k) r
+past_told k r is = subst (Refuses (error.Long k)) (sym is) refl
+
+pub held_told : (k : ℕ) (r : Replayed) → r ≡ NotRunnable k → Refuses (error.NotRunnable k) r
+held_told k r is = subst (Refuses (error.NotRunnable k)) (sym is) refl
+
 -- ---- the steps of an entry
 
 -- what refuses a first part refuses the whole
@@ -56,6 +63,10 @@ refused_on (error.Memory x) r go is = tt
 pub refused_steps : (image : Image) (k t n : ℕ) (m : Machine) (e : ReplayError) → 0 < n → Refuses e (one_step image k t m) → Refuses e (steps_of image k t n m)
 refused_steps image k t zero m e some is = absurd (omega (arith, some))
 refused_steps image k t (suc n) m e some is = refused_on e (one_step image k t m) (steps_of image k t n) is
+
+-- no step leaves the state
+pub no_steps : (image : Image) (k t : ℕ) (m n : Machine) → steps_of image k t 0 m ≡ Stands n → m ≡ n
+no_steps image k t m n e = cc
 
 -- one step was done
 pub led_one : (image : Image) (T : Typings) (k t : ℕ) (m : Machine) (new : Vm) → may_step image m t ≡ true → IsStep image T m t new → IsLed image T (steps_of image k t 1 m) new
@@ -89,3 +100,18 @@ left_on image first now new whole k t n left few lefts leds T m good at =
       stands = d.stands;
       same = l.same ∙ ap (λ j. steps_of image k t j l.at) (sym split) ∙ steps_after image k t n (left - n) l.at ∙ ap (λ (r : Replayed). on_stands r (steps_of image k t (left - n))) d.leads;
     }
+
+-- the next entry
+pub left_entry : (image : Image) (first now new : Vm) (whole : Machine → Replayed) (k : ℕ) (e : Entry) (es : List Entry) → Lefts image first now whole (replay_from image k (e ∷ es)) →
+    ((T : Typings) (m : Machine) → IsGood image T → StandsAt image T now m → IsLed image T (steps_of image k e.thread e.steps m) new) → Lefts image first new whole (replay_from image (suc k) es)
+left_entry image first now new whole k e es lefts leds T m good at =
+    let l = lefts T m good at in
+    let d = leds T l.at good l.stands in
+    record { at = d.after; stands = d.stands; same = l.same ∙ ap (λ (r : Replayed). on_stands r (replay_from image (suc k) es)) d.leads }
+
+-- what is refused on the way refuses the whole
+pub left_refused : (image : Image) (first now : Vm) (whole rest : Machine → Replayed) (e : ReplayError) → Lefts image first now whole rest →
+    ((T : Typings) (m : Machine) → IsGood image T → StandsAt image T now m → Refuses e (rest m)) → (T : Typings) (m : Machine) → IsGood image T → StandsAt image T first m → Refuses e (whole m)
+left_refused image first now whole rest e lefts refuses T m good at =
+    let l = lefts T m good at in
+    subst (Refuses e) (sym l.same) (refuses T l.at good l.stands)

@@ -51,6 +51,14 @@ pub record IsKept (image : Image) (main : MethodId) (v : Vm) (log : List Entry) 
   pub stands : StandsAt image typings v machine
   pub local : All (λ t. next_is_local image machine t ≡ true) lent
 
+-- a turn was done from where the log led, and logged
+pub record TurnedFrom (image : Image) (main : MethodId) (v : Vm) (log : List Entry) (lent : List ℕ) (k : IsKept image main v log lent) (worker t most n : ℕ) (new : Vm) (after_log : List Entry) : Type 0 where
+  pub after : Machine
+  pub turned : turn image t most k.machine ≡ Ok (record { count = n; machine = after })
+  pub logs : after_log ≡ log ++ record { worker = worker; thread = t; steps = n } ∷ []
+  pub limits : new.limits ≡ v.limits
+  pub replayed : replay image k.has_main.method v.limits after_log ≡ Stands after
+
 -- ---- what is said of it
 
 -- its log leads to this state of the tagged machine

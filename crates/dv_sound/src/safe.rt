@@ -1,13 +1,14 @@
 // A machine whose state is the replay of its log.
-ghost use Rattle.std.specs.Prelude.{◌≡◌, ◌≤◌, [], IfOk, IsTrue, MatchOption, OnErr, All, ◌≢◌, ◌↔◌, false, length};
+ghost use Rattle.std.specs.Prelude.{◌≡◌, ◌≤◌, [], IfOk, IsTrue, MatchOption, OnErr, All, List, ℕ, ◌≢◌, ◌↔◌, false, true, length};
 ghost use Rattle.dv_defs.specs.Pools.{Method};
 ghost use Rattle.dv_machine.specs.Running as running;
 ghost use Rattle.dv_machine.specs.State.{Machine};
 ghost use Rattle.dv_core.specs.Guests.{IsOrdered};
 ghost use Rattle.dv_core.specs.Machines.{machine_of};
 ghost use Rattle.dv_core.specs.Watching.{AreWatchable};
-ghost use Rattle.dv_sound.specs.Moves.{AreUsable};
-ghost use Rattle.dv_sound.specs.Runs.{HasMain, IsAt, IsAtSome, IsKept, IsOpened, IsReady, IsSameRun, IsTurned, MayTurn, NoneIsReady};
+ghost use Rattle.dv_machine.specs.WellTyped.{Typings};
+ghost use Rattle.dv_sound.specs.Moves.{AreUsable, IsGood, StandsAt, may_step};
+ghost use Rattle.dv_sound.specs.Runs.{HasMain, IsAt, IsAtSome, IsKept, IsOpened, IsReady, IsSameRun, IsTurned, MayTurn, NoneIsReady, TurnedFrom};
 
 use crate::moves::{may_step, take_turn};
 use crate::premises::{inits_fit, is_accepted, strings_fit};
@@ -57,6 +58,40 @@ pub fn opened(
     strings_fit(image);
     inits_fit(image)?;
     Vm::open(alloc, image, main, limits)
+}
+
+/// A turn of a thread from where a log led, which is logged; nothing is done where the run has ended or the thread isn't runnable.
+///
+/// # Errors
+///
+/// Want of memory; the engine stands where it stood, and the log is as before.
+fn logged_turn(
+    program: &Verified,
+    vm: &mut Vm,
+    log: &mut Vec<Entry>,
+    worker: u32,
+    thread: u32,
+    most: u32,
+) -> Result<u32, AllocError>
+    ensures kept { (main : MethodId) (lent : List ℕ) → IsKept program.now.image main vm.old log.old.items lent → 1 ≤ most → All (λ t. t ≢ thread) lent → IsKept program.now.image main vm.new log.new.items lent }
+    ensures turned { IfOk result (λ n. (main : MethodId) (lent : List ℕ) (k : IsKept program.now.image main vm.old log.old.items lent) → may_step program.now.image k.machine thread ≡ true → 1 ≤ most →
+        TurnedFrom program.now.image main vm.old log.old.items lent k worker thread most n vm.new log.new.items) }
+    ensures limits { (main : MethodId) (lent : List ℕ) → IsKept program.now.image main vm.old log.old.items lent → 1 ≤ most → vm.new.limits ≡ vm.old.limits }
+    ensures few { IfOk result (λ n. n ≤ most) }
+    ensures refused { OnErr result ((main : MethodId) (lent : List ℕ) → IsKept program.now.image main vm.old log.old.items lent → (machine_of vm.new ≡ machine_of vm.old) × (log.new.items ≡ log.old.items)) }
+{
+    let image = &program.image;
+    if !may_step(image, vm, thread) {
+        return Ok(0);
+    }
+    log.reserve(1)?;
+    let steps = take_turn(image, vm, thread, most)?;
+    log.push(Entry {
+        worker,
+        thread,
+        steps,
+    })?;
+    Ok(steps)
 }
 
 impl<'v> SafeVm<'v> {
@@ -131,6 +166,7 @@ impl<'v> SafeVm<'v> {
     pub fn vm(&self) -> &Vm
         ensures machine { machine_of result.now ≡ self.now.machine }
         ensures watchable { AreWatchable self.now.verified.image result.now }
+        ensures stands { (main : Method) (m : Machine) → IsAt self.now main m → (T : Typings) × IsGood self.now.verified.image T × StandsAt self.now.verified.image T result.now m }
     {
         &self.vm
     }
@@ -171,19 +207,7 @@ impl<'v> SafeVm<'v> {
             log,
             ..
         } = self;
-        let program = *verified;
-        let image = &program.image;
-        if !may_step(image, vm, thread) {
-            return Ok(0);
-        }
-        log.reserve(1)?;
-        let steps = take_turn(image, vm, thread, most)?;
-        log.push(Entry {
-            worker,
-            thread,
-            steps,
-        })?;
-        Ok(steps)
+        logged_turn(verified, vm, log, worker, thread, most)
     }
 
     /// The lowest thread that is runnable and at home; none where none is.
