@@ -44,7 +44,7 @@ by_ended b rest = elim b [ true ↦ Some ending.Done | false ↦ rest ]
 
 module _ (image : Image) (m : Machine) (t : ℕ) (may : runnable image m t ≡ true) where
   -- the thread that is runnable
-  thread : (th : Thread) × (slice_get m.threads t ≡ Some th) × (runnable_thread image m t th ≡ true)
+  pub thread : (th : Thread) × (slice_get m.threads t ≡ Some th) × (runnable_thread image m t th ≡ true)
   thread = by (slice_get m.threads t) refl may
     where
       by : (o : Option Thread) → slice_get m.threads t ≡ o → runnable_one image m t o ≡ true → (th : Thread) × (slice_get m.threads t ≡ Some th) × (runnable_thread image m t th ≡ true)

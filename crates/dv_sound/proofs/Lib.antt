@@ -6,3 +6,4 @@ pub mod Turning
 pub mod Played
 pub mod Others
 pub mod Keeping
+pub mod Ready

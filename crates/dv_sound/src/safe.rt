@@ -210,14 +210,33 @@ impl<'v> SafeVm<'v> {
         logged_turn(verified, vm, log, worker, thread, most)
     }
 
+    /// Whether a thread is runnable.
+    pub fn runnable(&self, thread: u32) -> bool
+        ensures { (main : Method) (m : Machine) → IsAt self.now main m → result ≡ running.runnable self.now.verified.image m thread }
+    {
+        let verified = self.verified;
+        self.vm.runnable(&verified.image, thread)
+    }
+
+    /// Whether a thread is runnable and at home.
+    fn is_ready(&self, thread: u32) -> bool
+        ensures ready { (main : Method) (m : Machine) → IsAt self.now main m → result ≡ true → (running.runnable self.now.verified.image m thread ≡ true) × All (λ t. t ≢ thread) self.now.lent }
+        ensures held { (main : Method) (m : Machine) → IsAt self.now main m → result ≡ false → running.runnable self.now.verified.image m thread ≡ true → All (λ t. t ≢ thread) self.now.lent → ⊥ }
+    {
+        if self.is_lent(thread) {
+            false
+        } else {
+            self.runnable(thread)
+        }
+    }
+
     /// The lowest thread that is runnable and at home; none where none is.
+    #[tactic(auto, using(crate::proofs::Ready::none_ready))]
     pub fn ready(&self) -> Option<u32>
         ensures { (main : Method) (m : Machine) → IsAt self.now main m → MatchOption result (NoneIsReady self.now m) (λ t. IsReady self.now m t) }
     {
-        let verified = self.verified;
-        let image = &verified.image;
         for thread in 0..self.threads() {
-            if !self.is_lent(thread) && self.vm.runnable(image, thread) {
+            if self.is_ready(thread) {
                 return Some(thread);
             }
         }
