@@ -7,3 +7,5 @@ pub mod Played
 pub mod Others
 pub mod Keeping
 pub mod Ready
+pub mod Premised
+pub mod Opened
