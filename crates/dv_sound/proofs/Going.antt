@@ -8,7 +8,6 @@ use Rattle.dv_defs.specs.declared.run.Limits.{Limits}
 use Rattle.dv_defs.specs.Images.{Image}
 use Rattle.dv_machine.specs.Running.{all_ended, any_runnable, ending_by, ending_of, ending_without_stop, runnable, runnable_one, runnable_thread}
 use Rattle.dv_machine.specs.State.{Machine, Thread}
-use Rattle.dv_machine.specs.Threads.{is_living}
 use Rattle.dv_machine.specs.WellTyped.{Typings}
 use Rattle.dv_steps.specs.Running as words
 use Rattle.dv_simulation.specs.RunningLaws.{RunsAlike}

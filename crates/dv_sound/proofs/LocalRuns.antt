@@ -1,8 +1,7 @@
 -- Local steps in one go: the engine stands where as many steps of the tagged machine lead.
-use Rattle.std.proofs.Common.{◌≡◌, ◌≢◌, ◌<◌, ◌≤◌, ◌+◌, ◌^◌, ℕ, zero, suc, Bool, true, false, Option, Some, None, Ok, Err, List, [], ◌∷◌, refl, sym, ap, ◌∙◌, subst, arith}
-use Rattle.std.specs.Prelude.{◌&&◌, length, nat_eq, nat_lt, not, slice_get, slice_set, if◌then◌else◌}
+use Rattle.std.proofs.Common.{◌≡◌, ◌≢◌, ◌<◌, ◌≤◌, ◌+◌, ℕ, zero, suc, Bool, true, false, Option, Some, None, Ok, Err, List, [], ◌∷◌, refl, sym, ap, ◌∙◌, subst, arith}
+use Rattle.std.specs.Prelude.{◌&&◌, nat_eq, nat_lt, not, slice_get, if◌then◌else◌}
 use Rattle.std.proofs.lemmas.Bool.{and_left, and_right, eq-eqb, ltb-false, ltb-true}
-use Rattle.std.proofs.lemmas.Option.{same_Some}
 use Rattle.dv_defs.specs.declared.machine.End.{End}
 use Rattle.dv_defs.specs.declared.machine.End.TheVariants as end
 use Rattle.dv_defs.specs.declared.run.Limits.{Limits}
@@ -124,6 +123,7 @@ module _ (image : Image) (T : Typings) (old new : Vm) (m : Machine) (good : IsGo
     stands = stands_by image T new (machine_of old) m ran.same (within image T old m at) at.simulated ordered;
     turns = λ k. subst (λ n. turn image t (n + k) m ≡ more n (turn image t k m)) (sym ran.none) (ap (λ j. turn image t j m) (let none_more : 0 + k ≡ k = omega arith in none_more) ∙ no_more (turn image t k m));
     steps = λ k. subst (λ n. steps_of image k t n m ≡ Stands m) (sym ran.none) refl;
+    limits = refl;
     whole = λ l. and_left (next_is_local image m t) (not (nat_eq m.steps m.limits.budget)) (sym (next_is_alike image T (machine_of old) m t at.simulated) ∙ none_local image (slice_get (machine_of old).threads t) stays);
   }
 
@@ -165,6 +165,7 @@ module _ (image : Image) (T : Typings) (old new : Vm) (m : Machine) (good : IsGo
       stands = stands_by image T new (with_top (machine_of old) t own r.frame ls done) by.after r.machine within_by by.simulated ordered;
       turns = by.turns;
       steps = by.steps;
+      limits = sym by.simulated.stands.limits ∙ at.simulated.stands.limits;
       whole = λ l. stops l (nat_lt done most) refl;
     }
       where
