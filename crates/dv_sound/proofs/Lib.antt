@@ -6,3 +6,10 @@ pub mod Turning
 pub mod Played
 pub mod Others
 pub mod Keeping
+pub mod Unstuck
+pub mod SeededLogs
+pub mod Places
+pub mod Runnable
+pub mod Lowest
+pub mod Seeding
+pub mod Counted

@@ -1,5 +1,5 @@
 // A machine whose state is the replay of its log.
-ghost use Rattle.std.specs.Prelude.{◌≡◌, ◌≤◌, [], IfOk, IsTrue, MatchOption, OnErr, All, ◌≢◌, ◌↔◌, false, length};
+ghost use Rattle.std.specs.Prelude.{◌≡◌, ◌≤◌, ◌+◌, [], IfOk, IsTrue, MatchOption, OnErr, All, ◌≢◌, ◌↔◌, false, length};
 ghost use Rattle.dv_defs.specs.Pools.{Method};
 ghost use Rattle.dv_machine.specs.Running as running;
 ghost use Rattle.dv_machine.specs.State.{Machine};
@@ -137,7 +137,8 @@ impl<'v> SafeVm<'v> {
 
     /// How the run stands: none where it goes on.
     pub fn ending(&self) -> Option<Ending>
-        ensures { (main : Method) (m : Machine) → IsAt self.now main m → result ≡ running.ending_of self.now.verified.image m }
+        ensures ending { (main : Method) (m : Machine) → IsAt self.now main m → result ≡ running.ending_of self.now.verified.image m }
+        ensures leads { IsAtSome self.now }
     {
         let verified = self.verified;
         self.vm.ending(&verified.image)
@@ -159,6 +160,8 @@ impl<'v> SafeVm<'v> {
     pub fn turn(&mut self, worker: u32, thread: u32, most: u32) -> Result<u32, AllocError>
         ensures turned { IfOk result (λ n. (main : Method) (m : Machine) → IsAt self.old main m → MayTurn self.old m thread → 1 ≤ most → IsTurned self.old self.new main m worker thread most n) }
         ensures few { IfOk result (λ n. n ≤ most) }
+        ensures counted { IfOk result (λ n. self.new.machine.steps ≡ self.old.machine.steps + n) }
+        ensures within { IfOk result (λ n. 1 ≤ n → self.new.machine.steps ≤ self.new.machine.limits.budget) }
         ensures same { IsSameRun self.old self.new }
         ensures refused { OnErr result (self.new ≡ self.old) }
     {
@@ -184,6 +187,14 @@ impl<'v> SafeVm<'v> {
             steps,
         })?;
         Ok(steps)
+    }
+
+    /// Whether a thread is runnable.
+    pub fn runnable(&self, thread: u32) -> bool
+        ensures { (main : Method) (m : Machine) → IsAt self.now main m → result ≡ running.runnable self.now.verified.image m thread }
+    {
+        let verified = self.verified;
+        self.vm.runnable(&verified.image, thread)
     }
 
     /// The lowest thread that is runnable and at home; none where none is.
