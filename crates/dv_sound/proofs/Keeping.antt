@@ -126,7 +126,15 @@ module _ (r : Run) (v : Vm) (k : IsKept r.verified.image r.main v r.log r.lent) 
   at_kept = record { main_is = main_there; replayed = subst (λ (l : Limits). replay r.verified.image k.has_main.method l r.log ≡ Stands k.machine) limits_same k.replayed }
 
   pub at_some : IsAtSome r
-  at_some = record { main = k.has_main.method; is_main = k.has_main.is_main; machine = k.machine; at = at_kept }
+  at_some = record {
+    main = k.has_main.method;
+    is_main = k.has_main.is_main;
+    machine = k.machine;
+    at = at_kept;
+    typings = k.typings;
+    accepted = k.good.accepted;
+    typed = k.stands.simulated.typed;
+  }
 
   module _ (main : Method) (m : Machine) (at : IsAt r main m) where
     pub main_is : k.has_main.method ≡ main

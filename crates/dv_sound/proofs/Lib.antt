@@ -9,3 +9,10 @@ pub mod Keeping
 pub mod Ready
 pub mod Premised
 pub mod Opened
+pub mod Unstuck
+pub mod SeededLogs
+pub mod Places
+pub mod Runnable
+pub mod Lowest
+pub mod Seeding
+pub mod Counted

@@ -5,12 +5,13 @@ use Rattle.dv_defs.specs.declared.run.Entry.{Entry}
 use Rattle.dv_defs.specs.declared.run.Limits.{Limits}
 use Rattle.dv_defs.specs.Images.{Image}
 use Rattle.dv_defs.specs.Pools.{Method, method_at}
+use Rattle.dv_machine.specs.Accepted.{Accepted}
 use Rattle.dv_machine.specs.Opening.{opening}
 use Rattle.dv_machine.specs.Replaying.{Stands, next_is_local, replay, turn}
 use Rattle.dv_machine.specs.Running.{ending_of, runnable}
 use Rattle.dv_machine.specs.State.{Machine}
 use Rattle.dv_machine.specs.StepLaws.{IsMain}
-use Rattle.dv_machine.specs.WellTyped.{Typings}
+use Rattle.dv_machine.specs.WellTyped.{Typings, WellTyped}
 use Rattle.dv_rules.specs.Verified.{VerifiedValue}
 use Rattle.dv_words.specs.State.{WordMachine}
 use Rattle.dv_core.specs.declared.vm.Vm.{Vm}
@@ -65,12 +66,15 @@ pub record IsAt (r : Run) (main : Method) (m : Machine) : Type 0 where
   pub main_is : method_at r.verified.image r.main.0 ≡ Some main
   pub replayed : replay r.verified.image main r.machine.limits r.log ≡ Stands m
 
--- its log leads to a state, for which its words stand
+-- its log leads to a state, which is well typed
 pub record IsAtSome (r : Run) : Type 0 where
   pub main : Method
   pub is_main : IsMain r.verified.image main
   pub machine : Machine
   pub at : IsAt r main machine
+  pub typings : Typings
+  pub accepted : Accepted r.verified.image typings
+  pub typed : WellTyped r.verified.image typings machine
 
 -- all but the state and the log is as before
 pub record IsSameRun (old new : Run) : Type 0 where

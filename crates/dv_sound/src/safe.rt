@@ -1,5 +1,5 @@
 // A machine whose state is the replay of its log.
-ghost use Rattle.std.specs.Prelude.{◌≡◌, ◌≤◌, [], IfOk, IsTrue, MatchOption, OnErr, All, List, ℕ, ◌≢◌, ◌↔◌, false, true, length};
+ghost use Rattle.std.specs.Prelude.{◌≡◌, ◌≤◌, ◌+◌, [], IfOk, IsTrue, MatchOption, OnErr, All, List, ℕ, ◌≢◌, ◌↔◌, false, true, length};
 ghost use Rattle.dv_defs.specs.Pools.{Method};
 ghost use Rattle.dv_machine.specs.Running as running;
 ghost use Rattle.dv_machine.specs.State.{Machine};
@@ -79,6 +79,8 @@ fn logged_turn(
         TurnedFrom program.now.image main vm.old log.old.items lent k worker thread most n vm.new log.new.items) }
     ensures limits { (main : MethodId) (lent : List ℕ) → IsKept program.now.image main vm.old log.old.items lent → 1 ≤ most → vm.new.limits ≡ vm.old.limits }
     ensures few { IfOk result (λ n. n ≤ most) }
+    ensures counted { IfOk result (λ n. (main : MethodId) (lent : List ℕ) → IsKept program.now.image main vm.old log.old.items lent → 1 ≤ most → vm.new.steps ≡ vm.old.steps + n) }
+    ensures within { (main : MethodId) (lent : List ℕ) → IsKept program.now.image main vm.old log.old.items lent → 1 ≤ most → vm.new.steps ≤ vm.new.limits.budget }
     ensures refused { OnErr result ((main : MethodId) (lent : List ℕ) → IsKept program.now.image main vm.old log.old.items lent → (machine_of vm.new ≡ machine_of vm.old) × (log.new.items ≡ log.old.items)) }
 {
     let image = &program.image;
@@ -174,7 +176,8 @@ impl<'v> SafeVm<'v> {
 
     /// How the run stands: none where it goes on.
     pub fn ending(&self) -> Option<Ending>
-        ensures { (main : Method) (m : Machine) → IsAt self.now main m → result ≡ running.ending_of self.now.verified.image m }
+        ensures ending { (main : Method) (m : Machine) → IsAt self.now main m → result ≡ running.ending_of self.now.verified.image m }
+        ensures leads { IsAtSome self.now }
     {
         let verified = self.verified;
         self.vm.ending(&verified.image)
@@ -196,6 +199,8 @@ impl<'v> SafeVm<'v> {
     pub fn turn(&mut self, worker: u32, thread: u32, most: u32) -> Result<u32, AllocError>
         ensures turned { IfOk result (λ n. (main : Method) (m : Machine) → IsAt self.old main m → MayTurn self.old m thread → 1 ≤ most → IsTurned self.old self.new main m worker thread most n) }
         ensures few { IfOk result (λ n. n ≤ most) }
+        ensures counted { IfOk result (λ n. self.new.machine.steps ≡ self.old.machine.steps + n) }
+        ensures within { IfOk result (λ n. 1 ≤ n → self.new.machine.steps ≤ self.new.machine.limits.budget) }
         ensures same { IsSameRun self.old self.new }
         ensures refused { OnErr result (self.new ≡ self.old) }
     {
