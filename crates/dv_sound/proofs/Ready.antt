@@ -1,11 +1,10 @@
 -- The lowest thread that is ready.
-use Rattle.std.proofs.Common.{◌≡◌, ◌≢◌, ◌<◌, ◌+◌, ℕ, suc, Bool, true, false, All, Option, Some, None, refl, subst, sym, arith}
-use Rattle.std.specs.Prelude.{length, nat_lt, slice_get}
+use Rattle.std.proofs.Common.{◌≡◌, ◌≢◌, ◌<◌, ◌+◌, ℕ, Bool, true, false, All, refl, subst, arith}
+use Rattle.std.specs.Prelude.{length, nat_lt}
 use Rattle.std.proofs.lemmas.Bool.{ltb-false, ltb-true}
 use Rattle.std.proofs.lemmas.Option.{slice_get_within}
-use Rattle.dv_defs.specs.Images.{Image}
-use Rattle.dv_machine.specs.Running.{runnable, runnable_one}
-use Rattle.dv_machine.specs.State.{Machine, Thread}
+use Rattle.dv_machine.specs.Running.{runnable}
+use Rattle.dv_machine.specs.State.{Machine}
 use Rattle.dv_sound.specs.Runs.{IsReady, NoneIsReady, Run}
 use Rattle.dv_sound.proofs.Going.{thread}
 

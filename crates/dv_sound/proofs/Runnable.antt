@@ -4,7 +4,7 @@ use Rattle.std.specs.Prelude.{slice_get, slice_index_or}
 use Rattle.std.proofs.lemmas.List.{drop_all}
 use Rattle.dv_defs.specs.Images.{Image}
 use Rattle.dv_machine.specs.Replaying.{runnable_from}
-use Rattle.dv_machine.specs.Running.{runnable, runnable_one, runnable_thread}
+use Rattle.dv_machine.specs.Running.{runnable, runnable_one}
 use Rattle.dv_machine.specs.State.{Machine, Thread}
 
 there : (ts : List Thread) (k : ℕ) → k < length ts → (t : Thread) × (slice_get ts k ≡ Some t) × (drop k ts ≡ t ∷ drop (suc k) ts)

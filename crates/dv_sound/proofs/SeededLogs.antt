@@ -1,5 +1,5 @@
 -- Each seed has a schedule that leads to an ending.
-use Rattle.std.proofs.Common.{◌≡◌, ℕ, zero, suc, ◌+◌, ◌≤◌, ◌%◌, ◌++◌, true, false, Option, Some, None, Ok, List, [], ◌∷◌, length, refl, sym, ap, ◌∙◌, subst, arith}
+use Rattle.std.proofs.Common.{◌≡◌, ℕ, zero, suc, ◌+◌, ◌≤◌, ◌%◌, ◌++◌, true, false, Option, Some, None, Ok, List, [], ◌∷◌, length, refl, sym, ◌∙◌, subst, arith}
 use Rattle.std.specs.Prelude.{nat_eq}
 use Rattle.std.proofs.lemmas.Bool.{eq-eqb}
 use Rattle.dv_defs.specs.declared.run.Ending.{Ending}
@@ -9,7 +9,7 @@ use Rattle.dv_defs.specs.Images.{Image}
 use Rattle.dv_defs.specs.Pools.{Method}
 use Rattle.dv_machine.specs.Accepted.{Accepted}
 use Rattle.dv_machine.specs.Opening.{opening}
-use Rattle.dv_machine.specs.Replaying.{IsFinished, Turned, picked, runnable_from, seeded_log, turn}
+use Rattle.dv_machine.specs.Replaying.{IsFinished, picked, runnable_from, seeded_log}
 use Rattle.dv_machine.specs.Running.{ending_of}
 use Rattle.dv_machine.specs.Seeds.{word_of}
 use Rattle.dv_machine.specs.State.{Machine}

@@ -11,10 +11,10 @@ use Rattle.dv_defs.specs.declared.run.Entry.{Entry}
 use Rattle.dv_defs.specs.declared.run.Limits.{Limits}
 use Rattle.dv_defs.specs.Pools.{Method}
 use Rattle.dv_machine.specs.Opening.{opening}
-use Rattle.dv_machine.specs.Replaying.{Stands, Turned, picked, replay, runnable_from, seeded_from, seeded_log, turn}
+use Rattle.dv_machine.specs.Replaying.{picked, replay, runnable_from, turn}
 use Rattle.dv_machine.specs.Running.{ending_of, runnable}
 use Rattle.dv_machine.specs.Seeds.{generator_of, log_of_seed, word_of}
-use Rattle.dv_machine.specs.State.{Machine, Reads}
+use Rattle.dv_machine.specs.State.{Machine}
 use Rattle.dv_rules.specs.Verified.{VerifiedValue}
 use Rattle.dv_simulation.specs.TurnLaws.{IsSeededSoFar, appended}
 use Rattle.dv_simulation.proofs.Counting.{turns_advance}

@@ -6,7 +6,7 @@ use Rattle.dv_defs.specs.declared.machine.Frame.{Frame}
 use Rattle.dv_defs.specs.declared.run.Ending.{Ending}
 use Rattle.dv_defs.specs.declared.run.Entry.{Entry}
 use Rattle.dv_defs.specs.Images.{Image}
-use Rattle.dv_defs.specs.Op.{Enter, Exit, Invoke, Op, Return, ReturnVoid, is_local, needs}
+use Rattle.dv_defs.specs.Op.{Enter, Exit, Invoke, Op, Return, ReturnVoid, is_local}
 use Rattle.dv_machine.specs.Accepted.{Accepted}
 use Rattle.dv_machine.specs.Local.{local}
 use Rattle.dv_machine.specs.Mem.{mem}

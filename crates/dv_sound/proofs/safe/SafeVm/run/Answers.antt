@@ -1,8 +1,8 @@
-use Rattle.std.proofs.Common.{◌≡◌, ◌≤◌, ℕ, Option, None, [], sym, ◌∙◌, subst, arith}
+use Rattle.std.proofs.Common.{◌≡◌, ℕ, Option, None, sym, ◌∙◌, subst, arith}
 use Rattle.std.specs.Prelude.{MatchOption}
 use Rattle.dv_machine.specs.Running.{ending_of}
 use Rattle.dv_sound.specs.Runs.{IsReady, NoneIsReady}
-use Rattle.dv_sound.proofs.Lowest.{may, one_is_ready, ran_more, ran_none}
+use Rattle.dv_sound.proofs.Lowest.{may, one_is_ready, ran_more}
 use Rattle.dv_sound.proofs.Places.{none_is, same_then, typed_at}
 use Rattle.dv_sound.proofs.Seeding.{some_steps}
 use Rattle.dv_sound.proofs.safe.SafeVm.run.Goals as goal

@@ -1,4 +1,4 @@
-use Rattle.std.proofs.Common.{◌≡◌, ◌<◌, ◌≤◌, true, false, length, sym, ap, ◌∙◌, arith}
+use Rattle.std.proofs.Common.{◌≡◌, true, false, length, sym, ap, ◌∙◌, arith}
 use Rattle.dv_machine.specs.Running.{runnable}
 use Rattle.dv_sound.proofs.Runnable.{count_held, count_runs, from_none}
 use Rattle.dv_sound.proofs.safe.SafeVm.runnable_count.Goals as goal

@@ -1,8 +1,7 @@
-use Rattle.std.proofs.Common.{◌≡◌, ◌++◌, None, Ok, Err, Result, List, [], refl, sym, ap, ◌∙◌, subst, arith}
+use Rattle.std.proofs.Common.{◌≡◌, ◌++◌, None, Ok, Err, Result, List, [], refl, sym, ap, ◌∙◌, arith}
 use Rattle.std.specs.Prelude.{OnErr}
 use Rattle.dv_defs.specs.declared.run.Entry.{Entry}
 use Rattle.dv_machine.specs.Running.{ending_of}
-use Rattle.dv_machine.specs.Seeds.{log_of_seed}
 use Rattle.dv_machine.specs.State.{Reads}
 use Rattle.dv_sound.specs.Runs.{Run}
 use Rattle.dv_sound.proofs.Places.{none_is, same_then, some_is, typed_at}
