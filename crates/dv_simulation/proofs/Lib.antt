@@ -1,4 +1,5 @@
 pub mod Fields
+pub mod Keys
 mod Chars
 mod Puts
 mod Steps

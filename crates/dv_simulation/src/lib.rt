@@ -2,12 +2,17 @@
 //! for the state after it. Each law is the contract of a function that does nothing.
 #![tactic(auto)]
 
-ghost use Rattle.dv_simulation.specs.Laws.{AcceptedImagesFit, AcceptedStepsFollow, OpeningsAreSimulated, TypedStatesFit};
+ghost use Rattle.dv_simulation.specs.Laws.{AcceptedImagesFit, AcceptedKeysRise, AcceptedStepsFollow, OpeningsAreSimulated, TypedStatesFit};
 ghost use Rattle.dv_simulation.specs.RunningLaws.{RunningFollows};
 
 /// An image that the verifier accepts is what the laws of steps on words take.
 pub fn accepted_images_fit()
     ensures law { AcceptedImagesFit }
+{}
+
+/// In an image that the verifier accepts the keys of each switch rise.
+pub fn accepted_keys_rise()
+    ensures law { AcceptedKeysRise }
 {}
 
 /// A well-typed state of such an image, with a heap that is counted and short strings and arrays, is what they take.
