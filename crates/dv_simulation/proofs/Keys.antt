@@ -1,6 +1,6 @@
 -- In code without static faults the keys of switches rise.
-use Rattle.std.proofs.Common.{◌≡◌, ◌<◌, ◌<ℤ◌, ◌+ℤ◌, ◌×◌, ℕ, zero, suc, ◌/◌, ℤ, pos, List, [], ◌∷◌, length, Bool, true, false, Option, Some, None, Ok, Err, refl, sym, ap, ◌∙◌, subst, arith}
-use Rattle.std.specs.Prelude.{◌&&◌, int_lt, nat_eq, slice_get}
+use Rattle.std.proofs.Common.{◌≡◌, ◌<ℤ◌, ◌+ℤ◌, ℕ, zero, suc, ℤ, pos, List, [], ◌∷◌, Bool, true, false, Option, Some, None, Ok, Err, refl, ap, subst, arith}
+use Rattle.std.specs.Prelude.{int_lt, nat_eq, slice_get}
 use Rattle.std.proofs.lemmas.Bool.{and_parts}
 use Rattle.std.proofs.lemmas.Int.{ints}
 use Rattle.std.proofs.lemmas.Option.{same_Some}
@@ -12,10 +12,10 @@ use Rattle.dv_defs.specs.declared.names.Ty.{Ty}
 use Rattle.dv_defs.specs.Accepting.{is_even, item_places, payload_places, place_unless, rises, tile_places}
 use Rattle.dv_defs.specs.Families.{Family, family_at}
 use Rattle.dv_defs.specs.Images.{Image}
-use Rattle.dv_defs.specs.Numbers.{elements, jump}
-use Rattle.dv_defs.specs.Op.{Arg, Case, Code, IntDivide, IntOp, LongDivide, LongOp, LongShift, New, Resolved, cases_packed, cases_sparse, class_of_base, code_at, fill_op, int_op, long_op, move_op, new_op, on_pool, op_of, packed_op, resolve, resolve_by, result_op, sparse_op}
+use Rattle.dv_defs.specs.Numbers.{jump}
+use Rattle.dv_defs.specs.Op.{Arg, Case, Code, IntDivide, IntOp, LongDivide, LongOp, LongShift, New, Resolved, cases_packed, cases_sparse, class_of_base, code_at, fill_op, int_op, long_op, move_op, new_op, on_pool, packed_op, resolve, resolve_by, resolved_field, resolved_method, result_op, sparse_op}
 use Rattle.dv_defs.specs.Parts.{Bin, Width, is_division, is_shift}
-use Rattle.dv_defs.specs.Statics.{At, fetch, fetch_in}
+use Rattle.dv_defs.specs.Statics.{fetch, fetch_in}
 use Rattle.dv_defs.specs.Tiling.{Item, IsInsn, IsPayload, Tile, payload_at, payload_in, tile_at}
 use Rattle.dv_defs.specs.Types.{is_array}
 use Rattle.dv_flowlaws.proofs.NoPlaces.{no_place, none_left, none_right}
@@ -88,11 +88,12 @@ module _ (image : Image) (code : Code) (p : Payload) where
 
   payload_kept : (ts : List Tile) (at : ℕ) → tile_places image code ts ≡ [] → payload_at ts at ≡ Some p → IsKept p
   payload_kept [] at none e = absurd (cc e)
-  payload_kept (t ∷ ts) at none e = by (nat_eq t.at at) e
+  payload_kept (t ∷ ts) at none e =
+      by (nat_eq t.at at) (payload_kept ts at (none_right (item_places image code t.at t.item) (tile_places image code ts) none)) e
     where
-      by : (b : Bool) → payload_of_tile (elim b [ true ↦ Some t | false ↦ tile_at ts at ]) ≡ Some p → IsKept p
-      by true f = item_kept t.at t.item f (none_left (item_places image code t.at t.item) (tile_places image code ts) none)
-      by false f = payload_kept ts at (none_right (item_places image code t.at t.item) (tile_places image code ts) none) f
+      by : (b : Bool) → (payload_at ts at ≡ Some p → IsKept p) → payload_of_tile (elim b [ true ↦ Some t | false ↦ tile_at ts at ]) ≡ Some p → IsKept p
+      by true later f = item_kept t.at t.item f (none_left (item_places image code t.at t.item) (tile_places image code ts) none)
+      by false later f = later f
 
 keys_kept : (ks ts : List ℤ) → IsKept (payload.Sparse ks ts) → rises ks ≡ true
 keys_kept ks ts kept = no_place (rises ks) kept.0 (rule.S 9) (none_right (place_unless (is_even kept.0) kept.0 (rule.S 7)) (place_unless (rises ks) kept.0 (rule.S 9)) kept.1)
@@ -177,11 +178,11 @@ module _ (image : Image) (code : Code) (at : ℕ) (i : Insn) (none : tile_places
   rises_of Family.PackedSwitch = packed at _ (payload_at code.tiles (jump at i.off))
   rises_of Family.SparseSwitch =
       sparse at _ (payload_at code.tiles (jump at i.off)) (λ ks ts e. keys_kept ks ts (payload_kept image code (payload.Sparse ks ts) code.tiles (jump at i.off) none e))
-  rises_of (Family.FieldGet s) = pooled _ _ (λ x. tt)
-  rises_of (Family.FieldPut s) = pooled _ _ (λ x. tt)
-  rises_of (Family.StaticGet s) = pooled _ _ (λ x. tt)
-  rises_of (Family.StaticPut s) = pooled _ _ (λ x. tt)
-  rises_of (Family.Invoke c) = pooled _ _ (λ m. tt)
+  rises_of (Family.FieldGet s) = pooled (resolved_field image (slice_get code.method.info.fields i.index)) _ (λ x. tt)
+  rises_of (Family.FieldPut s) = pooled (resolved_field image (slice_get code.method.info.fields i.index)) _ (λ x. tt)
+  rises_of (Family.StaticGet s) = pooled (resolved_field image (slice_get code.method.info.fields i.index)) _ (λ x. tt)
+  rises_of (Family.StaticPut s) = pooled (resolved_field image (slice_get code.method.info.fields i.index)) _ (λ x. tt)
+  rises_of (Family.Invoke c) = pooled (resolved_method image (slice_get code.method.info.methods i.index)) _ (λ m. tt)
   rises_of (Family.IntBinary o) = calculated o _ _ _
   rises_of (Family.IntTwo o) = calculated o _ _ _
   rises_of (Family.IntLiteral o) = calculated o _ _ _
