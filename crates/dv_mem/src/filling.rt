@@ -137,14 +137,7 @@ fn fill_array(
 
 /// fill-array-data: the array takes the payload at an address of these units.
 #[tactic(auto, using(crate::proofs::Data::typed_is_data))]
-pub fn fill(
-    units: &[u16],
-    heap: &mut Heap,
-    stack: &mut Stack,
-    next: u32,
-    a: u16,
-    to: u32,
-) -> Next
+pub fn fill(units: &[u16], heap: &mut Heap, stack: &mut Stack, next: u32, a: u16, to: u32) -> Next
     ensures { (image : Linked) → let p = payload_at (tiles_in (tiling units.now)) to in
         IsNullOrArray (is_fill_type (width_in p)) heap.old (reg_word (top_frame stack.old) a) →
         Answers result (word_mem (seen image stack.old heap.old next) (Fill a (width_in p) (elements_in p))) stack.old heap.old stack.new heap.new }
@@ -159,8 +152,8 @@ pub fn fill(
     let Kind::Array(ty) = heap.kind(array) else {
         return Next::On;
     };
-    let Some(ty) = component(ty) else {
+    let Some(element) = component(ty) else {
         return Next::On;
     };
-    fill_array(heap, stack, next, array, &ty, data)
+    fill_array(heap, stack, next, array, &element, data)
 }
