@@ -23,7 +23,7 @@ IsNoCase first count number = (k : ℕ) → k < count → first +ℤ pos k ≢ n
 abbrev pub DoRise : List ℕ → ℕ → ℕ → Type 0
 DoRise units place count = (j k : ℕ) → j < k → k < count → int_at units (place + 2 * j) <ℤ int_at units (place + 2 * k)
 
--- the key is the one found; how many there are where it is none of them
+-- a key stands at this place among so many numbers, and at none before; where it is none of them, this is how many there are
 pub record IsKeyPlace (units : List ℕ) (place count : ℕ) (key : ℤ) (found : ℕ) : Type 0 where
   pub within : found ≤ count
   pub before : (k : ℕ) → k < found → int_at units (place + 2 * k) ≢ key
