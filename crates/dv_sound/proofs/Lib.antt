@@ -6,3 +6,6 @@ pub mod Turning
 pub mod Played
 pub mod Others
 pub mod Keeping
+pub mod Slices
+pub mod Lent
+pub mod Made

@@ -3,6 +3,7 @@
 #![tactic(auto)]
 
 mod error;
+mod lending;
 mod moves;
 mod playing;
 mod premises;
@@ -12,6 +13,7 @@ mod safe;
 mod seeded;
 
 pub use error::ReplayError;
+pub use lending::Refused;
 pub use safe::SafeVm;
 
 #[cfg(test)]
