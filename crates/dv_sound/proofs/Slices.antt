@@ -78,8 +78,8 @@ module _ (image : Image) (most : ℕ) (s u : Frame) (made : RanLocally image mos
   abbrev part_to : (v : Frame) → ((z : Frame) → locals_here image n s ≡ Some z → v ≡ z) → RanLocally image n n s v
   part_to v reached = record {
     few = omega arith;
-    local = λ k z x l e found. made.local k z x (omega (arith, l, few)) e found;
-    reached = reached;
+    local = λ k z x l keys e found. made.local k z x (omega (arith, l, few)) keys e found;
+    reached = λ keys z e. reached z e;
     whole = λ l x found. absurd (omega (arith, l));
   }
 
