@@ -79,7 +79,7 @@ made_on image most done old new made ran steps start =
         let ends = made.reached (keys_first image k old.steps old.start keys (omega (arith, late))) b.mid b.first in
         let rest = keys_rest image k old.steps (k - old.steps) old.start b.mid keys (omega (arith, split)) b.first in
         ran.local (k - old.steps) u x (omega (arith, l, late, steps)) (subst (λ (f : Frame). KeysRiseAmong image (k - old.steps) f) (sym ends) rest)
-            (ap (locals_here image (k - old.steps)) ends ∙ b.rest) found
+        (ap (locals_here image (k - old.steps)) ends ∙ b.rest) found
 
 -- a slice whose local steps are known to lead to its last frame
 pub made_by : (image : Image) (s : Slice) → locals_here image s.steps s.start ≡ Some s.end → IsMade image s

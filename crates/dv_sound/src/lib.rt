@@ -16,6 +16,3 @@ mod seeded;
 pub use error::ReplayError;
 pub use lending::Refused;
 pub use safe::SafeVm;
-
-#[cfg(test)]
-mod tests;
