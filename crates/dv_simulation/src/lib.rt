@@ -4,6 +4,9 @@
 
 ghost use Rattle.dv_simulation.specs.Laws.{AcceptedImagesFit, AcceptedStepsFollow, OpeningsAreSimulated, TypedStatesFit};
 ghost use Rattle.dv_simulation.specs.RunningLaws.{RunningFollows};
+ghost use Rattle.dv_simulation.specs.ImageLaws.{StaticsAreWholeOfLinked};
+ghost use Rattle.dv_simulation.specs.KeepLaws.{LocalsStay, NextIsAlike, StepsLeaveOthers};
+ghost use Rattle.dv_simulation.specs.TurnLaws.{LocalsFollow};
 
 /// An image that the verifier accepts is what the laws of steps on words take.
 pub fn accepted_images_fit()
@@ -30,4 +33,30 @@ pub fn openings_are_simulated()
 /// tagged machine's.
 pub fn running_follows()
     ensures law { RunningFollows }
+{}
+
+/// A step of a thread on words leaves the other threads as they are and starts at most one, where the limit has room for it. It counts at most one
+/// step.
+pub fn steps_leave_others()
+    ensures law { StepsLeaveOthers }
+{}
+
+/// A thread whose next step is local keeps that while another thread steps.
+pub fn locals_stay()
+    ensures law { LocalsStay }
+{}
+
+/// Whether a thread's next step is local is told by words that stand for the state.
+pub fn next_is_alike()
+    ensures law { NextIsAlike }
+{}
+
+/// Numbers with which the static fields of a linked image are declared have 32 bits, or are a long's.
+pub fn statics_are_whole_of_linked()
+    ensures law { StaticsAreWholeOfLinked }
+{}
+
+/// So many local instructions of the frame on top, done on words, are as many steps of the tagged machine: of a turn and of a schedule.
+pub fn locals_follow()
+    ensures law { LocalsFollow }
 {}
