@@ -1,0 +1,4 @@
+pub mod Following
+pub mod MessageCells
+pub mod SlotSteps
+pub mod Ended
