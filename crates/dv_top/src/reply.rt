@@ -3,9 +3,12 @@ ghost use Rattle.std.specs.Prelude.{◌≡◌, ◌<◌, ◌≤◌, length, IfOk,
 ghost use Rattle.dv_console.specs.Refusals.{refusal_text};
 ghost use Rattle.dv_top.specs.Said.{text_limit};
 
+use crate::printing::fault_lines;
 use crate::reading::TEXT_LIMIT;
 use crate::status::Status;
 use dv_console::{Refusal, refusal_line};
+use dv_program::ProgramError;
+use dv_pverify::VerifyError;
 use std::alloc::{AllocError, Global};
 
 /// A status, and the text that goes with it.
@@ -31,6 +34,25 @@ pub fn refused(alloc: Global, refusal: &Refusal) -> Result<Reply, AllocError>
 {
     let line = refusal_line(alloc, refusal)?;
     fixed(alloc, Status::BadText, line.bytes())
+}
+
+/// The reply to a text that gives no program.
+pub fn no_program(alloc: Global, error: ProgramError) -> Result<Reply, AllocError> {
+    match error {
+        ProgramError::Refused(refusal) => refused(alloc, &refusal),
+        ProgramError::Memory => Err(AllocError),
+    }
+}
+
+/// The reply to a program that the verifier refuses.
+pub fn faulty(alloc: Global, error: VerifyError) -> Result<Reply, AllocError> {
+    match error {
+        VerifyError::Faults { image, faults } => Ok(Reply {
+            status: Status::Refused,
+            text: fault_lines(alloc, &image, faults.items())?,
+        }),
+        VerifyError::Memory => Err(AllocError),
+    }
 }
 
 pub fn is_too_large(text: &[u8]) -> bool

@@ -1,12 +1,12 @@
-// Programs that are to be verified, and words of other commands.
-use crate::tests::{RUN, Row, UNREAD, assert_rows, report_of};
+// Programs that are to be verified.
+use crate::tests::{NOTHING_RAN, RUN, Row, assert_rows, report_of};
 use std::test::Fail;
 
 /// A program is to be verified, and is accepted.
 const VERIFY: Row<'static> = Row {
     words: &["verify"],
     taken: "#accepted 1 methods\n",
-    turns: &[],
+    log: NOTHING_RAN,
     ..RUN
 };
 
@@ -239,64 +239,6 @@ return-void
     ),
 ];
 
-/// Words that are read, of commands that aren't built.
-const COMMANDS: &[Row<'static>] = &[
-    Row {
-        words: &["run", "Main", "budget=5"],
-        ..UNREAD
-    },
-    Row {
-        words: &["run", "Main", "heap=64"],
-        ..UNREAD
-    },
-    Row {
-        words: &["run", "Main", "seed=1"],
-        ..UNREAD
-    },
-    Row {
-        words: &["run", "Main", "workers=2"],
-        ..UNREAD
-    },
-    Row {
-        words: &["run", "Main", "log=yes"],
-        ..UNREAD
-    },
-    Row {
-        words: &["replay", "Main"],
-        ..UNREAD
-    },
-    Row {
-        words: &["demo", "number=1", "classes=1", "threads=1"],
-        ..UNREAD
-    },
-    Row {
-        words: &["verify", "x"],
-        ..UNREAD
-    },
-    // The settings that a run has where none are set.
-    Row {
-        words: &["run", "Main", "workers=1"],
-        ..RUN
-    },
-    Row {
-        words: &["run", "Main", "budget=10000000", "heap=1048576"],
-        ..RUN
-    },
-    // A source and a sink that fail.
-    Row {
-        failing_reads: &[0],
-        status: 3,
-        taken: "",
-        ..VERIFY
-    },
-    Row {
-        failing_writes: &[9],
-        status: 4,
-        taken: "#accepted",
-        ..VERIFY
-    },
-];
-
 #[test]
 fn bodies_are_accepted_or_their_faults_told(rt: HostRuntime) -> Result<(), Fail> {
     assert_rows(&rt, rt.alloc(), BODIES)
@@ -311,11 +253,6 @@ fn texts_are_accepted_or_refused(rt: HostRuntime) -> Result<(), Fail> {
         assert!(rt; report.log.is_empty());
     }
     Ok(())
-}
-
-#[test]
-fn commands_that_are_built_are_done(rt: HostRuntime) -> Result<(), Fail> {
-    assert_rows(&rt, rt.alloc(), COMMANDS)
 }
 
 #[test]

@@ -95,7 +95,6 @@ fn program(alloc: Global) -> Result<String, AllocError> {
 fn a_thousand_classes_are_verified(rt: HostRuntime) -> Result<(), Fail> {
     let row = Row {
         words: &["verify"],
-        turns: &[],
         ..RUN
     };
     let text = program(rt.alloc())?;

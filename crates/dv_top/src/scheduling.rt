@@ -1,0 +1,30 @@
+// Schedules as they are printed, and what is said of one that is refused.
+use crate::reply::{Reply, fixed};
+use crate::status::Status;
+use dv_defs::Entry;
+use dv_log::print_log;
+use dv_sound::ReplayError;
+use std::alloc::{AllocError, Global};
+
+/// Appends the block of a schedule, which is read again behind the classes of a text.
+pub fn add_schedule(text: &mut Vec<u8>, log: &[Entry]) -> Result<(), AllocError> {
+    let entries = print_log(*text.allocator(), log)?;
+    text.extend_from_slice(b".schedule\n")?;
+    text.extend_from_slice(entries.bytes())?;
+    text.extend_from_slice(b".end schedule\n")
+}
+
+/// The reply to a schedule that is refused: the entry at which it is, and why.
+pub fn refused_schedule(alloc: Global, error: ReplayError) -> Result<Reply, AllocError> {
+    let line = match error {
+        ReplayError::NotRunnable(entry) => {
+            format!(in alloc; "#schedule entry {entry}: not runnable\n")?
+        }
+        ReplayError::Long(entry) => format!(in alloc; "#schedule entry {entry}: past the end\n")?,
+        ReplayError::Short(entry) => {
+            format!(in alloc; "#schedule entry {entry}: stops early\n")?
+        }
+        ReplayError::Memory(error) => return Err(error),
+    };
+    fixed(alloc, Status::Schedule, line.as_bytes())
+}
