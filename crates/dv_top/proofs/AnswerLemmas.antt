@@ -1,11 +1,12 @@
 -- What an answer owes, from what the reply to the words owes.
 use Rattle.std.proofs.Common.{◌≡◌, ◌≢◌, ℕ, ◌+◌, List, [], All, Option, Some, None, IsSome, inl, inr, arith, ap, sym, refl, ◌∙◌, append-nil}
 use Rattle.dv_defs.specs.declared.run.Entry.{Entry}
+use Rattle.dv_defs.specs.declared.run.Limits.{Limits}
 use Rattle.dv_io.specs.Io.{HasRisen, after_taking, after_write}
 use Rattle.dv_top.specs.declared.status.Status.TheVariants as exit
-use Rattle.dv_top.specs.Answering.{IsAnswer, IsIdle, IsTold, HasTaken, MayRun}
+use Rattle.dv_top.specs.declared.words.Command.TheVariants as command
+use Rattle.dv_top.specs.Answering.{IsAnswer, IsEntry, IsIdle, IsTold, HasTaken, MayRun}
 use Rattle.dv_top.specs.Pieces.{TookPart}
-use Rattle.dv_top.specs.Program.{IsEntry}
 use Rattle.dv_top.specs.Said.{IsSaid, text_limit, usage}
 use Rattle.dv_top.specs.Status.{code_of}
 use Rattle.dv_top.specs.Words.{asked_in, class_to_run}
@@ -60,6 +61,7 @@ module _ {S K : Type 0} (left : S → Option (List ℕ)) (read_faults : S → �
     idle = reply.idle;
     not_run = reply.not_run;
     legal = reply.legal;
+    not_replayed = λ class limits asked told. absurd (reply.told.no_want told);
   }
 
   -- a front of the reply is written
@@ -78,6 +80,7 @@ module _ {S K : Type 0} (left : S → Option (List ℕ)) (read_faults : S → �
     idle = λ idle. absurd (write_fault_not_idle idle);
     not_run = reply.not_run;
     legal = reply.legal;
+    not_replayed = λ class limits asked told. absurd (omega arith);
   }
 
   -- a read failed
@@ -96,11 +99,12 @@ module _ {S K : Type 0} (left : S → Option (List ℕ)) (read_faults : S → �
     idle = λ _. none;
     not_run = λ _. none;
     legal = λ bytes is some. absurd (some none);
+    not_replayed = λ class limits asked told. none;
   }
 
   -- memory was wanting
-  pub wanting : (source source_after : S) (sink : K) (log : List Entry) → (asked_in words ≡ None → source_after ≡ source) → All IsEntry log → (class_to_run words ≡ None → log ≡ []) → ((bytes : List ℕ) → left source ≡ Some bytes → log ≢ [] → MayRun words bytes log) → IsAnswer left read_faults taken write_faults words source source_after sink sink log (code_of exit.NoMemory)
-  wanting source source_after sink log unread entries not_run legal = record {
+  pub wanting : (source source_after : S) (sink : K) (log : List Entry) → (asked_in words ≡ None → source_after ≡ source) → All IsEntry log → (class_to_run words ≡ None → log ≡ []) → ((bytes : List ℕ) → left source ≡ Some bytes → log ≢ [] → MayRun words bytes log) → ((class : List ℕ) (limits : Limits) → asked_in words ≡ Some (command.Replay class limits) → log ≡ []) → IsAnswer left read_faults taken write_faults words source source_after sink sink log (code_of exit.NoMemory)
+  wanting source source_after sink log unread entries not_run legal not_replayed = record {
     unread = λ none. (unread none, inr (inr refl));
     usage = λ told. absurd (omega arith);
     read_fault = λ told. absurd (omega arith);
@@ -114,4 +118,5 @@ module _ {S K : Type 0} (left : S → Option (List ℕ)) (read_faults : S → �
     idle = λ idle. absurd (want_not_idle idle);
     not_run = not_run;
     legal = legal;
+    not_replayed = λ class limits asked told. not_replayed class limits asked;
   }

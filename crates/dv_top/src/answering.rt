@@ -1,19 +1,12 @@
 // From the words and the source to a status and the sink.
-ghost use Rattle.std.specs.Prelude.{◌≡◌, ◌≢◌, ℕ, ◌+◌, List, [], map, None, Some, All, IfOk, IsSome, OnOk, IsErrOf, MatchResult, string_bytes};
-ghost use Rattle.dv_defs.specs.Accepting.{AreImageFaults};
-ghost use Rattle.dv_defs.specs.Images.{Image};
+ghost use Rattle.std.specs.Prelude.{◌≡◌, ◌≢◌, ℕ, ◌+◌, List, [], map, None, Some, All, IfOk, IsSome, OnErr, OnOk, IsErrOf, MatchResult, string_bytes};
+ghost use Rattle.dv_defs.specs.declared.run.Limits.{Limits as LimitsOf};
 ghost use Rattle.dv_io.specs.Io.{HasRisen, after_write, after_taking};
-ghost use Rattle.dv_machine.specs.Opening.{usual};
-ghost use Rattle.dv_top.specs.Answering.{IsAnswer, IsIdle, IsTold, IsReadOf, IsScheduleOf, MayRun};
-ghost use Rattle.dv_top.specs.declared.instruction.Instruction.{Instruction};
 ghost use Rattle.dv_top.specs.declared.reading.ReadError.TheVariants.{Memory as NoMemory};
-ghost use Rattle.dv_top.specs.Engine.{IsLegalLog};
-ghost use Rattle.dv_top.specs.Image.{image_of, IsLinked};
-ghost use Rattle.dv_top.specs.Program.{IsImageOf, IsEntry, faults_of};
-ghost use Rattle.dv_top.specs.Said.{IsSaid, IsSaidOfClass, IsRun, IsBuilt, IsAccepted, usage, text_limit};
+ghost use Rattle.dv_top.specs.Answering.{IsAnswer, IsEntry, IsIdle, IsTold, IsReadOf, MayRun};
+ghost use Rattle.dv_top.specs.Said.{IsSaid, usage, text_limit};
 ghost use Rattle.dv_top.specs.Status.{code_of};
-ghost use Rattle.dv_top.specs.Straight.{IsStraight, IsInRange, IsMain};
-ghost use Rattle.dv_top.specs.Words.{asked_in, class_of, class_to_run};
+ghost use Rattle.dv_top.specs.Words.{IsUsable, asked_in, class_of, class_to_run};
 
 use crate::listing::reply_to_listing;
 use crate::printing::USAGE;
@@ -80,6 +73,8 @@ fn reply_to_words<S: Source>(
     ensures not_run { class_to_run (map string_bytes words.now) ≡ None → log.new.items ≡ [] }
     ensures legal { (bytes : List ℕ) → S.left source.old ≡ Some bytes → log.new.items ≢ []
         → MayRun (map string_bytes words.now) bytes log.new.items }
+    ensures not_replayed { (class : List ℕ) (limits : LimitsOf) → asked_in (map string_bytes words.now) ≡ Some (Command.Replay class limits)
+        → OnErr result (log.new.items ≡ []) }
 {
     match command_of(alloc, words)? {
         None => Ok(fixed(alloc, Status::Usage, USAGE)?),
@@ -97,7 +92,8 @@ fn reply_to_command(
     text: &[u8],
     log: &mut Vec<Entry>,
 ) -> Result<Reply, AllocError>
-    requires { log.old.items ≡ [] }
+    requires empty { log.old.items ≡ [] }
+    requires usable { IsUsable (Some command.now) }
     ensures told { IfOk result (λ reply. IsTold (code_of reply.status) × (code_of reply.status ≢ code_of Status.Usage)) }
     ensures said { (words : List (List ℕ)) (bytes : List ℕ) → asked_in words ≡ Some command.now → IsReadOf bytes text.now
         → IfOk result (λ reply. IsSaid words bytes log.new.items (code_of reply.status) reply.text.items) }
@@ -106,6 +102,7 @@ fn reply_to_command(
     ensures not_run { class_of (Some command.now) ≡ None → log.new.items ≡ [] }
     ensures legal { (words : List (List ℕ)) (bytes : List ℕ) → asked_in words ≡ Some command.now → IsReadOf bytes text.now
         → log.new.items ≢ [] → MayRun words bytes log.new.items }
+    ensures not_replayed { (class : List ℕ) (limits : LimitsOf) → command.now ≡ Command.Replay class limits → OnErr result (log.new.items ≡ []) }
 {
     match command {
         Command::Run {

@@ -1,4 +1,11 @@
 // The program of a text: its image, its main method, and the schedule at its end.
+ghost use Rattle.std.specs.Prelude.{◌<◌, ◌≤◌, ◌-◌, ◌^◌, IfOk, length};
+ghost use Rattle.dv_program.specs.Images.{Answers, main_in};
+ghost use Rattle.dv_sound.specs.Runs.{HasMain};
+ghost use Rattle.dv_top.specs.Programs.{program_to_replay, program_to_run, with_main};
+ghost use Rattle.dv_top.specs.Said.{text_limit};
+ghost use Rattle.dv_top.specs.Scheduling.{IsSchedule};
+
 use dv_defs::{Entry, Image, MethodId, Seq, Text};
 use dv_program::{ProgramError, main_method, read_program, read_scheduled};
 use std::alloc::Global;
@@ -12,7 +19,11 @@ pub struct Program {
 }
 
 /// The program of a text, of which the class of this descriptor is to be run.
-pub fn program_to_run(alloc: Global, class: &Text, text: &[u8]) -> Result<Program, ProgramError> {
+pub fn program_to_run(alloc: Global, class: &Text, text: &[u8]) -> Result<Program, ProgramError>
+    requires { length text.now < 2 ^ 32 - 1 }
+    ensures program { Answers (program_to_run class.now text.now) result }
+    ensures main { IfOk result (λ p. HasMain p.image p.main.0) }
+{
     let image = read_program(alloc, text)?;
     with_main(alloc, class, image, Seq::of(Vec::new(alloc)))
 }
@@ -22,7 +33,12 @@ pub fn program_to_replay(
     alloc: Global,
     class: &Text,
     text: &[u8],
-) -> Result<Program, ProgramError> {
+) -> Result<Program, ProgramError>
+    requires { length text.now < 2 ^ 32 - 1 }
+    ensures program { Answers (program_to_replay class.now text.now) result }
+    ensures main { IfOk result (λ p. HasMain p.image p.main.0) }
+    ensures schedule { length text.now ≤ text_limit → IfOk result (λ p. IsSchedule p.schedule) }
+{
     let scheduled = read_scheduled(alloc, text)?;
     with_main(alloc, class, scheduled.image, scheduled.log)
 }
@@ -33,7 +49,10 @@ fn with_main(
     class: &Text,
     image: Image,
     schedule: Seq<Entry>,
-) -> Result<Program, ProgramError> {
+) -> Result<Program, ProgramError>
+    ensures program { Answers (with_main image schedule (main_in image class.now)) result }
+    ensures main { IfOk result (λ p. HasMain p.image p.main.0) }
+{
     let main = main_method(alloc, &image, class.bytes())?;
     Ok(Program {
         image,

@@ -1,4 +1,16 @@
 // The reply to a text of which a class is to be run on a given schedule.
+ghost use Rattle.std.specs.Prelude.{◌≡◌, ◌≢◌, ◌<◌, ◌≤◌, ◌^◌, ℕ, List, [], All, IfOk, OnErr, Ok, Result, Some, length};
+ghost use Rattle.dv_defs.specs.Pools.{Method, method_at};
+ghost use Rattle.dv_console.specs.declared.refusals.Refusal.{Refusal};
+ghost use Rattle.dv_sound.specs.Moves.{AreUsable};
+ghost use Rattle.dv_sound.specs.Runs.{HasMain};
+ghost use Rattle.dv_top.specs.declared.program.Program.{Program as ProgramOf};
+ghost use Rattle.dv_top.specs.Answering.{IsEntry, IsIdle, IsLogOfReplay, IsReadOf, IsTold};
+ghost use Rattle.dv_top.specs.Programs.{program_to_replay};
+ghost use Rattle.dv_top.specs.Scheduling.{IsReplyOfReplay, IsSchedule};
+ghost use Rattle.dv_top.specs.Said.{IsSaidOfReplay, text_limit};
+ghost use Rattle.dv_top.specs.Status.{code_of};
+
 use crate::ended::reply_of_ended;
 use crate::printing::TOO_LARGE;
 use crate::program::{Program, program_to_replay};
@@ -19,7 +31,19 @@ pub fn reply_to_replaying(
     limits: &Limits,
     text: &[u8],
     log: &mut Vec<Entry>,
-) -> Result<Reply, AllocError> {
+) -> Result<Reply, AllocError>
+    requires empty { log.old.items ≡ [] }
+    requires usable { AreUsable limits.now }
+    ensures told { IfOk result (λ reply. IsTold (code_of reply.status) × (code_of reply.status ≢ code_of Status.Usage)) }
+    ensures said { (bytes : List ℕ) → IsReadOf bytes text.now
+        → IfOk result (λ reply. IsSaidOfReplay bytes (program_to_replay class.now bytes) limits.now log.new.items (code_of reply.status)
+            reply.text.items) }
+    ensures entries { All IsEntry log.new.items }
+    ensures idle { IfOk result (λ reply. IsIdle (code_of reply.status) → log.new.items ≡ []) }
+    ensures legal { (bytes : List ℕ) → IsReadOf bytes text.now → log.new.items ≢ []
+        → IsLogOfReplay bytes (program_to_replay class.now bytes) limits.now log.new.items }
+    ensures wanting { OnErr result (log.new.items ≡ []) }
+{
     if is_too_large(text) {
         return fixed(alloc, Status::TooLarge, TOO_LARGE);
     }
@@ -35,7 +59,20 @@ fn reply_to_program(
     program: Program,
     limits: &Limits,
     log: &mut Vec<Entry>,
-) -> Result<Reply, AllocError> {
+) -> Result<Reply, AllocError>
+    requires empty { log.old.items ≡ [] }
+    requires main { HasMain program.image program.main.0 }
+    requires usable { AreUsable limits.now }
+    requires schedule { IsSchedule program.schedule }
+    ensures told { IfOk result (λ reply. IsTold (code_of reply.status) × (code_of reply.status ≢ code_of Status.Usage)) }
+    ensures said { (bytes : List ℕ) (found : Result ProgramOf Refusal) → length bytes ≤ text_limit → found ≡ Ok program
+        → IfOk result (λ reply. IsSaidOfReplay bytes found limits.now log.new.items (code_of reply.status) reply.text.items) }
+    ensures entries { All IsEntry log.new.items }
+    ensures idle { IfOk result (λ reply. IsIdle (code_of reply.status) → log.new.items ≡ []) }
+    ensures legal { (bytes : List ℕ) (found : Result ProgramOf Refusal) → length bytes ≤ text_limit → found ≡ Ok program
+        → log.new.items ≢ [] → IsLogOfReplay bytes found limits.now log.new.items }
+    ensures wanting { OnErr result (log.new.items ≡ []) }
+{
     let Program {
         image,
         main,
@@ -55,7 +92,16 @@ fn reply_of_replay(
     limits: &Limits,
     schedule: &[Entry],
     log: &mut Vec<Entry>,
-) -> Result<Reply, AllocError> {
+) -> Result<Reply, AllocError>
+    requires empty { log.old.items ≡ [] }
+    requires main { HasMain verified.now.image main.0 }
+    requires usable { AreUsable limits.now }
+    requires few { length schedule.now < 2 ^ 32 }
+    ensures replayed { (m : Method) → method_at verified.now.image main.0 ≡ Some m
+        → IfOk result (λ reply. IsReplyOfReplay verified.now.image m limits.now schedule.now log.new.items (code_of reply.status)
+            reply.text.items) }
+    ensures wanting { OnErr result (log.new.items ≡ []) }
+{
     match SafeVm::replay(alloc, verified, main, *limits, schedule) {
         Ok(run) => {
             let reply = reply_of_ended(alloc, &run, false)?;

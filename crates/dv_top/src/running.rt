@@ -1,4 +1,19 @@
 // The reply to a text of which a class is to be run.
+ghost use Rattle.std.specs.Prelude.{◌≡◌, ◌≢◌, ◌≤◌, ℕ, List, [], All, IfOk, OnErr, OnOk, None as Nothing, Ok, Result, Some, length};
+ghost use Rattle.dv_defs.specs.Pools.{Method, method_at};
+ghost use Rattle.dv_console.specs.declared.refusals.Refusal.{Refusal};
+ghost use Rattle.dv_machine.specs.Replaying.{IsLegal};
+ghost use Rattle.dv_machine.specs.Running.{ending_of};
+ghost use Rattle.dv_machine.specs.State.{Machine};
+ghost use Rattle.dv_sound.specs.Moves.{AreUsable};
+ghost use Rattle.dv_sound.specs.Runs.{HasMain, IsAt, IsSameRun};
+ghost use Rattle.dv_top.specs.declared.program.Program.{Program as ProgramOf};
+ghost use Rattle.dv_top.specs.Answering.{IsEntry, IsIdle, IsLogOfRun, IsReadOf, IsTold};
+ghost use Rattle.dv_top.specs.Programs.{program_to_run};
+ghost use Rattle.dv_top.specs.Runs.{AreFirstTurns, AreTurns, IsRun};
+ghost use Rattle.dv_top.specs.Said.{IsSaidOfRun, text_limit};
+ghost use Rattle.dv_top.specs.Status.{code_of};
+
 use crate::ended::reply_of_ended;
 use crate::printing::TOO_LARGE;
 use crate::program::{Program, program_to_run};
@@ -27,7 +42,18 @@ pub fn reply_to_running(
     how: &Running,
     text: &[u8],
     log: &mut Vec<Entry>,
-) -> Result<Reply, AllocError> {
+) -> Result<Reply, AllocError>
+    requires empty { log.old.items ≡ [] }
+    requires usable { AreUsable how.now.limits }
+    ensures told { IfOk result (λ reply. IsTold (code_of reply.status) × (code_of reply.status ≢ code_of Status.Usage)) }
+    ensures said { (bytes : List ℕ) → IsReadOf bytes text.now
+        → IfOk result (λ reply. IsSaidOfRun bytes (program_to_run class.now bytes) how.now.seed how.now.limits how.now.shown log.new.items
+            (code_of reply.status) reply.text.items) }
+    ensures entries { All IsEntry log.new.items }
+    ensures idle { IfOk result (λ reply. IsIdle (code_of reply.status) → log.new.items ≡ []) }
+    ensures legal { (bytes : List ℕ) → IsReadOf bytes text.now → log.new.items ≢ []
+        → IsLogOfRun bytes (program_to_run class.now bytes) how.now.seed how.now.limits log.new.items }
+{
     if is_too_large(text) {
         return fixed(alloc, Status::TooLarge, TOO_LARGE);
     }
@@ -43,7 +69,19 @@ fn reply_to_program(
     program: Program,
     how: &Running,
     log: &mut Vec<Entry>,
-) -> Result<Reply, AllocError> {
+) -> Result<Reply, AllocError>
+    requires empty { log.old.items ≡ [] }
+    requires main { HasMain program.image program.main.0 }
+    requires usable { AreUsable how.now.limits }
+    ensures told { IfOk result (λ reply. IsTold (code_of reply.status) × (code_of reply.status ≢ code_of Status.Usage)) }
+    ensures said { (bytes : List ℕ) (found : Result ProgramOf Refusal) → length bytes ≤ text_limit → found ≡ Ok program
+        → IfOk result (λ reply. IsSaidOfRun bytes found how.now.seed how.now.limits how.now.shown log.new.items (code_of reply.status)
+            reply.text.items) }
+    ensures entries { All IsEntry log.new.items }
+    ensures idle { IfOk result (λ reply. IsIdle (code_of reply.status) → log.new.items ≡ []) }
+    ensures legal { (bytes : List ℕ) (found : Result ProgramOf Refusal) → length bytes ≤ text_limit → found ≡ Ok program
+        → log.new.items ≢ [] → IsLogOfRun bytes found how.now.seed how.now.limits log.new.items }
+{
     let Program { image, main, .. } = program;
     match verify_one_by_one(alloc, image) {
         Ok(verified) => reply_of_run(alloc, &verified, main, how, log),
@@ -58,7 +96,17 @@ fn reply_of_run(
     main: MethodId,
     how: &Running,
     log: &mut Vec<Entry>,
-) -> Result<Reply, AllocError> {
+) -> Result<Reply, AllocError>
+    requires empty { log.old.items ≡ [] }
+    requires main { HasMain verified.now.image main.0 }
+    requires usable { AreUsable how.now.limits }
+    ensures ran { (m : Method) → method_at verified.now.image main.0 ≡ Some m
+        → IfOk result (λ reply. AreTurns how.now.seed verified.now.image m how.now.limits log.new.items
+            × IsRun verified.now.image m how.now.limits log.new.items how.now.shown (code_of reply.status) reply.text.items) }
+    ensures legal { (m : Method) → method_at verified.now.image main.0 ≡ Some m → log.new.items ≢ []
+        → IsLegal verified.now.image m how.now.limits log.new.items
+            × AreFirstTurns how.now.seed verified.now.image m how.now.limits log.new.items }
+{
     let mut run = SafeVm::open(alloc, verified, main, how.limits)?;
     let reply = match lead(&mut run, how.seed) {
         Ok(()) => reply_of_ended(alloc, &run, how.shown),
@@ -69,7 +117,15 @@ fn reply_of_run(
 }
 
 /// Turns until the run has ended.
-fn lead(run: &mut SafeVm, seed: Option<u64>) -> Result<(), AllocError> {
+fn lead(run: &mut SafeVm, seed: Option<u64>) -> Result<(), AllocError>
+    requires { (run.old.log ≡ []) × (run.old.lent ≡ []) }
+    ensures turns { OnOk result ((main : Method) (m : Machine) → IsAt run.old main m
+        → AreTurns seed run.old.verified.image main run.old.machine.limits run.new.log) }
+    ensures first { OnErr result ((main : Method) (m : Machine) → IsAt run.old main m
+        → AreFirstTurns seed run.old.verified.image main run.old.machine.limits run.new.log) }
+    ensures ended { OnOk result ((main : Method) (m : Machine) → IsAt run.new main m → ending_of run.new.verified.image m ≢ Nothing) }
+    ensures same { IsSameRun run.old run.new }
+{
     match seed {
         Some(seed) => run.seeded(seed),
         None => run.run(),

@@ -1,4 +1,8 @@
 // Schedules as they are printed, and what is said of one that is refused.
+ghost use Rattle.std.specs.Prelude.{◌≡◌, ◌++◌, IfOk, OnOk, Some};
+ghost use Rattle.dv_top.specs.Runs.{schedule_text};
+ghost use Rattle.dv_top.specs.Scheduling.{line_of};
+
 use crate::reply::{Reply, fixed};
 use crate::status::Status;
 use dv_defs::Entry;
@@ -7,7 +11,9 @@ use dv_sound::ReplayError;
 use std::alloc::{AllocError, Global};
 
 /// Appends the block of a schedule, which is read again behind the classes of a text.
-pub fn add_schedule(text: &mut Vec<u8>, log: &[Entry]) -> Result<(), AllocError> {
+pub fn add_schedule(text: &mut Vec<u8>, log: &[Entry]) -> Result<(), AllocError>
+    ensures { OnOk result (text.new.items ≡ text.old.items ++ schedule_text log.now) }
+{
     let entries = print_log(*text.allocator(), log)?;
     text.extend_from_slice(b".schedule\n")?;
     text.extend_from_slice(entries.bytes())?;
@@ -15,7 +21,9 @@ pub fn add_schedule(text: &mut Vec<u8>, log: &[Entry]) -> Result<(), AllocError>
 }
 
 /// The reply to a schedule that is refused: the entry at which it is, and why.
-pub fn refused_schedule(alloc: Global, error: ReplayError) -> Result<Reply, AllocError> {
+pub fn refused_schedule(alloc: Global, error: ReplayError) -> Result<Reply, AllocError>
+    ensures { IfOk result (λ reply. (reply.status ≡ Status.Schedule) × (line_of error ≡ Some reply.text.items)) }
+{
     let line = match error {
         ReplayError::NotRunnable(entry) => {
             format!(in alloc; "#schedule entry {entry}: not runnable\n")?

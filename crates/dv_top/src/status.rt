@@ -37,6 +37,7 @@ pub enum Status {
 }
 
 impl Status {
+    ghost use Rattle.dv_top.specs.Runs.{status_by, status_by_end};
     ghost use Rattle.dv_top.specs.Status.{code_of};
 
     /// The number of the status.
@@ -47,7 +48,9 @@ impl Status {
     }
 
     /// The status of a run that ended so, by how its first thread ended.
-    pub fn of(ending: Ending, first: Option<End>) -> Status {
+    pub fn of(ending: Ending, first: Option<End>) -> Status
+        ensures { result ≡ status_by ending first }
+    {
         match ending {
             Ending::Done => Status::by_end(first),
             Ending::HeapFull(_) => Status::HeapFull,
@@ -58,7 +61,9 @@ impl Status {
     }
 
     /// The status of a run of which no thread is left, by how its first one ended.
-    fn by_end(first: Option<End>) -> Status {
+    fn by_end(first: Option<End>) -> Status
+        ensures { result ≡ status_by_end first }
+    {
         match first {
             Some(End::Died(_)) => Status::Uncaught,
             _ => Status::Done,

@@ -1,6 +1,6 @@
 // The command line.
 ghost use Rattle.std.specs.Prelude.{◌≡◌, map, IfOk, string_bytes};
-ghost use Rattle.dv_top.specs.Words.{asked_in, built, is_usual};
+ghost use Rattle.dv_top.specs.Words.{IsUsable, asked_in, built};
 
 use dv_console::{Cmd, WordError, read_words};
 use dv_defs::{Limits, Text};
@@ -29,7 +29,9 @@ pub enum Command {
 }
 
 /// The command, if it is built: not one of several workers, and no demo.
-fn built(command: Cmd) -> Option<Command> {
+fn built(command: Cmd) -> Option<Command>
+    ensures { result ≡ built command }
+{
     match command {
         Cmd::Run {
             name,
@@ -60,7 +62,8 @@ fn built(command: Cmd) -> Option<Command> {
 
 /// Reads the words of the command line, without the program's name; none where they aren't a command that is built.
 pub fn command_of(alloc: Global, words: &[String]) -> Result<Option<Command>, AllocError>
-    ensures { IfOk result (λ command. command ≡ asked_in (map string_bytes words.now)) }
+    ensures asked { IfOk result (λ command. command ≡ asked_in (map string_bytes words.now)) }
+    ensures usable { IfOk result IsUsable }
 {
     match read_words(alloc, words) {
         Ok(command) => Ok(built(command)),
