@@ -1,5 +1,5 @@
 -- Where a text is refused.
-use Rattle.std.proofs.Common.{◌≡◌, ℕ, ◌≤◌, false, List, length, Result, Ok, Err, Some, ap, arith, sym, subst}
+use Rattle.std.proofs.Common.{◌≡◌, ℕ, ◌≤◌, ◌↔◌, false, List, length, Result, Ok, Err, Some, ap, arith, sym, subst}
 use Rattle.dv_defs.specs.declared.run.Entry.{Entry}
 use Rattle.dv_defs.specs.declared.run.Limits.{Limits}
 use Rattle.dv_defs.specs.Accepting.{Accepts}
@@ -54,36 +54,34 @@ runs_are_judged words bytes log status text class seed limits shown asked few sa
         let ran = run_status p.image main limits log shown status text r in
         accepted_judged bytes (program_to_run class bytes) status p main is ran.good_text ran.accepted
 
+module _ (bytes : List ℕ) (found : Result Program Refusal) (limits : Limits) (few : length bytes ≤ text_limit) where
+  not_scheduled : (status : ℕ) (text : List ℕ) → IsSaidOfNoRun bytes found status text → status ≡ code_of exit.Schedule → ⊥
+  not_scheduled status text (TooLarge many r) e = large_or_small _ many few
+  not_scheduled status text (NoProgram _ why none r) e = absurd (omega (arith, r.0, e))
+  not_scheduled status text (Refused _ p gives broken fs are r) e = absurd (omega (arith, r.0, e))
+
+  -- a schedule that is run isn't refused
+  ran_on : (p : Program) (main : Method) (status : ℕ) (text : List ℕ) → IsAccepted bytes found p main → IsRun p.image main limits p.schedule false status text → HasRefusedSchedule bytes found limits → ⊥
+  ran_on p main status text is r h =
+      let same = same_program bytes found p h.program is.program h.accepted.program in
+      let mains = same_main bytes found p h.program main h.main same is h.accepted in
+      let moved = run_moved p h.program main h.main limits p.schedule h.program.schedule false status text same mains (ap (λ (x : Program). x.schedule) same) r in
+      not_refused h.program.image h.main limits h.program.schedule false status text h.line moved h.refused
+
+  replay_judged : (log : List Entry) (status : ℕ) (text : List ℕ) → IsSaidOfReplay bytes found limits log status text → IsJudged found status × ((status ≡ code_of exit.Schedule) ↔ HasRefusedSchedule bytes found limits)
+  replay_judged log status text (NotReplayed r) =
+      (not_run_judged bytes found status text few r, (λ e. absurd (not_scheduled status text r e), λ h. absurd (run_or_not bytes found status text h.program h.main r h.accepted)))
+  replay_judged log status text (ScheduleRefused p main is line refused r) =
+      let told = r.0 in (
+        accepted_judged bytes found status p main is (λ e. absurd (omega (arith, told, e))) (λ e. absurd (omega (arith, told, e))),
+        (λ _. record { program = p; main = main; accepted = is; line = line; refused = refused }, λ _. told),
+      )
+  replay_judged log status text (Replayed p main is given r) =
+      let ran = run_status p.image main limits p.schedule false status text r in (
+        accepted_judged bytes found status p main is ran.good_text ran.accepted,
+        (λ e. absurd (ran.scheduled e), λ h. absurd (ran_on p main status text is r h)),
+      )
+
 pub replays_are_judged : ReplaysAreJudged
-replays_are_judged words bytes log status text class limits asked few said = by (said_of_asked words (command.Replay class limits) bytes log status text asked said)
-  where
-    abbrev found : Result Program Refusal
-    found = program_to_replay class bytes
-
-    abbrev It : Type 0
-    It = IsJudged found status × ((status ≡ code_of exit.Schedule → HasRefusedSchedule bytes found limits) × (HasRefusedSchedule bytes found limits → status ≡ code_of exit.Schedule))
-
-    not_scheduled : IsSaidOfNoRun bytes found status text → status ≡ code_of exit.Schedule → HasRefusedSchedule bytes found limits
-    not_scheduled (TooLarge many r) e = absurd (large_or_small _ many few)
-    not_scheduled (NoProgram _ why none r) e = let told = r.0 in absurd (omega arith)
-    not_scheduled (Refused _ p gives broken fs are r) e = let told = r.0 in absurd (omega arith)
-
-    ran_on : (p : Program) (main : Method) → IsAccepted bytes found p main → (text : List ℕ) → IsRun p.image main limits p.schedule false status text → HasRefusedSchedule bytes found limits → ⊥
-    ran_on p main is text r h =
-        let same = same_program bytes found p h.program is.program h.accepted.program in
-        let mains = same_main bytes found p h.program main h.main same is h.accepted in
-        let moved = run_moved p h.program main h.main limits p.schedule h.program.schedule false status text same mains (ap (λ (x : Program). x.schedule) same) r in
-        not_refused h.program.image h.main limits h.program.schedule false status text h.line moved h.refused
-
-    by : IsSaidOfReplay bytes found limits log status text → It
-    by (NotReplayed r) = (not_run_judged bytes found status text few r, (not_scheduled r, λ h. absurd (run_or_not bytes found status text h.program h.main r h.accepted)))
-    by (ScheduleRefused p main is line refused r) =
-        let told = r.0 in (
-          accepted_judged bytes found status p main is (λ e. omega (arith, told, e)) (λ e. omega (arith, told, e)),
-          (λ _. record { program = p; main = main; accepted = is; line = line; refused = refused }, λ _. told),
-        )
-    by (Replayed p main is given r) =
-        let ran = run_status p.image main limits p.schedule false status text r in (
-          accepted_judged bytes found status p main is ran.good_text ran.accepted,
-          (λ e. absurd (ran.scheduled e), λ h. absurd (ran_on p main is text r h)),
-        )
+replays_are_judged words bytes log status text class limits asked few said =
+    replay_judged bytes (program_to_replay class bytes) limits few log status text (said_of_asked words (command.Replay class limits) bytes log status text asked said)

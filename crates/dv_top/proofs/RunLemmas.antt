@@ -121,8 +121,8 @@ by_replay (error.Short k) image log r line is told = absurd (no_short k r is)
 by_replay (error.Memory e) image log r line is told = cc
 
 by_short : (image : Image) (main : Method) (limits : Limits) (log : List Entry) (k : ℕ) (line : List ℕ) → k ≡ length log → IsShort image main limits log → line_of (error.Short k) ≡ Some line → refused_line image log (replay image main limits log) ≡ Some line
-by_short image main limits log k line all (m, stands, open) told =
-    ap (refused_line image log) stands ∙ ap (short_line log) open ∙ ap (λ n. line_of (error.Short n)) (sym all) ∙ told
+by_short image main limits log k line all (m, stands, going) told =
+    ap (refused_line image log) stands ∙ ap (short_line log) going ∙ ap (λ n. line_of (error.Short n)) (sym all) ∙ told
 
 -- a schedule that a replay refuses is refused by the line that is told
 pub refused_by : (e : ReplayError) (image : Image) (main : Method) (limits : Limits) (log : List Entry) (line : List ℕ) → IsRefused e image main limits log → line_of e ≡ Some line → refused_line image log (replay image main limits log) ≡ Some line

@@ -66,7 +66,7 @@ good_if false x y gx gy = gy
 
 good_then : {A : Type 0} (o : Option A) (f : A → Option Cmd) → ((x : A) → o ≡ Some x → Good (f x)) → Good (option_and_then f o)
 good_then None f each c e = absurd (cc)
-good_then (Some x) f each = each x refl
+good_then (Some x) f each c e = each x refl c e
 
 good_map : {A : Type 0} (o : Option A) (f : A → Cmd) → ((x : A) → o ≡ Some x → IsUsable (built (f x))) → Good (option_map f o)
 good_map None f each c e = absurd (cc)
@@ -106,7 +106,7 @@ good_named of (name ∷ words) each = good_if (is_java_name name) (of (descripto
 
 good_alone : (c : Cmd) (words : List (List ℕ)) → IsUsable (built c) → Good (alone c words)
 good_alone c [] usable d e = let same : c ≡ d = cc in subst (λ (x : Cmd). IsUsable (built x)) same usable
-good_alone c (word ∷ words) usable = good_none
+good_alone c (word ∷ words) usable d e = good_none d e
 
 good_demo : (words : List (List ℕ)) → Good (demo_in words)
 good_demo words =
