@@ -23,7 +23,8 @@ use Rattle.dv_frames.specs.declared.heads.Head.{Head}
 use Rattle.dv_frames.specs.Tops.{head_of}
 use Rattle.dv_local.specs.Tops.{RanTop, TopBecame, TopRan}
 use Rattle.dv_core.specs.declared.guest.Guest.{Guest}
-use Rattle.dv_core.specs.Advancing.{RanAt, is_local_top, running_frame, runs_in, thread_is_local_of, top_frame, with_frame}
+use Rattle.dv_simulation.specs.KeepLaws.{is_local_level_of, thread_is_local_of}
+use Rattle.dv_core.specs.Advancing.{RanAt, running_frame, runs_in, top_frame, with_frame}
 use Rattle.dv_core.specs.Guests.{IsOrdered}
 use Rattle.dv_core.proofs.Seen.{HasLevels, all_first, all_more, all_rest, set_same, zip_has, zip_set}
 use Rattle.dv_core.proofs.Waits.{CodeOn, OwnAt, zip_own}
@@ -175,7 +176,7 @@ module _ (ss : List WordStack) (es : List End) (os : List ℕ) (t : ℕ) where
 
   idle_local : (image : Image) (q : Option WordThread) → slice_get (zipped ss es os) t ≡ q → runs_in (slice_get es t) ≡ false → thread_is_local_of image q ≡ false
   idle_local image None there is = refl
-  idle_local image (Some own) there is = ap (λ (b : Bool). b && is_local_top image own.levels) (sym (own_runs own there) ∙ is)
+  idle_local image (Some own) there is = ap (λ (b : Bool). b && is_local_level_of image own.levels) (sym (own_runs own there) ∙ is)
 
   pub not_local : (image : Image) → runs_in (slice_get es t) ≡ false → thread_is_local_of image (slice_get (zipped ss es os) t) ≡ false
   not_local image is = idle_local image (slice_get (zipped ss es os) t) refl is
@@ -185,8 +186,8 @@ module _ (ss : List WordStack) (es : List End) (os : List ℕ) (t : ℕ) where
     pub own_frame : running_frame (slice_get (zipped ss es os) t) ≡ top_frame own.levels
     own_frame = ap running_frame there ∙ ap (λ (e : End). if is_running e then top_frame own.levels else None) living
 
-    pub own_local : (image : Image) → thread_is_local_of image (slice_get (zipped ss es os) t) ≡ is_local_top image own.levels
-    own_local image = ap (thread_is_local_of image) there ∙ ap (λ (e : End). is_running e && is_local_top image own.levels) living
+    pub own_local : (image : Image) → thread_is_local_of image (slice_get (zipped ss es os) t) ≡ is_local_level_of image own.levels
+    own_local image = ap (thread_is_local_of image) there ∙ ap (λ (e : End). is_running e && is_local_level_of image own.levels) living
 
 -- ---- what is on top
 
@@ -195,7 +196,7 @@ no_head_frame [] none = refl
 no_head_frame (level.Code f ∷ ls) none = absurd (cc none)
 no_head_frame (level.Init c r ∷ ls) none = refl
 
-pub no_head_local : (image : Image) (ls : List Level) → None ≡ head_of (first ls) → false ≡ is_local_top image ls
+pub no_head_local : (image : Image) (ls : List Level) → None ≡ head_of (first ls) → false ≡ is_local_level_of image ls
 no_head_local image [] none = refl
 no_head_local image (level.Code f ∷ ls) none = absurd (cc none)
 no_head_local image (level.Init c r ∷ ls) none = refl

@@ -9,11 +9,11 @@ use Rattle.dv_monitor.specs.State.{no_monitors}
 use Rattle.dv_words.specs.declared.state.Frame.{Frame}
 use Rattle.dv_words.specs.declared.state.Level.{Level}
 use Rattle.dv_words.specs.declared.state.Level.TheVariants as level
-use Rattle.dv_words.specs.State.{WordShared, WordStack, WordThread}
+use Rattle.dv_words.specs.State.{WordStack, WordThread}
 use Rattle.dv_steps.proofs.Fetching.{is_fetched}
 use Rattle.dv_steps.specs.Answering.{IsAtInsn, IsStackOf}
 use Rattle.dv_steps.specs.Steps.{At}
-use Rattle.dv_core.specs.Advancing.{is_local_top}
+use Rattle.dv_simulation.specs.KeepLaws.{is_local_level_of}
 use Rattle.dv_core.specs.Guests.{IsAtOp}
 use Rattle.dv_core.proofs.Waits.{HasCode}
 
@@ -46,7 +46,7 @@ module _ (image : Image) (s : WordStack) (f : Frame) (ls : List Level) (levels :
   pub at_alone : IsAtOp thread_alone alone has.x
   at_alone = record { levels = levels; method = has.method; fetched = has.fetched; next = refl }
 
-  pub local_alone : (insn : Insn) (b : Bool) → IsAtInsn alone insn has.x.op → ((code : Code) (at : ℕ) (op : Op) → op_of image code at insn ≡ Ok op → b ≡ is_local op) → b ≡ is_local_top image s.levels
+  pub local_alone : (insn : Insn) (b : Bool) → IsAtInsn alone insn has.x.op → ((code : Code) (at : ℕ) (op : Op) → op_of image code at insn ≡ Ok op → b ≡ is_local op) → b ≡ is_local_level_of image s.levels
   local_alone insn b there is =
       let fetched = is_fetched image there.code f.at insn there.size has.x f.method.0 there.has_code has.fetched there.spelled in
-      is there.code f.at has.x.op fetched.op ∙ (ap is_local_at (sym has.fetched) ∙ ap (is_local_top image) (sym levels))
+      is there.code f.at has.x.op fetched.op ∙ (ap is_local_at (sym has.fetched) ∙ ap (is_local_level_of image) (sym levels))

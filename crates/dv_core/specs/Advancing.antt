@@ -1,10 +1,9 @@
 -- Many steps of a thread at once, each of which touches its frame alone.
-use Rattle.std.specs.Prelude.{◌≡◌, ◌∷◌, ◌&&◌, ℕ, Bool, false, List, Option, Some, None, length, nat_eq, slice_get, slice_set, if◌then◌else◌}
+use Rattle.std.specs.Prelude.{◌≡◌, ◌∷◌, ℕ, Bool, false, List, Option, Some, None, length, nat_eq, slice_get, slice_set, if◌then◌else◌}
 use Rattle.dv_defs.specs.declared.machine.End.{End}
 use Rattle.dv_defs.specs.declared.machine.End.TheVariants as end
 use Rattle.dv_defs.specs.Images.{Image}
-use Rattle.dv_defs.specs.Statics.{fetch}
-use Rattle.dv_machine.specs.Replaying.{is_local_at, is_running}
+use Rattle.dv_machine.specs.Replaying.{is_running}
 use Rattle.dv_words.specs.declared.state.Frame.{Frame}
 use Rattle.dv_words.specs.declared.state.Level.{Level}
 use Rattle.dv_words.specs.declared.state.Level.TheVariants as level
@@ -62,17 +61,3 @@ pub record RanSteps (image : Image) (most done : ℕ) (old new : WordMachine) (t
 pub record RanNone (done : ℕ) (old new : WordMachine) : Type 0 where
   pub none : done ≡ 0
   pub same : new ≡ old
-
--- ---- the next step
-
-abbrev pub is_local_top : Image → List Level → Bool
-is_local_top image (level.Code f ∷ ls) = is_local_at (fetch image f.method.0 f.at)
-is_local_top image ls = false
-
-abbrev pub thread_is_local_of : Image → Option WordThread → Bool
-thread_is_local_of image None = false
-thread_is_local_of image (Some th) = is_running th.end && is_local_top image th.levels
-
--- the next step of the thread is local
-abbrev pub next_is_local_of : Image → WordMachine → ℕ → Bool
-next_is_local_of image m t = thread_is_local_of image (slice_get m.threads t)

@@ -8,7 +8,8 @@ ghost use Rattle.dv_words.specs.Standing.{HeapFits, IsSmall};
 ghost use Rattle.dv_words.specs.State.{WordMachine, WordStack, WordThread};
 ghost use Rattle.dv_steps.specs.StepLaws.{ReadsFit, with_top};
 ghost use Rattle.dv_threads.specs.Kept.{bounds, threads_of};
-ghost use Rattle.dv_core.specs.Advancing.{RanAt, RanNone, RanSteps, RunsFrame, is_local_top, next_is_local_of, running_frame, runs_in, takes, top_frame, with_frame};
+ghost use Rattle.dv_core.specs.Advancing.{RanAt, RanNone, RanSteps, RunsFrame, running_frame, runs_in, takes, top_frame, with_frame};
+ghost use Rattle.dv_simulation.specs.KeepLaws.{is_local_level_of, next_is_local_of};
 ghost use Rattle.dv_core.specs.Guests.{IsOrdered};
 ghost use Rattle.dv_core.specs.Machines.{machine_of};
 ghost use Rattle.dv_core.specs.Watching.{AreWatchable, IsTopWatched};
@@ -90,7 +91,7 @@ fn countable(steps: u64, most: u32) -> u32
 
 /// Whether a frame goes on at a local instruction.
 fn is_at_local(image: &Image, stack: &Stack) -> bool
-    ensures { IsTopWatched image.now stack.now.levels → result ≡ is_local_top image.now stack.now.levels }
+    ensures { IsTopWatched image.now stack.now.levels → result ≡ is_local_level_of image.now stack.now.levels }
 {
     let Some(_head) = stack.head() else {
         return false;

@@ -1,4 +1,5 @@
 pub mod Following
 pub mod MessageCells
-pub mod SlotSteps
 pub mod Ended
+pub mod Endings
+pub mod Held

@@ -83,5 +83,5 @@ module _ (image : Image) (T : Typings) (acc : Accepted image T) (has : HasMessag
   message_is (suc o) is =
       let own = has_field (suc o) is in
       let there = is.object.has_kind in
-      by_cell o (cell_at h (suc o) slot) refl (cell_fits o is.object.kind own there) 
+      by_cell o (cell_at h (suc o) slot) refl (cell_fits o is.object.kind own there)
       (subst (λ u. IsWord u (cell_at h (suc o) slot)) (sym (is_there o is.object.kind there)) (is_word_in w h o slot stands (is_plain o is.object.kind own there)))

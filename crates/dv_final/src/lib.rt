@@ -6,8 +6,6 @@ mod classes;
 pub mod laws;
 mod lines;
 mod messages;
-mod slots;
 mod uncaught;
 
 pub use lines::final_lines;
-

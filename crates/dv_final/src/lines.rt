@@ -1,9 +1,9 @@
 // What follows the guest's printed bytes in the final text of a run.
-ghost use Rattle.std.specs.Prelude.{◌≡◌, ◌++◌, IfOk, OnOk, decimal};
+ghost use Rattle.std.specs.Prelude.{◌≡◌, ◌++◌, IfOk, OnOk, Some, decimal};
 ghost use Rattle.dv_machine.specs.Final.{blocked_line, blocked_text, ends_well};
 ghost use Rattle.dv_core.specs.Machines.{machine_of};
 ghost use Rattle.dv_core.specs.Watching.{AreWatchable};
-ghost use Rattle.dv_final.specs.Final.{blocked_lines, ending_line, ending_lines, ending_text, final_lines_of, newline_after};
+ghost use Rattle.dv_final.specs.Final.{blocked_lines, ending_line, ending_lines, ending_lines_by, ending_text, final_lines_of, newline_after};
 
 #[cfg(test)]
 mod tests;
@@ -121,18 +121,32 @@ fn add_ending_line(text: &mut Vec<u8>, ending: Ending) -> Result<(), AllocError>
     Ok(())
 }
 
-/// Appends how a run stands: nothing where it goes on; else the line of its ending, behind those of the threads that are held up where none may
-/// step.
+/// Appends the line of an ending, where none may step behind those of the threads that are held up.
+fn add_lines_of(
+    text: &mut Vec<u8>,
+    image: &Image,
+    vm: &Vm,
+    ending: Ending,
+) -> Result<(), AllocError>
+    ensures { AreWatchable image.now vm.now → OnOk result (text.new.items ≡ text.old.items ++ ending_lines_by image.now (machine_of vm.now) (Some ending)) }
+{
+    match ending {
+        Ending::NoRunnable => {
+            add_blocked_lines(text, image, vm)?;
+            add_ending_line(text, ending)
+        }
+        _ => add_ending_line(text, ending),
+    }
+}
+
+/// Appends how a run has ended; nothing where it goes on.
 fn add_ending_lines(text: &mut Vec<u8>, image: &Image, vm: &Vm) -> Result<(), AllocError>
     ensures { AreWatchable image.now vm.now → OnOk result (text.new.items ≡ text.old.items ++ ending_lines image.now (machine_of vm.now)) }
 {
-    let Some(ending) = vm.ending(image) else {
-        return Ok(());
-    };
-    if ending == Ending::NoRunnable {
-        add_blocked_lines(text, image, vm)?;
+    match vm.ending(image) {
+        Some(ending) => add_lines_of(text, image, vm, ending),
+        None => Ok(()),
     }
-    add_ending_line(text, ending)
 }
 
 /// What follows the guest's printed bytes in the final text of a run: LF where the bytes don't end with it, a line for each thread that died of an

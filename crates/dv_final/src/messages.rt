@@ -6,12 +6,14 @@ ghost use Rattle.dv_steps.specs.Natives as natives;
 ghost use Rattle.dv_steps.specs.Natives.{text_of};
 ghost use Rattle.dv_final.specs.Final.{message, word_there};
 
-use crate::slots::message_slot;
 use dv_defs::{Chars, Image, Text};
 use dv_heap::Heap;
 use dv_names::utf8_of_chars;
+use dv_throw::throwable_slot;
 use dv_words::Kind;
 use std::alloc::{AllocError, Global};
+
+const MESSAGE: &[u8] = b"message";
 
 /// A word of an object, 0 where it has no such word or isn't there.
 fn word_there(heap: &Heap, object: u32, slot: u32) -> u32
@@ -72,7 +74,7 @@ pub fn add_message(
 ) -> Result<(), AllocError>
     ensures { OnOk result (line.new.items ≡ line.old.items ++ message image.now heap.now exception) }
 {
-    let string = word_there(heap, exception, message_slot(image));
+    let string = word_there(heap, exception, throwable_slot(image, MESSAGE));
     if string == 0 {
         return Ok(());
     }

@@ -49,12 +49,7 @@ fn add_end(
 }
 
 /// Appends a line for each of these threads that died.
-fn add_ends(
-    text: &mut Vec<u8>,
-    image: &Image,
-    heap: &Heap,
-    ends: &[End],
-) -> Result<(), AllocError>
+fn add_ends(text: &mut Vec<u8>, image: &Image, heap: &Heap, ends: &[End]) -> Result<(), AllocError>
     ensures { OnOk result (text.new.items ≡ text.old.items ++ uncaught_by_ends image.now heap.now ends.now 0) }
 {
     for (thread, end) in ends.iter().enumerate() {

@@ -8,7 +8,6 @@ use Rattle.dv_defs.specs.declared.run.Limits.{Limits}
 use Rattle.dv_defs.specs.Images.{Image}
 use Rattle.dv_machine.specs.Running.{all_ended, any_runnable, ending_by, ending_of, ending_without_stop, runnable, runnable_one, runnable_thread}
 use Rattle.dv_machine.specs.State.{Machine, Thread}
-use Rattle.dv_machine.specs.Threads.{is_living}
 use Rattle.dv_machine.specs.WellTyped.{Typings}
 use Rattle.dv_steps.specs.Running as words
 use Rattle.dv_simulation.specs.RunningLaws.{RunsAlike}
@@ -44,7 +43,7 @@ by_ended b rest = elim b [ true ↦ Some ending.Done | false ↦ rest ]
 
 module _ (image : Image) (m : Machine) (t : ℕ) (may : runnable image m t ≡ true) where
   -- the thread that is runnable
-  thread : (th : Thread) × (slice_get m.threads t ≡ Some th) × (runnable_thread image m t th ≡ true)
+  pub thread : (th : Thread) × (slice_get m.threads t ≡ Some th) × (runnable_thread image m t th ≡ true)
   thread = by (slice_get m.threads t) refl may
     where
       by : (o : Option Thread) → slice_get m.threads t ≡ o → runnable_one image m t o ≡ true → (th : Thread) × (slice_get m.threads t ≡ Some th) × (runnable_thread image m t th ≡ true)
@@ -69,7 +68,7 @@ module _ (image : Image) (m : Machine) (t : ℕ) (may : runnable image m t ≡ t
 -- ---- an engine
 
 module _ (image : Image) (T : Typings) (v : Vm) (m : Machine) (good : IsGood image T) (at : StandsAt image T v m) where
-  few_stacks : length v.guest.threads.stacks.items < 2 ^ 32
+  pub few_stacks : length v.guest.threads.stacks.items < 2 ^ 32
   few_stacks =
       let ts = v.guest.threads in
       let same : length (threads_of ts) ≡ length ts.stacks.items = many ts.stacks.items ts.ends.items ts.objects.items at.ordered.aligned.ends at.ordered.aligned.objects in
@@ -113,7 +112,7 @@ may_parts image m t e = let both = and_parts (is_none (ending_of image m)) (runn
 
 -- where the run goes on, the budget has room for a step
 module _ (image : Image) (T : Typings) (v : Vm) (m : Machine) (good : IsGood image T) (at : StandsAt image T v m) where
-  budget_open : ending_of image m ≡ None → nat_eq m.steps m.limits.budget ≡ false
+  pub budget_open : ending_of image m ≡ None → nat_eq m.steps m.limits.budget ≡ false
   budget_open going = by m.stop refl
     where
       unspent : (b : Bool) → nat_eq m.steps m.limits.budget ≡ b → ending_without_stop image m ≡ None → nat_eq m.steps m.limits.budget ≡ false

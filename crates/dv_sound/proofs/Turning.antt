@@ -1,12 +1,12 @@
 -- Turns: local steps, and then at most one other.
-use Rattle.std.proofs.Common.{◌≡◌, ◌≢◌, ◌<◌, ◌≤◌, ◌+◌, ◌-◌, ℕ, zero, suc, Bool, true, false, Option, Some, None, Ok, Err, List, [], ◌∷◌, refl, sym, ap, ◌∙◌, subst, arith}
-use Rattle.std.specs.Prelude.{◌&&◌, is_none, length, nat_eq, not, slice_get, slice_set, if◌then◌else◌}
-use Rattle.std.proofs.lemmas.Bool.{and_parts, true≢false}
+use Rattle.std.proofs.Common.{◌≡◌, ◌≢◌, ◌<◌, ◌+◌, ◌-◌, ℕ, zero, suc, Bool, true, false, Option, Some, None, Ok, Err, Result, List, [], ◌∷◌, refl, sym, ap, ◌∙◌, subst, arith}
+use Rattle.std.specs.Prelude.{◌&&◌, is_none, nat_eq, not, slice_get, if◌then◌else◌}
+use Rattle.std.proofs.lemmas.Bool.{and_from, and_left, and_parts, true≢false}
 use Rattle.dv_defs.specs.declared.machine.End.{End}
 use Rattle.dv_defs.specs.declared.machine.End.TheVariants as end
 use Rattle.dv_defs.specs.declared.run.Ending.{Ending}
 use Rattle.dv_defs.specs.Images.{Image}
-use Rattle.dv_machine.specs.Replaying.{Turned, is_running, last_step, next_is_local, turn}
+use Rattle.dv_machine.specs.Replaying.{Turned, is_running, last_step, next_is_local, one_more, turn}
 use Rattle.dv_machine.specs.Running.{ending_of, runnable}
 use Rattle.dv_machine.specs.State.{Machine, Reads, on_next}
 use Rattle.dv_machine.specs.Step.{step}
@@ -15,14 +15,15 @@ use Rattle.dv_words.specs.declared.state.Frame.{Frame}
 use Rattle.dv_words.specs.declared.state.Level.{Level}
 use Rattle.dv_words.specs.declared.state.Level.TheVariants as level
 use Rattle.dv_words.specs.State.{WordMachine, WordThread}
+use Rattle.dv_simulation.specs.KeepLaws.{next_is_local_of}
 use Rattle.dv_simulation.specs.TurnLaws.{more}
 use Rattle.dv_simulation.proofs.Staying.{next_is_alike}
 use Rattle.dv_core.specs.declared.vm.Vm.{Vm}
 use Rattle.dv_core.specs.Advancing.{RunsFrame, running_frame, top_frame}
 use Rattle.dv_core.specs.Machines.{machine_of}
-use Rattle.dv_sound.specs.Moves.{IsGood, IsLast, IsRun, IsStep, IsTurn, StandsAt, goes_locally, may_step}
-use Rattle.dv_sound.proofs.Going.{may_parts}
-use Rattle.dv_sound.proofs.Running.{none_local}
+use Rattle.dv_sound.specs.Moves.{IsGood, IsLast, IsRun, IsTurn, Lasts, StandsAt, Turns, goes_locally, may_step}
+use Rattle.dv_sound.proofs.Going.{budget_open, may_parts}
+use Rattle.dv_sound.proofs.LocalRuns.{none_local}
 
 -- ---- the last step
 
@@ -48,16 +49,12 @@ last_some image m n t may is =
 -- ---- a turn
 
 abbrev by_local : Image → ℕ → ℕ → Machine → Bool → Reads Turned
-by_local image t most m b = elim b [ true ↦ turn image t (suc most) m | false ↦ last_step image t m ]
+by_local image t most m b = elim b [ true ↦ on_next (step image m t) (λ n. one_more (turn image t most n)) | false ↦ last_step image t m ]
 
 -- where the next step isn't local it is the last one
 pub turn_last : (image : Image) (t most : ℕ) (m : Machine) → 0 < most → goes_locally image t m ≡ false → turn image t most m ≡ last_step image t m
 turn_last image t zero m some e = absurd (omega (arith, some))
-turn_last image t (suc most) m some e = by (goes_locally image t m) refl e
-  where
-    by : (b : Bool) → goes_locally image t m ≡ b → b ≡ false → turn image t (suc most) m ≡ last_step image t m
-    by true is d = absurd (cc d)
-    by false is d = rw is refl
+turn_last image t (suc most) m some e = ap (by_local image t most m) e
 
 module _ (image : Image) (T : Typings) (m : Machine) (t most : ℕ) where
   pub last_turn : (n : ℕ) (new : Vm) → 0 < most → goes_locally image t m ≡ false → IsLast image T m t n new → IsTurn image T m t most n new
@@ -120,3 +117,21 @@ pub not_none : (image : Image) (T : Typings) (v : Vm) (m : Machine) (t : ℕ) �
 not_none image T v m t at goes none =
     let local = (and_parts (next_is_local image m t) (not (nat_eq m.steps m.limits.budget)) goes).0 in
     true≢false (sym local ∙ sym (next_is_alike image T (machine_of v) m t at.simulated) ∙ none_local image (slice_get (machine_of v).threads t) none)
+
+-- ---- which way a turn goes
+
+-- what the words tell of the next step, where the run goes on
+module _ (image : Image) (T : Typings) (v : Vm) (m : Machine) (t : ℕ) (good : IsGood image T) (at : StandsAt image T v m) (may : may_step image m t ≡ true) where
+  open_budget : nat_eq m.steps m.limits.budget ≡ false
+  open_budget = budget_open image T v m good at (may_parts image m t may).0
+
+  pub goes_there : next_is_local_of image (machine_of v) t ≡ true → goes_locally image t m ≡ true
+  goes_there e = and_from (next_is_local image m t) (not (nat_eq m.steps m.limits.budget)) (sym (next_is_alike image T (machine_of v) m t at.simulated) ∙ e) (ap not open_budget)
+
+  pub stays_there : next_is_local_of image (machine_of v) t ≡ false → goes_locally image t m ≡ false
+  stays_there e = and_left (next_is_local image m t) (not (nat_eq m.steps m.limits.budget)) (sym (next_is_alike image T (machine_of v) m t at.simulated) ∙ e)
+
+  -- the last step is the whole turn
+  pub turns_last : {E : Type 0} (most : ℕ) (r : Result ℕ E) (new : Vm) → 0 < most → next_is_local_of image (machine_of v) t ≡ false → Lasts r image T m t v new → Turns r image T m t most v new
+  turns_last most (Ok n) new some e l = last_turn image T m t most n new some (stays_there e) l
+  turns_last most (Err memory) new some e l = l

@@ -80,6 +80,7 @@ pub record IsStep (image : Image) (T : Typings) (m : Machine) (t : ℕ) (new : V
   pub after : Machine
   pub steps : step image m t ≡ Ok after
   pub stands : StandsAt image T new after
+  pub limits : after.limits ≡ m.limits
 
 abbrev pub Steps : {E : Type 0} → Result (Unit {0}) E → Image → Typings → Machine → ℕ → Vm → Vm → Type 0
 Steps (Ok u) image T m t old new = IsStep image T m t new
@@ -97,6 +98,7 @@ pub record IsRun (image : Image) (T : Typings) (m : Machine) (t most done : ℕ)
   pub stands : StandsAt image T new after
   pub turns : (k : ℕ) → turn image t (done + k) m ≡ more done (turn image t k after)
   pub steps : (k : ℕ) → steps_of image k t done m ≡ Stands after
+  pub limits : after.limits ≡ m.limits
   pub whole : done < most → goes_locally image t after ≡ false
 
 -- the last step of a turn

@@ -1,20 +1,20 @@
 -- What contracts see of a machine that keeps its log.
-use Rattle.std.specs.Prelude.{◌≡◌, ◌≢◌, ◌<◌, ℕ, true, false, ◌++◌, List, [], ◌∷◌, length, All, Option, Some, None, Ok}
+use Rattle.std.specs.Prelude.{◌≡◌, ◌≢◌, ◌<◌, ℕ, true, false, ◌++◌, List, [], ◌∷◌, All, Some, None, Ok}
 use Rattle.dv_defs.specs.declared.names.MethodId.{MethodId}
 use Rattle.dv_defs.specs.declared.run.Entry.{Entry}
 use Rattle.dv_defs.specs.declared.run.Limits.{Limits}
 use Rattle.dv_defs.specs.Images.{Image}
 use Rattle.dv_defs.specs.Pools.{Method, method_at}
+use Rattle.dv_machine.specs.Accepted.{Accepted}
 use Rattle.dv_machine.specs.Opening.{opening}
 use Rattle.dv_machine.specs.Replaying.{Stands, next_is_local, replay, turn}
 use Rattle.dv_machine.specs.Running.{ending_of, runnable}
 use Rattle.dv_machine.specs.State.{Machine}
 use Rattle.dv_machine.specs.StepLaws.{IsMain}
-use Rattle.dv_machine.specs.WellTyped.{Typings}
+use Rattle.dv_machine.specs.WellTyped.{Typings, WellTyped}
 use Rattle.dv_rules.specs.Verified.{VerifiedValue}
 use Rattle.dv_words.specs.State.{WordMachine}
 use Rattle.dv_core.specs.declared.vm.Vm.{Vm}
-use Rattle.dv_core.specs.Machines.{machine_of}
 use Rattle.dv_sound.specs.Moves.{IsGood, StandsAt}
 
 -- the program, the number of its main method, the state on words, what was logged, and which threads are lent
@@ -51,6 +51,14 @@ pub record IsKept (image : Image) (main : MethodId) (v : Vm) (log : List Entry) 
   pub stands : StandsAt image typings v machine
   pub local : All (λ t. next_is_local image machine t ≡ true) lent
 
+-- a turn was done from where the log led, and logged
+pub record TurnedFrom (image : Image) (main : MethodId) (v : Vm) (log : List Entry) (lent : List ℕ) (k : IsKept image main v log lent) (worker t most n : ℕ) (new : Vm) (after_log : List Entry) : Type 0 where
+  pub after : Machine
+  pub turned : turn image t most k.machine ≡ Ok (record { count = n; machine = after })
+  pub logs : after_log ≡ log ++ record { worker = worker; thread = t; steps = n } ∷ []
+  pub limits : new.limits ≡ v.limits
+  pub replayed : replay image k.has_main.method v.limits after_log ≡ Stands after
+
 -- ---- what is said of it
 
 -- its log leads to this state of the tagged machine
@@ -58,12 +66,15 @@ pub record IsAt (r : Run) (main : Method) (m : Machine) : Type 0 where
   pub main_is : method_at r.verified.image r.main.0 ≡ Some main
   pub replayed : replay r.verified.image main r.machine.limits r.log ≡ Stands m
 
--- its log leads to a state, for which its words stand
+-- its log leads to a state, which is well typed
 pub record IsAtSome (r : Run) : Type 0 where
   pub main : Method
   pub is_main : IsMain r.verified.image main
   pub machine : Machine
   pub at : IsAt r main machine
+  pub typings : Typings
+  pub accepted : Accepted r.verified.image typings
+  pub typed : WellTyped r.verified.image typings machine
 
 -- all but the state and the log is as before
 pub record IsSameRun (old new : Run) : Type 0 where
@@ -86,12 +97,12 @@ pub record IsTurned (old new : Run) (main : Method) (m : Machine) (worker thread
 -- the run goes on, the thread is runnable, and it is at home
 pub record MayTurn (r : Run) (m : Machine) (thread : ℕ) : Type 0 where
   pub goes_on : ending_of r.verified.image m ≡ None
-  pub runnable : runnable r.verified.image m thread ≡ true
+  pub runs : runnable r.verified.image m thread ≡ true
   pub at_home : All (λ t. t ≢ thread) r.lent
 
 -- the lowest thread of those that are runnable and at home
 pub record IsReady (r : Run) (m : Machine) (thread : ℕ) : Type 0 where
-  pub runnable : runnable r.verified.image m thread ≡ true
+  pub runs : runnable r.verified.image m thread ≡ true
   pub at_home : All (λ t. t ≢ thread) r.lent
   pub lowest : (u : ℕ) → u < thread → runnable r.verified.image m u ≡ true → All (λ t. t ≢ u) r.lent → ⊥
 
@@ -103,7 +114,7 @@ NoneIsReady r m = (u : ℕ) → runnable r.verified.image m u ≡ true → All (
 
 -- the lowest of the runnable threads
 pub record IsLowest (image : Image) (m : Machine) (thread : ℕ) : Type 0 where
-  pub runnable : runnable image m thread ≡ true
+  pub runs : runnable image m thread ≡ true
   pub lowest : (u : ℕ) → u < thread → runnable image m u ≡ false
 
 -- a turn of that thread by worker 0, of 256 steps at most, with the state after it

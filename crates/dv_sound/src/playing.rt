@@ -1,16 +1,17 @@
 // An engine led by a schedule.
-ghost use Rattle.std.specs.Prelude.{◌≡◌, ◌≤◌, ◌<◌, ◌^◌, ℕ, IfOk, false, length};
+ghost use Rattle.std.specs.Prelude.{◌≡◌, ◌≤◌, ◌<◌, ℕ, IfOk, false, length};
 ghost use Rattle.dv_machine.specs.Replaying.{one_step, replay_from, steps_of};
 ghost use Rattle.dv_machine.specs.State.{Machine};
 ghost use Rattle.dv_machine.specs.WellTyped.{Typings};
 ghost use Rattle.dv_sound.specs.Moves as moves;
 ghost use Rattle.dv_sound.specs.Moves.{IsGood, StandsAt};
-ghost use Rattle.dv_sound.specs.Replays.{Plays, PlaysSome, Refuses};
+ghost use Rattle.dv_sound.specs.Replays.{Plays, PlaysSome, PlaysToEnd, Refuses};
 
 use crate::error::ReplayError;
 use crate::moves::{may_step, run_on, step_on};
 use dv_core::Vm;
 use dv_defs::{Entry, Image};
+use std::alloc::AllocError;
 
 /// Why a step of an entry isn't done: the run has ended, or the thread isn't runnable.
 fn refusal(image: &Image, vm: &Vm, entry: u32) -> ReplayError
@@ -47,7 +48,7 @@ fn play_some(
 
 /// The steps of an entry.
 fn play(image: &Image, vm: &mut Vm, entry: u32, thread: u32, steps: u32) -> Result<(), ReplayError>
-    ensures { (T : Typings) (m : Machine) → IsGood image.now T → StandsAt image.now T vm.old m → Plays result image.now T (steps_of image.now entry thread steps m) vm.new }
+    ensures { (T : Typings) (m : Machine) → IsGood image.now T → StandsAt image.now T vm.old m → Plays result image.now T m (steps_of image.now entry thread steps m) vm.new }
 {
     let mut left = steps;
     while left > 0 {
@@ -60,13 +61,40 @@ fn play(image: &Image, vm: &mut Vm, entry: u32, thread: u32, steps: u32) -> Resu
 ///
 /// # Errors
 ///
-/// The first entry at which the schedule is refused, or want of memory.
+/// The first entry at which the schedule is refused, or want of memory; entries are counted in 32 bits.
 pub fn play_all(image: &Image, vm: &mut Vm, log: &[Entry]) -> Result<(), ReplayError>
-    ensures { (T : Typings) (m : Machine) → length log.now < 2 ^ 32 → IsGood image.now T → StandsAt image.now T vm.old m → Plays result image.now T (replay_from image.now 0 log.now m) vm.new }
+    ensures { (T : Typings) (m : Machine) → IsGood image.now T → StandsAt image.now T vm.old m → Plays result image.now T m (replay_from image.now 0 log.now m) vm.new }
 {
-    for place in 0..log.len() {
-        let entry = log[place];
-        play(image, vm, place as u32, entry.thread, entry.steps)?;
+    let count = entries(log)?;
+    for number in 0..count {
+        let entry = log[number as usize];
+        play(image, vm, number, entry.thread, entry.steps)?;
     }
     Ok(())
+}
+
+/// How many entries a schedule has.
+///
+/// # Errors
+///
+/// Want of memory, where 32 bits don't count them.
+pub fn entries(log: &[Entry]) -> Result<u32, AllocError>
+    ensures { IfOk result (λ n. n ≡ length log.now) }
+{
+    u32::try_from(log.len()).map_err(|_| AllocError)
+}
+
+/// The entries of a schedule, up to an ending.
+///
+/// # Errors
+///
+/// The first entry at which the schedule is refused; that it stops before the run has ended; or want of memory.
+pub fn play_to_end(image: &Image, vm: &mut Vm, log: &[Entry]) -> Result<(), ReplayError>
+    ensures { (T : Typings) (m : Machine) → IsGood image.now T → StandsAt image.now T vm.old m → PlaysToEnd result image.now T log.now m vm.new }
+{
+    play_all(image, vm, log)?;
+    match vm.ending(image) {
+        Some(_) => Ok(()),
+        None => Err(ReplayError::Short(entries(log)?)),
+    }
 }

@@ -1,5 +1,5 @@
 // A machine led by a given schedule.
-ghost use Rattle.std.specs.Prelude.{◌≡◌, ◌<◌, ◌^◌, [], IfOk, length, IfErr};
+ghost use Rattle.std.specs.Prelude.{◌≡◌, [], IfErr, IfOk};
 ghost use Rattle.dv_defs.specs.Pools.{Method, method_at};
 ghost use Rattle.dv_machine.specs.Replaying.{IsFinished};
 ghost use Rattle.dv_sound.specs.Moves.{AreUsable};
@@ -7,7 +7,7 @@ ghost use Rattle.dv_sound.specs.Replays.{IsRefused};
 ghost use Rattle.dv_sound.specs.Runs.{HasMain};
 
 use crate::error::ReplayError;
-use crate::playing::play_all;
+use crate::playing::play_to_end;
 use crate::safe::{SafeVm, opened};
 use dv_defs::{Entry, Limits, MethodId};
 use dv_rules::Verified;
@@ -27,7 +27,7 @@ impl<'v> SafeVm<'v> {
     ///
     /// # Errors
     ///
-    /// The entry at which the schedule is refused, or want of memory. Entries are numbered as far as 32 bits go.
+    /// The entry at which the schedule is refused, or want of memory.
     pub fn replay(
         alloc: Global,
         verified: &'v Verified,
@@ -39,16 +39,12 @@ impl<'v> SafeVm<'v> {
         requires limits { AreUsable limits }
         ensures program { IfOk result (λ r. (r.verified ≡ verified.now) × (r.main ≡ main) × (r.machine.limits ≡ limits)) }
         ensures log { IfOk result (λ r. (r.log ≡ log.now) × (r.lent ≡ [])) }
-        ensures finished { IfOk result (λ r. (m : Method) → length log.now < 2 ^ 32 → method_at verified.now.image main.0 ≡ Some m → IsFinished verified.now.image m limits log.now) }
-        ensures refused { IfErr result (λ e. (m : Method) → length log.now < 2 ^ 32 → method_at verified.now.image main.0 ≡ Some m → IsRefused e verified.now.image m limits log.now) }
+        ensures finished { IfOk result (λ r. (m : Method) → method_at verified.now.image main.0 ≡ Some m → IsFinished verified.now.image m limits log.now) }
+        ensures refused { IfErr result (λ e. (m : Method) → method_at verified.now.image main.0 ≡ Some m → IsRefused e verified.now.image m limits log.now) }
     {
         let copy = copied(alloc, log)?;
         let mut vm = opened(alloc, verified, main, limits)?;
-        let image = &verified.image;
-        play_all(image, &mut vm, log)?;
-        if vm.ending(image).is_none() {
-            return Err(ReplayError::Short(log.len() as u32));
-        }
+        play_to_end(&verified.image, &mut vm, log)?;
         Ok(SafeVm::standing(verified, main, vm, copy, Vec::new(alloc)))
     }
 }

@@ -1,16 +1,17 @@
 // A machine whose state is the replay of its log.
-ghost use Rattle.std.specs.Prelude.{◌≡◌, ◌≤◌, [], IfOk, IsTrue, MatchOption, OnErr, All, ◌≢◌, ◌↔◌, false, length};
+ghost use Rattle.std.specs.Prelude.{◌≡◌, ◌≤◌, ◌+◌, [], IfOk, IsTrue, MatchOption, OnErr, All, List, ℕ, ◌≢◌, ◌↔◌, false, true, length};
 ghost use Rattle.dv_defs.specs.Pools.{Method};
 ghost use Rattle.dv_machine.specs.Running as running;
 ghost use Rattle.dv_machine.specs.State.{Machine};
 ghost use Rattle.dv_core.specs.Guests.{IsOrdered};
 ghost use Rattle.dv_core.specs.Machines.{machine_of};
 ghost use Rattle.dv_core.specs.Watching.{AreWatchable};
-ghost use Rattle.dv_sound.specs.Moves.{AreUsable};
-ghost use Rattle.dv_sound.specs.Runs.{HasMain, IsAt, IsAtSome, IsKept, IsOpened, IsReady, IsSameRun, IsTurned, MayTurn, NoneIsReady};
+ghost use Rattle.dv_machine.specs.WellTyped.{Typings};
+ghost use Rattle.dv_sound.specs.Moves.{AreUsable, IsGood, StandsAt, may_step};
+ghost use Rattle.dv_sound.specs.Runs.{HasMain, IsAt, IsAtSome, IsKept, IsOpened, IsReady, IsSameRun, IsTurned, MayTurn, NoneIsReady, TurnedFrom};
 
 use crate::moves::{may_step, take_turn};
-use crate::premises::{inits_fit, is_accepted, strings_fit};
+use crate::premises::{are_numbers, inits_fit, is_accepted, strings_fit};
 use dv_core::Vm;
 use dv_defs::{Ending, Entry, Limits, MethodId};
 use dv_rules::Verified;
@@ -53,10 +54,47 @@ pub fn opened(
     ensures { HasMain verified.now.image main.0 → AreUsable limits → IfOk result (λ v. IsOpened verified.now.image main limits v) }
 {
     is_accepted(verified);
+    are_numbers(&limits);
     let image = &verified.image;
     strings_fit(image);
     inits_fit(image)?;
     Vm::open(alloc, image, main, limits)
+}
+
+/// A turn of a thread from where a log led, which is logged; nothing is done where the run has ended or the thread isn't runnable.
+///
+/// # Errors
+///
+/// Want of memory; the engine stands where it stood, and the log is as before.
+fn logged_turn(
+    program: &Verified,
+    vm: &mut Vm,
+    log: &mut Vec<Entry>,
+    worker: u32,
+    thread: u32,
+    most: u32,
+) -> Result<u32, AllocError>
+    ensures kept { (main : MethodId) (lent : List ℕ) → IsKept program.now.image main vm.old log.old.items lent → 1 ≤ most → All (λ t. t ≢ thread) lent → IsKept program.now.image main vm.new log.new.items lent }
+    ensures turned { IfOk result (λ n. (main : MethodId) (lent : List ℕ) (k : IsKept program.now.image main vm.old log.old.items lent) → may_step program.now.image k.machine thread ≡ true → 1 ≤ most →
+        TurnedFrom program.now.image main vm.old log.old.items lent k worker thread most n vm.new log.new.items) }
+    ensures limits { (main : MethodId) (lent : List ℕ) → IsKept program.now.image main vm.old log.old.items lent → 1 ≤ most → vm.new.limits ≡ vm.old.limits }
+    ensures few { IfOk result (λ n. n ≤ most) }
+    ensures counted { IfOk result (λ n. (main : MethodId) (lent : List ℕ) → IsKept program.now.image main vm.old log.old.items lent → 1 ≤ most → vm.new.steps ≡ vm.old.steps + n) }
+    ensures within { (main : MethodId) (lent : List ℕ) → IsKept program.now.image main vm.old log.old.items lent → 1 ≤ most → vm.new.steps ≤ vm.new.limits.budget }
+    ensures refused { OnErr result ((main : MethodId) (lent : List ℕ) → IsKept program.now.image main vm.old log.old.items lent → (machine_of vm.new ≡ machine_of vm.old) × (log.new.items ≡ log.old.items)) }
+{
+    let image = &program.image;
+    if !may_step(image, vm, thread) {
+        return Ok(0);
+    }
+    log.reserve(1)?;
+    let steps = take_turn(image, vm, thread, most)?;
+    log.push(Entry {
+        worker,
+        thread,
+        steps,
+    })?;
+    Ok(steps)
 }
 
 impl<'v> SafeVm<'v> {
@@ -117,13 +155,12 @@ impl<'v> SafeVm<'v> {
         ensures log { result.now ≡ self.now.log }
         ensures leads { IsAtSome self.now }
     {
-        let _ = &self.vm;
         &self.log
     }
 
     /// The schedule that was done, given away.
     pub fn into_log(self) -> Vec<Entry>
-        ensures { result.items ≡ self.log }
+        ensures { result.items ≡ self.entry.log }
     {
         self.log
     }
@@ -132,15 +169,18 @@ impl<'v> SafeVm<'v> {
     pub fn vm(&self) -> &Vm
         ensures machine { machine_of result.now ≡ self.now.machine }
         ensures watchable { AreWatchable self.now.verified.image result.now }
+        ensures stands { (main : Method) (m : Machine) → IsAt self.now main m → (T : Typings) × IsGood self.now.verified.image T × StandsAt self.now.verified.image T result.now m }
     {
         &self.vm
     }
 
     /// How the run stands: none where it goes on.
     pub fn ending(&self) -> Option<Ending>
-        ensures { (main : Method) (m : Machine) → IsAt self.now main m → result ≡ running.ending_of self.now.verified.image m }
+        ensures ending { (main : Method) (m : Machine) → IsAt self.now main m → result ≡ running.ending_of self.now.verified.image m }
+        ensures leads { IsAtSome self.now }
     {
-        self.vm.ending(&self.verified.image)
+        let verified = self.verified;
+        self.vm.ending(&verified.image)
     }
 
     /// Whether a thread is lent.
@@ -159,6 +199,8 @@ impl<'v> SafeVm<'v> {
     pub fn turn(&mut self, worker: u32, thread: u32, most: u32) -> Result<u32, AllocError>
         ensures turned { IfOk result (λ n. (main : Method) (m : Machine) → IsAt self.old main m → MayTurn self.old m thread → 1 ≤ most → IsTurned self.old self.new main m worker thread most n) }
         ensures few { IfOk result (λ n. n ≤ most) }
+        ensures counted { IfOk result (λ n. self.new.machine.steps ≡ self.old.machine.steps + n) }
+        ensures within { IfOk result (λ n. 1 ≤ n → self.new.machine.steps ≤ self.new.machine.limits.budget) }
         ensures same { IsSameRun self.old self.new }
         ensures refused { OnErr result (self.new ≡ self.old) }
     {
@@ -171,27 +213,36 @@ impl<'v> SafeVm<'v> {
             log,
             ..
         } = self;
-        let image = &verified.image;
-        if !may_step(image, vm, thread) {
-            return Ok(0);
+        logged_turn(verified, vm, log, worker, thread, most)
+    }
+
+    /// Whether a thread is runnable.
+    pub fn runnable(&self, thread: u32) -> bool
+        ensures { (main : Method) (m : Machine) → IsAt self.now main m → result ≡ running.runnable self.now.verified.image m thread }
+    {
+        let verified = self.verified;
+        self.vm.runnable(&verified.image, thread)
+    }
+
+    /// Whether a thread is runnable and at home.
+    fn is_ready(&self, thread: u32) -> bool
+        ensures ready { (main : Method) (m : Machine) → IsAt self.now main m → result ≡ true → (running.runnable self.now.verified.image m thread ≡ true) × All (λ t. t ≢ thread) self.now.lent }
+        ensures held { (main : Method) (m : Machine) → IsAt self.now main m → result ≡ false → running.runnable self.now.verified.image m thread ≡ true → All (λ t. t ≢ thread) self.now.lent → ⊥ }
+    {
+        if self.is_lent(thread) {
+            false
+        } else {
+            self.runnable(thread)
         }
-        log.reserve(1)?;
-        let steps = take_turn(image, vm, thread, most)?;
-        log.push(Entry {
-            worker,
-            thread,
-            steps,
-        })?;
-        Ok(steps)
     }
 
     /// The lowest thread that is runnable and at home; none where none is.
+    #[tactic(auto, using(crate::proofs::Ready::none_ready))]
     pub fn ready(&self) -> Option<u32>
         ensures { (main : Method) (m : Machine) → IsAt self.now main m → MatchOption result (NoneIsReady self.now m) (λ t. IsReady self.now m t) }
     {
-        let image = &self.verified.image;
         for thread in 0..self.threads() {
-            if !self.is_lent(thread) && self.vm.runnable(image, thread) {
+            if self.is_ready(thread) {
                 return Some(thread);
             }
         }

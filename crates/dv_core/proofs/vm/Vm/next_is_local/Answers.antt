@@ -1,7 +1,7 @@
-use Rattle.std.proofs.Common.{◌≡◌, ◌∙◌, List, length, sym, ap, subst, arith}
+use Rattle.std.proofs.Common.{◌∙◌, List, length, sym, ap, subst, arith}
 use Rattle.dv_image.proofs.Landings.{read_at}
 use Rattle.dv_words.specs.State.{WordStack}
-use Rattle.dv_core.specs.Advancing.{is_local_top}
+use Rattle.dv_simulation.specs.KeepLaws.{is_local_level_of}
 use Rattle.dv_core.specs.Watching.{IsTopWatched}
 use Rattle.dv_core.proofs.Advanced.{not_local, own_local, running_own}
 use Rattle.dv_core.proofs.Settled.{stack_there, thread_within}
@@ -23,7 +23,7 @@ returns-in-Some c w =
     let at = running_own ts.stacks.items ts.ends.items ts.objects.items t w.ordered.aligned.ends w.ordered.aligned.objects (sym c.if-not-is_running.ensures) in
     let same = stack_there ts.stacks.items ts.ends.items ts.objects.items t stack at.own has at.there in
     c.is_at_local.ensures (subst (IsTopWatched image) same (w.tops t at.own at.there at.ends)) ∙
-    (ap (is_local_top image) (sym same) ∙ sym (own_local ts.stacks.items ts.ends.items ts.objects.items t at.own at.there at.ends image))
+    (ap (is_local_level_of image) (sym same) ∙ sym (own_local ts.stacks.items ts.ends.items ts.objects.items t at.own at.there at.ends image))
 
 pub returns-in-None : goal.returns-in-None
 returns-in-None c w =

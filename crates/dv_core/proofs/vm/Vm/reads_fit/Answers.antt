@@ -1,4 +1,4 @@
-use Rattle.std.proofs.Common.{◌≡◌, ◌∙◌, List, length, sym, ap, arith}
+use Rattle.std.proofs.Common.{◌∙◌, List, length, sym, ap, arith}
 use Rattle.dv_image.proofs.Landings.{read_at}
 use Rattle.dv_words.specs.Stacks.{first}
 use Rattle.dv_words.specs.State.{WordStack}

@@ -1,6 +1,6 @@
-use Rattle.std.proofs.Common.{◌≡◌, ◌∙◌, ◌+◌, ◌-◌, ℕ, true, false, List, Some, eq-eqb, refl, sym, ap, arith}
+use Rattle.std.proofs.Common.{◌≡◌, ◌∙◌, ◌+◌, true, false, Some, eq-eqb, refl, ap, arith}
 use Rattle.std.specs.Prelude.{slice_get}
-use Rattle.dv_words.specs.State.{WordMachine, WordThread}
+use Rattle.dv_words.specs.State.{WordMachine}
 use Rattle.dv_threads.specs.Kept.{threads_of}
 use Rattle.dv_core.specs.Advancing.{RunsFrame, running_frame, takes, with_frame}
 use Rattle.dv_core.specs.Machines.{machine_of}

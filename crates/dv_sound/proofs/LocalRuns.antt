@@ -1,8 +1,7 @@
 -- Local steps in one go: the engine stands where as many steps of the tagged machine lead.
-use Rattle.std.proofs.Common.{◌≡◌, ◌≢◌, ◌<◌, ◌≤◌, ◌+◌, ◌^◌, ℕ, zero, suc, Bool, true, false, Option, Some, None, Ok, Err, List, [], ◌∷◌, refl, sym, ap, ◌∙◌, subst, arith}
-use Rattle.std.specs.Prelude.{◌&&◌, length, nat_eq, nat_lt, not, slice_get, slice_set, if◌then◌else◌}
+use Rattle.std.proofs.Common.{◌≡◌, ◌≢◌, ◌<◌, ◌≤◌, ◌+◌, ℕ, zero, suc, Bool, true, false, Option, Some, None, Ok, Err, List, [], ◌∷◌, refl, sym, ap, ◌∙◌, subst, arith}
+use Rattle.std.specs.Prelude.{◌&&◌, nat_eq, nat_lt, not, slice_get, if◌then◌else◌}
 use Rattle.std.proofs.lemmas.Bool.{and_left, and_right, eq-eqb, ltb-false, ltb-true}
-use Rattle.std.proofs.lemmas.Option.{same_Some}
 use Rattle.dv_defs.specs.declared.machine.End.{End}
 use Rattle.dv_defs.specs.declared.machine.End.TheVariants as end
 use Rattle.dv_defs.specs.declared.run.Limits.{Limits}
@@ -18,6 +17,7 @@ use Rattle.dv_words.specs.declared.state.Level.{Level}
 use Rattle.dv_words.specs.declared.state.Level.TheVariants as level
 use Rattle.dv_words.specs.Standing.{HeapFits, IsSmall}
 use Rattle.dv_words.specs.State.{WordMachine, WordThread}
+use Rattle.dv_steps.specs.Local.{word_local}
 use Rattle.dv_steps.specs.StepLaws.{with_top}
 use Rattle.dv_steps.specs.Stepping.{RanLocally, local_by, local_here, locals_here, on_frame}
 use Rattle.dv_laws.proofs.lemmas.Common.Lists.{set_there}
@@ -31,18 +31,13 @@ use Rattle.dv_core.specs.Advancing.{RanNone, RanSteps, RunsFrame, running_frame,
 use Rattle.dv_core.specs.Guests.{IsOrdered}
 use Rattle.dv_core.specs.Machines.{machine_of}
 use Rattle.dv_core.proofs.Callers.{met_top, placed_stands}
-use Rattle.dv_sound.specs.Moves.{IsAffordable, IsGood, IsRun, StandsAt, goes_locally}
-use Rattle.dv_sound.proofs.Going.{budget_left}
+use Rattle.dv_sound.specs.Moves.{HasRun, IsAffordable, IsGood, IsRun, StandsAt, goes_locally}
+use Rattle.dv_sound.proofs.Sizes.{locals_keep, set_length}
 use Rattle.dv_sound.proofs.Stepping.{IsWithin, stands_by, within}
 
 some_of : {A : Type 0} (o : Option A) → o ≢ None → (x : A) × (o ≡ Some x)
-some_of None no = absurd (no refl)
-some_of (Some x) no = (x, refl)
-
-set_length : {A : Type 0} (xs : List A) (k : ℕ) (v : A) → length (slice_set xs k v) ≡ length xs
-set_length [] k v = refl
-set_length (x ∷ xs) zero v = refl
-set_length (x ∷ xs) (suc k) v = ap suc (set_length xs k v)
+some_of None none = absurd (none refl)
+some_of (Some x) none = (x, refl)
 
 -- ---- local instructions of a frame, each of which stands where those before it led
 
@@ -72,18 +67,21 @@ module _ (image : Image) (T : Typings) (w : WordMachine) (m : Machine) (good : I
       by None found x = let d : None ≡ Some x.0 = sym found ∙ x.1 in absurd (cc d)
       by (Some x) found y =
           let local : is_local x.op ≡ true = ran.local n v x l e found in
-          (_, ap (λ (o : Option Frame). on_frame o (local_here image)) e ∙ ap (λ (o : Option At). local_by o v) found ∙ ap (λ b. elim b as (λ q. Option Frame) [ true ↦ Some _ | false ↦ None ]) local)
+          (word_local x.op v x.next, ap (λ (o : Option Frame). on_frame o (local_here image)) e ∙ ap (λ (o : Option At). local_by o v) found ∙ ap (λ b. elim b as (λ q. Option Frame) [ true ↦ Some (word_local x.op v x.next) | false ↦ None ]) local)
 
   pub there : (n : ℕ) → n ≤ done → (v : Frame) × (locals_here image n f ≡ Some v)
   there zero le = (f, refl)
   there (suc n) le = let before = there n (omega (arith, le)) in one_more n before.0 (omega (arith, le)) before.1
 
-  -- all of them
-  led : AreSimulatedLocals image T w (with_top w t own u ls done) m t done
-  led =
+  pub all_local : locals_here image done f ≡ Some u
+  all_local =
       let all = there done (omega arith) in
       let same : u ≡ all.0 = ran.reached all.0 all.1 in
-      (follow done u (omega arith) (subst (λ (z : Frame). locals_here image done f ≡ Some z) (sym same) all.1)).0
+      subst (λ (z : Frame). locals_here image done f ≡ Some z) (sym same) all.1
+
+  -- all of them
+  led : AreSimulatedLocals image T w (with_top w t own u ls done) m t done
+  led = (follow done u (omega arith) all_local).0
 
   -- the next one isn't local, where more might have been done
   next_stops : done < most → next_is_local image led.after t ≡ false
@@ -99,11 +97,11 @@ spent_stops : (image : Image) (t : ℕ) (m : Machine) → m.steps ≡ m.limits.b
 spent_stops image t m e = and_right (next_is_local image m t) (not (nat_eq m.steps m.limits.budget)) (ap not (eq-eqb m.steps m.limits.budget e))
 
 no_more : (r : Reads Turned) → r ≡ more 0 r
-no_more (Ok x) = refl
+no_more (Ok x) = ap (λ n. let r : Reads Turned = Ok (record { count = n; machine = x.machine }) in r) (omega arith)
 no_more (Err y) = refl
 
 -- a thread that doesn't go on at a frame
-none_local : (image : Image) (o : Option WordThread) → running_frame o ≡ None → thread_is_local_of image o ≡ false
+pub none_local : (image : Image) (o : Option WordThread) → running_frame o ≡ None → thread_is_local_of image o ≡ false
 none_local image None e = refl
 none_local image (Some th) e = by th.end th.levels e
   where
@@ -123,8 +121,9 @@ module _ (image : Image) (T : Typings) (old new : Vm) (m : Machine) (good : IsGo
   none_ran stays ran = record {
     after = m;
     stands = stands_by image T new (machine_of old) m ran.same (within image T old m at) at.simulated ordered;
-    turns = λ k. subst (λ n. turn image t (n + k) m ≡ more n (turn image t k m)) (sym ran.none) (no_more (turn image t k m));
+    turns = λ k. subst (λ n. turn image t (n + k) m ≡ more n (turn image t k m)) (sym ran.none) (ap (λ j. turn image t j m) (let none_more : 0 + k ≡ k = omega arith in none_more) ∙ no_more (turn image t k m));
     steps = λ k. subst (λ n. steps_of image k t n m ≡ Stands m) (sym ran.none) refl;
+    limits = refl;
     whole = λ l. and_left (next_is_local image m t) (not (nat_eq m.steps m.limits.budget)) (sym (next_is_alike image T (machine_of old) m t at.simulated) ∙ none_local image (slice_get (machine_of old).threads t) stays);
   }
 
@@ -132,7 +131,7 @@ module _ (image : Image) (T : Typings) (old new : Vm) (m : Machine) (good : IsGo
     room : old.steps + done ≤ old.limits.budget
     room = let some = may.room in let l = few in omega (arith, some, l)
 
-    by : AreSimulatedLocals image T (machine_of old) (with_top (machine_of old) t own r.frame ls done) m t done
+    abbrev by : AreSimulatedLocals image T (machine_of old) (with_top (machine_of old) t own r.frame ls done) m t done
     by = led image T (machine_of old) m good at.simulated going t own f ls runs small heap most done r.frame r.ran room
 
     within_by : IsWithin (with_top (machine_of old) t own r.frame ls done)
@@ -153,12 +152,20 @@ module _ (image : Image) (T : Typings) (old new : Vm) (m : Machine) (good : IsGo
         let budget : old.limits.budget ≡ by.after.limits.budget = ap (λ (x : Limits). x.budget) limits in
         spent_stops image t by.after (let f = few in omega (arith, steps, cut, budget, late, f))
 
+    pub some_sized : HasRun (machine_of old) (machine_of new) t done own f ls
+    some_sized = record {
+      frame = r.frame;
+      sized = locals_keep image done f r.frame (all_local image T (machine_of old) m good at.simulated going t own f ls runs small heap most done r.frame r.ran room);
+      machine = r.machine;
+    }
+
     pub some_ran : IsRun image T m t asked done new
     some_ran = record {
       after = by.after;
       stands = stands_by image T new (with_top (machine_of old) t own r.frame ls done) by.after r.machine within_by by.simulated ordered;
       turns = by.turns;
       steps = by.steps;
+      limits = sym by.simulated.stands.limits ∙ at.simulated.stands.limits;
       whole = λ l. stops l (nat_lt done most) refl;
     }
       where
