@@ -46,7 +46,7 @@ module _ (image : Image) (t : ℕ) where
 
 lowest_is_entry : (image : Image) (m n : Machine) (e : Entry) → IsLowestTurn image m e n → IsEntry e
 lowest_is_entry image m n e l =
-    let is = turn_is_entry image e.thread e.worker 255 m (record { count = e.steps; machine = n }) (omega (arith, l.worker)) (omega arith) l.goes_on l.thread.runnable l.turned in
+    let is = turn_is_entry image e.thread e.worker 255 m (record { count = e.steps; machine = n }) (omega (arith, l.worker)) (omega arith) l.goes_on l.thread.runs l.turned in
     record { worker = is.worker; some = is.some; few = is.few }
 
 pub lowest_are_entries : (image : Image) (log : List Entry) (m n : Machine) → LeadsLowest image log m n → All IsEntry log
@@ -75,27 +75,32 @@ module _ (word : ℕ → ℕ) (image : Image) where
   abbrev after : (t : ℕ) → (Machine → Reads (List Entry)) → Reads Turned → Reads (List Entry)
   after t more r = on_next r (λ x. on_next (more x.machine) (λ es. Ok (logged t x.count es)))
 
+  turn_entry : (k : ℕ) (m : Machine) (x : Turned) → ending_of image m ≡ None → turn image (thread k m) (1 + word k % 256) m ≡ Ok x → IsEntry (record { worker = 0; thread = thread k m; steps = x.count })
+  turn_entry k m x going e =
+      let short : word k % 256 < 256 = mod-lt (word k) (omega arith) in
+      let size : 1 + word k % 256 ≡ suc (word k % 256) = omega arith in
+      turn_is_entry image (thread k m) 0 (word k % 256) m x (omega arith) short going (seed_picks_runnable image m (word k) going) (subst (λ (s : ℕ). turn image (thread k m) s m ≡ Ok x) size e)
+
+  -- the entries behind a turn
+  abbrev AreBehind : (Machine → Reads (List Entry)) → Type 0
+  AreBehind more = (n : Machine) (front rest : List Entry) → more n ≡ Ok (front ++ rest) → All IsEntry front
+
+  behind : (t : ℕ) (x : Turned) (more : Machine → Reads (List Entry)) (log rest : List Entry) → IsEntry (record { worker = 0; thread = t; steps = x.count }) → AreBehind more → (r : Reads (List Entry)) → more x.machine ≡ r → on_next r (λ es. Ok (logged t x.count es)) ≡ Ok (log ++ rest) → All IsEntry log
+  behind t x more log rest is are (Err y) gives e = absurd (cc)
+  behind t x more log rest is are (Ok es) gives e = before (record { worker = 0; thread = t; steps = x.count }) es log rest is (λ front same. are x.machine front rest (gives ∙ ap Ok same)) e
+
+  turned_by : (k : ℕ) (m : Machine) (more : Machine → Reads (List Entry)) (log rest : List Entry) → ending_of image m ≡ None → AreBehind more → (r : Reads Turned) → turn image (thread k m) (1 + word k % 256) m ≡ r → after (thread k m) more r ≡ Ok (log ++ rest) → All IsEntry log
+  turned_by k m more log rest going are (Err y) is e = absurd (cc)
+  turned_by k m more log rest going are (Ok x) is e = behind (thread k m) x more log rest (turn_entry k m x going is) are (more x.machine) refl e
+
+  by_ending : (k : ℕ) (m : Machine) (more : Machine → Reads (List Entry)) (log rest : List Entry) → AreBehind more → (o : Option Ending) → ending_of image m ≡ o → elim o as (λ z. Reads (List Entry)) [ Some d ↦ Ok [] | None ↦ after (thread k m) more (turn image (thread k m) (1 + word k % 256) m) ] ≡ Ok (log ++ rest) → All IsEntry log
+  by_ending k m more log rest are (Some d) ended e = none_before log rest e
+  by_ending k m more log rest are None going e = turned_by k m more log rest going are (turn image (thread k m) (1 + word k % 256) m) refl e
+
   pub seeded_are_entries : (fuel k : ℕ) (m : Machine) (log rest : List Entry) → seeded_from word image fuel k m ≡ Ok (log ++ rest) → All IsEntry log
   seeded_are_entries zero k m log rest e = none_before log rest e
-  seeded_are_entries (suc fuel) k m log rest e = by (ending_of image m) refl e
-    where
-      turn_entry : ending_of image m ≡ None → (x : Turned) → turn image (thread k m) (1 + word k % 256) m ≡ Ok x → IsEntry (record { worker = 0; thread = thread k m; steps = x.count })
-      turn_entry going x e =
-          let short : word k % 256 < 256 = mod-lt (word k) (omega arith) in
-          let size : 1 + word k % 256 ≡ suc (word k % 256) = omega arith in
-          turn_is_entry image (thread k m) 0 (word k % 256) m x (omega arith) short going (seed_picks_runnable image m (word k) going) (subst (λ (s : ℕ). turn image (thread k m) s m ≡ Ok x) size e)
-
-      behind : (x : Turned) (r : Reads (List Entry)) → seeded_from word image fuel (suc k) x.machine ≡ r → IsEntry (record { worker = 0; thread = thread k m; steps = x.count }) → on_next r (λ es. Ok (logged (thread k m) x.count es)) ≡ Ok (log ++ rest) → All IsEntry log
-      behind x (Err y) more is e = absurd (cc)
-      behind x (Ok es) more is e = before (record { worker = 0; thread = thread k m; steps = x.count }) es log rest is (λ front same. seeded_are_entries fuel (suc k) x.machine front rest (more ∙ ap Ok same)) e
-
-      turned_by : ending_of image m ≡ None → (r : Reads Turned) → turn image (thread k m) (1 + word k % 256) m ≡ r → after (thread k m) (seeded_from word image fuel (suc k)) r ≡ Ok (log ++ rest) → All IsEntry log
-      turned_by going (Err y) is e = absurd (cc)
-      turned_by going (Ok x) is e = behind x (seeded_from word image fuel (suc k) x.machine) refl (turn_entry going x is) e
-
-      by : (o : Option Ending) → ending_of image m ≡ o → elim o as (λ z. Reads (List Entry)) [ Some d ↦ Ok [] | None ↦ after (thread k m) (seeded_from word image fuel (suc k)) (turn image (thread k m) (1 + word k % 256) m) ] ≡ Ok (log ++ rest) → All IsEntry log
-      by (Some d) ended e = none_before log rest e
-      by None going e = turned_by going (turn image (thread k m) (1 + word k % 256) m) refl e
+  seeded_are_entries (suc fuel) k m log rest e =
+      by_ending k m (seeded_from word image fuel (suc k)) log rest (λ n front tail same. seeded_are_entries fuel (suc k) n front tail same) (ending_of image m) refl e
 
 -- ---- both
 

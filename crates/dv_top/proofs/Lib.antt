@@ -1,10 +1,12 @@
 pub mod AnswerLemmas
 pub mod AnsweringLemmas
+pub mod EndedLemmas
 pub mod Entries
 pub mod Judged
 pub mod ListingLemmas
 pub mod PieceLemmas
 pub mod RunLemmas
+pub mod RunningLemmas
 pub mod SaidOnce
 pub mod Schedules
 pub mod Usable

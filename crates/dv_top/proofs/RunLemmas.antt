@@ -1,5 +1,5 @@
 -- Runs: their statuses, their turns, and schedules that are refused.
-use Rattle.std.proofs.Common.{◌≡◌, ◌≢◌, ℕ, ◌+◌, ◌++◌, Bool, List, [], length, append-nil, Option, Some, None, Ok, Result, inl, inr, arith, ap, sym, refl, subst, ◌∙◌}
+use Rattle.std.proofs.Common.{◌≡◌, ◌≢◌, ℕ, ◌+◌, ◌≤◌, ◌++◌, Bool, List, [], length, append-nil, Option, Some, None, Ok, Result, inl, inr, arith, ap, sym, refl, subst, ◌∙◌}
 use Rattle.dv_defs.specs.declared.machine.End.{End}
 use Rattle.dv_defs.specs.declared.machine.End.TheVariants as end
 use Rattle.dv_defs.specs.declared.run.Ending.{Ending}

@@ -59,14 +59,14 @@ pub images_of_run : (class bytes : List ℕ) → HaveImages (program_to_run clas
 images_of_run class bytes = by (image_in bytes) refl
   where
     by : (r : Result Image Refusal) → image_in bytes ≡ r → HaveImages (of_image class r)
-    by (Ok image) is = main_of_image image [] (main_in image class) (texts_give_images bytes image is)
+    by (Ok image) is p e = main_of_image image [] (main_in image class) (texts_give_images bytes image is) p e
     by (Err why) is p e = absurd (cc)
 
 pub images_of_replay : (class bytes : List ℕ) → HaveImages (program_to_replay class bytes)
 images_of_replay class bytes = by (scheduled_in bytes) refl
   where
     by : (r : Result Scheduled Refusal) → scheduled_in bytes ≡ r → HaveImages (of_scheduled class r)
-    by (Ok s) is = main_of_image s.image s.log (main_in s.image class) (scheduled_texts_give_images bytes s is)
+    by (Ok s) is p e = main_of_image s.image s.log (main_in s.image class) (scheduled_texts_give_images bytes s is) p e
     by (Err why) is p e = absurd (cc)
 
 -- ---- nothing runs

@@ -1,5 +1,5 @@
--- Schedules that are given, and what is said of those that a replay refuses.
-use Rattle.std.specs.Prelude.{◌≡◌, ◌<◌, ◌^◌, ℕ, All, false, List, [], length, Option, Some, None, codes}
+-- What is said of a schedule that is given.
+use Rattle.std.specs.Prelude.{◌≡◌, ℕ, false, List, [], Option, Some, None, codes}
 use Rattle.dv_defs.specs.declared.run.Entry.{Entry}
 use Rattle.dv_defs.specs.declared.run.Limits.{Limits}
 use Rattle.dv_defs.specs.Images.{Image}
@@ -8,14 +8,8 @@ use Rattle.dv_machine.specs.Replaying.{replay}
 use Rattle.dv_sound.specs.declared.error.ReplayError.{ReplayError}
 use Rattle.dv_sound.specs.declared.error.ReplayError.TheVariants as error
 use Rattle.dv_top.specs.declared.status.Status.TheVariants as exit
-use Rattle.dv_top.specs.Answering.{IsEntry}
 use Rattle.dv_top.specs.Runs.{IsRun, refused_line, schedule_line}
 use Rattle.dv_top.specs.Status.{code_of}
-
--- a schedule that a text may have
-pub record IsSchedule (log : List Entry) : Type 0 where
-  pub few : length log < 2 ^ 32
-  pub entries : All IsEntry log
 
 -- the line of a schedule that is refused, by why it is; want of memory is no refusal
 abbrev pub line_of : ReplayError → Option (List ℕ)

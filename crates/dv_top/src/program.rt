@@ -1,10 +1,9 @@
 // The program of a text: its image, its main method, and the schedule at its end.
-ghost use Rattle.std.specs.Prelude.{◌<◌, ◌≤◌, ◌-◌, ◌^◌, IfOk, length};
+ghost use Rattle.std.specs.Prelude.{◌<◌, ◌-◌, ◌^◌, All, IfOk, length};
 ghost use Rattle.dv_program.specs.Images.{Answers, main_in};
 ghost use Rattle.dv_sound.specs.Runs.{HasMain};
+ghost use Rattle.dv_top.specs.Answering.{IsEntry};
 ghost use Rattle.dv_top.specs.Programs.{program_to_replay, program_to_run, with_main};
-ghost use Rattle.dv_top.specs.Said.{text_limit};
-ghost use Rattle.dv_top.specs.Scheduling.{IsSchedule};
 
 use dv_defs::{Entry, Image, MethodId, Seq, Text};
 use dv_program::{ProgramError, main_method, read_program, read_scheduled};
@@ -37,7 +36,7 @@ pub fn program_to_replay(
     requires { length text.now < 2 ^ 32 - 1 }
     ensures program { Answers (program_to_replay class.now text.now) result }
     ensures main { IfOk result (λ p. HasMain p.image p.main.0) }
-    ensures schedule { length text.now ≤ text_limit → IfOk result (λ p. IsSchedule p.schedule) }
+    ensures schedule { IfOk result (λ p. All IsEntry p.schedule) }
 {
     let scheduled = read_scheduled(alloc, text)?;
     with_main(alloc, class, scheduled.image, scheduled.log)

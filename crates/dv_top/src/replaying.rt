@@ -1,5 +1,5 @@
 // The reply to a text of which a class is to be run on a given schedule.
-ghost use Rattle.std.specs.Prelude.{◌≡◌, ◌≢◌, ◌<◌, ◌≤◌, ◌^◌, ℕ, List, [], All, IfOk, OnErr, Ok, Result, Some, length};
+ghost use Rattle.std.specs.Prelude.{◌≡◌, ◌≢◌, ◌≤◌, ℕ, List, [], All, IfOk, OnErr, Ok, Result, Some, length};
 ghost use Rattle.dv_defs.specs.Pools.{Method, method_at};
 ghost use Rattle.dv_console.specs.declared.refusals.Refusal.{Refusal};
 ghost use Rattle.dv_sound.specs.Moves.{AreUsable};
@@ -7,7 +7,7 @@ ghost use Rattle.dv_sound.specs.Runs.{HasMain};
 ghost use Rattle.dv_top.specs.declared.program.Program.{Program as ProgramOf};
 ghost use Rattle.dv_top.specs.Answering.{IsEntry, IsIdle, IsLogOfReplay, IsReadOf, IsTold};
 ghost use Rattle.dv_top.specs.Programs.{program_to_replay};
-ghost use Rattle.dv_top.specs.Scheduling.{IsReplyOfReplay, IsSchedule};
+ghost use Rattle.dv_top.specs.Scheduling.{IsReplyOfReplay};
 ghost use Rattle.dv_top.specs.Said.{IsSaidOfReplay, text_limit};
 ghost use Rattle.dv_top.specs.Status.{code_of};
 
@@ -63,7 +63,7 @@ fn reply_to_program(
     requires empty { log.old.items ≡ [] }
     requires main { HasMain program.image program.main.0 }
     requires usable { AreUsable limits.now }
-    requires schedule { IsSchedule program.schedule }
+    requires schedule { All IsEntry program.schedule }
     ensures told { IfOk result (λ reply. IsTold (code_of reply.status) × (code_of reply.status ≢ code_of Status.Usage)) }
     ensures said { (bytes : List ℕ) (found : Result ProgramOf Refusal) → length bytes ≤ text_limit → found ≡ Ok program
         → IfOk result (λ reply. IsSaidOfReplay bytes found limits.now log.new.items (code_of reply.status) reply.text.items) }
@@ -96,7 +96,6 @@ fn reply_of_replay(
     requires empty { log.old.items ≡ [] }
     requires main { HasMain verified.now.image main.0 }
     requires usable { AreUsable limits.now }
-    requires few { length schedule.now < 2 ^ 32 }
     ensures replayed { (m : Method) → method_at verified.now.image main.0 ≡ Some m
         → IfOk result (λ reply. IsReplyOfReplay verified.now.image m limits.now schedule.now log.new.items (code_of reply.status)
             reply.text.items) }

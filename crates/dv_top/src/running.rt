@@ -6,7 +6,7 @@ ghost use Rattle.dv_machine.specs.Replaying.{IsLegal};
 ghost use Rattle.dv_machine.specs.Running.{ending_of};
 ghost use Rattle.dv_machine.specs.State.{Machine};
 ghost use Rattle.dv_sound.specs.Moves.{AreUsable};
-ghost use Rattle.dv_sound.specs.Runs.{HasMain, IsAt, IsSameRun};
+ghost use Rattle.dv_sound.specs.Runs.{HasMain, IsAt, IsAtSome, IsSameRun};
 ghost use Rattle.dv_top.specs.declared.program.Program.{Program as ProgramOf};
 ghost use Rattle.dv_top.specs.Answering.{IsEntry, IsIdle, IsLogOfRun, IsReadOf, IsTold};
 ghost use Rattle.dv_top.specs.Programs.{program_to_run};
@@ -108,22 +108,41 @@ fn reply_of_run(
             × AreFirstTurns how.now.seed verified.now.image m how.now.limits log.new.items }
 {
     let mut run = SafeVm::open(alloc, verified, main, how.limits)?;
-    let reply = match lead(&mut run, how.seed) {
-        Ok(()) => reply_of_ended(alloc, &run, how.shown),
-        Err(error) => Err(error),
-    };
+    let reply = reply_of_turns(alloc, &mut run, how);
+    has_state(&run);
     *log = run.into_log();
     reply
+}
+
+/// The log of a run leads to a state: does nothing.
+fn has_state(run: &SafeVm)
+    ensures { IsAtSome run.now }
+{
+    let _ = run.log();
+}
+
+/// The reply to a run that has just begun.
+fn reply_of_turns(alloc: Global, run: &mut SafeVm, how: &Running) -> Result<Reply, AllocError>
+    requires { (run.old.log ≡ []) × (run.old.lent ≡ []) }
+    ensures ran { (m : Method) → method_at run.old.verified.image run.old.main.0 ≡ Some m
+        → IfOk result (λ reply. AreTurns how.now.seed run.old.verified.image m run.old.machine.limits run.new.log
+            × IsRun run.old.verified.image m run.old.machine.limits run.new.log how.now.shown (code_of reply.status) reply.text.items) }
+    ensures first { (m : Method) → method_at run.old.verified.image run.old.main.0 ≡ Some m
+        → AreFirstTurns how.now.seed run.old.verified.image m run.old.machine.limits run.new.log }
+    ensures same { IsSameRun run.old run.new }
+{
+    lead(run, how.seed)?;
+    reply_of_ended(alloc, run, how.shown)
 }
 
 /// Turns until the run has ended.
 fn lead(run: &mut SafeVm, seed: Option<u64>) -> Result<(), AllocError>
     requires { (run.old.log ≡ []) × (run.old.lent ≡ []) }
-    ensures turns { OnOk result ((main : Method) (m : Machine) → IsAt run.old main m
-        → AreTurns seed run.old.verified.image main run.old.machine.limits run.new.log) }
-    ensures first { OnErr result ((main : Method) (m : Machine) → IsAt run.old main m
-        → AreFirstTurns seed run.old.verified.image main run.old.machine.limits run.new.log) }
-    ensures ended { OnOk result ((main : Method) (m : Machine) → IsAt run.new main m → ending_of run.new.verified.image m ≢ Nothing) }
+    ensures turns { OnOk result ((m : Method) → method_at run.old.verified.image run.old.main.0 ≡ Some m
+        → AreTurns seed run.old.verified.image m run.old.machine.limits run.new.log) }
+    ensures first { OnErr result ((m : Method) → method_at run.old.verified.image run.old.main.0 ≡ Some m
+        → AreFirstTurns seed run.old.verified.image m run.old.machine.limits run.new.log) }
+    ensures ended { OnOk result ((m : Method) (state : Machine) → IsAt run.new m state → ending_of run.new.verified.image state ≢ Nothing) }
     ensures same { IsSameRun run.old run.new }
 {
     match seed {
