@@ -8,8 +8,14 @@ use Rattle.dv_flowlaws.proofs.HierarchyLaw.{linked_classes_are_hierarchies}
 use Rattle.dv_console.specs.declared.refusals.Refusal.{Refusal}
 use Rattle.dv_console.specs.Faults.{accepted_text}
 use Rattle.dv_console.specs.Refusals.{refusal_text}
-use Rattle.dv_program.specs.Images.{image_in}
+use Rattle.dv_program.specs.declared.errors.ProgramError.{ProgramError}
+use Rattle.dv_program.specs.declared.errors.ProgramError.TheVariants as program
+use Rattle.dv_program.specs.Images.{Answers, image_in}
+use Rattle.dv_pverify.specs.declared.errors.VerifyError.{VerifyError}
+use Rattle.dv_pverify.specs.declared.errors.VerifyError.TheVariants as verify
+use Rattle.dv_pverify.specs.Errors.{IfFaults}
 use Rattle.dv_program.proofs.LinkedTexts.{texts_give_images}
+use Rattle.dv_top.specs.declared.status.Status.{Status}
 use Rattle.dv_top.specs.declared.status.Status.TheVariants as exit
 use Rattle.dv_top.specs.Answering.{IsReadOf}
 use Rattle.dv_top.specs.Laws.{IsVerdict}
@@ -22,10 +28,12 @@ use Rattle.dv_top.proofs.AnsweringLemmas.{found_in, large_or_small, ok_or_err, r
 pub said_too_large_to_verify : (bytes text : List ℕ) (status : ℕ) (reply : List ℕ) → IsReadOf bytes text → text_limit < length text → status ≡ code_of exit.TooLarge → reply ≡ too_large → IsSaidOfVerifying bytes status reply
 said_too_large_to_verify bytes text status reply is many told prints = TooLargeToVerify (read_past bytes text is many) (told, prints)
 
-pub said_no_image : (bytes text : List ℕ) (why : Refusal) (status : ℕ) (reply : List ℕ) → IsReadOf bytes text → length text ≤ text_limit → image_in text ≡ Err why → status ≡ code_of exit.BadText → reply ≡ refusal_text why → IsSaidOfVerifying bytes status reply
-said_no_image bytes text why status reply is few refused told prints =
-    let found = found_in image_in bytes text (Err why) is few refused in
-    NoImage found.0 why found.1 (told, prints)
+pub said_no_image : (bytes text : List ℕ) (error : ProgramError) (status : Status) (reply : List ℕ) → IsReadOf bytes text → length text ≤ text_limit → Answers (image_in text) (Err error) → (status ≡ exit.BadText) × ((why : Refusal) × (error ≡ program.Refused why) × (reply ≡ refusal_text why)) → IsSaidOfVerifying bytes (code_of status) reply
+said_no_image bytes text (program.Refused other) status reply is few answers (told, (why, e, prints)) =
+    let found = found_in image_in bytes text (Err other) is few answers in
+    let same : why ≡ other = cc in
+    NoImage found.0 other found.1 (ap code_of told, prints ∙ ap refusal_text same)
+said_no_image bytes text program.Memory status reply is few answers (told, (why, e, prints)) = absurd (cc)
 
 -- the image of what was read is that of the bytes
 pub image_of_read : (bytes text : List ℕ) (image : Image) → IsReadOf bytes text → length text ≤ text_limit → image_in text ≡ Ok image → (length bytes ≤ text_limit) × (image_in bytes ≡ Ok image)
@@ -34,9 +42,12 @@ image_of_read bytes text image is few gives = found_in image_in bytes text (Ok i
 pub said_accepted : (bytes : List ℕ) (image verified : Image) (status : ℕ) (line reply : List ℕ) → length bytes ≤ text_limit → image_in bytes ≡ Ok image → Accepts image → verified ≡ image → line ≡ accepted_text verified → status ≡ code_of exit.Done → reply ≡ line → IsSaidOfVerifying bytes status reply
 said_accepted bytes image verified status line reply few gives holds same is told prints = Accepted few image gives holds (told, prints ∙ (is ∙ ap accepted_text same))
 
-pub said_faulty : (bytes : List ℕ) (image refused : Image) (faults told_faults : List Fault) (status : ℕ) (reply : List ℕ) → length bytes ≤ text_limit → image_in bytes ≡ Ok image → (Accepts image → ⊥) → AreImageFaults image faults → refused ≡ image → told_faults ≡ faults → status ≡ code_of exit.Refused → reply ≡ fault_lines refused told_faults → IsSaidOfVerifying bytes status reply
-said_faulty bytes image refused faults told_faults status reply few gives broken are same all told prints =
-    Faulty few image gives broken faults are (told, prints ∙ (ap (λ i. fault_lines i told_faults) same ∙ ap (λ fs. fault_lines image fs) all))
+pub said_faulty : (A : Type 0) (bytes : List ℕ) (image : Image) (error : VerifyError) (status : Status) (reply : List ℕ) → length bytes ≤ text_limit → image_in bytes ≡ Ok image → IfFaults {A = A} (Err error) (λ i fs. i ≡ image) → IfFaults {A = A} (Err error) (λ i fs. AreImageFaults image fs) → IfFaults {A = A} (Err error) (λ i fs. Accepts image → ⊥) → (status ≡ exit.Refused) × ((i : Image) × (fs : List Fault) × (error ≡ verify.Faults i fs) × (reply ≡ fault_lines i fs)) → IsSaidOfVerifying bytes (code_of status) reply
+said_faulty A bytes image (verify.Faults refused faults) status reply few gives same are broken (told, (i, fs, e, prints)) =
+    let images : i ≡ image = cc in
+    let all : fs ≡ faults = cc in
+    Faulty few image gives broken faults are (ap code_of told, prints ∙ (ap (λ (x : Image). fault_lines x fs) images ∙ ap (λ xs. fault_lines image xs) all))
+said_faulty A bytes image verify.Memory status reply few gives same are broken (told, (i, fs, e, prints)) = absurd (cc)
 
 -- ---- one thing is said
 

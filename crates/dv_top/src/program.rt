@@ -1,5 +1,5 @@
 // The program of a text: its image, its main method, and the schedule at its end.
-ghost use Rattle.std.specs.Prelude.{◌<◌, ◌-◌, ◌^◌, All, IfOk, length};
+ghost use Rattle.std.specs.Prelude.{◌≡◌, ◌<◌, ◌-◌, ◌^◌, All, IfOk, length};
 ghost use Rattle.dv_program.specs.Images.{Answers, main_in};
 ghost use Rattle.dv_sound.specs.Runs.{HasMain};
 ghost use Rattle.dv_top.specs.Answering.{IsEntry};
@@ -51,6 +51,7 @@ fn with_main(
 ) -> Result<Program, ProgramError>
     ensures program { Answers (with_main image schedule (main_in image class.now)) result }
     ensures main { IfOk result (λ p. HasMain p.image p.main.0) }
+    ensures schedule { IfOk result (λ p. p.schedule ≡ schedule) }
 {
     let main = main_method(alloc, &image, class.bytes())?;
     Ok(Program {

@@ -1,6 +1,6 @@
 // Schedules as they are printed, and what is said of one that is refused.
 ghost use Rattle.std.specs.Prelude.{◌≡◌, ◌++◌, IfOk, OnOk, Some};
-ghost use Rattle.dv_top.specs.Runs.{schedule_text};
+ghost use Rattle.dv_top.specs.Runs.{schedule_line, schedule_text};
 ghost use Rattle.dv_top.specs.Scheduling.{line_of};
 
 use crate::reply::{Reply, fixed};
@@ -24,15 +24,17 @@ pub fn add_schedule(text: &mut Vec<u8>, log: &[Entry]) -> Result<(), AllocError>
 pub fn refused_schedule(alloc: Global, error: ReplayError) -> Result<Reply, AllocError>
     ensures { IfOk result (λ reply. (reply.status ≡ Status.Schedule) × (line_of error ≡ Some reply.text.items)) }
 {
-    let line = match error {
-        ReplayError::NotRunnable(entry) => {
-            format!(in alloc; "#schedule entry {entry}: not runnable\n")?
-        }
-        ReplayError::Long(entry) => format!(in alloc; "#schedule entry {entry}: past the end\n")?,
-        ReplayError::Short(entry) => {
-            format!(in alloc; "#schedule entry {entry}: stops early\n")?
-        }
-        ReplayError::Memory(error) => return Err(error),
-    };
+    match error {
+        ReplayError::NotRunnable(entry) => refused_at(alloc, entry, "not runnable"),
+        ReplayError::Long(entry) => refused_at(alloc, entry, "past the end"),
+        ReplayError::Short(entry) => refused_at(alloc, entry, "stops early"),
+        ReplayError::Memory(error) => Err(error),
+    }
+}
+
+fn refused_at(alloc: Global, entry: u32, why: &str) -> Result<Reply, AllocError>
+    ensures { IfOk result (λ reply. (reply.status ≡ Status.Schedule) × (reply.text.items ≡ schedule_line entry why.now)) }
+{
+    let line = format!(in alloc; "#schedule entry {entry}: {why}\n")?;
     fixed(alloc, Status::Schedule, line.as_bytes())
 }
