@@ -1,16 +1,13 @@
 -- What a run that has ended tells, by the state at which its engine stands.
-use Rattle.std.proofs.Common.{◌≡◌, ◌≢◌, ℕ, ◌++◌, Bool, List, [], ◌∷◌, length, Option, Some, None, arith, ap, refl, sym, ◌∙◌}
+use Rattle.std.proofs.Common.{◌≡◌, ℕ, ◌++◌, Bool, List, [], ◌∷◌, length, Some, arith, ap, refl, sym, ◌∙◌}
 use Rattle.std.specs.Prelude.{slice_get}
 use Rattle.std.specs.List.{AllZip}
 use Rattle.dv_defs.specs.declared.machine.End.{End}
 use Rattle.dv_defs.specs.declared.run.Ending.{Ending}
-use Rattle.dv_defs.specs.declared.run.Entry.{Entry}
-use Rattle.dv_defs.specs.declared.run.Limits.{Limits}
 use Rattle.dv_defs.specs.Images.{Image}
 use Rattle.dv_defs.specs.Linked.{IsImage}
 use Rattle.dv_defs.specs.Pools.{Method}
 use Rattle.dv_machine.specs.Final.{final_text}
-use Rattle.dv_machine.specs.Replaying.{Stands, replay}
 use Rattle.dv_machine.specs.Running.{ending_of}
 use Rattle.dv_machine.specs.State.{Machine, Thread}
 use Rattle.dv_machine.specs.WellTyped.{Typings}

@@ -1,5 +1,5 @@
 -- Where a text is refused.
-use Rattle.std.proofs.Common.{◌≡◌, ℕ, ◌≤◌, ◌↔◌, false, List, length, Result, Ok, Err, Some, ap, arith, sym, subst}
+use Rattle.std.proofs.Common.{◌≡◌, ℕ, ◌≤◌, ◌↔◌, false, List, length, Result, ap, arith, subst}
 use Rattle.dv_defs.specs.declared.run.Entry.{Entry}
 use Rattle.dv_defs.specs.declared.run.Limits.{Limits}
 use Rattle.dv_defs.specs.Accepting.{Accepts}
@@ -13,8 +13,8 @@ use Rattle.dv_top.specs.Programs.{program_to_replay, program_to_run}
 use Rattle.dv_top.specs.Runs.{IsRun}
 use Rattle.dv_top.specs.Said.{IsAccepted, IsSaidOfNoRun, IsSaidOfReplay, IsSaidOfRun, NoProgram, NotReplayed, NotRun, Ran, Refused, Replayed, ScheduleRefused, TooLarge, text_limit}
 use Rattle.dv_top.specs.Status.{code_of}
-use Rattle.dv_top.proofs.AnsweringLemmas.{large_or_small, ok_or_err, same_ok}
-use Rattle.dv_top.proofs.RunLemmas.{IsRunStatus, not_refused, run_status}
+use Rattle.dv_top.proofs.AnsweringLemmas.{large_or_small, ok_or_err}
+use Rattle.dv_top.proofs.RunLemmas.{not_refused, run_status}
 use Rattle.dv_top.proofs.SaidOnce.{run_moved, run_or_not, said_of_asked, same_main, same_program}
 use Rattle.dv_top.proofs.VerifyingLemmas.{is_verdict}
 

@@ -1,5 +1,5 @@
 -- What the parts of the reply to a text that is to be listed give together.
-use Rattle.std.proofs.Common.{◌≡◌, ℕ, ◌<◌, ◌≤◌, ◌+◌, List, length, flat_map, false, Ok, Err, ap, sym, ◌∙◌}
+use Rattle.std.proofs.Common.{◌≡◌, ℕ, ◌<◌, ◌≤◌, List, length, flat_map, false, Ok, Err}
 use Rattle.dv_lex.specs.declared.line.Stop.{Stop}
 use Rattle.dv_lex.specs.Lines.{reading_of}
 use Rattle.dv_print.specs.Listing.{class_text}

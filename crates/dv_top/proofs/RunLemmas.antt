@@ -1,5 +1,5 @@
 -- Runs: their statuses, their turns, and schedules that are refused.
-use Rattle.std.proofs.Common.{◌≡◌, ◌≢◌, ℕ, ◌+◌, ◌≤◌, ◌++◌, Bool, List, [], length, append-nil, Option, Some, None, Ok, Result, inl, inr, arith, ap, sym, refl, subst, ◌∙◌}
+use Rattle.std.proofs.Common.{◌≡◌, ◌≢◌, ℕ, ◌≤◌, Bool, List, [], length, append-nil, Option, Some, None, Ok, inl, inr, arith, ap, sym, subst, ◌∙◌}
 use Rattle.dv_defs.specs.declared.machine.End.{End}
 use Rattle.dv_defs.specs.declared.machine.End.TheVariants as end
 use Rattle.dv_defs.specs.declared.run.Ending.{Ending}
@@ -9,15 +9,12 @@ use Rattle.dv_defs.specs.declared.run.Limits.{Limits}
 use Rattle.dv_defs.specs.Images.{Image}
 use Rattle.dv_defs.specs.Pools.{Method}
 use Rattle.dv_machine.specs.Replaying.{IsShort, NotRunnable, PastEnd, Replayed, Stands, Wrong, replay}
-use Rattle.dv_machine.specs.Running.{ending_of}
-use Rattle.dv_machine.specs.Seeds.{log_of_seed}
 use Rattle.dv_sound.specs.declared.error.ReplayError.{ReplayError}
 use Rattle.dv_sound.specs.declared.error.ReplayError.TheVariants as error
 use Rattle.dv_sound.specs.Replays.{IsRefused, Refuses}
-use Rattle.dv_top.specs.declared.status.Status.{Status}
 use Rattle.dv_top.specs.declared.status.Status.TheVariants as exit
 use Rattle.dv_top.specs.Answering.{IsIdle, IsTold}
-use Rattle.dv_top.specs.Runs.{AreFirstTurns, AreTurns, IsRun, refused_line, schedule_line, short_line, status_by, status_by_end, status_of}
+use Rattle.dv_top.specs.Runs.{AreFirstTurns, AreTurns, IsRun, refused_line, schedule_line, short_line, status_by, status_by_end}
 use Rattle.dv_top.specs.Scheduling.{line_of}
 use Rattle.dv_top.specs.Status.{code_of}
 

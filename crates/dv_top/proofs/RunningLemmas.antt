@@ -1,5 +1,5 @@
 -- What the parts of the reply to a class that is to be run give together.
-use Rattle.std.proofs.Common.{◌≡◌, ◌≢◌, ℕ, ◌++◌, ◌<◌, ◌≤◌, ◌^◌, ◌+◌, Bool, false, List, [], length, Option, Some, None, Ok, Err, Result, arith, ap, refl, sym, subst, ◌∙◌}
+use Rattle.std.proofs.Common.{◌≡◌, ◌≢◌, ℕ, ◌++◌, ◌<◌, ◌≤◌, Bool, false, List, [], length, Option, Some, None, Ok, Err, Result, arith, ap, refl, sym, subst, ◌∙◌}
 use Rattle.std.specs.Prelude.{All, IfOk, OnErr, OnOk}
 use Rattle.std.proofs.lemmas.List.Elements.{All-nil}
 use Rattle.dv_defs.specs.declared.faults.Fault.{Fault}
@@ -19,9 +19,8 @@ use Rattle.dv_pverify.specs.declared.errors.VerifyError.TheVariants as verify
 use Rattle.dv_pverify.specs.Errors.{IfFaults}
 use Rattle.dv_rules.specs.Verified.{VerifiedValue}
 use Rattle.dv_machine.specs.Opening.{opening}
-use Rattle.dv_machine.specs.Replaying.{IsFinished, IsLegal, Replayed, Stands, replay}
+use Rattle.dv_machine.specs.Replaying.{IsFinished, IsLegal, Stands, replay}
 use Rattle.dv_machine.specs.State.{Machine}
-use Rattle.dv_machine.specs.StepLaws.{IsMain}
 use Rattle.dv_sound.specs.Runs.{HasMain, IsAt, IsAtSome, LeadsLowest, RanLowest, Run}
 use Rattle.dv_top.specs.declared.program.Program.{Program}
 use Rattle.dv_top.specs.declared.reply.Reply.{Reply}
@@ -29,12 +28,11 @@ use Rattle.dv_top.specs.declared.status.Status.{Status}
 use Rattle.dv_top.specs.declared.status.Status.TheVariants as exit
 use Rattle.dv_top.specs.Answering.{IsEntry, IsIdle, IsLogOfReplay, IsLogOfRun, IsReadOf, IsTold}
 use Rattle.dv_top.specs.Runs.{AreFirstTurns, AreTurns, IsRun}
-use Rattle.dv_top.specs.Said.{IsAccepted, IsSaidOfNoRun, IsSaidOfReplay, IsSaidOfRun, NoProgram, NotReplayed, NotRun, Ran, Refused, Replayed as IsReplayed, ScheduleRefused, TooLarge, fault_lines, text_limit, too_large}
+use Rattle.dv_top.specs.Said.{IsAccepted, IsSaidOfNoRun, IsSaidOfReplay, IsSaidOfRun, NoProgram, Ran, Refused, Replayed as IsReplayed, ScheduleRefused, TooLarge, fault_lines, text_limit, too_large}
 use Rattle.dv_top.specs.Scheduling.{IsReplyOfReplay, Refuses, Runs}
 use Rattle.dv_top.specs.Status.{code_of}
 use Rattle.dv_top.proofs.AnsweringLemmas.{found_in, read_past, same_some}
-use Rattle.dv_top.proofs.Entries.{entries_if_some, turns_are_entries}
-use Rattle.dv_top.proofs.RunLemmas.{first_of_all, not_idle, run_status, told_of_run}
+use Rattle.dv_top.proofs.RunLemmas.{not_idle, run_status, told_of_run}
 
 -- ---- turns
 

@@ -1,6 +1,5 @@
 -- One thing is said of the words, the bytes and the log.
-use Rattle.std.proofs.Common.{◌≡◌, ℕ, ◌<◌, ◌≤◌, ◌++◌, Bool, false, List, [], flat_map, Option, Some, None, Result, Ok, Err, ap, refl, sym, subst, ◌∙◌}
-use Rattle.dv_defs.specs.declared.faults.Fault.{Fault}
+use Rattle.std.proofs.Common.{◌≡◌, ℕ, ◌++◌, Bool, false, List, [], flat_map, Option, Some, None, Result, Ok, Err, ap, refl, sym, subst, ◌∙◌}
 use Rattle.dv_defs.specs.declared.names.MethodId.{MethodId}
 use Rattle.dv_defs.specs.declared.run.Entry.{Entry}
 use Rattle.dv_defs.specs.declared.run.Limits.{Limits}
@@ -30,12 +29,12 @@ use Rattle.dv_top.specs.declared.status.Status.TheVariants as exit
 use Rattle.dv_top.specs.declared.words.Command.{Command}
 use Rattle.dv_top.specs.declared.words.Command.TheVariants as command
 use Rattle.dv_top.specs.Programs.{of_image, of_scheduled, program_to_replay, program_to_run, with_main}
-use Rattle.dv_top.specs.Runs.{AreTurns, IsRun, refused_line, shown_schedule, status_of}
+use Rattle.dv_top.specs.Runs.{IsRun, refused_line, shown_schedule, status_of}
 use Rattle.dv_top.specs.Laws.{IsSaidOnce}
-use Rattle.dv_top.specs.Said.{BadText, IsAccepted, IsReply, IsSaid, IsSaidOfListing, IsSaidOfNoRun, IsSaidOfReplay, IsSaidOfRun, IsSaidOfVerifying, Listed, NoProgram, NotReplayed, NotRun, Ran, Refused, Replayed as IsReplayed, ScheduleRefused, ToBeListed, ToBeReplayed, ToBeRun, ToBeVerified, TooLarge, TooLargeToList, Unread, fault_lines, text_limit, usage}
+use Rattle.dv_top.specs.Said.{BadText, IsAccepted, IsReply, IsSaid, IsSaidOfListing, IsSaidOfNoRun, IsSaidOfReplay, IsSaidOfRun, IsSaidOfVerifying, Listed, NoProgram, NotReplayed, NotRun, Ran, Refused, Replayed as IsReplayed, ScheduleRefused, ToBeListed, ToBeReplayed, ToBeRun, ToBeVerified, TooLarge, TooLargeToList, Unread, fault_lines, usage}
 use Rattle.dv_top.specs.Status.{code_of}
 use Rattle.dv_top.specs.Words.{asked_in}
-use Rattle.dv_top.proofs.AnsweringLemmas.{large_or_small, none_or_some, ok_or_err, same_err, same_ok, same_some}
+use Rattle.dv_top.proofs.AnsweringLemmas.{large_or_small, ok_or_err, same_err, same_ok, same_some}
 use Rattle.dv_top.proofs.RunLemmas.{not_refused}
 use Rattle.dv_top.proofs.VerifyingLemmas.{verified_once}
 

@@ -1,13 +1,13 @@
 -- A run may be opened within the limits that words set.
-use Rattle.std.proofs.Common.{◌≡◌, ℕ, ◌<◌, ◌≤◌, ◌^◌, Bool, true, false, List, [], ◌∷◌, Option, Some, None, refl, sym, ap, subst, ◌∙◌, arith}
-use Rattle.std.specs.Prelude.{◌&&◌, ◌||◌, nat_le, nat_eq, is_some, unwrap_or, option_and_then, option_map, bytes_eq, codes, if◌then◌else◌}
+use Rattle.std.proofs.Common.{◌≡◌, ℕ, ◌≤◌, Bool, true, false, List, [], ◌∷◌, Option, Some, None, refl, ap, subst, ◌∙◌, arith}
+use Rattle.std.specs.Prelude.{◌&&◌, nat_le, nat_eq, is_some, unwrap_or, option_and_then, option_map, bytes_eq, codes, if◌then◌else◌}
 use Rattle.std.proofs.lemmas.Bool.{and_parts}
 use Rattle.std.proofs.lemmas.Bool.Decides.{nat_tests}
 use Rattle.dv_defs.specs.declared.run.Limits.{Limits}
 use Rattle.dv_console.specs.declared.command.Cmd.{Cmd}
 use Rattle.dv_console.specs.declared.command.Cmd.TheVariants as cmd
 use Rattle.dv_console.specs.declared.keys.Key.TheVariants as key
-use Rattle.dv_console.specs.Words.{alone, are_of, command_in, demo_in, in_range, is_java_name, limits_in, limits_of, named, number_in, replay_in, run_in, run_of, set_by, setting, texts_of, value_in, descriptor_of}
+use Rattle.dv_console.specs.Words.{alone, command_in, demo_in, in_range, is_java_name, limits_in, limits_of, named, number_in, replay_in, run_in, run_of, set_by, setting, texts_of, value_in, descriptor_of}
 use Rattle.dv_sound.specs.Moves.{AreUsable}
 use Rattle.dv_top.specs.Words.{IsUsable, asked_in, built}
 

@@ -1,5 +1,5 @@
 -- What is said of a program that is to be verified: what its parts give together, that it is one thing, and that it is exact.
-use Rattle.std.proofs.Common.{◌≡◌, ℕ, ◌+◌, ◌<◌, ◌≤◌, List, length, Result, Ok, Err, arith, ap, sym, subst, ◌∙◌}
+use Rattle.std.proofs.Common.{◌≡◌, ℕ, ◌<◌, ◌≤◌, List, length, Ok, Err, arith, ap, sym, subst, ◌∙◌}
 use Rattle.dv_defs.specs.declared.faults.Fault.{Fault}
 use Rattle.dv_defs.specs.Accepting.{Accepts, AreImageFaults}
 use Rattle.dv_defs.specs.Images.{Image}

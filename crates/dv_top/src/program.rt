@@ -28,11 +28,7 @@ pub fn program_to_run(alloc: Global, class: &Text, text: &[u8]) -> Result<Progra
 }
 
 /// The program of a text with its schedule, of which the class of this descriptor is to be run again.
-pub fn program_to_replay(
-    alloc: Global,
-    class: &Text,
-    text: &[u8],
-) -> Result<Program, ProgramError>
+pub fn program_to_replay(alloc: Global, class: &Text, text: &[u8]) -> Result<Program, ProgramError>
     requires { length text.now < 2 ^ 32 - 1 }
     ensures program { Answers (program_to_replay class.now text.now) result }
     ensures main { IfOk result (λ p. HasMain p.image p.main.0) }

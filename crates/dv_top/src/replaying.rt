@@ -37,7 +37,7 @@ pub fn reply_to_replaying(
     ensures told { IfOk result (λ reply. IsTold (code_of reply.status) × (code_of reply.status ≢ code_of Status.Usage)) }
     ensures said { (bytes : List ℕ) → IsReadOf bytes text.now
         → IfOk result (λ reply. IsSaidOfReplay bytes (program_to_replay class.now bytes) limits.now log.new.items (code_of reply.status)
-            reply.text.items) }
+        reply.text.items) }
     ensures entries { All IsEntry log.new.items }
     ensures idle { IfOk result (λ reply. IsIdle (code_of reply.status) → log.new.items ≡ []) }
     ensures legal { (bytes : List ℕ) → IsReadOf bytes text.now → log.new.items ≢ []
@@ -98,7 +98,7 @@ fn reply_of_replay(
     requires usable { AreUsable limits.now }
     ensures replayed { (m : Method) → method_at verified.now.image main.0 ≡ Some m
         → IfOk result (λ reply. IsReplyOfReplay verified.now.image m limits.now schedule.now log.new.items (code_of reply.status)
-            reply.text.items) }
+        reply.text.items) }
     ensures wanting { OnErr result (log.new.items ≡ []) }
 {
     match SafeVm::replay(alloc, verified, main, *limits, schedule) {

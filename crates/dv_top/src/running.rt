@@ -48,7 +48,7 @@ pub fn reply_to_running(
     ensures told { IfOk result (λ reply. IsTold (code_of reply.status) × (code_of reply.status ≢ code_of Status.Usage)) }
     ensures said { (bytes : List ℕ) → IsReadOf bytes text.now
         → IfOk result (λ reply. IsSaidOfRun bytes (program_to_run class.now bytes) how.now.seed how.now.limits how.now.shown log.new.items
-            (code_of reply.status) reply.text.items) }
+        (code_of reply.status) reply.text.items) }
     ensures entries { All IsEntry log.new.items }
     ensures idle { IfOk result (λ reply. IsIdle (code_of reply.status) → log.new.items ≡ []) }
     ensures legal { (bytes : List ℕ) → IsReadOf bytes text.now → log.new.items ≢ []
@@ -76,7 +76,7 @@ fn reply_to_program(
     ensures told { IfOk result (λ reply. IsTold (code_of reply.status) × (code_of reply.status ≢ code_of Status.Usage)) }
     ensures said { (bytes : List ℕ) (found : Result ProgramOf Refusal) → length bytes ≤ text_limit → found ≡ Ok program
         → IfOk result (λ reply. IsSaidOfRun bytes found how.now.seed how.now.limits how.now.shown log.new.items (code_of reply.status)
-            reply.text.items) }
+        reply.text.items) }
     ensures entries { All IsEntry log.new.items }
     ensures idle { IfOk result (λ reply. IsIdle (code_of reply.status) → log.new.items ≡ []) }
     ensures legal { (bytes : List ℕ) (found : Result ProgramOf Refusal) → length bytes ≤ text_limit → found ≡ Ok program
@@ -102,10 +102,10 @@ fn reply_of_run(
     requires usable { AreUsable how.now.limits }
     ensures ran { (m : Method) → method_at verified.now.image main.0 ≡ Some m
         → IfOk result (λ reply. AreTurns how.now.seed verified.now.image m how.now.limits log.new.items
-            × IsRun verified.now.image m how.now.limits log.new.items how.now.shown (code_of reply.status) reply.text.items) }
+        × IsRun verified.now.image m how.now.limits log.new.items how.now.shown (code_of reply.status) reply.text.items) }
     ensures legal { (m : Method) → method_at verified.now.image main.0 ≡ Some m → log.new.items ≢ []
         → IsLegal verified.now.image m how.now.limits log.new.items
-            × AreFirstTurns how.now.seed verified.now.image m how.now.limits log.new.items }
+        × AreFirstTurns how.now.seed verified.now.image m how.now.limits log.new.items }
 {
     let mut run = SafeVm::open(alloc, verified, main, how.limits)?;
     let reply = reply_of_turns(alloc, &mut run, how);
@@ -126,7 +126,7 @@ fn reply_of_turns(alloc: Global, run: &mut SafeVm, how: &Running) -> Result<Repl
     requires { (run.old.log ≡ []) × (run.old.lent ≡ []) }
     ensures ran { (m : Method) → method_at run.old.verified.image run.old.main.0 ≡ Some m
         → IfOk result (λ reply. AreTurns how.now.seed run.old.verified.image m run.old.machine.limits run.new.log
-            × IsRun run.old.verified.image m run.old.machine.limits run.new.log how.now.shown (code_of reply.status) reply.text.items) }
+        × IsRun run.old.verified.image m run.old.machine.limits run.new.log how.now.shown (code_of reply.status) reply.text.items) }
     ensures first { (m : Method) → method_at run.old.verified.image run.old.main.0 ≡ Some m
         → AreFirstTurns how.now.seed run.old.verified.image m run.old.machine.limits run.new.log }
     ensures same { IsSameRun run.old run.new }

@@ -126,9 +126,8 @@ const SCHEDULES: &[Row<'static>] = &[
 ];
 
 /// A class whose initialiser throws.
-const THROWING: &[Row<'static>] = &[
-    Row {
-        before: ".class LX;
+const THROWING: &[Row<'static>] = &[Row {
+    before: ".class LX;
 .super Ljava/lang/Object;
 .method static constructor <clinit>()V
 .registers 1
@@ -141,8 +140,8 @@ throw v0
 return-void
 .end method
 ",
-        registers: "1",
-        body: ":a
+    registers: "1",
+    body: ":a
 invoke-static {}, LX;->t()V
 :b
 return-void
@@ -153,11 +152,10 @@ invoke-static {}, LX;->t()V
 return-void
 .catch Ljava/lang/ExceptionInInitializerError; {:a .. :b} :h
 ",
-        status: 1,
-        taken: "1\n#uncaught 0 java.lang.NoClassDefFoundError\n#end done\n",
-        ..RUN
-    },
-];
+    status: 1,
+    taken: "1\n#uncaught 0 java.lang.NoClassDefFoundError\n#end done\n",
+    ..RUN
+}];
 
 #[test]
 fn given_schedules_are_run_or_refused(rt: HostRuntime) -> Result<(), Fail> {

@@ -74,7 +74,10 @@ fn so_is_that_of_each_seed(rt: HostRuntime) -> Result<(), Fail> {
         let seed = format!(in rt.alloc(); "seed={seed}")?;
         let words = ["run", "Main", seed.as_str(), "log=yes"];
         let log = run_twice(&rt, rt.alloc(), &words, PRODUCER, &CONSUME)?;
-        assert!(rt; log.iter().all(|e| e.worker == 0 && 1 <= e.steps && e.steps <= 256));
+        assert!(rt;
+            log.iter()
+                .all(|e| e.worker == 0 && 1 <= e.steps && e.steps <= 256)
+        );
         assert!(rt; log.as_slice() != before.as_slice());
         before = log;
     }

@@ -1,6 +1,5 @@
 use Rattle.std.proofs.Common.{◌≡◌, ap, sym, subst, ◌∙◌, map}
 use Rattle.std.specs.Prelude.{option_and_then, string_bytes}
-use Rattle.dv_console.specs.Words.{command_in}
 use Rattle.dv_top.specs.Words.{IsUsable, asked_in, built}
 use Rattle.dv_top.proofs.Usable.{asked_usable}
 use Rattle.dv_top.proofs.words.command_of.Goals as goal
