@@ -66,7 +66,7 @@ module _ (image : Image) (T : Typings) (w : WordMachine) (m : Machine) (good : I
       by : (o : Option At) → fetch image v.method.0 v.at ≡ o → (x : At) × (fetch image v.method.0 v.at ≡ Some x) → (z : Frame) × (locals_here image (suc n) f ≡ Some z)
       by None found x = let d : None ≡ Some x.0 = sym found ∙ x.1 in absurd (cc d)
       by (Some x) found y =
-          let local : is_local x.op ≡ true = ran.local n v x l e found in
+          let local : is_local x.op ≡ true = ran.local n v x l (λ k q y l e f. good.keys q.method.0 q.at y f) e found in
           (word_local x.op v x.next, ap (λ (o : Option Frame). on_frame o (local_here image)) e ∙ ap (λ (o : Option At). local_by o v) found ∙ ap (λ b. elim b as (λ q. Option Frame) [ true ↦ Some (word_local x.op v x.next) | false ↦ None ]) local)
 
   pub there : (n : ℕ) → n ≤ done → (v : Frame) × (locals_here image n f ≡ Some v)
@@ -76,7 +76,7 @@ module _ (image : Image) (T : Typings) (w : WordMachine) (m : Machine) (good : I
   pub all_local : locals_here image done f ≡ Some u
   all_local =
       let all = there done (omega arith) in
-      let same : u ≡ all.0 = ran.reached all.0 all.1 in
+      let same : u ≡ all.0 = ran.reached (λ k q y l e f. good.keys q.method.0 q.at y f) all.0 all.1 in
       subst (λ (z : Frame). locals_here image done f ≡ Some z) (sym same) all.1
 
   -- all of them

@@ -12,7 +12,7 @@ use Rattle.dv_machine.specs.StepLaws.{IsMain}
 use Rattle.dv_machine.specs.WellTyped.{Typings}
 use Rattle.dv_words.specs.State.{WordMachine}
 use Rattle.dv_steps.specs.Opening as words
-use Rattle.dv_steps.specs.StepLaws.{InitsAreTexts, StringsFit}
+use Rattle.dv_steps.specs.StepLaws.{AllKeysRise, InitsAreTexts, StringsFit}
 use Rattle.dv_simulation.specs.Laws.{IsSimulated}
 use Rattle.dv_simulation.proofs.Statics.{statics_are_whole_of_linked}
 use Rattle.dv_simulation.proofs.Steps.{openings_are_simulated}
@@ -27,7 +27,7 @@ use Rattle.dv_sound.specs.Runs.{HasMain, IsOpened}
 has_main_room : (l : Limits) → AreUsable l → HasMainRoom l
 has_main_room l u = record { room = record { levels = let two = u.levels in omega arith; words = u.words }; levels = u.levels }
 
-module _ (image : Image) (T : Typings) (main : MethodId) (l : Limits) (v : Vm) (accepted : Accepted image T) (strings : StringsFit image) (texts : InitsAreTexts image) (numbered : l.threads < 2 ^ 32) (counted : l.budget < 2 ^ 64)
+module _ (image : Image) (T : Typings) (main : MethodId) (l : Limits) (v : Vm) (accepted : Accepted image T) (strings : StringsFit image) (keys : AllKeysRise image) (texts : InitsAreTexts image) (numbered : l.threads < 2 ^ 32) (counted : l.budget < 2 ^ 64)
     (opens : (m : Method) → m.id ≡ main.0 → IsMain image m → HasMainRoom l → machine_of v ≡ words.opening image m l) (ordered : IsOrdered l v.guest) (has : HasMain image main.0) (usable : AreUsable l) where
   opening_is : machine_of v ≡ words.opening image has.method l
   opening_is = opens has.method has.numbered has.is_main (has_main_room l usable)
@@ -59,13 +59,13 @@ module _ (image : Image) (T : Typings) (main : MethodId) (l : Limits) (v : Vm) (
 
   -- the engine stands at the opening
   stands_opened : IsOpened image main l v
-  stands_opened = record { has_main = has; typings = T; good = record { accepted = accepted; strings = strings }; stands = stands; limits = limits_are }
+  stands_opened = record { has_main = has; typings = T; good = record { accepted = accepted; strings = strings; keys = keys }; stands = stands; limits = limits_are }
 
 -- so it does where opening it didn't want memory
-module _ (image : Image) (T : Typings) (main : MethodId) (l : Limits) (accepted : Accepted image T) (strings : StringsFit image) (texts : InitsAreTexts image) (numbered : l.threads < 2 ^ 32) (counted : l.budget < 2 ^ 64) (has : HasMain image main.0)
+module _ (image : Image) (T : Typings) (main : MethodId) (l : Limits) (accepted : Accepted image T) (strings : StringsFit image) (keys : AllKeysRise image) (texts : InitsAreTexts image) (numbered : l.threads < 2 ^ 32) (counted : l.budget < 2 ^ 64) (has : HasMain image main.0)
     (usable : AreUsable l) where
   pub opened_if_ok : (r : Result Vm AllocError) →
       IfOk r (λ v. (m : Method) → m.id ≡ main.0 → IsMain image m → HasMainRoom l → machine_of v ≡ words.opening image m l) →
       IfOk r (λ v. IsOrdered l v.guest) → IfOk r (λ v. IsOpened image main l v)
-  opened_if_ok (Ok v) opens ordered = stands_opened image T main l v accepted strings texts numbered counted opens ordered has usable
+  opened_if_ok (Ok v) opens ordered = stands_opened image T main l v accepted strings keys texts numbered counted opens ordered has usable
   opened_if_ok (Err e) opens ordered = tt

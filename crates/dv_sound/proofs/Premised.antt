@@ -16,7 +16,7 @@ use Rattle.dv_laws.proofs.lemmas.Bridge.Laws.{bridge_holds}
 use Rattle.dv_linked.proofs.LinkedLaw.{linked_images_have_linking}
 
 -- the typings of a verified image are those that acceptance wants
-accepts : (image : Image) (maps : List Map) → IsVerified image maps → Accepts image
+pub accepts : (image : Image) (maps : List Map) → IsVerified image maps → Accepts image
 accepts image maps v n code at = record { static = v.static n code at; typing = typing_at (slice_get maps n); is_typing = v.typed n code at }
 
 pub verified_is_accepted : (image : Image) (maps : List Map) → IsImage image → IsVerified image maps → (T : Typings) × Accepted image T

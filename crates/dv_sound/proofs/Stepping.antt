@@ -81,7 +81,7 @@ module _ (image : Image) (T : Typings) (old : Vm) (m : Machine) (t : ℕ) (good 
   steppable =
       let less = left in
       let most = at.counted in
-      steps_fit image T old m t good.accepted good.strings at.simulated at.ordered room (omega (arith, less, most))
+      steps_fit image T old m t good.accepted good.strings good.keys at.simulated at.ordered room (omega (arith, less, most))
 
   module _ (new : Vm) (reads : ReadsFit (machine_of old) t) where
     followed : IsSimulatedStep image T (machine_of old) m t

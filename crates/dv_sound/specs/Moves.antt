@@ -11,7 +11,7 @@ use Rattle.dv_machine.specs.WellTyped.{Typings}
 use Rattle.dv_words.specs.declared.state.Frame.{Frame}
 use Rattle.dv_words.specs.declared.state.Level.{Level}
 use Rattle.dv_words.specs.State.{WordMachine, WordThread}
-use Rattle.dv_steps.specs.StepLaws.{StringsFit, with_top}
+use Rattle.dv_steps.specs.StepLaws.{AllKeysRise, StringsFit, with_top}
 use Rattle.dv_simulation.specs.KeepLaws.{next_is_local_of}
 use Rattle.dv_simulation.specs.Laws.{IsSimulated}
 use Rattle.dv_simulation.specs.TurnLaws.{more}
@@ -22,10 +22,11 @@ use Rattle.dv_core.specs.Machines.{machine_of}
 
 -- ---- where an engine stands
 
--- the image is accepted, and its strings have UTF-16 units
+-- the image is accepted, its strings have UTF-16 units, and keys of sparse switches rise
 pub record IsGood (image : Image) (T : Typings) : Type 0 where
   pub accepted : Accepted image T
   pub strings : StringsFit image
+  pub keys : AllKeysRise image
 
 -- a thread may be there, a stack has room for a frame and a record, and the length of an array is an int
 pub record AreUsable (l : Limits) : Type 0 where

@@ -6,7 +6,7 @@ ghost use Rattle.dv_machine.specs.Accepted.{Accepted};
 ghost use Rattle.dv_machine.specs.Opening.{string_of};
 ghost use Rattle.dv_machine.specs.WellTyped.{Typings};
 ghost use Rattle.dv_steps.specs.Laws.{IsUnit};
-ghost use Rattle.dv_steps.specs.StepLaws.{InitsAreTexts, StringsFit};
+ghost use Rattle.dv_steps.specs.StepLaws.{AllKeysRise, InitsAreTexts, StringsFit};
 
 use dv_defs::{Chars, FieldId, Image, Init, Limits, MethodId};
 use dv_ops::{coded_at, field_at};
@@ -16,6 +16,14 @@ use std::alloc::AllocError;
 /// The laws of steps hold of a verified image: does nothing.
 pub fn is_accepted(verified: &Verified)
     ensures { (T : Typings) × Accepted verified.now.image T }
+{
+    let image = &verified.image;
+    let _classes = &image.classes;
+}
+
+/// Keys of sparse switches rise in a verified image: does nothing.
+pub fn keys_rise(verified: &Verified)
+    ensures { AllKeysRise verified.now.image }
 {
     let image = &verified.image;
     let _classes = &image.classes;

@@ -11,7 +11,7 @@ ghost use Rattle.dv_sound.specs.Moves.{AreUsable, IsGood, StandsAt, may_step};
 ghost use Rattle.dv_sound.specs.Runs.{HasMain, IsAt, IsAtSome, IsKept, IsOpened, IsReady, IsSameRun, IsTurned, MayTurn, NoneIsReady, TurnedFrom};
 
 use crate::moves::{may_step, take_turn};
-use crate::premises::{are_numbers, inits_fit, is_accepted, strings_fit};
+use crate::premises::{are_numbers, inits_fit, is_accepted, keys_rise, strings_fit};
 use dv_core::Vm;
 use dv_defs::{Ending, Entry, Limits, MethodId};
 use dv_rules::Verified;
@@ -57,6 +57,7 @@ pub fn opened(
     are_numbers(&limits);
     let image = &verified.image;
     strings_fit(image);
+    keys_rise(verified);
     inits_fit(image)?;
     Vm::open(alloc, image, main, limits)
 }
