@@ -87,6 +87,10 @@ not_idle s is (inr (inr (inr (inl e)))) = is.accepted e
 not_idle s is (inr (inr (inr (inr (inl e))))) = is.scheduled e
 not_idle s is (inr (inr (inr (inr (inr e))))) = is.small e
 
+-- so it has no log only where there is none
+pub idle_of_run : (s : ℕ) (log : List Entry) → IsRunStatus s → IsIdle s → log ≡ []
+idle_of_run s log is idle = absurd (not_idle s is idle)
+
 -- ---- turns
 
 -- all turns are the first ones

@@ -368,7 +368,7 @@ fn an_empty_text_has_no_class(rt: HostRuntime) -> Result<(), Fail> {
     assert_report(&rt, rt.alloc(), &row, &report)
 }
 
-/// A text of this many bytes: a main method that returns at once, and comments.
+/// A main method that returns at once, with comments up to so many bytes.
 #[test]
 fn a_text_has_a_limit(rt: HostRuntime) -> Result<(), Fail> {
     let large = Row {
@@ -379,7 +379,7 @@ fn a_text_has_a_limit(rt: HostRuntime) -> Result<(), Fail> {
     };
     for (size, row) in [(8_388_608, RUN), (8_388_609, large)] {
         let mut text = text_of(rt.alloc(), &RUN)?;
-        while text.len() < size {
+        for _ in text.len()..size {
             text.push_str("#")?;
         }
         let report = report_of(&rt, rt.alloc(), &row, text.as_bytes())?;

@@ -2,7 +2,7 @@ use Rattle.std.proofs.lemmas.Result.{IfOk-weaker}
 use Rattle.dv_rules.specs.Verified.{VerifiedValue}
 use Rattle.dv_top.specs.Said.{NotRun}
 use Rattle.dv_top.proofs.Entries.{entries_if_some, turns_are_entries}
-use Rattle.dv_top.proofs.RunLemmas.{not_idle, run_status, told_of_run}
+use Rattle.dv_top.proofs.RunLemmas.{idle_of_run, run_status, told_of_run}
 use Rattle.dv_top.proofs.RunningLemmas.{log_of_run, main_at, said_ran, said_refused}
 use Rattle.dv_top.proofs.running.reply_to_program.Goals as goal
 
@@ -16,7 +16,7 @@ pub returns-in-Ok-clause-idle : goal.returns-in-Ok-clause-idle
 returns-in-Ok-clause-idle c =
     let h = c.requires.main in
     let main = main_at c.in-Ok.verified.image c.args.program.image c.args.program.main.0 c.in-Ok.ensures.same h in
-    IfOk-weaker c.reply_of_run.result _ _ (λ reply ran idle. absurd (not_idle _ (run_status _ _ _ _ _ _ _ ran.1) idle)) (c.reply_of_run.ensures.ran h.method main)
+    IfOk-weaker c.reply_of_run.result _ _ (λ reply ran. idle_of_run _ _ (run_status _ _ _ _ _ _ _ ran.1)) (c.reply_of_run.ensures.ran h.method main)
 
 pub returns-in-Ok-clause-entries : goal.returns-in-Ok-clause-entries
 returns-in-Ok-clause-entries c =
