@@ -1,0 +1,17 @@
+//! Whole programs are run within limits, with seeds and without, replayed and cut into turns: tests that cross crates.
+#![tactic(auto)]
+
+#[cfg(test)]
+mod boundaries;
+#[cfg(test)]
+mod initialising;
+#[cfg(test)]
+mod playing;
+#[cfg(test)]
+mod program;
+#[cfg(test)]
+mod replays;
+#[cfg(test)]
+mod seeds;
+#[cfg(test)]
+mod texts;
