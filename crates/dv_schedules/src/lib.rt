@@ -15,3 +15,7 @@ mod replays;
 mod seeds;
 #[cfg(test)]
 mod texts;
+#[cfg(test)]
+mod threads;
+#[cfg(test)]
+mod turns;

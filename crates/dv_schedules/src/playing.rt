@@ -5,9 +5,8 @@ ghost use Rattle.dv_sound.specs.Runs.{HasMain};
 use crate::program::{Played, Program, Replay, Run};
 use dv_defs::{Ending, Entry, Limits, MethodId};
 use dv_final::final_lines;
-use dv_program::read_program;
+use dv_program::{main_method, read_program};
 use dv_pverify::verify_one_by_one;
-use dv_resolve::find_main;
 use dv_rules::Verified;
 use dv_sound::{ReplayError, SafeVm};
 use std::alloc::{AllocError, Global};
@@ -62,7 +61,7 @@ pub fn accepted<R: Abort>(rt: &R, alloc: Global, program: &Program) -> Verified 
 fn main_of<R: Abort>(rt: &R, alloc: Global, verified: &Verified) -> MethodId
     ensures { HasMain verified.now.image result.0 }
 {
-    match find_main(alloc, &verified.image, b"LMain;") {
+    match main_method(alloc, &verified.image, b"LMain;") {
         Ok(main) => main,
         Err(_) => panic!(rt; "no main method"),
     }
@@ -285,6 +284,51 @@ fn assert_turns<R: Abort>(rt: &R, alloc: Global, log: &[Entry], turns: &[(u32, u
     assert!(rt; log == schedule.as_slice(), "{log:?}");
 }
 
+/// Each entry is a turn of worker 0, and all steps are logged.
+fn assert_entries<R: Abort>(rt: &R, run: &SafeVm) {
+    let mut steps: u64 = 0;
+    for entry in run.log() {
+        assert_eq!(rt; entry.worker, 0);
+        assert!(rt; entry.thread < run.threads());
+        assert!(rt; 1 <= entry.steps && entry.steps <= 256);
+        steps = steps.saturating_add(u64::from(entry.steps));
+    }
+    assert_eq!(rt; steps, run.vm().steps);
+}
+
+/// A run to its end: with a seed, or of the lowest runnable thread.
+pub fn ended<'v, R: Abort>(
+    rt: &R,
+    alloc: Global,
+    player: Player<'v>,
+    seed: Option<u64>,
+) -> SafeVm<'v> {
+    let mut run = opened(rt, alloc, player);
+    let done = match seed {
+        Some(seed) => run.seeded(seed),
+        None => run.run(),
+    };
+    assert!(rt; done.is_ok(), "{seed:?}");
+    assert_entries(rt, &run);
+    run
+}
+
+/// A run to its end is told, and its log leads there again.
+fn assert_led<R: Abort>(
+    rt: &R,
+    alloc: Global,
+    player: Player<'_>,
+    run: &Run,
+    seed: Option<u64>,
+) -> Vec<Entry> {
+    let vm = ended(rt, alloc, player, seed);
+    assert_ended(rt, alloc, &vm, run.ending, run.text);
+    let log = vm.into_log();
+    let ended = Played::Ends(run.ending, run.text);
+    assert_log(rt, alloc, player, &log, ended);
+    log
+}
+
 /// A program is run, ends as is told, and its log leads there again.
 pub fn assert_run<R: Abort>(rt: &R, alloc: Global, run: &Run) {
     let verified = accepted(rt, alloc, &run.program);
@@ -292,19 +336,26 @@ pub fn assert_run<R: Abort>(rt: &R, alloc: Global, run: &Run) {
         verified: &verified,
         limits: run.limits,
     };
-    let mut vm = opened(rt, alloc, player);
-    assert!(rt; vm.run().is_ok(), "{}", run.text);
-    assert_ended(rt, alloc, &vm, run.ending, run.text);
-    let log = vm.into_log();
+    let log = assert_led(rt, alloc, player, run, None);
     if let Some(turns) = run.turns {
         assert_turns(rt, alloc, &log, turns);
     }
-    let ended = Played::Ends(run.ending, run.text);
-    assert_log(rt, alloc, player, &log, ended);
 }
 
 pub fn assert_runs<R: Abort>(rt: &R, alloc: Global, runs: &[Run]) {
     for run in runs {
         assert_run(rt, alloc, run);
+    }
+}
+
+/// With so many seeds a program ends as is told.
+pub fn assert_seeds<R: Abort>(rt: &R, alloc: Global, run: &Run, seeds: u64) {
+    let verified = accepted(rt, alloc, &run.program);
+    let player = Player {
+        verified: &verified,
+        limits: run.limits,
+    };
+    for seed in 0..seeds {
+        let _log = assert_led(rt, alloc, player, run, Some(seed));
     }
 }

@@ -1,40 +1,14 @@
 // Runs with seeds.
-use crate::playing::{Player, assert_log, final_text, opened, verified};
+use crate::playing::{Player, assert_log, ended, final_text, verified};
 use crate::program::{AMPLE, Played};
 use crate::texts::{PRODUCER, RACE};
 use dv_defs::{Ending, Entry};
-use dv_sound::SafeVm;
 use std::alloc::Global;
 use std::process::Abort;
 
 /// What the box's numbers are printed as, whoever goes first.
 const TEN: &str =
     "got 0\ngot 1\ngot 2\ngot 3\ngot 4\ngot 5\ngot 6\ngot 7\ngot 8\ngot 9\n#end done\n";
-
-/// Each entry is a turn of worker 0, and all steps are logged.
-fn assert_entries<R: Abort>(rt: &R, run: &SafeVm) {
-    let mut steps: u64 = 0;
-    for entry in run.log() {
-        assert_eq!(rt; entry.worker, 0);
-        assert!(rt; entry.thread < run.threads());
-        assert!(rt; 1 <= entry.steps && entry.steps <= 256);
-        steps = steps.saturating_add(u64::from(entry.steps));
-    }
-    assert_eq!(rt; steps, run.vm().steps);
-}
-
-/// A run with a seed, or one of the lowest runnable thread, to its end.
-fn ended<'v, R: Abort>(rt: &R, alloc: Global, player: Player<'v>, seed: Option<u64>) -> SafeVm<'v> {
-    let mut run = opened(rt, alloc, player);
-    let result = match seed {
-        Some(seed) => run.seeded(seed),
-        None => run.run(),
-    };
-    assert!(rt; result.is_ok(), "{seed:?}");
-    assert_eq!(rt; run.ending(), Some(Ending::Done), "{seed:?}");
-    assert_entries(rt, &run);
-    run
-}
 
 /// The log of a run with a seed.
 fn log_of<R: Abort>(rt: &R, alloc: Global, player: Player<'_>, seed: Option<u64>) -> Vec<Entry> {
@@ -44,6 +18,7 @@ fn log_of<R: Abort>(rt: &R, alloc: Global, player: Player<'_>, seed: Option<u64>
 /// The final text of a run, whose log leads there again, as it is the log of another run with that seed.
 fn text_of<R: Abort>(rt: &R, alloc: Global, player: Player<'_>, seed: Option<u64>) -> String {
     let run = ended(rt, alloc, player, seed);
+    assert_eq!(rt; run.ending(), Some(Ending::Done), "{seed:?}");
     let text = final_text(rt, alloc, &run);
     let log = run.into_log();
     let again = log_of(rt, alloc, player, seed);

@@ -413,6 +413,7 @@ fn sixty_four_threads_end(rt: HostRuntime) {
         limits: AMPLE,
     };
     let run = ended(&rt, rt.alloc(), player, None);
+    assert_eq!(&rt; run.ending(), Some(Ending::Done));
     assert_eq!(&rt; run.threads(), 64);
     for thread in 0..70 {
         assert!(&rt; !run.runnable(thread), "{thread}");
