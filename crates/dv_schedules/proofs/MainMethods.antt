@@ -9,4 +9,4 @@ use Rattle.dv_sound.specs.Runs.{HasMain}
 pub has_main : (image : Image) (class : List ℕ) (id : MethodId) → main_in image class ≡ Ok id → HasMain image id.0
 has_main image class id e =
     let main = mains_are_main image class id e in
-    record { method = main.0; is_main = main.1.0; numbered = main.1.1 }
+    record { method = main.0; is_main = main.1; numbered = main.2 }
