@@ -16,3 +16,6 @@ pub mod Runnable
 pub mod Lowest
 pub mod Seeding
 pub mod Counted
+pub mod Slices
+pub mod Lent
+pub mod Made

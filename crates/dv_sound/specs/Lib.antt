@@ -2,3 +2,4 @@ pub mod Moves
 pub mod Runs
 pub mod Replays
 pub mod Laws
+pub mod Lending

@@ -4,6 +4,7 @@
 
 mod error;
 pub mod laws;
+mod lending;
 mod moves;
 mod playing;
 mod premises;
@@ -13,7 +14,5 @@ mod safe;
 mod seeded;
 
 pub use error::ReplayError;
+pub use lending::Refused;
 pub use safe::SafeVm;
-
-#[cfg(test)]
-mod tests;

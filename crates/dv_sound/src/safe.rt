@@ -24,9 +24,9 @@ use std::marker::Model;
 pub struct SafeVm<'v> {
     verified: &'v Verified,
     main: MethodId,
-    vm: Vm,
-    log: Vec<Entry>,
-    lent: Vec<u32>,
+    pub(crate) vm: Vm,
+    pub(crate) log: Vec<Entry>,
+    pub(crate) lent: Vec<u32>,
 }
 
 impl<'v> Model for SafeVm<'v> {
@@ -185,7 +185,7 @@ impl<'v> SafeVm<'v> {
     }
 
     /// Whether a thread is lent.
-    fn is_lent(&self, thread: u32) -> bool
+    pub(crate) fn is_lent(&self, thread: u32) -> bool
         ensures { result ≡ false ↔ All (λ t. t ≢ thread) self.now.lent }
     {
         self.lent.contains(&thread)
