@@ -85,7 +85,7 @@ module _ (image : Image) (T : Typings) (v : Vm) (m : Machine) (good : IsGood ima
       let stands = at.simulated.stands in
       less_is v.steps v.limits.budget at.spent ∙ ap (λ n. not (nat_eq n v.limits.budget)) stands.steps ∙ ap (λ (l : Limits). not (nat_eq m.steps l.budget)) stands.limits
 
-  going : (t : ℕ) → runnable image m t ≡ true → goes_on v ≡ is_none (ending_of image m)
+  pub going : (t : ℕ) → runnable image m t ≡ true → goes_on v ≡ is_none (ending_of image m)
   going t may = by m.stop refl
     where
       by : (o : Option Ending) → m.stop ≡ o → goes_on v ≡ is_none (ending_of image m)
@@ -103,7 +103,7 @@ module _ (image : Image) (T : Typings) (v : Vm) (m : Machine) (good : IsGood ima
       by true e = ap (λ b. b && true) (going t e)
 
 -- a thread that may step: the run goes on, and it is runnable
-none_of : (o : Option Ending) → is_none o ≡ true → o ≡ None
+pub none_of : (o : Option Ending) → is_none o ≡ true → o ≡ None
 none_of None e = refl
 none_of (Some x) e = absurd (cc e)
 

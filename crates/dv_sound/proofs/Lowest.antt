@@ -26,11 +26,15 @@ lowest r m t none ready = record { runs = ready.runs; lowest = λ u less. by u l
 pub may : (r : Run) (m : Machine) (t : ℕ) → ending_of r.verified.image m ≡ None → IsReady r m t → MayTurn r m t
 may r m t going ready = record { goes_on = going; runs = ready.runs; at_home = ready.at_home }
 
+-- where the run goes on, some thread is runnable
+pub one_runs : (r : Run) (m : Machine) → ending_of r.verified.image m ≡ None → (t : ℕ) × (runnable r.verified.image m t ≡ true)
+one_runs r m going = (picked (runnable_from r.verified.image m m.threads 0) 0, seed_picks_runnable r.verified.image m 0 going)
+
 -- where the run goes on and no thread is lent, one is ready
 pub one_is_ready : (r : Run) (m : Machine) → r.lent ≡ [] → ending_of r.verified.image m ≡ None → NoneIsReady r m → ⊥
 one_is_ready r m none going held =
-    let t = picked (runnable_from r.verified.image m m.threads 0) 0 in
-    held t (seed_picks_runnable r.verified.image m 0 going) (subst (λ (ts : List ℕ). All (λ (v : ℕ). v ≢ t) ts) (sym none) (All-nil _))
+    let runs = one_runs r m going in
+    held runs.0 runs.1 (subst (λ (ts : List ℕ). All (λ (v : ℕ). v ≢ runs.0) ts) (sym none) (All-nil _))
 
 -- a turn more at the end
 leads_on : (image : Image) (es : List Entry) (e : Entry) (m k n : Machine) → LeadsLowest image es m k → IsLowestTurn image k e n → LeadsLowest image (es ++ e ∷ []) m n

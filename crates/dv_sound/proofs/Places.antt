@@ -1,18 +1,19 @@
 -- The state to which a log leads: there is one, and it is well typed.
 use Rattle.std.proofs.Common.{◌≡◌, ◌≢◌, ℕ, Bool, true, false, Option, Some, None, refl, sym, ap, ◌∙◌, subst}
-use Rattle.std.specs.Prelude.{is_some, not}
+use Rattle.std.specs.Prelude.{is_none, is_some, not}
 use Rattle.dv_defs.specs.declared.run.Ending.{Ending}
 use Rattle.dv_defs.specs.Pools.{Method}
 use Rattle.dv_machine.specs.Accepted.{Accepted}
 use Rattle.dv_machine.specs.Replaying.{Replayed, Stands, replay}
-use Rattle.dv_machine.specs.Running.{runnable}
+use Rattle.dv_machine.specs.Running.{ending_of, runnable}
 use Rattle.dv_machine.specs.State.{Machine}
 use Rattle.dv_machine.specs.WellTyped.{Typings, WellTyped}
 use Rattle.dv_steps.specs.Running as words
 use Rattle.dv_core.specs.declared.vm.Vm.{Vm}
 use Rattle.dv_core.specs.Machines.{machine_of}
 use Rattle.dv_sound.specs.Runs.{IsAt, IsAtSome, IsKept, IsSameRun, Run}
-use Rattle.dv_sound.proofs.Going.{alike}
+use Rattle.dv_sound.specs.Moves.{goes_on}
+use Rattle.dv_sound.proofs.Going.{alike, going}
 use Rattle.dv_sound.proofs.Keeping.{machine_is}
 
 same_state : (m n : Machine) → (let r : Replayed = Stands m in r) ≡ Stands n → m ≡ n
@@ -44,6 +45,13 @@ pub runnable_is : (r : Run) (v : Vm) (main : Method) (m : Machine) (t : ℕ) →
 runnable_is r v main m t k same at =
     let told = alike r.verified.image k.typings v k.machine k.good k.stands in
     told.runnable t ∙ ap (λ (x : Machine). runnable r.verified.image x t) (machine_is r v k same main m at)
+
+-- so is whether the run goes on there, where some thread is runnable
+pub goes_is : (r : Run) (v : Vm) (main : Method) (m : Machine) (t : ℕ) → IsKept r.verified.image r.main v r.log r.lent → machine_of v ≡ r.machine → IsAt r main m → runnable r.verified.image m t ≡ true →
+    goes_on v ≡ is_none (ending_of r.verified.image m)
+goes_is r v main m t k same at =
+    subst (λ (x : Machine). runnable r.verified.image x t ≡ true → goes_on v ≡ is_none (ending_of r.verified.image x)) (machine_is r v k same main m at)
+    (going r.verified.image k.typings v k.machine k.good k.stands t)
 
 -- ---- one run after another
 

@@ -1,5 +1,5 @@
 -- Turns: local steps, and then at most one other.
-use Rattle.std.proofs.Common.{◌≡◌, ◌≢◌, ◌<◌, ◌+◌, ◌-◌, ℕ, zero, suc, Bool, true, false, Option, Some, None, Ok, Err, Result, List, [], ◌∷◌, refl, sym, ap, ◌∙◌, subst, arith}
+use Rattle.std.proofs.Common.{◌≡◌, ◌≢◌, ◌<◌, ◌+◌, ◌-◌, ℕ, zero, suc, Bool, true, false, Option, Some, None, Ok, List, [], ◌∷◌, refl, sym, ap, ◌∙◌, subst, arith}
 use Rattle.std.specs.Prelude.{◌&&◌, is_none, nat_eq, not, slice_get, if◌then◌else◌}
 use Rattle.std.proofs.lemmas.Bool.{and_from, and_left, and_parts, true≢false}
 use Rattle.dv_defs.specs.declared.machine.End.{End}
@@ -21,7 +21,7 @@ use Rattle.dv_simulation.proofs.Staying.{next_is_alike}
 use Rattle.dv_core.specs.declared.vm.Vm.{Vm}
 use Rattle.dv_core.specs.Advancing.{RunsFrame, running_frame, top_frame}
 use Rattle.dv_core.specs.Machines.{machine_of}
-use Rattle.dv_sound.specs.Moves.{IsGood, IsLast, IsRun, IsTurn, Lasts, StandsAt, Turns, goes_locally, may_step}
+use Rattle.dv_sound.specs.Moves.{IsGood, IsLast, IsRun, IsTurn, StandsAt, goes_locally, may_step}
 use Rattle.dv_sound.proofs.Going.{budget_open, may_parts}
 use Rattle.dv_sound.proofs.LocalRuns.{none_local}
 
@@ -130,8 +130,3 @@ module _ (image : Image) (T : Typings) (v : Vm) (m : Machine) (t : ℕ) (good : 
 
   pub stays_there : next_is_local_of image (machine_of v) t ≡ false → goes_locally image t m ≡ false
   stays_there e = and_left (next_is_local image m t) (not (nat_eq m.steps m.limits.budget)) (sym (next_is_alike image T (machine_of v) m t at.simulated) ∙ e)
-
-  -- the last step is the whole turn
-  pub turns_last : {E : Type 0} (most : ℕ) (r : Result ℕ E) (new : Vm) → 0 < most → next_is_local_of image (machine_of v) t ≡ false → Lasts r image T m t v new → Turns r image T m t most v new
-  turns_last most (Ok n) new some e l = last_turn image T m t most n new some (stays_there e) l
-  turns_last most (Err memory) new some e l = l

@@ -16,7 +16,7 @@ use dv_defs::Image;
 use std::alloc::AllocError;
 
 /// Whether nothing stopped the run, and its steps aren't spent.
-fn goes_on(vm: &Vm) -> bool
+pub fn goes_on(vm: &Vm) -> bool
     ensures { result ≡ moves.goes_on vm.now }
 {
     vm.stop.is_none() && vm.steps < vm.limits.budget
@@ -128,6 +128,7 @@ pub fn take_turn(image: &Image, vm: &mut Vm, thread: u32, most: u32) -> Result<u
     } else if vm.next_is_local(image, thread) {
         turn_locally(image, vm, thread, most)
     } else {
-        last_on(image, vm, thread)
+        step_on(image, vm, thread)?;
+        Ok(1)
     }
 }

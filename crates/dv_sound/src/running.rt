@@ -22,7 +22,7 @@ impl<'v> SafeVm<'v> {
         ensures ended { OnOk result ((main : Method) (m : Machine) → self.old.lent ≡ [] → IsAt self.new main m → ending_of self.new.verified.image m ≢ Nothing) }
         ensures same { IsSameRun self.old self.new }
     {
-        while self.ending().is_none() {
+        while self.goes_on() {
             let Some(thread) = self.ready() else {
                 return Ok(());
             };

@@ -1,5 +1,5 @@
 // A machine whose state is the replay of its log.
-ghost use Rattle.std.specs.Prelude.{◌≡◌, ◌≤◌, ◌+◌, [], IfOk, IsTrue, MatchOption, OnErr, All, List, ℕ, ◌≢◌, ◌↔◌, false, true, length};
+ghost use Rattle.std.specs.Prelude.{◌≡◌, ◌≤◌, ◌+◌, [], IfOk, IsTrue, MatchOption, OnErr, is_none, All, List, ℕ, ◌≢◌, ◌↔◌, false, true, length};
 ghost use Rattle.dv_defs.specs.Pools.{Method};
 ghost use Rattle.dv_machine.specs.Running as running;
 ghost use Rattle.dv_machine.specs.State.{Machine};
@@ -10,7 +10,7 @@ ghost use Rattle.dv_machine.specs.WellTyped.{Typings};
 ghost use Rattle.dv_sound.specs.Moves.{AreUsable, IsGood, StandsAt, may_step};
 ghost use Rattle.dv_sound.specs.Runs.{HasMain, IsAt, IsAtSome, IsKept, IsOpened, IsReady, IsSameRun, IsTurned, MayTurn, NoneIsReady, TurnedFrom};
 
-use crate::moves::{may_step, take_turn};
+use crate::moves::{goes_on, may_step, take_turn};
 use crate::premises::{are_numbers, inits_fit, is_accepted, keys_rise, strings_fit};
 use dv_core::Vm;
 use dv_defs::{Ending, Entry, Limits, MethodId};
@@ -223,6 +223,14 @@ impl<'v> SafeVm<'v> {
     {
         let verified = self.verified;
         self.vm.runnable(&verified.image, thread)
+    }
+
+    /// Whether nothing stopped the run, and its steps aren't spent: it goes on where a thread is runnable.
+    pub(crate) fn goes_on(&self) -> bool
+        ensures goes_on { (main : Method) (m : Machine) (t : ℕ) → IsAt self.now main m → running.runnable self.now.verified.image m t ≡ true → result ≡ is_none (running.ending_of self.now.verified.image m) }
+        ensures leads { IsAtSome self.now }
+    {
+        goes_on(&self.vm)
     }
 
     /// Whether a thread is runnable and at home.

@@ -1,9 +1,10 @@
-use Rattle.std.proofs.Common.{◌≡◌, ℕ, Option, None, sym, ◌∙◌, subst, arith}
-use Rattle.std.specs.Prelude.{MatchOption}
+use Rattle.std.proofs.Common.{◌≡◌, ℕ, true, false, Option, ap, sym, ◌∙◌, subst, arith}
+use Rattle.std.specs.Prelude.{MatchOption, is_none}
 use Rattle.dv_machine.specs.Running.{ending_of}
 use Rattle.dv_sound.specs.Runs.{IsReady, NoneIsReady}
-use Rattle.dv_sound.proofs.Lowest.{may, one_is_ready, ran_more}
-use Rattle.dv_sound.proofs.Places.{none_is, same_then, typed_at}
+use Rattle.dv_sound.proofs.Going.{none_of}
+use Rattle.dv_sound.proofs.Lowest.{may, one_is_ready, one_runs, ran_more}
+use Rattle.dv_sound.proofs.Places.{same_then, typed_at}
 use Rattle.dv_sound.proofs.Seeding.{some_steps}
 use Rattle.dv_sound.proofs.safe.SafeVm.run.Goals as goal
 
@@ -17,22 +18,30 @@ pub returns-then-branch-eq0-clause-ran : goal.returns-then-branch-eq0-clause-ran
 returns-then-branch-eq0-clause-ran c main m at none =
     let r = c.loop-self.self in
     let ran = c.loop-self.invariant.ran main m at none in
-    let going : ending_of r.verified.image ran.after ≡ None = sym (c.ending.ensures.ending main ran.after ran.at) ∙ none_is c.ending.result c.is_none.result c.is_none.ensures c.loop-self-test.true in
     let ready = c.in-Some.ensures main ran.after ran.at in
+    let going = none_of (ending_of r.verified.image ran.after) (sym (c.goes_on.ensures.goes_on main ran.after c.in-Some.thread ran.at ready.runs) ∙ c.loop-self-test.true) in
     let turned = c.in_ok-turn.ensures.turned main ran.after ran.at (may r ran.after c.in-Some.thread going ready) (omega arith) in
     ran_more c.args.self.now r c.turn.new.self main m c.loop-self.invariant.same none ran c.in-Some.thread c.in_ok-turn.field-0 going ready turned
 
 pub returns-then-branch-eq0-clause-ended : goal.returns-then-branch-eq0-clause-ended
 returns-then-branch-eq0-clause-ended c main m none at still =
     let r = c.loop-self.self in
-    let s = c.ending.ensures.leads in
-    let going : ending_of r.verified.image s.machine ≡ None = sym (c.ending.ensures.ending s.main s.machine s.at) ∙ none_is c.ending.result c.is_none.result c.is_none.ensures c.loop-self-test.true in
+    let s = c.goes_on.ensures.leads in
     let ready = c.in-Some.ensures s.main s.machine s.at in
+    let going = none_of (ending_of r.verified.image s.machine) (sym (c.goes_on.ensures.goes_on s.main s.machine c.in-Some.thread s.at ready.runs) ∙ c.loop-self-test.true) in
     let free = may r s.machine c.in-Some.thread going ready in
     let turned = c.in_ok-turn.ensures.turned s.main s.machine s.at free (omega arith) in
     let some = some_steps r c.turn.new.self s.main s.machine 0 c.in-Some.thread 256 c.in_ok-turn.field-0 (typed_at r s.main s.machine s s.at) free (omega arith) turned in
     let nothing = c.if-branch-eq0.true in
     omega (arith, some, nothing)
+
+pub returns-clause-ended : goal.returns-clause-ended
+returns-clause-ended c main m none at going =
+    let r = c.loop-self.self in
+    let runs = one_runs r m going in
+    let goes = c.goes_on.ensures.goes_on main m runs.0 at runs.1 ∙ ap is_none going in
+    let d : true ≡ false = sym goes ∙ c.loop-self-test.false in
+    cc d
 
 pub loop-self-preserved : goal.loop-self-preserved
 loop-self-preserved c = record {
@@ -40,8 +49,8 @@ loop-self-preserved c = record {
   ran = λ main m at none.
       let r = c.loop-self.self in
       let ran = c.loop-self.invariant.ran main m at none in
-      let going : ending_of r.verified.image ran.after ≡ None = sym (c.ending.ensures.ending main ran.after ran.at) ∙ none_is c.ending.result c.is_none.result c.is_none.ensures c.loop-self-test.true in
       let ready = c.in-Some.ensures main ran.after ran.at in
+      let going = none_of (ending_of r.verified.image ran.after) (sym (c.goes_on.ensures.goes_on main ran.after c.in-Some.thread ran.at ready.runs) ∙ c.loop-self-test.true) in
       let turned = c.in_ok-turn.ensures.turned main ran.after ran.at (may r ran.after c.in-Some.thread going ready) (omega arith) in
       ran_more c.args.self.now r c.turn.new.self main m c.loop-self.invariant.same none ran c.in-Some.thread c.in_ok-turn.field-0 going ready turned;
 }
