@@ -163,7 +163,7 @@ const FAILING: &str = "
     return-void
     .end method";
 
-static FULL_HEAPS: [Run<'static>; 4] = [
+static FULL_HEAPS: [Run<'static>; 5] = [
     // an exception can't be wrapped: it flies still
     Run {
         registers: "0",
@@ -222,6 +222,22 @@ static FULL_HEAPS: [Run<'static>; 4] = [
         limits: Limits { heap: 4, ..AMPLE },
         threads: &[Stands::Died("Ljava/lang/NegativeArraySizeException;")],
         steps: Some(3),
+        ..RUN
+    },
+    // a monitor-exit that can't throw is not gone past
+    Run {
+        registers: "1",
+        body: "
+            const-class v0, LMain;
+            :from
+            monitor-exit v0
+            :to
+            return-void
+            .catchall {:from .. :to} :to",
+        limits: Limits { heap: 5, ..AMPLE },
+        ending: Ending::HeapFull(0),
+        threads: &[Stands::Runnable],
+        steps: Some(2),
         ..RUN
     },
 ];

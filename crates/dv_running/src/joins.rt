@@ -191,6 +191,122 @@ fn threads_return_or_die(rt: HostRuntime) {
     assert_runs(&rt, rt.alloc(), ENDS.as_slice());
 }
 
+/// An interface with methods of Thread, a class that has them from there and one that joins by a call of super, and one with a join of its own.
+const OWN_THREADS: &str = "
+    .class interface abstract LStarter;
+    .super Ljava/lang/Object;
+    .method abstract start()V
+    .end method
+    .method abstract join()V
+    .end method
+    .class LOwn;
+    .super Ljava/lang/Thread;
+    .implements LStarter;
+    .method constructor <init>()V
+    .registers 1
+    invoke-direct {p0}, Ljava/lang/Thread;-><init>()V
+    return-void
+    .end method
+    .method run()V
+    .registers 2
+    const/4 v0, 1
+    invoke-static {v0}, Ldvm/Console;->println(I)V
+    return-void
+    .end method
+    .method await()V
+    .registers 1
+    invoke-super {p0}, Ljava/lang/Thread;->join()V
+    return-void
+    .end method
+    .class LKeen;
+    .super LOwn;
+    .method constructor <init>()V
+    .registers 1
+    invoke-direct {p0}, LOwn;-><init>()V
+    return-void
+    .end method
+    .method join()V
+    .registers 2
+    const/16 v0, 9
+    invoke-static {v0}, Ldvm/Console;->println(I)V
+    return-void
+    .end method";
+
+static OTHER_CALLS: [Run<'static>; 4] = [
+    // an interface's methods may be natives of the object's class
+    Run {
+        registers: "1",
+        body: "
+            new-instance v0, LOwn;
+            invoke-direct {v0}, LOwn;-><init>()V
+            invoke-interface {v0}, LStarter;->start()V
+            invoke-interface/range {v0}, LStarter;->join()V
+            const/4 v0, 2
+            invoke-static {v0}, Ldvm/Console;->println(I)V
+            return-void",
+        classes: OWN_THREADS,
+        output: "1\n2\n",
+        threads: RETURNED,
+        steps: Some(15),
+        ..RUN
+    },
+    Run {
+        registers: "1",
+        body: "
+            new-instance v0, LOwn;
+            invoke-direct {v0}, LOwn;-><init>()V
+            invoke-interface {v0}, LStarter;->start()V
+            invoke-interface {v0}, LStarter;->join()V
+            return-void",
+        classes: OWN_THREADS,
+        limits: Limits { budget: 9, ..AMPLE },
+        ending: Ending::Steps,
+        threads: &[Stands::Held(Hold::Join(1)), Stands::Runnable],
+        steps: Some(9),
+        ..RUN
+    },
+    // so may that on which a call of super lands
+    Run {
+        registers: "1",
+        body: "
+            new-instance v0, LOwn;
+            invoke-direct {v0}, LOwn;-><init>()V
+            invoke-virtual {v0}, LOwn;->start()V
+            invoke-virtual {v0}, LOwn;->await()V
+            return-void",
+        classes: OWN_THREADS,
+        limits: Limits {
+            budget: 10,
+            ..AMPLE
+        },
+        ending: Ending::Steps,
+        threads: &[Stands::Held(Hold::Join(1)), Stands::Runnable],
+        steps: Some(10),
+        ..RUN
+    },
+    // a join of the object's own class holds nobody up
+    Run {
+        registers: "1",
+        body: "
+            new-instance v0, LKeen;
+            invoke-direct {v0}, LKeen;-><init>()V
+            invoke-virtual {v0}, Ljava/lang/Thread;->start()V
+            invoke-virtual {v0}, Ljava/lang/Thread;->join()V
+            return-void",
+        classes: OWN_THREADS,
+        output: "9\n1\n",
+        threads: RETURNED,
+        // new, four constructors entered and left, start, the call of four steps, return; and three of the thread's
+        steps: Some(18),
+        ..RUN
+    },
+];
+
+#[test]
+fn natives_are_called_in_other_ways(rt: HostRuntime) {
+    assert_runs(&rt, rt.alloc(), OTHER_CALLS.as_slice());
+}
+
 static NULLS: [Death; 2] = [
     (
         "1",

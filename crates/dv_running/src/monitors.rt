@@ -66,7 +66,7 @@ fn monitors_are_used_by_their_owners(rt: HostRuntime) {
     assert_deaths(&rt, rt.alloc(), "", STRANGERS.as_slice());
 }
 
-static LOCKS: [Run<'static>; 6] = [
+static LOCKS: [Run<'static>; 7] = [
     // it is entered again, and left as often
     Run {
         registers: "1",
@@ -175,7 +175,44 @@ static LOCKS: [Run<'static>; 6] = [
         steps: Some(9),
         ..RUN
     },
-    // an exception leaves no monitor: the method below has it still
+    // a class may have a notify of its own, which an interface names too
+    Run {
+        registers: "1",
+        body: "
+            new-instance v0, LBell;
+            invoke-direct {v0}, LBell;-><init>()V
+            invoke-virtual {v0}, Ljava/lang/Object;->notify()V
+            invoke-interface {v0}, LRinging;->notify()V
+            invoke-interface {v0}, LRinging;->notifyAll()V
+            return-void",
+        classes: "
+            .class interface abstract LRinging;
+            .super Ljava/lang/Object;
+            .method abstract notify()V
+            .end method
+            .method abstract notifyAll()V
+            .end method
+            .class LBell;
+            .super Ljava/lang/Object;
+            .implements LRinging;
+            .method constructor <init>()V
+            .registers 1
+            invoke-direct {p0}, Ljava/lang/Object;-><init>()V
+            return-void
+            .end method
+            .method notify()V
+            .registers 2
+            const/4 v0, 3
+            invoke-static {v0}, Ldvm/Console;->println(I)V
+            return-void
+            .end method",
+        output: "3\n3\n",
+        threads: &[NOT_OWNER],
+        // new, two constructors entered and left, two calls of four steps, the call of the native, and main's frame is dropped
+        steps: Some(15),
+        ..RUN
+    },
+    // an exception leaves no monitor: the thread owns it still
     Run {
         registers: "1",
         body: r#"

@@ -14,7 +14,7 @@ const DEEP: &str = "
     return-void
     .end method";
 
-/// A class with an initialiser.
+/// A class with an initialiser, and one under it.
 const INITIALISED: &str = "
     .class LX;
     .super Ljava/lang/Object;
@@ -25,9 +25,11 @@ const INITIALISED: &str = "
     .method static <clinit>()V
     .registers 0
     return-void
-    .end method";
+    .end method
+    .class LUnder;
+    .super LX;";
 
-static LEVELS: [Run<'static>; 7] = [
+static LEVELS: [Run<'static>; 8] = [
     // main and 1023 calls are 1024 levels
     Run {
         registers: "1",
@@ -96,6 +98,19 @@ static LEVELS: [Run<'static>; 7] = [
         steps: Some(2),
         ..RUN
     },
+    // nor is the superclass, where there is none for its record
+    Run {
+        registers: "1",
+        body: "
+            new-instance v0, LUnder;
+            return-void",
+        classes: INITIALISED,
+        limits: Limits { levels: 2, ..AMPLE },
+        ending: Ending::StackFull(0),
+        threads: &[Stands::Runnable],
+        steps: Some(2),
+        ..RUN
+    },
     // a native method is no level
     Run {
         registers: "1",
@@ -144,7 +159,7 @@ fn stacks_have_levels(rt: HostRuntime) {
     assert_runs(&rt, rt.alloc(), LEVELS.as_slice());
 }
 
-static WORDS: [Run<'static>; 3] = [
+static WORDS: [Run<'static>; 4] = [
     // main's registers and those of the method that it calls
     Run {
         registers: "200",
@@ -180,6 +195,29 @@ static WORDS: [Run<'static>; 3] = [
         ending: Ending::StackFull(0),
         threads: &[Stands::Runnable],
         steps: Some(1),
+        ..RUN
+    },
+    // those of an initialiser
+    Run {
+        registers: "200",
+        body: "
+            sget v0, LX;->x:I
+            return-void",
+        classes: "
+            .class LX;
+            .super Ljava/lang/Object;
+            .field static x:I
+            .method static <clinit>()V
+            .registers 57
+            return-void
+            .end method",
+        limits: Limits {
+            words: 256,
+            ..AMPLE
+        },
+        ending: Ending::StackFull(0),
+        threads: &[Stands::Runnable],
+        steps: Some(2),
         ..RUN
     },
     // words of a method that returned are there again
