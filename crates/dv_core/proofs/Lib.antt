@@ -20,3 +20,5 @@ pub mod Steppable
 pub mod Stepped
 pub mod Began
 pub mod Opened
+pub mod Advanced
+pub mod Alone

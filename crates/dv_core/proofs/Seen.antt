@@ -73,7 +73,7 @@ pub record HasLevels (ss : List WordStack) (t : ℕ) (ls : List Level) : Type 0 
   pub there : slice_get ss t ≡ Some stack
   pub levels : stack.levels ≡ ls
 
-zip_has : (ss : List WordStack) (es : List End) (os : List ℕ) (t : ℕ) (own : WordThread) → slice_get (zipped ss es os) t ≡ Some own → HasLevels ss t own.levels
+pub zip_has : (ss : List WordStack) (es : List End) (os : List ℕ) (t : ℕ) (own : WordThread) → slice_get (zipped ss es os) t ≡ Some own → HasLevels ss t own.levels
 zip_has [] es os t own is = absurd (cc)
 zip_has (x ∷ ss) [] os t own is = absurd (cc)
 zip_has (x ∷ ss) (e ∷ es) [] t own is = absurd (cc)
@@ -89,7 +89,7 @@ set_own own e o ls ms is =
     let kept : record { levels = ls; end = e; object = o } ≡ own = same_Some (record { levels = ls; end = e; object = o }) own is in
     λ j. record { levels = ms; end = (kept j).end; object = (kept j).object }
 
-zip_set : (ss : List WordStack) (es : List End) (os : List ℕ) (t : ℕ) (own : WordThread) (r : WordStack) → slice_get (zipped ss es os) t ≡ Some own
+pub zip_set : (ss : List WordStack) (es : List End) (os : List ℕ) (t : ℕ) (own : WordThread) (r : WordStack) → slice_get (zipped ss es os) t ≡ Some own
     → zipped (slice_set ss t r) es os ≡ slice_set (zipped ss es os) t (record { levels = r.levels; end = own.end; object = own.object })
 zip_set [] es os t own r is = absurd (cc)
 zip_set (x ∷ ss) [] os t own r is = absurd (cc)

@@ -227,7 +227,7 @@ pub record OwnAt (ts : List WordThread) (t : ℕ) (e : End) : Type 0 where
   pub there : slice_get ts t ≡ Some own
   pub ends : own.end ≡ e
 
-zip_own : (ss : List WordStack) (es : List End) (os : List ℕ) (t : ℕ) (e : End) → length es ≡ length ss → length os ≡ length ss → Some e ≡ slice_get es t → OwnAt (zipped ss es os) t e
+pub zip_own : (ss : List WordStack) (es : List End) (os : List ℕ) (t : ℕ) (e : End) → length es ≡ length ss → length os ≡ length ss → Some e ≡ slice_get es t → OwnAt (zipped ss es os) t e
 zip_own ss [] os t e es_long os_long is = absurd (cc is)
 zip_own [] (f ∷ es) os t e es_long os_long is = absurd (omega arith)
 zip_own (x ∷ ss) (f ∷ es) [] t e es_long os_long is = absurd (omega arith)

@@ -7,3 +7,4 @@ pub mod Recording
 pub mod Watching
 pub mod Laws
 pub mod Openings
+pub mod Advancing

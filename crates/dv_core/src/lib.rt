@@ -1,6 +1,7 @@
 //! The engine on plain words: guest threads step by step (AOSP, "Dalvik bytecode format"; JLS 11.3, 12.4, 17).
 #![tactic(auto)]
 
+mod advancing;
 mod code;
 mod ending;
 mod flight;

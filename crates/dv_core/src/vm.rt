@@ -24,6 +24,8 @@ use crate::guest::Guest;
 use crate::records::step_record;
 use dv_defs::{ClassId, End, Ending, Image, Limits};
 use dv_frames::Top;
+use dv_heap::Heap;
+use dv_threads::Threads;
 use std::alloc::AllocError;
 
 /// A run as it stands: the guest's state, the steps done, what stopped the run where something did, and its limits.
@@ -52,6 +54,27 @@ impl Vm {
             End::Flying(object) => self.step_flying(image, thread, object),
             _ => Ok(()),
         }
+    }
+
+    /// The guest threads.
+    pub fn threads(&self) -> &Threads
+        ensures { result.now ≡ self.now.guest.threads }
+    {
+        &self.guest.threads
+    }
+
+    /// The heap.
+    pub fn heap(&self) -> &Heap
+        ensures { result.now ≡ self.now.guest.heap }
+    {
+        &self.guest.heap
+    }
+
+    /// What was printed.
+    pub fn output(&self) -> &[u8]
+        ensures { result.now ≡ self.now.guest.output.items }
+    {
+        &self.guest.output
     }
 
     /// How a thread stands.

@@ -264,7 +264,7 @@ fn blocked_stack(image: &Image, guest: &Guest, stack: &Stack, thread: u32) -> Op
 }
 
 /// How a thread stands, none where there is no such thread.
-fn end_at(ends: &[End], thread: u32) -> Option<End>
+pub fn end_at(ends: &[End], thread: u32) -> Option<End>
     ensures { result ≡ slice_get ends.now thread }
 {
     ends.get(thread as usize).copied()

@@ -1,6 +1,7 @@
 -- From what is spelled at an address to what an image fetches there, and steps one after another.
 use Rattle.std.proofs.Common.{◌≡◌, ◌<◌, ◌≤◌, ℕ, suc, List, [], ◌∷◌, length, drop, Bool, true, false, Option, Some, None, refl, sym, ap, ◌∙◌, subst, arith, drop-cons}
-use Rattle.std.specs.Prelude.{slice_index}
+use Rattle.std.specs.Prelude.{nat_lt, slice_index}
+use Rattle.std.proofs.lemmas.Bool.{ltb-true, ltb-false}
 use Rattle.std.proofs.lemmas.Option.{same_Some}
 use Rattle.std.proofs.lemmas.List.{length-drop}
 use Rattle.dv_defs.specs.declared.names.MethodId.{MethodId}
@@ -85,10 +86,13 @@ steps_locally image units done s t u d = record {
 -- so many steps lead there, in each image where the method has these units
 pub record Reached (units : List ℕ) (n : ℕ) (s t : Frame) : Type 0 where
   pub method : t.method ≡ s.method
+  pub local :
+      (image : Image) → HasUnits image s.method.0 units → (k : ℕ) (u : Frame) (x : At) → k < n → locals_here image k s ≡ Some u →
+      fetch image u.method.0 u.at ≡ Some x → is_local x.op ≡ true
   pub there : (image : Image) → HasUnits image s.method.0 units → (u : Frame) → locals_here image n s ≡ Some u → t ≡ u
 
 pub reached_start : (units : List ℕ) (s : Frame) → Reached units 0 s s
-reached_start units s = record { method = refl; there = λ image u v e. same_Some s v e }
+reached_start units s = record { method = refl; local = λ image u k v x l e f. absurd (omega (arith, l)); there = λ image u v e. same_Some s v e }
 
 has_units_of : (image : Image) (m n : MethodId) (units : List ℕ) → m ≡ n → HasUnits image n.0 units → HasUnits image m.0 units
 has_units_of image m n units e u = subst (λ (k : MethodId). HasUnits image k.0 units) (sym e) u
@@ -109,8 +113,26 @@ module _ (image : Image) (units : List ℕ) (t v : Frame) (u : HasUnits image t.
   local_next w e = local_at (fetch image t.method.0 t.at) w refl e
 
 pub reached_on : (units : List ℕ) (n : ℕ) (s t v : Frame) → Reached units n s t → SteppedUnits units true t v → Reached units (suc n) s v
-reached_on units n s t v r d = record { method = d.method ∙ r.method; there = λ image u w e. by image u w (locals_here image n s) refl e }
+reached_on units n s t v r d =
+    record {
+      method = d.method ∙ r.method;
+      local = λ image u k w x l e f. each image u k w x (nat_lt k n) refl l e f;
+      there = λ image u w e. by image u w (locals_here image n s) refl e;
+    }
   where
+    -- the last one stands where those before it led
+    last : (image : Image) → HasUnits image s.method.0 units → (w : Frame) (x : At) → locals_here image n s ≡ Some w → fetch image w.method.0 w.at ≡ Some x → is_local x.op ≡ true
+    last image u w x e f =
+        let same : t ≡ w = r.there image u w e in
+        let here : fetch image t.method.0 t.at ≡ Some x = subst (λ (p : Frame). fetch image p.method.0 p.at ≡ Some x) (sym same) f in
+        d.local x.op x.next (fetched_op image t.method.0 t.at units x (has_units_of image t.method s.method units r.method u) here)
+
+    each : (image : Image) → HasUnits image s.method.0 units → (k : ℕ) (w : Frame) (x : At) (b : Bool) → nat_lt k n ≡ b → k < suc n → locals_here image k s ≡ Some w → fetch image w.method.0 w.at ≡ Some x → is_local x.op ≡ true
+    each image u k w x true before l e f = r.local image u k w x (ltb-true k n before) e f
+    each image u k w x false before l e f =
+        let same : k ≡ n = let late = ltb-false k n before in omega (arith, l, late) in
+        last image u w x (sym (ap (λ (j : ℕ). locals_here image j s) same) ∙ e) f
+
     by : (image : Image) → HasUnits image s.method.0 units → (w : Frame) (o : Option Frame) → locals_here image n s ≡ o → on_frame o (local_here image) ≡ Some w → v ≡ w
     by image u w None f e = absurd (cc e)
     by image u w (Some p) f e =
@@ -121,7 +143,7 @@ reached_on units n s t v r d = record { method = d.method ∙ r.method; there = 
 pub ran_all : (units : List ℕ) (most : ℕ) (s t : Frame) → Reached units most s t → RanUnits units most most s t
 ran_all units most s t r = record {
   few = omega arith;
-  ran = λ image u. record { few = omega arith; reached = r.there image u; whole = λ l x e. absurd (omega (arith, l)) };
+  ran = λ image u. record { few = omega arith; local = r.local image u; reached = r.there image u; whole = λ l x e. absurd (omega (arith, l)) };
 }
 
 -- no local instruction stands where it ended
@@ -132,5 +154,5 @@ ran_some units most done s t v l r d = record {
       let same : v ≡ t = d.stays refl in
       let has = has_units_of image t.method s.method units r.method u in
       subst (λ (w : Frame). RanLocally image most done s w) (sym same)
-      (record { few = l; reached = r.there image u; whole = λ m x e. d.local x.op x.next (fetched_op image t.method.0 t.at units x has e) });
+      (record { few = l; local = r.local image u; reached = r.there image u; whole = λ m x e. d.local x.op x.next (fetched_op image t.method.0 t.at units x has e) });
 }

@@ -30,6 +30,7 @@ no_step image s none = record {
 pub no_run : (image : Image) (most : ℕ) (s : Frame) → code_at image s.method.0 ≡ None → RanLocally image most 0 s s
 no_run image most s none = record {
   few = omega arith;
+  local = λ k u x l e f. absurd (omega (arith, l));
   reached = λ u e. same_Some s u e;
   whole = λ l x e. absurd (nothing_fetched image s.method.0 s.at x none e);
 }

@@ -1,9 +1,24 @@
 pub mod Fields
-mod Chars
-mod Puts
-mod Steps
-mod Landings
-mod Waits
-mod Receivers
-mod Blocked
-mod Endings
+pub mod Chars
+pub mod Puts
+pub mod Steps
+pub mod Landings
+pub mod Waits
+pub mod Receivers
+pub mod Blocked
+pub mod Endings
+pub mod Starts
+pub mod Others
+pub mod Staying
+pub mod Statics
+pub mod Bits
+pub mod Constants
+pub mod Small
+pub mod Going
+pub mod Replays
+pub mod Locals
+pub mod LastSteps
+pub mod Turns
+pub mod Counting
+pub mod Picked
+pub mod Seeded

@@ -21,4 +21,4 @@ pub mod ThreadStep
 mod Operands
 pub mod Fitting
 pub mod OpeningState
-mod Slices
+pub mod Slices

@@ -40,7 +40,7 @@ no_more (t ∷ ts) = ap (λ us. t ∷ us) (no_more ts)
 
 -- ---- one local instruction
 
-needs_none : (op : Op) → is_local op ≡ true → needs op ≡ None
+pub needs_none : (op : Op) → is_local op ≡ true → needs op ≡ None
 needs_none (New a c) e = absurd (cc)
 needs_none (StaticGet s a x) e = absurd (cc)
 needs_none (StaticPut s a x) e = absurd (cc)
@@ -55,7 +55,7 @@ has_code : (image : Image) (at : ℕ) (c : Option Code) (x : At) → fetch_in im
 has_code image at None x e = absurd (cc)
 has_code image at (Some code) x e = (code, refl)
 
-of_method : (image : Image) (n at : ℕ) (x : At) → fetch image n at ≡ Some x → (m : Method) × (method_at image n ≡ Some m)
+pub of_method : (image : Image) (n at : ℕ) (x : At) → fetch image n at ≡ Some x → (m : Method) × (method_at image n ≡ Some m)
 unfolding fetch code_at
 of_method image n at x e = let c = has_code image at (code_of (method_at image n)) x e in has_method (method_at image n) c.0 c.1
 
@@ -115,7 +115,7 @@ module _ (image : Image) (w : WordMachine) (t : ℕ) (s : Frame) (ls : List Leve
 
 -- ---- one after another
 
-local_was : (o : Option At) (s u : Frame) → local_by o s ≡ Some u → (x : At) × (o ≡ Some x) × (is_local x.op ≡ true) × (word_local x.op s x.next ≡ u)
+pub local_was : (o : Option At) (s u : Frame) → local_by o s ≡ Some u → (x : At) × (o ≡ Some x) × (is_local x.op ≡ true) × (word_local x.op s x.next ≡ u)
 local_was None s u e = absurd (cc)
 local_was (Some x) s u e = by (is_local x.op) refl e
   where

@@ -37,9 +37,10 @@ pub record StepsLocally (image : Image) (done : Bool) (s t : Frame) : Type 0 whe
   pub goes : (x : At) → fetch image s.method.0 s.at ≡ Some x → is_local x.op ≡ true → t ≡ word_local x.op s x.next
   pub stays : done ≡ false → t ≡ s
 
--- so many local instructions were done, and no more than may be; fewer only where none stands then
+-- so many local instructions were done, each where it stands, and no more than may be; fewer only where none stands then
 pub record RanLocally (image : Image) (most done : ℕ) (s t : Frame) : Type 0 where
   pub few : done ≤ most
+  pub local : (k : ℕ) (u : Frame) (x : At) → k < done → locals_here image k s ≡ Some u → fetch image u.method.0 u.at ≡ Some x → is_local x.op ≡ true
   pub reached : (u : Frame) → locals_here image done s ≡ Some u → t ≡ u
   pub whole : done < most → (x : At) → fetch image t.method.0 t.at ≡ Some x → is_local x.op ≡ false
 

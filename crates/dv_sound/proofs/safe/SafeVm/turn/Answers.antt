@@ -1,0 +1,38 @@
+use Rattle.std.proofs.Common.{◌≡◌, ◌≢◌, ◌≤◌, ◌∙◌, ℕ, List, All, ap, refl, sym, subst, arith}
+use Rattle.std.specs.Prelude.{IfOk, OnErr}
+use Rattle.dv_defs.specs.Pools.{Method}
+use Rattle.dv_machine.specs.State.{Machine}
+use Rattle.dv_core.specs.Machines.{machine_of}
+use Rattle.dv_sound.specs.Runs.{IsAt, IsSameRun, IsTurned, MayTurn, Run}
+use Rattle.dv_sound.proofs.Keeping.{if_ok, on_err, run_kept, run_may, run_same, run_turned, run_with}
+use Rattle.dv_sound.proofs.safe.SafeVm.turn.Goals as goal
+
+pub invariant_of-self : goal.invariant_of-self
+invariant_of-self c =
+    c.logged_turn.ensures.kept c.self.inside.main c.self.inside.lent.items c.self.invariant (omega (arith, c.if-most-eq0.false))
+    (subst (λ (r : Run). All (λ (t : ℕ). t ≢ c.args.thread) r.lent) (sym c.self.view_is) (c.is_lent.ensures.0 c.if-is_lent.false))
+
+pub returns-clause-turned : goal.returns-clause-turned
+returns-clause-turned c =
+    let now : Run = record { verified = c.self.inside.verified.now; main = c.self.inside.main; machine = machine_of c.logged_turn.new.vm; log = c.logged_turn.new.log.items; lent = c.self.inside.lent.items } in
+    subst (λ (r : Run). IfOk c.logged_turn.result (λ n. (main : Method) (m : Machine) → IsAt r main m → MayTurn r m c.args.thread → 1 ≤ c.args.most →
+    IsTurned r now main m c.args.worker c.args.thread c.args.most n)) c.self.view_is
+    (if_ok c.logged_turn.result
+    (λ n turned main m at may some.
+    run_turned _ c.self.inside.vm c.logged_turn.new.vm c.logged_turn.new.log.items c.self.invariant refl c.args.worker c.args.thread c.args.most n
+    (turned c.self.inside.main c.self.inside.lent.items c.self.invariant (run_may _ c.self.inside.vm c.logged_turn.new.vm c.logged_turn.new.log.items c.self.invariant refl c.args.thread main m at may) some) main m at)
+    c.logged_turn.ensures.turned)
+
+pub returns-clause-same : goal.returns-clause-same
+returns-clause-same c =
+    let now : Run = record { verified = c.self.inside.verified.now; main = c.self.inside.main; machine = machine_of c.logged_turn.new.vm; log = c.logged_turn.new.log.items; lent = c.self.inside.lent.items } in
+    subst (λ (r : Run). IsSameRun r now) c.self.view_is
+    (run_same _ c.self.inside.vm c.logged_turn.new.vm c.logged_turn.new.log.items c.self.invariant refl
+    (c.logged_turn.ensures.limits c.self.inside.main c.self.inside.lent.items c.self.invariant (omega (arith, c.if-most-eq0.false))))
+
+pub returns-clause-refused : goal.returns-clause-refused
+returns-clause-refused c =
+    on_err c.logged_turn.result
+    (λ same. let e = same c.self.inside.main c.self.inside.lent.items c.self.invariant in
+    run_kept _ c.self.inside.vm c.logged_turn.new.vm c.logged_turn.new.log.items c.self.invariant refl e.0 e.1 ∙ c.self.view_is)
+    c.logged_turn.ensures.refused

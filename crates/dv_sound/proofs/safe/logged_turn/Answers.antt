@@ -1,0 +1,47 @@
+use Rattle.std.proofs.Common.{◌≡◌, ◌≢◌, ◌≤◌, ◌∙◌, ℕ, true, List, [], ◌∷◌, ◌++◌, All, ap, sym, subst}
+use Rattle.dv_defs.specs.declared.names.MethodId.{MethodId}
+use Rattle.dv_defs.specs.declared.run.Entry.{Entry}
+use Rattle.dv_defs.specs.Images.{Image}
+use Rattle.dv_rules.specs.Verified.{VerifiedValue}
+use Rattle.dv_sound.specs.Moves.{may_step}
+use Rattle.dv_sound.specs.Runs.{IsKept, TurnedFrom, logged}
+use Rattle.dv_sound.proofs.Keeping.{kept_again, kept_turn, limits_stay, turned_from}
+use Rattle.dv_sound.proofs.safe.logged_turn.Goals as goal
+
+pub returns-in_err-steps-clause-kept : goal.returns-in_err-steps-clause-kept
+returns-in_err-steps-clause-kept c =
+    subst (λ (v : VerifiedValue). (main : MethodId) (lent : List ℕ) → IsKept v.image main c.args.vm.now c.args.log.now.items lent → 1 ≤ c.args.most → All (λ (t : ℕ). t ≢ c.args.thread) lent →
+    IsKept v.image main c.take_turn.new.vm c.reserve.new.self.items lent) c.program.view_is
+    (λ main lent k some home.
+    let may = sym (c.may_step.ensures k.typings k.machine k.good k.stands) ∙ c.if-not-may_step.false in
+    kept_again _ main c.args.vm.now c.take_turn.new.vm c.args.log.now.items c.reserve.new.self.items lent k (c.in_err-steps.ensures.turned k.typings k.machine k.good k.stands may) c.in_ok-reserve.ensures.items)
+
+pub returns-clause-kept : goal.returns-clause-kept
+returns-clause-kept c =
+    let logs : c.push.new.self.items ≡ logged c.args.log.now.items c.args.worker c.args.thread c.in_ok-steps.steps =
+    c.in_ok-push.ensures.items ∙ ap (λ (l : List Entry). logged l c.args.worker c.args.thread c.in_ok-steps.steps) c.in_ok-reserve.ensures.items in
+    subst (λ (v : VerifiedValue). (main : MethodId) (lent : List ℕ) → IsKept v.image main c.args.vm.now c.args.log.now.items lent → 1 ≤ c.args.most → All (λ (t : ℕ). t ≢ c.args.thread) lent →
+    IsKept v.image main c.take_turn.new.vm c.push.new.self.items lent) c.program.view_is
+    (λ main lent k some home.
+    let may = sym (c.may_step.ensures k.typings k.machine k.good k.stands) ∙ c.if-not-may_step.false in
+    subst (λ (l : List Entry). IsKept c.program.inside.image main c.take_turn.new.vm l lent) (sym logs)
+    (kept_turn _ main c.args.vm.now c.args.log.now.items lent k c.args.thread c.args.most c.in_ok-steps.steps c.args.worker c.take_turn.new.vm may some
+    (c.in_ok-steps.ensures.turned k.typings k.machine k.good k.stands may) home (c.take_turn.ensures.others k.typings k.machine k.good k.stands may)))
+
+pub returns-clause-turned : goal.returns-clause-turned
+returns-clause-turned c =
+    let logs : c.push.new.self.items ≡ logged c.args.log.now.items c.args.worker c.args.thread c.in_ok-steps.steps =
+    c.in_ok-push.ensures.items ∙ ap (λ (l : List Entry). logged l c.args.worker c.args.thread c.in_ok-steps.steps) c.in_ok-reserve.ensures.items in
+    subst (λ (v : VerifiedValue). (main : MethodId) (lent : List ℕ) (k : IsKept v.image main c.args.vm.now c.args.log.now.items lent) → may_step v.image k.machine c.args.thread ≡ true → 1 ≤ c.args.most →
+    TurnedFrom v.image main c.args.vm.now c.args.log.now.items lent k c.args.worker c.args.thread c.args.most c.in_ok-steps.steps c.take_turn.new.vm c.push.new.self.items) c.program.view_is
+    (λ main lent k may some.
+    turned_from _ main c.args.vm.now c.args.log.now.items lent k c.args.thread c.args.most c.in_ok-steps.steps c.args.worker c.take_turn.new.vm may some
+    (c.in_ok-steps.ensures.turned k.typings k.machine k.good k.stands may) c.push.new.self.items logs)
+
+pub returns-clause-limits : goal.returns-clause-limits
+returns-clause-limits c =
+    subst (λ (v : VerifiedValue). (main : MethodId) (lent : List ℕ) → IsKept v.image main c.args.vm.now c.args.log.now.items lent → 1 ≤ c.args.most → c.take_turn.new.vm.limits ≡ c.args.vm.now.limits) c.program.view_is
+    (λ main lent k some.
+    let may = sym (c.may_step.ensures k.typings k.machine k.good k.stands) ∙ c.if-not-may_step.false in
+    limits_stay _ main c.args.vm.now c.args.log.now.items lent k c.args.thread c.args.most c.in_ok-steps.steps c.args.worker c.take_turn.new.vm may some
+    (c.in_ok-steps.ensures.turned k.typings k.machine k.good k.stands may))

@@ -1,0 +1,120 @@
+-- What an engine that stands at a state of the tagged machine comes to.
+use Rattle.std.specs.Prelude.{◌≡◌, ◌≢◌, ◌≤◌, ◌<◌, ◌+◌, ◌^◌, ◌&&◌, ℕ, Bool, true, false, not, List, length, is_none, nat_eq, nat_lt, Result, Ok, Err}
+use Rattle.dv_defs.specs.declared.run.Limits.{Limits}
+use Rattle.dv_defs.specs.Images.{Image}
+use Rattle.dv_machine.specs.Accepted.{Accepted}
+use Rattle.dv_machine.specs.Replaying.{Stands, last_step, next_is_local, steps_of, turn}
+use Rattle.dv_machine.specs.Running.{ending_of, runnable}
+use Rattle.dv_machine.specs.State.{Machine}
+use Rattle.dv_machine.specs.Step.{step}
+use Rattle.dv_machine.specs.WellTyped.{Typings}
+use Rattle.dv_words.specs.declared.state.Frame.{Frame}
+use Rattle.dv_words.specs.declared.state.Level.{Level}
+use Rattle.dv_words.specs.State.{WordMachine, WordThread}
+use Rattle.dv_steps.specs.StepLaws.{StringsFit, with_top}
+use Rattle.dv_simulation.specs.KeepLaws.{next_is_local_of}
+use Rattle.dv_simulation.specs.Laws.{IsSimulated}
+use Rattle.dv_simulation.specs.TurnLaws.{more}
+use Rattle.dv_threads.specs.Kept.{threads_of}
+use Rattle.dv_core.specs.declared.vm.Vm.{Vm}
+use Rattle.dv_core.specs.Guests.{IsOrdered}
+use Rattle.dv_core.specs.Machines.{machine_of}
+
+-- ---- where an engine stands
+
+-- the image is accepted, and its strings have UTF-16 units
+pub record IsGood (image : Image) (T : Typings) : Type 0 where
+  pub accepted : Accepted image T
+  pub strings : StringsFit image
+
+-- a thread may be there, a stack has room for a frame and a record, and the length of an array is an int
+pub record AreUsable (l : Limits) : Type 0 where
+  pub threads : 1 ≤ l.threads
+  pub levels : 2 ≤ l.levels
+  pub words : 256 ≤ l.words
+  pub heap : l.heap < 2 ^ 31
+
+-- its words stand for this well-typed state, and its counts are within their limits
+pub record StandsAt (image : Image) (T : Typings) (v : Vm) (m : Machine) : Type 0 where
+  pub simulated : IsSimulated image T (machine_of v) m
+  pub ordered : IsOrdered v.limits v.guest
+  pub usable : AreUsable v.limits
+  pub few : length (threads_of v.guest.threads) ≤ v.limits.threads
+  pub numbered : v.limits.threads < 2 ^ 32
+  pub spent : v.steps ≤ v.limits.budget
+  pub counted : v.limits.budget < 2 ^ 64
+
+-- ---- what it may do
+
+-- nothing stopped the run, and its steps aren't spent
+abbrev pub goes_on : Vm → Bool
+goes_on v = is_none v.stop && nat_lt v.steps v.limits.budget
+
+-- the run goes on, and the thread is runnable
+abbrev pub may_step : Image → Machine → ℕ → Bool
+may_step image m t = is_none (ending_of image m) && runnable image m t
+
+-- the next step of the thread is local, and the budget has room for it
+abbrev pub goes_locally : Image → ℕ → Machine → Bool
+goes_locally image t m = next_is_local image m t && not (nat_eq m.steps m.limits.budget)
+
+-- so many steps as are asked for, or as the budget has room for
+pub record IsAffordable (steps budget asked most : ℕ) : Type 0 where
+  pub few : most ≤ asked
+  pub room : steps + most ≤ budget
+  pub all : most < asked → steps + most ≡ budget
+
+-- ---- what it comes to
+
+-- the next steps of the other threads stay local
+abbrev pub KeepsLocals : Image → ℕ → Vm → Vm → Type 0
+KeepsLocals image t old new = (u : ℕ) → u ≢ t → next_is_local_of image (machine_of old) u ≡ true → next_is_local_of image (machine_of new) u ≡ true
+
+-- want of memory: it stands where it stood
+pub record IsKeptAt (image : Image) (T : Typings) (m : Machine) (old new : Vm) : Type 0 where
+  pub machine : machine_of new ≡ machine_of old
+  pub stands : StandsAt image T new m
+
+-- the tagged machine's step isn't stuck, and the engine stands where it leads
+pub record IsStep (image : Image) (T : Typings) (m : Machine) (t : ℕ) (new : Vm) : Type 0 where
+  pub after : Machine
+  pub steps : step image m t ≡ Ok after
+  pub stands : StandsAt image T new after
+
+abbrev pub Steps : {E : Type 0} → Result (Unit {0}) E → Image → Typings → Machine → ℕ → Vm → Vm → Type 0
+Steps (Ok u) image T m t old new = IsStep image T m t new
+Steps (Err memory) image T m t old new = IsKeptAt image T m old new
+
+-- the frame on top of a thread did so many steps, which touched it alone
+pub record HasRun (old new : WordMachine) (t done : ℕ) (own : WordThread) (f : Frame) (ls : List Level) : Type 0 where
+  pub frame : Frame
+  pub sized : length frame.regs ≡ length f.regs
+  pub machine : new ≡ with_top old t own frame ls done
+
+-- so many local steps were done, and the next one isn't local or has no room, where more might have been done
+pub record IsRun (image : Image) (T : Typings) (m : Machine) (t most done : ℕ) (new : Vm) : Type 0 where
+  pub after : Machine
+  pub stands : StandsAt image T new after
+  pub turns : (k : ℕ) → turn image t (done + k) m ≡ more done (turn image t k after)
+  pub steps : (k : ℕ) → steps_of image k t done m ≡ Stands after
+  pub whole : done < most → goes_locally image t after ≡ false
+
+-- the last step of a turn
+pub record IsLast (image : Image) (T : Typings) (m : Machine) (t n : ℕ) (new : Vm) : Type 0 where
+  pub after : Machine
+  pub last : last_step image t m ≡ Ok (record { count = n; machine = after })
+  pub stands : StandsAt image T new after
+
+abbrev pub Lasts : {E : Type 0} → Result ℕ E → Image → Typings → Machine → ℕ → Vm → Vm → Type 0
+Lasts (Ok n) image T m t old new = IsLast image T m t n new
+Lasts (Err memory) image T m t old new = IsKeptAt image T m old new
+
+-- a turn
+pub record IsTurn (image : Image) (T : Typings) (m : Machine) (t most n : ℕ) (new : Vm) : Type 0 where
+  pub after : Machine
+  pub turned : turn image t most m ≡ Ok (record { count = n; machine = after })
+  pub stands : StandsAt image T new after
+
+abbrev pub Turns : {E : Type 0} → Result ℕ E → Image → Typings → Machine → ℕ → ℕ → Vm → Vm → Type 0
+Turns (Ok n) image T m t most old new = IsTurn image T m t most n new
+Turns (Err memory) image T m t most old new = IsKeptAt image T m old new

@@ -1,0 +1,18 @@
+//! A machine that runs a verified program, and whose state is the replay of its log: turns, replay and seeded runs. No call has an answer for a
+//! machine that is stuck.
+#![tactic(auto)]
+
+mod error;
+mod moves;
+mod playing;
+mod premises;
+mod replay;
+mod running;
+mod safe;
+mod seeded;
+
+pub use error::ReplayError;
+pub use safe::SafeVm;
+
+#[cfg(test)]
+mod tests;

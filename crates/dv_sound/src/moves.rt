@@ -1,0 +1,133 @@
+// What an engine does that stands at a state of the tagged machine.
+ghost use Rattle.std.specs.Prelude.{◌≡◌, ◌≤◌, IfOk, List, None as Nothing, true};
+ghost use Rattle.dv_machine.specs.Running as running;
+ghost use Rattle.dv_machine.specs.State.{Machine};
+ghost use Rattle.dv_machine.specs.WellTyped.{Typings};
+ghost use Rattle.dv_words.specs.declared.state.Frame.{Frame as Activation};
+ghost use Rattle.dv_words.specs.declared.state.Level.{Level};
+ghost use Rattle.dv_words.specs.State.{WordThread};
+ghost use Rattle.dv_core.specs.Advancing.{RunsFrame};
+ghost use Rattle.dv_core.specs.Machines.{machine_of};
+ghost use Rattle.dv_sound.specs.Moves as moves;
+ghost use Rattle.dv_sound.specs.Moves.{HasRun, IsAffordable, IsGood, IsRun, KeepsLocals, Lasts, StandsAt, Steps, Turns, goes_locally};
+
+use dv_core::Vm;
+use dv_defs::Image;
+use std::alloc::AllocError;
+
+/// Whether nothing stopped the run, and its steps aren't spent.
+fn goes_on(vm: &Vm) -> bool
+    ensures { result ≡ moves.goes_on vm.now }
+{
+    vm.stop.is_none() && vm.steps < vm.limits.budget
+}
+
+/// Whether the run goes on and a thread is runnable.
+pub fn may_step(image: &Image, vm: &Vm, thread: u32) -> bool
+    ensures { (T : Typings) (m : Machine) → IsGood image.now T → StandsAt image.now T vm.now m → result ≡ moves.may_step image.now m thread }
+{
+    if goes_on(vm) {
+        vm.runnable(image, thread)
+    } else {
+        false
+    }
+}
+
+/// A step of a thread that may step.
+///
+/// # Errors
+///
+/// Want of memory; the engine stands where it stood then.
+pub fn step_on(image: &Image, vm: &mut Vm, thread: u32) -> Result<(), AllocError>
+    ensures steps { (T : Typings) (m : Machine) → IsGood image.now T → StandsAt image.now T vm.old m → moves.may_step image.now m thread ≡ true → Steps result image.now T m thread vm.old vm.new }
+    ensures others { (T : Typings) (m : Machine) → IsGood image.now T → StandsAt image.now T vm.old m → moves.may_step image.now m thread ≡ true → KeepsLocals image.now thread vm.old vm.new }
+{
+    vm.reads_fit(thread);
+    vm.step(image, thread)
+}
+
+/// So many steps as the budget has room for.
+fn affordable(vm: &Vm, most: u32) -> u32
+    ensures few { result ≤ most }
+    ensures affordable { vm.now.steps ≤ vm.now.limits.budget → IsAffordable vm.now.steps vm.now.limits.budget most result }
+{
+    let left = vm.limits.budget.saturating_sub(vm.steps);
+    if left < u64::from(most) {
+        left as u32
+    } else {
+        most
+    }
+}
+
+/// Local steps of a thread, so many at most, while the next one is local and the budget has room; gives how many were done.
+pub fn run_on(image: &Image, vm: &mut Vm, thread: u32, most: u32) -> u32
+    ensures few { result ≤ most }
+    ensures ran { (T : Typings) (m : Machine) → IsGood image.now T → StandsAt image.now T vm.old m → running.ending_of image.now m ≡ Nothing → IsRun image.now T m thread most result vm.new }
+    ensures took { (T : Typings) (m : Machine) → IsGood image.now T → StandsAt image.now T vm.old m → running.ending_of image.now m ≡ Nothing → (own : WordThread) (f : Activation) (ls : List Level) → RunsFrame (machine_of vm.old) thread own f ls →
+        HasRun (machine_of vm.old) (machine_of vm.new) thread result own f ls }
+    ensures others { (T : Typings) (m : Machine) → IsGood image.now T → StandsAt image.now T vm.old m → KeepsLocals image.now thread vm.old vm.new }
+{
+    vm.reads_fit(thread);
+    let most = affordable(vm, most);
+    vm.run(image, thread, most)
+}
+
+/// The last step of a turn: of any kind, where the thread may do one.
+///
+/// # Errors
+///
+/// Want of memory; the engine stands where it stood then.
+pub fn last_on(image: &Image, vm: &mut Vm, thread: u32) -> Result<u32, AllocError>
+    ensures few { IfOk result (λ n. n ≤ 1) }
+    ensures last { (T : Typings) (m : Machine) → IsGood image.now T → StandsAt image.now T vm.old m → Lasts result image.now T m thread vm.old vm.new }
+    ensures others { (T : Typings) (m : Machine) → IsGood image.now T → StandsAt image.now T vm.old m → KeepsLocals image.now thread vm.old vm.new }
+{
+    if !may_step(image, vm, thread) {
+        return Ok(0);
+    }
+    step_on(image, vm, thread)?;
+    Ok(1)
+}
+
+/// The rest of a turn that begins with local steps: these, and then at most one other. Where that one finds no memory, they are taken back.
+fn turn_locally(image: &Image, vm: &mut Vm, thread: u32, most: u32) -> Result<u32, AllocError>
+    ensures few { IfOk result (λ n. n ≤ most) }
+    ensures turned { (T : Typings) (m : Machine) → IsGood image.now T → StandsAt image.now T vm.old m → running.ending_of image.now m ≡ Nothing → goes_locally image.now thread m ≡ true →
+        Turns result image.now T m thread most vm.old vm.new }
+    ensures others { (T : Typings) (m : Machine) → IsGood image.now T → StandsAt image.now T vm.old m → running.ending_of image.now m ≡ Nothing → goes_locally image.now thread m ≡ true → KeepsLocals image.now thread vm.old vm.new }
+{
+    let Some(frame) = vm.copy_top(thread)? else {
+        return Ok(0);
+    };
+    let done = run_on(image, vm, thread, most);
+    if done == most {
+        return Ok(done);
+    }
+    match last_on(image, vm, thread) {
+        Ok(last) => Ok(done + last),
+        Err(error) => {
+            vm.take_back(thread, &frame, done);
+            Err(error)
+        }
+    }
+}
+
+/// A turn of a thread that may step: local steps while the next one is local, then at most one other, so many in all at most; gives how many
+/// were done.
+///
+/// # Errors
+///
+/// Want of memory; the engine stands where it stood then.
+pub fn take_turn(image: &Image, vm: &mut Vm, thread: u32, most: u32) -> Result<u32, AllocError>
+    ensures few { IfOk result (λ n. n ≤ most) }
+    ensures turned { (T : Typings) (m : Machine) → IsGood image.now T → StandsAt image.now T vm.old m → moves.may_step image.now m thread ≡ true → Turns result image.now T m thread most vm.old vm.new }
+    ensures others { (T : Typings) (m : Machine) → IsGood image.now T → StandsAt image.now T vm.old m → moves.may_step image.now m thread ≡ true → KeepsLocals image.now thread vm.old vm.new }
+{
+    if most == 0 {
+        Ok(0)
+    } else if vm.next_is_local(image, thread) {
+        turn_locally(image, vm, thread, most)
+    } else {
+        last_on(image, vm, thread)
+    }
+}

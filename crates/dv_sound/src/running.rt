@@ -1,0 +1,35 @@
+// Runs whose turns are of the lowest runnable thread.
+ghost use Rattle.std.specs.Prelude.{◌≡◌, ◌≢◌, [], OnOk, None as Nothing};
+ghost use Rattle.dv_defs.specs.Pools.{Method};
+ghost use Rattle.dv_machine.specs.Running.{ending_of};
+ghost use Rattle.dv_machine.specs.State.{Machine};
+ghost use Rattle.dv_sound.specs.Runs.{IsAt, IsSameRun, RanLowest};
+
+use crate::safe::SafeVm;
+use std::alloc::AllocError;
+
+/// The most steps of a turn.
+const MOST: u32 = 256;
+
+impl<'v> SafeVm<'v> {
+    /// Turns until the run has ended, each of the lowest runnable thread, by worker 0, and of 256 steps at most.
+    ///
+    /// # Errors
+    ///
+    /// Want of memory; the turns that were done before stand then.
+    pub fn run(&mut self) -> Result<(), AllocError>
+        ensures ran { (main : Method) (m : Machine) → IsAt self.old main m → self.old.lent ≡ [] → RanLowest self.old self.new main m }
+        ensures ended { OnOk result ((main : Method) (m : Machine) → self.old.lent ≡ [] → IsAt self.new main m → ending_of self.new.verified.image m ≢ Nothing) }
+        ensures same { IsSameRun self.old self.new }
+    {
+        while self.ending().is_none() {
+            let Some(thread) = self.ready() else {
+                return Ok(());
+            };
+            if self.turn(0, thread, MOST)? == 0 {
+                return Ok(());
+            }
+        }
+        Ok(())
+    }
+}

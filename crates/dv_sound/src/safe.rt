@@ -1,0 +1,233 @@
+// A machine whose state is the replay of its log.
+ghost use Rattle.std.specs.Prelude.{◌≡◌, ◌≤◌, [], IfOk, IsTrue, MatchOption, OnErr, All, List, ℕ, ◌≢◌, ◌↔◌, false, true, length};
+ghost use Rattle.dv_defs.specs.Pools.{Method};
+ghost use Rattle.dv_machine.specs.Running as running;
+ghost use Rattle.dv_machine.specs.State.{Machine};
+ghost use Rattle.dv_core.specs.Guests.{IsOrdered};
+ghost use Rattle.dv_core.specs.Machines.{machine_of};
+ghost use Rattle.dv_core.specs.Watching.{AreWatchable};
+ghost use Rattle.dv_machine.specs.WellTyped.{Typings};
+ghost use Rattle.dv_sound.specs.Moves.{AreUsable, IsGood, StandsAt, may_step};
+ghost use Rattle.dv_sound.specs.Runs.{HasMain, IsAt, IsAtSome, IsKept, IsOpened, IsReady, IsSameRun, IsTurned, MayTurn, NoneIsReady, TurnedFrom};
+
+use crate::moves::{may_step, take_turn};
+use crate::premises::{inits_fit, is_accepted, strings_fit};
+use dv_core::Vm;
+use dv_defs::{Ending, Entry, Limits, MethodId};
+use dv_rules::Verified;
+use std::alloc::{AllocError, Global};
+use std::marker::Model;
+
+/// A run of a verified program: the engine, the schedule that was done so far, and the threads that are lent to workers. The engine's state is
+/// the one to which the schedule leads.
+#[derive(Drop)]
+pub struct SafeVm<'v> {
+    verified: &'v Verified,
+    main: MethodId,
+    vm: Vm,
+    log: Vec<Entry>,
+    lent: Vec<u32>,
+}
+
+impl<'v> Model for SafeVm<'v> {
+    ghost use Rattle.dv_core.specs.Machines.{machine_of};
+    ghost use Rattle.dv_sound.specs.Runs.{IsKept, Run};
+
+    ghost Value = { Run };
+
+    ghost view = { λ s. record { verified = s.verified.now; main = s.main; machine = machine_of s.vm; log = s.log.items; lent = s.lent.items } };
+
+    ghost invariant = { λ s. IsKept s.verified.now.image s.main s.vm s.log.items s.lent.items };
+}
+
+/// The engine as a run of a main method begins.
+///
+/// # Errors
+///
+/// Want of memory.
+pub fn opened(
+    alloc: Global,
+    verified: &Verified,
+    main: MethodId,
+    limits: Limits,
+) -> Result<Vm, AllocError>
+    ensures { HasMain verified.now.image main.0 → AreUsable limits → IfOk result (λ v. IsOpened verified.now.image main limits v) }
+{
+    is_accepted(verified);
+    let image = &verified.image;
+    strings_fit(image);
+    inits_fit(image)?;
+    Vm::open(alloc, image, main, limits)
+}
+
+/// A turn of a thread from where a log led, which is logged; nothing is done where the run has ended or the thread isn't runnable.
+///
+/// # Errors
+///
+/// Want of memory; the engine stands where it stood, and the log is as before.
+fn logged_turn(
+    program: &Verified,
+    vm: &mut Vm,
+    log: &mut Vec<Entry>,
+    worker: u32,
+    thread: u32,
+    most: u32,
+) -> Result<u32, AllocError>
+    ensures kept { (main : MethodId) (lent : List ℕ) → IsKept program.now.image main vm.old log.old.items lent → 1 ≤ most → All (λ t. t ≢ thread) lent → IsKept program.now.image main vm.new log.new.items lent }
+    ensures turned { IfOk result (λ n. (main : MethodId) (lent : List ℕ) (k : IsKept program.now.image main vm.old log.old.items lent) → may_step program.now.image k.machine thread ≡ true → 1 ≤ most →
+        TurnedFrom program.now.image main vm.old log.old.items lent k worker thread most n vm.new log.new.items) }
+    ensures limits { (main : MethodId) (lent : List ℕ) → IsKept program.now.image main vm.old log.old.items lent → 1 ≤ most → vm.new.limits ≡ vm.old.limits }
+    ensures few { IfOk result (λ n. n ≤ most) }
+    ensures refused { OnErr result ((main : MethodId) (lent : List ℕ) → IsKept program.now.image main vm.old log.old.items lent → (machine_of vm.new ≡ machine_of vm.old) × (log.new.items ≡ log.old.items)) }
+{
+    let image = &program.image;
+    if !may_step(image, vm, thread) {
+        return Ok(0);
+    }
+    log.reserve(1)?;
+    let steps = take_turn(image, vm, thread, most)?;
+    log.push(Entry {
+        worker,
+        thread,
+        steps,
+    })?;
+    Ok(steps)
+}
+
+impl<'v> SafeVm<'v> {
+    /// A run of a main method, as it begins, with an empty log.
+    ///
+    /// # Errors
+    ///
+    /// Want of memory.
+    pub fn open(
+        alloc: Global,
+        verified: &'v Verified,
+        main: MethodId,
+        limits: Limits,
+    ) -> Result<SafeVm<'v>, AllocError>
+        requires main { HasMain verified.now.image main.0 }
+        requires limits { AreUsable limits }
+        ensures program { IfOk result (λ r. (r.verified ≡ verified.now) × (r.main ≡ main) × (r.machine.limits ≡ limits)) }
+        ensures empty { IfOk result (λ r. (r.log ≡ []) × (r.lent ≡ [])) }
+    {
+        Ok(SafeVm {
+            verified,
+            main,
+            vm: opened(alloc, verified, main, limits)?,
+            log: Vec::new(alloc),
+            lent: Vec::new(alloc),
+        })
+    }
+
+    /// An engine that a schedule led to where it stands, no thread of which is lent.
+    pub fn standing(
+        verified: &'v Verified,
+        main: MethodId,
+        vm: Vm,
+        log: Vec<Entry>,
+        lent: Vec<u32>,
+    ) -> SafeVm<'v>
+        requires kept { IsKept verified.now.image main vm log.items lent.items }
+        ensures { result ≡ record { verified = verified.now; main = main; machine = machine_of vm; log = log.items; lent = lent.items } }
+    {
+        SafeVm {
+            verified,
+            main,
+            vm,
+            log,
+            lent,
+        }
+    }
+
+    /// The program that is run.
+    pub fn verified(&self) -> &'v Verified
+        ensures { result.now ≡ self.now.verified }
+    {
+        self.verified
+    }
+
+    /// The schedule that was done so far. It leads to a state: no step of it is stuck.
+    pub fn log(&self) -> &[Entry]
+        ensures log { result.now ≡ self.now.log }
+        ensures leads { IsAtSome self.now }
+    {
+        &self.log
+    }
+
+    /// The schedule that was done, given away.
+    pub fn into_log(self) -> Vec<Entry>
+        ensures { result.items ≡ self.entry.log }
+    {
+        self.log
+    }
+
+    /// The engine.
+    pub fn vm(&self) -> &Vm
+        ensures machine { machine_of result.now ≡ self.now.machine }
+        ensures watchable { AreWatchable self.now.verified.image result.now }
+        ensures stands { (main : Method) (m : Machine) → IsAt self.now main m → (T : Typings) × IsGood self.now.verified.image T × StandsAt self.now.verified.image T result.now m }
+    {
+        &self.vm
+    }
+
+    /// How the run stands: none where it goes on.
+    pub fn ending(&self) -> Option<Ending>
+        ensures { (main : Method) (m : Machine) → IsAt self.now main m → result ≡ running.ending_of self.now.verified.image m }
+    {
+        let verified = self.verified;
+        self.vm.ending(&verified.image)
+    }
+
+    /// Whether a thread is lent.
+    fn is_lent(&self, thread: u32) -> bool
+        ensures { result ≡ false ↔ All (λ t. t ≢ thread) self.now.lent }
+    {
+        self.lent.contains(&thread)
+    }
+
+    /// A turn of a thread by a worker, which is logged: local steps while the next one is local, then at most one other, so many in all at most.
+    /// Gives how many were done: none, with no entry, where the run has ended or the thread isn't runnable and at home.
+    ///
+    /// # Errors
+    ///
+    /// Want of memory; all is as before then.
+    pub fn turn(&mut self, worker: u32, thread: u32, most: u32) -> Result<u32, AllocError>
+        ensures turned { IfOk result (λ n. (main : Method) (m : Machine) → IsAt self.old main m → MayTurn self.old m thread → 1 ≤ most → IsTurned self.old self.new main m worker thread most n) }
+        ensures few { IfOk result (λ n. n ≤ most) }
+        ensures same { IsSameRun self.old self.new }
+        ensures refused { OnErr result (self.new ≡ self.old) }
+    {
+        if most == 0 || self.is_lent(thread) {
+            return Ok(0);
+        }
+        let SafeVm {
+            verified,
+            vm,
+            log,
+            ..
+        } = self;
+        logged_turn(verified, vm, log, worker, thread, most)
+    }
+
+    /// The lowest thread that is runnable and at home; none where none is.
+    pub fn ready(&self) -> Option<u32>
+        ensures { (main : Method) (m : Machine) → IsAt self.now main m → MatchOption result (NoneIsReady self.now m) (λ t. IsReady self.now m t) }
+    {
+        let verified = self.verified;
+        let image = &verified.image;
+        for thread in 0..self.threads() {
+            if !self.is_lent(thread) && self.vm.runnable(image, thread) {
+                return Some(thread);
+            }
+        }
+        None
+    }
+
+    /// How many threads there are.
+    pub fn threads(&self) -> u32
+        ensures { (main : Method) (m : Machine) → IsAt self.now main m → result ≡ length m.threads }
+    {
+        self.vm.guest.threads.stacks.len() as u32
+    }
+}
