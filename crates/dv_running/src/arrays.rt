@@ -1,18 +1,27 @@
 // Arrays (AOSP, "Dalvik bytecode format"; JLS 10, 15.10, 15.13).
-use crate::run::{RUN, Run};
-use crate::running::{Death, assert_deaths, assert_run, assert_runs};
+use crate::run::{NULL_POINTER, RUN, Run, Stands};
+use crate::running::{Death, assert_deaths, assert_runs, assert_text, main_text};
 use std::alloc::{AllocError, Global};
+use std::process::Abort;
 
-/// An array's type, the suffix of its opcodes, an int that is stored, and what is loaded then.
+const ARRAY_INDEX: &[Stands<'static>] = &[Stands::Died(
+    "Ljava/lang/ArrayIndexOutOfBoundsException;",
+)];
+
+const ARRAY_STORE: &[Stands<'static>] = &[Stands::Died("Ljava/lang/ArrayStoreException;")];
+
+const NEGATIVE_SIZE: &[Stands<'static>] = &[Stands::Died("Ljava/lang/NegativeArraySizeException;")];
+
+/// An array's type, the suffix of its opcodes, an int that is stored, and what is printed of it, of the element beside it, and of the length.
 static ELEMENTS: [(&str, &str, &str, &str); 8] = [
-    ("[I", "", "-2000000000", "-2000000000"),
-    ("[Z", "-boolean", "3", "1"),
-    ("[Z", "-boolean", "2", "0"),
-    ("[B", "-byte", "0x1ff", "-1"),
-    ("[B", "-byte", "0x80", "-128"),
-    ("[C", "-char", "-1", "65535"),
-    ("[S", "-short", "0x18000", "-32768"),
-    ("[S", "-short", "-32769", "32767"),
+    ("[I", "", "-2000000000", "-2000000000\n0\n2\n"),
+    ("[Z", "-boolean", "3", "1\n0\n2\n"),
+    ("[Z", "-boolean", "2", "0\n0\n2\n"),
+    ("[B", "-byte", "0x1ff", "-1\n0\n2\n"),
+    ("[B", "-byte", "0x80", "-128\n0\n2\n"),
+    ("[C", "-char", "-1", "65535\n0\n2\n"),
+    ("[S", "-short", "0x18000", "-32768\n0\n2\n"),
+    ("[S", "-short", "-32769", "32767\n0\n2\n"),
 ];
 
 /// Stores in the second of two elements, and prints it, the first one and the length.
@@ -35,25 +44,31 @@ fn body_of(alloc: Global, array: &str, suffix: &str, stored: &str) -> Result<Str
     )
 }
 
+fn assert_elements<R: Abort>(
+    rt: &R,
+    alloc: Global,
+    row: (&str, &str, &str, &'static str),
+) -> Result<(), AllocError> {
+    let (array, suffix, stored, output) = row;
+    let body = body_of(alloc, array, suffix, stored)?;
+    let text = main_text(alloc, "4", &body, "")?;
+    let run = Run {
+        output,
+        steps: Some(13),
+        ..RUN
+    };
+    assert_text(rt, alloc, &text, &run);
+    Ok(())
+}
+
 #[test]
 fn elements_keep_their_low_bits(rt: HostRuntime) {
-    for (array, suffix, stored, loaded) in ELEMENTS {
-        let body = body_of(rt.alloc(), array, suffix, stored);
-        let body = body.ok().expect(&rt, "memory");
-        let output = format!(in rt.alloc(); "{loaded}\n0\n2\n");
-        let output = output.ok().expect(&rt, "memory");
-        let run = Run {
-            registers: "4",
-            body: &body,
-            output: &output,
-            steps: Some(13),
-            ..RUN
-        };
-        assert_run(&rt, rt.alloc(), &run);
+    for row in ELEMENTS {
+        assert!(rt; assert_elements(&rt, rt.alloc(), row).is_ok());
     }
 }
 
-static ARRAYS: [Run<'static>; 6] = [
+static ARRAYS: [Run; 6] = [
     // of longs
     Run {
         registers: "7",
@@ -199,7 +214,7 @@ fn arrays_are_made_and_filled(rt: HostRuntime) {
     assert_runs(&rt, rt.alloc(), ARRAYS.as_slice());
 }
 
-static DATA: [Run<'static>; 4] = [
+static DATA: [Run; 4] = [
     // of ints; elements behind the data stay
     Run {
         registers: "2",
@@ -309,52 +324,52 @@ static INDEXES: [Death; 10] = [
     (
         "1",
         "const/4 v0, 0\narray-length v0, v0\nreturn-void",
-        "NullPointerException",
+        NULL_POINTER,
     ),
     (
         "2",
         "const/4 v0, 0\nconst/4 v1, -1\naget v0, v0, v1\nreturn-void",
-        "NullPointerException",
+        NULL_POINTER,
     ),
     (
         "2",
         "const/4 v0, 0\nconst/4 v1, -1\naput v1, v0, v1\nreturn-void",
-        "NullPointerException",
+        NULL_POINTER,
     ),
     (
         "2",
         "const/4 v0, 0\naput-object v0, v0, v0\nreturn-void",
-        "NullPointerException",
+        NULL_POINTER,
     ),
     (
         "3",
         "const/4 v0, 2\nnew-array v1, v0, [I\naget v2, v1, v0\nreturn-void",
-        "ArrayIndexOutOfBoundsException",
+        ARRAY_INDEX,
     ),
     (
         "4",
         "const/4 v0, 2\nnew-array v1, v0, [J\naget-wide v2, v1, v0\nreturn-void",
-        "ArrayIndexOutOfBoundsException",
+        ARRAY_INDEX,
     ),
     (
         "3",
         "const/4 v0, 2\nnew-array v1, v0, [B\nconst/4 v2, -1\naget-byte v2, v1, v2\nreturn-void",
-        "ArrayIndexOutOfBoundsException",
+        ARRAY_INDEX,
     ),
     (
         "3",
         "const/4 v0, 2\nnew-array v1, v0, [C\naput-char v0, v1, v0\nreturn-void",
-        "ArrayIndexOutOfBoundsException",
+        ARRAY_INDEX,
     ),
     (
         "3",
         "const/4 v0, 2\nnew-array v1, v0, [Ljava/lang/Object;\nconst v2, -0x80000000\naput-object v1, v1, v2\nreturn-void",
-        "ArrayIndexOutOfBoundsException",
+        ARRAY_INDEX,
     ),
     (
         "2",
         "const/4 v0, 0\nnew-array v1, v0, [Z\naget-boolean v0, v1, v0\nreturn-void",
-        "ArrayIndexOutOfBoundsException",
+        ARRAY_INDEX,
     ),
 ];
 
@@ -368,43 +383,43 @@ static MISFITS: [Death; 8] = [
     (
         "1",
         "const/4 v0, -1\nnew-array v0, v0, [I\nreturn-void",
-        "NegativeArraySizeException",
+        NEGATIVE_SIZE,
     ),
     (
         "1",
         "const v0, -0x80000000\nnew-array v0, v0, [[Ljava/lang/Object;\nreturn-void",
-        "NegativeArraySizeException",
+        NEGATIVE_SIZE,
     ),
     (
         "1",
         "const/4 v0, 0\nfill-array-data v0, :data\nreturn-void\n:data\n.array-data 4\n.end array-data",
-        "NullPointerException",
+        NULL_POINTER,
     ),
     (
         "2",
         "const/4 v0, 1\nnew-array v1, v0, [I\nfill-array-data v1, :data\nreturn-void\n:data\n.array-data 4\n1\n2\n.end array-data",
-        "ArrayIndexOutOfBoundsException",
+        ARRAY_INDEX,
     ),
     (
         "3",
         "const/4 v0, 1\nnew-array v1, v0, [Ljava/lang/Thread;\nconst-string v2, \"a\"\nconst/4 v0, 0\naput-object v2, v1, v0\nreturn-void",
-        "ArrayStoreException",
+        ARRAY_STORE,
     ),
     (
         "3",
         "const/4 v0, 1\nnew-array v1, v0, [Ljava/lang/Runnable;\nconst-string v2, \"a\"\nconst/4 v0, 0\naput-object v2, v1, v0\nreturn-void",
-        "ArrayStoreException",
+        ARRAY_STORE,
     ),
     (
         "3",
         "const/4 v0, 1\nnew-array v1, v0, [[I\nnew-array v2, v0, [J\nconst/4 v0, 0\naput-object v2, v1, v0\nreturn-void",
-        "ArrayStoreException",
+        ARRAY_STORE,
     ),
     // the index is told before the class
     (
         "3",
         "const/4 v0, 1\nnew-array v1, v0, [Ljava/lang/Thread;\nconst-string v2, \"a\"\naput-object v2, v1, v0\nreturn-void",
-        "ArrayIndexOutOfBoundsException",
+        ARRAY_INDEX,
     ),
 ];
 
@@ -413,7 +428,7 @@ fn sizes_data_and_elements_fit(rt: HostRuntime) {
     assert_deaths(&rt, rt.alloc(), "", MISFITS.as_slice());
 }
 
-static REFUSED_STORES: [Run<'static>; 2] = [
+static REFUSED_STORES: [Run; 2] = [
     // data that is too long stores nothing
     Run {
         registers: "3",

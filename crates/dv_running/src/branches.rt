@@ -1,6 +1,6 @@
 // Branches: each is tested with numbers below, at and above the other, or zero, and prints whether it was taken.
 use crate::run::{RUN, Run};
-use crate::running::assert_run;
+use crate::running::{assert_text, main_text};
 use std::alloc::{AllocError, Global};
 use std::process::Abort;
 
@@ -54,17 +54,21 @@ fn test_method(alloc: Global, op: &str, registers: &str) -> Result<String, Alloc
     )
 }
 
+fn assert_branch<R: Abort>(rt: &R, alloc: Global, branch: &Branch) -> Result<(), AllocError> {
+    let (op, registers, output) = branch;
+    let members = test_method(alloc, op, registers)?;
+    let text = main_text(alloc, "1", NUMBERS, &members)?;
+    let run = Run {
+        output: *output,
+        ..RUN
+    };
+    assert_text(rt, alloc, &text, &run);
+    Ok(())
+}
+
 fn assert_branches<R: Abort>(rt: &R, alloc: Global, branches: &[Branch]) {
-    for (op, registers, output) in branches {
-        let members = test_method(alloc, op, registers).ok().expect(rt, "memory");
-        let run = Run {
-            registers: "1",
-            body: NUMBERS,
-            members: &members,
-            output: *output,
-            ..RUN
-        };
-        assert_run(rt, alloc, &run);
+    for branch in branches {
+        assert!(rt; assert_branch(rt, alloc, branch).is_ok());
     }
 }
 
@@ -80,10 +84,10 @@ fn a_number_is_compared_with_zero(rt: HostRuntime) {
 
 /// References are compared by the objects that they are.
 static REFERENCES: [(&str, &str); 4] = [
-    ("if-eq v0, v1, :taken", "0"),
-    ("if-ne v0, v1, :taken", "1"),
-    ("if-eqz v0, :taken", "0"),
-    ("if-nez v0, :taken", "1"),
+    ("if-eq v0, v1, :taken", "0\n"),
+    ("if-ne v0, v1, :taken", "1\n"),
+    ("if-eqz v0, :taken", "0\n"),
+    ("if-nez v0, :taken", "1\n"),
 ];
 
 fn reference_body(alloc: Global, branch: &str) -> Result<String, AllocError> {
@@ -104,21 +108,20 @@ fn reference_body(alloc: Global, branch: &str) -> Result<String, AllocError> {
     )
 }
 
+fn assert_references<R: Abort>(
+    rt: &R,
+    alloc: Global,
+    (branch, output): (&str, &'static str),
+) -> Result<(), AllocError> {
+    let body = reference_body(alloc, branch)?;
+    let text = main_text(alloc, "3", &body, "")?;
+    assert_text(rt, alloc, &text, &Run { output, ..RUN });
+    Ok(())
+}
+
 #[test]
 fn references_are_compared(rt: HostRuntime) {
-    for (branch, digit) in REFERENCES {
-        let body = reference_body(rt.alloc(), branch)
-            .ok()
-            .expect(&rt, "memory");
-        let output = format!(in rt.alloc(); "{digit}\n")
-            .ok()
-            .expect(&rt, "memory");
-        let run = Run {
-            registers: "3",
-            body: &body,
-            output: &output,
-            ..RUN
-        };
-        assert_run(&rt, rt.alloc(), &run);
+    for row in REFERENCES {
+        assert!(rt; assert_references(&rt, rt.alloc(), row).is_ok());
     }
 }

@@ -2,7 +2,7 @@
 use crate::run::{RUN, Run};
 use crate::running::assert_runs;
 
-static STATIC_CALLS: [Run<'static>; 7] = [
+static STATIC_CALLS: [Run; 7] = [
     // each kind of argument lands in the last registers, and each kind of result is moved
     Run {
         registers: "8",
@@ -270,7 +270,7 @@ const FAMILY: &str = "
     return v0
     .end method";
 
-static FAMILY_CALLS: [Run<'static>; 7] = [
+static FAMILY_CALLS: [Run; 7] = [
     // the nearest method by the object's class, inherited ones too
     Run {
         registers: "3",

@@ -1,6 +1,6 @@
 // Casts and instances (JLS 5.5, 15.20.2): of null none is told, and it passes each cast.
 use crate::run::{RUN, Run, Stands};
-use crate::running::assert_run;
+use crate::running::{assert_text, main_text};
 use std::alloc::{AllocError, Global};
 use std::process::Abort;
 
@@ -87,45 +87,48 @@ fn body_of(alloc: Global, object: &str, ty: &str) -> Result<String, AllocError> 
     )
 }
 
-fn assert_row<R: Abort>(
+/// What an instance and another object print, and how the thread ends.
+type Outcome = (&'static str, &'static [Stands<'static>]);
+
+const INSTANCE: Outcome = ("1\n2\n", &[Stands::Returned]);
+
+const OTHER: Outcome = ("0\n", &[Stands::Died("Ljava/lang/ClassCastException;")]);
+
+const NULL: Outcome = ("0\n2\n", &[Stands::Returned]);
+
+fn assert_cast<R: Abort>(
     rt: &R,
     alloc: Global,
     object: &str,
     ty: &str,
-    outcome: (&str, Stands<'_>),
-) {
-    let body = body_of(alloc, object, ty).ok().expect(rt, "memory");
-    let (output, stands) = outcome;
+    (output, threads): Outcome,
+) -> Result<(), AllocError> {
+    let body = body_of(alloc, object, ty)?;
+    let text = main_text(alloc, "2", &body, OBJECTS)?;
     let run = Run {
-        registers: "2",
-        body: &body,
-        members: OBJECTS,
         output,
-        threads: &[stands],
+        threads,
         ..RUN
     };
-    assert_run(rt, alloc, &run);
+    assert_text(rt, alloc, &text, &run);
+    Ok(())
 }
 
-fn assert_rows<R: Abort>(rt: &R, alloc: Global, rows: &[Row]) {
+fn assert_casts<R: Abort>(rt: &R, alloc: Global, rows: &[Row]) {
     for (object, ty, is_instance) in rows {
-        let outcome = if *is_instance {
-            ("1\n2\n", Stands::Returned)
-        } else {
-            ("0\n", Stands::Died("Ljava/lang/ClassCastException;"))
-        };
-        assert_row(rt, alloc, object, ty, outcome);
+        let outcome = if *is_instance { INSTANCE } else { OTHER };
+        assert!(rt; assert_cast(rt, alloc, object, ty, outcome).is_ok());
     }
 }
 
 #[test]
 fn objects_are_of_classes_and_interfaces(rt: HostRuntime) {
-    assert_rows(&rt, rt.alloc(), CLASSES.as_slice());
+    assert_casts(&rt, rt.alloc(), CLASSES.as_slice());
 }
 
 #[test]
 fn arrays_are_of_their_elements_types(rt: HostRuntime) {
-    assert_rows(&rt, rt.alloc(), ARRAYS.as_slice());
+    assert_casts(&rt, rt.alloc(), ARRAYS.as_slice());
 }
 
 #[test]
@@ -136,6 +139,6 @@ fn null_is_of_no_type_and_passes(rt: HostRuntime) {
         "[I",
         "[[LMain;",
     ] {
-        assert_row(&rt, rt.alloc(), "null", ty, ("0\n2\n", Stands::Returned));
+        assert!(rt; assert_cast(&rt, rt.alloc(), "null", ty, NULL).is_ok());
     }
 }

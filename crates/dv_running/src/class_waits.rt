@@ -1,9 +1,7 @@
 // Threads that wait for each other's classes (JLS 12.4.2).
-use crate::run::{AMPLE, Hold, RUN, Run, Stands};
+use crate::run::{AMPLE, BOTH_RETURNED, Hold, RUN, Run, Stands};
 use crate::running::assert_runs;
 use dv_defs::{Ending, Limits};
-
-const RETURNED: &[Stands<'static>] = &[Stands::Returned, Stands::Returned];
 
 /// Main starts a thread, in eight steps, uses the class, and prints 0.
 const USES_CLASS: &str = "
@@ -55,7 +53,7 @@ const FAILING: &str = "
     return-void
     .end method";
 
-static ONE_CLASS: [Run<'static>; 5] = [
+static ONE_CLASS: [Run; 5] = [
     // main initialises it, and the thread is held up
     Run {
         registers: "1",
@@ -93,7 +91,7 @@ static ONE_CLASS: [Run<'static>; 5] = [
         classes: PRINTING,
         turns: &[(0, 8), (1, 1)],
         output: "x0\n1\n",
-        threads: RETURNED,
+        threads: BOTH_RETURNED,
         // 8; the record, the initialiser begins, does three, the record ends; five of main's; and five of the thread's
         steps: Some(24),
         ..RUN
@@ -186,7 +184,7 @@ const USES_A: Option<(&str, &str)> = Some((
     return-void",
 ));
 
-static TWO_CLASSES: [Run<'static>; 4] = [
+static TWO_CLASSES: [Run; 4] = [
     // each thread waits for the other's class
     Run {
         registers: "1",
@@ -208,7 +206,7 @@ static TWO_CLASSES: [Run<'static>; 4] = [
         body: USES_B,
         thread: USES_A,
         classes: CIRCLE,
-        threads: RETURNED,
+        threads: BOTH_RETURNED,
         // 8 and 15 of main's, three of the thread's
         steps: Some(26),
         ..RUN
@@ -219,7 +217,7 @@ static TWO_CLASSES: [Run<'static>; 4] = [
         thread: USES_A,
         classes: CIRCLE,
         turns: &[(0, 8), (1, 15)],
-        threads: RETURNED,
+        threads: BOTH_RETURNED,
         steps: Some(26),
         ..RUN
     },

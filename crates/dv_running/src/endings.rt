@@ -3,7 +3,7 @@ use crate::run::{AMPLE, Hold, RUN, Run, Stands};
 use crate::running::assert_runs;
 use dv_defs::{Ending, Limits};
 
-static OUTPUTS: [Run<'static>; 5] = [
+static OUTPUTS: [Run; 5] = [
     // as many bytes as may be printed, and not one more
     Run {
         registers: "1",
@@ -84,7 +84,7 @@ const JOINS_ITSELF: &str = "
     invoke-virtual {v0}, Ljava/lang/Thread;->join()V
     return-void";
 
-static ENDINGS: [Run<'static>; 8] = [
+static ENDINGS: [Run; 8] = [
     // done goes before steps
     Run {
         limits: Limits { budget: 1, ..AMPLE },

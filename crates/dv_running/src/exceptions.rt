@@ -3,7 +3,9 @@ use crate::run::{AMPLE, RUN, Run, Stands};
 use crate::running::{Death, assert_deaths, assert_runs};
 use dv_defs::{Ending, Limits};
 
-static CATCHES: [Run<'static>; 8] = [
+const ARITHMETIC: &[Stands<'static>] = &[Stands::Died("Ljava/lang/ArithmeticException;")];
+
+static CATCHES: [Run; 8] = [
     // by its class
     Run {
         registers: "2",
@@ -212,7 +214,7 @@ fn exceptions_are_caught(rt: HostRuntime) {
     assert_runs(&rt, rt.alloc(), CATCHES.as_slice());
 }
 
-static THROWS: [Run<'static>; 7] = [
+static THROWS: [Run; 7] = [
     // an exception that nothing catches
     Run {
         registers: "2",
@@ -400,47 +402,47 @@ static DIVISORS: [Death; 9] = [
     (
         "2",
         "const/4 v0, 0\nconst/4 v1, 1\nrem-int v1, v1, v0\nreturn-void",
-        "ArithmeticException",
+        ARITHMETIC,
     ),
     (
         "2",
         "const/4 v0, 0\nconst/4 v1, 1\ndiv-int/2addr v1, v0\nreturn-void",
-        "ArithmeticException",
+        ARITHMETIC,
     ),
     (
         "2",
         "const/4 v0, 0\nconst/4 v1, 1\nrem-int/2addr v1, v0\nreturn-void",
-        "ArithmeticException",
+        ARITHMETIC,
     ),
     (
         "1",
         "const/4 v0, 1\ndiv-int/lit8 v0, v0, 0\nreturn-void",
-        "ArithmeticException",
+        ARITHMETIC,
     ),
     (
         "1",
         "const/4 v0, 1\nrem-int/lit16 v0, v0, 0\nreturn-void",
-        "ArithmeticException",
+        ARITHMETIC,
     ),
     (
         "4",
         "const-wide/16 v0, 0\nconst-wide/16 v2, 1\ndiv-long v2, v2, v0\nreturn-void",
-        "ArithmeticException",
+        ARITHMETIC,
     ),
     (
         "4",
         "const-wide/16 v0, 0\nconst-wide/16 v2, 1\nrem-long v2, v2, v0\nreturn-void",
-        "ArithmeticException",
+        ARITHMETIC,
     ),
     (
         "4",
         "const-wide/16 v0, 0\nconst-wide/16 v2, 1\ndiv-long/2addr v2, v0\nreturn-void",
-        "ArithmeticException",
+        ARITHMETIC,
     ),
     (
         "4",
         "const-wide/16 v0, 0\nconst-wide/16 v2, 1\nrem-long/2addr v2, v0\nreturn-void",
-        "ArithmeticException",
+        ARITHMETIC,
     ),
 ];
 

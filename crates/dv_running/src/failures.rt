@@ -48,7 +48,7 @@ const FAILING: &str = r#"
     return-void
     .end method"#;
 
-static FAILURES: [Run<'static>; 7] = [
+static FAILURES: [Run; 7] = [
     // an exception is wrapped, and the class is in no state to be used then
     Run {
         registers: "1",
@@ -240,7 +240,7 @@ fn initialisers_may_fail(rt: HostRuntime) {
     assert_runs(&rt, rt.alloc(), FAILURES.as_slice());
 }
 
-static MAINS: [Run<'static>; 6] = [
+static MAINS: [Run; 6] = [
     // main's class is initialised before main begins
     Run {
         registers: "1",

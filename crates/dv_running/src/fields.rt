@@ -1,18 +1,25 @@
 // Fields (AOSP, "Dalvik bytecode format"; JLS 4.12.5, 8.3).
-use crate::run::{RUN, Run};
-use crate::running::{Death, assert_deaths, assert_run, assert_runs};
+use crate::run::{NULL_POINTER, RUN, Run, Stands};
+use crate::running::{Death, assert_deaths, assert_runs, assert_text, main_text};
 use std::alloc::{AllocError, Global};
+use std::process::Abort;
 
-/// A field's type, the suffix of its opcodes, an int that is put, and what is got then.
+/// A field's type, the suffix of its opcodes, an int that is put, and what is printed: of the static field before and after, of the object's
+/// before and after, and of the one beside it.
 static FIELDS: [(&str, &str, &str, &str); 8] = [
-    ("I", "", "-2000000000", "-2000000000"),
-    ("Z", "-boolean", "5", "1"),
-    ("Z", "-boolean", "4", "0"),
-    ("B", "-byte", "0x1ff", "-1"),
-    ("B", "-byte", "0x80", "-128"),
-    ("C", "-char", "-1", "65535"),
-    ("S", "-short", "0x18000", "-32768"),
-    ("S", "-short", "-32769", "32767"),
+    (
+        "I",
+        "",
+        "-2000000000",
+        "0\n-2000000000\n0\n-2000000000\n0\n",
+    ),
+    ("Z", "-boolean", "5", "0\n1\n0\n1\n0\n"),
+    ("Z", "-boolean", "4", "0\n0\n0\n0\n0\n"),
+    ("B", "-byte", "0x1ff", "0\n-1\n0\n-1\n0\n"),
+    ("B", "-byte", "0x80", "0\n-128\n0\n-128\n0\n"),
+    ("C", "-char", "-1", "0\n65535\n0\n65535\n0\n"),
+    ("S", "-short", "0x18000", "0\n-32768\n0\n-32768\n0\n"),
+    ("S", "-short", "-32769", "0\n32767\n0\n32767\n0\n"),
 ];
 
 /// A static field and two of an object, of one type.
@@ -29,7 +36,6 @@ fn members_of(alloc: Global, ty: &str) -> Result<String, AllocError> {
     )
 }
 
-/// The static field and the first of the object's are put; each is got before and after, and the other one then.
 fn body_of(alloc: Global, ty: &str, suffix: &str, put: &str) -> Result<String, AllocError> {
     format!(in alloc;
         "
@@ -52,26 +58,27 @@ fn body_of(alloc: Global, ty: &str, suffix: &str, put: &str) -> Result<String, A
     )
 }
 
+fn assert_fields<R: Abort>(
+    rt: &R,
+    alloc: Global,
+    row: (&str, &str, &str, &'static str),
+) -> Result<(), AllocError> {
+    let (ty, suffix, put, output) = row;
+    let members = members_of(alloc, ty)?;
+    let body = body_of(alloc, ty, suffix, put)?;
+    let text = main_text(alloc, "3", &body, &members)?;
+    assert_text(rt, alloc, &text, &Run { output, ..RUN });
+    Ok(())
+}
+
 #[test]
 fn fields_keep_their_low_bits(rt: HostRuntime) {
-    for (ty, suffix, put, got) in FIELDS {
-        let members = members_of(rt.alloc(), ty).ok().expect(&rt, "memory");
-        let body = body_of(rt.alloc(), ty, suffix, put);
-        let body = body.ok().expect(&rt, "memory");
-        let output = format!(in rt.alloc(); "0\n{got}\n0\n{got}\n0\n");
-        let output = output.ok().expect(&rt, "memory");
-        let run = Run {
-            registers: "3",
-            body: &body,
-            members: &members,
-            output: &output,
-            ..RUN
-        };
-        assert_run(&rt, rt.alloc(), &run);
+    for row in FIELDS {
+        assert!(rt; assert_fields(&rt, rt.alloc(), row).is_ok());
     }
 }
 
-static OBJECTS: [Run<'static>; 5] = [
+static OBJECTS: [Run; 5] = [
     // longs between ints
     Run {
         registers: "6",
@@ -233,7 +240,7 @@ fn objects_have_fields(rt: HostRuntime) {
     assert_runs(&rt, rt.alloc(), OBJECTS.as_slice());
 }
 
-static STATICS: [Run<'static>; 3] = [
+static STATICS: [Run; 3] = [
     // as they are declared
     Run {
         registers: "3",
@@ -332,32 +339,32 @@ static NULLS: [Death; 6] = [
     (
         "1",
         "const/4 v0, 0\niget v0, v0, LMain;->i:I\nreturn-void",
-        "NullPointerException",
+        NULL_POINTER,
     ),
     (
         "3",
         "const/4 v0, 0\niget-wide v1, v0, LMain;->j:J\nreturn-void",
-        "NullPointerException",
+        NULL_POINTER,
     ),
     (
         "1",
         "const/4 v0, 0\niget-object v0, v0, LMain;->o:Ljava/lang/Object;\nreturn-void",
-        "NullPointerException",
+        NULL_POINTER,
     ),
     (
         "1",
         "const/4 v0, 0\niput v0, v0, LMain;->i:I\nreturn-void",
-        "NullPointerException",
+        NULL_POINTER,
     ),
     (
         "3",
         "const/4 v0, 0\nconst-wide/16 v1, 1\niput-wide v1, v0, LMain;->j:J\nreturn-void",
-        "NullPointerException",
+        NULL_POINTER,
     ),
     (
         "1",
         "const/4 v0, 0\niput-boolean v0, v0, LMain;->z:Z\nreturn-void",
-        "NullPointerException",
+        NULL_POINTER,
     ),
 ];
 

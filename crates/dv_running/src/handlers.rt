@@ -1,6 +1,6 @@
 // The machine's exceptions are of their classes: a handler of a superclass catches each, and one of another class doesn't (JLS 11.1.1).
 use crate::run::{AMPLE, RUN, Run};
-use crate::running::assert_run;
+use crate::running::{assert_text, main_text};
 use dv_defs::Limits;
 use std::alloc::{AllocError, Global};
 use std::process::Abort;
@@ -134,32 +134,36 @@ fn body_of(alloc: Global, throwing: &Throwing) -> Result<String, AllocError> {
     )
 }
 
-/// There may be one thread.
-fn assert_caught<R: Abort>(rt: &R, alloc: Global, rows: &[Throwing]) {
+/// There may be one thread, and what catches prints 1.
+const CATCHES: Run = Run {
+    limits: Limits {
+        threads: 1,
+        ..AMPLE
+    },
+    output: "1\n",
+    ..RUN
+};
+
+fn assert_caught<R: Abort>(rt: &R, alloc: Global, throwing: &Throwing) -> Result<(), AllocError> {
+    let body = body_of(alloc, throwing)?;
+    let main = main_text(alloc, "2", &body, MEMBERS)?;
+    let text = format!(in alloc; "{main}{CLASSES}")?;
+    assert_text(rt, alloc, &text, &CATCHES);
+    Ok(())
+}
+
+fn assert_all_caught<R: Abort>(rt: &R, alloc: Global, rows: &[Throwing]) {
     for throwing in rows {
-        let body = body_of(alloc, throwing).ok().expect(rt, "memory");
-        let run = Run {
-            registers: "2",
-            body: &body,
-            members: MEMBERS,
-            classes: CLASSES,
-            limits: Limits {
-                threads: 1,
-                ..AMPLE
-            },
-            output: "1\n",
-            ..RUN
-        };
-        assert_run(rt, alloc, &run);
+        assert!(rt; assert_caught(rt, alloc, throwing).is_ok());
     }
 }
 
 #[test]
 fn exceptions_of_the_machine_are_of_their_classes(rt: HostRuntime) {
-    assert_caught(&rt, rt.alloc(), EXCEPTIONS.as_slice());
+    assert_all_caught(&rt, rt.alloc(), EXCEPTIONS.as_slice());
 }
 
 #[test]
 fn errors_of_the_machine_are_of_their_classes(rt: HostRuntime) {
-    assert_caught(&rt, rt.alloc(), ERRORS.as_slice());
+    assert_all_caught(&rt, rt.alloc(), ERRORS.as_slice());
 }

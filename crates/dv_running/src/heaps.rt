@@ -106,44 +106,45 @@ const FIELDS: &str = "
     .field a:J
     .field d:Ljava/lang/Object;";
 
-/// With the words that it needs it returns; with one less the heap is full, and the step isn't done.
-fn assert_need<R: Abort>(rt: &R, alloc: Global, need: &Need) {
-    let (registers, body, words, step) = need;
-    let run = Run {
-        registers: *registers,
-        body: *body,
+/// The thread stands at the step that isn't done.
+const GOES_ON: &[Stands<'static>] = &[Stands::Runnable];
+
+/// Main with a heap of so many words.
+fn with_heap((registers, body, _, _): Need, words: u32) -> Run {
+    Run {
+        registers,
+        body,
         members: r#".field static t:Ljava/lang/String; = "declared""#,
         classes: FIELDS,
         limits: Limits {
-            heap: *words,
+            heap: words,
             ..AMPLE
         },
         ..RUN
-    };
-    assert_run(rt, alloc, &run);
-    let full = Run {
-        limits: Limits {
-            heap: words.saturating_sub(1),
-            ..AMPLE
-        },
-        ending: Ending::HeapFull(0),
-        threads: &[Stands::Runnable],
-        steps: Some(*step),
-        ..run
-    };
+    }
+}
+
+/// With the words that it needs it returns; with one less the heap is full, and the step isn't done.
+fn assert_need<R: Abort>(rt: &R, alloc: Global, need: Need) {
+    let (_, _, words, step) = need;
+    assert_run(rt, alloc, &with_heap(need, words));
+    let mut full = with_heap(need, words.saturating_sub(1));
+    full.ending = Ending::HeapFull(0);
+    full.threads = GOES_ON;
+    full.steps = Some(step);
     assert_run(rt, alloc, &full);
 }
 
 #[test]
 fn objects_need_words(rt: HostRuntime) {
-    for need in NEEDS.as_slice() {
+    for need in NEEDS {
         assert_need(&rt, rt.alloc(), need);
     }
 }
 
 #[test]
 fn texts_need_words(rt: HostRuntime) {
-    for need in TEXT_NEEDS.as_slice() {
+    for need in TEXT_NEEDS {
         assert_need(&rt, rt.alloc(), need);
     }
 }
@@ -163,7 +164,7 @@ const FAILING: &str = "
     return-void
     .end method";
 
-static FULL_HEAPS: [Run<'static>; 5] = [
+static FULL_HEAPS: [Run; 5] = [
     // an exception can't be wrapped: it flies still
     Run {
         registers: "0",

@@ -1,7 +1,7 @@
 // When classes are initialised, and in which order (JLS 12.4).
 use crate::run::{RUN, Run};
-use crate::running::{assert_run, assert_runs};
-use std::alloc::Global;
+use crate::running::{assert_runs, assert_text, main_text};
+use std::alloc::{AllocError, Global};
 use std::process::Abort;
 
 /// An interface, a class, one under it without an initialiser, and one under that. The initialisers print a letter.
@@ -81,26 +81,31 @@ static OTHER_USES: [Use; 6] = [
     ),
 ];
 
-/// The instructions are done, and then the class is asked for again.
+/// Does the instructions, and then again, when the class is ready.
+fn uses_text(alloc: Global, instructions: &str) -> Result<String, AllocError> {
+    let body = format!(in alloc;
+        "{instructions}\ninvoke-static {{}}, LMain;->again()V\nreturn-void"
+    )?;
+    let members = format!(in alloc;
+        ".method static again()V\n.registers 2\n{instructions}\nreturn-void\n.end method"
+    )?;
+    let main = main_text(alloc, "2", &body, &members)?;
+    format!(in alloc; "{main}{CHAIN}")
+}
+
+fn assert_use<R: Abort>(
+    rt: &R,
+    alloc: Global,
+    (instructions, output): Use,
+) -> Result<(), AllocError> {
+    let text = uses_text(alloc, instructions)?;
+    assert_text(rt, alloc, &text, &Run { output, ..RUN });
+    Ok(())
+}
+
 fn assert_uses<R: Abort>(rt: &R, alloc: Global, uses: &[Use]) {
-    for (instructions, output) in uses {
-        let body = format!(in alloc;
-            "{instructions}\ninvoke-static {{}}, LMain;->again()V\nreturn-void"
-        );
-        let body = body.ok().expect(rt, "memory");
-        let members = format!(in alloc;
-            ".method static again()V\n.registers 2\n{instructions}\nreturn-void\n.end method"
-        );
-        let members = members.ok().expect(rt, "memory");
-        let run = Run {
-            registers: "2",
-            body: &body,
-            members: &members,
-            classes: CHAIN,
-            output: *output,
-            ..RUN
-        };
-        assert_run(rt, alloc, &run);
+    for row in uses {
+        assert!(rt; assert_use(rt, alloc, *row).is_ok());
     }
 }
 
@@ -114,7 +119,7 @@ fn other_uses_initialise_nothing(rt: HostRuntime) {
     assert_uses(&rt, rt.alloc(), OTHER_USES.as_slice());
 }
 
-static INITIALISERS: [Run<'static>; 5] = [
+static INITIALISERS: [Run; 5] = [
     // step by step: three records, two initialisers, and the instruction at last
     Run {
         registers: "1",

@@ -1,8 +1,6 @@
 // Calls through interfaces and of abstract methods, and calls on null (JLS 15.12.4, 13.4).
-use crate::run::{RUN, Run, Stands};
+use crate::run::{NULL_POINTER, RUN, Run, Stands};
 use crate::running::assert_runs;
-
-const NULL: &[Stands<'static>] = &[Stands::Died("Ljava/lang/NullPointerException;")];
 
 const ABSTRACT: &[Stands<'static>] = &[Stands::Died("Ljava/lang/AbstractMethodError;")];
 
@@ -76,7 +74,7 @@ const SHAPES: &str = "
     return v0
     .end method";
 
-static INTERFACE_CALLS: [Run<'static>; 7] = [
+static INTERFACE_CALLS: [Run; 7] = [
     // found in the class
     Run {
         registers: "2",
@@ -176,7 +174,7 @@ static INTERFACE_CALLS: [Run<'static>; 7] = [
             const/4 v0, 0
             invoke-interface {v0}, Ljava/lang/Runnable;->run()V
             return-void",
-        threads: NULL,
+        threads: NULL_POINTER,
         steps: Some(3),
         ..RUN
     },
@@ -219,7 +217,7 @@ const SKETCH: &str = "
     return v0
     .end method";
 
-static ABSTRACT_CALLS: [Run<'static>; 6] = [
+static ABSTRACT_CALLS: [Run; 6] = [
     Run {
         registers: "1",
         body: "
@@ -254,7 +252,7 @@ static ABSTRACT_CALLS: [Run<'static>; 6] = [
             invoke-virtual {v0}, LSketch;->size()I
             return-void",
         classes: SKETCH,
-        threads: NULL,
+        threads: NULL_POINTER,
         steps: Some(3),
         ..RUN
     },
@@ -269,7 +267,7 @@ static ABSTRACT_CALLS: [Run<'static>; 6] = [
             .registers 1
             return-void
             .end method",
-        threads: NULL,
+        threads: NULL_POINTER,
         steps: Some(3),
         ..RUN
     },
@@ -279,7 +277,7 @@ static ABSTRACT_CALLS: [Run<'static>; 6] = [
             const/4 v0, 0
             invoke-super {v0}, Ljava/lang/Object;->notify()V
             return-void",
-        threads: NULL,
+        threads: NULL_POINTER,
         steps: Some(3),
         ..RUN
     },
@@ -289,7 +287,7 @@ static ABSTRACT_CALLS: [Run<'static>; 6] = [
             const/4 v0, 0
             invoke-virtual {v0}, Ljava/lang/String;->length()I
             return-void",
-        threads: NULL,
+        threads: NULL_POINTER,
         steps: Some(3),
         ..RUN
     },

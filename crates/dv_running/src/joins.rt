@@ -1,5 +1,5 @@
 // Joining threads, and how they end (the documentation of Thread).
-use crate::run::{AMPLE, Hold, RUN, Run, Stands};
+use crate::run::{AMPLE, BOTH_RETURNED, Hold, NULL_POINTER, RUN, Run, Stands};
 use crate::running::{Death, assert_deaths, assert_runs};
 use dv_defs::{Ending, Limits};
 
@@ -15,9 +15,7 @@ const PRINTS_ONE: Option<(&str, &str)> = Some((
 /// A thread that returns at once.
 const RETURNS: Option<(&str, &str)> = Some(("1", "return-void"));
 
-const RETURNED: &[Stands<'static>] = &[Stands::Returned, Stands::Returned];
-
-static JOINS: [Run<'static>; 5] = [
+static JOINS: [Run; 5] = [
     // one that was never started
     Run {
         registers: "1",
@@ -42,7 +40,7 @@ static JOINS: [Run<'static>; 5] = [
             return-void",
         thread: RETURNS,
         turns: &[(0, 8), (1, 1), (0, 3)],
-        threads: RETURNED,
+        threads: BOTH_RETURNED,
         steps: Some(12),
         ..RUN
     },
@@ -111,7 +109,7 @@ fn threads_are_joined(rt: HostRuntime) {
     assert_runs(&rt, rt.alloc(), JOINS.as_slice());
 }
 
-static ENDS: [Run<'static>; 3] = [
+static ENDS: [Run; 3] = [
     // main dies, and the other goes on
     Run {
         registers: "1",
@@ -232,7 +230,7 @@ const OWN_THREADS: &str = "
     return-void
     .end method";
 
-static OTHER_CALLS: [Run<'static>; 4] = [
+static OTHER_CALLS: [Run; 4] = [
     // an interface's methods may be natives of the object's class
     Run {
         registers: "1",
@@ -246,7 +244,7 @@ static OTHER_CALLS: [Run<'static>; 4] = [
             return-void",
         classes: OWN_THREADS,
         output: "1\n2\n",
-        threads: RETURNED,
+        threads: BOTH_RETURNED,
         steps: Some(15),
         ..RUN
     },
@@ -295,7 +293,7 @@ static OTHER_CALLS: [Run<'static>; 4] = [
             return-void",
         classes: OWN_THREADS,
         output: "9\n1\n",
-        threads: RETURNED,
+        threads: BOTH_RETURNED,
         // new, four constructors entered and left, start, the call of four steps, return; and three of the thread's
         steps: Some(18),
         ..RUN
@@ -311,12 +309,12 @@ static NULLS: [Death; 2] = [
     (
         "1",
         "const/4 v0, 0\ninvoke-virtual {v0}, Ljava/lang/Thread;->start()V\nreturn-void",
-        "NullPointerException",
+        NULL_POINTER,
     ),
     (
         "1",
         "const/4 v0, 0\ninvoke-virtual {v0}, Ljava/lang/Thread;->join()V\nreturn-void",
-        "NullPointerException",
+        NULL_POINTER,
     ),
 ];
 

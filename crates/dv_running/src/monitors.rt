@@ -1,9 +1,9 @@
 // Monitors: who enters and leaves them, and whom their owners hold up (JLS 17.1).
-use crate::run::{AMPLE, Hold, RUN, Run, Stands};
+use crate::run::{AMPLE, BOTH_RETURNED, Hold, NULL_POINTER, RUN, Run, Stands};
 use crate::running::{Death, assert_deaths, assert_runs};
 use dv_defs::{Ending, Limits};
 
-const RETURNED: &[Stands<'static>] = &[Stands::Returned, Stands::Returned];
+const NOT_OWNED: &[Stands<'static>] = &[Stands::Died("Ljava/lang/IllegalMonitorStateException;")];
 
 const NOT_OWNER: Stands<'static> = Stands::Died("Ljava/lang/IllegalMonitorStateException;");
 
@@ -17,47 +17,47 @@ static STRANGERS: [Death; 9] = [
     (
         "1",
         "const-class v0, LMain;\nmonitor-exit v0\nreturn-void",
-        "IllegalMonitorStateException",
+        NOT_OWNED,
     ),
     (
         "1",
         "const-class v0, LMain;\ninvoke-virtual {v0}, Ljava/lang/Object;->wait()V\nreturn-void",
-        "IllegalMonitorStateException",
+        NOT_OWNED,
     ),
     (
         "1",
         "const-class v0, LMain;\ninvoke-virtual {v0}, Ljava/lang/Object;->notify()V\nreturn-void",
-        "IllegalMonitorStateException",
+        NOT_OWNED,
     ),
     (
         "1",
         "const-class v0, LMain;\ninvoke-virtual {v0}, Ljava/lang/Object;->notifyAll()V\nreturn-void",
-        "IllegalMonitorStateException",
+        NOT_OWNED,
     ),
     (
         "2",
         "const-class v0, LMain;\nconst-string v1, \"\"\nmonitor-enter v0\ninvoke-virtual {v1}, Ljava/lang/Object;->wait()V\nreturn-void",
-        "IllegalMonitorStateException",
+        NOT_OWNED,
     ),
     (
         "1",
         "const/4 v0, 0\nmonitor-enter v0\nreturn-void",
-        "NullPointerException",
+        NULL_POINTER,
     ),
     (
         "1",
         "const/4 v0, 0\nmonitor-exit v0\nreturn-void",
-        "NullPointerException",
+        NULL_POINTER,
     ),
     (
         "1",
         "const/4 v0, 0\ninvoke-virtual {v0}, Ljava/lang/Object;->wait()V\nreturn-void",
-        "NullPointerException",
+        NULL_POINTER,
     ),
     (
         "1",
         "const/4 v0, 0\ninvoke-virtual {v0}, Ljava/lang/Object;->notifyAll()V\nreturn-void",
-        "NullPointerException",
+        NULL_POINTER,
     ),
 ];
 
@@ -66,7 +66,7 @@ fn monitors_are_used_by_their_owners(rt: HostRuntime) {
     assert_deaths(&rt, rt.alloc(), "", STRANGERS.as_slice());
 }
 
-static LOCKS: [Run<'static>; 7] = [
+static LOCKS: [Run; 7] = [
     // it is entered again, and left as often
     Run {
         registers: "1",
@@ -270,7 +270,7 @@ const ENTERS: Option<(&str, &str)> = Some((
     return-void",
 ));
 
-static CONTENTION: [Run<'static>; 5] = [
+static CONTENTION: [Run; 5] = [
     // the owner holds the other up
     Run {
         registers: "2",
@@ -295,7 +295,7 @@ static CONTENTION: [Run<'static>; 5] = [
         thread: ENTERS,
         turns: &[(0, 11), (1, 1), (0, 3), (1, 1)],
         output: "2\n1\n",
-        threads: RETURNED,
+        threads: BOTH_RETURNED,
         steps: Some(21),
         ..RUN
     },

@@ -1,6 +1,6 @@
 // Instructions on numbers (AOSP, "Dalvik bytecode format"; JLS 15.15 to 15.22, 5.1.3): what they give is printed.
 use crate::run::{RUN, Run};
-use crate::running::assert_run;
+use crate::running::{assert_text, main_text};
 use Number::{Int, Long};
 use Sum::{Literal, One, Plain, Two};
 use std::alloc::{AllocError, Global};
@@ -30,59 +30,23 @@ fn load(alloc: Global, register: &str, number: Number) -> Result<String, AllocEr
     }
 }
 
-/// Prints what a register, or it and the next one, hold.
-fn print(alloc: Global, (low, high): (&str, &str), number: Number) -> Result<String, AllocError> {
-    match number {
-        Int(_) => format!(in alloc; "invoke-static {{{low}}}, Ldvm/Console;->println(I)V\n"),
-        Long(_) => format!(in alloc;
-            "invoke-virtual {{v6, {low}, {high}}}, Ljava/io/PrintStream;->println(J)V\n"
-        ),
+/// The operands in v2 and v4, of which the second may be missing.
+fn load_both(alloc: Global, a: Number, b: Option<Number>) -> Result<String, AllocError> {
+    let first = load(alloc, "v2", a)?;
+    match b {
+        Some(b) => {
+            let second = load(alloc, "v4", b)?;
+            format!(in alloc; "{first}{second}")
+        }
+        None => Ok(first),
     }
 }
 
-/// The operands in v2 and v4, and what the instruction gives in v0.
-fn plain(
-    alloc: Global,
-    op: &str,
-    a: Number,
-    b: Number,
-    given: Number,
-) -> Result<String, AllocError> {
-    let first = load(alloc, "v2", a)?;
-    let second = load(alloc, "v4", b)?;
-    let print = print(alloc, ("v0", "v1"), given)?;
-    format!(in alloc; "{first}{second}{op} v0, v2, v4\n{print}")
-}
-
-/// The same, and then the form of two addresses.
-fn two(alloc: Global, op: &str, a: Number, b: Number, given: Number) -> Result<String, AllocError> {
-    let plain = plain(alloc, op, a, b, given)?;
-    let print = print(alloc, ("v2", "v3"), given)?;
-    format!(in alloc; "{plain}{op}/2addr v2, v4\n{print}")
-}
-
-/// One operand in v2, and what stands behind it in the instruction.
-fn one(
-    alloc: Global,
-    op: &str,
-    a: Number,
-    rest: &str,
-    given: Number,
-) -> Result<String, AllocError> {
-    let first = load(alloc, "v2", a)?;
-    let print = print(alloc, ("v0", "v1"), given)?;
-    format!(in alloc; "{first}{op} v0, v2{rest}\n{print}")
-}
-
-fn body_of(alloc: Global, sum: Sum) -> Result<String, AllocError> {
-    match sum {
-        One(op, a, given) => one(alloc, op, a, "", given),
-        Plain(op, a, b, given) => plain(alloc, op, a, b, given),
-        Two(op, a, b, given) => two(alloc, op, a, b, given),
-        Literal(op, a, b, given) => {
-            let rest = format!(in alloc; ", {b}")?;
-            one(alloc, op, a, &rest, given)
-        }
+/// How v2, or it and v3, are printed.
+fn print(given: Number) -> &'static str {
+    match given {
+        Int(_) => "invoke-virtual {v6, v2}, Ljava/io/PrintStream;->print(I)V",
+        Long(_) => "invoke-virtual {v6, v2, v3}, Ljava/io/PrintStream;->print(J)V",
     }
 }
 
@@ -93,29 +57,62 @@ fn digits(number: Number) -> &'static str {
     }
 }
 
-fn printed(alloc: Global, sum: Sum) -> Result<String, AllocError> {
-    match sum {
-        One(_, _, given) => format!(in alloc; "{}\n", digits(given)),
-        Plain(_, _, _, given) => format!(in alloc; "{}\n", digits(given)),
-        Two(_, _, _, given) => format!(in alloc; "{}\n{}\n", digits(given), digits(given)),
-        Literal(_, _, _, given) => format!(in alloc; "{}\n", digits(given)),
-    }
+/// An instruction on these operands leaves in v2 what it gives, and that is printed.
+fn assert_given<R: Abort>(
+    rt: &R,
+    alloc: Global,
+    operands: (Number, Option<Number>),
+    instruction: &str,
+    given: Number,
+) -> Result<(), AllocError> {
+    let (a, b) = operands;
+    let loads = load_both(alloc, a, b)?;
+    let print = print(given);
+    let body = format!(in alloc;
+        "sget-object v6, Ljava/lang/System;->out:Ljava/io/PrintStream;\n{loads}{instruction}\n{print}\nreturn-void"
+    )?;
+    let text = main_text(alloc, "7", &body, "")?;
+    let output = digits(given);
+    assert_text(rt, alloc, &text, &Run { output, ..RUN });
+    Ok(())
+}
+
+/// The form with a register of its own for what is given, which may be that of an operand too.
+fn assert_plain<R: Abort>(
+    rt: &R,
+    alloc: Global,
+    op: &str,
+    a: Number,
+    b: Number,
+    given: Number,
+) -> Result<(), AllocError> {
+    let moved = match given {
+        Int(_) => "move v2, v0",
+        Long(_) => "move-wide v2, v0",
+    };
+    let apart = format!(in alloc; "{op} v0, v2, v4\n{moved}")?;
+    assert_given(rt, alloc, (a, Some(b)), &apart, given)?;
+    let over = format!(in alloc; "{op} v2, v2, v4")?;
+    assert_given(rt, alloc, (a, Some(b)), &over, given)
 }
 
 fn assert_sum<R: Abort>(rt: &R, alloc: Global, sum: Sum) -> Result<(), AllocError> {
-    let sums = body_of(alloc, sum)?;
-    let body = format!(in alloc;
-        "sget-object v6, Ljava/lang/System;->out:Ljava/io/PrintStream;\n{sums}return-void"
-    )?;
-    let output = printed(alloc, sum)?;
-    let run = Run {
-        registers: "7",
-        body: &body,
-        output: &output,
-        ..RUN
-    };
-    assert_run(rt, alloc, &run);
-    Ok(())
+    match sum {
+        One(op, a, given) => {
+            let instruction = format!(in alloc; "{op} v2, v2")?;
+            assert_given(rt, alloc, (a, None), &instruction, given)
+        }
+        Plain(op, a, b, given) => assert_plain(rt, alloc, op, a, b, given),
+        Two(op, a, b, given) => {
+            assert_plain(rt, alloc, op, a, b, given)?;
+            let instruction = format!(in alloc; "{op}/2addr v2, v4")?;
+            assert_given(rt, alloc, (a, Some(b)), &instruction, given)
+        }
+        Literal(op, a, b, given) => {
+            let instruction = format!(in alloc; "{op} v2, v2, {b}")?;
+            assert_given(rt, alloc, (a, None), &instruction, given)
+        }
+    }
 }
 
 fn assert_sums<R: Abort>(rt: &R, alloc: Global, sums: &[Sum]) {

@@ -4,7 +4,7 @@ use crate::running::{assert_runs, image_of};
 use dv_core::Vm;
 use dv_defs::{Ending, Limits, MethodId};
 
-static OPENINGS: [Run<'static>; 4] = [
+static OPENINGS: [Run; 4] = [
     // main with an array of strings goes first; it has none
     Run {
         registers: "0",

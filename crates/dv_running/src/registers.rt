@@ -3,7 +3,7 @@ use crate::run::{AMPLE, RUN, Run, Stands};
 use crate::running::assert_runs;
 use dv_defs::{Ending, Limits};
 
-static CONSTANTS: [Run<'static>; 3] = [
+static CONSTANTS: [Run; 3] = [
     // of 4, 16, 32 and 16 high bits
     Run {
         registers: "1",
@@ -71,7 +71,7 @@ fn constants_are_loaded(rt: HostRuntime) {
     assert_runs(&rt, rt.alloc(), CONSTANTS.as_slice());
 }
 
-static MOVES: [Run<'static>; 5] = [
+static MOVES: [Run; 5] = [
     Run {
         registers: "256",
         body: "
@@ -158,7 +158,7 @@ fn registers_are_moved(rt: HostRuntime) {
     assert_runs(&rt, rt.alloc(), MOVES.as_slice());
 }
 
-static JUMPS: [Run<'static>; 5] = [
+static JUMPS: [Run; 5] = [
     // a loop with gotos of each width
     Run {
         registers: "3",

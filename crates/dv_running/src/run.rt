@@ -36,26 +36,26 @@ pub enum Order {
 
 /// A program whose class LMain; has a static `main()V`, and what its run comes to.
 #[derive(Clone, Copy)]
-pub struct Run<'a> {
+pub struct Run {
     /// The registers and the body of main.
-    pub registers: &'a str,
-    pub body: &'a str,
+    pub registers: &'static str,
+    pub body: &'static str,
     /// The superclass of LMain;, and its other members.
-    pub superclass: &'a str,
-    pub members: &'a str,
+    pub superclass: &'static str,
+    pub members: &'static str,
     /// The registers and the body of `run()V` of a class LT; under Thread, where there is one.
-    pub thread: Option<(&'a str, &'a str)>,
+    pub thread: Option<(&'static str, &'static str)>,
     /// Other classes.
-    pub classes: &'a str,
+    pub classes: &'static str,
     pub limits: Limits,
     /// The turns that are taken first: a thread, and its steps.
-    pub turns: &'a [(u32, u32)],
+    pub turns: &'static [(u32, u32)],
     /// Who steps behind them, until the run ends.
     pub order: Order,
-    pub output: &'a str,
+    pub output: &'static str,
     pub ending: Ending,
     /// How each thread stands then.
-    pub threads: &'a [Stands<'a>],
+    pub threads: &'static [Stands<'static>],
     /// The steps that were done, where they are told.
     pub steps: Option<u64>,
 }
@@ -71,7 +71,7 @@ pub const AMPLE: Limits = Limits {
 };
 
 /// A main method that returns at once.
-pub const RUN: Run<'static> = Run {
+pub const RUN: Run = Run {
     registers: "0",
     body: "return-void",
     superclass: "Ljava/lang/Object;",
@@ -86,3 +86,9 @@ pub const RUN: Run<'static> = Run {
     threads: &[Stands::Returned],
     steps: None,
 };
+
+/// One thread, which died of a NullPointerException.
+pub const NULL_POINTER: &[Stands<'static>] = &[Stands::Died("Ljava/lang/NullPointerException;")];
+
+/// Two threads, which both returned.
+pub const BOTH_RETURNED: &[Stands<'static>] = &[Stands::Returned, Stands::Returned];

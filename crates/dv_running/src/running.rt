@@ -21,8 +21,20 @@ fn thread_class(alloc: Global, registers: &str, body: &str) -> Result<String, Al
     )
 }
 
+/// A program whose main method has so many registers and this body.
+pub fn main_text(
+    alloc: Global,
+    registers: &str,
+    body: &str,
+    members: &str,
+) -> Result<String, AllocError> {
+    format!(in alloc;
+        ".class LMain;\n.super Ljava/lang/Object;\n{members}\n.method static main()V\n.registers {registers}\n{body}\n.end method\n"
+    )
+}
+
 /// The text of a program.
-fn text_of(alloc: Global, run: &Run<'_>) -> Result<String, AllocError> {
+fn text_of(alloc: Global, run: &Run) -> Result<String, AllocError> {
     let thread = match run.thread {
         Some((registers, body)) => thread_class(alloc, registers, body)?,
         None => String::new(alloc),
@@ -44,7 +56,7 @@ fn verified<R: Abort>(rt: &R, alloc: Global, text: &str) -> Verified {
     verified.ok().expect(rt, "an accepted program")
 }
 
-fn opened<R: Abort>(rt: &R, alloc: Global, image: &Image, run: &Run<'_>) -> Vm {
+fn opened<R: Abort>(rt: &R, alloc: Global, image: &Image, run: &Run) -> Vm {
     let main = find_main(alloc, image, b"LMain;").ok().expect(rt, "a main");
     Vm::open(alloc, image, main, run.limits)
         .ok()
@@ -133,7 +145,7 @@ fn step<R: Abort>(rt: &R, image: &Image, vm: &mut Vm, thread: u32, text: &str) {
     assert_eq!(rt; vm.steps, before.saturating_add(1), "{text}");
 }
 
-fn take_turns<R: Abort>(rt: &R, image: &Image, vm: &mut Vm, run: &Run<'_>, text: &str) {
+fn take_turns<R: Abort>(rt: &R, image: &Image, vm: &mut Vm, run: &Run, text: &str) {
     for (thread, steps) in run.turns {
         for _ in 0..*steps {
             step(rt, image, vm, *thread, text);
@@ -164,14 +176,14 @@ fn assert_thread<R: Abort>(rt: &R, image: &Image, vm: &Vm, thread: u32, wanted: 
     assert_eq!(rt; vm.blocked(image, thread).is_some(), is_held, "{thread}");
 }
 
-fn assert_threads<R: Abort>(rt: &R, image: &Image, vm: &Vm, run: &Run<'_>, text: &str) {
+fn assert_threads<R: Abort>(rt: &R, image: &Image, vm: &Vm, run: &Run, text: &str) {
     assert_eq!(rt; vm.guest.threads.ends.len(), run.threads.len(), "{text}");
     for (thread, wanted) in (0..64).zip(run.threads) {
         assert_thread(rt, image, vm, thread, *wanted);
     }
 }
 
-fn assert_ended<R: Abort>(rt: &R, image: &Image, vm: &Vm, run: &Run<'_>, text: &str) {
+fn assert_ended<R: Abort>(rt: &R, image: &Image, vm: &Vm, run: &Run, text: &str) {
     let output = str::from_utf8(&vm.guest.output).ok();
     assert_eq!(rt; output, Some(run.output), "{text}");
     assert_eq!(rt; vm.ending(image), Some(run.ending), "{text}");
@@ -182,7 +194,7 @@ fn assert_ended<R: Abort>(rt: &R, image: &Image, vm: &Vm, run: &Run<'_>, text: &
 }
 
 /// A step of a thread that is held up is counted and changes nothing else; one of a thread that has ended isn't counted.
-fn assert_idle<R: Abort>(rt: &R, image: &Image, vm: &mut Vm, run: &Run<'_>) {
+fn assert_idle<R: Abort>(rt: &R, image: &Image, vm: &mut Vm, run: &Run) {
     for (thread, wanted) in (0..64).zip(run.threads) {
         let is_held = matches!(*wanted, Stands::Held(_));
         let steps = vm.steps.saturating_add(u64::from(is_held));
@@ -192,49 +204,52 @@ fn assert_idle<R: Abort>(rt: &R, image: &Image, vm: &mut Vm, run: &Run<'_>) {
 }
 
 /// The image of a program.
-pub fn image_of<R: Abort>(rt: &R, alloc: Global, run: &Run<'_>) -> Verified {
+pub fn image_of<R: Abort>(rt: &R, alloc: Global, run: &Run) -> Verified {
     let text = text_of(alloc, run).ok().expect(rt, "memory");
     verified(rt, alloc, &text)
 }
 
-/// Runs a program to its end, which is the one that is told.
-pub fn assert_run<R: Abort>(rt: &R, alloc: Global, run: &Run<'_>) {
-    let text = text_of(alloc, run).ok().expect(rt, "memory");
-    let verified = verified(rt, alloc, &text);
+/// Runs the program of a text to its end, which is the one that is told.
+pub fn assert_text<R: Abort>(rt: &R, alloc: Global, text: &str, run: &Run) {
+    let verified = verified(rt, alloc, text);
     let image = &verified.image;
     let mut vm = opened(rt, alloc, image, run);
-    take_turns(rt, image, &mut vm, run, &text);
-    run_on(rt, image, &mut vm, run.order, &text);
-    assert_ended(rt, image, &vm, run, &text);
+    take_turns(rt, image, &mut vm, run, text);
+    run_on(rt, image, &mut vm, run.order, text);
+    assert_ended(rt, image, &vm, run, text);
     if run.ending == Ending::NoRunnable || run.ending == Ending::Done {
         assert_idle(rt, image, &mut vm, run);
         let after = Run {
             steps: None,
             ..*run
         };
-        assert_ended(rt, image, &vm, &after, &text);
+        assert_ended(rt, image, &vm, &after, text);
     }
 }
 
-pub fn assert_runs<R: Abort>(rt: &R, alloc: Global, runs: &[Run<'_>]) {
+/// Runs a program to its end, which is the one that is told.
+pub fn assert_run<R: Abort>(rt: &R, alloc: Global, run: &Run) {
+    let text = text_of(alloc, run).ok().expect(rt, "memory");
+    assert_text(rt, alloc, &text, run);
+}
+
+pub fn assert_runs<R: Abort>(rt: &R, alloc: Global, runs: &[Run]) {
     for run in runs {
         assert_run(rt, alloc, run);
     }
 }
 
-/// The registers and the body of a main method, and the class of java.lang of whose exception thread 0 dies.
-pub type Death = (&'static str, &'static str, &'static str);
+/// The registers and the body of a main method, and how it dies.
+pub type Death = (&'static str, &'static str, &'static [Stands<'static>]);
 
-/// Each main method dies of an exception, and prints nothing before.
-pub fn assert_deaths<R: Abort>(rt: &R, alloc: Global, members: &str, deaths: &[Death]) {
-    for (registers, body, name) in deaths {
-        let class = format!(in alloc; "Ljava/lang/{name};");
-        let class = class.ok().expect(rt, "memory");
+/// Each main method dies of its exception, and prints nothing before.
+pub fn assert_deaths<R: Abort>(rt: &R, alloc: Global, members: &'static str, deaths: &[Death]) {
+    for (registers, body, threads) in deaths {
         let run = Run {
             registers: *registers,
             body: *body,
             members,
-            threads: &[Stands::Died(&class)],
+            threads: *threads,
             ..RUN
         };
         assert_run(rt, alloc, &run);

@@ -29,7 +29,7 @@ const INITIALISED: &str = "
     .class LUnder;
     .super LX;";
 
-static LEVELS: [Run<'static>; 8] = [
+static LEVELS: [Run; 8] = [
     // main and 1023 calls are 1024 levels
     Run {
         registers: "1",
@@ -159,7 +159,7 @@ fn stacks_have_levels(rt: HostRuntime) {
     assert_runs(&rt, rt.alloc(), LEVELS.as_slice());
 }
 
-static WORDS: [Run<'static>; 4] = [
+static WORDS: [Run; 4] = [
     // main's registers and those of the method that it calls
     Run {
         registers: "200",

@@ -1,8 +1,10 @@
 // The native methods of texts and of the console, and the boot classes over them.
-use crate::run::{RUN, Run};
+use crate::run::{NULL_POINTER, RUN, Run, Stands};
 use crate::running::{Death, assert_deaths, assert_runs};
 
-static STRINGS: [Run<'static>; 7] = [
+const INDEX: &[Stands<'static>] = &[Stands::Died("Ljava/lang/IndexOutOfBoundsException;")];
+
+static STRINGS: [Run; 7] = [
     // units, surrogates too
     Run {
         registers: "3",
@@ -166,7 +168,7 @@ fn strings_are_made_and_asked(rt: HostRuntime) {
     assert_runs(&rt, rt.alloc(), STRINGS.as_slice());
 }
 
-static SURROGATES: [Run<'static>; 3] = [
+static SURROGATES: [Run; 3] = [
     // alone, and in the wrong order
     Run {
         registers: "1",
@@ -212,7 +214,7 @@ fn surrogates_without_a_partner_are_question_marks(rt: HostRuntime) {
     assert_runs(&rt, rt.alloc(), SURROGATES.as_slice());
 }
 
-static STREAMS: [Run<'static>; 3] = [
+static STREAMS: [Run; 3] = [
     // each print and println
     Run {
         registers: "4",
@@ -300,52 +302,52 @@ static TEXT_DEATHS: [Death; 10] = [
     (
         "2",
         "const-string v0, \"ab\"\nconst/4 v1, 2\ninvoke-virtual {v0, v1}, Ljava/lang/String;->charAt(I)C\nreturn-void",
-        "IndexOutOfBoundsException",
+        INDEX,
     ),
     (
         "2",
         "const-string v0, \"ab\"\nconst/4 v1, -1\ninvoke-virtual {v0, v1}, Ljava/lang/String;->charAt(I)C\nreturn-void",
-        "IndexOutOfBoundsException",
+        INDEX,
     ),
     (
         "2",
         "const-string v0, \"\"\nconst/4 v1, 0\ninvoke-virtual {v0, v1}, Ljava/lang/String;->charAt(I)C\nreturn-void",
-        "IndexOutOfBoundsException",
+        INDEX,
     ),
     (
         "2",
         "const-string v0, \"ab\"\nconst/4 v1, 0\ninvoke-virtual {v0, v1}, Ljava/lang/String;->concat(Ljava/lang/String;)Ljava/lang/String;\nreturn-void",
-        "NullPointerException",
+        NULL_POINTER,
     ),
     (
         "1",
         "const/4 v0, 0\ninvoke-virtual {v0, v0}, Ljava/lang/String;->equals(Ljava/lang/Object;)Z\nreturn-void",
-        "NullPointerException",
+        NULL_POINTER,
     ),
     (
         "1",
         "const/4 v0, 0\ninvoke-static {v0}, Ldvm/Console;->print(Ljava/lang/String;)V\nreturn-void",
-        "NullPointerException",
+        NULL_POINTER,
     ),
     (
         "2",
         "const/4 v0, 0\nconst/4 v1, -1\ninvoke-static {v0, v1, v1}, Ldvm/Text;->ofChars([CII)Ljava/lang/String;\nreturn-void",
-        "NullPointerException",
+        NULL_POINTER,
     ),
     (
         "3",
         "const/4 v0, 2\nnew-array v1, v0, [C\nconst/4 v2, 1\ninvoke-static {v1, v2, v0}, Ldvm/Text;->ofChars([CII)Ljava/lang/String;\nreturn-void",
-        "IndexOutOfBoundsException",
+        INDEX,
     ),
     (
         "3",
         "const/4 v0, 2\nnew-array v1, v0, [C\nconst/4 v2, -1\ninvoke-static {v1, v2, v0}, Ldvm/Text;->ofChars([CII)Ljava/lang/String;\nreturn-void",
-        "IndexOutOfBoundsException",
+        INDEX,
     ),
     (
         "3",
         "const/4 v0, 2\nnew-array v1, v0, [C\nconst/4 v2, -1\ninvoke-static {v1, v0, v2}, Ldvm/Text;->ofChars([CII)Ljava/lang/String;\nreturn-void",
-        "IndexOutOfBoundsException",
+        INDEX,
     ),
 ];
 
@@ -359,17 +361,17 @@ static FAR_DEATHS: [Death; 3] = [
     (
         "3",
         "const/4 v0, 2\nnew-array v1, v0, [C\nconst v2, 0x7fffffff\ninvoke-static {v1, v2, v2}, Ldvm/Text;->ofChars([CII)Ljava/lang/String;\nreturn-void",
-        "IndexOutOfBoundsException",
+        INDEX,
     ),
     (
         "3",
         "const/4 v0, 1\nnew-array v1, v0, [C\nconst v2, 0x7fffffff\ninvoke-static {v1, v0, v2}, Ldvm/Text;->ofChars([CII)Ljava/lang/String;\nreturn-void",
-        "IndexOutOfBoundsException",
+        INDEX,
     ),
     (
         "2",
         "new-instance v0, Ljava/lang/StringBuilder;\nconst/4 v1, 0\ninvoke-direct {v0, v1}, Ljava/lang/StringBuilder;-><init>(Ljava/lang/String;)V\nreturn-void",
-        "NullPointerException",
+        NULL_POINTER,
     ),
 ];
 

@@ -1,5 +1,5 @@
 // Threads that are started, and starts that are refused (the documentation of Thread).
-use crate::run::{AMPLE, RUN, Run, Stands};
+use crate::run::{AMPLE, BOTH_RETURNED, RUN, Run, Stands};
 use crate::running::assert_runs;
 use dv_defs::Limits;
 
@@ -15,9 +15,7 @@ const PRINTS_ONE: Option<(&str, &str)> = Some((
 /// A thread that returns at once.
 const RETURNS: Option<(&str, &str)> = Some(("1", "return-void"));
 
-const RETURNED: &[Stands<'static>] = &[Stands::Returned, Stands::Returned];
-
-static STARTS: [Run<'static>; 7] = [
+static STARTS: [Run; 7] = [
     // a thread that is joined
     Run {
         registers: "1",
@@ -31,7 +29,7 @@ static STARTS: [Run<'static>; 7] = [
             return-void",
         thread: PRINTS_ONE,
         output: "1\n2\n",
-        threads: RETURNED,
+        threads: BOTH_RETURNED,
         // new, three constructors entered and left, start; three of the thread's; and four
         steps: Some(15),
         ..RUN
@@ -48,7 +46,7 @@ static STARTS: [Run<'static>; 7] = [
             return-void",
         thread: PRINTS_ONE,
         output: "2\n1\n",
-        threads: RETURNED,
+        threads: BOTH_RETURNED,
         steps: Some(14),
         ..RUN
     },
@@ -67,7 +65,7 @@ static STARTS: [Run<'static>; 7] = [
         thread: PRINTS_ONE,
         turns: &[(0, 10), (1, 2), (0, 3), (1, 1)],
         output: "2\n1\n3\n",
-        threads: RETURNED,
+        threads: BOTH_RETURNED,
         steps: Some(16),
         ..RUN
     },
@@ -146,7 +144,7 @@ static STARTS: [Run<'static>; 7] = [
             return-void",
         )),
         output: "5\n",
-        threads: RETURNED,
+        threads: BOTH_RETURNED,
         steps: Some(23),
         ..RUN
     },
@@ -175,7 +173,7 @@ static STARTS: [Run<'static>; 7] = [
             return-void",
         )),
         output: "15\n",
-        threads: RETURNED,
+        threads: BOTH_RETURNED,
         ..RUN
     },
 ];
@@ -185,7 +183,7 @@ fn threads_are_started(rt: HostRuntime) {
     assert_runs(&rt, rt.alloc(), STARTS.as_slice());
 }
 
-static REFUSED_STARTS: [Run<'static>; 7] = [
+static REFUSED_STARTS: [Run; 7] = [
     // twice, while it lives
     Run {
         registers: "1",

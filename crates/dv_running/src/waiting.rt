@@ -47,7 +47,7 @@ const NOTIFIES_ALL: &str = "
     monitor-exit v0
     return-void";
 
-static NOTICES: [Run<'static>; 7] = [
+static NOTICES: [Run; 7] = [
     // the oldest is notified, here that of the greater number
     Run {
         registers: "2",
@@ -167,7 +167,7 @@ fn the_oldest_is_notified(rt: HostRuntime) {
     assert_runs(&rt, rt.alloc(), NOTICES.as_slice());
 }
 
-static WAITING: [Run<'static>; 3] = [
+static WAITING: [Run; 3] = [
     // a monitor that was entered twice is given up wholly, and taken back as often
     Run {
         registers: "3",
@@ -240,7 +240,7 @@ fn threads_wait(rt: HostRuntime) {
 }
 
 /// A box that one thread fills and main empties.
-const BOXES: Run<'static> = Run {
+const BOXES: Run = Run {
     registers: "3",
     body: "
         new-instance v0, LBox;
