@@ -1,4 +1,4 @@
-//! Whole texts are read, linked, verified and run step by step: tests that cross crates.
+//! Whole texts are read, linked, verified and run, step by step and in slices: tests that cross crates.
 #![tactic(auto)]
 
 #[cfg(test)]
@@ -41,6 +41,8 @@ mod registers;
 mod run;
 #[cfg(test)]
 mod running;
+#[cfg(test)]
+mod slices;
 #[cfg(test)]
 mod stacks;
 #[cfg(test)]

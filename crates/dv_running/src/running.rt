@@ -1,5 +1,6 @@
 // Programs are linked behind the boot classes, verified, and run step by step.
 use crate::run::{Hold, Order, RUN, Run, Stands};
+use crate::slices::run_in_slices;
 use dv_core::Vm;
 use dv_defs::{Blocked, End, Ending, Image};
 use dv_objects::class_of;
@@ -122,7 +123,7 @@ fn highest(image: &Image, vm: &Vm) -> Option<u32> {
 }
 
 /// The runnable thread that steps, where this one did last.
-fn chosen(image: &Image, vm: &Vm, order: Order, last: u32) -> Option<u32> {
+pub fn chosen(image: &Image, vm: &Vm, order: Order, last: u32) -> Option<u32> {
     match order {
         Order::Lowest => lowest(image, vm, 0),
         Order::Highest => highest(image, vm),
@@ -134,7 +135,7 @@ fn chosen(image: &Image, vm: &Vm, order: Order, last: u32) -> Option<u32> {
 }
 
 /// A step of a runnable thread, which is counted.
-fn step<R: Abort>(rt: &R, image: &Image, vm: &mut Vm, thread: u32, text: &str) {
+pub fn step<R: Abort>(rt: &R, image: &Image, vm: &mut Vm, thread: u32, text: &str) {
     let before = vm.steps;
     assert_eq!(rt; vm.ending(image), None, "{before}: {text}");
     assert!(rt; vm.runnable(image, thread), "{thread} at {before}: {text}");
@@ -209,12 +210,18 @@ pub fn image_of<R: Abort>(rt: &R, alloc: Global, run: &Run) -> Verified {
     verified(rt, alloc, &text)
 }
 
-/// Runs the program of a text to its end, which is the one that is told.
+/// A run behind the turns that are taken first.
+fn begun<R: Abort>(rt: &R, alloc: Global, image: &Image, run: &Run, text: &str) -> Vm {
+    let mut vm = opened(rt, alloc, image, run);
+    take_turns(rt, image, &mut vm, run, text);
+    vm
+}
+
+/// Runs the program of a text to its end, which is the one that is told, step by step and in slices.
 pub fn assert_text<R: Abort>(rt: &R, alloc: Global, text: &str, run: &Run) {
     let verified = verified(rt, alloc, text);
     let image = &verified.image;
-    let mut vm = opened(rt, alloc, image, run);
-    take_turns(rt, image, &mut vm, run, text);
+    let mut vm = begun(rt, alloc, image, run, text);
     run_on(rt, image, &mut vm, run.order, text);
     assert_ended(rt, image, &vm, run, text);
     if run.ending == Ending::NoRunnable || run.ending == Ending::Done {
@@ -225,6 +232,9 @@ pub fn assert_text<R: Abort>(rt: &R, alloc: Global, text: &str, run: &Run) {
         };
         assert_ended(rt, image, &vm, &after, text);
     }
+    let mut sliced = begun(rt, alloc, image, run, text);
+    run_in_slices(rt, image, &mut sliced, run.order, text);
+    assert_ended(rt, image, &sliced, run, text);
 }
 
 /// Runs a program to its end, which is the one that is told.
