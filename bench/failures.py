@@ -1,9 +1,9 @@
 #!/usr/bin/env python3
-"""Makes each allocation, read and write of `dvm verify` fail in turn, on each example, and counts how the runs end.
+"""Makes each allocation, read and write of the program fail in turn, on each example with its words, and counts how the runs end.
 
 A run whose allocation fails must end with status 11 and print nothing, or as the run in which nothing fails, where the program does without;
 one whose read fails with status 3 and nothing printed; one whose write fails with status 4 and a front of the text. Needs a C compiler.
-Usage: bench/failures.py [PROGRAM [EXAMPLE ..]], where PROGRAM is a built `dvm` (crates/dvm/out/dvm).
+Usage: bench/failures.py [PROGRAM [NAME ..]], where PROGRAM is a built `dvm` (crates/dvm/out/dvm), and NAME.words of examples/ has the words.
 """
 import collections
 import os
@@ -12,14 +12,15 @@ import sys
 import tempfile
 
 TOP = os.path.dirname(os.path.dirname(os.path.abspath(__file__)))
+EXAMPLES = f"{TOP}/examples"
 
 
-def run(program, text, shim, **failing):
+def run(program, name, shim, **failing):
     """The status and what is printed, where failing says what fails."""
-    with open(text, "rb") as source:
-        done = subprocess.run(
-            [program, "verify"], stdin=source, capture_output=True, env={**os.environ, "LD_PRELOAD": shim, **failing}
-        )
+    with open(f"{EXAMPLES}/{name}.words", encoding="ascii") as file:
+        words = file.read().split()
+    with open(f"{EXAMPLES}/{name.partition('.')[0]}.smali", "rb") as source:
+        done = subprocess.run([program, *words], stdin=source, capture_output=True, env={**os.environ, "LD_PRELOAD": shim, **failing})
     return done.returncode, done.stdout
 
 
@@ -38,19 +39,19 @@ def judged(kind, whole, got):
 
 def main():
     program = sys.argv[1] if len(sys.argv) > 1 else f"{TOP}/crates/dvm/out/dvm"
-    texts = sys.argv[2:] or sorted(f"{TOP}/examples/{name}" for name in os.listdir(f"{TOP}/examples") if name.endswith(".smali"))
+    names = sys.argv[2:] or sorted(file[:-6] for file in os.listdir(EXAMPLES) if file.endswith(".words"))
     wrong = 0
     with tempfile.TemporaryDirectory() as room:
         shim = f"{room}/failures.so"
         subprocess.run(["cc", "-O1", "-fPIC", "-shared", "-o", shim, f"{TOP}/bench/failures.c"], check=True)
-        for text in texts:
-            whole = run(program, text, shim, COUNTS=f"{room}/counts")
+        for name in names:
+            whole = run(program, name, shim, COUNTS=f"{room}/counts")
             with open(f"{room}/counts", encoding="ascii") as file:
                 counts = dict(zip(("FAIL_ALLOC", "FAIL_READ", "FAIL_WRITE"), map(int, file.read().split())))
             for kind, count in counts.items():
-                ends = collections.Counter(judged(kind, whole, run(program, text, shim, **{kind: str(n)})) for n in range(1, count + 1))
+                ends = collections.Counter(judged(kind, whole, run(program, name, shim, **{kind: str(n)})) for n in range(1, count + 1))
                 wrong += ends["WRONG"]
-                print(os.path.basename(text), kind[5:].lower(), count, dict(ends), flush=True)
+                print(name, kind[5:].lower(), count, dict(ends), flush=True)
     sys.exit(wrong != 0)
 
 

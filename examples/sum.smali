@@ -1,3 +1,4 @@
+# Two and three are added, and the sum is printed.
 .class LMain;
 .super Ljava/lang/Object;
 .method static main()V

@@ -21,7 +21,7 @@ use Rattle.dv_words.specs.Words.{word_at}
 use Rattle.dv_steps.specs.Answering.{IsAtInsn, IsStackOf, Leads, LeavesStack}
 use Rattle.dv_steps.specs.Local.{reg_word, word_local}
 use Rattle.dv_steps.specs.Mem.{WordHere, WordLeft, word_mem}
-use Rattle.dv_steps.specs.Stepping.{Answered, StepsLocally}
+use Rattle.dv_steps.specs.Stepping.{Answered, KeysRise, StepsLocally}
 use Rattle.dv_steps.specs.Steps.{At, Left, carried, leaves, mem_here, mem_left, with_heap, with_left, with_monitors}
 use Rattle.dv_mem.specs.Operands.{AreOperands}
 use Rattle.dv_mem.specs.Stepping.{GoesOnAt, is_mem}
@@ -186,11 +186,11 @@ module _ (i : Image) (lim : Limits) (old : Guest) (thread : ℕ) (own : WordThre
 
   module _ (new : Guest) (ends : new.threads.ends.items ≡ old.threads.ends.items) (objects : new.threads.objects.items ≡ old.threads.objects.items)
       (stacks : new.threads.stacks.items ≡ slice_set old.threads.stacks.items thread r) (shared : shared_of new ≡ shared_of old) where
-    pub local_went : b ≡ true → Leaves old new own h (leaves h.shared (level.Code (word_local x.op h.frame h.next) ∷ h.rest))
-    local_went e =
+    pub local_went : KeysRise x.op → b ≡ true → Leaves old new own h (leaves h.shared (level.Code (word_local x.op h.frame h.next) ∷ h.rest))
+    local_went keys e =
         wrote i lim old thread own h seen new ends objects r (leaves h.shared (level.Code (word_local x.op h.frame h.next) ∷ h.rest)) stacks
         (ap bounds top.only_top ∙ has_bounds i lim old thread own h seen s there)
-        (levels_are ∙ ((λ j. level.Code (top.becomes.goes x fetched (local_is ∙ e) j) ∷ h.rest) ∙ (λ j. level.Code (word_local x.op h.frame (sym at.next j)) ∷ h.rest)))
+        (levels_are ∙ ((λ j. level.Code (top.becomes.goes x fetched (local_is ∙ e) keys j) ∷ h.rest) ∙ (λ j. level.Code (word_local x.op h.frame (sym at.next j)) ∷ h.rest)))
         (seen.shared ∙ sym shared) refl
 
     pub local_stayed : b ≡ false → Stays lim old new

@@ -17,7 +17,7 @@ use Rattle.dv_words.specs.declared.state.Level.{Level}
 use Rattle.dv_words.specs.declared.state.Level.TheVariants as level
 use Rattle.dv_words.specs.Standing.{FrameStands, HeapStands, LevelsStand, SharedStands}
 use Rattle.dv_words.specs.State.{WordMachine, WordShared, WordThread}
-use Rattle.dv_steps.specs.StepLaws.{CallFits, StringsFit}
+use Rattle.dv_steps.specs.StepLaws.{AllKeysRise, CallFits, StringsFit}
 use Rattle.dv_steps.specs.Steps.{At, mem_here}
 use Rattle.dv_steps.proofs.Fitting.{fetched_operands_fit}
 use Rattle.dv_mem.proofs.Typed.{operands_stand}
@@ -39,6 +39,7 @@ use Rattle.dv_core.proofs.Stands.{matched}
 record IsGiven (image : Image) (T : Typings) (w : WordMachine) (m : Machine) : Type 0 where
   accepted : Accepted image T
   strings : StringsFit image
+  keys : AllKeysRise image
   simulated : IsSimulated image T w m
 
 -- the native that an instruction runs finds its arguments
@@ -63,6 +64,7 @@ module _ (T : Typings) (v : Vm) (m : Machine) (room : HasRoom v.limits) (few : v
       let fits = fetched_operands_fit h.image (accepted_images_fit h.image T given.accepted) given.strings met.frame.method.0 met.frame.at x found in
       let shared : SharedStands h.shared m.shared = subst (λ (s : WordShared). SharedStands s m.shared) (sym seen.shared) sim.stands.shared in
       record {
+        keys = given.keys h.frame.method.0 h.frame.at x at.fetched;
         call = fits.1;
         caller = caller_stands h.image met.method h.rest met.below met.rest_stands met.called;
         operands = operands_stand h.image T m.shared.heap _ met.frame x (mem_here h) given.accepted sim.typed.heap met.placed found fits.0 met.stands shared.heap;
@@ -88,8 +90,8 @@ module _ (T : Typings) (v : Vm) (m : Machine) (room : HasRoom v.limits) (few : v
       ap (λ (cs : Classes). state_at cs c.0) classes ∙ now ∙ ap InProgress (sym seen.number)
 
 pub steps_fit : StepsFit
-steps_fit image T v m t acc strings sim ordered room few =
-    let given : IsGiven image T (machine_of v) m = record { accepted = acc; strings = strings; simulated = sim } in
+steps_fit image T v m t acc strings keys sim ordered room few =
+    let given : IsGiven image T (machine_of v) m = record { accepted = acc; strings = strings; keys = keys; simulated = sim } in
     record {
       ordered = ordered;
       few = few;

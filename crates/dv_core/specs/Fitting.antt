@@ -6,6 +6,7 @@ use Rattle.dv_defs.specs.Classes.{InProgress, state_at}
 use Rattle.dv_defs.specs.Op.{Op, Invoke}
 use Rattle.dv_steps.specs.Local.{reg_word}
 use Rattle.dv_steps.specs.StepLaws.{CallFits}
+use Rattle.dv_steps.specs.Stepping.{KeysRise}
 use Rattle.dv_steps.specs.Steps.{At, mem_here}
 use Rattle.dv_monitor.specs.State.{count_of}
 use Rattle.dv_mem.specs.Operands.{AreOperands}
@@ -26,6 +27,7 @@ ArgumentsFit h op = Unit {0}
 
 -- at an instruction
 pub record StepFits (h : At) (op : Op) : Type 0 where
+  pub keys : KeysRise op
   pub call : CallFits h.image op
   pub caller : CallerStands h
   pub operands : AreOperands (mem_here h) op

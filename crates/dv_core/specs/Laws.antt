@@ -4,15 +4,15 @@ use Rattle.dv_defs.specs.Images.{Image}
 use Rattle.dv_machine.specs.Accepted.{Accepted}
 use Rattle.dv_machine.specs.State.{Machine}
 use Rattle.dv_machine.specs.WellTyped.{Typings}
-use Rattle.dv_steps.specs.StepLaws.{StringsFit}
+use Rattle.dv_steps.specs.StepLaws.{AllKeysRise, StringsFit}
 use Rattle.dv_simulation.specs.Laws.{IsSimulated}
 use Rattle.dv_threads.specs.Kept.{HasRoom}
 use Rattle.dv_core.specs.declared.vm.Vm.{Vm}
 use Rattle.dv_core.specs.Guests.{IsOrdered}
 use Rattle.dv_core.specs.Machines.{IsSteppable, machine_of}
 
--- of an accepted image whose strings have UTF-16 units; the steps are counted on, and a stack has room for a frame
+-- of an accepted image whose strings have UTF-16 units and in whose switches keys rise; the steps are counted on, and a stack has room for a frame
 abbrev pub StepsFit : Type 0
 StepsFit =
-    (image : Image) (T : Typings) (v : Vm) (m : Machine) (t : ℕ) → Accepted image T → StringsFit image → IsSimulated image T (machine_of v) m →
-    IsOrdered v.limits v.guest → HasRoom v.limits → v.steps < 2 ^ 64 - 1 → IsSteppable image v t
+    (image : Image) (T : Typings) (v : Vm) (m : Machine) (t : ℕ) → Accepted image T → StringsFit image → AllKeysRise image →
+    IsSimulated image T (machine_of v) m → IsOrdered v.limits v.guest → HasRoom v.limits → v.steps < 2 ^ 64 - 1 → IsSteppable image v t

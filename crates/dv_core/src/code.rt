@@ -21,6 +21,7 @@ ghost use Rattle.dv_steps.specs.Local.{reg_word, word_local};
 ghost use Rattle.dv_steps.specs.Natives as natives;
 ghost use Rattle.dv_steps.specs.Step as steps;
 ghost use Rattle.dv_steps.specs.Step.{with_ready};
+ghost use Rattle.dv_steps.specs.Stepping.{KeysRise};
 ghost use Rattle.dv_steps.specs.Steps.{At, leaves, mem_here, mem_left};
 ghost use Rattle.dv_steps.specs.Threads as threads;
 ghost use Rattle.dv_mem.specs.Operands.{AreOperands};
@@ -71,10 +72,10 @@ pub fn step_code(
     }
 }
 
-/// Does the instruction on top where it touches its frame alone.
+/// Does the instruction on top where it touches its frame alone. A switch's keys rise in accepted code.
 fn step_locally(image: &Image, guest: &mut Guest, thread: u32) -> bool
     ensures local { (l : Bounds) (own : WordThread) (h : At) (x : statics.At) → IsSeen image.now l guest.old thread own h → IsAtOp own h x → ops.is_local x.op ≡ result }
-    ensures does { (l : Bounds) (own : WordThread) (h : At) (x : statics.At) → IsSeen image.now l guest.old thread own h → IsAtOp own h x → result ≡ true → Leaves guest.old guest.new own h (leaves h.shared (level.Code (word_local x.op h.frame h.next) ∷ h.rest)) }
+    ensures does { (l : Bounds) (own : WordThread) (h : At) (x : statics.At) → IsSeen image.now l guest.old thread own h → IsAtOp own h x → KeysRise x.op → result ≡ true → Leaves guest.old guest.new own h (leaves h.shared (level.Code (word_local x.op h.frame h.next) ∷ h.rest)) }
     ensures stays { (l : Bounds) (own : WordThread) (h : At) (x : statics.At) → IsSeen image.now l guest.old thread own h → IsAtOp own h x → result ≡ false → Stays l guest.old guest.new }
 {
     let place = thread as usize;

@@ -1,5 +1,5 @@
 -- What holds of each linked image, as statements.
-use Rattle.std.specs.Prelude.{◌≡◌, ℕ, true, false, List, Some, slice_get, bytes_eq, find}
+use Rattle.std.specs.Prelude.{◌≡◌, ℕ, true, false, List, Some, slice_get, bytes_eq, codes, find}
 use Rattle.dv_defs.specs.declared.image.ClassInfo.{ClassInfo}
 use Rattle.dv_defs.specs.declared.names.Proto.{Proto}
 use Rattle.dv_defs.specs.declared.names.Ty.{Ty}
@@ -7,14 +7,15 @@ use Rattle.dv_defs.specs.Accepting.{Accepts}
 use Rattle.dv_defs.specs.Images.{Image}
 use Rattle.dv_defs.specs.Linked.{IsImage}
 use Rattle.dv_defs.specs.Joins.{common_super}
-use Rattle.dv_defs.specs.Names.{init_name}
+use Rattle.dv_defs.specs.Names.{init_name, string_name, throwable_name}
 use Rattle.dv_defs.specs.Order.{sub}
-use Rattle.dv_defs.specs.Pools.{Method}
-use Rattle.dv_defs.specs.Types.{is_reference}
+use Rattle.dv_defs.specs.Pools.{Field, Method, class_type, field_at, is_interface, is_static_field}
+use Rattle.dv_defs.specs.Types.{is_reference, of_class}
 use Rattle.dv_linklaws.specs.Landing.{has_key_at, landing_of}
 use Rattle.dv_defs.specs.declared.run.Limits.{Limits}
 use Rattle.dv_orders.specs.Hierarchy.{IsOrder}
 use Rattle.dv_machine.specs.StepLaws.{IsMain}
+use Rattle.dv_machine.specs.Unwinding.{throwable_slot}
 use Rattle.dv_laws.specs.Bridge.{HasLinking}
 use Rattle.dv_laws.specs.Running.{NeverGoesWrong}
 
@@ -44,6 +45,21 @@ LinkedTablesAgree =
     (image : Image) → IsImage image → (c : ℕ) (info : ClassInfo) → slice_get image.classes c ≡ Some info →
     (name : List ℕ) (p : Proto) → bytes_eq name init_name ≡ false →
     find (has_key_at image name p) info.table ≡ landing_of image c name p
+
+-- the message of a Throwable: an instance field, whose cell is found by its name
+pub record HasMessage (image : Image) : Type 0 where
+  pub id : ℕ
+  pub field : Field
+  pub at : field_at image id ≡ Some field
+  pub placed : is_static_field field ≡ false
+  pub concrete : is_interface image field.info.class.0 ≡ false
+  pub class : class_type image field.info.class.0 ≡ of_class throwable_name
+  pub ty : field.def.ty ≡ of_class string_name
+  pub slot : throwable_slot image (codes "message") ≡ field.info.slot
+
+-- it is a String
+abbrev pub LinkedMessagesAreStrings : Type 0
+LinkedMessagesAreStrings = (image : Image) → IsImage image → HasMessage image
 
 -- and where the verifier accepts it, no run is ever stuck
 abbrev pub LinkedRunsNeverGoWrong : Type 0

@@ -2,7 +2,7 @@
 #![tactic(auto)]
 
 ghost use Rattle.dv_linked.specs.Examples.{ExamplesAreLinked, ExamplesAreAccepted};
-ghost use Rattle.dv_linked.specs.Laws.{LinkedImagesHaveLinking, LinkedTypesAreOrdered, LinkedTypesHaveCommon, LinkedTablesAgree, LinkedRunsNeverGoWrong};
+ghost use Rattle.dv_linked.specs.Laws.{LinkedImagesHaveLinking, LinkedTypesAreOrdered, LinkedTypesHaveCommon, LinkedTablesAgree, LinkedMessagesAreStrings, LinkedRunsNeverGoWrong};
 
 /// Each image that linking gives is what the laws of the machine take of an image.
 pub fn linked_images_have_linking()
@@ -22,6 +22,11 @@ pub fn linked_types_have_common()
 /// There the table of a class agrees with look-up at every place.
 pub fn linked_tables_agree()
     ensures law { LinkedTablesAgree }
+{}
+
+/// There Throwable declares its message, an instance field of type String.
+pub fn linked_messages_are_strings()
+    ensures law { LinkedMessagesAreStrings }
 {}
 
 /// No run of a main method of a linked image that the verifier accepts is ever stuck, on any schedule.

@@ -13,6 +13,7 @@ use Rattle.dv_defs.specs.Tiling.{Tile, payload_at}
 use Rattle.dv_machine.specs.Local.{case_of}
 use Rattle.dv_steps.specs.Fetching.{IsSpelled}
 use Rattle.dv_steps.specs.Local.{branched, int_at, word_local}
+use Rattle.dv_steps.specs.Stepping.{AreRising, KeysRise}
 use Rattle.dv_words.specs.Stacks.{gone}
 use Rattle.dv_words.specs.declared.state.Frame.{Frame}
 use Rattle.dv_local.specs.declared.here.Here.{Here}
@@ -67,7 +68,7 @@ pub did_one : (h : Here) (n : ℕ) (i : Insn) (fam : Family) (o : Op) (s t : Fra
 did_one h n i fam o s t is f one local e = record {
   method = ap (λ (g : Frame). g.method) e ∙ keeps_method o s (h.at + n);
   local = λ op next x. subst (λ (p : Op). is_local p ≡ true) (same op next x) local;
-  goes = λ op next x. e ∙ ap (λ (p : Op). word_local p s (h.at + n)) (same op next x) ∙ ap (word_local op s) (sym ((resolves h n i fam op next is f x).1));
+  goes = λ op next x rise. e ∙ ap (λ (p : Op). word_local p s (h.at + n)) (same op next x) ∙ ap (word_local op s) (sym ((resolves h n i fam op next is f x).1));
 }
   where
     same : (op : Op) (next : ℕ) → IsOpHere h op next → o ≡ op
@@ -132,22 +133,29 @@ module _ (h : Here) (s t : Frame) (a to n : ℕ) (goes : t ≡ gone s to) where
   abbrev Leads : List Case → Type 0
   Leads cases = to ≡ case_of cases (int_at s a) n
 
-  at_switch : (cases : List Case) (op : Op) → Leads cases → (let o : Op = Switch a cases in o) ≡ op → (is_local op ≡ true) × (t ≡ word_local op s n)
-  at_switch cases op l e = (subst (λ (o : Op). is_local o ≡ true) e refl, goes ∙ ap (gone s) l ∙ ap (λ (o : Op). word_local o s n) e)
+  -- a local instruction that is done where its keys rise
+  abbrev Goes : Op → ℕ → Type 0
+  Goes op next = (is_local op ≡ true) × (KeysRise op → t ≡ word_local op s next)
+
+  at_switch : (cases : List Case) (op : Op) → (AreRising cases → Leads cases) → (let o : Op = Switch a cases in o) ≡ op → Goes op n
+  at_switch cases op l e = (
+    subst (λ (o : Op). is_local o ≡ true) e refl,
+    λ rise. goes ∙ ap (gone s) (l (subst (λ (o : Op). KeysRise o) (sym e) rise)) ∙ ap (λ (o : Op). word_local o s n) e,
+  )
 
   abbrev PackedLead : List ℕ → ℕ → Type 0
   PackedLead units place = (first : ℤ) (targets : List ℤ) → IsSpelled units place (payload.Packed first targets) → Leads (cases_packed h.at first targets)
 
   abbrev SparseLead : List ℕ → ℕ → Type 0
-  SparseLead units place = (keys targets : List ℤ) → IsSpelled units place (payload.Sparse keys targets) → Leads (cases_sparse h.at keys targets)
+  SparseLead units place = (keys targets : List ℤ) → IsSpelled units place (payload.Sparse keys targets) → AreRising (cases_sparse h.at keys targets) → Leads (cases_sparse h.at keys targets)
 
-  at_packed : (place : ℕ) (o : Option Payload) (op : Op) → ((p : Payload) → o ≡ Some p → IsSpelled h.units.now place p) → PackedLead h.units.now place → packed_op h.at a o ≡ Ok op → (is_local op ≡ true) × (t ≡ word_local op s n)
+  at_packed : (place : ℕ) (o : Option Payload) (op : Op) → ((p : Payload) → o ≡ Some p → IsSpelled h.units.now place p) → PackedLead h.units.now place → packed_op h.at a o ≡ Ok op → Goes op n
   at_packed place None op there l e = absurd (cc)
   at_packed place (Some (payload.Sparse ks ts)) op there l e = absurd (cc)
   at_packed place (Some (payload.Data w bs)) op there l e = absurd (cc)
-  at_packed place (Some (payload.Packed k ts)) op there l e = at_switch (cases_packed h.at k ts) op (l k ts (there (payload.Packed k ts) refl)) (same_op _ op e)
+  at_packed place (Some (payload.Packed k ts)) op there l e = at_switch (cases_packed h.at k ts) op (λ rise. l k ts (there (payload.Packed k ts) refl)) (same_op _ op e)
 
-  at_sparse : (place : ℕ) (o : Option Payload) (op : Op) → ((p : Payload) → o ≡ Some p → IsSpelled h.units.now place p) → SparseLead h.units.now place → sparse_op h.at a o ≡ Ok op → (is_local op ≡ true) × (t ≡ word_local op s n)
+  at_sparse : (place : ℕ) (o : Option Payload) (op : Op) → ((p : Payload) → o ≡ Some p → IsSpelled h.units.now place p) → SparseLead h.units.now place → sparse_op h.at a o ≡ Ok op → Goes op n
   at_sparse place None op there l e = absurd (cc)
   at_sparse place (Some (payload.Packed k ts)) op there l e = absurd (cc)
   at_sparse place (Some (payload.Data w bs)) op there l e = absurd (cc)
@@ -157,11 +165,11 @@ module _ (h : Here) (s t : Frame) (a to n : ℕ) (goes : t ≡ gone s to) where
   spelled : (op : Op) (next : ℕ) (x : IsOpHere h op next) (place : ℕ) (p : Payload) → payload_at x.code.tiles place ≡ Some p → IsSpelled h.units.now place p
   spelled op next x place p e = payloads_are_there h.units.now place p (ap (λ (ts : List Tile). payload_at ts place) (sym x.tiles) ∙ e)
 
-  did_all : ((op : Op) (next : ℕ) → IsOpHere h op next → (is_local op ≡ true) × (t ≡ word_local op s next)) → Did h s t
+  did_all : ((op : Op) (next : ℕ) → IsOpHere h op next → Goes op next) → Did h s t
   did_all all = record { method = ap (λ (g : Frame). g.method) goes; local = λ op next x. (all op next x).0; goes = λ op next x. (all op next x).1 }
 
-  at_next : (op : Op) (next : ℕ) → next ≡ n → (is_local op ≡ true) × (t ≡ word_local op s n) → (is_local op ≡ true) × (t ≡ word_local op s next)
-  at_next op next e r = (r.0, r.1 ∙ ap (word_local op s) (sym e))
+  at_next : (op : Op) (next : ℕ) → next ≡ n → Goes op n → Goes op next
+  at_next op next e r = (r.0, λ rise. r.1 rise ∙ ap (word_local op s) (sym e))
 
   pub did_packed : (size : ℕ) (i : Insn) → n ≡ h.at + size → reg i 0 ≡ a → IsInsn h size i → family_at i.op ≡ Some Family.PackedSwitch → PackedLead h.units.now (jump h.at i.off) → Did h s t
   did_packed size i sized named is f l = did_all (λ op next x.

@@ -4,4 +4,5 @@ pub mod Looping
 pub mod NoCode
 pub mod Opcodes
 pub mod Payloads
+pub mod Searching
 pub mod Switches

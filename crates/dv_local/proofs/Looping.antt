@@ -11,7 +11,7 @@ use Rattle.dv_defs.specs.Op.{Op, is_local}
 use Rattle.dv_defs.specs.Statics.{At, fetch}
 use Rattle.dv_defs.specs.Tiling.{tiles_in, tiling}
 use Rattle.dv_steps.specs.Local.{word_local}
-use Rattle.dv_steps.specs.Stepping.{RanLocally, StepsLocally, local_by, local_here, locals_here, on_frame}
+use Rattle.dv_steps.specs.Stepping.{KeysRise, KeysRiseAmong, RanLocally, StepsLocally, local_by, local_here, locals_here, on_frame}
 use Rattle.dv_steps.proofs.Fetching.{is_fetched, read_here, tiles_are}
 use Rattle.dv_words.specs.declared.state.Frame.{Frame}
 use Rattle.dv_local.specs.declared.here.Here.{Here}
@@ -30,7 +30,7 @@ module _ (h : Here) (done : Bool) (s t : Frame) (at : s.at ≡ h.at) (split : dr
   stepped d = record {
     method = d.method;
     local = λ op next x. d.local op next (op_here op next x);
-    goes = λ op next x e. d.goes op next (op_here op next x) e;
+    goes = λ op next x e rise. d.goes op next (op_here op next x) e rise;
     stays = d.stays;
   }
 
@@ -46,7 +46,7 @@ pub past_end : (units : List ℕ) (s : Frame) → length units ≤ s.at → Step
 past_end units s l = record {
   method = refl;
   local = λ op next x. absurd (none op next x);
-  goes = λ op next x e. absurd (cc e);
+  goes = λ op next x e rise. absurd (cc e);
   stays = λ e. refl;
 }
   where
@@ -77,7 +77,7 @@ fetched_op image n at units x u e =
 pub steps_locally : (image : Image) (units : List ℕ) (done : Bool) (s t : Frame) → HasUnits image s.method.0 units → SteppedUnits units done s t → StepsLocally image done s t
 steps_locally image units done s t u d = record {
   local = λ x e. d.local x.op x.next (fetched_op image s.method.0 s.at units x u e);
-  goes = λ x e l. d.goes x.op x.next (fetched_op image s.method.0 s.at units x u e) (sym (d.local x.op x.next (fetched_op image s.method.0 s.at units x u e)) ∙ l);
+  goes = λ x e l rise. d.goes x.op x.next (fetched_op image s.method.0 s.at units x u e) (sym (d.local x.op x.next (fetched_op image s.method.0 s.at units x u e)) ∙ l) rise;
   stays = d.stays;
 }
 
@@ -87,12 +87,12 @@ steps_locally image units done s t u d = record {
 pub record Reached (units : List ℕ) (n : ℕ) (s t : Frame) : Type 0 where
   pub method : t.method ≡ s.method
   pub local :
-      (image : Image) → HasUnits image s.method.0 units → (k : ℕ) (u : Frame) (x : At) → k < n → locals_here image k s ≡ Some u →
-      fetch image u.method.0 u.at ≡ Some x → is_local x.op ≡ true
-  pub there : (image : Image) → HasUnits image s.method.0 units → (u : Frame) → locals_here image n s ≡ Some u → t ≡ u
+      (image : Image) → HasUnits image s.method.0 units → (k : ℕ) (u : Frame) (x : At) → k < n → KeysRiseAmong image k s →
+      locals_here image k s ≡ Some u → fetch image u.method.0 u.at ≡ Some x → is_local x.op ≡ true
+  pub there : (image : Image) → HasUnits image s.method.0 units → KeysRiseAmong image n s → (u : Frame) → locals_here image n s ≡ Some u → t ≡ u
 
 pub reached_start : (units : List ℕ) (s : Frame) → Reached units 0 s s
-reached_start units s = record { method = refl; local = λ image u k v x l e f. absurd (omega (arith, l)); there = λ image u v e. same_Some s v e }
+reached_start units s = record { method = refl; local = λ image u k v x l rise e f. absurd (omega (arith, l)); there = λ image u rise v e. same_Some s v e }
 
 has_units_of : (image : Image) (m n : MethodId) (units : List ℕ) → m ≡ n → HasUnits image n.0 units → HasUnits image m.0 units
 has_units_of image m n units e u = subst (λ (k : MethodId). HasUnits image k.0 units) (sym e) u
@@ -100,10 +100,11 @@ has_units_of image m n units e u = subst (λ (k : MethodId). HasUnits image k.0 
 abbrev by_local : Bool → Frame → Option Frame
 by_local b f = elim b [ true ↦ Some f | false ↦ None ]
 
-module _ (image : Image) (units : List ℕ) (t v : Frame) (u : HasUnits image t.method.0 units) (d : SteppedUnits units true t v) where
+module _ (image : Image) (units : List ℕ) (t v : Frame) (u : HasUnits image t.method.0 units) (d : SteppedUnits units true t v)
+    (rise : (x : At) → fetch image t.method.0 t.at ≡ Some x → KeysRise x.op) where
   local_op : (x : At) (b : Bool) (w : Frame) → fetch image t.method.0 t.at ≡ Some x → by_local b (word_local x.op t x.next) ≡ Some w → v ≡ w
   local_op x false w f e = absurd (cc e)
-  local_op x true w f e = d.goes x.op x.next (fetched_op image t.method.0 t.at units x u f) refl ∙ same_Some _ w e
+  local_op x true w f e = d.goes x.op x.next (fetched_op image t.method.0 t.at units x u f) refl (rise x f) ∙ same_Some _ w e
 
   local_at : (o : Option At) (w : Frame) → fetch image t.method.0 t.at ≡ o → local_by o t ≡ Some w → v ≡ w
   local_at None w f e = absurd (cc e)
@@ -116,28 +117,29 @@ pub reached_on : (units : List ℕ) (n : ℕ) (s t v : Frame) → Reached units 
 reached_on units n s t v r d =
     record {
       method = d.method ∙ r.method;
-      local = λ image u k w x l e f. each image u k w x (nat_lt k n) refl l e f;
-      there = λ image u w e. by image u w (locals_here image n s) refl e;
+      local = λ image u k w x l rise e f. each image u k w x (nat_lt k n) refl l rise e f;
+      there = λ image u rise w e. by image u rise w (locals_here image n s) refl e;
     }
   where
     -- the last one stands where those before it led
-    last : (image : Image) → HasUnits image s.method.0 units → (w : Frame) (x : At) → locals_here image n s ≡ Some w → fetch image w.method.0 w.at ≡ Some x → is_local x.op ≡ true
-    last image u w x e f =
-        let same : t ≡ w = r.there image u w e in
+    last : (image : Image) → HasUnits image s.method.0 units → (w : Frame) (x : At) → KeysRiseAmong image n s → locals_here image n s ≡ Some w → fetch image w.method.0 w.at ≡ Some x → is_local x.op ≡ true
+    last image u w x rise e f =
+        let same : t ≡ w = r.there image u rise w e in
         let here : fetch image t.method.0 t.at ≡ Some x = subst (λ (p : Frame). fetch image p.method.0 p.at ≡ Some x) (sym same) f in
         d.local x.op x.next (fetched_op image t.method.0 t.at units x (has_units_of image t.method s.method units r.method u) here)
 
-    each : (image : Image) → HasUnits image s.method.0 units → (k : ℕ) (w : Frame) (x : At) (b : Bool) → nat_lt k n ≡ b → k < suc n → locals_here image k s ≡ Some w → fetch image w.method.0 w.at ≡ Some x → is_local x.op ≡ true
-    each image u k w x true before l e f = r.local image u k w x (ltb-true k n before) e f
-    each image u k w x false before l e f =
+    each : (image : Image) → HasUnits image s.method.0 units → (k : ℕ) (w : Frame) (x : At) (b : Bool) → nat_lt k n ≡ b → k < suc n → KeysRiseAmong image k s → locals_here image k s ≡ Some w → fetch image w.method.0 w.at ≡ Some x → is_local x.op ≡ true
+    each image u k w x true before l rise e f = r.local image u k w x (ltb-true k n before) rise e f
+    each image u k w x false before l rise e f =
         let same : k ≡ n = let late = ltb-false k n before in omega (arith, l, late) in
-        last image u w x (sym (ap (λ (j : ℕ). locals_here image j s) same) ∙ e) f
+        last image u w x (subst (λ (j : ℕ). KeysRiseAmong image j s) same rise) (sym (ap (λ (j : ℕ). locals_here image j s) same) ∙ e) f
 
-    by : (image : Image) → HasUnits image s.method.0 units → (w : Frame) (o : Option Frame) → locals_here image n s ≡ o → on_frame o (local_here image) ≡ Some w → v ≡ w
-    by image u w None f e = absurd (cc e)
-    by image u w (Some p) f e =
-        let same : t ≡ p = r.there image u p f in
-        local_next image units t v (has_units_of image t.method s.method units r.method u) d w (ap (local_here image) same ∙ e)
+    by : (image : Image) → HasUnits image s.method.0 units → KeysRiseAmong image (suc n) s → (w : Frame) (o : Option Frame) → locals_here image n s ≡ o → on_frame o (local_here image) ≡ Some w → v ≡ w
+    by image u rise w None f e = absurd (cc e)
+    by image u rise w (Some p) f e =
+        let same : t ≡ p = r.there image u (λ k q x l. rise k q x (omega (arith, l))) p f in
+        let here : (x : At) → fetch image t.method.0 t.at ≡ Some x → KeysRise x.op = λ x g. rise n p x (omega arith) f (subst (λ (q : Frame). fetch image q.method.0 q.at ≡ Some x) same g) in
+        local_next image units t v (has_units_of image t.method s.method units r.method u) d here w (ap (local_here image) same ∙ e)
 
 -- all that may be done was done
 pub ran_all : (units : List ℕ) (most : ℕ) (s t : Frame) → Reached units most s t → RanUnits units most most s t

@@ -23,15 +23,15 @@ nothing_fetched image n at x none e = let d : None ≡ Some x = sym (ap (fetch_i
 pub no_step : (image : Image) (s : Frame) → code_at image s.method.0 ≡ None → StepsLocally image false s s
 no_step image s none = record {
   local = λ x e. absurd (nothing_fetched image s.method.0 s.at x none e);
-  goes = λ x e l. absurd (nothing_fetched image s.method.0 s.at x none e);
+  goes = λ x e l rise. absurd (nothing_fetched image s.method.0 s.at x none e);
   stays = λ e. refl;
 }
 
 pub no_run : (image : Image) (most : ℕ) (s : Frame) → code_at image s.method.0 ≡ None → RanLocally image most 0 s s
 no_run image most s none = record {
   few = omega arith;
-  local = λ k u x l e f. absurd (omega (arith, l));
-  reached = λ u e. same_Some s u e;
+  local = λ k u x l rise e f. absurd (omega (arith, l));
+  reached = λ rise u e. same_Some s u e;
   whole = λ l x e. absurd (nothing_fetched image s.method.0 s.at x none e);
 }
 

@@ -129,10 +129,10 @@ here_local h op next x =
 -- ---- stepped or not
 
 pub done : (h : Here) (s t : Frame) → Did h s t → SteppedHere h true s t
-done h s t d = record { method = d.method; local = d.local; goes = λ op next x e. d.goes op next x; stays = λ e. absurd (cc e) }
+done h s t d = record { method = d.method; local = d.local; goes = λ op next x e rise. d.goes op next x rise; stays = λ e. absurd (cc e) }
 
 pub not_done : (h : Here) (s : Frame) → is_local_opcode (h.first % 256) ≡ false → SteppedHere h false s s
-not_done h s e = record { method = refl; local = λ op next x. here_local h op next x ∙ e; goes = λ op next x d. absurd (cc d); stays = λ d. refl }
+not_done h s e = record { method = refl; local = λ op next x. here_local h op next x ∙ e; goes = λ op next x d rise. absurd (cc d); stays = λ d. refl }
 
 -- ---- the opcodes one by one
 

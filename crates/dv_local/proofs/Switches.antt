@@ -15,7 +15,8 @@ use Rattle.std.specs.List.{list_all}
 use Rattle.dv_defs.specs.Tiling.{IsInsn, IsPayload, Piece, SizedPayload, begins_payload, bytes_in, data_from, data_in, doubles, insn_piece, is_width, packed_with, payload_of, payload_piece, piece_here, signed_all, sparse_with}
 use Rattle.dv_machine.specs.Local.{case_of}
 use Rattle.dv_steps.specs.Fetching.{IsSpelled}
-use Rattle.dv_local.specs.Switching.{IsCase, IsFirstKey, IsNoCase, double_at, int_at}
+use Rattle.dv_steps.specs.Stepping.{AreRising}
+use Rattle.dv_local.specs.Switching.{DoRise, IsCase, IsKeyPlace, IsNoCase, double_at, int_at}
 
 -- ---- cases by their places
 
@@ -347,10 +348,25 @@ packed_none units at place first targets number next s c =
     let (f, h) = packed_cases units at place first targets s in
     sym (case_none (cases_packed at first targets) (slice_index units (place + 1)) (λ j. first +ℤ pos j) (λ j. jump at (int_at units (place + 4 + 2 * j))) number next h (λ j l e. c j l (ap (λ (k : ℤ). k +ℤ pos j) (sym f) ∙ e)))
 
-pub sparse_found : (units : List ℕ) (at place : ℕ) (keys targets : List ℤ) (number : ℤ) (next case : ℕ) → IsSpelled units place (payload.Sparse keys targets) → IsFirstKey units (place + 2) (slice_index units (place + 1)) number case → case < slice_index units (place + 1) → jump at (int_at units (place + 2 + 2 * (slice_index units (place + 1) + case))) ≡ case_of (cases_sparse at keys targets) number next
+-- the keys in the units rise with those of the cases
+do_rise : (units : List ℕ) (at place : ℕ) (keys targets : List ℤ) → IsSpelled units place (payload.Sparse keys targets) → AreRising (cases_sparse at keys targets) → DoRise units (place + 2) (slice_index units (place + 1))
+do_rise units at place keys targets s rise j k l m =
+    let h = sparse_cases units at place keys targets s in
+    rise j k (record { key = int_at units (place + 2 + 2 * j); to = jump at (int_at units (place + 2 + 2 * (slice_index units (place + 1) + j))) })
+    (record { key = int_at units (place + 2 + 2 * k); to = jump at (int_at units (place + 2 + 2 * (slice_index units (place + 1) + k))) }) l
+    (h.at j (omega (arith, l, m))) (h.at k m)
+
+-- what a search among them found
+pub key_found : (units : List ℕ) (at place : ℕ) (keys targets : List ℤ) (count : ℕ) (value number : ℤ) (case : ℕ) → count ≡ slice_index units (place + 1) → value ≡ number → IsSpelled units place (payload.Sparse keys targets) → AreRising (cases_sparse at keys targets)
+    → (DoRise units (place + 2) count → IsKeyPlace units (place + 2) count value case) → IsKeyPlace units (place + 2) (slice_index units (place + 1)) number case
+key_found units at place keys targets count value number case counted same s rise search_gives =
+    let by : IsKeyPlace units (place + 2) count value case = search_gives (subst (DoRise units (place + 2)) (sym counted) (do_rise units at place keys targets s rise)) in
+    subst (λ (n : ℕ). IsKeyPlace units (place + 2) n number case) counted (subst (λ (v : ℤ). IsKeyPlace units (place + 2) count v case) same by)
+
+pub sparse_found : (units : List ℕ) (at place : ℕ) (keys targets : List ℤ) (number : ℤ) (next case : ℕ) → IsSpelled units place (payload.Sparse keys targets) → IsKeyPlace units (place + 2) (slice_index units (place + 1)) number case → case < slice_index units (place + 1) → jump at (int_at units (place + 2 + 2 * (slice_index units (place + 1) + case))) ≡ case_of (cases_sparse at keys targets) number next
 sparse_found units at place keys targets number next case s c l =
     sym (case_found (cases_sparse at keys targets) (slice_index units (place + 1)) (λ j. int_at units (place + 2 + 2 * j)) (λ j. jump at (int_at units (place + 2 + 2 * (slice_index units (place + 1) + j)))) number next case (sparse_cases units at place keys targets s) l c.before (c.there l))
 
-pub sparse_none : (units : List ℕ) (at place : ℕ) (keys targets : List ℤ) (number : ℤ) (next case : ℕ) → IsSpelled units place (payload.Sparse keys targets) → IsFirstKey units (place + 2) (slice_index units (place + 1)) number case → case ≡ slice_index units (place + 1) → next ≡ case_of (cases_sparse at keys targets) number next
+pub sparse_none : (units : List ℕ) (at place : ℕ) (keys targets : List ℤ) (number : ℤ) (next case : ℕ) → IsSpelled units place (payload.Sparse keys targets) → IsKeyPlace units (place + 2) (slice_index units (place + 1)) number case → case ≡ slice_index units (place + 1) → next ≡ case_of (cases_sparse at keys targets) number next
 sparse_none units at place keys targets number next case s c e =
     sym (case_none (cases_sparse at keys targets) (slice_index units (place + 1)) (λ j. int_at units (place + 2 + 2 * j)) (λ j. jump at (int_at units (place + 2 + 2 * (slice_index units (place + 1) + j)))) number next (sparse_cases units at place keys targets s) (λ j l. c.before j (omega (arith, l, e))))

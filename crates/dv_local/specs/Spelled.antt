@@ -6,6 +6,7 @@ use Rattle.dv_defs.specs.Images.{Image}
 use Rattle.dv_defs.specs.Op.{Code, Op, is_local, op_of}
 use Rattle.dv_defs.specs.Tiling.{tiles_in, tiling}
 use Rattle.dv_steps.specs.Local.{word_local}
+use Rattle.dv_steps.specs.Stepping.{KeysRise}
 use Rattle.dv_words.specs.declared.state.Frame.{Frame}
 use Rattle.dv_local.specs.declared.here.Here.{Here}
 
@@ -35,15 +36,15 @@ pub record IsOp (units : List ℕ) (at : ℕ) (here : List ℕ) (op : Op) (next 
 abbrev pub IsOpHere : Here → Op → ℕ → Type 0
 IsOpHere h op next = IsOp h.units.now h.at (h.first ∷ rest_of h) op next
 
--- what is spelled here is a local instruction, and it was done
+-- what is spelled here is a local instruction, and it was done, a switch where its keys rise
 pub record Did (here : Here) (s t : Frame) : Type 0 where
   pub method : t.method ≡ s.method
   pub local : (op : Op) (next : ℕ) → IsOpHere here op next → is_local op ≡ true
-  pub goes : (op : Op) (next : ℕ) → IsOpHere here op next → t ≡ word_local op s next
+  pub goes : (op : Op) (next : ℕ) → IsOpHere here op next → KeysRise op → t ≡ word_local op s next
 
 -- ... and was done, or it isn't one and nothing changed
 pub record SteppedHere (here : Here) (done : Bool) (s t : Frame) : Type 0 where
   pub method : t.method ≡ s.method
   pub local : (op : Op) (next : ℕ) → IsOpHere here op next → is_local op ≡ done
-  pub goes : (op : Op) (next : ℕ) → IsOpHere here op next → done ≡ true → t ≡ word_local op s next
+  pub goes : (op : Op) (next : ℕ) → IsOpHere here op next → done ≡ true → KeysRise op → t ≡ word_local op s next
   pub stays : done ≡ false → t ≡ s

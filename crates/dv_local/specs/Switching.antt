@@ -1,5 +1,5 @@
 -- The numbers of switch payloads in units.
-use Rattle.std.specs.Prelude.{◌≡◌, ◌≢◌, ◌≤◌, ◌<◌, ℕ, ◌+◌, ◌*◌, ◌^◌, ℤ, pos, ◌+ℤ◌, List, slice_index}
+use Rattle.std.specs.Prelude.{◌≡◌, ◌≢◌, ◌≤◌, ◌<◌, ◌<ℤ◌, ℕ, ◌+◌, ◌*◌, ◌^◌, ℤ, pos, ◌+ℤ◌, List, slice_index}
 use Rattle.dv_defs.specs.Numbers.{signed_at}
 
 -- the number of 32 bits at a place, the low unit first
@@ -19,8 +19,12 @@ pub record IsCase (first : ℤ) (count : ℕ) (number : ℤ) (place : ℕ) : Typ
 abbrev pub IsNoCase : ℤ → ℕ → ℤ → Type 0
 IsNoCase first count number = (k : ℕ) → k < count → first +ℤ pos k ≢ number
 
--- of so many numbers from a place on, the first that is the key; how many there are where none is
-pub record IsFirstKey (units : List ℕ) (place count : ℕ) (key : ℤ) (found : ℕ) : Type 0 where
+-- of so many numbers from a place on, each is below those behind it
+abbrev pub DoRise : List ℕ → ℕ → ℕ → Type 0
+DoRise units place count = (j k : ℕ) → j < k → k < count → int_at units (place + 2 * j) <ℤ int_at units (place + 2 * k)
+
+-- a key stands at this place among so many numbers, and at none before; where it is none of them, this is how many there are
+pub record IsKeyPlace (units : List ℕ) (place count : ℕ) (key : ℤ) (found : ℕ) : Type 0 where
   pub within : found ≤ count
   pub before : (k : ℕ) → k < found → int_at units (place + 2 * k) ≢ key
   pub there : found < count → int_at units (place + 2 * found) ≡ key

@@ -3,15 +3,15 @@ use Rattle.std.specs.Prelude.{◌≡◌, ◌≤◌, ℕ, Bool, true, false, List
 use Rattle.dv_defs.specs.Images.{Image}
 use Rattle.dv_defs.specs.Op.{Code, Op, code_at, is_local}
 use Rattle.dv_steps.specs.Local.{word_local}
-use Rattle.dv_steps.specs.Stepping.{RanLocally, StepsLocally}
+use Rattle.dv_steps.specs.Stepping.{KeysRise, RanLocally, StepsLocally}
 use Rattle.dv_words.specs.declared.state.Frame.{Frame}
 use Rattle.dv_local.specs.Spelled.{IsOp}
 
--- what is spelled at the frame's address is a local instruction and was done, or it isn't one and nothing changed
+-- what is spelled at the frame's address is a local instruction and was done, a switch where its keys rise; or it isn't one and nothing changed
 pub record SteppedUnits (units : List ℕ) (done : Bool) (s t : Frame) : Type 0 where
   pub method : t.method ≡ s.method
   pub local : (op : Op) (next : ℕ) → IsOp units s.at (drop s.at units) op next → is_local op ≡ done
-  pub goes : (op : Op) (next : ℕ) → IsOp units s.at (drop s.at units) op next → done ≡ true → t ≡ word_local op s next
+  pub goes : (op : Op) (next : ℕ) → IsOp units s.at (drop s.at units) op next → done ≡ true → KeysRise op → t ≡ word_local op s next
   pub stays : done ≡ false → t ≡ s
 
 -- a method of an image has these units

@@ -7,7 +7,8 @@ ghost use Rattle.dv_machine.specs.Local.{case_of};
 ghost use Rattle.dv_steps.specs.Fetching.{IsSpelled};
 ghost use Rattle.dv_steps.specs.Local.{branched, word_local};
 ghost use Rattle.dv_units.specs.Tables.{standard_test};
-ghost use Rattle.dv_local.specs.Switching.{IsCase, IsFirstKey, IsNoCase, double_at};
+ghost use Rattle.dv_steps.specs.Stepping.{AreRising};
+ghost use Rattle.dv_local.specs.Switching.{DoRise, IsCase, IsKeyPlace, IsNoCase, double_at, int_at};
 
 use crate::arithmetic::int_in;
 use crate::here::unit;
@@ -61,6 +62,15 @@ fn double_at(units: &[u16], place: usize) -> u32
     double(unit(units, place), unit(units, place + 1))
 }
 
+/// The signed number of 32 bits that stands in two units.
+#[inline(always)]
+fn int_at(units: &[u16], place: usize) -> i32
+    requires { place < 2 ^ 34 }
+    ensures { result ≡ int_at units.now place }
+{
+    signed_double(double_at(units, place))
+}
+
 /// The place of the number among so many that follow one another from the first one on.
 #[inline(always)]
 fn case_of_number(first: i32, count: u16, number: i32) -> Option<u16>
@@ -80,34 +90,41 @@ pub fn packed_target(units: &[u16], at: u32, place: usize, value: i32, next: u32
     requires near { place < 2 ^ 32 }
     ensures { (first : ℤ) (targets : List ℤ) → IsSpelled units.now place (payload.Packed first targets) → result ≡ case_of (cases_packed at first targets) value next }
 {
-    let first = signed_double(double_at(units, place + 2));
+    let first = int_at(units, place + 2);
     match case_of_number(first, unit(units, place + 1), value) {
         None => next,
-        Some(case) => jump(
-            at,
-            signed_double(double_at(units, place + 4 + 2 * usize::from(case))),
-        ),
+        Some(case) => jump(at, int_at(units, place + 4 + 2 * usize::from(case))),
     }
 }
 
-/// The first of so many numbers from a place on that is this key; how many there are where none is.
+/// The place of a key among so many numbers from a place on, of which each is below those behind it; how many there are where it is
+/// none of them.
 fn key_place(units: &[u16], place: usize, count: u16, key: i32) -> u16
     requires { place < 2 ^ 33 }
-    ensures { IsFirstKey units.now place count key result }
+    ensures { DoRise units.now place count → IsKeyPlace units.now place count key result }
 {
-    for k in 0..count {
-        if signed_double(double_at(units, place + 2 * usize::from(k))) == key {
-            return k;
+    let mut low = 0;
+    let mut high = count;
+    while low < high {
+        let middle = low + (high - low) / 2;
+        let number = int_at(units, place + 2 * usize::from(middle));
+        if number == key {
+            return middle;
+        }
+        if number < key {
+            low = middle + 1;
+        } else {
+            high = middle;
         }
     }
     count
 }
 
-/// Where a sparse switch leads, by the payload at a place. Its keys may stand in any order.
+/// Where a sparse switch leads whose keys rise, by the payload at a place.
 pub fn sparse_target(units: &[u16], at: u32, place: usize, value: i32, next: u32) -> u32
     requires short { at < 2 ^ 16 }
     requires near { place < 2 ^ 32 }
-    ensures { (keys targets : List ℤ) → IsSpelled units.now place (payload.Sparse keys targets) → result ≡ case_of (cases_sparse at keys targets) value next }
+    ensures { (keys targets : List ℤ) → IsSpelled units.now place (payload.Sparse keys targets) → AreRising (cases_sparse at keys targets) → result ≡ case_of (cases_sparse at keys targets) value next }
 {
     let count = unit(units, place + 1);
     let case = key_place(units, place + 2, count, value);
@@ -115,5 +132,5 @@ pub fn sparse_target(units: &[u16], at: u32, place: usize, value: i32, next: u32
         return next;
     }
     let target = place + 2 + 2 * (usize::from(count) + usize::from(case));
-    jump(at, signed_double(double_at(units, target)))
+    jump(at, int_at(units, target))
 }

@@ -398,6 +398,70 @@ fn switches(rt: HostRuntime) {
     }
 }
 
+/// Where a switch on a number leads from address 0.
+fn led(units: &[u16], number: u32) -> u32
+    requires { length units.now ≤ 16384 }
+{
+    let mut words = [number];
+    let mut head = begin(METHOD);
+    run(units, &mut words, &mut head, 1);
+    head.at
+}
+
+#[test]
+fn sparse_switches(rt: HostRuntime) {
+    let none = [0x002c, 0x0004, 0x0000, 0x0000, 0x0200, 0x0000];
+    let one = [0x002c, 0x0004, 0x0000, 0x0000, 0x0200, 0x0001, 5, 0, 10, 0];
+    let three = [
+        0x002c, 0x0004, 0x0000, 0x0000, 0x0200, 0x0003, 0xfff9, 0xffff, 0, 0, 5, 0, 10, 0, 20, 0,
+        30, 0,
+    ];
+    let ends = [
+        0x002c, 0x0004, 0x0000, 0x0000, 0x0200, 0x0002, 0x0000, 0x8000, 0xffff, 0x7fff, 10, 0, 20,
+        0,
+    ];
+    // A number, and where a switch without keys, one with the key 5, one with the keys -7, 0 and 5, and one with the least and the
+    // greatest key lead.
+    let rows = [
+        (LEAST, [3, 3, 3, 10]),
+        (0xffff_fff8, [3, 3, 3, 3]),
+        (0xffff_fff9, [3, 3, 10, 3]),
+        (0xffff_fffa, [3, 3, 3, 3]),
+        (0, [3, 3, 20, 3]),
+        (4, [3, 3, 3, 3]),
+        (5, [3, 10, 30, 3]),
+        (6, [3, 3, 3, 3]),
+        (0x7fff_ffff, [3, 3, 3, 20]),
+    ];
+    for (number, to) in rows {
+        assert_eq!(rt; led(&none, number), to[0], "{number}");
+        assert_eq!(rt; led(&one, number), to[1], "{number}");
+        assert_eq!(rt; led(&three, number), to[2], "{number}");
+        assert_eq!(rt; led(&ends, number), to[3], "{number}");
+    }
+}
+
+#[test]
+fn a_sparse_switch_with_many_keys(rt: HostRuntime) {
+    // The keys 0, 3 and so on up to 297, which lead to the addresses from 1000 on.
+    let mut units = [0u16; 406];
+    units[0] = 0x002c;
+    units[1] = 0x0004;
+    units[4] = 0x0200;
+    units[5] = 100;
+    for case in 0..100u16 {
+        units[6 + 2 * usize::from(case)] = 3 * case;
+        units[206 + 2 * usize::from(case)] = 1000 + case;
+    }
+    for case in 0..100u32 {
+        let key = 3 * case;
+        assert_eq!(rt; led(&units, key), 1000 + case, "{key}");
+        assert_eq!(rt; led(&units, key + 1), 3, "{key}");
+        assert_eq!(rt; led(&units, key + 2), 3, "{key}");
+    }
+    assert_eq!(rt; led(&units, MINUS_ONE), 3);
+}
+
 #[test]
 fn runs_end_where_nothing_local_stands(rt: HostRuntime) {
     // const/4 v0, 0; const/4 v1, 2; add-int/lit8 v0, v0, 1; if-lt v0, v1, -2; div-int v0, v0, v1

@@ -1,18 +1,18 @@
 // fill-array-data.
-ghost use Rattle.std.specs.Prelude.{◌≡◌, ◌≢◌, ◌*◌, ◌<◌, ◌≤◌, ◌^◌, true, false, Some, length, IfOk, IsSome, IsTrue};
+ghost use Rattle.std.specs.Prelude.{◌≡◌, ◌≢◌, ◌*◌, ◌<◌, ◌≤◌, ◌^◌, true, false, ℕ, Some, length, IsSome, IsTrue, MatchOption};
 ghost use Rattle.dv_defs.specs.Demands.{is_fill_type};
 ghost use Rattle.dv_defs.specs.Images.{Image as Linked};
 ghost use Rattle.dv_defs.specs.Numbers.{elements};
 ghost use Rattle.dv_defs.specs.Op.{Fill};
 ghost use Rattle.dv_defs.specs.Tiling.{bytes_in, payload_at, tiles_in, tiling};
 ghost use Rattle.dv_defs.specs.Types as types;
+ghost use Rattle.dv_defs.specs.Types.{is_class_base};
 ghost use Rattle.dv_ops.specs.Meaning.{elements_in, width_in};
 ghost use Rattle.dv_words.specs.declared.state.Kind.TheVariants as kind;
 ghost use Rattle.dv_words.specs.Heaps.{kind_of, words_of_object};
 ghost use Rattle.dv_steps.specs.Local.{reg_word};
 ghost use Rattle.dv_steps.specs.Mem as steps;
 ghost use Rattle.dv_steps.specs.Mem.{component_of, fill_words, filled, stored, word_mem};
-ghost use Rattle.dv_steps.specs.Stepping.{Answered};
 ghost use Rattle.dv_mem.specs.Operands.{AreWithin, IsArray, IsNullOrArray};
 ghost use Rattle.dv_mem.specs.Payloads.{element_at};
 ghost use Rattle.dv_mem.specs.Tops.{Answers, seen, top_frame};
@@ -27,15 +27,30 @@ use dv_defs::{Base, Named, Next, Ty};
 use dv_frames::Stack;
 use dv_heap::Heap;
 use dv_words::Kind;
-use std::alloc::AllocError;
 
-/// The type of an array's elements.
-fn component(array: &Ty) -> Result<Ty, AllocError>
-    ensures { IfOk result (λ t. t ≡ types.component array.now) }
+/// The same base, where it is a number's.
+fn number(base: &Base) -> Option<Base>
+    ensures { MatchOption result (is_class_base base.now ≡ true) (λ b. b ≡ base.now) }
 {
-    Ok(Ty {
+    match base {
+        Base::Z => Some(Base::Z),
+        Base::B => Some(Base::B),
+        Base::C => Some(Base::C),
+        Base::S => Some(Base::S),
+        Base::I => Some(Base::I),
+        Base::J => Some(Base::J),
+        Base::Class(_) => None,
+    }
+}
+
+/// The type of an array's elements, none where no payload fills them.
+fn component(array: &Ty) -> Option<Ty>
+    ensures { MatchOption result ((width : ℕ) → is_fill_type width (types.component array.now) ≡ false) (λ t. t ≡ types.component array.now) }
+{
+    let base = number(&array.base)?;
+    Some(Ty {
         dims: array.dims.saturating_sub(1),
-        base: array.base.clone()?,
+        base,
     })
 }
 
@@ -121,33 +136,24 @@ fn fill_array(
 }
 
 /// fill-array-data: the array takes the payload at an address of these units.
-///
-/// # Errors
-///
-/// Want of memory; all is as before then.
 #[tactic(auto, using(crate::proofs::Data::typed_is_data))]
-pub fn fill(
-    units: &[u16],
-    heap: &mut Heap,
-    stack: &mut Stack,
-    next: u32,
-    a: u16,
-    to: u32,
-) -> Result<Next, AllocError>
+pub fn fill(units: &[u16], heap: &mut Heap, stack: &mut Stack, next: u32, a: u16, to: u32) -> Next
     ensures { (image : Linked) → let p = payload_at (tiles_in (tiling units.now)) to in
         IsNullOrArray (is_fill_type (width_in p)) heap.old (reg_word (top_frame stack.old) a) →
-        Answered result (word_mem (seen image stack.old heap.old next) (Fill a (width_in p) (elements_in p))) stack.old heap.old stack.new heap.new }
+        Answers result (word_mem (seen image stack.old heap.old next) (Fill a (width_in p) (elements_in p))) stack.old heap.old stack.new heap.new }
 {
     let array = word(stack, a);
     if array == 0 || !heap.exists(array) {
-        return Ok(Next::Throw(Named::NullPointer));
+        return Next::Throw(Named::NullPointer);
     }
     let Some(data) = data_at(units, to) else {
-        return Ok(Next::On);
+        return Next::On;
     };
     let Kind::Array(ty) = heap.kind(array) else {
-        return Ok(Next::On);
+        return Next::On;
     };
-    let ty = component(ty)?;
-    Ok(fill_array(heap, stack, next, array, &ty, data))
+    let Some(element) = component(ty) else {
+        return Next::On;
+    };
+    fill_array(heap, stack, next, array, &element, data)
 }

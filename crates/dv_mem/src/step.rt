@@ -103,7 +103,7 @@ fn operate(
         Op::New(a, class) => new_instance(image, heap, stack, next, a, class),
         Op::NewArray(a, b, ty) => new_array(heap, stack, next, a, b, ty),
         Op::Filled(regs, ty) => filled_new_array(heap, stack, next, &regs, ty),
-        Op::Fill(a, to) => fill(units, heap, stack, next, a, to),
+        Op::Fill(a, to) => Ok(fill(units, heap, stack, next, a, to)),
         Op::Throw(a) => Ok(throw(stack, a)),
         Op::ArrayGet(suffix, a, b, c) => Ok(array_get(heap, stack, next, suffix, a, b, c)),
         Op::ArrayPut(suffix, a, b, c) => Ok(array_put(image, heap, stack, next, suffix, a, b, c)),

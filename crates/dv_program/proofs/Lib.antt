@@ -1,4 +1,5 @@
 pub mod BootTexts
 pub mod LinkedTexts
+pub mod MainMethods
 pub mod ReadLines
 pub mod ReadTexts

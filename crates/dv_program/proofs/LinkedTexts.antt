@@ -1,9 +1,10 @@
 -- The laws of texts and of their images.
-use Rattle.std.proofs.Common.{◌≡◌, ◌≢◌, ℕ, ◌+◌, false, List, [], ◌∷◌, ◌++◌, map, Option, Some, None, Result, Ok, Err, refl, sym, ap, subst, ◌∙◌}
+use Rattle.std.proofs.Common.{◌≡◌, ◌≢◌, ℕ, ◌+◌, Bool, true, false, List, [], ◌∷◌, ◌++◌, map, Option, Some, None, Result, Ok, Err, refl, sym, ap, subst, ◌∙◌}
 use Rattle.std.specs.List.{All, enumerate_from}
 use Rattle.std.proofs.lemmas.List.Elements.{All-nil, All-append}
 use Rattle.dv_defs.specs.declared.class.ClassDef.{ClassDef}
 use Rattle.dv_defs.specs.declared.image.ClassInfo.{ClassInfo}
+use Rattle.dv_defs.specs.declared.run.Entry.{Entry}
 use Rattle.dv_defs.specs.Images.{Image}
 use Rattle.dv_defs.specs.LinkFaults.{Found}
 use Rattle.dv_defs.specs.Linked.{IsImage, AreNamed, class_with_table, defs, linked, resolved, slotted, tabled, unless_found}
@@ -14,8 +15,10 @@ use Rattle.dv_boot.specs.declared.text.TheConstants.{BOOT_TEXT}
 use Rattle.dv_classread.specs.declared.text.Read.{Read}
 use Rattle.dv_classread.specs.Programs.{program_of}
 use Rattle.dv_hier.proofs.Built.{defs_slotted}
-use Rattle.dv_program.specs.Images.{boot_classes, boot_count, by_linking, by_reading, classes_read, image_in}
-use Rattle.dv_program.specs.Laws.{BootClassesAreNamed, ReadClassesAreNamed, TextsGiveImages}
+use Rattle.dv_console.specs.declared.refusals.Refusal.{Refusal}
+use Rattle.dv_program.specs.declared.program.Scheduled.{Scheduled}
+use Rattle.dv_program.specs.Images.{boot_classes, boot_count, by_linking, by_reading, by_scheduled, classes_read, image_in, image_of, scheduled_in, with_log}
+use Rattle.dv_program.specs.Laws.{BootClassesAreNamed, ReadClassesAreNamed, ScheduledTextsGiveImages, TextsGiveImages}
 use Rattle.dv_program.proofs.ReadTexts.{IsSoundClass, all_named, all_valued, read_sound}
 
 -- ---- classes that are read
@@ -84,13 +87,32 @@ linking_gave : (o : Result Image Found) (image : Image) → by_linking o ≡ Ok 
 linking_gave (Ok x) image e = cc
 linking_gave (Err fault) image e = absurd (cc)
 
-read_image : (r : Reading) (o : Result Read Stop) (image : Image) → program_of false r ≡ o → by_reading o ≡ Ok image → IsImage image
-read_image r (Ok read) image at e =
+-- with a schedule or without one
+read_image : (schedule : Bool) (r : Reading) (read : Read) (image : Image) → program_of schedule r ≡ Ok read → image_of read.classes ≡ Ok image → IsImage image
+read_image schedule r read image at e =
     let cs : List ClassDef = boot_classes ++ read.classes in
     linked_image cs boot_count image (linking_gave (linked cs boot_count) image e)
-    (All-append IsSoundClass boot_classes read.classes boot_sound (read_sound false r read at))
-read_image r (Err bad) image at e = absurd (cc)
+    (All-append IsSoundClass boot_classes read.classes boot_sound (read_sound schedule r read at))
+
+alone_image : (r : Reading) (o : Result Read Stop) (image : Image) → program_of false r ≡ o → by_reading o ≡ Ok image → IsImage image
+alone_image r (Ok read) image at e = read_image false r read image at e
+alone_image r (Err bad) image at e = absurd (cc)
 
 pub texts_give_images : TextsGiveImages
 unfolding image_in
-texts_give_images bytes image e = read_image (reading_of bytes) (program_of false (reading_of bytes)) image refl e
+texts_give_images bytes image e = alone_image (reading_of bytes) (program_of false (reading_of bytes)) image refl e
+
+its_image : (log : List Entry) (o : Result Image Refusal) (s : Scheduled) → with_log log o ≡ Ok s → o ≡ Ok s.image
+its_image log (Ok image) s e =
+    let made : Scheduled = record { image = image; log = log } in
+    let same : made ≡ s = cc in
+    ap (λ (x : Scheduled). Ok x.image) same
+its_image log (Err why) s e = absurd (cc)
+
+scheduled_image : (r : Reading) (o : Result Read Stop) (s : Scheduled) → program_of true r ≡ o → by_scheduled o ≡ Ok s → IsImage s.image
+scheduled_image r (Ok read) s at e = read_image true r read s.image at (its_image read.log (image_of read.classes) s e)
+scheduled_image r (Err bad) s at e = absurd (cc)
+
+pub scheduled_texts_give_images : ScheduledTextsGiveImages
+unfolding scheduled_in
+scheduled_texts_give_images bytes s e = scheduled_image (reading_of bytes) (program_of true (reading_of bytes)) s refl e

@@ -22,3 +22,4 @@ pub mod Turns
 pub mod Counting
 pub mod Picked
 pub mod Seeded
+pub mod Keys

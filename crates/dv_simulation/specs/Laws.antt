@@ -1,6 +1,7 @@
 -- On accepted images the steps on words simulate the tagged machine's.
 use Rattle.std.specs.Prelude.{◌≡◌, ◌<◌, ◌^◌, ℕ, true, None, Ok}
 use Rattle.dv_defs.specs.declared.run.Limits.{Limits}
+use Rattle.dv_defs.specs.Accepting.{Accepts}
 use Rattle.dv_defs.specs.Images.{Image}
 use Rattle.dv_defs.specs.Pools.{Method}
 use Rattle.dv_machine.specs.Accepted.{Accepted}
@@ -15,11 +16,15 @@ use Rattle.dv_words.specs.State.{WordMachine}
 use Rattle.dv_steps.specs.Laws.{IsBounded}
 use Rattle.dv_steps.specs.Opening as words
 use Rattle.dv_steps.specs.Step.{step}
-use Rattle.dv_steps.specs.StepLaws.{ImageFits, InitsAreTexts, IsFit, ReadsFit, StaticsAreWhole, StringsFit}
+use Rattle.dv_steps.specs.StepLaws.{AllKeysRise, ImageFits, InitsAreTexts, IsFit, ReadsFit, StaticsAreWhole, StringsFit}
 
 -- look-ups find what they say, natives have their own prototypes, no string has a field
 abbrev pub AcceptedImagesFit : Type 0
 AcceptedImagesFit = (image : Image) (T : Typings) → Accepted image T → ImageFits image
+
+-- the keys of each switch rise
+abbrev pub AcceptedKeysRise : Type 0
+AcceptedKeysRise = (image : Image) → Accepts image → AllKeysRise image
 
 -- cells of arrays of chars are numbers, and what constructors make are objects of classes
 abbrev pub TypedStatesFit : Type 0

@@ -3,7 +3,7 @@
 //! one. Each law is the contract of a function that does nothing.
 #![tactic(auto)]
 
-ghost use Rattle.dv_simulation.specs.Laws.{AcceptedImagesFit, AcceptedStepsFollow, OpeningsAreSimulated, TypedStatesFit};
+ghost use Rattle.dv_simulation.specs.Laws.{AcceptedImagesFit, AcceptedKeysRise, AcceptedStepsFollow, OpeningsAreSimulated, TypedStatesFit};
 ghost use Rattle.dv_simulation.specs.RunningLaws.{RunningFollows};
 ghost use Rattle.dv_simulation.specs.ImageLaws.{StaticsAreWholeOfLinked};
 ghost use Rattle.dv_simulation.specs.KeepLaws.{LocalsStay, NextIsAlike, StepsLeaveOthers};
@@ -12,6 +12,11 @@ ghost use Rattle.dv_simulation.specs.TurnLaws.{LastStepsFollow, LocalsFollow, Re
 /// An image that the verifier accepts is what the laws of steps on words take.
 pub fn accepted_images_fit()
     ensures law { AcceptedImagesFit }
+{}
+
+/// In an image that the verifier accepts the keys of each switch rise.
+pub fn accepted_keys_rise()
+    ensures law { AcceptedKeysRise }
 {}
 
 /// A well-typed state of such an image, with a heap that is counted and short strings and arrays, is what they take.

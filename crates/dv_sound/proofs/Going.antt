@@ -8,7 +8,6 @@ use Rattle.dv_defs.specs.declared.run.Limits.{Limits}
 use Rattle.dv_defs.specs.Images.{Image}
 use Rattle.dv_machine.specs.Running.{all_ended, any_runnable, ending_by, ending_of, ending_without_stop, runnable, runnable_one, runnable_thread}
 use Rattle.dv_machine.specs.State.{Machine, Thread}
-use Rattle.dv_machine.specs.Threads.{is_living}
 use Rattle.dv_machine.specs.WellTyped.{Typings}
 use Rattle.dv_steps.specs.Running as words
 use Rattle.dv_simulation.specs.RunningLaws.{RunsAlike}
@@ -44,7 +43,7 @@ by_ended b rest = elim b [ true ↦ Some ending.Done | false ↦ rest ]
 
 module _ (image : Image) (m : Machine) (t : ℕ) (may : runnable image m t ≡ true) where
   -- the thread that is runnable
-  thread : (th : Thread) × (slice_get m.threads t ≡ Some th) × (runnable_thread image m t th ≡ true)
+  pub thread : (th : Thread) × (slice_get m.threads t ≡ Some th) × (runnable_thread image m t th ≡ true)
   thread = by (slice_get m.threads t) refl may
     where
       by : (o : Option Thread) → slice_get m.threads t ≡ o → runnable_one image m t o ≡ true → (th : Thread) × (slice_get m.threads t ≡ Some th) × (runnable_thread image m t th ≡ true)

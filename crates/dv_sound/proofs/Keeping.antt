@@ -1,5 +1,5 @@
 -- What a machine keeps: its log leads to where its engine stands.
-use Rattle.std.proofs.Common.{◌≡◌, ◌≢◌, ◌<◌, ◌≤◌, ℕ, suc, true, Option, Some, None, Ok, Err, Result, List, [], ◌∷◌, All, refl, sym, ap, ◌∙◌, subst, arith}
+use Rattle.std.proofs.Common.{◌≡◌, ◌≢◌, ◌≤◌, ℕ, suc, true, Option, Some, None, Ok, Err, Result, List, [], ◌∷◌, All, refl, sym, ap, ◌∙◌, subst}
 use Rattle.std.specs.Prelude.{IfOk, OnErr, is_none, length}
 use Rattle.std.proofs.lemmas.Bool.{and_from}
 use Rattle.std.proofs.lemmas.List.Elements.{All-nil}
@@ -11,7 +11,7 @@ use Rattle.dv_defs.specs.declared.run.Limits.{Limits}
 use Rattle.dv_defs.specs.Images.{Image}
 use Rattle.dv_defs.specs.Pools.{Method, method_at}
 use Rattle.dv_machine.specs.Opening.{opening}
-use Rattle.dv_machine.specs.Replaying.{Replayed, Stands, next_is_local, replay, turn}
+use Rattle.dv_machine.specs.Replaying.{IsFinished, Replayed, Stands, next_is_local, replay, turn}
 use Rattle.dv_machine.specs.Running.{ending_by, ending_of, runnable}
 use Rattle.dv_machine.specs.State.{Machine}
 use Rattle.dv_machine.specs.WellTyped.{Typings}
@@ -25,8 +25,10 @@ use Rattle.dv_threads.specs.Kept.{threads_of}
 use Rattle.dv_core.specs.declared.vm.Vm.{Vm}
 use Rattle.dv_core.specs.Machines.{machine_of}
 use Rattle.dv_core.proofs.Waits.{many}
-use Rattle.dv_sound.specs.Moves.{IsGood, IsKeptAt, IsTurn, KeepsLocals, StandsAt, may_step}
-use Rattle.dv_sound.specs.Runs.{HasMain, IsAt, IsAtSome, IsKept, IsOpened, IsSameRun, IsTurned, MayTurn, Run, TurnedFrom, logged}
+use Rattle.dv_sound.specs.Moves.{IsKeptAt, IsTurn, KeepsLocals, StandsAt, may_step}
+use Rattle.dv_sound.specs.declared.error.ReplayError.{ReplayError}
+use Rattle.dv_sound.specs.Replays.{IsLedToEnd, IsRefused, StopsBefore}
+use Rattle.dv_sound.specs.Runs.{IsAt, IsAtSome, IsKept, IsOpened, IsSameRun, IsTurned, MayTurn, Run, TurnedFrom, logged}
 use Rattle.dv_sound.proofs.Going.{may_parts}
 
 none_stopped : (image : Image) (m : Machine) → ending_of image m ≡ None → m.stop ≡ None
@@ -124,7 +126,15 @@ module _ (r : Run) (v : Vm) (k : IsKept r.verified.image r.main v r.log r.lent) 
   at_kept = record { main_is = main_there; replayed = subst (λ (l : Limits). replay r.verified.image k.has_main.method l r.log ≡ Stands k.machine) limits_same k.replayed }
 
   pub at_some : IsAtSome r
-  at_some = record { main = k.has_main.method; is_main = k.has_main.is_main; machine = k.machine; at = at_kept }
+  at_some = record {
+    main = k.has_main.method;
+    is_main = k.has_main.is_main;
+    machine = k.machine;
+    at = at_kept;
+    typings = k.typings;
+    accepted = k.good.accepted;
+    typed = k.stands.simulated.typed;
+  }
 
   module _ (main : Method) (m : Machine) (at : IsAt r main m) where
     pub main_is : k.has_main.method ≡ main
@@ -186,3 +196,31 @@ threads_are image T v m at =
     let ts = v.guest.threads in
     sym (many ts.stacks.items ts.ends.items ts.objects.items at.ordered.aligned.ends at.ordered.aligned.objects) ∙
     zip_length ThreadStands (threads_of ts) m.threads at.simulated.stands.threads
+
+-- ---- led by a schedule
+
+module _ (image : Image) (main : MethodId) (l : Limits) (v : Vm) (o : IsOpened image main l v) where
+  opened_main : method_at image main.0 ≡ Some o.has_main.method
+  opened_main = subst (λ n. method_at image n ≡ Some o.has_main.method) o.has_main.numbered o.has_main.is_main.there
+
+  pub refused_by : (log : List Entry) (e : ReplayError) → StopsBefore e image log (opening image o.has_main.method l) → (m : Method) → method_at image main.0 ≡ Some m → IsRefused e image m l log
+  refused_by log e stops m has = subst (λ (x : Method). IsRefused e image x l log) (same_method o.has_main.method m (sym opened_main ∙ has)) stops
+
+  module _ (new : Vm) (log : List Entry) (led : IsLedToEnd image o.typings log (opening image o.has_main.method l) new) where
+    pub led_limits : new.limits ≡ l
+    led_limits = led.stands.simulated.stands.limits ∙ led.limits
+
+    pub finished_by : (m : Method) → method_at image main.0 ≡ Some m → IsFinished image m l log
+    finished_by m has =
+        subst (λ (x : Method). IsFinished image x l log) (same_method o.has_main.method m (sym opened_main ∙ has)) (led.after, led.ending, led.leads, led.ends)
+
+    pub kept_led : (copy : List Entry) (lent : List ℕ) → copy ≡ log → lent ≡ [] → IsKept image main new copy lent
+    kept_led copy lent copies none = record {
+      has_main = o.has_main;
+      typings = o.typings;
+      good = o.good;
+      machine = led.after;
+      replayed = ap (λ (k : Limits). replay image o.has_main.method k copy) led_limits ∙ ap (replay image o.has_main.method l) copies ∙ led.leads;
+      stands = led.stands;
+      local = subst (All (λ (t : ℕ). next_is_local image led.after t ≡ true)) (sym none) (All-nil _);
+    }

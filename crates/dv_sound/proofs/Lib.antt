@@ -6,3 +6,16 @@ pub mod Turning
 pub mod Played
 pub mod Others
 pub mod Keeping
+pub mod Ready
+pub mod Premised
+pub mod Opened
+pub mod Unstuck
+pub mod SeededLogs
+pub mod Places
+pub mod Runnable
+pub mod Lowest
+pub mod Seeding
+pub mod Counted
+pub mod Slices
+pub mod Lent
+pub mod Made

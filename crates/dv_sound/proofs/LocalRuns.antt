@@ -1,8 +1,7 @@
 -- Local steps in one go: the engine stands where as many steps of the tagged machine lead.
-use Rattle.std.proofs.Common.{◌≡◌, ◌≢◌, ◌<◌, ◌≤◌, ◌+◌, ◌^◌, ℕ, zero, suc, Bool, true, false, Option, Some, None, Ok, Err, List, [], ◌∷◌, refl, sym, ap, ◌∙◌, subst, arith}
-use Rattle.std.specs.Prelude.{◌&&◌, length, nat_eq, nat_lt, not, slice_get, slice_set, if◌then◌else◌}
+use Rattle.std.proofs.Common.{◌≡◌, ◌≢◌, ◌<◌, ◌≤◌, ◌+◌, ℕ, zero, suc, Bool, true, false, Option, Some, None, Ok, Err, List, [], ◌∷◌, refl, sym, ap, ◌∙◌, subst, arith}
+use Rattle.std.specs.Prelude.{◌&&◌, nat_eq, nat_lt, not, slice_get, if◌then◌else◌}
 use Rattle.std.proofs.lemmas.Bool.{and_left, and_right, eq-eqb, ltb-false, ltb-true}
-use Rattle.std.proofs.lemmas.Option.{same_Some}
 use Rattle.dv_defs.specs.declared.machine.End.{End}
 use Rattle.dv_defs.specs.declared.machine.End.TheVariants as end
 use Rattle.dv_defs.specs.declared.run.Limits.{Limits}
@@ -67,7 +66,7 @@ module _ (image : Image) (T : Typings) (w : WordMachine) (m : Machine) (good : I
       by : (o : Option At) → fetch image v.method.0 v.at ≡ o → (x : At) × (fetch image v.method.0 v.at ≡ Some x) → (z : Frame) × (locals_here image (suc n) f ≡ Some z)
       by None found x = let d : None ≡ Some x.0 = sym found ∙ x.1 in absurd (cc d)
       by (Some x) found y =
-          let local : is_local x.op ≡ true = ran.local n v x l e found in
+          let local : is_local x.op ≡ true = ran.local n v x l (λ k q y l e f. good.keys q.method.0 q.at y f) e found in
           (word_local x.op v x.next, ap (λ (o : Option Frame). on_frame o (local_here image)) e ∙ ap (λ (o : Option At). local_by o v) found ∙ ap (λ b. elim b as (λ q. Option Frame) [ true ↦ Some (word_local x.op v x.next) | false ↦ None ]) local)
 
   pub there : (n : ℕ) → n ≤ done → (v : Frame) × (locals_here image n f ≡ Some v)
@@ -77,7 +76,7 @@ module _ (image : Image) (T : Typings) (w : WordMachine) (m : Machine) (good : I
   pub all_local : locals_here image done f ≡ Some u
   all_local =
       let all = there done (omega arith) in
-      let same : u ≡ all.0 = ran.reached all.0 all.1 in
+      let same : u ≡ all.0 = ran.reached (λ k q y l e f. good.keys q.method.0 q.at y f) all.0 all.1 in
       subst (λ (z : Frame). locals_here image done f ≡ Some z) (sym same) all.1
 
   -- all of them
@@ -124,6 +123,7 @@ module _ (image : Image) (T : Typings) (old new : Vm) (m : Machine) (good : IsGo
     stands = stands_by image T new (machine_of old) m ran.same (within image T old m at) at.simulated ordered;
     turns = λ k. subst (λ n. turn image t (n + k) m ≡ more n (turn image t k m)) (sym ran.none) (ap (λ j. turn image t j m) (let none_more : 0 + k ≡ k = omega arith in none_more) ∙ no_more (turn image t k m));
     steps = λ k. subst (λ n. steps_of image k t n m ≡ Stands m) (sym ran.none) refl;
+    limits = refl;
     whole = λ l. and_left (next_is_local image m t) (not (nat_eq m.steps m.limits.budget)) (sym (next_is_alike image T (machine_of old) m t at.simulated) ∙ none_local image (slice_get (machine_of old).threads t) stays);
   }
 
@@ -165,6 +165,7 @@ module _ (image : Image) (T : Typings) (old new : Vm) (m : Machine) (good : IsGo
       stands = stands_by image T new (with_top (machine_of old) t own r.frame ls done) by.after r.machine within_by by.simulated ordered;
       turns = by.turns;
       steps = by.steps;
+      limits = sym by.simulated.stands.limits ∙ at.simulated.stands.limits;
       whole = λ l. stops l (nat_lt done most) refl;
     }
       where

@@ -1,5 +1,5 @@
 -- While a thread steps, the next steps of the others stay local.
-use Rattle.std.proofs.Common.{◌≡◌, ◌≢◌, ℕ, zero, suc, true, Option, Some, None, Ok, Err, Result, List, [], ◌∷◌, refl, sym, ap, ◌∙◌, subst}
+use Rattle.std.proofs.Common.{◌≡◌, ◌≢◌, ℕ, zero, suc, Ok, Err, Result, List, [], ◌∷◌, refl, ap, ◌∙◌}
 use Rattle.std.specs.Prelude.{slice_get, slice_set}
 use Rattle.dv_defs.specs.Images.{Image}
 use Rattle.dv_words.specs.declared.state.Frame.{Frame}

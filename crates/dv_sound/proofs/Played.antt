@@ -1,12 +1,12 @@
 -- An engine that a schedule leads.
-use Rattle.std.proofs.Common.{◌≡◌, ◌<◌, ◌≤◌, ◌+◌, ◌-◌, ◌^◌, ℕ, zero, suc, Bool, true, false, Option, Some, None, Ok, Err, List, [], ◌∷◌, refl, sym, ap, ◌∙◌, subst, arith}
-use Rattle.std.specs.Prelude.{◌&&◌, drop, is_none, length, slice_index_or}
+use Rattle.std.proofs.Common.{◌≡◌, ◌<◌, ◌≤◌, ◌+◌, ◌-◌, ℕ, zero, suc, Bool, true, false, Option, Some, None, Ok, List, ◌∷◌, refl, sym, ap, ◌∙◌, subst, arith}
+use Rattle.std.specs.Prelude.{◌&&◌, is_none}
 use Rattle.dv_defs.specs.declared.run.Ending.{Ending}
 use Rattle.dv_defs.specs.declared.run.Entry.{Entry}
 use Rattle.dv_defs.specs.Images.{Image}
 use Rattle.dv_machine.specs.Replaying.{NotRunnable, PastEnd, Replayed, Stands, Wrong, on_stands, one_step, replay_from, stands_on, steps_of}
 use Rattle.dv_machine.specs.Running.{ending_of, runnable}
-use Rattle.dv_machine.specs.State.{Machine, Reads}
+use Rattle.dv_machine.specs.State.{Machine}
 use Rattle.dv_machine.specs.Step.{step}
 use Rattle.dv_machine.specs.WellTyped.{Typings}
 use Rattle.dv_simulation.proofs.Replays.{step_done, steps_after}
@@ -14,7 +14,7 @@ use Rattle.dv_core.specs.declared.vm.Vm.{Vm}
 use Rattle.dv_sound.specs.declared.error.ReplayError.{ReplayError}
 use Rattle.dv_sound.specs.declared.error.ReplayError.TheVariants as error
 use Rattle.dv_sound.specs.Moves.{IsGood, IsRun, IsStep, StandsAt, may_step}
-use Rattle.dv_sound.specs.Replays.{IsLed, Refuses}
+use Rattle.dv_sound.specs.Replays.{IsLed, Refuses, StopsBefore}
 use Rattle.dv_sound.proofs.Going.{may_parts}
 
 -- ---- a step of an entry
@@ -69,28 +69,29 @@ pub no_steps : (image : Image) (k t : ℕ) (m n : Machine) → steps_of image k 
 no_steps image k t m n e = cc
 
 -- one step was done
-pub led_one : (image : Image) (T : Typings) (k t : ℕ) (m : Machine) (new : Vm) → may_step image m t ≡ true → IsStep image T m t new → IsLed image T (steps_of image k t 1 m) new
-led_one image T k t m new may s = record { after = s.after; leads = ap (λ (r : Replayed). on_stands r (steps_of image k t 0)) (one_done image k t m s.after may s.steps); stands = s.stands }
+pub led_one : (image : Image) (T : Typings) (k t : ℕ) (m : Machine) (new : Vm) → may_step image m t ≡ true → IsStep image T m t new → IsLed image T m (steps_of image k t 1 m) new
+led_one image T k t m new may s = record { after = s.after; leads = ap (λ (r : Replayed). on_stands r (steps_of image k t 0)) (one_done image k t m s.after may s.steps); stands = s.stands; limits = s.limits }
 
-pub led_run : (image : Image) (T : Typings) (k t most done : ℕ) (m : Machine) (new : Vm) → IsRun image T m t most done new → IsLed image T (steps_of image k t done m) new
-led_run image T k t most done m new r = record { after = r.after; leads = r.steps k; stands = r.stands }
+pub led_run : (image : Image) (T : Typings) (k t most done : ℕ) (m : Machine) (new : Vm) → IsRun image T m t most done new → IsLed image T m (steps_of image k t done m) new
+led_run image T k t most done m new r = record { after = r.after; leads = r.steps k; stands = r.stands; limits = r.limits }
 
 -- ---- while the steps of an entry are done
 
 -- so many steps are left, which lead from where the engine stands to where all lead
-pub record IsLeft (image : Image) (T : Typings) (whole : Replayed) (rest : Machine → Replayed) (now : Vm) : Type 0 where
+pub record IsLeft (image : Image) (T : Typings) (m : Machine) (whole : Replayed) (rest : Machine → Replayed) (now : Vm) : Type 0 where
   pub at : Machine
   pub stands : StandsAt image T now at
   pub same : whole ≡ rest at
+  pub limits : at.limits ≡ m.limits
 
 abbrev pub Lefts : Image → Vm → Vm → (Machine → Replayed) → (Machine → Replayed) → Type 0
-Lefts image first now whole rest = (T : Typings) (m : Machine) → IsGood image T → StandsAt image T first m → IsLeft image T (whole m) rest now
+Lefts image first now whole rest = (T : Typings) (m : Machine) → IsGood image T → StandsAt image T first m → IsLeft image T m (whole m) rest now
 
 pub left_first : (image : Image) (first : Vm) (whole : Machine → Replayed) → Lefts image first first whole whole
-left_first image first whole T m good at = record { at = m; stands = at; same = refl }
+left_first image first whole T m good at = record { at = m; stands = at; same = refl; limits = refl }
 
 pub left_on : (image : Image) (first now new : Vm) (whole : Machine → Replayed) (k t n left : ℕ) → n ≤ left → Lefts image first now whole (steps_of image k t left) →
-    ((T : Typings) (m : Machine) → IsGood image T → StandsAt image T now m → IsLed image T (steps_of image k t n m) new) → Lefts image first new whole (steps_of image k t (left - n))
+    ((T : Typings) (m : Machine) → IsGood image T → StandsAt image T now m → IsLed image T m (steps_of image k t n m) new) → Lefts image first new whole (steps_of image k t (left - n))
 left_on image first now new whole k t n left few lefts leds T m good at =
     let l = lefts T m good at in
     let d = leds T l.at good l.stands in
@@ -98,16 +99,17 @@ left_on image first now new whole k t n left few lefts leds T m good at =
     record {
       at = d.after;
       stands = d.stands;
+      limits = d.limits ∙ l.limits;
       same = l.same ∙ ap (λ j. steps_of image k t j l.at) (sym split) ∙ steps_after image k t n (left - n) l.at ∙ ap (λ (r : Replayed). on_stands r (steps_of image k t (left - n))) d.leads;
     }
 
 -- the next entry
 pub left_entry : (image : Image) (first now new : Vm) (whole : Machine → Replayed) (k : ℕ) (e : Entry) (es : List Entry) → Lefts image first now whole (replay_from image k (e ∷ es)) →
-    ((T : Typings) (m : Machine) → IsGood image T → StandsAt image T now m → IsLed image T (steps_of image k e.thread e.steps m) new) → Lefts image first new whole (replay_from image (suc k) es)
+    ((T : Typings) (m : Machine) → IsGood image T → StandsAt image T now m → IsLed image T m (steps_of image k e.thread e.steps m) new) → Lefts image first new whole (replay_from image (suc k) es)
 left_entry image first now new whole k e es lefts leds T m good at =
     let l = lefts T m good at in
     let d = leds T l.at good l.stands in
-    record { at = d.after; stands = d.stands; same = l.same ∙ ap (λ (r : Replayed). on_stands r (replay_from image (suc k) es)) d.leads }
+    record { at = d.after; stands = d.stands; same = l.same ∙ ap (λ (r : Replayed). on_stands r (replay_from image (suc k) es)) d.leads; limits = d.limits ∙ l.limits }
 
 -- what is refused on the way refuses the whole
 pub left_refused : (image : Image) (first now : Vm) (whole rest : Machine → Replayed) (e : ReplayError) → Lefts image first now whole rest →
@@ -115,3 +117,17 @@ pub left_refused : (image : Image) (first now : Vm) (whole rest : Machine → Re
 left_refused image first now whole rest e lefts refuses T m good at =
     let l = lefts T m good at in
     subst (Refuses e) (sym l.same) (refuses T l.at good l.stands)
+
+-- ---- to an ending
+
+pub stops_refused : (image : Image) (log : List Entry) (m : Machine) (e : ReplayError) → Refuses e (replay_from image 0 log m) → StopsBefore e image log m
+stops_refused image log m (error.NotRunnable k) is = is
+stops_refused image log m (error.Long k) is = is
+stops_refused image log m (error.Memory x) is = is
+stops_refused image log m (error.Short k) is = absurd (never (replay_from image 0 log m) is)
+  where
+    never : (r : Replayed) → Refuses (error.Short k) r → ⊥
+    never (Stands m) is = absurd is
+    never (NotRunnable j) is = absurd is
+    never (PastEnd j) is = absurd is
+    never (Wrong y) is = absurd is

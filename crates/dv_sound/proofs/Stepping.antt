@@ -1,18 +1,17 @@
 -- A step of a thread that may step: the tagged one isn't stuck, and the engine stands where it leads.
-use Rattle.std.proofs.Common.{◌≡◌, ◌<◌, ◌≤◌, ◌⊎◌, ◌-◌, ◌^◌, ℕ, suc, true, None, Ok, Err, Result, refl, sym, ap, ◌∙◌, subst, arith, inl, inr}
+use Rattle.std.proofs.Common.{◌≡◌, ◌<◌, ◌≤◌, ◌⊎◌, ◌^◌, ℕ, suc, true, Ok, Err, Result, sym, ap, ◌∙◌, subst, arith, inl, inr}
 use Rattle.std.specs.Prelude.{length}
 use Rattle.dv_defs.specs.declared.run.Limits.{Limits}
 use Rattle.dv_defs.specs.Images.{Image}
 use Rattle.dv_machine.specs.State.{Machine}
 use Rattle.dv_machine.specs.WellTyped.{Typings}
-use Rattle.dv_words.specs.State.{WordMachine, WordThread}
+use Rattle.dv_words.specs.State.{WordMachine}
 use Rattle.dv_steps.specs.Step.{step}
 use Rattle.dv_steps.specs.StepLaws.{ReadsFit}
-use Rattle.dv_simulation.specs.KeepLaws.{LeavesOthers}
 use Rattle.dv_simulation.specs.Laws.{IsSimulated, IsSimulatedStep}
 use Rattle.dv_simulation.proofs.Others.{steps_leave_others}
 use Rattle.dv_simulation.proofs.Steps.{accepted_steps_follow}
-use Rattle.dv_threads.specs.Kept.{HasRoom, threads_of}
+use Rattle.dv_threads.specs.Kept.{HasRoom}
 use Rattle.dv_core.specs.declared.vm.Vm.{Vm}
 use Rattle.dv_core.specs.Guests.{IsOrdered}
 use Rattle.dv_core.specs.Machines.{IsStepped, IsSteppable, machine_of}
@@ -82,7 +81,7 @@ module _ (image : Image) (T : Typings) (old : Vm) (m : Machine) (t : ℕ) (good 
   steppable =
       let less = left in
       let most = at.counted in
-      steps_fit image T old m t good.accepted good.strings at.simulated at.ordered room (omega (arith, less, most))
+      steps_fit image T old m t good.accepted good.strings good.keys at.simulated at.ordered room (omega (arith, less, most))
 
   module _ (new : Vm) (reads : ReadsFit (machine_of old) t) where
     followed : IsSimulatedStep image T (machine_of old) m t
@@ -94,6 +93,7 @@ module _ (image : Image) (T : Typings) (old : Vm) (m : Machine) (t : ℕ) (good 
         record {
           after = followed.after;
           steps = followed.stepped;
+          limits = sym followed.simulated.stands.limits ∙ (steps_leave_others image (machine_of old) t).limits ∙ at.simulated.stands.limits;
           stands =
               stands_by image T new (step image (machine_of old) t) followed.after is.0 (within_after image (machine_of old) t (within image T old m at) left) followed.simulated
               (subst (λ (l : Limits). IsOrdered l new.guest) (sym limits) is.1);

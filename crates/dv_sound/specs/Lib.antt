@@ -1,3 +1,5 @@
 pub mod Moves
 pub mod Runs
 pub mod Replays
+pub mod Laws
+pub mod Lending

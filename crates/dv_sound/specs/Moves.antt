@@ -11,7 +11,7 @@ use Rattle.dv_machine.specs.WellTyped.{Typings}
 use Rattle.dv_words.specs.declared.state.Frame.{Frame}
 use Rattle.dv_words.specs.declared.state.Level.{Level}
 use Rattle.dv_words.specs.State.{WordMachine, WordThread}
-use Rattle.dv_steps.specs.StepLaws.{StringsFit, with_top}
+use Rattle.dv_steps.specs.StepLaws.{AllKeysRise, StringsFit, with_top}
 use Rattle.dv_simulation.specs.KeepLaws.{next_is_local_of}
 use Rattle.dv_simulation.specs.Laws.{IsSimulated}
 use Rattle.dv_simulation.specs.TurnLaws.{more}
@@ -22,10 +22,11 @@ use Rattle.dv_core.specs.Machines.{machine_of}
 
 -- ---- where an engine stands
 
--- the image is accepted, and its strings have UTF-16 units
+-- the image is accepted, its strings have UTF-16 units, and keys of sparse switches rise
 pub record IsGood (image : Image) (T : Typings) : Type 0 where
   pub accepted : Accepted image T
   pub strings : StringsFit image
+  pub keys : AllKeysRise image
 
 -- a thread may be there, a stack has room for a frame and a record, and the length of an array is an int
 pub record AreUsable (l : Limits) : Type 0 where
@@ -80,6 +81,7 @@ pub record IsStep (image : Image) (T : Typings) (m : Machine) (t : ℕ) (new : V
   pub after : Machine
   pub steps : step image m t ≡ Ok after
   pub stands : StandsAt image T new after
+  pub limits : after.limits ≡ m.limits
 
 abbrev pub Steps : {E : Type 0} → Result (Unit {0}) E → Image → Typings → Machine → ℕ → Vm → Vm → Type 0
 Steps (Ok u) image T m t old new = IsStep image T m t new
@@ -97,6 +99,7 @@ pub record IsRun (image : Image) (T : Typings) (m : Machine) (t most done : ℕ)
   pub stands : StandsAt image T new after
   pub turns : (k : ℕ) → turn image t (done + k) m ≡ more done (turn image t k after)
   pub steps : (k : ℕ) → steps_of image k t done m ≡ Stands after
+  pub limits : after.limits ≡ m.limits
   pub whole : done < most → goes_locally image t after ≡ false
 
 -- the last step of a turn

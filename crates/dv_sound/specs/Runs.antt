@@ -1,20 +1,20 @@
 -- What contracts see of a machine that keeps its log.
-use Rattle.std.specs.Prelude.{◌≡◌, ◌≢◌, ◌<◌, ℕ, true, false, ◌++◌, List, [], ◌∷◌, length, All, Option, Some, None, Ok}
+use Rattle.std.specs.Prelude.{◌≡◌, ◌≢◌, ◌<◌, ℕ, true, false, ◌++◌, List, [], ◌∷◌, All, Some, None, Ok}
 use Rattle.dv_defs.specs.declared.names.MethodId.{MethodId}
 use Rattle.dv_defs.specs.declared.run.Entry.{Entry}
 use Rattle.dv_defs.specs.declared.run.Limits.{Limits}
 use Rattle.dv_defs.specs.Images.{Image}
 use Rattle.dv_defs.specs.Pools.{Method, method_at}
+use Rattle.dv_machine.specs.Accepted.{Accepted}
 use Rattle.dv_machine.specs.Opening.{opening}
 use Rattle.dv_machine.specs.Replaying.{Stands, next_is_local, replay, turn}
 use Rattle.dv_machine.specs.Running.{ending_of, runnable}
 use Rattle.dv_machine.specs.State.{Machine}
 use Rattle.dv_machine.specs.StepLaws.{IsMain}
-use Rattle.dv_machine.specs.WellTyped.{Typings}
+use Rattle.dv_machine.specs.WellTyped.{Typings, WellTyped}
 use Rattle.dv_rules.specs.Verified.{VerifiedValue}
 use Rattle.dv_words.specs.State.{WordMachine}
 use Rattle.dv_core.specs.declared.vm.Vm.{Vm}
-use Rattle.dv_core.specs.Machines.{machine_of}
 use Rattle.dv_sound.specs.Moves.{IsGood, StandsAt}
 
 -- the program, the number of its main method, the state on words, what was logged, and which threads are lent
@@ -66,12 +66,15 @@ pub record IsAt (r : Run) (main : Method) (m : Machine) : Type 0 where
   pub main_is : method_at r.verified.image r.main.0 ≡ Some main
   pub replayed : replay r.verified.image main r.machine.limits r.log ≡ Stands m
 
--- its log leads to a state, for which its words stand
+-- its log leads to a state, which is well typed
 pub record IsAtSome (r : Run) : Type 0 where
   pub main : Method
   pub is_main : IsMain r.verified.image main
   pub machine : Machine
   pub at : IsAt r main machine
+  pub typings : Typings
+  pub accepted : Accepted r.verified.image typings
+  pub typed : WellTyped r.verified.image typings machine
 
 -- all but the state and the log is as before
 pub record IsSameRun (old new : Run) : Type 0 where

@@ -3,6 +3,8 @@
 #![tactic(auto)]
 
 mod error;
+pub mod laws;
+mod lending;
 mod moves;
 mod playing;
 mod premises;
@@ -12,7 +14,5 @@ mod safe;
 mod seeded;
 
 pub use error::ReplayError;
+pub use lending::Refused;
 pub use safe::SafeVm;
-
-#[cfg(test)]
-mod tests;

@@ -5,7 +5,7 @@ ghost use Rattle.dv_machine.specs.State.{Machine};
 ghost use Rattle.dv_machine.specs.WellTyped.{Typings};
 ghost use Rattle.dv_sound.specs.Moves as moves;
 ghost use Rattle.dv_sound.specs.Moves.{IsGood, StandsAt};
-ghost use Rattle.dv_sound.specs.Replays.{Plays, PlaysSome, Refuses};
+ghost use Rattle.dv_sound.specs.Replays.{Plays, PlaysSome, PlaysToEnd, Refuses};
 
 use crate::error::ReplayError;
 use crate::moves::{may_step, run_on, step_on};
@@ -48,7 +48,7 @@ fn play_some(
 
 /// The steps of an entry.
 fn play(image: &Image, vm: &mut Vm, entry: u32, thread: u32, steps: u32) -> Result<(), ReplayError>
-    ensures { (T : Typings) (m : Machine) → IsGood image.now T → StandsAt image.now T vm.old m → Plays result image.now T (steps_of image.now entry thread steps m) vm.new }
+    ensures { (T : Typings) (m : Machine) → IsGood image.now T → StandsAt image.now T vm.old m → Plays result image.now T m (steps_of image.now entry thread steps m) vm.new }
 {
     let mut left = steps;
     while left > 0 {
@@ -63,7 +63,7 @@ fn play(image: &Image, vm: &mut Vm, entry: u32, thread: u32, steps: u32) -> Resu
 ///
 /// The first entry at which the schedule is refused, or want of memory; entries are counted in 32 bits.
 pub fn play_all(image: &Image, vm: &mut Vm, log: &[Entry]) -> Result<(), ReplayError>
-    ensures { (T : Typings) (m : Machine) → IsGood image.now T → StandsAt image.now T vm.old m → Plays result image.now T (replay_from image.now 0 log.now m) vm.new }
+    ensures { (T : Typings) (m : Machine) → IsGood image.now T → StandsAt image.now T vm.old m → Plays result image.now T m (replay_from image.now 0 log.now m) vm.new }
 {
     let count = entries(log)?;
     for number in 0..count {
@@ -82,4 +82,19 @@ pub fn entries(log: &[Entry]) -> Result<u32, AllocError>
     ensures { IfOk result (λ n. n ≡ length log.now) }
 {
     u32::try_from(log.len()).map_err(|_| AllocError)
+}
+
+/// The entries of a schedule, up to an ending.
+///
+/// # Errors
+///
+/// The first entry at which the schedule is refused; that it stops before the run has ended; or want of memory.
+pub fn play_to_end(image: &Image, vm: &mut Vm, log: &[Entry]) -> Result<(), ReplayError>
+    ensures { (T : Typings) (m : Machine) → IsGood image.now T → StandsAt image.now T vm.old m → PlaysToEnd result image.now T log.now m vm.new }
+{
+    play_all(image, vm, log)?;
+    match vm.ending(image) {
+        Some(_) => Ok(()),
+        None => Err(ReplayError::Short(entries(log)?)),
+    }
 }

@@ -6,9 +6,9 @@ ghost use Rattle.dv_machine.specs.Accepted.{Accepted};
 ghost use Rattle.dv_machine.specs.Opening.{string_of};
 ghost use Rattle.dv_machine.specs.WellTyped.{Typings};
 ghost use Rattle.dv_steps.specs.Laws.{IsUnit};
-ghost use Rattle.dv_steps.specs.StepLaws.{InitsAreTexts, StringsFit};
+ghost use Rattle.dv_steps.specs.StepLaws.{AllKeysRise, InitsAreTexts, StringsFit};
 
-use dv_defs::{Chars, FieldId, Image, Init, MethodId};
+use dv_defs::{Chars, FieldId, Image, Init, Limits, MethodId};
 use dv_ops::{coded_at, field_at};
 use dv_rules::Verified;
 use std::alloc::AllocError;
@@ -19,6 +19,23 @@ pub fn is_accepted(verified: &Verified)
 {
     let image = &verified.image;
     let _classes = &image.classes;
+}
+
+/// Keys of sparse switches rise in a verified image: does nothing.
+pub fn keys_rise(verified: &Verified)
+    ensures { AllKeysRise verified.now.image }
+{
+    let image = &verified.image;
+    let _classes = &image.classes;
+}
+
+/// Limits are `u32`, and steps are counted by `u64`: does nothing.
+pub fn are_numbers(limits: &Limits)
+    ensures threads { limits.now.threads < 2 ^ 32 }
+    ensures budget { limits.now.budget < 2 ^ 64 }
+{
+    let _threads = limits.threads;
+    let _budget = limits.budget;
 }
 
 /// Units are `u16`: does nothing.

@@ -7,7 +7,7 @@ ghost use Rattle.dv_sound.specs.Replays.{IsRefused};
 ghost use Rattle.dv_sound.specs.Runs.{HasMain};
 
 use crate::error::ReplayError;
-use crate::playing::{entries, play_all};
+use crate::playing::play_to_end;
 use crate::safe::{SafeVm, opened};
 use dv_defs::{Entry, Limits, MethodId};
 use dv_rules::Verified;
@@ -44,11 +44,7 @@ impl<'v> SafeVm<'v> {
     {
         let copy = copied(alloc, log)?;
         let mut vm = opened(alloc, verified, main, limits)?;
-        let image = &verified.image;
-        play_all(image, &mut vm, log)?;
-        if vm.ending(image).is_none() {
-            return Err(ReplayError::Short(entries(log)?));
-        }
+        play_to_end(&verified.image, &mut vm, log)?;
         Ok(SafeVm::standing(verified, main, vm, copy, Vec::new(alloc)))
     }
 }

@@ -1,5 +1,5 @@
 // A machine whose state is the replay of its log.
-ghost use Rattle.std.specs.Prelude.{◌≡◌, ◌≤◌, [], IfOk, IsTrue, MatchOption, OnErr, All, List, ℕ, ◌≢◌, ◌↔◌, false, true, length};
+ghost use Rattle.std.specs.Prelude.{◌≡◌, ◌≤◌, ◌+◌, [], IfOk, IsTrue, MatchOption, OnErr, All, List, ℕ, ◌≢◌, ◌↔◌, false, true, length};
 ghost use Rattle.dv_defs.specs.Pools.{Method};
 ghost use Rattle.dv_machine.specs.Running as running;
 ghost use Rattle.dv_machine.specs.State.{Machine};
@@ -11,7 +11,7 @@ ghost use Rattle.dv_sound.specs.Moves.{AreUsable, IsGood, StandsAt, may_step};
 ghost use Rattle.dv_sound.specs.Runs.{HasMain, IsAt, IsAtSome, IsKept, IsOpened, IsReady, IsSameRun, IsTurned, MayTurn, NoneIsReady, TurnedFrom};
 
 use crate::moves::{may_step, take_turn};
-use crate::premises::{inits_fit, is_accepted, strings_fit};
+use crate::premises::{are_numbers, inits_fit, is_accepted, keys_rise, strings_fit};
 use dv_core::Vm;
 use dv_defs::{Ending, Entry, Limits, MethodId};
 use dv_rules::Verified;
@@ -24,9 +24,9 @@ use std::marker::Model;
 pub struct SafeVm<'v> {
     verified: &'v Verified,
     main: MethodId,
-    vm: Vm,
-    log: Vec<Entry>,
-    lent: Vec<u32>,
+    pub(crate) vm: Vm,
+    pub(crate) log: Vec<Entry>,
+    pub(crate) lent: Vec<u32>,
 }
 
 impl<'v> Model for SafeVm<'v> {
@@ -54,8 +54,10 @@ pub fn opened(
     ensures { HasMain verified.now.image main.0 → AreUsable limits → IfOk result (λ v. IsOpened verified.now.image main limits v) }
 {
     is_accepted(verified);
+    are_numbers(&limits);
     let image = &verified.image;
     strings_fit(image);
+    keys_rise(verified);
     inits_fit(image)?;
     Vm::open(alloc, image, main, limits)
 }
@@ -78,6 +80,8 @@ fn logged_turn(
         TurnedFrom program.now.image main vm.old log.old.items lent k worker thread most n vm.new log.new.items) }
     ensures limits { (main : MethodId) (lent : List ℕ) → IsKept program.now.image main vm.old log.old.items lent → 1 ≤ most → vm.new.limits ≡ vm.old.limits }
     ensures few { IfOk result (λ n. n ≤ most) }
+    ensures counted { IfOk result (λ n. (main : MethodId) (lent : List ℕ) → IsKept program.now.image main vm.old log.old.items lent → 1 ≤ most → vm.new.steps ≡ vm.old.steps + n) }
+    ensures within { (main : MethodId) (lent : List ℕ) → IsKept program.now.image main vm.old log.old.items lent → 1 ≤ most → vm.new.steps ≤ vm.new.limits.budget }
     ensures refused { OnErr result ((main : MethodId) (lent : List ℕ) → IsKept program.now.image main vm.old log.old.items lent → (machine_of vm.new ≡ machine_of vm.old) × (log.new.items ≡ log.old.items)) }
 {
     let image = &program.image;
@@ -173,14 +177,15 @@ impl<'v> SafeVm<'v> {
 
     /// How the run stands: none where it goes on.
     pub fn ending(&self) -> Option<Ending>
-        ensures { (main : Method) (m : Machine) → IsAt self.now main m → result ≡ running.ending_of self.now.verified.image m }
+        ensures ending { (main : Method) (m : Machine) → IsAt self.now main m → result ≡ running.ending_of self.now.verified.image m }
+        ensures leads { IsAtSome self.now }
     {
         let verified = self.verified;
         self.vm.ending(&verified.image)
     }
 
     /// Whether a thread is lent.
-    fn is_lent(&self, thread: u32) -> bool
+    pub(crate) fn is_lent(&self, thread: u32) -> bool
         ensures { result ≡ false ↔ All (λ t. t ≢ thread) self.now.lent }
     {
         self.lent.contains(&thread)
@@ -195,6 +200,8 @@ impl<'v> SafeVm<'v> {
     pub fn turn(&mut self, worker: u32, thread: u32, most: u32) -> Result<u32, AllocError>
         ensures turned { IfOk result (λ n. (main : Method) (m : Machine) → IsAt self.old main m → MayTurn self.old m thread → 1 ≤ most → IsTurned self.old self.new main m worker thread most n) }
         ensures few { IfOk result (λ n. n ≤ most) }
+        ensures counted { IfOk result (λ n. self.new.machine.steps ≡ self.old.machine.steps + n) }
+        ensures within { IfOk result (λ n. 1 ≤ n → self.new.machine.steps ≤ self.new.machine.limits.budget) }
         ensures same { IsSameRun self.old self.new }
         ensures refused { OnErr result (self.new ≡ self.old) }
     {
@@ -210,14 +217,33 @@ impl<'v> SafeVm<'v> {
         logged_turn(verified, vm, log, worker, thread, most)
     }
 
+    /// Whether a thread is runnable.
+    pub fn runnable(&self, thread: u32) -> bool
+        ensures { (main : Method) (m : Machine) → IsAt self.now main m → result ≡ running.runnable self.now.verified.image m thread }
+    {
+        let verified = self.verified;
+        self.vm.runnable(&verified.image, thread)
+    }
+
+    /// Whether a thread is runnable and at home.
+    fn is_ready(&self, thread: u32) -> bool
+        ensures ready { (main : Method) (m : Machine) → IsAt self.now main m → result ≡ true → (running.runnable self.now.verified.image m thread ≡ true) × All (λ t. t ≢ thread) self.now.lent }
+        ensures held { (main : Method) (m : Machine) → IsAt self.now main m → result ≡ false → running.runnable self.now.verified.image m thread ≡ true → All (λ t. t ≢ thread) self.now.lent → ⊥ }
+    {
+        if self.is_lent(thread) {
+            false
+        } else {
+            self.runnable(thread)
+        }
+    }
+
     /// The lowest thread that is runnable and at home; none where none is.
+    #[tactic(auto, using(crate::proofs::Ready::none_ready))]
     pub fn ready(&self) -> Option<u32>
         ensures { (main : Method) (m : Machine) → IsAt self.now main m → MatchOption result (NoneIsReady self.now m) (λ t. IsReady self.now m t) }
     {
-        let verified = self.verified;
-        let image = &verified.image;
         for thread in 0..self.threads() {
-            if !self.is_lent(thread) && self.vm.runnable(image, thread) {
+            if self.is_ready(thread) {
                 return Some(thread);
             }
         }

@@ -1,5 +1,5 @@
 // Runs whose turns are picked by the words of a generator.
-ghost use Rattle.std.specs.Prelude.{◌≡◌, ◌≢◌, ◌+◌, ◌++◌, [], List, ℕ, Ok, OnErr, OnOk, Some, None as Nothing, IfSome, slice_index_or, length};
+ghost use Rattle.std.specs.Prelude.{◌≡◌, ◌≢◌, ◌++◌, [], List, Ok, OnErr, OnOk, None as Nothing, slice_index_or, length};
 ghost use Rattle.dv_defs.specs.Pools.{Method};
 ghost use Rattle.dv_defs.specs.declared.run.Entry.{Entry};
 ghost use Rattle.dv_machine.specs.Replaying.{picked, runnable_from};
@@ -18,10 +18,9 @@ impl<'v> SafeVm<'v> {
     fn runnable_count(&self) -> u32
         ensures { (main : Method) (m : Machine) → IsAt self.now main m → result ≡ length (runnable_from self.now.verified.image m m.threads 0) }
     {
-        let image = &self.verified().image;
         let mut count = 0;
         for thread in 0..self.threads() {
-            if self.vm().runnable(image, thread) {
+            if self.runnable(thread) {
                 count += 1;
             }
         }
@@ -32,10 +31,9 @@ impl<'v> SafeVm<'v> {
     fn runnable_at(&self, place: u32) -> u32
         ensures { (main : Method) (m : Machine) → IsAt self.now main m → result ≡ slice_index_or (runnable_from self.now.verified.image m m.threads 0) place 0 }
     {
-        let image = &self.verified().image;
         let mut before = place;
         for thread in 0..self.threads() {
-            if self.vm().runnable(image, thread) {
+            if self.runnable(thread) {
                 if before == 0 {
                     return thread;
                 }

@@ -28,7 +28,7 @@ use Rattle.dv_words.specs.State.{WordMachine, WordThread}
 use Rattle.dv_steps.specs.Laws.{IsBounded, IsNoString, IsPlain, IsUnit, OperandsFit, PutsInMade}
 use Rattle.dv_steps.specs.Opening as words_opening
 use Rattle.dv_steps.specs.Step.{act, step}
-use Rattle.dv_steps.specs.Stepping.{locals_here}
+use Rattle.dv_steps.specs.Stepping.{KeysRise, locals_here}
 use Rattle.dv_steps.specs.Steps as words
 
 -- ---- what the image gives
@@ -49,6 +49,10 @@ CallFits image op = Unit {0}
 -- what stands at an address has operands that fit
 abbrev pub OperationsFit : Image → Type 0
 OperationsFit image = (n at : ℕ) (x : statics.At) → fetch image n at ≡ Some x → OperandsFit image x.op × CallFits image x.op
+
+-- each switch's keys rise
+abbrev pub AllKeysRise : Image → Type 0
+AllKeysRise image = (n at : ℕ) (x : statics.At) → fetch image n at ≡ Some x → KeysRise x.op
 
 -- ---- a step at an instruction
 

@@ -8,5 +8,6 @@ mod names;
 mod records;
 mod unwinding;
 
+pub use fields::throwable_slot;
 pub use made::make;
 pub use unwinding::unwind_step;

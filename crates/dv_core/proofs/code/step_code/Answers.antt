@@ -16,7 +16,7 @@ pub returns-then-step_locally : goal.returns-then-step_locally
 returns-then-step_locally c own h x seen at fits =
     let l = c.args.limits.now in
     led_by {E = AllocError} (Ok next.On) (with_ready h x.op (needs x.op)) (local_left h x.op) _ _ (local_acts h x.op (c.step_locally.ensures.local l own h x seen at ∙ c.if-step_locally.true))
-    (c.step_locally.ensures.does l own h x seen at c.if-step_locally.true)
+    (c.step_locally.ensures.does l own h x seen at fits.keys c.if-step_locally.true)
 
 pub returns-in_default : goal.returns-in_default
 returns-in_default c own h x seen at fits =

@@ -15,12 +15,12 @@ returns-clause-local c l own h x seen at =
     local_is i l old c.args.thread own h x seen at c.step_top.result stack c.step_top.new.stack there c.step_top.ensures
 
 pub returns-clause-does : goal.returns-clause-does
-returns-clause-does c l own h x seen at goes =
+returns-clause-does c l own h x seen at keys goes =
     let i = c.args.image.now in
     let old = c.args.guest.now in
     let stack = c.index_mut.result.now in
     let there = read_there i l old c.args.thread own h seen stack stack c.index_mut.ensures.value in
-    local_went i l old c.args.thread own h x seen at c.step_top.result stack c.step_top.new.stack there c.step_top.ensures _ refl refl refl refl goes
+    local_went i l old c.args.thread own h x seen at c.step_top.result stack c.step_top.new.stack there c.step_top.ensures _ refl refl refl refl keys goes
 
 pub returns-clause-stays : goal.returns-clause-stays
 returns-clause-stays c l own h x seen at goes =

@@ -21,7 +21,7 @@ returns c =
     let value : c.int_in-value.result ≡ int_at (frame c.args.head.now c.args.words.now) (c.args.here.now.first / 256) = c.int_in-value.ensures ∙ ap (int_at (frame c.args.head.now c.args.words.now)) c.high.ensures in
     did_sparse c.args.here.now (frame c.args.head.now c.args.words.now) _ (c.args.here.now.first / 256) c.sparse_target-to.result (c.args.here.now.at + 3) (c.goto.ensures 0) 3 (with_offset c.args.opcode (few (c.args.here.now.first / 256 ∷ [])) (signed_at 32 (double_after c.args.here.now 0))) refl refl
     (read_as c.args.here.now c.args.opcode F31t 3 _ c.requires.opcode c.requires.format (reads_31t c.args.opcode (c.args.here.now.first / 256) (rest_of c.args.here.now))) c.requires.family
-    (λ keys targets spelled.
-    c.sparse_target-to.ensures keys targets (subst (λ (p : ℕ). IsSpelled c.args.here.now.units.now p (payload.Sparse keys targets)) (sym place) spelled) ∙
+    (λ keys targets spelled rise.
+    c.sparse_target-to.ensures keys targets (subst (λ (p : ℕ). IsSpelled c.args.here.now.units.now p (payload.Sparse keys targets)) (sym place) spelled) rise ∙
     ap (λ v. case_of (cases_sparse c.args.here.now.at keys targets) v c.after.result) ((let f : SFits w32 c.int_in-value.result = search rules in to_z-of_z w32 c.int_in-value.result f) ∙ value) ∙
     ap (λ m. case_of (cases_sparse c.args.here.now.at keys targets) (int_at (frame c.args.head.now c.args.words.now) (c.args.here.now.first / 256)) m) c.after.ensures)

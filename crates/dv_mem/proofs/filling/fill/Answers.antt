@@ -22,7 +22,7 @@ returns c image is =
     let are = c.in-Some.ensures.found (typed_is_data p (component array.ty) array.passes) in
     let W : ℕ → Type 0 = λ n. IsArray (is_fill_type n) c.args.heap.now c.word-array.result in
     let kind = sym c.kind.ensures ∙ ap Some c.in-Array.is in
-    let filled = c.fill_array.ensures image (subst W (sym are.width) array) (component_is here c.word-array.result c.in-Array.ty kind ∙ sym c.in_ok-ty.ensures) in
+    let filled = c.fill_array.ensures image (subst W (sym are.width) array) (component_is here c.word-array.result c.in-Array.ty kind ∙ sym c.in-Some-component.ensures) in
     let F : ℕ → List ℤ → Did WordLeft = λ n ns. on_object (steps.fill here ns) n in
     let P : Did WordLeft → Type 0 = λ d. Answers c.fill_array.result d c.args.stack.now c.args.heap.now c.fill_array.new.stack c.fill_array.new.heap in
     subst P

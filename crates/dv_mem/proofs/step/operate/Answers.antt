@@ -87,8 +87,9 @@ returns-in-StaticPut-clause-does c code at tiles mem operands =
 pub returns-in-Fill-clause-does : goal.returns-in-Fill-clause-does
 returns-in-Fill-clause-does c code at tiles mem operands =
     let here = seen c.args.image.now c.args.stack.now c.args.heap.now c.args.next in
+    let result : Result Next AllocError = Ok c.fill.result in
     let Q : List Tile → Type 0 = λ ts.
     IsNullOrArray (is_fill_type (width_in (payload_at ts c.in-Fill.to))) c.args.heap.now (reg_word (top_frame c.args.stack.now) c.in-Fill.a) →
-    Answered c.fill.result (word_mem here (Fill c.in-Fill.a (width_in (payload_at ts c.in-Fill.to)) (elements_in (payload_at ts c.in-Fill.to)))) c.args.stack.now c.args.heap.now c.fill.new.stack c.fill.new.heap in
-    let P : Op → Type 0 = λ o. AreOperands here (meant code at o) → Answered c.fill.result (word_mem here (meant code at o)) c.args.stack.now c.args.heap.now c.fill.new.stack c.fill.new.heap in
+    Answered result (word_mem here (Fill c.in-Fill.a (width_in (payload_at ts c.in-Fill.to)) (elements_in (payload_at ts c.in-Fill.to)))) c.args.stack.now c.args.heap.now c.fill.new.stack c.fill.new.heap in
+    let P : Op → Type 0 = λ o. AreOperands here (meant code at o) → Answered result (word_mem here (meant code at o)) c.args.stack.now c.args.heap.now c.fill.new.stack c.fill.new.heap in
     subst P (sym c.in-Fill.is) (subst Q (sym tiles) (c.fill.ensures c.args.image.now)) operands

@@ -1,4 +1,4 @@
-use Rattle.std.proofs.Common.{◌≡◌, ◌<◌, ◌∙◌, sym, arith}
+use Rattle.std.proofs.Common.{◌∙◌, sym, arith}
 use Rattle.dv_sound.proofs.Going.{may_parts, watchable}
 use Rattle.dv_sound.proofs.Turning.{goes_there, turns_last}
 use Rattle.dv_sound.proofs.moves.take_turn.Goals as goal

@@ -1,9 +1,8 @@
-use Rattle.std.proofs.Common.{◌≡◌, ◌<◌, ◌≤◌, ◌∙◌, ap, subst, sym, arith}
+use Rattle.std.proofs.Common.{◌≡◌, ◌∙◌, ap, subst, sym, arith}
 use Rattle.dv_defs.specs.declared.run.Limits.{Limits}
 use Rattle.dv_words.specs.State.{WordMachine}
 use Rattle.dv_core.specs.Guests.{IsOrdered}
 use Rattle.dv_core.specs.Machines.{machine_of}
-use Rattle.dv_sound.specs.Moves.{IsKeptAt, IsRun}
 use Rattle.dv_sound.proofs.Others.{keeps_same, keeps_then}
 use Rattle.dv_sound.proofs.Stepping.{kept_by}
 use Rattle.dv_sound.proofs.Turning.{mixed_turn, not_none, running, whole_turn}

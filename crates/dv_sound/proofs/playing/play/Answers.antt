@@ -1,4 +1,4 @@
-use Rattle.std.proofs.Common.{◌<◌, ◌≤◌, sym, arith}
+use Rattle.std.proofs.Common.{arith}
 use Rattle.std.proofs.lemmas.Result.{err_from_is_err_and}
 use Rattle.dv_machine.specs.Replaying.{steps_of}
 use Rattle.dv_sound.proofs.Played.{left_on, left_refused, refused_steps}

@@ -1,9 +1,8 @@
-use Rattle.std.proofs.Common.{◌≡◌, ◌<◌, ◌+◌, suc, List, ◌∷◌, drop-cons, length, ap, sym, subst, add-one, arith}
+use Rattle.std.proofs.Common.{◌≡◌, suc, List, ◌∷◌, drop-cons, sym, subst, add-one, arith}
 use Rattle.std.specs.Prelude.{drop, slice_index_or}
 use Rattle.std.proofs.lemmas.Result.{err_from_is_err_and}
 use Rattle.dv_defs.specs.declared.run.Entry.{Entry}
 use Rattle.dv_machine.specs.Replaying.{replay_from, steps_of}
-use Rattle.dv_machine.specs.State.{Machine}
 use Rattle.dv_sound.specs.Replays.{Refuses}
 use Rattle.dv_sound.proofs.Played.{Lefts, left_entry, left_refused, refused_on}
 use Rattle.dv_sound.proofs.playing.play_all.Goals as goal

@@ -1,4 +1,4 @@
-use Rattle.std.proofs.Common.{◌≡◌, ◌∙◌, sym}
+use Rattle.std.proofs.Common.{◌∙◌, sym}
 use Rattle.dv_sound.proofs.Going.{alike, watchable}
 use Rattle.dv_sound.proofs.Played.{held_told, one_held, one_past, past_told}
 use Rattle.dv_sound.proofs.playing.refusal.Goals as goal

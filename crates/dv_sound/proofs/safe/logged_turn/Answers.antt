@@ -1,10 +1,10 @@
-use Rattle.std.proofs.Common.{◌≡◌, ◌≢◌, ◌≤◌, ◌∙◌, ℕ, true, List, [], ◌∷◌, ◌++◌, All, ap, sym, subst}
+use Rattle.std.proofs.Common.{◌≡◌, ◌≢◌, ◌≤◌, ◌+◌, ◌∙◌, ℕ, true, List, All, ap, sym, subst}
 use Rattle.dv_defs.specs.declared.names.MethodId.{MethodId}
 use Rattle.dv_defs.specs.declared.run.Entry.{Entry}
-use Rattle.dv_defs.specs.Images.{Image}
 use Rattle.dv_rules.specs.Verified.{VerifiedValue}
 use Rattle.dv_sound.specs.Moves.{may_step}
 use Rattle.dv_sound.specs.Runs.{IsKept, TurnedFrom, logged}
+use Rattle.dv_sound.proofs.Counted.{turn_counted}
 use Rattle.dv_sound.proofs.Keeping.{kept_again, kept_turn, limits_stay, turned_from}
 use Rattle.dv_sound.proofs.safe.logged_turn.Goals as goal
 
@@ -45,3 +45,17 @@ returns-clause-limits c =
     let may = sym (c.may_step.ensures k.typings k.machine k.good k.stands) ∙ c.if-not-may_step.false in
     limits_stay _ main c.args.vm.now c.args.log.now.items lent k c.args.thread c.args.most c.in_ok-steps.steps c.args.worker c.take_turn.new.vm may some
     (c.in_ok-steps.ensures.turned k.typings k.machine k.good k.stands may))
+
+pub returns-clause-counted : goal.returns-clause-counted
+returns-clause-counted c =
+    subst (λ (v : VerifiedValue). (main : MethodId) (lent : List ℕ) → IsKept v.image main c.args.vm.now c.args.log.now.items lent → 1 ≤ c.args.most → c.take_turn.new.vm.steps ≡ c.args.vm.now.steps + c.in_ok-steps.steps) c.program.view_is
+    (λ main lent k some.
+    let may = sym (c.may_step.ensures k.typings k.machine k.good k.stands) ∙ c.if-not-may_step.false in
+    turn_counted _ k.typings c.args.vm.now c.take_turn.new.vm k.machine c.args.thread c.args.most c.in_ok-steps.steps k.stands may some (c.in_ok-steps.ensures.turned k.typings k.machine k.good k.stands may))
+
+pub returns-clause-within : goal.returns-clause-within
+returns-clause-within c =
+    subst (λ (v : VerifiedValue). (main : MethodId) (lent : List ℕ) → IsKept v.image main c.args.vm.now c.args.log.now.items lent → 1 ≤ c.args.most → c.take_turn.new.vm.steps ≤ c.take_turn.new.vm.limits.budget) c.program.view_is
+    (λ main lent k some.
+    let may = sym (c.may_step.ensures k.typings k.machine k.good k.stands) ∙ c.if-not-may_step.false in
+    (c.in_ok-steps.ensures.turned k.typings k.machine k.good k.stands may).stands.spent)

@@ -12,8 +12,8 @@ use Rattle.dv_sound.proofs.Going.{alike, watchable}
 use Rattle.dv_sound.proofs.Keeping.{machine_is}
 use Rattle.dv_sound.proofs.safe.SafeVm.ending.Goals as goal
 
-pub returns : goal.returns
-returns c =
+pub returns-clause-ending : goal.returns-clause-ending
+returns-clause-ending c =
     let k = c.self.invariant in
     let image : c.verified.inside.image ≡ c.self.inside.verified.now.image = ap (λ (v : VerifiedValue). v.image) c.verified.view_is in
     let seen = watchable c.self.inside.verified.now.image k.typings c.self.inside.vm k.machine k.good k.stands in

@@ -1,7 +1,7 @@
 use Rattle.std.proofs.Common.{◌≡◌, ◌<◌, ◌^◌, ◌∙◌, ap, refl, subst, arith, rules}
 use Rattle.std.specs.Prelude.{length}
 use Rattle.dv_defs.specs.Pools.{Method}
-use Rattle.dv_machine.specs.State.{Machine, Thread}
+use Rattle.dv_machine.specs.State.{Machine}
 use Rattle.dv_sound.specs.Runs.{IsAt, Run}
 use Rattle.dv_sound.proofs.Going.{few_stacks}
 use Rattle.dv_sound.proofs.Keeping.{machine_is, threads_are}

@@ -1,10 +1,10 @@
-use Rattle.std.proofs.Common.{◌≡◌, ◌≢◌, ◌≤◌, ◌∙◌, ℕ, List, All, ap, refl, sym, subst, arith}
-use Rattle.std.specs.Prelude.{IfOk, OnErr}
+use Rattle.std.proofs.Common.{◌≢◌, ◌≤◌, ◌+◌, ◌∙◌, ℕ, All, ap, refl, sym, subst, arith}
+use Rattle.std.specs.Prelude.{IfOk}
 use Rattle.dv_defs.specs.Pools.{Method}
 use Rattle.dv_machine.specs.State.{Machine}
 use Rattle.dv_core.specs.Machines.{machine_of}
 use Rattle.dv_sound.specs.Runs.{IsAt, IsSameRun, IsTurned, MayTurn, Run}
-use Rattle.dv_sound.proofs.Keeping.{if_ok, on_err, run_kept, run_may, run_same, run_turned, run_with}
+use Rattle.dv_sound.proofs.Keeping.{if_ok, on_err, run_kept, run_may, run_same, run_turned}
 use Rattle.dv_sound.proofs.safe.SafeVm.turn.Goals as goal
 
 pub invariant_of-self : goal.invariant_of-self
@@ -36,3 +36,15 @@ returns-clause-refused c =
     (λ same. let e = same c.self.inside.main c.self.inside.lent.items c.self.invariant in
     run_kept _ c.self.inside.vm c.logged_turn.new.vm c.logged_turn.new.log.items c.self.invariant refl e.0 e.1 ∙ c.self.view_is)
     c.logged_turn.ensures.refused
+
+pub returns-clause-counted : goal.returns-clause-counted
+returns-clause-counted c =
+    if_ok c.logged_turn.result
+    (λ n counted. counted c.self.inside.main c.self.inside.lent.items c.self.invariant (omega (arith, c.if-most-eq0.false)) ∙ ap (λ (r : Run). r.machine.steps + n) c.self.view_is)
+    c.logged_turn.ensures.counted
+
+pub returns-clause-within : goal.returns-clause-within
+returns-clause-within c =
+    if_ok c.logged_turn.result
+    (λ n few some. c.logged_turn.ensures.within c.self.inside.main c.self.inside.lent.items c.self.invariant (omega (arith, c.if-most-eq0.false)))
+    c.logged_turn.ensures.few

@@ -1,0 +1,5 @@
+pub mod Following
+pub mod MessageCells
+pub mod Ended
+pub mod Endings
+pub mod Held
