@@ -158,7 +158,7 @@ fn registers_are_moved(rt: HostRuntime) {
     assert_runs(&rt, rt.alloc(), MOVES.as_slice());
 }
 
-static JUMPS: [Run; 5] = [
+static JUMPS: [Run; 6] = [
     // a loop with gotos of each width
     Run {
         registers: "3",
@@ -266,6 +266,75 @@ static JUMPS: [Run; 5] = [
             .end sparse-switch
             .end method",
         output: "1\n2\n0\n3\n0\n",
+        ..RUN
+    },
+    // each of six keys, and what is beside and between them
+    Run {
+        registers: "4",
+        body: "
+            const/16 v0, 13
+            new-array v1, v0, [I
+            fill-array-data v1, :numbers
+            const/4 v2, 0
+            :loop
+            aget v3, v1, v2
+            invoke-static {v3}, LMain;->find(I)V
+            add-int/lit8 v2, v2, 1
+            if-ne v2, v0, :loop
+            return-void
+            :numbers
+            .array-data 4
+            -6
+            -5
+            -4
+            -1
+            0
+            1
+            7
+            8
+            99
+            100
+            101
+            1000
+            1001
+            .end array-data",
+        members: "
+            .method static find(I)V
+            .registers 2
+            const/4 v0, 0
+            sparse-switch p0, :keys
+            :print
+            invoke-static {v0}, Ldvm/Console;->println(I)V
+            return-void
+            :first
+            const/4 v0, 1
+            goto :print
+            :second
+            const/4 v0, 2
+            goto :print
+            :third
+            const/4 v0, 3
+            goto :print
+            :fourth
+            const/4 v0, 4
+            goto :print
+            :fifth
+            const/4 v0, 5
+            goto :print
+            :sixth
+            const/4 v0, 6
+            goto :print
+            :keys
+            .sparse-switch
+            -5 -> :first
+            -1 -> :second
+            0 -> :third
+            7 -> :fourth
+            100 -> :fifth
+            1000 -> :sixth
+            .end sparse-switch
+            .end method",
+        output: "0\n1\n0\n2\n3\n0\n4\n0\n0\n5\n0\n6\n0\n",
         ..RUN
     },
     // without keys control goes on
