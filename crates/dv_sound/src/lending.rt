@@ -240,7 +240,6 @@ impl<'v> SafeVm<'v> {
     /// Want of memory; all is as before then, and the slice is given back.
     pub fn commit(&mut self, worker: u32, slice: Slice) -> Result<u32, Refused>
         requires made { IsMade self.old.verified.image slice }
-        requires few { slice.steps ≤ 256 }
         ensures committed { IfOk result (λ n. (main : Method) (m : Machine) → IsAt self.old main m → IsFitting self.old slice → IsCommitted self.old self.new main m worker slice n) }
         ensures put_away { IfOk result (λ n. (IsFitting self.old slice → ⊥) → (n ≡ 0) × (self.new ≡ self.old)) }
         ensures few { IfOk result (λ n. n ≤ slice.steps) }

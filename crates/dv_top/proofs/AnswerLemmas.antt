@@ -1,11 +1,12 @@
 -- What an answer owes, from what the reply to the words owes.
 use Rattle.std.proofs.Common.{◌≡◌, ◌≢◌, ℕ, ◌+◌, List, [], All, Option, Some, None, IsSome, inl, inr, arith, ap, sym, refl, ◌∙◌, append-nil}
 use Rattle.dv_defs.specs.declared.run.Entry.{Entry}
+use Rattle.dv_defs.specs.declared.run.Limits.{Limits}
 use Rattle.dv_io.specs.Io.{HasRisen, after_taking, after_write}
 use Rattle.dv_top.specs.declared.status.Status.TheVariants as exit
-use Rattle.dv_top.specs.Answering.{IsAnswer, IsIdle, IsTold, HasTaken, MayRun}
+use Rattle.dv_top.specs.declared.words.Command.TheVariants as command
+use Rattle.dv_top.specs.Answering.{IsAnswer, IsEntry, IsIdle, IsTold, HasTaken, MayRun}
 use Rattle.dv_top.specs.Pieces.{TookPart}
-use Rattle.dv_top.specs.Program.{IsEntry}
 use Rattle.dv_top.specs.Said.{IsSaid, text_limit, usage}
 use Rattle.dv_top.specs.Status.{code_of}
 use Rattle.dv_top.specs.Words.{asked_in, class_to_run}
@@ -31,18 +32,6 @@ write_fault_not_idle (inr (inr (inr (inl e)))) = absurd (omega arith)
 write_fault_not_idle (inr (inr (inr (inr (inl e))))) = absurd (omega arith)
 write_fault_not_idle (inr (inr (inr (inr (inr e))))) = absurd (omega arith)
 
-want_not_idle : IsIdle (code_of exit.NoMemory) → ⊥
-want_not_idle (inl e) = absurd (omega arith)
-want_not_idle (inr (inl e)) = absurd (omega arith)
-want_not_idle (inr (inr (inl e))) = absurd (omega arith)
-want_not_idle (inr (inr (inr (inl e)))) = absurd (omega arith)
-want_not_idle (inr (inr (inr (inr (inl e))))) = absurd (omega arith)
-want_not_idle (inr (inr (inr (inr (inr e))))) = absurd (omega arith)
-
-took_nothing : (o : Option (List ℕ)) → HasTaken o o
-took_nothing None = ([], refl)
-took_nothing (Some old) = ([], ap Some (sym (append-nil old)))
-
 module _ {S K : Type 0} (left : S → Option (List ℕ)) (read_faults : S → ℕ) (taken : K → Option (List ℕ)) (write_faults : K → ℕ) (words : List (List ℕ)) where
   -- all of the reply is written
   pub written : (source source_after : S) (sink sink_after : K) (log : List Entry) (status : ℕ) (text out : List ℕ) → IsReplyTo left words source source_after log status text → out ≡ text → taken sink_after ≡ after_write out (taken sink) → IsAnswer left read_faults taken write_faults words source source_after sink sink_after log status
@@ -60,6 +49,7 @@ module _ {S K : Type 0} (left : S → Option (List ℕ)) (read_faults : S → �
     idle = reply.idle;
     not_run = reply.not_run;
     legal = reply.legal;
+    not_replayed = λ class limits asked told. absurd (reply.told.no_want told);
   }
 
   -- a front of the reply is written
@@ -78,40 +68,5 @@ module _ {S K : Type 0} (left : S → Option (List ℕ)) (read_faults : S → �
     idle = λ idle. absurd (write_fault_not_idle idle);
     not_run = reply.not_run;
     legal = reply.legal;
-  }
-
-  -- a read failed
-  pub not_read : (source source_after : S) (sink : K) (log : List Entry) → (asked_in words ≡ None → ⊥) → HasRisen (read_faults source) (read_faults source_after) → All IsEntry log → log ≡ [] → IsAnswer left read_faults taken write_faults words source source_after sink sink log (code_of exit.ReadFault)
-  not_read source source_after sink log asked risen entries none = record {
-    unread = λ unread. absurd (asked unread);
-    usage = λ told. absurd (omega arith);
-    read_fault = λ _. (risen, refl);
-    write_fault = λ told. absurd (omega arith);
-    no_memory = λ told. absurd (omega arith);
-    took = took_nothing (taken sink);
-    source_read = λ _ read _. absurd (read refl);
-    said = λ bytes is told. absurd (told.no_read_fault refl);
-    part = λ bytes is told. absurd (omega arith);
-    entries = entries;
-    idle = λ _. none;
-    not_run = λ _. none;
-    legal = λ bytes is some. absurd (some none);
-  }
-
-  -- memory was wanting
-  pub wanting : (source source_after : S) (sink : K) (log : List Entry) → (asked_in words ≡ None → source_after ≡ source) → All IsEntry log → (class_to_run words ≡ None → log ≡ []) → ((bytes : List ℕ) → left source ≡ Some bytes → log ≢ [] → MayRun words bytes log) → IsAnswer left read_faults taken write_faults words source source_after sink sink log (code_of exit.NoMemory)
-  wanting source source_after sink log unread entries not_run legal = record {
-    unread = λ none. (unread none, inr (inr refl));
-    usage = λ told. absurd (omega arith);
-    read_fault = λ told. absurd (omega arith);
-    write_fault = λ told. absurd (omega arith);
-    no_memory = λ _. refl;
-    took = took_nothing (taken sink);
-    source_read = λ _ _ enough. absurd (enough refl);
-    said = λ bytes is told. absurd (told.no_want refl);
-    part = λ bytes is told. absurd (omega arith);
-    entries = entries;
-    idle = λ idle. absurd (want_not_idle idle);
-    not_run = not_run;
-    legal = legal;
+    not_replayed = λ class limits asked told. absurd (omega arith);
   }

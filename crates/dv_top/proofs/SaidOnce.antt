@@ -1,155 +1,222 @@
 -- One thing is said of the words, the bytes and the log.
-use Rattle.std.proofs.Common.{◌≡◌, ℕ, ◌<◌, ◌≤◌, List, [], ◌∷◌, flat_map, Option, Some, Result, Ok, Err, false, arith, ap, sym, subst, ◌∙◌}
-use Rattle.dv_defs.specs.declared.faults.Fault.{Fault}
-use Rattle.dv_defs.specs.Images.{Image}
+use Rattle.std.proofs.Common.{◌≡◌, ℕ, ◌++◌, Bool, false, List, [], flat_map, Option, Some, None, Result, Ok, Err, ap, refl, sym, subst, ◌∙◌}
+use Rattle.dv_defs.specs.declared.names.MethodId.{MethodId}
 use Rattle.dv_defs.specs.declared.run.Entry.{Entry}
-use Rattle.dv_defs.specs.Accepting.{AreImageFaults}
+use Rattle.dv_defs.specs.declared.run.Limits.{Limits}
+use Rattle.dv_defs.specs.Accepting.{Accepts, AreImageFaults}
+use Rattle.dv_defs.specs.Images.{Image}
+use Rattle.dv_defs.specs.Linked.{IsImage}
+use Rattle.dv_defs.specs.Pools.{Method, method_at}
+use Rattle.dv_flowlaws.proofs.FaultsLaw.{image_faults_are_one}
+use Rattle.dv_flowlaws.proofs.HierarchyLaw.{linked_classes_are_hierarchies}
 use Rattle.dv_lex.specs.declared.line.Stop.{Stop}
 use Rattle.dv_lex.specs.Lines.{reading_of}
 use Rattle.dv_print.specs.Listing.{class_text}
 use Rattle.dv_classread.specs.declared.text.Read.{Read}
 use Rattle.dv_classread.specs.Programs.{program_of}
+use Rattle.dv_console.specs.declared.refusals.Refusal.{Refusal}
 use Rattle.dv_console.specs.declared.refusals.Refusal.TheVariants as refusal
 use Rattle.dv_console.specs.Refusals.{refusal_text}
+use Rattle.dv_program.specs.declared.program.Scheduled.{Scheduled}
+use Rattle.dv_program.specs.Images.{image_in, main_in, scheduled_in}
+use Rattle.dv_program.proofs.LinkedTexts.{scheduled_texts_give_images, texts_give_images}
 use Rattle.dv_machine.specs.Final.{final_text}
-use Rattle.dv_machine.specs.Opening.{usual}
 use Rattle.dv_machine.specs.Replaying.{Replayed, Stands, replay}
 use Rattle.dv_machine.specs.Running.{ending_of}
 use Rattle.dv_machine.specs.State.{Machine}
+use Rattle.dv_top.specs.declared.program.Program.{Program}
+use Rattle.dv_top.specs.declared.status.Status.TheVariants as exit
 use Rattle.dv_top.specs.declared.words.Command.{Command}
 use Rattle.dv_top.specs.declared.words.Command.TheVariants as command
-use Rattle.dv_top.specs.Image.{IsLinked, image_of}
-use Rattle.dv_top.specs.Laws.{VerdictsAreExact}
-use Rattle.dv_top.specs.Said.{IsSaid, Unread, Asked, ToBeListed, ToBeVerified, IsSaidOfClass, TooLarge, NotBuilt, Refused, Ran, IsSaidOfListing, TooLargeToList, BadText, Listed, IsRun, status_of, fault_lines, main_of, text_limit}
+use Rattle.dv_top.specs.Programs.{of_image, of_scheduled, program_to_replay, program_to_run, with_main}
+use Rattle.dv_top.specs.Runs.{IsRun, refused_line, shown_schedule, status_of}
+use Rattle.dv_top.specs.Laws.{IsSaidOnce}
+use Rattle.dv_top.specs.Said.{BadText, IsAccepted, IsReply, IsSaid, IsSaidOfListing, IsSaidOfNoRun, IsSaidOfReplay, IsSaidOfRun, IsSaidOfVerifying, Listed, NoProgram, NotReplayed, NotRun, Ran, Refused, Replayed as IsReplayed, ScheduleRefused, ToBeListed, ToBeReplayed, ToBeRun, ToBeVerified, TooLarge, TooLargeToList, Unread, fault_lines, usage}
 use Rattle.dv_top.specs.Status.{code_of}
-use Rattle.dv_top.specs.Words.{asked_in, class_of, class_to_run}
-use Rattle.dv_top.proofs.AnsweringLemmas.{straight_image, none_or_some}
-use Rattle.dv_top.proofs.BodyLemmas.{one_straight}
-use Rattle.dv_top.proofs.FaultsFound.{faults_are_found}
-use Rattle.dv_top.proofs.VerifyingLemmas.{verified_once, is_verdict}
+use Rattle.dv_top.specs.Words.{asked_in}
+use Rattle.dv_top.proofs.AnsweringLemmas.{large_or_small, ok_or_err, same_err, same_ok, same_some}
+use Rattle.dv_top.proofs.RunLemmas.{not_refused}
+use Rattle.dv_top.proofs.VerifyingLemmas.{verified_once}
 
 -- two answers are one
 abbrev Same : ℕ → List ℕ → ℕ → List ℕ → Type 0
 Same s a t b = (s ≡ t) × (a ≡ b)
 
--- a text links to one image
-linked_once : (class text : List ℕ) (one other : Image) → IsLinked class text one → IsLinked class text other → one ≡ other
-linked_once class text one other l m =
-    let same = one_straight class text l.registers m.registers l.insns m.insns l.straight m.straight in
-    l.is ∙ (ap (λ n. image_of class n l.insns) same.0 ∙ (ap (λ is. image_of class m.registers is) same.1 ∙ sym m.is))
+-- ---- images of programs
 
--- ... with one list of faults
-faults_once : (class text : List ℕ) (image : Image) (fs gs : List Fault) → IsLinked class text image → AreImageFaults image fs → AreImageFaults image gs → fs ≡ gs
-faults_once class text image fs gs l a b =
-    let p = straight_image class text l.registers l.insns image l.straight l.is in
-    (faults_are_found class l.registers l.insns image p fs).0 a ∙ sym ((faults_are_found class l.registers l.insns image p gs).0 b)
+-- each program that is found has an image that linking gives
+abbrev pub HaveImages : Result Program Refusal → Type 0
+HaveImages found = (p : Program) → found ≡ Ok p → IsImage p.image
 
-same_some : {A : Type 0} (o : Option A) (x y : A) → o ≡ Some x → o ≡ Some y → x ≡ y
-same_some o x y e h = cc
+main_of_image : (image : Image) (schedule : List Entry) (main : Result MethodId Refusal) → IsImage image → HaveImages (with_main image schedule main)
+main_of_image image schedule (Ok main) is p e =
+    let same : record { image = image; main = main; schedule = schedule } ≡ p = cc in
+    subst (λ (q : Program). IsImage q.image) same is
+main_of_image image schedule (Err why) is p e = absurd (cc)
+
+pub images_of_run : (class bytes : List ℕ) → HaveImages (program_to_run class bytes)
+images_of_run class bytes = by (image_in bytes) refl
+  where
+    by : (r : Result Image Refusal) → image_in bytes ≡ r → HaveImages (of_image class r)
+    by (Ok image) is p e = main_of_image image [] (main_in image class) (texts_give_images bytes image is) p e
+    by (Err why) is p e = absurd (cc)
+
+pub images_of_replay : (class bytes : List ℕ) → HaveImages (program_to_replay class bytes)
+images_of_replay class bytes = by (scheduled_in bytes) refl
+  where
+    by : (r : Result Scheduled Refusal) → scheduled_in bytes ≡ r → HaveImages (of_scheduled class r)
+    by (Ok s) is p e = main_of_image s.image s.log (main_in s.image class) (scheduled_texts_give_images bytes s is) p e
+    by (Err why) is p e = absurd (cc)
+
+-- ---- nothing runs
+
+module _ (bytes : List ℕ) (found : Result Program Refusal) where
+  pub same_program : (p q : Program) → found ≡ Ok p → found ≡ Ok q → p ≡ q
+  same_program p q e h = same_ok found p q e h
+
+  not_run_once : HaveImages found → (s t : ℕ) (a b : List ℕ) → IsSaidOfNoRun bytes found s a → IsSaidOfNoRun bytes found t b → Same s a t b
+  not_run_once images s t a b (TooLarge many r) (TooLarge _ q) = (r.0 ∙ sym q.0, r.1 ∙ sym q.1)
+  not_run_once images s t a b (TooLarge many r) (NoProgram few why none q) = absurd (large_or_small _ many few)
+  not_run_once images s t a b (TooLarge many r) (Refused few p is broken fs are q) = absurd (large_or_small _ many few)
+  not_run_once images s t a b (NoProgram few why none r) (TooLarge many q) = absurd (large_or_small _ many few)
+  not_run_once images s t a b (NoProgram few why none r) (NoProgram _ other again q) =
+      let same = same_err found why other none again in
+      (r.0 ∙ sym q.0, r.1 ∙ (ap refusal_text same ∙ sym q.1))
+  not_run_once images s t a b (NoProgram few why none r) (Refused _ p is broken fs are q) = absurd (ok_or_err found p why is none)
+  not_run_once images s t a b (Refused few p is broken fs are r) (TooLarge many q) = absurd (large_or_small _ many few)
+  not_run_once images s t a b (Refused few p is broken fs are r) (NoProgram _ why none q) = absurd (ok_or_err found p why is none)
+  not_run_once images s t a b (Refused few p is broken fs are r) (Refused _ other again _ gs too q) =
+      let same = same_program p other is again in
+      let P : Program → Type 0 = λ x. AreImageFaults x.image fs in
+      let faults = image_faults_are_one other.image (linked_classes_are_hierarchies other.image (images other again)).0 fs gs (subst P same are) too in
+      (r.0 ∙ sym q.0, r.1 ∙ (ap (λ (x : Program). fault_lines x.image fs) same ∙ (ap (λ xs. fault_lines other.image xs) faults ∙ sym q.1)))
+
+  -- either nothing runs, or the program is accepted
+  pub run_or_not : (s : ℕ) (a : List ℕ) (p : Program) (main : Method) → IsSaidOfNoRun bytes found s a → IsAccepted bytes found p main → ⊥
+  run_or_not s a p main (TooLarge many r) is = large_or_small _ many is.small
+  run_or_not s a p main (NoProgram few why none r) is = ok_or_err found p why is.program none
+  run_or_not s a p main (Refused few q gives broken fs are r) is =
+      broken (subst (λ (x : Program). Accepts x.image) (same_program p q is.program gives) is.accepted)
+
+  pub same_main : (p q : Program) (m n : Method) → p ≡ q → IsAccepted bytes found p m → IsAccepted bytes found q n → m ≡ n
+  same_main p q m n same one other =
+      same_some (method_at q.image q.main.0) m n (ap (λ (x : Program). method_at x.image x.main.0) (sym same) ∙ one.has_main) other.has_main
+
+-- ---- runs
 
 same_stands : (r : Replayed) (m n : Machine) → r ≡ Stands m → r ≡ Stands n → m ≡ n
 same_stands r m n e h = cc
 
--- ... and a log's replay stands at one ending
-run_once : (class : List ℕ) (image : Image) (log : List Entry) (s t : ℕ) (a b : List ℕ) → IsRun class image log s a → IsRun class image log t b → Same s a t b
-run_once class image log s t a b r q =
-    let main : r.main ≡ q.main = same_some (main_of image class) r.main q.main r.has_main q.has_main in
-    let machine : r.machine ≡ q.machine = same_stands (replay image q.main usual log) r.machine q.machine (ap (λ m. replay image m usual log) (sym main) ∙ r.replayed) q.replayed in
-    let ending : r.ending ≡ q.ending = same_some (ending_of image q.machine) r.ending q.ending (ap (λ m. ending_of image m) (sym machine) ∙ r.ends) q.ends in
-    (r.tells ∙ (ap (λ m. code_of (status_of m r.ending)) machine ∙ (ap (λ e. code_of (status_of q.machine e)) ending ∙ sym q.tells)), r.prints ∙ (ap (λ m. final_text image m) machine ∙ sym q.prints))
+-- a schedule's replay stands at one ending
+run_once : (image : Image) (main : Method) (limits : Limits) (log : List Entry) (shown : Bool) (s t : ℕ) (a b : List ℕ) → IsRun image main limits log shown s a → IsRun image main limits log shown t b → Same s a t b
+run_once image main limits log shown s t a b r q =
+    let machine : r.machine ≡ q.machine = same_stands (replay image main limits log) r.machine q.machine r.replayed q.replayed in
+    let ending : r.ending ≡ q.ending = same_some (ending_of image q.machine) r.ending q.ending (ap (λ m. ending_of image m) (sym machine) ∙ r.ends) q.ends in (
+      r.tells ∙ (ap (λ m. code_of (status_of m r.ending)) machine ∙ (ap (λ e. code_of (status_of q.machine e)) ending ∙ sym q.tells)),
+      r.prints ∙ (ap (λ m. final_text image m ++ shown_schedule shown log) machine ∙ sym q.prints),
+    )
 
-too_large_or_small : (n : ℕ) → text_limit < n → n ≤ text_limit → ⊥
-too_large_or_small n many few = absurd (omega arith)
+-- also where a program and its main method are named twice
+pub run_moved : (p q : Program) (m n : Method) (limits : Limits) (log other : List Entry) (shown : Bool) (s : ℕ) (a : List ℕ) → p ≡ q → m ≡ n → log ≡ other → IsRun p.image m limits log shown s a → IsRun q.image n limits other shown s a
+run_moved p q m n limits log other shown s a same main logs r =
+    let P : Program → Type 0 = λ x. IsRun x.image m limits log shown s a in
+    let Q : Method → Type 0 = λ x. IsRun q.image x limits log shown s a in
+    let R : List Entry → Type 0 = λ x. IsRun q.image n limits x shown s a in
+    subst R logs (subst Q main (subst P same r))
 
-some_or_none : (f : Fault) (fs : List Fault) → (let xs : List Fault = f ∷ fs in xs) ≡ [] → ⊥
-some_or_none f fs e = cc
+ran_once : (bytes : List ℕ) (found : Result Program Refusal) (seed : Option ℕ) (limits : Limits) (shown : Bool) (log : List Entry) → HaveImages found → (s t : ℕ) (a b : List ℕ) → IsSaidOfRun bytes found seed limits shown log s a → IsSaidOfRun bytes found seed limits shown log t b → Same s a t b
+ran_once bytes found seed limits shown log images s t a b (NotRun r) (NotRun q) = not_run_once bytes found images s t a b r q
+ran_once bytes found seed limits shown log images s t a b (NotRun r) (Ran p main is turns q) = absurd (run_or_not bytes found s a p main r is)
+ran_once bytes found seed limits shown log images s t a b (Ran p main is turns r) (NotRun q) = absurd (run_or_not bytes found t b p main q is)
+ran_once bytes found seed limits shown log images s t a b (Ran p main is turns r) (Ran other again too more q) =
+    let same = same_program bytes found p other is.program too.program in
+    let mains = same_main bytes found p other main again same is too in
+    run_once other.image again limits log shown s t a b (run_moved p other main again limits log log shown s a same mains refl r) q
 
-said_once_of : (class bytes : List ℕ) (log : List Entry) (s t : ℕ) (a b : List ℕ) → IsSaidOfClass class bytes log s a → IsSaidOfClass class bytes log t b → Same s a t b
-said_once_of class bytes log s t a b (TooLarge many r) (TooLarge _ q) = (r.0 ∙ sym q.0, r.1 ∙ sym q.1)
-said_once_of class bytes log s t a b (TooLarge many r) (NotBuilt few none q) = absurd (too_large_or_small _ many few)
-said_once_of class bytes log s t a b (TooLarge many r) (Refused image built f fs are q) = absurd (too_large_or_small _ many built.small)
-said_once_of class bytes log s t a b (TooLarge many r) (Ran image accepted q) = absurd (too_large_or_small _ many accepted.built.small)
-said_once_of class bytes log s t a b (NotBuilt few none r) (TooLarge many q) = absurd (too_large_or_small _ many few)
-said_once_of class bytes log s t a b (NotBuilt few none r) (NotBuilt _ _ q) = (r.0 ∙ sym q.0, r.1 ∙ sym q.1)
-said_once_of class bytes log s t a b (NotBuilt few none r) (Refused image built f fs are q) = absurd (none built.linked.registers built.linked.insns built.linked.straight)
-said_once_of class bytes log s t a b (NotBuilt few none r) (Ran image accepted q) = absurd (none accepted.built.linked.registers accepted.built.linked.insns accepted.built.linked.straight)
-said_once_of class bytes log s t a b (Refused image built f fs are r) (TooLarge many q) = absurd (too_large_or_small _ many built.small)
-said_once_of class bytes log s t a b (Refused image built f fs are r) (NotBuilt few none q) = absurd (none built.linked.registers built.linked.insns built.linked.straight)
-said_once_of class bytes log s t a b (Refused image built f fs are r) (Refused other again g gs too q) =
-    let same = linked_once class bytes image other built.linked again.linked in
-    let P : Image → Type 0 = λ i. AreImageFaults i (f ∷ fs) in
-    let faults = faults_once class bytes other (f ∷ fs) (g ∷ gs) again.linked (subst P same are) too in
-    (r.0 ∙ sym q.0, r.1 ∙ (ap (λ i. fault_lines i (f ∷ fs)) same ∙ (ap (λ xs. fault_lines other xs) faults ∙ sym q.1)))
-said_once_of class bytes log s t a b (Refused image built f fs are r) (Ran other accepted q) =
-    let same = linked_once class bytes image other built.linked accepted.built.linked in
-    let P : Image → Type 0 = λ i. AreImageFaults i (f ∷ fs) in
-    absurd (some_or_none f fs (faults_once class bytes other (f ∷ fs) [] accepted.built.linked (subst P same are) accepted.clean))
-said_once_of class bytes log s t a b (Ran image accepted r) (TooLarge many q) = absurd (too_large_or_small _ many accepted.built.small)
-said_once_of class bytes log s t a b (Ran image accepted r) (NotBuilt few none q) = absurd (none accepted.built.linked.registers accepted.built.linked.insns accepted.built.linked.straight)
-said_once_of class bytes log s t a b (Ran image accepted r) (Refused other built f fs are q) =
-    let same = linked_once class bytes other image built.linked accepted.built.linked in
-    let P : Image → Type 0 = λ i. AreImageFaults i (f ∷ fs) in
-    absurd (some_or_none f fs (faults_once class bytes image (f ∷ fs) [] accepted.built.linked (subst P same are) accepted.clean))
-said_once_of class bytes log s t a b (Ran image accepted r) (Ran other again q) =
-    let same = linked_once class bytes image other accepted.built.linked again.built.linked in
-    let P : Image → Type 0 = λ i. IsRun class i log s a in
-    run_once class other log s t a b (subst P same r) q
+-- ---- replays
+
+-- the line of a schedule that is refused, where its program and main method are named twice
+same_line : (p q : Program) (m n : Method) (limits : Limits) (a b : List ℕ) → p ≡ q → m ≡ n → refused_line p.image p.schedule (replay p.image m limits p.schedule) ≡ Some a → refused_line q.image q.schedule (replay q.image n limits q.schedule) ≡ Some b → a ≡ b
+same_line p q m n limits a b same main one other =
+    let P : Program → Type 0 = λ x. refused_line x.image x.schedule (replay x.image m limits x.schedule) ≡ Some a in
+    let Q : Method → Type 0 = λ x. refused_line q.image q.schedule (replay q.image x limits q.schedule) ≡ Some a in
+    same_some (refused_line q.image q.schedule (replay q.image n limits q.schedule)) a b (subst Q main (subst P same one)) other
+
+replayed_once : (bytes : List ℕ) (found : Result Program Refusal) (limits : Limits) (log : List Entry) → HaveImages found → (s t : ℕ) (a b : List ℕ) → IsSaidOfReplay bytes found limits log s a → IsSaidOfReplay bytes found limits log t b → Same s a t b
+replayed_once bytes found limits log images s t a b (NotReplayed r) (NotReplayed q) = not_run_once bytes found images s t a b r q
+replayed_once bytes found limits log images s t a b (NotReplayed r) (ScheduleRefused p main is line refused q) = absurd (run_or_not bytes found s a p main r is)
+replayed_once bytes found limits log images s t a b (NotReplayed r) (IsReplayed p main is given q) = absurd (run_or_not bytes found s a p main r is)
+replayed_once bytes found limits log images s t a b (ScheduleRefused p main is line refused r) (NotReplayed q) = absurd (run_or_not bytes found t b p main q is)
+replayed_once bytes found limits log images s t a b (ScheduleRefused p main is line refused r) (ScheduleRefused other again too next more q) =
+    let same = same_program bytes found p other is.program too.program in
+    let mains = same_main bytes found p other main again same is too in
+    (r.0 ∙ sym q.0, r.1 ∙ (same_line p other main again limits line next same mains refused more ∙ sym q.1))
+replayed_once bytes found limits log images s t a b (ScheduleRefused p main is line refused r) (IsReplayed other again too given q) =
+    let same = same_program bytes found p other is.program too.program in
+    let mains = same_main bytes found p other main again same is too in
+    let moved = run_moved other p again main limits other.schedule p.schedule false t b (sym same) (sym mains) (ap (λ (x : Program). x.schedule) (sym same)) q in
+    absurd (not_refused p.image main limits p.schedule false t b line moved refused)
+replayed_once bytes found limits log images s t a b (IsReplayed p main is given r) (NotReplayed q) = absurd (run_or_not bytes found t b p main q is)
+replayed_once bytes found limits log images s t a b (IsReplayed p main is given r) (ScheduleRefused other again too line refused q) =
+    let same = same_program bytes found p other is.program too.program in
+    let mains = same_main bytes found p other main again same is too in
+    let moved = run_moved p other main again limits p.schedule other.schedule false s a same mains (ap (λ (x : Program). x.schedule) same) r in
+    absurd (not_refused other.image again limits other.schedule false s a line moved refused)
+replayed_once bytes found limits log images s t a b (IsReplayed p main is given r) (IsReplayed other again too more q) =
+    let same = same_program bytes found p other is.program too.program in
+    let mains = same_main bytes found p other main again same is too in
+    let moved = run_moved p other main again limits p.schedule other.schedule false s a same mains (ap (λ (x : Program). x.schedule) same) r in
+    run_once other.image again limits other.schedule false s t a b moved q
 
 -- ---- listings
 
-same_read : {A B : Type 0} (r : Result A B) (x y : A) → r ≡ Ok x → r ≡ Ok y → x ≡ y
-same_read r x y e h = cc
-
-same_stop : {A B : Type 0} (r : Result A B) (x y : B) → r ≡ Err x → r ≡ Err y → x ≡ y
-same_stop r x y e h = cc
-
-read_or_bad : {A B : Type 0} (r : Result A B) (x : A) (y : B) → r ≡ Ok x → r ≡ Err y → ⊥
-read_or_bad r x y e h = cc
-
 listed_once : (bytes : List ℕ) (s t : ℕ) (a b : List ℕ) → IsSaidOfListing bytes s a → IsSaidOfListing bytes t b → Same s a t b
 listed_once bytes s t a b (TooLargeToList many r) (TooLargeToList _ q) = (r.0 ∙ sym q.0, r.1 ∙ sym q.1)
-listed_once bytes s t a b (TooLargeToList many r) (BadText few bad stops q) = absurd (too_large_or_small _ many few)
-listed_once bytes s t a b (TooLargeToList many r) (Listed few read gives q) = absurd (too_large_or_small _ many few)
-listed_once bytes s t a b (BadText few bad stops r) (TooLargeToList many q) = absurd (too_large_or_small _ many few)
+listed_once bytes s t a b (TooLargeToList many r) (BadText few bad stops q) = absurd (large_or_small _ many few)
+listed_once bytes s t a b (TooLargeToList many r) (Listed few read gives q) = absurd (large_or_small _ many few)
+listed_once bytes s t a b (BadText few bad stops r) (TooLargeToList many q) = absurd (large_or_small _ many few)
 listed_once bytes s t a b (BadText few bad stops r) (BadText _ other again q) =
-    let same : bad ≡ other = same_stop (program_of false (reading_of bytes)) bad other stops again in
+    let same : bad ≡ other = same_err (program_of false (reading_of bytes)) bad other stops again in
     (r.0 ∙ sym q.0, r.1 ∙ (ap (λ (e : Stop). refusal_text (refusal.Line e.line e.kind)) same ∙ sym q.1))
-listed_once bytes s t a b (BadText few bad stops r) (Listed _ read gives q) = absurd (read_or_bad (program_of false (reading_of bytes)) read bad gives stops)
-listed_once bytes s t a b (Listed few read gives r) (TooLargeToList many q) = absurd (too_large_or_small _ many few)
-listed_once bytes s t a b (Listed few read gives r) (BadText _ bad stops q) = absurd (read_or_bad (program_of false (reading_of bytes)) read bad gives stops)
+listed_once bytes s t a b (BadText few bad stops r) (Listed _ read gives q) = absurd (ok_or_err (program_of false (reading_of bytes)) read bad gives stops)
+listed_once bytes s t a b (Listed few read gives r) (TooLargeToList many q) = absurd (large_or_small _ many few)
+listed_once bytes s t a b (Listed few read gives r) (BadText _ bad stops q) = absurd (ok_or_err (program_of false (reading_of bytes)) read bad gives stops)
 listed_once bytes s t a b (Listed few read gives r) (Listed _ other again q) =
-    let same : read ≡ other = same_read (program_of false (reading_of bytes)) read other gives again in
+    let same : read ≡ other = same_ok (program_of false (reading_of bytes)) read other gives again in
     (r.0 ∙ sym q.0, r.1 ∙ (ap (λ (p : Read). flat_map class_text p.classes) same ∙ sym q.1))
 
 -- ---- words
 
-same_command : (o : Option Command) → o ≡ Some command.List → o ≡ Some command.Verify → ⊥
-same_command o list verify = cc
+-- what is said of a command
+abbrev pub IsSaidOf : Option Command → List ℕ → List Entry → ℕ → List ℕ → Type 0
+IsSaidOf None bytes log status text = IsReply exit.Usage usage status text
+IsSaidOf (Some (command.Run class seed limits shown)) bytes log status text = IsSaidOfRun bytes (program_to_run class bytes) seed limits shown log status text
+IsSaidOf (Some (command.Replay class limits)) bytes log status text = IsSaidOfReplay bytes (program_to_replay class bytes) limits log status text
+IsSaidOf (Some command.List) bytes log status text = IsSaidOfListing bytes status text
+IsSaidOf (Some command.Verify) bytes log status text = IsSaidOfVerifying bytes status text
 
-pub said_once : (words : List (List ℕ)) (bytes : List ℕ) (log : List Entry) (s t : ℕ) (a b : List ℕ) → IsSaid words bytes log s a → IsSaid words bytes log t b → Same s a t b
-said_once words bytes log s t a b (Unread none r) (Unread _ q) = (r.0 ∙ sym q.0, r.1 ∙ sym q.1)
-said_once words bytes log s t a b (Unread none r) (Asked class some q) = absurd (none_or_some (class_to_run words) class (ap class_of none) some)
-said_once words bytes log s t a b (Unread none r) (ToBeListed asked q) = absurd (none_or_some (asked_in words) _ none asked)
-said_once words bytes log s t a b (Unread none r) (ToBeVerified asked q) = absurd (none_or_some (asked_in words) _ none asked)
-said_once words bytes log s t a b (Asked class some r) (Unread none q) = absurd (none_or_some (class_to_run words) class (ap class_of none) some)
-said_once words bytes log s t a b (Asked class some r) (Asked other again q) =
-    let same = same_some (class_to_run words) class other some again in
-    let P : List ℕ → Type 0 = λ c. IsSaidOfClass c bytes log s a in
-    said_once_of other bytes log s t a b (subst P same r) q
-said_once words bytes log s t a b (Asked class some r) (ToBeListed asked q) = absurd (none_or_some (class_to_run words) class (ap class_of asked) some)
-said_once words bytes log s t a b (Asked class some r) (ToBeVerified asked q) = absurd (none_or_some (class_to_run words) class (ap class_of asked) some)
-said_once words bytes log s t a b (ToBeListed asked r) (Unread none q) = absurd (none_or_some (asked_in words) _ none asked)
-said_once words bytes log s t a b (ToBeListed asked r) (Asked class some q) = absurd (none_or_some (class_to_run words) class (ap class_of asked) some)
-said_once words bytes log s t a b (ToBeListed asked r) (ToBeListed _ q) = listed_once bytes s t a b r q
-said_once words bytes log s t a b (ToBeListed list r) (ToBeVerified verify q) = absurd (same_command (asked_in words) list verify)
-said_once words bytes log s t a b (ToBeVerified asked r) (Unread none q) = absurd (none_or_some (asked_in words) _ none asked)
-said_once words bytes log s t a b (ToBeVerified asked r) (Asked class some q) = absurd (none_or_some (class_to_run words) class (ap class_of asked) some)
-said_once words bytes log s t a b (ToBeVerified verify r) (ToBeListed list q) = absurd (same_command (asked_in words) list verify)
-said_once words bytes log s t a b (ToBeVerified asked r) (ToBeVerified _ q) = verified_once bytes s t a b r q
+-- a command that is named twice
+named_twice : (o c : Option Command) (bytes : List ℕ) (log : List Entry) (status : ℕ) (text : List ℕ) → o ≡ c → IsSaidOf c bytes log status text → IsSaidOf o bytes log status text
+named_twice o c bytes log status text same is = subst (λ (x : Option Command). IsSaidOf x bytes log status text) (sym same) is
 
--- what is said of a program that is to be verified is exact
-pub verdicts_are_exact : VerdictsAreExact
-verdicts_are_exact words bytes log status text asked few (Unread none r) = absurd (none_or_some (asked_in words) _ none asked)
-verdicts_are_exact words bytes log status text asked few (Asked class some r) = absurd (none_or_some (class_to_run words) class (ap class_of asked) some)
-verdicts_are_exact words bytes log status text asked few (ToBeListed list r) = absurd (same_command (asked_in words) list asked)
-verdicts_are_exact words bytes log status text asked few (ToBeVerified _ r) = is_verdict bytes status text few r
+-- what is said is said of the command that the words ask for
+pub said_of : (words : List (List ℕ)) (bytes : List ℕ) (log : List Entry) (status : ℕ) (text : List ℕ) → IsSaid words bytes log status text → IsSaidOf (asked_in words) bytes log status text
+said_of words bytes log status text (Unread none r) = named_twice (asked_in words) None bytes log status text none r
+said_of words bytes log status text (ToBeRun class seed limits shown asked r) = named_twice (asked_in words) (Some (command.Run class seed limits shown)) bytes log status text asked r
+said_of words bytes log status text (ToBeReplayed class limits asked r) = named_twice (asked_in words) (Some (command.Replay class limits)) bytes log status text asked r
+said_of words bytes log status text (ToBeListed asked r) = named_twice (asked_in words) (Some command.List) bytes log status text asked r
+said_of words bytes log status text (ToBeVerified asked r) = named_twice (asked_in words) (Some command.Verify) bytes log status text asked r
+
+of_one : (o : Option Command) (bytes : List ℕ) (log : List Entry) (s t : ℕ) (a b : List ℕ) → IsSaidOf o bytes log s a → IsSaidOf o bytes log t b → Same s a t b
+of_one None bytes log s t a b r q = (r.0 ∙ sym q.0, r.1 ∙ sym q.1)
+of_one (Some (command.Run class seed limits shown)) bytes log s t a b r q = ran_once bytes (program_to_run class bytes) seed limits shown log (images_of_run class bytes) s t a b r q
+of_one (Some (command.Replay class limits)) bytes log s t a b r q = replayed_once bytes (program_to_replay class bytes) limits log (images_of_replay class bytes) s t a b r q
+of_one (Some command.List) bytes log s t a b r q = listed_once bytes s t a b r q
+of_one (Some command.Verify) bytes log s t a b r q = verified_once bytes s t a b r q
+
+pub said_once : IsSaidOnce
+said_once words bytes log s t a b one other = of_one (asked_in words) bytes log s t a b (said_of words bytes log s a one) (said_of words bytes log t b other)
+
+-- what is said of words that ask for a command
+pub said_of_asked : (words : List (List ℕ)) (c : Command) (bytes : List ℕ) (log : List Entry) (status : ℕ) (text : List ℕ) → asked_in words ≡ Some c → IsSaid words bytes log status text → IsSaidOf (Some c) bytes log status text
+said_of_asked words c bytes log status text asked is = subst (λ (x : Option Command). IsSaidOf x bytes log status text) asked (said_of words bytes log status text is)

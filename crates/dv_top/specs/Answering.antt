@@ -1,16 +1,25 @@
 -- What the parts of an answer tell.
-use Rattle.std.specs.Prelude.{◌≡◌, ◌≢◌, ◌⊎◌, ℕ, ◌+◌, List, [], take, All, Option, Some, None, IsSome}
-use Rattle.dv_defs.specs.Images.{Image}
+use Rattle.std.specs.Prelude.{◌≡◌, ◌≢◌, ◌⊎◌, ℕ, ◌+◌, ◌<◌, ◌≤◌, Bool, List, [], take, All, Option, Some, None, IsSome, Result}
 use Rattle.dv_defs.specs.declared.run.Entry.{Entry}
+use Rattle.dv_defs.specs.declared.run.Limits.{Limits}
 use Rattle.dv_defs.specs.Pools.{Method}
+use Rattle.dv_console.specs.declared.refusals.Refusal.{Refusal}
 use Rattle.dv_io.specs.Io.{HasRisen, after_taking, after_write}
-use Rattle.dv_machine.specs.Opening.{usual}
-use Rattle.dv_machine.specs.Replaying.{IsLegal}
+use Rattle.dv_machine.specs.Replaying.{IsFinished, IsLegal}
+use Rattle.dv_top.specs.declared.program.Program.{Program}
 use Rattle.dv_top.specs.declared.status.Status.TheVariants as exit
-use Rattle.dv_top.specs.Program.{IsEntry}
-use Rattle.dv_top.specs.Said.{IsAccepted, IsSaid, main_of, text_limit, usage}
+use Rattle.dv_top.specs.declared.words.Command.TheVariants as command
+use Rattle.dv_top.specs.Programs.{program_to_replay, program_to_run}
+use Rattle.dv_top.specs.Runs.{AreFirstTurns}
+use Rattle.dv_top.specs.Said.{IsAccepted, IsSaid, text_limit, usage}
 use Rattle.dv_top.specs.Status.{code_of}
 use Rattle.dv_top.specs.Words.{asked_in, class_to_run}
+
+-- an entry of a log: one of eight workers does 1 to 256 steps
+pub record IsEntry (e : Entry) : Type 0 where
+  pub worker : e.worker < 8
+  pub some : 1 ≤ e.steps
+  pub few : e.steps ≤ 256
 
 -- a status with which nothing ran
 abbrev pub IsIdle : ℕ → Type 0
@@ -18,7 +27,7 @@ IsIdle status =
     (status ≡ code_of exit.Usage)
     ⊎ ((status ≡ code_of exit.ReadFault)
     ⊎ ((status ≡ code_of exit.BadText)
-    ⊎ ((status ≡ code_of exit.Refused) ⊎ ((status ≡ code_of exit.TooLarge) ⊎ (status ≡ code_of exit.NotBuilt)))))
+    ⊎ ((status ≡ code_of exit.Refused) ⊎ ((status ≡ code_of exit.Schedule) ⊎ (status ≡ code_of exit.TooLarge)))))
 
 -- the statuses of a call whose words aren't read
 abbrev pub IsOfUnread : ℕ → Type 0
@@ -38,19 +47,28 @@ HasTaken before after = (text : List ℕ) × (after ≡ after_write text before)
 abbrev pub IsReadOf : List ℕ → List ℕ → Type 0
 IsReadOf bytes text = text ≡ take (text_limit + 1) bytes
 
--- the log is a legal schedule of the main method of a class
-pub record IsScheduleOf (class : List ℕ) (image : Image) (log : List Entry) : Type 0 where
+-- the log of a run: it leads the main method of an accepted image to a state, and has the first of the turns
+pub record IsLogOfRun (bytes : List ℕ) (found : Result Program Refusal) (seed : Option ℕ) (limits : Limits) (log : List Entry) : Type 0 where
+  pub program : Program
   pub main : Method
-  pub has_main : main_of image class ≡ Some main
-  pub legal : IsLegal image main usual log
+  pub accepted : IsAccepted bytes found program main
+  pub legal : IsLegal program.image main limits log
+  pub turns : AreFirstTurns seed program.image main limits log
 
--- some class is to be run, the verifier accepts the image of its text, and the log is a legal schedule of its main method
-pub record MayRun (words : List (List ℕ)) (bytes : List ℕ) (log : List Entry) : Type 0 where
-  pub class : List ℕ
-  pub asked : class_to_run words ≡ Some class
-  pub image : Image
-  pub accepted : IsAccepted class bytes image
-  pub schedule : IsScheduleOf class image log
+-- the log of a replay: the given schedule, which leads the main method of an accepted image to an ending
+pub record IsLogOfReplay (bytes : List ℕ) (found : Result Program Refusal) (limits : Limits) (log : List Entry) : Type 0 where
+  pub program : Program
+  pub main : Method
+  pub accepted : IsAccepted bytes found program main
+  pub given : log ≡ program.schedule
+  pub finished : IsFinished program.image main limits log
+
+-- where the words ask for one of the two
+pub data MayRun (words : List (List ℕ)) (bytes : List ℕ) (log : List Entry) : Type 0 where
+  ByTurns : (class : List ℕ) (seed : Option ℕ) (limits : Limits) (shown : Bool) → asked_in words ≡ Some (command.Run class seed limits shown)
+      → IsLogOfRun bytes (program_to_run class bytes) seed limits log → MayRun words bytes log
+  AsGiven : (class : List ℕ) (limits : Limits) → asked_in words ≡ Some (command.Replay class limits)
+      → IsLogOfReplay bytes (program_to_replay class bytes) limits log → MayRun words bytes log
 
 -- the sink took this text besides, and so it is said
 pub record IsPrinted
@@ -97,5 +115,9 @@ pub record IsAnswer
   pub entries : All IsEntry log
   pub idle : IsIdle status → log ≡ []
   pub not_run : class_to_run words ≡ None → log ≡ []
-  -- a log with entries is a legal schedule of an accepted image, also where a write failed or memory is wanting
+  -- a log with entries is a legal schedule of an accepted image, also where a write failed or memory is wanting: of a run it has the first of
+  -- its turns, of a replay it is the given one
   pub legal : (bytes : List ℕ) → left source ≡ Some bytes → log ≢ [] → MayRun words bytes log
+  -- a replay for which memory is wanting has no log
+  pub not_replayed : (class : List ℕ) (limits : Limits) → asked_in words ≡ Some (command.Replay class limits) → status ≡ code_of exit.NoMemory
+      → log ≡ []

@@ -16,5 +16,5 @@ code_of status.StackFull = 8
 code_of status.Blocked = 9
 code_of status.Spent = 10
 code_of status.NoMemory = 11
+code_of status.Schedule = 12
 code_of status.TooLarge = 13
-code_of status.NotBuilt = 14

@@ -1,24 +1,19 @@
 -- What the words of the command line ask for, of the commands that are built.
-use Rattle.std.specs.Prelude.{◌≡◌, ℕ, Bool, ◌&&◌, not, List, Option, Some, None, is_none, nat_eq, option_and_then, if◌then◌else◌}
-use Rattle.dv_defs.specs.declared.run.Limits.{Limits}
+use Rattle.std.specs.Prelude.{◌≡◌, ℕ, List, Option, Some, None, nat_eq, option_and_then, if◌then◌else◌}
 use Rattle.dv_console.specs.declared.command.Cmd.{Cmd}
 use Rattle.dv_console.specs.declared.command.Cmd.TheVariants as cmd
 use Rattle.dv_console.specs.Words.{command_in}
-use Rattle.dv_machine.specs.Opening.{usual}
+use Rattle.dv_sound.specs.Moves.{AreUsable}
 use Rattle.dv_top.specs.declared.words.Command.{Command}
 use Rattle.dv_top.specs.declared.words.Command.TheVariants as command
 
--- the settings of a run are those that it has where the words set nothing
-abbrev pub is_usual : ℕ → Option ℕ → Limits → Bool → Bool
-is_usual workers seed limits log =
-    nat_eq workers 1 && is_none seed && nat_eq limits.budget usual.budget && nat_eq limits.heap usual.heap && not log
-
--- the commands that are built: to verify, to list, and to run with the usual settings
+-- the commands that are built: not a run on several workers, and no demo
 abbrev pub built : Cmd → Option Command
-built (cmd.Run class workers seed limits log) = if is_usual workers seed limits log then Some (command.Run class) else None
+built (cmd.Run class workers seed limits shown) = if nat_eq workers 1 then Some (command.Run class seed limits shown) else None
+built (cmd.Replay class limits) = Some (command.Replay class limits)
 built cmd.Verify = Some command.Verify
 built cmd.List = Some command.List
-built other = None
+built (cmd.Demo number classes threads workers) = None
 
 -- what the words ask for; the words of a command that isn't built ask for nothing
 abbrev pub asked_in : List (List ℕ) → Option Command
@@ -34,8 +29,15 @@ AsksForVerifying words = asked_in words ≡ Some command.Verify
 
 -- the class that a command runs
 abbrev pub class_of : Option Command → Option (List ℕ)
-class_of (Some (command.Run class)) = Some class
+class_of (Some (command.Run class seed limits shown)) = Some class
+class_of (Some (command.Replay class limits)) = Some class
 class_of other = None
 
 abbrev pub class_to_run : List (List ℕ) → Option (List ℕ)
 class_to_run words = class_of (asked_in words)
+
+-- a run may be opened within the limits that the words set
+abbrev pub IsUsable : Option Command → Type 0
+IsUsable (Some (command.Run class seed limits shown)) = AreUsable limits
+IsUsable (Some (command.Replay class limits)) = AreUsable limits
+IsUsable other = Unit {0}

@@ -10,25 +10,18 @@ use std::alloc::Global;
 use std::thread::Threads;
 
 mod answering;
-mod assembling;
-mod cursor;
-mod decoding;
-mod forms;
-mod hexadecimal;
-mod instruction;
+mod ended;
 pub mod laws;
-mod linking;
 mod listing;
-mod machine;
-mod names;
-mod opcode;
 mod printing;
+mod program;
 mod reading;
+mod replaying;
 mod reply;
+mod running;
+mod scheduling;
 mod status;
-mod straight;
 mod verdict;
-mod verifying;
 mod words;
 mod writing;
 
@@ -70,8 +63,4 @@ pub fn dvm<R: Threads + Sync, S: Source, K: Sink + Send + Drop, G: Gate + Sync>(
 }
 
 #[cfg(test)]
-mod many_tests;
-#[cfg(test)]
 mod tests;
-#[cfg(test)]
-mod verify_tests;

@@ -1,11 +1,17 @@
 // What is replied to a call.
-ghost use Rattle.std.specs.Prelude.{◌≡◌, ◌<◌, ◌≤◌, length, IfOk, MatchBool};
+ghost use Rattle.std.specs.Prelude.{◌≡◌, ◌<◌, ◌≤◌, List, length, IfOk, MatchBool};
+ghost use Rattle.dv_defs.specs.Images.{Image};
+ghost use Rattle.dv_defs.specs.declared.faults.Fault.{Fault};
+ghost use Rattle.dv_console.specs.declared.refusals.Refusal.{Refusal as Why};
 ghost use Rattle.dv_console.specs.Refusals.{refusal_text};
-ghost use Rattle.dv_top.specs.Said.{text_limit};
+ghost use Rattle.dv_top.specs.Said.{fault_lines, text_limit};
 
+use crate::printing::fault_lines;
 use crate::reading::TEXT_LIMIT;
 use crate::status::Status;
 use dv_console::{Refusal, refusal_line};
+use dv_program::ProgramError;
+use dv_pverify::VerifyError;
 use std::alloc::{AllocError, Global};
 
 /// A status, and the text that goes with it.
@@ -31,6 +37,31 @@ pub fn refused(alloc: Global, refusal: &Refusal) -> Result<Reply, AllocError>
 {
     let line = refusal_line(alloc, refusal)?;
     fixed(alloc, Status::BadText, line.bytes())
+}
+
+/// The reply to a text that gives no program.
+pub fn no_program(alloc: Global, error: ProgramError) -> Result<Reply, AllocError>
+    ensures { IfOk result (λ reply. (reply.status ≡ Status.BadText)
+        × ((why : Why) × (error ≡ ProgramError.Refused why) × (reply.text.items ≡ refusal_text why))) }
+{
+    match error {
+        ProgramError::Refused(refusal) => refused(alloc, &refusal),
+        ProgramError::Memory => Err(AllocError),
+    }
+}
+
+/// The reply to a program that the verifier refuses.
+pub fn faulty(alloc: Global, error: VerifyError) -> Result<Reply, AllocError>
+    ensures { IfOk result (λ reply. (reply.status ≡ Status.Refused)
+        × ((image : Image) × (faults : List Fault) × (error ≡ VerifyError.Faults image faults) × (reply.text.items ≡ fault_lines image faults))) }
+{
+    match error {
+        VerifyError::Faults { image, faults } => Ok(Reply {
+            status: Status::Refused,
+            text: fault_lines(alloc, &image, faults.items())?,
+        }),
+        VerifyError::Memory => Err(AllocError),
+    }
 }
 
 pub fn is_too_large(text: &[u8]) -> bool

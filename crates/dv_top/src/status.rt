@@ -1,12 +1,12 @@
 // The exit status of a call.
 ghost use Rattle.std.specs.Prelude.{◌≡◌};
 
-use dv_defs::Ending;
+use dv_defs::{End, Ending};
 
 /// The exit status of a call, with the number that the system sees.
 #[derive(Clone, Copy, PartialEq, Eq, Debug)]
 pub enum Status {
-    /// The run ended, and its first thread returned; or the program was listed.
+    /// The run ended, and its first thread returned; or the program was listed, or accepted.
     Done = 0,
     /// The run ended, and its first thread died of an exception.
     Uncaught = 1,
@@ -30,14 +30,14 @@ pub enum Status {
     Spent = 10,
     /// Memory is wanting.
     NoMemory = 11,
+    /// The given schedule is refused.
+    Schedule = 12,
     /// The text is too large.
     TooLarge = 13,
-    /// The text has a form that isn't built yet.
-    NotBuilt = 14,
 }
 
 impl Status {
-    ghost use Rattle.dv_top.specs.Program.{status_by};
+    ghost use Rattle.dv_top.specs.Runs.{status_by, status_by_end};
     ghost use Rattle.dv_top.specs.Status.{code_of};
 
     /// The number of the status.
@@ -47,16 +47,26 @@ impl Status {
         self as u8
     }
 
-    /// The status of a run that ended so, as its first thread returned.
-    pub fn of(ending: Ending) -> Status
-        ensures { result ≡ status_by ending }
+    /// The status of a run that ended so, by how its first thread ended.
+    pub fn of(ending: Ending, first: Option<End>) -> Status
+        ensures { result ≡ status_by ending first }
     {
         match ending {
-            Ending::Done => Status::Done,
+            Ending::Done => Status::by_end(first),
             Ending::HeapFull(_) => Status::HeapFull,
             Ending::StackFull(_) => Status::StackFull,
             Ending::NoRunnable => Status::Blocked,
             Ending::Steps | Ending::Output => Status::Spent,
+        }
+    }
+
+    /// The status of a run of which no thread is left, by how its first one ended.
+    fn by_end(first: Option<End>) -> Status
+        ensures { result ≡ status_by_end first }
+    {
+        match first {
+            Some(End::Died(_)) => Status::Uncaught,
+            _ => Status::Done,
         }
     }
 }

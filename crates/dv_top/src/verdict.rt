@@ -7,13 +7,13 @@ ghost use Rattle.dv_top.specs.Answering.{IsTold, IsReadOf};
 ghost use Rattle.dv_top.specs.Said.{IsSaidOfVerifying, text_limit};
 ghost use Rattle.dv_top.specs.Status.{code_of};
 
-use crate::printing::{TOO_LARGE, fault_lines};
-use crate::reply::{Reply, fixed, is_too_large, refused};
+use crate::printing::TOO_LARGE;
+use crate::reply::{Reply, faulty, fixed, is_too_large, no_program};
 use crate::status::Status;
 use dv_console::accepted_line;
 use dv_defs::Image;
-use dv_program::{ProgramError, read_program};
-use dv_pverify::{VerifyError, verify_one_by_one};
+use dv_program::read_program;
+use dv_pverify::verify_one_by_one;
 use std::alloc::{AllocError, Global};
 
 /// The reply to a text of which at most one byte past the limit was read: how many methods are accepted, the line of its refusal,
@@ -28,8 +28,7 @@ pub fn reply_to_verifying(alloc: Global, text: &[u8]) -> Result<Reply, AllocErro
     }
     match read_program(alloc, text) {
         Ok(image) => verdict(alloc, image),
-        Err(ProgramError::Refused(refusal)) => refused(alloc, &refusal),
-        Err(ProgramError::Memory) => Err(AllocError),
+        Err(error) => no_program(alloc, error),
     }
 }
 
@@ -44,10 +43,6 @@ fn verdict(alloc: Global, image: Image) -> Result<Reply, AllocError>
             let line = accepted_line(alloc, &verified.image)?;
             fixed(alloc, Status::Done, line.bytes())
         }
-        Err(VerifyError::Faults { image, faults }) => Ok(Reply {
-            status: Status::Refused,
-            text: fault_lines(alloc, &image, faults.items())?,
-        }),
-        Err(VerifyError::Memory) => Err(AllocError),
+        Err(error) => faulty(alloc, error),
     }
 }

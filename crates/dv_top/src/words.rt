@@ -1,44 +1,34 @@
 // The command line.
 ghost use Rattle.std.specs.Prelude.{◌≡◌, map, IfOk, string_bytes};
-ghost use Rattle.dv_top.specs.Words.{asked_in, built, is_usual};
+ghost use Rattle.dv_top.specs.Words.{IsUsable, asked_in, built};
 
 use dv_console::{Cmd, WordError, read_words};
 use dv_defs::{Limits, Text};
 use std::alloc::{AllocError, Global};
 
-/// What the words ask for, of what is built.
+/// What the words ask for, of what is built. A class is that of this descriptor.
 #[derive(Drop)]
 pub enum Command {
-    /// Read the text, verify it, and run the main method of the class of this descriptor.
-    Run { class: Text },
+    /// Read the text, verify it, and run the main method of the class: by turns that the words of a seed pick, or else of the lowest runnable
+    /// thread; print the schedule if `shown`.
+    Run {
+        class: Text,
+        seed: Option<u64>,
+        limits: Limits,
+        shown: bool,
+    },
+    /// Read the text with its schedule, verify it, and run the main method of the class on that schedule.
+    Replay {
+        class: Text,
+        limits: Limits,
+    },
     /// Read the text, link it and verify it.
     Verify,
     /// Read the text, assemble its classes, and print them.
     List,
 }
 
-/// The limits of a run.
-pub const LIMITS: Limits = Limits {
-    budget: 10_000_000,
-    heap: 1_048_576,
-    output: 16_777_216,
-    threads: 64,
-    levels: 1_024,
-    words: 16_384,
-};
-
-/// Whether the settings of a run are those that it has where the words set nothing.
-fn is_usual(workers: u32, seed: Option<u64>, limits: Limits, log: bool) -> bool
-    ensures { result ≡ is_usual workers seed limits log }
-{
-    workers == 1
-        && seed.is_none()
-        && limits.budget == LIMITS.budget
-        && limits.heap == LIMITS.heap
-        && !log
-}
-
-/// The command, if it is built.
+/// The command, if it is built: not one of several workers, and no demo.
 fn built(command: Cmd) -> Option<Command>
     ensures { result ≡ built command }
 {
@@ -50,20 +40,30 @@ fn built(command: Cmd) -> Option<Command>
             limits,
             log,
         } => {
-            if !is_usual(workers, seed, limits, log) {
+            if workers != 1 {
                 return None;
             }
-            Some(Command::Run { class: name })
+            Some(Command::Run {
+                class: name,
+                seed,
+                limits,
+                shown: log,
+            })
         }
+        Cmd::Replay { name, limits } => Some(Command::Replay {
+            class: name,
+            limits,
+        }),
         Cmd::Verify => Some(Command::Verify),
         Cmd::List => Some(Command::List),
-        Cmd::Replay { .. } | Cmd::Demo { .. } => None,
+        Cmd::Demo { .. } => None,
     }
 }
 
 /// Reads the words of the command line, without the program's name; none where they aren't a command that is built.
 pub fn command_of(alloc: Global, words: &[String]) -> Result<Option<Command>, AllocError>
-    ensures { IfOk result (λ command. command ≡ asked_in (map string_bytes words.now)) }
+    ensures asked { IfOk result (λ command. command ≡ asked_in (map string_bytes words.now)) }
+    ensures usable { IfOk result IsUsable }
 {
     match read_words(alloc, words) {
         Ok(command) => Ok(built(command)),

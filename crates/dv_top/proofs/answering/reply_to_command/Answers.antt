@@ -1,16 +1,22 @@
 use Rattle.std.proofs.Common.{Some, ap, ◌∙◌}
 use Rattle.std.proofs.lemmas.Result.{IfOk-weaker}
-use Rattle.dv_top.specs.Said.{Asked, ToBeListed, ToBeVerified}
-use Rattle.dv_top.specs.Words.{class_of}
-use Rattle.dv_top.proofs.AnsweringLemmas.{may_run}
+use Rattle.dv_top.specs.Answering.{AsGiven, ByTurns}
+use Rattle.dv_top.specs.Said.{ToBeListed, ToBeReplayed, ToBeRun, ToBeVerified}
 use Rattle.dv_top.proofs.answering.reply_to_command.Goals as goal
 
 pub returns-in-Run-clause-said : goal.returns-in-Run-clause-said
 returns-in-Run-clause-said c words bytes is read =
-    IfOk-weaker c.reply_to_text.result _ _ (λ reply said. Asked c.in-Run.class (ap class_of (is ∙ ap Some c.in-Run.is)) said) (c.reply_to_text.ensures.said bytes read)
+    IfOk-weaker c.reply_to_running.result _ _ (λ reply said. ToBeRun c.in-Run.class _ _ _ (is ∙ ap Some c.in-Run.is) said) (c.reply_to_running.ensures.said bytes read)
 
 pub returns-in-Run-clause-legal : goal.returns-in-Run-clause-legal
-returns-in-Run-clause-legal c words bytes is read some = may_run words bytes c.in-Run.class _ (ap class_of (is ∙ ap Some c.in-Run.is)) (c.reply_to_text.ensures.legal bytes read some)
+returns-in-Run-clause-legal c words bytes is read some = ByTurns c.in-Run.class _ _ _ (is ∙ ap Some c.in-Run.is) (c.reply_to_running.ensures.legal bytes read some)
+
+pub returns-in-Replay-clause-said : goal.returns-in-Replay-clause-said
+returns-in-Replay-clause-said c words bytes is read =
+    IfOk-weaker c.reply_to_replaying.result _ _ (λ reply said. ToBeReplayed c.in-Replay.class _ (is ∙ ap Some c.in-Replay.is) said) (c.reply_to_replaying.ensures.said bytes read)
+
+pub returns-in-Replay-clause-legal : goal.returns-in-Replay-clause-legal
+returns-in-Replay-clause-legal c words bytes is read some = AsGiven c.in-Replay.class _ (is ∙ ap Some c.in-Replay.is) (c.reply_to_replaying.ensures.legal bytes read some)
 
 pub returns-in-List-clause-said : goal.returns-in-List-clause-said
 returns-in-List-clause-said c words bytes is read =

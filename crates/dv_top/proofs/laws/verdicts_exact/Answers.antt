@@ -1,5 +1,5 @@
-use Rattle.dv_top.proofs.SaidOnce.{verdicts_are_exact}
+use Rattle.dv_top.proofs.Judged.{verdicts_are_exact as by_lemma}
 use Rattle.dv_top.proofs.laws.verdicts_exact.Goals as goal
 
 pub returns : goal.returns
-returns c = verdicts_are_exact
+returns c = by_lemma

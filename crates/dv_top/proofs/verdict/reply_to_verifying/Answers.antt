@@ -14,6 +14,6 @@ returns-in-Ok-clause-said c bytes read =
     let whole = image_of_read bytes c.args.text.now c.in-Ok.image read (MatchBool-at_false _ _ c.if-is_too_large.false c.is_too_large.ensures) c.in-Ok.ensures in
     c.verdict.ensures.said bytes whole.0 whole.1
 
-pub returns-in-Err-Refused-clause-said : goal.returns-in-Err-Refused-clause-said
-returns-in-Err-Refused-clause-said c bytes read =
-    IfOk-weaker c.refused.result _ _ (λ reply h. said_no_image bytes c.args.text.now c.in-Err-Refused.refusal _ _ read (MatchBool-at_false _ _ c.if-is_too_large.false c.is_too_large.ensures) (rw c.in-Err-Refused.field-0-is at c.in-Err-Refused.ensures) (ap code_of h.0) h.1) c.refused.ensures
+pub returns-in-Err-clause-said : goal.returns-in-Err-clause-said
+returns-in-Err-clause-said c bytes read =
+    IfOk-weaker c.no_program.result _ _ (λ reply told. said_no_image bytes c.args.text.now c.in-Err.error reply.status reply.text.items read (MatchBool-at_false _ _ c.if-is_too_large.false c.is_too_large.ensures) c.in-Err.ensures told) c.no_program.ensures

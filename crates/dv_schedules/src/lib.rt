@@ -1,0 +1,21 @@
+//! Whole programs are run within limits, with seeds and without, replayed and cut into turns: tests that cross crates.
+#![tactic(auto)]
+
+#[cfg(test)]
+mod boundaries;
+#[cfg(test)]
+mod initialising;
+#[cfg(test)]
+mod playing;
+#[cfg(test)]
+mod program;
+#[cfg(test)]
+mod replays;
+#[cfg(test)]
+mod seeds;
+#[cfg(test)]
+mod texts;
+#[cfg(test)]
+mod threads;
+#[cfg(test)]
+mod turns;

@@ -1,0 +1,50 @@
+-- What a run that has ended tells, by the state at which its engine stands.
+use Rattle.std.proofs.Common.{◌≡◌, ℕ, ◌++◌, Bool, List, [], ◌∷◌, length, Some, arith, ap, refl, sym, ◌∙◌}
+use Rattle.std.specs.Prelude.{slice_get}
+use Rattle.std.specs.List.{AllZip}
+use Rattle.dv_defs.specs.declared.machine.End.{End}
+use Rattle.dv_defs.specs.declared.run.Ending.{Ending}
+use Rattle.dv_defs.specs.Images.{Image}
+use Rattle.dv_defs.specs.Linked.{IsImage}
+use Rattle.dv_defs.specs.Pools.{Method}
+use Rattle.dv_machine.specs.Final.{final_text}
+use Rattle.dv_machine.specs.Running.{ending_of}
+use Rattle.dv_machine.specs.State.{Machine, Thread}
+use Rattle.dv_machine.specs.WellTyped.{Typings}
+use Rattle.dv_words.specs.Standing.{ThreadStands}
+use Rattle.dv_words.specs.State.{WordStack}
+use Rattle.dv_threads.specs.Kept.{zipped}
+use Rattle.dv_core.specs.declared.vm.Vm.{Vm}
+use Rattle.dv_core.specs.Machines.{machine_of}
+use Rattle.dv_sound.specs.Moves.{IsGood, StandsAt}
+use Rattle.dv_sound.specs.Runs.{IsAt, Run}
+use Rattle.dv_final.specs.Final.{final_lines_of}
+use Rattle.dv_final.specs.Laws.{FinalLinesFollow}
+use Rattle.dv_top.specs.declared.status.Status.{Status}
+use Rattle.dv_top.specs.Runs.{IsRun, end_of, shown_schedule, status_by}
+use Rattle.dv_top.specs.Status.{code_of}
+
+first_by : (ss : List WordStack) (es : List End) (os : List ℕ) (ts : List Thread) → length es ≡ length ss → length os ≡ length ss → AllZip ThreadStands (zipped ss es os) ts → slice_get es 0 ≡ end_of (slice_get ts 0)
+first_by [] [] os [] ends objects stand = refl
+first_by [] [] os (t ∷ ts) ends objects stand = absurd stand
+first_by [] (e ∷ es) os ts ends objects stand = absurd (omega (arith, ends))
+first_by (s ∷ ss) [] os ts ends objects stand = absurd (omega (arith, ends))
+first_by (s ∷ ss) (e ∷ es) [] ts ends objects stand = absurd (omega (arith, objects))
+first_by (s ∷ ss) (e ∷ es) (o ∷ os) [] ends objects stand = absurd stand
+first_by (s ∷ ss) (e ∷ es) (o ∷ os) (t ∷ ts) ends objects stand = ap Some stand.0.end
+
+-- how the first thread ended
+pub first_end : (image : Image) (T : Typings) (v : Vm) (m : Machine) → StandsAt image T v m → slice_get v.guest.threads.ends.items 0 ≡ end_of (slice_get m.threads 0)
+first_end image T v m at =
+    let ts = v.guest.threads in
+    first_by ts.stacks.items ts.ends.items ts.objects.items m.threads at.ordered.aligned.ends at.ordered.aligned.objects at.simulated.stands.threads
+
+-- what was printed, and what follows it
+pub final_is : (image : Image) (T : Typings) (v : Vm) (m : Machine) (output lines : List ℕ) → FinalLinesFollow → IsImage image → IsGood image T → StandsAt image T v m → output ≡ v.guest.output.items → lines ≡ final_lines_of image (machine_of v) → output ++ lines ≡ final_text image m
+final_is image T v m output lines law is good at prints tells =
+    ap (λ o. o ++ lines) (prints ∙ at.simulated.stands.shared.output) ∙ (ap (λ l. m.shared.output ++ l) tells ∙ law image T (machine_of v) m is good.accepted at.simulated)
+
+-- a run that stands at an ending
+pub run_is : (r : Run) (main : Method) (m : Machine) (e : Ending) (status : Status) (shown : Bool) (text : List ℕ) → IsAt r main m → Some e ≡ ending_of r.verified.image m → status ≡ status_by e (end_of (slice_get m.threads 0)) → text ≡ final_text r.verified.image m ++ shown_schedule shown r.log → IsRun r.verified.image main r.machine.limits r.log shown (code_of status) text
+run_is r main m e status shown text at ends tells prints =
+    record { machine = m; replayed = at.replayed; ending = e; ends = sym ends; tells = ap code_of tells; prints = prints }

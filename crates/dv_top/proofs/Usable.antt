@@ -1,0 +1,143 @@
+-- A run may be opened within the limits that words set.
+use Rattle.std.proofs.Common.{◌≡◌, ℕ, ◌≤◌, Bool, true, false, List, [], ◌∷◌, Option, Some, None, refl, ap, subst, ◌∙◌, arith}
+use Rattle.std.specs.Prelude.{◌&&◌, nat_le, nat_eq, is_some, unwrap_or, option_and_then, option_map, bytes_eq, codes, if◌then◌else◌}
+use Rattle.std.proofs.lemmas.Bool.{and_parts}
+use Rattle.std.proofs.lemmas.Bool.Decides.{nat_tests}
+use Rattle.dv_defs.specs.declared.run.Limits.{Limits}
+use Rattle.dv_console.specs.declared.command.Cmd.{Cmd}
+use Rattle.dv_console.specs.declared.command.Cmd.TheVariants as cmd
+use Rattle.dv_console.specs.declared.keys.Key.TheVariants as key
+use Rattle.dv_console.specs.Words.{alone, command_in, demo_in, in_range, is_java_name, limits_in, limits_of, named, number_in, replay_in, run_in, run_of, set_by, setting, texts_of, value_in, descriptor_of}
+use Rattle.dv_sound.specs.Moves.{AreUsable}
+use Rattle.dv_top.specs.Words.{IsUsable, asked_in, built}
+
+-- ---- limits
+
+small_number : (n m : ℕ) → (b : Bool) → (nat_le 64 n && nat_le n 8388608) ≡ b → (if b then Some n else None) ≡ Some m → m ≤ 8388608
+small_number n m true is e =
+    let same : n ≡ m = cc in
+    let parts = and_parts (nat_le 64 n) (nat_le n 8388608) is in
+    subst (λ (k : ℕ). k ≤ 8388608) same (grind (arith, nat_tests, parts.1))
+small_number n m false is e = absurd (cc)
+
+small_value : (o : Option ℕ) (m : ℕ) → option_and_then (in_range key.Heap) o ≡ Some m → m ≤ 8388608
+small_value None m e = absurd (cc)
+small_value (Some n) m e = small_number n m (nat_le 64 n && nat_le n 8388608) refl e
+
+-- what words set the heap to
+small_heap : (texts : List (List ℕ)) (n : ℕ) → set_by key.Heap texts ≡ Some (Some n) → n ≤ 8388608
+small_heap [] n e = absurd (cc)
+small_heap (text ∷ []) n e = by (value_in key.Heap text) refl e
+  where
+    by : (o : Option ℕ) → value_in key.Heap text ≡ o → option_map Some o ≡ Some (Some n) → n ≤ 8388608
+    by None is e = absurd (cc)
+    by (Some m) is e = let same : m ≡ n = cc in small_value (number_in text) n (is ∙ ap Some same)
+small_heap (text ∷ other ∷ texts) n e = absurd (cc)
+
+usable_of : (budget heap : Option ℕ) → unwrap_or heap 1048576 ≤ 8388608 → AreUsable (limits_of budget heap)
+usable_of budget heap small = record { threads = omega arith; levels = omega arith; words = omega arith; heap = omega (arith, small) }
+
+usable_heap : (budget heap : Option ℕ) (texts : List (List ℕ)) → set_by key.Heap texts ≡ Some heap → AreUsable (limits_of budget heap)
+usable_heap budget None texts is = usable_of budget None (omega arith)
+usable_heap budget (Some n) texts is = usable_of budget (Some n) (small_heap texts n is)
+
+limits_usable : (words : List (List ℕ)) (l : Limits) → limits_in words ≡ Some l → AreUsable l
+limits_usable words l e = by (setting key.Budget words) (setting key.Heap words) refl e
+  where
+    by : (b h : Option (Option ℕ)) → setting key.Heap words ≡ h → option_and_then (λ budget. option_and_then (λ heap. Some (limits_of budget heap)) h) b ≡ Some l → AreUsable l
+    by None h is e = absurd (cc)
+    by (Some budget) None is e = absurd (cc)
+    by (Some budget) (Some heap) is e =
+        let same : limits_of budget heap ≡ l = cc in
+        subst AreUsable same (usable_heap budget heap (texts_of key.Heap words) is)
+
+-- ---- commands
+
+-- whatever command it is, it is usable if it is built
+abbrev Good : Option Cmd → Type 0
+Good o = (c : Cmd) → o ≡ Some c → IsUsable (built c)
+
+good_none : Good None
+good_none c e = absurd (cc)
+
+good_if : (b : Bool) (x y : Option Cmd) → Good x → Good y → Good (if b then x else y)
+good_if true x y gx gy = gx
+good_if false x y gx gy = gy
+
+good_then : {A : Type 0} (o : Option A) (f : A → Option Cmd) → ((x : A) → o ≡ Some x → Good (f x)) → Good (option_and_then f o)
+good_then None f each c e = absurd (cc)
+good_then (Some x) f each c e = each x refl c e
+
+good_map : {A : Type 0} (o : Option A) (f : A → Cmd) → ((x : A) → o ≡ Some x → IsUsable (built (f x))) → Good (option_map f o)
+good_map None f each c e = absurd (cc)
+good_map (Some x) f each c e = let same : f x ≡ c = cc in subst (λ (d : Cmd). IsUsable (built d)) same (each x refl)
+
+run_usable : (class : List ℕ) (workers : ℕ) (seed : Option ℕ) (limits : Limits) (shown : Bool) → AreUsable limits → IsUsable (built (cmd.Run class workers seed limits shown))
+run_usable class workers seed limits shown usable = by (nat_eq workers 1)
+  where
+    by : (b : Bool) → IsUsable (if b then built (cmd.Run class 1 seed limits shown) else None)
+    by true = usable
+    by false = tt
+
+good_run : (class : List ℕ) (workers seed : Option ℕ) (limits : Limits) (log : Option ℕ) → AreUsable limits → Good (run_of class workers seed limits log)
+good_run class workers seed limits log usable =
+    good_if (is_some workers && is_some seed) None (Some (cmd.Run class (unwrap_or workers 1) seed limits (is_some log))) good_none
+    (λ c e.
+    let same : cmd.Run class (unwrap_or workers 1) seed limits (is_some log) ≡ c = cc in
+    subst (λ (d : Cmd). IsUsable (built d)) same (run_usable class (unwrap_or workers 1) seed limits (is_some log) usable))
+
+good_runs : (class : List ℕ) (words : List (List ℕ)) → Good (run_in class words)
+good_runs class words =
+    good_if _ _ None
+    (good_then (setting key.Workers words) _
+    (λ workers _.
+    good_then (setting key.Seed words) _
+    (λ seed _.
+    good_then (limits_in words) _
+    (λ limits is. good_then (setting key.Log words) _ (λ log _. good_run class workers seed limits log (limits_usable words limits is))))))
+    good_none
+
+good_replays : (class : List ℕ) (words : List (List ℕ)) → Good (replay_in class words)
+good_replays class words = good_if _ _ None (good_map (limits_in words) (cmd.Replay class) (λ limits is. limits_usable words limits is)) good_none
+
+good_named : (of : List ℕ → List (List ℕ) → Option Cmd) (words : List (List ℕ)) → ((class : List ℕ) (rest : List (List ℕ)) → Good (of class rest)) → Good (named of words)
+good_named of [] each = good_none
+good_named of (name ∷ words) each = good_if (is_java_name name) (of (descriptor_of name) words) None (each (descriptor_of name) words) good_none
+
+good_alone : (c : Cmd) (words : List (List ℕ)) → IsUsable (built c) → Good (alone c words)
+good_alone c [] usable d e = let same : c ≡ d = cc in subst (λ (x : Cmd). IsUsable (built x)) same usable
+good_alone c (word ∷ words) usable d e = good_none d e
+
+good_demo : (words : List (List ℕ)) → Good (demo_in words)
+good_demo words =
+    good_if _ _ None
+    (good_then (setting key.Number words) _
+    (λ n _.
+    good_then n _
+    (λ number _.
+    good_then (setting key.Classes words) _
+    (λ c _.
+    good_then c _
+    (λ classes _.
+    good_then (setting key.Threads words) _
+    (λ t _. good_then t _ (λ threads _. good_then (setting key.Workers words) _ (λ workers _ d e. demo number classes threads (unwrap_or workers 1) d e))))))))
+    good_none
+  where
+    demo : (number classes threads workers : ℕ) → Good (Some (cmd.Demo number classes threads workers))
+    demo number classes threads workers d e = let same : cmd.Demo number classes threads workers ≡ d = cc in subst (λ (x : Cmd). IsUsable (built x)) same tt
+
+good_commands : (words : List (List ℕ)) → Good (command_in words)
+good_commands [] = good_none
+good_commands (verb ∷ words) =
+    good_if (bytes_eq verb (codes "run")) _ _ (good_named run_in words good_runs)
+    (good_if (bytes_eq verb (codes "replay")) _ _ (good_named replay_in words good_replays)
+    (good_if (bytes_eq verb (codes "verify")) _ _ (good_alone cmd.Verify words tt)
+    (good_if (bytes_eq verb (codes "list")) _ _ (good_alone cmd.List words tt) (good_if (bytes_eq verb (codes "demo")) _ None (good_demo words) good_none))))
+
+-- what words ask for is usable
+pub asked_usable : (words : List (List ℕ)) → IsUsable (asked_in words)
+asked_usable words = by (command_in words) refl
+  where
+    by : (o : Option Cmd) → command_in words ≡ o → IsUsable (option_and_then built o)
+    by None is = tt
+    by (Some c) is = good_commands words c is

@@ -1,0 +1,58 @@
+// The program of a text: its image, its main method, and the schedule at its end.
+ghost use Rattle.std.specs.Prelude.{◌≡◌, ◌<◌, ◌-◌, ◌^◌, All, IfOk, length};
+ghost use Rattle.dv_program.specs.Images.{Answers, main_in};
+ghost use Rattle.dv_sound.specs.Runs.{HasMain};
+ghost use Rattle.dv_top.specs.Answering.{IsEntry};
+ghost use Rattle.dv_top.specs.Programs.{program_to_replay, program_to_run, with_main};
+
+use dv_defs::{Entry, Image, MethodId, Seq, Text};
+use dv_program::{ProgramError, main_method, read_program, read_scheduled};
+use std::alloc::Global;
+
+/// A program that is to be run: the main method of a class, and the schedule that stands behind the classes, which is empty where none may.
+#[derive(Drop)]
+pub struct Program {
+    pub image: Image,
+    pub main: MethodId,
+    pub schedule: Seq<Entry>,
+}
+
+/// The program of a text, of which the class of this descriptor is to be run.
+pub fn program_to_run(alloc: Global, class: &Text, text: &[u8]) -> Result<Program, ProgramError>
+    requires { length text.now < 2 ^ 32 - 1 }
+    ensures program { Answers (program_to_run class.now text.now) result }
+    ensures main { IfOk result (λ p. HasMain p.image p.main.0) }
+{
+    let image = read_program(alloc, text)?;
+    with_main(alloc, class, image, Seq::of(Vec::new(alloc)))
+}
+
+/// The program of a text with its schedule, of which the class of this descriptor is to be run again.
+pub fn program_to_replay(alloc: Global, class: &Text, text: &[u8]) -> Result<Program, ProgramError>
+    requires { length text.now < 2 ^ 32 - 1 }
+    ensures program { Answers (program_to_replay class.now text.now) result }
+    ensures main { IfOk result (λ p. HasMain p.image p.main.0) }
+    ensures schedule { IfOk result (λ p. All IsEntry p.schedule) }
+{
+    let scheduled = read_scheduled(alloc, text)?;
+    with_main(alloc, class, scheduled.image, scheduled.log)
+}
+
+/// An image and a schedule with the main method of a class.
+fn with_main(
+    alloc: Global,
+    class: &Text,
+    image: Image,
+    schedule: Seq<Entry>,
+) -> Result<Program, ProgramError>
+    ensures program { Answers (with_main image schedule (main_in image class.now)) result }
+    ensures main { IfOk result (λ p. HasMain p.image p.main.0) }
+    ensures schedule { IfOk result (λ p. p.schedule ≡ schedule) }
+{
+    let main = main_method(alloc, &image, class.bytes())?;
+    Ok(Program {
+        image,
+        main,
+        schedule,
+    })
+}
