@@ -19,7 +19,6 @@ use Rattle.dv_words.specs.State.{WordStack, WordThread}
 use Rattle.dv_steps.specs.StepLaws.{TopFits}
 use Rattle.dv_steps.specs.Stepping.{RanLocally}
 use Rattle.dv_threads.specs.Kept.{bounds, zipped}
-use Rattle.dv_frames.specs.declared.heads.Head.{Head}
 use Rattle.dv_frames.specs.Tops.{head_of}
 use Rattle.dv_local.specs.Tops.{RanTop, TopBecame, TopRan}
 use Rattle.dv_core.specs.declared.guest.Guest.{Guest}
@@ -27,7 +26,7 @@ use Rattle.dv_simulation.specs.KeepLaws.{is_local_level_of, thread_is_local_of}
 use Rattle.dv_core.specs.Advancing.{RanAt, running_frame, runs_in, top_frame, with_frame}
 use Rattle.dv_core.specs.Guests.{IsOrdered}
 use Rattle.dv_core.proofs.Seen.{HasLevels, all_first, all_more, all_rest, set_same, zip_has, zip_set}
-use Rattle.dv_core.proofs.Waits.{CodeOn, OwnAt, zip_own}
+use Rattle.dv_core.proofs.Waits.{OwnAt, zip_own}
 
 -- ---- the bounds of stacks
 
@@ -195,16 +194,6 @@ pub no_head_frame : (ls : List Level) → None ≡ head_of (first ls) → None �
 no_head_frame [] none = refl
 no_head_frame (level.Code f ∷ ls) none = absurd (cc none)
 no_head_frame (level.Init c r ∷ ls) none = refl
-
-pub no_head_local : (image : Image) (ls : List Level) → None ≡ head_of (first ls) → false ≡ is_local_level_of image ls
-no_head_local image [] none = refl
-no_head_local image (level.Code f ∷ ls) none = absurd (cc none)
-no_head_local image (level.Init c r ∷ ls) none = refl
-
-pub head_code : (ls : List Level) (h : Head) → Some h ≡ head_of (first ls) → CodeOn ls
-head_code [] h e = absurd (cc e)
-head_code (level.Code f ∷ ls) h e = record { frame = f; rest = ls; is = refl }
-head_code (level.Init c r ∷ ls) h e = absurd (cc e)
 
 -- ---- words of 32 bits
 

@@ -21,4 +21,4 @@ pub mod Stepped
 pub mod Began
 pub mod Opened
 pub mod Advanced
-pub mod Alone
+pub mod Opcodes

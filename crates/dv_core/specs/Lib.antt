@@ -8,3 +8,4 @@ pub mod Watching
 pub mod Laws
 pub mod Openings
 pub mod Advancing
+pub mod Opcodes

@@ -14,7 +14,7 @@ ghost use Rattle.dv_core.specs.Guests.{IsOrdered};
 ghost use Rattle.dv_core.specs.Machines.{machine_of};
 ghost use Rattle.dv_core.specs.Watching.{AreWatchable, IsTopWatched};
 
-use crate::instructions::instruction_of;
+use crate::instructions::opcode_of;
 use crate::vm::Vm;
 use crate::waiting::end_at;
 use dv_defs::{End, Image};
@@ -93,11 +93,8 @@ fn countable(steps: u64, most: u32) -> u32
 fn is_at_local(image: &Image, stack: &Stack) -> bool
     ensures { IsTopWatched image.now stack.now.levels → result ≡ is_local_level_of image.now stack.now.levels }
 {
-    let Some(_head) = stack.head() else {
-        return false;
-    };
-    match instruction_of(image, stack) {
-        Some(here) => is_local(&here.insn),
+    match opcode_of(image, stack) {
+        Some(opcode) => is_local(opcode),
         None => false,
     }
 }

@@ -3,10 +3,12 @@ ghost use Rattle.std.specs.Prelude.{◌≡◌, ℕ, option_map};
 ghost use Rattle.dv_defs.specs.Op.{Code, needs};
 ghost use Rattle.dv_defs.specs.Statics as statics;
 ghost use Rattle.dv_ops.specs.Meaning.{meant};
+ghost use Rattle.dv_words.specs.Stacks.{first};
 ghost use Rattle.dv_words.specs.State.{WordThread};
 ghost use Rattle.dv_steps.specs.Answering.{IsStackOf};
 ghost use Rattle.dv_steps.specs.Steps.{At};
 ghost use Rattle.dv_core.specs.Guests.{IsAtOp};
+ghost use Rattle.dv_core.specs.Opcodes.{opcode_at};
 ghost use Rattle.dv_core.specs.Standing.{IsFound};
 
 use dv_defs::{ClassId, Image, Insn};
@@ -49,6 +51,16 @@ pub fn instruction_of<'a>(image: &'a Image, stack: &Stack) -> Option<Instruction
         op,
         next: head.at + size,
     })
+}
+
+/// The opcode at which the frame on top goes on; none where the level on top isn't code, or its address is past the units.
+pub fn opcode_of(image: &Image, stack: &Stack) -> Option<u8>
+    ensures { result ≡ opcode_at image.now (first stack.now.levels) }
+{
+    let head = stack.head()?;
+    let code = coded_at(image, head.method)?;
+    let unit = units_of(&code).get(head.at as usize)?;
+    Some((unit % 256) as u8)
 }
 
 /// The class that an operation needs initialised (JLS 12.4.1).

@@ -4,6 +4,7 @@ ghost use Rattle.dv_defs.specs.declared.run.Ending.{Ending};
 ghost use Rattle.dv_defs.specs.declared.run.Limits.{Limits};
 ghost use Rattle.dv_defs.specs.declared.machine.End.TheVariants as end;
 ghost use Rattle.dv_defs.specs.Classes.{ask_of};
+ghost use Rattle.dv_defs.specs.Families.{family_at};
 ghost use Rattle.dv_defs.specs.Monitors as waits;
 ghost use Rattle.dv_defs.specs.Statics.{fetch};
 ghost use Rattle.dv_defs.specs.Op as ops;
@@ -27,10 +28,11 @@ ghost use Rattle.dv_steps.specs.Threads as threads;
 ghost use Rattle.dv_threads.specs.Kept.{AreAligned, threads_of};
 ghost use Rattle.dv_call.specs.Landings.{IsNumbered, IsOwn, IsSeen, first_of, landed_of};
 ghost use Rattle.dv_core.specs.Machines.{machine_of, machine_with};
+ghost use Rattle.dv_core.specs.Opcodes.{may_hold_up};
 ghost use Rattle.dv_core.specs.Watching.{AreNumbered, AreWatchable, IsTopWatched, IsWatched, alive_in, blocked_landed as landed_blocked};
 
 use crate::guest::Guest;
-use crate::instructions::{instruction_of, needs};
+use crate::instructions::{instruction_of, needs, opcode_of};
 use crate::vm::Vm;
 use dv_call::{Landed, land};
 use dv_clinit::ClassStates;
@@ -242,11 +244,21 @@ fn blocked_needing(
     }
 }
 
+/// Whether an instruction with this opcode may hold up a thread: monitor-enter, new-instance, sget, sput and the invokes.
+fn may_hold_up(opcode: u8) -> bool
+    ensures { result ≡ may_hold_up (family_at opcode) }
+{
+    matches!(opcode, 0x1d | 0x22 | 0x60..=0x72 | 0x74..=0x78)
+}
+
 /// What holds up a thread whose top level is code.
 fn blocked_code(image: &Image, guest: &Guest, stack: &Stack, thread: u32) -> Option<Blocked>
     ensures { (s : ℕ) (e : Maybe Ending) (l : Limits) (f : Frame) (ls : List Level) → AreNumbered guest.now → FindsRightly image.now → stack.now.levels ≡ level.Code f ∷ ls → IsWatched image.now f →
         result ≡ steps.blocked_at image.now (machine_with guest.now s e l) thread f (method_at image.now f.method.0) (fetch image.now f.method.0 f.at) }
 {
+    if !may_hold_up(opcode_of(image, stack)?) {
+        return None;
+    }
     let here = instruction_of(image, stack)?;
     blocked_needing(image, guest, stack, thread, &here.op)
 }

@@ -92,7 +92,7 @@ has_opcode_by : (o : Option Format) (op a : ℕ) (us : List ℕ) → HasOp op (r
 has_opcode_by None op a us = tt
 has_opcode_by (Some f) op a us = has_opcode f op a us
 
-opcode_read : (u : ℕ) (us : List ℕ) (z : Sized) → insn_here (u ∷ us) ≡ Some z → z.insn.op ≡ u % 256
+pub opcode_read : (u : ℕ) (us : List ℕ) (z : Sized) → insn_here (u ∷ us) ≡ Some z → z.insn.op ≡ u % 256
 opcode_read u us z e = let h : HasOp (u % 256) (Some z) = subst (HasOp (u % 256)) e (has_opcode_by (format_at (u % 256)) (u % 256) (u / 256) us) in h
 
 -- ---- local opcodes

@@ -1,5 +1,6 @@
 // Local steps of a frame.
 ghost use Rattle.std.specs.Prelude.{◌≡◌, ◌≤◌, ℕ, IfSome, MatchOption, None, Ok, length};
+ghost use Rattle.dv_defs.specs.declared.code.Insn.{Insn};
 ghost use Rattle.dv_defs.specs.Images.{Image as Linked};
 ghost use Rattle.dv_defs.specs.Op.{Code, Op, code_at, is_local as is_local_op, op_of};
 ghost use Rattle.dv_ops.specs.Meaning.{code_of};
@@ -8,16 +9,17 @@ ghost use Rattle.dv_steps.specs.Stepping.{RanLocally, StepsLocally};
 ghost use Rattle.dv_local.specs.Units.{HasUnits};
 
 use crate::step::{is_local_opcode, run, step_once};
-use dv_defs::{Image, Insn, MethodId};
+use dv_defs::{Image, MethodId};
 use dv_frames::Head;
 use dv_ops::{Coded, coded_at};
 use dv_words::Frame;
 
-/// Whether an instruction touches one frame alone.
-pub fn is_local(insn: &Insn) -> bool
-    ensures { (image : Linked) (code : Code) (at : ℕ) (op : Op) → op_of image code at insn.now ≡ Ok op → result ≡ is_local_op op }
+/// Whether the instructions of an opcode touch one frame alone.
+#[inline]
+pub fn is_local(opcode: u8) -> bool
+    ensures { (image : Linked) (code : Code) (at : ℕ) (insn : Insn) (op : Op) → insn.op ≡ opcode → op_of image code at insn ≡ Ok op → result ≡ is_local_op op }
 {
-    is_local_opcode(insn.op)
+    is_local_opcode(opcode)
 }
 
 /// The units of a body.
