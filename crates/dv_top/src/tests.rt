@@ -1,10 +1,15 @@
 // The top call over sources and sinks in memory.
+mod again;
 mod calls;
 mod classes;
+mod cuts;
 mod failures;
 mod listings;
+mod lying;
 mod many;
 mod producer;
+mod programs;
+mod raw;
 mod runs;
 mod schedules;
 mod threads;

@@ -40,7 +40,7 @@ return-void
 ";
 
 /// Main starts that thread, and needs the second class.
-const BOTH: Row<'static> = Row {
+pub const BOTH: Row<'static> = Row {
     words: &["replay", "Main"],
     before: EACH_OTHER,
     registers: "1",

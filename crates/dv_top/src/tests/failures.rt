@@ -1,9 +1,13 @@
 // Sources and sinks that fail.
-use crate::tests::{LIST, NOTHING_RAN, RUN, Row, assert_report, assert_rows, report_of, text_of};
-use std::alloc::Global;
+use crate::tests::{
+    LIST, NOTHING_RAN, RUN, Row, assert_report, assert_rows, report_of, sink_of, source_of,
+    text_of, words_of,
+};
+use crate::*;
+use dv_io::{MemSink, NoGate};
+use std::alloc::AllocError;
 use std::process::Abort;
 use std::test::Fail;
-use std::thread::Threads;
 
 /// A main method that adds the greatest int and one, run.
 const WRAP: Row<'static> = Row {
@@ -47,18 +51,59 @@ fn assert_read_fails<R: Abort + Threads + Sync>(
     assert_report(rt, alloc, &row, &report)
 }
 
-/// Each write of a byte fails in turn; the run is the same.
+/// What is said of a text that is read byte by byte, and whose reads of these numbers fail.
+fn report_by_bytes<R: Threads + Sync>(
+    rt: &R,
+    alloc: Global,
+    fails: &[u64],
+    text: &[u8],
+) -> Result<Report<MemSink>, AllocError> {
+    let words = words_of(alloc, WRAP.words)?;
+    let mut source = source_of(alloc, text, fails)?;
+    source.piece = 1;
+    let sink = sink_of(alloc, &[])?;
+    Ok(dvm(rt, alloc, &words, &mut source, sink, &NoGate))
+}
+
+/// Each read of a byte fails in turn, and the one that finds the end.
+#[test]
+fn reads_of_bytes_fail(rt: HostRuntime) -> Result<(), Fail> {
+    let text = text_of(rt.alloc(), &WRAP)?;
+    let row = Row {
+        status: 3,
+        taken: "",
+        log: NOTHING_RAN,
+        ..WRAP
+    };
+    for read in 0..=text.len() {
+        let fails = [read as u64];
+        let report = report_by_bytes(&rt, rt.alloc(), &fails, text.as_bytes())?;
+        assert_report(&rt, rt.alloc(), &row, &report)?;
+    }
+    Ok(())
+}
+
+/// There is no read behind that one.
+#[test]
+fn the_end_is_read_once(rt: HostRuntime) -> Result<(), Fail> {
+    let text = text_of(rt.alloc(), &WRAP)?;
+    let fails = [text.len().saturating_add(1) as u64];
+    let report = report_by_bytes(&rt, rt.alloc(), &fails, text.as_bytes())?;
+    assert_report(&rt, rt.alloc(), &WRAP, &report)
+}
+
+/// Each write of a byte fails in turn; the run is the same. Behind the last byte there is no write.
 #[test]
 fn writes_fail(rt: HostRuntime) -> Result<(), Fail> {
     let text = text_of(rt.alloc(), &WRAP)?;
-    for write in 0..WRAP.taken.len() {
+    for write in 0..=WRAP.taken.len() {
         let fails = [write as u64];
         assert_write_fails(&rt, rt.alloc(), &fails, write, text.as_bytes())?;
     }
     Ok(())
 }
 
-/// A write fails after so many bytes, and the sink has taken these.
+/// A write fails after so many bytes, and the sink has taken these. That of a byte past the last isn't made.
 fn assert_write_fails<R: Abort + Threads + Sync>(
     rt: &R,
     alloc: Global,
@@ -68,7 +113,7 @@ fn assert_write_fails<R: Abort + Threads + Sync>(
 ) -> Result<(), Fail> {
     let row = Row {
         failing_writes: fails,
-        status: 4,
+        status: if written < WRAP.taken.len() { 4 } else { 0 },
         taken: WRAP.taken.get(..written).unwrap_or(""),
         ..WRAP
     };

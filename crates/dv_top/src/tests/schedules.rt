@@ -1,9 +1,9 @@
 // Runs whose schedules are shown, and run again.
 use crate::tests::producer::{CONSUMED, PRODUCER};
-use crate::tests::{RUN, Row, assert_report, assert_rows, report_of, text_of};
+use crate::tests::{RUN, Row, assert_report, report_of};
 use crate::*;
 use dv_io::MemSink;
-use std::alloc::{AllocError, Global};
+use std::alloc::Global;
 use std::process::Abort;
 use std::test::Fail;
 
@@ -13,7 +13,7 @@ const REPLAY: Row<'static> = Row {
 };
 
 /// Replays a text with the schedule that a run showed behind what it prints, which comes to the same.
-fn assert_replayed<R: Abort + Threads + Sync>(
+pub fn assert_replayed<R: Abort + Threads + Sync>(
     rt: &R,
     alloc: Global,
     text: &str,
