@@ -1,7 +1,7 @@
 // From the words and the source to a status and the sink.
 ghost use Rattle.std.specs.Prelude.{◌≡◌, ◌≢◌, ℕ, ◌+◌, List, [], map, None, Some, All, IfOk, IsSome, OnErr, OnOk, IsErrOf, MatchResult, string_bytes};
 ghost use Rattle.dv_defs.specs.declared.run.Limits.{Limits as LimitsOf};
-ghost use Rattle.dv_io.specs.Io.{HasRisen, after_write, after_taking};
+ghost use Rattle.dv_io.specs.Io.{HasRisen, after_taking};
 ghost use Rattle.dv_top.specs.declared.reading.ReadError.TheVariants.{Memory as NoMemory};
 ghost use Rattle.dv_top.specs.Answering.{IsAnswer, IsEntry, IsIdle, IsTold, IsReadOf, MayRun};
 ghost use Rattle.dv_top.specs.Said.{IsSaid, usage, text_limit};

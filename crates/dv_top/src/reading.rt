@@ -5,7 +5,7 @@ ghost use Rattle.dv_top.specs.declared.reading.ReadError.TheVariants.{Memory, Fa
 ghost use Rattle.dv_top.specs.Said.{text_limit};
 
 use dv_io::{Failed, Source};
-use std::alloc::{AllocError, AllocFailed, Global};
+use std::alloc::{AllocError, Global};
 
 /// Why a source wasn't read.
 #[derive(Clone, Copy)]

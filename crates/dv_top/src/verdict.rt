@@ -1,7 +1,5 @@
 // The reply to a text that is to be verified.
 ghost use Rattle.std.specs.Prelude.{◌≡◌, ◌≢◌, ◌≤◌, ℕ, List, Ok, IfOk, length};
-ghost use Rattle.dv_console.specs.Faults.{accepted_text};
-ghost use Rattle.dv_console.specs.Refusals.{refusal_text};
 ghost use Rattle.dv_program.specs.Images.{image_in};
 ghost use Rattle.dv_top.specs.Answering.{IsTold, IsReadOf};
 ghost use Rattle.dv_top.specs.Said.{IsSaidOfVerifying, text_limit};
