@@ -88,6 +88,28 @@ pub fn opened<'v, R: Abort>(rt: &R, alloc: Global, player: Player<'v>) -> SafeVm
     }
 }
 
+/// So many turns of a thread, each of one step, by worker 0.
+fn go_on<R: Abort>(rt: &R, run: &mut SafeVm, thread: u32, steps: u32) {
+    for _ in 0..steps {
+        let done = run.turn(0, thread, 1).ok();
+        assert_eq!(rt; done, Some(1), "{thread}");
+    }
+}
+
+/// A run in which so many steps of each thread were done.
+pub fn stood<'v, R: Abort>(
+    rt: &R,
+    alloc: Global,
+    player: Player<'v>,
+    turns: &[(u32, u32)],
+) -> SafeVm<'v> {
+    let mut run = opened(rt, alloc, player);
+    for (thread, steps) in turns {
+        go_on(rt, &mut run, *thread, *steps);
+    }
+    run
+}
+
 /// A replay of main.
 fn replayed<'v, R: Abort>(
     rt: &R,

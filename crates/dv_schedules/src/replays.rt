@@ -56,6 +56,21 @@ fn schedules_tell_the_order(rt: HostRuntime) {
     assert_replays(&rt, rt.alloc(), &PAIR, AMPLE, ORDERS.as_slice());
 }
 
+/// The same three entries in each order.
+static REORDERED: [Replay; 6] = [
+    (&[(0, 8), (1, 3), (0, 3)], ONE_TWO),
+    (&[(0, 8), (0, 3), (1, 3)], TWO_ONE),
+    (&[(0, 3), (0, 8), (1, 3)], TWO_ONE),
+    (&[(0, 3), (1, 3), (0, 8)], Played::NotRunnable(1)),
+    (&[(1, 3), (0, 8), (0, 3)], Played::NotRunnable(0)),
+    (&[(1, 3), (0, 3), (0, 8)], Played::NotRunnable(0)),
+];
+
+#[test]
+fn entries_may_change_places(rt: HostRuntime) {
+    assert_replays(&rt, rt.alloc(), &PAIR, AMPLE, REORDERED.as_slice());
+}
+
 static CUT: [Replay; 6] = [
     (&[], Played::Short(0)),
     (&[(0, 1)], Played::Short(1)),
@@ -150,7 +165,7 @@ fn entries_keep_their_workers(rt: HostRuntime) {
 }
 
 /// Local steps without an end.
-const FOREVER: Program = Program {
+pub const FOREVER: Program = Program {
     body: "
         :a
         nop
@@ -158,7 +173,7 @@ const FOREVER: Program = Program {
     ..PROGRAM
 };
 
-const SPENT: Played<'static> = Played::Ends(Ending::Steps, "#end steps\n");
+pub const SPENT: Played<'static> = Played::Ends(Ending::Steps, "#end steps\n");
 
 fn budget(steps: u64) -> Limits {
     Limits {

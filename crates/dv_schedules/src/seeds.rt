@@ -1,14 +1,10 @@
 // Runs with seeds.
 use crate::playing::{Player, assert_log, ended, final_text, verified};
 use crate::program::{AMPLE, Played};
-use crate::texts::{PRODUCER, RACE};
+use crate::texts::{PRODUCER, RACE, TEN};
 use dv_defs::{Ending, Entry};
 use std::alloc::Global;
 use std::process::Abort;
-
-/// What the box's numbers are printed as, whoever goes first.
-const TEN: &str =
-    "got 0\ngot 1\ngot 2\ngot 3\ngot 4\ngot 5\ngot 6\ngot 7\ngot 8\ngot 9\n#end done\n";
 
 /// The log of a run with a seed.
 fn log_of<R: Abort>(rt: &R, alloc: Global, player: Player<'_>, seed: Option<u64>) -> Vec<Entry> {

@@ -129,6 +129,10 @@ pub const PRODUCER: &str = r##"
 .end method
 "##;
 
+/// What the producer's numbers are printed as, whoever goes first.
+pub const TEN: &str =
+    "got 0\ngot 1\ngot 2\ngot 3\ngot 4\ngot 5\ngot 6\ngot 7\ngot 8\ngot 9\n#end done\n";
+
 /// A data race: two threads add one to a field, and neither enters a monitor. Where one reads the field between the other's reading and
 /// writing, an increment is lost.
 pub const RACE: &str = r##"

@@ -1,7 +1,28 @@
 // Threads that wait, join and lock, and what holds them up in the end.
 use crate::playing::{Player, accepted, assert_replays, assert_runs, assert_seeds, ended};
 use crate::program::{AMPLE, PROGRAM, Played, Program, RUN, Replay, Run};
+use crate::turns::JOINS;
 use dv_defs::{Ending, Limits};
+
+const ONE_TWO: Played<'static> = Played::Ends(Ending::Done, "1\n2\n#end done\n");
+
+/// Main starts a thread in eight steps, and does four when it has joined it; the thread does three.
+static JOINS_REPLAYS: [Replay; 8] = [
+    (&[(0, 8), (1, 3), (0, 4)], ONE_TWO),
+    (&[(0, 8), (1, 1), (1, 1), (1, 1), (0, 1), (0, 3)], ONE_TWO),
+    // the thread isn't there before it is started, and main waits until it has returned
+    (&[(0, 7), (1, 1)], Played::NotRunnable(1)),
+    (&[(0, 9)], Played::NotRunnable(0)),
+    (&[(0, 8), (1, 2), (0, 1)], Played::NotRunnable(2)),
+    (&[(0, 8), (1, 4)], Played::NotRunnable(1)),
+    (&[(0, 8), (1, 3), (0, 3)], Played::Short(3)),
+    (&[(0, 8), (1, 3), (0, 5)], Played::Long(2)),
+];
+
+#[test]
+fn a_join_waits_for_the_end(rt: HostRuntime) {
+    assert_replays(&rt, rt.alloc(), &JOINS, AMPLE, JOINS_REPLAYS.as_slice());
+}
 
 /// What the threads lock.
 const LOCK: &str = "

@@ -96,7 +96,7 @@ fn assert_all_turns<R: Abort>(rt: &R, alloc: Global, rows: &[Turns]) {
 }
 
 /// Three local instructions and a return.
-const FOUR: Program = Program {
+pub const FOUR: Program = Program {
     registers: "3",
     body: "
         const/4 v0, 1
@@ -330,7 +330,7 @@ fn other_steps_end_turns(rt: HostRuntime) {
 }
 
 /// Main starts a thread, in eight turns, and joins it; both print.
-const JOINS: Program = Program {
+pub const JOINS: Program = Program {
     registers: "1",
     body: "
         new-instance v0, LT;

@@ -1,0 +1,222 @@
+// Slices that fit, and slices that don't.
+ghost use Rattle.std.specs.Prelude.{◌≡◌};
+
+use crate::lending::BOTH;
+use crate::playing::{Player, accepted, opened, stood};
+use crate::program::{AMPLE, Program};
+use crate::replays::FOREVER;
+use crate::slices::{begun, brought, copy_of, image_of, lent, seen, top, turn, work};
+use crate::turns::FOUR;
+use dv_defs::{Image, MethodId, Seq};
+use dv_local::Slice;
+use dv_sound::SafeVm;
+use dv_words::Frame;
+use std::alloc::Global;
+use std::process::Abort;
+
+/// A slice that nobody was lent: it begins where main stood before it took a turn of so many steps. Main may be lent then. Whether the slice
+/// fits, how many of its steps are done, and whether main may take a turn behind that.
+#[derive(Clone, Copy)]
+struct Stale {
+    program: Program,
+    moved: u32,
+    lent: bool,
+    most: u32,
+    fits: bool,
+    done: u32,
+    home: bool,
+}
+
+/// Main is lent, where it is to be.
+fn lend_main<R: Abort>(rt: &R, image: &Image, run: &mut SafeVm, away: bool)
+    requires { run.old.verified.image ≡ image.now }
+    ensures { run.new.verified.image ≡ image.now }
+{
+    if away {
+        let _slice = lent(rt, image, run, 0);
+    }
+}
+
+/// The slice of a row comes back; where it doesn't fit nothing changes.
+fn bring_stale<R: Abort>(rt: &R, alloc: Global, run: &mut SafeVm, row: &Stale) {
+    let image = image_of(run);
+    let frame = top(rt, run, 0);
+    let mut slice = begun(rt, image, 0, &frame);
+    assert_eq!(rt; work(image, &mut slice, row.most), row.most);
+    turn(rt, image, run, Some((0, row.moved)));
+    lend_main(rt, image, run, row.lent);
+    assert_eq!(rt; run.fits(&slice), row.fits);
+    let before = seen(rt, alloc, run);
+    let done = brought(rt, image, run, slice);
+    assert_eq!(rt; done, row.done);
+    assert_eq!(rt; seen(rt, alloc, run) == before, done == 0);
+    let next = run.turn(0, 0, 1).ok();
+    assert_eq!(rt; next, Some(u32::from(row.home)));
+}
+
+fn assert_stale<R: Abort>(rt: &R, alloc: Global, row: &Stale) {
+    let verified = accepted(rt, alloc, &row.program);
+    let player = Player {
+        verified: &verified,
+        limits: AMPLE,
+    };
+    let mut run = opened(rt, alloc, player);
+    bring_stale(rt, alloc, &mut run, row);
+}
+
+/// Main is at home, and no slice of it fits.
+const STALE: Stale = Stale {
+    program: FOUR,
+    moved: 0,
+    lent: false,
+    most: 3,
+    fits: false,
+    done: 0,
+    home: true,
+};
+
+static STALES: [Stale; 8] = [
+    STALE,
+    Stale { moved: 1, ..STALE },
+    // who did the steps isn't asked
+    Stale {
+        lent: true,
+        fits: true,
+        done: 3,
+        ..STALE
+    },
+    Stale {
+        most: 0,
+        lent: true,
+        fits: true,
+        ..STALE
+    },
+    // main went on before it was lent, and stays away
+    Stale {
+        moved: 1,
+        lent: true,
+        home: false,
+        ..STALE
+    },
+    Stale {
+        most: 0,
+        moved: 1,
+        lent: true,
+        home: false,
+        ..STALE
+    },
+    // after two steps of a loop it stands where it stood
+    Stale {
+        program: FOREVER,
+        moved: 2,
+        lent: true,
+        most: 5,
+        fits: true,
+        done: 5,
+        home: true,
+    },
+    Stale {
+        program: FOREVER,
+        moved: 3,
+        lent: true,
+        most: 5,
+        home: false,
+        ..STALE
+    },
+];
+
+#[test]
+fn slices_begin_where_their_threads_stand(rt: HostRuntime) {
+    for row in &STALES {
+        assert_stale(&rt, rt.alloc(), row);
+    }
+}
+
+/// What is put into a slice of a lent thread.
+#[derive(Clone, Copy, PartialEq, Eq, Debug)]
+enum Change {
+    Nothing,
+    Thread(u32),
+    Steps(u32),
+    End(u32),
+    At(u32),
+    Method(u32),
+    Caught(u32),
+    Registers(&'static [u32]),
+}
+
+fn put<R: Abort>(rt: &R, alloc: Global, slice: &mut Slice, change: Change) {
+    match change {
+        Change::Nothing => {}
+        Change::Thread(thread) => slice.thread = thread,
+        Change::Steps(steps) => slice.steps = steps,
+        Change::End(at) => slice.end.at = at,
+        Change::At(at) => slice.start.at = at,
+        Change::Method(method) => slice.start.method = MethodId(method),
+        Change::Caught(object) => slice.start.caught = Some(object),
+        Change::Registers(words) => {
+            let words = Vec::from_slice(alloc, words).ok().expect(rt, "memory");
+            slice.start.regs = Seq::of(words);
+        }
+    }
+}
+
+/// A slice of a thread at this frame, with a change.
+fn changed<R: Abort>(rt: &R, alloc: Global, thread: u32, frame: &Frame, by: Change) -> Slice {
+    let mut slice = Slice {
+        thread,
+        start: copy_of(rt, frame),
+        steps: 0,
+        end: copy_of(rt, frame),
+    };
+    put(rt, alloc, &mut slice, by);
+    slice
+}
+
+/// A slice of thread 1 at its second instruction, whose registers are 5, 0 and its object, the third that was made, with a change, and whether it
+/// fits. A slice fits by its thread and by the frame from which it began.
+static FITTING: [(Change, bool); 16] = [
+    (Change::Nothing, true),
+    (Change::Steps(7), true),
+    (Change::End(9), true),
+    (Change::Registers(&[5, 0, 3]), true),
+    (Change::At(1), true),
+    (Change::Thread(0), false),
+    (Change::Thread(2), false),
+    (Change::Thread(u32::MAX), false),
+    (Change::At(0), false),
+    (Change::At(2), false),
+    (Change::Method(0), false),
+    (Change::Caught(3), false),
+    (Change::Registers(&[6, 0, 3]), false),
+    (Change::Registers(&[5, 0, 4]), false),
+    (Change::Registers(&[5, 0]), false),
+    (Change::Registers(&[5, 0, 3, 0]), false),
+];
+
+fn assert_fitting<R: Abort>(rt: &R, alloc: Global, run: &SafeVm, away: bool) {
+    let frame = top(rt, run, 1);
+    for (change, fits) in &FITTING {
+        let slice = changed(rt, alloc, 1, &frame, *change);
+        assert_eq!(rt; run.fits(&slice), *fits && away, "{change:?}");
+    }
+}
+
+#[test]
+fn slices_fit_by_thread_and_frame(rt: HostRuntime) {
+    let alloc = rt.alloc();
+    let verified = accepted(&rt, alloc, &BOTH);
+    let player = Player {
+        verified: &verified,
+        limits: AMPLE,
+    };
+    let mut run = stood(&rt, alloc, player, &[(0, 8), (1, 1)]);
+    assert_fitting(&rt, alloc, &run, false);
+    lend_main(&rt, image_of(&run), &mut run, true);
+    assert_fitting(&rt, alloc, &run, false);
+    let image = image_of(&run);
+    let slice = lent(&rt, image, &mut run, 1);
+    assert_fitting(&rt, alloc, &run, true);
+    assert_eq!(&rt; brought(&rt, image, &mut run, slice), 0);
+    assert_fitting(&rt, alloc, &run, false);
+}

@@ -1,0 +1,227 @@
+// Two threads that are lent at once, and whose slices come back in either order.
+ghost use Rattle.std.specs.Prelude.{◌≡◌};
+ghost use Rattle.dv_sound.specs.Lending.{IsMade};
+
+use crate::committing::{BOTH_FOREVER, assert_end};
+use crate::lending::BOTH;
+use crate::playing::{Player, accepted, stood};
+use crate::program::{AMPLE, Played, Program};
+use crate::replays::SPENT;
+use crate::slices::{assert_alike, brought, image_of, lent, work, worker_of};
+use dv_defs::{Ending, Image, Limits};
+use dv_local::Slice;
+use dv_sound::SafeVm;
+use std::alloc::Global;
+use std::process::Abort;
+
+/// When main has started a thread both are lent at once, and so many local steps of each are run. Their slices come back in this order, and so
+/// many of their steps are done, in that order; how the run stands then.
+#[derive(Clone, Copy)]
+struct Pair {
+    limits: Limits,
+    most: (u32, u32),
+    order: (u32, u32),
+    done: (u32, u32),
+    ending: Option<Ending>,
+}
+
+/// Two slices come back, one after the other.
+fn bring_both<R: Abort>(
+    rt: &R,
+    image: &Image,
+    run: &mut SafeVm,
+    one: Slice,
+    other: Slice,
+) -> (u32, u32)
+    requires same { run.old.verified.image ≡ image.now }
+    requires first { IsMade image.now one }
+    requires second { IsMade image.now other }
+{
+    let first = brought(rt, image, run, one);
+    assert!(rt; run.fits(&other));
+    let second = brought(rt, image, run, other);
+    (first, second)
+}
+
+/// The slices of a row are run, and come back.
+fn bring_pair<R: Abort>(rt: &R, run: &mut SafeVm, pair: &Pair) {
+    let image = image_of(run);
+    let mut zero = lent(rt, image, run, 0);
+    assert_eq!(rt; run.ready(), Some(1));
+    let mut one = lent(rt, image, run, 1);
+    assert_eq!(rt; run.ready(), None);
+    let ran = (
+        work(image, &mut zero, pair.most.0),
+        work(image, &mut one, pair.most.1),
+    );
+    assert_eq!(rt; ran, pair.most);
+    let done = if pair.order.0 == 0 {
+        bring_both(rt, image, run, zero, one)
+    } else {
+        bring_both(rt, image, run, one, zero)
+    };
+    assert_eq!(rt; done, pair.done, "{:?}", pair.order);
+}
+
+/// The same steps by turns.
+fn take_pair<R: Abort>(rt: &R, run: &mut SafeVm, pair: &Pair) {
+    let (first, second) = pair.order;
+    let done = run.turn(worker_of(first), first, pair.done.0).ok();
+    assert_eq!(rt; done, Some(pair.done.0));
+    let done = run.turn(worker_of(second), second, pair.done.1).ok();
+    assert_eq!(rt; done, Some(pair.done.1));
+}
+
+fn assert_pair<R: Abort>(rt: &R, alloc: Global, program: &Program, pair: &Pair, end: Played<'_>) {
+    let verified = accepted(rt, alloc, program);
+    let player = Player {
+        verified: &verified,
+        limits: pair.limits,
+    };
+    let mut run = stood(rt, alloc, player, &[(0, 8)]);
+    let mut like = stood(rt, alloc, player, &[(0, 8)]);
+    bring_pair(rt, &mut run, pair);
+    take_pair(rt, &mut like, pair);
+    assert_alike(rt, alloc, &run, &like);
+    assert_eq!(rt; run.ending(), pair.ending, "{:?}", pair.order);
+    assert_end(rt, alloc, player, run, end);
+}
+
+/// Main first, with all that both do.
+const PAIR: Pair = Pair {
+    limits: AMPLE,
+    most: (2, 2),
+    order: (0, 1),
+    done: (2, 2),
+    ending: None,
+};
+
+/// Both may do all that they can.
+static PAIRS: [Pair; 5] = [
+    PAIR,
+    Pair {
+        order: (1, 0),
+        ..PAIR
+    },
+    Pair {
+        most: (1, 2),
+        done: (1, 2),
+        ..PAIR
+    },
+    Pair {
+        most: (1, 2),
+        order: (1, 0),
+        done: (2, 1),
+        ..PAIR
+    },
+    Pair {
+        most: (0, 1),
+        done: (0, 1),
+        ..PAIR
+    },
+];
+
+/// After eight steps the budget has room for fourteen, one more, one less, those of one thread, and fewer.
+static PAIRS_CUT: [Pair; 9] = [
+    Pair {
+        limits: Limits {
+            budget: 23,
+            ..AMPLE
+        },
+        most: (5, 9),
+        done: (5, 9),
+        ..PAIR
+    },
+    Pair {
+        limits: Limits {
+            budget: 22,
+            ..AMPLE
+        },
+        most: (5, 9),
+        done: (5, 9),
+        ending: Some(Ending::Steps),
+        ..PAIR
+    },
+    Pair {
+        limits: Limits {
+            budget: 22,
+            ..AMPLE
+        },
+        most: (5, 9),
+        order: (1, 0),
+        done: (9, 5),
+        ending: Some(Ending::Steps),
+    },
+    Pair {
+        limits: Limits {
+            budget: 21,
+            ..AMPLE
+        },
+        most: (5, 9),
+        done: (5, 8),
+        ending: Some(Ending::Steps),
+        ..PAIR
+    },
+    Pair {
+        limits: Limits {
+            budget: 21,
+            ..AMPLE
+        },
+        most: (5, 9),
+        order: (1, 0),
+        done: (9, 4),
+        ending: Some(Ending::Steps),
+    },
+    Pair {
+        limits: Limits {
+            budget: 17,
+            ..AMPLE
+        },
+        most: (5, 9),
+        order: (1, 0),
+        done: (9, 0),
+        ending: Some(Ending::Steps),
+    },
+    Pair {
+        limits: Limits {
+            budget: 13,
+            ..AMPLE
+        },
+        most: (5, 9),
+        done: (5, 0),
+        ending: Some(Ending::Steps),
+        ..PAIR
+    },
+    Pair {
+        limits: Limits {
+            budget: 11,
+            ..AMPLE
+        },
+        most: (5, 9),
+        done: (3, 0),
+        ending: Some(Ending::Steps),
+        ..PAIR
+    },
+    Pair {
+        limits: Limits {
+            budget: 11,
+            ..AMPLE
+        },
+        most: (5, 9),
+        order: (1, 0),
+        done: (3, 0),
+        ending: Some(Ending::Steps),
+    },
+];
+
+#[test]
+fn two_threads_are_lent_at_once(rt: HostRuntime) {
+    let alloc = rt.alloc();
+    let printed = Played::Ends(Ending::Done, "42\n-5\n#end done\n");
+    for pair in &PAIRS {
+        assert_pair(&rt, alloc, &BOTH, pair, printed);
+    }
+    for pair in &PAIRS_CUT {
+        assert_pair(&rt, alloc, &BOTH_FOREVER, pair, SPENT);
+    }
+}

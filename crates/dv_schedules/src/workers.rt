@@ -1,0 +1,158 @@
+// Whole programs that are run in slices, and slices for which memory is wanting.
+ghost use Rattle.std.specs.Prelude.{◌≡◌};
+ghost use Rattle.dv_sound.specs.Lending.{IsMade};
+
+use crate::playing::{Player, accepted, assert_ended, assert_played, opened, stood, verified};
+use crate::program::{AMPLE, PROGRAM, Played, Program};
+use crate::replays::SPENT;
+use crate::slices::{brought, image_of, lent, work, worker_of};
+use crate::texts::{PRODUCER, RACE, TEN};
+use dv_defs::{Ending, Image, Limits};
+use dv_local::Slice;
+use dv_sound::{Refused, SafeVm};
+use std::alloc::Global;
+use std::process::Abort;
+
+/// A thread that is ready is lent, where its next step is local, and brought back with so many steps at most; else it takes a step.
+fn go<R: Abort>(rt: &R, run: &mut SafeVm, thread: u32, most: u32) {
+    if run.next_is_local(thread) {
+        let image = image_of(run);
+        let mut slice = lent(rt, image, run, thread);
+        let ran = work(image, &mut slice, most);
+        assert_eq!(rt; brought(rt, image, run, slice), ran);
+        assert!(rt; ran > 0);
+    } else {
+        assert_eq!(rt; run.turn(0, thread, most).ok(), Some(1));
+    }
+}
+
+/// The highest thread that is runnable.
+fn highest(run: &SafeVm) -> Option<u32> {
+    let mut found = None;
+    for thread in 0..run.threads() {
+        if run.runnable(thread) {
+            found = Some(thread);
+        }
+    }
+    found
+}
+
+/// All threads that are ready go, so many steps at most, the lowest or the highest one first, until the run has ended.
+fn go_all<R: Abort>(rt: &R, run: &mut SafeVm, most: u32, lowest: bool) {
+    for _ in 0..10_000 {
+        if run.ending().is_some() {
+            return;
+        }
+        let next = if lowest { run.ready() } else { highest(run) };
+        let thread = next.expect(rt, "a runnable thread");
+        go(rt, run, thread, most);
+    }
+}
+
+/// A text is run in slices, and ends so; its log leads there again.
+fn assert_sliced<R: Abort>(rt: &R, alloc: Global, text: &str, end: &str) {
+    let verified = verified(rt, alloc, text);
+    let player = Player {
+        verified: &verified,
+        limits: AMPLE,
+    };
+    for (most, lowest) in [(1, true), (2, false), (3, true), (256, false)] {
+        let mut run = opened(rt, alloc, player);
+        go_all(rt, &mut run, most, lowest);
+        assert_ended(rt, alloc, &run, Ending::Done, end);
+        let log = run.into_log();
+        assert_played(rt, alloc, player, &log, Played::Ends(Ending::Done, end));
+    }
+}
+
+#[test]
+fn programs_run_in_slices(rt: HostRuntime) {
+    let alloc = rt.alloc();
+    assert_sliced(&rt, alloc, PRODUCER, TEN);
+    assert_sliced(&rt, alloc, RACE, "2\n#end done\n");
+}
+
+/// Main's first slice. Where main isn't lent for want of memory nothing has changed, and it is lent when there is some.
+#[tactic(auto, using(dv_sound::proofs::Made::made_first))]
+fn lent_at_last<R: Abort>(rt: &R, image: &Image, run: &mut SafeVm) -> Slice
+    requires { run.old.verified.image ≡ image.now }
+    ensures made { IsMade image.now result }
+    ensures same { run.new.verified.image ≡ image.now }
+{
+    let before = (run.vm().steps, run.log().len());
+    match run.lend(0) {
+        Ok(first) => {
+            let Some(slice) = first else {
+                panic!(rt; "main isn't lent");
+            };
+            slice
+        }
+        Err(_) => {
+            assert_eq!(rt; (run.vm().steps, run.log().len()), before);
+            assert_eq!(rt; run.ready(), Some(0));
+            lent(rt, image, run, 0)
+        }
+    }
+}
+
+/// A slice of main comes back. Where it doesn't for want of memory nothing has changed, main is away, and the same slice comes back when there
+/// is some.
+fn brought_at_last<R: Abort>(rt: &R, image: &Image, run: &mut SafeVm, slice: Slice) -> u32
+    requires same { run.old.verified.image ≡ image.now }
+    requires made { IsMade image.now slice }
+{
+    let before = (run.vm().steps, run.log().len());
+    match run.commit(worker_of(0), slice) {
+        Ok(done) => done,
+        Err(refused) => {
+            let Refused { slice } = refused;
+            assert_eq!(rt; (run.vm().steps, run.log().len()), before);
+            assert_eq!(rt; run.ready(), None);
+            assert!(rt; run.fits(&slice));
+            brought(rt, image, run, slice)
+        }
+    }
+}
+
+/// It counts in rounds of two steps.
+const COUNTS: Program = Program {
+    registers: "1",
+    body: "
+        const/4 v0, 0
+        :round
+        add-int/lit8 v0, v0, 1
+        goto :round",
+    ..PROGRAM
+};
+
+/// So many rounds are done: another one.
+fn round<R: Abort>(rt: &R, run: &mut SafeVm, rounds: u32) {
+    let image = image_of(run);
+    let mut slice = lent_at_last(rt, image, run);
+    assert_eq!(rt; slice.start.at, 1);
+    assert!(rt; slice.start.regs.items() == [rounds].as_slice(), "{rounds}");
+    assert_eq!(rt; work(image, &mut slice, 2), 2);
+    assert_eq!(rt; brought_at_last(rt, image, run, slice), 2);
+}
+
+// Tried with each allocation of it failing in turn, once a run stands.
+#[test]
+fn want_of_memory_changes_nothing(rt: HostRuntime) {
+    let alloc = rt.alloc();
+    let verified = accepted(&rt, alloc, &COUNTS);
+    let player = Player {
+        verified: &verified,
+        limits: Limits {
+            budget: 81,
+            ..AMPLE
+        },
+    };
+    let mut run = stood(&rt, alloc, player, &[(0, 1)]);
+    for rounds in 0..40 {
+        round(&rt, &mut run, rounds);
+    }
+    assert_eq!(&rt; run.log().len(), 41);
+    assert_ended(&rt, alloc, &run, Ending::Steps, "#end steps\n");
+    let log = run.into_log();
+    assert_played(&rt, alloc, player, &log, SPENT);
+}
