@@ -1,0 +1,13 @@
+//! One step of a part of the engine by its own call, over the image of a whole text: what it answers, and all that it leaves. Tests that cross crates.
+#![tactic(auto)]
+
+#[cfg(test)]
+mod call_rows;
+#[cfg(test)]
+mod calls;
+#[cfg(test)]
+mod fixtures;
+#[cfg(test)]
+mod native_rows;
+#[cfg(test)]
+mod natives;
