@@ -17,7 +17,7 @@ use Rattle.dv_defs.specs.Names.{init_name}
 use Rattle.dv_defs.specs.Pools.{Method, method_at, is_virtual_of, with_def, pick, declared_by, first_of_classes, nearest, parent_at, walk, supers}
 use Rattle.dv_defs.specs.Linked.{IsImage}
 use Rattle.dv_linklaws.specs.Landing.{has_key_at, landing_of}
-use Rattle.dv_linklaws.proofs.TableLaws.{table_agrees, image_table}
+use Rattle.dv_linklaws.proofs.TableLaws.{entry_lands, table_agrees, image_table}
 use Rattle.dv_image.specs.Calls.{landing, def_at, def_in, def_has_key, is_virtual_def, takes_call, number_of, declared_number, landing_among}
 
 -- ---- what is read of a list that is another
@@ -73,6 +73,12 @@ pub landing_tabled : (image : Image) → IsImage image → (c : ℕ) (info : Cla
     → find (has_key_at image name proto) info.table ≡ landing_of image c name proto
 landing_tabled image is c info name proto there plain =
     ap (find (has_key_at image name proto)) (image_table image is c info there) ∙ table_agrees image c name proto plain
+
+-- each entry of it that has the name and prototype is that
+pub landing_placed : (image : Image) → IsImage image → (c : ℕ) (info : ClassInfo) (name : List ℕ) (proto : Proto) → slice_get image.classes c ≡ Some info → bytes_eq name init_name ≡ false
+    → (p : ℕ) (id : MethodId) → slice_get info.table p ≡ Some id → has_key_at image name proto id ≡ true → Some id ≡ landing_of image c name proto
+landing_placed image is c info name proto there plain p id placed has =
+    sym (entry_lands image c name proto plain p id (ap (λ (t : List MethodId). slice_get t p) (sym (image_table image is c info there)) ∙ placed) has)
 
 -- ---- up the superclasses
 

@@ -1,5 +1,5 @@
 // The methods that calls on objects land on.
-ghost use Rattle.std.specs.Prelude.{◌≡◌, false, bytes_eq, find, option_map};
+ghost use Rattle.std.specs.Prelude.{◌≡◌, Some, true, false, bytes_eq, find, option_map, slice_get};
 ghost use Rattle.dv_defs.specs.Names.{init_name};
 ghost use Rattle.dv_defs.specs.Pools.{supers};
 ghost use Rattle.dv_linklaws.specs.Landing.{has_key_at, landing_of};
@@ -34,7 +34,7 @@ fn land(image: &Image, class: ClassId, method: MethodId) -> Option<MethodId>
             if called.name.bytes() == INIT {
                 walk_up(image, class.0 as usize, called)
             } else {
-                land_by_table(image, class, called)
+                land_by_table(image, class, method, called)
             }
         }
         None => None,
@@ -79,14 +79,43 @@ fn number_has_key(image: &Image, id: MethodId, called: &MethodDef) -> bool
     }
 }
 
-/// The first entry of the class's table that has the called method's name and prototype.
-fn land_by_table(image: &Image, class: ClassId, called: &MethodDef) -> Option<MethodId>
+/// The place of a method in the table of its class, as linking found it; any place where it stands in none.
+fn own_place(image: &Image, method: MethodId) -> usize {
+    match image.index.places.items().get(method.0 as usize) {
+        Some(place) => *place as usize,
+        None => 0,
+    }
+}
+
+/// The entry at a place of a table, where it has the called method's name and prototype.
+fn entry_at(image: &Image, table: &[MethodId], place: usize, called: &MethodDef) -> Option<MethodId>
+    ensures entry { (id : MethodId) → result ≡ Some id → slice_get table.now place ≡ Some id }
+    ensures key { (id : MethodId) → result ≡ Some id → has_key_at image.now called.now.name called.now.proto id ≡ true }
+{
+    match table.get(place) {
+        Some(id) if number_has_key(image, *id, called) => Some(*id),
+        _ => None,
+    }
+}
+
+/// The entry of the class's table that has the called method's name and prototype. In a class below the called method's it stands at the
+/// called method's own place; elsewhere the table is gone through.
+fn land_by_table(
+    image: &Image,
+    class: ClassId,
+    method: MethodId,
+    called: &MethodDef,
+) -> Option<MethodId>
     requires { bytes_eq called.now.name init_name ≡ false }
     ensures { result ≡ landing_of image.now class.0 called.now.name called.now.proto }
 {
-    match image.classes.items().get(class.0 as usize) {
-        Some(info) => first_entry(image, info.table.items(), called),
-        None => None,
+    let Some(info) = image.classes.items().get(class.0 as usize) else {
+        return None;
+    };
+    let table = info.table.items();
+    match entry_at(image, table, own_place(image, method), called) {
+        Some(found) => Some(found),
+        None => first_entry(image, table, called),
     }
 }
 

@@ -3,7 +3,7 @@ use crate::rows;
 use crate::rows::{CommonRow, FieldRow, Landing, MainRow, Pools, Rows, Shape, TypeOf, TypeRow};
 use dv_boot::boot_text;
 use dv_classread::read_classes;
-use dv_defs::{Base, ClassDef, Image, LinkError, LinkKind, MethodId, Text, Ty};
+use dv_defs::{Base, ClassDef, ClassId, Image, LinkError, LinkKind, MethodId, Text, Ty};
 use dv_hier::Classes;
 use dv_image::{
     assignable, common_super, field_of, instance, lookup_interface, lookup_virtual, sub,
@@ -116,6 +116,30 @@ fn assert_shapes<R: Abort>(rt: &R, image: &Image, rows: &[Shape]) {
     }
 }
 
+// Whether a method of the class is found at this place of the class's table, or is another class's.
+fn is_placed(image: &Image, class: ClassId, method: MethodId, place: u32) -> bool {
+    let number = method.0 as usize;
+    let Some(info) = image.methods.items().get(number) else {
+        return false;
+    };
+    info.class != class || image.index.places.items().get(number) == Some(&place)
+}
+
+fn are_placed(image: &Image, class: ClassId, table: &[MethodId]) -> bool {
+    for (place, method) in (0..).zip(table) {
+        if !is_placed(image, class, *method, place) {
+            return false;
+        }
+    }
+    true
+}
+
+fn assert_places<R: Abort>(rt: &R, image: &Image, rows: &[Shape]) {
+    for (class, _, table) in rows {
+        assert!(rt; are_placed(image, *class, table), "{}", class.0);
+    }
+}
+
 fn assert_fields<R: Abort>(rt: &R, alloc: Global, image: &Image, rows: &[FieldRow]) {
     for (class, name, letter, field) in rows {
         let ty = type_of(rt, alloc, (0, letter));
@@ -170,6 +194,7 @@ fn assert_image<R: Abort>(rt: &R, alloc: Global, image: &Image, rows: &Rows) {
     assert_common(rt, alloc, image, rows.common);
     assert_landings(rt, image, rows.landings);
     assert_shapes(rt, image, rows.shapes);
+    assert_places(rt, image, rows.shapes);
     assert_fields(rt, alloc, image, rows.fields);
     assert_pools(rt, image, rows.pools);
     assert_mains(rt, alloc, image, rows.mains);

@@ -302,6 +302,54 @@ table_agrees image c name proto plain =
     own : All (IsOwn image) methods
     own = along_own image (supers image c)
 
+-- what an item at a place has by which it is found, so that one is found
+found_some : {X : Type 0} (test : X → Bool) (xs : List X) (p : ℕ) (x : X) → slice_get xs p ≡ Some x → test x ≡ true → is_some (find test xs) ≡ true
+found_some test [] p x there has = absurd (cc)
+found_some test (y ∷ ys) zero x there has =
+    let same : y ≡ x = cc in
+    ap (λ b. is_some (cond b (Some y) (find test ys))) (ap test same ∙ has)
+found_some {X} test (y ∷ ys) (suc p) x there has = here (test y) (found_some test ys p x there has)
+  where
+    here : (b : Bool) → is_some (find test ys) ≡ true → is_some (cond b (Some y) (find test ys)) ≡ true
+    here true rest = refl
+    here false rest = rest
+
+-- an entry of a name and prototype has the nearest method of these
+entry_nearest : (image : Image) (c : ℕ) (name : List ℕ) (proto : Proto) (n : Method) → nearest image c name proto ≡ Some n
+    → (ms : List Method) → All (IsOwn image) ms → (p : ℕ) (id : MethodId) → slice_get (map (entry image c) ms) p ≡ Some id → has_key_at image name proto id ≡ true
+    → record { 0 = n.id } ≡ id
+entry_nearest image c name proto n is [] own p id there has = absurd (cc)
+entry_nearest image c name proto n is (m ∷ ms) own zero id there has =
+    let same : entry image c m ≡ id = cc in
+    let key = sym (entry_key image c name proto m (All-head (IsOwn image) m ms own)) ∙ (ap (has_key_at image name proto) same ∙ has) in
+    let keys = and_parts (bytes_eq m.def.name name) (same_proto m.def.proto proto) key in
+    let named = name_is m.def.name name keys.0 in
+    let typed = proto_is m.def.proto proto keys.1 in
+    let by : entry image c m ≡ entry_by (nearest image c name proto) m.id = λ j. entry_by (nearest image c (named j) (typed j)) m.id in
+    sym (by ∙ ap (λ o. entry_by o m.id) is) ∙ same
+entry_nearest image c name proto n is (m ∷ ms) own (suc p) id there has =
+    entry_nearest image c name proto n is ms (All-tail (IsOwn image) m ms own) p id there has
+
+abbrev number_in : Option Method → Option MethodId
+number_in o = option_map (λ m. record { 0 = m.id }) o
+
+-- so each entry of a name and prototype is what a look-up lands on
+pub entry_lands : (image : Image) (c : ℕ) (name : List ℕ) (proto : Proto) → bytes_eq name init_name ≡ false
+    → (p : ℕ) (id : MethodId) → slice_get (table_at image c) p ≡ Some id → has_key_at image name proto id ≡ true → landing_of image c name proto ≡ Some id
+entry_lands image c name proto plain p id there has = here (nearest image c name proto) refl
+  where
+    some : is_some (landing_of image c name proto) ≡ true
+    some = ap is_some (sym (table_agrees image c name proto plain)) ∙ found_some (has_key_at image name proto) (table_at image c) p id there has
+
+    here : (o : Option Method) → nearest image c name proto ≡ o → landing_of image c name proto ≡ Some id
+    here None e =
+        let none : is_some (landing_of image c name proto) ≡ false = ap (λ (o : Option Method). is_some (number_in o)) e in
+        let both : true ≡ false = sym some ∙ none in
+        absurd (cc)
+    here (Some n) e =
+        ap number_in e ∙
+        ap Some (entry_nearest image c name proto n e (callable_along image (supers image c)) (along_own image (supers image c)) p id there has)
+
 -- ---- where there is no such class
 
 def_there : (id : ℕ) (info : MethodInfo) (o : Option MethodDef) (m : Method) → with_def id info o ≡ Some m → (m.info ≡ info) × (o ≡ Some m.def)

@@ -6,6 +6,7 @@ mod linking;
 mod lookups;
 mod main_method;
 mod members;
+mod places;
 mod pool_types;
 mod pools;
 mod resolving;

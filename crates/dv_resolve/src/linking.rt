@@ -12,6 +12,7 @@ ghost use Rattle.dv_resolve.specs.Answers.{Answers};
 
 use crate::interfaces::interfaces_of_all;
 use crate::members::Members;
+use crate::places::places_in_tables;
 use crate::pools::check_pools;
 use crate::resolving::resolve_pools;
 use dv_defs::{ClassId, ClassInfo, Image, Index, LinkError, MethodInfo, Pool, Seq, Text};
@@ -63,6 +64,7 @@ fn resolve(alloc: Global, tabled: Tabled) -> Result<Image, LinkError>
         interfaces.as_slice(),
         methods.into_vec(),
     )?;
+    let places = places_in_tables(alloc, classes.items(), methods.as_slice())?;
     Ok(Image {
         classes,
         methods: Seq::of(methods),
@@ -71,6 +73,7 @@ fn resolve(alloc: Global, tabled: Tabled) -> Result<Image, LinkError>
         index: Index {
             names,
             interfaces: Seq::of(interfaces),
+            places: Seq::of(places),
         },
     })
 }
