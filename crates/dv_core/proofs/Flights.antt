@@ -27,7 +27,6 @@ unwinds_on (Ok next.NoWords) u L M S T f g x = absurd x
 unwinds_on (Ok (next.Throw n)) u L M S T f g x = absurd x
 unwinds_on (Ok next.NoRoom) u L M S T f g x = absurd x
 unwinds_on (Ok next.NoOutput) u L M S T f g x = absurd x
-unwinds_on (Ok (next.Stuck w)) u L M S T f g x = absurd x
 unwinds_on (Err e) u L M S T f g x = g x
 
 module _ (i : Image) (l : Limits) (old : Guest) (thread : ℕ) (own : WordThread) (h : At) (seen : IsSeen i l old thread own h) where

@@ -8,6 +8,7 @@ use Rattle.dv_defs.specs.Images.{Image}
 use Rattle.dv_defs.specs.Op.{Code, Resolved, code_at, op_of}
 use Rattle.dv_defs.specs.Statics as statics
 use Rattle.dv_defs.specs.Statics.{fetch}
+use Rattle.dv_defs.specs.Tiling.{tiles_in, tiling}
 use Rattle.dv_fetch.proofs.Fetched.{payload_there}
 use Rattle.dv_ops.specs.declared.op.Op.{Op}
 use Rattle.dv_ops.specs.Meaning.{has_payload, meant, meant_or_rule}
@@ -18,10 +19,11 @@ use Rattle.dv_frames.specs.declared.heads.Head.{Head}
 use Rattle.dv_frames.specs.Heads.{head_in}
 use Rattle.dv_frames.specs.Tops.{head_of}
 use Rattle.dv_steps.proofs.Fetching.{is_fetched, is_read}
-use Rattle.dv_steps.specs.Answering.{IsAtInsn, IsStackOf}
+use Rattle.dv_steps.specs.Answering.{IsStackOf}
 use Rattle.dv_steps.specs.Fetching.{IsFetched, IsThere}
 use Rattle.dv_steps.specs.Steps.{At}
 use Rattle.dv_call.proofs.Resumed.{no_code}
+use Rattle.dv_core.specs.declared.instructions.Instruction.{Instruction}
 use Rattle.dv_core.specs.Guests.{IsAtOp}
 use Rattle.dv_core.specs.Standing.{IsFound}
 
@@ -62,16 +64,6 @@ module _ (image : Image) (stack : WordStack) (own : WordThread) (h : At) (x : st
         fetched : IsFetched image code head.at insn size x
         fetched = is_fetched image code head.at insn size x head.method.0 (sym has_code) fetched_there read
 
-        spelled : IsAtInsn h insn x.op
-        spelled = record {
-          own = at.method;
-          code = code;
-          has_code = (λ j. code_at (same j) (sym same_head j).method.0) ∙ sym has_code;
-          size = size;
-          spelled = (λ j. insn_here (drop (sym same_head j).at code.body.units)) ∙ read;
-          fetched = at.fetched ∙ (λ j. Some (record { op = x.op; next = sym at.next j }));
-        }
-
         module _ (r : Result Op Rule) (resolves : has_payload code head.at insn ≡ true → meant_or_rule code head.at r ≡ op_of image code head.at insn) where
           answered : meant_or_rule code head.at r ≡ Ok x.op
           answered = resolves (payload_there image code head.at insn x.op fetched.op) ∙ fetched.op
@@ -79,11 +71,11 @@ module _ (image : Image) (stack : WordStack) (own : WordThread) (h : At) (x : st
           pub no_rule : (broken : Rule) → r ≡ Err broken → ⊥
           no_rule broken e = absurd (let whole : (let q : Resolved = Err broken in q) ≡ Ok x.op = ap (meant_or_rule code head.at) (sym e) ∙ answered in cc whole)
 
-          pub found : (o : Op) (next : ℕ) → r ≡ Ok o → next ≡ head.at + size → IsFound (Some (record { insn = insn; op = o; next = next })) h x.op
-          found o next e after = record {
-            spelled = spelled;
+          pub found : (i : Instruction) → r ≡ Ok i.op → i.next ≡ head.at + size → code.tiles ≡ tiles_in (tiling i.units.now) → IsFound (Some i) h x.op
+          found i e after tiled = record {
             code = code;
             at = head.at;
-            means = let whole : (let q : Resolved = Ok (meant code head.at o) in q) ≡ Ok x.op = ap (meant_or_rule code head.at) (sym e) ∙ answered in cc whole;
+            tiled = tiled;
+            means = let whole : (let q : Resolved = Ok (meant code head.at i.op) in q) ≡ Ok x.op = ap (meant_or_rule code head.at) (sym e) ∙ answered in cc whole;
             next = after ∙ (sym fetched.next ∙ sym at.next);
           }

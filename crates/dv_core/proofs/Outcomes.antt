@@ -2,15 +2,15 @@
 use Rattle.std.proofs.Common.{◌≡◌, ℕ, ◌++◌, Bool, true, false, List, [], ◌∷◌, All, map, Option, Some, Result, Ok, Err, refl, sym, ap, ◌∙◌, subst}
 use Rattle.std.specs.Prelude.{slice_get, slice_set}
 use Rattle.std.specs.Option.{option_to_list}
-use Rattle.dv_defs.specs.declared.code.Insn.{Insn}
 use Rattle.dv_defs.specs.declared.run.Limits.{Limits}
 use Rattle.dv_defs.specs.declared.run.Next.{Next}
 use Rattle.dv_defs.specs.declared.run.Next.TheVariants as next
 use Rattle.dv_defs.specs.Images.{Image}
 use Rattle.dv_defs.specs.declared.code.Regs.{Regs}
-use Rattle.dv_defs.specs.Op.{is_local, named_registers}
+use Rattle.dv_defs.specs.Op.{Code, Op, is_local, named_registers}
 use Rattle.dv_defs.specs.Statics as statics
 use Rattle.dv_defs.specs.Statics.{fetch}
+use Rattle.dv_defs.specs.Tiling.{tiles_in, tiling}
 use Rattle.dv_machine.specs.State.{Did, Go, NoOutput, NoRoom, NoWords, Throws, ThrowsRef}
 use Rattle.dv_words.specs.declared.state.Frame.{Frame}
 use Rattle.dv_words.specs.declared.state.Level.{Level}
@@ -18,19 +18,22 @@ use Rattle.dv_words.specs.declared.state.Level.TheVariants as level
 use Rattle.dv_words.specs.Stacks.{arg_words, changed, first, on_top, top_regs, with_levels}
 use Rattle.dv_words.specs.State.{WordHeap, WordShared, WordStack, WordThread}
 use Rattle.dv_words.specs.Words.{word_at}
-use Rattle.dv_steps.specs.Answering.{IsAtInsn, IsStackOf, Leads, LeavesStack}
+use Rattle.dv_steps.specs.Answering.{IsStackOf, Leads, LeavesStack}
 use Rattle.dv_steps.specs.Local.{reg_word, word_local}
 use Rattle.dv_steps.specs.Mem.{WordHere, WordLeft, word_mem}
 use Rattle.dv_steps.specs.Stepping.{Answered, KeysRise, StepsLocally}
 use Rattle.dv_steps.specs.Steps.{At, Left, carried, leaves, mem_here, mem_left, with_heap, with_left, with_monitors}
 use Rattle.dv_mem.specs.Operands.{AreOperands}
-use Rattle.dv_mem.specs.Stepping.{GoesOnAt, is_mem}
-use Rattle.dv_mem.specs.Tops.{here}
+use Rattle.dv_mem.specs.Stepping.{is_mem}
+use Rattle.dv_mem.specs.Tops.{frame_in, seen, top_frame}
+use Rattle.dv_ops.specs.Meaning.{meant}
 use Rattle.dv_local.specs.Tops.{StepsTop, TopBecame, TopStepped}
 use Rattle.dv_builtin.specs.Seeing.{Does}
 use Rattle.dv_threads.specs.Kept.{AreAsBefore, IsThreadOf, LeavesThreads, bounds}
 use Rattle.dv_core.specs.declared.guest.Guest.{Guest}
+use Rattle.dv_core.specs.declared.instructions.Instruction.{Instruction}
 use Rattle.dv_core.specs.Guests.{IsAtOp, IsSeen, Leaves, Stays, shared_of}
+use Rattle.dv_core.specs.Standing.{IsHere}
 use Rattle.dv_core.proofs.Seen.{all_first, all_more, all_rest, has_bounds, has_stack, is_stack, kept_stack, led, stayed, wrote}
 
 -- ---- a step of the frame and the heap
@@ -62,33 +65,25 @@ module _ (i : Image) (lim : Limits) (old new : Guest) (thread : ℕ) (own : Word
   led_mem (Err memory) (Did.IsStuck y) is x = mem_kept x.0 x.1
   led_mem a d is x = absurd x
 
-goes_on_at : (i : Image) (s : WordStack) (own : WordThread) (h : At) (x : statics.At) (insn : Insn) → h.image ≡ i → IsStackOf s h → IsAtOp own h x → IsAtInsn h insn x.op → GoesOnAt i s insn h.frame x
-goes_on_at i s own h x insn image is at there =
-    let P : Image → Type 0 = λ k. GoesOnAt k s insn h.frame x in
-    subst P image (record {
-      on_top = ap first is.levels;
-      code = there.code;
-      has_code = there.has_code;
-      size = there.size;
-      spelled = there.spelled;
-      fetched = at.fetched;
-    })
-
 -- what the step of the frame and the heap sees
-sees_mem : (i : Image) (lim : Limits) (old : Guest) (thread : ℕ) (own : WordThread) (h : At) (x : statics.At) → IsSeen i lim old thread own h → IsAtOp own h x → here i h.frame old.heap x.next ≡ mem_here h
-sees_mem i lim old thread own h x seen at = λ j. record { image = sym seen.image j; frame = h.frame; heap = (sym seen.shared j).heap; next = sym at.next j }
+sees_mem : (i : Image) (lim : Limits) (old : Guest) (thread : ℕ) (own : WordThread) (h : At) (s : WordStack) (n : ℕ) → IsSeen i lim old thread own h → IsStackOf s h → n ≡ h.next → seen i s old.heap n ≡ mem_here h
+sees_mem i lim old thread own h s n is_seen is next =
+    let top : top_frame s ≡ h.frame = ap frame_in is.levels in
+    λ j. record { image = sym is_seen.image j; frame = top j; heap = (sym is_seen.shared j).heap; next = next j }
 
-pub touched : {E : Type 0} (i : Image) (lim : Limits) (old new : Guest) (thread : ℕ) (own : WordThread) (h : At) (x : statics.At) (insn : Insn) (s r : WordStack) (w : WordHeap) (a : Result Next E)
-    → ((f : Frame) (y : statics.At) → GoesOnAt i s insn f y → is_mem y.op ≡ true → AreOperands (here i f old.heap y.next) y.op → Answered a (word_mem (here i f old.heap y.next) y.op) s old.heap r w)
+pub touched : {E : Type 0} (i : Image) (lim : Limits) (old new : Guest) (thread : ℕ) (own : WordThread) (h : At) (x : statics.At) (it : Instruction) (s r : WordStack) (w : WordHeap) (a : Result Next E)
+    → ((code : Code) (at : ℕ) → code.tiles ≡ tiles_in (tiling it.units.now) → is_mem (meant code at it.op) ≡ true → AreOperands (seen i s old.heap it.next) (meant code at it.op) → Answered a (word_mem (seen i s old.heap it.next) (meant code at it.op)) s old.heap r w)
     → new.threads.ends.items ≡ old.threads.ends.items → new.threads.objects.items ≡ old.threads.objects.items → slice_get old.threads.stacks.items thread ≡ Some s → new.threads.stacks.items ≡ slice_set old.threads.stacks.items thread r
-    → shared_of new ≡ with_heap (shared_of old) w → IsSeen i lim old thread own h → IsAtOp own h x → IsAtInsn h insn x.op → is_mem x.op ≡ true → AreOperands (mem_here h) x.op
+    → shared_of new ≡ with_heap (shared_of old) w → IsSeen i lim old thread own h → IsAtOp own h x → IsHere it h x.op → is_mem x.op ≡ true → AreOperands (mem_here h) x.op
     → Leads a (mem_left h x.op) (Leaves old new own h) (Stays lim old new)
-touched i lim old new thread own h x insn s r w a does ends objects there stacks shared seen at spelled mem are =
-    let is = is_stack i lim old thread own h seen at.levels s there in
-    let sees = sees_mem i lim old thread own h x seen at in
+touched i lim old new thread own h x it s r w a does ends objects there stacks shared is_seen at here mem are =
+    let is = is_stack i lim old thread own h is_seen at.levels s there in
+    let sees = sees_mem i lim old thread own h s it.next is_seen is here.next in
+    let Q : Op → Type 0 = λ o. is_mem o ≡ true → AreOperands (seen i s old.heap it.next) o → Answered a (word_mem (seen i s old.heap it.next) o) s old.heap r w in
+    let by_op : Q x.op = subst Q here.means (does here.code here.at here.tiled) in
     let P : WordHere → Type 0 = λ k. AreOperands k x.op → Answered a (word_mem k x.op) s old.heap r w in
-    let done : P (mem_here h) = subst P sees (does h.frame x (goes_on_at i s own h x insn seen.image is at spelled) mem) in
-    led_mem i lim old new thread own h seen s r w ends objects there stacks shared a (word_mem (mem_here h) x.op) is (done are)
+    let done : P (mem_here h) = subst P sees (by_op mem) in
+    led_mem i lim old new thread own h is_seen s r w ends objects there stacks shared a (word_mem (mem_here h) x.op) is (done are)
 
 -- ---- a native of texts
 

@@ -82,7 +82,6 @@ leads_on (Ok next.NoRoom) NoRoom L M S T f g x = g x
 leads_on (Ok next.NoRoom) d L M S T f g x = absurd x
 leads_on (Ok next.NoOutput) NoOutput L M S T f g x = g x
 leads_on (Ok next.NoOutput) d L M S T f g x = absurd x
-leads_on (Ok (next.Stuck w)) d L M S T f g x = absurd x
 leads_on (Err e) d L M S T f g x = g x
 
 -- ---- one thread's stack

@@ -1,16 +1,16 @@
 -- The instruction at which the frame on top goes on, as the code has it.
 use Rattle.std.specs.Prelude.{◌≡◌, ℕ, Option, Some, None}
 use Rattle.dv_defs.specs.Op.{Code, Op}
+use Rattle.dv_defs.specs.Tiling.{tiles_in, tiling}
 use Rattle.dv_ops.specs.Meaning.{meant}
-use Rattle.dv_steps.specs.Answering.{IsAtInsn}
 use Rattle.dv_steps.specs.Steps.{At}
 use Rattle.dv_core.specs.declared.instructions.Instruction.{Instruction}
 
--- it is spelled there, means this operation, and the next one follows it
+-- in a method of these units it means this operation, and the next one follows it
 pub record IsHere (i : Instruction) (h : At) (op : Op) : Type 0 where
-  pub spelled : IsAtInsn h i.insn op
   pub code : Code
   pub at : ℕ
+  pub tiled : code.tiles ≡ tiles_in (tiling i.units.now)
   pub means : meant code at i.op ≡ op
   pub next : i.next ≡ h.next
 

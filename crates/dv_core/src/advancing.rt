@@ -19,7 +19,7 @@ use crate::vm::Vm;
 use crate::waiting::end_at;
 use dv_defs::{End, Image};
 use dv_frames::{Stack, base_of};
-use dv_local::{is_local, steps_top};
+use dv_local::{opcode_is_local, steps_top};
 use dv_words::Frame;
 use std::alloc::AllocError;
 
@@ -94,7 +94,7 @@ fn is_at_local(image: &Image, stack: &Stack) -> bool
     ensures { IsTopWatched image.now stack.now.levels → result ≡ is_local_level_of image.now stack.now.levels }
 {
     match opcode_of(image, stack) {
-        Some(opcode) => is_local(opcode),
+        Some(opcode) => opcode_is_local(opcode),
         None => false,
     }
 }

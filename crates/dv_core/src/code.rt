@@ -15,7 +15,7 @@ ghost use Rattle.dv_words.specs.State.{WordStack, WordThread};
 ghost use Rattle.dv_words.specs.Stacks.{top_regs};
 ghost use Rattle.dv_words.specs.Words.{word_at};
 ghost use Rattle.dv_words.specs.declared.state.Level.TheVariants as level;
-ghost use Rattle.dv_steps.specs.Answering.{IsAtInsn, Leads};
+ghost use Rattle.dv_steps.specs.Answering.{Leads};
 ghost use Rattle.dv_steps.specs.Calls as calls;
 ghost use Rattle.dv_steps.specs.Local.{reg_word, word_local};
 ghost use Rattle.dv_steps.specs.Natives as natives;
@@ -38,9 +38,9 @@ use crate::guest::Guest;
 use crate::instructions::{Instruction, instruction_of, needs};
 use crate::records::begin;
 use dv_call::{Landed, enter, land, return_value, return_void};
-use dv_defs::{Ask, ClassId, Image, Insn, Limits, Named, Native, Next, Regs};
+use dv_defs::{Ask, ClassId, Image, Limits, Named, Native, Next, Regs};
 use dv_local::step_top;
-use dv_mem::mem_step;
+use dv_mem::operate;
 use dv_ops::{Method, Op};
 use dv_optable::Call;
 use dv_threads::{monitor_enter, monitor_exit};
@@ -136,7 +136,7 @@ fn act(
         Op::Return(_, reg) => Ok(leave_with(image, guest, thread, reg)),
         Op::Enter(reg) => enter_monitor(guest, thread, here.next, reg),
         Op::Exit(reg) => leave_monitor(guest, thread, here.next, reg),
-        _ => touch(image, guest, thread, &here.insn),
+        _ => touch(image, guest, thread, here),
     }
 }
 
@@ -169,19 +169,26 @@ fn word(guest: &Guest, thread: u32, reg: u16) -> u32
 }
 
 /// An instruction on objects, arrays and fields, a division or a cast.
-fn touch(image: &Image, guest: &mut Guest, thread: u32, insn: &Insn) -> Result<Next, AllocError>
-    ensures { (l : Bounds) (own : WordThread) (h : At) (x : statics.At) → IsSeen image.now l guest.old thread own h → IsAtOp own h x → IsAtInsn h insn.now x.op → is_mem x.op ≡ true → AreOperands (mem_here h) x.op →
+fn touch(
+    image: &Image,
+    guest: &mut Guest,
+    thread: u32,
+    here: &Instruction<'_>,
+) -> Result<Next, AllocError>
+    ensures { (l : Bounds) (own : WordThread) (h : At) (x : statics.At) → IsSeen image.now l guest.old thread own h → IsAtOp own h x → IsHere here.now h x.op → is_mem x.op ≡ true → AreOperands (mem_here h) x.op →
         Leads result (mem_left h x.op) (Leaves guest.old guest.new own h) (Stays l guest.old guest.new) }
 {
     let place = thread as usize;
     if place >= guest.threads.stacks.len() {
         return Ok(Next::On);
     }
-    mem_step(
+    operate(
         image,
+        here.units,
         &mut guest.heap,
         &mut guest.threads.stacks[place],
-        insn,
+        here.next,
+        here.op,
     )
 }
 

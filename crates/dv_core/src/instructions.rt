@@ -11,17 +11,17 @@ ghost use Rattle.dv_core.specs.Guests.{IsAtOp};
 ghost use Rattle.dv_core.specs.Opcodes.{opcode_at};
 ghost use Rattle.dv_core.specs.Standing.{IsFound};
 
-use dv_defs::{ClassId, Image, Insn};
+use dv_defs::{ClassId, Image};
 use dv_fetch::{resolve, units_of};
 use dv_frames::Stack;
 use dv_ops::{Op, coded_at};
 use dv_optable::Call;
 use dv_units::decode;
 
-/// An instruction, its operation, and the address after it.
+/// An instruction: the units of its method, its operation, and the address after it.
 #[derive(Clone, Copy)]
 pub struct Instruction<'a> {
-    pub insn: Insn,
+    pub units: &'a [u16],
     pub op: Op<'a>,
     pub next: u32,
 }
@@ -47,7 +47,7 @@ pub fn instruction_of<'a>(image: &'a Image, stack: &Stack) -> Option<Instruction
         return None;
     };
     Some(Instruction {
-        insn,
+        units,
         op,
         next: head.at + size,
     })

@@ -176,7 +176,6 @@ impl Vm {
             Next::NoWords => self.stop(Ending::HeapFull(thread)),
             Next::NoRoom => self.stop(Ending::StackFull(thread)),
             Next::NoOutput => self.stop(Ending::Output),
-            Next::Stuck(_) => {}
         }
         Ok(())
     }

@@ -1,6 +1,6 @@
 // Local steps of a frame.
 ghost use Rattle.std.specs.Prelude.{◌≡◌, ◌≤◌, ℕ, IfSome, MatchOption, None, Ok, length};
-ghost use Rattle.dv_defs.specs.declared.code.Insn.{Insn};
+ghost use Rattle.dv_defs.specs.declared.code.Insn.{Insn as Instruction};
 ghost use Rattle.dv_defs.specs.Images.{Image as Linked};
 ghost use Rattle.dv_defs.specs.Op.{Code, Op, code_at, is_local as is_local_op, op_of};
 ghost use Rattle.dv_ops.specs.Meaning.{code_of};
@@ -9,15 +9,22 @@ ghost use Rattle.dv_steps.specs.Stepping.{RanLocally, StepsLocally};
 ghost use Rattle.dv_local.specs.Units.{HasUnits};
 
 use crate::step::{is_local_opcode, run, step_once};
-use dv_defs::{Image, MethodId};
+use dv_defs::{Image, Insn, MethodId};
 use dv_frames::Head;
 use dv_ops::{Coded, coded_at};
 use dv_words::Frame;
 
+/// Whether an instruction touches one frame alone.
+pub fn is_local(insn: &Insn) -> bool
+    ensures { (image : Linked) (code : Code) (at : ℕ) (op : Op) → op_of image code at insn.now ≡ Ok op → result ≡ is_local_op op }
+{
+    opcode_is_local(insn.op)
+}
+
 /// Whether the instructions of an opcode touch one frame alone.
 #[inline]
-pub fn is_local(opcode: u8) -> bool
-    ensures { (image : Linked) (code : Code) (at : ℕ) (insn : Insn) (op : Op) → insn.op ≡ opcode → op_of image code at insn ≡ Ok op → result ≡ is_local_op op }
+pub fn opcode_is_local(opcode: u8) -> bool
+    ensures { (image : Linked) (code : Code) (at : ℕ) (insn : Instruction) (op : Op) → insn.op ≡ opcode → op_of image code at insn ≡ Ok op → result ≡ is_local_op op }
 {
     is_local_opcode(opcode)
 }
@@ -78,7 +85,7 @@ pub fn local_step(image: &Image, frame: &mut Frame) -> bool
 }
 
 /// Does local instructions of a frame one after another, so many at most, up to the first that isn't one; gives how many were done.
-pub fn run_slice(image: &Image, frame: &mut Frame, most: u32) -> u32
+pub fn run_frame(image: &Image, frame: &mut Frame, most: u32) -> u32
     ensures { RanLocally image.now most result frame.old frame.new }
 {
     let Some(units) = units_of(image, frame.method) else {

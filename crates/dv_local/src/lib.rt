@@ -15,8 +15,8 @@ mod spelled_moves;
 mod step;
 mod tops;
 
-pub use frames::{is_local, local_step, run_slice};
-pub use slice::Slice;
+pub use frames::{is_local, local_step, opcode_is_local, run_frame};
+pub use slice::{Slice, run_slice};
 pub use tops::{step_top, steps_top};
 
 #[cfg(test)]

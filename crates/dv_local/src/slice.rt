@@ -2,7 +2,7 @@
 ghost use Rattle.std.specs.Prelude.{◌≡◌, ◌+◌, ◌-◌, ◌^◌, min};
 ghost use Rattle.dv_steps.specs.Stepping.{RanLocally};
 
-use crate::frames::run_slice;
+use crate::frames::run_frame;
 use dv_defs::Image;
 use dv_words::Frame;
 
@@ -15,18 +15,16 @@ pub struct Slice {
     pub end: Frame,
 }
 
-impl Slice {
-    /// Does local steps from the end on, so many at most, and no more than `steps` can count, up to the first instruction that isn't
-    /// local; gives how many were done.
-    pub fn run(&mut self, image: &Image, most: u32) -> u32
-        ensures ran { RanLocally image.now (min most (2 ^ 32 - 1 - self.old.steps)) result self.old.end self.new.end }
-        ensures counted { self.new.steps ≡ self.old.steps + result }
-        ensures thread { self.new.thread ≡ self.old.thread }
-        ensures start { self.new.start ≡ self.old.start }
-    {
-        let most = most.min(u32::MAX - self.steps);
-        let done = run_slice(image, &mut self.end, most);
-        self.steps += done;
-        done
-    }
+/// Does local steps from a slice's end on, so many at most, and no more than `steps` can count, up to the first instruction that isn't
+/// local; gives how many were done.
+pub fn run_slice(image: &Image, slice: &mut Slice, most: u32) -> u32
+    ensures ran { RanLocally image.now (min most (2 ^ 32 - 1 - slice.old.steps)) result slice.old.end slice.new.end }
+    ensures counted { slice.new.steps ≡ slice.old.steps + result }
+    ensures thread { slice.new.thread ≡ slice.old.thread }
+    ensures start { slice.new.start ≡ slice.old.start }
+{
+    let most = most.min(u32::MAX - slice.steps);
+    let done = run_frame(image, &mut slice.end, most);
+    slice.steps += done;
+    done
 }

@@ -16,7 +16,7 @@ mod step;
 mod words;
 
 pub use laws::operands_stand;
-pub use step::mem_step;
+pub use step::{mem_step, operate};
 
 #[cfg(test)]
 mod tests;

@@ -78,8 +78,13 @@ fn size_of(op: u8) -> u32
     insn_size(op) as u32
 }
 
-/// Does an operation, if it is one on objects, arrays and fields, a division or a cast. The units are those of the method on top.
-fn operate(
+/// Does an operation, if it is one on objects, arrays and fields, a division or a cast; another is passed over. The units are those of the
+/// method on top, and `next` is the address after its instruction. A caller that has resolved an instruction needn't have it resolved again.
+///
+/// # Errors
+///
+/// Want of memory; all is as before then.
+pub fn operate(
     image: &Image,
     units: &[u16],
     heap: &mut Heap,

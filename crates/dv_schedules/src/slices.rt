@@ -4,7 +4,7 @@ ghost use Rattle.dv_sound.specs.Lending.{IsMade};
 
 use crate::playing::final_text;
 use dv_defs::{Entry, Image};
-use dv_local::Slice;
+use dv_local::{Slice, run_slice};
 use dv_sound::SafeVm;
 use dv_words::Frame;
 use std::alloc::{AllocError, Global};
@@ -74,7 +74,7 @@ pub fn work(image: &Image, slice: &mut Slice, most: u32) -> u32
     requires { IsMade image.now slice.old }
     ensures { IsMade image.now slice.new }
 {
-    slice.run(image, most)
+    run_slice(image, slice, most)
 }
 
 /// A slice comes back; gives how many of its steps were done.

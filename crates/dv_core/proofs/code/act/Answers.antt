@@ -55,4 +55,4 @@ returns-in_default c own h x seen at fits local here =
     let P : Op → Type 0 = λ o. is_local o ≡ false → is_mem o ≡ true in
     let mem = subst P here.means (mem_else here.code here.at c.args.here.now.op n.not-Invoke n.not-ReturnVoid n.not-Return n.not-Enter n.not-Exit) local in
     led_by c.touch.result (act h x.op) (mem_left h x.op) (Leaves old c.touch.new.guest own h) (Stays l old c.touch.new.guest) (mem_acts h x.op mem)
-    (c.touch.ensures l own h x seen at here.spelled mem fits.operands)
+    (c.touch.ensures l own h x seen at here mem fits.operands)

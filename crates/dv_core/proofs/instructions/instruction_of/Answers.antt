@@ -1,5 +1,6 @@
 use Rattle.std.proofs.Common.{◌≡◌, ◌∙◌, ◌+◌, ℕ, List, drop, length, refl, sym, ap, arith}
 use Rattle.dv_defs.specs.Decoding.{insn_here}
+use Rattle.dv_defs.specs.Tiling.{tiles_in, tiling}
 use Rattle.dv_ops.specs.Meaning.{code_of}
 use Rattle.dv_core.proofs.Found.{found, inside, no_rule, some_code, some_insn}
 use Rattle.dv_core.proofs.instructions.instruction_of.Goals as goal
@@ -36,4 +37,4 @@ returns c own h x same is at =
     let place = c.in-Some.head.at in
     let units : c.units_of-units.result.now ≡ code.body.units = c.units_of-units.ensures.units in
     let read = ap (λ (us : List ℕ). insn_here (drop place us)) (sym units) ∙ c.in-Ok.ensures.here in
-    found c.args.image.now c.args.stack.now own h x same is at c.in-Some.head c.in-Some.ensures code c.in-Some-coded_at.ensures c.in-Ok.insn c.in-Ok.size read c.resolve.result c.resolve.ensures c.in-Ok-resolve.op (place + c.in-Ok.size) c.in-Ok-resolve.is refl
+    found c.args.image.now c.args.stack.now own h x same is at c.in-Some.head c.in-Some.ensures code c.in-Some-coded_at.ensures c.in-Ok.insn c.in-Ok.size read c.resolve.result c.resolve.ensures _ c.in-Ok-resolve.is refl (ap (λ (us : List ℕ). tiles_in (tiling us)) (sym units))

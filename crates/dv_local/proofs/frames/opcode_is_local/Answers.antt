@@ -3,7 +3,7 @@ use Rattle.dv_defs.specs.Op.{is_local}
 use Rattle.dv_units.proofs.Operations.{locals_agree}
 use Rattle.dv_local.proofs.Opcodes.{opcode_local}
 use Rattle.dv_local.specs.Local.{is_local_opcode}
-use Rattle.dv_local.proofs.frames.is_local.Goals as goal
+use Rattle.dv_local.proofs.frames.opcode_is_local.Goals as goal
 
 pub returns : goal.returns
 returns c image code at insn op same e =
