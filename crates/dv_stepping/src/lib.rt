@@ -8,6 +8,10 @@ mod calls;
 #[cfg(test)]
 mod fixtures;
 #[cfg(test)]
+mod local_rows;
+#[cfg(test)]
+mod locals;
+#[cfg(test)]
 mod native_rows;
 #[cfg(test)]
 mod natives;
