@@ -108,7 +108,8 @@ pub enum Made {
     Chars(&'static [u32]),
 }
 
-fn write(heap: &mut Heap, object: u32, slot: u32, word: u32) {
+/// Writes a field or an element, where it is there.
+pub fn write(heap: &mut Heap, object: u32, slot: u32, word: u32) {
     let there = object > 0 && heap.exists(object) && slot < heap.size(object);
     if there && !matches!(heap.kind(object), Kind::Str) {
         heap.put(object, slot, word);

@@ -8,10 +8,20 @@ mod calls;
 #[cfg(test)]
 mod fixtures;
 #[cfg(test)]
+mod guest_cases;
+#[cfg(test)]
+mod guests;
+#[cfg(test)]
 mod local_rows;
 #[cfg(test)]
 mod locals;
 #[cfg(test)]
+mod monitor_rows;
+#[cfg(test)]
 mod native_rows;
 #[cfg(test)]
 mod natives;
+#[cfg(test)]
+mod start_rows;
+#[cfg(test)]
+mod threads;
