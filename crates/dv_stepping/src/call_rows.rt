@@ -374,4 +374,13 @@ pub const NATIVE: &[Row] = &[
     ),
     ("const/4 v0, 1", &[([7, 8, 0, 0, 0, 0], Stays)]),
     ("monitor-enter v0", &[([C, 8, 0, 0, 0, 0], Stays)]),
+    ("nop", &[([7, 8, 0, 0, 0, 0], Stays)]),
+    ("add-int v0, v1, v2", &[([7, 8, 9, 0, 0, 0], Stays)]),
+    ("move-result v0", &[([7, 8, 0, 0, 0, 0], Stays)]),
+    ("throw v0", &[([0, 8, 0, 0, 0, 0], Stays)]),
+    ("new-instance v0, LC;", &[([7, 8, 0, 0, 0, 0], Stays)]),
+    (
+        "iget-object v0, v1, Ljava/lang/Throwable;->cause:Ljava/lang/Throwable;",
+        &[([7, 0, 0, 0, 0, 0], Stays)],
+    ),
 ];

@@ -63,6 +63,23 @@ pub fn names_of(image: &Image, method: MethodId) -> Option<(&str, &str)> {
     Some((class, str::from_utf8(method.def.name.bytes()).ok()?))
 }
 
+fn is_named(image: &Image, method: MethodId, class: &str, name: &str) -> bool {
+    match names_of(image, method) {
+        Some((of, called)) => of == class && called == name,
+        None => false,
+    }
+}
+
+/// The method of a class by its name.
+pub fn method_named(image: &Image, class: &str, name: &str) -> Option<MethodId> {
+    for (method, _) in (0..).zip(image.methods.items()) {
+        if is_named(image, MethodId(method), class, name) {
+            return Some(MethodId(method));
+        }
+    }
+    None
+}
+
 /// The class of a descriptor.
 pub fn class_named(image: &Image, name: &str) -> Option<ClassId> {
     for (class, info) in (0..).zip(image.classes.items()) {

@@ -16,12 +16,24 @@ mod local_rows;
 #[cfg(test)]
 mod locals;
 #[cfg(test)]
+mod made;
+#[cfg(test)]
 mod monitor_rows;
 #[cfg(test)]
 mod native_rows;
 #[cfg(test)]
 mod natives;
 #[cfg(test)]
+mod records;
+#[cfg(test)]
+mod return_rows;
+#[cfg(test)]
+mod returns;
+#[cfg(test)]
 mod start_rows;
 #[cfg(test)]
 mod threads;
+#[cfg(test)]
+mod unwinding;
+#[cfg(test)]
+mod unwinding_rows;
