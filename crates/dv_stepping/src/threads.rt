@@ -9,7 +9,7 @@ use crate::start_rows::{CURRENT, JOINS, LIMITED, ORDERS, OTHERS, STARTS};
 use dv_defs::{Image, Insn, MethodId, Next};
 use dv_heap::Heap;
 use dv_threads::{Threads, thread_step};
-use std::alloc::Global;
+use std::alloc::{AllocError, Global};
 use std::process::Abort;
 
 /// The instruction at which the threads stand.
@@ -17,11 +17,25 @@ fn insn_of(image: &Image, threads: &Threads) -> Option<Insn> {
     insn_at(image, threads.stacks.first()?)
 }
 
-/// What a step answers, none where it wants memory.
+fn do_step(
+    image: &Image,
+    heap: &Heap,
+    threads: &mut Threads,
+    row: &Row,
+    thread: u32,
+    insn: &Insn,
+) -> Result<Next, AllocError> {
+    let (limits, native) = (&row.limits, row.native);
+    thread_step(image, heap, limits, threads, thread, native, insn)
+}
+
+/// What is answered. Where memory is wanting all is as before, so that the same call comes to the same again.
 fn step(image: &Image, heap: &Heap, threads: &mut Threads, row: &Row, thread: u32) -> Option<Next> {
     let insn = insn_of(image, threads)?;
-    let (limits, native) = (&row.limits, row.native);
-    thread_step(image, heap, limits, threads, thread, native, &insn).ok()
+    match do_step(image, heap, threads, row, thread, &insn) {
+        Ok(next) => Some(next),
+        Err(_) => do_step(image, heap, threads, row, thread, &insn).ok(),
+    }
 }
 
 /// Whether a step left what its case tells.

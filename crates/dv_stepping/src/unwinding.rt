@@ -47,16 +47,23 @@ pub fn is_same(image: &Image, one: &Stage, other: &Stage) -> bool {
         && same_states(image, &one.states, &other.states, u32::MAX)
 }
 
-pub fn step(image: &Image, stage: &mut Stage, thread: u32, flying: u32) -> Option<Next> {
-    let answer = unwind_step(
+fn unwind(image: &Image, stage: &mut Stage, thread: u32, flying: u32) -> Result<Next, AllocError> {
+    unwind_step(
         image,
         &mut stage.heap,
         &mut stage.stack,
         &mut stage.states,
         thread,
         flying,
-    );
-    answer.ok()
+    )
+}
+
+/// What is answered. Where memory is wanting all is as before, so that the same call comes to the same again.
+pub fn step(image: &Image, stage: &mut Stage, thread: u32, flying: u32) -> Option<Next> {
+    match unwind(image, stage, thread, flying) {
+        Ok(next) => Some(next),
+        Err(_) => unwind(image, stage, thread, flying).ok(),
+    }
 }
 
 /// A frame's registers.
