@@ -68,6 +68,10 @@ fn add_called<R: Abort>(rt: &R, image: &Image, stack: &mut Stack, called: &Calle
     stack.go(*at);
 }
 
+fn has_words(stack: &Stack) -> bool {
+    registers(stack) == WORDS
+}
+
 /// The caller goes on with its registers, and with the result.
 fn assert_row<R: Abort>(rt: &R, alloc: Global, image: &Image, heap: &Heap, row: &Row) {
     let (name, at, next, called, kept) = row;
@@ -83,7 +87,7 @@ fn assert_row<R: Abort>(rt: &R, alloc: Global, image: &Image, heap: &Heap, row: 
         caught: None,
     };
     assert_eq!(rt; stack.head(), Some(head), "{at}");
-    assert_eq!(rt; registers(&stack), WORDS, "{at}");
+    assert!(rt; has_words(&stack), "{at}");
     stack.pop();
     let wanted = below(rt, alloc, method);
     assert!(rt; same_stacks(&stack, &wanted), "{at}");
