@@ -1,5 +1,5 @@
 // Many steps of a thread at once, each of which touches its frame alone.
-ghost use Rattle.std.specs.Prelude.{◌≡◌, ◌≤◌, ◌<◌, ◌+◌, ◌^◌, ◌∷◌, IfOk, List, None as Nothing, Some as Just, false, length, map, slice_get, slice_set, true};
+ghost use Rattle.std.specs.Prelude.{◌≡◌, ◌≤◌, ◌<◌, ◌+◌, ◌^◌, ◌∷◌, IfOk, List, OnOk, None as Nothing, Some as Just, false, length, map, slice_get, slice_set, true};
 ghost use Rattle.dv_words.specs.declared.state.Frame.{Frame as Activation};
 ghost use Rattle.dv_words.specs.declared.state.Level.{Level};
 ghost use Rattle.dv_words.specs.declared.state.Level.TheVariants as level;
@@ -7,6 +7,7 @@ ghost use Rattle.dv_words.specs.Stacks.{changed, top_regs};
 ghost use Rattle.dv_words.specs.Standing.{HeapFits, IsSmall};
 ghost use Rattle.dv_words.specs.State.{WordMachine, WordStack, WordThread};
 ghost use Rattle.dv_steps.specs.StepLaws.{ReadsFit, with_top};
+ghost use Rattle.dv_frames.specs.Heads.{frame as framed};
 ghost use Rattle.dv_threads.specs.Kept.{bounds, threads_of};
 ghost use Rattle.dv_core.specs.Advancing.{RanAt, RanNone, RanSteps, RunsFrame, running_frame, runs_in, takes, top_frame, with_frame};
 ghost use Rattle.dv_simulation.specs.KeepLaws.{is_local_level_of, next_is_local_of};
@@ -17,11 +18,12 @@ ghost use Rattle.dv_core.specs.Watching.{AreWatchable, IsTopWatched};
 use crate::instructions::opcode_of;
 use crate::vm::Vm;
 use crate::waiting::end_at;
-use dv_defs::{End, Image};
-use dv_frames::{Stack, base_of};
+use dv_defs::{End, Image, Seq};
+use dv_frames::{Head, Stack, base_of};
 use dv_local::{opcode_is_local, steps_top};
 use dv_words::Frame;
-use std::alloc::AllocError;
+use std::alloc::{AllocError, Global};
+use std::mem;
 
 /// The registers of the frame on top, none where the level on top isn't code.
 fn registers(stack: &Stack) -> &[u32]
@@ -107,6 +109,41 @@ fn copy_of(stack: &Stack) -> Result<Option<Frame>, AllocError>
         return Ok(None);
     };
     Ok(Some(stack.copy_top()?))
+}
+
+/// Words become a frame's registers, in the room that these have where it is enough.
+fn keep_words(kept: &mut Frame, alloc: Global, words: &[u32]) -> Result<(), AllocError>
+    ensures { OnOk result (kept.new.regs ≡ words.now) }
+{
+    let before = mem::replace(&mut kept.regs, Seq::of(Vec::new(alloc)));
+    let mut room = before.into_vec();
+    room.clear();
+    room.extend_from_slice(words)?;
+    kept.regs = Seq::of(room);
+    Ok(())
+}
+
+/// A frame's head.
+fn keep_head(kept: &mut Frame, head: Head)
+    ensures { kept.new ≡ framed head kept.old.regs }
+{
+    kept.method = head.method;
+    kept.at = head.at;
+    kept.result = head.result;
+    kept.caught = head.caught;
+}
+
+/// Copies the frame on top into this one; says whether there is one.
+fn keep_of(stack: &Stack, kept: &mut Frame) -> Result<bool, AllocError>
+    ensures some { IfOk result (λ is. is ≡ true → top_frame stack.now.levels ≡ Just kept.new) }
+    ensures none { IfOk result (λ is. is ≡ false → top_frame stack.now.levels ≡ Nothing) }
+{
+    let Some(head) = stack.head() else {
+        return Ok(false);
+    };
+    keep_words(kept, *stack.words.allocator(), registers(stack))?;
+    keep_head(kept, head);
+    Ok(true)
 }
 
 impl Vm {
@@ -203,6 +240,25 @@ impl Vm {
         match self.guest.threads.stacks.get(thread as usize) {
             Some(stack) => copy_of(stack),
             None => Ok(None),
+        }
+    }
+
+    /// Copies the frame on top of a living thread into this one, whose room is taken over; says whether there is one. There is none where
+    /// there is no such thread, it isn't living, or its top level isn't code.
+    ///
+    /// # Errors
+    ///
+    /// Want of memory.
+    pub fn keep_top(&self, thread: u32, kept: &mut Frame) -> Result<bool, AllocError>
+        ensures some { IsOrdered self.now.limits self.now.guest → IfOk result (λ is. is ≡ true → running_frame (slice_get (threads_of self.now.guest.threads) thread) ≡ Just kept.new) }
+        ensures none { IsOrdered self.now.limits self.now.guest → IfOk result (λ is. is ≡ false → running_frame (slice_get (threads_of self.now.guest.threads) thread) ≡ Nothing) }
+    {
+        if !self.is_running(thread) {
+            return Ok(false);
+        }
+        match self.guest.threads.stacks.get(thread as usize) {
+            Some(stack) => keep_of(stack, kept),
+            None => Ok(false),
         }
     }
 

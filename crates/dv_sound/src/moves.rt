@@ -13,6 +13,7 @@ ghost use Rattle.dv_sound.specs.Moves.{HasRun, IsAffordable, IsGood, IsRun, Keep
 
 use dv_core::Vm;
 use dv_defs::Image;
+use dv_words::Frame;
 use std::alloc::AllocError;
 
 /// Whether nothing stopped the run, and its steps aren't spent.
@@ -90,15 +91,22 @@ pub fn last_on(image: &Image, vm: &mut Vm, thread: u32) -> Result<u32, AllocErro
 }
 
 /// The rest of a turn that begins with local steps: these, and then at most one other. Where that one finds no memory, they are taken back.
-fn turn_locally(image: &Image, vm: &mut Vm, thread: u32, most: u32) -> Result<u32, AllocError>
+fn turn_locally(
+    image: &Image,
+    vm: &mut Vm,
+    kept: &mut Frame,
+    thread: u32,
+    most: u32,
+) -> Result<u32, AllocError>
     ensures few { IfOk result (λ n. n ≤ most) }
     ensures turned { (T : Typings) (m : Machine) → IsGood image.now T → StandsAt image.now T vm.old m → running.ending_of image.now m ≡ Nothing → goes_locally image.now thread m ≡ true →
         Turns result image.now T m thread most vm.old vm.new }
     ensures others { (T : Typings) (m : Machine) → IsGood image.now T → StandsAt image.now T vm.old m → running.ending_of image.now m ≡ Nothing → goes_locally image.now thread m ≡ true → KeepsLocals image.now thread vm.old vm.new }
 {
-    let Some(frame) = vm.copy_top(thread)? else {
+    let is_kept = vm.keep_top(thread, kept)?;
+    if !is_kept {
         return Ok(0);
-    };
+    }
     let done = run_on(image, vm, thread, most);
     if done == most {
         return Ok(done);
@@ -106,19 +114,25 @@ fn turn_locally(image: &Image, vm: &mut Vm, thread: u32, most: u32) -> Result<u3
     match last_on(image, vm, thread) {
         Ok(last) => Ok(done + last),
         Err(error) => {
-            vm.take_back(thread, &frame, done);
+            vm.take_back(thread, kept, done);
             Err(error)
         }
     }
 }
 
 /// A turn of a thread that may step: local steps while the next one is local, then at most one other, so many in all at most; gives how many
-/// were done.
+/// were done. The frame is where the one on top is kept while local steps are done.
 ///
 /// # Errors
 ///
 /// Want of memory; the engine stands where it stood then.
-pub fn take_turn(image: &Image, vm: &mut Vm, thread: u32, most: u32) -> Result<u32, AllocError>
+pub fn take_turn(
+    image: &Image,
+    vm: &mut Vm,
+    kept: &mut Frame,
+    thread: u32,
+    most: u32,
+) -> Result<u32, AllocError>
     ensures few { IfOk result (λ n. n ≤ most) }
     ensures turned { (T : Typings) (m : Machine) → IsGood image.now T → StandsAt image.now T vm.old m → moves.may_step image.now m thread ≡ true → Turns result image.now T m thread most vm.old vm.new }
     ensures others { (T : Typings) (m : Machine) → IsGood image.now T → StandsAt image.now T vm.old m → moves.may_step image.now m thread ≡ true → KeepsLocals image.now thread vm.old vm.new }
@@ -126,7 +140,7 @@ pub fn take_turn(image: &Image, vm: &mut Vm, thread: u32, most: u32) -> Result<u
     if most == 0 {
         Ok(0)
     } else if vm.next_is_local(image, thread) {
-        turn_locally(image, vm, thread, most)
+        turn_locally(image, vm, kept, thread, most)
     } else {
         step_on(image, vm, thread)?;
         Ok(1)

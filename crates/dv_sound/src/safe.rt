@@ -13,8 +13,9 @@ ghost use Rattle.dv_sound.specs.Runs.{HasMain, IsAt, IsAtSome, IsKept, IsOpened,
 use crate::moves::{goes_on, may_step, take_turn};
 use crate::premises::{are_numbers, inits_fit, is_accepted, keys_rise, strings_fit};
 use dv_core::Vm;
-use dv_defs::{Ending, Entry, Limits, MethodId};
+use dv_defs::{Ending, Entry, Limits, MethodId, Seq};
 use dv_rules::Verified;
+use dv_words::{Frame, Kept};
 use std::alloc::{AllocError, Global};
 use std::marker::Model;
 
@@ -27,6 +28,8 @@ pub struct SafeVm<'v> {
     pub(crate) vm: Vm,
     pub(crate) log: Vec<Entry>,
     pub(crate) lent: Vec<u32>,
+    /// Where the frame of a turn is kept, so that its local steps can be taken back.
+    kept: Frame,
 }
 
 impl<'v> Model for SafeVm<'v> {
@@ -62,6 +65,17 @@ pub fn opened(
     Vm::open(alloc, image, main, limits)
 }
 
+/// A frame without registers, which takes no memory.
+fn no_frame(alloc: Global) -> Frame {
+    Frame {
+        method: MethodId(0),
+        at: 0,
+        regs: Seq::of(Vec::new(alloc)),
+        result: Kept::None,
+        caught: None,
+    }
+}
+
 /// A turn of a thread from where a log led, which is logged; nothing is done where the run has ended or the thread isn't runnable.
 ///
 /// # Errors
@@ -70,6 +84,7 @@ pub fn opened(
 fn logged_turn(
     program: &Verified,
     vm: &mut Vm,
+    kept: &mut Frame,
     log: &mut Vec<Entry>,
     worker: u32,
     thread: u32,
@@ -89,7 +104,7 @@ fn logged_turn(
         return Ok(0);
     }
     log.reserve(1)?;
-    let steps = take_turn(image, vm, thread, most)?;
+    let steps = take_turn(image, vm, kept, thread, most)?;
     log.push(Entry {
         worker,
         thread,
@@ -121,6 +136,7 @@ impl<'v> SafeVm<'v> {
             vm: opened(alloc, verified, main, limits)?,
             log: Vec::new(alloc),
             lent: Vec::new(alloc),
+            kept: no_frame(alloc),
         })
     }
 
@@ -135,12 +151,14 @@ impl<'v> SafeVm<'v> {
         requires kept { IsKept verified.now.image main vm log.items lent.items }
         ensures { result ≡ record { verified = verified.now; main = main; machine = machine_of vm; log = log.items; lent = lent.items } }
     {
+        let kept = no_frame(*log.allocator());
         SafeVm {
             verified,
             main,
             vm,
             log,
             lent,
+            kept,
         }
     }
 
@@ -212,9 +230,10 @@ impl<'v> SafeVm<'v> {
             verified,
             vm,
             log,
+            kept,
             ..
         } = self;
-        logged_turn(verified, vm, log, worker, thread, most)
+        logged_turn(verified, vm, kept, log, worker, thread, most)
     }
 
     /// Whether a thread is runnable.
