@@ -93,6 +93,14 @@ fn address(stack: &Stack) -> Option<u32> {
     }
 }
 
+/// What a step answers. Where memory is wanting all is as before, so that the same call comes to the same again.
+fn step(image: &Image, heap: &mut Heap, stack: &mut Stack, insn: &Insn) -> Option<Next> {
+    match mem_step(image, heap, stack, insn) {
+        Ok(next) => Some(next),
+        Err(_) => mem_step(image, heap, stack, insn).ok(),
+    }
+}
+
 /// Steps to a return, or to the first answer that doesn't go on.
 fn steps<R: Abort>(rt: &R, image: &Image, heap: &mut Heap, stack: &mut Stack) -> Next {
     for _ in 0..4 {
@@ -101,9 +109,7 @@ fn steps<R: Abort>(rt: &R, image: &Image, heap: &mut Heap, stack: &mut Stack) ->
             return Next::On;
         }
         let before = address(stack);
-        let answer = mem_step(image, heap, stack, &insn)
-            .ok()
-            .expect(rt, "memory");
+        let answer = step(image, heap, stack, &insn).expect(rt, "memory");
         if answer != Next::On {
             assert!(rt; address(stack) == before);
             return answer;
