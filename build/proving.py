@@ -7,7 +7,7 @@ import threading
 import time
 from concurrent.futures import FIRST_COMPLETED, ThreadPoolExecutor, wait
 
-from crates import BUILT, RATTLE, all_crates, built, text_of
+from crates import BUILT, RATTLE, TOP, all_crates, built, text_of
 
 # What a proof may take of memory, in bytes.
 PROOF_TAKES = 2_500_000_000
@@ -49,39 +49,69 @@ def prove(crate, sums, jobs):
     return time.time() - began
 
 
+def weights():
+    """About how many seconds each crate's proof takes, as it was measured once."""
+    return {name: int(seconds) for name, seconds in (it.split() for it in text_of(f"{TOP}/build/seconds.txt").splitlines() if not it.startswith("#"))}
+
+
+def chains(every):
+    """By crate, the seconds of the longest chain of crates that ends with it, and of the one that begins with it."""
+    took, ends, begins = weights(), {}, {}
+    seconds = lambda it: took.get(it.name) or it.lines() // 25
+    for it in every.values():
+        ends[it.name] = seconds(it) + max((ends[dep.name] for dep in it.deps), default=0)
+    for it in reversed([*every.values()]):
+        above = [begins[other.name] for other in every.values() if it in other.deps]
+        begins[it.name] = seconds(it) + max(above, default=0)
+    return {it.name: ends[it.name] + begins[it.name] - seconds(it) for it in every.values()}, begins
+
+
+class Proving:
+    """Crates that are to be proved, side by side."""
+
+    def __init__(self, names, head):
+        every = all_crates()
+        wanted = {it.name: it for name in names for it in [*every[name].below().values(), every[name]] if not it.is_program()}
+        self.head, self.sums, self.began, self.running = head, {}, time.time(), {}
+        self.left = [it for it in wanted.values() if not is_kept(it, self.sums)]
+        self.done = {it for it in wanted if wanted[it] not in self.left}
+        self.number = len(self.left)
+        self.through, begins = chains({it: wanted[it] for it in every if it in wanted})
+        self.left.sort(key=lambda it: -begins[it.name])
+
+    def jobs_of(self, crate, most):
+        """A crate on the longest chain, or near to it, gets all processors: everything waits for it."""
+        return most if self.through[crate.name] >= 0.9 * max(self.through.values()) else 1
+
+    def told(self, crate, seconds):
+        self.done.add(crate.name)
+        now = ", ".join(sorted(it.name for it in self.running.values()))
+        rest = f"{len(self.left) + len(self.running)} of {self.number} are left after {minutes(time.time() - self.began)}"
+        say(f"{self.head}: {crate.name} is proved, in {minutes(seconds)}; {rest}{f', now {now}' if now else ''}")
+
+    def run(self):
+        """Returns whether all of them are proved."""
+        most = lanes()
+        with ThreadPoolExecutor(most) as pool:
+            while self.left or self.running:
+                ready = [it for it in self.left if all(dep.name in self.done for dep in it.deps)]
+                for crate in ready[: most - len(self.running)]:
+                    self.left.remove(crate)
+                    self.running[pool.submit(prove, crate, self.sums, self.jobs_of(crate, most))] = crate
+                for it in wait(self.running, return_when=FIRST_COMPLETED).done:
+                    crate = self.running.pop(it)
+                    if it.result() is None:
+                        say(f"{self.head}: {crate.name} is not proved:\n{text_of(f'{BUILT}/{crate.name}.said')[-3000:]}")
+                        return False
+                    self.told(crate, it.result())
+        return True
+
+
 def prove_all(names, head):
     """Proves these crates and those below them, where that wasn't done yet, and says after each how far it is. Returns whether all are proved."""
-    every = all_crates()
-    wanted = {below: it for name in names for below, it in {**every[name].below(), name: every[name]}.items() if not it.is_program()}
-    sums, began = {}, time.time()
     os.makedirs(BUILT, exist_ok=True)
-    left = [it for it in every.values() if it.name in wanted and not is_kept(it, sums)]
-    done = {it for it in wanted if wanted[it] not in left}
-    behind = {}
-    for it in reversed([*every.values()]):
-        above = [behind[other.name] for other in every.values() if it in other.deps and other.name in behind]
-        behind[it.name] = it.lines() + max(above, default=0)
-    left.sort(key=lambda it: -behind[it.name])
-    number, most, running, used = len(left), lanes(), {}, 0
-    if left:
-        say(f"{head}: {number} crates are to be proved, {most} at a time{f'; {len(done)} were proved before' if done else ''}")
-    with ThreadPoolExecutor(most) as pool:
-        while left or running:
-            ready = [it for it in left if all(dep.name in done for dep in it.deps)]
-            while ready and used < most:
-                # (the processors that no other crate waits for go to the one with the longest chain)
-                jobs = max(1, most - used - len(ready) + 1) if len(running) + len(ready) <= most else 1
-                crate = ready.pop(0)
-                left.remove(crate)
-                running[pool.submit(prove, crate, sums, jobs)] = crate, jobs
-                used += jobs
-            for it in wait(running, return_when=FIRST_COMPLETED).done:
-                crate, jobs = running.pop(it)
-                used -= jobs
-                if it.result() is None:
-                    say(f"{head}: {crate.name} is not proved:\n{text_of(f'{BUILT}/{crate.name}.said')[-3000:]}")
-                    return False
-                done.add(crate.name)
-                now = ", ".join(sorted(other.name for other, _ in running.values()))
-                say(f"{head}: {crate.name} is proved, in {minutes(it.result())}; {len(left) + len(running)} of {number} are left after {minutes(time.time() - began)}{f', now {now}' if now else ''}")
-    return True
+    proving = Proving(names, head)
+    if proving.left:
+        before = f"; {len(proving.done)} were proved before" if proving.done else ""
+        say(f"{head}: {proving.number} crates are to be proved, {lanes()} at a time{before}")
+    return proving.run()
