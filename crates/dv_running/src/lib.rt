@@ -28,26 +28,12 @@ mod initialising;
 #[cfg(test)]
 mod interfaces;
 #[cfg(test)]
-mod joins;
-#[cfg(test)]
-mod monitors;
-#[cfg(test)]
-mod numbers;
-#[cfg(test)]
 mod openings;
-#[cfg(test)]
-mod registers;
 #[cfg(test)]
 mod run;
 #[cfg(test)]
 mod running;
 #[cfg(test)]
 mod slices;
-#[cfg(test)]
-mod stacks;
-#[cfg(test)]
-mod texts;
-#[cfg(test)]
-mod threads;
 #[cfg(test)]
 mod waiting;
