@@ -3,27 +3,22 @@ use Rattle.std.proofs.Common.{◌≡◌, ◌≢◌, ℕ, ℤ, Bool, true, false,
 use Rattle.std.proofs.lemmas.Bool.{cases_Bool, false≢true}
 use Rattle.std.proofs.lemmas.Bool.Decides.{nat_tests, Decides-eqb, Decides-int_eq, Decides-and, Decides-like}
 use Rattle.std.proofs.lemmas.Slice.Eq.{bytes_eq-Decides}
-use Rattle.std.specs.Bool.{Decides, beq}
+use Rattle.std.specs.Bool.{Decides}
+use Rattle.std.specs.Cmp.{booleans_Decides}
 use Rattle.dv_defs.specs.declared.code.Insn.{Insn}
 use Rattle.dv_defs.specs.declared.code.Regs.{Regs}
 use Rattle.dv_defs.specs.Spelling.{insn_eq, regs_eq}
 
-beq-Decides : (a b : Bool) → Decides (beq a b) (a ≡ b)
-beq-Decides true true = (λ h. refl, λ h. refl)
-beq-Decides true false = (λ h. absurd (cc), λ h. absurd (cc))
-beq-Decides false true = (λ h. absurd (cc), λ h. absurd (cc))
-beq-Decides false false = (λ h. refl, λ h. refl)
-
 same_regs : (c d : ℕ) (xs ys : List ℕ) (a b : Bool) → (c ≡ d) × (xs ≡ ys) × (a ≡ b) → record { count = c; first = xs; range = a } ≡ (let s : Regs = record { count = d; first = ys; range = b } in s)
-same_regs c d xs ys a b h = cc
+same_regs c d xs ys a b h = λ i. record { count = h.0 i; first = h.1 i; range = h.2 i }
 
 regs_eq-Decides : (r s : Regs) → Decides (regs_eq r s) (r ≡ s)
 regs_eq-Decides r s =
     Decides-like (regs_eq r s) (λ h. same_regs _ _ _ _ _ _ (h.0, h.1.0, h.1.1)) (λ h. (ap (λ x. x.count) h, (ap (λ x. x.first) h, ap (λ x. x.range) h)))
-    (Decides-and _ _ (Decides-eqb r.count s.count) (Decides-and _ _ (bytes_eq-Decides r.first s.first) (beq-Decides r.range s.range)))
+    (Decides-and _ _ (Decides-eqb r.count s.count) (Decides-and _ _ (bytes_eq-Decides r.first s.first) (booleans_Decides r.range s.range)))
 
 same_insn : (o p : ℕ) (r s : Regs) (x y a b : ℤ) (m n : ℕ) → (o ≡ p) × (r ≡ s) × (x ≡ y) × (a ≡ b) × (m ≡ n) → record { op = o; regs = r; lit = x; off = a; index = m } ≡ (let j : Insn = record { op = p; regs = s; lit = y; off = b; index = n } in j)
-same_insn o p r s x y a b m n h = cc
+same_insn o p r s x y a b m n h = λ i. record { op = h.0 i; regs = h.1 i; lit = h.2 i; off = h.3 i; index = h.4 i }
 
 insn_eq-Decides : (i j : Insn) → Decides (insn_eq i j) (i ≡ j)
 unfolding insn_eq

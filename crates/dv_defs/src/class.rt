@@ -2,7 +2,6 @@
 ghost use Rattle.std.specs.Prelude.{◌≡◌};
 
 use crate::{Body, Chars, Flag, Proto, Seq, Text, Ty};
-use std::alloc::AllocError;
 use std::marker::Model;
 
 /// The value that a static field is defined with. A boolean or a character is a number.
@@ -12,19 +11,6 @@ pub enum Init {
     Num(i64),
     Str(Chars),
     Null,
-}
-
-impl Clone for Init {
-    ghost is_clone = { λ x y. y ≡ x };
-
-    fn clone(&self) -> Result<Init, AllocError> {
-        match self {
-            Init::Absent => Ok(Init::Absent),
-            Init::Num(x) => Ok(Init::Num(*x)),
-            Init::Str(x) => Ok(Init::Str(x.clone()?)),
-            Init::Null => Ok(Init::Null),
-        }
-    }
 }
 
 const STRING: &[u8] = b"Ljava/lang/String;";
@@ -79,19 +65,6 @@ impl Model for FieldDef {
     ghost inverse = { λ f. record { name = f.name; ty = f.ty; flags = f.flags; init = f.init } };
 }
 
-impl Clone for FieldDef {
-    ghost is_clone = { λ x y. y ≡ x };
-
-    fn clone(&self) -> Result<FieldDef, AllocError> {
-        Ok(FieldDef {
-            name: self.name.clone()?,
-            ty: self.ty.clone()?,
-            flags: self.flags,
-            init: self.init.clone()?,
-        })
-    }
-}
-
 /// A method as a class declares it. A native or abstract one has no body.
 #[derive(PartialEq, Eq, Debug, Drop)]
 pub struct MethodDef {
@@ -99,19 +72,6 @@ pub struct MethodDef {
     pub proto: Proto,
     pub flags: u32,
     pub body: Option<Body>,
-}
-
-impl Clone for MethodDef {
-    ghost is_clone = { λ x y. y ≡ x };
-
-    fn clone(&self) -> Result<MethodDef, AllocError> {
-        Ok(MethodDef {
-            name: self.name.clone()?,
-            proto: self.proto.clone()?,
-            flags: self.flags,
-            body: self.body.clone()?,
-        })
-    }
 }
 
 /// A class as a text declares it: descriptors of the class, of its superclass and interfaces, its members,
@@ -125,20 +85,4 @@ pub struct ClassDef {
     pub fields: Seq<FieldDef>,
     pub methods: Seq<MethodDef>,
     pub line: u32,
-}
-
-impl Clone for ClassDef {
-    ghost is_clone = { λ x y. y ≡ x };
-
-    fn clone(&self) -> Result<ClassDef, AllocError> {
-        Ok(ClassDef {
-            name: self.name.clone()?,
-            parent: self.parent.clone()?,
-            interfaces: self.interfaces.clone()?,
-            flags: self.flags,
-            fields: self.fields.clone()?,
-            methods: self.methods.clone()?,
-            line: self.line,
-        })
-    }
 }

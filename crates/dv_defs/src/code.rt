@@ -1,8 +1,5 @@
 // Instructions, payloads and bodies.
-ghost use Rattle.std.specs.Prelude.{◌≡◌};
-
 use crate::{Chars, FieldRef, MethodRef, Seq, Ty};
-use std::alloc::AllocError;
 use std::marker::Model;
 
 /// The registers of an instruction: the first `count` of `first`, in the order of the format's operands.
@@ -15,7 +12,7 @@ pub struct Regs {
 }
 
 /// A pool of a body, in which the index of an instruction is a place.
-#[derive(Clone, Copy, PartialEq, Eq, Debug)]
+#[derive(Clone, Copy)]
 pub enum PoolKind {
     Strings,
     Types,
@@ -43,27 +40,6 @@ pub enum Payload {
     Data { width: u16, bytes: Seq<u8> },
 }
 
-impl Clone for Payload {
-    ghost is_clone = { λ x y. y ≡ x };
-
-    fn clone(&self) -> Result<Payload, AllocError> {
-        match self {
-            Payload::Packed { first, targets } => Ok(Payload::Packed {
-                first: *first,
-                targets: targets.clone()?,
-            }),
-            Payload::Sparse { keys, targets } => Ok(Payload::Sparse {
-                keys: keys.clone()?,
-                targets: targets.clone()?,
-            }),
-            Payload::Data { width, bytes } => Ok(Payload::Data {
-                width: *width,
-                bytes: bytes.clone()?,
-            }),
-        }
-    }
-}
-
 /// An exception handler: the place of its type in the body's types, or none where it catches all, and its address.
 #[derive(Clone, Copy, PartialEq, Eq, Debug)]
 pub struct Handler {
@@ -77,18 +53,6 @@ pub struct Try {
     pub start: u32,
     pub end: u32,
     pub handlers: Seq<Handler>,
-}
-
-impl Clone for Try {
-    ghost is_clone = { λ x y. y ≡ x };
-
-    fn clone(&self) -> Result<Try, AllocError> {
-        Ok(Try {
-            start: self.start,
-            end: self.end,
-            handlers: self.handlers.clone()?,
-        })
-    }
 }
 
 /// The code of a method: its units of 16 bits with try entries, and the pools that its instructions name.
@@ -116,21 +80,4 @@ impl Model for Body {
     ghost invariant = { λ b. IsBody b.registers b.units b.tries b.types };
 
     ghost inverse = { λ b. record { registers = b.registers; units = b.units; tries = b.tries; strings = b.strings; types = b.types; fields = b.fields; methods = b.methods; raw = b.raw } };
-}
-
-impl Clone for Body {
-    ghost is_clone = { λ x y. y ≡ x };
-
-    fn clone(&self) -> Result<Body, AllocError> {
-        Ok(Body {
-            registers: self.registers,
-            units: self.units.clone()?,
-            tries: self.tries.clone()?,
-            strings: self.strings.clone()?,
-            types: self.types.clone()?,
-            fields: self.fields.clone()?,
-            methods: self.methods.clone()?,
-            raw: self.raw,
-        })
-    }
 }
