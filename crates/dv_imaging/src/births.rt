@@ -1,215 +1,26 @@
-// The states in which the classes of programs begin, and the methods that initialise them (JLS 12.4).
+// The states in which the classes of long chains begin, and that of a class that isn't there (JLS 12.4).
 use crate::tests::linked;
 use dv_clinit::{ClassStates, State, initialiser};
-use dv_defs::{ClassId, Image, MethodId};
+use dv_defs::{ClassId, Image};
 use std::alloc::{AllocError, Global};
 use std::process::Abort;
 
 const BOOT: u32 = 33;
 
-// A class, the state in which it begins, and the method that initialises it.
-type Birth = (u32, State, Option<u32>);
-
-// An initialiser in the midst of a chain, and at its top; classes beside and above them.
-const CHAINS_TEXT: &str = ".class LA;
-.super Ljava/lang/Object;
-.method static f()V
-.registers 0
-return-void
-.end method
-.method static <clinit>()V
-.registers 0
-return-void
-.end method
-.class LB;
-.super LA;
-.method static f()V
-.registers 0
-return-void
-.end method
-.class LC;
-.super LB;
-.method static <clinit>()V
-.registers 0
-return-void
-.end method
-.method static f()V
-.registers 0
-return-void
-.end method
-.class LD;
-.super Ljava/lang/Object;
-.method static f()V
-.registers 0
-return-void
-.end method
-.class LE;
-.super LD;
-.method static <clinit>()V
-.registers 0
-return-void
-.end method
-.class LF;
-.super LE;
-.class LG;
-.super LD;
-.class LH;
-.super Ljava/lang/Thread;
-";
-
-const CHAINS: [Birth; 9] = [
-    (33, State::Fresh, Some(99)),
-    (34, State::Fresh, None),
-    (35, State::Fresh, Some(101)),
-    (36, State::Ready, None),
-    (37, State::Fresh, Some(104)),
-    (38, State::Fresh, None),
-    (39, State::Ready, None),
-    (40, State::Ready, None),
-    // no such class
-    (41, State::Fresh, None),
-];
-
-// Classes that are written before their superclasses.
-const UPWARDS_TEXT: &str = ".class LA;
-.super LB;
-.class LB;
-.super LC;
-.class LC;
-.super LD;
-.method static <clinit>()V
-.registers 0
-return-void
-.end method
-.class LD;
-.super LE;
-.class LE;
-.super Ljava/lang/Object;
-.class LF;
-.super LD;
-";
-
-const UPWARDS: [Birth; 6] = [
-    (33, State::Fresh, None),
-    (34, State::Fresh, None),
-    (35, State::Fresh, Some(98)),
-    (36, State::Ready, None),
-    (37, State::Ready, None),
-    (38, State::Ready, None),
-];
-
-// A superinterface isn't initialised with a class (JLS 12.4.1).
-const INTERFACES_TEXT: &str = ".class interface abstract LI;
-.super Ljava/lang/Object;
-.method static <clinit>()V
-.registers 0
-return-void
-.end method
-.class interface abstract LJ;
-.super Ljava/lang/Object;
-.implements LI;
-.class LA;
-.super Ljava/lang/Object;
-.implements LJ;
-.implements LI;
-";
-
-const INTERFACES: [Birth; 3] = [
-    (33, State::Fresh, Some(98)),
-    (34, State::Ready, None),
-    (35, State::Ready, None),
-];
-
-// Methods that are nearly initialisers: of an instance, with a parameter, with a result, without a body, of other names.
-const NEARLY_TEXT: &str = ".class abstract LA;
-.super Ljava/lang/Object;
-.method <clinit>()V
-.registers 1
-return-void
-.end method
-.method static <clinit>(I)V
-.registers 1
-return-void
-.end method
-.method static <clinit>()I
-.registers 1
-const/4 v0, 0
-return v0
-.end method
-.method static <init>()V
-.registers 0
-return-void
-.end method
-.method static clinit()V
-.registers 0
-return-void
-.end method
-.class abstract LB;
-.super LA;
-.method static abstract <clinit>()V
-.end method
-.class LC;
-.super LB;
-.method static <clinit>(I)V
-.registers 1
-return-void
-.end method
-.method static <clinit>()V
-.registers 0
-return-void
-.end method
-.class LD;
-.super LB;
-";
-
-const NEARLY: [Birth; 4] = [
-    (33, State::Ready, None),
-    (34, State::Ready, None),
-    (35, State::Fresh, Some(105)),
-    (36, State::Ready, None),
-];
-
 fn states_of<R: Abort>(rt: &R, alloc: Global, image: &Image) -> ClassStates {
     ClassStates::new(alloc, image).ok().expect(rt, "memory")
 }
 
-// The number of the method that initialises a class.
-fn initialiser_of(image: &Image, class: ClassId) -> Option<u32> {
-    match initialiser(image, class) {
-        Some(method) => Some(method.id.0),
-        None => None,
-    }
-}
-
-fn assert_births<R: Abort>(rt: &R, alloc: Global, text: &str, births: &[Birth]) {
-    let image = linked(rt, alloc, text);
-    let states = states_of(rt, alloc, &image);
+// A class of a program without classes, behind the boot classes.
+#[test]
+fn a_class_that_is_not_there_is_fresh(rt: HostRuntime) {
+    let image = linked(&rt, rt.alloc(), "");
+    let states = states_of(&rt, rt.alloc(), &image);
     for class in 0..BOOT {
         assert!(rt; states.state(ClassId(class)) == State::Ready, "{class}");
     }
-    for (class, state, method) in births {
-        assert!(rt; states.state(ClassId(*class)) == *state, "{class}");
-        assert!(rt;
-            initialiser_of(&image, ClassId(*class)) == *method,
-            "{class}"
-        );
-    }
-}
-
-#[test]
-fn classes_begin_as_their_superclasses(rt: HostRuntime) {
-    assert_births(&rt, rt.alloc(), CHAINS_TEXT, &CHAINS);
-    assert_births(&rt, rt.alloc(), UPWARDS_TEXT, &UPWARDS);
-}
-
-#[test]
-fn interfaces_are_passed_over(rt: HostRuntime) {
-    assert_births(&rt, rt.alloc(), INTERFACES_TEXT, &INTERFACES);
-}
-
-#[test]
-fn other_methods_initialise_nothing(rt: HostRuntime) {
-    assert_births(&rt, rt.alloc(), NEARLY_TEXT, &NEARLY);
+    assert!(rt; states.state(ClassId(BOOT)) == State::Fresh);
+    assert!(rt; initialiser(&image, ClassId(BOOT)).is_none());
 }
 
 // In what order the classes of a chain are written.
