@@ -2,7 +2,6 @@
 use crate::tests::linked;
 use dv_defs::{ClassId, FieldId};
 use dv_heap::{Heap, HeapError};
-use std::process::Abort;
 
 // Fields of long behind narrow ones and behind inherited ones; static fields between them.
 const TEXT: &str = ".class LP;
