@@ -1,10 +1,9 @@
--- `==` finds two entries equal where the definitions find them the same, and a set's `insert` adds an entry where they add one.
-use Rattle.std.proofs.Common.{◌≡◌, ◌+◌, ℕ, suc, Bool, true, false, not, cond, ◌&&◌, ◌||◌, List, [], ◌∷◌, ◌++◌, length, Option, Some, None, refl, sym, ap, ◌∙◌, arith, if◌then◌else◌}
-use Rattle.std.specs.Prelude.{nat_eq, nat_lt, bytes_eq}
-use Rattle.std.specs.List.{list_any, position_or_len}
+-- `==` finds two entries equal where the definitions find them the same.
+use Rattle.std.proofs.Common.{◌≡◌, Bool, ◌&&◌, List, [], ◌∷◌, Option, Some, None, refl, ap, arith}
+use Rattle.std.specs.Prelude.{nat_eq, bytes_eq}
+use Rattle.std.specs.List.{position_or_len}
 use Rattle.std.specs.Option.{option_eq}
 use Rattle.std.specs.Cmp.Lexicographic.{pointwise}
-use Rattle.indexmap.specs.IndexSet.{insert_key}
 use Rattle.dv_defs.specs.declared.names.Base.{Base}
 use Rattle.dv_defs.specs.declared.names.Ty.{Ty}
 use Rattle.dv_defs.specs.declared.names.Proto.{Proto}
@@ -16,7 +15,6 @@ use Rattle.dv_defs.specs.contracts.names.ProtoPartialEq.TheImpl as of_proto
 use Rattle.dv_defs.specs.contracts.names.FieldRefPartialEq.TheImpl as of_field
 use Rattle.dv_defs.specs.contracts.names.MethodRefPartialEq.TheImpl as of_method
 use Rattle.dv_defs.specs.Types.{ty_eq, base_eq, same_types, same_result, same_proto, field_eq, method_eq}
-use Rattle.dv_defs.specs.Entries.{with_entry}
 
 bases : (a b : Base) → (of_base.ghosts).eq a b ≡ base_eq a b
 bases a b = grind arith
@@ -66,31 +64,3 @@ pub method_place : (a : MethodRef) (pool : List MethodRef) → position_or_len (
 method_place a pool = λ i. position_or_len (method_keys i a) pool
 
 pub ruleset places = (type_place, field_place, method_place)
-
-any_step : (b : Bool) (rest : Bool) (place len : ℕ) → rest ≡ nat_lt place len → (b || rest) ≡ nat_lt (cond (not b) (1 + place) 0) (suc len)
-any_step true rest place len e = grind arith
-any_step false rest place len e = grind arith
-
-any_position : {X : Type 0} (test : X → Bool) (xs : List X) → list_any test xs ≡ nat_lt (position_or_len test xs) (length xs)
-any_position test [] = refl
-any_position test (x ∷ xs) = any_step (test x) (list_any test xs) (position_or_len test xs) (length xs) (any_position test xs)
-
-by_place : {X : Type 0} (found : Bool) (place : ℕ) (xs ys : List X) → (if found then xs else ys) ≡ elim (cond found (Some place) None) [ None ↦ ys | Some k ↦ xs ]
-by_place true place xs ys = refl
-by_place false place xs ys = refl
-
-inserted : {X : Type 0} (eq : X → X → Bool) (xs : List X) (x : X) → insert_key eq xs x ≡ with_entry eq xs x
-inserted {X} eq xs x =
-    let added : List X = xs ++ x ∷ [] in
-    let place : ℕ = position_or_len (eq x) xs in
-    ap (λ (found : Bool). if found then xs else added) (any_position (eq x) xs) ∙ by_place (nat_lt place (length xs)) place xs added
-
--- the keys of a set that are those of a pool, after `insert` of a copy of an entry
-pub entry_added : {X : Type 0} (eq : X → X → Bool) (keys pool new : List X) (entry copy : X) → new ≡ insert_key eq keys copy → copy ≡ entry → keys ≡ pool → new ≡ with_entry eq pool entry
-entry_added eq keys pool new entry copy after same seen = after ∙ ((λ i. insert_key eq (seen i) (same i)) ∙ inserted eq pool entry)
-
--- a pool that has an entry stays
-pub entry_there : {X : Type 0} (eq : X → X → Bool) (keys pool : List X) (entry : X) → list_any (eq entry) keys ≡ true → keys ≡ pool → pool ≡ with_entry eq pool entry
-entry_there {X} eq keys pool entry there seen =
-    let stays : insert_key eq keys entry ≡ keys = ap (λ (found : Bool). if found then keys else keys ++ entry ∷ []) there in
-    sym seen ∙ (sym stays ∙ (ap (λ (xs : List X). insert_key eq xs entry) seen ∙ inserted eq pool entry))

@@ -14,3 +14,4 @@ pub mod PayloadLaws
 pub mod TilingLaws
 mod Facts
 pub mod Keys
+mod Places

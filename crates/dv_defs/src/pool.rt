@@ -3,26 +3,31 @@ ghost use Rattle.std.specs.Prelude.{◌≡◌, [], position, OnOk, IfOk};
 ghost use Rattle.dv_defs.specs.Entries.{with_entry};
 
 use crate::Seq;
-use indexmap::IndexSet;
 use std::alloc::{AllocError, Global};
+use std::collections::HashMap;
 use std::hash::Hash;
 use std::marker::Model;
 
 /// Entries in first-seen order, each once. An entry is looked up by its hash. To a contract it is the list of its entries.
 #[derive(Drop)]
 pub struct Pool<E: Eq + Hash> {
-    entries: IndexSet<E>,
+    entries: Vec<E>,
+    places: HashMap<E, usize>,
 }
 
 impl<E: Eq + Hash> Model for Pool<E> {
     ghost use Rattle.std.specs.Prelude.{List};
     ghost use Rattle.std.specs.Coded.{coded_list};
+    ghost use Rattle.std.specs.HashMap.{get};
+    ghost use Rattle.dv_defs.specs.Entries.{ArePlaces};
 
     ghost Value = { List E };
 
     ghost coded = { coded_list E.code };
 
-    ghost view = { λ pool. pool.entries.keys };
+    ghost view = { λ pool. pool.entries.items };
+
+    ghost invariant = { λ pool. ArePlaces E.eq pool.entries.items (get E.eq pool.places) };
 }
 
 impl<E: Eq + Hash + Clone + Drop> Pool<E> {
@@ -30,7 +35,8 @@ impl<E: Eq + Hash + Clone + Drop> Pool<E> {
         ensures { result ≡ [] }
     {
         Pool {
-            entries: IndexSet::new(alloc),
+            entries: Vec::new(alloc),
+            places: HashMap::new(alloc),
         }
     }
 
@@ -38,7 +44,7 @@ impl<E: Eq + Hash + Clone + Drop> Pool<E> {
     pub fn place_of(&self, entry: &E) -> Option<usize>
         ensures { result ≡ position (E.eq entry.now) self.now }
     {
-        self.entries.get_index_of(entry)
+        self.places.get(entry).copied()
     }
 
     /// Adds an entry at the end, unless it is there.
@@ -47,8 +53,11 @@ impl<E: Eq + Hash + Clone + Drop> Pool<E> {
         requires exact { (x y : E) → E.is_clone x y → y ≡ x }
         ensures { OnOk result (self.new ≡ with_entry E.eq self.old entry.now) }
     {
-        if !self.entries.contains(entry) {
-            self.entries.insert(entry.clone()?)?;
+        if !self.places.contains_key(entry) {
+            let (added, key) = (entry.clone()?, entry.clone()?);
+            self.entries.reserve(1)?;
+            self.places.insert(key, self.entries.len())?;
+            self.entries.push_reserved(added);
         }
         Ok(())
     }
@@ -57,9 +66,7 @@ impl<E: Eq + Hash + Clone + Drop> Pool<E> {
     pub fn into_seq(self) -> Result<Seq<E>, AllocError>
         ensures { IfOk result (λ entries. entries ≡ self) }
     {
-        let Pool { entries } = self;
-        let alloc = *entries.allocator();
-        let entries: Vec<E> = entries.into_iter().collect(alloc)?;
+        let Pool { entries, places: _ } = self;
         Ok(Seq::of(entries))
     }
 }
