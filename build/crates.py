@@ -5,8 +5,8 @@ import shutil
 import sys
 
 TOP = os.path.dirname(os.path.dirname(os.path.realpath(__file__)))
-# Where libraries that this repository's scripts build are kept.
-BUILT = f"{TOP}/crates/dvm/out/built"
+# Where the libraries are kept that these scripts build: rt keeps what stands in an out/rlib, and the program has none of its own.
+BUILT = f"{TOP}/crates/dvm/out/rlib"
 PARTS = ("src", "specs", "proofs")
 
 

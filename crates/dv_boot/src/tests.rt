@@ -1,4 +1,4 @@
-// Which methods are native, and what the text has.
+// Which methods are native. What the boot classes are and do is told by the cases of `cases/top`.
 use crate::*;
 use dv_defs::Native;
 use std::test::Fail;
@@ -49,53 +49,5 @@ fn natives_are_known_by_class_and_name(rt: HostRuntime) -> Result<(), Fail> {
         let found = native(class.as_bytes(), name.as_bytes());
         assert_eq!(rt; found, None, "{class} {name}");
     }
-    Ok(())
-}
-
-#[test]
-fn each_class_but_object_names_its_superclass_first(rt: HostRuntime) -> Result<(), Fail> {
-    let mut classes = 0u32;
-    let mut superclasses = 0u32;
-    let mut is_behind_class = false;
-    for line in boot_text().lines() {
-        let is_class = line.starts_with(".class ");
-        if is_class {
-            classes = classes.saturating_add(1);
-        } else if line.starts_with(".super ") {
-            assert!(rt; is_behind_class, "{line}");
-            superclasses = superclasses.saturating_add(1);
-        }
-        is_behind_class = is_class;
-    }
-    assert_eq!(rt;
-        boot_text().lines().next(),
-        Some(".class Ljava/lang/Object;")
-    );
-    assert_eq!(rt; (classes, superclasses), (33, 32));
-    Ok(())
-}
-
-// The last word of a line.
-fn last_word(line: &str) -> &str {
-    line.rsplit(' ').next().unwrap_or("")
-}
-
-#[test]
-fn the_natives_of_the_text_are_those_that_are_known(rt: HostRuntime) -> Result<(), Fail> {
-    let mut class: &[u8] = b"";
-    let mut natives = 0u32;
-    for line in boot_text().lines() {
-        if line.starts_with(".class ") {
-            class = last_word(line).as_bytes();
-        } else if line.starts_with(".method ") {
-            let name = last_word(line).split('(').next().unwrap_or("");
-            let is_native = native(class, name.as_bytes()).is_some();
-            assert_eq!(rt; is_native, line.contains(" native "), "{line}");
-            if is_native {
-                natives = natives.saturating_add(1);
-            }
-        }
-    }
-    assert_eq!(rt; natives, 14);
     Ok(())
 }

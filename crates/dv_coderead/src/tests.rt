@@ -1,8 +1,5 @@
-// Tests, row by row, with answers that were worked out by hand.
+// What no text of a program shows. All else of reading bodies is in `cases/reading`.
 mod bodies;
-mod body_lines;
-mod heads;
-mod operands;
 mod raw;
 mod references;
 mod words;

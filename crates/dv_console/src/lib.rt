@@ -2,8 +2,6 @@
 #![tactic(auto)]
 
 mod command;
-#[cfg(test)]
-mod fault_tests;
 mod faults;
 mod keys;
 mod kinds;
@@ -11,8 +9,6 @@ mod names;
 mod refusals;
 #[cfg(test)]
 mod tests;
-#[cfg(test)]
-mod word_tests;
 mod words;
 
 pub use command::{Cmd, WordError};

@@ -1,80 +1,12 @@
-// The lines of refusals, kind by kind.
+// Lines and words that no run of the program shows today. All others are told by the cases of `cases/top`.
 use crate::*;
-use dv_defs::{LineKind, LinkKind, Text, Which};
+use dv_defs::{Fault, Limits, LineKind, LinkKind, MethodId, Rule, Text};
 use std::alloc::{AllocError, Global};
-use std::process::Abort;
 use std::test::Fail;
 
-// The number of a line, why it is refused, and the line that tells it.
-static LINES: [(u32, LineKind, &str); 24] = [
-    (1, LineKind::NotUtf8, "#refused line 1: not UTF-8\n"),
-    (2, LineKind::BadToken, "#refused line 2: bad token\n"),
-    (9, LineKind::BadEscape, "#refused line 9: bad escape\n"),
-    (
-        10,
-        LineKind::NumberRange,
-        "#refused line 10: number out of range\n",
-    ),
-    (
-        11,
-        LineKind::BadDescriptor,
-        "#refused line 11: bad descriptor\n",
-    ),
-    (12, LineKind::FloatType, "#refused line 12: float type\n"),
-    (
-        13,
-        LineKind::FloatInsn,
-        "#refused line 13: float instruction\n",
-    ),
-    (
-        14,
-        LineKind::UnknownInsn,
-        "#refused line 14: unknown instruction\n",
-    ),
-    (
-        15,
-        LineKind::UnknownDirective,
-        "#refused line 15: unknown directive\n",
-    ),
-    (16, LineKind::Misplaced, "#refused line 16: misplaced\n"),
-    (17, LineKind::Missing, "#refused line 17: missing part\n"),
-    (
-        18,
-        LineKind::TooManyRegisters,
-        "#refused line 18: too many registers\n",
-    ),
-    (19, LineKind::NoLabel, "#refused line 19: no label\n"),
-    (20, LineKind::LabelTwice, "#refused line 20: label twice\n"),
-    (
-        21,
-        LineKind::OffsetRange,
-        "#refused line 21: offset out of range\n",
-    ),
-    (
-        22,
-        LineKind::RegisterRange,
-        "#refused line 22: register out of range\n",
-    ),
-    (
-        99,
-        LineKind::TryRange,
-        "#refused line 99: empty try range\n",
-    ),
-    (
-        100,
-        LineKind::TryOverlap,
-        "#refused line 100: try ranges overlap\n",
-    ),
-    (
-        12_345,
-        LineKind::TooLong,
-        "#refused line 12345: method too long\n",
-    ),
-    (
-        1_000_000,
-        LineKind::Operands,
-        "#refused line 1000000: wrong operands\n",
-    ),
+// Numbers that no line of a text has.
+static LINES: [(u32, LineKind, &str); 3] = [
+    (0, LineKind::NotUtf8, "#refused line 0: not UTF-8\n"),
     (
         4_294_967_294,
         LineKind::Repeated,
@@ -85,144 +17,10 @@ static LINES: [(u32, LineKind, &str); 24] = [
         LineKind::BadLogLine,
         "#refused line 4294967295: bad schedule line\n",
     ),
-    (0, LineKind::NotUtf8, "#refused line 0: not UTF-8\n"),
-    (
-        8_388_609,
-        LineKind::Missing,
-        "#refused line 8388609: missing part\n",
-    ),
 ];
-
-/// A refusal of linking, with its text if it has one.
-#[derive(Clone, Copy)]
-enum Cause {
-    Limit(Which),
-    ClassTwice,
-    FieldTwice(&'static str),
-    MethodTwice(&'static str),
-    NoClass(&'static str),
-    SuperKind,
-    FinalSuper,
-    SuperCycle,
-    Body(&'static str),
-    FinalOverride(&'static str),
-    NoField(&'static str),
-    NoMethod(&'static str),
-    PrivateAccess(&'static str),
-    NoMain,
-}
-
-// A class, why it is refused, and the line that tells it.
-static CLASSES: [(&str, Cause, &str); 18] = [
-    (
-        "LA;",
-        Cause::Limit(Which::Classes),
-        "#refused class LA;: too many classes\n",
-    ),
-    (
-        "La/B;",
-        Cause::Limit(Which::Methods),
-        "#refused class La/B;: too many methods\n",
-    ),
-    (
-        "LC;",
-        Cause::Limit(Which::Fields),
-        "#refused class LC;: too many fields\n",
-    ),
-    (
-        "LD;",
-        Cause::Limit(Which::Cells),
-        "#refused class LD;: too many cells\n",
-    ),
-    (
-        "LE;",
-        Cause::ClassTwice,
-        "#refused class LE;: defined twice\n",
-    ),
-    (
-        "LF;",
-        Cause::FieldTwice("x"),
-        "#refused class LF;: field x twice\n",
-    ),
-    (
-        "LG;",
-        Cause::MethodTwice("<init>"),
-        "#refused class LG;: method <init> twice\n",
-    ),
-    (
-        "LH;",
-        Cause::NoClass("Lx/Y;"),
-        "#refused class LH;: no class Lx/Y;\n",
-    ),
-    (
-        "LI;",
-        Cause::SuperKind,
-        "#refused class LI;: wrong kind of superclass or interface\n",
-    ),
-    (
-        "LJ;",
-        Cause::FinalSuper,
-        "#refused class LJ;: superclass is final\n",
-    ),
-    (
-        "LK;",
-        Cause::SuperCycle,
-        "#refused class LK;: superclass cycle\n",
-    ),
-    (
-        "LL;",
-        Cause::Body("run"),
-        "#refused class LL;: body of run missing or not allowed\n",
-    ),
-    (
-        "LM;",
-        Cause::FinalOverride("run"),
-        "#refused class LM;: run overrides a final method\n",
-    ),
-    (
-        "LN;",
-        Cause::NoField("LX;->x:I"),
-        "#refused class LN;: no field LX;->x:I\n",
-    ),
-    (
-        "LO;",
-        Cause::NoMethod("LX;->f()V"),
-        "#refused class LO;: no method LX;->f()V\n",
-    ),
-    (
-        "LP;",
-        Cause::PrivateAccess("LX;->x:I"),
-        "#refused class LP;: LX;->x:I is private\n",
-    ),
-    ("LQ;", Cause::NoMain, "#refused class LQ;: no main method\n"),
-    ("", Cause::NoClass(""), "#refused class : no class \n"),
-];
-
-fn text(alloc: Global, s: &str) -> Result<Text, AllocError> {
-    Text::of(Vec::from_slice(alloc, s.as_bytes())?)
-}
-
-fn kind_of(alloc: Global, cause: Cause) -> Result<LinkKind, AllocError> {
-    match cause {
-        Cause::Limit(which) => Ok(LinkKind::Limit(which)),
-        Cause::ClassTwice => Ok(LinkKind::ClassTwice),
-        Cause::FieldTwice(name) => Ok(LinkKind::FieldTwice(text(alloc, name)?)),
-        Cause::MethodTwice(name) => Ok(LinkKind::MethodTwice(text(alloc, name)?)),
-        Cause::NoClass(name) => Ok(LinkKind::NoClass(text(alloc, name)?)),
-        Cause::SuperKind => Ok(LinkKind::SuperKind),
-        Cause::FinalSuper => Ok(LinkKind::FinalSuper),
-        Cause::SuperCycle => Ok(LinkKind::SuperCycle),
-        Cause::Body(name) => Ok(LinkKind::Body(text(alloc, name)?)),
-        Cause::FinalOverride(name) => Ok(LinkKind::FinalOverride(text(alloc, name)?)),
-        Cause::NoField(reference) => Ok(LinkKind::NoField(text(alloc, reference)?)),
-        Cause::NoMethod(reference) => Ok(LinkKind::NoMethod(text(alloc, reference)?)),
-        Cause::PrivateAccess(reference) => Ok(LinkKind::PrivateAccess(text(alloc, reference)?)),
-        Cause::NoMain => Ok(LinkKind::NoMain),
-    }
-}
 
 #[test]
-fn lines_are_told_by_their_number(rt: HostRuntime) -> Result<(), Fail> {
+fn lines_are_told_by_any_number(rt: HostRuntime) -> Result<(), Fail> {
     for (number, kind, told) in LINES.iter() {
         let line = refusal_line(rt.alloc(), &Refusal::Line(*number, *kind))?;
         assert_eq!(rt; line.bytes(), told.as_bytes());
@@ -231,11 +29,138 @@ fn lines_are_told_by_their_number(rt: HostRuntime) -> Result<(), Fail> {
 }
 
 #[test]
-fn classes_are_told_by_their_descriptor(rt: HostRuntime) -> Result<(), Fail> {
-    for (class, cause, told) in CLASSES.iter() {
-        let refusal = Refusal::Link(text(rt.alloc(), class)?, kind_of(rt.alloc(), *cause)?);
-        let line = refusal_line(rt.alloc(), &refusal)?;
-        assert_eq!(rt; line.bytes(), told.as_bytes());
+fn names_may_be_empty(rt: HostRuntime) -> Result<(), Fail> {
+    let class = text(rt.alloc(), "")?;
+    let refusal = Refusal::Link(class, LinkKind::NoClass(text(rt.alloc(), "")?));
+    let line = refusal_line(rt.alloc(), &refusal)?;
+    assert_eq!(rt; line.bytes(), b"#refused class : no class \n".as_slice());
+    let fault = Fault {
+        method: MethodId(7),
+        address: 0xffff_ffff,
+        rule: Rule::V(14),
+    };
+    let line = method_fault_line(rt.alloc(), b"", &fault)?;
+    assert_eq!(rt; line.bytes(), b"#fault  ffffffff V14\n".as_slice());
+    Ok(())
+}
+
+// A demo's number, its classes, its threads and its workers.
+type Demo = (u64, u32, u32, u32);
+
+// Words of demos, which aren't built, with blanks between them.
+const DEMOS: &[(&str, Demo)] = &[
+    ("demo number=5 classes=2 threads=2", (5, 2, 2, 1)),
+    (
+        "demo threads=60 workers=8 classes=1000 number=18446744073709551615",
+        (18_446_744_073_709_551_615, 1_000, 60, 8),
+    ),
+    ("demo number=0 classes=1 threads=1", (0, 1, 1, 1)),
+    (
+        "demo workers=2 number=10 classes=10 threads=10",
+        (10, 10, 10, 2),
+    ),
+];
+
+// Words of demos that aren't read.
+const UNREAD: &[&str] = &[
+    "demo",
+    "demo Main",
+    "demo Main number=1 classes=1 threads=1",
+    "demo number=1 classes=1 threads=1 budget=1",
+    "demo number=1 classes=1 threads=1 heap=64",
+    "demo number=1 classes=1 threads=1 seed=1",
+    "demo number=1 classes=1 threads=1 log=yes",
+    "demo number=1 classes=1 threads=1 number=1",
+    "demo number=1 classes=1 threads=1 workers=1 workers=2",
+    "demo number=1 classes=1",
+    "demo number=1 threads=1",
+    "demo classes=1 threads=1",
+    "demo workers=1",
+    "demo number=18446744073709551616 classes=1 threads=1",
+    "demo number=1 classes=0 threads=1",
+    "demo number=1 classes=1001 threads=1",
+    "demo number=1 classes=1 threads=0",
+    "demo number=1 classes=1 threads=61",
+    "demo number=1 classes=1 threads=1 workers=0",
+    "demo number=1 classes=1 threads=1 workers=9",
+    "demo number= classes=1 threads=1",
+    "demo number=00 classes=1 threads=1",
+    "demo number=01 classes=1 threads=1",
+    "demo number=1 classes=01 threads=1",
+    "demo number=1 classes=1 threads=01",
+    "demo number=1 classes=1 threads=1 workers=01",
+    // Numbers of workers that there aren't, or that aren't written as they are printed.
+    "run Main workers=0",
+    "run Main workers=9",
+    "run Main workers=",
+    "run Main workers=01",
+    "run Main workers=+1",
+    "run Main workers=2 workers=2",
+    "run Main workers=8 budget=1 seed=0",
+];
+
+fn text(alloc: Global, s: &str) -> Result<Text, AllocError> {
+    Text::of(Vec::from_slice(alloc, s.as_bytes())?)
+}
+
+fn split(alloc: Global, line: &str) -> Result<Vec<String>, AllocError> {
+    let mut words = Vec::new(alloc);
+    for word in line.split(' ') {
+        words.push(String::from_str(alloc, word)?)?;
+    }
+    Ok(words)
+}
+
+#[test]
+fn demos_are_read(rt: HostRuntime) -> Result<(), Fail> {
+    for (line, (number, classes, threads, workers)) in DEMOS.iter() {
+        let words = split(rt.alloc(), line)?;
+        let demo = Cmd::Demo {
+            number: *number,
+            classes: *classes,
+            threads: *threads,
+            workers: *workers,
+        };
+        assert_eq!(rt; read_words(rt.alloc(), &words), Ok(demo), "{line}");
+    }
+    Ok(())
+}
+
+// Runs on several workers aren't built.
+const WORKERS: &[&str] = &[
+    "run Main log=yes heap=64 budget=50000000 workers=8",
+    "run Main workers=8 budget=50000000 log=yes heap=64",
+];
+
+#[test]
+fn runs_on_workers_are_read(rt: HostRuntime) -> Result<(), Fail> {
+    for line in WORKERS.iter() {
+        let words = split(rt.alloc(), line)?;
+        let run = Cmd::Run {
+            name: text(rt.alloc(), "LMain;")?,
+            workers: 8,
+            seed: None,
+            limits: Limits {
+                budget: 50_000_000,
+                heap: 64,
+                output: 16_777_216,
+                threads: 64,
+                levels: 1_024,
+                words: 16_384,
+            },
+            log: true,
+        };
+        assert_eq!(rt; read_words(rt.alloc(), &words), Ok(run), "{line}");
+    }
+    Ok(())
+}
+
+#[test]
+fn other_words_are_refused(rt: HostRuntime) -> Result<(), Fail> {
+    for line in UNREAD.iter() {
+        let words = split(rt.alloc(), line)?;
+        let read = read_words(rt.alloc(), &words);
+        assert_eq!(rt; read, Err(WordError::Usage), "{line}");
     }
     Ok(())
 }

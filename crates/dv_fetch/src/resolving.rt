@@ -1,11 +1,12 @@
 // Instructions resolved (AOSP, "Dalvik bytecode format").
-ghost use Rattle.std.specs.Prelude.{◌≡◌, ◌<◌, true, None, Some, Ok, option_map};
+ghost use Rattle.std.specs.Prelude.{◌≡◌, ◌<◌, ℕ, true, None, Some, Ok, option_map};
 ghost use Rattle.dv_defs.specs.Families.{family_at, pool_in};
 ghost use Rattle.dv_defs.specs.Op.{Code, op_of, resolve as resolved};
 ghost use Rattle.dv_defs.specs.Images.{Image as Linked};
 ghost use Rattle.dv_defs.specs.Tiling.{payload_at};
 ghost use Rattle.dv_defs.specs.Numbers.{jump};
 ghost use Rattle.dv_ops.specs.Meaning.{code_of, has_payload, has_payload_of, meant, meant_or_rule};
+ghost use Rattle.dv_fetch.specs.Pooled.{has_field, has_type};
 ghost use Rattle.dv_units.specs.Tables.{standard_family};
 
 use crate::parts::{int_op, long_op, move_op, result_op, target};
@@ -47,22 +48,57 @@ fn resolve_in<'a>(
         meant_or_rule (code_of code.now) at result ≡ resolved image.now (code_of code.now) at insn.now (standard_family family) }
 {
     let a = insn.regs.first[0];
-    let b = insn.regs.first[1];
     let place = insn.index as usize;
     match family {
         Family::ConstString => Ok(Op::ConstString(a, string_at(code, place)?)),
-        Family::ConstClass => Ok(Op::ConstClass(a, type_at(code, place)?)),
-        Family::CheckCast => Ok(Op::Cast(a, type_at(code, place)?)),
-        Family::InstanceOf => Ok(Op::InstanceOf(a, b, type_at(code, place)?)),
         Family::NewInstance => Ok(Op::New(a, class_at(image, code, place)?)),
-        Family::NewArray => Ok(Op::NewArray(a, b, type_at(code, place)?)),
-        Family::FilledNewArray => Ok(Op::Filled(insn.regs, type_at(code, place)?)),
-        Family::FieldGet(s) => Ok(Op::FieldGet(s, a, b, named_field_at(image, code, place)?)),
-        Family::FieldPut(s) => Ok(Op::FieldPut(s, a, b, named_field_at(image, code, place)?)),
-        Family::StaticGet(s) => Ok(Op::StaticGet(s, a, named_field_at(image, code, place)?)),
-        Family::StaticPut(s) => Ok(Op::StaticPut(s, a, named_field_at(image, code, place)?)),
+        Family::ConstClass
+        | Family::CheckCast
+        | Family::InstanceOf
+        | Family::NewArray
+        | Family::FilledNewArray => resolve_type(code, insn, family),
+        Family::FieldGet(_) | Family::FieldPut(_) | Family::StaticGet(_) | Family::StaticPut(_) =>
+            resolve_field(image, code, insn, family),
         Family::Invoke(c) => Ok(Op::Invoke(c, insn.regs, called_at(image, code, place)?)),
         _ => Ok(plain_op(at, insn, family)),
+    }
+}
+
+/// Those with a type.
+fn resolve_type<'a>(code: &Coded<'a>, insn: &Insn, family: Family) -> Result<Op<'a>, Rule>
+    requires { has_type (standard_family family) ≡ true }
+    ensures { (image : Linked) (at : ℕ) → meant_or_rule (code_of code.now) at result ≡ resolved image (code_of code.now) at insn.now (standard_family family) }
+{
+    let ty = type_at(code, insn.index as usize)?;
+    let [a, b, _, _, _] = insn.regs.first;
+    match family {
+        Family::ConstClass => Ok(Op::ConstClass(a, ty)),
+        Family::CheckCast => Ok(Op::Cast(a, ty)),
+        Family::InstanceOf => Ok(Op::InstanceOf(a, b, ty)),
+        Family::NewArray => Ok(Op::NewArray(a, b, ty)),
+        Family::FilledNewArray => Ok(Op::Filled(insn.regs, ty)),
+        _ => unreachable!(),
+    }
+}
+
+/// Those with a field.
+fn resolve_field<'a>(
+    image: &'a Image,
+    code: &Coded<'a>,
+    insn: &Insn,
+    family: Family,
+) -> Result<Op<'a>, Rule>
+    requires { has_field (standard_family family) ≡ true }
+    ensures { (at : ℕ) → meant_or_rule (code_of code.now) at result ≡ resolved image.now (code_of code.now) at insn.now (standard_family family) }
+{
+    let field = named_field_at(image, code, insn.index as usize)?;
+    let [a, b, _, _, _] = insn.regs.first;
+    match family {
+        Family::FieldGet(s) => Ok(Op::FieldGet(s, a, b, field)),
+        Family::FieldPut(s) => Ok(Op::FieldPut(s, a, b, field)),
+        Family::StaticGet(s) => Ok(Op::StaticGet(s, a, field)),
+        Family::StaticPut(s) => Ok(Op::StaticPut(s, a, field)),
+        _ => unreachable!(),
     }
 }
 

@@ -1,14 +1,11 @@
-//! Texts are read and linked, and the image is asked: tests that cross crates.
+//! Texts are read and linked, and the image is asked what no program shows: tables of methods, cells, states, and classes and methods that
+//! aren't there. Tests that cross crates.
 #![tactic(auto)]
 
 #[cfg(test)]
 mod births;
 #[cfg(test)]
 mod heaps;
-#[cfg(test)]
-mod memory;
-#[cfg(test)]
-mod memory_rows;
 #[cfg(test)]
 mod rows;
 #[cfg(test)]

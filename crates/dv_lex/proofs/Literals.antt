@@ -3,4 +3,3 @@ pub mod Fronts
 pub mod Units
 pub mod Next
 pub mod Printed
-pub mod Tables

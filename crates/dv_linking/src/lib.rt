@@ -2,6 +2,4 @@
 #![tactic(auto)]
 
 #[cfg(test)]
-mod member_rows;
-#[cfg(test)]
 mod tests;

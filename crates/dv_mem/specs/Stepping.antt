@@ -65,6 +65,18 @@ is_mem (StaticGet s a x) = true
 is_mem (StaticPut s a x) = true
 is_mem op = false
 
+-- of these, those that read or write an array or a field
+abbrev pub is_access : Op → Bool
+is_access (ArrayLength a b) = true
+is_access (Fill a n ns) = true
+is_access (ArrayGet s a b c) = true
+is_access (ArrayPut s a b c) = true
+is_access (FieldGet s a b x) = true
+is_access (FieldPut s a b x) = true
+is_access (StaticGet s a x) = true
+is_access (StaticPut s a x) = true
+is_access op = false
+
 -- ---- instructions with a payload
 
 abbrev pub is_with_payload : Option Family → Bool

@@ -1,5 +1,6 @@
 // A step of the frame on top: an instruction on objects, arrays and fields, a division or a cast.
-ghost use Rattle.std.specs.Prelude.{◌≡◌, ◌↔◌, ◌<◌, ◌≤◌, ◌||◌, not, ℕ, true, false, length, option_map, IsTrue};
+ghost use Rattle.std.specs.Prelude.{◌≡◌, ◌↔◌, ◌<◌, ◌≤◌, ◌||◌, not, ℕ, true, false, length, option_map, Ok, IsTrue};
+ghost use Rattle.std.specs.declared.alloc.AllocError.{AllocError};
 ghost use Rattle.dv_defs.specs.Families.{family_at};
 ghost use Rattle.dv_defs.specs.Formats.{size_at};
 ghost use Rattle.dv_defs.specs.Op.{Code, Op as Operation};
@@ -12,7 +13,7 @@ ghost use Rattle.dv_words.specs.declared.state.Frame.{Frame as Activation};
 ghost use Rattle.dv_steps.specs.Mem.{word_mem};
 ghost use Rattle.dv_steps.specs.Stepping.{Answered};
 ghost use Rattle.dv_mem.specs.Operands.{AreOperands};
-ghost use Rattle.dv_mem.specs.Stepping.{AreAsBefore, GoesOnAt, IsMeant, MeansNone, is_fill, is_mem, is_with_payload};
+ghost use Rattle.dv_mem.specs.Stepping.{AreAsBefore, GoesOnAt, IsMeant, MeansNone, is_access, is_fill, is_mem, is_with_payload};
 ghost use Rattle.dv_mem.specs.Tops.{here, seen};
 
 use crate::divisions::{divide_ints, divide_longs};
@@ -78,6 +79,33 @@ fn size_of(op: u8) -> u32
     insn_size(op) as u32
 }
 
+/// Does an operation, if it reads or writes an array or a field; another is passed over.
+fn access(
+    image: &Image,
+    units: &[u16],
+    heap: &mut Heap,
+    stack: &mut Stack,
+    next: u32,
+    op: &Op<'_>,
+) -> Next
+    ensures does { (code : Code) (at : ℕ) → code.tiles ≡ tiles_in (tiling units.now) → is_access (meant code at op.now) ≡ true → AreOperands (seen image.now stack.old heap.old next) (meant code at op.now) →
+        Answered {E = AllocError} (Ok result) (word_mem (seen image.now stack.old heap.old next) (meant code at op.now)) stack.old heap.old stack.new heap.new }
+    ensures stack_stays { (code : Code) (at : ℕ) → is_access (meant code at op.now) ≡ false → stack.new ≡ stack.old }
+    ensures heap_stays { (code : Code) (at : ℕ) → is_access (meant code at op.now) ≡ false → heap.new ≡ heap.old }
+{
+    match *op {
+        Op::ArrayLength(a, b) => array_length(heap, stack, next, a, b),
+        Op::Fill(a, to) => fill(units, heap, stack, next, a, to),
+        Op::ArrayGet(suffix, a, b, c) => array_get(heap, stack, next, suffix, a, b, c),
+        Op::ArrayPut(suffix, a, b, c) => array_put(image, heap, stack, next, suffix, a, b, c),
+        Op::FieldGet(_, a, b, field) => field_get(heap, stack, next, a, b, &field),
+        Op::FieldPut(_, a, b, field) => field_put(heap, stack, next, a, b, &field),
+        Op::StaticGet(_, a, field) => static_get(heap, stack, next, a, &field),
+        Op::StaticPut(_, a, field) => static_put(heap, stack, next, a, &field),
+        _ => Next::On,
+    }
+}
+
 /// Does an operation, if it is one on objects, arrays and fields, a division or a cast; another is passed over. The units are those of the
 /// method on top, and `next` is the address after its instruction. A caller that has resolved an instruction needn't have it resolved again.
 ///
@@ -97,26 +125,20 @@ pub fn operate(
     ensures stack_stays { (code : Code) (at : ℕ) → is_mem (meant code at op.entry) ≡ false → stack.new ≡ stack.old }
     ensures heap_stays { (code : Code) (at : ℕ) → is_mem (meant code at op.entry) ≡ false → heap.new ≡ heap.old }
 {
-    match op {
+    // Behind a reference: of an operation by value the check takes twice as long.
+    let op = &op;
+    match *op {
         Op::IntDivide(o, a, b, c) => Ok(divide_ints(stack, next, o, a, b, c)),
         Op::LongDivide(o, a, b, c) => Ok(divide_longs(stack, next, o, a, b, c)),
         Op::ConstString(a, chars) => const_string(heap, stack, next, a, chars),
         Op::ConstClass(a, ty) => const_class(heap, stack, next, a, ty),
         Op::Cast(a, ty) => Ok(cast(image, heap, stack, next, a, ty)),
         Op::InstanceOf(a, b, ty) => Ok(instance_of(image, heap, stack, next, a, b, ty)),
-        Op::ArrayLength(a, b) => Ok(array_length(heap, stack, next, a, b)),
         Op::New(a, class) => new_instance(image, heap, stack, next, a, class),
         Op::NewArray(a, b, ty) => new_array(heap, stack, next, a, b, ty),
         Op::Filled(regs, ty) => filled_new_array(heap, stack, next, &regs, ty),
-        Op::Fill(a, to) => Ok(fill(units, heap, stack, next, a, to)),
         Op::Throw(a) => Ok(throw(stack, a)),
-        Op::ArrayGet(suffix, a, b, c) => Ok(array_get(heap, stack, next, suffix, a, b, c)),
-        Op::ArrayPut(suffix, a, b, c) => Ok(array_put(image, heap, stack, next, suffix, a, b, c)),
-        Op::FieldGet(_, a, b, field) => Ok(field_get(heap, stack, next, a, b, &field)),
-        Op::FieldPut(_, a, b, field) => Ok(field_put(heap, stack, next, a, b, &field)),
-        Op::StaticGet(_, a, field) => Ok(static_get(heap, stack, next, a, &field)),
-        Op::StaticPut(_, a, field) => Ok(static_put(heap, stack, next, a, &field)),
-        _ => Ok(Next::On),
+        _ => Ok(access(image, units, heap, stack, next, op)),
     }
 }
 

@@ -13,7 +13,7 @@ agree f g n k same below =
 
 -- ---- rows
 
-rows_same : map (λ r. row r.0 r.1.now r.2 r.3) OPCODES ≡ table
+pub rows_same : map (λ r. row r.0 r.1.now r.2 r.3) OPCODES ≡ table
 unfolding table
 rows_same = refl
 
@@ -30,8 +30,8 @@ entry_placed op place below is = ap (option_and_then (slice_get table)) is ∙ a
 pub no_row : (op : ℕ) → op < 256 → None ≡ place_at op → None ≡ entry_at op
 no_row op below is = entry_placed op None below is
 
-pub row_known : (op place : ℕ) (e : Entry) → op < 256 → Some place ≡ place_at op → slice_get (map (λ r. row r.0 r.1.now r.2 r.3) OPCODES) place ≡ Some e → Some e ≡ entry_at op
-row_known op place e below is here = sym here ∙ (ap (λ xs. slice_get xs place) rows_same ∙ entry_placed op (Some place) below is)
+pub row_known : (entries : List Entry) (op place : ℕ) (e : Entry) → entries ≡ table → op < 256 → Some place ≡ place_at op → slice_get entries place ≡ Some e → Some e ≡ entry_at op
+row_known entries op place e same below is here = sym here ∙ (ap (λ xs. slice_get xs place) same ∙ entry_placed op (Some place) below is)
 
 -- ---- names
 

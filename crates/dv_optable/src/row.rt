@@ -6,7 +6,7 @@ ghost use Rattle.dv_optable.specs.Table.{entry_at, family_at, format_at, is_floa
 
 use crate::family::Family;
 use crate::format::Format;
-use crate::table::{OPCODES, Opcode};
+use crate::table::{Opcode, rows};
 
 /// What the table says of an opcode.
 #[derive(Clone, Copy, Debug)]
@@ -50,7 +50,7 @@ fn entry_of(op: u8) -> Option<Opcode>
     ensures { option_map (λ r. row r.0 r.1.now r.2 r.3) result ≡ entry_at op }
 {
     let place = place_of(op)?;
-    Some(row_at(&OPCODES, place as usize))
+    Some(row_at(rows(), place as usize))
 }
 
 /// The row of an opcode; none where it is unused or a float's.
@@ -109,5 +109,5 @@ pub fn name_to_opcode(name: &[u8]) -> Option<u8>
     ensures opcode { result ≡ opcode_named name.now }
     ensures named { IfSome result (λ op. option_map (λ e. e.name) (entry_at op) ≡ Some name.now) }
 {
-    opcode_among(&OPCODES, name)
+    opcode_among(rows(), name)
 }

@@ -1,9 +1,9 @@
 //! The opcodes with their names, formats and families, from the page "Dalvik bytecode" of the Android documents.
 
-ghost use Rattle.std.specs.Prelude.{◌≡◌, ◌<◌, ℕ, Some, IsTrue, map, length};
+ghost use Rattle.std.specs.Prelude.{◌≡◌, ◌<◌, ℕ, List, Some, IsTrue, map, length};
 ghost use Rattle.std.specs.List.Sorted.{IsStrictlyIncreasing};
 ghost use Rattle.dv_optable.specs.Families.{is_local};
-ghost use Rattle.dv_optable.specs.Table.{table, entry_at, Entry, IsPlain};
+ghost use Rattle.dv_optable.specs.Table.{table, entry_at, opcode_in, opcode_named, row, Entry, IsPlain};
 
 use crate::family::{Bin, Call, Family, Suffix, Test, Unary, Width};
 use crate::format::Format;
@@ -13,7 +13,7 @@ pub(crate) type Opcode = (u8, &'static str, Format, Family);
 
 /// All opcodes but those of floats, in rising order.
 #[rattlefmt::skip]
-pub(crate) static OPCODES: [Opcode; 182] = [
+static OPCODES: [Opcode; 182] = [
     (0x00, "nop", Format::F10x, Family::Nop),
     (0x01, "move", Format::F12x, Family::Move(Width::Narrow)),
     (0x02, "move/from16", Format::F22x, Family::Move(Width::Narrow)),
@@ -197,6 +197,15 @@ pub(crate) static OPCODES: [Opcode; 182] = [
     (0xe1, "shr-int/lit8", Format::F22b, Family::IntLiteral(Bin::Shr)),
     (0xe2, "ushr-int/lit8", Format::F22b, Family::IntLiteral(Bin::Ushr)),
 ];
+
+/// The rows.
+pub(crate) fn rows() -> &'static [Opcode]
+    ensures entries { map (λ r. row r.0 r.1.now r.2 r.3) result.now ≡ table }
+    ensures names { (name : List ℕ) → opcode_in (map (λ r. (r.1.now, r.0)) result.now) name ≡ opcode_named name }
+    ensures count { length result.now ≡ 182 }
+{
+    &OPCODES
+}
 
 /// Says by its clauses that the table has 182 rows, in rising order of their opcodes; it does nothing.
 pub fn table_rises()

@@ -18,8 +18,6 @@ mod pool_entries;
 mod raw;
 mod references;
 mod switches;
-#[cfg(test)]
-mod tests;
 
 pub use class::print_class;
 pub use laws::{

@@ -1,5 +1,6 @@
-// Threads that wait for each other's classes (JLS 12.4.2).
-use crate::run::{AMPLE, BOTH_RETURNED, Hold, RUN, Run, Stands};
+// Threads that wait for each other's classes (JLS 12.4.2), and how they stand: a step of one that is held up is counted and changes nothing else,
+// and one of a thread that has ended isn't counted.
+use crate::run::{AMPLE, Hold, RUN, Run, Stands};
 use crate::running::assert_runs;
 use dv_defs::{Ending, Limits};
 
@@ -23,21 +24,6 @@ const THREAD_USES: Option<(&str, &str)> = Some((
     return-void",
 ));
 
-/// A class whose initialiser prints x.
-const PRINTING: &str = r#"
-    .class LX;
-    .super Ljava/lang/Object;
-    .method static f()V
-    .registers 0
-    return-void
-    .end method
-    .method static <clinit>()V
-    .registers 1
-    const-string v0, "x"
-    invoke-static {v0}, Ldvm/Console;->print(Ljava/lang/String;)V
-    return-void
-    .end method"#;
-
 /// A class whose initialiser fails.
 const FAILING: &str = "
     .class LX;
@@ -53,49 +39,7 @@ const FAILING: &str = "
     return-void
     .end method";
 
-static ONE_CLASS: [Run; 5] = [
-    // main initialises it, and the thread is held up
-    Run {
-        registers: "1",
-        body: USES_CLASS,
-        thread: THREAD_USES,
-        classes: PRINTING,
-        turns: &[(0, 11)],
-        limits: Limits {
-            budget: 11,
-            ..AMPLE
-        },
-        ending: Ending::Steps,
-        threads: &[Stands::Runnable, Stands::Held(Hold::Class("LX;"))],
-        steps: Some(11),
-        ..RUN
-    },
-    // the thread initialises it, and main is held up
-    Run {
-        registers: "1",
-        body: USES_CLASS,
-        thread: THREAD_USES,
-        classes: PRINTING,
-        turns: &[(0, 8), (1, 1)],
-        limits: Limits { budget: 9, ..AMPLE },
-        ending: Ending::Steps,
-        threads: &[Stands::Held(Hold::Class("LX;")), Stands::Runnable],
-        steps: Some(9),
-        ..RUN
-    },
-    // main goes on as soon as the class is ready
-    Run {
-        registers: "1",
-        body: USES_CLASS,
-        thread: THREAD_USES,
-        classes: PRINTING,
-        turns: &[(0, 8), (1, 1)],
-        output: "x0\n1\n",
-        threads: BOTH_RETURNED,
-        // 8; the record, the initialiser begins, does three, the record ends; five of main's; and five of the thread's
-        steps: Some(24),
-        ..RUN
-    },
+static ONE_CLASS: [Run; 2] = [
     // where the initialiser fails, who waited is told that there is no such class
     Run {
         registers: "1",
@@ -132,12 +76,7 @@ static ONE_CLASS: [Run; 5] = [
     },
 ];
 
-#[test]
-fn a_class_is_initialised_by_one_thread(rt: HostRuntime) {
-    assert_runs(&rt, rt.alloc(), ONE_CLASS.as_slice());
-}
-
-/// Two classes whose initialisers call each other's method, and one under the first.
+/// Two classes whose initialisers call each other's method.
 const CIRCLE: &str = "
     .class LA;
     .super Ljava/lang/Object;
@@ -160,12 +99,6 @@ const CIRCLE: &str = "
     .registers 0
     invoke-static {}, LA;->touch()V
     return-void
-    .end method
-    .class LUnder;
-    .super LA;
-    .method static own()V
-    .registers 0
-    return-void
     .end method";
 
 /// Main starts a thread, in eight steps, and uses B.
@@ -184,7 +117,7 @@ const USES_A: Option<(&str, &str)> = Some((
     return-void",
 ));
 
-static TWO_CLASSES: [Run; 4] = [
+static TWO_CLASSES: [Run; 1] = [
     // each thread waits for the other's class
     Run {
         registers: "1",
@@ -200,51 +133,10 @@ static TWO_CLASSES: [Run; 4] = [
         steps: Some(12),
         ..RUN
     },
-    // one thread initialises both
-    Run {
-        registers: "1",
-        body: USES_B,
-        thread: USES_A,
-        classes: CIRCLE,
-        threads: BOTH_RETURNED,
-        // 8 and 15 of main's, three of the thread's
-        steps: Some(26),
-        ..RUN
-    },
-    Run {
-        registers: "1",
-        body: USES_B,
-        thread: USES_A,
-        classes: CIRCLE,
-        turns: &[(0, 8), (1, 15)],
-        threads: BOTH_RETURNED,
-        steps: Some(26),
-        ..RUN
-    },
-    // a record waits for the superclass that the other initialises
-    Run {
-        registers: "1",
-        body: "
-            new-instance v0, LT;
-            invoke-direct {v0}, LT;-><init>()V
-            invoke-virtual {v0}, LT;->start()V
-            invoke-static {}, LUnder;->own()V
-            return-void",
-        thread: USES_A,
-        classes: CIRCLE,
-        turns: &[(0, 8), (1, 1), (0, 1)],
-        limits: Limits {
-            budget: 10,
-            ..AMPLE
-        },
-        ending: Ending::Steps,
-        threads: &[Stands::Held(Hold::Class("LA;")), Stands::Runnable],
-        steps: Some(10),
-        ..RUN
-    },
 ];
 
 #[test]
-fn classes_of_two_threads_hold_them_up(rt: HostRuntime) {
+fn threads_that_wait_for_classes_stand_still(rt: HostRuntime) {
+    assert_runs(&rt, rt.alloc(), ONE_CLASS.as_slice());
     assert_runs(&rt, rt.alloc(), TWO_CLASSES.as_slice());
 }

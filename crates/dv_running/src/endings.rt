@@ -1,21 +1,18 @@
-// The limits of printed bytes and of steps, and the order in which endings are told.
-use crate::run::{AMPLE, Hold, RUN, Run, Stands};
+// Limits that no word sets, and how the threads of a stopped run stand: at the step that wasn't done.
+use crate::run::{AMPLE, RUN, Run, Stands};
 use crate::running::assert_runs;
 use dv_defs::{Ending, Limits};
 
-static OUTPUTS: [Run; 5] = [
-    // as many bytes as may be printed, and not one more
+static STOPPED: [Run; 4] = [
+    // without steps the run has ended as it begins
     Run {
-        registers: "1",
-        body: r#"
-            const-string v0, "a\u00e9"
-            invoke-static {v0}, Ldvm/Console;->print(Ljava/lang/String;)V
-            return-void"#,
-        limits: Limits { output: 3, ..AMPLE },
-        output: "a\u{e9}",
-        steps: Some(3),
+        limits: Limits { budget: 0, ..AMPLE },
+        ending: Ending::Steps,
+        threads: &[Stands::Runnable],
+        steps: Some(0),
         ..RUN
     },
+    // a print that doesn't fit isn't done
     Run {
         registers: "1",
         body: r#"
@@ -28,151 +25,54 @@ static OUTPUTS: [Run; 5] = [
         steps: Some(2),
         ..RUN
     },
-    // a line feed counts, and what was printed before stays
+    // an exception that can't be wrapped flies still
     Run {
-        registers: "1",
+        registers: "0",
         body: "
-            const/16 v0, -12
-            invoke-static {v0}, Ldvm/Console;->println(I)V
-            invoke-static {v0}, Ldvm/Console;->println(I)V
+            invoke-static {}, LX;->t()V
             return-void",
-        limits: Limits { output: 8, ..AMPLE },
-        output: "-12\n-12\n",
-        steps: Some(4),
-        ..RUN
-    },
-    Run {
-        registers: "1",
-        body: "
-            const/16 v0, -12
-            invoke-static {v0}, Ldvm/Console;->println(I)V
-            invoke-static {v0}, Ldvm/Console;->println(I)V
-            return-void",
-        limits: Limits { output: 7, ..AMPLE },
-        output: "-12\n",
-        ending: Ending::Output,
-        threads: &[Stands::Runnable],
-        steps: Some(3),
-        ..RUN
-    },
-    // nothing may be printed where nothing is left
-    Run {
-        registers: "1",
-        body: r#"
-            const-string v0, ""
-            invoke-static {v0}, Ldvm/Console;->print(Ljava/lang/String;)V
-            const-string v0, "a"
-            invoke-static {v0}, Ldvm/Console;->print(Ljava/lang/String;)V
-            return-void"#,
-        limits: Limits { output: 0, ..AMPLE },
-        ending: Ending::Output,
-        threads: &[Stands::Runnable],
-        steps: Some(4),
-        ..RUN
-    },
-];
-
-#[test]
-fn output_has_a_limit(rt: HostRuntime) {
-    assert_runs(&rt, rt.alloc(), OUTPUTS.as_slice());
-}
-
-/// Main joins itself after two steps.
-const JOINS_ITSELF: &str = "
-    invoke-static {}, Ljava/lang/Thread;->currentThread()Ljava/lang/Thread;
-    move-result-object v0
-    invoke-virtual {v0}, Ljava/lang/Thread;->join()V
-    return-void";
-
-static ENDINGS: [Run; 8] = [
-    // done goes before steps
-    Run {
-        limits: Limits { budget: 1, ..AMPLE },
-        steps: Some(1),
-        ..RUN
-    },
-    // a death too
-    Run {
-        registers: "1",
-        body: "
-            const/4 v0, 0
-            throw v0",
-        limits: Limits { budget: 3, ..AMPLE },
-        threads: &[Stands::Died("Ljava/lang/NullPointerException;")],
-        steps: Some(3),
-        ..RUN
-    },
-    Run {
-        registers: "1",
-        body: "
-            const/4 v0, 0
-            throw v0",
-        limits: Limits { budget: 2, ..AMPLE },
-        ending: Ending::Steps,
+        classes: FAILING,
+        limits: Limits { heap: 7, ..AMPLE },
+        ending: Ending::HeapFull(0),
         threads: &[Stands::Flying("Ljava/lang/NullPointerException;")],
-        steps: Some(2),
+        // the record, the initialiser begins, const, the throw, its frame is dropped, and the step that isn't done
+        steps: Some(6),
         ..RUN
     },
-    // what stops the run goes before steps
+    // a monitor-exit that can't throw is not gone past
     Run {
         registers: "1",
         body: "
-            const/16 v0, 63
-            new-array v0, v0, [I
-            return-void",
-        limits: Limits {
-            budget: 2,
-            heap: 64,
-            ..AMPLE
-        },
+            const-class v0, LMain;
+            :from
+            monitor-exit v0
+            :to
+            return-void
+            .catchall {:from .. :to} :to",
+        limits: Limits { heap: 5, ..AMPLE },
         ending: Ending::HeapFull(0),
         threads: &[Stands::Runnable],
         steps: Some(2),
         ..RUN
     },
-    // steps go before none runnable
-    Run {
-        registers: "1",
-        body: JOINS_ITSELF,
-        limits: Limits { budget: 2, ..AMPLE },
-        ending: Ending::Steps,
-        threads: &[Stands::Held(Hold::Join(0))],
-        steps: Some(2),
-        ..RUN
-    },
-    Run {
-        registers: "1",
-        body: JOINS_ITSELF,
-        limits: Limits { budget: 4, ..AMPLE },
-        ending: Ending::NoRunnable,
-        threads: &[Stands::Held(Hold::Join(0))],
-        steps: Some(2),
-        ..RUN
-    },
-    // the budget's last step is done
-    Run {
-        registers: "0",
-        body: "
-            :a
-            nop
-            goto :a",
-        limits: Limits { budget: 7, ..AMPLE },
-        ending: Ending::Steps,
-        threads: &[Stands::Runnable],
-        steps: Some(7),
-        ..RUN
-    },
-    // without steps the run has ended as it begins
-    Run {
-        limits: Limits { budget: 0, ..AMPLE },
-        ending: Ending::Steps,
-        threads: &[Stands::Runnable],
-        steps: Some(0),
-        ..RUN
-    },
 ];
 
+/// A class whose initialiser throws: the exception costs four words, and what wraps it four.
+const FAILING: &str = "
+    .class LX;
+    .super Ljava/lang/Object;
+    .method static t()V
+    .registers 0
+    return-void
+    .end method
+    .method static <clinit>()V
+    .registers 1
+    const/4 v0, 0
+    array-length v0, v0
+    return-void
+    .end method";
+
 #[test]
-fn endings_are_told_in_order(rt: HostRuntime) {
-    assert_runs(&rt, rt.alloc(), ENDINGS.as_slice());
+fn stopped_runs_stand(rt: HostRuntime) {
+    assert_runs(&rt, rt.alloc(), STOPPED.as_slice());
 }

@@ -25,33 +25,21 @@ pub enum Stands<'a> {
     Died(&'a str),
 }
 
-/// Which of the runnable threads steps.
-#[derive(Clone, Copy, PartialEq, Eq, Debug)]
-pub enum Order {
-    Lowest,
-    Highest,
-    /// The lowest above the one that stepped last, else the lowest.
-    Around,
-}
-
 /// A program whose class LMain; has a static `main()V`, and what its run comes to.
 #[derive(Clone, Copy)]
 pub struct Run {
     /// The registers and the body of main.
     pub registers: &'static str,
     pub body: &'static str,
-    /// The superclass of LMain;, and its other members.
-    pub superclass: &'static str,
+    /// Its other members.
     pub members: &'static str,
     /// The registers and the body of `run()V` of a class LT; under Thread, where there is one.
     pub thread: Option<(&'static str, &'static str)>,
     /// Other classes.
     pub classes: &'static str,
     pub limits: Limits,
-    /// The turns that are taken first: a thread, and its steps.
+    /// The turns that are taken first: a thread, and its steps. Behind them the lowest runnable thread steps, until the run ends.
     pub turns: &'static [(u32, u32)],
-    /// Who steps behind them, until the run ends.
-    pub order: Order,
     pub output: &'static str,
     pub ending: Ending,
     /// How each thread stands then.
@@ -74,21 +62,13 @@ pub const AMPLE: Limits = Limits {
 pub const RUN: Run = Run {
     registers: "0",
     body: "return-void",
-    superclass: "Ljava/lang/Object;",
     members: "",
     thread: None,
     classes: "",
     limits: AMPLE,
     turns: &[],
-    order: Order::Lowest,
     output: "",
     ending: Ending::Done,
     threads: &[Stands::Returned],
     steps: None,
 };
-
-/// One thread, which died of a NullPointerException.
-pub const NULL_POINTER: &[Stands<'static>] = &[Stands::Died("Ljava/lang/NullPointerException;")];
-
-/// Two threads, which both returned.
-pub const BOTH_RETURNED: &[Stands<'static>] = &[Stands::Returned, Stands::Returned];

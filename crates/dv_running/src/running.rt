@@ -1,5 +1,5 @@
 // Programs are linked behind the boot classes, verified, and run step by step.
-use crate::run::{Hold, Order, RUN, Run, Stands};
+use crate::run::{Hold, Run, Stands};
 use crate::slices::run_in_slices;
 use dv_core::Vm;
 use dv_defs::{Blocked, End, Ending, Image};
@@ -22,18 +22,6 @@ fn thread_class(alloc: Global, registers: &str, body: &str) -> Result<String, Al
     )
 }
 
-/// A program whose main method has so many registers and this body.
-pub fn main_text(
-    alloc: Global,
-    registers: &str,
-    body: &str,
-    members: &str,
-) -> Result<String, AllocError> {
-    format!(in alloc;
-        ".class LMain;\n.super Ljava/lang/Object;\n{members}\n.method static main()V\n.registers {registers}\n{body}\n.end method\n"
-    )
-}
-
 /// The text of a program.
 fn text_of(alloc: Global, run: &Run) -> Result<String, AllocError> {
     let thread = match run.thread {
@@ -41,8 +29,8 @@ fn text_of(alloc: Global, run: &Run) -> Result<String, AllocError> {
         None => String::new(alloc),
     };
     format!(in alloc;
-        "{}\n{thread}.class LMain;\n.super {}\n{}\n.method static main()V\n.registers {}\n{}\n.end method\n",
-        run.classes, run.superclass, run.members, run.registers, run.body
+        "{}\n{thread}.class LMain;\n.super Ljava/lang/Object;\n{}\n.method static main()V\n.registers {}\n{}\n.end method\n",
+        run.classes, run.members, run.registers, run.body
     )
 }
 
@@ -101,37 +89,14 @@ fn stands<'a>(image: &'a Image, vm: &Vm, thread: u32) -> Option<Stands<'a>> {
     }
 }
 
-/// The lowest runnable thread from one on.
-fn lowest(image: &Image, vm: &Vm, from: u32) -> Option<u32> {
-    for thread in from..64 {
+/// The lowest runnable thread.
+pub fn lowest(image: &Image, vm: &Vm) -> Option<u32> {
+    for thread in 0..64 {
         if vm.runnable(image, thread) {
             return Some(thread);
         }
     }
     None
-}
-
-/// The highest runnable thread.
-fn highest(image: &Image, vm: &Vm) -> Option<u32> {
-    let mut found = None;
-    for thread in 0..64 {
-        if vm.runnable(image, thread) {
-            found = Some(thread);
-        }
-    }
-    found
-}
-
-/// The runnable thread that steps, where this one did last.
-pub fn chosen(image: &Image, vm: &Vm, order: Order, last: u32) -> Option<u32> {
-    match order {
-        Order::Lowest => lowest(image, vm, 0),
-        Order::Highest => highest(image, vm),
-        Order::Around => {
-            let above = lowest(image, vm, last.saturating_add(1));
-            above.or(lowest(image, vm, 0))
-        }
-    }
 }
 
 /// A step of a runnable thread, which is counted.
@@ -154,16 +119,14 @@ fn take_turns<R: Abort>(rt: &R, image: &Image, vm: &mut Vm, run: &Run, text: &st
     }
 }
 
-/// Runnable threads step in the run's order, until it ends.
-fn run_on<R: Abort>(rt: &R, image: &Image, vm: &mut Vm, order: Order, text: &str) {
-    let mut last = 0;
+/// The lowest runnable thread steps, until the run ends.
+fn run_on<R: Abort>(rt: &R, image: &Image, vm: &mut Vm, text: &str) {
     for _ in 0..MOST {
         if vm.ending(image).is_some() {
             return;
         }
-        let thread = chosen(image, vm, order, last).expect(rt, "a runnable thread");
+        let thread = lowest(image, vm).expect(rt, "a runnable thread");
         step(rt, image, vm, thread, text);
-        last = thread;
     }
 }
 
@@ -217,51 +180,29 @@ fn begun<R: Abort>(rt: &R, alloc: Global, image: &Image, run: &Run, text: &str) 
     vm
 }
 
-/// Runs the program of a text to its end, which is the one that is told, step by step and in slices.
-pub fn assert_text<R: Abort>(rt: &R, alloc: Global, text: &str, run: &Run) {
-    let verified = verified(rt, alloc, text);
+/// Runs a program to its end, which is the one that is told, step by step and in slices.
+fn assert_run<R: Abort>(rt: &R, alloc: Global, run: &Run) {
+    let text = text_of(alloc, run).ok().expect(rt, "memory");
+    let verified = verified(rt, alloc, &text);
     let image = &verified.image;
-    let mut vm = begun(rt, alloc, image, run, text);
-    run_on(rt, image, &mut vm, run.order, text);
-    assert_ended(rt, image, &vm, run, text);
+    let mut vm = begun(rt, alloc, image, run, &text);
+    run_on(rt, image, &mut vm, &text);
+    assert_ended(rt, image, &vm, run, &text);
     if run.ending == Ending::NoRunnable || run.ending == Ending::Done {
         assert_idle(rt, image, &mut vm, run);
         let after = Run {
             steps: None,
             ..*run
         };
-        assert_ended(rt, image, &vm, &after, text);
+        assert_ended(rt, image, &vm, &after, &text);
     }
-    let mut sliced = begun(rt, alloc, image, run, text);
-    run_in_slices(rt, image, &mut sliced, run.order, text);
-    assert_ended(rt, image, &sliced, run, text);
-}
-
-/// Runs a program to its end, which is the one that is told.
-pub fn assert_run<R: Abort>(rt: &R, alloc: Global, run: &Run) {
-    let text = text_of(alloc, run).ok().expect(rt, "memory");
-    assert_text(rt, alloc, &text, run);
+    let mut sliced = begun(rt, alloc, image, run, &text);
+    run_in_slices(rt, image, &mut sliced, &text);
+    assert_ended(rt, image, &sliced, run, &text);
 }
 
 pub fn assert_runs<R: Abort>(rt: &R, alloc: Global, runs: &[Run]) {
     for run in runs {
         assert_run(rt, alloc, run);
-    }
-}
-
-/// The registers and the body of a main method, and how it dies.
-pub type Death = (&'static str, &'static str, &'static [Stands<'static>]);
-
-/// Each main method dies of its exception, and prints nothing before.
-pub fn assert_deaths<R: Abort>(rt: &R, alloc: Global, members: &'static str, deaths: &[Death]) {
-    for (registers, body, threads) in deaths {
-        let run = Run {
-            registers: *registers,
-            body: *body,
-            members,
-            threads: *threads,
-            ..RUN
-        };
-        assert_run(rt, alloc, &run);
     }
 }

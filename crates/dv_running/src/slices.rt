@@ -1,6 +1,5 @@
 // Runs in slices: many local steps of a thread at once, and then one other step.
-use crate::run::{Order, Run};
-use crate::running::{chosen, step};
+use crate::running::{lowest, step};
 use dv_core::Vm;
 use dv_defs::Image;
 use std::alloc::AllocError;
@@ -64,15 +63,13 @@ fn slice<R: Abort>(rt: &R, image: &Image, vm: &mut Vm, thread: u32, text: &str) 
     }
 }
 
-/// Runnable threads have slices in the run's order, until it ends.
-pub fn run_in_slices<R: Abort>(rt: &R, image: &Image, vm: &mut Vm, order: Order, text: &str) {
-    let mut last = 0;
+/// The lowest runnable thread has a slice, until the run ends.
+pub fn run_in_slices<R: Abort>(rt: &R, image: &Image, vm: &mut Vm, text: &str) {
     for _ in 0..MOST {
         if vm.ending(image).is_some() {
             return;
         }
-        let thread = chosen(image, vm, order, last).expect(rt, "a runnable thread");
+        let thread = lowest(image, vm).expect(rt, "a runnable thread");
         slice(rt, image, vm, thread, text);
-        last = thread;
     }
 }

@@ -1,11 +1,9 @@
 // Slices of local steps that come back to a run, alone, and cut by what is left of the budget.
-use crate::lending::{BOTH, FILLS};
-use crate::playing::{Player, accepted, assert_played, stood};
-use crate::program::{AMPLE, PROGRAM, Played, Program, Turns};
-use crate::replays::{FOREVER, SPENT};
+use crate::playing::{Player, assert_end, stood, verified};
 use crate::slices::{assert_alike, brought, image_of, lent, turn, work, worker_of};
-use crate::turns::FOUR;
+use crate::texts::{AMPLE, BOTH, FILLS, FOREVER, MAIN_FIRST, SPENT};
 use dv_defs::{Ending, Entry, Limits};
+use dv_rules::Verified;
 use dv_sound::SafeVm;
 use std::alloc::Global;
 use std::process::Abort;
@@ -14,16 +12,15 @@ use std::process::Abort;
 /// meanwhile; the slice comes back. So many of its steps are done then; how the run stands, and how it ends when it is run on.
 #[derive(Clone, Copy)]
 struct Commit {
-    program: Program,
     limits: Limits,
-    turns: Turns,
+    turns: &'static [(u32, u32)],
     thread: u32,
     most: (u32, u32),
     ran: (u32, u32),
     meanwhile: Option<(u32, u32)>,
     done: u32,
     ending: Option<Ending>,
-    end: Played<'static>,
+    end: (Ending, &'static str),
 }
 
 /// A slice of a row is run, and comes back.
@@ -64,24 +61,9 @@ fn assert_last<R: Abort>(rt: &R, run: &SafeVm, row: &Commit) {
     assert_eq!(rt; is_last, row.done > 0, "{:?}", row.turns);
 }
 
-/// A run that is run on ends so, and its log leads there again.
-pub fn assert_end<R: Abort>(
-    rt: &R,
-    alloc: Global,
-    player: Player<'_>,
-    run: SafeVm,
-    end: Played<'_>,
-) {
-    let mut run = run;
-    assert!(rt; run.run().is_ok());
-    let log = run.into_log();
-    assert_played(rt, alloc, player, &log, end);
-}
-
-fn assert_commit<R: Abort>(rt: &R, alloc: Global, row: &Commit) {
-    let verified = accepted(rt, alloc, &row.program);
+fn assert_commit<R: Abort>(rt: &R, alloc: Global, verified: &Verified, row: &Commit) {
     let player = Player {
-        verified: &verified,
+        verified,
         limits: row.limits,
     };
     let mut run = stood(rt, alloc, player, row.turns);
@@ -91,89 +73,31 @@ fn assert_commit<R: Abort>(rt: &R, alloc: Global, row: &Commit) {
     assert_last(rt, &run, row);
     assert_alike(rt, alloc, &run, &like);
     assert_eq!(rt; run.ending(), row.ending, "{:?}", row.turns);
-    assert_end(rt, alloc, player, run, row.end);
+    assert_end(rt, alloc, player, run, row.end.0, row.end.1);
 }
 
-const DONE: Played<'static> = Played::Ends(Ending::Done, "#end done\n");
+fn assert_commits<R: Abort>(rt: &R, alloc: Global, text: &str, rows: &[Commit]) {
+    let verified = verified(rt, alloc, text);
+    for row in rows {
+        assert_commit(rt, alloc, &verified, row);
+    }
+}
 
-/// Main starts a thread, in eight steps, and both do local steps without an end.
-pub const BOTH_FOREVER: Program = Program {
-    registers: "1",
-    body: "
-        new-instance v0, LT;
-        invoke-direct {v0}, LT;-><init>()V
-        invoke-virtual {v0}, LT;->start()V
-        :a
-        nop
-        goto :a",
-    thread: Some((
-        "1",
-        "
-        :a
-        nop
-        goto :a",
-    )),
-    ..PROGRAM
-};
-
-/// Main starts a thread, in eight steps, and prints in the second step then.
-const PRINTS: Program = Program {
-    registers: "1",
-    body: "
-        new-instance v0, LT;
-        invoke-direct {v0}, LT;-><init>()V
-        invoke-virtual {v0}, LT;->start()V
-        const/4 v0, 1
-        invoke-static {v0}, Ldvm/Console;->println(I)V
-        return-void",
-    thread: Some((
-        "1",
-        "
-        nop
-        return-void",
-    )),
-    ..PROGRAM
-};
-
-/// Main has 200 registers, starts a thread, in eight steps, and calls a method with 57 then.
-const DEEP: Program = Program {
-    registers: "200",
-    body: "
-        new-instance v0, LT;
-        invoke-direct {v0}, LT;-><init>()V
-        invoke-virtual {v0}, LT;->start()V
-        invoke-static {}, LMain;->wide()V
-        return-void",
-    members: "
-        .method static wide()V
-        .registers 57
-        return-void
-        .end method",
-    thread: Some((
-        "1",
-        "
-        nop
-        return-void",
-    )),
-    ..PROGRAM
-};
-
-/// A slice with no step.
+/// Main has started a thread; a slice of it has no step.
 const COMMIT: Commit = Commit {
-    program: FOUR,
     limits: AMPLE,
-    turns: &[],
+    turns: &[(0, 8)],
     thread: 0,
     most: (0, 0),
     ran: (0, 0),
     meanwhile: None,
     done: 0,
     ending: None,
-    end: DONE,
+    end: (Ending::Done, MAIN_FIRST),
 };
 
-/// Main does what it can, and a slice is as long as it is run.
-static COMMITS: [Commit; 13] = [
+/// Both may do two local steps and two others. A slice is as long as it is run.
+static COMMITS: [Commit; 8] = [
     COMMIT,
     Commit {
         most: (1, 0),
@@ -181,329 +105,155 @@ static COMMITS: [Commit; 13] = [
         done: 1,
         ..COMMIT
     },
-    Commit {
-        most: (2, 0),
-        ran: (2, 0),
-        done: 2,
-        ..COMMIT
-    },
-    Commit {
-        most: (3, 0),
-        ran: (3, 0),
-        done: 3,
-        ..COMMIT
-    },
-    // a return isn't local
-    Commit {
-        most: (4, 1),
-        ran: (3, 0),
-        done: 3,
-        ..COMMIT
-    },
+    // a step that prints isn't local
     Commit {
         most: (u32::MAX, u32::MAX),
-        ran: (3, 0),
-        done: 3,
-        ..COMMIT
-    },
-    Commit {
-        most: (1, 1),
-        ran: (1, 1),
+        ran: (2, 0),
         done: 2,
         ..COMMIT
     },
     Commit {
         most: (1, 256),
-        ran: (1, 2),
-        done: 3,
-        ..COMMIT
-    },
-    Commit {
-        turns: &[(0, 1)],
-        most: (256, 0),
-        ran: (2, 0),
+        ran: (1, 1),
         done: 2,
-        ..COMMIT
-    },
-    // a slice may have more steps than a turn of a run
-    Commit {
-        program: FOREVER,
-        limits: Limits {
-            budget: 2000,
-            ..AMPLE
-        },
-        most: (1000, 500),
-        ran: (1000, 500),
-        done: 1500,
-        end: SPENT,
-        ..COMMIT
-    },
-    // what it prints then
-    Commit {
-        program: BOTH,
-        turns: &[(0, 8)],
-        most: (9, 0),
-        ran: (2, 0),
-        done: 2,
-        end: Played::Ends(Ending::Done, "42\n-5\n#end done\n"),
         ..COMMIT
     },
     // another thread goes on meanwhile, and may return
     Commit {
-        program: BOTH,
-        turns: &[(0, 8)],
         most: (9, 0),
         ran: (2, 0),
         meanwhile: Some((1, 3)),
         done: 2,
-        end: Played::Ends(Ending::Done, "-5\n42\n#end done\n"),
+        end: (Ending::Done, "-5\n42\n#end done\n"),
         ..COMMIT
     },
     Commit {
-        program: BOTH,
         turns: &[(0, 11)],
         thread: 1,
         most: (1, 0),
         ran: (1, 0),
         meanwhile: Some((0, 1)),
         done: 1,
-        end: Played::Ends(Ending::Done, "42\n-5\n#end done\n"),
+        ..COMMIT
+    },
+    // as many steps are done as the budget has room for
+    Commit {
+        limits: Limits {
+            budget: 10,
+            ..AMPLE
+        },
+        most: (2, 0),
+        ran: (2, 0),
+        done: 2,
+        ending: Some(Ending::Steps),
+        end: (Ending::Steps, SPENT),
+        ..COMMIT
+    },
+    Commit {
+        limits: Limits { budget: 9, ..AMPLE },
+        most: (2, 0),
+        ran: (2, 0),
+        done: 1,
+        ending: Some(Ending::Steps),
+        end: (Ending::Steps, SPENT),
+        ..COMMIT
+    },
+];
+
+/// After eight steps twelve are left, and five are brought.
+const TWELVE: Commit = Commit {
+    limits: Limits {
+        budget: 20,
+        ..AMPLE
+    },
+    turns: &[(0, 8)],
+    thread: 1,
+    most: (5, 0),
+    ran: (5, 0),
+    meanwhile: None,
+    done: 5,
+    ending: Some(Ending::Steps),
+    end: (Ending::Steps, SPENT),
+};
+
+static WITHOUT_END: [Commit; 6] = [
+    // a slice may have more steps than a turn of a run
+    Commit {
+        limits: Limits {
+            budget: 2000,
+            ..AMPLE
+        },
+        thread: 0,
+        most: (1000, 500),
+        ran: (1000, 500),
+        done: 1500,
+        ending: None,
+        ..TWELVE
+    },
+    // after ten steps, 290 are left
+    Commit {
+        limits: Limits {
+            budget: 300,
+            ..AMPLE
+        },
+        turns: &[(0, 10)],
+        thread: 0,
+        most: (5000, 5000),
+        ran: (5000, 5000),
+        done: 290,
+        ..TWELVE
+    },
+    // another thread does some of the twelve that are left, six, seven, eight or all
+    Commit {
+        meanwhile: Some((0, 6)),
+        ending: None,
+        ..TWELVE
+    },
+    Commit {
+        meanwhile: Some((0, 7)),
+        ..TWELVE
+    },
+    Commit {
+        meanwhile: Some((0, 8)),
+        done: 4,
+        ..TWELVE
+    },
+    // an ending stands: nothing is done
+    Commit {
+        meanwhile: Some((0, 12)),
+        done: 0,
+        ..TWELVE
+    },
+];
+
+/// Main stops the run meanwhile; where it has room the slice goes on.
+static STOPPED: [Commit; 2] = [
+    Commit {
+        limits: Limits { heap: 67, ..AMPLE },
+        most: (1, 0),
+        ran: (1, 0),
+        thread: 1,
+        meanwhile: Some((0, 2)),
+        ending: Some(Ending::HeapFull(0)),
+        end: (Ending::HeapFull(0), "#end heap full 0\n"),
+        ..COMMIT
+    },
+    Commit {
+        limits: Limits { heap: 68, ..AMPLE },
+        most: (1, 0),
+        ran: (1, 0),
+        thread: 1,
+        meanwhile: Some((0, 2)),
+        done: 1,
+        end: (Ending::Done, "#end done\n"),
         ..COMMIT
     },
 ];
 
 #[test]
 fn slices_come_back(rt: HostRuntime) {
-    for row in &COMMITS {
-        assert_commit(&rt, rt.alloc(), row);
-    }
-}
-
-/// As many steps are done as the budget has room for.
-static BUDGETS: [Commit; 17] = [
-    Commit {
-        limits: Limits { budget: 4, ..AMPLE },
-        most: (3, 0),
-        ran: (3, 0),
-        done: 3,
-        ..COMMIT
-    },
-    Commit {
-        limits: Limits { budget: 3, ..AMPLE },
-        most: (3, 0),
-        ran: (3, 0),
-        done: 3,
-        ending: Some(Ending::Steps),
-        end: SPENT,
-        ..COMMIT
-    },
-    Commit {
-        limits: Limits { budget: 2, ..AMPLE },
-        most: (3, 0),
-        ran: (3, 0),
-        done: 2,
-        ending: Some(Ending::Steps),
-        end: SPENT,
-        ..COMMIT
-    },
-    Commit {
-        limits: Limits { budget: 1, ..AMPLE },
-        most: (1, 2),
-        ran: (1, 2),
-        done: 1,
-        ending: Some(Ending::Steps),
-        end: SPENT,
-        ..COMMIT
-    },
-    // after ten steps, 290 are left
-    Commit {
-        program: FOREVER,
-        limits: Limits {
-            budget: 300,
-            ..AMPLE
-        },
-        turns: &[(0, 10)],
-        most: (289, 0),
-        ran: (289, 0),
-        done: 289,
-        end: SPENT,
-        ..COMMIT
-    },
-    Commit {
-        program: FOREVER,
-        limits: Limits {
-            budget: 300,
-            ..AMPLE
-        },
-        turns: &[(0, 10)],
-        most: (290, 0),
-        ran: (290, 0),
-        done: 290,
-        ending: Some(Ending::Steps),
-        end: SPENT,
-        ..COMMIT
-    },
-    Commit {
-        program: FOREVER,
-        limits: Limits {
-            budget: 300,
-            ..AMPLE
-        },
-        turns: &[(0, 10)],
-        most: (290, 1),
-        ran: (290, 1),
-        done: 290,
-        ending: Some(Ending::Steps),
-        end: SPENT,
-        ..COMMIT
-    },
-    Commit {
-        program: FOREVER,
-        limits: Limits {
-            budget: 300,
-            ..AMPLE
-        },
-        turns: &[(0, 10)],
-        most: (5000, 5000),
-        ran: (5000, 5000),
-        done: 290,
-        ending: Some(Ending::Steps),
-        end: SPENT,
-        ..COMMIT
-    },
-    // another thread does some of the twelve that are left, six, seven, eight, eleven or all
-    Commit {
-        program: BOTH_FOREVER,
-        limits: Limits {
-            budget: 20,
-            ..AMPLE
-        },
-        turns: &[(0, 8)],
-        thread: 1,
-        most: (5, 0),
-        ran: (5, 0),
-        meanwhile: Some((0, 6)),
-        done: 5,
-        end: SPENT,
-        ..COMMIT
-    },
-    Commit {
-        program: BOTH_FOREVER,
-        limits: Limits {
-            budget: 20,
-            ..AMPLE
-        },
-        turns: &[(0, 8)],
-        thread: 1,
-        most: (5, 0),
-        ran: (5, 0),
-        meanwhile: Some((0, 7)),
-        done: 5,
-        ending: Some(Ending::Steps),
-        end: SPENT,
-    },
-    Commit {
-        program: BOTH_FOREVER,
-        limits: Limits {
-            budget: 20,
-            ..AMPLE
-        },
-        turns: &[(0, 8)],
-        thread: 1,
-        most: (5, 0),
-        ran: (5, 0),
-        meanwhile: Some((0, 8)),
-        done: 4,
-        ending: Some(Ending::Steps),
-        end: SPENT,
-    },
-    Commit {
-        program: BOTH_FOREVER,
-        limits: Limits {
-            budget: 20,
-            ..AMPLE
-        },
-        turns: &[(0, 8)],
-        thread: 1,
-        most: (5, 0),
-        ran: (5, 0),
-        meanwhile: Some((0, 11)),
-        done: 1,
-        ending: Some(Ending::Steps),
-        end: SPENT,
-    },
-    // an ending stands: nothing is done
-    Commit {
-        program: BOTH_FOREVER,
-        limits: Limits {
-            budget: 20,
-            ..AMPLE
-        },
-        turns: &[(0, 8)],
-        thread: 1,
-        most: (5, 0),
-        ran: (5, 0),
-        meanwhile: Some((0, 12)),
-        ending: Some(Ending::Steps),
-        end: SPENT,
-        ..COMMIT
-    },
-    Commit {
-        program: FILLS,
-        limits: Limits { heap: 67, ..AMPLE },
-        turns: &[(0, 8)],
-        thread: 1,
-        most: (1, 0),
-        ran: (1, 0),
-        meanwhile: Some((0, 2)),
-        ending: Some(Ending::HeapFull(0)),
-        end: Played::Ends(Ending::HeapFull(0), "#end heap full 0\n"),
-        ..COMMIT
-    },
-    Commit {
-        program: PRINTS,
-        limits: Limits { output: 1, ..AMPLE },
-        turns: &[(0, 8)],
-        thread: 1,
-        most: (1, 0),
-        ran: (1, 0),
-        meanwhile: Some((0, 2)),
-        ending: Some(Ending::Output),
-        end: Played::Ends(Ending::Output, "#end output\n"),
-        ..COMMIT
-    },
-    Commit {
-        program: DEEP,
-        limits: Limits {
-            words: 256,
-            ..AMPLE
-        },
-        turns: &[(0, 8)],
-        thread: 1,
-        most: (1, 0),
-        ran: (1, 0),
-        meanwhile: Some((0, 1)),
-        ending: Some(Ending::StackFull(0)),
-        end: Played::Ends(Ending::StackFull(0), "#end stack full 0\n"),
-        ..COMMIT
-    },
-    // where there is room, it goes on
-    Commit {
-        program: FILLS,
-        limits: Limits { heap: 68, ..AMPLE },
-        turns: &[(0, 8)],
-        thread: 1,
-        most: (1, 0),
-        ran: (1, 0),
-        meanwhile: Some((0, 2)),
-        done: 1,
-        ..COMMIT
-    },
-];
-
-#[test]
-fn budgets_and_endings_cut_slices(rt: HostRuntime) {
-    for row in &BUDGETS {
-        assert_commit(&rt, rt.alloc(), row);
-    }
+    let alloc = rt.alloc();
+    assert_commits(&rt, alloc, BOTH, COMMITS.as_slice());
+    assert_commits(&rt, alloc, FOREVER, WITHOUT_END.as_slice());
+    assert_commits(&rt, alloc, FILLS, STOPPED.as_slice());
 }

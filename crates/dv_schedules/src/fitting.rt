@@ -1,14 +1,12 @@
 // Slices that fit, and slices that don't.
 ghost use Rattle.std.specs.Prelude.{◌≡◌};
 
-use crate::lending::BOTH;
-use crate::playing::{Player, accepted, opened, stood};
-use crate::program::{AMPLE, Program};
-use crate::replays::FOREVER;
+use crate::playing::{Player, stood, verified};
 use crate::slices::{begun, brought, copy_of, image_of, lent, seen, top, turn, work};
-use crate::turns::FOUR;
+use crate::texts::{AMPLE, BOTH, FOREVER};
 use dv_defs::{Image, MethodId, Seq};
 use dv_local::Slice;
+use dv_rules::Verified;
 use dv_sound::SafeVm;
 use dv_words::Frame;
 use std::alloc::Global;
@@ -18,7 +16,6 @@ use std::process::Abort;
 /// fits, how many of its steps are done, and whether main may take a turn behind that.
 #[derive(Clone, Copy)]
 struct Stale {
-    program: Program,
     moved: u32,
     lent: bool,
     most: u32,
@@ -54,35 +51,40 @@ fn bring_stale<R: Abort>(rt: &R, alloc: Global, run: &mut SafeVm, row: &Stale) {
     assert_eq!(rt; next, Some(u32::from(row.home)));
 }
 
-fn assert_stale<R: Abort>(rt: &R, alloc: Global, row: &Stale) {
-    let verified = accepted(rt, alloc, &row.program);
+/// Main has started a thread.
+fn assert_stale<R: Abort>(rt: &R, alloc: Global, verified: &Verified, row: &Stale) {
     let player = Player {
-        verified: &verified,
+        verified,
         limits: AMPLE,
     };
-    let mut run = opened(rt, alloc, player);
+    let mut run = stood(rt, alloc, player, &[(0, 8)]);
     bring_stale(rt, alloc, &mut run, row);
+}
+
+fn assert_stales<R: Abort>(rt: &R, alloc: Global, text: &str, rows: &[Stale]) {
+    let verified = verified(rt, alloc, text);
+    for row in rows {
+        assert_stale(rt, alloc, &verified, row);
+    }
 }
 
 /// Main is at home, and no slice of it fits.
 const STALE: Stale = Stale {
-    program: FOUR,
     moved: 0,
     lent: false,
-    most: 3,
+    most: 2,
     fits: false,
     done: 0,
     home: true,
 };
 
-static STALES: [Stale; 8] = [
+static STALES: [Stale; 4] = [
     STALE,
-    Stale { moved: 1, ..STALE },
     // who did the steps isn't asked
     Stale {
         lent: true,
         fits: true,
-        done: 3,
+        done: 2,
         ..STALE
     },
     Stale {
@@ -98,16 +100,11 @@ static STALES: [Stale; 8] = [
         home: false,
         ..STALE
     },
+];
+
+/// After two steps of a loop it stands where it stood.
+static IN_A_LOOP: [Stale; 2] = [
     Stale {
-        most: 0,
-        moved: 1,
-        lent: true,
-        home: false,
-        ..STALE
-    },
-    // after two steps of a loop it stands where it stood
-    Stale {
-        program: FOREVER,
         moved: 2,
         lent: true,
         most: 5,
@@ -116,7 +113,6 @@ static STALES: [Stale; 8] = [
         home: true,
     },
     Stale {
-        program: FOREVER,
         moved: 3,
         lent: true,
         most: 5,
@@ -127,9 +123,9 @@ static STALES: [Stale; 8] = [
 
 #[test]
 fn slices_begin_where_their_threads_stand(rt: HostRuntime) {
-    for row in &STALES {
-        assert_stale(&rt, rt.alloc(), row);
-    }
+    let alloc = rt.alloc();
+    assert_stales(&rt, alloc, BOTH, STALES.as_slice());
+    assert_stales(&rt, alloc, FOREVER, IN_A_LOOP.as_slice());
 }
 
 /// What is put into a slice of a lent thread.
@@ -205,7 +201,7 @@ fn assert_fitting<R: Abort>(rt: &R, alloc: Global, run: &SafeVm, away: bool) {
 #[test]
 fn slices_fit_by_thread_and_frame(rt: HostRuntime) {
     let alloc = rt.alloc();
-    let verified = accepted(&rt, alloc, &BOTH);
+    let verified = verified(&rt, alloc, BOTH);
     let player = Player {
         verified: &verified,
         limits: AMPLE,

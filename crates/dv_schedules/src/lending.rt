@@ -1,11 +1,10 @@
 // Which threads are lent to workers, and where they stand then.
-use crate::locals::JOINS;
-use crate::playing::{Player, accepted, stood};
-use crate::program::{AMPLE, PROGRAM, Program, Turns};
+use crate::playing::{Player, stood, verified};
 use crate::slices::{seen, top};
-use crate::turns::FOUR;
+use crate::texts::{AMPLE, BOTH, FILLS, JOINS};
 use dv_defs::Limits;
 use dv_local::Slice;
+use dv_rules::Verified;
 use dv_sound::SafeVm;
 use std::alloc::Global;
 use std::process::Abort;
@@ -21,13 +20,13 @@ fn assert_away<R: Abort>(rt: &R, run: &mut SafeVm, thread: u32) {
 /// The address and the registers at which a thread stands.
 type Place = (u32, &'static [u32]);
 
-/// A thread that may be lent after these turns: where it stands, if it is lent, and which thread is ready then.
+/// A thread that may be lent after these turns: whether its next step is local, where it stands, if it is lent, and which thread is ready then.
 #[derive(Clone, Copy)]
 struct Lend {
-    program: Program,
     limits: Limits,
-    turns: Turns,
+    turns: &'static [(u32, u32)],
     thread: u32,
+    local: bool,
     place: Option<Place>,
     ready: Option<u32>,
 }
@@ -47,14 +46,14 @@ fn assert_first<R: Abort>(rt: &R, run: &SafeVm, slice: &Slice, row: &Lend, place
     );
 }
 
-fn assert_lend<R: Abort>(rt: &R, alloc: Global, row: &Lend) {
-    let verified = accepted(rt, alloc, &row.program);
+fn assert_lend<R: Abort>(rt: &R, alloc: Global, verified: &Verified, row: &Lend) {
     let player = Player {
-        verified: &verified,
+        verified,
         limits: row.limits,
     };
     let mut run = stood(rt, alloc, player, row.turns);
     let before = seen(rt, alloc, &run);
+    assert_eq!(rt; run.next_is_local(row.thread), row.local, "{:?}", row.turns);
     let lent = run.lend(row.thread).ok().expect(rt, "memory");
     match (lent, row.place) {
         (Some(slice), Some(place)) => {
@@ -68,281 +67,193 @@ fn assert_lend<R: Abort>(rt: &R, alloc: Global, row: &Lend) {
     assert_eq!(rt; run.ready(), row.ready, "{:?}", row.turns);
 }
 
-/// Main starts a thread, in eight steps; then both do two local steps, print what they come to, and return.
-pub const BOTH: Program = Program {
-    registers: "3",
-    body: "
-        new-instance v0, LT;
-        invoke-direct {v0}, LT;-><init>()V
-        invoke-virtual {v0}, LT;->start()V
-        const/4 v1, 6
-        mul-int/lit8 v2, v1, 7
-        invoke-static {v2}, Ldvm/Console;->println(I)V
-        return-void",
-    thread: Some((
-        "3",
-        "
-        const/4 v0, 5
-        neg-int v1, v0
-        invoke-static {v1}, Ldvm/Console;->println(I)V
-        return-void",
-    )),
-    ..PROGRAM
-};
+fn assert_lends<R: Abort>(rt: &R, alloc: Global, text: &str, rows: &[Lend]) {
+    let verified = verified(rt, alloc, text);
+    for row in rows {
+        assert_lend(rt, alloc, &verified, row);
+    }
+}
 
-/// Main starts a thread, in eight steps; its second step then lacks a word of 64.
-pub const FILLS: Program = Program {
-    registers: "1",
-    body: "
-        new-instance v0, LT;
-        invoke-direct {v0}, LT;-><init>()V
-        invoke-virtual {v0}, LT;->start()V
-        const/16 v0, 63
-        new-array v0, v0, [I
-        return-void",
-    thread: Some((
-        "1",
-        "
-        nop
-        return-void",
-    )),
-    ..PROGRAM
-};
-
-/// An exception that flies from where a local instruction stands, and is caught.
-const FLIES: Program = Program {
-    registers: "1",
-    body: "
-        const-class v0, LMain;
-        monitor-exit v0
-        :from
-        nop
-        :to
-        return-void
-        :caught
-        move-exception v0
-        return-void
-        .catchall {:from .. :to} :caught",
-    ..PROGRAM
-};
-
-/// A class's initialiser, and a method that main calls.
-const CALLS: Program = Program {
-    registers: "1",
-    body: "
-        const/4 v0, 5
-        invoke-static {v0}, LMain;->negated(I)I
-        move-result v0
-        return-void",
-    members: "
-        .method static negated(I)I
-        .registers 2
-        neg-int v0, p0
-        return v0
-        .end method
-        .method static <clinit>()V
-        .registers 2
-        const/4 v0, 7
-        return-void
-        .end method",
-    ..PROGRAM
-};
-
-/// Main, at its first step.
+/// Main, when it has started a thread, whose object is the third that is made.
 const LEND: Lend = Lend {
-    program: FOUR,
     limits: AMPLE,
-    turns: &[],
+    turns: &[(0, 8)],
     thread: 0,
-    place: Some((0, &[0, 0, 0])),
-    ready: None,
+    local: true,
+    place: Some((8, &[3, 0, 0])),
+    ready: Some(1),
 };
 
-static LENDS: [Lend; 27] = [
+/// A thread that isn't lent.
+const KEPT: Lend = Lend {
+    limits: AMPLE,
+    turns: &[(0, 8)],
+    thread: 0,
+    local: false,
+    place: None,
+    ready: Some(0),
+};
+
+/// Of two threads each may be lent.
+static OF_TWO: [Lend; 10] = [
     LEND,
     Lend {
-        turns: &[(0, 1)],
-        place: Some((1, &[1, 0, 0])),
-        ..LEND
-    },
-    Lend {
-        turns: &[(0, 2)],
-        place: Some((2, &[1, 2, 0])),
-        ..LEND
-    },
-    // a return isn't local, and then the thread has returned
-    Lend {
-        turns: &[(0, 3)],
-        place: None,
-        ready: Some(0),
-        ..LEND
-    },
-    Lend {
-        turns: &[(0, 4)],
-        place: None,
-        ..LEND
-    },
-    // threads that aren't there
-    Lend {
-        thread: 1,
-        place: None,
-        ready: Some(0),
-        ..LEND
-    },
-    Lend {
-        thread: 63,
-        place: None,
-        ready: Some(0),
-        ..LEND
-    },
-    Lend {
-        thread: u32::MAX,
-        place: None,
-        ready: Some(0),
-        ..LEND
-    },
-    // while steps are left
-    Lend {
-        limits: Limits { budget: 3, ..AMPLE },
-        turns: &[(0, 2)],
-        place: Some((2, &[1, 2, 0])),
-        ..LEND
-    },
-    Lend {
-        limits: Limits { budget: 2, ..AMPLE },
-        turns: &[(0, 2)],
-        place: None,
-        ready: Some(0),
-        ..LEND
-    },
-    Lend {
-        limits: Limits { budget: 0, ..AMPLE },
-        place: None,
-        ready: Some(0),
-        ..LEND
-    },
-    // of two threads, whose object is the third that is made, each may be lent
-    Lend {
-        program: BOTH,
-        turns: &[(0, 8)],
-        place: Some((8, &[3, 0, 0])),
-        ready: Some(1),
-        ..LEND
-    },
-    Lend {
-        program: BOTH,
-        turns: &[(0, 8)],
         thread: 1,
         place: Some((0, &[0, 0, 3])),
         ready: Some(0),
         ..LEND
     },
     Lend {
-        program: BOTH,
         turns: &[(0, 8), (1, 1), (0, 1)],
         thread: 1,
         place: Some((1, &[5, 0, 3])),
         ready: Some(0),
         ..LEND
     },
+    // the other one has returned
     Lend {
-        program: BOTH,
         turns: &[(0, 8), (1, 4), (0, 1)],
         place: Some((9, &[3, 6, 0])),
         ready: None,
         ..LEND
     },
+    // main is where it prints, and then it has returned
     Lend {
-        program: BOTH,
-        turns: &[(0, 7)],
-        thread: 1,
-        place: None,
-        ready: Some(0),
-        ..LEND
+        turns: &[(0, 10)],
+        ..KEPT
     },
-    // a thread that joins another one is held up
     Lend {
-        program: JOINS,
-        turns: &[(0, 8)],
-        place: None,
+        turns: &[(0, 12)],
         ready: Some(1),
+        ..KEPT
+    },
+    // threads that aren't there
+    Lend { thread: 2, ..KEPT },
+    Lend {
+        thread: u32::MAX,
+        ..KEPT
+    },
+    // while steps are left
+    Lend {
+        limits: Limits { budget: 9, ..AMPLE },
         ..LEND
     },
     Lend {
-        program: JOINS,
-        turns: &[(0, 8)],
-        thread: 1,
-        place: Some((0, &[3])),
-        ..LEND
+        limits: Limits { budget: 8, ..AMPLE },
+        local: true,
+        ..KEPT
     },
-    // another thread stopped the run
+];
+
+/// Main is held up.
+static JOINED: [Lend; 1] = [Lend {
+    ready: Some(1),
+    ..KEPT
+}];
+
+/// Another thread stopped the run.
+static STOPPED: [Lend; 2] = [
     Lend {
-        program: FILLS,
         limits: Limits { heap: 68, ..AMPLE },
         turns: &[(0, 10)],
         thread: 1,
+        local: true,
         place: Some((0, &[3])),
         ready: Some(0),
     },
     Lend {
-        program: FILLS,
         limits: Limits { heap: 67, ..AMPLE },
         turns: &[(0, 10)],
         thread: 1,
-        place: None,
-        ready: Some(0),
+        local: true,
+        ..KEPT
     },
-    // an exception is in flight, and then caught
+];
+
+/// An exception that flies from where a local instruction stands, and is caught.
+const FLIES: &str = "
+.class LMain;
+.super Ljava/lang/Object;
+.method static main()V
+.registers 1
+const-class v0, LMain;
+monitor-exit v0
+:from
+nop
+:to
+return-void
+:caught
+move-exception v0
+return-void
+.catchall {:from .. :to} :caught
+.end method
+";
+
+static FLYING: [Lend; 2] = [
     Lend {
-        program: FLIES,
         turns: &[(0, 2)],
-        place: None,
-        ready: Some(0),
-        ..LEND
+        ..KEPT
     },
     Lend {
-        program: FLIES,
         turns: &[(0, 3)],
         place: Some((5, &[3])),
+        ready: None,
         ..LEND
     },
-    // the record of main's class is on top, and then its initialiser
+];
+
+/// A class's initialiser, and a method that main calls.
+const CALLS: &str = "
+.class LMain;
+.super Ljava/lang/Object;
+.method static negated(I)I
+.registers 2
+neg-int v0, p0
+return v0
+.end method
+.method static <clinit>()V
+.registers 2
+const/4 v0, 7
+return-void
+.end method
+.method static main()V
+.registers 1
+const/4 v0, 5
+invoke-static {v0}, LMain;->negated(I)I
+move-result v0
+return-void
+.end method
+";
+
+/// The record of main's class is on top, and then its initialiser; a method's argument is in its last register; then the result is kept for main.
+static CALLED: [Lend; 4] = [
+    Lend { turns: &[], ..KEPT },
     Lend {
-        program: CALLS,
-        place: None,
-        ready: Some(0),
-        ..LEND
-    },
-    Lend {
-        program: CALLS,
         turns: &[(0, 1)],
         place: Some((0, &[0, 0])),
+        ready: None,
         ..LEND
     },
     Lend {
-        program: CALLS,
-        turns: &[(0, 4)],
-        place: Some((0, &[0])),
-        ..LEND
-    },
-    // a method's argument is in its last register; then the result is kept for main
-    Lend {
-        program: CALLS,
         turns: &[(0, 6)],
         place: Some((0, &[0, 5])),
+        ready: None,
         ..LEND
     },
     Lend {
-        program: CALLS,
         turns: &[(0, 8)],
         place: Some((4, &[5])),
+        ready: None,
         ..LEND
     },
 ];
 
 #[test]
 fn threads_are_lent_where_they_stand(rt: HostRuntime) {
-    for row in &LENDS {
-        assert_lend(&rt, rt.alloc(), row);
-    }
+    let alloc = rt.alloc();
+    assert_lends(&rt, alloc, BOTH, OF_TWO.as_slice());
+    assert_lends(&rt, alloc, JOINS, JOINED.as_slice());
+    assert_lends(&rt, alloc, FILLS, STOPPED.as_slice());
+    assert_lends(&rt, alloc, FLIES, FLYING.as_slice());
+    assert_lends(&rt, alloc, CALLS, CALLED.as_slice());
 }

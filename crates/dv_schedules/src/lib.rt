@@ -1,34 +1,24 @@
-//! Whole programs are run within limits, with seeds and without, replayed and cut into turns: tests that cross crates.
+//! Whole programs are run by turns and in slices, replayed and brought to a host's limits: tests that cross crates.
 #![tactic(auto)]
 
-#[cfg(test)]
-mod boundaries;
 #[cfg(test)]
 mod committing;
 #[cfg(test)]
 mod fitting;
 #[cfg(test)]
-mod initialising;
-#[cfg(test)]
 mod lending;
 #[cfg(test)]
-mod locals;
+mod limits;
 #[cfg(test)]
 mod pairs;
 #[cfg(test)]
 mod playing;
 #[cfg(test)]
-mod program;
-#[cfg(test)]
 mod replays;
-#[cfg(test)]
-mod seeds;
 #[cfg(test)]
 mod slices;
 #[cfg(test)]
 mod texts;
-#[cfg(test)]
-mod threads;
 #[cfg(test)]
 mod turns;
 #[cfg(test)]

@@ -2,20 +2,18 @@
 ghost use Rattle.std.specs.Prelude.{◌≡◌};
 ghost use Rattle.dv_sound.specs.Lending.{IsMade};
 
-use crate::committing::{BOTH_FOREVER, assert_end};
-use crate::lending::BOTH;
-use crate::playing::{Player, accepted, stood};
-use crate::program::{AMPLE, Played, Program};
-use crate::replays::SPENT;
+use crate::playing::{Player, assert_end, stood, verified};
 use crate::slices::{assert_alike, brought, image_of, lent, work, worker_of};
+use crate::texts::{AMPLE, BOTH, FOREVER, MAIN_FIRST, SPENT};
 use dv_defs::{Ending, Image, Limits};
 use dv_local::Slice;
+use dv_rules::Verified;
 use dv_sound::SafeVm;
 use std::alloc::Global;
 use std::process::Abort;
 
 /// When main has started a thread both are lent at once, and so many local steps of each are run. Their slices come back in this order, and so
-/// many of their steps are done, in that order; how the run stands then.
+/// many of their steps are done, in that order; how the run stands then, and how it ends when it is run on.
 #[derive(Clone, Copy)]
 struct Pair {
     limits: Limits,
@@ -23,6 +21,7 @@ struct Pair {
     order: (u32, u32),
     done: (u32, u32),
     ending: Option<Ending>,
+    end: (Ending, &'static str),
 }
 
 /// Two slices come back, one after the other.
@@ -72,10 +71,9 @@ fn take_pair<R: Abort>(rt: &R, run: &mut SafeVm, pair: &Pair) {
     assert_eq!(rt; done, Some(pair.done.1));
 }
 
-fn assert_pair<R: Abort>(rt: &R, alloc: Global, program: &Program, pair: &Pair, end: Played<'_>) {
-    let verified = accepted(rt, alloc, program);
+fn assert_pair<R: Abort>(rt: &R, alloc: Global, verified: &Verified, pair: &Pair) {
     let player = Player {
-        verified: &verified,
+        verified,
         limits: pair.limits,
     };
     let mut run = stood(rt, alloc, player, &[(0, 8)]);
@@ -84,7 +82,14 @@ fn assert_pair<R: Abort>(rt: &R, alloc: Global, program: &Program, pair: &Pair, 
     take_pair(rt, &mut like, pair);
     assert_alike(rt, alloc, &run, &like);
     assert_eq!(rt; run.ending(), pair.ending, "{:?}", pair.order);
-    assert_end(rt, alloc, player, run, end);
+    assert_end(rt, alloc, player, run, pair.end.0, pair.end.1);
+}
+
+fn assert_pairs<R: Abort>(rt: &R, alloc: Global, text: &str, pairs: &[Pair]) {
+    let verified = verified(rt, alloc, text);
+    for pair in pairs {
+        assert_pair(rt, alloc, &verified, pair);
+    }
 }
 
 /// Main first, with all that both do.
@@ -94,20 +99,12 @@ const PAIR: Pair = Pair {
     order: (0, 1),
     done: (2, 2),
     ending: None,
+    end: (Ending::Done, MAIN_FIRST),
 };
 
 /// Both may do all that they can.
-static PAIRS: [Pair; 5] = [
+static PAIRS: [Pair; 3] = [
     PAIR,
-    Pair {
-        order: (1, 0),
-        ..PAIR
-    },
-    Pair {
-        most: (1, 2),
-        done: (1, 2),
-        ..PAIR
-    },
     Pair {
         most: (1, 2),
         order: (1, 0),
@@ -121,107 +118,61 @@ static PAIRS: [Pair; 5] = [
     },
 ];
 
-/// After eight steps the budget has room for fourteen, one more, one less, those of one thread, and fewer.
-static PAIRS_CUT: [Pair; 9] = [
-    Pair {
-        limits: Limits {
-            budget: 23,
-            ..AMPLE
-        },
-        most: (5, 9),
-        done: (5, 9),
-        ..PAIR
+/// After eight steps the budget has room for fourteen.
+const CUT: Pair = Pair {
+    limits: Limits {
+        budget: 22,
+        ..AMPLE
     },
-    Pair {
-        limits: Limits {
-            budget: 22,
-            ..AMPLE
-        },
-        most: (5, 9),
-        done: (5, 9),
-        ending: Some(Ending::Steps),
-        ..PAIR
-    },
-    Pair {
-        limits: Limits {
-            budget: 22,
-            ..AMPLE
-        },
-        most: (5, 9),
-        order: (1, 0),
-        done: (9, 5),
-        ending: Some(Ending::Steps),
-    },
+    most: (5, 9),
+    order: (0, 1),
+    done: (5, 9),
+    ending: Some(Ending::Steps),
+    end: (Ending::Steps, SPENT),
+};
+
+/// Or for one less, those of one thread, and fewer.
+static PAIRS_CUT: [Pair; 5] = [
+    CUT,
     Pair {
         limits: Limits {
             budget: 21,
             ..AMPLE
         },
-        most: (5, 9),
         done: (5, 8),
-        ending: Some(Ending::Steps),
-        ..PAIR
+        ..CUT
     },
     Pair {
         limits: Limits {
             budget: 21,
             ..AMPLE
         },
-        most: (5, 9),
         order: (1, 0),
         done: (9, 4),
-        ending: Some(Ending::Steps),
-    },
-    Pair {
-        limits: Limits {
-            budget: 17,
-            ..AMPLE
-        },
-        most: (5, 9),
-        order: (1, 0),
-        done: (9, 0),
-        ending: Some(Ending::Steps),
+        ..CUT
     },
     Pair {
         limits: Limits {
             budget: 13,
             ..AMPLE
         },
-        most: (5, 9),
         done: (5, 0),
-        ending: Some(Ending::Steps),
-        ..PAIR
+        ..CUT
     },
     Pair {
         limits: Limits {
             budget: 11,
             ..AMPLE
         },
-        most: (5, 9),
-        done: (3, 0),
-        ending: Some(Ending::Steps),
-        ..PAIR
-    },
-    Pair {
-        limits: Limits {
-            budget: 11,
-            ..AMPLE
-        },
-        most: (5, 9),
         order: (1, 0),
         done: (3, 0),
-        ending: Some(Ending::Steps),
+        ..CUT
     },
 ];
 
 #[test]
 fn two_threads_are_lent_at_once(rt: HostRuntime) {
     let alloc = rt.alloc();
-    let printed = Played::Ends(Ending::Done, "42\n-5\n#end done\n");
-    for pair in &PAIRS {
-        assert_pair(&rt, alloc, &BOTH, pair, printed);
-    }
-    for pair in &PAIRS_CUT {
-        assert_pair(&rt, alloc, &BOTH_FOREVER, pair, SPENT);
-    }
+    assert_pairs(&rt, alloc, BOTH, PAIRS.as_slice());
+    assert_pairs(&rt, alloc, FOREVER, PAIRS_CUT.as_slice());
 }

@@ -1,241 +1,114 @@
-// Schedules that are cut, lengthened, reordered, or of threads that aren't there.
-use crate::playing::{Player, accepted, assert_played, assert_replays};
-use crate::program::{AMPLE, PROGRAM, Played, Program, Replay};
-use dv_defs::{Ending, Entry, Limits};
+// Schedules with numbers that no line of a text has: no steps, more than 256, and threads and workers of any number.
+use crate::playing::{Player, replayed, verified};
+use crate::texts::{AMPLE, BOTH, FOREVER};
+use dv_defs::{Entry, Limits};
+use dv_rules::Verified;
+use dv_sound::ReplayError;
+use std::alloc::Global;
+use std::process::Abort;
 
-/// Main starts a thread, in eight steps, prints 2, and returns, in three; the thread prints 1 and returns, in three.
-const PAIR: Program = Program {
-    registers: "1",
-    body: "
-        new-instance v0, LT;
-        invoke-direct {v0}, LT;-><init>()V
-        invoke-virtual {v0}, LT;->start()V
-        const/4 v0, 2
-        invoke-static {v0}, Ldvm/Console;->println(I)V
-        return-void",
-    thread: Some((
-        "2",
-        "
-        const/4 v0, 1
-        invoke-static {v0}, Ldvm/Console;->println(I)V
-        return-void",
-    )),
-    ..PROGRAM
-};
-
-const TWO_ONE: Played<'static> = Played::Ends(Ending::Done, "2\n1\n#end done\n");
-
-const ONE_TWO: Played<'static> = Played::Ends(Ending::Done, "1\n2\n#end done\n");
-
-static ORDERS: [Replay; 7] = [
-    (&[(0, 11), (1, 3)], TWO_ONE),
-    (&[(0, 8), (1, 3), (0, 3)], ONE_TWO),
-    (&[(0, 9), (1, 2), (0, 2), (1, 1)], ONE_TWO),
-    (&[(0, 8), (1, 1), (0, 2), (1, 2), (0, 1)], TWO_ONE),
-    // entries may be cut into smaller ones
-    (
-        &[
-            (0, 1),
-            (0, 1),
-            (0, 6),
-            (0, 2),
-            (1, 1),
-            (0, 1),
-            (1, 1),
-            (1, 1),
-        ],
-        TWO_ONE,
-    ),
-    // the first entry may end amid a call, the thread of the second isn't there then
-    (&[(0, 4), (1, 1)], Played::NotRunnable(1)),
-    (&[(0, 7), (1, 3), (0, 4)], Played::NotRunnable(1)),
-];
-
-#[test]
-fn schedules_tell_the_order(rt: HostRuntime) {
-    assert_replays(&rt, rt.alloc(), &PAIR, AMPLE, ORDERS.as_slice());
+/// At which entry a schedule is refused, or with how many it stops early.
+#[derive(Clone, Copy)]
+enum Refusal {
+    NotRunnable(u32),
+    Long(u32),
+    Short(u32),
 }
 
-/// The same three entries in each order.
-static REORDERED: [Replay; 6] = [
-    (&[(0, 8), (1, 3), (0, 3)], ONE_TWO),
-    (&[(0, 8), (0, 3), (1, 3)], TWO_ONE),
-    (&[(0, 3), (0, 8), (1, 3)], TWO_ONE),
-    (&[(0, 3), (1, 3), (0, 8)], Played::NotRunnable(1)),
-    (&[(1, 3), (0, 8), (0, 3)], Played::NotRunnable(0)),
-    (&[(1, 3), (0, 3), (0, 8)], Played::NotRunnable(0)),
-];
-
-#[test]
-fn entries_may_change_places(rt: HostRuntime) {
-    assert_replays(&rt, rt.alloc(), &PAIR, AMPLE, REORDERED.as_slice());
-}
-
-static CUT: [Replay; 6] = [
-    (&[], Played::Short(0)),
-    (&[(0, 1)], Played::Short(1)),
-    (&[(0, 11)], Played::Short(1)),
-    (&[(0, 11), (1, 2)], Played::Short(2)),
-    (&[(0, 10), (1, 3)], Played::Short(2)),
-    (&[(0, 8), (1, 3), (0, 2)], Played::Short(3)),
-];
-
-#[test]
-fn schedules_stop_before_the_end(rt: HostRuntime) {
-    assert_replays(&rt, rt.alloc(), &PAIR, AMPLE, CUT.as_slice());
-}
-
-static LONG: [Replay; 8] = [
-    (&[(0, 11), (1, 4)], Played::Long(1)),
-    (&[(0, 11), (1, u32::MAX)], Played::Long(1)),
-    (&[(0, 8), (1, 3), (0, 4)], Played::Long(2)),
-    (&[(0, 11), (1, 3), (0, 1)], Played::Long(2)),
-    (&[(0, 11), (1, 3), (0, 0), (1, 1)], Played::Long(3)),
-    // the ending goes before the thread
-    (&[(0, 11), (1, 3), (63, 1)], Played::Long(2)),
-    // while the other lives, one that has ended isn't runnable
-    (&[(0, 12), (1, 3)], Played::NotRunnable(0)),
-    (&[(0, u32::MAX)], Played::NotRunnable(0)),
-];
-
-#[test]
-fn schedules_go_on_past_the_end(rt: HostRuntime) {
-    assert_replays(&rt, rt.alloc(), &PAIR, AMPLE, LONG.as_slice());
-}
-
-static STRANGERS: [Replay; 8] = [
-    (&[(1, 3), (0, 11)], Played::NotRunnable(0)),
-    (&[(63, 1)], Played::NotRunnable(0)),
-    (&[(63, 11), (1, 3)], Played::NotRunnable(0)),
-    (&[(64, 1)], Played::NotRunnable(0)),
-    (&[(u32::MAX, 1)], Played::NotRunnable(0)),
-    (&[(0, 11), (2, 1)], Played::NotRunnable(1)),
-    (&[(0, 11), (63, 3)], Played::NotRunnable(1)),
-    (&[(0, 11), (1, 2), (0, 1)], Played::NotRunnable(2)),
-];
-
-#[test]
-fn threads_may_be_missing(rt: HostRuntime) {
-    assert_replays(&rt, rt.alloc(), &PAIR, AMPLE, STRANGERS.as_slice());
-}
-
-/// An entry of no steps asks for nothing: not for its thread, nor that the run goes on.
-static IDLE: [Replay; 7] = [
-    (&[(0, 0), (0, 11), (0, 0), (1, 3)], TWO_ONE),
-    (&[(63, 0), (0, 11), (2, 0), (1, 3)], TWO_ONE),
-    (&[(0, 8), (1, 0), (1, 3), (1, 0), (0, 3)], ONE_TWO),
-    (&[(0, 11), (1, 3), (0, 0)], TWO_ONE),
-    (&[(0, 11), (1, 3), (63, 0), (u32::MAX, 0)], TWO_ONE),
-    (&[(63, 0)], Played::Short(1)),
-    (&[(0, 0), (1, 0), (0, 11)], Played::Short(3)),
-];
-
-#[test]
-fn entries_may_have_no_steps(rt: HostRuntime) {
-    assert_replays(&rt, rt.alloc(), &PAIR, AMPLE, IDLE.as_slice());
-}
-
-/// The schedule of the pair by other workers: who does a step plays no part.
-const WORKERS: [Entry; 3] = [
-    Entry {
-        worker: 7,
-        thread: 0,
-        steps: 8,
-    },
-    Entry {
-        worker: u32::MAX,
-        thread: 1,
-        steps: 3,
-    },
-    Entry {
-        worker: 63,
-        thread: 0,
-        steps: 3,
-    },
-];
-
-#[test]
-fn entries_keep_their_workers(rt: HostRuntime) {
-    let verified = accepted(&rt, rt.alloc(), &PAIR);
-    let player = Player {
-        verified: &verified,
-        limits: AMPLE,
-    };
-    assert_played(&rt, rt.alloc(), player, &WORKERS, ONE_TWO);
-}
-
-/// Local steps without an end.
-pub const FOREVER: Program = Program {
-    body: "
-        :a
-        nop
-        goto :a",
-    ..PROGRAM
-};
-
-pub const SPENT: Played<'static> = Played::Ends(Ending::Steps, "#end steps\n");
-
-fn budget(steps: u64) -> Limits {
-    Limits {
-        budget: steps,
-        ..AMPLE
+fn error_of(refusal: Refusal) -> ReplayError {
+    match refusal {
+        Refusal::NotRunnable(entry) => ReplayError::NotRunnable(entry),
+        Refusal::Long(entry) => ReplayError::Long(entry),
+        Refusal::Short(entries) => ReplayError::Short(entries),
     }
 }
 
-static ONE_STEP: [Replay; 6] = [
-    (&[(0, 1)], SPENT),
-    (&[(0, 1), (0, 0)], SPENT),
-    (&[(0, 2)], Played::Long(0)),
-    (&[(0, u32::MAX)], Played::Long(0)),
-    (&[(0, 1), (0, 1)], Played::Long(1)),
-    (&[(0, 0)], Played::Short(1)),
+/// Entries, of a thread and its steps, and why they are refused, if they are.
+type Replay = (&'static [(u32, u32)], Option<Refusal>);
+
+/// The schedule of these entries, whose workers count down from the highest number.
+fn schedule_of<R: Abort>(rt: &R, alloc: Global, entries: &[(u32, u32)]) -> Vec<Entry> {
+    let mut schedule = Vec::new(alloc);
+    let mut worker = u32::MAX;
+    for (thread, steps) in entries {
+        let entry = Entry {
+            worker,
+            thread: *thread,
+            steps: *steps,
+        };
+        assert!(rt; schedule.push(entry).is_ok());
+        worker = worker.saturating_sub(1);
+    }
+    schedule
+}
+
+/// A schedule leads to an ending, and is the log of the replay; or it is refused.
+fn assert_replay<R: Abort>(rt: &R, alloc: Global, player: Player<'_>, row: &Replay) {
+    let (entries, refused) = row;
+    let schedule = schedule_of(rt, alloc, entries);
+    match replayed(rt, alloc, player, &schedule) {
+        Ok(run) => {
+            assert!(rt; refused.is_none(), "{entries:?}");
+            assert!(rt; run.ending().is_some(), "{entries:?}");
+            assert!(rt; run.log() == schedule.as_slice(), "{entries:?}");
+        }
+        Err(error) => match *refused {
+            Some(refusal) => assert_eq!(rt; error, error_of(refusal), "{entries:?}"),
+            None => panic!(rt; "{error:?}: {entries:?}"),
+        },
+    }
+}
+
+fn assert_replays<R: Abort>(
+    rt: &R,
+    alloc: Global,
+    verified: &Verified,
+    budget: u64,
+    rows: &[Replay],
+) {
+    let limits = Limits { budget, ..AMPLE };
+    for row in rows {
+        assert_replay(rt, alloc, Player { verified, limits }, row);
+    }
+}
+
+/// Main does twelve steps and starts a thread, which does four. An entry of no steps asks for nothing: not for its thread, nor that the run
+/// goes on.
+static ANY_NUMBERS: [Replay; 11] = [
+    (&[(0, 12), (1, 4)], None),
+    (&[(0, 0), (0, 12), (0, 0), (1, 4), (0, 0)], None),
+    (&[(63, 0), (0, 12), (2, 0), (1, 4), (u32::MAX, 0)], None),
+    (&[(63, 0)], Some(Refusal::Short(1))),
+    (&[(0, 0), (1, 0), (0, 12)], Some(Refusal::Short(3))),
+    (&[(0, 12), (1, 4), (0, 0), (1, 1)], Some(Refusal::Long(3))),
+    (&[(64, 1)], Some(Refusal::NotRunnable(0))),
+    (&[(u32::MAX, 1)], Some(Refusal::NotRunnable(0))),
+    (&[(0, u32::MAX)], Some(Refusal::NotRunnable(0))),
+    (&[(0, 12), (1, u32::MAX)], Some(Refusal::Long(1))),
+    // the ending goes before the thread
+    (&[(0, 12), (1, 4), (u32::MAX, 1)], Some(Refusal::Long(2))),
 ];
 
 /// An entry may have more steps than a turn.
-static MANY_STEPS: [Replay; 4] = [
-    (&[(0, 300)], SPENT),
-    (&[(0, 301)], Played::Long(0)),
-    (&[(0, 299)], Played::Short(1)),
-    (&[(0, 257), (0, 44)], Played::Long(1)),
+static MANY_STEPS: [Replay; 3] = [
+    (&[(0, 300)], None),
+    (&[(0, 301)], Some(Refusal::Long(0))),
+    (&[(0, 299)], Some(Refusal::Short(1))),
 ];
 
 /// As the run begins, its budget of no steps is spent.
 static NO_STEPS: [Replay; 3] = [
-    (&[], SPENT),
-    (&[(0, 0)], SPENT),
-    (&[(0, 1)], Played::Long(0)),
+    (&[], None),
+    (&[(0, 0)], None),
+    (&[(0, 1)], Some(Refusal::Long(0))),
 ];
 
 #[test]
-fn replays_have_budgets(rt: HostRuntime) {
+fn entries_may_have_any_numbers(rt: HostRuntime) {
     let alloc = rt.alloc();
-    assert_replays(&rt, alloc, &FOREVER, budget(1), ONE_STEP.as_slice());
-    assert_replays(&rt, alloc, &FOREVER, budget(300), MANY_STEPS.as_slice());
-    assert_replays(&rt, alloc, &FOREVER, budget(0), NO_STEPS.as_slice());
-}
-
-/// The second step lacks a word.
-const FULL: Program = Program {
-    registers: "1",
-    body: "
-        const/16 v0, 63
-        new-array v0, v0, [I
-        return-void",
-    ..PROGRAM
-};
-
-static STOPPED: [Replay; 4] = [
-    (
-        &[(0, 2)],
-        Played::Ends(Ending::HeapFull(0), "#end heap full 0\n"),
-    ),
-    (&[(0, 1)], Played::Short(1)),
-    (&[(0, 3)], Played::Long(0)),
-    (&[(0, 2), (0, 1)], Played::Long(1)),
-];
-
-#[test]
-fn replays_may_be_stopped(rt: HostRuntime) {
-    let limits = Limits { heap: 64, ..AMPLE };
-    assert_replays(&rt, rt.alloc(), &FULL, limits, STOPPED.as_slice());
+    let both = verified(&rt, alloc, BOTH);
+    assert_replays(&rt, alloc, &both, 1_000_000, ANY_NUMBERS.as_slice());
+    let forever = verified(&rt, alloc, FOREVER);
+    assert_replays(&rt, alloc, &forever, 300, MANY_STEPS.as_slice());
+    assert_replays(&rt, alloc, &forever, 0, NO_STEPS.as_slice());
 }

@@ -2,11 +2,9 @@
 ghost use Rattle.std.specs.Prelude.{◌≡◌};
 ghost use Rattle.dv_sound.specs.Lending.{IsMade};
 
-use crate::playing::{Player, accepted, assert_ended, assert_played, opened, stood, verified};
-use crate::program::{AMPLE, PROGRAM, Played, Program};
-use crate::replays::SPENT;
+use crate::playing::{Player, assert_end, opened, stood, verified};
 use crate::slices::{brought, image_of, lent, work, worker_of};
-use crate::texts::{PRODUCER, RACE, TEN};
+use crate::texts::{AMPLE, SPENT};
 use dv_defs::{Ending, Image, Limits};
 use dv_local::Slice;
 use dv_sound::{Refused, SafeVm};
@@ -49,27 +47,63 @@ fn go_all<R: Abort>(rt: &R, run: &mut SafeVm, most: u32, lowest: bool) {
     }
 }
 
-/// A text is run in slices, and ends so; its log leads there again.
-fn assert_sliced<R: Abort>(rt: &R, alloc: Global, text: &str, end: &str) {
-    let verified = verified(rt, alloc, text);
+/// Main starts a thread and waits, both with local steps between; the thread notifies it, and main prints.
+const WAITS: &str = "
+.class LT;
+.super Ljava/lang/Thread;
+.method constructor <init>()V
+.registers 1
+invoke-direct {p0}, Ljava/lang/Thread;-><init>()V
+return-void
+.end method
+.method run()V
+.registers 2
+const-class v0, LMain;
+nop
+monitor-enter v0
+nop
+nop
+invoke-virtual {v0}, Ljava/lang/Object;->notify()V
+nop
+nop
+nop
+monitor-exit v0
+return-void
+.end method
+.class LMain;
+.super Ljava/lang/Object;
+.method static main()V
+.registers 3
+const-class v0, LMain;
+new-instance v1, LT;
+invoke-direct {v1}, LT;-><init>()V
+monitor-enter v0
+invoke-virtual {v1}, LT;->start()V
+const/4 v2, 3
+nop
+mul-int/lit8 v2, v2, 7
+invoke-virtual {v0}, Ljava/lang/Object;->wait()V
+nop
+monitor-exit v0
+invoke-static {v2}, Ldvm/Console;->println(I)V
+return-void
+.end method
+";
+
+#[test]
+fn programs_run_in_slices(rt: HostRuntime) {
+    let alloc = rt.alloc();
+    let verified = verified(&rt, alloc, WAITS);
     let player = Player {
         verified: &verified,
         limits: AMPLE,
     };
     for (most, lowest) in [(1, true), (2, false), (3, true), (256, false)] {
-        let mut run = opened(rt, alloc, player);
-        go_all(rt, &mut run, most, lowest);
-        assert_ended(rt, alloc, &run, Ending::Done, end);
-        let log = run.into_log();
-        assert_played(rt, alloc, player, &log, Played::Ends(Ending::Done, end));
+        let mut run = opened(&rt, alloc, player);
+        go_all(&rt, &mut run, most, lowest);
+        assert!(&rt; run.ending().is_some());
+        assert_end(&rt, alloc, player, run, Ending::Done, "21\n#end done\n");
     }
-}
-
-#[test]
-fn programs_run_in_slices(rt: HostRuntime) {
-    let alloc = rt.alloc();
-    assert_sliced(&rt, alloc, PRODUCER, TEN);
-    assert_sliced(&rt, alloc, RACE, "2\n#end done\n");
 }
 
 /// Main's first slice. Where main isn't lent for want of memory nothing has changed, and it is lent when there is some.
@@ -115,15 +149,17 @@ fn brought_at_last<R: Abort>(rt: &R, image: &Image, run: &mut SafeVm, slice: Sli
 }
 
 /// It counts in rounds of two steps.
-const COUNTS: Program = Program {
-    registers: "1",
-    body: "
-        const/4 v0, 0
-        :round
-        add-int/lit8 v0, v0, 1
-        goto :round",
-    ..PROGRAM
-};
+const COUNTS: &str = "
+.class LMain;
+.super Ljava/lang/Object;
+.method static main()V
+.registers 1
+const/4 v0, 0
+:round
+add-int/lit8 v0, v0, 1
+goto :round
+.end method
+";
 
 /// So many rounds are done: another one.
 fn round<R: Abort>(rt: &R, run: &mut SafeVm, rounds: u32) {
@@ -139,7 +175,7 @@ fn round<R: Abort>(rt: &R, run: &mut SafeVm, rounds: u32) {
 #[test]
 fn want_of_memory_changes_nothing(rt: HostRuntime) {
     let alloc = rt.alloc();
-    let verified = accepted(&rt, alloc, &COUNTS);
+    let verified = verified(&rt, alloc, COUNTS);
     let player = Player {
         verified: &verified,
         limits: Limits {
@@ -152,7 +188,6 @@ fn want_of_memory_changes_nothing(rt: HostRuntime) {
         round(&rt, &mut run, rounds);
     }
     assert_eq!(&rt; run.log().len(), 41);
-    assert_ended(&rt, alloc, &run, Ending::Steps, "#end steps\n");
-    let log = run.into_log();
-    assert_played(&rt, alloc, player, &log, SPENT);
+    assert_eq!(&rt; run.ending(), Some(Ending::Steps));
+    assert_end(&rt, alloc, player, run, Ending::Steps, SPENT);
 }

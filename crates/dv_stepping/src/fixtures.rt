@@ -1,12 +1,11 @@
 // Images, heaps and stacks for one step, and how they are compared.
-use dv_defs::{Base, ClassId, Image, Insn, MethodId, Ty};
+use dv_defs::{ClassId, Image, Insn, MethodId};
 use dv_fetch::units_of;
-use dv_frames::{Stack, base_of};
+use dv_frames::Stack;
 use dv_heap::{Heap, HeapError};
 use dv_ops::{coded_at, method_at};
 use dv_program::read_program;
 use dv_units::decode;
-use dv_words::Kind;
 use std::alloc::{AllocError, Global};
 use std::process::Abort;
 use std::str;
@@ -38,7 +37,7 @@ pub fn add_method(
 }
 
 /// A place or a length, which fits 32 bits.
-pub fn number<R: Abort>(rt: &R, place: usize) -> u32 {
+fn number<R: Abort>(rt: &R, place: usize) -> u32 {
     u32::try_from(place).ok().expect(rt, "few")
 }
 
@@ -57,7 +56,7 @@ pub fn name_of(image: &Image, class: ClassId) -> Option<&str> {
 }
 
 /// The class of a method, and its name.
-pub fn names_of(image: &Image, method: MethodId) -> Option<(&str, &str)> {
+fn names_of(image: &Image, method: MethodId) -> Option<(&str, &str)> {
     let method = method_at(image, method)?;
     let class = name_of(image, method.info.class)?;
     Some((class, str::from_utf8(method.def.name.bytes()).ok()?))
@@ -103,13 +102,6 @@ pub fn insn_at(image: &Image, stack: &Stack) -> Option<Insn> {
     Some(insn)
 }
 
-/// The registers of the frame on top.
-pub fn registers(stack: &Stack) -> &[u32] {
-    let words = stack.words.as_slice();
-    let base = base_of(stack.levels.as_slice(), words.len());
-    words.get(base..).unwrap_or(&[])
-}
-
 /// Whether two stacks have the same levels with the same words.
 pub fn same_stacks(one: &Stack, other: &Stack) -> bool {
     one.levels.as_slice() == other.levels.as_slice()
@@ -122,27 +114,6 @@ pub enum Made {
     /// Of the class of a descriptor, all 0.
     Of(&'static str),
     Text(&'static [u16]),
-    Chars(&'static [u32]),
-}
-
-/// Writes a field or an element, where it is there.
-pub fn write(heap: &mut Heap, object: u32, slot: u32, word: u32) {
-    let there = object > 0 && heap.exists(object) && slot < heap.size(object);
-    if there && !matches!(heap.kind(object), Kind::Str) {
-        heap.put(object, slot, word);
-    }
-}
-
-fn make_chars<R: Abort>(rt: &R, heap: &mut Heap, chars: &[u32]) -> Result<u32, HeapError> {
-    let ty = Ty {
-        dims: 1,
-        base: Base::C,
-    };
-    let object = heap.alloc_array(&ty, number(rt, chars.len()))?;
-    for (slot, word) in chars.iter().enumerate() {
-        write(heap, object, number(rt, slot), *word);
-    }
-    Ok(object)
 }
 
 fn make<R: Abort>(rt: &R, image: &Image, heap: &mut Heap, made: Made) -> Result<u32, HeapError> {
@@ -152,7 +123,6 @@ fn make<R: Abort>(rt: &R, image: &Image, heap: &mut Heap, made: Made) -> Result<
             heap.alloc_object(image, class)
         }
         Made::Text(units) => heap.alloc_string(units),
-        Made::Chars(chars) => make_chars(rt, heap, chars),
     }
 }
 

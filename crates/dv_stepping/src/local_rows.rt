@@ -12,8 +12,6 @@ pub struct Row {
     pub at: u32,
 }
 
-const LEAST: u32 = 0x8000_0000;
-
 const MINUS_ONE: u32 = 0xffff_ffff;
 
 const ROW: Row = Row {
@@ -25,48 +23,8 @@ const ROW: Row = Row {
     at: 1,
 };
 
-/// A jump over an instruction, where the test passes.
-const IF_LESS: Row = Row {
-    body: "if-lt v0, v1, :there\nnop\n:there",
-    ..ROW
-};
-
-/// Of 7 and 8 there are cases.
-const PACKED: Row = Row {
-    body: "packed-switch v0, :table\nnop\n:seven\nnop\n:eight\nnop\nreturn-void\n:table\n.packed-switch 7\n:seven\n:eight\n.end packed-switch",
-    ..ROW
-};
-
-/// Of -5 and 1000 there are cases.
-const SPARSE: Row = Row {
-    body: "sparse-switch v0, :table\nnop\n:least\nnop\n:most\nnop\nreturn-void\n:table\n.sparse-switch\n-5 -> :least\n1000 -> :most\n.end sparse-switch",
-    ..ROW
-};
-
 pub const LOCAL: &[Row] = &[
     ROW,
-    Row {
-        body: "move v1, v2",
-        after: [1, 3, 3, 4, 5, 6],
-        ..ROW
-    },
-    Row {
-        body: "move-wide/from16 v0, v4",
-        after: [5, 6, 3, 4, 5, 6],
-        at: 2,
-        ..ROW
-    },
-    Row {
-        body: "move-object/16 v5, v0",
-        after: [1, 2, 3, 4, 5, 1],
-        at: 3,
-        ..ROW
-    },
-    Row {
-        body: "move-result v0",
-        after: [99, 2, 3, 4, 5, 6],
-        ..ROW
-    },
     Row {
         body: "move-result-wide v2",
         result: Kept::Two(70, 71),
@@ -81,128 +39,15 @@ pub const LOCAL: &[Row] = &[
         ..ROW
     },
     Row {
-        body: "const/4 v0, -3",
-        after: [0xffff_fffd, 2, 3, 4, 5, 6],
-        ..ROW
-    },
-    Row {
-        body: "const/high16 v1, 0x7fff0000",
-        after: [1, 0x7fff_0000, 3, 4, 5, 6],
-        at: 2,
-        ..ROW
-    },
-    Row {
         body: "const-wide v0, 0x123456789abcdef0L",
         after: [0x9abc_def0, 0x1234_5678, 3, 4, 5, 6],
         at: 5,
         ..ROW
     },
     Row {
-        body: "neg-long v0, v2",
-        before: [9, 9, 1, 0, 9, 9],
-        after: [MINUS_ONE, MINUS_ONE, 1, 0, 9, 9],
-        ..ROW
-    },
-    Row {
-        body: "int-to-byte v0, v1",
-        before: [9, 0x1ff, 9, 9, 9, 9],
-        after: [MINUS_ONE, 0x1ff, 9, 9, 9, 9],
-        ..ROW
-    },
-    Row {
-        body: "add-int v0, v1, v2",
-        before: [9, 0x7fff_ffff, 1, 9, 9, 9],
-        after: [LEAST, 0x7fff_ffff, 1, 9, 9, 9],
-        at: 2,
-        ..ROW
-    },
-    Row {
-        body: "sub-long v0, v2, v4",
-        before: [9, 9, 0, 1, 1, 0],
-        after: [MINUS_ONE, 0, 0, 1, 1, 0],
-        at: 2,
-        ..ROW
-    },
-    // the lowest five bits of the distance count
-    Row {
-        body: "shl-int/lit8 v0, v1, 33",
-        before: [9, 5, 9, 9, 9, 9],
-        after: [10, 5, 9, 9, 9, 9],
-        at: 2,
-        ..ROW
-    },
-    Row {
-        body: "xor-int/2addr v0, v1",
-        before: [6, 3, 9, 9, 9, 9],
-        after: [5, 3, 9, 9, 9, 9],
-        ..ROW
-    },
-    Row {
-        body: "cmp-long v0, v2, v4",
-        before: [9, 9, 0, LEAST, 0, 0],
-        after: [MINUS_ONE, 9, 0, LEAST, 0, 0],
-        at: 2,
-        ..ROW
-    },
-    Row {
-        body: "goto :there\nnop\n:there",
-        at: 2,
-        ..ROW
-    },
-    Row {
-        before: [MINUS_ONE, 0, 9, 9, 9, 9],
-        after: [MINUS_ONE, 0, 9, 9, 9, 9],
-        at: 3,
-        ..IF_LESS
-    },
-    Row {
-        before: [7, 7, 9, 9, 9, 9],
-        after: [7, 7, 9, 9, 9, 9],
-        at: 2,
-        ..IF_LESS
-    },
-    Row {
-        body: "if-eqz v5, :there\nnop\n:there",
-        before: [9, 9, 9, 9, 9, 0],
-        after: [9, 9, 9, 9, 9, 0],
+        body: "if-lt v0, v1, :there\nnop\n:there",
         at: 3,
         ..ROW
-    },
-    Row {
-        before: [7, 2, 3, 4, 5, 6],
-        after: [7, 2, 3, 4, 5, 6],
-        at: 4,
-        ..PACKED
-    },
-    Row {
-        before: [8, 2, 3, 4, 5, 6],
-        after: [8, 2, 3, 4, 5, 6],
-        at: 5,
-        ..PACKED
-    },
-    Row {
-        before: [9, 2, 3, 4, 5, 6],
-        after: [9, 2, 3, 4, 5, 6],
-        at: 3,
-        ..PACKED
-    },
-    Row {
-        before: [0xffff_fffb, 2, 3, 4, 5, 6],
-        after: [0xffff_fffb, 2, 3, 4, 5, 6],
-        at: 4,
-        ..SPARSE
-    },
-    Row {
-        before: [1000, 2, 3, 4, 5, 6],
-        after: [1000, 2, 3, 4, 5, 6],
-        at: 5,
-        ..SPARSE
-    },
-    Row {
-        before: [0, 2, 3, 4, 5, 6],
-        after: [0, 2, 3, 4, 5, 6],
-        at: 3,
-        ..SPARSE
     },
 ];
 

@@ -1,18 +1,54 @@
-// Natives of texts at the instructions that call them, one step each (Java SE API, java.lang.String; RFC 3629).
+// Natives of texts whose bytes don't fit the output, to the last byte, and natives that aren't of texts: nothing is changed.
 use crate::fixtures::{
-    add_method, heap_of, insn_at, linked, method_among, number, registers, same_but, same_heaps,
-    same_stacks,
+    Made, add_method, heap_of, insn_at, linked, method_among, same_heaps, same_stacks,
 };
-use crate::native_rows::{
-    Case, Comes, EQUALS, LENGTHS, NEW, NUMBERS, OBJECTS, OTHERS, PLACES, PRINTED, Row, STRINGS,
-};
+use Next::{NoOutput, On};
 use dv_builtin::builtin_step;
-use dv_defs::{Image, Insn, MethodId, Native, Next};
-use dv_frames::{Head, Stack};
+use dv_defs::{Image, MethodId, Native, Next};
+use dv_frames::Stack;
 use dv_heap::Heap;
-use dv_words::{Kept, Kind};
+use dv_words::Kept;
 use std::alloc::{AllocError, Global};
 use std::process::Abort;
+
+/// The objects: three letters, the two surrogates of one character and the second one alone, characters of two and of three bytes, an object.
+const OBJECTS: &[Made] = &[
+    Made::Text(&[97, 98, 99]),
+    Made::Text(&[0xd83d, 0xde00]),
+    Made::Text(&[0xde00]),
+    Made::Text(&[0xe9, 0x20ac]),
+    Made::Of("Ljava/lang/Object;"),
+];
+
+const PRINT: &str = "invoke-static {v0}, Ldvm/Console;->print(Ljava/lang/String;)V";
+
+const PRINTLN: &str = "invoke-static {v0}, Ldvm/Console;->println(I)V";
+
+/// A native, the instruction that calls it, the register v0, how many bytes may be printed yet, and the answer.
+type Row = (Native, &'static str, u32, u32, Next);
+
+const ROWS: &[Row] = &[
+    (Native::Print, PRINT, 1, 2, NoOutput),
+    (Native::Print, PRINT, 2, 3, NoOutput),
+    (Native::Print, PRINT, 3, 0, NoOutput),
+    (Native::Print, PRINT, 4, 4, NoOutput),
+    (Native::Println, PRINTLN, 0, 1, NoOutput),
+    (Native::Println, PRINTLN, 0x8000_0000, 11, NoOutput),
+    (
+        Native::CurrentThread,
+        "invoke-static {}, Ljava/lang/Thread;->currentThread()Ljava/lang/Thread;",
+        7,
+        9,
+        On,
+    ),
+    (
+        Native::Wait,
+        "invoke-virtual {v0}, Ljava/lang/Object;->wait()V",
+        5,
+        9,
+        On,
+    ),
+];
 
 /// What was printed before a step.
 const BEFORE: &[u8] = b"ab";
@@ -25,22 +61,20 @@ struct Stage {
     output: Vec<u8>,
 }
 
-/// A frame at the call, which has a result from a call before, and the heap with so much room.
+/// A frame at the call, which has a result from a call before.
 fn before_step<R: Abort>(
     rt: &R,
     alloc: Global,
     image: &Image,
     method: MethodId,
-    words: &[u32; 4],
-    room: u32,
+    word: u32,
 ) -> Stage {
-    let heap = heap_of(rt, alloc, image, OBJECTS, room);
     let mut stack = Stack::new(alloc, 1, 4).ok().expect(rt, "memory");
-    assert!(rt; stack.push(method, 4, words).is_ok());
+    assert!(rt; stack.push(method, 4, &[word, 7, 7, 7]).is_ok());
     stack.give(Kept::One(99));
     let output = Vec::from_slice(alloc, BEFORE);
     Stage {
-        heap,
+        heap: heap_of(rt, alloc, image, OBJECTS, 9),
         stack,
         output: output.ok().expect(rt, "memory"),
     }
@@ -52,120 +86,29 @@ fn is_same(one: &Stage, other: &Stage) -> bool {
         && one.output.as_slice() == other.output.as_slice()
 }
 
-/// The step of a native, where so many bytes more may be printed. What wants memory changes nothing, and done again it goes on.
-fn step<R: Abort>(
-    rt: &R,
-    image: &Image,
-    stage: &mut Stage,
-    before: &Stage,
-    room: u32,
-    native: Native,
-    insn: &Insn,
-) -> Next {
+/// What is answered where so many bytes more may be printed.
+fn step(image: &Image, stage: &mut Stage, room: u32, native: Native) -> Option<Next> {
+    let insn = insn_at(image, &stage.stack)?;
     let limit = room.saturating_add(2);
-    let mut answer = builtin_step(
+    let answer = builtin_step(
         image,
         &mut stage.heap,
         &mut stage.stack,
         &mut stage.output,
         limit,
         native,
-        insn,
+        &insn,
     );
-    if answer.is_err() {
-        assert!(rt; is_same(stage, before), "{native:?}");
-        answer = builtin_step(
-            image,
-            &mut stage.heap,
-            &mut stage.stack,
-            &mut stage.output,
-            limit,
-            native,
-            insn,
-        );
-    }
-    answer.ok().expect(rt, "memory")
+    answer.ok()
 }
 
-fn answer_of(comes: &Comes) -> Next {
-    match comes {
-        Comes::Throws(named) => Next::Throw(*named),
-        Comes::Full => Next::NoWords,
-        Comes::Over => Next::NoOutput,
-        _ => Next::On,
-    }
-}
-
-/// The frame goes on behind the call, which has three units, with this result.
-fn assert_gone<R: Abort>(rt: &R, stage: &Stage, before: &Stage, kept: Kept) {
-    let head = before.stack.head().expect(rt, "a frame");
-    let gone = Head {
-        at: 3,
-        result: kept,
-        ..head
-    };
-    assert_eq!(rt; stage.stack.head(), Some(gone));
-    assert_eq!(rt; registers(&stage.stack), registers(&before.stack));
-}
-
-fn same_output(stage: &Stage, before: &Stage) -> bool {
-    stage.output.as_slice() == before.output.as_slice()
-}
-
-fn is_text(heap: &Heap, object: u32, units: &[u32]) -> bool {
-    heap.exists(object) && heap.words(object) == units && matches!(heap.kind(object), Kind::Str)
-}
-
-/// There is a new string of these units, and nothing else that is new.
-fn assert_text<R: Abort>(rt: &R, heap: &Heap, before: &Heap, units: &[u32]) {
-    assert!(rt; is_text(heap, NEW, units), "{units:?}");
-    assert!(rt; same_but(heap, before, NEW), "{units:?}");
-    assert_eq!(rt; heap.used(), number(rt, units.len()).saturating_add(2));
-}
-
-/// These bytes were printed behind those before.
-fn assert_printed<R: Abort>(rt: &R, output: &[u8], bytes: &[u8]) {
-    assert!(rt; output.starts_with(BEFORE), "{bytes:?}");
-    assert_eq!(rt; output.get(BEFORE.len()..), Some(bytes));
-}
-
-/// What a call leaves.
-fn assert_left<R: Abort>(rt: &R, stage: &Stage, before: &Stage, comes: &Comes) {
-    match comes {
-        Comes::Word(word) => {
-            assert_gone(rt, stage, before, Kept::One(*word));
-            assert!(rt; same_heaps(&stage.heap, &before.heap), "{comes:?}");
-            assert!(rt; same_output(stage, before), "{comes:?}");
-        }
-        Comes::Text(units) => {
-            assert_gone(rt, stage, before, Kept::One(NEW));
-            assert_text(rt, &stage.heap, &before.heap, units);
-            assert!(rt; same_output(stage, before), "{comes:?}");
-        }
-        Comes::Prints(bytes) => {
-            assert_gone(rt, stage, before, Kept::None);
-            assert!(rt; same_heaps(&stage.heap, &before.heap), "{comes:?}");
-            assert_printed(rt, stage.output.as_slice(), bytes);
-        }
-        _ => assert!(rt; is_same(stage, before), "{comes:?}"),
-    }
-}
-
-fn assert_case<R: Abort>(
-    rt: &R,
-    alloc: Global,
-    image: &Image,
-    method: MethodId,
-    native: Native,
-    case: &Case,
-) {
-    let (words, room, comes) = case;
-    let before = before_step(rt, alloc, image, method, words, *room);
-    let mut stage = before_step(rt, alloc, image, method, words, *room);
-    let insn = insn_at(image, &stage.stack).expect(rt, "an instruction");
-    let answer = step(rt, image, &mut stage, &before, *room, native, &insn);
-    assert_eq!(rt; answer, answer_of(comes), "{words:?} {room} {comes:?}");
-    assert_left(rt, &stage, &before, comes);
+fn assert_row<R: Abort>(rt: &R, alloc: Global, image: &Image, method: MethodId, row: &Row) {
+    let (native, insn, word, room, answer) = row;
+    let before = before_step(rt, alloc, image, method, *word);
+    let mut stage = before_step(rt, alloc, image, method, *word);
+    let answered = step(image, &mut stage, *room, *native);
+    assert_eq!(rt; answered, Some(*answer), "{insn} {room}");
+    assert!(rt; is_same(&stage, &before), "{insn} {room}");
 }
 
 fn program(alloc: Global, rows: &[Row]) -> Result<String, AllocError> {
@@ -177,46 +120,13 @@ fn program(alloc: Global, rows: &[Row]) -> Result<String, AllocError> {
     Ok(text)
 }
 
-/// Each call comes to what its row tells.
-fn assert_rows<R: Abort>(rt: &R, alloc: Global, rows: &[Row]) {
-    let text = program(alloc, rows).ok().expect(rt, "memory");
-    let image = linked(rt, alloc, &text);
+#[test]
+fn what_is_not_printed_changes_nothing(rt: HostRuntime) {
+    let rows = ROWS;
+    let text = program(rt.alloc(), rows).ok().expect(&rt, "memory");
+    let image = linked(&rt, rt.alloc(), &text);
     for (n, row) in rows.iter().enumerate() {
-        let method = method_among(rt, &image, rows.len(), n);
-        let (native, _, cases) = row;
-        for case in *cases {
-            assert_case(rt, alloc, &image, method, *native, case);
-        }
+        let method = method_among(&rt, &image, rows.len(), n);
+        assert_row(&rt, rt.alloc(), &image, method, row);
     }
-}
-
-#[test]
-fn strings_have_lengths_and_units(rt: HostRuntime) {
-    assert_rows(&rt, rt.alloc(), LENGTHS);
-    assert_rows(&rt, rt.alloc(), PLACES);
-}
-
-#[test]
-fn strings_are_compared_by_their_units(rt: HostRuntime) {
-    assert_rows(&rt, rt.alloc(), EQUALS);
-}
-
-#[test]
-fn strings_are_made_to_the_last_word(rt: HostRuntime) {
-    assert_rows(&rt, rt.alloc(), STRINGS);
-}
-
-#[test]
-fn longs_are_made_strings(rt: HostRuntime) {
-    assert_rows(&rt, rt.alloc(), NUMBERS);
-}
-
-#[test]
-fn output_is_printed_to_the_last_byte(rt: HostRuntime) {
-    assert_rows(&rt, rt.alloc(), PRINTED);
-}
-
-#[test]
-fn other_natives_are_left_alone(rt: HostRuntime) {
-    assert_rows(&rt, rt.alloc(), OTHERS);
 }

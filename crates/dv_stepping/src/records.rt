@@ -1,13 +1,112 @@
-// Records of classes under an exception in flight, one step each.
-use crate::fixtures::{class_named, linked, method_named, same_but, same_heaps, same_stacks};
-use crate::made::is_exception;
-use crate::unwinding::{Stage, WORDS, same_states, stage_of, step};
-use crate::unwinding_rows::{BASE, CLASSES, ERROR, ERRORS, Ending, Level, NEW, UNDER, WRAPPED};
+// Records of classes under an exception in flight, one step each, above frames that no program has there (JLS 12.4.2).
+use crate::fixtures::{
+    Made, class_named, linked, method_named, name_of, same_but, same_heaps, same_stacks,
+};
+use crate::unwinding::{Stage, same_states, stage_of, step};
+use Level::{Frame, Record};
+use Next::{NoWords, ThrowRef};
 use dv_clinit::{ClassStates, State};
 use dv_defs::{Ask, ClassId, Image, Next};
 use dv_frames::Stack;
+use dv_heap::Heap;
+use dv_words::Kind;
 use std::alloc::Global;
 use std::process::Abort;
+
+/// X and Y, which is under X, have initialisers. Main's method has a catch-all before another handler.
+pub const CLASSES: &str = "
+    .class LMid;
+    .super Ljava/lang/RuntimeException;
+    .field extra:J
+    .class LFault;
+    .super Ljava/lang/LinkageError;
+    .class LX;
+    .super Ljava/lang/Object;
+    .method static constructor <clinit>()V
+    .registers 0
+    return-void
+    .end method
+    .method static run()V
+    .registers 2
+    return-void
+    .end method
+    .class LY;
+    .super LX;
+    .method static constructor <clinit>()V
+    .registers 0
+    return-void
+    .end method
+    .method static run()V
+    .registers 2
+    return-void
+    .end method
+    .class LMain;
+    .super Ljava/lang/Object;
+    .method static run()V
+    .registers 2
+    :a
+    invoke-static {}, LX;->run()V
+    :b
+    return-void
+    :all
+    nop
+    :mid
+    return-void
+    .catchall {:a .. :b} :all
+    .catch LMid; {:a .. :b} :mid
+    .end method
+";
+
+/// The objects, by their numbers from 1 on.
+pub const OBJECTS: &[Made] = &[
+    Made::Of("LMid;"),
+    Made::Of("LFault;"),
+    Made::Of("Ljava/lang/Exception;"),
+];
+
+pub const MID: u32 = 1;
+
+pub const FAULT: u32 = 2;
+
+const EXCEPTION: u32 = 3;
+
+/// The number of a new object.
+const NEW: u32 = 4;
+
+/// A frame's registers.
+const WORDS: &[u32] = &[11, 12];
+
+/// A level: the frame of a method of a class; or the record of a class, and whether the initialiser was called.
+#[derive(Clone, Copy)]
+enum Level {
+    Frame(&'static str),
+    Record(&'static str, bool),
+}
+
+/// X's record.
+const RECORD: Level = Record("LX;", true);
+
+/// The levels of an opening.
+const OPENING: &[Level] = &[Frame("LX;"), RECORD];
+
+const CALLED: &[Level] = &[Frame("LX;"), Frame("LX;"), RECORD];
+
+/// A method of another class, though one under X.
+const OTHER: &[Level] = &[Frame("LY;"), RECORD];
+
+/// A thread, its levels, how many of them are left, the object in flight, how many words the heap has left, and the answer.
+type Ending = (u32, &'static [Level], usize, u32, u32, Next);
+
+/// The first frame goes with its record in thread 0 alone, where it is the only one and of the record's class.
+const ENDINGS: &[Ending] = &[
+    (0, OPENING, 0, FAULT, 0, ThrowRef(FAULT)),
+    (1, OPENING, 1, FAULT, 0, ThrowRef(FAULT)),
+    (0, CALLED, 2, FAULT, 0, ThrowRef(FAULT)),
+    (0, OTHER, 1, FAULT, 0, ThrowRef(FAULT)),
+    (1, OPENING, 1, EXCEPTION, 4, ThrowRef(NEW)),
+    (0, CALLED, 2, MID, 5, ThrowRef(NEW)),
+    (1, CALLED, 3, MID, 3, NoWords),
+];
 
 fn class_of<R: Abort>(rt: &R, image: &Image, name: &str) -> ClassId {
     class_named(image, name).expect(rt, "a class")
@@ -59,13 +158,27 @@ fn stage_with<R: Abort>(
     stage
 }
 
+fn is_of(image: &Image, kind: &Kind, name: &str) -> bool {
+    match kind {
+        Kind::Object(class) => name_of(image, *class) == Some(name),
+        _ => false,
+    }
+}
+
+/// Whether an object is an error of an initialiser, with no message and with this cause.
+fn is_wrapped(image: &Image, heap: &Heap, object: u32, cause: u32) -> bool {
+    let name = "Ljava/lang/ExceptionInInitializerError;";
+    heap.exists(object)
+        && is_of(image, heap.kind(object), name)
+        && heap.words(object) == [0, cause].as_slice()
+}
+
 /// Whether the heap has nothing new but what flies on, an error with this cause.
 fn is_heap_left(image: &Image, stage: &Stage, before: &Stage, cause: u32, answer: Next) -> bool {
     if answer != Next::ThrowRef(NEW) {
         return same_heaps(&stage.heap, &before.heap);
     }
-    let name = "Ljava/lang/ExceptionInInitializerError;";
-    is_exception(image, &stage.heap, NEW, name, cause)
+    is_wrapped(image, &stage.heap, NEW, cause)
         && same_but(&stage.heap, &before.heap, NEW)
         && stage.heap.used() == 4
 }
@@ -96,39 +209,11 @@ fn assert_row<R: Abort>(rt: &R, alloc: Global, image: &Image, n: usize, row: &En
     assert!(rt; same_stacks(&stage.stack, &wanted.stack), "{n}");
 }
 
-fn assert_rows<R: Abort>(rt: &R, alloc: Global, rows: &[Ending]) {
-    let image = linked(rt, alloc, CLASSES);
+#[test]
+fn the_first_frame_goes_with_the_record_of_an_opening(rt: HostRuntime) {
+    let image = linked(&rt, rt.alloc(), CLASSES);
+    let rows = ENDINGS;
     for (n, row) in rows.iter().enumerate() {
-        assert_row(rt, alloc, &image, n, row);
+        assert_row(&rt, rt.alloc(), &image, n, row);
     }
-}
-
-#[test]
-fn errors_fly_on_from_initialisers(rt: HostRuntime) {
-    assert_rows(&rt, rt.alloc(), ERRORS);
-}
-
-#[test]
-fn other_exceptions_are_causes_of_new_ones(rt: HostRuntime) {
-    assert_rows(&rt, rt.alloc(), WRAPPED);
-}
-
-/// The records of X and of Y, with which thread 0 opens, are dropped one a step, and its first frame with the second one.
-fn assert_both_fail<R: Abort>(rt: &R, alloc: Global, flying: u32, on: u32) {
-    let image = linked(rt, alloc, CLASSES);
-    let mut stage = stage_with(rt, alloc, &image, 0, UNDER, 4);
-    assert_eq!(rt;
-        step(&image, &mut stage, 0, flying),
-        Some(Next::ThrowRef(on))
-    );
-    assert_eq!(rt; step(&image, &mut stage, 0, on), Some(Next::ThrowRef(on)));
-    assert_eq!(rt; stage.stack.levels(), 0);
-    let y = class_of(rt, &image, "LY;");
-    assert!(rt; stage.states.state(y) == State::Erroneous);
-}
-
-#[test]
-fn the_classes_of_an_opening_fail_one_by_one(rt: HostRuntime) {
-    assert_both_fail(&rt, rt.alloc(), ERROR, ERROR);
-    assert_both_fail(&rt, rt.alloc(), BASE, NEW);
 }

@@ -1,119 +1,307 @@
-// Guest threads, one step each: monitors, waiting, starting and joining.
-use crate::fixtures::{heap_of, insn_at, linked, method_among, write};
-use crate::guest_cases::{Case, OBJECTS, Row, TARGETED, WORKER};
-use crate::guests::{
-    answer_of, has_ends, has_monitors, has_stacks, has_started, program, threads_of,
-};
-use crate::monitor_rows::{ENTERS, EXITS, NOTICES, WAITING};
-use crate::start_rows::{CURRENT, JOINS, LIMITED, ORDERS, OTHERS, STARTS};
-use dv_defs::{Image, Insn, MethodId, Next};
+// Steps of guest threads that change nothing, in states that no program comes to: a thread that isn't there, a stack without room for a new
+// thread's frame, a native on null, a start of an object that is no thread, and instructions of other parts.
+use crate::fixtures::{Made, add_method, heap_of, insn_at, linked, method_among, same_stacks};
+use dv_defs::{End, Image, Limits, MethodId, Named, Native, Next};
+use dv_frames::Stack;
 use dv_heap::Heap;
+use dv_monitor::Monitors;
 use dv_threads::{Threads, thread_step};
+use dv_words::Kept;
 use std::alloc::{AllocError, Global};
 use std::process::Abort;
 
-/// The instruction at which the threads stand.
-fn insn_of(image: &Image, threads: &Threads) -> Option<Insn> {
-    insn_at(image, threads.stacks.first()?)
+/// Classes of threads: with a run of its own, with one of all registers, and with an abstract one. The rows are methods of the last class.
+const CLASSES: &str = "
+    .class LWorker;
+    .super Ljava/lang/Thread;
+    .method run()V
+    .registers 3
+    return-void
+    .end method
+    .class LWide;
+    .super Ljava/lang/Thread;
+    .method run()V
+    .registers 256
+    return-void
+    .end method
+    .class abstract LDraft;
+    .super Ljava/lang/Thread;
+    .method abstract run()V
+    .end method
+    .class LHollow;
+    .super LDraft;
+    .class LMain;
+    .super Ljava/lang/Object;
+";
+
+/// The objects, by their numbers from 1 on.
+const OBJECTS: &[Made] = &[
+    Made::Of("Ljava/lang/Object;"),
+    Made::Text(&[97]),
+    Made::Of("Ljava/lang/Thread;"),
+    Made::Of("LWorker;"),
+    Made::Of("LWorker;"),
+    Made::Of("LWide;"),
+    Made::Of("LHollow;"),
+];
+
+const NULL: u32 = 0;
+
+/// Its monitor is owned by thread 0.
+const LOCK: u32 = 1;
+
+const TEXT: u32 = 2;
+
+/// The objects of the threads 0 and 1, which live.
+const FIRST: u32 = 3;
+
+const SECOND: u32 = 4;
+
+const WORKER: u32 = 5;
+
+const WIDE: u32 = 6;
+
+const HOLLOW: u32 = 7;
+
+/// Two threads that live, and room for one more with one frame of any method.
+const AMPLE: Limits = Limits {
+    budget: 1000,
+    heap: 1000,
+    output: 100,
+    threads: 3,
+    levels: 1,
+    words: 256,
+};
+
+const NARROW: Limits = Limits {
+    words: 255,
+    ..AMPLE
+};
+
+/// No frame fits.
+const NONE: Limits = Limits { levels: 0, ..AMPLE };
+
+/// Nor may there be another thread.
+const FULL: Limits = Limits { threads: 2, ..NONE };
+
+/// An instruction, the native on which it lands, the limits, the object of thread 1, the thread that steps, the object in v2, and the answer.
+type Row = (&'static str, Option<Native>, Limits, u32, u32, u32, Next);
+
+const ENTER: &str = "monitor-enter v2";
+
+const EXIT: &str = "monitor-exit v2";
+
+const WAIT: &str = "invoke-virtual {v2}, Ljava/lang/Object;->wait()V";
+
+const NOTIFY: &str = "invoke-virtual {v2}, Ljava/lang/Object;->notify()V";
+
+const ALL: &str = "invoke-virtual {v2}, Ljava/lang/Object;->notifyAll()V";
+
+const START: &str = "invoke-virtual {v2}, Ljava/lang/Thread;->start()V";
+
+const JOIN: &str = "invoke-virtual {v2}, Ljava/lang/Thread;->join()V";
+
+const CURRENT: &str = "invoke-static {}, Ljava/lang/Thread;->currentThread()Ljava/lang/Thread;";
+
+const LENGTH: &str = "invoke-virtual {v2}, Ljava/lang/String;->length()I";
+
+const RUN: &str = "invoke-virtual {v2}, Ljava/lang/Thread;->run()V";
+
+const BEGIN: Option<Native> = Some(Native::Start);
+
+const ILLEGAL: Next = Next::Throw(Named::IllegalMonitorState);
+
+const AGAIN: Next = Next::Throw(Named::IllegalThreadState);
+
+const MANY: Next = Next::Throw(Named::OutOfMemory);
+
+const ABSTRACT: Next = Next::Throw(Named::AbstractMethod);
+
+const ON: Next = Next::On;
+
+/// There is no thread 2.
+const ABSENT: &[Row] = &[
+    (ENTER, None, AMPLE, SECOND, 2, TEXT, ON),
+    (EXIT, None, AMPLE, SECOND, 2, LOCK, ON),
+    (WAIT, Some(Native::Wait), AMPLE, SECOND, 2, LOCK, ON),
+    (START, BEGIN, AMPLE, SECOND, 2, WORKER, ON),
+    (JOIN, Some(Native::Join), AMPLE, SECOND, 2, WORKER, ON),
+    (
+        CURRENT,
+        Some(Native::CurrentThread),
+        AMPLE,
+        SECOND,
+        2,
+        WORKER,
+        ON,
+    ),
+];
+
+/// The invoke tells of null before it lands on a native, where nobody owns null's monitor.
+const ON_NULL: &[Row] = &[
+    (WAIT, Some(Native::Wait), AMPLE, SECOND, 0, NULL, ILLEGAL),
+    (
+        NOTIFY,
+        Some(Native::Notify),
+        AMPLE,
+        SECOND,
+        0,
+        NULL,
+        ILLEGAL,
+    ),
+    (
+        ALL,
+        Some(Native::NotifyAll),
+        AMPLE,
+        SECOND,
+        0,
+        NULL,
+        ILLEGAL,
+    ),
+];
+
+/// Each two of these: the object has a thread, there are as many as may be, its run is abstract, and there is no room. The earlier one is told.
+const STARTS: &[Row] = &[
+    (START, BEGIN, AMPLE, SECOND, 0, LOCK, ABSTRACT),
+    (START, BEGIN, NARROW, SECOND, 1, WIDE, Next::NoRoom),
+    (START, BEGIN, NONE, SECOND, 0, SECOND, AGAIN),
+    (START, BEGIN, NONE, SECOND, 0, HOLLOW, ABSTRACT),
+    (START, BEGIN, NONE, SECOND, 0, WORKER, Next::NoRoom),
+    (START, BEGIN, FULL, SECOND, 0, WORKER, MANY),
+    (START, BEGIN, AMPLE, HOLLOW, 0, HOLLOW, AGAIN),
+];
+
+/// A native of texts, and instructions that are neither on monitors nor calls of natives.
+const OTHERS: &[Row] = &[
+    (LENGTH, Some(Native::Length), AMPLE, SECOND, 1, TEXT, ON),
+    (RUN, None, AMPLE, SECOND, 0, WORKER, ON),
+    ("const/4 v2, 1", None, AMPLE, SECOND, 1, LOCK, ON),
+];
+
+/// The classes, with the rows as the last methods.
+fn program(alloc: Global, rows: &[Row]) -> Result<String, AllocError> {
+    let mut text = String::new(alloc);
+    text.push_str(CLASSES)?;
+    for (n, row) in rows.iter().enumerate() {
+        add_method(alloc, &mut text, n, 4, row.0)?;
+    }
+    Ok(text)
 }
 
-fn do_step(
-    image: &Image,
-    heap: &Heap,
-    threads: &mut Threads,
-    row: &Row,
-    thread: u32,
-    insn: &Insn,
-) -> Result<Next, AllocError> {
-    let (limits, native) = (&row.limits, row.native);
-    thread_step(image, heap, limits, threads, thread, native, insn)
+/// A frame at the row's instruction, with the object in its register v2 and a result from a call before.
+fn stack_of<R: Abort>(rt: &R, alloc: Global, method: MethodId, mark: u32, object: u32) -> Stack {
+    let mut stack = Stack::new(alloc, 2, 8).ok().expect(rt, "memory");
+    assert!(rt; stack.push(method, 4, &[mark, 0, object, mark]).is_ok());
+    stack.give(Kept::One(mark));
+    stack
 }
 
-/// What is answered. Where memory is wanting all is as before, so that the same call comes to the same again.
-fn step(image: &Image, heap: &Heap, threads: &mut Threads, row: &Row, thread: u32) -> Option<Next> {
-    let insn = insn_of(image, threads)?;
-    match do_step(image, heap, threads, row, thread, &insn) {
-        Ok(next) => Some(next),
-        Err(_) => do_step(image, heap, threads, row, thread, &insn).ok(),
+fn stacks_of<R: Abort>(rt: &R, alloc: Global, method: MethodId, object: u32) -> Vec<Stack> {
+    let mut stacks = Vec::new(alloc);
+    for mark in [70, 80] {
+        let stack = stack_of(rt, alloc, method, mark, object);
+        assert!(rt; stacks.push(stack).is_ok());
+    }
+    stacks
+}
+
+fn monitors_of<R: Abort>(rt: &R, alloc: Global) -> Monitors {
+    let mut monitors = Monitors::new(alloc);
+    assert!(rt; monitors.owner(LOCK).is_none());
+    assert!(rt; monitors.count(LOCK) < u64::MAX);
+    assert!(rt; monitors.enter(LOCK, 0).is_ok());
+    monitors
+}
+
+/// The threads before a step.
+fn threads_of<R: Abort>(rt: &R, alloc: Global, method: MethodId, row: &Row) -> Threads {
+    let ends = Vec::from_slice(alloc, &[End::Living, End::Living]);
+    let objects = Vec::from_slice(alloc, &[FIRST, row.3]);
+    Threads {
+        stacks: stacks_of(rt, alloc, method, row.5),
+        ends: ends.ok().expect(rt, "memory"),
+        objects: objects.ok().expect(rt, "memory"),
+        monitors: monitors_of(rt, alloc),
     }
 }
 
-/// Whether a step left what its case tells.
-fn is_left(image: &Image, threads: &Threads, method: MethodId, row: &Row, case: &Case) -> bool {
-    has_monitors(threads, case.4)
-        && has_stacks(threads, method, row, case)
-        && has_ends(threads, row, case.3)
-        && has_started(image, threads, row, case)
+/// Whether monitors are owned as before, and no thread waits.
+fn are_same_monitors(one: &Monitors, other: &Monitors) -> bool {
+    for object in 0..8 {
+        let owner = (one.owner(object), one.count(object));
+        if owner != (other.owner(object), other.count(object)) {
+            return false;
+        }
+    }
+    for thread in 0..3 {
+        if one.wait_of(thread).is_some() {
+            return false;
+        }
+    }
+    true
 }
 
-fn assert_case<R: Abort>(
+fn are_same_stacks(one: &[Stack], other: &[Stack]) -> bool {
+    for (a, b) in one.iter().zip(other.iter()) {
+        if !same_stacks(a, b) {
+            return false;
+        }
+    }
+    one.len() == other.len()
+}
+
+fn are_same(one: &Threads, other: &Threads) -> bool {
+    are_same_stacks(one.stacks.as_slice(), other.stacks.as_slice())
+        && are_same_monitors(&one.monitors, &other.monitors)
+        && one.ends.as_slice() == other.ends.as_slice()
+        && one.objects.as_slice() == other.objects.as_slice()
+}
+
+/// What is answered.
+fn step(image: &Image, heap: &Heap, threads: &mut Threads, row: &Row) -> Option<Next> {
+    let (_, native, limits, _, thread, _, _) = row;
+    let insn = insn_at(image, threads.stacks.first()?)?;
+    thread_step(image, heap, limits, threads, *thread, *native, &insn).ok()
+}
+
+fn assert_row<R: Abort>(
     rt: &R,
     alloc: Global,
     image: &Image,
     heap: &Heap,
     method: MethodId,
     row: &Row,
-    case: &Case,
 ) {
-    let (thread, object, before, comes, _) = *case;
-    let insn = row.insn;
-    let mut threads = threads_of(rt, alloc, method, row, case);
-    assert!(rt; has_monitors(&threads, before), "{insn} {thread} {object}");
-    let answer = step(image, heap, &mut threads, row, thread);
-    assert_eq!(rt; answer, Some(answer_of(comes)), "{insn} {thread} {object}");
-    assert!(rt;
-        is_left(image, &threads, method, row, case),
-        "{insn} {thread} {object}"
-    );
+    let before = threads_of(rt, alloc, method, row);
+    let mut threads = threads_of(rt, alloc, method, row);
+    let answer = step(image, heap, &mut threads, row);
+    assert_eq!(rt; answer, Some(row.6), "{} {}", row.0, row.5);
+    assert!(rt; are_same(&threads, &before), "{} {}", row.0, row.5);
 }
 
-/// The heap of the rows.
-fn heap_for<R: Abort>(rt: &R, alloc: Global, image: &Image) -> Heap {
-    let mut heap = heap_of(rt, alloc, image, OBJECTS, 0);
-    write(&mut heap, TARGETED, 0, WORKER);
-    heap
-}
-
-/// Each step comes to what its row tells.
 fn assert_rows<R: Abort>(rt: &R, alloc: Global, rows: &[Row]) {
     let text = program(alloc, rows).ok().expect(rt, "memory");
     let image = linked(rt, alloc, &text);
-    let heap = heap_for(rt, alloc, &image);
+    let heap = heap_of(rt, alloc, &image, OBJECTS, 0);
     for (n, row) in rows.iter().enumerate() {
         let method = method_among(rt, &image, rows.len(), n);
-        for case in row.cases {
-            assert_case(rt, alloc, &image, &heap, method, row, case);
-        }
+        assert_row(rt, alloc, &image, &heap, method, row);
     }
 }
 
 #[test]
-fn monitors_are_entered_and_left(rt: HostRuntime) {
-    assert_rows(&rt, rt.alloc(), ENTERS);
-    assert_rows(&rt, rt.alloc(), EXITS);
+fn threads_that_are_not_there_do_nothing(rt: HostRuntime) {
+    assert_rows(&rt, rt.alloc(), ABSENT);
 }
 
 #[test]
-fn threads_wait_and_are_notified(rt: HostRuntime) {
-    assert_rows(&rt, rt.alloc(), WAITING);
-    assert_rows(&rt, rt.alloc(), NOTICES);
-}
-
-#[test]
-fn threads_are_started(rt: HostRuntime) {
-    assert_rows(&rt, rt.alloc(), STARTS);
+fn natives_on_null_are_illegal(rt: HostRuntime) {
+    assert_rows(&rt, rt.alloc(), ON_NULL);
 }
 
 #[test]
 fn starts_are_refused_in_an_order(rt: HostRuntime) {
-    assert_rows(&rt, rt.alloc(), LIMITED);
-    assert_rows(&rt, rt.alloc(), ORDERS);
-}
-
-#[test]
-fn threads_are_joined_and_told_their_objects(rt: HostRuntime) {
-    assert_rows(&rt, rt.alloc(), JOINS);
-    assert_rows(&rt, rt.alloc(), CURRENT);
+    assert_rows(&rt, rt.alloc(), STARTS);
 }
 
 #[test]

@@ -1,12 +1,8 @@
-// Frames under an exception in flight, one step each.
-use crate::fixtures::{
-    add_method, heap_of, linked, method_among, method_named, registers, same_heaps, same_stacks,
-};
-use crate::unwinding_rows::{
-    BASE, CLASSES, Case, ERROR, HANDLERS, MID, OBJECTS, PLACES, RANGES, Row,
-};
+// An exception in flight, one step: without levels, and at a catch-all behind which another handler stands, which the verifier refuses (S18).
+use crate::fixtures::{heap_of, linked, method_named, same_heaps, same_stacks};
+use crate::records::{CLASSES, FAULT, MID, OBJECTS};
 use dv_clinit::ClassStates;
-use dv_defs::{ClassId, Image, MethodId, Next};
+use dv_defs::{ClassId, Image, Next};
 use dv_frames::{Head, Stack};
 use dv_heap::Heap;
 use dv_throw::unwind_step;
@@ -41,7 +37,7 @@ pub fn same_states(image: &Image, one: &ClassStates, other: &ClassStates, but: u
     true
 }
 
-pub fn is_same(image: &Image, one: &Stage, other: &Stage) -> bool {
+fn is_same(image: &Image, one: &Stage, other: &Stage) -> bool {
     same_heaps(&one.heap, &other.heap)
         && same_stacks(&one.stack, &other.stack)
         && same_states(image, &one.states, &other.states, u32::MAX)
@@ -66,113 +62,21 @@ pub fn step(image: &Image, stage: &mut Stage, thread: u32, flying: u32) -> Optio
     }
 }
 
-/// A frame's registers.
-pub const WORDS: &[u32] = &[11, 12];
-
-/// Adds a frame, which caught an object and has a result from a call before.
-fn add_frame<R: Abort>(rt: &R, stack: &mut Stack, method: MethodId, at: u32) {
-    assert!(rt; stack.push(method, 2, WORDS).is_ok());
-    stack.enter_handler(at, BASE);
-    stack.give(Kept::One(99));
-}
-
-/// The method of Main that catches all.
-fn catching<R: Abort>(rt: &R, image: &Image) -> MethodId {
-    method_named(image, "LMain;", "run").expect(rt, "a method")
-}
-
-/// A frame below that would catch all.
-fn below<R: Abort>(rt: &R, alloc: Global, image: &Image) -> Stage {
-    let mut stage = stage_of(rt, alloc, image, 0);
-    add_frame(rt, &mut stage.stack, catching(rt, image), 0);
-    stage
-}
-
-/// The frame on top goes on at a handler with its registers, and caught the object. Drops it.
-fn drop_caught<R: Abort>(rt: &R, stack: &mut Stack, method: MethodId, at: u32, object: u32) {
+#[test]
+fn a_catch_all_hides_what_stands_behind_it(rt: HostRuntime) {
+    let image = linked(&rt, rt.alloc(), CLASSES);
+    let method = method_named(&image, "LMain;", "run").expect(&rt, "a method");
+    let mut stage = stage_of(&rt, rt.alloc(), &image, 0);
+    assert!(rt; stage.stack.push(method, 2, &[11, 12]).is_ok());
+    stage.stack.give(Kept::One(99));
+    assert_eq!(rt; step(&image, &mut stage, 1, MID), Some(Next::On));
     let head = Head {
         method,
-        at,
+        at: 4,
         result: Kept::None,
-        caught: Some(object),
+        caught: Some(MID),
     };
-    assert_eq!(rt; stack.head(), Some(head));
-    assert_eq!(rt; registers(stack), WORDS);
-    stack.pop();
-}
-
-fn assert_case<R: Abort>(
-    rt: &R,
-    alloc: Global,
-    image: &Image,
-    method: MethodId,
-    catches: &str,
-    case: &Case,
-) {
-    let (at, object, handler) = case;
-    let before = below(rt, alloc, image);
-    let mut stage = below(rt, alloc, image);
-    add_frame(rt, &mut stage.stack, method, *at);
-    let wanted = match handler {
-        Some(_) => Next::On,
-        None => Next::ThrowRef(*object),
-    };
-    let answer = step(image, &mut stage, 1, *object);
-    assert_eq!(rt; answer, Some(wanted), "{catches} {at} {object}");
-    if let Some(to) = handler {
-        drop_caught(rt, &mut stage.stack, method, *to, *object);
-    }
-    assert!(rt; is_same(image, &stage, &before), "{catches} {at} {object}");
-}
-
-/// The classes, with the rows as the last methods of Main.
-fn program(alloc: Global, rows: &[Row]) -> Result<String, AllocError> {
-    let mut text = String::new(alloc);
-    text.push_str(CLASSES)?;
-    for (n, row) in rows.iter().enumerate() {
-        let body = format!(in alloc; "{PLACES}{}", row.0)?;
-        add_method(alloc, &mut text, n, 2, &body)?;
-    }
-    Ok(text)
-}
-
-fn assert_rows<R: Abort>(rt: &R, alloc: Global, rows: &[Row]) {
-    let text = program(alloc, rows).ok().expect(rt, "memory");
-    let image = linked(rt, alloc, &text);
-    for (n, row) in rows.iter().enumerate() {
-        let method = method_among(rt, &image, rows.len(), n);
-        let (catches, cases) = row;
-        for case in *cases {
-            assert_case(rt, alloc, &image, method, catches, case);
-        }
-    }
-}
-
-#[test]
-fn the_first_handler_that_fits_is_entered(rt: HostRuntime) {
-    assert_rows(&rt, rt.alloc(), HANDLERS);
-}
-
-#[test]
-fn handlers_are_those_of_the_range(rt: HostRuntime) {
-    assert_rows(&rt, rt.alloc(), RANGES);
-}
-
-#[test]
-fn frames_are_dropped_one_a_step(rt: HostRuntime) {
-    let image = linked(&rt, rt.alloc(), CLASSES);
-    let method = method_named(&image, "LX;", "run").expect(&rt, "a method");
-    let mut stage = below(&rt, rt.alloc(), &image);
-    add_frame(&rt, &mut stage.stack, method, 0);
-    add_frame(&rt, &mut stage.stack, method, 0);
-    for left in [2, 1] {
-        let answer = step(&image, &mut stage, 0, MID);
-        assert_eq!(rt; answer, Some(Next::ThrowRef(MID)));
-        assert_eq!(rt; stage.stack.levels(), left);
-    }
-    assert_eq!(rt; step(&image, &mut stage, 0, MID), Some(Next::On));
-    drop_caught(&rt, &mut stage.stack, catching(&rt, &image), 4, MID);
-    assert_eq!(rt; stage.stack.levels(), 0);
+    assert_eq!(rt; stage.stack.head(), Some(head));
 }
 
 #[test]
@@ -180,7 +84,7 @@ fn an_exception_flies_on_without_levels(rt: HostRuntime) {
     let image = linked(&rt, rt.alloc(), CLASSES);
     let before = stage_of(&rt, rt.alloc(), &image, 0);
     let mut stage = stage_of(&rt, rt.alloc(), &image, 0);
-    for flying in [MID, ERROR] {
+    for flying in [MID, FAULT] {
         let answer = step(&image, &mut stage, 0, flying);
         assert_eq!(rt; answer, Some(Next::ThrowRef(flying)));
     }

@@ -1,144 +1,98 @@
-// The top call over sources and sinks in memory.
-mod again;
-mod calls;
-mod classes;
-mod cuts;
-mod failures;
-mod listings;
-mod lying;
-mod many;
-mod producer;
-mod programs;
-mod raw;
-mod runs;
-mod schedules;
-mod threads;
-mod verdicts;
-
+// The top call over sources and sinks that fail. What words and texts come to is told by the cases of `cases/top` and `cases/listing`.
 use super::*;
 use dv_io::{MemSink, MemSource, NoGate};
 use std::alloc::AllocError;
 use std::process::Abort;
 use std::test::Fail;
 
-const USAGE: &str = "#usage dvm run NAME [workers=N | seed=N] [budget=N] [heap=N] [log=yes]
-#usage dvm replay NAME [budget=N] [heap=N] | dvm verify | dvm list
-#usage dvm demo number=N classes=C threads=T [workers=N]
-";
-
 /// A worker, a thread and a number of steps.
-pub type Turn = (u32, u32, u32);
+type Turn = (u32, u32, u32);
 
 /// A call, and what it comes to.
 #[derive(Clone, Copy)]
-pub struct Row<'a> {
-    pub words: &'a [&'a str],
-    /// The classes before a class, its name, its fields and methods before main, of main the registers and the instructions, and what stands
-    /// behind the class.
-    pub before: &'a str,
-    pub class: &'a str,
-    pub members: &'a str,
-    pub registers: &'a str,
-    pub body: &'a str,
-    pub behind: &'a str,
-    pub failing_reads: &'a [u64],
-    pub failing_writes: &'a [u64],
-    pub status: u8,
-    pub taken: &'a str,
-    /// The schedule of the report, where the row tells it.
-    pub log: Option<&'a [Turn]>,
+struct Row<'a> {
+    words: &'a [&'a str],
+    text: &'a str,
+    failing_reads: &'a [u64],
+    failing_writes: &'a [u64],
+    status: u8,
+    taken: &'a str,
+    /// The schedule of the report.
+    log: &'a [Turn],
 }
 
-/// A main method that returns at once, run.
-pub const RUN: Row<'static> = Row {
+/// A main method that adds the greatest int and one, run.
+const WRAP: Row<'static> = Row {
     words: &["run", "Main"],
-    before: "",
-    class: "LMain;",
-    members: "",
-    registers: "0",
-    body: "return-void\n",
-    behind: "",
+    text: ".class LMain;
+.super Ljava/lang/Object;
+.method static main()V
+.registers 2
+const v0, 0x7fffffff
+const/4 v1, 0x1
+add-int v0, v0, v1
+invoke-static {v0}, Ldvm/Console;->println(I)V
+return-void
+.end method
+",
     failing_reads: &[],
     failing_writes: &[],
     status: 0,
-    taken: "#end done\n",
-    log: None,
+    taken: "-2147483648\n#end done\n",
+    log: &[(0, 0, 4), (0, 0, 1)],
 };
 
-/// The words are no command. The source isn't read, for its first read would fail.
-pub const UNREAD: Row<'static> = Row {
-    failing_reads: &[0],
-    status: 2,
-    taken: USAGE,
-    log: NOTHING_RAN,
-    ..RUN
+/// A read fails.
+const UNREAD: Row<'static> = Row {
+    status: 3,
+    taken: "",
+    log: &[],
+    ..WRAP
 };
 
-/// A program is to be listed.
-pub const LIST: Row<'static> = Row {
-    words: &["list"],
-    log: NOTHING_RAN,
-    ..RUN
+/// A write fails where nothing ran.
+const UNWRITTEN: Row<'static> = Row {
+    status: 4,
+    log: &[],
+    ..WRAP
 };
-
-pub const NOTHING_RAN: Option<&[Turn]> = Some(&[]);
-
-/// Each call comes to what its row says.
-pub fn assert_rows<R: Abort + Threads + Sync>(
-    rt: &R,
-    alloc: Global,
-    rows: &[Row],
-) -> Result<(), Fail> {
-    for row in rows {
-        let text = text_of(alloc, row)?;
-        let report = report_of(rt, alloc, row, text.as_bytes())?;
-        assert_report(rt, alloc, row, &report)?;
-    }
-    Ok(())
-}
 
 /// The report is what the row says.
-pub fn assert_report<R: Abort>(
+fn assert_report<R: Abort>(
     rt: &R,
     alloc: Global,
     row: &Row,
     report: &Report<MemSink>,
 ) -> Result<(), Fail> {
     let taken = String::from_utf8_lossy(alloc, &report.sink.taken)?;
-    assert_eq!(rt; &*taken, row.taken, "{}", row.body);
-    assert_eq!(rt; report.status, row.status, "{}", row.body);
-    if let Some(log) = row.log {
-        let log = log_of(alloc, log)?;
-        assert_eq!(rt; report.log.as_slice(), log.as_slice());
-    }
+    let log = log_of(alloc, row.log)?;
+    assert_eq!(rt; &*taken, row.taken);
+    assert_eq!(rt; report.status, row.status);
+    assert_eq!(rt; report.log.as_slice(), log.as_slice());
     Ok(())
 }
 
-/// The text of a row.
-pub fn text_of(alloc: Global, row: &Row) -> Result<String, AllocError> {
-    let mut text = String::from_str(alloc, row.before)?;
-    text.push_str(".class ")?;
-    text.push_str(row.class)?;
-    text.push_str("\n.super Ljava/lang/Object;\n")?;
-    text.push_str(row.members)?;
-    text.push_str(".method static main()V\n.registers ")?;
-    text.push_str(row.registers)?;
-    text.push_str("\n")?;
-    text.push_str(row.body)?;
-    text.push_str(".end method\n")?;
-    text.push_str(row.behind)?;
-    Ok(text)
-}
-
-/// What the row's words come to over a text.
-pub fn report_of<R: Threads + Sync>(
+/// What the row's words come to over its text.
+fn report_of<R: Threads + Sync>(
     rt: &R,
     alloc: Global,
     row: &Row,
-    text: &[u8],
 ) -> Result<Report<MemSink>, AllocError> {
     let words = words_of(alloc, row.words)?;
-    let mut source = source_of(alloc, text, row.failing_reads)?;
+    let mut source = source_of(alloc, row.text.as_bytes(), row.failing_reads)?;
+    let sink = sink_of(alloc, row.failing_writes)?;
+    Ok(dvm(rt, alloc, &words, &mut source, sink, &NoGate))
+}
+
+/// The same of a text that is read byte by byte.
+fn report_by_bytes<R: Threads + Sync>(
+    rt: &R,
+    alloc: Global,
+    row: &Row,
+) -> Result<Report<MemSink>, AllocError> {
+    let words = words_of(alloc, row.words)?;
+    let mut source = source_of(alloc, row.text.as_bytes(), row.failing_reads)?;
+    source.piece = 1;
     let sink = sink_of(alloc, row.failing_writes)?;
     Ok(dvm(rt, alloc, &words, &mut source, sink, &NoGate))
 }
@@ -175,7 +129,7 @@ fn sink_of(alloc: Global, fails: &[u64]) -> Result<MemSink, AllocError> {
     })
 }
 
-pub fn log_of(alloc: Global, turns: &[Turn]) -> Result<Vec<Entry>, AllocError> {
+fn log_of(alloc: Global, turns: &[Turn]) -> Result<Vec<Entry>, AllocError> {
     let mut log = Vec::new(alloc);
     for (worker, thread, steps) in turns {
         log.push(Entry {
@@ -185,4 +139,120 @@ pub fn log_of(alloc: Global, turns: &[Turn]) -> Result<Vec<Entry>, AllocError> {
         })?;
     }
     Ok(log)
+}
+
+/// Each read of a text fails in turn, 64 bytes a read; the one behind the last, which finds the end, too.
+#[test]
+fn reads_fail(rt: HostRuntime) -> Result<(), Fail> {
+    for read in 0..=WRAP.text.len() / 64 + 1 {
+        let fails = [read as u64];
+        let row = unread(&fails);
+        let report = report_of(&rt, rt.alloc(), &row)?;
+        assert_report(&rt, rt.alloc(), &row, &report)?;
+    }
+    Ok(())
+}
+
+/// Each read of a byte fails in turn, and the one that finds the end.
+#[test]
+fn reads_of_bytes_fail(rt: HostRuntime) -> Result<(), Fail> {
+    for read in 0..=WRAP.text.len() {
+        let fails = [read as u64];
+        let row = unread(&fails);
+        let report = report_by_bytes(&rt, rt.alloc(), &row)?;
+        assert_report(&rt, rt.alloc(), &row, &report)?;
+    }
+    Ok(())
+}
+
+/// These reads fail.
+fn unread(fails: &[u64]) -> Row<'_> {
+    Row {
+        failing_reads: fails,
+        ..UNREAD
+    }
+}
+
+/// There is no read behind that one.
+#[test]
+fn the_end_is_read_once(rt: HostRuntime) -> Result<(), Fail> {
+    let fails = [WRAP.text.len().saturating_add(1) as u64];
+    let row = Row {
+        failing_reads: &fails,
+        ..WRAP
+    };
+    let report = report_by_bytes(&rt, rt.alloc(), &row)?;
+    assert_report(&rt, rt.alloc(), &row, &report)
+}
+
+/// Each write of a byte fails in turn; the run is the same. Behind the last byte there is no write.
+#[test]
+fn writes_fail(rt: HostRuntime) -> Result<(), Fail> {
+    for write in 0..=WRAP.taken.len() {
+        let fails = [write as u64];
+        let row = unwritten(&fails, write);
+        let report = report_of(&rt, rt.alloc(), &row)?;
+        assert_report(&rt, rt.alloc(), &row, &report)?;
+    }
+    Ok(())
+}
+
+/// A write fails after so many bytes, and the sink has taken these. That of a byte past the last isn't made.
+fn unwritten(fails: &[u64], written: usize) -> Row<'_> {
+    Row {
+        failing_writes: fails,
+        status: if written < WRAP.taken.len() { 4 } else { 0 },
+        taken: WRAP.taken.get(..written).unwrap_or(""),
+        ..WRAP
+    }
+}
+
+/// Reads and writes that fail where a program is to be listed or verified, and those of a refusal. Nothing ran, so the schedule is empty. Where the
+/// words are no command the source isn't read, for its first read would fail.
+const OTHERS: &[Row<'static>] = &[
+    Row {
+        words: &["list"],
+        failing_reads: &[0],
+        ..UNREAD
+    },
+    Row {
+        words: &["list"],
+        failing_writes: &[7],
+        taken: ".class ",
+        ..UNWRITTEN
+    },
+    Row {
+        words: &["verify"],
+        failing_writes: &[9],
+        taken: "#accepted",
+        ..UNWRITTEN
+    },
+    Row {
+        words: &["replay", "Main"],
+        failing_writes: &[9],
+        taken: "#schedule",
+        ..UNWRITTEN
+    },
+    Row {
+        words: &["run", "Other"],
+        failing_writes: &[8],
+        taken: "#refused",
+        ..UNWRITTEN
+    },
+    Row {
+        words: &["run"],
+        failing_reads: &[0],
+        failing_writes: &[6],
+        taken: "#usage",
+        ..UNWRITTEN
+    },
+];
+
+#[test]
+fn other_calls_fail(rt: HostRuntime) -> Result<(), Fail> {
+    for row in OTHERS {
+        let report = report_of(&rt, rt.alloc(), row)?;
+        assert_report(&rt, rt.alloc(), row, &report)?;
+    }
+    Ok(())
 }

@@ -4,12 +4,8 @@
 #[cfg(test)]
 mod order_tests;
 #[cfg(test)]
-mod rows;
-#[cfg(test)]
 mod rule_rows;
 #[cfg(test)]
 mod rule_tests;
 #[cfg(test)]
 mod states;
-#[cfg(test)]
-mod tests;

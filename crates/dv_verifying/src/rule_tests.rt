@@ -4,8 +4,7 @@ ghost use Rattle.dv_defs.specs.Op.{Code};
 ghost use Rattle.dv_rules.specs.Asking.{HasCode, HasInsn};
 
 use crate::rule_rows::{DEMANDS, EDGES, ENTRIES, PROGRAM, STEPS};
-use crate::states::{StateRow, class_named, state};
-use crate::tests::linked;
+use crate::states::{BOOT, StateRow, class_named, linked, state};
 use dv_defs::{Image, MethodId, RegState, Rule};
 use dv_fetch::begins_insn_at;
 use dv_ops::{coded_at, method_at};
@@ -37,28 +36,23 @@ fn registers_at(image: &Image, method: MethodId, at: u32) -> Option<u16>
     Some(body.registers)
 }
 
-// Whether a method has this class and this name.
-fn is_named(image: &Image, method: MethodId, class: &str, name: &str) -> bool {
+// Whether a method of the program has this name.
+fn is_named(image: &Image, method: MethodId, name: &str) -> bool {
     let Some(method) = method_at(image, method) else {
         return false;
     };
-    match image.classes.items().get(method.info.class.0 as usize) {
-        Some(info) => {
-            info.def.name.bytes() == class.as_bytes() && method.def.name.bytes() == name.as_bytes()
-        }
-        None => false,
-    }
+    method.info.class.0 >= BOOT && method.def.name.bytes() == name.as_bytes()
 }
 
-// The first method of a class that has this name.
-fn method_of<R: Abort>(rt: &R, image: &Image, class: &str, name: &str) -> MethodId {
+// The first method of the program that has this name.
+fn method_of<R: Abort>(rt: &R, image: &Image, name: &str) -> MethodId {
     for number in 0..image.methods.len() {
         let method = MethodId(u32::try_from(number).ok().expect(rt, "a number"));
-        if is_named(image, method, class, name) {
+        if is_named(image, method, name) {
             return method;
         }
     }
-    panic!(rt; "{class} {name}")
+    panic!(rt; "{name}")
 }
 
 fn assert_clean<R: Abort>(rt: &R, alloc: Global, image: &Image, method: MethodId)
@@ -74,11 +68,11 @@ fn entry_of<R: Abort>(rt: &R, alloc: Global, image: &Image, method: MethodId) ->
     entry.ok().expect(rt, "memory")
 }
 
-fn assert_entries<R: Abort>(rt: &R, alloc: Global, image: &Image, rows: &[(&str, &str, StateRow)]) {
-    for (class, name, row) in rows {
-        let method = method_of(rt, image, class, name);
+fn assert_entries<R: Abort>(rt: &R, alloc: Global, image: &Image, rows: &[(&str, StateRow)]) {
+    for (name, row) in rows {
+        let method = method_of(rt, image, name);
         let entry = entry_of(rt, alloc, image, method);
-        assert!(rt; entry == state(rt, alloc, *row), "{class} {name}");
+        assert!(rt; entry == state(rt, alloc, *row), "{name}");
     }
 }
 
@@ -127,7 +121,7 @@ fn assert_steps<R: Abort>(
 #[test]
 fn instructions_change_states_as_the_rules_tell(rt: HostRuntime) {
     let image = linked(&rt, rt.alloc(), PROGRAM).ok().expect(&rt, "memory");
-    let method = method_of(&rt, &image, "LA;", "steps");
+    let method = method_of(&rt, &image, "steps");
     assert_steps(&rt, rt.alloc(), &image, method, STEPS.as_slice());
 }
 
@@ -151,7 +145,7 @@ fn assert_demands<R: Abort>(
     rows: &[(&str, u32, StateRow, Option<Rule>)],
 ) {
     for (number, (name, at, before, broken)) in rows.iter().enumerate() {
-        let method = method_of(rt, image, "LA;", name);
+        let method = method_of(rt, image, name);
         let before = state(rt, alloc, *before);
         let found = rule_broken(rt, alloc, image, method, *at, &before);
         assert!(rt; found == *broken, "row {number} at {at}");
@@ -203,6 +197,6 @@ fn assert_edges<R: Abort>(
 #[test]
 fn states_flow_along_the_edges_of_the_rules(rt: HostRuntime) {
     let image = linked(&rt, rt.alloc(), PROGRAM).ok().expect(&rt, "memory");
-    let method = method_of(&rt, &image, "LA;", "ways");
+    let method = method_of(&rt, &image, "ways");
     assert_edges(&rt, rt.alloc(), &image, method, EDGES.as_slice());
 }

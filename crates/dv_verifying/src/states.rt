@@ -1,8 +1,30 @@
-// Register types and states as the rows of tables have them.
-use dv_defs::{PendingType, RegState, RegType, Seq, Ty};
+// Images of texts, and register types and states as the rows of tables have them.
+use dv_boot::boot_text;
+use dv_classread::read_classes;
+use dv_defs::{ClassDef, Image, PendingType, RegState, RegType, Seq, Ty};
+use dv_hier::Classes;
 use dv_names::parse_type;
-use std::alloc::Global;
+use dv_resolve::link;
+use std::alloc::{AllocError, Global};
 use std::process::Abort;
+
+pub const BOOT: u32 = 33;
+
+fn read<R: Abort>(rt: &R, alloc: Global, text: &str) -> Vec<ClassDef> {
+    assert!(rt; text.len() < 4_000_000);
+    let read = read_classes(alloc, text.as_bytes(), false);
+    read.ok().expect(rt, "a text").classes.into_vec()
+}
+
+/// The image of a text behind the boot classes.
+pub fn linked<R: Abort>(rt: &R, alloc: Global, text: &str) -> Result<Image, AllocError> {
+    let mut classes = read(rt, alloc, boot_text());
+    for class in read(rt, alloc, text) {
+        classes.push(class)?;
+    }
+    let classes = Classes::new(classes, BOOT).expect(rt, "names");
+    Ok(link(alloc, classes).ok().expect(rt, "an image"))
+}
 
 /// A register type, a class or an array by its descriptor.
 #[derive(Clone, Copy)]
@@ -25,13 +47,12 @@ pub enum Pending {
     Long,
 }
 
-/// A state by its registers: with nothing else known, a result still to be moved, a caught exception, the superclass's constructor
-/// still to be called, or all of these.
+/// A state by its registers: with nothing else known, a result still to be moved, the superclass's constructor still to be called, or these
+/// and a caught exception.
 #[derive(Clone, Copy)]
 pub enum StateRow {
     Plain(&'static [Kind]),
     Awaiting(&'static [Kind], Pending),
-    Caught(&'static [Kind], &'static str),
     Constructing(&'static [Kind]),
     Full(&'static [Kind], Pending, &'static str),
 }
@@ -41,8 +62,8 @@ fn type_named<R: Abort>(rt: &R, alloc: Global, descriptor: &str) -> Ty {
     ty.ok().expect(rt, "a type")
 }
 
-/// The register type of a row.
-pub fn register_type<R: Abort>(rt: &R, alloc: Global, kind: Kind) -> RegType {
+// The register type of a row.
+fn register_type<R: Abort>(rt: &R, alloc: Global, kind: Kind) -> RegType {
     match kind {
         Kind::Conflict => RegType::Conflict,
         Kind::Zero => RegType::Zero,
@@ -104,9 +125,6 @@ pub fn state<R: Abort>(rt: &R, alloc: Global, row: StateRow) -> RegState {
     match row {
         StateRow::Plain(regs) => state_of(rt, alloc, regs, Pending::Nothing, None, false),
         StateRow::Awaiting(regs, result) => state_of(rt, alloc, regs, result, None, false),
-        StateRow::Caught(regs, caught) => {
-            state_of(rt, alloc, regs, Pending::Nothing, Some(caught), false)
-        }
         StateRow::Constructing(regs) => state_of(rt, alloc, regs, Pending::Nothing, None, true),
         StateRow::Full(regs, result, caught) => {
             state_of(rt, alloc, regs, result, Some(caught), true)

@@ -22,13 +22,16 @@ started {S} f fits = record {
   least = λ b c k s e. absurd (let h = none_at {S = S} f.size k in cc);
 }
 
+pub none_yet : {S : Type 0} (f : Flow S) (fits : ℕ → S → Type 0) (xs : List (Option S)) (flags : List Bool) → xs ≡ replicate f.size None → flags ≡ replicate f.size false → IsPartly f fits none_busy xs flags
+none_yet {S} f fits xs flags x n = rw (x, n) (started f fits)
+
 -- the first place has the entry's state, and waits
 pub first_step : {S : Type 0} (f : Flow S) (fits : ℕ → S → Type 0) (rank : S → ℕ) (top : ℕ) → IsLawful f fits rank top →
     (xs : List (Option S)) (flags : List Bool) (s : S) (ys : List (Option S)) (later : List Bool) → 0 < f.size →
     xs ≡ replicate f.size None → flags ≡ replicate f.size false → s ≡ f.entry →
     ys ≡ states_after f xs 0 s → later ≡ waiting_after f xs flags 0 s → IsBegun f fits ys later
 first_step {S} f fits rank top law xs flags s ys later h x n e y z =
-    let p : IsPartly f fits none_busy xs flags = rw (x, n) (started f fits) in
+    let p = none_yet f fits xs flags x n in
     let v : fits 0 s = rw e law.entry_fits in
     let inside : 0 < length xs = omega (arith, p.long) in
     let flag : 0 < length flags = omega (arith, p.flagged) in

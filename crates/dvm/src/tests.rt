@@ -1,4 +1,4 @@
-// The words of a command line.
+// The words of a command line. Those that are no text are told by the cases of `cases/top`.
 use super::*;
 use std::alloc::{AllocError, Global};
 use std::test::Fail;
@@ -39,17 +39,9 @@ fn joined(alloc: Global, words: &[String]) -> Result<String, AllocError> {
 }
 
 #[test]
-fn a_word_that_is_no_text_leaves_no_words(rt: HostRuntime) -> Result<(), Fail> {
-    let rows = [
-        (b"dvm\0run\0Main".as_slice(), "run Main "),
-        (b"\xff\0run\0Main".as_slice(), "run Main "),
-        (b"dvm\0\xff".as_slice(), ""),
-        (b"dvm\0run\0Main\0\xc3".as_slice(), ""),
-        (b"dvm".as_slice(), ""),
-    ];
-    for (line, words) in rows {
-        let read = words_of(&(CommandLine(line), rt.alloc()))?;
-        assert_eq!(rt; joined(rt.alloc(), &read)?.as_str(), words);
-    }
+fn the_name_of_the_program_may_be_no_text(rt: HostRuntime) -> Result<(), Fail> {
+    let line = b"\xff\0run\0Main".as_slice();
+    let read = words_of(&(CommandLine(line), rt.alloc()))?;
+    assert_eq!(rt; joined(rt.alloc(), &read)?.as_str(), "run Main ");
     Ok(())
 }

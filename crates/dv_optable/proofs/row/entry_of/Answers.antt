@@ -7,4 +7,4 @@ pub returns-in_err-place : goal.returns-in_err-place
 returns-in_err-place c = ap (option_map (λ r. row r.0 r.1.now r.2 r.3)) c.from_residual.ensures ∙ no_row c.args.op c.ranges.op.fits c.in_err-place.ensures.place
 
 pub returns : goal.returns
-returns c = row_known c.args.op c.in_ok-place.place _ c.ranges.op.fits c.in_ok-place.ensures.place c.row_at.ensures
+returns c = row_known _ c.args.op c.in_ok-place.place _ c.rows.ensures.entries c.ranges.op.fits c.in_ok-place.ensures.place c.row_at.ensures

@@ -1,6 +1,24 @@
 use Rattle.std.proofs.Common.{arith}
-use Rattle.dv_worklist.proofs.Turning.{first_step, waits_within, opened, taken_less, next_step, ended}
+use Rattle.dv_worklist.proofs.Turning.{first_step, none_yet, waits_within, opened, taken_less, next_step, ended}
 use Rattle.dv_worklist.proofs.solve.least.Goals as goal
+
+pub raise-requires-clause-place : goal.raise-requires-clause-place
+raise-requires-clause-place g c =
+    let before = none_yet (g.F.Flow.graph c.args.flow.now) (g.F.Flow.fits c.args.flow.now) c.in_ok-states.states.items c.in_ok-waiting.waiting c.in_ok-states.ensures (cc (c.in_ok-waiting.ensures, c.size.ensures)) in
+    omega (arith, before.long, c.requires.some)
+
+pub raise-requires-clause-flag : goal.raise-requires-clause-flag
+raise-requires-clause-flag g c =
+    let before = none_yet (g.F.Flow.graph c.args.flow.now) (g.F.Flow.fits c.args.flow.now) c.in_ok-states.states.items c.in_ok-waiting.waiting c.in_ok-states.ensures (cc (c.in_ok-waiting.ensures, c.size.ensures)) in
+    omega (arith, before.long, before.flagged, c.requires.some)
+
+pub raise-requires-clause-all : goal.raise-requires-clause-all
+raise-requires-clause-all g c =
+    let before = none_yet (g.F.Flow.graph c.args.flow.now) (g.F.Flow.fits c.args.flow.now) c.in_ok-states.states.items c.in_ok-waiting.waiting c.in_ok-states.ensures (cc (c.in_ok-waiting.ensures, c.size.ensures)) in
+    before.fit
+
+pub raise-requires-clause-fits : goal.raise-requires-clause-fits
+raise-requires-clause-fits g c = rw c.in_ok-entry.ensures c.requires.lawful.entry_fits
 
 pub loop-place-init : goal.loop-place-init
 loop-place-init g c =

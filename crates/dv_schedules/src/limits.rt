@@ -1,0 +1,109 @@
+// Limits that the program never sets: a host's own.
+use crate::playing::{Player, assert_end, opened, verified};
+use crate::texts::{AMPLE, BOTH, MAIN_FIRST, SPENT};
+use dv_defs::{Ending, Limits};
+use dv_rules::Verified;
+use std::alloc::Global;
+use std::process::Abort;
+
+/// Limits, how a run ends within them, and the final text.
+type Row = (Limits, Ending, &'static str);
+
+/// Six bytes, two threads, and an object of three words, which is made on four levels.
+static LIMITS: [Row; 10] = [
+    (Limits { output: 6, ..AMPLE }, Ending::Done, MAIN_FIRST),
+    (
+        Limits { output: 5, ..AMPLE },
+        Ending::Output,
+        "42\n#end output\n",
+    ),
+    (
+        Limits { output: 0, ..AMPLE },
+        Ending::Output,
+        "#end output\n",
+    ),
+    (
+        Limits {
+            threads: 2,
+            ..AMPLE
+        },
+        Ending::Done,
+        MAIN_FIRST,
+    ),
+    (
+        Limits {
+            threads: 1,
+            ..AMPLE
+        },
+        Ending::Done,
+        "#uncaught 0 java.lang.OutOfMemoryError\n#end done\n",
+    ),
+    (Limits { levels: 4, ..AMPLE }, Ending::Done, MAIN_FIRST),
+    (
+        Limits { levels: 3, ..AMPLE },
+        Ending::StackFull(0),
+        "#end stack full 0\n",
+    ),
+    (Limits { heap: 3, ..AMPLE }, Ending::Done, MAIN_FIRST),
+    (
+        Limits { heap: 2, ..AMPLE },
+        Ending::HeapFull(0),
+        "#end heap full 0\n",
+    ),
+    // as the run begins, its budget of no steps is spent
+    (Limits { budget: 0, ..AMPLE }, Ending::Steps, SPENT),
+];
+
+/// Main has 200 registers, and calls a method with 57.
+const WIDE: &str = "
+.class LMain;
+.super Ljava/lang/Object;
+.method static wide()V
+.registers 57
+return-void
+.end method
+.method static main()V
+.registers 200
+invoke-static {}, LMain;->wide()V
+return-void
+.end method
+";
+
+static WIDE_LIMITS: [Row; 2] = [
+    (
+        Limits {
+            words: 257,
+            ..AMPLE
+        },
+        Ending::Done,
+        "#end done\n",
+    ),
+    (
+        Limits {
+            words: 256,
+            ..AMPLE
+        },
+        Ending::StackFull(0),
+        "#end stack full 0\n",
+    ),
+];
+
+fn assert_limits<R: Abort>(rt: &R, alloc: Global, verified: &Verified, rows: &[Row]) {
+    for (limits, ending, text) in rows {
+        let player = Player {
+            verified,
+            limits: *limits,
+        };
+        let run = opened(rt, alloc, player);
+        assert_end(rt, alloc, player, run, *ending, text);
+    }
+}
+
+#[test]
+fn limits_are_the_hosts(rt: HostRuntime) {
+    let alloc = rt.alloc();
+    let both = verified(&rt, alloc, BOTH);
+    assert_limits(&rt, alloc, &both, LIMITS.as_slice());
+    let wide = verified(&rt, alloc, WIDE);
+    assert_limits(&rt, alloc, &wide, WIDE_LIMITS.as_slice());
+}
