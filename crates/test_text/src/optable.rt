@@ -1,7 +1,6 @@
-//! Rows taken by hand from the opcode page.
+// Rows taken by hand from the opcode page. Which opcodes have none is told by `cases/verifying`, and all names by `cases/reading`.
 use dv_optable::{
-    Bin, Call, Family, Format, Suffix, Test, Unary, Width, is_float, kind_of, name_to_opcode,
-    row_of,
+    Bin, Call, Family, Format, Suffix, Test, Unary, Width, kind_of, name_to_opcode, row_of,
 };
 
 // The opcode, its name, format and family, whether it throws, and whether it is local.
@@ -63,36 +62,6 @@ fn looks_rows_up(rt: HostRuntime) {
         assert_eq!(rt; (row.throws, row.local), (*throws, *local));
         assert_eq!(rt; kind_of(*op), Some(*family));
         assert_eq!(rt; name_to_opcode(name.as_bytes()), Some(*op));
-    }
-}
-
-static FLOATS: [u8; 10] = [0x2d, 0x30, 0x7f, 0x82, 0x85, 0x8c, 0xa6, 0xaf, 0xc6, 0xcf];
-
-static UNUSED: [u8; 7] = [0x3e, 0x43, 0x73, 0x79, 0x7a, 0xe3, 0xff];
-
-#[test]
-fn finds_no_row_at_other_opcodes(rt: HostRuntime) {
-    for op in &FLOATS {
-        assert!(rt; is_float(*op) && row_of(*op).is_none());
-    }
-    for op in &UNUSED {
-        assert!(rt; !is_float(*op) && row_of(*op).is_none() && kind_of(*op).is_none());
-    }
-}
-
-#[test]
-fn counts_rows_and_floats(rt: HostRuntime) {
-    let rows = (0..=u8::MAX).filter(|op| row_of(*op).is_some()).count();
-    let floats = (0..=u8::MAX).filter(|op| is_float(*op)).count();
-    assert_eq!(rt; (rows, floats), (182, 36));
-}
-
-#[test]
-fn reads_each_name_back(rt: HostRuntime) {
-    for op in 0..=u8::MAX {
-        if let Some(row) = row_of(op) {
-            assert_eq!(rt; name_to_opcode(row.name.as_bytes()), Some(op));
-        }
     }
 }
 
