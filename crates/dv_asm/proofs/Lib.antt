@@ -8,7 +8,6 @@ pub mod UnitLemmas
 pub mod HandlerLemmas
 pub mod PoolLemmas
 pub mod Writing
-pub mod TestOps
 pub mod TileLemmas
 pub mod Telling
 pub mod RangeLemmas

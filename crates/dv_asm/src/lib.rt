@@ -16,8 +16,6 @@ mod pools;
 mod ranges;
 mod short;
 mod switches;
-#[cfg(test)]
-mod tests;
 mod tries;
 mod units;
 

@@ -2,8 +2,6 @@
 #![tactic(auto)]
 
 mod natives;
-#[cfg(test)]
-mod tests;
 mod text;
 
 pub use natives::native;

@@ -7,8 +7,6 @@ mod lines;
 mod method;
 mod program;
 mod schedule;
-#[cfg(test)]
-mod tests;
 mod text;
 
 pub use class_line::{ClassHead, ClassLine, Signature, Standing, read_class_line};

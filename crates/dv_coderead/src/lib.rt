@@ -18,8 +18,6 @@ pub mod references;
 mod refusal;
 mod registers;
 mod shape;
-#[cfg(test)]
-mod tests;
 pub mod words;
 
 pub use body::read_body;

@@ -7,8 +7,6 @@ mod keys;
 mod kinds;
 mod names;
 mod refusals;
-#[cfg(test)]
-mod tests;
 mod words;
 
 pub use command::{Cmd, WordError};

@@ -6,8 +6,6 @@ mod laws;
 mod line;
 mod literal;
 mod numbers;
-#[cfg(test)]
-mod tests;
 mod token;
 
 pub use laws::{

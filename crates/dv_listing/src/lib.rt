@@ -31,6 +31,3 @@ pub use read_laws::{
     read_classes_are_listed, read_classes_are_read_again, read_lines_are_texts,
     read_operands_are_listed, read_raw_bodies_are_listed,
 };
-
-#[cfg(test)]
-mod tests;

@@ -13,6 +13,3 @@ pub use error::NameError;
 pub use parse::{parse_proto, parse_type};
 pub use print::{java_text, print_proto, print_type};
 pub use units::{chars_of_utf8, utf8_of_chars};
-
-#[cfg(test)]
-mod tests;

@@ -8,8 +8,6 @@ mod family;
 mod format;
 mod row;
 mod table;
-#[cfg(test)]
-mod tests;
 
 pub use family::{Bin, Call, Family, Suffix, Test, Unary, Width};
 pub use format::Format;

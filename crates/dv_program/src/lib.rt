@@ -10,6 +10,3 @@ mod program;
 pub use errors::ProgramError;
 pub use mains::main_method;
 pub use program::{Scheduled, read_program, read_scheduled};
-
-#[cfg(test)]
-mod tests;

@@ -15,8 +15,6 @@ mod readers;
 mod shape;
 mod sizes;
 mod spelled;
-#[cfg(test)]
-mod tests;
 mod write;
 mod writers;
 
