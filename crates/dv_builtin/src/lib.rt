@@ -14,6 +14,3 @@ mod units;
 
 pub use natives::native_step;
 pub use step::builtin_step;
-
-#[cfg(test)]
-mod tests;

@@ -14,6 +14,3 @@ pub use landings::{Landed, land};
 pub use laws::invokes_land;
 pub use returns::{return_value, return_void};
 pub use step::call_step;
-
-#[cfg(test)]
-mod tests;

@@ -114,6 +114,3 @@ impl ClassStates {
         }
     }
 }
-
-#[cfg(test)]
-mod tests;

@@ -5,9 +5,6 @@ ghost use Rattle.dv_core.specs.Machines.{machine_of};
 ghost use Rattle.dv_core.specs.Watching.{AreWatchable};
 ghost use Rattle.dv_final.specs.Final.{blocked_lines, ending_line, ending_lines, ending_lines_by, ending_text, final_lines_of, newline_after};
 
-#[cfg(test)]
-mod tests;
-
 use crate::classes::name_at;
 use crate::uncaught::add_uncaught;
 use dv_core::Vm;

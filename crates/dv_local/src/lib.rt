@@ -18,6 +18,3 @@ mod tops;
 pub use frames::{is_local, local_step, opcode_is_local, run_frame};
 pub use slice::{Slice, run_slice};
 pub use tops::{step_top, steps_top};
-
-#[cfg(test)]
-mod tests;

@@ -17,6 +17,3 @@ mod words;
 
 pub use laws::operands_stand;
 pub use step::{mem_step, operate};
-
-#[cfg(test)]
-mod tests;

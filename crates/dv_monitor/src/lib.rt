@@ -7,8 +7,6 @@ mod holding;
 mod holdings;
 mod slots;
 mod table;
-#[cfg(test)]
-mod tests;
 mod wait;
 mod waits;
 

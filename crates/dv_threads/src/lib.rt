@@ -15,6 +15,3 @@ pub use monitors::{monitor_enter, monitor_exit};
 pub use natives::native_step;
 pub use step::thread_step;
 pub use threads::Threads;
-
-#[cfg(test)]
-mod tests;

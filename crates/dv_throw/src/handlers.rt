@@ -68,6 +68,3 @@ fn catches(image: &Image, heap: &Heap, object: u32, body: &Body, handler: &Handl
         None => true,
     }
 }
-
-#[cfg(test)]
-mod tests;

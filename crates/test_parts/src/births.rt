@@ -1,5 +1,5 @@
 // The state of a class that isn't there (JLS 12.4).
-use crate::tests::linked;
+use crate::fixtures::linked;
 use dv_clinit::{ClassStates, State, initialiser};
 use dv_defs::ClassId;
 

@@ -1,31 +1,13 @@
 // Programs behind the boot classes: their tables and places, and what isn't there.
-use crate::rows;
-use crate::rows::{Landing, Shape};
-use dv_boot::boot_text;
-use dv_classread::read_classes;
-use dv_defs::{Base, ClassDef, ClassId, Image, LinkError, LinkKind, MethodId, Text, Ty};
+use crate::fixtures::linked;
+use crate::image_rows as rows;
+use crate::image_rows::{Landing, Shape};
+use dv_defs::{Base, ClassId, Image, LinkError, LinkKind, MethodId, Text, Ty};
 use dv_hier::Classes;
 use dv_image::{assignable, field_of, instance, lookup_interface, lookup_virtual, sub};
 use dv_resolve::{find_main, link};
 use std::alloc::Global;
 use std::process::Abort;
-
-const BOOT: u32 = 33;
-
-fn read<R: Abort>(rt: &R, alloc: Global, text: &str) -> Vec<ClassDef> {
-    assert!(rt; text.len() < 4_000_000);
-    let read = read_classes(alloc, text.as_bytes(), false);
-    read.ok().expect(rt, "a text").classes.into_vec()
-}
-
-pub fn linked<R: Abort>(rt: &R, alloc: Global, text: &str) -> Image {
-    let mut classes = read(rt, alloc, boot_text());
-    for class in read(rt, alloc, text) {
-        classes.push(class).ok().expect(rt, "memory");
-    }
-    let classes = Classes::new(classes, BOOT).expect(rt, "names");
-    link(alloc, classes).ok().expect(rt, "an image")
-}
 
 fn name_of<R: Abort>(rt: &R, alloc: Global, name: &str) -> Text {
     let bytes = Vec::from_slice(alloc, name.as_bytes());

@@ -1,5 +1,5 @@
 // Heaps over the images of programs: fields that have no static words, and words before and after they are counted.
-use crate::tests::linked;
+use crate::fixtures::linked;
 use dv_defs::{ClassId, FieldId};
 use dv_heap::{Heap, HeapError};
 
