@@ -26,6 +26,3 @@ pub use pool::Pool;
 pub use run::{Ending, Entry, Limits, Named, Native, Next, Value, Why};
 pub use seq::Seq;
 pub use typing::{PendingType, RegState, RegType};
-
-#[cfg(test)]
-mod tests;

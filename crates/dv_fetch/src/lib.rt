@@ -6,8 +6,6 @@ mod items;
 mod parts;
 mod pools;
 mod resolving;
-#[cfg(test)]
-mod tests;
 mod walk;
 
 pub use fetch::{begins_insn_next, op_at};

@@ -12,6 +12,3 @@ pub use heads::{Head, begin, given, go, handling, high_word, low_word};
 pub use levels::{Level, Top, base_of, last, set_last};
 pub use registers::{set_two, set_word, two_words, word, words_are_whole};
 pub use stack::{Full, Stack};
-
-#[cfg(test)]
-mod tests;

@@ -7,8 +7,6 @@ ghost use Rattle.dv_heap.specs.Answers.{HasWord, HasStatic};
 ghost use Rattle.dv_heap.specs.Objects.{words_by};
 
 mod allocating;
-#[cfg(test)]
-mod tests;
 
 use crate::blocks::Blocks;
 use crate::objects::Objects;

@@ -9,8 +9,6 @@
 mod memory;
 mod plain;
 mod standard;
-#[cfg(test)]
-mod tests;
 mod traits;
 
 pub use memory::{MemSink, MemSource};

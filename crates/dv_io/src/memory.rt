@@ -152,6 +152,3 @@ pub(crate) fn copy_piece(bytes: &[u8], piece: usize, room: &mut [u8]) -> usize
     room[..n].copy_from_slice(&bytes[..n]);
     n
 }
-
-#[cfg(test)]
-mod tests;

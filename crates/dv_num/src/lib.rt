@@ -6,8 +6,6 @@
 
 mod int;
 mod long;
-#[cfg(test)]
-mod tests;
 
 pub use int::{div_i32, rem_i32, shl_i32, shr_i32, to_byte, to_char, to_short, ushr_i32};
 pub use long::{cmp_long, div_i64, rem_i64, shl_i64, shr_i64, ushr_i64};

@@ -61,6 +61,3 @@ pub fn dvm<R: Threads + Sync, S: Source, K: Sink + Send + Drop, G: Gate + Sync>(
         sink,
     }
 }
-
-#[cfg(test)]
-mod tests;

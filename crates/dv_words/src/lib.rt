@@ -6,6 +6,3 @@ pub mod laws;
 mod state;
 
 pub use state::{Frame, Kept, Kind, Level};
-
-#[cfg(test)]
-mod tests;

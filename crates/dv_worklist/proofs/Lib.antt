@@ -1,4 +1,3 @@
-pub mod Numbers
 pub mod Rising
 pub mod Spreading
 pub mod Turning

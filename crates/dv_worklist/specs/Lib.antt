@@ -1,4 +1,3 @@
 pub mod Flow
-pub mod Numbers
 pub mod Waiting
 pub mod Work

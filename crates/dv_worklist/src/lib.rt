@@ -4,8 +4,6 @@
 
 mod flows;
 mod solve;
-#[cfg(test)]
-mod tests;
 mod waiting;
 
 pub use flows::{Flow, Onward};

@@ -1,9 +1,8 @@
 //! A flow of numbers whose least closed assignment was worked out by hand.
 ghost use Rattle.std.specs.Prelude.{◌≡◌};
-ghost use Rattle.dv_worklist.specs.Numbers.{brought};
+ghost use Rattle.test_base.specs.Numbers.{brought};
 
-use crate::flows::{Flow, Onward};
-use crate::solve::least;
+use dv_worklist::{Flow, Onward, least};
 use std::alloc::{AllocError, Global};
 use std::test::Fail;
 
@@ -26,7 +25,7 @@ fn brought(number: u8, to: usize, at_least: u8) -> Onward<u8>
 impl Flow for Numbers {
     type State = u8;
 
-    ghost use Rattle.dv_worklist.specs.Numbers.{numbers, number_fits, number_rank};
+    ghost use Rattle.test_base.specs.Numbers.{numbers, number_fits, number_rank};
 
     ghost graph = { λ _. numbers };
 

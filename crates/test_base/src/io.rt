@@ -1,5 +1,8 @@
 // Each version through its bound, as the machine uses it.
-use crate::{
+mod memory;
+mod standard;
+
+use dv_io::{
     Failed, Gate, MemSink, MemSource, NoGate, PlainSink, PlainSource, Sink, Source, StdSink,
     StdSource,
 };

@@ -1,4 +1,4 @@
-use crate::{Failed, MemSink, MemSource, Sink, Source};
+use dv_io::{Failed, MemSink, MemSource, Sink, Source};
 use std::test::Fail;
 
 const TEXT: &[u8] = b"hello";

@@ -1,6 +1,6 @@
 // Clones, with ample memory.
-use crate::{Frame, Kept, Kind};
 use dv_defs::{Base, ClassId, MethodId, Seq, Ty};
+use dv_words::{Frame, Kept, Kind};
 use std::test::Fail;
 
 #[test]

@@ -1,5 +1,9 @@
 // Each call once, and what no clause says.
-use crate::*;
+use dv_defs::{
+    Base, Body, Chars, ClassDef, FieldDef, Flag, Frame, Init, Level, LineError, LinkError,
+    MethodDef, MethodId, MethodRef, Pending, PendingType, Pool, Proto, RegState, RegType, Seq,
+    Text, Ty, Value,
+};
 use std::alloc::{AllocError, Global};
 use std::test::Fail;
 

@@ -5,7 +5,7 @@ use Rattle.std.proofs.lemmas.Bool.{cases_eq, leb-true, le-leb, ltb-true, and_par
 use Rattle.std.proofs.lemmas.Option.{same_Some}
 use Rattle.dv_worklist.specs.declared.flows.Onward.{Onward}
 use Rattle.dv_worklist.specs.Flow.{IsLawful}
-use Rattle.dv_worklist.specs.Numbers.{all_ways, ways, brought, numbers, number_fits, number_rank}
+use Rattle.test_base.specs.Numbers.{all_ways, ways, brought, numbers, number_fits, number_rank}
 
 -- what a higher number brings by the same way is above
 monotone_at : (all : List (ℕ × ℕ)) (s t : ℕ) → s ≤ t → (k : ℕ) (o : Onward ℕ) → slice_get (map (brought s) all) k ≡ Some o →

@@ -1,9 +1,11 @@
 // The top call over sources and sinks that fail. What words and texts come to is told by the cases of `cases/top` and `cases/listing`.
-use super::*;
+use dv_defs::Entry;
 use dv_io::{MemSink, MemSource, NoGate};
-use std::alloc::AllocError;
+use dv_top::{Report, dvm};
+use std::alloc::{AllocError, Global};
 use std::process::Abort;
 use std::test::Fail;
+use std::thread::Threads;
 
 /// A worker, a thread and a number of steps.
 type Turn = (u32, u32, u32);

@@ -1,6 +1,9 @@
 // Stacks with ample memory, by rows worked by hand.
-use crate::*;
 use dv_defs::{ClassId, MethodId, Regs};
+use dv_frames::{
+    Full, Head, Level, Stack, Top, base_of, begin, given, go, handling, high_word, last, low_word,
+    set_last, set_two, set_word, two_words, word, words_are_whole,
+};
 use dv_words::Kept;
 use std::test::Fail;
 

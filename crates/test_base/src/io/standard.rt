@@ -1,6 +1,6 @@
 ghost use Rattle.std.specs.Prelude.{◌≤◌, IfOk};
 
-use crate::{Failed, Sink, Source, StdSink, StdSource};
+use dv_io::{Failed, Sink, Source, StdSink, StdSource};
 use std::io;
 use std::io::{Read, Write};
 
