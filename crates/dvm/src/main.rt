@@ -66,6 +66,3 @@ impl<E: Env> Env for AfterName<'_, E> {
         self.0.var_at(i, buf)
     }
 }
-
-#[cfg(test)]
-mod tests;
