@@ -27,7 +27,6 @@ macro_rules! done {
 
 /// Does the instruction here, where it is a local one; else nothing changes.
 #[inline(always)]
-#[tactic(auto, using(crate::proofs::Opcodes::done), unfolding(dv_defs::specs::Formats::format_at))]
 pub fn step_here(here: &Here<'_>, words: &mut [u32], head: &mut Head) -> bool
     requires { here.now.at < 2 ^ 16 }
     ensures { SteppedHere here.now result (frame head.old words.old) (frame head.new words.new) }
