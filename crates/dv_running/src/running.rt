@@ -180,25 +180,30 @@ fn begun<R: Abort>(rt: &R, alloc: Global, image: &Image, run: &Run, text: &str) 
     vm
 }
 
-/// Runs a program to its end, which is the one that is told, step by step and in slices.
-fn assert_run<R: Abort>(rt: &R, alloc: Global, run: &Run) {
-    let text = text_of(alloc, run).ok().expect(rt, "memory");
-    let verified = verified(rt, alloc, &text);
+/// Runs the program of a text to its end, which is the one that is told, step by step and in slices.
+fn assert_text<R: Abort>(rt: &R, alloc: Global, text: &str, run: &Run) {
+    let verified = verified(rt, alloc, text);
     let image = &verified.image;
-    let mut vm = begun(rt, alloc, image, run, &text);
-    run_on(rt, image, &mut vm, &text);
-    assert_ended(rt, image, &vm, run, &text);
+    let mut vm = begun(rt, alloc, image, run, text);
+    run_on(rt, image, &mut vm, text);
+    assert_ended(rt, image, &vm, run, text);
     if run.ending == Ending::NoRunnable || run.ending == Ending::Done {
         assert_idle(rt, image, &mut vm, run);
         let after = Run {
             steps: None,
             ..*run
         };
-        assert_ended(rt, image, &vm, &after, &text);
+        assert_ended(rt, image, &vm, &after, text);
     }
-    let mut sliced = begun(rt, alloc, image, run, &text);
-    run_in_slices(rt, image, &mut sliced, &text);
-    assert_ended(rt, image, &sliced, run, &text);
+    let mut sliced = begun(rt, alloc, image, run, text);
+    run_in_slices(rt, image, &mut sliced, text);
+    assert_ended(rt, image, &sliced, run, text);
+}
+
+/// Runs a program to its end, which is the one that is told.
+fn assert_run<R: Abort>(rt: &R, alloc: Global, run: &Run) {
+    let text = text_of(alloc, run).ok().expect(rt, "memory");
+    assert_text(rt, alloc, &text, run);
 }
 
 pub fn assert_runs<R: Abort>(rt: &R, alloc: Global, runs: &[Run]) {
