@@ -3,7 +3,7 @@ use dv_defs::{Chars, FieldRef, Insn, MethodRef, Seq, Text, Ty};
 use std::marker::Model;
 
 /// What an instruction names in a pool of its body.
-#[derive(Debug, Drop)]
+#[derive(Drop)]
 pub enum PoolRef {
     None,
     Str(Chars),
@@ -13,7 +13,7 @@ pub enum PoolRef {
 }
 
 /// An instruction with the label that its offset leads to and its entry in a pool. Its own offset and index don't count.
-#[derive(Debug, Drop)]
+#[derive(Drop)]
 pub struct Draftop {
     pub insn: Insn,
     pub label: Option<Text>,
@@ -22,7 +22,7 @@ pub struct Draftop {
 
 /// A label, an instruction or a payload: a packed switch's first key and targets, a sparse switch's keys and targets,
 /// the width of an element in bytes and the bytes of an array.
-#[derive(Debug, Drop)]
+#[derive(Drop)]
 pub enum What {
     Label(Text),
     Op(Draftop),
@@ -32,7 +32,7 @@ pub enum What {
 }
 
 /// What stands on a line.
-#[derive(Debug, Drop)]
+#[derive(Drop)]
 pub struct Item {
     pub line: u32,
     pub what: What,
@@ -40,7 +40,7 @@ pub struct Item {
 
 /// A handler at the label `at` for the addresses from the label `from` up to and without the label `to`.
 /// It catches exceptions of the type `kind`, or all where there is none.
-#[derive(Debug, Drop)]
+#[derive(Drop)]
 pub struct Catch {
     pub line: u32,
     pub kind: Option<Ty>,
@@ -51,7 +51,7 @@ pub struct Catch {
 
 /// A method's body as it is read, before labels have addresses. There are at most 256 registers, and each item has its
 /// form: the opcode of an instruction has a format, and its registers, literal, label and pool entry are of that format.
-#[derive(Debug, Drop)]
+#[derive(Drop)]
 pub struct Draft {
     pub registers: u16,
     pub items: Seq<Item>,

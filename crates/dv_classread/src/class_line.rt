@@ -18,7 +18,7 @@ use std::alloc::Global;
 const OBJECT: &[u8] = b"Ljava/lang/Object;";
 
 /// How a method begins: its flags, its name and its prototype.
-#[derive(Debug, Drop)]
+#[derive(Drop)]
 pub struct Signature {
     pub name: Text,
     pub proto: Proto,
@@ -26,7 +26,7 @@ pub struct Signature {
 }
 
 /// How a class begins, and on which line.
-#[derive(Debug, Drop)]
+#[derive(Drop)]
 pub struct ClassHead {
     pub name: Text,
     pub flags: u32,
@@ -41,7 +41,7 @@ pub enum Standing {
 }
 
 /// What a line of a class says.
-#[derive(Debug, Drop)]
+#[derive(Drop)]
 pub enum ClassLine {
     Class(ClassHead),
     Super(Text),

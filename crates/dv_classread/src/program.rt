@@ -11,21 +11,21 @@ use dv_defs::{Body, FieldDef, Seq, Text};
 use std::alloc::{AllocError, Global};
 
 /// A body as it is read: a draft, or raw.
-#[derive(Debug, Drop)]
+#[derive(Drop)]
 pub enum BodyDraft {
     Drafted(Draft),
     Raw(Body),
 }
 
 /// A method as it is read. Without a line between its first and its last it has no body.
-#[derive(Debug, Drop)]
+#[derive(Drop)]
 pub struct MethodDraft {
     pub signature: Signature,
     pub body: Option<BodyDraft>,
 }
 
 /// A class as it is read.
-#[derive(Debug, Drop)]
+#[derive(Drop)]
 pub struct ClassDraft {
     pub head: ClassHead,
     pub parent: Option<Text>,
@@ -35,7 +35,7 @@ pub struct ClassDraft {
 }
 
 /// The classes so far, and where the next line stands. To the last class further lines may be added.
-#[derive(Debug, Drop)]
+#[derive(Drop)]
 pub struct Program {
     pub standing: Standing,
     pub classes: Vec<ClassDraft>,

@@ -23,7 +23,7 @@ use dv_lex::{Line, Stop, good_lines};
 use std::alloc::Global;
 
 /// The classes of a text, in its order, and its schedule.
-#[derive(PartialEq, Eq, Debug, Drop)]
+#[derive(Drop)]
 pub struct Read {
     pub classes: Seq<ClassDef>,
     pub log: Seq<Entry>,

@@ -37,7 +37,7 @@ pub struct Context {
 }
 
 /// What a line of a method says.
-#[derive(Debug, Drop)]
+#[derive(Drop)]
 pub enum BodyLine {
     Registers(Frame),
     Label(Text),

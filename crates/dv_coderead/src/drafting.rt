@@ -12,7 +12,7 @@ use std::alloc::{AllocError, Global};
 use std::mem;
 
 /// The payload that is open: the line at which it began, and its labels, keys or bytes so far.
-#[derive(Debug, Drop)]
+#[derive(Drop)]
 pub struct Open {
     pub line: u32,
     pub labels: Vec<Text>,
@@ -21,7 +21,7 @@ pub struct Open {
 }
 
 /// What the lines so far have given.
-#[derive(Debug, Drop)]
+#[derive(Drop)]
 pub struct Drafting {
     pub context: Context,
     pub open: Open,

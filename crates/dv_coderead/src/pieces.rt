@@ -11,7 +11,7 @@ use dv_lex::{Token, TokenKind, char_unit};
 use std::alloc::{AllocError, Global};
 
 /// A word, a mark, the units of a string or the unit of a character.
-#[derive(Debug, Drop)]
+#[derive(Drop)]
 pub enum Piece<'a> {
     Word(&'a [u8]),
     Mark(u8),

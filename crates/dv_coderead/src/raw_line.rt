@@ -32,7 +32,7 @@ pub enum RawPlace {
 
 /// A handler of a raw body: where its range begins and ends, its address, and the exceptions that it catches, all of
 /// them where there is no type.
-#[derive(Debug, Drop)]
+#[derive(Drop)]
 pub struct RawHandler {
     pub start: u32,
     pub end: u32,
@@ -41,7 +41,7 @@ pub struct RawHandler {
 }
 
 /// What a line of a raw body says.
-#[derive(Debug, Drop)]
+#[derive(Drop)]
 pub enum RawLine {
     Registers(u32),
     Entry(PoolRef),

@@ -36,7 +36,7 @@ pub enum Kind {
 }
 
 /// How a thread stands: living, living with this exception object in flight, returned, or died of this exception object.
-#[derive(Clone, Copy, PartialEq, Eq, Debug)]
+#[derive(Clone, Copy, PartialEq, Eq)]
 pub enum End {
     Living,
     Flying(u32),
@@ -56,7 +56,7 @@ pub enum Ask {
 
 /// What a living thread that isn't runnable waits for: a monitor, a notification, a class that another thread
 /// initialises, or the end of a thread.
-#[derive(Clone, Copy, PartialEq, Eq, Debug)]
+#[derive(Clone, Copy)]
 pub enum Blocked {
     Monitor,
     Wait,

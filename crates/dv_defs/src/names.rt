@@ -124,15 +124,15 @@ impl Chars {
 }
 
 /// The place of a class in the image.
-#[derive(Clone, Copy, PartialEq, Eq, PartialOrd, Ord, Hash, Debug)]
+#[derive(Clone, Copy, PartialEq, Eq, Hash, Debug)]
 pub struct ClassId(pub u32);
 
 /// The place of a method in the image.
-#[derive(Clone, Copy, PartialEq, Eq, PartialOrd, Ord, Debug)]
+#[derive(Clone, Copy, PartialEq, Eq, Debug)]
 pub struct MethodId(pub u32);
 
 /// The place of a field in the image.
-#[derive(Clone, Copy, PartialEq, Eq, PartialOrd, Ord, Debug)]
+#[derive(Clone, Copy)]
 pub struct FieldId(pub u32);
 
 /// A type without dimensions: the primitive types without floats, and a class by its descriptor.

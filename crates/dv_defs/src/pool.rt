@@ -54,7 +54,8 @@ impl<E: Eq + Hash + Clone + Drop> Pool<E> {
         ensures { OnOk result (self.new ≡ with_entry E.eq self.old entry.now) }
     {
         if !self.places.contains_key(entry) {
-            let (added, key) = (entry.clone()?, entry.clone()?);
+            let added = entry.clone()?;
+            let key = entry.clone()?;
             self.entries.reserve(1)?;
             self.places.insert(key, self.entries.len())?;
             self.entries.push_reserved(added);

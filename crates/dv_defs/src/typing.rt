@@ -7,7 +7,7 @@ use std::alloc::AllocError;
 /// The type of a register. `Zero` is the constant 0, which is an int and the null reference;
 /// `Uninit` is an object that the new-instance at this address made and no constructor has initialised;
 /// `UninitThis` is the receiver of a constructor before the superclass's constructor was called.
-#[derive(PartialEq, Eq, Debug, Drop)]
+#[derive(PartialEq, Eq, Drop)]
 pub enum RegType {
     Conflict,
     Zero,
@@ -37,7 +37,7 @@ impl Clone for RegType {
 }
 
 /// The type of a call's result that is still to be moved to a register.
-#[derive(PartialEq, Eq, Debug, Drop)]
+#[derive(Drop)]
 pub enum PendingType {
     None,
     One(RegType),
@@ -58,7 +58,7 @@ impl Clone for PendingType {
 
 /// What the verifier knows at an address: the registers' types, the pending result, the type of the exception
 /// that a handler was entered with, and whether a constructor has still to call its superclass's.
-#[derive(PartialEq, Eq, Debug, Drop)]
+#[derive(Drop)]
 pub struct RegState {
     pub regs: Seq<RegType>,
     pub result: PendingType,

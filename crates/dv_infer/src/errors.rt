@@ -6,7 +6,7 @@ use dv_defs::{Fault, Seq};
 use std::alloc::{AllocError, AllocFailed};
 
 /// The faults of a method, or want of memory.
-#[derive(Debug, Drop)]
+#[derive(Drop)]
 pub enum InferError {
     Faults(Seq<Fault>),
     Memory,

@@ -9,14 +9,14 @@ use dv_defs::{Insn, Payload};
 use dv_units::{UnitError, decode, decode_payload, payload_size};
 use std::alloc::{AllocError, Global};
 
-#[derive(Debug, Drop)]
+#[derive(Drop)]
 pub enum Part {
     Insn(Insn),
     Payload(Payload),
 }
 
 /// An instruction or a payload at its address.
-#[derive(Debug, Drop)]
+#[derive(Drop)]
 pub struct Piece {
     pub at: u16,
     pub part: Part,

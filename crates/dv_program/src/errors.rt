@@ -8,7 +8,7 @@ use dv_defs::{LineError, LinkError};
 use std::alloc::AllocError;
 
 /// Why a text gives no image.
-#[derive(Debug, Drop)]
+#[derive(Drop)]
 pub enum ProgramError {
     /// Reading, assembling or linking refuses it.
     Refused(Refusal),

@@ -4,7 +4,7 @@ use dv_defs::{Image, RegState, Seq};
 use std::marker::Model;
 
 /// A state for some of a method's addresses, by address: the registers' types before the instruction there.
-#[derive(PartialEq, Eq, Debug, Drop)]
+#[derive(Drop)]
 pub struct Map {
     pub states: Seq<Option<RegState>>,
 }

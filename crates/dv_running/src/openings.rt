@@ -17,7 +17,7 @@ fn without_a_method_no_thread_is_there(rt: HostRuntime) {
     assert_eq!(&rt; vm.ending(image), Some(Ending::Done));
     for thread in [0, 1, 63, u32::MAX] {
         assert!(&rt; !vm.runnable(image, thread));
-        assert_eq!(&rt; vm.blocked(image, thread), None);
+        assert!(&rt; vm.blocked(image, thread).is_none());
         assert!(&rt; vm.step(image, thread).is_ok());
         assert_eq!(&rt; vm.steps, 0);
     }

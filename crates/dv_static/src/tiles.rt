@@ -9,14 +9,14 @@ use dv_defs::{Insn, Payload, Seq};
 use dv_units::{UnitError, decode, decode_payload, payload_size};
 use std::alloc::{AllocError, Global};
 
-#[derive(Debug, Drop)]
+#[derive(Drop)]
 pub enum Item {
     Insn(Insn),
     Payload(Payload),
 }
 
 /// An item with its address and the number of its units.
-#[derive(Debug, Drop)]
+#[derive(Drop)]
 pub struct Tile {
     pub at: u32,
     pub size: u32,
@@ -24,7 +24,7 @@ pub struct Tile {
 }
 
 /// The items from address 0 to the end, or the first address at which none begins.
-#[derive(Debug, Drop)]
+#[derive(Drop)]
 pub enum Tiled {
     Whole(Seq<Tile>),
     Broken(u32),

@@ -18,7 +18,7 @@ pub fn linked<R: Abort>(rt: &R, alloc: Global, text: &str) -> Image {
     assert!(rt; text.len() < 1_000_000, "{text}");
     match read_program(alloc, text.as_bytes()) {
         Ok(image) => image,
-        Err(error) => panic!(rt; "{error:?}: {text}"),
+        Err(_) => panic!(rt; "refused: {text}"),
     }
 }
 
