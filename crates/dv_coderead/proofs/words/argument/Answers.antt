@@ -1,4 +1,4 @@
-use Rattle.std.proofs.Common.{◌≡◌, ℤ, ◌+◌, ◌-◌, ◌*◌, ◌/◌, ◌%◌, ◌+ℤ◌, ◌-ℤ◌, ◌*ℤ◌, of_z, to_z, w64, length, take, Err, pos, sym, ap, ◌∙◌, arith}
+use Rattle.std.proofs.Common.{◌≡◌, ℤ, ◌+◌, ◌-◌, ◌*◌, ◌/◌, ◌%◌, ◌+ℤ◌, ◌-ℤ◌, ◌*ℤ◌, of_z, to_z, w64, length, take, Err, pos, sym, ap, ◌∙◌, arith, rules}
 use Rattle.std.specs.Prelude.{slice_index}
 use Rattle.std.proofs.lemmas.Int.{ints}
 use Rattle.std.proofs.lemmas.Result.{err_from_is_err_and}
@@ -50,3 +50,6 @@ returns c =
     let one = slice_index ds (length ds - 1) - 48 in
     let sum : z ≡ pos (front * 10 + one) +ℤ pos c.args.frame.registers -ℤ pos a = omega (arith, ints) in
     c.register_at.ensures ∙ argument_read c.args.frame ds front one is z sum
+
+pub overflow_mul-tens : goal.overflow_mul-tens
+overflow_mul-tens c = search rules depth 3

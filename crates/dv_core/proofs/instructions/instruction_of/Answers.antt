@@ -1,3 +1,4 @@
+use Rattle.std.proofs.lemmas.Grind.{common_steps}
 use Rattle.std.proofs.Common.{◌≡◌, ◌∙◌, ◌+◌, ℕ, List, drop, length, refl, sym, ap, arith}
 use Rattle.dv_defs.specs.Decoding.{insn_here}
 use Rattle.dv_defs.specs.Tiling.{tiles_in, tiling}
@@ -38,3 +39,6 @@ returns c own h x same is at =
     let units : c.units_of-units.result.now ≡ code.body.units = c.units_of-units.ensures.units in
     let read = ap (λ (us : List ℕ). insn_here (drop place us)) (sym units) ∙ c.in-Ok.ensures.here in
     found c.args.image.now c.args.stack.now own h x same is at c.in-Some.head c.in-Some.ensures code c.in-Some-coded_at.ensures c.in-Ok.insn c.in-Ok.size read c.resolve.result c.resolve.ensures _ c.in-Ok-resolve.is refl (ap (λ (us : List ℕ). tiles_in (tiling us)) (sym units))
+
+pub overflow_add-result : goal.overflow_add-result
+overflow_add-result c own h x same is at = grind (arith, common_steps)

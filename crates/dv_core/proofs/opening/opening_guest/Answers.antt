@@ -1,4 +1,5 @@
-use Rattle.std.proofs.Common.{refl}
+use Rattle.std.proofs.lemmas.Grind.{common_steps}
+use Rattle.std.proofs.Common.{refl, arith}
 use Rattle.std.specs.Option.{option_to_list}
 use Rattle.dv_ops.specs.Meaning.{method_of}
 use Rattle.dv_core.proofs.Opened.{is_opening, one_ordered}
@@ -16,3 +17,6 @@ returns-clause-ordered c =
       aligned = c.in_ok-only_thread.ensures.aligned;
       bounded = one_ordered c.in_ok-only_thread.field-0.stacks.items c.in_ok-stack.stack c.args.limits.now (method_of c.args.main.now) (option_to_list c.in_ok-heap.array) c.begin_class-born.result c.in_ok-only_thread.ensures.stacks c.in_ok-stack.ensures.stack;
     }
+
+pub same-heap : goal.same-heap
+same-heap c has takes room = grind (arith, common_steps)

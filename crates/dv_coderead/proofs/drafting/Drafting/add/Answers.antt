@@ -1,4 +1,5 @@
-use Rattle.std.proofs.Common.{◌∷◌, [], ◌++◌, SFits, w32, w64, ap, ◌∙◌, rules}
+use Rattle.std.proofs.lemmas.Grind.{common_steps}
+use Rattle.std.proofs.Common.{◌∷◌, [], ◌++◌, SFits, w32, w64, ap, ◌∙◌, rules, arith}
 use Rattle.std.proofs.lemmas.Int.{to_z-of_z}
 use Rattle.dv_coderead.proofs.Adding.{adds_begin, adds_case, adds_handler, adds_label, adds_op, adds_registers, adds_target}
 use Rattle.dv_coderead.proofs.drafting.Drafting.add.Goals as goal
@@ -47,3 +48,15 @@ returns-in_ok-add_element-in-Element c =
 
 pub returns-in_ok-end_block-in-End : goal.returns-in_ok-end_block-in-End
 returns-in_ok-end_block-in-End c = rw c.in-End.is (c.in_ok-end_block-in-End.ensures c.args.line)
+
+pub returns-in_err-add_element-in-Element : goal.returns-in_err-add_element-in-Element
+returns-in_err-add_element-in-Element c = grind (arith, common_steps)
+
+pub returns-in_err-push-in-Case : goal.returns-in_err-push-in-Case
+returns-in_err-push-in-Case c = grind (arith, common_steps)
+
+pub returns-in_err-push-in-Label : goal.returns-in_err-push-in-Label
+returns-in_err-push-in-Label c = grind (arith, common_steps)
+
+pub returns-in_err-push-in-Target : goal.returns-in_err-push-in-Target
+returns-in_err-push-in-Target c = grind (arith, common_steps)

@@ -1,4 +1,5 @@
-use Rattle.std.proofs.Common.{◌++◌, ap, ◌∙◌}
+use Rattle.std.proofs.lemmas.Grind.{common_steps}
+use Rattle.std.proofs.Common.{◌++◌, ap, ◌∙◌, arith}
 use Rattle.dv_coderead.specs.declared.raw_line.RawPlace.TheVariants as place
 use Rattle.dv_coderead.proofs.RawAdding.{adds_begin, adds_end, adds_entry, adds_handler, adds_registers, adds_units}
 use Rattle.dv_coderead.proofs.raw_body.RawDrafting.add.Goals as goal
@@ -23,3 +24,9 @@ returns-in-End-clause-with c = rw c.in-End.is (adds_end c.args.self.now place.Be
 
 pub returns-in_ok-push-in-Handler-clause-with : goal.returns-in_ok-push-in-Handler-clause-with
 returns-in_ok-push-in-Handler-clause-with c = rw c.in-Handler.is (adds_handler c.args.self.now c.in-Handler.handler c.push.new.self c.in_ok-push-in-Handler.ensures.items)
+
+pub returns-in_err-add-in-Entry-clause-with : goal.returns-in_err-add-in-Entry-clause-with
+returns-in_err-add-in-Entry-clause-with c = grind (arith, common_steps)
+
+pub returns-in_err-push-in-Handler-clause-with : goal.returns-in_err-push-in-Handler-clause-with
+returns-in_err-push-in-Handler-clause-with c = grind (arith, common_steps)

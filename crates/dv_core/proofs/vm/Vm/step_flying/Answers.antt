@@ -1,4 +1,5 @@
-use Rattle.std.proofs.Common.{ap, ◌∙◌, subst}
+use Rattle.std.proofs.lemmas.Grind.{moves}
+use Rattle.std.proofs.Common.{ap, ◌∙◌, subst, arith}
 use Rattle.dv_defs.specs.Flow.{handlers_at}
 use Rattle.dv_words.specs.Stacks.{first}
 use Rattle.dv_frames.specs.Tops.{top_of}
@@ -57,3 +58,6 @@ returns-clause-record c own h d r seen levels fits few =
     (c.step_flight.ensures.record own h d r (seen_by i old.limits old.guest t own h seen) levels fits) in
     let led' = subst (λ q. Unwinds q u (Leaves old.guest k own h) (Stays old.limits old.guest k)) c.in_ok-answer.was led in
     (c.settle_flight.ensures.machine i old.guest own h u seen few led', c.settle_flight.ensures.ordered i old.guest own h u seen led')
+
+pub returns-in_err-answer-clause-record : goal.returns-in_err-answer-clause-record
+returns-in_err-answer-clause-record c own h f seen levels few = grind (arith, moves)
