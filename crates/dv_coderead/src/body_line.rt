@@ -22,7 +22,7 @@ use std::alloc::Global;
 
 /// How a payload begins: a packed switch with its first key, a sparse switch, or an array with the width of its
 /// elements in bytes.
-#[derive(Clone, Copy, PartialEq, Eq, Debug)]
+#[derive(Clone, Copy)]
 pub enum Opening {
     Packed(i32),
     Sparse,
@@ -30,7 +30,7 @@ pub enum Opening {
 }
 
 /// What the lines before a line have told: how many registers there are, and which block is open.
-#[derive(Clone, Copy, PartialEq, Eq, Debug)]
+#[derive(Clone, Copy)]
 pub struct Context {
     pub frame: Option<Frame>,
     pub block: Option<Opening>,

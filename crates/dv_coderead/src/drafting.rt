@@ -139,9 +139,11 @@ impl Drafting {
         ensures { GivesLines (λ d. d) result (finished_with past 0 self []) }
     {
         let Some(frame) = self.context.frame else {
+            drop(self);
             return Err(missing(past));
         };
         if self.context.block.is_some() {
+            drop(self);
             return Err(missing(past));
         }
         Ok(Draft {

@@ -22,7 +22,7 @@ use std::alloc::Global;
 
 /// Where a line of a raw body stands: before the count of registers, among the entries of the pools, among the units,
 /// with so many before it, or behind these.
-#[derive(Clone, Copy, PartialEq, Eq, Debug)]
+#[derive(Clone, Copy)]
 pub enum RawPlace {
     Start,
     Pools,

@@ -30,6 +30,18 @@ returns-then-tens-ltminus1000000000 c =
       | then-tens-ltminus1000000000-via-else-tens-ltminus1000000000+then-tens-gt1000000000 w ↦ sym (argument_behind c.args.frame ds _ _ is (omega (arith, ints, w.if-tens-gt1000000000.true)))
     ]
 
+pub overflow_sub-last-2 : goal.overflow_sub-last-2
+overflow_sub-last-2 c =
+    let is = is_tens c.args.digits.now (sym c.are_decimal.ensures ∙ c.if-not-are_decimal.false) in
+    let digit = is.digit in
+    omega arith
+
+pub overflow_sub-ones : goal.overflow_sub-ones
+overflow_sub-ones c = omega (arith, ints)
+
+pub overflow_add-tens : goal.overflow_add-tens
+overflow_add-tens c = omega (arith, ints)
+
 pub overflow_add-tens-2 : goal.overflow_add-tens-2
 overflow_add-tens-2 c = omega (arith, ints)
 
