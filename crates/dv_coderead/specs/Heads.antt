@@ -56,11 +56,11 @@ skipped_directive w =
     else if is_skipped w then Some directive.Skipped
     else None
 
--- what such a word behind `.end` ends
+-- whether such a word behind `.end` ends something that is passed over
 abbrev pub ends_skipped : List ℕ → Bool
 ends_skipped w = bytes_eq w (codes "local") || (bytes_eq w (codes "param") || bytes_eq w (codes "field"))
 
--- a word that ends no method and no block of an instruction
+-- what it ends, if it is no method and no block of an instruction
 abbrev pub ended_outside : List ℕ → Directive
 ended_outside w =
     if bytes_eq w (codes "units") then directive.End Units
@@ -69,6 +69,7 @@ ended_outside w =
     else if ends_skipped w then directive.Skipped
     else directive.OtherEnd
 
+-- what such a word behind `.end` ends
 unfoldable pub ended_by : List ℕ → Directive
 ended_by w =
     if bytes_eq w (codes "method") then directive.EndMethod

@@ -13,7 +13,7 @@ ghost use Rattle.dv_coderead.specs.RawLines.{address_from, address_in, again_or_
 
 use crate::body_line::{count_part, refusal_of};
 use crate::head::{Block, Directive, Head};
-use crate::parts::{behind, end};
+use crate::parts::{alone, behind, end};
 use crate::pieces::Piece;
 use crate::{Refusal, references, words};
 use dv_asm::PoolRef;
@@ -94,8 +94,7 @@ fn entry_line(alloc: Global, pieces: &[Piece]) -> Result<PoolRef, Refusal>
         return Err(Refusal::Fault(LineKind::Operands));
     };
     let entry = entry_by_shape(alloc, first)?;
-    end(rest)?;
-    Ok(entry)
+    Ok(alone(entry, rest)?)
 }
 
 // ---- units
