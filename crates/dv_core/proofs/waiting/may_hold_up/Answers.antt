@@ -32,7 +32,10 @@ alike : (b : Bool) (from n k : ℕ) → all_alike b from n ≡ true → from ≤
 alike b from zero k all low high = absurd (omega (arith, low, high))
 alike b from (suc n) k all low high =
     let head : Bool = same (may_hold_up (family_at from)) b in
-    by (same_is (may_hold_up (family_at from)) b (first_true head (all_alike b (suc from) n) all)) (λ above. alike b (suc from) n k (rest_true head (all_alike b (suc from) n) all) above (omega (arith, high))) (cases_lt from k)
+    let rest : Bool = all_alike b (suc from) n in
+    let first = same_is (may_hold_up (family_at from)) b (first_true head rest all) in
+    let others : from < k → b ≡ may_hold_up (family_at k) = λ above. alike b (suc from) n k (rest_true head rest all) above (omega (arith, high)) in
+    by first others (cases_lt from k)
   where
     by : b ≡ may_hold_up (family_at from) → (from < k → b ≡ may_hold_up (family_at k)) → (from < k) ⊎ (k ≤ from) → b ≡ may_hold_up (family_at k)
     by first others (inl above) = others above
