@@ -246,15 +246,32 @@ impl<'v> SafeVm<'v> {
         ensures same { IsSameProgram self.old self.new }
         ensures refused { IfErr result (λ e. (e.slice ≡ slice) × (self.new ≡ self.old)) }
     {
-        if !self.fits(&slice) {
+        match self.commit_steps(worker, &slice) {
+            Ok(steps) => Ok(steps),
+            Err(_) => Err(Refused { slice }),
+        }
+    }
+
+    /// The steps of a slice as `commit` does them.
+    ///
+    /// # Errors
+    ///
+    /// Want of memory; all is as before then.
+    fn commit_steps(&mut self, worker: u32, slice: &Slice) -> Result<u32, AllocError>
+        requires made { IsMade self.old.verified.image slice.now }
+        ensures committed { IfOk result (λ n. (main : Method) (m : Machine) → IsAt self.old main m → IsFitting self.old slice.now → IsCommitted self.old self.new main m worker slice.now n) }
+        ensures put_away { IfOk result (λ n. (IsFitting self.old slice.now → ⊥) → (n ≡ 0) × (self.new ≡ self.old)) }
+        ensures few { IfOk result (λ n. n ≤ slice.now.steps) }
+        ensures same { IsSameProgram self.old self.new }
+        ensures refused { OnErr result (self.new ≡ self.old) }
+    {
+        if !self.fits(slice) {
             return Ok(0);
         }
         let verified = self.verified();
         let SafeVm { vm, log, lent, .. } = self;
-        if log.reserve(1).is_err() {
-            return Err(Refused { slice });
-        }
-        let steps = take_steps(&verified.image, vm, &slice);
+        log.reserve(1)?;
+        let steps = take_steps(&verified.image, vm, slice);
         log_steps(log, worker, slice.thread, steps);
         bring_home(lent, slice.thread);
         Ok(steps)

@@ -32,4 +32,4 @@ returns-in-ThrowRef-clause-ok c g own h x d seen at few led =
     flies_on i old.limits g old.guest old.steps old.stop old.limits t own h o seen stays)
 
 pub returns-in-Throw-clause-ordered : goal.returns-in-Throw-clause-ordered
-returns-in-Throw-clause-ordered c g own h x d seen at few led = grind (arith, moves)
+returns-in-Throw-clause-ordered c g own h x d seen at led = grind (arith, moves)

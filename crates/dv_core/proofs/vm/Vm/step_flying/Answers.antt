@@ -1,5 +1,5 @@
 use Rattle.std.proofs.lemmas.Grind.{moves}
-use Rattle.std.proofs.Common.{ap, ◌∙◌, subst, arith}
+use Rattle.std.proofs.Common.{ap, sym, ◌∙◌, subst, arith}
 use Rattle.dv_defs.specs.Flow.{handlers_at}
 use Rattle.dv_words.specs.Stacks.{first}
 use Rattle.dv_frames.specs.Tops.{top_of}
@@ -12,26 +12,22 @@ use Rattle.dv_core.proofs.vm.Vm.step_flying.Goals as goal
 pub returns-in_default-clause-code : goal.returns-in_default-clause-code
 returns-in_default-clause-code c own h f seen levels few =
     let on = c.top_of.ensures own seen.there ∙ ap (λ ls. top_of (first ls)) levels in
-    let none = c.in_default.is in
-    absurd (cc)
+    absurd (cc (sym c.in_default.is ∙ on))
 
 pub returns-in_default-clause-record : goal.returns-in_default-clause-record
 returns-in_default-clause-record c own h k r seen levels fits few =
     let on = c.top_of.ensures own seen.there ∙ ap (λ ls. top_of (first ls)) levels in
-    let none = c.in_default.is in
-    absurd (cc)
+    absurd (cc (sym c.in_default.is ∙ on))
 
 pub returns-in_err-answer-clause-none : goal.returns-in_err-answer-clause-none
 returns-in_err-answer-clause-none c own ordered there levels =
     let on = c.top_of.ensures own there ∙ ap (λ ls. top_of (first ls)) levels in
-    let some = c.in-Some.is in
-    absurd (cc)
+    absurd (cc (sym c.in-Some.is ∙ on))
 
 pub returns-clause-none : goal.returns-clause-none
 returns-clause-none c own ordered there levels =
     let on = c.top_of.ensures own there ∙ ap (λ ls. top_of (first ls)) levels in
-    let some = c.in-Some.is in
-    absurd (cc)
+    absurd (cc (sym c.in-Some.is ∙ on))
 
 pub returns-clause-code : goal.returns-clause-code
 returns-clause-code c own h f seen levels few =
