@@ -1,5 +1,4 @@
-use Rattle.std.proofs.lemmas.Grind.{common_steps}
-use Rattle.std.proofs.Common.{◌≡◌, ◌++◌, ◌∷◌, [], Bool, true, false, cond, List, map, Option, Some, None, if◌then◌else◌, refl, ap, sym, ◌∙◌, append-nil, arith}
+use Rattle.std.proofs.Common.{◌≡◌, ◌++◌, ◌∷◌, [], Bool, true, false, cond, List, map, Option, Some, None, if◌then◌else◌, refl, ap, sym, ◌∙◌, append-nil}
 use Rattle.std.specs.Borrow.{Bor}
 use Rattle.std.specs.Global.{Vec}
 use Rattle.indexmap.specs.IndexMap.{get}
@@ -22,9 +21,3 @@ returns-in_ok-insert-in-None c r =
     let stays = ap (λ m. cond (is_same range r) (Some c.push-in-None.new.self) (get is_same m r)) c.get_mut.follows.holds-at-none in
     let one : found (Some c.push-in-None.new.self) ≡ c.args.catch.now ∷ [] = ap (map (λ (x : Bor Catch). x.now)) (c.in_ok-push-in-None.ensures.items ∙ ap (λ (xs : List (Bor Catch)). xs ++ c.args.catch ∷ []) c.new-group.ensures.items) in
     first_of (is_same range r) (get is_same c.args.groups.now r) (get is_same c.insert.new.self r) c.push-in-None.new.self c.args.catch.now (c.in_ok-insert-in-None.ensures.updates.0 r ∙ stays) none one
-
-pub returns-in_err-push-in-None : goal.returns-in_err-push-in-None
-returns-in_err-push-in-None c r = grind (arith, common_steps)
-
-pub returns-in_err-push-in-Some : goal.returns-in_err-push-in-Some
-returns-in_err-push-in-Some c r = grind (arith, common_steps)

@@ -1,5 +1,4 @@
-use Rattle.std.proofs.lemmas.Grind.{common_steps}
-use Rattle.std.proofs.Common.{◌≡◌, ◌+◌, ◌<◌, ℕ, zero, suc, List, [], ◌∷◌, ◌++◌, length, get_or, IsSome, refl, ap, ◌∙◌, subst, true, arith, below_more}
+use Rattle.std.proofs.Common.{◌≡◌, ◌+◌, ℕ, suc, List, [], ◌++◌, IsSome, ap, ◌∙◌, subst, arith, below_more}
 use Rattle.std.specs.Option.{unwrap_or}
 use Rattle.dv_asm.specs.declared.draft.Item.{Item}
 use Rattle.dv_asm.specs.declared.pools.Pools.{Pools}
@@ -31,12 +30,3 @@ pub returns-clause-tiled : goal.returns-clause-tiled
 returns-clause-tiled c =
     let Fit : List ℕ → Type 0 = λ us. AreUnits us in
     made_units c.args.self.now c.args.pools.now c.loop-k.k c.loop-k.units.items (omega arith) c.loop-k.invariant.0 c.loop-k.invariant.1 (subst Fit c.deref.ensures.value c.units_fit.ensures)
-
-pub returns-in_err-append-clause-spelled : goal.returns-in_err-append-clause-spelled
-returns-in_err-append-clause-spelled c = grind (arith, common_steps)
-
-pub returns-in_err-append-clause-units : goal.returns-in_err-append-clause-units
-returns-in_err-append-clause-units c = grind (arith, common_steps)
-
-pub returns-in_err-pad-clause-tiled : goal.returns-in_err-pad-clause-tiled
-returns-in_err-pad-clause-tiled c = grind (arith, common_steps)
