@@ -9,6 +9,7 @@ ghost use Rattle.dv_defs.specs.Order.{numbers};
 ghost use Rattle.dv_linklaws.specs.Ordered.{IsOrdered};
 ghost use Rattle.dv_linklaws.proofs.Members.{HasFields, HasMethods};
 ghost use Rattle.dv_resolve.specs.Answers.{Answers};
+ghost use Rattle.dv_resolve.specs.Members.{Knows};
 
 use crate::interfaces::interfaces_of_all;
 use crate::members::Members;
@@ -19,6 +20,30 @@ use dv_defs::{ClassId, ClassInfo, Image, Index, LinkError, MethodInfo, Pool, Seq
 use dv_hier::{Classes, Hierarchy, build};
 use dv_vtable::{Tabled, tables};
 use std::alloc::Global;
+
+/// The members of the classes, where nothing is wrong with the pools of their bodies.
+fn checked_members<'a>(
+    alloc: Global,
+    infos: &'a [ClassInfo],
+    names: &'a Pool<Text>,
+    interfaces: &'a [Seq<ClassId>],
+) -> Result<Members<'a>, LinkError>
+    requires few { length infos.now < 2 ^ 32 }
+    requires few_methods { sum_by (λ c. length c.def.methods) infos.now < 2 ^ 31 }
+    requires few_fields { sum_by (λ c. length c.def.fields) infos.now < 2 ^ 31 }
+    ensures fault { (image : ImageValue) → image.classes ≡ infos.now → HasMethods image → HasFields image → IsOrdered image
+        → names.now ≡ names_of image.classes
+        → ((c : ℕ) → numbers (slice_index_or interfaces.now c []) ≡ once (interfaces_above image c))
+        → Checks result (first_fault_by (wrong_pools image) (defs infos.now)) }
+    ensures knows { (image : ImageValue) → image.classes ≡ infos.now → HasMethods image → HasFields image → IsOrdered image
+        → names.now ≡ names_of image.classes
+        → ((c : ℕ) → numbers (slice_index_or interfaces.now c []) ≡ once (interfaces_above image c))
+        → IfOk result (λ members. Knows members image) }
+{
+    let members = Members::of(alloc, infos, names, interfaces)?;
+    check_pools(alloc, &members)?;
+    Ok(members)
+}
 
 /// The methods with the pools of their bodies resolved, where nothing is wrong with the pools.
 fn resolved_methods(
@@ -40,8 +65,7 @@ fn resolved_methods(
         → ((c : ℕ) → numbers (slice_index_or interfaces.now c []) ≡ once (interfaces_above image c))
         → IfOk result (λ done. done.items ≡ map (method_with_pools image) methods.items) }
 {
-    let members = Members::of(alloc, infos, names, interfaces)?;
-    check_pools(alloc, &members)?;
+    let members = checked_members(alloc, infos, names, interfaces)?;
     Ok(resolve_pools(alloc, &members, methods)?)
 }
 
