@@ -21,28 +21,17 @@ use dv_hier::{Classes, Hierarchy, build};
 use dv_vtable::{Tabled, tables};
 use std::alloc::Global;
 
-/// The members of the classes, where nothing is wrong with the pools of their bodies.
-fn checked_members<'a>(
+/// The methods with the pools of their bodies resolved by these members, where nothing is wrong with the pools.
+fn resolved_by(
     alloc: Global,
-    infos: &'a [ClassInfo],
-    names: &'a Pool<Text>,
-    interfaces: &'a [Seq<ClassId>],
-) -> Result<Members<'a>, LinkError>
-    requires few { length infos.now < 2 ^ 32 }
-    requires few_methods { sum_by (λ c. length c.def.methods) infos.now < 2 ^ 31 }
-    requires few_fields { sum_by (λ c. length c.def.fields) infos.now < 2 ^ 31 }
-    ensures fault { (image : ImageValue) → image.classes ≡ infos.now → HasMethods image → HasFields image → IsOrdered image
-        → names.now ≡ names_of image.classes
-        → ((c : ℕ) → numbers (slice_index_or interfaces.now c []) ≡ once (interfaces_above image c))
-        → Checks result (first_fault_by (wrong_pools image) (defs infos.now)) }
-    ensures knows { (image : ImageValue) → image.classes ≡ infos.now → HasMethods image → HasFields image → IsOrdered image
-        → names.now ≡ names_of image.classes
-        → ((c : ℕ) → numbers (slice_index_or interfaces.now c []) ≡ once (interfaces_above image c))
-        → IfOk result (λ members. Knows members image) }
+    members: &Members<'_>,
+    methods: Vec<MethodInfo>,
+) -> Result<Vec<MethodInfo>, LinkError>
+    ensures fault { (image : ImageValue) → Knows members.now image → Checks result (first_fault_by (wrong_pools image) (defs image.classes)) }
+    ensures methods { (image : ImageValue) → Knows members.now image → IfOk result (λ done. done.items ≡ map (method_with_pools image) methods.items) }
 {
-    let members = Members::of(alloc, infos, names, interfaces)?;
-    check_pools(alloc, &members)?;
-    Ok(members)
+    check_pools(alloc, members)?;
+    Ok(resolve_pools(alloc, members, methods)?)
 }
 
 /// The methods with the pools of their bodies resolved, where nothing is wrong with the pools.
@@ -65,8 +54,8 @@ fn resolved_methods(
         → ((c : ℕ) → numbers (slice_index_or interfaces.now c []) ≡ once (interfaces_above image c))
         → IfOk result (λ done. done.items ≡ map (method_with_pools image) methods.items) }
 {
-    let members = checked_members(alloc, infos, names, interfaces)?;
-    Ok(resolve_pools(alloc, &members, methods)?)
+    let members = Members::of(alloc, infos, names, interfaces)?;
+    resolved_by(alloc, &members, methods)
 }
 
 /// The image of classes that have their tables.
