@@ -1,15 +1,14 @@
-use Rattle.std.proofs.Common.{◌≡◌, rules, ap, ◌∙◌}
+use Rattle.std.proofs.Common.{refl, ap, ◌∙◌}
 use Rattle.indexmap.specs.IndexSet.{contains}
 use Rattle.dv_hier.proofs.FieldLemmas.{key_eq, several_are, told_more, twice_found, twice_more, alone_more, alone_told, value_more, all_values}
-use Rattle.dv_hier.proofs.fields.field_twice.Goals as goal
-use Rattle.dv_hier.proofs.fields.field_twice.Goals.{else-several-via-then-several+in_ok-insert+else-not-branch, else-several-via-else-several}
+use Rattle.dv_hier.proofs.fields.repeated_in.Goals as goal
+use Rattle.dv_hier.proofs.fields.repeated_in.Goals.{else-several-via-then-several+in_ok-insert+else-not-branch, else-several-via-else-several}
 
 pub returns-then-not-branch-clause-twice : goal.returns-then-not-branch-clause-twice
 returns-then-not-branch-clause-twice c =
-    let same : c.in_ok-clone.field-0 ≡ c.key_of-key.result.name.now = search rules in
-    twice_found c.args.fields.now c.loop-i.i c.index-fields-i.result c.key_of-key.result _ c.in_ok-insert.field-0 c.in_ok-clone.field-0
+    twice_found c.args.fields.now c.loop-i.i c.index-fields-i.result c.key_of-key.result _ c.in_ok-insert.field-0 c.key_of-key.result.name.now
     c.loop-i.invariant.faultless c.loop-i-test.true c.index-fields-i.is c.key_of-key.ensures.name c.key_of-key.ensures.ty
-    (c.loop-i.invariant.told (several_are _ c.if-several.true) c.key_of-key.result) c.in_ok-insert.ensures.added c.if-not-branch.true same
+    (c.loop-i.invariant.told (several_are _ c.if-several.true) c.key_of-key.result) c.in_ok-insert.ensures.added c.if-not-branch.true refl
 
 pub loop-i-preserved : goal.loop-i-preserved
 loop-i-preserved c =

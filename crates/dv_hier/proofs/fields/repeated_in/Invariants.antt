@@ -5,7 +5,7 @@ use Rattle.dv_defs.specs.First.{first_below}
 use Rattle.dv_defs.specs.Field.{may_stand}
 use Rattle.dv_defs.specs.LinkFaults.{field_twice}
 use Rattle.dv_hier.specs.declared.fields.FieldKey.{FieldKey}
-use Rattle.dv_hier.proofs.fields.field_twice.Given as goal
+use Rattle.dv_hier.proofs.fields.repeated_in.Given as goal
 use Rattle.dv_hier.proofs.FieldLemmas.{key_eq, is_like}
 
 abbrev pub invariant-loop-i : goal.invariant-loop-i
