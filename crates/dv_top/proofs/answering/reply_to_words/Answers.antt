@@ -1,5 +1,7 @@
-use Rattle.std.proofs.Common.{◌∙◌, arith, sym}
+use Rattle.std.proofs.Common.{◌∙◌, ap, arith, sym}
 use Rattle.std.proofs.lemmas.Grind.{common_steps}
+use Rattle.dv_top.specs.Said.{Unread}
+use Rattle.dv_top.specs.Status.{code_of}
 use Rattle.dv_top.proofs.answering.reply_to_words.Goals as goal
 
 pub returns-in_ok-reply_to_command-in-Some-clause-said : goal.returns-in_ok-reply_to_command-in-Some-clause-said
@@ -73,3 +75,8 @@ returns-in_ok-fixed-in-None-clause-entries g c = grind (arith, common_steps)
 
 pub returns-in_ok-fixed-in-None-clause-legal : goal.returns-in_ok-fixed-in-None-clause-legal
 returns-in_ok-fixed-in-None-clause-legal g c = grind (arith, common_steps)
+
+pub returns-in_ok-fixed-in-None-clause-said : goal.returns-in_ok-fixed-in-None-clause-said
+returns-in_ok-fixed-in-None-clause-said g c bytes left =
+    let told = c.in_ok-fixed-in-None.ensures in
+    Unread (sym c.in_ok-command_of.ensures.asked ∙ c.in-None.is) (ap code_of told.0, told.1)
