@@ -376,8 +376,13 @@ fn first_guest(
     ensures ordered { IfOk result (λ g. IsOrdered limits.now g) }
 {
     let mut guest = idle_guest(alloc, image)?;
-    begin(alloc, image, &mut guest, main, limits)?;
-    Ok(guest)
+    match begin(alloc, image, &mut guest, main, limits) {
+        Ok(()) => Ok(guest),
+        Err(error) => {
+            drop(guest);
+            Err(error)
+        }
+    }
 }
 
 impl Vm {
