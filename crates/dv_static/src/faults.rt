@@ -65,7 +65,11 @@ fn body_places(alloc: Global, image: &Image, code: &Coded<'_>) -> Result<Vec<Pla
 {
     let body = code.body;
     match tiles_of(alloc, body.units.items())? {
-        Tiled::Whole(tiles) => whole_places(alloc, image, code, tiles.items()),
+        Tiled::Whole(tiles) => {
+            let places = whole_places(alloc, image, code, tiles.items());
+            drop(tiles);
+            places
+        }
         Tiled::Broken(at) => one_place(alloc, at, rule_at(body.units.items(), at)),
     }
 }
@@ -152,8 +156,9 @@ fn all_places(
 {
     let body = code.body;
     let starts = Starts::new(alloc, tiles, body.units.len())?;
-    let places = found_places(alloc, image, code, &starts, tiles)?;
-    in_order(places)
+    let found = found_places(alloc, image, code, &starts, tiles);
+    drop(starts);
+    in_order(found?)
 }
 
 /// The same as they are found.
