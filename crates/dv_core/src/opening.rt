@@ -316,7 +316,10 @@ fn no_threads(alloc: Global) -> Threads
 fn add_thread(threads: &mut Threads, stack: Stack, object: u32) -> Result<(), AllocError>
     ensures { OnOk result (HasNone threads.old → IsAlone threads.new stack object) }
 {
-    threads.stacks.push(stack)?;
+    if let Err(failed) = threads.stacks.push(stack) {
+        drop(failed);
+        return Err(AllocError);
+    }
     threads.ends.push(End::Living)?;
     threads.objects.push(object)?;
     Ok(())
