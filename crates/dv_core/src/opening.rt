@@ -14,6 +14,7 @@ ghost use Rattle.dv_ops.specs.Meaning.{field_of, method_of};
 ghost use Rattle.dv_words.specs.declared.state.Level.TheVariants as level;
 ghost use Rattle.dv_words.specs.Heaps as heaps;
 ghost use Rattle.dv_words.specs.Heaps.{counting, with_static};
+ghost use Rattle.dv_words.specs.Stacks.{empty};
 ghost use Rattle.dv_steps.specs.Calls.{entered_frame};
 ghost use Rattle.dv_steps.specs.Opening as words;
 ghost use Rattle.dv_steps.specs.Opening.{main_args, opening, object_made, with_out, with_out_of, with_string, with_string_of, with_strings};
@@ -271,6 +272,18 @@ fn push_class(stack: &mut Stack, class: ClassId)
     let _ = stack.push_record(class);
 }
 
+/// Pushes main's frame, and above it the record of its class, where that isn't born initialised.
+fn push_levels(stack: &mut Stack, main: &Method<'_>, array: Option<u32>, born: bool)
+    ensures few { registers_in main.now.def.now.body ≤ 256 }
+    ensures pushed { (limits : runs.Limits) → stack.old ≡ empty limits.levels limits.words → stack.new ≡ opening_stack limits (method_of main.now) (option_to_list array) born }
+{
+    push_main(stack, main, array);
+    if !born {
+        let info = main.info;
+        push_class(stack, info.class);
+    }
+}
+
 /// Thread 0's stack: main's frame, and above it the record of its class, where that isn't born initialised.
 fn main_stack(
     alloc: Global,
@@ -283,11 +296,7 @@ fn main_stack(
     ensures stack { IfOk result (λ stack. stack ≡ opening_stack limits.now (method_of main.now) (option_to_list array) born) }
 {
     let mut stack = Stack::new(alloc, limits.levels, limits.words)?;
-    push_main(&mut stack, main, array);
-    if !born {
-        let info = main.info;
-        push_class(&mut stack, info.class);
-    }
+    push_levels(&mut stack, main, array, born);
     Ok(stack)
 }
 
@@ -307,7 +316,10 @@ fn no_threads(alloc: Global) -> Threads
 fn add_thread(threads: &mut Threads, stack: Stack, object: u32) -> Result<(), AllocError>
     ensures { OnOk result (HasNone threads.old → IsAlone threads.new stack object) }
 {
-    threads.stacks.push(stack)?;
+    if let Err(failed) = threads.stacks.push(stack) {
+        drop(failed);
+        return Err(AllocError);
+    }
     threads.ends.push(End::Living)?;
     threads.objects.push(object)?;
     Ok(())
@@ -376,8 +388,13 @@ fn first_guest(
     ensures ordered { IfOk result (λ g. IsOrdered limits.now g) }
 {
     let mut guest = idle_guest(alloc, image)?;
-    begin(alloc, image, &mut guest, main, limits)?;
-    Ok(guest)
+    match begin(alloc, image, &mut guest, main, limits) {
+        Ok(()) => Ok(guest),
+        Err(error) => {
+            drop(guest);
+            Err(error)
+        }
+    }
 }
 
 impl Vm {

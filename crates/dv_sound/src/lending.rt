@@ -120,13 +120,18 @@ fn first_slice(image: &Image, vm: &Vm, thread: u32) -> Result<Option<Slice>, All
     let Some(start) = vm.copy_top(thread)? else {
         return Ok(None);
     };
-    let end = start.clone()?;
-    Ok(Some(Slice {
-        thread,
-        start,
-        steps: 0,
-        end,
-    }))
+    match start.clone() {
+        Ok(end) => Ok(Some(Slice {
+            thread,
+            start,
+            steps: 0,
+            end,
+        })),
+        Err(error) => {
+            drop(start);
+            Err(error)
+        }
+    }
 }
 
 /// So many of these steps are done: none where the run has ended, and no more than its budget has room for.
@@ -221,7 +226,10 @@ impl<'v> SafeVm<'v> {
         let Some(slice) = first_slice(&verified.image, vm, thread)? else {
             return Ok(None);
         };
-        lent.push(thread)?;
+        if let Err(error) = lent.push(thread) {
+            drop(slice);
+            return Err(error.into());
+        }
         Ok(Some(slice))
     }
 
@@ -247,7 +255,10 @@ impl<'v> SafeVm<'v> {
         ensures refused { IfErr result (λ e. (e.slice ≡ slice) × (self.new ≡ self.old)) }
     {
         match self.commit_steps(worker, &slice) {
-            Ok(steps) => Ok(steps),
+            Ok(steps) => {
+                drop(slice);
+                Ok(steps)
+            }
             Err(_) => Err(Refused { slice }),
         }
     }

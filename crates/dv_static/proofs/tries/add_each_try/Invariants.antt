@@ -2,7 +2,7 @@ use Rattle.std.proofs.Common.{◌≡◌, ◌++◌, drop}
 use Rattle.dv_defs.specs.Accepting.{try_places}
 use Rattle.dv_ops.specs.Meaning.{code_of}
 use Rattle.dv_static.specs.Placed.{places_of}
-use Rattle.dv_static.proofs.tries.add_try_places.Given as goal
+use Rattle.dv_static.proofs.tries.add_each_try.Given as goal
 
 -- with those of the entries from here on, the places are all
 abbrev pub invariant-loop-i : goal.invariant-loop-i
