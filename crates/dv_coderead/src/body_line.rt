@@ -451,7 +451,10 @@ fn packed_line(alloc: Global, head: Head, pieces: &[Piece]) -> Result<BodyLine, 
     ensures formed { IfOk result IsLine }
 {
     match head {
-        Head::Label => Ok(BodyLine::Target(label_line(alloc, pieces)?)),
+        Head::Label => match label_line(alloc, pieces) {
+            Ok(name) => Ok(BodyLine::Target(name)),
+            Err(error) => Err(error),
+        },
         Head::Directive(Directive::End(Block::Packed)) => Ok(end_line(pieces)?),
         _ => Err(Refusal::Fault(refusal_of(head))),
     }
@@ -490,7 +493,10 @@ fn data_line(width: u16, head: Head, pieces: &[Piece]) -> Result<BodyLine, LineK
 {
     match head {
         Head::Other if begins_with_number(pieces) => {
-            Ok(BodyLine::Element(element_line(width, pieces)?))
+            match element_line(width, pieces) {
+                Ok(element) => Ok(BodyLine::Element(element)),
+                Err(fault) => Err(fault),
+            }
         }
         Head::Directive(Directive::End(Block::Data)) => end_line(pieces),
         _ => Err(refusal_of(head)),

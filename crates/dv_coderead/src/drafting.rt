@@ -108,14 +108,20 @@ impl Drafting {
                 self.context.frame = Some(frame);
                 Ok(())
             }
-            BodyLine::Label(name) => push(&mut self.items, Item {
-                line,
-                what: What::Label(name),
-            }),
-            BodyLine::Op(op) => push(&mut self.items, Item {
-                line,
-                what: What::Op(op),
-            }),
+            BodyLine::Label(name) => push(
+                &mut self.items,
+                Item {
+                    line,
+                    what: What::Label(name),
+                },
+            ),
+            BodyLine::Op(op) => push(
+                &mut self.items,
+                Item {
+                    line,
+                    what: What::Op(op),
+                },
+            ),
             BodyLine::Handler(catch) => push(&mut self.catches, catch),
             BodyLine::Begin(opening) => {
                 self.context.block = Some(opening);

@@ -1,5 +1,5 @@
 // The state on entry to a method.
-ghost use Rattle.std.specs.Prelude.{◌≡◌, ◌++◌, ◌-◌, false, length, replicate, IfOk, OnOk};
+ghost use Rattle.std.specs.Prelude.{◌≡◌, ◌∷◌, [], ◌++◌, ◌-◌, false, length, replicate, IfOk, OnOk};
 ghost use Rattle.dv_defs.specs.Pools.{is_of_object as is_of_object_class, is_static};
 ghost use Rattle.dv_defs.specs.RegTypes.{all_types, reg_types};
 ghost use Rattle.dv_defs.specs.Transfer.{arg_types as types_of_args, begins_uninitialised as is_uninitialised, entry_state, receiver_type};
@@ -129,10 +129,17 @@ fn push_type(types: &mut Vec<RegType>, ty: &Ty) -> Result<(), AllocError>
     ensures { OnOk result (types.new.items ≡ types.old.items ++ reg_types ty.now) }
 {
     if is_long(ty) {
-        types.push(RegType::LongLo)?;
-        types.push(RegType::LongHi)?;
+        push_one(types, RegType::LongLo)?;
+        push_one(types, RegType::LongHi)
     } else {
-        types.push(single_type(ty)?)?;
+        push_one(types, single_type(ty)?)
     }
+}
+
+/// Adds a register type.
+fn push_one(types: &mut Vec<RegType>, ty: RegType) -> Result<(), AllocError>
+    ensures { OnOk result (types.new.items ≡ types.old.items ++ ty ∷ []) }
+{
+    types.push(ty)?;
     Ok(())
 }

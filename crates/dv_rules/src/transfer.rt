@@ -39,12 +39,18 @@ pub fn out_of(
 {
     let change = change_of(alloc, image, code, at, op, made, state)?;
     let regs = changed(alloc, image, state.regs.items(), change)?;
-    Ok(RegState {
-        regs: Seq::of(regs),
-        result: pending_after(op)?,
-        caught: None,
-        this_pending: this_after(op, state),
-    })
+    match pending_after(op) {
+        Ok(result) => Ok(RegState {
+            regs: Seq::of(regs),
+            result,
+            caught: None,
+            this_pending: this_after(op, state),
+        }),
+        Err(error) => {
+            drop(regs);
+            Err(error)
+        }
+    }
 }
 
 /// The state with which a handler for a type is entered.
@@ -102,7 +108,11 @@ fn change_of(
         | Op::IntToLong(a, _)
         | Op::LongOp(_, a, _, _)
         | Op::LongShift(_, a, _, _)
-        | Op::LongDivide(_, a, _, _) => return Ok(Change::Two(*a, RegType::LongLo, RegType::LongHi)),
+        | Op::LongDivide(_, a, _, _) => return Ok(Change::Two(
+            *a,
+            RegType::LongLo,
+            RegType::LongHi,
+        )),
         _ => return Ok(Change::Nothing),
     };
     Ok(Change::One(a, ty?))
@@ -247,7 +257,10 @@ fn value_got(a: u16, field: &Field<'_>) -> Result<Change, AllocError>
     if is_long(&def.ty) {
         Ok(Change::Two(a, RegType::LongLo, RegType::LongHi))
     } else {
-        Ok(Change::One(a, single_type(&def.ty)?))
+        match single_type(&def.ty) {
+            Ok(ty) => Ok(Change::One(a, ty)),
+            Err(error) => Err(error),
+        }
     }
 }
 
