@@ -190,8 +190,7 @@ fn items_with(alloc: Global, body: &Body, pieces: &Pieces) -> Result<Vec<Item>, 
 {
     let tries = body.tries.items();
     let named = addresses_named(alloc, pieces, tries)?;
-    let items = items_in(alloc, body, pieces, &named)?;
-    Ok(items)
+    items_in(alloc, body, pieces, &named)
 }
 
 /// The items of a body.
@@ -200,6 +199,5 @@ pub fn items_of(alloc: Global, body: &Body) -> Result<Vec<Item>, AllocError>
 {
     let units = body.units.items();
     let pieces = Pieces::of(alloc, units)?;
-    let items = items_with(alloc, body, &pieces)?;
-    Ok(items)
+    items_with(alloc, body, &pieces)
 }

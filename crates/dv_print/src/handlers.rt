@@ -36,12 +36,16 @@ fn catch_of(
 ) -> Result<Catch, AllocError>
     ensures { IfOk result (λ c. c ≡ catch_of types.now entry.now handler.now) }
 {
+    let from = label(alloc, entry.start)?;
+    let to = label(alloc, entry.end)?;
+    let at = label(alloc, handler.at)?;
+    let kind = caught_type(types, handler)?;
     Ok(Catch {
         line: 0,
-        kind: caught_type(types, handler)?,
-        from: label(alloc, entry.start)?,
-        to: label(alloc, entry.end)?,
-        at: label(alloc, handler.at)?,
+        kind,
+        from,
+        to,
+        at,
     })
 }
 

@@ -34,7 +34,11 @@ fn resolve_method(
     ensures { (image : Image) → Knows members.now image → IfOk result (λ done. done ≡ method_with_pools image method) }
 {
     match body_of(members, &method) {
-        Some(body) => with_pools(alloc, members, method.class, method.place, body),
+        Some(body) => {
+            let resolved = with_pools(alloc, members, method.class, method.place, body);
+            drop(method);
+            resolved
+        }
         None => Ok(method),
     }
 }
@@ -55,15 +59,15 @@ fn with_pools(
       methods = method_ids image body.now;
     }) }
 {
+    let fields = field_ids(alloc, members, body.fields.items())?;
+    let methods = method_ids(alloc, members, body.methods.items())?;
     let types = body.types.clone()?;
-    let fields = Seq::of(field_ids(alloc, members, body.fields.items())?);
-    let methods = Seq::of(method_ids(alloc, members, body.methods.items())?);
     Ok(MethodInfo {
         class,
         place,
         types,
-        fields,
-        methods,
+        fields: Seq::of(fields),
+        methods: Seq::of(methods),
     })
 }
 

@@ -1,7 +1,7 @@
 use Rattle.std.proofs.Common.{◌+◌, length}
 use Rattle.dv_hier.specs.Upwards.{unmarked}
 use Rattle.dv_hier.proofs.UpwardsLaws.{IsSearch}
-use Rattle.dv_hier.proofs.cycles.depends_on_itself.Given as goal
+use Rattle.dv_hier.proofs.cycles.comes_back.Given as goal
 
 abbrev pub invariant-loop-id : goal.invariant-loop-id
 invariant-loop-id l = IsSearch l.infos l.class l.search.met.items l.search.waiting.items

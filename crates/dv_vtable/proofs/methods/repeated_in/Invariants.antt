@@ -4,7 +4,7 @@ use Rattle.indexmap.specs.IndexSet.{contains}
 use Rattle.dv_defs.specs.First.{first_below}
 use Rattle.dv_defs.specs.LinkFaults.{method_twice}
 use Rattle.dv_vtable.specs.declared.keys.MethodKey.{MethodKey}
-use Rattle.dv_vtable.proofs.methods.method_twice.Given as goal
+use Rattle.dv_vtable.proofs.methods.repeated_in.Given as goal
 use Rattle.dv_vtable.proofs.KeyLemmas.{key_eq, is_like}
 
 abbrev pub invariant-loop-i : goal.invariant-loop-i
