@@ -161,9 +161,7 @@ fn with_catches(
     ensures tiled { IfOk result (λ body. tiling body.units ≡ Ok (tiles_of short.now (pools_of short.now) (length short.now))) }
 {
     let catches = Catches::of(alloc, short, catches)?;
-    let body = with_ranges(alloc, registers, &catches);
-    drop(catches);
-    body
+    with_ranges(alloc, registers, &catches)
 }
 
 /// The body of a draft, whose items have these places, or the first refusal.
