@@ -323,13 +323,19 @@ fn field_line(alloc: Global, pieces: &[Piece]) -> Result<FieldDef, Refusal>
 {
     let (flags, rest) = flags_part(pieces)?;
     let ((name, ty), rest) = name_and_type_part(alloc, rest)?;
-    let init = init_line(Flag::Static.is_in(flags), &ty, rest)?;
-    Ok(FieldDef {
-        name,
-        ty,
-        flags,
-        init,
-    })
+    match init_line(Flag::Static.is_in(flags), &ty, rest) {
+        Ok(init) => Ok(FieldDef {
+            name,
+            ty,
+            flags,
+            init,
+        }),
+        Err(refusal) => {
+            drop(name);
+            drop(ty);
+            Err(refusal)
+        }
+    }
 }
 
 // ---- methods

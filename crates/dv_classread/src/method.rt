@@ -163,7 +163,10 @@ fn left(alloc: Global, text: &[u8], lines: &[Line], signature: &Signature, fault
     ensures { Stops result (left_at fault signature.now (kept 0 (text_lines text.now lines.now))) }
 {
     match method_body(alloc, text, lines, signature) {
-        Ok(_) => as_error(fault),
+        Ok(body) => {
+            drop(body);
+            as_error(fault)
+        }
         Err(LineError::At { line, kind }) => as_error(earlier(fault, Stop { line, kind })),
         Err(LineError::Memory) => LineError::Memory,
     }
@@ -225,8 +228,13 @@ fn whole_body(
 {
     let at = whole_end(alloc, text, lines, from, signature, fault)?;
     let body = method_body(alloc, text, &lines[from..at], signature)?;
-    last_line(alloc, text, &lines[at])?;
-    Ok((body, at + 1))
+    match last_line(alloc, text, &lines[at]) {
+        Ok(()) => Ok((body, at + 1)),
+        Err(error) => {
+            drop(body);
+            Err(error)
+        }
+    }
 }
 
 /// A method from the place behind its first line on, with the place behind its last one. Where the text ends within it,

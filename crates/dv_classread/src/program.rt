@@ -113,7 +113,10 @@ impl Program {
     {
         match &mut self.last {
             Some(class) => class.fields.push(field),
-            None => Ok(()),
+            None => {
+                drop(field);
+                Ok(())
+            }
         }
     }
 
@@ -124,7 +127,10 @@ impl Program {
     {
         match &mut self.last {
             Some(class) => class.methods.push(method),
-            None => Ok(()),
+            None => {
+                drop(method);
+                Ok(())
+            }
         }
     }
 
@@ -150,7 +156,16 @@ impl Program {
     pub fn into_classes(mut self) -> Result<Vec<ClassDraft>, AllocError>
         ensures { IfOk result (λ v. v.items ≡ classes_with self []) }
     {
-        self.close()?;
-        Ok(self.classes)
+        match self.close() {
+            Ok(()) => {
+                let Program { classes, last, .. } = self;
+                drop(last);
+                Ok(classes)
+            }
+            Err(error) => {
+                drop(self);
+                Err(error)
+            }
+        }
     }
 }

@@ -148,8 +148,13 @@ fn drafts(
     ensures { let ls = text_lines text.now lines.now in GivesLines (λ v. v.items) result (drafts_of (end_with stop past (open_behind 0 ls)) past ls) }
 {
     let mut program = Program::new(alloc);
-    add_lines(alloc, text, lines, stop, past, &mut program)?;
-    Ok(program.into_classes()?)
+    match add_lines(alloc, text, lines, stop, past, &mut program) {
+        Ok(()) => Ok(program.into_classes()?),
+        Err(error) => {
+            drop(program);
+            Err(error)
+        }
+    }
 }
 
 /// The classes before the schedule, which begins at a place, and the schedule.
@@ -170,8 +175,13 @@ fn with_schedule(
 {
     let first = &lines[place];
     let classes = drafts(alloc, text, &lines[..place], None, first.number)?;
-    let log = read_schedule(alloc, text, first, &lines[place + 1..], stop, past)?;
-    Ok((classes, log))
+    match read_schedule(alloc, text, first, &lines[place + 1..], stop, past) {
+        Ok(log) => Ok((classes, log)),
+        Err(error) => {
+            drop(classes);
+            Err(error)
+        }
+    }
 }
 
 /// Where the schedule begins, if there is one and it is looked for.
@@ -225,9 +235,17 @@ pub fn read_classes(alloc: Global, text: &[u8], schedule: bool) -> Result<Read, 
     ensures { GivesLines (λ r. r) result (program_of schedule (reading_of text.now)) }
 {
     let good = good_lines(alloc, text)?;
-    let (classes, log) = drafts_in(alloc, text, good.lines.items(), good.stop, schedule)?;
-    Ok(Read {
-        classes: Seq::of(assembled_classes(alloc, classes)?),
-        log: Seq::of(log),
-    })
+    match drafts_in(alloc, text, good.lines.items(), good.stop, schedule) {
+        Ok((classes, log)) => {
+            drop(good);
+            Ok(Read {
+                classes: Seq::of(assembled_classes(alloc, classes)?),
+                log: Seq::of(log),
+            })
+        }
+        Err(error) => {
+            drop(good);
+            Err(error)
+        }
+    }
 }

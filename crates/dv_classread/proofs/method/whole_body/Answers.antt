@@ -22,15 +22,14 @@ returns-in_err-body c = λ end past s is.
     let p = err_from_is_err_and c.from_residual-in_err-body.result c.from_residual-in_err-body.ensures.1 in
     rw (p.1, p.2) (refused_body c.args.text.now c.args.lines.now c.requires.numbered c.args.from c.args.signature.now c.in_ok-at.at c.in_ok-at.ensures end past s c.in_err-body.field-0.0 c.in_err-body.ensures)
 
-pub returns-in_err-last_line : goal.returns-in_err-last_line
-returns-in_err-last_line c = λ end past s is.
+pub returns-in-Err : goal.returns-in-Err
+returns-in-Err c = λ end past s is.
     let text = c.args.text.now in
     let lines = c.args.lines.now in
     let line = get_or_read lines c.in_ok-at.at c.index-lines-at.result c.in_ok-at.ensures.inside c.index-lines-at.is no_line in
-    let e = c.in_err-last_line.field-0.0 in
-    let stops = subst (λ (l : Line). Stops e (on_line (text_line text l).number (ended (behind (behind (text_line text l).pieces))))) line c.in_err-last_line.ensures in
-    let p = err_from_is_err_and c.from_residual-in_err-last_line.result c.from_residual-in_err-last_line.ensures.1 in
-    rw (p.1, p.2) (refused_last text lines c.requires.numbered c.args.from c.args.signature.now c.in_ok-at.at c.in_ok-at.ensures end past s c.in_ok-body.body c.in_ok-body.ensures e stops)
+    let e = c.in-Err.error in
+    let stops = subst (λ (l : Line). Stops e (on_line (text_line text l).number (ended (behind (behind (text_line text l).pieces))))) line c.in-Err.ensures in
+    refused_last text lines c.requires.numbered c.args.from c.args.signature.now c.in_ok-at.at c.in_ok-at.ensures end past s c.in_ok-body.body c.in_ok-body.ensures e stops
 
 pub last_line-requires-clause-tokens : goal.last_line-requires-clause-tokens
 last_line-requires-clause-tokens c =
@@ -44,13 +43,13 @@ returns-in_err-at c = λ end past s is.
 place_behind : (from at n : ℕ) → from ≤ at → at < n → (from ≤ at + 1) × (at + 1 ≤ n)
 place_behind from at n behind inside = (omega arith, omega arith)
 
-pub returns : goal.returns
-returns c = λ end past s is.
+pub returns-in-Ok : goal.returns-in-Ok
+returns-in-Ok c = λ end past s is.
     let text = c.args.text.now in
     let lines = c.args.lines.now in
     let at = c.in_ok-at.at in
     let line = get_or_read lines at c.index-lines-at.result c.in_ok-at.ensures.inside c.index-lines-at.is no_line in
-    let last = subst (λ (l : Line). on_line (text_line text l).number (ended (behind (behind (text_line text l).pieces))) ≡ Ok (record {})) line c.in_ok-last_line.ensures in
+    let last = subst (λ (l : Line). on_line (text_line text l).number (ended (behind (behind (text_line text l).pieces))) ≡ Ok (record {})) line c.in-Ok.ensures in
     let places = place_behind c.args.from at (length lines) c.in_ok-at.ensures.behind c.in_ok-at.ensures.inside in (
       places.0,
       places.1,

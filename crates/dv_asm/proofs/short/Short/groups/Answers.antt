@@ -9,5 +9,5 @@ returns c = grind (arith, common_steps)
 pub bounds-ranges-k : goal.bounds-ranges-k
 bounds-ranges-k c = grind (arith, common_steps)
 
-pub returns-in_err-add_catch : goal.returns-in_err-add_catch
-returns-in_err-add_catch c = grind (arith, common_steps)
+pub returns-in-Err : goal.returns-in-Err
+returns-in-Err c = grind (arith, common_steps)
