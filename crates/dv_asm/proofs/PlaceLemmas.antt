@@ -18,7 +18,7 @@ pub record AreSoFar (items : List Item) (places : List ℕ) (end k : ℕ) : Type
   pub end_small : end < 2 ^ 62
 
 -- an alignment adds at most one, and nothing at an even end
-aligned_by : (end : ℕ) (b : Bool) → (end ≤ (if nat_eq (end % 2) 1 && b then end + 1 else end)) × ((if nat_eq (end % 2) 1 && b then end + 1 else end) ≤ end + end % 2)
+pub aligned_by : (end : ℕ) (b : Bool) → (end ≤ (if nat_eq (end % 2) 1 && b then end + 1 else end)) × ((if nat_eq (end % 2) 1 && b then end + 1 else end) ≤ end + end % 2)
 aligned_by end b = grind (arith, nat_tests)
 
 pub aligned_above : (end : ℕ) (items : List Item) → end ≤ aligned end items

@@ -44,8 +44,13 @@ fn fitting<'a>(alloc: Global, places: &'a Places<'a>) -> Result<Short<'a>, LineE
     ensures value { IfOk result (λ short. short ≡ places.now) }
 {
     let switches = Switches::of(alloc, places)?;
-    check_items(&switches)?;
-    Ok(Short::of(switches))
+    match check_items(&switches) {
+        Ok(()) => Ok(Short::of(switches)),
+        Err(error) => {
+            drop(switches);
+            Err(error)
+        }
+    }
 }
 
 /// The ranges by their starts. Refuses empty ranges and ranges that overlap.
@@ -119,8 +124,13 @@ fn body_of(
     let short = catches.short;
     short.is_short();
     let mut pools = Pools::of(alloc, short.places().items())?;
-    let (units, tries) = code_of(alloc, catches, sorted, &mut pools)?;
-    body_with(registers, units, tries, pools)
+    match code_of(alloc, catches, sorted, &mut pools) {
+        Ok((units, tries)) => body_with(registers, units, tries, pools),
+        Err(error) => {
+            drop(pools);
+            Err(error)
+        }
+    }
 }
 
 /// The body of items that aren't refused, with these handlers. Refuses empty ranges and ranges that overlap.
@@ -164,7 +174,9 @@ fn with_places(alloc: Global, draft: &Draft, places: &Places) -> Result<Body, Li
     let catches = draft.catches.items();
     check_labels(places, catches)?;
     let short = fitting(alloc, places)?;
-    with_catches(alloc, draft.registers, &short, catches)
+    let body = with_catches(alloc, draft.registers, &short, catches);
+    drop(short);
+    body
 }
 
 /// Assembles a draft: its units, its try entries and its pools.

@@ -45,7 +45,13 @@ impl Short<'_> {
     {
         let mut groups = IndexMap::new(alloc);
         for k in 0..catches.len() {
-            add_catch(&mut groups, ranges[k], &catches[k])?;
+            match add_catch(&mut groups, ranges[k], &catches[k]) {
+                Ok(()) => {}
+                Err(error) => {
+                    drop(groups);
+                    return Err(error);
+                }
+            }
         }
         Ok(groups)
     }

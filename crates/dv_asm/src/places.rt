@@ -103,7 +103,13 @@ fn first_labels(alloc: Global, items: &[Item]) -> Result<IndexMap<Text, usize>, 
 {
     let mut labels = IndexMap::new(alloc);
     for k in 0..items.len() {
-        add_label(&mut labels, &items[k], k)?;
+        match add_label(&mut labels, &items[k], k) {
+            Ok(()) => {}
+            Err(error) => {
+                drop(labels);
+                return Err(error);
+            }
+        }
     }
     Ok(labels)
 }

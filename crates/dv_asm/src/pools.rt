@@ -69,7 +69,13 @@ impl Pools {
     {
         let mut pools = Pools::new(alloc);
         for item in items {
-            pools.add_item(item)?;
+            match pools.add_item(item) {
+                Ok(()) => {}
+                Err(error) => {
+                    drop(pools);
+                    return Err(error);
+                }
+            }
         }
         Ok(pools)
     }

@@ -49,7 +49,13 @@ impl Places<'_> {
     {
         let mut switches = IndexMap::new(alloc);
         for k in 0..self.count() {
-            self.add_switch(&mut switches, k)?;
+            match self.add_switch(&mut switches, k) {
+                Ok(()) => {}
+                Err(error) => {
+                    drop(switches);
+                    return Err(error);
+                }
+            }
         }
         Ok(switches)
     }
@@ -72,7 +78,13 @@ impl Places<'_> {
     {
         let mut payloads = IndexSet::new(alloc);
         for k in 0..self.count() {
-            self.add_payload(&mut payloads, k)?;
+            match self.add_payload(&mut payloads, k) {
+                Ok(()) => {}
+                Err(error) => {
+                    drop(payloads);
+                    return Err(error);
+                }
+            }
         }
         Ok(payloads)
     }
@@ -104,12 +116,17 @@ impl<'a> Switches<'a> {
         ensures { IfOk result (λ switches. switches ≡ places.now) }
     {
         let first = places.first_switches(alloc)?;
-        let payloads = places.payload_addresses(alloc)?;
-        Ok(Switches {
-            places,
-            first,
-            payloads,
-        })
+        match places.payload_addresses(alloc) {
+            Ok(payloads) => Ok(Switches {
+                places,
+                first,
+                payloads,
+            }),
+            Err(error) => {
+                drop(first);
+                Err(error)
+            }
+        }
     }
 
     /// The items with their places.

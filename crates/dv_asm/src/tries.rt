@@ -8,7 +8,7 @@ use crate::short::Short;
 use std::alloc::{AllocError, Global};
 
 /// The addresses from `start` up to and without `end`.
-#[derive(Clone, Copy, PartialEq, Eq, Hash, Debug)]
+#[derive(Clone, Copy, PartialEq, Eq, Hash)]
 pub struct TryRange {
     pub start: u32,
     pub end: u32,

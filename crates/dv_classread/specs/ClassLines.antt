@@ -32,6 +32,35 @@ use Rattle.dv_classread.specs.declared.class_line.ClassLine.TheVariants as line
 
 -- ---- flags
 
+-- the flag of a word, of those from `annotation` on
+abbrev pub flag_from_annotation : List ℕ → Option Flag
+flag_from_annotation w =
+    if bytes_eq w (codes "annotation") then Some flag.Annotation
+    else if bytes_eq w (codes "enum") then Some flag.Enum
+    else if bytes_eq w (codes "constructor") then Some flag.Constructor
+    else if bytes_eq w (codes "declared-synchronized") then Some flag.DeclaredSynchronized
+    else None
+
+-- the flag of a word, of those from `native` on
+abbrev pub flag_from_native : List ℕ → Option Flag
+flag_from_native w =
+    if bytes_eq w (codes "native") then Some flag.Native
+    else if bytes_eq w (codes "interface") then Some flag.Interface
+    else if bytes_eq w (codes "abstract") then Some flag.Abstract
+    else if bytes_eq w (codes "strictfp") then Some flag.Strictfp
+    else if bytes_eq w (codes "synthetic") then Some flag.Synthetic
+    else flag_from_annotation w
+
+-- the flag of a word, of those from `synchronized` on
+abbrev pub flag_from_synchronized : List ℕ → Option Flag
+flag_from_synchronized w =
+    if bytes_eq w (codes "synchronized") then Some flag.Synchronized
+    else if bytes_eq w (codes "volatile") then Some flag.Volatile
+    else if bytes_eq w (codes "bridge") then Some flag.Bridge
+    else if bytes_eq w (codes "transient") then Some flag.Transient
+    else if bytes_eq w (codes "varargs") then Some flag.Varargs
+    else flag_from_native w
+
 -- the flag of a word
 unfoldable pub flag_of : List ℕ → Option Flag
 flag_of w =
@@ -40,21 +69,7 @@ flag_of w =
     else if bytes_eq w (codes "protected") then Some flag.Protected
     else if bytes_eq w (codes "static") then Some flag.Static
     else if bytes_eq w (codes "final") then Some flag.Final
-    else if bytes_eq w (codes "synchronized") then Some flag.Synchronized
-    else if bytes_eq w (codes "volatile") then Some flag.Volatile
-    else if bytes_eq w (codes "bridge") then Some flag.Bridge
-    else if bytes_eq w (codes "transient") then Some flag.Transient
-    else if bytes_eq w (codes "varargs") then Some flag.Varargs
-    else if bytes_eq w (codes "native") then Some flag.Native
-    else if bytes_eq w (codes "interface") then Some flag.Interface
-    else if bytes_eq w (codes "abstract") then Some flag.Abstract
-    else if bytes_eq w (codes "strictfp") then Some flag.Strictfp
-    else if bytes_eq w (codes "synthetic") then Some flag.Synthetic
-    else if bytes_eq w (codes "annotation") then Some flag.Annotation
-    else if bytes_eq w (codes "enum") then Some flag.Enum
-    else if bytes_eq w (codes "constructor") then Some flag.Constructor
-    else if bytes_eq w (codes "declared-synchronized") then Some flag.DeclaredSynchronized
-    else None
+    else flag_from_synchronized w
 
 -- a flag more, which may stand once; or the flags are told, and these pieces stand behind them
 abbrev pub with_flag : ℕ → Option Flag → Part ℕ → Part ℕ → Part ℕ

@@ -19,6 +19,7 @@ use Rattle.dv_classread.specs.declared.class_line.ClassLine.{ClassLine}
 use Rattle.dv_classread.specs.declared.class_line.ClassLine.TheVariants as line
 use Rattle.dv_classread.specs.declared.method.MethodEnd.{MethodEnd}
 use Rattle.dv_classread.specs.declared.method.MethodEnd.TheVariants as end_at
+use Rattle.dv_classread.specs.declared.program.BodyDraft.{BodyDraft}
 use Rattle.dv_classread.specs.declared.program.MethodDraft.{MethodDraft}
 use Rattle.dv_classread.specs.ClassLines.{class_line, stands_next, lacks_super}
 use Rattle.dv_classread.specs.Methods.{method_body}
@@ -145,8 +146,19 @@ IsToldTo text ls from sig end past s m next =
     (from ≤ next) × (next ≤ length ls) × (open_from text ls from ≡ open_from text ls next)
     × (told_in_method text ls from end past s sig ≡ and_told (Method m) (told_from end past (InClass s) (kept_from text ls next)))
 
+-- a method ends at this place; or why it is bad, where it is left unfinished
+abbrev pub EndsWhole : List ℕ → List Line → ℕ → Signature → Stop → Result ℕ LineError → Type 0
+EndsWhole text ls from sig fault result =
+    MatchResult result (λ at. IsEnd text ls from at)
+    (λ e. (end : Option Stop) (past : ℕ) (s : Standing) → unwrap_or end (missing_at past) ≡ fault → Stops e (told_in_method text ls from end past s sig))
+
 -- A method is told whole, with the place behind it; or why it is bad. An unfinished one is told by this fault where the text ends.
 abbrev pub IsWhole : List ℕ → List Line → ℕ → Signature → Stop → Result (MethodDraft × ℕ) LineError → Type 0
 IsWhole text ls from sig fault result =
     (end : Option Stop) (past : ℕ) (s : Standing) → unwrap_or end (missing_at past) ≡ fault →
     MatchResult result (λ r. IsToldTo text ls from sig end past s r.0 r.1) (λ e. Stops e (told_in_method text ls from end past s sig))
+
+-- the method of a signature and a body, with the place behind it
+abbrev pub of_signature : Signature → Result (Option BodyDraft × ℕ) LineError → Result (MethodDraft × ℕ) LineError
+of_signature sig (Ok r) = Ok (record { signature = sig; body = r.0 }, r.1)
+of_signature sig (Err e) = Err e

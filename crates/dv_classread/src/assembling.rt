@@ -15,7 +15,11 @@ fn assembled_body(alloc: Global, body: Option<BodyDraft>) -> Result<Option<Body>
     match body {
         None => Ok(None),
         Some(BodyDraft::Raw(body)) => Ok(Some(body)),
-        Some(BodyDraft::Drafted(draft)) => Ok(Some(assemble(alloc, &draft)?)),
+        Some(BodyDraft::Drafted(draft)) => {
+            let body = assemble(alloc, &draft);
+            drop(draft);
+            Ok(Some(body?))
+        }
     }
 }
 
@@ -23,13 +27,18 @@ fn assembled_method(alloc: Global, method: MethodDraft) -> Result<MethodDef, Lin
     ensures { GivesLines (λ m. m) result (assembled_method method) }
 {
     let MethodDraft { signature, body } = method;
-    let body = assembled_body(alloc, body)?;
-    Ok(MethodDef {
-        name: signature.name,
-        proto: signature.proto,
-        flags: signature.flags,
-        body,
-    })
+    match assembled_body(alloc, body) {
+        Ok(body) => Ok(MethodDef {
+            name: signature.name,
+            proto: signature.proto,
+            flags: signature.flags,
+            body,
+        }),
+        Err(error) => {
+            drop(signature);
+            Err(error)
+        }
+    }
 }
 
 fn assembled_methods(alloc: Global, methods: Seq<MethodDraft>) -> Result<Vec<MethodDef>, LineError>
@@ -52,16 +61,24 @@ fn assembled_class(alloc: Global, class: ClassDraft) -> Result<ClassDef, LineErr
         fields,
         methods,
     } = class;
-    let methods = Seq::of(assembled_methods(alloc, methods)?);
-    Ok(ClassDef {
-        name: head.name,
-        parent,
-        interfaces,
-        flags: head.flags,
-        fields,
-        methods,
-        line: head.line,
-    })
+    match assembled_methods(alloc, methods) {
+        Ok(methods) => Ok(ClassDef {
+            name: head.name,
+            parent,
+            interfaces,
+            flags: head.flags,
+            fields,
+            methods: Seq::of(methods),
+            line: head.line,
+        }),
+        Err(error) => {
+            drop(head);
+            drop(parent);
+            drop(interfaces);
+            drop(fields);
+            Err(error)
+        }
+    }
 }
 
 /// The classes with their bodies assembled, method by method in the order of the text.

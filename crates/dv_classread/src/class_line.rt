@@ -6,7 +6,7 @@ ghost use Rattle.dv_defs.specs.Field.{value_fits};
 ghost use Rattle.dv_coderead.specs.Giving.{Gives, Reads};
 ghost use Rattle.dv_coderead.specs.Pieces.{piece_in, pieces_in};
 ghost use Rattle.dv_coderead.specs.Heads.{head_of};
-ghost use Rattle.dv_classread.specs.ClassLines.{boolean_value, by_directive, class_head_line, class_line, class_name, class_name_line, directive_refusal, field_line, fitting_value, flag_of, flags_at, init_line, inside_line, is_boolean, lacks_super, name_and_proto, name_and_type, next_class_line, number_value, refusal_of, signature_line, stands_next, superclass_line, value_alone, value_in, word_value, StandsIn};
+ghost use Rattle.dv_classread.specs.ClassLines.{boolean_value, by_directive, class_head_line, class_line, class_name, class_name_line, directive_refusal, field_line, fitting_value, flag_from_annotation, flag_from_native, flag_from_synchronized, flag_of, flags_at, init_line, inside_line, is_boolean, lacks_super, name_and_proto, name_and_type, next_class_line, number_value, refusal_of, signature_line, stands_next, superclass_line, value_alone, value_in, word_value, StandsIn};
 
 use dv_coderead::parts::{behind, end};
 use dv_coderead::references::{class, cut_at, name, proto, ty};
@@ -67,7 +67,16 @@ fn flag_of(word: &[u8]) -> Option<Flag>
         Some(Flag::Static)
     } else if word == b"final".as_slice() {
         Some(Flag::Final)
-    } else if word == b"synchronized".as_slice() {
+    } else {
+        flag_from_synchronized(word)
+    }
+}
+
+/// The flag of a word, of those from `synchronized` on.
+fn flag_from_synchronized(word: &[u8]) -> Option<Flag>
+    ensures { result ≡ flag_from_synchronized word.now }
+{
+    if word == b"synchronized".as_slice() {
         Some(Flag::Synchronized)
     } else if word == b"volatile".as_slice() {
         Some(Flag::Volatile)
@@ -77,7 +86,16 @@ fn flag_of(word: &[u8]) -> Option<Flag>
         Some(Flag::Transient)
     } else if word == b"varargs".as_slice() {
         Some(Flag::Varargs)
-    } else if word == b"native".as_slice() {
+    } else {
+        flag_from_native(word)
+    }
+}
+
+/// The flag of a word, of those from `native` on.
+fn flag_from_native(word: &[u8]) -> Option<Flag>
+    ensures { result ≡ flag_from_native word.now }
+{
+    if word == b"native".as_slice() {
         Some(Flag::Native)
     } else if word == b"interface".as_slice() {
         Some(Flag::Interface)
@@ -87,7 +105,16 @@ fn flag_of(word: &[u8]) -> Option<Flag>
         Some(Flag::Strictfp)
     } else if word == b"synthetic".as_slice() {
         Some(Flag::Synthetic)
-    } else if word == b"annotation".as_slice() {
+    } else {
+        flag_from_annotation(word)
+    }
+}
+
+/// The flag of a word, of those from `annotation` on.
+fn flag_from_annotation(word: &[u8]) -> Option<Flag>
+    ensures { result ≡ flag_from_annotation word.now }
+{
+    if word == b"annotation".as_slice() {
         Some(Flag::Annotation)
     } else if word == b"enum".as_slice() {
         Some(Flag::Enum)
@@ -296,13 +323,19 @@ fn field_line(alloc: Global, pieces: &[Piece]) -> Result<FieldDef, Refusal>
 {
     let (flags, rest) = flags_part(pieces)?;
     let ((name, ty), rest) = name_and_type_part(alloc, rest)?;
-    let init = init_line(Flag::Static.is_in(flags), &ty, rest)?;
-    Ok(FieldDef {
-        name,
-        ty,
-        flags,
-        init,
-    })
+    match init_line(Flag::Static.is_in(flags), &ty, rest) {
+        Ok(init) => Ok(FieldDef {
+            name,
+            ty,
+            flags,
+            init,
+        }),
+        Err(refusal) => {
+            drop(name);
+            drop(ty);
+            Err(refusal)
+        }
+    }
 }
 
 // ---- methods

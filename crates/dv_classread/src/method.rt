@@ -7,7 +7,7 @@ ghost use Rattle.dv_coderead.specs.Operands.{behind, ended};
 ghost use Rattle.dv_coderead.specs.Kept.{kept, kept_from, open_behind, text_line, text_lines, AreNumbered};
 ghost use Rattle.dv_coderead.specs.Bodies.{number_behind, HasNext};
 ghost use Rattle.dv_classread.specs.Methods.{begins_raw, is_count_head, is_raw_head, kind_of, method_from};
-ghost use Rattle.dv_classread.specs.Texts.{ends_method, leaves_method, left_at, Ends, EndsBefore, IsWhole};
+ghost use Rattle.dv_classread.specs.Texts.{ends_method, leaves_method, left_at, Ends, EndsBefore, EndsWhole, IsWhole, of_signature};
 
 use crate::class_line::Signature;
 use crate::lines::{as_error, ended, missing_at};
@@ -163,7 +163,10 @@ fn left(alloc: Global, text: &[u8], lines: &[Line], signature: &Signature, fault
     ensures { Stops result (left_at fault signature.now (kept 0 (text_lines text.now lines.now))) }
 {
     match method_body(alloc, text, lines, signature) {
-        Ok(_) => as_error(fault),
+        Ok(body) => {
+            drop(body);
+            as_error(fault)
+        }
         Err(LineError::At { line, kind }) => as_error(earlier(fault, Stop { line, kind })),
         Err(LineError::Memory) => LineError::Memory,
     }
@@ -177,6 +180,61 @@ fn last_line(alloc: Global, text: &[u8], line: &Line) -> Result<(), LineError>
 {
     let pieces = read_tokens(alloc, text, line.tokens.items())?;
     ended(line.number, behind(behind(&pieces)))
+}
+
+/// The place of a method's last line, or why the method is left unfinished.
+fn whole_end(
+    alloc: Global,
+    text: &[u8],
+    lines: &[Line],
+    from: usize,
+    signature: &Signature,
+    fault: Stop,
+) -> Result<usize, LineError>
+    requires inside { All (IsLineInside text.now) lines.now }
+    requires tokens { All (HasTokens text.now) lines.now }
+    requires numbers { All HasNext lines.now }
+    requires numbered { AreNumbered 1 lines.now }
+    requires place { from ≤ length lines.now }
+    requires behind { EndsBefore fault.line (text_lines text.now lines.now) }
+    ensures { EndsWhole text.now lines.now from signature.now fault result }
+{
+    match method_end(text, lines, from) {
+        MethodEnd::Ended(at) => Ok(at),
+        MethodEnd::Left(at) => {
+            let fault = missing_at(lines[at].number);
+            Err(left(alloc, text, &lines[from..at], signature, fault))
+        }
+        MethodEnd::CutOff => Err(left(alloc, text, &lines[from..], signature, fault)),
+    }
+}
+
+/// The body of a method from the place behind its first line on, with the place behind its last one.
+fn whole_body(
+    alloc: Global,
+    text: &[u8],
+    lines: &[Line],
+    from: usize,
+    signature: &Signature,
+    fault: Stop,
+) -> Result<(Option<BodyDraft>, usize), LineError>
+    requires inside { All (IsLineInside text.now) lines.now }
+    requires tokens { All (HasTokens text.now) lines.now }
+    requires numbers { All HasNext lines.now }
+    requires numbered { AreNumbered 1 lines.now }
+    requires place { from ≤ length lines.now }
+    requires behind { EndsBefore fault.line (text_lines text.now lines.now) }
+    ensures { IsWhole text.now lines.now from signature.now fault (of_signature signature.now result) }
+{
+    let at = whole_end(alloc, text, lines, from, signature, fault)?;
+    let body = method_body(alloc, text, &lines[from..at], signature)?;
+    match last_line(alloc, text, &lines[at]) {
+        Ok(()) => Ok((body, at + 1)),
+        Err(error) => {
+            drop(body);
+            Err(error)
+        }
+    }
 }
 
 /// A method from the place behind its first line on, with the place behind its last one. Where the text ends within it,
@@ -197,16 +255,6 @@ pub fn whole_method(
     requires behind { EndsBefore fault.line (text_lines text.now lines.now) }
     ensures { IsWhole text.now lines.now from signature fault result }
 {
-    match method_end(text, lines, from) {
-        MethodEnd::Ended(at) => {
-            let body = method_body(alloc, text, &lines[from..at], &signature)?;
-            last_line(alloc, text, &lines[at])?;
-            Ok((MethodDraft { signature, body }, at + 1))
-        }
-        MethodEnd::Left(at) => {
-            let fault = missing_at(lines[at].number);
-            Err(left(alloc, text, &lines[from..at], &signature, fault))
-        }
-        MethodEnd::CutOff => Err(left(alloc, text, &lines[from..], &signature, fault)),
-    }
+    let (body, next) = whole_body(alloc, text, lines, from, &signature, fault)?;
+    Ok((MethodDraft { signature, body }, next))
 }

@@ -102,19 +102,22 @@ impl Program {
     fn add_interface(&mut self, name: Text) -> Result<(), AllocError>
         ensures { OnOk result (Adds self.old (Says (line.Implements name)) self.new) }
     {
-        if let Some(class) = &mut self.last {
-            class.interfaces.push(name)?;
+        match &mut self.last {
+            Some(class) => class.interfaces.push(name),
+            None => Ok(()),
         }
-        Ok(())
     }
 
     fn add_field(&mut self, field: FieldDef) -> Result<(), AllocError>
         ensures { OnOk result (Adds self.old (Says (line.Field field)) self.new) }
     {
-        if let Some(class) = &mut self.last {
-            class.fields.push(field)?;
+        match &mut self.last {
+            Some(class) => class.fields.push(field),
+            None => {
+                drop(field);
+                Ok(())
+            }
         }
-        Ok(())
     }
 
     /// Adds a method to the last class.
@@ -122,10 +125,13 @@ impl Program {
         ensures adds { OnOk result (Adds self.old (Method method) self.new) }
         ensures standing { OnOk result (self.new.standing ≡ self.old.standing) }
     {
-        if let Some(class) = &mut self.last {
-            class.methods.push(method)?;
+        match &mut self.last {
+            Some(class) => class.methods.push(method),
+            None => {
+                drop(method);
+                Ok(())
+            }
         }
-        Ok(())
     }
 
     /// Adds what a line says.
@@ -150,7 +156,16 @@ impl Program {
     pub fn into_classes(mut self) -> Result<Vec<ClassDraft>, AllocError>
         ensures { IfOk result (λ v. v.items ≡ classes_with self []) }
     {
-        self.close()?;
-        Ok(self.classes)
+        match self.close() {
+            Ok(()) => {
+                let Program { classes, last, .. } = self;
+                drop(last);
+                Ok(classes)
+            }
+            Err(error) => {
+                drop(self);
+                Err(error)
+            }
+        }
     }
 }

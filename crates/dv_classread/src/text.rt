@@ -4,9 +4,10 @@ ghost use Rattle.std.specs.List.{All};
 ghost use Rattle.dv_lex.specs.Lines.{reading_of, HasTokens, IsLineInside};
 ghost use Rattle.dv_coderead.specs.Giving.{on_line, GivesLines};
 ghost use Rattle.dv_coderead.specs.Heads.{head_of};
-ghost use Rattle.dv_coderead.specs.Kept.{line_at, open_behind, text_line, text_lines, AreNumbered};
+ghost use Rattle.dv_coderead.specs.Kept.{kept, line_at, open_behind, text_line, text_lines, AreNumbered};
 ghost use Rattle.dv_coderead.specs.Bodies.{HasNext};
 ghost use Rattle.dv_classread.specs.ClassLines.{class_line};
+ghost use Rattle.dv_classread.specs.Classes.{classes_from, classes_with};
 ghost use Rattle.dv_classread.specs.Schedules.{cut_at, end_with, IsCutAt};
 ghost use Rattle.dv_classread.specs.Texts.{ended_in, EndsBefore, InClass};
 ghost use Rattle.dv_classread.specs.Programs.{drafts_in, drafts_of, program_of, with_schedule, CutsIf, GoesOn};
@@ -98,6 +99,37 @@ fn ended_in(standing: Standing, end: Option<Stop>, past: u32) -> Result<(), Line
     }
 }
 
+/// Adds the classes of lines. The lines end with this fault, if there is one; `past` is the number of the line behind
+/// them.
+fn add_lines(
+    alloc: Global,
+    text: &[u8],
+    lines: &[Line],
+    stop: Option<Stop>,
+    past: u32,
+    program: &mut Program,
+) -> Result<(), LineError>
+    requires inside { All (IsLineInside text.now) lines.now }
+    requires tokens { All (HasTokens text.now) lines.now }
+    requires numbers { All HasNext lines.now }
+    requires numbered { AreNumbered 1 lines.now }
+    requires behind { EndsBefore past (text_lines text.now lines.now) }
+    requires stop { IfSome stop (λ e. EndsBefore e.line (text_lines text.now lines.now)) }
+    ensures { let ls = text_lines text.now lines.now in GivesLines (λ nothing. classes_with program.new []) result (classes_from (end_with stop past (open_behind 0 ls)) past program.old (kept 0 ls)) }
+{
+    let fault = stop.unwrap_or(missing_at(past));
+    let mut at = 0;
+    loop {
+        match next_line(text, lines, at) {
+            Next::Line { at: place, head } => {
+                at = add_next(alloc, text, lines, place, head, fault, program)?;
+            }
+            Next::End => return ended_in(program.standing, stop, past),
+            Next::Unfinished => return Err(as_error(fault)),
+        }
+    }
+}
+
 /// The classes of lines, before their bodies are assembled. The lines end with this fault, if there is one; `past` is
 /// the number of the line behind them.
 fn drafts(
@@ -115,19 +147,12 @@ fn drafts(
     requires stop { IfSome stop (λ e. EndsBefore e.line (text_lines text.now lines.now)) }
     ensures { let ls = text_lines text.now lines.now in GivesLines (λ v. v.items) result (drafts_of (end_with stop past (open_behind 0 ls)) past ls) }
 {
-    let fault = stop.unwrap_or(missing_at(past));
     let mut program = Program::new(alloc);
-    let mut at = 0;
-    loop {
-        match next_line(text, lines, at) {
-            Next::Line { at: place, head } => {
-                at = add_next(alloc, text, lines, place, head, fault, &mut program)?;
-            }
-            Next::End => {
-                ended_in(program.standing, stop, past)?;
-                return Ok(program.into_classes()?);
-            }
-            Next::Unfinished => return Err(as_error(fault)),
+    match add_lines(alloc, text, lines, stop, past, &mut program) {
+        Ok(()) => Ok(program.into_classes()?),
+        Err(error) => {
+            drop(program);
+            Err(error)
         }
     }
 }
@@ -150,8 +175,13 @@ fn with_schedule(
 {
     let first = &lines[place];
     let classes = drafts(alloc, text, &lines[..place], None, first.number)?;
-    let log = read_schedule(alloc, text, first, &lines[place + 1..], stop, past)?;
-    Ok((classes, log))
+    match read_schedule(alloc, text, first, &lines[place + 1..], stop, past) {
+        Ok(log) => Ok((classes, log)),
+        Err(error) => {
+            drop(classes);
+            Err(error)
+        }
+    }
 }
 
 /// Where the schedule begins, if there is one and it is looked for.
@@ -205,9 +235,17 @@ pub fn read_classes(alloc: Global, text: &[u8], schedule: bool) -> Result<Read, 
     ensures { GivesLines (λ r. r) result (program_of schedule (reading_of text.now)) }
 {
     let good = good_lines(alloc, text)?;
-    let (classes, log) = drafts_in(alloc, text, good.lines.items(), good.stop, schedule)?;
-    Ok(Read {
-        classes: Seq::of(assembled_classes(alloc, classes)?),
-        log: Seq::of(log),
-    })
+    match drafts_in(alloc, text, good.lines.items(), good.stop, schedule) {
+        Ok((classes, log)) => {
+            drop(good);
+            Ok(Read {
+                classes: Seq::of(assembled_classes(alloc, classes)?),
+                log: Seq::of(log),
+            })
+        }
+        Err(error) => {
+            drop(good);
+            Err(error)
+        }
+    }
 }

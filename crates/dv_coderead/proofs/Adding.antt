@@ -1,7 +1,7 @@
 -- What a line adds to a draft that is being read.
 use Rattle.std.proofs.Common.{◌≡◌, ℕ, ◌+◌, ◌%◌, ◌≤◌, List, [], ◌∷◌, ◌++◌, length, ℤ, Some, None, Vec, Global, refl, sym, ap, ◌∙◌, append_assoc, append-nil, arith}
 use Rattle.std.specs.Int.{w64, to_le_bytes}
-use Rattle.std.specs.Prelude.{IsTrue}
+use Rattle.std.specs.Prelude.{IsTrue, Result, Ok, Err, OnOk}
 use Rattle.std.proofs.Math.Nat.{add-mod_right, zero-mod}
 use Rattle.std.proofs.lemmas.Bool.Decides.{nat_tests}
 use Rattle.std.proofs.lemmas.List.{length-append, length-take-le}
@@ -23,6 +23,13 @@ use Rattle.dv_coderead.specs.declared.drafting.Drafting.{Drafting}
 use Rattle.dv_coderead.specs.BodyLines.{HasWidth}
 use Rattle.dv_coderead.specs.Bodies.{Told, targets, keys, case_labels, data_bytes, element_bytes, payload_of, items_of, catches_of}
 use Rattle.dv_coderead.specs.Drafting.{payload_with, Adds, IsDrafting, IsOpen}
+
+-- ---- answers
+
+-- what a push makes of a draft, wherever there is memory for it
+pub on_push : {T E : Type 0} (r : Result T E) {P Q : Type 0} → OnOk r P → (P → Q) → OnOk r Q
+on_push (Ok x) h f = f h
+on_push (Err e) h f = tt
 
 -- ---- lists
 

@@ -1,6 +1,7 @@
 -- A draft that is being read: what the lines so far have given, and what those behind them add.
 use Rattle.std.specs.Prelude.{◌≡◌, ℕ, ◌%◌, ◌≤◌, List, [], ◌∷◌, ◌++◌, length, All, Option, Some, None, IfSome, Result, Ok, Err, if◌then◌else◌}
 use Rattle.dv_defs.specs.declared.faults.LineKind.TheVariants.{Missing}
+use Rattle.dv_defs.specs.declared.faults.LineError.{LineError}
 use Rattle.dv_asm.specs.declared.draft.Item.{Item}
 use Rattle.dv_asm.specs.declared.draft.Catch.{Catch}
 use Rattle.dv_asm.specs.declared.draft.What.{What}
@@ -13,6 +14,7 @@ use Rattle.dv_coderead.specs.declared.body_line.Opening.TheVariants as opening
 use Rattle.dv_coderead.specs.declared.body_line.BodyLine.{BodyLine}
 use Rattle.dv_coderead.specs.declared.drafting.Open.{Open}
 use Rattle.dv_coderead.specs.declared.drafting.Drafting.{Drafting}
+use Rattle.dv_coderead.specs.Giving.{Stops}
 use Rattle.dv_coderead.specs.BodyLines.{HasWidth}
 use Rattle.dv_coderead.specs.Bodies.{Told, told_next, targets, keys, case_labels, data_bytes, items_of, catches_of, told_behind, is_whole, registers_of}
 
@@ -66,3 +68,14 @@ pub record Adds (old : Drafting) (n : ℕ) (says : BodyLine) (new : Drafting) : 
   pub context : new.context ≡ told_next old.context says
   pub items : (ts : List Told) → items_with new ts ≡ items_with old (record { number = n; says = says } ∷ ts)
   pub catches : (ts : List Told) → catches_with new ts ≡ catches_with old (record { number = n; says = says } ∷ ts)
+
+-- what is read of the line of this number makes of one draft another
+pub record TakesLine (n : ℕ) (old : Drafting) (read : Result BodyLine Stop) (new : Drafting) : Type 0 where
+  pub says : BodyLine
+  pub is : read ≡ Ok says
+  pub adds : Adds old n says new
+
+-- what a call answers that adds to a draft what is read of a line
+abbrev pub Takes : ℕ → Drafting → Result BodyLine Stop → Result (Unit {0}) LineError → Drafting → Type 0
+Takes n old read (Ok done) new = TakesLine n old read new
+Takes n old read (Err e) new = Stops e read

@@ -56,6 +56,19 @@ skipped_directive w =
     else if is_skipped w then Some directive.Skipped
     else None
 
+-- whether such a word behind `.end` ends something that is passed over
+abbrev pub ends_skipped : List ℕ → Bool
+ends_skipped w = bytes_eq w (codes "local") || (bytes_eq w (codes "param") || bytes_eq w (codes "field"))
+
+-- what it ends, if it is no method and no block of an instruction
+abbrev pub ended_outside : List ℕ → Directive
+ended_outside w =
+    if bytes_eq w (codes "units") then directive.End Units
+    else if bytes_eq w (codes "schedule") then directive.EndSchedule
+    else if bytes_eq w (codes "annotation") then directive.EndAnnotation
+    else if ends_skipped w then directive.Skipped
+    else directive.OtherEnd
+
 -- what such a word behind `.end` ends
 unfoldable pub ended_by : List ℕ → Directive
 ended_by w =
@@ -63,11 +76,7 @@ ended_by w =
     else if bytes_eq w (codes "packed-switch") then directive.End Packed
     else if bytes_eq w (codes "sparse-switch") then directive.End Sparse
     else if bytes_eq w (codes "array-data") then directive.End Data
-    else if bytes_eq w (codes "units") then directive.End Units
-    else if bytes_eq w (codes "schedule") then directive.EndSchedule
-    else if bytes_eq w (codes "annotation") then directive.EndAnnotation
-    else if bytes_eq w (codes "local") || (bytes_eq w (codes "param") || bytes_eq w (codes "field")) then directive.Skipped
-    else directive.OtherEnd
+    else ended_outside w
 
 abbrev pub end_of : Option (List ℕ) → Directive
 end_of None = directive.OtherEnd

@@ -2,6 +2,7 @@
 use Rattle.std.specs.Prelude.{◌≡◌, ℕ, zero, suc, ◌+◌, ◌-◌, ◌^◌, ◌<◌, ◌≤◌, ◌&&◌, ℤ, pos, Bool, true, false, List, [], ◌∷◌, ◌++◌, codes, int_rem, bytes_eq, Option, Some, None, Result, Ok, Err, nat_lt, nat_le, ◌==◌, if◌then◌else◌}
 use Rattle.std.specs.Ordering.{int_eq}
 use Rattle.dv_defs.specs.declared.code.Regs.{Regs}
+use Rattle.dv_defs.specs.declared.code.Insn.{Insn}
 use Rattle.dv_defs.specs.declared.code.PoolKind.{PoolKind}
 use Rattle.dv_defs.specs.declared.code.PoolKind.TheVariants as pool_kind
 use Rattle.dv_defs.specs.declared.faults.LineKind.{LineKind}
@@ -256,6 +257,14 @@ entry_at None ps = Ok (pool.None, ps)
 entry_at (Some kind) ps = comma_at ps >>= entry_of kind
 
 -- ---- an instruction
+
+-- an instruction with what it names: a label, and an entry of a pool
+abbrev pub names_in : Insn → Bool → List Piece → Result Draftop LineKind
+names_in i first ps = do
+  label ← label_at (has_label (format_at i.op)) first ps
+  entry ← entry_at (pool_at i.op) label.1
+  nothing ← ended entry.1
+  Ok (record { insn = i; label = label.0; pool = entry.0 })
 
 -- the instruction of an opcode with these operands: registers, then a literal, a label, and an entry of a pool
 unfoldable pub operands_in : Frame → ℕ → List Piece → Result Draftop LineKind

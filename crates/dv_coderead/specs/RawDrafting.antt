@@ -1,15 +1,18 @@
 -- A raw body that is being read: what the lines so far have given, and what those behind them add.
-use Rattle.std.specs.Prelude.{◌≡◌, ℕ, ◌≤◌, ◌&&◌, Bool, true, List, [], ◌∷◌, ◌++◌, length, nat_eq, if◌then◌else◌}
+use Rattle.std.specs.Prelude.{◌≡◌, ℕ, ◌≤◌, ◌&&◌, Bool, true, List, [], ◌∷◌, ◌++◌, length, nat_eq, Result, Ok, Err, if◌then◌else◌}
 use Rattle.dv_defs.specs.declared.code.Handler.{Handler}
 use Rattle.dv_defs.specs.declared.code.Try.{Try}
 use Rattle.dv_defs.specs.Body.{BodyValue}
+use Rattle.dv_defs.specs.declared.faults.LineError.{LineError}
 use Rattle.dv_asm.specs.declared.pools.Pools.{Pools}
+use Rattle.dv_lex.specs.declared.line.Stop.{Stop}
+use Rattle.dv_coderead.specs.Giving.{Stops}
 use Rattle.dv_coderead.specs.declared.raw_line.RawPlace.{RawPlace}
 use Rattle.dv_coderead.specs.declared.raw_line.RawPlace.TheVariants as place
 use Rattle.dv_coderead.specs.declared.raw_line.RawHandler.{RawHandler}
 use Rattle.dv_coderead.specs.declared.raw_line.RawLine.{RawLine}
 use Rattle.dv_coderead.specs.declared.raw_body.RawDrafting.{RawDrafting}
-use Rattle.dv_coderead.specs.RawBodies.{raw_refs, raw_units, raw_handlers, raw_registers, with_refs, raw_body_by}
+use Rattle.dv_coderead.specs.RawBodies.{raw_refs, raw_units, raw_handlers, raw_registers, with_refs, raw_body_by, place_next}
 
 -- the body with what these lines say, which are the last
 abbrev pub raw_with : RawDrafting → List RawLine → BodyValue
@@ -26,6 +29,19 @@ pub record IsRawDrafting (d : RawDrafting) : Type 0 where
   pub registers : d.registers ≤ 256
   pub short : length d.units.items ≤ 16384
   pub units : HasUnits d.place d.units.items
+
+-- what is read of a line makes of one draft another, whatever lines stand behind it
+pub record TakesLine (old : RawDrafting) (read : Result RawLine Stop) (new : RawDrafting) : Type 0 where
+  pub says : RawLine
+  pub is : read ≡ Ok says
+  pub drafting : IsRawDrafting new
+  pub place : new.place ≡ place_next old.place says
+  pub body : (ls : List RawLine) → raw_with new ls ≡ raw_with old (says ∷ ls)
+
+-- what a call answers that adds to a draft what is read of a line
+abbrev pub Takes : RawDrafting → Result RawLine Stop → Result (Unit {0}) LineError → RawDrafting → Type 0
+Takes old read (Ok done) new = TakesLine old read new
+Takes old read (Err e) new = Stops e read
 
 -- the body of its units, its try entries and its pools
 abbrev pub raw_body_made : ℕ → List ℕ → List Try → Pools → BodyValue

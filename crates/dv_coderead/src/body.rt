@@ -7,6 +7,7 @@ ghost use Rattle.dv_coderead.specs.Giving.{on_line, GivesLines};
 ghost use Rattle.dv_coderead.specs.Heads.{head_of};
 ghost use Rattle.dv_coderead.specs.Kept.{text_line, text_lines};
 ghost use Rattle.dv_coderead.specs.BodyLines.{body_line, HasWidth, IsLine, StandsIn};
+ghost use Rattle.dv_coderead.specs.Drafting.{IsDrafting, Takes};
 ghost use Rattle.dv_coderead.specs.Bodies.{argument_words, body_of, number_behind, HasNext};
 
 use crate::Refusal;
@@ -80,6 +81,27 @@ fn told(
     }
 }
 
+/// Reads a line of a method, and adds what it says.
+fn read_line(
+    alloc: Global,
+    text: &[u8],
+    arguments: u64,
+    drafting: &mut Drafting,
+    line: &Line,
+    head: Head,
+) -> Result<(), LineError>
+    requires drafting { IsDrafting drafting.old }
+    requires inside { IsLineInside text.now line.now }
+    requires tokens { HasTokens text.now line.now }
+    requires head { head ≡ head_of (text_line text.now line.now).pieces }
+    ensures { Takes line.now.number drafting.old
+        (on_line line.now.number (body_line arguments drafting.old.context line.now.number (text_line text.now line.now).pieces)) result drafting.new }
+{
+    let says = told(alloc, text, arguments, drafting.context, line, head)?;
+    drafting.add(alloc, line.number, says)?;
+    Ok(())
+}
+
 /// The draft that the lines of a method give: those between its `.method` and its `.end method`.
 ///
 /// # Errors
@@ -104,13 +126,17 @@ pub fn read_body(
     loop {
         match next_line(text, lines, at) {
             Next::Line { at: place, head } => {
-                let line = &lines[place];
-                let says = told(alloc, text, arguments, drafting.context, line, head)?;
-                drafting.add(alloc, line.number, says)?;
-                at = place + 1;
+                match read_line(alloc, text, arguments, &mut drafting, &lines[place], head) {
+                    Ok(()) => at = place + 1,
+                    Err(error) => {
+                        drop(drafting);
+                        return Err(error);
+                    }
+                }
             }
             Next::End => return drafting.finish(number_behind(lines)),
             Next::Unfinished => {
+                drop(drafting);
                 return Err(missing(number_behind(lines)));
             }
         }

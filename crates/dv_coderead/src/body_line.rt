@@ -1,5 +1,5 @@
 // What a line of a method says.
-ghost use Rattle.std.specs.Prelude.{◌≡◌, ◌≤◌, None, IfOk, IfSome, IsTrue};
+ghost use Rattle.std.specs.Prelude.{◌≡◌, ◌≤◌, ℕ, Option, None, IfOk, IfSome, IsTrue};
 ghost use Rattle.dv_defs.specs.Tiling.{is_width};
 ghost use Rattle.dv_coderead.specs.Giving.{Gives, Reads};
 ghost use Rattle.dv_coderead.specs.Pieces.{pieces_in};
@@ -22,7 +22,7 @@ use std::alloc::Global;
 
 /// How a payload begins: a packed switch with its first key, a sparse switch, or an array with the width of its
 /// elements in bytes.
-#[derive(Clone, Copy, PartialEq, Eq, Debug)]
+#[derive(Clone, Copy)]
 pub enum Opening {
     Packed(i32),
     Sparse,
@@ -30,7 +30,7 @@ pub enum Opening {
 }
 
 /// What the lines before a line have told: how many registers there are, and which block is open.
-#[derive(Clone, Copy, PartialEq, Eq, Debug)]
+#[derive(Clone, Copy)]
 pub struct Context {
     pub frame: Option<Frame>,
     pub block: Option<Opening>,
@@ -220,8 +220,21 @@ fn label_line(alloc: Global, pieces: &[Piece]) -> Result<Text, Refusal>
     Ok(name)
 }
 
-/// The range of a handler in braces, and its label.
+/// Where the range of a handler in braces begins and ends, and its label.
 #[tactic(auto, unfolding(crate::specs::BodyLines::handler_line))]
+fn handler_labels(alloc: Global, pieces: &[Piece]) -> Result<(Text, Text, Text), Refusal>
+    ensures { (line : ℕ) (kind : Option Ty) → Gives (λ x. record { line = line; kind = kind; from = x.0; to = x.1; at = x.2 }) result (handler_line line kind (pieces_in pieces.now)) }
+{
+    let inside = mark(b'{', pieces)?;
+    let (from, rest) = label_part(alloc, inside)?;
+    let rest = dots(rest)?;
+    let (to, rest) = label_part(alloc, rest)?;
+    let outside = mark(b'}', rest)?;
+    let at = label_line(alloc, outside)?;
+    Ok((from, to, at))
+}
+
+/// The range of a handler in braces, and its label.
 fn handler_line(
     alloc: Global,
     line: u32,
@@ -230,19 +243,19 @@ fn handler_line(
 ) -> Result<Catch, Refusal>
     ensures { Gives (λ c. c) result (handler_line line kind (pieces_in pieces.now)) }
 {
-    let inside = mark(b'{', pieces)?;
-    let (from, rest) = label_part(alloc, inside)?;
-    let rest = dots(rest)?;
-    let (to, rest) = label_part(alloc, rest)?;
-    let outside = mark(b'}', rest)?;
-    let at = label_line(alloc, outside)?;
-    Ok(Catch {
-        line,
-        kind,
-        from,
-        to,
-        at,
-    })
+    match handler_labels(alloc, pieces) {
+        Ok((from, to, at)) => Ok(Catch {
+            line,
+            kind,
+            from,
+            to,
+            at,
+        }),
+        Err(error) => {
+            drop(kind);
+            Err(error)
+        }
+    }
 }
 
 #[tactic(auto, unfolding(crate::specs::BodyLines::catch_line))]
@@ -413,13 +426,14 @@ fn method_line(
         (Head::Directive(directive), _) => {
             directive_line(alloc, arguments, frame, line, directive, behind(pieces))
         }
-        (Head::Label, Some(_)) => Ok(BodyLine::Label(label_line(alloc, pieces)?)),
-        (Head::Opcode(op), Some(frame)) => Ok(BodyLine::Op(read_operands(
-            alloc,
-            frame,
-            op,
-            behind(pieces),
-        )?)),
+        (Head::Label, Some(_)) => match label_line(alloc, pieces) {
+            Ok(name) => Ok(BodyLine::Label(name)),
+            Err(error) => Err(error),
+        },
+        (Head::Opcode(op), Some(frame)) => match read_operands(alloc, frame, op, behind(pieces)) {
+            Ok(op) => Ok(BodyLine::Op(op)),
+            Err(error) => Err(error),
+        },
         _ => Err(Refusal::Fault(refusal_of(head))),
     }
 }
@@ -437,7 +451,10 @@ fn packed_line(alloc: Global, head: Head, pieces: &[Piece]) -> Result<BodyLine, 
     ensures formed { IfOk result IsLine }
 {
     match head {
-        Head::Label => Ok(BodyLine::Target(label_line(alloc, pieces)?)),
+        Head::Label => match label_line(alloc, pieces) {
+            Ok(name) => Ok(BodyLine::Target(name)),
+            Err(error) => Err(error),
+        },
         Head::Directive(Directive::End(Block::Packed)) => Ok(end_line(pieces)?),
         _ => Err(Refusal::Fault(refusal_of(head))),
     }
@@ -476,7 +493,10 @@ fn data_line(width: u16, head: Head, pieces: &[Piece]) -> Result<BodyLine, LineK
 {
     match head {
         Head::Other if begins_with_number(pieces) => {
-            Ok(BodyLine::Element(element_line(width, pieces)?))
+            match element_line(width, pieces) {
+                Ok(element) => Ok(BodyLine::Element(element)),
+                Err(fault) => Err(fault),
+            }
         }
         Head::Directive(Directive::End(Block::Data)) => end_line(pieces),
         _ => Err(refusal_of(head)),

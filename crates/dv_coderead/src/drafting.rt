@@ -1,5 +1,5 @@
 // A draft that is being read, line by line.
-ghost use Rattle.std.specs.Prelude.{◌≡◌, ℕ, [], OnOk};
+ghost use Rattle.std.specs.Prelude.{◌≡◌, ◌∷◌, ◌++◌, ℕ, [], OnOk};
 ghost use Rattle.dv_coderead.specs.Giving.{GivesLines};
 ghost use Rattle.dv_coderead.specs.BodyLines.{IsLine, StandsIn};
 ghost use Rattle.dv_coderead.specs.Bodies.{nothing_before};
@@ -104,29 +104,38 @@ impl Drafting {
         ensures { OnOk result (Adds self.old line says self.new) }
     {
         match says {
-            BodyLine::Registers(frame) => self.context.frame = Some(frame),
-            BodyLine::Label(name) => self.items.push(Item {
-                line,
-                what: What::Label(name),
-            })?,
-            BodyLine::Op(op) => self.items.push(Item {
-                line,
-                what: What::Op(op),
-            })?,
-            BodyLine::Handler(catch) => self.catches.push(catch)?,
+            BodyLine::Registers(frame) => {
+                self.context.frame = Some(frame);
+                Ok(())
+            }
+            BodyLine::Label(name) => push(
+                &mut self.items,
+                Item {
+                    line,
+                    what: What::Label(name),
+                },
+            ),
+            BodyLine::Op(op) => push(
+                &mut self.items,
+                Item {
+                    line,
+                    what: What::Op(op),
+                },
+            ),
+            BodyLine::Handler(catch) => push(&mut self.catches, catch),
             BodyLine::Begin(opening) => {
                 self.context.block = Some(opening);
                 self.open.line = line;
+                Ok(())
             }
-            BodyLine::Target(name) => self.open.labels.push(name)?,
+            BodyLine::Target(name) => push(&mut self.open.labels, name),
             BodyLine::Case(key, name) => {
                 self.open.keys.push(key)?;
-                self.open.labels.push(name)?;
+                push(&mut self.open.labels, name)
             }
-            BodyLine::Element(element) => self.add_element(element)?,
-            BodyLine::End => self.end_block(alloc)?,
+            BodyLine::Element(element) => self.add_element(element),
+            BodyLine::End => self.end_block(alloc),
         }
-        Ok(())
     }
 
     /// The draft, behind the last line. `past` is the number of the line behind it.
@@ -139,9 +148,11 @@ impl Drafting {
         ensures { GivesLines (λ d. d) result (finished_with past 0 self []) }
     {
         let Some(frame) = self.context.frame else {
+            drop(self);
             return Err(missing(past));
         };
         if self.context.block.is_some() {
+            drop(self);
             return Err(missing(past));
         }
         Ok(Draft {
@@ -150,6 +161,14 @@ impl Drafting {
             catches: Seq::of(self.catches),
         })
     }
+}
+
+/// Puts one more behind the others.
+fn push<T: Drop>(list: &mut Vec<T>, one: T) -> Result<(), AllocError>
+    ensures { OnOk result (list.new.items ≡ list.old.items ++ one ∷ []) }
+{
+    list.push(one)?;
+    Ok(())
 }
 
 /// That something is missing on this line.

@@ -3,7 +3,7 @@ ghost use Rattle.std.specs.Prelude.{◌≡◌, option_map};
 ghost use Rattle.std.specs.List.{All};
 ghost use Rattle.dv_lex.specs.Lines.{lexemes_in, IsInside};
 ghost use Rattle.dv_coderead.specs.Pieces.{pieces_of};
-ghost use Rattle.dv_coderead.specs.Heads.{class_directive, directive_of, ended_by, end_of, first_word, head_of, insn_head, is_float_name, is_skipped, method_directive, raw_directive, restart_of, skipped_directive, two_word_directive, word_head};
+ghost use Rattle.dv_coderead.specs.Heads.{class_directive, directive_of, ended_by, ended_outside, ends_skipped, end_of, first_word, head_of, insn_head, is_float_name, is_skipped, method_directive, raw_directive, restart_of, skipped_directive, two_word_directive, word_head};
 ghost use Rattle.dv_optable.specs.Table.{opcode_named};
 
 use dv_lex::{Token, TokenKind};
@@ -144,6 +144,30 @@ fn skipped_directive(word: &[u8]) -> Option<Directive>
     }
 }
 
+/// Whether it ends something that is passed over.
+fn ends_skipped(word: &[u8]) -> bool
+    ensures { result ≡ ends_skipped word.now }
+{
+    word == b"local".as_slice() || word == b"param".as_slice() || word == b"field".as_slice()
+}
+
+/// What such a word behind `.end` ends, if it is no method and no block of an instruction.
+fn ended_outside(word: &[u8]) -> Directive
+    ensures { result ≡ ended_outside word.now }
+{
+    if word == b"units".as_slice() {
+        Directive::End(Block::Units)
+    } else if word == b"schedule".as_slice() {
+        Directive::EndSchedule
+    } else if word == b"annotation".as_slice() {
+        Directive::EndAnnotation
+    } else if ends_skipped(word) {
+        Directive::Skipped
+    } else {
+        Directive::OtherEnd
+    }
+}
+
 /// What such a word behind `.end` ends.
 #[tactic(auto, unfolding(crate::specs::Heads::ended_by))]
 fn ended_by(word: &[u8]) -> Directive
@@ -157,19 +181,8 @@ fn ended_by(word: &[u8]) -> Directive
         Directive::End(Block::Sparse)
     } else if word == b"array-data".as_slice() {
         Directive::End(Block::Data)
-    } else if word == b"units".as_slice() {
-        Directive::End(Block::Units)
-    } else if word == b"schedule".as_slice() {
-        Directive::EndSchedule
-    } else if word == b"annotation".as_slice() {
-        Directive::EndAnnotation
-    } else if word == b"local".as_slice()
-        || word == b"param".as_slice()
-        || word == b"field".as_slice()
-    {
-        Directive::Skipped
     } else {
-        Directive::OtherEnd
+        ended_outside(word)
     }
 }
 

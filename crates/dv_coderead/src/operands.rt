@@ -4,9 +4,9 @@ ghost use Rattle.dv_optable.specs.Table.{format_at};
 ghost use Rattle.dv_asm.specs.Draft.{IsOp};
 ghost use Rattle.dv_coderead.specs.Giving.{Gives, Reads};
 ghost use Rattle.dv_coderead.specs.Pieces.{piece_in, pieces_in};
-ghost use Rattle.dv_coderead.specs.Operands.{entry_at, entry_in, label_at, literal_at, operands_in, value_in, IsLiteral};
+ghost use Rattle.dv_coderead.specs.Operands.{entry_at, entry_in, label_at, literal_at, names_in, operands_in, value_in, IsLiteral};
 
-use crate::parts::{comma, end, next};
+use crate::parts::{alone, comma, next};
 use crate::pieces::Piece;
 use crate::registers::read_registers;
 use crate::shape::{Literal, Registers, has_label, literal_of, registers_of};
@@ -107,6 +107,15 @@ fn read_entry<'a, 'b>(
     }
 }
 
+/// An instruction with what it names: a label, which comes first where it has no registers, and an entry of a pool.
+fn read_names(alloc: Global, insn: Insn, first: bool, pieces: &[Piece]) -> Result<Draftop, Refusal>
+    ensures { Gives (λ x. x) result (names_in insn first (pieces_in pieces.now)) }
+{
+    let (label, rest) = read_label(alloc, has_label(insn.op), first, pieces)?;
+    let (pool, rest) = read_entry(alloc, pool_of(insn.op), rest)?;
+    Ok(alone(Draftop { insn, label, pool }, rest)?)
+}
+
 /// The instruction of an opcode with the operands that these pieces are: registers, then a literal, a label and an entry
 /// of a pool, as its format has them, with commas between. It is in the form of its format, if its opcode has one.
 ///
@@ -127,23 +136,12 @@ pub fn read_operands(
     let form = registers_of(op);
     let (regs, rest) = read_registers(alloc, form, frame, pieces)?;
     let (lit, rest) = read_literal(literal_of(op), rest)?;
-    let (label, rest) = read_label(
-        alloc,
-        has_label(op),
-        matches!(form, Registers::Each(0)),
-        rest,
-    )?;
-    let (pool, rest) = read_entry(alloc, pool_of(op), rest)?;
-    end(rest)?;
-    Ok(Draftop {
-        insn: Insn {
-            op,
-            regs,
-            lit,
-            off: 0,
-            index: 0,
-        },
-        label,
-        pool,
-    })
+    let insn = Insn {
+        op,
+        regs,
+        lit,
+        off: 0,
+        index: 0,
+    };
+    read_names(alloc, insn, matches!(form, Registers::Each(0)), rest)
 }

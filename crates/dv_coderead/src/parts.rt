@@ -1,8 +1,8 @@
 // Parts of a line: what is read, and the pieces behind it.
-ghost use Rattle.std.specs.Prelude.{◌≡◌};
+ghost use Rattle.std.specs.Prelude.{◌≡◌, Ok};
 ghost use Rattle.dv_coderead.specs.Giving.{Reads};
 ghost use Rattle.dv_coderead.specs.Pieces.{pieces_in};
-ghost use Rattle.dv_coderead.specs.Operands.{behind, comma_at, dots_at, ended, mark_at, next_at, Closes};
+ghost use Rattle.dv_coderead.specs.Operands.{alone, behind, comma_at, dots_at, ended, mark_at, next_at, Closes};
 
 use crate::pieces::Piece;
 use dv_defs::LineKind;
@@ -68,6 +68,14 @@ pub fn end(pieces: &[Piece]) -> Result<(), LineKind>
         [] => Ok(()),
         _ => Err(LineKind::Operands),
     }
+}
+
+/// A value behind which nothing more stands.
+pub(crate) fn alone<T: Drop>(value: T, pieces: &[Piece]) -> Result<T, LineKind>
+    ensures { Reads (λ x. x) result (alone (Ok (value, pieces_in pieces.now))) }
+{
+    end(pieces)?;
+    Ok(value)
 }
 
 /// What stands behind the first piece.

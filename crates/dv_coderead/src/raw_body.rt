@@ -13,7 +13,7 @@ ghost use Rattle.dv_coderead.specs.declared.raw_line.RawLine.{RawLine};
 ghost use Rattle.dv_coderead.specs.declared.raw_line.RawPlace.TheVariants as place;
 ghost use Rattle.dv_coderead.specs.RawLines.{raw_line, AreFew, IsRawLine};
 ghost use Rattle.dv_coderead.specs.RawBodies.{place_next, raw_body_of, raw_finished, raw_handler, raw_tries, with_caught};
-ghost use Rattle.dv_coderead.specs.RawDrafting.{entry_of, glued, joined, raw_body_made, raw_with, stands_in, IsRawDrafting};
+ghost use Rattle.dv_coderead.specs.RawDrafting.{entry_of, glued, joined, raw_body_made, raw_with, stands_in, IsRawDrafting, Takes};
 
 use crate::Refusal;
 use crate::body::number_behind;
@@ -22,7 +22,7 @@ use crate::head::Head;
 use crate::kept::{Next, next_line};
 use crate::pieces::read_tokens;
 use crate::raw_line::{RawHandler, RawLine, RawPlace, raw_line};
-use dv_asm::{Pools, index};
+use dv_asm::{PoolRef, Pools, index};
 use dv_defs::{Body, Handler, LineError, Pool, Seq, Try, Ty};
 use dv_lex::Line;
 use std::alloc::{AllocError, Global};
@@ -56,6 +56,42 @@ impl RawDrafting {
         }
     }
 
+    /// Adds an entry of a pool.
+    fn add_entry(&mut self, entry: PoolRef) -> Result<(), AllocError>
+        requires { IsRawDrafting self.old }
+        ensures drafting { OnOk result (IsRawDrafting self.new) }
+        ensures place { OnOk result (self.new.place ≡ self.old.place) }
+        ensures with { OnOk result ((ls : List RawLine) → raw_with self.new ls ≡ raw_with self.old (RawLine.Entry entry ∷ ls)) }
+    {
+        let added = self.pools.add(&entry);
+        drop(entry);
+        added
+    }
+
+    /// Adds a line of units.
+    fn add_units(&mut self, units: Seq<u16>) -> Result<(), AllocError>
+        requires drafting { IsRawDrafting self.old }
+        requires line { IsRawLine self.old.place (RawLine.Units units) }
+        ensures drafting { OnOk result (IsRawDrafting self.new) }
+        ensures place { OnOk result (self.new.place ≡ place_next self.old.place (RawLine.Units units)) }
+        ensures with { OnOk result ((ls : List RawLine) → raw_with self.new ls ≡ raw_with self.old (RawLine.Units units ∷ ls)) }
+    {
+        self.units.extend_from_slice(units.items())?;
+        self.place = RawPlace::Units(self.units.len() as u32);
+        Ok(())
+    }
+
+    /// Adds a handler.
+    fn push_handler(&mut self, handler: RawHandler) -> Result<(), AllocError>
+        requires { IsRawDrafting self.old }
+        ensures drafting { OnOk result (IsRawDrafting self.new) }
+        ensures place { OnOk result (self.new.place ≡ self.old.place) }
+        ensures with { OnOk result ((ls : List RawLine) → raw_with self.new ls ≡ raw_with self.old (RawLine.Handler handler ∷ ls)) }
+    {
+        self.handlers.push(handler)?;
+        Ok(())
+    }
+
     /// Adds what a line says.
     fn add(&mut self, says: RawLine) -> Result<(), AllocError>
         requires drafting { IsRawDrafting self.old }
@@ -68,16 +104,39 @@ impl RawDrafting {
             RawLine::Registers(registers) => {
                 self.registers = registers;
                 self.place = RawPlace::Pools;
+                Ok(())
             }
-            RawLine::Entry(entry) => self.pools.add(&entry)?,
-            RawLine::Begin => self.place = RawPlace::Units(0),
-            RawLine::Units(units) => {
-                self.units.extend_from_slice(units.items())?;
-                self.place = RawPlace::Units(self.units.len() as u32);
+            RawLine::Entry(entry) => self.add_entry(entry),
+            RawLine::Begin => {
+                self.place = RawPlace::Units(0);
+                Ok(())
             }
-            RawLine::End => self.place = RawPlace::Behind,
-            RawLine::Handler(handler) => self.handlers.push(handler)?,
+            RawLine::Units(units) => self.add_units(units),
+            RawLine::End => {
+                self.place = RawPlace::Behind;
+                Ok(())
+            }
+            RawLine::Handler(handler) => self.push_handler(handler),
         }
+    }
+
+    /// Reads a line, and adds what it says.
+    fn read_line(
+        &mut self,
+        alloc: Global,
+        text: &[u8],
+        line: &Line,
+        head: Head,
+    ) -> Result<(), LineError>
+        requires drafting { IsRawDrafting self.old }
+        requires inside { IsLineInside text.now line.now }
+        requires tokens { HasTokens text.now line.now }
+        requires head { head ≡ head_of (text_line text.now line.now).pieces }
+        requires few { AreFew self.old.place }
+        ensures { Takes self.old (on_line line.now.number (raw_line self.old.place (text_line text.now line.now).pieces)) result self.new }
+    {
+        let says = told(alloc, text, self.place, line, head)?;
+        self.add(says)?;
         Ok(())
     }
 
@@ -93,9 +152,13 @@ impl RawDrafting {
             handlers,
             ..
         } = self;
-        add_caught(&mut pools.types, handlers.as_slice())?;
-        let tries = tries(alloc, &pools.types, handlers.as_slice())?;
-        body_of(registers as u16, units, tries, pools)
+        match caught_tries(alloc, &mut pools.types, handlers.as_slice()) {
+            Ok(tries) => body_of(registers as u16, units, tries, pools),
+            Err(error) => {
+                drop(pools);
+                Err(error)
+            }
+        }
     }
 
     /// The body, behind the last line. `past` is the number of the line behind it.
@@ -108,6 +171,7 @@ impl RawDrafting {
         ensures { GivesLines (λ b. b) result (raw_finished past 0 self.place (raw_with self [])) }
     {
         let RawPlace::Behind = self.place else {
+            drop(self);
             return Err(missing(past));
         };
         Ok(self.body(alloc)?)
@@ -221,6 +285,19 @@ fn tries(alloc: Global, types: &Pool<Ty>, handlers: &[RawHandler]) -> Result<Vec
     Ok(tries)
 }
 
+/// The try entries of handlers. Adds the types that these catch.
+fn caught_tries(
+    alloc: Global,
+    types: &mut Pool<Ty>,
+    handlers: &[RawHandler],
+) -> Result<Vec<Try>, AllocError>
+    ensures types { OnOk result (types.new ≡ with_caught types.old handlers.now) }
+    ensures tries { IfOk result (λ ts. ts.items ≡ raw_tries types.new handlers.now) }
+{
+    add_caught(types, handlers)?;
+    tries(alloc, types, handlers)
+}
+
 /// What a line of a raw body says.
 fn told(
     alloc: Global,
@@ -265,12 +342,19 @@ pub fn read_raw(alloc: Global, text: &[u8], lines: &[Line]) -> Result<Body, Line
     loop {
         match next_line(text, lines, at) {
             Next::Line { at: place, head } => {
-                let says = told(alloc, text, drafting.place, &lines[place], head)?;
-                drafting.add(says)?;
-                at = place + 1;
+                match drafting.read_line(alloc, text, &lines[place], head) {
+                    Ok(()) => at = place + 1,
+                    Err(error) => {
+                        drop(drafting);
+                        return Err(error);
+                    }
+                }
             }
             Next::End => return drafting.finish(alloc, number_behind(lines)),
-            Next::Unfinished => return Err(missing(number_behind(lines))),
+            Next::Unfinished => {
+                drop(drafting);
+                return Err(missing(number_behind(lines)));
+            }
         }
     }
 }

@@ -22,7 +22,7 @@ use std::alloc::Global;
 
 /// Where a line of a raw body stands: before the count of registers, among the entries of the pools, among the units,
 /// with so many before it, or behind these.
-#[derive(Clone, Copy, PartialEq, Eq, Debug)]
+#[derive(Clone, Copy)]
 pub enum RawPlace {
     Start,
     Pools,
@@ -65,9 +65,15 @@ fn member(alloc: Global, word: &[u8], behind: &[u8]) -> Result<PoolRef, Refusal>
     ensures { Gives (λ r. r) result (member_in word.now behind.now) }
 {
     if is_method(behind) {
-        Ok(PoolRef::Method(references::method(alloc, word)?))
+        match references::method(alloc, word) {
+            Ok(method) => Ok(PoolRef::Method(method)),
+            Err(error) => Err(error),
+        }
     } else {
-        Ok(PoolRef::Field(references::field(alloc, word)?))
+        match references::field(alloc, word) {
+            Ok(field) => Ok(PoolRef::Field(field)),
+            Err(error) => Err(error),
+        }
     }
 }
 
@@ -77,10 +83,16 @@ fn entry_by_shape(alloc: Global, piece: &Piece) -> Result<PoolRef, Refusal>
     ensures { Gives (λ r. r) result (entry_by_shape (piece_in piece.now)) }
 {
     match piece {
-        Piece::Str(units) => Ok(PoolRef::Str(units.clone()?)),
+        Piece::Str(units) => match units.clone() {
+            Ok(units) => Ok(PoolRef::Str(units)),
+            Err(error) => Err(error.into()),
+        },
         Piece::Word(word) => match references::cut_at_arrow(*word) {
             Ok((_, behind)) => member(alloc, *word, behind),
-            Err(_) => Ok(PoolRef::OfType(references::ty(alloc, *word)?)),
+            Err(_) => match references::ty(alloc, *word) {
+                Ok(ty) => Ok(PoolRef::OfType(ty)),
+                Err(error) => Err(error),
+            },
         },
         _ => Err(Refusal::Fault(LineKind::Operands)),
     }
@@ -94,8 +106,13 @@ fn entry_line(alloc: Global, pieces: &[Piece]) -> Result<PoolRef, Refusal>
         return Err(Refusal::Fault(LineKind::Operands));
     };
     let entry = entry_by_shape(alloc, first)?;
-    end(rest)?;
-    Ok(entry)
+    match end(rest) {
+        Ok(()) => Ok(entry),
+        Err(fault) => {
+            drop(entry);
+            Err(Refusal::Fault(fault))
+        }
+    }
 }
 
 // ---- units
@@ -223,7 +240,10 @@ fn caught_part<'a, 'b>(
         return Err(Refusal::Fault(LineKind::Operands));
     };
     match first {
-        Piece::Word(word) => Ok((caught(alloc, *word)?, rest)),
+        Piece::Word(word) => match caught(alloc, *word) {
+            Ok(kind) => Ok((kind, rest)),
+            Err(error) => Err(error),
+        },
         _ => Err(Refusal::Fault(LineKind::Operands)),
     }
 }
@@ -299,7 +319,10 @@ fn pools_line(alloc: Global, head: Head, pieces: &[Piece]) -> Result<RawLine, Re
 {
     match head {
         Head::Directive(Directive::Rawref) => {
-            Ok(RawLine::Entry(entry_line(alloc, behind(pieces))?))
+            match entry_line(alloc, behind(pieces)) {
+                Ok(entry) => Ok(RawLine::Entry(entry)),
+                Err(error) => Err(error),
+            }
         }
         Head::Directive(Directive::Begin(Block::Units)) => {
             end(behind(pieces))?;
@@ -320,9 +343,10 @@ fn among_units(alloc: Global, before: u32, head: Head, pieces: &[Piece]) -> Resu
             end(behind(behind(pieces)))?;
             Ok(RawLine::End)
         }
-        _ if begins_with_unit(pieces) => Ok(RawLine::Units(Seq::of(units_line(
-            alloc, before, pieces,
-        )?))),
+        _ if begins_with_unit(pieces) => match units_line(alloc, before, pieces) {
+            Ok(units) => Ok(RawLine::Units(Seq::of(units))),
+            Err(error) => Err(error),
+        },
         _ => Err(Refusal::Fault(refusal_of(head))),
     }
 }
@@ -334,7 +358,10 @@ fn last_line(alloc: Global, head: Head, pieces: &[Piece]) -> Result<RawLine, Ref
 {
     match head {
         Head::Directive(Directive::Rawtry) => {
-            Ok(RawLine::Handler(handler_line(alloc, behind(pieces))?))
+            match handler_line(alloc, behind(pieces)) {
+                Ok(handler) => Ok(RawLine::Handler(handler)),
+                Err(error) => Err(error),
+            }
         }
         Head::Directive(Directive::Begin(Block::Units)) => {
             Err(Refusal::Fault(LineKind::Repeated))

@@ -6,7 +6,7 @@ ghost use Rattle.dv_coderead.specs.Operands.{has_label, literal_by, registers_in
 use dv_optable::{Format, row_of};
 
 /// How the registers of an instruction are written: so many operands, in braces, or in braces by the first and the last.
-#[derive(Clone, Copy, PartialEq, Eq, Debug)]
+#[derive(Clone, Copy)]
 pub enum Registers {
     Each(u8),
     Braces,
@@ -14,7 +14,7 @@ pub enum Registers {
 }
 
 /// A literal of so many bits, of which the last `zeros` are 0.
-#[derive(Clone, Copy, PartialEq, Eq, Debug)]
+#[derive(Clone, Copy)]
 pub struct Literal {
     pub bits: u32,
     pub zeros: u32,

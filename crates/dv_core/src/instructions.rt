@@ -1,10 +1,11 @@
 // The instruction at which a frame goes on, and the class that it needs.
-ghost use Rattle.std.specs.Prelude.{◌≡◌, ℕ, option_map};
-ghost use Rattle.dv_defs.specs.Op.{Code, needs};
+ghost use Rattle.std.specs.Prelude.{◌≡◌, ℕ, Some as Just, option_map};
+ghost use Rattle.dv_defs.specs.Op.{Code, code_at, needs};
 ghost use Rattle.dv_defs.specs.Statics as statics;
-ghost use Rattle.dv_ops.specs.Meaning.{meant};
+ghost use Rattle.dv_ops.specs.Meaning.{code_of, meant};
 ghost use Rattle.dv_words.specs.Stacks.{first};
-ghost use Rattle.dv_words.specs.State.{WordThread};
+ghost use Rattle.dv_words.specs.State.{WordStack, WordThread};
+ghost use Rattle.dv_frames.specs.Tops.{head_of};
 ghost use Rattle.dv_steps.specs.Answering.{IsStackOf};
 ghost use Rattle.dv_steps.specs.Steps.{At};
 ghost use Rattle.dv_core.specs.Guests.{IsAtOp};
@@ -13,8 +14,8 @@ ghost use Rattle.dv_core.specs.Standing.{IsFound};
 
 use dv_defs::{ClassId, Image};
 use dv_fetch::{resolve, units_of};
-use dv_frames::Stack;
-use dv_ops::{Op, coded_at};
+use dv_frames::{Head, Stack};
+use dv_ops::{Coded, Op, coded_at};
 use dv_optable::Call;
 use dv_units::decode;
 
@@ -36,14 +37,22 @@ pub fn instruction_of<'a>(image: &'a Image, stack: &Stack) -> Option<Instruction
     let Some(code) = coded_at(image, head.method) else {
         return None;
     };
-    let units = units_of(&code);
+    instruction_in(image, head, &code)
+}
+
+/// The instruction of a method's code at which a frame goes on.
+fn instruction_in<'a>(image: &'a Image, head: Head, code: &Coded<'a>) -> Option<Instruction<'a>>
+    ensures { (stack : WordStack) (own : WordThread) (h : At) (x : statics.At) → h.image ≡ image.now → IsStackOf stack h → IsAtOp own h x → Just head ≡ head_of (first stack.levels) →
+        Just (code_of code.now) ≡ code_at image.now head.method.0 → IsFound result h x.op }
+{
+    let units = units_of(code);
     if head.at as usize >= units.len() {
         return None;
     }
     let Ok((insn, size)) = decode(units, head.at as usize) else {
         return None;
     };
-    let Ok(op) = resolve(image, &code, head.at, &insn) else {
+    let Ok(op) = resolve(image, code, head.at, &insn) else {
         return None;
     };
     Some(Instruction {

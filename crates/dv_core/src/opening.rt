@@ -14,12 +14,13 @@ ghost use Rattle.dv_ops.specs.Meaning.{field_of, method_of};
 ghost use Rattle.dv_words.specs.declared.state.Level.TheVariants as level;
 ghost use Rattle.dv_words.specs.Heaps as heaps;
 ghost use Rattle.dv_words.specs.Heaps.{counting, with_static};
+ghost use Rattle.dv_words.specs.Stacks.{empty};
 ghost use Rattle.dv_steps.specs.Calls.{entered_frame};
 ghost use Rattle.dv_steps.specs.Opening as words;
 ghost use Rattle.dv_steps.specs.Opening.{main_args, opening, object_made, with_out, with_out_of, with_string, with_string_of, with_strings};
 ghost use Rattle.dv_core.specs.Guests.{IsOrdered};
 ghost use Rattle.dv_core.specs.Machines.{machine_of, machine_with};
-ghost use Rattle.dv_core.specs.Openings.{HasMainRoom, IsAlone, TakesStrings, is_fresh, opening_stack, with_level};
+ghost use Rattle.dv_core.specs.Openings.{HasMainRoom, HasNone, IsAlone, IsIdle, TakesStrings, is_fresh, opening_stack, with_level};
 
 use crate::guest::Guest;
 use crate::vm::Vm;
@@ -85,14 +86,12 @@ fn make_object(image: &Image, heap: &mut Heap, name: &[u8]) -> Result<(), AllocE
     }
 }
 
-/// The object of System.out, and that of thread 0.
-fn first_objects(alloc: Global, image: &Image) -> Result<Heap, AllocError>
-    ensures { IfOk result (λ heap. heap ≡ object_made image.now (object_made image.now (heaps.uncounted image.now) stream_name) thread_name) }
+/// Makes the object of System.out, and that of thread 0. A heap that isn't counted is never full.
+fn make_first_objects(image: &Image, heap: &mut Heap) -> Result<(), AllocError>
+    ensures { OnOk result (heap.old.limit ≡ None → heap.new ≡ object_made image.now (object_made image.now heap.old stream_name) thread_name) }
 {
-    let mut heap = Heap::uncounted(alloc, image)?;
-    make_object(image, &mut heap, STREAM)?;
-    make_object(image, &mut heap, THREAD)?;
-    Ok(heap)
+    make_object(image, heap, STREAM)?;
+    make_object(image, heap, THREAD)
 }
 
 /// Whether a class has this name.
@@ -210,21 +209,21 @@ fn array_of(heap: &mut Heap, main: &Method<'_>) -> Result<Option<u32>, AllocErro
     }
 }
 
-/// The heap as a run begins, and main's array, where it takes one.
-fn opening_heap(
-    alloc: Global,
+/// Fills a heap without objects as a run begins: main's array, where it takes one.
+fn fill_heap(
     image: &Image,
+    heap: &mut Heap,
     main: &Method<'_>,
     limit: u32,
-) -> Result<(Heap, Option<u32>), AllocError>
-    ensures heap { IfOk result (λ made. (l : runs.Limits) → l.heap ≡ limit → TakesStrings (method_of main.now) → made.0 ≡ words.opening_heap image.now (method_of main.now) l) }
-    ensures args { IfOk result (λ made. option_to_list made.1 ≡ main_args (method_of main.now) made.0) }
+) -> Result<Option<u32>, AllocError>
+    ensures heap { OnOk result ((l : runs.Limits) → l.heap ≡ limit → heap.old ≡ heaps.uncounted image.now → TakesStrings (method_of main.now) →
+        heap.new ≡ words.opening_heap image.now (method_of main.now) l) }
+    ensures args { IfOk result (λ array. option_to_list array ≡ main_args (method_of main.now) heap.new) }
 {
-    let mut heap = first_objects(alloc, image)?;
-    set_out(image, &mut heap);
-    set_strings(image, &mut heap)?;
-    let array = make_array(&mut heap, main, limit)?;
-    Ok((heap, array))
+    make_first_objects(image, heap)?;
+    set_out(image, heap);
+    set_strings(image, heap)?;
+    make_array(heap, main, limit)
 }
 
 /// Thread 0 begins to initialise main's class, where that isn't born initialised; whether it is.
@@ -273,6 +272,18 @@ fn push_class(stack: &mut Stack, class: ClassId)
     let _ = stack.push_record(class);
 }
 
+/// Pushes main's frame, and above it the record of its class, where that isn't born initialised.
+fn push_levels(stack: &mut Stack, main: &Method<'_>, array: Option<u32>, born: bool)
+    ensures few { registers_in main.now.def.now.body ≤ 256 }
+    ensures pushed { (limits : runs.Limits) → stack.old ≡ empty limits.levels limits.words → stack.new ≡ opening_stack limits (method_of main.now) (option_to_list array) born }
+{
+    push_main(stack, main, array);
+    if !born {
+        let info = main.info;
+        push_class(stack, info.class);
+    }
+}
+
 /// Thread 0's stack: main's frame, and above it the record of its class, where that isn't born initialised.
 fn main_stack(
     alloc: Global,
@@ -285,74 +296,88 @@ fn main_stack(
     ensures stack { IfOk result (λ stack. stack ≡ opening_stack limits.now (method_of main.now) (option_to_list array) born) }
 {
     let mut stack = Stack::new(alloc, limits.levels, limits.words)?;
-    push_main(&mut stack, main, array);
-    if !born {
-        let info = main.info;
-        push_class(&mut stack, info.class);
-    }
+    push_levels(&mut stack, main, array, born);
     Ok(stack)
 }
 
-/// One living thread.
-fn only_thread(alloc: Global, stack: Stack, object: u32) -> Result<Threads, AllocError>
-    ensures { IfOk result (λ threads. IsAlone threads stack object) }
+/// No threads.
+fn no_threads(alloc: Global) -> Threads
+    ensures { HasNone result }
 {
-    let mut stacks = Vec::with_capacity(alloc, 1)?;
-    stacks.push(stack)?;
-    let mut ends = Vec::with_capacity(alloc, 1)?;
-    ends.push(End::Living)?;
-    let mut objects = Vec::with_capacity(alloc, 1)?;
-    objects.push(object)?;
-    Ok(Threads {
-        stacks,
-        ends,
-        objects,
+    Threads {
+        stacks: Vec::new(alloc),
+        ends: Vec::new(alloc),
+        objects: Vec::new(alloc),
         monitors: Monitors::new(alloc),
-    })
+    }
 }
 
-/// What steps change, as a run of a main method begins.
-fn opening_guest(
-    alloc: Global,
-    image: &Image,
-    main: &Method<'_>,
-    limits: &Limits,
-) -> Result<Guest, AllocError>
-    ensures opened { IfOk result (λ g. pools.method_at image.now main.now.id.0 ≡ Some (method_of main.now) → TakesStrings (method_of main.now) → HasMainRoom limits.now →
-        machine_with g 0 None limits.now ≡ opening image.now (method_of main.now) limits.now) }
-    ensures ordered { IfOk result (λ g. IsOrdered limits.now g) }
+/// Adds the first thread, which lives.
+fn add_thread(threads: &mut Threads, stack: Stack, object: u32) -> Result<(), AllocError>
+    ensures { OnOk result (HasNone threads.old → IsAlone threads.new stack object) }
 {
-    let (heap, array) = opening_heap(alloc, image, main, limits.heap)?;
-    let mut classes = ClassStates::new(alloc, image)?;
-    let born = begin_class(&mut classes, main);
-    let stack = main_stack(alloc, limits, main, array, born)?;
+    if let Err(failed) = threads.stacks.push(stack) {
+        drop(failed);
+        return Err(AllocError);
+    }
+    threads.ends.push(End::Living)?;
+    threads.objects.push(object)?;
+    Ok(())
+}
+
+/// What steps change, before anything is done: no threads, no objects, and nothing printed.
+fn idle_guest(alloc: Global, image: &Image) -> Result<Guest, AllocError>
+    ensures { IfOk result (λ g. IsIdle image.now g) }
+{
+    let classes = ClassStates::new(alloc, image)?;
+    let heap = Heap::uncounted(alloc, image)?;
     Ok(Guest {
-        threads: only_thread(alloc, stack, THREAD_OBJECT)?,
+        threads: no_threads(alloc),
         heap,
         classes,
         output: Vec::new(alloc),
     })
 }
 
-/// What steps change where there is no method to run: no thread is there.
-fn idle_guest(alloc: Global, image: &Image, limits: &Limits) -> Result<Guest, AllocError>
-    ensures { IfOk result (λ g. IsOrdered limits.now g) }
+/// Begins a run of a main method.
+fn begin_main(
+    alloc: Global,
+    image: &Image,
+    guest: &mut Guest,
+    main: &Method<'_>,
+    limits: &Limits,
+) -> Result<(), AllocError>
+    ensures opened { OnOk result (IsIdle image.now guest.old → pools.method_at image.now main.now.id.0 ≡ Some (method_of main.now) → TakesStrings (method_of main.now) → HasMainRoom limits.now →
+        machine_with guest.new 0 None limits.now ≡ opening image.now (method_of main.now) limits.now) }
+    ensures ordered { OnOk result (IsIdle image.now guest.old → IsOrdered limits.now guest.new) }
 {
-    Ok(Guest {
-        threads: Threads {
-            stacks: Vec::new(alloc),
-            ends: Vec::new(alloc),
-            objects: Vec::new(alloc),
-            monitors: Monitors::new(alloc),
-        },
-        heap: Heap::new(alloc, image, limits.heap)?,
-        classes: ClassStates::new(alloc, image)?,
-        output: Vec::new(alloc),
-    })
+    let array = fill_heap(image, &mut guest.heap, main, limits.heap)?;
+    let born = begin_class(&mut guest.classes, main);
+    let stack = main_stack(alloc, limits, main, array, born)?;
+    add_thread(&mut guest.threads, stack, THREAD_OBJECT)
+}
+
+/// Begins a run of the method of a number. No thread is there where there is no such method.
+#[tactic(auto, using(crate::proofs::Opened::opens, crate::proofs::Opened::none_opens))]
+fn begin(
+    alloc: Global,
+    image: &Image,
+    guest: &mut Guest,
+    main: MethodId,
+    limits: &Limits,
+) -> Result<(), AllocError>
+    ensures opened { OnOk result ((m : pools.Method) → IsIdle image.now guest.old → m.id ≡ main.0 → IsMain image.now m → HasMainRoom limits.now →
+        machine_with guest.new 0 None limits.now ≡ opening image.now m limits.now) }
+    ensures ordered { OnOk result (IsIdle image.now guest.old → IsOrdered limits.now guest.new) }
+{
+    let Some(main) = method_at(image, main) else {
+        guest.heap.count(limits.heap);
+        return Ok(());
+    };
+    begin_main(alloc, image, guest, &main, limits)
 }
 
 /// What steps change, as a run of the method of a number begins.
-#[tactic(auto, using(crate::proofs::Opened::opens, crate::proofs::Opened::none_opens))]
 fn first_guest(
     alloc: Global,
     image: &Image,
@@ -362,10 +387,14 @@ fn first_guest(
     ensures opened { IfOk result (λ g. (m : pools.Method) → m.id ≡ main.0 → IsMain image.now m → HasMainRoom limits.now → machine_with g 0 None limits.now ≡ opening image.now m limits.now) }
     ensures ordered { IfOk result (λ g. IsOrdered limits.now g) }
 {
-    let Some(main) = method_at(image, main) else {
-        return idle_guest(alloc, image, limits);
-    };
-    opening_guest(alloc, image, &main, limits)
+    let mut guest = idle_guest(alloc, image)?;
+    match begin(alloc, image, &mut guest, main, limits) {
+        Ok(()) => Ok(guest),
+        Err(error) => {
+            drop(guest);
+            Err(error)
+        }
+    }
 }
 
 impl Vm {

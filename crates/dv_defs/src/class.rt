@@ -5,7 +5,7 @@ use crate::{Body, Chars, Flag, Proto, Seq, Text, Ty};
 use std::marker::Model;
 
 /// The value that a static field is defined with. A boolean or a character is a number.
-#[derive(Drop)]
+#[derive(PartialEq, Eq, Drop)]
 pub enum Init {
     Absent,
     Num(i64),
@@ -44,7 +44,7 @@ impl Init {
 }
 
 /// A field as a class declares it. It has a value only where it is static and the value fits its type.
-#[derive(Drop)]
+#[derive(PartialEq, Eq, Drop)]
 pub struct FieldDef {
     pub name: Text,
     pub ty: Ty,
@@ -66,7 +66,7 @@ impl Model for FieldDef {
 }
 
 /// A method as a class declares it. A native or abstract one has no body.
-#[derive(Drop)]
+#[derive(PartialEq, Eq, Drop)]
 pub struct MethodDef {
     pub name: Text,
     pub proto: Proto,
@@ -76,7 +76,7 @@ pub struct MethodDef {
 
 /// A class as a text declares it: descriptors of the class, of its superclass and interfaces, its members,
 /// and the number of the line that begins it. Only Object has no superclass.
-#[derive(Drop)]
+#[derive(PartialEq, Eq, Drop)]
 pub struct ClassDef {
     pub name: Text,
     pub parent: Option<Text>,

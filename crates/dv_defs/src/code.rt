@@ -33,7 +33,7 @@ pub struct Insn {
 
 /// The data of a switch or of fill-array-data. Targets count units from the address of the switch,
 /// and `width` is the size of an element in bytes.
-#[derive(Drop)]
+#[derive(PartialEq, Eq, Drop)]
 pub enum Payload {
     Packed { first: i32, targets: Seq<i32> },
     Sparse { keys: Seq<i32>, targets: Seq<i32> },
@@ -41,14 +41,14 @@ pub enum Payload {
 }
 
 /// An exception handler: the place of its type in the body's types, or none where it catches all, and its address.
-#[derive(Clone, Copy)]
+#[derive(Clone, Copy, PartialEq, Eq)]
 pub struct Handler {
     pub kind: Option<u32>,
     pub at: u32,
 }
 
 /// A try entry: it covers the addresses from `start` up to and without `end`.
-#[derive(Drop)]
+#[derive(PartialEq, Eq, Drop)]
 pub struct Try {
     pub start: u32,
     pub end: u32,
@@ -58,7 +58,7 @@ pub struct Try {
 /// The code of a method: its units of 16 bits with try entries, and the pools that its instructions name.
 /// A body has at most 256 registers and 16,384 units, and each handler's kind is a place in its pool of types.
 /// It is raw where it was written as units.
-#[derive(Drop)]
+#[derive(PartialEq, Eq, Drop)]
 pub struct Body {
     pub registers: u16,
     pub units: Seq<u16>,

@@ -3,7 +3,7 @@ ghost use Rattle.std.specs.Prelude.{◌≡◌, ◌^◌};
 
 /// A flag of a class, a field or a method, in the order in which flags are printed.
 /// In a set of flags, a `u32`, a flag is the bit of its place in this order.
-#[derive(Clone, Copy)]
+#[derive(Clone, Copy, PartialEq, Eq)]
 pub enum Flag {
     Public,
     Private,

@@ -56,7 +56,7 @@ pub enum Ask {
 
 /// What a living thread that isn't runnable waits for: a monitor, a notification, a class that another thread
 /// initialises, or the end of a thread.
-#[derive(Clone, Copy)]
+#[derive(Clone, Copy, PartialEq, Eq)]
 pub enum Blocked {
     Monitor,
     Wait,

@@ -132,7 +132,7 @@ pub struct ClassId(pub u32);
 pub struct MethodId(pub u32);
 
 /// The place of a field in the image.
-#[derive(Clone, Copy)]
+#[derive(Clone, Copy, PartialEq, Eq)]
 pub struct FieldId(pub u32);
 
 /// A type without dimensions: the primitive types without floats, and a class by its descriptor.

@@ -37,7 +37,7 @@ impl Clone for RegType {
 }
 
 /// The type of a call's result that is still to be moved to a register.
-#[derive(Drop)]
+#[derive(PartialEq, Eq, Drop)]
 pub enum PendingType {
     None,
     One(RegType),
@@ -58,7 +58,7 @@ impl Clone for PendingType {
 
 /// What the verifier knows at an address: the registers' types, the pending result, the type of the exception
 /// that a handler was entered with, and whether a constructor has still to call its superclass's.
-#[derive(Drop)]
+#[derive(PartialEq, Eq, Drop)]
 pub struct RegState {
     pub regs: Seq<RegType>,
     pub result: PendingType,

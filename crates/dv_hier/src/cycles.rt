@@ -1,5 +1,5 @@
 // Classes that depend on themselves.
-ghost use Rattle.std.specs.Prelude.{◌≡◌, ◌<◌, ◌^◌, [], ◌∷◌, length, All, IfOk, OnOk, vec_len};
+ghost use Rattle.std.specs.Prelude.{◌≡◌, ◌<◌, ◌^◌, [], ◌∷◌, false, length, replicate, All, IfOk, OnOk, vec_len};
 ghost use Rattle.std.specs.Bool.{MatchBool};
 ghost use Rattle.dv_defs.specs.Images.{Image};
 ghost use Rattle.dv_defs.specs.LinkFaults.{Checks, first_fault_by, on_cycle};
@@ -106,6 +106,21 @@ impl Search {
     }
 }
 
+/// Whether a search that begins directly above a class comes to the class. It has met nothing before.
+fn comes_back(search: &mut Search, infos: &[ClassInfo], class: usize) -> Result<bool, AllocError>
+    requires range { AreInRange infos.now }
+    requires class_in { class < length infos.now }
+    requires met { search.old.met.items ≡ replicate (length infos.now) false }
+    requires waiting { search.old.waiting.items ≡ [] }
+    ensures { IfOk result (λ depends. depends ≡ is_self_dependent infos.now class) }
+{
+    search.meet_above(&infos[class])?;
+    while let Some(id) = search.waiting.pop() {
+        search.meet_above(&infos[id.0 as usize])?;
+    }
+    Ok(search.met[class])
+}
+
 /// Whether a class is met on the ways up from those directly above it.
 fn depends_on_itself(alloc: Global, infos: &[ClassInfo], class: usize) -> Result<bool, AllocError>
     requires range { AreInRange infos.now }
@@ -116,11 +131,7 @@ fn depends_on_itself(alloc: Global, infos: &[ClassInfo], class: usize) -> Result
         met: vec![in alloc; false; infos.len()]?,
         waiting: Vec::new(alloc),
     };
-    search.meet_above(&infos[class])?;
-    while let Some(id) = search.waiting.pop() {
-        search.meet_above(&infos[id.0 as usize])?;
-    }
-    Ok(search.met[class])
+    comes_back(&mut search, infos, class)
 }
 
 /// The first class that depends on itself.

@@ -1,10 +1,12 @@
 // Fields that a class declares twice.
-ghost use Rattle.std.specs.Prelude.{◌≡◌, length, option_map, None, All, IfOk, IsTrue};
+ghost use Rattle.std.specs.Prelude.{◌≡◌, false, length, option_map, None, All, IfOk, IsTrue};
+ghost use Rattle.indexmap.specs.IndexSet.{contains};
 ghost use Rattle.dv_defs.specs.declared.faults.LinkKind.TheVariants as kind;
 ghost use Rattle.dv_defs.specs.Field.{may_stand};
 ghost use Rattle.dv_defs.specs.First.{first_below};
 ghost use Rattle.dv_defs.specs.LinkFaults.{Checks, first_fault_by, field_twice as first_twice, has_field_twice};
 ghost use Rattle.dv_defs.specs.Linked.{defs, HasValues};
+ghost use Rattle.dv_hier.specs.declared.fields.FieldKey.{FieldKey as Key};
 
 use crate::faults::error_of;
 use dv_defs::{ClassInfo, FieldDef, LinkError, LinkKind, Text, Ty};
@@ -30,20 +32,44 @@ fn key_of(field: &FieldDef) -> FieldKey<'_>
     }
 }
 
-/// The name of the first field that an earlier one is like. A lone field needs no set.
+/// The name of the first field that an earlier one is like, as that field has it. What is met is added to the set, which is empty;
+/// a lone field needs none.
+fn repeated_in<'a>(
+    seen: &mut IndexSet<FieldKey<'a>>,
+    fields: &'a [FieldDef],
+) -> Result<Option<&'a Text>, AllocError>
+    requires none { (k : Key) → contains ⟦<FieldKey<'a> as PartialEq>⟧.eq seen.old k ≡ false }
+    ensures twice { IfOk result (λ name. first_below (first_twice fields.now) (length fields.now) ≡ option_map (λ n. kind.FieldTwice n.now) name) }
+    ensures values { IfOk result (λ name. name ≡ None → All (λ f. IsTrue (may_stand f.init f.ty f.flags)) fields.now) }
+{
+    let several = fields.len() > 1;
+    for i in 0..fields.len() {
+        let key = key_of(&fields[i]);
+        if several && !seen.insert(key)? {
+            return Ok(Some(key.name));
+        }
+    }
+    Ok(None)
+}
+
+/// The name of the first field that an earlier one is like, as that field has it.
+fn repeated_name<'a>(alloc: Global, fields: &'a [FieldDef]) -> Result<Option<&'a Text>, AllocError>
+    ensures twice { IfOk result (λ name. first_below (first_twice fields.now) (length fields.now) ≡ option_map (λ n. kind.FieldTwice n.now) name) }
+    ensures values { IfOk result (λ name. name ≡ None → All (λ f. IsTrue (may_stand f.init f.ty f.flags)) fields.now) }
+{
+    let mut seen = IndexSet::new(alloc);
+    repeated_in(&mut seen, fields)
+}
+
+/// The name of the first field that an earlier one is like.
 fn field_twice(alloc: Global, fields: &[FieldDef]) -> Result<Option<Text>, AllocError>
     ensures twice { IfOk result (λ name. first_below (first_twice fields.now) (length fields.now) ≡ option_map kind.FieldTwice name) }
     ensures values { IfOk result (λ name. name ≡ None → All (λ f. IsTrue (may_stand f.init f.ty f.flags)) fields.now) }
 {
-    let several = fields.len() > 1;
-    let mut seen = IndexSet::new(alloc);
-    for i in 0..fields.len() {
-        let key = key_of(&fields[i]);
-        if several && !seen.insert(key)? {
-            return Ok(Some(key.name.clone()?));
-        }
+    match repeated_name(alloc, fields)? {
+        Some(name) => Ok(Some(name.clone()?)),
+        None => Ok(None),
     }
-    Ok(None)
 }
 
 /// The first class with two fields of one name and type, and the first such field that an earlier one is like.

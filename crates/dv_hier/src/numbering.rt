@@ -34,14 +34,19 @@ fn number_class(alloc: Global, class: ClassDef, names: &Pool<Text>) -> Result<Cl
     ensures range { IfOk result (IsInRange (length names.now)) }
 {
     let parent = number_parent(names, &class);
-    let interfaces = number_interfaces(alloc, names, class.interfaces.items())?;
-    Ok(ClassInfo {
-        def: class,
-        parent,
-        interfaces: Seq::of(interfaces),
-        slots: Seq::of(Vec::new(alloc)),
-        table: Seq::of(Vec::new(alloc)),
-    })
+    match number_interfaces(alloc, names, class.interfaces.items()) {
+        Ok(interfaces) => Ok(ClassInfo {
+            def: class,
+            parent,
+            interfaces: Seq::of(interfaces),
+            slots: Seq::of(Vec::new(alloc)),
+            table: Seq::of(Vec::new(alloc)),
+        }),
+        Err(error) => {
+            drop(class);
+            Err(error)
+        }
+    }
 }
 
 fn number_parent(names: &Pool<Text>, class: &ClassDef) -> Option<ClassId>

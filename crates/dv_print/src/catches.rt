@@ -1,50 +1,57 @@
 // The handlers of a draft as they are printed.
-ghost use Rattle.std.specs.Prelude.{◌≡◌, IfOk};
+ghost use Rattle.std.specs.Prelude.{◌≡◌, ◌++◌, codes, OnOk};
 ghost use Rattle.std.specs.List.{flat_map};
 ghost use Rattle.dv_print.specs.Draft.{kind_text, catch_text};
+ghost use Rattle.dv_print.specs.Operands.{label_text};
 
-use crate::operands::label_text;
+use crate::operands::add_label_text;
+use crate::references::add_type;
 use dv_asm::Catch;
-use dv_defs::Ty;
-use dv_names::print_type;
-use std::alloc::{AllocError, Global};
+use dv_defs::{Text, Ty};
+use std::alloc::AllocError;
 
-/// The directive of a handler, and the type that it catches.
-fn kind_text(alloc: Global, kind: &Option<Ty>) -> Result<Vec<u8>, AllocError>
-    ensures { IfOk result (λ v. v.items ≡ kind_text kind.now) }
+/// Appends the directive of a handler, and the type that it catches.
+fn add_kind(text: &mut Vec<u8>, kind: &Option<Ty>) -> Result<(), AllocError>
+    ensures { OnOk result (text.new.items ≡ text.old.items ++ kind_text kind.now) }
 {
     match kind {
         Some(ty) => {
-            let mut text = Vec::from_slice(alloc, b".catch ")?;
-            text.extend_from_slice(print_type(alloc, ty)?.bytes())?;
-            Ok(text)
+            text.extend_from_slice(b".catch ")?;
+            add_type(text, ty)
         }
-        None => Vec::from_slice(alloc, b".catchall"),
+        None => text.extend_from_slice(b".catchall"),
     }
 }
 
-/// A handler on its line.
-fn catch_text(alloc: Global, catch: &Catch) -> Result<Vec<u8>, AllocError>
-    ensures { IfOk result (λ v. v.items ≡ catch_text catch.now) }
+/// Appends the labels between which a handler stands.
+fn add_range(text: &mut Vec<u8>, from: &Text, to: &Text) -> Result<(), AllocError>
+    ensures { OnOk result (text.new.items ≡ text.old.items ++ codes " {" ++ label_text from.now ++ codes " .. " ++ label_text to.now ++ codes "} ") }
 {
-    let mut text = kind_text(alloc, &catch.kind)?;
     text.extend_from_slice(b" {")?;
-    text.extend_from_slice(label_text(alloc, &catch.from)?.bytes())?;
+    add_label_text(text, from)?;
     text.extend_from_slice(b" .. ")?;
-    text.extend_from_slice(label_text(alloc, &catch.to)?.bytes())?;
+    add_label_text(text, to)?;
     text.extend_from_slice(b"} ")?;
-    text.extend_from_slice(label_text(alloc, &catch.at)?.bytes())?;
-    text.extend_from_slice(b"\n")?;
-    Ok(text)
+    Ok(())
 }
 
-/// Handlers on their lines.
-pub fn catch_texts(alloc: Global, catches: &[Catch]) -> Result<Vec<u8>, AllocError>
-    ensures { IfOk result (λ v. v.items ≡ flat_map catch_text catches.now) }
+/// Appends a handler on its line.
+fn add_catch(text: &mut Vec<u8>, catch: &Catch) -> Result<(), AllocError>
+    ensures { OnOk result (text.new.items ≡ text.old.items ++ catch_text catch.now) }
 {
-    let mut text = Vec::new(alloc);
+    add_kind(text, &catch.kind)?;
+    add_range(text, &catch.from, &catch.to)?;
+    add_label_text(text, &catch.at)?;
+    text.extend_from_slice(b"\n")?;
+    Ok(())
+}
+
+/// Appends handlers on their lines.
+pub fn add_catches(text: &mut Vec<u8>, catches: &[Catch]) -> Result<(), AllocError>
+    ensures { OnOk result (text.new.items ≡ text.old.items ++ flat_map catch_text catches.now) }
+{
     for catch in catches {
-        text.extend_from_slice(&catch_text(alloc, catch)?)?;
+        add_catch(text, catch)?;
     }
-    Ok(text)
+    Ok(())
 }

@@ -1,8 +1,10 @@
 // The items of the draft of a body.
-ghost use Rattle.std.specs.Prelude.{◌≡◌, ◌++◌, map, option_map, IfOk, OnOk};
+ghost use Rattle.std.specs.Prelude.{◌≡◌, ◌++◌, pos, map, option_map, IfOk, OnOk};
 ghost use Rattle.std.specs.List.{flat_map};
+ghost use Rattle.dv_asm.specs.declared.draft.What.TheVariants as what;
+ghost use Rattle.dv_asm.specs.Refusals.{with_operands};
 ghost use Rattle.dv_print.specs.Numbers.{label_name};
-ghost use Rattle.dv_print.specs.Named.{target_of};
+ghost use Rattle.dv_print.specs.Named.{target_of, label_addresses};
 ghost use Rattle.dv_print.specs.Drafting.{drafted_op, labels_from, payload_item, part_item, piece_item, with_no_line, labels_at, items_at, items_in, items_of};
 
 use crate::named::{Named, add_targets, addresses_named, target_of};
@@ -34,12 +36,12 @@ fn labels(alloc: Global, addresses: &[u32]) -> Result<Vec<Text>, AllocError>
 }
 
 /// The names of the labels at these distances from a base.
-fn labels_from(alloc: Global, base: u16, targets: &[i32]) -> Result<Vec<Text>, AllocError>
-    ensures { IfOk result (λ v. v.items ≡ labels_from base targets.now) }
+fn labels_from(alloc: Global, base: u16, targets: &[i32]) -> Result<Seq<Text>, AllocError>
+    ensures { IfOk result (λ v. v ≡ labels_from base targets.now) }
 {
     let mut addresses = Vec::new(alloc);
     add_targets(&mut addresses, base, targets)?;
-    labels(alloc, &addresses)
+    Ok(Seq::of(labels(alloc, &addresses)?))
 }
 
 /// The label of an address, where there is one.
@@ -52,6 +54,19 @@ fn label_of(alloc: Global, address: Option<u32>) -> Result<Option<Text>, AllocEr
     }
 }
 
+/// An instruction without its offset and its index.
+fn without_operands(insn: &Insn) -> Insn
+    ensures { result ≡ with_operands insn.now (pos 0) 0 }
+{
+    Insn {
+        op: insn.op,
+        regs: insn.regs,
+        lit: insn.lit,
+        off: 0,
+        index: 0,
+    }
+}
+
 /// An instruction at an address: its label and its entry stand for its offset and its index.
 fn op_of(alloc: Global, body: &Body, at: u16, insn: &Insn) -> Result<Draftop, AllocError>
     ensures { IfOk result (λ op. op ≡ drafted_op body.now at insn.now) }
@@ -59,16 +74,28 @@ fn op_of(alloc: Global, body: &Body, at: u16, insn: &Insn) -> Result<Draftop, Al
     let label = label_of(alloc, target_of(at, insn))?;
     let pool = entry_in(body, pool_of(insn.op), insn.index)?;
     Ok(Draftop {
-        insn: Insn {
-            op: insn.op,
-            regs: insn.regs,
-            lit: insn.lit,
-            off: 0,
-            index: 0,
-        },
+        insn: without_operands(insn),
         label,
         pool,
     })
+}
+
+fn packed_item(alloc: Global, base: u16, first: i32, targets: &[i32]) -> Result<What, AllocError>
+    ensures { IfOk result (λ w. w ≡ what.Packed first (labels_from base targets.now)) }
+{
+    Ok(What::Packed(first, labels_from(alloc, base, targets)?))
+}
+
+fn sparse_item(
+    alloc: Global,
+    base: u16,
+    keys: &Seq<i32>,
+    targets: &[i32],
+) -> Result<What, AllocError>
+    ensures { IfOk result (λ w. w ≡ what.Sparse keys.now (labels_from base targets.now)) }
+{
+    let labels = labels_from(alloc, base, targets)?;
+    Ok(What::Sparse(keys.clone()?, labels))
 }
 
 /// A payload whose targets count from an address.
@@ -76,14 +103,8 @@ fn payload_item(alloc: Global, base: u16, payload: &Payload) -> Result<What, All
     ensures { IfOk result (λ w. w ≡ payload_item base payload.now) }
 {
     match payload {
-        Payload::Packed { first, targets } => {
-            let labels = labels_from(alloc, base, targets.items())?;
-            Ok(What::Packed(*first, Seq::of(labels)))
-        }
-        Payload::Sparse { keys, targets } => {
-            let labels = labels_from(alloc, base, targets.items())?;
-            Ok(What::Sparse(keys.clone()?, Seq::of(labels)))
-        }
+        Payload::Packed { first, targets } => packed_item(alloc, base, *first, targets.items()),
+        Payload::Sparse { keys, targets } => sparse_item(alloc, base, keys, targets.items()),
         Payload::Data { width, bytes } => Ok(What::Data(*width, bytes.clone()?)),
     }
 }
@@ -163,14 +184,20 @@ fn items_in(
     Ok(items)
 }
 
+/// The items of a body that has these pieces.
+fn items_with(alloc: Global, body: &Body, pieces: &Pieces) -> Result<Vec<Item>, AllocError>
+    ensures { IfOk result (λ v. v.items ≡ items_in body.now pieces.now (label_addresses pieces.now body.now.tries)) }
+{
+    let tries = body.tries.items();
+    let named = addresses_named(alloc, pieces, tries)?;
+    items_in(alloc, body, pieces, &named)
+}
+
 /// The items of a body.
 pub fn items_of(alloc: Global, body: &Body) -> Result<Vec<Item>, AllocError>
     ensures { IfOk result (λ v. v.items ≡ items_of body.now) }
 {
     let units = body.units.items();
-    let tries = body.tries.items();
     let pieces = Pieces::of(alloc, units)?;
-    let named = addresses_named(alloc, &pieces, tries)?;
-    let items = items_in(alloc, body, &pieces, &named)?;
-    Ok(items)
+    items_with(alloc, body, &pieces)
 }

@@ -1,10 +1,10 @@
 // Flags as they are printed.
-ghost use Rattle.std.specs.Prelude.{◌≡◌, ◌++◌, IfOk, OnOk};
+ghost use Rattle.std.specs.Prelude.{◌≡◌, ◌++◌, OnOk};
 ghost use Rattle.std.specs.List.{flat_map};
 ghost use Rattle.dv_print.specs.Listing.{flag_word, flag_text, flags_text};
 
 use dv_defs::Flag;
-use std::alloc::{AllocError, Global};
+use std::alloc::AllocError;
 
 /// The flags in the order in which they are printed.
 const FLAGS: [Flag; 19] = [
@@ -76,11 +76,9 @@ fn add_flags(text: &mut Vec<u8>, flags: u32, list: &[Flag]) -> Result<(), AllocE
     Ok(())
 }
 
-/// The flags that are set, each with a blank behind it.
-pub fn flags_text(alloc: Global, flags: u32) -> Result<Vec<u8>, AllocError>
-    ensures { IfOk result (λ v. v.items ≡ flags_text flags) }
+/// Appends the flags that are set, each with a blank behind it.
+pub fn add_set_flags(text: &mut Vec<u8>, flags: u32) -> Result<(), AllocError>
+    ensures { OnOk result (text.new.items ≡ text.old.items ++ flags_text flags) }
 {
-    let mut text = Vec::new(alloc);
-    add_flags(&mut text, flags, &FLAGS)?;
-    Ok(text)
+    add_flags(text, flags, &FLAGS)
 }

@@ -17,6 +17,16 @@ pub fn kind_of<'a>(types: &'a [Ty], handler: &Handler) -> Option<&'a Ty>
     }
 }
 
+/// The type that a handler catches, copied.
+fn caught_type(types: &[Ty], handler: &Handler) -> Result<Option<Ty>, AllocError>
+    ensures { IfOk result (λ kind. kind ≡ handler_type types.now handler.now) }
+{
+    match kind_of(types, handler) {
+        Some(ty) => Ok(Some(ty.clone()?)),
+        None => Ok(None),
+    }
+}
+
 /// A handler of a try entry.
 fn catch_of(
     alloc: Global,
@@ -26,16 +36,16 @@ fn catch_of(
 ) -> Result<Catch, AllocError>
     ensures { IfOk result (λ c. c ≡ catch_of types.now entry.now handler.now) }
 {
-    let kind = match kind_of(types, handler) {
-        Some(ty) => Some(ty.clone()?),
-        None => None,
-    };
+    let from = label(alloc, entry.start)?;
+    let to = label(alloc, entry.end)?;
+    let at = label(alloc, handler.at)?;
+    let kind = caught_type(types, handler)?;
     Ok(Catch {
         line: 0,
         kind,
-        from: label(alloc, entry.start)?,
-        to: label(alloc, entry.end)?,
-        at: label(alloc, handler.at)?,
+        from,
+        to,
+        at,
     })
 }
 

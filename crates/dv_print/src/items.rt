@@ -1,63 +1,70 @@
 // The items of a draft as they are printed.
-ghost use Rattle.std.specs.Prelude.{◌≡◌, ◌<◌, ◌≤◌, ◌*◌, ◌^◌, length, take, drop, IfOk, IsTrue};
+ghost use Rattle.std.specs.Prelude.{◌≡◌, ◌<◌, ◌≤◌, ◌*◌, ◌^◌, ◌++◌, length, take, drop, OnOk, IsTrue};
+ghost use Rattle.std.specs.Fmt.{signed_decimal};
 ghost use Rattle.std.specs.List.{flat_map, zip};
 ghost use Rattle.dv_defs.specs.Tiling.{is_width};
 ghost use Rattle.dv_defs.specs.Numbers.{signed_at, low_first, elements};
-ghost use Rattle.dv_print.specs.Draft.{label_line, case_line, suffix_of, element_line, packed_text, sparse_text, data_text, item_text};
+ghost use Rattle.dv_print.specs.Draft.{label_line, case_line, suffix_of, element_line, element_count, packed_text, sparse_text, data_text, item_text};
 
-use crate::numbers::{decimal, signed_decimal};
-use crate::operands::{insn_text, label_text};
+use crate::numbers::{add_decimal, add_signed_decimal};
+use crate::operands::{add_insn, add_label_text};
 use dv_asm::{Item, What};
 use dv_defs::Text;
-use std::alloc::{AllocError, Global};
+use std::alloc::AllocError;
 
-/// A label on a line of its own.
-fn label_line(alloc: Global, name: &Text) -> Result<Vec<u8>, AllocError>
-    ensures { IfOk result (λ v. v.items ≡ label_line name.now) }
+/// Appends a label on a line of its own.
+fn add_label_line(text: &mut Vec<u8>, name: &Text) -> Result<(), AllocError>
+    ensures { OnOk result (text.new.items ≡ text.old.items ++ label_line name.now) }
 {
-    let mut text = Vec::from_slice(alloc, label_text(alloc, name)?.bytes())?;
+    add_label_text(text, name)?;
     text.extend_from_slice(b"\n")?;
-    Ok(text)
+    Ok(())
 }
 
-/// Labels on lines of their own.
-fn label_lines(alloc: Global, names: &[Text]) -> Result<Vec<u8>, AllocError>
-    ensures { IfOk result (λ v. v.items ≡ flat_map label_line names.now) }
+/// Appends labels on lines of their own.
+fn add_label_lines(text: &mut Vec<u8>, names: &[Text]) -> Result<(), AllocError>
+    ensures { OnOk result (text.new.items ≡ text.old.items ++ flat_map label_line names.now) }
 {
-    let mut text = Vec::new(alloc);
     for name in names {
-        text.extend_from_slice(&label_line(alloc, name)?)?;
+        add_label_line(text, name)?;
     }
-    Ok(text)
+    Ok(())
 }
 
-/// A key of a sparse switch with its label.
-fn case_line(alloc: Global, key: i32, name: &Text) -> Result<Vec<u8>, AllocError>
-    ensures { IfOk result (λ v. v.items ≡ case_line (key, name.now)) }
+/// Appends a key of a switch.
+fn add_key(text: &mut Vec<u8>, key: i32) -> Result<(), AllocError>
+    ensures { OnOk result (text.new.items ≡ text.old.items ++ signed_decimal key) }
 {
-    let mut text = signed_decimal(alloc, i64::from(key))?;
+    add_signed_decimal(text, i64::from(key))?;
+    Ok(())
+}
+
+/// Appends a key of a sparse switch with its label.
+fn add_case(text: &mut Vec<u8>, key: i32, name: &Text) -> Result<(), AllocError>
+    ensures { OnOk result (text.new.items ≡ text.old.items ++ case_line (key, name.now)) }
+{
+    add_key(text, key)?;
     text.extend_from_slice(b" -> ")?;
-    text.extend_from_slice(label_text(alloc, name)?.bytes())?;
+    add_label_text(text, name)?;
     text.extend_from_slice(b"\n")?;
-    Ok(text)
+    Ok(())
 }
 
-/// The keys of a sparse switch with their labels.
-fn case_lines(alloc: Global, keys: &[i32], names: &[Text]) -> Result<Vec<u8>, AllocError>
-    ensures { IfOk result (λ v. v.items ≡ flat_map case_line (zip keys.now names.now)) }
+/// Appends the keys of a sparse switch with their labels.
+fn add_cases(text: &mut Vec<u8>, keys: &[i32], names: &[Text]) -> Result<(), AllocError>
+    ensures { OnOk result (text.new.items ≡ text.old.items ++ flat_map case_line (zip keys.now names.now)) }
 {
-    let mut text = Vec::new(alloc);
     let mut keys = keys;
     let mut names = names;
     while let [key, other_keys @ ..] = keys {
         let [name, other_names @ ..] = names else {
-            return Ok(text);
+            return Ok(());
         };
-        text.extend_from_slice(&case_line(alloc, *key, name)?)?;
+        add_case(text, *key, name)?;
         keys = other_keys;
         names = other_names;
     }
-    Ok(text)
+    Ok(())
 }
 
 /// The number of these bytes, the lowest first.
@@ -98,16 +105,16 @@ fn suffix_of(width: u16) -> &'static [u8]
     }
 }
 
-/// One element of an array.
-fn element_line(alloc: Global, width: u16, bytes: &[u8]) -> Result<Vec<u8>, AllocError>
+/// Appends one element of an array.
+fn add_element(text: &mut Vec<u8>, width: u16, bytes: &[u8]) -> Result<(), AllocError>
     requires width { IsTrue (is_width width) }
     requires short { length bytes.now ≤ width }
-    ensures { IfOk result (λ v. v.items ≡ element_line width (signed_at (8 * width) (low_first bytes.now))) }
+    ensures { OnOk result (text.new.items ≡ text.old.items ++ element_line width (signed_at (8 * width) (low_first bytes.now))) }
 {
-    let mut text = signed_decimal(alloc, signed_in(width, low_first(bytes)))?;
+    add_signed_decimal(text, signed_in(width, low_first(bytes)))?;
     text.extend_from_slice(suffix_of(width))?;
     text.extend_from_slice(b"\n")?;
-    Ok(text)
+    Ok(())
 }
 
 /// Whether an array's elements may have so many bytes.
@@ -131,86 +138,90 @@ fn cut(bytes: &[u8], width: u16) -> (&[u8], &[u8])
     }
 }
 
-/// So many elements of an array.
-fn element_lines(
-    alloc: Global,
+/// Appends so many elements of an array.
+fn add_elements(
+    text: &mut Vec<u8>,
     width: u16,
     count: usize,
     bytes: &[u8],
-) -> Result<Vec<u8>, AllocError>
+) -> Result<(), AllocError>
     requires { IsTrue (is_width width) }
-    ensures { IfOk result (λ v. v.items ≡ flat_map (element_line width) (elements count width bytes.now)) }
+    ensures { OnOk result (text.new.items ≡ text.old.items ++ flat_map (element_line width) (elements count width bytes.now)) }
 {
-    let mut text = Vec::new(alloc);
     let mut rest = bytes;
     let mut left = count;
     while left > 0 {
         let (element, others) = cut(rest, width);
-        text.extend_from_slice(&element_line(alloc, width, element)?)?;
+        add_element(text, width, element)?;
         rest = others;
         left -= 1;
     }
-    Ok(text)
+    Ok(())
 }
 
-fn packed_text(alloc: Global, first: i32, targets: &[Text]) -> Result<Vec<u8>, AllocError>
-    ensures { IfOk result (λ v. v.items ≡ packed_text first targets.now) }
+fn add_packed(text: &mut Vec<u8>, first: i32, targets: &[Text]) -> Result<(), AllocError>
+    ensures { OnOk result (text.new.items ≡ text.old.items ++ packed_text first targets.now) }
 {
-    let mut text = Vec::from_slice(alloc, b".packed-switch ")?;
-    text.extend_from_slice(&signed_decimal(alloc, i64::from(first))?)?;
+    text.extend_from_slice(b".packed-switch ")?;
+    add_key(text, first)?;
     text.extend_from_slice(b"\n")?;
-    text.extend_from_slice(&label_lines(alloc, targets)?)?;
+    add_label_lines(text, targets)?;
     text.extend_from_slice(b".end packed-switch\n")?;
-    Ok(text)
+    Ok(())
 }
 
-fn sparse_text(alloc: Global, keys: &[i32], targets: &[Text]) -> Result<Vec<u8>, AllocError>
-    ensures { IfOk result (λ v. v.items ≡ sparse_text keys.now targets.now) }
+fn add_sparse(text: &mut Vec<u8>, keys: &[i32], targets: &[Text]) -> Result<(), AllocError>
+    ensures { OnOk result (text.new.items ≡ text.old.items ++ sparse_text keys.now targets.now) }
 {
-    let mut text = Vec::from_slice(alloc, b".sparse-switch\n")?;
-    text.extend_from_slice(&case_lines(alloc, keys, targets)?)?;
+    text.extend_from_slice(b".sparse-switch\n")?;
+    add_cases(text, keys, targets)?;
     text.extend_from_slice(b".end sparse-switch\n")?;
-    Ok(text)
+    Ok(())
 }
 
-fn data_text(alloc: Global, width: u16, bytes: &[u8]) -> Result<Vec<u8>, AllocError>
-    ensures { IfOk result (λ v. v.items ≡ data_text width bytes.now) }
+/// Appends the elements of an array, none where they may not have so many bytes.
+fn add_all_elements(text: &mut Vec<u8>, width: u16, bytes: &[u8]) -> Result<(), AllocError>
+    ensures { OnOk result (text.new.items ≡ text.old.items ++ flat_map (element_line width) (elements (element_count width bytes.now) width bytes.now)) }
 {
-    let mut text = Vec::from_slice(alloc, b".array-data ")?;
-    text.extend_from_slice(&decimal(alloc, u64::from(width))?)?;
-    text.extend_from_slice(b"\n")?;
     if is_width(width) {
-        let count = bytes.len() / usize::from(width);
-        text.extend_from_slice(&element_lines(alloc, width, count, bytes)?)?;
+        return add_elements(text, width, bytes.len() / usize::from(width), bytes);
     }
-    text.extend_from_slice(b".end array-data\n")?;
-    Ok(text)
+    Ok(())
 }
 
-/// An item on its lines.
-fn item_text(alloc: Global, item: &Item) -> Result<Vec<u8>, AllocError>
-    ensures { IfOk result (λ v. v.items ≡ item_text item.now) }
+fn add_data(text: &mut Vec<u8>, width: u16, bytes: &[u8]) -> Result<(), AllocError>
+    ensures { OnOk result (text.new.items ≡ text.old.items ++ data_text width bytes.now) }
+{
+    text.extend_from_slice(b".array-data ")?;
+    add_decimal(text, u64::from(width))?;
+    text.extend_from_slice(b"\n")?;
+    add_all_elements(text, width, bytes)?;
+    text.extend_from_slice(b".end array-data\n")?;
+    Ok(())
+}
+
+/// Appends an item on its lines.
+fn add_item(text: &mut Vec<u8>, item: &Item) -> Result<(), AllocError>
+    ensures { OnOk result (text.new.items ≡ text.old.items ++ item_text item.now) }
 {
     match &item.what {
-        What::Label(name) => label_line(alloc, name),
+        What::Label(name) => add_label_line(text, name),
         What::Op(op) => {
-            let mut text = insn_text(alloc, op)?;
-            text.extend_from_slice(b"\n")?;
-            Ok(text)
+            add_insn(text, op)?;
+            text.extend_from_slice(b"\n")
         }
-        What::Packed(first, targets) => packed_text(alloc, *first, targets.items()),
-        What::Sparse(keys, targets) => sparse_text(alloc, keys.items(), targets.items()),
-        What::Data(width, bytes) => data_text(alloc, *width, bytes.items()),
+        What::Packed(first, targets) => add_packed(text, *first, targets.items()),
+        What::Sparse(keys, targets) => add_sparse(text, keys.items(), targets.items()),
+        What::Data(width, bytes) => add_data(text, *width, bytes.items()),
     }
 }
 
-/// Items on their lines.
-pub fn item_texts(alloc: Global, items: &[Item]) -> Result<Vec<u8>, AllocError>
-    ensures { IfOk result (λ v. v.items ≡ flat_map item_text items.now) }
+/// Appends items on their lines.
+pub fn add_items(text: &mut Vec<u8>, items: &[Item]) -> Result<(), AllocError>
+    ensures { OnOk result (text.new.items ≡ text.old.items ++ flat_map item_text items.now) }
 {
-    let mut text = Vec::new(alloc);
     for item in items {
-        text.extend_from_slice(&item_text(alloc, item)?)?;
+        add_item(text, item)?;
     }
-    Ok(text)
+    Ok(())
 }

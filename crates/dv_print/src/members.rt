@@ -1,120 +1,141 @@
 // The fields and methods of a class as they are printed.
-ghost use Rattle.std.specs.Prelude.{◌≡◌, IfOk};
+ghost use Rattle.std.specs.Prelude.{◌≡◌, ◌++◌, codes, IfOk, OnOk};
 ghost use Rattle.std.specs.List.{flat_map};
+ghost use Rattle.dv_names.specs.Descriptors.{prototype};
 ghost use Rattle.dv_print.specs.Draft.{draft_text};
 ghost use Rattle.dv_print.specs.Drafting.{draft_of};
-ghost use Rattle.dv_print.specs.Listing.{value_text, field_line, body_text, body_text_if_any, method_lines};
+ghost use Rattle.dv_print.specs.Listing.{flags_text, value_text, field_line, body_text, body_text_if_any, method_lines};
 
-use crate::catches::catch_texts;
+use crate::catches::add_catches;
 use crate::drafting::items_of;
-use crate::flags::flags_text;
+use crate::flags::add_set_flags;
 use crate::handlers::catches_of;
-use crate::items::item_texts;
-use crate::numbers::signed_decimal;
-use crate::raw::{raw_text, registers_text};
-use crate::references::string_text;
+use crate::items::add_items;
+use crate::numbers::add_signed_decimal;
+use crate::raw::{add_body_registers, add_raw};
+use crate::references::{add_proto, add_string, add_type};
 use dv_defs::{Body, FieldDef, Init, MethodDef};
-use dv_names::{print_proto, print_type};
 use std::alloc::{AllocError, Global};
 
-/// The value that a field is defined with.
-fn value_text(alloc: Global, value: &Init) -> Result<Vec<u8>, AllocError>
-    ensures { IfOk result (λ v. v.items ≡ value_text value.now) }
+/// Appends the value that a field is defined with.
+fn add_value(text: &mut Vec<u8>, value: &Init) -> Result<(), AllocError>
+    ensures { OnOk result (text.new.items ≡ text.old.items ++ value_text value.now) }
 {
-    let mut text = Vec::new(alloc);
     match value {
-        Init::Absent => {}
+        Init::Absent => Ok(()),
         Init::Num(n) => {
             text.extend_from_slice(b" = ")?;
-            text.extend_from_slice(&signed_decimal(alloc, *n)?)?;
+            add_signed_decimal(text, *n)
         }
         Init::Str(chars) => {
             text.extend_from_slice(b" = ")?;
-            text.extend_from_slice(&string_text(alloc, chars)?)?;
+            add_string(text, chars)
         }
-        Init::Null => text.extend_from_slice(b" = null")?,
+        Init::Null => text.extend_from_slice(b" = null"),
     }
-    Ok(text)
 }
 
 fn field_line(alloc: Global, field: &FieldDef) -> Result<Vec<u8>, AllocError>
     ensures { IfOk result (λ v. v.items ≡ field_line field.now) }
 {
     let mut text = Vec::from_slice(alloc, b".field ")?;
-    text.extend_from_slice(&flags_text(alloc, field.flags)?)?;
+    add_set_flags(&mut text, field.flags)?;
     text.extend_from_slice(field.name.bytes())?;
     text.extend_from_slice(b":")?;
-    text.extend_from_slice(print_type(alloc, &field.ty)?.bytes())?;
-    text.extend_from_slice(&value_text(alloc, &field.init)?)?;
+    add_type(&mut text, &field.ty)?;
+    add_value(&mut text, &field.init)?;
     text.extend_from_slice(b"\n")?;
     Ok(text)
 }
 
-/// Fields on their lines.
-pub fn field_lines(alloc: Global, fields: &[FieldDef]) -> Result<Vec<u8>, AllocError>
-    ensures { IfOk result (λ v. v.items ≡ flat_map field_line fields.now) }
+fn add_field(text: &mut Vec<u8>, field: &FieldDef) -> Result<(), AllocError>
+    ensures { OnOk result (text.new.items ≡ text.old.items ++ field_line field.now) }
 {
-    let mut text = Vec::new(alloc);
+    let line = field_line(*text.allocator(), field)?;
+    text.extend_from_slice(&line)?;
+    Ok(())
+}
+
+/// Appends fields on their lines.
+pub fn add_fields(text: &mut Vec<u8>, fields: &[FieldDef]) -> Result<(), AllocError>
+    ensures { OnOk result (text.new.items ≡ text.old.items ++ flat_map field_line fields.now) }
+{
     for field in fields {
-        text.extend_from_slice(&field_line(alloc, field)?)?;
+        add_field(text, field)?;
     }
-    Ok(text)
+    Ok(())
 }
 
-/// The text of a body's draft.
+/// Appends the text of a body's draft.
 #[tactic(auto, unfolding(crate::specs::Drafting::draft_of))]
-fn draft_text(alloc: Global, body: &Body) -> Result<Vec<u8>, AllocError>
-    ensures { IfOk result (λ v. v.items ≡ draft_text (draft_of body.now)) }
+fn add_draft(text: &mut Vec<u8>, body: &Body) -> Result<(), AllocError>
+    ensures { OnOk result (text.new.items ≡ text.old.items ++ draft_text (draft_of body.now)) }
 {
-    let items = items_of(alloc, body)?;
-    let catches = catches_of(alloc, body)?;
-    let mut text = registers_text(alloc, body.registers)?;
-    text.extend_from_slice(&item_texts(alloc, &items)?)?;
-    text.extend_from_slice(&catch_texts(alloc, &catches)?)?;
-    Ok(text)
+    let alloc = *text.allocator();
+    add_body_registers(text, body)?;
+    add_items(text, &items_of(alloc, body)?)?;
+    add_catches(text, &catches_of(alloc, body)?)?;
+    Ok(())
 }
 
-/// A body: as units where it is raw.
-fn body_text(alloc: Global, body: &Body) -> Result<Vec<u8>, AllocError>
-    ensures { IfOk result (λ v. v.items ≡ body_text body.now) }
+/// Appends a body: as units where it is raw.
+fn add_body(text: &mut Vec<u8>, body: &Body) -> Result<(), AllocError>
+    ensures { OnOk result (text.new.items ≡ text.old.items ++ body_text body.now) }
 {
     if body.raw {
-        raw_text(alloc, body)
+        add_raw(text, body)
     } else {
-        draft_text(alloc, body)
+        add_draft(text, body)
     }
 }
 
-fn body_text_if_any(alloc: Global, body: &Option<Body>) -> Result<Vec<u8>, AllocError>
-    ensures { IfOk result (λ v. v.items ≡ body_text_if_any body.now) }
+fn add_body_if_any(text: &mut Vec<u8>, body: &Option<Body>) -> Result<(), AllocError>
+    ensures { OnOk result (text.new.items ≡ text.old.items ++ body_text_if_any body.now) }
 {
     match body {
-        Some(body) => body_text(alloc, body),
-        None => Ok(Vec::new(alloc)),
+        Some(body) => add_body(text, body),
+        None => Ok(()),
     }
 }
 
-/// A method up to its end.
-fn one_method(alloc: Global, method: &MethodDef) -> Result<Vec<u8>, AllocError>
-    ensures { IfOk result (λ v. v.items ≡ method_lines method.now) }
+/// The line with which a method begins.
+fn method_line(alloc: Global, method: &MethodDef) -> Result<Vec<u8>, AllocError>
+    ensures { IfOk result (λ v. v.items ≡ codes ".method " ++ flags_text method.now.flags ++ method.now.name ++ prototype method.now.proto ++ codes "\n") }
 {
     let mut text = Vec::from_slice(alloc, b".method ")?;
-    text.extend_from_slice(&flags_text(alloc, method.flags)?)?;
+    add_set_flags(&mut text, method.flags)?;
     text.extend_from_slice(method.name.bytes())?;
-    text.extend_from_slice(print_proto(alloc, &method.proto)?.bytes())?;
+    add_proto(&mut text, &method.proto)?;
     text.extend_from_slice(b"\n")?;
-    text.extend_from_slice(&body_text_if_any(alloc, &method.body)?)?;
-    text.extend_from_slice(b".end method\n")?;
     Ok(text)
 }
 
-/// Methods one after another.
-pub fn all_method_lines(alloc: Global, methods: &[MethodDef]) -> Result<Vec<u8>, AllocError>
-    ensures { IfOk result (λ v. v.items ≡ flat_map method_lines methods.now) }
+/// Appends the line with which a method begins.
+fn add_method_line(text: &mut Vec<u8>, method: &MethodDef) -> Result<(), AllocError>
+    ensures { OnOk result (text.new.items ≡
+        text.old.items ++ (codes ".method " ++ flags_text method.now.flags ++ method.now.name ++ prototype method.now.proto ++ codes "\n")) }
 {
-    let mut text = Vec::new(alloc);
+    let line = method_line(*text.allocator(), method)?;
+    text.extend_from_slice(&line)?;
+    Ok(())
+}
+
+/// Appends a method up to its end.
+fn add_method(text: &mut Vec<u8>, method: &MethodDef) -> Result<(), AllocError>
+    ensures { OnOk result (text.new.items ≡ text.old.items ++ method_lines method.now) }
+{
+    add_method_line(text, method)?;
+    add_body_if_any(text, &method.body)?;
+    text.extend_from_slice(b".end method\n")?;
+    Ok(())
+}
+
+/// Appends methods one after another.
+pub fn add_methods(text: &mut Vec<u8>, methods: &[MethodDef]) -> Result<(), AllocError>
+    ensures { OnOk result (text.new.items ≡ text.old.items ++ flat_map method_lines methods.now) }
+{
     for method in methods {
-        text.extend_from_slice(&one_method(alloc, method)?)?;
+        add_method(text, method)?;
     }
-    Ok(text)
+    Ok(())
 }

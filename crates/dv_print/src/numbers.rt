@@ -1,5 +1,5 @@
 // Numbers and labels as they are printed.
-ghost use Rattle.std.specs.Prelude.{◌≡◌, ◌<◌, ◌++◌, decimal, IfOk};
+ghost use Rattle.std.specs.Prelude.{◌≡◌, ◌<◌, ◌++◌, decimal, IfOk, OnOk};
 ghost use Rattle.std.specs.Fmt.{signed_decimal};
 ghost use Rattle.dv_names.specs.Written.{digit, hexadecimal};
 ghost use Rattle.dv_print.specs.Numbers.{address_text, label_name};
@@ -7,16 +7,18 @@ ghost use Rattle.dv_print.specs.Numbers.{address_text, label_name};
 use itoa::Buffer;
 use std::alloc::{AllocError, Global};
 
-pub fn decimal(alloc: Global, n: u64) -> Result<Vec<u8>, AllocError>
-    ensures { IfOk result (λ v. v.items ≡ decimal n) }
+/// Appends a number in decimal.
+pub fn add_decimal(text: &mut Vec<u8>, n: u64) -> Result<(), AllocError>
+    ensures { OnOk result (text.new.items ≡ text.old.items ++ decimal n) }
 {
-    Vec::from_slice(alloc, Buffer::new().format(n).as_bytes())
+    text.extend_from_slice(Buffer::new().format(n).as_bytes())
 }
 
-pub fn signed_decimal(alloc: Global, n: i64) -> Result<Vec<u8>, AllocError>
-    ensures { IfOk result (λ v. v.items ≡ signed_decimal n) }
+/// Appends a signed number in decimal.
+pub fn add_signed_decimal(text: &mut Vec<u8>, n: i64) -> Result<(), AllocError>
+    ensures { OnOk result (text.new.items ≡ text.old.items ++ signed_decimal n) }
 {
-    Vec::from_slice(alloc, Buffer::new().format(n).as_bytes())
+    text.extend_from_slice(Buffer::new().format(n).as_bytes())
 }
 
 /// A hexadecimal digit.

@@ -1,14 +1,15 @@
 // The operands of an instruction as they are printed.
-ghost use Rattle.std.specs.Prelude.{◌≡◌, ◌++◌, ◌∷◌, [], map, codes, option_map, OnOk, IfOk};
+ghost use Rattle.std.specs.Prelude.{◌≡◌, ◌++◌, ◌∷◌, [], map, codes, decimal, option_map, OnOk, IfOk};
 ghost use Rattle.std.specs.Option.{option_to_list};
 ghost use Rattle.std.specs.List.{flat_map};
 ghost use Rattle.dv_print.specs.Operands.{register_text, registers_of, listed, braces_text, neighbours_text, register_operands, literal_text, literal_operands, label_text, is_wide, pool_operands, operands, operands_text, insn_text, name_of};
+ghost use Rattle.dv_names.specs.Written.{string_text, field_text, method_text};
 
 use crate::formats::{Form, form_of, has_literal};
-use crate::numbers::{decimal, signed_decimal};
-use crate::references::{field_text, method_text, string_text};
+use crate::numbers::{add_decimal, add_signed_decimal};
+use crate::references::{add_field, add_method, add_string};
 use dv_asm::{Draftop, PoolRef};
-use dv_defs::{Insn, Regs, Text};
+use dv_defs::{Chars, FieldRef, Insn, MethodRef, Regs, Text};
 use dv_names::print_type;
 use dv_optable::row_of;
 use std::alloc::{AllocError, Global};
@@ -28,7 +29,7 @@ fn register_text(alloc: Global, register: u16) -> Result<Text, AllocError>
     ensures { IfOk result (λ t. t ≡ register_text register) }
 {
     let mut text = vec![in alloc; b'v']?;
-    text.extend_from_slice(&decimal(alloc, u64::from(register))?)?;
+    add_decimal(&mut text, u64::from(register))?;
     Text::of(text)
 }
 
@@ -53,17 +54,16 @@ fn add_further(text: &mut Vec<u8>, others: &[Text]) -> Result<(), AllocError>
     Ok(())
 }
 
-/// Texts with a comma and a blank between.
-fn listed(alloc: Global, texts: &[Text]) -> Result<Vec<u8>, AllocError>
-    ensures { IfOk result (λ v. v.items ≡ listed texts.now) }
+/// Appends texts with a comma and a blank between.
+fn add_listed(text: &mut Vec<u8>, texts: &[Text]) -> Result<(), AllocError>
+    ensures { OnOk result (text.new.items ≡ text.old.items ++ listed texts.now) }
 {
     match texts {
         [first, others @ ..] => {
-            let mut text = Vec::from_slice(alloc, first.bytes())?;
-            add_further(&mut text, others)?;
-            Ok(text)
+            text.extend_from_slice(first.bytes())?;
+            add_further(text, others)
         }
-        [] => Ok(Vec::new(alloc)),
+        [] => Ok(()),
     }
 }
 
@@ -79,14 +79,34 @@ fn registers_of(regs: &Regs) -> &[u16]
     }
 }
 
+/// Appends registers with a comma and a blank between.
+fn add_registers(text: &mut Vec<u8>, registers: &[u16]) -> Result<(), AllocError>
+    ensures { OnOk result (text.new.items ≡ text.old.items ++ listed (map register_text registers.now)) }
+{
+    let texts = register_texts(*text.allocator(), registers)?;
+    add_listed(text, &texts)?;
+    Ok(())
+}
+
 fn braces_text(alloc: Global, regs: &Regs) -> Result<Text, AllocError>
     ensures { IfOk result (λ t. t ≡ braces_text regs.now) }
 {
-    let texts = register_texts(alloc, registers_of(regs))?;
-    let mut text = Vec::from_slice(alloc, b"{")?;
-    text.extend_from_slice(&listed(alloc, &texts)?)?;
-    text.extend_from_slice(b"}")?;
+    let mut text = vec![in alloc; b'{']?;
+    add_registers(&mut text, registers_of(regs))?;
+    text.push(b'}')?;
     Text::of(text)
+}
+
+/// Appends neighbouring registers, at least one, by the first and the last of them.
+fn add_neighbours(text: &mut Vec<u8>, first: u16, last: u64) -> Result<(), AllocError>
+    ensures { OnOk result (text.new.items ≡ text.old.items ++ codes "{v" ++ decimal first ++ codes " .. v" ++ decimal last ++ codes "}") }
+{
+    text.extend_from_slice(b"{v")?;
+    add_decimal(text, u64::from(first))?;
+    text.extend_from_slice(b" .. v")?;
+    add_decimal(text, last)?;
+    text.extend_from_slice(b"}")?;
+    Ok(())
 }
 
 /// Neighbouring registers by the first and the last of them.
@@ -94,14 +114,10 @@ fn neighbours_text(alloc: Global, first: u16, count: u8) -> Result<Text, AllocEr
     ensures { IfOk result (λ t. t ≡ neighbours_text first count) }
 {
     if count == 0 {
-        return Ok(Text::of(Vec::from_slice(alloc, b"{}")?)?);
+        return Text::of(Vec::from_slice(alloc, b"{}")?);
     }
-    let last = u64::from(first) + (u64::from(count) - 1);
-    let mut text = Vec::from_slice(alloc, b"{v")?;
-    text.extend_from_slice(&decimal(alloc, u64::from(first))?)?;
-    text.extend_from_slice(b" .. v")?;
-    text.extend_from_slice(&decimal(alloc, last)?)?;
-    text.extend_from_slice(b"}")?;
+    let mut text = Vec::new(alloc);
+    add_neighbours(&mut text, first, u64::from(first) + (u64::from(count) - 1))?;
     Text::of(text)
 }
 
@@ -128,7 +144,8 @@ fn register_operands(alloc: Global, form: Form, regs: &Regs) -> Result<Vec<Text>
 fn literal_text(alloc: Global, op: u8, literal: i64) -> Result<Text, AllocError>
     ensures { IfOk result (λ t. t ≡ literal_text op literal) }
 {
-    let mut text = signed_decimal(alloc, literal)?;
+    let mut text = Vec::new(alloc);
+    add_signed_decimal(&mut text, literal)?;
     if 0x16 <= op && op <= 0x19 {
         text.extend_from_slice(b"L")?;
     }
@@ -145,12 +162,20 @@ fn add_literal(texts: &mut Vec<Text>, insn: &Insn) -> Result<(), AllocError>
     Ok(())
 }
 
-/// A label by its name.
-pub fn label_text(alloc: Global, name: &Text) -> Result<Text, AllocError>
+/// Appends a label by its name.
+pub fn add_label_text(text: &mut Vec<u8>, name: &Text) -> Result<(), AllocError>
+    ensures { OnOk result (text.new.items ≡ text.old.items ++ label_text name.now) }
+{
+    text.push(b':')?;
+    text.extend_from_slice(name.bytes())?;
+    Ok(())
+}
+
+fn label_text(alloc: Global, name: &Text) -> Result<Text, AllocError>
     ensures { IfOk result (λ t. t ≡ label_text name.now) }
 {
-    let mut text = vec![in alloc; b':']?;
-    text.extend_from_slice(name.bytes())?;
+    let mut text = Vec::new(alloc);
+    add_label_text(&mut text, name)?;
     Text::of(text)
 }
 
@@ -164,18 +189,43 @@ fn add_label(texts: &mut Vec<Text>, label: &Option<Text>) -> Result<(), AllocErr
     Ok(())
 }
 
+fn string_operand(alloc: Global, chars: &Chars) -> Result<Text, AllocError>
+    ensures { IfOk result (λ t. t ≡ string_text chars.now) }
+{
+    let mut text = Vec::new(alloc);
+    add_string(&mut text, chars)?;
+    Text::of(text)
+}
+
+fn field_operand(alloc: Global, field: &FieldRef) -> Result<Text, AllocError>
+    ensures { IfOk result (λ t. t ≡ field_text field.now) }
+{
+    let mut text = Vec::new(alloc);
+    add_field(&mut text, field)?;
+    Text::of(text)
+}
+
+fn method_operand(alloc: Global, method: &MethodRef) -> Result<Text, AllocError>
+    ensures { IfOk result (λ t. t ≡ method_text method.now) }
+{
+    let mut text = Vec::new(alloc);
+    add_method(&mut text, method)?;
+    Text::of(text)
+}
+
 /// Appends the entry of a pool that an instruction names, where it names one.
 fn add_entry(texts: &mut Vec<Text>, entry: &PoolRef) -> Result<(), AllocError>
     ensures { OnOk result (texts.new.items ≡ texts.old.items ++ pool_operands entry.now) }
 {
     let alloc = *texts.allocator();
-    match entry {
-        PoolRef::None => {}
-        PoolRef::Str(chars) => texts.push(Text::of(string_text(alloc, chars)?)?)?,
-        PoolRef::OfType(ty) => texts.push(print_type(alloc, ty)?)?,
-        PoolRef::Field(field) => texts.push(Text::of(field_text(alloc, field)?)?)?,
-        PoolRef::Method(method) => texts.push(Text::of(method_text(alloc, method)?)?)?,
-    }
+    let text = match entry {
+        PoolRef::None => return Ok(()),
+        PoolRef::Str(chars) => string_operand(alloc, chars),
+        PoolRef::OfType(ty) => print_type(alloc, ty),
+        PoolRef::Field(field) => field_operand(alloc, field),
+        PoolRef::Method(method) => method_operand(alloc, method),
+    };
+    texts.push(text?)?;
     Ok(())
 }
 
@@ -190,23 +240,24 @@ fn operands(alloc: Global, op: &Draftop) -> Result<Vec<Text>, AllocError>
     Ok(texts)
 }
 
-/// Operands with a blank before them, where there are some.
-fn operands_text(alloc: Global, operands: &[Text]) -> Result<Vec<u8>, AllocError>
-    ensures { IfOk result (λ v. v.items ≡ operands_text operands.now) }
+/// Appends operands with a blank before them, where there are some.
+fn add_operands(text: &mut Vec<u8>, operands: &[Text]) -> Result<(), AllocError>
+    ensures { OnOk result (text.new.items ≡ text.old.items ++ operands_text operands.now) }
 {
     if operands.is_empty() {
-        return Ok(Vec::new(alloc));
+        return Ok(());
     }
-    let mut text = vec![in alloc; b' ']?;
-    text.extend_from_slice(&listed(alloc, operands)?)?;
-    Ok(text)
+    text.push(b' ')?;
+    add_listed(text, operands)?;
+    Ok(())
 }
 
-/// The name of an instruction, and its operands.
-pub fn insn_text(alloc: Global, op: &Draftop) -> Result<Vec<u8>, AllocError>
-    ensures { IfOk result (λ v. v.items ≡ insn_text op.now) }
+/// Appends the name of an instruction, and its operands.
+pub fn add_insn(text: &mut Vec<u8>, op: &Draftop) -> Result<(), AllocError>
+    ensures { OnOk result (text.new.items ≡ text.old.items ++ insn_text op.now) }
 {
-    let mut text = Vec::from_slice(alloc, name_of(op.insn.op).as_bytes())?;
-    text.extend_from_slice(&operands_text(alloc, &operands(alloc, op)?)?)?;
-    Ok(text)
+    text.extend_from_slice(name_of(op.insn.op).as_bytes())?;
+    let operands = operands(*text.allocator(), op)?;
+    add_operands(text, &operands)?;
+    Ok(())
 }

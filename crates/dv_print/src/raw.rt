@@ -1,86 +1,115 @@
 // A raw body as it is printed.
-ghost use Rattle.std.specs.Prelude.{◌≡◌, ◌<◌, length, IfOk};
+ghost use Rattle.std.specs.Prelude.{◌≡◌, ◌<◌, ◌++◌, length, codes, decimal, IfOk, OnOk};
 ghost use Rattle.std.specs.Option.{option_copied};
 ghost use Rattle.std.specs.List.{flat_map};
 ghost use Rattle.dv_print.specs.Draft.{registers_text};
-ghost use Rattle.dv_print.specs.Raw.{ref_line, string_line, type_line, field_ref_line, method_ref_line, pools_text, separator, units_from, units_text, caught_text, handler_line, try_lines, raw_text};
+ghost use Rattle.dv_print.specs.Raw.{string_line, type_line, field_ref_line, method_ref_line, pools_text, separator, units_from, units_text, caught_text, handler_line, try_lines, raw_text};
 
 use crate::handlers::kind_of;
-use crate::numbers::{decimal, hexadecimal};
-use crate::references::{field_text, method_text, string_text};
+use crate::numbers::{add_decimal, hexadecimal};
+use crate::references::{add_field, add_method, add_string, add_type};
 use dv_defs::{Body, Chars, FieldRef, Handler, MethodRef, Try, Ty};
-use dv_names::print_type;
 use std::alloc::{AllocError, Global};
 
-/// The number of a body's registers.
-pub fn registers_text(alloc: Global, registers: u16) -> Result<Vec<u8>, AllocError>
-    ensures { IfOk result (λ v. v.items ≡ registers_text registers) }
+/// Appends a number of registers.
+fn add_registers(text: &mut Vec<u8>, registers: u16) -> Result<(), AllocError>
+    ensures { OnOk result (text.new.items ≡ text.old.items ++ registers_text registers) }
 {
-    let mut text = Vec::from_slice(alloc, b".registers ")?;
-    text.extend_from_slice(&decimal(alloc, u64::from(registers))?)?;
+    text.extend_from_slice(b".registers ")?;
+    add_decimal(text, u64::from(registers))?;
     text.extend_from_slice(b"\n")?;
-    Ok(text)
+    Ok(())
 }
 
-/// An entry of a pool.
-fn ref_line(alloc: Global, entry: &[u8]) -> Result<Vec<u8>, AllocError>
-    ensures { IfOk result (λ v. v.items ≡ ref_line entry.now) }
+/// Appends the number of a body's registers.
+pub fn add_body_registers(text: &mut Vec<u8>, body: &Body) -> Result<(), AllocError>
+    ensures { OnOk result (text.new.items ≡ text.old.items ++ registers_text body.now.registers) }
 {
-    let mut text = Vec::from_slice(alloc, b".rawref ")?;
-    text.extend_from_slice(entry)?;
-    text.extend_from_slice(b"\n")?;
-    Ok(text)
+    add_registers(text, body.registers)?;
+    Ok(())
 }
 
-fn string_lines(alloc: Global, strings: &[Chars]) -> Result<Vec<u8>, AllocError>
-    ensures { IfOk result (λ v. v.items ≡ flat_map string_line strings.now) }
+fn add_string_line(text: &mut Vec<u8>, chars: &Chars) -> Result<(), AllocError>
+    ensures { OnOk result (text.new.items ≡ text.old.items ++ string_line chars.now) }
 {
-    let mut text = Vec::new(alloc);
+    text.extend_from_slice(b".rawref ")?;
+    add_string(text, chars)?;
+    text.extend_from_slice(b"\n")?;
+    Ok(())
+}
+
+fn add_string_lines(text: &mut Vec<u8>, strings: &[Chars]) -> Result<(), AllocError>
+    ensures { OnOk result (text.new.items ≡ text.old.items ++ flat_map string_line strings.now) }
+{
     for chars in strings {
-        text.extend_from_slice(&ref_line(alloc, &string_text(alloc, chars)?)?)?;
+        add_string_line(text, chars)?;
     }
-    Ok(text)
+    Ok(())
 }
 
-fn type_lines(alloc: Global, types: &[Ty]) -> Result<Vec<u8>, AllocError>
-    ensures { IfOk result (λ v. v.items ≡ flat_map type_line types.now) }
+fn add_type_line(text: &mut Vec<u8>, ty: &Ty) -> Result<(), AllocError>
+    ensures { OnOk result (text.new.items ≡ text.old.items ++ type_line ty.now) }
 {
-    let mut text = Vec::new(alloc);
+    text.extend_from_slice(b".rawref ")?;
+    add_type(text, ty)?;
+    text.extend_from_slice(b"\n")?;
+    Ok(())
+}
+
+fn add_type_lines(text: &mut Vec<u8>, types: &[Ty]) -> Result<(), AllocError>
+    ensures { OnOk result (text.new.items ≡ text.old.items ++ flat_map type_line types.now) }
+{
     for ty in types {
-        text.extend_from_slice(&ref_line(alloc, print_type(alloc, ty)?.bytes())?)?;
+        add_type_line(text, ty)?;
     }
-    Ok(text)
+    Ok(())
 }
 
-fn field_lines(alloc: Global, fields: &[FieldRef]) -> Result<Vec<u8>, AllocError>
-    ensures { IfOk result (λ v. v.items ≡ flat_map field_ref_line fields.now) }
+fn add_field_line(text: &mut Vec<u8>, field: &FieldRef) -> Result<(), AllocError>
+    ensures { OnOk result (text.new.items ≡ text.old.items ++ field_ref_line field.now) }
 {
-    let mut text = Vec::new(alloc);
+    text.extend_from_slice(b".rawref ")?;
+    add_field(text, field)?;
+    text.extend_from_slice(b"\n")?;
+    Ok(())
+}
+
+fn add_field_lines(text: &mut Vec<u8>, fields: &[FieldRef]) -> Result<(), AllocError>
+    ensures { OnOk result (text.new.items ≡ text.old.items ++ flat_map field_ref_line fields.now) }
+{
     for field in fields {
-        text.extend_from_slice(&ref_line(alloc, &field_text(alloc, field)?)?)?;
+        add_field_line(text, field)?;
     }
-    Ok(text)
+    Ok(())
 }
 
-fn method_lines(alloc: Global, methods: &[MethodRef]) -> Result<Vec<u8>, AllocError>
-    ensures { IfOk result (λ v. v.items ≡ flat_map method_ref_line methods.now) }
+fn add_method_line(text: &mut Vec<u8>, method: &MethodRef) -> Result<(), AllocError>
+    ensures { OnOk result (text.new.items ≡ text.old.items ++ method_ref_line method.now) }
 {
-    let mut text = Vec::new(alloc);
+    text.extend_from_slice(b".rawref ")?;
+    add_method(text, method)?;
+    text.extend_from_slice(b"\n")?;
+    Ok(())
+}
+
+fn add_method_lines(text: &mut Vec<u8>, methods: &[MethodRef]) -> Result<(), AllocError>
+    ensures { OnOk result (text.new.items ≡ text.old.items ++ flat_map method_ref_line methods.now) }
+{
     for method in methods {
-        text.extend_from_slice(&ref_line(alloc, &method_text(alloc, method)?)?)?;
+        add_method_line(text, method)?;
     }
-    Ok(text)
+    Ok(())
 }
 
-/// The pools: strings, types, fields and methods.
-fn pools_text(alloc: Global, body: &Body) -> Result<Vec<u8>, AllocError>
-    ensures { IfOk result (λ v. v.items ≡ pools_text body.now) }
+/// Appends the pools: strings, types, fields and methods.
+fn add_pools(text: &mut Vec<u8>, body: &Body) -> Result<(), AllocError>
+    ensures { OnOk result (text.new.items ≡ text.old.items ++ pools_text body.now) }
 {
-    let mut text = string_lines(alloc, body.strings.items())?;
-    text.extend_from_slice(&type_lines(alloc, body.types.items())?)?;
-    text.extend_from_slice(&field_lines(alloc, body.fields.items())?)?;
-    text.extend_from_slice(&method_lines(alloc, body.methods.items())?)?;
-    Ok(text)
+    add_string_lines(text, body.strings.items())?;
+    add_type_lines(text, body.types.items())?;
+    add_field_lines(text, body.fields.items())?;
+    add_method_lines(text, body.methods.items())?;
+    Ok(())
 }
 
 /// What stands behind a unit: eight stand on a line.
@@ -95,87 +124,100 @@ fn separator(k: usize, count: usize) -> u8
     }
 }
 
-/// The units, eight a line.
-fn unit_lines(alloc: Global, units: &[u16]) -> Result<Vec<u8>, AllocError>
-    ensures { IfOk result (λ v. v.items ≡ units_from (length units.now) 0 units.now) }
+/// Appends the units, eight a line.
+fn add_unit_lines(text: &mut Vec<u8>, units: &[u16]) -> Result<(), AllocError>
+    ensures { OnOk result (text.new.items ≡ text.old.items ++ units_from (length units.now) 0 units.now) }
 {
-    let mut text = Vec::new(alloc);
     for k in 0..units.len() {
         text.extend_from_slice(&hexadecimal(units[k]))?;
         text.push(separator(k, units.len()))?;
     }
-    Ok(text)
+    Ok(())
 }
 
-fn units_text(alloc: Global, units: &[u16]) -> Result<Vec<u8>, AllocError>
-    ensures { IfOk result (λ v. v.items ≡ units_text units.now) }
+fn add_units(text: &mut Vec<u8>, units: &[u16]) -> Result<(), AllocError>
+    ensures { OnOk result (text.new.items ≡ text.old.items ++ units_text units.now) }
 {
-    let mut text = Vec::from_slice(alloc, b".units\n")?;
-    text.extend_from_slice(&unit_lines(alloc, units)?)?;
+    text.extend_from_slice(b".units\n")?;
+    add_unit_lines(text, units)?;
     text.extend_from_slice(b".end units\n")?;
-    Ok(text)
+    Ok(())
 }
 
-/// What a handler catches.
-fn caught_text(alloc: Global, kind: Option<&Ty>) -> Result<Vec<u8>, AllocError>
-    ensures { IfOk result (λ v. v.items ≡ caught_text (option_copied kind.entry)) }
+/// Appends what a handler catches.
+fn add_caught(text: &mut Vec<u8>, kind: Option<&Ty>) -> Result<(), AllocError>
+    ensures { OnOk result (text.new.items ≡ text.old.items ++ caught_text (option_copied kind.entry)) }
 {
     match kind {
-        Some(ty) => Vec::from_slice(alloc, print_type(alloc, ty)?.bytes()),
-        None => Vec::from_slice(alloc, b"all"),
+        Some(ty) => add_type(text, ty),
+        None => text.extend_from_slice(b"all"),
     }
 }
 
-/// A handler: start, end and handler's address, and what it catches.
-fn handler_line(
-    alloc: Global,
+/// Appends an address with a blank behind it.
+fn add_address(text: &mut Vec<u8>, address: u32) -> Result<(), AllocError>
+    ensures { OnOk result (text.new.items ≡ text.old.items ++ decimal address ++ codes " ") }
+{
+    add_decimal(text, u64::from(address))?;
+    text.extend_from_slice(b" ")?;
+    Ok(())
+}
+
+/// Appends a handler: start, end and handler's address, and what it catches.
+fn add_handler(
+    text: &mut Vec<u8>,
     types: &[Ty],
     entry: &Try,
     handler: &Handler,
-) -> Result<Vec<u8>, AllocError>
-    ensures { IfOk result (λ v. v.items ≡ handler_line types.now entry.now handler.now) }
+) -> Result<(), AllocError>
+    ensures { OnOk result (text.new.items ≡ text.old.items ++ handler_line types.now entry.now handler.now) }
 {
-    let mut text = Vec::from_slice(alloc, b".rawtry ")?;
-    text.extend_from_slice(&decimal(alloc, u64::from(entry.start))?)?;
-    text.extend_from_slice(b" ")?;
-    text.extend_from_slice(&decimal(alloc, u64::from(entry.end))?)?;
-    text.extend_from_slice(b" ")?;
-    text.extend_from_slice(&decimal(alloc, u64::from(handler.at))?)?;
-    text.extend_from_slice(b" ")?;
-    text.extend_from_slice(&caught_text(alloc, kind_of(types, handler))?)?;
+    text.extend_from_slice(b".rawtry ")?;
+    add_address(text, entry.start)?;
+    add_address(text, entry.end)?;
+    add_address(text, handler.at)?;
+    add_caught(text, kind_of(types, handler))?;
     text.extend_from_slice(b"\n")?;
-    Ok(text)
+    Ok(())
 }
 
-/// The handlers of a try entry.
-fn try_lines(alloc: Global, types: &[Ty], entry: &Try) -> Result<Vec<u8>, AllocError>
-    ensures { IfOk result (λ v. v.items ≡ try_lines types.now entry.now) }
+/// Appends the handlers of a try entry.
+fn add_try(text: &mut Vec<u8>, types: &[Ty], entry: &Try) -> Result<(), AllocError>
+    ensures { OnOk result (text.new.items ≡ text.old.items ++ try_lines types.now entry.now) }
 {
-    let mut text = Vec::new(alloc);
     for handler in entry.handlers.items() {
-        text.extend_from_slice(&handler_line(alloc, types, entry, handler)?)?;
+        add_handler(text, types, entry, handler)?;
     }
-    Ok(text)
+    Ok(())
 }
 
-/// The handlers of try entries.
-fn all_try_lines(alloc: Global, types: &[Ty], tries: &[Try]) -> Result<Vec<u8>, AllocError>
-    ensures { IfOk result (λ v. v.items ≡ flat_map (try_lines types.now) tries.now) }
+/// Appends the handlers of try entries.
+fn add_tries(text: &mut Vec<u8>, types: &[Ty], tries: &[Try]) -> Result<(), AllocError>
+    ensures { OnOk result (text.new.items ≡ text.old.items ++ flat_map (try_lines types.now) tries.now) }
 {
-    let mut text = Vec::new(alloc);
     for entry in tries {
-        text.extend_from_slice(&try_lines(alloc, types, entry)?)?;
+        add_try(text, types, entry)?;
     }
-    Ok(text)
+    Ok(())
 }
 
-/// A raw body.
-pub fn raw_text(alloc: Global, body: &Body) -> Result<Vec<u8>, AllocError>
+/// The text of a raw body.
+fn raw_text(alloc: Global, body: &Body) -> Result<Vec<u8>, AllocError>
     ensures { IfOk result (λ v. v.items ≡ raw_text body.now) }
 {
-    let mut text = registers_text(alloc, body.registers)?;
-    text.extend_from_slice(&pools_text(alloc, body)?)?;
-    text.extend_from_slice(&units_text(alloc, body.units.items())?)?;
-    text.extend_from_slice(&all_try_lines(alloc, body.types.items(), body.tries.items())?)?;
+    let mut text = Vec::new(alloc);
+    add_body_registers(&mut text, body)?;
+    add_pools(&mut text, body)?;
+    add_units(&mut text, body.units.items())?;
+    add_tries(&mut text, body.types.items(), body.tries.items())?;
     Ok(text)
+}
+
+/// Appends a raw body.
+pub fn add_raw(text: &mut Vec<u8>, body: &Body) -> Result<(), AllocError>
+    ensures { OnOk result (text.new.items ≡ text.old.items ++ raw_text body.now) }
+{
+    let raw = raw_text(*text.allocator(), body)?;
+    text.extend_from_slice(&raw)?;
+    Ok(())
 }

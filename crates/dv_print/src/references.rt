@@ -1,12 +1,31 @@
-// Strings and references to members as they are printed.
-ghost use Rattle.std.specs.Prelude.{◌≡◌, ◌++◌, OnOk, IfOk};
+// Types, strings and references to members as they are printed.
+ghost use Rattle.std.specs.Prelude.{◌≡◌, ◌++◌, OnOk};
 ghost use Rattle.std.specs.List.{flat_map};
+ghost use Rattle.dv_names.specs.Descriptors.{descriptor, prototype};
 ghost use Rattle.dv_names.specs.Written.{is_raw, unit_text, string_text, field_text, method_text};
 
 use crate::numbers::hexadecimal;
-use dv_defs::{Chars, FieldRef, MethodRef};
+use dv_defs::{Chars, FieldRef, MethodRef, Proto, Ty};
 use dv_names::{print_proto, print_type};
-use std::alloc::{AllocError, Global};
+use std::alloc::AllocError;
+
+/// Appends the descriptor of a type.
+pub fn add_type(text: &mut Vec<u8>, ty: &Ty) -> Result<(), AllocError>
+    ensures { OnOk result (text.new.items ≡ text.old.items ++ descriptor ty.now) }
+{
+    let name = print_type(*text.allocator(), ty)?;
+    text.extend_from_slice(name.bytes())?;
+    Ok(())
+}
+
+/// Appends the descriptor of a prototype.
+pub fn add_proto(text: &mut Vec<u8>, proto: &Proto) -> Result<(), AllocError>
+    ensures { OnOk result (text.new.items ≡ text.old.items ++ prototype proto.now) }
+{
+    let name = print_proto(*text.allocator(), proto)?;
+    text.extend_from_slice(name.bytes())?;
+    Ok(())
+}
 
 /// Printable ASCII other than the quote and the backslash.
 fn is_raw(unit: u16) -> bool
@@ -24,38 +43,47 @@ fn add_unit(text: &mut Vec<u8>, unit: u16) -> Result<(), AllocError>
         return Ok(());
     }
     text.extend_from_slice(b"\\u")?;
-    text.extend_from_slice(&hexadecimal(unit))
+    text.extend_from_slice(&hexadecimal(unit))?;
+    Ok(())
 }
 
-/// A string in quotes.
-pub fn string_text(alloc: Global, chars: &Chars) -> Result<Vec<u8>, AllocError>
-    ensures { IfOk result (λ v. v.items ≡ string_text chars.now) }
+/// Appends the units of a string.
+fn add_units(text: &mut Vec<u8>, units: &[u16]) -> Result<(), AllocError>
+    ensures { OnOk result (text.new.items ≡ text.old.items ++ flat_map unit_text units.now) }
 {
-    let mut text = Vec::from_slice(alloc, b"\"")?;
-    for unit in chars.units() {
-        add_unit(&mut text, *unit)?;
+    for unit in units {
+        add_unit(text, *unit)?;
     }
-    text.extend_from_slice(b"\"")?;
-    Ok(text)
+    Ok(())
 }
 
-pub fn field_text(alloc: Global, field: &FieldRef) -> Result<Vec<u8>, AllocError>
-    ensures { IfOk result (λ v. v.items ≡ field_text field.now) }
+/// Appends a string in quotes.
+pub fn add_string(text: &mut Vec<u8>, chars: &Chars) -> Result<(), AllocError>
+    ensures { OnOk result (text.new.items ≡ text.old.items ++ string_text chars.now) }
 {
-    let mut text = Vec::from_slice(alloc, print_type(alloc, &field.class)?.bytes())?;
+    text.extend_from_slice(b"\"")?;
+    add_units(text, chars.units())?;
+    text.extend_from_slice(b"\"")?;
+    Ok(())
+}
+
+pub fn add_field(text: &mut Vec<u8>, field: &FieldRef) -> Result<(), AllocError>
+    ensures { OnOk result (text.new.items ≡ text.old.items ++ field_text field.now) }
+{
+    add_type(text, &field.class)?;
     text.extend_from_slice(b"->")?;
     text.extend_from_slice(field.name.bytes())?;
     text.extend_from_slice(b":")?;
-    text.extend_from_slice(print_type(alloc, &field.ty)?.bytes())?;
-    Ok(text)
+    add_type(text, &field.ty)?;
+    Ok(())
 }
 
-pub fn method_text(alloc: Global, method: &MethodRef) -> Result<Vec<u8>, AllocError>
-    ensures { IfOk result (λ v. v.items ≡ method_text method.now) }
+pub fn add_method(text: &mut Vec<u8>, method: &MethodRef) -> Result<(), AllocError>
+    ensures { OnOk result (text.new.items ≡ text.old.items ++ method_text method.now) }
 {
-    let mut text = Vec::from_slice(alloc, print_type(alloc, &method.class)?.bytes())?;
+    add_type(text, &method.class)?;
     text.extend_from_slice(b"->")?;
     text.extend_from_slice(method.name.bytes())?;
-    text.extend_from_slice(print_proto(alloc, &method.proto)?.bytes())?;
-    Ok(text)
+    add_proto(text, &method.proto)?;
+    Ok(())
 }

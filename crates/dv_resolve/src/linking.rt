@@ -9,6 +9,7 @@ ghost use Rattle.dv_defs.specs.Order.{numbers};
 ghost use Rattle.dv_linklaws.specs.Ordered.{IsOrdered};
 ghost use Rattle.dv_linklaws.proofs.Members.{HasFields, HasMethods};
 ghost use Rattle.dv_resolve.specs.Answers.{Answers};
+ghost use Rattle.dv_resolve.specs.Members.{Knows};
 
 use crate::interfaces::interfaces_of_all;
 use crate::members::Members;
@@ -19,6 +20,19 @@ use dv_defs::{ClassId, ClassInfo, Image, Index, LinkError, MethodInfo, Pool, Seq
 use dv_hier::{Classes, Hierarchy, build};
 use dv_vtable::{Tabled, tables};
 use std::alloc::Global;
+
+/// The methods with the pools of their bodies resolved by these members, where nothing is wrong with the pools.
+fn resolved_by(
+    alloc: Global,
+    members: &Members<'_>,
+    methods: Vec<MethodInfo>,
+) -> Result<Vec<MethodInfo>, LinkError>
+    ensures fault { (image : ImageValue) → Knows members.now image → Checks result (first_fault_by (wrong_pools image) (defs image.classes)) }
+    ensures methods { (image : ImageValue) → Knows members.now image → IfOk result (λ done. done.items ≡ map (method_with_pools image) methods.items) }
+{
+    check_pools(alloc, members)?;
+    Ok(resolve_pools(alloc, members, methods)?)
+}
 
 /// The methods with the pools of their bodies resolved, where nothing is wrong with the pools.
 fn resolved_methods(
@@ -41,8 +55,7 @@ fn resolved_methods(
         → IfOk result (λ done. done.items ≡ map (method_with_pools image) methods.items) }
 {
     let members = Members::of(alloc, infos, names, interfaces)?;
-    check_pools(alloc, &members)?;
-    Ok(resolve_pools(alloc, &members, methods)?)
+    resolved_by(alloc, &members, methods)
 }
 
 /// The image of classes that have their tables.

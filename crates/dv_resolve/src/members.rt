@@ -32,7 +32,7 @@ pub struct FieldKey<'a> {
 }
 
 /// A method or a field: its number, the class that declares it, and its flags.
-#[derive(Clone, Copy, PartialEq, Eq, Debug)]
+#[derive(Clone, Copy)]
 pub struct Member {
     pub id: u32,
     pub class: ClassId,

@@ -1,13 +1,13 @@
 // Pools of bodies with the numbers of what they name.
 ghost use Rattle.std.specs.Prelude.{◌≡◌, filter_map, map, option_map, IfOk};
 ghost use Rattle.dv_defs.specs.Images.{Image};
-ghost use Rattle.dv_defs.specs.Linked.{body_at, method_with_pools};
+ghost use Rattle.dv_defs.specs.Linked.{body_at, field_ids, method_ids, method_with_pools};
 ghost use Rattle.dv_defs.specs.LookUp.{field_named, method_named};
 ghost use Rattle.dv_resolve.specs.Members.{Knows};
 ghost use Rattle.dv_resolve.specs.Ids.{field_id, method_id};
 
 use crate::members::Members;
-use dv_defs::{Body, FieldId, FieldRef, MethodId, MethodInfo, MethodRef, Seq};
+use dv_defs::{Body, ClassId, FieldId, FieldRef, MethodId, MethodInfo, MethodRef, Seq};
 use std::alloc::{AllocError, Global};
 
 /// The methods with the pools of their bodies resolved.
@@ -34,15 +34,41 @@ fn resolve_method(
     ensures { (image : Image) → Knows members.now image → IfOk result (λ done. done ≡ method_with_pools image method) }
 {
     match body_of(members, &method) {
-        Some(body) => Ok(MethodInfo {
-            class: method.class,
-            place: method.place,
-            types: body.types.clone()?,
-            fields: Seq::of(field_ids(alloc, members, body.fields.items())?),
-            methods: Seq::of(method_ids(alloc, members, body.methods.items())?),
-        }),
+        Some(body) => {
+            let resolved = with_pools(alloc, members, method.class, method.place, body);
+            drop(method);
+            resolved
+        }
         None => Ok(method),
     }
+}
+
+/// A method of this class at this place, with the pools of its body resolved.
+fn with_pools(
+    alloc: Global,
+    members: &Members<'_>,
+    class: ClassId,
+    place: u32,
+    body: &Body,
+) -> Result<MethodInfo, AllocError>
+    ensures { (image : Image) → Knows members.now image → IfOk result (λ done. done ≡ record {
+      class = class;
+      place = place;
+      types = body.now.types;
+      fields = field_ids image body.now;
+      methods = method_ids image body.now;
+    }) }
+{
+    let fields = field_ids(alloc, members, body.fields.items())?;
+    let methods = method_ids(alloc, members, body.methods.items())?;
+    let types = body.types.clone()?;
+    Ok(MethodInfo {
+        class,
+        place,
+        types,
+        fields: Seq::of(fields),
+        methods: Seq::of(methods),
+    })
 }
 
 /// The body of a method as its class declares it.

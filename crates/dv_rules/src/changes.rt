@@ -1,5 +1,5 @@
 // Changes of the types of registers.
-ghost use Rattle.std.specs.Prelude.{◌≡◌, IfOk, map};
+ghost use Rattle.std.specs.Prelude.{◌≡◌, ◌∷◌, ◌++◌, [], IfOk, OnOk, map};
 ghost use Rattle.dv_defs.specs.Pools.{class_type as type_of_class};
 ghost use Rattle.dv_defs.specs.Transfer.{class_or_conflict as class_or_unknown, lost as lost_type, replaced as replaced_type, replaced_this as replaced_this_type};
 ghost use Rattle.dv_rules.specs.Changes.{changed as registers_after, number, renewed as renewed_by, written};
@@ -64,9 +64,24 @@ fn renew(
 {
     let mut after = Vec::with_capacity(alloc, regs.len())?;
     for ty in regs {
-        after.push(renewed(alloc, image, change, ty)?)?;
+        push_renewed(alloc, image, change, ty, &mut after)?;
     }
     Ok(after)
+}
+
+/// Adds what becomes of a register's type.
+fn push_renewed(
+    alloc: Global,
+    image: &Image,
+    change: &Change,
+    ty: &RegType,
+    after: &mut Vec<RegType>,
+) -> Result<(), AllocError>
+    ensures { OnOk result (after.new.items ≡ after.old.items ++ renewed_by image.now change.now ty.now ∷ []) }
+{
+    let ty = renewed(alloc, image, change, ty)?;
+    after.push(ty)?;
+    Ok(())
 }
 
 /// What becomes of a register's type.

@@ -1,6 +1,6 @@
 // The state on entry to a method.
-ghost use Rattle.std.specs.Prelude.{◌≡◌, ◌++◌, ◌-◌, length, replicate, IfOk, OnOk};
-ghost use Rattle.dv_defs.specs.Pools.{is_of_object as is_of_object_class};
+ghost use Rattle.std.specs.Prelude.{◌≡◌, ◌∷◌, [], ◌++◌, ◌-◌, false, length, replicate, IfOk, OnOk};
+ghost use Rattle.dv_defs.specs.Pools.{is_of_object as is_of_object_class, is_static};
 ghost use Rattle.dv_defs.specs.RegTypes.{all_types, reg_types};
 ghost use Rattle.dv_defs.specs.Transfer.{arg_types as types_of_args, begins_uninitialised as is_uninitialised, entry_state, receiver_type};
 ghost use Rattle.dv_ops.specs.Meaning.{method_of};
@@ -73,15 +73,29 @@ fn receiver_types(
     ensures { IfOk result (λ v. v.items ≡ receiver_type image.now (method_of method.now)) }
 {
     let mut types = Vec::new(alloc);
-    if Flag::Static.is_in(method.def.flags) {
-        return Ok(types);
+    if !Flag::Static.is_in(method.def.flags) {
+        push_receiver(alloc, image, method, &mut types)?;
     }
+    Ok(types)
+}
+
+/// Adds the receiver of a method that has one.
+fn push_receiver(
+    alloc: Global,
+    image: &Image,
+    method: &Method<'_>,
+    types: &mut Vec<RegType>,
+) -> Result<(), AllocError>
+    requires { is_static (method_of method.now) ≡ false }
+    ensures { OnOk result (types.new.items ≡ types.old.items ++ receiver_type image.now (method_of method.now)) }
+{
     if begins_uninitialised(image, method) {
         types.push(RegType::UninitThis)?;
-        return Ok(types);
+    } else {
+        let class = class_type(alloc, image, method.info.class)?;
+        types.push(RegType::Class(class))?;
     }
-    types.push(RegType::Class(class_type(alloc, image, method.info.class)?))?;
-    Ok(types)
+    Ok(())
 }
 
 fn begins_uninitialised(image: &Image, method: &Method<'_>) -> bool
@@ -115,10 +129,17 @@ fn push_type(types: &mut Vec<RegType>, ty: &Ty) -> Result<(), AllocError>
     ensures { OnOk result (types.new.items ≡ types.old.items ++ reg_types ty.now) }
 {
     if is_long(ty) {
-        types.push(RegType::LongLo)?;
-        types.push(RegType::LongHi)?;
+        push_one(types, RegType::LongLo)?;
+        push_one(types, RegType::LongHi)
     } else {
-        types.push(single_type(ty)?)?;
+        push_one(types, single_type(ty)?)
     }
+}
+
+/// Adds a register type.
+fn push_one(types: &mut Vec<RegType>, ty: RegType) -> Result<(), AllocError>
+    ensures { OnOk result (types.new.items ≡ types.old.items ++ ty ∷ []) }
+{
+    types.push(ty)?;
     Ok(())
 }

@@ -39,12 +39,18 @@ pub fn out_of(
 {
     let change = change_of(alloc, image, code, at, op, made, state)?;
     let regs = changed(alloc, image, state.regs.items(), change)?;
-    Ok(RegState {
-        regs: Seq::of(regs),
-        result: pending_after(op)?,
-        caught: None,
-        this_pending: this_after(op, state),
-    })
+    match pending_after(op) {
+        Ok(result) => Ok(RegState {
+            regs: Seq::of(regs),
+            result,
+            caught: None,
+            this_pending: this_after(op, state),
+        }),
+        Err(error) => {
+            drop(regs);
+            Err(error)
+        }
+    }
 }
 
 /// The state with which a handler for a type is entered.
@@ -74,39 +80,49 @@ fn change_of(
     ensures { IfOk result (λ c. registers_after image.now c state.now.regs ≡ (out image.now (method_of code.now.method) at (meant (code_of code.now) at op.now) state.now).regs) }
 {
     let regs = state.regs.items();
-    match op {
-        Op::MoveInt(a, b) => Ok(Change::One(*a, copied_int(regs, *b))),
-        Op::MoveObject(a, b) => Ok(Change::One(*a, copied_object(regs, *b)?)),
-        Op::ResultInt(a) => Ok(Change::One(*a, result_int(&state.result))),
-        Op::ResultLong(a) => Ok(result_long(*a, &state.result)),
-        Op::ResultObject(a) => Ok(Change::One(*a, result_object(&state.result)?)),
-        Op::TakeCaught(a) => Ok(Change::One(*a, caught_type(&state.caught)?)),
-        Op::Const(a, n) => Ok(Change::One(*a, const_type(*n))),
-        Op::ConstString(a, _) => Ok(Change::One(*a, type_named(alloc, STRING)?)),
-        Op::ConstClass(a, _) => Ok(Change::One(*a, type_named(alloc, CLASS)?)),
-        Op::Cast(a, ty) | Op::NewArray(a, _, ty) => {
-            Ok(Change::One(*a, RegType::Class((*ty).clone()?)))
-        }
-        Op::New(a, _) => Ok(Change::New(*a, at)),
-        Op::ArrayGet(suffix, a, b, _) => element_got(*suffix, *a, regs, *b),
-        Op::FieldGet(_, a, _, field) | Op::StaticGet(_, a, field) => value_got(*a, field),
-        Op::Invoke(_, args, method) => Ok(change_of_call(code, regs, args, method, made)),
+    let (a, ty) = match op {
+        Op::MoveInt(a, b) => return Ok(Change::One(*a, copied_int(regs, *b))),
+        Op::MoveObject(a, b) => (*a, copied_object(regs, *b)),
+        Op::ResultInt(a) => return Ok(Change::One(*a, result_int(&state.result))),
+        Op::ResultLong(a) => return Ok(result_long(*a, &state.result)),
+        Op::ResultObject(a) => (*a, result_object(&state.result)),
+        Op::TakeCaught(a) => (*a, caught_type(&state.caught)),
+        Op::Const(a, n) => return Ok(Change::One(*a, const_type(*n))),
+        Op::ConstString(a, _) => (*a, type_named(alloc, STRING)),
+        Op::ConstClass(a, _) => (*a, type_named(alloc, CLASS)),
+        Op::Cast(a, ty) | Op::NewArray(a, _, ty) => (*a, type_of(ty)),
+        Op::New(a, _) => return Ok(Change::New(*a, at)),
+        Op::ArrayGet(suffix, a, b, _) => return element_got(*suffix, *a, regs, *b),
+        Op::FieldGet(_, a, _, field) | Op::StaticGet(_, a, field) => return value_got(*a, field),
+        Op::Invoke(_, args, method) => return Ok(change_of_call(code, regs, args, method, made)),
         Op::IntUnary(_, a, _)
         | Op::LongToInt(a, _)
         | Op::IntOp(_, a, _, _)
         | Op::CompareLong(a, _, _)
         | Op::IntDivide(_, a, _, _)
         | Op::InstanceOf(a, _, _)
-        | Op::ArrayLength(a, _) => Ok(Change::One(*a, RegType::Int)),
+        | Op::ArrayLength(a, _) => return Ok(Change::One(*a, RegType::Int)),
         Op::MoveLong(a, _)
         | Op::ConstLong(a, _)
         | Op::LongUnary(_, a, _)
         | Op::IntToLong(a, _)
         | Op::LongOp(_, a, _, _)
         | Op::LongShift(_, a, _, _)
-        | Op::LongDivide(_, a, _, _) => Ok(Change::Two(*a, RegType::LongLo, RegType::LongHi)),
-        _ => Ok(Change::Nothing),
-    }
+        | Op::LongDivide(_, a, _, _) => return Ok(Change::Two(
+            *a,
+            RegType::LongLo,
+            RegType::LongHi,
+        )),
+        _ => return Ok(Change::Nothing),
+    };
+    Ok(Change::One(a, ty?))
+}
+
+/// A type that is known, in a register.
+fn type_of(ty: &Ty) -> Result<RegType, AllocError>
+    ensures { IfOk result (λ t. t ≡ RegType.Class ty.now) }
+{
+    Ok(RegType::Class(ty.clone()?))
 }
 
 fn copied_int(regs: &[RegType], b: u16) -> RegType
@@ -241,7 +257,10 @@ fn value_got(a: u16, field: &Field<'_>) -> Result<Change, AllocError>
     if is_long(&def.ty) {
         Ok(Change::Two(a, RegType::LongLo, RegType::LongHi))
     } else {
-        Ok(Change::One(a, single_type(&def.ty)?))
+        match single_type(&def.ty) {
+            Ok(ty) => Ok(Change::One(a, ty)),
+            Err(error) => Err(error),
+        }
     }
 }
 

@@ -120,13 +120,18 @@ fn first_slice(image: &Image, vm: &Vm, thread: u32) -> Result<Option<Slice>, All
     let Some(start) = vm.copy_top(thread)? else {
         return Ok(None);
     };
-    let end = start.clone()?;
-    Ok(Some(Slice {
-        thread,
-        start,
-        steps: 0,
-        end,
-    }))
+    match start.clone() {
+        Ok(end) => Ok(Some(Slice {
+            thread,
+            start,
+            steps: 0,
+            end,
+        })),
+        Err(error) => {
+            drop(start);
+            Err(error)
+        }
+    }
 }
 
 /// So many of these steps are done: none where the run has ended, and no more than its budget has room for.
@@ -221,7 +226,10 @@ impl<'v> SafeVm<'v> {
         let Some(slice) = first_slice(&verified.image, vm, thread)? else {
             return Ok(None);
         };
-        lent.push(thread)?;
+        if let Err(error) = lent.push(thread) {
+            drop(slice);
+            return Err(error.into());
+        }
         Ok(Some(slice))
     }
 
@@ -246,15 +254,35 @@ impl<'v> SafeVm<'v> {
         ensures same { IsSameProgram self.old self.new }
         ensures refused { IfErr result (λ e. (e.slice ≡ slice) × (self.new ≡ self.old)) }
     {
-        if !self.fits(&slice) {
+        match self.commit_steps(worker, &slice) {
+            Ok(steps) => {
+                drop(slice);
+                Ok(steps)
+            }
+            Err(_) => Err(Refused { slice }),
+        }
+    }
+
+    /// The steps of a slice as `commit` does them.
+    ///
+    /// # Errors
+    ///
+    /// Want of memory; all is as before then.
+    fn commit_steps(&mut self, worker: u32, slice: &Slice) -> Result<u32, AllocError>
+        requires made { IsMade self.old.verified.image slice.now }
+        ensures committed { IfOk result (λ n. (main : Method) (m : Machine) → IsAt self.old main m → IsFitting self.old slice.now → IsCommitted self.old self.new main m worker slice.now n) }
+        ensures put_away { IfOk result (λ n. (IsFitting self.old slice.now → ⊥) → (n ≡ 0) × (self.new ≡ self.old)) }
+        ensures few { IfOk result (λ n. n ≤ slice.now.steps) }
+        ensures same { IsSameProgram self.old self.new }
+        ensures refused { OnErr result (self.new ≡ self.old) }
+    {
+        if !self.fits(slice) {
             return Ok(0);
         }
         let verified = self.verified();
         let SafeVm { vm, log, lent, .. } = self;
-        if log.reserve(1).is_err() {
-            return Err(Refused { slice });
-        }
-        let steps = take_steps(&verified.image, vm, &slice);
+        log.reserve(1)?;
+        let steps = take_steps(&verified.image, vm, slice);
         log_steps(log, worker, slice.thread, steps);
         bring_home(lent, slice.thread);
         Ok(steps)

@@ -44,7 +44,12 @@ impl<'v> SafeVm<'v> {
     {
         let copy = copied(alloc, log)?;
         let mut vm = opened(alloc, verified, main, limits)?;
-        play_to_end(&verified.image, &mut vm, log)?;
-        Ok(SafeVm::standing(verified, main, vm, copy, Vec::new(alloc)))
+        match play_to_end(&verified.image, &mut vm, log) {
+            Ok(()) => Ok(SafeVm::standing(verified, main, vm, copy, Vec::new(alloc))),
+            Err(error) => {
+                drop(vm);
+                Err(error)
+            }
+        }
     }
 }

@@ -181,7 +181,10 @@ impl<'v> SafeVm<'v> {
     pub fn into_log(self) -> Vec<Entry>
         ensures { result.items ≡ self.entry.log }
     {
-        self.log
+        let SafeVm { vm, log, lent, .. } = self;
+        drop(vm);
+        drop(lent);
+        log
     }
 
     /// The engine.

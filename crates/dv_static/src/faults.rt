@@ -1,6 +1,6 @@
 // The static faults of a method.
 ghost use Rattle.std.specs.Prelude.{◌≡◌, ◌<◌, ◌∷◌, ◌++◌, ◌%◌, [], All, Ok, Some, IsSome, IfOk, OnOk, map, nat_le};
-ghost use Rattle.dv_defs.specs.Accepting.{first_places, item_places, no_units, places_by, rule_at as rule_there, rule_of_unit as rule_of, sorted, static_fault, static_places, tile_places};
+ghost use Rattle.dv_defs.specs.Accepting.{first_places, item_places, no_units, places_by, rule_at as rule_there, rule_of_unit as rule_of, sorted, static_fault, static_places, tile_places, try_places};
 ghost use Rattle.dv_defs.specs.Formats.{is_float as is_float_opcode};
 ghost use Rattle.dv_defs.specs.Op.{Code, code_at};
 ghost use Rattle.dv_defs.specs.Tiling.{tiling};
@@ -65,7 +65,11 @@ fn body_places(alloc: Global, image: &Image, code: &Coded<'_>) -> Result<Vec<Pla
 {
     let body = code.body;
     match tiles_of(alloc, body.units.items())? {
-        Tiled::Whole(tiles) => whole_places(alloc, image, code, tiles.items()),
+        Tiled::Whole(tiles) => {
+            let places = whole_places(alloc, image, code, tiles.items());
+            drop(tiles);
+            places
+        }
         Tiled::Broken(at) => one_place(alloc, at, rule_at(body.units.items(), at)),
     }
 }
@@ -152,8 +156,9 @@ fn all_places(
 {
     let body = code.body;
     let starts = Starts::new(alloc, tiles, body.units.len())?;
-    let places = found_places(alloc, image, code, &starts, tiles)?;
-    in_order(places)
+    let found = found_places(alloc, image, code, &starts, tiles);
+    drop(starts);
+    in_order(found?)
 }
 
 /// The same as they are found.
@@ -169,10 +174,31 @@ fn found_places(
     ensures { IfOk result (λ v. places_of v.items ≡ places_found image.now (code_of code.now) (map tile_of tiles.now)) }
 {
     let mut places = Vec::new(alloc);
-    add_first_places(code, starts, &mut places)?;
-    add_tile_places(image, code, starts, tiles, &mut places)?;
-    add_try_places(alloc, image, code, starts, &mut places)?;
-    Ok(places)
+    match add_found_places(alloc, image, code, starts, tiles, &mut places) {
+        Ok(()) => Ok(places),
+        Err(error) => {
+            drop(places);
+            Err(error)
+        }
+    }
+}
+
+/// Adds what a body breaks at its beginning, item by item, and try entry by try entry.
+fn add_found_places(
+    alloc: Global,
+    image: &Image,
+    code: &Coded<'_>,
+    starts: &Starts<'_>,
+    tiles: &[Tile],
+    places: &mut Vec<Place>,
+) -> Result<(), AllocError>
+    requires starts { (code_of code.now).tiles ≡ map tile_of starts.now }
+    requires short { All (λ t. t.at < 16384) tiles.now }
+    ensures { OnOk result (places_of places.new.items ≡ ((places_of places.old.items ++ first_places image.now (code_of code.now)) ++ tile_places image.now (code_of code.now) (map tile_of tiles.now)) ++ try_places image.now (code_of code.now) 0 code.now.body.now.tries) }
+{
+    add_first_places(code, starts, places)?;
+    add_tile_places(image, code, starts, tiles, places)?;
+    add_try_places(alloc, image, code, starts, places)
 }
 
 /// Adds S3, where no instruction begins at address 0, and S11, where there are fewer registers than words of arguments.

@@ -89,11 +89,15 @@ pub fn tiles_of(alloc: Global, units: &[u16]) -> Result<Tiled, AllocError>
     while at < units.len() {
         match item_at(alloc, units, at)? {
             Some((item, size)) => {
-                tiles.push(Tile {
+                let tile = Tile {
                     at: at as u32,
                     size,
                     item,
-                })?;
+                };
+                if let Err(failed) = tiles.push(tile) {
+                    drop(failed);
+                    return Err(AllocError);
+                }
                 at += size as usize;
             }
             None => return Ok(Tiled::Broken(at as u32)),

@@ -112,6 +112,29 @@ fn add_entry_places(
     add_unless(caught, entry.start, Rule::S(18), places)
 }
 
+/// Adds the rules that the try entries of a body break, one after another.
+fn add_each_try(
+    image: &Image,
+    code: &Coded<'_>,
+    starts: &Starts<'_>,
+    throwable: &Ty,
+    places: &mut Vec<Place>,
+) -> Result<(), AllocError>
+    requires tiles { (code_of code.now).tiles ≡ map tile_of starts.now }
+    requires throwable { throwable.now ≡ of_class throwable_name }
+    ensures { OnOk result (places_of places.new.items ≡ places_of places.old.items ++ try_places image.now (code_of code.now) 0 code.now.body.now.tries) }
+{
+    let body = code.body;
+    let tries = body.tries.items();
+    let mut before = 0;
+    for i in 0..tries.len() {
+        let entry = &tries[i];
+        add_entry_places(image, code, starts, throwable, before, entry, places)?;
+        before = entry.end;
+    }
+    Ok(())
+}
+
 /// Adds the rules that the try entries of a body break.
 pub fn add_try_places(
     alloc: Global,
@@ -124,13 +147,7 @@ pub fn add_try_places(
     ensures { OnOk result (places_of places.new.items ≡ places_of places.old.items ++ try_places image.now (code_of code.now) 0 code.now.body.now.tries) }
 {
     let throwable = throwable_type(alloc)?;
-    let body = code.body;
-    let tries = body.tries.items();
-    let mut before = 0;
-    for i in 0..tries.len() {
-        let entry = &tries[i];
-        add_entry_places(image, code, starts, &throwable, before, entry, places)?;
-        before = entry.end;
-    }
-    Ok(())
+    let added = add_each_try(image, code, starts, &throwable, places);
+    drop(throwable);
+    added
 }

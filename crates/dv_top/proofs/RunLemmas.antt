@@ -1,21 +1,23 @@
 -- Runs: their statuses, their turns, and schedules that are refused.
-use Rattle.std.proofs.Common.{◌≡◌, ◌≢◌, ℕ, ◌≤◌, Bool, List, [], length, append-nil, Option, Some, None, Ok, inl, inr, arith, ap, sym, subst, ◌∙◌}
+use Rattle.std.proofs.Common.{◌≡◌, ◌≢◌, ℕ, ◌≤◌, Bool, false, List, [], length, append-nil, Option, Some, None, Ok, inl, inr, arith, ap, sym, subst, ◌∙◌}
 use Rattle.dv_defs.specs.declared.machine.End.{End}
 use Rattle.dv_defs.specs.declared.machine.End.TheVariants as end
+use Rattle.dv_defs.specs.declared.names.MethodId.{MethodId}
 use Rattle.dv_defs.specs.declared.run.Ending.{Ending}
 use Rattle.dv_defs.specs.declared.run.Ending.TheVariants as ending
 use Rattle.dv_defs.specs.declared.run.Entry.{Entry}
 use Rattle.dv_defs.specs.declared.run.Limits.{Limits}
 use Rattle.dv_defs.specs.Images.{Image}
-use Rattle.dv_defs.specs.Pools.{Method}
+use Rattle.dv_defs.specs.Pools.{Method, method_at}
 use Rattle.dv_machine.specs.Replaying.{IsShort, NotRunnable, PastEnd, Replayed, Stands, Wrong, replay}
+use Rattle.dv_rules.specs.Verified.{VerifiedValue}
 use Rattle.dv_sound.specs.declared.error.ReplayError.{ReplayError}
 use Rattle.dv_sound.specs.declared.error.ReplayError.TheVariants as error
 use Rattle.dv_sound.specs.Replays.{IsRefused, Refuses}
 use Rattle.dv_top.specs.declared.status.Status.TheVariants as exit
 use Rattle.dv_top.specs.Answering.{IsIdle, IsTold}
 use Rattle.dv_top.specs.Runs.{AreFirstTurns, AreTurns, IsRun, refused_line, schedule_line, short_line, status_by, status_by_end}
-use Rattle.dv_top.specs.Scheduling.{line_of}
+use Rattle.dv_top.specs.Scheduling.{IsReplyOfReplay, Runs, line_of}
 use Rattle.dv_top.specs.Status.{code_of}
 
 -- ---- statuses
@@ -137,3 +139,11 @@ pub not_refused : (image : Image) (main : Method) (limits : Limits) (log : List 
 not_refused image main limits log shown status text line r is =
     let none : refused_line image log (replay image main limits log) ≡ None = ap (refused_line image log) r.replayed ∙ ap (short_line log) r.ends in
     cc
+
+-- a run of these has this main method
+pub main_of_run : (v run : VerifiedValue) (main own : MethodId) (m : Method) → run ≡ v → own ≡ main → method_at v.image main.0 ≡ Some m → method_at run.image own.0 ≡ Some m
+main_of_run v run main own m same mains is = rw (same, mains) is
+
+-- a run that a schedule led to its end
+pub runs_by : (v run : VerifiedValue) (m : Method) (limits own : Limits) (schedule log after : List Entry) (status : ℕ) (text : List ℕ) → run ≡ v → own ≡ limits → log ≡ schedule → after ≡ log → IsRun run.image m own log false status text → IsReplyOfReplay v.image m limits schedule after status text
+runs_by v run m limits own schedule log after status text same few given kept ran = Runs (kept ∙ given) (rw (same, few, given) at ran)

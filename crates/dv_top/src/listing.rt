@@ -27,7 +27,7 @@ pub fn reply_to_listing(alloc: Global, text: &[u8]) -> Result<Reply, AllocError>
     }
     match read_classes(alloc, text, false) {
         Ok(read) => listing_of(alloc, read.classes.items()),
-        Err(LineError::At { line, kind }) => refused(alloc, &Refusal::Line(line, kind)),
+        Err(LineError::At { line, kind }) => refused(alloc, Refusal::Line(line, kind)),
         Err(LineError::Memory) => Err(AllocError),
     }
 }

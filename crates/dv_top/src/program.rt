@@ -6,7 +6,7 @@ ghost use Rattle.dv_top.specs.Answering.{IsEntry};
 ghost use Rattle.dv_top.specs.Programs.{program_to_replay, program_to_run, with_main};
 
 use dv_defs::{Entry, Image, MethodId, Seq, Text};
-use dv_program::{ProgramError, main_method, read_program, read_scheduled};
+use dv_program::{ProgramError, Scheduled, main_method, read_program, read_scheduled};
 use std::alloc::Global;
 
 /// A program that is to be run: the main method of a class, and the schedule that stands behind the classes, which is empty where none may.
@@ -24,7 +24,11 @@ pub fn program_to_run(alloc: Global, class: &Text, text: &[u8]) -> Result<Progra
     ensures main { IfOk result (λ p. HasMain p.image p.main.0) }
 {
     let image = read_program(alloc, text)?;
-    with_main(alloc, class, image, Seq::of(Vec::new(alloc)))
+    let scheduled = Scheduled {
+        image,
+        log: Seq::of(Vec::new(alloc)),
+    };
+    with_main(alloc, class, scheduled)
 }
 
 /// The program of a text with its schedule, of which the class of this descriptor is to be run again.
@@ -35,24 +39,24 @@ pub fn program_to_replay(alloc: Global, class: &Text, text: &[u8]) -> Result<Pro
     ensures schedule { IfOk result (λ p. All IsEntry p.schedule) }
 {
     let scheduled = read_scheduled(alloc, text)?;
-    with_main(alloc, class, scheduled.image, scheduled.log)
+    with_main(alloc, class, scheduled)
 }
 
 /// An image and a schedule with the main method of a class.
-fn with_main(
-    alloc: Global,
-    class: &Text,
-    image: Image,
-    schedule: Seq<Entry>,
-) -> Result<Program, ProgramError>
-    ensures program { Answers (with_main image schedule (main_in image class.now)) result }
+fn with_main(alloc: Global, class: &Text, scheduled: Scheduled) -> Result<Program, ProgramError>
+    ensures program { Answers (with_main scheduled.image scheduled.log (main_in scheduled.image class.now)) result }
     ensures main { IfOk result (λ p. HasMain p.image p.main.0) }
-    ensures schedule { IfOk result (λ p. p.schedule ≡ schedule) }
+    ensures schedule { IfOk result (λ p. p.schedule ≡ scheduled.log) }
 {
-    let main = main_method(alloc, &image, class.bytes())?;
-    Ok(Program {
-        image,
-        main,
-        schedule,
-    })
+    match main_method(alloc, &scheduled.image, class.bytes()) {
+        Ok(main) => Ok(Program {
+            image: scheduled.image,
+            main,
+            schedule: scheduled.log,
+        }),
+        Err(error) => {
+            drop(scheduled);
+            Err(error)
+        }
+    }
 }

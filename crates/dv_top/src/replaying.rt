@@ -1,12 +1,15 @@
 // The reply to a text of which a class is to be run on a given schedule.
-ghost use Rattle.std.specs.Prelude.{◌≡◌, ◌≢◌, ◌≤◌, ℕ, List, [], All, IfOk, OnErr, Ok, Result, Some, length};
+ghost use Rattle.std.specs.Prelude.{◌≡◌, ◌≢◌, ◌≤◌, ℕ, false, List, [], All, IfOk, None as Nothing, OnErr, Ok, Result, Some, length};
 ghost use Rattle.dv_defs.specs.Pools.{Method, method_at};
 ghost use Rattle.dv_console.specs.declared.refusals.Refusal.{Refusal};
+ghost use Rattle.dv_machine.specs.Running.{ending_of};
+ghost use Rattle.dv_machine.specs.State.{Machine};
 ghost use Rattle.dv_sound.specs.Moves.{AreUsable};
-ghost use Rattle.dv_sound.specs.Runs.{HasMain};
+ghost use Rattle.dv_sound.specs.Runs.{HasMain, IsAt};
 ghost use Rattle.dv_top.specs.declared.program.Program.{Program as ProgramOf};
 ghost use Rattle.dv_top.specs.Answering.{IsEntry, IsIdle, IsLogOfReplay, IsReadOf, IsTold};
 ghost use Rattle.dv_top.specs.Programs.{program_to_replay};
+ghost use Rattle.dv_top.specs.Runs.{IsRun};
 ghost use Rattle.dv_top.specs.Scheduling.{IsReplyOfReplay};
 ghost use Rattle.dv_top.specs.Said.{IsSaidOfReplay, text_limit};
 ghost use Rattle.dv_top.specs.Status.{code_of};
@@ -73,13 +76,19 @@ fn reply_to_program(
         → log.new.items ≢ [] → IsLogOfReplay bytes found limits.now log.new.items }
     ensures wanting { OnErr result (log.new.items ≡ []) }
 {
-    let Program {
-        image,
-        main,
-        schedule,
-    } = program;
-    match verify_one_by_one(alloc, image) {
-        Ok(verified) => reply_of_replay(alloc, &verified, main, limits, schedule.items(), log),
+    match verify_one_by_one(alloc, program.image) {
+        Ok(verified) => {
+            let reply = reply_of_replay(
+                alloc,
+                &verified,
+                program.main,
+                limits,
+                program.schedule.items(),
+                log,
+            );
+            drop(verified);
+            reply
+        }
         Err(error) => faulty(alloc, error),
     }
 }
@@ -102,11 +111,22 @@ fn reply_of_replay(
     ensures wanting { OnErr result (log.new.items ≡ []) }
 {
     match SafeVm::replay(alloc, verified, main, *limits, schedule) {
-        Ok(run) => {
-            let reply = reply_of_ended(alloc, &run, false)?;
-            *log = run.into_log();
-            Ok(reply)
-        }
+        Ok(run) => reply_of_replayed(alloc, run, log),
         Err(error) => refused_schedule(alloc, error),
     }
+}
+
+/// The reply to a run that a schedule led to its end. The log gets that schedule, where memory isn't wanting.
+fn reply_of_replayed(alloc: Global, run: SafeVm, log: &mut Vec<Entry>) -> Result<Reply, AllocError>
+    requires { (main : Method) (m : Machine) → IsAt run main m → ending_of run.verified.image m ≢ Nothing }
+    ensures ran { (main : Method) → method_at run.entry.verified.image run.entry.main.0 ≡ Some main
+        → IfOk result (λ reply. (log.new.items ≡ run.entry.log)
+        × IsRun run.entry.verified.image main run.entry.machine.limits run.entry.log false (code_of reply.status) reply.text.items) }
+    ensures wanting { OnErr result (log.new ≡ log.old) }
+{
+    let reply = reply_of_ended(alloc, &run, false);
+    let done = run.into_log();
+    let reply = reply?;
+    *log = done;
+    Ok(reply)
 }

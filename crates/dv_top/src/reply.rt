@@ -32,11 +32,12 @@ pub fn fixed(alloc: Global, status: Status, text: &[u8]) -> Result<Reply, AllocE
 }
 
 /// The reply to a text that is refused before it is verified.
-pub fn refused(alloc: Global, refusal: &Refusal) -> Result<Reply, AllocError>
-    ensures { IfOk result (λ reply. (reply.status ≡ Status.BadText) × (reply.text.items ≡ refusal_text refusal.now)) }
+pub fn refused(alloc: Global, refusal: Refusal) -> Result<Reply, AllocError>
+    ensures { IfOk result (λ reply. (reply.status ≡ Status.BadText) × (reply.text.items ≡ refusal_text refusal)) }
 {
-    let line = refusal_line(alloc, refusal)?;
-    fixed(alloc, Status::BadText, line.bytes())
+    let line = refusal_line(alloc, &refusal);
+    drop(refusal);
+    fixed(alloc, Status::BadText, line?.bytes())
 }
 
 /// The reply to a text that gives no program.
@@ -45,7 +46,7 @@ pub fn no_program(alloc: Global, error: ProgramError) -> Result<Reply, AllocErro
         × ((why : Why) × (error ≡ ProgramError.Refused why) × (reply.text.items ≡ refusal_text why))) }
 {
     match error {
-        ProgramError::Refused(refusal) => refused(alloc, &refusal),
+        ProgramError::Refused(refusal) => refused(alloc, refusal),
         ProgramError::Memory => Err(AllocError),
     }
 }
@@ -56,10 +57,15 @@ pub fn faulty(alloc: Global, error: VerifyError) -> Result<Reply, AllocError>
         × ((image : Image) × (faults : List Fault) × (error ≡ VerifyError.Faults image faults) × (reply.text.items ≡ fault_lines image faults))) }
 {
     match error {
-        VerifyError::Faults { image, faults } => Ok(Reply {
-            status: Status::Refused,
-            text: fault_lines(alloc, &image, faults.items())?,
-        }),
+        VerifyError::Faults { image, faults } => {
+            let lines = fault_lines(alloc, &image, faults.items());
+            drop(image);
+            drop(faults);
+            Ok(Reply {
+                status: Status::Refused,
+                text: lines?,
+            })
+        }
         VerifyError::Memory => Err(AllocError),
     }
 }

@@ -82,9 +82,12 @@ fn reply_to_program(
     ensures legal { (bytes : List ℕ) (found : Result ProgramOf Refusal) → length bytes ≤ text_limit → found ≡ Ok program
         → log.new.items ≢ [] → IsLogOfRun bytes found how.now.seed how.now.limits log.new.items }
 {
-    let Program { image, main, .. } = program;
-    match verify_one_by_one(alloc, image) {
-        Ok(verified) => reply_of_run(alloc, &verified, main, how, log),
+    match verify_one_by_one(alloc, program.image) {
+        Ok(verified) => {
+            let reply = reply_of_run(alloc, &verified, program.main, how, log);
+            drop(verified);
+            reply
+        }
         Err(error) => faulty(alloc, error),
     }
 }

@@ -1,5 +1,6 @@
 // The reply to a text that is to be verified.
 ghost use Rattle.std.specs.Prelude.{◌≡◌, ◌≢◌, ◌≤◌, ℕ, List, Ok, IfOk, length};
+ghost use Rattle.dv_console.specs.Faults.{accepted_text};
 ghost use Rattle.dv_program.specs.Images.{image_in};
 ghost use Rattle.dv_top.specs.Answering.{IsTold, IsReadOf};
 ghost use Rattle.dv_top.specs.Said.{IsSaidOfVerifying, text_limit};
@@ -38,9 +39,18 @@ fn verdict(alloc: Global, image: Image) -> Result<Reply, AllocError>
 {
     match verify_one_by_one(alloc, image) {
         Ok(verified) => {
-            let line = accepted_line(alloc, &verified.image)?;
-            fixed(alloc, Status::Done, line.bytes())
+            let reply = accepted(alloc, &verified.image);
+            drop(verified);
+            reply
         }
         Err(error) => faulty(alloc, error),
     }
+}
+
+/// The reply to a text whose image the verifier accepts.
+fn accepted(alloc: Global, image: &Image) -> Result<Reply, AllocError>
+    ensures { IfOk result (λ reply. (reply.status ≡ Status.Done) × (reply.text.items ≡ accepted_text image.now)) }
+{
+    let line = accepted_line(alloc, image)?;
+    fixed(alloc, Status::Done, line.bytes())
 }

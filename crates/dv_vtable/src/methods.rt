@@ -1,33 +1,60 @@
 // Methods that a class may not declare as it does.
-ghost use Rattle.std.specs.Prelude.{◌≡◌, ◌<◌, length, option_map, IfOk};
+ghost use Rattle.std.specs.Prelude.{◌≡◌, ◌<◌, false, length, option_map, IfOk};
+ghost use Rattle.indexmap.specs.IndexSet.{contains};
 ghost use Rattle.dv_defs.specs.declared.faults.LinkKind.TheVariants as kind;
 ghost use Rattle.dv_defs.specs.First.{first_below};
 ghost use Rattle.dv_defs.specs.Images.{Image};
 ghost use Rattle.dv_defs.specs.LinkFaults.{Checks, first_fault_by, found, method_twice as first_twice, wrong_methods};
 ghost use Rattle.dv_defs.specs.Linked.{defs};
 ghost use Rattle.dv_linklaws.specs.Stripped.{AreInRange};
+ghost use Rattle.dv_vtable.specs.declared.keys.MethodKey.{MethodKey as Key};
 
 use crate::bodies::check_bodies;
 use crate::finals::check_finals;
-use crate::keys::key_of;
+use crate::keys::{MethodKey, key_of};
 use dv_defs::{ClassDef, ClassInfo, LinkError, LinkKind, MethodDef, Text};
 use dv_hier::error_of;
 use indexmap::IndexSet;
 use std::alloc::{AllocError, Global};
 
-/// The name of the first method that an earlier one is like. A lone method needs no set.
-fn method_twice(alloc: Global, methods: &[MethodDef]) -> Result<Option<Text>, AllocError>
-    ensures { IfOk result (λ name. first_below (first_twice methods.now) (length methods.now) ≡ option_map kind.MethodTwice name) }
+/// The name of the first method that an earlier one is like, as that method has it. What is met is added to the set, which is empty;
+/// a lone method needs none.
+fn repeated_in<'a>(
+    seen: &mut IndexSet<MethodKey<'a>>,
+    methods: &'a [MethodDef],
+) -> Result<Option<&'a Text>, AllocError>
+    requires none { (k : Key) → contains ⟦<MethodKey<'a> as PartialEq>⟧.eq seen.old k ≡ false }
+    ensures { IfOk result (λ name. first_below (first_twice methods.now) (length methods.now) ≡ option_map (λ n. kind.MethodTwice n.now) name) }
 {
     let several = methods.len() > 1;
-    let mut seen = IndexSet::new(alloc);
     for i in 0..methods.len() {
         let key = key_of(&methods[i]);
         if several && !seen.insert(key)? {
-            return Ok(Some(key.name.clone()?));
+            return Ok(Some(key.name));
         }
     }
     Ok(None)
+}
+
+/// The name of the first method that an earlier one is like, as that method has it.
+fn repeated_name<'a>(
+    alloc: Global,
+    methods: &'a [MethodDef],
+) -> Result<Option<&'a Text>, AllocError>
+    ensures { IfOk result (λ name. first_below (first_twice methods.now) (length methods.now) ≡ option_map (λ n. kind.MethodTwice n.now) name) }
+{
+    let mut seen = IndexSet::new(alloc);
+    repeated_in(&mut seen, methods)
+}
+
+/// The name of the first method that an earlier one is like.
+fn method_twice(alloc: Global, methods: &[MethodDef]) -> Result<Option<Text>, AllocError>
+    ensures { IfOk result (λ name. first_below (first_twice methods.now) (length methods.now) ≡ option_map kind.MethodTwice name) }
+{
+    match repeated_name(alloc, methods)? {
+        Some(name) => Ok(Some(name.clone()?)),
+        None => Ok(None),
+    }
 }
 
 /// The first method of a class that may not stand as it is declared. `place` is the number of the class.

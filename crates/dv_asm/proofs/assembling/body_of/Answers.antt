@@ -20,25 +20,25 @@ code_of-requires c =
 
 pub body_with-requires : goal.body_with-requires
 body_with-requires c =
-    is_body c.args.registers c.args.catches.now.short.now c.args.catches.now.catches.now c.in_ok-pools.pools (ranges_in c.args.sorted.now.entries) c.in_ok-units.units.items c.in_ok-units.tries.items c.code_of.new.pools.types
-    c.requires.few c.is_short.ensures c.in_ok-units.ensures.units c.in_ok-units.ensures.tries
+    is_body c.args.registers c.args.catches.now.short.now c.args.catches.now.catches.now c.in_ok-pools.pools (ranges_in c.args.sorted.now.entries) c.in-Ok.units.items c.in-Ok.tries.items c.code_of.new.pools.types
+    c.requires.few c.is_short.ensures c.in-Ok.ensures.units c.in-Ok.ensures.tries
 
-pub returns-clause-value : goal.returns-clause-value
-returns-clause-value c =
+pub returns-in-Ok-clause-value : goal.returns-in-Ok-clause-value
+returns-in-Ok-clause-value c =
     let items = c.args.catches.now.short.now in
     let catches = c.args.catches.now.catches.now in
     let pools = c.in_ok-pools.pools in
     let rs = ranges_in c.args.sorted.now.entries in
-    let units = c.in_ok-units.units.items in
-    let tries = c.in_ok-units.tries.items in
-    let tried = c.in_ok-units.ensures.tries ∙ ap (λ (p : Pools). map (entry_of items catches p.types) rs) c.in_ok-units.ensures.types in
-    let layout = ap (body_with c.args.registers units tries) c.in_ok-units.ensures.types ∙
+    let units = c.in-Ok.units.items in
+    let tries = c.in-Ok.tries.items in
+    let tried = c.in-Ok.ensures.tries ∙ ap (λ (p : Pools). map (entry_of items catches p.types) rs) c.in-Ok.ensures.types in
+    let layout = ap (body_with c.args.registers units tries) c.in-Ok.ensures.types ∙
     is_layout c.args.registers items catches pools rs units tries (with_kinds items catches pools.types rs)
-    (named _ _ items pools c.in_ok-pools.ensures c.items.ensures c.places.ensures) c.requires.sorted c.in_ok-units.ensures.units tried refl in
+    (named _ _ items pools c.in_ok-pools.ensures c.items.ensures c.places.ensures) c.requires.sorted c.in-Ok.ensures.units tried refl in
     IfOk-weaker c.body_with.result _ _ (λ body is. is ∙ layout) c.body_with.ensures
 
-pub returns-clause-tiled : goal.returns-clause-tiled
-returns-clause-tiled c =
+pub returns-in-Ok-clause-tiled : goal.returns-in-Ok-clause-tiled
+returns-in-Ok-clause-tiled c =
     let items = c.args.catches.now.short.now in
-    let tiled = c.in_ok-units.ensures.tiled ∙ ap (λ (pools : Pools). Ok (tiles_of items pools (length items))) (named _ _ items c.in_ok-pools.pools c.in_ok-pools.ensures c.items.ensures c.places.ensures) in
+    let tiled = c.in-Ok.ensures.tiled ∙ ap (λ (pools : Pools). Ok (tiles_of items pools (length items))) (named _ _ items c.in_ok-pools.pools c.in_ok-pools.ensures c.items.ensures c.places.ensures) in
     IfOk-weaker c.body_with.result _ _ (λ body is. ap (λ (b : BodyValue). tiling b.units) is ∙ tiled) c.body_with.ensures

@@ -4,7 +4,7 @@ use Rattle.std.proofs.Math.Seq.{get_or-append_seam}
 use Rattle.dv_asm.specs.declared.draft.Item.{Item}
 use Rattle.dv_asm.specs.Items.{item_at, no_item, size_of}
 use Rattle.dv_asm.specs.Places.{leads_to_payload, end_of, address_of}
-use Rattle.dv_asm.proofs.PlaceLemmas.{AreSoFar}
+use Rattle.dv_asm.proofs.PlaceLemmas.{AreSoFar, aligned_by}
 use Rattle.dv_asm.proofs.places.addresses.Goals as goal
 
 -- an item's address, where the list tells whether the item leads to a payload
@@ -27,6 +27,14 @@ more_addresses items k end address size addresses new before place sized small p
       small = below_more Q k before.small (omega (arith, place));
       end_small = small;
     }
+
+-- the end of an item fits
+sum_fits : (end address size : ℕ) (leads : Bool) → end < 2 ^ 62 → address ≡ (if nat_eq (end % 2) 1 && leads then end + 1 else end) → size ≤ 2 ^ 63 → address + size < 2 ^ 64
+sum_fits end address size leads small aligned sized = omega (arith, (aligned_by end leads).1)
+
+pub overflow_add-end : goal.overflow_add-end
+overflow_add-end c =
+    record { fits = sum_fits c.loop-k.end c.aligned-address.result c.size.result c.index.result.now c.loop-k.invariant.end_small c.aligned-address.ensures c.size.ensures.small }
 
 pub loop-k-preserved : goal.loop-k-preserved
 loop-k-preserved c =

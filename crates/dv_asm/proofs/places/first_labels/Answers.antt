@@ -10,4 +10,4 @@ loop-k-preserved c name =
     let k = c.loop-k.k in
     let item = c.index-items-k.result in
     let more = place_more c.args.items.now k item name (omega arith) c.index-items-k.is in
-    c.in_ok-add_label.ensures name ∙ (ap (λ (place : Option ℕ). option_or place (when (is_named name item) k)) (c.loop-k.invariant name) ∙ sym more)
+    c.in-Ok.ensures name ∙ (ap (λ (place : Option ℕ). option_or place (when (is_named name item) k)) (c.loop-k.invariant name) ∙ sym more)

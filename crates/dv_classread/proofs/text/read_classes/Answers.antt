@@ -28,19 +28,18 @@ pub drafts_in-requires-clause-stop : goal.drafts_in-requires-clause-stop
 drafts_in-requires-clause-stop c =
     subst (λ ls. IfSome c.in_ok-good.good.stop (λ (e : Stop). e.line ≡ 1 + length ls)) (sym c.items.ensures) (stop_behind c.args.text.now c.in_ok-good.good c.in_ok-good.ensures.exact)
 
-pub returns-in_err-classes : goal.returns-in_err-classes
-returns-in_err-classes c =
-    let p = err_from_is_err_and c.from_residual-in_err-classes.result c.from_residual-in_err-classes.ensures.1 in
-    rw (p.1, p.2) (refused_drafts c.args.schedule c.args.text.now c.in_ok-good.good c.in_ok-good.ensures.exact c.items.result.now c.items.ensures c.in_err-classes.field-0.0 c.in_err-classes.ensures)
+pub returns-in-Err : goal.returns-in-Err
+returns-in-Err c =
+    refused_drafts c.args.schedule c.args.text.now c.in_ok-good.good c.in_ok-good.ensures.exact c.items.result.now c.items.ensures c.in-Err.error c.in-Err.ensures
 
-pub returns-in_err-assembled_classes : goal.returns-in_err-assembled_classes
-returns-in_err-assembled_classes c =
-    let p = err_from_is_err_and c.from_residual-in_err-assembled_classes.result c.from_residual-in_err-assembled_classes.ensures.1 in
+pub returns-in_err-assembled_classes-in-Ok : goal.returns-in_err-assembled_classes-in-Ok
+returns-in_err-assembled_classes-in-Ok c =
+    let p = err_from_is_err_and c.from_residual-in_err-assembled_classes-in-Ok.result c.from_residual-in_err-assembled_classes-in-Ok.ensures.1 in
     rw (p.1, p.2)
-    (refused_classes c.args.schedule c.args.text.now c.in_ok-good.good c.in_ok-good.ensures.exact c.items.result.now c.items.ensures c.in_ok-classes.classes.items c.in_ok-classes.log.items c.in_ok-classes.ensures
-    c.in_err-assembled_classes.field-0.0 c.in_err-assembled_classes.ensures)
+    (refused_classes c.args.schedule c.args.text.now c.in_ok-good.good c.in_ok-good.ensures.exact c.items.result.now c.items.ensures c.in-Ok.classes.items c.in-Ok.log.items c.in-Ok.ensures
+    c.in_err-assembled_classes-in-Ok.field-0.0 c.in_err-assembled_classes-in-Ok.ensures)
 
-pub returns : goal.returns
-returns c =
-    read_whole c.args.schedule c.args.text.now c.in_ok-good.good c.in_ok-good.ensures.exact c.items.result.now c.items.ensures c.in_ok-classes.classes.items c.in_ok-classes.log.items c.in_ok-classes.ensures
-    c.in_ok-assembled_classes.field-0.items c.of.result c.of-2.result c.in_ok-assembled_classes.ensures c.of.ensures c.of-2.ensures
+pub returns-in_ok-assembled_classes-in-Ok : goal.returns-in_ok-assembled_classes-in-Ok
+returns-in_ok-assembled_classes-in-Ok c =
+    read_whole c.args.schedule c.args.text.now c.in_ok-good.good c.in_ok-good.ensures.exact c.items.result.now c.items.ensures c.in-Ok.classes.items c.in-Ok.log.items c.in-Ok.ensures
+    c.in_ok-assembled_classes-in-Ok.field-0.items c.of.result c.of-in-Ok.result c.in_ok-assembled_classes-in-Ok.ensures c.of.ensures c.of-in-Ok.ensures

@@ -1,6 +1,5 @@
 use Rattle.std.proofs.Common.{[], Result, sym, ap, subst, ◌∙◌, arith}
 use Rattle.std.proofs.lemmas.List.{get_or_read}
-use Rattle.std.proofs.lemmas.Result.{err_from_is_err_and}
 use Rattle.dv_asm.specs.Draft.{DraftValue}
 use Rattle.dv_lex.specs.declared.line.Line.{Line}
 use Rattle.dv_lex.specs.declared.line.Stop.{Stop}
@@ -21,14 +20,13 @@ loop-place-init c =
       same = from_first c.argument_words-arguments.result c.args.text.now c.args.lines.now c.new-drafting.result new.context new.items new.catches;
     }
 
-pub told-requires-clause-tokens : goal.told-requires-clause-tokens
-told-requires-clause-tokens c =
+pub read_line-requires-clause-tokens : goal.read_line-requires-clause-tokens
+read_line-requires-clause-tokens c =
     let line = c.index-lines-place.result in
     subst (HasTokens c.args.text.now) (sym c.index-lines-place.is) (c.requires.tokens c.in-Line.place line c.in-Line.ensures.inside)
 
-pub returns-in_err-says-in-Line : goal.returns-in_err-says-in-Line
-returns-in_err-says-in-Line c =
-    let p = err_from_is_err_and c.from_residual.result c.from_residual.ensures.1 in
+pub returns-in-Err : goal.returns-in-Err
+returns-in-Err c =
     let text = c.args.text.now in
     let lines = c.args.lines.now in
     let n = c.argument_words-arguments.result in
@@ -36,10 +34,9 @@ returns-in_err-says-in-Line c =
     let line = get_or_read lines c.in-Line.place c.index-lines-place.result c.in-Line.ensures.inside c.index-lines-place.is no_line in
     let whole = c.loop-place.invariant.same ∙ ap (λ n. body_of n (text_lines text lines)) c.argument_words-arguments.ensures in
     let read = line_read n d.context (text_line text c.index-lines-place.result) in
-    rw (p.1, p.2)
-    (stops_all c.in_err-says-in-Line.field-0.0 read _
+    stops_all c.in-Err.error read _
     (λ s is. sym whole ∙ refused_here n text lines c.loop-place.at c.in-Line.place c.in-Line.head c.in-Line.ensures d s (ap (λ l. line_read n d.context (text_line text l)) (sym line) ∙ is))
-    c.in_err-says-in-Line.ensures.exact)
+    c.in-Err.ensures
 
 pub loop-place-preserved : goal.loop-place-preserved
 loop-place-preserved c =
@@ -47,15 +44,15 @@ loop-place-preserved c =
     let lines = c.args.lines.now in
     let n = c.argument_words-arguments.result in
     let d = c.loop-place.drafting in
-    let says = c.in_ok-says-in-Line.says in
-    let new = c.add.new.self in
+    let takes = c.in-Ok.ensures in
+    let new = c.read_line.new.drafting in
     let line = get_or_read lines c.in-Line.place c.index-lines-place.result c.in-Line.ensures.inside c.index-lines-place.is no_line in
-    let read = ap (λ l. line_read n d.context (text_line text l)) (sym line) ∙ c.in_ok-says-in-Line.ensures.exact in
-    let adds = subst (λ (l : Line). Adds d l.number says new) line c.in_ok-add-in-Line.ensures in
+    let read = ap (λ l. line_read n d.context (text_line text l)) (sym line) ∙ takes.is in
+    let adds = subst (λ (l : Line). Adds d l.number takes.says new) line takes.adds in
     record {
       place = omega (arith, c.in-Line.ensures.inside);
       drafting = adds.drafting;
-      same = sym (one_more n text lines c.loop-place.at c.in-Line.place c.in-Line.head c.in-Line.ensures d new says read adds) ∙ c.loop-place.invariant.same;
+      same = sym (one_more n text lines c.loop-place.at c.in-Line.place c.in-Line.head c.in-Line.ensures d new takes.says read adds) ∙ c.loop-place.invariant.same;
     }
 
 pub returns-in-End : goal.returns-in-End

@@ -1,5 +1,4 @@
 use Rattle.std.proofs.Common.{[], Result, sym, ap, subst, ◌∙◌}
-use Rattle.std.proofs.lemmas.Result.{err_from_is_err_and}
 use Rattle.dv_defs.specs.Body.{BodyValue}
 use Rattle.dv_lex.specs.declared.line.Stop.{Stop}
 use Rattle.dv_lex.specs.Lines.{HasTokens}
@@ -14,28 +13,26 @@ loop-place-init c =
     let new = c.new-drafting.ensures in
     at_start c.args.text.now c.args.lines.now c.new-drafting.result new.place new.registers new.pools new.units new.handlers new.drafting
 
-pub told-requires-clause-tokens : goal.told-requires-clause-tokens
-told-requires-clause-tokens c =
+pub read_line-requires-clause-tokens : goal.read_line-requires-clause-tokens
+read_line-requires-clause-tokens c =
     let line = c.index-lines-place.result in
     subst (HasTokens c.args.text.now) (sym c.index-lines-place.is) (c.requires.tokens c.in-Line.place line c.in-Line.ensures.inside)
 
-pub told-requires-clause-few : goal.told-requires-clause-few
-told-requires-clause-few c =
+pub read_line-requires-clause-few : goal.read_line-requires-clause-few
+read_line-requires-clause-few c =
     let is = c.loop-place.invariant.drafting in
     few_before c.loop-place.drafting.place c.loop-place.drafting.units.items is.units is.short
 
-pub returns-in_err-says-in-Line : goal.returns-in_err-says-in-Line
-returns-in_err-says-in-Line c =
-    let p = err_from_is_err_and c.from_residual.result c.from_residual.ensures.1 in
-    rw (p.1, p.2)
-    (line_stops c.args.text.now c.args.lines.now c.loop-place.at c.in-Line.place c.loop-place.drafting c.in-Line.head c.loop-place.invariant c.in-Line.ensures
-    c.index-lines-place.result c.in_err-says-in-Line.field-0.0 c.index-lines-place.is c.in_err-says-in-Line.ensures.exact)
+pub returns-in-Err : goal.returns-in-Err
+returns-in-Err c =
+    line_stops c.args.text.now c.args.lines.now c.loop-place.at c.in-Line.place c.loop-place.drafting c.in-Line.head c.loop-place.invariant c.in-Line.ensures
+    c.index-lines-place.result c.in-Err.error c.index-lines-place.is c.in-Err.ensures
 
 pub loop-place-preserved : goal.loop-place-preserved
 loop-place-preserved c =
-    let adds = c.in_ok-add-in-Line.ensures in
+    let adds = c.in-Ok.ensures in
     one_more c.args.text.now c.args.lines.now c.loop-place.at c.in-Line.place c.loop-place.drafting c.in-Line.head c.loop-place.invariant c.in-Line.ensures
-    c.index-lines-place.result c.in_ok-says-in-Line.says _ c.index-lines-place.is c.in_ok-says-in-Line.ensures.exact adds.drafting adds.place adds.with
+    c.index-lines-place.result adds.says _ c.index-lines-place.is adds.is adds.drafting adds.place adds.body
 
 pub returns-in-End : goal.returns-in-End
 returns-in-End c =

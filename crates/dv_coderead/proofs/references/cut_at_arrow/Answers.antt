@@ -1,4 +1,5 @@
-use Rattle.std.proofs.Common.{◌≡◌, ◌+◌, Ok, get_or, take, drop, sym, ap, ◌∙◌}
+use Rattle.std.proofs.lemmas.Grind.{common_steps}
+use Rattle.std.proofs.Common.{◌≡◌, ◌+◌, Ok, get_or, take, drop, sym, ap, ◌∙◌, arith}
 use Rattle.dv_coderead.specs.References.{cut_at_arrow, found_parts, with_byte}
 use Rattle.dv_coderead.proofs.Cuts.{arrow_here, arrow_nowhere, behind_more, dash_last, found_here, found_nowhere, no_dash, no_tip, rest_range}
 use Rattle.dv_coderead.proofs.references.cut_at_arrow.Goals as goal
@@ -26,3 +27,6 @@ loop-place-preserved c =
 
 pub returns : goal.returns
 returns c = ap found_parts (found_nowhere cut_at_arrow c.args.word.now c.loop-place.place c.loop-place-test.false arrow_nowhere c.loop-place.invariant)
+
+pub slice_bounds-result-end : goal.slice_bounds-result-end
+slice_bounds-result-end c = grind (arith, common_steps)

@@ -1,4 +1,5 @@
-use Rattle.std.proofs.Common.{sym, ◌∙◌}
+use Rattle.std.proofs.lemmas.Grind.{common_steps}
+use Rattle.std.proofs.Common.{sym, ◌∙◌, arith}
 use Rattle.std.proofs.lemmas.Result.{err_from_is_err_and}
 use Rattle.dv_coderead.proofs.Members.{method_parts, of_method, opened, from_mark, no_arrow, no_class, no_mark, no_name, no_last, reads_member}
 use Rattle.dv_coderead.proofs.references.method.Goals as goal
@@ -50,3 +51,9 @@ returns c =
     (c.in_ok-own.own.now, c.in_ok-own.field-0-1.now) c.in_ok-own.ensures.parts
     c.in_ok-name.name c.in_ok-name.ensures
     c.in_ok-proto.proto (sym (from_mark c.in_ok-own.own.now c.in_ok-before.member.now c.in_ok-own.field-0-1.now c.in_ok-own.ensures.whole) ∙ c.in_ok-proto.ensures)
+
+pub slice_bounds-proto-count : goal.slice_bounds-proto-count
+slice_bounds-proto-count c = grind (arith, common_steps)
+
+pub slice_bounds-proto-start : goal.slice_bounds-proto-start
+slice_bounds-proto-start c = grind (arith, common_steps)

@@ -1,4 +1,4 @@
-use Rattle.std.proofs.Common.{◌≡◌, ℤ, ◌+◌, ◌-◌, ◌*◌, ◌/◌, ◌%◌, ◌+ℤ◌, ◌-ℤ◌, ◌*ℤ◌, of_z, to_z, w64, length, take, Err, pos, sym, ap, ◌∙◌, arith}
+use Rattle.std.proofs.Common.{◌≡◌, ℤ, ◌+◌, ◌-◌, ◌*◌, ◌/◌, ◌%◌, ◌+ℤ◌, ◌-ℤ◌, ◌*ℤ◌, of_z, to_z, w64, length, take, Err, pos, sym, ap, ◌∙◌, arith, rules}
 use Rattle.std.specs.Prelude.{slice_index}
 use Rattle.std.proofs.lemmas.Int.{ints}
 use Rattle.std.proofs.lemmas.Result.{err_from_is_err_and}
@@ -30,6 +30,18 @@ returns-then-tens-ltminus1000000000 c =
       | then-tens-ltminus1000000000-via-else-tens-ltminus1000000000+then-tens-gt1000000000 w ↦ sym (argument_behind c.args.frame ds _ _ is (omega (arith, ints, w.if-tens-gt1000000000.true)))
     ]
 
+pub overflow_sub-last-2 : goal.overflow_sub-last-2
+overflow_sub-last-2 c =
+    let is = is_tens c.args.digits.now (sym c.are_decimal.ensures ∙ c.if-not-are_decimal.false) in
+    let digit = is.digit in
+    omega arith
+
+pub overflow_sub-ones : goal.overflow_sub-ones
+overflow_sub-ones c = omega (arith, ints)
+
+pub overflow_add-tens : goal.overflow_add-tens
+overflow_add-tens c = omega (arith, ints)
+
 pub overflow_add-tens-2 : goal.overflow_add-tens-2
 overflow_add-tens-2 c = omega (arith, ints)
 
@@ -50,3 +62,6 @@ returns c =
     let one = slice_index ds (length ds - 1) - 48 in
     let sum : z ≡ pos (front * 10 + one) +ℤ pos c.args.frame.registers -ℤ pos a = omega (arith, ints) in
     c.register_at.ensures ∙ argument_read c.args.frame ds front one is z sum
+
+pub overflow_mul-tens : goal.overflow_mul-tens
+overflow_mul-tens c = search rules depth 3

@@ -1,4 +1,5 @@
-use Rattle.std.proofs.Common.{refl}
+use Rattle.std.proofs.lemmas.Grind.{common_steps}
+use Rattle.std.proofs.Common.{refl, arith}
 use Rattle.dv_core.proofs.Outcomes.{local_is, local_stayed, local_went}
 use Rattle.dv_core.proofs.Seen.{past, read_there}
 use Rattle.dv_core.proofs.code.step_locally.Goals as goal
@@ -29,3 +30,6 @@ returns-clause-stays c l own h x seen at goes =
     let stack = c.index_mut.result.now in
     let there = read_there i l old c.args.thread own h seen stack stack c.index_mut.ensures.value in
     local_stayed i l old c.args.thread own h x seen at c.step_top.result stack c.step_top.new.stack there c.step_top.ensures _ refl refl refl refl goes
+
+pub returns-then-place-len-clause-stays : goal.returns-then-place-len-clause-stays
+returns-then-place-len-clause-stays c l own h x seen at = grind (arith, common_steps)

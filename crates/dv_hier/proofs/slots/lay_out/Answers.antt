@@ -1,3 +1,4 @@
+use Rattle.std.proofs.lemmas.Grind.{elements, moves, common_steps}
 use Rattle.std.proofs.Common.{◌≡◌, ◌+◌, ◌≤◌, refl, length, get_or, sum_by, arith}
 use Rattle.std.proofs.lemmas.Option.{slice_get_read}
 use Rattle.dv_defs.specs.Order.{numbers}
@@ -56,3 +57,39 @@ loop-class-preserved c =
       laid_fields cs i info (numbers c.in_ok-chain.chain.items) c.in_ok-cells.cells.words c.loop-class.layout.fields.items c.add_fields.new.fields.items
           there c.in_ok-chain.ensures.chain c.in_ok-cells.ensures.words c.loop-class.invariant.1 c.in_ok-add_fields.ensures,
     )
+
+pub returns-in_err-add-clause-fields : goal.returns-in_err-add-clause-fields
+returns-in_err-add-clause-fields c = grind (arith, elements)
+
+pub returns-in_err-add-clause-slots : goal.returns-in_err-add-clause-slots
+returns-in_err-add-clause-slots c = grind (arith, moves)
+
+pub returns-in_err-add_fields-clause-fields : goal.returns-in_err-add_fields-clause-fields
+returns-in_err-add_fields-clause-fields c = grind (arith, elements)
+
+pub returns-in_err-add_fields-clause-slots : goal.returns-in_err-add_fields-clause-slots
+returns-in_err-add_fields-clause-slots c = grind (arith, common_steps)
+
+pub add_fields-requires-clause-few_fields : goal.add_fields-requires-clause-few_fields
+add_fields-requires-clause-few_fields c = grind (arith, common_steps)
+
+pub returns-in_err-push-clause-slots : goal.returns-in_err-push-clause-slots
+returns-in_err-push-clause-slots c = grind (arith, common_steps)
+
+pub returns-in_err-push-clause-fields : goal.returns-in_err-push-clause-fields
+returns-in_err-push-clause-fields c = grind (arith, common_steps)
+
+pub inherited-requires-clause-range : goal.inherited-requires-clause-range
+inherited-requires-clause-range c = grind (arith, common_steps)
+
+pub returns-in_err-cells-clause-slots : goal.returns-in_err-cells-clause-slots
+returns-in_err-cells-clause-slots c = grind (arith, common_steps)
+
+pub returns-in_err-chain-clause-slots : goal.returns-in_err-chain-clause-slots
+returns-in_err-chain-clause-slots c = grind (arith, common_steps)
+
+pub returns-in_err-chain-clause-fields : goal.returns-in_err-chain-clause-fields
+returns-in_err-chain-clause-fields c = grind (arith, common_steps)
+
+pub returns-in_err-cells-clause-fields : goal.returns-in_err-cells-clause-fields
+returns-in_err-cells-clause-fields c = grind (arith, common_steps)

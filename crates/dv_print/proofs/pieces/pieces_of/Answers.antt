@@ -1,4 +1,5 @@
-use Rattle.std.proofs.Common.{◌≡◌, ℕ, ◌+◌, ◌<◌, ◌≤◌, List, length, drop, Option, sym, ◌∙◌, subst}
+use Rattle.std.proofs.lemmas.Grind.{common_steps}
+use Rattle.std.proofs.Common.{◌≡◌, ℕ, ◌+◌, ◌<◌, ◌≤◌, List, length, drop, Option, sym, ◌∙◌, subst, arith}
 use Rattle.std.specs.Prelude.{option_map, IfSome}
 use Rattle.dv_defs.specs.Tiling.{piece_here}
 use Rattle.dv_print.specs.declared.pieces.Part.{Part}
@@ -20,3 +21,6 @@ pub returns-in-None : goal.returns-in-None
 returns-in-None c =
     let P : Option (Part × ℕ) → Type 0 = λ r. r ≡ option_map part_sized (piece_here (drop c.loop-at.at c.args.units.now)) in
     c.new.ensures.items ∙ none_more c.args.units.now c.loop-at.pieces.items c.loop-at.at c.loop-at.invariant c.loop-at-test.true (subst P c.in-None.is c.in_ok-part.ensures.part)
+
+pub returns-in_err-push-in-Some : goal.returns-in_err-push-in-Some
+returns-in_err-push-in-Some c = grind (arith, common_steps)

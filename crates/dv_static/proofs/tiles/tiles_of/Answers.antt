@@ -13,7 +13,7 @@ loop-at-preserved c =
     let Q : Option (Item × ℕ) → Type 0 = λ r. IfSome r (λ x. (0 < x.1) × (c.loop-at.at + x.1 ≤ length c.args.units.now)) in
     let R : List Tile → Type 0 = λ ps. AreSoFar c.args.units.now ps (c.loop-at.at + c.in-Some.size) in
     let fits = subst Q c.in-Some.is c.in_ok-item.ensures.within in
-    subst R (sym c.in_ok-push-in-Some.ensures.items)
+    subst R (sym c.in_default.ensures.items)
     (one_more c.args.units.now c.loop-at.tiles.items c.loop-at.at c.in-Some.item c.in-Some.size c.loop-at.invariant (subst P c.in-Some.is c.in_ok-item.ensures.item) fits.0 fits.1)
 
 pub returns-in-None : goal.returns-in-None

@@ -1,4 +1,5 @@
-use Rattle.std.proofs.Common.{Some, ap, ◌∙◌}
+use Rattle.std.proofs.Common.{Some, ap, ◌∙◌, arith}
+use Rattle.std.proofs.lemmas.Grind.{common_steps}
 use Rattle.std.proofs.lemmas.Result.{IfOk-weaker}
 use Rattle.dv_top.specs.Answering.{AsGiven, ByTurns}
 use Rattle.dv_top.specs.Said.{ToBeListed, ToBeReplayed, ToBeRun, ToBeVerified}
@@ -25,3 +26,12 @@ returns-in-List-clause-said c words bytes is read =
 pub returns-in-Verify-clause-said : goal.returns-in-Verify-clause-said
 returns-in-Verify-clause-said c words bytes is read =
     IfOk-weaker c.reply_to_verifying.result _ _ (λ reply said. ToBeVerified (is ∙ ap Some c.in-Verify.is) said) (c.reply_to_verifying.ensures.said bytes read)
+
+pub returns-in-Run-clause-not_replayed : goal.returns-in-Run-clause-not_replayed
+returns-in-Run-clause-not_replayed c = grind (arith, common_steps)
+
+pub returns-in-Verify-clause-not_replayed : goal.returns-in-Verify-clause-not_replayed
+returns-in-Verify-clause-not_replayed c = grind (arith, common_steps)
+
+pub returns-in-List-clause-not_replayed : goal.returns-in-List-clause-not_replayed
+returns-in-List-clause-not_replayed c = grind (arith, common_steps)

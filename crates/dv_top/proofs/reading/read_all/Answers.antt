@@ -1,4 +1,5 @@
 use Rattle.std.proofs.Common.{arith, ap, length, take, ◌≤◌, Ok, ◌+◌, ◌∙◌, length-append}
+use Rattle.std.proofs.lemmas.Grind.{common_steps}
 use Rattle.std.proofs.lemmas.List.{length-take}
 use Rattle.dv_io.specs.Io.{after_taking}
 use Rattle.dv_top.specs.Said.{text_limit}
@@ -25,3 +26,27 @@ returns-then-n-eq0-clause-left g c =
 
 pub returns-clause-left : goal.returns-clause-left
 returns-clause-left g c = left_past (text_limit + 1) _ _ c.read.text.items c.read.invariant.1 (omega arith)
+
+pub read-init : goal.read-init
+read-init g c = grind (arith, common_steps)
+
+pub returns-in_err-n-clause-all : goal.returns-in_err-n-clause-all
+returns-in_err-n-clause-all g c = grind (arith, common_steps)
+
+pub returns-in_err-n-clause-left : goal.returns-in_err-n-clause-left
+returns-in_err-n-clause-left g c = grind (arith, common_steps)
+
+pub returns-in_err-n-clause-failed : goal.returns-in_err-n-clause-failed
+returns-in_err-n-clause-failed g c = grind (arith, common_steps)
+
+pub returns-then-n-eq0-clause-failed : goal.returns-then-n-eq0-clause-failed
+returns-then-n-eq0-clause-failed g c = grind (arith, common_steps)
+
+pub slice_bounds-extend_from_slice-end : goal.slice_bounds-extend_from_slice-end
+slice_bounds-extend_from_slice-end g c = grind (arith, common_steps)
+
+pub read-smaller : goal.read-smaller
+read-smaller g c = grind (arith, common_steps)
+
+pub returns-in_err-extend_from_slice-clause-all : goal.returns-in_err-extend_from_slice-clause-all
+returns-in_err-extend_from_slice-clause-all g c = grind (arith, common_steps)

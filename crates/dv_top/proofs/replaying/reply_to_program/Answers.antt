@@ -11,31 +11,31 @@ pub returns-in-Ok-clause-told : goal.returns-in-Ok-clause-told
 returns-in-Ok-clause-told c =
     let h = c.requires.main in
     let main = main_at c.in-Ok.verified.image c.args.program.image c.args.program.main.0 c.in-Ok.ensures.same h in
-    IfOk-weaker c.reply_of_replay.result _ _ (λ reply r. told_of_replay _ _ _ _ _ _ _ r) (c.reply_of_replay.ensures.replayed h.method main)
+    IfOk-weaker c.reply_of_replay-reply.result _ _ (λ reply r. told_of_replay _ _ _ _ _ _ _ r) (c.reply_of_replay-reply.ensures.replayed h.method main)
 
 pub returns-in-Ok-clause-idle : goal.returns-in-Ok-clause-idle
 returns-in-Ok-clause-idle c =
     let h = c.requires.main in
     let main = main_at c.in-Ok.verified.image c.args.program.image c.args.program.main.0 c.in-Ok.ensures.same h in
-    IfOk-weaker c.reply_of_replay.result _ _ (λ reply r. idle_of_replay _ _ _ _ _ _ _ r) (c.reply_of_replay.ensures.replayed h.method main)
+    IfOk-weaker c.reply_of_replay-reply.result _ _ (λ reply r. idle_of_replay _ _ _ _ _ _ _ r) (c.reply_of_replay-reply.ensures.replayed h.method main)
 
 pub returns-in-Ok-clause-entries : goal.returns-in-Ok-clause-entries
 returns-in-Ok-clause-entries c =
     let h = c.requires.main in
     let main = main_at c.in-Ok.verified.image c.args.program.image c.args.program.main.0 c.in-Ok.ensures.same h in
-    entries_of_replay c.reply_of_replay.result c.in-Ok.verified.image h.method c.args.limits.now c.items.result.now c.reply_of_replay.new.log.items (subst (λ (es : List Entry). All IsEntry es) (sym c.items.ensures) c.requires.schedule) (c.reply_of_replay.ensures.replayed h.method main) c.reply_of_replay.ensures.wanting
+    entries_of_replay c.reply_of_replay-reply.result c.in-Ok.verified.image h.method c.args.limits.now c.items.result.now c.reply_of_replay-reply.new.log.items (subst (λ (es : List Entry). All IsEntry es) (sym c.items.ensures) c.requires.schedule) (c.reply_of_replay-reply.ensures.replayed h.method main) c.reply_of_replay-reply.ensures.wanting
 
 pub returns-in-Ok-clause-said : goal.returns-in-Ok-clause-said
 returns-in-Ok-clause-said c bytes found small is =
     let h = c.requires.main in
     let main = main_at c.in-Ok.verified.image c.args.program.image c.args.program.main.0 c.in-Ok.ensures.same h in
-    IfOk-weaker c.reply_of_replay.result _ _ (λ reply r. said_replayed bytes found c.args.program c.in-Ok.verified.image c.items.result.now c.args.limits.now c.reply_of_replay.new.log.items h _ _ c.in-Ok.ensures.same c.items.ensures small is c.in-Ok.ensures.accepted r) (c.reply_of_replay.ensures.replayed h.method main)
+    IfOk-weaker c.reply_of_replay-reply.result _ _ (λ reply r. said_replayed bytes found c.args.program c.in-Ok.verified.image c.items.result.now c.args.limits.now c.reply_of_replay-reply.new.log.items h _ _ c.in-Ok.ensures.same c.items.ensures small is c.in-Ok.ensures.accepted r) (c.reply_of_replay-reply.ensures.replayed h.method main)
 
 pub returns-in-Ok-clause-legal : goal.returns-in-Ok-clause-legal
 returns-in-Ok-clause-legal c bytes found small is some =
     let h = c.requires.main in
     let main = main_at c.in-Ok.verified.image c.args.program.image c.args.program.main.0 c.in-Ok.ensures.same h in
-    log_of_replay bytes found c.args.program c.in-Ok.verified.image c.items.result.now c.args.limits.now c.reply_of_replay.new.log.items c.reply_of_replay.result h c.in-Ok.ensures.same c.items.ensures small is c.in-Ok.ensures.accepted (c.reply_of_replay.ensures.replayed h.method main) c.reply_of_replay.ensures.wanting some
+    log_of_replay bytes found c.args.program c.in-Ok.verified.image c.items.result.now c.args.limits.now c.reply_of_replay-reply.new.log.items c.reply_of_replay-reply.result h c.in-Ok.ensures.same c.items.ensures small is c.in-Ok.ensures.accepted (c.reply_of_replay-reply.ensures.replayed h.method main) c.reply_of_replay-reply.ensures.wanting some
 
 pub returns-clause-said : goal.returns-clause-said
 returns-clause-said c bytes found small is =

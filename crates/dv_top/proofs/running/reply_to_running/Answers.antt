@@ -1,3 +1,5 @@
+use Rattle.std.proofs.Common.{arith}
+use Rattle.std.proofs.lemmas.Grind.{common_steps}
 use Rattle.std.proofs.lemmas.Bool.{MatchBool-at_false, MatchBool-at_true}
 use Rattle.std.proofs.lemmas.Result.{IfOk-weaker}
 use Rattle.dv_top.specs.Programs.{program_to_run}
@@ -26,3 +28,6 @@ returns-in-Ok-clause-legal c bytes read some =
 pub returns-in-Err-clause-said : goal.returns-in-Err-clause-said
 returns-in-Err-clause-said c bytes read =
     IfOk-weaker c.no_program.result _ _ (λ reply told. NotRun (said_none bytes c.args.text.now (program_to_run c.args.class.now) c.in-Err.error reply.status reply.text.items read (MatchBool-at_false _ _ c.if-is_too_large.false c.is_too_large.ensures) c.in-Err.ensures.program told)) c.no_program.ensures
+
+pub returns-in-Err-clause-legal : goal.returns-in-Err-clause-legal
+returns-in-Err-clause-legal c = grind (arith, common_steps)

@@ -1,3 +1,4 @@
+use Rattle.std.proofs.lemmas.Grind.{common_steps}
 use Rattle.std.proofs.Common.{◌≡◌, List, [], map, take, ap, sym, ◌∙◌, arith}
 use Rattle.std.specs.Borrow.{Bor}
 use Rattle.std.proofs.lemmas.List.{take_all}
@@ -22,3 +23,12 @@ returns c =
     c.loop-catch.invariant ∙
     (ap (map (λ (x : Bor Catch). handler x.now)) (take_all c.loop-catch.catch-index group c.loop-catch-test.false) ∙
     (sym (map-map handler (λ (x : Bor Catch). x.now) group) ∙ ap (map handler) same))
+
+pub loop-catch-preserved : goal.loop-catch-preserved
+loop-catch-preserved c = grind (arith, common_steps)
+
+pub returns-in_err-handler_of : goal.returns-in_err-handler_of
+returns-in_err-handler_of c = grind (arith, common_steps)
+
+pub returns-in_err-push : goal.returns-in_err-push
+returns-in_err-push c = grind (arith, common_steps)

@@ -11,6 +11,6 @@ pub loop-k-preserved : goal.loop-k-preserved
 loop-k-preserved c address =
     let items = c.args.self.now in
     let k = c.loop-k.k in
-    c.in_ok-add_switch.ensures address ∙
+    c.in-Ok.ensures address ∙
     (ap (λ (place : Option ℕ). option_or place (when (is_address address (address_named_by items (item_at items k))) k)) (c.loop-k.invariant address) ∙
     sym (position_more (address_named_by items) (is_address address) items k (omega arith)))

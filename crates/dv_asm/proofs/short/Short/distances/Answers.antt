@@ -1,3 +1,4 @@
+use Rattle.std.proofs.lemmas.Grind.{common_steps}
 use Rattle.std.proofs.Common.{◌≡◌, ◌+◌, ◌<◌, ℕ, ℤ, List, [], ◌∷◌, ◌++◌, map, take, get_or, length, w32, arith, rules, ap, sym, ◌∙◌}
 use Rattle.std.proofs.lemmas.Int.{to_z-of_z}
 use Rattle.std.proofs.lemmas.List.{map_more}
@@ -14,3 +15,6 @@ pub loop-name-preserved : goal.loop-name-preserved
 loop-name-preserved c =
     let fits : SFits w32 c.distance.result = search rules in
     mapped (distance c.args.self.now c.args.from) c.args.names.now c.loop-name.name-index c.loop-name.distances.items c.push.new.self.items c.distance.result c.name-item.result (omega arith) c.name-item.is fits c.distance.ensures c.loop-name.invariant c.in_ok-push.ensures.items
+
+pub returns : goal.returns
+returns c = grind (arith, common_steps)

@@ -1,4 +1,4 @@
-use Rattle.std.proofs.Common.{◌≡◌, ◌+◌, ◌<◌, ℕ, zero, suc, List, [], ◌∷◌, ◌++◌, length, get_or, IsSome, refl, ap, ◌∙◌, subst, true, arith, below_more}
+use Rattle.std.proofs.Common.{◌≡◌, ◌+◌, ℕ, suc, List, [], ◌++◌, IsSome, ap, ◌∙◌, subst, arith, below_more}
 use Rattle.std.specs.Option.{unwrap_or}
 use Rattle.dv_asm.specs.declared.draft.Item.{Item}
 use Rattle.dv_asm.specs.declared.pools.Pools.{Pools}

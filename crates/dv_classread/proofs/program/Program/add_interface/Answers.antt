@@ -1,8 +1,9 @@
-use Rattle.dv_classread.proofs.Adding.{adds_interface, none_last, nowhere_interface}
+use Rattle.std.proofs.lemmas.Result.{on_ok_weaker}
+use Rattle.dv_classread.proofs.Adding.{adds_interface, nowhere_interface}
 use Rattle.dv_classread.proofs.program.Program.add_interface.Goals as goal
 
-pub returns-in_ok-push : goal.returns-in_ok-push
-returns-in_ok-push c = adds_interface c.args.self.now c.in-Some.class c.in-Some.is c.args.name c.push.new.self c.in_ok-push.ensures.ok
+pub returns-in-Some : goal.returns-in-Some
+returns-in-Some c = on_ok_weaker c.push.result (adds_interface c.args.self.now c.in-Some.class c.in-Some.is c.args.name c.push.new.self) c.push.ensures.ok
 
-pub returns-in_default : goal.returns-in_default
-returns-in_default c = nowhere_interface c.args.self.now c.args.name (none_last c.args.self.now.last c.in_default.not-Some)
+pub returns-in-None : goal.returns-in-None
+returns-in-None c = nowhere_interface c.args.self.now c.args.name c.in-None.is

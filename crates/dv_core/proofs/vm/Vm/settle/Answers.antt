@@ -1,4 +1,5 @@
-use Rattle.std.proofs.Common.{Ok, ap, ◌∙◌, subst}
+use Rattle.std.proofs.lemmas.Grind.{moves}
+use Rattle.std.proofs.Common.{Ok, ap, ◌∙◌, subst, arith}
 use Rattle.std.specs.Prelude.{slice_get}
 use Rattle.std.specs.declared.alloc.AllocError.{AllocError}
 use Rattle.dv_steps.specs.Answering.{Leads}
@@ -29,3 +30,6 @@ returns-in-ThrowRef-clause-ok c g own h x d seen at few led =
     settled_ref i (machine_with g old.steps old.stop old.limits) (machine_of c.fly.new.self) t own x (Leaves g old.guest own h) (Stays old.limits g old.guest) d o led'
     (λ stays. c.fly.ensures.machine own (ap (λ ts. slice_get ts t) stays.threads ∙ seen.there) few ∙
     flies_on i old.limits g old.guest old.steps old.stop old.limits t own h o seen stays)
+
+pub returns-in-Throw-clause-ordered : goal.returns-in-Throw-clause-ordered
+returns-in-Throw-clause-ordered c g own h x d seen at led = grind (arith, moves)

@@ -1,4 +1,5 @@
-use Rattle.std.proofs.Common.{ap, ◌∙◌, subst}
+use Rattle.std.proofs.lemmas.Grind.{moves}
+use Rattle.std.proofs.Common.{ap, sym, ◌∙◌, subst, arith}
 use Rattle.dv_defs.specs.Flow.{handlers_at}
 use Rattle.dv_words.specs.Stacks.{first}
 use Rattle.dv_frames.specs.Tops.{top_of}
@@ -11,26 +12,22 @@ use Rattle.dv_core.proofs.vm.Vm.step_flying.Goals as goal
 pub returns-in_default-clause-code : goal.returns-in_default-clause-code
 returns-in_default-clause-code c own h f seen levels few =
     let on = c.top_of.ensures own seen.there ∙ ap (λ ls. top_of (first ls)) levels in
-    let none = c.in_default.is in
-    absurd (cc)
+    absurd (cc (sym c.in_default.is ∙ on))
 
 pub returns-in_default-clause-record : goal.returns-in_default-clause-record
 returns-in_default-clause-record c own h k r seen levels fits few =
     let on = c.top_of.ensures own seen.there ∙ ap (λ ls. top_of (first ls)) levels in
-    let none = c.in_default.is in
-    absurd (cc)
+    absurd (cc (sym c.in_default.is ∙ on))
 
 pub returns-in_err-answer-clause-none : goal.returns-in_err-answer-clause-none
 returns-in_err-answer-clause-none c own ordered there levels =
     let on = c.top_of.ensures own there ∙ ap (λ ls. top_of (first ls)) levels in
-    let some = c.in-Some.is in
-    absurd (cc)
+    absurd (cc (sym c.in-Some.is ∙ on))
 
 pub returns-clause-none : goal.returns-clause-none
 returns-clause-none c own ordered there levels =
     let on = c.top_of.ensures own there ∙ ap (λ ls. top_of (first ls)) levels in
-    let some = c.in-Some.is in
-    absurd (cc)
+    absurd (cc (sym c.in-Some.is ∙ on))
 
 pub returns-clause-code : goal.returns-clause-code
 returns-clause-code c own h f seen levels few =
@@ -57,3 +54,6 @@ returns-clause-record c own h d r seen levels fits few =
     (c.step_flight.ensures.record own h d r (seen_by i old.limits old.guest t own h seen) levels fits) in
     let led' = subst (λ q. Unwinds q u (Leaves old.guest k own h) (Stays old.limits old.guest k)) c.in_ok-answer.was led in
     (c.settle_flight.ensures.machine i old.guest own h u seen few led', c.settle_flight.ensures.ordered i old.guest own h u seen led')
+
+pub returns-in_err-answer-clause-record : goal.returns-in_err-answer-clause-record
+returns-in_err-answer-clause-record c own h f seen levels few = grind (arith, moves)

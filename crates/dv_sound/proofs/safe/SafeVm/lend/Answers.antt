@@ -10,11 +10,11 @@ use Rattle.dv_sound.specs.Runs.{IsAt, Run}
 use Rattle.dv_sound.proofs.Lent.{first_local, first_of, kept_lent, lends, run_lent}
 use Rattle.dv_sound.proofs.safe.SafeVm.lend.Goals as goal
 
-at_home : (c : goal.In_ok-push) → All (λ (u : ℕ). u ≢ c.args.thread) c.self.inside.lent.items
+at_home : (c : goal.In_default-push) → All (λ (u : ℕ). u ≢ c.args.thread) c.self.inside.lent.items
 at_home c = subst (λ (r : Run). All (λ (u : ℕ). u ≢ c.args.thread) r.lent) (sym c.self.view_is) (c.is_lent.ensures.0 c.if-is_lent.false)
 
 -- the slice that was given, told of the image that is kept
-first_here : (c : goal.In_ok-push) → IsFirstOf (Some c.in-Some.slice) c.self.inside.verified.now.image c.self.invariant.machine c.self.inside.vm c.args.thread
+first_here : (c : goal.In_default-push) → IsFirstOf (Some c.in-Some.slice) c.self.inside.verified.now.image c.self.invariant.machine c.self.inside.vm c.args.thread
 first_here c =
     let k = c.self.invariant in
     let image = ap (λ (x : VerifiedValue). x.image) (c.verified.view_is ∙ c.verified-verified.ensures ∙ ap (λ (r : Run). r.verified) (sym c.self.view_is)) in
@@ -36,7 +36,7 @@ returns-in_default-clause-exact c =
 pub invariant_of-self-2 : goal.invariant_of-self-2
 invariant_of-self-2 c =
     let local = first_local c.self.inside.verified.now.image c.self.invariant.machine c.self.inside.vm c.args.thread c.in-Some.slice (first_here c) in
-    kept_lent c.self.inside.verified.now.image c.self.inside.main c.self.inside.vm c.self.inside.log.items c.self.inside.lent.items c.push.new.self.items c.args.thread c.self.invariant local c.in_ok-push.ensures.items
+    kept_lent c.self.inside.verified.now.image c.self.inside.main c.self.inside.vm c.self.inside.log.items c.self.inside.lent.items c.push.new.self.items c.args.thread c.self.invariant local c.in_default-push.ensures.items
 
 pub returns-clause-exact : goal.returns-clause-exact
 returns-clause-exact c =
@@ -47,4 +47,4 @@ pub returns-clause-lent : goal.returns-clause-lent
 returns-clause-lent c =
     let now : Run = record { verified = c.self.inside.verified.now; main = c.self.inside.main; machine = machine_of c.self.inside.vm; log = c.self.inside.log.items; lent = c.push.new.self.items } in
     subst (λ (r : Run). IsLent r now c.args.thread c.in-Some.slice) c.self.view_is
-    (run_lent _ c.self.inside.vm c.self.invariant refl c.args.thread (at_home c) c.in-Some.slice c.push.new.self.items (first_here c) c.in_ok-push.ensures.items)
+    (run_lent _ c.self.inside.vm c.self.invariant refl c.args.thread (at_home c) c.in-Some.slice c.push.new.self.items (first_here c) c.in_default-push.ensures.items)

@@ -1,0 +1,10 @@
+use Rattle.std.proofs.lemmas.Result.{err_from_is_err_and}
+use Rattle.dv_coderead.proofs.body.read_line.Goals as goal
+
+pub returns : goal.returns
+returns c = record { says = c.in_ok-says.says; is = c.in_ok-says.ensures.exact; adds = c.in_ok-add.ensures }
+
+pub returns-in_err-says : goal.returns-in_err-says
+returns-in_err-says c =
+    let p = err_from_is_err_and c.from_residual.result c.from_residual.ensures.1 in
+    rw (p.1, p.2) c.in_err-says.ensures.exact

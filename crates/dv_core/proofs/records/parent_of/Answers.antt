@@ -1,0 +1,10 @@
+-- Answers that search takes long to find.
+use Rattle.std.proofs.lemmas.Grind.{elements}
+use Rattle.std.proofs.Common.{arith}
+use Rattle.dv_core.proofs.records.parent_of.Goals as goal
+
+pub returns : goal.returns
+returns c = grind (arith, elements)
+
+pub returns-in_err-get : goal.returns-in_err-get
+returns-in_err-get c = grind (arith, elements)

@@ -1,7 +1,0 @@
-use Rattle.std.proofs.Common.{◌≡◌, take}
-use Rattle.std.specs.List.{flat_map}
-use Rattle.dv_print.specs.Listing.{field_line}
-use Rattle.dv_print.proofs.members.field_lines.Given as goal
-
-abbrev pub invariant-loop-field : goal.invariant-loop-field
-invariant-loop-field l = l.text.items ≡ flat_map field_line (take l.field-index l.fields)

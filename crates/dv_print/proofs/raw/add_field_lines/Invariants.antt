@@ -1,0 +1,7 @@
+use Rattle.std.proofs.Common.{◌≡◌, ◌++◌, take}
+use Rattle.std.specs.List.{flat_map}
+use Rattle.dv_print.specs.Raw.{field_ref_line}
+use Rattle.dv_print.proofs.raw.add_field_lines.Given as goal
+
+abbrev pub invariant-loop-field : goal.invariant-loop-field
+invariant-loop-field l = l.text.items ≡ l.fn.text.items ++ flat_map field_ref_line (take l.field-index l.fields)

@@ -1,7 +1,0 @@
-use Rattle.std.proofs.Common.{◌≡◌, ◌++◌, codes, take}
-use Rattle.std.specs.List.{flat_map}
-use Rattle.dv_names.specs.Written.{unit_text}
-use Rattle.dv_print.proofs.references.string_text.Given as goal
-
-abbrev pub invariant-loop-unit : goal.invariant-loop-unit
-invariant-loop-unit l = l.text.items ≡ codes "\"" ++ flat_map unit_text (take l.unit-index l.unit-items)
