@@ -55,15 +55,12 @@ def weights():
 
 
 def chains(every):
-    """By crate, the seconds of the longest chain of crates that ends with it, and of the one that begins with it."""
-    took, ends, begins = weights(), {}, {}
-    seconds = lambda it: took.get(it.name) or it.lines() // 25
-    for it in every.values():
-        ends[it.name] = seconds(it) + max((ends[dep.name] for dep in it.deps), default=0)
+    """By crate, the seconds of the longest chain of crates that begins with it."""
+    took, begins = weights(), {}
     for it in reversed([*every.values()]):
         above = [begins[other.name] for other in every.values() if it in other.deps]
-        begins[it.name] = seconds(it) + max(above, default=0)
-    return {it.name: ends[it.name] + begins[it.name] - seconds(it) for it in every.values()}, begins
+        begins[it.name] = (took.get(it.name) or it.lines() // 25) + max(above, default=0)
+    return begins
 
 
 class Proving:
@@ -76,16 +73,12 @@ class Proving:
         self.left = [it for it in wanted.values() if not is_kept(it, self.sums)]
         self.done = {it for it in wanted if wanted[it] not in self.left}
         self.number = len(self.left)
-        self.through, begins = chains({it: wanted[it] for it in every if it in wanted})
+        begins = chains({it: wanted[it] for it in every if it in wanted})
         self.left.sort(key=lambda it: -begins[it.name])
-
-    def jobs_of(self, crate, most):
-        """A crate on the longest chain, or near to it, gets all processors: everything waits for it."""
-        return most if self.through[crate.name] >= 0.9 * max(self.through.values()) else 1
 
     def told(self, crate, seconds):
         self.done.add(crate.name)
-        now = ", ".join(sorted(it.name for it in self.running.values()))
+        now = ", ".join(sorted(it.name for it, _ in self.running.values()))
         rest = f"{len(self.left) + len(self.running)} of {self.number} are left after {minutes(time.time() - self.began)}"
         say(f"{self.head}: {crate.name} is proved, in {minutes(seconds)}; {rest}{f', now {now}' if now else ''}")
 
@@ -95,11 +88,15 @@ class Proving:
         with ThreadPoolExecutor(most) as pool:
             while self.left or self.running:
                 ready = [it for it in self.left if all(dep.name in self.done for dep in it.deps)]
-                for crate in ready[: most - len(self.running)]:
+                idle = most - sum(jobs for _, jobs in self.running.values())
+                for at, crate in enumerate(ready[:idle]):
+                    # (several jobs for one crate cost more in all, so only where processors would be idle)
+                    jobs = max(1, (idle - at) // (len(ready) - at))
                     self.left.remove(crate)
-                    self.running[pool.submit(prove, crate, self.sums, self.jobs_of(crate, most))] = crate
+                    self.running[pool.submit(prove, crate, self.sums, jobs)] = crate, jobs
+                    idle -= jobs - 1
                 for it in wait(self.running, return_when=FIRST_COMPLETED).done:
-                    crate = self.running.pop(it)
+                    crate, _ = self.running.pop(it)
                     if it.result() is None:
                         say(f"{self.head}: {crate.name} is not proved:\n{text_of(f'{BUILT}/{crate.name}.said')[-3000:]}")
                         return False
