@@ -3,11 +3,11 @@ use Rattle.std.proofs.Common.{◌≡◌, Bool, true, false, cond, List, [], ◌�
 use Rattle.std.specs.Borrow.{Bor}
 use Rattle.dv_defs.specs.declared.names.Ty.{Ty}
 use Rattle.dv_defs.specs.Types.{ty_eq}
-use Rattle.dv_asm.specs.declared.draft.Item.{Item}
-use Rattle.dv_asm.specs.declared.draft.Catch.{Catch}
+use Rattle.dv_draft.specs.declared.draft.Item.{Item}
+use Rattle.dv_draft.specs.declared.draft.Catch.{Catch}
 use Rattle.dv_asm.specs.declared.tries.TryRange.{TryRange}
 use Rattle.dv_asm.specs.Refusals.{range_of, is_same}
-use Rattle.dv_asm.specs.Pools.{with_entry_if_any, with_entries}
+use Rattle.dv_draft.specs.Pools.{with_entry_if_any, with_entries}
 use Rattle.dv_asm.specs.Layout.{kind_in, catches_of}
 
 -- the type that a handler catches, by a reference to it

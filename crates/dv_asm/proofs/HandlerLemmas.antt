@@ -6,12 +6,13 @@ use Rattle.dv_defs.specs.declared.code.Try.{Try}
 use Rattle.dv_defs.specs.Body.{KindIn, KindsIn, IsBody}
 use Rattle.dv_defs.specs.Types.{of_base, ty_eq}
 use Rattle.dv_defs.specs.declared.names.Base.TheVariants as base
-use Rattle.dv_asm.specs.declared.draft.Item.{Item}
-use Rattle.dv_asm.specs.declared.draft.Catch.{Catch}
+use Rattle.dv_draft.specs.declared.draft.Item.{Item}
+use Rattle.dv_draft.specs.declared.draft.Catch.{Catch}
 use Rattle.dv_asm.specs.declared.tries.TryRange.{TryRange}
 use Rattle.dv_asm.specs.Refusals.{too_long}
-use Rattle.dv_asm.specs.declared.pools.Pools.{Pools}
-use Rattle.dv_asm.specs.Layout.{handler_of, entry_of, catches_of, units_of, pools_of, types_of, tries_of, sorted_ranges, with_kinds, body_with, body_of}
+use Rattle.dv_draft.specs.declared.pools.Pools.{Pools}
+use Rattle.dv_draft.specs.Pools.{pools_of}
+use Rattle.dv_asm.specs.Layout.{handler_of, entry_of, catches_of, units_of, types_of, tries_of, sorted_ranges, with_kinds, body_with, body_of}
 use Rattle.dv_asm.proofs.PlaceLemmas.{ends_within}
 use Rattle.dv_asm.proofs.UnitLemmas.{units_within}
 

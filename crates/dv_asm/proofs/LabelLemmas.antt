@@ -7,7 +7,7 @@ use Rattle.std.proofs.lemmas.List.{map_more, length-map, take_more, length-take-
 use Rattle.std.proofs.lemmas.List.Folds.{position_or_len_push}
 use Rattle.std.proofs.lemmas.List.Sums.{prefix_len-le-length}
 use Rattle.std.proofs.lemmas.Bool.Decides.{nat_tests}
-use Rattle.dv_asm.specs.declared.draft.Item.{Item}
+use Rattle.dv_draft.specs.declared.draft.Item.{Item}
 use Rattle.dv_asm.specs.First.{when}
 use Rattle.dv_asm.specs.Items.{item_at, no_item, is_named}
 use Rattle.dv_asm.specs.Places.{place_of}

@@ -1,5 +1,4 @@
 pub mod FirstLemmas
-pub mod KeyLemmas
 pub mod LabelLemmas
 pub mod PlaceLemmas
 pub mod Respelled

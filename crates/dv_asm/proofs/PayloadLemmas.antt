@@ -8,7 +8,7 @@ use Rattle.dv_defs.specs.Spelling.{fits_signed, all_fit}
 use Rattle.dv_defs.specs.Tiling.{is_width}
 use Rattle.dv_defs.specs.Payloads.{packed_spelling, sparse_spelling, data_spelling, all_fit_signed, where_fits}
 use Rattle.dv_defs.proofs.PayloadLaws.{both, where_it_fits}
-use Rattle.dv_asm.specs.declared.draft.Item.{Item}
+use Rattle.dv_draft.specs.declared.draft.Item.{Item}
 use Rattle.dv_asm.specs.Places.{label_address, distance}
 use Rattle.dv_asm.specs.Refusals.{too_long}
 use Rattle.dv_asm.proofs.PlaceLemmas.{label_within}

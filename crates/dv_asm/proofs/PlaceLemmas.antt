@@ -3,7 +3,7 @@ use Rattle.std.proofs.Common.{◌≡◌, ◌+◌, ◌≤◌, ◌<◌, ◌^◌, �
 use Rattle.std.specs.Option.{option_map_or}
 use Rattle.std.proofs.lemmas.List.Quantifiers.{position-Some}
 use Rattle.std.proofs.lemmas.Bool.Decides.{nat_tests}
-use Rattle.dv_asm.specs.declared.draft.Item.{Item}
+use Rattle.dv_draft.specs.declared.draft.Item.{Item}
 use Rattle.dv_asm.specs.Items.{item_at, size_of, no_item, is_named}
 use Rattle.dv_asm.specs.Places.{end_of, address_of, aligned, leads_to_payload, place_of, label_address}
 use Rattle.dv_asm.specs.Refusals.{passes, too_long_at, too_long}

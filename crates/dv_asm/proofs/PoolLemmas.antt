@@ -9,21 +9,21 @@ use Rattle.dv_defs.specs.Formats.{size_at}
 use Rattle.dv_defs.specs.Spelling.{spelling}
 use Rattle.dv_defs.specs.Types.{ty_eq}
 use Rattle.dv_defs.proofs.TilingLaws.{insn_positive}
-use Rattle.dv_asm.specs.declared.draft.Item.{Item}
-use Rattle.dv_asm.specs.declared.draft.Draftop.{Draftop}
-use Rattle.dv_asm.specs.declared.draft.What.{What}
-use Rattle.dv_asm.specs.declared.draft.What.TheVariants as what
-use Rattle.dv_asm.specs.declared.draft.PoolRef.{PoolRef}
-use Rattle.dv_asm.specs.declared.draft.PoolRef.TheVariants as pool
-use Rattle.dv_asm.specs.declared.pools.Pools.{Pools}
-use Rattle.dv_asm.specs.Draft.{AreFormed, IsFormed, blank, is_entry}
+use Rattle.dv_draft.specs.declared.draft.Item.{Item}
+use Rattle.dv_draft.specs.declared.draft.Draftop.{Draftop}
+use Rattle.dv_draft.specs.declared.draft.What.{What}
+use Rattle.dv_draft.specs.declared.draft.What.TheVariants as what
+use Rattle.dv_draft.specs.declared.draft.PoolRef.{PoolRef}
+use Rattle.dv_draft.specs.declared.draft.PoolRef.TheVariants as pool
+use Rattle.dv_draft.specs.declared.pools.Pools.{Pools}
+use Rattle.dv_draft.specs.Draft.{AreFormed, IsFormed, blank, is_entry}
 use Rattle.dv_asm.specs.Items.{item_at, no_item, size_of}
 use Rattle.dv_asm.specs.Places.{end_of}
 use Rattle.dv_asm.specs.Refusals.{too_long}
-use Rattle.dv_asm.specs.Pools.{with_entry_if_any, with_entries, pool_ref, chars_in, type_in, field_in, method_in, index_of}
+use Rattle.dv_draft.specs.Pools.{with_entry_if_any, with_entries, pool_ref, chars_in, type_in, field_in, method_in, index_of}
 use Rattle.dv_defs.specs.Entries.{with_entry}
 use Rattle.dv_defs.specs.Types.{field_eq, method_eq}
-use Rattle.dv_asm.specs.Layout.{pools_of}
+use Rattle.dv_draft.specs.Pools.{pools_of}
 use Rattle.dv_asm.proofs.PlaceLemmas.{aligned_above, ends_within}
 use Rattle.dv_asm.proofs.UnitLemmas.{insn_size}
 

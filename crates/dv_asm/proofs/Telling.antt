@@ -3,9 +3,9 @@ use Rattle.std.proofs.Common.{◌≡◌, List, Option, Some, None, Result, Ok, E
 use Rattle.std.specs.Option.{option_or}
 use Rattle.dv_defs.specs.declared.faults.LineError.{LineError}
 use Rattle.dv_defs.specs.declared.faults.LineError.TheVariants as error
-use Rattle.dv_asm.specs.declared.draft.Item.{Item}
-use Rattle.dv_asm.specs.declared.draft.Catch.{Catch}
-use Rattle.dv_asm.specs.Draft.{DraftValue}
+use Rattle.dv_draft.specs.declared.draft.Item.{Item}
+use Rattle.dv_draft.specs.declared.draft.Catch.{Catch}
+use Rattle.dv_draft.specs.Draft.{DraftValue}
 use Rattle.dv_asm.specs.Refusals.{Refusal, Tells, Checks, label_refusal, item_refusal, range_refusal, refusal}
 
 or_found : (a b : Option Refusal) (r : Refusal) → a ≡ Some r → option_or a b ≡ Some r

@@ -10,10 +10,10 @@ use Rattle.dv_defs.proofs.TilingLaws.{tiles_found}
 use Rattle.dv_defs.specs.Tiling as tiling
 use Rattle.dv_defs.specs.Tiling.{IsInsn, IsPayload, Tile}
 use Rattle.dv_defs.specs.Layout.{AreTiles, item_spelling}
-use Rattle.dv_asm.specs.declared.draft.Item.{Item}
-use Rattle.dv_asm.specs.declared.draft.What.{What}
-use Rattle.dv_asm.specs.declared.draft.What.TheVariants as what
-use Rattle.dv_asm.specs.declared.pools.Pools.{Pools}
+use Rattle.dv_draft.specs.declared.draft.Item.{Item}
+use Rattle.dv_draft.specs.declared.draft.What.{What}
+use Rattle.dv_draft.specs.declared.draft.What.TheVariants as what
+use Rattle.dv_draft.specs.declared.pools.Pools.{Pools}
 use Rattle.dv_asm.specs.Items.{item_at, size_of}
 use Rattle.dv_asm.specs.Places.{end_of, address_of}
 use Rattle.dv_asm.specs.Layout.{AreSpelled, spelling_of, units_of, padded}

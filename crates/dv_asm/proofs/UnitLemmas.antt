@@ -13,10 +13,10 @@ use Rattle.dv_defs.proofs.SpellingLaws.{spelled_in}
 use Rattle.dv_defs.proofs.PayloadLaws.{where_fits_is}
 use Rattle.dv_defs.proofs.PayloadNumbers.{length_numbers}
 use Rattle.dv_defs.proofs.PayloadBytes.{length_bytes}
-use Rattle.dv_asm.specs.declared.draft.Item.{Item}
-use Rattle.dv_asm.specs.declared.draft.What.{What}
-use Rattle.dv_asm.specs.declared.draft.What.TheVariants as what
-use Rattle.dv_asm.specs.declared.pools.Pools.{Pools}
+use Rattle.dv_draft.specs.declared.draft.Item.{Item}
+use Rattle.dv_draft.specs.declared.draft.What.{What}
+use Rattle.dv_draft.specs.declared.draft.What.TheVariants as what
+use Rattle.dv_draft.specs.declared.pools.Pools.{Pools}
 use Rattle.dv_asm.specs.Items.{item_at, size_of}
 use Rattle.dv_asm.specs.Places.{end_of, address_of, distance}
 use Rattle.dv_asm.specs.Layout.{spelling_of, units_of, padded, base_of, targets_of, insn_of}

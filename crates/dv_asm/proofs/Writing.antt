@@ -4,15 +4,16 @@ use Rattle.std.specs.Option.{option_or}
 use Rattle.dv_defs.specs.declared.faults.LineKind.{LineKind}
 use Rattle.dv_defs.specs.declared.faults.LineKind.TheVariants as kind
 use Rattle.dv_defs.specs.Formats.{format_at}
-use Rattle.dv_asm.specs.declared.draft.Item.{Item}
-use Rattle.dv_asm.specs.declared.draft.What.{What}
-use Rattle.dv_asm.specs.declared.draft.What.TheVariants as what
-use Rattle.dv_asm.specs.Draft.{AreFormed, IsFormed}
+use Rattle.dv_draft.specs.declared.draft.Item.{Item}
+use Rattle.dv_draft.specs.declared.draft.What.{What}
+use Rattle.dv_draft.specs.declared.draft.What.TheVariants as what
+use Rattle.dv_draft.specs.Draft.{AreFormed, IsFormed}
 use Rattle.dv_defs.specs.Formats.{has_offset}
 use Rattle.dv_asm.specs.Items.{item_at, no_item, size_of}
 use Rattle.dv_asm.specs.Refusals.{refused, item_refusal, is_over_registers, register_range_at, register_range, offset_fits, is_over_offset, offset_range_at, offset_range, too_long, repeated}
-use Rattle.dv_asm.specs.Layout.{IsWritable, AreWritable, pools_of, offset_of}
-use Rattle.dv_asm.specs.Pools.{index_of}
+use Rattle.dv_draft.specs.Pools.{pools_of}
+use Rattle.dv_asm.specs.Layout.{IsWritable, AreWritable, offset_of}
+use Rattle.dv_draft.specs.Pools.{index_of}
 use Rattle.dv_asm.proofs.FirstLemmas.{first_line_none, not_when}
 use Rattle.dv_asm.proofs.PlaceLemmas.{ends_within}
 use Rattle.dv_asm.proofs.PoolLemmas.{index_small, index_none}

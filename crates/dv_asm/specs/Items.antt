@@ -1,9 +1,9 @@
 -- What the items of a draft are.
 use Rattle.std.specs.Prelude.{ℕ, ◌+◌, ◌*◌, ◌/◌, Bool, true, false, ◌||◌, nat_eq, List, [], length, bytes_eq, slice_index_or, Option, None}
 use Rattle.dv_defs.specs.Formats.{size_at}
-use Rattle.dv_asm.specs.declared.draft.Item.{Item}
-use Rattle.dv_asm.specs.declared.draft.What.{What}
-use Rattle.dv_asm.specs.declared.draft.What.TheVariants as what
+use Rattle.dv_draft.specs.declared.draft.Item.{Item}
+use Rattle.dv_draft.specs.declared.draft.What.{What}
+use Rattle.dv_draft.specs.declared.draft.What.TheVariants as what
 
 -- an item that stands where a list has none
 abbrev pub no_item : Item

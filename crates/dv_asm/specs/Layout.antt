@@ -1,5 +1,5 @@
 -- The body that a draft is assembled to.
-use Rattle.std.specs.Prelude.{ℕ, zero, suc, ◌≡◌, ◌<◌, ◌%◌, ◌^◌, ◌++◌, ℤ, pos, Bool, false, nat_le, nat_lt, List, [], ◌∷◌, length, map, filter, fold, insert, position, slice_get, unwrap_or, bytes_eq, Option, Some, None, IsSome, IsTrue, if◌then◌else◌}
+use Rattle.std.specs.Prelude.{ℕ, zero, suc, ◌≡◌, ◌<◌, ◌%◌, ◌^◌, ◌++◌, ℤ, pos, Bool, false, nat_le, nat_lt, List, [], ◌∷◌, length, map, filter, fold, insert, position, slice_get, unwrap_or, Option, Some, None, IsSome, IsTrue, if◌then◌else◌}
 use Rattle.std.specs.Option.{option_map_or, option_and_then}
 use Rattle.dv_defs.specs.declared.code.Insn.{Insn}
 use Rattle.dv_defs.specs.declared.code.Payload.{Payload}
@@ -12,19 +12,18 @@ use Rattle.dv_defs.specs.Types.{ty_eq}
 use Rattle.dv_defs.specs.Spelling.{spelling}
 use Rattle.dv_defs.specs.Payloads.{payload_spelling}
 use Rattle.dv_defs.specs.Tiling.{is_width}
-use Rattle.dv_asm.specs.declared.draft.Item.{Item}
-use Rattle.dv_asm.specs.declared.draft.Catch.{Catch}
-use Rattle.dv_asm.specs.declared.draft.Draftop.{Draftop}
-use Rattle.dv_asm.specs.declared.draft.What.{What}
-use Rattle.dv_asm.specs.declared.draft.What.TheVariants as what
+use Rattle.dv_draft.specs.declared.draft.Item.{Item}
+use Rattle.dv_draft.specs.declared.draft.Catch.{Catch}
+use Rattle.dv_draft.specs.declared.draft.Draftop.{Draftop}
+use Rattle.dv_draft.specs.declared.draft.What.{What}
+use Rattle.dv_draft.specs.declared.draft.What.TheVariants as what
 use Rattle.dv_asm.specs.declared.tries.TryRange.{TryRange}
-use Rattle.dv_asm.specs.declared.pools.Pools.{Pools}
-use Rattle.dv_asm.specs.Draft.{DraftValue}
+use Rattle.dv_draft.specs.declared.pools.Pools.{Pools}
+use Rattle.dv_draft.specs.Draft.{DraftValue}
 use Rattle.dv_asm.specs.Items.{item_at}
 use Rattle.dv_asm.specs.Places.{address_of, label_address, distance}
 use Rattle.dv_asm.specs.Refusals.{with_operands, switch_of, range_of, ranges_of, is_same}
-use Rattle.dv_asm.specs.Pools.{with_entries, chars_of, type_of, field_of, method_of, index_of}
-use Rattle.dv_defs.specs.Types.{field_eq, method_eq}
+use Rattle.dv_draft.specs.Pools.{with_entries, index_of, pools_of}
 
 abbrev pub begins_from : TryRange → TryRange → Bool
 begins_from r s = nat_le r.start s.start
@@ -53,15 +52,6 @@ kind_in items r c = if is_same (range_of items c) r then c.kind else None
 abbrev pub with_kinds : List Item → List Catch → List Ty → List TryRange → List Ty
 with_kinds items catches ts [] = ts
 with_kinds items catches ts (r ∷ rs) = with_kinds items catches (with_entries ty_eq (kind_in items r) ts catches) rs
-
--- what the instructions name
-unfoldable pub pools_of : List Item → Pools
-pools_of items = record {
-  strings = with_entries bytes_eq chars_of [] items;
-  types = with_entries ty_eq type_of [] items;
-  fields = with_entries field_eq field_of [] items;
-  methods = with_entries method_eq method_of [] items;
-}
 
 -- the pool of types: what the instructions name, and then the types of the handlers, by the ranges' starts
 abbrev pub types_of : List Item → List Catch → List Ty

@@ -1,10 +1,8 @@
 pub mod First
 pub mod Items
-pub mod Draft
 pub mod Places
 pub mod Refusals
 pub mod Switches
-pub mod Pools
 pub mod Layout
 pub mod Ranges
 pub mod Tiles

@@ -3,8 +3,8 @@ use Rattle.std.specs.Prelude.{ℕ, ◌≡◌, ◌<◌, ◌≤◌, List, [], ◌�
 use Rattle.std.specs.Borrow.{Bor}
 use Rattle.std.specs.Global.{Vec}
 use Rattle.indexmap.specs.IndexMap.{IndexMap, get}
-use Rattle.dv_asm.specs.declared.draft.Item.{Item}
-use Rattle.dv_asm.specs.declared.draft.Catch.{Catch}
+use Rattle.dv_draft.specs.declared.draft.Item.{Item}
+use Rattle.dv_draft.specs.declared.draft.Catch.{Catch}
 use Rattle.dv_asm.specs.declared.tries.TryRange.{TryRange}
 use Rattle.dv_asm.specs.Refusals.{is_same}
 use Rattle.dv_asm.specs.Layout.{catches_of}

@@ -9,12 +9,12 @@ use Rattle.dv_defs.specs.declared.faults.LineError.{LineError}
 use Rattle.dv_defs.specs.declared.faults.LineError.TheVariants as error
 use Rattle.dv_defs.specs.Spelling.{spelling, fits_signed}
 use Rattle.dv_defs.specs.Formats.{offset_bits}
-use Rattle.dv_asm.specs.declared.draft.Item.{Item}
-use Rattle.dv_asm.specs.declared.draft.Catch.{Catch}
-use Rattle.dv_asm.specs.declared.draft.What.{What}
-use Rattle.dv_asm.specs.declared.draft.What.TheVariants as what
+use Rattle.dv_draft.specs.declared.draft.Item.{Item}
+use Rattle.dv_draft.specs.declared.draft.Catch.{Catch}
+use Rattle.dv_draft.specs.declared.draft.What.{What}
+use Rattle.dv_draft.specs.declared.draft.What.TheVariants as what
 use Rattle.dv_asm.specs.declared.tries.TryRange.{TryRange}
-use Rattle.dv_asm.specs.Draft.{DraftValue}
+use Rattle.dv_draft.specs.Draft.{DraftValue}
 use Rattle.dv_asm.specs.First.{first_line, earlier, when, any_below}
 use Rattle.dv_asm.specs.Items.{item_at, is_payload, size_of}
 use Rattle.dv_asm.specs.Places.{address_of, place_of, label_address, distance, address_named_by}

@@ -2,7 +2,7 @@
 use Rattle.std.specs.Prelude.{ℕ, ◌≡◌, nat_eq, List}
 use Rattle.indexmap.specs.IndexMap.{IndexMap, get}
 use Rattle.indexmap.specs.IndexSet.{IndexSet, contains}
-use Rattle.dv_asm.specs.declared.draft.Item.{Item}
+use Rattle.dv_draft.specs.declared.draft.Item.{Item}
 use Rattle.dv_asm.specs.Refusals.{switch_of, stands_payload}
 
 -- the addresses that switches name, each with the place of the first switch that names it

@@ -3,15 +3,15 @@ ghost use Rattle.std.specs.Prelude.{◌≡◌, ◌≤◌, None, Ok, length, map,
 ghost use Rattle.dv_defs.specs.Tiling.{tiling};
 ghost use Rattle.dv_defs.specs.Body.{IsBody};
 ghost use Rattle.dv_asm.specs.Refusals.{Checks, Tells, label_refusal, item_refusal, range_refusal, refusal};
-ghost use Rattle.dv_asm.specs.Layout.{AreWritable, layout, body_of, body_with, pools_of, with_kinds, entry_of, units_of, sorted_ranges};
+ghost use Rattle.dv_draft.specs.Pools.{pools_of};
+ghost use Rattle.dv_asm.specs.Layout.{AreWritable, layout, body_of, body_with, with_kinds, entry_of, units_of, sorted_ranges};
 ghost use Rattle.dv_asm.specs.Ranges.{ranges_in};
 ghost use Rattle.dv_asm.specs.Tiles.{tiles, tiles_of};
 
 use crate::catches::Catches;
-use crate::draft::{Catch, Draft};
+use dv_draft::{Catch, Draft, Pools};
 use crate::lines::refuse;
 use crate::places::Places;
-use crate::pools::Pools;
 use crate::short::Short;
 use crate::switches::Switches;
 use dv_defs::{Body, LineError, LineKind, Seq, Try};

@@ -7,7 +7,7 @@ ghost use Rattle.dv_asm.specs.Refusals.{Checks, refused, catch_at, range_of, ran
 ghost use Rattle.dv_asm.specs.Layout.{with_range, sorted_ranges};
 ghost use Rattle.dv_asm.specs.Ranges.{AreApart, AreGroups, ranges_in};
 
-use crate::draft::Catch;
+use dv_draft::Catch;
 use crate::lines::{first_line, when};
 use crate::short::Short;
 use crate::tries::TryRange;

@@ -1,13 +1,12 @@
 // Try entries and the types that their handlers catch.
 ghost use Rattle.std.specs.Prelude.{◌≡◌, map, IfOk, OnOk};
 ghost use Rattle.dv_defs.specs.Types.{ty_eq};
-ghost use Rattle.dv_asm.specs.Pools.{with_entries};
+ghost use Rattle.dv_draft.specs.Pools.{with_entries};
 ghost use Rattle.dv_asm.specs.Layout.{kind_in, with_kinds, catches_of, handler_of, entry_of};
 ghost use Rattle.dv_asm.specs.Ranges.{ranges_in};
 
 use crate::catches::Catches;
-use crate::draft::Catch;
-use crate::pools::index;
+use dv_draft::{Catch, index};
 use crate::short::Short;
 use crate::tries::TryRange;
 use dv_defs::{Handler, Pool, Seq, Try, Ty};

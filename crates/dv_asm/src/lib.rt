@@ -3,7 +3,6 @@
 
 mod assembling;
 mod catches;
-mod draft;
 mod groups;
 mod handlers;
 mod items;
@@ -12,7 +11,6 @@ mod laws;
 mod lines;
 mod payloads;
 mod places;
-mod pools;
 mod ranges;
 mod short;
 mod switches;
@@ -20,6 +18,4 @@ mod tries;
 mod units;
 
 pub use assembling::assemble;
-pub use draft::{Catch, Draft, Draftop, Item, PoolRef, What};
 pub use laws::units_are_items;
-pub use pools::{Pools, index};

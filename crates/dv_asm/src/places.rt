@@ -6,7 +6,7 @@ ghost use Rattle.dv_asm.specs.First.{when};
 ghost use Rattle.dv_asm.specs.Items.{item_at, is_named};
 ghost use Rattle.dv_asm.specs.Places.{leads_to_payload, place_of, label_address, distance, address_of, AreAddresses, AreFirstLabels};
 
-use crate::draft::{Item, What};
+use dv_draft::{Item, What};
 use dv_defs::Text;
 use indexmap::IndexMap;
 use std::alloc::{AllocError, Global};
@@ -26,7 +26,7 @@ pub struct Places<'a> {
 
 impl<'a> Model for Places<'a> {
     ghost use Rattle.std.specs.Prelude.{List};
-    ghost use Rattle.dv_asm.specs.declared.draft.Item.{Item};
+    ghost use Rattle.dv_draft.specs.declared.draft.Item.{Item};
     ghost use Rattle.dv_asm.specs.Places.{ArePlaces};
 
     ghost Value = { List Item };

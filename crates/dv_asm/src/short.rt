@@ -4,7 +4,7 @@ ghost use Rattle.dv_asm.specs.Items.{item_at};
 ghost use Rattle.dv_asm.specs.Places.{address_of, label_address, distance};
 ghost use Rattle.dv_asm.specs.Refusals.{too_long, switch_of};
 
-use crate::draft::Item;
+use dv_draft::Item;
 use crate::places::Places;
 use crate::switches::Switches;
 use dv_defs::Text;
@@ -19,7 +19,7 @@ pub struct Short<'a> {
 
 impl<'a> Model for Short<'a> {
     ghost use Rattle.std.specs.Prelude.{◌≡◌, List, None};
-    ghost use Rattle.dv_asm.specs.declared.draft.Item.{Item};
+    ghost use Rattle.dv_draft.specs.declared.draft.Item.{Item};
     ghost use Rattle.dv_asm.specs.Refusals.{too_long};
 
     ghost Value = { List Item };

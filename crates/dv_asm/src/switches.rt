@@ -9,7 +9,7 @@ ghost use Rattle.dv_asm.specs.Places.{address_named_by};
 ghost use Rattle.dv_asm.specs.Refusals.{is_address, is_payload_at, is_repeated, stands_payload, switch_of, repeated, repeated_at};
 ghost use Rattle.dv_asm.specs.Switches.{AreFirstSwitches, ArePayloadAddresses};
 
-use crate::draft::Item;
+use dv_draft::Item;
 use crate::labels::is_place;
 use crate::lines::{first_line, when};
 use crate::places::Places;
@@ -101,7 +101,7 @@ pub struct Switches<'a> {
 
 impl<'a> Model for Switches<'a> {
     ghost use Rattle.std.specs.Prelude.{List};
-    ghost use Rattle.dv_asm.specs.declared.draft.Item.{Item};
+    ghost use Rattle.dv_draft.specs.declared.draft.Item.{Item};
     ghost use Rattle.dv_asm.specs.Switches.{AreFirstSwitches, ArePayloadAddresses};
 
     ghost Value = { List Item };

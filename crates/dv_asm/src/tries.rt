@@ -3,7 +3,7 @@ ghost use Rattle.std.specs.Prelude.{◌≡◌, IfOk};
 ghost use Rattle.dv_asm.specs.Refusals.{range_of, ranges_of, is_empty, is_same, overlaps};
 ghost use Rattle.dv_asm.specs.Ranges.{range_in};
 
-use crate::draft::Catch;
+use dv_draft::Catch;
 use crate::short::Short;
 use std::alloc::{AllocError, Global};
 

@@ -13,8 +13,8 @@ use Rattle.dv_machine.specs.State.{Did, where_true}
 use Rattle.dv_words.specs.Heaps.{length_of, words_of_object}
 use Rattle.dv_words.specs.State.{WordHeap}
 use Rattle.dv_words.specs.Words.{int_of}
-use Rattle.dv_steps.specs.Natives.{arg, native_step, new_text, some_chars, units_in}
-use Rattle.dv_steps.specs.Steps.{At, Left}
+use Rattle.dv_words.specs.Natives.{arg, native_step, new_text, some_chars, units_in}
+use Rattle.dv_words.specs.Steps.{At, Left}
 use Rattle.dv_builtin.specs.Natives.{IsChars}
 use Rattle.dv_builtin.specs.Parts.{chars_in}
 

@@ -19,10 +19,10 @@ use Rattle.dv_words.specs.Words.{word_at}
 use Rattle.dv_frames.specs.declared.heads.Head.{Head}
 use Rattle.dv_frames.specs.Heads.{head_in}
 use Rattle.dv_frames.specs.Tops.{head_of}
-use Rattle.dv_steps.specs.Answering.{IsAtInsn, IsStackOf}
-use Rattle.dv_steps.specs.Local.{reg_word}
-use Rattle.dv_steps.specs.Steps.{At}
-use Rattle.dv_steps.proofs.Fetching.{is_fetched}
+use Rattle.dv_words.specs.Answering.{IsAtInsn, IsStackOf}
+use Rattle.dv_words.specs.Local.{reg_word}
+use Rattle.dv_words.specs.Steps.{At}
+use Rattle.law_words.proofs.Fetching.{is_fetched}
 use Rattle.dv_builtin.proofs.Invokes.{passed}
 
 -- ---- the instruction that is spelled there

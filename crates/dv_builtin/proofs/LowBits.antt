@@ -1,6 +1,6 @@
 -- Words that are units are their own low bits.
 use Rattle.std.proofs.Common.{◌≡◌, ◌<◌, ◌%◌, ◌^◌, ℕ, suc, List, [], ◌∷◌, get_or, refl, arith}
-use Rattle.dv_steps.specs.Natives.{units_in}
+use Rattle.dv_words.specs.Natives.{units_in}
 
 one_same : (u : ℕ) → u < 65536 → u % 65536 ≡ u
 one_same u lt = omega arith

@@ -8,7 +8,7 @@ use Rattle.dv_defs.specs.Types.{component, is_base}
 use Rattle.dv_words.specs.declared.state.Kind.TheVariants as kind
 use Rattle.dv_words.specs.Heaps.{kind_of}
 use Rattle.dv_words.specs.State.{WordHeap}
-use Rattle.dv_steps.specs.Natives.{arg}
+use Rattle.dv_words.specs.Natives.{arg}
 
 -- the methods of String, dvm.Text and dvm.Console
 abbrev pub is_of_texts : Native → Bool

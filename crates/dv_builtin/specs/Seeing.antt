@@ -3,8 +3,8 @@ use Rattle.std.specs.Prelude.{◌≡◌, ℕ, List, Result}
 use Rattle.dv_defs.specs.declared.run.Next.{Next}
 use Rattle.dv_machine.specs.State.{Did}
 use Rattle.dv_words.specs.State.{WordHeap, WordShared, WordStack}
-use Rattle.dv_steps.specs.Answering.{IsStackOf, Leads, LeavesStack}
-use Rattle.dv_steps.specs.Steps.{At, Left}
+use Rattle.dv_words.specs.Answering.{IsStackOf, Leads, LeavesStack}
+use Rattle.dv_words.specs.Steps.{At, Left}
 
 -- the stack, the heap, what was printed, how much may be, and the address after the instruction
 pub record Sees (h : At) (stack : WordStack) (heap : WordHeap) (output : List ℕ) (limit next : ℕ) : Type 0 where

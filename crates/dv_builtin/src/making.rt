@@ -3,8 +3,8 @@ ghost use Rattle.std.specs.Prelude.{◌≡◌, ℕ, List, ◌<◌, ◌^◌, ◌+
 ghost use Rattle.dv_defs.specs.Numbers.{long_of};
 ghost use Rattle.dv_defs.specs.declared.run.Native.TheVariants as natives;
 ghost use Rattle.dv_words.specs.Stacks.{arg_words};
-ghost use Rattle.dv_steps.specs.Natives.{arg, native_step, new_text, units_in};
-ghost use Rattle.dv_steps.specs.Steps.{At};
+ghost use Rattle.dv_words.specs.Natives.{arg, native_step, new_text, units_in};
+ghost use Rattle.dv_words.specs.Steps.{At};
 ghost use Rattle.dv_builtin.specs.Natives.{IsChars};
 ghost use Rattle.dv_builtin.specs.Seeing.{Does, Sees};
 

@@ -2,9 +2,9 @@
 ghost use Rattle.std.specs.Prelude.{◌≡◌, false, true, Ok};
 ghost use Rattle.dv_defs.specs.declared.run.Next.TheVariants as next_is;
 ghost use Rattle.dv_words.specs.Stacks.{arg_words};
-ghost use Rattle.dv_steps.specs.Answering.{IsStackOf};
-ghost use Rattle.dv_steps.specs.Natives.{native_step};
-ghost use Rattle.dv_steps.specs.Steps.{At};
+ghost use Rattle.dv_words.specs.Answering.{IsStackOf};
+ghost use Rattle.dv_words.specs.Natives.{native_step};
+ghost use Rattle.dv_words.specs.Steps.{At};
 ghost use Rattle.dv_builtin.specs.Natives.{TextsFit, is_of_texts};
 ghost use Rattle.dv_builtin.specs.Seeing.{Does};
 

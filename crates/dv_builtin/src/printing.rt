@@ -3,8 +3,8 @@ ghost use Rattle.std.specs.Prelude.{◌≡◌, ◌+◌, ◌++◌, ◌∷◌, [],
 ghost use Rattle.dv_defs.specs.declared.run.Native.TheVariants as natives;
 ghost use Rattle.dv_words.specs.Stacks.{arg_words};
 ghost use Rattle.dv_words.specs.State.{WordHeap};
-ghost use Rattle.dv_steps.specs.Natives.{native_step};
-ghost use Rattle.dv_steps.specs.Steps.{At};
+ghost use Rattle.dv_words.specs.Natives.{native_step};
+ghost use Rattle.dv_words.specs.Steps.{At};
 ghost use Rattle.dv_builtin.specs.Seeing.{Does, Sees};
 
 use crate::encoding::{add_utf8, utf8_len};

@@ -3,7 +3,7 @@ ghost use Rattle.std.specs.Prelude.{◌≡◌, ◌<◌, length, slice_index};
 ghost use Rattle.dv_defs.specs.Op.{named_registers};
 ghost use Rattle.dv_words.specs.Stacks.{arg_words, changed, given, gone};
 ghost use Rattle.dv_words.specs.declared.state.Kept.TheVariants as kept;
-ghost use Rattle.dv_steps.specs.Natives.{arg};
+ghost use Rattle.dv_words.specs.Natives.{arg};
 
 use dv_defs::Regs;
 use dv_frames::Stack;

@@ -6,19 +6,18 @@ ghost use Rattle.dv_defs.specs.Parts.{Call};
 ghost use Rattle.dv_defs.specs.Pools.{Method};
 ghost use Rattle.dv_defs.specs.Spelling.{all_fit};
 ghost use Rattle.dv_defs.specs.declared.run.Next.TheVariants as next_is;
-ghost use Rattle.dv_steps.specs.Answering.{IsAtInsn, IsStackOf};
-ghost use Rattle.dv_steps.specs.Local.{reg_word};
-ghost use Rattle.dv_steps.specs.Natives.{native_step};
-ghost use Rattle.dv_steps.specs.Steps.{At};
+ghost use Rattle.dv_words.specs.Answering.{IsAtInsn, IsStackOf};
+ghost use Rattle.dv_words.specs.Local.{reg_word};
+ghost use Rattle.dv_words.specs.Natives.{native_step};
+ghost use Rattle.dv_words.specs.Steps.{At};
 ghost use Rattle.dv_builtin.specs.Natives.{TextsFit, is_of_texts};
 ghost use Rattle.dv_builtin.specs.Seeing.{Does};
 
 use crate::natives::native_step;
 use dv_defs::{Image, Insn, Native, Next};
-use dv_fetch::units_of;
+use dv_ops::{coded_at, units_of};
 use dv_frames::Stack;
 use dv_heap::Heap;
-use dv_ops::coded_at;
 use dv_units::insn_size;
 use std::alloc::AllocError;
 

@@ -4,9 +4,9 @@ ghost use Rattle.std.specs.declared.alloc.AllocError.{AllocError as Lacking};
 ghost use Rattle.dv_defs.specs.declared.run.Native.TheVariants as natives;
 ghost use Rattle.dv_words.specs.Heaps.{kind_of};
 ghost use Rattle.dv_words.specs.Stacks.{arg_words};
-ghost use Rattle.dv_steps.specs.Natives as steps;
-ghost use Rattle.dv_steps.specs.Natives.{native_step, same_text, text_of};
-ghost use Rattle.dv_steps.specs.Steps.{At};
+ghost use Rattle.dv_words.specs.Natives as steps;
+ghost use Rattle.dv_words.specs.Natives.{native_step, same_text, text_of};
+ghost use Rattle.dv_words.specs.Steps.{At};
 ghost use Rattle.dv_builtin.specs.Parts.{unit_in};
 ghost use Rattle.dv_builtin.specs.Seeing.{Does, Sees};
 

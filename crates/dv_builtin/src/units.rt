@@ -1,6 +1,6 @@
 // UTF-16 units, one by one.
 ghost use Rattle.std.specs.Prelude.{◌≡◌, ◌++◌, ◌≤◌, ◌<◌, length, take, OnOk};
-ghost use Rattle.dv_steps.specs.Natives.{units_in};
+ghost use Rattle.dv_words.specs.Natives.{units_in};
 
 use std::alloc::AllocError;
 

@@ -6,7 +6,7 @@ use Rattle.dv_defs.specs.declared.faults.Rule.{Rule}
 use Rattle.dv_defs.specs.Images.{Image}
 use Rattle.dv_defs.specs.Op as def
 use Rattle.dv_defs.specs.Op.{Code, Resolved, code_at, op_of}
-use Rattle.dv_fetch.proofs.Fetched.{payload_there}
+use Rattle.dv_ops.proofs.Fetched.{payload_there}
 use Rattle.dv_ops.specs.declared.op.Op.{Op}
 use Rattle.dv_ops.specs.Meaning.{has_payload, meant, meant_or_rule}
 use Rattle.dv_words.specs.declared.state.Level.{Level}
@@ -15,9 +15,9 @@ use Rattle.dv_words.specs.State.{WordHeap, WordStack}
 use Rattle.dv_frames.specs.declared.heads.Head.{Head}
 use Rattle.dv_frames.specs.Heads.{head_in}
 use Rattle.dv_frames.specs.Tops.{head_of}
-use Rattle.dv_steps.proofs.Fetching.{is_fetched}
-use Rattle.dv_steps.specs.Answering.{IsAtInsn}
-use Rattle.dv_steps.specs.Steps.{At}
+use Rattle.law_words.proofs.Fetching.{is_fetched}
+use Rattle.dv_words.specs.Answering.{IsAtInsn}
+use Rattle.dv_words.specs.Steps.{At}
 use Rattle.dv_call.specs.Landings.{IsSeen}
 
 -- from the head and the code that were read

@@ -14,11 +14,11 @@ use Rattle.dv_machine.specs.Calls.{Landing, Lacks, Lands, all_natives, native_am
 use Rattle.dv_words.specs.declared.state.Level.{Level}
 use Rattle.dv_words.specs.Stacks.{arg_words, first, top_regs}
 use Rattle.dv_words.specs.State.{WordHeap, WordStack}
-use Rattle.dv_steps.specs.Answering.{IsStackOf}
-use Rattle.dv_steps.specs.Calls as steps
-use Rattle.dv_steps.specs.Calls.{dispatch}
-use Rattle.dv_steps.specs.Local.{reg_word}
-use Rattle.dv_steps.specs.Steps.{At, Left}
+use Rattle.dv_words.specs.Answering.{IsStackOf}
+use Rattle.dv_words.specs.Calls as steps
+use Rattle.dv_words.specs.Calls.{dispatch}
+use Rattle.dv_words.specs.Local.{reg_word}
+use Rattle.dv_words.specs.Steps.{At, Left}
 use Rattle.dv_call.specs.Landings.{InvokesLand, IsSeen, Landed, Enters, Fails, called, called_in, is_native, runs_native, constructs, done, on_landing, on_object, on_receiver, first_of, run_by}
 
 -- what a call comes to, by what it sees

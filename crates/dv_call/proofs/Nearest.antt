@@ -12,7 +12,7 @@ use Rattle.dv_defs.specs.Images.{Image}
 use Rattle.dv_defs.specs.Order.{has_number}
 use Rattle.dv_defs.specs.Pools.{Method, method_at, methods_of, nearest, parent_at, parent_of, walk, with_def, with_info}
 use Rattle.dv_image.specs.Calls.{landing}
-use Rattle.dv_laws.proofs.lemmas.Bridge.LookUps.{look_ups_find}
+use Rattle.law_machine.proofs.lemmas.Bridge.LookUps.{look_ups_find}
 use Rattle.dv_call.specs.Landings.{IsNumbered}
 
 -- ---- where the number of the landing is known

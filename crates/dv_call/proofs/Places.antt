@@ -7,10 +7,10 @@ use Rattle.dv_defs.specs.Images.{Image}
 use Rattle.dv_defs.specs.Linked.{IsImage, defs}
 use Rattle.dv_defs.specs.Numbering.{names_of}
 use Rattle.dv_defs.specs.Pools.{class_named}
-use Rattle.dv_linklaws.specs.Stripped.{def_names}
-use Rattle.dv_linklaws.proofs.FromFaults.{named_at, no_first_fault}
-use Rattle.dv_linklaws.proofs.Names.{declared_is_position, named_is_position}
-use Rattle.dv_linklaws.proofs.OrderedImages.{image_phases}
+use Rattle.law_linking.specs.Stripped.{def_names}
+use Rattle.law_linking.proofs.FromFaults.{named_at, no_first_fault}
+use Rattle.law_linking.proofs.Names.{declared_is_position, named_is_position}
+use Rattle.law_linking.proofs.OrderedImages.{image_phases}
 
 same_names : (cs : List ClassInfo) → def_names (defs cs) ≡ names_of cs
 same_names [] = refl

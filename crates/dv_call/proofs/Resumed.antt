@@ -2,7 +2,7 @@
 use Rattle.std.proofs.Common.{◌≡◌, ◌∙◌, ℕ, Some, None, sym, ap}
 use Rattle.dv_defs.specs.Images.{Image}
 use Rattle.dv_defs.specs.Op.{code_at}
-use Rattle.dv_defs.specs.Statics.{At, fetch, fetch_in}
+use Rattle.dv_typing.specs.Statics.{At, fetch, fetch_in}
 
 -- nothing is fetched of a method without a body
 pub no_code : (image : Image) (n at : ℕ) (x : At) → code_at image n ≡ None → fetch image n at ≡ Some x → ⊥

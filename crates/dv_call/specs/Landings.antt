@@ -13,11 +13,11 @@ use Rattle.dv_words.specs.declared.state.Level.{Level}
 use Rattle.dv_words.specs.declared.state.Level.TheVariants as level
 use Rattle.dv_words.specs.Stacks.{first}
 use Rattle.dv_words.specs.State.{WordHeap, WordStack}
-use Rattle.dv_steps.specs.Answering.{IsStackOf}
-use Rattle.dv_steps.specs.Calls.{dispatch, enter, invoked}
-use Rattle.dv_steps.specs.Local.{reg_word}
-use Rattle.dv_steps.specs.Natives.{native_step}
-use Rattle.dv_steps.specs.Steps.{At, Left, left}
+use Rattle.dv_words.specs.Answering.{IsStackOf}
+use Rattle.dv_words.specs.Calls.{dispatch, enter, invoked}
+use Rattle.dv_words.specs.Local.{reg_word}
+use Rattle.dv_words.specs.Natives.{native_step}
+use Rattle.dv_words.specs.Steps.{At, Left, left}
 use Rattle.dv_call.specs.declared.landings.Landed as code
 use Rattle.dv_call.specs.declared.landings.Landed.TheVariants as landed
 

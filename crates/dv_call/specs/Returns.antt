@@ -1,13 +1,13 @@
 -- The frame to which a return goes back.
 use Rattle.std.specs.Prelude.{◌≡◌, List, ◌∷◌, Option, Some, None}
 use Rattle.dv_defs.specs.Images.{Image}
-use Rattle.dv_defs.specs.Statics.{At, fetch}
+use Rattle.dv_typing.specs.Statics.{At, fetch}
 use Rattle.dv_words.specs.declared.state.Frame.{Frame}
 use Rattle.dv_words.specs.declared.state.Kept.{Kept}
 use Rattle.dv_words.specs.declared.state.Level.{Level}
 use Rattle.dv_words.specs.declared.state.Level.TheVariants as level
 use Rattle.dv_words.specs.Stacks.{given, gone}
-use Rattle.dv_steps.specs.Steps as steps
+use Rattle.dv_words.specs.Steps as steps
 
 -- the frame on top, if there is one, goes on at an instruction
 abbrev pub TopStands : Image → List Level → Type 0

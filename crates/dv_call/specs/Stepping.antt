@@ -1,7 +1,7 @@
 -- The operations that are done here.
 use Rattle.std.specs.Prelude.{Bool, true, false, not}
 use Rattle.dv_defs.specs.Op.{Op, Invoke, Return, ReturnVoid}
-use Rattle.dv_steps.specs.Steps.{At}
+use Rattle.dv_words.specs.Steps.{At}
 use Rattle.dv_call.specs.Landings.{runs_native}
 
 -- a return, or an invoke that runs no native

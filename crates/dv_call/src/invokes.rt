@@ -6,9 +6,9 @@ ghost use Rattle.dv_machine.specs.Calls as machine;
 ghost use Rattle.dv_ops.specs.Meaning.{method_of};
 ghost use Rattle.dv_units.specs.Tables.{standard_call};
 ghost use Rattle.dv_words.specs.Stacks.{arg_words};
-ghost use Rattle.dv_steps.specs.Answering.{IsStackOf, Leads, LeavesStack};
-ghost use Rattle.dv_steps.specs.Calls as steps;
-ghost use Rattle.dv_steps.specs.Steps.{At};
+ghost use Rattle.dv_words.specs.Answering.{IsStackOf, Leads, LeavesStack};
+ghost use Rattle.dv_words.specs.Calls as steps;
+ghost use Rattle.dv_words.specs.Steps.{At};
 ghost use Rattle.dv_call.specs.Landings.{IsNumbered, IsOwn, IsSeen, runs_native};
 
 use crate::landings::{Landed, land};

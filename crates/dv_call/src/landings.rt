@@ -6,8 +6,8 @@ ghost use Rattle.dv_machine.specs.Calls as machine;
 ghost use Rattle.dv_ops.specs.Meaning.{method_of};
 ghost use Rattle.dv_units.specs.Tables.{standard_call};
 ghost use Rattle.dv_words.specs.Stacks.{arg_words};
-ghost use Rattle.dv_steps.specs.Calls as steps;
-ghost use Rattle.dv_steps.specs.Steps.{At};
+ghost use Rattle.dv_words.specs.Calls as steps;
+ghost use Rattle.dv_words.specs.Steps.{At};
 ghost use Rattle.dv_call.specs.Landings as calls;
 ghost use Rattle.dv_call.specs.Landings.{IsNumbered, IsOwn, IsRunning, IsSeen, called, constructs, first_of, landed_of, nearest_in, on_landing};
 

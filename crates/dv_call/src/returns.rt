@@ -3,22 +3,21 @@ ghost use Rattle.std.specs.Prelude.{◌≡◌, ◌≤◌, Ok, Some, length};
 ghost use Rattle.std.specs.declared.alloc.AllocError.{AllocError};
 ghost use Rattle.dv_defs.specs.Formats.{size_at};
 ghost use Rattle.dv_defs.specs.Pools as pools;
-ghost use Rattle.dv_defs.specs.Statics.{At as Fetched, fetch};
+ghost use Rattle.dv_typing.specs.Statics.{At as Fetched, fetch};
 ghost use Rattle.dv_defs.specs.Types as types;
 ghost use Rattle.dv_ops.specs.Meaning.{method_of};
 ghost use Rattle.dv_words.specs.Stacks.{with_levels};
-ghost use Rattle.dv_steps.specs.Answering.{IsStackOf, Leads, LeavesStack};
-ghost use Rattle.dv_steps.specs.Calls as steps;
-ghost use Rattle.dv_steps.specs.Fetching.{IsThere};
-ghost use Rattle.dv_steps.specs.Steps.{At};
+ghost use Rattle.dv_words.specs.Answering.{IsStackOf, Leads, LeavesStack};
+ghost use Rattle.dv_words.specs.Calls as steps;
+ghost use Rattle.dv_words.specs.Fetching.{IsThere};
+ghost use Rattle.dv_words.specs.Steps.{At};
 ghost use Rattle.dv_call.specs.Landings.{IsOwn, IsRunning};
 ghost use Rattle.dv_call.specs.Returns.{CallerStands, TopStands, resumed};
 
 use crate::tops::running;
 use dv_defs::{Base, Image, MethodId, Next, Ty};
-use dv_fetch::units_of;
+use dv_ops::{Method, coded_at, units_of};
 use dv_frames::Stack;
-use dv_ops::{Method, coded_at};
 use dv_units::insn_size;
 use dv_words::Kept;
 

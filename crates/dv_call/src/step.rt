@@ -3,10 +3,10 @@ ghost use Rattle.std.specs.Prelude.{◌≡◌, ◌↔◌, ◌<◌, ℕ, IsTrue, 
 ghost use Rattle.std.specs.declared.alloc.AllocError.{AllocError};
 ghost use Rattle.dv_defs.specs.Op.{Code, Op as Operation};
 ghost use Rattle.dv_ops.specs.Meaning.{meant};
-ghost use Rattle.dv_steps.specs.Answering.{IsAtInsn, Leads, LeavesStack};
-ghost use Rattle.dv_steps.specs.Step.{act};
-ghost use Rattle.dv_steps.specs.StepLaws.{CallFits};
-ghost use Rattle.dv_steps.specs.Steps.{At};
+ghost use Rattle.dv_words.specs.Answering.{IsAtInsn, Leads, LeavesStack};
+ghost use Rattle.dv_words.specs.Step.{act};
+ghost use Rattle.law_words.specs.StepLaws.{CallFits};
+ghost use Rattle.dv_words.specs.Steps.{At};
 ghost use Rattle.dv_call.specs.Landings.{IsOwn, IsSeen};
 ghost use Rattle.dv_call.specs.Returns.{CallerStands};
 ghost use Rattle.dv_call.specs.Stepping.{is_call};
@@ -14,10 +14,9 @@ ghost use Rattle.dv_call.specs.Stepping.{is_call};
 use crate::invokes::invoke;
 use crate::returns::{return_value, return_void};
 use dv_defs::{Image, Insn, Next};
-use dv_fetch::{resolve, units_of};
+use dv_ops::{Op, coded_at, resolve, units_of};
 use dv_frames::Stack;
 use dv_heap::Heap;
-use dv_ops::{Op, coded_at};
 
 /// Does an operation, if it is an invoke or a return.
 fn operate(image: &Image, heap: &Heap, stack: &mut Stack, op: Op<'_>) -> Next

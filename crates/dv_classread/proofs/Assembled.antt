@@ -3,7 +3,7 @@ use Rattle.std.proofs.Common.{◌≡◌, List, [], ◌∷◌, ◌++◌, length, 
 use Rattle.dv_defs.specs.declared.faults.LineError.{LineError}
 use Rattle.dv_defs.specs.declared.faults.LineError.TheVariants as error
 use Rattle.dv_defs.specs.Body.{BodyValue}
-use Rattle.dv_asm.specs.Draft.{DraftValue}
+use Rattle.dv_draft.specs.Draft.{DraftValue}
 use Rattle.dv_asm.specs.Layout.{layout}
 use Rattle.dv_asm.specs.Refusals.{Refusal, Tells, refusal}
 use Rattle.dv_lex.specs.declared.line.Stop.{Stop}

@@ -10,7 +10,7 @@ use Rattle.dv_coderead.specs.Kept.{TextLine, kept, kept_from, line_at, open_behi
 use Rattle.dv_coderead.specs.Bodies.{body_of, number_behind}
 use Rattle.dv_coderead.specs.RawBodies.{raw_body_of}
 use Rattle.dv_coderead.proofs.Drafts.{stops_all}
-use Rattle.dv_asm.specs.Draft.{DraftValue}
+use Rattle.dv_draft.specs.Draft.{DraftValue}
 use Rattle.dv_defs.specs.Body.{BodyValue}
 use Rattle.dv_classread.specs.declared.class_line.Signature.{Signature}
 use Rattle.dv_classread.specs.declared.class_line.Standing.{Standing}

@@ -3,7 +3,7 @@ use Rattle.std.specs.Prelude.{ℕ, ◌&&◌, Bool, true, false, List, [], ◌∷
 use Rattle.dv_defs.specs.declared.flags.Flag.TheVariants.{Static}
 use Rattle.dv_defs.specs.Body.{BodyValue}
 use Rattle.dv_defs.specs.Flags.{has_flag}
-use Rattle.dv_asm.specs.Draft.{DraftValue}
+use Rattle.dv_draft.specs.Draft.{DraftValue}
 use Rattle.dv_lex.specs.declared.line.Stop.{Stop}
 use Rattle.dv_coderead.specs.declared.head.Block.TheVariants.{Units}
 use Rattle.dv_coderead.specs.declared.head.Directive.TheVariants as directive

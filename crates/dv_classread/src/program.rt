@@ -6,7 +6,7 @@ ghost use Rattle.dv_classread.specs.Texts.{Says, Method};
 ghost use Rattle.dv_classread.specs.Classes.{classes_with, whole_classes, Adds};
 
 use crate::class_line::{ClassHead, ClassLine, Signature, Standing, stands_next};
-use dv_asm::Draft;
+use dv_draft::Draft;
 use dv_defs::{Body, FieldDef, Seq, Text};
 use std::alloc::{AllocError, Global};
 

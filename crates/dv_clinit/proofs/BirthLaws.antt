@@ -11,12 +11,12 @@ use Rattle.dv_defs.specs.declared.image.ClassInfo.{ClassInfo}
 use Rattle.dv_defs.specs.Images.{Image}
 use Rattle.dv_defs.specs.Linked.{IsImage}
 use Rattle.dv_defs.specs.Pools.{Method, initialiser, parent_at, walk}
-use Rattle.dv_defs.specs.Classes.{Fresh, Ready}
+use Rattle.dv_machine.specs.Classes.{Fresh, Ready}
 use Rattle.dv_machine.specs.Opening.{first_states, is_born, none_initialised}
-use Rattle.dv_linklaws.proofs.OrderedImages.{image_ordered}
-use Rattle.dv_linklaws.proofs.Reach.{above_in}
-use Rattle.dv_linklaws.proofs.ReachPlaces.{place, place_bounded, place_rises}
-use Rattle.dv_linklaws.proofs.Upward.{parent_is_above, walk_same}
+use Rattle.law_linking.proofs.OrderedImages.{image_ordered}
+use Rattle.law_linking.proofs.Reach.{above_in}
+use Rattle.law_linking.proofs.ReachPlaces.{place, place_bounded, place_rises}
+use Rattle.law_linking.proofs.Upward.{parent_is_above, walk_same}
 use Rattle.dv_clinit.specs.declared.states.State.{State}
 use Rattle.dv_clinit.specs.Births.{AreKnown, IsKnown, first_state}
 use Rattle.dv_clinit.specs.States.{class_state, class_states}

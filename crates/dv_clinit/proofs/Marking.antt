@@ -4,7 +4,7 @@ use Rattle.std.specs.Prelude.{nat_eq}
 use Rattle.std.proofs.lemmas.Bool.{eqb-true, eq-eqb}
 use Rattle.std.proofs.lemmas.Grind.{get_or-set_at}
 use Rattle.std.proofs.lemmas.List.{get_or-set_other, length-set}
-use Rattle.dv_defs.specs.Classes.{Fresh}
+use Rattle.dv_machine.specs.Classes.{Fresh}
 use Rattle.dv_defs.specs.Images.{Image}
 use Rattle.dv_defs.specs.Linked.{IsImage}
 use Rattle.dv_defs.specs.Pools.{Method}

@@ -13,9 +13,9 @@ use Rattle.dv_defs.specs.declared.image.MethodInfo.{MethodInfo}
 use Rattle.dv_defs.specs.Images.{Image}
 use Rattle.dv_defs.specs.Linked.{IsImage, body_at, defs, field_ids, method_ids, method_with_pools}
 use Rattle.dv_defs.specs.Numbering.{all_methods_declared, class_id, methods_declared, numbered}
-use Rattle.dv_linklaws.proofs.Bounds.{few_methods}
-use Rattle.dv_linklaws.proofs.ImageMembers.{image_passes}
-use Rattle.dv_linklaws.proofs.OrderedImages.{image_methods_own}
+use Rattle.law_linking.proofs.Bounds.{few_methods}
+use Rattle.law_linking.proofs.ImageMembers.{image_passes}
+use Rattle.law_linking.proofs.OrderedImages.{image_methods_own}
 use Rattle.dv_clinit.specs.Initialisers.{BeginsAt, class_of}
 
 -- ---- classes rise

@@ -1,6 +1,6 @@
 -- What is known of the states in which classes begin.
 use Rattle.std.specs.Prelude.{◌≡◌, ◌<◌, ℕ, Bool, true, false, List, length, Option, Some, None, is_some, slice_index_or, if◌then◌else◌}
-use Rattle.dv_defs.specs.Classes.{ClassState, Fresh, Ready}
+use Rattle.dv_machine.specs.Classes.{ClassState, Fresh, Ready}
 use Rattle.dv_defs.specs.Images.{Image}
 use Rattle.dv_defs.specs.Linked.{IsImage}
 use Rattle.dv_defs.specs.Pools.{initialiser, parent_at}

@@ -1,6 +1,6 @@
 -- States of classes as the definitions have them.
 use Rattle.std.specs.Prelude.{List, map}
-use Rattle.dv_defs.specs.Classes.{ClassState, Classes, Fresh, InProgress, Ready, Erroneous}
+use Rattle.dv_machine.specs.Classes.{ClassState, Classes, Fresh, InProgress, Ready, Erroneous}
 use Rattle.dv_clinit.specs.declared.states.State.{State}
 use Rattle.dv_clinit.specs.declared.states.State.TheVariants as state
 

@@ -1,6 +1,6 @@
 // The states of classes (JLS 12.4.2).
 ghost use Rattle.std.specs.Prelude.{◌≡◌, IfOk};
-ghost use Rattle.dv_defs.specs.Classes.{Erroneous, InProgress, Ready, ask_of, asked, state_at, with_state};
+ghost use Rattle.dv_machine.specs.Classes.{Erroneous, InProgress, Ready, ask_of, asked, state_at, with_state};
 ghost use Rattle.dv_machine.specs.Opening.{first_states as opening_states};
 ghost use Rattle.dv_clinit.specs.States.{class_state};
 
@@ -43,7 +43,7 @@ pub struct ClassStates {
 }
 
 impl Model for ClassStates {
-    ghost use Rattle.dv_defs.specs.Classes.{Classes};
+    ghost use Rattle.dv_machine.specs.Classes.{Classes};
     ghost use Rattle.dv_clinit.specs.States.{class_states};
 
     ghost Value = { Classes };

@@ -9,11 +9,11 @@ use Rattle.std.proofs.lemmas.List.Elements.{All-push, All-same}
 use Rattle.dv_defs.specs.declared.names.Text.{Text}
 use Rattle.dv_defs.specs.Numbers.{bits64}
 use Rattle.dv_defs.specs.Tiling.{is_width}
-use Rattle.dv_asm.specs.declared.draft.Item.{Item}
-use Rattle.dv_asm.specs.declared.draft.Catch.{Catch}
-use Rattle.dv_asm.specs.declared.draft.Draftop.{Draftop}
-use Rattle.dv_asm.specs.declared.draft.What.TheVariants as what
-use Rattle.dv_asm.specs.Draft.{AreFormed, IsFormed, IsOp}
+use Rattle.dv_draft.specs.declared.draft.Item.{Item}
+use Rattle.dv_draft.specs.declared.draft.Catch.{Catch}
+use Rattle.dv_draft.specs.declared.draft.Draftop.{Draftop}
+use Rattle.dv_draft.specs.declared.draft.What.TheVariants as what
+use Rattle.dv_draft.specs.Draft.{AreFormed, IsFormed, IsOp}
 use Rattle.dv_coderead.specs.declared.words.Frame.{Frame}
 use Rattle.dv_coderead.specs.declared.body_line.Opening.{Opening}
 use Rattle.dv_coderead.specs.declared.body_line.Opening.TheVariants as opening

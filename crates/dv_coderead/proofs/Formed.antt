@@ -15,10 +15,10 @@ use Rattle.dv_optable.specs.declared.format.Format.TheVariants.{F10x, F12x, F11n
 use Rattle.dv_optable.specs.Table.{format_at}
 use Rattle.dv_units.specs.Tables.{standard}
 use Rattle.dv_units.proofs.Opcodes.{formats_agree}
-use Rattle.dv_asm.specs.declared.draft.Draftop.{Draftop}
-use Rattle.dv_asm.specs.declared.draft.PoolRef.{PoolRef}
-use Rattle.dv_asm.specs.declared.draft.PoolRef.TheVariants as pool
-use Rattle.dv_asm.specs.Draft.{IsOp, is_entry, kind_of_entry}
+use Rattle.dv_draft.specs.declared.draft.Draftop.{Draftop}
+use Rattle.dv_draft.specs.declared.draft.PoolRef.{PoolRef}
+use Rattle.dv_draft.specs.declared.draft.PoolRef.TheVariants as pool
+use Rattle.dv_draft.specs.Draft.{IsOp, is_entry, kind_of_entry}
 use Rattle.dv_coderead.specs.Pieces.{Piece}
 use Rattle.dv_coderead.specs.declared.words.Frame.{Frame}
 use Rattle.dv_coderead.specs.Operands.{ended, entry_at, has_label, is_first, label_at, literal_at, literal_by, operands_in, registers_at, registers_in}

@@ -11,9 +11,9 @@ use Rattle.dv_defs.specs.declared.code.Regs.{Regs}
 use Rattle.dv_defs.specs.declared.faults.LineKind.{LineKind}
 use Rattle.dv_defs.specs.Spelling.{few, fits_signed}
 use Rattle.dv_lex.specs.Numbers.{Number, in_bits, is_whole, magnitude, negated}
-use Rattle.dv_asm.specs.declared.draft.PoolRef.{PoolRef}
-use Rattle.dv_asm.specs.declared.draft.PoolRef.TheVariants as pool
-use Rattle.dv_asm.specs.Draft.{has_no_further, kind_of_entry}
+use Rattle.dv_draft.specs.declared.draft.PoolRef.{PoolRef}
+use Rattle.dv_draft.specs.declared.draft.PoolRef.TheVariants as pool
+use Rattle.dv_draft.specs.Draft.{has_no_further, kind_of_entry}
 use Rattle.dv_coderead.specs.Giving.{◌>>=◌}
 use Rattle.dv_coderead.specs.Pieces.{Piece, AWord, AString}
 use Rattle.dv_coderead.specs.declared.words.Frame.{Frame}

@@ -6,7 +6,7 @@ use Rattle.dv_defs.specs.declared.faults.LineKind.TheVariants.{Missing}
 use Rattle.dv_defs.specs.declared.faults.LineError.{LineError}
 use Rattle.dv_defs.specs.declared.faults.LineError.TheVariants as error
 use Rattle.dv_defs.specs.Body.{BodyValue}
-use Rattle.dv_asm.specs.Pools.{no_pools}
+use Rattle.dv_draft.specs.Pools.{no_pools}
 use Rattle.dv_lex.specs.declared.line.Line.{Line}
 use Rattle.dv_lex.specs.declared.line.Stop.{Stop}
 use Rattle.dv_coderead.specs.declared.raw_line.RawPlace.{RawPlace}

@@ -5,11 +5,11 @@ use Rattle.dv_defs.specs.declared.faults.LineKind.TheVariants.{Missing}
 use Rattle.dv_defs.specs.declared.names.Proto.{Proto}
 use Rattle.dv_defs.specs.Numbers.{bits64}
 use Rattle.dv_defs.specs.Types.{words_of_all}
-use Rattle.dv_asm.specs.declared.draft.Item.{Item}
-use Rattle.dv_asm.specs.declared.draft.Catch.{Catch}
-use Rattle.dv_asm.specs.declared.draft.What.{What}
-use Rattle.dv_asm.specs.declared.draft.What.TheVariants as what
-use Rattle.dv_asm.specs.Draft.{DraftValue}
+use Rattle.dv_draft.specs.declared.draft.Item.{Item}
+use Rattle.dv_draft.specs.declared.draft.Catch.{Catch}
+use Rattle.dv_draft.specs.declared.draft.What.{What}
+use Rattle.dv_draft.specs.declared.draft.What.TheVariants as what
+use Rattle.dv_draft.specs.Draft.{DraftValue}
 use Rattle.dv_lex.specs.declared.line.Stop.{Stop}
 use Rattle.dv_lex.specs.declared.line.Line.{Line}
 use Rattle.dv_coderead.specs.declared.words.Frame.{Frame}

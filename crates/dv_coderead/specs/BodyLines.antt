@@ -5,8 +5,8 @@ use Rattle.dv_defs.specs.declared.faults.LineKind.TheVariants as kind
 use Rattle.dv_defs.specs.declared.names.Ty.{Ty}
 use Rattle.dv_defs.specs.Spelling.{fits_signed}
 use Rattle.dv_defs.specs.Tiling.{is_width}
-use Rattle.dv_asm.specs.declared.draft.Catch.{Catch}
-use Rattle.dv_asm.specs.Draft.{IsOp}
+use Rattle.dv_draft.specs.declared.draft.Catch.{Catch}
+use Rattle.dv_draft.specs.Draft.{IsOp}
 use Rattle.dv_optable.specs.Table.{format_at}
 use Rattle.dv_lex.specs.Numbers.{Number, signed}
 use Rattle.dv_coderead.specs.declared.head.Block.TheVariants.{Packed, Sparse, Data, Units}

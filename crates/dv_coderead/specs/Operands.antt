@@ -12,9 +12,9 @@ use Rattle.dv_defs.specs.Spelling.{few, neighbours}
 use Rattle.dv_optable.specs.declared.format.Format.{Format}
 use Rattle.dv_optable.specs.declared.format.Format.TheVariants as format
 use Rattle.dv_optable.specs.Table.{format_at}
-use Rattle.dv_asm.specs.declared.draft.Draftop.{Draftop}
-use Rattle.dv_asm.specs.declared.draft.PoolRef.{PoolRef}
-use Rattle.dv_asm.specs.declared.draft.PoolRef.TheVariants as pool
+use Rattle.dv_draft.specs.declared.draft.Draftop.{Draftop}
+use Rattle.dv_draft.specs.declared.draft.PoolRef.{PoolRef}
+use Rattle.dv_draft.specs.declared.draft.PoolRef.TheVariants as pool
 use Rattle.dv_coderead.specs.Giving.{◌>>=◌}
 use Rattle.dv_coderead.specs.Pieces.{Piece, AWord, AMark, AString}
 use Rattle.dv_coderead.specs.declared.words.Frame.{Frame}

@@ -6,9 +6,9 @@ use Rattle.dv_defs.specs.declared.code.Try.{Try}
 use Rattle.dv_defs.specs.declared.names.Ty.{Ty}
 use Rattle.dv_defs.specs.Body.{BodyValue}
 use Rattle.dv_defs.specs.Types.{ty_eq}
-use Rattle.dv_asm.specs.declared.draft.PoolRef.{PoolRef}
-use Rattle.dv_asm.specs.declared.pools.Pools.{Pools}
-use Rattle.dv_asm.specs.Pools.{no_pools, with_ref, with_entries}
+use Rattle.dv_draft.specs.declared.draft.PoolRef.{PoolRef}
+use Rattle.dv_draft.specs.declared.pools.Pools.{Pools}
+use Rattle.dv_draft.specs.Pools.{no_pools, with_ref, with_entries}
 use Rattle.dv_lex.specs.declared.line.Stop.{Stop}
 use Rattle.dv_coderead.specs.declared.raw_line.RawPlace.{RawPlace}
 use Rattle.dv_coderead.specs.declared.raw_line.RawPlace.TheVariants as place

@@ -4,7 +4,7 @@ use Rattle.dv_defs.specs.declared.code.Handler.{Handler}
 use Rattle.dv_defs.specs.declared.code.Try.{Try}
 use Rattle.dv_defs.specs.Body.{BodyValue}
 use Rattle.dv_defs.specs.declared.faults.LineError.{LineError}
-use Rattle.dv_asm.specs.declared.pools.Pools.{Pools}
+use Rattle.dv_draft.specs.declared.pools.Pools.{Pools}
 use Rattle.dv_lex.specs.declared.line.Stop.{Stop}
 use Rattle.dv_coderead.specs.Giving.{Stops}
 use Rattle.dv_coderead.specs.declared.raw_line.RawPlace.{RawPlace}

@@ -4,8 +4,8 @@ use Rattle.std.specs.List.{list_all}
 use Rattle.dv_defs.specs.declared.faults.LineKind.{LineKind}
 use Rattle.dv_defs.specs.declared.faults.LineKind.TheVariants as kind
 use Rattle.dv_defs.specs.declared.names.Ty.{Ty}
-use Rattle.dv_asm.specs.declared.draft.PoolRef.{PoolRef}
-use Rattle.dv_asm.specs.declared.draft.PoolRef.TheVariants as pool
+use Rattle.dv_draft.specs.declared.draft.PoolRef.{PoolRef}
+use Rattle.dv_draft.specs.declared.draft.PoolRef.TheVariants as pool
 use Rattle.dv_lex.specs.Bytes.{is_hexadecimal}
 use Rattle.dv_lex.specs.Numbers.{value_from}
 use Rattle.dv_coderead.specs.declared.head.Block.TheVariants.{Units}

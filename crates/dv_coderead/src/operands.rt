@@ -1,7 +1,7 @@
 // The operands of an instruction.
 ghost use Rattle.std.specs.Prelude.{◌≡◌, IfOk, IfSome, IsSome};
 ghost use Rattle.dv_optable.specs.Table.{format_at};
-ghost use Rattle.dv_asm.specs.Draft.{IsOp};
+ghost use Rattle.dv_draft.specs.Draft.{IsOp};
 ghost use Rattle.dv_coderead.specs.Giving.{Gives, Reads};
 ghost use Rattle.dv_coderead.specs.Pieces.{piece_in, pieces_in};
 ghost use Rattle.dv_coderead.specs.Operands.{entry_at, entry_in, label_at, literal_at, names_in, operands_in, value_in, IsLiteral};
@@ -12,7 +12,7 @@ use crate::registers::read_registers;
 use crate::shape::{Literal, Registers, has_label, literal_of, registers_of};
 use crate::words::{self, Frame};
 use crate::{Refusal, references};
-use dv_asm::{Draftop, PoolRef};
+use dv_draft::{Draftop, PoolRef};
 use dv_defs::{Insn, LineKind, PoolKind, Text};
 use dv_units::pool_of;
 use std::alloc::Global;

@@ -16,7 +16,7 @@ use crate::head::{Block, Directive, Head};
 use crate::parts::{behind, end};
 use crate::pieces::Piece;
 use crate::{Refusal, references, words};
-use dv_asm::PoolRef;
+use dv_draft::PoolRef;
 use dv_defs::{LineKind, Seq, Ty};
 use std::alloc::Global;
 

@@ -13,9 +13,9 @@ use Rattle.dv_ops.specs.declared.op.Op as op
 use Rattle.dv_ops.specs.declared.op.Op.TheVariants as op_is
 use Rattle.dv_ops.specs.Meaning.{meant}
 use Rattle.dv_machine.specs.State.{Did}
-use Rattle.dv_steps.specs.Answering.{Leads}
-use Rattle.dv_steps.specs.Step.{act, with_ready}
-use Rattle.dv_steps.specs.Steps.{At, Left, local_left, mem_left}
+use Rattle.dv_words.specs.Answering.{Leads}
+use Rattle.dv_words.specs.Step.{act, with_ready}
+use Rattle.dv_words.specs.Steps.{At, Left, local_left, mem_left}
 use Rattle.dv_mem.specs.Stepping.{is_mem}
 use Rattle.dv_threads.specs.Stepping.{is_of_threads}
 use Rattle.dv_builtin.specs.Natives.{is_of_texts}

@@ -16,13 +16,13 @@ use Rattle.dv_words.specs.declared.state.Level.TheVariants as level
 use Rattle.dv_words.specs.Stacks.{changed, first, on_top}
 use Rattle.dv_words.specs.Standing.{IsSmall, KeptFits, ResultFits}
 use Rattle.dv_words.specs.State.{WordStack, WordThread}
-use Rattle.dv_steps.specs.StepLaws.{TopFits}
-use Rattle.dv_steps.specs.Stepping.{RanLocally}
+use Rattle.law_words.specs.StepLaws.{TopFits}
+use Rattle.dv_words.specs.Stepping.{RanLocally}
 use Rattle.dv_threads.specs.Kept.{bounds, zipped}
 use Rattle.dv_frames.specs.Tops.{head_of}
 use Rattle.dv_local.specs.Tops.{RanTop, TopBecame, TopRan}
 use Rattle.dv_core.specs.declared.guest.Guest.{Guest}
-use Rattle.dv_simulation.specs.KeepLaws.{is_local_level_of, thread_is_local_of}
+use Rattle.law_engine.specs.KeepLaws.{is_local_level_of, thread_is_local_of}
 use Rattle.dv_core.specs.Advancing.{RanAt, running_frame, runs_in, top_frame, with_frame}
 use Rattle.dv_core.specs.Guests.{IsOrdered}
 use Rattle.dv_core.proofs.Seen.{HasLevels, all_first, all_more, all_rest, set_same, zip_has, zip_set}

@@ -4,7 +4,7 @@ use Rattle.dv_defs.specs.declared.image.FieldInfo.{FieldInfo}
 use Rattle.dv_defs.specs.Images.{Image}
 use Rattle.dv_defs.specs.Pools.{field_at}
 use Rattle.dv_words.specs.State.{WordHeap}
-use Rattle.dv_steps.specs.Opening.{with_out, with_out_of, with_string_of, with_strings}
+use Rattle.dv_words.specs.Opening.{with_out, with_out_of, with_string_of, with_strings}
 
 no_field : FieldInfo
 no_field = record { class = record { 0 = 0 }; place = 0; slot = 0 }

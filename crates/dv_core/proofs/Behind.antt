@@ -1,14 +1,14 @@
 -- Behind a monitor-exit.
 use Rattle.std.proofs.Common.{◌≡◌, ℕ, Bool, true, false, List, ◌∷◌, Option, Some, None, refl, ap, sym, ◌∙◌, if◌then◌else◌}
-use Rattle.dv_defs.specs.Flow.{is_exit}
-use Rattle.dv_defs.specs.Statics.{At}
+use Rattle.dv_typing.specs.Flow.{is_exit}
+use Rattle.dv_typing.specs.Statics.{At}
 use Rattle.dv_words.specs.declared.state.Frame.{Frame}
 use Rattle.dv_words.specs.declared.state.Level.{Level}
 use Rattle.dv_words.specs.declared.state.Level.TheVariants as level
 use Rattle.dv_words.specs.Stacks.{changed, on_top, with_levels}
 use Rattle.dv_words.specs.State.{WordStack}
 use Rattle.dv_frames.specs.Tops.{moved}
-use Rattle.dv_steps.specs.Step.{moved_on}
+use Rattle.dv_words.specs.Step.{moved_on}
 use Rattle.dv_core.specs.Settling.{behind}
 
 pub behind_yes : (x : At) (n : ℕ) (b : Bool) → b ≡ true → b ≡ is_exit x.op → n ≡ x.next → Some n ≡ behind x

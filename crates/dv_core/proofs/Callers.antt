@@ -3,14 +3,14 @@ use Rattle.std.proofs.Common.{◌≡◌, ◌≢◌, ℕ, List, [], ◌∷◌, Op
 use Rattle.std.specs.Prelude.{slice_get}
 use Rattle.dv_defs.specs.declared.machine.End.{End}
 use Rattle.dv_defs.specs.declared.machine.End.TheVariants as end
-use Rattle.dv_defs.specs.declared.machine.Frame as tagged
-use Rattle.dv_defs.specs.declared.machine.Level as tagged_level
-use Rattle.dv_defs.specs.declared.machine.Level.TheVariants as level_of_tagged
+use Rattle.dv_machine.specs.Frame as tagged
+use Rattle.dv_machine.specs.Level as tagged_level
+use Rattle.dv_machine.specs.Level as level_of_tagged
 use Rattle.dv_defs.specs.declared.names.MethodId.{MethodId}
-use Rattle.dv_defs.specs.Heap.{Heap}
+use Rattle.dv_machine.specs.Heap.{Heap}
 use Rattle.dv_defs.specs.Images.{Image}
 use Rattle.dv_defs.specs.Pools.{Method, method_at}
-use Rattle.dv_defs.specs.Statics.{fetch}
+use Rattle.dv_typing.specs.Statics.{fetch}
 use Rattle.dv_machine.specs.Accepted.{Accepted}
 use Rattle.dv_machine.specs.State.{Machine}
 use Rattle.dv_machine.specs.WellTyped.{BelowCode, IsPlaced, ThreadFine, Typings, WellTyped, this_above}

@@ -1,19 +1,19 @@
 -- The first argument of ofChars is null or an array of chars.
 use Rattle.std.proofs.Common.{◌≡◌, ℕ, zero, suc, ◌<◌, Bool, true, false, List, [], ◌∷◌, map, Option, Some, None, refl, sym, ap, ◌∙◌, subst, arith}
 use Rattle.std.specs.Prelude.{nat_lt, if◌then◌else◌}
-use Rattle.dv_defs.specs.declared.machine.Frame as tagged
-use Rattle.dv_defs.specs.declared.machine.Kind.{Kind}
-use Rattle.dv_defs.specs.declared.machine.Kind.TheVariants as kind_of_tagged
+use Rattle.dv_machine.specs.Frame as tagged
+use Rattle.dv_machine.specs.Kind.{Kind}
+use Rattle.dv_machine.specs.Kind as kind_of_tagged
 use Rattle.dv_defs.specs.declared.names.Ty.{Ty}
 use Rattle.dv_defs.specs.declared.names.Proto.{Proto}
 use Rattle.dv_defs.specs.declared.run.Named.TheVariants as named
 use Rattle.dv_defs.specs.declared.run.Native.{Native}
 use Rattle.dv_defs.specs.declared.run.Native.TheVariants as native
-use Rattle.dv_defs.specs.declared.run.Value.{Value}
-use Rattle.dv_defs.specs.declared.run.Value.TheVariants as v
-use Rattle.dv_defs.specs.declared.typing.RegState.{RegState}
-use Rattle.dv_defs.specs.Demands.{Demand, args_for, demands, instance_call, ref_to}
-use Rattle.dv_defs.specs.Heap.{Heap, kind_of, kind_type}
+use Rattle.dv_machine.specs.Value.{Value}
+use Rattle.dv_machine.specs.Value as v
+use Rattle.dv_typing.specs.declared.typing.RegState.{RegState}
+use Rattle.dv_typing.specs.Demands.{Demand, args_for, demands, instance_call, ref_to}
+use Rattle.dv_machine.specs.Heap.{Heap, kind_of, kind_type}
 use Rattle.dv_defs.specs.Images.{Image}
 use Rattle.dv_defs.specs.Op.{Invoke}
 use Rattle.dv_defs.specs.Order.{fits}
@@ -23,21 +23,21 @@ use Rattle.dv_defs.specs.Types.{component, is_array}
 use Rattle.dv_machine.specs.Accepted.{Accepted}
 use Rattle.dv_machine.specs.Calls.{Landing, Lacks, Lands, chars_type, found, native_of, nearest_from, signature, unless_abstract}
 use Rattle.dv_machine.specs.Conforming.{Fits, Own, RegsConform}
-use Rattle.dv_machine.specs.Premises.{HoldsOf}
+use Rattle.law_machine.specs.Premises.{HoldsOf}
 use Rattle.dv_machine.specs.State.{read_ref, reg_at, where_ref}
 use Rattle.dv_machine.specs.WellTyped.{Typings}
 use Rattle.dv_words.specs.declared.state.Frame.{Frame}
 use Rattle.dv_words.specs.Heaps as words
 use Rattle.dv_words.specs.Standing.{FrameStands, HeapStands, IsWord}
 use Rattle.dv_words.specs.State.{WordHeap}
-use Rattle.dv_orders.proofs.Demanded.{first_none}
-use Rattle.dv_laws.proofs.lemmas.Readers.Arrays.{tests_go_down}
-use Rattle.dv_laws.proofs.lemmas.Readers.Plain.{reads_reference_to}
-use Rattle.dv_steps.specs.Calls.{dispatch, implements_it}
-use Rattle.dv_steps.specs.Natives.{arg}
-use Rattle.dv_steps.specs.Threads.{class_of_kind}
-use Rattle.dv_steps.specs.Local.{reg_word}
-use Rattle.dv_steps.proofs.Registers.{is_word_at}
+use Rattle.law_types.proofs.Demanded.{first_none}
+use Rattle.law_machine.proofs.lemmas.Readers.Arrays.{tests_go_down}
+use Rattle.law_machine.proofs.lemmas.Readers.Plain.{reads_reference_to}
+use Rattle.dv_words.specs.Calls.{dispatch, implements_it}
+use Rattle.dv_words.specs.Natives.{arg}
+use Rattle.dv_words.specs.Threads.{class_of_kind}
+use Rattle.dv_words.specs.Local.{reg_word}
+use Rattle.law_words.proofs.Registers.{is_word_at}
 use Rattle.dv_mem.proofs.Alike.{kind_stands}
 use Rattle.dv_call.specs.Landings.{Enters, Fails, Runs, constructs, called_in, first_of, on_landing, on_object, on_receiver, run_by}
 use Rattle.dv_builtin.specs.Natives.{IsChars, TextsFit}

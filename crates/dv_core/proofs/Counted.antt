@@ -8,12 +8,12 @@ use Rattle.dv_defs.specs.declared.run.Limits.{Limits}
 use Rattle.dv_defs.specs.Images.{Image}
 use Rattle.dv_words.specs.declared.state.Level.{Level}
 use Rattle.dv_words.specs.State.{WordHeap, WordShared, WordStack, WordThread}
-use Rattle.dv_steps.specs.Step.{with_thread}
-use Rattle.dv_steps.specs.Steps.{At, Left}
+use Rattle.dv_words.specs.Step.{with_thread}
+use Rattle.dv_words.specs.Steps.{At, Left}
 use Rattle.dv_threads.specs.declared.threads.Threads.{Threads}
 use Rattle.dv_threads.specs.Kept.{AreAligned, bounds, threads_of}
 use Rattle.dv_core.specs.declared.guest.Guest.{Guest}
-use Rattle.dv_defs.specs.Statics as statics
+use Rattle.dv_typing.specs.Statics as statics
 use Rattle.dv_core.specs.Guests.{IsSeen, Leaves, StandsAt, Stays}
 use Rattle.dv_core.specs.Machines.{counted, ended_at, machine_with}
 use Rattle.dv_core.proofs.Settled.{ended_left, left_there}

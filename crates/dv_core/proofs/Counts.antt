@@ -2,7 +2,7 @@
 use Rattle.std.proofs.Common.{ℕ, ◌≤◌, Bool, true, false, List, [], ◌∷◌, Option, Some, None, All, arith}
 use Rattle.std.specs.Prelude.{nat_eq}
 use Rattle.std.proofs.lemmas.List.Elements.{All-head, All-tail}
-use Rattle.dv_defs.specs.Monitors.{Held, Monitors, held_in}
+use Rattle.dv_machine.specs.Monitors.{Held, Monitors, held_in}
 use Rattle.dv_machine.specs.State.{Thread}
 use Rattle.dv_machine.specs.WellTyped.{HeldFine}
 use Rattle.dv_monitor.specs.State.{count_of}

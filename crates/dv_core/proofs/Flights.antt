@@ -4,12 +4,12 @@ use Rattle.std.specs.declared.alloc.AllocError.{AllocError}
 use Rattle.dv_defs.specs.declared.run.Limits.{Limits}
 use Rattle.dv_defs.specs.declared.run.Next.{Next}
 use Rattle.dv_defs.specs.declared.run.Next.TheVariants as next
-use Rattle.dv_defs.specs.Classes.{Classes}
+use Rattle.dv_machine.specs.Classes.{Classes}
 use Rattle.dv_defs.specs.Images.{Image}
 use Rattle.dv_words.specs.State.{WordHeap, WordShared, WordStack, WordThread}
-use Rattle.dv_steps.specs.Answering.{LeavesStack}
-use Rattle.dv_steps.specs.Steps.{At, Left}
-use Rattle.dv_steps.specs.Unwinding.{Caught, Flies, Lacking, Unwound}
+use Rattle.dv_words.specs.Answering.{LeavesStack}
+use Rattle.dv_words.specs.Steps.{At, Left}
+use Rattle.dv_words.specs.Unwinding.{Caught, Flies, Lacking, Unwound}
 use Rattle.dv_throw.specs.Answers as throw
 use Rattle.dv_throw.specs.Answers.{Unwinds, sharing}
 use Rattle.dv_core.specs.declared.guest.Guest.{Guest}

@@ -6,10 +6,10 @@ use Rattle.dv_defs.specs.declared.faults.Rule.{Rule}
 use Rattle.dv_defs.specs.Decoding.{Sized, insn_here}
 use Rattle.dv_defs.specs.Images.{Image}
 use Rattle.dv_defs.specs.Op.{Code, Resolved, code_at, op_of}
-use Rattle.dv_defs.specs.Statics as statics
-use Rattle.dv_defs.specs.Statics.{fetch}
+use Rattle.dv_typing.specs.Statics as statics
+use Rattle.dv_typing.specs.Statics.{fetch}
 use Rattle.dv_defs.specs.Tiling.{tiles_in, tiling}
-use Rattle.dv_fetch.proofs.Fetched.{payload_there}
+use Rattle.dv_ops.proofs.Fetched.{payload_there}
 use Rattle.dv_ops.specs.declared.op.Op.{Op}
 use Rattle.dv_ops.specs.Meaning.{has_payload, meant, meant_or_rule}
 use Rattle.dv_words.specs.declared.state.Level.{Level}
@@ -18,10 +18,10 @@ use Rattle.dv_words.specs.State.{WordStack, WordThread}
 use Rattle.dv_frames.specs.declared.heads.Head.{Head}
 use Rattle.dv_frames.specs.Heads.{head_in}
 use Rattle.dv_frames.specs.Tops.{head_of}
-use Rattle.dv_steps.proofs.Fetching.{is_fetched, is_read}
-use Rattle.dv_steps.specs.Answering.{IsStackOf}
-use Rattle.dv_steps.specs.Fetching.{IsFetched, IsThere}
-use Rattle.dv_steps.specs.Steps.{At}
+use Rattle.law_words.proofs.Fetching.{is_fetched, is_read}
+use Rattle.dv_words.specs.Answering.{IsStackOf}
+use Rattle.dv_words.specs.Fetching.{IsFetched, IsThere}
+use Rattle.dv_words.specs.Steps.{At}
 use Rattle.dv_call.proofs.Resumed.{no_code}
 use Rattle.dv_core.specs.declared.instructions.Instruction.{Instruction}
 use Rattle.dv_core.specs.Guests.{IsAtOp}

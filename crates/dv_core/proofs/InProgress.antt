@@ -2,10 +2,10 @@
 use Rattle.std.proofs.Common.{◌≡◌, ℕ, ◌+◌, Bool, true, false, List, [], ◌∷◌, Some, refl, sym, ap, ◌∙◌, arith}
 use Rattle.std.specs.Prelude.{nat_eq, slice_get, if◌then◌else◌}
 use Rattle.std.proofs.lemmas.Bool.{eq-eqb, eqb-true}
-use Rattle.dv_defs.specs.declared.machine.Level as tagged_level
-use Rattle.dv_defs.specs.declared.machine.Level.TheVariants as level_of_tagged
+use Rattle.dv_machine.specs.Level as tagged_level
+use Rattle.dv_machine.specs.Level as level_of_tagged
 use Rattle.dv_defs.specs.declared.names.ClassId.{ClassId}
-use Rattle.dv_defs.specs.Classes.{ClassState, InProgress, state_at}
+use Rattle.dv_machine.specs.Classes.{ClassState, InProgress, state_at}
 use Rattle.dv_defs.specs.Images.{Image}
 use Rattle.dv_machine.specs.State.{Machine, Thread}
 use Rattle.dv_machine.specs.WellTyped.{Typings, WellTyped, levels_in, owed, records}

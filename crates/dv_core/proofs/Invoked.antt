@@ -9,12 +9,12 @@ use Rattle.dv_defs.specs.Images.{Image}
 use Rattle.dv_defs.specs.Op.{Invoke, named_registers}
 use Rattle.dv_defs.specs.Parts.{Call}
 use Rattle.dv_defs.specs.Pools.{Method, method_at}
-use Rattle.dv_defs.specs.Statics as statics
+use Rattle.dv_typing.specs.Statics as statics
 use Rattle.dv_words.specs.Stacks.{arg_words}
 use Rattle.dv_words.specs.State.{WordShared, WordStack, WordThread}
-use Rattle.dv_steps.specs.Calls as steps
-use Rattle.dv_steps.specs.Local.{reg_word}
-use Rattle.dv_steps.specs.Steps.{At}
+use Rattle.dv_words.specs.Calls as steps
+use Rattle.dv_words.specs.Local.{reg_word}
+use Rattle.dv_words.specs.Steps.{At}
 use Rattle.dv_call.specs.Landings as calls
 use Rattle.dv_call.specs.Landings.{IsNumbered, IsOwn, Landed, Runs, called, done}
 use Rattle.dv_call.proofs.Called.{invoke_is}

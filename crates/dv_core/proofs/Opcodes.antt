@@ -12,8 +12,8 @@ use Rattle.dv_defs.specs.Numbers.{jump}
 use Rattle.dv_defs.specs.Op.{Arg, Code, IntDivide, IntOp, LongDivide, LongOp, LongShift, Op, Resolved, code_at, fill_op, int_op, is_local, long_op, move_op, needs, on_pool, op_of, packed_op, resolve, resolve_by, resolved_field, result_op, sparse_op}
 use Rattle.dv_defs.specs.Parts.{Bin, Width, is_division, is_shift}
 use Rattle.dv_defs.specs.Pools.{Method, method_at}
-use Rattle.dv_defs.specs.Statics as statics
-use Rattle.dv_defs.specs.Statics.{fetch}
+use Rattle.dv_typing.specs.Statics as statics
+use Rattle.dv_typing.specs.Statics.{fetch}
 use Rattle.dv_defs.specs.Tiling.{payload_at}
 use Rattle.dv_machine.specs.Replaying.{is_local_at}
 use Rattle.dv_words.specs.declared.state.Frame.{Frame}
@@ -21,9 +21,9 @@ use Rattle.dv_words.specs.declared.state.Level.{Level}
 use Rattle.dv_words.specs.declared.state.Level.TheVariants as level
 use Rattle.dv_words.specs.Stacks.{first}
 use Rattle.dv_words.specs.State.{WordMachine}
-use Rattle.dv_steps.proofs.Fetching.{is_fetched, is_read}
-use Rattle.dv_steps.specs.Running.{blocked_at, blocked_needing}
-use Rattle.dv_simulation.specs.KeepLaws.{is_local_level_of}
+use Rattle.law_words.proofs.Fetching.{is_fetched, is_read}
+use Rattle.dv_words.specs.Running.{blocked_at, blocked_needing}
+use Rattle.law_engine.specs.KeepLaws.{is_local_level_of}
 use Rattle.dv_call.proofs.Resumed.{no_code}
 use Rattle.dv_local.proofs.Opcodes.{opcode_read}
 use Rattle.dv_core.specs.Opcodes.{may_hold_up, opcode_at, opcode_in}

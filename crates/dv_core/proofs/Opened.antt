@@ -10,13 +10,13 @@ use Rattle.dv_defs.specs.declared.run.Limits.{Limits}
 use Rattle.dv_defs.specs.declared.names.Base.TheVariants as base
 use Rattle.dv_defs.specs.declared.names.Ty.{Ty}
 use Rattle.dv_defs.specs.Names.{string_name}
-use Rattle.dv_defs.specs.Classes.{Classes, Fresh, Ready, state_at}
+use Rattle.dv_machine.specs.Classes.{Classes, Fresh, Ready, state_at}
 use Rattle.dv_defs.specs.Images.{Image}
-use Rattle.dv_defs.specs.Monitors.{Monitors}
+use Rattle.dv_machine.specs.Monitors.{Monitors}
 use Rattle.dv_defs.specs.Pools.{Method, method_at}
-use Rattle.dv_laws.proofs.lemmas.Common.Members.{class_of_method}
+use Rattle.law_machine.proofs.lemmas.Common.Members.{class_of_method}
 use Rattle.dv_machine.specs.Calls.{registers_of}
-use Rattle.dv_machine.specs.StepLaws.{IsMain}
+use Rattle.dv_machine.specs.Mains.{IsMain}
 use Rattle.dv_machine.specs.Opening.{first_states, is_born, opening_states}
 use Rattle.dv_clinit.specs.Births.{first_state}
 use Rattle.dv_monitor.specs.State.{no_monitors}
@@ -24,8 +24,8 @@ use Rattle.dv_words.specs.declared.state.Level.{Level}
 use Rattle.dv_words.specs.declared.state.Level.TheVariants as level
 use Rattle.dv_words.specs.Stacks.{empty, has_room, size_of, with_levels}
 use Rattle.dv_words.specs.State.{WordHeap, WordMachine, WordStack, WordThread}
-use Rattle.dv_steps.specs.Calls.{entered_frame}
-use Rattle.dv_steps.specs.Opening.{main_args, main_thread, opening, opening_heap, opening_levels}
+use Rattle.dv_words.specs.Calls.{entered_frame}
+use Rattle.dv_words.specs.Opening.{main_args, main_thread, opening, opening_heap, opening_levels}
 use Rattle.dv_threads.specs.declared.threads.Threads.{Threads}
 use Rattle.dv_threads.specs.Kept.{bounds, threads_of}
 use Rattle.dv_core.specs.Openings.{HasMainRoom, IsAlone, TakesStrings, is_fresh, opening_stack, stack_with_main, with_level}

@@ -8,8 +8,8 @@ use Rattle.dv_defs.specs.declared.run.Next.TheVariants as next
 use Rattle.dv_defs.specs.Images.{Image}
 use Rattle.dv_defs.specs.declared.code.Regs.{Regs}
 use Rattle.dv_defs.specs.Op.{Code, Op, is_local, named_registers}
-use Rattle.dv_defs.specs.Statics as statics
-use Rattle.dv_defs.specs.Statics.{fetch}
+use Rattle.dv_typing.specs.Statics as statics
+use Rattle.dv_typing.specs.Statics.{fetch}
 use Rattle.dv_defs.specs.Tiling.{tiles_in, tiling}
 use Rattle.dv_machine.specs.State.{Did, Go, NoOutput, NoRoom, NoWords, Throws, ThrowsRef}
 use Rattle.dv_words.specs.declared.state.Frame.{Frame}
@@ -18,11 +18,11 @@ use Rattle.dv_words.specs.declared.state.Level.TheVariants as level
 use Rattle.dv_words.specs.Stacks.{arg_words, changed, first, on_top, top_regs, with_levels}
 use Rattle.dv_words.specs.State.{WordHeap, WordShared, WordStack, WordThread}
 use Rattle.dv_words.specs.Words.{word_at}
-use Rattle.dv_steps.specs.Answering.{IsStackOf, Leads, LeavesStack}
-use Rattle.dv_steps.specs.Local.{reg_word, word_local}
-use Rattle.dv_steps.specs.Mem.{WordHere, WordLeft, word_mem}
-use Rattle.dv_steps.specs.Stepping.{Answered, KeysRise, StepsLocally}
-use Rattle.dv_steps.specs.Steps.{At, Left, carried, leaves, mem_here, mem_left, with_heap, with_left, with_monitors}
+use Rattle.dv_words.specs.Answering.{IsStackOf, Leads, LeavesStack}
+use Rattle.dv_words.specs.Local.{reg_word, word_local}
+use Rattle.dv_words.specs.Mem.{WordHere, WordLeft, word_mem}
+use Rattle.dv_words.specs.Stepping.{Answered, KeysRise, StepsLocally}
+use Rattle.dv_words.specs.Steps.{At, Left, carried, leaves, mem_here, mem_left, with_heap, with_left, with_monitors}
 use Rattle.dv_mem.specs.Operands.{AreOperands}
 use Rattle.dv_mem.specs.Stepping.{is_mem}
 use Rattle.dv_mem.specs.Tops.{frame_in, seen, top_frame}

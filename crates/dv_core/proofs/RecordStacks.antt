@@ -9,12 +9,12 @@ use Rattle.dv_defs.specs.declared.machine.End.{End}
 use Rattle.dv_defs.specs.declared.run.Limits.{Limits}
 use Rattle.dv_defs.specs.declared.run.Next.{Next}
 use Rattle.dv_defs.specs.declared.run.Next.TheVariants as next
-use Rattle.dv_defs.specs.Classes.{Classes}
+use Rattle.dv_machine.specs.Classes.{Classes}
 use Rattle.dv_defs.specs.Images.{Image}
 use Rattle.dv_machine.specs.State.{Did, Go, NoOutput, NoRoom, NoWords, Throws, ThrowsRef}
 use Rattle.dv_words.specs.State.{WordHeap, WordShared, WordStack, WordThread}
-use Rattle.dv_steps.specs.Answering.{Leads, LeavesStack}
-use Rattle.dv_steps.specs.Steps.{At, Left, with_classes}
+use Rattle.dv_words.specs.Answering.{Leads, LeavesStack}
+use Rattle.dv_words.specs.Steps.{At, Left, with_classes}
 use Rattle.dv_threads.specs.Kept.{bounds, threads_of, zipped}
 use Rattle.dv_threads.proofs.Leaving.{no_more}
 use Rattle.dv_core.specs.declared.guest.Guest.{Guest}

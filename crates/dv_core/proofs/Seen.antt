@@ -7,14 +7,14 @@ use Rattle.dv_defs.specs.declared.machine.End.{End}
 use Rattle.dv_defs.specs.declared.run.Limits.{Limits}
 use Rattle.dv_defs.specs.declared.run.Next.{Next}
 use Rattle.dv_defs.specs.declared.run.Next.TheVariants as next
-use Rattle.dv_defs.specs.Classes.{ask_of}
+use Rattle.dv_machine.specs.Classes.{ask_of}
 use Rattle.dv_defs.specs.Images.{Image}
 use Rattle.dv_machine.specs.State.{Did, Go, NoOutput, NoRoom, NoWords, Throws, ThrowsRef}
 use Rattle.dv_words.specs.declared.state.Level.{Level}
 use Rattle.dv_words.specs.declared.state.Level.TheVariants as level
 use Rattle.dv_words.specs.State.{WordShared, WordStack, WordThread}
-use Rattle.dv_steps.specs.Answering.{IsStackOf, Leads, LeavesStack}
-use Rattle.dv_steps.specs.Steps.{At, Left, leaves}
+use Rattle.dv_words.specs.Answering.{IsStackOf, Leads, LeavesStack}
+use Rattle.dv_words.specs.Steps.{At, Left, leaves}
 use Rattle.dv_threads.specs.Kept.{bounds, threads_of, zipped}
 use Rattle.dv_core.specs.declared.guest.Guest.{Guest}
 use Rattle.dv_core.specs.Guests.{IsOrdered, IsSeen, Leaves, Stays, shared_of}

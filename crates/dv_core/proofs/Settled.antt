@@ -3,7 +3,7 @@ use Rattle.std.proofs.Common.{◌≡◌, ◌<◌, ℕ, zero, suc, ◌++◌, true
 use Rattle.std.proofs.Math.Dec.{eqb-suc-zero}
 use Rattle.std.specs.Prelude.{Some, slice_get, slice_set}
 use Rattle.dv_defs.specs.declared.machine.End.TheVariants as end
-use Rattle.dv_steps.specs.Step.{end_after, end_flying}
+use Rattle.dv_words.specs.Step.{end_after, end_flying}
 use Rattle.dv_defs.specs.declared.machine.End.{End}
 use Rattle.dv_words.specs.declared.state.Level.{Level}
 use Rattle.dv_words.specs.State.{WordStack, WordThread}

@@ -7,13 +7,13 @@ use Rattle.dv_defs.specs.declared.run.Limits.{Limits}
 use Rattle.dv_defs.specs.declared.run.Named.{Named}
 use Rattle.dv_defs.specs.declared.run.Next.TheVariants as next
 use Rattle.dv_defs.specs.Images.{Image}
-use Rattle.dv_defs.specs.Statics as statics
+use Rattle.dv_typing.specs.Statics as statics
 use Rattle.dv_machine.specs.State.{Did, Go, NoOutput, NoRoom, NoWords, Throws, ThrowsRef}
 use Rattle.dv_words.specs.State.{WordMachine, WordShared, WordThread}
-use Rattle.dv_steps.specs.Answering.{Leads}
-use Rattle.dv_steps.specs.Step.{end_flying, flown, gone_on, settled, settled_flight, stopped, thrown}
-use Rattle.dv_steps.specs.Steps.{At, Left, leaves}
-use Rattle.dv_steps.specs.Unwinding.{Caught, Flies, Lacking, Unwound, made_object}
+use Rattle.dv_words.specs.Answering.{Leads}
+use Rattle.dv_words.specs.Step.{end_flying, flown, gone_on, settled, settled_flight, stopped, thrown}
+use Rattle.dv_words.specs.Steps.{At, Left, leaves}
+use Rattle.dv_words.specs.Unwinding.{Caught, Flies, Lacking, Unwound, made_object}
 use Rattle.dv_throw.specs.Answers.{Unwinds}
 use Rattle.std.specs.declared.alloc.AllocError.{AllocError}
 use Rattle.dv_threads.specs.Kept.{threads_of}

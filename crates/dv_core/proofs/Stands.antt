@@ -3,9 +3,9 @@ use Rattle.std.proofs.Common.{◌≡◌, ℕ, zero, suc, List, [], ◌∷◌, So
 use Rattle.std.specs.List.{AllZip}
 use Rattle.std.specs.Prelude.{slice_get}
 use Rattle.std.proofs.lemmas.Option.{same_Some}
-use Rattle.dv_defs.specs.declared.machine.Frame as tagged
-use Rattle.dv_defs.specs.declared.machine.Level as tagged_level
-use Rattle.dv_defs.specs.declared.machine.Level.TheVariants as level_of_tagged
+use Rattle.dv_machine.specs.Frame as tagged
+use Rattle.dv_machine.specs.Level as tagged_level
+use Rattle.dv_machine.specs.Level as level_of_tagged
 use Rattle.dv_machine.specs.State.{Thread}
 use Rattle.dv_words.specs.declared.state.Frame.{Frame}
 use Rattle.dv_words.specs.declared.state.Level.{Level}

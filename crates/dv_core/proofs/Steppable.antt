@@ -2,14 +2,14 @@
 use Rattle.std.proofs.Common.{◌≡◌, ℕ, ◌<◌, ◌-◌, ◌^◌, List, ◌∷◌, Bool, Option, Some, None, sym, ap, ◌∙◌, subst, arith}
 use Rattle.std.proofs.lemmas.Option.{same_Some}
 use Rattle.dv_defs.specs.declared.machine.End.TheVariants as end
-use Rattle.dv_defs.specs.declared.machine.Frame as tagged
+use Rattle.dv_machine.specs.Frame as tagged
 use Rattle.dv_defs.specs.declared.names.ClassId.{ClassId}
-use Rattle.dv_defs.specs.Demands.{demands}
-use Rattle.dv_defs.specs.Classes.{Classes, InProgress, state_at}
+use Rattle.dv_typing.specs.Demands.{demands}
+use Rattle.dv_machine.specs.Classes.{Classes, InProgress, state_at}
 use Rattle.dv_defs.specs.Images.{Image}
 use Rattle.dv_defs.specs.Op.{Op, Invoke}
-use Rattle.dv_defs.specs.Statics as statics
-use Rattle.dv_defs.specs.Statics.{fetch}
+use Rattle.dv_typing.specs.Statics as statics
+use Rattle.dv_typing.specs.Statics.{fetch}
 use Rattle.dv_machine.specs.Accepted.{Accepted}
 use Rattle.dv_machine.specs.State.{Machine}
 use Rattle.dv_machine.specs.WellTyped.{IsPlaced, Typings, own_of}
@@ -17,12 +17,12 @@ use Rattle.dv_words.specs.declared.state.Level.{Level}
 use Rattle.dv_words.specs.declared.state.Level.TheVariants as level
 use Rattle.dv_words.specs.Standing.{FrameStands, HeapStands, LevelsStand, SharedStands}
 use Rattle.dv_words.specs.State.{WordMachine, WordShared, WordThread}
-use Rattle.dv_steps.specs.StepLaws.{AllKeysRise, CallFits, StringsFit}
-use Rattle.dv_steps.specs.Steps.{At, mem_here}
-use Rattle.dv_steps.proofs.Fitting.{fetched_operands_fit}
+use Rattle.law_words.specs.StepLaws.{AllKeysRise, CallFits, StringsFit}
+use Rattle.dv_words.specs.Steps.{At, mem_here}
+use Rattle.law_words.proofs.Fitting.{fetched_operands_fit}
 use Rattle.dv_mem.proofs.Typed.{operands_stand}
-use Rattle.dv_simulation.specs.Laws.{IsSimulated}
-use Rattle.dv_simulation.proofs.Fields.{accepted_images_fit}
+use Rattle.law_engine.specs.Laws.{IsSimulated}
+use Rattle.law_engine.proofs.Fields.{accepted_images_fit}
 use Rattle.dv_threads.specs.Kept.{HasRoom, threads_of}
 use Rattle.dv_core.specs.declared.vm.Vm.{Vm}
 use Rattle.dv_core.specs.Fitting.{AreCountable, ArgumentsFit, RecordFits, StepFits}

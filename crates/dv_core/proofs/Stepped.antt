@@ -8,12 +8,12 @@ use Rattle.dv_defs.specs.declared.names.ClassId.{ClassId}
 use Rattle.dv_defs.specs.declared.names.MethodId.{MethodId}
 use Rattle.dv_defs.specs.declared.run.Limits.{Limits}
 use Rattle.dv_defs.specs.declared.run.Next.{Next}
-use Rattle.dv_defs.specs.Flow.{handlers_at}
+use Rattle.dv_typing.specs.Flow.{handlers_at}
 use Rattle.dv_defs.specs.Images.{Image}
 use Rattle.dv_defs.specs.Op as ops
 use Rattle.dv_defs.specs.Pools.{Method, method_at}
-use Rattle.dv_defs.specs.Statics as statics
-use Rattle.dv_defs.specs.Statics.{fetch}
+use Rattle.dv_typing.specs.Statics as statics
+use Rattle.dv_typing.specs.Statics.{fetch}
 use Rattle.dv_machine.specs.Step.{no_method}
 use Rattle.dv_words.specs.declared.state.Frame.{Frame}
 use Rattle.dv_words.specs.declared.state.Level.{Level}
@@ -23,9 +23,9 @@ use Rattle.dv_words.specs.State.{WordMachine, WordStack, WordThread}
 use Rattle.dv_frames.specs.declared.levels.Top.TheVariants as top
 use Rattle.dv_frames.specs.declared.levels.Top.{Top}
 use Rattle.dv_frames.specs.Tops.{top_of}
-use Rattle.dv_steps.specs.Step.{here, no_frame, record_step, settled, settled_flight, step, step_at, step_code, step_flight, step_living, step_of, step_thread, with_ready}
-use Rattle.dv_steps.specs.Steps.{At, Left}
-use Rattle.dv_steps.specs.Unwinding.{Unwound, handler_for, unwind_frame, unwind_record}
+use Rattle.dv_words.specs.Step.{here, no_frame, record_step, settled, settled_flight, step, step_at, step_code, step_flight, step_living, step_of, step_thread, with_ready}
+use Rattle.dv_words.specs.Steps.{At, Left}
+use Rattle.dv_words.specs.Unwinding.{Unwound, handler_for, unwind_frame, unwind_record}
 use Rattle.dv_throw.specs.Answers.{Unwinds}
 use Rattle.dv_threads.specs.Kept.{threads_of, zipped}
 use Rattle.dv_core.specs.declared.guest.Guest.{Guest}
@@ -33,7 +33,7 @@ use Rattle.dv_core.specs.declared.vm.Vm.{Vm}
 use Rattle.dv_core.specs.Guests.{IsOrdered, IsSeen, Stays}
 use Rattle.dv_core.specs.Machines.{IsStepped, machine_of}
 use Rattle.dv_defs.specs.declared.run.Next.TheVariants as next
-use Rattle.dv_steps.specs.Unwinding.{Caught, Flies, Lacking}
+use Rattle.dv_words.specs.Unwinding.{Caught, Flies, Lacking}
 
 -- ---- answers
 

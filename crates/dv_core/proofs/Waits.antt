@@ -17,8 +17,8 @@ use Rattle.dv_defs.specs.Names.{init_name}
 use Rattle.dv_defs.specs.Op.{Invoke}
 use Rattle.dv_defs.specs.Parts.{Call}
 use Rattle.dv_defs.specs.Pools.{Method, is_abstract, is_constructor, is_static, method_at, nearest, parent_at}
-use Rattle.dv_defs.specs.Statics as statics
-use Rattle.dv_defs.specs.Statics.{fetch}
+use Rattle.dv_typing.specs.Statics as statics
+use Rattle.dv_typing.specs.Statics.{fetch}
 use Rattle.dv_machine.specs.Accepted.{FindsRightly}
 use Rattle.dv_machine.specs.Calls.{Landing, Lacks, Lands, found, native_of, nearest_from, receiver_of, unless_abstract}
 use Rattle.dv_words.specs.declared.state.Frame.{Frame}
@@ -30,17 +30,17 @@ use Rattle.dv_words.specs.State.{WordHeap, WordMachine, WordStack, WordThread}
 use Rattle.dv_frames.specs.declared.levels.Top.TheVariants as top
 use Rattle.dv_frames.specs.Tops.{top_of}
 use Rattle.dv_defs.specs.declared.names.MethodId.{MethodId}
-use Rattle.dv_steps.specs.Answering.{IsStackOf}
-use Rattle.dv_steps.specs.Calls.{dispatch, implements_it}
-use Rattle.dv_steps.specs.Local.{reg_word}
-use Rattle.dv_steps.specs.Running.{blocked_call, blocked_join, blocked_landing, blocked_levels, blocked_native, blocked_of, blocked_one, blocked_receiver, blocked_thread, all_ended, any_runnable, runnable, runnable_one, runnable_thread}
-use Rattle.dv_steps.specs.Steps.{At}
-use Rattle.dv_steps.specs.Threads.{class_of_kind, is_alive, is_living, thread_with}
+use Rattle.dv_words.specs.Answering.{IsStackOf}
+use Rattle.dv_words.specs.Calls.{dispatch, implements_it}
+use Rattle.dv_words.specs.Local.{reg_word}
+use Rattle.dv_words.specs.Running.{blocked_call, blocked_join, blocked_landing, blocked_levels, blocked_native, blocked_of, blocked_one, blocked_receiver, blocked_thread, all_ended, any_runnable, runnable, runnable_one, runnable_thread}
+use Rattle.dv_words.specs.Steps.{At}
+use Rattle.dv_words.specs.Threads.{class_of_kind, is_alive, is_living, thread_with}
 use Rattle.dv_threads.specs.Kept.{threads_of, zipped}
 use Rattle.dv_threads.proofs.Begins.{found_from}
 use Rattle.dv_threads.proofs.Begins as begins
-use Rattle.dv_laws.proofs.lemmas.Calls.Dispatched.{constructor_not_native}
-use Rattle.dv_laws.proofs.lemmas.Returns.Constructed.{not_static}
+use Rattle.law_machine.proofs.lemmas.Calls.Dispatched.{constructor_not_native}
+use Rattle.law_machine.proofs.lemmas.Returns.Constructed.{not_static}
 use Rattle.dv_call.specs.Landings.{Enters, Fails, called_in, constructs, first_of, on_landing, on_object, on_receiver, run_by}
 use Rattle.dv_core.specs.declared.guest.Guest.{Guest}
 use Rattle.dv_core.specs.declared.vm.Vm.{Vm}

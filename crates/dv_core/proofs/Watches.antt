@@ -3,7 +3,7 @@ use Rattle.std.proofs.Common.{◌≡◌, ◌∙◌, ℕ, List, [], ◌∷◌, So
 use Rattle.std.specs.Prelude.{slice_get}
 use Rattle.dv_defs.specs.declared.machine.End.TheVariants as end
 use Rattle.dv_defs.specs.Images.{Image}
-use Rattle.dv_defs.specs.Statics.{fetch}
+use Rattle.dv_typing.specs.Statics.{fetch}
 use Rattle.dv_machine.specs.Accepted.{Accepted}
 use Rattle.dv_machine.specs.State.{Machine}
 use Rattle.dv_machine.specs.WellTyped.{Typings}
@@ -11,10 +11,10 @@ use Rattle.dv_words.specs.declared.state.Frame.{Frame}
 use Rattle.dv_words.specs.declared.state.Level.{Level}
 use Rattle.dv_words.specs.declared.state.Level.TheVariants as level
 use Rattle.dv_words.specs.State.{WordThread}
-use Rattle.dv_steps.specs.StepLaws.{StringsFit}
-use Rattle.dv_steps.proofs.Fitting.{fetched_operands_fit}
-use Rattle.dv_simulation.specs.Laws.{IsSimulated}
-use Rattle.dv_simulation.proofs.Fields.{accepted_images_fit}
+use Rattle.law_words.specs.StepLaws.{StringsFit}
+use Rattle.law_words.proofs.Fitting.{fetched_operands_fit}
+use Rattle.law_engine.specs.Laws.{IsSimulated}
+use Rattle.law_engine.proofs.Fields.{accepted_images_fit}
 use Rattle.dv_threads.specs.Kept.{threads_of}
 use Rattle.dv_core.specs.declared.vm.Vm.{Vm}
 use Rattle.dv_core.specs.Machines.{machine_of}

@@ -8,8 +8,8 @@ use Rattle.dv_words.specs.declared.state.Frame.{Frame}
 use Rattle.dv_words.specs.declared.state.Level.{Level}
 use Rattle.dv_words.specs.declared.state.Level.TheVariants as level
 use Rattle.dv_words.specs.State.{WordMachine, WordStack, WordThread}
-use Rattle.dv_steps.specs.StepLaws.{with_top}
-use Rattle.dv_steps.specs.Stepping.{RanLocally}
+use Rattle.law_words.specs.StepLaws.{with_top}
+use Rattle.dv_words.specs.Stepping.{RanLocally}
 use Rattle.dv_local.specs.Tops.{RanTop}
 
 -- ---- the frame that goes on

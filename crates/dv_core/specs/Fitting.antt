@@ -2,12 +2,12 @@
 use Rattle.std.specs.Prelude.{◌≡◌, ◌<◌, ◌-◌, ◌^◌, ℕ, map}
 use Rattle.dv_defs.specs.declared.names.ClassId.{ClassId}
 use Rattle.dv_defs.specs.declared.run.Native.{Native}
-use Rattle.dv_defs.specs.Classes.{InProgress, state_at}
+use Rattle.dv_machine.specs.Classes.{InProgress, state_at}
 use Rattle.dv_defs.specs.Op.{Op, Invoke}
-use Rattle.dv_steps.specs.Local.{reg_word}
-use Rattle.dv_steps.specs.StepLaws.{CallFits}
-use Rattle.dv_steps.specs.Stepping.{KeysRise}
-use Rattle.dv_steps.specs.Steps.{At, mem_here}
+use Rattle.dv_words.specs.Local.{reg_word}
+use Rattle.law_words.specs.StepLaws.{CallFits}
+use Rattle.dv_words.specs.Stepping.{KeysRise}
+use Rattle.dv_words.specs.Steps.{At, mem_here}
 use Rattle.dv_monitor.specs.State.{count_of}
 use Rattle.dv_mem.specs.Operands.{AreOperands}
 use Rattle.dv_call.specs.Landings.{called, Runs}

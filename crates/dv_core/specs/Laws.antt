@@ -4,8 +4,8 @@ use Rattle.dv_defs.specs.Images.{Image}
 use Rattle.dv_machine.specs.Accepted.{Accepted}
 use Rattle.dv_machine.specs.State.{Machine}
 use Rattle.dv_machine.specs.WellTyped.{Typings}
-use Rattle.dv_steps.specs.StepLaws.{AllKeysRise, StringsFit}
-use Rattle.dv_simulation.specs.Laws.{IsSimulated}
+use Rattle.law_words.specs.StepLaws.{AllKeysRise, StringsFit}
+use Rattle.law_engine.specs.Laws.{IsSimulated}
 use Rattle.dv_threads.specs.Kept.{HasRoom}
 use Rattle.dv_core.specs.declared.vm.Vm.{Vm}
 use Rattle.dv_core.specs.Guests.{IsOrdered}

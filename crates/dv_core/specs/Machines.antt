@@ -7,13 +7,13 @@ use Rattle.dv_defs.specs.declared.run.Ending.{Ending}
 use Rattle.dv_defs.specs.declared.run.Limits.{Limits}
 use Rattle.dv_defs.specs.Images.{Image}
 use Rattle.dv_defs.specs.Pools.{method_at}
-use Rattle.dv_defs.specs.Statics as statics
-use Rattle.dv_defs.specs.Statics.{fetch}
+use Rattle.dv_typing.specs.Statics as statics
+use Rattle.dv_typing.specs.Statics.{fetch}
 use Rattle.dv_words.specs.declared.state.Frame.{Frame}
 use Rattle.dv_words.specs.declared.state.Level.{Level}
 use Rattle.dv_words.specs.declared.state.Level.TheVariants as level
 use Rattle.dv_words.specs.State.{WordMachine, WordThread}
-use Rattle.dv_steps.specs.Steps.{At}
+use Rattle.dv_words.specs.Steps.{At}
 use Rattle.dv_threads.specs.Kept.{threads_of}
 use Rattle.dv_core.specs.declared.guest.Guest.{Guest}
 use Rattle.dv_core.specs.declared.vm.Vm.{Vm}

@@ -1,6 +1,6 @@
 -- The stack and the heap with which a run begins, call by call.
 use Rattle.std.specs.Prelude.{◌≡◌, ◌≤◌, ℕ, Bool, true, false, List, ◌∷◌, [], All, unwrap_or, if◌then◌else◌}
-use Rattle.dv_defs.specs.Classes.{ClassState, Fresh}
+use Rattle.dv_machine.specs.Classes.{ClassState, Fresh}
 use Rattle.dv_defs.specs.declared.machine.End.TheVariants as end
 use Rattle.dv_defs.specs.declared.run.Limits.{Limits}
 use Rattle.dv_defs.specs.Images.{Image}
@@ -9,7 +9,7 @@ use Rattle.dv_defs.specs.declared.names.Base.TheVariants as base
 use Rattle.dv_defs.specs.Pools.{Method}
 use Rattle.dv_machine.specs.Opening.{first_states}
 use Rattle.dv_monitor.specs.State.{no_monitors}
-use Rattle.dv_steps.specs.Calls.{entered_frame}
+use Rattle.dv_words.specs.Calls.{entered_frame}
 use Rattle.dv_words.specs.declared.state.Level.{Level}
 use Rattle.dv_words.specs.declared.state.Level.TheVariants as level
 use Rattle.dv_words.specs.Heaps.{uncounted}

@@ -1,9 +1,9 @@
 -- A thread at the record of a class: what its steps see and leave.
 use Rattle.std.specs.Prelude.{◌≡◌, ℕ}
-use Rattle.dv_defs.specs.Classes.{Classes}
+use Rattle.dv_machine.specs.Classes.{Classes}
 use Rattle.dv_words.specs.State.{WordStack}
-use Rattle.dv_steps.specs.Answering.{LeavesStack}
-use Rattle.dv_steps.specs.Steps.{At, Left, with_classes}
+use Rattle.dv_words.specs.Answering.{LeavesStack}
+use Rattle.dv_words.specs.Steps.{At, Left, with_classes}
 
 -- this is the stack of the thread of this number, which steps with these states of classes
 pub record IsBeside (stack : WordStack) (classes : Classes) (thread : ℕ) (h : At) : Type 0 where

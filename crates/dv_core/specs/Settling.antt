@@ -1,7 +1,7 @@
 -- Where a thread stands whose exception is to fly.
 use Rattle.std.specs.Prelude.{ℕ, Option, Some, None, if◌then◌else◌}
-use Rattle.dv_defs.specs.Flow.{is_exit}
-use Rattle.dv_defs.specs.Statics.{At}
+use Rattle.dv_typing.specs.Flow.{is_exit}
+use Rattle.dv_typing.specs.Statics.{At}
 
 -- behind a monitor-exit
 abbrev pub behind : At → Option ℕ

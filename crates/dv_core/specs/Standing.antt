@@ -3,7 +3,7 @@ use Rattle.std.specs.Prelude.{◌≡◌, ℕ, Option, Some, None}
 use Rattle.dv_defs.specs.Op.{Code, Op}
 use Rattle.dv_defs.specs.Tiling.{tiles_in, tiling}
 use Rattle.dv_ops.specs.Meaning.{meant}
-use Rattle.dv_steps.specs.Steps.{At}
+use Rattle.dv_words.specs.Steps.{At}
 use Rattle.dv_core.specs.declared.instructions.Instruction.{Instruction}
 
 -- in a method of these units it means this operation, and the next one follows it

@@ -4,8 +4,8 @@ use Rattle.dv_defs.specs.declared.machine.Blocked.{Blocked}
 use Rattle.dv_defs.specs.declared.machine.End.{End}
 use Rattle.dv_defs.specs.declared.machine.End.TheVariants as end
 use Rattle.dv_defs.specs.Images.{Image}
-use Rattle.dv_defs.specs.Statics as statics
-use Rattle.dv_defs.specs.Statics.{fetch}
+use Rattle.dv_typing.specs.Statics as statics
+use Rattle.dv_typing.specs.Statics.{fetch}
 use Rattle.dv_machine.specs.Accepted.{Accepted, FindsRightly}
 use Rattle.dv_machine.specs.State.{Machine}
 use Rattle.dv_machine.specs.WellTyped.{Typings}
@@ -13,10 +13,10 @@ use Rattle.dv_words.specs.declared.state.Frame.{Frame}
 use Rattle.dv_words.specs.declared.state.Level.{Level}
 use Rattle.dv_words.specs.declared.state.Level.TheVariants as level
 use Rattle.dv_words.specs.State.{WordMachine, WordThread}
-use Rattle.dv_steps.specs.Running.{blocked_native}
-use Rattle.dv_steps.specs.StepLaws.{CallFits, StringsFit}
-use Rattle.dv_steps.specs.Threads.{is_alive}
-use Rattle.dv_simulation.specs.Laws.{IsSimulated}
+use Rattle.dv_words.specs.Running.{blocked_native}
+use Rattle.law_words.specs.StepLaws.{CallFits, StringsFit}
+use Rattle.dv_words.specs.Threads.{is_alive}
+use Rattle.law_engine.specs.Laws.{IsSimulated}
 use Rattle.dv_threads.specs.Kept.{AreAligned, threads_of}
 use Rattle.dv_call.specs.Landings.{Landed, Runs}
 use Rattle.dv_core.specs.declared.guest.Guest.{Guest}

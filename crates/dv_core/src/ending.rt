@@ -1,8 +1,8 @@
 // How a run stands.
 ghost use Rattle.std.specs.Prelude.{◌≡◌, not};
 ghost use Rattle.std.specs.List.{list_all};
-ghost use Rattle.dv_steps.specs.Running as steps;
-ghost use Rattle.dv_steps.specs.Threads as threads;
+ghost use Rattle.dv_words.specs.Running as steps;
+ghost use Rattle.dv_words.specs.Threads as threads;
 ghost use Rattle.dv_threads.specs.Kept.{AreAligned, threads_of};
 ghost use Rattle.dv_core.specs.Machines.{machine_of};
 ghost use Rattle.dv_core.specs.Watching.{AreWatchable};

@@ -1,11 +1,11 @@
 // A step of a thread with an exception in flight.
 ghost use Rattle.std.specs.Prelude.{◌≡◌, ◌∷◌, Bool};
-ghost use Rattle.dv_defs.specs.Flow.{handlers_at};
+ghost use Rattle.dv_typing.specs.Flow.{handlers_at};
 ghost use Rattle.dv_words.specs.State.{WordThread};
 ghost use Rattle.dv_words.specs.declared.state.Frame.{Frame as Activation};
 ghost use Rattle.dv_words.specs.declared.state.Level.TheVariants as level;
-ghost use Rattle.dv_steps.specs.Steps.{At};
-ghost use Rattle.dv_steps.specs.Unwinding.{handler_for, unwind_frame, unwind_record};
+ghost use Rattle.dv_words.specs.Steps.{At};
+ghost use Rattle.dv_words.specs.Unwinding.{handler_for, unwind_frame, unwind_record};
 ghost use Rattle.dv_throw.specs.Answers.{Unwinds};
 ghost use Rattle.dv_core.specs.Fitting.{RecordFits};
 ghost use Rattle.dv_core.specs.Guests.{IsSeen, Leaves, Stays};

@@ -1,21 +1,20 @@
 // The instruction at which a frame goes on, and the class that it needs.
 ghost use Rattle.std.specs.Prelude.{◌≡◌, ℕ, Some as Just, option_map};
 ghost use Rattle.dv_defs.specs.Op.{Code, code_at, needs};
-ghost use Rattle.dv_defs.specs.Statics as statics;
+ghost use Rattle.dv_typing.specs.Statics as statics;
 ghost use Rattle.dv_ops.specs.Meaning.{code_of, meant};
 ghost use Rattle.dv_words.specs.Stacks.{first};
 ghost use Rattle.dv_words.specs.State.{WordStack, WordThread};
 ghost use Rattle.dv_frames.specs.Tops.{head_of};
-ghost use Rattle.dv_steps.specs.Answering.{IsStackOf};
-ghost use Rattle.dv_steps.specs.Steps.{At};
+ghost use Rattle.dv_words.specs.Answering.{IsStackOf};
+ghost use Rattle.dv_words.specs.Steps.{At};
 ghost use Rattle.dv_core.specs.Guests.{IsAtOp};
 ghost use Rattle.dv_core.specs.Opcodes.{opcode_at};
 ghost use Rattle.dv_core.specs.Standing.{IsFound};
 
 use dv_defs::{ClassId, Image};
-use dv_fetch::{resolve, units_of};
+use dv_ops::{Coded, Op, coded_at, resolve, units_of};
 use dv_frames::{Head, Stack};
-use dv_ops::{Coded, Op, coded_at};
 use dv_optable::Call;
 use dv_units::decode;
 

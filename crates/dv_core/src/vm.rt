@@ -1,16 +1,16 @@
 // The engine: guest threads, what they share, and how far the run is.
 ghost use Rattle.std.specs.Prelude.{◌≡◌, ◌<◌, ◌-◌, ◌^◌, ◌∷◌, [], Bool, Some, None, slice_get};
 ghost use Rattle.dv_defs.specs.declared.machine.End.TheVariants as end;
-ghost use Rattle.dv_defs.specs.Flow.{handlers_at};
+ghost use Rattle.dv_typing.specs.Flow.{handlers_at};
 ghost use Rattle.dv_defs.specs.Op as ops;
-ghost use Rattle.dv_defs.specs.Statics as statics;
+ghost use Rattle.dv_typing.specs.Statics as statics;
 ghost use Rattle.dv_words.specs.State.{WordThread};
 ghost use Rattle.dv_words.specs.declared.state.Frame.{Frame as Activation};
 ghost use Rattle.dv_words.specs.declared.state.Level.TheVariants as level;
-ghost use Rattle.dv_steps.specs.Step as steps;
-ghost use Rattle.dv_steps.specs.Step.{record_step, settled, settled_flight, step, with_ready};
-ghost use Rattle.dv_steps.specs.Steps.{At};
-ghost use Rattle.dv_steps.specs.Unwinding.{handler_for, unwind_frame, unwind_record};
+ghost use Rattle.dv_words.specs.Step as steps;
+ghost use Rattle.dv_words.specs.Step.{record_step, settled, settled_flight, step, with_ready};
+ghost use Rattle.dv_words.specs.Steps.{At};
+ghost use Rattle.dv_words.specs.Unwinding.{handler_for, unwind_frame, unwind_record};
 ghost use Rattle.dv_words.specs.Stacks.{first};
 ghost use Rattle.dv_frames.specs.Tops.{top_of};
 ghost use Rattle.dv_threads.specs.Kept.{threads_of};

@@ -12,6 +12,5 @@ pub mod PayloadNumbers
 pub mod PayloadBytes
 pub mod PayloadLaws
 pub mod TilingLaws
-mod Facts
 pub mod Keys
 mod Places

@@ -18,7 +18,7 @@ use Rattle.dv_defs.specs.Names.{string_name, main_name}
 use Rattle.dv_defs.specs.Types.{of_class, words_of, same_proto}
 use Rattle.dv_defs.specs.Field.{may_stand}
 use Rattle.dv_defs.specs.Pools.{Method, Field, method_at, field_at, methods_of, class_named, supers, nearest, declared_by, is_static, is_private, is_constructor, is_static_field, is_interface, no_arguments}
-use Rattle.dv_defs.specs.Joins.{array_of}
+use Rattle.dv_defs.specs.Common.{array_of}
 use Rattle.dv_defs.specs.Order.{numbers}
 use Rattle.dv_defs.specs.LookUp.{field_named, method_named, interfaces_above, once}
 use Rattle.dv_defs.specs.Numbering.{declared, numbered, names_of}

@@ -4,9 +4,9 @@ use Rattle.std.specs.Prelude.{slice_get, nat_eq}
 use Rattle.dv_defs.specs.declared.names.Ty.{Ty}
 use Rattle.dv_defs.specs.declared.faults.Rule.{Rule}
 use Rattle.dv_defs.specs.declared.faults.Rule.TheVariants as rule
-use Rattle.dv_defs.specs.Demands.{Demand, first, demand, long, single_for, args_for, each_for}
+use Rattle.dv_typing.specs.Demands.{Demand, first, demand, long, single_for, args_for, each_for}
 use Rattle.dv_defs.specs.Images.{Image}
-use Rattle.dv_defs.specs.RegTypes.{Types}
+use Rattle.dv_typing.specs.RegTypes.{Types}
 use Rattle.dv_defs.specs.Types.{is_long, words_of}
 use Rattle.dv_demands.specs.Arguments.{long_arg_for}
 

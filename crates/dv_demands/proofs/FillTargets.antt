@@ -11,11 +11,11 @@ use Rattle.dv_defs.specs.Numbers.{jump}
 use Rattle.dv_defs.specs.Parts.{Width, Bin, is_division, is_shift}
 use Rattle.dv_defs.specs.Types.{is_array}
 use Rattle.dv_defs.specs.Families.{Family, family_at}
-use Rattle.dv_defs.specs.Statics.{At, fetch}
+use Rattle.dv_typing.specs.Statics.{At, fetch}
 use Rattle.dv_defs.specs.Tiling.{payload_at, tiles_in}
 use Rattle.dv_defs.specs.Op as machine
 use Rattle.dv_defs.specs.Op.{Op, Arg, Code, Resolved, Fill, reg, named_registers, resolved_field, resolved_method, on_pool, move_op, result_op, int_op, long_op, packed_op, sparse_op, fill_op, class_of_base, new_op, resolve, resolve_by, op_of}
-use Rattle.dv_flowlaws.specs.Clean.{IsClean, IsFetched}
+use Rattle.law_flow.specs.Clean.{IsClean, IsFetched}
 use Rattle.dv_ops.specs.Meaning.{is_data, width_in}
 use Rattle.dv_demands.proofs.PayloadWidths.{sized}
 

@@ -2,11 +2,11 @@
 use Rattle.std.proofs.Common.{◌≡◌, ℕ, Bool, true, false, Option, Some, None, refl, ap, ◌∙◌, is_some}
 use Rattle.dv_defs.specs.Images.{Image}
 use Rattle.dv_defs.specs.Op.{Code, Op}
-use Rattle.dv_defs.specs.Demands.{Demand, demand, goes_on, onward_ok}
+use Rattle.dv_typing.specs.Demands.{Demand, demand, goes_on, onward_ok}
 use Rattle.dv_defs.specs.declared.faults.Rule.TheVariants as rule
-use Rattle.dv_defs.specs.Statics.{At, fetch}
+use Rattle.dv_typing.specs.Statics.{At, fetch}
 use Rattle.dv_defs.specs.Tiling.{begins_insn}
-use Rattle.dv_flowlaws.specs.Clean.{IsClean}
+use Rattle.law_flow.specs.Clean.{IsClean}
 
 by_begin : (image : Image) (code : Code) (at : ℕ) (b : Bool) (o : Option At) → begins_insn code.tiles at ≡ b → fetch image code.method.id at ≡ o → IsClean image code → b ≡ is_some o
 by_begin image code at true (Some x) e f clean = refl

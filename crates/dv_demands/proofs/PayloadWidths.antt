@@ -7,7 +7,7 @@ use Rattle.dv_defs.specs.Spelling.{all_fit}
 use Rattle.dv_defs.specs.Decoding.{Sized, insn_here}
 use Rattle.dv_defs.specs.Tiling.{Piece, Tile, SizedPayload, begins_payload, data_from, doubles, insn_piece, packed_with, payload_at, payload_in, payload_of, payload_piece, piece_here, sparse_with, tile_at, tiled, tiles_in, tiling, with_tile}
 use Rattle.dv_ops.specs.Meaning.{is_data, width_in}
-use Rattle.dv_fetch.proofs.Standing.{met}
+use Rattle.dv_ops.proofs.Standing.{met}
 
 -- units begin with a payload of data for elements of this size
 pub record HasWidth (us : List ℕ) (n : ℕ) : Type 0 where

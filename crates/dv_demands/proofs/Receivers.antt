@@ -2,12 +2,12 @@
 use Rattle.std.proofs.Common.{◌≡◌, ℕ, List, [], ◌∷◌, drop, Some, None, refl, ap}
 use Rattle.std.specs.Prelude.{slice_get}
 use Rattle.dv_defs.specs.declared.faults.Rule.TheVariants as rule
-use Rattle.dv_defs.specs.Demands.{first, args_for, instance_call}
+use Rattle.dv_typing.specs.Demands.{first, args_for, instance_call}
 use Rattle.dv_defs.specs.Images.{Image}
 use Rattle.dv_defs.specs.Parts.{Call}
 use Rattle.dv_defs.specs.Pools.{Method}
-use Rattle.dv_defs.specs.RegTypes.{Types}
-use Rattle.dv_defs.specs.Transfer.{first_of}
+use Rattle.dv_typing.specs.RegTypes.{Types}
+use Rattle.dv_typing.specs.Transfer.{first_of}
 use Rattle.dv_demands.specs.Arguments.{object_for}
 
 pub first_is : (ks : List ℕ) (k : ℕ) → slice_get ks 0 ≡ Some k → first_of ks ≡ k

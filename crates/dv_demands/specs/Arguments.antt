@@ -1,11 +1,11 @@
 -- Parts of what an invoke demands.
 use Rattle.std.specs.Prelude.{ℕ, suc, true, false, Option, Some, None, nat_eq}
 use Rattle.dv_defs.specs.declared.faults.Rule.TheVariants as rule
-use Rattle.dv_defs.specs.Demands.{Demand, first, demand, long, receiver_for, ref_to, super_for}
+use Rattle.dv_typing.specs.Demands.{Demand, first, demand, long, receiver_for, ref_to, super_for}
 use Rattle.dv_defs.specs.Images.{Image}
 use Rattle.dv_defs.specs.Parts.{Call}
 use Rattle.dv_defs.specs.Pools.{Method, is_constructor, own_type}
-use Rattle.dv_defs.specs.RegTypes.{Types, type_at}
+use Rattle.dv_typing.specs.RegTypes.{Types, type_at}
 
 -- a long in a register and the next one that is named
 abbrev pub long_arg_for : Types → ℕ → Option ℕ → Demand

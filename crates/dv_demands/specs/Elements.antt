@@ -1,8 +1,8 @@
 -- The elements that demands want arrays to have.
 use Rattle.std.specs.Prelude.{Bool}
 use Rattle.dv_defs.specs.declared.names.Ty.{Ty}
-use Rattle.dv_defs.specs.Demands.{any_type, is_fill_type}
-use Rattle.dv_defs.specs.Statics.{is_of_suffix}
+use Rattle.dv_typing.specs.Demands.{any_type, is_fill_type}
+use Rattle.dv_typing.specs.Statics.{is_of_suffix}
 use Rattle.dv_units.specs.Tables.{standard_suffix}
 use Rattle.dv_demands.specs.declared.arrays.Elements.{Elements}
 use Rattle.dv_demands.specs.declared.arrays.Elements.TheVariants as elements

@@ -2,7 +2,7 @@
 use Rattle.std.specs.Prelude.{◌≡◌, ℕ, Some}
 use Rattle.dv_defs.specs.Images.{Image}
 use Rattle.dv_defs.specs.Op.{Code}
-use Rattle.dv_defs.specs.Statics.{fetch}
+use Rattle.dv_typing.specs.Statics.{fetch}
 use Rattle.dv_ops.specs.declared.op.Op.{Op}
 use Rattle.dv_ops.specs.Meaning.{meant}
 

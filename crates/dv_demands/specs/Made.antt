@@ -1,13 +1,13 @@
 -- The object that a constructor call is to initialise.
 use Rattle.std.specs.Prelude.{ℕ, true, false, Option, Some, None, option_and_then}
 use Rattle.dv_defs.specs.Images.{Image}
-use Rattle.dv_defs.specs.declared.typing.RegType.{RegType}
-use Rattle.dv_defs.specs.declared.typing.RegType.TheVariants as ty
+use Rattle.dv_typing.specs.declared.typing.RegType.{RegType}
+use Rattle.dv_typing.specs.declared.typing.RegType.TheVariants as ty
 use Rattle.dv_defs.specs.Pools.{Method, is_constructor}
 use Rattle.dv_defs.specs.Op.{Op, Invoke}
-use Rattle.dv_defs.specs.RegTypes.{Types, type_at}
-use Rattle.dv_defs.specs.Demands.{made_at}
-use Rattle.dv_defs.specs.Transfer.{first_of}
+use Rattle.dv_typing.specs.RegTypes.{Types, type_at}
+use Rattle.dv_typing.specs.Demands.{made_at}
+use Rattle.dv_typing.specs.Transfer.{first_of}
 
 abbrev pub place_of : RegType → Option ℕ
 place_of (ty.Uninit a) = Some a

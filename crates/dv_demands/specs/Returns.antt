@@ -1,8 +1,8 @@
 -- What the returns demand.
 use Rattle.std.specs.Prelude.{ℕ, ◌&&◌, not}
 use Rattle.dv_defs.specs.declared.faults.Rule.TheVariants as rule
-use Rattle.dv_defs.specs.declared.typing.RegState.{RegState}
-use Rattle.dv_defs.specs.Demands.{Demand, first, demand, is_void, result_width, same_width, this_initialised, value_returned}
+use Rattle.dv_typing.specs.declared.typing.RegState.{RegState}
+use Rattle.dv_typing.specs.Demands.{Demand, first, demand, is_void, result_width, same_width, this_initialised, value_returned}
 use Rattle.dv_defs.specs.Images.{Image}
 use Rattle.dv_defs.specs.Parts.{Width}
 use Rattle.dv_defs.specs.Pools.{Method}

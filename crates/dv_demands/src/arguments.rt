@@ -1,6 +1,6 @@
 // Arguments of calls, and elements of a filled-new-array.
 ghost use Rattle.std.specs.Prelude.{◌≡◌, ◌<◌, [], ◌∷◌, IsNone, drop};
-ghost use Rattle.dv_defs.specs.Demands.{args_for, each_for};
+ghost use Rattle.dv_typing.specs.Demands.{args_for, each_for};
 ghost use Rattle.dv_defs.specs.Op.{named_registers};
 ghost use Rattle.dv_defs.specs.Types.{component, words_of};
 ghost use Rattle.dv_image.specs.Common.{type_of};
@@ -9,7 +9,8 @@ ghost use Rattle.dv_demands.specs.Arguments.{long_arg_for};
 use crate::named::register_at;
 use crate::reads::{demand, first, long};
 use crate::values::{is_long, single};
-use dv_defs::{Base, Image, RegType, Regs, Rule, Seq, Ty};
+use dv_typing::RegType;
+use dv_defs::{Base, Image, Regs, Rule, Seq, Ty};
 
 /// Arguments by their types, in the registers from a place on among those that are named.
 pub fn args(

@@ -1,15 +1,16 @@
 // Arrays by the types of their elements.
 ghost use Rattle.std.specs.Prelude.{◌≡◌};
-ghost use Rattle.dv_defs.specs.Demands.{array as array_at, is_array_of as is_array_of_these, is_fill_type as is_type_filled};
-ghost use Rattle.dv_defs.specs.RegTypes.{type_at};
-ghost use Rattle.dv_defs.specs.Statics.{is_of_suffix as is_suffixed};
+ghost use Rattle.dv_typing.specs.Demands.{array as array_at, is_array_of as is_array_of_these, is_fill_type as is_type_filled};
+ghost use Rattle.dv_typing.specs.RegTypes.{type_at};
+ghost use Rattle.dv_typing.specs.Statics.{is_of_suffix as is_suffixed};
 ghost use Rattle.dv_image.specs.Common.{type_of};
 ghost use Rattle.dv_units.specs.Tables.{standard_suffix};
 ghost use Rattle.dv_demands.specs.Elements.{is_wanted};
 
 use crate::reads::demand;
 use crate::values::is_reference;
-use dv_defs::{Base, RegType, Rule, Seq};
+use dv_typing::RegType;
+use dv_defs::{Base, Rule, Seq};
 use dv_optable::Suffix;
 
 /// The elements of an array: any, those that a suffix is for, or those that a payload of so many bytes an element fills.

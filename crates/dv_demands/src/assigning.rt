@@ -1,15 +1,16 @@
 // Types that references are assignable to. Asking takes no memory, so a type is given by its parts or by its class.
 ghost use Rattle.std.specs.Prelude.{◌≡◌, MatchOption, None};
-ghost use Rattle.dv_defs.specs.Demands.{is_assignable as is_assignable_type, ref_to as ref_to_type};
+ghost use Rattle.dv_typing.specs.Demands.{is_assignable as is_assignable_type, ref_to as ref_to_type};
 ghost use Rattle.dv_defs.specs.Order.{assignable, is_interface_type};
 ghost use Rattle.dv_defs.specs.Pools.{class_named};
-ghost use Rattle.dv_defs.specs.RegTypes.{type_at};
+ghost use Rattle.dv_typing.specs.RegTypes.{type_at};
 ghost use Rattle.dv_defs.specs.Types.{of_class, ty_eq};
 ghost use Rattle.dv_image.specs.Common.{type_of};
 ghost use Rattle.dv_demands.specs.Wanted.{type_wanted};
 
 use crate::reads::{demand, first, reference};
-use dv_defs::{Base, ClassId, ClassInfo, Image, RegType, Rule, Seq, Text, Ty};
+use dv_typing::RegType;
+use dv_defs::{Base, ClassId, ClassInfo, Image, Rule, Seq, Text, Ty};
 use dv_image::{Ascent, OBJECT, is_base_under, is_interface, is_under_class};
 
 const THROWABLE: &[u8] = b"Ljava/lang/Throwable;";

@@ -1,9 +1,9 @@
 // What instructions demand of states.
 ghost use Rattle.std.specs.Prelude.{◌≡◌, ℕ, option_map};
-ghost use Rattle.dv_defs.specs.Demands.{demands, goes_on as goes_on_after, ok, onward_ok};
+ghost use Rattle.dv_typing.specs.Demands.{demands, goes_on as goes_on_after, ok, onward_ok};
 ghost use Rattle.dv_defs.specs.Op.{Code};
-ghost use Rattle.dv_flowlaws.specs.Clean.{IsClean};
-ghost use Rattle.dv_fetch.specs.Places.{IsBoundary};
+ghost use Rattle.law_flow.specs.Clean.{IsClean};
+ghost use Rattle.dv_ops.specs.Places.{IsBoundary};
 ghost use Rattle.dv_ops.specs.Meaning.{code_of, meant, method_of};
 ghost use Rattle.dv_demands.specs.Fetching.{IsOfBody};
 ghost use Rattle.dv_demands.specs.Made.{made_for};
@@ -17,9 +17,9 @@ use crate::operands::{both, has_int, has_long, has_reference, int_and, shift, tw
 use crate::payloads::width_at;
 use crate::reads::{demand, first, int, is_movable, long, reference};
 use crate::returns::{return_value, return_void};
-use dv_defs::{ClassId, Image, RegState, Rule};
-use dv_fetch::begins_insn_next;
-use dv_ops::{Coded, Op};
+use dv_typing::RegState;
+use dv_defs::{ClassId, Image, Rule};
+use dv_ops::{Coded, Op, begins_insn_next};
 
 /// The rule of the first demand on a state that fails, but for V1. `made` is the class of the object that a constructor call is to
 /// initialise. Takes no memory.

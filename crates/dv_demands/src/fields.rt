@@ -1,8 +1,8 @@
 // What puts of fields and elements demand.
 ghost use Rattle.std.specs.Prelude.{◌≡◌};
-ghost use Rattle.dv_defs.specs.Demands.{first as one_then, array as array_at, int as int_at, put_for, put_receiver, value_for};
-ghost use Rattle.dv_defs.specs.RegTypes.{type_at};
-ghost use Rattle.dv_defs.specs.Statics.{is_of_suffix};
+ghost use Rattle.dv_typing.specs.Demands.{first as one_then, array as array_at, int as int_at, put_for, put_receiver, value_for};
+ghost use Rattle.dv_typing.specs.RegTypes.{type_at};
+ghost use Rattle.dv_typing.specs.Statics.{is_of_suffix};
 ghost use Rattle.dv_ops.specs.Meaning.{field_of, method_of};
 ghost use Rattle.dv_units.specs.Tables.{standard_suffix};
 
@@ -10,7 +10,8 @@ use crate::arrays::{Elements, array};
 use crate::assigning::{Wanted, ref_to};
 use crate::reads::{demand, first, int};
 use crate::values::{put, value};
-use dv_defs::{Image, RegType, Rule, Seq};
+use dv_typing::RegType;
+use dv_defs::{Image, Rule, Seq};
 use dv_ops::{Field, Method};
 use dv_optable::Suffix;
 

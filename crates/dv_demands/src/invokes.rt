@@ -1,9 +1,9 @@
 // What invokes demand.
 ghost use Rattle.std.specs.Prelude.{◌≡◌, ℕ, true, option_map, option_and_then};
-ghost use Rattle.dv_defs.specs.Demands.{instance_call, invoke_for, is_exactly as is_exactly_class, is_own_or_super as is_of_own_or_super, made_at, receiver_for, super_for};
+ghost use Rattle.dv_typing.specs.Demands.{instance_call, invoke_for, is_exactly as is_exactly_class, is_own_or_super as is_of_own_or_super, made_at, receiver_for, super_for};
 ghost use Rattle.dv_defs.specs.Op.{Invoke, named_registers};
 ghost use Rattle.dv_defs.specs.Pools.{is_constructor as constructs, is_static as is_static_method, parent_at};
-ghost use Rattle.dv_defs.specs.RegTypes.{type_at};
+ghost use Rattle.dv_typing.specs.RegTypes.{type_at};
 ghost use Rattle.dv_ops.specs.Meaning.{method_of};
 ghost use Rattle.dv_units.specs.Tables.{standard_call};
 ghost use Rattle.dv_demands.specs.Arguments.{object_for};
@@ -13,7 +13,8 @@ use crate::arguments::args;
 use crate::assigning::{Wanted, ref_to};
 use crate::named::register_at;
 use crate::reads::{demand, first};
-use dv_defs::{ClassId, Flag, Image, RegType, Regs, Rule, Seq};
+use dv_typing::RegType;
+use dv_defs::{ClassId, Flag, Image, Regs, Rule, Seq};
 use dv_ops::Method;
 use dv_optable::Call;
 

@@ -1,13 +1,14 @@
 // Operands that are numbers, and comparisons.
 ghost use Rattle.std.specs.Prelude.{◌≡◌, ◌&&◌, ◌||◌};
-ghost use Rattle.dv_defs.specs.Demands.{first as one_then, arg_int, both_for, zero_for, int as int_at, long as long_at, is_int as is_int_type, is_ref as is_ref_type, is_pending_int, is_pending_long, is_pending_ref};
+ghost use Rattle.dv_typing.specs.Demands.{first as one_then, arg_int, both_for, zero_for, int as int_at, long as long_at, is_int as is_int_type, is_ref as is_ref_type, is_pending_int, is_pending_long, is_pending_ref};
 ghost use Rattle.dv_defs.specs.Parts.{is_equality as is_equality_test};
-ghost use Rattle.dv_defs.specs.RegTypes.{type_at};
+ghost use Rattle.dv_typing.specs.RegTypes.{type_at};
 ghost use Rattle.dv_ops.specs.Meaning.{arg_of};
 ghost use Rattle.dv_units.specs.Tables.{standard_test};
 
 use crate::reads::{demand, first, int, is_int, is_ref, long};
-use dv_defs::{PendingType, RegType, Rule, Seq};
+use dv_typing::{PendingType, RegType};
+use dv_defs::{Rule, Seq};
 use dv_ops::Arg;
 use dv_optable::Test;
 

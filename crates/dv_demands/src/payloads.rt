@@ -3,8 +3,7 @@ ghost use Rattle.std.specs.Prelude.{◌≡◌, ◌≤◌, true, length};
 ghost use Rattle.dv_defs.specs.Tiling.{payload_at, tiles_in, tiling};
 ghost use Rattle.dv_ops.specs.Meaning.{code_of, is_data, width_in};
 
-use dv_fetch::units_of;
-use dv_ops::Coded;
+use dv_ops::{Coded, units_of};
 
 /// The size of the elements that the payload of data at an address fills.
 pub fn width_at(code: &Coded<'_>, at: u32) -> u16

@@ -1,6 +1,6 @@
 // What returns demand.
 ghost use Rattle.std.specs.Prelude.{◌≡◌, not, ◌&&◌};
-ghost use Rattle.dv_defs.specs.Demands.{is_void as is_void_result, result_width as width_of_result, same_width, this_initialised as initialised, value_returned as returned};
+ghost use Rattle.dv_typing.specs.Demands.{is_void as is_void_result, result_width as width_of_result, same_width, this_initialised as initialised, value_returned as returned};
 ghost use Rattle.dv_ops.specs.Meaning.{method_of};
 ghost use Rattle.dv_units.specs.Tables.{standard_width};
 ghost use Rattle.dv_demands.specs.Returns.{return_void_for, return_for};
@@ -8,7 +8,8 @@ ghost use Rattle.dv_demands.specs.Returns.{return_void_for, return_for};
 use crate::invokes::is_constructor;
 use crate::reads::{demand, first};
 use crate::values::{is_long, is_reference, value};
-use dv_defs::{Image, RegState, RegType, Rule, Seq, Ty};
+use dv_typing::{RegState, RegType};
+use dv_defs::{Image, Rule, Seq, Ty};
 use dv_ops::Method;
 use dv_optable::Width;
 

@@ -1,13 +1,14 @@
 // Values by their declared types.
 ghost use Rattle.std.specs.Prelude.{◌≡◌};
-ghost use Rattle.dv_defs.specs.Demands.{single_for, value_for, put_for};
+ghost use Rattle.dv_typing.specs.Demands.{single_for, value_for, put_for};
 ghost use Rattle.dv_defs.specs.Types.{is_reference as is_reference_type, is_long as is_long_type};
 ghost use Rattle.dv_image.specs.Common.{type_of};
 ghost use Rattle.dv_units.specs.Tables.{standard_suffix};
 
 use crate::assigning::{Wanted, ref_to};
 use crate::reads::{int, long, reference};
-use dv_defs::{Base, Image, RegType, Rule, Seq, Ty};
+use dv_typing::RegType;
+use dv_defs::{Base, Image, Rule, Seq, Ty};
 use dv_optable::Suffix;
 
 /// A value by its declared type.

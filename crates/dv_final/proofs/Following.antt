@@ -16,17 +16,17 @@ use Rattle.dv_machine.specs.Final.{closed, ends_well, newline, type_text}
 use Rattle.dv_machine.specs.Running as tagged
 use Rattle.dv_machine.specs.State.{Machine, Thread, type_of}
 use Rattle.dv_machine.specs.WellTyped.{HeapFine, IsThrowable, ThreadFine, Typings, WellTyped}
-use Rattle.dv_laws.proofs.lemmas.Common.Lists.{all_from}
-use Rattle.dv_linked.specs.Laws.{HasMessage, LinkedMessagesAreStrings}
+use Rattle.law_machine.proofs.lemmas.Common.Lists.{all_from}
+use Rattle.law_linked.specs.Laws.{HasMessage, LinkedMessagesAreStrings}
 use Rattle.dv_words.specs.Standing.{HeapStands, ThreadStands}
 use Rattle.dv_words.specs.State.{WordHeap, WordMachine, WordThread}
-use Rattle.dv_steps.specs.Running as words
-use Rattle.dv_steps.proofs.Objects.{type_is}
-use Rattle.dv_simulation.specs.RunningLaws.{RunningFollows, RunsAlike}
+use Rattle.dv_words.specs.Running as words
+use Rattle.law_words.proofs.Objects.{type_is}
+use Rattle.law_engine.specs.RunningLaws.{RunningFollows, RunsAlike}
 use Rattle.dv_final.specs.Final.{blocked_lines, ending_lines_by, ending_line, newline_after, uncaught}
 use Rattle.dv_final.specs.Laws.{FinalLinesFollow}
 use Rattle.dv_final.proofs.MessageCells.{message_is}
-use Rattle.dv_defs.specs.Heap.{Heap}
+use Rattle.dv_machine.specs.Heap.{Heap}
 
 -- ---- the printed bytes
 

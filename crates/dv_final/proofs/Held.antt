@@ -8,7 +8,7 @@ use Rattle.dv_defs.specs.declared.run.Ending.TheVariants as ending
 use Rattle.dv_defs.specs.Images.{Image}
 use Rattle.dv_machine.specs.Final.{blocked_line}
 use Rattle.dv_words.specs.State.{WordMachine, WordThread}
-use Rattle.dv_steps.specs.Running.{blocked_of}
+use Rattle.dv_words.specs.Running.{blocked_of}
 use Rattle.dv_final.specs.Final.{blocked_lines, ending_line, ending_lines_by}
 
 no_thread : WordThread

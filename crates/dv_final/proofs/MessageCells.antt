@@ -1,18 +1,18 @@
 -- The message of an exception is told by the words: its cell holds null or a reference to a String.
 use Rattle.std.proofs.Common.{◌≡◌, ◌+◌, ◌<◌, ◌++◌, ◌∙◌, ℕ, zero, suc, true, Option, Some, refl, sym, ap, subst, arith}
 use Rattle.std.specs.Prelude.{codes, if◌then◌else◌, is_some, option_map}
-use Rattle.dv_defs.specs.declared.machine.Kind.{Kind}
-use Rattle.dv_defs.specs.declared.machine.Kind.TheVariants as kind
+use Rattle.dv_machine.specs.Kind.{Kind}
+use Rattle.dv_machine.specs.Kind as kind
 use Rattle.dv_defs.specs.declared.names.Ty.{Ty}
-use Rattle.dv_defs.specs.declared.run.Value.{Value}
-use Rattle.dv_defs.specs.declared.run.Value.TheVariants as v
-use Rattle.dv_defs.specs.declared.typing.RegType.TheVariants as ty
-use Rattle.dv_defs.specs.Heap as tagged
-use Rattle.dv_defs.specs.Heap.{Heap, cell_at, class_cells, kind_type}
+use Rattle.dv_machine.specs.Value.{Value}
+use Rattle.dv_machine.specs.Value as v
+use Rattle.dv_typing.specs.declared.typing.RegType.TheVariants as ty
+use Rattle.dv_machine.specs.Heap as tagged
+use Rattle.dv_machine.specs.Heap.{Heap, cell_at, class_cells, kind_type}
 use Rattle.dv_defs.specs.Images.{Image}
 use Rattle.dv_defs.specs.Names.{string_name}
 use Rattle.dv_defs.specs.Order.{fits}
-use Rattle.dv_defs.specs.RegTypes.{reg_types, type_at}
+use Rattle.dv_typing.specs.RegTypes.{reg_types, type_at}
 use Rattle.dv_defs.specs.Texts.{utf8}
 use Rattle.dv_defs.specs.Types.{of_class, words_of}
 use Rattle.dv_machine.specs.Accepted.{Accepted}
@@ -20,16 +20,16 @@ use Rattle.dv_machine.specs.Conforming.{Conforms}
 use Rattle.dv_machine.specs.Final as machine
 use Rattle.dv_machine.specs.Unwinding.{throwable_slot}
 use Rattle.dv_machine.specs.WellTyped.{HeapFine, IsThrowable, Typings, nobody}
-use Rattle.dv_laws.proofs.lemmas.HeapSteps.Places.{HasField, field_place, object_field}
-use Rattle.dv_linked.specs.Laws.{HasMessage}
+use Rattle.law_machine.proofs.lemmas.HeapSteps.Places.{HasField, field_place, object_field}
+use Rattle.law_linked.specs.Laws.{HasMessage}
 use Rattle.dv_words.specs.declared.state.Kind.{Kind as WordKind}
 use Rattle.dv_words.specs.Erasure.{erased_kind}
 use Rattle.dv_words.specs.Heaps.{word_in}
 use Rattle.dv_words.specs.Standing.{HeapStands, IsWord}
 use Rattle.dv_words.specs.State.{WordHeap}
-use Rattle.dv_steps.specs.Laws.{IsPlain}
-use Rattle.dv_steps.proofs.NativeSteps.{text_is}
-use Rattle.dv_steps.proofs.Objects.{is_word_in, kind_is}
+use Rattle.law_words.specs.Laws.{IsPlain}
+use Rattle.law_words.proofs.NativeSteps.{text_is}
+use Rattle.law_words.proofs.Objects.{is_word_in, kind_is}
 use Rattle.dv_final.specs.Final.{message, word_there}
 
 module _ (image : Image) (T : Typings) (acc : Accepted image T) (has : HasMessage image) (w : WordHeap) (h : Heap) (stands : HeapStands w h) (fine : HeapFine image h) where

@@ -13,9 +13,9 @@ use Rattle.dv_machine.specs.Final.{blocked_line, ends_well, newline, type_text}
 use Rattle.dv_machine.specs.Unwinding.{throwable_slot}
 use Rattle.dv_words.specs.Heaps.{kind_of, word_in}
 use Rattle.dv_words.specs.State.{WordHeap, WordMachine, WordThread}
-use Rattle.dv_steps.specs.Mem.{type_of}
-use Rattle.dv_steps.specs.Natives.{text_of}
-use Rattle.dv_steps.specs.Running.{blocked_of, ending_of}
+use Rattle.dv_words.specs.Mem.{type_of}
+use Rattle.dv_words.specs.Natives.{text_of}
+use Rattle.dv_words.specs.Running.{blocked_of, ending_of}
 
 -- what printed bytes lack: LF where they don't end with it
 abbrev pub newline_after : List ℕ → List ℕ

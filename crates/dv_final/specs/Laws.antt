@@ -7,7 +7,7 @@ use Rattle.dv_machine.specs.Final.{final_text}
 use Rattle.dv_machine.specs.State.{Machine}
 use Rattle.dv_machine.specs.WellTyped.{Typings}
 use Rattle.dv_words.specs.State.{WordMachine}
-use Rattle.dv_simulation.specs.Laws.{IsSimulated}
+use Rattle.law_engine.specs.Laws.{IsSimulated}
 use Rattle.dv_final.specs.Final.{final_lines_of}
 
 -- behind the printed bytes they make up the final text: linking gives Throwable a message that is a String

@@ -1,7 +1,7 @@
 // The classes of objects, by their descriptors.
 ghost use Rattle.std.specs.Prelude.{◌≡◌};
 ghost use Rattle.dv_defs.specs.Pools.{name_at};
-ghost use Rattle.dv_steps.specs.Mem.{type_of};
+ghost use Rattle.dv_words.specs.Mem.{type_of};
 ghost use Rattle.dv_final.specs.Final.{class_bytes};
 
 use dv_defs::{Base, ClassId, Image};

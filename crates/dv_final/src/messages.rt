@@ -2,8 +2,8 @@
 ghost use Rattle.std.specs.Prelude.{◌≡◌, ◌++◌, ◌<◌, ◌^◌, ℕ, IfOk, OnOk, slice_index};
 ghost use Rattle.dv_defs.specs.Texts.{utf8};
 ghost use Rattle.dv_words.specs.Heaps.{kind_of};
-ghost use Rattle.dv_steps.specs.Natives as natives;
-ghost use Rattle.dv_steps.specs.Natives.{text_of};
+ghost use Rattle.dv_words.specs.Natives as natives;
+ghost use Rattle.dv_words.specs.Natives.{text_of};
 ghost use Rattle.dv_final.specs.Final.{message, word_there};
 
 use dv_defs::{Chars, Image, Text};

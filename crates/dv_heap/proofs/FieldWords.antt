@@ -7,7 +7,7 @@ use Rattle.dv_defs.specs.declared.image.FieldInfo.{FieldInfo}
 use Rattle.dv_defs.specs.Field.{FieldValue}
 use Rattle.dv_defs.specs.Images.{Image}
 use Rattle.dv_defs.specs.Pools.{field_at, with_field, with_field_info}
-use Rattle.dv_defs.specs.Heap.{Cells, slot_types, type_of_field}
+use Rattle.dv_machine.specs.Heap.{Cells, slot_types, type_of_field}
 use Rattle.dv_machine.specs.Opening.{field_cells, cells_of}
 use Rattle.dv_words.specs.Erasure.{erased_values}
 use Rattle.dv_heap.specs.Blocks.{Block}

@@ -7,9 +7,9 @@ use Rattle.indexmap.specs.IndexMap.{insert_entry}
 use Rattle.dv_defs.specs.contracts.names.TyPartialEq.TheImpl as of_type
 use Rattle.dv_defs.proofs.Keys.{type_keys}
 use Rattle.dv_defs.specs.declared.names.Ty.{Ty}
-use Rattle.dv_defs.specs.Heap.{found_among}
+use Rattle.dv_machine.specs.Heap.{found_among}
 use Rattle.dv_defs.specs.Types.{ty_eq}
-use Rattle.dv_orders.proofs.Equal.{ty_is, ty_equal, names_are, names_equal}
+use Rattle.law_types.proofs.Equal.{ty_is, ty_equal, names_are, names_equal}
 use Rattle.dv_words.specs.declared.state.Kind.{Kind}
 use Rattle.dv_words.specs.declared.state.Kind.TheVariants as kind
 use Rattle.dv_words.specs.State.{WordHeap}

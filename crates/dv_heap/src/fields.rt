@@ -1,6 +1,6 @@
 // The words of an object's fields, by their declarations.
 ghost use Rattle.std.specs.Prelude.{◌≡◌, ◌≤◌, ◌+◌, ◌∷◌, [], length, option_map, IfOk};
-ghost use Rattle.dv_defs.specs.Heap.{class_cells, slot_types};
+ghost use Rattle.dv_machine.specs.Heap.{class_cells, slot_types};
 ghost use Rattle.dv_heap.specs.Fields.{declared_as as declaration};
 
 use crate::types::words_of;

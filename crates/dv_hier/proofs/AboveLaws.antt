@@ -19,8 +19,8 @@ use Rattle.dv_defs.specs.Pools.{class_named, flags_of, is_interface}
 use Rattle.dv_defs.specs.Flags.{has_flag}
 use Rattle.dv_defs.specs.declared.flags.Flag.{Flag}
 use Rattle.dv_defs.specs.declared.flags.Flag.TheVariants as flag
-use Rattle.dv_linklaws.specs.Stripped.{def_names}
-use Rattle.dv_linklaws.proofs.First.{or_none, map_none, first_below_more, first_below_found}
+use Rattle.law_linking.specs.Stripped.{def_names}
+use Rattle.law_linking.proofs.First.{or_none, map_none, first_below_more, first_below_found}
 
 -- an error that tells one fault tells another that is found whenever the first is
 told_too : (class : List ℕ) (e : LinkError) (a b : Option LinkKind) → ((k : LinkKind) → a ≡ Some k → b ≡ Some k) → Fails e (option_map (found class) a) → Fails e (option_map (found class) b)

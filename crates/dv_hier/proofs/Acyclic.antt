@@ -10,7 +10,7 @@ use Rattle.dv_defs.specs.Pools.{parent_of, parent_at}
 use Rattle.dv_defs.specs.Order.{has_number, with_parent, interfaces_of, above, any_of, reaches, implements}
 use Rattle.dv_defs.specs.LinkFaults.{first_fault_by, fault_at, found, on_cycle}
 use Rattle.dv_defs.specs.Linked.{defs}
-use Rattle.dv_linklaws.proofs.First.{first_below_none, when_none, map_none}
+use Rattle.law_linking.proofs.First.{first_below_none, when_none, map_none}
 use Rattle.dv_hier.specs.Slots.{walked, IsAcyclic}
 use Rattle.dv_hier.proofs.Cells.{neither, walked_none}
 

@@ -13,10 +13,10 @@ use Rattle.dv_defs.specs.Images.{Image}
 use Rattle.dv_defs.specs.Numbering.{declared, numbered, class_numbered, names_of}
 use Rattle.dv_defs.specs.LinkFaults.{Found, Fails, first_fault_by, boot_fault, limit_fault, is_twice, wrong_above, on_cycle, has_field_twice}
 use Rattle.dv_defs.specs.Linked.{defs, slotted, class_with_slots, first_phases, AreNamed, HasValues}
-use Rattle.dv_linklaws.specs.Stripped.{def_names}
+use Rattle.law_linking.specs.Stripped.{def_names}
 use Rattle.dv_hier.specs.Hierarchies.{HierarchyValue, IsHierarchy, without_table, without_tables, hierarchy_of, naming_phases}
-use Rattle.dv_linklaws.proofs.First.{or_none}
-use Rattle.dv_linklaws.proofs.Bounds.{few_classes, few_fields}
+use Rattle.law_linking.proofs.First.{or_none}
+use Rattle.law_linking.proofs.Bounds.{few_classes, few_fields}
 
 -- an error of the first of two searches, and of the second where the first found nothing
 pub fails_first : (e : LinkError) (a b : Option Found) → Fails e a → Fails e (option_or a b)

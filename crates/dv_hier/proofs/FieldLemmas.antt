@@ -20,7 +20,7 @@ use Rattle.dv_defs.specs.LinkFaults.{same_field, field_twice, is_number, has_fie
 use Rattle.dv_defs.specs.Linked.{defs, HasValues}
 use Rattle.dv_defs.specs.declared.image.ClassInfo.{ClassInfo}
 use Rattle.dv_defs.proofs.Keys.{type_keys}
-use Rattle.dv_linklaws.proofs.First.{first_below_found, first_below_more}
+use Rattle.law_linking.proofs.First.{first_below_found, first_below_more}
 use Rattle.dv_hier.specs.declared.fields.FieldKey.{FieldKey}
 use Rattle.dv_hier.specs.contracts.fields.FieldKeyPartialEq.TheImpl as of_key
 use Rattle.dv_hier.proofs.Twice.{first_here, first_before, some_place, some_of, none_of}

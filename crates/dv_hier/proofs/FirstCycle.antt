@@ -11,8 +11,8 @@ use Rattle.dv_defs.specs.Images.{Image}
 use Rattle.dv_defs.specs.First.{first_below, when}
 use Rattle.dv_defs.specs.Linked.{defs}
 use Rattle.dv_defs.specs.LinkFaults.{Found, found, tested, fault_at, first_fault_by, on_cycle}
-use Rattle.dv_linklaws.proofs.First.{first_below_more, first_below_found}
-use Rattle.dv_linklaws.proofs.Reach.{depends_same}
+use Rattle.law_linking.proofs.First.{first_below_more, first_below_found}
+use Rattle.law_linking.proofs.Reach.{depends_same}
 use Rattle.dv_hier.specs.Upwards.{bare, is_self_dependent}
 
 abbrev pub cycle_at : List ClassInfo → ℕ → Option Found

@@ -9,7 +9,7 @@ use Rattle.dv_defs.specs.declared.faults.Which.TheVariants as which
 use Rattle.dv_defs.specs.declared.faults.LinkKind.{LinkKind}
 use Rattle.dv_defs.specs.LinkFaults.{LinkTest, found, fault_at, tested, past, past_limits, limit_fault, cells}
 use Rattle.dv_defs.specs.First.{first_below}
-use Rattle.dv_linklaws.proofs.First.{first_below_found, first_below_more}
+use Rattle.law_linking.proofs.First.{first_below_found, first_below_more}
 
 -- a running sum after one more class
 pub sum_more : (f : ClassDef → ℕ) (cs : List ClassDef) (i : ℕ) (c : ClassDef) (sum : ℕ) → i < length cs → c ≡ get_or cs i c → sum ≡ sum_by f (take i cs) → sum + f c ≡ sum_by f (take (i + 1) cs)

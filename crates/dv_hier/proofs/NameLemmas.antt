@@ -12,9 +12,9 @@ use Rattle.dv_defs.specs.First.{first_below, when}
 use Rattle.dv_defs.specs.LinkFaults.{found, first_fault_by, fault_at, tested, is_twice, is_number}
 use Rattle.dv_defs.specs.Numbering.{declared}
 use Rattle.dv_defs.specs.Pools.{class_named}
-use Rattle.dv_linklaws.specs.Stripped.{def_names}
-use Rattle.dv_linklaws.proofs.Names.{declared_is_position}
-use Rattle.dv_linklaws.proofs.First.{first_below_found, first_below_more}
+use Rattle.law_linking.specs.Stripped.{def_names}
+use Rattle.law_linking.proofs.Names.{declared_is_position}
+use Rattle.law_linking.proofs.First.{first_below_found, first_below_more}
 use Rattle.dv_hier.proofs.Twice.{first_here, first_before, some_of, none_of}
 
 bytes_same : (xs : List ℕ) → bytes_eq xs xs ≡ true

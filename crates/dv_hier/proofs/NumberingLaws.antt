@@ -6,7 +6,7 @@ use Rattle.std.specs.Option.{option_to_list}
 use Rattle.std.proofs.lemmas.List.{length-map, map-append, map-id, append-nil}
 use Rattle.dv_defs.specs.declared.class.ClassDef.{ClassDef}
 use Rattle.dv_defs.specs.declared.image.ClassInfo.{ClassInfo}
-use Rattle.dv_linklaws.specs.Stripped.{def_names, AreInRange, IsInRange}
+use Rattle.law_linking.specs.Stripped.{def_names, AreInRange, IsInRange}
 
 -- what is made of the value that one element gives, where it gives one
 one_made : {Y Z : Type 0} (g : Y → Z) (o : Option Y) → map g (cons_option o []) ≡ option_to_list (option_map g o)

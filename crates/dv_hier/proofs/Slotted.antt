@@ -18,7 +18,7 @@ use Rattle.dv_defs.specs.Pools.{Field, field_at, fields_of, parent_at, walk, sup
 use Rattle.dv_defs.specs.Order.{has_number}
 use Rattle.dv_defs.specs.Numbering.{class_id, numbered}
 use Rattle.dv_defs.specs.Linked.{has_cells, cells_of_class, cells_along, slots_at, words_at, words_before, slot_of, slot_at, field_with_slot, class_with_slots, slotted}
-use Rattle.dv_linklaws.proofs.Members.{HasFields, numbered_fields, own_from, field_of, field_info, fields_of_class, field_numbered, field_info_numbered, field_count}
+use Rattle.law_linking.proofs.Members.{HasFields, numbered_fields, own_from, field_of, field_info, fields_of_class, field_numbered, field_info_numbered, field_count}
 use Rattle.dv_hier.specs.Slots.{has_cell, cells_from, cell_words, words_in, slot_after, infos_from, first_field, walked, superclasses, cells_in, own_cells, words_of_class, chain_cells, chain_words, object_cells, infos_in, infos_below, slots_below, info_with, IsAcyclic}
 use Rattle.dv_hier.proofs.Cells.{neither, first_more}
 

@@ -13,8 +13,8 @@ use Rattle.dv_defs.specs.declared.names.ClassId.{ClassId}
 use Rattle.dv_defs.specs.declared.image.ClassInfo.{ClassInfo}
 use Rattle.dv_defs.specs.Pools.{class_number, parent_of}
 use Rattle.dv_defs.specs.Order.{has_number, numbers, interfaces_of, with_parent, above, any_of, implements}
-use Rattle.dv_linklaws.specs.Stripped.{IsInRange, AreInRange}
-use Rattle.dv_linklaws.proofs.Reach.{number_first, number_later, number_cases, apart_from_closed, decided_by_closed, reached_beyond, reached_at_once}
+use Rattle.law_linking.specs.Stripped.{IsInRange, AreInRange}
+use Rattle.law_linking.proofs.Reach.{number_first, number_later, number_cases, apart_from_closed, decided_by_closed, reached_beyond, reached_at_once}
 use Rattle.dv_hier.specs.Upwards.{bare, above_of, is_self_dependent, is_marked, is_parent_marked, is_ready, AreFree, HasEachReady, unmarked, HasMet}
 
 less_or_same : (i n : ℕ) → i < suc n → (i < n) ⊎ (i ≡ n)

@@ -7,7 +7,7 @@ ghost use Rattle.dv_defs.specs.LinkFaults.{Checks, final_at, first_fault_by, fou
 ghost use Rattle.dv_defs.specs.Numbering.{declared};
 ghost use Rattle.dv_defs.specs.Order.{names_interface};
 ghost use Rattle.dv_defs.specs.Pools.{class_named};
-ghost use Rattle.dv_linklaws.specs.Stripped.{def_names};
+ghost use Rattle.law_linking.specs.Stripped.{def_names};
 
 use crate::faults::error_of;
 use dv_defs::{

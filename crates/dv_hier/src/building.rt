@@ -3,7 +3,7 @@ ghost use Rattle.std.specs.Prelude.{◌≡◌, ◌<◌, ◌^◌, ℕ, length, su
 ghost use Rattle.dv_defs.specs.LinkFaults.{Checks};
 ghost use Rattle.dv_defs.specs.Linked.{first_phases, HasValues};
 ghost use Rattle.dv_hier.specs.Hierarchies.{hierarchy_of, naming_phases};
-ghost use Rattle.dv_linklaws.specs.Stripped.{def_names};
+ghost use Rattle.law_linking.specs.Stripped.{def_names};
 
 use crate::above::check_above;
 use crate::boot::check_boot;

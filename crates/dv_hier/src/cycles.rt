@@ -5,7 +5,7 @@ ghost use Rattle.dv_defs.specs.Images.{Image};
 ghost use Rattle.dv_defs.specs.LinkFaults.{Checks, first_fault_by, on_cycle};
 ghost use Rattle.dv_defs.specs.Linked.{defs};
 ghost use Rattle.dv_defs.specs.Order.{numbers};
-ghost use Rattle.dv_linklaws.specs.Stripped.{IsInRange, AreInRange};
+ghost use Rattle.law_linking.specs.Stripped.{IsInRange, AreInRange};
 ghost use Rattle.dv_hier.specs.Upwards.{AreFree, HasEachReady, unmarked, HasMet, above_of, is_ready as ready, is_self_dependent};
 
 use crate::faults::error_of;

@@ -2,7 +2,7 @@
 ghost use Rattle.std.specs.Prelude.{◌≡◌, ℕ, IfOk};
 ghost use Rattle.dv_defs.specs.LinkFaults.{Checks, first_fault_by, is_twice};
 ghost use Rattle.dv_defs.specs.Numbering.{declared};
-ghost use Rattle.dv_linklaws.specs.Stripped.{def_names};
+ghost use Rattle.law_linking.specs.Stripped.{def_names};
 
 use crate::faults::error_of;
 use dv_defs::{ClassDef, LinkError, LinkKind, Pool, Text};

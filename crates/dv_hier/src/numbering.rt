@@ -3,7 +3,7 @@ ghost use Rattle.std.specs.Prelude.{◌≡◌, ◌<◌, ◌^◌, ℕ, List, leng
 ghost use Rattle.dv_defs.specs.declared.class.ClassDef.{ClassDef};
 ghost use Rattle.dv_defs.specs.Numbering.{class_id, class_numbered, declared, numbered};
 ghost use Rattle.dv_defs.specs.Pools.{class_named};
-ghost use Rattle.dv_linklaws.specs.Stripped.{def_names, AreInRange, IsInRange};
+ghost use Rattle.law_linking.specs.Stripped.{def_names, AreInRange, IsInRange};
 
 use crate::above::class_of;
 use dv_defs::{ClassDef, ClassId, ClassInfo, Pool, Seq, Text};

@@ -9,7 +9,7 @@ ghost use Rattle.dv_defs.specs.Numbering.{numbered};
 ghost use Rattle.dv_defs.specs.Order.{numbers};
 ghost use Rattle.dv_defs.specs.Types as types;
 ghost use Rattle.dv_hier.specs.Slots as spec;
-ghost use Rattle.dv_linklaws.specs.Stripped.{AreInRange};
+ghost use Rattle.law_linking.specs.Stripped.{AreInRange};
 
 use dv_defs::{Base, ClassDef, ClassId, ClassInfo, FieldDef, FieldId, FieldInfo, Flag, Seq, Ty};
 use std::alloc::{AllocError, Global};

@@ -11,9 +11,9 @@ use Rattle.dv_defs.specs.Images.{Image}
 use Rattle.dv_defs.specs.Linked.{IsImage}
 use Rattle.dv_defs.specs.Pools.{Field, fields_of}
 use Rattle.dv_defs.specs.LookUp.{field_declared}
-use Rattle.dv_linklaws.specs.FieldPlaces.{is_like, place_from, place_in_class, field_count_at, number_at, id_of}
-use Rattle.dv_linklaws.proofs.ImageMembers.{image_fields_few}
-use Rattle.dv_linklaws.proofs.FieldNumbers.{before_later, before_all, image_field_count, image_field_at, image_declared}
+use Rattle.law_linking.specs.FieldPlaces.{is_like, place_from, place_in_class, field_count_at, number_at, id_of}
+use Rattle.law_linking.proofs.ImageMembers.{image_fields_few}
+use Rattle.law_linking.proofs.FieldNumbers.{before_later, before_all, image_field_count, image_field_at, image_declared}
 
 -- a field of a number by its class and its place
 pub record IsNumbered (image : Image) (number : ℕ) (x : FieldInfo) : Type 0 where

@@ -7,8 +7,8 @@ use Rattle.dv_defs.specs.Images.{Image}
 use Rattle.dv_defs.specs.First.{first_in}
 use Rattle.dv_defs.specs.Pools.{Field, walk, parent_at}
 use Rattle.dv_defs.specs.LookUp.{interfaces_above, once}
-use Rattle.dv_linklaws.specs.FieldPlaces.{id_of}
-use Rattle.dv_linklaws.proofs.Upward.{first_in_append}
+use Rattle.law_linking.specs.FieldPlaces.{id_of}
+use Rattle.law_linking.proofs.Upward.{first_in_append}
 
 -- a class and the interfaces above it
 abbrev pub along : Image → ℕ → List ℕ

@@ -6,7 +6,7 @@ use Rattle.dv_defs.specs.Images.{Image}
 use Rattle.dv_defs.specs.Order.{has_number, numbers}
 use Rattle.dv_defs.specs.LookUp.{interfaces_above, once}
 use Rattle.dv_defs.specs.Linked.{IsIndex}
-use Rattle.dv_linklaws.proofs.OnceNumbers.{has_once}
+use Rattle.law_linking.proofs.OnceNumbers.{has_once}
 
 indexed : {X : Type 0} (xs : List X) (c : ℕ) (none : X) (o : Option X) → slice_get xs c ≡ o → slice_index_or xs c none ≡ unwrap_or o none
 indexed [] c none o is = ap (λ p. unwrap_or p none) is

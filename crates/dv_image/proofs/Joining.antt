@@ -4,7 +4,7 @@ use Rattle.dv_defs.specs.declared.names.Ty.{Ty}
 use Rattle.dv_defs.specs.Images.{Image}
 use Rattle.dv_defs.specs.Pools.{walk, parent_at, class_type}
 use Rattle.dv_defs.specs.Order.{has_number}
-use Rattle.dv_defs.specs.Joins.{first_common, object_type, common_at, joins_by_component, array_of, common_flat}
+use Rattle.dv_defs.specs.Common.{first_common, object_type, common_at, joins_by_component, array_of, common_flat}
 use Rattle.dv_defs.specs.declared.names.Base.{Base}
 use Rattle.dv_defs.specs.Types.{ty_eq}
 use Rattle.dv_image.specs.Common.{type_of}

@@ -16,8 +16,8 @@ use Rattle.dv_defs.specs.Images.{Image}
 use Rattle.dv_defs.specs.Names.{init_name}
 use Rattle.dv_defs.specs.Pools.{Method, method_at, is_virtual_of, with_def, pick, declared_by, first_of_classes, nearest, parent_at, walk, supers}
 use Rattle.dv_defs.specs.Linked.{IsImage}
-use Rattle.dv_linklaws.specs.Landing.{has_key_at, landing_of}
-use Rattle.dv_linklaws.proofs.TableLaws.{entry_lands, table_agrees, image_table}
+use Rattle.law_linking.specs.Landing.{has_key_at, landing_of}
+use Rattle.law_linking.proofs.TableLaws.{entry_lands, table_agrees, image_table}
 use Rattle.dv_image.specs.Calls.{landing, def_at, def_in, def_has_key, is_virtual_def, takes_call, number_of, declared_number, landing_among}
 
 -- ---- what is read of a list that is another

@@ -4,7 +4,7 @@ use Rattle.dv_defs.specs.declared.names.Base.{Base}
 use Rattle.dv_defs.specs.declared.names.Ty.{Ty}
 use Rattle.dv_defs.specs.Images.{Image}
 use Rattle.dv_defs.specs.Pools.{class_type}
-use Rattle.dv_defs.specs.Joins.{object_type}
+use Rattle.dv_defs.specs.Common.{object_type}
 
 -- the type of so many dimensions over this one
 abbrev pub type_of : ℕ → Base → Ty

@@ -2,7 +2,7 @@
 ghost use Rattle.std.specs.Prelude.{◌≡◌, Some, true, false, bytes_eq, find, option_map, slice_get};
 ghost use Rattle.dv_defs.specs.Names.{init_name};
 ghost use Rattle.dv_defs.specs.Pools.{supers};
-ghost use Rattle.dv_linklaws.specs.Landing.{has_key_at, landing_of};
+ghost use Rattle.law_linking.specs.Landing.{has_key_at, landing_of};
 ghost use Rattle.dv_image.specs.Calls.{landing, def_at as def_of_number, def_in, def_has_key, is_virtual_def, takes_call as is_taker, declared_number, landing_among};
 
 use crate::classes::parent_of;

@@ -1,6 +1,6 @@
 // The nearest common superclass of two types.
 ghost use Rattle.std.specs.Prelude.{◌≡◌, ◌<◌, ◌≤◌, suc, true, IfOk};
-ghost use Rattle.dv_defs.specs.Joins.{common_super as nearest_common, common_at, common_classes, common_flat as flat_common, first_common as first_of_both, joins_by_component as join_by_component, object_type as type_object};
+ghost use Rattle.dv_defs.specs.Common.{common_super as nearest_common, common_at, common_classes, common_flat as flat_common, first_common as first_of_both, joins_by_component as join_by_component, object_type as type_object};
 ghost use Rattle.dv_defs.specs.Op.{class_of_base as named_by};
 ghost use Rattle.dv_defs.specs.Pools.{class_type, supers};
 ghost use Rattle.dv_defs.specs.Types.{is_reference as is_reference_type, ty_eq};

@@ -3,7 +3,7 @@ ghost use Rattle.std.specs.Prelude.{◌≡◌, ◌<◌, ◌∷◌, length, nat_l
 ghost use Rattle.dv_defs.specs.First.{first_in};
 ghost use Rattle.dv_defs.specs.LookUp.{field_declared, field_found, interfaces_above, once};
 ghost use Rattle.dv_defs.specs.Order.{numbers};
-ghost use Rattle.dv_linklaws.specs.FieldPlaces.{is_like as is_like_field, place_from, field_count_at, number_at, id_of};
+ghost use Rattle.law_linking.specs.FieldPlaces.{is_like as is_like_field, place_from, field_count_at, number_at, id_of};
 
 use crate::classes::parent_of;
 use dv_defs::{ClassId, FieldDef, FieldId, Image, Ty};

@@ -3,14 +3,14 @@ use Rattle.std.proofs.Common.{◌≡◌, ℕ, Bool, true, false, List, [], ◌�
 use Rattle.std.proofs.lemmas.List.{map-append}
 use Rattle.std.specs.Prelude.{filter}
 use Rattle.dv_worklist.specs.declared.flows.Onward.{Onward}
-use Rattle.dv_defs.specs.declared.typing.RegState.{RegState}
+use Rattle.dv_typing.specs.declared.typing.RegState.{RegState}
 use Rattle.dv_defs.specs.Images.{Image}
 use Rattle.dv_defs.specs.Tiling.{begins_insn}
 use Rattle.dv_defs.specs.Op.{Code, can_throw}
-use Rattle.dv_defs.specs.Statics.{At, fetch}
-use Rattle.dv_defs.specs.Transfer.{out}
-use Rattle.dv_defs.specs.Flow.{Catcher, targets, handlers_at, thrown_at, caught_state}
-use Rattle.dv_leastlaws.specs.Flowing.{goes_to, goes_to_handlers, onward_of, onward_from}
+use Rattle.dv_typing.specs.Statics.{At, fetch}
+use Rattle.dv_typing.specs.Transfer.{out}
+use Rattle.dv_typing.specs.Flow.{Catcher, targets, handlers_at, thrown_at, caught_state}
+use Rattle.law_infer.specs.Flowing.{goes_to, goes_to_handlers, onward_of, onward_from}
 use Rattle.dv_rules.specs.declared.flow.Edge.{Edge}
 use Rattle.dv_rules.specs.Edges.{plain_edge, handler_edge, edges_of}
 use Rattle.dv_infer.specs.Along.{gone_along}

@@ -4,14 +4,14 @@ use Rattle.std.specs.Prelude.{IfSome, slice_index_or}
 use Rattle.std.proofs.lemmas.List.{get_or_default}
 use Rattle.dv_defs.specs.declared.faults.Fault.{Fault}
 use Rattle.dv_defs.specs.declared.faults.Rule.{Rule}
-use Rattle.dv_defs.specs.declared.typing.RegState.{RegState}
+use Rattle.dv_typing.specs.declared.typing.RegState.{RegState}
 use Rattle.dv_defs.specs.Images.{Image}
 use Rattle.dv_defs.specs.Op.{Code}
-use Rattle.dv_defs.specs.Statics.{At, fetch}
-use Rattle.dv_defs.specs.Flow.{Typing}
-use Rattle.dv_defs.specs.Accepting.{demand_at, fault_at}
+use Rattle.dv_typing.specs.Statics.{At, fetch}
+use Rattle.dv_typing.specs.Flow.{Typing}
+use Rattle.dv_typing.specs.Accepting.{demand_at, fault_at}
 use Rattle.dv_worklist.specs.Flow.{AllFit, assigned}
-use Rattle.dv_leastlaws.specs.Laws.{faults_here, faults_from}
+use Rattle.law_infer.specs.Laws.{faults_here, faults_from}
 
 -- where no state stands nothing is demanded
 pub no_demand : (image : Image) (code : Code) (x : Option At) → None ≡ demand_at image code x None

@@ -1,23 +1,23 @@
 -- What the least assignment of a body says of it.
 use Rattle.std.proofs.Common.{◌≡◌, ◌≢◌, ℕ, List, [], length, Option, Some, sym, ◌∙◌, subst}
 use Rattle.dv_defs.specs.declared.faults.Fault.{Fault}
-use Rattle.dv_defs.specs.declared.typing.RegState.{RegState}
+use Rattle.dv_typing.specs.declared.typing.RegState.{RegState}
 use Rattle.dv_defs.specs.Images.{Image}
 use Rattle.dv_defs.specs.Linked.{IsImage}
 use Rattle.dv_defs.specs.Op.{Code, code_at}
-use Rattle.dv_defs.specs.Flow.{IsLeast}
-use Rattle.dv_defs.specs.Accepting.{static_places, typing_faults}
-use Rattle.dv_flowlaws.proofs.CleanLaw.{clean_bodies}
-use Rattle.dv_flowlaws.proofs.HierarchyLaw.{linked_classes_are_hierarchies}
-use Rattle.dv_flowlaws.proofs.Statics.{own_code}
+use Rattle.dv_typing.specs.Flow.{IsLeast}
+use Rattle.dv_typing.specs.Accepting.{static_places, typing_faults}
+use Rattle.law_flow.proofs.CleanLaw.{clean_bodies}
+use Rattle.law_flow.proofs.HierarchyLaw.{linked_classes_are_hierarchies}
+use Rattle.law_flow.proofs.Statics.{own_code}
 use Rattle.dv_worklist.specs.Flow as worklist
 use Rattle.dv_worklist.specs.Flow.{AllFit, IsLawful, assigned}
-use Rattle.dv_leastlaws.specs.Flowing.{IsReady, flow_of, fits_at, rank_of, top_of}
-use Rattle.dv_leastlaws.specs.Laws.{faults_from}
-use Rattle.dv_leastlaws.proofs.ByAddress.{faults_are_by_address}
-use Rattle.dv_leastlaws.proofs.Closed.{least_assignments_are_least}
-use Rattle.dv_leastlaws.proofs.Judged.{no_faults_give_typings, faults_refuse_typings}
-use Rattle.dv_leastlaws.proofs.Lawful.{flows_are_lawful}
+use Rattle.law_infer.specs.Flowing.{IsReady, flow_of, fits_at, rank_of, top_of}
+use Rattle.law_infer.specs.Laws.{faults_from}
+use Rattle.law_infer.proofs.ByAddress.{faults_are_by_address}
+use Rattle.law_infer.proofs.Closed.{least_assignments_are_least}
+use Rattle.law_infer.proofs.Judged.{no_faults_give_typings, faults_refuse_typings}
+use Rattle.law_infer.proofs.Lawful.{flows_are_lawful}
 use Rattle.dv_infer.specs.Judged.{IsJudged, AreJudged}
 use Rattle.dv_infer.specs.Owned.{OwnedCode}
 

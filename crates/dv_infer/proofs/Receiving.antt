@@ -3,17 +3,17 @@ use Rattle.std.proofs.Common.{◌≡◌, ℕ, true, [], ◌∷◌, zero, suc, Bo
 use Rattle.std.specs.Prelude.{All, option_map, option_and_then}
 use Rattle.std.proofs.lemmas.List.Elements.{All-head, All-tail}
 use Rattle.dv_defs.specs.declared.names.ClassId.{ClassId}
-use Rattle.dv_defs.specs.declared.typing.RegType.{RegType}
-use Rattle.dv_defs.specs.declared.typing.RegType.TheVariants as ty
-use Rattle.dv_defs.specs.declared.typing.RegState.{RegState}
+use Rattle.dv_typing.specs.declared.typing.RegType.{RegType}
+use Rattle.dv_typing.specs.declared.typing.RegType.TheVariants as ty
+use Rattle.dv_typing.specs.declared.typing.RegState.{RegState}
 use Rattle.dv_defs.specs.Images.{Image}
 use Rattle.dv_defs.specs.Tiling.{begins_insn}
 use Rattle.dv_defs.specs.Pools.{Method, is_constructor}
 use Rattle.dv_defs.specs.Op.{Op, Invoke, Code}
-use Rattle.dv_defs.specs.RegTypes.{Types, type_at}
-use Rattle.dv_defs.specs.Demands.{made_at}
-use Rattle.dv_defs.specs.Transfer.{first_of}
-use Rattle.dv_flowlaws.specs.Fitting.{RegFits, StateFits, dims_met}
+use Rattle.dv_typing.specs.RegTypes.{Types, type_at}
+use Rattle.dv_typing.specs.Demands.{made_at}
+use Rattle.dv_typing.specs.Transfer.{first_of}
+use Rattle.law_flow.specs.Fitting.{RegFits, StateFits, dims_met}
 use Rattle.dv_demands.specs.Made.{place_of, receiver_place, made_for}
 
 -- of a type

@@ -4,9 +4,9 @@ use Rattle.std.proofs.lemmas.Result.{IfOk-weaker}
 use Rattle.dv_defs.specs.declared.faults.Fault.{Fault}
 use Rattle.dv_defs.specs.Images.{Image}
 use Rattle.dv_defs.specs.Op.{Code, code_at}
-use Rattle.dv_defs.specs.Flow.{Typing, IsTyping, IsLeast}
-use Rattle.dv_defs.specs.Accepting.{Place, static_fault, static_places, typing_faults, FaultsBy, AreFaults, IsAcceptedMethod}
-use Rattle.dv_flowlaws.proofs.Statics.{own_number}
+use Rattle.dv_typing.specs.Flow.{Typing, IsTyping, IsLeast}
+use Rattle.dv_typing.specs.Accepting.{Place, static_fault, static_places, typing_faults, FaultsBy, AreFaults, IsAcceptedMethod}
+use Rattle.law_flow.proofs.Statics.{own_number}
 use Rattle.dv_rules.specs.declared.verified.Map.{Map}
 use Rattle.dv_rules.specs.Verified.{typing_of}
 use Rattle.dv_infer.specs.declared.errors.InferError.{InferError}

@@ -1,8 +1,8 @@
 -- What goes on along edges.
 use Rattle.std.specs.Prelude.{Some, None}
 use Rattle.dv_worklist.specs.declared.flows.Onward.{Onward}
-use Rattle.dv_defs.specs.declared.typing.RegState.{RegState}
-use Rattle.dv_defs.specs.Flow.{caught_state}
+use Rattle.dv_typing.specs.declared.typing.RegState.{RegState}
+use Rattle.dv_typing.specs.Flow.{caught_state}
 use Rattle.dv_rules.specs.declared.flow.Edge.{Edge}
 
 -- the state before with what is caught goes on to a handler, the state after elsewhere

@@ -3,8 +3,8 @@ use Rattle.std.specs.Prelude.{◌≡◌, ◌≢◌, List, []}
 use Rattle.dv_defs.specs.declared.faults.Fault.{Fault}
 use Rattle.dv_defs.specs.Images.{Image}
 use Rattle.dv_defs.specs.Op.{Code}
-use Rattle.dv_defs.specs.Flow.{Typing, IsTyping, IsLeast}
-use Rattle.dv_defs.specs.Accepting.{typing_faults}
+use Rattle.dv_typing.specs.Flow.{Typing, IsTyping, IsLeast}
+use Rattle.dv_typing.specs.Accepting.{typing_faults}
 use Rattle.dv_rules.specs.declared.verified.Map.{Map}
 use Rattle.dv_rules.specs.Verified.{typing_of}
 

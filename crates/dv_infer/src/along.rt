@@ -2,7 +2,7 @@
 ghost use Rattle.std.specs.Prelude.{◌≡◌, IfOk, map};
 ghost use Rattle.dv_infer.specs.Along.{gone_along};
 
-use dv_defs::RegState;
+use dv_typing::RegState;
 use dv_rules::{Edge, caught_with};
 use dv_worklist::Onward;
 use std::alloc::{AllocError, Global};

@@ -1,17 +1,17 @@
 // The typing faults of a method.
 ghost use Rattle.std.specs.Prelude.{◌≡◌, ◌++◌, length, Some, IfOk, OnOk, IfSome};
-ghost use Rattle.dv_defs.specs.Accepting.{demand_at, fault_at};
-ghost use Rattle.dv_defs.specs.Statics.{fetch};
+ghost use Rattle.dv_typing.specs.Accepting.{demand_at, fault_at};
+ghost use Rattle.dv_typing.specs.Statics.{fetch};
 ghost use Rattle.dv_worklist.specs.Flow.{AllFit, assigned};
-ghost use Rattle.dv_leastlaws.specs.Flowing.{IsReady, fits_at};
-ghost use Rattle.dv_leastlaws.specs.Laws.{faults_from};
+ghost use Rattle.law_infer.specs.Flowing.{IsReady, fits_at};
+ghost use Rattle.law_infer.specs.Laws.{faults_from};
 ghost use Rattle.dv_ops.specs.Meaning.{code_of};
 
 use crate::receivers::made_of;
-use dv_defs::{Fault, Image, MethodId, RegState, Rule};
+use dv_typing::RegState;
+use dv_defs::{Fault, Image, MethodId, Rule};
 use dv_demands::ok_of;
-use dv_fetch::{op_at, units_of};
-use dv_ops::Coded;
+use dv_ops::{Coded, op_at, units_of};
 use std::alloc::{AllocError, Global};
 
 /// The demands that the states of a least assignment fail, by address.

@@ -1,14 +1,14 @@
 // The states of a method as they flow.
 ghost use Rattle.std.specs.Prelude.{◌≡◌, ◌<◌, length, Some, IfOk};
-ghost use Rattle.dv_defs.specs.Statics.{fetch};
-ghost use Rattle.dv_leastlaws.specs.Flowing.{IsReady, fits_at, onward_from};
+ghost use Rattle.dv_typing.specs.Statics.{fetch};
+ghost use Rattle.law_infer.specs.Flowing.{IsReady, fits_at, onward_from};
 ghost use Rattle.dv_ops.specs.Meaning.{code_of};
 
 use crate::along::along;
 use crate::receivers::made_of;
-use dv_defs::{Image, RegState};
-use dv_fetch::{op_at, units_of};
-use dv_ops::Coded;
+use dv_typing::RegState;
+use dv_defs::Image;
+use dv_ops::{Coded, op_at, units_of};
 use dv_rules::{edges_from, entry_of, out_of};
 use dv_types::{is_below, join};
 use dv_worklist::{Flow, Onward};
@@ -24,7 +24,7 @@ pub struct MethodFlow<'a> {
 }
 
 impl<'a> Model for MethodFlow<'a> {
-    ghost use Rattle.dv_leastlaws.specs.Flowing.{IsReady};
+    ghost use Rattle.law_infer.specs.Flowing.{IsReady};
     ghost use Rattle.dv_ops.specs.Meaning.{code_of};
     ghost use Rattle.dv_infer.specs.Owned.{OwnedCode};
 
@@ -48,7 +48,7 @@ impl<'a> MethodFlow<'a> {
 impl<'a> Flow for MethodFlow<'a> {
     type State = RegState;
 
-    ghost use Rattle.dv_leastlaws.specs.Flowing.{flow_of, fits_at, rank_of, top_of};
+    ghost use Rattle.law_infer.specs.Flowing.{flow_of, fits_at, rank_of, top_of};
 
     ghost graph = { λ m. flow_of m.image m.code };
 

@@ -1,9 +1,9 @@
 // The least assignment.
 ghost use Rattle.std.specs.Prelude.{◌≡◌, ◌≢◌, [], Some, IfOk, IsSome};
-ghost use Rattle.dv_defs.specs.Accepting.{AreFaults, IsAcceptedMethod, static_places};
-ghost use Rattle.dv_defs.specs.Flow.{IsLeast, IsTyping};
+ghost use Rattle.dv_typing.specs.Accepting.{AreFaults, IsAcceptedMethod, static_places};
+ghost use Rattle.dv_typing.specs.Flow.{IsLeast, IsTyping};
 ghost use Rattle.dv_defs.specs.Op.{Code, code_at};
-ghost use Rattle.dv_leastlaws.specs.Flowing.{IsReady};
+ghost use Rattle.law_infer.specs.Flowing.{IsReady};
 ghost use Rattle.dv_ops.specs.Meaning.{code_of};
 ghost use Rattle.dv_rules.specs.Verified.{typing_of};
 ghost use Rattle.dv_infer.specs.Errors.{IfFaults};

@@ -1,11 +1,12 @@
 // Receivers of constructor calls.
 ghost use Rattle.std.specs.Prelude.{◌≡◌, ℕ, option_map};
-ghost use Rattle.dv_flowlaws.specs.Clean.{IsClean};
-ghost use Rattle.dv_flowlaws.specs.Fitting.{StateFits};
+ghost use Rattle.law_flow.specs.Clean.{IsClean};
+ghost use Rattle.law_flow.specs.Fitting.{StateFits};
 ghost use Rattle.dv_ops.specs.Meaning.{code_of, meant, method_of};
 ghost use Rattle.dv_demands.specs.Made.{made_for};
 
-use dv_defs::{ClassId, Image, RegState};
+use dv_typing::RegState;
+use dv_defs::{ClassId, Image};
 use dv_ops::{Coded, Op};
 use dv_rules::{made_by, receiver_of};
 

@@ -11,9 +11,9 @@ use Rattle.dv_defs.specs.Parts.{Bin, Width, is_division, is_shift}
 use Rattle.dv_defs.specs.Op.{Arg, Case, cases_packed, cases_sparse, packed_op, reg, sparse_op, Code, IntDivide, LongDivide, Op, Resolved, int_op, long_op, move_op, result_op, Nop, MoveInt, MoveLong, MoveObject, ResultInt, ResultLong, ResultObject, TakeCaught, Const, ConstLong, IntUnary, LongUnary, IntToLong, LongToInt, IntOp, LongOp, LongShift, CompareLong, Goto, IfBoth, IfZero, Switch, is_local, op_of, resolve, resolve_by}
 use Rattle.dv_defs.specs.Tiling.{Tile, payload_at}
 use Rattle.dv_machine.specs.Local.{case_of}
-use Rattle.dv_steps.specs.Fetching.{IsSpelled}
-use Rattle.dv_steps.specs.Local.{branched, int_at, word_local}
-use Rattle.dv_steps.specs.Stepping.{AreRising, KeysRise}
+use Rattle.dv_words.specs.Fetching.{IsSpelled}
+use Rattle.dv_words.specs.Local.{branched, int_at, word_local}
+use Rattle.dv_words.specs.Stepping.{AreRising, KeysRise}
 use Rattle.dv_words.specs.Stacks.{gone}
 use Rattle.dv_words.specs.declared.state.Frame.{Frame}
 use Rattle.dv_local.specs.declared.here.Here.{Here}

@@ -8,11 +8,11 @@ use Rattle.dv_defs.specs.declared.names.MethodId.{MethodId}
 use Rattle.dv_defs.specs.Decoding.{insn_here}
 use Rattle.dv_defs.specs.Images.{Image}
 use Rattle.dv_defs.specs.Op.{Op, is_local}
-use Rattle.dv_defs.specs.Statics.{At, fetch}
+use Rattle.dv_typing.specs.Statics.{At, fetch}
 use Rattle.dv_defs.specs.Tiling.{tiles_in, tiling}
-use Rattle.dv_steps.specs.Local.{word_local}
-use Rattle.dv_steps.specs.Stepping.{KeysRise, KeysRiseAmong, RanLocally, StepsLocally, local_by, local_here, locals_here, on_frame}
-use Rattle.dv_steps.proofs.Fetching.{is_fetched, read_here, tiles_are}
+use Rattle.dv_words.specs.Local.{word_local}
+use Rattle.dv_words.specs.Stepping.{KeysRise, KeysRiseAmong, RanLocally, StepsLocally, local_by, local_here, locals_here, on_frame}
+use Rattle.law_words.proofs.Fetching.{is_fetched, read_here, tiles_are}
 use Rattle.dv_words.specs.declared.state.Frame.{Frame}
 use Rattle.dv_local.specs.declared.here.Here.{Here}
 use Rattle.dv_local.specs.Spelled.{IsOp, IsOpHere, SteppedHere, rest_of}

@@ -3,8 +3,8 @@ use Rattle.std.proofs.Common.{◌≡◌, ℕ, List, [], ◌∷◌, false, Option
 use Rattle.std.proofs.lemmas.Option.{same_Some}
 use Rattle.dv_defs.specs.Images.{Image}
 use Rattle.dv_defs.specs.Op.{code_at}
-use Rattle.dv_defs.specs.Statics.{At, fetch, fetch_in}
-use Rattle.dv_steps.specs.Stepping.{RanLocally, StepsLocally}
+use Rattle.dv_typing.specs.Statics.{At, fetch, fetch_in}
+use Rattle.dv_words.specs.Stepping.{RanLocally, StepsLocally}
 use Rattle.dv_defs.specs.declared.names.MethodId.{MethodId}
 use Rattle.dv_words.specs.declared.state.Frame.{Frame}
 use Rattle.dv_words.specs.declared.state.Level.{Level}

@@ -3,8 +3,8 @@ use Rattle.std.proofs.Common.{◌≡◌, ℕ, List, drop, Option, Some, None, Re
 use Rattle.std.proofs.lemmas.Option.{same_Some}
 use Rattle.dv_defs.specs.declared.code.Payload.{Payload}
 use Rattle.dv_defs.specs.Tiling.{Item, IsInsn, IsPayload, Piece, Tile, payload_in, piece_here, tile_at, tiles_in, tiling}
-use Rattle.dv_steps.specs.Fetching.{IsSpelled, PayloadsAreThere}
-use Rattle.dv_steps.proofs.Fetching.{tile_found}
+use Rattle.dv_words.specs.Fetching.{IsSpelled, PayloadsAreThere}
+use Rattle.law_words.proofs.Fetching.{tile_found}
 
 payload_item : (y : Item) (p : Payload) → payload_in y ≡ Some p → y ≡ IsPayload p
 payload_item (IsInsn i) p e = absurd (cc)

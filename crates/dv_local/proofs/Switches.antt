@@ -14,8 +14,8 @@ use Rattle.dv_defs.specs.Decoding.{Sized, insn_here, is_zero}
 use Rattle.std.specs.List.{list_all}
 use Rattle.dv_defs.specs.Tiling.{IsInsn, IsPayload, Piece, SizedPayload, begins_payload, bytes_in, data_from, data_in, doubles, insn_piece, is_width, packed_with, payload_of, payload_piece, piece_here, signed_all, sparse_with}
 use Rattle.dv_machine.specs.Local.{case_of}
-use Rattle.dv_steps.specs.Fetching.{IsSpelled}
-use Rattle.dv_steps.specs.Stepping.{AreRising}
+use Rattle.dv_words.specs.Fetching.{IsSpelled}
+use Rattle.dv_words.specs.Stepping.{AreRising}
 use Rattle.dv_local.specs.Switching.{DoRise, IsCase, IsKeyPlace, IsNoCase, double_at, int_at}
 
 -- ---- cases by their places

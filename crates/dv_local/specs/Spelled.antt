@@ -5,8 +5,8 @@ use Rattle.dv_defs.specs.Decoding.{insn_here}
 use Rattle.dv_defs.specs.Images.{Image}
 use Rattle.dv_defs.specs.Op.{Code, Op, is_local, op_of}
 use Rattle.dv_defs.specs.Tiling.{tiles_in, tiling}
-use Rattle.dv_steps.specs.Local.{word_local}
-use Rattle.dv_steps.specs.Stepping.{KeysRise}
+use Rattle.dv_words.specs.Local.{word_local}
+use Rattle.dv_words.specs.Stepping.{KeysRise}
 use Rattle.dv_words.specs.declared.state.Frame.{Frame}
 use Rattle.dv_local.specs.declared.here.Here.{Here}
 

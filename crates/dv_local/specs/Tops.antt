@@ -1,7 +1,7 @@
 -- Local steps of the frame on top of a stack.
 use Rattle.std.specs.Prelude.{◌≡◌, ℕ, Bool, false, Option, Some}
 use Rattle.dv_defs.specs.Images.{Image}
-use Rattle.dv_steps.specs.Stepping.{RanLocally, StepsLocally}
+use Rattle.dv_words.specs.Stepping.{RanLocally, StepsLocally}
 use Rattle.dv_words.specs.declared.state.Frame.{Frame}
 use Rattle.dv_words.specs.declared.state.Level.{Level}
 use Rattle.dv_words.specs.declared.state.Level.TheVariants as level

@@ -2,8 +2,8 @@
 use Rattle.std.specs.Prelude.{◌≡◌, ◌≤◌, ℕ, Bool, true, false, List, drop, Some}
 use Rattle.dv_defs.specs.Images.{Image}
 use Rattle.dv_defs.specs.Op.{Code, Op, code_at, is_local}
-use Rattle.dv_steps.specs.Local.{word_local}
-use Rattle.dv_steps.specs.Stepping.{KeysRise, RanLocally, StepsLocally}
+use Rattle.dv_words.specs.Local.{word_local}
+use Rattle.dv_words.specs.Stepping.{KeysRise, RanLocally, StepsLocally}
 use Rattle.dv_words.specs.declared.state.Frame.{Frame}
 use Rattle.dv_local.specs.Spelled.{IsOp}
 

@@ -4,7 +4,7 @@ ghost use Rattle.dv_defs.specs.Numbers.{long_of};
 ghost use Rattle.dv_defs.specs.Op.{CompareLong, IntOp, IntToLong, IntUnary, Lit, LongOp, LongShift, LongToInt, LongUnary, Reg};
 ghost use Rattle.dv_defs.specs.Parts.{Neg, Not, is_division, is_shift};
 ghost use Rattle.dv_frames.specs.Heads.{frame};
-ghost use Rattle.dv_steps.specs.Local.{word_local};
+ghost use Rattle.dv_words.specs.Local.{word_local};
 ghost use Rattle.dv_units.specs.Tables.{standard_bin, standard_unary};
 ghost use Rattle.dv_words.specs.Words.{int_of, word_at};
 

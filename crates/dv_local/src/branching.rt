@@ -4,10 +4,10 @@ ghost use Rattle.dv_defs.specs.declared.code.Payload.TheVariants as payload;
 ghost use Rattle.dv_defs.specs.Op.{Goto, IfBoth, IfZero, cases_packed, cases_sparse};
 ghost use Rattle.dv_frames.specs.Heads.{frame};
 ghost use Rattle.dv_machine.specs.Local.{case_of};
-ghost use Rattle.dv_steps.specs.Fetching.{IsSpelled};
-ghost use Rattle.dv_steps.specs.Local.{branched, word_local};
+ghost use Rattle.dv_words.specs.Fetching.{IsSpelled};
+ghost use Rattle.dv_words.specs.Local.{branched, word_local};
 ghost use Rattle.dv_units.specs.Tables.{standard_test};
-ghost use Rattle.dv_steps.specs.Stepping.{AreRising};
+ghost use Rattle.dv_words.specs.Stepping.{AreRising};
 ghost use Rattle.dv_local.specs.Switching.{DoRise, IsCase, IsKeyPlace, IsNoCase, double_at, int_at};
 
 use crate::arithmetic::int_in;

@@ -5,7 +5,7 @@ ghost use Rattle.dv_defs.specs.Images.{Image as Linked};
 ghost use Rattle.dv_defs.specs.Op.{Code, Op, code_at, is_local as is_local_op, op_of};
 ghost use Rattle.dv_ops.specs.Meaning.{code_of};
 ghost use Rattle.dv_frames.specs.Heads.{frame as framed, head_in};
-ghost use Rattle.dv_steps.specs.Stepping.{RanLocally, StepsLocally};
+ghost use Rattle.dv_words.specs.Stepping.{RanLocally, StepsLocally};
 ghost use Rattle.dv_local.specs.Units.{HasUnits};
 
 use crate::step::{is_local_opcode, run, step_once};

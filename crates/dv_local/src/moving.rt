@@ -2,7 +2,7 @@
 ghost use Rattle.std.specs.Prelude.{◌≡◌};
 ghost use Rattle.dv_defs.specs.Op.{Const, ConstLong, Nop, TakeCaught, move_op, result_op};
 ghost use Rattle.dv_frames.specs.Heads.{frame};
-ghost use Rattle.dv_steps.specs.Local.{word_local};
+ghost use Rattle.dv_words.specs.Local.{word_local};
 ghost use Rattle.dv_units.specs.Tables.{standard_width};
 
 use crate::numbers::halves;

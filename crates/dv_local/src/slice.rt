@@ -1,6 +1,6 @@
 // A run of local steps of one thread.
 ghost use Rattle.std.specs.Prelude.{◌≡◌, ◌+◌, ◌-◌, ◌^◌, min};
-ghost use Rattle.dv_steps.specs.Stepping.{RanLocally};
+ghost use Rattle.dv_words.specs.Stepping.{RanLocally};
 
 use crate::frames::run_frame;
 use dv_defs::Image;

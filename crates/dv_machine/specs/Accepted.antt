@@ -6,8 +6,8 @@ use Rattle.dv_defs.specs.Images.{Image}
 use Rattle.dv_defs.specs.declared.run.Named.{Named}
 use Rattle.dv_defs.specs.declared.run.Named.TheVariants as named
 use Rattle.dv_defs.specs.declared.run.Native.{Native}
-use Rattle.dv_defs.specs.declared.typing.RegType.TheVariants as ty
-use Rattle.dv_defs.specs.declared.typing.RegState.{RegState}
+use Rattle.dv_typing.specs.declared.typing.RegType.TheVariants as ty
+use Rattle.dv_typing.specs.declared.typing.RegState.{RegState}
 use Rattle.dv_defs.specs.Names.{object_name, class_name, string_name, thread_name, throwable_name, stream_name, system_name}
 use Rattle.dv_defs.specs.Field.{may_stand}
 use Rattle.dv_machine.specs.Conforming.{is_string_or_class}
@@ -15,16 +15,16 @@ use Rattle.dv_defs.specs.Types.{of_class, words_of}
 use Rattle.dv_defs.specs.Pools.{Method, Field, method_at, field_at, is_static, is_static_field, is_constructor, is_abstract, is_interface, class_type, class_named, name_at, parent_at, supers, nearest, initialiser, no_arguments}
 use Rattle.dv_defs.specs.Order.{instance, fits, has_number}
 use Rattle.dv_defs.specs.Op.{Code, code_at, can_throw}
-use Rattle.dv_defs.specs.Statics.{At, fetch, op_rules, arg_words}
-use Rattle.dv_defs.specs.RegTypes.{type_at, reg_types}
-use Rattle.dv_defs.specs.Demands.{demands}
-use Rattle.dv_defs.specs.Transfer.{entry_state, out}
-use Rattle.dv_defs.specs.Flow.{Typing, Leads, handlers_at, thrown_at, targets, caught_state}
-use Rattle.dv_defs.specs.Heap.{class_cells}
+use Rattle.dv_typing.specs.Statics.{At, fetch, op_rules, arg_words}
+use Rattle.dv_typing.specs.RegTypes.{type_at, reg_types}
+use Rattle.dv_typing.specs.Demands.{demands}
+use Rattle.dv_typing.specs.Transfer.{entry_state, out}
+use Rattle.dv_typing.specs.Flow.{Typing, Leads, handlers_at, thrown_at, targets, caught_state}
+use Rattle.dv_machine.specs.Heap.{class_cells}
 use Rattle.dv_machine.specs.Calls.{native_of, signature}
 use Rattle.dv_machine.specs.Unwinding.{exception_name, number_named, throwable_slot}
 use Rattle.dv_machine.specs.WellTyped.{Typings}
-use Rattle.dv_orders.specs.Hierarchy.{IsHierarchy, IsOrder}
+use Rattle.law_types.specs.Hierarchy.{IsHierarchy, IsOrder}
 
 -- ---- what acceptance gives
 

@@ -9,27 +9,27 @@ use Rattle.dv_defs.specs.Names.{object_name, class_name, string_name, thread_nam
 use Rattle.dv_defs.specs.Pools.{Method, is_static, is_native, is_abstract, is_constructor, is_of_object, own_type, class_named, name_at, parent_at, nearest}
 use Rattle.dv_defs.specs.Order.{instance}
 use Rattle.dv_defs.specs.Op.{Op, Invoke}
-use Rattle.dv_defs.specs.Statics.{At, fetch}
-use Rattle.dv_defs.specs.Demands.{is_own_or_super, is_void, result_width, same_width}
-use Rattle.dv_defs.specs.Heap.{Heap, kind_of}
+use Rattle.dv_typing.specs.Statics.{At, fetch}
+use Rattle.dv_typing.specs.Demands.{is_own_or_super, is_void, result_width, same_width}
+use Rattle.dv_machine.specs.Heap.{Heap, kind_of}
 use Rattle.dv_machine.specs.State.{Left, Did, Throws, IsStuck, Reads, reading, reg_at, read_ref, read_value, read_args, with_result, Here, left, pushed, type_of}
 use Rattle.dv_machine.specs.Mem.{on_object}
 use Rattle.dv_defs.specs.declared.code.Body.{Body}
 use Rattle.dv_defs.specs.Images.{Image}
-use Rattle.dv_defs.specs.declared.run.Value.{Value}
-use Rattle.dv_defs.specs.declared.run.Value.TheVariants as v
+use Rattle.dv_machine.specs.Value.{Value}
+use Rattle.dv_machine.specs.Value as v
 use Rattle.dv_defs.specs.declared.run.Named.{Named}
 use Rattle.dv_defs.specs.declared.run.Named.TheVariants as named
-use Rattle.dv_defs.specs.declared.run.Why.TheVariants as why
+use Rattle.dv_machine.specs.Why as why
 use Rattle.dv_defs.specs.declared.run.Native.{Native}
 use Rattle.dv_defs.specs.declared.run.Native.TheVariants as native
-use Rattle.dv_defs.specs.declared.machine.Pending.{Pending}
-use Rattle.dv_defs.specs.declared.machine.Pending.TheVariants as pending
-use Rattle.dv_defs.specs.declared.machine.Frame.{Frame}
-use Rattle.dv_defs.specs.declared.machine.Level.{Level}
-use Rattle.dv_defs.specs.declared.machine.Level.TheVariants as level
-use Rattle.dv_defs.specs.declared.machine.Kind.{Kind}
-use Rattle.dv_defs.specs.declared.machine.Kind.TheVariants as kind
+use Rattle.dv_machine.specs.Pending.{Pending}
+use Rattle.dv_machine.specs.Pending as pending
+use Rattle.dv_machine.specs.Frame.{Frame}
+use Rattle.dv_machine.specs.Level.{Level}
+use Rattle.dv_machine.specs.Level as level
+use Rattle.dv_machine.specs.Kind.{Kind}
+use Rattle.dv_machine.specs.Kind as kind
 
 -- the method on which a call lands, or what it throws
 pub data Landing : Type 0 where

@@ -3,27 +3,27 @@ use Rattle.std.specs.Prelude.{◌≡◌, ◌↔◌, ℕ, zero, suc, Bool, true, 
 use Rattle.dv_defs.specs.Pools.{class_type, name_at}
 use Rattle.dv_defs.specs.Types.{is_array}
 use Rattle.dv_defs.specs.Names.{class_name, string_name}
-use Rattle.dv_defs.specs.RegTypes.{Types, type_at}
+use Rattle.dv_typing.specs.RegTypes.{Types, type_at}
 use Rattle.dv_defs.specs.Order.{sub, fits}
-use Rattle.dv_defs.specs.Heap.{Heap, kind_of, kind_type}
+use Rattle.dv_machine.specs.Heap.{Heap, kind_of, kind_type}
 use Rattle.dv_machine.specs.State.{reg_at}
 use Rattle.dv_machine.specs.Calls.{object_of}
 use Rattle.dv_defs.specs.declared.names.Ty.{Ty}
 use Rattle.dv_defs.specs.Images.{Image}
-use Rattle.dv_defs.specs.declared.run.Value.{Value}
-use Rattle.dv_defs.specs.declared.run.Value.TheVariants as v
-use Rattle.dv_defs.specs.declared.machine.Pending.{Pending}
-use Rattle.dv_defs.specs.declared.machine.Pending.TheVariants as pending
-use Rattle.dv_defs.specs.declared.machine.Frame.{Frame}
-use Rattle.dv_defs.specs.declared.machine.Level.{Level}
-use Rattle.dv_defs.specs.declared.machine.Level.TheVariants as level
-use Rattle.dv_defs.specs.declared.machine.Kind.{Kind}
-use Rattle.dv_defs.specs.declared.machine.Kind.TheVariants as kind
-use Rattle.dv_defs.specs.declared.typing.RegType.{RegType}
-use Rattle.dv_defs.specs.declared.typing.RegType.TheVariants as ty
-use Rattle.dv_defs.specs.declared.typing.PendingType.{PendingType}
-use Rattle.dv_defs.specs.declared.typing.PendingType.TheVariants as pend
-use Rattle.dv_defs.specs.declared.typing.RegState.{RegState}
+use Rattle.dv_machine.specs.Value.{Value}
+use Rattle.dv_machine.specs.Value as v
+use Rattle.dv_machine.specs.Pending.{Pending}
+use Rattle.dv_machine.specs.Pending as pending
+use Rattle.dv_machine.specs.Frame.{Frame}
+use Rattle.dv_machine.specs.Level.{Level}
+use Rattle.dv_machine.specs.Level as level
+use Rattle.dv_machine.specs.Kind.{Kind}
+use Rattle.dv_machine.specs.Kind as kind
+use Rattle.dv_typing.specs.declared.typing.RegType.{RegType}
+use Rattle.dv_typing.specs.declared.typing.RegType.TheVariants as ty
+use Rattle.dv_typing.specs.declared.typing.PendingType.{PendingType}
+use Rattle.dv_typing.specs.declared.typing.PendingType.TheVariants as pend
+use Rattle.dv_typing.specs.declared.typing.RegState.{RegState}
 
 -- what a frame's own receiver is, its method's class, and what its new-instances make
 pub record Own : Type 0 where

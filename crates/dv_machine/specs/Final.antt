@@ -2,8 +2,8 @@
 use Rattle.std.specs.Prelude.{ℕ, suc, ◌++◌, Bool, true, List, [], ◌∷◌, Option, Some, None, nat_eq, decimal, codes, if◌then◌else◌}
 use Rattle.dv_defs.specs.declared.names.Ty.{Ty}
 use Rattle.dv_defs.specs.Images.{Image}
-use Rattle.dv_defs.specs.declared.run.Value.{Value}
-use Rattle.dv_defs.specs.declared.run.Value.TheVariants as v
+use Rattle.dv_machine.specs.Value.{Value}
+use Rattle.dv_machine.specs.Value as v
 use Rattle.dv_defs.specs.declared.run.Ending.{Ending}
 use Rattle.dv_defs.specs.declared.run.Ending.TheVariants as ending
 use Rattle.dv_defs.specs.declared.machine.End.{End}
@@ -13,7 +13,7 @@ use Rattle.dv_defs.specs.declared.machine.Blocked.TheVariants as blocked
 use Rattle.dv_defs.specs.Texts.{utf8, java_text}
 use Rattle.dv_defs.specs.Types.{class_in}
 use Rattle.dv_defs.specs.Pools.{name_at}
-use Rattle.dv_defs.specs.Heap.{Heap, cell_at}
+use Rattle.dv_machine.specs.Heap.{Heap, cell_at}
 use Rattle.dv_machine.specs.State.{Thread, Machine, type_of}
 use Rattle.dv_machine.specs.Texts.{text_of}
 use Rattle.dv_machine.specs.Unwinding.{throwable_slot}

@@ -1,3 +1,12 @@
+pub mod Value
+pub mod Why
+pub mod Pending
+pub mod Frame
+pub mod Level
+pub mod Kind
+pub mod Heap
+pub mod Monitors
+pub mod Classes
 pub mod State
 pub mod Local
 pub mod Mem
@@ -15,8 +24,4 @@ pub mod Final
 pub mod Conforming
 pub mod WellTyped
 pub mod Accepted
-pub mod Laws
-pub mod Premises
-pub mod StepLaws
-pub mod AllLaws
-pub mod examples
+pub mod Mains

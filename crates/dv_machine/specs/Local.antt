@@ -1,11 +1,11 @@
 -- Steps that touch one frame alone.
 use Rattle.std.specs.Prelude.{ℕ, zero, suc, Bool, true, false, List, [], ◌∷◌, ℤ, pos, negsuc, Option, Some, None, Ok, Err, if◌then◌else◌}
-use Rattle.dv_defs.specs.declared.run.Value.{Value}
-use Rattle.dv_defs.specs.declared.run.Value.TheVariants as v
-use Rattle.dv_defs.specs.declared.run.Why.TheVariants as why
-use Rattle.dv_defs.specs.declared.machine.Pending.{Pending}
-use Rattle.dv_defs.specs.declared.machine.Pending.TheVariants as pending
-use Rattle.dv_defs.specs.declared.machine.Frame.{Frame}
+use Rattle.dv_machine.specs.Value.{Value}
+use Rattle.dv_machine.specs.Value as v
+use Rattle.dv_machine.specs.Why as why
+use Rattle.dv_machine.specs.Pending.{Pending}
+use Rattle.dv_machine.specs.Pending as pending
+use Rattle.dv_machine.specs.Frame.{Frame}
 use Rattle.dv_defs.specs.Parts.{Test, is_equality}
 use Rattle.dv_defs.specs.Numbers.{operate32, operate64, unary_at, compare, compare_long, from32}
 use Rattle.dv_defs.specs.Op.{Op, Nop, MoveInt, MoveLong, MoveObject, ResultInt, ResultLong, ResultObject, TakeCaught, Const, ConstLong, IntUnary, LongUnary, IntToLong, LongToInt, IntOp, LongOp, LongShift, CompareLong, Goto, IfBoth, IfZero, Switch, Arg, Reg, Lit, Case}

@@ -4,11 +4,11 @@ use Rattle.std.specs.Ordering.{int_eq}
 use Rattle.dv_defs.specs.declared.names.Base.{Base}
 use Rattle.dv_defs.specs.declared.names.Base.TheVariants as base
 use Rattle.dv_defs.specs.declared.names.Ty.{Ty}
-use Rattle.dv_defs.specs.declared.run.Value.{Value}
-use Rattle.dv_defs.specs.declared.run.Value.TheVariants as v
+use Rattle.dv_machine.specs.Value.{Value}
+use Rattle.dv_machine.specs.Value as v
 use Rattle.dv_defs.specs.declared.run.Named.TheVariants as named
-use Rattle.dv_defs.specs.declared.run.Why.TheVariants as why
-use Rattle.dv_defs.specs.declared.machine.Pending.TheVariants as pending
+use Rattle.dv_machine.specs.Why as why
+use Rattle.dv_machine.specs.Pending as pending
 use Rattle.dv_defs.specs.Parts.{Suffix}
 use Rattle.dv_defs.specs.Names.{throwable_name}
 use Rattle.dv_defs.specs.Types.{of_class, is_array, component, is_long, words_of}
@@ -16,9 +16,9 @@ use Rattle.dv_defs.specs.Pools.{Field, class_type}
 use Rattle.dv_defs.specs.Order.{instance}
 use Rattle.dv_defs.specs.Numbers.{operate32, operate64, lo_of, hi_of, to_byte, to_char, to_short, bits32}
 use Rattle.dv_defs.specs.Op.{Op, IntDivide, LongDivide, ConstString, ConstClass, Cast, InstanceOf, ArrayLength, New, NewArray, Filled, Fill, Throw, ArrayGet, ArrayPut, FieldGet, FieldPut, StaticGet, StaticPut}
-use Rattle.dv_defs.specs.Statics.{is_of_suffix}
-use Rattle.dv_defs.specs.Demands.{is_own_field, is_fill_type, any_type}
-use Rattle.dv_defs.specs.Heap.{Heap, newest, alloc_object, alloc_array, intern, class_object, Got, cell_at, with_cell, static_at, with_static, length_of}
+use Rattle.dv_typing.specs.Statics.{is_of_suffix}
+use Rattle.dv_typing.specs.Demands.{is_own_field, is_fill_type, any_type}
+use Rattle.dv_machine.specs.Heap.{Heap, newest, alloc_object, alloc_array, intern, class_object, Got, cell_at, with_cell, static_at, with_static, length_of}
 use Rattle.dv_machine.specs.State.{truth, Reads, Did, Throws, ThrowsRef, IsStuck, Left, Here, on_next, reading, where_room, where_true, reg_at, read_int, read_two, read_long, read_any, read_ref, read_array, read_value, read_single, put, put_long, put_words, gone, with_result, onward, with_heap, type_of}
 use Rattle.dv_machine.specs.Local.{read_arg}
 

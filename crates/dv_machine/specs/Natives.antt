@@ -1,15 +1,15 @@
 -- The native methods of the boot classes.
 use Rattle.std.specs.Prelude.{ℕ, ◌+◌, ◌%◌, ◌++◌, Bool, false, List, [], ◌∷◌, length, take, drop, ℤ, pos, negsuc, Option, Some, None, slice_get, slice_index_or, nat_le, bytes_eq, if◌then◌else◌}
-use Rattle.dv_defs.specs.declared.run.Value.{Value}
-use Rattle.dv_defs.specs.declared.run.Value.TheVariants as v
+use Rattle.dv_machine.specs.Value.{Value}
+use Rattle.dv_machine.specs.Value as v
 use Rattle.dv_defs.specs.declared.run.Named.TheVariants as named
 use Rattle.dv_defs.specs.declared.run.Native.{Native}
 use Rattle.dv_defs.specs.declared.run.Native.TheVariants as native
-use Rattle.dv_defs.specs.declared.machine.Pending.TheVariants as pending
-use Rattle.dv_defs.specs.declared.machine.Kind.{Kind}
-use Rattle.dv_defs.specs.declared.machine.Kind.TheVariants as kind
+use Rattle.dv_machine.specs.Pending as pending
+use Rattle.dv_machine.specs.Kind.{Kind}
+use Rattle.dv_machine.specs.Kind as kind
 use Rattle.dv_defs.specs.Numbers.{long_of, bits32}
-use Rattle.dv_defs.specs.Heap.{Heap, kind_of, newest, alloc_string, cells_at, length_of}
+use Rattle.dv_machine.specs.Heap.{Heap, kind_of, newest, alloc_string, cells_at, length_of}
 use Rattle.dv_machine.specs.State.{truth, Left, Did, Throws, NoOutput, where_room, where_true, with_result, Here, onward, with_heap, with_output}
 use Rattle.dv_machine.specs.Mem.{on_object}
 use Rattle.dv_machine.specs.Texts.{text_of}

@@ -4,11 +4,11 @@ use Rattle.dv_defs.specs.declared.flags.Flag.TheVariants as flag
 use Rattle.dv_defs.specs.Flags.{has_flag}
 use Rattle.dv_defs.specs.Names.{string_name, thread_name, system_name, stream_name}
 use Rattle.dv_defs.specs.Types.{is_long}
-use Rattle.dv_defs.specs.RegTypes.{reg_types}
+use Rattle.dv_typing.specs.RegTypes.{reg_types}
 use Rattle.dv_defs.specs.Pools.{Method, Field, field_at, name_at, supers, initialiser}
 use Rattle.dv_defs.specs.Numbers.{lo_of, hi_of}
-use Rattle.dv_defs.specs.Heap.{Heap, Cells, class_cells, fresh_cells, grown, newest, intern, Got, with_static}
-use Rattle.dv_defs.specs.Classes.{Fresh, InProgress, Ready, Classes, with_state}
+use Rattle.dv_machine.specs.Heap.{Heap, Cells, class_cells, fresh_cells, grown, newest, intern, Got, with_static}
+use Rattle.dv_machine.specs.Classes.{Fresh, InProgress, Ready, Classes, with_state}
 use Rattle.dv_machine.specs.Local.{const_value}
 use Rattle.dv_machine.specs.State.{Thread, Machine}
 use Rattle.dv_machine.specs.Calls.{entered_frame}
@@ -18,14 +18,14 @@ use Rattle.dv_defs.specs.declared.names.Ty.{Ty}
 use Rattle.dv_defs.specs.Images.{Image}
 use Rattle.dv_defs.specs.declared.image.ClassInfo.{ClassInfo}
 use Rattle.dv_defs.specs.declared.image.FieldInfo.{FieldInfo}
-use Rattle.dv_defs.specs.declared.run.Value.{Value}
-use Rattle.dv_defs.specs.declared.run.Value.TheVariants as v
+use Rattle.dv_machine.specs.Value.{Value}
+use Rattle.dv_machine.specs.Value as v
 use Rattle.dv_defs.specs.declared.run.Limits.{Limits}
-use Rattle.dv_defs.specs.declared.machine.Frame.{Frame}
-use Rattle.dv_defs.specs.declared.machine.Level.{Level}
-use Rattle.dv_defs.specs.declared.machine.Level.TheVariants as level
-use Rattle.dv_defs.specs.declared.machine.Kind.{Kind}
-use Rattle.dv_defs.specs.declared.machine.Kind.TheVariants as kind
+use Rattle.dv_machine.specs.Frame.{Frame}
+use Rattle.dv_machine.specs.Level.{Level}
+use Rattle.dv_machine.specs.Level as level
+use Rattle.dv_machine.specs.Kind.{Kind}
+use Rattle.dv_machine.specs.Kind as kind
 use Rattle.dv_defs.specs.declared.machine.End.TheVariants as end
 use Rattle.dv_defs.specs.declared.class.Init.{Init}
 use Rattle.dv_defs.specs.declared.class.Init.TheVariants as init

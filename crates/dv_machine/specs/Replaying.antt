@@ -3,14 +3,14 @@ use Rattle.std.specs.Prelude.{◌≡◌, ℕ, zero, suc, ◌+◌, ◌/◌, ◌%�
 use Rattle.dv_defs.specs.Images.{Image}
 use Rattle.dv_defs.specs.declared.run.Limits.{Limits}
 use Rattle.dv_defs.specs.declared.run.Ending.{Ending}
-use Rattle.dv_defs.specs.declared.run.Why.{Why}
+use Rattle.dv_machine.specs.Why.{Why}
 use Rattle.dv_defs.specs.declared.run.Entry.{Entry}
-use Rattle.dv_defs.specs.declared.machine.Level.{Level}
-use Rattle.dv_defs.specs.declared.machine.Level.TheVariants as level
+use Rattle.dv_machine.specs.Level.{Level}
+use Rattle.dv_machine.specs.Level as level
 use Rattle.dv_defs.specs.declared.machine.End.{End}
 use Rattle.dv_defs.specs.declared.machine.End.TheVariants as end
 use Rattle.dv_defs.specs.Pools.{Method}
-use Rattle.dv_defs.specs.Statics.{At, fetch}
+use Rattle.dv_typing.specs.Statics.{At, fetch}
 use Rattle.dv_defs.specs.Op.{is_local}
 use Rattle.dv_machine.specs.State.{Thread, Machine, Reads, on_next}
 use Rattle.dv_machine.specs.Step.{step}

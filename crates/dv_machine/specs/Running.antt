@@ -1,15 +1,15 @@
 -- Which threads are runnable, and how a run stands.
 use Rattle.std.specs.Prelude.{is_none, ℕ, suc, Bool, true, false, ◌&&◌, not, List, [], ◌∷◌, Option, Some, None, slice_get, nat_eq, if◌then◌else◌}
 use Rattle.dv_defs.specs.Images.{Image}
-use Rattle.dv_defs.specs.declared.run.Value.{Value}
-use Rattle.dv_defs.specs.declared.run.Value.TheVariants as v
+use Rattle.dv_machine.specs.Value.{Value}
+use Rattle.dv_machine.specs.Value as v
 use Rattle.dv_defs.specs.declared.run.Ending.{Ending}
 use Rattle.dv_defs.specs.declared.run.Ending.TheVariants as ending
 use Rattle.dv_defs.specs.declared.run.Native.{Native}
 use Rattle.dv_defs.specs.declared.run.Native.TheVariants as native
-use Rattle.dv_defs.specs.declared.machine.Frame.{Frame}
-use Rattle.dv_defs.specs.declared.machine.Level.{Level}
-use Rattle.dv_defs.specs.declared.machine.Level.TheVariants as level
+use Rattle.dv_machine.specs.Frame.{Frame}
+use Rattle.dv_machine.specs.Level.{Level}
+use Rattle.dv_machine.specs.Level as level
 use Rattle.dv_defs.specs.declared.machine.End.{End}
 use Rattle.dv_defs.specs.declared.machine.End.TheVariants as end
 use Rattle.dv_defs.specs.declared.machine.Ask.{Ask}
@@ -19,9 +19,9 @@ use Rattle.dv_defs.specs.declared.machine.Blocked.TheVariants as blocked
 use Rattle.dv_defs.specs.Parts.{Call}
 use Rattle.dv_defs.specs.Pools.{Method, method_at}
 use Rattle.dv_defs.specs.Op.{Op, Enter, Invoke, needs}
-use Rattle.dv_defs.specs.Statics.{At, fetch}
-use Rattle.dv_defs.specs.Monitors.{Wait, Monitors, owner_of, wait_of}
-use Rattle.dv_defs.specs.Classes.{Classes, ask_of}
+use Rattle.dv_typing.specs.Statics.{At, fetch}
+use Rattle.dv_machine.specs.Monitors.{Wait, Monitors, owner_of, wait_of}
+use Rattle.dv_machine.specs.Classes.{Classes, ask_of}
 use Rattle.dv_machine.specs.State.{Thread, Machine, reg_at}
 use Rattle.dv_machine.specs.Calls.{Landing, Lands, Lacks, dispatch, native_of, receiver_of}
 use Rattle.dv_machine.specs.Threads.{thread_with, is_living}

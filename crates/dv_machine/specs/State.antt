@@ -2,29 +2,29 @@
 use Rattle.std.specs.Prelude.{ℕ, suc, ◌+◌, ◌++◌, Bool, true, false, ◌&&◌, ◌||◌, List, [], ◌∷◌, length, ℤ, pos, Option, Some, None, Result, Ok, Err, slice_set, slice_index_or, nat_eq, nat_le, if◌then◌else◌}
 use Rattle.dv_defs.specs.declared.names.Ty.{Ty}
 use Rattle.dv_defs.specs.Images.{Image}
-use Rattle.dv_defs.specs.declared.run.Value.{Value}
-use Rattle.dv_defs.specs.declared.run.Value.TheVariants as v
+use Rattle.dv_machine.specs.Value.{Value}
+use Rattle.dv_machine.specs.Value as v
 use Rattle.dv_defs.specs.declared.run.Limits.{Limits}
 use Rattle.dv_defs.specs.declared.run.Ending.{Ending}
 use Rattle.dv_defs.specs.declared.run.Named.{Named}
-use Rattle.dv_defs.specs.declared.run.Why.{Why}
-use Rattle.dv_defs.specs.declared.run.Why.TheVariants as why
-use Rattle.dv_defs.specs.declared.machine.Pending.{Pending}
-use Rattle.dv_defs.specs.declared.machine.Pending.TheVariants as pending
-use Rattle.dv_defs.specs.declared.machine.Frame.{Frame}
-use Rattle.dv_defs.specs.declared.machine.Level.{Level}
-use Rattle.dv_defs.specs.declared.machine.Level.TheVariants as level
-use Rattle.dv_defs.specs.declared.machine.Kind.{Kind}
-use Rattle.dv_defs.specs.declared.machine.Kind.TheVariants as kind
+use Rattle.dv_machine.specs.Why.{Why}
+use Rattle.dv_machine.specs.Why as why
+use Rattle.dv_machine.specs.Pending.{Pending}
+use Rattle.dv_machine.specs.Pending as pending
+use Rattle.dv_machine.specs.Frame.{Frame}
+use Rattle.dv_machine.specs.Level.{Level}
+use Rattle.dv_machine.specs.Level as level
+use Rattle.dv_machine.specs.Kind.{Kind}
+use Rattle.dv_machine.specs.Kind as kind
 use Rattle.dv_defs.specs.declared.machine.End.{End}
 use Rattle.dv_defs.specs.Names.{object_name}
 use Rattle.dv_defs.specs.Types.{of_class, component, is_reference, is_long}
 use Rattle.dv_defs.specs.Pools.{Method}
 use Rattle.dv_defs.specs.Order.{fits}
 use Rattle.dv_defs.specs.Numbers.{lo_of, hi_of, long_of}
-use Rattle.dv_defs.specs.Heap.{Heap, kind_of, kind_type}
-use Rattle.dv_defs.specs.Monitors.{Monitors}
-use Rattle.dv_defs.specs.Classes.{Classes}
+use Rattle.dv_machine.specs.Heap.{Heap, kind_of, kind_type}
+use Rattle.dv_machine.specs.Monitors.{Monitors}
+use Rattle.dv_machine.specs.Classes.{Classes}
 
 -- a guest thread: its levels, the top one first, and how it stands
 pub record Thread : Type 0 where

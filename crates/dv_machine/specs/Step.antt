@@ -5,21 +5,21 @@ use Rattle.dv_defs.specs.Images.{Image}
 use Rattle.dv_defs.specs.declared.run.Ending.{Ending}
 use Rattle.dv_defs.specs.declared.run.Ending.TheVariants as ending
 use Rattle.dv_defs.specs.declared.run.Named.TheVariants as named
-use Rattle.dv_defs.specs.declared.run.Why.TheVariants as why
-use Rattle.dv_defs.specs.declared.machine.Pending.TheVariants as pending
-use Rattle.dv_defs.specs.declared.machine.Frame.{Frame}
-use Rattle.dv_defs.specs.declared.machine.Level.{Level}
-use Rattle.dv_defs.specs.declared.machine.Level.TheVariants as level
+use Rattle.dv_machine.specs.Why as why
+use Rattle.dv_machine.specs.Pending as pending
+use Rattle.dv_machine.specs.Frame.{Frame}
+use Rattle.dv_machine.specs.Level.{Level}
+use Rattle.dv_machine.specs.Level as level
 use Rattle.dv_defs.specs.declared.machine.End.{End}
 use Rattle.dv_defs.specs.declared.machine.End.TheVariants as end
 use Rattle.dv_defs.specs.declared.machine.Ask.{Ask}
 use Rattle.dv_defs.specs.declared.machine.Ask.TheVariants as ask
 use Rattle.dv_defs.specs.Pools.{Method, method_at, parent_at, initialiser}
 use Rattle.dv_defs.specs.Op.{Op, Enter, Exit, Invoke, ReturnVoid, Return, needs, is_local}
-use Rattle.dv_defs.specs.Statics.{At, fetch}
-use Rattle.dv_defs.specs.Flow.{handlers_at, is_exit}
-use Rattle.dv_defs.specs.Heap.{Heap, newest}
-use Rattle.dv_defs.specs.Classes.{ClassState, InProgress, Ready, ask_of, with_state}
+use Rattle.dv_typing.specs.Statics.{At, fetch}
+use Rattle.dv_typing.specs.Flow.{handlers_at, is_exit}
+use Rattle.dv_machine.specs.Heap.{Heap, newest}
+use Rattle.dv_machine.specs.Classes.{ClassState, InProgress, Ready, ask_of, with_state}
 use Rattle.dv_machine.specs.State.{Thread, Machine, Left, Did, Go, Throws, ThrowsRef, NoWords, NoRoom, NoOutput, IsStuck, Reads, reading, reg_at, read_any, Here, left, onward, with_heap, with_classes, pushed}
 use Rattle.dv_machine.specs.Mem.{on_object, mem}
 use Rattle.dv_machine.specs.Local.{local}

@@ -1,8 +1,8 @@
 -- The guest strings of a heap.
 use Rattle.std.specs.Prelude.{ℕ, List, [], Option, Some}
-use Rattle.dv_defs.specs.declared.machine.Kind.{Kind}
-use Rattle.dv_defs.specs.declared.machine.Kind.TheVariants as kind
-use Rattle.dv_defs.specs.Heap.{Heap, kind_of}
+use Rattle.dv_machine.specs.Kind.{Kind}
+use Rattle.dv_machine.specs.Kind as kind
+use Rattle.dv_machine.specs.Heap.{Heap, kind_of}
 
 abbrev pub text_in : Option Kind → List ℕ
 text_in (Some (kind.Str s)) = s

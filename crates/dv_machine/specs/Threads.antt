@@ -1,14 +1,14 @@
 -- Monitors, waiting, starting and joining (JLS 17.1, 17.2).
 use Rattle.std.specs.Prelude.{ℕ, suc, Bool, true, false, List, [], ◌∷◌, length, Option, Some, None, slice_get, nat_eq, nat_lt, codes, if◌then◌else◌}
 use Rattle.dv_defs.specs.Images.{Image}
-use Rattle.dv_defs.specs.declared.run.Value.TheVariants as v
+use Rattle.dv_machine.specs.Value as v
 use Rattle.dv_defs.specs.declared.run.Named.TheVariants as named
-use Rattle.dv_defs.specs.declared.machine.Level.TheVariants as level
+use Rattle.dv_machine.specs.Level as level
 use Rattle.dv_defs.specs.declared.machine.End.{End}
 use Rattle.dv_defs.specs.declared.machine.End.TheVariants as end
 use Rattle.dv_defs.specs.Pools.{Method, is_abstract, nearest, no_arguments}
-use Rattle.dv_defs.specs.Heap.{kind_of}
-use Rattle.dv_defs.specs.Monitors.{Held, Wait, held_of, owner_of, entered, exited, waiting, notified_one, notified_all, wait_of, resumed}
+use Rattle.dv_machine.specs.Heap.{kind_of}
+use Rattle.dv_machine.specs.Monitors.{Held, Wait, held_of, owner_of, entered, exited, waiting, notified_one, notified_all, wait_of, resumed}
 use Rattle.dv_machine.specs.State.{Thread, Shared, Left, Did, Go, Throws, where_true, gone, Here, onward, with_monitors}
 use Rattle.dv_machine.specs.Calls.{class_of_kind, entered_frame}
 

@@ -4,20 +4,20 @@ use Rattle.std.specs.Option.{unwrap_or}
 use Rattle.dv_defs.specs.declared.names.Ty.{Ty}
 use Rattle.dv_defs.specs.Images.{Image}
 use Rattle.dv_defs.specs.declared.image.FieldInfo.{FieldInfo}
-use Rattle.dv_defs.specs.declared.run.Value.TheVariants as v
+use Rattle.dv_machine.specs.Value as v
 use Rattle.dv_defs.specs.declared.run.Named.{Named}
 use Rattle.dv_defs.specs.declared.run.Named.TheVariants as named
-use Rattle.dv_defs.specs.declared.machine.Pending.TheVariants as pending
-use Rattle.dv_defs.specs.declared.machine.Frame.{Frame}
-use Rattle.dv_defs.specs.declared.machine.Level.{Level}
-use Rattle.dv_defs.specs.declared.machine.Level.TheVariants as level
+use Rattle.dv_machine.specs.Pending as pending
+use Rattle.dv_machine.specs.Frame.{Frame}
+use Rattle.dv_machine.specs.Level.{Level}
+use Rattle.dv_machine.specs.Level as level
 use Rattle.dv_defs.specs.Names.{throwable_name, error_name}
 use Rattle.dv_defs.specs.Types.{of_class}
 use Rattle.dv_defs.specs.Pools.{Method, Field, method_at, field_at, class_named}
 use Rattle.dv_defs.specs.Order.{instance}
-use Rattle.dv_defs.specs.Flow.{Catcher}
-use Rattle.dv_defs.specs.Heap.{Heap, newest, alloc_object, with_cell}
-use Rattle.dv_defs.specs.Classes.{Erroneous, with_state}
+use Rattle.dv_typing.specs.Flow.{Catcher}
+use Rattle.dv_machine.specs.Heap.{Heap, newest, alloc_object, with_cell}
+use Rattle.dv_machine.specs.Classes.{Erroneous, with_state}
 use Rattle.dv_machine.specs.State.{Shared, Left, Here, with_heap, with_classes, type_of}
 
 -- a handler catches what is an instance of its type

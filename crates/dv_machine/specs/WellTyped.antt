@@ -4,15 +4,15 @@ use Rattle.dv_defs.specs.Pools.{is_static_field, Method, Field, method_at, field
 use Rattle.dv_defs.specs.Parts.{Call}
 use Rattle.dv_defs.specs.Names.{object_name, thread_name, throwable_name}
 use Rattle.dv_defs.specs.Types.{of_class, component}
-use Rattle.dv_defs.specs.RegTypes.{reg_types, Types}
+use Rattle.dv_typing.specs.RegTypes.{reg_types, Types}
 use Rattle.dv_defs.specs.Order.{has_number}
 use Rattle.dv_defs.specs.Op.{Op, Invoke, Code, code_at, needs}
-use Rattle.dv_defs.specs.Statics.{At, fetch}
-use Rattle.dv_defs.specs.Flow.{handlers_at, Typing}
-use Rattle.dv_defs.specs.Demands.{made_at}
-use Rattle.dv_defs.specs.Heap.{Heap, Cells, kind_of, class_cells, cells_at, length_of}
-use Rattle.dv_defs.specs.Monitors.{Held, Wait, owner_of}
-use Rattle.dv_defs.specs.Classes.{ClassState, InProgress, state_at}
+use Rattle.dv_typing.specs.Statics.{At, fetch}
+use Rattle.dv_typing.specs.Flow.{handlers_at, Typing}
+use Rattle.dv_typing.specs.Demands.{made_at}
+use Rattle.dv_machine.specs.Heap.{Heap, Cells, kind_of, class_cells, cells_at, length_of}
+use Rattle.dv_machine.specs.Monitors.{Held, Wait, owner_of}
+use Rattle.dv_machine.specs.Classes.{ClassState, InProgress, state_at}
 use Rattle.dv_machine.specs.State.{Thread, Shared, Machine, reg_at}
 use Rattle.dv_machine.specs.Calls.{Lands, dispatch, native_of, receiver_of, object_of}
 use Rattle.dv_machine.specs.Step.{prior}
@@ -20,16 +20,16 @@ use Rattle.dv_machine.specs.Unwinding.{is_opening, caught_frame, catches}
 use Rattle.dv_machine.specs.Conforming.{Own, IsOf, Conform, RegsConform, RefsFine}
 use Rattle.dv_defs.specs.declared.names.Ty.{Ty}
 use Rattle.dv_defs.specs.Images.{Image}
-use Rattle.dv_defs.specs.declared.run.Value.TheVariants as v
+use Rattle.dv_machine.specs.Value as v
 use Rattle.dv_defs.specs.declared.run.Native.TheVariants as native
-use Rattle.dv_defs.specs.declared.machine.Frame.{Frame}
-use Rattle.dv_defs.specs.declared.machine.Level.{Level}
-use Rattle.dv_defs.specs.declared.machine.Level.TheVariants as level
-use Rattle.dv_defs.specs.declared.machine.Kind.{Kind}
-use Rattle.dv_defs.specs.declared.machine.Kind.TheVariants as kind
+use Rattle.dv_machine.specs.Frame.{Frame}
+use Rattle.dv_machine.specs.Level.{Level}
+use Rattle.dv_machine.specs.Level as level
+use Rattle.dv_machine.specs.Kind.{Kind}
+use Rattle.dv_machine.specs.Kind as kind
 use Rattle.dv_defs.specs.declared.machine.End.{End}
 use Rattle.dv_defs.specs.declared.machine.End.TheVariants as end
-use Rattle.dv_defs.specs.declared.typing.RegState.{RegState}
+use Rattle.dv_typing.specs.declared.typing.RegState.{RegState}
 
 -- a typing of each method
 abbrev pub Typings : Type 0

@@ -2,11 +2,11 @@
 use Rattle.std.proofs.Common.{◌≡◌, ℕ, zero, suc, List, [], ◌∷◌, length, map, Some, refl, sym, ap, ◌∙◌}
 use Rattle.std.specs.Prelude.{slice_get, slice_index_or}
 use Rattle.std.specs.List.{AllZip}
-use Rattle.dv_defs.specs.declared.machine.Kind as tagged_kind
-use Rattle.dv_defs.specs.declared.machine.Kind.TheVariants as kind_of_tagged
+use Rattle.dv_machine.specs.Kind as tagged_kind
+use Rattle.dv_machine.specs.Kind as kind_of_tagged
 use Rattle.dv_defs.specs.declared.names.ClassId.{ClassId}
-use Rattle.dv_defs.specs.declared.run.Value.{Value}
-use Rattle.dv_defs.specs.Heap.{Heap, cells_at, kind_of}
+use Rattle.dv_machine.specs.Value.{Value}
+use Rattle.dv_machine.specs.Heap.{Heap, cells_at, kind_of}
 use Rattle.dv_machine.specs.State.{reg_at}
 use Rattle.dv_words.specs.Erasure.{erased_kind}
 use Rattle.dv_words.specs.Heaps as words

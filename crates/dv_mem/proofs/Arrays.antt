@@ -7,7 +7,7 @@ use Rattle.dv_defs.specs.declared.names.Base.{Base}
 use Rattle.dv_defs.specs.declared.names.Base.TheVariants as base
 use Rattle.dv_defs.specs.declared.names.Ty.{Ty}
 use Rattle.dv_defs.specs.Parts.{Suffix}
-use Rattle.dv_defs.specs.Statics.{is_of_suffix}
+use Rattle.dv_typing.specs.Statics.{is_of_suffix}
 use Rattle.dv_defs.specs.Types.{base_eq, component, is_base, is_class_base, is_long}
 use Rattle.dv_machine.specs.Mem.{on_object}
 use Rattle.dv_machine.specs.State.{Did, Throws, where_true}
@@ -18,8 +18,8 @@ use Rattle.dv_words.specs.declared.state.Kind.TheVariants as kind
 use Rattle.dv_words.specs.Heaps.{kind_of, length_of}
 use Rattle.dv_words.specs.Words.{int_of}
 use Rattle.dv_words.specs.Stacks.{gone}
-use Rattle.dv_steps.specs.Local.{reg_word}
-use Rattle.dv_steps.specs.Mem.{WordHere, WordLeft, array_put, component_of, fill, filled, is_instance, is_storable, is_wide, narrowed_all, on_index, onward, stored, type_of_kind, words_at, words_in}
+use Rattle.dv_words.specs.Local.{reg_word}
+use Rattle.dv_words.specs.Mem.{WordHere, WordLeft, array_put, component_of, fill, filled, is_instance, is_storable, is_wide, narrowed_all, on_index, onward, stored, type_of_kind, words_at, words_in}
 use Rattle.dv_mem.specs.Elements.{width_of}
 use Rattle.dv_mem.specs.Operands.{IsArray}
 use Rattle.dv_mem.specs.Values.{words_from}

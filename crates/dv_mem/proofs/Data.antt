@@ -9,12 +9,12 @@ use Rattle.dv_defs.specs.declared.code.Payload.{Payload}
 use Rattle.dv_defs.specs.declared.code.Payload.TheVariants as payload
 use Rattle.dv_defs.specs.declared.names.Ty.{Ty}
 use Rattle.dv_defs.specs.Decoding.{Sized, insn_here}
-use Rattle.dv_defs.specs.Demands.{is_fill_type}
+use Rattle.dv_typing.specs.Demands.{is_fill_type}
 use Rattle.dv_defs.specs.Numbers.{elements, low_first, signed_at}
 use Rattle.dv_defs.specs.Spelling.{all_fit}
 use Rattle.dv_defs.specs.Tiling.{Piece, Tile, SizedPayload, begins_payload, bytes_in, data_from, doubles, insn_piece, is_width, packed_with, payload_at, payload_in, payload_of, payload_piece, piece_here, sparse_with, tile_at, tiles_in, tiling}
 use Rattle.dv_ops.specs.Meaning.{is_data, width_in}
-use Rattle.dv_fetch.proofs.Standing.{met}
+use Rattle.dv_ops.proofs.Standing.{met}
 use Rattle.dv_mem.specs.Payloads.{HasData}
 
 -- elements have a size only where data stand

@@ -11,7 +11,7 @@ use Rattle.dv_defs.specs.Families.{Family, family_at}
 use Rattle.dv_defs.specs.Images.{Image}
 use Rattle.dv_defs.specs.Op.{Arg, Code, IntDivide, IntOp, LongDivide, LongOp, LongShift, New, Op, Resolved, class_of_base, code_at, fill_op, int_op, long_op, move_op, new_op, on_pool, op_of, packed_op, resolve, resolve_by, resolved_field, resolved_method, result_op, sparse_op}
 use Rattle.dv_defs.specs.Parts.{Bin, Width, is_division, is_shift}
-use Rattle.dv_defs.specs.Statics.{At, at_of, at_tile, fetch, fetch_in, insn_rules, sound_at}
+use Rattle.dv_typing.specs.Statics.{At, at_of, at_tile, fetch, fetch_in, insn_rules, sound_at}
 use Rattle.dv_defs.specs.Tiling.{Tile, insn_in, tile_at}
 use Rattle.dv_defs.specs.Types.{is_array}
 

@@ -15,8 +15,8 @@ use Rattle.dv_words.specs.Heaps.{Got, alloc_array, cost_of_array, counted_by, ha
 use Rattle.dv_words.specs.Stacks.{given, gone}
 use Rattle.dv_words.specs.State.{WordHeap, WordStack}
 use Rattle.dv_heap.specs.Answers.{grown_to, newest_of}
-use Rattle.dv_steps.specs.Mem.{WordHere, WordLeft, filled_array, got, new_array, onward, stored}
-use Rattle.dv_steps.specs.Stepping.{Answered}
+use Rattle.dv_words.specs.Mem.{WordHere, WordLeft, filled_array, got, new_array, onward, stored}
+use Rattle.dv_words.specs.Stepping.{Answered}
 use Rattle.dv_mem.specs.Elements.{count_of}
 
 newest_room : (o : Option WordHeap) (go : Got → Did WordLeft) → where_room (newest_of o) go ≡ where_room o (λ heap. go (got heap))

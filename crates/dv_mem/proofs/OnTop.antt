@@ -15,11 +15,11 @@ use Rattle.dv_defs.specs.Numbers.{elements, jump}
 use Rattle.dv_defs.specs.Tiling.{payload_at}
 use Rattle.dv_defs.specs.Op.{Code, Resolved, cases_packed, cases_sparse, code_at, fill_op, op_of, packed_op, resolve_by, sparse_op}
 use Rattle.dv_defs.specs.Spelling.{all_fit, spelling}
-use Rattle.dv_defs.specs.Statics.{At}
+use Rattle.dv_typing.specs.Statics.{At}
 use Rattle.dv_defs.proofs.DecodingLaws.{insn_here_spelled}
 use Rattle.dv_defs.proofs.SpellingFormats.{begins}
 use Rattle.dv_defs.proofs.SpellingLaws.{spelled_in}
-use Rattle.dv_fetch.proofs.Fetched.{payload_there}
+use Rattle.dv_ops.proofs.Fetched.{payload_there}
 use Rattle.dv_units.proofs.Decoding.{fit_from}
 use Rattle.dv_ops.specs.declared.op.Op.{Op}
 use Rattle.dv_ops.specs.declared.op.Op.TheVariants as op_is
@@ -32,7 +32,7 @@ use Rattle.dv_words.specs.State.{WordStack}
 use Rattle.dv_frames.specs.declared.heads.Head.{Head}
 use Rattle.dv_frames.specs.Heads.{head_in}
 use Rattle.dv_frames.specs.Tops.{head_of}
-use Rattle.dv_steps.proofs.Fetching.{is_fetched}
+use Rattle.law_words.proofs.Fetching.{is_fetched}
 use Rattle.dv_mem.specs.Stepping.{GoesOnAt, IsMeant, IsOnTop, is_fill, is_mem, is_with_payload}
 use Rattle.dv_mem.specs.Tops.{frame_in, top_frame}
 

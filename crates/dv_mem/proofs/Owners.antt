@@ -9,7 +9,7 @@ use Rattle.dv_machine.specs.State.{Did, Throws}
 use Rattle.dv_words.specs.declared.state.Kind.TheVariants as kind
 use Rattle.dv_words.specs.Heaps.{kind_of, words_of_object}
 use Rattle.dv_words.specs.State.{WordHeap}
-use Rattle.dv_steps.specs.Mem.{WordLeft}
+use Rattle.dv_words.specs.Mem.{WordLeft}
 use Rattle.dv_mem.specs.Operands.{IsNullOrOwner, IsOwner}
 
 -- what lacks the words of the field is null

@@ -5,7 +5,7 @@ use Rattle.dv_words.specs.Heaps.{kind_of, with_word, words_of_object}
 use Rattle.dv_words.specs.State.{WordHeap}
 use Rattle.dv_words.specs.declared.state.Kind.TheVariants as kind
 use Rattle.dv_heap.specs.Answers.{HasWord}
-use Rattle.dv_steps.specs.Mem.{stored}
+use Rattle.dv_words.specs.Mem.{stored}
 use Rattle.dv_mem.specs.Operands.{AreWithin}
 
 pub kind_stays : (h : WordHeap) (o k : ℕ) (xs : List ℕ) (p : ℕ) → kind_of (stored h o k xs) p ≡ kind_of h p

@@ -5,28 +5,28 @@ use Rattle.std.proofs.lemmas.Bool.{and_parts, cases_lt, eqb-true, not-true}
 use Rattle.std.proofs.lemmas.List.{get_or_past}
 use Rattle.std.proofs.lemmas.Option.{same_Some}
 use Rattle.dv_defs.specs.declared.faults.Rule.TheVariants as rule
-use Rattle.dv_defs.specs.declared.machine.Frame as tagged
-use Rattle.dv_defs.specs.declared.machine.Kind.{Kind}
-use Rattle.dv_defs.specs.declared.machine.Kind.TheVariants as kind_of_tagged
+use Rattle.dv_machine.specs.Frame as tagged
+use Rattle.dv_machine.specs.Kind.{Kind}
+use Rattle.dv_machine.specs.Kind as kind_of_tagged
 use Rattle.dv_defs.specs.declared.names.Ty.{Ty}
-use Rattle.dv_defs.specs.declared.run.Value.{Value}
-use Rattle.dv_defs.specs.declared.run.Value.TheVariants as v
-use Rattle.dv_defs.specs.declared.typing.RegState.{RegState}
-use Rattle.dv_defs.specs.declared.typing.RegType.{RegType}
-use Rattle.dv_defs.specs.declared.typing.RegType.TheVariants as ty
-use Rattle.dv_defs.specs.Demands.{any_type, array, demand, demands, int, is_assignable, is_fill_type, is_own_field, is_ref, put_receiver, ref, ref_to, value_for}
-use Rattle.dv_defs.specs.Heap.{Heap, cells_at, class_cells, kind_of}
+use Rattle.dv_machine.specs.Value.{Value}
+use Rattle.dv_machine.specs.Value as v
+use Rattle.dv_typing.specs.declared.typing.RegState.{RegState}
+use Rattle.dv_typing.specs.declared.typing.RegType.{RegType}
+use Rattle.dv_typing.specs.declared.typing.RegType.TheVariants as ty
+use Rattle.dv_typing.specs.Demands.{any_type, array, demand, demands, int, is_assignable, is_fill_type, is_own_field, is_ref, put_receiver, ref, ref_to, value_for}
+use Rattle.dv_machine.specs.Heap.{Heap, cells_at, class_cells, kind_of}
 use Rattle.dv_defs.specs.Images.{Image}
 use Rattle.dv_defs.specs.Op.{Op, IntDivide, LongDivide, ArrayLength, ArrayGet, ArrayPut, Code, Fill, Filled, FieldGet, FieldPut, StaticGet, StaticPut}
 use Rattle.dv_defs.specs.Order.{sub}
 use Rattle.dv_defs.specs.Parts.{Suffix}
 use Rattle.dv_defs.specs.Pools.{Field, Method, class_type, field_at, is_interface, is_static_field}
-use Rattle.dv_defs.specs.RegTypes.{Types, reg_types, type_at}
-use Rattle.dv_defs.specs.Statics.{At, fetch, fits_instance_field, fits_static_field, is_of_suffix, op_rules}
+use Rattle.dv_typing.specs.RegTypes.{Types, reg_types, type_at}
+use Rattle.dv_typing.specs.Statics.{At, fetch, fits_instance_field, fits_static_field, is_of_suffix, op_rules}
 use Rattle.dv_defs.specs.Types.{words_of}
 use Rattle.dv_machine.specs.Accepted.{Accepted}
 use Rattle.dv_machine.specs.Conforming.{Conforms, Fits, RegsConform}
-use Rattle.dv_machine.specs.Premises.{HoldsOf}
+use Rattle.law_machine.specs.Premises.{HoldsOf}
 use Rattle.dv_machine.specs.State.{read_array, read_ref, reg_at, where_ref}
 use Rattle.dv_machine.specs.WellTyped.{HeapFine, Typings, own_of}
 use Rattle.dv_words.specs.declared.state.Kind.TheVariants as kind
@@ -34,18 +34,18 @@ use Rattle.dv_words.specs.Heaps as words
 use Rattle.dv_words.specs.Heaps.{words_of_object}
 use Rattle.dv_words.specs.Standing.{FrameStands, HeapStands, IsWord}
 use Rattle.dv_words.specs.State.{WordHeap}
-use Rattle.dv_steps.specs.Laws.{OperandsFit}
-use Rattle.dv_steps.specs.Local.{reg_word}
-use Rattle.dv_steps.specs.Mem.{WordHere}
-use Rattle.dv_flowlaws.proofs.MethodCode.{code_is}
-use Rattle.dv_orders.proofs.Demanded.{demanded, first_none, only_rule}
-use Rattle.dv_orders.proofs.Facts.{no}
-use Rattle.dv_laws.specs.Reading.{IsArrayOrNull}
-use Rattle.dv_laws.proofs.lemmas.Calls.Resolved.{IsNamed, is_named}
-use Rattle.dv_laws.proofs.lemmas.Heap.Cells.{AreCells, IsCell, reg_cells, reg_count}
-use Rattle.dv_laws.proofs.lemmas.HeapSteps.Places.{HasField, class_field, field_place, object_field}
-use Rattle.dv_laws.proofs.lemmas.Readers.Arrays.{reads_array, tests_go_down}
-use Rattle.dv_laws.proofs.lemmas.Readers.Plain.{reads_reference_to}
+use Rattle.law_words.specs.Laws.{OperandsFit}
+use Rattle.dv_words.specs.Local.{reg_word}
+use Rattle.dv_words.specs.Mem.{WordHere}
+use Rattle.law_flow.proofs.MethodCode.{code_is}
+use Rattle.law_types.proofs.Demanded.{demanded, first_none, only_rule}
+use Rattle.law_types.proofs.Facts.{no}
+use Rattle.law_machine.specs.Reading.{IsArrayOrNull}
+use Rattle.law_machine.proofs.lemmas.Calls.Resolved.{IsNamed, is_named}
+use Rattle.law_machine.proofs.lemmas.Heap.Cells.{AreCells, IsCell, reg_cells, reg_count}
+use Rattle.law_machine.proofs.lemmas.HeapSteps.Places.{HasField, class_field, field_place, object_field}
+use Rattle.law_machine.proofs.lemmas.Readers.Arrays.{reads_array, tests_go_down}
+use Rattle.law_machine.proofs.lemmas.Readers.Plain.{reads_reference_to}
 use Rattle.dv_mem.specs.Laws.{OperandsStand}
 use Rattle.dv_mem.specs.Operands.{AreOperands, HasStaticWords, IsArray, IsNullOrArray, IsNullOrOwner, IsOwner}
 use Rattle.dv_mem.proofs.Alike.{count_stands, is_word_at, kind_stands, size_stands, static_stands}

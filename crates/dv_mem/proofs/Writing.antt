@@ -6,7 +6,7 @@ use Rattle.dv_defs.specs.Numbers.{elements, hi_of, lo_of, low_first, signed_at}
 use Rattle.dv_defs.specs.Types.{is_long, words_of}
 use Rattle.dv_words.specs.State.{WordHeap}
 use Rattle.dv_words.specs.Words.{word_of}
-use Rattle.dv_steps.specs.Mem.{fill_words, filled, narrowed, stored}
+use Rattle.dv_words.specs.Mem.{fill_words, filled, narrowed, stored}
 use Rattle.dv_mem.specs.Payloads.{number_at}
 use Rattle.dv_mem.proofs.Storing.{stored_append}
 

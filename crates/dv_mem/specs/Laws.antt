@@ -1,14 +1,14 @@
 -- Operands are what the operations take, in words that stand for a well-typed state.
 use Rattle.std.specs.Prelude.{◌≡◌, ℕ, Option, Some}
-use Rattle.dv_defs.specs.declared.machine.Frame as tagged
-use Rattle.dv_defs.specs.Heap.{Heap}
+use Rattle.dv_machine.specs.Frame as tagged
+use Rattle.dv_machine.specs.Heap.{Heap}
 use Rattle.dv_defs.specs.Images.{Image}
-use Rattle.dv_defs.specs.Statics.{At, fetch}
+use Rattle.dv_typing.specs.Statics.{At, fetch}
 use Rattle.dv_machine.specs.Accepted.{Accepted}
 use Rattle.dv_machine.specs.WellTyped.{HeapFine, IsPlaced, Typings}
 use Rattle.dv_words.specs.Standing.{FrameStands, HeapStands}
-use Rattle.dv_steps.specs.Laws.{OperandsFit}
-use Rattle.dv_steps.specs.Mem.{WordHere}
+use Rattle.law_words.specs.Laws.{OperandsFit}
+use Rattle.dv_words.specs.Mem.{WordHere}
 use Rattle.dv_mem.specs.Operands.{AreOperands}
 
 -- of what stands where a frame goes on: the image is accepted, the heap's cells and the frame's registers conform

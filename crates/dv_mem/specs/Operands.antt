@@ -1,18 +1,18 @@
 -- What operations take: facts on words that hold in every state that stands for a well-typed one.
 use Rattle.std.specs.Prelude.{◌≡◌, ◌≢◌, ◌<◌, ◌≤◌, ◌+◌, ◌^◌, ℕ, Bool, true, length, IsSome, Some, slice_index_or, []}
 use Rattle.dv_defs.specs.declared.names.Ty.{Ty}
-use Rattle.dv_defs.specs.Demands.{any_type, is_fill_type}
+use Rattle.dv_typing.specs.Demands.{any_type, is_fill_type}
 use Rattle.dv_defs.specs.Op.{Op, IntDivide, LongDivide, ArrayLength, ArrayGet, ArrayPut, Fill, Filled, FieldGet, FieldPut, StaticGet, StaticPut}
 use Rattle.dv_defs.specs.Parts.{is_division}
 use Rattle.dv_defs.specs.Pools.{Field}
-use Rattle.dv_defs.specs.Statics.{is_of_suffix}
+use Rattle.dv_typing.specs.Statics.{is_of_suffix}
 use Rattle.dv_defs.specs.Types.{component, words_of}
 use Rattle.dv_words.specs.declared.state.Kind.TheVariants as kind
 use Rattle.dv_words.specs.Heaps.{kind_of, words_of_object}
 use Rattle.dv_words.specs.State.{WordHeap}
-use Rattle.dv_steps.specs.Laws.{ArgFits}
-use Rattle.dv_steps.specs.Local.{reg_word}
-use Rattle.dv_steps.specs.Mem.{WordHere}
+use Rattle.law_words.specs.Laws.{ArgFits}
+use Rattle.dv_words.specs.Local.{reg_word}
+use Rattle.dv_words.specs.Mem.{WordHere}
 
 -- an array whose elements are of a type that passes the test
 pub record IsArray (good : Ty → Bool) (heap : WordHeap) (o : ℕ) : Type 0 where

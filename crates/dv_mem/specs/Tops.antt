@@ -9,8 +9,8 @@ use Rattle.dv_words.specs.declared.state.Kept.TheVariants as kept
 use Rattle.dv_words.specs.declared.state.Level.{Level}
 use Rattle.dv_words.specs.declared.state.Level.TheVariants as level
 use Rattle.dv_words.specs.State.{WordHeap, WordStack}
-use Rattle.dv_steps.specs.Mem.{WordHere, WordLeft}
-use Rattle.dv_steps.specs.Stepping.{Answered}
+use Rattle.dv_words.specs.Mem.{WordHere, WordLeft}
+use Rattle.dv_words.specs.Stepping.{Answered}
 
 abbrev pub no_frame : Frame
 no_frame = record { method = record { 0 = 0 }; at = 0; regs = []; result = kept.None; caught = None }

@@ -8,9 +8,9 @@ ghost use Rattle.dv_ops.specs.Meaning.{arg_of};
 ghost use Rattle.dv_units.specs.Tables.{standard_bin};
 ghost use Rattle.dv_words.specs.State.{WordHeap};
 ghost use Rattle.dv_words.specs.Stacks.{changed};
-ghost use Rattle.dv_steps.specs.Laws.{ArgFits};
-ghost use Rattle.dv_steps.specs.Local as local;
-ghost use Rattle.dv_steps.specs.Mem.{word_mem};
+ghost use Rattle.law_words.specs.Laws.{ArgFits};
+ghost use Rattle.dv_words.specs.Local as local;
+ghost use Rattle.dv_words.specs.Mem.{word_mem};
 ghost use Rattle.dv_mem.specs.Tops.{Answers, seen, top_frame};
 
 use crate::registers::{int, long, put, put_two};

@@ -1,18 +1,18 @@
 // Elements of arrays.
 ghost use Rattle.std.specs.Prelude.{◌≡◌, ℕ, Some, Ok, IfOk, IsSome};
-ghost use Rattle.dv_defs.specs.Demands.{any_type};
+ghost use Rattle.dv_typing.specs.Demands.{any_type};
 ghost use Rattle.dv_defs.specs.Images.{Image as Linked};
 ghost use Rattle.dv_defs.specs.Op.{ArrayGet, ArrayLength, ArrayPut};
 ghost use Rattle.dv_defs.specs.Parts.{Suffix as Ending};
-ghost use Rattle.dv_defs.specs.Statics.{is_of_suffix};
+ghost use Rattle.dv_typing.specs.Statics.{is_of_suffix};
 ghost use Rattle.dv_machine.specs.Mem.{on_object};
 ghost use Rattle.dv_machine.specs.State.{Did};
 ghost use Rattle.dv_units.specs.Tables.{standard_suffix};
 ghost use Rattle.dv_words.specs.Heaps.{kind_of};
 ghost use Rattle.dv_words.specs.Words.{int_of};
-ghost use Rattle.dv_steps.specs.Local.{reg_word};
-ghost use Rattle.dv_steps.specs.Mem as steps;
-ghost use Rattle.dv_steps.specs.Mem.{WordHere, WordLeft, array_put, on_index, word_mem};
+ghost use Rattle.dv_words.specs.Local.{reg_word};
+ghost use Rattle.dv_words.specs.Mem as steps;
+ghost use Rattle.dv_words.specs.Mem.{WordHere, WordLeft, array_put, on_index, word_mem};
 ghost use Rattle.dv_mem.specs.Elements.{by_found, slot_in, width_of};
 ghost use Rattle.dv_mem.specs.Operands.{AreWithin, IsArray, IsNullOrArray};
 ghost use Rattle.dv_mem.specs.Tops.{Answers, seen, top_frame};

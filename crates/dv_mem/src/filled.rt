@@ -4,9 +4,9 @@ ghost use Rattle.dv_defs.specs.Images.{Image as Linked};
 ghost use Rattle.dv_defs.specs.Op.{Filled, named_registers};
 ghost use Rattle.dv_words.specs.declared.state.Kind.TheVariants as kind;
 ghost use Rattle.dv_words.specs.Heaps.{kind_of};
-ghost use Rattle.dv_steps.specs.Local.{reg_word};
-ghost use Rattle.dv_steps.specs.Mem.{stored, word_mem};
-ghost use Rattle.dv_steps.specs.Stepping.{Answered};
+ghost use Rattle.dv_words.specs.Local.{reg_word};
+ghost use Rattle.dv_words.specs.Mem.{stored, word_mem};
+ghost use Rattle.dv_words.specs.Stepping.{Answered};
 ghost use Rattle.dv_mem.specs.Operands.{AreWithin};
 ghost use Rattle.dv_mem.specs.Tops.{seen, top_frame};
 

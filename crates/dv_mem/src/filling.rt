@@ -1,6 +1,6 @@
 // fill-array-data.
 ghost use Rattle.std.specs.Prelude.{◌≡◌, ◌≢◌, ◌*◌, ◌<◌, ◌≤◌, ◌^◌, true, false, ℕ, Some, length, IsSome, IsTrue, MatchOption};
-ghost use Rattle.dv_defs.specs.Demands.{is_fill_type};
+ghost use Rattle.dv_typing.specs.Demands.{is_fill_type};
 ghost use Rattle.dv_defs.specs.Images.{Image as Linked};
 ghost use Rattle.dv_defs.specs.Numbers.{elements};
 ghost use Rattle.dv_defs.specs.Op.{Fill};
@@ -10,9 +10,9 @@ ghost use Rattle.dv_defs.specs.Types.{is_class_base};
 ghost use Rattle.dv_ops.specs.Meaning.{elements_in, width_in};
 ghost use Rattle.dv_words.specs.declared.state.Kind.TheVariants as kind;
 ghost use Rattle.dv_words.specs.Heaps.{kind_of, words_of_object};
-ghost use Rattle.dv_steps.specs.Local.{reg_word};
-ghost use Rattle.dv_steps.specs.Mem as steps;
-ghost use Rattle.dv_steps.specs.Mem.{component_of, fill_words, filled, stored, word_mem};
+ghost use Rattle.dv_words.specs.Local.{reg_word};
+ghost use Rattle.dv_words.specs.Mem as steps;
+ghost use Rattle.dv_words.specs.Mem.{component_of, fill_words, filled, stored, word_mem};
 ghost use Rattle.dv_mem.specs.Operands.{AreWithin, IsArray, IsNullOrArray};
 ghost use Rattle.dv_mem.specs.Payloads.{element_at};
 ghost use Rattle.dv_mem.specs.Tops.{Answers, seen, top_frame};

@@ -5,8 +5,8 @@ ghost use Rattle.dv_defs.specs.Op.{Cast, InstanceOf};
 ghost use Rattle.dv_units.specs.Tables.{standard_suffix};
 ghost use Rattle.dv_words.specs.declared.state.Frame.{Frame};
 ghost use Rattle.dv_words.specs.Heaps.{kind_of};
-ghost use Rattle.dv_steps.specs.Mem as steps;
-ghost use Rattle.dv_steps.specs.Mem.{word_mem};
+ghost use Rattle.dv_words.specs.Mem as steps;
+ghost use Rattle.dv_words.specs.Mem.{word_mem};
 ghost use Rattle.dv_mem.specs.Operands.{IsArray};
 ghost use Rattle.dv_mem.specs.Tops.{Answers, here, seen};
 

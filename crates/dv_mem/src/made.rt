@@ -7,8 +7,8 @@ ghost use Rattle.dv_words.specs.Heaps.{Got};
 ghost use Rattle.dv_words.specs.State.{WordHeap};
 ghost use Rattle.dv_words.specs.Words.{int_of};
 ghost use Rattle.dv_heap.specs.Answers.{IsGot};
-ghost use Rattle.dv_steps.specs.Mem.{put_object, word_mem};
-ghost use Rattle.dv_steps.specs.Stepping.{Answered};
+ghost use Rattle.dv_words.specs.Mem.{put_object, word_mem};
+ghost use Rattle.dv_words.specs.Stepping.{Answered};
 ghost use Rattle.dv_mem.specs.Elements.{count_of};
 ghost use Rattle.dv_mem.specs.Tops.{Answers, seen};
 

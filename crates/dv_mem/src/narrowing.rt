@@ -2,9 +2,9 @@
 ghost use Rattle.std.specs.Prelude.{◌≡◌, length, true};
 ghost use Rattle.dv_defs.specs.declared.names.Ty.{Ty as Kept};
 ghost use Rattle.dv_defs.specs.declared.names.Base.TheVariants as base;
-ghost use Rattle.dv_defs.specs.Statics.{is_of_suffix};
+ghost use Rattle.dv_typing.specs.Statics.{is_of_suffix};
 ghost use Rattle.dv_units.specs.Tables.{standard_suffix};
-ghost use Rattle.dv_steps.specs.Mem as steps;
+ghost use Rattle.dv_words.specs.Mem as steps;
 ghost use Rattle.dv_mem.specs.Values.{cut_to, cut_by, listed};
 
 use crate::words::Words;

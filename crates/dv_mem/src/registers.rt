@@ -2,7 +2,7 @@
 ghost use Rattle.std.specs.Prelude.{◌≡◌, suc};
 ghost use Rattle.dv_words.specs.Stacks.{changed, given, gone};
 ghost use Rattle.dv_words.specs.declared.state.Kept.TheVariants as kept;
-ghost use Rattle.dv_steps.specs.Local as steps;
+ghost use Rattle.dv_words.specs.Local as steps;
 ghost use Rattle.dv_mem.specs.Tops.{top_frame};
 
 use dv_frames::Stack;

@@ -3,7 +3,7 @@ ghost use Rattle.std.specs.Prelude.{◌≡◌, ◌≢◌, ◌↔◌, ◌<◌, �
 ghost use Rattle.dv_words.specs.declared.state.Kind.TheVariants as kind;
 ghost use Rattle.dv_words.specs.Heaps.{kind_of, words_of_object};
 ghost use Rattle.dv_words.specs.Stacks.{changed};
-ghost use Rattle.dv_steps.specs.Mem as steps;
+ghost use Rattle.dv_words.specs.Mem as steps;
 ghost use Rattle.dv_mem.specs.Elements.{width_of};
 ghost use Rattle.dv_mem.specs.Operands.{AreWithin};
 ghost use Rattle.dv_mem.specs.Tops.{top_frame};

@@ -5,7 +5,7 @@ use Rattle.std.proofs.lemmas.Bool.{eq-eqb, ne_eqb, cases_eq, cases_lt}
 use Rattle.std.proofs.lemmas.List.{get_or_append_left, get_or-set_same, get_or-set_other, get_or-take, get_or_past, length-append, length-set, length-take, length-take-le}
 use Rattle.std.proofs.lemmas.Option.{get_or_from_slice_get, none-some, same_Some}
 use Rattle.std.proofs.Math.Seq.{get_or-append_seam}
-use Rattle.dv_defs.specs.Monitors.{entered_in, exited_in, given_up, held_in}
+use Rattle.dv_machine.specs.Monitors.{entered_in, exited_in, given_up, held_in}
 use Rattle.dv_monitor.specs.declared.holding.Holding.{Holding}
 use Rattle.dv_monitor.specs.Slots.{IsIndexed, held_value, object_in, present, slot_at}
 use Rattle.dv_monitor.proofs.SlotLaws.{StandsNowhere, StandsOnly, entered_in-absent, entered_in-present, exited_in-counted, exited_in-last, given_up-absent, given_up-present, held_in-absent, held_in-present, present-same}

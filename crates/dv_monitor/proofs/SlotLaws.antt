@@ -2,7 +2,7 @@
 use Rattle.std.proofs.Common.{◌≡◌, ℕ, zero, suc, ◌+◌, ◌-◌, ◌<◌, ◌≤◌, List, [], ◌∷◌, ◌++◌, Option, Some, None, refl, ap, sym, ◌∙◌, arith, set}
 use Rattle.std.proofs.lemmas.Bool.{eq-eqb, ne_eqb, lt-leb, le-leb}
 use Rattle.std.proofs.lemmas.Option.{none-some, same_Some}
-use Rattle.dv_defs.specs.Monitors.{Held, held_in, entered_in, exited_in, given_up, less_one}
+use Rattle.dv_machine.specs.Monitors.{Held, held_in, entered_in, exited_in, given_up, less_one}
 use Rattle.dv_monitor.specs.declared.holding.Holding.{Holding}
 use Rattle.dv_monitor.specs.Slots.{held_value, object_in, present, slot_at}
 

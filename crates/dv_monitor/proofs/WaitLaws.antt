@@ -6,7 +6,7 @@ use Rattle.std.proofs.lemmas.Bool.{cases_lt, eqb-true, lt-ltb}
 use Rattle.std.proofs.lemmas.List.Quantifiers.{position-Some}
 use Rattle.std.proofs.lemmas.List.Sums.{fails_before_first}
 use Rattle.std.proofs.lemmas.Option.{none-some, same_Some}
-use Rattle.dv_defs.specs.Monitors.{Held, Monitors, Wait, as_notified, entered_in, notify_each, notify_first, resumed, wait_in, wait_of, without}
+use Rattle.dv_machine.specs.Monitors.{Held, Monitors, Wait, as_notified, entered_in, notify_each, notify_first, resumed, wait_in, wait_of, without}
 use Rattle.dv_monitor.specs.declared.wait.Wait as kept
 use Rattle.dv_monitor.specs.Waits.{wait_value, wait_values}
 

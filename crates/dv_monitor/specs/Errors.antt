@@ -1,6 +1,6 @@
 -- Why a wait is refused.
 use Rattle.std.specs.Prelude.{◌≡◌, ◌≢◌, ℕ, Some, false}
-use Rattle.dv_defs.specs.Monitors.{owner_of}
+use Rattle.dv_machine.specs.Monitors.{owner_of}
 use Rattle.dv_monitor.specs.declared.errors.MonitorError.{MonitorError}
 use Rattle.dv_monitor.specs.declared.errors.MonitorError.TheVariants.{NotOwner, Memory}
 use Rattle.dv_monitor.specs.State.{MonitorState}

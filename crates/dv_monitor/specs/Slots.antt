@@ -1,6 +1,6 @@
 -- Monitors that are owned, in slots of which some are empty, and their places by object.
 use Rattle.std.specs.Prelude.{◌≡◌, ℕ, List, [], ◌∷◌, Option, Some, None, slice_index_or}
-use Rattle.dv_defs.specs.Monitors.{Held, held_in}
+use Rattle.dv_machine.specs.Monitors.{Held, held_in}
 use Rattle.dv_monitor.specs.declared.holding.Holding.{Holding}
 
 abbrev pub held_value : Holding → Held

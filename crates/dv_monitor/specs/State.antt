@@ -1,6 +1,6 @@
 -- Monitors as a caller sees them.
 use Rattle.std.specs.Prelude.{ℕ, Bool, [], None, Some}
-use Rattle.dv_defs.specs.Monitors.{Monitors, held_of}
+use Rattle.dv_machine.specs.Monitors.{Monitors, held_of}
 
 -- the monitors, and whether one more monitor can be entered, or one thread more can wait, without memory
 pub record MonitorState : Type 0 where

@@ -1,6 +1,6 @@
 -- Waiting threads as they are kept.
 use Rattle.std.specs.Prelude.{List, map}
-use Rattle.dv_defs.specs.Monitors.{Wait}
+use Rattle.dv_machine.specs.Monitors.{Wait}
 use Rattle.dv_monitor.specs.declared.wait.Wait as kept
 
 abbrev pub wait_value : kept.Wait → Wait

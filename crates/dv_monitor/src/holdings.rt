@@ -1,7 +1,7 @@
 // The monitors that are owned.
 ghost use Rattle.std.specs.Prelude.{◌≡◌, ◌+◌, ◌-◌, ◌^◌, ◌<◌, ◌≤◌, ◌↔◌, IfErr, IsOk, IsSome, IsTrue, None, OnErr, OnOk, Some, [], false};
 ghost use Rattle.std.specs.Option.{ForSome, option_map};
-ghost use Rattle.dv_defs.specs.Monitors.{entered_in, exited_in, given_up, held_in};
+ghost use Rattle.dv_machine.specs.Monitors.{entered_in, exited_in, given_up, held_in};
 ghost use Rattle.dv_monitor.specs.Slots.{held_value, owner_in};
 
 use crate::errors::NotOwner;

@@ -2,7 +2,7 @@
 ghost use Rattle.std.specs.Prelude.{◌≡◌, ℕ, ◌+◌, ◌<◌, ◌≤◌, IfNone, IfSome, None, Some, nat_eq, vec_capacity, vec_len};
 ghost use Rattle.std.specs.Option.{option_map};
 ghost use Rattle.std.specs.HashMap.{get, spare};
-ghost use Rattle.dv_defs.specs.Monitors.{given_up, held_in};
+ghost use Rattle.dv_machine.specs.Monitors.{given_up, held_in};
 ghost use Rattle.dv_monitor.specs.Slots.{IsIndexed, held_value, present, slot_at};
 
 use crate::holding::Holding;

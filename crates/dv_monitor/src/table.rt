@@ -1,7 +1,7 @@
 // Monitors, their owners, and the threads that wait.
 ghost use Rattle.std.specs.Prelude.{◌≡◌, ◌-◌, ◌^◌, ◌<◌, ◌↔◌, IfErr, IfOk, IfSome, IsOk, IsSome, IsSomeAnd, IsTrue, None, OnErr, OnOk, Some};
 ghost use Rattle.std.specs.Option.{ForSome, option_map};
-ghost use Rattle.dv_defs.specs.Monitors.{entered, exited, notified_all, notified_one, owner_of, resumed, wait_of, waiting};
+ghost use Rattle.dv_machine.specs.Monitors.{entered, exited, notified_all, notified_one, owner_of, resumed, wait_of, waiting};
 ghost use Rattle.dv_monitor.specs.Errors.{RefusesWait};
 ghost use Rattle.dv_monitor.specs.State.{count_of, no_monitors};
 ghost use Rattle.dv_monitor.specs.Waits.{wait_value};

@@ -1,6 +1,6 @@
 // The threads that wait, in the order of waiting.
 ghost use Rattle.std.specs.Prelude.{◌≡◌, ◌+◌, ◌==◌, ◌&&◌, IsSome, Some, find, not, position, vec_capacity, vec_len};
-ghost use Rattle.dv_defs.specs.Monitors.{notify_each, notify_first, wait_in, without};
+ghost use Rattle.dv_machine.specs.Monitors.{notify_each, notify_first, wait_in, without};
 ghost use Rattle.dv_monitor.specs.Waits.{wait_value, wait_values};
 
 use crate::wait::Wait;

@@ -8,7 +8,7 @@ use Rattle.dv_defs.specs.Types.{of_class}
 use Rattle.dv_words.specs.declared.state.Kind.{Kind}
 use Rattle.dv_words.specs.Heaps.{kind_of}
 use Rattle.dv_words.specs.State.{WordHeap}
-use Rattle.dv_steps.specs.Mem.{type_of, type_of_kind}
+use Rattle.dv_words.specs.Mem.{type_of, type_of_kind}
 
 typed_nothing : (image : Image) (k : Option Kind) → is_some k ≡ false → type_of_kind image k ≡ of_class object_name
 typed_nothing image None e = refl

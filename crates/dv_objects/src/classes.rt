@@ -1,7 +1,7 @@
 // The classes by which the methods of objects are looked up.
 ghost use Rattle.std.specs.Prelude.{◌≡◌};
 ghost use Rattle.dv_words.specs.Heaps.{kind_of};
-ghost use Rattle.dv_steps.specs.Threads.{class_of_kind};
+ghost use Rattle.dv_words.specs.Threads.{class_of_kind};
 
 use dv_defs::Image;
 use dv_heap::Heap;

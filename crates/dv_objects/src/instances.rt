@@ -3,7 +3,7 @@ ghost use Rattle.std.specs.Prelude.{◌≡◌, false};
 ghost use Rattle.dv_defs.specs.Order.{instance as is_under};
 ghost use Rattle.dv_defs.specs.Pools.{class_named, class_type};
 ghost use Rattle.dv_defs.specs.Types.{of_class};
-ghost use Rattle.dv_steps.specs.Mem.{type_of};
+ghost use Rattle.dv_words.specs.Mem.{type_of};
 ghost use Rattle.dv_objects.specs.Types.{is_class_type};
 
 use crate::classes::{CLASS, STRING};

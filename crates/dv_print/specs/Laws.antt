@@ -4,20 +4,21 @@ use Rattle.std.specs.List.{flat_map, slice_get}
 use Rattle.dv_defs.specs.Spelling.{AreUnits, all_fit, fits_signed}
 use Rattle.dv_defs.specs.Payloads.{all_fit_signed}
 use Rattle.dv_defs.specs.Tiling.{tiling}
-use Rattle.dv_asm.specs.declared.draft.Item.{Item}
-use Rattle.dv_asm.specs.declared.draft.What.{What}
-use Rattle.dv_asm.specs.declared.draft.Catch.{Catch}
+use Rattle.dv_draft.specs.declared.draft.Item.{Item}
+use Rattle.dv_draft.specs.declared.draft.What.{What}
+use Rattle.dv_draft.specs.declared.draft.Catch.{Catch}
 use Rattle.dv_asm.specs.declared.tries.TryRange.{TryRange}
-use Rattle.dv_asm.specs.declared.draft.What.TheVariants as what
-use Rattle.dv_asm.specs.declared.draft.PoolRef.{PoolRef}
-use Rattle.dv_asm.specs.declared.draft.PoolRef.TheVariants as pool
-use Rattle.dv_asm.specs.Draft.{DraftValue, AreFormed}
+use Rattle.dv_draft.specs.declared.draft.What.TheVariants as what
+use Rattle.dv_draft.specs.declared.draft.PoolRef.{PoolRef}
+use Rattle.dv_draft.specs.declared.draft.PoolRef.TheVariants as pool
+use Rattle.dv_draft.specs.Draft.{DraftValue, AreFormed}
 use Rattle.dv_asm.specs.Items.{item_at}
 use Rattle.dv_asm.specs.Places.{address_of, size_of_all, label_address}
 use Rattle.dv_asm.specs.Refusals.{catch_at, range_of, ranges_of, item_refusal, range_refusal, refusal}
 use Rattle.dv_print.specs.Numbers.{label_name}
-use Rattle.dv_asm.specs.Pools.{pool_ref}
-use Rattle.dv_asm.specs.Layout.{sorted_ranges, pools_of, units_of, layout}
+use Rattle.dv_draft.specs.Pools.{pool_ref}
+use Rattle.dv_draft.specs.Pools.{pools_of}
+use Rattle.dv_asm.specs.Layout.{sorted_ranges, units_of, layout}
 use Rattle.dv_asm.specs.Tiles.{tiles_of}
 use Rattle.dv_print.specs.Drafting.{draft_of}
 

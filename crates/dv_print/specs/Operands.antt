@@ -10,9 +10,9 @@ use Rattle.dv_names.specs.Written.{string_text, field_text, method_text}
 use Rattle.dv_optable.specs.declared.format.Format.{Format}
 use Rattle.dv_optable.specs.declared.format.Format.TheVariants as format
 use Rattle.dv_optable.specs.Table.{Entry, entry_at, format_at}
-use Rattle.dv_asm.specs.declared.draft.Draftop.{Draftop}
-use Rattle.dv_asm.specs.declared.draft.PoolRef.{PoolRef}
-use Rattle.dv_asm.specs.declared.draft.PoolRef.TheVariants as pool
+use Rattle.dv_draft.specs.declared.draft.Draftop.{Draftop}
+use Rattle.dv_draft.specs.declared.draft.PoolRef.{PoolRef}
+use Rattle.dv_draft.specs.declared.draft.PoolRef.TheVariants as pool
 use Rattle.dv_print.specs.declared.formats.Form.{Form}
 use Rattle.dv_print.specs.declared.formats.Form.TheVariants as form
 

@@ -6,7 +6,7 @@ ghost use Rattle.dv_print.specs.Operands.{label_text};
 
 use crate::operands::add_label_text;
 use crate::references::add_type;
-use dv_asm::Catch;
+use dv_draft::Catch;
 use dv_defs::{Text, Ty};
 use std::alloc::AllocError;
 

@@ -1,7 +1,7 @@
 // The items of the draft of a body.
 ghost use Rattle.std.specs.Prelude.{◌≡◌, ◌++◌, pos, map, option_map, IfOk, OnOk};
 ghost use Rattle.std.specs.List.{flat_map};
-ghost use Rattle.dv_asm.specs.declared.draft.What.TheVariants as what;
+ghost use Rattle.dv_draft.specs.declared.draft.What.TheVariants as what;
 ghost use Rattle.dv_asm.specs.Refusals.{with_operands};
 ghost use Rattle.dv_print.specs.Numbers.{label_name};
 ghost use Rattle.dv_print.specs.Named.{target_of, label_addresses};
@@ -12,7 +12,7 @@ use crate::numbers::label_name;
 use crate::pieces::{Part, Piece};
 use crate::pool_entries::entry_in;
 use crate::switches::Pieces;
-use dv_asm::{Draftop, Item, What};
+use dv_draft::{Draftop, Item, What};
 use dv_defs::{Body, Insn, Payload, Seq, Text};
 use dv_units::pool_of;
 use std::alloc::{AllocError, Global};

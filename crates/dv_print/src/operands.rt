@@ -8,7 +8,7 @@ ghost use Rattle.dv_names.specs.Written.{string_text, field_text, method_text};
 use crate::formats::{Form, form_of, has_literal};
 use crate::numbers::{add_decimal, add_signed_decimal};
 use crate::references::{add_field, add_method, add_string};
-use dv_asm::{Draftop, PoolRef};
+use dv_draft::{Draftop, PoolRef};
 use dv_defs::{Chars, FieldRef, Insn, MethodRef, Regs, Text};
 use dv_names::print_type;
 use dv_optable::row_of;

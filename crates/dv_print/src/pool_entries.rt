@@ -2,7 +2,7 @@
 ghost use Rattle.std.specs.Prelude.{◌≡◌, Some, IfOk};
 ghost use Rattle.dv_print.specs.Drafting.{entry_in};
 
-use dv_asm::PoolRef;
+use dv_draft::PoolRef;
 use dv_defs::{Body, PoolKind};
 use std::alloc::AllocError;
 

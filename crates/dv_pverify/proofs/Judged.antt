@@ -6,9 +6,9 @@ use Rattle.dv_defs.specs.declared.image.MethodInfo.{MethodInfo}
 use Rattle.dv_defs.specs.Images.{Image}
 use Rattle.dv_defs.specs.Op.{Code, code_at}
 use Rattle.dv_defs.specs.Pools.{Method, with_info, method_at}
-use Rattle.dv_flowlaws.proofs.MethodCode.{code_is}
-use Rattle.dv_defs.specs.Flow.{IsTyping}
-use Rattle.dv_defs.specs.Accepting.{FaultsOf, AreFaults, AreFaultsFrom, AreImageFaults, Accepts, IsAcceptedMethod, static_places}
+use Rattle.law_flow.proofs.MethodCode.{code_is}
+use Rattle.dv_typing.specs.Flow.{IsTyping}
+use Rattle.dv_typing.specs.Accepting.{FaultsOf, AreFaults, AreFaultsFrom, AreImageFaults, Accepts, IsAcceptedMethod, static_places}
 use Rattle.dv_rules.specs.declared.verified.Map.{Map}
 use Rattle.dv_rules.specs.Verified.{typing_of, typing_at, IsVerified}
 use Rattle.dv_infer.specs.Errors.{IfFaults}

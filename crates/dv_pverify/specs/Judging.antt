@@ -3,8 +3,8 @@ use Rattle.std.specs.Prelude.{◌≡◌, ℕ, suc, List, [], ◌∷◌, ◌++◌
 use Rattle.dv_defs.specs.declared.faults.Fault.{Fault}
 use Rattle.dv_defs.specs.Images.{Image}
 use Rattle.dv_defs.specs.Op.{Code, code_at}
-use Rattle.dv_defs.specs.Flow.{IsTyping}
-use Rattle.dv_defs.specs.Accepting.{AreFaults, IsAcceptedMethod, static_places}
+use Rattle.dv_typing.specs.Flow.{IsTyping}
+use Rattle.dv_typing.specs.Accepting.{AreFaults, IsAcceptedMethod, static_places}
 use Rattle.dv_rules.specs.declared.verified.Map.{Map}
 use Rattle.dv_rules.specs.Verified.{typing_of}
 

@@ -1,6 +1,6 @@
 // All methods of an image.
 ghost use Rattle.std.specs.Prelude.{◌≡◌, ◌≢◌, [], IfOk, length};
-ghost use Rattle.dv_defs.specs.Accepting.{Accepts, AreImageFaults};
+ghost use Rattle.dv_typing.specs.Accepting.{Accepts, AreImageFaults};
 ghost use Rattle.dv_pverify.specs.Errors.{IfFaults};
 ghost use Rattle.dv_pverify.specs.Judging.{AreJudged};
 

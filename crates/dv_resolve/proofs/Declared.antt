@@ -15,7 +15,7 @@ use Rattle.dv_defs.specs.LookUp.{pick_field, field_declared, is_field_of, is_met
 use Rattle.dv_defs.specs.Types.{same_proto, ty_eq}
 use Rattle.dv_defs.specs.Numbering.{class_id}
 use Rattle.dv_defs.specs.Pools.{Field, declared_by, field_at, fields_of, methods_of, with_field_info}
-use Rattle.dv_linklaws.proofs.Members.{HasFields, HasMethods, own_from, own_fields, field_of, method_of, fields_of_class, declared_by_own, first_field, first_method}
+use Rattle.law_linking.proofs.Members.{HasFields, HasMethods, own_from, own_fields, field_of, method_of, fields_of_class, declared_by_own, first_field, first_method}
 use Rattle.dv_resolve.specs.declared.members.Member.{Member}
 use Rattle.dv_resolve.specs.declared.members.MethodKey.{MethodKey}
 use Rattle.dv_resolve.specs.declared.members.FieldKey.{FieldKey}

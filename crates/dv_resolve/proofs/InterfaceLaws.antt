@@ -5,9 +5,9 @@ use Rattle.dv_defs.specs.Images.{Image}
 use Rattle.dv_defs.specs.Pools.{parent_at}
 use Rattle.dv_defs.specs.Order.{has_number, with_parent, above}
 use Rattle.dv_defs.specs.LookUp.{upward, interfaces_at, interfaces_above, once}
-use Rattle.dv_linklaws.specs.Ordered.{IsOrdered}
-use Rattle.dv_linklaws.proofs.Reach.{number_first, number_later, above_in}
-use Rattle.dv_linklaws.proofs.ReachPlaces.{place, place_bounded, place_rises}
+use Rattle.law_linking.specs.Ordered.{IsOrdered}
+use Rattle.law_linking.proofs.Reach.{number_first, number_later, above_in}
+use Rattle.law_linking.proofs.ReachPlaces.{place, place_bounded, place_rises}
 use Rattle.dv_resolve.specs.Interfaces.{added, Lists, is_listed, are_ready, list_of, listed, AreRight, unlisted}
 use Rattle.dv_resolve.proofs.AddedLaws.{once_added, added_flat}
 

@@ -17,15 +17,15 @@ use Rattle.dv_defs.specs.Order.{numbers}
 use Rattle.dv_defs.specs.Numbering.{declared, numbered, all_fields_declared, names_of}
 use Rattle.dv_defs.specs.LinkFaults.{Found, Fails, first_fault_by, boot_fault, limit_fault, is_twice, wrong_pools}
 use Rattle.dv_defs.specs.Linked.{defs, slotted, tabled, class_with_table, resolved, method_with_pools, first_phases, method_phase, pool_phase, unless_found, linked, IsImage, IsIndex}
-use Rattle.dv_linklaws.specs.Stripped.{class_stripped, method_info_stripped, field_info_stripped}
-use Rattle.dv_linklaws.specs.Ordered.{IsOrdered}
-use Rattle.dv_linklaws.proofs.First.{or_none}
-use Rattle.dv_linklaws.proofs.Bounds.{few_classes, few_methods, few_fields}
-use Rattle.dv_linklaws.proofs.AlikeImages.{AreAlike, alike_tabled}
-use Rattle.dv_linklaws.proofs.AlikeFaults.{alike_wrong_pools, alike_with_pools}
-use Rattle.dv_linklaws.proofs.Members.{HasMethods, HasFields}
-use Rattle.dv_linklaws.proofs.FromPhases.{phases_ordered}
-use Rattle.dv_linklaws.proofs.OrderedImages.{ordered_alike}
+use Rattle.law_linking.specs.Stripped.{class_stripped, method_info_stripped, field_info_stripped}
+use Rattle.law_linking.specs.Ordered.{IsOrdered}
+use Rattle.law_linking.proofs.First.{or_none}
+use Rattle.law_linking.proofs.Bounds.{few_classes, few_methods, few_fields}
+use Rattle.law_linking.proofs.AlikeImages.{AreAlike, alike_tabled}
+use Rattle.law_linking.proofs.AlikeFaults.{alike_wrong_pools, alike_with_pools}
+use Rattle.law_linking.proofs.Members.{HasMethods, HasFields}
+use Rattle.law_linking.proofs.FromPhases.{phases_ordered}
+use Rattle.law_linking.proofs.OrderedImages.{ordered_alike}
 use Rattle.dv_resolve.specs.Answers.{Answers}
 use Rattle.dv_hier.specs.Hierarchies.{HierarchyValue, IsHierarchy, hierarchy_of}
 use Rattle.dv_hier.proofs.Built.{defs_slotted}

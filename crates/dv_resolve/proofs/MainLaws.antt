@@ -18,8 +18,8 @@ use Rattle.dv_defs.specs.Linked.{IsImage, defs, first_phases, linked, main_found
 use Rattle.dv_defs.specs.Numbering.{all_methods_declared, declared, methods_declared, numbered}
 use Rattle.dv_defs.specs.Pools.{Method, class_named}
 use Rattle.dv_defs.specs.Types.{same_types, ty_eq}
-use Rattle.dv_linklaws.proofs.Bounds.{few_methods}
-use Rattle.dv_linklaws.proofs.First.{or_none}
+use Rattle.law_linking.proofs.Bounds.{few_methods}
+use Rattle.law_linking.proofs.First.{or_none}
 use Rattle.dv_resolve.specs.Answers.{Answers, numbered_main}
 use Rattle.dv_resolve.specs.Ids.{method_id}
 use Rattle.dv_resolve.specs.Mains.{main_or_none}

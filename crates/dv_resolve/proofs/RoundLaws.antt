@@ -12,9 +12,9 @@ use Rattle.dv_defs.specs.Images.{Image}
 use Rattle.dv_defs.specs.Order.{has_number, numbers, interfaces_of}
 use Rattle.dv_defs.specs.LookUp.{upward, interfaces_at, interfaces_above, once}
 use Rattle.dv_hier.proofs.Twice.{some_place}
-use Rattle.dv_linklaws.specs.Ordered.{IsOrdered}
-use Rattle.dv_linklaws.proofs.Reach.{number_first, number_later, above_in, less_or_not}
-use Rattle.dv_linklaws.proofs.ReachPlaces.{place, place_bounded, place_rises}
+use Rattle.law_linking.specs.Ordered.{IsOrdered}
+use Rattle.law_linking.proofs.Reach.{number_first, number_later, above_in, less_or_not}
+use Rattle.law_linking.proofs.ReachPlaces.{place, place_bounded, place_rises}
 use Rattle.dv_resolve.specs.Interfaces.{added, Lists, has_list, is_listed, are_ready, listed_in, list_of, listed, AreRight, unlisted, or_empty}
 use Rattle.dv_resolve.proofs.AddedLaws.{added_append}
 use Rattle.dv_resolve.proofs.InterfaceLaws.{listed_right, all_kept, interface_above}

@@ -17,10 +17,10 @@ use Rattle.dv_defs.specs.Names.{object_name}
 use Rattle.dv_defs.specs.Order.{numbers}
 use Rattle.dv_defs.specs.Pools.{Method, class_named, class_number, declared_by, find_from, first_of_classes, parent_at, supers, walk}
 use Rattle.dv_defs.specs.Types.{class_in, is_array}
-use Rattle.dv_linklaws.specs.Ordered.{IsOrdered}
-use Rattle.dv_linklaws.proofs.FieldOrder.{field_found_along}
-use Rattle.dv_linklaws.proofs.OnceNumbers.{first_in_once}
-use Rattle.dv_linklaws.proofs.Upward.{first_in_append}
+use Rattle.law_linking.specs.Ordered.{IsOrdered}
+use Rattle.law_linking.proofs.FieldOrder.{field_found_along}
+use Rattle.law_linking.proofs.OnceNumbers.{first_in_once}
+use Rattle.law_linking.proofs.Upward.{first_in_append}
 use Rattle.dv_resolve.specs.declared.members.Member.{Member}
 use Rattle.dv_resolve.specs.Firsts.{field_beside}
 use Rattle.dv_resolve.specs.Members.{of_field, of_method}

@@ -6,7 +6,7 @@ use Rattle.dv_defs.specs.Pools.{Method, Field, declared_by}
 use Rattle.dv_defs.specs.LookUp.{interfaces_above, once, field_declared, is_method_of}
 use Rattle.dv_defs.specs.Numbering.{names_of}
 use Rattle.dv_defs.specs.Order.{numbers}
-use Rattle.dv_linklaws.specs.Ordered.{IsOrdered}
+use Rattle.law_linking.specs.Ordered.{IsOrdered}
 use Rattle.dv_resolve.specs.declared.members.Member.{Member}
 use Rattle.dv_resolve.specs.declared.members.Members.{Members}
 use Rattle.dv_resolve.specs.declared.members.MethodKey.{MethodKey}

@@ -3,7 +3,7 @@ ghost use Rattle.std.specs.Prelude.{◌≡◌, ◌<◌, ℕ, true, [], length, m
 ghost use Rattle.dv_defs.specs.Images.{Image};
 ghost use Rattle.dv_defs.specs.LookUp.{interfaces_above, once};
 ghost use Rattle.dv_defs.specs.Order.{interfaces_of, numbers};
-ghost use Rattle.dv_linklaws.specs.Ordered.{IsOrdered};
+ghost use Rattle.law_linking.specs.Ordered.{IsOrdered};
 ghost use Rattle.dv_resolve.specs.Interfaces.{added, are_ready, AreRight, is_listed, list_of, listed, or_empty, unlisted as without_list};
 
 use dv_defs::{ClassId, ClassInfo, Pool, Seq};

@@ -6,8 +6,8 @@ ghost use Rattle.dv_defs.specs.Linked.{defs, linked, method_with_pools};
 ghost use Rattle.dv_defs.specs.LookUp.{interfaces_above, once};
 ghost use Rattle.dv_defs.specs.Numbering.{names_of};
 ghost use Rattle.dv_defs.specs.Order.{numbers};
-ghost use Rattle.dv_linklaws.specs.Ordered.{IsOrdered};
-ghost use Rattle.dv_linklaws.proofs.Members.{HasFields, HasMethods};
+ghost use Rattle.law_linking.specs.Ordered.{IsOrdered};
+ghost use Rattle.law_linking.proofs.Members.{HasFields, HasMethods};
 ghost use Rattle.dv_resolve.specs.Answers.{Answers};
 ghost use Rattle.dv_resolve.specs.Members.{Knows};
 

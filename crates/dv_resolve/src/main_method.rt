@@ -1,6 +1,6 @@
 // The main method of a class.
 ghost use Rattle.std.specs.Prelude.{◌≡◌, ◌<◌, ◌^◌, ℕ, length, slice_get, option_map, Some};
-ghost use Rattle.dv_defs.specs.Joins.{array_of};
+ghost use Rattle.dv_defs.specs.Common.{array_of};
 ghost use Rattle.dv_defs.specs.Linked.{is_main_with, main_found, main_of as main_in};
 ghost use Rattle.dv_defs.specs.Names.{string_name};
 ghost use Rattle.dv_defs.specs.Pools.{class_named, declared_by, methods_of as methods_in, with_info};

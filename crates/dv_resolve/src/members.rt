@@ -6,8 +6,8 @@ ghost use Rattle.dv_defs.specs.Images.{Image};
 ghost use Rattle.dv_defs.specs.LookUp.{interfaces_above, once};
 ghost use Rattle.dv_defs.specs.Numbering.{names_of};
 ghost use Rattle.dv_defs.specs.Order.{numbers};
-ghost use Rattle.dv_linklaws.specs.Ordered.{IsOrdered};
-ghost use Rattle.dv_linklaws.proofs.Members.{HasFields, HasMethods};
+ghost use Rattle.law_linking.specs.Ordered.{IsOrdered};
+ghost use Rattle.law_linking.proofs.Members.{HasFields, HasMethods};
 ghost use Rattle.dv_resolve.specs.Firsts.{first_field_own, first_fields_from, first_method_own, first_methods_from};
 ghost use Rattle.dv_resolve.specs.Members.{Knows, field_key_eq, method_key_eq};
 

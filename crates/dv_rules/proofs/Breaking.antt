@@ -1,11 +1,11 @@
 -- What breaking half of a long leaves.
 use Rattle.std.proofs.Common.{◌≡◌, ℕ, zero, suc, ◌-◌, ◌<◌, true, false, set, refl, ap, ◌∙◌, arith}
 use Rattle.std.proofs.lemmas.List.{set-get_or}
-use Rattle.dv_defs.specs.declared.typing.RegType.{RegType}
-use Rattle.dv_defs.specs.declared.typing.RegType.TheVariants as ty
-use Rattle.dv_defs.specs.Demands.{is_lo, is_hi}
-use Rattle.dv_defs.specs.RegTypes.{Types, type_at}
-use Rattle.dv_defs.specs.Transfer.{broken_lo, broken_hi, break_before}
+use Rattle.dv_typing.specs.declared.typing.RegType.{RegType}
+use Rattle.dv_typing.specs.declared.typing.RegType.TheVariants as ty
+use Rattle.dv_typing.specs.Demands.{is_lo, is_hi}
+use Rattle.dv_typing.specs.RegTypes.{Types, type_at}
+use Rattle.dv_typing.specs.Transfer.{broken_lo, broken_hi, break_before}
 
 lo_kept : (t : RegType) → is_lo t ≡ false → broken_lo t ≡ t
 lo_kept ty.LongLo h = cc

@@ -3,17 +3,17 @@ use Rattle.std.proofs.Common.{◌≡◌, ◌<◌, ℕ, zero, suc, Bool, true, fa
 use Rattle.std.specs.Prelude.{option_and_then, slice_index}
 use Rattle.dv_defs.specs.declared.names.ClassId.{ClassId}
 use Rattle.dv_defs.specs.declared.code.Regs.{Regs}
-use Rattle.dv_defs.specs.declared.typing.RegType.{RegType}
-use Rattle.dv_defs.specs.declared.typing.RegType.TheVariants as ty
-use Rattle.dv_defs.specs.declared.typing.PendingType.{PendingType}
-use Rattle.dv_defs.specs.declared.typing.RegState.{RegState}
+use Rattle.dv_typing.specs.declared.typing.RegType.{RegType}
+use Rattle.dv_typing.specs.declared.typing.RegType.TheVariants as ty
+use Rattle.dv_typing.specs.declared.typing.PendingType.{PendingType}
+use Rattle.dv_typing.specs.declared.typing.RegState.{RegState}
 use Rattle.dv_defs.specs.Images.{Image}
 use Rattle.dv_defs.specs.Parts.{Call}
 use Rattle.dv_defs.specs.Pools.{Method, is_constructor}
 use Rattle.dv_defs.specs.Op.{Invoke, count_up, named_registers}
-use Rattle.dv_defs.specs.RegTypes.{type_at}
-use Rattle.dv_defs.specs.Demands.{made_at}
-use Rattle.dv_defs.specs.Transfer.{after_constructor, after_invoke, class_or_conflict, first_of, pending_of, replaced, with_pending}
+use Rattle.dv_typing.specs.RegTypes.{type_at}
+use Rattle.dv_typing.specs.Demands.{made_at}
+use Rattle.dv_typing.specs.Transfer.{after_constructor, after_invoke, class_or_conflict, first_of, pending_of, replaced, with_pending}
 use Rattle.dv_rules.specs.Changes.{call_change, changed, number, receiver_in}
 use Rattle.dv_demands.specs.Made.{made_for, place_of}
 

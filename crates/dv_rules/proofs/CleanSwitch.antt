@@ -4,12 +4,12 @@ use Rattle.dv_defs.specs.declared.code.Insn.{Insn}
 use Rattle.dv_defs.specs.declared.code.Payload.{Payload}
 use Rattle.dv_defs.specs.Images.{Image}
 use Rattle.dv_defs.specs.Numbers.{jump}
-use Rattle.dv_defs.specs.Flow.{jumps}
+use Rattle.dv_typing.specs.Flow.{jumps}
 use Rattle.dv_defs.specs.Payloads.{payload_spelling}
-use Rattle.dv_defs.specs.Statics.{At, fetch}
+use Rattle.dv_typing.specs.Statics.{At, fetch}
 use Rattle.dv_defs.specs.Tiling.{insn_in, insn_at, payload_at}
 use Rattle.dv_defs.specs.Op.{Code, op_of}
-use Rattle.dv_flowlaws.specs.Clean.{IsClean, IsFetched}
+use Rattle.law_flow.specs.Clean.{IsClean, IsFetched}
 use Rattle.dv_rules.specs.Distances.{distances, is_switch}
 use Rattle.dv_rules.proofs.SwitchTargets.{HasCases, switch_cases, targets_at}
 

@@ -2,8 +2,8 @@
 use Rattle.std.proofs.Common.{◌≡◌, ℕ, Option, Some, sym, ◌∙◌, subst}
 use Rattle.dv_defs.specs.Images.{Image}
 use Rattle.dv_defs.specs.Op.{Code, code_at}
-use Rattle.dv_flowlaws.specs.Clean.{IsClean}
-use Rattle.dv_flowlaws.proofs.CleanLaw.{clean_bodies}
+use Rattle.law_flow.specs.Clean.{IsClean}
+use Rattle.law_flow.proofs.CleanLaw.{clean_bodies}
 use Rattle.dv_rules.specs.Asking.{HasCode}
 
 some_code : (a b : Code) → (let o : Option Code = Some a in o) ≡ Some b → a ≡ b

@@ -2,8 +2,8 @@
 use Rattle.std.proofs.Common.{◌≡◌, zero, suc, refl}
 use Rattle.std.specs.Prelude.{ℤ, pos, negsuc}
 use mathlib.Core.Logic.{◌≢◌}
-use Rattle.dv_defs.specs.declared.typing.RegType.TheVariants as ty
-use Rattle.dv_defs.specs.Transfer.{const_type}
+use Rattle.dv_typing.specs.declared.typing.RegType.TheVariants as ty
+use Rattle.dv_typing.specs.Transfer.{const_type}
 
 pub zero_const : (n : ℤ) → n ≡ pos 0 → const_type n ≡ ty.Zero
 zero_const n h = rw h refl

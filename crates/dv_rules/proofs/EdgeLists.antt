@@ -5,10 +5,10 @@ use Rattle.std.proofs.lemmas.List.Elements.{All-head, All-tail, All-weaker}
 use Rattle.dv_defs.specs.Images.{Image}
 use Rattle.dv_defs.specs.Tiling.{begins_insn}
 use Rattle.dv_defs.specs.Op.{Code, can_throw}
-use Rattle.dv_defs.specs.Statics.{At, fetch}
-use Rattle.dv_defs.specs.Demands.{goes_on}
-use Rattle.dv_defs.specs.Flow.{Catcher, jumps, targets, handlers_at, thrown_at}
-use Rattle.dv_flowlaws.specs.Clean.{IsHandler, IsClean}
+use Rattle.dv_typing.specs.Statics.{At, fetch}
+use Rattle.dv_typing.specs.Demands.{goes_on}
+use Rattle.dv_typing.specs.Flow.{Catcher, jumps, targets, handlers_at, thrown_at}
+use Rattle.law_flow.specs.Clean.{IsHandler, IsClean}
 use Rattle.dv_rules.specs.declared.flow.Edge.{Edge}
 use Rattle.dv_rules.specs.Edges.{plain_edge, handler_edge, edges_of}
 use Rattle.dv_rules.specs.EdgeParts.{edges_onward, edges_thrown}

@@ -3,13 +3,13 @@ use Rattle.std.proofs.Common.{◌≡◌, ℕ, Bool, true, false, List, [], ◌�
 use Rattle.std.specs.Prelude.{filter}
 use Rattle.std.proofs.lemmas.List.Elements.{All-nil, All-cons, All-head, All-tail, All-append, All-weaker}
 use Rattle.dv_defs.specs.Images.{Image}
-use Rattle.dv_defs.specs.declared.typing.RegState.{RegState}
+use Rattle.dv_typing.specs.declared.typing.RegState.{RegState}
 use Rattle.dv_defs.specs.Tiling.{begins_insn}
 use Rattle.dv_defs.specs.Op.{Code, can_throw}
-use Rattle.dv_defs.specs.Statics.{At, fetch}
-use Rattle.dv_defs.specs.Transfer.{out}
-use Rattle.dv_defs.specs.Flow.{Catcher, targets, handlers_at, thrown_at, caught_state, Typing, Leads, Flows}
-use Rattle.dv_flowlaws.specs.Clean.{IsClean}
+use Rattle.dv_typing.specs.Statics.{At, fetch}
+use Rattle.dv_typing.specs.Transfer.{out}
+use Rattle.dv_typing.specs.Flow.{Catcher, targets, handlers_at, thrown_at, caught_state, Typing, Leads, Flows}
+use Rattle.law_flow.specs.Clean.{IsClean}
 use Rattle.dv_rules.specs.declared.flow.Edge.{Edge}
 use Rattle.dv_rules.specs.Edges.{plain_edge, handler_edge, edges_of}
 use Rattle.dv_rules.specs.Carried.{carried}

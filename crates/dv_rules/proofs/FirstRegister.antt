@@ -2,7 +2,7 @@
 use Rattle.std.proofs.Common.{◌≡◌, ◌≢◌, ℕ, zero, suc, Bool, true, false, List, [], ◌∷◌, take, get_or, refl}
 use Rattle.dv_defs.specs.declared.code.Regs.{Regs}
 use Rattle.dv_defs.specs.Op.{count_up, named_registers}
-use Rattle.dv_defs.specs.Transfer.{first_of}
+use Rattle.dv_typing.specs.Transfer.{first_of}
 
 taken : (n : ℕ) (xs : List ℕ) → n ≢ 0 → get_or xs 0 0 ≡ first_of (take n xs)
 taken zero xs some = absurd (some refl)

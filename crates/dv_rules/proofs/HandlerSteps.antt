@@ -4,7 +4,7 @@ use Rattle.std.specs.Prelude.{option_and_then}
 use Rattle.dv_defs.specs.declared.code.Body.{Body}
 use Rattle.dv_defs.specs.declared.code.Try.{Try}
 use Rattle.dv_defs.specs.declared.code.Handler.{Handler}
-use Rattle.dv_defs.specs.Flow.{Catcher, catchers, caught_as, handlers_of}
+use Rattle.dv_typing.specs.Flow.{Catcher, catchers, caught_as, handlers_of}
 use Rattle.dv_rules.specs.declared.flow.Edge.{Edge}
 use Rattle.dv_rules.specs.Edges.{handler_edge}
 

@@ -1,14 +1,14 @@
 -- The parts of the state after an operation.
 use Rattle.std.proofs.Common.{◌≡◌, ℕ, Bool, true, false, Some, None, refl}
-use Rattle.dv_defs.specs.declared.typing.RegType.{RegType}
-use Rattle.dv_defs.specs.declared.typing.RegType.TheVariants as ty
-use Rattle.dv_defs.specs.declared.typing.PendingType.{PendingType}
-use Rattle.dv_defs.specs.declared.typing.RegState.{RegState}
+use Rattle.dv_typing.specs.declared.typing.RegType.{RegType}
+use Rattle.dv_typing.specs.declared.typing.RegType.TheVariants as ty
+use Rattle.dv_typing.specs.declared.typing.PendingType.{PendingType}
+use Rattle.dv_typing.specs.declared.typing.RegState.{RegState}
 use Rattle.dv_defs.specs.Images.{Image}
 use Rattle.dv_defs.specs.Pools.{Method, is_constructor}
 use Rattle.dv_defs.specs.Op.{Op, Filled, Invoke}
-use Rattle.dv_defs.specs.RegTypes.{type_at}
-use Rattle.dv_defs.specs.Transfer.{after_constructor, first_of, out, pending_of, with_pending}
+use Rattle.dv_typing.specs.RegTypes.{type_at}
+use Rattle.dv_typing.specs.Transfer.{after_constructor, first_of, out, pending_of, with_pending}
 use Rattle.dv_rules.specs.Changes.{pending_after, pending_with, this_after}
 
 constructed : (image : Image) (m : Method) (s : RegState) (t : RegType) → (after_constructor image m s t).this_pending ≡ pending_with (Some t) s.this_pending

@@ -3,9 +3,9 @@ use Rattle.std.proofs.Common.{◌≡◌, ℕ, true, false, Option, Some, None, r
 use Rattle.dv_defs.specs.Images.{Image}
 use Rattle.dv_defs.specs.Tiling.{begins_insn}
 use Rattle.dv_defs.specs.Op.{Code}
-use Rattle.dv_defs.specs.Statics.{At, fetch}
-use Rattle.dv_defs.specs.Demands.{made_at, made_by}
-use Rattle.dv_flowlaws.specs.Clean.{IsClean}
+use Rattle.dv_typing.specs.Statics.{At, fetch}
+use Rattle.dv_typing.specs.Demands.{made_at, made_by}
+use Rattle.law_flow.specs.Clean.{IsClean}
 
 abbrev made_of : Option At → Option ℕ
 made_of o = elim o [ None ↦ None | Some x ↦ made_by x.op ]

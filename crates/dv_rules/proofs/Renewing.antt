@@ -2,8 +2,8 @@
 use Rattle.std.proofs.Common.{◌≡◌, map, refl}
 use Rattle.std.proofs.lemmas.List.{map-id}
 use Rattle.dv_defs.specs.Images.{Image}
-use Rattle.dv_defs.specs.RegTypes.{Types}
-use Rattle.dv_defs.specs.Transfer.{write_type, write_two}
+use Rattle.dv_typing.specs.RegTypes.{Types}
+use Rattle.dv_typing.specs.Transfer.{write_type, write_two}
 use Rattle.dv_rules.specs.declared.changes.Change.{Change}
 use Rattle.dv_rules.specs.declared.changes.Change.TheVariants as change
 use Rattle.dv_rules.specs.Changes.{changed, renewed, written}

@@ -12,7 +12,7 @@ use Rattle.dv_defs.specs.Numbers.{jump}
 use Rattle.dv_defs.specs.Parts.{Width, Bin, is_division, is_shift}
 use Rattle.dv_defs.specs.Types.{is_array}
 use Rattle.dv_defs.specs.Families.{Family, family_at}
-use Rattle.dv_defs.specs.Flow.{jumps}
+use Rattle.dv_typing.specs.Flow.{jumps}
 use Rattle.dv_defs.specs.Payloads.{payload_spelling, where_fits}
 use Rattle.dv_defs.specs.Tiling.{payload_at}
 use Rattle.dv_defs.specs.Op as machine

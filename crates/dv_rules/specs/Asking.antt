@@ -3,8 +3,8 @@ use Rattle.std.specs.Prelude.{◌≡◌, ℕ, true, [], Some}
 use Rattle.dv_defs.specs.Images.{Image}
 use Rattle.dv_defs.specs.Tiling.{begins_insn}
 use Rattle.dv_defs.specs.Op.{Code, code_at}
-use Rattle.dv_defs.specs.Statics.{At, fetch}
-use Rattle.dv_defs.specs.Accepting.{static_places}
+use Rattle.dv_typing.specs.Statics.{At, fetch}
+use Rattle.dv_typing.specs.Accepting.{static_places}
 
 -- the method has this body, which breaks no static rule
 pub record HasCode (image : Image) (n : ℕ) (code : Code) : Type 0 where

@@ -1,11 +1,11 @@
 -- The state that flows along an edge.
 use Rattle.std.specs.Prelude.{ℕ, Some, None}
 use Rattle.dv_defs.specs.Images.{Image}
-use Rattle.dv_defs.specs.declared.typing.RegState.{RegState}
+use Rattle.dv_typing.specs.declared.typing.RegState.{RegState}
 use Rattle.dv_defs.specs.Pools.{Method}
-use Rattle.dv_defs.specs.Statics.{At}
-use Rattle.dv_defs.specs.Transfer.{out}
-use Rattle.dv_defs.specs.Flow.{caught_state}
+use Rattle.dv_typing.specs.Statics.{At}
+use Rattle.dv_typing.specs.Transfer.{out}
+use Rattle.dv_typing.specs.Flow.{caught_state}
 use Rattle.dv_rules.specs.declared.flow.Edge.{Edge}
 
 -- to a handler the state before the instruction with what is caught, else the state after it

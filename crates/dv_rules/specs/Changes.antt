@@ -2,15 +2,15 @@
 use Rattle.std.specs.Prelude.{ℕ, Bool, true, false, List, map, Option, Some, None, option_map}
 use Rattle.dv_defs.specs.Images.{Image}
 use Rattle.dv_defs.specs.declared.names.ClassId.{ClassId}
-use Rattle.dv_defs.specs.declared.typing.RegType.{RegType}
-use Rattle.dv_defs.specs.declared.typing.RegType.TheVariants as ty
-use Rattle.dv_defs.specs.declared.typing.PendingType.{PendingType}
-use Rattle.dv_defs.specs.declared.typing.PendingType.TheVariants as pend
-use Rattle.dv_defs.specs.declared.typing.RegState.{RegState}
+use Rattle.dv_typing.specs.declared.typing.RegType.{RegType}
+use Rattle.dv_typing.specs.declared.typing.RegType.TheVariants as ty
+use Rattle.dv_typing.specs.declared.typing.PendingType.{PendingType}
+use Rattle.dv_typing.specs.declared.typing.PendingType.TheVariants as pend
+use Rattle.dv_typing.specs.declared.typing.RegState.{RegState}
 use Rattle.dv_defs.specs.Pools.{Method, class_type, is_constructor}
 use Rattle.dv_defs.specs.Op.{Op, Filled, Invoke}
-use Rattle.dv_defs.specs.RegTypes.{Types, type_at}
-use Rattle.dv_defs.specs.Transfer.{write_type, write_two, replaced, replaced_this, lost, class_or_conflict, pending_of, first_of}
+use Rattle.dv_typing.specs.RegTypes.{Types, type_at}
+use Rattle.dv_typing.specs.Transfer.{write_type, write_two, replaced, replaced_this, lost, class_or_conflict, pending_of, first_of}
 use Rattle.dv_rules.specs.declared.changes.Change.{Change}
 use Rattle.dv_rules.specs.declared.changes.Change.TheVariants as change
 

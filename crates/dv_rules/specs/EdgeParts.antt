@@ -3,9 +3,9 @@ use Rattle.std.specs.Prelude.{ℕ, true, false, List, [], ◌∷◌, map, filter
 use Rattle.dv_defs.specs.Images.{Image}
 use Rattle.dv_defs.specs.Tiling.{begins_insn}
 use Rattle.dv_defs.specs.Op.{Op, Code, can_throw}
-use Rattle.dv_defs.specs.Statics.{At}
-use Rattle.dv_defs.specs.Demands.{goes_on}
-use Rattle.dv_defs.specs.Flow.{handlers_at, thrown_at}
+use Rattle.dv_typing.specs.Statics.{At}
+use Rattle.dv_typing.specs.Demands.{goes_on}
+use Rattle.dv_typing.specs.Flow.{handlers_at, thrown_at}
 use Rattle.dv_rules.specs.declared.flow.Edge.{Edge}
 use Rattle.dv_rules.specs.Edges.{plain_edge, handler_edge}
 

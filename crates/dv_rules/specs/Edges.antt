@@ -3,8 +3,8 @@ use Rattle.std.specs.Prelude.{ℕ, true, false, List, [], ◌++◌, map, filter,
 use Rattle.dv_defs.specs.Images.{Image}
 use Rattle.dv_defs.specs.Tiling.{begins_insn}
 use Rattle.dv_defs.specs.Op.{Code, can_throw}
-use Rattle.dv_defs.specs.Statics.{At}
-use Rattle.dv_defs.specs.Flow.{Catcher, targets, handlers_at, thrown_at, caught_as}
+use Rattle.dv_typing.specs.Statics.{At}
+use Rattle.dv_typing.specs.Flow.{Catcher, targets, handlers_at, thrown_at, caught_as}
 use Rattle.dv_rules.specs.declared.flow.Edge.{Edge}
 
 abbrev pub plain_edge : ℕ → Edge

@@ -2,8 +2,8 @@
 use Rattle.std.specs.Prelude.{◌≡◌, ℕ, List, [], Option, Some, None, slice_get, slice_index_or}
 use Rattle.dv_defs.specs.Images.{Image}
 use Rattle.dv_defs.specs.Op.{Code, code_at}
-use Rattle.dv_defs.specs.Flow.{Typing, IsTyping}
-use Rattle.dv_defs.specs.Accepting.{static_places}
+use Rattle.dv_typing.specs.Flow.{Typing, IsTyping}
+use Rattle.dv_typing.specs.Accepting.{static_places}
 use Rattle.dv_rules.specs.declared.verified.Map.{Map}
 
 -- what a map gives each address

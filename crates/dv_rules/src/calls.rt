@@ -1,13 +1,14 @@
 // What calls change.
 ghost use Rattle.std.specs.Prelude.{◌≡◌, IfOk};
 ghost use Rattle.dv_defs.specs.Op.{named_registers};
-ghost use Rattle.dv_defs.specs.Transfer.{first_of, pending_of as pending_result};
+ghost use Rattle.dv_typing.specs.Transfer.{first_of, pending_of as pending_result};
 ghost use Rattle.dv_ops.specs.Meaning.{method_of};
 ghost use Rattle.dv_rules.specs.Changes.{call_change, pending_with, receiver_in};
 
 use crate::changes::Change;
 use crate::registers::{is_long, single_type};
-use dv_defs::{ClassId, PendingType, RegState, RegType, Regs, Ty};
+use dv_typing::{PendingType, RegState, RegType};
+use dv_defs::{ClassId, Regs, Ty};
 use dv_demands::is_constructor;
 use dv_ops::{Coded, Method};
 use std::alloc::AllocError;

@@ -2,7 +2,7 @@
 ghost use Rattle.std.specs.Prelude.{◌≡◌, [], ◌∷◌, ◌++◌, map, nat_le, nat_lt, ◌&&◌, not, IfOk, OnOk, find, is_some, slice_get, option_and_then, option_map};
 ghost use Rattle.dv_defs.specs.Types.{of_class};
 ghost use Rattle.dv_defs.specs.Names.{throwable_name};
-ghost use Rattle.dv_defs.specs.Flow.{catchers, caught_as, handlers_at, handlers_of};
+ghost use Rattle.dv_typing.specs.Flow.{catchers, caught_as, handlers_at, handlers_of};
 ghost use Rattle.dv_rules.specs.Edges.{handler_edge};
 
 use crate::flow::Edge;

@@ -1,11 +1,12 @@
 // Changes of the types of registers.
 ghost use Rattle.std.specs.Prelude.{◌≡◌, ◌∷◌, ◌++◌, [], IfOk, OnOk, map};
 ghost use Rattle.dv_defs.specs.Pools.{class_type as type_of_class};
-ghost use Rattle.dv_defs.specs.Transfer.{class_or_conflict as class_or_unknown, lost as lost_type, replaced as replaced_type, replaced_this as replaced_this_type};
+ghost use Rattle.dv_typing.specs.Transfer.{class_or_conflict as class_or_unknown, lost as lost_type, replaced as replaced_type, replaced_this as replaced_this_type};
 ghost use Rattle.dv_rules.specs.Changes.{changed as registers_after, number, renewed as renewed_by, written};
 
 use crate::registers::{class_type, write, write_pair};
-use dv_defs::{ClassId, Image, RegType};
+use dv_typing::RegType;
+use dv_defs::{ClassId, Image};
 use std::alloc::{AllocError, Global};
 
 /// What an operation changes of the types of registers.

@@ -1,12 +1,13 @@
 // The state on entry to a method.
 ghost use Rattle.std.specs.Prelude.{◌≡◌, ◌∷◌, [], ◌++◌, ◌-◌, false, length, replicate, IfOk, OnOk};
 ghost use Rattle.dv_defs.specs.Pools.{is_of_object as is_of_object_class, is_static};
-ghost use Rattle.dv_defs.specs.RegTypes.{all_types, reg_types};
-ghost use Rattle.dv_defs.specs.Transfer.{arg_types as types_of_args, begins_uninitialised as is_uninitialised, entry_state, receiver_type};
+ghost use Rattle.dv_typing.specs.RegTypes.{all_types, reg_types};
+ghost use Rattle.dv_typing.specs.Transfer.{arg_types as types_of_args, begins_uninitialised as is_uninitialised, entry_state, receiver_type};
 ghost use Rattle.dv_ops.specs.Meaning.{method_of};
 
 use crate::registers::{class_type, is_long, single_type};
-use dv_defs::{Flag, Image, PendingType, RegState, RegType, Seq, Ty};
+use dv_typing::{PendingType, RegState, RegType};
+use dv_defs::{Flag, Image, Seq, Ty};
 use dv_demands::is_constructor;
 use dv_ops::{Coded, Method};
 use std::alloc::{AllocError, Global};

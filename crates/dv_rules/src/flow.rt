@@ -1,11 +1,11 @@
 // The edges along which states flow.
 ghost use Rattle.std.specs.Prelude.{◌≡◌, ℕ, [], ◌∷◌, ◌++◌, Some, IfOk, OnOk, map};
-ghost use Rattle.dv_defs.specs.Demands.{goes_on};
-ghost use Rattle.dv_defs.specs.Flow.{jumps, thrown_at};
+ghost use Rattle.dv_typing.specs.Demands.{goes_on};
+ghost use Rattle.dv_typing.specs.Flow.{jumps, thrown_at};
 ghost use Rattle.dv_defs.specs.Op.{Code, can_throw};
-ghost use Rattle.dv_defs.specs.Statics.{fetch};
-ghost use Rattle.dv_flowlaws.specs.Clean.{IsClean};
-ghost use Rattle.dv_fetch.specs.Places.{IsBoundary};
+ghost use Rattle.dv_typing.specs.Statics.{fetch};
+ghost use Rattle.law_flow.specs.Clean.{IsClean};
+ghost use Rattle.dv_ops.specs.Places.{IsBoundary};
 ghost use Rattle.dv_ops.specs.Meaning.{code_of, meant};
 ghost use Rattle.dv_rules.specs.Edges.{edges_of, plain_edge};
 ghost use Rattle.dv_rules.specs.EdgeParts.{edges_onward, edges_thrown};
@@ -13,8 +13,7 @@ ghost use Rattle.dv_rules.specs.EdgeParts.{edges_onward, edges_thrown};
 use crate::catchers::push_handlers;
 use crate::switches::push_cases;
 use dv_defs::{Image, Ty};
-use dv_fetch::begins_insn_next;
-use dv_ops::{Coded, Op};
+use dv_ops::{Coded, Op, begins_insn_next};
 use std::alloc::{AllocError, Global};
 
 /// An edge to the instruction at an address. One to a handler has the type that is caught there, Throwable where all is.

@@ -1,10 +1,10 @@
 // The rules, asked of a method's number and an address.
 ghost use Rattle.std.specs.Prelude.{◌≡◌, ℕ, Some, IfOk, length};
-ghost use Rattle.dv_defs.specs.Demands.{ok as broken_at};
+ghost use Rattle.dv_typing.specs.Demands.{ok as broken_at};
 ghost use Rattle.dv_defs.specs.Op.{Code, code_at};
-ghost use Rattle.dv_defs.specs.Statics.{At};
-ghost use Rattle.dv_defs.specs.Transfer.{entry_state as state_on_entry, out as state_after};
-ghost use Rattle.dv_flowlaws.specs.Clean.{IsClean};
+ghost use Rattle.dv_typing.specs.Statics.{At};
+ghost use Rattle.dv_typing.specs.Transfer.{entry_state as state_on_entry, out as state_after};
+ghost use Rattle.law_flow.specs.Clean.{IsClean};
 ghost use Rattle.dv_ops.specs.Meaning.{code_of};
 ghost use Rattle.dv_rules.specs.Asking.{HasCode, HasInsn, HasOp};
 ghost use Rattle.dv_rules.specs.Edges.{edges_of};
@@ -13,10 +13,10 @@ use crate::entry::entry_of;
 use crate::flow::{Edge, edges_from};
 use crate::receiver::class_to_make;
 use crate::transfer::out_of;
-use dv_defs::{Image, MethodId, RegState, Rule};
+use dv_typing::RegState;
+use dv_defs::{Image, MethodId, Rule};
 use dv_demands::ok_of;
-use dv_fetch::op_at;
-use dv_ops::{Coded, coded_at};
+use dv_ops::{Coded, coded_at, op_at};
 use std::alloc::{AllocError, Global};
 
 /// The state on entry to a method.

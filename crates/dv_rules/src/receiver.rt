@@ -1,18 +1,18 @@
 // Receivers of constructor calls that aren't initialised.
 ghost use Rattle.std.specs.Prelude.{◌≡◌, ℕ, true, option_map};
-ghost use Rattle.dv_defs.specs.Demands.{made_at, made_by as made_by_operation};
+ghost use Rattle.dv_typing.specs.Demands.{made_at, made_by as made_by_operation};
 ghost use Rattle.dv_defs.specs.Op.{Code, named_registers};
-ghost use Rattle.dv_defs.specs.RegTypes.{type_at};
+ghost use Rattle.dv_typing.specs.RegTypes.{type_at};
 ghost use Rattle.dv_defs.specs.Tiling.{begins_insn};
-ghost use Rattle.dv_defs.specs.Transfer.{first_of};
-ghost use Rattle.dv_flowlaws.specs.Clean.{IsClean};
+ghost use Rattle.dv_typing.specs.Transfer.{first_of};
+ghost use Rattle.law_flow.specs.Clean.{IsClean};
 ghost use Rattle.dv_ops.specs.Meaning.{code_of, meant, method_of};
 ghost use Rattle.dv_demands.specs.Made.{made_for, place_of, receiver_place};
 
-use dv_defs::{ClassId, Image, RegState, RegType, Regs};
+use dv_typing::{RegState, RegType};
+use dv_defs::{ClassId, Image, Regs};
 use dv_demands::is_constructor;
-use dv_fetch::{begins_insn_at, op_at};
-use dv_ops::{Coded, Op};
+use dv_ops::{Coded, Op, begins_insn_at, op_at};
 
 /// The class of the object that a constructor call is to initialise. Takes no memory.
 pub fn class_to_make(

@@ -1,12 +1,13 @@
 // Types of registers, and writes of them.
 ghost use Rattle.std.specs.Prelude.{◌≡◌, ◌<◌, ◌+◌, ◌^◌, IfOk, slice_set};
-ghost use Rattle.dv_defs.specs.Demands.{is_hi as is_hi_type, is_lo as is_lo_type};
+ghost use Rattle.dv_typing.specs.Demands.{is_hi as is_hi_type, is_lo as is_lo_type};
 ghost use Rattle.dv_defs.specs.Pools.{class_type as type_of_class};
-ghost use Rattle.dv_defs.specs.RegTypes.{single_type as single_type_of, type_at};
-ghost use Rattle.dv_defs.specs.Transfer.{break_before as broken_before, broken_hi, broken_lo, write_two, write_type};
+ghost use Rattle.dv_typing.specs.RegTypes.{single_type as single_type_of, type_at};
+ghost use Rattle.dv_typing.specs.Transfer.{break_before as broken_before, broken_hi, broken_lo, write_two, write_type};
 ghost use Rattle.dv_defs.specs.Types.{is_long as is_long_type};
 
-use dv_defs::{Base, ClassId, Image, RegType, Text, Ty};
+use dv_typing::RegType;
+use dv_defs::{Base, ClassId, Image, Text, Ty};
 use std::alloc::{AllocError, Global};
 
 /// A register takes a type; a long that lay half there is broken.

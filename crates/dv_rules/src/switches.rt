@@ -1,12 +1,12 @@
 // Edges to the targets of switches.
 ghost use Rattle.std.specs.Prelude.{◌≡◌, ◌<◌, ℕ, true, ◌++◌, Some, Ok, IfOk, IsSome, OnOk, length, map};
-ghost use Rattle.dv_defs.specs.Flow.{jumps};
+ghost use Rattle.dv_typing.specs.Flow.{jumps};
 ghost use Rattle.dv_defs.specs.Numbers.{jump};
 ghost use Rattle.dv_defs.specs.Payloads.{payload_spelling};
 ghost use Rattle.dv_defs.specs.Spelling.{AreUnits};
-ghost use Rattle.dv_defs.specs.Statics.{At, fetch};
+ghost use Rattle.dv_typing.specs.Statics.{At, fetch};
 ghost use Rattle.dv_defs.specs.Tiling.{begins_insn, insn_at, payload_at, tiles_in, tiling};
-ghost use Rattle.dv_flowlaws.specs.Clean.{IsClean};
+ghost use Rattle.law_flow.specs.Clean.{IsClean};
 ghost use Rattle.dv_ops.specs.Meaning.{code_of};
 ghost use Rattle.dv_rules.specs.Distances.{distances, is_switch};
 ghost use Rattle.dv_rules.specs.Edges.{plain_edge};

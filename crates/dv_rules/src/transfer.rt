@@ -1,10 +1,10 @@
 // What instructions make of states.
 ghost use Rattle.std.specs.Prelude.{◌≡◌, ◌<◌, ℕ, true, ◌&&◌, IfOk, option_map};
-ghost use Rattle.dv_defs.specs.Flow.{caught_state};
+ghost use Rattle.dv_typing.specs.Flow.{caught_state};
 ghost use Rattle.dv_defs.specs.Images as images;
 ghost use Rattle.dv_defs.specs.Op.{Code};
-ghost use Rattle.dv_defs.specs.RegTypes.{Types, type_at};
-ghost use Rattle.dv_defs.specs.Transfer.{after_get, after_result_long, caught_type as type_caught, const_type as type_of_const, copied_int as int_copied, copied_object as object_copied, object_element as element_of, out, result_int as int_result, result_ref as reference_result, write_for};
+ghost use Rattle.dv_typing.specs.RegTypes.{Types, type_at};
+ghost use Rattle.dv_typing.specs.Transfer.{after_get, after_result_long, caught_type as type_caught, const_type as type_of_const, copied_int as int_copied, copied_object as object_copied, object_element as element_of, out, result_int as int_result, result_ref as reference_result, write_for};
 ghost use Rattle.dv_defs.specs.Types.{component as component_of, is_array as is_array_type, is_reference as is_reference_type, of_class};
 ghost use Rattle.dv_units.specs.Tables.{standard_suffix};
 ghost use Rattle.dv_ops.specs.Meaning.{code_of, meant, method_of};
@@ -14,7 +14,8 @@ ghost use Rattle.dv_demands.specs.Made.{made_for};
 use crate::calls::{change_of_call, pending_of, this_after_call};
 use crate::changes::{Change, changed};
 use crate::registers::{is_long, single_type};
-use dv_defs::{Base, ClassId, Image, PendingType, RegState, RegType, Seq, Text, Ty};
+use dv_typing::{PendingType, RegState, RegType};
+use dv_defs::{Base, ClassId, Image, Seq, Text, Ty};
 use dv_ops::{Coded, Field, Op};
 use dv_optable::Suffix;
 use std::alloc::{AllocError, Global};

@@ -3,7 +3,7 @@ use Rattle.std.proofs.Common.{◌≡◌, ◌≤◌, ◌+◌, ℕ, true, sym, ap,
 use Rattle.dv_defs.specs.Images.{Image}
 use Rattle.dv_machine.specs.State.{Machine}
 use Rattle.dv_machine.specs.WellTyped.{Typings}
-use Rattle.dv_simulation.proofs.Counting.{turns_advance}
+use Rattle.law_engine.proofs.Counting.{turns_advance}
 use Rattle.dv_core.specs.declared.vm.Vm.{Vm}
 use Rattle.dv_sound.specs.Moves.{IsTurn, StandsAt, may_step}
 use Rattle.dv_sound.proofs.Going.{may_parts}

@@ -9,10 +9,10 @@ use Rattle.dv_defs.specs.Images.{Image}
 use Rattle.dv_machine.specs.Running.{all_ended, any_runnable, ending_by, ending_of, ending_without_stop, runnable, runnable_one, runnable_thread}
 use Rattle.dv_machine.specs.State.{Machine, Thread}
 use Rattle.dv_machine.specs.WellTyped.{Typings}
-use Rattle.dv_steps.specs.Running as words
-use Rattle.dv_simulation.specs.RunningLaws.{RunsAlike}
-use Rattle.dv_simulation.proofs.Endings.{running_follows}
-use Rattle.dv_simulation.proofs.Going.{one_lives, one_runs}
+use Rattle.dv_words.specs.Running as words
+use Rattle.law_engine.specs.RunningLaws.{RunsAlike}
+use Rattle.law_engine.proofs.Endings.{running_follows}
+use Rattle.law_engine.proofs.Going.{one_lives, one_runs}
 use Rattle.dv_threads.specs.Kept.{threads_of}
 use Rattle.dv_core.specs.declared.vm.Vm.{Vm}
 use Rattle.dv_core.specs.Machines.{machine_of}

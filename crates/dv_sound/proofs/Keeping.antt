@@ -17,10 +17,10 @@ use Rattle.dv_machine.specs.State.{Machine}
 use Rattle.dv_machine.specs.WellTyped.{Typings}
 use Rattle.dv_words.specs.Standing.{ThreadStands}
 use Rattle.dv_words.specs.State.{WordMachine}
-use Rattle.dv_simulation.proofs.Replays.{replay_appends}
-use Rattle.dv_simulation.proofs.Staying.{next_is_alike}
-use Rattle.dv_simulation.proofs.Counting.{turns_advance}
-use Rattle.dv_simulation.proofs.Turns.{turns_replay}
+use Rattle.law_engine.proofs.Replays.{replay_appends}
+use Rattle.law_engine.proofs.Staying.{next_is_alike}
+use Rattle.law_engine.proofs.Counting.{turns_advance}
+use Rattle.law_engine.proofs.Turns.{turns_replay}
 use Rattle.dv_threads.specs.Kept.{threads_of}
 use Rattle.dv_core.specs.declared.vm.Vm.{Vm}
 use Rattle.dv_core.specs.Machines.{machine_of}

@@ -14,8 +14,8 @@ use Rattle.dv_machine.specs.State.{Machine}
 use Rattle.dv_machine.specs.WellTyped.{Typings}
 use Rattle.dv_words.specs.State.{WordMachine}
 use Rattle.dv_local.specs.declared.slice.Slice.{Slice}
-use Rattle.dv_simulation.proofs.Replays.{replay_appends}
-use Rattle.dv_simulation.proofs.Staying.{next_is_alike}
+use Rattle.law_engine.proofs.Replays.{replay_appends}
+use Rattle.law_engine.proofs.Staying.{next_is_alike}
 use Rattle.dv_core.specs.declared.vm.Vm.{Vm}
 use Rattle.dv_core.specs.Advancing.{running_frame}
 use Rattle.dv_core.specs.Machines.{machine_of}

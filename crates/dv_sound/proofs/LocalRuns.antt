@@ -7,7 +7,7 @@ use Rattle.dv_defs.specs.declared.machine.End.TheVariants as end
 use Rattle.dv_defs.specs.declared.run.Limits.{Limits}
 use Rattle.dv_defs.specs.Images.{Image}
 use Rattle.dv_defs.specs.Op.{is_local}
-use Rattle.dv_defs.specs.Statics.{At, fetch}
+use Rattle.dv_typing.specs.Statics.{At, fetch}
 use Rattle.dv_machine.specs.Replaying.{Stands, Turned, is_local_at, is_running, next_is_local, steps_of, turn}
 use Rattle.dv_machine.specs.Running.{ending_of}
 use Rattle.dv_machine.specs.State.{Machine, Reads}
@@ -17,15 +17,15 @@ use Rattle.dv_words.specs.declared.state.Level.{Level}
 use Rattle.dv_words.specs.declared.state.Level.TheVariants as level
 use Rattle.dv_words.specs.Standing.{HeapFits, IsSmall}
 use Rattle.dv_words.specs.State.{WordMachine, WordThread}
-use Rattle.dv_steps.specs.Local.{word_local}
-use Rattle.dv_steps.specs.StepLaws.{with_top}
-use Rattle.dv_steps.specs.Stepping.{RanLocally, local_by, local_here, locals_here, on_frame}
-use Rattle.dv_laws.proofs.lemmas.Common.Lists.{set_there}
-use Rattle.dv_simulation.specs.KeepLaws.{is_local_level_of, thread_is_local_of}
-use Rattle.dv_simulation.specs.Laws.{IsSimulated}
-use Rattle.dv_simulation.specs.TurnLaws.{AreSimulatedLocals, IsLivingAt, more}
-use Rattle.dv_simulation.proofs.Locals.{locals_follow}
-use Rattle.dv_simulation.proofs.Staying.{next_is_alike}
+use Rattle.dv_words.specs.Local.{word_local}
+use Rattle.law_words.specs.StepLaws.{with_top}
+use Rattle.dv_words.specs.Stepping.{RanLocally, local_by, local_here, locals_here, on_frame}
+use Rattle.law_machine.proofs.lemmas.Common.Lists.{set_there}
+use Rattle.law_engine.specs.KeepLaws.{is_local_level_of, thread_is_local_of}
+use Rattle.law_engine.specs.Laws.{IsSimulated}
+use Rattle.law_engine.specs.TurnLaws.{AreSimulatedLocals, IsLivingAt, more}
+use Rattle.law_engine.proofs.Locals.{locals_follow}
+use Rattle.law_engine.proofs.Staying.{next_is_alike}
 use Rattle.dv_core.specs.declared.vm.Vm.{Vm}
 use Rattle.dv_core.specs.Advancing.{RanNone, RanSteps, RunsFrame, running_frame, top_frame}
 use Rattle.dv_core.specs.Guests.{IsOrdered}

@@ -9,7 +9,7 @@ use Rattle.dv_machine.specs.Replaying.{picked, runnable_from}
 use Rattle.dv_machine.specs.Running.{ending_of, runnable}
 use Rattle.dv_machine.specs.State.{Machine}
 use Rattle.dv_rules.specs.Verified.{VerifiedValue}
-use Rattle.dv_simulation.proofs.Picked.{seed_picks_runnable}
+use Rattle.law_engine.proofs.Picked.{seed_picks_runnable}
 use Rattle.dv_sound.specs.Runs.{IsAt, IsLowest, IsLowestTurn, IsReady, IsSameRun, IsTurned, LeadsLowest, MayTurn, NoneIsReady, RanLowest, Run}
 
 -- with no thread lent the lowest one that is at home is the lowest of all

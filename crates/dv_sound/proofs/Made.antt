@@ -5,10 +5,10 @@ use Rattle.std.proofs.lemmas.Bool.{ltb-false, ltb-true}
 use Rattle.std.proofs.lemmas.Option.{same_Some}
 use Rattle.dv_defs.specs.Images.{Image}
 use Rattle.dv_defs.specs.Op.{is_local}
-use Rattle.dv_defs.specs.Statics.{At, fetch}
+use Rattle.dv_typing.specs.Statics.{At, fetch}
 use Rattle.dv_words.specs.declared.state.Frame.{Frame}
-use Rattle.dv_steps.specs.Stepping.{KeysRiseAmong, RanLocally, local_here, locals_here, on_frame}
-use Rattle.dv_steps.proofs.Slices.{local_was}
+use Rattle.dv_words.specs.Stepping.{KeysRiseAmong, RanLocally, local_here, locals_here, on_frame}
+use Rattle.law_words.proofs.Slices.{local_was}
 use Rattle.dv_local.specs.declared.slice.Slice.{Slice}
 use Rattle.dv_sound.specs.Lending.{IsFirst, IsMade}
 

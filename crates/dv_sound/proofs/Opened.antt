@@ -8,14 +8,14 @@ use Rattle.dv_defs.specs.Images.{Image}
 use Rattle.dv_defs.specs.Pools.{Method}
 use Rattle.dv_machine.specs.Accepted.{Accepted}
 use Rattle.dv_machine.specs.Opening as tagged
-use Rattle.dv_machine.specs.StepLaws.{IsMain}
+use Rattle.dv_machine.specs.Mains.{IsMain}
 use Rattle.dv_machine.specs.WellTyped.{Typings}
 use Rattle.dv_words.specs.State.{WordMachine}
-use Rattle.dv_steps.specs.Opening as words
-use Rattle.dv_steps.specs.StepLaws.{AllKeysRise, InitsAreTexts, StringsFit}
-use Rattle.dv_simulation.specs.Laws.{IsSimulated}
-use Rattle.dv_simulation.proofs.Statics.{statics_are_whole_of_linked}
-use Rattle.dv_simulation.proofs.Steps.{openings_are_simulated}
+use Rattle.dv_words.specs.Opening as words
+use Rattle.law_words.specs.StepLaws.{AllKeysRise, InitsAreTexts, StringsFit}
+use Rattle.law_engine.specs.Laws.{IsSimulated}
+use Rattle.law_engine.proofs.Statics.{statics_are_whole_of_linked}
+use Rattle.law_engine.proofs.Steps.{openings_are_simulated}
 use Rattle.dv_threads.specs.Kept.{threads_of}
 use Rattle.dv_core.specs.declared.vm.Vm.{Vm}
 use Rattle.dv_core.specs.Guests.{IsOrdered}

@@ -5,10 +5,10 @@ use Rattle.dv_defs.specs.Images.{Image}
 use Rattle.dv_words.specs.declared.state.Frame.{Frame}
 use Rattle.dv_words.specs.declared.state.Level.{Level}
 use Rattle.dv_words.specs.State.{WordMachine, WordThread}
-use Rattle.dv_steps.specs.Step.{step}
-use Rattle.dv_steps.specs.StepLaws.{with_top}
-use Rattle.dv_simulation.specs.KeepLaws.{next_is_local_of, thread_is_local_of}
-use Rattle.dv_simulation.proofs.Staying.{locals_stay}
+use Rattle.dv_words.specs.Step.{step}
+use Rattle.law_words.specs.StepLaws.{with_top}
+use Rattle.law_engine.specs.KeepLaws.{next_is_local_of, thread_is_local_of}
+use Rattle.law_engine.proofs.Staying.{locals_stay}
 use Rattle.dv_core.specs.declared.vm.Vm.{Vm}
 use Rattle.dv_core.specs.Machines.{IsStepped, machine_of}
 use Rattle.dv_sound.specs.Moves.{KeepsLocals}

@@ -8,7 +8,7 @@ use Rattle.dv_machine.specs.Replaying.{Replayed, Stands, replay}
 use Rattle.dv_machine.specs.Running.{ending_of, runnable}
 use Rattle.dv_machine.specs.State.{Machine}
 use Rattle.dv_machine.specs.WellTyped.{Typings, WellTyped}
-use Rattle.dv_steps.specs.Running as words
+use Rattle.dv_words.specs.Running as words
 use Rattle.dv_core.specs.declared.vm.Vm.{Vm}
 use Rattle.dv_core.specs.Machines.{machine_of}
 use Rattle.dv_sound.specs.Runs.{IsAt, IsAtSome, IsKept, IsSameRun, Run}

@@ -9,7 +9,7 @@ use Rattle.dv_machine.specs.Running.{ending_of, runnable}
 use Rattle.dv_machine.specs.State.{Machine}
 use Rattle.dv_machine.specs.Step.{step}
 use Rattle.dv_machine.specs.WellTyped.{Typings}
-use Rattle.dv_simulation.proofs.Replays.{step_done, steps_after}
+use Rattle.law_engine.proofs.Replays.{step_done, steps_after}
 use Rattle.dv_core.specs.declared.vm.Vm.{Vm}
 use Rattle.dv_sound.specs.declared.error.ReplayError.{ReplayError}
 use Rattle.dv_sound.specs.declared.error.ReplayError.TheVariants as error

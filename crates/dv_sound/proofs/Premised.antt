@@ -3,7 +3,7 @@ use Rattle.std.proofs.Common.{◌≡◌, ◌<◌, ℕ, List, Option, Some, None,
 use Rattle.std.specs.Prelude.{slice_get}
 use Rattle.std.proofs.lemmas.Option.{slice_get_within}
 use Rattle.dv_defs.specs.declared.image.MethodInfo.{MethodInfo}
-use Rattle.dv_defs.specs.Accepting.{Accepts}
+use Rattle.dv_typing.specs.Accepting.{Accepts}
 use Rattle.dv_defs.specs.Images.{Image}
 use Rattle.dv_defs.specs.Linked.{IsImage}
 use Rattle.dv_defs.specs.Op.{Code, code_at, code_of}
@@ -12,8 +12,8 @@ use Rattle.dv_machine.specs.Accepted.{Accepted}
 use Rattle.dv_machine.specs.WellTyped.{Typings}
 use Rattle.dv_rules.specs.declared.verified.Map.{Map}
 use Rattle.dv_rules.specs.Verified.{IsVerified, typing_at}
-use Rattle.dv_laws.proofs.lemmas.Bridge.Laws.{bridge_holds}
-use Rattle.dv_linked.proofs.LinkedLaw.{linked_images_have_linking}
+use Rattle.law_machine.proofs.lemmas.Bridge.Laws.{bridge_holds}
+use Rattle.law_linked.proofs.LinkedLaw.{linked_images_have_linking}
 
 -- the typings of a verified image are those that acceptance wants
 pub accepts : (image : Image) (maps : List Map) → IsVerified image maps → Accepts image

@@ -14,14 +14,14 @@ use Rattle.dv_machine.specs.Running.{ending_of}
 use Rattle.dv_machine.specs.Seeds.{word_of}
 use Rattle.dv_machine.specs.State.{Machine}
 use Rattle.dv_machine.specs.WellTyped.{Typings, WellTyped}
-use Rattle.dv_laws.proofs.lemmas.Bridge.Laws.{bridge_holds}
-use Rattle.dv_laws.proofs.lemmas.Opening.State.{opening_is_well_typed}
-use Rattle.dv_linked.proofs.LinkedLaw.{linked_images_have_linking}
-use Rattle.dv_simulation.specs.TurnLaws.{IsAdvanced, IsSeededSoFar}
-use Rattle.dv_simulation.proofs.Counting.{turns_advance}
-use Rattle.dv_simulation.proofs.Going.{has_steps_left}
-use Rattle.dv_simulation.proofs.Picked.{seed_picks_runnable}
-use Rattle.dv_simulation.proofs.Seeded.{seed_begins, seed_ends, seed_goes_on}
+use Rattle.law_machine.proofs.lemmas.Bridge.Laws.{bridge_holds}
+use Rattle.law_machine.proofs.lemmas.Opening.State.{opening_is_well_typed}
+use Rattle.law_linked.proofs.LinkedLaw.{linked_images_have_linking}
+use Rattle.law_engine.specs.TurnLaws.{IsAdvanced, IsSeededSoFar}
+use Rattle.law_engine.proofs.Counting.{turns_advance}
+use Rattle.law_engine.proofs.Going.{has_steps_left}
+use Rattle.law_engine.proofs.Picked.{seed_picks_runnable}
+use Rattle.law_engine.proofs.Seeded.{seed_begins, seed_ends, seed_goes_on}
 use Rattle.dv_sound.specs.Laws.{SeededLogsFinish}
 use Rattle.dv_sound.proofs.Unstuck.{turns_never_stick}
 

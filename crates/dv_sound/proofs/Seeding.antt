@@ -16,10 +16,10 @@ use Rattle.dv_machine.specs.Running.{ending_of, runnable}
 use Rattle.dv_machine.specs.Seeds.{generator_of, log_of_seed, word_of}
 use Rattle.dv_machine.specs.State.{Machine}
 use Rattle.dv_rules.specs.Verified.{VerifiedValue}
-use Rattle.dv_simulation.specs.TurnLaws.{IsSeededSoFar, appended}
-use Rattle.dv_simulation.proofs.Counting.{turns_advance}
-use Rattle.dv_simulation.proofs.Picked.{seed_picks_runnable}
-use Rattle.dv_simulation.proofs.Seeded.{seed_begins, seed_ends, seed_goes_on}
+use Rattle.law_engine.specs.TurnLaws.{IsSeededSoFar, appended}
+use Rattle.law_engine.proofs.Counting.{turns_advance}
+use Rattle.law_engine.proofs.Picked.{seed_picks_runnable}
+use Rattle.law_engine.proofs.Seeded.{seed_begins, seed_ends, seed_goes_on}
 use Rattle.dv_sound.specs.Runs.{IsAt, IsSameRun, IsTurned, MayTurn, Run, logged}
 use Rattle.dv_sound.proofs.Places.{IsTypedAt}
 use Rattle.dv_sound.proofs.Unstuck.{seeds_never_stick}

@@ -3,10 +3,10 @@ use Rattle.std.proofs.Common.{◌≡◌, ℕ, zero, suc, Bool, true, false, Opti
 use Rattle.std.specs.Prelude.{List, [], ◌∷◌, length, slice_set}
 use Rattle.dv_defs.specs.Images.{Image}
 use Rattle.dv_defs.specs.Op.{Op, Nop, MoveInt, MoveLong, MoveObject, ResultInt, ResultLong, ResultObject, TakeCaught, Const, ConstLong, IntUnary, LongUnary, IntToLong, LongToInt, IntOp, LongOp, LongShift, CompareLong, Goto, IfBoth, IfZero, Switch, is_local}
-use Rattle.dv_defs.specs.Statics.{At, fetch}
+use Rattle.dv_typing.specs.Statics.{At, fetch}
 use Rattle.dv_words.specs.declared.state.Frame.{Frame}
-use Rattle.dv_steps.specs.Local.{branched, put, put_two, word_local}
-use Rattle.dv_steps.specs.Stepping.{local_by, local_here, locals_here, on_frame}
+use Rattle.dv_words.specs.Local.{branched, put, put_two, word_local}
+use Rattle.dv_words.specs.Stepping.{local_by, local_here, locals_here, on_frame}
 
 pub set_length : {A : Type 0} (xs : List A) (k : ℕ) (v : A) → length (slice_set xs k v) ≡ length xs
 set_length [] k v = refl

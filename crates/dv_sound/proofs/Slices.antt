@@ -6,7 +6,7 @@ use Rattle.std.proofs.lemmas.Option.{same_Some, slice_get_read}
 use Rattle.dv_defs.specs.declared.machine.End.{End}
 use Rattle.dv_defs.specs.declared.run.Ending.{Ending}
 use Rattle.dv_defs.specs.Images.{Image}
-use Rattle.dv_defs.specs.Statics.{fetch}
+use Rattle.dv_typing.specs.Statics.{fetch}
 use Rattle.dv_machine.specs.Replaying.{next_is_local}
 use Rattle.dv_machine.specs.Running.{ending_of}
 use Rattle.dv_machine.specs.State.{Machine}
@@ -15,11 +15,11 @@ use Rattle.dv_words.specs.declared.state.Frame.{Frame}
 use Rattle.dv_words.specs.declared.state.Level.{Level}
 use Rattle.dv_words.specs.Standing.{HeapFits, IsSmall}
 use Rattle.dv_words.specs.State.{WordMachine, WordThread}
-use Rattle.dv_steps.specs.StepLaws.{with_top}
-use Rattle.dv_steps.specs.Stepping.{RanLocally, local_here, locals_here, on_frame}
-use Rattle.dv_steps.proofs.Slices.{local_was}
-use Rattle.dv_simulation.proofs.Locals.{locals_follow}
-use Rattle.dv_simulation.proofs.Staying.{next_is_alike}
+use Rattle.law_words.specs.StepLaws.{with_top}
+use Rattle.dv_words.specs.Stepping.{RanLocally, local_here, locals_here, on_frame}
+use Rattle.law_words.proofs.Slices.{local_was}
+use Rattle.law_engine.proofs.Locals.{locals_follow}
+use Rattle.law_engine.proofs.Staying.{next_is_alike}
 use Rattle.dv_core.specs.declared.vm.Vm.{Vm}
 use Rattle.dv_core.specs.Advancing.{RanSteps, RunsFrame, running_frame, runs_in}
 use Rattle.dv_core.specs.Guests.{IsOrdered}

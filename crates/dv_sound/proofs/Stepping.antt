@@ -6,11 +6,11 @@ use Rattle.dv_defs.specs.Images.{Image}
 use Rattle.dv_machine.specs.State.{Machine}
 use Rattle.dv_machine.specs.WellTyped.{Typings}
 use Rattle.dv_words.specs.State.{WordMachine}
-use Rattle.dv_steps.specs.Step.{step}
-use Rattle.dv_steps.specs.StepLaws.{ReadsFit}
-use Rattle.dv_simulation.specs.Laws.{IsSimulated, IsSimulatedStep}
-use Rattle.dv_simulation.proofs.Others.{steps_leave_others}
-use Rattle.dv_simulation.proofs.Steps.{accepted_steps_follow}
+use Rattle.dv_words.specs.Step.{step}
+use Rattle.law_words.specs.StepLaws.{ReadsFit}
+use Rattle.law_engine.specs.Laws.{IsSimulated, IsSimulatedStep}
+use Rattle.law_engine.proofs.Others.{steps_leave_others}
+use Rattle.law_engine.proofs.Steps.{accepted_steps_follow}
 use Rattle.dv_threads.specs.Kept.{HasRoom}
 use Rattle.dv_core.specs.declared.vm.Vm.{Vm}
 use Rattle.dv_core.specs.Guests.{IsOrdered}

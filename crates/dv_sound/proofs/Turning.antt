@@ -15,9 +15,9 @@ use Rattle.dv_words.specs.declared.state.Frame.{Frame}
 use Rattle.dv_words.specs.declared.state.Level.{Level}
 use Rattle.dv_words.specs.declared.state.Level.TheVariants as level
 use Rattle.dv_words.specs.State.{WordMachine, WordThread}
-use Rattle.dv_simulation.specs.KeepLaws.{next_is_local_of}
-use Rattle.dv_simulation.specs.TurnLaws.{more}
-use Rattle.dv_simulation.proofs.Staying.{next_is_alike}
+use Rattle.law_engine.specs.KeepLaws.{next_is_local_of}
+use Rattle.law_engine.specs.TurnLaws.{more}
+use Rattle.law_engine.proofs.Staying.{next_is_alike}
 use Rattle.dv_core.specs.declared.vm.Vm.{Vm}
 use Rattle.dv_core.specs.Advancing.{RunsFrame, running_frame, top_frame}
 use Rattle.dv_core.specs.Machines.{machine_of}

@@ -2,7 +2,7 @@
 use Rattle.std.proofs.Common.{◌≡◌, ℕ, zero, suc, ◌+◌, ◌%◌, Bool, true, false, Option, Some, None, Ok, Err, List, [], refl, sym, ap, ◌∙◌, subst, arith}
 use Rattle.std.specs.Prelude.{◌&&◌, nat_eq, not, slice_get, if◌then◌else◌}
 use Rattle.std.proofs.lemmas.Bool.{and_parts, eqb-true}
-use Rattle.dv_defs.specs.declared.machine.Frame.{Frame}
+use Rattle.dv_machine.specs.Frame.{Frame}
 use Rattle.dv_defs.specs.declared.run.Ending.{Ending}
 use Rattle.dv_defs.specs.declared.run.Entry.{Entry}
 use Rattle.dv_defs.specs.Images.{Image}
@@ -10,17 +10,17 @@ use Rattle.dv_defs.specs.Op.{Enter, Exit, Invoke, Op, Return, ReturnVoid, is_loc
 use Rattle.dv_machine.specs.Accepted.{Accepted}
 use Rattle.dv_machine.specs.Local.{local}
 use Rattle.dv_machine.specs.Mem.{mem}
-use Rattle.dv_machine.specs.Premises.{HoldsOf}
+use Rattle.law_machine.specs.Premises.{HoldsOf}
 use Rattle.dv_machine.specs.Replaying.{Turned, last_step, logged, next_is_local, one_more, picked, runnable_from, seeded_from, turn}
 use Rattle.dv_machine.specs.Running.{ending_of, runnable}
 use Rattle.dv_machine.specs.State.{Here, Machine, Reads, Thread, on_next, onward, reading}
 use Rattle.dv_machine.specs.Step.{act, here, local_left, settled, step, step_at, step_code, step_of, with_ready}
 use Rattle.dv_machine.specs.WellTyped.{Typings, WellTyped}
-use Rattle.dv_orders.proofs.Facts.{no}
-use Rattle.dv_laws.proofs.lemmas.Steps.Sound.{steps_are_sound}
-use Rattle.dv_steps.proofs.Slices.{needs_none}
-use Rattle.dv_simulation.proofs.Going.{IsAtLocal, at_local, goes_on, may_step, topped}
-use Rattle.dv_simulation.proofs.LastSteps.{last_by}
+use Rattle.law_types.proofs.Facts.{no}
+use Rattle.law_machine.proofs.lemmas.Steps.Sound.{steps_are_sound}
+use Rattle.law_words.proofs.Slices.{needs_none}
+use Rattle.law_engine.proofs.Going.{IsAtLocal, at_local, goes_on, may_step, topped}
+use Rattle.law_engine.proofs.LastSteps.{last_by}
 use Rattle.dv_sound.specs.Laws.{SeedsNeverStick, TurnsNeverStick}
 
 -- ---- reads one after another

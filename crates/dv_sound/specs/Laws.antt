@@ -2,7 +2,7 @@
 use Rattle.std.specs.Prelude.{◌≡◌, ℕ, List, Ok}
 use Rattle.dv_defs.specs.declared.run.Entry.{Entry}
 use Rattle.dv_defs.specs.declared.run.Limits.{Limits}
-use Rattle.dv_defs.specs.Accepting.{Accepts}
+use Rattle.dv_typing.specs.Accepting.{Accepts}
 use Rattle.dv_defs.specs.Images.{Image}
 use Rattle.dv_defs.specs.Linked.{IsImage}
 use Rattle.dv_defs.specs.Pools.{Method}
@@ -10,7 +10,7 @@ use Rattle.dv_machine.specs.Accepted.{Accepted}
 use Rattle.dv_machine.specs.Replaying.{IsFinished, Turned, seeded_from, turn}
 use Rattle.dv_machine.specs.Seeds.{log_of_seed}
 use Rattle.dv_machine.specs.State.{Machine}
-use Rattle.dv_machine.specs.StepLaws.{IsMain}
+use Rattle.dv_machine.specs.Mains.{IsMain}
 use Rattle.dv_machine.specs.WellTyped.{Typings, WellTyped}
 
 -- a turn of any thread from a well-typed state is done, and the state after it is well typed

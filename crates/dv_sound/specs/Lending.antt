@@ -8,7 +8,7 @@ use Rattle.dv_machine.specs.Replaying.{Stands, next_is_local, steps_of}
 use Rattle.dv_machine.specs.Running.{ending_of}
 use Rattle.dv_machine.specs.State.{Machine}
 use Rattle.dv_machine.specs.WellTyped.{Typings}
-use Rattle.dv_steps.specs.Stepping.{RanLocally}
+use Rattle.dv_words.specs.Stepping.{RanLocally}
 use Rattle.dv_local.specs.declared.slice.Slice.{Slice}
 use Rattle.dv_core.specs.declared.vm.Vm.{Vm}
 use Rattle.dv_core.specs.Advancing.{running_frame}

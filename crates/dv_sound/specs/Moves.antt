@@ -11,10 +11,10 @@ use Rattle.dv_machine.specs.WellTyped.{Typings}
 use Rattle.dv_words.specs.declared.state.Frame.{Frame}
 use Rattle.dv_words.specs.declared.state.Level.{Level}
 use Rattle.dv_words.specs.State.{WordMachine, WordThread}
-use Rattle.dv_steps.specs.StepLaws.{AllKeysRise, StringsFit, with_top}
-use Rattle.dv_simulation.specs.KeepLaws.{next_is_local_of}
-use Rattle.dv_simulation.specs.Laws.{IsSimulated}
-use Rattle.dv_simulation.specs.TurnLaws.{more}
+use Rattle.law_words.specs.StepLaws.{AllKeysRise, StringsFit, with_top}
+use Rattle.law_engine.specs.KeepLaws.{next_is_local_of}
+use Rattle.law_engine.specs.Laws.{IsSimulated}
+use Rattle.law_engine.specs.TurnLaws.{more}
 use Rattle.dv_threads.specs.Kept.{threads_of}
 use Rattle.dv_core.specs.declared.vm.Vm.{Vm}
 use Rattle.dv_core.specs.Guests.{IsOrdered}

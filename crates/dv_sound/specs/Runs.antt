@@ -10,7 +10,7 @@ use Rattle.dv_machine.specs.Opening.{opening}
 use Rattle.dv_machine.specs.Replaying.{Stands, next_is_local, replay, turn}
 use Rattle.dv_machine.specs.Running.{ending_of, runnable}
 use Rattle.dv_machine.specs.State.{Machine}
-use Rattle.dv_machine.specs.StepLaws.{IsMain}
+use Rattle.dv_machine.specs.Mains.{IsMain}
 use Rattle.dv_machine.specs.WellTyped.{Typings, WellTyped}
 use Rattle.dv_rules.specs.Verified.{VerifiedValue}
 use Rattle.dv_words.specs.State.{WordMachine}

@@ -5,8 +5,8 @@ ghost use Rattle.dv_defs.specs.Pools.{Field as FieldOf, field_at as field_number
 ghost use Rattle.dv_machine.specs.Accepted.{Accepted};
 ghost use Rattle.dv_machine.specs.Opening.{string_of};
 ghost use Rattle.dv_machine.specs.WellTyped.{Typings};
-ghost use Rattle.dv_steps.specs.Laws.{IsUnit};
-ghost use Rattle.dv_steps.specs.StepLaws.{AllKeysRise, InitsAreTexts, StringsFit};
+ghost use Rattle.law_words.specs.Laws.{IsUnit};
+ghost use Rattle.law_words.specs.StepLaws.{AllKeysRise, InitsAreTexts, StringsFit};
 
 use dv_defs::{Chars, FieldId, Image, Init, Limits, MethodId};
 use dv_ops::{coded_at, field_at};

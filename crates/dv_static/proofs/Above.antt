@@ -4,7 +4,7 @@ use Rattle.std.specs.Prelude.{nat_eq, drop}
 use Rattle.dv_defs.specs.Images.{Image}
 use Rattle.dv_defs.specs.Pools.{walk, parent_at}
 use Rattle.dv_defs.specs.Order.{has_number}
-use Rattle.dv_defs.specs.Statics.{is_proper_super}
+use Rattle.dv_typing.specs.Statics.{is_proper_super}
 
 walked : (image : Image) (n c d : ℕ) → has_number d (drop 1 (walk image n (Some c))) ≡ has_number d (walk image (n - 1) (parent_at image c))
 walked image zero c d = refl

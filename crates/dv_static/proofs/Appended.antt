@@ -2,8 +2,8 @@
 use Rattle.std.proofs.Common.{◌≡◌, ℕ, List, ◌++◌, sym, ap, ◌∙◌, append_assoc}
 use Rattle.std.proofs.lemmas.List.{map-append}
 use Rattle.dv_defs.specs.declared.faults.Rule.{Rule}
-use Rattle.dv_defs.specs.Accepting as accepting
-use Rattle.dv_defs.specs.Accepting.{places}
+use Rattle.dv_typing.specs.Accepting as accepting
+use Rattle.dv_typing.specs.Accepting.{places}
 
 two_parts : (at : ℕ) (xs ys : List Rule) → places at (xs ++ ys) ≡ places at xs ++ places at ys
 two_parts at xs ys = map-append (λ r. record { at = at; broken = r }) xs ys

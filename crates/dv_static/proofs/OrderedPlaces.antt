@@ -4,8 +4,8 @@ use Rattle.std.specs.Prelude.{Contains}
 use Rattle.std.specs.List.{dedup, dedup_from}
 use Rattle.std.specs.List.Sorted.{IsPermutation, IsSortedBy}
 use Rattle.std.proofs.lemmas.List.Sorted.{Contains-permutation, IsPermutation-sym}
-use Rattle.dv_defs.specs.Accepting as accepting
-use Rattle.dv_defs.specs.Accepting.{is_before, sorted}
+use Rattle.dv_typing.specs.Accepting as accepting
+use Rattle.dv_typing.specs.Accepting.{is_before, sorted}
 use Rattle.dv_static.specs.declared.places.Place.{Place}
 use Rattle.dv_static.specs.Placed.{place_of, places_of}
 use Rattle.dv_static.proofs.PlaceOrder.{trans, total}

@@ -4,7 +4,7 @@ use Rattle.std.specs.Prelude.{nat_eq, nat_lt}
 use borrow.Author.Tests.{ltb-true, ltb-false, eqb-true, eq-eqb, lt-ltb}
 use Rattle.dv_defs.specs.declared.faults.Rule.{Rule}
 use Rattle.dv_defs.specs.declared.faults.Rule.TheVariants as rule
-use Rattle.dv_defs.specs.Accepting.{Place, is_before, is_rule_before}
+use Rattle.dv_typing.specs.Accepting.{Place, is_before, is_rule_before}
 
 -- one place comes before another by its address, or at the same address by its rule
 abbrev Comes : Place → Place → Type 0

@@ -6,7 +6,7 @@ use Rattle.std.proofs.lemmas.Bool.Decides.{nat_tests}
 use borrow.Author.Tests.{eqb-true}
 use Rattle.dv_defs.specs.declared.faults.Rule.{Rule}
 use Rattle.dv_defs.specs.declared.faults.Rule.TheVariants as rule
-use Rattle.dv_defs.specs.Accepting.{is_before}
+use Rattle.dv_typing.specs.Accepting.{is_before}
 use Rattle.dv_static.specs.declared.places.Place.{Place}
 use Rattle.dv_static.specs.declared.places.Order.{Order}
 use Rattle.dv_static.specs.contracts.places.PlacePartialEq.TheImpl as of_place

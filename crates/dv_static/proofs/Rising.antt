@@ -1,6 +1,6 @@
 -- A list of places that rises is told by its members, and `sorted` rises.
 use Rattle.std.proofs.Common.{◌≡◌, ◌⊎◌, inl, inr, Bool, true, false, List, [], ◌∷◌, refl, sym, ap, ◌∙◌}
-use Rattle.dv_defs.specs.Accepting.{Place, is_before, inserted, sorted}
+use Rattle.dv_typing.specs.Accepting.{Place, is_before, inserted, sorted}
 use Rattle.dv_static.proofs.PlaceOrder.{asym, trans, total}
 
 abbrev pub In : {X : Type 0} → X → List X → Type 0

@@ -1,7 +1,7 @@
 -- Keys rise where each is below the next.
 use Rattle.std.proofs.Common.{◌≡◌, ℕ, ◌-◌, ◌<◌, ◌≤◌, true, List, [], ◌∷◌, length, drop, refl, sym, ◌∙◌, arith, length-drop}
 use Rattle.std.specs.Prelude.{ℤ}
-use Rattle.dv_defs.specs.Accepting.{rises}
+use Rattle.dv_typing.specs.Accepting.{rises}
 
 -- the keys from the one before a place on rise just where all do
 pub record RiseFrom (keys : List ℤ) (i : ℕ) : Type 0 where

@@ -7,7 +7,7 @@ use Rattle.dv_defs.specs.declared.faults.Rule.TheVariants as rule
 use Rattle.dv_defs.specs.Images.{Image}
 use Rattle.dv_defs.specs.Parts as parts
 use Rattle.dv_defs.specs.Pools.{Method, is_abstract_class, is_interface}
-use Rattle.dv_defs.specs.Statics.{arg_words, fits_call, unless}
+use Rattle.dv_typing.specs.Statics.{arg_words, fits_call, unless}
 use Rattle.dv_defs.specs.Types.{is_base, is_reference}
 use Rattle.dv_ops.specs.declared.op.Op.{Op}
 use Rattle.dv_ops.specs.declared.op.Op.TheVariants as op

@@ -2,7 +2,7 @@
 use Rattle.std.specs.Prelude.{ℕ, true, false, List, map}
 use Rattle.dv_defs.specs.declared.faults.Rule.{Rule}
 use Rattle.dv_defs.specs.declared.faults.Rule.TheVariants as rule
-use Rattle.dv_defs.specs.Accepting as accepting
+use Rattle.dv_typing.specs.Accepting as accepting
 use Rattle.dv_static.specs.declared.places.Place.{Place}
 use Rattle.dv_static.specs.declared.places.Order.{Order}
 

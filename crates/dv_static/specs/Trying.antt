@@ -6,7 +6,7 @@ use Rattle.dv_defs.specs.declared.faults.Rule.TheVariants as rule
 use Rattle.dv_defs.specs.Images.{Image}
 use Rattle.dv_defs.specs.Tiling.{begins_insn, begins_item}
 use Rattle.dv_defs.specs.Op.{Code}
-use Rattle.dv_defs.specs.Accepting.{Place, place_unless, is_handler_type, handlers_good}
+use Rattle.dv_typing.specs.Accepting.{Place, place_unless, is_handler_type, handlers_good}
 
 -- a handler of S18, by whether it is the last
 abbrev pub handler_good : Image → Code → Bool → Handler → Bool

@@ -2,7 +2,7 @@
 ghost use Rattle.std.specs.Prelude.{◌≡◌, ◌<◌, ◌||◌, not, Some, map, nat_eq, option_map, take};
 ghost use Rattle.dv_defs.specs.Families.{family_at};
 ghost use Rattle.dv_defs.specs.Numbers.{jump as jump_of};
-ghost use Rattle.dv_defs.specs.Statics.{is_branch as is_branch_of, moves_on as is_moving, is_zero_offset};
+ghost use Rattle.dv_typing.specs.Statics.{is_branch as is_branch_of, moves_on as is_moving, is_zero_offset};
 ghost use Rattle.dv_defs.specs.Tiling.{payload_at};
 ghost use Rattle.dv_ops.specs.Meaning.{has_payload_of};
 ghost use Rattle.dv_units.specs.Tables.{standard_family};

@@ -1,10 +1,10 @@
 // The static faults of a method.
 ghost use Rattle.std.specs.Prelude.{◌≡◌, ◌<◌, ◌∷◌, ◌++◌, ◌%◌, [], All, Ok, Some, IsSome, IfOk, OnOk, map, nat_le};
-ghost use Rattle.dv_defs.specs.Accepting.{first_places, item_places, no_units, places_by, rule_at as rule_there, rule_of_unit as rule_of, sorted, static_fault, static_places, tile_places, try_places};
+ghost use Rattle.dv_typing.specs.Accepting.{first_places, item_places, no_units, places_by, rule_at as rule_there, rule_of_unit as rule_of, sorted, static_fault, static_places, tile_places, try_places};
 ghost use Rattle.dv_defs.specs.Formats.{is_float as is_float_opcode};
 ghost use Rattle.dv_defs.specs.Op.{Code, code_at};
 ghost use Rattle.dv_defs.specs.Tiling.{tiling};
-ghost use Rattle.dv_defs.specs.Statics.{arg_words};
+ghost use Rattle.dv_typing.specs.Statics.{arg_words};
 ghost use Rattle.dv_ops.specs.Meaning.{code_of, method_of};
 ghost use Rattle.dv_static.specs.Finding.{places_found};
 ghost use Rattle.dv_static.specs.Placed.{place_of, places_of};

@@ -1,8 +1,8 @@
 // The static rules of an instruction.
 ghost use Rattle.std.specs.Prelude.{◌≡◌, ◌<◌, ◌++◌, OnOk, map};
-ghost use Rattle.dv_defs.specs.Accepting.{places as places_at};
+ghost use Rattle.dv_typing.specs.Accepting.{places as places_at};
 ghost use Rattle.dv_defs.specs.Op.{op_of};
-ghost use Rattle.dv_defs.specs.Statics.{insn_rules, resolved_rules};
+ghost use Rattle.dv_typing.specs.Statics.{insn_rules, resolved_rules};
 ghost use Rattle.dv_ops.specs.Meaning.{code_of, meant_or_rule};
 ghost use Rattle.dv_static.specs.Placed.{places_of};
 ghost use Rattle.dv_static.specs.Tiles.{tile_of};
@@ -13,8 +13,7 @@ use crate::places::{Place, add_unless};
 use crate::registers::registers_below;
 use crate::starts::Starts;
 use dv_defs::{Image, Insn, Rule};
-use dv_fetch::resolve;
-use dv_ops::{Coded, Op};
+use dv_ops::{Coded, Op, resolve};
 use std::alloc::AllocError;
 
 /// Adds what an instruction at an address breaks: S5, S11, and what its operation breaks or why it has none.

@@ -2,7 +2,7 @@
 ghost use Rattle.std.specs.Prelude.{◌≡◌, length, nat_eq, take};
 ghost use Rattle.dv_defs.specs.Op.{named_registers};
 ghost use Rattle.dv_defs.specs.Pools.{is_constructor as is_constructor_of};
-ghost use Rattle.dv_defs.specs.Statics.{arg_words, fits_call as call_fits, fits_instance_field as instance_fits, fits_static_field as static_fits, is_of_suffix as is_suffixed, is_proper_super as is_above, is_virtual as is_virtual_of, receiver_words};
+ghost use Rattle.dv_typing.specs.Statics.{arg_words, fits_call as call_fits, fits_instance_field as instance_fits, fits_static_field as static_fits, is_of_suffix as is_suffixed, is_proper_super as is_above, is_virtual as is_virtual_of, receiver_words};
 ghost use Rattle.dv_defs.specs.Types.{words_of as words_of_type, words_of_all};
 ghost use Rattle.dv_ops.specs.Meaning.{field_of, method_of};
 ghost use Rattle.dv_units.specs.Tables.{standard_call, standard_suffix};

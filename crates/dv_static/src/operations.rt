@@ -1,10 +1,10 @@
 // The rules of operations: S4, S8 and S13 to S16.
 ghost use Rattle.std.specs.Prelude.{◌≡◌, ◌<◌, ◌++◌, false, OnOk, map};
 ghost use Rattle.dv_defs.specs.declared.faults.Rule.TheVariants as rule;
-ghost use Rattle.dv_defs.specs.Accepting.{places as places_at};
+ghost use Rattle.dv_typing.specs.Accepting.{places as places_at};
 ghost use Rattle.dv_defs.specs.Op.{Code, named_registers};
 ghost use Rattle.dv_defs.specs.Pools.{is_abstract_class as is_abstract_at};
-ghost use Rattle.dv_defs.specs.Statics.{is_filled_type as is_filled, op_rules, unless};
+ghost use Rattle.dv_typing.specs.Statics.{is_filled_type as is_filled, op_rules, unless};
 ghost use Rattle.dv_ops.specs.Meaning.{code_of, meant, method_of};
 ghost use Rattle.dv_units.specs.Tables.{standard_call};
 ghost use Rattle.dv_static.specs.Operations.{are_filled, call_rules, has_instances, is_call};

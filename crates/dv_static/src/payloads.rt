@@ -1,6 +1,6 @@
 // The rules of a payload: S7, S9 and S10.
 ghost use Rattle.std.specs.Prelude.{◌≡◌, ◌++◌, ◌||◌, ◌+ℤ◌, pos, nat_eq, int_lt, OnOk};
-ghost use Rattle.dv_defs.specs.Accepting.{payload_places, rises};
+ghost use Rattle.dv_typing.specs.Accepting.{payload_places, rises};
 ghost use Rattle.dv_static.specs.Placed.{places_of};
 
 use crate::places::{Place, add_unless};

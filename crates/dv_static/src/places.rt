@@ -1,6 +1,6 @@
 // Broken rules with their addresses, in order.
 ghost use Rattle.std.specs.Prelude.{◌≡◌, ◌++◌, IfOk, OnOk};
-ghost use Rattle.dv_defs.specs.Accepting.{place_unless, sorted};
+ghost use Rattle.dv_typing.specs.Accepting.{place_unless, sorted};
 ghost use Rattle.dv_static.specs.Placed.{order_of, places_of};
 
 use dv_defs::Rule;

@@ -2,7 +2,7 @@
 ghost use Rattle.std.specs.Prelude.{◌≡◌, ◌<◌, ◌∷◌, [], take};
 ghost use Rattle.dv_defs.specs.Op.{named_registers, reg, count_up};
 ghost use Rattle.dv_defs.specs.Parts.{is_shift as is_shift_of};
-ghost use Rattle.dv_defs.specs.Statics.{registers_below as is_within, wide_binary, wide_in, wide_registers, wide_two};
+ghost use Rattle.dv_typing.specs.Statics.{registers_below as is_within, wide_binary, wide_in, wide_registers, wide_two};
 ghost use Rattle.dv_units.specs.Tables.{standard_bin, standard_family};
 ghost use Rattle.dv_static.specs.Registers.{all_below, pairs_below};
 

@@ -1,6 +1,6 @@
 // The rules of try entries: S17 and S18.
 ghost use Rattle.std.specs.Prelude.{◌≡◌, ◌++◌, ◌&&◌, length, map, nat_lt, slice_get, IfOk, OnOk};
-ghost use Rattle.dv_defs.specs.Accepting.{handlers_good, is_handler_type, try_places};
+ghost use Rattle.dv_typing.specs.Accepting.{handlers_good, is_handler_type, try_places};
 ghost use Rattle.dv_defs.specs.Names.{throwable_name};
 ghost use Rattle.dv_defs.specs.Types.{of_class};
 ghost use Rattle.dv_ops.specs.Meaning.{code_of};

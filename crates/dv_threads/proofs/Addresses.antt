@@ -16,10 +16,10 @@ use Rattle.dv_words.specs.State.{WordStack}
 use Rattle.dv_frames.specs.declared.heads.Head.{Head}
 use Rattle.dv_frames.specs.Heads.{head_in}
 use Rattle.dv_frames.specs.Tops.{head_of}
-use Rattle.dv_steps.specs.Answering.{IsAtInsn, IsStackOf}
-use Rattle.dv_steps.specs.Fetching.{IsFetched}
-use Rattle.dv_steps.specs.Steps.{At}
-use Rattle.dv_steps.proofs.Fetching.{is_fetched}
+use Rattle.dv_words.specs.Answering.{IsAtInsn, IsStackOf}
+use Rattle.dv_words.specs.Fetching.{IsFetched}
+use Rattle.dv_words.specs.Steps.{At}
+use Rattle.law_words.proofs.Fetching.{is_fetched}
 
 size_spelled : (i : Insn) (us : List ℕ) → spelling i ≡ Some us → length us ≡ size_at i.op
 size_spelled i us e = let (f, s) = spelled_in i us e in (begins f i us s.units).0 ∙ sym (ap size_by s.format)

@@ -16,8 +16,8 @@ use Rattle.dv_machine.specs.Calls.{registers_in}
 use Rattle.dv_machine.specs.State.{Did, Throws, where_true}
 use Rattle.dv_words.specs.Heaps.{kind_of}
 use Rattle.dv_words.specs.State.{WordHeap}
-use Rattle.dv_steps.specs.Steps.{At, Left, goes, stays}
-use Rattle.dv_steps.specs.Threads.{class_of_kind, is_alive, is_living, join_with, new_thread, run_method, start_unless, started_on, thread_from, thread_with}
+use Rattle.dv_words.specs.Steps.{At, Left, goes, stays}
+use Rattle.dv_words.specs.Threads.{class_of_kind, is_alive, is_living, join_with, new_thread, run_method, start_unless, started_on, thread_from, thread_with}
 use Rattle.dv_threads.specs.declared.threads.Threads.{Threads}
 use Rattle.dv_threads.specs.Starting.{begun, other_lives, run_of, started_by}
 use Rattle.dv_threads.proofs.Leaving.{zip_length}

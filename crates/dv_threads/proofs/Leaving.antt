@@ -6,7 +6,7 @@ use Rattle.std.proofs.lemmas.List.{with_items_is}
 use Rattle.std.specs.declared.alloc.AllocError.{AllocError}
 use Rattle.dv_defs.specs.declared.machine.End.{End}
 use Rattle.dv_defs.specs.declared.machine.End.TheVariants as end
-use Rattle.dv_defs.specs.Monitors.{Monitors}
+use Rattle.dv_machine.specs.Monitors.{Monitors}
 use Rattle.dv_words.specs.declared.state.Frame.{Frame}
 use Rattle.dv_words.specs.declared.state.Level.{Level}
 use Rattle.dv_words.specs.declared.state.Level.TheVariants as level
@@ -14,8 +14,8 @@ use Rattle.dv_words.specs.Stacks.{changed, gone, on_top}
 use Rattle.dv_words.specs.State.{WordStack, WordThread}
 use Rattle.dv_defs.specs.declared.run.Next.{Next}
 use Rattle.dv_machine.specs.State.{Did}
-use Rattle.dv_steps.specs.Answering.{Leads}
-use Rattle.dv_steps.specs.Steps.{At, Left, leaves, with_monitors}
+use Rattle.dv_words.specs.Answering.{Leads}
+use Rattle.dv_words.specs.Steps.{At, Left, leaves, with_monitors}
 use Rattle.dv_threads.specs.declared.threads.Threads.{Threads}
 use Rattle.dv_threads.specs.Kept.{AreAsBefore, IsThreadOf, LeavesThreads, bounds, threads_of, zipped}
 use Rattle.dv_threads.specs.Stacks.{changed_at}

@@ -6,9 +6,9 @@ use Rattle.dv_defs.specs.Op.{count_up, named_registers}
 use Rattle.dv_words.specs.Stacks.{arg_words, top_regs}
 use Rattle.dv_words.specs.State.{WordStack, WordThread}
 use Rattle.dv_words.specs.Words.{word_at}
-use Rattle.dv_steps.specs.Local.{reg_word}
-use Rattle.dv_steps.specs.Natives.{arg}
-use Rattle.dv_steps.specs.Steps.{At}
+use Rattle.dv_words.specs.Local.{reg_word}
+use Rattle.dv_words.specs.Natives.{arg}
+use Rattle.dv_words.specs.Steps.{At}
 use Rattle.dv_threads.specs.declared.threads.Threads.{Threads}
 use Rattle.dv_threads.specs.Kept.{IsThreadOf}
 

@@ -4,12 +4,12 @@ use Rattle.std.specs.Prelude.{IfSome, is_some, nat_eq}
 use Rattle.std.specs.Option.{ForSome}
 use Rattle.std.proofs.lemmas.Bool.Decides.{nat_tests}
 use Rattle.dv_defs.specs.declared.run.Named.TheVariants as named
-use Rattle.dv_defs.specs.Monitors.{Held, Monitors, Wait, entered, held_of, owner_of, resumed, wait_of}
+use Rattle.dv_machine.specs.Monitors.{Held, Monitors, Wait, entered, held_of, owner_of, resumed, wait_of}
 use Rattle.dv_machine.specs.Mem.{on_object}
 use Rattle.dv_machine.specs.State.{Did, Throws, where_true}
 use Rattle.dv_monitor.specs.State.{count_of}
-use Rattle.dv_steps.specs.Steps.{At, Left, goes, stays, with_monitors}
-use Rattle.dv_steps.specs.Threads.{free_or_mine, holding, holding_it, monitor_enter, taken_back, wait_on, wait_step}
+use Rattle.dv_words.specs.Steps.{At, Left, goes, stays, with_monitors}
+use Rattle.dv_words.specs.Threads.{free_or_mine, holding, holding_it, monitor_enter, taken_back, wait_on, wait_step}
 use Rattle.dv_threads.specs.Owning.{may_enter}
 
 pub on_some : {A : Type 0} (go : ℕ → Did A) (o : ℕ) → 0 < o → on_object go o ≡ go o

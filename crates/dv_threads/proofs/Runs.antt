@@ -5,8 +5,8 @@ use Rattle.dv_defs.specs.declared.names.MethodId.{MethodId}
 use Rattle.dv_defs.specs.declared.names.Proto.{Proto}
 use Rattle.dv_defs.specs.Images.{Image}
 use Rattle.dv_defs.specs.Pools.{Method, method_at, nearest}
-use Rattle.dv_linklaws.specs.Landing.{landing_of}
-use Rattle.dv_linklaws.proofs.TableLaws.{nearest_has}
+use Rattle.law_linking.specs.Landing.{landing_of}
+use Rattle.law_linking.proofs.TableLaws.{nearest_has}
 
 abbrev number : Option Method → Option MethodId
 number o = option_map (λ m. record { 0 = m.id }) o

@@ -8,8 +8,8 @@ use Rattle.dv_defs.specs.declared.run.Next.{Next}
 use Rattle.dv_defs.specs.Images.{Image}
 use Rattle.dv_machine.specs.State.{Did}
 use Rattle.dv_words.specs.State.{WordHeap, WordStack, WordThread}
-use Rattle.dv_steps.specs.Answering.{IsStackOf, Leads}
-use Rattle.dv_steps.specs.Steps.{At, Left, with_monitors}
+use Rattle.dv_words.specs.Answering.{IsStackOf, Leads}
+use Rattle.dv_words.specs.Steps.{At, Left, with_monitors}
 use Rattle.dv_threads.specs.declared.threads.Threads.{Threads}
 
 abbrev pub zipped : List WordStack → List End → List ℕ → List WordThread

@@ -10,8 +10,8 @@ use Rattle.dv_words.specs.Heaps.{kind_of}
 use Rattle.dv_words.specs.Stacks.{entered, gone, pushed}
 use Rattle.dv_words.specs.State.{WordStack, WordThread}
 use Rattle.dv_frames.specs.declared.stack.Full.{Full}
-use Rattle.dv_steps.specs.Steps.{At, Left}
-use Rattle.dv_steps.specs.Threads.{class_of_kind, is_living, run_method}
+use Rattle.dv_words.specs.Steps.{At, Left}
+use Rattle.dv_words.specs.Threads.{class_of_kind, is_living, run_method}
 
 -- a stack with this frame, or there was no room for it
 abbrev pub IsFirst : WordStack → Frame → Result WordStack Full → Type 0

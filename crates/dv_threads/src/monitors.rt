@@ -1,13 +1,13 @@
 // Entering and leaving monitors, and notifying (JLS 17.1, 17.2.2).
 ghost use Rattle.std.specs.Prelude.{◌≡◌, ◌-◌, ◌<◌, ◌≤◌, ◌^◌, IsTrue, false, length};
 ghost use Rattle.std.specs.Option.{ForSome};
-ghost use Rattle.dv_defs.specs.Monitors.{owner_of};
+ghost use Rattle.dv_machine.specs.Monitors.{owner_of};
 ghost use Rattle.dv_machine.specs.Mem.{on_object};
 ghost use Rattle.dv_monitor.specs.State.{count_of};
 ghost use Rattle.dv_words.specs.State.{WordThread};
-ghost use Rattle.dv_steps.specs.Answering.{Leads};
-ghost use Rattle.dv_steps.specs.Steps.{At};
-ghost use Rattle.dv_steps.specs.Threads as steps;
+ghost use Rattle.dv_words.specs.Answering.{Leads};
+ghost use Rattle.dv_words.specs.Steps.{At};
+ghost use Rattle.dv_words.specs.Threads as steps;
 ghost use Rattle.dv_threads.specs.Kept.{Answers, AreAsBefore, IsThreadOf, LeavesThreads};
 ghost use Rattle.dv_threads.specs.Owning.{may_enter};
 

@@ -3,11 +3,11 @@ ghost use Rattle.std.specs.Prelude.{◌≡◌, ◌≤◌, Some, false, length, m
 ghost use Rattle.dv_defs.specs.Op.{named_registers};
 ghost use Rattle.dv_words.specs.Stacks.{arg_words};
 ghost use Rattle.dv_words.specs.State.{WordStack, WordThread};
-ghost use Rattle.dv_steps.specs.Answering.{Leads};
-ghost use Rattle.dv_steps.specs.Local.{reg_word};
-ghost use Rattle.dv_steps.specs.Natives as steps;
-ghost use Rattle.dv_steps.specs.Natives.{arg};
-ghost use Rattle.dv_steps.specs.Steps.{At};
+ghost use Rattle.dv_words.specs.Answering.{Leads};
+ghost use Rattle.dv_words.specs.Local.{reg_word};
+ghost use Rattle.dv_words.specs.Natives as steps;
+ghost use Rattle.dv_words.specs.Natives.{arg};
+ghost use Rattle.dv_words.specs.Steps.{At};
 ghost use Rattle.dv_threads.specs.Kept.{AreAsBefore, HasRoom, IsThreadOf, LeavesThreads, Sees};
 ghost use Rattle.dv_threads.specs.Stepping.{is_of_threads};
 

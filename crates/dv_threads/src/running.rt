@@ -3,12 +3,12 @@ ghost use Rattle.std.specs.Prelude.{◌≡◌, ◌≤◌, ◌&&◌, codes, find,
 ghost use Rattle.dv_defs.specs.Pools as pools;
 ghost use Rattle.dv_defs.specs.Pools.{no_arguments};
 ghost use Rattle.dv_defs.specs.Types.{same_proto};
-ghost use Rattle.dv_linklaws.specs.Landing.{has_key_at, landing_of};
+ghost use Rattle.law_linking.specs.Landing.{has_key_at, landing_of};
 ghost use Rattle.dv_machine.specs.Calls.{registers_in};
 ghost use Rattle.dv_ops.specs.Meaning.{method_of};
 ghost use Rattle.dv_words.specs.Heaps.{kind_of};
-ghost use Rattle.dv_steps.specs.Threads as steps;
-ghost use Rattle.dv_steps.specs.Threads.{class_of_kind};
+ghost use Rattle.dv_words.specs.Threads as steps;
+ghost use Rattle.dv_words.specs.Threads.{class_of_kind};
 
 use dv_defs::{Flag, Image, MethodDef, MethodId, Proto};
 use dv_heap::Heap;

@@ -4,11 +4,11 @@ ghost use Rattle.dv_defs.specs.declared.machine.End.TheVariants as end;
 ghost use Rattle.dv_words.specs.declared.state.Level.TheVariants as level;
 ghost use Rattle.dv_words.specs.Stacks.{empty, entered, with_levels};
 ghost use Rattle.dv_words.specs.State.{WordThread};
-ghost use Rattle.dv_steps.specs.Answering.{Leads};
-ghost use Rattle.dv_steps.specs.Steps.{At};
-ghost use Rattle.dv_steps.specs.Threads as steps;
+ghost use Rattle.dv_words.specs.Answering.{Leads};
+ghost use Rattle.dv_words.specs.Steps.{At};
+ghost use Rattle.dv_words.specs.Threads as steps;
 ghost use Rattle.dv_threads.specs.Kept.{Answers, AreAsBefore, HasRoom, IsThreadOf, LeavesThreads, Sees};
-ghost use Rattle.dv_steps.specs.Natives.{gives};
+ghost use Rattle.dv_words.specs.Natives.{gives};
 ghost use Rattle.dv_threads.specs.Starting.{IsFirst, begun, other_lives, run_of, started_by};
 
 use crate::running::{is_abstract, registers_of, run_method};

@@ -13,11 +13,11 @@ ghost use Rattle.dv_units.specs.Tables.{standard_family};
 ghost use Rattle.dv_words.specs.State.{WordStack, WordThread};
 ghost use Rattle.dv_words.specs.Stacks.{top_regs};
 ghost use Rattle.dv_words.specs.Words.{word_at};
-ghost use Rattle.dv_steps.specs.Answering.{IsAtInsn, IsStackOf, Leads};
-ghost use Rattle.dv_steps.specs.Local.{reg_word};
-ghost use Rattle.dv_steps.specs.Natives as natives;
-ghost use Rattle.dv_steps.specs.Steps.{At};
-ghost use Rattle.dv_steps.specs.Threads as steps;
+ghost use Rattle.dv_words.specs.Answering.{IsAtInsn, IsStackOf, Leads};
+ghost use Rattle.dv_words.specs.Local.{reg_word};
+ghost use Rattle.dv_words.specs.Natives as natives;
+ghost use Rattle.dv_words.specs.Steps.{At};
+ghost use Rattle.dv_words.specs.Threads as steps;
 ghost use Rattle.dv_threads.specs.Kept.{AreAsBefore, HasRoom, IsThreadOf, LeavesThreads, Sees};
 ghost use Rattle.dv_threads.specs.Stepping.{is_enter_family, is_exit_family, is_of_threads};
 

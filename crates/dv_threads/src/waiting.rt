@@ -1,11 +1,11 @@
 // Waiting for an object (JLS 17.2.1).
 ghost use Rattle.std.specs.Prelude.{◌≡◌, ℕ, None, Some};
-ghost use Rattle.dv_defs.specs.Monitors.{wait_of};
+ghost use Rattle.dv_machine.specs.Monitors.{wait_of};
 ghost use Rattle.dv_monitor.specs.Waits.{wait_value};
 ghost use Rattle.dv_words.specs.State.{WordThread};
-ghost use Rattle.dv_steps.specs.Answering.{Leads};
-ghost use Rattle.dv_steps.specs.Steps.{At};
-ghost use Rattle.dv_steps.specs.Threads.{wait_on, wait_step};
+ghost use Rattle.dv_words.specs.Answering.{Leads};
+ghost use Rattle.dv_words.specs.Steps.{At};
+ghost use Rattle.dv_words.specs.Threads.{wait_on, wait_step};
 ghost use Rattle.dv_threads.specs.Kept.{Answers, AreAsBefore, IsThreadOf, LeavesThreads};
 
 use crate::stacks::go_on;

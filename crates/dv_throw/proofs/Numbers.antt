@@ -4,8 +4,8 @@ use Rattle.std.proofs.lemmas.List.{length-map}
 use Rattle.dv_defs.specs.declared.image.ClassInfo.{ClassInfo}
 use Rattle.dv_defs.specs.Images.{Image}
 use Rattle.dv_defs.specs.Linked.{IsImage, defs}
-use Rattle.dv_linklaws.proofs.Bounds as bounds
-use Rattle.dv_linklaws.proofs.ImageMembers.{image_passes}
+use Rattle.law_linking.proofs.Bounds as bounds
+use Rattle.law_linking.proofs.ImageMembers.{image_passes}
 
 pub few_classes : (image : Image) → IsImage image → length image.classes ≤ 1057
 few_classes image is =

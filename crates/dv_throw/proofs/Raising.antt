@@ -8,8 +8,8 @@ use Rattle.dv_defs.specs.Order.{instance}
 use Rattle.dv_defs.specs.Types.{of_class}
 use Rattle.dv_words.specs.Heaps.{Got}
 use Rattle.dv_words.specs.State.{WordHeap}
-use Rattle.dv_steps.specs.Mem.{type_of}
-use Rattle.dv_steps.specs.Unwinding.{made_object}
+use Rattle.dv_words.specs.Mem.{type_of}
+use Rattle.dv_words.specs.Unwinding.{made_object}
 use Rattle.dv_throw.specs.Unwound.{caused_by, raised}
 
 module _ (image : Image) (heap : WordHeap) (o : ℕ) where

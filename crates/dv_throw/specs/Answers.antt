@@ -3,12 +3,12 @@ use Rattle.std.specs.Prelude.{◌≡◌, ℕ, Option, Some, None, Result, Ok, Er
 use Rattle.std.specs.declared.alloc.AllocError.{AllocError}
 use Rattle.dv_defs.specs.declared.run.Next.{Next}
 use Rattle.dv_defs.specs.declared.run.Next.TheVariants as next
-use Rattle.dv_defs.specs.Classes.{Classes}
+use Rattle.dv_machine.specs.Classes.{Classes}
 use Rattle.dv_defs.specs.Images.{Image}
 use Rattle.dv_words.specs.Heaps.{newest}
 use Rattle.dv_words.specs.State.{WordHeap, WordShared, WordStack}
-use Rattle.dv_steps.specs.Steps.{At, Left, with_classes, with_heap}
-use Rattle.dv_steps.specs.Unwinding.{Caught, Flies, Lacking, Unwound}
+use Rattle.dv_words.specs.Steps.{At, Left, with_classes, with_heap}
+use Rattle.dv_words.specs.Unwinding.{Caught, Flies, Lacking, Unwound}
 
 -- the answer throws the newest object of this heap, or the words for it are lacking
 abbrev pub IsMade : Result Next AllocError → Option WordHeap → WordHeap → WordHeap → Type 0

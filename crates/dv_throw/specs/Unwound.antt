@@ -4,7 +4,7 @@ use Rattle.std.specs.declared.alloc.AllocError.{AllocError}
 use Rattle.dv_defs.specs.declared.run.Named.TheVariants as named
 use Rattle.dv_defs.specs.declared.run.Next.{Next}
 use Rattle.dv_defs.specs.declared.run.Next.TheVariants as next
-use Rattle.dv_defs.specs.Classes.{Classes, Erroneous, with_state}
+use Rattle.dv_machine.specs.Classes.{Classes, Erroneous, with_state}
 use Rattle.dv_defs.specs.Images.{Image}
 use Rattle.dv_defs.specs.Names.{error_name}
 use Rattle.dv_defs.specs.Order.{instance}
@@ -14,8 +14,8 @@ use Rattle.dv_words.specs.declared.state.Level.{Level}
 use Rattle.dv_words.specs.Heaps.{Got, newest, with_word}
 use Rattle.dv_words.specs.Stacks.{below, changed, handling, popped, with_levels}
 use Rattle.dv_words.specs.State.{WordHeap, WordStack}
-use Rattle.dv_steps.specs.Mem.{type_of}
-use Rattle.dv_steps.specs.Unwinding.{is_opening, made_object}
+use Rattle.dv_words.specs.Mem.{type_of}
+use Rattle.dv_words.specs.Unwinding.{is_opening, made_object}
 
 -- ---- objects
 

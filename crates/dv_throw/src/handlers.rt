@@ -1,7 +1,7 @@
 // Which handler catches an exception (JLS 11.3, 14.20.1).
 ghost use Rattle.std.specs.Prelude.{◌≡◌};
-ghost use Rattle.dv_defs.specs.Flow.{catchers, handlers_at, handlers_of as catchers_of};
-ghost use Rattle.dv_steps.specs.Unwinding.{catches as is_catching, handler_for as catching};
+ghost use Rattle.dv_typing.specs.Flow.{catchers, handlers_at, handlers_of as catchers_of};
+ghost use Rattle.dv_words.specs.Unwinding.{catches as is_catching, handler_for as catching};
 ghost use Rattle.dv_throw.specs.Handlers.{type_caught};
 
 use dv_defs::{Body, Handler, Image, MethodId};

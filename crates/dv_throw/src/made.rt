@@ -4,7 +4,7 @@ ghost use Rattle.dv_machine.specs.Unwinding.{throwable_slot as slot_in_throwable
 ghost use Rattle.dv_words.specs.declared.state.Kind.TheVariants as kind;
 ghost use Rattle.dv_words.specs.Heaps.{kind_of, with_word};
 ghost use Rattle.dv_heap.specs.Answers.{newest_of};
-ghost use Rattle.dv_steps.specs.Unwinding.{made_object};
+ghost use Rattle.dv_words.specs.Unwinding.{made_object};
 ghost use Rattle.dv_throw.specs.Answers.{IsMade};
 ghost use Rattle.dv_throw.specs.Unwound.{IsObject, caused_by, raised};
 

@@ -1,10 +1,10 @@
 // The records of classes whose initialisers ended by an exception.
 ghost use Rattle.std.specs.Prelude.{◌≡◌, option_map};
-ghost use Rattle.dv_defs.specs.Classes.{Erroneous, InProgress, state_at, with_state};
+ghost use Rattle.dv_machine.specs.Classes.{Erroneous, InProgress, state_at, with_state};
 ghost use Rattle.dv_machine.specs.Unwinding.{is_method_of as is_of};
 ghost use Rattle.dv_ops.specs.Meaning.{method_of};
 ghost use Rattle.dv_words.specs.Stacks.{below, with_levels};
-ghost use Rattle.dv_steps.specs.Unwinding.{is_opening as is_opened};
+ghost use Rattle.dv_words.specs.Unwinding.{is_opening as is_opened};
 ghost use Rattle.dv_throw.specs.Unwound.{below_opening};
 
 use dv_defs::{ClassId, Image};

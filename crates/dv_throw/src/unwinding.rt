@@ -1,12 +1,12 @@
 // An exception in flight, level by level.
 ghost use Rattle.std.specs.Prelude.{◌≡◌, ◌∷◌, [], Bool};
-ghost use Rattle.dv_defs.specs.Classes.{InProgress, state_at};
-ghost use Rattle.dv_defs.specs.Flow.{handlers_at};
+ghost use Rattle.dv_machine.specs.Classes.{InProgress, state_at};
+ghost use Rattle.dv_typing.specs.Flow.{handlers_at};
 ghost use Rattle.dv_words.specs.declared.state.Frame.{Frame as Activation};
 ghost use Rattle.dv_words.specs.declared.state.Level.TheVariants as words_level;
-ghost use Rattle.dv_steps.specs.Answering.{LeavesStack};
-ghost use Rattle.dv_steps.specs.Steps.{At};
-ghost use Rattle.dv_steps.specs.Unwinding.{handler_for as catching, unwind_frame as frame_unwound, unwind_record as record_unwound};
+ghost use Rattle.dv_words.specs.Answering.{LeavesStack};
+ghost use Rattle.dv_words.specs.Steps.{At};
+ghost use Rattle.dv_words.specs.Unwinding.{handler_for as catching, unwind_frame as frame_unwound, unwind_record as record_unwound};
 ghost use Rattle.dv_throw.specs.Answers.{IsSeen, Stays, Unwinds, sharing};
 ghost use Rattle.dv_throw.specs.Unwound.{Ends, IsEnded, IsThrough, raised};
 

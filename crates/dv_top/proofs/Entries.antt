@@ -12,8 +12,8 @@ use Rattle.dv_machine.specs.Replaying.{Turned, logged, picked, runnable_from, se
 use Rattle.dv_machine.specs.Running.{ending_of, runnable}
 use Rattle.dv_machine.specs.Seeds.{word_of}
 use Rattle.dv_machine.specs.State.{Machine, Reads, on_next}
-use Rattle.dv_simulation.proofs.Picked.{seed_picks_runnable}
-use Rattle.dv_simulation.proofs.Turns.{Begins, Ends, Steps, Way, same_turn, turned, way_of}
+use Rattle.law_engine.proofs.Picked.{seed_picks_runnable}
+use Rattle.law_engine.proofs.Turns.{Begins, Ends, Steps, Way, same_turn, turned, way_of}
 use Rattle.dv_sound.specs.Runs.{IsLowestTurn, LeadsLowest}
 use Rattle.dv_top.specs.Answering.{IsEntry}
 use Rattle.dv_top.specs.Runs.{AreFirstTurns}

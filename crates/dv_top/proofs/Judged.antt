@@ -2,7 +2,7 @@
 use Rattle.std.proofs.Common.{◌≡◌, ℕ, ◌≤◌, ◌↔◌, false, List, length, Result, ap, arith, subst}
 use Rattle.dv_defs.specs.declared.run.Entry.{Entry}
 use Rattle.dv_defs.specs.declared.run.Limits.{Limits}
-use Rattle.dv_defs.specs.Accepting.{Accepts}
+use Rattle.dv_typing.specs.Accepting.{Accepts}
 use Rattle.dv_defs.specs.Pools.{Method}
 use Rattle.dv_console.specs.declared.refusals.Refusal.{Refusal}
 use Rattle.dv_top.specs.declared.program.Program.{Program}

@@ -6,14 +6,14 @@ use Rattle.dv_defs.specs.declared.faults.Fault.{Fault}
 use Rattle.dv_defs.specs.declared.names.MethodId.{MethodId}
 use Rattle.dv_defs.specs.declared.run.Entry.{Entry}
 use Rattle.dv_defs.specs.declared.run.Limits.{Limits}
-use Rattle.dv_defs.specs.Accepting.{Accepts, AreImageFaults}
+use Rattle.dv_typing.specs.Accepting.{Accepts, AreImageFaults}
 use Rattle.dv_defs.specs.Images.{Image}
 use Rattle.dv_defs.specs.Pools.{Method, method_at}
 use Rattle.dv_console.specs.declared.refusals.Refusal.{Refusal}
 use Rattle.dv_console.specs.Refusals.{refusal_text}
-use Rattle.dv_program.specs.declared.errors.ProgramError.{ProgramError}
-use Rattle.dv_program.specs.declared.errors.ProgramError.TheVariants as program
-use Rattle.dv_program.specs.Images.{Answers}
+use Rattle.dv_load.specs.declared.errors.ProgramError.{ProgramError}
+use Rattle.dv_load.specs.declared.errors.ProgramError.TheVariants as program
+use Rattle.dv_load.specs.Images.{Answers}
 use Rattle.dv_pverify.specs.declared.errors.VerifyError.{VerifyError}
 use Rattle.dv_pverify.specs.declared.errors.VerifyError.TheVariants as verify
 use Rattle.dv_pverify.specs.Errors.{IfFaults}

@@ -3,12 +3,12 @@ use Rattle.std.proofs.Common.{◌≡◌, ℕ, ◌++◌, Bool, false, List, [], f
 use Rattle.dv_defs.specs.declared.names.MethodId.{MethodId}
 use Rattle.dv_defs.specs.declared.run.Entry.{Entry}
 use Rattle.dv_defs.specs.declared.run.Limits.{Limits}
-use Rattle.dv_defs.specs.Accepting.{Accepts, AreImageFaults}
+use Rattle.dv_typing.specs.Accepting.{Accepts, AreImageFaults}
 use Rattle.dv_defs.specs.Images.{Image}
 use Rattle.dv_defs.specs.Linked.{IsImage}
 use Rattle.dv_defs.specs.Pools.{Method, method_at}
-use Rattle.dv_flowlaws.proofs.FaultsLaw.{image_faults_are_one}
-use Rattle.dv_flowlaws.proofs.HierarchyLaw.{linked_classes_are_hierarchies}
+use Rattle.law_flow.proofs.FaultsLaw.{image_faults_are_one}
+use Rattle.law_flow.proofs.HierarchyLaw.{linked_classes_are_hierarchies}
 use Rattle.dv_lex.specs.declared.line.Stop.{Stop}
 use Rattle.dv_lex.specs.Lines.{reading_of}
 use Rattle.dv_print.specs.Listing.{class_text}
@@ -17,9 +17,9 @@ use Rattle.dv_classread.specs.Programs.{program_of}
 use Rattle.dv_console.specs.declared.refusals.Refusal.{Refusal}
 use Rattle.dv_console.specs.declared.refusals.Refusal.TheVariants as refusal
 use Rattle.dv_console.specs.Refusals.{refusal_text}
-use Rattle.dv_program.specs.declared.program.Scheduled.{Scheduled}
-use Rattle.dv_program.specs.Images.{image_in, main_in, scheduled_in}
-use Rattle.dv_program.proofs.LinkedTexts.{scheduled_texts_give_images, texts_give_images}
+use Rattle.dv_load.specs.declared.program.Scheduled.{Scheduled}
+use Rattle.dv_load.specs.Images.{image_in, main_in, scheduled_in}
+use Rattle.dv_load.proofs.LinkedTexts.{scheduled_texts_give_images, texts_give_images}
 use Rattle.dv_machine.specs.Final.{final_text}
 use Rattle.dv_machine.specs.Replaying.{Replayed, Stands, replay}
 use Rattle.dv_machine.specs.Running.{ending_of}

@@ -25,8 +25,8 @@ use Rattle.dv_classread.specs.Assembling.{classes_of}
 use Rattle.dv_classread.specs.Programs.{Drafts, assembled_drafts, by_cut, drafts_in, drafts_of, program_of, text_end, with_schedule, without_schedule}
 use Rattle.dv_classread.specs.Schedules.{Cut, and_entry, cut_at_schedule, end_with, entry_by, entry_in, field_in, first_behind, in_range, log_from, log_line, log_line_by, log_said, log_with, nothing_behind, schedule_from}
 use Rattle.dv_console.specs.declared.refusals.Refusal.{Refusal}
-use Rattle.dv_program.specs.declared.program.Scheduled.{Scheduled}
-use Rattle.dv_program.specs.Images.{by_scheduled, image_of, scheduled_in, with_log}
+use Rattle.dv_load.specs.declared.program.Scheduled.{Scheduled}
+use Rattle.dv_load.specs.Images.{by_scheduled, image_of, scheduled_in, with_log}
 use Rattle.dv_top.specs.Answering.{IsEntry}
 
 -- ---- what is read behind what

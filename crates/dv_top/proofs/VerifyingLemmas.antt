@@ -1,20 +1,20 @@
 -- What is said of a program that is to be verified: what its parts give together, that it is one thing, and that it is exact.
 use Rattle.std.proofs.Common.{◌≡◌, ℕ, ◌<◌, ◌≤◌, List, length, Ok, Err, arith, ap, sym, subst, ◌∙◌}
 use Rattle.dv_defs.specs.declared.faults.Fault.{Fault}
-use Rattle.dv_defs.specs.Accepting.{Accepts, AreImageFaults}
+use Rattle.dv_typing.specs.Accepting.{Accepts, AreImageFaults}
 use Rattle.dv_defs.specs.Images.{Image}
-use Rattle.dv_flowlaws.proofs.FaultsLaw.{image_faults_are_one}
-use Rattle.dv_flowlaws.proofs.HierarchyLaw.{linked_classes_are_hierarchies}
+use Rattle.law_flow.proofs.FaultsLaw.{image_faults_are_one}
+use Rattle.law_flow.proofs.HierarchyLaw.{linked_classes_are_hierarchies}
 use Rattle.dv_console.specs.declared.refusals.Refusal.{Refusal}
 use Rattle.dv_console.specs.Faults.{accepted_text}
 use Rattle.dv_console.specs.Refusals.{refusal_text}
-use Rattle.dv_program.specs.declared.errors.ProgramError.{ProgramError}
-use Rattle.dv_program.specs.declared.errors.ProgramError.TheVariants as program
-use Rattle.dv_program.specs.Images.{Answers, image_in}
+use Rattle.dv_load.specs.declared.errors.ProgramError.{ProgramError}
+use Rattle.dv_load.specs.declared.errors.ProgramError.TheVariants as program
+use Rattle.dv_load.specs.Images.{Answers, image_in}
 use Rattle.dv_pverify.specs.declared.errors.VerifyError.{VerifyError}
 use Rattle.dv_pverify.specs.declared.errors.VerifyError.TheVariants as verify
 use Rattle.dv_pverify.specs.Errors.{IfFaults}
-use Rattle.dv_program.proofs.LinkedTexts.{texts_give_images}
+use Rattle.dv_load.proofs.LinkedTexts.{texts_give_images}
 use Rattle.dv_top.specs.declared.status.Status.{Status}
 use Rattle.dv_top.specs.declared.status.Status.TheVariants as exit
 use Rattle.dv_top.specs.Answering.{IsReadOf}

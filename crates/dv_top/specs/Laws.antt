@@ -2,11 +2,11 @@
 use Rattle.std.specs.Prelude.{ℕ, ◌≡◌, ◌≤◌, ◌↔◌, Bool, List, length, Option, Some, Result, Ok, Err}
 use Rattle.dv_defs.specs.declared.run.Entry.{Entry}
 use Rattle.dv_defs.specs.declared.run.Limits.{Limits}
-use Rattle.dv_defs.specs.Accepting.{Accepts}
+use Rattle.dv_typing.specs.Accepting.{Accepts}
 use Rattle.dv_defs.specs.Images.{Image}
 use Rattle.dv_defs.specs.Pools.{Method}
 use Rattle.dv_console.specs.declared.refusals.Refusal.{Refusal}
-use Rattle.dv_program.specs.Images.{image_in}
+use Rattle.dv_load.specs.Images.{image_in}
 use Rattle.dv_machine.specs.Replaying.{replay}
 use Rattle.dv_top.specs.declared.program.Program.{Program}
 use Rattle.dv_top.specs.declared.status.Status.TheVariants as exit

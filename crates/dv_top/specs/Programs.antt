@@ -4,8 +4,8 @@ use Rattle.dv_defs.specs.declared.names.MethodId.{MethodId}
 use Rattle.dv_defs.specs.declared.run.Entry.{Entry}
 use Rattle.dv_defs.specs.Images.{Image}
 use Rattle.dv_console.specs.declared.refusals.Refusal.{Refusal}
-use Rattle.dv_program.specs.declared.program.Scheduled.{Scheduled}
-use Rattle.dv_program.specs.Images.{image_in, main_in, scheduled_in}
+use Rattle.dv_load.specs.declared.program.Scheduled.{Scheduled}
+use Rattle.dv_load.specs.Images.{image_in, main_in, scheduled_in}
 use Rattle.dv_top.specs.declared.program.Program.{Program}
 
 abbrev pub with_main : Image → List Entry → Result MethodId Refusal → Result Program Refusal

@@ -4,7 +4,7 @@ use Rattle.std.specs.List.{flat_map}
 use Rattle.dv_defs.specs.declared.faults.Fault.{Fault}
 use Rattle.dv_defs.specs.declared.run.Entry.{Entry}
 use Rattle.dv_defs.specs.declared.run.Limits.{Limits}
-use Rattle.dv_defs.specs.Accepting.{Accepts, AreImageFaults}
+use Rattle.dv_typing.specs.Accepting.{Accepts, AreImageFaults}
 use Rattle.dv_defs.specs.Images.{Image}
 use Rattle.dv_defs.specs.Pools.{Method, method_at}
 use Rattle.dv_lex.specs.declared.line.Stop.{Stop}
@@ -16,7 +16,7 @@ use Rattle.dv_console.specs.declared.refusals.Refusal.{Refusal}
 use Rattle.dv_console.specs.declared.refusals.Refusal.TheVariants as refusal
 use Rattle.dv_console.specs.Faults.{accepted_text, fault_text}
 use Rattle.dv_console.specs.Refusals.{refusal_text}
-use Rattle.dv_program.specs.Images.{image_in}
+use Rattle.dv_load.specs.Images.{image_in}
 use Rattle.dv_machine.specs.Replaying.{replay}
 use Rattle.dv_top.specs.declared.program.Program.{Program}
 use Rattle.dv_top.specs.declared.status.Status.{Status}

@@ -1,12 +1,12 @@
 // The program of a text: its image, its main method, and the schedule at its end.
 ghost use Rattle.std.specs.Prelude.{◌≡◌, ◌<◌, ◌-◌, ◌^◌, All, IfOk, length};
-ghost use Rattle.dv_program.specs.Images.{Answers, main_in};
+ghost use Rattle.dv_load.specs.Images.{Answers, main_in};
 ghost use Rattle.dv_sound.specs.Runs.{HasMain};
 ghost use Rattle.dv_top.specs.Answering.{IsEntry};
 ghost use Rattle.dv_top.specs.Programs.{program_to_replay, program_to_run, with_main};
 
 use dv_defs::{Entry, Image, MethodId, Seq, Text};
-use dv_program::{ProgramError, Scheduled, main_method, read_program, read_scheduled};
+use dv_load::{ProgramError, Scheduled, main_method, read_program, read_scheduled};
 use std::alloc::Global;
 
 /// A program that is to be run: the main method of a class, and the schedule that stands behind the classes, which is empty where none may.

@@ -10,7 +10,7 @@ use crate::printing::fault_lines;
 use crate::reading::TEXT_LIMIT;
 use crate::status::Status;
 use dv_console::{Refusal, refusal_line};
-use dv_program::ProgramError;
+use dv_load::ProgramError;
 use dv_pverify::VerifyError;
 use std::alloc::{AllocError, Global};
 

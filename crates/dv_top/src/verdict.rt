@@ -1,7 +1,7 @@
 // The reply to a text that is to be verified.
 ghost use Rattle.std.specs.Prelude.{◌≡◌, ◌≢◌, ◌≤◌, ℕ, List, Ok, IfOk, length};
 ghost use Rattle.dv_console.specs.Faults.{accepted_text};
-ghost use Rattle.dv_program.specs.Images.{image_in};
+ghost use Rattle.dv_load.specs.Images.{image_in};
 ghost use Rattle.dv_top.specs.Answering.{IsTold, IsReadOf};
 ghost use Rattle.dv_top.specs.Said.{IsSaidOfVerifying, text_limit};
 ghost use Rattle.dv_top.specs.Status.{code_of};
@@ -11,7 +11,7 @@ use crate::reply::{Reply, faulty, fixed, is_too_large, no_program};
 use crate::status::Status;
 use dv_console::accepted_line;
 use dv_defs::Image;
-use dv_program::read_program;
+use dv_load::read_program;
 use dv_pverify::verify_one_by_one;
 use std::alloc::{AllocError, Global};
 

@@ -3,10 +3,10 @@ use Rattle.std.proofs.Common.{◌≡◌, ℕ, zero, suc, ◌↔◌, Bool, true, 
 use Rattle.std.proofs.lemmas.Bool.{and_parts, and_from}
 use Rattle.dv_defs.specs.declared.names.Ty.{Ty}
 use Rattle.dv_defs.specs.Images.{Image}
-use Rattle.dv_defs.specs.declared.typing.PendingType.{PendingType}
-use Rattle.dv_defs.specs.declared.typing.PendingType.TheVariants as pend
-use Rattle.dv_defs.specs.declared.typing.RegState.{RegState}
-use Rattle.dv_defs.specs.RegTypes.{Types, type_at, under, UnderPending, UnderCaught, IsBelow}
+use Rattle.dv_typing.specs.declared.typing.PendingType.{PendingType}
+use Rattle.dv_typing.specs.declared.typing.PendingType.TheVariants as pend
+use Rattle.dv_typing.specs.declared.typing.RegState.{RegState}
+use Rattle.dv_typing.specs.RegTypes.{Types, type_at, under, UnderPending, UnderCaught, IsBelow}
 use Rattle.dv_types.specs.Under.{regs_under, pending_under, caught_under, state_under}
 use Rattle.dv_types.proofs.Same.{type_is, type_same}
 

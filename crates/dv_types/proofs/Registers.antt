@@ -2,9 +2,9 @@
 use Rattle.std.proofs.Common.{◌≡◌, ◌≢◌, ℕ, suc, ◌+◌, ◌<◌, ◌≤◌, Bool, true, false, ◌&&◌, List, [], ◌∷◌, length, drop, refl, sym, ap, ◌∙◌, arith, get_or, add-one, drop-cons}
 use Rattle.std.proofs.lemmas.List.{drop_all}
 use Rattle.dv_defs.specs.Images.{Image}
-use Rattle.dv_defs.specs.declared.typing.RegType.{RegType}
-use Rattle.dv_defs.specs.RegTypes.{Types, under}
-use Rattle.dv_defs.specs.Joins.{join_type, joined}
+use Rattle.dv_typing.specs.declared.typing.RegType.{RegType}
+use Rattle.dv_typing.specs.RegTypes.{Types, under}
+use Rattle.dv_typing.specs.Joins.{join_type, joined}
 use Rattle.dv_types.specs.Under.{regs_under}
 
 -- the rest of a list from an item on

@@ -7,14 +7,14 @@ use Rattle.dv_defs.specs.declared.names.Base.{Base}
 use Rattle.dv_defs.specs.declared.names.Base.TheVariants as base
 use Rattle.dv_defs.specs.declared.names.Ty.{Ty}
 use Rattle.dv_defs.specs.Images.{Image}
-use Rattle.dv_defs.specs.declared.typing.RegType.{RegType}
-use Rattle.dv_defs.specs.declared.typing.RegType.TheVariants as ty
+use Rattle.dv_typing.specs.declared.typing.RegType.{RegType}
+use Rattle.dv_typing.specs.declared.typing.RegType.TheVariants as ty
 use Rattle.dv_defs.specs.contracts.names.TyPartialEq.TheImpl as of_type
-use Rattle.dv_defs.specs.contracts.typing.RegTypePartialEq.TheImpl as of_register
+use Rattle.dv_typing.specs.contracts.typing.RegTypePartialEq.TheImpl as of_register
 use Rattle.dv_defs.specs.Types.{base_eq, ty_eq}
-use Rattle.dv_defs.specs.RegTypes.{under}
+use Rattle.dv_typing.specs.RegTypes.{under}
 use Rattle.dv_defs.specs.Order.{sub, under_type}
-use Rattle.dv_defs.specs.Joins.{same_type, join_type}
+use Rattle.dv_typing.specs.Joins.{same_type, join_type}
 use Rattle.dv_defs.proofs.Keys.{type_keys}
 
 -- ---- what `==` finds

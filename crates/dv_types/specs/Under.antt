@@ -2,12 +2,12 @@
 use Rattle.std.specs.Prelude.{Bool, true, false, ◌&&◌, ◌||◌, not, [], ◌∷◌, Option, Some, None}
 use Rattle.dv_defs.specs.declared.names.Ty.{Ty}
 use Rattle.dv_defs.specs.Images.{Image}
-use Rattle.dv_defs.specs.declared.typing.PendingType.{PendingType}
-use Rattle.dv_defs.specs.declared.typing.PendingType.TheVariants as pend
-use Rattle.dv_defs.specs.declared.typing.RegState.{RegState}
+use Rattle.dv_typing.specs.declared.typing.PendingType.{PendingType}
+use Rattle.dv_typing.specs.declared.typing.PendingType.TheVariants as pend
+use Rattle.dv_typing.specs.declared.typing.RegState.{RegState}
 use Rattle.dv_defs.specs.Order.{sub}
-use Rattle.dv_defs.specs.RegTypes.{Types, under}
-use Rattle.dv_defs.specs.Joins.{same_type}
+use Rattle.dv_typing.specs.RegTypes.{Types, under}
+use Rattle.dv_typing.specs.Joins.{same_type}
 
 -- equally many registers, each under the other's
 abbrev pub regs_under : Image → Types → Types → Bool

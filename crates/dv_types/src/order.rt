@@ -1,9 +1,10 @@
 // The order of register types and of states (AOSP, "Dalvik bytecode constraints"; JVMS 4.10.1.2).
 ghost use Rattle.std.specs.Prelude.{◌≡◌, ◌↔◌, IsTrue};
-ghost use Rattle.dv_defs.specs.RegTypes.{under, IsBelow};
+ghost use Rattle.dv_typing.specs.RegTypes.{under, IsBelow};
 ghost use Rattle.dv_types.specs.Under.{caught_under, pending_under, regs_under, state_under};
 
-use dv_defs::{Image, PendingType, RegState, RegType, Ty};
+use dv_typing::{PendingType, RegState, RegType};
+use dv_defs::{Image, Ty};
 use dv_image::sub;
 
 /// Whether a register type is under another: each value of the one is one of the other.

@@ -12,7 +12,7 @@ use Rattle.dv_defs.specs.declared.image.ClassInfo.{ClassInfo}
 use Rattle.dv_defs.specs.First.{first_below, first_in, when}
 use Rattle.dv_defs.specs.LinkFaults.{LinkTest, Fails, fault_at, first_fault_by, found, same_method, method_twice, is_number}
 use Rattle.dv_defs.specs.Linked.{defs}
-use Rattle.dv_linklaws.proofs.First.{first_below_found, first_below_more}
+use Rattle.law_linking.proofs.First.{first_below_found, first_below_more}
 use Rattle.dv_hier.proofs.AboveLaws.{classes_more, classes_told}
 use Rattle.dv_hier.proofs.Twice.{first_here, first_before, some_place, some_of, none_of}
 use Rattle.dv_vtable.specs.declared.keys.MethodKey.{MethodKey}

@@ -10,7 +10,7 @@ use Rattle.dv_defs.specs.declared.names.FieldId.{FieldId}
 use Rattle.dv_defs.specs.declared.names.MethodId.{MethodId}
 use Rattle.dv_defs.specs.declared.image.ClassInfo.{ClassInfo}
 use Rattle.dv_defs.specs.declared.image.MethodInfo.{MethodInfo}
-use Rattle.dv_linklaws.proofs.Members.{method_info}
+use Rattle.law_linking.proofs.Members.{method_info}
 use Rattle.dv_vtable.specs.Chains.{first_method}
 
 first_more : (cs : List ClassInfo) (i : ℕ) (c : ClassInfo) → slice_get cs i ≡ Some c

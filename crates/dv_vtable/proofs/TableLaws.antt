@@ -19,8 +19,8 @@ use Rattle.dv_defs.specs.Pools.{Method, methods_of, nearest, parent_at, walk, su
 use Rattle.dv_defs.specs.Numbering.{all_methods_declared}
 use Rattle.dv_defs.specs.Linked.{defs, callable_along, entry, table_at, class_with_table, tabled}
 use Rattle.dv_hier.specs.Slots.{walked}
-use Rattle.dv_linklaws.proofs.First.{first_below_none, when_none}
-use Rattle.dv_linklaws.proofs.Members.{HasMethods}
+use Rattle.law_linking.proofs.First.{first_below_none, when_none}
+use Rattle.law_linking.proofs.Members.{HasMethods}
 use Rattle.dv_vtable.specs.Chains.{same_key, key_in, chain_of, chain_table, table_of, tables_below, info_with}
 use Rattle.dv_vtable.proofs.Inserting.{like}
 use Rattle.dv_vtable.proofs.SameKeys.{key_laws}

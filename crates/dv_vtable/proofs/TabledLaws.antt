@@ -13,15 +13,15 @@ use Rattle.dv_defs.specs.Numbering.{declared, numbered, all_methods_declared, na
 use Rattle.dv_defs.specs.declared.faults.LinkError.{LinkError}
 use Rattle.dv_defs.specs.LinkFaults.{Fails, found, fault_at, tested, first_fault_by, boot_fault, limit_fault, is_twice, method_twice, wrong_methods}
 use Rattle.dv_defs.specs.Linked.{defs, slotted, tabled, class_with_table, table_at, first_phases, method_phase, AreNamed, HasValues}
-use Rattle.dv_linklaws.specs.Stripped.{AreInRange, stripped, class_stripped, method_info_stripped, field_info_stripped}
-use Rattle.dv_linklaws.proofs.First.{or_none, map_none, first_below_none}
-use Rattle.dv_linklaws.proofs.Alike.{stripped_slotted}
-use Rattle.dv_linklaws.proofs.AlikeFaults.{alike_wrong_methods}
-use Rattle.dv_linklaws.proofs.AlikeImages.{AreAlike, alike_slotted}
-use Rattle.dv_linklaws.proofs.Bounds.{few_classes, few_methods}
-use Rattle.dv_linklaws.proofs.FromPhases.{phases_ordered}
-use Rattle.dv_linklaws.proofs.OrderedImages.{ordered_alike}
-use Rattle.dv_linklaws.proofs.AlikeTables.{alike_table_at}
+use Rattle.law_linking.specs.Stripped.{AreInRange, stripped, class_stripped, method_info_stripped, field_info_stripped}
+use Rattle.law_linking.proofs.First.{or_none, map_none, first_below_none}
+use Rattle.law_linking.proofs.Alike.{stripped_slotted}
+use Rattle.law_linking.proofs.AlikeFaults.{alike_wrong_methods}
+use Rattle.law_linking.proofs.AlikeImages.{AreAlike, alike_slotted}
+use Rattle.law_linking.proofs.Bounds.{few_classes, few_methods}
+use Rattle.law_linking.proofs.FromPhases.{phases_ordered}
+use Rattle.law_linking.proofs.OrderedImages.{ordered_alike}
+use Rattle.law_linking.proofs.AlikeTables.{alike_table_at}
 use Rattle.dv_hier.specs.Hierarchies.{HierarchyValue, IsHierarchy, without_table, without_tables, hierarchy_of}
 use Rattle.dv_hier.proofs.Built.{defs_slotted}
 use Rattle.dv_vtable.specs.Tables.{TabledValue, IsTabled, tabled_of}

@@ -6,7 +6,7 @@ ghost use Rattle.dv_defs.specs.Images.{Image};
 ghost use Rattle.dv_defs.specs.LinkFaults as spec;
 ghost use Rattle.dv_defs.specs.LinkFaults.{Checks, found, overrides_final};
 ghost use Rattle.dv_defs.specs.Names.{init_name};
-ghost use Rattle.dv_linklaws.specs.Stripped.{AreInRange};
+ghost use Rattle.law_linking.specs.Stripped.{AreInRange};
 ghost use Rattle.dv_vtable.specs.declared.keys.MethodKey.{MethodKey as Key};
 ghost use Rattle.dv_vtable.specs.Finals.{final_above, has_final};
 

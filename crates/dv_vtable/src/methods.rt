@@ -6,7 +6,7 @@ ghost use Rattle.dv_defs.specs.First.{first_below};
 ghost use Rattle.dv_defs.specs.Images.{Image};
 ghost use Rattle.dv_defs.specs.LinkFaults.{Checks, first_fault_by, found, method_twice as first_twice, wrong_methods};
 ghost use Rattle.dv_defs.specs.Linked.{defs};
-ghost use Rattle.dv_linklaws.specs.Stripped.{AreInRange};
+ghost use Rattle.law_linking.specs.Stripped.{AreInRange};
 ghost use Rattle.dv_vtable.specs.declared.keys.MethodKey.{MethodKey as Key};
 
 use crate::bodies::check_bodies;

@@ -6,7 +6,7 @@ ghost use Rattle.dv_defs.specs.Images.{Image};
 ghost use Rattle.dv_defs.specs.LinkFaults.{method_twice};
 ghost use Rattle.dv_defs.specs.Linked.{defs, tabled};
 ghost use Rattle.dv_defs.specs.Numbering.{all_methods_declared};
-ghost use Rattle.dv_linklaws.specs.Stripped.{AreInRange};
+ghost use Rattle.law_linking.specs.Stripped.{AreInRange};
 ghost use Rattle.dv_vtable.specs.Chains as spec;
 
 use crate::chains::{chain_of, table_of};

@@ -1,4 +1,0 @@
-pub mod Erasing
-pub mod Frames
-pub mod Heaps
-pub mod Machines

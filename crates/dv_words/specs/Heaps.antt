@@ -2,7 +2,7 @@
 use Rattle.std.specs.Prelude.{◌<◌, ◌≤◌, ℕ, zero, suc, pred, ◌+◌, ◌*◌, ◌/◌, ◌++◌, Bool, true, false, List, [], ◌∷◌, length, map, replicate, Option, Some, None, slice_get, slice_set, slice_index_or, nat_le, bytes_eq}
 use Rattle.dv_defs.specs.declared.names.Ty.{Ty}
 use Rattle.dv_defs.specs.Images.{Image}
-use Rattle.dv_defs.specs.Heap.{class_cells, found_among}
+use Rattle.dv_machine.specs.Heap.{class_cells, found_among}
 use Rattle.dv_defs.specs.Types.{component, ty_eq, words_of}
 use Rattle.dv_machine.specs.Opening.{field_cells}
 use Rattle.dv_words.specs.declared.state.Kind.{Kind}

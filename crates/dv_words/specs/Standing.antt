@@ -1,16 +1,16 @@
 -- The tagged values, frames and heaps that words stand for, by cases.
 use Rattle.std.specs.Prelude.{◌≡◌, ◌<◌, ◌^◌, ℕ, List, [], ◌∷◌, ℤ, pos, negsuc, Option, Some, None, All, map}
 use Rattle.std.specs.List.{AllZip}
-use Rattle.dv_defs.specs.declared.run.Value.{Value}
-use Rattle.dv_defs.specs.declared.run.Value.TheVariants as v
-use Rattle.dv_defs.specs.declared.machine.Frame as tagged
-use Rattle.dv_defs.specs.declared.machine.Kind as tagged_kind
-use Rattle.dv_defs.specs.declared.machine.Kind.TheVariants as kind_of_tagged
-use Rattle.dv_defs.specs.declared.machine.Level as tagged_level
-use Rattle.dv_defs.specs.declared.machine.Level.TheVariants as level_of_tagged
-use Rattle.dv_defs.specs.declared.machine.Pending.{Pending}
-use Rattle.dv_defs.specs.declared.machine.Pending.TheVariants as pending
-use Rattle.dv_defs.specs.Heap.{Heap}
+use Rattle.dv_machine.specs.Value.{Value}
+use Rattle.dv_machine.specs.Value as v
+use Rattle.dv_machine.specs.Frame as tagged
+use Rattle.dv_machine.specs.Kind as tagged_kind
+use Rattle.dv_machine.specs.Kind as kind_of_tagged
+use Rattle.dv_machine.specs.Level as tagged_level
+use Rattle.dv_machine.specs.Level as level_of_tagged
+use Rattle.dv_machine.specs.Pending.{Pending}
+use Rattle.dv_machine.specs.Pending as pending
+use Rattle.dv_machine.specs.Heap.{Heap}
 use Rattle.dv_machine.specs.State.{Machine, Shared, Thread}
 use Rattle.dv_words.specs.declared.state.Frame.{Frame}
 use Rattle.dv_words.specs.declared.state.Kept.{Kept}

@@ -3,8 +3,8 @@ use Rattle.std.specs.Prelude.{ℕ, List, Option}
 use Rattle.dv_defs.specs.declared.machine.End.{End}
 use Rattle.dv_defs.specs.declared.run.Ending.{Ending}
 use Rattle.dv_defs.specs.declared.run.Limits.{Limits}
-use Rattle.dv_defs.specs.Classes.{Classes}
-use Rattle.dv_defs.specs.Monitors.{Monitors}
+use Rattle.dv_machine.specs.Classes.{Classes}
+use Rattle.dv_machine.specs.Monitors.{Monitors}
 use Rattle.dv_words.specs.declared.state.Kind.{Kind}
 use Rattle.dv_words.specs.declared.state.Level.{Level}
 

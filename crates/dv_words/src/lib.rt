@@ -2,7 +2,6 @@
 //! erasure, which ties them to the tagged machine.
 #![tactic(auto)]
 
-pub mod laws;
 mod state;
 
 pub use state::{Frame, Kept, Kind, Level};

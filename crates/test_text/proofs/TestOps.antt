@@ -4,10 +4,10 @@ use Rattle.dv_defs.specs.declared.code.Insn.{Insn}
 use Rattle.dv_defs.specs.Families.{pool_at}
 use Rattle.dv_defs.specs.Formats.{format_at}
 use Rattle.dv_defs.specs.Spelling.{insn_eq}
-use Rattle.dv_asm.specs.declared.draft.Draftop.{Draftop}
-use Rattle.dv_asm.specs.declared.draft.PoolRef.{PoolRef}
-use Rattle.dv_asm.specs.declared.draft.PoolRef.TheVariants as pool
-use Rattle.dv_asm.specs.Draft.{IsOp}
+use Rattle.dv_draft.specs.declared.draft.Draftop.{Draftop}
+use Rattle.dv_draft.specs.declared.draft.PoolRef.{PoolRef}
+use Rattle.dv_draft.specs.declared.draft.PoolRef.TheVariants as pool
+use Rattle.dv_draft.specs.Draft.{IsOp}
 
 abbrev pub insn_of : ℕ → ℕ → ℕ → ℕ → Insn
 insn_of op count a b = record { op = op; regs = record { count = count; first = a ∷ b ∷ 0 ∷ 0 ∷ 0 ∷ []; range = false }; lit = pos 0; off = pos 0; index = 0 }

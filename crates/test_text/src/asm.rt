@@ -1,8 +1,9 @@
 // What no text of a program shows. All else of assembling is in `cases/reading`.
 ghost use Rattle.std.specs.Prelude.{◌≡◌, ◌≤◌, ◌∷◌, [], false, pos};
-ghost use Rattle.dv_asm.specs.Draft.{IsFormed, IsOp};
+ghost use Rattle.dv_draft.specs.Draft.{IsFormed, IsOp};
 
-use dv_asm::{Catch, Draft, Draftop, Item, PoolRef, What, assemble, units_are_items};
+use dv_draft::{Catch, Draft, Draftop, Item, PoolRef, What};
+use dv_asm::{assemble, units_are_items};
 use dv_defs::{Body, Chars, Insn, LineError, LineKind, Regs, Seq, Text};
 use std::alloc::{AllocError, Global};
 use std::marker::Model;
@@ -18,8 +19,8 @@ struct Making {
 
 impl Model for Making {
     ghost use Rattle.std.specs.Prelude.{List};
-    ghost use Rattle.dv_asm.specs.declared.draft.Item.{Item};
-    ghost use Rattle.dv_asm.specs.Draft.{AreFormed};
+    ghost use Rattle.dv_draft.specs.declared.draft.Item.{Item};
+    ghost use Rattle.dv_draft.specs.Draft.{AreFormed};
 
     ghost Value = { List Item };
 

@@ -1,7 +1,7 @@
 // What of an image, of a schedule and of a main method no text shows. What is refused is told by the cases of `cases/top`.
 use dv_console::Refusal;
 use dv_defs::{Entry, Image, LinkKind};
-use dv_program::{ProgramError, Scheduled, main_method, read_program, read_scheduled};
+use dv_load::{ProgramError, Scheduled, main_method, read_program, read_scheduled};
 use std::alloc::{AllocError, Global};
 use std::process::Abort;
 use std::test::Fail;

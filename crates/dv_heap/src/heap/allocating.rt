@@ -1,6 +1,6 @@
 // New objects, and strings and Class objects that stand once.
 ghost use Rattle.std.specs.Prelude.{◌≡◌, ◌<◌, ◌≤◌, ℕ, ◌+◌, ◌^◌, [], length, slice_index, replicate, true, false, IfOk, IfErr, OnErr, Some, None, Ok};
-ghost use Rattle.dv_defs.specs.Heap.{found_among};
+ghost use Rattle.dv_machine.specs.Heap.{found_among};
 ghost use Rattle.dv_words.specs.Heaps as heaps;
 ghost use Rattle.dv_words.specs.Heaps.{has_room, counted_by, newest, cost_of_object, cost_of_array, is_text, is_class_of};
 ghost use Rattle.dv_heap.specs.Answers.{IsGot, newest_of, grown_to};

@@ -4,7 +4,7 @@ use Rattle.std.specs.Option.{option_or}
 use Rattle.dv_defs.specs.declared.faults.LineKind.{LineKind}
 use Rattle.dv_defs.specs.declared.faults.LineKind.TheVariants as kind
 use Rattle.dv_defs.specs.Spelling.{all_fit}
-use Rattle.dv_asm.specs.Draft.{DraftValue, AreFormed}
+use Rattle.dv_draft.specs.Draft.{DraftValue, AreFormed}
 use Rattle.dv_asm.specs.Refusals.{refused, label_refusal, item_refusal, refusal}
 use Rattle.dv_asm.specs.Layout.{layout}
 use Rattle.dv_print.specs.Drafting.{draft_of}

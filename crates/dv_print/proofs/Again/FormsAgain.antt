@@ -9,16 +9,17 @@ use Rattle.dv_defs.specs.Families.{pool_at}
 use Rattle.dv_defs.specs.Formats.{format_at, has_offset, offset_bits}
 use Rattle.dv_defs.specs.Numbers.{jump}
 use Rattle.dv_defs.specs.Spelling.{plain, few, spelling, insn_eq, fits_signed}
-use Rattle.dv_asm.specs.declared.draft.Item.{Item}
-use Rattle.dv_asm.specs.declared.draft.Draftop.{Draftop}
-use Rattle.dv_asm.specs.declared.draft.PoolRef.{PoolRef}
-use Rattle.dv_asm.specs.declared.draft.What.{What}
-use Rattle.dv_asm.specs.declared.draft.What.TheVariants as what
-use Rattle.dv_asm.specs.Draft.{DraftValue, AreFormed, IsFormed, IsOp, is_entry, kind_of_entry, blank}
+use Rattle.dv_draft.specs.declared.draft.Item.{Item}
+use Rattle.dv_draft.specs.declared.draft.Draftop.{Draftop}
+use Rattle.dv_draft.specs.declared.draft.PoolRef.{PoolRef}
+use Rattle.dv_draft.specs.declared.draft.What.{What}
+use Rattle.dv_draft.specs.declared.draft.What.TheVariants as what
+use Rattle.dv_draft.specs.Draft.{DraftValue, AreFormed, IsFormed, IsOp, is_entry, kind_of_entry, blank}
 use Rattle.dv_asm.specs.Items.{item_at, no_item, is_label}
 use Rattle.dv_asm.specs.Places.{address_of, distance}
 use Rattle.dv_asm.specs.Refusals.{is_over_registers, register_range, register_range_at, offset_fits, is_over_offset, offset_range, offset_range_at, item_refusal, has_label_if_any, has_labels, refused, repeated, too_long}
-use Rattle.dv_asm.specs.Layout.{insn_of, offset_of, base_of, pools_of, layout}
+use Rattle.dv_draft.specs.Pools.{pools_of}
+use Rattle.dv_asm.specs.Layout.{insn_of, offset_of, base_of, layout}
 use Rattle.dv_asm.proofs.FirstLemmas.{first_line_none, not_when}
 use Rattle.dv_defs.specs.declared.faults.LineKind.TheVariants as kind
 use Rattle.dv_print.specs.Numbers.{label_name}

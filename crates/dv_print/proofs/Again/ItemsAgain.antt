@@ -5,15 +5,16 @@ use Rattle.std.proofs.lemmas.Bool.Decides.{nat_tests}
 use Rattle.std.proofs.lemmas.List.{length-map, get_or-map}
 use Rattle.dv_defs.specs.declared.code.Payload.{Payload}
 use Rattle.dv_defs.specs.Formats.{format_at, size_at}
-use Rattle.dv_asm.specs.declared.draft.Item.{Item}
-use Rattle.dv_asm.specs.declared.draft.What.{What}
-use Rattle.dv_asm.specs.declared.draft.What.TheVariants as what
-use Rattle.dv_asm.specs.Draft.{DraftValue}
+use Rattle.dv_draft.specs.declared.draft.Item.{Item}
+use Rattle.dv_draft.specs.declared.draft.What.{What}
+use Rattle.dv_draft.specs.declared.draft.What.TheVariants as what
+use Rattle.dv_draft.specs.Draft.{DraftValue}
 use Rattle.dv_asm.specs.First.{when, any_below}
 use Rattle.dv_asm.specs.Items.{item_at, no_item, is_label, is_payload, is_switch_opcode, size_of}
 use Rattle.dv_asm.specs.Places.{address_of, end_of, size_of_all, address_named_by}
 use Rattle.dv_asm.specs.Refusals.{is_place, is_address, addresses_named, switch_of, is_payload_at, stands_payload, is_repeated, repeated_at, repeated, too_long_at, too_long}
-use Rattle.dv_asm.specs.Layout.{pools_of, layout}
+use Rattle.dv_draft.specs.Pools.{pools_of}
+use Rattle.dv_asm.specs.Layout.{layout}
 use Rattle.dv_asm.proofs.PlaceLemmas.{aligned_above}
 use Rattle.dv_print.specs.Drafting.{labels_at}
 use Rattle.dv_print.proofs.Truth.{both, either, itself, no_line}

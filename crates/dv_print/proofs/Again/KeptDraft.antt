@@ -5,12 +5,13 @@ use Rattle.dv_defs.specs.declared.code.Try.{Try}
 use Rattle.dv_defs.specs.declared.names.Ty.{Ty}
 use Rattle.dv_defs.specs.Body.{BodyValue}
 use Rattle.dv_defs.specs.Spelling.{all_fit}
-use Rattle.dv_asm.specs.declared.draft.Item.{Item}
-use Rattle.dv_asm.specs.declared.draft.Catch.{Catch}
-use Rattle.dv_asm.specs.declared.pools.Pools.{Pools}
-use Rattle.dv_asm.specs.Draft.{DraftValue, AreFormed}
+use Rattle.dv_draft.specs.declared.draft.Item.{Item}
+use Rattle.dv_draft.specs.declared.draft.Catch.{Catch}
+use Rattle.dv_draft.specs.declared.pools.Pools.{Pools}
+use Rattle.dv_draft.specs.Draft.{DraftValue, AreFormed}
 use Rattle.dv_asm.specs.Refusals.{refusal}
-use Rattle.dv_asm.specs.Layout.{pools_of, types_of, tries_of, units_of, body_of, layout}
+use Rattle.dv_draft.specs.Pools.{pools_of}
+use Rattle.dv_asm.specs.Layout.{types_of, tries_of, units_of, body_of, layout}
 use Rattle.dv_print.specs.Drafting.{catches_of_try, draft_of}
 use Rattle.dv_print.specs.Laws.{HaveNumbers}
 use Rattle.dv_print.proofs.Pools.KeptEntries.{units_are, draft_keeps_entries}

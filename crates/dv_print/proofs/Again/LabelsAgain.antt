@@ -13,15 +13,16 @@ use Rattle.dv_defs.specs.Spelling.{spelling}
 use Rattle.dv_defs.specs.Tiling.{IsPayload, Tile}
 use Rattle.dv_defs.specs.Layout.{AreTiles}
 use Rattle.dv_defs.proofs.TilingLaws.{item_positive}
-use Rattle.dv_asm.specs.declared.draft.Item.{Item}
-use Rattle.dv_asm.specs.declared.draft.Catch.{Catch}
-use Rattle.dv_asm.specs.declared.draft.Draftop.{Draftop}
-use Rattle.dv_asm.specs.declared.draft.What.{What}
-use Rattle.dv_asm.specs.declared.draft.What.TheVariants as what
-use Rattle.dv_asm.specs.Draft.{DraftValue, IsFormed, IsOp, blank}
+use Rattle.dv_draft.specs.declared.draft.Item.{Item}
+use Rattle.dv_draft.specs.declared.draft.Catch.{Catch}
+use Rattle.dv_draft.specs.declared.draft.Draftop.{Draftop}
+use Rattle.dv_draft.specs.declared.draft.What.{What}
+use Rattle.dv_draft.specs.declared.draft.What.TheVariants as what
+use Rattle.dv_draft.specs.Draft.{DraftValue, IsFormed, IsOp, blank}
 use Rattle.dv_asm.specs.First.{first_line, earlier}
 use Rattle.dv_asm.specs.Items.{item_at, no_item, is_label, is_label_named, is_named, is_payload, size_of}
-use Rattle.dv_asm.specs.Layout.{insn_of, base_of, targets_of, packed_of, sparse_of, pools_of, layout}
+use Rattle.dv_draft.specs.Pools.{pools_of}
+use Rattle.dv_asm.specs.Layout.{insn_of, base_of, targets_of, packed_of, sparse_of, layout}
 use Rattle.dv_asm.specs.Places.{address_of, end_of, label_address, distance}
 use Rattle.dv_asm.specs.Refusals.{is_place, is_second, label_twice, label_twice_at, no_label, no_label_at, no_label_of_catch_at, has_label, has_labels, has_label_if_any, catch_at, catch_has_labels}
 use Rattle.dv_asm.proofs.PlaceLemmas.{aligned_above}

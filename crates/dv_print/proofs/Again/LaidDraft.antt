@@ -8,15 +8,16 @@ use Rattle.dv_defs.specs.declared.faults.LineKind.TheVariants as kind
 use Rattle.dv_defs.specs.Numbers.{jump}
 use Rattle.dv_defs.specs.Spelling.{all_fit}
 use Rattle.dv_defs.specs.Tiling.{Tile}
-use Rattle.dv_asm.specs.declared.draft.Item.{Item}
-use Rattle.dv_asm.specs.declared.draft.Catch.{Catch}
-use Rattle.dv_asm.specs.Draft.{DraftValue, AreFormed}
+use Rattle.dv_draft.specs.declared.draft.Item.{Item}
+use Rattle.dv_draft.specs.declared.draft.Catch.{Catch}
+use Rattle.dv_draft.specs.Draft.{DraftValue, AreFormed}
 use Rattle.dv_asm.specs.Items.{item_at, is_payload}
 use Rattle.dv_asm.specs.Places.{address_of, end_of, label_address}
 use Rattle.dv_asm.specs.Refusals.{refused, label_twice, no_label, no_label_at, no_label_of_catch_at, has_label, has_labels, has_label_if_any, catch_at, catch_has_labels, repeated, label_refusal, item_refusal, range_refusal, refusal}
 use Rattle.dv_asm.specs.First.{first_line, earlier}
 use Rattle.dv_asm.proofs.FirstLemmas.{first_line_none, not_when}
-use Rattle.dv_asm.specs.Layout.{pools_of, types_of, tries_of, body_of, layout}
+use Rattle.dv_draft.specs.Pools.{pools_of}
+use Rattle.dv_asm.specs.Layout.{types_of, tries_of, body_of, layout}
 use Rattle.dv_asm.proofs.PlaceLemmas.{ends_within}
 use Rattle.dv_print.specs.declared.pieces.Piece.{Piece}
 use Rattle.dv_print.specs.Numbers.{label_name}

@@ -5,13 +5,14 @@ use Rattle.dv_defs.specs.declared.code.Payload.TheVariants as payload
 use Rattle.dv_defs.specs.Spelling.{plain, few}
 use Rattle.dv_defs.specs.Tiling as tiling
 use Rattle.dv_defs.specs.Tiling.{IsInsn, IsPayload, Tile}
-use Rattle.dv_asm.specs.declared.draft.Draftop.{Draftop}
-use Rattle.dv_asm.specs.declared.draft.What.{What}
-use Rattle.dv_asm.specs.declared.draft.What.TheVariants as what
-use Rattle.dv_asm.specs.Draft.{DraftValue}
+use Rattle.dv_draft.specs.declared.draft.Draftop.{Draftop}
+use Rattle.dv_draft.specs.declared.draft.What.{What}
+use Rattle.dv_draft.specs.declared.draft.What.TheVariants as what
+use Rattle.dv_draft.specs.Draft.{DraftValue}
 use Rattle.dv_asm.specs.Items.{item_at, is_label}
 use Rattle.dv_asm.specs.Places.{address_of}
-use Rattle.dv_asm.specs.Layout.{insn_of, packed_of, sparse_of, pools_of, layout}
+use Rattle.dv_draft.specs.Pools.{pools_of}
+use Rattle.dv_asm.specs.Layout.{insn_of, packed_of, sparse_of, layout}
 use Rattle.dv_print.specs.Pieces.{part_of}
 use Rattle.dv_print.specs.Named as named
 use Rattle.dv_print.specs.Drafting.{drafted_op, payload_item, part_item}

@@ -4,10 +4,10 @@ use Rattle.std.specs.List.{flat_map, list_any}
 use Rattle.std.proofs.lemmas.Bool.Decides.{nat_tests}
 use Rattle.dv_defs.specs.declared.code.Try.{Try}
 use Rattle.dv_defs.specs.declared.names.Ty.{Ty}
-use Rattle.dv_asm.specs.declared.draft.Item.{Item}
-use Rattle.dv_asm.specs.declared.draft.Catch.{Catch}
+use Rattle.dv_draft.specs.declared.draft.Item.{Item}
+use Rattle.dv_draft.specs.declared.draft.Catch.{Catch}
 use Rattle.dv_asm.specs.declared.tries.TryRange.{TryRange}
-use Rattle.dv_asm.specs.Draft.{DraftValue}
+use Rattle.dv_draft.specs.Draft.{DraftValue}
 use Rattle.dv_asm.specs.Places.{label_address}
 use Rattle.dv_asm.specs.Refusals.{catch_at, range_of, ranges_of, is_empty, is_same, overlaps, overlaps_earlier, try_range, try_range_at, try_overlap, try_overlap_at, range_refusal}
 use Rattle.dv_asm.specs.Layout.{sorted_ranges, types_of, handler_of, catches_of, entry_of, tries_of, body_of, layout}

@@ -9,10 +9,10 @@ use Rattle.std.proofs.lemmas.List.Folds.{list_any-append}
 use Rattle.dv_defs.specs.declared.code.Insn.{Insn}
 use Rattle.dv_defs.specs.Numbers.{jump}
 use Rattle.dv_defs.specs.Tiling.{IsInsn, Tile}
-use Rattle.dv_asm.specs.declared.draft.Item.{Item}
-use Rattle.dv_asm.specs.declared.draft.What.{What}
-use Rattle.dv_asm.specs.declared.draft.What.TheVariants as what
-use Rattle.dv_asm.specs.declared.pools.Pools.{Pools}
+use Rattle.dv_draft.specs.declared.draft.Item.{Item}
+use Rattle.dv_draft.specs.declared.draft.What.{What}
+use Rattle.dv_draft.specs.declared.draft.What.TheVariants as what
+use Rattle.dv_draft.specs.declared.pools.Pools.{Pools}
 use Rattle.dv_asm.specs.Items.{item_at, no_item, size_of, is_label, is_payload}
 use Rattle.dv_asm.specs.Places.{address_of, end_of, aligned, leads_to_payload}
 use Rattle.dv_print.specs.declared.pieces.Piece.{Piece}

@@ -4,9 +4,9 @@ use Rattle.std.proofs.lemmas.Bool.Decides.{nat_tests}
 use Rattle.dv_defs.specs.Spelling.{plain, few}
 use Rattle.dv_defs.specs.Tiling as tiling
 use Rattle.dv_defs.specs.Tiling.{IsInsn, Tile}
-use Rattle.dv_asm.specs.declared.draft.Item.{Item}
-use Rattle.dv_asm.specs.declared.draft.What.{What}
-use Rattle.dv_asm.specs.declared.pools.Pools.{Pools}
+use Rattle.dv_draft.specs.declared.draft.Item.{Item}
+use Rattle.dv_draft.specs.declared.draft.What.{What}
+use Rattle.dv_draft.specs.declared.pools.Pools.{Pools}
 use Rattle.dv_asm.specs.Items.{item_at, size_of}
 use Rattle.dv_asm.specs.Places.{address_of, end_of}
 use Rattle.dv_asm.specs.Tiles.{content_of, tiles_for, nops_between, tiles_of}

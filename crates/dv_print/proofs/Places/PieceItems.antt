@@ -10,10 +10,10 @@ use Rattle.dv_defs.specs.Tiling as tiling
 use Rattle.dv_defs.specs.Tiling.{IsInsn, IsPayload, Tile}
 use Rattle.dv_defs.specs.Layout.{item_spelling}
 use Rattle.dv_defs.proofs.PayloadLaws.{where_fits_is}
-use Rattle.dv_asm.specs.declared.draft.Item.{Item}
-use Rattle.dv_asm.specs.declared.draft.What.{What}
-use Rattle.dv_asm.specs.declared.draft.What.TheVariants as what
-use Rattle.dv_asm.specs.declared.pools.Pools.{Pools}
+use Rattle.dv_draft.specs.declared.draft.Item.{Item}
+use Rattle.dv_draft.specs.declared.draft.What.{What}
+use Rattle.dv_draft.specs.declared.draft.What.TheVariants as what
+use Rattle.dv_draft.specs.declared.pools.Pools.{Pools}
 use Rattle.dv_asm.specs.Items.{item_at, no_item, size_of, is_payload}
 use Rattle.dv_asm.specs.Places.{address_of, end_of, leads_to_payload}
 use Rattle.dv_asm.proofs.UnitLemmas.{insn_size, packed_size, sparse_size, data_size}

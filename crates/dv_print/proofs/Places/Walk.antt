@@ -2,8 +2,8 @@
 use Rattle.std.proofs.Common.{◌≡◌, ℕ, ◌+◌, ◌%◌, ◌<◌, ◌≤◌, zero, suc, Bool, true, false, ◌&&◌, List, [], ◌∷◌, length, drop, nat_eq, if◌then◌else◌, refl, ap, sym, ◌∙◌, subst, arith, drop-cons}
 use Rattle.std.proofs.lemmas.Bool.Decides.{nat_tests}
 use Rattle.std.proofs.Math.Seq.{drop-length}
-use Rattle.dv_asm.specs.declared.draft.Item.{Item}
-use Rattle.dv_asm.specs.declared.draft.What.{What}
+use Rattle.dv_draft.specs.declared.draft.Item.{Item}
+use Rattle.dv_draft.specs.declared.draft.What.{What}
 use Rattle.dv_asm.specs.Items.{item_at, no_item, size_of}
 use Rattle.dv_asm.specs.Places.{address_of, end_of, size_of_all, aligned, leads_to_payload}
 use Rattle.dv_asm.proofs.PlaceLemmas.{aligned_above}

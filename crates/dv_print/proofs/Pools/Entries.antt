@@ -14,7 +14,7 @@ use Rattle.dv_defs.specs.declared.names.Proto.{Proto}
 use Rattle.dv_defs.specs.declared.names.FieldRef.{FieldRef}
 use Rattle.dv_defs.specs.declared.names.MethodRef.{MethodRef}
 use Rattle.dv_defs.specs.Types.{base_eq, ty_eq, same_types, same_result, same_proto}
-use Rattle.dv_asm.specs.Pools.{with_entry_if_any, with_entries}
+use Rattle.dv_draft.specs.Pools.{with_entry_if_any, with_entries}
 use Rattle.dv_defs.specs.Entries.{with_entry}
 use Rattle.dv_defs.specs.Types.{field_eq, method_eq}
 use Rattle.dv_print.proofs.Truth.{both, itself as number_itself}

@@ -17,22 +17,23 @@ use Rattle.dv_defs.specs.Types.{ty_eq}
 use Rattle.dv_defs.specs.Tiling.{Tile, tiles_in}
 use Rattle.dv_defs.proofs.SpellingFormats.{begins}
 use Rattle.dv_defs.proofs.SpellingLaws.{spelled_in}
-use Rattle.dv_asm.specs.declared.draft.Item.{Item}
-use Rattle.dv_asm.specs.declared.draft.Catch.{Catch}
-use Rattle.dv_asm.specs.declared.draft.Draftop.{Draftop}
-use Rattle.dv_asm.specs.declared.draft.What.{What}
-use Rattle.dv_asm.specs.declared.draft.What.TheVariants as what
-use Rattle.dv_asm.specs.declared.draft.PoolRef.{PoolRef}
-use Rattle.dv_asm.specs.declared.draft.PoolRef.TheVariants as pool
-use Rattle.dv_asm.specs.declared.pools.Pools.{Pools}
+use Rattle.dv_draft.specs.declared.draft.Item.{Item}
+use Rattle.dv_draft.specs.declared.draft.Catch.{Catch}
+use Rattle.dv_draft.specs.declared.draft.Draftop.{Draftop}
+use Rattle.dv_draft.specs.declared.draft.What.{What}
+use Rattle.dv_draft.specs.declared.draft.What.TheVariants as what
+use Rattle.dv_draft.specs.declared.draft.PoolRef.{PoolRef}
+use Rattle.dv_draft.specs.declared.draft.PoolRef.TheVariants as pool
+use Rattle.dv_draft.specs.declared.pools.Pools.{Pools}
 use Rattle.dv_asm.specs.declared.tries.TryRange.{TryRange}
-use Rattle.dv_asm.specs.Draft.{DraftValue, AreFormed, IsFormed, IsOp, is_entry, kind_of_entry, blank}
+use Rattle.dv_draft.specs.Draft.{DraftValue, AreFormed, IsFormed, IsOp, is_entry, kind_of_entry, blank}
 use Rattle.dv_asm.specs.Items.{item_at, no_item}
 use Rattle.dv_asm.specs.Places.{address_of, end_of}
 use Rattle.dv_asm.specs.Refusals.{item_refusal}
-use Rattle.dv_asm.specs.Pools.{with_entry_if_any, with_entries, pool_ref, chars_in, type_in, field_in, method_in, chars_of, type_of, field_of, method_of, index_of}
+use Rattle.dv_draft.specs.Pools.{with_entry_if_any, with_entries, pool_ref, chars_in, type_in, field_in, method_in, chars_of, type_of, field_of, method_of, index_of}
 use Rattle.dv_defs.specs.Types.{field_eq, method_eq}
-use Rattle.dv_asm.specs.Layout.{kind_in, with_kinds, sorted_ranges, pools_of, units_of, body_of, layout}
+use Rattle.dv_draft.specs.Pools.{pools_of}
+use Rattle.dv_asm.specs.Layout.{kind_in, with_kinds, sorted_ranges, units_of, body_of, layout}
 use Rattle.dv_print.specs.declared.pieces.Piece.{Piece}
 use Rattle.dv_print.specs.Pieces.{piece_of, pieces_of}
 use Rattle.dv_print.specs.Named.{is_label_address, label_addresses}

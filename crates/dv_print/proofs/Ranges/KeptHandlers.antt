@@ -12,14 +12,15 @@ use Rattle.dv_defs.specs.declared.code.Try.{Try}
 use Rattle.dv_defs.specs.declared.faults.LineKind.TheVariants as kind
 use Rattle.dv_defs.specs.declared.names.Ty.{Ty}
 use Rattle.dv_defs.specs.Types.{ty_eq}
-use Rattle.dv_asm.specs.declared.draft.Item.{Item}
-use Rattle.dv_asm.specs.declared.draft.Catch.{Catch}
+use Rattle.dv_draft.specs.declared.draft.Item.{Item}
+use Rattle.dv_draft.specs.declared.draft.Catch.{Catch}
 use Rattle.dv_asm.specs.declared.tries.TryRange.{TryRange}
-use Rattle.dv_asm.specs.declared.pools.Pools.{Pools}
+use Rattle.dv_draft.specs.declared.pools.Pools.{Pools}
 use Rattle.dv_asm.specs.Places.{label_address}
-use Rattle.dv_asm.specs.Pools.{with_entries}
+use Rattle.dv_draft.specs.Pools.{with_entries}
 use Rattle.dv_asm.specs.Refusals.{no_catch, catch_at, range_of, ranges_of, is_empty, is_same, overlaps, overlaps_earlier, try_range, try_range_at, try_overlap, try_overlap_at, refused, range_refusal}
-use Rattle.dv_asm.specs.Layout.{sorted_ranges, kind_in, with_kinds, pools_of, types_of, handler_of, catches_of, entry_of, tries_of}
+use Rattle.dv_draft.specs.Pools.{pools_of}
+use Rattle.dv_asm.specs.Layout.{sorted_ranges, kind_in, with_kinds, types_of, handler_of, catches_of, entry_of, tries_of}
 use Rattle.dv_asm.proofs.FirstLemmas.{first_line_none, not_when}
 use Rattle.dv_print.specs.Numbers.{label_name}
 use Rattle.dv_print.specs.Drafting.{handler_type, catch_of, catches_of_try}

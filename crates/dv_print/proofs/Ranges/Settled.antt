@@ -10,11 +10,11 @@ use Rattle.dv_defs.specs.declared.code.Handler.{Handler}
 use Rattle.dv_defs.specs.declared.code.Try.{Try}
 use Rattle.dv_defs.specs.declared.names.Ty.{Ty}
 use Rattle.dv_defs.specs.Types.{ty_eq}
-use Rattle.dv_asm.specs.declared.draft.Item.{Item}
-use Rattle.dv_asm.specs.declared.draft.Catch.{Catch}
+use Rattle.dv_draft.specs.declared.draft.Item.{Item}
+use Rattle.dv_draft.specs.declared.draft.Catch.{Catch}
 use Rattle.dv_asm.specs.declared.tries.TryRange.{TryRange}
 use Rattle.dv_asm.specs.Places.{label_address}
-use Rattle.dv_asm.specs.Pools.{with_entries, with_entry_if_any}
+use Rattle.dv_draft.specs.Pools.{with_entries, with_entry_if_any}
 use Rattle.dv_asm.specs.Refusals.{range_of, ranges_of, is_same}
 use Rattle.dv_asm.specs.Layout.{sorted_ranges, with_kinds, catches_of, entry_of}
 use Rattle.dv_print.specs.Laws.{Among, After, IsSorted}

@@ -10,7 +10,7 @@ use Rattle.std.proofs.lemmas.List.Folds.{find-append, list_any-append}
 use Rattle.indexmap.specs.IndexSet.{insert_key}
 use Rattle.dv_defs.specs.Body.{BodyValue}
 use Rattle.dv_asm.specs.First.{when}
-use Rattle.dv_asm.specs.declared.draft.What.TheVariants as what
+use Rattle.dv_draft.specs.declared.draft.What.TheVariants as what
 use Rattle.dv_print.specs.declared.pieces.Piece.{Piece}
 use Rattle.dv_print.specs.Numbers.{label_name}
 use Rattle.dv_print.specs.Named.{piece_address, switches_to, is_label_address}

@@ -6,9 +6,10 @@ use Rattle.dv_defs.specs.Spelling.{all_fit}
 use Rattle.dv_defs.specs.Tiling.{Tile}
 use Rattle.dv_defs.specs.Layout.{AreTiles}
 use Rattle.dv_defs.proofs.TilingLaws.{found_tiles}
-use Rattle.dv_asm.specs.Draft.{DraftValue, AreFormed}
+use Rattle.dv_draft.specs.Draft.{DraftValue, AreFormed}
 use Rattle.dv_asm.specs.Refusals.{item_refusal}
-use Rattle.dv_asm.specs.Layout.{pools_of, body_of, layout}
+use Rattle.dv_draft.specs.Pools.{pools_of}
+use Rattle.dv_asm.specs.Layout.{body_of, layout}
 use Rattle.dv_print.specs.declared.pieces.Piece.{Piece}
 use Rattle.dv_print.specs.Pieces.{pieces_of}
 use Rattle.dv_print.specs.Named.{label_addresses}

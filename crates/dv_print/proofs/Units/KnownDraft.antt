@@ -6,14 +6,14 @@ use Rattle.std.proofs.lemmas.List.Folds.{list_any-append}
 use Rattle.std.proofs.lemmas.List.Quantifiers.{position-Some}
 use Rattle.dv_defs.specs.Body.{BodyValue}
 use Rattle.dv_defs.specs.Tiling.{Tile}
-use Rattle.dv_asm.specs.declared.draft.Item.{Item}
-use Rattle.dv_asm.specs.declared.draft.What.TheVariants as what
+use Rattle.dv_draft.specs.declared.draft.Item.{Item}
+use Rattle.dv_draft.specs.declared.draft.What.TheVariants as what
 use Rattle.dv_asm.specs.Items.{no_item, is_named}
 use Rattle.dv_asm.specs.Places.{address_of, end_of, place_of, label_address}
 use Rattle.dv_asm.specs.Refusals.{has_label, too_long}
 use Rattle.dv_print.proofs.Truth.{any_left}
 use Rattle.dv_print.proofs.Pools.Entries.{appended}
-use Rattle.dv_asm.specs.Layout.{pools_of}
+use Rattle.dv_draft.specs.Pools.{pools_of}
 use Rattle.dv_asm.proofs.PlaceLemmas.{label_within}
 use Rattle.dv_print.specs.declared.pieces.Piece.{Piece}
 use Rattle.dv_print.specs.Numbers.{label_name}

@@ -7,15 +7,16 @@ use Rattle.dv_defs.specs.declared.faults.LineKind.TheVariants as kind
 use Rattle.dv_defs.specs.Spelling.{all_fit}
 use Rattle.dv_defs.specs.Tiling.{tiling}
 use Rattle.dv_defs.proofs.TilingLaws.{tiles_found}
-use Rattle.dv_asm.specs.declared.draft.Item.{Item}
-use Rattle.dv_asm.specs.declared.draft.What.{What}
-use Rattle.dv_asm.specs.declared.draft.What.TheVariants as what
-use Rattle.dv_asm.specs.declared.pools.Pools.{Pools}
-use Rattle.dv_asm.specs.Draft.{AreFormed}
+use Rattle.dv_draft.specs.declared.draft.Item.{Item}
+use Rattle.dv_draft.specs.declared.draft.What.{What}
+use Rattle.dv_draft.specs.declared.draft.What.TheVariants as what
+use Rattle.dv_draft.specs.declared.pools.Pools.{Pools}
+use Rattle.dv_draft.specs.Draft.{AreFormed}
 use Rattle.dv_asm.specs.Items.{item_at, no_item}
 use Rattle.dv_asm.specs.Places.{address_of, end_of}
 use Rattle.dv_asm.specs.Refusals.{refused, item_refusal, repeated, register_range, offset_range, too_long, is_address, addresses_named, switch_of}
-use Rattle.dv_asm.specs.Layout.{IsWritable, AreSpelled, base_of, targets_of, spelling_of, pools_of, units_of}
+use Rattle.dv_draft.specs.Pools.{pools_of}
+use Rattle.dv_asm.specs.Layout.{IsWritable, AreSpelled, base_of, targets_of, spelling_of, units_of}
 use Rattle.dv_asm.specs.Tiles.{tiles_of}
 use Rattle.dv_asm.proofs.TileLemmas.{are_tiled}
 use Rattle.dv_asm.proofs.PayloadLemmas.{distances_fit, packed_spelled, sparse_spelled, data_spelled}

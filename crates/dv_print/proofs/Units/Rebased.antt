@@ -13,12 +13,12 @@ use Rattle.dv_defs.specs.Body.{BodyValue}
 use Rattle.dv_defs.specs.Numbers.{jump}
 use Rattle.dv_defs.specs.Tiling as tiling
 use Rattle.dv_defs.specs.Tiling.{IsInsn, IsPayload, Tile}
-use Rattle.dv_asm.specs.declared.draft.Item.{Item}
-use Rattle.dv_asm.specs.declared.draft.Draftop.{Draftop}
-use Rattle.dv_asm.specs.declared.draft.What.{What}
-use Rattle.dv_asm.specs.declared.draft.What.TheVariants as what
-use Rattle.dv_asm.specs.declared.pools.Pools.{Pools}
-use Rattle.dv_asm.specs.Draft.{AreFormed}
+use Rattle.dv_draft.specs.declared.draft.Item.{Item}
+use Rattle.dv_draft.specs.declared.draft.Draftop.{Draftop}
+use Rattle.dv_draft.specs.declared.draft.What.{What}
+use Rattle.dv_draft.specs.declared.draft.What.TheVariants as what
+use Rattle.dv_draft.specs.declared.pools.Pools.{Pools}
+use Rattle.dv_draft.specs.Draft.{AreFormed}
 use Rattle.dv_asm.specs.Items.{item_at, no_item, is_label, is_switch_opcode}
 use Rattle.dv_asm.specs.Places.{address_of, label_address, address_named_by}
 use Rattle.dv_asm.specs.Refusals.{repeated, is_address, addresses_named, switch_of}

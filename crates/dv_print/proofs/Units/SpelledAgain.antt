@@ -12,17 +12,18 @@ use Rattle.dv_defs.specs.Tiling.{IsInsn, IsPayload, Tile}
 use Rattle.dv_defs.specs.Body.{BodyValue}
 use Rattle.dv_defs.specs.Numbers.{jump}
 use Rattle.dv_defs.specs.Spelling.{spelling}
-use Rattle.dv_asm.specs.declared.draft.Item.{Item}
-use Rattle.dv_asm.specs.declared.draft.Draftop.{Draftop}
-use Rattle.dv_asm.specs.declared.draft.What.{What}
-use Rattle.dv_asm.specs.declared.draft.What.TheVariants as what
-use Rattle.dv_asm.specs.declared.pools.Pools.{Pools}
-use Rattle.dv_asm.specs.Draft.{AreFormed, IsFormed, IsOp, blank}
+use Rattle.dv_draft.specs.declared.draft.Item.{Item}
+use Rattle.dv_draft.specs.declared.draft.Draftop.{Draftop}
+use Rattle.dv_draft.specs.declared.draft.What.{What}
+use Rattle.dv_draft.specs.declared.draft.What.TheVariants as what
+use Rattle.dv_draft.specs.declared.pools.Pools.{Pools}
+use Rattle.dv_draft.specs.Draft.{AreFormed, IsFormed, IsOp, blank}
 use Rattle.dv_asm.specs.Items.{item_at, no_item, size_of, is_payload}
 use Rattle.dv_asm.specs.Places.{address_of, label_address, distance}
 use Rattle.dv_asm.specs.Refusals.{has_label, has_labels, has_label_if_any, too_long}
-use Rattle.dv_asm.specs.Pools.{index_of}
-use Rattle.dv_asm.specs.Layout.{insn_of, offset_of, base_of, targets_of, pools_of}
+use Rattle.dv_draft.specs.Pools.{index_of}
+use Rattle.dv_draft.specs.Pools.{pools_of}
+use Rattle.dv_asm.specs.Layout.{insn_of, offset_of, base_of, targets_of}
 use Rattle.dv_print.specs.declared.pieces.Piece.{Piece}
 use Rattle.dv_print.specs.Numbers.{label_name}
 use Rattle.dv_defs.specs.Families.{pool_at}

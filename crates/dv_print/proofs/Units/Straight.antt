@@ -10,10 +10,10 @@ use Rattle.dv_defs.specs.Numbers.{jump}
 use Rattle.dv_defs.specs.Spelling.{plain, few, spelling}
 use Rattle.dv_defs.specs.Tiling.{Tile}
 use Rattle.dv_defs.specs.Layout.{item_spelling}
-use Rattle.dv_asm.specs.declared.draft.Item.{Item}
-use Rattle.dv_asm.specs.declared.pools.Pools.{Pools}
-use Rattle.dv_asm.specs.Draft.{DraftValue, AreFormed, IsFormed, blank}
-use Rattle.dv_asm.specs.Pools.{index_of}
+use Rattle.dv_draft.specs.declared.draft.Item.{Item}
+use Rattle.dv_draft.specs.declared.pools.Pools.{Pools}
+use Rattle.dv_draft.specs.Draft.{DraftValue, AreFormed, IsFormed, blank}
+use Rattle.dv_draft.specs.Pools.{index_of}
 use Rattle.dv_asm.specs.Layout.{insn_of, offset_of, spelling_of}
 use Rattle.dv_print.specs.declared.pieces.Piece.{Piece}
 use Rattle.dv_print.specs.Numbers.{label_name}

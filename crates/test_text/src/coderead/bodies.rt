@@ -1,5 +1,5 @@
 // Lines of a method that the reader of classes never hands on.
-use dv_asm::Draft;
+use dv_draft::Draft;
 use dv_coderead::read_body;
 use dv_defs::{LineError, LineKind};
 use dv_lex::good_lines;

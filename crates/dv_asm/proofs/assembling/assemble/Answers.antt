@@ -1,5 +1,5 @@
 use Rattle.std.proofs.Common.{◌∙◌, ap}
-use Rattle.dv_asm.specs.Draft.{DraftValue}
+use Rattle.dv_draft.specs.Draft.{DraftValue}
 use Rattle.dv_asm.specs.Refusals.{refusal}
 use Rattle.dv_asm.proofs.Telling.{sound, refused}
 use Rattle.dv_asm.proofs.assembling.assemble.Goals as goal

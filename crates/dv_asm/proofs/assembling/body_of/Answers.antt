@@ -2,9 +2,10 @@ use Rattle.std.proofs.Common.{◌≡◌, List, Ok, length, map, refl, ap, sym, s
 use Rattle.std.proofs.lemmas.Result.{IfOk-weaker}
 use Rattle.dv_defs.specs.Body.{BodyValue}
 use Rattle.dv_defs.specs.Tiling.{tiling}
-use Rattle.dv_asm.specs.declared.draft.Item.{Item}
-use Rattle.dv_asm.specs.declared.pools.Pools.{Pools}
-use Rattle.dv_asm.specs.Layout.{AreWritable, pools_of, with_kinds, entry_of, body_with}
+use Rattle.dv_draft.specs.declared.draft.Item.{Item}
+use Rattle.dv_draft.specs.declared.pools.Pools.{Pools}
+use Rattle.dv_draft.specs.Pools.{pools_of}
+use Rattle.dv_asm.specs.Layout.{AreWritable, with_kinds, entry_of, body_with}
 use Rattle.dv_asm.specs.Ranges.{ranges_in}
 use Rattle.dv_asm.specs.Tiles.{tiles_of}
 use Rattle.dv_asm.proofs.HandlerLemmas.{is_body, is_layout}

@@ -1,9 +1,10 @@
 use Rattle.std.proofs.Common.{List, Option, Ok, length, sym, ap, subst, ◌∙◌}
 use Rattle.std.proofs.lemmas.Result.{IfOk-weaker, err_from_is_err_and}
-use Rattle.dv_asm.specs.Draft.{DraftValue, AreFormed}
-use Rattle.dv_asm.specs.declared.draft.Item.{Item}
+use Rattle.dv_draft.specs.Draft.{DraftValue, AreFormed}
+use Rattle.dv_draft.specs.declared.draft.Item.{Item}
 use Rattle.dv_asm.specs.Refusals.{Refusal, Checks}
-use Rattle.dv_asm.specs.Layout.{AreWritable, pools_of, body_of}
+use Rattle.dv_draft.specs.Pools.{pools_of}
+use Rattle.dv_asm.specs.Layout.{AreWritable, body_of}
 use Rattle.dv_asm.specs.Tiles.{tiles_of}
 use Rattle.dv_asm.proofs.Telling.{told_labels, told_items, left_ranges}
 use Rattle.dv_asm.proofs.Writing.{are_writable}

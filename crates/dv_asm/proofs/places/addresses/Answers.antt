@@ -1,7 +1,7 @@
 use Rattle.std.proofs.Common.{◌≡◌, ◌+◌, ◌%◌, ◌^◌, ◌≤◌, ◌<◌, ◌&&◌, ℕ, suc, Bool, false, List, [], ◌∷◌, ◌++◌, length, drop, get_or, nat_eq, if◌then◌else◌, ap, sym, ◌∙◌, arith, below_more, length-append}
 use Rattle.std.proofs.lemmas.List.{get_or_read, get_or_append_left}
 use Rattle.std.proofs.Math.Seq.{get_or-append_seam}
-use Rattle.dv_asm.specs.declared.draft.Item.{Item}
+use Rattle.dv_draft.specs.declared.draft.Item.{Item}
 use Rattle.dv_asm.specs.Items.{item_at, no_item, size_of}
 use Rattle.dv_asm.specs.Places.{leads_to_payload, end_of, address_of}
 use Rattle.dv_asm.proofs.PlaceLemmas.{AreSoFar, aligned_by}

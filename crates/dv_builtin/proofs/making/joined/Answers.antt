@@ -1,5 +1,5 @@
 use Rattle.std.proofs.Common.{◌≡◌, ◌++◌, ◌∙◌, ℕ, List, ap}
-use Rattle.dv_steps.specs.Natives.{units_in}
+use Rattle.dv_words.specs.Natives.{units_in}
 use Rattle.dv_builtin.proofs.LowBits.{units_same}
 use Rattle.dv_builtin.proofs.making.joined.Goals as goal
 

@@ -5,8 +5,8 @@ use Rattle.dv_words.specs.Heaps.{words_of_object}
 use Rattle.dv_words.specs.Stacks.{arg_words}
 use Rattle.dv_words.specs.State.{WordHeap}
 use Rattle.dv_words.specs.Words.{int_of}
-use Rattle.dv_steps.specs.Natives.{arg, new_text, units_in}
-use Rattle.dv_steps.specs.Steps.{Left}
+use Rattle.dv_words.specs.Natives.{arg, new_text, units_in}
+use Rattle.dv_words.specs.Steps.{Left}
 use Rattle.dv_builtin.specs.Natives.{IsChars}
 use Rattle.dv_builtin.specs.Parts.{chars_in}
 use Rattle.dv_builtin.specs.Seeing.{Does}

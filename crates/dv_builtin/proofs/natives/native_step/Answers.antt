@@ -1,7 +1,7 @@
 use Rattle.std.proofs.Common.{sym, subst}
 use Rattle.dv_defs.specs.declared.run.Native.{Native}
 use Rattle.dv_words.specs.Stacks.{arg_words}
-use Rattle.dv_steps.specs.Natives.{native_step}
+use Rattle.dv_words.specs.Natives.{native_step}
 use Rattle.dv_builtin.specs.Natives.{TextsFit}
 use Rattle.dv_builtin.specs.Seeing.{Does}
 use Rattle.dv_builtin.proofs.natives.native_step.Goals as goal

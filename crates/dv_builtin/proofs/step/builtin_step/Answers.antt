@@ -1,7 +1,7 @@
 use Rattle.std.proofs.Common.{◌≡◌, ◌∙◌, ℕ, List, Some, None, sym, subst}
 use Rattle.std.proofs.lemmas.Option.{same_Some}
 use Rattle.dv_defs.specs.Op.{Invoke}
-use Rattle.dv_steps.specs.Natives.{native_step}
+use Rattle.dv_words.specs.Natives.{native_step}
 use Rattle.dv_builtin.specs.Natives.{TextsFit}
 use Rattle.dv_builtin.specs.Seeing.{Does}
 use Rattle.dv_builtin.proofs.Following.{args_are}

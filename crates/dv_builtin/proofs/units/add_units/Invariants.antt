@@ -1,5 +1,5 @@
 use Rattle.std.proofs.Common.{◌≡◌, ◌++◌, take}
-use Rattle.dv_steps.specs.Natives.{units_in}
+use Rattle.dv_words.specs.Natives.{units_in}
 use Rattle.dv_builtin.proofs.units.add_units.Given as goal
 
 abbrev pub invariant-loop-word : goal.invariant-loop-word

@@ -5,8 +5,8 @@ use Rattle.dv_machine.specs.State.{Did}
 use Rattle.dv_ops.specs.Meaning.{method_of}
 use Rattle.dv_units.specs.Tables.{standard_call}
 use Rattle.dv_words.specs.Stacks.{arg_words, with_levels}
-use Rattle.dv_steps.specs.Answering.{Leads, LeavesStack}
-use Rattle.dv_steps.specs.Steps.{Left}
+use Rattle.dv_words.specs.Answering.{Leads, LeavesStack}
+use Rattle.dv_words.specs.Steps.{Left}
 use Rattle.dv_call.specs.Landings.{called, landed_of, Enters, Fails, Runs, Stays}
 use Rattle.dv_call.proofs.Called.{invoke_is, runs_it}
 use Rattle.dv_call.proofs.invokes.invoke.Goals as goal

@@ -2,7 +2,7 @@ use Rattle.std.proofs.Common.{◌≡◌, sym, subst}
 use Rattle.dv_optable.specs.declared.family.Call.{Call}
 use Rattle.dv_ops.specs.Meaning.{method_of}
 use Rattle.dv_units.specs.Tables.{standard_call}
-use Rattle.dv_steps.specs.Calls as steps
+use Rattle.dv_words.specs.Calls as steps
 use Rattle.dv_call.specs.Landings.{landed_of, on_landing}
 use Rattle.dv_call.proofs.landings.dispatch.Goals as goal
 

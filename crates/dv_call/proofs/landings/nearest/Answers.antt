@@ -1,7 +1,7 @@
 use Rattle.std.proofs.Common.{◌≤◌, ◌<◌, ◌^◌, ◌∙◌, ℕ, length, Option, sym, ap, subst, arith, rules}
 use Rattle.dv_defs.specs.Images.{Image}
 use Rattle.dv_defs.specs.Linked.{IsImage}
-use Rattle.dv_fetch.proofs.Classes.{few}
+use Rattle.dv_ops.proofs.Classes.{few}
 use Rattle.dv_ops.specs.Meaning.{method_of}
 use Rattle.dv_call.specs.Landings.{nearest_in}
 use Rattle.dv_call.proofs.Nearest.{found_there, past_all}

@@ -1,6 +1,6 @@
 use Rattle.std.proofs.Common.{sym}
 use Rattle.dv_ops.specs.Meaning.{code_of}
-use Rattle.dv_steps.proofs.Fetching.{read_here}
+use Rattle.law_words.proofs.Fetching.{read_here}
 use Rattle.dv_call.proofs.Resumed.{no_code}
 use Rattle.dv_call.proofs.returns.next_of.Goals as goal
 

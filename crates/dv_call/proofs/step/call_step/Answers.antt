@@ -2,9 +2,9 @@ use Rattle.std.proofs.Common.{◌≡◌, Ok, true, false, subst}
 use Rattle.std.specs.declared.alloc.AllocError.{AllocError}
 use Rattle.dv_defs.specs.Op.{Op}
 use Rattle.dv_ops.specs.Meaning.{code_of}
-use Rattle.dv_steps.specs.Answering.{Leads, LeavesStack}
-use Rattle.dv_steps.specs.Step.{act}
-use Rattle.dv_steps.specs.StepLaws.{CallFits}
+use Rattle.dv_words.specs.Answering.{Leads, LeavesStack}
+use Rattle.dv_words.specs.Step.{act}
+use Rattle.law_words.specs.StepLaws.{CallFits}
 use Rattle.dv_call.specs.Returns.{CallerStands}
 use Rattle.dv_call.specs.Stepping.{is_call}
 use Rattle.dv_call.proofs.AtInsn.{meant_is, no_rule}

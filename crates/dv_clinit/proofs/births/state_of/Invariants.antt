@@ -1,5 +1,5 @@
 use Rattle.std.proofs.Common.{◌≡◌, ◌<◌, length}
-use Rattle.dv_linklaws.proofs.ReachPlaces.{place}
+use Rattle.law_linking.proofs.ReachPlaces.{place}
 use Rattle.dv_clinit.specs.Births.{first_state}
 use Rattle.dv_clinit.proofs.births.state_of.Given as goal
 

@@ -1,6 +1,6 @@
 use Rattle.std.proofs.Common.{[], Result, sym, ap, subst, ◌∙◌, arith}
 use Rattle.std.proofs.lemmas.List.{get_or_read}
-use Rattle.dv_asm.specs.Draft.{DraftValue}
+use Rattle.dv_draft.specs.Draft.{DraftValue}
 use Rattle.dv_lex.specs.declared.line.Line.{Line}
 use Rattle.dv_lex.specs.declared.line.Stop.{Stop}
 use Rattle.dv_lex.specs.Lines.{HasTokens}

@@ -1,6 +1,6 @@
 use Rattle.std.proofs.Common.{[], ◌++◌, ap, sym, ◌∙◌, SFits, w32, append-nil, rules}
 use Rattle.std.proofs.lemmas.Int.{to_z-of_z}
-use Rattle.dv_asm.specs.declared.draft.What.TheVariants.{Packed, Sparse, Data}
+use Rattle.dv_draft.specs.declared.draft.What.TheVariants.{Packed, Sparse, Data}
 use Rattle.dv_coderead.specs.Bodies.{targets, keys, case_labels, data_bytes}
 use Rattle.dv_coderead.proofs.drafting.payload.Goals as goal
 

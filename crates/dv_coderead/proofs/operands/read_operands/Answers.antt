@@ -1,7 +1,7 @@
 use Rattle.std.proofs.Common.{ℕ, ◌<◌, List, Result, Ok, Err, IfOk, IsSome, rules, arith}
 use Rattle.dv_optable.specs.Table.{format_at}
-use Rattle.dv_asm.specs.declared.draft.Draftop.{Draftop}
-use Rattle.dv_asm.specs.Draft.{IsOp}
+use Rattle.dv_draft.specs.declared.draft.Draftop.{Draftop}
+use Rattle.dv_draft.specs.Draft.{IsOp}
 use Rattle.dv_coderead.specs.declared.refusal.Refusal.{Refusal}
 use Rattle.dv_coderead.specs.declared.words.Frame.{Frame}
 use Rattle.dv_coderead.specs.Giving.{Gives}

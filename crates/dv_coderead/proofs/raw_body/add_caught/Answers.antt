@@ -2,7 +2,7 @@ use Rattle.std.proofs.Common.{sym, ◌∙◌, arith}
 use Rattle.std.proofs.lemmas.Grind.{common_steps}
 use Rattle.std.proofs.lemmas.List.{at_drop_all}
 use Rattle.dv_defs.specs.Types.{ty_eq}
-use Rattle.dv_asm.proofs.KeyLemmas.{one_more}
+use Rattle.dv_draft.proofs.KeyLemmas.{one_more}
 use Rattle.dv_defs.proofs.Keys.{type_keys}
 use Rattle.dv_coderead.specs.RawBodies.{kind_caught, with_caught}
 use Rattle.dv_coderead.proofs.raw_body.add_caught.Goals.{in-Some+in_ok-add, in_default}

@@ -2,10 +2,10 @@ use Rattle.std.proofs.Common.{◌≡◌, ◌∙◌, true, false, Ok, sym, ap, su
 use Rattle.std.specs.declared.alloc.AllocError.{AllocError}
 use Rattle.dv_defs.specs.Op.{Op, is_local}
 use Rattle.dv_ops.specs.Meaning.{meant}
-use Rattle.dv_steps.specs.Answering.{Leads}
-use Rattle.dv_steps.specs.Local.{reg_word}
-use Rattle.dv_steps.specs.Step.{act}
-use Rattle.dv_steps.specs.Steps.{mem_left}
+use Rattle.dv_words.specs.Answering.{Leads}
+use Rattle.dv_words.specs.Local.{reg_word}
+use Rattle.dv_words.specs.Step.{act}
+use Rattle.dv_words.specs.Steps.{mem_left}
 use Rattle.dv_mem.specs.Stepping.{is_mem}
 use Rattle.dv_core.specs.Fitting.{StepFits}
 use Rattle.dv_core.specs.Guests.{Leaves, Stays}

@@ -1,12 +1,12 @@
 use Rattle.std.proofs.Common.{◌≡◌, ◌∙◌, ◌<◌, ◌^◌, ◌-◌, ℕ, List, refl, sym, ap, subst}
-use Rattle.dv_defs.specs.Monitors.{Monitors}
+use Rattle.dv_machine.specs.Monitors.{Monitors}
 use Rattle.dv_machine.specs.Mem.{on_object}
 use Rattle.dv_monitor.specs.State.{count_of}
 use Rattle.dv_words.specs.declared.state.Level.{Level}
 use Rattle.dv_words.specs.Stacks.{top_regs}
 use Rattle.dv_words.specs.Words.{word_at}
-use Rattle.dv_steps.specs.Local.{reg_word}
-use Rattle.dv_steps.specs.Threads as threads
+use Rattle.dv_words.specs.Local.{reg_word}
+use Rattle.dv_words.specs.Threads as threads
 use Rattle.dv_core.proofs.Acts.{led_by}
 use Rattle.dv_core.proofs.Outcomes.{is_thread, led_threads}
 use Rattle.dv_core.proofs.code.enter_monitor.Goals as goal

@@ -6,10 +6,10 @@ use Rattle.dv_ops.specs.Meaning.{method_of}
 use Rattle.dv_units.specs.Tables.{standard_call}
 use Rattle.dv_words.specs.declared.state.Level.TheVariants as level
 use Rattle.dv_words.specs.Stacks.{arg_words}
-use Rattle.dv_steps.specs.Calls as steps
-use Rattle.dv_steps.specs.Local.{reg_word}
-use Rattle.dv_steps.specs.Natives as natives
-use Rattle.dv_steps.specs.Steps.{left}
+use Rattle.dv_words.specs.Calls as steps
+use Rattle.dv_words.specs.Local.{reg_word}
+use Rattle.dv_words.specs.Natives as natives
+use Rattle.dv_words.specs.Steps.{left}
 use Rattle.dv_machine.specs.State.{Throws}
 use Rattle.dv_call.specs.Landings.{done, landed_of}
 use Rattle.dv_core.proofs.Acts.{led_by}

@@ -1,6 +1,6 @@
 use Rattle.std.proofs.Common.{Ok, refl}
 use Rattle.std.specs.declared.alloc.AllocError.{AllocError}
-use Rattle.dv_steps.specs.Calls as calls
+use Rattle.dv_words.specs.Calls as calls
 use Rattle.dv_core.proofs.Seen.{is_stack, led_stack, past, read_there}
 use Rattle.dv_core.proofs.code.leave_with.Goals as goal
 

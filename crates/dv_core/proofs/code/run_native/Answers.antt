@@ -2,8 +2,8 @@ use Rattle.std.proofs.Common.{◌∙◌, ℕ, List, map, refl, sym, ap, subst}
 use Rattle.dv_defs.specs.Op.{named_registers}
 use Rattle.dv_words.specs.State.{WordHeap, WordShared}
 use Rattle.dv_words.specs.Stacks.{arg_words}
-use Rattle.dv_steps.specs.Local.{reg_word}
-use Rattle.dv_steps.specs.Natives as natives
+use Rattle.dv_words.specs.Local.{reg_word}
+use Rattle.dv_words.specs.Natives as natives
 use Rattle.dv_builtin.specs.Natives.{TextsFit}
 use Rattle.dv_defs.specs.declared.run.Limits.{Limits}
 use Rattle.dv_core.proofs.Acts.{led_by, texts_else}

@@ -4,8 +4,8 @@ use Rattle.dv_defs.specs.declared.names.ClassId.{ClassId}
 use Rattle.dv_defs.specs.declared.run.Next.TheVariants as next
 use Rattle.dv_defs.specs.Op.{needs}
 use Rattle.dv_machine.specs.State.{Did}
-use Rattle.dv_steps.specs.Step.{with_ready}
-use Rattle.dv_steps.specs.Steps.{Left, local_left}
+use Rattle.dv_words.specs.Step.{with_ready}
+use Rattle.dv_words.specs.Steps.{Left, local_left}
 use Rattle.dv_core.specs.declared.instructions.Instruction.{Instruction}
 use Rattle.dv_core.specs.Standing.{IsFound}
 use Rattle.dv_core.proofs.Acts.{led_by, local_acts}

@@ -5,13 +5,13 @@ use Rattle.dv_defs.specs.declared.machine.Ask.TheVariants as asks
 use Rattle.dv_defs.specs.declared.run.Limits.{Limits}
 use Rattle.dv_defs.specs.declared.run.Named.TheVariants as named
 use Rattle.dv_defs.specs.declared.run.Next.TheVariants as next
-use Rattle.dv_defs.specs.Classes.{ask_of}
+use Rattle.dv_machine.specs.Classes.{ask_of}
 use Rattle.dv_machine.specs.State.{Did}
 use Rattle.dv_words.specs.declared.state.Level.{Level}
 use Rattle.dv_words.specs.declared.state.Level.TheVariants as level
-use Rattle.dv_steps.specs.Answering.{Leads}
-use Rattle.dv_steps.specs.Step.{act, begun, for_class}
-use Rattle.dv_steps.specs.Steps.{Left}
+use Rattle.dv_words.specs.Answering.{Leads}
+use Rattle.dv_words.specs.Step.{act, begun, for_class}
+use Rattle.dv_words.specs.Steps.{Left}
 use Rattle.dv_core.specs.Guests.{Leaves, Stays}
 use Rattle.dv_core.proofs.Acts.{led_by}
 use Rattle.dv_core.proofs.Seen.{ask_is, seen_here, unchanged, unmoved}

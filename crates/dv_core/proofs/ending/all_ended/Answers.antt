@@ -1,7 +1,7 @@
 use Rattle.std.proofs.Common.{◌∙◌, ap}
 use Rattle.std.specs.List.{list_all}
 use Rattle.std.specs.Prelude.{not}
-use Rattle.dv_steps.specs.Threads.{is_alive}
+use Rattle.dv_words.specs.Threads.{is_alive}
 use Rattle.dv_core.proofs.Waits.{all_ends}
 use Rattle.dv_core.proofs.ending.all_ended.Goals as goal
 

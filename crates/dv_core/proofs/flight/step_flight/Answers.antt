@@ -1,9 +1,9 @@
 use Rattle.std.proofs.Common.{◌≡◌, get_or, sym, ap, ◌∙◌, subst, arith}
-use Rattle.dv_defs.specs.Classes.{InProgress, state_at}
-use Rattle.dv_defs.specs.Flow.{handlers_at}
+use Rattle.dv_machine.specs.Classes.{InProgress, state_at}
+use Rattle.dv_typing.specs.Flow.{handlers_at}
 use Rattle.dv_words.specs.State.{WordHeap, WordShared}
-use Rattle.dv_steps.specs.Answering.{LeavesStack}
-use Rattle.dv_steps.specs.Unwinding.{handler_for, unwind_frame, unwind_record}
+use Rattle.dv_words.specs.Answering.{LeavesStack}
+use Rattle.dv_words.specs.Unwinding.{handler_for, unwind_frame, unwind_record}
 use Rattle.dv_throw.specs.Answers as throw
 use Rattle.dv_throw.specs.Answers.{Unwinds, sharing}
 use Rattle.dv_core.proofs.Flights.{flights_lead, throw_sees}

@@ -7,7 +7,7 @@ use Rattle.dv_defs.specs.Pools.{Method}
 use Rattle.dv_ops.specs.Meaning.{method_of}
 use Rattle.dv_words.specs.Heaps.{counting, uncounted}
 use Rattle.dv_words.specs.State.{WordHeap}
-use Rattle.dv_steps.specs.Opening.{array_made, object_made, opening_heap, with_out, with_strings}
+use Rattle.dv_words.specs.Opening.{array_made, object_made, opening_heap, with_out, with_strings}
 use Rattle.dv_core.proofs.opening.fill_heap.Goals as goal
 
 abbrev with_objects : Image → WordHeap → WordHeap

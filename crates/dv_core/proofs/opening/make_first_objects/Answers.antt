@@ -2,7 +2,7 @@ use Rattle.std.proofs.Common.{ap, ◌∙◌}
 use Rattle.std.proofs.lemmas.Result.{on_ok_weaker}
 use Rattle.dv_defs.specs.Names.{stream_name, thread_name}
 use Rattle.dv_words.specs.State.{WordHeap}
-use Rattle.dv_steps.specs.Opening.{object_made}
+use Rattle.dv_words.specs.Opening.{object_made}
 use Rattle.dv_core.proofs.opening.make_first_objects.Goals as goal
 
 pub returns : goal.returns

@@ -1,5 +1,5 @@
 use Rattle.std.proofs.Common.{◌≡◌, drop}
-use Rattle.dv_steps.specs.Opening.{with_strings}
+use Rattle.dv_words.specs.Opening.{with_strings}
 use Rattle.dv_core.proofs.opening.set_strings.Given as goal
 
 -- the fields that are left make of it what all make of the first heap

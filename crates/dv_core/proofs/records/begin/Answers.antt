@@ -1,8 +1,8 @@
 use Rattle.std.proofs.Common.{◌≡◌, List, Ok, get_or, subst, arith}
 use Rattle.std.specs.declared.alloc.AllocError.{AllocError}
 use Rattle.dv_words.specs.declared.state.Level.{Level}
-use Rattle.dv_steps.specs.Answering.{Leads}
-use Rattle.dv_steps.specs.Step as steps
+use Rattle.dv_words.specs.Answering.{Leads}
+use Rattle.dv_words.specs.Step as steps
 use Rattle.dv_core.specs.Guests.{Leaves, Stays}
 use Rattle.dv_core.proofs.RecordStacks.{beside, levels_are, records_lead, within, written}
 use Rattle.dv_core.proofs.records.begin.Goals as goal

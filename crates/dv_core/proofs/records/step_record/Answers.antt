@@ -1,7 +1,7 @@
 use Rattle.std.proofs.Common.{◌≡◌, get_or, sym, ap, ◌∙◌, arith}
-use Rattle.dv_defs.specs.Classes.{InProgress, state_at}
+use Rattle.dv_machine.specs.Classes.{InProgress, state_at}
 use Rattle.dv_words.specs.State.{WordShared}
-use Rattle.dv_steps.specs.Step as steps
+use Rattle.dv_words.specs.Step as steps
 use Rattle.dv_core.proofs.RecordStacks.{beside, levels_are, records_lead, within}
 use Rattle.dv_core.proofs.records.step_record.Goals as goal
 

@@ -3,8 +3,8 @@ use Rattle.std.specs.Prelude.{Some, None}
 use Rattle.dv_words.specs.State.{WordStack}
 use Rattle.dv_words.specs.Stacks.{first}
 use Rattle.dv_frames.specs.Tops.{head_of}
-use Rattle.dv_steps.specs.Step.{moved_on}
-use Rattle.dv_steps.specs.Steps.{leaves}
+use Rattle.dv_words.specs.Step.{moved_on}
+use Rattle.dv_words.specs.Steps.{leaves}
 use Rattle.dv_core.proofs.Settled.{stack_there}
 use Rattle.dv_core.proofs.Seen.{has_bounds, is_stack, past, read_there, wrote}
 use Rattle.dv_core.proofs.settling.leave_exit_of.Goals as goal

@@ -1,8 +1,8 @@
 use Rattle.std.proofs.Common.{◌∙◌, refl, sym, ap, subst}
 use Rattle.dv_defs.specs.Op as ops
 use Rattle.dv_words.specs.Stacks.{first}
-use Rattle.dv_steps.specs.Running.{blocked_at, blocked_needing}
-use Rattle.dv_steps.specs.StepLaws.{CallFits}
+use Rattle.dv_words.specs.Running.{blocked_at, blocked_needing}
+use Rattle.law_words.specs.StepLaws.{CallFits}
 use Rattle.dv_call.specs.Landings.{IsSeen}
 use Rattle.dv_core.specs.Machines.{machine_with}
 use Rattle.dv_core.specs.Opcodes.{opcode_at}

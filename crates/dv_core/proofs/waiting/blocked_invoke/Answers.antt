@@ -5,7 +5,7 @@ use Rattle.dv_units.specs.Tables.{standard_call}
 use Rattle.dv_words.specs.Stacks.{arg_words, top_regs}
 use Rattle.dv_words.specs.Words.{word_at}
 use Rattle.dv_words.specs.declared.state.Level.{Level}
-use Rattle.dv_steps.specs.Local.{reg_word}
+use Rattle.dv_words.specs.Local.{reg_word}
 use Rattle.dv_call.specs.Landings.{called_in, first_of}
 use Rattle.dv_call.proofs.Called.{from_seen}
 use Rattle.dv_core.specs.Machines.{machine_with}

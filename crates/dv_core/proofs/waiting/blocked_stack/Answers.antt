@@ -1,5 +1,5 @@
 use Rattle.std.proofs.Common.{◌∙◌, Some, sym, ap, subst}
-use Rattle.dv_steps.specs.Running.{blocked_levels}
+use Rattle.dv_words.specs.Running.{blocked_levels}
 use Rattle.dv_core.specs.Machines.{machine_with}
 use Rattle.dv_core.specs.Watching.{IsTopWatched}
 use Rattle.dv_core.proofs.Waits.{code_on}

@@ -1,5 +1,5 @@
 use Rattle.std.proofs.Common.{◌≡◌, drop}
-use Rattle.dv_defs.specs.Demands.{args_for}
+use Rattle.dv_typing.specs.Demands.{args_for}
 use Rattle.dv_defs.specs.Op.{named_registers}
 use Rattle.dv_demands.proofs.arguments.args.Given as goal
 

@@ -1,5 +1,5 @@
 use Rattle.std.proofs.Common.{◌≡◌, drop}
-use Rattle.dv_defs.specs.Demands.{each_for}
+use Rattle.dv_typing.specs.Demands.{each_for}
 use Rattle.dv_defs.specs.Op.{named_registers}
 use Rattle.dv_image.specs.Common.{type_of}
 use Rattle.dv_demands.proofs.arguments.each.Given as goal

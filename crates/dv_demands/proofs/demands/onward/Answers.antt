@@ -1,6 +1,6 @@
 use Rattle.std.proofs.Common.{Bool, sym, ap, ◌∙◌}
 use Rattle.dv_defs.specs.declared.faults.Rule.TheVariants as rule
-use Rattle.dv_defs.specs.Demands.{demand}
+use Rattle.dv_typing.specs.Demands.{demand}
 use Rattle.dv_ops.specs.Meaning.{code_of, meant}
 use Rattle.dv_demands.proofs.Onward.{goes_on_to}
 use Rattle.dv_demands.proofs.demands.onward.Goals as goal

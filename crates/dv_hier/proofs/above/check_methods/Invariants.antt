@@ -3,7 +3,7 @@ use Rattle.dv_defs.specs.declared.class.ClassDef.{ClassDef}
 use Rattle.dv_defs.specs.First.{first_in}
 use Rattle.dv_defs.specs.LinkFaults.{no_proto}
 use Rattle.dv_defs.specs.Numbering.{declared}
-use Rattle.dv_linklaws.specs.Stripped.{def_names}
+use Rattle.law_linking.specs.Stripped.{def_names}
 use Rattle.dv_hier.proofs.above.check_methods.Given as goal
 
 abbrev pub invariant-loop-method : goal.invariant-loop-method

@@ -1,6 +1,6 @@
 use Rattle.std.proofs.Common.{ap, sym, ◌∙◌}
 use Rattle.std.specs.Prelude.{bytes_eq, position}
-use Rattle.dv_linklaws.proofs.Names.{declared_is_position}
+use Rattle.law_linking.proofs.Names.{declared_is_position}
 use Rattle.dv_hier.proofs.above.class_of.Goals as goal
 
 pub returns-clause-class : goal.returns-clause-class

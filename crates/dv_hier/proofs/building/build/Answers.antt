@@ -3,7 +3,7 @@ use Rattle.std.proofs.lemmas.Result.{err_from_is_err_and}
 use Rattle.dv_defs.specs.LinkFaults.{Fails}
 use Rattle.dv_defs.specs.Linked.{first_phases, AreNamed}
 use Rattle.dv_defs.specs.Numbering.{names_of}
-use Rattle.dv_linklaws.specs.Stripped.{def_names}
+use Rattle.law_linking.specs.Stripped.{def_names}
 use Rattle.dv_hier.specs.Hierarchies.{HierarchyValue, hierarchy_of, naming_phases}
 use Rattle.dv_hier.proofs.Built.{naming_fails, is_hierarchy, names_slotted}
 use Rattle.dv_hier.proofs.building.build.Goals as goal

@@ -5,7 +5,7 @@ use Rattle.std.proofs.lemmas.Iterator.Adapters.{YieldsList-from_vec}
 use Rattle.std.proofs.lemmas.Iterator.Consumers.{YieldsList-end}
 use Rattle.dv_defs.specs.declared.image.ClassInfo.{ClassInfo}
 use Rattle.dv_defs.specs.Numbering.{class_numbered, declared, numbered}
-use Rattle.dv_linklaws.specs.Stripped.{IsInRange}
+use Rattle.law_linking.specs.Stripped.{IsInRange}
 use Rattle.dv_hier.proofs.NumberingLaws.{each_more, each_made, range_made}
 use Rattle.dv_hier.proofs.numbering.number_classes.Goals as goal
 

@@ -1,7 +1,7 @@
 use Rattle.std.proofs.Common.{◌≡◌, ℕ, length, map}
 use Rattle.std.specs.Prelude.{All}
 use Rattle.dv_defs.specs.Numbering.{class_numbered, declared}
-use Rattle.dv_linklaws.specs.Stripped.{IsInRange}
+use Rattle.law_linking.specs.Stripped.{IsInRange}
 use Rattle.dv_hier.proofs.numbering.number_classes.Given as goal
 
 abbrev pub invariant-loop-class : goal.invariant-loop-class

@@ -3,7 +3,7 @@ use Rattle.std.specs.Prelude.{filter_map, All}
 use Rattle.dv_defs.specs.declared.class.ClassDef.{ClassDef}
 use Rattle.dv_defs.specs.Numbering.{class_id, declared}
 use Rattle.dv_defs.specs.Pools.{class_named}
-use Rattle.dv_linklaws.specs.Stripped.{def_names}
+use Rattle.law_linking.specs.Stripped.{def_names}
 use Rattle.dv_hier.proofs.numbering.number_interfaces.Given as goal
 
 abbrev pub invariant-loop-name : goal.invariant-loop-name

@@ -1,6 +1,6 @@
 use Rattle.std.proofs.Common.{rules, ◌≡◌, length, ap, subst, arith}
 use Rattle.dv_defs.specs.Linked.{IsImage}
-use Rattle.dv_linklaws.proofs.TableLaws.{image_few_methods}
+use Rattle.law_linking.proofs.TableLaws.{image_few_methods}
 use Rattle.dv_image.proofs.calls.declared.Goals as goal
 
 pub overflow_cast-result : goal.overflow_cast-result

@@ -1,5 +1,5 @@
 use Rattle.std.proofs.Common.{◌≡◌, drop, find}
-use Rattle.dv_linklaws.specs.Landing.{has_key_at}
+use Rattle.law_linking.specs.Landing.{has_key_at}
 use Rattle.dv_image.proofs.calls.first_entry.Given as goal
 
 abbrev pub invariant-loop-i : goal.invariant-loop-i

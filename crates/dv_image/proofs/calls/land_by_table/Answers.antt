@@ -1,7 +1,7 @@
 use Rattle.std.proofs.Common.{rules, ◌≡◌, find, slice_get, ap, subst, sym, ◌∙◌}
 use Rattle.dv_defs.specs.Linked.{IsImage}
-use Rattle.dv_linklaws.specs.Landing.{has_key_at}
-use Rattle.dv_linklaws.proofs.TableLaws.{nearest_outside}
+use Rattle.law_linking.specs.Landing.{has_key_at}
+use Rattle.law_linking.proofs.TableLaws.{nearest_outside}
 use Rattle.dv_image.proofs.Landings.{landing_placed, landing_tabled, read_at, read_past}
 use Rattle.dv_image.proofs.calls.land_by_table.Goals as goal
 

@@ -2,7 +2,7 @@ use Rattle.std.proofs.Common.{ap, sym, ◌∙◌}
 use Rattle.std.specs.Prelude.{bytes_eq, position}
 use Rattle.dv_defs.specs.Images.{Image}
 use Rattle.dv_defs.specs.Numbering.{names_of}
-use Rattle.dv_linklaws.proofs.Names.{named_is_position}
+use Rattle.law_linking.proofs.Names.{named_is_position}
 use Rattle.dv_image.proofs.classes.class_of.Goals as goal
 
 pub returns : goal.returns

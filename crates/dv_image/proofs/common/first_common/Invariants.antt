@@ -1,6 +1,6 @@
 use Rattle.std.proofs.Common.{◌≡◌}
 use Rattle.dv_defs.specs.Pools.{walk, supers}
-use Rattle.dv_defs.specs.Joins.{first_common}
+use Rattle.dv_defs.specs.Common.{first_common}
 use Rattle.dv_image.proofs.common.first_common.Given as goal
 
 abbrev pub invariant-loop-left : goal.invariant-loop-left

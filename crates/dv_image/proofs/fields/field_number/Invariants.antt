@@ -1,5 +1,5 @@
 use Rattle.std.proofs.Common.{◌≤◌, ◌<◌, ◌-◌, length}
-use Rattle.dv_linklaws.specs.FieldPlaces.{number_at}
+use Rattle.law_linking.specs.FieldPlaces.{number_at}
 use Rattle.dv_image.proofs.fields.field_number.Given as goal
 
 abbrev pub invariant-loop-high : goal.invariant-loop-high

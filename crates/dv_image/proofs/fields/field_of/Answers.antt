@@ -2,11 +2,11 @@ use Rattle.std.proofs.Common.{length, Some, ap, sym, subst, ◌∙◌}
 use Rattle.dv_defs.specs.Images.{Image}
 use Rattle.dv_defs.specs.Pools.{walk}
 use Rattle.dv_defs.specs.LookUp.{field_declared}
-use Rattle.dv_linklaws.specs.FieldPlaces.{id_of}
-use Rattle.dv_linklaws.specs.Ordered.{IsOrdered}
-use Rattle.dv_linklaws.proofs.FieldOrder.{field_found_anywhere}
+use Rattle.law_linking.specs.FieldPlaces.{id_of}
+use Rattle.law_linking.specs.Ordered.{IsOrdered}
+use Rattle.law_linking.proofs.FieldOrder.{field_found_anywhere}
 use Rattle.dv_image.proofs.FieldWalks.{found_in}
-use Rattle.dv_linklaws.proofs.OrderedImages.{image_ordered}
+use Rattle.law_linking.proofs.OrderedImages.{image_ordered}
 use Rattle.dv_image.proofs.fields.field_of.Goals as goal
 
 pub loop-left-init : goal.loop-left-init

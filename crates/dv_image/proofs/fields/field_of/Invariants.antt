@@ -1,7 +1,7 @@
 use Rattle.std.proofs.Common.{◌≡◌}
 use Rattle.dv_defs.specs.Pools.{walk}
 use Rattle.dv_defs.specs.LookUp.{field_declared, field_found}
-use Rattle.dv_linklaws.specs.FieldPlaces.{id_of}
+use Rattle.law_linking.specs.FieldPlaces.{id_of}
 use Rattle.dv_image.proofs.FieldWalks.{found_in}
 use Rattle.dv_image.proofs.fields.field_of.Given as goal
 

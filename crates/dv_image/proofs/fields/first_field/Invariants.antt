@@ -2,7 +2,7 @@ use Rattle.std.proofs.Common.{◌≡◌, drop}
 use Rattle.dv_defs.specs.First.{first_in}
 use Rattle.dv_defs.specs.Order.{numbers}
 use Rattle.dv_defs.specs.LookUp.{field_declared}
-use Rattle.dv_linklaws.specs.FieldPlaces.{id_of}
+use Rattle.law_linking.specs.FieldPlaces.{id_of}
 use Rattle.dv_image.proofs.fields.first_field.Given as goal
 
 abbrev pub invariant-loop-class : goal.invariant-loop-class

@@ -4,7 +4,7 @@ use Rattle.std.proofs.lemmas.Option.{slice_get_read, slice_get_past}
 use Rattle.dv_defs.specs.First.{first_in}
 use Rattle.dv_defs.specs.Order.{numbers}
 use Rattle.dv_defs.specs.LookUp.{field_declared}
-use Rattle.dv_linklaws.specs.FieldPlaces.{id_of}
+use Rattle.law_linking.specs.FieldPlaces.{id_of}
 use Rattle.dv_image.proofs.IndexLaws.{listed}
 use Rattle.dv_image.proofs.fields.interface_field.Goals as goal
 

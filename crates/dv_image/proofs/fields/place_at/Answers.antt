@@ -1,6 +1,6 @@
 use Rattle.std.proofs.Common.{ap, refl, ◌∙◌}
 use Rattle.std.proofs.lemmas.Option.{slice_get_read, slice_get_past}
-use Rattle.dv_linklaws.specs.FieldPlaces.{is_like, place_from}
+use Rattle.law_linking.specs.FieldPlaces.{is_like, place_from}
 use Rattle.dv_image.proofs.FieldSearch.{declared_at}
 use Rattle.dv_image.proofs.fields.place_at.Goals as goal
 

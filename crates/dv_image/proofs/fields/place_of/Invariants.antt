@@ -1,5 +1,5 @@
 use Rattle.std.proofs.Common.{◌≡◌, drop}
-use Rattle.dv_linklaws.specs.FieldPlaces.{is_like, place_from}
+use Rattle.law_linking.specs.FieldPlaces.{is_like, place_from}
 use Rattle.dv_image.proofs.fields.place_of.Given as goal
 
 abbrev pub invariant-loop-i : goal.invariant-loop-i

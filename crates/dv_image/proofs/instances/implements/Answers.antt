@@ -1,10 +1,10 @@
 use Rattle.std.proofs.Common.{length, Some, ap, sym, subst, ◌∙◌}
 use Rattle.dv_defs.specs.Images.{Image}
 use Rattle.dv_defs.specs.Pools.{walk}
-use Rattle.dv_linklaws.proofs.Implemented.{implements_anywhere}
-use Rattle.dv_linklaws.specs.Ordered.{IsOrdered}
+use Rattle.law_linking.proofs.Implemented.{implements_anywhere}
+use Rattle.law_linking.specs.Ordered.{IsOrdered}
 use Rattle.dv_image.proofs.Ascending.{under_along}
-use Rattle.dv_linklaws.proofs.OrderedImages.{image_ordered}
+use Rattle.law_linking.proofs.OrderedImages.{image_ordered}
 use Rattle.dv_image.proofs.instances.implements.Goals as goal
 
 pub loop-left-init : goal.loop-left-init

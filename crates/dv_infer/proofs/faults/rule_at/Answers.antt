@@ -1,4 +1,4 @@
-use Rattle.dv_defs.specs.Statics.{fetch}
+use Rattle.dv_typing.specs.Statics.{fetch}
 use Rattle.dv_ops.specs.Meaning.{code_of}
 use Rattle.dv_infer.proofs.Faulting.{no_demand_at}
 use Rattle.dv_infer.proofs.faults.rule_at.Goals as goal

@@ -1,9 +1,9 @@
 use Rattle.std.proofs.Common.{◌≡◌, ◌<◌, ◌≤◌, length, sym, ◌∙◌, ap, arith}
-use Rattle.dv_defs.specs.Statics.{fetch}
-use Rattle.dv_defs.specs.Accepting.{demand_at}
+use Rattle.dv_typing.specs.Statics.{fetch}
+use Rattle.dv_typing.specs.Accepting.{demand_at}
 use Rattle.dv_worklist.specs.Flow.{assigned}
-use Rattle.dv_leastlaws.specs.Flowing.{fits_at}
-use Rattle.dv_leastlaws.specs.Laws.{faults_from}
+use Rattle.law_infer.specs.Flowing.{fits_at}
+use Rattle.law_infer.specs.Laws.{faults_from}
 use Rattle.dv_ops.specs.Meaning.{code_of}
 use Rattle.dv_infer.proofs.Faulting.{fit_read, read_is, faults_on, faults_end}
 use Rattle.dv_infer.proofs.faults.typing_faults.Goals as goal

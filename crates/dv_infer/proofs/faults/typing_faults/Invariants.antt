@@ -1,6 +1,6 @@
 use Rattle.std.proofs.Common.{◌≡◌, ◌++◌, ◌-◌, length}
 use Rattle.dv_worklist.specs.Flow.{assigned}
-use Rattle.dv_leastlaws.specs.Laws.{faults_from}
+use Rattle.law_infer.specs.Laws.{faults_from}
 use Rattle.dv_ops.specs.Meaning.{code_of}
 use Rattle.dv_infer.proofs.faults.typing_faults.Given as goal
 

@@ -1,7 +1,7 @@
 use Rattle.std.proofs.Common.{◌≡◌, map}
 use Rattle.std.proofs.lemmas.Result.{IfOk-weaker}
-use Rattle.dv_defs.specs.Statics.{fetch}
-use Rattle.dv_leastlaws.specs.Flowing.{onward_from}
+use Rattle.dv_typing.specs.Statics.{fetch}
+use Rattle.law_infer.specs.Flowing.{onward_from}
 use Rattle.dv_ops.specs.Meaning.{code_of, meant}
 use Rattle.dv_infer.specs.Along.{gone_along}
 use Rattle.dv_infer.proofs.Carrying.{along_from}

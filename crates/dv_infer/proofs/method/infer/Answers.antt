@@ -1,6 +1,6 @@
 use Rattle.std.proofs.Common.{◌≡◌, ◌≢◌, [], length, sym, ◌∙◌, subst, rules, arith, vec_len}
 use Rattle.std.proofs.lemmas.Bool.{eqb-true}
-use Rattle.dv_defs.specs.Accepting.{AreFaults, static_places}
+use Rattle.dv_typing.specs.Accepting.{AreFaults, static_places}
 use Rattle.dv_infer.proofs.Telling.{none_broken, are_broken, typing_told, faultless_told, least_told, faults_told, refused_told}
 use Rattle.dv_infer.proofs.method.infer.Goals as goal
 

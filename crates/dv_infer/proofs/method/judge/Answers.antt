@@ -1,8 +1,8 @@
 use Rattle.std.proofs.Common.{◌≡◌, ◌≢◌, [], length, sym, ◌∙◌, subst, ap, rules, arith, vec_len}
 use Rattle.std.proofs.lemmas.Bool.{eqb-true}
 use Rattle.dv_worklist.specs.Flow.{AllFit, assigned}
-use Rattle.dv_leastlaws.specs.Flowing.{fits_at}
-use Rattle.dv_leastlaws.specs.Laws.{faults_from}
+use Rattle.law_infer.specs.Flowing.{fits_at}
+use Rattle.law_infer.specs.Laws.{faults_from}
 use Rattle.dv_ops.specs.Meaning.{code_of}
 use Rattle.dv_infer.specs.Judged.{IsJudged, AreJudged}
 use Rattle.dv_infer.proofs.Finding.{is_lawful, fits, is_judged, are_judged}

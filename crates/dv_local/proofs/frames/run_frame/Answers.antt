@@ -3,7 +3,7 @@ use Rattle.std.specs.List.{refill}
 use Rattle.std.proofs.lemmas.Grind.{common_steps}
 use Rattle.dv_frames.specs.declared.heads.Head.{Head}
 use Rattle.dv_frames.specs.Heads.{frame, head_in}
-use Rattle.dv_steps.specs.Stepping.{RanLocally}
+use Rattle.dv_words.specs.Stepping.{RanLocally}
 use Rattle.dv_words.specs.declared.state.Frame.{Frame}
 use Rattle.dv_local.specs.Units.{HasUnits}
 use Rattle.dv_local.proofs.NoCode.{no_run}

@@ -5,7 +5,7 @@ use Rattle.dv_defs.specs.Op.{LongUnary}
 use Rattle.dv_defs.specs.Parts.{Not}
 use Rattle.dv_defs.specs.Spelling.{few, plain}
 use Rattle.dv_frames.specs.Heads.{frame}
-use Rattle.dv_steps.specs.Local.{word_local}
+use Rattle.dv_words.specs.Local.{word_local}
 use Rattle.dv_local.specs.Spelled.{rest_of}
 use Rattle.dv_local.proofs.Doing.{did_one, same_three}
 use Rattle.dv_local.proofs.Formats.{read_as, reads_12x}

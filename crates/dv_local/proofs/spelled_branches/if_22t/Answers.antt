@@ -5,7 +5,7 @@ use Rattle.dv_defs.specs.Numbers.{jump, signed_at}
 use Rattle.dv_defs.specs.Op.{IfBoth}
 use Rattle.dv_defs.specs.Spelling.{few, with_offset}
 use Rattle.dv_frames.specs.Heads.{frame}
-use Rattle.dv_steps.specs.Local.{word_local}
+use Rattle.dv_words.specs.Local.{word_local}
 use Rattle.dv_units.specs.Tables.{standard_test}
 use Rattle.dv_local.specs.Spelled.{rest_of, unit_after}
 use Rattle.dv_local.proofs.Doing.{did_one, same_four}

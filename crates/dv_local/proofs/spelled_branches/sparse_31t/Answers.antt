@@ -7,8 +7,8 @@ use Rattle.dv_defs.specs.Op.{cases_sparse}
 use Rattle.dv_defs.specs.Spelling.{few, with_offset}
 use Rattle.dv_frames.specs.Heads.{frame}
 use Rattle.dv_machine.specs.Local.{case_of}
-use Rattle.dv_steps.specs.Fetching.{IsSpelled}
-use Rattle.dv_steps.specs.Local.{int_at}
+use Rattle.dv_words.specs.Fetching.{IsSpelled}
+use Rattle.dv_words.specs.Local.{int_at}
 use Rattle.dv_local.specs.Spelled.{double_after, rest_of}
 use Rattle.dv_local.proofs.Doing.{did_sparse}
 use Rattle.dv_local.proofs.Formats.{read_as, reads_31t}

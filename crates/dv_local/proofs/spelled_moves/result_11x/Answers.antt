@@ -4,7 +4,7 @@ use Rattle.dv_defs.specs.Families as family
 use Rattle.dv_defs.specs.Op.{result_op}
 use Rattle.dv_defs.specs.Spelling.{few, plain}
 use Rattle.dv_frames.specs.Heads.{frame}
-use Rattle.dv_steps.specs.Local.{word_local}
+use Rattle.dv_words.specs.Local.{word_local}
 use Rattle.dv_units.specs.Tables.{standard_width}
 use Rattle.dv_local.specs.Spelled.{rest_of}
 use Rattle.dv_local.proofs.Doing.{did_one, result_local, same_two}

@@ -1,10 +1,10 @@
 use Rattle.std.proofs.Common.{ℕ, refl, sym, subst}
 use Rattle.dv_defs.specs.declared.run.Next.TheVariants as next
-use Rattle.dv_defs.specs.Statics.{is_of_suffix}
+use Rattle.dv_typing.specs.Statics.{is_of_suffix}
 use Rattle.dv_machine.specs.State.{Did}
 use Rattle.dv_units.specs.Tables.{standard_suffix}
-use Rattle.dv_steps.specs.Local.{reg_word}
-use Rattle.dv_steps.specs.Mem.{WordLeft, array_put}
+use Rattle.dv_words.specs.Local.{reg_word}
+use Rattle.dv_words.specs.Mem.{WordLeft, array_put}
 use Rattle.dv_mem.specs.Operands.{IsNullOrArray}
 use Rattle.dv_mem.specs.Tops.{Answers, seen, top_frame}
 use Rattle.dv_mem.proofs.Arrays.{located}

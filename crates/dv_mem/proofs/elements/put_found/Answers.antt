@@ -1,12 +1,12 @@
 use Rattle.std.proofs.Common.{◌≡◌, ◌∙◌, length, true, false, ap, refl, subst, sym}
 use Rattle.dv_defs.specs.declared.run.Named.TheVariants as named
 use Rattle.dv_defs.specs.declared.run.Next.TheVariants as next
-use Rattle.dv_defs.specs.Statics.{is_of_suffix}
+use Rattle.dv_typing.specs.Statics.{is_of_suffix}
 use Rattle.dv_defs.specs.Types.{component}
 use Rattle.dv_machine.specs.State.{Did}
 use Rattle.dv_units.specs.Tables.{standard_suffix}
-use Rattle.dv_steps.specs.Local.{reg_word}
-use Rattle.dv_steps.specs.Mem.{WordLeft, is_storable, is_wide, narrowed_all, words_in}
+use Rattle.dv_words.specs.Local.{reg_word}
+use Rattle.dv_words.specs.Mem.{WordLeft, is_storable, is_wide, narrowed_all, words_in}
 use Rattle.dv_mem.specs.Elements.{width_of}
 use Rattle.dv_mem.specs.Operands.{AreWithin}
 use Rattle.dv_mem.specs.Tops.{Answers, seen, top_frame}

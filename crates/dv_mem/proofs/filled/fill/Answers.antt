@@ -1,8 +1,8 @@
 use Rattle.std.proofs.Common.{◌≡◌, ◌∙◌, ◌<◌, ℕ, suc, ◌+◌, List, length, get_or, map, take, ap, sym, arith}
 use Rattle.dv_defs.specs.Op.{named_registers}
 use Rattle.dv_words.specs.Heaps.{with_word}
-use Rattle.dv_steps.specs.Local.{reg_word}
-use Rattle.dv_steps.specs.Mem.{stored}
+use Rattle.dv_words.specs.Local.{reg_word}
+use Rattle.dv_words.specs.Mem.{stored}
 use Rattle.dv_mem.specs.Tops.{top_frame}
 use Rattle.dv_mem.proofs.Storing.{get_map, has_stored, length_map, no_string_stored, take_all, word_stored}
 use Rattle.dv_mem.proofs.filled.fill.Goals as goal

@@ -1,7 +1,7 @@
 use Rattle.std.proofs.Common.{◌≡◌, take, map}
 use Rattle.dv_defs.specs.Op.{named_registers}
-use Rattle.dv_steps.specs.Local.{reg_word}
-use Rattle.dv_steps.specs.Mem.{stored}
+use Rattle.dv_words.specs.Local.{reg_word}
+use Rattle.dv_words.specs.Mem.{stored}
 use Rattle.dv_mem.specs.Tops.{top_frame}
 use Rattle.dv_mem.proofs.filled.fill.Given as goal
 

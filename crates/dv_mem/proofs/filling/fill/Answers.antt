@@ -1,11 +1,11 @@
 use Rattle.std.proofs.Common.{◌∙◌, ◌<◌, ℕ, List, ℤ, Some, sym, ap, subst, arith}
-use Rattle.dv_defs.specs.Demands.{is_fill_type}
+use Rattle.dv_typing.specs.Demands.{is_fill_type}
 use Rattle.dv_defs.specs.Tiling.{payload_at, tiles_in, tiling}
 use Rattle.dv_defs.specs.Types.{component}
 use Rattle.dv_machine.specs.State.{Did}
 use Rattle.dv_ops.specs.Meaning.{elements_in, width_in}
-use Rattle.dv_steps.specs.Mem as steps
-use Rattle.dv_steps.specs.Mem.{WordLeft}
+use Rattle.dv_words.specs.Mem as steps
+use Rattle.dv_words.specs.Mem.{WordLeft}
 use Rattle.dv_machine.specs.Mem.{on_object}
 use Rattle.dv_mem.specs.Operands.{IsArray, IsNullOrArray}
 use Rattle.dv_mem.specs.Tops.{Answers, seen}

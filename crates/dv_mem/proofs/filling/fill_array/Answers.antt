@@ -4,7 +4,7 @@ use Rattle.dv_defs.specs.declared.run.Next.TheVariants as next
 use Rattle.dv_defs.specs.Numbers.{elements}
 use Rattle.dv_defs.specs.Tiling.{bytes_in}
 use Rattle.dv_machine.specs.State.{Did}
-use Rattle.dv_steps.specs.Mem.{WordLeft, filled, stored}
+use Rattle.dv_words.specs.Mem.{WordLeft, filled, stored}
 use Rattle.dv_mem.specs.Tops.{Answers, seen}
 use Rattle.dv_mem.proofs.Arrays.{short_fill, whole_fill}
 use Rattle.dv_mem.proofs.Writing.{element_count}

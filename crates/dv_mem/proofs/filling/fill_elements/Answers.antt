@@ -2,7 +2,7 @@ use Rattle.std.proofs.Common.{◌≡◌, ◌∙◌, ◌+◌, ℕ, suc, List, ℤ
 use Rattle.dv_defs.specs.Numbers.{elements}
 use Rattle.dv_defs.specs.Tiling.{bytes_in}
 use Rattle.dv_defs.specs.Types.{words_of}
-use Rattle.dv_steps.specs.Mem.{filled, stored}
+use Rattle.dv_words.specs.Mem.{filled, stored}
 use Rattle.dv_mem.specs.Payloads.{element_at}
 use Rattle.dv_mem.specs.Values.{listed}
 use Rattle.dv_mem.proofs.Storing.{no_string_stored, size_after}

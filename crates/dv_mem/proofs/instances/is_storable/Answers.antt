@@ -2,7 +2,7 @@ use Rattle.std.proofs.Common.{◌≡◌, ◌∙◌, ◌<◌, ap, sym, arith}
 use Rattle.dv_defs.specs.declared.names.Ty.{Ty}
 use Rattle.dv_defs.specs.Parts.{Suffix}
 use Rattle.dv_units.specs.Tables.{standard_suffix}
-use Rattle.dv_steps.specs.Mem.{is_storable}
+use Rattle.dv_words.specs.Mem.{is_storable}
 use Rattle.dv_mem.specs.Tops.{here}
 use Rattle.dv_mem.proofs.Arrays.{storable_object}
 use Rattle.dv_mem.proofs.instances.is_storable.Goals as goal

@@ -2,8 +2,8 @@ use Rattle.std.proofs.Common.{◌≡◌, ◌∙◌, ℤ, pos, sym, subst, ap}
 use Rattle.dv_words.specs.Heaps.{alloc_array, cost_of_array}
 use Rattle.dv_words.specs.Words.{int_of}
 use Rattle.dv_heap.specs.Answers.{newest_of}
-use Rattle.dv_steps.specs.Mem.{new_array, put_object}
-use Rattle.dv_steps.specs.Stepping.{Answered}
+use Rattle.dv_words.specs.Mem.{new_array, put_object}
+use Rattle.dv_words.specs.Stepping.{Answered}
 use Rattle.dv_mem.specs.Tops.{seen}
 use Rattle.dv_mem.proofs.Making.{count_is, made_goes}
 use Rattle.dv_mem.proofs.made.new_array.Goals as goal

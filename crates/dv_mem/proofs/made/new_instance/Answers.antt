@@ -1,6 +1,6 @@
 use Rattle.dv_words.specs.Heaps.{alloc_object, cost_of_object}
 use Rattle.dv_heap.specs.Answers.{newest_of}
-use Rattle.dv_steps.specs.Mem.{put_object}
+use Rattle.dv_words.specs.Mem.{put_object}
 use Rattle.dv_mem.specs.Tops.{seen}
 use Rattle.dv_mem.proofs.Making.{made_goes}
 use Rattle.dv_mem.proofs.made.new_instance.Goals as goal

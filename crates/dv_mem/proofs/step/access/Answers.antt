@@ -1,15 +1,15 @@
 use Rattle.std.proofs.Common.{List, Result, Ok, sym, subst}
 use Rattle.std.specs.declared.alloc.AllocError.{AllocError}
 use Rattle.dv_defs.specs.declared.run.Next.{Next}
-use Rattle.dv_defs.specs.Demands.{is_fill_type}
+use Rattle.dv_typing.specs.Demands.{is_fill_type}
 use Rattle.dv_defs.specs.Op.{Fill}
 use Rattle.dv_defs.specs.Tiling.{Tile, payload_at}
 use Rattle.dv_ops.specs.declared.op.Op.{Op}
 use Rattle.dv_ops.specs.Meaning.{elements_in, meant, width_in}
 use Rattle.dv_units.specs.Tables.{standard_suffix}
-use Rattle.dv_steps.specs.Local.{reg_word}
-use Rattle.dv_steps.specs.Mem.{word_mem}
-use Rattle.dv_steps.specs.Stepping.{Answered}
+use Rattle.dv_words.specs.Local.{reg_word}
+use Rattle.dv_words.specs.Mem.{word_mem}
+use Rattle.dv_words.specs.Stepping.{Answered}
 use Rattle.dv_mem.specs.Operands.{AreOperands, IsNullOrArray}
 use Rattle.dv_mem.specs.Tops.{seen, top_frame}
 use Rattle.dv_mem.proofs.step.access.Goals as goal

@@ -4,8 +4,8 @@ use Rattle.dv_defs.specs.Spelling.{all_fit}
 use Rattle.dv_defs.specs.Tiling.{tiles_in, tiling}
 use Rattle.dv_ops.specs.Meaning.{code_of, meant, meant_or_rule}
 use Rattle.dv_words.specs.declared.state.Frame.{Frame}
-use Rattle.dv_steps.specs.Mem.{word_mem}
-use Rattle.dv_steps.specs.Stepping.{Answered}
+use Rattle.dv_words.specs.Mem.{word_mem}
+use Rattle.dv_words.specs.Stepping.{Answered}
 use Rattle.dv_mem.specs.Operands.{AreOperands}
 use Rattle.dv_mem.specs.Stepping.{is_mem}
 use Rattle.dv_mem.specs.Tops.{here, top_frame}

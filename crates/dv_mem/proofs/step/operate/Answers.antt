@@ -3,8 +3,8 @@ use Rattle.std.specs.declared.alloc.AllocError.{AllocError}
 use Rattle.dv_defs.specs.declared.run.Next.{Next}
 use Rattle.dv_ops.specs.declared.op.Op.{Op}
 use Rattle.dv_ops.specs.Meaning.{meant}
-use Rattle.dv_steps.specs.Mem.{word_mem}
-use Rattle.dv_steps.specs.Stepping.{Answered}
+use Rattle.dv_words.specs.Mem.{word_mem}
+use Rattle.dv_words.specs.Stepping.{Answered}
 use Rattle.dv_mem.specs.Operands.{AreOperands}
 use Rattle.dv_mem.specs.Tops.{seen}
 use Rattle.dv_mem.proofs.step.operate.Goals as goal

@@ -1,6 +1,6 @@
 use Rattle.std.proofs.Common.{◌≡◌, ◌≢◌, List, [], sym, subst}
 use Rattle.dv_defs.specs.declared.faults.Fault.{Fault}
-use Rattle.dv_defs.specs.Accepting.{AreFaults, IsAcceptedMethod}
+use Rattle.dv_typing.specs.Accepting.{AreFaults, IsAcceptedMethod}
 use Rattle.dv_defs.specs.Op.{code_at}
 use Rattle.dv_infer.specs.Errors.{IfFaults}
 use Rattle.dv_pverify.specs.Judging.{Judges}

@@ -3,7 +3,7 @@ use Rattle.std.specs.Prelude.{bytes_eq, option_and_then, position}
 use Rattle.dv_defs.specs.declared.names.Base.{Base}
 use Rattle.dv_defs.specs.Pools.{class_named}
 use Rattle.dv_defs.specs.Types.{class_in}
-use Rattle.dv_linklaws.proofs.Names.{named_is_position}
+use Rattle.law_linking.proofs.Names.{named_is_position}
 use Rattle.dv_resolve.proofs.lookups.place_in.Goals as goal
 
 pub returns-in-Class : goal.returns-in-Class

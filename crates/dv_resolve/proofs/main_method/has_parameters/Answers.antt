@@ -1,5 +1,5 @@
 use Rattle.std.proofs.Common.{arith}
-use Rattle.dv_defs.specs.Joins.{array_of}
+use Rattle.dv_defs.specs.Common.{array_of}
 use Rattle.dv_defs.specs.Names.{string_name}
 use Rattle.dv_defs.specs.Types.{of_class}
 use Rattle.dv_resolve.proofs.MainLaws.{several_types, some_types}

@@ -1,5 +1,5 @@
 use Rattle.std.proofs.Common.{arith, ◌++◌, map, drop, ◌+◌, ap, sym, ◌∙◌}
-use Rattle.dv_defs.specs.Flow.{catchers}
+use Rattle.dv_typing.specs.Flow.{catchers}
 use Rattle.dv_rules.specs.Edges.{handler_edge}
 use Rattle.dv_rules.proofs.HandlerSteps.{last_caught, more_caught}
 use Rattle.dv_rules.proofs.catchers.push_catchers.Goals as goal

@@ -1,5 +1,5 @@
 use Rattle.std.proofs.Common.{◌≡◌, [], List, rules, ◌++◌, map, OnOk, ap, sym, ◌∙◌, subst, append-nil}
-use Rattle.dv_defs.specs.Flow.{Catcher, catchers, handlers_of}
+use Rattle.dv_typing.specs.Flow.{Catcher, catchers, handlers_of}
 use Rattle.dv_rules.specs.Edges.{handler_edge}
 use Rattle.dv_rules.proofs.HandlerSteps.{covered_by, covered_by_none}
 use Rattle.dv_rules.proofs.catchers.push_covering.Goals as goal

@@ -1,5 +1,5 @@
 use Rattle.std.proofs.Common.{◌≡◌, ◌++◌, drop}
-use Rattle.dv_defs.specs.RegTypes.{all_types}
+use Rattle.dv_typing.specs.RegTypes.{all_types}
 use Rattle.dv_rules.proofs.entry.push_types.Given as goal
 
 abbrev pub invariant-loop-ty : goal.invariant-loop-ty

@@ -1,5 +1,5 @@
 use Rattle.std.proofs.Common.{◌≡◌, replicate}
-use Rattle.dv_defs.specs.declared.typing.RegType.TheVariants as ty
+use Rattle.dv_typing.specs.declared.typing.RegType.TheVariants as ty
 use Rattle.dv_rules.proofs.entry.unknown.Given as goal
 
 abbrev pub invariant-loop : goal.invariant-loop

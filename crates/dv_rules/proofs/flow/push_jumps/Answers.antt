@@ -1,6 +1,6 @@
 use Rattle.std.proofs.Common.{◌≡◌, [], ℕ, ◌++◌, map, ap, sym, ◌∙◌, append-nil, refl}
 use Rattle.dv_defs.specs.Op.{Code}
-use Rattle.dv_defs.specs.Flow.{jumps}
+use Rattle.dv_typing.specs.Flow.{jumps}
 use Rattle.dv_optable.specs.declared.family.Test.{Test}
 use Rattle.dv_ops.specs.Meaning.{code_of, meant}
 use Rattle.dv_ops.specs.declared.op.Op.{Op}

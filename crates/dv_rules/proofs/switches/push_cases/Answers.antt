@@ -1,7 +1,7 @@
 use Rattle.std.proofs.Common.{rules, ◌≡◌, ◌++◌, ℕ, true, List, Some, Option, is_some, map, OnOk, ap, sym, ◌∙◌, subst}
 use Rattle.dv_defs.specs.Images.{Image}
 use Rattle.dv_defs.specs.Numbers.{jump}
-use Rattle.dv_defs.specs.Statics.{At, fetch}
+use Rattle.dv_typing.specs.Statics.{At, fetch}
 use Rattle.dv_defs.specs.Tiling.{begins_insn, insn_at, payload_at, tiles_in, tiling}
 use Rattle.dv_ops.specs.Meaning.{code_of}
 use Rattle.dv_rules.specs.Distances.{is_switch}

@@ -2,7 +2,7 @@ use Rattle.std.proofs.Common.{◌∙◌, ap, sym}
 use Rattle.std.specs.Prelude.{◌&&◌}
 use Rattle.dv_machine.specs.Replaying.{next_is_local}
 use Rattle.dv_core.specs.Machines.{machine_of}
-use Rattle.dv_simulation.proofs.Staying.{next_is_alike}
+use Rattle.law_engine.proofs.Staying.{next_is_alike}
 use Rattle.dv_sound.proofs.Going.{watchable}
 use Rattle.dv_sound.proofs.lending.may_lend.Goals as goal
 

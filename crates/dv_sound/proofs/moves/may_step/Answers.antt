@@ -1,6 +1,6 @@
 use Rattle.std.proofs.Common.{◌∙◌, ap, sym}
 use Rattle.std.specs.Prelude.{◌&&◌}
-use Rattle.dv_steps.specs.Running as words
+use Rattle.dv_words.specs.Running as words
 use Rattle.dv_core.specs.Machines.{machine_of}
 use Rattle.dv_sound.proofs.Going.{may_is, watchable}
 use Rattle.dv_sound.proofs.moves.may_step.Goals as goal

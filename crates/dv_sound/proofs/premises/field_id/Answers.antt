@@ -1,6 +1,6 @@
 use Rattle.std.proofs.Common.{◌<◌, ◌^◌, arith, rules, subst}
 use Rattle.dv_defs.specs.Linked.{IsImage}
-use Rattle.dv_linklaws.proofs.ImageMembers.{image_fields_few}
+use Rattle.law_linking.proofs.ImageMembers.{image_fields_few}
 use Rattle.dv_sound.proofs.premises.field_id.Goals as goal
 
 pub overflow_cast-result : goal.overflow_cast-result

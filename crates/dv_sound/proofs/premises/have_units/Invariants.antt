@@ -1,5 +1,5 @@
 use Rattle.std.proofs.Common.{◌<◌, ℕ, All, List, get_or}
-use Rattle.dv_steps.specs.Laws.{IsUnit}
+use Rattle.law_words.specs.Laws.{IsUnit}
 use Rattle.dv_sound.proofs.premises.have_units.Given as goal
 
 abbrev pub invariant-loop-text : goal.invariant-loop-text

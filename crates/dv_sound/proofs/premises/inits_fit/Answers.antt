@@ -1,6 +1,6 @@
 use Rattle.std.proofs.Common.{ap, arith, length}
 use Rattle.dv_defs.specs.Images.{Image}
-use Rattle.dv_laws.proofs.lemmas.Opening.Cells.{field_within}
+use Rattle.law_machine.proofs.lemmas.Opening.Cells.{field_within}
 use Rattle.dv_sound.proofs.premises.inits_fit.Goals as goal
 
 pub returns : goal.returns

@@ -1,7 +1,7 @@
 use Rattle.std.proofs.Common.{◌≡◌, ◌<◌, ◌^◌, ℕ, All, List, Some, length}
 use Rattle.dv_defs.specs.Pools.{Field, field_at}
 use Rattle.dv_machine.specs.Opening.{string_of}
-use Rattle.dv_steps.specs.Laws.{IsUnit}
+use Rattle.law_words.specs.Laws.{IsUnit}
 use Rattle.dv_sound.proofs.premises.inits_fit.Given as goal
 
 abbrev pub invariant-loop-place : goal.invariant-loop-place

@@ -1,7 +1,7 @@
 use Rattle.std.proofs.Common.{subst}
 use Rattle.dv_rules.specs.Verified.{VerifiedValue}
-use Rattle.dv_steps.specs.StepLaws.{AllKeysRise}
-use Rattle.dv_simulation.proofs.Keys.{accepted_keys_rise}
+use Rattle.law_words.specs.StepLaws.{AllKeysRise}
+use Rattle.law_engine.proofs.Keys.{accepted_keys_rise}
 use Rattle.dv_sound.proofs.Premised.{accepts}
 use Rattle.dv_sound.proofs.premises.keys_rise.Goals as goal
 

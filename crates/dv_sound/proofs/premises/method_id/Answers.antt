@@ -1,6 +1,6 @@
 use Rattle.std.proofs.Common.{◌<◌, ◌^◌, arith, rules, subst}
 use Rattle.dv_defs.specs.Linked.{IsImage}
-use Rattle.dv_linklaws.proofs.TableLaws.{image_few_methods}
+use Rattle.law_linking.proofs.TableLaws.{image_few_methods}
 use Rattle.dv_sound.proofs.premises.method_id.Goals as goal
 
 pub overflow_cast-result : goal.overflow_cast-result

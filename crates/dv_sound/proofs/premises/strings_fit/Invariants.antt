@@ -1,7 +1,7 @@
 use Rattle.std.proofs.Common.{◌≡◌, ◌<◌, ℕ, All, List, Some}
 use Rattle.std.specs.Prelude.{slice_get}
 use Rattle.dv_defs.specs.Op.{Code, code_at}
-use Rattle.dv_steps.specs.Laws.{IsUnit}
+use Rattle.law_words.specs.Laws.{IsUnit}
 use Rattle.dv_sound.proofs.premises.strings_fit.Given as goal
 
 abbrev pub invariant-loop-place : goal.invariant-loop-place

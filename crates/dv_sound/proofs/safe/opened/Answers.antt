@@ -3,7 +3,7 @@ use Rattle.std.specs.Prelude.{IfOk}
 use Rattle.dv_defs.specs.Images.{Image}
 use Rattle.dv_machine.specs.Accepted.{Accepted}
 use Rattle.dv_rules.specs.Verified.{VerifiedValue}
-use Rattle.dv_steps.specs.StepLaws.{AllKeysRise}
+use Rattle.law_words.specs.StepLaws.{AllKeysRise}
 use Rattle.dv_sound.specs.Runs.{HasMain, IsOpened}
 use Rattle.dv_sound.proofs.Opened.{opened_if_ok}
 use Rattle.dv_sound.proofs.safe.opened.Goals as goal

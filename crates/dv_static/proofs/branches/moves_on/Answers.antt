@@ -1,7 +1,7 @@
 use Rattle.std.proofs.Common.{ap, ◌∙◌}
 use Rattle.std.specs.Prelude.{nat_eq, not, ◌||◌}
 use Rattle.dv_defs.specs.Families.{family_at}
-use Rattle.dv_defs.specs.Statics.{is_branch}
+use Rattle.dv_typing.specs.Statics.{is_branch}
 use Rattle.dv_static.proofs.branches.moves_on.Goals as goal
 
 pub returns : goal.returns

@@ -1,7 +1,7 @@
 use Rattle.std.proofs.Common.{List, ◌++◌, ap, ◌∙◌, map}
 use Rattle.std.proofs.lemmas.Result.{on_ok_weaker}
-use Rattle.dv_defs.specs.Accepting as accepting
-use Rattle.dv_defs.specs.Accepting.{first_places, tile_places, try_places}
+use Rattle.dv_typing.specs.Accepting as accepting
+use Rattle.dv_typing.specs.Accepting.{first_places, tile_places, try_places}
 use Rattle.dv_ops.specs.Meaning.{code_of}
 use Rattle.dv_static.specs.Tiles.{tile_of}
 use Rattle.dv_static.proofs.faults.add_found_places.Goals as goal

@@ -1,5 +1,5 @@
 use Rattle.std.proofs.Common.{◌≡◌, ◌++◌, drop, map}
-use Rattle.dv_defs.specs.Accepting.{tile_places}
+use Rattle.dv_typing.specs.Accepting.{tile_places}
 use Rattle.dv_ops.specs.Meaning.{code_of}
 use Rattle.dv_static.specs.Placed.{places_of}
 use Rattle.dv_static.specs.Tiles.{tile_of}

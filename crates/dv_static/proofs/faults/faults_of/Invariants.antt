@@ -1,5 +1,5 @@
 use Rattle.std.proofs.Common.{◌≡◌, ◌++◌, drop, map}
-use Rattle.dv_defs.specs.Accepting.{static_fault}
+use Rattle.dv_typing.specs.Accepting.{static_fault}
 use Rattle.dv_static.specs.Placed.{places_of}
 use Rattle.dv_static.proofs.faults.faults_of.Given as goal
 

@@ -1,5 +1,5 @@
 use Rattle.std.proofs.Common.{List, ◌++◌, ap, ◌∙◌, map}
-use Rattle.dv_defs.specs.Accepting.{first_places, tile_places, try_places}
+use Rattle.dv_typing.specs.Accepting.{first_places, tile_places, try_places}
 use Rattle.dv_ops.specs.Meaning.{code_of}
 use Rattle.dv_static.specs.declared.places.Place.{Place}
 use Rattle.dv_static.specs.Placed.{places_of}

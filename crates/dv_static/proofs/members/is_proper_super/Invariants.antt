@@ -1,7 +1,7 @@
 use Rattle.std.proofs.Common.{◌≡◌, ◌-◌}
 use Rattle.dv_defs.specs.Pools.{walk}
 use Rattle.dv_defs.specs.Order.{has_number}
-use Rattle.dv_defs.specs.Statics.{is_proper_super}
+use Rattle.dv_typing.specs.Statics.{is_proper_super}
 use Rattle.dv_static.proofs.members.is_proper_super.Given as goal
 
 abbrev pub invariant-loop-left : goal.invariant-loop-left

@@ -1,5 +1,5 @@
 use Rattle.std.proofs.Common.{◌≡◌, ◌++◌, drop}
-use Rattle.dv_defs.specs.Accepting.{try_places}
+use Rattle.dv_typing.specs.Accepting.{try_places}
 use Rattle.dv_ops.specs.Meaning.{code_of}
 use Rattle.dv_static.specs.Placed.{places_of}
 use Rattle.dv_static.proofs.tries.add_each_try.Given as goal

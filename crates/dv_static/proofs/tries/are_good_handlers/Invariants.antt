@@ -1,5 +1,5 @@
 use Rattle.std.proofs.Common.{◌≡◌, drop}
-use Rattle.dv_defs.specs.Accepting.{handlers_good}
+use Rattle.dv_typing.specs.Accepting.{handlers_good}
 use Rattle.dv_ops.specs.Meaning.{code_of}
 use Rattle.dv_static.proofs.tries.are_good_handlers.Given as goal
 

@@ -2,10 +2,10 @@ use Rattle.std.proofs.Common.{◌<◌, Ok, refl, sym, ◌∙◌, arith}
 use Rattle.std.specs.Vec.{with_items}
 use Rattle.dv_threads.specs.declared.threads.Threads.{Threads}
 use Rattle.dv_defs.specs.declared.run.Next.TheVariants as next
-use Rattle.dv_defs.specs.Monitors.{entered}
+use Rattle.dv_machine.specs.Monitors.{entered}
 use Rattle.dv_machine.specs.Mem.{on_object}
 use Rattle.dv_words.specs.Stacks.{gone}
-use Rattle.dv_steps.specs.Threads.{monitor_enter}
+use Rattle.dv_words.specs.Threads.{monitor_enter}
 use Rattle.dv_threads.specs.Kept.{AreAsBefore, LeavesThreads}
 use Rattle.dv_threads.proofs.Leaving.{blocked, goes_on, led, rewritten}
 use Rattle.dv_threads.proofs.Owning.{enters, on_some, waits}

@@ -2,11 +2,11 @@ use Rattle.std.proofs.Common.{◌≡◌, ℕ, Ok, Some, refl, sym, ap, ◌∙◌
 use Rattle.std.specs.Vec.{with_items}
 use Rattle.dv_threads.specs.declared.threads.Threads.{Threads}
 use Rattle.dv_defs.specs.declared.run.Next.TheVariants as next
-use Rattle.dv_defs.specs.Monitors.{notified_one, owner_of}
+use Rattle.dv_machine.specs.Monitors.{notified_one, owner_of}
 use Rattle.dv_machine.specs.State.{Did}
 use Rattle.dv_words.specs.Stacks.{gone}
-use Rattle.dv_steps.specs.Steps.{Left, goes, with_monitors}
-use Rattle.dv_steps.specs.Threads.{notify_on}
+use Rattle.dv_words.specs.Steps.{Left, goes, with_monitors}
+use Rattle.dv_words.specs.Threads.{notify_on}
 use Rattle.dv_threads.specs.Kept.{AreAsBefore, LeavesThreads}
 use Rattle.dv_threads.proofs.Leaving.{goes_on, led, rewritten}
 use Rattle.dv_threads.proofs.Owning.{owned}

@@ -5,7 +5,7 @@ use Rattle.dv_image.proofs.Landings.{read_at}
 use Rattle.dv_words.specs.Stacks.{arg_words, top_regs}
 use Rattle.dv_words.specs.State.{WordStack}
 use Rattle.dv_words.specs.Words.{word_at}
-use Rattle.dv_steps.specs.Natives.{arg}
+use Rattle.dv_words.specs.Natives.{arg}
 use Rattle.dv_threads.proofs.Leaving.{got_within}
 use Rattle.dv_threads.proofs.Operands.{first_named}
 use Rattle.dv_threads.proofs.natives.first_word.Goals as goal

@@ -1,8 +1,8 @@
 use Rattle.std.proofs.Common.{◌≡◌, ℕ, List, Ok, map, sym, ap, ◌∙◌}
 use Rattle.dv_defs.specs.Op.{named_registers}
-use Rattle.dv_steps.specs.Local.{reg_word}
-use Rattle.dv_steps.specs.Natives.{arg, native_step}
-use Rattle.dv_steps.specs.Threads.{join_on, notify_all_on, notify_on, start_on, wait_on}
+use Rattle.dv_words.specs.Local.{reg_word}
+use Rattle.dv_words.specs.Natives.{arg, native_step}
+use Rattle.dv_words.specs.Threads.{join_on, notify_all_on, notify_on, start_on, wait_on}
 use Rattle.dv_threads.specs.Kept.{AreAsBefore, LeavesThreads}
 use Rattle.dv_threads.proofs.Leaving.{led}
 use Rattle.dv_threads.proofs.Operands.{object_is}

@@ -1,6 +1,6 @@
 use Rattle.std.proofs.Common.{◌≡◌, codes, drop, find}
 use Rattle.dv_defs.specs.Pools.{no_arguments}
-use Rattle.dv_linklaws.specs.Landing.{has_key_at}
+use Rattle.law_linking.specs.Landing.{has_key_at}
 use Rattle.dv_threads.proofs.running.first_run.Given as goal
 
 abbrev pub invariant-loop-i : goal.invariant-loop-i

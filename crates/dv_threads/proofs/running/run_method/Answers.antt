@@ -1,6 +1,6 @@
 use Rattle.std.proofs.Common.{codes, ap, sym, ◌∙◌}
 use Rattle.dv_defs.specs.Pools.{no_arguments}
-use Rattle.dv_steps.specs.Threads as steps
+use Rattle.dv_words.specs.Threads as steps
 use Rattle.dv_threads.proofs.Runs.{it_runs}
 use Rattle.dv_threads.proofs.running.run_method.Goals as goal
 

@@ -1,8 +1,8 @@
 use Rattle.std.proofs.Common.{rules, ◌≡◌, codes, find, ap, refl, subst, sym, ◌∙◌}
 use Rattle.dv_defs.specs.Linked.{IsImage}
 use Rattle.dv_defs.specs.Pools.{no_arguments}
-use Rattle.dv_linklaws.specs.Landing.{has_key_at}
-use Rattle.dv_linklaws.proofs.TableLaws.{nearest_outside}
+use Rattle.law_linking.specs.Landing.{has_key_at}
+use Rattle.law_linking.proofs.TableLaws.{nearest_outside}
 use Rattle.dv_image.proofs.Landings.{landing_tabled, read_at, read_past}
 use Rattle.dv_threads.proofs.running.run_of_class.Goals as goal
 

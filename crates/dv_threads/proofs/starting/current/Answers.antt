@@ -7,7 +7,7 @@ use Rattle.dv_image.proofs.Landings.{read_at}
 use Rattle.dv_words.specs.declared.state.Frame.{Frame}
 use Rattle.dv_words.specs.declared.state.Kept.TheVariants as kept
 use Rattle.dv_words.specs.Stacks.{given, gone}
-use Rattle.dv_steps.specs.Threads.{object_of_thread, own_object}
+use Rattle.dv_words.specs.Threads.{object_of_thread, own_object}
 use Rattle.dv_threads.proofs.Begins.{object_at}
 use Rattle.dv_threads.proofs.Leaving.{rewritten, went}
 use Rattle.dv_threads.proofs.starting.current.Goals as goal

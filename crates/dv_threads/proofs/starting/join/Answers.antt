@@ -3,7 +3,7 @@ use Rattle.std.specs.Vec.{with_items}
 use Rattle.dv_threads.specs.declared.threads.Threads.{Threads}
 use Rattle.dv_defs.specs.declared.run.Next.TheVariants as next
 use Rattle.dv_words.specs.Stacks.{gone}
-use Rattle.dv_steps.specs.Threads.{join_on, thread_with}
+use Rattle.dv_words.specs.Threads.{join_on, thread_with}
 use Rattle.dv_threads.specs.Kept.{AreAsBefore, LeavesThreads}
 use Rattle.dv_threads.proofs.Begins.{join_goes, join_stays}
 use Rattle.dv_threads.proofs.Leaving.{blocked, goes_alone, led, rewritten}

@@ -4,7 +4,7 @@ use Rattle.dv_defs.specs.declared.run.Limits.{Limits}
 use Rattle.dv_defs.specs.declared.run.Named.TheVariants as named
 use Rattle.dv_defs.specs.declared.run.Next.TheVariants as next
 use Rattle.dv_machine.specs.State.{Throws}
-use Rattle.dv_steps.specs.Threads.{start_on, started_on, thread_with}
+use Rattle.dv_words.specs.Threads.{start_on, started_on, thread_with}
 use Rattle.dv_threads.specs.Kept.{AreAsBefore, LeavesThreads}
 use Rattle.dv_threads.specs.Starting.{run_of}
 use Rattle.dv_threads.proofs.Begins.{count_is, few_enough, start_free, start_taken, thread_is, too_many}

@@ -5,8 +5,8 @@ use Rattle.dv_machine.specs.Mem.{on_object}
 use Rattle.dv_monitor.specs.State.{count_of}
 use Rattle.dv_words.specs.Stacks.{top_regs}
 use Rattle.dv_words.specs.Words.{word_at}
-use Rattle.dv_steps.specs.Local.{reg_word}
-use Rattle.dv_steps.specs.Threads.{monitor_enter, monitor_exit}
+use Rattle.dv_words.specs.Local.{reg_word}
+use Rattle.dv_words.specs.Threads.{monitor_enter, monitor_exit}
 use Rattle.dv_threads.specs.Kept.{AreAsBefore, LeavesThreads}
 use Rattle.dv_threads.proofs.Families.{enter_is, exit_is}
 use Rattle.dv_threads.proofs.Leaving.{led}

@@ -2,8 +2,8 @@ use Rattle.std.proofs.Common.{◌≡◌, ℕ, List, Some, map, refl, ap, sym, �
 use Rattle.std.specs.Prelude.{slice_get}
 use Rattle.std.proofs.lemmas.Option.{same_Some}
 use Rattle.dv_defs.specs.Op.{Enter, Exit, named_registers}
-use Rattle.dv_steps.specs.Local.{reg_word}
-use Rattle.dv_steps.specs.Natives.{native_step}
+use Rattle.dv_words.specs.Local.{reg_word}
+use Rattle.dv_words.specs.Natives.{native_step}
 use Rattle.dv_threads.specs.Kept.{AreAsBefore, IsThreadOf, LeavesThreads}
 use Rattle.dv_threads.specs.Stepping.{is_of_threads}
 use Rattle.dv_threads.proofs.Addresses.{fetched}

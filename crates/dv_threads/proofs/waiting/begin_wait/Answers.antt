@@ -1,11 +1,11 @@
 use Rattle.std.proofs.Common.{◌≡◌, ℕ, Ok, Some, None, refl, sym, ◌∙◌}
 use Rattle.dv_threads.specs.declared.threads.Threads.{Threads}
 use Rattle.dv_defs.specs.declared.run.Next.TheVariants as next
-use Rattle.dv_defs.specs.Monitors.{owner_of, waiting}
+use Rattle.dv_machine.specs.Monitors.{owner_of, waiting}
 use Rattle.dv_machine.specs.State.{Did}
 use Rattle.dv_monitor.specs.State.{count_of}
-use Rattle.dv_steps.specs.Steps.{Left, onward, with_monitors}
-use Rattle.dv_steps.specs.Threads.{wait_step}
+use Rattle.dv_words.specs.Steps.{Left, onward, with_monitors}
+use Rattle.dv_words.specs.Threads.{wait_step}
 use Rattle.dv_threads.specs.Kept.{AreAsBefore, LeavesThreads}
 use Rattle.dv_threads.proofs.Leaving.{led, stayed}
 use Rattle.dv_threads.proofs.Owning.{owned}

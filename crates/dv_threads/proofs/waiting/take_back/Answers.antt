@@ -3,10 +3,10 @@ use Rattle.std.specs.Prelude.{is_some}
 use Rattle.std.specs.Vec.{with_items}
 use Rattle.dv_threads.specs.declared.threads.Threads.{Threads}
 use Rattle.dv_defs.specs.declared.run.Next.TheVariants as next
-use Rattle.dv_defs.specs.Monitors.{owner_of, resumed}
+use Rattle.dv_machine.specs.Monitors.{owner_of, resumed}
 use Rattle.dv_monitor.specs.Waits.{wait_value}
 use Rattle.dv_words.specs.Stacks.{gone}
-use Rattle.dv_steps.specs.Threads.{wait_step}
+use Rattle.dv_words.specs.Threads.{wait_step}
 use Rattle.dv_threads.specs.Kept.{AreAsBefore, LeavesThreads}
 use Rattle.dv_threads.proofs.Leaving.{blocked, goes_on, led, rewritten}
 use Rattle.dv_threads.proofs.Owning.{back, not_free, not_told, resumes}

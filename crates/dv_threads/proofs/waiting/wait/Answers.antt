@@ -1,6 +1,6 @@
 use Rattle.std.proofs.Common.{Ok, Some, None}
 use Rattle.dv_monitor.specs.Waits.{wait_value}
-use Rattle.dv_steps.specs.Threads.{wait_on, wait_step}
+use Rattle.dv_words.specs.Threads.{wait_on, wait_step}
 use Rattle.dv_threads.specs.Kept.{AreAsBefore, LeavesThreads}
 use Rattle.dv_threads.proofs.Leaving.{led}
 use Rattle.dv_threads.proofs.Owning.{wait_is}

@@ -1,7 +1,7 @@
 use Rattle.std.proofs.Common.{◌≡◌, ◌<◌, ◌^◌, length, arith, rules, ap, sym, ◌∙◌}
 use Rattle.dv_defs.specs.Images.{Image}
 use Rattle.dv_machine.specs.Unwinding.{is_named_field}
-use Rattle.dv_linklaws.proofs.ImageMembers.{image_fields_few}
+use Rattle.law_linking.proofs.ImageMembers.{image_fields_few}
 use Rattle.dv_throw.proofs.Slots.{slot_on}
 use Rattle.dv_throw.proofs.fields.throwable_slot.Goals as goal
 

@@ -1,6 +1,6 @@
 use Rattle.std.proofs.Common.{◌≡◌, drop}
-use Rattle.dv_defs.specs.Flow.{catchers}
-use Rattle.dv_steps.specs.Unwinding.{handler_for}
+use Rattle.dv_typing.specs.Flow.{catchers}
+use Rattle.dv_words.specs.Unwinding.{handler_for}
 use Rattle.dv_throw.proofs.handlers.first_catching.Given as goal
 
 -- no handler before catches the object, and none catches all

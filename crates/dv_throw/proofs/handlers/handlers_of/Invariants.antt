@@ -1,5 +1,5 @@
 use Rattle.std.proofs.Common.{◌≡◌, drop}
-use Rattle.dv_defs.specs.Flow.{handlers_of}
+use Rattle.dv_typing.specs.Flow.{handlers_of}
 use Rattle.dv_throw.proofs.handlers.handlers_of.Given as goal
 
 -- no try entry before covers the address

@@ -1,5 +1,5 @@
 use Rattle.std.proofs.Common.{sym}
-use Rattle.dv_orders.proofs.Walks.{named_inside}
+use Rattle.law_types.proofs.Walks.{named_inside}
 use Rattle.dv_throw.proofs.names.number_named.Goals as goal
 
 pub class_id-requires : goal.class_id-requires

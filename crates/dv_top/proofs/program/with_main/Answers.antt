@@ -1,4 +1,4 @@
-use Rattle.dv_program.proofs.MainMethods.{mains_are_main}
+use Rattle.dv_load.proofs.MainMethods.{mains_are_main}
 use Rattle.dv_top.proofs.program.with_main.Goals as goal
 
 pub returns-in-Ok-clause-main : goal.returns-in-Ok-clause-main

@@ -1,5 +1,5 @@
 use Rattle.std.proofs.Common.{◌≡◌, ◌++◌, drop}
-use Rattle.dv_defs.specs.Joins.{joined}
+use Rattle.dv_typing.specs.Joins.{joined}
 use Rattle.dv_types.proofs.joins.join_registers.Given as goal
 
 abbrev pub invariant-loop-i : goal.invariant-loop-i

@@ -1,6 +1,6 @@
 use Rattle.std.proofs.Common.{◌≡◌, ◌++◌, map}
 use Rattle.std.specs.List.{range_with_len}
-use Rattle.dv_linklaws.proofs.Members.{method_info}
+use Rattle.law_linking.proofs.Members.{method_info}
 use Rattle.dv_vtable.proofs.numbering.add_methods.Given as goal
 
 abbrev pub invariant-loop-place : goal.invariant-loop-place

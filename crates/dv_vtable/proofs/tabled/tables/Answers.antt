@@ -5,7 +5,7 @@ use Rattle.dv_defs.specs.First.{first_below}
 use Rattle.dv_defs.specs.LinkFaults.{Fails, method_twice}
 use Rattle.dv_defs.specs.Linked.{defs, method_phase}
 use Rattle.dv_defs.specs.Numbering.{names_of, all_methods_declared}
-use Rattle.dv_linklaws.specs.Stripped.{AreInRange}
+use Rattle.law_linking.specs.Stripped.{AreInRange}
 use Rattle.dv_hier.specs.Hierarchies.{HierarchyValue, IsHierarchy}
 use Rattle.dv_vtable.specs.Tables.{tabled_of}
 use Rattle.dv_vtable.proofs.TabledLaws.{with_tables, hierarchy_range, few_hierarchy, failed_classes, passed_classes, none_wrong, made_classes, tabled_names, tabled_hierarchy, tabled_is, tabled_kept}

@@ -3,12 +3,12 @@ use Rattle.std.specs.Borrow.{Bor}
 use Rattle.std.proofs.lemmas.Grind.{common_steps}
 use Rattle.std.proofs.lemmas.List.{drop_all}
 use Rattle.dv_defs.specs.Types.{ty_eq}
-use Rattle.dv_asm.specs.declared.draft.Catch.{Catch}
-use Rattle.dv_asm.specs.Pools.{with_entries}
+use Rattle.dv_draft.specs.declared.draft.Catch.{Catch}
+use Rattle.dv_draft.specs.Pools.{with_entries}
 use Rattle.dv_asm.specs.Layout.{catches_of}
 use Rattle.dv_asm.specs.Ranges.{found}
 use Rattle.dv_asm.proofs.GroupLemmas.{kind_of, kinds_added}
-use Rattle.dv_asm.proofs.KeyLemmas.{one_more}
+use Rattle.dv_draft.proofs.KeyLemmas.{one_more}
 use Rattle.dv_defs.proofs.Keys.{type_keys}
 use Rattle.dv_asm.proofs.catches.Catches.add_kinds.Goals.{in-Some-kind+in_ok-add, in_default-kind}
 use Rattle.dv_asm.proofs.catches.Catches.add_kinds.Goals as goal

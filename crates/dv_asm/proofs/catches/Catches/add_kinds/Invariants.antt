@@ -1,6 +1,6 @@
 use Rattle.std.proofs.Common.{◌≡◌, drop}
 use Rattle.dv_defs.specs.Types.{ty_eq}
-use Rattle.dv_asm.specs.Pools.{with_entries}
+use Rattle.dv_draft.specs.Pools.{with_entries}
 use Rattle.dv_asm.proofs.GroupLemmas.{kind_of}
 use Rattle.dv_asm.proofs.catches.Catches.add_kinds.Given as goal
 

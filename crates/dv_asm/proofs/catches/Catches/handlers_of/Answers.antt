@@ -3,7 +3,7 @@ use Rattle.std.proofs.Common.{◌≡◌, List, [], map, take, ap, sym, ◌∙◌
 use Rattle.std.specs.Borrow.{Bor}
 use Rattle.std.proofs.lemmas.List.{take_all}
 use Rattle.std.proofs.lemmas.Simd.{map-map}
-use Rattle.dv_asm.specs.declared.draft.Catch.{Catch}
+use Rattle.dv_draft.specs.declared.draft.Catch.{Catch}
 use Rattle.dv_asm.specs.Layout.{handler_of, catches_of}
 use Rattle.dv_asm.specs.Ranges.{found}
 use Rattle.dv_asm.proofs.catches.Catches.handlers_of.Goals as goal

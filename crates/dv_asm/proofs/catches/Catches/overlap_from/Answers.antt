@@ -1,7 +1,7 @@
 use Rattle.std.proofs.Common.{◌≡◌, ◌≤◌, ◌<◌, ℕ, Option, Some, length, ap, sym, ◌∙◌, arith, subst}
 use Rattle.std.specs.Option.{unwrap_or}
 use Rattle.dv_asm.specs.First.{when}
-use Rattle.dv_asm.specs.declared.draft.Catch.{Catch}
+use Rattle.dv_draft.specs.declared.draft.Catch.{Catch}
 use Rattle.dv_asm.specs.Refusals.{catch_at, overlaps_earlier, try_overlap_at}
 use Rattle.dv_asm.proofs.FirstLemmas.{first_line_least, first_line_some}
 use Rattle.dv_asm.proofs.catches.Catches.overlap_from.Goals as goal

@@ -1,5 +1,5 @@
 use Rattle.std.proofs.Common.{◌≡◌, false, sym, arith}
-use Rattle.dv_steps.specs.Running.{runnable}
+use Rattle.dv_words.specs.Running.{runnable}
 use Rattle.dv_core.specs.Machines.{machine_of}
 use Rattle.dv_core.proofs.Waits.{below, many_threads, none_runs, one_runs}
 use Rattle.dv_core.proofs.vm.Vm.any_runnable.Goals as goal

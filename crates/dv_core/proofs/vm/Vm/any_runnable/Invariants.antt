@@ -1,5 +1,5 @@
 use Rattle.std.proofs.Common.{◌≡◌, ◌<◌, ℕ, false}
-use Rattle.dv_steps.specs.Running.{runnable}
+use Rattle.dv_words.specs.Running.{runnable}
 use Rattle.dv_core.specs.Machines.{machine_of}
 use Rattle.dv_core.specs.Watching.{AreWatchable}
 use Rattle.dv_core.proofs.vm.Vm.any_runnable.Given as goal

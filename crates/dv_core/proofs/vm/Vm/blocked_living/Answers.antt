@@ -1,6 +1,6 @@
 use Rattle.std.proofs.Common.{◌≡◌, ◌∙◌, List, length, sym, ap, subst, arith}
 use Rattle.dv_image.proofs.Landings.{read_at}
-use Rattle.dv_steps.specs.Running.{blocked_levels}
+use Rattle.dv_words.specs.Running.{blocked_levels}
 use Rattle.dv_words.specs.State.{WordStack}
 use Rattle.dv_core.specs.Machines.{machine_of}
 use Rattle.dv_core.specs.Watching.{IsTopWatched}

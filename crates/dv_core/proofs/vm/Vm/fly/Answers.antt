@@ -1,6 +1,6 @@
 use Rattle.std.proofs.Common.{◌≡◌, suc, ap, sym, ◌∙◌, List}
 use Rattle.dv_words.specs.State.{WordThread}
-use Rattle.dv_steps.specs.Step.{end_flying}
+use Rattle.dv_words.specs.Step.{end_flying}
 use Rattle.dv_threads.specs.Kept.{threads_of}
 use Rattle.dv_core.specs.Guests.{shared_of}
 use Rattle.dv_core.proofs.Settled.{ended_same, died, flying}

@@ -1,7 +1,7 @@
 use Rattle.std.proofs.Common.{◌∙◌, List, length, sym, ap, subst, arith}
 use Rattle.dv_image.proofs.Landings.{read_at}
 use Rattle.dv_words.specs.State.{WordStack}
-use Rattle.dv_simulation.specs.KeepLaws.{is_local_level_of}
+use Rattle.law_engine.specs.KeepLaws.{is_local_level_of}
 use Rattle.dv_core.specs.Watching.{IsTopWatched}
 use Rattle.dv_core.proofs.Advanced.{not_local, own_local, running_own}
 use Rattle.dv_core.proofs.Settled.{stack_there, thread_within}

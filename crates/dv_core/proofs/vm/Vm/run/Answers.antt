@@ -1,6 +1,6 @@
 use Rattle.std.proofs.Common.{◌≡◌, ◌∙◌, ◌+◌, ℕ, true, false, None, refl, sym, ap, subst, arith}
 use Rattle.dv_machine.specs.Replaying.{is_running}
-use Rattle.dv_steps.specs.Stepping.{RanLocally}
+use Rattle.dv_words.specs.Stepping.{RanLocally}
 use Rattle.dv_threads.specs.Kept.{zipped}
 use Rattle.dv_core.specs.Advancing.{top_frame}
 use Rattle.dv_core.specs.Guests.{shared_of}

@@ -2,8 +2,8 @@ use Rattle.std.proofs.lemmas.Grind.{moves}
 use Rattle.std.proofs.Common.{Ok, ap, ◌∙◌, subst, arith}
 use Rattle.std.specs.Prelude.{slice_get}
 use Rattle.std.specs.declared.alloc.AllocError.{AllocError}
-use Rattle.dv_steps.specs.Answering.{Leads}
-use Rattle.dv_steps.specs.Step.{end_after}
+use Rattle.dv_words.specs.Answering.{Leads}
+use Rattle.dv_words.specs.Step.{end_after}
 use Rattle.dv_core.specs.Guests.{Leaves, Stays}
 use Rattle.dv_core.specs.Machines.{machine_of, machine_with}
 use Rattle.dv_core.proofs.Counted.{counts, kept, there_left}

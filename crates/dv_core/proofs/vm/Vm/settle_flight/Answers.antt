@@ -1,5 +1,5 @@
 use Rattle.std.proofs.Common.{Ok, ◌∙◌, subst}
-use Rattle.dv_steps.specs.Step.{end_after, end_flying}
+use Rattle.dv_words.specs.Step.{end_after, end_flying}
 use Rattle.dv_throw.specs.Answers.{Unwinds}
 use Rattle.dv_core.specs.Guests.{Leaves, Stays}
 use Rattle.dv_core.specs.Machines.{machine_of, machine_with}

@@ -5,7 +5,7 @@ use Rattle.dv_machine.specs.Step.{no_method}
 use Rattle.dv_words.specs.declared.state.Level.{Level}
 use Rattle.dv_words.specs.declared.state.Level.TheVariants as level
 use Rattle.dv_words.specs.State.{WordThread}
-use Rattle.dv_steps.specs.Step.{here, no_frame, step_flight, step_of}
+use Rattle.dv_words.specs.Step.{here, no_frame, step_flight, step_of}
 use Rattle.dv_threads.specs.Kept.{threads_of}
 use Rattle.dv_core.specs.Machines.{IsStepped, IsSteppable, machine_of}
 use Rattle.dv_core.proofs.Stepped.{by_end, ended, flight_code, flight_none, flight_record, no_thread, sees_here, thread_of}

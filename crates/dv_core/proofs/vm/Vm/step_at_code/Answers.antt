@@ -1,7 +1,7 @@
 use Rattle.std.proofs.Common.{Some, subst}
 use Rattle.dv_defs.specs.Op as ops
-use Rattle.dv_steps.specs.Answering.{Leads}
-use Rattle.dv_steps.specs.Step.{settled, with_ready}
+use Rattle.dv_words.specs.Answering.{Leads}
+use Rattle.dv_words.specs.Step.{settled, with_ready}
 use Rattle.dv_core.specs.Guests.{Leaves, Stays}
 use Rattle.dv_core.specs.Machines.{machine_of}
 use Rattle.dv_core.proofs.Stepped.{stepped}

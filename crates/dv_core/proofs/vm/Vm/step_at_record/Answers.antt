@@ -1,6 +1,6 @@
 use Rattle.std.proofs.Common.{None, Ok}
 use Rattle.std.specs.declared.alloc.AllocError.{AllocError}
-use Rattle.dv_steps.specs.Step.{record_step, settled}
+use Rattle.dv_words.specs.Step.{record_step, settled}
 use Rattle.dv_core.specs.Guests.{Leaves, StandsAt, Stays}
 use Rattle.dv_core.specs.Machines.{machine_of}
 use Rattle.dv_core.proofs.Seen.{led}

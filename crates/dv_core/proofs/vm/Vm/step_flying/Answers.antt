@@ -1,9 +1,9 @@
 use Rattle.std.proofs.lemmas.Grind.{moves}
 use Rattle.std.proofs.Common.{ap, sym, ◌∙◌, subst, arith}
-use Rattle.dv_defs.specs.Flow.{handlers_at}
+use Rattle.dv_typing.specs.Flow.{handlers_at}
 use Rattle.dv_words.specs.Stacks.{first}
 use Rattle.dv_frames.specs.Tops.{top_of}
-use Rattle.dv_steps.specs.Unwinding.{handler_for, unwind_frame, unwind_record}
+use Rattle.dv_words.specs.Unwinding.{handler_for, unwind_frame, unwind_record}
 use Rattle.dv_throw.specs.Answers.{Unwinds}
 use Rattle.dv_core.specs.Guests.{Leaves, Stays}
 use Rattle.dv_core.proofs.Stepped.{seen_by, stays_by, unwound_by}

@@ -1,8 +1,8 @@
 use Rattle.std.proofs.Common.{Some, refl, ap, sym, ◌∙◌, subst}
 use Rattle.dv_defs.specs.Pools.{method_at}
-use Rattle.dv_defs.specs.Statics.{fetch}
+use Rattle.dv_typing.specs.Statics.{fetch}
 use Rattle.dv_machine.specs.Step.{no_method}
-use Rattle.dv_steps.specs.Step.{here, no_frame}
+use Rattle.dv_words.specs.Step.{here, no_frame}
 use Rattle.dv_core.specs.Guests.{IsAtOp}
 use Rattle.dv_core.specs.Machines.{IsStepped, machine_of}
 use Rattle.dv_core.proofs.Stepped.{code_on_top, living_code, living_none, living_record, nothing_on_top, record_on_top, sees_here, some_of}

@@ -1,9 +1,9 @@
 use Rattle.std.proofs.Common.{◌≡◌, Ok, refl, ap, sym, ◌∙◌, subst}
 use Rattle.dv_defs.specs.declared.run.Next.TheVariants as next
 use Rattle.dv_words.specs.State.{WordShared}
-use Rattle.dv_steps.specs.Step.{end_flying, moved_on, thrown, with_thread}
-use Rattle.dv_steps.specs.Steps.{leaves}
-use Rattle.dv_steps.specs.Unwinding.{made_object}
+use Rattle.dv_words.specs.Step.{end_flying, moved_on, thrown, with_thread}
+use Rattle.dv_words.specs.Steps.{leaves}
+use Rattle.dv_words.specs.Unwinding.{made_object}
 use Rattle.dv_throw.specs.Answers.{IsMade}
 use Rattle.dv_core.specs.declared.guest.Guest.{Guest}
 use Rattle.dv_core.specs.Guests.{IsOrdered}

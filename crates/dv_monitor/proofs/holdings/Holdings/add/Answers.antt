@@ -1,6 +1,6 @@
 use Rattle.std.proofs.Common.{ap, length, nat_eq, None, Some, ◌≡◌, ◌∙◌}
 use Rattle.std.specs.HashMap.{get}
-use Rattle.dv_defs.specs.Monitors.{entered_in, held_in}
+use Rattle.dv_machine.specs.Monitors.{entered_in, held_in}
 use Rattle.dv_monitor.specs.Slots.{HeldList, present}
 use Rattle.dv_monitor.proofs.PlaceLaws.{indexed-added, present-added}
 use Rattle.dv_monitor.proofs.holdings.Holdings.add.Goals as goal

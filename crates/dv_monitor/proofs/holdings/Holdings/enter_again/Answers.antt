@@ -1,6 +1,6 @@
 use Rattle.std.proofs.Common.{ap, nat_eq, refl, ◌∙◌}
 use Rattle.std.specs.HashMap.{get}
-use Rattle.dv_defs.specs.Monitors.{entered_in}
+use Rattle.dv_machine.specs.Monitors.{entered_in}
 use Rattle.dv_monitor.specs.Slots.{HeldList}
 use Rattle.dv_monitor.proofs.PlaceLaws.{indexed-recounted, present-entered}
 use Rattle.dv_monitor.proofs.holdings.Holdings.enter_again.Goals as goal

@@ -1,6 +1,6 @@
 use Rattle.std.proofs.Common.{ap, nat_eq, refl, ◌∙◌}
 use Rattle.std.specs.HashMap.{get}
-use Rattle.dv_defs.specs.Monitors.{exited_in}
+use Rattle.dv_machine.specs.Monitors.{exited_in}
 use Rattle.dv_monitor.specs.Slots.{HeldList}
 use Rattle.dv_monitor.proofs.PlaceLaws.{exited-last, indexed-recounted, present-counted}
 use Rattle.dv_monitor.proofs.holdings.Holdings.exit.Goals as goal

@@ -1,6 +1,6 @@
 use Rattle.std.proofs.Common.{ap, nat_eq, sym, ◌∙◌}
 use Rattle.std.specs.HashMap.{get}
-use Rattle.dv_defs.specs.Monitors.{given_up}
+use Rattle.dv_machine.specs.Monitors.{given_up}
 use Rattle.dv_monitor.specs.Slots.{HeldList}
 use Rattle.dv_monitor.proofs.PlaceLaws.{given_up-free}
 use Rattle.dv_monitor.proofs.holdings.Holdings.give_up.Goals as goal

@@ -1,5 +1,5 @@
 use Rattle.std.proofs.Common.{ap, sym, ◌∙◌}
-use Rattle.dv_defs.specs.Monitors.{entered_in, wait_in, without}
+use Rattle.dv_machine.specs.Monitors.{entered_in, wait_in, without}
 use Rattle.dv_monitor.specs.State.{MonitorState}
 use Rattle.dv_monitor.specs.Waits.{wait_value, wait_values}
 use Rattle.dv_monitor.proofs.WaitLaws.{taken-back}

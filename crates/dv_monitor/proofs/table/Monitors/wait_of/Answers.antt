@@ -1,6 +1,6 @@
 use Rattle.std.proofs.Common.{List, ap, ◌∙◌}
 use Rattle.std.specs.Option.{option_map}
-use Rattle.dv_defs.specs.Monitors.{wait_in, wait_of}
+use Rattle.dv_machine.specs.Monitors.{wait_in, wait_of}
 use Rattle.dv_monitor.specs.declared.wait.Wait as kept
 use Rattle.dv_monitor.specs.State.{MonitorState}
 use Rattle.dv_monitor.specs.Waits.{wait_value, wait_values}

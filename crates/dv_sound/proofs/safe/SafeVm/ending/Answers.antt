@@ -1,7 +1,7 @@
 use Rattle.std.proofs.Common.{◌≡◌, ◌∙◌, ap, refl, sym, subst}
 use Rattle.dv_defs.specs.Images.{Image}
 use Rattle.dv_rules.specs.Verified.{VerifiedValue}
-use Rattle.dv_steps.specs.Running as words
+use Rattle.dv_words.specs.Running as words
 use Rattle.dv_core.specs.Machines.{machine_of}
 use Rattle.dv_core.specs.Watching.{AreWatchable}
 use Rattle.dv_defs.specs.Pools.{Method}

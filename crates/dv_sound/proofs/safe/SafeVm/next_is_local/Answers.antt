@@ -3,8 +3,8 @@ use Rattle.dv_defs.specs.Images.{Image}
 use Rattle.dv_rules.specs.Verified.{VerifiedValue}
 use Rattle.dv_core.specs.Machines.{machine_of}
 use Rattle.dv_core.specs.Watching.{AreWatchable}
-use Rattle.dv_simulation.specs.KeepLaws.{next_is_local_of}
-use Rattle.dv_simulation.proofs.Staying.{next_is_alike}
+use Rattle.law_engine.specs.KeepLaws.{next_is_local_of}
+use Rattle.law_engine.proofs.Staying.{next_is_alike}
 use Rattle.dv_sound.proofs.safe.SafeVm.next_is_local.Goals as goal
 
 pub returns : goal.returns

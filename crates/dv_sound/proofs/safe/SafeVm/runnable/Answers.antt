@@ -3,7 +3,7 @@ use Rattle.dv_defs.specs.Pools.{Method}
 use Rattle.dv_machine.specs.Running.{runnable}
 use Rattle.dv_machine.specs.State.{Machine}
 use Rattle.dv_rules.specs.Verified.{VerifiedValue}
-use Rattle.dv_steps.specs.Running as words
+use Rattle.dv_words.specs.Running as words
 use Rattle.dv_core.specs.Machines.{machine_of}
 use Rattle.dv_core.specs.Watching.{AreWatchable}
 use Rattle.dv_sound.specs.Runs.{IsAt, Run}

@@ -1,5 +1,5 @@
 use Rattle.std.proofs.Common.{None, sym, subst}
-use Rattle.dv_asm.specs.declared.draft.PoolRef.TheVariants as pool
+use Rattle.dv_draft.specs.declared.draft.PoolRef.TheVariants as pool
 use Rattle.test_text.proofs.TestOps.{Forms, string_forms}
 use Rattle.test_text.proofs.asm.Making.const_string.Goals as goal
 

@@ -1,6 +1,0 @@
-pub mod Pieces
-pub mod Tiles
-pub mod Passing
-pub mod Standing
-pub mod Classes
-pub mod Fetched

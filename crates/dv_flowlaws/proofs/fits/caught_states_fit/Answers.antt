@@ -1,6 +1,0 @@
--- The clause of `caught_states_fit`, by its lemma.
-use Rattle.dv_flowlaws.proofs.EntriesFit.{caught_states_fit}
-use Rattle.dv_flowlaws.proofs.fits.caught_states_fit.Goals as goal
-
-pub returns : goal.returns
-returns c = record { law = caught_states_fit }

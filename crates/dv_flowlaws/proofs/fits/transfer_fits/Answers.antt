@@ -1,6 +1,0 @@
--- The clause of `transfer_fits`, by its lemma.
-use Rattle.dv_flowlaws.proofs.TransferFits.{transfer_fits}
-use Rattle.dv_flowlaws.proofs.fits.transfer_fits.Goals as goal
-
-pub returns : goal.returns
-returns c = record { law = transfer_fits }

@@ -1,6 +1,0 @@
--- The clause of `linked_classes_are_hierarchies`, by its lemma.
-use Rattle.dv_flowlaws.proofs.HierarchyLaw.{linked_classes_are_hierarchies}
-use Rattle.dv_flowlaws.proofs.hierarchies.linked_classes_are_hierarchies.Goals as goal
-
-pub returns : goal.returns
-returns c = record { law = linked_classes_are_hierarchies }

@@ -1,7 +1,0 @@
-//! Bodies without static faults.
-ghost use Rattle.dv_flowlaws.specs.Laws.{CleanBodies};
-
-/// A body without static faults is clean: its instructions are fetched, and its jumps and handlers lead to instructions.
-pub fn clean_bodies()
-    ensures law { CleanBodies }
-{}

@@ -1,6 +1,0 @@
--- The clause of `entry_conforms`, by its lemma.
-use Rattle.dv_laws.proofs.calls.entry_conforms.Goals as goal
-use Rattle.dv_laws.proofs.lemmas.Calls.Entered.{entry_conforms}
-
-pub returns : goal.returns
-returns c = record { law = entry_conforms }

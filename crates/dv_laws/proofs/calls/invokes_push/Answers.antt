@@ -1,6 +1,0 @@
--- The clause of `invokes_push`, by its lemma.
-use Rattle.dv_laws.proofs.calls.invokes_push.Goals as goal
-use Rattle.dv_laws.proofs.lemmas.Calls.Push.{invokes_push}
-
-pub returns : goal.returns
-returns c = record { law = invokes_push }

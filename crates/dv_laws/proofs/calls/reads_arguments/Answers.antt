@@ -1,6 +1,0 @@
--- The clause of `reads_arguments`, by its lemma.
-use Rattle.dv_laws.proofs.calls.reads_arguments.Goals as goal
-use Rattle.dv_laws.proofs.lemmas.Readers.Words.{reads_arguments}
-
-pub returns : goal.returns
-returns c = record { law = reads_arguments }

@@ -1,6 +1,0 @@
--- The clause of `returned_conforms`, by its lemma.
-use Rattle.dv_laws.proofs.calls.returned_conforms.Goals as goal
-use Rattle.dv_laws.proofs.lemmas.Returns.Constructed.{returned_conforms}
-
-pub returns : goal.returns
-returns c = record { law = returned_conforms }

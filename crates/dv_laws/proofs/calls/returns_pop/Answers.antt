@@ -1,6 +1,0 @@
--- The clause of `returns_pop`, by its lemma.
-use Rattle.dv_laws.proofs.calls.returns_pop.Goals as goal
-use Rattle.dv_laws.proofs.lemmas.Returns.Fine.{returns_pop}
-
-pub returns : goal.returns
-returns c = record { law = returns_pop }

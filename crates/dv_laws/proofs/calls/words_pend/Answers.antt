@@ -1,6 +1,0 @@
--- The clause of `words_pend`, by its lemma.
-use Rattle.dv_laws.proofs.calls.words_pend.Goals as goal
-use Rattle.dv_laws.proofs.lemmas.Readers.Words.{words_pend}
-
-pub returns : goal.returns
-returns c = record { law = words_pend }

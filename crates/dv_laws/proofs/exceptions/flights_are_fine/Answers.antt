@@ -1,6 +1,0 @@
--- The clause of `flights_are_fine`, by its lemma.
-use Rattle.dv_laws.proofs.lemmas.Exceptions.Records.{flights_are_fine}
-use Rattle.dv_laws.proofs.exceptions.flights_are_fine.Goals as goal
-
-pub returns : goal.returns
-returns c = record { law = flights_are_fine }

@@ -1,6 +1,0 @@
--- The clause of `growth_keeps`, by its lemma.
-use Rattle.dv_laws.proofs.lemmas.Growth.Keeps.{growth_keeps}
-use Rattle.dv_laws.proofs.heap.growth_keeps.Goals as goal
-
-pub returns : goal.returns
-returns c = record { law = growth_keeps }

@@ -1,6 +1,0 @@
--- The clauses of `moves_results`, each by its lemma.
-use Rattle.dv_laws.proofs.local.moves_results.Goals as goal
-use Rattle.dv_laws.proofs.lemmas.Readers.Plain.{moves_int, moves_reference}
-
-pub returns : goal.returns
-returns c = record { int = moves_int; reference = moves_reference }

@@ -1,6 +1,0 @@
--- The clauses of `reads_int`, each by its lemma.
-use Rattle.dv_laws.proofs.local.reads_int.Goals as goal
-use Rattle.dv_laws.proofs.lemmas.Readers.Plain.{reads_int, keeps_int, reads_argument}
-
-pub returns : goal.returns
-returns c = record { reads = reads_int; keeps = keeps_int; argument = reads_argument }

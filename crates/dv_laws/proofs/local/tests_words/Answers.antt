@@ -1,6 +1,0 @@
--- The clauses of `tests_words`, each by its lemma.
-use Rattle.dv_laws.proofs.local.tests_words.Goals as goal
-use Rattle.dv_laws.proofs.lemmas.Readers.Plain.{tests_both, tests_zero}
-
-pub returns : goal.returns
-returns c = record { both = tests_both; zero = tests_zero }

@@ -1,6 +1,0 @@
--- The clause of `constructor_keeps`, by its lemma.
-use Rattle.dv_laws.proofs.registers.constructor_keeps.Goals as goal
-use Rattle.dv_laws.proofs.lemmas.Registers.Made.{constructor_keeps}
-
-pub returns : goal.returns
-returns c = record { law = constructor_keeps }

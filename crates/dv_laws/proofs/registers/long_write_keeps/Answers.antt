@@ -1,6 +1,0 @@
--- The clause of `long_write_keeps`, by its lemma.
-use Rattle.dv_laws.proofs.registers.long_write_keeps.Goals as goal
-use Rattle.dv_laws.proofs.lemmas.Registers.Written.{long_write_keeps}
-
-pub returns : goal.returns
-returns c = record { law = long_write_keeps }

@@ -1,6 +1,0 @@
--- The clause of `own_constructor_keeps`, by its lemma.
-use Rattle.dv_laws.proofs.registers.own_constructor_keeps.Goals as goal
-use Rattle.dv_laws.proofs.lemmas.Registers.Made.{own_constructor_keeps}
-
-pub returns : goal.returns
-returns c = record { law = own_constructor_keeps }

@@ -1,9 +1,0 @@
--- The clause of `runs_never_go_wrong`, by its lemma.
-use Rattle.dv_laws.proofs.lemmas.Bridge.Laws.{bridge_holds}
-use Rattle.dv_laws.proofs.lemmas.Opening.State.{opening_is_well_typed}
-use Rattle.dv_laws.proofs.lemmas.Steps.Sound.{steps_are_sound}
-use Rattle.dv_laws.proofs.lemmas.Steps.Runs.{runs_never_go_wrong}
-use Rattle.dv_laws.proofs.sound.runs_never_go_wrong.Goals as goal
-
-pub returns : goal.returns
-returns c = record { law = runs_never_go_wrong bridge_holds opening_is_well_typed steps_are_sound }

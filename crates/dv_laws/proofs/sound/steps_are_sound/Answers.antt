@@ -1,6 +1,0 @@
--- The clause of `steps_are_sound`, by its lemma.
-use Rattle.dv_laws.proofs.lemmas.Steps.Sound.{steps_are_sound}
-use Rattle.dv_laws.proofs.sound.steps_are_sound.Goals as goal
-
-pub returns : goal.returns
-returns c = record { law = steps_are_sound }

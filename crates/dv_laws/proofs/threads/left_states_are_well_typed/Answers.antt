@@ -1,6 +1,0 @@
--- The clause of `left_states_are_well_typed`, by its lemma.
-use Rattle.dv_laws.proofs.lemmas.Growth.Threads.{left_is_well_typed}
-use Rattle.dv_laws.proofs.threads.left_states_are_well_typed.Goals as goal
-
-pub returns : goal.returns
-returns c = record { law = left_is_well_typed }

@@ -1,6 +1,0 @@
--- The clause of `monitor_steps_are_fine`, by its lemma.
-use Rattle.dv_laws.proofs.lemmas.Monitors.Steps.{monitor_steps_are_fine}
-use Rattle.dv_laws.proofs.threads.monitor_steps_are_fine.Goals as goal
-
-pub returns : goal.returns
-returns c = record { law = monitor_steps_are_fine }

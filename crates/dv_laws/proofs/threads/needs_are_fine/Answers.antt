@@ -1,6 +1,0 @@
--- The clause of `needs_are_fine`, by its lemma.
-use Rattle.dv_laws.proofs.lemmas.Records.Needed.{needs_are_fine}
-use Rattle.dv_laws.proofs.threads.needs_are_fine.Goals as goal
-
-pub returns : goal.returns
-returns c = record { law = needs_are_fine }

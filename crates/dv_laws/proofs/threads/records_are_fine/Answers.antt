@@ -1,6 +1,0 @@
--- The clause of `records_are_fine`, by its lemma.
-use Rattle.dv_laws.proofs.lemmas.Records.Fine.{records_are_fine}
-use Rattle.dv_laws.proofs.threads.records_are_fine.Goals as goal
-
-pub returns : goal.returns
-returns c = record { law = records_are_fine }

@@ -1,6 +1,0 @@
--- The clause of `faults_are_by_address`, by its lemma.
-use Rattle.dv_leastlaws.proofs.ByAddress.{faults_are_by_address}
-use Rattle.dv_leastlaws.proofs.faults_are_by_address.Goals as goal
-
-pub returns : goal.returns
-returns c = record { law = faults_are_by_address }

@@ -1,6 +1,0 @@
--- The clause of `faults_refuse_typings`, by its lemma.
-use Rattle.dv_leastlaws.proofs.Judged.{faults_refuse_typings}
-use Rattle.dv_leastlaws.proofs.faults_refuse_typings.Goals as goal
-
-pub returns : goal.returns
-returns c = record { law = faults_refuse_typings }

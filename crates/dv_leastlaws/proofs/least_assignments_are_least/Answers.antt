@@ -1,6 +1,0 @@
--- The clause of `least_assignments_are_least`, by its lemma.
-use Rattle.dv_leastlaws.proofs.Closed.{least_assignments_are_least}
-use Rattle.dv_leastlaws.proofs.least_assignments_are_least.Goals as goal
-
-pub returns : goal.returns
-returns c = record { law = least_assignments_are_least }

@@ -1,6 +1,0 @@
--- The clause of `no_faults_give_typings`, by its lemma.
-use Rattle.dv_leastlaws.proofs.Judged.{no_faults_give_typings}
-use Rattle.dv_leastlaws.proofs.no_faults_give_typings.Goals as goal
-
-pub returns : goal.returns
-returns c = record { law = no_faults_give_typings }

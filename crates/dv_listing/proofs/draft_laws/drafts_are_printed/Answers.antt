@@ -1,5 +1,0 @@
-use Rattle.dv_listing.proofs.DraftText as proof
-use Rattle.dv_listing.proofs.draft_laws.drafts_are_printed.Goals as goal
-
-pub returns : goal.returns
-returns c = proof.draft_printed c.instructions_are_read.ensures

@@ -1,5 +1,0 @@
-use Rattle.dv_listing.proofs.Accepted as accepted
-use Rattle.dv_listing.proofs.draft_laws.refusal_has_no_lines.Goals as goal
-
-pub returns : goal.returns
-returns c = accepted.refusal_has_no_lines

@@ -1,5 +1,0 @@
-use Rattle.dv_listing.proofs.Programs.Alike.{entries_alike}
-use Rattle.dv_listing.proofs.program_laws.entries_are_read_alike.Goals as goal
-
-pub returns : goal.returns
-returns c = entries_alike

@@ -1,5 +1,0 @@
-use Rattle.dv_listing.proofs.Programs.Unlined.{same_texts}
-use Rattle.dv_listing.proofs.program_laws.listings_have_no_lines.Goals as goal
-
-pub returns : goal.returns
-returns c = same_texts

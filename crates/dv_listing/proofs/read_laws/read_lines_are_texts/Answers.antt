@@ -1,5 +1,0 @@
-use Rattle.dv_listing.proofs.ReadPieces.{lines_text}
-use Rattle.dv_listing.proofs.read_laws.read_lines_are_texts.Goals as goal
-
-pub returns : goal.returns
-returns c = lines_text

@@ -1,9 +1,0 @@
-// The law of instructions: the contract of a function that does nothing.
-ghost use Rattle.dv_listing.specs.OperandPieces.{InstructionsAreRead};
-
-/// The text of an instruction is a line that is read as that instruction.
-pub fn instructions_are_read()
-    ensures { InstructionsAreRead }
-{
-    dv_coderead::printed_references_are_read();
-}

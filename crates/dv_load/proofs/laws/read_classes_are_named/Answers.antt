@@ -1,0 +1,6 @@
+-- The clause of `read_classes_are_named`, by its lemma.
+use Rattle.dv_load.proofs.LinkedTexts.{read_classes_are_named as by_lemma}
+use Rattle.dv_load.proofs.laws.read_classes_are_named.Goals as goal
+
+pub returns : goal.returns
+returns c = by_lemma

@@ -1,6 +1,0 @@
--- The clause of `transfer_is_monotone`, by its lemma.
-use Rattle.dv_orders.proofs.Transfer.{transfer_is_monotone}
-use Rattle.dv_orders.proofs.transfer_is_monotone.Goals as goal
-
-pub returns : goal.returns
-returns c = record { law = transfer_is_monotone }

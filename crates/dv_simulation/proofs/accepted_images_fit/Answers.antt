@@ -1,6 +1,0 @@
--- The clause of `accepted_images_fit`, by its lemma.
-use Rattle.dv_simulation.proofs.Fields.{accepted_images_fit as by_lemma}
-use Rattle.dv_simulation.proofs.accepted_images_fit.Goals as goal
-
-pub returns : goal.returns
-returns c = record { law = by_lemma }

@@ -1,6 +1,0 @@
--- The clause of `locals_stay`, by its lemma.
-use Rattle.dv_simulation.proofs.Staying.{locals_stay as by_lemma}
-use Rattle.dv_simulation.proofs.locals_stay.Goals as goal
-
-pub returns : goal.returns
-returns c = record { law = by_lemma }

@@ -1,6 +1,0 @@
--- The clause of `openings_are_simulated`, by its lemma.
-use Rattle.dv_simulation.proofs.Steps.{openings_are_simulated as by_lemma}
-use Rattle.dv_simulation.proofs.openings_are_simulated.Goals as goal
-
-pub returns : goal.returns
-returns c = record { law = by_lemma }

@@ -1,6 +1,0 @@
--- The clauses of `replays_go_on`, by their lemmas.
-use Rattle.dv_simulation.proofs.Replays.{replay_appends, replays_go_on as by_lemma}
-use Rattle.dv_simulation.proofs.replays_go_on.Goals as goal
-
-pub returns : goal.returns
-returns c = record { goes_on = by_lemma; appends = replay_appends }

@@ -1,6 +1,0 @@
--- The clause of `statics_are_whole_of_linked`, by its lemma.
-use Rattle.dv_simulation.proofs.Statics.{statics_are_whole_of_linked as by_lemma}
-use Rattle.dv_simulation.proofs.statics_are_whole_of_linked.Goals as goal
-
-pub returns : goal.returns
-returns c = record { law = by_lemma }

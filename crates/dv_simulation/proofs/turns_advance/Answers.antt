@@ -1,6 +1,0 @@
--- The clause of `turns_advance`, by its lemma.
-use Rattle.dv_simulation.proofs.Counting.{turns_advance as by_lemma}
-use Rattle.dv_simulation.proofs.turns_advance.Goals as goal
-
-pub returns : goal.returns
-returns c = record { law = by_lemma }

@@ -1,6 +1,0 @@
--- The clause of `turns_replay`, by its lemma.
-use Rattle.dv_simulation.proofs.Turns.{turns_replay as by_lemma}
-use Rattle.dv_simulation.proofs.turns_replay.Goals as goal
-
-pub returns : goal.returns
-returns c = record { law = by_lemma }

@@ -1,6 +1,0 @@
--- The clause of `fetched_is_there`, by its lemma.
-use Rattle.dv_steps.proofs.Fetching.{fetched_is_there as by_lemma}
-use Rattle.dv_steps.proofs.laws.fetched_is_there.Goals as goal
-
-pub returns : goal.returns
-returns c = record { law = by_lemma }

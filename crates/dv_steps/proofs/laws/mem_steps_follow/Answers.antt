@@ -1,6 +1,0 @@
--- The clause of `mem_steps_follow`, by its lemma.
-use Rattle.dv_steps.proofs.MemSteps.{mem_steps_follow as by_lemma}
-use Rattle.dv_steps.proofs.laws.mem_steps_follow.Goals as goal
-
-pub returns : goal.returns
-returns c = record { law = by_lemma }

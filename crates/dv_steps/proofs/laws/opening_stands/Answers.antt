@@ -1,6 +1,0 @@
--- The clause of `opening_stands`, by its lemma.
-use Rattle.dv_steps.proofs.OpeningState.{opening_stand as by_lemma}
-use Rattle.dv_steps.proofs.laws.opening_stands.Goals as goal
-
-pub returns : goal.returns
-returns c = record { law = by_lemma }

@@ -1,6 +1,0 @@
--- The clause of `payloads_are_there`, by its lemma.
-use Rattle.dv_steps.proofs.Fetching.{payloads_are_there as by_lemma}
-use Rattle.dv_steps.proofs.laws.payloads_are_there.Goals as goal
-
-pub returns : goal.returns
-returns c = record { law = by_lemma }

@@ -1,6 +1,0 @@
--- The clause of `steps_follow`, by its lemma.
-use Rattle.dv_steps.proofs.ThreadStep.{steps_follow as by_lemma}
-use Rattle.dv_steps.proofs.laws.steps_follow.Goals as goal
-
-pub returns : goal.returns
-returns c = record { law = by_lemma }

@@ -1,6 +1,0 @@
--- The clause of `levels_are_erased`, by its lemma.
-use Rattle.dv_words.proofs.Frames.{levels_are_erased as by_lemma}
-use Rattle.dv_words.proofs.laws.levels_are_erased.Goals as goal
-
-pub returns : goal.returns
-returns c = record { law = by_lemma }

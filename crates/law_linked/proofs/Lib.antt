@@ -1,0 +1,13 @@
+pub mod InitsLaw
+pub mod PoolsLaw
+pub mod BootRows
+pub mod BootParts
+pub mod BootThrowable
+pub mod BootCause
+pub mod BootMessage
+pub mod BootCells
+pub mod BootLaw
+pub mod BodiesLaw
+pub mod SlotCells
+pub mod SlotsLaw
+pub mod LinkedLaw

@@ -1,0 +1,9 @@
+use Rattle.law_listing.proofs.ClassPieces.Text.{superclass_stands}
+use Rattle.law_listing.proofs.ClassPieces.Read.{superclass_line_read}
+use Rattle.law_listing.proofs.class_laws.superclass_lines_are_read.Goals as goal
+
+pub returns-clause-stand : goal.returns-clause-stand
+returns-clause-stand c = superclass_stands
+
+pub returns-clause-read : goal.returns-clause-read
+returns-clause-read c = superclass_line_read c.printed_references_are_read.ensures.types

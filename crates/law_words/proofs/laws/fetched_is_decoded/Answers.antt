@@ -1,0 +1,6 @@
+-- The clause of `fetched_is_decoded`, by its lemma.
+use Rattle.law_words.proofs.Fetching.{fetched_is_decoded as by_lemma}
+use Rattle.law_words.proofs.laws.fetched_is_decoded.Goals as goal
+
+pub returns : goal.returns
+returns c = record { law = by_lemma }

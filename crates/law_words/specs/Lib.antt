@@ -1,0 +1,3 @@
+pub mod ErasureLaws
+pub mod Laws
+pub mod StepLaws

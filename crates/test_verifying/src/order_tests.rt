@@ -1,0 +1,134 @@
+// States of which no text shows the order or the join: their counts of registers differ, or a result is pending in both.
+use crate::states::Kind::{Class, Conflict, Int, Zero};
+use crate::states::Pending::{Long, Nothing, One};
+use crate::states::StateRow::{Awaiting, Full, Plain};
+use crate::states::{StateRow, linked, state};
+use dv_typing::RegState;
+use dv_defs::Image;
+use dv_types::{is_below, join};
+use std::alloc::Global;
+use std::process::Abort;
+
+const OBJECT: &str = "Ljava/lang/Object;";
+
+const STRING: &str = "Ljava/lang/String;";
+
+const THROWABLE: &str = "Ljava/lang/Throwable;";
+
+const ERROR: &str = "Ljava/lang/Error;";
+
+const EXCEPTION: &str = "Ljava/lang/Exception;";
+
+// Two states, and whether the first is under the second.
+static STATES: [(StateRow, StateRow, bool); 10] = [
+    // of equally many registers
+    (Plain(&[Zero]), Plain(&[Zero, Conflict]), false),
+    (Plain(&[Zero, Conflict]), Plain(&[Zero]), false),
+    // a pending result is equal, or there is none above
+    (Awaiting(&[Int], One(Int)), Awaiting(&[Int], One(Int)), true),
+    (
+        Awaiting(&[Int], One(Zero)),
+        Awaiting(&[Int], One(Int)),
+        false,
+    ),
+    (
+        Awaiting(&[Int], One(Class(STRING))),
+        Awaiting(&[Int], One(Class(OBJECT))),
+        false,
+    ),
+    (Awaiting(&[Int], Long), Awaiting(&[Int], Long), true),
+    (Awaiting(&[Int], Long), Awaiting(&[Int], One(Int)), false),
+    (Awaiting(&[Int], One(Int)), Awaiting(&[Int], Long), false),
+    (
+        Full(&[Zero], One(Int), ERROR),
+        Full(&[Int], One(Int), THROWABLE),
+        true,
+    ),
+    (Full(&[Zero], Nothing, ERROR), Plain(&[Zero]), false),
+];
+
+fn assert_below<R: Abort>(
+    rt: &R,
+    alloc: Global,
+    image: &Image,
+    rows: &[(StateRow, StateRow, bool)],
+) {
+    for (number, (one, above, is_under)) in rows.iter().enumerate() {
+        let one = state(rt, alloc, *one);
+        let above = state(rt, alloc, *above);
+        assert!(rt; is_below(image, &one, &above) == *is_under, "row {number}");
+    }
+}
+
+#[test]
+fn states_are_ordered_as_the_rules_tell(rt: HostRuntime) {
+    let image = linked(&rt, rt.alloc(), "").ok().expect(&rt, "memory");
+    assert_below(&rt, rt.alloc(), &image, STATES.as_slice());
+}
+
+// Two states with equally many registers, and the least state above both.
+static JOINS: [(StateRow, StateRow, StateRow); 6] = [
+    // a pending result that both have
+    (
+        Awaiting(&[Zero], One(Int)),
+        Awaiting(&[Int], One(Int)),
+        Awaiting(&[Int], One(Int)),
+    ),
+    (
+        Awaiting(&[Int], One(Int)),
+        Awaiting(&[Int], One(Zero)),
+        Plain(&[Int]),
+    ),
+    (
+        Awaiting(&[Int], One(Class(STRING))),
+        Awaiting(&[Int], One(Class(OBJECT))),
+        Plain(&[Int]),
+    ),
+    (
+        Awaiting(&[Int], Long),
+        Awaiting(&[Int], Long),
+        Awaiting(&[Int], Long),
+    ),
+    (
+        Awaiting(&[Int], Long),
+        Awaiting(&[Int], One(Int)),
+        Plain(&[Int]),
+    ),
+    (
+        Full(&[Int, Zero], Long, ERROR),
+        Full(&[Zero, Zero], Long, EXCEPTION),
+        Full(&[Int, Zero], Long, THROWABLE),
+    ),
+];
+
+fn joined<R: Abort>(
+    rt: &R,
+    alloc: Global,
+    image: &Image,
+    one: &RegState,
+    other: &RegState,
+) -> RegState {
+    assert!(rt; one.regs.len() == other.regs.len());
+    let joined = join(alloc, image, one, other);
+    joined.ok().expect(rt, "memory")
+}
+
+fn assert_joins<R: Abort>(
+    rt: &R,
+    alloc: Global,
+    image: &Image,
+    rows: &[(StateRow, StateRow, StateRow)],
+) {
+    for (number, (one, other, wanted)) in rows.iter().enumerate() {
+        let one = state(rt, alloc, *one);
+        let other = state(rt, alloc, *other);
+        let joined = joined(rt, alloc, image, &one, &other);
+        assert!(rt; joined == state(rt, alloc, *wanted), "row {number}");
+    }
+}
+
+#[test]
+fn states_join_as_the_rules_tell(rt: HostRuntime) {
+    let image = linked(&rt, rt.alloc(), "").ok().expect(&rt, "memory");
+    assert_joins(&rt, rt.alloc(), &image, JOINS.as_slice());
+}
