@@ -1,4 +1,4 @@
-//! in place of indices (AOSP, "Dalvik bytecode format").
+//! The operation that stands at an address of a body, with members, types and addresses in place of indices (AOSP, "Dalvik bytecode format").
 #![tactic(auto)]
 
 mod fetch;
