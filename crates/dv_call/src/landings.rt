@@ -9,7 +9,7 @@ ghost use Rattle.dv_words.specs.Stacks.{arg_words};
 ghost use Rattle.dv_words.specs.Calls as steps;
 ghost use Rattle.dv_words.specs.Steps.{At};
 ghost use Rattle.dv_call.specs.Landings as calls;
-ghost use Rattle.dv_call.specs.Landings.{IsNumbered, IsOwn, IsRunning, IsSeenByCall, called, constructs, first_of, landed_of, nearest_in, on_landing};
+ghost use Rattle.dv_call.specs.Landings.{IsNumbered, IsOwn, IsRunning, IsSeen, called, constructs, first_of, landed_of, nearest_in, on_landing};
 
 use crate::tops::running;
 use dv_boot::native;
@@ -222,7 +222,7 @@ pub fn land<'a>(
     regs: &Regs,
     method: Method<'a>,
 ) -> Landed<'a>
-    ensures { (h : At) → IsSeenByCall image.now heap.now stack.now h → IsOwn h → IsNumbered image.now (method_of method.entry) →
+    ensures { (h : At) → IsSeen image.now heap.now stack.now h → IsOwn h → IsNumbered image.now (method_of method.entry) →
         landed_of result ≡ called h (standard_call call) (method_of method.entry) (arg_words stack.now regs.now) }
 {
     if Flag::Static.is_in(method.def.flags) {

@@ -14,7 +14,7 @@ use Rattle.dv_threads.specs.declared.threads.Threads.{Threads}
 use Rattle.dv_threads.specs.Kept.{AreAligned, bounds, threads_of}
 use Rattle.dv_core.specs.declared.guest.Guest.{Guest}
 use Rattle.dv_typing.specs.Statics as statics
-use Rattle.dv_core.specs.Guests.{IsSeenByStep, Leaves, FetchesAt, Stays}
+use Rattle.dv_core.specs.Guests.{IsSeen, Leaves, StandsAt, Stays}
 use Rattle.dv_core.specs.Machines.{counted, ended_at, machine_with}
 use Rattle.dv_core.proofs.Settled.{ended_left, left_there}
 
@@ -43,7 +43,7 @@ pub same_machine : (g k : Guest) (lim : Limits) (steps : ℕ) (stop : Option End
 same_machine g k lim steps stop limits stays = λ j. record { threads = stays.threads j; shared = stays.shared j; steps = steps; stop = stop; limits = limits }
 
 -- a step sees it as before
-pub same_seen : (i : Image) (lim : Limits) (g k : Guest) (t : ℕ) (own : WordThread) (h : At) → IsSeenByStep i lim g t own h → Stays lim g k → IsSeenByStep i lim k t own h
+pub same_seen : (i : Image) (lim : Limits) (g k : Guest) (t : ℕ) (own : WordThread) (h : At) → IsSeen i lim g t own h → Stays lim g k → IsSeen i lim k t own h
 same_seen i lim g k t own h seen stays = record {
   image = seen.image;
   limits = seen.limits;
@@ -58,7 +58,7 @@ same_seen i lim g k t own h seen stays = record {
 abbrev pub with_heap_of : At → WordHeap → At
 with_heap_of h heap = record h { shared = record h.shared { heap = heap } }
 
-pub heap_seen : (i : Image) (lim : Limits) (g k : Guest) (t : ℕ) (own : WordThread) (h : At) → IsSeenByStep i lim g t own h → k.threads ≡ g.threads → k.classes ≡ g.classes → k.output ≡ g.output → IsSeenByStep i lim k t own (with_heap_of h k.heap)
+pub heap_seen : (i : Image) (lim : Limits) (g k : Guest) (t : ℕ) (own : WordThread) (h : At) → IsSeen i lim g t own h → k.threads ≡ g.threads → k.classes ≡ g.classes → k.output ≡ g.output → IsSeen i lim k t own (with_heap_of h k.heap)
 heap_seen i lim g k t own h seen threads classes output = record {
   image = seen.image;
   limits = seen.limits;
@@ -75,6 +75,6 @@ heap_seen i lim g k t own h seen threads classes output = record {
 }
 
 -- it stands where it stood
-pub stands_with : (own : WordThread) (h : At) (heap : WordHeap) (x : Option statics.At) → FetchesAt own h x → FetchesAt own (with_heap_of h heap) x
+pub stands_with : (own : WordThread) (h : At) (heap : WordHeap) (x : Option statics.At) → StandsAt own h x → StandsAt own (with_heap_of h heap) x
 stands_with own h heap None at = at
 stands_with own h heap (Some x) at = record { levels = at.levels; method = at.method; fetched = at.fetched; next = at.next }

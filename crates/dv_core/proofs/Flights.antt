@@ -13,7 +13,7 @@ use Rattle.dv_words.specs.Unwinding.{Caught, Flies, Lacking, Unwound}
 use Rattle.dv_throw.specs.Answers as throw
 use Rattle.dv_throw.specs.Answers.{Unwinds, sharing}
 use Rattle.dv_core.specs.declared.guest.Guest.{Guest}
-use Rattle.dv_core.specs.Guests.{IsSeenByStep, Leaves, Stays}
+use Rattle.dv_core.specs.Guests.{IsSeen, Leaves, Stays}
 use Rattle.dv_core.proofs.RecordStacks.{leaves_it, stays_so, written}
 
 -- what is left and what stays, said otherwise
@@ -29,8 +29,8 @@ unwinds_on (Ok next.NoRoom) u L M S T f g x = absurd x
 unwinds_on (Ok next.NoOutput) u L M S T f g x = absurd x
 unwinds_on (Err e) u L M S T f g x = g x
 
-module _ (i : Image) (l : Limits) (old : Guest) (thread : ℕ) (own : WordThread) (h : At) (seen : IsSeenByStep i l old thread own h) where
-  pub throw_sees : throw.IsSeenByThrow i old.heap old.classes thread h
+module _ (i : Image) (l : Limits) (old : Guest) (thread : ℕ) (own : WordThread) (h : At) (seen : IsSeen i l old thread own h) where
+  pub throw_sees : throw.IsSeen i old.heap old.classes thread h
   throw_sees = record {
     image_is = seen.image;
     heap_is = ap (λ (sh : WordShared). sh.heap) seen.shared;

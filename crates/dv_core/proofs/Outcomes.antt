@@ -32,13 +32,13 @@ use Rattle.dv_builtin.specs.Seeing.{Does}
 use Rattle.dv_threads.specs.Kept.{AreAsBefore, IsThreadOf, LeavesThreads, bounds}
 use Rattle.dv_core.specs.declared.guest.Guest.{Guest}
 use Rattle.dv_core.specs.declared.instructions.Instruction.{Instruction}
-use Rattle.dv_core.specs.Guests.{IsAtOp, IsSeenByStep, Leaves, Stays, shared_of}
+use Rattle.dv_core.specs.Guests.{IsAtOp, IsSeen, Leaves, Stays, shared_of}
 use Rattle.dv_core.specs.Standing.{IsHere}
 use Rattle.dv_core.proofs.Seen.{all_first, all_more, all_rest, has_bounds, has_stack, is_stack, kept_stack, led, stayed, wrote}
 
 -- ---- a step of the frame and the heap
 
-module _ (i : Image) (lim : Limits) (old new : Guest) (thread : ℕ) (own : WordThread) (h : At) (seen : IsSeenByStep i lim old thread own h) (s r : WordStack) (w : WordHeap)
+module _ (i : Image) (lim : Limits) (old new : Guest) (thread : ℕ) (own : WordThread) (h : At) (seen : IsSeen i lim old thread own h) (s r : WordStack) (w : WordHeap)
     (ends : new.threads.ends.items ≡ old.threads.ends.items) (objects : new.threads.objects.items ≡ old.threads.objects.items)
     (there : slice_get old.threads.stacks.items thread ≡ Some s) (stacks : new.threads.stacks.items ≡ slice_set old.threads.stacks.items thread r) (shared : shared_of new ≡ with_heap (shared_of old) w) where
   mem_went : (t : WordLeft) → IsStackOf s h → r ≡ changed (λ f. t.frame) s → w ≡ t.heap → Leaves old new own h (with_left h t)
@@ -66,7 +66,7 @@ module _ (i : Image) (lim : Limits) (old new : Guest) (thread : ℕ) (own : Word
   led_mem a d is x = absurd x
 
 -- what the step of the frame and the heap sees
-sees_mem : (i : Image) (lim : Limits) (old : Guest) (thread : ℕ) (own : WordThread) (h : At) (s : WordStack) (n : ℕ) → IsSeenByStep i lim old thread own h → IsStackOf s h → n ≡ h.next → seen i s old.heap n ≡ mem_here h
+sees_mem : (i : Image) (lim : Limits) (old : Guest) (thread : ℕ) (own : WordThread) (h : At) (s : WordStack) (n : ℕ) → IsSeen i lim old thread own h → IsStackOf s h → n ≡ h.next → seen i s old.heap n ≡ mem_here h
 sees_mem i lim old thread own h s n is_seen is next =
     let top : top_frame s ≡ h.frame = ap frame_in is.levels in
     λ j. record { image = sym is_seen.image j; frame = top j; heap = (sym is_seen.shared j).heap; next = next j }
@@ -74,7 +74,7 @@ sees_mem i lim old thread own h s n is_seen is next =
 pub touched : {E : Type 0} (i : Image) (lim : Limits) (old new : Guest) (thread : ℕ) (own : WordThread) (h : At) (x : statics.At) (it : Instruction) (s r : WordStack) (w : WordHeap) (a : Result Next E)
     → ((code : Code) (at : ℕ) → code.tiles ≡ tiles_in (tiling it.units.now) → is_mem (meant code at it.op) ≡ true → AreOperands (seen i s old.heap it.next) (meant code at it.op) → Answered a (word_mem (seen i s old.heap it.next) (meant code at it.op)) s old.heap r w)
     → new.threads.ends.items ≡ old.threads.ends.items → new.threads.objects.items ≡ old.threads.objects.items → slice_get old.threads.stacks.items thread ≡ Some s → new.threads.stacks.items ≡ slice_set old.threads.stacks.items thread r
-    → shared_of new ≡ with_heap (shared_of old) w → IsSeenByStep i lim old thread own h → IsAtOp own h x → IsHere it h x.op → is_mem x.op ≡ true → AreOperands (mem_here h) x.op
+    → shared_of new ≡ with_heap (shared_of old) w → IsSeen i lim old thread own h → IsAtOp own h x → IsHere it h x.op → is_mem x.op ≡ true → AreOperands (mem_here h) x.op
     → Leads a (mem_left h x.op) (Leaves old new own h) (Stays lim old new)
 touched i lim old new thread own h x it s r w a does ends objects there stacks shared is_seen at here mem are =
     let is = is_stack i lim old thread own h is_seen at.levels s there in
@@ -87,7 +87,7 @@ touched i lim old new thread own h x it s r w a does ends objects there stacks s
 
 -- ---- a native of texts
 
-pub led_text : {E : Type 0} (i : Image) (lim : Limits) (old new : Guest) (thread : ℕ) (own : WordThread) (h : At) (seen : IsSeenByStep i lim old thread own h) (s r : WordStack) (w : WordHeap) (out : List ℕ) (a : Result Next E) (d : Did Left)
+pub led_text : {E : Type 0} (i : Image) (lim : Limits) (old new : Guest) (thread : ℕ) (own : WordThread) (h : At) (seen : IsSeen i lim old thread own h) (s r : WordStack) (w : WordHeap) (out : List ℕ) (a : Result Next E) (d : Did Left)
     → new.threads.ends.items ≡ old.threads.ends.items → new.threads.objects.items ≡ old.threads.objects.items → slice_get old.threads.stacks.items thread ≡ Some s → new.threads.stacks.items ≡ slice_set old.threads.stacks.items thread r
     → shared_of new ≡ record (shared_of old) { heap = w; output = out } → Does a d h.shared s old.heap old.output.items r w out → Leads a d (Leaves old new own h) (Stays lim old new)
 led_text i lim old new thread own h seen s r w out a d ends objects there stacks shared does =
@@ -114,7 +114,7 @@ all_bounded lim (s ∷ ss) (r ∷ rs) ts e all =
     let P : WordStack → Type 0 = λ s. bounds s ≡ lim in
     all_more P r rs (top ∙ all_first P s ss all) (all_bounded lim ss rs ts rest (all_rest P s ss all))
 
-module _ (i : Image) (lim : Limits) (old : Guest) (thread : ℕ) (own : WordThread) (h : At) (seen : IsSeenByStep i lim old thread own h) where
+module _ (i : Image) (lim : Limits) (old : Guest) (thread : ℕ) (own : WordThread) (h : At) (seen : IsSeen i lim old thread own h) where
   pub is_thread : (x : statics.At) (next : ℕ) → IsAtOp own h x → h.next ≡ next → IsThreadOf old.threads thread next own h
   is_thread x next at after =
       let has = has_stack i lim old thread own h seen at.levels in
@@ -130,7 +130,7 @@ module _ (i : Image) (lim : Limits) (old : Guest) (thread : ℕ) (own : WordThre
         is_stack = has.is;
       }
 
-module _ (i : Image) (lim : Limits) (old new : Guest) (thread : ℕ) (own : WordThread) (h : At) (seen : IsSeenByStep i lim old thread own h) where
+module _ (i : Image) (lim : Limits) (old new : Guest) (thread : ℕ) (own : WordThread) (h : At) (seen : IsSeen i lim old thread own h) where
   pub led_threads : {E : Type 0} (a : Result Next E) (d : Did Left) → shared_of new ≡ with_monitors (shared_of old) new.threads.monitors.monitors
       → Leads a d (LeavesThreads old.threads new.threads own h) (AreAsBefore old.threads new.threads) → Leads a d (Leaves old new own h) (Stays lim old new)
   led_threads a d shared does =
@@ -157,7 +157,7 @@ top_became i b l m s r e x = let P : Option Level → Type 0 = λ k. TopStepped 
 locally : (i : Image) (b : Bool) (s r : WordStack) (h : At) → IsStackOf s h → StepsTop i b s r → TopBecame (StepsLocally i b) h.frame s r
 locally i b s r h is x = top_became i b (first s.levels) (Some (level.Code h.frame)) s r (ap first is.levels) x
 
-module _ (i : Image) (lim : Limits) (old : Guest) (thread : ℕ) (own : WordThread) (h : At) (x : statics.At) (seen : IsSeenByStep i lim old thread own h) (at : IsAtOp own h x) (b : Bool) (s r : WordStack)
+module _ (i : Image) (lim : Limits) (old : Guest) (thread : ℕ) (own : WordThread) (h : At) (x : statics.At) (seen : IsSeen i lim old thread own h) (at : IsAtOp own h x) (b : Bool) (s r : WordStack)
     (there : slice_get old.threads.stacks.items thread ≡ Some s) (steps : StepsTop i b s r) where
   is : IsStackOf s h
   is = is_stack i lim old thread own h seen at.levels s there

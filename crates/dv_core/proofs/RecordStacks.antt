@@ -18,7 +18,7 @@ use Rattle.dv_words.specs.Steps.{At, Left, with_classes}
 use Rattle.dv_threads.specs.Kept.{bounds, threads_of, zipped}
 use Rattle.dv_threads.proofs.Leaving.{no_more}
 use Rattle.dv_core.specs.declared.guest.Guest.{Guest}
-use Rattle.dv_core.specs.Guests.{IsOrdered, IsSeenByStep, Leaves, Stays, shared_of}
+use Rattle.dv_core.specs.Guests.{IsOrdered, IsSeen, Leaves, Stays, shared_of}
 use Rattle.dv_core.specs.Recording.{AreKept, IsBeside, LeavesBoth}
 
 -- ---- lists
@@ -96,7 +96,7 @@ written g thread t heap' classes' =
       output = g.output;
     }
 
-module _ (i : Image) (l : Limits) (old : Guest) (thread : ℕ) (own : WordThread) (h : At) (seen : IsSeenByStep i l old thread own h) where
+module _ (i : Image) (l : Limits) (old : Guest) (thread : ℕ) (own : WordThread) (h : At) (seen : IsSeen i l old thread own h) where
   pub within : thread < length old.threads.stacks.items
   within = zip_within old.threads.stacks.items old.threads.ends.items old.threads.objects.items thread own seen.there
 

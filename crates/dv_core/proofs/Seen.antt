@@ -17,7 +17,7 @@ use Rattle.dv_words.specs.Answering.{IsStackOf, Leads, LeavesStack}
 use Rattle.dv_words.specs.Steps.{At, Left, leaves}
 use Rattle.dv_threads.specs.Kept.{bounds, threads_of, zipped}
 use Rattle.dv_core.specs.declared.guest.Guest.{Guest}
-use Rattle.dv_core.specs.Guests.{IsOrdered, IsSeenByStep, Leaves, Stays, shared_of}
+use Rattle.dv_core.specs.Guests.{IsOrdered, IsSeen, Leaves, Stays, shared_of}
 
 -- ---- lists
 
@@ -117,7 +117,7 @@ pub record HasStack (g : Guest) (thread : ℕ) (h : At) : Type 0 where
   pub there : slice_get g.threads.stacks.items thread ≡ Some stack
   pub is : IsStackOf stack h
 
-module _ (i : Image) (lim : Limits) (old : Guest) (thread : ℕ) (own : WordThread) (h : At) (seen : IsSeenByStep i lim old thread own h) where
+module _ (i : Image) (lim : Limits) (old : Guest) (thread : ℕ) (own : WordThread) (h : At) (seen : IsSeen i lim old thread own h) where
   has_levels : HasLevels old.threads.stacks.items thread own.levels
   has_levels = zip_has old.threads.stacks.items old.threads.ends.items old.threads.objects.items thread own seen.there
 
@@ -212,18 +212,18 @@ module _ (i : Image) (lim : Limits) (old : Guest) (thread : ℕ) (own : WordThre
         (kept_stack s t there stacks shared)
 
 -- nothing has changed, and the thread stays where it is
-pub unmoved : (i : Image) (lim : Limits) (old : Guest) (thread : ℕ) (own : WordThread) (h : At) → IsSeenByStep i lim old thread own h → own.levels ≡ level.Code h.frame ∷ h.rest → Leaves old old own h (leaves h.shared (level.Code h.frame ∷ h.rest))
+pub unmoved : (i : Image) (lim : Limits) (old : Guest) (thread : ℕ) (own : WordThread) (h : At) → IsSeen i lim old thread own h → own.levels ≡ level.Code h.frame ∷ h.rest → Leaves old old own h (leaves h.shared (level.Code h.frame ∷ h.rest))
 unmoved i lim old thread own h seen levels =
     let has = has_stack i lim old thread own h seen levels in
     wrote i lim old thread own h seen old refl refl has.stack (leaves h.shared (level.Code h.frame ∷ h.rest)) (sym (set_same old.threads.stacks.items thread has.stack has.there))
     (has_bounds i lim old thread own h seen has.stack has.there) has.is.levels seen.shared refl
 
 -- what stays
-pub unchanged : (i : Image) (lim : Limits) (old : Guest) (thread : ℕ) (own : WordThread) (h : At) → IsSeenByStep i lim old thread own h → Stays lim old old
+pub unchanged : (i : Image) (lim : Limits) (old : Guest) (thread : ℕ) (own : WordThread) (h : At) → IsSeen i lim old thread own h → Stays lim old old
 unchanged i lim old thread own h seen = stayed i lim old thread own h seen old refl refl refl refl
 
 -- what the thread sees, by its own image and limits
-pub seen_here : (i : Image) (lim : Limits) (old : Guest) (thread : ℕ) (own : WordThread) (h : At) → IsSeenByStep i lim old thread own h → IsSeenByStep h.image h.limits old thread own h
+pub seen_here : (i : Image) (lim : Limits) (old : Guest) (thread : ℕ) (own : WordThread) (h : At) → IsSeen i lim old thread own h → IsSeen h.image h.limits old thread own h
 seen_here i lim old thread own h seen = record {
   image = refl;
   limits = refl;
@@ -235,13 +235,13 @@ seen_here i lim old thread own h seen = record {
 }
 
 -- what it asks for
-pub ask_is : (i : Image) (lim : Limits) (old : Guest) (thread : ℕ) (own : WordThread) (h : At) → IsSeenByStep i lim old thread own h → (c : ℕ) → ask_of h.shared.classes c h.thread ≡ ask_of old.classes c thread
+pub ask_is : (i : Image) (lim : Limits) (old : Guest) (thread : ℕ) (own : WordThread) (h : At) → IsSeen i lim old thread own h → (c : ℕ) → ask_of h.shared.classes c h.thread ≡ ask_of old.classes c thread
 ask_is i lim old thread own h seen c = λ j. ask_of (seen.shared j).classes c (seen.number j)
 
 -- ---- after a step that changed nothing
 
 module _ (lim : Limits) (old mid : Guest) (same : Stays lim old mid) where
-  pub seen_after : (i : Image) (thread : ℕ) (own : WordThread) (h : At) → IsSeenByStep i lim old thread own h → IsSeenByStep i lim mid thread own h
+  pub seen_after : (i : Image) (thread : ℕ) (own : WordThread) (h : At) → IsSeen i lim old thread own h → IsSeen i lim mid thread own h
   seen_after i thread own h seen = record {
     image = seen.image;
     limits = seen.limits;

@@ -18,13 +18,13 @@ use Rattle.dv_throw.specs.Answers.{Unwinds}
 use Rattle.std.specs.declared.alloc.AllocError.{AllocError}
 use Rattle.dv_threads.specs.Kept.{threads_of}
 use Rattle.dv_core.specs.declared.guest.Guest.{Guest}
-use Rattle.dv_core.specs.Guests.{IsOrdered, IsSeenByStep, Leaves, Stays, shared_of}
+use Rattle.dv_core.specs.Guests.{IsOrdered, IsSeen, Leaves, Stays, shared_of}
 use Rattle.dv_core.specs.Machines.{counted, machine_with}
 use Rattle.dv_core.proofs.Counted.{counts}
 use Rattle.dv_core.proofs.Seen.{no_more, set_same}
 
 -- where all stays, the thread's own levels are left
-pub stays_left : (i : Image) (lim : Limits) (g k : Guest) (t : ℕ) (own : WordThread) (h : At) → IsSeenByStep i lim g t own h → Stays lim g k → Leaves g k own h (leaves h.shared own.levels)
+pub stays_left : (i : Image) (lim : Limits) (g k : Guest) (t : ℕ) (own : WordThread) (h : At) → IsSeen i lim g t own h → Stays lim g k → Leaves g k own h (leaves h.shared own.levels)
 stays_left i lim g k t own h seen stays = record {
   threads =
       stays.threads ∙
@@ -35,7 +35,7 @@ stays_left i lim g k t own h seen stays = record {
 }
 
 -- an exception flies on over its levels
-pub flies_on : (i : Image) (lim : Limits) (g k : Guest) (steps : ℕ) (stop : Option Ending) (limits : Limits) (t : ℕ) (own : WordThread) (h : At) (o : ℕ) → IsSeenByStep i lim g t own h → Stays lim g k
+pub flies_on : (i : Image) (lim : Limits) (g k : Guest) (steps : ℕ) (stop : Option Ending) (limits : Limits) (t : ℕ) (own : WordThread) (h : At) (o : ℕ) → IsSeen i lim g t own h → Stays lim g k
     → counted (machine_with k steps stop limits) t (end_flying o) ≡ flown (machine_with g steps stop limits) t own o (leaves (shared_of g) own.levels)
 flies_on i lim g k steps stop limits t own h o seen stays =
     counts g k steps stop limits t own h (leaves h.shared own.levels) (end_flying o) seen.number seen.there (stays_left i lim g k t own h seen stays) ∙

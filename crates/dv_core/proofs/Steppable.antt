@@ -26,7 +26,7 @@ use Rattle.law_engine.proofs.Fields.{accepted_images_fit}
 use Rattle.dv_threads.specs.Kept.{HasRoom, threads_of}
 use Rattle.dv_core.specs.declared.vm.Vm.{Vm}
 use Rattle.dv_core.specs.Fitting.{AreCountable, ArgumentsFit, RecordFits, StepFits}
-use Rattle.dv_core.specs.Guests.{IsAtOp, IsSeenByStep}
+use Rattle.dv_core.specs.Guests.{IsAtOp, IsSeen}
 use Rattle.dv_core.specs.Laws.{StepsFit}
 use Rattle.dv_core.specs.Machines.{machine_of}
 use Rattle.dv_core.proofs.Callers.{caller_stands, met_top, placed_stands, same_fetch}
@@ -56,7 +56,7 @@ arguments_fit T m h this f x acc heap frame placed found =
 
 module _ (T : Typings) (v : Vm) (m : Machine) (room : HasRoom v.limits) (few : v.steps < 2 ^ 64 - 1) (t : ℕ) where
   -- at an instruction
-  step_fits : (image : Image) (own : WordThread) (h : At) (x : statics.At) → IsGiven h.image T (machine_of v) m → IsSeenByStep image v.limits v.guest t own h → own.end ≡ end.Living → IsAtOp own h x → StepFits h x.op
+  step_fits : (image : Image) (own : WordThread) (h : At) (x : statics.At) → IsGiven h.image T (machine_of v) m → IsSeen image v.limits v.guest t own h → own.end ≡ end.Living → IsAtOp own h x → StepFits h x.op
   step_fits image own h x given seen living at =
       let sim = given.simulated in
       let met = met_top h.image T (machine_of v) m t own h.frame h.rest sim.typed sim.stands seen.there living at.levels in
@@ -80,7 +80,7 @@ module _ (T : Typings) (v : Vm) (m : Machine) (room : HasRoom v.limits) (few : v
           rw shared.monitors (omega (arith, most, steps, few))
 
   -- at the record of a class
-  record_fits : (image : Image) (own : WordThread) (h : At) (c : ClassId) (r : Bool) → IsGiven image T (machine_of v) m → IsSeenByStep image v.limits v.guest t own h → own.levels ≡ level.Init c r ∷ h.rest → RecordFits h c
+  record_fits : (image : Image) (own : WordThread) (h : At) (c : ClassId) (r : Bool) → IsGiven image T (machine_of v) m → IsSeen image v.limits v.guest t own h → own.levels ≡ level.Init c r ∷ h.rest → RecordFits h c
   record_fits image own h c r given seen levels =
       let sim = given.simulated in
       let th = matched (threads_of v.guest.threads) m.threads t own sim.stands.threads seen.there in

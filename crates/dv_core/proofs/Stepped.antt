@@ -30,7 +30,7 @@ use Rattle.dv_throw.specs.Answers.{Unwinds}
 use Rattle.dv_threads.specs.Kept.{threads_of, zipped}
 use Rattle.dv_core.specs.declared.guest.Guest.{Guest}
 use Rattle.dv_core.specs.declared.vm.Vm.{Vm}
-use Rattle.dv_core.specs.Guests.{IsOrdered, IsSeenByStep, Stays}
+use Rattle.dv_core.specs.Guests.{IsOrdered, IsSeen, Stays}
 use Rattle.dv_core.specs.Machines.{IsStepped, machine_of}
 use Rattle.dv_defs.specs.declared.run.Next.TheVariants as next
 use Rattle.dv_words.specs.Unwinding.{Caught, Flies, Lacking}
@@ -42,8 +42,8 @@ stepped (Ok u) old new m ok err ordered = (ok, ordered)
 stepped (Err e) old new m ok err ordered = (err, ordered)
 
 -- by the limits that the step sees
-pub seen_by : (i : Image) (lim : Limits) (g : Guest) (t : ℕ) (own : WordThread) (h : At) → IsSeenByStep i lim g t own h → IsSeenByStep i h.limits g t own h
-seen_by i lim g t own h seen = subst (λ l. IsSeenByStep i l g t own h) (sym seen.limits) seen
+pub seen_by : (i : Image) (lim : Limits) (g : Guest) (t : ℕ) (own : WordThread) (h : At) → IsSeen i lim g t own h → IsSeen i h.limits g t own h
+seen_by i lim g t own h seen = subst (λ l. IsSeen i l g t own h) (sym seen.limits) seen
 
 pub stays_by : (lim lim' : Limits) (g k : Guest) → lim ≡ lim' → Stays lim g k → Stays lim' g k
 stays_by lim lim' g k same stays = subst (λ l. Stays l g k) same stays
@@ -110,7 +110,7 @@ no_thread (s ∷ ss) (f ∷ es) (o ∷ os) (suc t) has = no_thread ss es os t ha
 
 -- what a step sees of a machine
 pub sees_here : (image : Image) (v : Vm) (t : ℕ) (own : WordThread) (method : Method) (f : Frame) (ls : List Level) (n : ℕ) → IsOrdered v.limits v.guest → slice_get (threads_of v.guest.threads) t ≡ Some own
-    → IsSeenByStep image v.limits v.guest t own (here image (machine_of v) t method f ls n)
+    → IsSeen image v.limits v.guest t own (here image (machine_of v) t method f ls n)
 sees_here image v t own method f ls n ordered there = record { image = refl; limits = refl; number = refl; threads = refl; shared = refl; there = there; ordered = ordered }
 
 -- ---- steps

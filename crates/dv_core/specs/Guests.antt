@@ -23,7 +23,7 @@ pub record IsOrdered (limits : Limits) (g : Guest) : Type 0 where
   pub bounded : All (λ (s : WordStack). bounds s ≡ (limits.levels, limits.words)) g.threads.stacks.items
 
 -- the thread of this number steps
-pub record IsSeenByStep (i : Image) (l : Limits) (g : Guest) (thread : ℕ) (own : WordThread) (h : At) : Type 0 where
+pub record IsSeen (i : Image) (l : Limits) (g : Guest) (thread : ℕ) (own : WordThread) (h : At) : Type 0 where
   pub image : h.image ≡ i
   pub limits : h.limits ≡ l
   pub number : h.thread ≡ thread
@@ -52,6 +52,6 @@ pub record Stays (limits : Limits) (old new : Guest) : Type 0 where
   pub ordered : IsOrdered limits new
 
 -- its top level is code at this operation, or a record
-abbrev pub FetchesAt : WordThread → At → Option statics.At → Type 0
-FetchesAt own h (Some x) = IsAtOp own h x
-FetchesAt own h None = (c : ClassId) × (r : Bool) × (own.levels ≡ level.Init c r ∷ h.rest)
+abbrev pub StandsAt : WordThread → At → Option statics.At → Type 0
+StandsAt own h (Some x) = IsAtOp own h x
+StandsAt own h None = (c : ClassId) × (r : Bool) × (own.levels ≡ level.Init c r ∷ h.rest)

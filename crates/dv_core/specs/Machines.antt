@@ -18,7 +18,7 @@ use Rattle.dv_threads.specs.Kept.{threads_of}
 use Rattle.dv_core.specs.declared.guest.Guest.{Guest}
 use Rattle.dv_core.specs.declared.vm.Vm.{Vm}
 use Rattle.dv_core.specs.Fitting.{RecordFits, StepFits}
-use Rattle.dv_core.specs.Guests.{IsAtOp, IsOrdered, IsSeenByStep, shared_of}
+use Rattle.dv_core.specs.Guests.{IsAtOp, IsOrdered, IsSeen, shared_of}
 
 -- a guest's state, so many steps, what stopped the run, and its limits
 abbrev pub machine_with : Guest → ℕ → Option Ending → Limits → WordMachine
@@ -39,12 +39,12 @@ pub record IsSteppable (image : Image) (v : Vm) (t : ℕ) : Type 0 where
   pub ordered : IsOrdered v.limits v.guest
   pub few : v.steps < 2 ^ 64 - 1
   pub stands :
-      (own : WordThread) (h : At) (f : Frame) → IsSeenByStep image v.limits v.guest t own h → own.end ≡ end.Living → own.levels ≡ level.Code f ∷ h.rest →
+      (own : WordThread) (h : At) (f : Frame) → IsSeen image v.limits v.guest t own h → own.end ≡ end.Living → own.levels ≡ level.Code f ∷ h.rest →
       Stands image f
   pub instruction :
-      (own : WordThread) (h : At) (x : statics.At) → IsSeenByStep image v.limits v.guest t own h → own.end ≡ end.Living → IsAtOp own h x → StepFits h x.op
+      (own : WordThread) (h : At) (x : statics.At) → IsSeen image v.limits v.guest t own h → own.end ≡ end.Living → IsAtOp own h x → StepFits h x.op
   pub class :
-      (own : WordThread) (h : At) (c : ClassId) (r : Bool) → IsSeenByStep image v.limits v.guest t own h → own.levels ≡ level.Init c r ∷ h.rest → RecordFits h c
+      (own : WordThread) (h : At) (c : ClassId) (r : Bool) → IsSeen image v.limits v.guest t own h → own.levels ≡ level.Init c r ∷ h.rest → RecordFits h c
 
 -- ---- what is settled
 

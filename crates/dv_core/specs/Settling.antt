@@ -4,5 +4,5 @@ use Rattle.dv_typing.specs.Flow.{is_exit}
 use Rattle.dv_typing.specs.Statics.{At}
 
 -- behind a monitor-exit
-abbrev pub address_behind : At → Option ℕ
-address_behind x = if is_exit x.op then Some x.next else None
+abbrev pub behind : At → Option ℕ
+behind x = if is_exit x.op then Some x.next else None

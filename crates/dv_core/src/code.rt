@@ -31,7 +31,7 @@ ghost use Rattle.dv_threads.specs.Kept.{HasRoom};
 ghost use Rattle.dv_threads.specs.Stepping.{is_of_threads};
 ghost use Rattle.dv_builtin.specs.Natives.{TextsFit};
 ghost use Rattle.dv_core.specs.Fitting.{StepFits};
-ghost use Rattle.dv_core.specs.Guests.{IsAtOp, IsSeenByStep, Leaves, Stays};
+ghost use Rattle.dv_core.specs.Guests.{IsAtOp, IsSeen, Leaves, Stays};
 ghost use Rattle.dv_core.specs.Standing.{IsFound, IsHere};
 
 use crate::guest::Guest;
@@ -57,7 +57,7 @@ pub fn step_code(
     guest: &mut Guest,
     thread: u32,
 ) -> Result<Next, AllocError>
-    ensures { (own : WordThread) (h : At) (x : statics.At) → IsSeenByStep image.now limits.now guest.old thread own h → IsAtOp own h x → StepFits h x.op →
+    ensures { (own : WordThread) (h : At) (x : statics.At) → IsSeen image.now limits.now guest.old thread own h → IsAtOp own h x → StepFits h x.op →
         Leads result (with_ready h x.op (ops.needs x.op)) (Leaves guest.old guest.new own h) (Stays limits.now guest.old guest.new) }
 {
     if step_locally(image, guest, thread) {
@@ -74,9 +74,9 @@ pub fn step_code(
 
 /// Does the instruction on top where it touches its frame alone. A switch's keys rise in accepted code.
 fn step_locally(image: &Image, guest: &mut Guest, thread: u32) -> bool
-    ensures local { (l : Bounds) (own : WordThread) (h : At) (x : statics.At) → IsSeenByStep image.now l guest.old thread own h → IsAtOp own h x → ops.is_local x.op ≡ result }
-    ensures does { (l : Bounds) (own : WordThread) (h : At) (x : statics.At) → IsSeenByStep image.now l guest.old thread own h → IsAtOp own h x → KeysRise x.op → result ≡ true → Leaves guest.old guest.new own h (leaves h.shared (level.Code (word_local x.op h.frame h.next) ∷ h.rest)) }
-    ensures stays { (l : Bounds) (own : WordThread) (h : At) (x : statics.At) → IsSeenByStep image.now l guest.old thread own h → IsAtOp own h x → result ≡ false → Stays l guest.old guest.new }
+    ensures local { (l : Bounds) (own : WordThread) (h : At) (x : statics.At) → IsSeen image.now l guest.old thread own h → IsAtOp own h x → ops.is_local x.op ≡ result }
+    ensures does { (l : Bounds) (own : WordThread) (h : At) (x : statics.At) → IsSeen image.now l guest.old thread own h → IsAtOp own h x → KeysRise x.op → result ≡ true → Leaves guest.old guest.new own h (leaves h.shared (level.Code (word_local x.op h.frame h.next) ∷ h.rest)) }
+    ensures stays { (l : Bounds) (own : WordThread) (h : At) (x : statics.At) → IsSeen image.now l guest.old thread own h → IsAtOp own h x → result ≡ false → Stays l guest.old guest.new }
 {
     let place = thread as usize;
     if place >= guest.threads.stacks.len() {
@@ -87,7 +87,7 @@ fn step_locally(image: &Image, guest: &mut Guest, thread: u32) -> bool
 
 /// The instruction at which a thread's frame on top goes on.
 fn instruction_at<'a>(image: &'a Image, guest: &Guest, thread: u32) -> Option<Instruction<'a>>
-    ensures { (l : Bounds) (own : WordThread) (h : At) (x : statics.At) → IsSeenByStep image.now l guest.now thread own h → IsAtOp own h x → IsFound result h x.op }
+    ensures { (l : Bounds) (own : WordThread) (h : At) (x : statics.At) → IsSeen image.now l guest.now thread own h → IsAtOp own h x → IsFound result h x.op }
 {
     let place = thread as usize;
     if place >= guest.threads.stacks.len() {
@@ -106,7 +106,7 @@ fn with_class(
     here: &Instruction<'_>,
     class: ClassId,
 ) -> Result<Next, AllocError>
-    ensures { (own : WordThread) (h : At) (x : statics.At) → IsSeenByStep image.now limits.now guest.old thread own h → IsAtOp own h x → StepFits h x.op → ops.is_local x.op ≡ false → IsHere here.now h x.op →
+    ensures { (own : WordThread) (h : At) (x : statics.At) → IsSeen image.now limits.now guest.old thread own h → IsAtOp own h x → StepFits h x.op → ops.is_local x.op ≡ false → IsHere here.now h x.op →
         Leads result (steps.for_class h (level.Code h.frame ∷ h.rest) class.0 (ask_of h.shared.classes class.0 h.thread) (steps.act h x.op)) (Leaves guest.old guest.new own h) (Stays limits.now guest.old guest.new) }
 {
     match guest.classes.ask(class, thread) {
@@ -125,7 +125,7 @@ fn act(
     thread: u32,
     here: &Instruction<'_>,
 ) -> Result<Next, AllocError>
-    ensures { (own : WordThread) (h : At) (x : statics.At) → IsSeenByStep image.now limits.now guest.old thread own h → IsAtOp own h x → StepFits h x.op → ops.is_local x.op ≡ false → IsHere here.now h x.op →
+    ensures { (own : WordThread) (h : At) (x : statics.At) → IsSeen image.now limits.now guest.old thread own h → IsAtOp own h x → StepFits h x.op → ops.is_local x.op ≡ false → IsHere here.now h x.op →
         Leads result (steps.act h x.op) (Leaves guest.old guest.new own h) (Stays limits.now guest.old guest.new) }
 {
     match here.op {
@@ -142,7 +142,7 @@ fn act(
 
 /// monitor-enter of the object in a register.
 fn enter_monitor(guest: &mut Guest, thread: u32, next: u32, reg: u16) -> Result<Next, AllocError>
-    ensures { (i : Linked) (l : Bounds) (own : WordThread) (h : At) (x : statics.At) → IsSeenByStep i l guest.old thread own h → IsAtOp own h x → h.next ≡ next → count_of h.shared.monitors (reg_word h.frame reg) < 2 ^ 64 - 1 →
+    ensures { (i : Linked) (l : Bounds) (own : WordThread) (h : At) (x : statics.At) → IsSeen i l guest.old thread own h → IsAtOp own h x → h.next ≡ next → count_of h.shared.monitors (reg_word h.frame reg) < 2 ^ 64 - 1 →
         Leads result (on_object (threads.monitor_enter h) (reg_word h.frame reg)) (Leaves guest.old guest.new own h) (Stays l guest.old guest.new) }
 {
     let object = word(guest, thread, reg);
@@ -151,7 +151,7 @@ fn enter_monitor(guest: &mut Guest, thread: u32, next: u32, reg: u16) -> Result<
 
 /// monitor-exit of the object in a register.
 fn leave_monitor(guest: &mut Guest, thread: u32, next: u32, reg: u16) -> Result<Next, AllocError>
-    ensures { (i : Linked) (l : Bounds) (own : WordThread) (h : At) (x : statics.At) → IsSeenByStep i l guest.old thread own h → IsAtOp own h x → h.next ≡ next →
+    ensures { (i : Linked) (l : Bounds) (own : WordThread) (h : At) (x : statics.At) → IsSeen i l guest.old thread own h → IsAtOp own h x → h.next ≡ next →
         Leads result (on_object (threads.monitor_exit h) (reg_word h.frame reg)) (Leaves guest.old guest.new own h) (Stays l guest.old guest.new) }
 {
     let object = word(guest, thread, reg);
@@ -175,7 +175,7 @@ fn touch(
     thread: u32,
     here: &Instruction<'_>,
 ) -> Result<Next, AllocError>
-    ensures { (l : Bounds) (own : WordThread) (h : At) (x : statics.At) → IsSeenByStep image.now l guest.old thread own h → IsAtOp own h x → IsHere here.now h x.op → is_mem x.op ≡ true → AreOperands (mem_here h) x.op →
+    ensures { (l : Bounds) (own : WordThread) (h : At) (x : statics.At) → IsSeen image.now l guest.old thread own h → IsAtOp own h x → IsHere here.now h x.op → is_mem x.op ≡ true → AreOperands (mem_here h) x.op →
         Leads result (mem_left h x.op) (Leaves guest.old guest.new own h) (Stays l guest.old guest.new) }
 {
     let place = thread as usize;
@@ -203,7 +203,7 @@ fn invoke(
     regs: &Regs,
     method: Method<'_>,
 ) -> Result<Next, AllocError>
-    ensures { (own : WordThread) (h : At) (x : statics.At) → IsSeenByStep image.now limits.now guest.old thread own h → IsAtOp own h x → StepFits h (ops.Invoke (standard_call call) (named_registers regs.now) (method_of method.entry)) → h.next ≡ next →
+    ensures { (own : WordThread) (h : At) (x : statics.At) → IsSeen image.now limits.now guest.old thread own h → IsAtOp own h x → StepFits h (ops.Invoke (standard_call call) (named_registers regs.now) (method_of method.entry)) → h.next ≡ next →
         Leads result (calls.invoke h (standard_call call) (named_registers regs.now) (method_of method.entry)) (Leaves guest.old guest.new own h) (Stays limits.now guest.old guest.new) }
 {
     let place = thread as usize;
@@ -250,7 +250,7 @@ fn run_native(
     native: Native,
     regs: &Regs,
 ) -> Result<Next, AllocError>
-    ensures { (own : WordThread) (h : At) (x : statics.At) → IsSeenByStep image.now limits.now guest.old thread own h → IsAtOp own h x → HasRoom h.limits → TextsFit h.shared.heap native (map (reg_word h.frame) (named_registers regs.now)) → h.next ≡ next →
+    ensures { (own : WordThread) (h : At) (x : statics.At) → IsSeen image.now limits.now guest.old thread own h → IsAtOp own h x → HasRoom h.limits → TextsFit h.shared.heap native (map (reg_word h.frame) (named_registers regs.now)) → h.next ≡ next →
         Leads result (natives.native_step h native (map (reg_word h.frame) (named_registers regs.now))) (Leaves guest.old guest.new own h) (Stays limits.now guest.old guest.new) }
 {
     if is_of_threads(native) {
@@ -283,7 +283,7 @@ fn run_native(
 
 /// return-void.
 fn leave(image: &Image, guest: &mut Guest, thread: u32) -> Next
-    ensures { (l : Bounds) (own : WordThread) (h : At) (x : statics.At) → IsSeenByStep image.now l guest.old thread own h → IsAtOp own h x → CallerStands h →
+    ensures { (l : Bounds) (own : WordThread) (h : At) (x : statics.At) → IsSeen image.now l guest.old thread own h → IsAtOp own h x → CallerStands h →
         Leads {E = AllocError} (Ok result) (calls.return_void h) (Leaves guest.old guest.new own h) (Stays l guest.old guest.new) }
 {
     let place = thread as usize;
@@ -295,7 +295,7 @@ fn leave(image: &Image, guest: &mut Guest, thread: u32) -> Next
 
 /// A return with a value.
 fn leave_with(image: &Image, guest: &mut Guest, thread: u32, reg: u16) -> Next
-    ensures { (l : Bounds) (own : WordThread) (h : At) (x : statics.At) → IsSeenByStep image.now l guest.old thread own h → IsAtOp own h x → CallerStands h →
+    ensures { (l : Bounds) (own : WordThread) (h : At) (x : statics.At) → IsSeen image.now l guest.old thread own h → IsAtOp own h x → CallerStands h →
         Leads {E = AllocError} (Ok result) (calls.return_form h reg) (Leaves guest.old guest.new own h) (Stays l guest.old guest.new) }
 {
     let place = thread as usize;

@@ -8,7 +8,7 @@ ghost use Rattle.dv_words.specs.Steps.{At};
 ghost use Rattle.dv_words.specs.Unwinding.{handler_for, unwind_frame, unwind_record};
 ghost use Rattle.dv_throw.specs.Answers.{Unwinds};
 ghost use Rattle.dv_core.specs.Fitting.{RecordFits};
-ghost use Rattle.dv_core.specs.Guests.{IsSeenByStep, Leaves, Stays};
+ghost use Rattle.dv_core.specs.Guests.{IsSeen, Leaves, Stays};
 
 use crate::guest::Guest;
 use dv_defs::{ClassId, Image, Next};
@@ -26,10 +26,10 @@ pub fn step_flight(
     thread: u32,
     flying: u32,
 ) -> Result<Next, AllocError>
-    ensures code { (own : WordThread) (h : At) (f : Activation) → IsSeenByStep image.now h.limits guest.old thread own h → own.levels ≡ level.Code f ∷ h.rest →
+    ensures code { (own : WordThread) (h : At) (f : Activation) → IsSeen image.now h.limits guest.old thread own h → own.levels ≡ level.Code f ∷ h.rest →
         Unwinds result (unwind_frame h f flying (handler_for image.now h.shared.heap flying (handlers_at image.now f.method.0 f.at)))
         (Leaves guest.old guest.new own h) (Stays h.limits guest.old guest.new) }
-    ensures record { (own : WordThread) (h : At) (c : ClassId) (r : Bool) → IsSeenByStep image.now h.limits guest.old thread own h → own.levels ≡ level.Init c r ∷ h.rest → RecordFits h c →
+    ensures record { (own : WordThread) (h : At) (c : ClassId) (r : Bool) → IsSeen image.now h.limits guest.old thread own h → own.levels ≡ level.Init c r ∷ h.rest → RecordFits h c →
         Unwinds result (unwind_record h c.0 flying) (Leaves guest.old guest.new own h) (Stays h.limits guest.old guest.new) }
 {
     let place = thread as usize;

@@ -13,7 +13,7 @@ ghost use Rattle.dv_words.specs.Answering.{Leads};
 ghost use Rattle.dv_words.specs.Step as steps;
 ghost use Rattle.dv_words.specs.Steps.{At};
 ghost use Rattle.dv_core.specs.Fitting.{RecordFits};
-ghost use Rattle.dv_core.specs.Guests.{IsSeenByStep, Leaves, Stays};
+ghost use Rattle.dv_core.specs.Guests.{IsSeen, Leaves, Stays};
 ghost use Rattle.dv_core.specs.Recording.{AreKept, IsBeside, LeavesBoth};
 
 use crate::guest::Guest;
@@ -26,7 +26,7 @@ use dv_ops::Method;
 /// Begins to initialise a class: its record is pushed, and the class is in progress by this thread. `NoRoom` where the stack is full; where
 /// the class isn't to be begun, nothing is done.
 pub fn begin(guest: &mut Guest, thread: u32, class: ClassId) -> Next
-    ensures { (own : WordThread) (h : At) → IsSeenByStep h.image h.limits guest.old thread own h → ask_of h.shared.classes class.0 thread ≡ asks.Begin →
+    ensures { (own : WordThread) (h : At) → IsSeen h.image h.limits guest.old thread own h → ask_of h.shared.classes class.0 thread ≡ asks.Begin →
         Leads {E = AllocError} (Ok result) (steps.begun h class.0 own.levels) (Leaves guest.old guest.new own h) (Stays h.limits guest.old guest.new) }
 {
     let place = thread as usize;
@@ -50,7 +50,7 @@ pub fn step_record(
     class: ClassId,
     running: bool,
 ) -> Next
-    ensures { (own : WordThread) (h : At) → IsSeenByStep image.now h.limits guest.old thread own h → own.levels ≡ level.Init class running ∷ h.rest → RecordFits h class →
+    ensures { (own : WordThread) (h : At) → IsSeen image.now h.limits guest.old thread own h → own.levels ≡ level.Init class running ∷ h.rest → RecordFits h class →
         Leads {E = AllocError} (Ok result) (steps.record_step h class.0 running) (Leaves guest.old guest.new own h) (Stays h.limits guest.old guest.new) }
 {
     let place = thread as usize;

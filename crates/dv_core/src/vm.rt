@@ -15,7 +15,7 @@ ghost use Rattle.dv_words.specs.Stacks.{first};
 ghost use Rattle.dv_frames.specs.Tops.{top_of};
 ghost use Rattle.dv_threads.specs.Kept.{threads_of};
 ghost use Rattle.dv_core.specs.Fitting.{RecordFits, StepFits};
-ghost use Rattle.dv_core.specs.Guests.{IsAtOp, IsOrdered, IsSeenByStep};
+ghost use Rattle.dv_core.specs.Guests.{IsAtOp, IsOrdered, IsSeen};
 ghost use Rattle.dv_core.specs.Machines.{IsStepped, IsSteppable, machine_of};
 
 use crate::code::step_code;
@@ -110,7 +110,7 @@ impl Vm {
 
     /// A step of a living thread at an instruction.
     fn step_at_code(&mut self, image: &Image, thread: u32) -> Result<(), AllocError>
-        ensures { (own : WordThread) (h : At) (x : statics.At) → IsSeenByStep image.now self.old.limits self.old.guest thread own h → IsAtOp own h x → StepFits h x.op → self.old.steps < 2 ^ 64 - 1 →
+        ensures { (own : WordThread) (h : At) (x : statics.At) → IsSeen image.now self.old.limits self.old.guest thread own h → IsAtOp own h x → StepFits h x.op → self.old.steps < 2 ^ 64 - 1 →
             IsStepped result self.old self.new (settled image.now (machine_of self.old) thread own (Some x) (with_ready h x.op (ops.needs x.op))) }
     {
         let answer = step_code(image, &self.limits, &mut self.guest, thread)?;
@@ -125,7 +125,7 @@ impl Vm {
         class: ClassId,
         running: bool,
     ) -> Result<(), AllocError>
-        ensures { (own : WordThread) (h : At) → IsSeenByStep image.now self.old.limits self.old.guest thread own h → own.levels ≡ level.Init class running ∷ h.rest → RecordFits h class → self.old.steps < 2 ^ 64 - 1 →
+        ensures { (own : WordThread) (h : At) → IsSeen image.now self.old.limits self.old.guest thread own h → own.levels ≡ level.Init class running ∷ h.rest → RecordFits h class → self.old.steps < 2 ^ 64 - 1 →
             IsStepped result self.old self.new (settled image.now (machine_of self.old) thread own None (record_step h class.0 running)) }
     {
         let answer = step_record(image, &mut self.guest, thread, class, running);
@@ -134,9 +134,9 @@ impl Vm {
 
     /// A step of a thread with an exception in flight.
     fn step_flying(&mut self, image: &Image, thread: u32, object: u32) -> Result<(), AllocError>
-        ensures code { (own : WordThread) (h : At) (f : Activation) → IsSeenByStep image.now self.old.limits self.old.guest thread own h → own.levels ≡ level.Code f ∷ h.rest → self.old.steps < 2 ^ 64 - 1 →
+        ensures code { (own : WordThread) (h : At) (f : Activation) → IsSeen image.now self.old.limits self.old.guest thread own h → own.levels ≡ level.Code f ∷ h.rest → self.old.steps < 2 ^ 64 - 1 →
             IsStepped result self.old self.new (settled_flight (machine_of self.old) thread own (unwind_frame h f object (handler_for image.now h.shared.heap object (handlers_at image.now f.method.0 f.at)))) }
-        ensures record { (own : WordThread) (h : At) (c : ClassId) (r : Bool) → IsSeenByStep image.now self.old.limits self.old.guest thread own h → own.levels ≡ level.Init c r ∷ h.rest → RecordFits h c → self.old.steps < 2 ^ 64 - 1 →
+        ensures record { (own : WordThread) (h : At) (c : ClassId) (r : Bool) → IsSeen image.now self.old.limits self.old.guest thread own h → own.levels ≡ level.Init c r ∷ h.rest → RecordFits h c → self.old.steps < 2 ^ 64 - 1 →
             IsStepped result self.old self.new (settled_flight (machine_of self.old) thread own (unwind_record h c.0 object)) }
         ensures none { (own : WordThread) → IsOrdered self.old.limits self.old.guest → slice_get (threads_of self.old.guest.threads) thread ≡ Some own → own.levels ≡ [] → IsStepped result self.old self.new (machine_of self.old) }
     {

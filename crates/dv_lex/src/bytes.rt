@@ -1,6 +1,6 @@
 // What a byte of a line is to the cutting of tokens.
 ghost use Rattle.std.specs.Prelude.{◌≡◌};
-ghost use Rattle.dv_lex.specs.Bytes.{byte_class, is_plain, is_control, is_hexadecimal, is_escape, escape_length, units_begun};
+ghost use Rattle.dv_lex.specs.Bytes.{class_of, is_plain, is_control, is_hexadecimal, is_escape, escape_length, units_begun};
 
 /// What a byte is between tokens.
 #[derive(Clone, Copy, PartialEq, Eq, Debug)]
@@ -13,9 +13,9 @@ pub enum Class {
     Plain,
 }
 
-#[tactic(auto, unfolding(crate::specs::Bytes::byte_class))]
+#[tactic(auto, unfolding(crate::specs::Bytes::class_of))]
 pub fn class_of(byte: u8) -> Class
-    ensures { result ≡ byte_class byte }
+    ensures { result ≡ class_of byte }
 {
     match byte {
         b' ' | b'\t' => Class::Blank,

@@ -9,7 +9,7 @@ use Rattle.dv_typing.specs.Statics.{At, fetch, insn_rules}
 use Rattle.dv_defs.specs.Tiling.{IsPayload, payload_at, piece_here, tiles_in, tiling}
 
 -- an operation stands at an address of a method with these units
-pub record InsnStandsAt (image : Image) (n : ℕ) (units : List ℕ) (at : ℕ) (x : At) : Type 0 where
+pub record StandsAt (image : Image) (n : ℕ) (units : List ℕ) (at : ℕ) (x : At) : Type 0 where
   pub code : Code
   pub has_code : code_at image n ≡ Some code
   pub same_units : code.body.units ≡ units
@@ -29,7 +29,7 @@ pub record IsFetched (image : Image) (code : Code) (at : ℕ) (i : Insn) (size :
   pub rules : insn_rules image code at i ≡ []
 
 abbrev pub FetchedIsThere : Type 0
-FetchedIsThere = (image : Image) (n at : ℕ) (units : List ℕ) (x : At) → InsnStandsAt image n units at x → IsThere units at x
+FetchedIsThere = (image : Image) (n at : ℕ) (units : List ℕ) (x : At) → StandsAt image n units at x → IsThere units at x
 
 abbrev pub FetchedIsDecoded : Type 0
 FetchedIsDecoded =

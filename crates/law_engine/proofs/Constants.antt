@@ -17,7 +17,7 @@ use Rattle.dv_defs.specs.Op.{Arg, Code, ConstLong, IntDivide, IntOp, LongDivide,
 use Rattle.dv_defs.specs.Parts.{Bin, Width, is_division, is_shift}
 use Rattle.dv_typing.specs.Statics.{At, fetch, fetch_in}
 use Rattle.dv_defs.specs.Types.{is_array}
-use Rattle.dv_words.specs.Fetching.{InsnStandsAt}
+use Rattle.dv_words.specs.Fetching.{StandsAt}
 use Rattle.law_words.proofs.Fetching.{fetched_is_decoded, fetched_is_there}
 use Rattle.law_engine.proofs.Bits.{IsLong}
 
@@ -206,7 +206,7 @@ long_there image n at x found = by (code_at image n) refl found
     by : (c : Option Code) → code_at image n ≡ c → fetch_in image at c ≡ Some x → HasLong x.op
     by None is e = absurd (cc)
     by (Some code) is e =
-        let stands : InsnStandsAt image n code.body.units at x = record { code = code; has_code = is; same_units = refl; has_at = fetched } in
+        let stands : StandsAt image n code.body.units at x = record { code = code; has_code = is; same_units = refl; has_at = fetched } in
         let there = fetched_is_there image n at code.body.units x stands in
         let decoded = fetched_is_decoded image n at code there.insn there.size x is fetched there.read in
         let literal = literal_is (drop at code.body.units) (record { insn = there.insn; size = there.size }) there.read in

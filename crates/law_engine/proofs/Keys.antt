@@ -20,7 +20,7 @@ use Rattle.dv_defs.specs.Tiling.{Item, IsInsn, IsPayload, Tile, payload_at, payl
 use Rattle.dv_defs.specs.Types.{is_array}
 use Rattle.law_flow.proofs.NoPlaces.{no_place, none_left, none_right}
 use Rattle.law_flow.proofs.Statics.{is_static_body}
-use Rattle.dv_words.specs.Fetching.{InsnStandsAt}
+use Rattle.dv_words.specs.Fetching.{StandsAt}
 use Rattle.dv_words.specs.Stepping.{AreRising, KeysRise}
 use Rattle.law_words.proofs.Fetching.{fetched_is_decoded, fetched_is_there}
 use Rattle.law_engine.specs.Laws.{AcceptedKeysRise}
@@ -206,7 +206,7 @@ accepted_keys_rise image accepted n at x found = by (code_at image n) refl found
     by : (c : Option Code) → code_at image n ≡ c → fetch_in image at c ≡ Some x → KeysRise x.op
     by None is e = absurd (cc)
     by (Some code) is e =
-        let stands : InsnStandsAt image n code.body.units at x = record { code = code; has_code = is; same_units = refl; has_at = fetched } in
+        let stands : StandsAt image n code.body.units at x = record { code = code; has_code = is; same_units = refl; has_at = fetched } in
         let there = fetched_is_there image n at code.body.units x stands in
         let decoded = fetched_is_decoded image n at code there.insn there.size x is fetched there.read in
         let static = is_static_body image n code is (accepted n code is).static in

@@ -9,7 +9,7 @@ use Rattle.dv_defs.specs.declared.code.Payload.{Payload}
 use Rattle.dv_defs.specs.declared.code.Body.{Body}
 use Rattle.dv_defs.specs.Pools.{Method, method_at}
 use Rattle.dv_defs.specs.Op.{Code, code_at, code_of, with_body, op_of, Resolved}
-use Rattle.dv_words.specs.Fetching.{FetchedIsDecoded, FetchedIsThere, IsFetched, IsSpelled, IsThere, PayloadsAreThere, InsnStandsAt}
+use Rattle.dv_words.specs.Fetching.{FetchedIsDecoded, FetchedIsThere, IsFetched, IsSpelled, IsThere, PayloadsAreThere, StandsAt}
 use Rattle.dv_typing.specs.Statics.{At, fetch, fetch_in, at_tile, at_of, sound_at, insn_rules}
 use Rattle.dv_defs.specs.Decoding.{Sized, insn_here}
 use Rattle.dv_defs.specs.Tiling.{Item, IsInsn, IsPayload, Piece, Tile, SizedPayload, tiled, tiling, tiles_in, tile_at, with_tile, piece_here, insn_piece, payload_piece, begins_payload, payload_of, insn_in, payload_at, payload_in}
@@ -192,9 +192,9 @@ module _ (image : Image) (code : Code) (at : ℕ) (x : At) where
 -- ---- the address after an instruction
 
 abbrev pub IsAfter : List ℕ → ℕ → ℕ → Type 0
-IsAfter units at to = (image : Image) (n : ℕ) (x : At) → InsnStandsAt image n units at x → x.next ≡ to
+IsAfter units at to = (image : Image) (n : ℕ) (x : At) → StandsAt image n units at x → x.next ≡ to
 
-pub read_here : (image : Image) (n at : ℕ) (units : List ℕ) (x : At) → InsnStandsAt image n units at x → IsThere units at x
+pub read_here : (image : Image) (n at : ℕ) (units : List ℕ) (x : At) → StandsAt image n units at x → IsThere units at x
 read_here image n at units x s = subst (λ (us : List ℕ). IsThere us at x) s.same_units (is_read image s.code at x n s.has_code s.has_at)
 
 pub after_read : (units : List ℕ) (at size : ℕ) (i : Insn) → insn_here (drop at units) ≡ Some (record { insn = i; size = size }) → IsAfter units at (at + size)

@@ -25,7 +25,7 @@ use Rattle.dv_typing.specs.Statics.{arg_words, fetch, fetch_in, fits_call, fits_
 use Rattle.dv_defs.specs.Tiling.{IsInsn, IsPayload, Piece, SizedPayload, begins_payload, bytes_in, data_in, data_of, data_from, doubles, insn_piece, is_width, packed_with, payload_at, payload_of, payload_piece, piece_here, sparse_with}
 use Rattle.dv_defs.specs.Types.{is_array}
 use Rattle.dv_words.specs.Standing.{FitsInt}
-use Rattle.dv_words.specs.Fetching.{InsnStandsAt}
+use Rattle.dv_words.specs.Fetching.{StandsAt}
 use Rattle.law_words.specs.Laws.{ArgFits, OperandsFit}
 use Rattle.law_words.specs.StepLaws.{CallFits, FetchedOperandsFit, ImageFits, StringsFit}
 use Rattle.law_words.proofs.Fetching.{fetched_is_decoded, fetched_is_there, payloads_are_there, tiles_are}
@@ -306,7 +306,7 @@ fetched_operands_fit image fits strings n at x found = by (code_at image n) refl
     by : (c : Option Code) → code_at image n ≡ c → fetch_in image at c ≡ Some x → Fit image x.op
     by None is e = absurd (cc)
     by (Some code) is e =
-        let stands : InsnStandsAt image n code.body.units at x = record { code = code; has_code = is; same_units = refl; has_at = fetched } in
+        let stands : StandsAt image n code.body.units at x = record { code = code; has_code = is; same_units = refl; has_at = fetched } in
         let there = fetched_is_there image n at code.body.units x stands in
         let decoded = fetched_is_decoded image n at code there.insn there.size x is fetched there.read in
         fits_by image n code at there.insn x.op fits strings is (no_fault image code at there.insn x.op decoded.op decoded.rules)
