@@ -42,8 +42,8 @@ unfoldable pub methods_of : List MethodDraft → Result (List MethodDef) Stop
 methods_of [] = Ok []
 methods_of (m ∷ ms) = assembled_method m >>> λ d. and_then (d ∷ []) (methods_of ms)
 
-abbrev pub class_of : ClassDraft → List MethodDef → ClassDef
-class_of c ms = record {
+abbrev pub class_of_draft : ClassDraft → List MethodDef → ClassDef
+class_of_draft c ms = record {
   name = c.head.name;
   parent = c.parent;
   interfaces = c.interfaces;
@@ -54,7 +54,7 @@ class_of c ms = record {
 }
 
 abbrev pub assembled_class : ClassDraft → Result ClassDef Stop
-assembled_class c = methods_of c.methods >>> λ ms. Ok (class_of c ms)
+assembled_class c = methods_of c.methods >>> λ ms. Ok (class_of_draft c ms)
 
 unfoldable pub classes_of : List ClassDraft → Result (List ClassDef) Stop
 classes_of [] = Ok []

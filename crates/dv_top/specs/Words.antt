@@ -28,13 +28,13 @@ abbrev pub AsksForVerifying : List (List ℕ) → Type 0
 AsksForVerifying words = asked_in words ≡ Some command.Verify
 
 -- the class that a command runs
-abbrev pub class_of : Option Command → Option (List ℕ)
-class_of (Some (command.Run class seed limits shown)) = Some class
-class_of (Some (command.Replay class limits)) = Some class
-class_of other = None
+abbrev pub named_class : Option Command → Option (List ℕ)
+named_class (Some (command.Run class seed limits shown)) = Some class
+named_class (Some (command.Replay class limits)) = Some class
+named_class other = None
 
 abbrev pub class_to_run : List (List ℕ) → Option (List ℕ)
-class_to_run words = class_of (asked_in words)
+class_to_run words = named_class (asked_in words)
 
 -- a run may be opened within the limits that the words set
 abbrev pub IsUsable : Option Command → Type 0

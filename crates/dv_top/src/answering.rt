@@ -6,7 +6,7 @@ ghost use Rattle.dv_top.specs.declared.reading.ReadError.TheVariants.{Memory as 
 ghost use Rattle.dv_top.specs.Answering.{IsAnswer, IsEntry, IsIdle, IsTold, IsReadOf, MayRun};
 ghost use Rattle.dv_top.specs.Said.{IsSaid, usage, text_limit};
 ghost use Rattle.dv_top.specs.Status.{code_of};
-ghost use Rattle.dv_top.specs.Words.{IsUsable, asked_in, class_of, class_to_run};
+ghost use Rattle.dv_top.specs.Words.{IsUsable, asked_in, named_class, class_to_run};
 
 use crate::listing::reply_to_listing;
 use crate::printing::USAGE;
@@ -99,7 +99,7 @@ fn reply_to_command(
         → IfOk result (λ reply. IsSaid words bytes log.new.items (code_of reply.status) reply.text.items) }
     ensures entries { All IsEntry log.new.items }
     ensures idle { IfOk result (λ reply. IsIdle (code_of reply.status) → log.new.items ≡ []) }
-    ensures not_run { class_of (Some command.now) ≡ None → log.new.items ≡ [] }
+    ensures not_run { named_class (Some command.now) ≡ None → log.new.items ≡ [] }
     ensures legal { (words : List (List ℕ)) (bytes : List ℕ) → asked_in words ≡ Some command.now → IsReadOf bytes text.now
         → log.new.items ≢ [] → MayRun words bytes log.new.items }
     ensures not_replayed { (class : List ℕ) (limits : LimitsOf) → command.now ≡ Command.Replay class limits → OnErr result (log.new.items ≡ []) }

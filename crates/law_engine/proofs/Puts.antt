@@ -21,7 +21,7 @@ use Rattle.dv_machine.specs.Accepted.{Accepted}
 use Rattle.dv_machine.specs.Conforming.{Conforms, Own}
 use Rattle.dv_machine.specs.State.{Machine, reg_at}
 use Rattle.dv_machine.specs.WellTyped.{IsPlaced, ThreadFine, Typings, WellTyped, this_above}
-use Rattle.law_words.specs.Laws.{IsMade, PutsInMade}
+use Rattle.law_words.specs.Laws.{PointsToObject, PutsInMade}
 use Rattle.law_words.specs.StepLaws.{PutsAreMade}
 
 first_none : (a b : Option _) → first a b ≡ None → a ≡ None
@@ -30,7 +30,7 @@ first_none (Some r) b e = absurd (cc)
 
 module _ (image : Image) (heap : Heap) (own : Own) (m : Method) (regs : List Value) (s : RegState) (b : ℕ) (x : Field) where
   -- the demand on the receiver leaves out what nothing is known of
-  by_type : (y : Value) (t : RegType) → type_at s.regs b ≡ t → Conforms image heap own y t → put_receiver image m s.regs b x t ≡ None → IsMade heap y
+  by_type : (y : Value) (t : RegType) → type_at s.regs b ≡ t → Conforms image heap own y t → put_receiver image m s.regs b x t ≡ None → PointsToObject heap y
   by_type (v.UninitThis zero) t is c d = tt
   by_type (v.UninitThis (suc o)) ty.UninitThis is c d = (record { 0 = c.class }, c.has_kind)
   by_type (v.UninitThis (suc o)) ty.Conflict is c d = absurd (cc)

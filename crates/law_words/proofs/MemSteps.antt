@@ -38,7 +38,7 @@ use Rattle.dv_words.specs.Stacks as stack
 use Rattle.dv_words.specs.Standing.{AreWords, Fits, FitsInt, FrameFits, FrameStands, HeapStands, IsWord}
 use Rattle.dv_words.specs.State.{WordHeap}
 use Rattle.dv_words.specs.Words.{int_of, word_of}
-use Rattle.law_words.specs.Laws.{ArgFits, IsBounded, DidStands, HereStands, IsMade, IsNoString, IsPlain, MemStepsFollow, OperandsFit, PutsInMade}
+use Rattle.law_words.specs.Laws.{ArgFits, IsBounded, DidStands, HereStands, PointsToObject, IsNoString, IsPlain, MemStepsFollow, OperandsFit, PutsInMade}
 use Rattle.dv_words.specs.Local.{arg_at, int_at, long_at, put, put_two, reg_word}
 use Rattle.dv_words.specs.Mem as over
 use Rattle.dv_words.specs.Mem.{WordHere, WordLeft, onward, word_mem}
@@ -395,14 +395,14 @@ module _ (w : WordHere) (h : Here) (frame_fits : FrameFits w.frame) (stands : He
       reads_tested h d (fits_kind h.image t) h.shared.heap y u go is
       (λ passes. s (λ p e. fits_plain p t never (subst (λ (n : ℕ). tested (fits_kind h.image t) h.shared.heap n ≡ true) e passes)))
 
-  receives : (x : Field) (y : Value) (u : ℕ) (go : ℕ → Did Left) (d : Did WordLeft) → IsNoString h.image x → IsMade h.shared.heap y → IsWord u y → (IsReceiver u → DidStands h d (go u)) → DidStands h d (reading (machine.read_put_receiver h x y) go)
+  receives : (x : Field) (y : Value) (u : ℕ) (go : ℕ → Did Left) (d : Did WordLeft) → IsNoString h.image x → PointsToObject h.shared.heap y → IsWord u y → (IsReceiver u → DidStands h d (go u)) → DidStands h d (reading (machine.read_put_receiver h x y) go)
   receives x (v.UninitThis o) u go d never made is s = own (is_own_field h.own x) o made is
     where
-      plain : (o : ℕ) → IsMade h.shared.heap (v.UninitThis o) → u ≡ o → IsReceiver u
+      plain : (o : ℕ) → PointsToObject h.shared.heap (v.UninitThis o) → u ≡ o → IsReceiver u
       plain zero made is p e = absurd (let no_null : zero ≡ suc p = sym is ∙ e in omega (arith, no_null))
       plain (suc o) made is p e = let same : o ≡ p = omega (arith, is, e) in subst (λ (q : ℕ). IsPlain (tagged.kind_of h.shared.heap (suc q))) same (object_plain (tagged.kind_of h.shared.heap (suc o)) made.0 made.1)
 
-      own : (b : Bool) (o : ℕ) → IsMade h.shared.heap (v.UninitThis o) → u ≡ o → DidStands h d (reading (if b then Ok o else Err why.Uninitialised) go)
+      own : (b : Bool) (o : ℕ) → PointsToObject h.shared.heap (v.UninitThis o) → u ≡ o → DidStands h d (reading (if b then Ok o else Err why.Uninitialised) go)
       own true o made is = subst (λ (n : ℕ). DidStands h d (go n)) is (s (plain o made is))
       own false o made is = tt
   receives x v.Undef u go d never made is s = receives_any x v.Undef u go d never is s
@@ -413,7 +413,7 @@ module _ (w : WordHere) (h : Here) (frame_fits : FrameFits w.frame) (stands : He
   receives x (v.Ref o) u go d never made is s = receives_any x (v.Ref o) u go d never is s
   receives x (v.Uninit c o) u go d never made is s = receives_any x (v.Uninit c o) u go d never is s
 
-  field_put : (s : Suffix) (a b : ℕ) (x : Field) → IsNoString h.image x → IsMade h.shared.heap (reg_at h.frame.regs b) → DidStands h (word_mem w (FieldPut s a b x)) (mem h (FieldPut s a b x))
+  field_put : (s : Suffix) (a b : ℕ) (x : Field) → IsNoString h.image x → PointsToObject h.shared.heap (reg_at h.frame.regs b) → DidStands h (word_mem w (FieldPut s a b x)) (mem h (FieldPut s a b x))
   field_put s a b x never made =
       let d = word_mem w (FieldPut s a b x) in
       let o = reg_word w.frame b in

@@ -79,13 +79,13 @@ IsPlain (Some (kind.Str s)) = ⊥
 IsPlain k = Unit {0}
 
 -- what a constructor makes is an object of a class
-abbrev pub IsMade : Heap → Value → Type 0
-IsMade heap (v.UninitThis (suc o)) = (c : ClassId) × (kind_of heap (suc o) ≡ Some (kind.Object c))
-IsMade heap x = Unit {0}
+abbrev pub PointsToObject : Heap → Value → Type 0
+PointsToObject heap (v.UninitThis (suc o)) = (c : ClassId) × (kind_of heap (suc o) ≡ Some (kind.Object c))
+PointsToObject heap x = Unit {0}
 
 -- a field of an object that isn't initialised is put in one that a constructor makes
 abbrev pub PutsInMade : Heap → List Value → Op → Type 0
-PutsInMade heap regs (FieldPut s a b x) = IsMade heap (reg_at regs b)
+PutsInMade heap regs (FieldPut s a b x) = PointsToObject heap (reg_at regs b)
 PutsInMade heap regs op = Unit {0}
 
 -- a step that goes on leaves a frame and a heap that stand for the tagged machine's, and nothing else has changed
