@@ -23,9 +23,9 @@ abbrev pub StepsTop : Image → Bool → WordStack → WordStack → Type 0
 StepsTop image done old new = TopStepped image done (first old.levels) old new
 
 -- so many steps of the frame on top, at most so many
-abbrev pub RanTopLevel : Image → ℕ → ℕ → Option Level → WordStack → WordStack → Type 0
-RanTopLevel image most done (Some (level.Code s)) old new = TopBecame (RanLocally image most done) s old new
-RanTopLevel image most done l old new = (done ≡ 0) × (new ≡ old)
+abbrev pub TopRan : Image → ℕ → ℕ → Option Level → WordStack → WordStack → Type 0
+TopRan image most done (Some (level.Code s)) old new = TopBecame (RanLocally image most done) s old new
+TopRan image most done l old new = (done ≡ 0) × (new ≡ old)
 
 abbrev pub RanTop : Image → ℕ → ℕ → WordStack → WordStack → Type 0
-RanTop image most done old new = RanTopLevel image most done (first old.levels) old new
+RanTop image most done old new = TopRan image most done (first old.levels) old new
