@@ -9,12 +9,12 @@ ghost use Rattle.dv_asm.specs.Ranges.{ranges_in};
 ghost use Rattle.dv_asm.specs.Tiles.{tiles, tiles_of};
 
 use crate::catches::Catches;
-use dv_draft::{Catch, Draft, Pools};
 use crate::lines::refuse;
 use crate::places::Places;
 use crate::short::Short;
 use crate::switches::Switches;
 use dv_defs::{Body, LineError, LineKind, Seq, Try};
+use dv_draft::{Catch, Draft, Pools};
 use std::alloc::{AllocError, Global};
 use std::collections::BTreeMap;
 

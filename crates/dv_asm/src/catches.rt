@@ -7,11 +7,11 @@ ghost use Rattle.dv_asm.specs.Refusals.{Checks, refused, catch_at, range_of, ran
 ghost use Rattle.dv_asm.specs.Layout.{with_range, sorted_ranges};
 ghost use Rattle.dv_asm.specs.Ranges.{AreApart, AreGroups, ranges_in};
 
-use dv_draft::Catch;
 use crate::lines::{first_line, when};
 use crate::short::Short;
 use crate::tries::TryRange;
 use dv_defs::{LineError, LineKind};
+use dv_draft::Catch;
 use indexmap::IndexMap;
 use std::alloc::{AllocError, Global};
 use std::collections::BTreeMap;

@@ -5,9 +5,9 @@ ghost use Rattle.dv_asm.specs.declared.tries.TryRange.{TryRange};
 ghost use Rattle.dv_asm.specs.Refusals.{ranges_of, is_same};
 ghost use Rattle.dv_asm.specs.Ranges.{found, AreGroups};
 
-use dv_draft::Catch;
 use crate::short::Short;
 use crate::tries::TryRange;
+use dv_draft::Catch;
 use indexmap::IndexMap;
 use std::alloc::{AllocError, Global};
 

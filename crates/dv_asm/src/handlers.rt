@@ -6,10 +6,10 @@ ghost use Rattle.dv_asm.specs.Layout.{kind_in, with_kinds, catches_of, handler_o
 ghost use Rattle.dv_asm.specs.Ranges.{ranges_in};
 
 use crate::catches::Catches;
-use dv_draft::{Catch, index};
 use crate::short::Short;
 use crate::tries::TryRange;
 use dv_defs::{Handler, Pool, Seq, Try, Ty};
+use dv_draft::{Catch, index};
 use std::alloc::{AllocError, Global};
 use std::collections::BTreeMap;
 

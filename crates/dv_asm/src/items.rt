@@ -2,8 +2,8 @@
 ghost use Rattle.std.specs.Prelude.{◌≡◌, ◌≤◌, ◌^◌, option_map};
 ghost use Rattle.dv_asm.specs.Items.{is_label, is_payload, is_switch_opcode, label_of_switch, size_of};
 
-use dv_draft::{Item, What};
 use dv_defs::Text;
+use dv_draft::{Item, What};
 use dv_units::insn_size;
 
 impl Item {

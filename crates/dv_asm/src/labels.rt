@@ -4,10 +4,10 @@ ghost use Rattle.std.specs.List.{list_all};
 ghost use Rattle.dv_asm.specs.Refusals.{is_place, is_second, label_twice, label_twice_at, has_label, has_labels, no_label, no_label_at, catch_has_labels, no_label_of_catch_at};
 
 use crate::catches::catch_at;
-use dv_draft::{Catch, What};
 use crate::lines::{earlier, first_line, when};
 use crate::places::Places;
 use dv_defs::Text;
+use dv_draft::{Catch, What};
 
 /// Whether this is the place.
 pub fn is_place(k: usize, place: Option<usize>) -> bool

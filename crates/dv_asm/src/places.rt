@@ -6,8 +6,8 @@ ghost use Rattle.dv_asm.specs.First.{when};
 ghost use Rattle.dv_asm.specs.Items.{item_at, is_named};
 ghost use Rattle.dv_asm.specs.Places.{leads_to_payload, place_of, label_address, distance, address_of, AreAddresses, AreFirstLabels};
 
-use dv_draft::{Item, What};
 use dv_defs::Text;
+use dv_draft::{Item, What};
 use indexmap::IndexMap;
 use std::alloc::{AllocError, Global};
 use std::marker::Model;

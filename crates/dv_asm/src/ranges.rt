@@ -4,10 +4,10 @@ ghost use Rattle.dv_defs.specs.Spelling.{fits_signed};
 ghost use Rattle.dv_defs.specs.Formats.{offset_bits};
 ghost use Rattle.dv_asm.specs.Refusals.{with_operands, is_over_registers, register_range, register_range_at, offset_fits, is_over_offset, offset_range, offset_range_at, too_long, too_long_at};
 
-use dv_draft::What;
 use crate::lines::{first_line, when};
 use crate::places::Places;
 use dv_defs::{Insn, Text};
+use dv_draft::What;
 use dv_units::{has_spelling, offset_bits};
 
 /// The most units that a body may have.

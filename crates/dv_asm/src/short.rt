@@ -4,10 +4,10 @@ ghost use Rattle.dv_asm.specs.Items.{item_at};
 ghost use Rattle.dv_asm.specs.Places.{address_of, label_address, distance};
 ghost use Rattle.dv_asm.specs.Refusals.{too_long, switch_of};
 
-use dv_draft::Item;
 use crate::places::Places;
 use crate::switches::Switches;
 use dv_defs::Text;
+use dv_draft::Item;
 use std::marker::Model;
 
 /// Items of a body that isn't too long, with their places and what switches name.

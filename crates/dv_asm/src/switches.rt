@@ -9,10 +9,10 @@ ghost use Rattle.dv_asm.specs.Places.{address_named_by};
 ghost use Rattle.dv_asm.specs.Refusals.{is_address, is_payload_at, is_repeated, stands_payload, switch_of, repeated, repeated_at};
 ghost use Rattle.dv_asm.specs.Switches.{AreFirstSwitches, ArePayloadAddresses};
 
-use dv_draft::Item;
 use crate::labels::is_place;
 use crate::lines::{first_line, when};
 use crate::places::Places;
+use dv_draft::Item;
 use indexmap::{IndexMap, IndexSet};
 use std::alloc::{AllocError, Global};
 use std::marker::Model;

@@ -3,8 +3,8 @@ ghost use Rattle.std.specs.Prelude.{◌≡◌, IfOk};
 ghost use Rattle.dv_asm.specs.Refusals.{range_of, ranges_of, is_empty, is_same, overlaps};
 ghost use Rattle.dv_asm.specs.Ranges.{range_in};
 
-use dv_draft::Catch;
 use crate::short::Short;
+use dv_draft::Catch;
 use std::alloc::{AllocError, Global};
 
 /// The addresses from `start` up to and without `end`.

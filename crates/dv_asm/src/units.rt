@@ -8,10 +8,10 @@ ghost use Rattle.dv_asm.specs.Places.{address_of};
 ghost use Rattle.dv_asm.specs.Layout.{AreSpelled, IsWritable, AreWritable, offset_of, insn_of, spelling_of, padded, units_of};
 ghost use Rattle.dv_asm.specs.Tiles.{tiles_of};
 
-use dv_draft::{Draftop, Pools, What};
 use crate::ranges::with_operands;
 use crate::short::Short;
 use dv_defs::{Insn, Payload, Seq, Text};
+use dv_draft::{Draftop, Pools, What};
 use dv_units::{UnitError, encode, encode_payload};
 use std::alloc::{AllocError, Global};
 

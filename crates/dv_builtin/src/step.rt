@@ -15,9 +15,9 @@ ghost use Rattle.dv_builtin.specs.Seeing.{Does};
 
 use crate::natives::native_step;
 use dv_defs::{Image, Insn, Native, Next};
-use dv_ops::{coded_at, units_of};
 use dv_frames::Stack;
 use dv_heap::Heap;
+use dv_ops::{coded_at, units_of};
 use dv_units::insn_size;
 use std::alloc::AllocError;
 

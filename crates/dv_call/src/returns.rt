@@ -16,8 +16,8 @@ ghost use Rattle.dv_call.specs.Returns.{CallerStands, TopStands, resumed};
 
 use crate::tops::running;
 use dv_defs::{Base, Image, MethodId, Next, Ty};
-use dv_ops::{Method, coded_at, units_of};
 use dv_frames::Stack;
+use dv_ops::{Method, coded_at, units_of};
 use dv_units::insn_size;
 use dv_words::Kept;
 

@@ -14,9 +14,9 @@ ghost use Rattle.dv_call.specs.Stepping.{is_call};
 use crate::invokes::invoke;
 use crate::returns::{return_value, return_void};
 use dv_defs::{Image, Insn, Next};
-use dv_ops::{Op, coded_at, resolve, units_of};
 use dv_frames::Stack;
 use dv_heap::Heap;
+use dv_ops::{Op, coded_at, resolve, units_of};
 
 /// Does an operation, if it is an invoke or a return.
 fn operate(image: &Image, heap: &Heap, stack: &mut Stack, op: Op<'_>) -> Next

@@ -6,8 +6,8 @@ ghost use Rattle.dv_classread.specs.Texts.{Says, Method};
 ghost use Rattle.dv_classread.specs.Classes.{classes_with, whole_classes, Adds};
 
 use crate::class_line::{ClassHead, ClassLine, Signature, Standing, stands_next};
-use dv_draft::Draft;
 use dv_defs::{Body, FieldDef, Seq, Text};
+use dv_draft::Draft;
 use std::alloc::{AllocError, Global};
 
 /// A body as it is read: a draft, or raw.

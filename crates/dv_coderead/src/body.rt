@@ -16,8 +16,8 @@ use crate::drafting::{Drafting, missing};
 use crate::head::Head;
 use crate::kept::{Next, next_line};
 use crate::pieces::read_tokens;
-use dv_draft::Draft;
 use dv_defs::{Base, LineError, Proto, Ty};
+use dv_draft::Draft;
 use dv_lex::Line;
 use std::alloc::Global;
 

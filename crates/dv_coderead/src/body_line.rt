@@ -15,8 +15,8 @@ use crate::parts::{behind, dots, end, mark};
 use crate::pieces::Piece;
 use crate::words::{self, Frame};
 use crate::{Refusal, references};
-use dv_draft::{Catch, Draftop};
 use dv_defs::{LineKind, Text, Ty};
+use dv_draft::{Catch, Draftop};
 use dv_lex::{is_number, number};
 use std::alloc::Global;
 

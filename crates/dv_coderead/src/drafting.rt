@@ -6,8 +6,8 @@ ghost use Rattle.dv_coderead.specs.Bodies.{nothing_before};
 ghost use Rattle.dv_coderead.specs.Drafting.{finished_with, payload_with, Adds, IsDrafting};
 
 use crate::body_line::{BodyLine, Context, Opening};
-use dv_draft::{Catch, Draft, Item, What};
 use dv_defs::{LineError, LineKind, Seq, Text};
+use dv_draft::{Catch, Draft, Item, What};
 use std::alloc::{AllocError, Global};
 use std::mem;
 

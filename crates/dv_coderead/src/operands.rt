@@ -12,8 +12,8 @@ use crate::registers::read_registers;
 use crate::shape::{Literal, Registers, has_label, literal_of, registers_of};
 use crate::words::{self, Frame};
 use crate::{Refusal, references};
-use dv_draft::{Draftop, PoolRef};
 use dv_defs::{Insn, LineKind, PoolKind, Text};
+use dv_draft::{Draftop, PoolRef};
 use dv_units::pool_of;
 use std::alloc::Global;
 

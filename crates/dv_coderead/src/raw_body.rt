@@ -22,8 +22,8 @@ use crate::head::Head;
 use crate::kept::{Next, next_line};
 use crate::pieces::read_tokens;
 use crate::raw_line::{RawHandler, RawLine, RawPlace, raw_line};
-use dv_draft::{PoolRef, Pools, index};
 use dv_defs::{Body, Handler, LineError, Pool, Seq, Try, Ty};
+use dv_draft::{PoolRef, Pools, index};
 use dv_lex::Line;
 use std::alloc::{AllocError, Global};
 

@@ -16,8 +16,8 @@ use crate::head::{Block, Directive, Head};
 use crate::parts::{behind, end};
 use crate::pieces::Piece;
 use crate::{Refusal, references, words};
-use dv_draft::PoolRef;
 use dv_defs::{LineKind, Seq, Ty};
+use dv_draft::PoolRef;
 use std::alloc::Global;
 
 /// Where a line of a raw body stands: before the count of registers, among the entries of the pools, among the units,

@@ -13,8 +13,8 @@ ghost use Rattle.dv_core.specs.Opcodes.{opcode_at};
 ghost use Rattle.dv_core.specs.Standing.{IsFound};
 
 use dv_defs::{ClassId, Image};
-use dv_ops::{Coded, Op, coded_at, resolve, units_of};
 use dv_frames::{Head, Stack};
+use dv_ops::{Coded, Op, coded_at, resolve, units_of};
 use dv_optable::Call;
 use dv_units::decode;
 

@@ -9,8 +9,8 @@ ghost use Rattle.dv_demands.specs.Arguments.{long_arg_for};
 use crate::named::register_at;
 use crate::reads::{demand, first, long};
 use crate::values::{is_long, single};
-use dv_typing::RegType;
 use dv_defs::{Base, Image, Regs, Rule, Seq, Ty};
+use dv_typing::RegType;
 
 /// Arguments by their types, in the registers from a place on among those that are named.
 pub fn args(

@@ -9,9 +9,9 @@ ghost use Rattle.dv_demands.specs.Elements.{is_wanted};
 
 use crate::reads::demand;
 use crate::values::is_reference;
-use dv_typing::RegType;
 use dv_defs::{Base, Rule, Seq};
 use dv_optable::Suffix;
+use dv_typing::RegType;
 
 /// The elements of an array: any, those that a suffix is for, or those that a payload of so many bytes an element fills.
 #[derive(Clone, Copy)]

@@ -9,9 +9,9 @@ ghost use Rattle.dv_image.specs.Common.{type_of};
 ghost use Rattle.dv_demands.specs.Wanted.{type_wanted};
 
 use crate::reads::{demand, first, reference};
-use dv_typing::RegType;
 use dv_defs::{Base, ClassId, ClassInfo, Image, Rule, Seq, Text, Ty};
 use dv_image::{Ascent, OBJECT, is_base_under, is_interface, is_under_class};
+use dv_typing::RegType;
 
 const THROWABLE: &[u8] = b"Ljava/lang/Throwable;";
 

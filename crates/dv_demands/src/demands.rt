@@ -17,9 +17,9 @@ use crate::operands::{both, has_int, has_long, has_reference, int_and, shift, tw
 use crate::payloads::width_at;
 use crate::reads::{demand, first, int, is_movable, long, reference};
 use crate::returns::{return_value, return_void};
-use dv_typing::RegState;
 use dv_defs::{ClassId, Image, Rule};
 use dv_ops::{Coded, Op, begins_insn_next};
+use dv_typing::RegState;
 
 /// The rule of the first demand on a state that fails, but for V1. `made` is the class of the object that a constructor call is to
 /// initialise. Takes no memory.

@@ -10,10 +10,10 @@ use crate::arrays::{Elements, array};
 use crate::assigning::{Wanted, ref_to};
 use crate::reads::{demand, first, int};
 use crate::values::{put, value};
-use dv_typing::RegType;
 use dv_defs::{Image, Rule, Seq};
 use dv_ops::{Field, Method};
 use dv_optable::Suffix;
+use dv_typing::RegType;
 
 /// A receiver, then the value that is put into its field.
 pub fn field_put(

@@ -13,10 +13,10 @@ use crate::arguments::args;
 use crate::assigning::{Wanted, ref_to};
 use crate::named::register_at;
 use crate::reads::{demand, first};
-use dv_typing::RegType;
 use dv_defs::{ClassId, Flag, Image, Regs, Rule, Seq};
 use dv_ops::Method;
 use dv_optable::Call;
+use dv_typing::RegType;
 
 const INIT: &[u8] = b"<init>";
 

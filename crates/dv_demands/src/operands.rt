@@ -7,10 +7,10 @@ ghost use Rattle.dv_ops.specs.Meaning.{arg_of};
 ghost use Rattle.dv_units.specs.Tables.{standard_test};
 
 use crate::reads::{demand, first, int, is_int, is_ref, long};
-use dv_typing::{PendingType, RegType};
 use dv_defs::{Rule, Seq};
 use dv_ops::Arg;
 use dv_optable::Test;
+use dv_typing::{PendingType, RegType};
 
 /// An int and a second operand.
 pub fn int_and(regs: &Seq<RegType>, one: u16, other: Arg) -> Option<Rule>

@@ -3,8 +3,8 @@ ghost use Rattle.std.specs.Prelude.{◌≡◌, ◌&&◌, suc};
 ghost use Rattle.dv_typing.specs.Demands.{first as one_then, demand as demand_that, is_int as is_int_type, is_lo as is_low, is_hi as is_high, is_ref as is_ref_type, is_movable as is_movable_type, int as int_at, long as long_at, ref as ref_at};
 ghost use Rattle.dv_typing.specs.RegTypes.{type_at};
 
-use dv_typing::RegType;
 use dv_defs::{Rule, Seq};
+use dv_typing::RegType;
 
 /// The one, then the other.
 pub fn first(one: Option<Rule>, next: Option<Rule>) -> Option<Rule>

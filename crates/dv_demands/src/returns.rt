@@ -8,10 +8,10 @@ ghost use Rattle.dv_demands.specs.Returns.{return_void_for, return_for};
 use crate::invokes::is_constructor;
 use crate::reads::{demand, first};
 use crate::values::{is_long, is_reference, value};
-use dv_typing::{RegState, RegType};
 use dv_defs::{Image, Rule, Seq, Ty};
 use dv_ops::Method;
 use dv_optable::Width;
+use dv_typing::{RegState, RegType};
 
 /// What return-void demands.
 pub fn return_void(own: &Method<'_>, state: &RegState) -> Option<Rule>

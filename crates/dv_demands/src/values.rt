@@ -7,9 +7,9 @@ ghost use Rattle.dv_units.specs.Tables.{standard_suffix};
 
 use crate::assigning::{Wanted, ref_to};
 use crate::reads::{int, long, reference};
-use dv_typing::RegType;
 use dv_defs::{Base, Image, Rule, Seq, Ty};
 use dv_optable::Suffix;
+use dv_typing::RegType;
 
 /// A value by its declared type.
 pub fn value(image: &Image, regs: &Seq<RegType>, register: u32, ty: &Ty) -> Option<Rule>

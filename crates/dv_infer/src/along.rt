@@ -2,8 +2,8 @@
 ghost use Rattle.std.specs.Prelude.{◌≡◌, IfOk, map};
 ghost use Rattle.dv_infer.specs.Along.{gone_along};
 
-use dv_typing::RegState;
 use dv_rules::{Edge, caught_with};
+use dv_typing::RegState;
 use dv_worklist::Onward;
 use std::alloc::{AllocError, Global};
 

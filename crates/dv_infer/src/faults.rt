@@ -8,10 +8,10 @@ ghost use Rattle.law_infer.specs.Laws.{faults_from};
 ghost use Rattle.dv_ops.specs.Meaning.{code_of};
 
 use crate::receivers::made_of;
-use dv_typing::RegState;
 use dv_defs::{Fault, Image, MethodId, Rule};
 use dv_demands::ok_of;
 use dv_ops::{Coded, op_at, units_of};
+use dv_typing::RegState;
 use std::alloc::{AllocError, Global};
 
 /// The demands that the states of a least assignment fail, by address.

@@ -6,11 +6,11 @@ ghost use Rattle.dv_ops.specs.Meaning.{code_of};
 
 use crate::along::along;
 use crate::receivers::made_of;
-use dv_typing::RegState;
 use dv_defs::Image;
 use dv_ops::{Coded, op_at, units_of};
 use dv_rules::{edges_from, entry_of, out_of};
 use dv_types::{is_below, join};
+use dv_typing::RegState;
 use dv_worklist::{Flow, Onward};
 use std::alloc::{AllocError, Global};
 use std::marker::Model;

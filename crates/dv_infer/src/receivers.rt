@@ -5,10 +5,10 @@ ghost use Rattle.law_flow.specs.Fitting.{StateFits};
 ghost use Rattle.dv_ops.specs.Meaning.{code_of, meant, method_of};
 ghost use Rattle.dv_demands.specs.Made.{made_for};
 
-use dv_typing::RegState;
 use dv_defs::{ClassId, Image};
 use dv_ops::{Coded, Op};
 use dv_rules::{made_by, receiver_of};
+use dv_typing::RegState;
 
 /// The class of the object that a constructor call is to initialise. The places in a state that fits are instructions, so none is looked for.
 pub fn made_of(image: &Image, code: &Coded<'_>, op: &Op<'_>, state: &RegState) -> Option<ClassId>

@@ -8,8 +8,8 @@ ghost use Rattle.dv_ops.specs.Places.{IsBoundary, IsEdge};
 
 use crate::items::{begins_as_insn, units_of};
 use crate::resolving::resolve;
-use dv_defs::{Image, Insn};
 use crate::{Coded, Op};
+use dv_defs::{Image, Insn};
 use dv_units::decode;
 
 /// The operation that stands at an address, and the address after it.

@@ -3,9 +3,9 @@ ghost use Rattle.std.specs.Prelude.{◌≡◌, ◌<◌, ℕ, length, None, Some,
 ghost use Rattle.dv_defs.specs.Op.{New, new_op, on_pool, resolved_field, resolved_method};
 ghost use Rattle.dv_ops.specs.Meaning.{field_of, method_of};
 
+use crate::{Coded, Field, Method, field_at, method_at};
 use dv_defs::{Chars, ClassId, Image, Rule, Ty};
 use dv_image::class_of_base;
-use crate::{Coded, Field, Method, field_at, method_at};
 
 /// The string at a place of the body's pool.
 pub fn string_at<'a>(code: &Coded<'a>, place: usize) -> Result<&'a Chars, Rule>

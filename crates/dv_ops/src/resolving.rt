@@ -11,8 +11,8 @@ ghost use Rattle.dv_units.specs.Tables.{standard_family};
 
 use crate::parts::{int_op, long_op, move_op, result_op, target};
 use crate::pools::{called_at, class_at, named_field_at, string_at, type_at};
-use dv_defs::{Image, Insn, Rule};
 use crate::{Arg, Coded, Op};
+use dv_defs::{Image, Insn, Rule};
 use dv_optable::{Family, kind_of};
 
 /// The operation of an instruction at an address, or the static rule for which there is none: S12 where its index is no place in its

@@ -3,8 +3,8 @@ ghost use Rattle.std.specs.Prelude.{◌≡◌, ◌≤◌, Ok, length};
 ghost use Rattle.dv_defs.specs.Tiling.{begins_insn, tiling, tiles_in};
 ghost use Rattle.dv_ops.specs.Meaning.{code_of};
 
-use crate::items::{begins_as_insn, item_units, units_of};
 use crate::Coded;
+use crate::items::{begins_as_insn, item_units, units_of};
 
 /// Whether an instruction begins at an address: the items before it are gone through. Takes no memory.
 pub fn begins_insn_at(code: &Coded<'_>, at: u32) -> bool

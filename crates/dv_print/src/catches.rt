@@ -6,8 +6,8 @@ ghost use Rattle.dv_print.specs.Operands.{label_text};
 
 use crate::operands::add_label_text;
 use crate::references::add_type;
-use dv_draft::Catch;
 use dv_defs::{Text, Ty};
+use dv_draft::Catch;
 use std::alloc::AllocError;
 
 /// Appends the directive of a handler, and the type that it catches.

@@ -12,8 +12,8 @@ use crate::numbers::label_name;
 use crate::pieces::{Part, Piece};
 use crate::pool_entries::entry_in;
 use crate::switches::Pieces;
-use dv_draft::{Draftop, Item, What};
 use dv_defs::{Body, Insn, Payload, Seq, Text};
+use dv_draft::{Draftop, Item, What};
 use dv_units::pool_of;
 use std::alloc::{AllocError, Global};
 

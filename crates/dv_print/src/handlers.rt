@@ -3,8 +3,8 @@ ghost use Rattle.std.specs.Prelude.{◌≡◌, ◌++◌, option_map, IfOk, OnOk}
 ghost use Rattle.dv_print.specs.Drafting.{handler_type, catch_of, catches_of_try, drafted_catches};
 
 use crate::drafting::label;
-use dv_draft::Catch;
 use dv_defs::{Body, Handler, Try, Ty};
+use dv_draft::Catch;
 use std::alloc::{AllocError, Global};
 
 /// The type that a handler catches.

@@ -8,8 +8,8 @@ ghost use Rattle.dv_print.specs.Draft.{label_line, case_line, suffix_of, element
 
 use crate::numbers::{add_decimal, add_signed_decimal};
 use crate::operands::{add_insn, add_label_text};
-use dv_draft::{Item, What};
 use dv_defs::Text;
+use dv_draft::{Item, What};
 use std::alloc::AllocError;
 
 /// Appends a label on a line of its own.

@@ -2,8 +2,8 @@
 ghost use Rattle.std.specs.Prelude.{◌≡◌, Some, IfOk};
 ghost use Rattle.dv_print.specs.Drafting.{entry_in};
 
-use dv_draft::PoolRef;
 use dv_defs::{Body, PoolKind};
+use dv_draft::PoolRef;
 use std::alloc::AllocError;
 
 fn string_entry(body: &Body, index: u32) -> Result<PoolRef, AllocError>

@@ -7,10 +7,10 @@ ghost use Rattle.dv_rules.specs.Changes.{call_change, pending_with, receiver_in}
 
 use crate::changes::Change;
 use crate::registers::{is_long, single_type};
-use dv_typing::{PendingType, RegState, RegType};
 use dv_defs::{ClassId, Regs, Ty};
 use dv_demands::is_constructor;
 use dv_ops::{Coded, Method};
+use dv_typing::{PendingType, RegState, RegType};
 use std::alloc::AllocError;
 
 /// A constructor call initialises its receiver, in each register that holds it.

@@ -5,8 +5,8 @@ ghost use Rattle.dv_typing.specs.Transfer.{class_or_conflict as class_or_unknown
 ghost use Rattle.dv_rules.specs.Changes.{changed as registers_after, number, renewed as renewed_by, written};
 
 use crate::registers::{class_type, write, write_pair};
-use dv_typing::RegType;
 use dv_defs::{ClassId, Image};
+use dv_typing::RegType;
 use std::alloc::{AllocError, Global};
 
 /// What an operation changes of the types of registers.

@@ -6,10 +6,10 @@ ghost use Rattle.dv_typing.specs.Transfer.{arg_types as types_of_args, begins_un
 ghost use Rattle.dv_ops.specs.Meaning.{method_of};
 
 use crate::registers::{class_type, is_long, single_type};
-use dv_typing::{PendingType, RegState, RegType};
 use dv_defs::{Flag, Image, Seq, Ty};
 use dv_demands::is_constructor;
 use dv_ops::{Coded, Method};
+use dv_typing::{PendingType, RegState, RegType};
 use std::alloc::{AllocError, Global};
 
 const OBJECT: &[u8] = b"Ljava/lang/Object;";

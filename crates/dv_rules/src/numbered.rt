@@ -13,10 +13,10 @@ use crate::entry::entry_of;
 use crate::flow::{Edge, edges_from};
 use crate::receiver::class_to_make;
 use crate::transfer::out_of;
-use dv_typing::RegState;
 use dv_defs::{Image, MethodId, Rule};
 use dv_demands::ok_of;
 use dv_ops::{Coded, coded_at, op_at};
+use dv_typing::RegState;
 use std::alloc::{AllocError, Global};
 
 /// The state on entry to a method.

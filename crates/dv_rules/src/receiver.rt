@@ -9,10 +9,10 @@ ghost use Rattle.law_flow.specs.Clean.{IsClean};
 ghost use Rattle.dv_ops.specs.Meaning.{code_of, meant, method_of};
 ghost use Rattle.dv_demands.specs.Made.{made_for, place_of, receiver_place};
 
-use dv_typing::{RegState, RegType};
 use dv_defs::{ClassId, Image, Regs};
 use dv_demands::is_constructor;
 use dv_ops::{Coded, Op, begins_insn_at, op_at};
+use dv_typing::{RegState, RegType};
 
 /// The class of the object that a constructor call is to initialise. Takes no memory.
 pub fn class_to_make(

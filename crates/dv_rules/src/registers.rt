@@ -6,8 +6,8 @@ ghost use Rattle.dv_typing.specs.RegTypes.{single_type as single_type_of, type_a
 ghost use Rattle.dv_typing.specs.Transfer.{break_before as broken_before, broken_hi, broken_lo, write_two, write_type};
 ghost use Rattle.dv_defs.specs.Types.{is_long as is_long_type};
 
-use dv_typing::RegType;
 use dv_defs::{Base, ClassId, Image, Text, Ty};
+use dv_typing::RegType;
 use std::alloc::{AllocError, Global};
 
 /// A register takes a type; a long that lay half there is broken.

@@ -14,10 +14,10 @@ ghost use Rattle.dv_demands.specs.Made.{made_for};
 use crate::calls::{change_of_call, pending_of, this_after_call};
 use crate::changes::{Change, changed};
 use crate::registers::{is_long, single_type};
-use dv_typing::{PendingType, RegState, RegType};
 use dv_defs::{Base, ClassId, Image, Seq, Text, Ty};
 use dv_ops::{Coded, Field, Op};
 use dv_optable::Suffix;
+use dv_typing::{PendingType, RegState, RegType};
 use std::alloc::{AllocError, Global};
 
 const CLASS: &[u8] = b"Ljava/lang/Class;";

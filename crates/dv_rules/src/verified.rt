@@ -1,7 +1,7 @@
 // Verified images.
 
-use dv_typing::RegState;
 use dv_defs::{Image, Seq};
+use dv_typing::RegState;
 use std::marker::Model;
 
 /// A state for some of a method's addresses, by address: the registers' types before the instruction there.

@@ -3,9 +3,9 @@ ghost use Rattle.std.specs.Prelude.{◌≡◌, IfOk, length};
 ghost use Rattle.dv_typing.specs.Joins.{join_caught as caught_of_both, join_classes as classes_of_both, join_result as result_of_both, join_type, join_state, joined};
 
 use crate::order::le;
-use dv_typing::{PendingType, RegState, RegType};
 use dv_defs::{Image, Seq, Ty};
 use dv_image::common_super;
+use dv_typing::{PendingType, RegState, RegType};
 use std::alloc::{AllocError, Global};
 
 /// The least register type above two.

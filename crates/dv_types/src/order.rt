@@ -3,9 +3,9 @@ ghost use Rattle.std.specs.Prelude.{◌≡◌, ◌↔◌, IsTrue};
 ghost use Rattle.dv_typing.specs.RegTypes.{under, IsBelow};
 ghost use Rattle.dv_types.specs.Under.{caught_under, pending_under, regs_under, state_under};
 
-use dv_typing::{PendingType, RegState, RegType};
 use dv_defs::{Image, Ty};
 use dv_image::sub;
+use dv_typing::{PendingType, RegState, RegType};
 
 /// Whether a register type is under another: each value of the one is one of the other.
 pub fn le(image: &Image, a: &RegType, b: &RegType) -> bool

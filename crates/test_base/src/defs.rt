@@ -1,6 +1,8 @@
 // Each call once, and what no clause says.
+use dv_defs::{
+    Base, Chars, Flag, Init, LineError, LinkError, MethodRef, Pool, Proto, Seq, Text, Ty,
+};
 use dv_typing::{PendingType, RegState, RegType};
-use dv_defs::{Base, Chars, Flag, Init, LineError, LinkError, MethodRef, Pool, Proto, Seq, Text, Ty};
 use std::alloc::{AllocError, Global};
 use std::test::Fail;
 

@@ -1,9 +1,9 @@
 // Images, heaps and stacks for one step, and how they are compared.
 use dv_defs::{ClassId, Image, Insn, MethodId};
-use dv_ops::{coded_at, method_at, units_of};
 use dv_frames::Stack;
 use dv_heap::{Heap, HeapError};
 use dv_load::read_program;
+use dv_ops::{coded_at, method_at, units_of};
 use dv_units::decode;
 use std::alloc::{AllocError, Global};
 use std::process::Abort;

@@ -2,8 +2,8 @@
 use crate::fixtures::{add_method, linked, method_among};
 use crate::local_rows::{LOCAL, OTHER, Row, SLICE, SLICES};
 use dv_defs::{Image, Insn, MethodId, Seq};
-use dv_ops::{coded_at, units_of};
 use dv_local::{Slice, is_local, local_step, run_slice};
+use dv_ops::{coded_at, units_of};
 use dv_units::decode;
 use dv_words::{Frame, Kept};
 use std::alloc::{AllocError, Global};

@@ -2,9 +2,9 @@
 ghost use Rattle.std.specs.Prelude.{◌≡◌, ◌≤◌, ◌∷◌, [], false, pos};
 ghost use Rattle.dv_draft.specs.Draft.{IsFormed, IsOp};
 
-use dv_draft::{Catch, Draft, Draftop, Item, PoolRef, What};
 use dv_asm::{assemble, units_are_items};
 use dv_defs::{Body, Chars, Insn, LineError, LineKind, Regs, Seq, Text};
+use dv_draft::{Catch, Draft, Draftop, Item, PoolRef, What};
 use std::alloc::{AllocError, Global};
 use std::marker::Model;
 use std::test::Fail;

@@ -3,9 +3,9 @@ use crate::states::Kind::{Class, Conflict, Int, Zero};
 use crate::states::Pending::{Long, Nothing, One};
 use crate::states::StateRow::{Awaiting, Full, Plain};
 use crate::states::{StateRow, linked, state};
-use dv_typing::RegState;
 use dv_defs::Image;
 use dv_types::{is_below, join};
+use dv_typing::RegState;
 use std::alloc::Global;
 use std::process::Abort;
 

@@ -5,11 +5,11 @@ ghost use Rattle.dv_rules.specs.Asking.{HasCode, HasInsn};
 
 use crate::rule_rows::{DEMANDS, EDGES, ENTRIES, PROGRAM, STEPS};
 use crate::states::{BOOT, StateRow, class_named, linked, state};
-use dv_typing::RegState;
 use dv_defs::{Image, MethodId, Rule};
 use dv_ops::{begins_insn_at, coded_at, method_at};
 use dv_rules::{Edge, edges, entry_state, ok, out};
 use dv_static::static_faults;
+use dv_typing::RegState;
 use std::alloc::{AllocError, Global};
 use std::process::Abort;
 

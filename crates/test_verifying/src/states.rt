@@ -1,11 +1,11 @@
 // Images of texts, and register types and states as the rows of tables have them.
 use dv_boot::boot_text;
 use dv_classread::read_classes;
-use dv_typing::{PendingType, RegState, RegType};
 use dv_defs::{ClassDef, Image, Seq, Ty};
 use dv_hier::Classes;
 use dv_names::parse_type;
 use dv_resolve::link;
+use dv_typing::{PendingType, RegState, RegType};
 use std::alloc::{AllocError, Global};
 use std::process::Abort;
 

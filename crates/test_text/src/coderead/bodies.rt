@@ -1,7 +1,7 @@
 // Lines of a method that the reader of classes never hands on.
-use dv_draft::Draft;
 use dv_coderead::read_body;
 use dv_defs::{LineError, LineKind};
+use dv_draft::Draft;
 use dv_lex::good_lines;
 use dv_names::parse_proto;
 use std::alloc::{AllocError, Global};
