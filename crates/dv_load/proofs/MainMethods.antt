@@ -20,9 +20,9 @@ use Rattle.dv_defs.specs.Tiling.{tiles_in, tiling}
 use Rattle.dv_defs.specs.Types.{of_class, same_proto}
 use Rattle.law_linking.proofs.Members.{declared_by_is}
 use Rattle.law_linking.proofs.TableLaws.{IsOwn, all_own, name_is, proto_is}
-use Rattle.dv_machine.specs.Mains.{IsMain}
+use Rattle.dv_machine.specs.Mains.{HasMain, IsMain}
 use Rattle.dv_resolve.specs.Answers.{numbered_main}
-use Rattle.dv_load.specs.Images.{by_linking}
+use Rattle.dv_load.specs.Images.{by_linking, main_in}
 use Rattle.dv_load.specs.Laws.{MainsAreMain}
 
 -- ---- what a class declares
@@ -113,3 +113,8 @@ mains_are_main image class id e = by (main_found image class) refl e
         let same : record { 0 = m.id } ≡ id = cc in
         (m, found_main image class m is, ap (λ (i : MethodId). i.0) same)
     by (Err fault) is e = absurd (cc)
+
+pub has_main : (image : Image) (class : List ℕ) (id : MethodId) → main_in image class ≡ Ok id → HasMain image id.0
+has_main image class id e =
+    let (main, is, numbered) = mains_are_main image class id e in
+    record { method = main; is_main = is; numbered = numbered }

@@ -1,4 +1,6 @@
 // The main method of a class.
+ghost use Rattle.std.specs.Prelude.{IfOk};
+ghost use Rattle.dv_machine.specs.Mains.{HasMain};
 ghost use Rattle.dv_load.specs.Images.{Answers, main_in};
 
 use crate::errors::ProgramError;
@@ -12,8 +14,10 @@ use std::alloc::Global;
 /// # Errors
 ///
 /// `Refused`: there is no such class, or it has no main method. `Memory`.
+#[tactic(auto, using(crate::proofs::MainMethods::has_main))]
 pub fn main_method(alloc: Global, image: &Image, class: &[u8]) -> Result<MethodId, ProgramError>
-    ensures { Answers (main_in image.now class.now) result }
+    ensures found { Answers (main_in image.now class.now) result }
+    ensures main { IfOk result (λ id. HasMain image.now id.0) }
 {
     Ok(find_main(alloc, image, class)?)
 }

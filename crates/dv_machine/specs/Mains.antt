@@ -15,3 +15,9 @@ pub record IsMain (image : Image) (main : Method) : Type 0 where
   pub has_code : code_at image main.id ≡ Some code
   pub void : main.def.proto.ret ≡ None
   pub form : (main.def.proto.params ≡ []) ⊎ (main.def.proto.params ≡ record { dims = 1; base = (of_class string_name).base } ∷ [])
+
+-- the method of this number is a main method
+pub record HasMain (image : Image) (number : ℕ) : Type 0 where
+  pub method : Method
+  pub is_main : IsMain image method
+  pub numbered : method.id ≡ number

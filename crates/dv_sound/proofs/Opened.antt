@@ -22,7 +22,8 @@ use Rattle.dv_core.specs.Guests.{IsOrdered}
 use Rattle.dv_core.specs.Machines.{machine_of}
 use Rattle.dv_core.specs.Openings.{HasMainRoom}
 use Rattle.dv_sound.specs.Moves.{AreUsable, StandsAt}
-use Rattle.dv_sound.specs.Runs.{HasMain, IsOpened}
+use Rattle.dv_machine.specs.Mains.{HasMain}
+use Rattle.dv_sound.specs.Runs.{IsOpened}
 
 has_main_room : (l : Limits) → AreUsable l → HasMainRoom l
 has_main_room l u = record { room = record { levels = let two = u.levels in omega arith; words = u.words }; levels = u.levels }

@@ -10,7 +10,7 @@ use Rattle.dv_machine.specs.Opening.{opening}
 use Rattle.dv_machine.specs.Replaying.{Stands, next_is_local, replay, turn}
 use Rattle.dv_machine.specs.Running.{ending_of, runnable}
 use Rattle.dv_machine.specs.State.{Machine}
-use Rattle.dv_machine.specs.Mains.{IsMain}
+use Rattle.dv_machine.specs.Mains.{HasMain, IsMain}
 use Rattle.dv_machine.specs.WellTyped.{Typings, WellTyped}
 use Rattle.dv_rules.specs.Verified.{VerifiedValue}
 use Rattle.dv_words.specs.State.{WordMachine}
@@ -24,12 +24,6 @@ pub record Run : Type 0 where
   pub machine : WordMachine
   pub log : List Entry
   pub lent : List ℕ
-
--- the method of this number is a main method
-pub record HasMain (image : Image) (number : ℕ) : Type 0 where
-  pub method : Method
-  pub is_main : IsMain image method
-  pub numbered : method.id ≡ number
 
 -- ---- what a machine keeps
 

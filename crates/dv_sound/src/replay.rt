@@ -4,7 +4,7 @@ ghost use Rattle.dv_defs.specs.Pools.{Method, method_at};
 ghost use Rattle.dv_machine.specs.Replaying.{IsFinished};
 ghost use Rattle.dv_sound.specs.Moves.{AreUsable};
 ghost use Rattle.dv_sound.specs.Replays.{IsRefused};
-ghost use Rattle.dv_sound.specs.Runs.{HasMain};
+ghost use Rattle.dv_machine.specs.Mains.{HasMain};
 
 use crate::error::ReplayError;
 use crate::playing::play_to_end;

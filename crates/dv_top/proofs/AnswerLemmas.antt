@@ -1,5 +1,5 @@
 -- What an answer owes, from what the reply to the words owes.
-use Rattle.std.proofs.Common.{◌≡◌, ◌≢◌, ℕ, ◌+◌, List, [], All, Option, Some, None, IsSome, inl, inr, arith, ap, sym, refl, ◌∙◌, append-nil}
+use Rattle.std.proofs.Common.{◌≡◌, ◌≢◌, ℕ, ◌+◌, List, [], All, Option, Some, None, IsSome, inl, inr, arith, ap, sym, subst, refl, ◌∙◌, append-nil}
 use Rattle.dv_defs.specs.declared.run.Entry.{Entry}
 use Rattle.dv_defs.specs.declared.run.Limits.{Limits}
 use Rattle.dv_io.specs.Io.{HasRisen, after_taking, after_write}
@@ -40,6 +40,7 @@ module _ {S K : Type 0} (left : S → Option (List ℕ)) (read_faults : S → �
     usage = λ told. ((reply.usage told).0, took ∙ ap (λ t. after_write t (taken sink)) (same ∙ (reply.usage told).1));
     read_fault = λ told. absurd (reply.told.no_read_fault told);
     write_fault = λ told. absurd (reply.told.no_write_fault told);
+    usage_part = λ none told. absurd (reply.told.no_write_fault told);
     no_memory = λ told. absurd (reply.told.no_want told);
     took = (out, took);
     source_read = λ some _ _. reply.source_read some;
@@ -59,6 +60,7 @@ module _ {S K : Type 0} (left : S → Option (List ℕ)) (read_faults : S → �
     usage = λ told. absurd (omega arith);
     read_fault = λ told. absurd (omega arith);
     write_fault = λ _. risen;
+    usage_part = λ none _. subst (TookPart (taken sink) (taken sink_after)) (same ∙ (reply.usage (reply.unread none).1).1) part;
     no_memory = λ told. absurd (omega arith);
     took = part_taken (taken sink) (taken sink_after) out part;
     source_read = λ some _ _. reply.source_read some;

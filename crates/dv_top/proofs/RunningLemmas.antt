@@ -21,7 +21,8 @@ use Rattle.dv_rules.specs.Verified.{VerifiedValue}
 use Rattle.dv_machine.specs.Opening.{opening}
 use Rattle.dv_machine.specs.Replaying.{IsFinished, IsLegal, Stands, replay}
 use Rattle.dv_machine.specs.State.{Machine}
-use Rattle.dv_sound.specs.Runs.{HasMain, IsAt, IsAtSome, LeadsLowest, RanLowest, Run}
+use Rattle.dv_machine.specs.Mains.{HasMain}
+use Rattle.dv_sound.specs.Runs.{IsAt, IsAtSome, LeadsLowest, RanLowest, Run}
 use Rattle.dv_top.specs.declared.program.Program.{Program}
 use Rattle.dv_top.specs.declared.reply.Reply.{Reply}
 use Rattle.dv_top.specs.declared.status.Status.{Status}

@@ -9,6 +9,7 @@ use Rattle.dv_machine.specs.Replaying.{IsFinished, IsLegal}
 use Rattle.dv_top.specs.declared.program.Program.{Program}
 use Rattle.dv_top.specs.declared.status.Status.TheVariants as exit
 use Rattle.dv_top.specs.declared.words.Command.TheVariants as command
+use Rattle.dv_top.specs.Pieces.{TookPart}
 use Rattle.dv_top.specs.Programs.{program_to_replay, program_to_run}
 use Rattle.dv_top.specs.Runs.{AreFirstTurns}
 use Rattle.dv_top.specs.Said.{IsAccepted, IsSaid, text_limit, usage}
@@ -99,6 +100,8 @@ pub record IsAnswer
       → HasRisen (read_faults source) (read_faults source_after) × (taken sink_after ≡ taken sink)
   -- a write failed
   pub write_fault : status ≡ code_of exit.WriteFault → HasRisen (write_faults sink) (write_faults sink_after)
+  -- of words that aren't read a sink that failed took a front of the usage
+  pub usage_part : asked_in words ≡ None → status ≡ code_of exit.WriteFault → TookPart (taken sink) (taken sink_after) usage
   -- memory was wanting, and nothing was written
   pub no_memory : status ≡ code_of exit.NoMemory → taken sink_after ≡ taken sink
   -- what the sink holds beyond what it held was taken in this call

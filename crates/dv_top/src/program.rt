@@ -1,7 +1,7 @@
 // The program of a text: its image, its main method, and the schedule at its end.
 ghost use Rattle.std.specs.Prelude.{◌≡◌, ◌<◌, ◌-◌, ◌^◌, All, IfOk, length};
 ghost use Rattle.dv_load.specs.Images.{Answers, main_in};
-ghost use Rattle.dv_sound.specs.Runs.{HasMain};
+ghost use Rattle.dv_machine.specs.Mains.{HasMain};
 ghost use Rattle.dv_top.specs.Answering.{IsEntry};
 ghost use Rattle.dv_top.specs.Programs.{program_to_replay, program_to_run, with_main};
 

@@ -1,6 +1,6 @@
 // Programs are read, linked and verified, and then run or replayed.
 ghost use Rattle.dv_sound.specs.Moves.{AreUsable};
-ghost use Rattle.dv_sound.specs.Runs.{HasMain};
+ghost use Rattle.dv_machine.specs.Mains.{HasMain};
 
 use dv_defs::{Ending, Entry, Limits, MethodId};
 use dv_final::final_lines;
@@ -31,7 +31,6 @@ pub fn verified<R: Abort>(rt: &R, alloc: Global, text: &str) -> Verified {
 }
 
 /// The main method of LMain;.
-#[tactic(auto, using(crate::proofs::MainMethods::has_main))]
 fn main_of<R: Abort>(rt: &R, alloc: Global, verified: &Verified) -> MethodId
     ensures { HasMain verified.now.image result.0 }
 {

@@ -4,7 +4,8 @@ use Rattle.dv_defs.specs.Images.{Image}
 use Rattle.dv_machine.specs.Accepted.{Accepted}
 use Rattle.dv_rules.specs.Verified.{VerifiedValue}
 use Rattle.law_words.specs.StepLaws.{AllKeysRise}
-use Rattle.dv_sound.specs.Runs.{HasMain, IsOpened}
+use Rattle.dv_machine.specs.Mains.{HasMain}
+use Rattle.dv_sound.specs.Runs.{IsOpened}
 use Rattle.dv_sound.proofs.Opened.{opened_if_ok}
 use Rattle.dv_sound.proofs.safe.opened.Goals as goal
 
