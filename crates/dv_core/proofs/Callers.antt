@@ -5,7 +5,6 @@ use Rattle.dv_defs.specs.declared.machine.End.{End}
 use Rattle.dv_defs.specs.declared.machine.End.TheVariants as end
 use Rattle.dv_machine.specs.Frame as tagged
 use Rattle.dv_machine.specs.Level as tagged_level
-use Rattle.dv_machine.specs.Level as level_of_tagged
 use Rattle.dv_defs.specs.declared.names.MethodId.{MethodId}
 use Rattle.dv_machine.specs.Heap.{Heap}
 use Rattle.dv_defs.specs.Images.{Image}
@@ -48,8 +47,8 @@ pub caller_stands : (image : Image) (m : Method) (ss : List Level) (ls : List ta
 caller_stands image m [] ls all below = tt
 caller_stands image m (level.Init c r ∷ ss) ls all below = tt
 caller_stands image m (level.Code s ∷ ss) [] all below = absurd all
-caller_stands image m (level.Code s ∷ ss) (level_of_tagged.Init d q ∷ ls) all below = absurd all.0
-caller_stands image m (level.Code s ∷ ss) (level_of_tagged.Code g ∷ ls) all below = (below.0.at, same_fetch image s g all.0 ∙ below.0.has_at)
+caller_stands image m (level.Code s ∷ ss) (tagged_level.Init d q ∷ ls) all below = absurd all.0
+caller_stands image m (level.Code s ∷ ss) (tagged_level.Code g ∷ ls) all below = (below.0.at, same_fetch image s g all.0 ∙ below.0.has_at)
 
 -- ---- the frame on top of a living thread
 
@@ -59,7 +58,7 @@ record IsInOrder (image : Image) (T : Typings) (heap : Heap) (f : tagged.Frame) 
   method : Method
   below : BelowCode image method ls
 
-in_order : (image : Image) (T : Typings) (heap : Heap) (t : ℕ) (f : tagged.Frame) (ls ks : List tagged_level.Level) (e : End) → ThreadFine image T heap t ls e → e ≡ end.Living → ls ≡ level_of_tagged.Code f ∷ ks → IsInOrder image T heap f ks
+in_order : (image : Image) (T : Typings) (heap : Heap) (t : ℕ) (f : tagged.Frame) (ls ks : List tagged_level.Level) (e : End) → ThreadFine image T heap t ls e → e ≡ end.Living → ls ≡ tagged_level.Code f ∷ ks → IsInOrder image T heap f ks
 in_order image T heap t f ls ks e fine living top =
     let one = subst (λ (z : End). ThreadFine image T heap t ls z) living fine in
     let two = subst (λ (z : List tagged_level.Level). ThreadFine image T heap t z end.Living) top one in

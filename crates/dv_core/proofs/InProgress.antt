@@ -3,7 +3,6 @@ use Rattle.std.proofs.Common.{◌≡◌, ℕ, ◌+◌, Bool, true, false, List, 
 use Rattle.std.specs.Prelude.{nat_eq, slice_get, if◌then◌else◌}
 use Rattle.std.proofs.lemmas.Bool.{eq-eqb, eqb-true}
 use Rattle.dv_machine.specs.Level as tagged_level
-use Rattle.dv_machine.specs.Level as level_of_tagged
 use Rattle.dv_defs.specs.declared.names.ClassId.{ClassId}
 use Rattle.dv_machine.specs.Classes.{ClassState, InProgress, state_at}
 use Rattle.dv_defs.specs.Images.{Image}
@@ -22,7 +21,7 @@ owing t (InProgress u) k is = by (nat_eq u t) refl is
 owing t s k is = absurd (omega (arith, is))
 
 -- a record of the class on top is counted
-counted : (c d : ClassId) (r : Bool) (ls : List tagged_level.Level) → c ≡ d → 1 + records c.0 ls ≡ records c.0 (level_of_tagged.Init d r ∷ ls)
+counted : (c d : ClassId) (r : Bool) (ls : List tagged_level.Level) → c ≡ d → 1 + records c.0 ls ≡ records c.0 (tagged_level.Init d r ∷ ls)
 counted c d r ls same =
     sym (ap (λ (b : Bool). (if b then 1 else 0) + records c.0 ls) (eq-eqb c.0 d.0 (ap (λ (x : ClassId). x.0) same)))
 
@@ -31,7 +30,7 @@ in_progress image T m t th c r ss typed has all = by th.levels refl all
   where
     by : (ls : List tagged_level.Level) → th.levels ≡ ls → LevelsStand (level.Init c r ∷ ss) ls → state_at m.shared.classes c.0 ≡ InProgress t
     by [] is all = absurd all
-    by (level_of_tagged.Code f ∷ ls) is all = absurd all.0
-    by (level_of_tagged.Init d q ∷ ls) is all =
-        let same : records c.0 (level_of_tagged.Init d q ∷ ls) ≡ records c.0 (levels_in (slice_get m.threads t)) = sym (ap (records c.0) (ap levels_in has ∙ is)) in
+    by (tagged_level.Code f ∷ ls) is all = absurd all.0
+    by (tagged_level.Init d q ∷ ls) is all =
+        let same : records c.0 (tagged_level.Init d q ∷ ls) ≡ records c.0 (levels_in (slice_get m.threads t)) = sym (ap (records c.0) (ap levels_in has ∙ is)) in
         owing t (state_at m.shared.classes c.0) (records c.0 ls) (counted c d q ls all.0.0 ∙ same ∙ typed.in_progress t c.0)

@@ -5,7 +5,6 @@ use Rattle.std.specs.Prelude.{slice_get}
 use Rattle.std.proofs.lemmas.Option.{same_Some}
 use Rattle.dv_machine.specs.Frame as tagged
 use Rattle.dv_machine.specs.Level as tagged_level
-use Rattle.dv_machine.specs.Level as level_of_tagged
 use Rattle.dv_machine.specs.State.{Thread}
 use Rattle.dv_words.specs.declared.state.Frame.{Frame}
 use Rattle.dv_words.specs.declared.state.Level.{Level}
@@ -29,11 +28,11 @@ matched (w ∷ ws) (x ∷ ts) (suc t) own all has = let rest = matched ws ts t o
 pub record IsTop (f : Frame) (rest : List Level) (ls : List tagged_level.Level) : Type 0 where
   pub frame : tagged.Frame
   pub below : List tagged_level.Level
-  pub levels : ls ≡ level_of_tagged.Code frame ∷ below
+  pub levels : ls ≡ tagged_level.Code frame ∷ below
   pub stands : FrameStands f frame
   pub rest_stands : LevelsStand rest below
 
 pub top_of : (f : Frame) (rest : List Level) (ls : List tagged_level.Level) → LevelsStand (level.Code f ∷ rest) ls → IsTop f rest ls
 top_of f rest [] all = absurd all
-top_of f rest (level_of_tagged.Code g ∷ ls) all = record { frame = g; below = ls; levels = refl; stands = all.0; rest_stands = all.1 }
-top_of f rest (level_of_tagged.Init d q ∷ ls) all = absurd all.0
+top_of f rest (tagged_level.Code g ∷ ls) all = record { frame = g; below = ls; levels = refl; stands = all.0; rest_stands = all.1 }
+top_of f rest (tagged_level.Init d q ∷ ls) all = absurd all.0

@@ -11,7 +11,7 @@ use dv_defs::{Base, Image, Text, Ty};
 use std::alloc::{AllocError, Global};
 
 /// The nearest common superclass; arrays have one by their components where both are references.
-#[tactic(auto, unfolding(dv_defs::specs::Joins::common_super))]
+#[tactic(auto, unfolding(dv_defs::specs::Common::common_super))]
 pub fn common_super(alloc: Global, image: &Image, a: &Ty, b: &Ty) -> Result<Ty, AllocError>
     ensures { IfOk result (λ t. t ≡ nearest_common image.now a.now b.now) }
 {

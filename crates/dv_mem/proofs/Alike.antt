@@ -3,7 +3,6 @@ use Rattle.std.proofs.Common.{◌≡◌, ℕ, zero, suc, List, [], ◌∷◌, le
 use Rattle.std.specs.Prelude.{slice_get, slice_index_or}
 use Rattle.std.specs.List.{AllZip}
 use Rattle.dv_machine.specs.Kind as tagged_kind
-use Rattle.dv_machine.specs.Kind as kind_of_tagged
 use Rattle.dv_defs.specs.declared.names.ClassId.{ClassId}
 use Rattle.dv_machine.specs.Value.{Value}
 use Rattle.dv_machine.specs.Heap.{Heap, cells_at, kind_of}
@@ -53,16 +52,16 @@ as_many (ws ∷ wss) (k ∷ ks) [] stand = absurd stand
 as_many (ws ∷ wss) (k ∷ ks) (xs ∷ xss) stand = ap suc (as_many wss ks xss stand.1)
 
 -- an object of a class
-size_at : (wss : List (List ℕ)) (ks : List tagged_kind.Kind) (xss : List (List Value)) (o : ℕ) (c : ClassId) → ObjectsStand wss ks xss → slice_get ks o ≡ Some (kind_of_tagged.Object c) → length (slice_index_or wss o []) ≡ length (slice_index_or xss o [])
+size_at : (wss : List (List ℕ)) (ks : List tagged_kind.Kind) (xss : List (List Value)) (o : ℕ) (c : ClassId) → ObjectsStand wss ks xss → slice_get ks o ≡ Some (tagged_kind.Object c) → length (slice_index_or wss o []) ≡ length (slice_index_or xss o [])
 size_at [] [] xss o c stand is = absurd (cc)
 size_at [] (k ∷ ks) [] o c stand is = absurd stand
 size_at [] (k ∷ ks) (xs ∷ xss) o c stand is = absurd stand
 size_at (ws ∷ wss) [] xss o c stand is = absurd (cc)
 size_at (ws ∷ wss) (k ∷ ks) [] o c stand is = absurd stand
-size_at (ws ∷ wss) (kind_of_tagged.Object d ∷ ks) (xs ∷ xss) zero c stand is = same_length ws xs stand.0
-size_at (ws ∷ wss) (kind_of_tagged.Array t ∷ ks) (xs ∷ xss) zero c stand is = absurd (cc)
-size_at (ws ∷ wss) (kind_of_tagged.Str s ∷ ks) (xs ∷ xss) zero c stand is = absurd (cc)
-size_at (ws ∷ wss) (kind_of_tagged.ClassOf t ∷ ks) (xs ∷ xss) zero c stand is = absurd (cc)
+size_at (ws ∷ wss) (tagged_kind.Object d ∷ ks) (xs ∷ xss) zero c stand is = same_length ws xs stand.0
+size_at (ws ∷ wss) (tagged_kind.Array t ∷ ks) (xs ∷ xss) zero c stand is = absurd (cc)
+size_at (ws ∷ wss) (tagged_kind.Str s ∷ ks) (xs ∷ xss) zero c stand is = absurd (cc)
+size_at (ws ∷ wss) (tagged_kind.ClassOf t ∷ ks) (xs ∷ xss) zero c stand is = absurd (cc)
 size_at (ws ∷ wss) (k ∷ ks) (xs ∷ xss) (suc o) c stand is = size_at wss ks xss o c stand.1 is
 
 module _ (w : WordHeap) (heap : Heap) (stands : HeapStands w heap) where
@@ -72,7 +71,7 @@ module _ (w : WordHeap) (heap : Heap) (stands : HeapStands w heap) where
   pub count_stands : length w.cells ≡ length w.kinds
   count_stands = as_many w.cells heap.kinds heap.cells stands.cells ∙ ap length (sym stands.kinds)
 
-  pub size_stands : (o : ℕ) (c : ClassId) → kind_of heap (suc o) ≡ Some (kind_of_tagged.Object c) → length (words_of_object w (suc o)) ≡ length (cells_at heap (suc o))
+  pub size_stands : (o : ℕ) (c : ClassId) → kind_of heap (suc o) ≡ Some (tagged_kind.Object c) → length (words_of_object w (suc o)) ≡ length (cells_at heap (suc o))
   size_stands o c is = size_at w.cells heap.kinds heap.cells o c stands.cells is
 
   pub static_stands : (f : ℕ) → length (slice_index_or w.statics f []) ≡ length (slice_index_or heap.statics f [])

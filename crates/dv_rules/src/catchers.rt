@@ -13,7 +13,7 @@ use std::alloc::{AllocError, Global};
 const THROWABLE: &[u8] = b"Ljava/lang/Throwable;";
 
 /// Adds an edge for each handler of the try entry that covers an address, up to and with the first that catches all.
-#[tactic(auto, unfolding(dv_defs::specs::Flow::handlers_at))]
+#[tactic(auto, unfolding(dv_typing::specs::Flow::handlers_at))]
 pub fn push_handlers(
     alloc: Global,
     image: &Image,

@@ -11,7 +11,7 @@ use dv_typing::RegType;
 use std::alloc::{AllocError, Global};
 
 /// A register takes a type; a long that lay half there is broken.
-#[tactic(auto, unfolding(dv_defs::specs::Transfer::write_type))]
+#[tactic(auto, unfolding(dv_typing::specs::Transfer::write_type))]
 pub fn write(regs: &mut Vec<RegType>, k: u16, ty: RegType)
     ensures { regs.new.items ≡ write_type regs.old.items k ty }
 {
@@ -21,7 +21,7 @@ pub fn write(regs: &mut Vec<RegType>, k: u16, ty: RegType)
 }
 
 /// A register and the next take types at once.
-#[tactic(auto, unfolding(dv_defs::specs::Transfer::write_two))]
+#[tactic(auto, unfolding(dv_typing::specs::Transfer::write_two))]
 pub fn write_pair(regs: &mut Vec<RegType>, k: u16, lo: RegType, hi: RegType)
     ensures { regs.new.items ≡ write_two regs.old.items k lo hi }
 {

@@ -59,7 +59,7 @@ fn fault_of(method: MethodId, place: Place) -> Fault
 }
 
 /// What a body breaks, in order.
-#[tactic(auto, unfolding(dv_defs::specs::Accepting::static_places))]
+#[tactic(auto, unfolding(dv_typing::specs::Accepting::static_places))]
 fn body_places(alloc: Global, image: &Image, code: &Coded<'_>) -> Result<Vec<Place>, AllocError>
     ensures { IfOk result (λ v. places_of v.items ≡ static_places image.now (code_of code.now)) }
 {

@@ -10,7 +10,7 @@ use dv_objects::is_instance;
 use dv_ops::coded_at;
 
 /// The address of the first handler that catches an object which flies from an address of a method.
-#[tactic(auto, unfolding(dv_defs::specs::Flow::handlers_at))]
+#[tactic(auto, unfolding(dv_typing::specs::Flow::handlers_at))]
 pub fn handler_for(
     image: &Image,
     heap: &Heap,

@@ -4,9 +4,7 @@ use Rattle.dv_machine.specs.Value.{Value}
 use Rattle.dv_machine.specs.Value as v
 use Rattle.dv_machine.specs.Frame as tagged
 use Rattle.dv_machine.specs.Kind as tagged_kind
-use Rattle.dv_machine.specs.Kind as kind_of_tagged
 use Rattle.dv_machine.specs.Level as tagged_level
-use Rattle.dv_machine.specs.Level as level_of_tagged
 use Rattle.dv_machine.specs.Pending.{Pending}
 use Rattle.dv_machine.specs.Pending as pending
 use Rattle.dv_machine.specs.Heap.{Heap}
@@ -45,21 +43,21 @@ abbrev pub erased_frame : tagged.Frame → Frame
 erased_frame f = record { method = f.method; at = f.at; regs = erased_values f.regs; result = erased_pending f.result; caught = f.caught }
 
 abbrev pub erased_level : tagged_level.Level → Level
-erased_level (level_of_tagged.Code f) = level.Code (erased_frame f)
-erased_level (level_of_tagged.Init c r) = level.Init c r
+erased_level (tagged_level.Code f) = level.Code (erased_frame f)
+erased_level (tagged_level.Init c r) = level.Init c r
 
 abbrev pub erased_levels : List tagged_level.Level → List Level
 erased_levels ls = map erased_level ls
 
 abbrev pub erased_kind : tagged_kind.Kind → Kind
-erased_kind (kind_of_tagged.Object c) = kind.Object c
-erased_kind (kind_of_tagged.Array t) = kind.Array t
-erased_kind (kind_of_tagged.Str s) = kind.Str
-erased_kind (kind_of_tagged.ClassOf t) = kind.ClassOf t
+erased_kind (tagged_kind.Object c) = kind.Object c
+erased_kind (tagged_kind.Array t) = kind.Array t
+erased_kind (tagged_kind.Str s) = kind.Str
+erased_kind (tagged_kind.ClassOf t) = kind.ClassOf t
 
 -- the words of an object: a string's units, or its values
 abbrev pub object_words : tagged_kind.Kind → List Value → List ℕ
-object_words (kind_of_tagged.Str s) xs = s
+object_words (tagged_kind.Str s) xs = s
 object_words k xs = erased_values xs
 
 -- object by object

@@ -5,9 +5,7 @@ use Rattle.dv_machine.specs.Value.{Value}
 use Rattle.dv_machine.specs.Value as v
 use Rattle.dv_machine.specs.Frame as tagged
 use Rattle.dv_machine.specs.Kind as tagged_kind
-use Rattle.dv_machine.specs.Kind as kind_of_tagged
 use Rattle.dv_machine.specs.Level as tagged_level
-use Rattle.dv_machine.specs.Level as level_of_tagged
 use Rattle.dv_machine.specs.Pending.{Pending}
 use Rattle.dv_machine.specs.Pending as pending
 use Rattle.dv_machine.specs.Heap.{Heap}
@@ -51,8 +49,8 @@ pub record FrameStands (s : Frame) (f : tagged.Frame) : Type 0 where
   pub caught : s.caught ≡ f.caught
 
 abbrev pub LevelStands : Level → tagged_level.Level → Type 0
-LevelStands (level.Code s) (level_of_tagged.Code f) = FrameStands s f
-LevelStands (level.Init c r) (level_of_tagged.Init d q) = (c ≡ d) × (r ≡ q)
+LevelStands (level.Code s) (tagged_level.Code f) = FrameStands s f
+LevelStands (level.Init c r) (tagged_level.Init d q) = (c ≡ d) × (r ≡ q)
 LevelStands s l = ⊥
 
 abbrev pub LevelsStand : List Level → List tagged_level.Level → Type 0
@@ -60,7 +58,7 @@ LevelsStand ss ls = AllZip LevelStands ss ls
 
 -- the words of an object
 abbrev pub ObjectStands : List ℕ → tagged_kind.Kind → List Value → Type 0
-ObjectStands ws (kind_of_tagged.Str s) xs = ws ≡ s
+ObjectStands ws (tagged_kind.Str s) xs = ws ≡ s
 ObjectStands ws k xs = AreWords ws xs
 
 abbrev pub ObjectsStand : List (List ℕ) → List tagged_kind.Kind → List (List Value) → Type 0
@@ -117,8 +115,8 @@ abbrev pub IsWholeFrame : tagged.Frame → Type 0
 IsWholeFrame f = AreWhole f.regs × IsWholeResult f.result
 
 abbrev pub IsWholeLevel : tagged_level.Level → Type 0
-IsWholeLevel (level_of_tagged.Code f) = IsWholeFrame f
-IsWholeLevel (level_of_tagged.Init c r) = Unit {0}
+IsWholeLevel (tagged_level.Code f) = IsWholeFrame f
+IsWholeLevel (tagged_level.Init c r) = Unit {0}
 
 abbrev pub IsWholeHeap : Heap → Type 0
 IsWholeHeap h = All AreWhole h.cells × All AreWhole h.statics

@@ -6,7 +6,6 @@ use Rattle.dv_defs.specs.declared.machine.End.{End}
 use Rattle.dv_defs.specs.declared.machine.End.TheVariants as end
 use Rattle.dv_machine.specs.Frame as tagged
 use Rattle.dv_machine.specs.Level as tagged_level
-use Rattle.dv_machine.specs.Level as level_of_tagged
 use Rattle.dv_defs.specs.declared.names.ClassId.{ClassId}
 use Rattle.dv_defs.specs.declared.names.MethodId.{MethodId}
 use Rattle.dv_machine.specs.Classes.{Classes, ask_of}
@@ -33,7 +32,7 @@ use Rattle.law_engine.proofs.Receivers.{op_is}
 -- ---- the frame on top of a living thread stands where its method's typing has a state
 
 abbrev pub IsPlacedOnTop : Image → Typings → Heap → List tagged_level.Level → Type 0
-IsPlacedOnTop image T heap ls = (f : tagged.Frame) (ks : List tagged_level.Level) → ls ≡ level_of_tagged.Code f ∷ ks → IsPlaced image T heap (this_above image ks) f
+IsPlacedOnTop image T heap ls = (f : tagged.Frame) (ks : List tagged_level.Level) → ls ≡ tagged_level.Code f ∷ ks → IsPlaced image T heap (this_above image ks) f
 
 abbrev pub IsPlacedThread : Image → Typings → Heap → Thread → Type 0
 IsPlacedThread image T heap th = th.end ≡ end.Living → IsPlacedOnTop image T heap th.levels
@@ -83,12 +82,12 @@ module _ (image : Image) (T : Typings) (accepted : Accepted image T) (w : WordMa
           subst (λ (y : At). words.blocked_op image w t caller s y.op ≡ machine.blocked_op image m t caller f y.op) op
           (op_is image accepted.finds w m stands t _ e.0.method caller s f there.state there.conform.good.regs frame.regs e.1.op e.4.ok)
 
-  record_is : (ss : List Level) (ls : List tagged_level.Level) (c d : ClassId) (r q : Bool) → c ≡ d → r ≡ q → words.blocked_levels image w t (level.Init c r ∷ ss) ≡ machine.blocked_levels image m t (level_of_tagged.Init d q ∷ ls)
+  record_is : (ss : List Level) (ls : List tagged_level.Level) (c d : ClassId) (r q : Bool) → c ≡ d → r ≡ q → words.blocked_levels image w t (level.Init c r ∷ ss) ≡ machine.blocked_levels image m t (tagged_level.Init d q ∷ ls)
   record_is ss ls c d r q class ready =
       ap (λ (x : ClassId). words.blocked_levels image w t (level.Init x r ∷ ss)) class ∙
       ap (λ (b : Bool). words.blocked_levels image w t (level.Init d b ∷ ss)) ready ∙ by q
     where
-      by : (q : Bool) → words.blocked_levels image w t (level.Init d q ∷ ss) ≡ machine.blocked_levels image m t (level_of_tagged.Init d q ∷ ls)
+      by : (q : Bool) → words.blocked_levels image w t (level.Init d q ∷ ss) ≡ machine.blocked_levels image m t (tagged_level.Init d q ∷ ls)
       by true = refl
       by false = ap (λ (cs : Classes). blocked_record cs t (prior image d.0)) classes
 
@@ -96,10 +95,10 @@ module _ (image : Image) (T : Typings) (accepted : Accepted image T) (w : WordMa
   levels_is [] [] all top = refl
   levels_is [] (l ∷ ls) all top = absurd all
   levels_is (s ∷ ss) [] all top = absurd all
-  levels_is (level.Code s ∷ ss) (level_of_tagged.Code f ∷ ls) all top = frame_is s f (this_above image ls) all.0 (top f ls refl)
-  levels_is (level.Init c r ∷ ss) (level_of_tagged.Init d q ∷ ls) all top = record_is ss ls c d r q all.0.0 all.0.1
-  levels_is (level.Code s ∷ ss) (level_of_tagged.Init d q ∷ ls) all top = absurd all.0
-  levels_is (level.Init c r ∷ ss) (level_of_tagged.Code f ∷ ls) all top = absurd all.0
+  levels_is (level.Code s ∷ ss) (tagged_level.Code f ∷ ls) all top = frame_is s f (this_above image ls) all.0 (top f ls refl)
+  levels_is (level.Init c r ∷ ss) (tagged_level.Init d q ∷ ls) all top = record_is ss ls c d r q all.0.0 all.0.1
+  levels_is (level.Code s ∷ ss) (tagged_level.Init d q ∷ ls) all top = absurd all.0
+  levels_is (level.Init c r ∷ ss) (tagged_level.Code f ∷ ls) all top = absurd all.0
 
   pub thread_is : (x : WordThread) (th : Thread) → ThreadStands x th → IsPlacedThread image T m.shared.heap th → words.blocked_thread image w t x ≡ machine.blocked_thread image m t th
   thread_is x th one top = by th.end refl

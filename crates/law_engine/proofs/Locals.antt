@@ -6,7 +6,6 @@ use Rattle.std.proofs.lemmas.Option.{same_Some}
 use Rattle.dv_defs.specs.declared.machine.End.{End}
 use Rattle.dv_defs.specs.declared.machine.End.TheVariants as end
 use Rattle.dv_machine.specs.Level as tagged_level
-use Rattle.dv_machine.specs.Level as level_of_tagged
 use Rattle.dv_defs.specs.Images.{Image}
 use Rattle.dv_defs.specs.Op.{ConstString, FieldGet, FieldPut, Op, is_local}
 use Rattle.dv_typing.specs.Statics.{At, fetch}
@@ -82,15 +81,15 @@ stands_at_local image m t x s ls o local found both = by (slice_get m.threads t)
   where
     by_parts : (ks : List tagged_level.Level) (e : End) (p : ℕ) → slice_get m.threads t ≡ Some (record { levels = ks; end = e; object = p }) → LevelsStand (level.Code s ∷ ls) ks → end.Living ≡ e → IsAtLocal image m t
     by_parts [] e p there all lives = absurd all
-    by_parts (level_of_tagged.Init c r ∷ ks) e p there all lives = absurd all.0
-    by_parts (level_of_tagged.Code f ∷ ks) e p there all lives =
+    by_parts (tagged_level.Init c r ∷ ks) e p there all lives = absurd all.0
+    by_parts (tagged_level.Code f ∷ ks) e p there all lives =
         let here : fetch image f.method.0 f.at ≡ Some x = rw (sym all.0.method, sym all.0.at) found in
         let own = of_method image f.method.0 f.at x here in
         record {
           frame = f;
           rest = ks;
           object = p;
-          there = there ∙ ap (λ (z : End). let y : Thread = record { levels = level_of_tagged.Code f ∷ ks; end = z; object = p } in Some y) (sym lives);
+          there = there ∙ ap (λ (z : End). let y : Thread = record { levels = tagged_level.Code f ∷ ks; end = z; object = p } in Some y) (sym lives);
           own = own.0;
           has_own = own.1;
           at = x;

@@ -4,7 +4,6 @@ use Rattle.std.specs.Prelude.{◌&&◌, slice_get}
 use Rattle.dv_defs.specs.declared.machine.End.{End}
 use Rattle.dv_machine.specs.Frame as tagged
 use Rattle.dv_machine.specs.Level as tagged_level
-use Rattle.dv_machine.specs.Level as level_of_tagged
 use Rattle.dv_defs.specs.declared.names.MethodId.{MethodId}
 use Rattle.dv_defs.specs.Images.{Image}
 use Rattle.dv_typing.specs.Statics.{fetch}
@@ -39,10 +38,10 @@ levels_is : (image : Image) (ss : List Level) (ls : List tagged_level.Level) →
 levels_is image [] [] all = refl
 levels_is image [] (l ∷ ls) all = absurd all
 levels_is image (s ∷ ss) [] all = absurd all
-levels_is image (level.Code s ∷ ss) (level_of_tagged.Code f ∷ ls) all = frame_is image s f all.0
-levels_is image (level.Init c r ∷ ss) (level_of_tagged.Init d q ∷ ls) all = refl
-levels_is image (level.Code s ∷ ss) (level_of_tagged.Init d q ∷ ls) all = absurd all.0
-levels_is image (level.Init c r ∷ ss) (level_of_tagged.Code f ∷ ls) all = absurd all.0
+levels_is image (level.Code s ∷ ss) (tagged_level.Code f ∷ ls) all = frame_is image s f all.0
+levels_is image (level.Init c r ∷ ss) (tagged_level.Init d q ∷ ls) all = refl
+levels_is image (level.Code s ∷ ss) (tagged_level.Init d q ∷ ls) all = absurd all.0
+levels_is image (level.Init c r ∷ ss) (tagged_level.Code f ∷ ls) all = absurd all.0
 
 thread_is : (image : Image) (x : Option WordThread) (y : Option Thread) → BothStand x y → thread_is_local_of image x ≡ thread_is_local image y
 thread_is image None None both = refl

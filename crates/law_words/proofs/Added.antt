@@ -4,7 +4,6 @@ use Rattle.std.specs.Prelude.{bytes_eq, nat_le}
 use Rattle.std.specs.Option.{option_map}
 use Rattle.dv_defs.specs.declared.names.Ty.{Ty}
 use Rattle.dv_machine.specs.Kind as tagged_kind
-use Rattle.dv_machine.specs.Kind as kind_of_tagged
 use Rattle.dv_machine.specs.Value.{Value}
 use Rattle.dv_machine.specs.Value as v
 use Rattle.dv_typing.specs.declared.typing.RegType.{RegType}
@@ -115,16 +114,16 @@ within_stands true false w h e s = absurd (cc)
 within_stands false true w h e s = absurd (cc)
 
 pub object_added : (image : Image) (w : WordHeap) (h : Heap) (c : ℕ) → HeapStands w h → OptionStands (words.alloc_object image w c) (tagged.alloc_object image h c)
-object_added image w h c s = within_stands _ _ _ _ (room_is w h _ s) (grown_stands w h (kind_of_tagged.Object (record { 0 = c })) _ _ _ s (zeros_stand (class_cells image c)))
+object_added image w h c s = within_stands _ _ _ _ (room_is w h _ s) (grown_stands w h (tagged_kind.Object (record { 0 = c })) _ _ _ s (zeros_stand (class_cells image c)))
 
 pub array_added : (w : WordHeap) (h : Heap) (t : Ty) (n : ℕ) → HeapStands w h → OptionStands (words.alloc_array w t n) (tagged.alloc_array h t n)
-array_added w h t n s = within_stands _ _ _ _ (room_is w h _ s) (grown_stands w h (kind_of_tagged.Array t) _ _ _ s (elements_stand n t))
+array_added w h t n s = within_stands _ _ _ _ (room_is w h _ s) (grown_stands w h (tagged_kind.Array t) _ _ _ s (elements_stand n t))
 
 pub string_added : (w : WordHeap) (h : Heap) (u : List ℕ) → HeapStands w h → OptionStands (words.alloc_string w u) (tagged.alloc_string h u)
-string_added w h u s = within_stands _ _ _ _ (room_is w h _ s) (grown_stands w h (kind_of_tagged.Str u) u [] _ s refl)
+string_added w h u s = within_stands _ _ _ _ (room_is w h _ s) (grown_stands w h (tagged_kind.Str u) u [] _ s refl)
 
-class_added : (w : WordHeap) (h : Heap) (t : Ty) → HeapStands w h → OptionStands (words.grown_within w (kind.ClassOf t) [] 2) (tagged.grown_within h (kind_of_tagged.ClassOf t) [] 2)
-class_added w h t s = within_stands _ _ _ _ (room_is w h _ s) (grown_stands w h (kind_of_tagged.ClassOf t) [] [] _ s tt)
+class_added : (w : WordHeap) (h : Heap) (t : Ty) → HeapStands w h → OptionStands (words.grown_within w (kind.ClassOf t) [] 2) (tagged.grown_within h (tagged_kind.ClassOf t) [] 2)
+class_added w h t s = within_stands _ _ _ _ (room_is w h _ s) (grown_stands w h (tagged_kind.ClassOf t) [] [] _ s tt)
 
 -- ---- objects that stand once
 
@@ -148,10 +147,10 @@ module _ (w : WordHeap) (h : Heap) (s : HeapStands w h) where
     where
       by : (k : Option tagged_kind.Kind) → tagged.kind_of h (suc o) ≡ k → words.is_text w u (suc o) ≡ tagged.is_text k u
       by None is = let e = kind_is w h (suc o) s ∙ ap (option_map erased_kind) is in rw e refl
-      by (Some (kind_of_tagged.Object c)) is = let e = kind_is w h (suc o) s ∙ ap (option_map erased_kind) is in rw e refl
-      by (Some (kind_of_tagged.Array t)) is = let e = kind_is w h (suc o) s ∙ ap (option_map erased_kind) is in rw e refl
-      by (Some (kind_of_tagged.ClassOf t)) is = let e = kind_is w h (suc o) s ∙ ap (option_map erased_kind) is in rw e refl
-      by (Some (kind_of_tagged.Str x)) is =
+      by (Some (tagged_kind.Object c)) is = let e = kind_is w h (suc o) s ∙ ap (option_map erased_kind) is in rw e refl
+      by (Some (tagged_kind.Array t)) is = let e = kind_is w h (suc o) s ∙ ap (option_map erased_kind) is in rw e refl
+      by (Some (tagged_kind.ClassOf t)) is = let e = kind_is w h (suc o) s ∙ ap (option_map erased_kind) is in rw e refl
+      by (Some (tagged_kind.Str x)) is =
           let e = kind_is w h (suc o) s ∙ ap (option_map erased_kind) is in
           let at = subst (λ k. StandAt k (words.words_of_object w (suc o)) (tagged.cells_at h (suc o))) is (stands_at w h o s) in
           rw e (ap (λ us. bytes_eq us u) at)
@@ -161,10 +160,10 @@ module _ (w : WordHeap) (h : Heap) (s : HeapStands w h) where
     where
       by : (k : Option tagged_kind.Kind) → tagged.kind_of h o ≡ k → words.is_class_of w t o ≡ tagged.is_class_of k t
       by None is = let e = kind_is w h o s ∙ ap (option_map erased_kind) is in rw e refl
-      by (Some (kind_of_tagged.Object c)) is = let e = kind_is w h o s ∙ ap (option_map erased_kind) is in rw e refl
-      by (Some (kind_of_tagged.Array u)) is = let e = kind_is w h o s ∙ ap (option_map erased_kind) is in rw e refl
-      by (Some (kind_of_tagged.Str x)) is = let e = kind_is w h o s ∙ ap (option_map erased_kind) is in rw e refl
-      by (Some (kind_of_tagged.ClassOf u)) is = let e = kind_is w h o s ∙ ap (option_map erased_kind) is in rw e refl
+      by (Some (tagged_kind.Object c)) is = let e = kind_is w h o s ∙ ap (option_map erased_kind) is in rw e refl
+      by (Some (tagged_kind.Array u)) is = let e = kind_is w h o s ∙ ap (option_map erased_kind) is in rw e refl
+      by (Some (tagged_kind.Str x)) is = let e = kind_is w h o s ∙ ap (option_map erased_kind) is in rw e refl
+      by (Some (tagged_kind.ClassOf u)) is = let e = kind_is w h o s ∙ ap (option_map erased_kind) is in rw e refl
 
 -- the same object, in heaps that stand
 pub record GotOneStands (g : words.Got) (x : tagged.Got) : Type 0 where

@@ -4,7 +4,6 @@ use Rattle.std.specs.Prelude.{if◌then◌else◌, nat_eq}
 use Rattle.std.proofs.lemmas.List.Elements.{All-cons, All-nil}
 use Rattle.dv_machine.specs.Frame as tagged_frame
 use Rattle.dv_machine.specs.Level as tagged_level
-use Rattle.dv_machine.specs.Level as level_of_tagged
 use Rattle.dv_machine.specs.Pending.{Pending}
 use Rattle.dv_machine.specs.Pending as pending
 use Rattle.dv_defs.specs.declared.names.MethodId.{MethodId}
@@ -138,7 +137,7 @@ module _ (w : steps.At) (h : Here) (stands : AtStands w h) where
   -- a call's frame, as it is entered
   enters : (m : Method) (ws : List ℕ) (xs : List Value) (p : Bool) → AreWords ws xs → OutcomeStands (over.enter w m ws) (machine.enter h m xs p)
   enters m ws xs p are =
-      pushed_stands w h stands w.shared h.shared (level.Code (over.entered_frame m ws)) (level_of_tagged.Code (machine.entered_frame m xs p)) (level.Code w.frame ∷ w.rest) (level_of_tagged.Code h.frame ∷ h.rest)
+      pushed_stands w h stands w.shared h.shared (level.Code (over.entered_frame m ws)) (tagged_level.Code (machine.entered_frame m xs p)) (level.Code w.frame ∷ w.rest) (tagged_level.Code h.frame ∷ h.rest)
       stands.shared (entered_stands m ws xs p are) (stands.frame, stands.rest) stands.bounded
 
   lands_by : (m : Method) (ws : List ℕ) (xs : List Value) (o : Option Native) → AllFit ws → AreWords ws xs → ((k : Native) → o ≡ Some k → ArgumentsAre w h stands k xs) → OutcomeStands (over.landed_on w m ws o) (machine.landed_on h (natives.native_step h) m xs o)
@@ -344,16 +343,16 @@ module _ (w : steps.At) (h : Here) (stands : AtStands w h) where
 
   back_to_stands : (s : Frame) (g : tagged_frame.Frame) (k : Kept) (p : Pending) (ss : List Level) (ls : List tagged_level.Level) (x : Option statics.At) → FrameStands s g → LevelsStand ss ls → IsResult k p → OutcomeStands (over.back_to w k s ss x) (machine.back_to h p g ls x)
   back_to_stands s g k p ss ls None frame rest is = tt
-  back_to_stands s g k p ss ls (Some x) frame rest is = left_stands w.shared h.shared (level.Code (stacks.given (stacks.gone s x.next) k) ∷ ss) (level_of_tagged.Code (machine.returned (is_constructor h.own) g x p) ∷ ls) stands.shared (returned_by (is_constructor h.own) s g k p x frame is, rest) stands.bounded
+  back_to_stands s g k p ss ls (Some x) frame rest is = left_stands w.shared h.shared (level.Code (stacks.given (stacks.gone s x.next) k) ∷ ss) (tagged_level.Code (machine.returned (is_constructor h.own) g x p) ∷ ls) stands.shared (returned_by (is_constructor h.own) s g k p x frame is, rest) stands.bounded
 
   back_on_stands : (k : Kept) (p : Pending) (ss : List Level) (ls : List tagged_level.Level) → LevelsStand ss ls → IsResult k p → OutcomeStands (over.back_on w k ss) (machine.back_on h p ls)
   back_on_stands k p [] [] all is = left_stands w.shared h.shared [] [] stands.shared tt stands.bounded
   back_on_stands k p [] (l ∷ ls) all is = absurd all
   back_on_stands k p (s ∷ ss) [] all is = absurd all
-  back_on_stands k p (level.Init c r ∷ ss) (level_of_tagged.Init d q ∷ ls) all is = left_stands w.shared h.shared (level.Init c r ∷ ss) (level_of_tagged.Init d q ∷ ls) stands.shared all stands.bounded
-  back_on_stands k p (level.Init c r ∷ ss) (level_of_tagged.Code g ∷ ls) all is = absurd all.0
-  back_on_stands k p (level.Code s ∷ ss) (level_of_tagged.Init d q ∷ ls) all is = absurd all.0
-  back_on_stands k p (level.Code s ∷ ss) (level_of_tagged.Code g ∷ ls) all is =
+  back_on_stands k p (level.Init c r ∷ ss) (tagged_level.Init d q ∷ ls) all is = left_stands w.shared h.shared (level.Init c r ∷ ss) (tagged_level.Init d q ∷ ls) stands.shared all stands.bounded
+  back_on_stands k p (level.Init c r ∷ ss) (tagged_level.Code g ∷ ls) all is = absurd all.0
+  back_on_stands k p (level.Code s ∷ ss) (tagged_level.Init d q ∷ ls) all is = absurd all.0
+  back_on_stands k p (level.Code s ∷ ss) (tagged_level.Code g ∷ ls) all is =
       let frame : FrameStands s g = all.0 in
       let same : fetch w.image s.method.0 s.at ≡ fetch h.image g.method.0 g.at =
       ap (λ i. fetch i s.method.0 s.at) stands.image ∙ ap (λ (m : MethodId). fetch h.image m.0 s.at) frame.method ∙ ap (fetch h.image g.method.0) frame.at in

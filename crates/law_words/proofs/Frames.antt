@@ -3,7 +3,6 @@ use Rattle.std.proofs.Common.{◌≡◌, ℕ, List, [], ◌∷◌, All, Option, 
 use Rattle.std.proofs.lemmas.List.Elements.{All-head, All-tail}
 use Rattle.dv_machine.specs.Frame as tagged
 use Rattle.dv_machine.specs.Level as tagged_level
-use Rattle.dv_machine.specs.Level as level_of_tagged
 use Rattle.dv_machine.specs.Pending.{Pending}
 use Rattle.dv_machine.specs.Pending as pending
 use Rattle.dv_defs.specs.declared.names.MethodId.{MethodId}
@@ -52,14 +51,14 @@ pub frames_are_erased : FramesAreErased
 frames_are_erased s f fits h = (same_frame s f fits, λ is. subst (λ t. FrameStands t f) (sym is) (frame_stands f h))
 
 same_level : (s : Level) (l : tagged_level.Level) → LevelFits s → LevelStands s l → s ≡ erased_level l
-same_level (level.Code s) (level_of_tagged.Code f) fits stands = ap level.Code (same_frame s f fits stands)
-same_level (level.Code s) (level_of_tagged.Init c r) fits stands = absurd stands
-same_level (level.Init c r) (level_of_tagged.Code f) fits stands = absurd stands
-same_level (level.Init c r) (level_of_tagged.Init d q) fits stands = ap (λ x. level.Init x r) stands.0 ∙ ap (level.Init d) stands.1
+same_level (level.Code s) (tagged_level.Code f) fits stands = ap level.Code (same_frame s f fits stands)
+same_level (level.Code s) (tagged_level.Init c r) fits stands = absurd stands
+same_level (level.Init c r) (tagged_level.Code f) fits stands = absurd stands
+same_level (level.Init c r) (tagged_level.Init d q) fits stands = ap (λ x. level.Init x r) stands.0 ∙ ap (level.Init d) stands.1
 
 level_stands : (l : tagged_level.Level) → IsWholeLevel l → LevelStands (erased_level l) l
-level_stands (level_of_tagged.Code f) h = frame_stands f h
-level_stands (level_of_tagged.Init c r) h = (refl, refl)
+level_stands (tagged_level.Code f) h = frame_stands f h
+level_stands (tagged_level.Init c r) h = (refl, refl)
 
 same_levels : (ss : List Level) (ls : List tagged_level.Level) → All LevelFits ss → LevelsStand ss ls → ss ≡ erased_levels ls
 same_levels [] [] fits stand = refl

@@ -3,7 +3,6 @@ use Rattle.std.proofs.Common.{◌≡◌, ℕ, suc, List, [], ◌∷◌, All, Opt
 use Rattle.std.proofs.lemmas.List.Elements.{All-head, All-tail}
 use Rattle.dv_machine.specs.Value.{Value}
 use Rattle.dv_machine.specs.Kind as tagged_kind
-use Rattle.dv_machine.specs.Kind as kind_of_tagged
 use Rattle.dv_machine.specs.Heap.{Heap}
 use Rattle.dv_words.specs.declared.state.Kind.{Kind}
 use Rattle.dv_words.specs.Erasure.{all_words, erased_heap, erased_kind, erased_values, object_words}
@@ -13,16 +12,16 @@ use Rattle.dv_words.specs.State.{WordHeap}
 use Rattle.law_words.proofs.Erasing.{same_lists, same_words, stand_lists, stand_words}
 
 same_object : (ws : List ℕ) (k : tagged_kind.Kind) (xs : List Value) → AllFit ws → ObjectStands ws k xs → ws ≡ object_words k xs
-same_object ws (kind_of_tagged.Str s) xs f stands = stands
-same_object ws (kind_of_tagged.Object c) xs f stands = same_words ws xs f stands
-same_object ws (kind_of_tagged.Array t) xs f stands = same_words ws xs f stands
-same_object ws (kind_of_tagged.ClassOf t) xs f stands = same_words ws xs f stands
+same_object ws (tagged_kind.Str s) xs f stands = stands
+same_object ws (tagged_kind.Object c) xs f stands = same_words ws xs f stands
+same_object ws (tagged_kind.Array t) xs f stands = same_words ws xs f stands
+same_object ws (tagged_kind.ClassOf t) xs f stands = same_words ws xs f stands
 
 object_stands : (k : tagged_kind.Kind) (xs : List Value) → AreWhole xs → ObjectStands (object_words k xs) k xs
-object_stands (kind_of_tagged.Str s) xs h = refl
-object_stands (kind_of_tagged.Object c) xs h = stand_words xs h
-object_stands (kind_of_tagged.Array t) xs h = stand_words xs h
-object_stands (kind_of_tagged.ClassOf t) xs h = stand_words xs h
+object_stands (tagged_kind.Str s) xs h = refl
+object_stands (tagged_kind.Object c) xs h = stand_words xs h
+object_stands (tagged_kind.Array t) xs h = stand_words xs h
+object_stands (tagged_kind.ClassOf t) xs h = stand_words xs h
 
 same_objects : (wss : List (List ℕ)) (ks : List tagged_kind.Kind) (xss : List (List Value)) → All AllFit wss → ObjectsStand wss ks xss → wss ≡ all_words ks xss
 same_objects [] [] [] f stand = refl

@@ -13,7 +13,6 @@ use Rattle.std.specs.Option.{option_map}
 use Rattle.std.proofs.lemmas.Int.{of_z-to_z, to_z_pos}
 use Rattle.std.proofs.lemmas.List.Elements.{All-append, All-cons, All-drop, All-head, All-nil, All-tail, All-take}
 use Rattle.dv_machine.specs.Kind as tagged_kind
-use Rattle.dv_machine.specs.Kind as kind_of_tagged
 use Rattle.dv_machine.specs.Pending as pending
 use Rattle.dv_defs.specs.declared.run.Limits.{Limits}
 use Rattle.dv_defs.specs.declared.run.Named.TheVariants as named
@@ -84,10 +83,10 @@ half_is w x half is = absurd half
 
 kind_by : (k : Option tagged_kind.Kind) (ws : List ℕ) (xs : List Value) → StandAt k ws xs → (if over.is_string (option_map erased_kind k) then ws else []) ≡ texts.text_in k
 kind_by None ws xs at = refl
-kind_by (Some (kind_of_tagged.Object c)) ws xs at = refl
-kind_by (Some (kind_of_tagged.Array t)) ws xs at = refl
-kind_by (Some (kind_of_tagged.ClassOf t)) ws xs at = refl
-kind_by (Some (kind_of_tagged.Str s)) ws xs at = at
+kind_by (Some (tagged_kind.Object c)) ws xs at = refl
+kind_by (Some (tagged_kind.Array t)) ws xs at = refl
+kind_by (Some (tagged_kind.ClassOf t)) ws xs at = refl
+kind_by (Some (tagged_kind.Str s)) ws xs at = at
 
 pub text_is : (w : WordHeap) (h : Heap) (o : ℕ) → HeapStands w h → over.text_of w o ≡ texts.text_of h o
 text_is w h zero stands = refl
@@ -105,10 +104,10 @@ text_fits h (suc o) b = by (tagged.kind_of h (suc o)) refl
   where
     by : (k : Option tagged_kind.Kind) → tagged.kind_of h (suc o) ≡ k → IsText (texts.text_in k)
     by None is = (omega arith, All-nil IsUnit)
-    by (Some (kind_of_tagged.Object c)) is = (omega arith, All-nil IsUnit)
-    by (Some (kind_of_tagged.Array t)) is = (omega arith, All-nil IsUnit)
-    by (Some (kind_of_tagged.ClassOf t)) is = (omega arith, All-nil IsUnit)
-    by (Some (kind_of_tagged.Str s)) is = string_length h o s b is
+    by (Some (tagged_kind.Object c)) is = (omega arith, All-nil IsUnit)
+    by (Some (tagged_kind.Array t)) is = (omega arith, All-nil IsUnit)
+    by (Some (tagged_kind.ClassOf t)) is = (omega arith, All-nil IsUnit)
+    by (Some (tagged_kind.Str s)) is = string_length h o s b is
 
 module _ (w : steps.At) (h : Here) (stands : AtStands w h) where
   given_stands : (u : ℕ) (x : Value) → IsWord u x → FrameStands (stacks.given (stacks.gone w.frame w.next) (kept.One u)) (with_result h.frame h.next (pending.One x))
@@ -172,10 +171,10 @@ module _ (w : steps.At) (h : Here) (stands : AtStands w h) where
 
   equal_by : (t : List ℕ) (k : Option tagged_kind.Kind) (ws : List ℕ) (xs : List Value) → StandAt k ws xs → (if over.is_string (option_map erased_kind k) then bytes_eq t ws else false) ≡ machine.same_text t k
   equal_by t None ws xs at = refl
-  equal_by t (Some (kind_of_tagged.Object c)) ws xs at = refl
-  equal_by t (Some (kind_of_tagged.Array u)) ws xs at = refl
-  equal_by t (Some (kind_of_tagged.ClassOf u)) ws xs at = refl
-  equal_by t (Some (kind_of_tagged.Str s)) ws xs at = ap (bytes_eq t) at
+  equal_by t (Some (tagged_kind.Object c)) ws xs at = refl
+  equal_by t (Some (tagged_kind.Array u)) ws xs at = refl
+  equal_by t (Some (tagged_kind.ClassOf u)) ws xs at = refl
+  equal_by t (Some (tagged_kind.Str s)) ws xs at = ap (bytes_eq t) at
 
   equal_is : (o p : ℕ) → over.same_text w o p ≡ machine.same_text (texts.text_of h.shared.heap o) (tagged.kind_of h.shared.heap p)
   equal_is o zero = refl

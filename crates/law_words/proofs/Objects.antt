@@ -4,7 +4,6 @@ use Rattle.std.specs.Prelude.{slice_get, slice_index_or, slice_set}
 use Rattle.std.specs.Option.{option_map}
 use Rattle.std.specs.List.{AllZip}
 use Rattle.dv_machine.specs.Kind as tagged_kind
-use Rattle.dv_machine.specs.Kind as kind_of_tagged
 use Rattle.dv_machine.specs.Value.{Value}
 use Rattle.dv_machine.specs.Heap as tagged
 use Rattle.dv_machine.specs.Heap.{Heap}
@@ -34,10 +33,10 @@ kind_is w h (suc o) stands = ap (λ ks. slice_get ks o) stands.kinds ∙ get_map
 
 type_by : (image : Image) (k : Option tagged_kind.Kind) → over.type_of_kind image (option_map erased_kind k) ≡ machine.type_of_kind image k
 type_by image None = refl
-type_by image (Some (kind_of_tagged.Object c)) = refl
-type_by image (Some (kind_of_tagged.Array t)) = refl
-type_by image (Some (kind_of_tagged.Str s)) = refl
-type_by image (Some (kind_of_tagged.ClassOf t)) = refl
+type_by image (Some (tagged_kind.Object c)) = refl
+type_by image (Some (tagged_kind.Array t)) = refl
+type_by image (Some (tagged_kind.Str s)) = refl
+type_by image (Some (tagged_kind.ClassOf t)) = refl
 
 pub type_is : (image : Image) (w : WordHeap) (h : Heap) (o : ℕ) → HeapStands w h → over.type_of image w o ≡ machine.type_of image h o
 type_is image w h o stands = ap (over.type_of_kind image) (kind_is w h o stands) ∙ type_by image (tagged.kind_of h o)
@@ -71,10 +70,10 @@ same_length (w ∷ ws) (x ∷ xs) are = ap suc (same_length ws xs are.1)
 
 plain_words : (k : Option tagged_kind.Kind) (ws : List ℕ) (xs : List Value) → IsPlain k → StandAt k ws xs → AreWords ws xs
 plain_words None ws xs plain at = rw (at.0, at.1) tt
-plain_words (Some (kind_of_tagged.Object c)) ws xs plain at = at
-plain_words (Some (kind_of_tagged.Array t)) ws xs plain at = at
-plain_words (Some (kind_of_tagged.ClassOf t)) ws xs plain at = at
-plain_words (Some (kind_of_tagged.Str s)) ws xs plain at = absurd plain
+plain_words (Some (tagged_kind.Object c)) ws xs plain at = at
+plain_words (Some (tagged_kind.Array t)) ws xs plain at = at
+plain_words (Some (tagged_kind.ClassOf t)) ws xs plain at = at
+plain_words (Some (tagged_kind.Str s)) ws xs plain at = absurd plain
 
 pub are_words : (w : WordHeap) (h : Heap) (o : ℕ) → HeapStands w h → IsPlain (tagged.kind_of h (suc o)) → AreWords (words_of_object w (suc o)) (tagged.cells_at h (suc o))
 are_words w h o stands plain = plain_words (tagged.kind_of h (suc o)) _ _ plain (stands_at w h o stands)
@@ -93,19 +92,19 @@ module _ (w : WordHeap) (h : Heap) (o : ℕ) (stands : HeapStands w h) where
       let e = kind_is w h (suc o) stands ∙ ap (option_map erased_kind) is in
       let n = plain_length (subst IsPlain (sym is) tt) in
       rw (e, is) n
-  length_by (Some (kind_of_tagged.Object c)) is =
+  length_by (Some (tagged_kind.Object c)) is =
       let e = kind_is w h (suc o) stands ∙ ap (option_map erased_kind) is in
       let n = plain_length (subst IsPlain (sym is) tt) in
       rw (e, is) n
-  length_by (Some (kind_of_tagged.Array t)) is =
+  length_by (Some (tagged_kind.Array t)) is =
       let e = kind_is w h (suc o) stands ∙ ap (option_map erased_kind) is in
       let n = plain_length (subst IsPlain (sym is) tt) in
       rw (e, is) (ap (λ m. m / words_of (component t)) n)
-  length_by (Some (kind_of_tagged.ClassOf t)) is =
+  length_by (Some (tagged_kind.ClassOf t)) is =
       let e = kind_is w h (suc o) stands ∙ ap (option_map erased_kind) is in
       let n = plain_length (subst IsPlain (sym is) tt) in
       rw (e, is) n
-  length_by (Some (kind_of_tagged.Str s)) is =
+  length_by (Some (tagged_kind.Str s)) is =
       let e = kind_is w h (suc o) stands ∙ ap (option_map erased_kind) is in
       let at = subst (λ k. StandAt k (words_of_object w (suc o)) (tagged.cells_at h (suc o))) is (stands_at w h o stands) in
       rw (e, is) (ap length at)
@@ -117,10 +116,10 @@ module _ (w : WordHeap) (h : Heap) (o : ℕ) (stands : HeapStands w h) where
 
 module _ (u : ℕ) (x : Value) (is : IsWord u x) (k : ℕ) where
   plain_object : (ws : List ℕ) (q : tagged_kind.Kind) (xs : List Value) → IsPlain (Some q) → ObjectStands ws q xs → ObjectStands (slice_set ws k u) q (slice_set xs k x)
-  plain_object ws (kind_of_tagged.Object c) xs plain at = words_set ws xs k u x at is
-  plain_object ws (kind_of_tagged.Array t) xs plain at = words_set ws xs k u x at is
-  plain_object ws (kind_of_tagged.ClassOf t) xs plain at = words_set ws xs k u x at is
-  plain_object ws (kind_of_tagged.Str s) xs plain at = absurd plain
+  plain_object ws (tagged_kind.Object c) xs plain at = words_set ws xs k u x at is
+  plain_object ws (tagged_kind.Array t) xs plain at = words_set ws xs k u x at is
+  plain_object ws (tagged_kind.ClassOf t) xs plain at = words_set ws xs k u x at is
+  plain_object ws (tagged_kind.Str s) xs plain at = absurd plain
 
   objects_set : (wss : List (List ℕ)) (ks : List tagged_kind.Kind) (xss : List (List Value)) (o : ℕ) → IsPlain (slice_get ks o) → ObjectsStand wss ks xss → ObjectsStand (slice_set wss o (slice_set (slice_index_or wss o []) k u)) ks (slice_set xss o (slice_set (slice_index_or xss o []) k x))
   objects_set [] [] [] o plain stand = tt

@@ -3,7 +3,6 @@ use Rattle.std.proofs.Common.{◌≡◌, ℕ, zero, suc, ◌+◌, Bool, true, fa
 use Rattle.std.specs.Prelude.{if◌then◌else◌, nat_le}
 use Rattle.dv_machine.specs.Frame as tagged_frame
 use Rattle.dv_machine.specs.Level as tagged_level
-use Rattle.dv_machine.specs.Level as level_of_tagged
 use Rattle.dv_defs.specs.declared.run.Limits.{Limits}
 use Rattle.dv_defs.specs.declared.run.Named.{Named}
 use Rattle.dv_defs.specs.declared.run.Named.TheVariants as named
@@ -28,10 +27,10 @@ use Rattle.law_words.proofs.Registers.{stand_gone}
 -- ---- sizes of stacks
 
 size_is : (s : Level) (l : tagged_level.Level) → LevelStands s l → size_of s ≡ machine.regs_in l
-size_is (level.Code s) (level_of_tagged.Code f) stands = same_length s.regs f.regs stands.regs
-size_is (level.Code s) (level_of_tagged.Init c r) stands = absurd stands
-size_is (level.Init c r) (level_of_tagged.Code f) stands = absurd stands
-size_is (level.Init c r) (level_of_tagged.Init d q) stands = refl
+size_is (level.Code s) (tagged_level.Code f) stands = same_length s.regs f.regs stands.regs
+size_is (level.Code s) (tagged_level.Init c r) stands = absurd stands
+size_is (level.Init c r) (tagged_level.Code f) stands = absurd stands
+size_is (level.Init c r) (tagged_level.Init d q) stands = refl
 
 words_are : (ss : List Level) (ls : List tagged_level.Level) → LevelsStand ss ls → words_in ss ≡ machine.words_in ls
 words_are [] [] stand = refl
@@ -82,7 +81,7 @@ on_object_alike o (suc p) d e same s = subst (λ (n : ℕ). OutcomeStands (on_ob
 
 module _ (w : over.At) (h : Here) (stands : AtStands w h) where
   pub onward_stands : (x : WordShared) (y : Shared) (s : Frame) (f : tagged_frame.Frame) → SharedStands x y → FrameStands s f → IsBounded y.heap → OutcomeStands (over.onward w x s) (machine.onward h y f)
-  onward_stands x y s f shared frame bounded = left_stands x y (level.Code s ∷ w.rest) (level_of_tagged.Code f ∷ h.rest) shared (frame, stands.rest) bounded
+  onward_stands x y s f shared frame bounded = left_stands x y (level.Code s ∷ w.rest) (tagged_level.Code f ∷ h.rest) shared (frame, stands.rest) bounded
 
   pub gone_stands : FrameStands (gone w.frame w.next) (machine.gone h.frame h.next h.frame.regs)
   gone_stands = subst (λ (n : ℕ). FrameStands (gone w.frame n) (machine.gone h.frame h.next h.frame.regs)) (sym stands.next) (stand_gone w.frame h.frame h.next stands.frame)

@@ -7,7 +7,6 @@ use Rattle.dv_machine.specs.Frame as tagged_frame
 use Rattle.dv_machine.specs.Kind.{Kind}
 use Rattle.dv_machine.specs.Kind as kind_of_tagged
 use Rattle.dv_machine.specs.Level as tagged_level
-use Rattle.dv_machine.specs.Level as level_of_tagged
 use Rattle.dv_defs.specs.declared.names.ClassId.{ClassId}
 use Rattle.dv_defs.specs.declared.names.MethodId.{MethodId}
 use Rattle.dv_defs.specs.declared.run.Named.TheVariants as named
@@ -62,7 +61,7 @@ module _ (w : steps.At) (h : Here) (stands : AtStands w h) where
   begun_stands : (c : ℕ) (ss : List Level) (ls : List tagged_level.Level) → LevelsStand ss ls → OutcomeStands (over.begun w c ss) (step.begun h c ls)
   begun_stands c ss ls all =
       pushed_stands w h stands (steps.with_classes w.shared (with_state w.shared.classes c (InProgress w.thread))) (machine.with_classes h.shared (with_state h.shared.classes c (InProgress h.thread)))
-      (level.Init (record { 0 = c }) false) (level_of_tagged.Init (record { 0 = c }) false) ss ls (with_class c (InProgress w.thread) (InProgress h.thread) (ap InProgress stands.thread)) (refl, refl) all stands.bounded
+      (level.Init (record { 0 = c }) false) (tagged_level.Init (record { 0 = c }) false) ss ls (with_class c (InProgress w.thread) (InProgress h.thread) (ap InProgress stands.thread)) (refl, refl) all stands.bounded
 
   class_by : (c : ℕ) (ss : List Level) (ls : List tagged_level.Level) (a : Ask) (d : Did steps.Left) (e : Did Left) → LevelsStand ss ls → OutcomeStands d e → OutcomeStands (over.for_class w ss c a d) (step.for_class h ls c a e)
   class_by c ss ls ask.Go d e all s = s
@@ -75,7 +74,7 @@ module _ (w : steps.At) (h : Here) (stands : AtStands w h) where
 
   pub ready_stands : (op : Op) (c : Option ℕ) → ImageFits h.image → OperandsFit h.image op → PutsInMade h.shared.heap h.frame.regs op → CallFits h.image op → OutcomeStands (over.with_ready w op c) (step.with_ready h op c)
   ready_stands op None image fits made call = act_stands w h stands op image fits made call
-  ready_stands op (Some c) image fits made call = class_stands c (level.Code w.frame ∷ w.rest) (level_of_tagged.Code h.frame ∷ h.rest) (over.act w op) (step.act h op) (stands.frame, stands.rest) (act_stands w h stands op image fits made call)
+  ready_stands op (Some c) image fits made call = class_stands c (level.Code w.frame ∷ w.rest) (tagged_level.Code h.frame ∷ h.rest) (over.act w op) (step.act h op) (stands.frame, stands.rest) (act_stands w h stands op image fits made call)
 
   -- ---- records
 
@@ -85,7 +84,7 @@ module _ (w : steps.At) (h : Here) (stands : AtStands w h) where
   initialised_stands : (c : ℕ) (m : Option Method) → OutcomeStands (over.initialised_by w c m) (step.initialised_by h c m)
   initialised_stands c None = ended_stands c Ready
   initialised_stands c (Some m) =
-      pushed_stands w h stands w.shared h.shared (level.Code (word_calls.entered_frame m [])) (level_of_tagged.Code (calls.entered_frame m [] false)) (level.Init (record { 0 = c }) true ∷ w.rest) (level_of_tagged.Init (record { 0 = c }) true ∷ h.rest)
+      pushed_stands w h stands w.shared h.shared (level.Code (word_calls.entered_frame m [])) (tagged_level.Code (calls.entered_frame m [] false)) (level.Init (record { 0 = c }) true ∷ w.rest) (tagged_level.Init (record { 0 = c }) true ∷ h.rest)
       stands.shared (entered_stands m [] [] false tt) ((refl, refl), stands.rest) stands.bounded
 
   run_stands : (c : ℕ) → OutcomeStands (over.run_initialiser w c) (step.run_initialiser h c)
@@ -93,7 +92,7 @@ module _ (w : steps.At) (h : Here) (stands : AtStands w h) where
 
   looks_at : (c : ℕ) (ps : List ℕ) → OutcomeStands (over.look_at w c ps) (step.look_at h c ps)
   looks_at c [] = run_stands c
-  looks_at c (p ∷ ps) = class_stands p (level.Init (record { 0 = c }) false ∷ w.rest) (level_of_tagged.Init (record { 0 = c }) false ∷ h.rest) (over.look_at w c ps) (step.look_at h c ps) ((refl, refl), stands.rest) (looks_at c ps)
+  looks_at c (p ∷ ps) = class_stands p (level.Init (record { 0 = c }) false ∷ w.rest) (tagged_level.Init (record { 0 = c }) false ∷ h.rest) (over.look_at w c ps) (step.look_at h c ps) ((refl, refl), stands.rest) (looks_at c ps)
 
   pub record_stands : (c : ℕ) (r : Bool) → OutcomeStands (over.record_step w c r) (step.record_step h c r)
   record_stands c true = ended_stands c Ready
@@ -131,24 +130,24 @@ module _ (w : steps.At) (h : Here) (stands : AtStands w h) where
   pub frame_unwound : (s : Frame) (f : tagged_frame.Frame) (o : ℕ) (to : Option ℕ) → FrameStands s f → UnwoundStands (falling.unwind_frame w s o to) (flight.unwind_frame h f o to)
   frame_unwound s f o None frame = (refl, leaves_stand w.shared h.shared w.rest h.rest stands.shared stands.rest stands.bounded)
   frame_unwound s f o (Some to) frame =
-      leaves_stand w.shared h.shared (level.Code (stacks.handling s to o) ∷ w.rest) (level_of_tagged.Code (flight.caught_frame f to o) ∷ h.rest) stands.shared
+      leaves_stand w.shared h.shared (level.Code (stacks.handling s to o) ∷ w.rest) (tagged_level.Code (flight.caught_frame f to o) ∷ h.rest) stands.shared
       (record { method = frame.method; at = refl; regs = frame.regs; result = tt; caught = refl }, stands.rest) stands.bounded
 
   opening_is : (c : ℕ) (ss : List Level) (ls : List tagged_level.Level) → LevelsStand ss ls → falling.is_opening w.image w.thread c ss ≡ flight.is_opening h.image h.thread c ls
   opening_is c [] [] all = refl
   opening_is c [] (l ∷ ls) all = absurd all
   opening_is c (s ∷ ss) [] all = absurd all
-  opening_is c (level.Init d r ∷ ss) (level_of_tagged.Init e q ∷ ls) all = refl
-  opening_is c (level.Init d r ∷ ss) (level_of_tagged.Code f ∷ ls) all = absurd all.0
-  opening_is c (level.Code s ∷ ss) (level_of_tagged.Init e q ∷ ls) all = absurd all.0
-  opening_is c (level.Code s ∷ []) (level_of_tagged.Code f ∷ []) all =
+  opening_is c (level.Init d r ∷ ss) (tagged_level.Init e q ∷ ls) all = refl
+  opening_is c (level.Init d r ∷ ss) (tagged_level.Code f ∷ ls) all = absurd all.0
+  opening_is c (level.Code s ∷ ss) (tagged_level.Init e q ∷ ls) all = absurd all.0
+  opening_is c (level.Code s ∷ []) (tagged_level.Code f ∷ []) all =
       let frame : FrameStands s f = all.0 in
       ap (λ i. flight.is_method_of w.thread c (method_at i s.method.0)) stands.image
       ∙ ap (λ (t : ℕ). flight.is_method_of t c (method_at h.image s.method.0)) stands.thread
       ∙ ap (λ (m : MethodId). flight.is_method_of h.thread c (method_at h.image m.0)) frame.method
-  opening_is c (level.Code s ∷ []) (level_of_tagged.Code f ∷ l ∷ ls) all = absurd all.1
-  opening_is c (level.Code s ∷ t ∷ ss) (level_of_tagged.Code f ∷ []) all = absurd all.1
-  opening_is c (level.Code s ∷ t ∷ ss) (level_of_tagged.Code f ∷ l ∷ ls) all = refl
+  opening_is c (level.Code s ∷ []) (tagged_level.Code f ∷ l ∷ ls) all = absurd all.1
+  opening_is c (level.Code s ∷ t ∷ ss) (tagged_level.Code f ∷ []) all = absurd all.1
+  opening_is c (level.Code s ∷ t ∷ ss) (tagged_level.Code f ∷ l ∷ ls) all = refl
 
   below_by : (a b : Bool) → a ≡ b → LevelsStand (if a then [] else w.rest) (if b then [] else h.rest)
   below_by true true e = tt

@@ -8,7 +8,6 @@ use Rattle.dv_defs.specs.declared.machine.End.{End}
 use Rattle.dv_defs.specs.declared.machine.End.TheVariants as end
 use Rattle.dv_machine.specs.Frame as tagged_frame
 use Rattle.dv_machine.specs.Level as tagged_level
-use Rattle.dv_machine.specs.Level as level_of_tagged
 use Rattle.dv_defs.specs.declared.names.ClassId.{ClassId}
 use Rattle.dv_defs.specs.declared.names.MethodId.{MethodId}
 use Rattle.dv_defs.specs.declared.run.Ending.{Ending}
@@ -107,12 +106,12 @@ module _ (w : WordMachine) (m : Machine) (t : ℕ) (stands : MachineStands w m) 
   moved_stands (Some a) [] [] all = tt
   moved_stands (Some a) [] (l ∷ ls) all = absurd all
   moved_stands (Some a) (s ∷ ss) [] all = absurd all
-  moved_stands (Some a) (level.Init c r ∷ ss) (level_of_tagged.Init d q ∷ ls) all = all
-  moved_stands (Some a) (level.Init c r ∷ ss) (level_of_tagged.Code f ∷ ls) all = absurd all.0
-  moved_stands (Some a) (level.Code s ∷ ss) (level_of_tagged.Init d q ∷ ls) all = absurd all.0
-  moved_stands (Some a) (level.Code s ∷ ss) (level_of_tagged.Code f ∷ ls) all = by (is_exit a.op)
+  moved_stands (Some a) (level.Init c r ∷ ss) (tagged_level.Init d q ∷ ls) all = all
+  moved_stands (Some a) (level.Init c r ∷ ss) (tagged_level.Code f ∷ ls) all = absurd all.0
+  moved_stands (Some a) (level.Code s ∷ ss) (tagged_level.Init d q ∷ ls) all = absurd all.0
+  moved_stands (Some a) (level.Code s ∷ ss) (tagged_level.Code f ∷ ls) all = by (is_exit a.op)
     where
-      by : (b : Bool) → LevelsStand (if b then level.Code (record s { at = a.next }) ∷ ss else level.Code s ∷ ss) (if b then level_of_tagged.Code (record f { at = a.next }) ∷ ls else level_of_tagged.Code f ∷ ls)
+      by : (b : Bool) → LevelsStand (if b then level.Code (record s { at = a.next }) ∷ ss else level.Code s ∷ ss) (if b then tagged_level.Code (record f { at = a.next }) ∷ ls else tagged_level.Code f ∷ ls)
       by true = let frame : FrameStands s f = all.0 in (record { method = frame.method; at = refl; regs = frame.regs; result = frame.result; caught = frame.caught }, all.1)
       by false = all
 
@@ -195,17 +194,17 @@ module _ (image : Image) (w : WordMachine) (m : Machine) (t : ℕ) (image_fits :
       subst (λ (a : Option statics.At). After (over.step_at image w t x own s ss a) n) (sym same)
       (at_by own s f ss ls (fetch image f.method.0 f.at) frame rest small (λ y found. let good = operations f.method.0 f.at y found in (good.0, good.1, made y found)) is)
 
-  living_by : (ss : List Level) (ls : List tagged_level.Level) → LevelsStand ss ls → TopFits ss → ((f : tagged_frame.Frame) (ks : List tagged_level.Level) (y : statics.At) → ls ≡ level_of_tagged.Code f ∷ ks → fetch image f.method.0 f.at ≡ Some y → PutsInMade m.shared.heap f.regs y.op) → step.step_living image m t th ls ≡ Ok n → After (over.step_living image w t x ss) n
+  living_by : (ss : List Level) (ls : List tagged_level.Level) → LevelsStand ss ls → TopFits ss → ((f : tagged_frame.Frame) (ks : List tagged_level.Level) (y : statics.At) → ls ≡ tagged_level.Code f ∷ ks → fetch image f.method.0 f.at ≡ Some y → PutsInMade m.shared.heap f.regs y.op) → step.step_living image m t th ls ≡ Ok n → After (over.step_living image w t x ss) n
   living_by [] [] all small made is = same_state is
   living_by [] (l ∷ ls) all small made is = absurd all
   living_by (s ∷ ss) [] all small made is = absurd all
-  living_by (level.Init c r ∷ ss) (level_of_tagged.Code f ∷ ls) all small made is = absurd all.0
-  living_by (level.Code s ∷ ss) (level_of_tagged.Init d q ∷ ls) all small made is = absurd all.0
-  living_by (level.Code s ∷ ss) (level_of_tagged.Code f ∷ ls) all small made is =
+  living_by (level.Init c r ∷ ss) (tagged_level.Code f ∷ ls) all small made is = absurd all.0
+  living_by (level.Code s ∷ ss) (tagged_level.Init d q ∷ ls) all small made is = absurd all.0
+  living_by (level.Code s ∷ ss) (tagged_level.Code f ∷ ls) all small made is =
       let frame : FrameStands s f = all.0 in
       subst (λ (own : Option Method). After (over.step_code image w t x s ss own) n) (sym (ap (λ (k : MethodId). method_at image k.0) frame.method))
       (code_by s f ss ls (method_at image f.method.0) frame all.1 small (λ y found. made f ls y refl found) is)
-  living_by (level.Init c r ∷ ss) (level_of_tagged.Init d q ∷ ls) all small made is =
+  living_by (level.Init c r ∷ ss) (tagged_level.Init d q ∷ ls) all small made is =
       let there = here_stands step.no_method over.no_frame step.no_frame ss ls 0 no_frames all.1 no_frame_fits in
       subst (λ (k : ClassId). After (over.settled image w t x None (over.record_step (over.here image w t step.no_method over.no_frame ss 0) k.0 r)) n) (sym all.0.0)
       (subst (λ (b : Bool). After (over.settled image w t x None (over.record_step (over.here image w t step.no_method over.no_frame ss 0) d.0 b)) n) (sym all.0.1)
@@ -215,9 +214,9 @@ module _ (image : Image) (w : WordMachine) (m : Machine) (t : ℕ) (image_fits :
   flight_by o [] [] all small is = same_state is
   flight_by o [] (l ∷ ls) all small is = absurd all
   flight_by o (s ∷ ss) [] all small is = absurd all
-  flight_by o (level.Init c r ∷ ss) (level_of_tagged.Code f ∷ ls) all small is = absurd all.0
-  flight_by o (level.Code s ∷ ss) (level_of_tagged.Init d q ∷ ls) all small is = absurd all.0
-  flight_by o (level.Code s ∷ ss) (level_of_tagged.Code f ∷ ls) all small is =
+  flight_by o (level.Init c r ∷ ss) (tagged_level.Code f ∷ ls) all small is = absurd all.0
+  flight_by o (level.Code s ∷ ss) (tagged_level.Init d q ∷ ls) all small is = absurd all.0
+  flight_by o (level.Code s ∷ ss) (tagged_level.Code f ∷ ls) all small is =
       let frame : FrameStands s f = all.0 in
       let there = here_stands step.no_method s f ss ls 0 frame all.1 small in
       let catchers = handlers_at image f.method.0 f.at in
@@ -226,12 +225,12 @@ module _ (image : Image) (w : WordMachine) (m : Machine) (t : ℕ) (image_fits :
       ap (falling.handler_for image w.shared.heap o) same ∙ handler_is (over.here image w t step.no_method s ss 0) (step.here image m t step.no_method f ls 0) there image o catchers in
       subst (λ (k : Option ℕ). After (over.settled_flight w t x (falling.unwind_frame (over.here image w t step.no_method s ss 0) s o k)) n) (sym to)
       (settled_flight_stands w m t stands fit.bounded x th one (over.here image w t step.no_method s ss 0) (step.here image m t step.no_method f ls 0) there _ _ n (frame_unwound (over.here image w t step.no_method s ss 0) (step.here image m t step.no_method f ls 0) there s f o (flight.handler_for image m.shared.heap o catchers) frame) is)
-  flight_by o (level.Init c r ∷ ss) (level_of_tagged.Init d q ∷ ls) all small is =
+  flight_by o (level.Init c r ∷ ss) (tagged_level.Init d q ∷ ls) all small is =
       let there = here_stands step.no_method over.no_frame step.no_frame ss ls 0 no_frames all.1 no_frame_fits in
       subst (λ (k : ClassId). After (over.settled_flight w t x (falling.unwind_record (over.here image w t step.no_method over.no_frame ss 0) k.0 o)) n) (sym all.0.0)
       (settled_flight_stands w m t stands fit.bounded x th one (over.here image w t step.no_method over.no_frame ss 0) (step.here image m t step.no_method step.no_frame ls 0) there _ _ n (record_unwound (over.here image w t step.no_method over.no_frame ss 0) (step.here image m t step.no_method step.no_frame ls 0) there d.0 o) is)
 
-  end_by : (a b : End) → a ≡ b → TopFits x.levels → (b ≡ end.Living → (f : tagged_frame.Frame) (ks : List tagged_level.Level) (y : statics.At) → th.levels ≡ level_of_tagged.Code f ∷ ks → fetch image f.method.0 f.at ≡ Some y → PutsInMade m.shared.heap f.regs y.op) → step.step_thread image m t th b ≡ Ok n → After (over.step_thread image w t x a) n
+  end_by : (a b : End) → a ≡ b → TopFits x.levels → (b ≡ end.Living → (f : tagged_frame.Frame) (ks : List tagged_level.Level) (y : statics.At) → th.levels ≡ tagged_level.Code f ∷ ks → fetch image f.method.0 f.at ≡ Some y → PutsInMade m.shared.heap f.regs y.op) → step.step_thread image m t th b ≡ Ok n → After (over.step_thread image w t x a) n
   end_by a end.Living same small made is = subst (λ (e : End). After (over.step_thread image w t x e) n) (sym same) (living_by x.levels th.levels one.levels small (made refl) is)
   end_by a (end.Flying o) same small made is = subst (λ (e : End). After (over.step_thread image w t x e) n) (sym same) (flight_by o x.levels th.levels one.levels small is)
   end_by a end.Returned same small made is = subst (λ (e : End). After (over.step_thread image w t x e) n) (sym same) (same_state is)

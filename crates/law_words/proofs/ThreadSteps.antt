@@ -6,7 +6,6 @@ use Rattle.std.specs.Option.{option_map}
 use Rattle.dv_defs.specs.declared.machine.End.{End}
 use Rattle.dv_defs.specs.declared.machine.End.TheVariants as end
 use Rattle.dv_machine.specs.Kind as tagged_kind
-use Rattle.dv_machine.specs.Kind as kind_of_tagged
 use Rattle.dv_machine.specs.Level as level_of_tagged
 use Rattle.dv_defs.specs.declared.run.Limits.{Limits}
 use Rattle.dv_defs.specs.declared.run.Named.TheVariants as named
@@ -56,10 +55,10 @@ entered_stands m ws xs p are =
 
 pub class_by : (image : Image) (k : Option tagged_kind.Kind) → over.class_of_kind image (option_map erased_kind k) ≡ calls.class_of_kind image k
 class_by image None = refl
-class_by image (Some (kind_of_tagged.Object c)) = refl
-class_by image (Some (kind_of_tagged.Array t)) = refl
-class_by image (Some (kind_of_tagged.Str s)) = refl
-class_by image (Some (kind_of_tagged.ClassOf t)) = refl
+class_by image (Some (tagged_kind.Object c)) = refl
+class_by image (Some (tagged_kind.Array t)) = refl
+class_by image (Some (tagged_kind.Str s)) = refl
+class_by image (Some (tagged_kind.ClassOf t)) = refl
 
 -- ---- threads
 
