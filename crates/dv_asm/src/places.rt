@@ -6,6 +6,7 @@ ghost use Rattle.dv_asm.specs.First.{when};
 ghost use Rattle.dv_asm.specs.Items.{item_at, is_named};
 ghost use Rattle.dv_asm.specs.Places.{leads_to_payload, place_of, label_address, distance, address_of, AreAddresses, AreFirstLabels};
 
+use crate::items::{is_label, is_payload, size};
 use dv_defs::Text;
 use dv_draft::{Item, What};
 use indexmap::IndexMap;
@@ -45,8 +46,8 @@ fn lead_to_payloads(alloc: Global, items: &[Item]) -> Result<Vec<bool>, AllocErr
     let mut leading = vec![in alloc; false; items.len()]?;
     let mut leads = false;
     for k in (0..items.len()).rev() {
-        if !items[k].is_label() {
-            leads = items[k].is_payload();
+        if !is_label(&items[k]) {
+            leads = is_payload(&items[k]);
         }
         leading[k] = leads;
     }
@@ -71,7 +72,7 @@ fn addresses(alloc: Global, items: &[Item]) -> Result<Vec<u64>, AllocError>
     for k in 0..items.len() {
         let address = aligned(end, leading[k]);
         addresses.push(address)?;
-        end = address + items[k].size();
+        end = address + size(&items[k]);
         if end >= TOO_MANY {
             return Err(AllocError);
         }

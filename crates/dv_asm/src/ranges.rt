@@ -4,6 +4,7 @@ ghost use Rattle.dv_defs.specs.Spelling.{fits_signed};
 ghost use Rattle.dv_defs.specs.Formats.{offset_bits};
 ghost use Rattle.dv_asm.specs.Refusals.{with_operands, is_over_registers, register_range, register_range_at, offset_fits, is_over_offset, offset_range, offset_range_at, too_long, too_long_at};
 
+use crate::items::size;
 use crate::lines::{first_line, when};
 use crate::places::Places;
 use dv_defs::{Insn, Text};
@@ -91,7 +92,7 @@ impl Places<'_> {
     {
         let item = self.item(k);
         let address = self.address_of(k);
-        let passes = address <= LIMIT && address + item.size() > LIMIT;
+        let passes = address <= LIMIT && address + size(item) > LIMIT;
         when(passes, item.line)
     }
 

@@ -9,6 +9,7 @@ ghost use Rattle.dv_asm.specs.Places.{address_named_by};
 ghost use Rattle.dv_asm.specs.Refusals.{is_address, is_payload_at, is_repeated, stands_payload, switch_of, repeated, repeated_at};
 ghost use Rattle.dv_asm.specs.Switches.{AreFirstSwitches, ArePayloadAddresses};
 
+use crate::items::{is_payload, label_of_switch};
 use crate::labels::is_place;
 use crate::lines::{first_line, when};
 use crate::places::Places;
@@ -22,7 +23,7 @@ impl Places<'_> {
     fn address_named_by(&self, item: &Item) -> Option<u64>
         ensures { result ≡ address_named_by self.now item.now }
     {
-        match item.label_of_switch() {
+        match label_of_switch(item) {
             Some(name) => Some(self.label_address(name)),
             None => None,
         }
@@ -66,7 +67,7 @@ impl Places<'_> {
         ensures { OnOk result ((address : ℕ) → contains nat_eq payloads.new address
             ≡ contains nat_eq payloads.old address || is_payload_at self.now address k) }
     {
-        if self.item(k).is_payload() {
+        if is_payload(self.item(k)) {
             payloads.insert(self.address_of(k))?;
         }
         Ok(())
