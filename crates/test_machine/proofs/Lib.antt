@@ -1,16 +1,2 @@
--- That the examples compute to what they ask.
-pub mod Formats
-pub mod Numbers
-pub mod Verifying
-pub mod Typing
-pub mod Statics
-pub mod Objects
-pub mod Exceptions
-pub mod Classes
-pub mod Threads
-pub mod Limits
-pub mod Stuck
-pub mod Seeded
-pub mod Checking
+pub mod Computed
 pub mod Linked
-mod Facts

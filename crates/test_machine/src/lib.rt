@@ -16,73 +16,73 @@ ghost use Rattle.test_machine.specs.Seeded.{SeededRuns};
 ghost use Rattle.test_machine.specs.Linked.{ExamplesAreLinked, ExamplesAreAccepted};
 
 /// That units and instructions belong together, format by format; it does nothing.
-#[tactic(auto, using(crate::proofs::Formats::formats))]
+#[tactic(auto, using(crate::proofs::Computed::Formats::formats))]
 pub fn formats()
     ensures examples { Formats }
 {}
 
 /// That numbers and branches are computed as they should be; it does nothing.
-#[tactic(auto, using(crate::proofs::Numbers::numbers))]
+#[tactic(auto, using(crate::proofs::Computed::Numbers::numbers))]
 pub fn numbers()
     ensures examples { Numbers }
 {}
 
 /// That methods are accepted and refused as they should be; it does nothing.
-#[tactic(auto, using(crate::proofs::Verifying::verifying))]
+#[tactic(auto, using(crate::proofs::Computed::Verifying::verifying))]
 pub fn verifying()
     ensures examples { Verifying }
 {}
 
 /// That each typing rule is told where it is broken; it does nothing.
-#[tactic(auto, using(crate::proofs::Typing::typing_rules))]
+#[tactic(auto, using(crate::proofs::Computed::Typing::typing_rules))]
 pub fn typing_rules()
     ensures examples { TypingRules }
 {}
 
 /// That each static rule is told where it is broken; it does nothing.
-#[tactic(auto, using(crate::proofs::Statics::static_rules))]
+#[tactic(auto, using(crate::proofs::Computed::Statics::static_rules))]
 pub fn static_rules()
     ensures examples { StaticRules }
 {}
 
 /// That objects, calls and strings behave as they should; it does nothing.
-#[tactic(auto, using(crate::proofs::Objects::objects))]
+#[tactic(auto, using(crate::proofs::Computed::Objects::objects))]
 pub fn objects()
     ensures examples { Objects }
 {}
 
 /// That exceptions and handlers behave as they should; it does nothing.
-#[tactic(auto, using(crate::proofs::Exceptions::exceptions))]
+#[tactic(auto, using(crate::proofs::Computed::Exceptions::exceptions))]
 pub fn exceptions()
     ensures examples { Exceptions }
 {}
 
 /// That classes are initialised as they should be; it does nothing.
-#[tactic(auto, using(crate::proofs::Classes::initialising))]
+#[tactic(auto, using(crate::proofs::Computed::Classes::initialising))]
 pub fn initialising()
     ensures examples { Initialising }
 {}
 
 /// That threads and monitors behave as they should; it does nothing.
-#[tactic(auto, using(crate::proofs::Threads::threads))]
+#[tactic(auto, using(crate::proofs::Computed::Threads::threads))]
 pub fn threads()
     ensures examples { Threads }
 {}
 
 /// That runs stop at their limits and not before; it does nothing.
-#[tactic(auto, using(crate::proofs::Limits::stops))]
+#[tactic(auto, using(crate::proofs::Computed::Limits::stops))]
 pub fn stops()
     ensures examples { Stops }
 {}
 
 /// That the machine is stuck where it should be, on code that the verifier refuses; it does nothing.
-#[tactic(auto, using(crate::proofs::Stuck::stuck_reasons))]
+#[tactic(auto, using(crate::proofs::Computed::Stuck::stuck_reasons))]
 pub fn stuck_reasons()
     ensures examples { StuckReasons }
 {}
 
 /// That a seeded run has the log that its words pick; it does nothing.
-#[tactic(auto, using(crate::proofs::Seeded::seeded_runs))]
+#[tactic(auto, using(crate::proofs::Computed::Seeded::seeded_runs))]
 pub fn seeded_runs()
     ensures examples { SeededRuns }
 {}

@@ -18,12 +18,12 @@ use Rattle.test_machine.proofs.Linked.Threads.{waiting_program_is_linked, boxing
 use Rattle.test_machine.proofs.Linked.Limits.{fitting_is_linked, filling_is_linked, deep_is_linked, deeper_is_linked, wide_is_linked, wider_is_linked, looping_is_linked, printing_is_linked, starting_is_linked}
 use Rattle.test_machine.proofs.Linked.Stuck.{undefined_is_linked, broken_is_linked, half_is_linked, uninitialised_is_linked, reference_is_linked, number_is_linked, mixing_is_linked, resultless_is_linked, uncaught_program_is_linked, falls_off_is_linked, twice_is_linked}
 use Rattle.test_machine.proofs.Linked.Seeded.{four_steps_is_linked, two_threads_is_linked}
-use Rattle.test_machine.proofs.Numbers.{numbers}
-use Rattle.test_machine.proofs.Verifying.{verifying}
-use Rattle.test_machine.proofs.Objects.{objects}
-use Rattle.test_machine.proofs.Exceptions.{exceptions}
-use Rattle.test_machine.proofs.Classes.{initialising}
-use Rattle.test_machine.proofs.Threads.{threads}
+use Rattle.test_machine.proofs.Computed.Numbers.{numbers}
+use Rattle.test_machine.proofs.Computed.Verifying.{verifying}
+use Rattle.test_machine.proofs.Computed.Objects.{objects}
+use Rattle.test_machine.proofs.Computed.Exceptions.{exceptions}
+use Rattle.test_machine.proofs.Computed.Classes.{initialising}
+use Rattle.test_machine.proofs.Computed.Threads.{threads}
 
 -- a proof for each image of a list, side by side
 abbrev Each : (Image → Type 0) → List Image → Type 0

@@ -1,4 +1,4 @@
-use Rattle.test_machine.proofs.Classes as facts
+use Rattle.test_machine.proofs.Computed.Classes as facts
 use Rattle.test_machine.proofs.initialising.Goals as goal
 
 pub returns : goal.returns

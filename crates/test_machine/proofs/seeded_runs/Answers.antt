@@ -1,4 +1,4 @@
-use Rattle.test_machine.proofs.Seeded as facts
+use Rattle.test_machine.proofs.Computed.Seeded as facts
 use Rattle.test_machine.proofs.seeded_runs.Goals as goal
 
 pub returns : goal.returns

@@ -1,4 +1,4 @@
--- Examples: objects, calls and strings.
+-- Examples: class initialisation.
 use Rattle.std.specs.Prelude.{refl}
 use Rattle.std.specs.Fmt.{digits}
 use Rattle.dv_defs.specs.Formats.{format_at, is_float}
@@ -11,9 +11,9 @@ use Rattle.dv_typing.specs.Flow.{handlers_at}
 use Rattle.dv_defs.specs.Common.{common_super}
 use Rattle.dv_typing.specs.Accepting.{static_places}
 use Rattle.dv_machine.specs.Calls.{dispatch}
-use Rattle.test_machine.specs.Objects.{Objects, arrays, calling, texts}
-use Rattle.test_machine.proofs.Checking.{accepted_by}
+use Rattle.test_machine.specs.Classes.{Initialising, crossing, failing}
+use Rattle.test_machine.proofs.Computed.Checking.{accepted_by}
 
-pub objects : Objects
+pub initialising : Initialising
 unfolding digits class_named method_at field_at nearest initialiser sub instance assignable fits code_at fetch handlers_at dispatch format_at write_type write_two common_super static_places is_float
-objects = record { calls_find_the_nearest = refl; interface_is_lacking = refl; method_is_lacking = refl; receiver_is_null = refl; fields_keep_low_bits = refl; cast_fails = refl; calling_is_accepted = accepted_by calling refl; arrays_are_accepted = accepted_by arrays refl; elements_and_index = refl; fill_is_too_long = refl; store_is_tested = refl; size_is_negative = refl; null_goes_first = refl; booleans_keep_one_bit = refl; texts_are_accepted = accepted_by texts refl; builder_and_stream = refl; literals_are_one = refl; units_as_bytes = refl }
+initialising = record { each_waits_for_the_other = refl; one_goes_first = refl; stops_early = refl; past_the_end = refl; not_runnable = refl; not_there = refl; crossing_is_accepted = accepted_by crossing refl; initialiser_throws = refl; failing_is_accepted = accepted_by failing refl; superclass_goes_first = refl; main_never_runs = refl }

@@ -1,4 +1,4 @@
--- Examples: what the verifier accepts and refuses, with address and rule.
+-- Examples: numbers and branches.
 use Rattle.std.specs.Prelude.{refl}
 use Rattle.std.specs.Fmt.{digits}
 use Rattle.dv_defs.specs.Formats.{format_at, is_float}
@@ -11,9 +11,9 @@ use Rattle.dv_typing.specs.Flow.{handlers_at}
 use Rattle.dv_defs.specs.Common.{common_super}
 use Rattle.dv_typing.specs.Accepting.{static_places}
 use Rattle.dv_machine.specs.Calls.{dispatch}
-use Rattle.test_machine.specs.Verifying.{Verifying, boot_alone, inner, null_and_zero, one_a_turn, written}
-use Rattle.test_machine.proofs.Checking.{accepted_by}
+use Rattle.test_machine.specs.Numbers.{Numbers, adding, switching}
+use Rattle.test_machine.proofs.Computed.Checking.{accepted_by}
 
-pub verifying : Verifying
+pub numbers : Numbers
 unfolding digits class_named method_at field_at nearest initialiser sub instance assignable fits code_at fetch handlers_at dispatch format_at write_type write_two common_super static_places is_float
-verifying = record { boot_bodies = accepted_by boot_alone refl; merge_of_unwritten = refl; merge_of_written = accepted_by written refl; written_runs = refl; half_overwritten = refl; zero_is_both = accepted_by null_and_zero refl; null_is_no_instance = refl; computed_zero_is_an_int = refl; two_of_one_new_instance = refl; one_object_a_turn = accepted_by one_a_turn refl; one_object_a_turn_runs = refl; own_field_before_super = accepted_by inner refl; no_call_before_super = refl }
+numbers = record { sum_wraps = refl; sum_is_accepted = accepted_by adding refl; division_throws = refl; long_is_whole = refl; longs_are_computed = refl; shifts_keep_low_bits = refl; narrow_conversions = refl; switch_takes_its_case = refl; switch_is_accepted = accepted_by switching refl; sparse_switch_takes_its_case = refl }

@@ -1,4 +1,4 @@
--- Examples: threads and monitors.
+-- Examples: what the verifier accepts and refuses, with address and rule.
 use Rattle.std.specs.Prelude.{refl}
 use Rattle.std.specs.Fmt.{digits}
 use Rattle.dv_defs.specs.Formats.{format_at, is_float}
@@ -11,9 +11,9 @@ use Rattle.dv_typing.specs.Flow.{handlers_at}
 use Rattle.dv_defs.specs.Common.{common_super}
 use Rattle.dv_typing.specs.Accepting.{static_places}
 use Rattle.dv_machine.specs.Calls.{dispatch}
-use Rattle.test_machine.specs.Threads.{Threads, boxing, summing, waiting_program}
-use Rattle.test_machine.proofs.Checking.{accepted_by}
+use Rattle.test_machine.specs.Verifying.{Verifying, boot_alone, inner, null_and_zero, one_a_turn, written}
+use Rattle.test_machine.proofs.Computed.Checking.{accepted_by}
 
-pub threads : Threads
+pub verifying : Verifying
 unfolding digits class_named method_at field_at nearest initialiser sub instance assignable fits code_at fetch handlers_at dispatch format_at write_type write_two common_super static_places is_float
-threads = record { waiting_is_accepted = accepted_by waiting_program refl; wait_keeps_the_count = refl; wait_without_the_monitor = refl; waits_forever = refl; joins_an_ended_thread = refl; joins_itself = refl; holds_what_the_other_enters = refl; producer_and_consumer = refl; boxing_is_accepted = accepted_by boxing refl; threads_sum_up = refl; summing_is_accepted = accepted_by summing refl }
+verifying = record { boot_bodies = accepted_by boot_alone refl; merge_of_unwritten = refl; merge_of_written = accepted_by written refl; written_runs = refl; half_overwritten = refl; zero_is_both = accepted_by null_and_zero refl; null_is_no_instance = refl; computed_zero_is_an_int = refl; two_of_one_new_instance = refl; one_object_a_turn = accepted_by one_a_turn refl; one_object_a_turn_runs = refl; own_field_before_super = accepted_by inner refl; no_call_before_super = refl }
