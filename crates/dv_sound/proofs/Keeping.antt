@@ -1,5 +1,5 @@
 -- What a machine keeps: its log leads to where its engine stands.
-use Rattle.std.proofs.Common.{◌≡◌, ◌≢◌, ◌≤◌, ℕ, suc, true, Option, Some, None, Ok, Err, Result, List, [], ◌∷◌, All, refl, sym, ap, ◌∙◌, subst}
+use Rattle.std.proofs.Common.{◌≡◌, ◌≢◌, ◌≤◌, ℕ, suc, Bool, true, false, Option, Some, None, Ok, Err, Result, List, [], ◌∷◌, All, refl, sym, ap, ◌∙◌, subst}
 use Rattle.std.specs.Prelude.{IfOk, OnErr, is_none, length}
 use Rattle.std.proofs.lemmas.Bool.{and_from}
 use Rattle.std.proofs.lemmas.List.Elements.{All-nil}
@@ -25,11 +25,12 @@ use Rattle.dv_threads.specs.Kept.{threads_of}
 use Rattle.dv_core.specs.declared.vm.Vm.{Vm}
 use Rattle.dv_core.specs.Machines.{machine_of}
 use Rattle.dv_core.proofs.Waits.{many}
-use Rattle.dv_sound.specs.Moves.{IsKeptAt, IsTurn, KeepsLocals, StandsAt, may_step}
+use Rattle.dv_sound.specs.Moves.{IsKeptAt, IsTurn, KeepsOthers, StandsAt, may_step}
 use Rattle.dv_sound.specs.declared.error.ReplayError.{ReplayError}
 use Rattle.dv_sound.specs.Replays.{IsLedToEnd, IsRefused, StopsBefore}
 use Rattle.dv_sound.specs.Runs.{IsAt, IsAtSome, IsKept, IsOpened, IsSameRun, IsTurned, MayTurn, Run, TurnedFrom, logged}
 use Rattle.dv_sound.proofs.Going.{may_parts}
+use Rattle.dv_sound.proofs.Others.{stays_local}
 
 none_stopped : (image : Image) (m : Machine) → ending_of image m ≡ None → m.stop ≡ None
 none_stopped image m e = by m.stop refl
@@ -89,7 +90,7 @@ module _ (image : Image) (main : MethodId) (v : Vm) (log : List Entry) (lent : L
     replayed = ap (replay image k.has_main.method v.limits) logs ∙ led;
   }
 
-  module _ (home : All (λ (u : ℕ). u ≢ t) lent) (others : KeepsLocals image t v new) where
+  module _ (home : All (λ (u : ℕ). u ≢ t) lent) (others : KeepsOthers t v new) where
     pub kept_turn : IsKept image main new (logged log worker t n) lent
     kept_turn = record {
       has_main = k.has_main;
@@ -104,7 +105,7 @@ module _ (image : Image) (main : MethodId) (v : Vm) (log : List Entry) (lent : L
         stays : (u : ℕ) → u ≢ t → next_is_local image k.machine u ≡ true → next_is_local image turned.after u ≡ true
         stays u ne e =
             sym (next_is_alike image k.typings (machine_of new) turned.after u turned.stands.simulated) ∙
-            others u ne (next_is_alike image k.typings (machine_of v) k.machine u k.stands.simulated ∙ e)
+            stays_local image t u v new others ne (next_is_alike image k.typings (machine_of v) k.machine u k.stands.simulated ∙ e)
 
 -- ---- what is said of a machine
 
@@ -168,6 +169,15 @@ module _ (r : Run) (v new : Vm) (log : List Entry) (k : IsKept r.verified.image 
   run_may t main m at may =
       subst (λ (x : Machine). may_step r.verified.image x t ≡ true) (sym (machine_is r v k same main m at))
       (and_from (is_none (ending_of r.verified.image m)) (runnable r.verified.image m t) (ap is_none may.goes_on) may.runs)
+
+  pub run_held : (t : ℕ) → All (λ (u : ℕ). u ≢ t) r.lent → (main : Method) (m : Machine) → IsAt r main m → (MayTurn r m t → ⊥) → may_step r.verified.image k.machine t ≡ false
+  run_held t home main m at held = by (may_step r.verified.image k.machine t) refl
+    where
+      by : (b : Bool) → may_step r.verified.image k.machine t ≡ b → may_step r.verified.image k.machine t ≡ false
+      by false is = is
+      by true is =
+          let parts = may_parts r.verified.image k.machine t is in
+          absurd (held (subst (λ (x : Machine). MayTurn r x t) (machine_is r v k same main m at) (record { goes_on = parts.0; runs = parts.1; at_home = home })))
 
   pub run_same : new.limits ≡ v.limits → IsSameRun r (run_with r new log)
   run_same limits = record { verified = refl; main = refl; limits = limits ∙ ap (λ (w : WordMachine). w.limits) same; lent = refl }

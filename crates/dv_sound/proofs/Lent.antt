@@ -1,8 +1,8 @@
 -- A machine that lends threads, and to which slices of their steps come back.
-use Rattle.std.proofs.Common.{◌≡◌, ◌≢◌, ◌++◌, ℕ, zero, suc, true, false, Option, Some, None, List, [], ◌∷◌, All, length, refl, sym, ap, ◌∙◌, subst}
+use Rattle.std.proofs.Common.{◌≡◌, ◌≢◌, ◌++◌, ℕ, zero, suc, Bool, true, false, Option, Some, None, List, [], ◌∷◌, All, length, refl, sym, ap, ◌∙◌, subst}
 use Rattle.std.specs.Prelude.{◌&&◌, IsSome, ◌↔◌, is_none, nat_eq, not, slice_get}
-use Rattle.std.proofs.lemmas.Bool.{and_from, and_parts, eq-eqb, true≢false}
-use Rattle.std.proofs.lemmas.List.Elements.{All-append, All-cons, All-filter, All-nil, filter_passes}
+use Rattle.std.proofs.lemmas.Bool.{and_from, and_parts, eq-eqb, eqb-true, true≢false}
+use Rattle.std.proofs.lemmas.List.Elements.{All-append, All-cons, All-filter, All-head, All-nil, All-tail, filter_passes}
 use Rattle.dv_defs.specs.declared.names.MethodId.{MethodId}
 use Rattle.dv_defs.specs.declared.run.Entry.{Entry}
 use Rattle.dv_defs.specs.declared.run.Limits.{Limits}
@@ -19,11 +19,12 @@ use Rattle.law_engine.proofs.Staying.{next_is_alike}
 use Rattle.dv_core.specs.declared.vm.Vm.{Vm}
 use Rattle.dv_core.specs.Advancing.{running_frame}
 use Rattle.dv_core.specs.Machines.{machine_of}
-use Rattle.dv_sound.specs.Lending.{IsCommitted, IsDone, IsFirstOf, IsLent, IsMade, IsSameProgram, MayLend, committed, logged_some, without}
-use Rattle.dv_sound.specs.Moves.{IsGood, StandsAt, may_step}
+use Rattle.dv_sound.specs.Lending.{IsCommitted, IsDone, IsFirstOf, IsFitting, IsLent, IsMade, IsSameProgram, MayLend, committed, logged_some, without}
+use Rattle.dv_sound.specs.Moves.{FramesStay, IsGood, StandsAt, may_step}
 use Rattle.dv_sound.specs.Runs.{IsAt, IsKept, Run}
 use Rattle.dv_sound.proofs.Going.{may_parts}
 use Rattle.dv_sound.proofs.Keeping.{machine_is, main_is}
+use Rattle.dv_sound.proofs.Others.{frames_stay, stays_local}
 
 -- ---- a thread is lent
 
@@ -112,7 +113,13 @@ module _ (image : Image) (main : MethodId) (v : Vm) (log : List Entry) (lent : L
       stays : (u : ℕ) → u ≢ t → next_is_local image k.machine u ≡ true → next_is_local image d.after u ≡ true
       stays u ne e =
           sym (next_is_alike image k.typings (machine_of new) d.after u d.stands.simulated) ∙
-          d.others u ne (next_is_alike image k.typings (machine_of v) k.machine u k.stands.simulated ∙ e)
+          stays_local image t u v new d.others ne (next_is_alike image k.typings (machine_of v) k.machine u k.stands.simulated ∙ e)
+
+  -- the other threads that are lent stand where they stood
+  pub others_lent : FramesStay (machine_of v) (machine_of new) (without lent t)
+  others_lent =
+      frames_stay image k.typings k.machine t v new (without lent t) k.stands d.others (λ i x l. not_same _ t (filter_passes (λ u. not (nat_eq u t)) lent i x l))
+      (All-filter (λ u. not (nat_eq u t)) (λ (u : ℕ). next_is_local image k.machine u ≡ true) lent k.local)
 
 module _ (r : Run) (v new : Vm) (k : IsKept r.verified.image r.main v r.log r.lent) (same : machine_of v ≡ r.machine) (worker : ℕ) (s : Slice) (n : ℕ) (d : IsDone r.verified.image k.typings k.machine s.thread n v new) (after : List Entry) (home : List ℕ) where
   abbrev pub run_home : Run
@@ -136,3 +143,20 @@ module _ (r : Run) (v new : Vm) (k : IsKept r.verified.image r.main v r.log r.le
 
   pub run_program : IsSameProgram r run_home
   run_program = record { verified = refl; main = refl; limits = d.limits ∙ ap (λ (w : WordMachine). w.limits) same }
+
+-- ---- a slice still fits
+
+member : (P : ℕ → Type 0) (ts : List ℕ) (t : ℕ) → All P ts → (All (λ (u : ℕ). u ≢ t) ts → ⊥) → P t
+member P [] t all some = absurd (some (All-nil _))
+member P (u ∷ ts) t all some = by (nat_eq u t) refl (λ other. member P ts t (All-tail P u ts all) other)
+  where
+    by : (b : Bool) → nat_eq u t ≡ b → ((All (λ (v : ℕ). v ≢ t) ts → ⊥) → P t) → P t
+    by true e rest = subst P (eqb-true u t e) (All-head P u ts all)
+    by false e rest = rest (λ home. some (All-cons (λ (v : ℕ). v ≢ t) u ts (λ same. true≢false (sym (eq-eqb u t same) ∙ e)) home))
+
+-- where its thread is still lent, and the threads that were lent stand where they stood
+pub fits_still : (old new : Run) (s : Slice) → FramesStay old.machine new.machine old.lent → IsFitting old s → (All (λ (t : ℕ). t ≢ s.thread) new.lent → ⊥) → IsFitting new s
+fits_still old new s stay fits lent = record {
+  lent = lent;
+  stands = member (λ t. running_frame (slice_get new.machine.threads t) ≡ running_frame (slice_get old.machine.threads t)) old.lent s.thread stay fits.lent ∙ fits.stands;
+}

@@ -19,3 +19,4 @@ pub mod Counted
 pub mod Slices
 pub mod Lent
 pub mod Made
+pub mod Erased

@@ -103,7 +103,7 @@ module _ (image : Image) (T : Typings) (old new : Vm) (m : Machine) (good : IsGo
         steps = follows.steps;
         stands = stands_by image T new (with_top (machine_of old) t own v ls n) follows.after is within_to follows.simulated ordered;
         limits = ap (λ (w : WordMachine). w.limits) is;
-        others = keeps_run image t n old new own v ls is;
+        others = keeps_run t n old new own v ls is;
       }
     where
       within_to : IsWithin (with_top (machine_of old) t own v ls n)

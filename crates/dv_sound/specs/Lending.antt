@@ -13,7 +13,7 @@ use Rattle.dv_local.specs.declared.slice.Slice.{Slice}
 use Rattle.dv_core.specs.declared.vm.Vm.{Vm}
 use Rattle.dv_core.specs.Advancing.{running_frame}
 use Rattle.dv_core.specs.Machines.{machine_of}
-use Rattle.dv_sound.specs.Moves.{KeepsLocals, StandsAt, may_step}
+use Rattle.dv_sound.specs.Moves.{KeepsOthers, StandsAt, may_step}
 use Rattle.dv_sound.specs.Runs.{IsAt, MayTurn, Run, logged}
 
 -- ---- what is lent
@@ -80,10 +80,10 @@ abbrev pub IsFirstOf : Option Slice → Image → Machine → Vm → ℕ → Typ
 IsFirstOf None image m v t = (may_step image m t && next_is_local image m t) ≡ false
 IsFirstOf (Some s) image m v t = ((may_step image m t && next_is_local image m t) ≡ true) × IsFirst t s × (running_frame (slice_get (machine_of v).threads t) ≡ Some s.start)
 
--- so many steps of a thread were done, and those of the others stay local
+-- so many steps of a thread were done, and the others stand as they stood
 pub record IsDone (image : Image) (T : Typings) (m : Machine) (t n : ℕ) (old new : Vm) : Type 0 where
   pub after : Machine
   pub steps : (k : ℕ) → steps_of image k t n m ≡ Stands after
   pub stands : StandsAt image T new after
   pub limits : new.limits ≡ old.limits
-  pub others : KeepsLocals image t old new
+  pub others : KeepsOthers t old new

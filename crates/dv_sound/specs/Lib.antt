@@ -3,3 +3,4 @@ pub mod Runs
 pub mod Replays
 pub mod Laws
 pub mod Lending
+pub mod Words

@@ -1,5 +1,5 @@
 -- What an engine that stands at a state of the tagged machine comes to.
-use Rattle.std.specs.Prelude.{◌≡◌, ◌≢◌, ◌≤◌, ◌<◌, ◌+◌, ◌^◌, ◌&&◌, ℕ, Bool, true, false, not, List, length, is_none, nat_eq, nat_lt, Result, Ok, Err}
+use Rattle.std.specs.Prelude.{◌≡◌, ◌≢◌, ◌≤◌, ◌<◌, ◌+◌, ◌^◌, ◌&&◌, ℕ, Bool, true, false, not, List, All, length, is_none, nat_eq, nat_lt, Some, Result, Ok, Err, slice_get}
 use Rattle.dv_defs.specs.declared.run.Limits.{Limits}
 use Rattle.dv_defs.specs.Images.{Image}
 use Rattle.dv_machine.specs.Accepted.{Accepted}
@@ -12,11 +12,11 @@ use Rattle.dv_words.specs.declared.state.Frame.{Frame}
 use Rattle.dv_words.specs.declared.state.Level.{Level}
 use Rattle.dv_words.specs.State.{WordMachine, WordThread}
 use Rattle.law_words.specs.StepLaws.{AllKeysRise, StringsFit, with_top}
-use Rattle.law_engine.specs.KeepLaws.{next_is_local_of}
 use Rattle.law_engine.specs.Laws.{IsSimulated}
 use Rattle.law_engine.specs.TurnLaws.{more}
 use Rattle.dv_threads.specs.Kept.{threads_of}
 use Rattle.dv_core.specs.declared.vm.Vm.{Vm}
+use Rattle.dv_core.specs.Advancing.{running_frame}
 use Rattle.dv_core.specs.Guests.{IsOrdered}
 use Rattle.dv_core.specs.Machines.{machine_of}
 
@@ -67,9 +67,13 @@ pub record IsAffordable (steps budget asked most : ℕ) : Type 0 where
 
 -- ---- what it comes to
 
--- the next steps of the other threads stay local
-abbrev pub KeepsLocals : Image → ℕ → Vm → Vm → Type 0
-KeepsLocals image t old new = (u : ℕ) → u ≢ t → next_is_local_of image (machine_of old) u ≡ true → next_is_local_of image (machine_of new) u ≡ true
+-- the other threads stand as they stood
+abbrev pub KeepsOthers : ℕ → Vm → Vm → Type 0
+KeepsOthers t old new = (u : ℕ) (th : WordThread) → u ≢ t → slice_get (machine_of old).threads u ≡ Some th → slice_get (machine_of new).threads u ≡ Some th
+
+-- these threads go on at the frames at which they went on
+abbrev pub FramesStay : WordMachine → WordMachine → List ℕ → Type 0
+FramesStay old new threads = All (λ t. running_frame (slice_get new.threads t) ≡ running_frame (slice_get old.threads t)) threads
 
 -- want of memory: it stands where it stood
 pub record IsKeptAt (image : Image) (T : Typings) (m : Machine) (old new : Vm) : Type 0 where

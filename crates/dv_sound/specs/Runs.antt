@@ -1,5 +1,5 @@
 -- What contracts see of a machine that keeps its log.
-use Rattle.std.specs.Prelude.{◌≡◌, ◌≢◌, ◌<◌, ℕ, true, false, ◌++◌, List, [], ◌∷◌, All, Some, None, Ok}
+use Rattle.std.specs.Prelude.{◌≡◌, ◌≢◌, ◌<◌, ◌⊎◌, ℕ, true, false, ◌++◌, List, [], ◌∷◌, All, Some, None, Ok}
 use Rattle.dv_defs.specs.declared.names.MethodId.{MethodId}
 use Rattle.dv_defs.specs.declared.run.Entry.{Entry}
 use Rattle.dv_defs.specs.declared.run.Limits.{Limits}
@@ -103,6 +103,10 @@ pub record IsReady (r : Run) (m : Machine) (thread : ℕ) : Type 0 where
 -- each runnable thread is lent
 abbrev pub NoneIsReady : Run → Machine → Type 0
 NoneIsReady r m = (u : ℕ) → runnable r.verified.image m u ≡ true → All (λ t. t ≢ u) r.lent → ⊥
+
+-- the run has ended, or none may do a turn for now
+abbrev pub HasStopped : Run → Machine → Type 0
+HasStopped r m = (ending_of r.verified.image m ≢ None) ⊎ NoneIsReady r m
 
 -- ---- runs of the lowest thread
 

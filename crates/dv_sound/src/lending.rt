@@ -1,5 +1,5 @@
 // Threads lent to workers, which do local steps of them outside of the machine.
-ghost use Rattle.std.specs.Prelude.{◌≡◌, ◌≤◌, ◌<◌, ◌&&◌, ◌+◌, ◌↔◌, IfErr, IfOk, IsSome, IsTrue, MatchOption, OnErr, None as Nothing, Some as Just, slice_get, vec_capacity, vec_len};
+ghost use Rattle.std.specs.Prelude.{◌≡◌, ◌≤◌, ◌<◌, ◌&&◌, ◌+◌, ◌↔◌, IfErr, IfOk, IfSome, IsSome, IsTrue, MatchOption, OnErr, None as Nothing, Some as Just, slice_get, vec_capacity, vec_len};
 ghost use Rattle.dv_defs.specs.Pools.{Method};
 ghost use Rattle.dv_machine.specs.Replaying.{next_is_local};
 ghost use Rattle.dv_machine.specs.Running.{ending_of};
@@ -12,7 +12,7 @@ ghost use Rattle.dv_core.specs.Advancing.{running_frame, runs_in, top_frame};
 ghost use Rattle.dv_core.specs.Guests.{IsOrdered};
 ghost use Rattle.dv_core.specs.Machines.{machine_of};
 ghost use Rattle.dv_sound.specs.Moves as moves;
-ghost use Rattle.dv_sound.specs.Moves.{IsGood, StandsAt};
+ghost use Rattle.dv_sound.specs.Moves.{FramesStay, IsGood, StandsAt};
 ghost use Rattle.dv_sound.specs.Lending.{IsCommitted, IsDone, IsFirstOf, IsFitting, IsLent, IsMade, IsSameProgram, MayLend, committed, logged_some, without};
 ghost use Rattle.dv_sound.specs.Runs.{IsAt};
 
@@ -204,10 +204,11 @@ impl<'v> SafeVm<'v> {
         ensures { (main : Method) (m : Machine) → IsAt self.now main m → result ≡ next_is_local self.now.verified.image m thread }
     {
         let verified = self.verified();
-        self.vm().next_is_local(&verified.image, thread)
+        self.engine().next_is_local(&verified.image, thread)
     }
 
-    /// Lends a thread to a worker, which does local steps of it and brings them by `commit`: gives its first slice, with no step. None where
+    /// Lends a thread to a worker, which does local steps of it and brings them by `commit`: gives its first slice, with no step, which `commit`
+    /// takes as more local steps make it longer. None where
     /// the run has ended, the thread isn't runnable, its next step isn't local, or it is lent.
     ///
     /// # Errors
@@ -216,6 +217,7 @@ impl<'v> SafeVm<'v> {
     pub fn lend(&mut self, thread: u32) -> Result<Option<Slice>, AllocError>
         ensures exact { IfOk result (λ o. (main : Method) (m : Machine) → IsAt self.old main m → (IsSome o ↔ MayLend self.old m thread)) }
         ensures lent { IfOk result (λ o. MatchOption o (self.new ≡ self.old) (λ s. IsLent self.old self.new thread s)) }
+        ensures made { IfOk result (λ o. IfSome o (λ s. IsMade self.old.verified.image s)) }
         ensures refused { OnErr result (self.new ≡ self.old) }
     {
         if self.is_lent(thread) {
@@ -237,7 +239,7 @@ impl<'v> SafeVm<'v> {
     pub fn fits(&self, slice: &Slice) -> bool
         ensures { IsTrue result ↔ IsFitting self.now slice.now }
     {
-        self.is_lent(slice.thread) && is_at(self.vm(), slice.thread, &slice.start)
+        self.is_lent(slice.thread) && is_at(self.engine(), slice.thread, &slice.start)
     }
 
     /// Brings the steps of a slice that a worker did: as many are done as the budget has room for, and none where the run has ended; they are
@@ -252,6 +254,7 @@ impl<'v> SafeVm<'v> {
         ensures put_away { IfOk result (λ n. (IsFitting self.old slice → ⊥) → (n ≡ 0) × (self.new ≡ self.old)) }
         ensures few { IfOk result (λ n. n ≤ slice.steps) }
         ensures same { IsSameProgram self.old self.new }
+        ensures lent_stay { FramesStay self.old.machine self.new.machine (without self.old.lent slice.thread) }
         ensures refused { IfErr result (λ e. (e.slice ≡ slice) × (self.new ≡ self.old)) }
     {
         match self.commit_steps(worker, &slice) {
@@ -274,6 +277,7 @@ impl<'v> SafeVm<'v> {
         ensures put_away { IfOk result (λ n. (IsFitting self.old slice.now → ⊥) → (n ≡ 0) × (self.new ≡ self.old)) }
         ensures few { IfOk result (λ n. n ≤ slice.now.steps) }
         ensures same { IsSameProgram self.old self.new }
+        ensures lent_stay { FramesStay self.old.machine self.new.machine (without self.old.lent slice.now.thread) }
         ensures refused { OnErr result (self.new ≡ self.old) }
     {
         if !self.fits(slice) {

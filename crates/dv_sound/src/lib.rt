@@ -12,6 +12,7 @@ mod replay;
 mod running;
 mod safe;
 mod seeded;
+mod words;
 
 pub use error::ReplayError;
 pub use lending::Refused;

@@ -9,7 +9,7 @@ ghost use Rattle.dv_words.specs.State.{WordThread};
 ghost use Rattle.dv_core.specs.Advancing.{RunsFrame};
 ghost use Rattle.dv_core.specs.Machines.{machine_of};
 ghost use Rattle.dv_sound.specs.Moves as moves;
-ghost use Rattle.dv_sound.specs.Moves.{HasRun, IsAffordable, IsGood, IsRun, KeepsLocals, Lasts, StandsAt, Steps, Turns, goes_locally};
+ghost use Rattle.dv_sound.specs.Moves.{HasRun, IsAffordable, IsGood, IsRun, KeepsOthers, Lasts, StandsAt, Steps, Turns, goes_locally};
 
 use dv_core::Vm;
 use dv_defs::Image;
@@ -41,7 +41,7 @@ pub fn may_step(image: &Image, vm: &Vm, thread: u32) -> bool
 /// Want of memory; the engine stands where it stood then.
 pub fn step_on(image: &Image, vm: &mut Vm, thread: u32) -> Result<(), AllocError>
     ensures steps { (T : Typings) (m : Machine) → IsGood image.now T → StandsAt image.now T vm.old m → moves.may_step image.now m thread ≡ true → Steps result image.now T m thread vm.old vm.new }
-    ensures others { (T : Typings) (m : Machine) → IsGood image.now T → StandsAt image.now T vm.old m → moves.may_step image.now m thread ≡ true → KeepsLocals image.now thread vm.old vm.new }
+    ensures others { (T : Typings) (m : Machine) → IsGood image.now T → StandsAt image.now T vm.old m → moves.may_step image.now m thread ≡ true → KeepsOthers thread vm.old vm.new }
 {
     vm.reads_fit(thread);
     vm.step(image, thread)
@@ -66,7 +66,7 @@ pub fn run_on(image: &Image, vm: &mut Vm, thread: u32, most: u32) -> u32
     ensures ran { (T : Typings) (m : Machine) → IsGood image.now T → StandsAt image.now T vm.old m → running.ending_of image.now m ≡ Nothing → IsRun image.now T m thread most result vm.new }
     ensures took { (T : Typings) (m : Machine) → IsGood image.now T → StandsAt image.now T vm.old m → running.ending_of image.now m ≡ Nothing → (own : WordThread) (f : Activation) (ls : List Level) → RunsFrame (machine_of vm.old) thread own f ls →
         HasRun (machine_of vm.old) (machine_of vm.new) thread result own f ls }
-    ensures others { (T : Typings) (m : Machine) → IsGood image.now T → StandsAt image.now T vm.old m → KeepsLocals image.now thread vm.old vm.new }
+    ensures others { (T : Typings) (m : Machine) → IsGood image.now T → StandsAt image.now T vm.old m → KeepsOthers thread vm.old vm.new }
 {
     vm.reads_fit(thread);
     let most = affordable(vm, most);
@@ -81,7 +81,7 @@ pub fn run_on(image: &Image, vm: &mut Vm, thread: u32, most: u32) -> u32
 pub fn last_on(image: &Image, vm: &mut Vm, thread: u32) -> Result<u32, AllocError>
     ensures few { IfOk result (λ n. n ≤ 1) }
     ensures last { (T : Typings) (m : Machine) → IsGood image.now T → StandsAt image.now T vm.old m → Lasts result image.now T m thread vm.old vm.new }
-    ensures others { (T : Typings) (m : Machine) → IsGood image.now T → StandsAt image.now T vm.old m → KeepsLocals image.now thread vm.old vm.new }
+    ensures others { (T : Typings) (m : Machine) → IsGood image.now T → StandsAt image.now T vm.old m → KeepsOthers thread vm.old vm.new }
 {
     if !may_step(image, vm, thread) {
         return Ok(0);
@@ -101,7 +101,7 @@ fn turn_locally(
     ensures few { IfOk result (λ n. n ≤ most) }
     ensures turned { (T : Typings) (m : Machine) → IsGood image.now T → StandsAt image.now T vm.old m → running.ending_of image.now m ≡ Nothing → goes_locally image.now thread m ≡ true →
         Turns result image.now T m thread most vm.old vm.new }
-    ensures others { (T : Typings) (m : Machine) → IsGood image.now T → StandsAt image.now T vm.old m → running.ending_of image.now m ≡ Nothing → goes_locally image.now thread m ≡ true → KeepsLocals image.now thread vm.old vm.new }
+    ensures others { (T : Typings) (m : Machine) → IsGood image.now T → StandsAt image.now T vm.old m → running.ending_of image.now m ≡ Nothing → goes_locally image.now thread m ≡ true → KeepsOthers thread vm.old vm.new }
 {
     let is_kept = vm.keep_top(thread, kept)?;
     if !is_kept {
@@ -135,7 +135,7 @@ pub fn take_turn(
 ) -> Result<u32, AllocError>
     ensures few { IfOk result (λ n. n ≤ most) }
     ensures turned { (T : Typings) (m : Machine) → IsGood image.now T → StandsAt image.now T vm.old m → moves.may_step image.now m thread ≡ true → Turns result image.now T m thread most vm.old vm.new }
-    ensures others { (T : Typings) (m : Machine) → IsGood image.now T → StandsAt image.now T vm.old m → moves.may_step image.now m thread ≡ true → KeepsLocals image.now thread vm.old vm.new }
+    ensures others { (T : Typings) (m : Machine) → IsGood image.now T → StandsAt image.now T vm.old m → moves.may_step image.now m thread ≡ true → KeepsOthers thread vm.old vm.new }
 {
     if most == 0 {
         Ok(0)

@@ -7,12 +7,14 @@ ghost use Rattle.dv_core.specs.Guests.{IsOrdered};
 ghost use Rattle.dv_core.specs.Machines.{machine_of};
 ghost use Rattle.dv_core.specs.Watching.{AreWatchable};
 ghost use Rattle.dv_machine.specs.WellTyped.{Typings};
-ghost use Rattle.dv_sound.specs.Moves.{AreUsable, IsGood, StandsAt, may_step};
+ghost use Rattle.dv_words.specs.Erasure.{erased_machine};
+ghost use Rattle.dv_sound.specs.Moves.{AreUsable, FramesStay, IsGood, StandsAt, may_step};
 ghost use Rattle.dv_machine.specs.Mains.{HasMain};
 ghost use Rattle.dv_sound.specs.Runs.{IsAt, IsAtSome, IsKept, IsOpened, IsReady, IsSameRun, IsTurned, MayTurn, NoneIsReady, TurnedFrom};
 
 use crate::moves::{goes_on, may_step, take_turn};
 use crate::premises::{are_numbers, inits_fit, is_accepted, keys_rise, strings_fit};
+use crate::words::machine_fits;
 use dv_core::Vm;
 use dv_defs::{Ending, Entry, Limits, MethodId, Seq};
 use dv_rules::Verified;
@@ -94,10 +96,13 @@ fn logged_turn(
     ensures kept { (main : MethodId) (lent : List ℕ) → IsKept program.now.image main vm.old log.old.items lent → 1 ≤ most → All (λ t. t ≢ thread) lent → IsKept program.now.image main vm.new log.new.items lent }
     ensures turned { IfOk result (λ n. (main : MethodId) (lent : List ℕ) (k : IsKept program.now.image main vm.old log.old.items lent) → may_step program.now.image k.machine thread ≡ true → 1 ≤ most →
         TurnedFrom program.now.image main vm.old log.old.items lent k worker thread most n vm.new log.new.items) }
+    ensures held { IfOk result (λ n. (main : MethodId) (lent : List ℕ) (k : IsKept program.now.image main vm.old log.old.items lent) → may_step program.now.image k.machine thread ≡ false →
+        (n ≡ 0) × (machine_of vm.new ≡ machine_of vm.old) × (log.new.items ≡ log.old.items)) }
     ensures limits { (main : MethodId) (lent : List ℕ) → IsKept program.now.image main vm.old log.old.items lent → 1 ≤ most → vm.new.limits ≡ vm.old.limits }
     ensures few { IfOk result (λ n. n ≤ most) }
     ensures counted { IfOk result (λ n. (main : MethodId) (lent : List ℕ) → IsKept program.now.image main vm.old log.old.items lent → 1 ≤ most → vm.new.steps ≡ vm.old.steps + n) }
     ensures within { (main : MethodId) (lent : List ℕ) → IsKept program.now.image main vm.old log.old.items lent → 1 ≤ most → vm.new.steps ≤ vm.new.limits.budget }
+    ensures stay { (main : MethodId) (lent : List ℕ) → IsKept program.now.image main vm.old log.old.items lent → 1 ≤ most → All (λ t. t ≢ thread) lent → FramesStay (machine_of vm.old) (machine_of vm.new) lent }
     ensures refused { OnErr result ((main : MethodId) (lent : List ℕ) → IsKept program.now.image main vm.old log.old.items lent → (machine_of vm.new ≡ machine_of vm.old) × (log.new.items ≡ log.old.items)) }
 {
     let image = &program.image;
@@ -141,8 +146,8 @@ impl<'v> SafeVm<'v> {
         })
     }
 
-    /// An engine that a schedule led to where it stands, no thread of which is lent.
-    pub fn standing(
+    /// An engine that a schedule led to where it stands, with these threads lent.
+    pub(crate) fn standing(
         verified: &'v Verified,
         main: MethodId,
         vm: Vm,
@@ -189,12 +194,24 @@ impl<'v> SafeVm<'v> {
     }
 
     /// The engine.
-    pub fn vm(&self) -> &Vm
+    pub(crate) fn engine(&self) -> &Vm
         ensures machine { machine_of result.now ≡ self.now.machine }
         ensures watchable { AreWatchable self.now.verified.image result.now }
         ensures stands { (main : Method) (m : Machine) → IsAt self.now main m → (T : Typings) × IsGood self.now.verified.image T × StandsAt self.now.verified.image T result.now m }
     {
         &self.vm
+    }
+
+    /// The engine: its words are the erasure of the state to which the log leads.
+    pub fn vm(&self) -> &Vm
+        ensures machine { machine_of result.now ≡ self.now.machine }
+        ensures watchable { AreWatchable self.now.verified.image result.now }
+        ensures erased { (main : Method) (m : Machine) → IsAt self.now main m → machine_of result.now ≡ erased_machine m }
+        ensures stands { (main : Method) (m : Machine) → IsAt self.now main m → (T : Typings) × IsGood self.now.verified.image T × StandsAt self.now.verified.image T result.now m }
+    {
+        let vm = self.engine();
+        machine_fits(vm);
+        vm
     }
 
     /// How the run stands: none where it goes on.
@@ -221,10 +238,13 @@ impl<'v> SafeVm<'v> {
     /// Want of memory; all is as before then.
     pub fn turn(&mut self, worker: u32, thread: u32, most: u32) -> Result<u32, AllocError>
         ensures turned { IfOk result (λ n. (main : Method) (m : Machine) → IsAt self.old main m → MayTurn self.old m thread → 1 ≤ most → IsTurned self.old self.new main m worker thread most n) }
+        ensures held { IfOk result (λ n. (main : Method) (m : Machine) → IsAt self.old main m → (MayTurn self.old m thread → ⊥) → (n ≡ 0) × (self.new ≡ self.old)) }
+        ensures none { most ≡ 0 → IfOk result (λ n. (n ≡ 0) × (self.new ≡ self.old)) }
         ensures few { IfOk result (λ n. n ≤ most) }
         ensures counted { IfOk result (λ n. self.new.machine.steps ≡ self.old.machine.steps + n) }
         ensures within { IfOk result (λ n. 1 ≤ n → self.new.machine.steps ≤ self.new.machine.limits.budget) }
         ensures same { IsSameRun self.old self.new }
+        ensures lent_stay { FramesStay self.old.machine self.new.machine self.old.lent }
         ensures refused { OnErr result (self.new ≡ self.old) }
     {
         if most == 0 || self.is_lent(thread) {

@@ -61,9 +61,10 @@ impl<'v> SafeVm<'v> {
     ///
     /// Want of memory; the turns that were done before stand then.
     pub fn seeded(&mut self, seed: u64) -> Result<(), AllocError>
-        ensures done { OnOk result ((main : Method) (m : Machine) → IsAt self.old main m → self.old.log ≡ [] → self.old.lent ≡ [] → log_of_seed self.old.verified.image main self.old.machine.limits seed ≡ Ok self.new.log) }
-        ensures ended { OnOk result ((main : Method) (m : Machine) → self.old.lent ≡ [] → IsAt self.new main m → ending_of self.new.verified.image m ≢ Nothing) }
-        ensures part { OnErr result ((main : Method) (m : Machine) → IsAt self.old main m → self.old.log ≡ [] → self.old.lent ≡ [] → (rest : List Entry) × (log_of_seed self.old.verified.image main self.old.machine.limits seed ≡ Ok (self.new.log ++ rest))) }
+        requires home { self.old.lent ≡ [] }
+        ensures done { OnOk result ((main : Method) (m : Machine) → IsAt self.old main m → self.old.log ≡ [] → log_of_seed self.old.verified.image main self.old.machine.limits seed ≡ Ok self.new.log) }
+        ensures ended { OnOk result ((main : Method) (m : Machine) → IsAt self.new main m → ending_of self.new.verified.image m ≢ Nothing) }
+        ensures part { OnErr result ((main : Method) (m : Machine) → IsAt self.old main m → self.old.log ≡ [] → (rest : List Entry) × (log_of_seed self.old.verified.image main self.old.machine.limits seed ≡ Ok (self.new.log ++ rest))) }
         ensures same { IsSameRun self.old self.new }
     {
         let mut words = Pcg32::seed_from_u64(seed);

@@ -3,7 +3,7 @@ use Rattle.std.specs.Prelude.{slice_get}
 use Rattle.dv_words.specs.declared.state.Frame.{Frame}
 use Rattle.dv_core.specs.Advancing.{running_frame}
 use Rattle.dv_core.specs.Machines.{machine_of}
-use Rattle.dv_sound.specs.Moves.{IsRun, KeepsLocals}
+use Rattle.dv_sound.specs.Moves.{IsRun, KeepsOthers}
 use Rattle.dv_sound.proofs.LocalRuns.{none_ran, some_ran, some_sized}
 use Rattle.dv_sound.proofs.Others.{keeps_run, keeps_same}
 use Rattle.dv_sound.proofs.Turning.{running}
@@ -37,12 +37,12 @@ returns-clause-took c T m good at going own f ls runs =
 pub returns-clause-others : goal.returns-clause-others
 returns-clause-others c T m good at = by (running_frame (slice_get (machine_of c.args.vm.now).threads c.args.thread)) refl
   where
-    by : (o : Option Frame) → running_frame (slice_get (machine_of c.args.vm.now).threads c.args.thread) ≡ o → KeepsLocals c.args.image.now c.args.thread c.args.vm.now c.run.new.self
-    by None e = keeps_same c.args.image.now c.args.thread c.args.vm.now c.run.new.self (c.run.ensures.none at.ordered e).same
+    by : (o : Option Frame) → running_frame (slice_get (machine_of c.args.vm.now).threads c.args.thread) ≡ o → KeepsOthers c.args.thread c.args.vm.now c.run.new.self
+    by None e = keeps_same c.args.thread c.args.vm.now c.run.new.self (c.run.ensures.none at.ordered e).same
     by (Some f) e =
         let r = running (machine_of c.args.vm.now) c.args.thread f e in
         let may = c.affordable-most.ensures.affordable at.spent in
         let room = may.room in
         let most = at.counted in
         let ran = c.run.ensures.ran r.own f r.rest at.ordered r.runs (omega (arith, room, most)) in
-        keeps_run c.args.image.now c.args.thread c.run.result c.args.vm.now c.run.new.self r.own ran.frame r.rest ran.machine
+        keeps_run c.args.thread c.run.result c.args.vm.now c.run.new.self r.own ran.frame r.rest ran.machine

@@ -25,7 +25,7 @@ returns-in-Ok-clause-turned c T m good at going goes =
 pub returns-in-Ok-clause-others : goal.returns-in-Ok-clause-others
 returns-in-Ok-clause-others c T m good at going goes =
     let r = c.run_on-done.ensures.ran T m good at going in
-    keeps_then c.args.image.now c.args.thread c.args.vm.now c.run_on-done.new.vm c.last_on.new.vm (c.run_on-done.ensures.others T m good at) (c.last_on.ensures.others T r.after good r.stands)
+    keeps_then c.args.thread c.args.vm.now c.run_on-done.new.vm c.last_on.new.vm (c.run_on-done.ensures.others T m good at) (c.last_on.ensures.others T r.after good r.stands)
 
 pub returns-in-Err-clause-turned : goal.returns-in-Err-clause-turned
 returns-in-Err-clause-turned c T m good at going goes =
@@ -44,5 +44,5 @@ returns-in-Err-clause-others c T m good at going goes =
     let k = c.in-Err.ensures.last T r.after good r.stands in
     let at_frame = running (machine_of c.args.vm.now) c.args.thread c.keep_top.new.kept (c.in_ok-is_kept.ensures.some at.ordered c.if-not-is_kept.false) in
     let ran = c.run_on-done.ensures.took T m good at going at_frame.own c.keep_top.new.kept at_frame.rest at_frame.runs in
-    keeps_same c.args.image.now c.args.thread c.args.vm.now c.take_back.new.self
+    keeps_same c.args.thread c.args.vm.now c.take_back.new.self
     (c.take_back.ensures.undone (machine_of c.args.vm.now) at_frame.own ran.frame at_frame.rest k.stands.ordered at_frame.runs ran.sized (k.machine ∙ ran.machine))

@@ -22,11 +22,11 @@ returns-in-None-clause-first c =
 pub returns-in-Some-clause-turns : goal.returns-in-Some-clause-turns
 returns-in-Some-clause-turns c =
     on_ok_weaker c.seeded.result (λ done main is.
-    let turns = done main _ (at_opening c.args.run.now main c.requires.0 is) c.requires.0 c.requires.1 in
+    let turns = done main _ (at_opening c.args.run.now main c.requires.0 is) c.requires.0 in
     subst (λ (seed : Option _). AreTurns seed c.args.run.now.verified.image main c.args.run.now.machine.limits c.seeded.new.self.log) (sym c.in-Some.is) turns) c.seeded.ensures.done
 
 pub returns-in-Some-clause-first : goal.returns-in-Some-clause-first
 returns-in-Some-clause-first c =
     on_err_weaker c.seeded.result (λ part main is.
-    let turns = part main _ (at_opening c.args.run.now main c.requires.0 is) c.requires.0 c.requires.1 in
+    let turns = part main _ (at_opening c.args.run.now main c.requires.0 is) c.requires.0 in
     subst (λ (seed : Option _). AreFirstTurns seed c.args.run.now.verified.image main c.args.run.now.machine.limits c.seeded.new.self.log) (sym c.in-Some.is) turns) c.seeded.ensures.part

@@ -4,9 +4,11 @@ use Rattle.dv_defs.specs.Pools.{Method}
 use Rattle.dv_rules.specs.Verified.{VerifiedValue}
 use Rattle.dv_machine.specs.State.{Machine}
 use Rattle.dv_core.specs.Machines.{machine_of}
-use Rattle.dv_sound.specs.Lending.{IsCommitted, IsDone, IsFitting, IsMade, IsSameProgram, committed, logged_some}
+use Rattle.dv_sound.specs.Lending.{IsCommitted, IsDone, IsFitting, IsMade, IsSameProgram, committed, logged_some, without}
+use Rattle.dv_sound.specs.Moves.{FramesStay}
 use Rattle.dv_sound.specs.Runs.{IsAt, Run}
-use Rattle.dv_sound.proofs.Lent.{count_of, done_of, kept_home, run_committed, run_program}
+use Rattle.dv_sound.proofs.Lent.{count_of, done_of, kept_home, others_lent, run_committed, run_program}
+use Rattle.dv_sound.proofs.Others.{frames_same}
 use Rattle.dv_sound.proofs.safe.SafeVm.commit_steps.Goals as goal
 
 -- the calls are told of the image that is kept
@@ -48,3 +50,13 @@ returns-clause-same c =
     let now : Run = record { verified = c.self.inside.verified.now; main = c.self.inside.main; machine = machine_of c.take_steps-steps.new.vm; log = c.log_steps.new.log.items; lent = c.bring_home.new.lent.items } in
     subst (λ (r : Run). IsSameProgram r now) c.self.view_is
     (run_program old c.self.inside.vm c.take_steps-steps.new.vm c.self.invariant refl c.args.worker c.args.slice.now c.take_steps-steps.result (done_here c) c.log_steps.new.log.items c.bring_home.new.lent.items)
+
+pub returns-in_err-reserve-clause-lent_stay : goal.returns-in_err-reserve-clause-lent_stay
+returns-in_err-reserve-clause-lent_stay c =
+    subst (λ (r : Run). FramesStay r.machine (machine_of c.self.inside.vm) (without r.lent c.args.slice.now.thread)) c.self.view_is
+    (frames_same (machine_of c.self.inside.vm) (machine_of c.self.inside.vm) (without c.self.inside.lent.items c.args.slice.now.thread) refl)
+
+pub returns-clause-lent_stay : goal.returns-clause-lent_stay
+returns-clause-lent_stay c =
+    subst (λ (r : Run). FramesStay r.machine (machine_of c.take_steps-steps.new.vm) (without r.lent c.args.slice.now.thread)) c.self.view_is
+    (others_lent c.self.inside.verified.now.image c.self.inside.main c.self.inside.vm c.self.inside.log.items c.self.inside.lent.items c.self.invariant c.args.worker c.args.slice.now.thread c.take_steps-steps.result c.take_steps-steps.new.vm (done_here c))

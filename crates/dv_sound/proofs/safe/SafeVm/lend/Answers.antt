@@ -8,6 +8,7 @@ use Rattle.dv_local.specs.declared.slice.Slice.{Slice}
 use Rattle.dv_sound.specs.Lending.{IsFirstOf, IsLent, MayLend}
 use Rattle.dv_sound.specs.Runs.{IsAt, Run}
 use Rattle.dv_sound.proofs.Lent.{first_local, first_of, kept_lent, lends, run_lent}
+use Rattle.dv_sound.proofs.Made.{made_first}
 use Rattle.dv_sound.proofs.safe.SafeVm.lend.Goals as goal
 
 at_home : (c : goal.In_default-push) → All (λ (u : ℕ). u ≢ c.args.thread) c.self.inside.lent.items
@@ -48,3 +49,6 @@ returns-clause-lent c =
     let now : Run = record { verified = c.self.inside.verified.now; main = c.self.inside.main; machine = machine_of c.self.inside.vm; log = c.self.inside.log.items; lent = c.push.new.self.items } in
     subst (λ (r : Run). IsLent r now c.args.thread c.in-Some.slice) c.self.view_is
     (run_lent _ c.self.inside.vm c.self.invariant refl c.args.thread (at_home c) c.in-Some.slice c.push.new.self.items (first_here c) c.in_default-push.ensures.items)
+
+pub returns-clause-made : goal.returns-clause-made
+returns-clause-made c = made_first c.args.self.now.verified.image c.args.thread c.in-Some.slice (first_here c).1

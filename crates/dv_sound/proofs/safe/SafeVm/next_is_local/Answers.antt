@@ -10,6 +10,6 @@ use Rattle.dv_sound.proofs.safe.SafeVm.next_is_local.Goals as goal
 pub returns : goal.returns
 returns c main m at =
     let image = ap (λ (v : VerifiedValue). v.image) (c.verified.view_is ∙ c.verified-verified.ensures) in
-    let s = c.vm.ensures.stands main m at in
-    c.next_is_local.ensures (subst (λ (i : Image). AreWatchable i c.vm.result.now) (sym image) c.vm.ensures.watchable) ∙ ap (λ (i : Image). next_is_local_of i (machine_of c.vm.result.now) c.args.thread) image ∙
-    next_is_alike c.args.self.now.verified.image s.0 (machine_of c.vm.result.now) m c.args.thread s.2.simulated
+    let s = c.engine.ensures.stands main m at in
+    c.next_is_local.ensures (subst (λ (i : Image). AreWatchable i c.engine.result.now) (sym image) c.engine.ensures.watchable) ∙ ap (λ (i : Image). next_is_local_of i (machine_of c.engine.result.now) c.args.thread) image ∙
+    next_is_alike c.args.self.now.verified.image s.0 (machine_of c.engine.result.now) m c.args.thread s.2.simulated

@@ -8,7 +8,7 @@ use Rattle.dv_sound.proofs.safe.SafeVm.seeded.Given as goal
 abbrev pub invariant-loop-words : goal.invariant-loop-words
 invariant-loop-words l = record {
   same : IsSameRun l.fn.self l.self;
-  seeding : (main : Method) (m : Machine) → IsAt l.fn.self main m → l.fn.self.log ≡ [] → l.fn.self.lent ≡ [] → IsSeeding l.self l.words main l.fn.seed;
+  seeding : (main : Method) (m : Machine) → IsAt l.fn.self main m → l.fn.self.log ≡ [] → IsSeeding l.self l.words main l.fn.seed;
 }
 
 abbrev pub decreases-loop-words : goal.decreases-loop-words
