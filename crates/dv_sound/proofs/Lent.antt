@@ -19,7 +19,7 @@ use Rattle.law_engine.proofs.Staying.{next_is_alike}
 use Rattle.dv_core.specs.declared.vm.Vm.{Vm}
 use Rattle.dv_core.specs.Advancing.{running_frame}
 use Rattle.dv_core.specs.Machines.{machine_of}
-use Rattle.dv_sound.specs.Lending.{IsCommitted, IsDone, IsFirstOf, IsFitting, IsLent, IsMade, IsSameProgram, MayLend, committed, logged_some, without}
+use Rattle.dv_sound.specs.Lending.{IsCommitted, IsDone, IsFirstOf, IsFitting, IsLent, IsLocalRun, IsSameProgram, MayLend, committed, logged_some, without}
 use Rattle.dv_sound.specs.Moves.{FramesStay, IsGood, StandsAt, may_step}
 use Rattle.dv_sound.specs.Runs.{IsAt, IsKept, Run}
 use Rattle.dv_sound.proofs.Going.{may_parts}
@@ -78,11 +78,11 @@ module _ (r : Run) (v : Vm) (k : IsKept r.verified.image r.main v r.log r.lent) 
 -- ---- a slice comes back
 
 pub done_of : (inner mine : Image) → inner ≡ mine → (v new : Vm) (s : Slice) (n : ℕ) →
-    ((T : Typings) (m : Machine) → IsGood inner T → StandsAt inner T v m → IsMade inner s → running_frame (slice_get (machine_of v).threads s.thread) ≡ Some s.start → IsDone inner T m s.thread n v new) → (T : Typings) (m : Machine) → IsGood mine T → StandsAt mine T v m → IsMade mine s →
+    ((T : Typings) (m : Machine) → IsGood inner T → StandsAt inner T v m → IsLocalRun inner s → running_frame (slice_get (machine_of v).threads s.thread) ≡ Some s.start → IsDone inner T m s.thread n v new) → (T : Typings) (m : Machine) → IsGood mine T → StandsAt mine T v m → IsLocalRun mine s →
     running_frame (slice_get (machine_of v).threads s.thread) ≡ Some s.start → IsDone mine T m s.thread n v new
 done_of inner mine is v new s n told =
     subst
-    (λ (i : Image). (T : Typings) (m : Machine) → IsGood i T → StandsAt i T v m → IsMade i s → running_frame (slice_get (machine_of v).threads s.thread) ≡ Some s.start →
+    (λ (i : Image). (T : Typings) (m : Machine) → IsGood i T → StandsAt i T v m → IsLocalRun i s → running_frame (slice_get (machine_of v).threads s.thread) ≡ Some s.start →
     IsDone i T m s.thread n v new) is told
 
 pub count_of : (inner mine : Image) → inner ≡ mine → (v : Vm) (steps n : ℕ) → ((T : Typings) (m : Machine) → IsGood inner T → StandsAt inner T v m → n ≡ committed inner m steps) → (T : Typings) (m : Machine) → IsGood mine T → StandsAt mine T v m → n ≡ committed mine m steps

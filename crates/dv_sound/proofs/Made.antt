@@ -10,9 +10,9 @@ use Rattle.dv_words.specs.declared.state.Frame.{Frame}
 use Rattle.dv_words.specs.Stepping.{KeysRiseAmong, RanLocally, local_here, locals_here, on_frame}
 use Rattle.law_words.proofs.Slices.{local_was}
 use Rattle.dv_local.specs.declared.slice.Slice.{Slice}
-use Rattle.dv_sound.specs.Lending.{IsFirst, IsMade}
+use Rattle.dv_sound.specs.Lending.{IsFirst, IsLocalRun}
 
-pub made_first : (image : Image) (t : ℕ) (s : Slice) → IsFirst t s → IsMade image s
+pub made_first : (image : Image) (t : ℕ) (s : Slice) → IsFirst t s → IsLocalRun image s
 made_first image t s first = record {
   few = omega arith;
   local = λ k u x l keys e found. absurd (let none = first.none in omega (arith, l, none));
@@ -55,7 +55,7 @@ keys_rest : (image : Image) (n a b : ℕ) (s mid : Frame) → KeysRiseAmong imag
 keys_rest image n a b s mid keys few first = λ j q y l e f. keys (a + j) q y (omega (arith, l, few)) (sym (append image a j s mid first) ∙ e) f
 
 -- a slice with more local steps
-pub made_on : (image : Image) (most done : ℕ) (old new : Slice) → IsMade image old → RanLocally image most done old.end new.end → new.steps ≡ old.steps + done → new.start ≡ old.start → IsMade image new
+pub made_on : (image : Image) (most done : ℕ) (old new : Slice) → IsLocalRun image old → RanLocally image most done old.end new.end → new.steps ≡ old.steps + done → new.start ≡ old.start → IsLocalRun image new
 made_on image most done old new made ran steps start =
     record {
       few = omega arith;
@@ -82,7 +82,7 @@ made_on image most done old new made ran steps start =
         (ap (locals_here image (k - old.steps)) ends ∙ b.rest) found
 
 -- a slice whose local steps are known to lead to its last frame
-pub made_by : (image : Image) (s : Slice) → locals_here image s.steps s.start ≡ Some s.end → IsMade image s
+pub made_by : (image : Image) (s : Slice) → locals_here image s.steps s.start ≡ Some s.end → IsLocalRun image s
 made_by image s led = record {
   few = omega arith;
   local = λ k u x l keys e found.

@@ -38,8 +38,8 @@ pub record IsLent (old new : Run) (thread : ℕ) (s : Slice) : Type 0 where
 -- ---- slices
 
 -- so many local instructions were done from its first frame on, each where one stands, and led to its last one
-abbrev pub IsMade : Image → Slice → Type 0
-IsMade image s = RanLocally image s.steps s.steps s.start s.end
+abbrev pub IsLocalRun : Image → Slice → Type 0
+IsLocalRun image s = RanLocally image s.steps s.steps s.start s.end
 
 -- its thread is lent, and stands where it begins
 pub record IsFitting (r : Run) (s : Slice) : Type 0 where

@@ -13,7 +13,7 @@ ghost use Rattle.dv_core.specs.Guests.{IsOrdered};
 ghost use Rattle.dv_core.specs.Machines.{machine_of};
 ghost use Rattle.dv_sound.specs.Moves as moves;
 ghost use Rattle.dv_sound.specs.Moves.{FramesStay, IsGood, StandsAt};
-ghost use Rattle.dv_sound.specs.Lending.{IsCommitted, IsDone, IsFirstOf, IsFitting, IsLent, IsMade, IsSameProgram, MayLend, committed, logged_some, without};
+ghost use Rattle.dv_sound.specs.Lending.{IsCommitted, IsDone, IsFirstOf, IsFitting, IsLent, IsLocalRun, IsSameProgram, MayLend, committed, logged_some, without};
 ghost use Rattle.dv_sound.specs.Runs.{IsAt};
 
 use crate::moves::may_step;
@@ -152,7 +152,7 @@ fn affordable(image: &Image, vm: &Vm, steps: u32) -> u32
 
 /// So many steps of a slice, all of them or fewer.
 fn do_steps(image: &Image, vm: &mut Vm, slice: &Slice, steps: u32)
-    ensures { (T : Typings) (m : Machine) → IsGood image.now T → StandsAt image.now T vm.old m → ending_of image.now m ≡ Nothing → IsMade image.now slice.now → running_frame (slice_get (machine_of vm.old).threads slice.now.thread) ≡ Just slice.now.start →
+    ensures { (T : Typings) (m : Machine) → IsGood image.now T → StandsAt image.now T vm.old m → ending_of image.now m ≡ Nothing → IsLocalRun image.now slice.now → running_frame (slice_get (machine_of vm.old).threads slice.now.thread) ≡ Just slice.now.start →
         steps ≤ slice.now.steps → vm.old.steps + steps ≤ vm.old.limits.budget → IsDone image.now T m slice.now.thread steps vm.old vm.new }
 {
     vm.reads_fit(slice.thread);
@@ -167,7 +167,7 @@ fn do_steps(image: &Image, vm: &mut Vm, slice: &Slice, steps: u32)
 fn take_steps(image: &Image, vm: &mut Vm, slice: &Slice) -> u32
     ensures few { result ≤ slice.now.steps }
     ensures count { (T : Typings) (m : Machine) → IsGood image.now T → StandsAt image.now T vm.old m → result ≡ committed image.now m slice.now.steps }
-    ensures done { (T : Typings) (m : Machine) → IsGood image.now T → StandsAt image.now T vm.old m → IsMade image.now slice.now → running_frame (slice_get (machine_of vm.old).threads slice.now.thread) ≡ Just slice.now.start →
+    ensures done { (T : Typings) (m : Machine) → IsGood image.now T → StandsAt image.now T vm.old m → IsLocalRun image.now slice.now → running_frame (slice_get (machine_of vm.old).threads slice.now.thread) ≡ Just slice.now.start →
         IsDone image.now T m slice.now.thread result vm.old vm.new }
 {
     let steps = affordable(image, vm, slice.steps);
@@ -217,7 +217,7 @@ impl<'v> SafeVm<'v> {
     pub fn lend(&mut self, thread: u32) -> Result<Option<Slice>, AllocError>
         ensures exact { IfOk result (λ o. (main : Method) (m : Machine) → IsAt self.old main m → (IsSome o ↔ MayLend self.old m thread)) }
         ensures lent { IfOk result (λ o. MatchOption o (self.new ≡ self.old) (λ s. IsLent self.old self.new thread s)) }
-        ensures made { IfOk result (λ o. IfSome o (λ s. IsMade self.old.verified.image s)) }
+        ensures made { IfOk result (λ o. IfSome o (λ s. IsLocalRun self.old.verified.image s)) }
         ensures refused { OnErr result (self.new ≡ self.old) }
     {
         if self.is_lent(thread) {
@@ -249,7 +249,7 @@ impl<'v> SafeVm<'v> {
     ///
     /// Want of memory; all is as before then, and the slice is given back.
     pub fn commit(&mut self, worker: u32, slice: Slice) -> Result<u32, Refused>
-        requires made { IsMade self.old.verified.image slice }
+        requires made { IsLocalRun self.old.verified.image slice }
         ensures committed { IfOk result (λ n. (main : Method) (m : Machine) → IsAt self.old main m → IsFitting self.old slice → IsCommitted self.old self.new main m worker slice n) }
         ensures put_away { IfOk result (λ n. (IsFitting self.old slice → ⊥) → (n ≡ 0) × (self.new ≡ self.old)) }
         ensures few { IfOk result (λ n. n ≤ slice.steps) }
@@ -272,7 +272,7 @@ impl<'v> SafeVm<'v> {
     ///
     /// Want of memory; all is as before then.
     fn commit_steps(&mut self, worker: u32, slice: &Slice) -> Result<u32, AllocError>
-        requires made { IsMade self.old.verified.image slice.now }
+        requires made { IsLocalRun self.old.verified.image slice.now }
         ensures committed { IfOk result (λ n. (main : Method) (m : Machine) → IsAt self.old main m → IsFitting self.old slice.now → IsCommitted self.old self.new main m worker slice.now n) }
         ensures put_away { IfOk result (λ n. (IsFitting self.old slice.now → ⊥) → (n ≡ 0) × (self.new ≡ self.old)) }
         ensures few { IfOk result (λ n. n ≤ slice.now.steps) }

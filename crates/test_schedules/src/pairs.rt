@@ -1,6 +1,6 @@
 // Two threads that are lent at once, and whose slices come back in either order.
 ghost use Rattle.std.specs.Prelude.{◌≡◌};
-ghost use Rattle.dv_sound.specs.Lending.{IsMade};
+ghost use Rattle.dv_sound.specs.Lending.{IsLocalRun};
 
 use crate::playing::{Player, assert_end, stood, verified};
 use crate::slices::{assert_alike, brought, image_of, lent, work, worker_of};
@@ -33,8 +33,8 @@ fn bring_both<R: Abort>(
     other: Slice,
 ) -> (u32, u32)
     requires same { run.old.verified.image ≡ image.now }
-    requires first { IsMade image.now one }
-    requires second { IsMade image.now other }
+    requires first { IsLocalRun image.now one }
+    requires second { IsLocalRun image.now other }
 {
     let first = brought(rt, image, run, one);
     assert!(rt; run.fits(&other));

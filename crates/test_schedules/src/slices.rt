@@ -1,6 +1,6 @@
 // Slices of threads' steps: how they are lent, run and brought back, and what is seen of a run.
 ghost use Rattle.std.specs.Prelude.{◌≡◌};
-ghost use Rattle.dv_sound.specs.Lending.{IsMade};
+ghost use Rattle.dv_sound.specs.Lending.{IsLocalRun};
 
 use crate::playing::final_text;
 use dv_defs::{Entry, Image};
@@ -27,7 +27,7 @@ pub fn image_of<'v>(run: &SafeVm<'v>) -> &'v Image
 #[tactic(auto, using(dv_sound::proofs::Made::made_first))]
 pub fn lent<R: Abort>(rt: &R, image: &Image, run: &mut SafeVm, thread: u32) -> Slice
     requires { run.old.verified.image ≡ image.now }
-    ensures made { IsMade image.now result }
+    ensures made { IsLocalRun image.now result }
     ensures same { run.new.verified.image ≡ image.now }
 {
     match run.lend(thread) {
@@ -55,7 +55,7 @@ pub fn copy_of<R: Abort>(rt: &R, frame: &Frame) -> Frame
 /// A slice with no step that begins at this frame.
 #[tactic(auto, using(dv_sound::proofs::Made::made_first))]
 pub fn begun<R: Abort>(rt: &R, image: &Image, thread: u32, frame: &Frame) -> Slice
-    ensures { IsMade image.now result }
+    ensures { IsLocalRun image.now result }
 {
     let _ = image;
     let start = copy_of(rt, frame);
@@ -71,8 +71,8 @@ pub fn begun<R: Abort>(rt: &R, image: &Image, thread: u32, frame: &Frame) -> Sli
 /// Local steps of a slice, so many at most; gives how many were done.
 #[tactic(auto, using(dv_sound::proofs::Made::made_on))]
 pub fn work(image: &Image, slice: &mut Slice, most: u32) -> u32
-    requires { IsMade image.now slice.old }
-    ensures { IsMade image.now slice.new }
+    requires { IsLocalRun image.now slice.old }
+    ensures { IsLocalRun image.now slice.new }
 {
     run_slice(image, slice, most)
 }
@@ -80,7 +80,7 @@ pub fn work(image: &Image, slice: &mut Slice, most: u32) -> u32
 /// A slice comes back; gives how many of its steps were done.
 pub fn brought<R: Abort>(rt: &R, image: &Image, run: &mut SafeVm, slice: Slice) -> u32
     requires same { run.old.verified.image ≡ image.now }
-    requires made { IsMade image.now slice }
+    requires made { IsLocalRun image.now slice }
     ensures { run.new.verified.image ≡ image.now }
 {
     match run.commit(worker_of(slice.thread), slice) {

@@ -1,6 +1,6 @@
 // Whole programs that are run in slices, and slices for which memory is wanting.
 ghost use Rattle.std.specs.Prelude.{◌≡◌};
-ghost use Rattle.dv_sound.specs.Lending.{IsMade};
+ghost use Rattle.dv_sound.specs.Lending.{IsLocalRun};
 
 use crate::playing::{Player, assert_end, opened, stood, verified};
 use crate::slices::{brought, image_of, lent, work, worker_of};
@@ -110,7 +110,7 @@ fn programs_run_in_slices(rt: HostRuntime) {
 #[tactic(auto, using(dv_sound::proofs::Made::made_first))]
 fn lent_at_last<R: Abort>(rt: &R, image: &Image, run: &mut SafeVm) -> Slice
     requires { run.old.verified.image ≡ image.now }
-    ensures made { IsMade image.now result }
+    ensures made { IsLocalRun image.now result }
     ensures same { run.new.verified.image ≡ image.now }
 {
     let before = (run.vm().steps, run.log().len());
@@ -133,7 +133,7 @@ fn lent_at_last<R: Abort>(rt: &R, image: &Image, run: &mut SafeVm) -> Slice
 /// is some.
 fn brought_at_last<R: Abort>(rt: &R, image: &Image, run: &mut SafeVm, slice: Slice) -> u32
     requires same { run.old.verified.image ≡ image.now }
-    requires made { IsMade image.now slice }
+    requires made { IsLocalRun image.now slice }
 {
     let before = (run.vm().steps, run.log().len());
     match run.commit(worker_of(0), slice) {

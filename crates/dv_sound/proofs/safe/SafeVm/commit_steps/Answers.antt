@@ -4,7 +4,7 @@ use Rattle.dv_defs.specs.Pools.{Method}
 use Rattle.dv_rules.specs.Verified.{VerifiedValue}
 use Rattle.dv_machine.specs.State.{Machine}
 use Rattle.dv_core.specs.Machines.{machine_of}
-use Rattle.dv_sound.specs.Lending.{IsCommitted, IsDone, IsFitting, IsMade, IsSameProgram, committed, logged_some, without}
+use Rattle.dv_sound.specs.Lending.{IsCommitted, IsDone, IsFitting, IsLocalRun, IsSameProgram, committed, logged_some, without}
 use Rattle.dv_sound.specs.Moves.{FramesStay}
 use Rattle.dv_sound.specs.Runs.{IsAt, Run}
 use Rattle.dv_sound.proofs.Lent.{count_of, done_of, kept_home, others_lent, run_committed, run_program}
@@ -19,7 +19,7 @@ done_here : (c : goal.After-bring_home) → IsDone c.self.inside.verified.now.im
 done_here c =
     let k = c.self.invariant in
     let fits = subst (λ (r : Run). IsFitting r c.args.slice.now) (sym c.self.view_is) (c.fits.ensures.0 c.if-not-fits.false) in
-    let made = subst (λ (r : Run). IsMade r.verified.image c.args.slice.now) (sym c.self.view_is) c.requires.made in
+    let made = subst (λ (r : Run). IsLocalRun r.verified.image c.args.slice.now) (sym c.self.view_is) c.requires.made in
     done_of c.verified.inside.image c.self.inside.verified.now.image (image_here c) c.self.inside.vm c.take_steps-steps.new.vm c.args.slice.now c.take_steps-steps.result c.take_steps-steps.ensures.done k.typings k.machine k.good k.stands made fits.stands
 
 count_here : (c : goal.After-bring_home) → c.take_steps-steps.result ≡ committed c.self.inside.verified.now.image c.self.invariant.machine c.args.slice.now.steps
