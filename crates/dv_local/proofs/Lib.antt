@@ -6,3 +6,4 @@ pub mod Opcodes
 pub mod Payloads
 pub mod Searching
 pub mod Switches
+pub mod Slices
