@@ -1,0 +1,33 @@
+// The whole machine over memory.
+use dv_io::{MemSink, NoGate, PlainSource};
+use dv_top::dvm;
+use std::alloc::{AllocError, Global};
+use std::thread::Threads;
+
+/// What the class `Main` of a text prints, in the sink's `taken`.
+pub fn run_main<R: Threads + Sync>(
+    rt: &R,
+    alloc: Global,
+    text: Vec<u8>,
+) -> Result<MemSink, AllocError> {
+    let words = vec![in alloc;
+        String::from_str(alloc, "run")?,
+        String::from_str(alloc, "Main")?,
+    ]?;
+    let room = 65_536;
+    let sink = MemSink {
+        taken: Vec::with_capacity(alloc, room)?,
+        room,
+        piece: 4096,
+        fails: Vec::new(alloc),
+        calls: 0,
+        faults: 0,
+    };
+    let mut source = PlainSource {
+        bytes: text,
+        at: 0,
+        piece: 4096,
+    };
+    let report = dvm(rt, alloc, &words, &mut source, sink, &NoGate);
+    Ok(report.sink)
+}
