@@ -1,5 +1,5 @@
 -- What the lines of a class say, outside its methods, each judged by where it stands.
-use Rattle.std.specs.Prelude.{◌≡◌, ℕ, ◌+◌, ◌^◌, ◌&&◌, not, IsTrue, pos, Bool, true, false, List, [], ◌∷◌, codes, bytes_eq, Option, Some, None, Result, Ok, Err, ◌==◌, if◌then◌else◌}
+use Rattle.std.specs.Prelude.{◌≡◌, ℕ, ◌+◌, ◌^◌, ◌&&◌, not, IsTrue, ℤ, pos, Bool, true, false, List, [], ◌∷◌, codes, bytes_eq, Option, Some, None, Result, Ok, Err, ◌==◌, if◌then◌else◌}
 use Rattle.dv_defs.specs.declared.class.Init.{Init}
 use Rattle.dv_defs.specs.declared.class.Init.TheVariants as init
 use Rattle.dv_defs.specs.declared.faults.LineKind.{LineKind}
@@ -12,14 +12,14 @@ use Rattle.dv_defs.specs.declared.names.Ty.{Ty}
 use Rattle.dv_defs.specs.Field.{FieldValue, value_fits}
 use Rattle.dv_defs.specs.Flags.{bit_of, has_flag}
 use Rattle.dv_defs.specs.Names.{object_name}
-use Rattle.dv_lex.specs.Numbers.{Number, signed}
+use Rattle.dv_lex.specs.Numbers.{Number, in_bits, signed}
 use Rattle.dv_coderead.specs.declared.head.Directive.{Directive}
 use Rattle.dv_coderead.specs.declared.head.Directive.TheVariants as directive
 use Rattle.dv_coderead.specs.declared.head.Head.{Head}
 use Rattle.dv_coderead.specs.declared.head.Head.TheVariants as head
 use Rattle.dv_coderead.specs.Giving.{◌>>=◌}
 use Rattle.dv_coderead.specs.Pieces.{Piece, AWord, AMark, AString, ACharacter}
-use Rattle.dv_coderead.specs.Words.{number_in}
+use Rattle.dv_coderead.specs.Words.{fitting, number_in}
 use Rattle.dv_coderead.specs.References.{type_in, class_in, proto_in, cut_at, found_parts, member_name}
 use Rattle.dv_coderead.specs.Operands.{Part, word_at, alone, behind, ended}
 use Rattle.dv_coderead.specs.Heads.{head_of}
@@ -107,13 +107,19 @@ class_head_line n ps = do
 
 -- ---- fields
 
--- a number, which the type of the field holds
+-- a value that the type of the field holds
 abbrev pub fitting_value : Ty → Init → Result Init LineKind
 fitting_value t i = if value_fits i t then Ok i else Err kind.NumberRange
 
+-- a number as one of this type: of 32 bits for an int, of 64 bits for a long, by its own value for any other
+abbrev pub number_as : Base → Number → Option ℤ
+number_as base.I n = in_bits 32 n
+number_as base.J n = in_bits 64 n
+number_as b n = Some (signed n)
+
 abbrev pub number_value : Ty → Option Number → Result Init LineKind
 number_value t None = Err kind.Operands
-number_value t (Some n) = fitting_value t (init.Num (signed n))
+number_value t (Some n) = fitting (number_as t.base n) >>= λ z. fitting_value t (init.Num z)
 
 abbrev pub is_true : List ℕ → Bool
 is_true w = bytes_eq w (codes "true")
@@ -225,13 +231,14 @@ next_class_line s n ps = if lacks_super s then Err kind.Missing else said line.C
 abbrev pub inside_line : Bool → Bool → Directive → List Piece → Result ClassLine LineKind
 inside_line is_object has_super directive.Super ps = superclass_line is_object has_super ps
 inside_line is_object has_super directive.Implements ps = said line.Implements (class_name_line ps)
-inside_line is_object has_super directive.Source ps = Ok line.Source
 inside_line is_object has_super directive.Field ps = said line.Field (field_line ps)
 inside_line is_object has_super directive.Method ps = said line.Method (signature_line ps)
 inside_line is_object has_super d ps = Err (directive_refusal d)
 
+-- a source may stand before the first class too
 abbrev pub by_directive : Standing → ℕ → Directive → List Piece → Result ClassLine LineKind
 by_directive s n directive.Class ps = next_class_line s n ps
+by_directive s n directive.Source ps = Ok line.Source
 by_directive standing.Outside n d ps = Err (directive_refusal d)
 by_directive (standing.Inside is_object has_super) n d ps = inside_line is_object has_super d ps
 

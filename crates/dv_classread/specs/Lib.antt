@@ -1,4 +1,5 @@
 pub mod ClassLines
+pub mod FieldBits
 pub mod Methods
 pub mod Texts
 pub mod Classes

@@ -1,11 +1,12 @@
 // What a line of a class says, outside its methods.
-ghost use Rattle.std.specs.Prelude.{◌≡◌, IfOk, IsTrue, if◌then◌else◌};
+ghost use Rattle.std.specs.Prelude.{◌≡◌, ◌≤◌, IfOk, IsTrue, if◌then◌else◌};
 ghost use Rattle.dv_coderead.specs.Words.{number_in};
 ghost use Rattle.dv_coderead.specs.Operands.{word_at};
 ghost use Rattle.dv_defs.specs.Field.{value_fits};
 ghost use Rattle.dv_coderead.specs.Giving.{Gives, Reads};
 ghost use Rattle.dv_coderead.specs.Pieces.{piece_in, pieces_in};
 ghost use Rattle.dv_coderead.specs.Heads.{head_of};
+ghost use Rattle.dv_classread.specs.FieldBits.{bits_of};
 ghost use Rattle.dv_classread.specs.ClassLines.{boolean_value, by_directive, class_head_line, class_line, class_name, class_name_line, directive_refusal, field_line, fitting_value, flag_from_annotation, flag_from_native, flag_from_synchronized, flag_of, flags_at, init_line, inside_line, is_boolean, lacks_super, name_and_proto, name_and_type, next_class_line, number_value, refusal_of, signature_line, stands_next, superclass_line, value_alone, value_in, word_value, StandsIn};
 
 use dv_coderead::parts::{behind, end};
@@ -200,15 +201,24 @@ fn fitting_value(ty: &Ty, value: Init) -> Result<Init, LineKind>
     }
 }
 
-/// The value of a number. Only a number with a sign is below 0.
+/// In how many bits a number is read as one of this type: those of an int or a long, and more than any other type has.
+fn bits_of(base: &Base) -> u32
+    ensures exact { result ≡ bits_of base.now }
+    ensures some { (1 ≤ result) × (result ≤ 64) }
+{
+    match base {
+        Base::I => 32,
+        Base::J => 64,
+        _ => 33,
+    }
+}
+
+/// The value of a number.
 fn number_value(ty: &Ty, word: &[u8]) -> Result<Init, LineKind>
     ensures exact { Reads (λ i. i) result (number_value ty.now (number_in word.now)) }
     ensures fits { IfOk result (λ i. IsTrue (value_fits i ty.now)) }
 {
-    let number = literal(word, 64)?;
-    if number < 0 && !word.starts_with(b"-") {
-        return Err(LineKind::NumberRange);
-    }
+    let number = literal(word, bits_of(&ty.base))?;
     fitting_value(ty, Init::Num(number))
 }
 
@@ -459,7 +469,6 @@ fn inside_line(
     match directive {
         Directive::Super => superclass_line(alloc, is_object, has_super, pieces),
         Directive::Implements => Ok(ClassLine::Implements(class_name_line(alloc, pieces)?)),
-        Directive::Source => Ok(ClassLine::Source),
         Directive::Field => Ok(ClassLine::Field(field_line(alloc, pieces)?)),
         Directive::Method => Ok(ClassLine::Method(signature_line(alloc, pieces)?)),
         _ => Err(Refusal::Fault(directive_refusal(directive))),
@@ -477,6 +486,7 @@ fn by_directive(
 {
     match (directive, standing) {
         (Directive::Class, _) => next_class_line(alloc, standing, line, pieces),
+        (Directive::Source, _) => Ok(ClassLine::Source),
         (_, Standing::Outside) => Err(Refusal::Fault(directive_refusal(directive))),
         (_, Standing::Inside(is_object, has_super)) => {
             inside_line(alloc, is_object, has_super, directive, pieces)

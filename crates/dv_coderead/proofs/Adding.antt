@@ -1,6 +1,7 @@
 -- What a line adds to a draft that is being read.
 use Rattle.std.proofs.Common.{◌≡◌, ℕ, ◌+◌, ◌%◌, ◌≤◌, List, [], ◌∷◌, ◌++◌, length, ℤ, Some, None, Vec, Global, refl, sym, ap, ◌∙◌, append_assoc, append-nil, arith}
 use Rattle.std.specs.Int.{w64, to_le_bytes}
+use Rattle.std.specs.List.{flat_map}
 use Rattle.std.specs.Prelude.{IsTrue, Result, Ok, Err, OnOk}
 use Rattle.std.proofs.Math.Nat.{add-mod_right, zero-mod}
 use Rattle.std.proofs.lemmas.Bool.Decides.{nat_tests}
@@ -61,6 +62,14 @@ element_length width z has = length-take-le width (to_le_bytes w64 (bits64 z)) (
 whole_more : (front new more : List ℕ) (width : ℕ) → new ≡ front ++ more → length more ≡ width → length front % width ≡ 0 → length new % width ≡ 0
 whole_more front new more width e size whole =
     ap (λ l. length l % width) e ∙ ap (λ k. k % width) (length-append front more ∙ ap (λ k. length front + k) size) ∙ add-mod_right (length front) width ∙ whole
+
+-- elements more leave whole elements
+elements_whole : (front : List ℕ) (width : ℕ) (zs : List ℤ) → IsTrue (is_width width) → length front % width ≡ 0 → length (front ++ flat_map (element_bytes width) zs) % width ≡ 0
+elements_whole front width [] has whole = ap (λ l. length l % width) (append-nil front) ∙ whole
+elements_whole front width (z ∷ zs) has whole =
+    let one = element_bytes width z in
+    ap (λ l. length l % width) (sym (append_assoc front one (flat_map (element_bytes width) zs)))
+    ∙ elements_whole (front ++ one) width zs has (whole_more front (front ++ one) one width refl (element_length width z has) whole)
 
 -- ---- lines outside payloads
 
@@ -186,22 +195,23 @@ module _ (d : Drafting) (n : ℕ) (keeps : IsDrafting d) where
         catches = λ ts. refl;
       }
 
-  -- an element of an array
-  pub adds_element : (width : ℕ) (z : ℤ) (bytes : Vec ℕ Global) → d.context.block ≡ Some (opening.Data width) → bytes.items ≡ d.«open».bytes.items ++ element_bytes width z
-      → Adds d n (line.Element z) (record d { «open» = record d.«open» { bytes = bytes } })
+  -- elements of an array
+  pub adds_elements : (width : ℕ) (zs : List ℤ) (bytes : Vec ℕ Global) → d.context.block ≡ Some (opening.Data width) → bytes.items ≡ d.«open».bytes.items ++ flat_map (element_bytes width) zs
+      → Adds d n (line.Elements zs) (record d { «open» = record d.«open» { bytes = bytes } })
   unfolding items_of catches_of data_bytes
-  adds_element width z bytes inside more =
+  adds_elements width zs bytes inside more =
       let has = rw inside at keeps.width in
       let whole = rw inside at keeps.payload in
+      let elements = flat_map (element_bytes width) zs in
       record {
         drafting = record {
           registers = keeps.registers;
           width = keeps.width;
           items = keeps.items;
-          payload = rw inside (whole.0, whole.1, whole_more d.«open».bytes.items bytes.items (element_bytes width z) width more (element_length width z has) whole.2);
+          payload = rw inside (whole.0, whole.1, ap (λ l. length l % width) more ∙ elements_whole d.«open».bytes.items width zs has whole.2);
         };
         context = refl;
-        items = λ ts. rw inside (ap (λ b. d.items.items ++ record { line = d.«open».line; what = what.Data width b } ∷ [] ++ items_of ts) (ap (λ b. b ++ data_bytes width ts) more ∙ append_assoc d.«open».bytes.items (element_bytes width z) (data_bytes width ts)));
+        items = λ ts. rw inside (ap (λ b. d.items.items ++ record { line = d.«open».line; what = what.Data width b } ∷ [] ++ items_of ts) (ap (λ b. b ++ data_bytes width ts) more ∙ append_assoc d.«open».bytes.items elements (data_bytes width ts)));
         catches = λ ts. refl;
       }
 

@@ -216,7 +216,7 @@ number_fits : (bits : ℕ) (o : Option Number) → IfOk (number_of bits o) (Fits
 number_fits bits None = tt
 number_fits bits (Some n) = fitting_fits bits (in_bits bits n) (in_bits_fits bits n)
 
-literal_fits : (bits : ℕ) (w : List ℕ) → IfOk (literal_in bits w) (Fits bits)
+pub literal_fits : (bits : ℕ) (w : List ℕ) → IfOk (literal_in bits w) (Fits bits)
 unfolding literal_in
 literal_fits bits w = number_fits bits (number_in w)
 

@@ -6,6 +6,7 @@ mod Classes
 pub mod Cuts
 mod Descriptors
 pub mod Drafts
+mod Elements
 mod Finishing
 pub mod Formed
 pub mod FormedParts

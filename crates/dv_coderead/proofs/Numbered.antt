@@ -3,14 +3,14 @@ use Rattle.std.proofs.Common.{◌≡◌, ℕ, zero, suc, ◌+◌, ◌-◌, ◌^�
 use Rattle.std.specs.Prelude.{IfSome}
 use Rattle.std.specs.List.{All, AllByRecursion, slice_split, onto_first}
 use Rattle.std.proofs.lemmas.Bool.{ne_eqb, cases_Bool, cond-true, cond-false}
-use Rattle.std.proofs.lemmas.List.{length-map}
+use Rattle.std.proofs.lemmas.List.{length-drop, length-map}
 use Rattle.std.proofs.lemmas.List.Elements.{All-from_recursion}
 use Rattle.std.proofs.lemmas.List.Splits.{length-slice_split}
 use Rattle.dv_lex.specs.declared.line.Line.{Line}
 use Rattle.dv_lex.specs.declared.line.Stop.{Stop}
 use Rattle.dv_lex.specs.declared.line.GoodLines.{GoodLines}
 use Rattle.dv_lex.specs.Lexemes.{Lexemes}
-use Rattle.dv_lex.specs.Lines.{Row, Read, Reading, and_then_lines, good_in, is_line_feed, line_lexemes, read_in, read_rows, reading_of, rows_from, rows_of}
+use Rattle.dv_lex.specs.Lines.{Row, Read, Reading, and_then_lines, good_in, is_line_feed, line_lexemes, mark_length, read_in, read_rows, reading_of, rows_from, rows_of}
 use Rattle.dv_coderead.specs.Bodies.{number_behind, HasNext}
 use Rattle.dv_coderead.specs.Kept.{text_lines, AreNumbered}
 
@@ -123,10 +123,17 @@ numbers_next n [] are few = tt
 numbers_next n (l ∷ ls) are few = (subst (λ k. k + 1 < 2 ^ 32) (sym are.0) (omega (arith, few)), numbers_next (n + 1) ls are.1 (omega (arith, few)))
 
 module _ (text : List ℕ) (g : GoodLines) (is : good_in text g ≡ reading_of text) where
+  -- where the first line begins, and the text from there on
+  abbrev start : ℕ
+  start = mark_length text
+
+  abbrev rest : List ℕ
+  rest = drop start text
+
   -- so they are read
   are_read : AreRead 1 (map (read_in text) g.lines) g.stop
   are_read =
-      subst (λ (r : Reading). AreRead 1 r.lines r.stop) (sym is) (read_are 1 (rows_from 1 0 text) (rows_are 1 0 (slice_split is_line_feed text)))
+      subst (λ (r : Reading). AreRead 1 r.lines r.stop) (sym is) (read_are 1 (rows_from 1 start rest) (rows_are 1 start (slice_split is_line_feed rest)))
 
   pub numbered : AreNumbered 1 g.lines
   numbered = lines_are text 1 g.lines g.stop are_read
@@ -138,10 +145,10 @@ module _ (text : List ℕ) (g : GoodLines) (is : good_in text g ≡ reading_of t
   -- there are no more lines than bytes
   pub few_lines : length g.lines ≤ length text
   few_lines =
-      let rows = rows_few 1 0 (slice_split is_line_feed text) (some_parts text) in
-      let read = read_few (rows_from 1 0 text) in
+      let rows = rows_few 1 start (slice_split is_line_feed rest) (some_parts rest) in
+      let read = read_few (rows_from 1 start rest) in
       let same : length g.lines ≡ length (reading_of text).lines = sym (length-map g.lines (read_in text)) ∙ ap (λ (r : Reading). length r.lines) is in
-      omega (arith, rows, read, same, split_size text)
+      omega (arith, rows, read, same, split_size rest, length-drop start text)
 
   pub have_next : length text < 2 ^ 32 - 1 → All HasNext g.lines
   have_next few = All-from_recursion HasNext g.lines (numbers_next 1 g.lines numbered (omega (arith, few, few_lines)))

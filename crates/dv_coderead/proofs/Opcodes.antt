@@ -1,7 +1,8 @@
 -- An opcode with a name is one of the table.
 use Rattle.std.proofs.Common.{◌≡◌, ℕ, ◌==◌, Bool, true, false, List, [], ◌∷◌, map, Option, Some, None, refl}
-use Rattle.std.specs.Prelude.{bytes_eq, find, is_some, option_map, IsSome, if◌then◌else◌}
+use Rattle.std.specs.Prelude.{bytes_eq, drop, find, is_some, option_map, IsSome, if◌then◌else◌}
 use Rattle.std.proofs.lemmas.Bool.{cond_both, eq-eqb}
+use Rattle.dv_names.specs.Descriptors.{is_name}
 use Rattle.dv_optable.specs.Table.{Entry, entry_at, format_at, opcode_in, opcode_named, table}
 use Rattle.dv_coderead.specs.declared.head.Head.TheVariants as head
 use Rattle.dv_coderead.specs.Heads.{first_word, head_of, insn_head, is_float_name, word_head}
@@ -46,7 +47,7 @@ insn_named w (Some op) is = named w op is
 
 word_named : (w : List ℕ) (second : Option (List ℕ)) → IsHead (word_head w second)
 word_named w second =
-    cond_both (begins_with 46 w) _ _ IsHead (λ dot. tt) (λ no_dot. cond_both (begins_with 58 w) _ _ IsHead (λ colon. tt) (λ no_colon. insn_named w (opcode_named w) refl))
+    cond_both (begins_with 46 w) _ _ IsHead (λ dot. tt) (λ no_dot. cond_both (begins_with 58 w) _ _ IsHead (λ colon. cond_both (is_name (drop 1 w)) head.Label head.Other IsHead (λ named. tt) (λ other. tt)) (λ no_colon. insn_named w (opcode_named w) refl))
 
 -- the head of a line tells opcodes of the table
 pub head_named : (ps : List Piece) → IsHead (head_of ps)

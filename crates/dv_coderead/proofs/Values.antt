@@ -2,17 +2,16 @@
 use Rattle.std.proofs.Common.{◌≡◌, ℕ, zero, suc, ◌+◌, ◌-◌, ◌^◌, ◌<◌, ◌≤◌, ◌==◌, Bool, true, false, ◌&&◌, nat_eq, List, [], ◌∷◌, length, drop, slice_index_or, Bor, Option, Some, None, Result, Ok, Err, inl, inr, refl, sym, ap, ◌∙◌, arith, lit<}
 use Rattle.std.specs.Prelude.{ℤ, pos, negsuc, is_some, nat_le, nat_lt, if◌then◌else◌}
 use Rattle.std.specs.List.{starts_with}
-use Rattle.std.proofs.lemmas.Bool.{cases_Bool, cond-false, false≢true, eqb-false, eqb-true, le-ltb, leb-false, ltb-false, lt-leb, ne_eqb, or_from}
+use Rattle.std.proofs.lemmas.Bool.{cases_Bool, cond-false, false≢true, eqb-false, eqb-true, leb-false, ltb-false, lt-leb, ne_eqb, or_from}
 use Rattle.dv_defs.specs.declared.faults.LineKind.{LineKind}
 use Rattle.dv_defs.specs.declared.faults.LineKind.TheVariants.{NumberRange, Operands, TooManyRegisters}
-use Rattle.dv_defs.specs.Spelling.{fits_signed}
 use Rattle.dv_defs.specs.Tiling.{is_width}
 use Rattle.dv_lex.specs.Numbers.{Number, Spells, IsNumber, in_bits, is_whole, magnitude, negated, signed}
 use Rattle.dv_coderead.specs.declared.pieces.Piece.{Piece as CodePiece}
 use Rattle.dv_coderead.specs.declared.pieces.Piece.TheVariants as code
 use Rattle.dv_coderead.specs.Words.{begins_with, fitting, literal_in, number_in, number_of, unsigned_in}
 use Rattle.dv_coderead.specs.Pieces.{pieces_in}
-use Rattle.dv_coderead.specs.BodyLines.{begins_with_number, by_value, count_from, count_in, key_from, key_in, width_from, width_in}
+use Rattle.dv_coderead.specs.BodyLines.{begins_with_number, by_value, count_from, count_in, width_from, width_in}
 use Rattle.dv_coderead.proofs.Spelling.{read, spelled}
 
 -- ---- whether a word spells a number
@@ -178,23 +177,7 @@ module _ {A : Type 0} (f : ℤ → Result A LineKind) (bits : ℕ) (has : HasBit
   refused None k is = let same : k ≡ Operands = cc in ap Err (sym same)
   refused (Some n) k is = refused_of n k _ (is_in bits has.no n) is
 
--- ---- keys of switches and widths of elements, of which the code reads 33 bits
-
-key_bits : HasBits key_from 33
-key_bits = record {
-  no = refl;
-  some = omega arith;
-  above = λ m large. cond-false (fits_signed 32 (pos m)) _ _ (le-ltb m (2 ^ 31) (omega arith));
-  below = λ m large. cond-false (fits_signed 32 (negsuc m)) _ _ (le-ltb m (2 ^ 31) (omega arith));
-}
-
-pub key_within : (w : List ℕ) (z : ℤ) → literal_in 33 w ≡ Ok z → key_in w ≡ key_from z
-unfolding literal_in key_in
-key_within w z is = within key_from 33 key_bits (number_in w) z is
-
-pub key_refused : (w : List ℕ) (k : LineKind) → literal_in 33 w ≡ Err k → key_in w ≡ Err k
-unfolding literal_in key_in
-key_refused w k is = refused key_from 33 key_bits (number_in w) k is
+-- ---- widths of elements, of which the code reads 33 bits
 
 other : (m k : ℕ) → 2 ^ 32 ≤ m → k < 2 ^ 32 → nat_eq m k ≡ false
 other m k large small = ne_eqb m k (λ e. omega arith)

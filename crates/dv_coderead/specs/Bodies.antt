@@ -1,6 +1,7 @@
 -- The body that the lines of a method give.
 use Rattle.std.specs.Prelude.{ℕ, ◌+◌, ◌^◌, ◌<◌, ◌&&◌, ℤ, Bool, List, [], ◌∷◌, ◌++◌, take, Option, Some, None, is_some, not, Result, Ok, Err, nat_eq, if◌then◌else◌}
 use Rattle.std.specs.Int.{w64, to_le_bytes}
+use Rattle.std.specs.List.{flat_map}
 use Rattle.dv_defs.specs.declared.faults.LineKind.TheVariants.{Missing}
 use Rattle.dv_defs.specs.declared.names.Proto.{Proto}
 use Rattle.dv_defs.specs.Numbers.{bits64}
@@ -83,14 +84,15 @@ unfoldable pub case_labels : List Told → List (List ℕ)
 case_labels [] = []
 case_labels (t ∷ ts) = case_label_of t.says (case_labels ts)
 
--- the bytes of an array's elements, the low byte of each first
+-- the bytes of an element of an array, the low byte first
 abbrev pub element_bytes : ℕ → ℤ → List ℕ
 element_bytes width z = take width (to_le_bytes w64 (bits64 z))
 
 abbrev pub bytes_of : ℕ → BodyLine → List ℕ → List ℕ
-bytes_of width (line.Element z) bytes = element_bytes width z ++ bytes
+bytes_of width (line.Elements zs) bytes = flat_map (element_bytes width) zs ++ bytes
 bytes_of width l bytes = []
 
+-- the bytes of an array's elements, line by line
 unfoldable pub data_bytes : ℕ → List Told → List ℕ
 data_bytes width [] = []
 data_bytes width (t ∷ ts) = bytes_of width t.says (data_bytes width ts)

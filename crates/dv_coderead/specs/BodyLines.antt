@@ -1,9 +1,8 @@
 -- What the lines of a method say, each judged by what the lines before it told.
-use Rattle.std.specs.Prelude.{◌≡◌, ℕ, ◌+◌, ◌*◌, ◌≤◌, ℤ, pos, negsuc, Bool, false, List, ◌∷◌, codes, bytes_eq, drop, Option, Some, None, Result, Ok, Err, nat_le, is_some, IsSome, IsTrue, if◌then◌else◌}
+use Rattle.std.specs.Prelude.{◌≡◌, ℕ, ◌+◌, ◌*◌, ◌≤◌, ℤ, pos, negsuc, Bool, false, List, [], ◌∷◌, codes, bytes_eq, drop, Option, Some, None, Result, Ok, Err, nat_le, is_some, IsSome, IsTrue, if◌then◌else◌}
 use Rattle.dv_defs.specs.declared.faults.LineKind.{LineKind}
 use Rattle.dv_defs.specs.declared.faults.LineKind.TheVariants as kind
 use Rattle.dv_defs.specs.declared.names.Ty.{Ty}
-use Rattle.dv_defs.specs.Spelling.{fits_signed}
 use Rattle.dv_defs.specs.Tiling.{is_width}
 use Rattle.dv_draft.specs.declared.draft.Catch.{Catch}
 use Rattle.dv_draft.specs.Draft.{IsOp}
@@ -76,12 +75,9 @@ catch_line n ps = word_at class_in ps >>= λ class. handler_line n (Some class.0
 
 -- ---- payloads
 
--- a signed number of 32 bits
-abbrev pub key_from : ℤ → Result ℤ LineKind
-key_from z = if fits_signed 32 z then Ok z else Err kind.NumberRange
-
+-- a number of 32 bits
 unfoldable pub key_in : List ℕ → Result ℤ LineKind
-key_in w = by_value key_from (number_in w)
+key_in w = literal_in 32 w
 
 -- how many bytes an element has: 1, 2, 4 or 8
 abbrev pub width_from : ℤ → Result ℕ LineKind
@@ -127,8 +123,18 @@ case_line ps = do
   Ok (key.0, label)
 
 -- an element of so many bytes
-unfoldable pub element_line : ℕ → List Piece → Result ℤ LineKind
-element_line width ps = alone (word_at (literal_in (8 * width)) ps)
+abbrev pub element_in : ℕ → Piece → Result ℤ LineKind
+element_in width (AWord w) = literal_in (8 * width) w
+element_in width p = Err kind.Operands
+
+abbrev pub and_element : ℤ → Result (List ℤ) LineKind → Result (List ℤ) LineKind
+and_element z (Ok zs) = Ok (z ∷ zs)
+and_element z (Err k) = Err k
+
+-- elements, up to the end of the line
+unfoldable pub elements_in : ℕ → List Piece → Result (List ℤ) LineKind
+elements_in width [] = Ok []
+elements_in width (p ∷ ps) = element_in width p >>= λ z. and_element z (elements_in width ps)
 
 -- ---- lines that may not stand where they stand
 
@@ -189,7 +195,7 @@ sparse_line (head.Directive (directive.End Sparse)) ps = end_line ps
 sparse_line h ps = Err (refusal_of h)
 
 abbrev pub data_line : ℕ → Head → List Piece → Result BodyLine LineKind
-data_line width head.Other ps = if begins_with_number ps then said line.Element (element_line width ps) else Err kind.UnknownInsn
+data_line width head.Other ps = if begins_with_number ps then said line.Elements (elements_in width ps) else Err kind.UnknownInsn
 data_line width (head.Directive (directive.End Data)) ps = end_line ps
 data_line width h ps = Err (refusal_of h)
 
@@ -227,6 +233,6 @@ IsLine l = Unit {0}
 abbrev pub StandsIn : Option Opening → BodyLine → Type 0
 StandsIn block (line.Target name) = (first : ℤ) × (block ≡ Some (opening.Packed first))
 StandsIn block (line.Case key name) = block ≡ Some opening.Sparse
-StandsIn block (line.Element z) = (width : ℕ) × (block ≡ Some (opening.Data width))
+StandsIn block (line.Elements zs) = (width : ℕ) × (block ≡ Some (opening.Data width))
 StandsIn block line.End = IsSome block
 StandsIn block l = block ≡ None

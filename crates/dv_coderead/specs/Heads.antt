@@ -1,6 +1,7 @@
 -- What a line is, by its first word; by the first two where the first is `.end` or `.restart`.
-use Rattle.std.specs.Prelude.{ℕ, ◌||◌, Bool, List, [], ◌∷◌, codes, bytes_eq, Option, Some, None, ◌==◌, if◌then◌else◌}
+use Rattle.std.specs.Prelude.{ℕ, ◌||◌, Bool, List, [], ◌∷◌, codes, drop, bytes_eq, Option, Some, None, ◌==◌, if◌then◌else◌}
 use Rattle.std.specs.List.{list_any, slice_split}
+use Rattle.dv_names.specs.Descriptors.{is_name}
 use Rattle.dv_optable.specs.Table.{opcode_named}
 use Rattle.dv_coderead.specs.declared.head.Block.TheVariants.{Packed, Sparse, Data, Units}
 use Rattle.dv_coderead.specs.declared.head.Directive.{Directive}
@@ -119,10 +120,14 @@ insn_head None w = if is_float_name w then head.Float else head.Other
 
 -- ---- lines
 
+-- behind a colon: a label where a name stands there
+abbrev pub colon_head : List ℕ → Head
+colon_head w = if is_name w then head.Label else head.Other
+
 abbrev pub word_head : List ℕ → Option (List ℕ) → Head
 word_head w second =
     if begins_with 46 w then head.Directive (directive_of w second)
-    else if begins_with 58 w then head.Label
+    else if begins_with 58 w then colon_head (drop 1 w)
     else insn_head (opcode_named w) w
 
 abbrev pub first_word : List Piece → Option (List ℕ)

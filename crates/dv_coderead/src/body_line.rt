@@ -2,12 +2,12 @@
 ghost use Rattle.std.specs.Prelude.{◌≡◌, ◌≤◌, ℕ, Option, None, IfOk, IfSome, IsTrue};
 ghost use Rattle.dv_defs.specs.Tiling.{is_width};
 ghost use Rattle.dv_coderead.specs.Giving.{Gives, Reads};
-ghost use Rattle.dv_coderead.specs.Pieces.{pieces_in};
+ghost use Rattle.dv_coderead.specs.Pieces.{piece_in, pieces_in};
 ghost use Rattle.dv_coderead.specs.Heads.{head_of};
 ghost use Rattle.dv_coderead.specs.Words.{label_in};
 ghost use Rattle.dv_coderead.specs.References.{class_in};
 ghost use Rattle.dv_coderead.specs.Operands.{behind, word_at};
-ghost use Rattle.dv_coderead.specs.BodyLines.{arrow_at, begin_line, begins_with_number, body_line, case_line, catch_line, count_from, count_in, data_begin, data_line, directive_line, directive_refusal, element_line, end_line, frame_line, handler_line, key_from, key_in, label_line, method_line, packed_begin, packed_line, refusal_of, registers_line, sparse_begin, sparse_line, width_from, width_in, HasWidth, IsHead, IsLine, StandsIn};
+ghost use Rattle.dv_coderead.specs.BodyLines.{arrow_at, begin_line, begins_with_number, body_line, case_line, catch_line, count_from, count_in, data_begin, data_line, directive_line, directive_refusal, element_in, elements_in, end_line, frame_line, handler_line, key_in, label_line, method_line, packed_begin, packed_line, refusal_of, registers_line, sparse_begin, sparse_line, width_from, width_in, HasWidth, IsHead, IsLine, StandsIn};
 
 use crate::head::{Block, Directive, Head};
 use crate::operands::read_operands;
@@ -15,7 +15,7 @@ use crate::parts::{behind, dots, end, mark};
 use crate::pieces::Piece;
 use crate::words::{self, Frame};
 use crate::{Refusal, references};
-use dv_defs::{LineKind, Text, Ty};
+use dv_defs::{LineKind, Seq, Text, Ty};
 use dv_draft::{Catch, Draftop};
 use dv_lex::{is_number, number};
 use std::alloc::Global;
@@ -48,8 +48,8 @@ pub enum BodyLine {
     Target(Text),
     /// A key and its label in a sparse switch.
     Case(i32, Text),
-    /// An element of an array.
-    Element(i64),
+    /// Elements of an array.
+    Elements(Seq<i64>),
     /// The end of a block.
     End,
 }
@@ -85,20 +85,11 @@ fn count(word: &[u8], more: u64) -> Result<u32, LineKind>
     }
 }
 
-fn key_from(number: i64) -> Result<i32, LineKind>
-    ensures { result ≡ key_from number }
-{
-    match i32::try_from(number) {
-        Ok(key) => Ok(key),
-        Err(_) => Err(LineKind::NumberRange),
-    }
-}
-
-/// The key of a switch, a signed number of 32 bits.
+/// The key of a switch, a number of 32 bits.
 fn key(word: &[u8]) -> Result<i32, LineKind>
     ensures { result ≡ key_in word.now }
 {
-    key_from(words::literal(word, 33)?)
+    Ok(words::literal(word, 32)? as i32)
 }
 
 fn width_from(number: i64) -> Result<u16, LineKind>
@@ -325,20 +316,26 @@ fn case_line(alloc: Global, pieces: &[Piece]) -> Result<(i32, Text), Refusal>
 }
 
 /// An element of an array, of so many bytes.
-#[tactic(auto, unfolding(crate::specs::BodyLines::element_line))]
-fn element_line(width: u16, pieces: &[Piece]) -> Result<i64, LineKind>
+fn element(width: u16, piece: &Piece) -> Result<i64, LineKind>
     requires { IsTrue (is_width width) }
-    ensures { Reads (λ z. z) result (element_line width (pieces_in pieces.now)) }
+    ensures { result ≡ element_in width (piece_in piece.now) }
 {
-    let [first, rest @ ..] = pieces else {
-        return Err(LineKind::Operands);
-    };
-    let Piece::Word(word) = first else {
-        return Err(LineKind::Operands);
-    };
-    let element = words::literal(*word, 8 * u32::from(width))?;
-    end(rest)?;
-    Ok(element)
+    match piece {
+        Piece::Word(word) => words::literal(*word, 8 * u32::from(width)),
+        _ => Err(LineKind::Operands),
+    }
+}
+
+/// The elements up to the end of the line, each of so many bytes.
+fn elements(alloc: Global, width: u16, pieces: &[Piece]) -> Result<Vec<i64>, Refusal>
+    requires { IsTrue (is_width width) }
+    ensures { Gives (λ zs. zs.items) result (elements_in width (pieces_in pieces.now)) }
+{
+    let mut elements = Vec::new(alloc);
+    for piece in pieces {
+        elements.push(element(width, piece)?)?;
+    }
+    Ok(elements)
 }
 
 // ---- lines that may not stand where they stand
@@ -486,20 +483,18 @@ fn sparse_line(alloc: Global, head: Head, pieces: &[Piece]) -> Result<BodyLine, 
     }
 }
 
-fn data_line(width: u16, head: Head, pieces: &[Piece]) -> Result<BodyLine, LineKind>
+fn data_line(alloc: Global, width: u16, head: Head, pieces: &[Piece]) -> Result<BodyLine, Refusal>
     requires { IsTrue (is_width width) }
-    ensures exact { Reads (λ l. l) result (data_line width head (pieces_in pieces.now)) }
+    ensures exact { Gives (λ l. l) result (data_line width head (pieces_in pieces.now)) }
     ensures formed { IfOk result IsLine }
 {
     match head {
-        Head::Other if begins_with_number(pieces) => {
-            match element_line(width, pieces) {
-                Ok(element) => Ok(BodyLine::Element(element)),
-                Err(fault) => Err(fault),
-            }
-        }
-        Head::Directive(Directive::End(Block::Data)) => end_line(pieces),
-        _ => Err(refusal_of(head)),
+        Head::Other if begins_with_number(pieces) => match elements(alloc, width, pieces) {
+            Ok(elements) => Ok(BodyLine::Elements(Seq::of(elements))),
+            Err(error) => Err(error),
+        },
+        Head::Directive(Directive::End(Block::Data)) => Ok(end_line(pieces)?),
+        _ => Err(Refusal::Fault(refusal_of(head))),
     }
 }
 
@@ -527,6 +522,6 @@ pub fn body_line(
         None => method_line(alloc, arguments, before.frame, line, head, pieces),
         Some(Opening::Packed(_)) => packed_line(alloc, head, pieces),
         Some(Opening::Sparse) => sparse_line(alloc, head, pieces),
-        Some(Opening::Data(width)) => Ok(data_line(width, head, pieces)?),
+        Some(Opening::Data(width)) => data_line(alloc, width, head, pieces),
     }
 }

@@ -1,8 +1,10 @@
 // A draft that is being read, line by line.
-ghost use Rattle.std.specs.Prelude.{◌≡◌, ◌∷◌, ◌++◌, ℕ, [], OnOk};
+ghost use Rattle.std.specs.Prelude.{◌≡◌, ◌∷◌, ◌++◌, ℕ, [], IsTrue, OnOk};
+ghost use Rattle.std.specs.List.{flat_map};
+ghost use Rattle.dv_defs.specs.Tiling.{is_width};
 ghost use Rattle.dv_coderead.specs.Giving.{GivesLines};
 ghost use Rattle.dv_coderead.specs.BodyLines.{IsLine, StandsIn};
-ghost use Rattle.dv_coderead.specs.Bodies.{nothing_before};
+ghost use Rattle.dv_coderead.specs.Bodies.{element_bytes, nothing_before};
 ghost use Rattle.dv_coderead.specs.Drafting.{finished_with, payload_with, Adds, IsDrafting};
 
 use crate::body_line::{BodyLine, Context, Opening};
@@ -63,19 +65,16 @@ impl Drafting {
         }
     }
 
-    /// Adds the bytes of an array's element, the low byte first.
-    fn add_element(&mut self, element: i64) -> Result<(), AllocError>
+    /// Adds the elements of an array.
+    fn add_elements(&mut self, elements: Seq<i64>) -> Result<(), AllocError>
         requires drafting { IsDrafting self.old }
-        requires stands { StandsIn self.old.context.block (BodyLine.Element element) }
-        ensures { OnOk result ((n : ℕ) → Adds self.old n (BodyLine.Element element) self.new) }
+        requires stands { StandsIn self.old.context.block (BodyLine.Elements elements) }
+        ensures { OnOk result ((n : ℕ) → Adds self.old n (BodyLine.Elements elements) self.new) }
     {
         let Some(Opening::Data(width)) = self.context.block else {
             return Ok(());
         };
-        let bytes = element.cast_unsigned().to_le_bytes();
-        self.open
-            .bytes
-            .extend_from_slice(&bytes[..usize::from(width)])
+        add_bytes(&mut self.open.bytes, width, elements.items())
     }
 
     /// Closes the block that is open, whose payload becomes an item.
@@ -133,7 +132,7 @@ impl Drafting {
                 self.open.keys.push(key)?;
                 push(&mut self.open.labels, name)
             }
-            BodyLine::Element(element) => self.add_element(element),
+            BodyLine::Elements(elements) => self.add_elements(elements),
             BodyLine::End => self.end_block(alloc),
         }
     }
@@ -161,6 +160,18 @@ impl Drafting {
             catches: Seq::of(self.catches),
         })
     }
+}
+
+/// Adds the bytes of elements, the low byte of each first.
+fn add_bytes(bytes: &mut Vec<u8>, width: u16, elements: &[i64]) -> Result<(), AllocError>
+    requires { IsTrue (is_width width) }
+    ensures { OnOk result (bytes.new.items ≡ bytes.old.items ++ flat_map (element_bytes width) elements.now) }
+{
+    for element in elements {
+        let all = element.cast_unsigned().to_le_bytes();
+        bytes.extend_from_slice(&all[..usize::from(width)])?;
+    }
+    Ok(())
 }
 
 /// Puts one more behind the others.

@@ -3,9 +3,10 @@ ghost use Rattle.std.specs.Prelude.{◌≡◌, option_map};
 ghost use Rattle.std.specs.List.{All};
 ghost use Rattle.dv_lex.specs.Lines.{lexemes_in, IsInside};
 ghost use Rattle.dv_coderead.specs.Pieces.{pieces_of};
-ghost use Rattle.dv_coderead.specs.Heads.{class_directive, directive_of, ended_by, ended_outside, ends_skipped, end_of, first_word, head_of, insn_head, is_float_name, is_skipped, method_directive, raw_directive, restart_of, skipped_directive, two_word_directive, word_head};
+ghost use Rattle.dv_coderead.specs.Heads.{class_directive, colon_head, directive_of, ended_by, ended_outside, ends_skipped, end_of, first_word, head_of, insn_head, is_float_name, is_skipped, method_directive, raw_directive, restart_of, skipped_directive, two_word_directive, word_head};
 ghost use Rattle.dv_optable.specs.Table.{opcode_named};
 
+use crate::names::is_name;
 use dv_lex::{Token, TokenKind};
 use dv_optable::name_to_opcode;
 
@@ -259,12 +260,23 @@ fn insn_head(word: &[u8]) -> Head
     }
 }
 
+/// What stands behind a colon: a label, if it is a name.
+fn colon_head(name: &[u8]) -> Head
+    ensures { result ≡ colon_head name.now }
+{
+    if is_name(name) {
+        Head::Label
+    } else {
+        Head::Other
+    }
+}
+
 fn word_head(word: &[u8], second: Option<&[u8]>) -> Head
     ensures { result ≡ word_head word.now (option_map (λ w. w.now) second.entry) }
 {
-    match word.first() {
-        Some(b'.') => Head::Directive(directive_of(word, second)),
-        Some(b':') => Head::Label,
+    match word {
+        [b'.', ..] => Head::Directive(directive_of(word, second)),
+        [b':', name @ ..] => colon_head(name),
         _ => insn_head(word),
     }
 }

@@ -1,8 +1,8 @@
 -- The lines of a text with their tokens, and where reading stops.
-use Rattle.std.specs.Prelude.{◌≡◌, ℕ, Bool, ◌+◌, ◌<◌, ◌≤◌, List, [], ◌∷◌, length, map, slice_range, drop, MatchResult, Option, Some, None, Result, Ok, Err, ◌==◌, if◌then◌else◌}
+use Rattle.std.specs.Prelude.{◌≡◌, ℕ, Bool, ◌+◌, ◌<◌, ◌≤◌, List, [], ◌∷◌, length, map, slice_range, drop, MatchResult, Option, Some, None, Result, Ok, Err, nat_eq, ◌==◌, if◌then◌else◌}
 use Rattle.std.specs.Str.{is_utf8}
 use Rattle.std.specs.Str.Lines.{strip_carriage_return}
-use Rattle.std.specs.List.{All, slice_split}
+use Rattle.std.specs.List.{All, slice_split, starts_with}
 use Rattle.dv_defs.specs.declared.faults.LineKind.{LineKind}
 use Rattle.dv_defs.specs.declared.faults.LineKind.TheVariants.{NotUtf8}
 use Rattle.dv_defs.specs.declared.faults.LineError.{LineError}
@@ -60,9 +60,13 @@ unfoldable pub read_rows : List Row → Reading
 read_rows [] = record { lines = []; stop = None }
 read_rows (r ∷ rs) = and_then_lines r.number (line_lexemes r.start r.bytes) (read_rows rs)
 
+-- how many bytes a byte order mark in front of a text has: it is passed over
+abbrev pub mark_length : List ℕ → ℕ
+mark_length text = if starts_with nat_eq text (239 ∷ 187 ∷ 191 ∷ []) then 3 else 0
+
 -- what a text holds
 abbrev pub reading_of : List ℕ → Reading
-reading_of text = read_rows (rows_from 1 0 text)
+reading_of text = read_rows (rows_from 1 (mark_length text) (drop (mark_length text) text))
 
 -- ---- what calls answer
 

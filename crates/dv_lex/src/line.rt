@@ -3,7 +3,7 @@ ghost use Rattle.std.specs.Prelude.{◌≡◌, ◌∷◌, ◌+◌, ◌-◌, ◌^
 ghost use Rattle.std.specs.List.{All};
 ghost use Rattle.std.specs.Str.{is_utf8};
 ghost use Rattle.std.specs.Str.Lines.{strip_carriage_return};
-ghost use Rattle.dv_lex.specs.Lines.{good_in, is_line_feed, lexemes_in, line_lexemes, read_in, reading_of, rows_from, AreTokens, Finds, HasTokens, IsInside, IsLineInside, ReadsAll, Row};
+ghost use Rattle.dv_lex.specs.Lines.{good_in, is_line_feed, lexemes_in, line_lexemes, mark_length, read_in, reading_of, rows_from, AreTokens, Finds, HasTokens, IsInside, IsLineInside, ReadsAll, Row};
 
 use crate::token::{Token, tokens_from};
 use dv_defs::{LineError, LineKind, Seq};
@@ -102,8 +102,21 @@ pub fn line_tokens(alloc: Global, line: &[u8]) -> Result<Result<Vec<Token>, Line
     tokens_between(alloc, line, 0, line.len())
 }
 
+/// How many bytes a byte order mark in front of a text has.
+fn mark_length(text: &[u8]) -> usize
+    ensures exact { result ≡ mark_length text.now }
+    ensures inside { result ≤ length text.now }
+{
+    if text.starts_with(b"\xef\xbb\xbf") {
+        3
+    } else {
+        0
+    }
+}
+
 /// The good lines of a text with their tokens, and the first fault, which stands on the line after them. A reader of
-/// grammar goes by these: a fault of grammar on one of the good lines is the text's first.
+/// grammar goes by these: a fault of grammar on one of the good lines is the text's first. A byte order mark in front is
+/// passed over.
 ///
 /// # Errors
 ///
@@ -115,7 +128,7 @@ pub fn good_lines(alloc: Global, text: &[u8]) -> Result<GoodLines, AllocError>
     ensures exact { IfOk result (λ g. good_in text.now g ≡ reading_of text.now) }
 {
     let mut lines = Vec::new(alloc);
-    let mut start = 0;
+    let mut start = mark_length(text);
     let mut number = 1;
     while start < text.len() {
         let (end, next) = line_bounds(text, start, number);

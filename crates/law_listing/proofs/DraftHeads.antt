@@ -1,10 +1,11 @@
 -- What the lines of a draft are by their first words.
-use Rattle.std.proofs.Common.{◌≡◌, ℕ, ◌<◌, ◌==◌, Bool, true, false, not, ◌||◌, ◌^◌, List, [], ◌∷◌, ◌++◌, map, codes, bytes_eq, nat_eq, Some, None, inl, inr, refl, sym, ap, ◌∙◌, append-nil, arith}
+use Rattle.std.proofs.Common.{◌≡◌, ℕ, ◌<◌, ◌==◌, Bool, true, false, not, ◌||◌, ◌^◌, List, [], ◌∷◌, ◌++◌, map, codes, bytes_eq, nat_eq, Some, None, IsTrue, inl, inr, refl, sym, ap, ◌∙◌, append-nil, arith}
 use Rattle.std.specs.Prelude.{ℤ, pos, negsuc, unsigned_abs, if◌then◌else◌}
 use Rattle.std.specs.Fmt.{decimal, signed_decimal}
 use Rattle.std.specs.List.{list_all, list_any, slice_split}
-use Rattle.std.proofs.lemmas.Bool.{and_parts, cases_Bool, eqb-true, true≢false}
+use Rattle.std.proofs.lemmas.Bool.{and_parts, cases_Bool, cond-true, eqb-true, true≢false}
 use Rattle.std.proofs.lemmas.Bool.Decides.{nat_tests}
+use Rattle.dv_names.specs.Descriptors.{is_name}
 use Rattle.dv_optable.specs.Table.{Entry, table, opcode_in, opcode_named}
 use Rattle.dv_lex.specs.Numbers.{is_decimal}
 use Rattle.dv_print.specs.Operands.{label_text}
@@ -18,9 +19,9 @@ use Rattle.law_listing.proofs.Words.{AreDigitsOf, decimal_digits}
 
 -- ---- labels and directives
 
-pub label_head : (name : List ℕ) (ps : List Piece) → head_of (AWord (label_text name) ∷ ps) ≡ head.Label
+pub label_head : (name : List ℕ) (ps : List Piece) → IsTrue (is_name name) → head_of (AWord (label_text name) ∷ ps) ≡ head.Label
 unfolding head_of
-label_head name ps = refl
+label_head name ps named = cond-true (is_name name) head.Label head.Other named
 
 pub registers_head : (ps : List Piece) → head_of (AWord (codes ".registers") ∷ ps) ≡ head.Directive directive.Registers
 unfolding head_of directive_of class_directive method_directive

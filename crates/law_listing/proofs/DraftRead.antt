@@ -30,13 +30,14 @@ use Rattle.dv_coderead.specs.References.{class_in, only_class, is_class_type}
 use Rattle.dv_coderead.specs.Laws.{TypesAreRead}
 use Rattle.dv_coderead.specs.Operands.{word_at, alone, and_behind}
 use Rattle.dv_coderead.specs.Heads.{head_of}
-use Rattle.dv_coderead.specs.BodyLines.{said, by_value, count_from, count_in, framed, frame_line, label_line, handler_line, catch_line, key_from, key_in, width_from, width_in, opened, packed_begin, sparse_begin, data_begin, case_line, element_line, begins_with_number, sparse_line, data_line, line_in, body_line}
+use Rattle.dv_coderead.specs.BodyLines.{said, by_value, count_from, count_in, framed, frame_line, label_line, handler_line, catch_line, key_in, width_from, width_in, opened, packed_begin, sparse_begin, data_begin, case_line, and_element, elements_in, begins_with_number, sparse_line, data_line, line_in, body_line}
 use Rattle.law_listing.specs.Listable.{IsNameText}
 use Rattle.law_listing.specs.DraftListable.{IsClassText, IsKindText, IsListedCatch}
 use Rattle.law_listing.specs.DraftPieces.{one_word, two_words, target_line, case_pieces, element_pieces, kind_pieces, range_pieces, catch_pieces, registers_line}
 use Rattle.law_listing.specs.OperandPieces.{insn_pieces, IsReadAsOp}
-use Rattle.law_listing.proofs.Words.{IsReadAs, number_read, signed_read, decimal_read, literal_read, label_read}
+use Rattle.law_listing.proofs.Words.{IsReadAs, number_read, signed_read, decimal_read, literal_read, plain_literal_read, label_read}
 use Rattle.law_listing.proofs.DraftElements.{by_width, Fits}
+use Rattle.law_listing.proofs.OperandsRead.{fits_is_signed}
 use Rattle.law_listing.proofs.DraftHeads.{label_head, registers_head, catch_head, catchall_head, packed_head, sparse_head, data_head, end_packed_head, end_sparse_head, end_data_head, number_head, signed_head}
 
 -- ---- words
@@ -54,8 +55,7 @@ value_of f text z is = ap (by_value f) is.read ∙ ap f is.is
 
 pub key_read : (z : ℤ) → fits_signed 32 z ≡ true → key_in (signed_decimal z) ≡ Ok z
 unfolding key_in
-key_read z fits =
-    value_of key_from (signed_decimal z) z (signed_read z (key_small z fits)) ∙ cond-true (fits_signed 32 z) (Ok z) _ fits
+key_read z fits = plain_literal_read 32 z (key_small z fits) (fits_is_signed 32 z fits)
 
 count_whole : (n : ℕ) → n ≤ 256 → count_from 0 (pos n) ≡ Ok n
 count_whole n few =
@@ -118,7 +118,7 @@ registers_read arguments n registers few =
 module _ (arguments : ℕ) (frame : Frame) (n : ℕ) where
   pub label_told : (name : List ℕ) → IsNameText name → body_line arguments (inside frame None) n (target_line name) ≡ Ok (line.Label name)
   label_told name is =
-      body_by arguments (inside frame None) n (target_line name) head.Label _ (label_head name [])
+      body_by arguments (inside frame None) n (target_line name) head.Label _ (label_head name [] is.0)
       (ap (λ (r : Result (List ℕ) LineKind). said line.Label r) (label_alone name is))
 
   pub op_told : (op : Draftop) → IsReadAsOp op → body_line arguments (inside frame None) n (insn_pieces op) ≡ Ok (line.Op op)
@@ -175,7 +175,7 @@ module _ (arguments : ℕ) (frame : Frame) (n : ℕ) where
 
   pub target_told : (first : ℤ) (name : List ℕ) → IsNameText name → body_line arguments (inside frame (Some (opening.Packed first))) n (target_line name) ≡ Ok (line.Target name)
   target_told first name is =
-      body_by arguments (inside frame (Some (opening.Packed first))) n (target_line name) head.Label _ (label_head name [])
+      body_by arguments (inside frame (Some (opening.Packed first))) n (target_line name) head.Label _ (label_head name [] is.0)
       (ap (λ (r : Result (List ℕ) LineKind). said line.Target r) (label_alone name is))
 
   pub end_packed_told : (first : ℤ) → body_line arguments (inside frame (Some (opening.Packed first))) n (two_words (codes ".end") (codes "packed-switch")) ≡ Ok line.End
@@ -204,17 +204,18 @@ module _ (arguments : ℕ) (frame : Frame) (n : ℕ) where
   end_sparse_told =
       body_by arguments (inside frame (Some opening.Sparse)) n (two_words (codes ".end") (codes "sparse-switch")) (head.Directive (directive.End Sparse)) _ (end_sparse_head []) refl
 
-  element_read : (width : ℕ) (z : ℤ) → IsTrue (is_width width) → Fits width z → element_line width (element_pieces width z) ≡ Ok z
-  unfolding element_line
+  -- an element alone on its line
+  element_read : (width : ℕ) (z : ℤ) → IsTrue (is_width width) → Fits width z → elements_in width (element_pieces width z) ≡ Ok (z ∷ [])
+  unfolding elements_in
   element_read width z is fits =
-      word_alone (literal_in (8 * width)) (signed_decimal z ++ suffix_of width) z (literal_read (8 * width) z (suffix_of width) fits.small fits.signed (suffix_is width is))
+      ap (λ (r : Result ℤ LineKind). r >>= λ y. and_element y (Ok [])) (literal_read (8 * width) z (suffix_of width) fits.small fits.signed (suffix_is width is))
 
-  element_by : (width : ℕ) (z : ℤ) → IsTrue (is_width width) → Fits width z → data_line width head.Other (element_pieces width z) ≡ Ok (line.Element z)
+  element_by : (width : ℕ) (z : ℤ) → IsTrue (is_width width) → Fits width z → data_line width head.Other (element_pieces width z) ≡ Ok (line.Elements (z ∷ []))
   element_by width z is fits =
       numbered_by (signed_decimal z ++ suffix_of width) z [] _ _ (number_read z (suffix_of width) fits.small (suffix_is width is)) ∙
-      ap (λ (r : Result ℤ LineKind). said line.Element r) (element_read width z is fits)
+      ap (λ (r : Result (List ℤ) LineKind). said line.Elements r) (element_read width z is fits)
 
-  pub element_told : (width : ℕ) (z : ℤ) → IsTrue (is_width width) → Fits width z → body_line arguments (inside frame (Some (opening.Data width))) n (element_pieces width z) ≡ Ok (line.Element z)
+  pub element_told : (width : ℕ) (z : ℤ) → IsTrue (is_width width) → Fits width z → body_line arguments (inside frame (Some (opening.Data width))) n (element_pieces width z) ≡ Ok (line.Elements (z ∷ []))
   element_told width z is fits =
       body_by arguments (inside frame (Some (opening.Data width))) n (element_pieces width z) head.Other _
       (number_head z (suffix_of width) [] fits.small) (element_by width z is fits)

@@ -159,13 +159,15 @@ module _ (arguments : ℕ) (frame : Frame) where
       let rest = elements_told width zs (n + 1) is (All-tail (Fits width) z zs fit) in
       record {
         block = record {
-          told = record { number = n; says = line.Element z } ∷ rest.block.told;
+          told = record { number = n; says = line.Elements (z ∷ []) } ∷ rest.block.told;
           end = rest.block.end;
-          tells = OneLine _ _ n rest.block.end _ _ (line.Element z) _ (element_told arguments frame n width z is (All-head (Fits width) z zs fit)) rest.block.tells;
+          tells = OneLine _ _ n rest.block.end _ _ (line.Elements (z ∷ [])) _ (element_told arguments frame n width z is (All-head (Fits width) z zs fit)) rest.block.tells;
           no_items = rest.block.no_items;
           no_catches = rest.block.no_catches;
         };
-        bytes_told = λ us. ap (λ (l : List ℕ). element_bytes width z ++ l) (rest.bytes_told us);
+        bytes_told = λ us.
+            ap (λ (l : List ℕ). l ++ data_bytes width (rest.block.told ++ us)) (append-nil (element_bytes width z))
+            ∙ ap (λ (l : List ℕ). element_bytes width z ++ l) (rest.bytes_told us);
       }
 
   -- ---- items and handlers

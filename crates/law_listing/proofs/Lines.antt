@@ -1,5 +1,5 @@
 -- Lines of pieces are read as these pieces.
-use Rattle.std.proofs.Common.{◌≡◌, ℕ, zero, suc, ◌+◌, ◌-◌, ◌<◌, ◌≤◌, true, false, List, [], ◌∷◌, ◌++◌, length, get_or, map, Ok, None, refl, sym, ap, ◌∙◌, subst, append_assoc, arith}
+use Rattle.std.proofs.Common.{◌≡◌, ℕ, zero, suc, ◌+◌, ◌-◌, ◌<◌, ◌≤◌, true, false, List, [], ◌∷◌, ◌++◌, length, drop, get_or, map, Ok, None, refl, sym, ap, ◌∙◌, subst, append_assoc, arith}
 use Rattle.std.specs.List.{flat_map, list_all, slice_split, All, AllByRecursion}
 use Rattle.std.specs.Str.Lines.{strip_carriage_return}
 use Rattle.std.specs.Str.{is_utf8}
@@ -113,4 +113,6 @@ rows_read n at text pss (OneLine w rest ps more h hs) =
     subst (λ rows. IsRead n rows (ps ∷ more)) (sym (first_row n at w rest h.printed)) (one_read n at w ps (rows_from (n + 1) (at + length w + 1) rest) more h (rows_read (n + 1) (at + length w + 1) rest more hs))
 
 pub lines_read : PrintedLinesAreRead
-lines_read text pss h = let r = rows_read 1 0 text pss h in record { lines = r.lines; well = r.well }
+lines_read text pss none h =
+    let r = subst (λ n. IsRead 1 (rows_from 1 n (drop n text)) pss) (sym none) (rows_read 1 0 text pss h) in
+    record { lines = r.lines; well = r.well }

@@ -113,7 +113,7 @@ pub negated_least : (m n : ℕ) → n < m → negated m ≤ℤ negsuc n
 negated_least zero n lt = absurd (omega arith)
 negated_least (suc m) n lt = omega (arith, ints)
 
-fits_is_signed : (bits : ℕ) (z : ℤ) → fits_signed bits z ≡ true → IsSigned bits z
+pub fits_is_signed : (bits : ℕ) (z : ℤ) → fits_signed bits z ≡ true → IsSigned bits z
 fits_is_signed bits (pos n) fits = (negated_below (2 ^ (bits - 1)) n, (let lt = ltb-true n (2 ^ (bits - 1)) fits in omega (arith, ints)))
 fits_is_signed bits (negsuc n) fits = (negated_least (2 ^ (bits - 1)) n (ltb-true n (2 ^ (bits - 1)) fits), omega (arith, ints))
 

@@ -1,6 +1,7 @@
 -- The listing of several classes.
 pub mod Behind
 pub mod Parts
+pub mod Unmarked
 pub mod Read
 pub mod Cutting
 pub mod Entries

@@ -1,8 +1,8 @@
 -- The draft that the lines of a method give can be listed.
-use Rattle.std.proofs.Common.{◌≡◌, ℕ, zero, suc, ◌+◌, ◌/◌, ◌%◌, ◌^◌, ◌<◌, ◌≤◌, ℤ, pos, negsuc, List, [], ◌∷◌, length, drop, Option, Some, None, IsTrue, Result, Ok, Err, IfOk, refl, sym, ap, subst, ◌∙◌, arith}
+use Rattle.std.proofs.Common.{◌≡◌, ℕ, zero, suc, ◌+◌, ◌/◌, ◌%◌, ◌^◌, ◌<◌, ◌≤◌, ℤ, pos, negsuc, List, [], ◌∷◌, ◌++◌, length, drop, Option, Some, None, IsTrue, Result, Ok, Err, IfOk, refl, sym, ap, subst, ◌∙◌, append_assoc, arith}
 use Rattle.std.specs.Prelude.{bytes_eq, codes, nat_le}
 use Rattle.std.specs.Int.{byte_at, bytes_low_first, to_le_bytes, w64}
-use Rattle.std.specs.List.{All}
+use Rattle.std.specs.List.{All, flat_map}
 use Rattle.std.specs.Str.{IsUtf8}
 use Rattle.std.proofs.Math.Nat.{add-mod_left, zero-mod}
 use Rattle.std.proofs.lemmas.Bool.{and_from, cond_both, leb-true}
@@ -34,7 +34,7 @@ use Rattle.dv_coderead.specs.declared.head.Head.{Head}
 use Rattle.dv_coderead.specs.declared.head.Head.TheVariants as head
 use Rattle.dv_coderead.specs.declared.words.Frame.{Frame}
 use Rattle.dv_coderead.specs.Bodies.{Told, and_catch, and_item, and_told, body_from, bytes_of, case_label_of, case_labels, catches_of, data_bytes, element_bytes, finished, is_whole, item_of, items_of, key_of, keys, nothing_before, payload_of, registers_of, target_of, targets, told_behind, told_by, told_next}
-use Rattle.dv_coderead.specs.BodyLines.{Case, IsHead, arrow_at, begin_line, begins_with_number, body_line, by_value, case_line, catch_line, count_from, count_in, data_begin, data_line, directive_line, element_line, end_line, frame_line, framed, handler_line, key_from, key_in, label_line, line_in, method_line, opened, packed_begin, packed_line, registers_line, said, sparse_begin, sparse_line, width_from, width_in}
+use Rattle.dv_coderead.specs.BodyLines.{Case, IsHead, arrow_at, begin_line, begins_with_number, body_line, by_value, case_line, catch_line, count_from, count_in, data_begin, data_line, directive_line, elements_in, end_line, frame_line, framed, handler_line, key_in, label_line, line_in, method_line, opened, packed_begin, packed_line, registers_line, said, sparse_begin, sparse_line, width_from, width_in}
 use Rattle.dv_coderead.specs.Giving.{◌>>>◌, on_line}
 use Rattle.dv_coderead.specs.Heads.{head_of}
 use Rattle.dv_coderead.specs.Kept.{TextLine, counts, depth_behind, kept}
@@ -50,7 +50,7 @@ use Rattle.dv_coderead.proofs.Opcodes.{head_named}
 use Rattle.dv_coderead.proofs.Adding.{element_length}
 use Rattle.law_listing.proofs.ReadOps.{operands_listed}
 use Rattle.law_listing.proofs.ReadParts.{behind_text, behind_texts, dots_leave, either, mark_leaves, of_alone, of_word}
-use Rattle.dv_coderead.proofs.FormedParts.{after_such}
+use Rattle.dv_coderead.proofs.FormedParts.{after_such, literal_fits}
 use Rattle.law_listing.proofs.ReadWords.{IsTypeOf, class_listed, label_listed, weaker_ok}
 
 -- ---- what a line says
@@ -74,7 +74,7 @@ IsListedLine (line.Handler c) = IsListedCatch c
 IsListedLine (line.Begin o) = IsListedOpening o
 IsListedLine (line.Target name) = IsNameText name
 IsListedLine (line.Case key name) = IsKey key × IsNameText name
-IsListedLine (line.Element z) = Unit {0}
+IsListedLine (line.Elements zs) = Unit {0}
 IsListedLine line.End = Unit {0}
 
 said_listed : {A : Type 0} (P : A → Type 0) (f : A → BodyLine) (read : Result A LineKind) → ((x : A) → P x → IsListedLine (f x)) → IfOk read P → IfOk (said f read) IsListedLine
@@ -134,14 +134,9 @@ handler_listed n ty ps kind are =
 
 -- ---- payloads
 
-key_from_fits : (z : ℤ) → IfOk (key_from z) IsKey
-key_from_fits z =
-    let P : Result ℤ LineKind → Type 0 = λ r. IfOk r IsKey in
-    cond_both (fits_signed 32 z) _ _ P (λ e. e) (λ _. tt)
-
 key_listed : (w : List ℕ) → IsUtf8 w → IfOk (key_in w) IsKey
 unfolding key_in
-key_listed w u = of_value IsKey key_from (number_in w) key_from_fits
+key_listed w u = literal_fits 32 w
 
 abbrev IsWidth : ℕ → Type 0
 IsWidth n = IsTrue (is_width n)
@@ -205,7 +200,7 @@ sparse_listed h ps are = tt
 
 data_listed : (width : ℕ) (h : Head) (ps : List Piece) → IfOk (data_line width h ps) IsListedLine
 data_listed width head.Other ps =
-    either IsListedLine (begins_with_number ps) _ _ (said_listed (λ _. Unit {0}) line.Element (element_line width ps) (λ z is. tt) (any_ok (element_line width ps))) tt
+    either IsListedLine (begins_with_number ps) _ _ (said_listed (λ _. Unit {0}) line.Elements (elements_in width ps) (λ zs is. tt) (any_ok (elements_in width ps))) tt
 data_listed width (head.Directive (directive.End Data)) ps = end_listed ps
 data_listed width h ps = tt
 
@@ -331,17 +326,26 @@ record AreElements (width : ℕ) (bytes : List ℕ) : Type 0 where
 no_element : (width : ℕ) → AreElements width []
 no_element width = record { whole = zero-mod width; small = All-nil IsByte }
 
-element_more : (width : ℕ) (s : BodyLine) (bytes : List ℕ) → IsTrue (is_width width) → AreElements width bytes → AreElements width (bytes_of width s bytes)
-element_more width (line.Element z) bytes has are = record {
+element_more : (width : ℕ) (z : ℤ) (bytes : List ℕ) → IsTrue (is_width width) → AreElements width bytes → AreElements width (element_bytes width z ++ bytes)
+element_more width z bytes has are = record {
   whole = ap (λ n. n % width) (length-append (element_bytes width z) bytes ∙ ap (λ n. n + length bytes) (element_length width z has)) ∙ add-mod_left width (length bytes) ∙ are.whole;
   small = All-append IsByte (element_bytes width z) bytes (All-take IsByte width (to_le_bytes w64 (bits64 z)) (bytes_small 0 8 (bits64 z))) are.small;
 }
-element_more width s bytes has are = no_element width
+
+elements_more : (width : ℕ) (zs : List ℤ) (bytes : List ℕ) → IsTrue (is_width width) → AreElements width bytes → AreElements width (flat_map (element_bytes width) zs ++ bytes)
+elements_more width [] bytes has are = are
+elements_more width (z ∷ zs) bytes has are =
+    subst (AreElements width) (sym (append_assoc (element_bytes width z) (flat_map (element_bytes width) zs) bytes))
+    (element_more width z (flat_map (element_bytes width) zs ++ bytes) has (elements_more width zs bytes has are))
+
+line_more : (width : ℕ) (s : BodyLine) (bytes : List ℕ) → IsTrue (is_width width) → AreElements width bytes → AreElements width (bytes_of width s bytes)
+line_more width (line.Elements zs) bytes has are = elements_more width zs bytes has are
+line_more width s bytes has are = no_element width
 
 elements_listed : (width : ℕ) (ts : List Told) → IsTrue (is_width width) → AreElements width (data_bytes width ts)
 unfolding data_bytes
 elements_listed width [] has = no_element width
-elements_listed width (t ∷ ts) has = element_more width t.says (data_bytes width ts) has (elements_listed width ts has)
+elements_listed width (t ∷ ts) has = line_more width t.says (data_bytes width ts) has (elements_listed width ts has)
 
 -- ---- the draft
 

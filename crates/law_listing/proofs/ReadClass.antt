@@ -16,7 +16,7 @@ use Rattle.dv_defs.specs.Field.{may_stand, value_fits}
 use Rattle.dv_defs.specs.Flags.{has_flag}
 use Rattle.dv_names.specs.Descriptors.{is_name}
 use Rattle.dv_lex.proofs.Grammar.Utf8.{before_ascii}
-use Rattle.dv_lex.specs.Numbers.{Number, signed}
+use Rattle.dv_lex.specs.Numbers.{Number}
 use Rattle.dv_coderead.specs.declared.head.Directive.{Directive}
 use Rattle.dv_coderead.specs.declared.head.Directive.TheVariants as directive
 use Rattle.dv_coderead.specs.declared.head.Head.{Head}
@@ -26,12 +26,12 @@ use Rattle.dv_coderead.specs.Laws.{TypesAreRead, PrototypesAreRead}
 use Rattle.dv_coderead.specs.Operands.{Part, behind, ended, word_at}
 use Rattle.dv_coderead.specs.Pieces.{Piece, AWord, AMark, AString, ACharacter}
 use Rattle.dv_coderead.specs.References.{class_in, cut_at, found_parts, is_class_type, member_name, proto_in, type_in}
-use Rattle.dv_coderead.specs.Words.{number_in}
+use Rattle.dv_coderead.specs.Words.{fitting, number_in}
 use Rattle.dv_classread.specs.declared.class_line.ClassLine.{ClassLine}
 use Rattle.dv_classread.specs.declared.class_line.ClassLine.TheVariants as line
 use Rattle.dv_classread.specs.declared.class_line.Standing.{Standing}
 use Rattle.dv_classread.specs.declared.class_line.Standing.TheVariants as standing
-use Rattle.dv_classread.specs.ClassLines.{and_bit, boolean_value, by_directive, by_head, class_head_line, class_line, class_name, class_name_line, field_line, fitting_value, flag_of, flags_at, init_line, inside_line, is_boolean, is_boolean_base, is_false, is_true, lacks_super, name_and_proto, name_and_type, name_of, number_value, said, signature_line, superclass_line, value_alone, value_in, with_flag, word_value, NameAndType}
+use Rattle.dv_classread.specs.ClassLines.{and_bit, boolean_value, by_directive, by_head, class_head_line, class_line, class_name, class_name_line, field_line, fitting_value, flag_of, flags_at, init_line, inside_line, is_boolean, is_boolean_base, is_false, is_true, lacks_super, name_and_proto, name_and_type, name_of, number_as, number_value, said, signature_line, superclass_line, value_alone, value_in, with_flag, word_value, NameAndType}
 use Rattle.dv_classread.proofs.Flags.{bit_free}
 use Rattle.law_listing.specs.Listable.{IsNameText, IsTypeText}
 use Rattle.law_listing.specs.ClassPieces.{HasKnownFlags, IsClassText, IsInitText, IsListedField}
@@ -108,7 +108,7 @@ fitting_listed t i is =
 
 number_listed : (t : Ty) (o : Option Number) → IfOk (number_value t o) (IsValueOf t)
 number_listed t None = tt
-number_listed t (Some n) = fitting_listed t (init.Num (signed n)) tt
+number_listed t (Some n) = after_any (IsValueOf t) (fitting (number_as t.base n)) _ (λ z. fitting_listed t (init.Num z) tt)
 
 boolean_base_fits : (dims : ℕ) (b : Base) (n : ℕ) → n < 2 → (dims == 0) ≡ true → is_boolean_base b ≡ true → value_fits (init.Num (pos n)) (record { dims = dims; base = b }) ≡ true
 boolean_base_fits dims base.Z zero lt none is = and_from _ _ none refl
@@ -227,7 +227,6 @@ module _ (types : TypesAreRead) (protos : PrototypesAreRead) where
   inside_listed : (is_object has_super : Bool) (d : Directive) (ps : List Piece) → ArePieceTexts ps → IfOk (inside_line is_object has_super d ps) IsClassLineText
   inside_listed is_object has_super directive.Super ps are = super_listed is_object has_super ps are
   inside_listed is_object has_super directive.Implements ps are = said_listed IsClassText line.Implements (class_name_line ps) (λ name is. is) (class_name_line_listed types ps are)
-  inside_listed is_object has_super directive.Source ps are = tt
   inside_listed is_object has_super directive.Field ps are = said_listed IsListedField line.Field (field_line ps) (λ f is. is) (field_listed types ps are)
   inside_listed is_object has_super directive.Method ps are = said_listed IsSignatureText line.Method (signature_line ps) (λ s is. is) (signature_listed protos ps are)
   inside_listed is_object has_super d ps are = tt
@@ -235,6 +234,7 @@ module _ (types : TypesAreRead) (protos : PrototypesAreRead) where
   directive_listed : (s : Standing) (n : ℕ) (d : Directive) (ps : List Piece) → ArePieceTexts ps → IfOk (by_directive s n d ps) IsClassLineText
   directive_listed s n directive.Class ps are =
       either IsClassLineText (lacks_super s) _ _ tt (said_listed IsClassHeadText line.Class (class_head_line n ps) (λ h is. is) (class_head_listed types n ps are))
+  directive_listed s n directive.Source ps are = tt
   directive_listed standing.Outside n d ps are = tt
   directive_listed (standing.Inside is_object has_super) n d ps are = inside_listed is_object has_super d ps are
 

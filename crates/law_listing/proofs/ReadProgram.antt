@@ -71,7 +71,6 @@ super_stands false false ps = said_stands (standing.Inside false false) line.Sup
 inside_stands : (is_object has_super : Bool) (d : Directive) (ps : List Piece) → IfOk (inside_line is_object has_super d ps) (LineStands (standing.Inside is_object has_super))
 inside_stands is_object has_super directive.Super ps = super_stands is_object has_super ps
 inside_stands is_object has_super directive.Implements ps = said_stands (standing.Inside is_object has_super) line.Implements (class_name_line ps) (λ _. tt)
-inside_stands is_object has_super directive.Source ps = tt
 inside_stands is_object has_super directive.Field ps = said_stands (standing.Inside is_object has_super) line.Field (field_line ps) (λ _. tt)
 inside_stands is_object has_super directive.Method ps = said_stands (standing.Inside is_object has_super) line.Method (signature_line ps) (λ _. tt)
 inside_stands is_object has_super d ps = tt
@@ -80,6 +79,7 @@ directive_stands : (s : Standing) (n : ℕ) (d : Directive) (ps : List Piece) �
 directive_stands s n directive.Class ps =
     let P : Result ClassLine LineKind → Type 0 = λ r. IfOk r (LineStands s) in
     cond_both (lacks_super s) _ _ P (λ _. tt) (λ e. said_stands s line.Class (class_head_line n ps) (λ _. e))
+directive_stands s n directive.Source ps = tt
 directive_stands standing.Outside n d ps = tt
 directive_stands (standing.Inside is_object has_super) n d ps = inside_stands is_object has_super d ps
 

@@ -1,9 +1,9 @@
 -- What the printed lines of a class say.
 use Rattle.std.proofs.Common.{◌≡◌, ℕ, suc, ◌^◌, ◌<◌, ◌==◌, Bool, true, false, List, [], ◌∷◌, ◌++◌, Some, Ok, refl, sym, ap, ◌∙◌, append_assoc, arith, lit≤}
-use Rattle.std.specs.Prelude.{ℤ, pos, negsuc, unsigned_abs, not, nat_lt, codes, bytes_eq, IsTrue}
+use Rattle.std.specs.Prelude.{ℤ, pos, negsuc, unsigned_abs, not, nat_eq, nat_le, nat_lt, codes, bytes_eq, IsTrue}
 use Rattle.std.specs.Fmt.{decimal, signed_decimal}
 use Rattle.std.specs.List.{list_all}
-use Rattle.std.proofs.lemmas.Bool.{and_from, and_left, and_parts, and_right, cond-true, cond-false, eq-eqb, false_from_ne_true, not_from_true, true≢false}
+use Rattle.std.proofs.lemmas.Bool.{and_from, and_left, and_parts, and_right, cond-true, cond-false, eq-eqb, false_from_ne_true, leb-true, lt-ltb, not_from_true, true≢false}
 use Rattle.std.proofs.lemmas.Bool.Decides.{nat_tests}
 use Rattle.std.proofs.lemmas.List.Folds.{list_all-append}
 use Rattle.std.proofs.lemmas.Slice.Eq.{bytes_eq-Decides}
@@ -11,11 +11,14 @@ use Rattle.dv_defs.specs.declared.class.Init.{Init}
 use Rattle.dv_defs.specs.declared.class.Init.TheVariants as init
 use Rattle.dv_defs.specs.declared.class.MethodDef.{MethodDef}
 use Rattle.dv_defs.specs.declared.flags.Flag.TheVariants as flag
+use Rattle.dv_defs.specs.declared.names.Base.{Base}
+use Rattle.dv_defs.specs.declared.names.Base.TheVariants as base
 use Rattle.dv_defs.specs.declared.names.Proto.{Proto}
 use Rattle.dv_defs.specs.declared.names.Ty.{Ty}
-use Rattle.dv_defs.specs.Field.{FieldValue, may_stand, value_fits}
+use Rattle.dv_defs.specs.Field.{FieldValue, may_stand, number_fits, value_fits}
 use Rattle.dv_defs.specs.Flags.{has_flag}
 use Rattle.dv_names.specs.Descriptors.{descriptor, prototype, is_name, IsClassName}
+use Rattle.dv_lex.specs.Laws.Numbers.{IsSigned}
 use Rattle.dv_lex.specs.Numbers.{is_decimal}
 use Rattle.dv_coderead.specs.declared.head.Directive.TheVariants as directive
 use Rattle.dv_coderead.specs.declared.head.Head.TheVariants.{Directive}
@@ -24,14 +27,16 @@ use Rattle.dv_coderead.specs.Heads.{class_directive, directive_of, ended_by, hea
 use Rattle.dv_coderead.specs.Laws.{PrototypesAreRead, TypesAreRead}
 use Rattle.dv_coderead.specs.Operands.{and_behind, alone}
 use Rattle.dv_coderead.specs.Pieces.{Piece, AWord, AString}
+use Rattle.dv_coderead.specs.Words.{fitting}
 use Rattle.dv_coderead.specs.References.{class_in, cut_at, only_class, proto_in, type_in}
 use Rattle.dv_coderead.proofs.Cuts.{cut_lacking}
 use Rattle.dv_coderead.proofs.Lacking.{lacks, name_lacks}
 use Rattle.dv_classread.specs.declared.class_line.ClassLine.TheVariants as line
 use Rattle.dv_classread.specs.declared.class_line.Standing.TheVariants.{Inside}
-use Rattle.dv_classread.specs.ClassLines.{by_head, class_head_line, class_line, class_name, class_name_line, field_line, fitting_value, init_line, is_false, is_true, lacks_super, name_and_proto, name_and_type, name_of, number_value, said, signature_line, value_alone, value_in, word_value}
+use Rattle.dv_classread.specs.ClassLines.{by_head, class_head_line, class_line, class_name, class_name_line, field_line, fitting_value, init_line, is_false, is_true, lacks_super, name_and_proto, name_and_type, name_of, number_as, number_value, said, signature_line, value_alone, value_in, word_value}
 use Rattle.law_listing.specs.ClassPieces.{HasKnownFlags, IsClassText, IsListedField, IsListedSignature, class_pieces, field_pieces, flag_pieces, interface_pieces, method_pieces, superclass_pieces, value_pieces, ClassLinesAreRead, FieldLinesAreRead, InterfaceLinesAreRead, MethodEndsAreRead, MethodHeadersAreRead, SuperclassLinesAreRead}
-use Rattle.law_listing.proofs.Words.{decimal_digits, signed_read}
+use Rattle.law_listing.proofs.OperandsRead.{fits_is_signed}
+use Rattle.law_listing.proofs.Words.{IsReadAs, decimal_digits, signed_read}
 use Rattle.law_listing.proofs.ClassPieces.Flags.{flags_read, no_flag_class, no_flag_colon, no_flag_parenthesis}
 use Rattle.law_listing.proofs.ClassPieces.Text.{class_type, number_small, stands_by}
 
@@ -131,6 +136,25 @@ number_low (negsuc n) small = decimal_low (decimal (suc n)) (decimal_digits (suc
 low_apart : (w v : List ℕ) → list_all is_low w ≡ true → list_all is_low v ≡ false → bytes_eq w v ≡ false
 low_apart w v low high = false_from_ne_true (bytes_eq w v) (λ e. true≢false (sym low ∙ ap (list_all is_low) ((bytes_eq-Decides w v).0 e) ∙ high))
 
+-- an int and a long are read in their bits
+int_signed : (z : ℤ) → number_fits base.I z ≡ true → IsSigned 32 z
+int_signed (pos n) e = fits_is_signed 32 (pos n) (lt-ltb n (2 ^ 31) (let h = leb-true n 2147483647 e in omega (arith, h)))
+int_signed (negsuc n) e = fits_is_signed 32 (negsuc n) (lt-ltb n (2 ^ 31) (let h = leb-true n 2147483647 (and_parts (nat_le n 2147483647) true e).0 in omega (arith, h)))
+
+long_signed : (z : ℤ) → number_fits base.J z ≡ true → IsSigned 64 z
+long_signed (pos n) e = fits_is_signed 64 (pos n) (lt-ltb n (2 ^ 63) (let h = leb-true n 9223372036854775807 e in omega (arith, h)))
+long_signed (negsuc n) e = fits_is_signed 64 (negsuc n) (lt-ltb n (2 ^ 63) (let h = leb-true n 9223372036854775807 (and_parts (nat_le n 9223372036854775807) true e).0 in omega (arith, h)))
+
+-- a number of a type is read as it is printed
+number_kept : (b : Base) (text : List ℕ) (z : ℤ) (read : IsReadAs text z) → number_fits b z ≡ true → number_as b read.number ≡ Some z
+number_kept base.I text z read fits = read.fits 32 (int_signed z fits)
+number_kept base.J text z read fits = read.fits 64 (long_signed z fits)
+number_kept base.Z text z read fits = ap Some read.is
+number_kept base.B text z read fits = ap Some read.is
+number_kept base.C text z read fits = ap Some read.is
+number_kept base.S text z read fits = ap Some read.is
+number_kept (base.Class name) text z read fits = ap Some read.is
+
 number_word_read : (t : Ty) (z : ℤ) → unsigned_abs z < 10 ^ 64 → value_fits (init.Num z) t ≡ true → word_value t (signed_decimal z) ≡ Ok (init.Num z)
 unfolding word_value
 number_word_read t z small fits =
@@ -139,7 +163,8 @@ number_word_read t z small fits =
     let read = signed_read z small in
     cond-false (is_true w) _ _ (low_apart w (codes "true") low refl) ∙ cond-false (is_false w) _ _ (low_apart w (codes "false") low refl)
     ∙ cond-false (bytes_eq w (codes "null")) _ _ (low_apart w (codes "null") low refl)
-    ∙ ap (number_value t) read.read ∙ ap (λ v. fitting_value t (init.Num v)) read.is ∙ cond-true (value_fits (init.Num z) t) _ _ fits
+    ∙ ap (number_value t) read.read ∙ ap (λ o. fitting o >>= λ v. fitting_value t (init.Num v)) (number_kept t.base w z read (and_parts (nat_eq t.dims 0) _ fits).1)
+    ∙ cond-true (value_fits (init.Num z) t) _ _ fits
 
 null_word_read : (t : Ty) → value_fits init.Null t ≡ true → word_value t (codes "null") ≡ Ok init.Null
 unfolding word_value

@@ -1,5 +1,5 @@
 -- A line of a schedule behind classes says what it says in a schedule that stands alone.
-use Rattle.std.proofs.Common.{◌≡◌, ℕ, ◌<◌, Bool, true, false, List, [], ◌∷◌, ◌++◌, length, Option, Some, None, Result, Ok, Err, refl, sym, ap, ◌∙◌, subst, arith}
+use Rattle.std.proofs.Common.{◌≡◌, ℕ, ◌<◌, Bool, true, false, List, [], ◌∷◌, ◌++◌, length, drop, Option, Some, None, Result, Ok, Err, refl, sym, ap, ◌∙◌, subst, arith}
 use Rattle.std.specs.List.{list_all}
 use Rattle.std.proofs.lemmas.Bool.{and_parts, cond_both}
 use Rattle.dv_defs.specs.declared.faults.LineKind.{LineKind}
@@ -9,6 +9,7 @@ use Rattle.dv_lex.specs.declared.token.TokenKind.TheVariants as token
 use Rattle.dv_lex.specs.Lexemes.{Lexeme}
 use Rattle.dv_lex.specs.Numbers.{Number, Spells, is_digit, spelling}
 use Rattle.dv_log.specs.Reading.{AreEntry}
+use Rattle.dv_names.specs.Descriptors.{is_name}
 use Rattle.dv_optable.specs.Table.{opcode_named}
 use Rattle.dv_coderead.specs.declared.head.Directive.TheVariants as directive
 use Rattle.dv_coderead.specs.declared.head.Head.{Head}
@@ -89,7 +90,7 @@ insn_not_blank None w = cond_both (is_float_name w) head.Float head.Other IsNotB
 
 word_not_blank : (w : List ℕ) (second : Option (List ℕ)) → IsNotBlank (word_head w second)
 word_not_blank w second =
-    cond_both (begins_with 46 w) _ _ IsNotBlank (λ _. tt) (λ _. cond_both (begins_with 58 w) _ _ IsNotBlank (λ _. tt) (λ _. insn_not_blank (opcode_named w) w))
+    cond_both (begins_with 46 w) _ _ IsNotBlank (λ _. tt) (λ _. cond_both (begins_with 58 w) _ _ IsNotBlank (λ _. cond_both (is_name (drop 1 w)) head.Label head.Other IsNotBlank (λ _. tt) (λ _. tt)) (λ _. insn_not_blank (opcode_named w) w))
 
 piece_not_blank : (p : Piece) (ps : List Piece) → IsNotBlank (head_of (p ∷ ps))
 unfolding head_of

@@ -38,6 +38,7 @@ use Rattle.law_listing.proofs.ClassListing.Listed.{class_counts, class_stands, m
 use Rattle.law_listing.proofs.ClassListing.Methods.{methods_listed}
 use Rattle.law_listing.proofs.ClassListing.Told.{Tell, line_told}
 use Rattle.law_listing.proofs.Programs.Behind.{Goes, goes_on}
+use Rattle.law_listing.proofs.Programs.Unmarked.{classes_unmarked}
 use Rattle.law_listing.proofs.Programs.Parts.{HasNoPart, class_first, class_has_no_part, draft_at, head_at, nothing_has_no_part}
 
 -- ---- how many lines there are
@@ -142,6 +143,6 @@ programs_read read listed cs all =
     let l = listed cs all in
     let past = number_behind (numbered 1 l.pieces) in
     let t = l.told past Outside refl 1 in
-    let r = read (classes_text cs) l.pieces l.lines in
+    let r = read (classes_text cs) l.pieces (classes_unmarked cs) l.lines in
     text_read (reading_of (classes_text cs)) l.pieces (classes_in t.tolds) (numbered_classes 1 cs) r.well r.lines (lines_closed 1 l.pieces l.count)
     (classes_drafted past 1 l.pieces (numbered_classes 1 cs) l.count t) t.whole

@@ -24,6 +24,7 @@ use Rattle.law_listing.proofs.Lines.{lines_append}
 use Rattle.law_listing.proofs.Programs.Cutting.{BeginsNone, cut_found, told_none}
 use Rattle.law_listing.proofs.Programs.Entries.{begin_head, begin_pieces, log_pieces, log_read, schedule_pieces, schedule_stands}
 use Rattle.law_listing.proofs.Programs.Read.{ListClasses, classes_drafted}
+use Rattle.law_listing.proofs.Programs.Unmarked.{schedule_unmarked}
 
 text_read : (r : Reading) (ls : List TextLine) (c : Cut) (cs : List ClassDraft) (ds : List ClassDef) (es : List Entry) → r.stop ≡ None → map line_of r.lines ≡ ls → cut_at_schedule 0 ls ≡ Some c
     → drafts_of None c.first.number c.before ≡ Ok cs → schedule_from None (number_behind ls) c.first c.behind ≡ Ok es → classes_of cs ≡ Ok ds
@@ -44,7 +45,7 @@ schedules_read read listed cs es all entries =
     let pss = l.pieces ++ schedule_pieces es in
     let none : All BeginsNone (numbered 1 l.pieces) = IfOk-at_ok (λ _. All BeginsNone (numbered 1 l.pieces)) t.told (told_none at (InClass Outside) (numbered 1 l.pieces)) in
     let c : Cut = record { before = numbered 1 l.pieces; first = record { number = at; pieces = begin_pieces }; behind = numbered (at + 1) (log_pieces es) } in
-    let r = read (classes_text cs ++ schedule_text es) pss (lines_append (classes_text cs) (schedule_text es) l.pieces (schedule_pieces es) l.lines (schedule_stands es entries)) in
+    let r = read (classes_text cs ++ schedule_text es) pss (schedule_unmarked cs es) (lines_append (classes_text cs) (schedule_text es) l.pieces (schedule_pieces es) l.lines (schedule_stands es entries)) in
     text_read (reading_of (classes_text cs ++ schedule_text es)) (numbered 1 pss) c (classes_in t.tolds) (numbered_classes 1 cs) es r.well r.lines
     (cut_found 1 l.pieces begin_pieces (log_pieces es) l.count none begin_head) (classes_drafted at 1 l.pieces (numbered_classes 1 cs) l.count t)
     (log_read (number_behind (numbered 1 pss)) (at + 1) es entries) t.whole

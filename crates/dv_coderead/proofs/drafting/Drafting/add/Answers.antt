@@ -1,5 +1,5 @@
 use Rattle.std.proofs.lemmas.Grind.{common_steps}
-use Rattle.std.proofs.Common.{◌∷◌, [], ◌++◌, SFits, w32, w64, ap, ◌∙◌, rules, arith}
+use Rattle.std.proofs.Common.{◌∷◌, [], ◌++◌, SFits, w32, ap, ◌∙◌, rules, arith}
 use Rattle.std.proofs.lemmas.Int.{to_z-of_z}
 use Rattle.dv_coderead.proofs.Adding.{adds_begin, adds_case, adds_handler, adds_label, adds_op, adds_registers, adds_target, on_push}
 use Rattle.dv_coderead.proofs.drafting.Drafting.add.Goals as goal
@@ -45,10 +45,8 @@ returns-in_ok-push-in-Case c =
     (adds_case c.args.self.now c.args.line c.requires.drafting c.in-Case.key c.in-Case.name c.push-in-Case.new.self c.push-in-Case-2.new.list (rw c.in-Case.is at c.requires.stands)
     (c.in_ok-push-in-Case.ensures.items ∙ ap (λ k. c.args.self.now.open.keys.items ++ k ∷ []) (to_z-of_z w32 c.in-Case.key fits))))
 
-pub returns-in-Element : goal.returns-in-Element
-returns-in-Element c =
-    let fits : SFits w64 c.in-Element.element = search rules in
-    rw c.in-Element.is (on_push c.add_element.result c.add_element.ensures (λ adds. simp to_z-of_z at (adds c.args.line)))
+pub returns-in-Elements : goal.returns-in-Elements
+returns-in-Elements c = rw c.in-Elements.is (on_push c.add_elements.result c.add_elements.ensures (λ adds. adds c.args.line))
 
 pub returns-in-End : goal.returns-in-End
 returns-in-End c = rw c.in-End.is (on_push c.end_block.result c.end_block.ensures (λ adds. adds c.args.line))

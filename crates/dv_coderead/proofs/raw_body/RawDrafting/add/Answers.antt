@@ -1,5 +1,5 @@
 use Rattle.dv_coderead.specs.declared.raw_line.RawPlace.TheVariants as place
-use Rattle.dv_coderead.proofs.RawAdding.{adds_begin, adds_end, adds_entry, adds_handler, adds_registers}
+use Rattle.dv_coderead.proofs.RawAdding.{adds_begin, adds_end, adds_registers}
 use Rattle.dv_coderead.proofs.raw_body.RawDrafting.add.Goals as goal
 
 pub returns-in-Registers-clause-with : goal.returns-in-Registers-clause-with
