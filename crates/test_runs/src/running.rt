@@ -28,10 +28,12 @@ fn text_of(alloc: Global, run: &Run) -> Result<String, AllocError> {
         Some((registers, body)) => thread_class(alloc, registers, body)?,
         None => String::new(alloc),
     };
-    format!(in alloc;
+    let text = format!(in alloc;
         "{}\n{thread}.class LMain;\n.super Ljava/lang/Object;\n{}\n.method static main()V\n.registers {}\n{}\n.end method\n",
         run.classes, run.members, run.registers, run.body
-    )
+    );
+    drop(thread);
+    text
 }
 
 /// A text, read, linked and verified.
@@ -99,16 +101,19 @@ pub fn lowest(image: &Image, vm: &Vm) -> Option<u32> {
     None
 }
 
+/// Stops the test where a fact doesn't hold, and tells it with the program.
+pub fn check<R: Abort>(rt: &R, holds: bool, fact: &str, text: &str) {
+    assert!(rt; holds, "{fact}: {text}");
+}
+
 /// A step of a runnable thread, which is counted.
 pub fn step<R: Abort>(rt: &R, image: &Image, vm: &mut Vm, thread: u32, text: &str) {
     let before = vm.steps;
-    assert_eq!(rt; vm.ending(image), None, "{before}: {text}");
-    assert!(rt; vm.runnable(image, thread), "{thread} at {before}: {text}");
-    assert!(rt;
-        vm.step(image, thread).is_ok(),
-        "memory at {before}: {text}"
-    );
-    assert_eq!(rt; vm.steps, before.saturating_add(1), "{text}");
+    check(rt, vm.ending(image).is_none(), "a run that goes on", text);
+    check(rt, vm.runnable(image, thread), "a thread that runs", text);
+    check(rt, vm.step(image, thread).is_ok(), "memory", text);
+    let after = before.saturating_add(1);
+    check(rt, vm.steps == after, "a step that is counted", text);
 }
 
 fn take_turns<R: Abort>(rt: &R, image: &Image, vm: &mut Vm, run: &Run, text: &str) {
@@ -133,27 +138,29 @@ fn run_on<R: Abort>(rt: &R, image: &Image, vm: &mut Vm, text: &str) {
 /// A thread stands so, and is told runnable and held up only where it is.
 fn assert_thread<R: Abort>(rt: &R, image: &Image, vm: &Vm, thread: u32, wanted: Stands<'_>) {
     let found = stands(image, vm, thread);
-    assert_eq!(rt; found, Some(wanted), "{thread}");
+    assert_eq!(rt; found, Some(wanted));
     let runs = matches!(wanted, Stands::Runnable | Stands::Flying(_));
-    assert_eq!(rt; vm.runnable(image, thread), runs, "{thread}");
+    assert!(rt; vm.runnable(image, thread) == runs);
     let is_held = matches!(wanted, Stands::Held(_));
-    assert_eq!(rt; vm.blocked(image, thread).is_some(), is_held, "{thread}");
+    assert!(rt; vm.blocked(image, thread).is_some() == is_held);
 }
 
 fn assert_threads<R: Abort>(rt: &R, image: &Image, vm: &Vm, run: &Run, text: &str) {
-    assert_eq!(rt; vm.guest.threads.ends.len(), run.threads.len(), "{text}");
+    let count = vm.guest.threads.ends.len();
+    check(rt, count == run.threads.len(), "so many threads", text);
     for (thread, wanted) in (0..64).zip(run.threads) {
         assert_thread(rt, image, vm, thread, *wanted);
     }
 }
 
 fn assert_ended<R: Abort>(rt: &R, image: &Image, vm: &Vm, run: &Run, text: &str) {
-    let output = str::from_utf8(&vm.guest.output).ok();
-    assert_eq!(rt; output, Some(run.output), "{text}");
-    assert_eq!(rt; vm.ending(image), Some(run.ending), "{text}");
+    let is_printed = vm.guest.output.as_slice() == run.output.as_bytes();
+    check(rt, is_printed, "what is printed", text);
+    let is_so = vm.ending(image) == Some(run.ending);
+    check(rt, is_so, "how the run ends", text);
     assert_threads(rt, image, vm, run, text);
     if let Some(steps) = run.steps {
-        assert_eq!(rt; vm.steps, steps, "{text}");
+        check(rt, vm.steps == steps, "so many steps", text);
     }
 }
 
@@ -162,15 +169,17 @@ fn assert_idle<R: Abort>(rt: &R, image: &Image, vm: &mut Vm, run: &Run) {
     for (thread, wanted) in (0..64).zip(run.threads) {
         let is_held = matches!(*wanted, Stands::Held(_));
         let steps = vm.steps.saturating_add(u64::from(is_held));
-        assert!(rt; vm.step(image, thread).is_ok(), "{thread}");
-        assert_eq!(rt; vm.steps, steps, "{thread}");
+        assert!(rt; vm.step(image, thread).is_ok());
+        assert_eq!(rt; vm.steps, steps);
     }
 }
 
 /// The image of a program.
 pub fn image_of<R: Abort>(rt: &R, alloc: Global, run: &Run) -> Verified {
     let text = text_of(alloc, run).ok().expect(rt, "memory");
-    verified(rt, alloc, &text)
+    let verified = verified(rt, alloc, &text);
+    drop(text);
+    verified
 }
 
 /// A run behind the turns that are taken first.
@@ -180,10 +189,8 @@ fn begun<R: Abort>(rt: &R, alloc: Global, image: &Image, run: &Run, text: &str) 
     vm
 }
 
-/// Runs the program of a text to its end, which is the one that is told, step by step and in slices.
-fn assert_text<R: Abort>(rt: &R, alloc: Global, text: &str, run: &Run) {
-    let verified = verified(rt, alloc, text);
-    let image = &verified.image;
+/// Runs a program to its end step by step. Where its threads have ended or are held up, further steps change nothing.
+fn assert_stepped<R: Abort>(rt: &R, alloc: Global, image: &Image, run: &Run, text: &str) {
     let mut vm = begun(rt, alloc, image, run, text);
     run_on(rt, image, &mut vm, text);
     assert_ended(rt, image, &vm, run, text);
@@ -195,15 +202,30 @@ fn assert_text<R: Abort>(rt: &R, alloc: Global, text: &str, run: &Run) {
         };
         assert_ended(rt, image, &vm, &after, text);
     }
-    let mut sliced = begun(rt, alloc, image, run, text);
-    run_in_slices(rt, image, &mut sliced, text);
-    assert_ended(rt, image, &sliced, run, text);
+    drop(vm);
+}
+
+/// Runs a program to its end in slices.
+fn assert_sliced<R: Abort>(rt: &R, alloc: Global, image: &Image, run: &Run, text: &str) {
+    let mut vm = begun(rt, alloc, image, run, text);
+    run_in_slices(rt, image, &mut vm, text);
+    assert_ended(rt, image, &vm, run, text);
+    drop(vm);
+}
+
+/// Runs the program of a text to its end, which is the one that is told, step by step and in slices.
+fn assert_text<R: Abort>(rt: &R, alloc: Global, text: &str, run: &Run) {
+    let verified = verified(rt, alloc, text);
+    assert_stepped(rt, alloc, &verified.image, run, text);
+    assert_sliced(rt, alloc, &verified.image, run, text);
+    drop(verified);
 }
 
 /// Runs a program to its end, which is the one that is told.
 fn assert_run<R: Abort>(rt: &R, alloc: Global, run: &Run) {
     let text = text_of(alloc, run).ok().expect(rt, "memory");
     assert_text(rt, alloc, &text, run);
+    drop(text);
 }
 
 pub fn assert_runs<R: Abort>(rt: &R, alloc: Global, runs: &[Run]) {

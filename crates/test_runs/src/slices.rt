@@ -1,8 +1,8 @@
 // Runs in slices: many local steps of a thread at once, and then one other step.
-use crate::running::{lowest, step};
+use crate::running::{check, lowest, step};
 use dv_core::Vm;
 use dv_defs::Image;
-use std::alloc::AllocError;
+use dv_words::Frame;
 use std::process::Abort;
 
 /// A slice has no more local steps than these.
@@ -21,31 +21,42 @@ fn most_of(vm: &Vm) -> u32 {
     }
 }
 
-/// Does local steps of a thread, and gives how many. They may be taken back, and done again by the frame that they led to.
-fn run_locally<R: Abort>(
-    rt: &R,
-    image: &Image,
-    vm: &mut Vm,
-    thread: u32,
-    most: u32,
-) -> Result<u32, AllocError> {
-    let before = vm.steps;
-    let start = vm.copy_top(thread)?;
-    let done = vm.run(image, thread, most);
-    let after = before.saturating_add(u64::from(done));
-    assert_eq!(rt; vm.steps, after);
-    let Some(start) = start else {
-        assert_eq!(rt; done, 0);
-        return Ok(0);
-    };
-    let end = vm.copy_top(thread)?.expect(rt, "a frame");
-    vm.take_back(thread, &start, done);
-    assert_eq!(rt; vm.steps, before);
-    assert!(rt; vm.copy_top(thread)? == Some(start));
+/// The frame on top of a thread, where it has one.
+fn top<R: Abort>(rt: &R, vm: &Vm, thread: u32) -> Option<Frame> {
+    vm.copy_top(thread).ok().expect(rt, "memory")
+}
+
+/// So many steps are done, and this frame is on top of a thread.
+fn assert_at<R: Abort>(rt: &R, vm: &Vm, thread: u32, frame: &Frame, steps: u64) {
+    assert_eq!(rt; vm.steps, steps);
+    let found = top(rt, vm, thread).expect(rt, "a frame");
+    assert!(rt; found == *frame);
+    drop(found);
+}
+
+/// Local steps that were done from a frame on are taken back, and done again by the frame that they led to.
+fn assert_redone<R: Abort>(rt: &R, vm: &mut Vm, thread: u32, start: &Frame, done: u32) {
+    let after = vm.steps;
+    let end = top(rt, vm, thread).expect(rt, "a frame");
+    vm.take_back(thread, start, done);
+    assert_at(rt, vm, thread, start, after.saturating_sub(u64::from(done)));
     vm.advance(thread, &end, done);
-    assert_eq!(rt; vm.steps, after);
-    assert!(rt; vm.copy_top(thread)? == Some(end));
-    Ok(done)
+    assert_at(rt, vm, thread, &end, after);
+    drop(end);
+}
+
+/// Does local steps of a thread, and gives how many. They may be taken back, and done again by the frame that they led to.
+fn run_locally<R: Abort>(rt: &R, image: &Image, vm: &mut Vm, thread: u32, most: u32) -> u32 {
+    let before = vm.steps;
+    let start = top(rt, vm, thread);
+    let done = vm.run(image, thread, most);
+    assert_eq!(rt; vm.steps, before.saturating_add(u64::from(done)));
+    match &start {
+        Some(start) => assert_redone(rt, vm, thread, start, done),
+        None => assert_eq!(rt; done, 0),
+    }
+    drop(start);
+    done
 }
 
 /// A slice of a runnable thread: its local steps, and then, where it may have more and goes on, one other step.
@@ -53,10 +64,10 @@ fn slice<R: Abort>(rt: &R, image: &Image, vm: &mut Vm, thread: u32, text: &str) 
     let most = most_of(vm);
     let is_local = vm.next_is_local(image, thread);
     let done = run_locally(rt, image, vm, thread, most);
-    let done = done.ok().expect(rt, "memory");
-    assert_eq!(rt; done > 0, is_local, "{}: {text}", vm.steps);
+    check(rt, (done > 0) == is_local, "local steps", text);
     if done < most {
-        assert!(rt; !vm.next_is_local(image, thread), "{}: {text}", vm.steps);
+        let is_local = vm.next_is_local(image, thread);
+        check(rt, !is_local, "no further local step", text);
         if vm.runnable(image, thread) {
             step(rt, image, vm, thread, text);
         }
