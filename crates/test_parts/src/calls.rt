@@ -20,15 +20,20 @@ const ROWS: &[&str] = &[
     "iget-object v0, v1, Ljava/lang/Throwable;->cause:Ljava/lang/Throwable;",
 ];
 
-/// A class whose last methods have these bodies.
-fn program(alloc: Global) -> Result<String, AllocError> {
-    let mut text = String::new(alloc);
+fn add_rows(alloc: Global, text: &mut String, rows: &[&str]) -> Result<(), AllocError> {
     text.push_str(".class LMain;\n.super Ljava/lang/Object;\n")?;
     text.push_str(".method f()V\n.registers 1\nreturn-void\n.end method\n")?;
-    for (n, body) in ROWS.iter().enumerate() {
-        add_method(alloc, &mut text, n, 6, body)?;
+    for (n, body) in rows.iter().enumerate() {
+        add_method(alloc, text, n, 6, body)?;
     }
-    Ok(text)
+    Ok(())
+}
+
+/// A class whose last methods have these bodies.
+fn program<R: Abort>(rt: &R, alloc: Global, rows: &[&str]) -> String {
+    let mut text = String::new(alloc);
+    assert!(rt; add_rows(alloc, &mut text, rows).is_ok());
+    text
 }
 
 /// A frame at the first address of a method. It has a result from a call before.
@@ -39,6 +44,20 @@ fn caller<R: Abort>(rt: &R, alloc: Global, method: MethodId) -> Stack {
     stack
 }
 
+fn assert_step<R: Abort>(
+    rt: &R,
+    image: &Image,
+    heap: &Heap,
+    before: &Stack,
+    stack: &mut Stack,
+    body: &str,
+) {
+    let insn = insn_at(image, stack).expect(rt, "an instruction");
+    let answer = call_step(image, heap, stack, &insn);
+    assert_eq!(rt; answer, Next::On, "{body}");
+    assert!(rt; same_stacks(stack, before), "{body}");
+}
+
 fn assert_row<R: Abort>(
     rt: &R,
     alloc: Global,
@@ -47,22 +66,29 @@ fn assert_row<R: Abort>(
     method: MethodId,
     body: &str,
 ) {
+    let before = caller(rt, alloc, method);
     let mut stack = caller(rt, alloc, method);
-    let insn = insn_at(image, &stack).expect(rt, "an instruction");
-    let answer = call_step(image, heap, &mut stack, &insn);
-    assert_eq!(rt; answer, Next::On, "{body}");
-    assert!(rt; same_stacks(&stack, &caller(rt, alloc, method)), "{body}");
+    assert_step(rt, image, heap, &before, &mut stack, body);
+    drop(stack);
+    drop(before);
+}
+
+fn assert_rows<R: Abort>(rt: &R, alloc: Global, image: &Image, heap: &Heap, rows: &[&str]) {
+    for (n, body) in rows.iter().enumerate() {
+        let method = method_among(rt, image, rows.len(), n);
+        assert_row(rt, alloc, image, heap, method, body);
+    }
 }
 
 #[test]
 fn other_instructions_are_no_calls(rt: HostRuntime) {
     let alloc = rt.alloc();
-    let text = program(alloc).ok().expect(&rt, "memory");
-    let image = linked(&rt, alloc, &text);
-    let heap = heap_of(&rt, alloc, &image, &[], 0);
     let rows = ROWS;
-    for (n, body) in rows.iter().enumerate() {
-        let method = method_among(&rt, &image, rows.len(), n);
-        assert_row(&rt, alloc, &image, &heap, method, body);
-    }
+    let text = program(&rt, alloc, rows);
+    let image = linked(&rt, alloc, &text);
+    drop(text);
+    let heap = heap_of(&rt, alloc, &image, &[], 0);
+    assert_rows(&rt, alloc, &image, &heap, rows);
+    drop(heap);
+    drop(image);
 }

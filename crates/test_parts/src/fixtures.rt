@@ -32,7 +32,9 @@ pub fn add_method(
     let method = format!(in alloc;
         ".method static m{n}()V\n.registers {registers}\n{body}\nreturn-void\n.end method\n"
     )?;
-    text.push_str(&method)
+    let added = text.push_str(&method);
+    drop(method);
+    added
 }
 
 /// A place or a length, which fits 32 bits.
@@ -125,6 +127,13 @@ fn make<R: Abort>(rt: &R, image: &Image, heap: &mut Heap, made: Made) -> Result<
     }
 }
 
+fn fill<R: Abort>(rt: &R, image: &Image, heap: &mut Heap, objects: &[Made]) {
+    for (place, made) in objects.iter().enumerate() {
+        let object = make(rt, image, heap, *made).ok().expect(rt, "memory");
+        assert_eq!(rt; object, number(rt, place).saturating_add(1));
+    }
+}
+
 /// A heap with these objects, and room for so many words more.
 pub fn heap_of<R: Abort>(
     rt: &R,
@@ -134,10 +143,7 @@ pub fn heap_of<R: Abort>(
     room: u32,
 ) -> Heap {
     let mut heap = Heap::uncounted(alloc, image).ok().expect(rt, "memory");
-    for (place, made) in objects.iter().enumerate() {
-        let object = make(rt, image, &mut heap, *made).ok().expect(rt, "memory");
-        assert_eq!(rt; object, number(rt, place).saturating_add(1));
-    }
+    fill(rt, image, &mut heap, objects);
     heap.count(room);
     heap
 }

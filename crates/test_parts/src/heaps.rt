@@ -1,7 +1,8 @@
 // Heaps over the images of programs: fields that have no static words, and words before and after they are counted.
 use crate::fixtures::linked;
-use dv_defs::{ClassId, FieldId};
+use dv_defs::{ClassId, FieldId, Image};
 use dv_heap::{Heap, HeapError};
+use std::process::Abort;
 
 // Fields of long behind narrow ones and behind inherited ones; static fields between them.
 const TEXT: &str = ".class LP;
@@ -33,36 +34,51 @@ const STATICS: [(u32, u32); 9] = [
     (13, 0),
 ];
 
-#[test]
-fn static_fields_alone_have_static_words(rt: HostRuntime) {
-    let image = linked(&rt, rt.alloc(), TEXT);
-    let heap = Heap::new(rt.alloc(), &image, 64).ok();
-    let heap = heap.expect(&rt, "memory");
+fn assert_statics<R: Abort>(rt: &R, heap: &Heap) {
     for (field, words) in STATICS {
         assert!(rt; heap.static_size(FieldId(field)) == words, "{field}");
     }
 }
 
+#[test]
+fn static_fields_alone_have_static_words(rt: HostRuntime) {
+    let image = linked(&rt, rt.alloc(), TEXT);
+    let heap = Heap::new(rt.alloc(), &image, 64).ok().expect(&rt, "memory");
+    assert_statics(&rt, &heap);
+    drop(heap);
+    drop(image);
+}
+
+fn assert_allocates<R: Abort>(rt: &R, image: &Image, heap: &mut Heap, number: u32) {
+    assert!(rt;
+        matches!(heap.alloc_object(image, Q), Ok(n) if n == number),
+        "{number}"
+    );
+}
+
 // Before words are counted nothing is full.
+fn assert_never_full<R: Abort>(rt: &R, image: &Image, heap: &mut Heap) {
+    for number in 1..100 {
+        assert_allocates(rt, image, heap, number);
+    }
+    heap.count(8);
+    assert!(rt; heap.used() == 0);
+    assert_allocates(rt, image, heap, 100);
+    assert!(rt;
+        matches!(
+            heap.alloc_object(image, Q),
+            Err(HeapError::Full { used: 8, needed: 8 })
+        )
+    );
+}
+
 #[test]
 fn uncounted_heaps_are_never_full(rt: HostRuntime) {
     let image = linked(&rt, rt.alloc(), TEXT);
     let mut heap = Heap::uncounted(rt.alloc(), &image)
         .ok()
         .expect(&rt, "memory");
-    for number in 1..100 {
-        assert!(rt;
-            matches!(heap.alloc_object(&image, Q), Ok(n) if n == number),
-            "{number}"
-        );
-    }
-    heap.count(8);
-    assert!(rt; heap.used() == 0);
-    assert!(rt; matches!(heap.alloc_object(&image, Q), Ok(100)));
-    assert!(rt;
-        matches!(
-            heap.alloc_object(&image, Q),
-            Err(HeapError::Full { used: 8, needed: 8 })
-        )
-    );
+    assert_never_full(&rt, &image, &mut heap);
+    drop(heap);
+    drop(image);
 }

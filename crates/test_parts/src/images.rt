@@ -97,8 +97,8 @@ fn tables_begin_with_those_above(rt: HostRuntime) {
     let image = linked(&rt, rt.alloc(), rows::CALLS_TEXT);
     assert_shapes(&rt, &image, rows::CALLS);
     assert_places(&rt, &image, rows::CALLS);
-    let landings = rows::LANDINGS;
-    assert_landings(&rt, &image, landings.as_slice());
+    assert_landings(&rt, &image, rows::LANDINGS.as_slice());
+    drop(image);
 }
 
 #[test]
@@ -106,21 +106,33 @@ fn cells_begin_with_those_above(rt: HostRuntime) {
     let image = linked(&rt, rt.alloc(), rows::FIELDS_TEXT);
     assert_shapes(&rt, &image, rows::FIELDS);
     assert_places(&rt, &image, rows::FIELDS);
+    drop(image);
+}
+
+fn assert_nothing<R: Abort>(rt: &R, alloc: Global, image: &Image) {
+    let none = type_of(rt, alloc, "LX;");
+    let thread = type_of(rt, alloc, "Ljava/lang/Thread;");
+    assert!(rt; relations(image, &none, &thread) == (false, false, false));
+    assert!(rt; field_of(image, ClassId(9_999), b"out", &thread).is_none());
+    drop(thread);
+    drop(none);
+}
+
+fn assert_no_main<R: Abort>(rt: &R, alloc: Global, image: &Image, name: &str) {
+    let main = find_main(alloc, image, name.as_bytes());
+    let error = main.err().expect(rt, "a refusal");
+    assert!(rt; told(&error, name.as_bytes()) == "no class", "{name}");
+    drop(error);
 }
 
 #[test]
 fn a_class_that_is_not_there_has_nothing(rt: HostRuntime) {
-    let alloc = rt.alloc();
-    let image = linked(&rt, alloc, "");
-    let none = type_of(&rt, alloc, "LX;");
-    let thread = type_of(&rt, alloc, "Ljava/lang/Thread;");
-    assert!(rt; relations(&image, &none, &thread) == (false, false, false));
-    assert!(rt; field_of(&image, ClassId(9_999), b"out", &thread).is_none());
+    let image = linked(&rt, rt.alloc(), "");
+    assert_nothing(&rt, rt.alloc(), &image);
     for name in ["LX;", ""] {
-        let main = find_main(alloc, &image, name.as_bytes());
-        let error = main.err().expect(&rt, "a refusal");
-        assert!(rt; told(&error, name.as_bytes()) == "no class", "{name}");
+        assert_no_main(&rt, rt.alloc(), &image, name);
     }
+    drop(image);
 }
 
 // What linking no classes is refused with.
@@ -133,4 +145,5 @@ fn refusal<R: Abort>(rt: &R, alloc: Global) -> LinkError {
 fn no_class_is_no_program(rt: HostRuntime) {
     let error = refusal(&rt, rt.alloc());
     assert!(&rt; told(&error, b"Ljava/lang/Object;") == "no class");
+    drop(error);
 }

@@ -29,12 +29,10 @@ fn wait(rt: &impl Abort, m: &mut Monitors, object: u32, thread: u32) -> Result<A
     }
 }
 
-#[test]
-fn a_wait_keeps_the_count(rt: HostRuntime) -> Result<(), Fail> {
-    let mut m = Monitors::new(rt.alloc());
-    enter(&rt, &mut m, 9, 3)?;
-    enter(&rt, &mut m, 9, 3)?;
-    let answer = wait(&rt, &mut m, 9, 3)?;
+fn assert_kept(rt: &impl Abort, m: &mut Monitors) -> Result<(), AllocError> {
+    enter(rt, m, 9, 3)?;
+    enter(rt, m, 9, 3)?;
+    let answer = wait(rt, m, 9, 3)?;
     assert!(rt; answer == Done);
     let waits = Wait {
         thread: 3,
@@ -47,25 +45,52 @@ fn a_wait_keeps_the_count(rt: HostRuntime) -> Result<(), Fail> {
     Ok(())
 }
 
-// Tried with each allocation failing in turn: the call that wants memory changes nothing, and done again it goes on.
 #[test]
-fn want_of_memory_changes_nothing(rt: HostRuntime) -> Result<(), Fail> {
+fn a_wait_keeps_the_count(rt: HostRuntime) -> Result<(), Fail> {
     let mut m = Monitors::new(rt.alloc());
+    let done = assert_kept(&rt, &mut m);
+    drop(m);
+    done?;
+    Ok(())
+}
+
+// The call that wants memory changes nothing, and done again it goes on.
+fn enter_again(rt: &impl Abort, m: &mut Monitors, thread: u32) -> Result<(), AllocError> {
+    if enter(rt, m, 1, thread).is_ok() {
+        return Ok(());
+    }
+    assert!(rt; m.owner(1).is_none());
+    enter(rt, m, 1, thread)
+}
+
+fn wait_again(rt: &impl Abort, m: &mut Monitors, thread: u32) -> Result<(), AllocError> {
+    if wait(rt, m, 1, thread).is_err() {
+        assert!(rt; m.owner(1) == Some(thread) && !m.waiting(thread));
+        let answer = wait(rt, m, 1, thread)?;
+        assert!(rt; answer == Done);
+    }
+    assert!(rt; m.owner(1).is_none() && m.waiting(thread));
+    Ok(())
+}
+
+fn assert_unchanged(rt: &impl Abort, m: &mut Monitors) -> Result<(), AllocError> {
     for thread in 0..64 {
-        if enter(&rt, &mut m, 1, thread).is_err() {
-            assert!(rt; m.owner(1).is_none());
-            enter(&rt, &mut m, 1, thread)?;
-        }
-        if wait(&rt, &mut m, 1, thread).is_err() {
-            assert!(rt; m.owner(1) == Some(thread) && !m.waiting(thread));
-            let answer = wait(&rt, &mut m, 1, thread)?;
-            assert!(rt; answer == Done);
-        }
-        assert!(rt; m.owner(1).is_none() && m.waiting(thread));
+        enter_again(rt, m, thread)?;
+        wait_again(rt, m, thread)?;
     }
     if m.reserve().is_err() {
         assert!(rt; m.owner(1).is_none() && m.waiting(63));
         m.reserve()?;
     }
+    Ok(())
+}
+
+// Tried with each allocation failing in turn.
+#[test]
+fn want_of_memory_changes_nothing(rt: HostRuntime) -> Result<(), Fail> {
+    let mut m = Monitors::new(rt.alloc());
+    let done = assert_unchanged(&rt, &mut m);
+    drop(m);
+    done?;
     Ok(())
 }

@@ -62,6 +62,14 @@ struct Stage {
 }
 
 /// A frame at the call, which has a result from a call before.
+fn stack_of<R: Abort>(rt: &R, alloc: Global, method: MethodId, word: u32) -> Stack {
+    let mut stack = Stack::new(alloc, 1, 4).ok().expect(rt, "memory");
+    assert!(rt; stack.push(method, 4, &[word, 7, 7, 7]).is_ok());
+    stack.give(Kept::One(99));
+    stack
+}
+
+/// What stands before the step.
 fn before_step<R: Abort>(
     rt: &R,
     alloc: Global,
@@ -69,14 +77,10 @@ fn before_step<R: Abort>(
     method: MethodId,
     word: u32,
 ) -> Stage {
-    let mut stack = Stack::new(alloc, 1, 4).ok().expect(rt, "memory");
-    assert!(rt; stack.push(method, 4, &[word, 7, 7, 7]).is_ok());
-    stack.give(Kept::One(99));
-    let output = Vec::from_slice(alloc, BEFORE);
     Stage {
+        output: Vec::from_slice(alloc, BEFORE).ok().expect(rt, "memory"),
+        stack: stack_of(rt, alloc, method, word),
         heap: heap_of(rt, alloc, image, OBJECTS, 9),
-        stack,
-        output: output.ok().expect(rt, "memory"),
     }
 }
 
@@ -102,31 +106,48 @@ fn step(image: &Image, stage: &mut Stage, room: u32, native: Native) -> Option<N
     answer.ok()
 }
 
-fn assert_row<R: Abort>(rt: &R, alloc: Global, image: &Image, method: MethodId, row: &Row) {
-    let (native, insn, word, room, answer) = row;
-    let before = before_step(rt, alloc, image, method, *word);
-    let mut stage = before_step(rt, alloc, image, method, *word);
-    let answered = step(image, &mut stage, *room, *native);
+fn assert_step<R: Abort>(rt: &R, image: &Image, before: &Stage, stage: &mut Stage, row: &Row) {
+    let (native, insn, _, room, answer) = row;
+    let answered = step(image, stage, *room, *native);
     assert_eq!(rt; answered, Some(*answer), "{insn} {room}");
-    assert!(rt; is_same(&stage, &before), "{insn} {room}");
+    assert!(rt; is_same(stage, before), "{insn} {room}");
 }
 
-fn program(alloc: Global, rows: &[Row]) -> Result<String, AllocError> {
-    let mut text = String::new(alloc);
+fn assert_row<R: Abort>(rt: &R, alloc: Global, image: &Image, method: MethodId, row: &Row) {
+    let before = before_step(rt, alloc, image, method, row.2);
+    let mut stage = before_step(rt, alloc, image, method, row.2);
+    assert_step(rt, image, &before, &mut stage, row);
+    drop(stage);
+    drop(before);
+}
+
+fn assert_rows<R: Abort>(rt: &R, alloc: Global, image: &Image, rows: &[Row]) {
+    for (n, row) in rows.iter().enumerate() {
+        let method = method_among(rt, image, rows.len(), n);
+        assert_row(rt, alloc, image, method, row);
+    }
+}
+
+fn add_rows(alloc: Global, text: &mut String, rows: &[Row]) -> Result<(), AllocError> {
     text.push_str(".class LMain;\n.super Ljava/lang/Object;\n")?;
     for (n, row) in rows.iter().enumerate() {
-        add_method(alloc, &mut text, n, 4, row.1)?;
+        add_method(alloc, text, n, 4, row.1)?;
     }
-    Ok(text)
+    Ok(())
+}
+
+fn program<R: Abort>(rt: &R, alloc: Global, rows: &[Row]) -> String {
+    let mut text = String::new(alloc);
+    assert!(rt; add_rows(alloc, &mut text, rows).is_ok());
+    text
 }
 
 #[test]
 fn what_is_not_printed_changes_nothing(rt: HostRuntime) {
     let rows = ROWS;
-    let text = program(rt.alloc(), rows).ok().expect(&rt, "memory");
+    let text = program(&rt, rt.alloc(), rows);
     let image = linked(&rt, rt.alloc(), &text);
-    for (n, row) in rows.iter().enumerate() {
-        let method = method_among(&rt, &image, rows.len(), n);
-        assert_row(&rt, rt.alloc(), &image, method, row);
-    }
+    drop(text);
+    assert_rows(&rt, rt.alloc(), &image, rows);
+    drop(image);
 }

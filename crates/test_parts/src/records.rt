@@ -142,6 +142,12 @@ fn add_level<R: Abort>(rt: &R, image: &Image, stage: &mut Stage, thread: u32, le
     }
 }
 
+fn add_levels<R: Abort>(rt: &R, image: &Image, stage: &mut Stage, thread: u32, levels: &[Level]) {
+    for level in levels {
+        add_level(rt, image, stage, thread, level);
+    }
+}
+
 /// A thread with these levels.
 fn stage_with<R: Abort>(
     rt: &R,
@@ -152,9 +158,7 @@ fn stage_with<R: Abort>(
     room: u32,
 ) -> Stage {
     let mut stage = stage_of(rt, alloc, image, room);
-    for level in levels {
-        add_level(rt, image, &mut stage, thread, level);
-    }
+    add_levels(rt, image, &mut stage, thread, levels);
     stage
 }
 
@@ -192,28 +196,57 @@ fn are_states_left(image: &Image, stage: &Stage, before: &Stage, x: ClassId, ans
     stage.states.state(x) == state && same_states(image, &stage.states, &before.states, x.0)
 }
 
-fn assert_row<R: Abort>(rt: &R, alloc: Global, image: &Image, n: usize, row: &Ending) {
-    let (thread, levels, left, flying, room, answer) = row;
-    let before = stage_with(rt, alloc, image, *thread, levels, *room);
-    let mut stage = stage_with(rt, alloc, image, *thread, levels, *room);
-    let seen = step(image, &mut stage, *thread, *flying);
+fn assert_step<R: Abort>(
+    rt: &R,
+    image: &Image,
+    n: usize,
+    row: &Ending,
+    before: &Stage,
+    stage: &mut Stage,
+) {
+    let (thread, _, _, flying, _, answer) = row;
+    let seen = step(image, stage, *thread, *flying);
     assert_eq!(rt; seen, Some(*answer), "{n}");
-    assert!(rt;
-        is_heap_left(image, &stage, &before, *flying, *answer),
-        "{n}"
-    );
+    assert!(rt; is_heap_left(image, stage, before, *flying, *answer), "{n}");
     let x = class_of(rt, image, "LX;");
-    assert!(rt; are_states_left(image, &stage, &before, x, *answer), "{n}");
+    assert!(rt; are_states_left(image, stage, before, x, *answer), "{n}");
+}
+
+/// The levels that are left are the first ones.
+fn assert_levels<R: Abort>(
+    rt: &R,
+    alloc: Global,
+    image: &Image,
+    n: usize,
+    row: &Ending,
+    stack: &Stack,
+) {
+    let (thread, levels, left, _, _, _) = row;
     let levels = levels.get(..*left).expect(rt, "levels");
     let wanted = stage_with(rt, alloc, image, *thread, levels, 0);
-    assert!(rt; same_stacks(&stage.stack, &wanted.stack), "{n}");
+    assert!(rt; same_stacks(stack, &wanted.stack), "{n}");
+    drop(wanted);
+}
+
+fn assert_row<R: Abort>(rt: &R, alloc: Global, image: &Image, n: usize, row: &Ending) {
+    let (thread, levels, _, _, room, _) = row;
+    let before = stage_with(rt, alloc, image, *thread, levels, *room);
+    let mut stage = stage_with(rt, alloc, image, *thread, levels, *room);
+    assert_step(rt, image, n, row, &before, &mut stage);
+    drop(before);
+    assert_levels(rt, alloc, image, n, row, &stage.stack);
+    drop(stage);
+}
+
+fn assert_rows<R: Abort>(rt: &R, alloc: Global, image: &Image, rows: &[Ending]) {
+    for (n, row) in rows.iter().enumerate() {
+        assert_row(rt, alloc, image, n, row);
+    }
 }
 
 #[test]
 fn the_first_frame_goes_with_the_record_of_an_opening(rt: HostRuntime) {
     let image = linked(&rt, rt.alloc(), CLASSES);
-    let rows = ENDINGS;
-    for (n, row) in rows.iter().enumerate() {
-        assert_row(&rt, rt.alloc(), &image, n, row);
-    }
+    assert_rows(&rt, rt.alloc(), &image, ENDINGS);
+    drop(image);
 }

@@ -178,14 +178,19 @@ const OTHERS: &[Row] = &[
     ("const/4 v2, 1", None, AMPLE, SECOND, 1, LOCK, ON),
 ];
 
-/// The classes, with the rows as the last methods.
-fn program(alloc: Global, rows: &[Row]) -> Result<String, AllocError> {
-    let mut text = String::new(alloc);
+fn add_rows(alloc: Global, text: &mut String, rows: &[Row]) -> Result<(), AllocError> {
     text.push_str(CLASSES)?;
     for (n, row) in rows.iter().enumerate() {
-        add_method(alloc, &mut text, n, 4, row.0)?;
+        add_method(alloc, text, n, 4, row.0)?;
     }
-    Ok(text)
+    Ok(())
+}
+
+/// The classes, with the rows as the last methods.
+fn program<R: Abort>(rt: &R, alloc: Global, rows: &[Row]) -> String {
+    let mut text = String::new(alloc);
+    assert!(rt; add_rows(alloc, &mut text, rows).is_ok());
+    text
 }
 
 /// A frame at the row's instruction, with the object in its register v2 and a result from a call before.
@@ -197,12 +202,9 @@ fn stack_of<R: Abort>(rt: &R, alloc: Global, method: MethodId, mark: u32, object
 }
 
 fn stacks_of<R: Abort>(rt: &R, alloc: Global, method: MethodId, object: u32) -> Vec<Stack> {
-    let mut stacks = Vec::new(alloc);
-    for mark in [70, 80] {
-        let stack = stack_of(rt, alloc, method, mark, object);
-        assert!(rt; stacks.push(stack).is_ok());
-    }
-    stacks
+    let one = stack_of(rt, alloc, method, 70, object);
+    let other = stack_of(rt, alloc, method, 80, object);
+    vec![in alloc; one, other].ok().expect(rt, "memory")
 }
 
 fn monitors_of<R: Abort>(rt: &R, alloc: Global) -> Monitors {
@@ -215,13 +217,15 @@ fn monitors_of<R: Abort>(rt: &R, alloc: Global) -> Monitors {
 
 /// The threads before a step.
 fn threads_of<R: Abort>(rt: &R, alloc: Global, method: MethodId, row: &Row) -> Threads {
-    let ends = Vec::from_slice(alloc, &[End::Living, End::Living]);
-    let objects = Vec::from_slice(alloc, &[FIRST, row.3]);
     Threads {
-        stacks: stacks_of(rt, alloc, method, row.5),
-        ends: ends.ok().expect(rt, "memory"),
-        objects: objects.ok().expect(rt, "memory"),
+        ends: Vec::from_slice(alloc, &[End::Living, End::Living])
+            .ok()
+            .expect(rt, "memory"),
+        objects: Vec::from_slice(alloc, &[FIRST, row.3])
+            .ok()
+            .expect(rt, "memory"),
         monitors: monitors_of(rt, alloc),
+        stacks: stacks_of(rt, alloc, method, row.5),
     }
 }
 
@@ -241,13 +245,12 @@ fn are_same_monitors(one: &Monitors, other: &Monitors) -> bool {
     true
 }
 
+/// Whether there are two stacks, and the same two.
 fn are_same_stacks(one: &[Stack], other: &[Stack]) -> bool {
-    for (a, b) in one.iter().zip(other.iter()) {
-        if !same_stacks(a, b) {
-            return false;
-        }
+    match (one, other) {
+        ([a, b], [c, d]) => same_stacks(a, c) && same_stacks(b, d),
+        _ => false,
     }
-    one.len() == other.len()
 }
 
 fn are_same(one: &Threads, other: &Threads) -> bool {
@@ -264,6 +267,19 @@ fn step(image: &Image, heap: &Heap, threads: &mut Threads, row: &Row) -> Option<
     thread_step(image, heap, limits, threads, *thread, *native, &insn).ok()
 }
 
+fn assert_step<R: Abort>(
+    rt: &R,
+    image: &Image,
+    heap: &Heap,
+    before: &Threads,
+    threads: &mut Threads,
+    row: &Row,
+) {
+    let answer = step(image, heap, threads, row);
+    assert_eq!(rt; answer, Some(row.6), "{} {}", row.0, row.5);
+    assert!(rt; are_same(threads, before), "{} {}", row.0, row.5);
+}
+
 fn assert_row<R: Abort>(
     rt: &R,
     alloc: Global,
@@ -274,19 +290,26 @@ fn assert_row<R: Abort>(
 ) {
     let before = threads_of(rt, alloc, method, row);
     let mut threads = threads_of(rt, alloc, method, row);
-    let answer = step(image, heap, &mut threads, row);
-    assert_eq!(rt; answer, Some(row.6), "{} {}", row.0, row.5);
-    assert!(rt; are_same(&threads, &before), "{} {}", row.0, row.5);
+    assert_step(rt, image, heap, &before, &mut threads, row);
+    drop(threads);
+    drop(before);
+}
+
+fn assert_each<R: Abort>(rt: &R, alloc: Global, image: &Image, heap: &Heap, rows: &[Row]) {
+    for (n, row) in rows.iter().enumerate() {
+        let method = method_among(rt, image, rows.len(), n);
+        assert_row(rt, alloc, image, heap, method, row);
+    }
 }
 
 fn assert_rows<R: Abort>(rt: &R, alloc: Global, rows: &[Row]) {
-    let text = program(alloc, rows).ok().expect(rt, "memory");
+    let text = program(rt, alloc, rows);
     let image = linked(rt, alloc, &text);
+    drop(text);
     let heap = heap_of(rt, alloc, &image, OBJECTS, 0);
-    for (n, row) in rows.iter().enumerate() {
-        let method = method_among(rt, &image, rows.len(), n);
-        assert_row(rt, alloc, &image, &heap, method, row);
-    }
+    assert_each(rt, alloc, &image, &heap, rows);
+    drop(heap);
+    drop(image);
 }
 
 #[test]

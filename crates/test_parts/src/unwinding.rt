@@ -62,14 +62,11 @@ pub fn step(image: &Image, stage: &mut Stage, thread: u32, flying: u32) -> Optio
     }
 }
 
-#[test]
-fn a_catch_all_hides_what_stands_behind_it(rt: HostRuntime) {
-    let image = linked(&rt, rt.alloc(), CLASSES);
-    let method = method_named(&image, "LMain;", "run").expect(&rt, "a method");
-    let mut stage = stage_of(&rt, rt.alloc(), &image, 0);
+fn assert_caught<R: Abort>(rt: &R, image: &Image, stage: &mut Stage) {
+    let method = method_named(image, "LMain;", "run").expect(rt, "a method");
     assert!(rt; stage.stack.push(method, 2, &[11, 12]).is_ok());
     stage.stack.give(Kept::One(99));
-    assert_eq!(rt; step(&image, &mut stage, 1, MID), Some(Next::On));
+    assert_eq!(rt; step(image, stage, 1, MID), Some(Next::On));
     let head = Head {
         method,
         at: 4,
@@ -80,13 +77,29 @@ fn a_catch_all_hides_what_stands_behind_it(rt: HostRuntime) {
 }
 
 #[test]
+fn a_catch_all_hides_what_stands_behind_it(rt: HostRuntime) {
+    let image = linked(&rt, rt.alloc(), CLASSES);
+    let mut stage = stage_of(&rt, rt.alloc(), &image, 0);
+    assert_caught(&rt, &image, &mut stage);
+    drop(stage);
+    drop(image);
+}
+
+fn assert_flies_on<R: Abort>(rt: &R, image: &Image, before: &Stage, stage: &mut Stage) {
+    for flying in [MID, FAULT] {
+        let answer = step(image, stage, 0, flying);
+        assert_eq!(rt; answer, Some(Next::ThrowRef(flying)));
+    }
+    assert!(rt; is_same(image, stage, before));
+}
+
+#[test]
 fn an_exception_flies_on_without_levels(rt: HostRuntime) {
     let image = linked(&rt, rt.alloc(), CLASSES);
     let before = stage_of(&rt, rt.alloc(), &image, 0);
     let mut stage = stage_of(&rt, rt.alloc(), &image, 0);
-    for flying in [MID, FAULT] {
-        let answer = step(&image, &mut stage, 0, flying);
-        assert_eq!(rt; answer, Some(Next::ThrowRef(flying)));
-    }
-    assert!(rt; is_same(&image, &stage, &before));
+    assert_flies_on(&rt, &image, &before, &mut stage);
+    drop(stage);
+    drop(before);
+    drop(image);
 }

@@ -1,8 +1,11 @@
 // Slices of local steps that come back to a run, alone, and cut by what is left of the budget.
-use crate::playing::{Player, assert_end, stood, verified};
+ghost use Rattle.dv_sound.specs.Lending.{IsLocalRun};
+
+use crate::playing::{Player, assert_end, check, stood, verified};
 use crate::slices::{assert_alike, brought, image_of, lent, turn, work, worker_of};
 use crate::texts::{AMPLE, BOTH, FILLS, FOREVER, MAIN_FIRST, SPENT};
-use dv_defs::{Ending, Entry, Limits};
+use dv_defs::{Ending, Entry, Image, Limits};
+use dv_local::Slice;
 use dv_rules::Verified;
 use dv_sound::SafeVm;
 use std::alloc::Global;
@@ -23,23 +26,28 @@ struct Commit {
     end: (Ending, &'static str),
 }
 
+/// The local steps of a row, in two runs.
+fn work_twice<R: Abort>(rt: &R, image: &Image, slice: &mut Slice, row: &Commit)
+    requires { IsLocalRun image.now slice.old }
+    ensures { IsLocalRun image.now slice.new }
+{
+    let first = work(image, slice, row.most.0);
+    let second = work(image, slice, row.most.1);
+    check(rt, first == row.ran.0, "a first run", row.turns);
+    check(rt, second == row.ran.1, "a second run", row.turns);
+    let ran = first.saturating_add(second);
+    check(rt, slice.steps == ran, "steps of a slice", row.turns);
+}
+
 /// A slice of a row is run, and comes back.
 fn bring<R: Abort>(rt: &R, run: &mut SafeVm, row: &Commit) {
     let image = image_of(run);
     let mut slice = lent(rt, image, run, row.thread);
-    let first = work(image, &mut slice, row.most.0);
-    let second = work(image, &mut slice, row.most.1);
-    assert_eq!(rt; (first, second), row.ran, "{:?}", row.turns);
-    assert_eq!(rt;
-        slice.steps,
-        first.saturating_add(second),
-        "{:?}",
-        row.turns
-    );
+    work_twice(rt, image, &mut slice, row);
     turn(rt, image, run, row.meanwhile);
-    assert!(rt; run.fits(&slice), "{:?}", row.turns);
+    check(rt, run.fits(&slice), "a slice that fits", row.turns);
     let done = brought(rt, image, run, slice);
-    assert_eq!(rt; done, row.done, "{:?}, {:?}", row.turns, row.meanwhile);
+    check(rt, done == row.done, "steps that are done", row.turns);
 }
 
 /// The same steps by turns.
@@ -47,7 +55,7 @@ fn take_turns<R: Abort>(rt: &R, run: &mut SafeVm, row: &Commit) {
     let image = image_of(run);
     turn(rt, image, run, row.meanwhile);
     let done = run.turn(worker_of(row.thread), row.thread, row.done).ok();
-    assert_eq!(rt; done, Some(row.done), "{:?}", row.turns);
+    check(rt, done == Some(row.done), "steps by turns", row.turns);
 }
 
 /// The steps that were done are the log's last entry; where none were, that one is of another worker.
@@ -58,7 +66,21 @@ fn assert_last<R: Abort>(rt: &R, run: &SafeVm, row: &Commit) {
         steps: row.done,
     };
     let is_last = run.log().last() == Some(&own);
-    assert_eq!(rt; is_last, row.done > 0, "{:?}", row.turns);
+    check(rt, is_last == (row.done > 0), "the last entry", row.turns);
+}
+
+/// A run stands as one in which the steps of a row were done by turns.
+fn assert_as_by_turns<R: Abort>(
+    rt: &R,
+    alloc: Global,
+    player: Player<'_>,
+    run: &SafeVm,
+    row: &Commit,
+) {
+    let mut like = stood(rt, alloc, player, row.turns);
+    take_turns(rt, &mut like, row);
+    assert_alike(rt, alloc, run, &like);
+    drop(like);
 }
 
 fn assert_commit<R: Abort>(rt: &R, alloc: Global, verified: &Verified, row: &Commit) {
@@ -67,12 +89,10 @@ fn assert_commit<R: Abort>(rt: &R, alloc: Global, verified: &Verified, row: &Com
         limits: row.limits,
     };
     let mut run = stood(rt, alloc, player, row.turns);
-    let mut like = stood(rt, alloc, player, row.turns);
     bring(rt, &mut run, row);
-    take_turns(rt, &mut like, row);
     assert_last(rt, &run, row);
-    assert_alike(rt, alloc, &run, &like);
-    assert_eq!(rt; run.ending(), row.ending, "{:?}", row.turns);
+    assert_as_by_turns(rt, alloc, player, &run, row);
+    check(rt, run.ending() == row.ending, "an ending", row.turns);
     assert_end(rt, alloc, player, run, row.end.0, row.end.1);
 }
 
@@ -81,6 +101,7 @@ fn assert_commits<R: Abort>(rt: &R, alloc: Global, text: &str, rows: &[Commit]) 
     for row in rows {
         assert_commit(rt, alloc, &verified, row);
     }
+    drop(verified);
 }
 
 /// Main has started a thread; a slice of it has no step.

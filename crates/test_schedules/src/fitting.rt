@@ -1,8 +1,9 @@
 // Slices that fit, and slices that don't.
 ghost use Rattle.std.specs.Prelude.{◌≡◌};
+ghost use Rattle.dv_sound.specs.Lending.{IsLocalRun};
 
 use crate::playing::{Player, stood, verified};
-use crate::slices::{begun, brought, copy_of, image_of, lent, seen, top, turn, work};
+use crate::slices::{begun, brought, copy_of, image_of, is_seen, lent, seen, top, turn, work};
 use crate::texts::{AMPLE, BOTH, FOREVER};
 use dv_defs::{Image, MethodId, Seq};
 use dv_local::Slice;
@@ -30,23 +31,48 @@ fn lend_main<R: Abort>(rt: &R, image: &Image, run: &mut SafeVm, away: bool)
     ensures { run.new.verified.image ≡ image.now }
 {
     if away {
-        let _slice = lent(rt, image, run, 0);
+        drop(lent(rt, image, run, 0));
     }
 }
 
-/// The slice of a row comes back; where it doesn't fit nothing changes.
-fn bring_stale<R: Abort>(rt: &R, alloc: Global, run: &mut SafeVm, row: &Stale) {
-    let image = image_of(run);
+/// A slice of main as it stands, with so many steps, that nobody was lent.
+fn stale_slice<R: Abort>(rt: &R, image: &Image, run: &SafeVm, most: u32) -> Slice
+    ensures { IsLocalRun image.now result }
+{
     let frame = top(rt, run, 0);
     let mut slice = begun(rt, image, 0, &frame);
-    assert_eq!(rt; work(image, &mut slice, row.most), row.most);
+    drop(frame);
+    assert_eq!(rt; work(image, &mut slice, most), most);
+    slice
+}
+
+/// A slice comes back; where no step of it is done nothing changes.
+fn assert_brought<R: Abort>(
+    rt: &R,
+    alloc: Global,
+    image: &Image,
+    run: &mut SafeVm,
+    slice: Slice,
+    wanted: u32,
+)
+    requires same { run.old.verified.image ≡ image.now }
+    requires made { IsLocalRun image.now slice }
+{
+    let before = seen(rt, alloc, run);
+    let done = brought(rt, image, run, slice);
+    assert_eq!(rt; done, wanted);
+    assert_eq!(rt; is_seen(rt, alloc, run, &before), done == 0);
+    drop(before);
+}
+
+/// The slice of a row comes back.
+fn bring_stale<R: Abort>(rt: &R, alloc: Global, run: &mut SafeVm, row: &Stale) {
+    let image = image_of(run);
+    let slice = stale_slice(rt, image, run, row.most);
     turn(rt, image, run, Some((0, row.moved)));
     lend_main(rt, image, run, row.lent);
     assert_eq!(rt; run.fits(&slice), row.fits);
-    let before = seen(rt, alloc, run);
-    let done = brought(rt, image, run, slice);
-    assert_eq!(rt; done, row.done);
-    assert_eq!(rt; seen(rt, alloc, run) == before, done == 0);
+    assert_brought(rt, alloc, image, run, slice, row.done);
     let next = run.turn(0, 0, 1).ok();
     assert_eq!(rt; next, Some(u32::from(row.home)));
 }
@@ -59,6 +85,7 @@ fn assert_stale<R: Abort>(rt: &R, alloc: Global, verified: &Verified, row: &Stal
     };
     let mut run = stood(rt, alloc, player, &[(0, 8)]);
     bring_stale(rt, alloc, &mut run, row);
+    drop(run);
 }
 
 fn assert_stales<R: Abort>(rt: &R, alloc: Global, text: &str, rows: &[Stale]) {
@@ -66,6 +93,7 @@ fn assert_stales<R: Abort>(rt: &R, alloc: Global, text: &str, rows: &[Stale]) {
     for row in rows {
         assert_stale(rt, alloc, &verified, row);
     }
+    drop(verified);
 }
 
 /// Main is at home, and no slice of it fits.
@@ -129,7 +157,7 @@ fn slices_begin_where_their_threads_stand(rt: HostRuntime) {
 }
 
 /// What is put into a slice of a lent thread.
-#[derive(Clone, Copy, PartialEq, Eq, Debug)]
+#[derive(Clone, Copy)]
 enum Change {
     Nothing,
     Thread(u32),
@@ -190,29 +218,49 @@ static FITTING: [(Change, bool); 16] = [
     (Change::Registers(&[5, 0, 3, 0]), false),
 ];
 
+/// Whether a slice of thread 1 at this frame fits, with a change.
+fn fits<R: Abort>(rt: &R, alloc: Global, run: &SafeVm, frame: &Frame, by: Change) -> bool {
+    let slice = changed(rt, alloc, 1, frame, by);
+    let is_fitting = run.fits(&slice);
+    drop(slice);
+    is_fitting
+}
+
 fn assert_fitting<R: Abort>(rt: &R, alloc: Global, run: &SafeVm, away: bool) {
     let frame = top(rt, run, 1);
-    for (change, fits) in &FITTING {
-        let slice = changed(rt, alloc, 1, &frame, *change);
-        assert_eq!(rt; run.fits(&slice), *fits && away, "{change:?}");
+    for (number, (change, is_fitting)) in FITTING.iter().enumerate() {
+        let found = fits(rt, alloc, run, &frame, *change);
+        assert_eq!(rt; found, *is_fitting && away, "row {number}");
     }
+    drop(frame);
+}
+
+/// Slices of thread 1, at home, with main away, away itself, and back.
+fn assert_all_fitting<R: Abort>(rt: &R, alloc: Global, run: &mut SafeVm) {
+    let image = image_of(run);
+    assert_fitting(rt, alloc, run, false);
+    lend_main(rt, image, run, true);
+    assert_fitting(rt, alloc, run, false);
+    let slice = lent(rt, image, run, 1);
+    assert_fitting(rt, alloc, run, true);
+    assert_eq!(rt; brought(rt, image, run, slice), 0);
+    assert_fitting(rt, alloc, run, false);
+}
+
+fn assert_slices_fit<R: Abort>(rt: &R, alloc: Global, verified: &Verified) {
+    let player = Player {
+        verified,
+        limits: AMPLE,
+    };
+    let mut run = stood(rt, alloc, player, &[(0, 8), (1, 1)]);
+    assert_all_fitting(rt, alloc, &mut run);
+    drop(run);
 }
 
 #[test]
 fn slices_fit_by_thread_and_frame(rt: HostRuntime) {
     let alloc = rt.alloc();
     let verified = verified(&rt, alloc, BOTH);
-    let player = Player {
-        verified: &verified,
-        limits: AMPLE,
-    };
-    let mut run = stood(&rt, alloc, player, &[(0, 8), (1, 1)]);
-    assert_fitting(&rt, alloc, &run, false);
-    lend_main(&rt, image_of(&run), &mut run, true);
-    assert_fitting(&rt, alloc, &run, false);
-    let image = image_of(&run);
-    let slice = lent(&rt, image, &mut run, 1);
-    assert_fitting(&rt, alloc, &run, true);
-    assert_eq!(&rt; brought(&rt, image, &mut run, slice), 0);
-    assert_fitting(&rt, alloc, &run, false);
+    assert_slices_fit(&rt, alloc, &verified);
+    drop(verified);
 }

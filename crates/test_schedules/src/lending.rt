@@ -1,6 +1,6 @@
 // Which threads are lent to workers, and where they stand then.
-use crate::playing::{Player, stood, verified};
-use crate::slices::{seen, top};
+use crate::playing::{Player, check, stood, verified};
+use crate::slices::{is_seen, seen, top};
 use crate::texts::{AMPLE, BOTH, FILLS, JOINS};
 use dv_defs::Limits;
 use dv_local::Slice;
@@ -11,10 +11,11 @@ use std::process::Abort;
 
 /// A thread that is away is runnable, but it isn't lent again, and does no turn.
 fn assert_away<R: Abort>(rt: &R, run: &mut SafeVm, thread: u32) {
-    assert!(rt; run.runnable(thread), "{thread}");
+    assert!(rt; run.runnable(thread));
     let again = run.lend(thread).ok().expect(rt, "memory");
-    assert!(rt; again.is_none(), "{thread}");
-    assert_eq!(rt; run.turn(0, thread, 1).ok(), Some(0), "{thread}");
+    assert!(rt; again.is_none());
+    drop(again);
+    assert!(rt; run.turn(0, thread, 1).ok() == Some(0));
 }
 
 /// The address and the registers at which a thread stands.
@@ -34,16 +35,44 @@ struct Lend {
 /// A first slice has no step, and begins where the thread stands.
 fn assert_first<R: Abort>(rt: &R, run: &SafeVm, slice: &Slice, row: &Lend, place: Place) {
     let (at, registers) = place;
-    assert_eq!(rt; slice.thread, row.thread, "{:?}", row.turns);
-    assert_eq!(rt; slice.steps, 0, "{:?}", row.turns);
-    assert_eq!(rt; slice.start.at, at, "{:?}", row.turns);
-    assert!(rt; slice.start.regs.items() == registers, "{:?}", slice.start);
-    assert!(rt; slice.end == slice.start, "{:?}", slice.end);
-    assert!(rt;
-        slice.start == top(rt, run, row.thread),
-        "{:?}",
-        slice.start
-    );
+    check(rt, slice.thread == row.thread, "the thread", row.turns);
+    check(rt, slice.steps == 0, "no step", row.turns);
+    check(rt, slice.start.at == at, "the address", row.turns);
+    let is_there = slice.start.regs.items() == registers;
+    check(rt, is_there, "the registers", row.turns);
+    check(rt, slice.end == slice.start, "the end", row.turns);
+    let top = top(rt, run, row.thread);
+    check(rt, slice.start == top, "the frame on top", row.turns);
+    drop(top);
+}
+
+/// A thread is lent: a first slice of it, which fits, and it is away.
+fn assert_lent<R: Abort>(rt: &R, run: &mut SafeVm, slice: &Slice, row: &Lend) {
+    let place = row.place.expect(rt, "a thread that is not lent");
+    assert_first(rt, run, slice, row, place);
+    check(rt, run.fits(slice), "a slice that fits", row.turns);
+    assert_away(rt, run, row.thread);
+}
+
+/// The thread of a row is lent, where it is to be.
+fn lend_thread<R: Abort>(rt: &R, run: &mut SafeVm, row: &Lend) {
+    let is_local = run.next_is_local(row.thread);
+    check(rt, is_local == row.local, "a local step", row.turns);
+    let lent = run.lend(row.thread).ok().expect(rt, "memory");
+    match &lent {
+        Some(slice) => assert_lent(rt, run, slice, row),
+        None => check(rt, row.place.is_none(), "not lent", row.turns),
+    }
+    drop(lent);
+}
+
+/// Nothing of what is seen changes where a thread is lent or not.
+fn assert_unseen<R: Abort>(rt: &R, alloc: Global, run: &mut SafeVm, row: &Lend) {
+    let before = seen(rt, alloc, run);
+    lend_thread(rt, run, row);
+    let is_same = is_seen(rt, alloc, run, &before);
+    check(rt, is_same, "what is seen", row.turns);
+    drop(before);
 }
 
 fn assert_lend<R: Abort>(rt: &R, alloc: Global, verified: &Verified, row: &Lend) {
@@ -52,19 +81,9 @@ fn assert_lend<R: Abort>(rt: &R, alloc: Global, verified: &Verified, row: &Lend)
         limits: row.limits,
     };
     let mut run = stood(rt, alloc, player, row.turns);
-    let before = seen(rt, alloc, &run);
-    assert_eq!(rt; run.next_is_local(row.thread), row.local, "{:?}", row.turns);
-    let lent = run.lend(row.thread).ok().expect(rt, "memory");
-    match (lent, row.place) {
-        (Some(slice), Some(place)) => {
-            assert_first(rt, &run, &slice, row, place);
-            assert!(rt; run.fits(&slice), "{:?}", row.turns);
-            assert_away(rt, &mut run, row.thread);
-        }
-        (lent, place) => assert_eq!(rt; lent.is_some(), place.is_some(), "{:?}", row.turns),
-    }
-    assert_eq!(rt; seen(rt, alloc, &run), before, "{:?}", row.turns);
-    assert_eq!(rt; run.ready(), row.ready, "{:?}", row.turns);
+    assert_unseen(rt, alloc, &mut run, row);
+    check(rt, run.ready() == row.ready, "who is ready", row.turns);
+    drop(run);
 }
 
 fn assert_lends<R: Abort>(rt: &R, alloc: Global, text: &str, rows: &[Lend]) {
@@ -72,6 +91,7 @@ fn assert_lends<R: Abort>(rt: &R, alloc: Global, text: &str, rows: &[Lend]) {
     for row in rows {
         assert_lend(rt, alloc, &verified, row);
     }
+    drop(verified);
 }
 
 /// Main, when it has started a thread, whose object is the third that is made.

@@ -2,7 +2,6 @@
 use crate::playing::{Player, assert_end, opened, verified};
 use crate::texts::{AMPLE, BOTH, MAIN_FIRST, SPENT};
 use dv_defs::{Ending, Limits};
-use dv_rules::Verified;
 use std::alloc::Global;
 use std::process::Abort;
 
@@ -88,22 +87,26 @@ static WIDE_LIMITS: [Row; 2] = [
     ),
 ];
 
-fn assert_limits<R: Abort>(rt: &R, alloc: Global, verified: &Verified, rows: &[Row]) {
+fn assert_limit<R: Abort>(rt: &R, alloc: Global, player: Player<'_>, ending: Ending, text: &str) {
+    let run = opened(rt, alloc, player);
+    assert_end(rt, alloc, player, run, ending, text);
+}
+
+fn assert_limits<R: Abort>(rt: &R, alloc: Global, text: &str, rows: &[Row]) {
+    let verified = verified(rt, alloc, text);
     for (limits, ending, text) in rows {
         let player = Player {
-            verified,
+            verified: &verified,
             limits: *limits,
         };
-        let run = opened(rt, alloc, player);
-        assert_end(rt, alloc, player, run, *ending, text);
+        assert_limit(rt, alloc, player, *ending, text);
     }
+    drop(verified);
 }
 
 #[test]
 fn limits_are_the_hosts(rt: HostRuntime) {
     let alloc = rt.alloc();
-    let both = verified(&rt, alloc, BOTH);
-    assert_limits(&rt, alloc, &both, LIMITS.as_slice());
-    let wide = verified(&rt, alloc, WIDE);
-    assert_limits(&rt, alloc, &wide, WIDE_LIMITS.as_slice());
+    assert_limits(&rt, alloc, BOTH, LIMITS.as_slice());
+    assert_limits(&rt, alloc, WIDE, WIDE_LIMITS.as_slice());
 }

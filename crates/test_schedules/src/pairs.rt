@@ -2,7 +2,7 @@
 ghost use Rattle.std.specs.Prelude.{◌≡◌};
 ghost use Rattle.dv_sound.specs.Lending.{IsLocalRun};
 
-use crate::playing::{Player, assert_end, stood, verified};
+use crate::playing::{Player, assert_end, check, stood, verified};
 use crate::slices::{assert_alike, brought, image_of, lent, work, worker_of};
 use crate::texts::{AMPLE, BOTH, FOREVER, MAIN_FIRST, SPENT};
 use dv_defs::{Ending, Image, Limits};
@@ -59,7 +59,7 @@ fn bring_pair<R: Abort>(rt: &R, run: &mut SafeVm, pair: &Pair) {
     } else {
         bring_both(rt, image, run, one, zero)
     };
-    assert_eq!(rt; done, pair.done, "{:?}", pair.order);
+    check(rt, done == pair.done, "steps that are done", &[pair.order]);
 }
 
 /// The same steps by turns.
@@ -71,17 +71,29 @@ fn take_pair<R: Abort>(rt: &R, run: &mut SafeVm, pair: &Pair) {
     assert_eq!(rt; done, Some(pair.done.1));
 }
 
+/// A run stands as one in which the steps of a row were done by turns.
+fn assert_as_by_turns<R: Abort>(
+    rt: &R,
+    alloc: Global,
+    player: Player<'_>,
+    run: &SafeVm,
+    pair: &Pair,
+) {
+    let mut like = stood(rt, alloc, player, &[(0, 8)]);
+    take_pair(rt, &mut like, pair);
+    assert_alike(rt, alloc, run, &like);
+    drop(like);
+}
+
 fn assert_pair<R: Abort>(rt: &R, alloc: Global, verified: &Verified, pair: &Pair) {
     let player = Player {
         verified,
         limits: pair.limits,
     };
     let mut run = stood(rt, alloc, player, &[(0, 8)]);
-    let mut like = stood(rt, alloc, player, &[(0, 8)]);
     bring_pair(rt, &mut run, pair);
-    take_pair(rt, &mut like, pair);
-    assert_alike(rt, alloc, &run, &like);
-    assert_eq!(rt; run.ending(), pair.ending, "{:?}", pair.order);
+    assert_as_by_turns(rt, alloc, player, &run, pair);
+    check(rt, run.ending() == pair.ending, "an ending", &[pair.order]);
     assert_end(rt, alloc, player, run, pair.end.0, pair.end.1);
 }
 
@@ -90,6 +102,7 @@ fn assert_pairs<R: Abort>(rt: &R, alloc: Global, text: &str, pairs: &[Pair]) {
     for pair in pairs {
         assert_pair(rt, alloc, &verified, pair);
     }
+    drop(verified);
 }
 
 /// Main first, with all that both do.

@@ -19,6 +19,11 @@ pub struct Player<'v> {
     pub limits: Limits,
 }
 
+/// Stops the test where a fact of a row doesn't hold, and tells it with the row's turns.
+pub fn check<R: Abort>(rt: &R, holds: bool, fact: &str, turns: &[(u32, u32)]) {
+    assert!(rt; holds, "{fact}: {turns:?}");
+}
+
 /// A text, read, linked and verified.
 pub fn verified<R: Abort>(rt: &R, alloc: Global, text: &str) -> Verified {
     assert!(rt; text.len() < 1_000_000, "{text}");
@@ -65,7 +70,14 @@ pub fn opened<'v, R: Abort>(rt: &R, alloc: Global, player: Player<'v>) -> SafeVm
 fn go_on<R: Abort>(rt: &R, run: &mut SafeVm, thread: u32, steps: u32) {
     for _ in 0..steps {
         let done = run.turn(0, thread, 1).ok();
-        assert_eq!(rt; done, Some(1), "{thread}");
+        check(rt, done == Some(1), "a step", &[(thread, steps)]);
+    }
+}
+
+/// Steps of threads, so many of each, one after another.
+fn go_all_on<R: Abort>(rt: &R, run: &mut SafeVm, turns: &[(u32, u32)]) {
+    for (thread, steps) in turns {
+        go_on(rt, run, *thread, *steps);
     }
 }
 
@@ -77,9 +89,7 @@ pub fn stood<'v, R: Abort>(
     turns: &[(u32, u32)],
 ) -> SafeVm<'v> {
     let mut run = opened(rt, alloc, player);
-    for (thread, steps) in turns {
-        go_on(rt, &mut run, *thread, *steps);
-    }
+    go_all_on(rt, &mut run, turns);
     run
 }
 
@@ -96,23 +106,47 @@ pub fn replayed<'v, R: Abort>(
     SafeVm::replay(alloc, verified, main, limits, schedule)
 }
 
+/// A text, of printed bytes and of lines.
+fn joined<R: Abort>(rt: &R, alloc: Global, printed: &[u8], lines: &[u8]) -> String {
+    let printed = str::from_utf8(printed).ok().expect(rt, "printed text");
+    let lines = str::from_utf8(lines).ok().expect(rt, "lines");
+    let text = format!(in alloc; "{printed}{lines}");
+    text.ok().expect(rt, "memory")
+}
+
 /// The printed bytes, and the lines behind them.
 pub fn final_text<R: Abort>(rt: &R, alloc: Global, run: &SafeVm) -> String {
     let lines = final_lines(alloc, &run.verified().image, run.vm());
     let lines = lines.ok().expect(rt, "memory");
-    let printed = str::from_utf8(run.vm().output()).ok();
-    let printed = printed.expect(rt, "printed text");
-    let lines = str::from_utf8(lines.bytes()).ok().expect(rt, "lines");
-    format!(in alloc; "{printed}{lines}")
-        .ok()
-        .expect(rt, "memory")
+    let text = joined(rt, alloc, run.vm().output(), lines.bytes());
+    drop(lines);
+    text
 }
 
 /// A run has ended, with this final text.
 pub fn assert_ended<R: Abort>(rt: &R, alloc: Global, run: &SafeVm, ending: Ending, text: &str) {
-    assert_eq!(rt; run.ending(), Some(ending), "{text}");
+    assert_eq!(rt; run.ending(), Some(ending));
     let found = final_text(rt, alloc, run);
     assert_eq!(rt; found.as_str(), text);
+    drop(found);
+}
+
+/// A log leads to a run that has ended so.
+fn assert_log<R: Abort>(
+    rt: &R,
+    alloc: Global,
+    player: Player<'_>,
+    log: &[Entry],
+    ending: Ending,
+    text: &str,
+) {
+    match replayed(rt, alloc, player, log) {
+        Ok(run) => {
+            assert_ended(rt, alloc, &run, ending, text);
+            drop(run);
+        }
+        Err(error) => panic!(rt; "{error:?}: {text}"),
+    }
 }
 
 /// A run that is run on ends so, and its log leads there again.
@@ -128,8 +162,6 @@ pub fn assert_end<R: Abort>(
     assert!(rt; run.run().is_ok());
     assert_ended(rt, alloc, &run, ending, text);
     let log = run.into_log();
-    match replayed(rt, alloc, player, &log) {
-        Ok(again) => assert_ended(rt, alloc, &again, ending, text),
-        Err(error) => panic!(rt; "{error:?}: {text}"),
-    }
+    assert_log(rt, alloc, player, &log, ending, text);
+    drop(log);
 }

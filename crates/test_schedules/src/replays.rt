@@ -1,9 +1,9 @@
 // Schedules with numbers that no line of a text has: no steps, more than 256, and threads and workers of any number.
-use crate::playing::{Player, replayed, verified};
+use crate::playing::{Player, check, replayed, verified};
 use crate::texts::{AMPLE, BOTH, FOREVER};
 use dv_defs::{Entry, Limits};
 use dv_rules::Verified;
-use dv_sound::ReplayError;
+use dv_sound::{ReplayError, SafeVm};
 use std::alloc::Global;
 use std::process::Abort;
 
@@ -42,21 +42,45 @@ fn schedule_of<R: Abort>(rt: &R, alloc: Global, entries: &[(u32, u32)]) -> Vec<E
     schedule
 }
 
-/// A schedule leads to an ending, and is the log of the replay; or it is refused.
-fn assert_replay<R: Abort>(rt: &R, alloc: Global, player: Player<'_>, row: &Replay) {
+/// A schedule that is replayed isn't one of a refusal; it leads to an ending, and is the log of the replay.
+fn assert_replayed<R: Abort>(rt: &R, run: &SafeVm, schedule: &[Entry], row: &Replay) {
     let (entries, refused) = row;
-    let schedule = schedule_of(rt, alloc, entries);
-    match replayed(rt, alloc, player, &schedule) {
+    check(rt, refused.is_none(), "not refused", entries);
+    check(rt, run.ending().is_some(), "an ending", entries);
+    check(rt, run.log() == schedule, "the log", entries);
+}
+
+/// A schedule is refused so.
+fn assert_refused<R: Abort>(rt: &R, error: &ReplayError, row: &Replay) {
+    let (entries, refused) = row;
+    let is_so = match *refused {
+        Some(refusal) => *error == error_of(refusal),
+        None => false,
+    };
+    assert!(rt; is_so, "{error:?}: {entries:?}");
+}
+
+/// A schedule leads to an ending, or it is refused.
+fn assert_schedule<R: Abort>(
+    rt: &R,
+    alloc: Global,
+    player: Player<'_>,
+    schedule: &[Entry],
+    row: &Replay,
+) {
+    match replayed(rt, alloc, player, schedule) {
         Ok(run) => {
-            assert!(rt; refused.is_none(), "{entries:?}");
-            assert!(rt; run.ending().is_some(), "{entries:?}");
-            assert!(rt; run.log() == schedule.as_slice(), "{entries:?}");
+            assert_replayed(rt, &run, schedule, row);
+            drop(run);
         }
-        Err(error) => match *refused {
-            Some(refusal) => assert_eq!(rt; error, error_of(refusal), "{entries:?}"),
-            None => panic!(rt; "{error:?}: {entries:?}"),
-        },
+        Err(error) => assert_refused(rt, &error, row),
     }
+}
+
+fn assert_replay<R: Abort>(rt: &R, alloc: Global, player: Player<'_>, row: &Replay) {
+    let schedule = schedule_of(rt, alloc, row.0);
+    assert_schedule(rt, alloc, player, &schedule, row);
+    drop(schedule);
 }
 
 fn assert_replays<R: Abort>(
@@ -108,7 +132,14 @@ fn entries_may_have_any_numbers(rt: HostRuntime) {
     let alloc = rt.alloc();
     let both = verified(&rt, alloc, BOTH);
     assert_replays(&rt, alloc, &both, 1_000_000, ANY_NUMBERS.as_slice());
+    drop(both);
+}
+
+#[test]
+fn entries_may_have_many_steps(rt: HostRuntime) {
+    let alloc = rt.alloc();
     let forever = verified(&rt, alloc, FOREVER);
     assert_replays(&rt, alloc, &forever, 300, MANY_STEPS.as_slice());
     assert_replays(&rt, alloc, &forever, 0, NO_STEPS.as_slice());
+    drop(forever);
 }

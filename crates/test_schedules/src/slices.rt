@@ -97,7 +97,7 @@ pub fn turn<R: Abort>(rt: &R, image: &Image, run: &mut SafeVm, turn: Option<(u32
     let _ = image;
     if let Some((thread, steps)) = turn {
         let done = run.turn(1, thread, steps).ok();
-        assert_eq!(rt; done, Some(steps), "{thread}");
+        assert_eq!(rt; done, Some(steps));
     }
 }
 
@@ -108,7 +108,7 @@ pub fn top<R: Abort>(rt: &R, run: &SafeVm, thread: u32) -> Frame {
 }
 
 /// What is seen of a run: its steps, its schedule, and its final text.
-#[derive(PartialEq, Debug, Drop)]
+#[derive(Drop)]
 pub struct State {
     steps: u64,
     log: Vec<Entry>,
@@ -123,15 +123,43 @@ pub fn seen<R: Abort>(rt: &R, alloc: Global, run: &SafeVm) -> State {
     }
 }
 
+/// What is seen of a run is what was seen.
+pub fn is_seen<R: Abort>(rt: &R, alloc: Global, run: &SafeVm, was: &State) -> bool {
+    let text = final_text(rt, alloc, run);
+    let is_same = run.vm().steps == was.steps
+        && run.log() == was.log.as_slice()
+        && text.as_str() == was.text.as_str();
+    drop(text);
+    is_same
+}
+
+/// A thread has the same frame on top in two runs.
+fn assert_same_top<R: Abort>(rt: &R, one: &SafeVm, other: &SafeVm, thread: u32) {
+    let one = one.vm().copy_top(thread).ok().expect(rt, "memory");
+    let other = other.vm().copy_top(thread).ok().expect(rt, "memory");
+    assert!(rt; one == other);
+    drop(one);
+    drop(other);
+}
+
+/// The printed bytes of two runs and the lines behind them are the same.
+fn assert_same_text<R: Abort>(rt: &R, alloc: Global, one: &SafeVm, other: &SafeVm) {
+    let one = final_text(rt, alloc, one);
+    let other = final_text(rt, alloc, other);
+    assert_eq!(rt; one.as_str(), other.as_str());
+    drop(one);
+    drop(other);
+}
+
 /// Two runs stand alike.
 pub fn assert_alike<R: Abort>(rt: &R, alloc: Global, one: &SafeVm, other: &SafeVm) {
-    assert_eq!(rt; seen(rt, alloc, one), seen(rt, alloc, other));
+    assert_eq!(rt; one.vm().steps, other.vm().steps);
+    assert_eq!(rt; one.log(), other.log());
+    assert_same_text(rt, alloc, one, other);
     assert_eq!(rt; one.ending(), other.ending());
     assert_eq!(rt; one.ready(), other.ready());
     assert_eq!(rt; one.threads(), other.threads());
     for thread in 0..one.threads() {
-        let one = one.vm().copy_top(thread).ok().expect(rt, "memory");
-        let other = other.vm().copy_top(thread).ok().expect(rt, "memory");
-        assert!(rt; one == other, "{one:?}, {other:?}");
+        assert_same_top(rt, one, other, thread);
     }
 }

@@ -19,16 +19,22 @@ struct Turns {
     ending: Option<Ending>,
 }
 
+/// Stops the test where a fact doesn't hold, and tells it with the turn that was asked for.
+fn check<R: Abort>(rt: &R, holds: bool, fact: &str, at: Asked) {
+    assert!(rt; holds, "{fact}: {at:?}");
+}
+
 /// This thread is runnable and none below it is; or none is.
 fn assert_ready<R: Abort>(rt: &R, run: &SafeVm, ready: Option<u32>, at: Asked) {
-    assert_eq!(rt; run.ready(), ready, "{at:?}");
+    check(rt, run.ready() == ready, "who is ready", at);
     for thread in 0..ready.unwrap_or(70) {
-        assert!(rt; !run.runnable(thread), "{thread}: {at:?}");
+        check(rt, !run.runnable(thread), "a lower thread", at);
     }
     if let Some(thread) = ready {
-        assert!(rt; run.runnable(thread), "{at:?}");
+        check(rt, run.runnable(thread), "the thread", at);
     }
-    assert!(rt; !run.runnable(run.threads()), "{at:?}");
+    let count = run.threads();
+    check(rt, !run.runnable(count), "a thread that is not there", at);
 }
 
 /// One turn.
@@ -36,12 +42,9 @@ fn assert_turn<R: Abort>(rt: &R, run: &mut SafeVm, worker: u32, at: Asked) {
     let (thread, most, done, ready) = at;
     let before = run.vm().steps;
     let result = run.turn(worker, thread, most).ok();
-    assert_eq!(rt; result, Some(done), "{at:?}");
-    assert_eq!(rt;
-        run.vm().steps,
-        before.saturating_add(u64::from(done)),
-        "{at:?}"
-    );
+    check(rt, result == Some(done), "the answer", at);
+    let after = before.saturating_add(u64::from(done));
+    check(rt, run.vm().steps == after, "the steps", at);
     assert_ready(rt, run, ready, at);
 }
 
@@ -61,21 +64,33 @@ fn log_of<R: Abort>(rt: &R, alloc: Global, asked: &[Asked]) -> Vec<Entry> {
     log
 }
 
+/// The log of a run is that of the turns.
+fn assert_log<R: Abort>(rt: &R, alloc: Global, run: &SafeVm, asked: &[Asked]) {
+    let wanted = log_of(rt, alloc, asked);
+    assert!(rt; run.log() == wanted.as_slice());
+    drop(wanted);
+}
+
+/// The turns of a run that begins.
+fn take_turns<R: Abort>(rt: &R, run: &mut SafeVm, turns: &Turns) {
+    assert!(rt; run.log().is_empty());
+    assert_eq!(rt; run.threads(), 1);
+    for (worker, at) in (0..1000).zip(turns.asked) {
+        assert_turn(rt, run, worker, *at);
+    }
+    assert_eq!(rt; run.threads(), turns.threads);
+    assert_eq!(rt; run.ending(), turns.ending);
+}
+
 fn assert_turns<R: Abort>(rt: &R, alloc: Global, verified: &Verified, turns: &Turns) {
     let player = Player {
         verified,
         limits: turns.limits,
     };
     let mut run = opened(rt, alloc, player);
-    assert!(rt; run.log().is_empty());
-    assert_eq!(rt; run.threads(), 1);
-    for (worker, at) in (0..1000).zip(turns.asked) {
-        assert_turn(rt, &mut run, worker, *at);
-    }
-    assert_eq!(rt; run.threads(), turns.threads);
-    assert_eq!(rt; run.ending(), turns.ending);
-    let wanted = log_of(rt, alloc, turns.asked);
-    assert!(rt; run.log() == wanted.as_slice());
+    take_turns(rt, &mut run, turns);
+    assert_log(rt, alloc, &run, turns.asked);
+    drop(run);
 }
 
 fn assert_all_turns<R: Abort>(rt: &R, alloc: Global, text: &str, rows: &[Turns]) {
@@ -83,6 +98,7 @@ fn assert_all_turns<R: Abort>(rt: &R, alloc: Global, text: &str, rows: &[Turns])
     for turns in rows {
         assert_turns(rt, alloc, &verified, turns);
     }
+    drop(verified);
 }
 
 /// Three local instructions and a return.

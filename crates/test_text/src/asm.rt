@@ -7,6 +7,7 @@ use dv_defs::{Body, Chars, Insn, LineError, LineKind, Regs, Seq, Text};
 use dv_draft::{Catch, Draft, Draftop, Item, PoolRef, What};
 use std::alloc::{AllocError, Global};
 use std::marker::Model;
+use std::process::Abort;
 use std::test::Fail;
 
 /// A draft in the making.
@@ -143,35 +144,60 @@ fn units_of(alloc: Global, draft: &Draft) -> Result<Vec<u16>, AllocError> {
 }
 
 /// Four nops, each after a label: `a`, `b`, `c`, `d`.
-fn four_nops(alloc: Global) -> Result<Making, AllocError> {
-    let mut making = Making::new(alloc);
+fn add_nops(making: &mut Making) -> Result<(), AllocError> {
     for name in ["a", "b", "c", "d"] {
         making.label(3, name)?;
         making.nop(4)?;
     }
-    Ok(making)
+    Ok(())
 }
 
 /// Handlers of ranges that touch, on lines 10 and 11, and two handlers of a range that overlaps both, on these lines.
-fn overlapping(alloc: Global, third: u32, fourth: u32) -> Result<Draft, AllocError> {
-    let mut making = four_nops(alloc)?;
+fn add_catches(making: &mut Making, third: u32, fourth: u32) -> Result<(), AllocError> {
+    add_nops(making)?;
     making.catch(10, "a", "c", "d")?;
     making.catch(11, "c", "d", "d")?;
     making.catch(third, "b", "d", "d")?;
-    making.catch(fourth, "b", "d", "d")?;
-    Ok(making.draft(1))
+    making.catch(fourth, "b", "d", "d")
+}
+
+/// What was made, or nothing of it.
+fn made(making: Making, done: Result<(), AllocError>) -> Result<Draft, AllocError> {
+    match done {
+        Ok(()) => Ok(making.draft(1)),
+        Err(error) => {
+            drop(making);
+            Err(error)
+        }
+    }
+}
+
+fn overlapping(alloc: Global, third: u32, fourth: u32) -> Result<Draft, AllocError> {
+    let mut making = Making::new(alloc);
+    let done = add_catches(&mut making, third, fourth);
+    made(making, done)
 }
 
 // The first line is the least one, also where a later handler has it, as no reader makes it.
 #[test]
 fn refuses_overlaps(rt: HostRuntime) -> Result<(), Fail> {
     for (third, fourth, line) in [(12, 5, 5), (9, 9, 9)] {
-        let draft = overlapping(rt.alloc(), third, fourth)?;
-        assert_eq!(rt;
-            error_of(rt.alloc(), &draft),
-            refusal(line, LineKind::TryOverlap)
-        );
+        refuses_overlap(&rt, rt.alloc(), third, fourth, line)?;
     }
+    Ok(())
+}
+
+fn refuses_overlap(
+    rt: &impl Abort,
+    alloc: Global,
+    third: u32,
+    fourth: u32,
+    line: u32,
+) -> Result<(), AllocError> {
+    let draft = overlapping(alloc, third, fourth)?;
+    let wanted = refusal(line, LineKind::TryOverlap);
+    assert_eq!(rt; error_of(alloc, &draft), wanted);
+    drop(draft);
     Ok(())
 }
 
@@ -184,31 +210,54 @@ fn strings_of(alloc: Global, draft: &Draft) -> Result<Vec<Chars>, AllocError> {
 }
 
 /// Instructions that name two strings, the first of them twice.
-fn naming(alloc: Global) -> Result<Draft, AllocError> {
-    let mut making = Making::new(alloc);
+fn add_names(making: &mut Making) -> Result<(), AllocError> {
     making.const_string(4, &[0x79])?;
     making.const_string(5, &[0x78])?;
-    making.const_string(6, &[0x79])?;
-    Ok(making.draft(1))
+    making.const_string(6, &[0x79])
+}
+
+fn naming(alloc: Global) -> Result<Draft, AllocError> {
+    let mut making = Making::new(alloc);
+    let done = add_names(&mut making);
+    made(making, done)
+}
+
+fn assert_units(rt: &impl Abort, alloc: Global, draft: &Draft) -> Result<(), AllocError> {
+    let units: [u16; 6] = [0x001a, 0x0000, 0x001a, 0x0001, 0x001a, 0x0000];
+    let assembled = units_of(alloc, draft)?;
+    assert_eq!(rt; assembled.as_slice(), units.as_slice());
+    drop(assembled);
+    Ok(())
 }
 
 #[test]
 fn names_places_in_pools(rt: HostRuntime) -> Result<(), Fail> {
     units_are_items();
     let draft = naming(rt.alloc())?;
-    let units: [u16; 6] = [0x001a, 0x0000, 0x001a, 0x0001, 0x001a, 0x0000];
-    let assembled = units_of(rt.alloc(), &draft)?;
-    assert_eq!(rt; assembled.as_slice(), units.as_slice());
+    let done = assert_units(&rt, rt.alloc(), &draft);
+    drop(draft);
+    done?;
+    Ok(())
+}
+
+fn assert_strings(rt: &impl Abort, alloc: Global, draft: &Draft) -> Result<(), AllocError> {
+    let strings = strings_of(alloc, draft)?;
+    match strings.as_slice() {
+        [y, x] => {
+            assert_eq!(rt; y.units(), [0x79].as_slice());
+            assert_eq!(rt; x.units(), [0x78].as_slice());
+        }
+        _ => panic!(rt; "other strings"),
+    }
+    drop(strings);
     Ok(())
 }
 
 #[test]
 fn keeps_strings_in_first_seen_order(rt: HostRuntime) -> Result<(), Fail> {
-    let alloc = rt.alloc();
-    let draft = naming(alloc)?;
-    let y = Chars::of(Vec::from_slice(alloc, &[0x79])?);
-    let x = Chars::of(Vec::from_slice(alloc, &[0x78])?);
-    let expected = vec![in alloc; y, x]?;
-    assert_eq!(rt; strings_of(alloc, &draft)?, expected);
+    let draft = naming(rt.alloc())?;
+    let done = assert_strings(&rt, rt.alloc(), &draft);
+    drop(draft);
+    done?;
     Ok(())
 }

@@ -2,6 +2,7 @@
 use dv_console::{Cmd, Refusal, WordError, method_fault_line, read_words, refusal_line};
 use dv_defs::{Fault, Limits, LineKind, LinkKind, MethodId, Rule, Text};
 use std::alloc::{AllocError, Global};
+use std::process::Abort;
 use std::test::Fail;
 
 // Numbers that no line of a text has.
@@ -22,18 +23,36 @@ static LINES: [(u32, LineKind, &str); 3] = [
 #[test]
 fn lines_are_told_by_any_number(rt: HostRuntime) -> Result<(), Fail> {
     for (number, kind, told) in LINES.iter() {
-        let line = refusal_line(rt.alloc(), &Refusal::Line(*number, *kind))?;
-        assert_eq!(rt; line.bytes(), told.as_bytes());
+        assert_line(&rt, rt.alloc(), &Refusal::Line(*number, *kind), told)?;
     }
+    Ok(())
+}
+
+fn assert_line(
+    rt: &impl Abort,
+    alloc: Global,
+    refusal: &Refusal,
+    told: &str,
+) -> Result<(), AllocError> {
+    let line = refusal_line(alloc, refusal)?;
+    assert_eq!(rt; line.bytes(), told.as_bytes());
+    drop(line);
     Ok(())
 }
 
 #[test]
 fn names_may_be_empty(rt: HostRuntime) -> Result<(), Fail> {
-    let class = text(rt.alloc(), "")?;
-    let refusal = Refusal::Link(class, LinkKind::NoClass(text(rt.alloc(), "")?));
-    let line = refusal_line(rt.alloc(), &refusal)?;
-    assert_eq!(rt; line.bytes(), b"#refused class : no class \n".as_slice());
+    let class = text(rt.alloc(), "").ok().expect(&rt, "memory");
+    let sought = text(rt.alloc(), "").ok().expect(&rt, "memory");
+    let refusal = Refusal::Link(class, LinkKind::NoClass(sought));
+    let told = assert_line(&rt, rt.alloc(), &refusal, "#refused class : no class \n");
+    drop(refusal);
+    told?;
+    Ok(())
+}
+
+#[test]
+fn names_of_methods_may_be_empty(rt: HostRuntime) -> Result<(), Fail> {
     let fault = Fault {
         method: MethodId(7),
         address: 0xffff_ffff,
@@ -41,6 +60,7 @@ fn names_may_be_empty(rt: HostRuntime) -> Result<(), Fail> {
     };
     let line = method_fault_line(rt.alloc(), b"", &fault)?;
     assert_eq!(rt; line.bytes(), b"#fault  ffffffff V14\n".as_slice());
+    drop(line);
     Ok(())
 }
 
@@ -103,27 +123,45 @@ fn text(alloc: Global, s: &str) -> Result<Text, AllocError> {
     Text::of(Vec::from_slice(alloc, s.as_bytes())?)
 }
 
-fn split(alloc: Global, line: &str) -> Result<Vec<String>, AllocError> {
-    let mut words = Vec::new(alloc);
+fn add_words(alloc: Global, words: &mut Vec<String>, line: &str) -> Result<(), AllocError> {
     for word in line.split(' ') {
         words.push(String::from_str(alloc, word)?)?;
     }
-    Ok(words)
+    Ok(())
+}
+
+fn split(rt: &impl Abort, alloc: Global, line: &str) -> Vec<String> {
+    let mut words = Vec::new(alloc);
+    assert!(rt; add_words(alloc, &mut words, line).is_ok());
+    words
+}
+
+// What the words of a line are read as.
+fn words_read(rt: &impl Abort, alloc: Global, line: &str) -> Result<Cmd, WordError> {
+    let words = split(rt, alloc, line);
+    let read = read_words(alloc, &words);
+    drop(words);
+    read
+}
+
+fn assert_words(rt: &impl Abort, alloc: Global, line: &str, wanted: Result<Cmd, WordError>) {
+    let read = words_read(rt, alloc, line);
+    assert!(rt; read == wanted, "{line}");
+    drop(read);
+    drop(wanted);
 }
 
 #[test]
-fn demos_are_read(rt: HostRuntime) -> Result<(), Fail> {
+fn demos_are_read(rt: HostRuntime) {
     for (line, (number, classes, threads, workers)) in DEMOS.iter() {
-        let words = split(rt.alloc(), line)?;
         let demo = Cmd::Demo {
             number: *number,
             classes: *classes,
             threads: *threads,
             workers: *workers,
         };
-        assert_eq!(rt; read_words(rt.alloc(), &words), Ok(demo), "{line}");
+        assert_words(&rt, rt.alloc(), line, Ok(demo));
     }
-    Ok(())
 }
 
 // Runs on several workers aren't built.
@@ -132,35 +170,34 @@ const WORKERS: &[&str] = &[
     "run Main workers=8 budget=50000000 log=yes heap=64",
 ];
 
-#[test]
-fn runs_on_workers_are_read(rt: HostRuntime) -> Result<(), Fail> {
-    for line in WORKERS.iter() {
-        let words = split(rt.alloc(), line)?;
-        let run = Cmd::Run {
-            name: text(rt.alloc(), "LMain;")?,
-            workers: 8,
-            seed: None,
-            limits: Limits {
-                budget: 50_000_000,
-                heap: 64,
-                output: 16_777_216,
-                threads: 64,
-                levels: 1_024,
-                words: 16_384,
-            },
-            log: true,
-        };
-        assert_eq!(rt; read_words(rt.alloc(), &words), Ok(run), "{line}");
+fn run_on_workers(rt: &impl Abort, alloc: Global) -> Cmd {
+    Cmd::Run {
+        name: text(alloc, "LMain;").ok().expect(rt, "memory"),
+        workers: 8,
+        seed: None,
+        limits: Limits {
+            budget: 50_000_000,
+            heap: 64,
+            output: 16_777_216,
+            threads: 64,
+            levels: 1_024,
+            words: 16_384,
+        },
+        log: true,
     }
-    Ok(())
 }
 
 #[test]
-fn other_words_are_refused(rt: HostRuntime) -> Result<(), Fail> {
-    for line in UNREAD.iter() {
-        let words = split(rt.alloc(), line)?;
-        let read = read_words(rt.alloc(), &words);
-        assert_eq!(rt; read, Err(WordError::Usage), "{line}");
+fn runs_on_workers_are_read(rt: HostRuntime) {
+    for line in WORKERS.iter() {
+        let run = run_on_workers(&rt, rt.alloc());
+        assert_words(&rt, rt.alloc(), line, Ok(run));
     }
-    Ok(())
+}
+
+#[test]
+fn other_words_are_refused(rt: HostRuntime) {
+    for line in UNREAD.iter() {
+        assert_words(&rt, rt.alloc(), line, Err(WordError::Usage));
+    }
 }

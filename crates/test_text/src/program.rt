@@ -45,25 +45,27 @@ fn scheduled<R: Abort>(rt: &R, alloc: Global) -> Scheduled {
 }
 
 #[test]
-fn a_text_gives_its_classes_behind_the_boot_classes_and_its_schedule(
-    rt: HostRuntime,
-) -> Result<(), Fail> {
+fn a_text_gives_its_classes_behind_the_boot_classes_and_its_schedule(rt: HostRuntime) {
     let scheduled = scheduled(&rt, rt.alloc());
-    assert_eq!(rt; scheduled.image.classes.len(), 35);
-    assert_eq!(rt; scheduled.image.boot, 33);
+    assert_classes(&rt, &scheduled.image, 35);
     let log = [entry(2, 0, 9), entry(7, 63, 256), entry(2, 0, 9)];
     assert_eq!(rt; scheduled.log.items(), log.as_slice());
-    Ok(())
+    drop(scheduled);
+}
+
+/// So many classes, of which 33 are the boot classes.
+fn assert_classes<R: Abort>(rt: &R, image: &Image, count: usize) {
+    assert_eq!(rt; image.classes.len(), count);
+    assert_eq!(rt; image.boot, 33);
 }
 
 #[test]
-fn no_text_gives_the_boot_classes(rt: HostRuntime) -> Result<(), Fail> {
+fn no_text_gives_the_boot_classes(rt: HostRuntime) {
     let text = b"".as_slice();
     assert!(rt; text.len() < 1_000_000);
     let image = read_program(rt.alloc(), text).ok().expect(&rt, "a program");
-    assert_eq!(rt; image.classes.len(), 33);
-    assert_eq!(rt; image.boot, 33);
-    Ok(())
+    assert_classes(&rt, &image, 33);
+    drop(image);
 }
 
 // The class and the place of a main method, or the refusal.
@@ -95,16 +97,39 @@ fn is_no_class(outcome: &Outcome, name: &str) -> bool {
     }
 }
 
-#[test]
-fn a_main_method_is_told_by_its_number(rt: HostRuntime) -> Result<(), Fail> {
-    let alloc = rt.alloc();
-    let image = scheduled(&rt, alloc).image;
-    let main = main_of(&rt, alloc, &image, "LA;")?;
+fn assert_main<R: Abort>(rt: &R, alloc: Global, image: &Image) -> Result<(), AllocError> {
+    let main = main_of(rt, alloc, image, "LA;")?;
     assert!(rt; matches!(main, Ok((34, 1))));
+    drop(main);
+    Ok(())
+}
+
+fn assert_no_class<R: Abort>(
+    rt: &R,
+    alloc: Global,
+    image: &Image,
+    class: &str,
+) -> Result<(), AllocError> {
+    let main = main_of(rt, alloc, image, class)?;
+    assert!(rt; is_no_class(&main, class), "{class}");
+    drop(main);
+    Ok(())
+}
+
+fn assert_mains<R: Abort>(rt: &R, alloc: Global, image: &Image) -> Result<(), AllocError> {
+    assert_main(rt, alloc, image)?;
     // names that are no descriptors
     for class in ["LA", ""] {
-        let main = main_of(&rt, alloc, &image, class)?;
-        assert!(rt; is_no_class(&main, class), "{class}");
+        assert_no_class(rt, alloc, image, class)?;
     }
+    Ok(())
+}
+
+#[test]
+fn a_main_method_is_told_by_its_number(rt: HostRuntime) -> Result<(), Fail> {
+    let scheduled = scheduled(&rt, rt.alloc());
+    let done = assert_mains(&rt, rt.alloc(), &scheduled.image);
+    drop(scheduled);
+    done?;
     Ok(())
 }

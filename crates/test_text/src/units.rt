@@ -12,6 +12,9 @@ use std::test::Fail;
 // The opcode of an instruction, its registers and their number, its literal, offset and index.
 type Parts = (u8, u8, [u16; 5], i64, i32, u32);
 
+// Units, and the instruction that they spell.
+type Spelled = (&'static [u16], Parts);
+
 fn insn_of(parts: &Parts, range: bool) -> Insn {
     let (op, count, first, lit, off, index) = *parts;
     Insn {
@@ -30,7 +33,7 @@ fn insn_of(parts: &Parts, range: bool) -> Insn {
 // Units and the instruction that they spell, worked by hand from the page on formats: each format once at least,
 // and each offset at its bounds.
 #[rattlefmt::skip]
-static SPELLED: [(&[u16], Parts); 42] = [
+static SPELLED: [Spelled; 42] = [
     (&[0x0000], (0x00, 0, [0, 0, 0, 0, 0], 0, 0, 0)),
     (&[0x000e], (0x0e, 0, [0, 0, 0, 0, 0], 0, 0, 0)),
     (&[0x2101], (0x01, 2, [1, 2, 0, 0, 0], 0, 0, 0)),
@@ -77,7 +80,7 @@ static SPELLED: [(&[u16], Parts); 42] = [
 
 // The same, of invoke-static/range.
 #[rattlefmt::skip]
-static RANGES: [(&[u16], Parts); 2] = [
+static RANGES: [Spelled; 2] = [
     (&[0x0477, 0x0009, 0x0002], (0x77, 4, [2, 0, 0, 0, 0], 0, 0, 9)),
     (&[0x0077, 0x0009, 0x0000], (0x77, 0, [0, 0, 0, 0, 0], 0, 0, 9)),
 ];
@@ -93,16 +96,27 @@ fn spells(rt: &impl Abort, alloc: Global, units: &[u16], insn: &Insn) -> Result<
     let mut out = Vec::new(alloc);
     assert!(rt; encode(insn, &mut out) == Ok(size));
     are_units(rt, &out, units);
+    drop(out);
     Ok(())
+}
+
+fn spells_row(
+    rt: &impl Abort,
+    alloc: Global,
+    row: &Spelled,
+    range: bool,
+) -> Result<(), AllocError> {
+    let (units, parts) = row;
+    spells(rt, alloc, units, &insn_of(parts, range))
 }
 
 #[test]
 fn spells_both_ways(rt: HostRuntime) -> Result<(), Fail> {
-    for (units, parts) in &SPELLED {
-        spells(&rt, rt.alloc(), units, &insn_of(parts, false))?;
+    for row in &SPELLED {
+        spells_row(&rt, rt.alloc(), row, false)?;
     }
-    for (units, parts) in &RANGES {
-        spells(&rt, rt.alloc(), units, &insn_of(parts, true))?;
+    for row in &RANGES {
+        spells_row(&rt, rt.alloc(), row, true)?;
     }
     Ok(())
 }
@@ -187,6 +201,7 @@ fn refuses_insn(
     let mut out = vec![in alloc; 0x0000u16]?;
     assert!(rt; encode(insn, &mut out).err() == Some(error));
     are_units(rt, &out, &[0x0000]);
+    drop(out);
     Ok(())
 }
 
@@ -237,6 +252,7 @@ fn shows(
 ) -> Result<(), AllocError> {
     let shown = format!(in alloc; "{error}")?;
     assert!(rt; shown.as_str() == expected);
+    drop(shown);
     Ok(())
 }
 
@@ -261,6 +277,7 @@ fn reads_back(rt: HostRuntime) -> Result<(), Fail> {
     assert!(rt; decode_of_encode(&add, &mut out) == Ok((add, 2)));
     assert!(rt; encode_of_decode(&[0x000e, 0x2101], 1, &mut out) == Ok(1));
     are_units(&rt, &out, &[0x0000, 0x0090, 0x0201, 0x2101]);
+    drop(out);
     Ok(())
 }
 
@@ -345,6 +362,7 @@ fn reads_payload(
     assert!(rt; payload_size(units, 1) == Some(units.len() as u32 - 1));
     let read = decode_payload(alloc, units, 1)?;
     assert!(rt; read == *payload);
+    drop(read);
     Ok(())
 }
 
@@ -424,6 +442,7 @@ fn refuses_payload(rt: &impl Abort, alloc: Global, payload: &Payload) -> Result<
     let mut out = vec![in alloc; 0x0000u16]?;
     assert!(rt; encode_payload(payload, &mut out) == Err(UnitError::BadPayload));
     are_units(rt, &out, &[0x0000]);
+    drop(out);
     Ok(())
 }
 

@@ -7,8 +7,8 @@ use std::process::Abort;
 use std::test::Fail;
 use std::thread::Threads;
 
-/// A worker, a thread and a number of steps.
-type Turn = (u32, u32, u32);
+/// So many bytes come with a read, where the text isn't read byte by byte.
+const PIECE: usize = 64;
 
 /// A call, and what it comes to.
 #[derive(Clone, Copy)]
@@ -20,7 +20,7 @@ struct Row<'a> {
     status: u8,
     taken: &'a str,
     /// The schedule of the report.
-    log: &'a [Turn],
+    log: &'a [Entry],
 }
 
 /// A main method that adds the greatest int and one, run.
@@ -41,7 +41,18 @@ return-void
     failing_writes: &[],
     status: 0,
     taken: "-2147483648\n#end done\n",
-    log: &[(0, 0, 4), (0, 0, 1)],
+    log: &[
+        Entry {
+            worker: 0,
+            thread: 0,
+            steps: 4,
+        },
+        Entry {
+            worker: 0,
+            thread: 0,
+            steps: 1,
+        },
+    ],
 };
 
 /// A read fails.
@@ -60,97 +71,123 @@ const UNWRITTEN: Row<'static> = Row {
 };
 
 /// The report is what the row says.
-fn assert_report<R: Abort>(
+fn assert_report<R: Abort>(rt: &R, row: &Row, report: &Report<MemSink>) {
+    assert_eq!(rt; report.sink.taken.as_slice(), row.taken.as_bytes());
+    assert_eq!(rt; report.status, row.status);
+    assert_eq!(rt; report.log.as_slice(), row.log);
+}
+
+/// The words over the source come to what the row says.
+fn assert_call<R: Abort + Threads + Sync>(
     rt: &R,
     alloc: Global,
     row: &Row,
-    report: &Report<MemSink>,
-) -> Result<(), Fail> {
-    let taken = String::from_utf8_lossy(alloc, &report.sink.taken)?;
-    let log = log_of(alloc, row.log)?;
-    assert_eq!(rt; &*taken, row.taken);
-    assert_eq!(rt; report.status, row.status);
-    assert_eq!(rt; report.log.as_slice(), log.as_slice());
+    words: &[String],
+    source: &mut MemSource,
+) -> Result<(), AllocError> {
+    let sink = sink_of(alloc, row.failing_writes)?;
+    let report = dvm(rt, alloc, words, source, sink, &NoGate);
+    assert_report(rt, row, &report);
+    drop(report);
     Ok(())
 }
 
-/// What the row's words come to over its text.
-fn report_of<R: Threads + Sync>(
+/// The same over the row's text, which is read in pieces.
+fn assert_words<R: Abort + Threads + Sync>(
     rt: &R,
     alloc: Global,
     row: &Row,
-) -> Result<Report<MemSink>, AllocError> {
-    let words = words_of(alloc, row.words)?;
-    let mut source = source_of(alloc, row.text.as_bytes(), row.failing_reads)?;
-    let sink = sink_of(alloc, row.failing_writes)?;
-    Ok(dvm(rt, alloc, &words, &mut source, sink, &NoGate))
+    piece: usize,
+    words: &[String],
+) -> Result<(), AllocError> {
+    let mut source = source_of(rt, alloc, row.text.as_bytes(), row.failing_reads, piece)?;
+    let done = assert_call(rt, alloc, row, words, &mut source);
+    drop(source);
+    done
 }
 
-/// The same of a text that is read byte by byte.
-fn report_by_bytes<R: Threads + Sync>(
+/// The row's words over its text, which is read in pieces, come to what the row says.
+fn assert_row<R: Abort + Threads + Sync>(
     rt: &R,
     alloc: Global,
     row: &Row,
-) -> Result<Report<MemSink>, AllocError> {
+    piece: usize,
+) -> Result<(), AllocError> {
     let words = words_of(alloc, row.words)?;
-    let mut source = source_of(alloc, row.text.as_bytes(), row.failing_reads)?;
-    source.piece = 1;
-    let sink = sink_of(alloc, row.failing_writes)?;
-    Ok(dvm(rt, alloc, &words, &mut source, sink, &NoGate))
+    let done = assert_words(rt, alloc, row, piece, &words);
+    drop(words);
+    done
+}
+
+fn add_words(alloc: Global, list: &mut Vec<String>, words: &[&str]) -> Result<(), AllocError> {
+    for word in words {
+        list.push(String::from_str(alloc, word)?)?;
+    }
+    Ok(())
 }
 
 fn words_of(alloc: Global, words: &[&str]) -> Result<Vec<String>, AllocError> {
     let mut list = Vec::new(alloc);
-    for word in words {
-        list.push(String::from_str(alloc, word)?)?;
+    match add_words(alloc, &mut list, words) {
+        Ok(()) => Ok(list),
+        Err(error) => {
+            drop(list);
+            Err(error)
+        }
     }
-    Ok(list)
 }
 
-/// The text, in pieces of 64 bytes.
-fn source_of(alloc: Global, text: &[u8], fails: &[u64]) -> Result<MemSource, AllocError> {
-    Ok(MemSource {
-        bytes: Vec::from_slice(alloc, text)?,
-        at: 0,
-        piece: 64,
-        fails: Vec::from_slice(alloc, fails)?,
-        calls: 0,
-        faults: 0,
-    })
+/// The text, in pieces of so many bytes.
+fn source_of<R: Abort>(
+    rt: &R,
+    alloc: Global,
+    text: &[u8],
+    fails: &[u64],
+    piece: usize,
+) -> Result<MemSource, AllocError> {
+    assert!(rt; piece > 0);
+    let bytes = Vec::from_slice(alloc, text)?;
+    match Vec::from_slice(alloc, fails) {
+        Ok(fails) => Ok(MemSource {
+            bytes,
+            at: 0,
+            piece,
+            fails,
+            calls: 0,
+            faults: 0,
+        }),
+        Err(error) => {
+            drop(bytes);
+            Err(error)
+        }
+    }
 }
 
 /// Room for 10000 bytes, one by one.
 fn sink_of(alloc: Global, fails: &[u64]) -> Result<MemSink, AllocError> {
-    Ok(MemSink {
-        taken: Vec::with_capacity(alloc, 10_000)?,
-        room: 10_000,
-        piece: 1,
-        fails: Vec::from_slice(alloc, fails)?,
-        calls: 0,
-        faults: 0,
-    })
-}
-
-fn log_of(alloc: Global, turns: &[Turn]) -> Result<Vec<Entry>, AllocError> {
-    let mut log = Vec::new(alloc);
-    for (worker, thread, steps) in turns {
-        log.push(Entry {
-            worker: *worker,
-            thread: *thread,
-            steps: *steps,
-        })?;
+    let taken = Vec::with_capacity(alloc, 10_000)?;
+    match Vec::from_slice(alloc, fails) {
+        Ok(fails) => Ok(MemSink {
+            taken,
+            room: 10_000,
+            piece: 1,
+            fails,
+            calls: 0,
+            faults: 0,
+        }),
+        Err(error) => {
+            drop(taken);
+            Err(error)
+        }
     }
-    Ok(log)
 }
 
 /// Each read of a text fails in turn, 64 bytes a read; the one behind the last, which finds the end, too.
 #[test]
 fn reads_fail(rt: HostRuntime) -> Result<(), Fail> {
-    for read in 0..=WRAP.text.len() / 64 + 1 {
+    for read in 0..=WRAP.text.len() / PIECE + 1 {
         let fails = [read as u64];
-        let row = unread(&fails);
-        let report = report_of(&rt, rt.alloc(), &row)?;
-        assert_report(&rt, rt.alloc(), &row, &report)?;
+        assert_row(&rt, rt.alloc(), &unread(&fails), PIECE)?;
     }
     Ok(())
 }
@@ -160,9 +197,7 @@ fn reads_fail(rt: HostRuntime) -> Result<(), Fail> {
 fn reads_of_bytes_fail(rt: HostRuntime) -> Result<(), Fail> {
     for read in 0..=WRAP.text.len() {
         let fails = [read as u64];
-        let row = unread(&fails);
-        let report = report_by_bytes(&rt, rt.alloc(), &row)?;
-        assert_report(&rt, rt.alloc(), &row, &report)?;
+        assert_row(&rt, rt.alloc(), &unread(&fails), 1)?;
     }
     Ok(())
 }
@@ -183,8 +218,8 @@ fn the_end_is_read_once(rt: HostRuntime) -> Result<(), Fail> {
         failing_reads: &fails,
         ..WRAP
     };
-    let report = report_by_bytes(&rt, rt.alloc(), &row)?;
-    assert_report(&rt, rt.alloc(), &row, &report)
+    assert_row(&rt, rt.alloc(), &row, 1)?;
+    Ok(())
 }
 
 /// Each write of a byte fails in turn; the run is the same. Behind the last byte there is no write.
@@ -192,9 +227,7 @@ fn the_end_is_read_once(rt: HostRuntime) -> Result<(), Fail> {
 fn writes_fail(rt: HostRuntime) -> Result<(), Fail> {
     for write in 0..=WRAP.taken.len() {
         let fails = [write as u64];
-        let row = unwritten(&fails, write);
-        let report = report_of(&rt, rt.alloc(), &row)?;
-        assert_report(&rt, rt.alloc(), &row, &report)?;
+        assert_row(&rt, rt.alloc(), &unwritten(&fails, write), PIECE)?;
     }
     Ok(())
 }
@@ -253,8 +286,7 @@ const OTHERS: &[Row<'static>] = &[
 #[test]
 fn other_calls_fail(rt: HostRuntime) -> Result<(), Fail> {
     for row in OTHERS {
-        let report = report_of(&rt, rt.alloc(), row)?;
-        assert_report(&rt, rt.alloc(), row, &report)?;
+        assert_row(&rt, rt.alloc(), row, PIECE)?;
     }
     Ok(())
 }

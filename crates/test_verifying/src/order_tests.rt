@@ -2,7 +2,7 @@
 use crate::states::Kind::{Class, Conflict, Int, Zero};
 use crate::states::Pending::{Long, Nothing, One};
 use crate::states::StateRow::{Awaiting, Full, Plain};
-use crate::states::{StateRow, linked, state};
+use crate::states::{StateRow, check, is_state, linked, state};
 use dv_defs::Image;
 use dv_types::{is_below, join};
 use dv_typing::RegState;
@@ -47,23 +47,39 @@ static STATES: [(StateRow, StateRow, bool); 10] = [
     (Full(&[Zero], Nothing, ERROR), Plain(&[Zero]), false),
 ];
 
+// Whether a state is under another.
+fn is_under<R: Abort>(
+    rt: &R,
+    alloc: Global,
+    image: &Image,
+    one: StateRow,
+    above: StateRow,
+) -> bool {
+    let one = state(rt, alloc, one);
+    let above = state(rt, alloc, above);
+    let is_under = is_below(image, &one, &above);
+    drop(one);
+    drop(above);
+    is_under
+}
+
 fn assert_below<R: Abort>(
     rt: &R,
     alloc: Global,
     image: &Image,
     rows: &[(StateRow, StateRow, bool)],
 ) {
-    for (number, (one, above, is_under)) in rows.iter().enumerate() {
-        let one = state(rt, alloc, *one);
-        let above = state(rt, alloc, *above);
-        assert!(rt; is_below(image, &one, &above) == *is_under, "row {number}");
+    for (number, (one, above, wanted)) in rows.iter().enumerate() {
+        let found = is_under(rt, alloc, image, *one, *above);
+        check(rt, found == *wanted, number);
     }
 }
 
 #[test]
 fn states_are_ordered_as_the_rules_tell(rt: HostRuntime) {
-    let image = linked(&rt, rt.alloc(), "").ok().expect(&rt, "memory");
+    let image = linked(&rt, rt.alloc(), "");
     assert_below(&rt, rt.alloc(), &image, STATES.as_slice());
+    drop(image);
 }
 
 // Two states with equally many registers, and the least state above both.
@@ -113,6 +129,22 @@ fn joined<R: Abort>(
     joined.ok().expect(rt, "memory")
 }
 
+// The least state above two.
+fn join_of<R: Abort>(
+    rt: &R,
+    alloc: Global,
+    image: &Image,
+    one: StateRow,
+    other: StateRow,
+) -> RegState {
+    let one = state(rt, alloc, one);
+    let other = state(rt, alloc, other);
+    let joined = joined(rt, alloc, image, &one, &other);
+    drop(one);
+    drop(other);
+    joined
+}
+
 fn assert_joins<R: Abort>(
     rt: &R,
     alloc: Global,
@@ -120,15 +152,14 @@ fn assert_joins<R: Abort>(
     rows: &[(StateRow, StateRow, StateRow)],
 ) {
     for (number, (one, other, wanted)) in rows.iter().enumerate() {
-        let one = state(rt, alloc, *one);
-        let other = state(rt, alloc, *other);
-        let joined = joined(rt, alloc, image, &one, &other);
-        assert!(rt; joined == state(rt, alloc, *wanted), "row {number}");
+        let joined = join_of(rt, alloc, image, *one, *other);
+        check(rt, is_state(rt, alloc, joined, *wanted), number);
     }
 }
 
 #[test]
 fn states_join_as_the_rules_tell(rt: HostRuntime) {
-    let image = linked(&rt, rt.alloc(), "").ok().expect(&rt, "memory");
+    let image = linked(&rt, rt.alloc(), "");
     assert_joins(&rt, rt.alloc(), &image, JOINS.as_slice());
+    drop(image);
 }

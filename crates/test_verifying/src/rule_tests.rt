@@ -4,7 +4,7 @@ ghost use Rattle.dv_defs.specs.Op.{Code};
 ghost use Rattle.dv_rules.specs.Asking.{HasCode, HasInsn};
 
 use crate::rule_rows::{DEMANDS, EDGES, ENTRIES, PROGRAM, STEPS};
-use crate::states::{BOOT, StateRow, class_named, linked, state};
+use crate::states::{BOOT, StateRow, check, class_named, is_state, linked, state};
 use dv_defs::{Image, MethodId, Rule};
 use dv_ops::{begins_insn_at, coded_at, method_at};
 use dv_rules::{Edge, edges, entry_state, ok, out};
@@ -18,7 +18,12 @@ fn is_clean(alloc: Global, image: &Image, method: MethodId) -> Result<bool, Allo
     ensures { IfOk result (λ clean. clean ≡ true → (code : Code) × HasCode image.now method.0 code) }
 {
     match coded_at(image, method) {
-        Some(_) => Ok(static_faults(alloc, image, method)?.is_empty()),
+        Some(_) => {
+            let faults = static_faults(alloc, image, method)?;
+            let is_clean = faults.is_empty();
+            drop(faults);
+            Ok(is_clean)
+        }
         None => Ok(false),
     }
 }
@@ -59,7 +64,7 @@ fn assert_clean<R: Abort>(rt: &R, alloc: Global, image: &Image, method: MethodId
     ensures { (code : Code) × HasCode image.now method.0 code }
 {
     let clean = is_clean(alloc, image, method).ok().expect(rt, "memory");
-    assert!(rt; clean, "{}", method.0);
+    assert!(rt; clean);
 }
 
 fn entry_of<R: Abort>(rt: &R, alloc: Global, image: &Image, method: MethodId) -> RegState {
@@ -72,14 +77,15 @@ fn assert_entries<R: Abort>(rt: &R, alloc: Global, image: &Image, rows: &[(&str,
     for (name, row) in rows {
         let method = method_of(rt, image, name);
         let entry = entry_of(rt, alloc, image, method);
-        assert!(rt; entry == state(rt, alloc, *row), "{name}");
+        assert!(rt; is_state(rt, alloc, entry, *row), "{name}");
     }
 }
 
 #[test]
 fn methods_are_entered_as_the_rules_tell(rt: HostRuntime) {
-    let image = linked(&rt, rt.alloc(), PROGRAM).ok().expect(&rt, "memory");
+    let image = linked(&rt, rt.alloc(), PROGRAM);
     assert_entries(&rt, rt.alloc(), &image, ENTRIES.as_slice());
+    drop(image);
 }
 
 // The number of registers of a clean body, in which an instruction begins at the address.
@@ -104,6 +110,21 @@ fn state_after<R: Abort>(
     after.ok().expect(rt, "memory")
 }
 
+// The state after an instruction that is done in the state of a row.
+fn step_from<R: Abort>(
+    rt: &R,
+    alloc: Global,
+    image: &Image,
+    method: MethodId,
+    at: u32,
+    before: StateRow,
+) -> RegState {
+    let before = state(rt, alloc, before);
+    let after = state_after(rt, alloc, image, method, at, &before);
+    drop(before);
+    after
+}
+
 fn assert_steps<R: Abort>(
     rt: &R,
     alloc: Global,
@@ -112,17 +133,17 @@ fn assert_steps<R: Abort>(
     rows: &[(u32, StateRow, StateRow)],
 ) {
     for (number, (at, before, after)) in rows.iter().enumerate() {
-        let before = state(rt, alloc, *before);
-        let found = state_after(rt, alloc, image, method, *at, &before);
-        assert!(rt; found == state(rt, alloc, *after), "row {number} at {at}");
+        let found = step_from(rt, alloc, image, method, *at, *before);
+        check(rt, is_state(rt, alloc, found, *after), number);
     }
 }
 
 #[test]
 fn instructions_change_states_as_the_rules_tell(rt: HostRuntime) {
-    let image = linked(&rt, rt.alloc(), PROGRAM).ok().expect(&rt, "memory");
+    let image = linked(&rt, rt.alloc(), PROGRAM);
     let method = method_of(&rt, &image, "steps");
     assert_steps(&rt, rt.alloc(), &image, method, STEPS.as_slice());
+    drop(image);
 }
 
 fn rule_broken<R: Abort>(
@@ -138,6 +159,21 @@ fn rule_broken<R: Abort>(
     ok(image, method, at, before)
 }
 
+// The rule that the state of a row breaks.
+fn rule_of<R: Abort>(
+    rt: &R,
+    alloc: Global,
+    image: &Image,
+    method: MethodId,
+    at: u32,
+    before: StateRow,
+) -> Option<Rule> {
+    let before = state(rt, alloc, before);
+    let rule = rule_broken(rt, alloc, image, method, at, &before);
+    drop(before);
+    rule
+}
+
 fn assert_demands<R: Abort>(
     rt: &R,
     alloc: Global,
@@ -146,16 +182,16 @@ fn assert_demands<R: Abort>(
 ) {
     for (number, (name, at, before, broken)) in rows.iter().enumerate() {
         let method = method_of(rt, image, name);
-        let before = state(rt, alloc, *before);
-        let found = rule_broken(rt, alloc, image, method, *at, &before);
-        assert!(rt; found == *broken, "row {number} at {at}");
+        let found = rule_of(rt, alloc, image, method, *at, *before);
+        check(rt, found == *broken, number);
     }
 }
 
 #[test]
 fn instructions_demand_what_the_rules_tell(rt: HostRuntime) {
-    let image = linked(&rt, rt.alloc(), PROGRAM).ok().expect(&rt, "memory");
+    let image = linked(&rt, rt.alloc(), PROGRAM);
     assert_demands(&rt, rt.alloc(), &image, DEMANDS.as_slice());
+    drop(image);
 }
 
 fn edges_at<R: Abort>(
@@ -170,15 +206,30 @@ fn edges_at<R: Abort>(
     edges.ok().expect(rt, "memory")
 }
 
-// The edges of a row.
-fn edges_of<R: Abort>(rt: &R, alloc: Global, row: &[(u32, Option<&str>)]) -> Vec<Edge> {
-    let mut edges = Vec::new(alloc);
-    for (to, handler) in row {
-        let handler = class_named(rt, alloc, *handler);
-        let pushed = edges.push(Edge { to: *to, handler });
-        pushed.ok().expect(rt, "memory");
+// Whether an edge leads there, and catches what a row says.
+fn is_edge<R: Abort>(rt: &R, alloc: Global, edge: &Edge, to: u32, handler: Option<&str>) -> bool {
+    let handler = class_named(rt, alloc, handler);
+    let is_same = edge.to == to && edge.handler == handler;
+    drop(handler);
+    is_same
+}
+
+// The edges of an instruction are those of a row.
+fn assert_edges_of<R: Abort>(
+    rt: &R,
+    alloc: Global,
+    image: &Image,
+    method: MethodId,
+    at: u32,
+    row: &[(u32, Option<&str>)],
+) {
+    let edges = edges_at(rt, alloc, image, method, at);
+    assert_eq!(rt; edges.len(), row.len());
+    for (edge, (to, handler)) in edges.iter().zip(row) {
+        let is_same = is_edge(rt, alloc, edge, *to, *handler);
+        assert!(rt; is_same, "at {at}");
     }
-    edges
+    drop(edges);
 }
 
 fn assert_edges<R: Abort>(
@@ -189,14 +240,14 @@ fn assert_edges<R: Abort>(
     rows: &[(u32, &[(u32, Option<&str>)])],
 ) {
     for (at, row) in rows {
-        let found = edges_at(rt, alloc, image, method, *at);
-        assert!(rt; found == edges_of(rt, alloc, row), "at {at}");
+        assert_edges_of(rt, alloc, image, method, *at, row);
     }
 }
 
 #[test]
 fn states_flow_along_the_edges_of_the_rules(rt: HostRuntime) {
-    let image = linked(&rt, rt.alloc(), PROGRAM).ok().expect(&rt, "memory");
+    let image = linked(&rt, rt.alloc(), PROGRAM);
     let method = method_of(&rt, &image, "ways");
     assert_edges(&rt, rt.alloc(), &image, method, EDGES.as_slice());
+    drop(image);
 }

@@ -6,10 +6,15 @@ use dv_hier::Classes;
 use dv_names::parse_type;
 use dv_resolve::link;
 use dv_typing::{PendingType, RegState, RegType};
-use std::alloc::{AllocError, Global};
+use std::alloc::Global;
 use std::process::Abort;
 
 pub const BOOT: u32 = 33;
+
+/// Stops the test where a row doesn't hold, and tells its number.
+pub fn check<R: Abort>(rt: &R, holds: bool, number: usize) {
+    assert!(rt; holds, "row {number}");
+}
 
 fn read<R: Abort>(rt: &R, alloc: Global, text: &str) -> Vec<ClassDef> {
     assert!(rt; text.len() < 4_000_000);
@@ -17,14 +22,20 @@ fn read<R: Abort>(rt: &R, alloc: Global, text: &str) -> Vec<ClassDef> {
     read.ok().expect(rt, "a text").classes.into_vec()
 }
 
-/// The image of a text behind the boot classes.
-pub fn linked<R: Abort>(rt: &R, alloc: Global, text: &str) -> Result<Image, AllocError> {
+// The boot classes, and then those of a text.
+fn with_boot<R: Abort>(rt: &R, alloc: Global, text: &str) -> Vec<ClassDef> {
     let mut classes = read(rt, alloc, boot_text());
-    for class in read(rt, alloc, text) {
-        classes.push(class)?;
-    }
+    let mut more = read(rt, alloc, text);
+    assert!(rt; classes.append(&mut more).is_ok());
+    drop(more);
+    classes
+}
+
+/// The image of a text behind the boot classes.
+pub fn linked<R: Abort>(rt: &R, alloc: Global, text: &str) -> Image {
+    let classes = with_boot(rt, alloc, text);
     let classes = Classes::new(classes, BOOT).expect(rt, "names");
-    Ok(link(alloc, classes).ok().expect(rt, "an image"))
+    link(alloc, classes).ok().expect(rt, "an image")
 }
 
 /// A register type, a class or an array by its descriptor.
@@ -131,4 +142,13 @@ pub fn state<R: Abort>(rt: &R, alloc: Global, row: StateRow) -> RegState {
             state_of(rt, alloc, regs, result, Some(caught), true)
         }
     }
+}
+
+/// Whether a state is that of a row.
+pub fn is_state<R: Abort>(rt: &R, alloc: Global, found: RegState, row: StateRow) -> bool {
+    let wanted = state(rt, alloc, row);
+    let is_same = found == wanted;
+    drop(found);
+    drop(wanted);
+    is_same
 }
