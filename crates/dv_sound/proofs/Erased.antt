@@ -10,9 +10,7 @@ use Rattle.std.proofs.lemmas.List.Elements.{All-cons, All-drop, All-head, All-ni
 use Rattle.std.proofs.Math.Facts.{to_z-neg}
 use Rattle.dv_defs.specs.declared.machine.End.{End}
 use Rattle.dv_machine.specs.Kind as tagged_kind
-use Rattle.dv_machine.specs.Kind as kind_of_tagged
 use Rattle.dv_machine.specs.Level as tagged_level
-use Rattle.dv_machine.specs.Level as level_of_tagged
 use Rattle.dv_machine.specs.Pending.{Pending}
 use Rattle.dv_machine.specs.Pending as pending
 use Rattle.dv_machine.specs.Value.{Value}
@@ -93,9 +91,9 @@ result_whole k pending.None fits is = tt
 result_whole k (pending.Two lo hi) fits is = tt
 
 level_whole : (s : word_level.Level) (l : tagged_level.Level) → LevelFits s → LevelStands s l → IsWholeLevel l
-level_whole (words.Code s) (level_of_tagged.Code f) fits stands = (values_whole s.regs f.regs fits.0 stands.regs, result_whole s.result f.result fits.1 stands.result)
-level_whole (words.Init c r) (level_of_tagged.Code f) fits stands = absurd stands
-level_whole s (level_of_tagged.Init d q) fits stands = tt
+level_whole (words.Code s) (tagged_level.Code f) fits stands = (values_whole s.regs f.regs fits.0 stands.regs, result_whole s.result f.result fits.1 stands.result)
+level_whole (words.Init c r) (tagged_level.Code f) fits stands = absurd stands
+level_whole s (tagged_level.Init d q) fits stands = tt
 
 thread_whole : (s : WordThread) (t : Thread) → ThreadFits s → ThreadStands s t → IsWholeThread t
 thread_whole s t fits stands = zip_all LevelFits LevelStands IsWholeLevel level_whole s.levels t.levels fits stands.levels
@@ -103,15 +101,15 @@ thread_whole s t fits stands = zip_all LevelFits LevelStands IsWholeLevel level_
 no_cells : (xs : List Value) → length xs ≡ 0 → AreWhole xs
 no_cells xs none i d l = absurd (omega (arith, l, none))
 
-object_whole : (ws : List ℕ) (k : tagged_kind.Kind) (xs : List Value) → AllFit ws → ObjectStands ws k xs → ((s : List ℕ) → k ≡ kind_of_tagged.Str s → length xs ≡ 0) → AreWhole xs
-object_whole ws (kind_of_tagged.Str s) xs fits stands none = no_cells xs (none s refl)
-object_whole ws (kind_of_tagged.Object c) xs fits stands none = values_whole ws xs fits stands
-object_whole ws (kind_of_tagged.Array t) xs fits stands none = values_whole ws xs fits stands
-object_whole ws (kind_of_tagged.ClassOf t) xs fits stands none = values_whole ws xs fits stands
+object_whole : (ws : List ℕ) (k : tagged_kind.Kind) (xs : List Value) → AllFit ws → ObjectStands ws k xs → ((s : List ℕ) → k ≡ tagged_kind.Str s → length xs ≡ 0) → AreWhole xs
+object_whole ws (tagged_kind.Str s) xs fits stands none = no_cells xs (none s refl)
+object_whole ws (tagged_kind.Object c) xs fits stands none = values_whole ws xs fits stands
+object_whole ws (tagged_kind.Array t) xs fits stands none = values_whole ws xs fits stands
+object_whole ws (tagged_kind.ClassOf t) xs fits stands none = values_whole ws xs fits stands
 
 -- strings have no cells
 abbrev HaveNone : List tagged_kind.Kind → List (List Value) → Type 0
-HaveNone ks xss = (o : ℕ) (s : List ℕ) → slice_get ks o ≡ Some (kind_of_tagged.Str s) → length (slice_index_or xss o []) ≡ 0
+HaveNone ks xss = (o : ℕ) (s : List ℕ) → slice_get ks o ≡ Some (tagged_kind.Str s) → length (slice_index_or xss o []) ≡ 0
 
 objects_whole : (wss : List (List ℕ)) (ks : List tagged_kind.Kind) (xss : List (List Value)) → All AllFit wss → ObjectsStand wss ks xss → HaveNone ks xss → All AreWhole xss
 objects_whole wss ks [] fits stand none = All-nil AreWhole
@@ -128,7 +126,7 @@ machine_whole image T w m typed fits stands =
     let h = m.shared.heap in (
       zip_all ThreadFits ThreadStands IsWholeThread thread_whole w.threads m.threads fits.0 stands.threads,
       (
-        objects_whole w.shared.heap.cells h.kinds h.cells fits.1.0 heap.cells (λ o s is. (typed.heap.objects o (kind_of_tagged.Str s) is).count),
+        objects_whole w.shared.heap.cells h.kinds h.cells fits.1.0 heap.cells (λ o s is. (typed.heap.objects o (tagged_kind.Str s) is).count),
         zip_all AllFit AreWords AreWhole values_whole w.shared.heap.statics h.statics fits.1.1 heap.statics,
       ),
     )
