@@ -12,7 +12,7 @@ use Rattle.dv_defs.specs.declared.names.Ty.{Ty}
 use Rattle.dv_defs.specs.Field.{may_stand, value_fits}
 use Rattle.dv_defs.specs.Flags.{has_flag}
 use Rattle.dv_names.specs.Grammar.{refusal, type_refusal}
-use Rattle.dv_lex.specs.Numbers.{Number, signed}
+use Rattle.dv_lex.specs.Numbers.{Number}
 use Rattle.dv_coderead.specs.declared.head.Directive.{Directive}
 use Rattle.dv_coderead.specs.declared.head.Directive.TheVariants as directive
 use Rattle.dv_coderead.specs.declared.head.Head.{Head}
@@ -22,13 +22,13 @@ use Rattle.dv_coderead.specs.Heads.{head_of}
 use Rattle.dv_coderead.specs.Operands.{Part, alone, and_behind, behind, ended, word_at}
 use Rattle.dv_coderead.specs.Pieces.{Piece, AWord, AMark, AString, ACharacter}
 use Rattle.dv_coderead.specs.References.{base_of, brackets, class_in, is_class_type, only_class, type_in, type_of, unless_refused}
-use Rattle.dv_coderead.specs.Words.{number_in}
+use Rattle.dv_coderead.specs.Words.{fitting, number_in}
 use Rattle.dv_coderead.proofs.FormedParts.{after, after_such}
 use Rattle.dv_classread.specs.declared.class_line.ClassLine.{ClassLine}
 use Rattle.dv_classread.specs.declared.class_line.ClassLine.TheVariants as line
 use Rattle.dv_classread.specs.declared.class_line.Standing.{Standing}
 use Rattle.dv_classread.specs.declared.class_line.Standing.TheVariants as standing
-use Rattle.dv_classread.specs.ClassLines.{boolean_value, by_directive, by_head, class_head_line, class_line, class_name, class_name_line, field_line, fitting_value, flags_at, init_line, inside_line, is_boolean, is_boolean_base, is_false, is_true, lacks_super, name_and_type, name_of, number_value, said, signature_line, superclass_line, value_alone, value_in, word_value}
+use Rattle.dv_classread.specs.ClassLines.{boolean_value, by_directive, by_head, class_head_line, class_line, class_name, class_name_line, field_line, fitting_value, flags_at, init_line, inside_line, is_boolean, is_boolean_base, is_false, is_true, lacks_super, name_and_type, name_of, number_as, number_value, said, signature_line, superclass_line, value_alone, value_in, word_value}
 
 -- ---- parts of lines
 
@@ -125,7 +125,7 @@ fitting_fits t i =
 
 number_fits_type : (t : Ty) (o : Option Number) → IfOk (number_value t o) (Fits t)
 number_fits_type t None = tt
-number_fits_type t (Some n) = fitting_fits t (init.Num (signed n))
+number_fits_type t (Some n) = after (Fits t) (fitting (number_as t.base n)) _ (λ z. fitting_fits t (init.Num z))
 
 boolean_base_fits : (dims : ℕ) (b : Base) (n : ℕ) → n < 2 → (dims == 0) ≡ true → is_boolean_base b ≡ true → Fits (record { dims = dims; base = b }) (init.Num (pos n))
 boolean_base_fits dims base.Z zero lt none is = and_from _ _ none refl

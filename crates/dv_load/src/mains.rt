@@ -14,7 +14,6 @@ use std::alloc::Global;
 /// # Errors
 ///
 /// `Refused`: there is no such class, or it has no main method. `Memory`.
-#[tactic(auto, using(crate::proofs::MainMethods::has_main))]
 pub fn main_method(alloc: Global, image: &Image, class: &[u8]) -> Result<MethodId, ProgramError>
     ensures found { Answers (main_in image.now class.now) result }
     ensures main { IfOk result (λ id. HasMain image.now id.0) }
