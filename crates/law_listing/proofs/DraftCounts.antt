@@ -26,8 +26,9 @@ use Rattle.dv_coderead.specs.Kept.{kept, open_behind, counts, depth_behind}
 use Rattle.dv_classread.specs.declared.method.BodyKind.TheVariants as of_kind
 use Rattle.dv_classread.specs.Methods.{begins_raw, is_count_head, is_raw_head, kind_of}
 use Rattle.dv_classread.specs.Texts.{ends_method, leaves_method}
+use Rattle.law_listing.specs.Listable.{IsNameText}
 use Rattle.law_listing.specs.Printed.{numbered}
-use Rattle.law_listing.specs.DraftListable.{IsListedWhat, IsListedItem, IsListedDraft}
+use Rattle.law_listing.specs.DraftListable.{AreNameTexts, IsListedWhat, IsListedItem, IsListedDraft}
 use Rattle.law_listing.specs.OperandPieces.{InstructionsAreRead}
 use Rattle.law_listing.specs.DraftPieces.{one_word, two_words, target_line, case_pieces, element_pieces, what_lines, item_lines, kind_pieces, range_pieces, catch_pieces, draft_pieces, is_draft_head}
 use Rattle.law_listing.specs.DraftLaws.{stays_inside, LinesCount}
@@ -45,9 +46,11 @@ by_head ps h is fine = ap is_draft_head is ∙ fine
 block_heads : (first last : List Piece) (pss : List (List Piece)) → has_head first ≡ true → list_all has_head pss ≡ true → has_head last ≡ true → list_all has_head (first ∷ (pss ++ last ∷ [])) ≡ true
 block_heads first last pss a b c = and_from _ _ a (list_all-append has_head pss (last ∷ []) ∙ and_from _ _ b (and_from _ _ c refl))
 
-target_heads : (names : List (List ℕ)) → list_all has_head (map target_line names) ≡ true
-target_heads [] = refl
-target_heads (name ∷ names) = and_from _ _ (by_head (target_line name) head.Label (label_head name []) refl) (target_heads names)
+target_heads : (names : List (List ℕ)) → AreNameTexts names → list_all has_head (map target_line names) ≡ true
+target_heads [] are = refl
+target_heads (name ∷ names) are =
+    and_from _ _ (by_head (target_line name) head.Label (label_head name [] (All-head IsNameText name names are).0) refl)
+    (target_heads names (All-tail IsNameText name names are))
 
 case_heads : (keys : List ℤ) (names : List (List ℕ)) → list_all (λ z. fits_signed 32 z) keys ≡ true → list_all has_head (map case_pieces (zip keys names)) ≡ true
 case_heads [] names fit = refl
@@ -64,12 +67,12 @@ element_heads width (z ∷ zs) fit =
     (element_heads width zs (All-tail (Fits width) z zs fit))
 
 what_heads : InstructionsAreRead → (w : What) → IsListedWhat w → list_all has_head (what_lines w) ≡ true
-what_heads ops (what.Label name) is = and_from _ _ (by_head (target_line name) head.Label (label_head name []) refl) refl
+what_heads ops (what.Label name) is = and_from _ _ (by_head (target_line name) head.Label (label_head name [] is.0) refl) refl
 what_heads ops (what.Op op) is = and_from _ _ (by_head _ (head.Opcode op.insn.op) (ops op is).head refl) refl
 what_heads ops (what.Packed first names) is =
     block_heads (two_words (codes ".packed-switch") (signed_decimal first)) (two_words (codes ".end") (codes "packed-switch")) (map target_line names)
     (by_head _ (head.Directive (directive.Begin Packed)) (packed_head (one_word (signed_decimal first))) refl)
-    (target_heads names)
+    (target_heads names is.1)
     (by_head _ (head.Directive (directive.End Packed)) (end_packed_head []) refl)
 what_heads ops (what.Sparse keys names) is =
     block_heads (one_word (codes ".sparse-switch")) (two_words (codes ".end") (codes "sparse-switch")) (map case_pieces (zip keys names))

@@ -25,7 +25,7 @@ use Rattle.dv_coderead.specs.declared.body_line.BodyLine.{BodyLine}
 use Rattle.dv_coderead.specs.declared.body_line.BodyLine.TheVariants as line
 use Rattle.dv_coderead.specs.Giving.{◌>>=◌}
 use Rattle.dv_coderead.specs.Pieces.{Piece, AWord}
-use Rattle.dv_coderead.specs.Words.{number_in, literal_in, label_in}
+use Rattle.dv_coderead.specs.Words.{number_in, label_in}
 use Rattle.dv_coderead.specs.References.{class_in, only_class, is_class_type}
 use Rattle.dv_coderead.specs.Laws.{TypesAreRead}
 use Rattle.dv_coderead.specs.Operands.{word_at, alone, and_behind}

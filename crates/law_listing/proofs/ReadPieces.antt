@@ -1,5 +1,5 @@
 -- The pieces of lines that are read.
-use Rattle.std.proofs.Common.{◌≡◌, ℕ, ◌<◌, Bool, true, false, List, [], ◌∷◌, get_or, map, All, Ok, Err, refl, sym, ◌∙◌, subst}
+use Rattle.std.proofs.Common.{◌≡◌, ℕ, ◌<◌, Bool, true, false, List, [], ◌∷◌, drop, get_or, map, All, Ok, Err, refl, sym, ◌∙◌, subst}
 use Rattle.std.specs.Prelude.{◌^◌}
 use Rattle.std.specs.Str.{IsUtf8, is_utf8}
 use Rattle.std.proofs.lemmas.Bool.{cond-false, cond-true}
@@ -8,7 +8,7 @@ use Rattle.dv_lex.specs.declared.token.TokenKind.{TokenKind}
 use Rattle.dv_lex.specs.declared.token.TokenKind.TheVariants as token
 use Rattle.dv_lex.specs.Grammar.{IsLexeme, IsText}
 use Rattle.dv_lex.specs.Lexemes.{Lexeme, Lexemes}
-use Rattle.dv_lex.specs.Lines.{Read, Row, Reading, and_then_lines, line_lexemes, read_rows, rows_from}
+use Rattle.dv_lex.specs.Lines.{Read, Row, Reading, and_then_lines, line_lexemes, mark_length, read_rows, rows_from}
 use Rattle.dv_lex.specs.Literals.{IsLiteral}
 use Rattle.dv_lex.proofs.Grammar.Texts.{tokens}
 use Rattle.dv_lex.proofs.Literals.Units.{units_fit}
@@ -58,4 +58,6 @@ rows_text [] = All-nil (λ r. IsLineText (line_of r))
 rows_text (r ∷ rs) = and_line r.number (line_lexemes r.start r.bytes) (read_rows rs) (λ ls e. lexemes_good r.start r.bytes ls (is_utf8 r.bytes) refl e) (rows_text rs)
 
 pub lines_text : ReadLinesAreTexts
-lines_text text = All-map IsLineText line_of (read_rows (rows_from 1 0 text)).lines (rows_text (rows_from 1 0 text))
+lines_text text =
+    let rows : List Row = rows_from 1 (mark_length text) (drop (mark_length text) text) in
+    All-map IsLineText line_of (read_rows rows).lines (rows_text rows)

@@ -1,5 +1,5 @@
 -- No byte order mark stands in front of listings.
-use Rattle.std.proofs.Common.{◌≡◌, ℕ, List, [], ◌∷◌, ◌++◌, refl}
+use Rattle.std.proofs.Common.{◌≡◌, List, [], ◌∷◌, ◌++◌, refl}
 use Rattle.dv_defs.specs.declared.class.ClassDef.{ClassDef}
 use Rattle.dv_defs.specs.declared.run.Entry.{Entry}
 use Rattle.dv_lex.specs.Lines.{mark_length}
