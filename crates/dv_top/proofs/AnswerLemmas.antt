@@ -1,11 +1,9 @@
 -- What an answer owes, from what the reply to the words owes.
-use Rattle.std.proofs.Common.{◌≡◌, ◌≢◌, ℕ, ◌+◌, List, [], All, Option, Some, None, IsSome, inl, inr, arith, ap, sym, subst, refl, ◌∙◌, append-nil}
+use Rattle.std.proofs.Common.{◌≡◌, ◌≢◌, ℕ, ◌+◌, List, [], All, Option, Some, None, IsSome, inl, inr, arith, ap, subst, refl, ◌∙◌}
 use Rattle.dv_defs.specs.declared.run.Entry.{Entry}
-use Rattle.dv_defs.specs.declared.run.Limits.{Limits}
 use Rattle.dv_io.specs.Io.{HasRisen, after_taking, after_write}
 use Rattle.dv_top.specs.declared.status.Status.TheVariants as exit
-use Rattle.dv_top.specs.declared.words.Command.TheVariants as command
-use Rattle.dv_top.specs.Answering.{IsAnswer, IsEntry, IsIdle, IsTold, HasTaken, MayRun}
+use Rattle.dv_top.specs.Answering.{IsAnswer, IsEntry, IsIdle, IsTold, MayRun}
 use Rattle.dv_top.specs.Pieces.{TookPart}
 use Rattle.dv_top.specs.Said.{IsSaid, text_limit, usage}
 use Rattle.dv_top.specs.Status.{code_of}

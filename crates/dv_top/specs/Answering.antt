@@ -94,14 +94,14 @@ pub record IsAnswer
     (words : List (List ℕ)) (source source_after : S) (sink sink_after : K) (log : List Entry) (status : ℕ) : Type 0 where
   -- words that aren't read: nothing is taken from the source, and the usage is told
   pub unread : asked_in words ≡ None → (source_after ≡ source) × IsOfUnread status
+  -- of words that aren't read a sink that failed took a front of the usage
+  pub usage_part : asked_in words ≡ None → status ≡ code_of exit.WriteFault → TookPart (taken sink) (taken sink_after) usage
   pub usage : status ≡ code_of exit.Usage → (asked_in words ≡ None) × (taken sink_after ≡ after_write usage (taken sink))
   -- a read failed, and nothing was written
   pub read_fault : status ≡ code_of exit.ReadFault
       → HasRisen (read_faults source) (read_faults source_after) × (taken sink_after ≡ taken sink)
   -- a write failed
   pub write_fault : status ≡ code_of exit.WriteFault → HasRisen (write_faults sink) (write_faults sink_after)
-  -- of words that aren't read a sink that failed took a front of the usage
-  pub usage_part : asked_in words ≡ None → status ≡ code_of exit.WriteFault → TookPart (taken sink) (taken sink_after) usage
   -- memory was wanting, and nothing was written
   pub no_memory : status ≡ code_of exit.NoMemory → taken sink_after ≡ taken sink
   -- what the sink holds beyond what it held was taken in this call
