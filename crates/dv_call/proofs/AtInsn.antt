@@ -18,10 +18,10 @@ use Rattle.dv_frames.specs.Tops.{head_of}
 use Rattle.law_words.proofs.Fetching.{is_fetched}
 use Rattle.dv_words.specs.Answering.{IsAtInsn}
 use Rattle.dv_words.specs.Steps.{At}
-use Rattle.dv_call.specs.Landings.{IsSeen}
+use Rattle.dv_call.specs.Landings.{IsSeenByCalls}
 
 -- from the head and the code that were read
-module _ (image : Image) (heap : WordHeap) (stack : WordStack) (h : At) (insn : Insn) (op : def.Op) (head : Head) (own : Code) (seen : IsSeen image heap stack h) (there : IsAtInsn h insn op) (is : Some head ≡ head_of (first stack.levels)) (has : Some own ≡ code_at image head.method.0) where
+module _ (image : Image) (heap : WordHeap) (stack : WordStack) (h : At) (insn : Insn) (op : def.Op) (head : Head) (own : Code) (seen : IsSeenByCalls image heap stack h) (there : IsAtInsn h insn op) (is : Some head ≡ head_of (first stack.levels)) (has : Some own ≡ code_at image head.method.0) where
   same_head : head ≡ head_in h.frame
   same_head = same_Some head (head_in h.frame) (is ∙ ap (λ (ls : List Level). head_of (first ls)) seen.is_stack.levels)
 

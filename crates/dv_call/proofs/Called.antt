@@ -19,10 +19,10 @@ use Rattle.dv_words.specs.Calls as steps
 use Rattle.dv_words.specs.Calls.{dispatch}
 use Rattle.dv_words.specs.Local.{reg_word}
 use Rattle.dv_words.specs.Steps.{At, Left}
-use Rattle.dv_call.specs.Landings.{InvokesLand, IsSeen, Landed, Enters, Fails, called, called_in, is_native, runs_native, constructs, done, on_landing, on_object, on_receiver, first_of, run_by}
+use Rattle.dv_call.specs.Landings.{InvokesLand, IsSeenByCalls, Landed, Enters, Fails, called, called_in, is_native, runs_native, constructs, done, on_landing, on_object, on_receiver, first_of, run_by}
 
 -- what a call comes to, by what it sees
-pub from_seen : (image : Image) (heap : WordHeap) (stack : WordStack) (h : At) (c : Call) (g : Method) (ws : List ℕ) → IsSeen image heap stack h → called_in image heap h.own c g ws ≡ called h c g ws
+pub from_seen : (image : Image) (heap : WordHeap) (stack : WordStack) (h : At) (c : Call) (g : Method) (ws : List ℕ) → IsSeenByCalls image heap stack h → called_in image heap h.own c g ws ≡ called h c g ws
 from_seen image heap stack h c g ws s =
     ap (λ (i : Image). called_in i heap h.own c g ws) (sym s.same_image) ∙ ap (λ (k : WordHeap). called_in h.image k h.own c g ws) (sym s.same_heap)
 

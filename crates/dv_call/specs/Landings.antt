@@ -91,7 +91,7 @@ InvokesLand = (h : At) (c : Call) (g : Method) (ws : List ℕ) → invoked h c g
 -- ---- what calls see
 
 -- the image, the heap and the stack of the thread that steps
-pub record IsSeen (image : Image) (heap : WordHeap) (stack : WordStack) (h : At) : Type 0 where
+pub record IsSeenByCalls (image : Image) (heap : WordHeap) (stack : WordStack) (h : At) : Type 0 where
   pub same_image : h.image ≡ image
   pub same_heap : h.shared.heap ≡ heap
   pub is_stack : IsStackOf stack h

@@ -9,7 +9,7 @@ ghost use Rattle.dv_words.specs.Stacks.{arg_words};
 ghost use Rattle.dv_words.specs.Answering.{IsStackOf, Leads, LeavesStack};
 ghost use Rattle.dv_words.specs.Calls as steps;
 ghost use Rattle.dv_words.specs.Steps.{At};
-ghost use Rattle.dv_call.specs.Landings.{IsNumbered, IsOwn, IsSeen, runs_native};
+ghost use Rattle.dv_call.specs.Landings.{IsNumbered, IsOwn, IsSeenByCalls, runs_native};
 
 use crate::landings::{Landed, land};
 use dv_defs::{Image, Next, Regs};
@@ -48,10 +48,10 @@ pub fn invoke(
     regs: &Regs,
     method: Method<'_>,
 ) -> Next
-    ensures does { (h : At) → IsSeen image.now heap.now stack.old h → IsOwn h → IsNumbered image.now (method_of method.entry) →
+    ensures does { (h : At) → IsSeenByCalls image.now heap.now stack.old h → IsOwn h → IsNumbered image.now (method_of method.entry) →
         runs_native h (standard_call call) (named_registers regs.now) (method_of method.entry) ≡ false →
         Leads {E = AllocError} (Ok result) (steps.invoke h (standard_call call) (named_registers regs.now) (method_of method.entry)) (LeavesStack h.shared stack.old stack.new) (stack.new ≡ stack.old) }
-    ensures native { (h : At) → IsSeen image.now heap.now stack.old h → IsOwn h → IsNumbered image.now (method_of method.entry) →
+    ensures native { (h : At) → IsSeenByCalls image.now heap.now stack.old h → IsOwn h → IsNumbered image.now (method_of method.entry) →
         runs_native h (standard_call call) (named_registers regs.now) (method_of method.entry) ≡ true → stack.new ≡ stack.old }
 {
     match land(image, heap, stack, call, regs, method) {

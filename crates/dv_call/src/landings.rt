@@ -9,7 +9,7 @@ ghost use Rattle.dv_words.specs.Stacks.{arg_words};
 ghost use Rattle.dv_words.specs.Calls as steps;
 ghost use Rattle.dv_words.specs.Steps.{At};
 ghost use Rattle.dv_call.specs.Landings as calls;
-ghost use Rattle.dv_call.specs.Landings.{IsNumbered, IsOwn, IsRunning, IsSeen, called, constructs, first_of, landed_of, nearest_in, on_landing};
+ghost use Rattle.dv_call.specs.Landings.{IsNumbered, IsOwn, IsRunning, IsSeenByCalls, called, constructs, first_of, landed_of, nearest_in, on_landing};
 
 use crate::tops::running;
 use dv_boot::native;
@@ -17,7 +17,7 @@ use dv_defs::{ClassId, Flag, Image, Named, Native, Regs};
 use dv_frames::Stack;
 use dv_heap::Heap;
 use dv_image::{boot_class, lookup_virtual, parent_of};
-use dv_objects::{class_of, is_of_class};
+use dv_objects::{class_of_object, is_of_class};
 use dv_ops::{Method, method_at};
 use dv_optable::Call;
 
@@ -118,7 +118,7 @@ fn land_by_interface<'a>(
         landed_of result ≡ on_landing image.now (steps.dispatch image.now heap.now own parts.Call.Interface (method_of method.entry) object) }
 {
     if implements(image, heap, object, &method) {
-        land_from(image, class_of(image, heap, object), method)
+        land_from(image, class_of_object(image, heap, object), method)
     } else {
         Landed::Throws(Named::ClassChange)
     }
@@ -139,7 +139,7 @@ fn dispatch<'a>(
     match call {
         Call::Static | Call::Direct => unless_abstract(image, method),
         Call::Super => land_from(image, above(image, stack), method),
-        Call::Virtual => land_from(image, class_of(image, heap, object), method),
+        Call::Virtual => land_from(image, class_of_object(image, heap, object), method),
         Call::Interface => land_by_interface(image, heap, method, object),
     }
 }
@@ -222,7 +222,7 @@ pub fn land<'a>(
     regs: &Regs,
     method: Method<'a>,
 ) -> Landed<'a>
-    ensures { (h : At) → IsSeen image.now heap.now stack.now h → IsOwn h → IsNumbered image.now (method_of method.entry) →
+    ensures { (h : At) → IsSeenByCalls image.now heap.now stack.now h → IsOwn h → IsNumbered image.now (method_of method.entry) →
         landed_of result ≡ called h (standard_call call) (method_of method.entry) (arg_words stack.now regs.now) }
 {
     if Flag::Static.is_in(method.def.flags) {

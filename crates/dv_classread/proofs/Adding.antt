@@ -8,7 +8,7 @@ use Rattle.dv_classread.specs.declared.class_line.ClassLine.TheVariants as line
 use Rattle.dv_classread.specs.declared.class_line.Signature.{Signature}
 use Rattle.dv_classread.specs.declared.program.ClassDraft.{ClassDraft}
 use Rattle.dv_classread.specs.declared.program.MethodDraft.{MethodDraft}
-use Rattle.dv_classread.specs.declared.program.Program.{Program}
+use Rattle.dv_classread.specs.declared.program.ClassesSoFar.{ClassesSoFar}
 use Rattle.dv_classread.specs.Texts.{Told, Says, Method}
 use Rattle.dv_classread.specs.Classes.{Adds, class_with, classes_in, classes_with, fields_in, interfaces_in, last_with, methods_in, superclass_in, whole_classes}
 use Rattle.dv_coderead.proofs.Adding.{pushed}
@@ -25,7 +25,7 @@ first_kept (Some a) y z some = refl
 
 -- ---- what adds to no class
 
-module _ (p : Program) (t : Told) (none : p.last ≡ None) where
+module _ (p : ClassesSoFar) (t : Told) (none : p.last ≡ None) where
   -- before the first class nothing is added but a class
   pub nowhere : ((ts : List Told) → classes_in (t ∷ ts) ≡ classes_in ts) → Adds p t p
   nowhere same ts =
@@ -38,7 +38,7 @@ pub none_last : (last : Option ClassDraft) → ((c : ClassDraft) → last ≡ So
 none_last None isnt = refl
 none_last (Some c) isnt = absurd (isnt c refl)
 
-module _ (p : Program) where
+module _ (p : ClassesSoFar) where
   pub nowhere_superclass : (name : List ℕ) → p.last ≡ None → Adds p (Says (line.Super name)) p
   unfolding classes_in
   nowhere_superclass name none = nowhere p (Says (line.Super name)) none (λ ts. refl)
@@ -57,7 +57,7 @@ module _ (p : Program) where
 
 -- ---- what adds to the last class
 
-module _ (p : Program) (c : ClassDraft) (is : p.last ≡ Some c) where
+module _ (p : ClassesSoFar) (c : ClassDraft) (is : p.last ≡ Some c) where
   to_last : (t : Told) (d : ClassDraft) → ((ts : List Told) → classes_in (t ∷ ts) ≡ classes_in ts) → ((ts : List Told) → class_with d ts ≡ class_with c (t ∷ ts))
       → Adds p t (record p { last = Some d })
   to_last t d same with_it ts =
@@ -94,7 +94,7 @@ module _ (p : Program) (c : ClassDraft) (is : p.last ≡ Some c) where
 
 -- ---- what adds nothing
 
-module _ (p : Program) where
+module _ (p : ClassesSoFar) where
   other_with : (t : Told) → ((ts : List Told) → classes_in (t ∷ ts) ≡ classes_in ts) → ((c : ClassDraft) (ts : List Told) → class_with c (t ∷ ts) ≡ class_with c ts)
       → (c : Option ClassDraft) (ts : List Told) → last_with c ts ≡ last_with c (t ∷ ts)
   other_with t same keeps None ts = refl
@@ -147,8 +147,8 @@ last_end : (last : Option ClassDraft) → last_with last [] ≡ option_to_list l
 last_end None = refl
 last_end (Some c) = ap (λ (d : ClassDraft). d ∷ []) (closed_end c)
 
-module _ (p : Program) where
-  pub adds_class : (h : ClassHead) (new : Program) → new.classes.items ≡ whole_classes p → new.last ≡ Some (begun h) → Adds p (Says (line.Class h)) new
+module _ (p : ClassesSoFar) where
+  pub adds_class : (h : ClassHead) (new : ClassesSoFar) → new.classes.items ≡ whole_classes p → new.last ≡ Some (begun h) → Adds p (Says (line.Class h)) new
   unfolding classes_in
   adds_class h new classes last ts =
       ap (λ cs. cs ++ last_with new.last ts ++ classes_in ts) classes

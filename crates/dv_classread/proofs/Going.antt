@@ -13,7 +13,7 @@ use Rattle.dv_classread.specs.declared.class_line.ClassLine.{ClassLine}
 use Rattle.dv_classread.specs.declared.class_line.ClassLine.TheVariants as line
 use Rattle.dv_classread.specs.declared.program.ClassDraft.{ClassDraft}
 use Rattle.dv_classread.specs.declared.program.MethodDraft.{MethodDraft}
-use Rattle.dv_classread.specs.declared.program.Program.{Program}
+use Rattle.dv_classread.specs.declared.program.ClassesSoFar.{ClassesSoFar}
 use Rattle.dv_classread.specs.ClassLines.{class_line, stands_next}
 use Rattle.dv_classread.specs.Texts.{Told, Says, Method, InClass, InMethod, added, and_told, begun, ended_in, missing_at, told_from}
 use Rattle.dv_classread.specs.Schedules.{end_with}
@@ -55,7 +55,7 @@ module _ (end : Option Stop) (past : ℕ) where
   added_other s (line.Field f) is ls = refl
   added_other s (line.Method sig) is ls = absurd is
 
-  module _ (p : Program) (l : TextLine) (ls : List TextLine) where
+  module _ (p : ClassesSoFar) (l : TextLine) (ls : List TextLine) where
     by_line : Result ClassLine Stop → Result (List ClassDraft) Stop
     by_line r = (r >>> λ says. added says (told_from end past (begun p.standing says) ls)) >>> λ ts. Ok (classes_with p ts)
 
@@ -69,7 +69,7 @@ module _ (end : Option Stop) (past : ℕ) where
     refused_here e is = from_line ∙ ap by_line is
 
     -- a line that begins no method
-    pub one_line : (says : ClassLine) → line_read p.standing l ≡ Ok says → IsOther says → (new : Program) → Adds p (Says says) new → new.standing ≡ stands_next p.standing says
+    pub one_line : (says : ClassLine) → line_read p.standing l ≡ Ok says → IsOther says → (new : ClassesSoFar) → Adds p (Says says) new → new.standing ≡ stands_next p.standing says
         → classes_from end past p (l ∷ ls) ≡ classes_from end past new ls
     unfolding by_line
     one_line says is other new adds stands =
@@ -90,7 +90,7 @@ module _ (end : Option Stop) (past : ℕ) where
 
       -- a whole method
       pub one_method : (m : MethodDraft) (rest : List TextLine) → told_from end past (InMethod p.standing sig []) ls ≡ and_told (Method m) (told_from end past (InClass p.standing) rest)
-          → (new : Program) → Adds p (Method m) new → new.standing ≡ p.standing → classes_from end past p (l ∷ ls) ≡ classes_from end past new rest
+          → (new : ClassesSoFar) → Adds p (Method m) new → new.standing ≡ p.standing → classes_from end past p (l ∷ ls) ≡ classes_from end past new rest
       one_method m rest told new adds stands =
           in_method ∙ ap (λ r. r >>> λ ts. Ok (classes_with p ts)) told
           ∙ told_then (Method m) (told_from end past (InClass p.standing) rest) (λ ts. Ok (classes_with p ts))
@@ -100,7 +100,7 @@ module _ (end : Option Stop) (past : ℕ) where
   -- ---- the first line, and the end
 
   -- before the first line
-  pub from_first : (p : Program) (ls : List TextLine) → p.standing ≡ Outside → p.classes.items ≡ [] → p.last ≡ None
+  pub from_first : (p : ClassesSoFar) (ls : List TextLine) → p.standing ≡ Outside → p.classes.items ≡ [] → p.last ≡ None
       → classes_from end past p ls ≡ (told_from end past (InClass Outside) ls >>> λ ts. Ok (classes_in ts))
   from_first p ls stands classes last =
       ap (λ s. told_from end past (InClass s) ls >>> λ ts. Ok (classes_with p ts)) stands
@@ -108,7 +108,7 @@ module _ (end : Option Stop) (past : ℕ) where
       (λ ts. ap (λ (cs : List ClassDraft). Ok (cs ++ last_with p.last ts ++ classes_in ts)) classes ∙ ap (λ (c : Option ClassDraft). Ok ([] ++ last_with c ts ++ classes_in ts)) last)
 
   -- behind the last line
-  pub from_end : (p : Program) → classes_from end past p [] ≡ (ended_in end past (InClass p.standing) >>> λ ts. Ok (classes_with p ts))
+  pub from_end : (p : ClassesSoFar) → classes_from end past p [] ≡ (ended_in end past (InClass p.standing) >>> λ ts. Ok (classes_with p ts))
   from_end p = ap (λ r. r >>> λ ts. Ok (classes_with p ts)) (told_none end past (InClass p.standing))
 
 -- ---- how lines end
@@ -132,7 +132,7 @@ module _ (stop : Option Stop) (past : ℕ) where
   pub end_fault : (n : ℕ) → unwrap_or (end_with stop past n) (missing_at past) ≡ unwrap_or stop (missing_at past)
   end_fault n = fault_is stop n
 
-  module _ (n : ℕ) (p : Program) (ls : List TextLine) (all : Result (List ClassDraft) Stop) (same : classes_from (end_with stop past n) past p ls ≡ all) (none : ls ≡ []) where
+  module _ (n : ℕ) (p : ClassesSoFar) (ls : List TextLine) (all : Result (List ClassDraft) Stop) (same : classes_from (end_with stop past n) past p ls ≡ all) (none : ls ≡ []) where
     left : all ≡ (ended_in (end_with stop past n) past (InClass p.standing) >>> λ ts. Ok (classes_with p ts))
     left = sym same ∙ ap (classes_from (end_with stop past n) past p) none ∙ from_end (end_with stop past n) past p
 

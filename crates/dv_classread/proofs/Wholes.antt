@@ -5,7 +5,7 @@ use Rattle.dv_defs.specs.declared.faults.LineError.{LineError}
 use Rattle.dv_lex.specs.declared.line.Line.{Line}
 use Rattle.dv_lex.specs.declared.line.Stop.{Stop}
 use Rattle.dv_coderead.specs.Giving.{◌>>>◌, on_line, Stops}
-use Rattle.dv_coderead.specs.Operands.{behind, ended}
+use Rattle.dv_coderead.specs.Operands.{after_first, ended}
 use Rattle.dv_coderead.specs.Kept.{TextLine, kept, kept_from, line_at, open_behind, text_lines, AreNumbered}
 use Rattle.dv_coderead.specs.Bodies.{body_of, number_behind}
 use Rattle.dv_coderead.specs.RawBodies.{raw_body_of}
@@ -75,7 +75,7 @@ module _ (text : List ℕ) (ls : List Line) (are : AreNumbered 1 ls) (from : ℕ
     with_body : Result (Option BodyDraft) Stop → Result (List Told) Stop
     with_body r =
         let l = line_at text ls at in
-        r >>> λ b. on_line l.number (ended (behind (behind l.pieces))) >>> λ nothing. and_told (Method (record { signature = sig; body = b })) more
+        r >>> λ b. on_line l.number (ended (after_first (after_first l.pieces))) >>> λ nothing. and_told (Method (record { signature = sig; body = b })) more
 
     with_last : Option BodyDraft → Result (Unit {0}) Stop → Result (List Told) Stop
     with_last b r = r >>> λ nothing. and_told (Method (record { signature = sig; body = b })) more
@@ -88,7 +88,7 @@ module _ (text : List ℕ) (ls : List Line) (are : AreNumbered 1 ls) (from : ℕ
     unfolding lines_to with_body more
     told = is.told end past s sig ∙ ap with_body (body_same sig (line_at text ls at).number (lines_to at) ends_here is.closed)
 
-    with_ok : (b : Option BodyDraft) → with_body (Ok b) ≡ with_last b (on_line (line_at text ls at).number (ended (behind (behind (line_at text ls at).pieces))))
+    with_ok : (b : Option BodyDraft) → with_body (Ok b) ≡ with_last b (on_line (line_at text ls at).number (ended (after_first (after_first (line_at text ls at).pieces))))
     unfolding with_body with_last
     with_ok b = refl
 
@@ -97,15 +97,15 @@ module _ (text : List ℕ) (ls : List Line) (are : AreNumbered 1 ls) (from : ℕ
     refused_body e stops = stops_all e (body_in sig (lines_to at)) _ (λ f read. told ∙ ap with_body read) stops
 
     module _ (b : Option BodyDraft) (read : body_in sig (text_lines text (slice_range ls from at)) ≡ Ok b) where
-      told_last : told_in_method text ls from end past s sig ≡ with_last b (on_line (line_at text ls at).number (ended (behind (behind (line_at text ls at).pieces))))
+      told_last : told_in_method text ls from end past s sig ≡ with_last b (on_line (line_at text ls at).number (ended (after_first (after_first (line_at text ls at).pieces))))
       unfolding lines_to
       told_last = told ∙ ap with_body read ∙ with_ok b
 
-      pub refused_last : (e : LineError) → Stops e (on_line (line_at text ls at).number (ended (behind (behind (line_at text ls at).pieces)))) → Stops e (told_in_method text ls from end past s sig)
+      pub refused_last : (e : LineError) → Stops e (on_line (line_at text ls at).number (ended (after_first (after_first (line_at text ls at).pieces)))) → Stops e (told_in_method text ls from end past s sig)
       unfolding with_last
-      refused_last e stops = stops_all e (on_line (line_at text ls at).number (ended (behind (behind (line_at text ls at).pieces)))) _ (λ f is. told_last ∙ ap (with_last b) is) stops
+      refused_last e stops = stops_all e (on_line (line_at text ls at).number (ended (after_first (after_first (line_at text ls at).pieces)))) _ (λ f is. told_last ∙ ap (with_last b) is) stops
 
-      pub told_whole : on_line (line_at text ls at).number (ended (behind (behind (line_at text ls at).pieces))) ≡ Ok (record {})
+      pub told_whole : on_line (line_at text ls at).number (ended (after_first (after_first (line_at text ls at).pieces))) ≡ Ok (record {})
           → told_in_method text ls from end past s sig ≡ and_told (Method (record { signature = sig; body = b })) (told_from end past (InClass s) (kept_from text ls (at + 1)))
       unfolding with_last more
       told_whole is = told_last ∙ ap (with_last b) is

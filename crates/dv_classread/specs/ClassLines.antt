@@ -21,7 +21,7 @@ use Rattle.dv_coderead.specs.Giving.{◌>>=◌}
 use Rattle.dv_coderead.specs.Pieces.{Piece, AWord, AMark, AString, ACharacter}
 use Rattle.dv_coderead.specs.Words.{fitting, number_in}
 use Rattle.dv_coderead.specs.References.{type_in, class_in, proto_in, cut_at, found_parts, member_name}
-use Rattle.dv_coderead.specs.Operands.{Part, word_at, alone, behind, ended}
+use Rattle.dv_coderead.specs.Operands.{Part, word_at, alone, after_first, ended}
 use Rattle.dv_coderead.specs.Heads.{head_of}
 use Rattle.dv_classread.specs.declared.class_line.Signature.{Signature}
 use Rattle.dv_classread.specs.declared.class_line.ClassHead.{ClassHead}
@@ -243,7 +243,7 @@ by_directive standing.Outside n d ps = Err (directive_refusal d)
 by_directive (standing.Inside is_object has_super) n d ps = inside_line is_object has_super d ps
 
 abbrev pub by_head : Standing → ℕ → Head → List Piece → Result ClassLine LineKind
-by_head s n (head.Directive d) ps = by_directive s n d (behind ps)
+by_head s n (head.Directive d) ps = by_directive s n d (after_first ps)
 by_head s n h ps = Err (refusal_of h)
 
 -- what the line of this number says that stands there

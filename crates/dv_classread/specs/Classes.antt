@@ -8,7 +8,7 @@ use Rattle.dv_coderead.specs.Kept.{TextLine}
 use Rattle.dv_classread.specs.declared.class_line.ClassLine.TheVariants as line
 use Rattle.dv_classread.specs.declared.program.MethodDraft.{MethodDraft}
 use Rattle.dv_classread.specs.declared.program.ClassDraft.{ClassDraft}
-use Rattle.dv_classread.specs.declared.program.Program.{Program}
+use Rattle.dv_classread.specs.declared.program.ClassesSoFar.{ClassesSoFar}
 use Rattle.dv_classread.specs.Texts.{Told, Says, Method, InClass, told_from}
 
 -- ---- the parts of a class, which are told before the next class begins
@@ -80,17 +80,17 @@ abbrev pub last_with : Option ClassDraft → List Told → List ClassDraft
 last_with None ts = []
 last_with (Some c) ts = class_with c ts ∷ []
 
-abbrev pub classes_with : Program → List Told → List ClassDraft
+abbrev pub classes_with : ClassesSoFar → List Told → List ClassDraft
 classes_with p ts = p.classes.items ++ last_with p.last ts ++ classes_in ts
 
 -- the classes so far, with the last one
-abbrev pub whole_classes : Program → List ClassDraft
+abbrev pub whole_classes : ClassesSoFar → List ClassDraft
 whole_classes p = p.classes.items ++ option_to_list p.last
 
 -- this was added, whatever lines stand behind it
-abbrev pub Adds : Program → Told → Program → Type 0
+abbrev pub Adds : ClassesSoFar → Told → ClassesSoFar → Type 0
 Adds old t new = (ts : List Told) → classes_with new ts ≡ classes_with old (t ∷ ts)
 
 -- the classes, with what these lines add
-abbrev pub classes_from : Option Stop → ℕ → Program → List TextLine → Result (List ClassDraft) Stop
+abbrev pub classes_from : Option Stop → ℕ → ClassesSoFar → List TextLine → Result (List ClassDraft) Stop
 classes_from end past p ls = told_from end past (InClass p.standing) ls >>> λ ts. Ok (classes_with p ts)

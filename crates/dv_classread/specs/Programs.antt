@@ -10,7 +10,7 @@ use Rattle.dv_coderead.specs.Kept.{TextLine, line_of, kept, kept_from, line_at, 
 use Rattle.dv_coderead.specs.Bodies.{number_behind}
 use Rattle.dv_classread.specs.declared.class_line.Standing.TheVariants.{Outside}
 use Rattle.dv_classread.specs.declared.program.ClassDraft.{ClassDraft}
-use Rattle.dv_classread.specs.declared.program.Program.{Program}
+use Rattle.dv_classread.specs.declared.program.ClassesSoFar.{ClassesSoFar}
 use Rattle.dv_classread.specs.declared.text.Read.{Read}
 use Rattle.dv_classread.specs.Texts.{InClass, missing_at, told_from}
 use Rattle.dv_classread.specs.Classes.{classes_from, classes_in}
@@ -60,7 +60,7 @@ program_of schedule r = drafts_in schedule r.stop (map line_of r.lines) >>> asse
 
 -- What is told from a place on goes on from another place, with what was added; or the first bad line. A method that is
 -- unfinished at the end is told by this fault.
-abbrev pub GoesOn : List ℕ → List Line → ℕ → Stop → Program → Program → Result ℕ LineError → Type 0
+abbrev pub GoesOn : List ℕ → List Line → ℕ → Stop → ClassesSoFar → ClassesSoFar → Result ℕ LineError → Type 0
 GoesOn text ls place fault old new result =
     (end : Option Stop) (past : ℕ) → unwrap_or end (missing_at past) ≡ fault →
     MatchResult result

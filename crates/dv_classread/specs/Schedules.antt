@@ -11,7 +11,7 @@ use Rattle.dv_coderead.specs.declared.head.Head.TheVariants as head
 use Rattle.dv_coderead.specs.Giving.{◌>>>◌, on_line}
 use Rattle.dv_coderead.specs.Pieces.{Piece, AWord}
 use Rattle.dv_coderead.specs.Words.{literal_in}
-use Rattle.dv_coderead.specs.Operands.{behind, ended}
+use Rattle.dv_coderead.specs.Operands.{after_first, ended}
 use Rattle.dv_coderead.specs.Heads.{head_of}
 use Rattle.dv_coderead.specs.Kept.{TextLine, counts, depth_behind, kept, line_at, open_behind, text_lines}
 use Rattle.dv_classread.specs.declared.schedule.LogLine.{LogLine}
@@ -47,7 +47,7 @@ log_said f (Err k) = Err k
 
 abbrev pub log_line_by : Head → List Piece → Result LogLine LineKind
 log_line_by head.Blank ps = Ok log.Nothing
-log_line_by (head.Directive directive.EndSchedule) ps = log_said (λ nothing. log.End) (ended (behind (behind ps)))
+log_line_by (head.Directive directive.EndSchedule) ps = log_said (λ nothing. log.End) (ended (after_first (after_first ps)))
 log_line_by h ps = log_said log.One (entry_in ps)
 
 -- nothing, an entry, or the end of the schedule
@@ -100,7 +100,7 @@ log_from stop past (l ∷ ls) = on_line l.number (log_line l.pieces) >>> λ s. l
 
 -- the schedule that begins with this line
 abbrev pub schedule_from : Option Stop → ℕ → TextLine → List TextLine → Result (List Entry) Stop
-schedule_from stop past first ls = on_line first.number (ended (behind first.pieces)) >>> λ nothing. log_from stop past ls
+schedule_from stop past first ls = on_line first.number (ended (after_first first.pieces)) >>> λ nothing. log_from stop past ls
 
 -- ---- where it begins
 

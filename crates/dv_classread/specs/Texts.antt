@@ -9,7 +9,7 @@ use Rattle.dv_coderead.specs.declared.head.Directive.TheVariants as directive
 use Rattle.dv_coderead.specs.declared.head.Head.{Head}
 use Rattle.dv_coderead.specs.declared.head.Head.TheVariants as head
 use Rattle.dv_coderead.specs.Giving.{◌>>>◌, on_line, Stops}
-use Rattle.dv_coderead.specs.Operands.{behind, ended}
+use Rattle.dv_coderead.specs.Operands.{after_first, ended}
 use Rattle.dv_coderead.specs.Heads.{head_of}
 use Rattle.dv_coderead.specs.Kept.{TextLine, kept, kept_from, line_at, open_behind, open_from, text_lines}
 use Rattle.dv_coderead.specs.Bodies.{number_behind}
@@ -83,7 +83,7 @@ added l ts = and_told (Says l) ts
 abbrev pub method_ended : Signature → List TextLine → TextLine → Result (List Told) Stop → Result (List Told) Stop
 method_ended sig before l more =
     method_body sig l.number before >>> λ b.
-    on_line l.number (ended (behind (behind l.pieces))) >>> λ nothing.
+    on_line l.number (ended (after_first (after_first l.pieces))) >>> λ nothing.
     and_told (Method (record { signature = sig; body = b })) more
 
 -- what the lines of a text say behind such a spot, up to an end that is bad or not; past is the number of the line behind the last

@@ -9,7 +9,7 @@ ghost use Rattle.dv_coderead.specs.Heads.{head_of};
 ghost use Rattle.dv_classread.specs.FieldBits.{bits_of};
 ghost use Rattle.dv_classread.specs.ClassLines.{boolean_value, by_directive, class_head_line, class_line, class_name, class_name_line, directive_refusal, field_line, fitting_value, flag_from_annotation, flag_from_native, flag_from_synchronized, flag_of, flags_at, init_line, inside_line, is_boolean, lacks_super, name_and_proto, name_and_type, next_class_line, number_value, refusal_of, signature_line, stands_next, superclass_line, value_alone, value_in, word_value, StandsIn};
 
-use dv_coderead::parts::{behind, end};
+use dv_coderead::parts::{after_first, end};
 use dv_coderead::references::{class, cut_at, name, proto, ty};
 use dv_coderead::words::literal;
 use dv_coderead::{Directive, Head, Piece, Refusal};
@@ -512,7 +512,7 @@ pub fn read_class_line(
 {
     match head {
         Head::Directive(directive) => {
-            by_directive(alloc, standing, line, directive, behind(pieces))
+            by_directive(alloc, standing, line, directive, after_first(pieces))
         }
         _ => Err(Refusal::Fault(refusal_of(head))),
     }

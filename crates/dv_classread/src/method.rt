@@ -3,7 +3,7 @@ ghost use Rattle.std.specs.Prelude.{◌≡◌, ◌≤◌, drop, length, nat_lt, 
 ghost use Rattle.std.specs.List.{All};
 ghost use Rattle.dv_lex.specs.Lines.{HasTokens, IsLineInside};
 ghost use Rattle.dv_coderead.specs.Giving.{on_line, GivesLines, Stops};
-ghost use Rattle.dv_coderead.specs.Operands.{behind, ended};
+ghost use Rattle.dv_coderead.specs.Operands.{after_first, ended};
 ghost use Rattle.dv_coderead.specs.Kept.{kept, kept_from, open_behind, text_line, text_lines, AreNumbered};
 ghost use Rattle.dv_coderead.specs.Bodies.{number_behind, HasNext};
 ghost use Rattle.dv_classread.specs.Methods.{begins_raw, is_count_head, is_raw_head, kind_of, method_from};
@@ -12,7 +12,7 @@ ghost use Rattle.dv_classread.specs.Texts.{ends_method, leaves_method, left_at, 
 use crate::class_line::Signature;
 use crate::lines::{as_error, ended, missing_at};
 use crate::program::{BodyDraft, MethodDraft};
-use dv_coderead::parts::behind;
+use dv_coderead::parts::after_first;
 use dv_coderead::{Block, Directive, Head, Next, next_line, read_body, read_raw, read_tokens};
 use dv_defs::{Flag, LineError};
 use dv_lex::{Line, Stop};
@@ -176,10 +176,10 @@ fn left(alloc: Global, text: &[u8], lines: &[Line], signature: &Signature, fault
 fn last_line(alloc: Global, text: &[u8], line: &Line) -> Result<(), LineError>
     requires inside { IsLineInside text.now line.now }
     requires tokens { HasTokens text.now line.now }
-    ensures { let l = text_line text.now line.now in GivesLines (λ nothing. record {}) result (on_line l.number (ended (behind (behind l.pieces)))) }
+    ensures { let l = text_line text.now line.now in GivesLines (λ nothing. record {}) result (on_line l.number (ended (after_first (after_first l.pieces)))) }
 {
     let pieces = read_tokens(alloc, text, line.tokens.items())?;
-    ended(line.number, behind(behind(&pieces)))
+    ended(line.number, after_first(after_first(&pieces)))
 }
 
 /// The place of a method's last line, or why the method is left unfinished.

@@ -36,7 +36,7 @@ pub struct ClassDraft {
 
 /// The classes so far, and where the next line stands. To the last class further lines may be added.
 #[derive(Drop)]
-pub struct Program {
+pub struct ClassesSoFar {
     pub standing: Standing,
     pub classes: Vec<ClassDraft>,
     pub last: Option<ClassDraft>,
@@ -56,14 +56,14 @@ impl ClassDraft {
     }
 }
 
-impl Program {
+impl ClassesSoFar {
     /// Before the first line.
-    pub fn new(alloc: Global) -> Program
+    pub fn new(alloc: Global) -> ClassesSoFar
         ensures standing { result.standing ≡ Standing.Outside }
         ensures classes { result.classes.items ≡ [] }
         ensures last { result.last ≡ None }
     {
-        Program {
+        ClassesSoFar {
             standing: Standing::Outside,
             classes: Vec::new(alloc),
             last: None,
@@ -158,7 +158,7 @@ impl Program {
     {
         match self.close() {
             Ok(()) => {
-                let Program { classes, last, .. } = self;
+                let ClassesSoFar { classes, last, .. } = self;
                 drop(last);
                 Ok(classes)
             }

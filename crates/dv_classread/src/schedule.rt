@@ -3,7 +3,7 @@ ghost use Rattle.std.specs.Prelude.{◌≡◌, []};
 ghost use Rattle.std.specs.List.{All};
 ghost use Rattle.dv_lex.specs.Lines.{HasTokens, IsLineInside};
 ghost use Rattle.dv_coderead.specs.Giving.{on_line, GivesLines, Reads};
-ghost use Rattle.dv_coderead.specs.Operands.{behind, ended};
+ghost use Rattle.dv_coderead.specs.Operands.{after_first, ended};
 ghost use Rattle.dv_coderead.specs.Pieces.{piece_in, pieces_in};
 ghost use Rattle.dv_coderead.specs.Heads.{head_of};
 ghost use Rattle.dv_coderead.specs.Kept.{text_line, text_lines, AreNumbered};
@@ -11,7 +11,7 @@ ghost use Rattle.dv_classread.specs.Schedules.{begins_schedule, entry_by, entry_
 
 use crate::class_line::refusal_of;
 use crate::lines::{as_error, ended, missing_at};
-use dv_coderead::parts::{behind, end};
+use dv_coderead::parts::{after_first, end};
 use dv_coderead::words::literal;
 use dv_coderead::{Directive, Head, Next, Piece, head_of, next_line, read_tokens};
 use dv_defs::{Entry, LineError, LineKind};
@@ -90,7 +90,7 @@ fn line_said(head: Head, pieces: &[Piece]) -> Result<LogLine, LineKind>
     match head {
         Head::Blank => Ok(LogLine::Nothing),
         Head::Directive(Directive::EndSchedule) => {
-            end(behind(behind(pieces)))?;
+            end(after_first(after_first(pieces)))?;
             Ok(LogLine::End)
         }
         _ => Ok(LogLine::One(entry(pieces)?)),
@@ -195,7 +195,7 @@ pub fn read_schedule(
     ensures { GivesLines (λ v. v.items) result (schedule_from stop past (text_line text.now first.now) (text_lines text.now lines.now)) }
 {
     let pieces = read_tokens(alloc, text, first.tokens.items())?;
-    ended(first.number, behind(&pieces))?;
+    ended(first.number, after_first(&pieces))?;
     entries(alloc, text, lines, stop, past)
 }
 

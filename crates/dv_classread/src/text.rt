@@ -16,7 +16,7 @@ use crate::assembling::assembled_classes;
 use crate::class_line::{ClassLine, Standing, lacks_super, read_class_line};
 use crate::lines::{as_error, missing_at};
 use crate::method::whole_method;
-use crate::program::{ClassDraft, Program};
+use crate::program::{ClassDraft, ClassesSoFar};
 use crate::schedule::{read_schedule, schedule_place};
 use dv_coderead::{Head, Next, Refusal, next_line, read_tokens};
 use dv_defs::{ClassDef, Entry, LineError, Seq};
@@ -63,7 +63,7 @@ fn add_next(
     place: usize,
     head: Head,
     fault: Stop,
-    program: &mut Program,
+    program: &mut ClassesSoFar,
 ) -> Result<usize, LineError>
     requires inside { All (IsLineInside text.now) lines.now }
     requires tokens { All (HasTokens text.now) lines.now }
@@ -107,7 +107,7 @@ fn add_lines(
     lines: &[Line],
     stop: Option<Stop>,
     past: u32,
-    program: &mut Program,
+    program: &mut ClassesSoFar,
 ) -> Result<(), LineError>
     requires inside { All (IsLineInside text.now) lines.now }
     requires tokens { All (HasTokens text.now) lines.now }
@@ -147,7 +147,7 @@ fn drafts(
     requires stop { IfSome stop (λ e. EndsBefore e.line (text_lines text.now lines.now)) }
     ensures { let ls = text_lines text.now lines.now in GivesLines (λ v. v.items) result (drafts_of (end_with stop past (open_behind 0 ls)) past ls) }
 {
-    let mut program = Program::new(alloc);
+    let mut program = ClassesSoFar::new(alloc);
     match add_lines(alloc, text, lines, stop, past, &mut program) {
         Ok(()) => Ok(program.into_classes()?),
         Err(error) => {

@@ -12,7 +12,7 @@ use Rattle.dv_defs.specs.declared.image.ClassInfo.{ClassInfo}
 use Rattle.dv_defs.specs.declared.image.MethodInfo.{MethodInfo}
 use Rattle.dv_defs.specs.Images.{Image}
 use Rattle.dv_defs.specs.Pools.{Method, initialiser, is_initialiser, method_at, methods_of, pick, with_def, with_info}
-use Rattle.dv_clinit.specs.Initialisers.{BeginsAt, class_of, if_initialiser, initialiser_at}
+use Rattle.dv_clinit.specs.Initialisers.{BeginsAt, declaring_class, if_initialiser, initialiser_at}
 
 -- ---- one method
 
@@ -36,10 +36,10 @@ info_told : (image : Image) (id : ℕ) (info : MethodInfo) → IsMethodOf info (
 info_told image id info = def_told id info (slice_get (methods_of (slice_get image.classes info.class.0)) info.place)
 
 -- a method that isn't of the class is passed over
-rest_by_class : (c : ℕ) (info : MethodInfo) (o rest : Option Method) → IsMethodOf info o → class_of info ≢ c → or_rest (is_of c) o rest ≡ rest
+rest_by_class : (c : ℕ) (info : MethodInfo) (o rest : Option Method) → IsMethodOf info o → declaring_class info ≢ c → or_rest (is_of c) o rest ≡ rest
 rest_by_class c info None rest is other = refl
 rest_by_class c info (Some m) rest is other =
-    let same : class_of m.info ≡ class_of info = ap class_of (is.told m refl) in
+    let same : declaring_class m.info ≡ declaring_class info = ap declaring_class (is.told m refl) in
     let differs : nat_eq m.info.class.0 c ≡ false = grind (arith, nat_tests) in
     ap (λ b. elim (b && is_initialiser m) as (λ _. Option Method) [ true ↦ Some m | false ↦ rest ]) differs
 
@@ -70,11 +70,11 @@ taken true m rest passes = refl
 taken false m rest passes = absurd (cc)
 
 -- an initialiser of the class is taken
-here_by_test : (c : ℕ) (info : MethodInfo) (o rest : Option Method) (m : Method) → IsMethodOf info o → class_of info ≡ c → if_initialiser o ≡ Some m → or_rest (is_of c) o rest ≡ Some m
+here_by_test : (c : ℕ) (info : MethodInfo) (o rest : Option Method) (m : Method) → IsMethodOf info o → declaring_class info ≡ c → if_initialiser o ≡ Some m → or_rest (is_of c) o rest ≡ Some m
 here_by_test c info None rest m is same some = absurd (cc)
 here_by_test c info (Some n) rest m is same some =
     let both = if_some (is_initialiser n) n m some in
-    let class : class_of n.info ≡ c = ap class_of (is.told n refl) ∙ same in
+    let class : declaring_class n.info ≡ c = ap declaring_class (is.told n refl) ∙ same in
     let own : nat_eq n.info.class.0 c ≡ true = eq-eqb n.info.class.0 c class in
     taken (is_of c n) n rest (ap (λ b. b && is_initialiser n) own ∙ both.0) ∙ ap Some both.1
 
@@ -110,7 +110,7 @@ unfolding method_at
 numbered_here image id info within is =
     ap (λ o. if_initialiser (with_info image id o)) (slice_get-get_or image.methods id info within ∙ ap Some (sym is))
 
-pub other_class : (image : Image) (c id : ℕ) (info : MethodInfo) → id < length image.methods → info ≡ get_or image.methods id info → class_of info ≢ c → found_from image c id ≡ found_from image c (suc id)
+pub other_class : (image : Image) (c id : ℕ) (info : MethodInfo) → id < length image.methods → info ≡ get_or image.methods id info → declaring_class info ≢ c → found_from image c id ≡ found_from image c (suc id)
 other_class image c id info within is other =
     from_here image c id info within is ∙
     rest_by_class c info (with_info image id (Some info)) (found_from image c (suc id)) (info_told image id info) other
@@ -120,7 +120,7 @@ no_initialiser image c id info within is none =
     from_here image c id info within is ∙
     rest_by_test c (with_info image id (Some info)) (found_from image c (suc id)) (sym (numbered_here image id info within is) ∙ none)
 
-pub its_initialiser : (image : Image) (c id : ℕ) (info : MethodInfo) (m : Method) → id < length image.methods → info ≡ get_or image.methods id info → class_of info ≡ c → initialiser_at image id ≡ Some m → found_from image c id ≡ Some m
+pub its_initialiser : (image : Image) (c id : ℕ) (info : MethodInfo) (m : Method) → id < length image.methods → info ≡ get_or image.methods id info → declaring_class info ≡ c → initialiser_at image id ≡ Some m → found_from image c id ≡ Some m
 its_initialiser image c id info m within is same some =
     from_here image c id info within is ∙
     here_by_test c info (with_info image id (Some info)) (found_from image c (suc id)) m (info_told image id info) same (sym (numbered_here image id info within is) ∙ some)
@@ -139,26 +139,26 @@ item_at [] k within = absurd (omega arith)
 item_at (m ∷ ms) zero within = (m, refl)
 item_at (m ∷ ms) (suc k) within = item_at ms k (omega arith)
 
-passed_over : (image : Image) (c n : ℕ) → n ≤ length image.methods → ((k : ℕ) (d : MethodInfo) → k < n → class_of (get_or image.methods k d) ≢ c) → found_from image c 0 ≡ found_from image c n
+passed_over : (image : Image) (c n : ℕ) → n ≤ length image.methods → ((k : ℕ) (d : MethodInfo) → k < n → declaring_class (get_or image.methods k d) ≢ c) → found_from image c 0 ≡ found_from image c n
 passed_over image c zero within others = refl
 passed_over image c (suc n) within others =
     let there = item_at image.methods n (omega arith) in
-    let other : class_of there.0 ≢ c = λ same. others n there.0 (omega arith) (sym (ap class_of there.1) ∙ same) in
+    let other : declaring_class there.0 ≢ c = λ same. others n there.0 (omega arith) (sym (ap declaring_class there.1) ∙ same) in
     passed_over image c n (omega arith) (λ k d less. others k d (omega arith)) ∙
     other_class image c n there.0 (omega arith) there.1 other
 
 -- the search may begin where the methods of the class do
 pub sought_at : (image : Image) (ms : List MethodInfo) → ms ≡ image.methods → (c k : ℕ) → k ≤ length ms → BeginsAt ms c k → initialiser image c ≡ found_from image c k
 sought_at image ms are c k within begins =
-    let others : (j : ℕ) (d : MethodInfo) → j < k → class_of (get_or image.methods j d) ≢ c =
-    λ j d less same. (let below = begins.before j d less in omega (arith, below, ap (λ infos. class_of (get_or infos j d)) are, same)) in
+    let others : (j : ℕ) (d : MethodInfo) → j < k → declaring_class (get_or image.methods j d) ≢ c =
+    λ j d less same. (let below = begins.before j d less in omega (arith, below, ap (λ infos. declaring_class (get_or infos j d)) are, same)) in
     sought image c ∙ passed_over image c k (omega (arith, ap length are)) others
 
-none_after : (image : Image) (c n id : ℕ) → id + n ≡ length image.methods → ((k : ℕ) (d : MethodInfo) → id ≤ k → k < length image.methods → class_of (get_or image.methods k d) ≢ c) → found_from image c id ≡ None
+none_after : (image : Image) (c n id : ℕ) → id + n ≡ length image.methods → ((k : ℕ) (d : MethodInfo) → id ≤ k → k < length image.methods → declaring_class (get_or image.methods k d) ≢ c) → found_from image c id ≡ None
 none_after image c zero id all others = found_past image c id (omega arith)
 none_after image c (suc n) id all others =
     let there = item_at image.methods id (omega arith) in
-    let other : class_of there.0 ≢ c = λ same. others id there.0 (omega arith) (omega arith) (sym (ap class_of there.1) ∙ same) in
+    let other : declaring_class there.0 ≢ c = λ same. others id there.0 (omega arith) (omega arith) (sym (ap declaring_class there.1) ∙ same) in
     other_class image c id there.0 (omega arith) there.1 other ∙
     none_after image c n (suc id) (omega arith) (λ k d more within. others k d (omega arith) within)
 
@@ -169,24 +169,24 @@ pub same_by_test : (a c : ℕ) → false ≡ not (nat_eq a c) → a ≡ c
 same_by_test a c test = grind (arith, nat_tests)
 
 -- and end where a method is of another class
-pub no_more : (image : Image) (ms : List MethodInfo) → ms ≡ image.methods → IsNonDecreasingBy class_of ms → (c first id : ℕ) → BeginsAt ms c first → first ≤ id → id < length ms
-    → (d : MethodInfo) → true ≡ not (nat_eq (class_of (get_or ms id d)) c) → found_from image c id ≡ None
+pub no_more : (image : Image) (ms : List MethodInfo) → ms ≡ image.methods → IsNonDecreasingBy declaring_class ms → (c first id : ℕ) → BeginsAt ms c first → first ≤ id → id < length ms
+    → (d : MethodInfo) → true ≡ not (nat_eq (declaring_class (get_or ms id d)) c) → found_from image c id ≡ None
 no_more image ms are rise c first id begins after within d test =
-    let other : class_of (get_or ms id d) ≢ c = differs_by_test (class_of (get_or ms id d)) c test in
-    let least : c ≤ class_of (get_or ms id d) = begins.from id d after within in
+    let other : declaring_class (get_or ms id d) ≢ c = differs_by_test (declaring_class (get_or ms id d)) c test in
+    let least : c ≤ declaring_class (get_or ms id d) = begins.from id d after within in
     let there = item_at ms id within in
-    let same : class_of there.0 ≡ class_of (get_or ms id d) = read_alike there.0 d there.1 in
-    let others : (k : ℕ) (e : MethodInfo) → id ≤ k → k < length image.methods → class_of (get_or image.methods k e) ≢ c =
+    let same : declaring_class there.0 ≡ declaring_class (get_or ms id d) = read_alike there.0 d there.1 in
+    let others : (k : ℕ) (e : MethodInfo) → id ≤ k → k < length image.methods → declaring_class (get_or image.methods k e) ≢ c =
     λ k e more inside is.
-    (let here : class_of (get_or ms id e) ≡ class_of (get_or ms id d) = reads_alike e d in
-    omega (arith, other, least, here, rise id k e more (omega (arith, ap length are)), ap (λ infos. class_of (get_or infos k e)) are, is)) in
+    (let here : declaring_class (get_or ms id e) ≡ declaring_class (get_or ms id d) = reads_alike e d in
+    omega (arith, other, least, here, rise id k e more (omega (arith, ap length are)), ap (λ infos. declaring_class (get_or infos k e)) are, is)) in
     none_after image c (length image.methods - id) id (omega (arith, ap length are)) others
   where
-    read_alike : (x d : MethodInfo) → x ≡ get_or ms id x → class_of x ≡ class_of (get_or ms id d)
-    read_alike x d is = ap class_of (is ∙ get_or_default ms id x d within)
+    read_alike : (x d : MethodInfo) → x ≡ get_or ms id x → declaring_class x ≡ declaring_class (get_or ms id d)
+    read_alike x d is = ap declaring_class (is ∙ get_or_default ms id x d within)
 
-    reads_alike : (e d : MethodInfo) → class_of (get_or ms id e) ≡ class_of (get_or ms id d)
-    reads_alike e d = ap class_of (get_or_default ms id e d within)
+    reads_alike : (e d : MethodInfo) → declaring_class (get_or ms id e) ≡ declaring_class (get_or ms id d)
+    reads_alike e d = ap declaring_class (get_or_default ms id e d within)
 
 -- a step that finds nothing
 pub go_on : (image : Image) (ms : List MethodInfo) → ms ≡ image.methods → (c id : ℕ) → id < length ms → initialiser_at image id ≡ None → found_from image c id ≡ found_from image c (id + 1)
@@ -198,12 +198,12 @@ go_on image ms are c id within none =
 
 -- and one that finds it
 pub is_here : (image : Image) (ms : List MethodInfo) → ms ≡ image.methods → (c id : ℕ) → id < length ms
-    → (d : MethodInfo) → class_of (get_or ms id d) ≡ c → (m : Method) → initialiser_at image id ≡ Some m → found_from image c id ≡ Some m
+    → (d : MethodInfo) → declaring_class (get_or ms id d) ≡ c → (m : Method) → initialiser_at image id ≡ Some m → found_from image c id ≡ Some m
 is_here image ms are c id within d same m some =
     let inside : id < length image.methods = omega (arith, ap length are) in
     let there = item_at image.methods id inside in
-    let own : class_of there.0 ≡ c =
-    ap class_of (there.1 ∙ get_or_default image.methods id there.0 d inside) ∙ (sym (ap (λ infos. class_of (get_or infos id d)) are) ∙ same) in
+    let own : declaring_class there.0 ≡ c =
+    ap declaring_class (there.1 ∙ get_or_default image.methods id there.0 d inside) ∙ (sym (ap (λ infos. declaring_class (get_or infos id d)) are) ∙ same) in
     its_initialiser image c id there.0 m inside there.1 own some
 
 -- ---- what is told of an initialiser
@@ -229,7 +229,7 @@ of_number image id (Some info) m some =
     let same : m.info ≡ info = def_there id info (slice_get (methods_of (slice_get image.classes info.class.0)) info.place) m some in
     let inside : info.class.0 < length image.classes =
     get_within image.classes info.class.0 (λ none. let nothing : if_initialiser (with_info image id (Some info)) ≡ None = ap if_initialiser (no_class image id info none) in absurd (cc)) in
-    (omega (arith, inside, ap class_of same), ap Some (sym same))
+    (omega (arith, inside, ap declaring_class same), ap Some (sym same))
 
 -- its class is one of the image
 pub class_inside : (image : Image) (id : ℕ) (m : Method) → initialiser_at image id ≡ Some m → m.info.class.0 < length image.classes
@@ -258,7 +258,7 @@ declares image id m some =
     let info = its_info image id m some in
     let inside : id < length image.methods = slice_get_within image.methods id m.info info in
     let here : found_from image c id ≡ Some m =
-    is_here image image.methods refl c id inside m.info (ap class_of (get_or_from_slice_get image.methods id m.info m.info info)) m some in
+    is_here image image.methods refl c id inside m.info (ap declaring_class (get_or_from_slice_get image.methods id m.info m.info info)) m some in
     let first = is_there (found_from image c 0) (some_before image c id (omega arith) (ap is_some here)) in
     (first.0, sought image c ∙ first.1)
 
@@ -276,7 +276,7 @@ none_of_them image c (suc n) id all others =
         let told : slice_get image.methods id ≡ Some info = slice_get_read image.methods (length image.methods) id info refl inside is in
         let both : Some m.info ≡ Some info = sym (its_info image id m some) ∙ told in
         let same : m.info ≡ info = cc in
-        other_class image c id info inside is (λ own. others id m inside some (ap class_of same ∙ own))
+        other_class image c id info inside is (λ own. others id m inside some (ap declaring_class same ∙ own))
 
 pub declares_none : (image : Image) (c : ℕ) → ((k : ℕ) (m : Method) → k < length image.methods → initialiser_at image k ≡ Some m → m.info.class.0 ≢ c) → initialiser image c ≡ None
 declares_none image c others = sought image c ∙ none_of_them image c (length image.methods) 0 (omega arith) others

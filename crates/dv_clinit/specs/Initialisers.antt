@@ -22,10 +22,10 @@ abbrev pub initialiser_at : Image → ℕ → Option Method
 initialiser_at image id = if_initialiser (method_at image id)
 
 -- the number of the class that a method is of
-abbrev pub class_of : MethodInfo → ℕ
-class_of m = m.class.0
+abbrev pub declaring_class : MethodInfo → ℕ
+declaring_class m = m.class.0
 
 -- the methods before a place are of lower classes, and those from it on aren't
 pub record BeginsAt (methods : List MethodInfo) (class place : ℕ) : Type 0 where
-  pub before : (k : ℕ) (d : MethodInfo) → k < place → class_of (slice_index_or methods k d) < class
-  pub from : (k : ℕ) (d : MethodInfo) → place ≤ k → k < length methods → class ≤ class_of (slice_index_or methods k d)
+  pub before : (k : ℕ) (d : MethodInfo) → k < place → declaring_class (slice_index_or methods k d) < class
+  pub from : (k : ℕ) (d : MethodInfo) → place ≤ k → k < length methods → class ≤ declaring_class (slice_index_or methods k d)

@@ -5,7 +5,7 @@ ghost use Rattle.dv_defs.specs.Linked.{IsImage};
 ghost use Rattle.dv_defs.specs.Pools.{initialiser as initialiser_of, no_arguments};
 ghost use Rattle.dv_defs.specs.Types.{same_proto};
 ghost use Rattle.dv_ops.specs.Meaning.{method_of};
-ghost use Rattle.dv_clinit.specs.Initialisers.{BeginsAt, class_of, initialiser_at as initialiser_numbered, is_initialiser_def};
+ghost use Rattle.dv_clinit.specs.Initialisers.{BeginsAt, declaring_class, initialiser_at as initialiser_numbered, is_initialiser_def};
 
 use dv_defs::{ClassId, Flag, Image, MethodDef, MethodId, MethodInfo, Proto};
 use dv_ops::{Method, method_at};
@@ -32,7 +32,7 @@ pub fn initialiser(image: &Image, class: ClassId) -> Option<Method<'_>>
 pub(crate) fn methods_of(image: &Image) -> &[MethodInfo]
     ensures methods { result.now ≡ image.now.methods }
     ensures few { length result.now < 2 ^ 32 }
-    ensures by_class { IsNonDecreasingBy class_of result.now }
+    ensures by_class { IsNonDecreasingBy declaring_class result.now }
     ensures linked { IsImage image.now }
 {
     image.methods.items()
@@ -40,7 +40,7 @@ pub(crate) fn methods_of(image: &Image) -> &[MethodInfo]
 
 /// Where the methods of a class begin, among methods that stand class by class.
 fn first_method(methods: &[MethodInfo], class: ClassId) -> usize
-    requires { IsNonDecreasingBy class_of methods.now }
+    requires { IsNonDecreasingBy declaring_class methods.now }
     ensures within { result ≤ length methods.now }
     ensures begins { BeginsAt methods.now class.0 result }
 {

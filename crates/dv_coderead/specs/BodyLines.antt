@@ -24,7 +24,7 @@ use Rattle.dv_coderead.specs.Giving.{◌>>=◌}
 use Rattle.dv_coderead.specs.Pieces.{Piece, AWord}
 use Rattle.dv_coderead.specs.Words.{number_in, literal_in, label_in}
 use Rattle.dv_coderead.specs.References.{class_in}
-use Rattle.dv_coderead.specs.Operands.{word_at, alone, mark_at, dots_at, behind, ended, operands_in}
+use Rattle.dv_coderead.specs.Operands.{word_at, alone, mark_at, dots_at, after_first, ended, operands_in}
 use Rattle.dv_coderead.specs.Heads.{head_of}
 
 abbrev pub said : {A : Type 0} → (A → BodyLine) → Result A LineKind → Result BodyLine LineKind
@@ -171,9 +171,9 @@ directive_line arguments frame n d ps = Err (directive_refusal d)
 
 -- labels and instructions stand behind the count of registers
 abbrev pub method_line : ℕ → Option Frame → ℕ → Head → List Piece → Result BodyLine LineKind
-method_line arguments frame n (head.Directive d) ps = directive_line arguments frame n d (behind ps)
+method_line arguments frame n (head.Directive d) ps = directive_line arguments frame n d (after_first ps)
 method_line arguments (Some f) n head.Label ps = said line.Label (label_line ps)
-method_line arguments (Some f) n (head.Opcode op) ps = said line.Op (operands_in f op (behind ps))
+method_line arguments (Some f) n (head.Opcode op) ps = said line.Op (operands_in f op (after_first ps))
 method_line arguments frame n h ps = Err (refusal_of h)
 
 -- the last line of a block

@@ -135,14 +135,14 @@ abbrev pub is_closed : List Piece → Bool
 is_closed (AMark c ∷ ps) = c == 125
 is_closed ps = false
 
-abbrev pub behind : List Piece → List Piece
-behind [] = []
-behind (p ∷ ps) = ps
+abbrev pub after_first : List Piece → List Piece
+after_first [] = []
+after_first (p ∷ ps) = ps
 
 -- what a call that looks for the closing brace answers: what stands behind it, seen by view, if it is next
 abbrev pub Closes : {X : Type 0} → (X → List Piece) → Option X → List Piece → Type 0
 Closes view None ps = is_closed ps ≡ false
-Closes view (Some x) ps = (is_closed ps ≡ true) × (view x ≡ behind ps)
+Closes view (Some x) ps = (is_closed ps ≡ true) × (view x ≡ after_first ps)
 
 abbrev pub with_register : ℕ → Part (List ℕ) → Part (List ℕ)
 with_register r (Ok x) = Ok (r ∷ x.0, x.1)
@@ -155,7 +155,7 @@ with_front front (Err k) = Err k
 
 -- whether a comma comes, or the closing brace
 abbrev pub more_at : List Piece → Part Bool
-more_at ps = if is_closed ps then Ok (false, behind ps) else comma_at ps >>= λ rest. Ok (true, rest)
+more_at ps = if is_closed ps then Ok (false, after_first ps) else comma_at ps >>= λ rest. Ok (true, rest)
 
 -- so many registers at most with commas between, up to the closing brace
 unfoldable pub list_at : ℕ → Frame → List Piece → Part (List ℕ)
@@ -173,7 +173,7 @@ few_at (Err k) = Err k
 unfoldable pub braces_at : Frame → List Piece → Part Regs
 braces_at frame ps = do
   inside ← mark_at 123 ps
-  few_at (if is_closed inside then Ok ([], behind inside) else list_at 5 frame inside)
+  few_at (if is_closed inside then Ok ([], after_first inside) else list_at 5 frame inside)
 
 -- the two dots between the first and the last of neighbouring registers
 abbrev pub dots_at : List Piece → Result (List Piece) LineKind
@@ -195,8 +195,8 @@ last_at frame first ps = do
 unfoldable pub neighbours_at : Frame → List Piece → Part Regs
 neighbours_at frame ps = do
   inside ← mark_at 123 ps
-  if is_closed inside then Ok (neighbours 0 0, behind inside) else register_at frame inside >>= λ a.
-      if is_closed a.1 then Ok (neighbours a.0 1, behind a.1) else last_at frame a.0 a.1
+  if is_closed inside then Ok (neighbours 0 0, after_first inside) else register_at frame inside >>= λ a.
+      if is_closed a.1 then Ok (neighbours a.0 1, after_first a.1) else last_at frame a.0 a.1
 
 abbrev pub registers_at : Registers → Frame → List Piece → Part Regs
 registers_at (registers.Each n) frame ps = each_at n frame ps

@@ -21,7 +21,7 @@ use Rattle.dv_coderead.specs.Giving.{◌>>=◌}
 use Rattle.dv_coderead.specs.Pieces.{Piece, AWord, AString}
 use Rattle.dv_coderead.specs.Words.{number_in}
 use Rattle.dv_coderead.specs.References.{type_in, field_in, method_in, cut_at, cut_at_arrow}
-use Rattle.dv_coderead.specs.Operands.{Part, word_at, alone, behind, ended, and_behind, as_entry}
+use Rattle.dv_coderead.specs.Operands.{Part, word_at, alone, after_first, ended, and_behind, as_entry}
 use Rattle.dv_coderead.specs.Heads.{head_of}
 use Rattle.dv_coderead.specs.BodyLines.{by_value, count_in, refusal_of}
 
@@ -113,7 +113,7 @@ raw_registers_line ps = alone (word_at (count_in 0) ps)
 
 -- before the count of registers
 abbrev pub start_line : Head → List Piece → Result RawLine LineKind
-start_line (head.Directive directive.Registers) ps = raw_said line.Registers (raw_registers_line (behind ps))
+start_line (head.Directive directive.Registers) ps = raw_said line.Registers (raw_registers_line (after_first ps))
 start_line h ps = Err (refusal_of h)
 
 -- the count of registers, told again
@@ -127,18 +127,18 @@ again_or_refused h = if is_count h then kind.Repeated else refusal_of h
 
 -- behind it: entries of the pools, and the first line of the units
 abbrev pub pools_line : Head → List Piece → Result RawLine LineKind
-pools_line (head.Directive directive.Rawref) ps = raw_said line.Entry (entry_line (behind ps))
-pools_line (head.Directive (directive.Begin Units)) ps = raw_said (λ nothing. line.Begin) (ended (behind ps))
+pools_line (head.Directive directive.Rawref) ps = raw_said line.Entry (entry_line (after_first ps))
+pools_line (head.Directive (directive.Begin Units)) ps = raw_said (λ nothing. line.Begin) (ended (after_first ps))
 pools_line h ps = Err (again_or_refused h)
 
 -- among the units, with so many before
 abbrev pub among_units : ℕ → Head → List Piece → Result RawLine LineKind
-among_units before (head.Directive (directive.End Units)) ps = raw_said (λ nothing. line.End) (ended (behind (behind ps)))
+among_units before (head.Directive (directive.End Units)) ps = raw_said (λ nothing. line.End) (ended (after_first (after_first ps)))
 among_units before h ps = if begins_with_unit ps then raw_said line.Units (units_line before ps) else Err (refusal_of h)
 
 -- behind the units: handlers
 abbrev pub last_line : Head → List Piece → Result RawLine LineKind
-last_line (head.Directive directive.Rawtry) ps = raw_said line.Handler (raw_handler_line (behind ps))
+last_line (head.Directive directive.Rawtry) ps = raw_said line.Handler (raw_handler_line (after_first ps))
 last_line (head.Directive (directive.Begin Units)) ps = Err kind.Repeated
 last_line h ps = Err (again_or_refused h)
 

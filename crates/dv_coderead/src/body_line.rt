@@ -6,12 +6,12 @@ ghost use Rattle.dv_coderead.specs.Pieces.{piece_in, pieces_in};
 ghost use Rattle.dv_coderead.specs.Heads.{head_of};
 ghost use Rattle.dv_coderead.specs.Words.{label_in};
 ghost use Rattle.dv_coderead.specs.References.{class_in};
-ghost use Rattle.dv_coderead.specs.Operands.{behind, word_at};
+ghost use Rattle.dv_coderead.specs.Operands.{after_first, word_at};
 ghost use Rattle.dv_coderead.specs.BodyLines.{arrow_at, begin_line, begins_with_number, body_line, case_line, catch_line, count_from, count_in, data_begin, data_line, directive_line, directive_refusal, element_in, elements_in, end_line, frame_line, handler_line, key_in, label_line, method_line, packed_begin, packed_line, refusal_of, registers_line, sparse_begin, sparse_line, width_from, width_in, HasWidth, IsHead, IsLine, StandsIn};
 
 use crate::head::{Block, Directive, Head};
 use crate::operands::read_operands;
-use crate::parts::{behind, dots, end, mark};
+use crate::parts::{after_first, dots, end, mark};
 use crate::pieces::Piece;
 use crate::words::{self, Frame};
 use crate::{Refusal, references};
@@ -421,13 +421,13 @@ fn method_line(
 {
     match (head, frame) {
         (Head::Directive(directive), _) => {
-            directive_line(alloc, arguments, frame, line, directive, behind(pieces))
+            directive_line(alloc, arguments, frame, line, directive, after_first(pieces))
         }
         (Head::Label, Some(_)) => match label_line(alloc, pieces) {
             Ok(name) => Ok(BodyLine::Label(name)),
             Err(error) => Err(error),
         },
-        (Head::Opcode(op), Some(frame)) => match read_operands(alloc, frame, op, behind(pieces)) {
+        (Head::Opcode(op), Some(frame)) => match read_operands(alloc, frame, op, after_first(pieces)) {
             Ok(op) => Ok(BodyLine::Op(op)),
             Err(error) => Err(error),
         },
@@ -439,7 +439,7 @@ fn method_line(
 fn end_line(pieces: &[Piece]) -> Result<BodyLine, LineKind>
     ensures { Reads (λ l. l) result (end_line (pieces_in pieces.now)) }
 {
-    end(behind(behind(pieces)))?;
+    end(after_first(after_first(pieces)))?;
     Ok(BodyLine::End)
 }
 

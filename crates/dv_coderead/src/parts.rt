@@ -2,7 +2,7 @@
 ghost use Rattle.std.specs.Prelude.{◌≡◌, Ok};
 ghost use Rattle.dv_coderead.specs.Giving.{Reads};
 ghost use Rattle.dv_coderead.specs.Pieces.{pieces_in};
-ghost use Rattle.dv_coderead.specs.Operands.{alone, behind, comma_at, dots_at, ended, mark_at, next_at, Closes};
+ghost use Rattle.dv_coderead.specs.Operands.{alone, after_first, comma_at, dots_at, ended, mark_at, next_at, Closes};
 
 use crate::pieces::Piece;
 use dv_defs::LineKind;
@@ -79,8 +79,8 @@ pub(crate) fn alone<T: Drop>(value: T, pieces: &[Piece]) -> Result<T, LineKind>
 }
 
 /// What stands behind the first piece.
-pub fn behind<'a, 'b>(pieces: &'b [Piece<'a>]) -> &'b [Piece<'a>]
-    ensures { pieces_in result.now ≡ behind (pieces_in pieces.now) }
+pub fn after_first<'a, 'b>(pieces: &'b [Piece<'a>]) -> &'b [Piece<'a>]
+    ensures { pieces_in result.now ≡ after_first (pieces_in pieces.now) }
 {
     match pieces {
         [_, rest @ ..] => rest,

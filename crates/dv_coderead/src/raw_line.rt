@@ -13,7 +13,7 @@ ghost use Rattle.dv_coderead.specs.RawLines.{address_from, address_in, again_or_
 
 use crate::body_line::{count_part, refusal_of};
 use crate::head::{Block, Directive, Head};
-use crate::parts::{behind, end};
+use crate::parts::{after_first, end};
 use crate::pieces::Piece;
 use crate::{Refusal, references, words};
 use dv_defs::{LineKind, Seq, Ty};
@@ -285,7 +285,7 @@ fn start_line(head: Head, pieces: &[Piece]) -> Result<RawLine, LineKind>
 {
     match head {
         Head::Directive(Directive::Registers) => {
-            Ok(RawLine::Registers(registers_line(behind(pieces))?))
+            Ok(RawLine::Registers(registers_line(after_first(pieces))?))
         }
         _ => Err(refusal_of(head)),
     }
@@ -319,13 +319,13 @@ fn pools_line(alloc: Global, head: Head, pieces: &[Piece]) -> Result<RawLine, Re
 {
     match head {
         Head::Directive(Directive::Rawref) => {
-            match entry_line(alloc, behind(pieces)) {
+            match entry_line(alloc, after_first(pieces)) {
                 Ok(entry) => Ok(RawLine::Entry(entry)),
                 Err(error) => Err(error),
             }
         }
         Head::Directive(Directive::Begin(Block::Units)) => {
-            end(behind(pieces))?;
+            end(after_first(pieces))?;
             Ok(RawLine::Begin)
         }
         _ => Err(Refusal::Fault(again_or_refused(head))),
@@ -340,7 +340,7 @@ fn among_units(alloc: Global, before: u32, head: Head, pieces: &[Piece]) -> Resu
 {
     match head {
         Head::Directive(Directive::End(Block::Units)) => {
-            end(behind(behind(pieces)))?;
+            end(after_first(after_first(pieces)))?;
             Ok(RawLine::End)
         }
         _ if begins_with_unit(pieces) => match units_line(alloc, before, pieces) {
@@ -358,7 +358,7 @@ fn last_line(alloc: Global, head: Head, pieces: &[Piece]) -> Result<RawLine, Ref
 {
     match head {
         Head::Directive(Directive::Rawtry) => {
-            match handler_line(alloc, behind(pieces)) {
+            match handler_line(alloc, after_first(pieces)) {
                 Ok(handler) => Ok(RawLine::Handler(handler)),
                 Err(error) => Err(error),
             }

@@ -75,12 +75,12 @@ value_in key.Log text = if bytes_eq text (codes "yes") then Some 1 else None
 value_in k text = option_and_then (in_range k) (number_in text)
 
 -- what stands in a word behind a key
-abbrev pub behind : Key → List ℕ → Option (List ℕ)
-behind k word = if bytes_eq (take (length (key_text k)) word) (key_text k) then Some (drop (length (key_text k)) word) else None
+abbrev pub text_behind : Key → List ℕ → Option (List ℕ)
+text_behind k word = if bytes_eq (take (length (key_text k)) word) (key_text k) then Some (drop (length (key_text k)) word) else None
 
 -- the texts that words give a key, in their order
 abbrev pub texts_of : Key → List (List ℕ) → List (List ℕ)
-texts_of k words = filter_map (behind k) words
+texts_of k words = filter_map (text_behind k) words
 
 -- a key that stands once has a value, and one that doesn't stand has none; nothing else is read
 abbrev pub set_by : Key → List (List ℕ) → Option (Option ℕ)
@@ -94,7 +94,7 @@ setting k words = set_by k (texts_of k words)
 
 -- each word sets one of these keys
 abbrev pub are_of : List Key → List (List ℕ) → Bool
-are_of keys words = list_all (λ word. list_any (λ k. is_some (behind k word)) keys) words
+are_of keys words = list_all (λ word. list_any (λ k. is_some (text_behind k word)) keys) words
 
 -- ---- commands
 

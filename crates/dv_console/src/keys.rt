@@ -1,7 +1,7 @@
 // The keys of settings, and what they are set to.
 ghost use Rattle.std.specs.Prelude.{◌≡◌, ◌≢◌, ◌^◌, ◌≤◌, is_some, map, nat_lt, string_bytes, if◌then◌else◌, option_and_then, option_map, IfOk, IfSome};
 ghost use Rattle.std.specs.List.{list_any};
-ghost use Rattle.dv_console.specs.Words.{Reads, are_of, behind, greatest, key_text, least, number_in, setting, value_in};
+ghost use Rattle.dv_console.specs.Words.{Reads, are_of, text_behind, greatest, key_text, least, number_in, setting, value_in};
 
 use crate::command::WordError;
 use itoa::Buffer;
@@ -93,17 +93,17 @@ fn value(key: Key, text: &str) -> Option<u64>
 }
 
 /// What stands in a word behind a key.
-fn behind(key: Key, word: &str) -> Option<&str>
-    ensures { option_map (λ t. t.now) result ≡ behind key word.now }
+fn text_behind(key: Key, word: &str) -> Option<&str>
+    ensures { option_map (λ t. t.now) result ≡ text_behind key word.now }
 {
     word.strip_prefix(key.text())
 }
 
 /// Whether a word sets one of these keys.
 fn is_of(keys: &[Key], word: &str) -> bool
-    ensures { result ≡ list_any (λ k. is_some (behind k word.now)) keys.now }
+    ensures { result ≡ list_any (λ k. is_some (text_behind k word.now)) keys.now }
 {
-    keys.iter().any(|key| behind(*key, word).is_some())
+    keys.iter().any(|key| text_behind(*key, word).is_some())
 }
 
 /// Whether each word sets one of these keys.
@@ -125,7 +125,7 @@ pub fn setting(key: Key, words: &[String]) -> Result<Option<u64>, WordError>
 {
     let mut found = None;
     for word in words {
-        if let Some(text) = behind(key, word) {
+        if let Some(text) = text_behind(key, word) {
             if found.is_some() {
                 return Err(WordError::Usage);
             }

@@ -20,7 +20,7 @@ use Rattle.law_words.specs.StepLaws.{TopFits}
 use Rattle.dv_words.specs.Stepping.{RanLocally}
 use Rattle.dv_threads.specs.Kept.{bounds, zipped}
 use Rattle.dv_frames.specs.Tops.{head_of}
-use Rattle.dv_local.specs.Tops.{RanTop, TopBecame, TopRan}
+use Rattle.dv_local.specs.Tops.{RanTop, TopBecame, RanAtLevel}
 use Rattle.dv_core.specs.declared.guest.Guest.{Guest}
 use Rattle.law_engine.specs.KeepLaws.{is_local_level_of, thread_is_local_of}
 use Rattle.dv_core.specs.Advancing.{RanAt, running_frame, runs_in, top_frame, with_frame}
@@ -62,7 +62,7 @@ still_ordered limits old new ends objects same ordered =
 -- ---- steps of the frame on top
 
 module _ (image : Image) (most done : ℕ) (s r : WordStack) where
-  few_in : (l : Option Level) → TopRan image most done l s r → done ≤ most
+  few_in : (l : Option Level) → RanAtLevel image most done l s r → done ≤ most
   few_in None x = omega (arith, x.0)
   few_in (Some (level.Code f)) x = x.becomes.few
   few_in (Some (level.Init c b)) x = omega (arith, x.0)
@@ -70,7 +70,7 @@ module _ (image : Image) (most done : ℕ) (s r : WordStack) where
   pub ran_few : RanTop image most done s r → done ≤ most
   ran_few x = few_in (first s.levels) x
 
-  bounds_in : (l : Option Level) → TopRan image most done l s r → bounds r ≡ bounds s
+  bounds_in : (l : Option Level) → RanAtLevel image most done l s r → bounds r ≡ bounds s
   bounds_in None x = ap bounds x.1
   bounds_in (Some (level.Code f)) x = ap bounds x.only_top
   bounds_in (Some (level.Init c b)) x = ap bounds x.1
@@ -78,7 +78,7 @@ module _ (image : Image) (most done : ℕ) (s r : WordStack) where
   pub ran_bounds : RanTop image most done s r → bounds r ≡ bounds s
   ran_bounds x = bounds_in (first s.levels) x
 
-  none_in : (ls : List Level) → top_frame ls ≡ None → TopRan image most done (first ls) s r → (done ≡ 0) × (r ≡ s)
+  none_in : (ls : List Level) → top_frame ls ≡ None → RanAtLevel image most done (first ls) s r → (done ≡ 0) × (r ≡ s)
   none_in [] none x = x
   none_in (level.Code f ∷ ls) none x = absurd (cc none)
   none_in (level.Init c b ∷ ls) none x = x
@@ -123,7 +123,7 @@ module _ (ss : List WordStack) (es : List End) (os : List ℕ) (t : ℕ) (own : 
     ran_frame image most done rs ran =
         let at = ran own_stack.stack own_stack.there in
         let top : TopBecame (RanLocally image most done) f own_stack.stack at.stack =
-        subst (λ (l : Option Level). TopRan image most done l own_stack.stack at.stack) (ap first (own_stack.levels ∙ levels)) at.ran in
+        subst (λ (l : Option Level). RanAtLevel image most done l own_stack.stack at.stack) (ap first (own_stack.levels ∙ levels)) at.ran in
         record { frame = top.frame; ran = top.becomes; threads = wrote_frame top.frame rs at.stack at.set top.only_top }
 
 -- a frame is put back where another one was

@@ -14,7 +14,7 @@ use Rattle.dv_threads.specs.declared.threads.Threads.{Threads}
 use Rattle.dv_threads.specs.Kept.{AreAligned, bounds, threads_of}
 use Rattle.dv_core.specs.declared.guest.Guest.{Guest}
 use Rattle.dv_typing.specs.Statics as statics
-use Rattle.dv_core.specs.Guests.{IsSeen, Leaves, StandsAt, Stays}
+use Rattle.dv_core.specs.Guests.{IsSeen, Leaves, IsAtLevel, Stays}
 use Rattle.dv_core.specs.Machines.{counted, ended_at, machine_with}
 use Rattle.dv_core.proofs.Settled.{ended_left, left_there}
 
@@ -75,6 +75,6 @@ heap_seen i lim g k t own h seen threads classes output = record {
 }
 
 -- it stands where it stood
-pub stands_with : (own : WordThread) (h : At) (heap : WordHeap) (x : Option statics.At) → StandsAt own h x → StandsAt own (with_heap_of h heap) x
+pub stands_with : (own : WordThread) (h : At) (heap : WordHeap) (x : Option statics.At) → IsAtLevel own h x → IsAtLevel own (with_heap_of h heap) x
 stands_with own h heap None at = at
 stands_with own h heap (Some x) at = record { levels = at.levels; method = at.method; fetched = at.fetched; next = at.next }

@@ -27,7 +27,7 @@ use Rattle.dv_mem.specs.Operands.{AreOperands}
 use Rattle.dv_mem.specs.Stepping.{is_mem}
 use Rattle.dv_mem.specs.Tops.{frame_in, seen, top_frame}
 use Rattle.dv_ops.specs.Meaning.{meant}
-use Rattle.dv_local.specs.Tops.{StepsTop, TopBecame, TopStepped}
+use Rattle.dv_local.specs.Tops.{StepsTop, TopBecame, SteppedAtLevel}
 use Rattle.dv_builtin.specs.Seeing.{Does}
 use Rattle.dv_threads.specs.Kept.{AreAsBefore, IsThreadOf, LeavesThreads, bounds}
 use Rattle.dv_core.specs.declared.guest.Guest.{Guest}
@@ -151,8 +151,8 @@ module _ (i : Image) (lim : Limits) (old new : Guest) (thread : ℕ) (own : Word
 
 -- ---- a local step
 
-top_became : (i : Image) (b : Bool) (l m : Option Level) (s r : WordStack) → l ≡ m → TopStepped i b l s r → TopStepped i b m s r
-top_became i b l m s r e x = let P : Option Level → Type 0 = λ k. TopStepped i b k s r in subst P e x
+top_became : (i : Image) (b : Bool) (l m : Option Level) (s r : WordStack) → l ≡ m → SteppedAtLevel i b l s r → SteppedAtLevel i b m s r
+top_became i b l m s r e x = let P : Option Level → Type 0 = λ k. SteppedAtLevel i b k s r in subst P e x
 
 locally : (i : Image) (b : Bool) (s r : WordStack) (h : At) → IsStackOf s h → StepsTop i b s r → TopBecame (StepsLocally i b) h.frame s r
 locally i b s r h is x = top_became i b (first s.levels) (Some (level.Code h.frame)) s r (ap first is.levels) x

@@ -52,6 +52,6 @@ pub record Stays (limits : Limits) (old new : Guest) : Type 0 where
   pub ordered : IsOrdered limits new
 
 -- its top level is code at this operation, or a record
-abbrev pub StandsAt : WordThread → At → Option statics.At → Type 0
-StandsAt own h (Some x) = IsAtOp own h x
-StandsAt own h None = (c : ClassId) × (r : Bool) × (own.levels ≡ level.Init c r ∷ h.rest)
+abbrev pub IsAtLevel : WordThread → At → Option statics.At → Type 0
+IsAtLevel own h (Some x) = IsAtOp own h x
+IsAtLevel own h None = (c : ClassId) × (r : Bool) × (own.levels ≡ level.Init c r ∷ h.rest)

@@ -4,5 +4,5 @@ use Rattle.dv_typing.specs.Flow.{is_exit}
 use Rattle.dv_typing.specs.Statics.{At}
 
 -- behind a monitor-exit
-abbrev pub behind : At → Option ℕ
-behind x = if is_exit x.op then Some x.next else None
+abbrev pub behind_exit : At → Option ℕ
+behind_exit x = if is_exit x.op then Some x.next else None

@@ -2,8 +2,8 @@
 ghost use Rattle.std.specs.Prelude.{◌≡◌, ℕ, None, Ok, Option, ◌<◌, ◌-◌, ◌^◌, OnErr, OnOk, Some, length, nat_eq, slice_get, slice_set};
 ghost use Rattle.dv_words.specs.State.{WordThread};
 ghost use Rattle.dv_threads.specs.Kept.{threads_of};
-ghost use Rattle.dv_core.specs.Guests.{IsAtOp, IsOrdered, IsSeen, Leaves, StandsAt, Stays};
-ghost use Rattle.dv_core.specs.Settling.{behind};
+ghost use Rattle.dv_core.specs.Guests.{IsAtOp, IsOrdered, IsSeen, Leaves, IsAtLevel, Stays};
+ghost use Rattle.dv_core.specs.Settling.{behind_exit};
 ghost use Rattle.dv_defs.specs.declared.run.Limits.{Limits as Bounds};
 ghost use Rattle.dv_typing.specs.Flow.{is_exit};
 ghost use Rattle.dv_defs.specs.Op.{Code};
@@ -40,7 +40,7 @@ fn is_exit(op: &Op<'_>) -> bool
 
 /// The address behind a monitor-exit, where the frame on top stands at one.
 fn behind_exit(image: &Image, stack: &Stack) -> Option<u32>
-    ensures code { (own : WordThread) (h : At) (x : statics.At) → h.image ≡ image.now → IsStackOf stack.now h → IsAtOp own h x → result ≡ behind x }
+    ensures code { (own : WordThread) (h : At) (x : statics.At) → h.image ≡ image.now → IsStackOf stack.now h → IsAtOp own h x → result ≡ behind_exit x }
     ensures other { head_of (first stack.now.levels) ≡ None → result ≡ None }
 {
     let _head = stack.head()?;
@@ -64,7 +64,7 @@ fn leave_exit(image: &Image, stack: &mut Stack)
 
 /// The same of a thread's stack.
 fn leave_exit_of(image: &Image, guest: &mut Guest, thread: u32)
-    ensures { (l : Bounds) (own : WordThread) (h : At) (x : Option statics.At) → IsSeen image.now l guest.old thread own h → StandsAt own h x →
+    ensures { (l : Bounds) (own : WordThread) (h : At) (x : Option statics.At) → IsSeen image.now l guest.old thread own h → IsAtLevel own h x →
         Leaves guest.old guest.new own h (leaves h.shared (moved_on x own.levels)) }
 {
     let place = thread as usize;
@@ -143,10 +143,10 @@ impl Vm {
 
     /// A new exception flies, or the heap is full.
     fn throw(&mut self, image: &Image, thread: u32, named: Named) -> Result<(), AllocError>
-        ensures ok { (own : WordThread) (h : At) (x : Option statics.At) → IsSeen image.now self.old.limits self.old.guest thread own h → StandsAt own h x → self.old.steps < 2 ^ 64 - 1 →
+        ensures ok { (own : WordThread) (h : At) (x : Option statics.At) → IsSeen image.now self.old.limits self.old.guest thread own h → IsAtLevel own h x → self.old.steps < 2 ^ 64 - 1 →
             OnOk result (machine_of self.new ≡ thrown (machine_of self.old) thread own x (made_object image.now self.old.guest.heap named)) }
         ensures memory { OnErr result (machine_of self.new ≡ machine_of self.old) }
-        ensures ordered { (own : WordThread) (h : At) (x : Option statics.At) → IsSeen image.now self.old.limits self.old.guest thread own h → StandsAt own h x → IsOrdered self.old.limits self.new.guest }
+        ensures ordered { (own : WordThread) (h : At) (x : Option statics.At) → IsSeen image.now self.old.limits self.old.guest thread own h → IsAtLevel own h x → IsOrdered self.old.limits self.new.guest }
     {
         let made = make(image, &mut self.guest.heap, named)?;
         let Next::ThrowRef(object) = made else {
@@ -160,13 +160,13 @@ impl Vm {
 
     /// Settles the answer of a step of a living thread.
     pub fn settle(&mut self, image: &Image, thread: u32, answer: Next) -> Result<(), AllocError>
-        ensures ok { (g : Before) (own : WordThread) (h : At) (x : Option statics.At) (d : Did Left) → IsSeen image.now self.old.limits g thread own h → StandsAt own h x → self.old.steps < 2 ^ 64 - 1 →
+        ensures ok { (g : Before) (own : WordThread) (h : At) (x : Option statics.At) (d : Did Left) → IsSeen image.now self.old.limits g thread own h → IsAtLevel own h x → self.old.steps < 2 ^ 64 - 1 →
             Leads {E = AllocError} (Ok answer) d (Leaves g self.old.guest own h) (Stays self.old.limits g self.old.guest) →
             OnOk result (machine_of self.new ≡ settled image.now (machine_with g self.old.steps self.old.stop self.old.limits) thread own x d) }
-        ensures memory { (g : Before) (own : WordThread) (h : At) (x : Option statics.At) (d : Did Left) → IsSeen image.now self.old.limits g thread own h → StandsAt own h x → self.old.steps < 2 ^ 64 - 1 →
+        ensures memory { (g : Before) (own : WordThread) (h : At) (x : Option statics.At) (d : Did Left) → IsSeen image.now self.old.limits g thread own h → IsAtLevel own h x → self.old.steps < 2 ^ 64 - 1 →
             Leads {E = AllocError} (Ok answer) d (Leaves g self.old.guest own h) (Stays self.old.limits g self.old.guest) →
             OnErr result (machine_of self.new ≡ machine_with g self.old.steps self.old.stop self.old.limits) }
-        ensures ordered { (g : Before) (own : WordThread) (h : At) (x : Option statics.At) (d : Did Left) → IsSeen image.now self.old.limits g thread own h → StandsAt own h x →
+        ensures ordered { (g : Before) (own : WordThread) (h : At) (x : Option statics.At) (d : Did Left) → IsSeen image.now self.old.limits g thread own h → IsAtLevel own h x →
             Leads {E = AllocError} (Ok answer) d (Leaves g self.old.guest own h) (Stays self.old.limits g self.old.guest) → IsOrdered self.old.limits self.new.guest }
     {
         match answer {

@@ -26,7 +26,7 @@ ghost use Rattle.law_words.specs.StepLaws.{CallFits};
 ghost use Rattle.dv_words.specs.Steps.{At};
 ghost use Rattle.dv_words.specs.Threads as threads;
 ghost use Rattle.dv_threads.specs.Kept.{AreAligned, threads_of};
-ghost use Rattle.dv_call.specs.Landings.{IsNumbered, IsOwn, IsSeen, first_of, landed_of};
+ghost use Rattle.dv_call.specs.Landings.{IsNumbered, IsOwn, IsSeenByCalls, first_of, landed_of};
 ghost use Rattle.dv_core.specs.Machines.{machine_of, machine_with};
 ghost use Rattle.dv_core.specs.Opcodes.{may_hold_up};
 ghost use Rattle.dv_core.specs.Watching.{AreNumbered, AreWatchable, IsTopWatched, IsWatched, alive_in, blocked_landed as landed_blocked};
@@ -187,7 +187,7 @@ fn blocked_invoke(
     regs: &Regs,
     method: Method<'_>,
 ) -> Option<Blocked>
-    ensures { (s : ℕ) (e : Maybe Ending) (l : Limits) (h : At) → AreNumbered guest.now → FindsRightly image.now → IsSeen image.now guest.now.heap stack.now h → IsOwn h → IsNumbered image.now (method_of method.entry) →
+    ensures { (s : ℕ) (e : Maybe Ending) (l : Limits) (h : At) → AreNumbered guest.now → FindsRightly image.now → IsSeenByCalls image.now guest.now.heap stack.now h → IsOwn h → IsNumbered image.now (method_of method.entry) →
         result ≡ steps.blocked_receiver image.now (machine_with guest.now s e l) thread h.own h.frame (standard_call call) (method_of method.entry)
         (receiver_of (ops.Invoke (standard_call call) (named_registers regs.now) (method_of method.entry))) }
 {
@@ -207,7 +207,7 @@ fn blocked_op(
     thread: u32,
     op: &Op<'_>,
 ) -> Option<Blocked>
-    ensures { (s : ℕ) (e : Maybe Ending) (l : Limits) (h : At) (code : Code) (at : ℕ) → AreNumbered guest.now → FindsRightly image.now → IsSeen image.now guest.now.heap stack.now h → IsOwn h → CallFits image.now (meant code at op.now) →
+    ensures { (s : ℕ) (e : Maybe Ending) (l : Limits) (h : At) (code : Code) (at : ℕ) → AreNumbered guest.now → FindsRightly image.now → IsSeenByCalls image.now guest.now.heap stack.now h → IsOwn h → CallFits image.now (meant code at op.now) →
         result ≡ steps.blocked_op image.now (machine_with guest.now s e l) thread h.own h.frame (meant code at op.now) }
 {
     match op {
@@ -231,7 +231,7 @@ fn blocked_needing(
     thread: u32,
     op: &Op<'_>,
 ) -> Option<Blocked>
-    ensures { (s : ℕ) (e : Maybe Ending) (l : Limits) (h : At) (code : Code) (at : ℕ) → AreNumbered guest.now → FindsRightly image.now → IsSeen image.now guest.now.heap stack.now h → IsOwn h → CallFits image.now (meant code at op.now) →
+    ensures { (s : ℕ) (e : Maybe Ending) (l : Limits) (h : At) (code : Code) (at : ℕ) → AreNumbered guest.now → FindsRightly image.now → IsSeenByCalls image.now guest.now.heap stack.now h → IsOwn h → CallFits image.now (meant code at op.now) →
         result ≡ steps.blocked_needing image.now (machine_with guest.now s e l) thread h.own h.frame (meant code at op.now) (ops.needs (meant code at op.now)) }
 {
     let Some(class) = needs(op) else {

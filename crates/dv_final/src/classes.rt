@@ -25,7 +25,7 @@ pub fn name_at(image: &Image, class: ClassId) -> &[u8]
 
 /// The descriptor of an object's class, of an array the one of its elements' class; nothing where these are of no class. What isn't there is
 /// an Object.
-pub fn class_of<'a>(image: &'a Image, heap: &'a Heap, object: u32) -> &'a [u8]
+pub fn class_name_of<'a>(image: &'a Image, heap: &'a Heap, object: u32) -> &'a [u8]
     ensures { result.now ≡ class_bytes (type_of image.now heap.now object).base }
 {
     if !heap.exists(object) {

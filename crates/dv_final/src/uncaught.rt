@@ -3,7 +3,7 @@ ghost use Rattle.std.specs.Prelude.{◌≡◌, ◌++◌, OnOk};
 ghost use Rattle.dv_threads.specs.Kept.{AreAligned, threads_of};
 ghost use Rattle.dv_final.specs.Final.{uncaught, uncaught_by_ends, uncaught_line};
 
-use crate::classes::class_of;
+use crate::classes::class_name_of;
 use crate::messages::add_message;
 use dv_defs::{End, Image};
 use dv_heap::Heap;
@@ -22,7 +22,7 @@ fn add_line(
 ) -> Result<(), AllocError>
     ensures { OnOk result (text.new.items ≡ text.old.items ++ uncaught_line image.now heap.now thread (End.Died exception)) }
 {
-    let class = java_text(*text.allocator(), class_of(image, heap, exception))?;
+    let class = java_text(*text.allocator(), class_name_of(image, heap, exception))?;
     text.extend_from_slice(b"#uncaught ")?;
     text.extend_from_slice(Buffer::new().format(thread).as_bytes())?;
     text.push(b' ')?;

@@ -18,7 +18,7 @@ use Rattle.dv_defs.specs.declared.names.FieldRef.{FieldRef}
 use Rattle.dv_defs.specs.declared.names.MethodRef.{MethodRef}
 use Rattle.dv_names.specs.Descriptors.{base_text, descriptor, return_text, prototype, is_name, is_name_byte, is_plain_name, is_special_name, IsClassName, IsBase, IsType, IsProto}
 use Rattle.dv_names.specs.Written.{field_text, method_text}
-use Rattle.dv_lex.specs.Bytes.{class_of, is_plain}
+use Rattle.dv_lex.specs.Bytes.{byte_class, is_plain}
 use Rattle.dv_lex.specs.Laws.Names.{IsWord, IsFieldRef, IsMethodRef}
 
 abbrev pub all_plain : List ℕ → Bool
@@ -27,7 +27,7 @@ all_plain w = list_all is_plain w
 -- ---- bytes
 
 name_byte_plain : (b : ℕ) → is_name_byte b ≡ true → is_plain b ≡ true
-unfolding class_of
+unfolding byte_class
 name_byte_plain b e = grind (arith, nat_tests)
 
 plain_append : (u w : List ℕ) → all_plain u ≡ true → all_plain w ≡ true → all_plain (u ++ w) ≡ true
@@ -43,19 +43,19 @@ plain_name_bytes (b ∷ w) e = let p = and_parts _ _ e in and_from _ _ (name_byt
 
 -- the bytes that stand between names
 bracket_plain : is_plain 91 ≡ true
-unfolding class_of
+unfolding byte_class
 bracket_plain = refl
 
 slash_plain : is_plain 47 ≡ true
-unfolding class_of
+unfolding byte_class
 slash_plain = refl
 
 text_plain : (all_plain (codes "L") ≡ true) × (all_plain (codes ";") ≡ true) × (all_plain (codes "(") ≡ true) × (all_plain (codes ")") ≡ true) × (all_plain (codes ":") ≡ true) × (all_plain (codes "->") ≡ true)
-unfolding class_of
+unfolding byte_class
 text_plain = (refl, refl, refl, refl, refl, refl)
 
 special_plain : (all_plain (codes "<init>") ≡ true) × (all_plain (codes "<clinit>") ≡ true)
-unfolding class_of
+unfolding byte_class
 special_plain = (refl, refl)
 
 -- ---- names
@@ -80,7 +80,7 @@ name_word w e =
     ]
 
 pub label_word : (name : List ℕ) → IsTrue (is_name name) → IsWord (58 ∷ name)
-unfolding class_of
+unfolding byte_class
 label_word name e = let w = name_word name e in (omega arith, and_from _ _ refl w.1)
 
 -- ---- types
@@ -101,7 +101,7 @@ class_word : (w : List ℕ) → IsClassName w → IsWord w
 class_word w c = (rw c.spelled (omega arith), class_plain w c)
 
 base_word : (b : Base) → IsBase b → IsWord (base_text b)
-unfolding class_of
+unfolding byte_class
 base_word base.Z h = (lit< tt, refl)
 base_word base.B h = (lit< tt, refl)
 base_word base.C h = (lit< tt, refl)
@@ -123,7 +123,7 @@ parameters_plain (t ∷ ts) all =
     plain_append (descriptor t) (flat_map descriptor ts) (type_word t (All-head IsType t ts all)).1 (parameters_plain ts (All-tail IsType t ts all))
 
 return_plain : (r : Option Ty) → IfSome r IsType → all_plain (return_text r) ≡ true
-unfolding class_of
+unfolding byte_class
 return_plain None h = refl
 return_plain (Some t) h = (type_word t h).1
 

@@ -10,7 +10,7 @@ use Rattle.dv_lex.specs.declared.bytes.Class.{Class}
 use Rattle.dv_lex.specs.declared.bytes.Class.TheVariants as class
 use Rattle.dv_lex.specs.declared.token.TokenKind.{TokenKind}
 use Rattle.dv_lex.specs.declared.token.TokenKind.TheVariants.{Mark, Word}
-use Rattle.dv_lex.specs.Bytes.{begins_with_four, class_of, is_plain, is_plain_class, is_control, is_escape, escape_length, units_begun}
+use Rattle.dv_lex.specs.Bytes.{begins_with_four, byte_class, is_plain, is_plain_class, is_control, is_escape, escape_length, units_begun}
 use Rattle.dv_lex.specs.Lexemes.{Lexeme, Lexemes, lexemes, put, glue, word, begins_plain, literal_kind, lacks_one_unit, a_mark, closed, Outside, In}
 
 abbrev pub between : ℕ → ℕ → List ℕ → List ℕ
@@ -48,27 +48,27 @@ plain_is class.Quote e = absurd cc
 plain_is class.Control e = absurd cc
 plain_is class.Plain e = refl
 
-pub outside_plain : (at b : ℕ) (bs : List ℕ) → class_of b ≡ class.Plain → lexemes at Outside (b ∷ bs) ≡ word at (b ∷ []) bs (lexemes (at + 1) Outside bs)
+pub outside_plain : (at b : ℕ) (bs : List ℕ) → byte_class b ≡ class.Plain → lexemes at Outside (b ∷ bs) ≡ word at (b ∷ []) bs (lexemes (at + 1) Outside bs)
 unfolding lexemes
 outside_plain at b bs e = rw e refl
 
-pub outside_quote : (at b : ℕ) (bs : List ℕ) → class_of b ≡ class.Quote → lexemes at Outside (b ∷ bs) ≡ glue at (b ∷ []) (lexemes (at + 1) (In b 0 0) bs)
+pub outside_quote : (at b : ℕ) (bs : List ℕ) → byte_class b ≡ class.Quote → lexemes at Outside (b ∷ bs) ≡ glue at (b ∷ []) (lexemes (at + 1) (In b 0 0) bs)
 unfolding lexemes
 outside_quote at b bs e = rw e refl
 
-pub outside_mark : (at b : ℕ) (bs : List ℕ) → class_of b ≡ class.Mark → lexemes at Outside (b ∷ bs) ≡ put (a_mark at b) (lexemes (at + 1) Outside bs)
+pub outside_mark : (at b : ℕ) (bs : List ℕ) → byte_class b ≡ class.Mark → lexemes at Outside (b ∷ bs) ≡ put (a_mark at b) (lexemes (at + 1) Outside bs)
 unfolding lexemes
 outside_mark at b bs e = rw e refl
 
-pub outside_blank : (at b : ℕ) (bs : List ℕ) → class_of b ≡ class.Blank → lexemes at Outside (b ∷ bs) ≡ lexemes (at + 1) Outside bs
+pub outside_blank : (at b : ℕ) (bs : List ℕ) → byte_class b ≡ class.Blank → lexemes at Outside (b ∷ bs) ≡ lexemes (at + 1) Outside bs
 unfolding lexemes
 outside_blank at b bs e = rw e refl
 
-pub outside_hash : (at b : ℕ) (bs : List ℕ) → class_of b ≡ class.Hash → lexemes at Outside (b ∷ bs) ≡ Ok []
+pub outside_hash : (at b : ℕ) (bs : List ℕ) → byte_class b ≡ class.Hash → lexemes at Outside (b ∷ bs) ≡ Ok []
 unfolding lexemes
 outside_hash at b bs e = rw e refl
 
-pub outside_control : (at b : ℕ) (bs : List ℕ) → class_of b ≡ class.Control → lexemes at Outside (b ∷ bs) ≡ Err BadToken
+pub outside_control : (at b : ℕ) (bs : List ℕ) → byte_class b ≡ class.Control → lexemes at Outside (b ∷ bs) ≡ Err BadToken
 unfolding lexemes
 outside_control at b bs e = rw e refl
 
@@ -108,15 +108,15 @@ in_more at q n b bs e f g = rw (e, f, g) refl
 
 -- ---- words, by places
 
-word_more : (from at b : ℕ) (w bs : List ℕ) → class_of b ≡ class.Plain → word from w (b ∷ bs) (lexemes at Outside (b ∷ bs)) ≡ word from (w ++ b ∷ []) bs (lexemes (at + 1) Outside bs)
+word_more : (from at b : ℕ) (w bs : List ℕ) → byte_class b ≡ class.Plain → word from w (b ∷ bs) (lexemes at Outside (b ∷ bs)) ≡ word from (w ++ b ∷ []) bs (lexemes (at + 1) Outside bs)
 word_more from at b w bs e = rw (outside_plain at b bs e, e) (glue_word (begins_plain bs) from at w (b ∷ []) (lexemes (at + 1) Outside bs))
 
-pub word_begins : (line : List ℕ) (start : ℕ) → start < length line → class_of (get_or line start 0) ≡ class.Plain
+pub word_begins : (line : List ℕ) (start : ℕ) → start < length line → byte_class (get_or line start 0) ≡ class.Plain
     → lexemes start Outside (drop start line) ≡ word start (between start (start + 1) line) (drop (start + 1) line) (lexemes (start + 1) Outside (drop (start + 1) line))
 word_begins line start lt e =
     rw (between_more line start start 0 (omega arith) lt, between_none line start, drop_more line start 0 lt) (outside_plain start (get_or line start 0) (drop (start + 1) line) e)
 
-pub word_goes_on : (line : List ℕ) (start at : ℕ) → start ≤ at → at < length line → class_of (get_or line at 0) ≡ class.Plain
+pub word_goes_on : (line : List ℕ) (start at : ℕ) → start ≤ at → at < length line → byte_class (get_or line at 0) ≡ class.Plain
     → word start (between start at line) (drop at line) (lexemes at Outside (drop at line))
     ≡ word start (between start (at + 1) line) (drop (at + 1) line) (lexemes (at + 1) Outside (drop (at + 1) line))
 word_goes_on line start at le lt e =
@@ -144,7 +144,7 @@ begun_few b = begun_by _ _ _
 abbrev pub literal_from : List ℕ → ℕ → ℕ → ℕ → ℕ → ℕ → Lexemes
 literal_from line start at q k n = glue start (between start at line) (lexemes at (In q k n) (drop at line))
 
-pub literal_begins : (line : List ℕ) (start : ℕ) → start < length line → class_of (get_or line start 0) ≡ class.Quote
+pub literal_begins : (line : List ℕ) (start : ℕ) → start < length line → byte_class (get_or line start 0) ≡ class.Quote
     → lexemes start Outside (drop start line) ≡ literal_from line start (start + 1) (get_or line start 0) 0 0
 literal_begins line start lt e =
     rw (between_more line start start 0 (omega arith) lt, between_none line start, drop_more line start 0 lt) (outside_quote start (get_or line start 0) (drop (start + 1) line) e)
@@ -226,19 +226,19 @@ literal_open line start at q n le = rw (at_drop_all (λ xs. lexemes at (In q 0 n
 pub tail_is : (xs : List ℕ) (i : ℕ) → slice_range xs i (length xs) ≡ drop i xs
 tail_is xs i = between_to_end xs i (length xs) (omega arith)
 
-pub mark_at : (line : List ℕ) (start : ℕ) → start < length line → class_of (get_or line start 0) ≡ class.Mark
+pub mark_at : (line : List ℕ) (start : ℕ) → start < length line → byte_class (get_or line start 0) ≡ class.Mark
     → lexemes start Outside (drop start line) ≡ put (lexeme Mark start (between start (start + 1) line)) (lexemes (start + 1) Outside (drop (start + 1) line))
 mark_at line start lt e =
     rw (between_more line start start 0 (omega arith) lt, between_none line start, drop_more line start 0 lt) (outside_mark start (get_or line start 0) (drop (start + 1) line) e)
 
-pub blank_at : (line : List ℕ) (at : ℕ) → at < length line → class_of (get_or line at 0) ≡ class.Blank
+pub blank_at : (line : List ℕ) (at : ℕ) → at < length line → byte_class (get_or line at 0) ≡ class.Blank
     → lexemes at Outside (drop at line) ≡ lexemes (at + 1) Outside (drop (at + 1) line)
 blank_at line at lt e = at_drop_more (lexemes at Outside) line at 0 lt ∙ outside_blank at _ _ e
 
-pub hash_at : (line : List ℕ) (at : ℕ) → at < length line → class_of (get_or line at 0) ≡ class.Hash → lexemes at Outside (drop at line) ≡ Ok []
+pub hash_at : (line : List ℕ) (at : ℕ) → at < length line → byte_class (get_or line at 0) ≡ class.Hash → lexemes at Outside (drop at line) ≡ Ok []
 hash_at line at lt e = at_drop_more (lexemes at Outside) line at 0 lt ∙ outside_hash at _ _ e
 
-pub control_at : (line : List ℕ) (at : ℕ) → at < length line → class_of (get_or line at 0) ≡ class.Control → lexemes at Outside (drop at line) ≡ Err BadToken
+pub control_at : (line : List ℕ) (at : ℕ) → at < length line → byte_class (get_or line at 0) ≡ class.Control → lexemes at Outside (drop at line) ≡ Err BadToken
 control_at line at lt e = at_drop_more (lexemes at Outside) line at 0 lt ∙ outside_control at _ _ e
 
 pub outside_none : (line : List ℕ) (at : ℕ) → length line ≤ at → lexemes at Outside (drop at line) ≡ Ok []

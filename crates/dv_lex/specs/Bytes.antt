@@ -4,8 +4,8 @@ use Rattle.dv_lex.specs.declared.bytes.Class.{Class}
 use Rattle.dv_lex.specs.declared.bytes.Class.TheVariants.{Blank, Hash, Mark, Quote, Control, Plain}
 
 -- a blank or a tab; a hash; a brace, a comma or an equals sign; a quote of either kind; any other character below U+0020; any other byte
-unfoldable pub class_of : ℕ → Class
-class_of b =
+unfoldable pub byte_class : ℕ → Class
+byte_class b =
     if (b == 32) || (b == 9) then Blank
     else if b == 35 then Hash
     else if (b == 123) || (b == 125) || (b == 44) || (b == 61) then Mark
@@ -31,11 +31,11 @@ is_control_class Plain = false
 
 -- a byte of a word
 abbrev pub is_plain : ℕ → Bool
-is_plain b = is_plain_class (class_of b)
+is_plain b = is_plain_class (byte_class b)
 
 -- a control character other than a tab
 abbrev pub is_control : ℕ → Bool
-is_control b = is_control_class (class_of b)
+is_control b = is_control_class (byte_class b)
 
 -- a hexadecimal digit of either case
 abbrev pub is_hexadecimal : ℕ → Bool

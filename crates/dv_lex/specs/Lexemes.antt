@@ -6,7 +6,7 @@ use Rattle.dv_lex.specs.declared.bytes.Class.{Class}
 use Rattle.dv_lex.specs.declared.bytes.Class.TheVariants as class
 use Rattle.dv_lex.specs.declared.token.TokenKind.{TokenKind}
 use Rattle.dv_lex.specs.declared.token.TokenKind.TheVariants.{Str, Char, Mark, Word}
-use Rattle.dv_lex.specs.Bytes.{class_of, is_plain, is_control, is_escape, escape_length, units_begun}
+use Rattle.dv_lex.specs.Bytes.{byte_class, is_plain, is_control, is_escape, escape_length, units_begun}
 
 -- a token with its text, and with its place in the whole text
 pub record Lexeme : Type 0 where
@@ -67,7 +67,7 @@ outside class.Plain at b bs rest literal = word at (b ∷ []) bs rest
 -- the lexemes of bytes that stand at this place, or the first fault
 unfoldable pub lexemes : ℕ → Mode → List ℕ → Lexemes
 lexemes at Outside [] = Ok []
-lexemes at Outside (b ∷ bs) = outside (class_of b) at b bs (lexemes (at + 1) Outside bs) (lexemes (at + 1) (In b 0 0) bs)
+lexemes at Outside (b ∷ bs) = outside (byte_class b) at b bs (lexemes (at + 1) Outside bs) (lexemes (at + 1) (In b 0 0) bs)
 lexemes at (In q k n) [] = Err BadToken
 lexemes at (In q (suc k) n) (b ∷ bs) = glue at (b ∷ []) (lexemes (at + 1) (In q k n) bs)
 lexemes at (In q zero n) (b ∷ bs) =

@@ -1,6 +1,6 @@
 // What a byte of a line is to the cutting of tokens.
 ghost use Rattle.std.specs.Prelude.{◌≡◌};
-ghost use Rattle.dv_lex.specs.Bytes.{class_of, is_plain, is_control, is_hexadecimal, is_escape, escape_length, units_begun};
+ghost use Rattle.dv_lex.specs.Bytes.{byte_class, is_plain, is_control, is_hexadecimal, is_escape, escape_length, units_begun};
 
 /// What a byte is between tokens.
 #[derive(Clone, Copy, PartialEq, Eq, Debug)]
@@ -13,9 +13,9 @@ pub enum Class {
     Plain,
 }
 
-#[tactic(auto, unfolding(crate::specs::Bytes::class_of))]
-pub fn class_of(byte: u8) -> Class
-    ensures { result ≡ class_of byte }
+#[tactic(auto, unfolding(crate::specs::Bytes::byte_class))]
+pub fn byte_class(byte: u8) -> Class
+    ensures { result ≡ byte_class byte }
 {
     match byte {
         b' ' | b'\t' => Class::Blank,
@@ -31,14 +31,14 @@ pub fn class_of(byte: u8) -> Class
 pub fn is_plain(byte: u8) -> bool
     ensures { result ≡ is_plain byte }
 {
-    matches!(class_of(byte), Class::Plain)
+    matches!(byte_class(byte), Class::Plain)
 }
 
 /// Whether the byte is a control character other than a tab.
 pub fn is_control(byte: u8) -> bool
     ensures { result ≡ is_control byte }
 {
-    matches!(class_of(byte), Class::Control)
+    matches!(byte_class(byte), Class::Control)
 }
 
 pub fn is_hexadecimal(byte: u8) -> bool

@@ -3,11 +3,11 @@ ghost use Rattle.std.specs.Prelude.{◌≡◌, ◌≤◌, ◌<◌, ◌≢◌, le
 ghost use Rattle.std.specs.List.{All};
 ghost use Rattle.dv_lex.specs.declared.bytes.Class.TheVariants as class;
 ghost use Rattle.dv_lex.specs.declared.token.TokenKind.TheVariants as kind;
-ghost use Rattle.dv_lex.specs.Bytes.{class_of};
+ghost use Rattle.dv_lex.specs.Bytes.{byte_class};
 ghost use Rattle.dv_lex.specs.Lexemes.{lacks_one_unit, lexemes, literal_kind, Cuts, Outside};
 ghost use Rattle.dv_lex.specs.Lines.{lexemes_in, Finds, Takes, IsInside};
 
-use crate::bytes::{Class, class_of, escape_length, is_control, is_escape, is_plain, units_begun};
+use crate::bytes::{Class, byte_class, escape_length, is_control, is_escape, is_plain, units_begun};
 use dv_defs::LineKind;
 use std::alloc::{AllocError, Global};
 
@@ -45,7 +45,7 @@ impl Token {
 /// Where the word that begins at `start` ends.
 fn word_end(line: &[u8], start: usize) -> usize
     requires inside { start < length line.now }
-    requires word { class_of (slice_index line.now start) ≡ class.Plain }
+    requires word { byte_class (slice_index line.now start) ≡ class.Plain }
     ensures { Cuts kind.Word line.now start (Ok result) }
 {
     let mut at = start + 1;
@@ -65,7 +65,7 @@ fn lacks_one_unit(quote: u8, units: usize) -> bool
 /// Where the literal that begins with the quote at `start` ends.
 fn literal_end(line: &[u8], start: usize) -> Result<usize, LineKind>
     requires inside { start < length line.now }
-    requires literal { class_of (slice_index line.now start) ≡ class.Quote }
+    requires literal { byte_class (slice_index line.now start) ≡ class.Quote }
     ensures { Cuts (literal_kind (slice_index line.now start)) line.now start result }
 {
     let quote = line[start];
@@ -111,12 +111,12 @@ fn literal_kind(quote: u8) -> TokenKind
 /// The token that begins at `start`.
 fn token_at(line: &[u8], start: usize) -> Result<Token, LineKind>
     requires inside { start < length line.now }
-    requires not_blank { class_of (slice_index line.now start) ≢ class.Blank }
-    requires not_hash { class_of (slice_index line.now start) ≢ class.Hash }
+    requires not_blank { byte_class (slice_index line.now start) ≢ class.Blank }
+    requires not_hash { byte_class (slice_index line.now start) ≢ class.Hash }
     ensures { Takes line.now start result }
 {
     let first = line[start];
-    let (kind, end) = match class_of(first) {
+    let (kind, end) = match byte_class(first) {
         Class::Mark => (TokenKind::Mark, start + 1),
         Class::Quote => (literal_kind(first), literal_end(line, start)?),
         Class::Plain => (TokenKind::Word, word_end(line, start)),
@@ -139,7 +139,7 @@ pub fn tokens_from(
     let mut tokens = Vec::new(alloc);
     let mut at = start;
     while at < line.len() {
-        match class_of(line[at]) {
+        match byte_class(line[at]) {
             Class::Blank => at += 1,
             Class::Hash => return Ok(Ok(tokens)),
             _ => match token_at(line, at) {

@@ -19,7 +19,7 @@ use Rattle.dv_coderead.specs.declared.head.Head.{Head}
 use Rattle.dv_coderead.specs.declared.head.Head.TheVariants as head
 use Rattle.dv_coderead.specs.Giving.{◌>>=◌}
 use Rattle.dv_coderead.specs.Heads.{head_of}
-use Rattle.dv_coderead.specs.Operands.{Part, alone, and_behind, behind, ended, word_at}
+use Rattle.dv_coderead.specs.Operands.{Part, alone, and_behind, after_first, ended, word_at}
 use Rattle.dv_coderead.specs.Pieces.{Piece, AWord, AMark, AString, ACharacter}
 use Rattle.dv_coderead.specs.References.{base_of, brackets, class_in, is_class_type, only_class, type_in, type_of, unless_refused}
 use Rattle.dv_coderead.specs.Words.{fitting, number_in}
@@ -226,7 +226,7 @@ directive_sound standing.Outside n d ps = tt
 directive_sound (standing.Inside is_object has_super) n d ps = inside_sound is_object has_super d ps
 
 head_sound : (s : Standing) (n : ℕ) (h : Head) (ps : List Piece) → IfOk (by_head s n h ps) IsSound
-head_sound s n (head.Directive d) ps = directive_sound s n d (behind ps)
+head_sound s n (head.Directive d) ps = directive_sound s n d (after_first ps)
 head_sound s n h ps = tt
 
 pub line_sound : (s : Standing) (n : ℕ) (ps : List Piece) → IfOk (class_line s n ps) IsSound

@@ -13,7 +13,7 @@ use Rattle.dv_coderead.specs.Bodies.{number_behind}
 use Rattle.dv_coderead.specs.Giving.{◌>>>◌, on_line}
 use Rattle.dv_coderead.specs.Heads.{head_of}
 use Rattle.dv_coderead.specs.Kept.{TextLine, kept, line_of}
-use Rattle.dv_coderead.specs.Operands.{behind, ended}
+use Rattle.dv_coderead.specs.Operands.{after_first, ended}
 use Rattle.dv_classread.specs.declared.class_line.ClassLine.{ClassLine}
 use Rattle.dv_classread.specs.declared.class_line.ClassLine.TheVariants as line
 use Rattle.dv_classread.specs.declared.class_line.Signature.{Signature}
@@ -77,7 +77,7 @@ added_sound (line.Field f) rest is are = more_sound (Says (line.Field f)) rest i
 method_sound : (sig : Signature) (before : List TextLine) (l : TextLine) (rest : Result (List Told) Stop) → TellsSound rest → TellsSound (method_ended sig before l rest)
 method_sound sig before l rest are =
     then_any AreSound (method_body sig l.number before) _ (λ b.
-    then_any AreSound (on_line l.number (ended (behind (behind l.pieces)))) _ (λ _.
+    then_any AreSound (on_line l.number (ended (after_first (after_first l.pieces)))) _ (λ _.
     more_sound (Method (record { signature = sig; body = b })) rest tt are))
 
 told_sound : (end : Option Stop) (past : ℕ) (spot : Spot) (ls : List TextLine) → TellsSound (told_from end past spot ls)

@@ -14,7 +14,7 @@ use Rattle.dv_words.specs.State.{WordStack}
 use Rattle.dv_frames.specs.declared.heads.Head.{Head}
 use Rattle.dv_frames.specs.Heads.{head_in}
 use Rattle.dv_frames.specs.Tops.{head_of}
-use Rattle.dv_local.specs.Tops.{RanTop, StepsTop, TopRan, TopStepped}
+use Rattle.dv_local.specs.Tops.{RanTop, StepsTop, RanAtLevel, SteppedAtLevel}
 
 nothing_fetched : (image : Image) (n at : ℕ) (x : At) → code_at image n ≡ None → fetch image n at ≡ Some x → ⊥
 unfolding fetch
@@ -54,7 +54,7 @@ module _ (image : Image) (s : WordStack) (h : Head) (none : code_at image h.meth
   no_code : (f : Frame) → (let o : Option Head = Some (head_in f) in o) ≡ Some h → code_at image f.method.0 ≡ None
   no_code f e = sym (ap (λ (m : MethodId). code_at image m.0) (method_of f h e)) ∙ none
 
-  stepped_top : (o : Option Level) → first s.levels ≡ o → head_of o ≡ Some h → TopStepped image false o s s
+  stepped_top : (o : Option Level) → first s.levels ≡ o → head_of o ≡ Some h → SteppedAtLevel image false o s s
   stepped_top None e d = absurd (cc d)
   stepped_top (Some (level.Init c r)) e d = absurd (cc d)
   stepped_top (Some (level.Code f)) e d = record { frame = f; becomes = no_step image f (no_code f d); only_top = kept s s.levels f refl e }
@@ -62,7 +62,7 @@ module _ (image : Image) (s : WordStack) (h : Head) (none : code_at image h.meth
   pub no_step_top : head_of (first s.levels) ≡ Some h → StepsTop image false s s
   no_step_top d = stepped_top (first s.levels) refl d
 
-  ran_top : (most : ℕ) (o : Option Level) → first s.levels ≡ o → head_of o ≡ Some h → TopRan image most 0 o s s
+  ran_top : (most : ℕ) (o : Option Level) → first s.levels ≡ o → head_of o ≡ Some h → RanAtLevel image most 0 o s s
   ran_top most None e d = absurd (cc d)
   ran_top most (Some (level.Init c r)) e d = absurd (cc d)
   ran_top most (Some (level.Code f)) e d = record { frame = f; becomes = no_run image most f (no_code f d); only_top = kept s s.levels f refl e }

@@ -15,17 +15,17 @@ pub record TopBecame (Becomes : Frame → Frame → Type 0) (s : Frame) (old new
   pub only_top : new ≡ changed (λ f. frame) old
 
 -- a step of the frame on top; where that isn't code, nothing is done
-abbrev pub TopStepped : Image → Bool → Option Level → WordStack → WordStack → Type 0
-TopStepped image done (Some (level.Code s)) old new = TopBecame (StepsLocally image done) s old new
-TopStepped image done l old new = (done ≡ false) × (new ≡ old)
+abbrev pub SteppedAtLevel : Image → Bool → Option Level → WordStack → WordStack → Type 0
+SteppedAtLevel image done (Some (level.Code s)) old new = TopBecame (StepsLocally image done) s old new
+SteppedAtLevel image done l old new = (done ≡ false) × (new ≡ old)
 
 abbrev pub StepsTop : Image → Bool → WordStack → WordStack → Type 0
-StepsTop image done old new = TopStepped image done (first old.levels) old new
+StepsTop image done old new = SteppedAtLevel image done (first old.levels) old new
 
 -- so many steps of the frame on top, at most so many
-abbrev pub TopRan : Image → ℕ → ℕ → Option Level → WordStack → WordStack → Type 0
-TopRan image most done (Some (level.Code s)) old new = TopBecame (RanLocally image most done) s old new
-TopRan image most done l old new = (done ≡ 0) × (new ≡ old)
+abbrev pub RanAtLevel : Image → ℕ → ℕ → Option Level → WordStack → WordStack → Type 0
+RanAtLevel image most done (Some (level.Code s)) old new = TopBecame (RanLocally image most done) s old new
+RanAtLevel image most done l old new = (done ≡ 0) × (new ≡ old)
 
 abbrev pub RanTop : Image → ℕ → ℕ → WordStack → WordStack → Type 0
-RanTop image most done old new = TopRan image most done (first old.levels) old new
+RanTop image most done old new = RanAtLevel image most done (first old.levels) old new

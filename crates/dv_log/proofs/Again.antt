@@ -14,7 +14,7 @@ use Rattle.std.proofs.lemmas.Str.{IsUtf8-append, IsUtf8-from_ascii, is_utf8-from
 use Rattle.dv_defs.specs.declared.run.Entry.{Entry}
 use Rattle.dv_lex.specs.declared.bytes.Class.TheVariants as class
 use Rattle.dv_lex.specs.declared.token.TokenKind.TheVariants.{Word}
-use Rattle.dv_lex.specs.Bytes.{class_of, is_plain}
+use Rattle.dv_lex.specs.Bytes.{byte_class, is_plain}
 use Rattle.dv_lex.specs.Lexemes.{lexemes, put, begins_plain, Outside}
 use Rattle.dv_lex.specs.Laws.Lines.{is_printed}
 use Rattle.dv_lex.specs.Numbers.{Number, Spells, signed}
@@ -44,11 +44,11 @@ plain v small = let n = spelled v small in number_is_word (decimal v) (n.0, n.1)
 -- ---- a line
 
 blank_stops : (rest : List ℕ) → begins_plain (32 ∷ rest) ≡ false
-unfolding class_of
+unfolding byte_class
 blank_stops rest = refl
 
-blank_is : class_of 32 ≡ class.Blank
-unfolding class_of
+blank_is : byte_class 32 ≡ class.Blank
+unfolding byte_class
 blank_is = refl
 
 -- a number before a blank, and one at the end
@@ -103,7 +103,7 @@ entry_again e h =
 -- ---- all lines
 
 plain_printed : (b : ℕ) → is_plain b ≡ true → is_printed b ≡ true
-unfolding class_of
+unfolding byte_class
 plain_printed b e = grind (arith, nat_tests)
 
 words_printed : (w : List ℕ) → list_all is_plain w ≡ true → list_all is_printed w ≡ true

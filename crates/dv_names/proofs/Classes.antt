@@ -7,7 +7,7 @@ use Rattle.std.proofs.lemmas.List.{append_assoc}
 use Rattle.std.proofs.lemmas.Slice.Eq.{bytes_eq-Decides}
 use Rattle.std.proofs.lemmas.Bool.{cond-true, cond-false, and_parts, and_from, or_cases, or_left, or_right, ltb-true, lt-ltb, eq-eqb, ne_eqb, cases_Bool, cases_eq}
 use Rattle.dv_names.specs.Descriptors.{is_name_byte, is_plain_name, is_special_name, is_name, IsClassName}
-use Rattle.dv_names.specs.Grammar.{Position, Alone, Part, Before, Within, Angle, Special, Mode, Array, Name, Whole, behind, step_behind, step, after}
+use Rattle.dv_names.specs.Grammar.{Position, Alone, Part, Before, Within, Angle, Special, Mode, Array, Name, Whole, mode_behind, step_behind, step, after}
 use Rattle.dv_names.proofs.Steps.{after_both}
 
 -- ---- from names to bytes
@@ -43,14 +43,14 @@ name_run p name more b is no_more =
     ]
 
 names_run : (p : Position) (first : List ℕ) (others : List (List ℕ)) → is_name first ≡ true → list_all is_name others ≡ true
-    → after (Name p Before) (join_with_byte 47 (first ∷ others) ++ 59 ∷ []) ≡ Some (behind p)
+    → after (Name p Before) (join_with_byte 47 (first ∷ others) ++ 59 ∷ []) ≡ Some (mode_behind p)
 names_run p first [] is names = name_run p first [] 59 is refl
 names_run p first (next ∷ others) is names =
     let both = and_parts (is_name next) (list_all is_name others) names in
     let rest = join_with_byte 47 (next ∷ others) in
     ap (after (Name p Before)) (append_assoc first (47 ∷ rest) (59 ∷ [])) ∙ name_run p first (rest ++ 59 ∷ []) 47 is refl ∙ names_run p next others both.0 both.1
 
-pub class_run : (p : Position) (n : ℕ) (text : List ℕ) → IsClassName text → after (Array p n) text ≡ Some (behind p)
+pub class_run : (p : Position) (n : ℕ) (text : List ℕ) → IsClassName text → after (Array p n) text ≡ Some (mode_behind p)
 class_run p n text is =
     let both = and_parts (is_name is.first) (list_all is_name is.others) is.are_names in
     ap (after (Array p n)) is.spelled ∙ names_run p is.first is.others both.0 both.1
@@ -67,7 +67,7 @@ IsRest (Special rest) w = w ≡ rest
 pub data NameByte (w : Part) (b : ℕ) : Type 0 where
   Goes : (v : Part) → ((p : Position) → step (Name p w) b ≡ Some (Name p v)) → ((rest : List ℕ) → IsRest v rest → IsRest w (b ∷ rest)) → NameByte w b
   Slash : b ≡ 47 → IsRest w [] → ((p : Position) → step (Name p w) b ≡ Some (Name p Before)) → NameByte w b
-  Last : b ≡ 59 → IsRest w [] → ((p : Position) → step (Name p w) b ≡ Some (behind p)) → NameByte w b
+  Last : b ≡ 59 → IsRest w [] → ((p : Position) → step (Name p w) b ≡ Some (mode_behind p)) → NameByte w b
   Nowhere : ((p : Position) → step (Name p w) b ≡ None) → NameByte w b
 
 byte_behind : (w : Part) (b : ℕ) → IsRest w [] → ((p : Position) → step (Name p w) b ≡ step_behind p b) → NameByte w b

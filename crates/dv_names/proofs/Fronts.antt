@@ -11,7 +11,7 @@ use Rattle.dv_defs.specs.declared.names.Base.TheVariants as base
 use Rattle.dv_defs.specs.declared.names.Ty.{Ty}
 use Rattle.dv_names.specs.Descriptors.{base_text, descriptor, return_text, IsBase, IsType}
 use Rattle.dv_names.specs.Faults.{IsTypeText, IsProtoText}
-use Rattle.dv_names.specs.Grammar.{Position, Alone, Parameter, Returned, Part, Before, Mode, Open, Parameters, Return, Array, Name, Whole, behind, primitive_of, step, after}
+use Rattle.dv_names.specs.Grammar.{Position, Alone, Parameter, Returned, Part, Before, Mode, Open, Parameters, Return, Array, Name, Whole, mode_behind, primitive_of, step, after}
 use Rattle.dv_names.proofs.Bytes.{step_bracket, step_class, step_no_type, primitive_text}
 use Rattle.dv_names.proofs.Classes.{NameByte, Goes, Slash, Last, Nowhere, name_byte, class_from, none_left, going, stuck}
 
@@ -19,7 +19,7 @@ use Rattle.dv_names.proofs.Classes.{NameByte, Goes, Slash, Last, Nowhere, name_b
 
 data TypeByte (k b : ℕ) : Type 0 where
   Bracket : b ≡ 91 → k < 255 → ((p : Position) → step (Array p k) b ≡ Some (Array p (suc k))) → TypeByte k b
-  Letter : (found : Base) → primitive_of b ≡ Some found → ((p : Position) → step (Array p k) b ≡ Some (behind p)) → TypeByte k b
+  Letter : (found : Base) → primitive_of b ≡ Some found → ((p : Position) → step (Array p k) b ≡ Some (mode_behind p)) → TypeByte k b
   Class : b ≡ 76 → ((p : Position) → step (Array p k) b ≡ Some (Name p Before)) → TypeByte k b
   Nothing : ((p : Position) → step (Array p k) b ≡ None) → TypeByte k b
 
@@ -111,16 +111,16 @@ module _ (T : List ℕ → Type 0) where
     tail = tail;
   }
 
-  module _ (p : Position) (b : ℕ) (text : List ℕ) (tail : after (behind p) text ≡ Some Whole → T text) (in_name : (w : Part) → after (Name p w) text ≡ Some Whole → Cut T (Name Alone w) text) where
+  module _ (p : Position) (b : ℕ) (text : List ℕ) (tail : after (mode_behind p) text ≡ Some Whole → T text) (in_name : (w : Part) → after (Name p w) text ≡ Some Whole → Cut T (Name Alone w) text) where
     cut_name : (w : Part) → NameByte w b → after (Name p w) (b ∷ text) ≡ Some Whole → Cut T (Name Alone w) (b ∷ text)
     cut_name w (Goes v goes begins) e = longer (Name Alone w) (Name Alone v) b text (goes Alone) (in_name v (going (Name p w) (Name p v) b text (goes p) e))
     cut_name w (Slash is whole goes) e = longer (Name Alone w) (Name Alone Before) b text (goes Alone) (in_name Before (going (Name p w) (Name p Before) b text (goes p) e))
-    cut_name w (Last is whole goes) e = ended (Name Alone w) b text (goes Alone) (tail (going (Name p w) (behind p) b text (goes p) e))
+    cut_name w (Last is whole goes) e = ended (Name Alone w) b text (goes Alone) (tail (going (Name p w) (mode_behind p) b text (goes p) e))
     cut_name w (Nowhere goes) e = absurd (stuck (Name p w) b text (goes p) e)
 
     cut_type : (k : ℕ) → TypeByte k b → ((j : ℕ) → after (Array p j) text ≡ Some Whole → Cut T (Array Alone j) text) → after (Array p k) (b ∷ text) ≡ Some Whole → Cut T (Array Alone k) (b ∷ text)
     cut_type k (Bracket is lt goes) in_type e = longer (Array Alone k) (Array Alone (suc k)) b text (goes Alone) (in_type (suc k) (going (Array p k) (Array p (suc k)) b text (goes p) e))
-    cut_type k (Letter found is goes) in_type e = ended (Array Alone k) b text (goes Alone) (tail (going (Array p k) (behind p) b text (goes p) e))
+    cut_type k (Letter found is goes) in_type e = ended (Array Alone k) b text (goes Alone) (tail (going (Array p k) (mode_behind p) b text (goes p) e))
     cut_type k (Class is goes) in_type e = longer (Array Alone k) (Name Alone Before) b text (goes Alone) (in_name Before (going (Array p k) (Name p Before) b text (goes p) e))
     cut_type k (Nothing goes) in_type e = absurd (stuck (Array p k) b text (goes p) e)
 

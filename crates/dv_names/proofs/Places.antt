@@ -9,7 +9,7 @@ use Rattle.dv_names.specs.declared.error.NameError.{NameError}
 use Rattle.dv_names.specs.declared.error.NameError.TheVariants as error
 use Rattle.dv_names.specs.Descriptors.{is_name_byte}
 use Rattle.dv_names.specs.Faults.{IsTypeText, IsProtoText, Begins, IsLongest, IsFloatAt, FailsAt}
-use Rattle.dv_names.specs.Grammar.{Position, Alone, Parameter, Returned, Part, Before, Within, Angle, Special, Mode, Open, Parameters, Return, Array, Name, Whole, behind, primitive_of, is_float_letter, takes_type, step, after, refusal, refused_end, refused_byte, type_refusal, proto_refusal, Refuses}
+use Rattle.dv_names.specs.Grammar.{Position, Alone, Parameter, Returned, Part, Before, Within, Angle, Special, Mode, Open, Parameters, Return, Array, Name, Whole, mode_behind, primitive_of, is_float_letter, takes_type, step, after, refusal, refused_end, refused_byte, type_refusal, proto_refusal, Refuses}
 use Rattle.dv_names.proofs.Steps.{after-append, after_both}
 use Rattle.dv_names.proofs.Types.{type_run}
 use Rattle.dv_names.proofs.Protos.{proto_run}
@@ -78,7 +78,7 @@ live (Array p k) = 73 ∷ finish p
 live (Name p w) = live_name w ++ 59 ∷ finish p
 live Whole = []
 
-finish_run : (p : Position) → after (behind p) (finish p) ≡ Some Whole
+finish_run : (p : Position) → after (mode_behind p) (finish p) ≡ Some Whole
 unfolding finish
 finish_run Alone = refl
 finish_run Parameter = refl
@@ -130,7 +130,7 @@ int_run : (n : Mode) → takes_type n ≡ true → (k : Mode) × (after n (73 �
 int_run Open t = absurd (cc)
 int_run Parameters t = (Parameters, refl)
 int_run Return t = (Whole, refl)
-int_run (Array p k) t = (behind p, refl)
+int_run (Array p k) t = (mode_behind p, refl)
 int_run (Name p w) t = absurd (cc)
 int_run Whole t = absurd (cc)
 
@@ -143,7 +143,7 @@ one_of : (t : Bool) (x y : Option Mode) → IfSome x IsFine → IfSome y IsFine 
 one_of true x y f g = f
 one_of false x y f g = g
 
-behind_fine : (p : Position) → IsFine (behind p)
+behind_fine : (p : Position) → IsFine (mode_behind p)
 behind_fine Alone = tt
 behind_fine Parameter = tt
 behind_fine Returned = tt

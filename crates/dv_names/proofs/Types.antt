@@ -9,7 +9,7 @@ use Rattle.dv_defs.specs.declared.names.Ty.{Ty}
 use Rattle.dv_names.specs.declared.error.NameError.{NameError}
 use Rattle.dv_names.specs.declared.error.NameError.TheVariants as error
 use Rattle.dv_names.specs.Descriptors.{base_text, descriptor, IsBase, IsType, IsClassName}
-use Rattle.dv_names.specs.Grammar.{Position, Alone, Before, Array, Name, Whole, behind, after, refusal, no_type, primitive_of, Refuses}
+use Rattle.dv_names.specs.Grammar.{Position, Alone, Before, Array, Name, Whole, mode_behind, after, refusal, no_type, primitive_of, Refuses}
 use Rattle.dv_names.proofs.Steps.{after_both, parts, one, first_byte, refusal_from, refusal_here, refusal_end}
 use Rattle.dv_names.proofs.Bytes.{step_bracket, step_no_type, step_class, primitive_text}
 use Rattle.dv_names.proofs.Classes.{class_run, class_from}
@@ -22,7 +22,7 @@ brackets_run p (suc n) k few =
     let e : suc k + n ≡ k + suc n = omega arith in
     ap (option_and_then (λ m. after m (replicate n 91))) (step_bracket p k (omega arith)) ∙ brackets_run p n (suc k) (omega arith) ∙ ap (λ i. Some (Array p i)) e
 
-base_run : (p : Position) (n : ℕ) (b : Base) → IsBase b → after (Array p n) (base_text b) ≡ Some (behind p)
+base_run : (p : Position) (n : ℕ) (b : Base) → IsBase b → after (Array p n) (base_text b) ≡ Some (mode_behind p)
 base_run p n base.Z is = refl
 base_run p n base.B is = refl
 base_run p n base.C is = refl
@@ -31,7 +31,7 @@ base_run p n base.I is = refl
 base_run p n base.J is = refl
 base_run p n (base.Class name) is = class_run p n name is
 
-pub type_run : (p : Position) (t : Ty) → IsType t → after (Array p 0) (descriptor t) ≡ Some (behind p)
+pub type_run : (p : Position) (t : Ty) → IsType t → after (Array p 0) (descriptor t) ≡ Some (mode_behind p)
 type_run p t is = after_both (replicate t.dims 91) (base_text t.base) (Array p 0) (Array p (0 + t.dims)) (brackets_run p t.dims 0 (omega (arith, is.0))) ∙ base_run p (0 + t.dims) t.base is.1
 
 -- ---- refusals

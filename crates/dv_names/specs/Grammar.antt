@@ -39,10 +39,10 @@ pub data Mode : Type 0 where
   -- everything
   Whole : Mode
 
-abbrev pub behind : Position → Mode
-behind Alone = Whole
-behind Parameter = Parameters
-behind Returned = Whole
+abbrev pub mode_behind : Position → Mode
+mode_behind Alone = Whole
+mode_behind Parameter = Parameters
+mode_behind Returned = Whole
 
 abbrev pub primitive_of : ℕ → Option Base
 primitive_of b =
@@ -61,7 +61,7 @@ is_float_letter b = (b == 70) || (b == 68)
 abbrev pub step_type : Position → ℕ → ℕ → Option Mode
 step_type p n b =
     if b == 91 then (if nat_lt n 255 then Some (Array p (suc n)) else None)
-    else if is_some (primitive_of b) then Some (behind p)
+    else if is_some (primitive_of b) then Some (mode_behind p)
     else if b == 76 then Some (Name p Before)
     else None
 
@@ -69,7 +69,7 @@ step_type p n b =
 abbrev pub step_behind : Position → ℕ → Option Mode
 step_behind p b =
     if b == 47 then Some (Name p Before)
-    else if b == 59 then Some (behind p)
+    else if b == 59 then Some (mode_behind p)
     else None
 
 abbrev pub step_name : Position → Part → ℕ → Option Mode

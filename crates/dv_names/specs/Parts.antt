@@ -4,7 +4,7 @@ use Rattle.std.specs.List.{All, flat_map}
 use Rattle.dv_defs.specs.declared.names.Ty.{Ty}
 use Rattle.dv_names.specs.declared.error.NameError.{NameError}
 use Rattle.dv_names.specs.Descriptors.{descriptor, return_text, is_name, is_special_name, IsType}
-use Rattle.dv_names.specs.Grammar.{Position, Before, Angle, Special, Return, Array, Name, behind, after, refusal, Refuses}
+use Rattle.dv_names.specs.Grammar.{Position, Before, Angle, Special, Return, Array, Name, mode_behind, after, refusal, Refuses}
 
 -- a part of the text, not empty
 abbrev pub IsPart : List ℕ → ℕ → ℕ → Type 0
@@ -32,7 +32,7 @@ EndsName text start found = MatchResult found
 -- the rest of a class's descriptor, behind its L
 abbrev pub EndsClass : List ℕ → ℕ → Result ℕ NameError → Type 0
 EndsClass text start found = MatchResult found
-    (λ end. IsPart text start end × ((p : Position) → after (Name p Before) (slice_range text start end) ≡ Some (behind p)))
+    (λ end. IsPart text start end × ((p : Position) → after (Name p Before) (slice_range text start end) ≡ Some (mode_behind p)))
     (λ e. (p : Position) → Refuses e (refusal (Name p Before) start (drop start text)))
 
 -- a type, which ends at the number

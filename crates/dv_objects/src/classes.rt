@@ -15,7 +15,7 @@ pub const CLASS: &[u8] = b"Ljava/lang/Class;";
 /// The place of the class by which the methods of an object are looked up (JLS 15.12.4.4); that of Object for an array, and where there
 /// is no object.
 #[tactic(auto)]
-pub fn class_of(image: &Image, heap: &Heap, object: u32) -> Option<usize>
+pub fn class_of_object(image: &Image, heap: &Heap, object: u32) -> Option<usize>
     ensures { result ≡ class_of_kind image.now (kind_of heap.now object) }
 {
     if !heap.exists(object) {

@@ -4,5 +4,5 @@
 mod classes;
 mod instances;
 
-pub use classes::class_of;
+pub use classes::class_of_object;
 pub use instances::{is_instance, is_instance_of, is_of_class};

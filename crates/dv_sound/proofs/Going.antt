@@ -19,7 +19,7 @@ use Rattle.dv_core.specs.Machines.{machine_of}
 use Rattle.dv_core.specs.Watching.{AreWatchable}
 use Rattle.dv_core.proofs.Waits.{many}
 use Rattle.dv_core.proofs.Watches.{watches_fit}
-use Rattle.dv_sound.specs.Moves.{IsGood, StandsAt, goes_on, may_step}
+use Rattle.dv_sound.specs.Moves.{IsGood, StandsFor, goes_on, may_step}
 
 -- ---- the ending, where some thread is runnable
 
@@ -67,7 +67,7 @@ module _ (image : Image) (m : Machine) (t : ℕ) (may : runnable image m t ≡ t
 
 -- ---- an engine
 
-module _ (image : Image) (T : Typings) (v : Vm) (m : Machine) (good : IsGood image T) (at : StandsAt image T v m) where
+module _ (image : Image) (T : Typings) (v : Vm) (m : Machine) (good : IsGood image T) (at : StandsFor image T v m) where
   pub few_stacks : length v.guest.threads.stacks.items < 2 ^ 32
   few_stacks =
       let ts = v.guest.threads in
@@ -111,7 +111,7 @@ pub may_parts : (image : Image) (m : Machine) (t : ℕ) → may_step image m t �
 may_parts image m t e = let both = and_parts (is_none (ending_of image m)) (runnable image m t) e in (none_of (ending_of image m) both.0, both.1)
 
 -- where the run goes on, the budget has room for a step
-module _ (image : Image) (T : Typings) (v : Vm) (m : Machine) (good : IsGood image T) (at : StandsAt image T v m) where
+module _ (image : Image) (T : Typings) (v : Vm) (m : Machine) (good : IsGood image T) (at : StandsFor image T v m) where
   pub budget_open : ending_of image m ≡ None → nat_eq m.steps m.limits.budget ≡ false
   budget_open going = by m.stop refl
     where

@@ -25,7 +25,7 @@ use Rattle.dv_threads.specs.Kept.{threads_of}
 use Rattle.dv_core.specs.declared.vm.Vm.{Vm}
 use Rattle.dv_core.specs.Machines.{machine_of}
 use Rattle.dv_core.proofs.Waits.{many}
-use Rattle.dv_sound.specs.Moves.{IsKeptAt, IsTurn, KeepsOthers, StandsAt, may_step}
+use Rattle.dv_sound.specs.Moves.{IsKeptAt, IsTurn, KeepsOthers, StandsFor, may_step}
 use Rattle.dv_sound.specs.declared.error.ReplayError.{ReplayError}
 use Rattle.dv_sound.specs.Replays.{IsLedToEnd, IsRefused, StopsBefore}
 use Rattle.dv_sound.specs.Runs.{IsAt, IsAtSome, IsKept, IsOpened, IsSameRun, IsTurned, MayTurn, Run, TurnedFrom, logged}
@@ -201,7 +201,7 @@ zip_length P (x ∷ xs) [] all = absurd all
 zip_length P (x ∷ xs) (y ∷ ys) all = ap suc (zip_length P xs ys all.1)
 
 -- as many threads as there are stacks
-pub threads_are : (image : Image) (T : Typings) (v : Vm) (m : Machine) → StandsAt image T v m → length v.guest.threads.stacks.items ≡ length m.threads
+pub threads_are : (image : Image) (T : Typings) (v : Vm) (m : Machine) → StandsFor image T v m → length v.guest.threads.stacks.items ≡ length m.threads
 threads_are image T v m at =
     let ts = v.guest.threads in
     sym (many ts.stacks.items ts.ends.items ts.objects.items at.ordered.aligned.ends at.ordered.aligned.objects) ∙

@@ -20,7 +20,7 @@ use Rattle.dv_core.specs.declared.vm.Vm.{Vm}
 use Rattle.dv_core.specs.Advancing.{running_frame}
 use Rattle.dv_core.specs.Machines.{machine_of}
 use Rattle.dv_sound.specs.Lending.{IsCommitted, IsDone, IsFirstOf, IsFitting, IsLent, IsLocalRun, IsSameProgram, MayLend, committed, logged_some, without}
-use Rattle.dv_sound.specs.Moves.{FramesStay, IsGood, StandsAt, may_step}
+use Rattle.dv_sound.specs.Moves.{FramesStay, IsGood, StandsFor, may_step}
 use Rattle.dv_sound.specs.Runs.{IsAt, IsKept, Run}
 use Rattle.dv_sound.proofs.Going.{may_parts}
 use Rattle.dv_sound.proofs.Keeping.{machine_is, main_is}
@@ -42,9 +42,9 @@ kept_lent image main v log lent after t k local is =
     }
 
 -- what a call tells of an image it tells of the same one
-pub first_of : (inner mine : Image) → inner ≡ mine → (v : Vm) (t : ℕ) (o : Option Slice) → ((T : Typings) (m : Machine) → IsGood inner T → StandsAt inner T v m → IsFirstOf o inner m v t) → (T : Typings) (m : Machine) → IsGood mine T → StandsAt mine T v m →
+pub first_of : (inner mine : Image) → inner ≡ mine → (v : Vm) (t : ℕ) (o : Option Slice) → ((T : Typings) (m : Machine) → IsGood inner T → StandsFor inner T v m → IsFirstOf o inner m v t) → (T : Typings) (m : Machine) → IsGood mine T → StandsFor mine T v m →
     IsFirstOf o mine m v t
-first_of inner mine is v t o told = subst (λ (i : Image). (T : Typings) (m : Machine) → IsGood i T → StandsAt i T v m → IsFirstOf o i m v t) is told
+first_of inner mine is v t o told = subst (λ (i : Image). (T : Typings) (m : Machine) → IsGood i T → StandsFor i T v m → IsFirstOf o i m v t) is told
 
 pub first_local : (image : Image) (m : Machine) (v : Vm) (t : ℕ) (s : Slice) → IsFirstOf (Some s) image m v t → next_is_local image m t ≡ true
 first_local image m v t s is = (and_parts (may_step image m t) (next_is_local image m t) is.0).1
@@ -78,15 +78,15 @@ module _ (r : Run) (v : Vm) (k : IsKept r.verified.image r.main v r.log r.lent) 
 -- ---- a slice comes back
 
 pub done_of : (inner mine : Image) → inner ≡ mine → (v new : Vm) (s : Slice) (n : ℕ) →
-    ((T : Typings) (m : Machine) → IsGood inner T → StandsAt inner T v m → IsLocalRun inner s → running_frame (slice_get (machine_of v).threads s.thread) ≡ Some s.start → IsDone inner T m s.thread n v new) → (T : Typings) (m : Machine) → IsGood mine T → StandsAt mine T v m → IsLocalRun mine s →
+    ((T : Typings) (m : Machine) → IsGood inner T → StandsFor inner T v m → IsLocalRun inner s → running_frame (slice_get (machine_of v).threads s.thread) ≡ Some s.start → IsDone inner T m s.thread n v new) → (T : Typings) (m : Machine) → IsGood mine T → StandsFor mine T v m → IsLocalRun mine s →
     running_frame (slice_get (machine_of v).threads s.thread) ≡ Some s.start → IsDone mine T m s.thread n v new
 done_of inner mine is v new s n told =
     subst
-    (λ (i : Image). (T : Typings) (m : Machine) → IsGood i T → StandsAt i T v m → IsLocalRun i s → running_frame (slice_get (machine_of v).threads s.thread) ≡ Some s.start →
+    (λ (i : Image). (T : Typings) (m : Machine) → IsGood i T → StandsFor i T v m → IsLocalRun i s → running_frame (slice_get (machine_of v).threads s.thread) ≡ Some s.start →
     IsDone i T m s.thread n v new) is told
 
-pub count_of : (inner mine : Image) → inner ≡ mine → (v : Vm) (steps n : ℕ) → ((T : Typings) (m : Machine) → IsGood inner T → StandsAt inner T v m → n ≡ committed inner m steps) → (T : Typings) (m : Machine) → IsGood mine T → StandsAt mine T v m → n ≡ committed mine m steps
-count_of inner mine is v steps n told = subst (λ (i : Image). (T : Typings) (m : Machine) → IsGood i T → StandsAt i T v m → n ≡ committed i m steps) is told
+pub count_of : (inner mine : Image) → inner ≡ mine → (v : Vm) (steps n : ℕ) → ((T : Typings) (m : Machine) → IsGood inner T → StandsFor inner T v m → n ≡ committed inner m steps) → (T : Typings) (m : Machine) → IsGood mine T → StandsFor mine T v m → n ≡ committed mine m steps
+count_of inner mine is v steps n told = subst (λ (i : Image). (T : Typings) (m : Machine) → IsGood i T → StandsFor i T v m → n ≡ committed i m steps) is told
 
 not_same : (u t : ℕ) → not (nat_eq u t) ≡ true → u ≢ t
 not_same u t e same = true≢false (sym e ∙ ap not (eq-eqb u t same))

@@ -31,7 +31,7 @@ use Rattle.dv_core.specs.Advancing.{RanNone, RanSteps, RunsFrame, running_frame,
 use Rattle.dv_core.specs.Guests.{IsOrdered}
 use Rattle.dv_core.specs.Machines.{machine_of}
 use Rattle.dv_core.proofs.Callers.{met_top, placed_stands}
-use Rattle.dv_sound.specs.Moves.{HasRun, IsAffordable, IsGood, IsRun, StandsAt, goes_locally}
+use Rattle.dv_sound.specs.Moves.{HasRun, IsAffordable, IsGood, IsRun, StandsFor, goes_locally}
 use Rattle.dv_sound.proofs.Sizes.{locals_keep, set_length}
 use Rattle.dv_sound.proofs.Stepping.{IsWithin, stands_by, within}
 
@@ -116,7 +116,7 @@ none_local image (Some th) e = by th.end th.levels e
     by end.Returned ls e = refl
     by (end.Died o) ls e = refl
 
-module _ (image : Image) (T : Typings) (old new : Vm) (m : Machine) (good : IsGood image T) (at : StandsAt image T old m) (going : ending_of image m ≡ None) (t asked most done : ℕ) (may : IsAffordable old.steps old.limits.budget asked most) (ordered : IsOrdered new.limits new.guest) where
+module _ (image : Image) (T : Typings) (old new : Vm) (m : Machine) (good : IsGood image T) (at : StandsFor image T old m) (going : ending_of image m ≡ None) (t asked most done : ℕ) (may : IsAffordable old.steps old.limits.budget asked most) (ordered : IsOrdered new.limits new.guest) where
   pub none_ran : running_frame (slice_get (machine_of old).threads t) ≡ None → RanNone done (machine_of old) (machine_of new) → IsRun image T m t asked done new
   none_ran stays ran = record {
     after = m;

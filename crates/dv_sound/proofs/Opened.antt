@@ -21,7 +21,7 @@ use Rattle.dv_core.specs.declared.vm.Vm.{Vm}
 use Rattle.dv_core.specs.Guests.{IsOrdered}
 use Rattle.dv_core.specs.Machines.{machine_of}
 use Rattle.dv_core.specs.Openings.{HasMainRoom}
-use Rattle.dv_sound.specs.Moves.{AreUsable, StandsAt}
+use Rattle.dv_sound.specs.Moves.{AreUsable, StandsFor}
 use Rattle.dv_machine.specs.Mains.{HasMain}
 use Rattle.dv_sound.specs.Runs.{IsOpened}
 
@@ -47,7 +47,7 @@ module _ (image : Image) (T : Typings) (main : MethodId) (l : Limits) (v : Vm) (
       subst (λ (w : WordMachine). IsSimulated image T w (tagged.opening image has.method l)) (sym opening_is)
       (openings_are_simulated image T has.method l accepted has.is_main (statics_are_whole_of_linked image accepted.inits) texts usable.heap)
 
-  stands : StandsAt image T v (tagged.opening image has.method l)
+  stands : StandsFor image T v (tagged.opening image has.method l)
   stands = record {
     simulated = simulated;
     ordered = subst (λ (k : Limits). IsOrdered k v.guest) (sym limits_are) ordered;

@@ -16,7 +16,7 @@ use Rattle.law_engine.proofs.Staying.{next_is_alike}
 use Rattle.dv_core.specs.declared.vm.Vm.{Vm}
 use Rattle.dv_core.specs.Advancing.{running_frame}
 use Rattle.dv_core.specs.Machines.{IsStepped, machine_of}
-use Rattle.dv_sound.specs.Moves.{FramesStay, KeepsOthers, StandsAt}
+use Rattle.dv_sound.specs.Moves.{FramesStay, KeepsOthers, StandsFor}
 
 set_other : {A : Type 0} (xs : List A) (t u : ℕ) (v : A) → u ≢ t → slice_get (slice_set xs t v) u ≡ slice_get xs u
 set_other [] t u v ne = refl
@@ -68,7 +68,7 @@ pub frames_then : (a b c : WordMachine) (ts us : List ℕ) → us ≡ ts → Fra
 frames_then a b c ts us is one two i d l = subst (FramesStay b c) is two i d l ∙ one i d l
 
 -- threads whose next steps are local, but for the one that steps
-pub frames_stay : (image : Image) (T : Typings) (m : Machine) (t : ℕ) (old new : Vm) (ts : List ℕ) → StandsAt image T old m → KeepsOthers t old new → All (λ (u : ℕ). u ≢ t) ts → All (λ (u : ℕ). next_is_local image m u ≡ true) ts →
+pub frames_stay : (image : Image) (T : Typings) (m : Machine) (t : ℕ) (old new : Vm) (ts : List ℕ) → StandsFor image T old m → KeepsOthers t old new → All (λ (u : ℕ). u ≢ t) ts → All (λ (u : ℕ). next_is_local image m u ≡ true) ts →
     FramesStay (machine_of old) (machine_of new) ts
 frames_stay image T m t old new ts at others home local i d l =
     stays_at image t (get_or ts i d) old new others (home i d l) (next_is_alike image T (machine_of old) m (get_or ts i d) at.simulated ∙ local i d l)

@@ -13,7 +13,7 @@ use Rattle.law_engine.proofs.Replays.{step_done, steps_after}
 use Rattle.dv_core.specs.declared.vm.Vm.{Vm}
 use Rattle.dv_sound.specs.declared.error.ReplayError.{ReplayError}
 use Rattle.dv_sound.specs.declared.error.ReplayError.TheVariants as error
-use Rattle.dv_sound.specs.Moves.{IsGood, IsRun, IsStep, StandsAt, may_step}
+use Rattle.dv_sound.specs.Moves.{IsGood, IsRun, IsStep, StandsFor, may_step}
 use Rattle.dv_sound.specs.Replays.{IsLed, Refuses, StopsBefore}
 use Rattle.dv_sound.proofs.Going.{may_parts}
 
@@ -80,18 +80,18 @@ led_run image T k t most done m new r = record { after = r.after; leads = r.step
 -- so many steps are left, which lead from where the engine stands to where all lead
 pub record IsLeft (image : Image) (T : Typings) (m : Machine) (whole : Replayed) (rest : Machine → Replayed) (now : Vm) : Type 0 where
   pub at : Machine
-  pub stands : StandsAt image T now at
+  pub stands : StandsFor image T now at
   pub same : whole ≡ rest at
   pub limits : at.limits ≡ m.limits
 
 abbrev pub Lefts : Image → Vm → Vm → (Machine → Replayed) → (Machine → Replayed) → Type 0
-Lefts image first now whole rest = (T : Typings) (m : Machine) → IsGood image T → StandsAt image T first m → IsLeft image T m (whole m) rest now
+Lefts image first now whole rest = (T : Typings) (m : Machine) → IsGood image T → StandsFor image T first m → IsLeft image T m (whole m) rest now
 
 pub left_first : (image : Image) (first : Vm) (whole : Machine → Replayed) → Lefts image first first whole whole
 left_first image first whole T m good at = record { at = m; stands = at; same = refl; limits = refl }
 
 pub left_on : (image : Image) (first now new : Vm) (whole : Machine → Replayed) (k t n left : ℕ) → n ≤ left → Lefts image first now whole (steps_of image k t left) →
-    ((T : Typings) (m : Machine) → IsGood image T → StandsAt image T now m → IsLed image T m (steps_of image k t n m) new) → Lefts image first new whole (steps_of image k t (left - n))
+    ((T : Typings) (m : Machine) → IsGood image T → StandsFor image T now m → IsLed image T m (steps_of image k t n m) new) → Lefts image first new whole (steps_of image k t (left - n))
 left_on image first now new whole k t n left few lefts leds T m good at =
     let l = lefts T m good at in
     let d = leds T l.at good l.stands in
@@ -105,7 +105,7 @@ left_on image first now new whole k t n left few lefts leds T m good at =
 
 -- the next entry
 pub left_entry : (image : Image) (first now new : Vm) (whole : Machine → Replayed) (k : ℕ) (e : Entry) (es : List Entry) → Lefts image first now whole (replay_from image k (e ∷ es)) →
-    ((T : Typings) (m : Machine) → IsGood image T → StandsAt image T now m → IsLed image T m (steps_of image k e.thread e.steps m) new) → Lefts image first new whole (replay_from image (suc k) es)
+    ((T : Typings) (m : Machine) → IsGood image T → StandsFor image T now m → IsLed image T m (steps_of image k e.thread e.steps m) new) → Lefts image first new whole (replay_from image (suc k) es)
 left_entry image first now new whole k e es lefts leds T m good at =
     let l = lefts T m good at in
     let d = leds T l.at good l.stands in
@@ -113,7 +113,7 @@ left_entry image first now new whole k e es lefts leds T m good at =
 
 -- what is refused on the way refuses the whole
 pub left_refused : (image : Image) (first now : Vm) (whole rest : Machine → Replayed) (e : ReplayError) → Lefts image first now whole rest →
-    ((T : Typings) (m : Machine) → IsGood image T → StandsAt image T now m → Refuses e (rest m)) → (T : Typings) (m : Machine) → IsGood image T → StandsAt image T first m → Refuses e (whole m)
+    ((T : Typings) (m : Machine) → IsGood image T → StandsFor image T now m → Refuses e (rest m)) → (T : Typings) (m : Machine) → IsGood image T → StandsFor image T first m → Refuses e (whole m)
 left_refused image first now whole rest e lefts refuses T m good at =
     let l = lefts T m good at in
     subst (Refuses e) (sym l.same) (refuses T l.at good l.stands)

@@ -25,7 +25,7 @@ use Rattle.dv_core.specs.Advancing.{RanSteps, RunsFrame, running_frame, runs_in}
 use Rattle.dv_core.specs.Guests.{IsOrdered}
 use Rattle.dv_core.specs.Machines.{machine_of}
 use Rattle.dv_sound.specs.Lending.{IsDone, committed}
-use Rattle.dv_sound.specs.Moves.{IsGood, StandsAt, may_step}
+use Rattle.dv_sound.specs.Moves.{IsGood, StandsFor, may_step}
 use Rattle.dv_sound.proofs.LocalRuns.{all_local, none_local, there}
 use Rattle.dv_sound.proofs.Others.{keeps_run}
 use Rattle.dv_sound.proofs.Sizes.{locals_keep, set_length}
@@ -40,7 +40,7 @@ pub runs_at : (xs ys : List End) (k : ℕ) (b : Bool) → xs ≡ ys → runs_in 
 runs_at xs ys k b same is = sym (ap (λ zs. runs_in (slice_get zs k)) same) ∙ is
 
 -- a thread whose next step is local goes on at a frame
-pub none_goes : (image : Image) (T : Typings) (v : Vm) (m : Machine) (t : ℕ) → IsGood image T → StandsAt image T v m → running_frame (slice_get (machine_of v).threads t) ≡ None → (may_step image m t && next_is_local image m t) ≡ false
+pub none_goes : (image : Image) (T : Typings) (v : Vm) (m : Machine) (t : ℕ) → IsGood image T → StandsFor image T v m → running_frame (slice_get (machine_of v).threads t) ≡ None → (may_step image m t && next_is_local image m t) ≡ false
 none_goes image T v m t good at none =
     and_right (may_step image m t) (next_is_local image m t) (sym (next_is_alike image T (machine_of v) m t at.simulated) ∙ none_local image (slice_get (machine_of v).threads t) none)
 
@@ -92,7 +92,7 @@ module _ (image : Image) (most : ℕ) (s u : Frame) (made : RanLocally image mos
 
 -- ---- the steps of a slice
 
-module _ (image : Image) (T : Typings) (old new : Vm) (m : Machine) (good : IsGood image T) (at : StandsAt image T old m) (going : ending_of image m ≡ None) (t n : ℕ) (own : WordThread) (f : Frame) (ls : List Level) (runs : RunsFrame (machine_of old) t own f ls)
+module _ (image : Image) (T : Typings) (old new : Vm) (m : Machine) (good : IsGood image T) (at : StandsFor image T old m) (going : ending_of image m ≡ None) (t n : ℕ) (own : WordThread) (f : Frame) (ls : List Level) (runs : RunsFrame (machine_of old) t own f ls)
     (small : IsSmall f) (heap : HeapFits (machine_of old).shared.heap) (room : old.steps + n ≤ old.limits.budget) (ordered : IsOrdered new.limits new.guest) where
   done_to : (v : Frame) → locals_here image n f ≡ Some v → machine_of new ≡ with_top (machine_of old) t own v ls n → IsDone image T m t n old new
   done_to v led is =

@@ -16,7 +16,7 @@ use Rattle.dv_core.specs.declared.vm.Vm.{Vm}
 use Rattle.dv_core.specs.Guests.{IsOrdered}
 use Rattle.dv_core.specs.Machines.{IsStepped, IsSteppable, machine_of}
 use Rattle.dv_core.proofs.Steppable.{steps_fit}
-use Rattle.dv_sound.specs.Moves.{AreUsable, IsGood, IsKeptAt, StandsAt, Steps, may_step}
+use Rattle.dv_sound.specs.Moves.{AreUsable, IsGood, IsKeptAt, StandsFor, Steps, may_step}
 use Rattle.dv_sound.proofs.Going.{budget_left, may_parts}
 
 -- counts within limits, of words
@@ -27,11 +27,11 @@ pub record IsWithin (w : WordMachine) : Type 0 where
   pub spent : w.steps ≤ w.limits.budget
   pub counted : w.limits.budget < 2 ^ 64
 
-pub within : (image : Image) (T : Typings) (v : Vm) (m : Machine) → StandsAt image T v m → IsWithin (machine_of v)
+pub within : (image : Image) (T : Typings) (v : Vm) (m : Machine) → StandsFor image T v m → IsWithin (machine_of v)
 within image T v m at = record { usable = at.usable; few = at.few; numbered = at.numbered; spent = at.spent; counted = at.counted }
 
 -- an engine whose words are these stands where they do
-pub stands_by : (image : Image) (T : Typings) (v : Vm) (w : WordMachine) (m : Machine) → machine_of v ≡ w → IsWithin w → IsSimulated image T w m → IsOrdered v.limits v.guest → StandsAt image T v m
+pub stands_by : (image : Image) (T : Typings) (v : Vm) (w : WordMachine) (m : Machine) → machine_of v ≡ w → IsWithin w → IsSimulated image T w m → IsOrdered v.limits v.guest → StandsFor image T v m
 stands_by image T v w m same is simulated ordered =
     let mine : IsWithin (machine_of v) = subst IsWithin (sym same) is in
     record {
@@ -45,7 +45,7 @@ stands_by image T v w m same is simulated ordered =
     }
 
 -- want of memory
-pub kept_by : (image : Image) (T : Typings) (m : Machine) (old new : Vm) → StandsAt image T old m → machine_of new ≡ machine_of old → IsOrdered old.limits new.guest → IsKeptAt image T m old new
+pub kept_by : (image : Image) (T : Typings) (m : Machine) (old new : Vm) → StandsFor image T old m → machine_of new ≡ machine_of old → IsOrdered old.limits new.guest → IsKeptAt image T m old new
 kept_by image T m old new at same ordered =
     let limits : new.limits ≡ old.limits = ap (λ (w : WordMachine). w.limits) same in
     record {
@@ -70,7 +70,7 @@ within_after image w t is left =
     counted (inl e) = omega (arith, e, left)
     counted (inr e) = omega (arith, e, left)
 
-module _ (image : Image) (T : Typings) (old : Vm) (m : Machine) (t : ℕ) (good : IsGood image T) (at : StandsAt image T old m) (may : may_step image m t ≡ true) where
+module _ (image : Image) (T : Typings) (old : Vm) (m : Machine) (t : ℕ) (good : IsGood image T) (at : StandsFor image T old m) (may : may_step image m t ≡ true) where
   room : HasRoom old.limits
   room = record { levels = let l = at.usable.levels in omega (arith, l); words = at.usable.words }
 

@@ -21,7 +21,7 @@ use Rattle.law_engine.proofs.Staying.{next_is_alike}
 use Rattle.dv_core.specs.declared.vm.Vm.{Vm}
 use Rattle.dv_core.specs.Advancing.{RunsFrame, running_frame, top_frame}
 use Rattle.dv_core.specs.Machines.{machine_of}
-use Rattle.dv_sound.specs.Moves.{IsGood, IsLast, IsRun, IsTurn, StandsAt, goes_locally, may_step}
+use Rattle.dv_sound.specs.Moves.{IsGood, IsLast, IsRun, IsTurn, StandsFor, goes_locally, may_step}
 use Rattle.dv_sound.proofs.Going.{budget_open, may_parts}
 use Rattle.dv_sound.proofs.LocalRuns.{none_local}
 
@@ -60,7 +60,7 @@ module _ (image : Image) (T : Typings) (m : Machine) (t most : ℕ) where
   pub last_turn : (n : ℕ) (new : Vm) → 0 < most → goes_locally image t m ≡ false → IsLast image T m t n new → IsTurn image T m t most n new
   last_turn n new some e l = record { after = l.after; turned = turn_last image t most m some e ∙ l.last; stands = l.stands }
 
-  pub no_turn : (new : Vm) → most ≡ 0 → StandsAt image T new m → IsTurn image T m t most 0 new
+  pub no_turn : (new : Vm) → most ≡ 0 → StandsFor image T new m → IsTurn image T m t most 0 new
   no_turn new none at = record { after = m; turned = ap (λ n. turn image t n m) none; stands = at }
 
   -- all that may be done were local
@@ -113,7 +113,7 @@ running w t f e = by (slice_get w.threads t) refl e
     by (Some th) there e = by_end th.end th.levels th.object there e
 
 -- where the next step is local there is one
-pub not_none : (image : Image) (T : Typings) (v : Vm) (m : Machine) (t : ℕ) → StandsAt image T v m → goes_locally image t m ≡ true → running_frame (slice_get (machine_of v).threads t) ≢ None
+pub not_none : (image : Image) (T : Typings) (v : Vm) (m : Machine) (t : ℕ) → StandsFor image T v m → goes_locally image t m ≡ true → running_frame (slice_get (machine_of v).threads t) ≢ None
 not_none image T v m t at goes none =
     let local = (and_parts (next_is_local image m t) (not (nat_eq m.steps m.limits.budget)) goes).0 in
     true≢false (sym local ∙ sym (next_is_alike image T (machine_of v) m t at.simulated) ∙ none_local image (slice_get (machine_of v).threads t) none)
@@ -121,7 +121,7 @@ not_none image T v m t at goes none =
 -- ---- which way a turn goes
 
 -- what the words tell of the next step, where the run goes on
-module _ (image : Image) (T : Typings) (v : Vm) (m : Machine) (t : ℕ) (good : IsGood image T) (at : StandsAt image T v m) (may : may_step image m t ≡ true) where
+module _ (image : Image) (T : Typings) (v : Vm) (m : Machine) (t : ℕ) (good : IsGood image T) (at : StandsFor image T v m) (may : may_step image m t ≡ true) where
   open_budget : nat_eq m.steps m.limits.budget ≡ false
   open_budget = budget_open image T v m good at (may_parts image m t may).0
 

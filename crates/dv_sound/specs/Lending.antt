@@ -13,7 +13,7 @@ use Rattle.dv_local.specs.declared.slice.Slice.{Slice}
 use Rattle.dv_core.specs.declared.vm.Vm.{Vm}
 use Rattle.dv_core.specs.Advancing.{running_frame}
 use Rattle.dv_core.specs.Machines.{machine_of}
-use Rattle.dv_sound.specs.Moves.{KeepsOthers, StandsAt, may_step}
+use Rattle.dv_sound.specs.Moves.{KeepsOthers, StandsFor, may_step}
 use Rattle.dv_sound.specs.Runs.{IsAt, MayTurn, Run, logged}
 
 -- ---- what is lent
@@ -84,6 +84,6 @@ IsFirstOf (Some s) image m v t = ((may_step image m t && next_is_local image m t
 pub record IsDone (image : Image) (T : Typings) (m : Machine) (t n : ℕ) (old new : Vm) : Type 0 where
   pub after : Machine
   pub steps : (k : ℕ) → steps_of image k t n m ≡ Stands after
-  pub stands : StandsAt image T new after
+  pub stands : StandsFor image T new after
   pub limits : new.limits ≡ old.limits
   pub others : KeepsOthers t old new

@@ -36,7 +36,7 @@ pub record AreUsable (l : Limits) : Type 0 where
   pub heap : l.heap < 2 ^ 31
 
 -- its words stand for this well-typed state, and its counts are within their limits
-pub record StandsAt (image : Image) (T : Typings) (v : Vm) (m : Machine) : Type 0 where
+pub record StandsFor (image : Image) (T : Typings) (v : Vm) (m : Machine) : Type 0 where
   pub simulated : IsSimulated image T (machine_of v) m
   pub ordered : IsOrdered v.limits v.guest
   pub usable : AreUsable v.limits
@@ -78,13 +78,13 @@ FramesStay old new threads = All (λ t. running_frame (slice_get new.threads t) 
 -- want of memory: it stands where it stood
 pub record IsKeptAt (image : Image) (T : Typings) (m : Machine) (old new : Vm) : Type 0 where
   pub machine : machine_of new ≡ machine_of old
-  pub stands : StandsAt image T new m
+  pub stands : StandsFor image T new m
 
 -- the tagged machine's step isn't stuck, and the engine stands where it leads
 pub record IsStep (image : Image) (T : Typings) (m : Machine) (t : ℕ) (new : Vm) : Type 0 where
   pub after : Machine
   pub steps : step image m t ≡ Ok after
-  pub stands : StandsAt image T new after
+  pub stands : StandsFor image T new after
   pub limits : after.limits ≡ m.limits
 
 abbrev pub Steps : {E : Type 0} → Result (Unit {0}) E → Image → Typings → Machine → ℕ → Vm → Vm → Type 0
@@ -100,7 +100,7 @@ pub record HasRun (old new : WordMachine) (t done : ℕ) (own : WordThread) (f :
 -- so many local steps were done, and the next one isn't local or has no room, where more might have been done
 pub record IsRun (image : Image) (T : Typings) (m : Machine) (t most done : ℕ) (new : Vm) : Type 0 where
   pub after : Machine
-  pub stands : StandsAt image T new after
+  pub stands : StandsFor image T new after
   pub turns : (k : ℕ) → turn image t (done + k) m ≡ more done (turn image t k after)
   pub steps : (k : ℕ) → steps_of image k t done m ≡ Stands after
   pub limits : after.limits ≡ m.limits
@@ -110,7 +110,7 @@ pub record IsRun (image : Image) (T : Typings) (m : Machine) (t most done : ℕ)
 pub record IsLast (image : Image) (T : Typings) (m : Machine) (t n : ℕ) (new : Vm) : Type 0 where
   pub after : Machine
   pub last : last_step image t m ≡ Ok (record { count = n; machine = after })
-  pub stands : StandsAt image T new after
+  pub stands : StandsFor image T new after
 
 abbrev pub Lasts : {E : Type 0} → Result ℕ E → Image → Typings → Machine → ℕ → Vm → Vm → Type 0
 Lasts (Ok n) image T m t old new = IsLast image T m t n new
@@ -120,7 +120,7 @@ Lasts (Err memory) image T m t old new = IsKeptAt image T m old new
 pub record IsTurn (image : Image) (T : Typings) (m : Machine) (t most n : ℕ) (new : Vm) : Type 0 where
   pub after : Machine
   pub turned : turn image t most m ≡ Ok (record { count = n; machine = after })
-  pub stands : StandsAt image T new after
+  pub stands : StandsFor image T new after
 
 abbrev pub Turns : {E : Type 0} → Result ℕ E → Image → Typings → Machine → ℕ → ℕ → Vm → Vm → Type 0
 Turns (Ok n) image T m t most old new = IsTurn image T m t most n new

@@ -13,7 +13,7 @@ use Rattle.dv_machine.specs.WellTyped.{Typings}
 use Rattle.dv_core.specs.declared.vm.Vm.{Vm}
 use Rattle.dv_sound.specs.declared.error.ReplayError.{ReplayError}
 use Rattle.dv_sound.specs.declared.error.ReplayError.TheVariants as error
-use Rattle.dv_sound.specs.Moves.{StandsAt}
+use Rattle.dv_sound.specs.Moves.{StandsFor}
 
 -- an error tells the entry at which a schedule is refused; of want of memory nothing is said
 abbrev pub Refuses : ReplayError → Replayed → Type 0
@@ -26,7 +26,7 @@ Refuses e r = ⊥
 pub record IsLed (image : Image) (T : Typings) (m : Machine) (r : Replayed) (new : Vm) : Type 0 where
   pub after : Machine
   pub leads : r ≡ Stands after
-  pub stands : StandsAt image T new after
+  pub stands : StandsFor image T new after
   pub limits : after.limits ≡ m.limits
 
 -- the same, or it was refused
@@ -43,7 +43,7 @@ PlaysSome (Err e) image T k t m new = Refuses e (one_step image k t m)
 pub record IsLedToEnd (image : Image) (T : Typings) (log : List Entry) (m : Machine) (new : Vm) : Type 0 where
   pub after : Machine
   pub leads : replay_from image 0 log m ≡ Stands after
-  pub stands : StandsAt image T new after
+  pub stands : StandsFor image T new after
   pub limits : after.limits ≡ m.limits
   pub ending : Ending
   pub ends : ending_of image after ≡ Some ending

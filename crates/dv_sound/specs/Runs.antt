@@ -15,7 +15,7 @@ use Rattle.dv_machine.specs.WellTyped.{Typings, WellTyped}
 use Rattle.dv_rules.specs.Verified.{VerifiedValue}
 use Rattle.dv_words.specs.State.{WordMachine}
 use Rattle.dv_core.specs.declared.vm.Vm.{Vm}
-use Rattle.dv_sound.specs.Moves.{IsGood, StandsAt}
+use Rattle.dv_sound.specs.Moves.{IsGood, StandsFor}
 
 -- the program, the number of its main method, the state on words, what was logged, and which threads are lent
 pub record Run : Type 0 where
@@ -32,7 +32,7 @@ pub record IsOpened (image : Image) (main : MethodId) (l : Limits) (v : Vm) : Ty
   pub has_main : HasMain image main.0
   pub typings : Typings
   pub good : IsGood image typings
-  pub stands : StandsAt image typings v (opening image has_main.method l)
+  pub stands : StandsFor image typings v (opening image has_main.method l)
   pub limits : v.limits ≡ l
 
 -- the engine stands at the state to which the log leads, and the next step of each thread that is lent is local
@@ -42,7 +42,7 @@ pub record IsKept (image : Image) (main : MethodId) (v : Vm) (log : List Entry) 
   pub good : IsGood image typings
   pub machine : Machine
   pub replayed : replay image has_main.method v.limits log ≡ Stands machine
-  pub stands : StandsAt image typings v machine
+  pub stands : StandsFor image typings v machine
   pub local : All (λ t. next_is_local image machine t ≡ true) lent
 
 -- a turn was done from where the log led, and logged

@@ -12,7 +12,7 @@ ghost use Rattle.dv_core.specs.Advancing.{running_frame, runs_in, top_frame};
 ghost use Rattle.dv_core.specs.Guests.{IsOrdered};
 ghost use Rattle.dv_core.specs.Machines.{machine_of};
 ghost use Rattle.dv_sound.specs.Moves as moves;
-ghost use Rattle.dv_sound.specs.Moves.{FramesStay, IsGood, StandsAt};
+ghost use Rattle.dv_sound.specs.Moves.{FramesStay, IsGood, StandsFor};
 ghost use Rattle.dv_sound.specs.Lending.{IsCommitted, IsDone, IsFirstOf, IsFitting, IsLent, IsLocalRun, IsSameProgram, MayLend, committed, logged_some, without};
 ghost use Rattle.dv_sound.specs.Runs.{IsAt};
 
@@ -97,7 +97,7 @@ fn is_at(vm: &Vm, thread: u32, frame: &Frame) -> bool
 
 /// Whether a thread may step, and its next step touches its frame alone.
 fn may_lend(image: &Image, vm: &Vm, thread: u32) -> bool
-    ensures { (T : Typings) (m : Machine) → IsGood image.now T → StandsAt image.now T vm.now m → result ≡ (moves.may_step image.now m thread && next_is_local image.now m thread) }
+    ensures { (T : Typings) (m : Machine) → IsGood image.now T → StandsFor image.now T vm.now m → result ≡ (moves.may_step image.now m thread && next_is_local image.now m thread) }
 {
     if may_step(image, vm, thread) {
         vm.next_is_local(image, thread)
@@ -112,7 +112,7 @@ fn may_lend(image: &Image, vm: &Vm, thread: u32) -> bool
 ///
 /// Want of memory.
 fn first_slice(image: &Image, vm: &Vm, thread: u32) -> Result<Option<Slice>, AllocError>
-    ensures { (T : Typings) (m : Machine) → IsGood image.now T → StandsAt image.now T vm.now m → IfOk result (λ o. IsFirstOf o image.now m vm.now thread) }
+    ensures { (T : Typings) (m : Machine) → IsGood image.now T → StandsFor image.now T vm.now m → IfOk result (λ o. IsFirstOf o image.now m vm.now thread) }
 {
     if !may_lend(image, vm, thread) {
         return Ok(None);
@@ -137,7 +137,7 @@ fn first_slice(image: &Image, vm: &Vm, thread: u32) -> Result<Option<Slice>, All
 /// So many of these steps are done: none where the run has ended, and no more than its budget has room for.
 fn affordable(image: &Image, vm: &Vm, steps: u32) -> u32
     ensures few { result ≤ steps }
-    ensures exact { (T : Typings) (m : Machine) → IsGood image.now T → StandsAt image.now T vm.now m → result ≡ committed image.now m steps }
+    ensures exact { (T : Typings) (m : Machine) → IsGood image.now T → StandsFor image.now T vm.now m → result ≡ committed image.now m steps }
 {
     if vm.ending(image).is_some() {
         return 0;
@@ -152,7 +152,7 @@ fn affordable(image: &Image, vm: &Vm, steps: u32) -> u32
 
 /// So many steps of a slice, all of them or fewer.
 fn do_steps(image: &Image, vm: &mut Vm, slice: &Slice, steps: u32)
-    ensures { (T : Typings) (m : Machine) → IsGood image.now T → StandsAt image.now T vm.old m → ending_of image.now m ≡ Nothing → IsLocalRun image.now slice.now → running_frame (slice_get (machine_of vm.old).threads slice.now.thread) ≡ Just slice.now.start →
+    ensures { (T : Typings) (m : Machine) → IsGood image.now T → StandsFor image.now T vm.old m → ending_of image.now m ≡ Nothing → IsLocalRun image.now slice.now → running_frame (slice_get (machine_of vm.old).threads slice.now.thread) ≡ Just slice.now.start →
         steps ≤ slice.now.steps → vm.old.steps + steps ≤ vm.old.limits.budget → IsDone image.now T m slice.now.thread steps vm.old vm.new }
 {
     vm.reads_fit(slice.thread);
@@ -166,8 +166,8 @@ fn do_steps(image: &Image, vm: &mut Vm, slice: &Slice, steps: u32)
 /// The steps of a slice that may be done; gives how many there were.
 fn take_steps(image: &Image, vm: &mut Vm, slice: &Slice) -> u32
     ensures few { result ≤ slice.now.steps }
-    ensures count { (T : Typings) (m : Machine) → IsGood image.now T → StandsAt image.now T vm.old m → result ≡ committed image.now m slice.now.steps }
-    ensures done { (T : Typings) (m : Machine) → IsGood image.now T → StandsAt image.now T vm.old m → IsLocalRun image.now slice.now → running_frame (slice_get (machine_of vm.old).threads slice.now.thread) ≡ Just slice.now.start →
+    ensures count { (T : Typings) (m : Machine) → IsGood image.now T → StandsFor image.now T vm.old m → result ≡ committed image.now m slice.now.steps }
+    ensures done { (T : Typings) (m : Machine) → IsGood image.now T → StandsFor image.now T vm.old m → IsLocalRun image.now slice.now → running_frame (slice_get (machine_of vm.old).threads slice.now.thread) ≡ Just slice.now.start →
         IsDone image.now T m slice.now.thread result vm.old vm.new }
 {
     let steps = affordable(image, vm, slice.steps);

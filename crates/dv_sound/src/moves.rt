@@ -9,7 +9,7 @@ ghost use Rattle.dv_words.specs.State.{WordThread};
 ghost use Rattle.dv_core.specs.Advancing.{RunsFrame};
 ghost use Rattle.dv_core.specs.Machines.{machine_of};
 ghost use Rattle.dv_sound.specs.Moves as moves;
-ghost use Rattle.dv_sound.specs.Moves.{HasRun, IsAffordable, IsGood, IsRun, KeepsOthers, Lasts, StandsAt, Steps, Turns, goes_locally};
+ghost use Rattle.dv_sound.specs.Moves.{HasRun, IsAffordable, IsGood, IsRun, KeepsOthers, Lasts, StandsFor, Steps, Turns, goes_locally};
 
 use dv_core::Vm;
 use dv_defs::Image;
@@ -25,7 +25,7 @@ pub fn goes_on(vm: &Vm) -> bool
 
 /// Whether the run goes on and a thread is runnable.
 pub fn may_step(image: &Image, vm: &Vm, thread: u32) -> bool
-    ensures { (T : Typings) (m : Machine) → IsGood image.now T → StandsAt image.now T vm.now m → result ≡ moves.may_step image.now m thread }
+    ensures { (T : Typings) (m : Machine) → IsGood image.now T → StandsFor image.now T vm.now m → result ≡ moves.may_step image.now m thread }
 {
     if goes_on(vm) {
         vm.runnable(image, thread)
@@ -40,8 +40,8 @@ pub fn may_step(image: &Image, vm: &Vm, thread: u32) -> bool
 ///
 /// Want of memory; the engine stands where it stood then.
 pub fn step_on(image: &Image, vm: &mut Vm, thread: u32) -> Result<(), AllocError>
-    ensures steps { (T : Typings) (m : Machine) → IsGood image.now T → StandsAt image.now T vm.old m → moves.may_step image.now m thread ≡ true → Steps result image.now T m thread vm.old vm.new }
-    ensures others { (T : Typings) (m : Machine) → IsGood image.now T → StandsAt image.now T vm.old m → moves.may_step image.now m thread ≡ true → KeepsOthers thread vm.old vm.new }
+    ensures steps { (T : Typings) (m : Machine) → IsGood image.now T → StandsFor image.now T vm.old m → moves.may_step image.now m thread ≡ true → Steps result image.now T m thread vm.old vm.new }
+    ensures others { (T : Typings) (m : Machine) → IsGood image.now T → StandsFor image.now T vm.old m → moves.may_step image.now m thread ≡ true → KeepsOthers thread vm.old vm.new }
 {
     vm.reads_fit(thread);
     vm.step(image, thread)
@@ -63,10 +63,10 @@ fn affordable(vm: &Vm, most: u32) -> u32
 /// Local steps of a thread, so many at most, while the next one is local and the budget has room; gives how many were done.
 pub fn run_on(image: &Image, vm: &mut Vm, thread: u32, most: u32) -> u32
     ensures few { result ≤ most }
-    ensures ran { (T : Typings) (m : Machine) → IsGood image.now T → StandsAt image.now T vm.old m → running.ending_of image.now m ≡ Nothing → IsRun image.now T m thread most result vm.new }
-    ensures took { (T : Typings) (m : Machine) → IsGood image.now T → StandsAt image.now T vm.old m → running.ending_of image.now m ≡ Nothing → (own : WordThread) (f : Activation) (ls : List Level) → RunsFrame (machine_of vm.old) thread own f ls →
+    ensures ran { (T : Typings) (m : Machine) → IsGood image.now T → StandsFor image.now T vm.old m → running.ending_of image.now m ≡ Nothing → IsRun image.now T m thread most result vm.new }
+    ensures took { (T : Typings) (m : Machine) → IsGood image.now T → StandsFor image.now T vm.old m → running.ending_of image.now m ≡ Nothing → (own : WordThread) (f : Activation) (ls : List Level) → RunsFrame (machine_of vm.old) thread own f ls →
         HasRun (machine_of vm.old) (machine_of vm.new) thread result own f ls }
-    ensures others { (T : Typings) (m : Machine) → IsGood image.now T → StandsAt image.now T vm.old m → KeepsOthers thread vm.old vm.new }
+    ensures others { (T : Typings) (m : Machine) → IsGood image.now T → StandsFor image.now T vm.old m → KeepsOthers thread vm.old vm.new }
 {
     vm.reads_fit(thread);
     let most = affordable(vm, most);
@@ -80,8 +80,8 @@ pub fn run_on(image: &Image, vm: &mut Vm, thread: u32, most: u32) -> u32
 /// Want of memory; the engine stands where it stood then.
 pub fn last_on(image: &Image, vm: &mut Vm, thread: u32) -> Result<u32, AllocError>
     ensures few { IfOk result (λ n. n ≤ 1) }
-    ensures last { (T : Typings) (m : Machine) → IsGood image.now T → StandsAt image.now T vm.old m → Lasts result image.now T m thread vm.old vm.new }
-    ensures others { (T : Typings) (m : Machine) → IsGood image.now T → StandsAt image.now T vm.old m → KeepsOthers thread vm.old vm.new }
+    ensures last { (T : Typings) (m : Machine) → IsGood image.now T → StandsFor image.now T vm.old m → Lasts result image.now T m thread vm.old vm.new }
+    ensures others { (T : Typings) (m : Machine) → IsGood image.now T → StandsFor image.now T vm.old m → KeepsOthers thread vm.old vm.new }
 {
     if !may_step(image, vm, thread) {
         return Ok(0);
@@ -99,9 +99,9 @@ fn turn_locally(
     most: u32,
 ) -> Result<u32, AllocError>
     ensures few { IfOk result (λ n. n ≤ most) }
-    ensures turned { (T : Typings) (m : Machine) → IsGood image.now T → StandsAt image.now T vm.old m → running.ending_of image.now m ≡ Nothing → goes_locally image.now thread m ≡ true →
+    ensures turned { (T : Typings) (m : Machine) → IsGood image.now T → StandsFor image.now T vm.old m → running.ending_of image.now m ≡ Nothing → goes_locally image.now thread m ≡ true →
         Turns result image.now T m thread most vm.old vm.new }
-    ensures others { (T : Typings) (m : Machine) → IsGood image.now T → StandsAt image.now T vm.old m → running.ending_of image.now m ≡ Nothing → goes_locally image.now thread m ≡ true → KeepsOthers thread vm.old vm.new }
+    ensures others { (T : Typings) (m : Machine) → IsGood image.now T → StandsFor image.now T vm.old m → running.ending_of image.now m ≡ Nothing → goes_locally image.now thread m ≡ true → KeepsOthers thread vm.old vm.new }
 {
     let is_kept = vm.keep_top(thread, kept)?;
     if !is_kept {
@@ -134,8 +134,8 @@ pub fn take_turn(
     most: u32,
 ) -> Result<u32, AllocError>
     ensures few { IfOk result (λ n. n ≤ most) }
-    ensures turned { (T : Typings) (m : Machine) → IsGood image.now T → StandsAt image.now T vm.old m → moves.may_step image.now m thread ≡ true → Turns result image.now T m thread most vm.old vm.new }
-    ensures others { (T : Typings) (m : Machine) → IsGood image.now T → StandsAt image.now T vm.old m → moves.may_step image.now m thread ≡ true → KeepsOthers thread vm.old vm.new }
+    ensures turned { (T : Typings) (m : Machine) → IsGood image.now T → StandsFor image.now T vm.old m → moves.may_step image.now m thread ≡ true → Turns result image.now T m thread most vm.old vm.new }
+    ensures others { (T : Typings) (m : Machine) → IsGood image.now T → StandsFor image.now T vm.old m → moves.may_step image.now m thread ≡ true → KeepsOthers thread vm.old vm.new }
 {
     if most == 0 {
         Ok(0)

@@ -8,7 +8,7 @@ ghost use Rattle.dv_core.specs.Machines.{machine_of};
 ghost use Rattle.dv_core.specs.Watching.{AreWatchable};
 ghost use Rattle.dv_machine.specs.WellTyped.{Typings};
 ghost use Rattle.dv_words.specs.Erasure.{erased_machine};
-ghost use Rattle.dv_sound.specs.Moves.{AreUsable, FramesStay, IsGood, StandsAt, may_step};
+ghost use Rattle.dv_sound.specs.Moves.{AreUsable, FramesStay, IsGood, StandsFor, may_step};
 ghost use Rattle.dv_machine.specs.Mains.{HasMain};
 ghost use Rattle.dv_sound.specs.Runs.{IsAt, IsAtSome, IsKept, IsOpened, IsReady, IsSameRun, IsTurned, MayTurn, NoneIsReady, TurnedFrom};
 
@@ -197,7 +197,7 @@ impl<'v> SafeVm<'v> {
     pub(crate) fn engine(&self) -> &Vm
         ensures machine { machine_of result.now ≡ self.now.machine }
         ensures watchable { AreWatchable self.now.verified.image result.now }
-        ensures stands { (main : Method) (m : Machine) → IsAt self.now main m → (T : Typings) × IsGood self.now.verified.image T × StandsAt self.now.verified.image T result.now m }
+        ensures stands { (main : Method) (m : Machine) → IsAt self.now main m → (T : Typings) × IsGood self.now.verified.image T × StandsFor self.now.verified.image T result.now m }
     {
         &self.vm
     }
@@ -207,7 +207,7 @@ impl<'v> SafeVm<'v> {
         ensures machine { machine_of result.now ≡ self.now.machine }
         ensures watchable { AreWatchable self.now.verified.image result.now }
         ensures erased { (main : Method) (m : Machine) → IsAt self.now main m → machine_of result.now ≡ erased_machine m }
-        ensures stands { (main : Method) (m : Machine) → IsAt self.now main m → (T : Typings) × IsGood self.now.verified.image T × StandsAt self.now.verified.image T result.now m }
+        ensures stands { (main : Method) (m : Machine) → IsAt self.now main m → (T : Typings) × IsGood self.now.verified.image T × StandsFor self.now.verified.image T result.now m }
     {
         let vm = self.engine();
         machine_fits(vm);

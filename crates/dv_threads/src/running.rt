@@ -12,7 +12,7 @@ ghost use Rattle.dv_words.specs.Threads.{class_of_kind};
 
 use dv_defs::{Flag, Image, MethodDef, MethodId, Proto};
 use dv_heap::Heap;
-use dv_objects::class_of;
+use dv_objects::class_of_object;
 use dv_ops::{Method, method_at};
 
 const RUN: &[u8] = b"run";
@@ -67,7 +67,7 @@ fn run_of_class(image: &Image, class: usize) -> Option<MethodId>
 pub fn run_method<'a>(image: &'a Image, heap: &Heap, object: u32) -> Option<Method<'a>>
     ensures { option_map method_of result ≡ steps.run_method image.now (class_of_kind image.now (kind_of heap.now object)) }
 {
-    let class = class_of(image, heap, object)?;
+    let class = class_of_object(image, heap, object)?;
     let id = run_of_class(image, class)?;
     method_at(image, id)
 }

@@ -11,14 +11,14 @@ use Rattle.dv_words.specs.Steps.{At, Left, with_classes, with_heap}
 use Rattle.dv_words.specs.Unwinding.{Caught, Flies, Lacking, Unwound}
 
 -- the answer throws the newest object of this heap, or the words for it are lacking
-abbrev pub IsMade : Result Next AllocError → Option WordHeap → WordHeap → WordHeap → Type 0
-IsMade (Ok (next.ThrowRef o)) made old new = (made ≡ Some new) × (o ≡ newest new)
-IsMade (Ok next.NoWords) made old new = (made ≡ None) × (new ≡ old)
-IsMade (Err memory) made old new = new ≡ old
-IsMade answer made old new = ⊥
+abbrev pub ThrowsMade : Result Next AllocError → Option WordHeap → WordHeap → WordHeap → Type 0
+ThrowsMade (Ok (next.ThrowRef o)) made old new = (made ≡ Some new) × (o ≡ newest new)
+ThrowsMade (Ok next.NoWords) made old new = (made ≡ None) × (new ≡ old)
+ThrowsMade (Err memory) made old new = new ≡ old
+ThrowsMade answer made old new = ⊥
 
 -- the thread of this number steps, with this heap and these states of classes
-pub record IsSeen (image : Image) (heap : WordHeap) (classes : Classes) (thread : ℕ) (h : At) : Type 0 where
+pub record IsSeenByThrows (image : Image) (heap : WordHeap) (classes : Classes) (thread : ℕ) (h : At) : Type 0 where
   pub image_is : h.image ≡ image
   pub heap_is : h.shared.heap ≡ heap
   pub classes_are : h.shared.classes ≡ classes

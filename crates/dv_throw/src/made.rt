@@ -5,7 +5,7 @@ ghost use Rattle.dv_words.specs.declared.state.Kind.TheVariants as kind;
 ghost use Rattle.dv_words.specs.Heaps.{kind_of, with_word};
 ghost use Rattle.dv_heap.specs.Answers.{newest_of};
 ghost use Rattle.dv_words.specs.Unwinding.{made_object};
-ghost use Rattle.dv_throw.specs.Answers.{IsMade};
+ghost use Rattle.dv_throw.specs.Answers.{ThrowsMade};
 ghost use Rattle.dv_throw.specs.Unwound.{IsObject, caused_by, raised};
 
 use crate::fields::throwable_slot;
@@ -25,7 +25,7 @@ const CAUSE: &[u8] = b"cause";
 ///
 /// Want of memory; the heap is as before then.
 pub fn make(image: &Image, heap: &mut Heap, named: Named) -> Result<Next, AllocError>
-    ensures { IsMade result (made_object image.now heap.old named) heap.old heap.new }
+    ensures { ThrowsMade result (made_object image.now heap.old named) heap.old heap.new }
 {
     match new_exception(image, heap, named)? {
         Some(object) => Ok(Next::ThrowRef(object)),

@@ -7,7 +7,7 @@ ghost use Rattle.dv_words.specs.declared.state.Level.TheVariants as words_level;
 ghost use Rattle.dv_words.specs.Answering.{LeavesStack};
 ghost use Rattle.dv_words.specs.Steps.{At};
 ghost use Rattle.dv_words.specs.Unwinding.{handler_for as catching, unwind_frame as frame_unwound, unwind_record as record_unwound};
-ghost use Rattle.dv_throw.specs.Answers.{IsSeen, Stays, Unwinds, sharing};
+ghost use Rattle.dv_throw.specs.Answers.{IsSeenByThrows, Stays, Unwinds, sharing};
 ghost use Rattle.dv_throw.specs.Unwound.{Ends, IsEnded, IsThrough, raised};
 
 use crate::handlers::handler_for;
@@ -34,10 +34,10 @@ pub fn unwind_step(
     thread: u32,
     flying: u32,
 ) -> Result<Next, AllocError>
-    ensures code { (h : At) (f : Activation) → IsSeen image.now heap.old states.old thread h → stack.old.levels ≡ words_level.Code f ∷ h.rest →
+    ensures code { (h : At) (f : Activation) → IsSeenByThrows image.now heap.old states.old thread h → stack.old.levels ≡ words_level.Code f ∷ h.rest →
         Unwinds result (frame_unwound h f flying (catching image.now heap.old flying (handlers_at image.now f.method.0 f.at)))
         (LeavesStack (sharing h.shared heap.new states.new) stack.old stack.new) (Stays stack.old stack.new heap.old heap.new states.old states.new) }
-    ensures record { (h : At) (c : ClassId) (r : Bool) → IsSeen image.now heap.old states.old thread h → stack.old.levels ≡ words_level.Init c r ∷ h.rest →
+    ensures record { (h : At) (c : ClassId) (r : Bool) → IsSeenByThrows image.now heap.old states.old thread h → stack.old.levels ≡ words_level.Init c r ∷ h.rest →
         state_at states.old c.0 ≡ InProgress thread →
         Unwinds result (record_unwound h c.0 flying)
         (LeavesStack (sharing h.shared heap.new states.new) stack.old stack.new) (Stays stack.old stack.new heap.old heap.new states.old states.new) }

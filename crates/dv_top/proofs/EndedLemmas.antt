@@ -16,7 +16,7 @@ use Rattle.dv_words.specs.State.{WordStack}
 use Rattle.dv_threads.specs.Kept.{zipped}
 use Rattle.dv_core.specs.declared.vm.Vm.{Vm}
 use Rattle.dv_core.specs.Machines.{machine_of}
-use Rattle.dv_sound.specs.Moves.{IsGood, StandsAt}
+use Rattle.dv_sound.specs.Moves.{IsGood, StandsFor}
 use Rattle.dv_sound.specs.Runs.{IsAt, Run}
 use Rattle.dv_final.specs.Final.{final_lines_of}
 use Rattle.dv_final.specs.Laws.{FinalLinesFollow}
@@ -34,13 +34,13 @@ first_by (s ∷ ss) (e ∷ es) (o ∷ os) [] ends objects stand = absurd stand
 first_by (s ∷ ss) (e ∷ es) (o ∷ os) (t ∷ ts) ends objects stand = ap Some stand.0.end
 
 -- how the first thread ended
-pub first_end : (image : Image) (T : Typings) (v : Vm) (m : Machine) → StandsAt image T v m → slice_get v.guest.threads.ends.items 0 ≡ end_of (slice_get m.threads 0)
+pub first_end : (image : Image) (T : Typings) (v : Vm) (m : Machine) → StandsFor image T v m → slice_get v.guest.threads.ends.items 0 ≡ end_of (slice_get m.threads 0)
 first_end image T v m at =
     let ts = v.guest.threads in
     first_by ts.stacks.items ts.ends.items ts.objects.items m.threads at.ordered.aligned.ends at.ordered.aligned.objects at.simulated.stands.threads
 
 -- what was printed, and what follows it
-pub final_is : (image : Image) (T : Typings) (v : Vm) (m : Machine) (output lines : List ℕ) → FinalLinesFollow → IsImage image → IsGood image T → StandsAt image T v m → output ≡ v.guest.output.items → lines ≡ final_lines_of image (machine_of v) → output ++ lines ≡ final_text image m
+pub final_is : (image : Image) (T : Typings) (v : Vm) (m : Machine) (output lines : List ℕ) → FinalLinesFollow → IsImage image → IsGood image T → StandsFor image T v m → output ≡ v.guest.output.items → lines ≡ final_lines_of image (machine_of v) → output ++ lines ≡ final_text image m
 final_is image T v m output lines law is good at prints tells =
     ap (λ o. o ++ lines) (prints ∙ at.simulated.stands.shared.output) ∙ (ap (λ l. m.shared.output ++ l) tells ∙ law image T (machine_of v) m is good.accepted at.simulated)
 

@@ -15,7 +15,7 @@ use Rattle.dv_coderead.specs.Bodies.{number_behind}
 use Rattle.dv_coderead.specs.Giving.{◌>>>◌, on_line}
 use Rattle.dv_coderead.specs.Heads.{head_of}
 use Rattle.dv_coderead.specs.Kept.{TextLine, kept, line_of, open_behind}
-use Rattle.dv_coderead.specs.Operands.{behind, ended}
+use Rattle.dv_coderead.specs.Operands.{after_first, ended}
 use Rattle.dv_coderead.specs.Pieces.{AWord, Piece}
 use Rattle.dv_coderead.specs.Words.{literal_in}
 use Rattle.dv_classread.specs.declared.schedule.LogLine.{LogLine}
@@ -83,7 +83,7 @@ ends (Err k) = tt
 
 line_by_is : (h : Head) (ps : List Piece) → IfOk (log_line_by h ps) IsLogLine
 line_by_is head.Blank ps = tt
-line_by_is (head.Directive directive.EndSchedule) ps = said_is (λ (nothing : Unit {0}). log.End) (ended (behind (behind ps))) (ends (ended (behind (behind ps))))
+line_by_is (head.Directive directive.EndSchedule) ps = said_is (λ (nothing : Unit {0}). log.End) (ended (after_first (after_first ps))) (ends (ended (after_first (after_first ps))))
 line_by_is h ps = said_is log.One (entry_in ps) (entry_is ps)
 
 line_is : (ps : List Piece) → IfOk (log_line ps) IsLogLine
@@ -117,7 +117,7 @@ log_is stop past (l ∷ ls) =
     with_is s (log_from stop past ls) (nothing_behind stop past ls) is (log_is stop past ls) (first_is (end_with stop past (open_behind 0 ls)) (kept 0 ls)))
 
 schedule_is : (stop : Option Stop) (past : ℕ) (first : TextLine) (ls : List TextLine) → IfOk (schedule_from stop past first ls) IsLog
-schedule_is stop past first ls = then_holds (λ _. Unit {0}) IsLog (on_line first.number (ended (behind first.pieces))) _ (always (on_line first.number (ended (behind first.pieces)))) (λ _ _. log_is stop past ls)
+schedule_is stop past first ls = then_holds (λ _. Unit {0}) IsLog (on_line first.number (ended (after_first first.pieces))) _ (always (on_line first.number (ended (after_first first.pieces)))) (λ _ _. log_is stop past ls)
 
 -- ---- the whole text
 

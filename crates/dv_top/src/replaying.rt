@@ -52,13 +52,13 @@ pub fn reply_to_replaying(
         return fixed(alloc, Status::TooLarge, TOO_LARGE);
     }
     match program_to_replay(alloc, class, text) {
-        Ok(program) => reply_to_program(alloc, program, limits, log),
+        Ok(program) => reply_of_program_replayed(alloc, program, limits, log),
         Err(error) => no_program(alloc, error),
     }
 }
 
 /// Verifies a program, and runs it on its schedule.
-fn reply_to_program(
+fn reply_of_program_replayed(
     alloc: Global,
     program: Program,
     limits: &Limits,

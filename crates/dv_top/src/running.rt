@@ -59,13 +59,13 @@ pub fn reply_to_running(
         return fixed(alloc, Status::TooLarge, TOO_LARGE);
     }
     match program_to_run(alloc, class, text) {
-        Ok(program) => reply_to_program(alloc, program, how, log),
+        Ok(program) => reply_of_program_run(alloc, program, how, log),
         Err(error) => no_program(alloc, error),
     }
 }
 
 /// Verifies a program, and runs it.
-fn reply_to_program(
+fn reply_of_program_run(
     alloc: Global,
     program: Program,
     how: &Running,

@@ -10,7 +10,7 @@ use Rattle.std.proofs.lemmas.Str.{IsUtf8-from_ascii}
 use Rattle.std.proofs.lemmas.Str.Ascii.{IsAscii-from_all}
 use Rattle.dv_optable.specs.Table.{Entry, entry_at, format_at, opcode_named, table}
 use Rattle.dv_optable.proofs.Laws.{name_known}
-use Rattle.dv_lex.specs.Bytes.{class_of, is_plain}
+use Rattle.dv_lex.specs.Bytes.{byte_class, is_plain}
 use Rattle.dv_lex.specs.Laws.Names.{IsWord}
 use Rattle.dv_print.specs.Operands.{name_in, name_of}
 use Rattle.dv_coderead.specs.declared.head.Head.TheVariants as head
@@ -27,7 +27,7 @@ is_good_row e = is_good e.name
 
 -- each name of the table is one
 all_good : list_all is_good_row table ≡ true
-unfolding table class_of
+unfolding table byte_class
 all_good = refl
 
 -- what holds of all rows holds of one that is found

@@ -16,7 +16,7 @@ use Rattle.dv_draft.specs.declared.draft.PoolRef.TheVariants as pool
 use Rattle.dv_optable.specs.declared.format.Format.{Format}
 use Rattle.dv_optable.specs.declared.format.Format.TheVariants.{F3rc}
 use Rattle.dv_optable.specs.Table.{format_at}
-use Rattle.dv_lex.specs.Bytes.{class_of}
+use Rattle.dv_lex.specs.Bytes.{byte_class}
 use Rattle.dv_lex.specs.Lexemes.{begins_plain}
 use Rattle.dv_print.specs.declared.formats.Form.{Form}
 use Rattle.dv_print.specs.declared.formats.Form.TheVariants as form
@@ -72,7 +72,7 @@ operands_front (x ∷ xs) [] are = absurd are
 operands_front (x ∷ xs) (p ∷ ps) are = blank_front (listed (x ∷ xs)) (listed_pieces (p ∷ ps)) (listed_front (x ∷ xs) (p ∷ ps) are)
 
 operands_end : (xs : List (List ℕ)) → begins_plain (operands_text xs) ≡ false
-unfolding class_of
+unfolding byte_class
 operands_end [] = refl
 operands_end (x ∷ xs) = refl
 

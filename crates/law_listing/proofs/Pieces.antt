@@ -10,7 +10,7 @@ use Rattle.std.proofs.lemmas.Str.{IsUtf8-nil, IsUtf8-append, IsUtf8-from_is_utf8
 use Rattle.dv_names.specs.Written.{digit, is_raw, string_text, unit_text}
 use Rattle.dv_lex.specs.declared.bytes.Class.TheVariants as class
 use Rattle.dv_lex.specs.declared.token.TokenKind.TheVariants as token
-use Rattle.dv_lex.specs.Bytes.{class_of, is_plain}
+use Rattle.dv_lex.specs.Bytes.{byte_class, is_plain}
 use Rattle.dv_lex.specs.Grammar.{Empty, Gap, OneMark, AWord as HoldsWord, AString as HoldsString}
 use Rattle.dv_lex.specs.Lexemes.{begins_plain, a_mark}
 use Rattle.dv_lex.specs.Laws.Lines.{is_printed}
@@ -34,18 +34,18 @@ same_pieces xs ps qs e h = subst (HasPieces xs) e h
 -- ---- bytes
 
 plain_printed : (b : ℕ) → is_plain b ≡ true → is_printed b ≡ true
-unfolding class_of
+unfolding byte_class
 plain_printed b e = grind (arith, nat_tests)
 
-mark_printed : (b : ℕ) → class_of b ≡ class.Mark → is_printed b ≡ true
-unfolding class_of
+mark_printed : (b : ℕ) → byte_class b ≡ class.Mark → is_printed b ≡ true
+unfolding byte_class
 mark_printed b e = grind (arith, nat_tests)
 
-mark_plain : (b : ℕ) → class_of b ≡ class.Mark → is_plain b ≡ false
+mark_plain : (b : ℕ) → byte_class b ≡ class.Mark → is_plain b ≡ false
 mark_plain b e = rw e refl
 
-blank_is : class_of 32 ≡ class.Blank
-unfolding class_of
+blank_is : byte_class 32 ≡ class.Blank
+unfolding byte_class
 blank_is = refl
 
 printed_word : (w : List ℕ) → list_all is_plain w ≡ true → list_all is_printed w ≡ true
@@ -106,7 +106,7 @@ word_piece w bytes ps word text ends h = record {
 pub last_word : (w : List ℕ) → IsWord w → IsUtf8 w → HasPieces w (AWord w ∷ [])
 last_word w word text = same_text w (w ++ []) (AWord w ∷ []) (sym (append-nil w)) (word_piece w [] [] word text refl no_piece)
 
-pub mark_piece : (b : ℕ) (bytes : List ℕ) (ps : List Piece) → class_of b ≡ class.Mark → HasPieces bytes ps → HasPieces (b ∷ bytes) (AMark b ∷ ps)
+pub mark_piece : (b : ℕ) (bytes : List ℕ) (ps : List Piece) → byte_class b ≡ class.Mark → HasPieces bytes ps → HasPieces (b ∷ bytes) (AMark b ∷ ps)
 mark_piece b bytes ps mark h = record {
   printed = and_from _ _ (mark_printed b mark) h.printed;
   utf8 = text_cons b bytes (other_small b (mark_plain b mark)) h.utf8;
@@ -132,39 +132,39 @@ string_piece units bytes ps fit h = record {
 -- ---- shortcuts
 
 -- the marks
-pub comma_is : class_of 44 ≡ class.Mark
-unfolding class_of
+pub comma_is : byte_class 44 ≡ class.Mark
+unfolding byte_class
 comma_is = refl
 
-pub equals_is : class_of 61 ≡ class.Mark
-unfolding class_of
+pub equals_is : byte_class 61 ≡ class.Mark
+unfolding byte_class
 equals_is = refl
 
-pub brace_is : class_of 123 ≡ class.Mark
-unfolding class_of
+pub brace_is : byte_class 123 ≡ class.Mark
+unfolding byte_class
 brace_is = refl
 
-pub end_brace_is : class_of 125 ≡ class.Mark
-unfolding class_of
+pub end_brace_is : byte_class 125 ≡ class.Mark
+unfolding byte_class
 end_brace_is = refl
 
 -- what isn't plain begins with nothing plain
 pub blank_ends : (bytes : List ℕ) → begins_plain (32 ∷ bytes) ≡ false
-unfolding class_of
+unfolding byte_class
 blank_ends bytes = refl
 
-pub mark_ends : (b : ℕ) (bytes : List ℕ) → class_of b ≡ class.Mark → begins_plain (b ∷ bytes) ≡ false
+pub mark_ends : (b : ℕ) (bytes : List ℕ) → byte_class b ≡ class.Mark → begins_plain (b ∷ bytes) ≡ false
 mark_ends b bytes e = mark_plain b e
 
 pub quote_ends : (units bytes : List ℕ) → begins_plain (string_text units ++ bytes) ≡ false
-unfolding class_of
+unfolding byte_class
 quote_ends units bytes = refl
 
 -- a word with a blank behind it, a comma and a blank, or a mark
 pub word_blank : (w bytes : List ℕ) (ps : List Piece) → IsWord w → IsUtf8 w → HasPieces bytes ps → HasPieces (w ++ 32 ∷ bytes) (AWord w ∷ ps)
 word_blank w bytes ps word text h = word_piece w (32 ∷ bytes) ps word text (blank_ends bytes) (blank_piece bytes ps h)
 
-pub word_mark : (w : List ℕ) (b : ℕ) (bytes : List ℕ) (ps : List Piece) → IsWord w → IsUtf8 w → class_of b ≡ class.Mark → HasPieces bytes ps
+pub word_mark : (w : List ℕ) (b : ℕ) (bytes : List ℕ) (ps : List Piece) → IsWord w → IsUtf8 w → byte_class b ≡ class.Mark → HasPieces bytes ps
     → HasPieces (w ++ b ∷ bytes) (AWord w ∷ AMark b ∷ ps)
 word_mark w b bytes ps word text mark h = word_piece w (b ∷ bytes) (AMark b ∷ ps) word text (mark_ends b bytes mark) (mark_piece b bytes ps mark h)
 
@@ -194,7 +194,7 @@ no_front = record { before = λ rest more ends h. h }
 pub blank_front : (bytes : List ℕ) (ps : List Piece) → IsFront bytes ps → IsFront (32 ∷ bytes) ps
 blank_front bytes ps f = record { before = λ rest more ends h. blank_piece (bytes ++ rest) (ps ++ more) (f.before rest more ends h) }
 
-pub mark_front : (b : ℕ) (bytes : List ℕ) (ps : List Piece) → class_of b ≡ class.Mark → IsFront bytes ps → IsFront (b ∷ bytes) (AMark b ∷ ps)
+pub mark_front : (b : ℕ) (bytes : List ℕ) (ps : List Piece) → byte_class b ≡ class.Mark → IsFront bytes ps → IsFront (b ∷ bytes) (AMark b ∷ ps)
 mark_front b bytes ps mark f = record { before = λ rest more ends h. mark_piece b (bytes ++ rest) (ps ++ more) mark (f.before rest more ends h) }
 
 pub word_front : (w : List ℕ) → IsWord w → IsUtf8 w → IsFront w (AWord w ∷ [])
@@ -241,7 +241,7 @@ abbrev pub more_text : List (List ℕ) → List ℕ
 more_text xs = flat_map (λ y. codes ", " ++ y) xs
 
 pub more_ends : (xs : List (List ℕ)) → begins_plain (more_text xs) ≡ false
-unfolding class_of
+unfolding byte_class
 more_ends [] = refl
 more_ends (x ∷ xs) = refl
 

@@ -39,7 +39,7 @@ use Rattle.dv_coderead.specs.Giving.{◌>>>◌, on_line}
 use Rattle.dv_coderead.specs.Heads.{head_of}
 use Rattle.dv_coderead.specs.Kept.{TextLine, counts, depth_behind, kept}
 use Rattle.dv_coderead.specs.Laws.{TypesAreRead, PrototypesAreRead}
-use Rattle.dv_coderead.specs.Operands.{behind, dots_at, ended, mark_at, operands_in, word_at}
+use Rattle.dv_coderead.specs.Operands.{after_first, dots_at, ended, mark_at, operands_in, word_at}
 use Rattle.dv_coderead.specs.Pieces.{Piece, AWord, AMark, AString, ACharacter}
 use Rattle.dv_coderead.specs.References.{class_in, is_class_type}
 use Rattle.dv_coderead.specs.Words.{label_in, number_in}
@@ -224,15 +224,15 @@ module _ (types : TypesAreRead) (protos : PrototypesAreRead) where
   directive_listed arguments frame n (directive.Begin b) ps are = said_listed IsListedOpening line.Begin (begin_line b ps) (λ o is. is) (begin_listed b ps are)
   directive_listed arguments frame n d ps are = tt
 
-  op_listed : (f : Frame) (op : ℕ) (ps : List Piece) → IsHead (head.Opcode op) → ArePieceTexts ps → IfOk (said line.Op (operands_in f op (behind ps))) IsListedLine
-  op_listed f op ps some are = said_ok (operands_in f op (behind ps)) (λ d e. operands_listed types protos f op (behind ps) d some (behind_texts ps are) e)
+  op_listed : (f : Frame) (op : ℕ) (ps : List Piece) → IsHead (head.Opcode op) → ArePieceTexts ps → IfOk (said line.Op (operands_in f op (after_first ps))) IsListedLine
+  op_listed f op ps some are = said_ok (operands_in f op (after_first ps)) (λ d e. operands_listed types protos f op (after_first ps) d some (behind_texts ps are) e)
     where
       said_ok : (read : Result Draftop LineKind) → ((d : Draftop) → read ≡ Ok d → IsListedOp d) → IfOk (said line.Op read) IsListedLine
       said_ok (Ok d) is = is d refl
       said_ok (Err k) is = tt
 
   method_listed : (arguments : ℕ) (frame : Option Frame) (n : ℕ) (h : Head) (ps : List Piece) → IsHead h → ArePieceTexts ps → IfOk (method_line arguments frame n h ps) IsListedLine
-  method_listed arguments frame n (head.Directive d) ps is are = directive_listed arguments frame n d (behind ps) (behind_texts ps are)
+  method_listed arguments frame n (head.Directive d) ps is are = directive_listed arguments frame n d (after_first ps) (behind_texts ps are)
   method_listed arguments (Some f) n head.Label ps is are = said_listed IsNameText line.Label (label_line ps) (λ name named. named) (label_line_listed ps are)
   method_listed arguments (Some f) n (head.Opcode op) ps is are = op_listed f op ps is are
   method_listed arguments frame n h ps is are = tt

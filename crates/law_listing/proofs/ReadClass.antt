@@ -23,7 +23,7 @@ use Rattle.dv_coderead.specs.declared.head.Head.{Head}
 use Rattle.dv_coderead.specs.declared.head.Head.TheVariants as head
 use Rattle.dv_coderead.specs.Heads.{head_of}
 use Rattle.dv_coderead.specs.Laws.{TypesAreRead, PrototypesAreRead}
-use Rattle.dv_coderead.specs.Operands.{Part, behind, ended, word_at}
+use Rattle.dv_coderead.specs.Operands.{Part, after_first, ended, word_at}
 use Rattle.dv_coderead.specs.Pieces.{Piece, AWord, AMark, AString, ACharacter}
 use Rattle.dv_coderead.specs.References.{class_in, cut_at, found_parts, is_class_type, member_name, proto_in, type_in}
 use Rattle.dv_coderead.specs.Words.{fitting, number_in}
@@ -239,7 +239,7 @@ module _ (types : TypesAreRead) (protos : PrototypesAreRead) where
   directive_listed (standing.Inside is_object has_super) n d ps are = inside_listed is_object has_super d ps are
 
   head_listed : (s : Standing) (n : ℕ) (h : Head) (ps : List Piece) → ArePieceTexts ps → IfOk (by_head s n h ps) IsClassLineText
-  head_listed s n (head.Directive d) ps are = directive_listed s n d (behind ps) (behind_texts ps are)
+  head_listed s n (head.Directive d) ps are = directive_listed s n d (after_first ps) (behind_texts ps are)
   head_listed s n h ps are = tt
 
   pub line_listed : (s : Standing) (n : ℕ) (ps : List Piece) → ArePieceTexts ps → IfOk (class_line s n ps) IsClassLineText

@@ -5,7 +5,7 @@ use Rattle.std.specs.Str.{IsUtf8}
 use Rattle.std.proofs.lemmas.List.Elements.{All-head, All-tail}
 use Rattle.dv_defs.specs.declared.faults.LineKind.{LineKind}
 use Rattle.dv_coderead.specs.Pieces.{Piece, AWord, AMark, AString, ACharacter}
-use Rattle.dv_coderead.specs.Operands.{Part, alone, and_behind, behind, comma_at, dots_at, ended, mark_at, word_at}
+use Rattle.dv_coderead.specs.Operands.{Part, alone, and_behind, after_first, comma_at, dots_at, ended, mark_at, word_at}
 use Rattle.law_listing.specs.ReadLaws.{IsPieceText, ArePieceTexts}
 use Rattle.dv_coderead.proofs.FormedParts.{after as after_any}
 
@@ -13,7 +13,7 @@ use Rattle.dv_coderead.proofs.FormedParts.{after as after_any}
 pub behind_text : (p : Piece) (ps : List Piece) → ArePieceTexts (p ∷ ps) → ArePieceTexts ps
 behind_text p ps are = All-tail IsPieceText p ps are
 
-pub behind_texts : (ps : List Piece) → ArePieceTexts ps → ArePieceTexts (behind ps)
+pub behind_texts : (ps : List Piece) → ArePieceTexts ps → ArePieceTexts (after_first ps)
 behind_texts [] are = are
 behind_texts (p ∷ ps) are = behind_text p ps are
 

@@ -19,7 +19,7 @@ use Rattle.dv_coderead.specs.Bodies.{body_from, number_behind}
 use Rattle.dv_coderead.specs.Heads.{head_of}
 use Rattle.dv_coderead.specs.Kept.{TextLine, counts, depth_behind, kept, line_of}
 use Rattle.dv_coderead.specs.Laws.{TypesAreRead, PrototypesAreRead}
-use Rattle.dv_coderead.specs.Operands.{behind, ended}
+use Rattle.dv_coderead.specs.Operands.{after_first, ended}
 use Rattle.dv_coderead.specs.Pieces.{Piece}
 use Rattle.dv_coderead.specs.RawBodies.{raw_body_from}
 use Rattle.dv_classread.specs.declared.class_line.ClassLine.{ClassLine}
@@ -84,7 +84,7 @@ directive_stands standing.Outside n d ps = tt
 directive_stands (standing.Inside is_object has_super) n d ps = inside_stands is_object has_super d ps
 
 head_stands : (s : Standing) (n : ℕ) (h : Head) (ps : List Piece) → IfOk (by_head s n h ps) (LineStands s)
-head_stands s n (head.Directive d) ps = directive_stands s n d (behind ps)
+head_stands s n (head.Directive d) ps = directive_stands s n d (after_first ps)
 head_stands s n h ps = tt
 
 line_stands : (s : Standing) (n : ℕ) (ps : List Piece) → IfOk (class_line s n ps) (LineStands s)
@@ -172,7 +172,7 @@ module _ (types : TypesAreRead) (protos : PrototypesAreRead) where
       → Tells s (method_ended sig before l more)
   method_listed s sig before l more named are tells =
       then_listed IsBodyText (TellsFrom s) (method_body sig l.number before) _ (kind_listed (kind_of before) sig l.number 0 before are) (λ b is.
-      line_then (λ _. Unit {0}) (TellsFrom s) l.number (ended (behind (behind l.pieces))) _ (any_ok (ended (behind (behind l.pieces)))) (λ _ _.
+      line_then (λ _. Unit {0}) (TellsFrom s) l.number (ended (after_first (after_first l.pieces))) _ (any_ok (ended (after_first (after_first l.pieces)))) (λ _ _.
       method_more s (record { signature = sig; body = b }) more (record { signature = named; body = is }) tells))
 
   class_line_listed : (s : Standing) (n : ℕ) (ps : List Piece) → ArePieceTexts ps → IfOk (class_line s n ps) (λ l. IsClassLineText l × LineStands s l)

@@ -39,7 +39,7 @@ use Rattle.dv_coderead.specs.BodyLines.{count_in}
 use Rattle.dv_coderead.specs.Heads.{head_of}
 use Rattle.dv_coderead.specs.Kept.{TextLine}
 use Rattle.dv_coderead.specs.Laws.{TypesAreRead, PrototypesAreRead}
-use Rattle.dv_coderead.specs.Operands.{alone, behind, ended, word_at}
+use Rattle.dv_coderead.specs.Operands.{alone, after_first, ended, word_at}
 use Rattle.dv_coderead.specs.Pieces.{Piece, AWord, AMark, AString, ACharacter}
 use Rattle.dv_coderead.specs.RawBodies.{and_entry, and_handler, and_raw, and_ref, and_units, count_by, has_range, is_behind, kind_caught, place_behind, place_next, place_of_kind, raw_body, raw_body_from, raw_finished, raw_handler, raw_handlers, raw_refs, raw_registers, raw_told_by, raw_tries, raw_units, with_caught, with_refs}
 use Rattle.dv_coderead.specs.RawLines.{AreFew, address_from, address_in, among_units, and_unit, begins_with_unit, by_arrow, caught_in, entry_by_shape, entry_here, entry_line, few_units, is_unit, last_line, member_in, pools_line, raw_handler_line, raw_line, raw_line_in, raw_registers_line, raw_said, some_type, start_line, units_in, units_line}
@@ -184,12 +184,12 @@ count_listed : (ps : List Piece) → ArePieceTexts ps → IfOk (raw_registers_li
 count_listed ps are = of_alone IsCount (word_at (count_in 0) ps) (of_word IsCount (count_in 0) (count_in_few 0) ps are)
 
 start_listed : (h : Head) (ps : List Piece) → ArePieceTexts ps → IfOk (start_line h ps) (IsListedAt place.Start)
-start_listed (head.Directive directive.Registers) ps are = said_listed place.Start IsCount line.Registers (raw_registers_line (behind ps)) ACount (count_listed (behind ps) (behind_texts ps are))
+start_listed (head.Directive directive.Registers) ps are = said_listed place.Start IsCount line.Registers (raw_registers_line (after_first ps)) ACount (count_listed (after_first ps) (behind_texts ps are))
 start_listed h ps are = tt
 
 units_listed : (before : ℕ) (h : Head) (ps : List Piece) → ArePieceTexts ps → IfOk (among_units before h ps) (IsListedAt (place.Units before))
 units_listed before (head.Directive (directive.End Units)) ps are =
-    said_listed (place.Units before) (λ _. Unit {0}) (λ nothing. line.End) (ended (behind (behind ps))) (λ _ is. TheEnd before) (any_ok (ended (behind (behind ps))))
+    said_listed (place.Units before) (λ _. Unit {0}) (λ nothing. line.End) (ended (after_first (after_first ps))) (λ _ is. TheEnd before) (any_ok (ended (after_first (after_first ps))))
 units_listed before h ps are =
     either (IsListedAt (place.Units before)) (begins_with_unit ps) _ _
     (said_listed (place.Units before) (IsUnitLine before) line.Units (units_line before ps) (SomeUnits before) (units_line_listed before ps)) tt
@@ -197,14 +197,14 @@ units_listed before h ps are =
 module _ (types : TypesAreRead) (protos : PrototypesAreRead) where
   pools_listed : (h : Head) (ps : List Piece) → ArePieceTexts ps → IfOk (pools_line h ps) (IsListedAt place.Pools)
   pools_listed (head.Directive directive.Rawref) ps are =
-      said_listed place.Pools IsEntryText line.Entry (entry_line (behind ps)) AnEntry (entry_listed types protos (behind ps) (behind_texts ps are))
+      said_listed place.Pools IsEntryText line.Entry (entry_line (after_first ps)) AnEntry (entry_listed types protos (after_first ps) (behind_texts ps are))
   pools_listed (head.Directive (directive.Begin Units)) ps are =
-      said_listed place.Pools (λ _. Unit {0}) (λ nothing. line.Begin) (ended (behind ps)) (λ _ is. TheBegin) (any_ok (ended (behind ps)))
+      said_listed place.Pools (λ _. Unit {0}) (λ nothing. line.Begin) (ended (after_first ps)) (λ _ is. TheBegin) (any_ok (ended (after_first ps)))
   pools_listed h ps are = tt
 
   last_listed : (h : Head) (ps : List Piece) → ArePieceTexts ps → IfOk (last_line h ps) (IsListedAt place.Behind)
   last_listed (head.Directive directive.Rawtry) ps are =
-      said_listed place.Behind IsRawHandler line.Handler (raw_handler_line (behind ps)) AHandler (handler_listed types (behind ps) (behind_texts ps are))
+      said_listed place.Behind IsRawHandler line.Handler (raw_handler_line (after_first ps)) AHandler (handler_listed types (after_first ps) (behind_texts ps are))
   last_listed (head.Directive (directive.Begin Units)) ps are = tt
   last_listed h ps are = tt
 

@@ -17,7 +17,7 @@ use Rattle.dv_defs.specs.declared.names.FieldRef.{FieldRef}
 use Rattle.dv_defs.specs.declared.names.MethodRef.{MethodRef}
 use Rattle.dv_names.specs.Descriptors.{descriptor, prototype, is_name, is_name_byte, is_plain_name, is_special_name, IsProto}
 use Rattle.dv_names.specs.Written.{digit, hexadecimal, field_text, method_text}
-use Rattle.dv_lex.specs.Bytes.{class_of, is_hexadecimal, is_plain}
+use Rattle.dv_lex.specs.Bytes.{byte_class, is_hexadecimal, is_plain}
 use Rattle.dv_lex.specs.Laws.Names.{IsWord}
 use Rattle.dv_lex.specs.Laws.Numbers.{IsSigned}
 use Rattle.dv_lex.specs.Literals.{digit_value}
@@ -53,7 +53,7 @@ abbrev pub is_simple : ℕ → Bool
 is_simple b = nat_lt 44 b && nat_lt b 123 && not (b == 61)
 
 simple_plain : (b : ℕ) → is_simple b ≡ true → is_plain b ≡ true
-unfolding class_of
+unfolding byte_class
 simple_plain b e = grind (arith, nat_tests)
 
 simple_small : (b : ℕ) → is_simple b ≡ true → b < 128
@@ -190,7 +190,7 @@ digits_word : (n : ℕ) (ds w : List ℕ) → AreDigitsOf n ds → is_suffix w �
 digits_word n ds w are s = simple_word (ds ++ w) (omega (arith, are.some, length-append ds w)) (digits_simple ds w are.digits s)
 
 minus_plain : is_plain 45 ≡ true
-unfolding class_of
+unfolding byte_class
 minus_plain = refl
 
 pub number_word : (z : ℤ) (w : List ℕ) → unsigned_abs z < 10 ^ 64 → is_suffix w ≡ true → IsWordText (signed_decimal z ++ w)
@@ -207,7 +207,7 @@ small_decimal : (n : ℕ) → n < 65536 → n < 10 ^ 64
 small_decimal n small = omega arith
 
 v_plain : is_plain 118 ≡ true
-unfolding class_of
+unfolding byte_class
 v_plain = refl
 
 pub register_word : (n : ℕ) → n < 65536 → IsWordText (118 ∷ decimal n)

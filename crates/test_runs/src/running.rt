@@ -4,7 +4,7 @@ use crate::slices::run_in_slices;
 use dv_core::Vm;
 use dv_defs::{Blocked, End, Ending, Image};
 use dv_load::read_program;
-use dv_objects::class_of;
+use dv_objects::class_of_object;
 use dv_pverify::verify_one_by_one;
 use dv_resolve::find_main;
 use dv_rules::Verified;
@@ -62,7 +62,7 @@ fn name_of(image: &Image, place: usize) -> Option<&str> {
 
 /// The descriptor of an object's class.
 fn class_name<'a>(image: &'a Image, vm: &Vm, object: u32) -> Option<&'a str> {
-    name_of(image, class_of(image, &vm.guest.heap, object)?)
+    name_of(image, class_of_object(image, &vm.guest.heap, object)?)
 }
 
 fn hold_of(image: &Image, blocked: Blocked) -> Option<Hold<'_>> {

@@ -12,7 +12,7 @@ use Rattle.dv_defs.specs.declared.faults.LineKind.TheVariants.{BadToken, BadEsca
 use Rattle.dv_lex.specs.declared.bytes.Class.{Class}
 use Rattle.dv_lex.specs.declared.bytes.Class.TheVariants as class
 use Rattle.dv_lex.specs.declared.token.TokenKind.TheVariants.{Str, Char, Word}
-use Rattle.dv_lex.specs.Bytes.{class_of, is_plain, is_control, is_short, is_escape, begins_with_four}
+use Rattle.dv_lex.specs.Bytes.{byte_class, is_plain, is_control, is_short, is_escape, begins_with_four}
 use Rattle.dv_lex.specs.Lexemes.{Lexeme, Lexemes, lexemes, put, glue, begins_plain, a_mark, Outside, In}
 use Rattle.dv_lex.specs.Literals.{short_unit, four_value, IsString, IsCharacter, Writes, Nothing, One, Short, Unicode}
 use Rattle.dv_lex.specs.Grammar.{Holds, Empty, Comment, Gap, OneMark, AWord, AString, ACharacter}
@@ -197,8 +197,8 @@ worded n at b bs ls c le u rec e =
     let p = put_is (lexeme Word at w) (lexemes (at + length w) Outside f.rest) ls (sym (a_word at w f.rest some plain f.ends) ∙ ap (lexemes at Outside) (sym whole) ∙ e) in
     rw (whole, ← p.all) (AWord at w f.rest p.more some plain f.ends (rec (at + length w) f.rest p.more small text.1 p.read))
 
-quote_cases : (b : ℕ) → class_of b ≡ class.Quote → (b ≡ 34) ⊎ (b ≡ 39)
-unfolding class_of
+quote_cases : (b : ℕ) → byte_class b ≡ class.Quote → (b ≡ 34) ⊎ (b ≡ 39)
+unfolding byte_class
 quote_cases b e = elim (cases_eq b 34) [
   | inl x ↦ inl x
   | inr f ↦ elim (cases_eq b 39) [ inl x ↦ inr x | inr g ↦ absurd (grind (arith, nat_tests)) ]
@@ -247,11 +247,11 @@ in_single n at bs ls le rec x e =
       | inr f ↦ absurd (never at (39 ∷ bs) ls BadToken (lacks at bs x f) e)
     ]
 
-refuses : (at b : ℕ) (bs : List ℕ) → class_of b ≡ class.Quote → (y : Refused b bs) → lexemes at Outside (b ∷ bs) ≡ Err y.kind
+refuses : (at b : ℕ) (bs : List ℕ) → byte_class b ≡ class.Quote → (y : Refused b bs) → lexemes at Outside (b ∷ bs) ≡ Err y.kind
 refuses at b bs c y = outside_quote at b bs c ∙ ap (glue at (b ∷ [])) (y.refused (at + 1) 0)
 
 -- what stands in the quotes that begin with this byte
-quoted : (n at q : ℕ) (bs : List ℕ) (ls : List Lexeme) → class_of q ≡ class.Quote → q < 92
+quoted : (n at q : ℕ) (bs : List ℕ) (ls : List Lexeme) → byte_class q ≡ class.Quote → q < 92
     → (Closed q bs → lexemes at Outside (q ∷ bs) ≡ Ok ls → Holds at (q ∷ bs) ls) → length bs ≤ n → IsUtf8 (q ∷ bs) → lexemes at Outside (q ∷ bs) ≡ Ok ls → Holds at (q ∷ bs) ls
 quoted n at q bs ls c low closed le u e =
     elim (literal n q low bs le (past_ascii q bs (omega arith) u)) [
@@ -259,7 +259,7 @@ quoted n at q bs ls c low closed le u e =
       | inr y ↦ absurd (never at (q ∷ bs) ls y.kind (refuses at q bs c y) e)
     ]
 
-by_quote : (n at b : ℕ) (bs : List ℕ) (ls : List Lexeme) → class_of b ≡ class.Quote → length bs ≤ n → IsUtf8 (b ∷ bs) → Found n → lexemes at Outside (b ∷ bs) ≡ Ok ls → Holds at (b ∷ bs) ls
+by_quote : (n at b : ℕ) (bs : List ℕ) (ls : List Lexeme) → byte_class b ≡ class.Quote → length bs ≤ n → IsUtf8 (b ∷ bs) → Found n → lexemes at Outside (b ∷ bs) ≡ Ok ls → Holds at (b ∷ bs) ls
 by_quote n at b bs ls c le u rec e =
     elim (quote_cases b c) [
       | inl is ↦ let all = subst (λ (x : ℕ). IsUtf8 (x ∷ bs) × (lexemes at Outside (x ∷ bs) ≡ Ok ls)) is (u, e) in
@@ -269,7 +269,7 @@ by_quote n at b bs ls c le u rec e =
     ]
 
 -- a line by what its first byte is
-by_class : (n at : ℕ) (k : Class) (b : ℕ) (bs : List ℕ) (ls : List Lexeme) → class_of b ≡ k → length bs ≤ n → IsUtf8 (b ∷ bs) → Found n
+by_class : (n at : ℕ) (k : Class) (b : ℕ) (bs : List ℕ) (ls : List Lexeme) → byte_class b ≡ k → length bs ≤ n → IsUtf8 (b ∷ bs) → Found n
     → lexemes at Outside (b ∷ bs) ≡ Ok ls → Holds at (b ∷ bs) ls
 by_class n at class.Blank b bs ls c le u rec e = Gap at b bs ls c (rec (at + 1) bs ls le (past_ascii b bs (other_small b (rw c refl)) u) (sym (outside_blank at b bs c) ∙ e))
 by_class n at class.Hash b bs ls c le u rec e = rw (← good_is [] ls (sym (outside_hash at b bs c) ∙ e)) (Comment at b bs c)
@@ -283,7 +283,7 @@ by_class n at class.Plain b bs ls c le u rec e = worded n at b bs ls (rw c refl)
 found_below : (n : ℕ) → Found n
 found_below n at [] ls le u e = rw (← good_is [] ls (sym (outside_nothing at) ∙ e)) (Empty at)
 found_below zero at (b ∷ bs) ls le u e = absurd (omega arith)
-found_below (suc n) at (b ∷ bs) ls le u e = by_class n at (class_of b) b bs ls refl (omega arith) u (found_below n) e
+found_below (suc n) at (b ∷ bs) ls le u e = by_class n at (byte_class b) b bs ls refl (omega arith) u (found_below n) e
 
 -- What is read of a line is what it holds.
 pub found : (at : ℕ) (line : List ℕ) (ls : List Lexeme) → is_utf8 line ≡ true → lexemes at Outside line ≡ Ok ls → Holds at line ls

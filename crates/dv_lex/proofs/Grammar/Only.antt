@@ -4,7 +4,7 @@ use Rattle.std.specs.List.{list_all}
 use Rattle.std.proofs.lemmas.Bool.{and_parts}
 use Rattle.dv_lex.specs.declared.bytes.Class.TheVariants as class
 use Rattle.dv_lex.specs.declared.token.TokenKind.TheVariants.{Str, Char, Word}
-use Rattle.dv_lex.specs.Bytes.{class_of, is_plain}
+use Rattle.dv_lex.specs.Bytes.{byte_class, is_plain}
 use Rattle.dv_lex.specs.Lexemes.{Lexeme, Lexemes, lexemes, put, glue, word, begins_plain, a_mark, Outside}
 use Rattle.dv_lex.specs.Literals.{Writes, IsString, IsCharacter}
 use Rattle.dv_lex.specs.Grammar.{Holds, Empty, Comment, Gap, OneMark, AWord, AString, ACharacter}
@@ -26,11 +26,11 @@ pub a_word : (at : ℕ) (w rest : List ℕ) → 0 < length w → list_all is_pla
     → lexemes at Outside (w ++ rest) ≡ put (lexeme Word at w) (lexemes (at + length w) Outside rest)
 a_word at [] rest lt all e = absurd (omega arith)
 a_word at (b ∷ []) rest lt all e =
-    outside_plain at b rest (plain_is (class_of b) (and_parts _ _ all).0) ∙ stops at (b ∷ []) rest (lexemes (at + 1) Outside rest) e
+    outside_plain at b rest (plain_is (byte_class b) (and_parts _ _ all).0) ∙ stops at (b ∷ []) rest (lexemes (at + 1) Outside rest) e
 a_word at (b ∷ c ∷ w) rest lt all e =
     let next : at + 1 + length (c ∷ w) ≡ at + length (b ∷ c ∷ w) = omega arith in
     let p = and_parts _ _ all in
-    outside_plain at b (c ∷ (w ++ rest)) (plain_is (class_of b) p.0) ∙ goes_on at (b ∷ []) c (w ++ rest) (lexemes (at + 1) Outside (c ∷ (w ++ rest))) (and_parts _ _ p.1).0
+    outside_plain at b (c ∷ (w ++ rest)) (plain_is (byte_class b) p.0) ∙ goes_on at (b ∷ []) c (w ++ rest) (lexemes (at + 1) Outside (c ∷ (w ++ rest))) (and_parts _ _ p.1).0
     ∙ ap (glue at (b ∷ [])) (a_word (at + 1) (c ∷ w) rest (some_more c w) p.1 e) ∙ glue_put Word at (at + 1) (b ∷ []) (c ∷ w) (lexemes (at + 1 + length (c ∷ w)) Outside rest)
     ∙ ap (λ i. put (lexeme Word at (b ∷ c ∷ w)) (lexemes i Outside rest)) next
 
@@ -41,7 +41,7 @@ behind : (q : ℕ) (inner rest : List ℕ) → q ∷ (inner ++ q ∷ []) ++ rest
 behind q inner rest = ap (λ (xs : List ℕ). q ∷ xs) (append_assoc inner (q ∷ []) rest)
 
 -- a literal in these quotes, with a right number of units or a wrong one
-pub a_literal : (at q : ℕ) (us inner rest : List ℕ) → class_of q ≡ class.Quote → q < 92 → Writes q us inner
+pub a_literal : (at q : ℕ) (us inner rest : List ℕ) → byte_class q ≡ class.Quote → q < 92 → Writes q us inner
     → lexemes at Outside (q ∷ (inner ++ q ∷ rest)) ≡ ended at q (length us) (q ∷ (inner ++ q ∷ [])) (lexemes (at + length (q ∷ (inner ++ q ∷ []))) Outside rest)
 a_literal at q us inner rest quote low h =
     let units : 0 + length us ≡ length us = omega arith in
@@ -50,12 +50,12 @@ a_literal at q us inner rest quote low h =
     ∙ glue_ended at (at + 1) q (0 + length us) (q ∷ []) (inner ++ q ∷ []) (lexemes (at + 1 + length inner + 1) Outside rest)
     ∙ rw (units, place) refl
 
-pub double_is : class_of 34 ≡ class.Quote
-unfolding class_of
+pub double_is : byte_class 34 ≡ class.Quote
+unfolding byte_class
 double_is = refl
 
-pub single_is : class_of 39 ≡ class.Quote
-unfolding class_of
+pub single_is : byte_class 39 ≡ class.Quote
+unfolding byte_class
 single_is = refl
 
 pub a_string : (at : ℕ) (us w rest : List ℕ) → IsString us w → lexemes at Outside (w ++ rest) ≡ put (lexeme Str at w) (lexemes (at + length w) Outside rest)

@@ -6,17 +6,17 @@ use Rattle.std.proofs.lemmas.List.Elements.{All-nil, All-cons}
 use Rattle.std.proofs.lemmas.Str.{IsUtf8-from_is_utf8, IsUtf8-nil}
 use Rattle.dv_lex.specs.declared.bytes.Class.TheVariants as class
 use Rattle.dv_lex.specs.declared.token.TokenKind.TheVariants.{Str, Char, Word}
-use Rattle.dv_lex.specs.Bytes.{class_of}
+use Rattle.dv_lex.specs.Bytes.{byte_class}
 use Rattle.dv_lex.specs.Lexemes.{Lexeme, lexemes, a_mark, Outside}
 use Rattle.dv_lex.specs.Grammar.{IsLexeme, Holds, Empty, Comment, Gap, OneMark, AWord, AString, ACharacter}
 use Rattle.dv_lex.proofs.Steps.{lexeme}
 use Rattle.dv_lex.proofs.Grammar.Utf8.{past_ascii, before_ascii, other_small, behind_text, word_parts, literal_text}
 use Rattle.dv_lex.proofs.Grammar.Found.{found}
 
-mark_small : (b : ℕ) → class_of b ≡ class.Mark → b < 128
+mark_small : (b : ℕ) → byte_class b ≡ class.Mark → b < 128
 mark_small b e = other_small b (rw e refl)
 
-blank_small : (b : ℕ) → class_of b ≡ class.Blank → b < 128
+blank_small : (b : ℕ) → byte_class b ≡ class.Blank → b < 128
 blank_small b e = other_small b (rw e refl)
 
 -- What a text holds are tokens of their kinds.

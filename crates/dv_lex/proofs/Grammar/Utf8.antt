@@ -7,7 +7,7 @@ use Rattle.std.proofs.lemmas.Bool.{cases_lt, and_parts, true≢false}
 use Rattle.std.proofs.lemmas.Bool.Decides.{nat_tests}
 use Rattle.std.proofs.lemmas.List.{get_or_at}
 use Rattle.std.proofs.lemmas.Str.{encode_ascii, IsUtf8-past_char, IsUtf8-nil, IsUtf8-encode, IsUtf8-append, IsUtf8-take, IsUtf8-drop, IsCharBoundary-before_ascii, length-encode, len_utf8_bounds}
-use Rattle.dv_lex.specs.Bytes.{class_of, is_plain, is_hexadecimal, is_short, begins_with_four}
+use Rattle.dv_lex.specs.Bytes.{byte_class, is_plain, is_hexadecimal, is_short, begins_with_four}
 use Rattle.dv_lex.specs.Lexemes.{begins_plain}
 use Rattle.dv_lex.specs.Literals.{Writes, IsLiteral, Nothing, One, Short, Unicode}
 
@@ -52,7 +52,7 @@ behind_text xs ys x u = behind_all x.0 ys (rw (← x.1.1) at u)
 -- ---- words
 
 high_plain : (b : ℕ) → 128 ≤ b → is_plain b ≡ true
-unfolding class_of
+unfolding byte_class
 high_plain b le = grind (arith, nat_tests)
 
 pub other_small : (b : ℕ) → is_plain b ≡ false → b < 128

@@ -6,7 +6,7 @@ use Rattle.std.proofs.lemmas.Bool.{cases_lt}
 use Rattle.std.proofs.lemmas.Bool.Decides.{nat_tests}
 use Rattle.std.proofs.lemmas.Str.{encode_ascii}
 use Rattle.dv_defs.specs.declared.faults.LineKind.TheVariants.{BadToken}
-use Rattle.dv_lex.specs.Bytes.{class_of, is_control, is_short, is_escape, begins_with_four, units_begun}
+use Rattle.dv_lex.specs.Bytes.{byte_class, is_control, is_short, is_escape, begins_with_four, units_begun}
 use Rattle.dv_lex.specs.Lexemes.{Lexemes, lexemes, put, glue, literal_kind, lacks_one_unit, Outside, In}
 use Rattle.dv_lex.specs.Literals.{Writes, Nothing, One, Short, Unicode}
 use Rattle.dv_lex.proofs.Steps.{lexeme, glue_glue, glue_put, in_skip, in_end, in_escape, in_more}
@@ -36,7 +36,7 @@ byte_counts q b k e f g units at n bs = in_more at q n b bs e f g ∙ ap (λ j. 
 -- ---- bytes of characters
 
 pub high_control : (b : ℕ) → 128 ≤ b → is_control b ≡ false
-unfolding class_of
+unfolding byte_class
 high_control b le = grind (arith, nat_tests)
 
 -- a byte from 128 on
@@ -114,7 +114,7 @@ skips q b (c ∷ w) at n bs =
     ∙ glue_glue at (at + 1) (b ∷ []) (c ∷ w) (lexemes (at + 1 + length (c ∷ w)) (In q 0 n) bs) ∙ ap (λ i. glue at (b ∷ c ∷ w) (lexemes i (In q 0 n) bs)) next
 
 back_plain : is_control 92 ≡ false
-unfolding class_of
+unfolding byte_class
 back_plain = refl
 
 -- a backslash with an escape behind it, of so many bytes

@@ -7,7 +7,7 @@ use Rattle.std.proofs.lemmas.Bool.Decides.{nat_tests}
 use Rattle.std.proofs.lemmas.List.Elements.{All-head, All-tail}
 use Rattle.std.proofs.lemmas.Str.{encode_ascii}
 use Rattle.dv_names.specs.Written.{digit, is_raw, string_text, unit_text}
-use Rattle.dv_lex.specs.Bytes.{begins_with_four, class_of, is_control, is_hexadecimal}
+use Rattle.dv_lex.specs.Bytes.{begins_with_four, byte_class, is_control, is_hexadecimal}
 use Rattle.dv_lex.specs.Literals.{Writes, Nothing, One, Unicode, digit_value, four_value, IsString}
 use Rattle.dv_lex.proofs.Literals.Units.{Has16, one_unit}
 
@@ -29,7 +29,7 @@ record Plain (u : ℕ) : Type 0 where
   no_slash : (u == 92) ≡ false
 
 is_plain : (u : ℕ) → is_raw u ≡ true → Plain u
-unfolding class_of
+unfolding byte_class
 is_plain u is = record { low = grind (arith, nat_tests); no_quote = grind (arith, nat_tests); no_control = grind (arith, nat_tests); no_slash = grind (arith, nat_tests) }
 
 raw_unit : (u : ℕ) (us bs : List ℕ) → is_raw u ≡ true → Writes 34 us bs → Writes 34 (u ∷ us) (unit_text u ++ bs)

@@ -5,14 +5,14 @@ use Rattle.std.specs.List.{list_all}
 use Rattle.std.proofs.lemmas.Bool.Decides.{nat_tests}
 use Rattle.std.proofs.lemmas.List.{length-append}
 use Rattle.std.proofs.lemmas.List.Folds.{list_all-append}
-use Rattle.dv_lex.specs.Bytes.{class_of, is_plain}
+use Rattle.dv_lex.specs.Bytes.{byte_class, is_plain}
 use Rattle.dv_lex.specs.Numbers.{when, is_digit, is_suffix}
 use Rattle.dv_lex.specs.Laws.Numbers.{NumbersAreWords}
 use Rattle.dv_lex.proofs.Spelled.Texts.{head_true, tail_true, both}
 
 -- a digit is a plain byte
 plain_digit : (h : Bool) (b : ℕ) → is_digit h b ≡ true → is_plain b ≡ true
-unfolding class_of
+unfolding byte_class
 plain_digit true b d = grind (arith, nat_tests)
 plain_digit false b d = grind (arith, nat_tests)
 
@@ -22,18 +22,18 @@ plain_digits h [] d = refl
 plain_digits h (b ∷ ds) d = both (plain_digit h b (head_true _ _ d)) (plain_digits h ds (tail_true _ _ d))
 
 plain_suffix : (w : List ℕ) → is_suffix w ≡ true → list_all is_plain w ≡ true
-unfolding class_of
+unfolding byte_class
 plain_suffix [] s = refl
 plain_suffix (b ∷ []) s = grind (arith, nat_tests)
 plain_suffix (b ∷ c ∷ w) s = absurd (cc)
 
 plain_sign : (m : Bool) → list_all is_plain (when m (codes "-")) ≡ true
-unfolding class_of
+unfolding byte_class
 plain_sign true = refl
 plain_sign false = refl
 
 plain_base : (h : Bool) → list_all is_plain (when h (codes "0x")) ≡ true
-unfolding class_of
+unfolding byte_class
 plain_base true = refl
 plain_base false = refl
 

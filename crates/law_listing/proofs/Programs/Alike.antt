@@ -8,7 +8,7 @@ use Rattle.dv_defs.specs.declared.faults.LineKind.{LineKind}
 use Rattle.dv_defs.specs.declared.run.Entry.{Entry}
 use Rattle.dv_lex.specs.declared.token.TokenKind.{TokenKind}
 use Rattle.dv_lex.specs.declared.token.TokenKind.TheVariants as token
-use Rattle.dv_lex.specs.Bytes.{class_of, is_plain, is_plain_class}
+use Rattle.dv_lex.specs.Bytes.{byte_class, is_plain, is_plain_class}
 use Rattle.dv_lex.specs.Grammar.{IsLexeme, IsText}
 use Rattle.dv_lex.specs.Lexemes.{Lexeme}
 use Rattle.dv_lex.specs.Numbers.{Number, IsNumber, in_bits, is_whole, magnitude, negated, signed}
@@ -104,13 +104,13 @@ mark_spells_none w (b, is) n =
     false≢true (ap is_plain_class (sym is.1) ∙ p)
 
 string_spells_none : (w : List ℕ) → IsText token.Str w → IsNumber w → ⊥
-unfolding class_of
+unfolding byte_class
 string_spells_none w (units, is) n =
     let plain : list_all is_plain w ≡ true = (number_is_word w n).1 in
     false≢true (ap (list_all is_plain) (sym is.quoted) ∙ plain)
 
 character_spells_none : (w : List ℕ) → IsText token.Char w → IsNumber w → ⊥
-unfolding class_of
+unfolding byte_class
 character_spells_none w (unit, is) n =
     let plain : list_all is_plain w ≡ true = (number_is_word w n).1 in
     false≢true (ap (list_all is_plain) (sym is.quoted) ∙ plain)

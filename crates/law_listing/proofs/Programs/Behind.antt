@@ -6,7 +6,7 @@ use Rattle.dv_lex.specs.declared.line.Stop.{Stop}
 use Rattle.dv_coderead.specs.Giving.{◌>>>◌, on_line}
 use Rattle.dv_coderead.specs.Heads.{head_of}
 use Rattle.dv_coderead.specs.Kept.{TextLine}
-use Rattle.dv_coderead.specs.Operands.{behind, ended}
+use Rattle.dv_coderead.specs.Operands.{after_first, ended}
 use Rattle.dv_classread.specs.declared.class_line.ClassLine.{ClassLine}
 use Rattle.dv_classread.specs.declared.class_line.ClassLine.TheVariants as line
 use Rattle.dv_classread.specs.declared.class_line.Signature.{Signature}
@@ -73,14 +73,14 @@ module _ (past : ℕ) where
 
   -- the line that ends a method
   end_told : (s : Standing) (sig : Signature) (before : List TextLine) (l : TextLine) (b : Option BodyDraft) (nothing : Unit {0}) (end : Option Stop) (more : List TextLine)
-      → ends_method (head_of l.pieces) ≡ true → method_body sig l.number before ≡ Ok b → ended (behind (behind l.pieces)) ≡ Ok nothing
+      → ends_method (head_of l.pieces) ≡ true → method_body sig l.number before ≡ Ok b → ended (after_first (after_first l.pieces)) ≡ Ok nothing
       → told_from end past (InMethod s sig before) (l ∷ more) ≡ and_told (Method (record { signature = sig; body = b })) (told_from end past (InClass s) more)
   unfolding told_from
   end_told s sig before l b nothing end more ends body alone =
       cond-true (ends_method (head_of l.pieces)) _ _ ends ∙ rw (body, alone) refl
 
   end_goes : (s : Standing) (sig : Signature) (before : List TextLine) (l : TextLine) (ls : List TextLine) (b : Result (Option BodyDraft) Stop) (n : Result (Unit {0}) LineKind) (read : Result (List Told) Stop)
-      → ends_method (head_of l.pieces) ≡ true → method_body sig l.number before ≡ b → ended (behind (behind l.pieces)) ≡ n → IfOk read (Goes past (InClass s) ls)
+      → ends_method (head_of l.pieces) ≡ true → method_body sig l.number before ≡ b → ended (after_first (after_first l.pieces)) ≡ n → IfOk read (Goes past (InClass s) ls)
       → IfOk (b >>> λ b. on_line l.number n >>> λ nothing. and_told (Method (record { signature = sig; body = b })) read) (Goes past (InMethod s sig before) (l ∷ ls))
   end_goes s sig before l ls (Ok b) (Ok nothing) read ends body alone g =
       one_goes (InMethod s sig before) (InClass s) l ls (Method (record { signature = sig; body = b })) read (λ end more. end_told s sig before l b nothing end (ls ++ more) ends body alone) g
@@ -100,7 +100,7 @@ module _ (past : ℕ) where
   goes_on (InMethod s sig before) (l ∷ ls) =
       let P : Result (List Told) Stop → Type 0 = λ r. IfOk r (Goes past (InMethod s sig before) (l ∷ ls)) in
       cond_both (ends_method (head_of l.pieces)) _ _ P
-      (λ e. end_goes s sig before l ls (method_body sig l.number before) (ended (behind (behind l.pieces))) (told_from None past (InClass s) ls) e refl refl (goes_on (InClass s) ls))
+      (λ e. end_goes s sig before l ls (method_body sig l.number before) (ended (after_first (after_first l.pieces))) (told_from None past (InClass s) ls) e refl refl (goes_on (InClass s) ls))
       (λ on. cond_both (leaves_method (head_of l.pieces)) _ _ P (λ _. tt)
       (λ stays. same_goes (InMethod s sig before) (InMethod s sig (before ++ l ∷ [])) l ls (told_from None past (InMethod s sig (before ++ l ∷ [])) ls)
       (λ end more. inside_told s sig before l end (ls ++ more) on stays) (goes_on (InMethod s sig (before ++ l ∷ [])) ls)))

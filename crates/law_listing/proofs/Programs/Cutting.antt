@@ -9,7 +9,7 @@ use Rattle.dv_coderead.specs.declared.head.Head.{Head}
 use Rattle.dv_coderead.specs.declared.head.Head.TheVariants as head
 use Rattle.dv_coderead.specs.Heads.{head_of}
 use Rattle.dv_coderead.specs.Kept.{TextLine, counts}
-use Rattle.dv_coderead.specs.Operands.{behind, ended}
+use Rattle.dv_coderead.specs.Operands.{after_first, ended}
 use Rattle.dv_coderead.specs.Pieces.{Piece}
 use Rattle.dv_classread.specs.declared.class_line.ClassLine.{ClassLine}
 use Rattle.dv_classread.specs.declared.class_line.ClassLine.TheVariants as line
@@ -75,7 +75,7 @@ told_none past (InMethod s sig before) (l ∷ ls) =
     cond_both (ends_method (head_of l.pieces)) _ _ (BeginNone (l ∷ ls)) (λ e.
     let read = told_from None past (InClass s) ls in
     then_listed (λ _. Unit {0}) (λ _. All BeginsNone (l ∷ ls)) (method_body sig l.number before) _ (always (Unit {0}) (method_body sig l.number before) tt) (λ b _.
-    line_then (λ _. Unit {0}) (λ _. All BeginsNone (l ∷ ls)) l.number (ended (behind (behind l.pieces))) _ (any_ok (ended (behind (behind l.pieces)))) (λ _ _.
+    line_then (λ _. Unit {0}) (λ _. All BeginsNone (l ∷ ls)) l.number (ended (after_first (after_first l.pieces))) _ (any_ok (ended (after_first (after_first l.pieces)))) (λ _ _.
     and_told_none (Method (record { signature = sig; body = b })) (l ∷ ls) read (one_more l ls read (end_none (head_of l.pieces) e) (told_none past (InClass s) ls))))) (λ _.
     cond_both (leaves_method (head_of l.pieces)) _ _ (BeginNone (l ∷ ls)) (λ _. tt) (λ stays.
     let next = InMethod s sig (before ++ l ∷ []) in

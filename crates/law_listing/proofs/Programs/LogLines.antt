@@ -15,7 +15,7 @@ use Rattle.dv_coderead.specs.declared.head.Directive.TheVariants as directive
 use Rattle.dv_coderead.specs.declared.head.Head.{Head}
 use Rattle.dv_coderead.specs.declared.head.Head.TheVariants as head
 use Rattle.dv_coderead.specs.Heads.{first_word, head_of, insn_head, is_float_name, word_head}
-use Rattle.dv_coderead.specs.Operands.{behind, ended}
+use Rattle.dv_coderead.specs.Operands.{after_first, ended}
 use Rattle.dv_coderead.specs.Pieces.{Piece, AWord, AMark, AString, ACharacter, piece_by, piece_of, pieces_of}
 use Rattle.dv_coderead.specs.Words.{begins_with}
 use Rattle.dv_classread.specs.declared.schedule.LogLine.TheVariants as says
@@ -67,7 +67,7 @@ end_no_entry e (Err k) h = cc
 
 entry_said : (h : Head) (ps : List Piece) (e : Entry) → log_line_by h ps ≡ Ok (says.One e) → entry_in ps ≡ Ok e
 entry_said head.Blank ps e is = absurd (cc)
-entry_said (head.Directive directive.EndSchedule) ps e is = absurd (end_no_entry e (ended (behind (behind ps))) is)
+entry_said (head.Directive directive.EndSchedule) ps e is = absurd (end_no_entry e (ended (after_first (after_first ps))) is)
 entry_said h ps e is = said_entry e (entry_in ps) is
 
 entry_to : (ps : List Piece) (e : Entry) → log_line ps ≡ Ok (says.One e) → entry_in ps ≡ Ok e
@@ -109,7 +109,7 @@ end_no_nothing (Err k) h = cc
 
 not_nothing : (h : Head) (ps : List Piece) → IsNotBlank h → log_line_by h ps ≡ Ok says.Nothing → ⊥
 not_nothing head.Blank ps some is = some
-not_nothing (head.Directive directive.EndSchedule) ps some is = end_no_nothing (ended (behind (behind ps))) is
+not_nothing (head.Directive directive.EndSchedule) ps some is = end_no_nothing (ended (after_first (after_first ps))) is
 not_nothing h ps some is = said_no_nothing (entry_in ps) is
 
 nothing_to : (ts : List Lexeme) → log_line (pieces_of ts) ≡ Ok says.Nothing → ts ≡ []

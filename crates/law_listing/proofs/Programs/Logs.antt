@@ -14,7 +14,7 @@ use Rattle.dv_coderead.specs.declared.head.Head.TheVariants as head
 use Rattle.dv_coderead.specs.Bodies.{number_behind}
 use Rattle.dv_coderead.specs.Heads.{head_of}
 use Rattle.dv_coderead.specs.Kept.{TextLine, kept, line_of, open_behind}
-use Rattle.dv_coderead.specs.Operands.{behind, ended}
+use Rattle.dv_coderead.specs.Operands.{after_first, ended}
 use Rattle.dv_coderead.specs.Pieces.{Piece, AWord}
 use Rattle.dv_coderead.specs.Words.{literal_in}
 use Rattle.dv_classread.specs.declared.schedule.LogLine.{LogLine}
@@ -62,7 +62,7 @@ said_listed f (Err k) is = tt
 
 line_by_listed : (h : Head) (ps : List Piece) → IfOk (log_line_by h ps) IsLogLine
 line_by_listed head.Blank ps = tt
-line_by_listed (head.Directive directive.EndSchedule) ps = said_listed (λ (nothing : Unit {0}). log.End) (ended (behind (behind ps))) (always (Unit {0}) (ended (behind (behind ps))) tt)
+line_by_listed (head.Directive directive.EndSchedule) ps = said_listed (λ (nothing : Unit {0}). log.End) (ended (after_first (after_first ps))) (always (Unit {0}) (ended (after_first (after_first ps))) tt)
 line_by_listed h ps = said_listed log.One (entry_in ps) (entry_listed ps)
 
 line_listed : (ps : List Piece) → IfOk (log_line ps) IsLogLine
@@ -92,7 +92,7 @@ log_listed stop past (l ∷ ls) =
 
 schedule_listed : (stop : Option Stop) (past : ℕ) (first : TextLine) (ls : List TextLine) → IfOk (schedule_from stop past first ls) (All IsEntry)
 schedule_listed stop past first ls =
-    line_then (λ _. Unit {0}) (All IsEntry) first.number (ended (behind first.pieces)) _ (always (Unit {0}) (ended (behind first.pieces)) tt) (λ _ _. log_listed stop past ls)
+    line_then (λ _. Unit {0}) (All IsEntry) first.number (ended (after_first first.pieces)) _ (always (Unit {0}) (ended (after_first first.pieces)) tt) (λ _ _. log_listed stop past ls)
 
 -- ---- the whole text
 

@@ -4,7 +4,7 @@ use Rattle.std.proofs.lemmas.Result.{err_from_is_err_and}
 use Rattle.dv_lex.specs.declared.line.Line.{Line}
 use Rattle.dv_lex.specs.Lines.{HasTokens}
 use Rattle.dv_coderead.specs.Giving.{on_line, Stops}
-use Rattle.dv_coderead.specs.Operands.{behind, ended}
+use Rattle.dv_coderead.specs.Operands.{after_first, ended}
 use Rattle.dv_coderead.specs.Kept.{no_line, text_line}
 use Rattle.dv_coderead.specs.Bodies.{HasNext}
 use Rattle.dv_classread.proofs.Parts.{all_part}
@@ -28,7 +28,7 @@ returns-in-Err c = λ end past s is.
     let lines = c.args.lines.now in
     let line = get_or_read lines c.in_ok-at.at c.index-lines-at.result c.in_ok-at.ensures.inside c.index-lines-at.is no_line in
     let e = c.in-Err.error in
-    let stops = subst (λ (l : Line). Stops e (on_line (text_line text l).number (ended (behind (behind (text_line text l).pieces))))) line c.in-Err.ensures in
+    let stops = subst (λ (l : Line). Stops e (on_line (text_line text l).number (ended (after_first (after_first (text_line text l).pieces))))) line c.in-Err.ensures in
     refused_last text lines c.requires.numbered c.args.from c.args.signature.now c.in_ok-at.at c.in_ok-at.ensures end past s c.in_ok-body.body c.in_ok-body.ensures e stops
 
 pub last_line-requires-clause-tokens : goal.last_line-requires-clause-tokens
@@ -49,7 +49,7 @@ returns-in-Ok c = λ end past s is.
     let lines = c.args.lines.now in
     let at = c.in_ok-at.at in
     let line = get_or_read lines at c.index-lines-at.result c.in_ok-at.ensures.inside c.index-lines-at.is no_line in
-    let last = subst (λ (l : Line). on_line (text_line text l).number (ended (behind (behind (text_line text l).pieces))) ≡ Ok (record {})) line c.in-Ok.ensures in
+    let last = subst (λ (l : Line). on_line (text_line text l).number (ended (after_first (after_first (text_line text l).pieces))) ≡ Ok (record {})) line c.in-Ok.ensures in
     let places = place_behind c.args.from at (length lines) c.in_ok-at.ensures.behind c.in_ok-at.ensures.inside in (
       places.0,
       places.1,

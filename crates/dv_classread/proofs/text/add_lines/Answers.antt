@@ -6,7 +6,7 @@ use Rattle.dv_coderead.specs.Giving.{◌>>>◌, GivesLines, Stops}
 use Rattle.dv_coderead.specs.Kept.{kept, kept_from, open_behind, text_lines}
 use Rattle.dv_coderead.proofs.Drafts.{stops_all}
 use Rattle.dv_classread.specs.declared.program.ClassDraft.{ClassDraft}
-use Rattle.dv_classread.specs.declared.program.Program.{Program}
+use Rattle.dv_classread.specs.declared.program.ClassesSoFar.{ClassesSoFar}
 use Rattle.dv_classread.specs.Classes.{classes_from, classes_with}
 use Rattle.dv_classread.specs.Schedules.{end_with}
 use Rattle.dv_classread.specs.Texts.{Told}
@@ -14,7 +14,7 @@ use Rattle.dv_classread.proofs.Going.{at_end, at_open, end_fault}
 use Rattle.dv_classread.proofs.text.add_lines.Goals as goal
 
 -- the classes with nothing more, where nothing more is told
-with_nothing : (result : Result Unit LineError) (told : Result (List Told) Stop) (all : Result (List ClassDraft) Stop) (p : Program) → all ≡ (told >>> λ ts. Ok (classes_with p ts)) → GivesLines (λ nothing. []) result told → GivesLines (λ nothing. classes_with p []) result all
+with_nothing : (result : Result Unit LineError) (told : Result (List Told) Stop) (all : Result (List ClassDraft) Stop) (p : ClassesSoFar) → all ≡ (told >>> λ ts. Ok (classes_with p ts)) → GivesLines (λ nothing. []) result told → GivesLines (λ nothing. classes_with p []) result all
 with_nothing (Ok x) told all p is gives = is ∙ ap (λ r. r >>> λ ts. Ok (classes_with p ts)) gives
 with_nothing (Err e) told all p is stops = stops_all e told all (λ s found. is ∙ ap (λ r. r >>> λ ts. Ok (classes_with p ts)) found) stops
 

@@ -3,7 +3,7 @@ use Rattle.dv_defs.specs.Op as ops
 use Rattle.dv_words.specs.Stacks.{first}
 use Rattle.dv_words.specs.Running.{blocked_at, blocked_needing}
 use Rattle.law_words.specs.StepLaws.{CallFits}
-use Rattle.dv_call.specs.Landings.{IsSeen}
+use Rattle.dv_call.specs.Landings.{IsSeenByCalls}
 use Rattle.dv_core.specs.Machines.{machine_with}
 use Rattle.dv_core.specs.Opcodes.{opcode_at}
 use Rattle.dv_core.proofs.Opcodes.{holds_up_none, some_opcode}
@@ -40,7 +40,7 @@ returns c s e l f ls are finds levels watched =
     let has = has_code image f watched.stands in
     let h = here image g stack f ls levels t has in
     let found = c.in_ok-here.ensures (thread_here image g stack f ls levels t has) h has.x refl (stack_here image g stack f ls levels t has) (at_here image g stack f ls levels t has) in
-    let seen : IsSeen image g.heap stack h = record { same_image = refl; same_heap = refl; is_stack = stack_here image g stack f ls levels t has } in
+    let seen : IsSeenByCalls image g.heap stack h = record { same_image = refl; same_heap = refl; is_stack = stack_here image g stack f ls levels t has } in
     let fits = subst (CallFits image) (sym found.means) (watched.call has.x has.fetched) in
     c.blocked_needing.ensures s e l h found.code found.at are finds seen has.method fits ∙
     (ap (λ (o : ops.Op). blocked_needing image m t has.own f o (ops.needs o)) found.means ∙

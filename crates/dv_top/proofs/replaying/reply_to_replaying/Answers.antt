@@ -18,12 +18,12 @@ returns-then-is_too_large-clause-legal c bytes read some = absurd (some c.requir
 pub returns-in-Ok-clause-said : goal.returns-in-Ok-clause-said
 returns-in-Ok-clause-said c bytes read =
     let found = found_in (program_to_replay c.args.class.now) bytes c.args.text.now _ read (MatchBool-at_false _ _ c.if-is_too_large.false c.is_too_large.ensures) c.in-Ok.ensures.program in
-    c.reply_to_program.ensures.said bytes (program_to_replay c.args.class.now bytes) found.0 found.1
+    c.reply_of_program_replayed.ensures.said bytes (program_to_replay c.args.class.now bytes) found.0 found.1
 
 pub returns-in-Ok-clause-legal : goal.returns-in-Ok-clause-legal
 returns-in-Ok-clause-legal c bytes read some =
     let found = found_in (program_to_replay c.args.class.now) bytes c.args.text.now _ read (MatchBool-at_false _ _ c.if-is_too_large.false c.is_too_large.ensures) c.in-Ok.ensures.program in
-    c.reply_to_program.ensures.legal bytes (program_to_replay c.args.class.now bytes) found.0 found.1 some
+    c.reply_of_program_replayed.ensures.legal bytes (program_to_replay c.args.class.now bytes) found.0 found.1 some
 
 pub returns-in-Err-clause-said : goal.returns-in-Err-clause-said
 returns-in-Err-clause-said c bytes read =

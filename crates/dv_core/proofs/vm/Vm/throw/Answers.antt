@@ -4,7 +4,7 @@ use Rattle.dv_words.specs.State.{WordShared}
 use Rattle.dv_words.specs.Step.{end_flying, moved_on, thrown, with_thread}
 use Rattle.dv_words.specs.Steps.{leaves}
 use Rattle.dv_words.specs.Unwinding.{made_object}
-use Rattle.dv_throw.specs.Answers.{IsMade}
+use Rattle.dv_throw.specs.Answers.{ThrowsMade}
 use Rattle.dv_core.specs.declared.guest.Guest.{Guest}
 use Rattle.dv_core.specs.Guests.{IsOrdered}
 use Rattle.dv_core.specs.Machines.{machine_of}
@@ -20,7 +20,7 @@ returns-clause-ok c own h x seen at few =
     let t = c.args.thread in
     let object = c.in-ThrowRef.object in
     let result : c.make.result ≡ Ok (next.ThrowRef object) = c.in_ok-made.was ∙ ap Ok c.in-ThrowRef.is in
-    let made = subst (λ r. IsMade r (made_object i old.guest.heap c.args.named) old.guest.heap heap) result c.make.ensures in
+    let made = subst (λ r. ThrowsMade r (made_object i old.guest.heap c.args.named) old.guest.heap heap) result c.make.ensures in
     let h' = with_heap_of h heap in
     let l = leaves h'.shared (moved_on x own.levels) in
     let left = c.leave_exit_of.ensures old.limits own h' x (heap_seen i old.limits old.guest g t own h seen refl refl refl) (stands_with own h heap x at) in

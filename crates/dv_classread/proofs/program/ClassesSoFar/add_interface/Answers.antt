@@ -1,0 +1,9 @@
+use Rattle.std.proofs.lemmas.Result.{on_ok_weaker}
+use Rattle.dv_classread.proofs.Adding.{adds_interface, nowhere_interface}
+use Rattle.dv_classread.proofs.program.ClassesSoFar.add_interface.Goals as goal
+
+pub returns-in-Some : goal.returns-in-Some
+returns-in-Some c = on_ok_weaker c.push.result (adds_interface c.args.self.now c.in-Some.class c.in-Some.is c.args.name c.push.new.self) c.push.ensures.ok
+
+pub returns-in-None : goal.returns-in-None
+returns-in-None c = nowhere_interface c.args.self.now c.args.name c.in-None.is
