@@ -2,7 +2,7 @@
 use Rattle.std.proofs.Common.{◌≡◌, ◌∙◌, ◌+◌, ◌<◌, ◌^◌, ℕ, zero, suc, Bool, true, false, List, [], ◌∷◌, length, map, Option, Some, None, refl, sym, ap, subst, arith}
 use Rattle.std.specs.List.{list_all}
 use Rattle.std.specs.Option.{is_some}
-use Rattle.std.specs.Prelude.{◌==◌, ◌&&◌, bytes_eq, if◌then◌else◌, is_none, nat_lt, not, position, slice_get}
+use Rattle.std.specs.Prelude.{◌==◌, ◌&&◌, if◌then◌else◌, is_none, nat_lt, not, position, slice_get}
 use Rattle.std.proofs.lemmas.Bool.Decides.{nat_tests}
 use Rattle.std.proofs.lemmas.Iterator.Adapters.{position_from-zero}
 use Rattle.std.proofs.lemmas.Option.{same_Some}
@@ -13,34 +13,31 @@ use Rattle.dv_defs.specs.declared.machine.End.TheVariants as end
 use Rattle.dv_defs.specs.declared.run.Named.TheVariants as named
 use Rattle.dv_defs.specs.declared.run.Native.{Native}
 use Rattle.dv_defs.specs.Images.{Image}
-use Rattle.dv_defs.specs.Names.{init_name}
 use Rattle.dv_defs.specs.Op.{Invoke}
 use Rattle.dv_defs.specs.Parts.{Call}
-use Rattle.dv_defs.specs.Pools.{Method, is_abstract, is_constructor, is_static, method_at, nearest, parent_at}
+use Rattle.dv_defs.specs.Pools.{Method, is_abstract, is_constructor, is_static, method_at}
 use Rattle.dv_typing.specs.Statics as statics
 use Rattle.dv_typing.specs.Statics.{fetch}
 use Rattle.dv_machine.specs.Accepted.{FindsRightly}
-use Rattle.dv_machine.specs.Calls.{Landing, Lacks, Lands, found, native_of, nearest_from, receiver_of, unless_abstract}
+use Rattle.dv_machine.specs.Calls.{Landing, Lacks, Lands, native_of, receiver_of, unless_abstract}
 use Rattle.dv_words.specs.declared.state.Frame.{Frame}
 use Rattle.dv_words.specs.declared.state.Level.{Level}
 use Rattle.dv_words.specs.declared.state.Level.TheVariants as level
-use Rattle.dv_words.specs.Heaps.{kind_of}
 use Rattle.dv_words.specs.Stacks.{first}
-use Rattle.dv_words.specs.State.{WordHeap, WordMachine, WordStack, WordThread}
+use Rattle.dv_words.specs.State.{WordMachine, WordStack, WordThread}
 use Rattle.dv_frames.specs.declared.levels.Top.TheVariants as top
 use Rattle.dv_frames.specs.Tops.{top_of}
 use Rattle.dv_defs.specs.declared.names.MethodId.{MethodId}
 use Rattle.dv_words.specs.Answering.{IsStackOf}
-use Rattle.dv_words.specs.Calls.{dispatch, implements_it}
+use Rattle.dv_words.specs.Calls.{dispatch}
 use Rattle.dv_words.specs.Local.{reg_word}
 use Rattle.dv_words.specs.Running.{blocked_call, blocked_join, blocked_landing, blocked_levels, blocked_native, blocked_of, blocked_one, blocked_receiver, blocked_thread, all_ended, any_runnable, runnable, runnable_one, runnable_thread}
 use Rattle.dv_words.specs.Steps.{At}
-use Rattle.dv_words.specs.Threads.{class_of_kind, is_alive, is_living, thread_with}
+use Rattle.dv_words.specs.Threads.{is_alive, is_living, thread_with}
 use Rattle.dv_threads.specs.Kept.{threads_of, zipped}
 use Rattle.dv_threads.proofs.Begins.{found_from}
 use Rattle.dv_threads.proofs.Begins as begins
-use Rattle.law_machine.proofs.lemmas.Calls.Dispatched.{constructor_not_native}
-use Rattle.law_machine.proofs.lemmas.Returns.Constructed.{not_static}
+use Rattle.law_engine.proofs.Landings.{NoNative, lands_on_no_native}
 use Rattle.dv_call.specs.Landings.{Enters, Fails, called_in, constructs, first_of, on_landing, on_object, on_receiver, run_by}
 use Rattle.dv_core.specs.declared.guest.Guest.{Guest}
 use Rattle.dv_core.specs.declared.vm.Vm.{Vm}
@@ -84,43 +81,6 @@ module _ (g : Guest) (are : AreNumbered g) (o : ℕ) where
   -- so its number has 32 bits
   pub is_few : (u : ℕ) → true ≡ alive_in (slice_get g.threads.ends.items u) → u < 2 ^ 32
   is_few u e = let less = within g.threads.ends.items u e in omega (arith, less, are.few, are.aligned.ends)
-
--- ---- what a call of a constructor lands on is no native
-
-abbrev pub NoNative : Image → Landing → Type 0
-NoNative image (Lands m) = native_of image m ≡ None
-NoNative image (Lacks n) = Unit {0}
-
-module _ (image : Image) (finds : FindsRightly image) (g : Method) (is : is_constructor g ≡ true) where
-  unless_native : (m : Method) → is_constructor m ≡ true → NoNative image (unless_abstract m)
-  unless_native m same = by (is_abstract m)
-    where
-      by : (b : Bool) → NoNative image (if b then Lacks named.AbstractMethod else Lands m)
-      by true = tt
-      by false = constructor_not_native image m same
-
-  -- what is found has the name of the constructor
-  none_found : (c : ℕ) (r : Option Method) → nearest image c g.def.name g.def.proto ≡ r → NoNative image (found r)
-  none_found c None e = tt
-  none_found c (Some m) e =
-      let rightly = finds.nearest_is c g.def.name g.def.proto m e in
-      let sort : is_constructor m ≡ is_constructor g = ap (λ b. not b && bytes_eq m.def.name init_name) (rightly.3 ∙ sym (not_static g is)) ∙ ap (λ n. not (is_static g) && bytes_eq n init_name) rightly.1 in
-      unless_native m (sort ∙ is)
-
-  none_near : (c : Option ℕ) → NoNative image (nearest_from image c g)
-  none_near None = tt
-  none_near (Some c) = none_found c (nearest image c g.def.name g.def.proto) refl
-
-  lands_on_no_native : (w : WordHeap) (own : Method) (c : Call) (o : ℕ) → NoNative image (dispatch image w own c g o)
-  lands_on_no_native w own Call.Static o = unless_native g is
-  lands_on_no_native w own Call.Direct o = unless_native g is
-  lands_on_no_native w own Call.Super o = none_near (parent_at image own.info.class.0)
-  lands_on_no_native w own Call.Virtual o = none_near (class_of_kind image (kind_of w o))
-  lands_on_no_native w own Call.Interface o = by (implements_it image w g o)
-    where
-      by : (b : Bool) → NoNative image (if b then nearest_from image (class_of_kind image (kind_of w o)) g else Lacks named.ClassChange)
-      by true = none_near (class_of_kind image (kind_of w o))
-      by false = tt
 
 -- ---- an invoke
 

@@ -11,6 +11,8 @@ use Rattle.dv_words.specs.State.{WordMachine, WordStack, WordThread}
 use Rattle.law_words.specs.StepLaws.{with_top}
 use Rattle.dv_words.specs.Stepping.{RanLocally}
 use Rattle.dv_local.specs.Tops.{RanTop}
+use Rattle.dv_core.specs.declared.vm.Vm.{Vm}
+use Rattle.dv_core.specs.Machines.{thread_at}
 
 -- ---- the frame that goes on
 
@@ -27,6 +29,10 @@ top_frame ls = None
 abbrev pub running_frame : Option WordThread → Option Frame
 running_frame None = None
 running_frame (Some th) = if is_running th.end then top_frame th.levels else None
+
+-- the same of the thread of this number
+abbrev pub running_at : Vm → ℕ → Option Frame
+running_at v t = running_frame (thread_at v t)
 
 -- the thread of this number is living, with this frame on top of these levels
 pub record RunsFrame (m : WordMachine) (t : ℕ) (own : WordThread) (f : Frame) (ls : List Level) : Type 0 where

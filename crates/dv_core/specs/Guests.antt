@@ -1,12 +1,16 @@
 -- The state that steps change, and what a step sees and leaves of it.
-use Rattle.std.specs.Prelude.{◌≡◌, ℕ, ◌++◌, ◌∷◌, All, Bool, Option, Some, None, slice_get, slice_set}
+use Rattle.std.specs.Prelude.{◌≡◌, ℕ, ◌++◌, ◌∷◌, All, Bool, Option, Some, None, Result, slice_get, slice_set}
+use Rattle.std.specs.declared.alloc.AllocError.{AllocError}
 use Rattle.std.specs.Option.{option_to_list}
 use Rattle.dv_defs.specs.declared.names.ClassId.{ClassId}
 use Rattle.dv_defs.specs.declared.run.Limits.{Limits}
+use Rattle.dv_defs.specs.declared.run.Next.{Next}
 use Rattle.dv_defs.specs.Images.{Image}
 use Rattle.dv_defs.specs.Pools.{method_at}
 use Rattle.dv_typing.specs.Statics as statics
 use Rattle.dv_typing.specs.Statics.{fetch}
+use Rattle.dv_machine.specs.State.{Did}
+use Rattle.dv_words.specs.Answering.{Leads}
 use Rattle.dv_words.specs.declared.state.Level.TheVariants as level
 use Rattle.dv_words.specs.State.{WordShared, WordStack, WordThread}
 use Rattle.dv_words.specs.Steps.{At, Left}
@@ -55,3 +59,17 @@ pub record Stays (limits : Limits) (old new : Guest) : Type 0 where
 abbrev pub IsAtLevel : WordThread → At → Option statics.At → Type 0
 IsAtLevel own h (Some x) = IsAtOp own h x
 IsAtLevel own h None = (c : ClassId) × (r : Bool) × (own.levels ≡ level.Init c r ∷ h.rest)
+
+-- ---- how a step is told
+
+-- in each view of the thread of this number, at the operation at which it goes on
+abbrev pub AtEachOp : Image → Limits → Guest → ℕ → (WordThread → At → statics.At → Type 0) → Type 0
+AtEachOp i l g thread Says = (own : WordThread) (h : At) (x : statics.At) → IsSeen i l g thread own h → IsAtOp own h x → Says own h x
+
+-- the same where its top level may be a record
+abbrev pub AtEachLevel : Image → Limits → Guest → ℕ → (WordThread → At → Option statics.At → Type 0) → Type 0
+AtEachLevel i l g thread Says = (own : WordThread) (h : At) (x : Option statics.At) → IsSeen i l g thread own h → IsAtLevel own h x → Says own h x
+
+-- the answer is that of this step, and the guest is left as the step says; where it doesn't go on, or memory was wanting, all is as before
+abbrev pub Does : Result Next AllocError → Did Left → Limits → Guest → Guest → WordThread → At → Type 0
+Does answer step limits old new own h = Leads answer step (Leaves old new own h) (Stays limits old new)

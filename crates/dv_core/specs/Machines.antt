@@ -1,5 +1,5 @@
 -- The engine's state as a machine on words, and what becomes of it as a step is settled.
-use Rattle.std.specs.Prelude.{◌≡◌, ◌≢◌, ◌<◌, ◌-◌, ◌^◌, ◌∷◌, ℕ, zero, suc, Bool, List, [], Option, None, Result, Ok, Err}
+use Rattle.std.specs.Prelude.{◌≡◌, ◌≢◌, ◌<◌, ◌-◌, ◌^◌, ◌∷◌, ℕ, zero, suc, Bool, List, [], Option, None, Result, Ok, Err, slice_get}
 use Rattle.dv_defs.specs.declared.machine.End.{End}
 use Rattle.dv_defs.specs.declared.machine.End.TheVariants as end
 use Rattle.dv_defs.specs.declared.names.ClassId.{ClassId}
@@ -26,6 +26,14 @@ machine_with g steps stop limits = record { threads = threads_of g.threads; shar
 
 abbrev pub machine_of : Vm → WordMachine
 machine_of v = machine_with v.guest v.steps v.stop v.limits
+
+-- the thread of this number
+abbrev pub thread_at : Vm → ℕ → Option WordThread
+thread_at v t = slice_get (threads_of v.guest.threads) t
+
+-- its lists of threads are equally long, and each stack is as large as its limits say
+abbrev pub IsInOrder : Vm → Type 0
+IsInOrder v = IsOrdered v.limits v.guest
 
 -- ---- what a step takes
 

@@ -3,6 +3,8 @@ use Rattle.std.specs.Prelude.{◌≡◌, Bool, false, ◌<◌, ◌^◌, ◌∷�
 use Rattle.dv_defs.specs.declared.machine.Blocked.{Blocked}
 use Rattle.dv_defs.specs.declared.machine.End.{End}
 use Rattle.dv_defs.specs.declared.machine.End.TheVariants as end
+use Rattle.dv_defs.specs.declared.run.Ending.{Ending}
+use Rattle.dv_defs.specs.declared.run.Limits.{Limits}
 use Rattle.dv_defs.specs.Images.{Image}
 use Rattle.dv_typing.specs.Statics as statics
 use Rattle.dv_typing.specs.Statics.{fetch}
@@ -12,17 +14,18 @@ use Rattle.dv_machine.specs.WellTyped.{Typings}
 use Rattle.dv_words.specs.declared.state.Frame.{Frame}
 use Rattle.dv_words.specs.declared.state.Level.{Level}
 use Rattle.dv_words.specs.declared.state.Level.TheVariants as level
-use Rattle.dv_words.specs.State.{WordMachine, WordThread}
+use Rattle.dv_words.specs.State.{WordMachine, WordStack, WordThread}
 use Rattle.dv_words.specs.Running.{blocked_native}
 use Rattle.law_words.specs.StepLaws.{CallFits, StringsFit}
+use Rattle.dv_words.specs.Steps.{At}
 use Rattle.dv_words.specs.Threads.{is_alive}
 use Rattle.law_engine.specs.Laws.{IsSimulated}
 use Rattle.dv_threads.specs.Kept.{AreAligned, threads_of}
-use Rattle.dv_call.specs.Landings.{Landed, Runs}
+use Rattle.dv_call.specs.Landings.{IsOwn, IsSeenByCalls, Landed, Runs}
 use Rattle.dv_core.specs.declared.guest.Guest.{Guest}
 use Rattle.dv_core.specs.declared.vm.Vm.{Vm}
 use Rattle.dv_core.specs.Guests.{IsOrdered}
-use Rattle.dv_core.specs.Machines.{Stands, machine_of}
+use Rattle.dv_core.specs.Machines.{Stands, machine_of, machine_with}
 
 -- a frame stands at an instruction of its method, and its call, where it is one, fits
 pub record IsWatched (image : Image) (f : Frame) : Type 0 where
@@ -45,6 +48,15 @@ pub record AreWatchable (image : Image) (v : Vm) : Type 0 where
 pub record AreNumbered (g : Guest) : Type 0 where
   pub aligned : AreAligned g.threads
   pub few : length g.threads.stacks.items < 2 ^ 32
+
+-- in each machine with this guest, whose threads are numbered, and an image that finds its methods
+abbrev pub InEachMachine : Image → Guest → (WordMachine → Type 0) → Type 0
+InEachMachine i g Says = (s : ℕ) (e : Option Ending) (l : Limits) → AreNumbered g → FindsRightly i → Says (machine_with g s e l)
+
+-- the same in each view of the thread of this stack
+abbrev pub AtEachCall : Image → Guest → WordStack → (WordMachine → At → Type 0) → Type 0
+AtEachCall i g stack Says =
+    (s : ℕ) (e : Option Ending) (l : Limits) (h : At) → AreNumbered g → FindsRightly i → IsSeenByCalls i g.heap stack h → IsOwn h → Says (machine_with g s e l) h
 
 -- by what a call on this object comes to: only wait and join hold a thread up
 abbrev pub blocked_landed : WordMachine → ℕ → ℕ → Landed → Option Blocked

@@ -9,10 +9,9 @@ ghost use Rattle.dv_words.specs.State.{WordMachine, WordStack, WordThread};
 ghost use Rattle.law_words.specs.StepLaws.{ReadsFit, with_top};
 ghost use Rattle.dv_frames.specs.Heads.{frame as framed};
 ghost use Rattle.dv_threads.specs.Kept.{bounds, threads_of};
-ghost use Rattle.dv_core.specs.Advancing.{RanAt, RanNone, RanSteps, RunsFrame, running_frame, runs_in, takes, top_frame, with_frame};
+ghost use Rattle.dv_core.specs.Advancing.{RanAt, RanNone, RanSteps, RunsFrame, runs_in, takes, top_frame, with_frame, running_at};
 ghost use Rattle.law_engine.specs.KeepLaws.{is_local_level_of, next_is_local_of};
-ghost use Rattle.dv_core.specs.Guests.{IsOrdered};
-ghost use Rattle.dv_core.specs.Machines.{machine_of};
+ghost use Rattle.dv_core.specs.Machines.{machine_of, IsInOrder, thread_at};
 ghost use Rattle.dv_core.specs.Watching.{AreWatchable, IsTopWatched};
 
 use crate::instructions::opcode_of;
@@ -158,10 +157,10 @@ impl Vm {
     /// each is a step. Gives how many were done: none where there is no such thread, it isn't living, or its top level isn't code.
     pub fn run(&mut self, image: &Image, thread: u32, most: u32) -> u32
         ensures few { result ≤ most }
-        ensures ran { (own : WordThread) (f : Activation) (ls : List Level) → IsOrdered self.old.limits self.old.guest → RunsFrame (machine_of self.old) thread own f ls → self.old.steps + most < 2 ^ 64 →
-            RanSteps image.now most result (machine_of self.old) (machine_of self.new) thread own f ls }
-        ensures none { IsOrdered self.old.limits self.old.guest → running_frame (slice_get (threads_of self.old.guest.threads) thread) ≡ Nothing → RanNone result (machine_of self.old) (machine_of self.new) }
-        ensures ordered { IsOrdered self.old.limits self.old.guest → IsOrdered self.new.limits self.new.guest }
+        ensures ran { (own : WordThread) (f : Activation) (ls : List Level) → IsInOrder self.old → RunsFrame (machine_of self.old) thread own f ls →
+            self.old.steps + most < 2 ^ 64 → RanSteps image.now most result (machine_of self.old) (machine_of self.new) thread own f ls }
+        ensures none { IsInOrder self.old → running_at self.old thread ≡ Nothing → RanNone result (machine_of self.old) (machine_of self.new) }
+        ensures ordered { IsInOrder self.old → IsInOrder self.new }
         ensures limits { self.new.limits ≡ self.old.limits }
     {
         if !self.is_running(thread) {
@@ -175,11 +174,11 @@ impl Vm {
 
     /// The frame on top of a living thread becomes this one, where there is one with as many registers; says whether it did.
     fn put_frame(&mut self, thread: u32, frame: &Frame) -> bool
-        ensures takes { IsOrdered self.old.limits self.old.guest → result ≡ takes (running_frame (slice_get (threads_of self.old.guest.threads) thread)) frame.now }
+        ensures takes { IsInOrder self.old → result ≡ takes (running_at self.old thread) frame.now }
         ensures put { (own : WordThread) (f : Activation) (ls : List Level) → RunsFrame (machine_of self.old) thread own f ls → result ≡ true →
             machine_of self.new ≡ record (machine_of self.old) { threads = with_frame (threads_of self.old.guest.threads) thread own frame.now ls } }
         ensures stays { result ≡ false → machine_of self.new ≡ machine_of self.old }
-        ensures ordered { IsOrdered self.old.limits self.old.guest → IsOrdered self.new.limits self.new.guest }
+        ensures ordered { IsInOrder self.old → IsInOrder self.new }
         ensures limits { self.new.limits ≡ self.old.limits }
     {
         self.is_running(thread) && put_top(&mut self.guest.threads.stacks, thread, frame)
@@ -188,10 +187,10 @@ impl Vm {
     /// So many steps of a thread that were done elsewhere: its frame on top becomes this one, and they are counted. Nothing is done where
     /// there is no such thread, it isn't living, or its top level isn't code with as many registers.
     pub fn advance(&mut self, thread: u32, frame: &Frame, steps: u32)
-        ensures advanced { (own : WordThread) (f : Activation) (ls : List Level) → IsOrdered self.old.limits self.old.guest → RunsFrame (machine_of self.old) thread own f ls → length frame.now.regs ≡ length f.regs → self.old.steps + steps < 2 ^ 64 →
-            machine_of self.new ≡ with_top (machine_of self.old) thread own frame.now ls steps }
-        ensures stays { IsOrdered self.old.limits self.old.guest → takes (running_frame (slice_get (threads_of self.old.guest.threads) thread)) frame.now ≡ false → machine_of self.new ≡ machine_of self.old }
-        ensures ordered { IsOrdered self.old.limits self.old.guest → IsOrdered self.new.limits self.new.guest }
+        ensures advanced { (own : WordThread) (f : Activation) (ls : List Level) → IsInOrder self.old → RunsFrame (machine_of self.old) thread own f ls →
+            length frame.now.regs ≡ length f.regs → self.old.steps + steps < 2 ^ 64 → machine_of self.new ≡ with_top (machine_of self.old) thread own frame.now ls steps }
+        ensures stays { IsInOrder self.old → takes (running_at self.old thread) frame.now ≡ false → machine_of self.new ≡ machine_of self.old }
+        ensures ordered { IsInOrder self.old → IsInOrder self.new }
         ensures limits { self.new.limits ≡ self.old.limits }
     {
         if self.put_frame(thread, frame) {
@@ -202,10 +201,10 @@ impl Vm {
     /// Undoes so many steps of a thread, each of which touched its frame alone: its frame on top becomes again this one, from which they
     /// were done. Nothing is done where there is no such thread, it isn't living, or its top level isn't code with as many registers.
     pub fn take_back(&mut self, thread: u32, frame: &Frame, steps: u32)
-        ensures undone { (m : WordMachine) (own : WordThread) (u : Activation) (ls : List Level) → IsOrdered self.old.limits self.old.guest → RunsFrame m thread own frame.now ls → length u.regs ≡ length frame.now.regs → machine_of self.old ≡ with_top m thread own u ls steps →
-            machine_of self.new ≡ m }
-        ensures stays { IsOrdered self.old.limits self.old.guest → takes (running_frame (slice_get (threads_of self.old.guest.threads) thread)) frame.now ≡ false → machine_of self.new ≡ machine_of self.old }
-        ensures ordered { IsOrdered self.old.limits self.old.guest → IsOrdered self.new.limits self.new.guest }
+        ensures undone { (m : WordMachine) (own : WordThread) (u : Activation) (ls : List Level) → IsInOrder self.old → RunsFrame m thread own frame.now ls →
+            length u.regs ≡ length frame.now.regs → machine_of self.old ≡ with_top m thread own u ls steps → machine_of self.new ≡ m }
+        ensures stays { IsInOrder self.old → takes (running_at self.old thread) frame.now ≡ false → machine_of self.new ≡ machine_of self.old }
+        ensures ordered { IsInOrder self.old → IsInOrder self.new }
         ensures limits { self.new.limits ≡ self.old.limits }
     {
         if self.put_frame(thread, frame) {
@@ -216,7 +215,7 @@ impl Vm {
     /// The words that a step of a thread reads are `u32`s: does nothing. The laws of steps take it.
     pub fn reads_fit(&self, thread: u32)
         ensures heap { HeapFits (machine_of self.now).shared.heap }
-        ensures top { (own : WordThread) (f : Activation) (ls : List Level) → slice_get (threads_of self.now.guest.threads) thread ≡ Just own → own.levels ≡ level.Code f ∷ ls → IsSmall f }
+        ensures top { (own : WordThread) (f : Activation) (ls : List Level) → thread_at self.now thread ≡ Just own → own.levels ≡ level.Code f ∷ ls → IsSmall f }
         ensures fits { ReadsFit (machine_of self.now) thread }
     {
         self.guest.heap.words_fit();
@@ -232,7 +231,7 @@ impl Vm {
     ///
     /// Want of memory.
     pub fn copy_top(&self, thread: u32) -> Result<Option<Frame>, AllocError>
-        ensures { IsOrdered self.now.limits self.now.guest → IfOk result (λ q. q ≡ running_frame (slice_get (threads_of self.now.guest.threads) thread)) }
+        ensures { IsInOrder self.now → IfOk result (λ q. q ≡ running_at self.now thread) }
     {
         if !self.is_running(thread) {
             return Ok(None);
@@ -250,8 +249,8 @@ impl Vm {
     ///
     /// Want of memory.
     pub fn keep_top(&self, thread: u32, kept: &mut Frame) -> Result<bool, AllocError>
-        ensures some { IsOrdered self.now.limits self.now.guest → IfOk result (λ is. is ≡ true → running_frame (slice_get (threads_of self.now.guest.threads) thread) ≡ Just kept.new) }
-        ensures none { IsOrdered self.now.limits self.now.guest → IfOk result (λ is. is ≡ false → running_frame (slice_get (threads_of self.now.guest.threads) thread) ≡ Nothing) }
+        ensures some { IsInOrder self.now → IfOk result (λ is. is ≡ true → running_at self.now thread ≡ Just kept.new) }
+        ensures none { IsInOrder self.now → IfOk result (λ is. is ≡ false → running_at self.now thread ≡ Nothing) }
     {
         if !self.is_running(thread) {
             return Ok(false);

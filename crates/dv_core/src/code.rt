@@ -3,7 +3,6 @@ ghost use Rattle.std.specs.Prelude.{◌≡◌, ◌∷◌, ◌<◌, ◌^◌, ◌-
 ghost use Rattle.std.specs.declared.alloc.AllocError.{AllocError};
 ghost use Rattle.dv_defs.specs.Op as ops;
 ghost use Rattle.dv_defs.specs.Op.{named_registers};
-ghost use Rattle.dv_typing.specs.Statics as statics;
 ghost use Rattle.dv_machine.specs.Classes.{ask_of};
 ghost use Rattle.dv_defs.specs.Images.{Image as Linked};
 ghost use Rattle.dv_defs.specs.declared.run.Limits.{Limits as Bounds};
@@ -11,18 +10,17 @@ ghost use Rattle.dv_machine.specs.Mem.{on_object};
 ghost use Rattle.dv_monitor.specs.State.{count_of};
 ghost use Rattle.dv_ops.specs.Meaning.{method_of};
 ghost use Rattle.dv_units.specs.Tables.{standard_call};
-ghost use Rattle.dv_words.specs.State.{WordStack, WordThread};
+ghost use Rattle.dv_words.specs.State.{WordStack};
 ghost use Rattle.dv_words.specs.Stacks.{top_regs};
 ghost use Rattle.dv_words.specs.Words.{word_at};
 ghost use Rattle.dv_words.specs.declared.state.Level.TheVariants as level;
-ghost use Rattle.dv_words.specs.Answering.{Leads};
 ghost use Rattle.dv_words.specs.Calls as calls;
 ghost use Rattle.dv_words.specs.Local.{reg_word, word_local};
 ghost use Rattle.dv_words.specs.Natives as natives;
 ghost use Rattle.dv_words.specs.Step as steps;
 ghost use Rattle.dv_words.specs.Step.{with_ready};
 ghost use Rattle.dv_words.specs.Stepping.{KeysRise};
-ghost use Rattle.dv_words.specs.Steps.{At, leaves, mem_here, mem_left};
+ghost use Rattle.dv_words.specs.Steps.{leaves, mem_here, mem_left};
 ghost use Rattle.dv_words.specs.Threads as threads;
 ghost use Rattle.dv_mem.specs.Operands.{AreOperands};
 ghost use Rattle.dv_mem.specs.Stepping.{is_mem};
@@ -31,7 +29,7 @@ ghost use Rattle.dv_threads.specs.Kept.{HasRoom};
 ghost use Rattle.dv_threads.specs.Stepping.{is_of_threads};
 ghost use Rattle.dv_builtin.specs.Natives.{TextsFit};
 ghost use Rattle.dv_core.specs.Fitting.{StepFits};
-ghost use Rattle.dv_core.specs.Guests.{IsAtOp, IsSeen, Leaves, Stays};
+ghost use Rattle.dv_core.specs.Guests.{Leaves, Stays, AtEachOp, Does};
 ghost use Rattle.dv_core.specs.Standing.{IsFound, IsHere};
 
 use crate::guest::Guest;
@@ -57,8 +55,8 @@ pub fn step_code(
     guest: &mut Guest,
     thread: u32,
 ) -> Result<Next, AllocError>
-    ensures { (own : WordThread) (h : At) (x : statics.At) → IsSeen image.now limits.now guest.old thread own h → IsAtOp own h x → StepFits h x.op →
-        Leads result (with_ready h x.op (ops.needs x.op)) (Leaves guest.old guest.new own h) (Stays limits.now guest.old guest.new) }
+    ensures { AtEachOp image.now limits.now guest.old thread (λ own h x. StepFits h x.op →
+        Does result (with_ready h x.op (ops.needs x.op)) limits.now guest.old guest.new own h) }
 {
     if step_locally(image, guest, thread) {
         return Ok(Next::On);
@@ -74,9 +72,10 @@ pub fn step_code(
 
 /// Does the instruction on top where it touches its frame alone. A switch's keys rise in accepted code.
 fn step_locally(image: &Image, guest: &mut Guest, thread: u32) -> bool
-    ensures local { (l : Bounds) (own : WordThread) (h : At) (x : statics.At) → IsSeen image.now l guest.old thread own h → IsAtOp own h x → ops.is_local x.op ≡ result }
-    ensures does { (l : Bounds) (own : WordThread) (h : At) (x : statics.At) → IsSeen image.now l guest.old thread own h → IsAtOp own h x → KeysRise x.op → result ≡ true → Leaves guest.old guest.new own h (leaves h.shared (level.Code (word_local x.op h.frame h.next) ∷ h.rest)) }
-    ensures stays { (l : Bounds) (own : WordThread) (h : At) (x : statics.At) → IsSeen image.now l guest.old thread own h → IsAtOp own h x → result ≡ false → Stays l guest.old guest.new }
+    ensures local { (l : Bounds) → AtEachOp image.now l guest.old thread (λ own h x. ops.is_local x.op ≡ result) }
+    ensures does { (l : Bounds) → AtEachOp image.now l guest.old thread (λ own h x. KeysRise x.op → result ≡ true →
+        Leaves guest.old guest.new own h (leaves h.shared (level.Code (word_local x.op h.frame h.next) ∷ h.rest))) }
+    ensures stays { (l : Bounds) → AtEachOp image.now l guest.old thread (λ own h x. result ≡ false → Stays l guest.old guest.new) }
 {
     let place = thread as usize;
     if place >= guest.threads.stacks.len() {
@@ -87,7 +86,7 @@ fn step_locally(image: &Image, guest: &mut Guest, thread: u32) -> bool
 
 /// The instruction at which a thread's frame on top goes on.
 fn instruction_at<'a>(image: &'a Image, guest: &Guest, thread: u32) -> Option<Instruction<'a>>
-    ensures { (l : Bounds) (own : WordThread) (h : At) (x : statics.At) → IsSeen image.now l guest.now thread own h → IsAtOp own h x → IsFound result h x.op }
+    ensures { (l : Bounds) → AtEachOp image.now l guest.now thread (λ own h x. IsFound result h x.op) }
 {
     let place = thread as usize;
     if place >= guest.threads.stacks.len() {
@@ -106,8 +105,8 @@ fn with_class(
     here: &Instruction<'_>,
     class: ClassId,
 ) -> Result<Next, AllocError>
-    ensures { (own : WordThread) (h : At) (x : statics.At) → IsSeen image.now limits.now guest.old thread own h → IsAtOp own h x → StepFits h x.op → ops.is_local x.op ≡ false → IsHere here.now h x.op →
-        Leads result (steps.for_class h (level.Code h.frame ∷ h.rest) class.0 (ask_of h.shared.classes class.0 h.thread) (steps.act h x.op)) (Leaves guest.old guest.new own h) (Stays limits.now guest.old guest.new) }
+    ensures { AtEachOp image.now limits.now guest.old thread (λ own h x. StepFits h x.op → ops.is_local x.op ≡ false → IsHere here.now h x.op →
+        Does result (steps.for_class h (level.Code h.frame ∷ h.rest) class.0 (ask_of h.shared.classes class.0 h.thread) (steps.act h x.op)) limits.now guest.old guest.new own h) }
 {
     match guest.classes.ask(class, thread) {
         Ask::Go => act(image, limits, guest, thread, here),
@@ -125,8 +124,8 @@ fn act(
     thread: u32,
     here: &Instruction<'_>,
 ) -> Result<Next, AllocError>
-    ensures { (own : WordThread) (h : At) (x : statics.At) → IsSeen image.now limits.now guest.old thread own h → IsAtOp own h x → StepFits h x.op → ops.is_local x.op ≡ false → IsHere here.now h x.op →
-        Leads result (steps.act h x.op) (Leaves guest.old guest.new own h) (Stays limits.now guest.old guest.new) }
+    ensures { AtEachOp image.now limits.now guest.old thread (λ own h x. StepFits h x.op → ops.is_local x.op ≡ false → IsHere here.now h x.op →
+        Does result (steps.act h x.op) limits.now guest.old guest.new own h) }
 {
     match here.op {
         Op::Invoke(call, regs, method) => {
@@ -142,8 +141,8 @@ fn act(
 
 /// monitor-enter of the object in a register.
 fn enter_monitor(guest: &mut Guest, thread: u32, next: u32, reg: u16) -> Result<Next, AllocError>
-    ensures { (i : Linked) (l : Bounds) (own : WordThread) (h : At) (x : statics.At) → IsSeen i l guest.old thread own h → IsAtOp own h x → h.next ≡ next → count_of h.shared.monitors (reg_word h.frame reg) < 2 ^ 64 - 1 →
-        Leads result (on_object (threads.monitor_enter h) (reg_word h.frame reg)) (Leaves guest.old guest.new own h) (Stays l guest.old guest.new) }
+    ensures { (i : Linked) (l : Bounds) → AtEachOp i l guest.old thread (λ own h x. h.next ≡ next → count_of h.shared.monitors (reg_word h.frame reg) < 2 ^ 64 - 1 →
+        Does result (on_object (threads.monitor_enter h) (reg_word h.frame reg)) l guest.old guest.new own h) }
 {
     let object = word(guest, thread, reg);
     monitor_enter(&mut guest.threads, thread, next, object)
@@ -151,8 +150,8 @@ fn enter_monitor(guest: &mut Guest, thread: u32, next: u32, reg: u16) -> Result<
 
 /// monitor-exit of the object in a register.
 fn leave_monitor(guest: &mut Guest, thread: u32, next: u32, reg: u16) -> Result<Next, AllocError>
-    ensures { (i : Linked) (l : Bounds) (own : WordThread) (h : At) (x : statics.At) → IsSeen i l guest.old thread own h → IsAtOp own h x → h.next ≡ next →
-        Leads result (on_object (threads.monitor_exit h) (reg_word h.frame reg)) (Leaves guest.old guest.new own h) (Stays l guest.old guest.new) }
+    ensures { (i : Linked) (l : Bounds) → AtEachOp i l guest.old thread (λ own h x. h.next ≡ next →
+        Does result (on_object (threads.monitor_exit h) (reg_word h.frame reg)) l guest.old guest.new own h) }
 {
     let object = word(guest, thread, reg);
     monitor_exit(&mut guest.threads, thread, next, object)
@@ -175,8 +174,8 @@ fn touch(
     thread: u32,
     here: &Instruction<'_>,
 ) -> Result<Next, AllocError>
-    ensures { (l : Bounds) (own : WordThread) (h : At) (x : statics.At) → IsSeen image.now l guest.old thread own h → IsAtOp own h x → IsHere here.now h x.op → is_mem x.op ≡ true → AreOperands (mem_here h) x.op →
-        Leads result (mem_left h x.op) (Leaves guest.old guest.new own h) (Stays l guest.old guest.new) }
+    ensures { (l : Bounds) → AtEachOp image.now l guest.old thread (λ own h x. IsHere here.now h x.op → is_mem x.op ≡ true → AreOperands (mem_here h) x.op →
+        Does result (mem_left h x.op) l guest.old guest.new own h) }
 {
     let place = thread as usize;
     if place >= guest.threads.stacks.len() {
@@ -203,8 +202,8 @@ fn invoke(
     regs: &Regs,
     method: Method<'_>,
 ) -> Result<Next, AllocError>
-    ensures { (own : WordThread) (h : At) (x : statics.At) → IsSeen image.now limits.now guest.old thread own h → IsAtOp own h x → StepFits h (ops.Invoke (standard_call call) (named_registers regs.now) (method_of method.entry)) → h.next ≡ next →
-        Leads result (calls.invoke h (standard_call call) (named_registers regs.now) (method_of method.entry)) (Leaves guest.old guest.new own h) (Stays limits.now guest.old guest.new) }
+    ensures { AtEachOp image.now limits.now guest.old thread (λ own h x. StepFits h (ops.Invoke (standard_call call) (named_registers regs.now) (method_of method.entry)) → h.next ≡ next →
+        Does result (calls.invoke h (standard_call call) (named_registers regs.now) (method_of method.entry)) limits.now guest.old guest.new own h) }
 {
     let place = thread as usize;
     if place >= guest.threads.stacks.len() {
@@ -250,8 +249,8 @@ fn run_native(
     native: Native,
     regs: &Regs,
 ) -> Result<Next, AllocError>
-    ensures { (own : WordThread) (h : At) (x : statics.At) → IsSeen image.now limits.now guest.old thread own h → IsAtOp own h x → HasRoom h.limits → TextsFit h.shared.heap native (map (reg_word h.frame) (named_registers regs.now)) → h.next ≡ next →
-        Leads result (natives.native_step h native (map (reg_word h.frame) (named_registers regs.now))) (Leaves guest.old guest.new own h) (Stays limits.now guest.old guest.new) }
+    ensures { AtEachOp image.now limits.now guest.old thread (λ own h x. HasRoom h.limits → TextsFit h.shared.heap native (map (reg_word h.frame) (named_registers regs.now)) → h.next ≡ next →
+        Does result (natives.native_step h native (map (reg_word h.frame) (named_registers regs.now))) limits.now guest.old guest.new own h) }
 {
     if is_of_threads(native) {
         return dv_threads::native_step(
@@ -283,8 +282,8 @@ fn run_native(
 
 /// return-void.
 fn leave(image: &Image, guest: &mut Guest, thread: u32) -> Next
-    ensures { (l : Bounds) (own : WordThread) (h : At) (x : statics.At) → IsSeen image.now l guest.old thread own h → IsAtOp own h x → CallerStands h →
-        Leads {E = AllocError} (Ok result) (calls.return_void h) (Leaves guest.old guest.new own h) (Stays l guest.old guest.new) }
+    ensures { (l : Bounds) → AtEachOp image.now l guest.old thread (λ own h x. CallerStands h →
+        Does (Ok result) (calls.return_void h) l guest.old guest.new own h) }
 {
     let place = thread as usize;
     if place >= guest.threads.stacks.len() {
@@ -295,8 +294,8 @@ fn leave(image: &Image, guest: &mut Guest, thread: u32) -> Next
 
 /// A return with a value.
 fn leave_with(image: &Image, guest: &mut Guest, thread: u32, reg: u16) -> Next
-    ensures { (l : Bounds) (own : WordThread) (h : At) (x : statics.At) → IsSeen image.now l guest.old thread own h → IsAtOp own h x → CallerStands h →
-        Leads {E = AllocError} (Ok result) (calls.return_form h reg) (Leaves guest.old guest.new own h) (Stays l guest.old guest.new) }
+    ensures { (l : Bounds) → AtEachOp image.now l guest.old thread (λ own h x. CallerStands h →
+        Does (Ok result) (calls.return_form h reg) l guest.old guest.new own h) }
 {
     let place = thread as usize;
     if place >= guest.threads.stacks.len() {

@@ -1,8 +1,7 @@
 // What becomes of a step's answer.
-ghost use Rattle.std.specs.Prelude.{◌≡◌, ℕ, None, Ok, Option, ◌<◌, ◌-◌, ◌^◌, OnErr, OnOk, Some, length, nat_eq, slice_get, slice_set};
+ghost use Rattle.std.specs.Prelude.{◌≡◌, ℕ, None, Ok, Option, ◌<◌, ◌-◌, ◌^◌, OnErr, OnOk, Some, length, nat_eq, slice_set};
 ghost use Rattle.dv_words.specs.State.{WordThread};
-ghost use Rattle.dv_threads.specs.Kept.{threads_of};
-ghost use Rattle.dv_core.specs.Guests.{IsAtOp, IsOrdered, IsSeen, Leaves, IsAtLevel, Stays};
+ghost use Rattle.dv_core.specs.Guests.{IsAtOp, IsOrdered, IsSeen, Leaves, Stays, AtEachLevel, Does};
 ghost use Rattle.dv_core.specs.Settling.{behind_exit};
 ghost use Rattle.dv_defs.specs.declared.run.Limits.{Limits as Bounds};
 ghost use Rattle.dv_typing.specs.Flow.{is_exit};
@@ -11,7 +10,7 @@ ghost use Rattle.dv_typing.specs.Statics as statics;
 ghost use Rattle.dv_ops.specs.Meaning.{meant};
 ghost use Rattle.dv_words.specs.Stacks.{first, with_levels};
 ghost use Rattle.dv_frames.specs.Tops.{head_of};
-ghost use Rattle.dv_words.specs.Answering.{IsStackOf, Leads};
+ghost use Rattle.dv_words.specs.Answering.{IsStackOf};
 ghost use Rattle.dv_words.specs.Steps.{At, Left, leaves};
 ghost use Rattle.dv_words.specs.Step.{end_after, end_flying, moved_on, settled, settled_flight, stopped, thrown};
 ghost use Rattle.dv_words.specs.Unwinding.{Unwound, made_object};
@@ -20,7 +19,7 @@ ghost use Rattle.dv_core.specs.declared.guest.Guest.{Guest as Before};
 ghost use Rattle.dv_defs.specs.Images.{Image as Linked};
 ghost use Rattle.dv_machine.specs.State.{Did};
 ghost use Rattle.std.specs.declared.alloc.AllocError.{AllocError};
-ghost use Rattle.dv_core.specs.Machines.{counted, machine_of, machine_with};
+ghost use Rattle.dv_core.specs.Machines.{counted, machine_of, machine_with, IsInOrder, thread_at};
 
 use crate::guest::Guest;
 use crate::instructions::instruction_of;
@@ -64,8 +63,7 @@ fn leave_exit(image: &Image, stack: &mut Stack)
 
 /// The same of a thread's stack.
 fn leave_exit_of(image: &Image, guest: &mut Guest, thread: u32)
-    ensures { (l : Bounds) (own : WordThread) (h : At) (x : Option statics.At) → IsSeen image.now l guest.old thread own h → IsAtLevel own h x →
-        Leaves guest.old guest.new own h (leaves h.shared (moved_on x own.levels)) }
+    ensures { (l : Bounds) → AtEachLevel image.now l guest.old thread (λ own h x. Leaves guest.old guest.new own h (leaves h.shared (moved_on x own.levels))) }
 {
     let place = thread as usize;
     if place >= guest.threads.stacks.len() {
@@ -87,7 +85,7 @@ fn set_end(ends: &mut Vec<End>, thread: u32, end: End)
 impl Vm {
     /// Whether a thread has no level any more.
     fn is_done(&self, thread: u32) -> bool
-        ensures { (own : WordThread) → slice_get (threads_of self.now.guest.threads) thread ≡ Some own → result ≡ nat_eq (length own.levels) 0 }
+        ensures { (own : WordThread) → thread_at self.now thread ≡ Some own → result ≡ nat_eq (length own.levels) 0 }
     {
         match self.guest.threads.stacks.get(thread as usize) {
             Some(stack) => stack.levels() == 0,
@@ -98,7 +96,7 @@ impl Vm {
     /// A thread stands so, and a step is counted.
     fn count(&mut self, thread: u32, end: End)
         ensures machine { self.old.steps < 2 ^ 64 - 1 → machine_of self.new ≡ counted (machine_of self.old) thread (λ ls. end) }
-        ensures ordered { IsOrdered self.old.limits self.old.guest → IsOrdered self.old.limits self.new.guest }
+        ensures ordered { IsInOrder self.old → IsOrdered self.old.limits self.new.guest }
     {
         set_end(&mut self.guest.threads.ends, thread, end);
         self.steps = self.steps.wrapping_add(1);
@@ -106,9 +104,9 @@ impl Vm {
 
     /// The thread goes on; without levels it has returned.
     fn go_on(&mut self, thread: u32)
-        ensures machine { (own : WordThread) → slice_get (threads_of self.old.guest.threads) thread ≡ Some own → self.old.steps < 2 ^ 64 - 1 →
+        ensures machine { (own : WordThread) → thread_at self.old thread ≡ Some own → self.old.steps < 2 ^ 64 - 1 →
             machine_of self.new ≡ counted (machine_of self.old) thread end_after }
-        ensures ordered { IsOrdered self.old.limits self.old.guest → IsOrdered self.old.limits self.new.guest }
+        ensures ordered { IsInOrder self.old → IsOrdered self.old.limits self.new.guest }
     {
         let end = if self.is_done(thread) {
             End::Returned
@@ -120,9 +118,9 @@ impl Vm {
 
     /// An exception flies on; a thread without levels has died of it.
     fn fly(&mut self, thread: u32, object: u32)
-        ensures machine { (own : WordThread) → slice_get (threads_of self.old.guest.threads) thread ≡ Some own → self.old.steps < 2 ^ 64 - 1 →
+        ensures machine { (own : WordThread) → thread_at self.old thread ≡ Some own → self.old.steps < 2 ^ 64 - 1 →
             machine_of self.new ≡ counted (machine_of self.old) thread (end_flying object) }
-        ensures ordered { IsOrdered self.old.limits self.old.guest → IsOrdered self.old.limits self.new.guest }
+        ensures ordered { IsInOrder self.old → IsOrdered self.old.limits self.new.guest }
     {
         let end = if self.is_done(thread) {
             End::Died(object)
@@ -135,7 +133,7 @@ impl Vm {
     /// The run stops.
     fn stop(&mut self, ending: Ending)
         ensures machine { self.old.steps < 2 ^ 64 - 1 → machine_of self.new ≡ stopped (machine_of self.old) ending }
-        ensures ordered { IsOrdered self.old.limits self.old.guest → IsOrdered self.old.limits self.new.guest }
+        ensures ordered { IsInOrder self.old → IsOrdered self.old.limits self.new.guest }
     {
         self.steps = self.steps.wrapping_add(1);
         self.stop = Some(ending);
@@ -143,10 +141,10 @@ impl Vm {
 
     /// A new exception flies, or the heap is full.
     fn throw(&mut self, image: &Image, thread: u32, named: Named) -> Result<(), AllocError>
-        ensures ok { (own : WordThread) (h : At) (x : Option statics.At) → IsSeen image.now self.old.limits self.old.guest thread own h → IsAtLevel own h x → self.old.steps < 2 ^ 64 - 1 →
-            OnOk result (machine_of self.new ≡ thrown (machine_of self.old) thread own x (made_object image.now self.old.guest.heap named)) }
+        ensures ok { AtEachLevel image.now self.old.limits self.old.guest thread (λ own h x. self.old.steps < 2 ^ 64 - 1 →
+            OnOk result (machine_of self.new ≡ thrown (machine_of self.old) thread own x (made_object image.now self.old.guest.heap named))) }
         ensures memory { OnErr result (machine_of self.new ≡ machine_of self.old) }
-        ensures ordered { (own : WordThread) (h : At) (x : Option statics.At) → IsSeen image.now self.old.limits self.old.guest thread own h → IsAtLevel own h x → IsOrdered self.old.limits self.new.guest }
+        ensures ordered { AtEachLevel image.now self.old.limits self.old.guest thread (λ own h x. IsOrdered self.old.limits self.new.guest) }
     {
         let made = make(image, &mut self.guest.heap, named)?;
         let Next::ThrowRef(object) = made else {
@@ -160,14 +158,14 @@ impl Vm {
 
     /// Settles the answer of a step of a living thread.
     pub fn settle(&mut self, image: &Image, thread: u32, answer: Next) -> Result<(), AllocError>
-        ensures ok { (g : Before) (own : WordThread) (h : At) (x : Option statics.At) (d : Did Left) → IsSeen image.now self.old.limits g thread own h → IsAtLevel own h x → self.old.steps < 2 ^ 64 - 1 →
-            Leads {E = AllocError} (Ok answer) d (Leaves g self.old.guest own h) (Stays self.old.limits g self.old.guest) →
-            OnOk result (machine_of self.new ≡ settled image.now (machine_with g self.old.steps self.old.stop self.old.limits) thread own x d) }
-        ensures memory { (g : Before) (own : WordThread) (h : At) (x : Option statics.At) (d : Did Left) → IsSeen image.now self.old.limits g thread own h → IsAtLevel own h x → self.old.steps < 2 ^ 64 - 1 →
-            Leads {E = AllocError} (Ok answer) d (Leaves g self.old.guest own h) (Stays self.old.limits g self.old.guest) →
-            OnErr result (machine_of self.new ≡ machine_with g self.old.steps self.old.stop self.old.limits) }
-        ensures ordered { (g : Before) (own : WordThread) (h : At) (x : Option statics.At) (d : Did Left) → IsSeen image.now self.old.limits g thread own h → IsAtLevel own h x →
-            Leads {E = AllocError} (Ok answer) d (Leaves g self.old.guest own h) (Stays self.old.limits g self.old.guest) → IsOrdered self.old.limits self.new.guest }
+        ensures ok { (g : Before) (step : Did Left) → AtEachLevel image.now self.old.limits g thread (λ own h x. self.old.steps < 2 ^ 64 - 1 →
+            Does (Ok answer) step self.old.limits g self.old.guest own h →
+            OnOk result (machine_of self.new ≡ settled image.now (machine_with g self.old.steps self.old.stop self.old.limits) thread own x step)) }
+        ensures memory { (g : Before) (step : Did Left) → AtEachLevel image.now self.old.limits g thread (λ own h x. self.old.steps < 2 ^ 64 - 1 →
+            Does (Ok answer) step self.old.limits g self.old.guest own h →
+            OnErr result (machine_of self.new ≡ machine_with g self.old.steps self.old.stop self.old.limits)) }
+        ensures ordered { (g : Before) (step : Did Left) → AtEachLevel image.now self.old.limits g thread (λ own h x.
+            Does (Ok answer) step self.old.limits g self.old.guest own h → IsOrdered self.old.limits self.new.guest) }
     {
         match answer {
             Next::On => self.go_on(thread),

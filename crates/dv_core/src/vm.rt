@@ -3,7 +3,6 @@ ghost use Rattle.std.specs.Prelude.{◌≡◌, ◌<◌, ◌-◌, ◌^◌, ◌∷
 ghost use Rattle.dv_defs.specs.declared.machine.End.TheVariants as end;
 ghost use Rattle.dv_typing.specs.Flow.{handlers_at};
 ghost use Rattle.dv_defs.specs.Op as ops;
-ghost use Rattle.dv_typing.specs.Statics as statics;
 ghost use Rattle.dv_words.specs.State.{WordThread};
 ghost use Rattle.dv_words.specs.declared.state.Frame.{Frame as Activation};
 ghost use Rattle.dv_words.specs.declared.state.Level.TheVariants as level;
@@ -15,8 +14,8 @@ ghost use Rattle.dv_words.specs.Stacks.{first};
 ghost use Rattle.dv_frames.specs.Tops.{top_of};
 ghost use Rattle.dv_threads.specs.Kept.{threads_of};
 ghost use Rattle.dv_core.specs.Fitting.{RecordFits, StepFits};
-ghost use Rattle.dv_core.specs.Guests.{IsAtOp, IsOrdered, IsSeen};
-ghost use Rattle.dv_core.specs.Machines.{IsStepped, IsSteppable, machine_of};
+ghost use Rattle.dv_core.specs.Guests.{IsOrdered, IsSeen, AtEachOp};
+ghost use Rattle.dv_core.specs.Machines.{IsStepped, IsSteppable, machine_of, thread_at};
 
 use crate::code::step_code;
 use crate::flight::step_flight;
@@ -96,7 +95,7 @@ impl Vm {
 
     /// A step of a living thread.
     fn step_living(&mut self, image: &Image, thread: u32) -> Result<(), AllocError>
-        ensures { (own : WordThread) → IsSteppable image.now self.old thread → slice_get (threads_of self.old.guest.threads) thread ≡ Some own → own.end ≡ end.Living →
+        ensures { (own : WordThread) → IsSteppable image.now self.old thread → thread_at self.old thread ≡ Some own → own.end ≡ end.Living →
             IsStepped result self.old self.new (steps.step_living image.now (machine_of self.old) thread own own.levels) }
     {
         let Some(top) = self.top_of(thread) else {
@@ -110,8 +109,8 @@ impl Vm {
 
     /// A step of a living thread at an instruction.
     fn step_at_code(&mut self, image: &Image, thread: u32) -> Result<(), AllocError>
-        ensures { (own : WordThread) (h : At) (x : statics.At) → IsSeen image.now self.old.limits self.old.guest thread own h → IsAtOp own h x → StepFits h x.op → self.old.steps < 2 ^ 64 - 1 →
-            IsStepped result self.old self.new (settled image.now (machine_of self.old) thread own (Some x) (with_ready h x.op (ops.needs x.op))) }
+        ensures { AtEachOp image.now self.old.limits self.old.guest thread (λ own h x. StepFits h x.op → self.old.steps < 2 ^ 64 - 1 →
+            IsStepped result self.old self.new (settled image.now (machine_of self.old) thread own (Some x) (with_ready h x.op (ops.needs x.op)))) }
     {
         let answer = step_code(image, &self.limits, &mut self.guest, thread)?;
         self.settle(image, thread, answer)
@@ -138,7 +137,7 @@ impl Vm {
             IsStepped result self.old self.new (settled_flight (machine_of self.old) thread own (unwind_frame h f object (handler_for image.now h.shared.heap object (handlers_at image.now f.method.0 f.at)))) }
         ensures record { (own : WordThread) (h : At) (c : ClassId) (r : Bool) → IsSeen image.now self.old.limits self.old.guest thread own h → own.levels ≡ level.Init c r ∷ h.rest → RecordFits h c → self.old.steps < 2 ^ 64 - 1 →
             IsStepped result self.old self.new (settled_flight (machine_of self.old) thread own (unwind_record h c.0 object)) }
-        ensures none { (own : WordThread) → IsOrdered self.old.limits self.old.guest → slice_get (threads_of self.old.guest.threads) thread ≡ Some own → own.levels ≡ [] → IsStepped result self.old self.new (machine_of self.old) }
+        ensures none { (own : WordThread) → IsOrdered self.old.limits self.old.guest → thread_at self.old thread ≡ Some own → own.levels ≡ [] → IsStepped result self.old self.new (machine_of self.old) }
     {
         let Some(_top) = self.top_of(thread) else {
             return Ok(());

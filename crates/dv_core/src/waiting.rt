@@ -1,5 +1,5 @@
 // What holds threads up, and which are runnable (JLS 12.4.2, 17.1, 17.2).
-ghost use Rattle.std.specs.Prelude.{◌≡◌, ◌==◌, ◌<◌, ◌^◌, ℕ, Option as Maybe, None as Nothing, Some as Just, List, ◌∷◌, length, option_map, position, slice_get};
+ghost use Rattle.std.specs.Prelude.{◌≡◌, ◌==◌, ◌<◌, ◌^◌, ℕ, Option as Maybe, None as Nothing, Some as Just, List, ◌∷◌, option_map, position, slice_get};
 ghost use Rattle.dv_defs.specs.declared.run.Ending.{Ending};
 ghost use Rattle.dv_defs.specs.declared.run.Limits.{Limits};
 ghost use Rattle.dv_defs.specs.declared.machine.End.TheVariants as end;
@@ -10,7 +10,6 @@ ghost use Rattle.dv_typing.specs.Statics.{fetch};
 ghost use Rattle.dv_defs.specs.Op as ops;
 ghost use Rattle.dv_defs.specs.Op.{Code, named_registers};
 ghost use Rattle.dv_defs.specs.Pools.{method_at, parent_at};
-ghost use Rattle.dv_machine.specs.Accepted.{FindsRightly};
 ghost use Rattle.dv_machine.specs.Calls.{receiver_of};
 ghost use Rattle.dv_machine.specs.Running as shared;
 ghost use Rattle.dv_machine.specs.Step.{prior};
@@ -23,13 +22,12 @@ ghost use Rattle.dv_words.specs.Stacks.{arg_words};
 ghost use Rattle.dv_words.specs.State.{WordThread};
 ghost use Rattle.dv_words.specs.Running as steps;
 ghost use Rattle.law_words.specs.StepLaws.{CallFits};
-ghost use Rattle.dv_words.specs.Steps.{At};
 ghost use Rattle.dv_words.specs.Threads as threads;
-ghost use Rattle.dv_threads.specs.Kept.{AreAligned, threads_of};
-ghost use Rattle.dv_call.specs.Landings.{IsNumbered, IsOwn, IsSeenByCalls, first_of, landed_of};
-ghost use Rattle.dv_core.specs.Machines.{machine_of, machine_with};
+ghost use Rattle.dv_threads.specs.Kept.{threads_of};
+ghost use Rattle.dv_call.specs.Landings.{IsNumbered, first_of, landed_of};
+ghost use Rattle.dv_core.specs.Machines.{machine_of, machine_with, thread_at};
 ghost use Rattle.dv_core.specs.Opcodes.{may_hold_up};
-ghost use Rattle.dv_core.specs.Watching.{AreNumbered, AreWatchable, IsTopWatched, IsWatched, alive_in, blocked_landed as landed_blocked};
+ghost use Rattle.dv_core.specs.Watching.{AreNumbered, AreWatchable, IsTopWatched, IsWatched, alive_in, blocked_landed as landed_blocked, AtEachCall, InEachMachine};
 
 use crate::guest::Guest;
 use crate::instructions::{instruction_of, needs, opcode_of};
@@ -187,9 +185,9 @@ fn blocked_invoke(
     regs: &Regs,
     method: Method<'_>,
 ) -> Option<Blocked>
-    ensures { (s : ℕ) (e : Maybe Ending) (l : Limits) (h : At) → AreNumbered guest.now → FindsRightly image.now → IsSeenByCalls image.now guest.now.heap stack.now h → IsOwn h → IsNumbered image.now (method_of method.entry) →
-        result ≡ steps.blocked_receiver image.now (machine_with guest.now s e l) thread h.own h.frame (standard_call call) (method_of method.entry)
-        (receiver_of (ops.Invoke (standard_call call) (named_registers regs.now) (method_of method.entry))) }
+    ensures { AtEachCall image.now guest.now stack.now (λ m h. IsNumbered image.now (method_of method.entry) →
+        result ≡ steps.blocked_receiver image.now m thread h.own h.frame (standard_call call) (method_of method.entry)
+        (receiver_of (ops.Invoke (standard_call call) (named_registers regs.now) (method_of method.entry)))) }
 {
     if Flag::Static.is_in(method.def.flags) {
         return None;
@@ -207,8 +205,8 @@ fn blocked_op(
     thread: u32,
     op: &Op<'_>,
 ) -> Option<Blocked>
-    ensures { (s : ℕ) (e : Maybe Ending) (l : Limits) (h : At) (code : Code) (at : ℕ) → AreNumbered guest.now → FindsRightly image.now → IsSeenByCalls image.now guest.now.heap stack.now h → IsOwn h → CallFits image.now (meant code at op.now) →
-        result ≡ steps.blocked_op image.now (machine_with guest.now s e l) thread h.own h.frame (meant code at op.now) }
+    ensures { (code : Code) (at : ℕ) → AtEachCall image.now guest.now stack.now (λ m h. CallFits image.now (meant code at op.now) →
+        result ≡ steps.blocked_op image.now m thread h.own h.frame (meant code at op.now)) }
 {
     match op {
         Op::Enter(reg) => blocked_enter(
@@ -231,8 +229,8 @@ fn blocked_needing(
     thread: u32,
     op: &Op<'_>,
 ) -> Option<Blocked>
-    ensures { (s : ℕ) (e : Maybe Ending) (l : Limits) (h : At) (code : Code) (at : ℕ) → AreNumbered guest.now → FindsRightly image.now → IsSeenByCalls image.now guest.now.heap stack.now h → IsOwn h → CallFits image.now (meant code at op.now) →
-        result ≡ steps.blocked_needing image.now (machine_with guest.now s e l) thread h.own h.frame (meant code at op.now) (ops.needs (meant code at op.now)) }
+    ensures { (code : Code) (at : ℕ) → AtEachCall image.now guest.now stack.now (λ m h. CallFits image.now (meant code at op.now) →
+        result ≡ steps.blocked_needing image.now m thread h.own h.frame (meant code at op.now) (ops.needs (meant code at op.now))) }
 {
     let Some(class) = needs(op) else {
         return blocked_op(image, guest, stack, thread, op);
@@ -253,8 +251,8 @@ fn may_hold_up(opcode: u8) -> bool
 
 /// What holds up a thread whose top level is code.
 fn blocked_code(image: &Image, guest: &Guest, stack: &Stack, thread: u32) -> Option<Blocked>
-    ensures { (s : ℕ) (e : Maybe Ending) (l : Limits) (f : Frame) (ls : List Level) → AreNumbered guest.now → FindsRightly image.now → stack.now.levels ≡ level.Code f ∷ ls → IsWatched image.now f →
-        result ≡ steps.blocked_at image.now (machine_with guest.now s e l) thread f (method_at image.now f.method.0) (fetch image.now f.method.0 f.at) }
+    ensures { (f : Frame) (ls : List Level) → InEachMachine image.now guest.now (λ m. stack.now.levels ≡ level.Code f ∷ ls → IsWatched image.now f →
+        result ≡ steps.blocked_at image.now m thread f (method_at image.now f.method.0) (fetch image.now f.method.0 f.at)) }
 {
     if !may_hold_up(opcode_of(image, stack)?) {
         return None;
@@ -265,8 +263,7 @@ fn blocked_code(image: &Image, guest: &Guest, stack: &Stack, thread: u32) -> Opt
 
 /// What holds up a living thread with this stack.
 fn blocked_stack(image: &Image, guest: &Guest, stack: &Stack, thread: u32) -> Option<Blocked>
-    ensures { (s : ℕ) (e : Maybe Ending) (l : Limits) → AreNumbered guest.now → FindsRightly image.now → IsTopWatched image.now stack.now.levels →
-        result ≡ steps.blocked_levels image.now (machine_with guest.now s e l) thread stack.now.levels }
+    ensures { InEachMachine image.now guest.now (λ m. IsTopWatched image.now stack.now.levels → result ≡ steps.blocked_levels image.now m thread stack.now.levels) }
 {
     match stack.top()? {
         Top::Code { .. } => blocked_code(image, guest, stack, thread),
@@ -296,7 +293,7 @@ impl Vm {
 
     /// What holds up a living thread.
     fn blocked_living(&self, image: &Image, thread: u32) -> Option<Blocked>
-        ensures { (own : WordThread) → AreWatchable image.now self.now → slice_get (threads_of self.now.guest.threads) thread ≡ Just own → own.end ≡ end.Living →
+        ensures { (own : WordThread) → AreWatchable image.now self.now → thread_at self.now thread ≡ Just own → own.end ≡ end.Living →
             result ≡ steps.blocked_levels image.now (machine_of self.now) thread own.levels }
     {
         let stack = self.guest.threads.stacks.get(thread as usize)?;

@@ -6,7 +6,8 @@ use Rattle.dv_defs.specs.Decoding.{Sized, insn_here}
 use Rattle.dv_defs.specs.Tiling.{Piece, SizedPayload, Tile, IsInsn, IsPayload, begins_payload, payload_of, payload_piece, insn_piece, piece_here, tiling, tiles_in, tile_at, insn_in, begins_insn}
 use Rattle.dv_ops.specs.Places.{begins_as_insn}
 use Rattle.dv_ops.proofs.Pieces.{none_past}
-use Rattle.dv_ops.proofs.Tiles.{AreFrom, IsMet, tile, step, end, none_before, met_first, met_later}
+use Rattle.dv_units.proofs.PiecesHere.{tile}
+use Rattle.dv_ops.proofs.Tiles.{AreFrom, IsMet, step, end, none_before, met_first, met_later}
 
 -- what stands at an address is to be found from here on
 pub record IsWalk (units : List ℕ) (tiles : List Tile) (here at : ℕ) : Type 0 where

@@ -7,7 +7,8 @@ use Rattle.dv_defs.specs.Decoding.{Sized, insn_here}
 use Rattle.dv_defs.specs.Tiling.{Item, IsInsn, IsPayload, Piece, SizedPayload, Tile, begins_payload, payload_of, payload_piece, insn_piece, piece_here, tiling, tiles_in, tile_at, insn_in, begins_insn}
 use Rattle.dv_ops.specs.Places.{IsEdge, begins_as_insn}
 use Rattle.dv_ops.proofs.Pieces.{none_past}
-use Rattle.dv_ops.proofs.Tiles.{FitsThere, IsMet, meets, one_or_end}
+use Rattle.dv_units.proofs.PiecesHere.{FitsThere}
+use Rattle.dv_ops.proofs.Tiles.{IsMet, meets, one_or_end}
 use Rattle.dv_ops.proofs.Passing.{begins_tile}
 
 -- ---- units that have tiles

@@ -1,59 +1,15 @@
 -- The items of units from an address on, one after another.
 use Rattle.std.proofs.Common.{◌≡◌, ℕ, ◌+◌, ◌-◌, ◌<◌, ◌≤◌, zero, suc, Bool, true, false, List, [], ◌∷◌, length, drop, Option, Some, None, Result, Ok, Err, refl, ap, sym, ◌∙◌, subst, arith, length-drop, nat_eq, ◌⊎◌, inl, inr, is_some}
 use Rattle.std.proofs.lemmas.Bool.{eqb-true}
-use Rattle.std.proofs.lemmas.List.{drop-drop, length-take-le}
+use Rattle.std.proofs.lemmas.List.{drop-drop}
 use Rattle.dv_defs.specs.Spelling.{all_fit}
 use Rattle.dv_defs.specs.Tiling.{Piece, Tile, piece_here, with_tile, tiled, tile_at}
-use Rattle.dv_defs.proofs.TilingLaws.{item_positive, piece_here_spelled}
-use Rattle.dv_units.proofs.Decoding.{fit_from}
-
-abbrev pub tile : ℕ → Piece → Tile
-tile at p = record { at = at; size = p.size; item = p.item }
+use Rattle.dv_units.proofs.PiecesHere.{FitsThere, fits_there, next, tile, tile_first}
 
 -- these tiles are the items from an address on
 pub record AreFrom (units : List ℕ) (at : ℕ) (ts : List Tile) : Type 0 where
   pub within : at ≤ length units
   pub tiles : tiled at 0 (drop at units) ≡ Ok ts
-
--- an item has units, and they are there
-pub record FitsThere (units : List ℕ) (at size : ℕ) : Type 0 where
-  pub positive : 0 < size
-  pub within : at + size ≤ length units
-
-inside : (us : List ℕ) (p : Piece) → piece_here us ≡ Some p → 0 < length us
-inside [] p e = absurd (cc)
-inside (u ∷ us) p e = omega arith
-
-pub fits_there : (units : List ℕ) (at : ℕ) (p : Piece) → all_fit 16 units ≡ true → piece_here (drop at units) ≡ Some p → FitsThere units at p.size
-fits_there units at p t e =
-    let some = inside (drop at units) p e in
-    let s = piece_here_spelled (drop at units) p.item p.size (fit_from at units t) e in
-    record {
-      positive = omega (arith, item_positive p.item _ s.1, length-take-le p.size (drop at units) s.0);
-      within = omega (arith, s.0, some, length-drop at units);
-    }
-
--- the units of an item are passed over
-passed : (at k : ℕ) (us : List ℕ) → k ≤ length us → tiled at k us ≡ tiled (at + k) 0 (drop k us)
-passed at zero us h = let e : at ≡ at + 0 = omega arith in ap (λ n. tiled n 0 us) e
-passed at (suc k) [] h = absurd (omega arith)
-passed at (suc k) (u ∷ us) h =
-    let e : suc at + k ≡ at + suc k = omega arith in
-    passed (suc at) k us (omega arith) ∙ ap (λ n. tiled n 0 (drop k us)) e
-
-abbrev tile_first : ℕ → Option Piece → List ℕ → Result (List Tile) ℕ
-tile_first at o us = elim o [ None ↦ Err at | Some p ↦ with_tile (record { at = at; size = p.size; item = p.item }) (tiled (suc at) (p.size - 1) us) ]
-
-after : (at n : ℕ) (u : ℕ) (us : List ℕ) → 0 < n → n ≤ length (u ∷ us) → tiled (suc at) (n - 1) us ≡ tiled (at + n) 0 (drop n (u ∷ us))
-after at zero u us p h = absurd (omega arith)
-after at (suc k) u us p h =
-    let e : suc k - 1 ≡ k = omega arith in
-    let s : suc at + k ≡ at + suc k = omega arith in
-    ap (λ n. tiled (suc at) n us) e ∙ (passed (suc at) k us (omega arith) ∙ ap (λ n. tiled n 0 (drop k us)) s)
-
-next : (at : ℕ) (us : List ℕ) (p : Piece) → piece_here us ≡ Some p → 0 < p.size → p.size ≤ length us → tiled at 0 us ≡ with_tile (tile at p) (tiled (at + p.size) 0 (drop p.size us))
-next at [] p e h k = absurd (cc)
-next at (u ∷ us) p e h k = ap (λ o. tile_first at o us) e ∙ ap (with_tile (tile at p)) (after at p.size u us h k)
 
 -- the first tile, with those from the address after it
 pub record IsFirst (units : List ℕ) (at : ℕ) (p : Piece) (ts : List Tile) : Type 0 where

@@ -45,6 +45,10 @@ pub record StandsFor (image : Image) (T : Typings) (v : Vm) (m : Machine) : Type
   pub spent : v.steps ≤ v.limits.budget
   pub counted : v.limits.budget < 2 ^ 64
 
+-- in each well-typed state of a good image for which its words stand
+abbrev pub InEachState : Image → Vm → (Typings → Machine → Type 0) → Type 0
+InEachState image v Says = (T : Typings) (m : Machine) → IsGood image T → StandsFor image T v m → Says T m
+
 -- ---- what it may do
 
 -- nothing stopped the run, and its steps aren't spent

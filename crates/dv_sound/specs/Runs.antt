@@ -45,6 +45,10 @@ pub record IsKept (image : Image) (main : MethodId) (v : Vm) (log : List Entry) 
   pub stands : StandsFor image typings v machine
   pub local : All (λ t. next_is_local image machine t ≡ true) lent
 
+-- for each main method and lent threads with which this engine was kept at this log
+abbrev pub WhereKept : Image → Vm → List Entry → (MethodId → List ℕ → Type 0) → Type 0
+WhereKept image v log Says = (main : MethodId) (lent : List ℕ) → IsKept image main v log lent → Says main lent
+
 -- a turn was done from where the log led, and logged
 pub record TurnedFrom (image : Image) (main : MethodId) (v : Vm) (log : List Entry) (lent : List ℕ) (k : IsKept image main v log lent) (worker t most n : ℕ) (new : Vm) (after_log : List Entry) : Type 0 where
   pub after : Machine
@@ -59,6 +63,10 @@ pub record TurnedFrom (image : Image) (main : MethodId) (v : Vm) (log : List Ent
 pub record IsAt (r : Run) (main : Method) (m : Machine) : Type 0 where
   pub main_is : method_at r.verified.image r.main.0 ≡ Some main
   pub replayed : replay r.verified.image main r.machine.limits r.log ≡ Stands m
+
+-- in the state to which its log leads
+abbrev pub AtItsState : Run → (Method → Machine → Type 0) → Type 0
+AtItsState r Says = (main : Method) (m : Machine) → IsAt r main m → Says main m
 
 -- its log leads to a state, which is well typed
 pub record IsAtSome (r : Run) : Type 0 where

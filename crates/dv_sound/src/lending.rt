@@ -1,10 +1,7 @@
 // Threads lent to workers, which do local steps of them outside of the machine.
 ghost use Rattle.std.specs.Prelude.{◌≡◌, ◌≤◌, ◌<◌, ◌&&◌, ◌+◌, ◌↔◌, IfErr, IfOk, IfSome, IsSome, IsTrue, MatchOption, OnErr, None as Nothing, Some as Just, slice_get, vec_capacity, vec_len};
-ghost use Rattle.dv_defs.specs.Pools.{Method};
 ghost use Rattle.dv_machine.specs.Replaying.{next_is_local};
 ghost use Rattle.dv_machine.specs.Running.{ending_of};
-ghost use Rattle.dv_machine.specs.State.{Machine};
-ghost use Rattle.dv_machine.specs.WellTyped.{Typings};
 ghost use Rattle.dv_words.specs.Stacks.{top_regs};
 ghost use Rattle.dv_frames.specs.Heads.{head_in};
 ghost use Rattle.dv_threads.specs.Kept.{threads_of};
@@ -12,9 +9,9 @@ ghost use Rattle.dv_core.specs.Advancing.{running_frame, runs_in, top_frame};
 ghost use Rattle.dv_core.specs.Guests.{IsOrdered};
 ghost use Rattle.dv_core.specs.Machines.{machine_of};
 ghost use Rattle.dv_sound.specs.Moves as moves;
-ghost use Rattle.dv_sound.specs.Moves.{FramesStay, IsGood, StandsFor};
+ghost use Rattle.dv_sound.specs.Moves.{FramesStay, InEachState};
 ghost use Rattle.dv_sound.specs.Lending.{IsCommitted, IsDone, IsFirstOf, IsFitting, IsLent, IsLocalRun, IsSameProgram, MayLend, committed, logged_some, without};
-ghost use Rattle.dv_sound.specs.Runs.{IsAt};
+ghost use Rattle.dv_sound.specs.Runs.{AtItsState};
 
 use crate::moves::may_step;
 use crate::safe::SafeVm;
@@ -97,7 +94,7 @@ fn is_at(vm: &Vm, thread: u32, frame: &Frame) -> bool
 
 /// Whether a thread may step, and its next step touches its frame alone.
 fn may_lend(image: &Image, vm: &Vm, thread: u32) -> bool
-    ensures { (T : Typings) (m : Machine) → IsGood image.now T → StandsFor image.now T vm.now m → result ≡ (moves.may_step image.now m thread && next_is_local image.now m thread) }
+    ensures { InEachState image.now vm.now (λ T m. result ≡ (moves.may_step image.now m thread && next_is_local image.now m thread)) }
 {
     if may_step(image, vm, thread) {
         vm.next_is_local(image, thread)
@@ -112,7 +109,7 @@ fn may_lend(image: &Image, vm: &Vm, thread: u32) -> bool
 ///
 /// Want of memory.
 fn first_slice(image: &Image, vm: &Vm, thread: u32) -> Result<Option<Slice>, AllocError>
-    ensures { (T : Typings) (m : Machine) → IsGood image.now T → StandsFor image.now T vm.now m → IfOk result (λ o. IsFirstOf o image.now m vm.now thread) }
+    ensures { InEachState image.now vm.now (λ T m. IfOk result (λ o. IsFirstOf o image.now m vm.now thread)) }
 {
     if !may_lend(image, vm, thread) {
         return Ok(None);
@@ -137,7 +134,7 @@ fn first_slice(image: &Image, vm: &Vm, thread: u32) -> Result<Option<Slice>, All
 /// So many of these steps are done: none where the run has ended, and no more than its budget has room for.
 fn affordable(image: &Image, vm: &Vm, steps: u32) -> u32
     ensures few { result ≤ steps }
-    ensures exact { (T : Typings) (m : Machine) → IsGood image.now T → StandsFor image.now T vm.now m → result ≡ committed image.now m steps }
+    ensures exact { InEachState image.now vm.now (λ T m. result ≡ committed image.now m steps) }
 {
     if vm.ending(image).is_some() {
         return 0;
@@ -152,8 +149,8 @@ fn affordable(image: &Image, vm: &Vm, steps: u32) -> u32
 
 /// So many steps of a slice, all of them or fewer.
 fn do_steps(image: &Image, vm: &mut Vm, slice: &Slice, steps: u32)
-    ensures { (T : Typings) (m : Machine) → IsGood image.now T → StandsFor image.now T vm.old m → ending_of image.now m ≡ Nothing → IsLocalRun image.now slice.now → running_frame (slice_get (machine_of vm.old).threads slice.now.thread) ≡ Just slice.now.start →
-        steps ≤ slice.now.steps → vm.old.steps + steps ≤ vm.old.limits.budget → IsDone image.now T m slice.now.thread steps vm.old vm.new }
+    ensures { InEachState image.now vm.old (λ T m. ending_of image.now m ≡ Nothing → IsLocalRun image.now slice.now → running_frame (slice_get (machine_of vm.old).threads slice.now.thread) ≡ Just slice.now.start →
+        steps ≤ slice.now.steps → vm.old.steps + steps ≤ vm.old.limits.budget → IsDone image.now T m slice.now.thread steps vm.old vm.new) }
 {
     vm.reads_fit(slice.thread);
     if steps == slice.steps {
@@ -166,9 +163,9 @@ fn do_steps(image: &Image, vm: &mut Vm, slice: &Slice, steps: u32)
 /// The steps of a slice that may be done; gives how many there were.
 fn take_steps(image: &Image, vm: &mut Vm, slice: &Slice) -> u32
     ensures few { result ≤ slice.now.steps }
-    ensures count { (T : Typings) (m : Machine) → IsGood image.now T → StandsFor image.now T vm.old m → result ≡ committed image.now m slice.now.steps }
-    ensures done { (T : Typings) (m : Machine) → IsGood image.now T → StandsFor image.now T vm.old m → IsLocalRun image.now slice.now → running_frame (slice_get (machine_of vm.old).threads slice.now.thread) ≡ Just slice.now.start →
-        IsDone image.now T m slice.now.thread result vm.old vm.new }
+    ensures count { InEachState image.now vm.old (λ T m. result ≡ committed image.now m slice.now.steps) }
+    ensures done { InEachState image.now vm.old (λ T m. IsLocalRun image.now slice.now → running_frame (slice_get (machine_of vm.old).threads slice.now.thread) ≡ Just slice.now.start →
+        IsDone image.now T m slice.now.thread result vm.old vm.new) }
 {
     let steps = affordable(image, vm, slice.steps);
     if steps > 0 {
@@ -201,7 +198,7 @@ fn bring_home(lent: &mut Vec<u32>, thread: u32)
 impl<'v> SafeVm<'v> {
     /// Whether the next step of a thread touches its frame alone.
     pub fn next_is_local(&self, thread: u32) -> bool
-        ensures { (main : Method) (m : Machine) → IsAt self.now main m → result ≡ next_is_local self.now.verified.image m thread }
+        ensures { AtItsState self.now (λ main m. result ≡ next_is_local self.now.verified.image m thread) }
     {
         let verified = self.verified();
         self.engine().next_is_local(&verified.image, thread)
@@ -215,7 +212,7 @@ impl<'v> SafeVm<'v> {
     ///
     /// Want of memory; all is as before then.
     pub fn lend(&mut self, thread: u32) -> Result<Option<Slice>, AllocError>
-        ensures exact { IfOk result (λ o. (main : Method) (m : Machine) → IsAt self.old main m → (IsSome o ↔ MayLend self.old m thread)) }
+        ensures exact { IfOk result (λ o. AtItsState self.old (λ main m. (IsSome o ↔ MayLend self.old m thread))) }
         ensures lent { IfOk result (λ o. MatchOption o (self.new ≡ self.old) (λ s. IsLent self.old self.new thread s)) }
         ensures made { IfOk result (λ o. IfSome o (λ s. IsLocalRun self.old.verified.image s)) }
         ensures refused { OnErr result (self.new ≡ self.old) }
@@ -250,7 +247,7 @@ impl<'v> SafeVm<'v> {
     /// Want of memory; all is as before then, and the slice is given back.
     pub fn commit(&mut self, worker: u32, slice: Slice) -> Result<u32, Refused>
         requires made { IsLocalRun self.old.verified.image slice }
-        ensures committed { IfOk result (λ n. (main : Method) (m : Machine) → IsAt self.old main m → IsFitting self.old slice → IsCommitted self.old self.new main m worker slice n) }
+        ensures committed { IfOk result (λ n. AtItsState self.old (λ main m. IsFitting self.old slice → IsCommitted self.old self.new main m worker slice n)) }
         ensures put_away { IfOk result (λ n. (IsFitting self.old slice → ⊥) → (n ≡ 0) × (self.new ≡ self.old)) }
         ensures few { IfOk result (λ n. n ≤ slice.steps) }
         ensures same { IsSameProgram self.old self.new }
@@ -273,7 +270,7 @@ impl<'v> SafeVm<'v> {
     /// Want of memory; all is as before then.
     fn commit_steps(&mut self, worker: u32, slice: &Slice) -> Result<u32, AllocError>
         requires made { IsLocalRun self.old.verified.image slice.now }
-        ensures committed { IfOk result (λ n. (main : Method) (m : Machine) → IsAt self.old main m → IsFitting self.old slice.now → IsCommitted self.old self.new main m worker slice.now n) }
+        ensures committed { IfOk result (λ n. AtItsState self.old (λ main m. IsFitting self.old slice.now → IsCommitted self.old self.new main m worker slice.now n)) }
         ensures put_away { IfOk result (λ n. (IsFitting self.old slice.now → ⊥) → (n ≡ 0) × (self.new ≡ self.old)) }
         ensures few { IfOk result (λ n. n ≤ slice.now.steps) }
         ensures same { IsSameProgram self.old self.new }

@@ -1,15 +1,13 @@
 // What an engine does that stands at a state of the tagged machine.
 ghost use Rattle.std.specs.Prelude.{◌≡◌, ◌≤◌, IfOk, List, None as Nothing, true};
 ghost use Rattle.dv_machine.specs.Running as running;
-ghost use Rattle.dv_machine.specs.State.{Machine};
-ghost use Rattle.dv_machine.specs.WellTyped.{Typings};
 ghost use Rattle.dv_words.specs.declared.state.Frame.{Frame as Activation};
 ghost use Rattle.dv_words.specs.declared.state.Level.{Level};
 ghost use Rattle.dv_words.specs.State.{WordThread};
 ghost use Rattle.dv_core.specs.Advancing.{RunsFrame};
 ghost use Rattle.dv_core.specs.Machines.{machine_of};
 ghost use Rattle.dv_sound.specs.Moves as moves;
-ghost use Rattle.dv_sound.specs.Moves.{HasRun, IsAffordable, IsGood, IsRun, KeepsOthers, Lasts, StandsFor, Steps, Turns, goes_locally};
+ghost use Rattle.dv_sound.specs.Moves.{HasRun, IsAffordable, IsRun, KeepsOthers, Lasts, Steps, Turns, goes_locally, InEachState};
 
 use dv_core::Vm;
 use dv_defs::Image;
@@ -25,7 +23,7 @@ pub fn goes_on(vm: &Vm) -> bool
 
 /// Whether the run goes on and a thread is runnable.
 pub fn may_step(image: &Image, vm: &Vm, thread: u32) -> bool
-    ensures { (T : Typings) (m : Machine) → IsGood image.now T → StandsFor image.now T vm.now m → result ≡ moves.may_step image.now m thread }
+    ensures { InEachState image.now vm.now (λ T m. result ≡ moves.may_step image.now m thread) }
 {
     if goes_on(vm) {
         vm.runnable(image, thread)
@@ -40,8 +38,8 @@ pub fn may_step(image: &Image, vm: &Vm, thread: u32) -> bool
 ///
 /// Want of memory; the engine stands where it stood then.
 pub fn step_on(image: &Image, vm: &mut Vm, thread: u32) -> Result<(), AllocError>
-    ensures steps { (T : Typings) (m : Machine) → IsGood image.now T → StandsFor image.now T vm.old m → moves.may_step image.now m thread ≡ true → Steps result image.now T m thread vm.old vm.new }
-    ensures others { (T : Typings) (m : Machine) → IsGood image.now T → StandsFor image.now T vm.old m → moves.may_step image.now m thread ≡ true → KeepsOthers thread vm.old vm.new }
+    ensures steps { InEachState image.now vm.old (λ T m. moves.may_step image.now m thread ≡ true → Steps result image.now T m thread vm.old vm.new) }
+    ensures others { InEachState image.now vm.old (λ T m. moves.may_step image.now m thread ≡ true → KeepsOthers thread vm.old vm.new) }
 {
     vm.reads_fit(thread);
     vm.step(image, thread)
@@ -63,10 +61,10 @@ fn affordable(vm: &Vm, most: u32) -> u32
 /// Local steps of a thread, so many at most, while the next one is local and the budget has room; gives how many were done.
 pub fn run_on(image: &Image, vm: &mut Vm, thread: u32, most: u32) -> u32
     ensures few { result ≤ most }
-    ensures ran { (T : Typings) (m : Machine) → IsGood image.now T → StandsFor image.now T vm.old m → running.ending_of image.now m ≡ Nothing → IsRun image.now T m thread most result vm.new }
-    ensures took { (T : Typings) (m : Machine) → IsGood image.now T → StandsFor image.now T vm.old m → running.ending_of image.now m ≡ Nothing → (own : WordThread) (f : Activation) (ls : List Level) → RunsFrame (machine_of vm.old) thread own f ls →
-        HasRun (machine_of vm.old) (machine_of vm.new) thread result own f ls }
-    ensures others { (T : Typings) (m : Machine) → IsGood image.now T → StandsFor image.now T vm.old m → KeepsOthers thread vm.old vm.new }
+    ensures ran { InEachState image.now vm.old (λ T m. running.ending_of image.now m ≡ Nothing → IsRun image.now T m thread most result vm.new) }
+    ensures took { InEachState image.now vm.old (λ T m. running.ending_of image.now m ≡ Nothing → (own : WordThread) (f : Activation) (ls : List Level) → RunsFrame (machine_of vm.old) thread own f ls →
+        HasRun (machine_of vm.old) (machine_of vm.new) thread result own f ls) }
+    ensures others { InEachState image.now vm.old (λ T m. KeepsOthers thread vm.old vm.new) }
 {
     vm.reads_fit(thread);
     let most = affordable(vm, most);
@@ -80,8 +78,8 @@ pub fn run_on(image: &Image, vm: &mut Vm, thread: u32, most: u32) -> u32
 /// Want of memory; the engine stands where it stood then.
 pub fn last_on(image: &Image, vm: &mut Vm, thread: u32) -> Result<u32, AllocError>
     ensures few { IfOk result (λ n. n ≤ 1) }
-    ensures last { (T : Typings) (m : Machine) → IsGood image.now T → StandsFor image.now T vm.old m → Lasts result image.now T m thread vm.old vm.new }
-    ensures others { (T : Typings) (m : Machine) → IsGood image.now T → StandsFor image.now T vm.old m → KeepsOthers thread vm.old vm.new }
+    ensures last { InEachState image.now vm.old (λ T m. Lasts result image.now T m thread vm.old vm.new) }
+    ensures others { InEachState image.now vm.old (λ T m. KeepsOthers thread vm.old vm.new) }
 {
     if !may_step(image, vm, thread) {
         return Ok(0);
@@ -99,9 +97,9 @@ fn turn_locally(
     most: u32,
 ) -> Result<u32, AllocError>
     ensures few { IfOk result (λ n. n ≤ most) }
-    ensures turned { (T : Typings) (m : Machine) → IsGood image.now T → StandsFor image.now T vm.old m → running.ending_of image.now m ≡ Nothing → goes_locally image.now thread m ≡ true →
-        Turns result image.now T m thread most vm.old vm.new }
-    ensures others { (T : Typings) (m : Machine) → IsGood image.now T → StandsFor image.now T vm.old m → running.ending_of image.now m ≡ Nothing → goes_locally image.now thread m ≡ true → KeepsOthers thread vm.old vm.new }
+    ensures turned { InEachState image.now vm.old (λ T m. running.ending_of image.now m ≡ Nothing → goes_locally image.now thread m ≡ true →
+        Turns result image.now T m thread most vm.old vm.new) }
+    ensures others { InEachState image.now vm.old (λ T m. running.ending_of image.now m ≡ Nothing → goes_locally image.now thread m ≡ true → KeepsOthers thread vm.old vm.new) }
 {
     let is_kept = vm.keep_top(thread, kept)?;
     if !is_kept {
@@ -134,8 +132,8 @@ pub fn take_turn(
     most: u32,
 ) -> Result<u32, AllocError>
     ensures few { IfOk result (λ n. n ≤ most) }
-    ensures turned { (T : Typings) (m : Machine) → IsGood image.now T → StandsFor image.now T vm.old m → moves.may_step image.now m thread ≡ true → Turns result image.now T m thread most vm.old vm.new }
-    ensures others { (T : Typings) (m : Machine) → IsGood image.now T → StandsFor image.now T vm.old m → moves.may_step image.now m thread ≡ true → KeepsOthers thread vm.old vm.new }
+    ensures turned { InEachState image.now vm.old (λ T m. moves.may_step image.now m thread ≡ true → Turns result image.now T m thread most vm.old vm.new) }
+    ensures others { InEachState image.now vm.old (λ T m. moves.may_step image.now m thread ≡ true → KeepsOthers thread vm.old vm.new) }
 {
     if most == 0 {
         Ok(0)

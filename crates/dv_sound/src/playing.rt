@@ -1,10 +1,8 @@
 // An engine led by a schedule.
 ghost use Rattle.std.specs.Prelude.{◌≡◌, ◌≤◌, ◌<◌, ℕ, IfOk, false, length};
 ghost use Rattle.dv_machine.specs.Replaying.{one_step, replay_from, steps_of};
-ghost use Rattle.dv_machine.specs.State.{Machine};
-ghost use Rattle.dv_machine.specs.WellTyped.{Typings};
 ghost use Rattle.dv_sound.specs.Moves as moves;
-ghost use Rattle.dv_sound.specs.Moves.{IsGood, StandsFor};
+ghost use Rattle.dv_sound.specs.Moves.{InEachState};
 ghost use Rattle.dv_sound.specs.Replays.{Plays, PlaysSome, PlaysToEnd, Refuses};
 
 use crate::error::ReplayError;
@@ -15,7 +13,7 @@ use std::alloc::AllocError;
 
 /// Why a step of an entry isn't done: the run has ended, or the thread isn't runnable.
 fn refusal(image: &Image, vm: &Vm, entry: u32) -> ReplayError
-    ensures { (T : Typings) (m : Machine) (t : ℕ) → IsGood image.now T → StandsFor image.now T vm.now m → moves.may_step image.now m t ≡ false → Refuses result (one_step image.now entry t m) }
+    ensures { InEachState image.now vm.now (λ T m. (t : ℕ) → moves.may_step image.now m t ≡ false → Refuses result (one_step image.now entry t m)) }
 {
     match vm.ending(image) {
         Some(_) => ReplayError::Long(entry),
@@ -33,7 +31,7 @@ fn play_some(
 ) -> Result<u32, ReplayError>
     ensures some { 0 < left → IfOk result (λ n. 0 < n) }
     ensures few { 0 < left → IfOk result (λ n. n ≤ left) }
-    ensures plays { (T : Typings) (m : Machine) → IsGood image.now T → StandsFor image.now T vm.old m → PlaysSome result image.now T entry thread m vm.new }
+    ensures plays { InEachState image.now vm.old (λ T m. PlaysSome result image.now T entry thread m vm.new) }
 {
     if !may_step(image, vm, thread) {
         return Err(refusal(image, vm, entry));
@@ -48,7 +46,7 @@ fn play_some(
 
 /// The steps of an entry.
 fn play(image: &Image, vm: &mut Vm, entry: u32, thread: u32, steps: u32) -> Result<(), ReplayError>
-    ensures { (T : Typings) (m : Machine) → IsGood image.now T → StandsFor image.now T vm.old m → Plays result image.now T m (steps_of image.now entry thread steps m) vm.new }
+    ensures { InEachState image.now vm.old (λ T m. Plays result image.now T m (steps_of image.now entry thread steps m) vm.new) }
 {
     let mut left = steps;
     while left > 0 {
@@ -63,7 +61,7 @@ fn play(image: &Image, vm: &mut Vm, entry: u32, thread: u32, steps: u32) -> Resu
 ///
 /// The first entry at which the schedule is refused, or want of memory; entries are counted in 32 bits.
 pub fn play_all(image: &Image, vm: &mut Vm, log: &[Entry]) -> Result<(), ReplayError>
-    ensures { (T : Typings) (m : Machine) → IsGood image.now T → StandsFor image.now T vm.old m → Plays result image.now T m (replay_from image.now 0 log.now m) vm.new }
+    ensures { InEachState image.now vm.old (λ T m. Plays result image.now T m (replay_from image.now 0 log.now m) vm.new) }
 {
     let count = entries(log)?;
     for number in 0..count {
@@ -90,7 +88,7 @@ pub fn entries(log: &[Entry]) -> Result<u32, AllocError>
 ///
 /// The first entry at which the schedule is refused; that it stops before the run has ended; or want of memory.
 pub fn play_to_end(image: &Image, vm: &mut Vm, log: &[Entry]) -> Result<(), ReplayError>
-    ensures { (T : Typings) (m : Machine) → IsGood image.now T → StandsFor image.now T vm.old m → PlaysToEnd result image.now T log.now m vm.new }
+    ensures { InEachState image.now vm.old (λ T m. PlaysToEnd result image.now T log.now m vm.new) }
 {
     play_all(image, vm, log)?;
     match vm.ending(image) {

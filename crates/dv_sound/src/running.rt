@@ -4,7 +4,7 @@ ghost use Rattle.dv_defs.specs.Pools.{Method};
 ghost use Rattle.dv_machine.specs.Running.{ending_of};
 ghost use Rattle.dv_machine.specs.State.{Machine};
 ghost use Rattle.dv_sound.specs.Moves.{FramesStay};
-ghost use Rattle.dv_sound.specs.Runs.{HasStopped, IsAt, IsSameRun, RanLowest};
+ghost use Rattle.dv_sound.specs.Runs.{HasStopped, IsAt, IsSameRun, RanLowest, AtItsState};
 
 use crate::safe::SafeVm;
 use std::alloc::AllocError;
@@ -20,9 +20,9 @@ impl<'v> SafeVm<'v> {
     ///
     /// Want of memory; the turns that were done before stand then.
     pub fn run(&mut self) -> Result<(), AllocError>
-        ensures ran { (main : Method) (m : Machine) → IsAt self.old main m → self.old.lent ≡ [] → RanLowest self.old self.new main m }
+        ensures ran { AtItsState self.old (λ main m. self.old.lent ≡ [] → RanLowest self.old self.new main m) }
         ensures ended { OnOk result ((main : Method) (m : Machine) → self.old.lent ≡ [] → IsAt self.new main m → ending_of self.new.verified.image m ≢ Nothing) }
-        ensures stopped { OnOk result ((main : Method) (m : Machine) → IsAt self.new main m → HasStopped self.new m) }
+        ensures stopped { OnOk result (AtItsState self.new (λ main m. HasStopped self.new m)) }
         ensures same { IsSameRun self.old self.new }
         ensures lent_stay { FramesStay self.old.machine self.new.machine self.old.lent }
     {

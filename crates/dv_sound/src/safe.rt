@@ -1,16 +1,13 @@
 // A machine whose state is the replay of its log.
-ghost use Rattle.std.specs.Prelude.{◌≡◌, ◌≤◌, ◌+◌, [], IfOk, IsTrue, MatchOption, OnErr, is_none, All, List, ℕ, ◌≢◌, ◌↔◌, false, true, length};
-ghost use Rattle.dv_defs.specs.Pools.{Method};
+ghost use Rattle.std.specs.Prelude.{◌≡◌, ◌≤◌, ◌+◌, [], IfOk, MatchOption, OnErr, is_none, All, List, ℕ, ◌≢◌, ◌↔◌, false, true, length};
 ghost use Rattle.dv_machine.specs.Running as running;
-ghost use Rattle.dv_machine.specs.State.{Machine};
-ghost use Rattle.dv_core.specs.Guests.{IsOrdered};
 ghost use Rattle.dv_core.specs.Machines.{machine_of};
 ghost use Rattle.dv_core.specs.Watching.{AreWatchable};
 ghost use Rattle.dv_machine.specs.WellTyped.{Typings};
 ghost use Rattle.dv_words.specs.Erasure.{erased_machine};
 ghost use Rattle.dv_sound.specs.Moves.{AreUsable, FramesStay, IsGood, StandsFor, may_step};
 ghost use Rattle.dv_machine.specs.Mains.{HasMain};
-ghost use Rattle.dv_sound.specs.Runs.{IsAt, IsAtSome, IsKept, IsOpened, IsReady, IsSameRun, IsTurned, MayTurn, NoneIsReady, TurnedFrom};
+ghost use Rattle.dv_sound.specs.Runs.{IsAtSome, IsKept, IsOpened, IsReady, IsSameRun, IsTurned, MayTurn, NoneIsReady, TurnedFrom, AtItsState, WhereKept};
 
 use crate::moves::{goes_on, may_step, take_turn};
 use crate::premises::{are_numbers, inits_fit, is_accepted, keys_rise, strings_fit};
@@ -93,17 +90,17 @@ fn logged_turn(
     thread: u32,
     most: u32,
 ) -> Result<u32, AllocError>
-    ensures kept { (main : MethodId) (lent : List ℕ) → IsKept program.now.image main vm.old log.old.items lent → 1 ≤ most → All (λ t. t ≢ thread) lent → IsKept program.now.image main vm.new log.new.items lent }
+    ensures kept { WhereKept program.now.image vm.old log.old.items (λ main lent. 1 ≤ most → All (λ t. t ≢ thread) lent → IsKept program.now.image main vm.new log.new.items lent) }
     ensures turned { IfOk result (λ n. (main : MethodId) (lent : List ℕ) (k : IsKept program.now.image main vm.old log.old.items lent) → may_step program.now.image k.machine thread ≡ true → 1 ≤ most →
         TurnedFrom program.now.image main vm.old log.old.items lent k worker thread most n vm.new log.new.items) }
     ensures held { IfOk result (λ n. (main : MethodId) (lent : List ℕ) (k : IsKept program.now.image main vm.old log.old.items lent) → may_step program.now.image k.machine thread ≡ false →
         (n ≡ 0) × (machine_of vm.new ≡ machine_of vm.old) × (log.new.items ≡ log.old.items)) }
-    ensures limits { (main : MethodId) (lent : List ℕ) → IsKept program.now.image main vm.old log.old.items lent → 1 ≤ most → vm.new.limits ≡ vm.old.limits }
+    ensures limits { WhereKept program.now.image vm.old log.old.items (λ main lent. 1 ≤ most → vm.new.limits ≡ vm.old.limits) }
     ensures few { IfOk result (λ n. n ≤ most) }
-    ensures counted { IfOk result (λ n. (main : MethodId) (lent : List ℕ) → IsKept program.now.image main vm.old log.old.items lent → 1 ≤ most → vm.new.steps ≡ vm.old.steps + n) }
-    ensures within { (main : MethodId) (lent : List ℕ) → IsKept program.now.image main vm.old log.old.items lent → 1 ≤ most → vm.new.steps ≤ vm.new.limits.budget }
-    ensures stay { (main : MethodId) (lent : List ℕ) → IsKept program.now.image main vm.old log.old.items lent → 1 ≤ most → All (λ t. t ≢ thread) lent → FramesStay (machine_of vm.old) (machine_of vm.new) lent }
-    ensures refused { OnErr result ((main : MethodId) (lent : List ℕ) → IsKept program.now.image main vm.old log.old.items lent → (machine_of vm.new ≡ machine_of vm.old) × (log.new.items ≡ log.old.items)) }
+    ensures counted { IfOk result (λ n. WhereKept program.now.image vm.old log.old.items (λ main lent. 1 ≤ most → vm.new.steps ≡ vm.old.steps + n)) }
+    ensures within { WhereKept program.now.image vm.old log.old.items (λ main lent. 1 ≤ most → vm.new.steps ≤ vm.new.limits.budget) }
+    ensures stay { WhereKept program.now.image vm.old log.old.items (λ main lent. 1 ≤ most → All (λ t. t ≢ thread) lent → FramesStay (machine_of vm.old) (machine_of vm.new) lent) }
+    ensures refused { OnErr result (WhereKept program.now.image vm.old log.old.items (λ main lent. (machine_of vm.new ≡ machine_of vm.old) × (log.new.items ≡ log.old.items))) }
 {
     let image = &program.image;
     if !may_step(image, vm, thread) {
@@ -197,7 +194,7 @@ impl<'v> SafeVm<'v> {
     pub(crate) fn engine(&self) -> &Vm
         ensures machine { machine_of result.now ≡ self.now.machine }
         ensures watchable { AreWatchable self.now.verified.image result.now }
-        ensures stands { (main : Method) (m : Machine) → IsAt self.now main m → (T : Typings) × IsGood self.now.verified.image T × StandsFor self.now.verified.image T result.now m }
+        ensures stands { AtItsState self.now (λ main m. (T : Typings) × IsGood self.now.verified.image T × StandsFor self.now.verified.image T result.now m) }
     {
         &self.vm
     }
@@ -206,8 +203,8 @@ impl<'v> SafeVm<'v> {
     pub fn vm(&self) -> &Vm
         ensures machine { machine_of result.now ≡ self.now.machine }
         ensures watchable { AreWatchable self.now.verified.image result.now }
-        ensures erased { (main : Method) (m : Machine) → IsAt self.now main m → machine_of result.now ≡ erased_machine m }
-        ensures stands { (main : Method) (m : Machine) → IsAt self.now main m → (T : Typings) × IsGood self.now.verified.image T × StandsFor self.now.verified.image T result.now m }
+        ensures erased { AtItsState self.now (λ main m. machine_of result.now ≡ erased_machine m) }
+        ensures stands { AtItsState self.now (λ main m. (T : Typings) × IsGood self.now.verified.image T × StandsFor self.now.verified.image T result.now m) }
     {
         let vm = self.engine();
         machine_fits(vm);
@@ -216,7 +213,7 @@ impl<'v> SafeVm<'v> {
 
     /// How the run stands: none where it goes on.
     pub fn ending(&self) -> Option<Ending>
-        ensures ending { (main : Method) (m : Machine) → IsAt self.now main m → result ≡ running.ending_of self.now.verified.image m }
+        ensures ending { AtItsState self.now (λ main m. result ≡ running.ending_of self.now.verified.image m) }
         ensures leads { IsAtSome self.now }
     {
         let verified = self.verified;
@@ -237,8 +234,8 @@ impl<'v> SafeVm<'v> {
     ///
     /// Want of memory; all is as before then.
     pub fn turn(&mut self, worker: u32, thread: u32, most: u32) -> Result<u32, AllocError>
-        ensures turned { IfOk result (λ n. (main : Method) (m : Machine) → IsAt self.old main m → MayTurn self.old m thread → 1 ≤ most → IsTurned self.old self.new main m worker thread most n) }
-        ensures held { IfOk result (λ n. (main : Method) (m : Machine) → IsAt self.old main m → (MayTurn self.old m thread → ⊥) → (n ≡ 0) × (self.new ≡ self.old)) }
+        ensures turned { IfOk result (λ n. AtItsState self.old (λ main m. MayTurn self.old m thread → 1 ≤ most → IsTurned self.old self.new main m worker thread most n)) }
+        ensures held { IfOk result (λ n. AtItsState self.old (λ main m. (MayTurn self.old m thread → ⊥) → (n ≡ 0) × (self.new ≡ self.old))) }
         ensures none { most ≡ 0 → IfOk result (λ n. (n ≡ 0) × (self.new ≡ self.old)) }
         ensures few { IfOk result (λ n. n ≤ most) }
         ensures counted { IfOk result (λ n. self.new.machine.steps ≡ self.old.machine.steps + n) }
@@ -262,7 +259,7 @@ impl<'v> SafeVm<'v> {
 
     /// Whether a thread is runnable.
     pub fn runnable(&self, thread: u32) -> bool
-        ensures { (main : Method) (m : Machine) → IsAt self.now main m → result ≡ running.runnable self.now.verified.image m thread }
+        ensures { AtItsState self.now (λ main m. result ≡ running.runnable self.now.verified.image m thread) }
     {
         let verified = self.verified;
         self.vm.runnable(&verified.image, thread)
@@ -270,7 +267,7 @@ impl<'v> SafeVm<'v> {
 
     /// Whether nothing stopped the run, and its steps aren't spent: it goes on where a thread is runnable.
     pub(crate) fn goes_on(&self) -> bool
-        ensures goes_on { (main : Method) (m : Machine) (t : ℕ) → IsAt self.now main m → running.runnable self.now.verified.image m t ≡ true → result ≡ is_none (running.ending_of self.now.verified.image m) }
+        ensures goes_on { AtItsState self.now (λ main m. (t : ℕ) → running.runnable self.now.verified.image m t ≡ true → result ≡ is_none (running.ending_of self.now.verified.image m)) }
         ensures leads { IsAtSome self.now }
     {
         goes_on(&self.vm)
@@ -278,8 +275,8 @@ impl<'v> SafeVm<'v> {
 
     /// Whether a thread is runnable and at home.
     fn is_ready(&self, thread: u32) -> bool
-        ensures ready { (main : Method) (m : Machine) → IsAt self.now main m → result ≡ true → (running.runnable self.now.verified.image m thread ≡ true) × All (λ t. t ≢ thread) self.now.lent }
-        ensures held { (main : Method) (m : Machine) → IsAt self.now main m → result ≡ false → running.runnable self.now.verified.image m thread ≡ true → All (λ t. t ≢ thread) self.now.lent → ⊥ }
+        ensures ready { AtItsState self.now (λ main m. result ≡ true → (running.runnable self.now.verified.image m thread ≡ true) × All (λ t. t ≢ thread) self.now.lent) }
+        ensures held { AtItsState self.now (λ main m. result ≡ false → running.runnable self.now.verified.image m thread ≡ true → All (λ t. t ≢ thread) self.now.lent → ⊥) }
     {
         if self.is_lent(thread) {
             false
@@ -291,7 +288,7 @@ impl<'v> SafeVm<'v> {
     /// The lowest thread that is runnable and at home; none where none is.
     #[tactic(auto, using(crate::proofs::Ready::none_ready))]
     pub fn ready(&self) -> Option<u32>
-        ensures { (main : Method) (m : Machine) → IsAt self.now main m → MatchOption result (NoneIsReady self.now m) (λ t. IsReady self.now m t) }
+        ensures { AtItsState self.now (λ main m. MatchOption result (NoneIsReady self.now m) (λ t. IsReady self.now m t)) }
     {
         for thread in 0..self.threads() {
             if self.is_ready(thread) {
@@ -303,7 +300,7 @@ impl<'v> SafeVm<'v> {
 
     /// How many threads there are.
     pub fn threads(&self) -> u32
-        ensures { (main : Method) (m : Machine) → IsAt self.now main m → result ≡ length m.threads }
+        ensures { AtItsState self.now (λ main m. result ≡ length m.threads) }
     {
         self.vm.guest.threads.stacks.len() as u32
     }

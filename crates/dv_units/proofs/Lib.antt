@@ -6,3 +6,4 @@ pub mod Encoding
 pub mod Headers
 pub mod PayloadParts
 pub mod PayloadsHere
+pub mod PiecesHere

@@ -22,7 +22,7 @@ returns-then-not-may_hold_up c s e l f ls are finds levels watched =
     (c.in_ok-opcode_of.ensures ∙ ap (λ ks. opcode_at image (first ks)) levels) (sym c.may_hold_up.ensures ∙ c.if-not-may_hold_up.true)
 
 pub returns-in_err-here : goal.returns-in_err-here
-returns-in_err-here c s e l f ls are finds levels watched =
+returns-in_err-here c f ls s e l are finds levels watched =
     let image = c.args.image.now in
     let g = c.args.guest.now in
     let stack = c.args.stack.now in
@@ -31,7 +31,7 @@ returns-in_err-here c s e l f ls are finds levels watched =
     absurd (c.in_err-here.ensures (thread_here image g stack f ls levels t has) (here image g stack f ls levels t has) has.x refl (stack_here image g stack f ls levels t has) (at_here image g stack f ls levels t has))
 
 pub returns : goal.returns
-returns c s e l f ls are finds levels watched =
+returns c f ls s e l are finds levels watched =
     let image = c.args.image.now in
     let g = c.args.guest.now in
     let stack = c.args.stack.now in
@@ -42,6 +42,6 @@ returns c s e l f ls are finds levels watched =
     let found = c.in_ok-here.ensures (thread_here image g stack f ls levels t has) h has.x refl (stack_here image g stack f ls levels t has) (at_here image g stack f ls levels t has) in
     let seen : IsSeenByCalls image g.heap stack h = record { same_image = refl; same_heap = refl; is_stack = stack_here image g stack f ls levels t has } in
     let fits = subst (CallFits image) (sym found.means) (watched.call has.x has.fetched) in
-    c.blocked_needing.ensures s e l h found.code found.at are finds seen has.method fits ∙
+    c.blocked_needing.ensures found.code found.at s e l h are finds seen has.method fits ∙
     (ap (λ (o : ops.Op). blocked_needing image m t has.own f o (ops.needs o)) found.means ∙
     sym (λ j. blocked_at image m t f (has.method j) (has.fetched j)))

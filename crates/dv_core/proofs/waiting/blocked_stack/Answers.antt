@@ -9,5 +9,5 @@ pub returns-in-Code : goal.returns-in-Code
 returns-in-Code c s e l are finds watched =
     let image = c.args.image.now in
     let top = code_on c.args.stack.now.levels c.in-Code.method c.in-Code.at (ap Some (sym c.in-Code.is) ∙ c.in_ok-top.ensures) in
-    c.blocked_code.ensures s e l top.frame top.rest are finds top.is (subst (IsTopWatched image) top.is watched) ∙
+    c.blocked_code.ensures top.frame top.rest s e l are finds top.is (subst (IsTopWatched image) top.is watched) ∙
     ap (blocked_levels image (machine_with c.args.guest.now s e l) c.args.thread) (sym top.is)

@@ -4,7 +4,7 @@ use Rattle.dv_units.specs.declared.error.UnitError.TheVariants.{BadPayload}
 use Rattle.dv_units.proofs.Decoding.{units_fit}
 use Rattle.dv_print.specs.declared.pieces.Part.TheVariants as part
 use Rattle.dv_print.specs.Pieces.{payload_sized}
-use Rattle.dv_print.proofs.Steps.Tiles.{stands, no_payload_here}
+use Rattle.dv_units.proofs.PiecesHere.{stands, no_payload_here}
 use Rattle.dv_print.proofs.pieces.payload_at.Goals as goal
 
 pub unwrap-size-requires : goal.unwrap-size-requires

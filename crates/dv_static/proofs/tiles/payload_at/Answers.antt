@@ -4,7 +4,7 @@ use Rattle.dv_units.specs.declared.error.UnitError.TheVariants.{BadPayload}
 use Rattle.dv_units.proofs.Decoding.{units_fit}
 use Rattle.dv_static.specs.declared.tiles.Item.TheVariants as item
 use Rattle.dv_static.specs.Tiles.{payload_sized}
-use Rattle.dv_static.proofs.ItemsHere.{stands, no_payload_here}
+use Rattle.dv_units.proofs.PiecesHere.{stands, no_payload_here}
 use Rattle.dv_static.proofs.tiles.payload_at.Goals as goal
 
 pub unwrap-size-requires : goal.unwrap-size-requires

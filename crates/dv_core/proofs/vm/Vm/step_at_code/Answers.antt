@@ -13,6 +13,6 @@ returns c own h x seen at fits few =
     let d = with_ready h x.op (ops.needs x.op) in
     let led = subst (λ r. Leads r d (Leaves old.guest c.step_code.new.guest own h) (Stays old.limits old.guest c.step_code.new.guest)) c.in_ok-answer.was (c.step_code.ensures own h x seen at fits) in
     stepped c.settle.result old c.settle.new.self (settled c.args.image.now (machine_of old) c.args.thread own (Some x) d)
-    (c.settle.ensures.ok old.guest own h (Some x) d seen at few led)
-    (c.settle.ensures.memory old.guest own h (Some x) d seen at few led)
-    (c.settle.ensures.ordered old.guest own h (Some x) d seen at led)
+    (c.settle.ensures.ok old.guest d own h (Some x) seen at few led)
+    (c.settle.ensures.memory old.guest d own h (Some x) seen at few led)
+    (c.settle.ensures.ordered old.guest d own h (Some x) seen at led)

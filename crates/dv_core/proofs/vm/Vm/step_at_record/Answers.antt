@@ -16,6 +16,6 @@ returns c own h seen levels fits few =
     (stays_by h.limits old.limits old.guest k seen.limits) (c.step_record-answer.ensures own h (seen_by c.args.image.now old.limits old.guest c.args.thread own h seen) levels fits) in
     let at : IsAtLevel own h None = (c.args.class, c.args.running, levels) in
     stepped c.settle.result old c.settle.new.self (settled c.args.image.now (machine_of old) c.args.thread own None d)
-    (c.settle.ensures.ok old.guest own h None d seen at few did)
-    (c.settle.ensures.memory old.guest own h None d seen at few did)
-    (c.settle.ensures.ordered old.guest own h None d seen at did)
+    (c.settle.ensures.ok old.guest d own h None seen at few did)
+    (c.settle.ensures.memory old.guest d own h None seen at few did)
+    (c.settle.ensures.ordered old.guest d own h None seen at did)

@@ -22,7 +22,7 @@ returns-then-branch-eq0-clause-ran c main m at none =
     let r = c.loop-self.self in
     let ran = c.loop-self.invariant.ran main m at none in
     let ready = c.in-Some.ensures main ran.after ran.at in
-    let going = none_of (ending_of r.verified.image ran.after) (sym (c.goes_on.ensures.goes_on main ran.after c.in-Some.thread ran.at ready.runs) ∙ c.loop-self-test.true) in
+    let going = none_of (ending_of r.verified.image ran.after) (sym (c.goes_on.ensures.goes_on main ran.after ran.at c.in-Some.thread ready.runs) ∙ c.loop-self-test.true) in
     let turned = c.in_ok-turn.ensures.turned main ran.after ran.at (may r ran.after c.in-Some.thread going ready) (omega arith) in
     ran_more c.args.self.now r c.turn.new.self main m c.loop-self.invariant.same none ran c.in-Some.thread c.in_ok-turn.field-0 going ready turned
 
@@ -32,7 +32,7 @@ no_turn c =
     let r = c.loop-self.self in
     let s = c.goes_on.ensures.leads in
     let ready = c.in-Some.ensures s.main s.machine s.at in
-    let going = none_of (ending_of r.verified.image s.machine) (sym (c.goes_on.ensures.goes_on s.main s.machine c.in-Some.thread s.at ready.runs) ∙ c.loop-self-test.true) in
+    let going = none_of (ending_of r.verified.image s.machine) (sym (c.goes_on.ensures.goes_on s.main s.machine s.at c.in-Some.thread ready.runs) ∙ c.loop-self-test.true) in
     let free = may r s.machine c.in-Some.thread going ready in
     let turned = c.in_ok-turn.ensures.turned s.main s.machine s.at free (omega arith) in
     let some = some_steps r c.turn.new.self s.main s.machine 0 c.in-Some.thread 256 c.in_ok-turn.field-0 (typed_at r s.main s.machine s s.at) free (omega arith) turned in
@@ -46,7 +46,7 @@ ended_there : (c : goal.After-loop-self) (main : Method) (m : Machine) → IsAt 
 ended_there c main m at going =
     let r = c.loop-self.self in
     let runs = one_runs r m going in
-    let goes = c.goes_on.ensures.goes_on main m runs.0 at runs.1 ∙ ap is_none going in
+    let goes = c.goes_on.ensures.goes_on main m at runs.0 runs.1 ∙ ap is_none going in
     let d : true ≡ false = sym goes ∙ c.loop-self-test.false in
     cc d
 
@@ -60,7 +60,7 @@ loop-self-preserved c = record {
       let r = c.loop-self.self in
       let ran = c.loop-self.invariant.ran main m at none in
       let ready = c.in-Some.ensures main ran.after ran.at in
-      let going = none_of (ending_of r.verified.image ran.after) (sym (c.goes_on.ensures.goes_on main ran.after c.in-Some.thread ran.at ready.runs) ∙ c.loop-self-test.true) in
+      let going = none_of (ending_of r.verified.image ran.after) (sym (c.goes_on.ensures.goes_on main ran.after ran.at c.in-Some.thread ready.runs) ∙ c.loop-self-test.true) in
       let turned = c.in_ok-turn.ensures.turned main ran.after ran.at (may r ran.after c.in-Some.thread going ready) (omega arith) in
       ran_more c.args.self.now r c.turn.new.self main m c.loop-self.invariant.same none ran c.in-Some.thread c.in_ok-turn.field-0 going ready turned;
   stay = frames_then c.args.self.now.machine c.loop-self.self.machine c.turn.new.self.machine c.args.self.now.lent c.loop-self.self.lent c.loop-self.invariant.same.lent c.loop-self.invariant.stay c.turn.ensures.lent_stay;
