@@ -421,13 +421,25 @@ fn method_line(
 {
     match (head, frame) {
         (Head::Directive(directive), _) => {
-            directive_line(alloc, arguments, frame, line, directive, after_first(pieces))
+            directive_line(
+                alloc,
+                arguments,
+                frame,
+                line,
+                directive,
+                after_first(pieces),
+            )
         }
         (Head::Label, Some(_)) => match label_line(alloc, pieces) {
             Ok(name) => Ok(BodyLine::Label(name)),
             Err(error) => Err(error),
         },
-        (Head::Opcode(op), Some(frame)) => match read_operands(alloc, frame, op, after_first(pieces)) {
+        (Head::Opcode(op), Some(frame)) => match read_operands(
+            alloc,
+            frame,
+            op,
+            after_first(pieces),
+        ) {
             Ok(op) => Ok(BodyLine::Op(op)),
             Err(error) => Err(error),
         },

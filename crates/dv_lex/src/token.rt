@@ -7,7 +7,9 @@ ghost use Rattle.dv_lex.specs.Bytes.{byte_class};
 ghost use Rattle.dv_lex.specs.Lexemes.{lacks_one_unit, lexemes, literal_kind, Cuts, Outside};
 ghost use Rattle.dv_lex.specs.Lines.{lexemes_in, Finds, Takes, IsInside};
 
-use crate::bytes::{Class, byte_class, escape_length, is_control, is_escape, is_plain, units_begun};
+use crate::bytes::{
+    Class, byte_class, escape_length, is_control, is_escape, is_plain, units_begun,
+};
 use dv_defs::LineKind;
 use std::alloc::{AllocError, Global};
 
