@@ -30,7 +30,7 @@ unwinds_on (Ok next.NoOutput) u L M S T f g x = absurd x
 unwinds_on (Err e) u L M S T f g x = g x
 
 module _ (i : Image) (l : Limits) (old : Guest) (thread : ℕ) (own : WordThread) (h : At) (seen : IsSeen i l old thread own h) where
-  pub throw_sees : throw.IsSeen i old.heap old.classes thread h
+  pub throw_sees : throw.IsSeenByThrows i old.heap old.classes thread h
   throw_sees = record {
     image_is = seen.image;
     heap_is = ap (λ (sh : WordShared). sh.heap) seen.shared;

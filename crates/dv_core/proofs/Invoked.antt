@@ -27,7 +27,7 @@ use Rattle.dv_core.proofs.Seen.{is_stack}
 
 module _ (i : Image) (lim : Limits) (old : Guest) (thread : ℕ) (own : WordThread) (h : At) (x : statics.At) (seen : IsSeen i lim old thread own h) (at : IsAtOp own h x) (c : Call) (regs : Regs) (g : Method)
     (fits : StepFits h (Invoke c (named_registers regs) g)) (s : WordStack) (there : slice_get old.threads.stacks.items thread ≡ Some s) (l : Landed)
-    (lands : (k : At) → calls.IsSeen i old.heap s k → IsOwn k → IsNumbered i g → l ≡ called k c g (arg_words s regs)) where
+    (lands : (k : At) → calls.IsSeenByCalls i old.heap s k → IsOwn k → IsNumbered i g → l ≡ called k c g (arg_words s regs)) where
   landed : called h c g (arg_words s regs) ≡ l
   landed =
       sym (lands h (record { same_image = seen.image; same_heap = ap (λ (k : WordShared). k.heap) seen.shared; is_stack = is_stack i lim old thread own h seen at.levels s there }) at.method

@@ -11,12 +11,12 @@ use Rattle.dv_core.proofs.Waits.{at_here, has_code, here, stack_here, thread_her
 use Rattle.dv_core.proofs.waiting.blocked_code.Goals as goal
 
 pub returns-in_err-opcode_of : goal.returns-in_err-opcode_of
-returns-in_err-opcode_of c s e l f ls are finds levels watched =
+returns-in_err-opcode_of c f ls s e l are finds levels watched =
     let image = c.args.image.now in
     absurd (some_opcode image f (has_code image f watched.stands) (c.in_err-opcode_of.ensures ∙ ap (λ ks. opcode_at image (first ks)) levels))
 
 pub returns-then-not-may_hold_up : goal.returns-then-not-may_hold_up
-returns-then-not-may_hold_up c s e l f ls are finds levels watched =
+returns-then-not-may_hold_up c f ls s e l are finds levels watched =
     let image = c.args.image.now in
     holds_up_none image (machine_with c.args.guest.now s e l) c.args.thread f (c.in_ok-opcode_of).field-0 (has_code image f watched.stands)
     (c.in_ok-opcode_of.ensures ∙ ap (λ ks. opcode_at image (first ks)) levels) (sym c.may_hold_up.ensures ∙ c.if-not-may_hold_up.true)

@@ -11,7 +11,7 @@ use Rattle.dv_core.proofs.Settles.{flies_on, settled_on, settled_ref}
 use Rattle.dv_core.proofs.vm.Vm.settle.Goals as goal
 
 pub returns-in-On-clause-ok : goal.returns-in-On-clause-ok
-returns-in-On-clause-ok c g own h x d seen at few led =
+returns-in-On-clause-ok c g d own h x seen at few led =
     let i = c.args.image.now in
     let old = c.args.self.now in
     let t = c.args.thread in
@@ -21,7 +21,7 @@ returns-in-On-clause-ok c g own h x d seen at few led =
     counts g old.guest old.steps old.stop old.limits t own h l end_after seen.number seen.there left)
 
 pub returns-in-ThrowRef-clause-ok : goal.returns-in-ThrowRef-clause-ok
-returns-in-ThrowRef-clause-ok c g own h x d seen at few led =
+returns-in-ThrowRef-clause-ok c g d own h x seen at few led =
     let i = c.args.image.now in
     let old = c.args.self.now in
     let t = c.args.thread in
@@ -32,4 +32,4 @@ returns-in-ThrowRef-clause-ok c g own h x d seen at few led =
     flies_on i old.limits g old.guest old.steps old.stop old.limits t own h o seen stays)
 
 pub returns-in-Throw-clause-ordered : goal.returns-in-Throw-clause-ordered
-returns-in-Throw-clause-ordered c g own h x d seen at led = grind (arith, moves)
+returns-in-Throw-clause-ordered c g d own h x seen at led = grind (arith, moves)
