@@ -18,6 +18,7 @@ use Rattle.dv_draft.specs.Draft.{DraftValue}
 use Rattle.dv_asm.specs.First.{first_line, earlier, when, any_below}
 use Rattle.dv_asm.specs.Items.{item_at, is_payload, size_of}
 use Rattle.dv_asm.specs.Places.{address_of, place_of, label_address, distance, address_named_by}
+use Rattle.dv_defs.specs.Body.{most_units}
 
 -- LabelTwice: an earlier label has the name
 abbrev pub is_place : ℕ → Option ℕ → Bool
@@ -130,7 +131,7 @@ offset_range items = first_line (offset_range_at items) (length items)
 
 -- TooLong: the item's end passes 16,384 units
 abbrev pub passes : List Item → ℕ → Bool
-passes items k = nat_le (address_of items k) 16384 && nat_lt 16384 (address_of items k + size_of (item_at items k).what)
+passes items k = nat_le (address_of items k) most_units && nat_lt most_units (address_of items k + size_of (item_at items k).what)
 
 abbrev pub too_long_at : List Item → ℕ → Option ℕ
 too_long_at items k = when (passes items k) (item_at items k).line

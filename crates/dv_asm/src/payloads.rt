@@ -3,6 +3,7 @@ ghost use Rattle.std.specs.Prelude.{◌≡◌, ◌<◌, ◌≤◌, ◌^◌, true
 ghost use Rattle.dv_defs.specs.Payloads.{payload_spelling, all_fit_signed};
 ghost use Rattle.dv_asm.specs.Places.{address_of, distance};
 ghost use Rattle.dv_asm.specs.Layout.{base_of, targets_of, packed_of, sparse_of};
+ghost use Rattle.dv_defs.specs.Body.{most_units};
 
 use crate::short::Short;
 use dv_defs::{Payload, Seq, Text};
@@ -24,7 +25,7 @@ impl Short<'_> {
     /// The address that the targets of a payload at an address count from.
     fn base_of(&self, address: u32) -> u32
         ensures value { result ≡ base_of self.now address }
-        ensures small { result ≤ 16384 }
+        ensures small { result ≤ most_units }
     {
         match self.switch_of(address) {
             Some(k) => self.address_of(k),
@@ -34,7 +35,7 @@ impl Short<'_> {
 
     /// How far each of the labels is from an address.
     fn distances(&self, alloc: Global, from: u32, names: &[Text]) -> Result<Vec<i32>, AllocError>
-        requires { from ≤ 16384 }
+        requires { from ≤ most_units }
         ensures { IfOk result (λ targets. targets.items ≡ map (distance self.now from) names.now) }
     {
         let mut distances = Vec::new(alloc);

@@ -3,6 +3,7 @@ ghost use Rattle.std.specs.Prelude.{◌≡◌, ◌<◌, ◌≤◌, None, length}
 ghost use Rattle.dv_asm.specs.Items.{item_at};
 ghost use Rattle.dv_asm.specs.Places.{address_of, label_address, distance};
 ghost use Rattle.dv_asm.specs.Refusals.{too_long, switch_of};
+ghost use Rattle.dv_defs.specs.Body.{most_units};
 
 use crate::places::Places;
 use crate::switches::Switches;
@@ -78,7 +79,7 @@ impl<'a> Short<'a> {
     pub fn address_of(&self, k: usize) -> u32
         requires { k ≤ length self.now }
         ensures value { result ≡ address_of self.now k }
-        ensures small { result ≤ 16384 }
+        ensures small { result ≤ most_units }
     {
         self.is_short();
         self.places().address_of(k) as u32
@@ -88,7 +89,7 @@ impl<'a> Short<'a> {
     #[tactic(auto, using(crate::proofs::PlaceLemmas::label_within))]
     pub fn label_address(&self, name: &Text) -> u32
         ensures value { result ≡ label_address self.now name.now }
-        ensures small { result ≤ 16384 }
+        ensures small { result ≤ most_units }
     {
         self.is_short();
         self.places().label_address(name) as u32
@@ -96,7 +97,7 @@ impl<'a> Short<'a> {
 
     /// How far a label is from an address.
     pub fn distance(&self, from: u32, name: &Text) -> i32
-        requires { from ≤ 16384 }
+        requires { from ≤ most_units }
         ensures { result ≡ distance self.now from name.now }
     {
         self.label_address(name) as i32 - from as i32

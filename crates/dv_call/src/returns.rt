@@ -13,6 +13,7 @@ ghost use Rattle.dv_words.specs.Fetching.{IsThere};
 ghost use Rattle.dv_words.specs.Steps.{At};
 ghost use Rattle.dv_call.specs.Landings.{IsOwn, IsRunning};
 ghost use Rattle.dv_call.specs.Returns.{CallerStands, TopStands, resumed};
+ghost use Rattle.dv_defs.specs.Body.{most_units};
 
 use crate::tops::running;
 use dv_defs::{Base, Image, MethodId, Next, Ty};
@@ -31,7 +32,7 @@ fn size_of(op: u8) -> u32
 
 /// The address after the instruction that stands at this one, none past the units.
 pub fn next_in(units: &[u16], at: u32) -> Option<u32>
-    requires { length units.now ≤ 16384 }
+    requires { length units.now ≤ most_units }
     ensures { (x : Fetched) → IsThere units.now at x → result ≡ Some x.next }
 {
     let place = at as usize;

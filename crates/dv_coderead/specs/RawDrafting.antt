@@ -2,7 +2,7 @@
 use Rattle.std.specs.Prelude.{◌≡◌, ℕ, ◌≤◌, ◌&&◌, Bool, true, List, [], ◌∷◌, ◌++◌, length, nat_eq, Result, Ok, Err, if◌then◌else◌}
 use Rattle.dv_defs.specs.declared.code.Handler.{Handler}
 use Rattle.dv_defs.specs.declared.code.Try.{Try}
-use Rattle.dv_defs.specs.Body.{BodyValue}
+use Rattle.dv_defs.specs.Body.{BodyValue, most_units}
 use Rattle.dv_defs.specs.declared.faults.LineError.{LineError}
 use Rattle.dv_draft.specs.declared.pools.Pools.{Pools}
 use Rattle.dv_lex.specs.declared.line.Stop.{Stop}
@@ -27,7 +27,7 @@ HasUnits p us = length us ≡ 0
 
 pub record IsRawDrafting (d : RawDrafting) : Type 0 where
   pub registers : d.registers ≤ 256
-  pub short : length d.units.items ≤ 16384
+  pub short : length d.units.items ≤ most_units
   pub units : HasUnits d.place d.units.items
 
 -- what is read of a line makes of one draft another, whatever lines stand behind it

@@ -24,6 +24,7 @@ use Rattle.dv_coderead.specs.References.{type_in, field_in, method_in, cut_at, c
 use Rattle.dv_coderead.specs.Operands.{Part, word_at, alone, after_first, ended, and_behind, as_entry}
 use Rattle.dv_coderead.specs.Heads.{head_of}
 use Rattle.dv_coderead.specs.BodyLines.{by_value, count_in, refusal_of}
+use Rattle.dv_defs.specs.Body.{most_units}
 
 abbrev pub raw_said : {A : Type 0} → (A → RawLine) → Result A LineKind → Result RawLine LineKind
 raw_said f (Ok x) = Ok (f x)
@@ -70,7 +71,7 @@ units_in (p ∷ ps) = Err kind.Operands
 
 -- with so many units before them: 16,384 at most
 abbrev pub few_units : ℕ → List ℕ → Result (List ℕ) LineKind
-few_units before us = if nat_le (before + length us) 16384 then Ok us else Err kind.TooLong
+few_units before us = if nat_le (before + length us) most_units then Ok us else Err kind.TooLong
 
 unfoldable pub units_line : ℕ → List Piece → Result (List ℕ) LineKind
 units_line before ps = units_in ps >>= few_units before
@@ -155,7 +156,7 @@ raw_line p ps = raw_line_in p (head_of ps) ps
 -- ---- what calls keep
 
 abbrev pub AreFew : RawPlace → Type 0
-AreFew (place.Units before) = before ≤ 16384
+AreFew (place.Units before) = before ≤ most_units
 AreFew p = Unit {0}
 
 -- a line says what may stand there
@@ -163,7 +164,7 @@ abbrev pub IsRawLine : RawPlace → RawLine → Type 0
 IsRawLine place.Start (line.Registers n) = n ≤ 256
 IsRawLine place.Pools (line.Entry r) = Unit {0}
 IsRawLine place.Pools line.Begin = Unit {0}
-IsRawLine (place.Units before) (line.Units us) = before + length us ≤ 16384
+IsRawLine (place.Units before) (line.Units us) = before + length us ≤ most_units
 IsRawLine (place.Units before) line.End = Unit {0}
 IsRawLine place.Behind (line.Handler h) = Unit {0}
 IsRawLine p l = ⊥

@@ -10,6 +10,7 @@ ghost use Rattle.dv_coderead.specs.Heads.{head_of};
 ghost use Rattle.dv_coderead.specs.Operands.{word_at};
 ghost use Rattle.dv_coderead.specs.References.{cut_at};
 ghost use Rattle.dv_coderead.specs.RawLines.{address_from, address_in, again_or_refused, among_units, begins_with_unit, caught_in, entry_by_shape, entry_line, is_count, is_unit, last_line, member_in, pools_line, raw_handler_line, raw_line, raw_registers_line, start_line, units_in, units_line, AreFew, IsRawLine};
+ghost use Rattle.dv_defs.specs.Body.{most_units};
 
 use crate::body_line::{count_part, refusal_of};
 use crate::head::{Block, Directive, Head};
@@ -19,6 +20,9 @@ use crate::{Refusal, references, words};
 use dv_defs::{LineKind, Seq, Ty};
 use dv_draft::PoolRef;
 use std::alloc::Global;
+
+/// How many units a method may have.
+const MAX_UNITS: usize = 16_384;
 
 /// Where a line of a raw body stands: before the count of registers, among the entries of the pools, among the units,
 /// with so many before it, or behind these.
@@ -165,12 +169,12 @@ fn units(alloc: Global, pieces: &[Piece]) -> Result<Vec<u16>, Refusal>
 /// A line of units, which has so many before it.
 #[tactic(auto, unfolding(crate::specs::RawLines::units_line))]
 fn units_line(alloc: Global, before: u32, pieces: &[Piece]) -> Result<Vec<u16>, Refusal>
-    requires { before ≤ 16384 }
+    requires { before ≤ most_units }
     ensures exact { Gives (λ us. us.items) result (units_line before (pieces_in pieces.now)) }
-    ensures few { IfOk result (λ us. before + length us.items ≤ 16384) }
+    ensures few { IfOk result (λ us. before + length us.items ≤ most_units) }
 {
     let units = units(alloc, pieces)?;
-    if units.len() > 16384 - before as usize {
+    if units.len() > MAX_UNITS - before as usize {
         return Err(Refusal::Fault(LineKind::TooLong));
     }
     Ok(units)
@@ -334,7 +338,7 @@ fn pools_line(alloc: Global, head: Head, pieces: &[Piece]) -> Result<RawLine, Re
 
 /// A line among the units, with so many before it.
 fn among_units(alloc: Global, before: u32, head: Head, pieces: &[Piece]) -> Result<RawLine, Refusal>
-    requires { before ≤ 16384 }
+    requires { before ≤ most_units }
     ensures exact { Gives (λ l. l) result (among_units before head (pieces_in pieces.now)) }
     ensures line { IfOk result (IsRawLine (place.Units before)) }
 {

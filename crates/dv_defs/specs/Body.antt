@@ -23,7 +23,11 @@ KindIn count h = IfSome h.kind (λ k. k < count)
 abbrev pub KindsIn : ℕ → List Try → Type 0
 KindsIn count tries = All (λ t. All (KindIn count) t.handlers) tries
 
+-- the most units of a method
+abbrev pub most_units : ℕ
+most_units = 16384
+
 pub record IsBody (registers : ℕ) (units : List ℕ) (tries : List Try) (types : List Ty) : Type 0 where
   pub few_registers : registers ≤ 256
-  pub short : length units ≤ 16384
+  pub short : length units ≤ most_units
   pub kinds : KindsIn (length types) tries

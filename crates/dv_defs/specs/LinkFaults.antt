@@ -84,16 +84,29 @@ body_cells m = elim m.body [ None ↦ 0 | Some b ↦ length b.units * b.register
 abbrev pub cells : ClassDef → ℕ
 cells c = sum_by body_cells c.methods
 
+-- the most classes, methods and fields of an image, and cells: registers of methods, one for each unit
+abbrev pub most_classes : ℕ
+most_classes = 1024
+
+abbrev pub most_methods : ℕ
+most_methods = 16384
+
+abbrev pub most_fields : ℕ
+most_fields = 16384
+
+abbrev pub most_cells : ℕ
+most_cells = 33554432
+
 abbrev pub past : ℕ → ℕ → Which → Option LinkKind
 past limit n w = when (nat_lt limit n) (kind.Limit w)
 
 -- of the program's classes up to this one
 abbrev pub past_limits : List ClassDef → Option LinkKind
 past_limits cs =
-    option_or (past 1024 (length cs) which.Classes)
-    (option_or (past 16384 (sum_by (λ c. length c.methods) cs) which.Methods)
-    (option_or (past 16384 (sum_by (λ c. length c.fields) cs) which.Fields)
-    (past 33554432 (sum_by cells cs) which.Cells)))
+    option_or (past most_classes (length cs) which.Classes)
+    (option_or (past most_methods (sum_by (λ c. length c.methods) cs) which.Methods)
+    (option_or (past most_fields (sum_by (λ c. length c.fields) cs) which.Fields)
+    (past most_cells (sum_by cells cs) which.Cells)))
 
 unfoldable pub limit_fault : List ClassDef → ℕ → Option Found
 limit_fault cs boot = first_fault_by (λ i c. past_limits (take (suc i) (drop boot cs))) (drop boot cs)

@@ -1,9 +1,9 @@
 // How much a program may have.
-ghost use Rattle.std.specs.Prelude.{◌≡◌, ◌≤◌, ◌+◌, ℕ, None, Some, Option, MatchResult, IfOk, length, drop};
+ghost use Rattle.std.specs.Prelude.{◌≡◌, ◌≤◌, ◌+◌, None, Some, Option, MatchResult, IfOk, length, drop};
 ghost use Rattle.std.specs.Option.{option_or};
 ghost use Rattle.dv_defs.specs.declared.faults.LinkKind.{LinkKind};
 ghost use Rattle.dv_defs.specs.declared.faults.Which.TheVariants as which;
-ghost use Rattle.dv_defs.specs.LinkFaults.{Checks, limit_fault, body_cells as cells_of_method, cells, past};
+ghost use Rattle.dv_defs.specs.LinkFaults.{Checks, limit_fault, body_cells as cells_of_method, cells, past, most_classes, most_methods, most_fields, most_cells};
 
 use crate::faults::error_of;
 use dv_defs::{ClassDef, LinkError, LinkKind, MethodDef, Which};
@@ -39,7 +39,7 @@ fn body_cells(method: &MethodDef) -> usize
 
 /// The cells of a class's methods together.
 fn class_cells(class: &ClassDef) -> usize
-    requires few { length class.now.methods ≤ 16384 }
+    requires few { length class.now.methods ≤ most_methods }
     ensures { result ≡ cells class.now }
 {
     let methods = class.methods.items();
@@ -70,10 +70,10 @@ fn with_class(before: Totals, class: &ClassDef) -> Result<Totals, LinkKind>
       cells = before.cells + cells class.now;
     }) }
     ensures fault { (fault : Option LinkKind)
-        → fault ≡ option_or (past 1024 (before.classes + 1) which.Classes)
-        (option_or (past 16384 (before.methods + length class.now.methods) which.Methods)
-        (option_or (past 16384 (before.fields + length class.now.fields) which.Fields)
-        (past 33554432 (before.cells + cells class.now) which.Cells)))
+        → fault ≡ option_or (past most_classes (before.classes + 1) which.Classes)
+        (option_or (past most_methods (before.methods + length class.now.methods) which.Methods)
+        (option_or (past most_fields (before.fields + length class.now.fields) which.Fields)
+        (past most_cells (before.cells + cells class.now) which.Cells)))
         → MatchResult result (λ sums. fault ≡ None) (λ kind. fault ≡ Some kind) }
 {
     let classes = sum_within(MAX_CLASSES, Which::Classes, before.classes, 1)?;

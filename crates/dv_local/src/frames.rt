@@ -7,6 +7,7 @@ ghost use Rattle.dv_ops.specs.Meaning.{code_of};
 ghost use Rattle.dv_frames.specs.Heads.{frame as framed, head_in};
 ghost use Rattle.dv_words.specs.Stepping.{RanLocally, StepsLocally};
 ghost use Rattle.dv_local.specs.Units.{HasUnits};
+ghost use Rattle.dv_defs.specs.Body.{most_units};
 
 use crate::step::{is_local_opcode, run, step_once};
 use dv_defs::{Image, Insn, MethodId};
@@ -32,7 +33,7 @@ pub fn opcode_is_local(opcode: u8) -> bool
 /// The units of a body.
 fn units_in<'a>(code: &Coded<'a>) -> &'a [u16]
     ensures units { result.now ≡ (code_of code.now).body.units }
-    ensures short { length result.now ≤ 16384 }
+    ensures short { length result.now ≤ most_units }
 {
     let body = code.body;
     body.units.items()
@@ -41,7 +42,7 @@ fn units_in<'a>(code: &Coded<'a>) -> &'a [u16]
 /// The units of a method's body, none where it has no body.
 pub fn units_of(image: &Image, method: MethodId) -> Option<&[u16]>
     ensures units { MatchOption result (code_at image.now method.0 ≡ None) (λ us. HasUnits image.now method.0 us.now) }
-    ensures short { IfSome result (λ us. length us.now ≤ 16384) }
+    ensures short { IfSome result (λ us. length us.now ≤ most_units) }
 {
     match coded_at(image, method) {
         Some(code) => Some(units_in(&code)),

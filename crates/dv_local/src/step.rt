@@ -3,6 +3,7 @@ ghost use Rattle.std.specs.Prelude.{◌≡◌, ◌≤◌, length};
 ghost use Rattle.dv_frames.specs.Heads.{frame};
 ghost use Rattle.dv_local.specs.Local.{is_local_opcode};
 ghost use Rattle.dv_local.specs.Units.{RanUnits, StepsUnits, SteppedUnits};
+ghost use Rattle.dv_defs.specs.Body.{most_units};
 
 use crate::dispatch::step_here;
 use crate::here::Here;
@@ -37,7 +38,7 @@ pub fn is_local_opcode(opcode: u8) -> bool
 /// Does the instruction at the head's address, where it is a local one; else nothing changes.
 #[inline(always)]
 fn step(units: &[u16], words: &mut [u32], head: &mut Head) -> bool
-    requires { length units.now ≤ 16384 }
+    requires { length units.now ≤ most_units }
     ensures { SteppedUnits units.now result (frame head.old words.old) (frame head.new words.new) }
 {
     let place = head.at as usize;
@@ -54,7 +55,7 @@ fn step(units: &[u16], words: &mut [u32], head: &mut Head) -> bool
 
 /// Does the instruction at the head's address in each image with these units, where it is a local one; else nothing changes.
 pub fn step_once(units: &[u16], words: &mut [u32], head: &mut Head) -> bool
-    requires { length units.now ≤ 16384 }
+    requires { length units.now ≤ most_units }
     ensures { StepsUnits units.now result (frame head.old words.old) (frame head.new words.new) }
 {
     step(units, words, head)
@@ -63,7 +64,7 @@ pub fn step_once(units: &[u16], words: &mut [u32], head: &mut Head) -> bool
 /// Does local instructions one after another, so many at most, up to the first that isn't one; gives how many were done.
 #[inline(always)]
 fn steps(units: &[u16], words: &mut [u32], head: &mut Head, most: u32) -> u32
-    requires { length units.now ≤ 16384 }
+    requires { length units.now ≤ most_units }
     ensures { RanUnits units.now most result (frame head.old words.old) (frame head.new words.new) }
 {
     for done in 0..most {
@@ -76,7 +77,7 @@ fn steps(units: &[u16], words: &mut [u32], head: &mut Head, most: u32) -> u32
 
 /// The same; while it runs, the head is a copy of its own.
 pub fn run(units: &[u16], words: &mut [u32], head: &mut Head, most: u32) -> u32
-    requires { length units.now ≤ 16384 }
+    requires { length units.now ≤ most_units }
     ensures { RanUnits units.now most result (frame head.old words.old) (frame head.new words.new) }
 {
     let mut now = *head;

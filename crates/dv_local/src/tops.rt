@@ -3,6 +3,7 @@ ghost use Rattle.std.specs.Prelude.{◌≡◌, ◌≤◌, drop, length, take};
 ghost use Rattle.dv_frames.specs.Heads.{frame};
 ghost use Rattle.dv_local.specs.Tops.{RanTop, StepsTop};
 ghost use Rattle.dv_local.specs.Units.{RanUnits, StepsUnits};
+ghost use Rattle.dv_defs.specs.Body.{most_units};
 
 use crate::frames::units_of;
 use crate::step::{run, step_once};
@@ -11,7 +12,7 @@ use dv_frames::{Head, Stack, base_of, set_last};
 
 /// A step of the frame whose words are those from a place of the arena on.
 fn step_in(units: &[u16], words: &mut [u32], base: usize, head: &mut Head) -> bool
-    requires short { length units.now ≤ 16384 }
+    requires short { length units.now ≤ most_units }
     requires within { base ≤ length words.old }
     ensures below { take base words.new ≡ take base words.old }
     ensures steps { StepsUnits units.now result (frame head.old (drop base words.old)) (frame head.new (drop base words.new)) }
@@ -21,7 +22,7 @@ fn step_in(units: &[u16], words: &mut [u32], base: usize, head: &mut Head) -> bo
 
 /// Steps of the frame whose words are those from a place of the arena on.
 fn run_in(units: &[u16], words: &mut [u32], base: usize, head: &mut Head, most: u32) -> u32
-    requires short { length units.now ≤ 16384 }
+    requires short { length units.now ≤ most_units }
     requires within { base ≤ length words.old }
     ensures below { take base words.new ≡ take base words.old }
     ensures ran { RanUnits units.now most result (frame head.old (drop base words.old)) (frame head.new (drop base words.new)) }

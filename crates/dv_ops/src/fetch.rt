@@ -5,6 +5,7 @@ ghost use Rattle.dv_defs.specs.Tiling.{IsInsn, begins_insn, tile_at, tiles_in, t
 ghost use Rattle.law_flow.specs.Clean.{IsClean};
 ghost use Rattle.dv_ops.specs.Meaning.{code_of, meant};
 ghost use Rattle.dv_ops.specs.Places.{IsBoundary, IsEdge};
+ghost use Rattle.dv_defs.specs.Body.{most_units};
 
 use crate::items::{begins_as_insn, units_of};
 use crate::resolving::resolve;
@@ -18,7 +19,7 @@ pub fn op_at<'a>(image: &'a Image, code: &Coded<'a>, at: u32) -> (Op<'a>, u32)
     requires begins { begins_insn (code_of code.now).tiles at ≡ true }
     ensures fetched { fetch image.now code.now.method.id.0 at ≡ Some (record { op = meant (code_of code.now) at result.0; next = result.1 }) }
     ensures next { IsBoundary (code_of code.now) result.1 }
-    ensures short { result.1 ≤ 16384 }
+    ensures short { result.1 ≤ most_units }
 {
     let (insn, next) = insn_at(code, at);
     match resolve(image, code, at, &insn) {
@@ -33,19 +34,19 @@ fn insn_at(code: &Coded<'_>, at: u32) -> (Insn, u32)
     ensures tile { tile_at (code_of code.now).tiles at ≡ Some (record { at = at; size = result.1 - at; item = IsInsn result.0 }) }
     ensures next { IsBoundary (code_of code.now) result.1 }
     ensures after { at < result.1 }
-    ensures short { result.1 ≤ 16384 }
+    ensures short { result.1 ≤ most_units }
 {
     insn_in(units_of(code), at)
 }
 
 /// The same in units.
 fn insn_in(units: &[u16], at: u32) -> (Insn, u32)
-    requires short { length units.now ≤ 16384 }
+    requires short { length units.now ≤ most_units }
     requires begins { begins_insn (tiles_in (tiling units.now)) at ≡ true }
     ensures tile { tile_at (tiles_in (tiling units.now)) at ≡ Some (record { at = at; size = result.1 - at; item = IsInsn result.0 }) }
     ensures next { IsEdge units.now result.1 }
     ensures after { at < result.1 }
-    ensures short { result.1 ≤ 16384 }
+    ensures short { result.1 ≤ most_units }
 {
     match decode(units, at as usize) {
         Ok((insn, size)) => (insn, at + size),

@@ -4,6 +4,7 @@ ghost use Rattle.dv_defs.specs.Decoding.{insn_here};
 ghost use Rattle.dv_defs.specs.Payloads.{payload_here};
 ghost use Rattle.dv_defs.specs.Tiling.{begins_payload, piece_here};
 ghost use Rattle.dv_ops.specs.Places.{begins_as_insn};
+ghost use Rattle.dv_defs.specs.Body.{most_units};
 
 use crate::Coded;
 use dv_units::{decode, payload_size};
@@ -11,7 +12,7 @@ use dv_units::{decode, payload_size};
 /// The units of a body.
 pub fn units_of<'a>(code: &Coded<'a>) -> &'a [u16]
     ensures units { result.now ≡ code.now.body.now.units }
-    ensures short { length result.now ≤ 16384 }
+    ensures short { length result.now ≤ most_units }
 {
     let body = code.body;
     body.units.items()
@@ -44,7 +45,7 @@ fn insn_units(units: &[u16], at: usize) -> Option<usize>
 
 /// The number of units of the payload at an address.
 fn payload_units(units: &[u16], at: usize) -> Option<usize>
-    requires { length units.now ≤ 16384 }
+    requires { length units.now ≤ most_units }
     ensures { result ≡ option_map (λ x. x.size) (payload_here (drop at units.now)) }
 {
     match payload_size(units, at) {
@@ -55,7 +56,7 @@ fn payload_units(units: &[u16], at: usize) -> Option<usize>
 
 /// The number of units of the item at an address; none where no item begins.
 pub fn item_units(units: &[u16], at: usize) -> Option<usize>
-    requires { length units.now ≤ 16384 }
+    requires { length units.now ≤ most_units }
     ensures { result ≡ option_map (λ p. p.size) (piece_here (drop at units.now)) }
 {
     if at >= units.len() {

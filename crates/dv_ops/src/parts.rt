@@ -4,6 +4,7 @@ ghost use Rattle.dv_defs.specs.Numbers.{jump};
 ghost use Rattle.dv_defs.specs.Op.{Code, int_op, long_op, move_op, result_op};
 ghost use Rattle.dv_ops.specs.Meaning.{arg_of, meant};
 ghost use Rattle.dv_units.specs.Tables.{standard_bin, standard_width};
+ghost use Rattle.dv_defs.specs.Body.{most_units};
 
 use crate::{Arg, Op};
 use dv_optable::{Bin, Width};
@@ -52,7 +53,7 @@ pub fn long_op<'a>(operation: Bin, a: u16, b: u16, c: u16) -> Op<'a>
 
 /// The address at a distance from another.
 pub fn target(at: u32, off: i32) -> u32
-    requires { at < 16384 }
+    requires { at < most_units }
     ensures { result ≡ jump at off }
 {
     let to = i64::from(at) + i64::from(off);

@@ -8,6 +8,7 @@ ghost use Rattle.dv_defs.specs.Numbers.{jump};
 ghost use Rattle.dv_ops.specs.Meaning.{code_of, has_payload, has_payload_of, meant, meant_or_rule};
 ghost use Rattle.dv_ops.specs.Pooled.{has_field, has_type};
 ghost use Rattle.dv_units.specs.Tables.{standard_family};
+ghost use Rattle.dv_defs.specs.Body.{most_units};
 
 use crate::parts::{int_op, long_op, move_op, result_op, target};
 use crate::pools::{called_at, class_at, named_field_at, string_at, type_at};
@@ -18,7 +19,7 @@ use dv_optable::{Family, kind_of};
 /// The operation of an instruction at an address, or the static rule for which there is none: S12 where its index is no place in its
 /// pool, S16 where new-instance names no class.
 pub fn resolve<'a>(image: &'a Image, code: &Coded<'a>, at: u32, insn: &Insn) -> Result<Op<'a>, Rule>
-    requires { at < 16384 }
+    requires { at < most_units }
     ensures { has_payload (code_of code.now) at insn.now ≡ true → meant_or_rule (code_of code.now) at result ≡ op_of image.now (code_of code.now) at insn.now }
 {
     let Some(family) = family_of(insn.op) else {
@@ -43,7 +44,7 @@ fn resolve_in<'a>(
     insn: &Insn,
     family: Family,
 ) -> Result<Op<'a>, Rule>
-    requires { at < 16384 }
+    requires { at < most_units }
     ensures { has_payload_of (Some (standard_family family)) (payload_at (code_of code.now).tiles (jump at insn.now.off)) ≡ true →
         meant_or_rule (code_of code.now) at result ≡ resolved image.now (code_of code.now) at insn.now (standard_family family) }
 {
@@ -104,7 +105,7 @@ fn resolve_field<'a>(
 
 /// The operation of an instruction that has no index into a pool. A switch and fill-array-data keep where their payload stands.
 fn plain_op<'a>(at: u32, insn: &Insn, family: Family) -> Op<'a>
-    requires near { at < 16384 }
+    requires near { at < most_units }
     requires plain { pool_in (Some (standard_family family)) ≡ None }
     ensures { (image : Linked) (code : Code) → has_payload_of (Some (standard_family family)) (payload_at code.tiles (jump at insn.now.off)) ≡ true →
         resolved image code at insn.now (standard_family family) ≡ Ok (meant code at result) }

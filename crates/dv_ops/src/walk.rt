@@ -2,6 +2,7 @@
 ghost use Rattle.std.specs.Prelude.{◌≡◌, ◌≤◌, Ok, length};
 ghost use Rattle.dv_defs.specs.Tiling.{begins_insn, tiling, tiles_in};
 ghost use Rattle.dv_ops.specs.Meaning.{code_of};
+ghost use Rattle.dv_defs.specs.Body.{most_units};
 
 use crate::Coded;
 use crate::items::{begins_as_insn, item_units, units_of};
@@ -15,7 +16,7 @@ pub fn begins_insn_at(code: &Coded<'_>, at: u32) -> bool
 }
 
 fn begins_insn_in(units: &[u16], at: usize) -> bool
-    requires short { length units.now ≤ 16384 }
+    requires short { length units.now ≤ most_units }
     requires tiled { tiling units.now ≡ Ok (tiles_in (tiling units.now)) }
     ensures { result ≡ begins_insn (tiles_in (tiling units.now)) at }
 {

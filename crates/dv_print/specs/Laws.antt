@@ -21,6 +21,7 @@ use Rattle.dv_draft.specs.Pools.{pools_of}
 use Rattle.dv_asm.specs.Layout.{sorted_ranges, units_of, layout}
 use Rattle.dv_asm.specs.Tiles.{tiles_of}
 use Rattle.dv_print.specs.Drafting.{draft_of}
+use Rattle.dv_defs.specs.Body.{most_units}
 
 -- No two addresses have the same label.
 abbrev pub LabelsAreDistinct : Type 0
@@ -84,7 +85,7 @@ DraftKeepsAddresses =
 -- A label that stands in the draft of a laid-out body leads to the address of its name.
 abbrev pub LabelsLead : Type 0
 LabelsLead =
-    (items : List Item) (units : List ℕ) (a j : ℕ) → KeepsAddresses items units → length units ≤ 16384 → a ≤ 16384 →
+    (items : List Item) (units : List ℕ) (a j : ℕ) → KeepsAddresses items units → length units ≤ most_units → a ≤ most_units →
     slice_get items j ≡ Some (record { line = 0; what = what.Label (label_name a) }) → label_address items (label_name a) ≡ a
 
 -- The draft that is made of a laid-out body is laid out as that body.

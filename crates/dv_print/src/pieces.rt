@@ -4,6 +4,7 @@ ghost use Rattle.dv_defs.specs.Decoding.{insn_here};
 ghost use Rattle.dv_defs.specs.Payloads.{payload_here};
 ghost use Rattle.dv_defs.specs.Tiling.{begins_payload, piece_here};
 ghost use Rattle.dv_print.specs.Pieces.{insn_sized, payload_sized, part_sized, pieces_of};
+ghost use Rattle.dv_defs.specs.Body.{most_units};
 
 use dv_defs::{Insn, Payload};
 use dv_units::{UnitError, decode, decode_payload, payload_size};
@@ -43,7 +44,7 @@ fn insn_at(units: &[u16], at: usize) -> Option<(Part, usize)>
 /// The payload that stands at `at`, with its size in units.
 fn payload_at(alloc: Global, units: &[u16], at: usize) -> Result<Option<(Part, usize)>, AllocError>
     requires inside { at < length units.now }
-    requires short { length units.now ≤ 16384 }
+    requires short { length units.now ≤ most_units }
     ensures { IfOk result (λ r. r ≡ option_map payload_sized (payload_here (drop at units.now))) }
 {
     match decode_payload(alloc, units, at) {
@@ -59,7 +60,7 @@ fn payload_at(alloc: Global, units: &[u16], at: usize) -> Result<Option<(Part, u
 /// The instruction or the payload that stands at `at`, with its size in units.
 fn part_at(alloc: Global, units: &[u16], at: usize) -> Result<Option<(Part, usize)>, AllocError>
     requires inside { at < length units.now }
-    requires short { length units.now ≤ 16384 }
+    requires short { length units.now ≤ most_units }
     ensures part { IfOk result (λ r. r ≡ option_map part_sized (piece_here (drop at units.now))) }
     ensures within { IfOk result (λ r. IfSome r (λ x. (0 < x.1) × (at + x.1 ≤ length units.now))) }
 {
@@ -72,7 +73,7 @@ fn part_at(alloc: Global, units: &[u16], at: usize) -> Result<Option<(Part, usiz
 
 /// The pieces of units, none where the units aren't instructions and payloads one after another.
 pub fn pieces_of(alloc: Global, units: &[u16]) -> Result<Vec<Piece>, AllocError>
-    requires { length units.now ≤ 16384 }
+    requires { length units.now ≤ most_units }
     ensures { IfOk result (λ v. v.items ≡ pieces_of units.now) }
 {
     let mut pieces = Vec::new(alloc);

@@ -5,6 +5,7 @@ ghost use Rattle.indexmap.specs.IndexMap.{get};
 ghost use Rattle.dv_asm.specs.First.{when};
 ghost use Rattle.dv_print.specs.Pieces.{pieces_of};
 ghost use Rattle.dv_print.specs.Named.{switches_to, switch_address, HasSwitches};
+ghost use Rattle.dv_defs.specs.Body.{most_units};
 
 use crate::named::jump;
 use crate::pieces::{Part, Piece, pieces_of};
@@ -70,7 +71,7 @@ fn switches_of(alloc: Global, pieces: &[Piece]) -> Result<IndexMap<u32, u16>, Al
 impl Pieces {
     /// The pieces of units, none where the units aren't instructions and payloads one after another.
     pub fn of(alloc: Global, units: &[u16]) -> Result<Pieces, AllocError>
-        requires { length units.now ≤ 16384 }
+        requires { length units.now ≤ most_units }
         ensures { IfOk result (λ pieces. pieces ≡ pieces_of units.now) }
     {
         let pieces = pieces_of(alloc, units)?;

@@ -1,5 +1,5 @@
 // Edges to the targets of switches.
-ghost use Rattle.std.specs.Prelude.{◌≡◌, ◌<◌, ℕ, true, ◌++◌, Some, Ok, IfOk, IsSome, OnOk, length, map};
+ghost use Rattle.std.specs.Prelude.{◌≡◌, ◌<◌, true, ◌++◌, Some, Ok, IfOk, IsSome, OnOk, length, map};
 ghost use Rattle.dv_typing.specs.Flow.{jumps};
 ghost use Rattle.dv_defs.specs.Numbers.{jump};
 ghost use Rattle.dv_defs.specs.Payloads.{payload_spelling};
@@ -10,6 +10,7 @@ ghost use Rattle.law_flow.specs.Clean.{IsClean};
 ghost use Rattle.dv_ops.specs.Meaning.{code_of};
 ghost use Rattle.dv_rules.specs.Distances.{distances, is_switch};
 ghost use Rattle.dv_rules.specs.Edges.{plain_edge};
+ghost use Rattle.dv_defs.specs.Body.{most_units};
 
 use crate::flow::{Edge, push_target};
 use dv_defs::{Image, Insn, Payload};
@@ -38,7 +39,7 @@ pub fn push_cases(
 
 /// Adds an edge to the address at each of these distances from another.
 fn push_targets(at: u32, distances: &[i32], edges: &mut Vec<Edge>) -> Result<(), AllocError>
-    requires { at < 16384 }
+    requires { at < most_units }
     ensures { OnOk result (edges.new.items ≡ edges.old.items ++ map plain_edge (map (jump at) distances.now)) }
 {
     for distance in distances {
@@ -91,7 +92,7 @@ fn payload_at(alloc: Global, units: &[u16], at: u32) -> Result<Payload, AllocErr
 
 /// The address at a distance from another.
 fn target(at: u32, off: i32) -> u32
-    requires { at < 16384 }
+    requires { at < most_units }
     ensures { result ≡ jump at off }
 {
     let to = i64::from(at) + i64::from(off);

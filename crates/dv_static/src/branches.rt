@@ -8,6 +8,7 @@ ghost use Rattle.dv_ops.specs.Meaning.{has_payload_of};
 ghost use Rattle.dv_units.specs.Tables.{standard_family};
 ghost use Rattle.dv_static.specs.Jumps.{cases_lead, offsets_lead, payload_stands};
 ghost use Rattle.dv_static.specs.Tiles.{tile_of};
+ghost use Rattle.dv_defs.specs.Body.{most_units};
 
 use crate::families::family_of;
 use crate::starts::Starts;
@@ -56,7 +57,7 @@ fn stays(insn: &Insn) -> bool
 
 /// The address that an instruction's offset leads to.
 fn target(at: u32, insn: &Insn) -> u32
-    requires { at < 16384 }
+    requires { at < most_units }
     ensures { result ≡ jump_of at insn.now.off }
 {
     jump(at, insn.off)
@@ -64,7 +65,7 @@ fn target(at: u32, insn: &Insn) -> u32
 
 /// The address at an offset from another.
 fn jump(at: u32, off: i32) -> u32
-    requires { at < 16384 }
+    requires { at < most_units }
     ensures { result ≡ jump_of at off }
 {
     let to = at as i64 + off as i64;
@@ -73,7 +74,7 @@ fn jump(at: u32, off: i32) -> u32
 
 /// Whether a payload of its kind stands at an instruction's target, where it needs one.
 pub fn has_payload(starts: &Starts<'_>, at: u32, insn: &Insn) -> bool
-    requires { at < 16384 }
+    requires { at < most_units }
     ensures { result ≡ payload_stands (map tile_of starts.now) at insn.now }
 {
     let payload = starts.payload_at(target(at, insn));
@@ -93,7 +94,7 @@ fn is_of_family(family: Option<Family>, payload: Option<&Payload>) -> bool
 
 /// Whether each target of the switch at an address, by its payload, leads to an instruction.
 pub fn switch_leads(starts: &Starts<'_>, at: u32, payload: u32) -> bool
-    requires { at < 16384 }
+    requires { at < most_units }
     ensures { result ≡ cases_lead (map tile_of starts.now) at (payload_at (map tile_of starts.now) payload) }
 {
     match starts.payload_at(payload) {
@@ -104,7 +105,7 @@ pub fn switch_leads(starts: &Starts<'_>, at: u32, payload: u32) -> bool
 
 #[tactic(auto, using(crate::proofs::Cases::packed_cases, crate::proofs::Cases::sparse_cases))]
 fn payload_leads(starts: &Starts<'_>, at: u32, payload: &Payload) -> bool
-    requires { at < 16384 }
+    requires { at < most_units }
     ensures { result ≡ cases_lead (map tile_of starts.now) at (Some payload.now) }
 {
     match payload {
@@ -116,7 +117,7 @@ fn payload_leads(starts: &Starts<'_>, at: u32, payload: &Payload) -> bool
 
 /// Whether the first of some targets, so many of them, lead to instructions.
 fn first_begin(starts: &Starts<'_>, at: u32, targets: &[i32], count: usize) -> bool
-    requires { at < 16384 }
+    requires { at < most_units }
     ensures { result ≡ offsets_lead (map tile_of starts.now) at (take count targets.now) }
 {
     if count < targets.len() {
@@ -127,7 +128,7 @@ fn first_begin(starts: &Starts<'_>, at: u32, targets: &[i32], count: usize) -> b
 }
 
 fn all_begin(starts: &Starts<'_>, at: u32, targets: &[i32]) -> bool
-    requires { at < 16384 }
+    requires { at < most_units }
     ensures { result ≡ offsets_lead (map tile_of starts.now) at targets.now }
 {
     for target in targets {

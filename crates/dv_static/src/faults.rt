@@ -9,6 +9,7 @@ ghost use Rattle.dv_ops.specs.Meaning.{code_of, method_of};
 ghost use Rattle.dv_static.specs.Finding.{places_found};
 ghost use Rattle.dv_static.specs.Placed.{place_of, places_of};
 ghost use Rattle.dv_static.specs.Tiles.{item_of, tile_of};
+ghost use Rattle.dv_defs.specs.Body.{most_units};
 
 use crate::insns::add_insn_places;
 use crate::members::words_left;
@@ -170,7 +171,7 @@ fn found_places(
     tiles: &[Tile],
 ) -> Result<Vec<Place>, AllocError>
     requires starts { (code_of code.now).tiles ≡ map tile_of starts.now }
-    requires short { All (λ t. t.at < 16384) tiles.now }
+    requires short { All (λ t. t.at < most_units) tiles.now }
     ensures { IfOk result (λ v. places_of v.items ≡ places_found image.now (code_of code.now) (map tile_of tiles.now)) }
 {
     let mut places = Vec::new(alloc);
@@ -193,7 +194,7 @@ fn add_found_places(
     places: &mut Vec<Place>,
 ) -> Result<(), AllocError>
     requires starts { (code_of code.now).tiles ≡ map tile_of starts.now }
-    requires short { All (λ t. t.at < 16384) tiles.now }
+    requires short { All (λ t. t.at < most_units) tiles.now }
     ensures { OnOk result (places_of places.new.items ≡ ((places_of places.old.items ++ first_places image.now (code_of code.now)) ++ tile_places image.now (code_of code.now) (map tile_of tiles.now)) ++ try_places image.now (code_of code.now) 0 code.now.body.now.tries) }
 {
     add_first_places(code, starts, places)?;
@@ -231,7 +232,7 @@ fn add_tile_places<'a>(
     places: &mut Vec<Place>,
 ) -> Result<(), AllocError>
     requires starts { (code_of code.now).tiles ≡ map tile_of starts.now }
-    requires short { All (λ t. t.at < 16384) tiles.now }
+    requires short { All (λ t. t.at < most_units) tiles.now }
     ensures { OnOk result (places_of places.new.items ≡ places_of places.old.items ++ tile_places image.now (code_of code.now) (map tile_of tiles.now)) }
 {
     for i in 0..tiles.len() {
@@ -249,7 +250,7 @@ fn add_item_places<'a>(
     places: &mut Vec<Place>,
 ) -> Result<(), AllocError>
     requires starts { (code_of code.now).tiles ≡ map tile_of starts.now }
-    requires short { tile.now.at < 16384 }
+    requires short { tile.now.at < most_units }
     ensures { OnOk result (places_of places.new.items ≡ places_of places.old.items ++ item_places image.now (code_of code.now) tile.now.at (item_of tile.now.item)) }
 {
     match &tile.item {

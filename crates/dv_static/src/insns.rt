@@ -6,6 +6,7 @@ ghost use Rattle.dv_typing.specs.Statics.{insn_rules, resolved_rules};
 ghost use Rattle.dv_ops.specs.Meaning.{code_of, meant_or_rule};
 ghost use Rattle.dv_static.specs.Placed.{places_of};
 ghost use Rattle.dv_static.specs.Tiles.{tile_of};
+ghost use Rattle.dv_defs.specs.Body.{most_units};
 
 use crate::branches::{has_payload, moves_on};
 use crate::operations::add_op_places;
@@ -26,7 +27,7 @@ pub fn add_insn_places<'a>(
     insn: &Insn,
     places: &mut Vec<Place>,
 ) -> Result<(), AllocError>
-    requires at { at < 16384 }
+    requires at { at < most_units }
     requires tiles { (code_of code.now).tiles ≡ map tile_of starts.now }
     ensures { OnOk result (places_of places.new.items ≡ places_of places.old.items ++ places_at at (insn_rules image.now (code_of code.now) at insn.now)) }
 {
@@ -51,7 +52,7 @@ fn resolved_at<'a>(
     at: u32,
     insn: &Insn,
 ) -> Result<Op<'a>, Rule>
-    requires at { at < 16384 }
+    requires at { at < most_units }
     requires tiles { (code_of code.now).tiles ≡ map tile_of starts.now }
     ensures { meant_or_rule (code_of code.now) at result ≡ op_of image.now (code_of code.now) at insn.now }
 {
@@ -70,7 +71,7 @@ fn add_resolved_places(
     resolved: &Result<Op<'_>, Rule>,
     places: &mut Vec<Place>,
 ) -> Result<(), AllocError>
-    requires at { at < 16384 }
+    requires at { at < most_units }
     requires tiles { (code_of code.now).tiles ≡ map tile_of starts.now }
     ensures { OnOk result (places_of places.new.items ≡ places_of places.old.items ++ places_at at (resolved_rules image.now (code_of code.now) (meant_or_rule (code_of code.now) at resolved.now))) }
 {

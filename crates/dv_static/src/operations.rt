@@ -10,6 +10,7 @@ ghost use Rattle.dv_units.specs.Tables.{standard_call};
 ghost use Rattle.dv_static.specs.Operations.{are_filled, call_rules, has_instances, is_call};
 ghost use Rattle.dv_static.specs.Placed.{places_of};
 ghost use Rattle.dv_static.specs.Tiles.{tile_of};
+ghost use Rattle.dv_defs.specs.Body.{most_units};
 
 use crate::branches::switch_leads;
 use crate::members::{fits_arguments, fits_call, fits_instance_field, fits_static_field};
@@ -30,7 +31,7 @@ pub fn add_op_places(
     op: &Op<'_>,
     places: &mut Vec<Place>,
 ) -> Result<(), AllocError>
-    requires at { at < 16384 }
+    requires at { at < most_units }
     requires tiles { (code_of code.now).tiles ≡ map tile_of starts.now }
     ensures { OnOk result (places_of places.new.items ≡ places_of places.old.items ++ places_at at (op_rules image.now (code_of code.now) (meant (code_of code.now) at op.now))) }
 {
@@ -47,7 +48,7 @@ pub fn add_op_places(
 
 /// The rule that is about an operation other than a call, with its test. Where none is, the test holds.
 fn test_of(image: &Image, starts: &Starts<'_>, at: u32, op: &Op<'_>) -> (bool, u8)
-    requires at { at < 16384 }
+    requires at { at < most_units }
     requires no_call { is_call op.now ≡ false }
     ensures { (code : Code) → code.tiles ≡ map tile_of starts.now → unless result.0 (rule.S result.1) ≡ op_rules image.now code (meant code at op.now) }
 {

@@ -4,6 +4,7 @@ ghost use Rattle.dv_defs.specs.Decoding.{insn_here};
 ghost use Rattle.dv_defs.specs.Payloads.{payload_here};
 ghost use Rattle.dv_defs.specs.Tiling.{begins_payload, piece_here, tiling};
 ghost use Rattle.dv_static.specs.Tiles.{insn_sized, payload_sized, item_sized, tiled_of};
+ghost use Rattle.dv_defs.specs.Body.{most_units};
 
 use dv_defs::{Insn, Payload, Seq};
 use dv_units::{UnitError, decode, decode_payload, payload_size};
@@ -51,7 +52,7 @@ fn insn_at(units: &[u16], at: usize) -> Option<(Item, u32)>
 /// The payload that stands at `at`, with its size in units.
 fn payload_at(alloc: Global, units: &[u16], at: usize) -> Result<Option<(Item, u32)>, AllocError>
     requires inside { at < length units.now }
-    requires short { length units.now ≤ 16384 }
+    requires short { length units.now ≤ most_units }
     ensures { IfOk result (λ r. r ≡ option_map payload_sized (payload_here (drop at units.now))) }
 {
     match decode_payload(alloc, units, at) {
@@ -67,7 +68,7 @@ fn payload_at(alloc: Global, units: &[u16], at: usize) -> Result<Option<(Item, u
 /// The item that stands at `at`, with its size in units.
 fn item_at(alloc: Global, units: &[u16], at: usize) -> Result<Option<(Item, u32)>, AllocError>
     requires inside { at < length units.now }
-    requires short { length units.now ≤ 16384 }
+    requires short { length units.now ≤ most_units }
     ensures item { IfOk result (λ r. r ≡ option_map item_sized (piece_here (drop at units.now))) }
     ensures within { IfOk result (λ r. IfSome r (λ x. (0 < x.1) × (at + x.1 ≤ length units.now))) }
 {
@@ -81,7 +82,7 @@ fn item_at(alloc: Global, units: &[u16], at: usize) -> Result<Option<(Item, u32)
 /// The items of units.
 #[tactic(auto, using(crate::proofs::TilesSoFar::at_start, crate::proofs::TilesSoFar::at_end))]
 pub fn tiles_of(alloc: Global, units: &[u16]) -> Result<Tiled, AllocError>
-    requires { length units.now ≤ 16384 }
+    requires { length units.now ≤ most_units }
     ensures { IfOk result (λ t. tiled_of t ≡ tiling units.now) }
 {
     let mut tiles = Vec::new(alloc);

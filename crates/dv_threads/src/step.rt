@@ -20,6 +20,7 @@ ghost use Rattle.dv_words.specs.Steps.{At};
 ghost use Rattle.dv_words.specs.Threads as steps;
 ghost use Rattle.dv_threads.specs.Kept.{AreAsBefore, HasRoom, IsThreadOf, LeavesThreads, Sees};
 ghost use Rattle.dv_threads.specs.Stepping.{is_enter_family, is_exit_family, is_of_threads};
+ghost use Rattle.dv_defs.specs.Body.{most_units};
 
 use crate::monitors::{monitor_enter, monitor_exit};
 use crate::natives::native_step;
@@ -57,7 +58,7 @@ fn is_exit(op: u8) -> bool
 /// The units of a body.
 fn units_of(body: &Body) -> &[u16]
     ensures units { result.now ≡ body.now.units }
-    ensures short { length result.now ≤ 16384 }
+    ensures short { length result.now ≤ most_units }
 {
     body.units.items()
 }
