@@ -1,0 +1,173 @@
+#!/usr/bin/env python3
+"""Makes texts that are meant to hold `dvm verify` for long, times it on them at growing sizes, and prints how that grows.
+
+Usage: bench/hostile.py [--program PROGRAM] [--limit SECONDS] [CASE [SIZE..]]
+       bench/hostile.py --text CASE SIZE          writes the text instead
+
+Without a case all are tried at their sizes. PROGRAM is a built `dvm` (crates/dvm/out/dvm). A line has the case, its size, the text's bytes, the
+status, processor seconds, megabytes and printed bytes, and behind the second line of a case by what power of the text's growth the time grew. A run
+past the limit (120 seconds) is stopped.
+"""
+import math
+import os
+import resource
+import signal
+import subprocess
+import sys
+import tempfile
+import time
+
+TOP = os.path.dirname(os.path.dirname(os.path.abspath(__file__)))
+OBJECT = "Ljava/lang/Object;"
+
+
+def class_of(name, parent=OBJECT, flags="", more=""):
+    return f".class {flags}L{name};\n.super {parent}\n{more}"
+
+
+def method(head, registers, body):
+    return f".method {head}\n.registers {registers}\n{body}.end method\n"
+
+
+def main_class(body, registers=16, head="static main()V"):
+    return class_of("Main", more=method(head, registers, body))
+
+
+def chain(letter, count, flags=""):
+    """Classes of which each is under the one before it; the last one is the deepest."""
+    return "".join(class_of(f"{letter}{k}", OBJECT if k == 0 else f"L{letter}{k - 1};", flags) for k in range(count))
+
+
+def dims(count, units=16_000, registers=256):
+    """Arrays of 255 dimensions, each of which loses one in each round of one loop."""
+    body = "const/4 v0, 0x0\n" + "".join(f"new-array v{k}, v0, {'[' * 255}{OBJECT}\n" for k in range(1, count + 1)) + ":loop\n"
+    body += "".join(f"aget-object v{k}, v{k}, v0\n" for k in range(1, count + 1)) + "nop\n" * (units - 5 * count)
+    return main_class(body + "goto/32 :loop\n", registers)
+
+
+def climb(count):
+    """Blocks behind one head, each of which brings an object of the next higher class to it."""
+    blocks = "".join(f":b{k}\nsget-object v0, LMain;->f{k}:LC{k};\ngoto/16 :head\n" for k in reversed(range(count)))
+    table = ".packed-switch 0x0\n" + "".join(f":b{k}\n" for k in reversed(range(count))) + ".end packed-switch\n"
+    body = f"const/4 v1, 0x0\nsget-object v0, LMain;->f{count}:LC{count};\n:head\npacked-switch v1, :table\nreturn-void\n{blocks}:table\n{table}"
+    fields = "".join(f".field static f{k}:LC{k};\n" for k in range(count + 1))
+    return chain("C", count + 1) + class_of("Main", more=fields + method("static main()V", 2, body))
+
+
+def catchers(count):
+    """Handlers of one range, and as many instructions in it that throw."""
+    body = "const/4 v0, 0x1\n:from\n" + "div-int v1, v0, v0\n" * count + ":to\nreturn-void\n"
+    body += "".join(f":h{k}\nreturn-void\n" for k in range(count))
+    body += "".join(f".catch LE{k % 500}; {{:from .. :to}} :h{k}\n" for k in range(count))
+    return chain("E", 500).replace(OBJECT, "Ljava/lang/Throwable;") + main_class(body, 256)
+
+
+def joins(count, depth=500):
+    """Places where registers of two chains of classes meet."""
+    fill = lambda letter: f"sget-object v1, LMain;->{letter}:L{letter.upper()}{depth - 1};\n" + "".join(f"move-object/16 v{k}, v1\n" for k in range(2, 256))
+    table = lambda: ".packed-switch 0x0\n" + "".join(f":p{k}\n" for k in range(count)) + ".end packed-switch\n"
+    body = "const/4 v0, 0x0\nif-eqz v0, :other\n" + fill("a") + "packed-switch v0, :first\nreturn-void\n:other\n" + fill("b") + "packed-switch v0, :second\nreturn-void\n"
+    body += "".join(f":p{k}\nreturn-void\n" for k in range(count)) + ":first\n" + table() + ":second\n" + table()
+    fields = "".join(f".field static {letter}:L{letter.upper()}{depth - 1};\n" for letter in "ab")
+    return chain("A", depth) + chain("B", depth) + class_of("Main", more=fields + method("static main()V", 256, body))
+
+
+def refs(count, depth=490):
+    """References to methods that no class has, beside a long chain of classes and one of interfaces."""
+    faces = "".join(class_of(f"I{k}", flags="interface abstract ", more="" if k == 0 else f".implements LI{k - 1};\n") for k in range(depth))
+    body = "const/4 v0, 0x0\n" + "".join(f"invoke-virtual {{v0}}, LC{depth - 1};->m{k}()V\n" for k in range(count)) + "return-void\n"
+    tail = class_of(f"C{depth - 1}", f"LC{depth - 2};", more=f".implements LI{depth - 1};\n")
+    return faces + chain("C", depth - 1) + tail + main_class(body, 1)
+
+
+def faults(count, name=120_000):
+    """Faults of a method with a long name."""
+    return class_of("Main", more=method("static " + "m" * name + "()V", 2, "invoke-static {v0}, Ldvm/Console;->println(I)V\n" * count + "return-void\n"))
+
+
+def shared(count):
+    """Switches of a raw body that share one payload of many targets, each of which is the return behind the switches for the first."""
+    begins = 3 * count + 2 + count % 2
+    targets = (16_384 - begins - 4) // 2
+    units = [0x0012] + [part for k in range(count) for part in (0x002B, (begins - 1 - 3 * k) & 0xFFFF, 0)] + [0x000E] * (begins - 1 - 3 * count)
+    units += [0x0100, targets, 0, 0] + [3 * count, 0] * targets
+    lines = "".join(" ".join(f"0x{unit:x}" for unit in units[k:k + 8]) + "\n" for k in range(0, len(units), 8))
+    return class_of("Main", more=f".method static main()V\n.registers 1\n.units\n{lines}.end units\n.end method\n")
+
+
+def tables(count, own=16):
+    """Classes under one another, each with methods of its own."""
+    body = "".join(method(f"m{k}()V", 1, "return-void\n") for k in range(own))
+    named = lambda at: "".join(method(f"m{at}x{k}()V", 1, "return-void\n") for k in range(own - 1))
+    return "".join(class_of(f"C{k}", OBJECT if k == 0 else f"LC{k - 1};", more=(body if k == 0 else named(k))) for k in range(count))
+
+
+def implements(count):
+    """Interfaces of which each is under the two before it: as many ways as there are numbers of Fibonacci."""
+    above = lambda k: "".join(f".implements LI{j};\n" for j in (k - 1, k - 2) if j >= 0)
+    faces = "".join(class_of(f"I{k}", flags="interface abstract ", more=above(k)) for k in range(count))
+    return faces + class_of("C", more=f".implements LI{count - 1};\n") + main_class("return-void\n", 1)
+
+
+def cycle(count):
+    """A class under each of a ring of others."""
+    return "".join(class_of(f"C{k}", f"LC{(k + 1) % count};") for k in range(count))
+
+
+CASES = {
+    "dims": (dims, (1, 2, 4)),
+    "climb": (climb, (128, 256, 512)),
+    "catchers": (catchers, (500, 1_000, 2_000)),
+    "joins": (joins, (60, 120, 240)),
+    "refs": (refs, (600, 1_200, 2_400)),
+    "faults": (faults, (1_000, 4_000)),
+    "shared": (shared, (100, 400, 1_600)),
+    "tables": (tables, (100, 400, 900)),
+    "implements": (implements, (100, 400, 900)),
+    "cycle": (cycle, (100, 400, 900)),
+}
+
+
+def run(program, text, limit):
+    """The status (none past the limit), processor seconds, megabytes and printed bytes of one run."""
+    with tempfile.TemporaryFile() as source, tempfile.TemporaryFile() as sink:
+        source.write(text.encode())
+        source.seek(0)
+        child = subprocess.Popen([program, "verify"], stdin=source, stdout=sink, preexec_fn=lambda: resource.setrlimit(resource.RLIMIT_CPU, (limit, limit + 1)))
+        _, status, used = os.wait4(child.pid, 0)
+        code = os.waitstatus_to_exitcode(status)
+        return (None if code == -signal.SIGXCPU else code), used.ru_utime + used.ru_stime, used.ru_maxrss // 1024, os.fstat(sink.fileno()).st_size
+
+
+def tell(program, name, sizes, limit):
+    before = None
+    for size in sizes:
+        text = CASES[name][0](size)
+        status, seconds, megabytes, printed = run(program, text, limit)
+        grew = ""
+        if before and len(text) > before[0] and seconds > 0.05:
+            grew = f"  grows as the text to the power of {math.log(seconds / max(before[1], 0.001)) / math.log(len(text) / before[0]):.1f}"
+        told = "past the limit" if status is None else f"status {status}"
+        print(f"{name:<12}{size:>6}{len(text):>10} bytes  {told:<10}{seconds:>9.2f} s{megabytes:>7} MB{printed:>12} bytes printed{grew}", flush=True)
+        before = len(text), seconds
+
+
+def main(words):
+    program, limit = os.path.join(TOP, "crates", "dvm", "out", "dvm"), 120
+    if words[:1] == ["--text"]:
+        sys.stdout.write(CASES[words[1]][0](int(words[2])))
+        return
+    while words[:1] in (["--program"], ["--limit"]):
+        if words[0] == "--program":
+            program = words[1]
+        else:
+            limit = int(words[1])
+        words = words[2:]
+    if not os.access(program, os.X_OK):
+        sys.exit(f"{program} isn't built: run ./dvm verify < /dev/null")
+    for name in words[:1] or CASES:
+        tell(program, name, [int(it) for it in words[1:]] or CASES[name][1], limit)
+
+
+if __name__ == "__main__":
+    main(sys.argv[1:])
