@@ -86,12 +86,12 @@ def faults(count, name=120_000):
 
 
 def shared(count):
-    """Switches of a raw body that share one payload of many targets, each of which is the return behind the switches for the first."""
-    begins = 3 * count + 2 + count % 2
+    """Switches of a raw body that share one payload of many targets, which are among the returns behind the switches."""
+    begins = 6 * count + 2
     targets = (16_384 - begins - 4) // 2
     units = [0x0012] + [part for k in range(count) for part in (0x002B, (begins - 1 - 3 * k) & 0xFFFF, 0)] + [0x000E] * (begins - 1 - 3 * count)
     units += [0x0100, targets, 0, 0] + [3 * count, 0] * targets
-    lines = "".join(" ".join(f"0x{unit:x}" for unit in units[k:k + 8]) + "\n" for k in range(0, len(units), 8))
+    lines = "".join(" ".join(f"{unit:04x}" for unit in units[k:k + 8]) + "\n" for k in range(0, len(units), 8))
     return class_of("Main", more=f".method static main()V\n.registers 1\n.units\n{lines}.end units\n.end method\n")
 
 
