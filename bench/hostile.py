@@ -73,11 +73,13 @@ def joins(count, depth=500):
 
 
 def refs(count, depth=490):
-    """References to methods that no class has, beside a long chain of classes and one of interfaces."""
+    """References to methods that the last interface of a look-up has: a chain of classes, each with an interface of a chain of its own."""
+    last = class_of("J", flags="interface abstract ", more="".join(f".method abstract m{k}()V\n.end method\n" for k in range(count)))
     faces = "".join(class_of(f"I{k}", flags="interface abstract ", more="" if k == 0 else f".implements LI{k - 1};\n") for k in range(depth))
+    own = lambda k: f".implements LI{k};\n" + (".implements LJ;\n" if k == 0 else "")
+    classes = "".join(class_of(f"C{k}", OBJECT if k == 0 else f"LC{k - 1};", more=own(k)) for k in range(depth))
     body = "const/4 v0, 0x0\n" + "".join(f"invoke-virtual {{v0}}, LC{depth - 1};->m{k}()V\n" for k in range(count)) + "return-void\n"
-    tail = class_of(f"C{depth - 1}", f"LC{depth - 2};", more=f".implements LI{depth - 1};\n")
-    return faces + chain("C", depth - 1) + tail + main_class(body, 1)
+    return last + faces + classes + main_class(body, 1)
 
 
 def faults(count, name=120_000):
