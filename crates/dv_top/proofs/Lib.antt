@@ -11,3 +11,5 @@ pub mod SaidOnce
 pub mod Schedules
 pub mod Usable
 pub mod VerifyingLemmas
+pub mod FaultParts
+pub mod Written

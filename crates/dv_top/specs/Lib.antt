@@ -1,6 +1,7 @@
 pub mod Answering
 pub mod Laws
 pub mod Pieces
+pub mod Printed
 pub mod Programs
 pub mod Runs
 pub mod Said

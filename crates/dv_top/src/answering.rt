@@ -17,7 +17,6 @@ use crate::running::{Running, reply_to_running};
 use crate::status::Status;
 use crate::verdict::reply_to_verifying;
 use crate::words::{Command, command_of};
-use crate::writing::write_all;
 use dv_defs::Entry;
 use dv_io::{Failed, Sink, Source};
 use std::alloc::{AllocError, Global};
@@ -36,7 +35,7 @@ pub fn answer<S: Source, K: Sink>(
         log.new.items (code_of result) }
 {
     match reply_to_words(alloc, words, source, log) {
-        Ok(reply) => match write_all(sink, &reply.text) {
+        Ok(reply) => match reply.text.write(sink) {
             Ok(()) => reply.status,
             Err(Failed) => Status::WriteFault,
         },

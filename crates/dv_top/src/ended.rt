@@ -9,6 +9,7 @@ ghost use Rattle.dv_sound.specs.Runs.{IsAt};
 ghost use Rattle.dv_top.specs.Runs.{IsRun, end_of};
 ghost use Rattle.dv_top.specs.Status.{code_of};
 
+use crate::printed::Printed;
 use crate::reply::Reply;
 use crate::scheduling::add_schedule;
 use crate::status::Status;
@@ -34,7 +35,10 @@ pub fn reply_of_ended(alloc: Global, run: &SafeVm, shown: bool) -> Result<Reply,
     if shown {
         add_schedule(&mut text, log)?;
     }
-    Ok(Reply { status, text })
+    Ok(Reply {
+        status,
+        text: Printed::of(text),
+    })
 }
 
 /// How the first thread of a run ended.

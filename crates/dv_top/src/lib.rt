@@ -13,6 +13,7 @@ mod answering;
 mod ended;
 pub mod laws;
 mod listing;
+mod printed;
 mod printing;
 mod program;
 mod reading;

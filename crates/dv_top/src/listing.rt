@@ -6,6 +6,7 @@ ghost use Rattle.dv_top.specs.Answering.{IsTold, IsReadOf};
 ghost use Rattle.dv_top.specs.Said.{IsSaidOfListing};
 ghost use Rattle.dv_top.specs.Status.{code_of};
 
+use crate::printed::Printed;
 use crate::printing::TOO_LARGE;
 use crate::reply::{Reply, fixed, is_too_large, refused};
 use crate::status::Status;
@@ -42,6 +43,6 @@ fn listing_of(alloc: Global, classes: &[ClassDef]) -> Result<Reply, AllocError>
     }
     Ok(Reply {
         status: Status::Done,
-        text,
+        text: Printed::of(text),
     })
 }

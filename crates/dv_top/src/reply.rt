@@ -6,7 +6,7 @@ ghost use Rattle.dv_console.specs.declared.refusals.Refusal.{Refusal as Why};
 ghost use Rattle.dv_console.specs.Refusals.{refusal_text};
 ghost use Rattle.dv_top.specs.Said.{fault_lines, text_limit};
 
-use crate::printing::fault_lines;
+use crate::printed::Printed;
 use crate::reading::TEXT_LIMIT;
 use crate::status::Status;
 use dv_console::{Refusal, refusal_line};
@@ -18,7 +18,7 @@ use std::alloc::{AllocError, Global};
 #[derive(Drop)]
 pub struct Reply {
     pub status: Status,
-    pub text: Vec<u8>,
+    pub text: Printed,
 }
 
 /// A reply whose text is always the same.
@@ -27,7 +27,7 @@ pub fn fixed(alloc: Global, status: Status, text: &[u8]) -> Result<Reply, AllocE
 {
     Ok(Reply {
         status,
-        text: Vec::from_slice(alloc, text)?,
+        text: Printed::of(Vec::from_slice(alloc, text)?),
     })
 }
 
@@ -58,7 +58,7 @@ pub fn faulty(alloc: Global, error: VerifyError) -> Result<Reply, AllocError>
 {
     match error {
         VerifyError::Faults { image, faults } => {
-            let lines = fault_lines(alloc, &image, faults.items());
+            let lines = Printed::of_faults(alloc, &image, faults.items());
             drop(image);
             drop(faults);
             Ok(Reply {

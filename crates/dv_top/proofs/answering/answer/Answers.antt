@@ -1,10 +1,11 @@
+use Rattle.std.proofs.Common.{refl}
 use Rattle.dv_top.proofs.AnswerLemmas.{written, partly_written}
 use Rattle.dv_top.proofs.answering.answer.Goals as goal
 
-pub returns-in-Ok-write_all : goal.returns-in-Ok-write_all
-returns-in-Ok-write_all g c =
+pub returns-in-Ok-write : goal.returns-in-Ok-write
+returns-in-Ok-write g c =
     let reply = c.in-Ok.ensures in
-    written g.S.Source.left g.S.Source.faults g.K.Sink.taken g.K.Sink.faults _ _ _ _ _ _ _ c.in-Ok.reply.text.items c.deref.result.now
+    written g.S.Source.left g.S.Source.faults g.K.Sink.taken g.K.Sink.faults _ _ _ _ _ _ _ c.in-Ok.reply.text.items c.in-Ok.reply.text.items
     (record {
       unread = reply.unread;
       usage = reply.usage;
@@ -16,12 +17,12 @@ returns-in-Ok-write_all g c =
       not_run = reply.not_run;
       legal = reply.legal;
     })
-    c.deref.ensures.value c.in-Ok-write_all.ensures.ok
+    refl c.in-Ok-write.ensures.ok
 
 pub returns-in-Ok : goal.returns-in-Ok
 returns-in-Ok g c =
     let reply = c.in-Ok.ensures in
-    partly_written g.S.Source.left g.S.Source.faults g.K.Sink.taken g.K.Sink.faults _ _ _ _ _ _ _ c.in-Ok.reply.text.items c.deref.result.now
+    partly_written g.S.Source.left g.S.Source.faults g.K.Sink.taken g.K.Sink.faults _ _ _ _ _ _ _ c.in-Ok.reply.text.items c.in-Ok.reply.text.items
     (record {
       unread = reply.unread;
       usage = reply.usage;
@@ -33,4 +34,4 @@ returns-in-Ok g c =
       not_run = reply.not_run;
       legal = reply.legal;
     })
-    c.deref.ensures.value c.in-Err.ensures.failed c.in-Err.ensures.part
+    refl c.in-Err.ensures.failed c.in-Err.ensures.part

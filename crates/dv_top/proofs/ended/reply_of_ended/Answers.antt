@@ -22,4 +22,4 @@ returns c main is =
       | else-shown w ↦
           ap (λ (t : Vec _ _). t.items) w.text-is ∙ (c.in_ok-text.ensures main m at ∙ (sym (append-nil (final_text c.args.run.now.verified.image m)) ∙ ap (λ b. final_text c.args.run.now.verified.image m ++ shown_schedule b c.args.run.now.log) (sym w.if-shown.false)))
     ] in
-    run_is c.args.run.now main m c.in-Some.ending _ c.args.shown _ at (c.in-Some.ensures.ending main m at) told text
+    run_is c.args.run.now main m c.in-Some.ending _ c.args.shown _ at (c.in-Some.ensures.ending main m at) told (c.of.ensures ∙ text)
