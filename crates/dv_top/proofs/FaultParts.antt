@@ -27,7 +27,7 @@ take_front (x ∷ xs) b = ap (λ ys. x ∷ ys) (take_front xs b)
 pub front_of : (image : Image) (f : Fault) → take (length (fault_text image f) - length (fault_tail f)) (fault_text image f) ≡ fault_head image f
 front_of image f =
     let size : length (fault_text image f) - length (fault_tail f) ≡ length (fault_head image f) =
-        omega (arith, ap length (in_two image f), length-append (fault_head image f) (fault_tail f)) in
+    omega (arith, ap length (in_two image f), length-append (fault_head image f) (fault_tail f)) in
     ap (λ n. take n (fault_text image f)) size ∙ (ap (take (length (fault_head image f))) (in_two image f) ∙ take_front (fault_head image f) (fault_tail f))
 
 pub tail_within : (image : Image) (f : Fault) → length (fault_tail f) ≤ length (fault_text image f)
@@ -38,9 +38,9 @@ pub line_added : (ms : List MethodFaults) (m n : MethodFaults) (head tail : List
     → printed_lines (ms ++ n ∷ []) ≡ printed_lines ms ++ (method_lines m ++ (head ++ tail))
 line_added ms m n head tail same more is =
     let lines : method_lines n ≡ method_lines m ++ (head ++ tail) =
-        ap (λ h. flat_map (λ t. h ++ t) n.tails.items) (same ∙ is) ∙
-        (ap (flat_map (λ t. head ++ t)) more ∙
-        (sym (flat_map_more (λ t. head ++ t) [] m.tails.items tail) ∙ ap (λ h. flat_map (λ t. h ++ t) m.tails.items ++ (head ++ tail)) (sym is))) in
+    ap (λ h. flat_map (λ t. h ++ t) n.tails.items) (same ∙ is) ∙
+    (ap (flat_map (λ t. head ++ t)) more ∙
+    (sym (flat_map_more (λ t. head ++ t) [] m.tails.items tail) ∙ ap (λ h. flat_map (λ t. h ++ t) m.tails.items ++ (head ++ tail)) (sym is))) in
     sym (flat_map_more method_lines [] ms n) ∙ ap (λ l. printed_lines ms ++ l) lines
 
 -- a line behind those of the last method
