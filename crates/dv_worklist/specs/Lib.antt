@@ -1,3 +1,4 @@
+pub mod Beside
 pub mod Flow
 pub mod Waiting
 pub mod Work

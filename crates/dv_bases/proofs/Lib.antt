@@ -1,0 +1,3 @@
+mod Naming
+mod PartLaws
+pub mod Wider
