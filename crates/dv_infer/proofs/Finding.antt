@@ -1,5 +1,6 @@
 -- What the least assignment of a body says of it.
-use Rattle.std.proofs.Common.{◌≡◌, ◌≢◌, ℕ, List, [], length, Option, Some, sym, ◌∙◌, subst}
+use Rattle.std.proofs.Common.{◌≡◌, ◌≢◌, ℕ, List, [], length, Option, Some, sym, ◌∙◌, subst, length-map}
+use Rattle.std.specs.Prelude.{option_map}
 use Rattle.dv_defs.specs.declared.faults.Fault.{Fault}
 use Rattle.dv_typing.specs.declared.typing.RegState.{RegState}
 use Rattle.dv_defs.specs.Images.{Image}
@@ -19,7 +20,10 @@ use Rattle.law_infer.proofs.Closed.{least_assignments_are_least}
 use Rattle.law_infer.proofs.Judged.{no_faults_give_typings, faults_refuse_typings}
 use Rattle.law_infer.proofs.Lawful.{flows_are_lawful}
 use Rattle.dv_infer.specs.Judged.{IsJudged, AreJudged}
-use Rattle.dv_infer.specs.Owned.{OwnedCode}
+use Rattle.dv_infer.specs.Owned.{NamedCode}
+use Rattle.dv_bases.specs.Bases.{Names}
+use Rattle.dv_worklist.specs.Beside.{Kept, flow_beside, fits_beside, rank_beside, alone}
+use Rattle.dv_worklist.proofs.Beside.{lawful_beside, alone_fit, least_alone}
 
 -- a body of a linked image that breaks no static rule is ready
 pub is_ready : (image : Image) (n : ℕ) (code : Code) → IsImage image → code_at image n ≡ Some code → static_places image code ≡ [] → IsReady image code
@@ -34,48 +38,56 @@ is_ready image n code is has none =
 
 -- ---- its flow
 
-abbrev pub owned : Image → Code → OwnedCode
-owned image code = record { image = image; code = code }
+abbrev named : Names → Code → NamedCode
+named names code = record { names = names; code = code }
 
-module _ (image : Image) (code : Code) (ready : IsReady image code) (m : OwnedCode) (e : m ≡ owned image code) where
-  pub is_lawful : IsLawful (flow_of m.image m.code) (fits_at m.image m.code) (rank_of m.image m.code) (top_of m.image m.code)
+module _ (names : Names) (code : Code) (ready : IsReady names.image code) (m : NamedCode) (e : m ≡ named names code) where
+  pub is_lawful : IsLawful (flow_beside m.names (flow_of m.names.image m.code)) (fits_beside m.names (fits_at m.names.image m.code)) (rank_beside (rank_of m.names.image m.code)) (top_of m.names.image m.code)
   is_lawful =
-      subst (λ (o : OwnedCode). IsLawful (flow_of o.image o.code) (fits_at o.image o.code) (rank_of o.image o.code) (top_of o.image o.code)) (sym e)
-      (flows_are_lawful image code ready)
+      subst (λ (o : NamedCode). IsLawful (flow_beside o.names (flow_of o.names.image o.code)) (fits_beside o.names (fits_at o.names.image o.code)) (rank_beside (rank_of o.names.image o.code)) (top_of o.names.image o.code)) (sym e)
+      (lawful_beside names (flow_of names.image code) (fits_at names.image code) (rank_of names.image code) (top_of names.image code) (flows_are_lawful names.image code ready))
 
-  pub fits : (xs : List (Option RegState)) → AllFit (fits_at m.image m.code) (assigned xs) → AllFit (fits_at image code) (assigned xs)
-  fits xs fit = subst (λ (o : OwnedCode). AllFit (fits_at o.image o.code) (assigned xs)) e fit
+  module _ (xs : List (Option (Kept RegState Names))) where
+    pub fits : AllFit (fits_beside m.names (fits_at m.names.image m.code)) (assigned xs) → AllFit (fits_at names.image code) (assigned (alone xs))
+    fits fit =
+        alone_fit names (flow_of names.image code) (fits_at names.image code) xs
+        (subst (λ (o : NamedCode). AllFit (fits_beside o.names (fits_at o.names.image o.code)) (assigned xs)) e fit)
 
-  least : (xs : List (Option RegState)) → worklist.IsLeast (flow_of m.image m.code) (assigned xs) → worklist.IsLeast (flow_of image code) (assigned xs)
-  least xs l = subst (λ (o : OwnedCode). worklist.IsLeast (flow_of o.image o.code) (assigned xs)) e l
+    pub least : worklist.IsLeast (flow_beside m.names (flow_of m.names.image m.code)) (assigned xs) → worklist.IsLeast (flow_of names.image code) (assigned (alone xs))
+    least l =
+        least_alone names (flow_of names.image code) xs
+        (subst (λ (o : NamedCode). worklist.IsLeast (flow_beside o.names (flow_of o.names.image o.code)) (assigned xs)) e l)
 
-  -- ---- what is found
+pub alone_count : (xs : List (Option (Kept RegState Names))) → length (alone xs) ≡ length xs
+alone_count xs = length-map (option_map (λ a. a.state)) xs
 
-  module _ (xs : List (Option RegState)) (fit : AllFit (fits_at m.image m.code) (assigned xs)) (l : worklist.IsLeast (flow_of m.image m.code) (assigned xs)) where
-    is_least : IsLeast image code (assigned xs)
-    is_least = least_assignments_are_least image code ready xs (fits xs fit) (least xs l)
+-- ---- what is found
 
-    abbrev Told : List Fault → Type 0
-    Told fs = fs ≡ faults_from image code (assigned xs) 0 (length code.body.units)
+module _ (image : Image) (code : Code) (ready : IsReady image code) (xs : List (Option RegState)) (fit : AllFit (fits_at image code) (assigned xs)) (l : worklist.IsLeast (flow_of image code) (assigned xs)) where
+  is_least : IsLeast image code (assigned xs)
+  is_least = least_assignments_are_least image code ready xs fit l
 
-    told_is : (fs : List Fault) → Told fs → fs ≡ typing_faults image code (assigned xs) code.tiles
-    told_is fs told = told ∙ faults_are_by_address image code ready xs (fits xs fit)
+  abbrev Told : List Fault → Type 0
+  Told fs = fs ≡ faults_from image code (assigned xs) 0 (length code.body.units)
 
-    pub is_judged : (fs : List Fault) → Told fs → fs ≡ [] → IsJudged image code (record { states = xs })
-    is_judged fs told none =
-        let faultless = sym (told_is fs told) ∙ none in
-        record {
-          typing = no_faults_give_typings image code ready (assigned xs) is_least faultless;
-          least = is_least;
-          faultless = faultless;
-        }
+  told_is : (fs : List Fault) → Told fs → fs ≡ typing_faults image code (assigned xs) code.tiles
+  told_is fs told = told ∙ faults_are_by_address image code ready xs fit
 
-    pub are_judged : (fs : List Fault) → Told fs → fs ≢ [] → AreJudged image code fs
-    are_judged fs told some =
-        record {
-          typing = assigned xs;
-          least = is_least;
-          are = told_is fs told;
-          some = some;
-          refused = faults_refuse_typings image code ready (assigned xs) is_least (λ none. some (told_is fs told ∙ none));
-        }
+  pub is_judged : (fs : List Fault) → Told fs → fs ≡ [] → IsJudged image code (record { states = xs })
+  is_judged fs told none =
+      let faultless = sym (told_is fs told) ∙ none in
+      record {
+        typing = no_faults_give_typings image code ready (assigned xs) is_least faultless;
+        least = is_least;
+        faultless = faultless;
+      }
+
+  pub are_judged : (fs : List Fault) → Told fs → fs ≢ [] → AreJudged image code fs
+  are_judged fs told some =
+      record {
+        typing = assigned xs;
+        least = is_least;
+        are = told_is fs told;
+        some = some;
+        refused = faults_refuse_typings image code ready (assigned xs) is_least (λ none. some (told_is fs told ∙ none));
+      }

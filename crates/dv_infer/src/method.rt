@@ -1,23 +1,31 @@
 // The least assignment.
-ghost use Rattle.std.specs.Prelude.{◌≡◌, ◌≢◌, [], Some, IfOk, IsSome};
+ghost use Rattle.std.specs.Prelude.{◌≡◌, ◌≢◌, [], Some, IfOk, IsSome, length, option_map};
 ghost use Rattle.dv_typing.specs.Accepting.{AreFaults, IsAcceptedMethod, static_places};
 ghost use Rattle.dv_typing.specs.Flow.{IsLeast, IsTyping};
 ghost use Rattle.dv_defs.specs.Op.{Code, code_at};
-ghost use Rattle.law_infer.specs.Flowing.{IsReady};
+ghost use Rattle.law_infer.specs.Flowing.{IsReady, fits_at, flow_of};
+ghost use Rattle.dv_worklist.specs.Beside.{alone};
+ghost use Rattle.dv_worklist.specs.Flow as worklist;
+ghost use Rattle.dv_worklist.specs.Flow.{AllFit, assigned};
 ghost use Rattle.dv_ops.specs.Meaning.{code_of};
 ghost use Rattle.dv_rules.specs.Verified.{typing_of};
+ghost use Rattle.dv_plan.specs.Plans.{IsPlan};
 ghost use Rattle.dv_infer.specs.Errors.{IfFaults};
 ghost use Rattle.dv_infer.specs.Judged.{AreJudged, IsJudged};
 
 use crate::errors::InferError;
 use crate::faults::typing_faults;
 use crate::flow::MethodFlow;
+use dv_bases::Bases;
 use dv_defs::{Image, MethodId, Seq};
 use dv_ops::{Coded, coded_at};
+use dv_plan::{Plan, plan_of};
 use dv_rules::Map;
 use dv_static::static_faults;
+use dv_types::{ClassTable, Row};
+use dv_typing::RegState;
 use dv_worklist::least;
-use std::alloc::Global;
+use std::alloc::{AllocError, Global};
 
 /// The least typing of a method's body: a state for each instruction that can be reached.
 ///
@@ -34,16 +42,47 @@ pub fn infer(alloc: Global, image: &Image, method: MethodId) -> Result<Map, Infe
     ensures some { IfFaults result (λ fs. fs ≢ []) }
     ensures refused { (code : Code) → code_at image.now method.0 ≡ Some code → IfFaults result (λ _. IsAcceptedMethod image.now code → ⊥) }
 {
+    let table = ClassTable::new(alloc, image)?;
+    infer_by(alloc, image, &table, method)
+}
+
+/// The same by a table of the image's classes, which serves for each of its methods.
+///
+/// # Errors
+///
+/// As `infer`.
+pub fn infer_by(
+    alloc: Global,
+    image: &Image,
+    table: &ClassTable<'_>,
+    method: MethodId,
+) -> Result<Map, InferError>
+    requires table { table.now ≡ image.now }
+    requires body { IsSome (code_at image.now method.0) }
+    ensures unbroken { (code : Code) → code_at image.now method.0 ≡ Some code → IfOk result (λ _. static_places image.now code ≡ []) }
+    ensures typing { (code : Code) → code_at image.now method.0 ≡ Some code → IfOk result (λ m. IsTyping image.now code (typing_of m)) }
+    ensures faultless { (code : Code) → code_at image.now method.0 ≡ Some code → IfOk result (λ _. AreFaults image.now code []) }
+    ensures least { (code : Code) → code_at image.now method.0 ≡ Some code → IfOk result (λ m. IsLeast image.now code (typing_of m)) }
+    ensures faults { (code : Code) → code_at image.now method.0 ≡ Some code → IfFaults result (λ fs. AreFaults image.now code fs) }
+    ensures some { IfFaults result (λ fs. fs ≢ []) }
+    ensures refused { (code : Code) → code_at image.now method.0 ≡ Some code → IfFaults result (λ _. IsAcceptedMethod image.now code → ⊥) }
+{
     let faults = static_faults(alloc, image, method)?;
     if faults.is_empty() {
-        judge_unbroken(alloc, image, method)
+        judge_unbroken(alloc, image, table, method)
     } else {
         Err(InferError::Faults(Seq::of(faults)))
     }
 }
 
 /// The same of a body that breaks no static rule.
-fn judge_unbroken(alloc: Global, image: &Image, method: MethodId) -> Result<Map, InferError>
+fn judge_unbroken(
+    alloc: Global,
+    image: &Image,
+    table: &ClassTable<'_>,
+    method: MethodId,
+) -> Result<Map, InferError>
+    requires table { table.now ≡ image.now }
     requires body { IsSome (code_at image.now method.0) }
     requires unbroken { (code : Code) → code_at image.now method.0 ≡ Some code → static_places image.now code ≡ [] }
     ensures typing { (code : Code) → code_at image.now method.0 ≡ Some code → IfOk result (IsJudged image.now code) }
@@ -52,17 +91,22 @@ fn judge_unbroken(alloc: Global, image: &Image, method: MethodId) -> Result<Map,
 {
     let code = coded_at(image, method).unwrap();
     let _classes = &image.classes;
-    judge(alloc, image, &code)
+    judge(alloc, image, table, &code)
 }
 
 /// The same by the least assignment.
-fn judge(alloc: Global, image: &Image, code: &Coded<'_>) -> Result<Map, InferError>
+fn judge(
+    alloc: Global,
+    image: &Image,
+    table: &ClassTable<'_>,
+    code: &Coded<'_>,
+) -> Result<Map, InferError>
+    requires table { table.now ≡ image.now }
     requires ready { IsReady image.now (code_of code.now) }
     ensures typing { IfOk result (IsJudged image.now (code_of code.now)) }
     ensures faults { IfFaults result (AreJudged image.now (code_of code.now)) }
 {
-    let flow = MethodFlow::new(alloc, image, code);
-    let states = least(&flow, alloc)?;
+    let states = least_states(alloc, image, table, code)?;
     let faults = typing_faults(alloc, image, code, &states)?;
     if faults.is_empty() {
         Ok(Map {
@@ -70,5 +114,67 @@ fn judge(alloc: Global, image: &Image, code: &Coded<'_>) -> Result<Map, InferErr
         })
     } else {
         Err(InferError::Faults(Seq::of(faults)))
+    }
+}
+
+/// The states of the least assignment, by address.
+fn least_states(
+    alloc: Global,
+    image: &Image,
+    table: &ClassTable<'_>,
+    code: &Coded<'_>,
+) -> Result<Vec<Option<RegState>>, AllocError>
+    requires table { table.now ≡ image.now }
+    requires ready { IsReady image.now (code_of code.now) }
+    ensures count { IfOk result (λ v. length v.items ≡ length code.now.body.now.units) }
+    ensures fit { IfOk result (λ v. AllFit (fits_at image.now (code_of code.now)) (assigned v.items)) }
+    ensures least { IfOk result (λ v. worklist.IsLeast (flow_of image.now (code_of code.now)) (assigned v.items)) }
+{
+    let mut bases = Bases::new(alloc, image)?;
+    let plan = plan_of(alloc, &mut bases, image, code)?;
+    least_by(alloc, table, &bases, code, &plan)
+}
+
+/// The same by the method's plan.
+fn least_by(
+    alloc: Global,
+    table: &ClassTable<'_>,
+    bases: &Bases<'_>,
+    code: &Coded<'_>,
+    plan: &Plan,
+) -> Result<Vec<Option<RegState>>, AllocError>
+    requires table { table.now ≡ bases.now.image }
+    requires ready { IsReady bases.now.image (code_of code.now) }
+    requires plan { IsPlan bases.now.image bases.now (code_of code.now) plan.now }
+    ensures count { IfOk result (λ v. length v.items ≡ length code.now.body.now.units) }
+    ensures fit { IfOk result (λ v. AllFit (fits_at bases.now.image (code_of code.now)) (assigned v.items)) }
+    ensures least { IfOk result (λ v. worklist.IsLeast (flow_of bases.now.image (code_of code.now)) (assigned v.items)) }
+{
+    let flow = MethodFlow::new(alloc, bases, table, code, plan);
+    let rows = least(&flow, alloc)?;
+    states_of(alloc, rows)
+}
+
+/// The states that rows say. Each row is dropped when its state is made.
+fn states_of(
+    alloc: Global,
+    rows: Vec<Option<Row<'_>>>,
+) -> Result<Vec<Option<RegState>>, AllocError>
+    ensures { IfOk result (λ v. v.items ≡ alone rows.items) }
+{
+    let mut states = Vec::with_capacity(alloc, rows.len())?;
+    for row in rows {
+        states.push(state_of(alloc, row)?)?;
+    }
+    Ok(states)
+}
+
+/// The state that a row says, where there is one.
+fn state_of(alloc: Global, row: Option<Row<'_>>) -> Result<Option<RegState>, AllocError>
+    ensures { IfOk result (λ s. s ≡ option_map (λ r. r.state) row) }
+{
+    match row {
+        Some(row) => Ok(Some(row.state(alloc)?)),
+        None => Ok(None),
     }
 }

@@ -4,9 +4,10 @@ ghost use Rattle.dv_defs.specs.Op.{code_at};
 ghost use Rattle.dv_pverify.specs.Judging.{AreJudged, Judges};
 
 use dv_defs::{Fault, Image, MethodId, Seq};
-use dv_infer::{InferError, infer};
+use dv_infer::{InferError, infer_by};
 use dv_ops::coded_at;
 use dv_rules::Map;
+use dv_types::ClassTable;
 use std::alloc::{AllocError, Global};
 
 /// The maps of methods, by number, and their faults.
@@ -21,7 +22,8 @@ pub fn judge_all(alloc: Global, image: &Image) -> Result<Judged, AllocError>
     ensures judged { IfOk result (λ j. AreJudged image.now 0 j.maps.items j.faults.items) }
     ensures count { IfOk result (λ j. length j.maps.items ≡ length image.now.methods) }
 {
-    judge_range(alloc, image, 0, count_of(image))
+    let table = ClassTable::new(alloc, image)?;
+    judge_range(alloc, image, &table, 0, count_of(image))
 }
 
 /// The number of an image's methods.
@@ -34,7 +36,14 @@ fn count_of(image: &Image) -> u32
 
 /// Judges so many methods from one on.
 #[tactic(auto, using(crate::proofs::Judged::judged_one))]
-fn judge_range(alloc: Global, image: &Image, from: u32, count: u32) -> Result<Judged, AllocError>
+fn judge_range(
+    alloc: Global,
+    image: &Image,
+    table: &ClassTable<'_>,
+    from: u32,
+    count: u32,
+) -> Result<Judged, AllocError>
+    requires table { table.now ≡ image.now }
     requires range { from + count ≤ length image.now.methods }
     requires fits { from + count < 2 ^ 32 }
     ensures judged { IfOk result (λ j. AreJudged image.now from j.maps.items j.faults.items) }
@@ -45,7 +54,7 @@ fn judge_range(alloc: Global, image: &Image, from: u32, count: u32) -> Result<Ju
         faults: Vec::new(alloc),
     };
     for method in from..from + count {
-        let (map, faults) = judge(alloc, image, MethodId(method))?;
+        let (map, faults) = judge(alloc, image, table, MethodId(method))?;
         add(&mut judged, map, faults)?;
     }
     Ok(judged)
@@ -63,11 +72,17 @@ fn add(judged: &mut Judged, map: Map, faults: Vec<Fault>) -> Result<(), AllocErr
 }
 
 /// The map of a method and its faults. A method without a body has an empty map, and so has one with faults.
-fn judge(alloc: Global, image: &Image, method: MethodId) -> Result<(Map, Vec<Fault>), AllocError>
+fn judge(
+    alloc: Global,
+    image: &Image,
+    table: &ClassTable<'_>,
+    method: MethodId,
+) -> Result<(Map, Vec<Fault>), AllocError>
+    requires table { table.now ≡ image.now }
     ensures { IfOk result (λ r. Judges image.now (code_at image.now method.0) r.0 r.1.items) }
 {
     match coded_at(image, method) {
-        Some(_) => judge_body(alloc, image, method),
+        Some(_) => judge_body(alloc, image, table, method),
         None => Ok((empty_map(alloc), Vec::new(alloc))),
     }
 }
@@ -76,12 +91,14 @@ fn judge(alloc: Global, image: &Image, method: MethodId) -> Result<(Map, Vec<Fau
 fn judge_body(
     alloc: Global,
     image: &Image,
+    table: &ClassTable<'_>,
     method: MethodId,
 ) -> Result<(Map, Vec<Fault>), AllocError>
-    requires { IsSome (code_at image.now method.0) }
+    requires table { table.now ≡ image.now }
+    requires body { IsSome (code_at image.now method.0) }
     ensures { IfOk result (λ r. Judges image.now (code_at image.now method.0) r.0 r.1.items) }
 {
-    match infer(alloc, image, method) {
+    match infer_by(alloc, image, table, method) {
         Ok(map) => Ok((map, Vec::new(alloc))),
         Err(InferError::Faults(faults)) => Ok((empty_map(alloc), faults.into_vec())),
         Err(InferError::Memory) => Err(AllocError),

@@ -11,7 +11,7 @@ use Rattle.dv_typing.specs.Flow.{Catcher, jumps, targets, handlers_at, thrown_at
 use Rattle.law_flow.specs.Clean.{IsHandler, IsClean}
 use Rattle.dv_rules.specs.declared.flow.Edge.{Edge}
 use Rattle.dv_rules.specs.Edges.{plain_edge, handler_edge, edges_of}
-use Rattle.dv_rules.specs.EdgeParts.{edges_onward, edges_thrown}
+use Rattle.dv_rules.specs.EdgeParts.{edges_onward, edges_thrown, target_edges}
 
 abbrev kept_if : {A : Type 0} → Bool → A → List A → List A
 kept_if b x xs = cond b (x ∷ xs) xs
@@ -53,13 +53,15 @@ pub thrown_pass : (image : Image) (code : Code) (at : ℕ) (x : At) → IsClean 
     thrown_if (can_throw x.op) (filter (λ h. begins_insn code.tiles h.to) (handlers_at image code.method.id (thrown_at at x))) ≡ edges_thrown image code at x
 thrown_pass image code at x clean = ap (thrown_if (can_throw x.op)) (handlers_pass image code (thrown_at at x) clean)
 
--- the parts one after another are all edges
-pub all_edges : (image : Image) (code : Code) (at : ℕ) (x : At) (none onward jumped thrown : List Edge) → IsClean image code → fetch image code.method.id at ≡ Some x →
-    none ≡ [] → onward ≡ none ++ edges_onward code x.op x.next → jumped ≡ onward ++ map plain_edge (jumps x.op) →
-    thrown ≡ jumped ++ edges_thrown image code at x → thrown ≡ edges_of image code at x
-all_edges image code at x none onward jumped thrown clean e a b c d =
+-- to the next instruction, and then to the targets
+pub all_targets : (image : Image) (code : Code) (at : ℕ) (x : At) (none onward jumped : List Edge) → IsClean image code → fetch image code.method.id at ≡ Some x →
+    none ≡ [] → onward ≡ none ++ edges_onward code x.op x.next → jumped ≡ onward ++ map plain_edge (jumps x.op) → jumped ≡ target_edges code x
+all_targets image code at x none onward jumped clean e a b c =
     let first : onward ≡ edges_onward code x.op x.next = b ∙ ap (λ es. es ++ edges_onward code x.op x.next) a in
-    let front = c ∙ (ap (λ es. es ++ map plain_edge (jumps x.op)) first ∙ sym (targets_apart code x (clean.jumps_lead at x e))) in
-    d ∙
-    (ap (λ es. es ++ edges_thrown image code at x) front ∙
-    ap (λ es. map plain_edge (filter (begins_insn code.tiles) (targets x)) ++ es) (sym (thrown_pass image code at x clean)))
+    c ∙ (ap (λ es. es ++ map plain_edge (jumps x.op)) first ∙ sym (targets_apart code x (clean.jumps_lead at x e)))
+
+-- and these, one after another, are all edges
+pub all_edges : (image : Image) (code : Code) (at : ℕ) (x : At) (front thrown : List Edge) → IsClean image code →
+    front ≡ target_edges code x → thrown ≡ front ++ edges_thrown image code at x → thrown ≡ edges_of image code at x
+all_edges image code at x front thrown clean a d =
+    d ∙ (ap (λ es. es ++ edges_thrown image code at x) a ∙ ap (λ es. target_edges code x ++ es) (sym (thrown_pass image code at x clean)))

@@ -64,6 +64,15 @@ fn covers(entry: &Try, at: u32) -> bool
     entry.start <= at && at < entry.end
 }
 
+/// The edges to the handlers of a try entry, up to and with the first that catches all.
+pub fn catcher_edges(alloc: Global, body: &Body, entry: &Try) -> Result<Vec<Edge>, AllocError>
+    ensures { IfOk result (λ v. v.items ≡ map handler_edge (catchers body.now entry.now.handlers)) }
+{
+    let mut edges = Vec::new(alloc);
+    push_catchers(alloc, body, entry.handlers.items(), &mut edges)?;
+    Ok(edges)
+}
+
 /// Adds an edge for each handler, up to and with the first that catches all.
 fn push_catchers(
     alloc: Global,

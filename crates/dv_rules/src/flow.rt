@@ -8,7 +8,7 @@ ghost use Rattle.law_flow.specs.Clean.{IsClean};
 ghost use Rattle.dv_ops.specs.Places.{IsBoundary};
 ghost use Rattle.dv_ops.specs.Meaning.{code_of, meant};
 ghost use Rattle.dv_rules.specs.Edges.{edges_of, plain_edge};
-ghost use Rattle.dv_rules.specs.EdgeParts.{edges_onward, edges_thrown};
+ghost use Rattle.dv_rules.specs.EdgeParts.{edges_onward, edges_thrown, target_edges};
 
 use crate::catchers::push_handlers;
 use crate::switches::push_cases;
@@ -21,6 +21,26 @@ use std::alloc::{AllocError, Global};
 pub struct Edge {
     pub to: u32,
     pub handler: Option<Ty>,
+}
+
+/// The edges from the operation at an address to the next instruction and to targets.
+pub fn targets_from(
+    alloc: Global,
+    image: &Image,
+    code: &Coded<'_>,
+    at: u32,
+    op: &Op<'_>,
+    next: u32,
+) -> Result<Vec<Edge>, AllocError>
+    requires clean { IsClean image.now (code_of code.now) }
+    requires fetched { fetch image.now code.now.method.id.0 at ≡ Some (record { op = meant (code_of code.now) at op.now; next = next }) }
+    requires next { IsBoundary (code_of code.now) next }
+    ensures { IfOk result (λ v. v.items ≡ target_edges (code_of code.now) (record { op = meant (code_of code.now) at op.now; next = next })) }
+{
+    let mut edges = Vec::new(alloc);
+    push_next(code, op, next, &mut edges)?;
+    push_jumps(alloc, image, code, at, op, next, &mut edges)?;
+    Ok(edges)
 }
 
 /// The edges from the operation at an address: to the next instruction and to targets, then to handlers.
@@ -37,9 +57,7 @@ pub fn edges_from(
     requires next { IsBoundary (code_of code.now) next }
     ensures { IfOk result (λ v. v.items ≡ edges_of image.now (code_of code.now) at (record { op = meant (code_of code.now) at op.now; next = next })) }
 {
-    let mut edges = Vec::new(alloc);
-    push_next(code, op, next, &mut edges)?;
-    push_jumps(alloc, image, code, at, op, next, &mut edges)?;
+    let mut edges = targets_from(alloc, image, code, at, op, next)?;
     push_thrown(alloc, image, code, at, op, next, &mut edges)?;
     Ok(edges)
 }
@@ -114,7 +132,7 @@ fn push_thrown(
 }
 
 /// Whether an operation can throw.
-fn can_throw(op: &Op<'_>) -> bool
+pub fn can_throw(op: &Op<'_>) -> bool
     ensures { (code : Code) (at : ℕ) → result ≡ can_throw (meant code at op.now) }
 {
     match op {
@@ -143,7 +161,7 @@ fn can_throw(op: &Op<'_>) -> bool
 }
 
 /// The address whose handlers an exception is searched in: for monitor-exit the next one.
-fn thrown_at(at: u32, op: &Op<'_>, next: u32) -> u32
+pub fn thrown_at(at: u32, op: &Op<'_>, next: u32) -> u32
     ensures { (code : Code) (k : ℕ) → result ≡ thrown_at at (record { op = meant code k op.now; next = next }) }
 {
     match op {

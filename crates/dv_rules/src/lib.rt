@@ -14,8 +14,9 @@ mod switches;
 mod transfer;
 mod verified;
 
+pub use catchers::catcher_edges;
 pub use entry::entry_of;
-pub use flow::{Edge, edges_from};
+pub use flow::{Edge, can_throw, edges_from, targets_from, thrown_at};
 pub use numbered::{edges, entry_state, ok, out};
 pub use receiver::{made_by, receiver_of};
 pub use transfer::{caught_with, out_of};

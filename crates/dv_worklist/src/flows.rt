@@ -1,5 +1,6 @@
 // What the worklist asks of states and places.
-ghost use Rattle.std.specs.Prelude.{◌≡◌, ◌<◌, ℕ, IfOk, true};
+ghost use Rattle.std.specs.Prelude.{◌≡◌, ◌<◌, ℕ, IfOk, OnOk, Some, cond};
+ghost use Rattle.dv_worklist.specs.Work.{raised, rises};
 ghost use Rattle.dv_worklist.specs.Flow.{Flow as Graph};
 
 use std::alloc::AllocError;
@@ -40,17 +41,15 @@ pub trait Flow {
         requires fits { fits self.now place state.now }
         ensures { IfOk result (λ v. v.items ≡ (graph self.now).onward place state.now) };
 
-    fn under(&self, low: &Self::State, high: &Self::State) -> bool
-        ensures { result ≡ (graph self.now).under low.now high.now };
-
-    /// The least state above two that fit one place.
-    fn join(
+    /// Raises a state to the least one above it and another that fits the same place, and tells whether it rose.
+    fn raise(
         &self,
         place: usize,
-        one: &Self::State,
-        other: &Self::State,
-    ) -> Result<Self::State, AllocError>
-        requires one { fits self.now place one.now }
-        requires other { fits self.now place other.now }
-        ensures { IfOk result (λ s. s ≡ (graph self.now).join one.now other.now) };
+        state: &mut Self::State,
+        by: &Self::State,
+    ) -> Result<bool, AllocError>
+        requires state { fits self.now place state.old }
+        requires by { fits self.now place by.now }
+        ensures rose { IfOk result (λ rose. rose ≡ rises (graph self.now) (Some state.old) by.now) }
+        ensures state { OnOk result (state.new ≡ cond (rises (graph self.now) (Some state.old) by.now) (raised (graph self.now) (Some state.old) by.now) state.old) };
 }

@@ -89,16 +89,16 @@ fn raise<F: Flow>(
     ensures states { OnOk result (states.new.items ≡ states_after (F.graph flow.now) states.old.items place state) }
     ensures waiting { OnOk result (waiting.new ≡ waiting_after (F.graph flow.now) states.old.items waiting.old place state) }
 {
-    let raised = match &states[place] {
-        Some(old) => {
-            if flow.under(&state, old) {
-                return Ok(());
-            }
-            flow.join(place, old, &state)?
+    let slot = &mut states[place];
+    let rose = match slot {
+        Some(old) => flow.raise(place, old, &state)?,
+        None => {
+            *slot = Some(state);
+            true
         }
-        None => state,
     };
-    states[place] = Some(raised);
-    waiting.add(place);
+    if rose {
+        waiting.add(place);
+    }
     Ok(())
 }

@@ -54,13 +54,12 @@ impl Flow for Numbers {
         }
     }
 
-    fn under(&self, low: &u8, high: &u8) -> bool {
-        *low <= *high
-    }
-
-    fn join(&self, _place: usize, one: &u8, other: &u8) -> Result<u8, AllocError> {
-        let other = *other;
-        Ok(other.max(*one))
+    fn raise(&self, _place: usize, number: &mut u8, by: &u8) -> Result<bool, AllocError> {
+        let rose = *by > *number;
+        if rose {
+            *number = *by;
+        }
+        Ok(rose)
     }
 }
 

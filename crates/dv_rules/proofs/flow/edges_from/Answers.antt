@@ -5,5 +5,4 @@ use Rattle.dv_rules.proofs.flow.edges_from.Goals as goal
 pub returns : goal.returns
 returns c =
     all_edges c.args.image.now (code_of c.args.code.now) c.args.at (record { op = meant (code_of c.args.code.now) c.args.at c.args.op.now; next = c.args.next })
-    c.new-edges.result.items c.push_next.new.edges.items c.push_jumps.new.edges.items c.push_thrown.new.edges.items
-    c.requires.clean c.requires.fetched c.new-edges.ensures.items (c.in_ok-push_next.ensures c.args.at) c.in_ok-push_jumps.ensures c.in_ok-push_thrown.ensures
+    c.in_ok-edges.edges.items c.push_thrown.new.edges.items c.requires.clean c.in_ok-edges.ensures c.in_ok-push_thrown.ensures

@@ -1,0 +1,177 @@
+// What goes on from an instruction.
+ghost use Rattle.std.specs.Prelude.{◌≡◌, ◌<◌, ◌++◌, All, None, Some, IfOk, OnOk, length, map, slice_index_or};
+ghost use Rattle.dv_typing.specs.Statics.{At, fetch};
+ghost use Rattle.dv_typing.specs.Transfer.{out};
+ghost use Rattle.law_infer.specs.Flowing.{IsReady, fits_at, onward_from};
+ghost use Rattle.dv_worklist.specs.Beside.{fits_beside, onward_kept};
+ghost use Rattle.dv_ops.specs.Meaning.{code_of, method_of};
+ghost use Rattle.dv_bases.specs.Bases.{IsNumbered};
+ghost use Rattle.dv_bases.specs.States.{AreWords, state_of};
+ghost use Rattle.dv_effects.specs.declared.effects.Step.{Step as StepValue};
+ghost use Rattle.dv_plan.specs.declared.ways.Ways.{Ways as WaysValue};
+ghost use Rattle.dv_plan.specs.Plans.{IsPlan, hops_at};
+ghost use Rattle.dv_infer.specs.Along.{to_handler, to_target};
+
+use dv_bases::{Bases, Words};
+use dv_effects::{Step, after, caught};
+use dv_ops::Coded;
+use dv_plan::{Hop, Plan, Ways};
+use dv_types::{ClassTable, Row};
+use dv_worklist::Onward;
+use std::alloc::{AllocError, Global};
+
+/// What goes on from the instruction at an address with a state: the state after it to the next instruction and to targets, the state
+/// before it to handlers.
+pub fn onward<'a>(
+    alloc: Global,
+    bases: &'a Bases<'a>,
+    table: &'a ClassTable<'a>,
+    code: &Coded<'_>,
+    plan: &Plan,
+    place: usize,
+    row: &Row<'a>,
+) -> Result<Vec<Onward<Row<'a>>>, AllocError>
+    requires ready { IsReady bases.now.image (code_of code.now) }
+    requires table { table.now ≡ bases.now.image }
+    requires plan { IsPlan bases.now.image bases.now (code_of code.now) plan.now }
+    requires place { place < length code.now.body.now.units }
+    requires fits { fits_beside bases.now (fits_at bases.now.image (code_of code.now)) place row.now }
+    ensures { IfOk result (λ v. v.items ≡ map (onward_kept row.now.beside) (onward_from bases.now.image (code_of code.now) place row.now.state (fetch bases.now.image code.now.method.id.0 place))) }
+{
+    let words = row.words();
+    let ways = ways_at(plan, place);
+    let after = after_step(bases, code, plan, place, words)?;
+    let mut onwards = to_targets(alloc, bases, table, after, ways.targets.items())?;
+    push_handlers(
+        bases,
+        table,
+        words,
+        hops_from(plan, ways.covering),
+        &mut onwards,
+    )?;
+    Ok(onwards)
+}
+
+/// The ways on from the instruction at an address.
+fn ways_at(plan: &Plan, place: usize) -> &Ways
+    requires within { place < length plan.now.ways.items }
+    requires there { (w : WaysValue) × (slice_index_or plan.now.ways.items place None ≡ Some w) }
+    ensures { slice_index_or plan.now.ways.items place None ≡ Some result.now }
+{
+    match &plan.ways[place] {
+        Some(ways) => ways,
+        None => unreachable!(),
+    }
+}
+
+/// The step of the instruction at an address.
+fn step_at(plan: &Plan, place: usize) -> Step
+    requires within { place < length plan.now.steps.items }
+    requires there { (s : StepValue) × (slice_index_or plan.now.steps.items place None ≡ Some s) }
+    ensures { slice_index_or plan.now.steps.items place None ≡ Some result }
+{
+    match &plan.steps[place] {
+        Some(step) => *step,
+        None => unreachable!(),
+    }
+}
+
+/// The ways to the handlers of a try entry.
+fn hops_from(plan: &Plan, covering: Option<usize>) -> &[Hop]
+    ensures { result.now ≡ hops_at plan.now.hops.items covering }
+{
+    match covering {
+        Some(entry) => match plan.hops.get(entry) {
+            Some(hops) => hops.items(),
+            None => &[],
+        },
+        None => &[],
+    }
+}
+
+/// The words after the instruction at an address.
+fn after_step(
+    bases: &Bases<'_>,
+    code: &Coded<'_>,
+    plan: &Plan,
+    place: usize,
+    words: &Words,
+) -> Result<Words, AllocError>
+    requires ready { IsReady bases.now.image (code_of code.now) }
+    requires plan { IsPlan bases.now.image bases.now (code_of code.now) plan.now }
+    requires place { place < length code.now.body.now.units }
+    requires words { AreWords bases.now words.now }
+    requires fits { fits_at bases.now.image (code_of code.now) place (state_of bases.now words.now) }
+    ensures words { IfOk result (AreWords bases.now) }
+    ensures state { (x : At) → fetch bases.now.image code.now.method.id.0 place ≡ Some x → IfOk result (λ w. state_of bases.now w ≡ out bases.now.image (method_of code.now.method) place x.op (state_of bases.now words.now)) }
+{
+    let step = step_at(plan, place);
+    after(plan.own, plan.steps.as_slice(), &step, words)
+}
+
+/// A copy of words.
+pub fn copy_of(bases: &Bases<'_>, words: &Words) -> Result<Words, AllocError>
+    requires { AreWords bases.now words.now }
+    ensures words { IfOk result (AreWords bases.now) }
+    ensures state { IfOk result (λ w. state_of bases.now w ≡ state_of bases.now words.now) }
+{
+    Ok(Words {
+        regs: words.regs.clone()?,
+        result: words.result,
+        caught: words.caught,
+        this_pending: words.this_pending,
+    })
+}
+
+/// What goes on to targets: the first of them take copies, and the last the words themselves.
+fn to_targets<'a>(
+    alloc: Global,
+    bases: &'a Bases<'a>,
+    table: &'a ClassTable<'a>,
+    words: Words,
+    targets: &[u32],
+) -> Result<Vec<Onward<Row<'a>>>, AllocError>
+    requires table { table.now ≡ bases.now.image }
+    requires words { AreWords bases.now words }
+    ensures { IfOk result (λ v. v.items ≡ map (to_target bases.now (state_of bases.now words)) targets.now) }
+{
+    let mut onwards = Vec::new(alloc);
+    if targets.is_empty() {
+        return Ok(onwards);
+    }
+    let last = targets.len() - 1;
+    for i in 0..last {
+        onwards.push(Onward {
+            to: targets[i] as usize,
+            state: Row::new(bases, table, copy_of(bases, &words)?),
+        })?;
+    }
+    onwards.push(Onward {
+        to: targets[last] as usize,
+        state: Row::new(bases, table, words),
+    })?;
+    Ok(onwards)
+}
+
+/// Adds what goes on to handlers.
+fn push_handlers<'a>(
+    bases: &'a Bases<'a>,
+    table: &'a ClassTable<'a>,
+    words: &Words,
+    hops: &[Hop],
+    onwards: &mut Vec<Onward<Row<'a>>>,
+) -> Result<(), AllocError>
+    requires table { table.now ≡ bases.now.image }
+    requires words { AreWords bases.now words.now }
+    requires hops { All (λ h. IsNumbered bases.now h.caught) hops.now }
+    ensures { OnOk result (onwards.new.items ≡ onwards.old.items ++ map (to_handler bases.now (state_of bases.now words.now)) hops.now) }
+{
+    for hop in hops {
+        let state = Row::new(bases, table, caught(words, hop.caught)?);
+        onwards.push(Onward {
+            to: hop.to as usize,
+            state,
+        })?;
+    }
+    Ok(())
+}

@@ -1,0 +1,4 @@
+mod Going
+mod Hopping
+mod Leading
+mod Walking

@@ -1,0 +1,5 @@
+pub mod Beginnings
+pub mod Hops
+pub mod Plans
+pub mod Steps
+pub mod Ways
