@@ -1,3 +1,4 @@
 mod Same
 pub mod Below
 mod Registers
+pub mod Table
