@@ -2,3 +2,5 @@ mod Same
 pub mod Below
 mod Registers
 pub mod Table
+mod Numbers
+mod Levels

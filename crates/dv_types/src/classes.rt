@@ -71,6 +71,7 @@ impl<'a> ClassTable<'a> {
     /// The class that is above all.
     pub fn object(&self) -> usize
         ensures named { name_at self.now result ≡ object_name }
+        ensures hierarchy { IsHierarchy self.now }
         ensures within { result < length self.now.classes }
     {
         self.object
