@@ -128,7 +128,7 @@ module _ (image : Image) where
       let w = depth_within b in
       let inner : ty_eq (component a) (component b) ≡ false = apart a b (omega (arith, v, l)) (omega (arith, w, k)) other (ty_eq (component a) (component b)) refl in
       let below : common_at image (suc n) (component a) (component b) ≡ raised m (common_flat image (lowered m (component a)) (lowered m (component b))) =
-          by_levels m n (component a) (component b) (omega arith) (omega (arith, x, l)) (omega (arith, y, k)) (one_less m a b last) inner in
+      by_levels m n (component a) (component b) (omega arith) (omega (arith, x, l)) (omega (arith, y, k)) (one_less m a b last) inner in
       chosen_deep (ty_eq a b) (joins_by_component a b) a (deeper (suc n) a b) (common_flat image a b) other (joins a b (omega (arith, l)) (omega (arith, k))) ∙
       (ap (λ (t : Ty). array_of t) below ∙
       (raised_more m (common_flat image (lowered m (component a)) (lowered m (component b))) ∙

@@ -2,5 +2,4 @@ mod Same
 pub mod Below
 mod Registers
 pub mod Table
-mod Numbers
-mod Levels
+pub mod Levels

@@ -103,12 +103,7 @@ fn joined_parts(table: &ClassTable<'_>, bases: &Bases<'_>, part: Part, other: Pa
 
 /// Whether a class or an array is under another by superclasses, through array components.
 #[tactic(auto, unfolding(dv_defs::specs::Order::sub))]
-pub fn is_sub(
-    table: &ClassTable<'_>,
-    bases: &Bases<'_>,
-    class: Reference,
-    above: Reference,
-) -> bool
+pub fn is_sub(table: &ClassTable<'_>, bases: &Bases<'_>, class: Reference, above: Reference) -> bool
     requires ground { IsGround table.now bases.now }
     requires class { IsNumbered bases.now class }
     requires above { IsNumbered bases.now above }
@@ -118,7 +113,13 @@ pub fn is_sub(
         return true;
     }
     above.dims <= class.dims
-        && is_base_under(table, bases, class.dims - above.dims, class.base, above.base)
+        && is_base_under(
+            table,
+            bases,
+            class.dims - above.dims,
+            class.base,
+            above.base,
+        )
 }
 
 /// The nearest common superclass; arrays have one by their components where both are references.
@@ -182,13 +183,7 @@ fn is_same_base(table: &ClassTable<'_>, bases: &Bases<'_>, base: u32, other: u32
 }
 
 /// Whether a base, with so many dimensions over it, is under another that isn't the same.
-fn is_base_under(
-    table: &ClassTable<'_>,
-    bases: &Bases<'_>,
-    dims: u8,
-    base: u32,
-    above: u32,
-) -> bool
+fn is_base_under(table: &ClassTable<'_>, bases: &Bases<'_>, dims: u8, base: u32, above: u32) -> bool
     requires ground { IsGround table.now bases.now }
     requires base { base < base_count bases.now }
     requires above { above < base_count bases.now }
@@ -268,12 +263,7 @@ fn levels_of(bases: &Bases<'_>, class: Reference) -> u8
 }
 
 /// Where they don't join by components: Object where one is an array.
-fn common_flat(
-    table: &ClassTable<'_>,
-    bases: &Bases<'_>,
-    class: Reference,
-    other: Reference,
-) -> u32
+fn common_flat(table: &ClassTable<'_>, bases: &Bases<'_>, class: Reference, other: Reference) -> u32
     requires ground { IsGround table.now bases.now }
     requires class { IsNumbered bases.now class }
     requires other { IsNumbered bases.now other }
