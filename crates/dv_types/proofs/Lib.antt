@@ -3,3 +3,4 @@ pub mod Below
 mod Registers
 pub mod Table
 pub mod Levels
+mod Raising

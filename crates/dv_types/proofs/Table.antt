@@ -1,19 +1,19 @@
 -- Walks up the superclasses that fill a table, and walks that read it.
-use Rattle.std.proofs.Common.{◌≡◌, ◌-◌, ◌+◌, ◌<◌, ◌≤◌, ◌≢◌, ◌⊎◌, inl, inr, ℕ, zero, suc, Bool, true, false, ◌||◌, List, [], length, Option, Some, None, refl, sym, ap, subst, ◌∙◌, arith, get_or, ◌++◌, ◌∷◌}
+use Rattle.std.proofs.Common.{◌≡◌, ◌-◌, ◌<◌, ◌≤◌, ◌≢◌, ◌⊎◌, inl, inr, ℕ, zero, suc, Bool, true, false, ◌||◌, List, [], length, Option, Some, None, refl, sym, ap, subst, ◌∙◌, arith, get_or}
 use Rattle.std.specs.Prelude.{nat_eq, replicate, IfSome, IsSome, slice_set}
-use Rattle.std.proofs.lemmas.Bool.{cases_eq, eq-eqb, eqb-true}
+use Rattle.std.proofs.lemmas.Bool.{cases_eq, eq-eqb}
 use Rattle.std.proofs.lemmas.List.{length-set, get_or-set_same, get_or-set_other, length-replicate, get_or-replicate}
 use Rattle.dv_defs.specs.Images.{Image}
 use Rattle.dv_defs.specs.Linked.{IsImage}
 use Rattle.dv_defs.specs.Names.{object_name}
-use Rattle.dv_defs.specs.Pools.{walk, parent_at, class_named, class_type, name_at, supers}
+use Rattle.dv_defs.specs.Pools.{walk, parent_at, class_named, class_type, supers}
 use Rattle.dv_defs.specs.Order.{has_number, extends}
 use Rattle.dv_defs.specs.Types.{of_class}
 use Rattle.dv_defs.specs.Common.{first_common, object_type}
 use Rattle.law_types.specs.Hierarchy.{IsHierarchy}
 use Rattle.law_types.proofs.Walks.{is_above, named_inside, named_is}
 use Rattle.law_flow.proofs.HierarchyLaw.{linked_classes_are_hierarchies}
-use Rattle.dv_types.specs.Classes.{IsRow, AreRows, IsObject, IsTable}
+use Rattle.dv_types.specs.Classes.{IsRow, IsObject}
 
 -- ---- what a linked image is
 

@@ -57,7 +57,7 @@ pub fn joined_word(table: &ClassTable<'_>, bases: &Bases<'_>, word: u32, other: 
 }
 
 /// What the classes and the names keep. (It does nothing.)
-fn have_ground(table: &ClassTable<'_>, bases: &Bases<'_>)
+pub(crate) fn have_ground(table: &ClassTable<'_>, bases: &Bases<'_>)
     requires { table.now ≡ bases.now.image }
     ensures { IsGround table.now bases.now }
 {

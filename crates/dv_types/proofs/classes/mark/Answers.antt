@@ -1,5 +1,4 @@
-use Rattle.std.proofs.Common.{Option, sym, subst}
-use Rattle.dv_types.proofs.Table.{IsMarked, marks_more, marks_top}
+use Rattle.dv_types.proofs.Table.{marks_more, marks_top}
 use Rattle.dv_types.proofs.classes.mark.Goals as goal
 
 pub returns-in_default : goal.returns-in_default
