@@ -212,7 +212,6 @@ fn is_caught_under(
     requires above { IfSome above (IsNumbered bases.now) }
     ensures { result ≡ caught_under bases.now.image (caught_of bases.now caught) (caught_of bases.now above) }
 {
-    have_ground(table, bases);
     match (caught, above) {
         (_, None) => true,
         (Some(class), Some(above)) => is_sub(table, bases, class, above),
@@ -233,7 +232,6 @@ fn joined_caught(
     ensures numbered { IfSome result (IsNumbered bases.now) }
     ensures joined { caught_of bases.now result ≡ join_caught bases.now.image (caught_of bases.now caught) (caught_of bases.now other) }
 {
-    have_ground(table, bases);
     match (caught, other) {
         (Some(class), Some(other)) => Some(common_of(table, bases, class, other)),
         _ => None,

@@ -23,7 +23,6 @@ pub fn is_word_under(table: &ClassTable<'_>, bases: &Bases<'_>, word: u32, above
     if word == above {
         return true;
     }
-    have_ground(table, bases);
     is_part_under(table, bases, part_of(word), part_of(above))
 }
 
@@ -52,11 +51,10 @@ pub fn joined_word(table: &ClassTable<'_>, bases: &Bases<'_>, word: u32, other: 
     if is_word_under(table, bases, other, word) {
         return word;
     }
-    have_ground(table, bases);
     joined_parts(table, bases, part_of(word), part_of(other))
 }
 
-/// What the classes and the names keep. (It does nothing.)
+/// The table's classes are those that have numbers, and a hierarchy. It is called for what it promises, and does nothing.
 pub(crate) fn have_ground(table: &ClassTable<'_>, bases: &Bases<'_>)
     requires { table.now ≡ bases.now.image }
     ensures { IsGround table.now bases.now }
@@ -67,7 +65,7 @@ pub(crate) fn have_ground(table: &ClassTable<'_>, bases: &Bases<'_>)
 
 /// The same of what words hold.
 fn is_part_under(table: &ClassTable<'_>, bases: &Bases<'_>, part: Part, above: Part) -> bool
-    requires ground { IsGround table.now bases.now }
+    requires image { table.now ≡ bases.now.image }
     requires part { IsPart bases.now part }
     requires above { IsPart bases.now above }
     ensures { result ≡ under bases.now.image (type_in bases.now part) (type_in bases.now above) }
@@ -87,7 +85,7 @@ fn is_part_under(table: &ClassTable<'_>, bases: &Bases<'_>, part: Part, above: P
 
 /// The nearest common superclass of two classes.
 fn joined_parts(table: &ClassTable<'_>, bases: &Bases<'_>, part: Part, other: Part) -> u32
-    requires ground { IsGround table.now bases.now }
+    requires image { table.now ≡ bases.now.image }
     requires part { IsPart bases.now part }
     requires other { IsPart bases.now other }
     ensures joined { word_type bases.now result ≡ classes_of_both bases.now.image (type_in bases.now part) (type_in bases.now other) }
@@ -104,11 +102,12 @@ fn joined_parts(table: &ClassTable<'_>, bases: &Bases<'_>, part: Part, other: Pa
 /// Whether a class or an array is under another by superclasses, through array components.
 #[tactic(auto, unfolding(dv_defs::specs::Order::sub))]
 pub fn is_sub(table: &ClassTable<'_>, bases: &Bases<'_>, class: Reference, above: Reference) -> bool
-    requires ground { IsGround table.now bases.now }
+    requires image { table.now ≡ bases.now.image }
     requires class { IsNumbered bases.now class }
     requires above { IsNumbered bases.now above }
     ensures { result ≡ sub bases.now.image (type_of bases.now class) (type_of bases.now above) }
 {
+    have_ground(table, bases);
     if is_same(table, bases, class, above) {
         return true;
     }
@@ -129,12 +128,13 @@ pub fn common_of(
     class: Reference,
     other: Reference,
 ) -> Reference
-    requires ground { IsGround table.now bases.now }
+    requires image { table.now ≡ bases.now.image }
     requires class { IsNumbered bases.now class }
     requires other { IsNumbered bases.now other }
     ensures common { type_of bases.now result ≡ common_super bases.now.image (type_of bases.now class) (type_of bases.now other) }
     ensures numbered { IsNumbered bases.now result }
 {
+    have_ground(table, bases);
     if is_same(table, bases, class, other) {
         return class;
     }
@@ -222,7 +222,7 @@ fn class_at(table: &ClassTable<'_>, bases: &Bases<'_>, base: u32) -> Option<usiz
     Some(place - 6)
 }
 
-/// The number of Object as a base.
+/// The number of Object among the bases.
 fn object_base(table: &ClassTable<'_>, bases: &Bases<'_>) -> u32
     requires { IsGround table.now bases.now }
     ensures object { of_base (base_of bases.now result) ≡ object_type }
