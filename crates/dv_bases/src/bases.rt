@@ -1,7 +1,7 @@
 // Bases of register types by number.
-ghost use Rattle.std.specs.Prelude.{◌≡◌, ◌<◌, ◌^◌, ◌+◌, IfOk, IfSome, OnOk, None, [], length, slice_index_or};
+ghost use Rattle.std.specs.Prelude.{◌≡◌, ◌<◌, ◌^◌, ◌+◌, IfOk, IfSome, OnOk, None, [], bytes_eq, length, slice_index_or};
 ghost use Rattle.dv_defs.specs.Pools.{class_named, name_at};
-ghost use Rattle.dv_bases.specs.Bases.{IsNumbered, IsWider, IsWord, base_count, base_of, name_of, type_of, word_type};
+ghost use Rattle.dv_bases.specs.Bases.{AreNames, IsNumbered, IsWider, IsWord, base_count, base_of, class_count, name_of, type_of, word_type};
 
 use crate::words::{Part, Reference, part_of, word_of};
 use dv_defs::{Base, Image, Text, Ty};
@@ -123,6 +123,24 @@ impl<'a> Bases<'a> {
             dims: ty.dims,
             base: self.number(&ty.base)?,
         })
+    }
+
+    /// The number of classes: they have the numbers behind the primitive types, and the other names those behind the classes.
+    pub fn class_count(&self) -> usize
+        ensures count { result ≡ class_count self.now }
+        ensures names { AreNames self.now }
+    {
+        let _more = &self.more;
+        count_of(self.image)
+    }
+
+    /// Whether two of the names that the image lacks are one. It takes no memory.
+    pub fn is_same_more(&self, place: usize, other: usize) -> bool
+        requires place { place < length self.now.more }
+        requires other { other < length self.now.more }
+        ensures { result ≡ bytes_eq (slice_index_or self.now.more place []) (slice_index_or self.now.more other []) }
+    {
+        self.more[place].bytes() == self.more[other].bytes()
     }
 
     /// The word of a class or an array.

@@ -1,5 +1,5 @@
 -- Register types that `==` and the definition find the same are equal, and their join.
-use Rattle.std.proofs.Common.{◌≡◌, ℕ, true, refl, sym, ap, ◌∙◌}
+use Rattle.std.proofs.Common.{◌≡◌, ℕ, Bool, true, false, refl, sym, ap, subst, ◌∙◌}
 use Rattle.std.specs.Prelude.{nat_eq}
 use Rattle.std.proofs.lemmas.Bool.{eqb-true, eq-eqb, and_parts, and_from}
 use Rattle.std.proofs.lemmas.Slice.Eq.{bytes_eq-Decides}
@@ -16,6 +16,8 @@ use Rattle.dv_typing.specs.RegTypes.{under}
 use Rattle.dv_defs.specs.Order.{sub, under_type}
 use Rattle.dv_typing.specs.Joins.{same_type, join_type}
 use Rattle.dv_defs.proofs.Keys.{type_keys}
+use Rattle.law_types.specs.Hierarchy.{IsHierarchy, IsOrder}
+use Rattle.law_types.proofs.Laws.{types_are_ordered}
 
 -- ---- what `==` finds
 
@@ -101,3 +103,39 @@ type_same ty.LongHi = refl
 type_same (ty.Class a) = ty_same a
 type_same (ty.Uninit a) = eq-eqb a a refl
 type_same ty.UninitThis = refl
+
+pub under_equal : (image : Image) (s t : RegType) → s ≡ t → under image s t ≡ true
+under_equal image s t e = same_under image s t (subst (λ (u : RegType). same_type s u ≡ true) e (type_same s))
+
+-- ---- types under each other are one
+
+module _ (image : Image) (h : IsHierarchy image) where
+  ord : IsOrder image
+  ord = types_are_ordered image h
+
+  pub one_type : (s t : RegType) → under image s t ≡ true → under image t s ≡ true → s ≡ t
+  one_type (ty.Class c) (ty.Class d) x y = ap ty.Class (ord.antisymmetric c d x y)
+  one_type (ty.Uninit a) (ty.Uninit b) x y = ap ty.Uninit (eqb-true a b x)
+  one_type ty.Conflict ty.Conflict x y = refl
+  one_type ty.Zero ty.Zero x y = refl
+  one_type ty.Int ty.Int x y = refl
+  one_type ty.LongLo ty.LongLo x y = refl
+  one_type ty.LongHi ty.LongHi x y = refl
+  one_type ty.UninitThis ty.UninitThis x y = refl
+  one_type s t x y = absurd (cc)
+
+  pub same_both : (s t : RegType) → under image s t ≡ true → under image t s ≡ same_type s t
+  same_both s t x = by (under image t s) (same_type s t) refl refl
+    where
+      by : (a b : Bool) → under image t s ≡ a → same_type s t ≡ b → a ≡ b
+      by true true p q = refl
+      by false false p q = refl
+      by true false p q = sym (subst (λ (u : RegType). same_type s u ≡ true) (one_type s t x p) (type_same s)) ∙ q
+      by false true p q = sym (sym (under_equal image t s (sym (type_is s t q))) ∙ p)
+
+  pub same_neither : (s t : RegType) → under image s t ≡ false → same_type s t ≡ false
+  same_neither s t x = by (same_type s t) refl
+    where
+      by : (b : Bool) → same_type s t ≡ b → b ≡ false
+      by false q = refl
+      by true q = sym (under_equal image s t (type_is s t q)) ∙ x

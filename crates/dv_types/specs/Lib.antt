@@ -1,1 +1,4 @@
 pub mod Under
+pub mod Classes
+pub mod Numbers
+pub mod Rows
