@@ -1,0 +1,9 @@
+mod ArgTypes
+mod Breaking
+mod Calling
+mod Constants
+mod Leaving
+mod Parts
+mod Renewing
+mod Saying
+pub mod StepWider
