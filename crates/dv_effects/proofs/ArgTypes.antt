@@ -1,13 +1,16 @@
 -- The register types of values of declared types.
-use Rattle.std.proofs.Common.{◌≡◌, ◌<◌, ◌+◌, ℕ, false, List, [], ◌∷◌, ◌++◌, length, take, get_or, refl, sym, ap, ◌∙◌, append_assoc, append-nil}
+use Rattle.std.proofs.Common.{◌≡◌, ◌<◌, ◌+◌, ℕ, Bool, true, false, List, [], ◌∷◌, ◌++◌, length, take, get_or, refl, sym, ap, ◌∙◌, append_assoc, append-nil}
 use Rattle.std.proofs.lemmas.List.{take_more}
 use Rattle.dv_defs.specs.declared.names.Ty.{Ty}
 use Rattle.dv_defs.specs.Types.{is_long}
-use Rattle.dv_typing.specs.declared.typing.RegType.{RegType}
+use Rattle.dv_typing.specs.declared.typing.RegType.TheVariants as ty
 use Rattle.dv_typing.specs.RegTypes.{Types, all_types, reg_types, single_type}
 
+abbrev by_width : Ty → Bool → Types
+by_width t b = elim b [ true ↦ ty.LongLo ∷ ty.LongHi ∷ [] | false ↦ single_type t ∷ [] ]
+
 pub one_register : (t : Ty) → is_long t ≡ false → single_type t ∷ [] ≡ reg_types t
-one_register t e = rw e refl
+one_register t e = ap (by_width t) (sym e)
 
 all_joined : (ps qs : List Ty) → all_types (ps ++ qs) ≡ all_types ps ++ all_types qs
 all_joined [] qs = refl

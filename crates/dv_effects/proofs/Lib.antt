@@ -6,4 +6,5 @@ mod Leaving
 mod Parts
 mod Renewing
 mod Saying
+mod StepMade
 pub mod StepWider

@@ -1,8 +1,13 @@
 -- What words of each kind say, and that a class has a number that a word has room for.
 use Rattle.std.proofs.Common.{◌≡◌, ◌<◌, ◌^◌, ◌/◌, ◌%◌, ℕ, Bool, true, false, refl, ap, ◌∙◌, subst, arith}
 use Rattle.std.specs.Prelude.{nat_eq}
-use Rattle.dv_defs.specs.declared.names.Ty.{Ty}
 use Rattle.dv_typing.specs.Demands.{is_lo, is_hi}
+use Rattle.dv_typing.specs.declared.typing.RegType.TheVariants as ty
+use Rattle.dv_typing.specs.RegTypes.{Types}
+use Rattle.dv_typing.specs.Transfer.{after_result_long, write_two}
+use Rattle.dv_bases.specs.declared.states.PendingWord.{PendingWord}
+use Rattle.dv_bases.specs.declared.states.PendingWord.TheVariants as word
+use Rattle.dv_bases.specs.States.{pending_of}
 use Rattle.dv_bases.specs.declared.words.Reference.{Reference}
 use Rattle.dv_bases.specs.declared.words.Part.{Part}
 use Rattle.dv_bases.specs.declared.words.Part.TheVariants as part
@@ -21,6 +26,12 @@ not_hi names p other = refl
 pub still_with : (names : Names) (p : Part) (b : Bool) → (p ≡ part.UninitThis → ⊥) → b ≡ this_with (type_in names p) b
 still_with names part.UninitThis b other = absurd (other refl)
 still_with names p b other = refl
+
+-- without a long that is pending
+pub no_long : (names : Names) (ts : Types) (k : ℕ) (q : PendingWord) → (q ≡ word.Long → ⊥) → write_two ts k ty.Conflict ty.Conflict ≡ after_result_long ts k (pending_of names q)
+no_long names ts k word.Long other = absurd (other refl)
+no_long names ts k word.None other = refl
+no_long names ts k (word.One w) other = refl
 
 abbrev base_in : Part → ℕ
 base_in (part.Class r) = r.base

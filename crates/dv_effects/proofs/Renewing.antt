@@ -1,5 +1,5 @@
 -- What becomes of objects that aren't initialised, as words and as types.
-use Rattle.std.proofs.Common.{◌≡◌, ℕ, Bool, true, false, List, refl, sym, ap, ◌∙◌, subst}
+use Rattle.std.proofs.Common.{◌≡◌, ◌<◌, ℕ, zero, suc, ◌+◌, Bool, true, false, List, [], ◌∷◌, ◌++◌, length, take, drop, get_or, set, refl, sym, ap, ◌∙◌, subst, arith}
 use Rattle.std.specs.Prelude.{map, nat_eq}
 use Rattle.dv_defs.specs.Images.{Image}
 use Rattle.dv_defs.specs.Op.{Code}
@@ -22,6 +22,19 @@ use Rattle.dv_effects.specs.declared.objects.Objects.TheVariants as objects
 use Rattle.dv_effects.specs.Renewed.{is_among, renewed}
 use Rattle.dv_effects.specs.Said.{Says, SayAll}
 use Rattle.dv_effects.proofs.Saying.{part_says, says_each}
+
+-- one more of a list's elements is replaced
+one_replaced : (f : ℕ → ℕ) (xs : List ℕ) (i d : ℕ) → i < length xs →
+    set (map f (take i xs) ++ drop i xs) i (f (get_or (map f (take i xs) ++ drop i xs) i d)) ≡ map f (take (suc i) xs) ++ drop (suc i) xs
+one_replaced f [] i d within = absurd (omega (arith, within))
+one_replaced f (x ∷ xs) zero d within = refl
+one_replaced f (x ∷ xs) (suc i) d within = ap (λ ys. f x ∷ ys) (one_replaced f xs i d (omega (arith, within)))
+
+pub one_renewed : (f : ℕ → ℕ) (xs ys : List ℕ) (i y : ℕ) → i < length xs → ys ≡ map f (take i xs) ++ drop i xs → y ≡ f (get_or ys i 0) →
+    set ys i y ≡ map f (take (i + 1) xs) ++ drop (i + 1) xs
+one_renewed f xs ys i y within e is =
+    let more : suc i ≡ i + 1 = omega arith in
+    ap (set ys i) is ∙ (ap (λ zs. set zs i (f (get_or zs i 0))) e ∙ (one_replaced f xs i 0 within ∙ ap (λ j. map f (take j xs) ++ drop j xs) more))
 
 module _ (names : Names) (by : ℕ) where
   abbrev chosen : ℕ → Bool → ℕ

@@ -15,3 +15,4 @@ pub use apply::{after, caught};
 pub use effects::{Effect, Step};
 pub use entry::entry_words;
 pub use steps::step_of;
+pub use types::object_word;

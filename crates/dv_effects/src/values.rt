@@ -84,9 +84,7 @@ pub fn write_result_long(regs: &mut Vec<u32>, k: u16, pending: PendingWord)
 {
     match pending {
         PendingWord::Long => write_long(regs, k),
-        PendingWord::None | PendingWord::One(_) => {
-            write_pair(regs, k, word_of(Part::Conflict), word_of(Part::Conflict))
-        }
+        _ => write_pair(regs, k, word_of(Part::Conflict), word_of(Part::Conflict)),
     }
 }
 

@@ -1,0 +1,20 @@
+use Rattle.std.proofs.Common.{◌≡◌, ◌∙◌}
+use Rattle.dv_typing.specs.Transfer.{out}
+use Rattle.dv_bases.specs.States.{state_of}
+use Rattle.dv_effects.proofs.Leaving.{none_caught}
+use Rattle.dv_effects.proofs.apply.after.Goals as goal
+
+pub returns-clause-words : goal.returns-clause-words
+returns-clause-words c = λ names code at op is words own made fits.
+    record { regs = (c.in_ok-regs.ensures names code is.effect_words words own made fits).words; result = is.pending_word; caught = tt }
+
+pub returns-clause-state : goal.returns-clause-state
+returns-clause-state c = λ names code at op is words own made fits.
+    let s = state_of names c.args.words.now in
+    let left = c.in_ok-regs.ensures names code is.effect_words words own made fits in
+    (λ i. record {
+      regs = (left.said ∙ is.registers s) i;
+      result = is.pending s i;
+      caught = none_caught names.image code.method at op s i;
+      this_pending = (c.this_after.ensures names words ∙ is.this s) i;
+    })

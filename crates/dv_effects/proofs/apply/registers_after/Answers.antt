@@ -1,0 +1,11 @@
+use Rattle.std.proofs.Common.{refl, subst, sym}
+use Rattle.dv_bases.specs.States.{state_of}
+use Rattle.dv_effects.specs.Said.{SayAll}
+use Rattle.dv_effects.proofs.apply.registers_after.Goals as goal
+
+pub returns : goal.returns
+returns c = λ names code words h own made fits.
+    let s = state_of names c.args.words.now in
+    c.apply.ensures names code s words
+    (subst (λ ws. SayAll names ws s.regs) (sym c.in_ok-regs.ensures) (record { words = h.regs; said = refl }))
+    (record { word = h.result; said = refl }) (c.in_ok-caught.ensures names h.caught) own made fits
