@@ -3,6 +3,7 @@ mod Breaking
 mod Calling
 mod Constants
 mod Leaving
+pub mod Making
 mod Parts
 mod Renewing
 mod Saying

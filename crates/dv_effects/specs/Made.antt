@@ -7,6 +7,9 @@ use Rattle.dv_typing.specs.declared.typing.RegType.TheVariants as ty
 use Rattle.dv_typing.specs.Statics.{At, fetch}
 use Rattle.dv_typing.specs.Demands.{made_at}
 use Rattle.dv_bases.specs.Bases.{Names, word_type, IsWord}
+use Rattle.dv_bases.specs.declared.states.Words.{Words}
+use Rattle.dv_bases.specs.States.{AreWords, state_of}
+use Rattle.law_flow.specs.Fitting.{StateFits}
 use Rattle.dv_effects.specs.declared.effects.Step.{Step}
 use Rattle.dv_effects.specs.Effects.{IsStep, object_type}
 use Rattle.dv_effects.specs.Said.{Says}
@@ -32,6 +35,16 @@ AreMade names code steps = (a : ℕ) → begins_insn code.tiles a ≡ true → I
 -- a word says the method's own class
 abbrev pub IsOwn : Names → Code → ℕ → Type 0
 IsOwn names code own = Says names own (ty.Class (own_type names.image code.method))
+
+-- the words of the classes that constructors make objects of: the method's own, and those that its instructions make
+pub record HasClasses (names : Names) (code : Code) (own : ℕ) (steps : List (Option Step)) : Type 0 where
+  pub own_class : IsOwn names code own
+  pub made : AreMade names code steps
+
+-- words of a state that may stand at an instruction
+pub record AreFit (names : Names) (code : Code) (words : Words) : Type 0 where
+  pub are_words : AreWords names words
+  pub fits : StateFits names.image code (state_of names words)
 
 -- an instruction's step stands at its address
 pub record HasStep (names : Names) (code : Code) (steps : List (Option Step)) (a : ℕ) : Type 0 where

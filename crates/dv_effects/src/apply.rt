@@ -10,7 +10,7 @@ ghost use Rattle.dv_bases.specs.Bases.{IsNumbered, Names, type_of};
 ghost use Rattle.dv_bases.specs.States.{AreWords, state_of};
 ghost use Rattle.law_flow.specs.Fitting.{StateFits};
 ghost use Rattle.dv_effects.specs.Effects.{HasRoomFor, HasWords, IsStep, registers_after as registers_left, this_after as this_left};
-ghost use Rattle.dv_effects.specs.Made.{AreMade, IsOwn};
+ghost use Rattle.dv_effects.specs.Made.{AreFit, HasClasses};
 ghost use Rattle.dv_effects.specs.Said.{SayAll, Says, SaysPending};
 
 use crate::effects::{Effect, Step};
@@ -30,8 +30,8 @@ pub fn after(
     words: &Words,
 ) -> Result<Words, AllocError>
     requires { HasRoomFor step.now.effect }
-    ensures words { (names : Names) (code : Code) (at : ℕ) (op : Op) → IsStep names code at op step.now → AreWords names words.now → IsOwn names code own → AreMade names code steps.now → StateFits names.image code (state_of names words.now) → IfOk result (AreWords names) }
-    ensures state { (names : Names) (code : Code) (at : ℕ) (op : Op) → IsStep names code at op step.now → AreWords names words.now → IsOwn names code own → AreMade names code steps.now → StateFits names.image code (state_of names words.now) → IfOk result (λ w. state_of names w ≡ out names.image code.method at op (state_of names words.now)) }
+    ensures words { (names : Names) (code : Code) (at : ℕ) (op : Op) → IsStep names code at op step.now → HasClasses names code own steps.now → AreFit names code words.now → IfOk result (AreWords names) }
+    ensures state { (names : Names) (code : Code) (at : ℕ) (op : Op) → IsStep names code at op step.now → HasClasses names code own steps.now → AreFit names code words.now → IfOk result (λ w. state_of names w ≡ out names.image code.method at op (state_of names words.now)) }
 {
     let regs = registers_after(own, steps, step.effect, words)?;
     Ok(Words {
@@ -71,7 +71,7 @@ fn registers_after(
     words: &Words,
 ) -> Result<Vec<u32>, AllocError>
     requires { HasRoomFor effect }
-    ensures { (names : Names) (code : Code) → HasWords names effect → AreWords names words.now → IsOwn names code own → AreMade names code steps.now → StateFits names.image code (state_of names words.now) → IfOk result (λ v. SayAll names v.items (registers_left names code.method effect (state_of names words.now))) }
+    ensures { (names : Names) (code : Code) → HasWords names effect → HasClasses names code own steps.now → AreFit names code words.now → IfOk result (λ v. SayAll names v.items (registers_left names code.method effect (state_of names words.now))) }
 {
     let caught = caught_word(words.caught)?;
     let mut regs = copied(words)?;
@@ -89,7 +89,7 @@ fn apply(
     regs: &mut Vec<u32>,
 )
     requires { HasRoomFor effect }
-    ensures { (names : Names) (code : Code) (s : RegState) → HasWords names effect → SayAll names regs.old.items s.regs → SaysPending names pending s.result → Says names caught (caught_type s.caught) → IsOwn names code own → AreMade names code steps.now → StateFits names.image code s → SayAll names regs.new.items (registers_left names code.method effect s) }
+    ensures { (names : Names) (code : Code) (s : RegState) → HasWords names effect → SayAll names regs.old.items s.regs → SaysPending names pending s.result → Says names caught (caught_type s.caught) → HasClasses names code own steps.now → StateFits names.image code s → SayAll names regs.new.items (registers_left names code.method effect s) }
 {
     match effect {
         Effect::Nothing => {}

@@ -44,7 +44,11 @@ pub fn entry_words(
 fn after_unknown(alloc: Global, count: usize, args: Vec<u32>) -> Result<Vec<u32>, AllocError>
     ensures { (names : Names) (ts : Types) → SayAll names args.items ts → IfOk result (λ v. SayAll names v.items (replicate (count - length ts) RegType.Conflict ++ ts)) }
 {
-    let unknown = repeated(alloc, count.saturating_sub(args.len()), word_of(Part::Conflict))?;
+    let unknown = repeated(
+        alloc,
+        count.saturating_sub(args.len()),
+        word_of(Part::Conflict),
+    )?;
     joined(unknown, args)
 }
 

@@ -9,7 +9,7 @@ ghost use Rattle.dv_typing.specs.Transfer.{after_constructor, class_or_conflict,
 ghost use Rattle.dv_bases.specs.Bases.{Names};
 ghost use Rattle.dv_bases.specs.Words.{HasRoom, part_in};
 ghost use Rattle.law_flow.specs.Fitting.{StateFits};
-ghost use Rattle.dv_effects.specs.Made.{AreMade, IsMade, IsOwn, makes_at};
+ghost use Rattle.dv_effects.specs.Made.{HasClasses, IsMade, makes_at};
 ghost use Rattle.dv_effects.specs.Renewed.{is_among as is_among_objects, renewed as word_renewed};
 ghost use Rattle.dv_effects.specs.Said.{SayAll, Says};
 
@@ -36,7 +36,7 @@ pub fn make(regs: &mut Vec<u32>, k: u16, at: u32)
 
 /// A constructor initialises the object of a register, in each register that holds it.
 pub fn construct(own: u32, steps: &[Option<Step>], regs: &mut Vec<u32>, k: u16)
-    ensures { (names : Names) (code : Code) (s : RegState) → SayAll names regs.old.items s.regs → IsOwn names code own → AreMade names code steps.now → StateFits names.image code s → SayAll names regs.new.items (after_constructor names.image code.method s (type_at s.regs k)).regs }
+    ensures { (names : Names) (code : Code) (s : RegState) → SayAll names regs.old.items s.regs → HasClasses names code own steps.now → StateFits names.image code s → SayAll names regs.new.items (after_constructor names.image code.method s (type_at s.regs k)).regs }
 {
     match part_of(word_at(regs.as_slice(), k)) {
         Part::Uninit(at) => renew(regs, Objects::Made(at), made_word(steps, at)),

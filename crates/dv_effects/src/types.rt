@@ -54,11 +54,7 @@ pub fn object_word(
 }
 
 /// The word of the class of a name.
-pub fn named_word(
-    bases: &mut Bases<'_>,
-    alloc: Global,
-    name: &[u8],
-) -> Result<u32, AllocError>
+pub fn named_word(bases: &mut Bases<'_>, alloc: Global, name: &[u8]) -> Result<u32, AllocError>
     ensures wider { OnOk result (IsWider bases.old bases.new) }
     ensures told { IfOk result (λ word. Says bases.new word (RegType.Class (of_class name.now))) }
 {

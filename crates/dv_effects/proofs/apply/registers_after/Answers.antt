@@ -4,8 +4,8 @@ use Rattle.dv_effects.specs.Said.{SayAll}
 use Rattle.dv_effects.proofs.apply.registers_after.Goals as goal
 
 pub returns : goal.returns
-returns c = λ names code words h own made fits.
+returns c = λ names code words classes h.
     let s = state_of names c.args.words.now in
     c.apply.ensures names code s words
-    (subst (λ ws. SayAll names ws s.regs) (sym c.in_ok-regs.ensures) (record { words = h.regs; said = refl }))
-    (record { word = h.result; said = refl }) (c.in_ok-caught.ensures names h.caught) own made fits
+    (subst (λ ws. SayAll names ws s.regs) (sym c.in_ok-regs.ensures) (record { words = h.are_words.regs; said = refl }))
+    (record { word = h.are_words.result; said = refl }) (c.in_ok-caught.ensures names h.are_words.caught) classes h.fits

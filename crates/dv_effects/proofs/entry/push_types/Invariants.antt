@@ -8,5 +8,5 @@ abbrev pub invariant-loop-ty : goal.invariant-loop-ty
 invariant-loop-ty l =
     record {
       wider : IsWider l.initial.bases l.bases;
-      told : (ts : Types) → SayAll l.initial.bases l.initial.words.items ts → SayAll l.bases l.words.items (ts ++ all_types (take l.ty-index l.params))
+      told : (ts : Types) → SayAll l.initial.bases l.initial.words.items ts → SayAll l.bases l.words.items (ts ++ all_types (take l.ty-index l.params));
     }

@@ -10,26 +10,26 @@ use Rattle.dv_effects.proofs.Saying.{part_read, part_says}
 use Rattle.dv_effects.proofs.objects.construct.Goals as goal
 
 pub returns-in-Uninit : goal.returns-in-Uninit
-returns-in-Uninit c = λ names code s h own made fits.
+returns-in-Uninit c = λ names code s h classes fits.
     let all : SayAll names c.as_slice.result.now s.regs = subst (λ ws. SayAll names ws s.regs) (sym c.as_slice.ensures.value) h in
     let t = type_at s.regs c.args.k in
     let read : type_in names c.part_of.result ≡ t = part_read names c.word_at.result c.part_of.result t (c.word_at.ensures names s.regs all) c.part_of.ensures in
     let is : ty.Uninit c.in-Uninit.at ≡ t = ap (type_in names) (sym c.in-Uninit.is) ∙ read in
-    let says = c.made_word.ensures names code (made c.in-Uninit.at (begins_there names code s c.args.k c.in-Uninit.at fits is)) in
+    let says = c.made_word.ensures names code (classes.made c.in-Uninit.at (begins_there names code s c.args.k c.in-Uninit.at fits is)) in
     subst (λ ws. SayAll names ws (after_constructor names.image code.method s t).regs) (sym c.renew.ensures)
     (made_constructed names c.made_word.result code s t c.args.regs.now.items h c.in-Uninit.at is says)
 
 pub returns-in-UninitThis : goal.returns-in-UninitThis
-returns-in-UninitThis c = λ names code s h own made fits.
+returns-in-UninitThis c = λ names code s h classes fits.
     let all : SayAll names c.as_slice.result.now s.regs = subst (λ ws. SayAll names ws s.regs) (sym c.as_slice.ensures.value) h in
     let t = type_at s.regs c.args.k in
     let read : type_in names c.part_of.result ≡ t = part_read names c.word_at.result c.part_of.result t (c.word_at.ensures names s.regs all) c.part_of.ensures in
     let is : ty.UninitThis ≡ t = ap (type_in names) (sym c.in-UninitThis.is) ∙ read in
     subst (λ ws. SayAll names ws (after_constructor names.image code.method s t).regs) (sym c.renew-in-UninitThis.ensures)
-    (this_constructed names c.args.own code s t c.args.regs.now.items h is own)
+    (this_constructed names c.args.own code s t c.args.regs.now.items h is classes.own_class)
 
 pub returns-in_default : goal.returns-in_default
-returns-in_default c = λ names code s h own made fits.
+returns-in_default c = λ names code s h classes fits.
     let all : SayAll names c.as_slice.result.now s.regs = subst (λ ws. SayAll names ws s.regs) (sym c.as_slice.ensures.value) h in
     let t = type_at s.regs c.args.k in
     let read : type_in names c.part_of.result ≡ t = part_read names c.word_at.result c.part_of.result t (c.word_at.ensures names s.regs all) c.part_of.ensures in
