@@ -1,11 +1,9 @@
 -- What operations leave beside the registers.
-use Rattle.std.proofs.Common.{◌≡◌, ℕ, Bool, true, false, Option, Some, None, refl}
-use Rattle.dv_defs.specs.declared.names.Ty.{Ty}
+use Rattle.std.proofs.Common.{◌≡◌, ℕ, Bool, true, false, None, refl}
 use Rattle.dv_defs.specs.Images.{Image}
 use Rattle.dv_defs.specs.Pools.{Method, is_constructor}
 use Rattle.dv_defs.specs.Op.{Op, Filled, Invoke}
 use Rattle.dv_typing.specs.declared.typing.RegType.{RegType}
-use Rattle.dv_typing.specs.declared.typing.RegType.TheVariants as ty
 use Rattle.dv_typing.specs.declared.typing.PendingType.{PendingType}
 use Rattle.dv_typing.specs.declared.typing.RegState.{RegState}
 use Rattle.dv_typing.specs.RegTypes.{type_at}

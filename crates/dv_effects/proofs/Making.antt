@@ -1,18 +1,16 @@
 -- Steps tell what is made, and what a method's steps and words are stays when there are more names.
-use Rattle.std.proofs.Common.{◌≡◌, ◌≤◌, ◌+◌, ℕ, List, ◌++◌, length, Option, Some, None, refl, sym, ap, ◌∙◌, subst, arith, length-append}
-use Rattle.std.specs.Prelude.{IfSome, map, option_map, slice_get}
-use Rattle.dv_defs.specs.declared.names.Ty.{Ty}
+use Rattle.std.proofs.Common.{◌≡◌, ◌≤◌, ◌+◌, ℕ, List, length, Option, Some, None, refl, sym, ap, ◌∙◌, subst, arith, length-append}
+use Rattle.std.specs.Prelude.{IfSome, map, option_map}
 use Rattle.dv_defs.specs.Images.{Image}
 use Rattle.dv_defs.specs.Op.{Code}
 use Rattle.dv_defs.specs.Pools.{own_type}
 use Rattle.dv_typing.specs.declared.typing.RegType.{RegType}
 use Rattle.dv_typing.specs.declared.typing.RegType.TheVariants as ty
-use Rattle.dv_typing.specs.declared.typing.RegState.{RegState}
 use Rattle.dv_typing.specs.Statics.{At, fetch}
 use Rattle.dv_typing.specs.Demands.{made_at, made_by}
 use Rattle.dv_bases.specs.declared.words.Reference.{Reference}
 use Rattle.dv_bases.specs.declared.states.Words.{Words}
-use Rattle.dv_bases.specs.Bases.{Names, base_count, word_type, IsNumbered, IsWord, IsWider, type_of}
+use Rattle.dv_bases.specs.Bases.{Names, base_count, word_type, IsNumbered, IsWord, IsWider}
 use Rattle.dv_bases.specs.States.{AreWords, caught_of, state_of}
 use Rattle.dv_bases.proofs.Wider.{type_wider}
 use Rattle.dv_effects.specs.declared.effects.Step.{Step}

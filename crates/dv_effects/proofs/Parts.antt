@@ -1,5 +1,5 @@
 -- What words of each kind say, and that a class has a number that a word has room for.
-use Rattle.std.proofs.Common.{◌≡◌, ◌<◌, ◌^◌, ◌/◌, ◌%◌, ℕ, Bool, true, false, refl, ap, ◌∙◌, subst, arith}
+use Rattle.std.proofs.Common.{◌≡◌, ◌<◌, ◌^◌, ◌/◌, ◌%◌, ℕ, Bool, true, false, refl, subst, arith}
 use Rattle.std.specs.Prelude.{nat_eq}
 use Rattle.dv_typing.specs.Demands.{is_lo, is_hi}
 use Rattle.dv_typing.specs.declared.typing.RegType.TheVariants as ty
@@ -11,7 +11,7 @@ use Rattle.dv_bases.specs.States.{pending_of}
 use Rattle.dv_bases.specs.declared.words.Reference.{Reference}
 use Rattle.dv_bases.specs.declared.words.Part.{Part}
 use Rattle.dv_bases.specs.declared.words.Part.TheVariants as part
-use Rattle.dv_bases.specs.Words.{held, part_in}
+use Rattle.dv_bases.specs.Words.{part_in}
 use Rattle.dv_bases.specs.Bases.{Names, type_in}
 use Rattle.dv_effects.specs.Effects.{this_with}
 

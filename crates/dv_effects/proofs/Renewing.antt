@@ -1,9 +1,8 @@
 -- What becomes of objects that aren't initialised, as words and as types.
 use Rattle.std.proofs.Common.{◌≡◌, ◌<◌, ℕ, zero, suc, ◌+◌, Bool, true, false, List, [], ◌∷◌, ◌++◌, length, take, drop, get_or, set, refl, sym, ap, ◌∙◌, subst, arith}
 use Rattle.std.specs.Prelude.{map, nat_eq}
-use Rattle.dv_defs.specs.Images.{Image}
 use Rattle.dv_defs.specs.Op.{Code}
-use Rattle.dv_defs.specs.Pools.{Method, own_type}
+use Rattle.dv_defs.specs.Pools.{own_type}
 use Rattle.dv_defs.specs.Tiling.{begins_insn}
 use Rattle.dv_typing.specs.declared.typing.RegType.{RegType}
 use Rattle.dv_typing.specs.declared.typing.RegType.TheVariants as ty
@@ -16,12 +15,12 @@ use Rattle.law_flow.proofs.Written.{fits_at}
 use Rattle.dv_bases.specs.declared.words.Part.{Part}
 use Rattle.dv_bases.specs.declared.words.Part.TheVariants as part
 use Rattle.dv_bases.specs.Words.{part_in}
-use Rattle.dv_bases.specs.Bases.{Names, type_in, IsPart}
+use Rattle.dv_bases.specs.Bases.{Names, type_in}
 use Rattle.dv_effects.specs.declared.objects.Objects.{Objects}
 use Rattle.dv_effects.specs.declared.objects.Objects.TheVariants as objects
 use Rattle.dv_effects.specs.Renewed.{is_among, renewed}
 use Rattle.dv_effects.specs.Said.{Says, SayAll}
-use Rattle.dv_effects.proofs.Saying.{part_says, says_each}
+use Rattle.dv_effects.proofs.Saying.{says_each}
 
 -- one more of a list's elements is replaced
 one_replaced : (f : ℕ → ℕ) (xs : List ℕ) (i d : ℕ) → i < length xs →

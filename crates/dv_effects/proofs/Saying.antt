@@ -1,12 +1,11 @@
 -- Words that say types: one, a list's, and what writes leave.
 use Rattle.std.proofs.Common.{◌≡◌, ◌<◌, ◌≤◌, ℕ, zero, suc, List, [], ◌∷◌, ◌++◌, length, get_or, set, refl, sym, ap, ◌∙◌, subst, arith, rules}
 use Rattle.std.specs.Prelude.{map, replicate, All}
-use Rattle.std.proofs.lemmas.List.{map-set, map-append, set_past, get_or_past, get_or-map, length-map}
+use Rattle.std.proofs.lemmas.List.{map-set, map-append, get_or_past, get_or-map, length-map}
 use Rattle.std.proofs.lemmas.List.Elements.{All-set, All-append, All-get_or, All-cons, All-head, All-tail}
 use Rattle.dv_typing.specs.declared.typing.RegType.{RegType}
 use Rattle.dv_typing.specs.declared.typing.RegType.TheVariants as ty
 use Rattle.dv_typing.specs.declared.typing.PendingType.{PendingType}
-use Rattle.dv_typing.specs.declared.typing.PendingType.TheVariants as pend
 use Rattle.dv_typing.specs.RegTypes.{Types, type_at}
 use Rattle.dv_bases.specs.declared.words.Part.{Part}
 use Rattle.dv_bases.specs.declared.words.Part.TheVariants as part

@@ -1,5 +1,5 @@
 -- What an effect does to a state, and which step an instruction is.
-use Rattle.std.specs.Prelude.{◌≡◌, ◌<◌, ◌^◌, ℕ, Bool, true, false, List, Option, IfSome, map, option_map}
+use Rattle.std.specs.Prelude.{◌≡◌, ◌<◌, ◌^◌, ℕ, Bool, true, false, List, IfSome, map, option_map}
 use Rattle.dv_defs.specs.Images.{Image}
 use Rattle.dv_defs.specs.Pools.{Method, class_type, is_constructor}
 use Rattle.dv_defs.specs.Op.{Op, Code, Filled, Invoke}

@@ -1,17 +1,16 @@
 // Steps applied to states as words.
-ghost use Rattle.std.specs.Prelude.{◌≡◌, ◌<◌, ℕ, Some, IfOk};
+ghost use Rattle.std.specs.Prelude.{◌≡◌, ℕ, Some, IfOk};
 ghost use Rattle.dv_defs.specs.Op.{Code, Op};
 ghost use Rattle.dv_typing.specs.declared.typing.RegState.{RegState};
-ghost use Rattle.dv_typing.specs.declared.typing.RegType.{RegType};
 ghost use Rattle.dv_typing.specs.RegTypes.{Types, type_at};
 ghost use Rattle.dv_typing.specs.Flow.{caught_state};
-ghost use Rattle.dv_typing.specs.Transfer.{caught_type, copied_int as int_copied, copied_object as object_copied, object_element, out, write_type};
+ghost use Rattle.dv_typing.specs.Transfer.{copied_int as int_copied, copied_object as object_copied, object_element, out, write_type};
 ghost use Rattle.dv_bases.specs.Bases.{IsNumbered, Names, type_of};
 ghost use Rattle.dv_bases.specs.States.{AreWords, state_of};
 ghost use Rattle.law_flow.specs.Fitting.{StateFits};
 ghost use Rattle.dv_effects.specs.Effects.{HasRoomFor, HasWords, IsStep, registers_after as registers_left, this_after as this_left};
 ghost use Rattle.dv_effects.specs.Made.{AreFit, HasClasses};
-ghost use Rattle.dv_effects.specs.Said.{SayAll, Says, SaysPending};
+ghost use Rattle.dv_effects.specs.Said.{SayAll, SayState};
 
 use crate::effects::{Effect, Step};
 use crate::objects::{construct, make};
@@ -89,7 +88,7 @@ fn apply(
     regs: &mut Vec<u32>,
 )
     requires { HasRoomFor effect }
-    ensures { (names : Names) (code : Code) (s : RegState) → HasWords names effect → SayAll names regs.old.items s.regs → SaysPending names pending s.result → Says names caught (caught_type s.caught) → HasClasses names code own steps.now → StateFits names.image code s → SayAll names regs.new.items (registers_left names code.method effect s) }
+    ensures { (names : Names) (code : Code) (s : RegState) → HasWords names effect → SayState names regs.old.items pending caught s → HasClasses names code own steps.now → StateFits names.image code s → SayAll names regs.new.items (registers_left names code.method effect s) }
 {
     match effect {
         Effect::Nothing => {}

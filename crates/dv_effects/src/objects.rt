@@ -7,7 +7,7 @@ ghost use Rattle.dv_typing.specs.RegTypes.{Types, type_at};
 ghost use Rattle.dv_typing.specs.Demands.{made_at};
 ghost use Rattle.dv_typing.specs.Transfer.{after_constructor, class_or_conflict, replaced, write_type};
 ghost use Rattle.dv_bases.specs.Bases.{Names};
-ghost use Rattle.dv_bases.specs.Words.{HasRoom, part_in};
+ghost use Rattle.dv_bases.specs.Words.{HasRoom};
 ghost use Rattle.law_flow.specs.Fitting.{StateFits};
 ghost use Rattle.dv_effects.specs.Made.{HasClasses, IsMade, makes_at};
 ghost use Rattle.dv_effects.specs.Renewed.{is_among as is_among_objects, renewed as word_renewed};

@@ -10,9 +10,9 @@ ghost use Rattle.dv_typing.specs.Transfer.{after_get, const_type, out, write_for
 ghost use Rattle.dv_defs.specs.Types.{of_class};
 ghost use Rattle.dv_bases.specs.Bases.{IsWider, IsWord, Names, word_type};
 ghost use Rattle.dv_units.specs.Tables.{standard_suffix};
-ghost use Rattle.dv_ops.specs.Meaning.{code_of, meant};
+ghost use Rattle.dv_ops.specs.Meaning.{meant};
 ghost use Rattle.dv_effects.specs.Effects.{HasWords, IsStep, object_type, pending_left, registers_after, this_after};
-ghost use Rattle.dv_effects.specs.Said.{Says, SaysPending};
+ghost use Rattle.dv_effects.specs.Said.{SaysPending};
 
 use crate::calls::{effect_of_call, pending_array, pending_of_call};
 use crate::effects::{Effect, Step};

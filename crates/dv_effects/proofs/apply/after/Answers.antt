@@ -1,5 +1,4 @@
-use Rattle.std.proofs.Common.{◌≡◌, ◌∙◌}
-use Rattle.dv_typing.specs.Transfer.{out}
+use Rattle.std.proofs.Common.{◌∙◌}
 use Rattle.dv_bases.specs.States.{state_of}
 use Rattle.dv_effects.proofs.Leaving.{none_caught}
 use Rattle.dv_effects.proofs.apply.after.Goals as goal

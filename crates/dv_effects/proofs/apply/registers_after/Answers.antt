@@ -7,5 +7,9 @@ pub returns : goal.returns
 returns c = λ names code words classes h.
     let s = state_of names c.args.words.now in
     c.apply.ensures names code s words
-    (subst (λ ws. SayAll names ws s.regs) (sym c.in_ok-regs.ensures) (record { words = h.are_words.regs; said = refl }))
-    (record { word = h.are_words.result; said = refl }) (c.in_ok-caught.ensures names h.are_words.caught) classes h.fits
+    (record {
+      registers = subst (λ ws. SayAll names ws s.regs) (sym c.in_ok-regs.ensures) (record { words = h.are_words.regs; said = refl });
+      result = record { word = h.are_words.result; said = refl };
+      handled = c.in_ok-caught.ensures names h.are_words.caught;
+    })
+    classes h.fits

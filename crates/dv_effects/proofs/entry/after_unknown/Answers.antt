@@ -1,8 +1,6 @@
-use Rattle.std.proofs.Common.{◌≡◌, ◌-◌, ◌++◌, length, replicate, arith, subst, sym, ap, ◌∙◌}
+use Rattle.std.proofs.Common.{◌≡◌, ◌-◌, ◌++◌, length, replicate, arith, subst, sym}
 use Rattle.std.proofs.lemmas.Result.{IfOk-weaker}
-use Rattle.dv_typing.specs.declared.typing.RegType.{RegType}
 use Rattle.dv_typing.specs.declared.typing.RegType.TheVariants as ty
-use Rattle.dv_typing.specs.RegTypes.{Types}
 use Rattle.dv_bases.specs.declared.words.Part.TheVariants as part
 use Rattle.dv_effects.specs.Said.{SayAll}
 use Rattle.dv_effects.proofs.Saying.{part_says, same_length, says_append, says_repeated}

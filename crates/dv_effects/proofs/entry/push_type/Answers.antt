@@ -1,4 +1,4 @@
-use Rattle.std.proofs.Common.{◌≡◌, [], ◌∷◌, ◌++◌, false, OnOk, subst, sym, ◌∙◌}
+use Rattle.std.proofs.Common.{◌≡◌, ◌++◌, false, OnOk, subst, sym, ◌∙◌}
 use Rattle.dv_defs.specs.Types.{is_long}
 use Rattle.dv_typing.specs.RegTypes.{single_type}
 use Rattle.dv_effects.specs.Said.{SayAll}

@@ -4,7 +4,7 @@ use Rattle.dv_typing.specs.RegTypes.{type_at}
 use Rattle.dv_typing.specs.Transfer.{after_constructor}
 use Rattle.dv_bases.specs.declared.words.Part.TheVariants as part
 use Rattle.dv_bases.specs.Bases.{type_in}
-use Rattle.dv_effects.specs.Said.{SayAll, Says}
+use Rattle.dv_effects.specs.Said.{SayAll}
 use Rattle.dv_effects.proofs.Renewing.{begins_there, made_constructed, other_constructed, this_constructed}
 use Rattle.dv_effects.proofs.Saying.{part_read, part_says}
 use Rattle.dv_effects.proofs.objects.construct.Goals as goal

@@ -1,4 +1,4 @@
-use Rattle.std.proofs.Common.{◌∙◌, set, subst, sym}
+use Rattle.std.proofs.Common.{◌∙◌, subst, sym}
 use Rattle.dv_typing.specs.declared.typing.RegType.TheVariants as ty
 use Rattle.dv_bases.specs.declared.words.Part.TheVariants as part
 use Rattle.dv_effects.specs.Said.{SayAll}

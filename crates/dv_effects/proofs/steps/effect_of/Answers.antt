@@ -1,4 +1,3 @@
-use Rattle.std.proofs.Common.{subst, sym}
 use Rattle.dv_effects.proofs.steps.effect_of.Goals as goal
 
 pub returns-in-Const-clause-words : goal.returns-in-Const-clause-words

@@ -1,4 +1,4 @@
-use Rattle.std.proofs.Common.{refl, ap, sym, ◌∙◌, subst}
+use Rattle.std.proofs.Common.{ap, sym, ◌∙◌, subst}
 use Rattle.dv_typing.specs.declared.typing.RegType.TheVariants as ty
 use Rattle.dv_typing.specs.Transfer.{after_result_long}
 use Rattle.dv_bases.specs.declared.words.Part.TheVariants as part
