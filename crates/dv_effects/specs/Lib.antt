@@ -1,0 +1,4 @@
+pub mod Said
+pub mod Effects
+pub mod Made
+pub mod Renewed
