@@ -1,17 +1,16 @@
 -- Hops one after another, by names that get more.
-use Rattle.std.proofs.Common.{◌≡◌, ◌≢◌, ℕ, zero, suc, ◌+◌, ◌<◌, true, List, [], ◌∷◌, ◌++◌, length, map, take, Option, Some, None, All, refl, ap, sym, ◌∙◌, subst, arith, ◌⊎◌, inl, inr}
+use Rattle.std.proofs.Common.{◌≡◌, ℕ, ◌+◌, ◌<◌, true, List, [], ◌∷◌, ◌++◌, length, map, take, Some, All, refl, ap, sym, ◌∙◌, subst, arith, inl, inr}
 use Rattle.std.specs.Prelude.{slice_get, slice_index_or}
 use Rattle.std.proofs.lemmas.Bool.{cases_eq}
 use Rattle.std.proofs.lemmas.List.{get_or_push, get_or_append_left, length_push, map_push, take_more}
-
 use Rattle.std.proofs.lemmas.List.Elements.{All-nil, All-cons, All-head, All-tail, All-weaker, All-push}
 use Rattle.std.proofs.lemmas.Option.{same_Some}
 use Rattle.dv_defs.specs.declared.code.Body.{Body}
 use Rattle.dv_defs.specs.declared.code.Try.{Try}
-use Rattle.dv_typing.specs.Flow.{Catcher, catchers, caught_as}
+use Rattle.dv_typing.specs.Flow.{Catcher, catchers}
 use Rattle.dv_rules.specs.declared.flow.Edge.{Edge}
 use Rattle.dv_rules.specs.Edges.{handler_edge}
-use Rattle.dv_bases.specs.Bases.{Names, type_of, IsNumbered, IsWider}
+use Rattle.dv_bases.specs.Bases.{Names, IsNumbered, IsWider}
 use Rattle.dv_bases.proofs.Wider.{type_wider, numbered_wider}
 use Rattle.dv_plan.specs.declared.hops.Hop.{Hop}
 use Rattle.dv_plan.specs.Hops.{hop_edge, has_handler, LeadTo, AreHops}
@@ -76,3 +75,7 @@ list_more old new w body n hops hs entry a at l =
                 (leads_wider old new w (slice_index_or hops k []) (map handler_edge (catchers body other.handlers)) (a.each k other less e))
           ];
     }
+
+pub hops_wider : (old new : Names) → IsWider old new → (body : Body) (n : ℕ) (hops : List (List Hop)) → AreHops old body n hops → AreHops new body n hops
+hops_wider old new w body n hops a =
+    record { count = a.count; each = λ k entry h e. leads_wider old new w (slice_index_or hops k []) (map handler_edge (catchers body entry.handlers)) (a.each k entry h e) }

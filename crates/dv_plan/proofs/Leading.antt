@@ -1,23 +1,22 @@
 -- The ways on from an instruction are the edges from it.
-use Rattle.std.proofs.Common.{◌≡◌, ℕ, zero, suc, ◌+◌, ◌<◌, ◌≤◌, Bool, cond, ◌⊎◌, inl, inr, true, false, List, [], ◌∷◌, ◌++◌, length, map, Option, Some, None, refl, ap, sym, ◌∙◌, subst, arith}
-use Rattle.std.specs.Prelude.{slice_get, slice_index_or, position, nat_lt}
+use Rattle.std.proofs.Common.{◌≡◌, ℕ, suc, ◌+◌, Bool, cond, inl, inr, true, false, List, [], ◌∷◌, ◌++◌, length, map, Option, Some, None, refl, ap, sym, ◌∙◌, arith}
+use Rattle.std.specs.Prelude.{slice_get, position, nat_lt}
 use Rattle.std.specs.List.{position_or_len}
 use Rattle.std.proofs.lemmas.Option.{slice_get_cases}
 use Rattle.dv_defs.specs.declared.code.Body.{Body}
 use Rattle.dv_defs.specs.declared.code.Try.{Try}
 use Rattle.dv_defs.specs.Images.{Image}
 use Rattle.dv_defs.specs.Op.{Code, code_at, can_throw}
-use Rattle.dv_typing.specs.Statics.{At, fetch}
+use Rattle.dv_typing.specs.Statics.{At}
 use Rattle.dv_typing.specs.Flow.{Catcher, catchers, handlers_of, handlers_in, handlers_at, thrown_at}
 use Rattle.law_flow.specs.Clean.{IsClean}
 use Rattle.dv_rules.specs.declared.flow.Edge.{Edge}
 use Rattle.dv_rules.specs.Edges.{handler_edge, edges_of}
-use Rattle.dv_rules.specs.EdgeParts.{target_edges, edges_thrown}
 use Rattle.dv_rules.proofs.EdgeLists.{thrown_pass}
 use Rattle.dv_bases.specs.Bases.{Names}
 use Rattle.dv_plan.specs.declared.hops.Hop.{Hop}
 use Rattle.dv_plan.specs.declared.ways.Ways.{Ways}
-use Rattle.dv_plan.specs.Hops.{hop_edge, LeadTo, AreHops}
+use Rattle.dv_plan.specs.Hops.{hop_edge, AreHops}
 use Rattle.dv_plan.specs.Ways.{covers, IsWays}
 use Rattle.dv_plan.specs.Plans.{hops_at, edges_by}
 

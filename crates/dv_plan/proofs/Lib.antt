@@ -1,4 +1,6 @@
 mod Going
 mod Hopping
-mod Leading
+pub mod Leading
+mod Planning
+pub mod Stepping
 mod Walking

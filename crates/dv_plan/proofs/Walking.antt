@@ -1,12 +1,11 @@
 -- A walk over the items of a body, for all addresses that are still to come.
-use Rattle.std.proofs.Common.{◌≡◌, ℕ, ◌+◌, ◌<◌, ◌≤◌, ◌≢◌, nat_eq, Bool, true, false, List, [], ◌∷◌, ◌++◌, length, drop, Option, Some, None, Ok, refl, ap, sym, ◌∙◌, subst, arith, ◌⊎◌, inl, inr, is_some, length-drop, rules}
+use Rattle.std.proofs.Common.{◌≡◌, ℕ, ◌+◌, ◌<◌, ◌≤◌, ◌≢◌, nat_eq, Bool, true, false, List, [], ◌∷◌, ◌++◌, length, drop, Option, Some, None, Ok, refl, ap, sym, ◌∙◌, subst, arith, ◌⊎◌, inl, inr, is_some}
 use Rattle.std.specs.Prelude.{option_map, slice_index_or}
 use Rattle.std.proofs.lemmas.Bool.{cases_eq, eqb-true}
-use Rattle.std.proofs.lemmas.List.{get_or_push, get_or_append_left, length_push}
+use Rattle.std.proofs.lemmas.List.{get_or_push, get_or_append_left}
 use Rattle.dv_defs.specs.Spelling.{all_fit}
 use Rattle.dv_defs.specs.Tiling.{Piece, Tile, piece_here, tiling, tiles_in, tile_at, begins_insn, begins_item}
 use Rattle.dv_units.proofs.PiecesHere.{tile, fits_there}
-use Rattle.dv_ops.specs.Places.{IsEdge}
 use Rattle.dv_ops.proofs.Tiles.{AreFrom, step, end, met_first}
 use Rattle.dv_ops.proofs.Passing.{IsWalk, at_start, passed_by}
 use Rattle.dv_plan.specs.Beginnings.{Begin, behind_item, passed_to}

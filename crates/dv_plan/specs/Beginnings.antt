@@ -1,5 +1,5 @@
 -- Where instructions begin.
-use Rattle.std.specs.Prelude.{◌≡◌, ◌<◌, ◌+◌, ℕ, Bool, true, false, nat_eq, List, length, drop, Option, Some, None, slice_index_or}
+use Rattle.std.specs.Prelude.{◌≡◌, ◌<◌, ◌+◌, ℕ, Bool, true, false, nat_eq, List, length, drop, Some, None, slice_index_or}
 use Rattle.dv_defs.specs.Tiling.{Tile, begins_insn, piece_here}
 
 -- the flags say of each address below some whether an instruction begins there

@@ -44,7 +44,11 @@ fn passed(units: &[u16], here: usize, at: usize) -> usize
     ensures next { result ≡ passed_to units.now here at }
     ensures inside { result ≤ length units.now }
 {
-    if at == here { behind(units, here) } else { here }
+    if at == here {
+        behind(units, here)
+    } else {
+        here
+    }
 }
 
 /// The address behind the item at an address; where none begins, that behind all units.

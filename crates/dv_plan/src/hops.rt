@@ -48,11 +48,7 @@ fn hops_from(
 }
 
 /// Edges to handlers as hops.
-fn hops_along(
-    alloc: Global,
-    bases: &mut Bases<'_>,
-    edges: &[Edge],
-) -> Result<Vec<Hop>, AllocError>
+fn hops_along(alloc: Global, bases: &mut Bases<'_>, edges: &[Edge]) -> Result<Vec<Hop>, AllocError>
     requires { All (λ e. has_handler e ≡ true) edges.now }
     ensures wider { OnOk result (IsWider bases.old bases.new) }
     ensures hops { IfOk result (λ v. LeadTo bases.new v.items edges.now) }

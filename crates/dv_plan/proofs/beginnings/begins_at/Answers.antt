@@ -1,7 +1,6 @@
 use Rattle.std.proofs.Common.{◌≡◌, ◌<◌, ℕ, false, nat_eq, length, inl, inr, ap, sym, ◌∙◌, subst, arith}
 use Rattle.dv_units.proofs.Decoding.{units_fit}
 use Rattle.dv_ops.specs.Meaning.{code_of}
-use Rattle.dv_ops.specs.Places.{IsBoundary}
 use Rattle.dv_ops.proofs.Passing.{IsWalk, passed_over}
 use Rattle.dv_plan.proofs.Walking.{is_edge}
 use Rattle.dv_plan.proofs.beginnings.begins_at.Goals as goal
