@@ -77,6 +77,7 @@ kept_along names code at s after x hops w f a e =
     let plain : List Edge = map plain_edge w.targets in
     let thrown : List Edge = map (hop_edge names) (hops_at hops w.covering) in
     let apart : map (onward_kept names) (map (gone_along s after) (plain ++ thrown)) ≡ map (onward_kept names) (map (gone_along s after) plain) ++ map (onward_kept names) (map (gone_along s after) thrown) =
-        ap (map (onward_kept names)) (map-append (gone_along s after) plain thrown) ∙ map-append (onward_kept names) (map (gone_along s after) plain) (map (gone_along s after) thrown) in
-    let both = λ i. kept_targets names s after w.targets i ++ kept_handlers names s after (hops_at hops w.covering) i in
+    ap (map (onward_kept names)) (map-append (gone_along s after) plain thrown) ∙ map-append (onward_kept names) (map (gone_along s after) plain) (map (gone_along s after) thrown) in
+    let both : map (onward_kept names) (map (gone_along s after) plain) ++ map (onward_kept names) (map (gone_along s after) thrown) ≡ map (to_target names after) w.targets ++ map (to_handler names s) (hops_at hops w.covering) =
+    λ i. kept_targets names s after w.targets i ++ kept_handlers names s after (hops_at hops w.covering) i in
     sym (apart ∙ both) ∙ ap (map (onward_kept names)) (along_from names.image code at s after x (edges_by names hops w) (map (gone_along s after) (edges_by names hops w)) f a e refl)

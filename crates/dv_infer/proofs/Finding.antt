@@ -1,5 +1,6 @@
 -- What the least assignment of a body says of it.
-use Rattle.std.proofs.Common.{◌≡◌, ◌≢◌, ℕ, List, [], length, Option, Some, sym, ◌∙◌, subst, length-map}
+use Rattle.std.proofs.Common.{◌≡◌, ◌≢◌, ℕ, List, [], length, Option, Some, sym, ◌∙◌, subst}
+use Rattle.std.proofs.lemmas.List.{length-map}
 use Rattle.std.specs.Prelude.{option_map}
 use Rattle.dv_defs.specs.declared.faults.Fault.{Fault}
 use Rattle.dv_typing.specs.declared.typing.RegState.{RegState}
@@ -59,7 +60,7 @@ module _ (names : Names) (code : Code) (ready : IsReady names.image code) (m : N
         (subst (λ (o : NamedCode). worklist.IsLeast (flow_beside o.names (flow_of o.names.image o.code)) (assigned xs)) e l)
 
 pub alone_count : (xs : List (Option (Kept RegState Names))) → length (alone xs) ≡ length xs
-alone_count xs = length-map (option_map (λ a. a.state)) xs
+alone_count xs = length-map xs (option_map (λ (a : Kept RegState Names). a.state))
 
 -- ---- what is found
 

@@ -1,5 +1,6 @@
 pub mod Carrying
 pub mod Faulting
 pub mod Finding
+pub mod Planned
 pub mod Receiving
 pub mod Telling

@@ -156,11 +156,8 @@ fn least_by(
 }
 
 /// The states that rows say. Each row is dropped when its state is made.
-fn states_of(
-    alloc: Global,
-    rows: Vec<Option<Row<'_>>>,
-) -> Result<Vec<Option<RegState>>, AllocError>
-    ensures { IfOk result (λ v. v.items ≡ alone rows.items) }
+fn states_of(alloc: Global, rows: Vec<Option<Row<'_>>>) -> Result<Vec<Option<RegState>>, AllocError>
+    ensures { IfOk result (λ v. v.items ≡ alone rows.entry.items) }
 {
     let mut states = Vec::with_capacity(alloc, rows.len())?;
     for row in rows {
@@ -171,7 +168,7 @@ fn states_of(
 
 /// The state that a row says, where there is one.
 fn state_of(alloc: Global, row: Option<Row<'_>>) -> Result<Option<RegState>, AllocError>
-    ensures { IfOk result (λ s. s ≡ option_map (λ r. r.state) row) }
+    ensures { IfOk result (λ s. s ≡ option_map (λ r. r.state) row.entry) }
 {
     match row {
         Some(row) => Ok(Some(row.state(alloc)?)),

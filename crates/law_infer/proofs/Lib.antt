@@ -1,7 +1,7 @@
 -- The laws that tie the worklist's least assignment to typings.
 mod Each
 mod Rises
-mod Tiles
+pub mod Tiles
 mod Ordered
 mod Onwards
 pub mod Lawful

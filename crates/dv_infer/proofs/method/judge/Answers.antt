@@ -5,17 +5,13 @@ use Rattle.law_infer.specs.Flowing.{fits_at}
 use Rattle.law_infer.specs.Laws.{faults_from}
 use Rattle.dv_ops.specs.Meaning.{code_of}
 use Rattle.dv_infer.specs.Judged.{IsJudged, AreJudged}
-use Rattle.dv_infer.proofs.Finding.{is_lawful, fits, is_judged, are_judged}
+use Rattle.dv_infer.proofs.Finding.{is_judged, are_judged}
 use Rattle.dv_infer.proofs.Telling.{none_of}
 use Rattle.dv_infer.proofs.method.judge.Goals as goal
 
-pub least-requires-clause-lawful : goal.least-requires-clause-lawful
-least-requires-clause-lawful c = is_lawful c.args.image.now (code_of c.args.code.now) c.requires.ready c.new-flow.result c.new-flow.ensures
-
 pub typing_faults-requires-clause-fit : goal.typing_faults-requires-clause-fit
 typing_faults-requires-clause-fit c =
-    fits c.args.image.now (code_of c.args.code.now) c.requires.ready c.new-flow.result c.new-flow.ensures c.deref.result.now
-    (subst (λ xs. AllFit (fits_at c.new-flow.result.image c.new-flow.result.code) (assigned xs)) (sym c.deref.ensures.value) c.in_ok-states.ensures.fits)
+    subst (λ xs. AllFit (fits_at c.args.image.now (code_of c.args.code.now)) (assigned xs)) (sym c.deref.ensures.value) c.in_ok-states.ensures.fit
 
 pub returns-then-is_empty-clause-typing : goal.returns-then-is_empty-clause-typing
 returns-then-is_empty-clause-typing c =
@@ -23,8 +19,8 @@ returns-then-is_empty-clause-typing c =
     let told = c.in_ok-faults.ensures ∙ ap (λ xs. faults_from c.args.image.now code (assigned xs) 0 (length code.body.units)) c.deref.ensures.value in
     let none : c.in_ok-faults.faults.items ≡ [] = none_of c.in_ok-faults.faults.items (let e = eqb-true (vec_len c.in_ok-faults.faults) 0 (sym c.is_empty.ensures ∙ c.if-is_empty.true) in omega (arith, c.in_ok-faults.faults.ok.0, e)) in
     subst (λ xs. IsJudged c.args.image.now code (record { states = xs })) (sym c.of.ensures)
-    (is_judged c.args.image.now code c.requires.ready c.new-flow.result c.new-flow.ensures c.in_ok-states.states.items
-    c.in_ok-states.ensures.fits c.in_ok-states.ensures.least c.in_ok-faults.faults.items told none)
+    (is_judged c.args.image.now code c.requires.ready c.in_ok-states.states.items
+    c.in_ok-states.ensures.fit c.in_ok-states.ensures.least c.in_ok-faults.faults.items told none)
 
 pub returns-else-is_empty-clause-faults : goal.returns-else-is_empty-clause-faults
 returns-else-is_empty-clause-faults c =
@@ -32,5 +28,5 @@ returns-else-is_empty-clause-faults c =
     let told = c.in_ok-faults.ensures ∙ ap (λ xs. faults_from c.args.image.now code (assigned xs) 0 (length code.body.units)) c.deref.ensures.value in
     let some : c.in_ok-faults.faults.items ≢ [] = search rules in
     subst (AreJudged c.args.image.now code) (sym c.of-else-is_empty.ensures)
-    (are_judged c.args.image.now code c.requires.ready c.new-flow.result c.new-flow.ensures c.in_ok-states.states.items
-    c.in_ok-states.ensures.fits c.in_ok-states.ensures.least c.in_ok-faults.faults.items told some)
+    (are_judged c.args.image.now code c.requires.ready c.in_ok-states.states.items
+    c.in_ok-states.ensures.fit c.in_ok-states.ensures.least c.in_ok-faults.faults.items told some)

@@ -10,4 +10,4 @@ judge-requires c =
     let code = code_of c.unwrap-code.result in
     let has : code_at c.args.image.now c.args.method.0 ≡ Some code = sym c.coded_at.ensures ∙ ap (option_map code_of) c.unwrap-code.ensures in
     let linked : IsImage c.args.image.now = subst IsImage c.image.view_is c.image.invariant.0 in
-    record { ready = is_ready c.args.image.now c.args.method.0 code linked has (c.requires.unbroken code has) }
+    record { table = c.requires.table; ready = is_ready c.args.image.now c.args.method.0 code linked has (c.requires.unbroken code has) }

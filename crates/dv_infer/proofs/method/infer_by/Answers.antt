@@ -2,7 +2,7 @@ use Rattle.std.proofs.Common.{◌≡◌, ◌≢◌, [], length, sym, ◌∙◌, 
 use Rattle.std.proofs.lemmas.Bool.{eqb-true}
 use Rattle.dv_typing.specs.Accepting.{AreFaults, static_places}
 use Rattle.dv_infer.proofs.Telling.{none_broken, are_broken, typing_told, faultless_told, least_told, faults_told, refused_told}
-use Rattle.dv_infer.proofs.method.infer.Goals as goal
+use Rattle.dv_infer.proofs.method.infer_by.Goals as goal
 
 pub returns-then-is_empty-clause-typing : goal.returns-then-is_empty-clause-typing
 returns-then-is_empty-clause-typing c code has =
