@@ -1,7 +1,7 @@
 -- The handlers of an instruction are those of the try entry that covers it.
-use Rattle.std.specs.Prelude.{slice_get, position, nat_lt, All}
+use Rattle.std.specs.Prelude.{slice_get, position, nat_lt, filter, All}
 use Rattle.std.specs.List.{position_or_len}
-use Rattle.std.proofs.Common.{◌≡◌, inl, inr, ℕ, suc, ◌+◌, ◌<◌, List, [], ◌∷◌, ◌++◌, length, Bool, cond, true, false, Option, Some, None, refl, ap, sym, ◌∙◌, subst, arith}
+use Rattle.std.proofs.Common.{◌≡◌, ◌⊎◌, inl, inr, ℕ, suc, ◌+◌, ◌<◌, ◌≤◌, List, [], ◌∷◌, ◌++◌, length, Bool, cond, true, false, Option, Some, None, refl, ap, sym, ◌∙◌, subst, arith}
 use Rattle.std.proofs.lemmas.Bool.{ltb-true}
 use Rattle.std.proofs.lemmas.Option.{slice_get_cases, cond_some}
 use Rattle.dv_worklist.specs.declared.flows.Onward.{Onward}
@@ -10,11 +10,14 @@ use Rattle.dv_defs.specs.declared.code.Body.{Body}
 use Rattle.dv_defs.specs.declared.code.Try.{Try}
 use Rattle.dv_defs.specs.Images.{Image}
 use Rattle.dv_defs.specs.Op.{Code, code_at, can_throw}
-use Rattle.dv_typing.specs.Statics.{At}
+use Rattle.dv_defs.specs.Tiling.{begins_insn}
+use Rattle.dv_typing.specs.Statics.{At, fetch}
 use Rattle.dv_typing.specs.Transfer.{out}
-use Rattle.dv_typing.specs.Flow.{Catcher, catchers, targets, handlers_of, handlers_in, handlers_at, thrown_at}
-use Rattle.law_infer.specs.Flowing.{goes_to, goes_to_handlers, onward_of}
-use Rattle.law_gather.specs.Gathered.{covers, covering_entry, catchers_of}
+use Rattle.dv_typing.specs.Flow.{Catcher, catchers, targets, handlers_of, handlers_in, handlers_at, thrown_at, caught_state}
+use Rattle.law_flow.specs.Clean.{IsHandler, IsClean}
+use Rattle.law_infer.specs.Flowing.{goes_to, goes_to_handlers, onward_of, onward_from}
+use Rattle.law_gather.specs.Gathered.{covers, covering_entry, catchers_of, Gathers}
+use Rattle.law_gather.proofs.Lists.{in_first, in_second, in_either, made_from, made_of, passed_from, passes, all_at}
 
 abbrev first_covers : Body → ℕ → Try → List Try → Bool → List Catcher
 first_covers body at t ts covered = elim covered [ true ↦ catchers body t.handlers | false ↦ handlers_of body ts at ]
@@ -62,17 +65,28 @@ module _ (code : Code) where
       let l : n < length code.body.tries = ltb-true n (length code.body.tries) inside in
       omega (arith, l, same)
 
+  covering_some : (at k : ℕ) (b : Bool) → elim b as (λ w. Option ℕ) [ true ↦ position (covers at) code.body.tries | false ↦ None ] ≡ Some k → position (covers at) code.body.tries ≡ Some k
+  covering_some at k true e = e
+  covering_some at k false e = absurd (cc)
+
+  -- an entry that covers an instruction is there
+  pub covers_within : (at k : ℕ) (x : At) → covering_entry code at x ≡ Some k → k < length code.body.tries
+  covers_within at k x e = number_within (thrown_at at x) k (covering_some (thrown_at at x) k (can_throw x.op) e)
+
+abbrev pub to_handler : RegState → Catcher → Onward RegState
+to_handler s h = record { to = h.to; state = caught_state s h }
+
+-- an instruction's targets, with the state after it
+abbrev pub goes_on : Image → Code → ℕ → RegState → At → List (Onward RegState)
+goes_on image code at s x = goes_to code (out image code.method at x.op s) (targets x)
+
 module _ (image : Image) (code : Code) (own : code_at image code.method.id ≡ Some code) where
   handlers_are : (at : ℕ) → handlers_at image code.method.id at ≡ handlers_of code.body code.body.tries at
   unfolding handlers_at
   handlers_are at = ap (λ o. handlers_in o at) own
 
-  pub handlers_found : (at : ℕ) → handlers_at image code.method.id at ≡ handlers_by code (position (covers at) code.body.tries)
+  handlers_found : (at : ℕ) → handlers_at image code.method.id at ≡ handlers_by code (position (covers at) code.body.tries)
   handlers_found at = handlers_are at ∙ covered_by code at
-
-  -- what holds of the handlers of each address holds of those of an entry that covers one
-  pub all_by : (P : Catcher → Type 0) (at k : ℕ) → position (covers at) code.body.tries ≡ Some k → All P (handlers_at image code.method.id at) → All P (handlers_by code (Some k))
-  all_by P at k e all = subst (λ (o : Option ℕ). All P (handlers_by code o)) e (subst (All P) (handlers_found at) all)
 
   -- ---- the ways on of an instruction
 
@@ -82,8 +96,59 @@ module _ (image : Image) (code : Code) (own : code_at image code.method.id ≡ S
   thrown_by s at true = ap (goes_to_handlers code s) (handlers_found at)
   thrown_by s at false = refl
 
-  abbrev pub goes_on : ℕ → RegState → At → List (Onward RegState)
-  goes_on at s x = goes_to code (out image code.method at x.op s) (targets x)
+  -- to its targets, and to the handlers of the entry that covers it
+  pub onward_is : (at : ℕ) (s : RegState) (x : At) → fetch image code.method.id at ≡ Some x →
+      onward_from image code at s (fetch image code.method.id at) ≡ goes_on image code at s x ++ goes_to_handlers code s (handlers_by code (covering_entry code at x))
+  onward_is at s x e =
+      ap (onward_from image code at s) e ∙
+      ap (λ (z : List (Onward RegState)). goes_on image code at s x ++ z) (thrown_by s (thrown_at at x) (can_throw x.op))
 
-  pub onward_is : (at : ℕ) (s : RegState) (x : At) → onward_of image code at s x ≡ goes_on at s x ++ goes_to_handlers code s (handlers_by code (covering_entry code at x))
-  onward_is at s x = ap (λ (z : List (Onward RegState)). goes_on at s x ++ z) (thrown_by s (thrown_at at x) (can_throw x.op))
+  -- past the targets it goes to a handler of the entry
+  pub record ToHandler (s : RegState) (at : ℕ) (x : At) (k : ℕ) (o : Onward RegState) : Type 0 where
+    pub past : length (goes_on image code at s x) ≤ k
+    pub place : ℕ
+    pub handler : Catcher
+    pub there : slice_get (handlers_by code (covering_entry code at x)) place ≡ Some handler
+    pub is : to_handler s handler ≡ o
+
+  pub goes_where : (at : ℕ) (s : RegState) (x : At) → fetch image code.method.id at ≡ Some x → (k : ℕ) (o : Onward RegState) →
+      slice_get (onward_from image code at s (fetch image code.method.id at)) k ≡ Some o → (slice_get (goes_on image code at s x) k ≡ Some o) ⊎ ToHandler s at x k o
+  goes_where at s x e k o q =
+      let hs : List Catcher = handlers_by code (covering_entry code at x) in
+      let there = subst (λ (z : List (Onward RegState)). slice_get z k ≡ Some o) (onward_is at s x e) q in
+      elim (in_either (goes_on image code at s x) (goes_to_handlers code s hs) k o there) [
+        | inl first ↦ inl first
+        | inr r ↦ inr (let m = made_from (to_handler s) (filter (λ h. begins_insn code.tiles h.to) hs) r.place o r.there in
+            let p = passed_from (λ h. begins_insn code.tiles h.to) hs r.place m.from m.there in
+            record { past = (let a = r.after in omega (arith, a)); place = p.0; handler = m.from; there = p.1; is = m.is })
+      ]
+
+  pub goes_first : (at : ℕ) (s : RegState) (x : At) → fetch image code.method.id at ≡ Some x → (k : ℕ) (o : Onward RegState) →
+      slice_get (goes_on image code at s x) k ≡ Some o → slice_get (onward_from image code at s (fetch image code.method.id at)) k ≡ Some o
+  goes_first at s x e k o q =
+      let hs : List Catcher = handlers_by code (covering_entry code at x) in
+      subst (λ (z : List (Onward RegState)). slice_get z k ≡ Some o) (sym (onward_is at s x e)) (in_first (goes_on image code at s x) (goes_to_handlers code s hs) k o q)
+
+  -- ---- the handlers of an entry to which an instruction hands on
+
+  module _ (clean : IsClean image code) (entry : ℕ) (g : Gathers image code entry) where
+    covered_at : position (covers (thrown_at g.at g.insn)) code.body.tries ≡ Some entry
+    covered_at = covering_some code (thrown_at g.at g.insn) entry (can_throw g.insn.op) g.covered
+
+    -- they are instructions
+    pub leads : (i : ℕ) (h : Catcher) → slice_get (handlers_by code (Some entry)) i ≡ Some h → begins_insn code.tiles h.to ≡ true
+    leads i h e =
+        let same : handlers_at image code.method.id (thrown_at g.at g.insn) ≡ handlers_by code (Some entry) = handlers_found (thrown_at g.at g.insn) ∙ ap (handlers_by code) covered_at in
+        (all_at (IsHandler code) (handlers_by code (Some entry)) i h (subst (λ (z : List Catcher). All (IsHandler code) z) same (clean.handlers_lead (thrown_at g.at g.insn))) e).leads
+
+    -- and each state goes on from that instruction to each of them
+    pub goes_to_each : (s : RegState) (i : ℕ) (h : Catcher) → slice_get (handlers_by code (Some entry)) i ≡ Some h →
+        (k : ℕ) × (slice_get (onward_from image code g.at s (fetch image code.method.id g.at)) k ≡ Some (to_handler s h))
+    goes_to_each s i h e =
+        let hs : List Catcher = handlers_by code (Some entry) in
+        let first : List (Onward RegState) = goes_on image code g.at s g.insn in
+        let p = passes (λ h. begins_insn code.tiles h.to) hs i h e (leads i h e) in
+        let made : slice_get (goes_to_handlers code s hs) p.0 ≡ Some (to_handler s h) = made_of (to_handler s) (filter (λ h. begins_insn code.tiles h.to) hs) p.0 h p.1 in
+        let is : onward_from image code g.at s (fetch image code.method.id g.at) ≡ first ++ goes_to_handlers code s hs =
+            onward_is g.at s g.insn g.fetched ∙ ap (λ (o : Option ℕ). first ++ goes_to_handlers code s (handlers_by code o)) g.covered in
+        (length first + p.0, subst (λ (z : List (Onward RegState)). slice_get z (length first + p.0) ≡ Some (to_handler s h)) (sym is) (in_second first (goes_to_handlers code s hs) (length first + p.0) p.0 (to_handler s h) refl made))

@@ -1,7 +1,7 @@
 -- Elements of lists that are put together of others.
-use Rattle.std.specs.Prelude.{slice_get, filter, cond, option_map}
+use Rattle.std.specs.Prelude.{slice_get, filter, cond, option_map, All}
 use Rattle.std.proofs.Common.{◌≡◌, ◌⊎◌, inl, inr, ℕ, zero, suc, ◌+◌, ◌<◌, List, [], ◌∷◌, ◌++◌, length, map, Bool, true, false, Some, refl, ap, sym, ◌∙◌, subst, arith}
-use Rattle.std.proofs.lemmas.Option.{same_Some, slice_get-map}
+use Rattle.std.proofs.lemmas.Option.{same_Some, slice_get-map, get_or_from_slice_get}
 
 -- ---- one list after another
 
@@ -34,6 +34,10 @@ module _ {X : Type 0} where
   within [] k x e = absurd (cc)
   within (a ∷ xs) zero x e = omega arith
   within (a ∷ xs) (suc k) x e = let l = within xs k x e in omega (arith, l)
+
+-- what holds of all holds of each
+pub all_at : {X : Type 0} (P : X → Type 0) (xs : List X) (k : ℕ) (x : X) → All P xs → slice_get xs k ≡ Some x → P x
+all_at P xs k x all e = subst P (get_or_from_slice_get xs k x x e) (all k x (within xs k x e))
 
 -- ---- what is made of each element
 

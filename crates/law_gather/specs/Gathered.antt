@@ -69,14 +69,17 @@ gathered_flow image code =
       onward = onward_gathered image code;
     }
 
--- the entry is the first that covers some address
-abbrev pub Covers : Code → ℕ → Type 0
-Covers code entry = (at : ℕ) × (position (covers at) code.body.tries ≡ Some entry)
+-- an instruction hands on to the entry
+pub record Gathers (image : Image) (code : Code) (entry : ℕ) : Type 0 where
+  pub at : ℕ
+  pub insn : At
+  pub fetched : fetch image code.method.id at ≡ Some insn
+  pub covered : covering_entry code at insn ≡ Some entry
 
 abbrev pub fits_by : Image → Code → ℕ → RegState → Bool → Type 0
 fits_by image code place s true = fits_at image code place s
-fits_by image code place s false = Covers code (place - addresses code) × StateFits image code s
+fits_by image code place s false = Gathers image code (place - addresses code) × StateFits image code s
 
--- states stand at instructions, and at entries that cover something
+-- states stand at instructions, and at entries to which one hands on
 abbrev pub fits_gathered : Image → Code → ℕ → RegState → Type 0
 fits_gathered image code place s = fits_by image code place s (nat_lt place (addresses code))
