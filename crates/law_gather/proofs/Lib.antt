@@ -2,4 +2,6 @@
 mod Lists
 mod Covering
 pub mod Lawful
+mod Chains
+mod Meets
 pub mod Least
