@@ -1,8 +1,8 @@
 -- The handlers of an instruction are those of the try entry that covers it.
 use Rattle.std.specs.Prelude.{slice_get, position, nat_lt, filter, All}
 use Rattle.std.specs.List.{position_or_len}
-use Rattle.std.proofs.Common.{◌≡◌, ◌⊎◌, inl, inr, ℕ, suc, ◌+◌, ◌<◌, ◌≤◌, List, [], ◌∷◌, ◌++◌, length, Bool, cond, true, false, Option, Some, None, refl, ap, sym, ◌∙◌, subst, arith}
-use Rattle.std.proofs.lemmas.Bool.{ltb-true}
+use Rattle.std.proofs.Common.{◌≡◌, ◌⊎◌, inl, inr, ℕ, suc, ◌+◌, ◌-◌, ◌<◌, ◌≤◌, List, [], ◌∷◌, ◌++◌, length, Bool, cond, true, false, Option, Some, None, refl, ap, sym, ◌∙◌, subst, arith}
+use Rattle.std.proofs.lemmas.Bool.{ltb-true, lt-ltb}
 use Rattle.std.proofs.lemmas.Option.{slice_get_cases, cond_some}
 use Rattle.dv_worklist.specs.declared.flows.Onward.{Onward}
 use Rattle.dv_typing.specs.declared.typing.RegState.{RegState}
@@ -16,7 +16,7 @@ use Rattle.dv_typing.specs.Transfer.{out}
 use Rattle.dv_typing.specs.Flow.{Catcher, catchers, targets, handlers_of, handlers_in, handlers_at, thrown_at, caught_state}
 use Rattle.law_flow.specs.Clean.{IsHandler, IsClean}
 use Rattle.law_infer.specs.Flowing.{goes_to, goes_to_handlers, onward_of, onward_from}
-use Rattle.law_gather.specs.Gathered.{covers, covering_entry, catchers_of, Gathers}
+use Rattle.law_gather.specs.Gathered.{covers, covering_entry, addresses, hands_on, onward_by, catchers_of, onward_caught, onward_gathered, Gathers}
 use Rattle.law_gather.proofs.Lists.{in_first, in_second, in_either, made_from, made_of, passed_from, passes, all_at}
 
 abbrev first_covers : Body → ℕ → Try → List Try → Bool → List Catcher
@@ -79,6 +79,38 @@ to_handler s h = record { to = h.to; state = caught_state s h }
 -- an instruction's targets, with the state after it
 abbrev pub goes_on : Image → Code → ℕ → RegState → At → List (Onward RegState)
 goes_on image code at s x = goes_to code (out image code.method at x.op s) (targets x)
+
+lt_false : (a b : ℕ) → b ≤ a → nat_lt a b ≡ false
+lt_false a b l = grind (arith, l)
+
+-- ---- what goes on where it gathers
+
+module _ (image : Image) (code : Code) where
+  -- from a place, by whether it is an address
+  abbrev pub onward_when : ℕ → RegState → Bool → List (Onward RegState)
+  onward_when place s b = elim b as (λ w. List (Onward RegState)) [
+    | true ↦ onward_by image code place s (fetch image code.method.id place)
+    | false ↦ onward_caught s (handlers_by code (Some (place - addresses code)))
+  ]
+
+  -- from an instruction
+  pub insn_onward : (at : ℕ) (s : RegState) (x : At) → at < addresses code → fetch image code.method.id at ≡ Some x →
+      onward_gathered image code at s ≡ goes_on image code at s x ++ hands_on code s (covering_entry code at x)
+  insn_onward at s x l e = ap (onward_when at s) (lt-ltb at (addresses code) l) ∙ ap (onward_by image code at s) e
+
+  -- an entry's place is no address
+  pub past_addresses : (entry : ℕ) → nat_lt (addresses code + entry) (addresses code) ≡ false
+  past_addresses entry = lt_false (addresses code + entry) (addresses code) (omega arith)
+
+  -- and its number is found again
+  pub found_again : (entry : ℕ) → entry ≡ (addresses code + entry) - addresses code
+  found_again entry = omega arith
+
+  -- from an entry
+  pub entry_onward : (entry : ℕ) (s : RegState) → onward_gathered image code (addresses code + entry) s ≡ onward_caught s (handlers_by code (Some entry))
+  entry_onward entry s =
+      ap (onward_when (addresses code + entry) s) (past_addresses entry) ∙
+      ap (λ (k : ℕ). onward_caught s (handlers_by code (Some k))) (sym (found_again entry))
 
 module _ (image : Image) (code : Code) (own : code_at image code.method.id ≡ Some code) where
   handlers_are : (at : ℕ) → handlers_at image code.method.id at ≡ handlers_of code.body code.body.tries at

@@ -26,7 +26,7 @@ use Rattle.law_infer.proofs.Lawful.{flows_are_lawful}
 use Rattle.law_gather.specs.Gathered.{addresses, covering_entry, handed, hands_on, onward_by, onward_caught, onward_gathered, gathered_flow, Gathers, fits_by, fits_gathered}
 use Rattle.law_gather.specs.Laws.{GatheredFlowsAreLawful}
 use Rattle.law_gather.proofs.Lists.{in_first, in_second, InSecond, in_either, made_from, made_of, within}
-use Rattle.law_gather.proofs.Covering.{handlers_by, covers_within, to_handler, goes_on, ToHandler, goes_where, goes_first, goes_to_each}
+use Rattle.law_gather.proofs.Covering.{handlers_by, covers_within, to_handler, goes_on, onward_when, past_addresses, found_again, ToHandler, goes_where, goes_first, goes_to_each}
 
 -- what is handed on is the same of what is handed on
 pub handed_below : (image : Image) (s t : RegState) → IsBelow image s t → IsBelow image (handed s) (handed t)
@@ -39,11 +39,8 @@ caught_below image o s t b h = record { each = b.each; count = b.count; result =
 handed_fits : (image : Image) (code : Code) (s : RegState) → StateFits image code s → StateFits image code (handed s)
 handed_fits image code s f = record { count = f.count; regs = f.regs; result = tt; caught = tt }
 
-lt_false : (a b : ℕ) → b ≤ a → nat_lt a b ≡ false
-lt_false a b l = grind (arith, l)
-
 -- there is a unit where an instruction begins at the first
-some_unit : (us : List ℕ) (ts : List Tile) → tiled 0 0 us ≡ Ok ts → begins_insn ts 0 ≡ true → 0 < length us
+pub some_unit : (us : List ℕ) (ts : List Tile) → tiled 0 0 us ≡ Ok ts → begins_insn ts 0 ≡ true → 0 < length us
 some_unit [] ts e b =
     let none : [] ≡ ts = cc in
     no (subst (λ (z : List Tile). begins_insn z 0 ≡ true) (sym none) b)
@@ -137,14 +134,7 @@ module _ (image : Image) (code : Code) (ready : IsReady image code) where
       (to_handler t h, made_of (to_handler t) hs k h m.there, ap (λ (z : Onward RegState). z.to) m.is,
       subst (λ (z : Onward RegState). state_under image z.state (caught_state t h) ≡ true) m.is (below_to image (caught_state s h) (caught_state t h) (caught_below image ready.hierarchy s t u h)))
 
-  -- what goes on from a place, by whether it is an address
-  abbrev onward_when : ℕ → RegState → Bool → List (Onward RegState)
-  onward_when place s b = elim b as (λ w. List (Onward RegState)) [
-    | true ↦ onward_by image code place s (fetch image code.method.id place)
-    | false ↦ onward_caught s (handlers_by code (Some (place - addresses code)))
-  ]
-
-  rises : (place : ℕ) (s t : RegState) (b : Bool) → fits_by image code place s b → state_under image s t ≡ true → Rises (onward_when place s b) (onward_when place t b)
+  rises : (place : ℕ) (s t : RegState) (b : Bool) → fits_by image code place s b → state_under image s t ≡ true → Rises (onward_when image code place s b) (onward_when image code place t b)
   rises place s t true f u = fetched_rises place s t f u
   rises place s t false f u = caught_rises s t (below_from image s t u) (handlers_by code (Some (place - addresses code)))
 
@@ -164,9 +154,7 @@ module _ (image : Image) (code : Code) (ready : IsReady image code) where
   entry_inside : (entry : ℕ) (s : RegState) → Gathers image code entry → StateFits image code s → entry < length code.body.tries → FitsInside (record { to = addresses code + entry; state = s })
   entry_inside entry s g f l =
       let n = addresses code in
-      let past : nat_lt (n + entry) n ≡ false = lt_false (n + entry) n (omega arith) in
-      let back : entry ≡ (n + entry) - n = omega arith in
-      (subst (fits_by image code (n + entry) s) (sym past) (subst (Gathers image code) back g, f), omega (arith, l))
+      (subst (fits_by image code (n + entry) s) (sym (past_addresses image code entry)) (subst (Gathers image code) (found_again image code entry) g, f), omega (arith, l))
 
   hands_inside : (at : ℕ) (x : At) (s : RegState) → fetch image code.method.id at ≡ Some x → StateFits image code s → (c : Option ℕ) → covering_entry code at x ≡ c →
       (k : ℕ) (o : Onward RegState) → slice_get (hands_on code s c) k ≡ Some o → FitsInside o
@@ -192,7 +180,7 @@ module _ (image : Image) (code : Code) (ready : IsReady image code) where
       let here : fits_at image code g.at s = (ready.clean.only g.at g.insn g.fetched, f) in
       subst FitsInside m.is (insn_inside (to_handler s m.from) (base.onward_fits g.at s here j (to_handler s m.from) there))
 
-  onward_fits : (place : ℕ) (s : RegState) (b : Bool) → fits_by image code place s b → (k : ℕ) (o : Onward RegState) → slice_get (onward_when place s b) k ≡ Some o → FitsInside o
+  onward_fits : (place : ℕ) (s : RegState) (b : Bool) → fits_by image code place s b → (k : ℕ) (o : Onward RegState) → slice_get (onward_when image code place s b) k ≡ Some o → FitsInside o
   onward_fits place s true f k o q =
       let (x, is) = ready.clean.each place f.0 in
       insn_fits place x s is.fetched f k o (subst (λ (z : Option At). slice_get (onward_by image code place s z) k ≡ Some o) is.fetched q)

@@ -2,6 +2,7 @@
 mod Lists
 mod Covering
 pub mod Lawful
+mod Closed
 mod Chains
 mod Meets
 pub mod Least
