@@ -5,4 +5,5 @@ pub mod Lawful
 mod Closed
 mod Chains
 mod Meets
+mod Lowest
 pub mod Least
