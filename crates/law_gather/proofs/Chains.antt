@@ -1,5 +1,5 @@
 -- Types above one type are above one another.
-use Rattle.std.proofs.Common.{◌≡◌, ◌⊎◌, inl, inr, ℕ, zero, suc, ◌+◌, ◌-◌, ◌<◌, ◌≤◌, List, length, Bool, true, false, ◌&&◌, Some, refl, sym, ap, ◌∙◌, subst, arith}
+use Rattle.std.proofs.Common.{◌≡◌, ◌⊎◌, inl, inr, ℕ, zero, suc, ◌-◌, ◌<◌, ◌≤◌, List, length, true, ◌&&◌, Some, refl, sym, ◌∙◌, subst, arith}
 use Rattle.std.specs.Prelude.{bytes_eq}
 use Rattle.std.proofs.lemmas.Bool.{and_from, cases_lt}
 use Rattle.dv_defs.specs.declared.names.Base.{Base}
@@ -8,7 +8,7 @@ use Rattle.dv_defs.specs.declared.names.Ty.{Ty}
 use Rattle.dv_defs.specs.Images.{Image}
 use Rattle.dv_defs.specs.Names.{object_name}
 use Rattle.dv_defs.specs.Types.{is_class_base}
-use Rattle.dv_defs.specs.Pools.{class_named, parent_at}
+use Rattle.dv_defs.specs.Pools.{class_named}
 use Rattle.dv_defs.specs.Order.{class_under, under_class, sub, extends}
 use Rattle.law_types.specs.Hierarchy.{IsHierarchy}
 use Rattle.law_types.proofs.Facts.{no, by_first, by_second}

@@ -1,6 +1,6 @@
 -- An assignment that is closed where the flow gathers, cut to the instructions, is closed where it doesn't.
 use Rattle.std.specs.Prelude.{slice_get, take}
-use Rattle.std.proofs.Common.{◌≡◌, inl, inr, ℕ, zero, suc, ◌+◌, ◌<◌, List, [], ◌∷◌, ◌++◌, length, true, Option, Some, None, refl, sym, subst, arith}
+use Rattle.std.proofs.Common.{◌≡◌, inl, inr, ℕ, zero, suc, ◌+◌, ◌<◌, List, [], ◌∷◌, ◌++◌, length, Option, Some, None, refl, sym, subst, arith}
 use Rattle.std.proofs.lemmas.Bool.{lt-ltb}
 use Rattle.dv_worklist.specs.declared.flows.Onward.{Onward}
 use Rattle.dv_worklist.specs.Flow.{AllFit, HasAbove, IsClosed, IsLawful, assigned}
@@ -9,14 +9,13 @@ use Rattle.dv_defs.specs.Images.{Image}
 use Rattle.dv_defs.specs.Op.{Code}
 use Rattle.dv_typing.specs.Statics.{At, fetch}
 use Rattle.dv_typing.specs.Flow.{Catcher, caught_state}
-use Rattle.dv_types.specs.Under.{state_under}
 use Rattle.dv_types.proofs.Below.{below_from, below_to}
 use Rattle.law_infer.specs.Flowing.{flow_of, fits_at, rank_of, top_of, IsReady}
 use Rattle.law_infer.proofs.Lawful.{flows_are_lawful}
 use Rattle.law_gather.specs.Gathered.{addresses, covering_entry, handed, hands_on, onward_caught, onward_gathered, gathered_flow, fits_by, fits_gathered}
 use Rattle.law_gather.specs.Laws.{at_instructions}
 use Rattle.law_gather.proofs.Lists.{in_first, in_second, made_of}
-use Rattle.law_gather.proofs.Covering.{handlers_by, to_handler, goes_on, insn_onward, entry_onward, ToHandler, goes_where}
+use Rattle.law_gather.proofs.Covering.{handlers_by, to_handler, goes_on, insn_onward, entry_onward, goes_where}
 use Rattle.law_gather.proofs.Lawful.{caught_below, some_unit}
 
 -- ---- the states of the first places alone

@@ -15,7 +15,7 @@ use Rattle.dv_typing.specs.Statics.{At, fetch}
 use Rattle.dv_typing.specs.Transfer.{out}
 use Rattle.dv_typing.specs.Flow.{Catcher, catchers, targets, handlers_of, handlers_in, handlers_at, thrown_at, caught_state}
 use Rattle.law_flow.specs.Clean.{IsHandler, IsClean}
-use Rattle.law_infer.specs.Flowing.{goes_to, goes_to_handlers, onward_of, onward_from}
+use Rattle.law_infer.specs.Flowing.{goes_to, goes_to_handlers, onward_from}
 use Rattle.law_gather.specs.Gathered.{covers, covering_entry, addresses, hands_on, onward_by, catchers_of, onward_caught, onward_gathered, Gathers}
 use Rattle.law_gather.proofs.Lists.{in_first, in_second, in_either, made_from, made_of, passed_from, passes, all_at}
 

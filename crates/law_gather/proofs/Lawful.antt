@@ -1,7 +1,7 @@
 -- The flow that gathers is lawful.
 use Rattle.std.specs.Prelude.{nat_lt, slice_get, filter}
-use Rattle.std.proofs.Common.{◌≡◌, ◌⊎◌, inl, inr, ℕ, zero, suc, ◌+◌, ◌-◌, ◌<◌, ◌≤◌, List, [], ◌∷◌, ◌++◌, map, length, Bool, true, false, Option, Some, None, Ok, refl, ap, sym, ◌∙◌, subst, arith}
-use Rattle.std.proofs.lemmas.Bool.{lt-ltb, ltb-true, ltb-false}
+use Rattle.std.proofs.Common.{◌≡◌, inl, inr, ℕ, zero, suc, ◌+◌, ◌-◌, ◌<◌, List, [], ◌∷◌, length, Bool, true, false, Option, Some, None, Ok, refl, ap, sym, ◌∙◌, subst, arith}
+use Rattle.std.proofs.lemmas.Bool.{lt-ltb}
 use Rattle.std.proofs.lemmas.List.{length-map}
 use Rattle.std.proofs.lemmas.Option.{same_Some}
 use Rattle.dv_worklist.specs.declared.flows.Onward.{Onward}
@@ -23,10 +23,10 @@ use Rattle.dv_types.proofs.Below.{below_from, below_to}
 use Rattle.law_flow.specs.Fitting.{StateFits}
 use Rattle.law_infer.specs.Flowing.{flow_of, fits_at, rank_of, top_of, IsReady}
 use Rattle.law_infer.proofs.Lawful.{flows_are_lawful}
-use Rattle.law_gather.specs.Gathered.{addresses, covering_entry, handed, hands_on, onward_by, onward_caught, onward_gathered, gathered_flow, Gathers, fits_by, fits_gathered}
+use Rattle.law_gather.specs.Gathered.{addresses, covering_entry, handed, hands_on, onward_by, onward_caught, gathered_flow, Gathers, fits_by, fits_gathered}
 use Rattle.law_gather.specs.Laws.{GatheredFlowsAreLawful}
-use Rattle.law_gather.proofs.Lists.{in_first, in_second, InSecond, in_either, made_from, made_of, within}
-use Rattle.law_gather.proofs.Covering.{handlers_by, covers_within, to_handler, goes_on, onward_when, past_addresses, found_again, ToHandler, goes_where, goes_first, goes_to_each}
+use Rattle.law_gather.proofs.Lists.{in_first, in_second, in_either, made_from, made_of, within}
+use Rattle.law_gather.proofs.Covering.{handlers_by, covers_within, to_handler, goes_on, onward_when, past_addresses, found_again, goes_where, goes_first, goes_to_each}
 
 -- what is handed on is the same of what is handed on
 pub handed_below : (image : Image) (s t : RegState) → IsBelow image s t → IsBelow image (handed s) (handed t)

@@ -1,31 +1,29 @@
 -- The least assignment of the flow that gathers, cut to the instructions, is that of the flow that doesn't.
 use Rattle.std.specs.Prelude.{slice_get, nat_lt, filter}
-use Rattle.std.proofs.Common.{◌≡◌, inl, inr, ℕ, zero, suc, ◌+◌, ◌-◌, ◌<◌, List, ◌++◌, length, Bool, true, false, Option, Some, None, refl, ap, sym, ◌∙◌, subst, arith}
-use Rattle.std.proofs.lemmas.Bool.{lt-ltb, ltb-true}
+use Rattle.std.proofs.Common.{◌≡◌, inl, inr, ℕ, zero, suc, ◌+◌, ◌-◌, ◌<◌, List, length, Bool, true, false, Option, Some, None, refl, ap, sym, ◌∙◌, subst}
+use Rattle.std.proofs.lemmas.Bool.{lt-ltb}
 use Rattle.std.proofs.lemmas.List.{length-replicate}
 use Rattle.std.proofs.lemmas.List.Elements.{All-replicate}
 use Rattle.std.proofs.lemmas.Option.{same_Some}
 use Rattle.dv_worklist.specs.declared.flows.Onward.{Onward}
-use Rattle.dv_worklist.specs.Flow.{Assignment, HasAbove, IsClosed, IsUnder, IsLeast, IsLawful, assigned}
+use Rattle.dv_worklist.specs.Flow.{Assignment, HasAbove, IsClosed, IsUnder, IsLawful, assigned}
 use Rattle.dv_typing.specs.declared.typing.RegType.TheVariants as ty
 use Rattle.dv_typing.specs.declared.typing.RegState.{RegState}
 use Rattle.dv_defs.specs.Images.{Image}
 use Rattle.dv_defs.specs.Tiling.{begins_insn}
 use Rattle.dv_defs.specs.Op.{Code}
 use Rattle.dv_typing.specs.Statics.{At, fetch}
-use Rattle.dv_typing.specs.RegTypes.{IsBelow}
 use Rattle.dv_typing.specs.Transfer.{out}
 use Rattle.dv_typing.specs.Flow.{Catcher, targets, caught_state}
-use Rattle.dv_types.specs.Under.{state_under}
 use Rattle.dv_types.proofs.Below.{below_from, below_to}
 use Rattle.law_types.proofs.Transfer.{transfer_is_monotone}
 use Rattle.law_flow.specs.Fitting.{dims_met, RegFits, StateFits}
 use Rattle.law_infer.specs.Flowing.{flow_of, fits_at, rank_of, top_of, IsReady}
 use Rattle.law_infer.proofs.Lawful.{flows_are_lawful}
-use Rattle.law_gather.specs.Gathered.{addresses, covering_entry, handed, hands_on, onward_by, onward_caught, gathered_flow, Gathers}
+use Rattle.law_gather.specs.Gathered.{addresses, covering_entry, handed, hands_on, onward_by, gathered_flow, Gathers}
 use Rattle.law_gather.specs.Laws.{at_instructions, GatheredAssignmentsAreLeast}
 use Rattle.law_gather.proofs.Lists.{in_either, made_from, made_of}
-use Rattle.law_gather.proofs.Covering.{handlers_by, to_handler, goes_on, onward_when, past_addresses, found_again, goes_first, leads, goes_to_each}
+use Rattle.law_gather.proofs.Covering.{handlers_by, to_handler, goes_on, onward_when, past_addresses, found_again, goes_first, goes_to_each}
 use Rattle.law_gather.proofs.Lawful.{some_unit}
 use Rattle.law_gather.proofs.Closed.{cut, all_fit, closed_cut}
 use Rattle.law_gather.proofs.Lowest.{top_state, below_top, if_full, full_from, full_to, IsOver, lowest, lowest_is, is_lowest}

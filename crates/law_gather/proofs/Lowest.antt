@@ -1,6 +1,6 @@
 -- The greatest state that, with what is caught, is under the state of each handler.
-use Rattle.std.specs.Prelude.{slice_get, nat_lt, nat_eq}
-use Rattle.std.proofs.Common.{◌≡◌, ℕ, zero, suc, ◌<◌, List, [], ◌∷◌, length, replicate, Bool, true, false, ◌&&◌, Option, Some, None, refl, ap, sym, ◌∙◌, subst, arith}
+use Rattle.std.specs.Prelude.{slice_get, nat_eq}
+use Rattle.std.proofs.Common.{◌≡◌, ℕ, zero, suc, List, [], ◌∷◌, length, replicate, Bool, true, false, ◌&&◌, Option, Some, None, refl, ap, sym, ◌∙◌, subst}
 use Rattle.std.proofs.lemmas.Bool.{and_parts, and_from, eqb-true, eq-eqb}
 use Rattle.std.proofs.lemmas.Option.{same_Some}
 use Rattle.dv_worklist.specs.Flow.{Assignment}
@@ -8,7 +8,7 @@ use Rattle.dv_typing.specs.declared.typing.RegType.TheVariants as ty
 use Rattle.dv_typing.specs.declared.typing.PendingType.TheVariants as pend
 use Rattle.dv_typing.specs.declared.typing.RegState.{RegState}
 use Rattle.dv_defs.specs.Images.{Image}
-use Rattle.dv_typing.specs.RegTypes.{type_at, under, IsBelow}
+use Rattle.dv_typing.specs.RegTypes.{type_at, IsBelow}
 use Rattle.dv_typing.specs.Flow.{Catcher, caught_state}
 use Rattle.dv_types.specs.Under.{state_under}
 use Rattle.dv_types.proofs.Below.{below_from, below_to}
