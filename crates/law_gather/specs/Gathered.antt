@@ -24,7 +24,7 @@ covers at t = nat_le t.start at && nat_lt at t.end
 abbrev pub covering_entry : Code → ℕ → At → Option ℕ
 covering_entry code at x = elim (can_throw x.op) [ true ↦ position (covers (thrown_at at x)) code.body.tries | false ↦ None ]
 
--- places below these are the addresses of units; from here on each try entry has one
+-- so many places are the addresses of units; after them each try entry has one
 abbrev pub addresses : Code → ℕ
 addresses code = length code.body.units
 
@@ -32,7 +32,7 @@ addresses code = length code.body.units
 abbrev pub handed : RegState → RegState
 handed s = record { regs = s.regs; result = pend.None; caught = None; this_pending = s.this_pending }
 
--- it goes on to the place of a try entry
+-- that goes on to the place of a try entry
 abbrev pub hands_on : Code → RegState → Option ℕ → List (Onward RegState)
 hands_on code s None = []
 hands_on code s (Some entry) = record { to = addresses code + entry; state = handed s } ∷ []
@@ -51,6 +51,7 @@ catchers_of body (Some t) = catchers body t.handlers
 abbrev pub onward_caught : RegState → List Catcher → List (Onward RegState)
 onward_caught s hs = map (λ h. record { to = h.to; state = caught_state s h }) hs
 
+-- the one below, the other from there on
 abbrev pub onward_gathered : Image → Code → ℕ → RegState → List (Onward RegState)
 onward_gathered image code place s =
     elim (nat_lt place (addresses code)) [
@@ -76,6 +77,7 @@ pub record Gathers (image : Image) (code : Code) (entry : ℕ) : Type 0 where
   pub fetched : fetch image code.method.id at ≡ Some insn
   pub covered : covering_entry code at insn ≡ Some entry
 
+-- at an instruction as before; else it is what an entry gathers
 abbrev pub fits_by : Image → Code → ℕ → RegState → Bool → Type 0
 fits_by image code place s true = fits_at image code place s
 fits_by image code place s false = Gathers image code (place - addresses code) × StateFits image code s
