@@ -1,6 +1,6 @@
 -- What the least assignment of a body says of it.
-use Rattle.std.proofs.Common.{◌≡◌, ◌≢◌, ℕ, List, [], length, Option, Some, sym, ◌∙◌, subst}
-use Rattle.std.proofs.lemmas.List.{length-map}
+use Rattle.std.proofs.Common.{◌≡◌, ◌≢◌, ℕ, List, [], length, take, Option, Some, sym, ◌∙◌, subst}
+use Rattle.std.proofs.lemmas.List.{take-map}
 use Rattle.std.specs.Prelude.{option_map}
 use Rattle.dv_defs.specs.declared.faults.Fault.{Fault}
 use Rattle.dv_typing.specs.declared.typing.RegState.{RegState}
@@ -19,7 +19,10 @@ use Rattle.law_infer.specs.Laws.{faults_from}
 use Rattle.law_infer.proofs.ByAddress.{faults_are_by_address}
 use Rattle.law_infer.proofs.Closed.{least_assignments_are_least}
 use Rattle.law_infer.proofs.Judged.{no_faults_give_typings, faults_refuse_typings}
-use Rattle.law_infer.proofs.Lawful.{flows_are_lawful}
+use Rattle.law_gather.specs.Gathered.{addresses, gathered_flow, fits_gathered}
+use Rattle.law_gather.specs.Laws.{at_instructions}
+use Rattle.law_gather.proofs.Lawful.{gathered_flows_are_lawful}
+use Rattle.law_gather.proofs.Least.{gathered_assignments_are_least}
 use Rattle.dv_infer.specs.Judged.{IsJudged, AreJudged}
 use Rattle.dv_infer.specs.Owned.{NamedCode}
 use Rattle.dv_bases.specs.Bases.{Names}
@@ -43,24 +46,31 @@ abbrev named : Names → Code → NamedCode
 named names code = record { names = names; code = code }
 
 module _ (names : Names) (code : Code) (ready : IsReady names.image code) (m : NamedCode) (e : m ≡ named names code) where
-  pub is_lawful : IsLawful (flow_beside m.names (flow_of m.names.image m.code)) (fits_beside m.names (fits_at m.names.image m.code)) (rank_beside (rank_of m.names.image m.code)) (top_of m.names.image m.code)
+  pub is_lawful : IsLawful (flow_beside m.names (gathered_flow m.names.image m.code)) (fits_beside m.names (fits_gathered m.names.image m.code)) (rank_beside (rank_of m.names.image m.code)) (top_of m.names.image m.code)
   is_lawful =
-      subst (λ (o : NamedCode). IsLawful (flow_beside o.names (flow_of o.names.image o.code)) (fits_beside o.names (fits_at o.names.image o.code)) (rank_beside (rank_of o.names.image o.code)) (top_of o.names.image o.code)) (sym e)
-      (lawful_beside names (flow_of names.image code) (fits_at names.image code) (rank_of names.image code) (top_of names.image code) (flows_are_lawful names.image code ready))
+      subst (λ (o : NamedCode). IsLawful (flow_beside o.names (gathered_flow o.names.image o.code)) (fits_beside o.names (fits_gathered o.names.image o.code)) (rank_beside (rank_of o.names.image o.code)) (top_of o.names.image o.code)) (sym e)
+      (lawful_beside names (gathered_flow names.image code) (fits_gathered names.image code) (rank_of names.image code) (top_of names.image code) (gathered_flows_are_lawful names.image code ready))
 
-  module _ (xs : List (Option (Kept RegState Names))) where
-    pub fits : AllFit (fits_beside m.names (fits_at m.names.image m.code)) (assigned xs) → AllFit (fits_at names.image code) (assigned (alone xs))
-    fits fit =
-        alone_fit names (flow_of names.image code) (fits_at names.image code) xs
-        (subst (λ (o : NamedCode). AllFit (fits_beside o.names (fits_at o.names.image o.code)) (assigned xs)) e fit)
+  -- its states, cut to the instructions
+  module _ (xs : List (Option (Kept RegState Names))) (fit : AllFit (fits_beside m.names (fits_gathered m.names.image m.code)) (assigned xs)) (l : worklist.IsLeast (flow_beside m.names (gathered_flow m.names.image m.code)) (assigned xs)) where
+    all_fit : AllFit (fits_gathered names.image code) (assigned (alone xs))
+    all_fit =
+        alone_fit names (gathered_flow names.image code) (fits_gathered names.image code) xs
+        (subst (λ (o : NamedCode). AllFit (fits_beside o.names (fits_gathered o.names.image o.code)) (assigned xs)) e fit)
 
-    pub least : worklist.IsLeast (flow_beside m.names (flow_of m.names.image m.code)) (assigned xs) → worklist.IsLeast (flow_of names.image code) (assigned (alone xs))
-    least l =
-        least_alone names (flow_of names.image code) xs
-        (subst (λ (o : NamedCode). worklist.IsLeast (flow_beside o.names (flow_of o.names.image o.code)) (assigned xs)) e l)
+    all_least : worklist.IsLeast (gathered_flow names.image code) (assigned (alone xs))
+    all_least =
+        least_alone names (gathered_flow names.image code) xs
+        (subst (λ (o : NamedCode). worklist.IsLeast (flow_beside o.names (gathered_flow o.names.image o.code)) (assigned xs)) e l)
 
-pub alone_count : (xs : List (Option (Kept RegState Names))) → length (alone xs) ≡ length xs
-alone_count xs = length-map xs (option_map (λ (a : Kept RegState Names). a.state))
+    cut : alone (take (addresses code) xs) ≡ at_instructions code (alone xs)
+    cut = sym (take-map (option_map (λ (a : Kept RegState Names). a.state)) (addresses code) xs)
+
+    pub fits : AllFit (fits_at names.image code) (assigned (alone (take (addresses code) xs)))
+    fits = subst (λ ys. AllFit (fits_at names.image code) (assigned ys)) (sym cut) (gathered_assignments_are_least names.image code ready (alone xs) all_fit all_least).1
+
+    pub least : worklist.IsLeast (flow_of names.image code) (assigned (alone (take (addresses code) xs)))
+    least = subst (λ ys. worklist.IsLeast (flow_of names.image code) (assigned ys)) (sym cut) (gathered_assignments_are_least names.image code ready (alone xs) all_fit all_least).0
 
 -- ---- what is found
 

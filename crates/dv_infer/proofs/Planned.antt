@@ -1,11 +1,14 @@
 -- What a method's plan has at an instruction.
-use Rattle.std.proofs.Common.{◌≡◌, ◌<◌, ◌≤◌, inl, inr, ℕ, true, List, [], length, Option, Some, None, All, sym, ap, ◌∙◌, subst, arith}
+use Rattle.std.proofs.Common.{◌≡◌, ◌<◌, ◌≤◌, inl, inr, ℕ, Bool, true, false, cond, List, [], length, map, Option, Some, None, refl, sym, ap, ◌∙◌, subst, arith}
 use Rattle.std.specs.Prelude.{slice_index_or}
 use Rattle.std.proofs.lemmas.Option.{same_Some, slice_get-get_or, slice_get_cases}
 use Rattle.std.proofs.lemmas.List.{get_or_past}
 use Rattle.std.proofs.lemmas.List.Elements.{All-nil}
 use Rattle.dv_defs.specs.declared.code.Body.{Body}
-use Rattle.dv_defs.specs.Op.{Code}
+use Rattle.dv_defs.specs.declared.code.Try.{Try}
+use Rattle.dv_defs.specs.Op.{Code, can_throw}
+use Rattle.dv_typing.specs.Flow.{thrown_at}
+use Rattle.law_gather.specs.Gathered.{covers, covering_entry, catchers_of}
 use Rattle.dv_defs.specs.Tiling.{begins_insn}
 use Rattle.dv_typing.specs.Statics.{At, fetch}
 use Rattle.law_infer.specs.Flowing.{IsReady}
@@ -15,25 +18,40 @@ use Rattle.dv_effects.specs.declared.effects.Step.{Step}
 use Rattle.dv_effects.specs.Effects.{IsStep}
 use Rattle.dv_effects.specs.Made.{AreSteps, HasClasses}
 use Rattle.dv_effects.proofs.Making.{steps_made}
-use Rattle.dv_rules.specs.Edges.{edges_of}
+use Rattle.dv_rules.specs.Edges.{handler_edge}
 use Rattle.dv_plan.specs.declared.plan.Plan.{Plan}
 use Rattle.dv_plan.specs.declared.ways.Ways.{Ways}
 use Rattle.dv_plan.specs.declared.hops.Hop.{Hop}
-use Rattle.dv_plan.specs.Hops.{AreHops}
+use Rattle.dv_plan.specs.Hops.{LeadTo, AreHops}
 use Rattle.dv_plan.specs.Ways.{IsWays}
-use Rattle.dv_plan.specs.Plans.{IsPlan, hops_at, edges_by}
-use Rattle.dv_plan.proofs.Leading.{edges_are}
+use Rattle.dv_plan.specs.Plans.{IsPlan}
 
--- the classes in the ways to handlers are numbered
-pub all_numbered : (names : Names) (body : Body) (hops : List (List Hop)) → AreHops names body (length body.tries) hops → (o : Option ℕ) → All (λ h. IsNumbered names h.caught) (hops_at hops o)
-all_numbered names body hops are None = All-nil (λ h. IsNumbered names h.caught)
-all_numbered names body hops are (Some k) =
+abbrev first_of : Bool → ℕ → ℕ → Option ℕ
+first_of throws n count = elim throws [ true ↦ cond (nat_lt n count) (Some n) None | false ↦ None ]
+
+inside_if : (n count : ℕ) (less : Bool) → nat_lt n count ≡ less → IfSome (cond less (Some n) None) (λ k. k < count)
+inside_if n count true e = grind (arith, e)
+inside_if n count false e = tt
+
+inside_by : (throws : Bool) (n count : ℕ) → IfSome (first_of throws n count) (λ k. k < count)
+inside_by true n count = inside_if n count (nat_lt n count) refl
+inside_by false n count = tt
+
+-- the ways from a try entry are those to its handlers
+pub leads_by : (names : Names) (body : Body) (hops : List (List Hop)) → AreHops names body (length body.tries) hops → (k : ℕ) → LeadTo names (slice_index_or hops k []) (map handler_edge (catchers_of body (slice_get body.tries k)))
+leads_by names body hops are k =
     elim (slice_get_cases body.tries k).1 [
-      | inl there ↦ (are.each k there.0 there.1 there.2).numbered
+      | inl there ↦
+          subst (λ (o : Option Try). LeadTo names (slice_index_or hops k []) (map handler_edge (catchers_of body o))) (sym there.2) (are.each k there.0 there.1 there.2)
       | inr past ↦
           let long : length hops ≤ k = omega (arith, past.0, are.count) in
-          subst (λ (hs : List Hop). All (λ h. IsNumbered names h.caught) hs) (sym (get_or_past hops k [] long)) (All-nil (λ h. IsNumbered names h.caught))
+          subst (λ (o : Option Try). LeadTo names (slice_index_or hops k []) (map handler_edge (catchers_of body o))) (sym past.1)
+          (subst (λ (hs : List Hop). LeadTo names hs []) (sym (get_or_past hops k [] long)) (record { numbered = All-nil (λ h. IsNumbered names h.caught); lead = refl }))
     ]
+
+-- the entry that covers an instruction is one of the body's
+pub entry_inside : (code : Code) (at : ℕ) (x : At) (o : Option ℕ) → o ≡ covering_entry code at x → IfSome o (λ entry. entry < length code.body.tries)
+entry_inside code at x o is = subst (λ (p : Option ℕ). IfSome p (λ entry. entry < length code.body.tries)) (sym is) (inside_by (can_throw x.op) (position_or_len (covers (thrown_at at x)) code.body.tries) (length code.body.tries))
 
 module _ (names : Names) (code : Code) (ready : IsReady names.image code) (p : Plan) (is : IsPlan names.image names code p) where
   inside : (at : ℕ) → begins_insn code.tiles at ≡ true → at < length code.body.units
@@ -58,13 +76,10 @@ module _ (names : Names) (code : Code) (ready : IsReady names.image code) (p : P
       let has = is.steps.each at inside x fetched in
       subst (λ (s : Step). IsStep names code at x.op s) (same_Some has.0 step (sym has.1 ∙ there)) has.2
 
-  ways_are : (at : ℕ) (x : At) (w : Ways) → at < length code.body.units → fetch names.image code.method.id at ≡ Some x → slice_index_or p.ways.items at None ≡ Some w → IsWays code at x w
+  pub ways_are : (at : ℕ) (x : At) (w : Ways) → at < length code.body.units → fetch names.image code.method.id at ≡ Some x → slice_index_or p.ways.items at None ≡ Some w → IsWays code at x w
   ways_are at x w inside fetched there =
       let has = is.ways.each at inside x fetched in
       subst (λ (v : Ways). IsWays code at x v) (same_Some has.0 w (sym has.1 ∙ there)) has.2
-
-  pub ways_lead : (at : ℕ) (x : At) (w : Ways) → at < length code.body.units → fetch names.image code.method.id at ≡ Some x → slice_index_or p.ways.items at None ≡ Some w → edges_by names p.hops.items w ≡ edges_of names.image code at x
-  ways_lead at x w inside fetched there = edges_are names.image code ready.clean ready.code_is names p.hops.items is.hops at x w (ways_are at x w inside fetched there)
 
   are_steps : AreSteps names code p.steps.items
   are_steps at begins =

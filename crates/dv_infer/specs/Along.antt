@@ -19,7 +19,7 @@ gone_along before after e =
       ];
     }
 
--- an instruction's target, and a handler, with the state that goes on there
+-- a target, and a handler, with the state that goes on there
 abbrev pub to_target : Names → RegState → ℕ → Onward (Kept RegState Names)
 to_target names after to = record { to = to; state = kept names after }
 

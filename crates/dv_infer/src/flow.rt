@@ -4,7 +4,7 @@ ghost use Rattle.law_infer.specs.Flowing.{IsReady};
 ghost use Rattle.dv_ops.specs.Meaning.{code_of};
 ghost use Rattle.dv_plan.specs.Plans.{IsPlan};
 
-use crate::onward::{copy_of, onward};
+use crate::onward::{copy_of, onward, place_count};
 use dv_bases::Bases;
 use dv_ops::Coded;
 use dv_plan::Plan;
@@ -67,19 +67,19 @@ impl<'a> Flow for MethodFlow<'a> {
     type State = Row<'a>;
 
     ghost use Rattle.dv_worklist.specs.Beside.{fits_beside, flow_beside, rank_beside};
-    ghost use Rattle.law_infer.specs.Flowing.{flow_of, fits_at, rank_of, top_of};
+    ghost use Rattle.law_infer.specs.Flowing.{rank_of, top_of};
+    ghost use Rattle.law_gather.specs.Gathered.{gathered_flow, fits_gathered};
 
-    ghost graph = { λ m. flow_beside m.names (flow_of m.names.image m.code) };
+    ghost graph = { λ m. flow_beside m.names (gathered_flow m.names.image m.code) };
 
-    ghost fits = { λ m. fits_beside m.names (fits_at m.names.image m.code) };
+    ghost fits = { λ m. fits_beside m.names (fits_gathered m.names.image m.code) };
 
     ghost rank = { λ m. rank_beside (rank_of m.names.image m.code) };
 
     ghost top = { λ m. top_of m.names.image m.code };
 
     fn size(&self) -> usize {
-        let body = self.code.body;
-        body.units.len()
+        place_count(self.code)
     }
 
     fn entry(&self) -> Result<Row<'a>, AllocError> {

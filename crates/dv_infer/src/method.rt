@@ -18,7 +18,7 @@ use crate::faults::typing_faults;
 use crate::flow::MethodFlow;
 use dv_bases::Bases;
 use dv_defs::{Image, MethodId, Seq};
-use dv_ops::{Coded, coded_at};
+use dv_ops::{Coded, coded_at, units_of};
 use dv_plan::{Plan, plan_of};
 use dv_rules::Map;
 use dv_static::static_faults;
@@ -151,7 +151,8 @@ fn least_by(
     ensures least { IfOk result (λ v. worklist.IsLeast (flow_of bases.now.image (code_of code.now)) (assigned v.items)) }
 {
     let flow = MethodFlow::new(alloc, bases, table, code, plan);
-    let rows = least(&flow, alloc)?;
+    let mut rows = least(&flow, alloc)?;
+    rows.truncate(units_of(code).len());
     states_of(alloc, rows)
 }
 

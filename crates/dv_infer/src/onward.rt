@@ -1,27 +1,27 @@
 // What goes on from an instruction.
-ghost use Rattle.std.specs.Prelude.{◌≡◌, ◌<◌, ◌++◌, All, None, Some, IfOk, OnOk, length, map, slice_index_or};
+ghost use Rattle.std.specs.Prelude.{◌≡◌, ◌<◌, ◌+◌, ◌++◌, [], All, None, Some, IfOk, IfSome, OnOk, length, map, slice_index_or};
 ghost use Rattle.dv_typing.specs.Statics.{At, fetch};
 ghost use Rattle.dv_typing.specs.Transfer.{out};
-ghost use Rattle.law_infer.specs.Flowing.{IsReady, fits_at, onward_from};
+ghost use Rattle.law_infer.specs.Flowing.{IsReady, fits_at};
 ghost use Rattle.dv_worklist.specs.Beside.{fits_beside, onward_kept};
 ghost use Rattle.dv_ops.specs.Meaning.{code_of, method_of};
 ghost use Rattle.dv_bases.specs.Bases.{IsNumbered};
 ghost use Rattle.dv_bases.specs.States.{AreWords, state_of};
 ghost use Rattle.dv_effects.specs.declared.effects.Step.{Step as StepValue};
 ghost use Rattle.dv_plan.specs.declared.ways.Ways.{Ways as WaysValue};
-ghost use Rattle.dv_plan.specs.Plans.{IsPlan, hops_at};
+ghost use Rattle.dv_plan.specs.Plans.{IsPlan};
+ghost use Rattle.law_gather.specs.Gathered.{addresses, fits_gathered, handed, hands_on, onward_by, onward_gathered};
 ghost use Rattle.dv_infer.specs.Along.{to_handler, to_target};
 
-use dv_bases::{Bases, Words};
+use dv_bases::{Bases, PendingWord, Words};
 use dv_effects::{Step, after, caught};
-use dv_ops::Coded;
+use dv_ops::{Coded, units_of};
 use dv_plan::{Hop, Plan, Ways};
 use dv_types::{ClassTable, Row};
 use dv_worklist::Onward;
 use std::alloc::{AllocError, Global};
 
-/// What goes on from the instruction at an address with a state: the state after it to the next instruction and to targets, the state
-/// before it to handlers.
+/// What goes on from a place with a state: from an instruction, or from a try entry, whose places are behind those of the units.
 pub fn onward<'a>(
     alloc: Global,
     bases: &'a Bases<'a>,
@@ -34,21 +34,42 @@ pub fn onward<'a>(
     requires ready { IsReady bases.now.image (code_of code.now) }
     requires table { table.now ≡ bases.now.image }
     requires plan { IsPlan bases.now.image bases.now (code_of code.now) plan.now }
-    requires place { place < length code.now.body.now.units }
-    requires fits { fits_beside bases.now (fits_at bases.now.image (code_of code.now)) place row.now }
-    ensures { IfOk result (λ v. v.items ≡ map (onward_kept row.now.beside) (onward_from bases.now.image (code_of code.now) place row.now.state (fetch bases.now.image code.now.method.id.0 place))) }
+    requires fits { fits_beside bases.now (fits_gathered bases.now.image (code_of code.now)) place row.now }
+    ensures { IfOk result (λ v. v.items ≡ map (onward_kept row.now.beside) (onward_gathered bases.now.image (code_of code.now) place row.now.state)) }
 {
     let words = row.words();
+    let count = units_of(code).len();
+    if place < count {
+        onward_by(alloc, bases, table, code, plan, place, words)
+    } else {
+        let hops = hops_from(plan, place - count);
+        to_handlers(alloc, bases, table, words, hops)
+    }
+}
+
+/// What goes on from an instruction: the state after it to the next instruction and to targets, and what handlers take over of the state before
+/// it to the try entry that covers it.
+fn onward_by<'a>(
+    alloc: Global,
+    bases: &'a Bases<'a>,
+    table: &'a ClassTable<'a>,
+    code: &Coded<'_>,
+    plan: &Plan,
+    place: usize,
+    words: &Words,
+) -> Result<Vec<Onward<Row<'a>>>, AllocError>
+    requires ready { IsReady bases.now.image (code_of code.now) }
+    requires table { table.now ≡ bases.now.image }
+    requires plan { IsPlan bases.now.image bases.now (code_of code.now) plan.now }
+    requires place { place < length code.now.body.now.units }
+    requires words { AreWords bases.now words.now }
+    requires fits { fits_at bases.now.image (code_of code.now) place (state_of bases.now words.now) }
+    ensures { IfOk result (λ v. v.items ≡ map (onward_kept bases.now) (onward_by bases.now.image (code_of code.now) place (state_of bases.now words.now) (fetch bases.now.image code.now.method.id.0 place))) }
+{
     let ways = ways_at(plan, place);
     let after = after_step(bases, code, plan, place, words)?;
     let mut onwards = to_targets(alloc, bases, table, after, ways.targets.items())?;
-    push_handlers(
-        bases,
-        table,
-        words,
-        hops_from(plan, ways.covering),
-        &mut onwards,
-    )?;
+    push_entry(bases, table, code, words, ways.covering, &mut onwards)?;
     Ok(onwards)
 }
 
@@ -77,14 +98,11 @@ fn step_at(plan: &Plan, place: usize) -> Step
 }
 
 /// The ways to the handlers of a try entry.
-fn hops_from(plan: &Plan, covering: Option<usize>) -> &[Hop]
-    ensures { result.now ≡ hops_at plan.now.hops.items covering }
+fn hops_from(plan: &Plan, entry: usize) -> &[Hop]
+    ensures { result.now ≡ slice_index_or plan.now.hops.items entry [] }
 {
-    match covering {
-        Some(entry) => match plan.hops.get(entry) {
-            Some(hops) => hops.items(),
-            None => &[],
-        },
+    match plan.hops.get(entry) {
+        Some(hops) => hops.items(),
         None => &[],
     }
 }
@@ -153,19 +171,76 @@ fn to_targets<'a>(
     Ok(onwards)
 }
 
-/// Adds what goes on to handlers.
-fn push_handlers<'a>(
+/// Adds what goes on to the try entry that covers an instruction, where one does.
+fn push_entry<'a>(
     bases: &'a Bases<'a>,
     table: &'a ClassTable<'a>,
+    code: &Coded<'_>,
     words: &Words,
-    hops: &[Hop],
+    covering: Option<usize>,
     onwards: &mut Vec<Onward<Row<'a>>>,
 ) -> Result<(), AllocError>
     requires table { table.now ≡ bases.now.image }
     requires words { AreWords bases.now words.now }
-    requires hops { All (λ h. IsNumbered bases.now h.caught) hops.now }
-    ensures { OnOk result (onwards.new.items ≡ onwards.old.items ++ map (to_handler bases.now (state_of bases.now words.now)) hops.now) }
+    requires inside { IfSome covering (λ entry. entry < length code.now.body.now.tries) }
+    ensures { OnOk result (onwards.new.items ≡ onwards.old.items ++ map (onward_kept bases.now) (hands_on (code_of code.now) (state_of bases.now words.now) covering)) }
 {
+    if let Some(entry) = covering {
+        onwards.push(Onward {
+            to: place_of(code, entry),
+            state: Row::new(bases, table, handed(bases, words)?),
+        })?;
+    }
+    Ok(())
+}
+
+/// How many places there are: one for each unit, and behind them one for each try entry.
+pub fn place_count(code: &Coded<'_>) -> usize
+    ensures { result ≡ addresses (code_of code.now) + length code.now.body.now.tries }
+{
+    let body = code.body;
+    let tries = body.tries.items();
+    units_of(code).len() + tries.len()
+}
+
+/// The place of a try entry.
+fn place_of(code: &Coded<'_>, entry: usize) -> usize
+    requires { entry < length code.now.body.now.tries }
+    ensures { result ≡ addresses (code_of code.now) + entry }
+{
+    let body = code.body;
+    let _tries = body.tries.items();
+    units_of(code).len() + entry
+}
+
+/// What handlers take over of words.
+fn handed(bases: &Bases<'_>, words: &Words) -> Result<Words, AllocError>
+    requires { AreWords bases.now words.now }
+    ensures words { IfOk result (AreWords bases.now) }
+    ensures state { IfOk result (λ w. state_of bases.now w ≡ handed (state_of bases.now words.now)) }
+{
+    Ok(Words {
+        regs: words.regs.clone()?,
+        result: PendingWord::None,
+        caught: None,
+        this_pending: words.this_pending,
+    })
+}
+
+/// What goes on to handlers.
+fn to_handlers<'a>(
+    alloc: Global,
+    bases: &'a Bases<'a>,
+    table: &'a ClassTable<'a>,
+    words: &Words,
+    hops: &[Hop],
+) -> Result<Vec<Onward<Row<'a>>>, AllocError>
+    requires table { table.now ≡ bases.now.image }
+    requires words { AreWords bases.now words.now }
+    requires hops { All (λ h. IsNumbered bases.now h.caught) hops.now }
+    ensures { IfOk result (λ v. v.items ≡ map (to_handler bases.now (state_of bases.now words.now)) hops.now) }
+{
+    let mut onwards = Vec::with_capacity(alloc, hops.len())?;
     for hop in hops {
         let state = Row::new(bases, table, caught(words, hop.caught)?);
         onwards.push(Onward {
@@ -173,5 +248,5 @@ fn push_handlers<'a>(
             state,
         })?;
     }
-    Ok(())
+    Ok(onwards)
 }

@@ -14,7 +14,8 @@ use Rattle.dv_rules.specs.declared.flow.Edge.{Edge}
 use Rattle.dv_rules.specs.Edges.{plain_edge}
 use Rattle.dv_rules.specs.EdgeParts.{target_edges}
 use Rattle.dv_plan.specs.declared.ways.Ways.{Ways}
-use Rattle.dv_plan.specs.Ways.{covering_entry, IsWays, HasWays, AreWays}
+use Rattle.law_gather.specs.Gathered.{covering_entry}
+use Rattle.dv_plan.specs.Ways.{IsWays, HasWays, AreWays}
 
 pub none_yet : (image : Image) (code : Code) → AreWays image code 0 []
 none_yet image code = record { count = refl; each = λ at h. absurd (omega (arith, h)) }
@@ -47,7 +48,7 @@ pub are_ways : (code : Code) (at : ℕ) (x : At) (w : Ways) (edges : List Edge) 
 are_ways code at x w edges are tos covering =
     let goes = filter (begins_insn code.tiles) (targets x) in
     let back : w.targets ≡ goes = tos ∙ (ap (map (λ (e : Edge). e.to)) are ∙ addresses_back goes) in
-    record { targets = ap (map plain_edge) back; covering = covering }
+    record { targets = back; covering = covering }
 
 -- what is fetched is one
 pub of_fetched : (image : Image) (code : Code) (at : ℕ) (x y : At) (w : Ways) → fetch image code.method.id at ≡ Some x → fetch image code.method.id at ≡ Some y → IsWays code at x w → IsWays code at y w

@@ -1,28 +1,15 @@
 -- What the inference of a method's types goes by.
-use Rattle.std.specs.Prelude.{◌≡◌, ℕ, List, [], ◌++◌, length, map, Option, Some, None, slice_index_or}
+use Rattle.std.specs.Prelude.{◌≡◌, length}
 use Rattle.dv_defs.specs.Images.{Image}
 use Rattle.dv_defs.specs.Op.{Code}
 use Rattle.dv_typing.specs.Transfer.{entry_state}
-use Rattle.dv_rules.specs.declared.flow.Edge.{Edge}
-use Rattle.dv_rules.specs.Edges.{plain_edge}
 use Rattle.dv_bases.specs.Bases.{Names}
-use Rattle.dv_plan.specs.declared.hops.Hop.{Hop}
-use Rattle.dv_plan.specs.declared.ways.Ways.{Ways}
 use Rattle.dv_bases.specs.States.{AreWords, state_of}
 use Rattle.dv_effects.specs.Made.{IsOwn}
 use Rattle.dv_plan.specs.declared.plan.Plan.{Plan}
-use Rattle.dv_plan.specs.Hops.{hop_edge, AreHops}
+use Rattle.dv_plan.specs.Hops.{AreHops}
 use Rattle.dv_plan.specs.Ways.{AreWays}
 use Rattle.dv_plan.specs.Steps.{AreStepsTo}
-
--- the ways to the handlers of a try entry
-abbrev pub hops_at : List (List Hop) → Option ℕ → List Hop
-hops_at hops None = []
-hops_at hops (Some k) = slice_index_or hops k []
-
--- the edges from an instruction
-abbrev pub edges_by : Names → List (List Hop) → Ways → List Edge
-edges_by names hops w = map plain_edge w.targets ++ map (hop_edge names) (hops_at hops w.covering)
 
 -- the state on entry, the method's class, the steps, the ways on and the handlers are those of the method
 pub record IsPlan (image : Image) (names : Names) (code : Code) (p : Plan) : Type 0 where

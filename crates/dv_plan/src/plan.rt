@@ -1,10 +1,9 @@
 // What the inference of a method's types goes by.
 ghost use Rattle.std.specs.Prelude.{◌≡◌, IfOk, OnOk};
-ghost use Rattle.dv_defs.specs.Pools.{own_type};
 ghost use Rattle.law_flow.specs.Clean.{IsClean};
 ghost use Rattle.dv_ops.specs.Meaning.{code_of};
 ghost use Rattle.dv_bases.specs.Bases.{IsWider};
-ghost use Rattle.dv_plan.specs.Plans.{IsPlan, hops_at};
+ghost use Rattle.dv_plan.specs.Plans.{IsPlan};
 
 use crate::beginnings::beginnings;
 use crate::hops::{Hop, hops_of};

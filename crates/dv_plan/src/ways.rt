@@ -6,7 +6,8 @@ ghost use Rattle.dv_typing.specs.Statics.{At, fetch};
 ghost use Rattle.law_flow.specs.Clean.{IsClean};
 ghost use Rattle.dv_ops.specs.Meaning.{code_of, meant};
 ghost use Rattle.dv_plan.specs.Beginnings.{Begin};
-ghost use Rattle.dv_plan.specs.Ways.{AreWays, HasWays, IsWays, covering_entry, covers};
+ghost use Rattle.law_gather.specs.Gathered.{covering_entry, covers};
+ghost use Rattle.dv_plan.specs.Ways.{AreWays, HasWays, IsWays};
 
 use dv_defs::{Image, Seq, Try};
 use dv_ops::{Coded, Op, op_at, units_of};

@@ -70,7 +70,7 @@ module _ (image : Image) (h : IsHierarchy image) where
   unfolding sub
   below_class a b x y low high p q l has_low has_high u =
       let tested : under_class image (extends image) 0 (base.Class x) y ≡ true =
-          by_second (is_class_base (base.Class x) && bytes_eq y object_name) (class_under image (extends image) (base.Class x) y) (is_under image (extends image) x y low high has_low has_high u) in
+      by_second (is_class_base (base.Class x) && bytes_eq y object_name) (class_under image (extends image) (base.Class x) y) (is_under image (extends image) x y low high has_low has_high u) in
       is_type image (extends image) a b (record { name = y; is_class = q; more = 0; dims = omega (arith, l); tested = subst (λ (z : Base). under_class image (extends image) 0 z y ≡ true) (sym p) tested })
 
   both_classes : (s a b : Ty) (x y : List ℕ) → a.base ≡ base.Class x → b.base ≡ base.Class y → a.dims ≡ b.dims →

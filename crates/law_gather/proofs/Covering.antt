@@ -182,5 +182,5 @@ module _ (image : Image) (code : Code) (own : code_at image code.method.id ≡ S
         let p = passes (λ h. begins_insn code.tiles h.to) hs i h e (leads i h e) in
         let made : slice_get (goes_to_handlers code s hs) p.0 ≡ Some (to_handler s h) = made_of (to_handler s) (filter (λ h. begins_insn code.tiles h.to) hs) p.0 h p.1 in
         let is : onward_from image code g.at s (fetch image code.method.id g.at) ≡ first ++ goes_to_handlers code s hs =
-            onward_is g.at s g.insn g.fetched ∙ ap (λ (o : Option ℕ). first ++ goes_to_handlers code s (handlers_by code o)) g.covered in
+        onward_is g.at s g.insn g.fetched ∙ ap (λ (o : Option ℕ). first ++ goes_to_handlers code s (handlers_by code o)) g.covered in
         (length first + p.0, subst (λ (z : List (Onward RegState)). slice_get z (length first + p.0) ≡ Some (to_handler s h)) (sym is) (in_second first (goes_to_handlers code s hs) (length first + p.0) p.0 (to_handler s h) refl made))

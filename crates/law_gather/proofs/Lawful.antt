@@ -130,9 +130,12 @@ module _ (image : Image) (code : Code) (ready : IsReady image code) where
   caught_rises : (s t : RegState) → IsBelow image s t → (hs : List Catcher) → Rises (onward_caught s hs) (onward_caught t hs)
   caught_rises s t u hs k o e =
       let m = made_from (to_handler s) hs k o e in
-      let h = m.from in
-      (to_handler t h, made_of (to_handler t) hs k h m.there, ap (λ (z : Onward RegState). z.to) m.is,
-      subst (λ (z : Onward RegState). state_under image z.state (caught_state t h) ≡ true) m.is (below_to image (caught_state s h) (caught_state t h) (caught_below image ready.hierarchy s t u h)))
+      let h = m.from in (
+        to_handler t h,
+        made_of (to_handler t) hs k h m.there,
+        ap (λ (z : Onward RegState). z.to) m.is,
+        subst (λ (z : Onward RegState). state_under image z.state (caught_state t h) ≡ true) m.is (below_to image (caught_state s h) (caught_state t h) (caught_below image ready.hierarchy s t u h)),
+      )
 
   rises : (place : ℕ) (s t : RegState) (b : Bool) → fits_by image code place s b → state_under image s t ≡ true → Rises (onward_when image code place s b) (onward_when image code place t b)
   rises place s t true f u = fetched_rises place s t f u

@@ -67,10 +67,11 @@ module _ (image : Image) (h : IsHierarchy image) where
       let q = and_parts (under image s t) (regs_under image ss ts) y in
       let m = met_type image u t in
       let one = met_is s u t p.0 q.0 in
-      let rest = regs_met ss us ts p.1 q.1 in
-      (and_from (under image m u) (regs_under image (met image us ts) us) one.0 rest.0,
-      and_from (under image m t) (regs_under image (met image us ts) ts) one.1 rest.1,
-      and_from (under image s m) (regs_under image ss (met image us ts)) one.2 rest.2)
+      let rest = regs_met ss us ts p.1 q.1 in (
+        and_from (under image m u) (regs_under image (met image us ts) us) one.0 rest.0,
+        and_from (under image m t) (regs_under image (met image us ts) ts) one.1 rest.1,
+        and_from (under image s m) (regs_under image ss (met image us ts)) one.2 rest.2,
+      )
   regs_met ss us ts x y = absurd (cc)
 
   -- ---- states

@@ -1,7 +1,0 @@
-use Rattle.std.proofs.Common.{◌≡◌, ◌++◌, map, take}
-use Rattle.dv_bases.specs.States.{state_of}
-use Rattle.dv_infer.specs.Along.{to_handler}
-use Rattle.dv_infer.proofs.onward.push_handlers.Given as goal
-
-abbrev pub invariant-loop-hop : goal.invariant-loop-hop
-invariant-loop-hop l = l.onwards.items ≡ l.initial.onwards.items ++ map (to_handler l.bases (state_of l.bases l.words)) (take l.hop-index l.hops)
