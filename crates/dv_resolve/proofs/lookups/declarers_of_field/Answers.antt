@@ -1,0 +1,24 @@
+use Rattle.std.proofs.Common.{◌≡◌, true, List, Option, is_some, ap, ◌∙◌}
+use Rattle.std.specs.Global.{Vec}
+use Rattle.indexmap.specs.IndexMap.{get}
+use Rattle.dv_defs.specs.declared.names.ClassId.{ClassId}
+use Rattle.dv_defs.specs.LookUp.{field_declared, is_method_of}
+use Rattle.dv_defs.specs.Order.{has_number, numbers}
+use Rattle.dv_resolve.specs.declared.members.FieldKey.{FieldKey}
+use Rattle.dv_resolve.specs.Declarers.{classes_in, field_name, field_name_eq}
+use Rattle.dv_resolve.specs.Members.{declares, of_field}
+use Rattle.dv_resolve.proofs.DeclarerLaws.{some_mapped}
+use Rattle.dv_resolve.proofs.lookups.declarers_of_field.Goals as goal
+
+pub returns-in-Some : goal.returns-in-Some
+returns-in-Some c = λ image knows d gives.
+    let k : FieldKey = record { class = record { 0 = d }; name = c.args.name; ty = c.args.ty } in
+    ap (λ (cs : List ClassId). has_number d (numbers cs)) c.as_slice.ensures.value
+    ∙ (ap (λ (o : Option (Vec ClassId)). has_number d (numbers (classes_in o))) c.in-Some.ensures.value
+    ∙ knows.field_declarers k (ap is_some (knows.fields k) ∙ (some_mapped of_field _ ∙ gives)))
+
+pub returns-in-None : goal.returns-in-None
+returns-in-None c = λ image knows d gives.
+    let k : FieldKey = record { class = record { 0 = d }; name = c.args.name; ty = c.args.ty } in
+    ap (λ (o : Option (Vec ClassId)). has_number d (numbers (classes_in o))) c.in-None.ensures.value
+    ∙ knows.field_declarers k (ap is_some (knows.fields k) ∙ (some_mapped of_field _ ∙ gives))
