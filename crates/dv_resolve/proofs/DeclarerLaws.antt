@@ -1,5 +1,5 @@
 -- The classes that declare a member: one more, and all of them once each member's class is added.
-use Rattle.std.specs.Prelude.{ℕ, zero, suc, ◌≡◌, ◌<◌, ◌≤◌, ◌+◌, Bool, true, false, ◌&&◌, List, [], ◌∷◌, ◌++◌, slice_get, Option, Some, None, is_some, option_map, nat_eq, bytes_eq, if◌then◌else◌, cond}
+use Rattle.std.specs.Prelude.{ℕ, suc, ◌≡◌, ◌<◌, ◌≤◌, ◌+◌, Bool, true, false, List, [], ◌∷◌, ◌++◌, slice_get, Option, Some, None, is_some, option_map, nat_eq, if◌then◌else◌, cond}
 use Rattle.std.proofs.Common.{refl, ap, sym, subst, ◌∙◌, ⊎_elim, arith}
 use Rattle.std.specs.Cmp.{IsEquivalence}
 use Rattle.std.specs.Global.{Vec}
@@ -13,8 +13,6 @@ use Rattle.law_linking.proofs.Upward.{has_left, has_right}
 use Rattle.dv_resolve.specs.declared.members.Member.{Member}
 use Rattle.dv_resolve.specs.declared.members.MethodKey.{MethodKey}
 use Rattle.dv_resolve.specs.declared.members.FieldKey.{FieldKey}
-use Rattle.dv_resolve.specs.declared.declarers.MethodName.{MethodName}
-use Rattle.dv_resolve.specs.declared.declarers.FieldName.{FieldName}
 use Rattle.dv_resolve.specs.contracts.declarers.MethodNameEq.TheImpl.Laws as of_method_names
 use Rattle.dv_resolve.specs.contracts.declarers.FieldNameEq.TheImpl.Laws as of_field_names
 use Rattle.dv_resolve.specs.Declarers.{classes_in, field_key_eq, field_name, field_name_eq, method_key_eq, method_name, method_name_eq}

@@ -1,25 +1,26 @@
 -- Laws of the orders of look-ups: one more class, and searches that begin behind the front.
-use Rattle.std.specs.Prelude.{ℕ, zero, suc, ◌≡◌, ◌≢◌, ◌<◌, ◌≤◌, ◌+◌, ◌-◌, Bool, true, false, List, [], ◌∷◌, ◌++◌, length, drop, take, set, min, get_or, flat_map, slice_get, slice_index_or, Option, Some, None, is_some, option_map, nat_eq}
+use Rattle.std.specs.Prelude.{ℕ, zero, suc, ◌≡◌, ◌<◌, ◌≤◌, ◌+◌, ◌-◌, Bool, true, false, List, [], ◌∷◌, ◌++◌, length, drop, take, set, min, get_or, flat_map, slice_get, slice_index_or, Option, Some, None, is_some, option_map}
 use Rattle.std.specs.Option.{option_or}
 use Rattle.std.proofs.Common.{◌⊎◌, inl, inr, refl, ap, sym, subst, ◌∙◌, ⊎_elim, append_assoc, append-nil, arith}
 use Rattle.std.proofs.lemmas.Bool.{cases_eq, cases_lt}
-use Rattle.std.proofs.lemmas.Bool.Decides.{nat_tests}
-use Rattle.std.proofs.lemmas.List.{drop_more, take_more, get_or-set_same, get_or-set_other, get_or_past, length-set, length-append}
-use Rattle.std.proofs.lemmas.Option.{slice_get_within}
+use Rattle.std.proofs.lemmas.List.{drop_more, take_more, get_or-set_same, get_or-set_other, get_or_past, length-set}
 use Rattle.dv_defs.specs.declared.names.ClassId.{ClassId}
 use Rattle.dv_defs.specs.First.{first_in}
 use Rattle.dv_defs.specs.Images.{Image}
-use Rattle.dv_defs.specs.LookUp.{interfaces_above, method_classes, once, superinterfaces}
+use Rattle.dv_defs.specs.LookUp.{interfaces_above, method_classes, once}
 use Rattle.dv_defs.specs.Order.{has_number, numbers}
 use Rattle.dv_defs.specs.Pools.{class_number, parent_at, supers, walk}
 use Rattle.law_linking.proofs.OnceNumbers.{first_in_once}
-use Rattle.law_linking.proofs.Reach.{number_first, number_cases}
-use Rattle.law_linking.proofs.Upward.{first_in_append, first_in_flat, has_cases, has_left, has_right}
+use Rattle.law_linking.specs.Ordered.{IsOrdered}
+use Rattle.law_linking.specs.Stripped.{AreInRange}
+use Rattle.law_linking.proofs.Reach.{above_in, number_first, number_cases}
+use Rattle.law_linking.proofs.ReachPlaces.{IsAcyclic, place, place_bounded, place_rises}
+use Rattle.law_linking.proofs.Upward.{first_in_append, first_in_flat, has_cases, has_left, has_right, parent_is_above, walk_same}
 use Rattle.dv_resolve.specs.declared.members.Member.{Member}
 use Rattle.dv_resolve.specs.declared.orders.Order.{Order}
 use Rattle.dv_resolve.specs.declared.orders.Orders.{Orders}
 use Rattle.dv_resolve.specs.Members.{AreAllOf}
-use Rattle.dv_resolve.specs.Orders.{GoesOn, IsLookedUpIn, IsNoted, IsOrdersOf, fields_through, listed_at, methods_through, place_of}
+use Rattle.dv_resolve.specs.Orders.{AreKnown, GoesOn, IsLookedUpIn, IsNoted, IsOrdersOf, KnowsRest, fields_through, listed_at, place_of}
 
 -- ---- the first of what is found
 
@@ -66,6 +67,11 @@ numbers_drop : (n : ℕ) (xs : List ClassId) → numbers (drop n xs) ≡ drop n 
 numbers_drop zero xs = refl
 numbers_drop (suc n) [] = refl
 numbers_drop (suc n) (x ∷ xs) = numbers_drop n xs
+
+slice_get-number : (xs : List ClassId) (i : ℕ) (d : ClassId) → i < length xs → slice_get (numbers xs) i ≡ Some (get_or xs i d).0
+slice_get-number [] i d within = absurd (omega arith)
+slice_get-number (x ∷ xs) zero d within = refl
+slice_get-number (x ∷ xs) (suc i) d within = slice_get-number xs i d (omega (arith, within))
 
 -- what stands at a place of a longer list stood there before, or is the last
 last_or_before : (xs : List ℕ) (x j c : ℕ) → slice_get (xs ++ x ∷ []) j ≡ Some c → (slice_get xs j ≡ Some c) ⊎ ((j ≡ length xs) × (x ≡ c))
@@ -215,26 +221,74 @@ finds_same order whole classes goes same = record {
 listed_through : (g h : ℕ → List ℕ) (cs : List ℕ) → ((c : ℕ) → g c ≡ h c) → flat_map g cs ≡ flat_map h cs
 listed_through g h cs same = λ p. flat_map (λ c. same c p) cs
 
+along : (image : Image) (interfaces : List (List ClassId)) (up : List ℕ) → ((d : ℕ) → numbers (slice_index_or interfaces d []) ≡ once (interfaces_above image d))
+    → fields_through interfaces up ≡ flat_map (λ d. d ∷ once (interfaces_above image d)) up
+along image interfaces up are = listed_through (λ d. d ∷ listed_at interfaces d) (λ d. d ∷ once (interfaces_above image d)) up (λ d. ap (λ (ns : List ℕ). d ∷ ns) (are d))
+
+-- what the classes themselves give needn't be asked for again
+own_apart : {Y : Type 0} (f : ℕ → Option Y) (g : ℕ → List ℕ) (up : List ℕ) → option_or (first_in f up) (first_in f (flat_map (λ d. d ∷ g d) up)) ≡ option_or (first_in f up) (first_in f (flat_map g up))
+own_apart {Y} f g up = by (first_in f up) (λ none. first_in_flat f (λ d. d ∷ g d) g up (λ d there. ap (λ o. option_or o (first_in f (g d))) (none_of f d up there none)))
+  where
+    by : (o : Option Y) → (o ≡ None → first_in f (flat_map (λ d. d ∷ g d) up) ≡ first_in f (flat_map g up)) → option_or o (first_in f (flat_map (λ d. d ∷ g d) up)) ≡ option_or o (first_in f (flat_map g up))
+    by None same = same refl
+    by (Some y) same = refl
+
 pub both_orders : (image : Image) (interfaces : List (List ClassId)) (up : List ℕ) (c : ℕ) (orders : Orders) → up ≡ supers image c
     → ((d : ℕ) → numbers (slice_index_or interfaces d []) ≡ once (interfaces_above image d))
-    → GoesOn orders.fields [] (fields_through interfaces up) → GoesOn orders.methods [] (methods_through interfaces up) → IsOrdersOf image c orders
+    → GoesOn orders.fields [] (fields_through interfaces up) → GoesOn orders.methods [] (up ++ numbers orders.fields.classes.items) → IsOrdersOf image c orders
 both_orders image interfaces up c orders is are fields methods = record {
-  fields = finds_same orders.fields (fields_through interfaces up) _ fields (λ f. ap (first_in f) (along f));
-  methods = finds_same orders.methods (methods_through interfaces up) (method_classes image c) methods beside;
+  fields = finds_same orders.fields (fields_through interfaces up) _ fields (λ f. ap (first_in f) (along image interfaces up are ∙ ap (flat_map (λ d. d ∷ once (interfaces_above image d))) is));
+  methods = finds_same orders.methods (up ++ numbers orders.fields.classes.items) (method_classes image c) methods beside;
 }
   where
-    along : (f : ℕ → Option Member) → fields_through interfaces up ≡ flat_map (λ d. d ∷ once (interfaces_above image d)) (supers image c)
-    along f =
-        listed_through (λ d. d ∷ listed_at interfaces d) (λ d. d ∷ once (interfaces_above image d)) up (λ d. ap (λ (ns : List ℕ). d ∷ ns) (are d))
-        ∙ ap (flat_map (λ d. d ∷ once (interfaces_above image d))) is
+    whole : (f : ℕ → Option Member) → first_in f (numbers orders.fields.classes.items) ≡ first_in f (fields_through interfaces up)
+    whole f = sym (or_nothing (first_in f (numbers orders.fields.classes.items))) ∙ fields.first f
 
-    beside : (f : ℕ → Option Member) → first_in f (methods_through interfaces up) ≡ first_in f (method_classes image c)
+    beside : (f : ℕ → Option Member) → first_in f (up ++ numbers orders.fields.classes.items) ≡ first_in f (method_classes image c)
     beside f =
-        first_in_append f up (flat_map (listed_at interfaces) up)
+        first_in_append f up (numbers orders.fields.classes.items)
+        ∙ (ap (option_or (first_in f up)) (whole f)
+        ∙ (own_apart f (listed_at interfaces) up
         ∙ (ap (option_or (first_in f up))
-          (first_in_flat f (listed_at interfaces) (interfaces_above image) up (λ d there. ap (first_in f) (are d) ∙ first_in_once f (interfaces_above image d)))
+        (first_in_flat f (listed_at interfaces) (interfaces_above image) up (λ d there. ap (first_in f) (are d) ∙ first_in_once f (interfaces_above image d)))
         ∙ (sym (first_in_append f up (flat_map (interfaces_above image) up))
-        ∙ ap (λ (ns : List ℕ). first_in f (ns ++ flat_map (interfaces_above image) ns)) is))
+        ∙ ap (λ (ns : List ℕ). first_in f (ns ++ flat_map (interfaces_above image) ns)) is))))
+
+-- what is left of the superclasses from one of them on is its own
+from_one : (image : Image) → AreInRange image.classes → IsAcyclic image → (n : ℕ) (o : Option ℕ) (i d : ℕ) → ((c : ℕ) → o ≡ Some c → (c < length image.classes) × (place image c < n))
+    → slice_get (walk image n o) i ≡ Some d → drop i (walk image n o) ≡ supers image d
+from_one image range acyclic zero o i d low is = absurd (cc)
+from_one image range acyclic (suc n) None i d low is = absurd (cc)
+from_one image range acyclic (suc n) (Some c) zero d low is =
+    let same : c ≡ d = cc in
+    let here = low c refl in
+    walk_same image range acyclic (suc n) (length image.classes) c here.1 (place_bounded image acyclic c here.0) ∙ ap (supers image) same
+from_one image range acyclic (suc n) (Some c) (suc i) d low is =
+    from_one image range acyclic n (parent_at image c) i d
+    (λ p up. let above = parent_is_above image c p up in let less = place_rises image range acyclic c p above in let here = low c refl in (above_in image range c p above, omega (arith, less, here.1)))
+    is
+
+pub knows_rest : (image : Image) (interfaces : List (List ClassId)) (known : List Orders) (up : List ℕ) (c : ℕ) → IsOrdered image → c < length image.classes → up ≡ supers image c
+    → ((d : ℕ) → numbers (slice_index_or interfaces d []) ≡ once (interfaces_above image d)) → AreKnown image known → KnowsRest known interfaces up
+knows_rest image interfaces known up c ordered within is are all = λ i d orders at there f.
+    let rest : drop i (supers image c) ≡ supers image d =
+    from_one image ordered.range ordered.acyclic (length image.classes) (Some c) i d
+    (λ e same. let like : c ≡ e = cc in subst (λ n. (n < length image.classes) × (place image n < length image.classes)) like (within, place_bounded image ordered.acyclic c within))
+    (ap (λ (ns : List ℕ). slice_get ns i) (sym is) ∙ at) in
+    (all d orders there).fields.first f
+    ∙ ap (first_in f) (sym (along image interfaces (supers image d) are) ∙ ap (fields_through interfaces) (sym rest ∙ ap (drop i) (sym is)))
+
+-- what is left is as an order that is known
+pub taken_over : (order : Order) (known : List Orders) (interfaces : List (List ClassId)) (up : List ClassId) (i : ℕ) (d : ClassId) (orders : Orders) (whole : List ℕ) → KnowsRest known interfaces (numbers up)
+    → i < length up → slice_get known (get_or up i d).0 ≡ Some orders → GoesOn order (fields_through interfaces (numbers (drop i up))) whole → GoesOn order (numbers orders.fields.classes.items ++ []) whole
+taken_over order known interfaces up i d orders whole knows within there before = record {
+  first = λ f. ap (option_or (first_in f (numbers order.classes.items)))
+      (ap (first_in f) (append-nil (numbers orders.fields.classes.items))
+      ∙ (knows i (get_or up i d).0 orders (slice_get-number up i d within) there f ∙ ap (λ (ns : List ℕ). first_in f (fields_through interfaces ns)) (sym (numbers_drop i up))))
+      ∙ before.first f;
+  there = before.there;
+  least = before.least;
+}
 
 -- the orders of one more class
 pub orders_more : (image : Image) (all new : List Orders) (class : ℕ) (last : Orders) → length all ≡ class → ((c : ℕ) (orders : Orders) → slice_get all c ≡ Some orders → IsOrdersOf image c orders)

@@ -1,5 +1,5 @@
 -- The class in which a look-up begins, and what it finds along its order.
-use Rattle.std.specs.Prelude.{ℕ, zero, suc, ◌≡◌, ◌<◌, ◌≤◌, ◌+◌, ◌-◌, Bool, true, false, List, [], ◌∷◌, length, drop, get_or, flat_map, Option, Some, None, option_map, option_and_then, bytes_eq}
+use Rattle.std.specs.Prelude.{ℕ, suc, ◌≡◌, ◌<◌, ◌≤◌, ◌+◌, Bool, true, false, List, [], ◌∷◌, length, drop, get_or, Option, Some, None, option_and_then, bytes_eq}
 use Rattle.std.specs.Option.{option_or}
 use Rattle.std.proofs.Common.{refl, ap, sym, ◌∙◌, arith, add-one}
 use Rattle.std.proofs.Math.Seq.{drop-cons}
@@ -12,17 +12,10 @@ use Rattle.dv_defs.specs.declared.names.Proto.{Proto}
 use Rattle.dv_defs.specs.declared.names.Ty.{Ty}
 use Rattle.dv_defs.specs.First.{first_in}
 use Rattle.dv_defs.specs.Images.{Image}
-use Rattle.dv_defs.specs.LookUp.{class_referred, field_declared, field_found, field_named, interfaces_above, is_method_of, method_classes, method_found, method_named, once, superinterfaces}
+use Rattle.dv_defs.specs.LookUp.{class_referred, field_found, field_named, is_method_of, method_classes, method_found, method_named}
 use Rattle.dv_defs.specs.Names.{object_name}
-use Rattle.dv_defs.specs.Order.{numbers}
-use Rattle.dv_defs.specs.Pools.{Method, class_named, class_number, declared_by, find_from, first_of_classes, parent_at, supers, walk}
+use Rattle.dv_defs.specs.Pools.{Method, class_named, class_number, declared_by, find_from, first_of_classes}
 use Rattle.dv_defs.specs.Types.{class_in, is_array}
-use Rattle.law_linking.specs.Ordered.{IsOrdered}
-use Rattle.law_linking.proofs.FieldOrder.{field_found_along}
-use Rattle.law_linking.proofs.OnceNumbers.{first_in_once}
-use Rattle.law_linking.proofs.Upward.{first_in_append}
-use Rattle.dv_resolve.specs.declared.members.Member.{Member}
-use Rattle.dv_resolve.specs.Firsts.{field_beside}
 use Rattle.dv_resolve.specs.Members.{declares}
 
 -- ---- the class of a name

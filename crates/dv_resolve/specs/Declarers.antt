@@ -1,5 +1,5 @@
 -- The classes that declare a member of a name and a prototype or a type.
-use Rattle.std.specs.Prelude.{◌≡◌, ℕ, Bool, true, List, [], Option, Some, None, is_some}
+use Rattle.std.specs.Prelude.{◌≡◌, Bool, true, List, [], Option, Some, None, is_some}
 use Rattle.std.specs.Global.{Vec}
 use Rattle.indexmap.specs.IndexMap.{IndexMap, get}
 use Rattle.dv_defs.specs.declared.names.ClassId.{ClassId}

@@ -1,5 +1,5 @@
 -- The orders in which look-ups go through classes.
-use Rattle.std.specs.Prelude.{◌≡◌, ◌<◌, ◌≤◌, ℕ, Bool, true, false, List, [], ◌∷◌, ◌++◌, length, set, min, flat_map, slice_get, slice_index, slice_index_or, Option, Some, None}
+use Rattle.std.specs.Prelude.{◌≡◌, ◌<◌, ◌≤◌, ℕ, Bool, true, false, List, [], ◌∷◌, length, drop, set, min, flat_map, slice_get, slice_index, slice_index_or, Option, Some}
 use Rattle.std.specs.Option.{option_or}
 use Rattle.dv_defs.specs.declared.names.ClassId.{ClassId}
 use Rattle.dv_defs.specs.First.{first_in}
@@ -32,9 +32,6 @@ listed_at interfaces c = numbers (slice_index_or interfaces c [])
 abbrev pub fields_through : List (List ClassId) → List ℕ → List ℕ
 fields_through interfaces up = flat_map (λ c. c ∷ listed_at interfaces c) up
 
-abbrev pub methods_through : List (List ClassId) → List ℕ → List ℕ
-methods_through interfaces up = up ++ flat_map (listed_at interfaces) up
-
 -- a search along the order finds what one through these classes finds, and no class stands before its place
 pub record IsLookedUpIn (order : Order) (classes : List ℕ) : Type 0 where
   pub first : (f : ℕ → Option Member) → first_in f (numbers order.classes.items) ≡ first_in f classes
@@ -44,7 +41,16 @@ pub record IsOrdersOf (image : Image) (c : ℕ) (orders : Orders) : Type 0 where
   pub fields : IsLookedUpIn orders.fields (flat_map (λ d. d ∷ once (interfaces_above image d)) (supers image c))
   pub methods : IsLookedUpIn orders.methods (method_classes image c)
 
+abbrev pub AreKnown : Image → List Orders → Type 0
+AreKnown image all = (c : ℕ) (orders : Orders) → slice_get all c ≡ Some orders → IsOrdersOf image c orders
+
+-- the orders that are known of classes among these find what a search from there on finds
+abbrev pub KnowsRest : List Orders → List (List ClassId) → List ℕ → Type 0
+KnowsRest known interfaces up =
+    (i d : ℕ) (orders : Orders) → slice_get up i ≡ Some d → slice_get known d ≡ Some orders
+    → (f : ℕ → Option Member) → first_in f (numbers orders.fields.classes.items) ≡ first_in f (fields_through interfaces (drop i up))
+
 -- each class has its orders
 pub record AreOrders (image : Image) (all : List Orders) : Type 0 where
   pub many : length all ≡ length image.classes
-  pub each : (c : ℕ) (orders : Orders) → slice_get all c ≡ Some orders → IsOrdersOf image c orders
+  pub each : AreKnown image all

@@ -142,11 +142,7 @@ fn field_among(
 }
 
 /// The classes that declare a field of this name and type.
-fn declarers_of_field<'a>(
-    members: &'a Members<'_>,
-    name: &'a Text,
-    ty: &'a Ty,
-) -> &'a [ClassId]
+fn declarers_of_field<'a>(members: &'a Members<'_>, name: &'a Text, ty: &'a Ty) -> &'a [ClassId]
     ensures { (image : Image) → Knows members.now image
         → AreAllOf (field_declared image name.now ty.now) result.now }
 {

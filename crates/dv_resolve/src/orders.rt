@@ -1,10 +1,11 @@
 // The orders in which look-ups go through classes.
-ghost use Rattle.std.specs.Prelude.{◌≡◌, ◌≤◌, ◌<◌, ◌^◌, ◌∷◌, ◌++◌, ℕ, List, true, false, [], length, set, slice_index_or, IfOk, OnOk};
+ghost use Rattle.std.specs.Prelude.{◌≡◌, ◌≤◌, ◌<◌, ◌^◌, ◌∷◌, ◌++◌, ℕ, List, true, [], length, slice_index_or, IfOk, OnOk};
 ghost use Rattle.dv_defs.specs.Images.{Image};
 ghost use Rattle.dv_defs.specs.LookUp.{interfaces_above, once};
 ghost use Rattle.dv_defs.specs.Order.{has_number, numbers};
 ghost use Rattle.dv_defs.specs.Pools.{class_number, parent_at, supers};
-ghost use Rattle.dv_resolve.specs.Orders.{AreOrders, GoesOn, IsLookedUpIn, IsNoted, IsOrdersOf, fields_through, listed_at, methods_through, place_of};
+ghost use Rattle.law_linking.specs.Ordered.{IsOrdered};
+ghost use Rattle.dv_resolve.specs.Orders.{AreKnown, AreOrders, GoesOn, IsNoted, IsOrdersOf, KnowsRest, fields_through, place_of};
 
 use dv_defs::{ClassId, ClassInfo, Seq};
 use std::alloc::{AllocError, Global};
@@ -111,54 +112,59 @@ fn add_all(order: &mut Order, classes: &[ClassId]) -> Result<(), AllocError>
     Ok(())
 }
 
-/// Where a field is looked for: in each of these classes and the interfaces above it.
+/// Where a field is looked for: in each of these classes and the interfaces above it. Where an order from one of them on is known, it is taken over.
 fn field_order(
     alloc: Global,
     interfaces: &[Seq<ClassId>],
     up: &[ClassId],
+    known: &[Orders],
     count: usize,
 ) -> Result<Order, AllocError>
-    ensures { IfOk result (λ order. GoesOn order [] (fields_through interfaces.now (numbers up.now))) }
+    ensures { KnowsRest known.now interfaces.now (numbers up.now)
+        → IfOk result (λ order. GoesOn order [] (fields_through interfaces.now (numbers up.now))) }
 {
     let mut order = empty_order(alloc, count)?;
     for class in up {
+        if let Some(rest) = known.get(class.0 as usize) {
+            add_all(&mut order, rest.fields.classes.as_slice())?;
+            return Ok(order);
+        }
         add(&mut order, *class)?;
         add_all(&mut order, interfaces_of(interfaces, *class))?;
     }
     Ok(order)
 }
 
-/// Where a method is looked for: in each of these classes, and then in the interfaces above each.
+/// Where a method is looked for: in each of these classes, and then where a field is.
 fn method_order(
     alloc: Global,
-    interfaces: &[Seq<ClassId>],
     up: &[ClassId],
+    fields: &[ClassId],
     count: usize,
 ) -> Result<Order, AllocError>
-    ensures { IfOk result (λ order. GoesOn order [] (methods_through interfaces.now (numbers up.now))) }
+    ensures { IfOk result (λ order. GoesOn order [] (numbers up.now ++ numbers fields.now)) }
 {
     let mut order = empty_order(alloc, count)?;
     add_all(&mut order, up)?;
-    for class in up {
-        add_all(&mut order, interfaces_of(interfaces, *class))?;
-    }
+    add_all(&mut order, fields)?;
     Ok(order)
 }
 
-/// The orders of look-ups that begin in a class.
+/// The orders of look-ups that begin in a class, over those that are known.
 fn orders_of(
     alloc: Global,
     infos: &[ClassInfo],
     interfaces: &[Seq<ClassId>],
+    known: &[Orders],
     class: ClassId,
 ) -> Result<Orders, AllocError>
-    ensures { (image : Image) → image.classes ≡ infos.now
+    ensures { (image : Image) → image.classes ≡ infos.now → IsOrdered image → class.0 < length image.classes
         → ((c : ℕ) → numbers (slice_index_or interfaces.now c []) ≡ once (interfaces_above image c))
-        → IfOk result (IsOrdersOf image class.0) }
+        → AreKnown image known.now → IfOk result (IsOrdersOf image class.0) }
 {
     let up = supers_of(alloc, infos, class)?;
-    let fields = field_order(alloc, interfaces, &up, infos.len())?;
-    let methods = method_order(alloc, interfaces, &up, infos.len())?;
+    let fields = field_order(alloc, interfaces, &up, known, infos.len())?;
+    let methods = method_order(alloc, &up, &fields.classes, infos.len())?;
     Ok(Orders { fields, methods })
 }
 
@@ -169,13 +175,14 @@ pub fn orders_of_all(
     interfaces: &[Seq<ClassId>],
 ) -> Result<Vec<Orders>, AllocError>
     requires { length infos.now < 2 ^ 32 }
-    ensures { (image : Image) → image.classes ≡ infos.now
+    ensures { (image : Image) → image.classes ≡ infos.now → IsOrdered image
         → ((c : ℕ) → numbers (slice_index_or interfaces.now c []) ≡ once (interfaces_above image c))
         → IfOk result (λ all. AreOrders image all.items) }
 {
     let mut all = Vec::new(alloc);
     for class in 0..infos.len() {
-        all.push(orders_of(alloc, infos, interfaces, ClassId(class as u32))?)?;
+        let orders = orders_of(alloc, infos, interfaces, &all, ClassId(class as u32))?;
+        all.push(orders)?;
     }
     Ok(all)
 }

@@ -1,4 +1,4 @@
-use Rattle.std.proofs.Common.{◌<◌, option_map, arith, ap, sym, ◌∙◌}
+use Rattle.std.proofs.Common.{option_map, arith, ap, sym, ◌∙◌}
 use Rattle.std.specs.Map.Iter.{deref_pair}
 use Rattle.std.proofs.lemmas.Option.{slice_get_within}
 use Rattle.dv_resolve.specs.declared.members.MethodKey.{MethodKey}

@@ -1,12 +1,10 @@
-use Rattle.std.proofs.Common.{◌≡◌, true, List, Option, is_some, ap, ◌∙◌}
+use Rattle.std.proofs.Common.{List, Option, is_some, ap, ◌∙◌}
 use Rattle.std.specs.Global.{Vec}
-use Rattle.indexmap.specs.IndexMap.{get}
 use Rattle.dv_defs.specs.declared.names.ClassId.{ClassId}
-use Rattle.dv_defs.specs.LookUp.{field_declared, is_method_of}
 use Rattle.dv_defs.specs.Order.{has_number, numbers}
 use Rattle.dv_resolve.specs.declared.members.FieldKey.{FieldKey}
-use Rattle.dv_resolve.specs.Declarers.{classes_in, field_name, field_name_eq}
-use Rattle.dv_resolve.specs.Members.{declares, of_field}
+use Rattle.dv_resolve.specs.Declarers.{classes_in}
+use Rattle.dv_resolve.specs.Members.{of_field}
 use Rattle.dv_resolve.proofs.DeclarerLaws.{some_mapped}
 use Rattle.dv_resolve.proofs.lookups.declarers_of_field.Goals as goal
 

@@ -18,11 +18,11 @@ returns c = λ image knows within.
     let orders : Orders = c.in_ok-order.field-0.now in
     let from : ℕ = c.first_place-from.result in
     let at : slice_get c.args.members.now.orders.items c.args.class.0 ≡ Some orders =
-        ap (λ (all : List Orders). slice_get all c.args.class.0) (sym c.deref.ensures.value) ∙ slice_get_read c.deref.result.now (length c.deref.result.now) c.args.class.0 orders refl c.in_ok-order.ensures.lookup.3.0 c.in_ok-order.ensures.lookup.1 in
+    ap (λ (all : List Orders). slice_get all c.args.class.0) (sym c.deref.ensures.value) ∙ slice_get_read c.deref.result.now (length c.deref.result.now) c.args.class.0 orders refl c.in_ok-order.ensures.lookup.3.0 c.in_ok-order.ensures.lookup.1 in
     let right : IsOrdersOf image c.args.class.0 orders = knows.orders.each c.args.class.0 orders at in
     c.field_among.ensures image knows
     ∙ (ap (λ (cs : List ClassId). option_map of_field (first_in finds (numbers (drop from cs)))) c.as_slice-2.ensures.value
     ∙ (from_first of_field finds orders.fields (flat_map (λ d. d ∷ once (interfaces_above image d)) (supers image c.args.class.0)) c.declarers_of_field-declarers.result.now from right.fields
-      (c.declarers_of_field-declarers.ensures image knows)
-      (λ d there. subst (λ (ps : List ℕ). from ≤ place_of ps d) c.as_slice.ensures.value (c.first_place-from.ensures d there))
+    (c.declarers_of_field-declarers.ensures image knows)
+    (λ d there. subst (λ (ps : List ℕ). from ≤ place_of ps d) c.as_slice.ensures.value (c.first_place-from.ensures d there))
     ∙ ap (option_map of_field) (sym (field_found_along image knows.ordered c.args.class.0 within c.args.name.now c.args.ty.now))))

@@ -1,5 +1,4 @@
-use Rattle.std.proofs.Common.{◌≤◌, arith}
-use Rattle.dv_resolve.specs.Orders.{place_of}
+use Rattle.std.proofs.Common.{arith}
 use Rattle.dv_resolve.proofs.OrderLaws.{place_taken}
 use Rattle.dv_resolve.proofs.orders.first_place.Goals as goal
 
