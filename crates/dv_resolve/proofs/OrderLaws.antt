@@ -3,7 +3,7 @@ use Rattle.std.specs.Prelude.{ℕ, zero, suc, ◌≡◌, ◌<◌, ◌≤◌, ◌
 use Rattle.std.specs.Option.{option_or}
 use Rattle.std.proofs.Common.{◌⊎◌, inl, inr, refl, ap, sym, subst, ◌∙◌, ⊎_elim, append_assoc, append-nil, arith}
 use Rattle.std.proofs.lemmas.Bool.{cases_eq, cases_lt}
-use Rattle.std.proofs.lemmas.List.{drop_more, take_more, get_or-set_same, get_or-set_other, get_or_past, length-set}
+use Rattle.std.proofs.lemmas.List.{take_more, get_or-set_same, get_or-set_other, get_or_past, length-set}
 use Rattle.dv_defs.specs.declared.names.ClassId.{ClassId}
 use Rattle.dv_defs.specs.First.{first_in}
 use Rattle.dv_defs.specs.Images.{Image}
@@ -173,21 +173,6 @@ there_already old new class place rest whole before same noted = record {
       ∙ before.there d (subst (λ (ps : List ℕ). d < length ps) noted.0 within) (subst (λ (ps : List ℕ). place_of ps d < 65535) noted.0 told);
   least = λ j d is. subst (λ (ps : List ℕ). place_of ps d ≤ j) (sym noted.0) (before.least j d (ap (λ (cs : List ClassId). slice_get (numbers cs) j) (sym same) ∙ is));
 }
-
--- an order of no classes
-pub none_yet : (order : Order) (count : ℕ) (cs : List ℕ) → order.classes.items ≡ [] → ((c : ℕ) → c < length order.places.items → 65535 ≤ place_of order.places.items c) → GoesOn order cs cs
-none_yet order count cs none nowhere = record {
-  first = λ f. ap (λ (ids : List ClassId). option_or (first_in f (numbers ids)) (first_in f cs)) none;
-  there = λ c within told. let high : 65535 ≤ place_of order.places.items c = nowhere c within in absurd (omega (arith, high, told));
-  least = λ j c is. let here : slice_get {X = ℕ} [] j ≡ Some c = ap (λ (ids : List ClassId). slice_get (numbers ids) j) (sym none) ∙ is in absurd (cc);
-}
-
--- what is left, by numbers
-pub left_numbers : (cs : List ClassId) (i : ℕ) (d : ClassId) → i < length cs → numbers (drop i cs) ≡ (get_or cs i d).0 ∷ numbers (drop (i + 1) cs)
-left_numbers cs i d within = ap numbers (drop_more cs i d within)
-
-pub goes_as : (order : Order) (rest other whole : List ℕ) → rest ≡ other → GoesOn order rest whole → GoesOn order other whole
-goes_as order rest other whole same before = subst (λ (ns : List ℕ). GoesOn order ns whole) same before
 
 -- ---- up the superclasses
 
