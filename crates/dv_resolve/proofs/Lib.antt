@@ -6,5 +6,7 @@ mod Declared
 mod Walking
 pub mod PoolLaws
 pub mod IdLaws
+pub mod OrderLaws
+pub mod DeclarerLaws
 pub mod MainLaws
 pub mod RoundLaws

@@ -1,5 +1,5 @@
--- Steps of the look-ups: along the classes, up the superclasses, and among the interfaces of each.
-use Rattle.std.specs.Prelude.{ℕ, zero, suc, ◌≡◌, ◌<◌, ◌≤◌, ◌+◌, ◌-◌, Bool, true, false, List, [], ◌∷◌, length, drop, get_or, flat_map, Option, Some, None, option_map, option_and_then, bytes_eq}
+-- The class in which a look-up begins, and what it finds along its order.
+use Rattle.std.specs.Prelude.{ℕ, suc, ◌≡◌, ◌<◌, ◌≤◌, ◌+◌, Bool, true, false, List, [], ◌∷◌, length, drop, get_or, Option, Some, None, option_and_then, bytes_eq}
 use Rattle.std.specs.Option.{option_or}
 use Rattle.std.proofs.Common.{refl, ap, sym, ◌∙◌, arith, add-one}
 use Rattle.std.proofs.Math.Seq.{drop-cons}
@@ -12,18 +12,11 @@ use Rattle.dv_defs.specs.declared.names.Proto.{Proto}
 use Rattle.dv_defs.specs.declared.names.Ty.{Ty}
 use Rattle.dv_defs.specs.First.{first_in}
 use Rattle.dv_defs.specs.Images.{Image}
-use Rattle.dv_defs.specs.LookUp.{class_referred, field_declared, field_found, field_named, interfaces_above, is_method_of, method_classes, method_found, method_named, once, superinterfaces}
+use Rattle.dv_defs.specs.LookUp.{class_referred, field_found, field_named, is_method_of, method_classes, method_found, method_named}
 use Rattle.dv_defs.specs.Names.{object_name}
-use Rattle.dv_defs.specs.Order.{numbers}
-use Rattle.dv_defs.specs.Pools.{Method, class_named, class_number, declared_by, find_from, first_of_classes, parent_at, supers, walk}
+use Rattle.dv_defs.specs.Pools.{Method, class_named, class_number, declared_by, find_from, first_of_classes}
 use Rattle.dv_defs.specs.Types.{class_in, is_array}
-use Rattle.law_linking.specs.Ordered.{IsOrdered}
-use Rattle.law_linking.proofs.FieldOrder.{field_found_along}
-use Rattle.law_linking.proofs.OnceNumbers.{first_in_once}
-use Rattle.law_linking.proofs.Upward.{first_in_append}
-use Rattle.dv_resolve.specs.declared.members.Member.{Member}
-use Rattle.dv_resolve.specs.Firsts.{field_beside}
-use Rattle.dv_resolve.specs.Members.{of_field, of_method}
+use Rattle.dv_resolve.specs.Members.{declares}
 
 -- ---- the class of a name
 
@@ -68,70 +61,9 @@ referred_in image t c = by (is_array t) (class_in t.base)
     by false (Some name) found = named_in image name c found
     by false None found = absurd (cc)
 
--- ---- up the superclasses
-
-none_first : {Y : Type 0} (h : ℕ → Option Y) (image : Image) (n : ℕ) → first_in h (walk image n None) ≡ None
-none_first h image zero = refl
-none_first h image (suc n) = refl
-
-or_found : {Y : Type 0} (of : Y → Member) (a b : Option Y) (x : Member) → Some x ≡ option_map of a → Some x ≡ option_map of (option_or a b)
-or_found of (Some y) b x found = found
-or_found of None b x found = absurd (cc)
-
-or_more : {Y : Type 0} (of : Y → Member) (a b : Option Y) → None ≡ option_map of a → option_or a b ≡ b
-or_more of None b none = refl
-or_more of (Some y) b none = absurd (cc)
-
--- what a search up the superclasses has left finds what it finds from the class on
-module _ {Y : Type 0} (h : ℕ → Option Y) (of : Y → Member) (image : Image) where
-  walk_cut : (many count : ℕ) (at : Option ClassId) (id : ClassId) → count < many → at ≡ Some id
-      → first_in h (walk image (many - count) (class_number at)) ≡ option_or (h id.0) (first_in h (walk image (many - (count + 1)) (parent_at image id.0)))
-  walk_cut many count at id within is =
-      let e : many - count ≡ suc (many - (count + 1)) = omega arith in
-      λ p. first_in h (walk image (e p) (class_number (is p)))
-
-  pub walk_begins : (infos : List ClassInfo) (c : ℕ) → image.classes ≡ infos → first_in h (walk image (length infos - 0) (Some c)) ≡ first_in h (supers image c)
-  walk_begins infos c same =
-      let e : length infos - 0 ≡ length infos = omega arith in
-      ap (λ n. first_in h (walk image n (Some c))) e ∙ (λ p. first_in h (walk image (length (sym same p)) (Some c)))
-
-  -- a class that gives something
-  pub walk_found : (many count : ℕ) (at : Option ClassId) (id : ClassId) (aim : Option Y) (o : Option Member) (x : Member) → count < many → at ≡ Some id
-      → o ≡ option_map of (h id.0) → o ≡ Some x → first_in h (walk image (many - count) (class_number at)) ≡ aim → Some x ≡ option_map of aim
-  walk_found many count at id aim o x within is asked some before =
-      or_found of (h id.0) (first_in h (walk image (many - (count + 1)) (parent_at image id.0))) x (sym some ∙ asked)
-      ∙ ap (option_map of) (sym (walk_cut many count at id within is) ∙ before)
-
-  -- a class that gives nothing
-  pub walk_more : (many count : ℕ) (at next : Option ClassId) (id : ClassId) (aim : Option Y) (o : Option Member) → count < many → at ≡ Some id
-      → o ≡ option_map of (h id.0) → o ≡ None → class_number next ≡ parent_at image id.0 → first_in h (walk image (many - count) (class_number at)) ≡ aim
-      → first_in h (walk image (many - (count + 1)) (class_number next)) ≡ aim
-  walk_more many count at next id aim o within is asked none parent before =
-      ap (λ c. first_in h (walk image (many - (count + 1)) c)) parent
-      ∙ (sym (or_more of (h id.0) (first_in h (walk image (many - (count + 1)) (parent_at image id.0))) (sym none ∙ asked))
-      ∙ (sym (walk_cut many count at id within is) ∙ before))
-
-  -- there is no superclass
-  pub walk_over : (n : ℕ) (at : Option ClassId) (aim : Option Y) → at ≡ None → first_in h (walk image n (class_number at)) ≡ aim → None ≡ option_map of aim
-  walk_over n at aim none before =
-      ap (option_map of) (sym (none_first h image n) ∙ (ap (λ (a : Option ClassId). first_in h (walk image n (class_number a))) (sym none) ∙ before))
-
-  pub walk_ends : (many count : ℕ) (at : Option ClassId) (aim : Option Y) → many ≤ count → first_in h (walk image (many - count) (class_number at)) ≡ aim → None ≡ option_map of aim
-  walk_ends many count at aim done before =
-      let e : many - count ≡ 0 = omega arith in
-      ap (option_map of) (ap (λ n. first_in h (walk image n (class_number at))) (sym e) ∙ before)
-
 -- ---- searches among lists of classes
 
-flat_first : {Y : Type 0} (f : ℕ → Option Y) (g : ℕ → List ℕ) (xs : List ℕ) → first_in f (flat_map g xs) ≡ first_in (λ c. first_in f (g c)) xs
-flat_first f g [] = refl
-flat_first f g (x ∷ xs) = first_in_append f (g x) (flat_map g xs) ∙ ap (option_or (first_in f (g x))) (flat_first f g xs)
-
-declares : Image → (Method → Bool) → ℕ → Option Method
-declares image good c = declared_by image c good
-
 first_is : (image : Image) (cs : List ℕ) (good : Method → Bool) → first_of_classes image cs good ≡ first_in (declares image good) cs
-unfolding declares
 first_is image [] good = refl
 first_is image (c ∷ cs) good = by (declared_by image c good) (first_is image cs good)
   where
@@ -139,64 +71,23 @@ first_is image (c ∷ cs) good = by (declared_by image c good) (first_is image c
     by None rest = rest
     by (Some m) rest = refl
 
--- up the superclasses
-pub first_above : (image : Image) (c : ℕ) (good : Method → Bool) → first_of_classes image (supers image c) good ≡ first_in (λ d. declared_by image d good) (supers image c)
-unfolding declares
-first_above image c good = first_is image (supers image c) good
-
--- in the interfaces of each
-pub first_beside : (image : Image) (c : ℕ) (good : Method → Bool) → first_of_classes image (superinterfaces image c) good ≡ first_in (λ d. first_of_classes image (interfaces_above image d) good) (supers image c)
-first_beside image c good =
-    first_is image (superinterfaces image c) good
-    ∙ (flat_first (declares image good) (interfaces_above image) (supers image c)
-    ∙ ap (λ (h : ℕ → Option Method). first_in h (supers image c)) (λ p d. sym (first_is image (interfaces_above image d) good) p))
-
--- in the interfaces of a class, each asked once
-pub first_listed : (image : Image) (c : ℕ) (listed : List ClassId) (good : Method → Bool) → numbers listed ≡ once (interfaces_above image c) → first_of_classes image (numbers listed) good ≡ first_of_classes image (interfaces_above image c) good
-first_listed image c listed good are =
-    ap (λ (cs : List ℕ). first_of_classes image cs good) are
-    ∙ (first_is image (once (interfaces_above image c)) good
-    ∙ (first_in_once (declares image good) (interfaces_above image c) ∙ sym (first_is image (interfaces_above image c) good)))
-
 -- ---- a method by a reference
 
-found_by : (image : Image) (c : ℕ) (name : List ℕ) (proto : Proto)
-    → method_found image c name proto ≡ option_or (first_of_classes image (supers image c) (is_method_of name proto)) (first_of_classes image (superinterfaces image c) (is_method_of name proto))
+-- what a search along the order of a class's look-up finds
+pub method_in_order : (image : Image) (c : ℕ) (name : List ℕ) (proto : Proto) → first_in (declares image (is_method_of name proto)) (method_classes image c) ≡ method_found image c name proto
 unfolding method_found
-found_by image c name proto =
-    let good = is_method_of name proto in
-    first_is image (method_classes image c) good
-    ∙ (first_in_append (declares image good) (supers image c) (superinterfaces image c)
-    ∙ (λ p. option_or (sym (first_is image (supers image c) good) p) (sym (first_is image (superinterfaces image c) good) p)))
+method_in_order image c name proto = sym (first_is image (method_classes image c) (is_method_of name proto))
 
-from_class : (image : Image) (r : MethodRef) (at : Option ClassId) (class : ClassId) → class_number at ≡ class_referred image r.class → at ≡ Some class → method_named image r ≡ method_found image class.0 r.name r.proto
-from_class image r at class refers is = ap (option_and_then (λ c. method_found image c r.name r.proto)) (sym refers ∙ ap class_number is)
+within_named : (image : Image) (t : Ty) (at : Option ClassId) (class : ClassId) → class_number at ≡ class_referred image t → at ≡ Some class → class_referred image t ≡ Some class.0
+within_named image t at class refers is = sym refers ∙ ap class_number is
 
-pub named_above : (image : Image) (r : MethodRef) (at : Option ClassId) (class : ClassId) (x : Member) → class_number at ≡ class_referred image r.class → at ≡ Some class
-    → Some x ≡ option_map of_method (first_of_classes image (supers image class.0) (is_method_of r.name r.proto)) → Some x ≡ option_map of_method (method_named image r)
-named_above image r at class x refers is found =
-    let good = is_method_of r.name r.proto in
-    or_found of_method (first_of_classes image (supers image class.0) good) (first_of_classes image (superinterfaces image class.0) good) x found
-    ∙ ap (option_map of_method) (sym (from_class image r at class refers is ∙ found_by image class.0 r.name r.proto))
+pub class_within : (image : Image) (t : Ty) (at : Option ClassId) (class : ClassId) → class_number at ≡ class_referred image t → at ≡ Some class → class.0 < length image.classes
+class_within image t at class refers is = referred_in image t class.0 (within_named image t at class refers is)
 
-pub named_beside : (image : Image) (r : MethodRef) (at : Option ClassId) (class : ClassId) (o : Option Member) → class_number at ≡ class_referred image r.class → at ≡ Some class
-    → None ≡ option_map of_method (first_of_classes image (supers image class.0) (is_method_of r.name r.proto))
-    → o ≡ option_map of_method (first_of_classes image (superinterfaces image class.0) (is_method_of r.name r.proto)) → o ≡ option_map of_method (method_named image r)
-named_beside image r at class o refers is none found =
-    let good = is_method_of r.name r.proto in
-    found
-    ∙ ap (option_map of_method) (sym (or_more of_method (first_of_classes image (supers image class.0) good) (first_of_classes image (superinterfaces image class.0) good) none)
-    ∙ sym (from_class image r at class refers is ∙ found_by image class.0 r.name r.proto))
+pub method_by_class : (image : Image) (r : MethodRef) (at : Option ClassId) (class : ClassId) → class_number at ≡ class_referred image r.class → at ≡ Some class → method_found image class.0 r.name r.proto ≡ method_named image r
+method_by_class image r at class refers is = ap (option_and_then (λ c. method_found image c r.name r.proto)) (sym (within_named image r.class at class refers is))
 
 -- ---- a field by a reference
 
-pub named_along : (image : Image) (r : FieldRef) (at : Option ClassId) (class : ClassId) (o : Option Member) → IsOrdered image → class_number at ≡ class_referred image r.class → at ≡ Some class
-    → o ≡ option_map of_field (first_in (field_beside image r.name r.ty) (supers image class.0)) → o ≡ option_map of_field (field_named image r)
-named_along image r at class o ordered refers is found =
-    let here : class_referred image r.class ≡ Some class.0 = sym refers ∙ ap class_number is in
-    let within = referred_in image r.class class.0 here in
-    found
-    ∙ ap (option_map of_field)
-    (sym (flat_first (field_declared image r.name r.ty) (λ c. c ∷ once (interfaces_above image c)) (supers image class.0))
-    ∙ (sym (field_found_along image ordered class.0 within r.name r.ty)
-    ∙ ap (option_and_then (λ c. field_found image c r.name r.ty)) (sym here)))
+pub field_by_class : (image : Image) (r : FieldRef) (at : Option ClassId) (class : ClassId) → class_number at ≡ class_referred image r.class → at ≡ Some class → field_found image class.0 r.name r.ty ≡ field_named image r
+field_by_class image r at class refers is = ap (option_and_then (λ c. field_found image c r.name r.ty)) (sym (within_named image r.class at class refers is))

@@ -4,12 +4,7 @@ use Rattle.std.specs.Option.{option_or}
 use Rattle.dv_defs.specs.declared.class.FieldDef.{FieldDef}
 use Rattle.dv_defs.specs.declared.class.MethodDef.{MethodDef}
 use Rattle.dv_defs.specs.declared.image.ClassInfo.{ClassInfo}
-use Rattle.dv_defs.specs.declared.names.Ty.{Ty}
-use Rattle.dv_defs.specs.First.{first_in}
-use Rattle.dv_defs.specs.Images.{Image}
-use Rattle.dv_defs.specs.LookUp.{field_declared, interfaces_above, once}
 use Rattle.dv_defs.specs.Numbering.{class_id}
-use Rattle.dv_defs.specs.Pools.{Field}
 use Rattle.dv_defs.specs.Types.{same_proto, ty_eq}
 use Rattle.dv_resolve.specs.declared.members.Member.{Member}
 use Rattle.dv_resolve.specs.declared.members.MethodKey.{MethodKey}
@@ -44,7 +39,3 @@ first_field_own k = first_own (is_field_under k) (λ f. f.flags)
 
 abbrev pub first_fields_from : FieldKey → ℕ → ℕ → List ClassInfo → Option Member
 first_fields_from k = first_from (λ c. c.def.fields) (is_field_under k) (λ f. f.flags)
-
--- the field that a class or an interface above it declares
-abbrev pub field_beside : Image → List ℕ → Ty → ℕ → Option Field
-field_beside image name t c = first_in (field_declared image name t) (c ∷ once (interfaces_above image c))

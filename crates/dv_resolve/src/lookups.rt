@@ -1,16 +1,17 @@
 // Where references to members lead.
-ghost use Rattle.std.specs.Prelude.{◌≡◌, [], slice_index_or, option_and_then, option_map};
+ghost use Rattle.std.specs.Prelude.{◌≡◌, ◌<◌, drop, length, option_and_then, option_map};
 ghost use Rattle.dv_defs.specs.First.{first_in};
 ghost use Rattle.dv_defs.specs.Images.{Image};
-ghost use Rattle.dv_defs.specs.LookUp.{class_referred, field_declared, field_named as named_field, is_method_of, method_named as named_method, superinterfaces};
+ghost use Rattle.dv_defs.specs.LookUp.{class_referred, field_declared, field_found, field_named as named_field, is_method_of, method_found, method_named as named_method};
 ghost use Rattle.dv_defs.specs.Names.{object_name};
 ghost use Rattle.dv_defs.specs.Order.{numbers};
-ghost use Rattle.dv_defs.specs.Pools.{class_named, class_number, declared_by, first_of_classes, parent_at, supers};
+ghost use Rattle.dv_defs.specs.Pools.{class_named, class_number, declared_by};
 ghost use Rattle.dv_defs.specs.Types.{class_in};
-ghost use Rattle.dv_resolve.specs.Firsts.{field_beside as first_beside};
-ghost use Rattle.dv_resolve.specs.Members.{Knows, of_field, of_method};
+ghost use Rattle.dv_resolve.specs.Members.{AreAllOf, Knows, declares, of_field, of_method};
 
+use crate::declarers::{FieldName, MethodName};
 use crate::members::{FieldKey, Member, Members, MethodKey};
+use crate::orders::first_place;
 use dv_defs::{Base, ClassId, FieldRef, MethodRef, Proto, Text, Ty};
 
 const OBJECT: &[u8] = b"Ljava/lang/Object;";
@@ -59,26 +60,6 @@ fn class_of(members: &Members<'_>, ty: &Ty) -> Option<ClassId>
     Some(ClassId(place as u32))
 }
 
-/// The superclass of a class.
-fn parent_of(members: &Members<'_>, class: ClassId) -> Option<ClassId>
-    ensures { (image : Image) → Knows members.now image → class_number result ≡ parent_at image class.0 }
-{
-    match members.infos.get(class.0 as usize) {
-        Some(info) => info.parent,
-        None => None,
-    }
-}
-
-/// The interfaces that a class names and those above them, in the order of look-up.
-fn interfaces_of<'a>(members: &Members<'a>, class: ClassId) -> &'a [ClassId]
-    ensures { result.now ≡ slice_index_or members.now.interfaces.now class.0 [] }
-{
-    match members.interfaces.get(class.0 as usize) {
-        Some(above) => above.items(),
-        None => &[],
-    }
-}
-
 /// The method that a class declares.
 fn method_of(members: &Members<'_>, class: ClassId, name: &Text, proto: &Proto) -> Option<Member>
     ensures { (image : Image) → Knows members.now image
@@ -88,59 +69,49 @@ fn method_of(members: &Members<'_>, class: ClassId, name: &Text, proto: &Proto) 
     members.methods.get(&key).copied()
 }
 
-/// The first method that one of these classes declares.
+/// The first method that one of these classes declares, from a place on.
 fn method_among(
     members: &Members<'_>,
     classes: &[ClassId],
+    from: usize,
     name: &Text,
     proto: &Proto,
 ) -> Option<Member>
     ensures { (image : Image) → Knows members.now image
-        → result ≡ option_map of_method (first_of_classes image (numbers classes.now) (is_method_of name.now proto.now)) }
+        → result ≡ option_map of_method (first_in (declares image (is_method_of name.now proto.now)) (numbers (drop from classes.now))) }
 {
-    for class in classes {
-        if let Some(member) = method_of(members, *class, name, proto) {
+    for i in from..classes.len() {
+        if let Some(member) = method_of(members, classes[i], name, proto) {
             return Some(member);
         }
     }
     None
 }
 
-/// The method that a class or the nearest of its superclasses declares.
-fn method_above(members: &Members<'_>, class: ClassId, name: &Text, proto: &Proto) -> Option<Member>
+/// The classes that declare a method of this name and prototype.
+fn declarers_of_method<'a>(
+    members: &'a Members<'_>,
+    name: &'a Text,
+    proto: &'a Proto,
+) -> &'a [ClassId]
     ensures { (image : Image) → Knows members.now image
-        → result ≡ option_map of_method (first_of_classes image (supers image class.0) (is_method_of name.now proto.now)) }
+        → AreAllOf (declares image (is_method_of name.now proto.now)) result.now }
 {
-    let mut at = Some(class);
-    for _ in 0..members.infos.len() {
-        let id = at?;
-        if let Some(member) = method_of(members, id, name, proto) {
-            return Some(member);
-        }
-        at = parent_of(members, id);
+    match members.method_declarers.get(&MethodName { name, proto }) {
+        Some(classes) => classes.as_slice(),
+        None => &[],
     }
-    None
 }
 
-/// The method that the first of a class's superinterfaces declares, its own before those of its superclass.
-fn method_beside(
-    members: &Members<'_>,
-    class: ClassId,
-    name: &Text,
-    proto: &Proto,
-) -> Option<Member>
-    ensures { (image : Image) → Knows members.now image
-        → result ≡ option_map of_method (first_of_classes image (superinterfaces image class.0) (is_method_of name.now proto.now)) }
+/// The first method in the order of a look-up.
+fn method_along(members: &Members<'_>, class: ClassId, name: &Text, proto: &Proto) -> Option<Member>
+    ensures { (image : Image) → Knows members.now image → class.0 < length image.classes
+        → result ≡ option_map of_method (method_found image class.0 name.now proto.now) }
 {
-    let mut at = Some(class);
-    for _ in 0..members.infos.len() {
-        let id = at?;
-        if let Some(member) = method_among(members, interfaces_of(members, id), name, proto) {
-            return Some(member);
-        }
-        at = parent_of(members, id);
-    }
-    None
+    let order = &members.orders.get(class.0 as usize)?.methods;
+    let declarers = declarers_of_method(members, name, proto);
+    let from = first_place(order.places.as_slice(), declarers);
+    method_among(members, order.classes.as_slice(), from, name, proto)
 }
 
 /// The field that a class declares.
@@ -151,43 +122,45 @@ fn field_of(members: &Members<'_>, class: ClassId, name: &Text, ty: &Ty) -> Opti
     members.fields.get(&key).copied()
 }
 
-/// The first field that one of these classes declares.
-fn field_among(members: &Members<'_>, classes: &[ClassId], name: &Text, ty: &Ty) -> Option<Member>
+/// The first field that one of these classes declares, from a place on.
+fn field_among(
+    members: &Members<'_>,
+    classes: &[ClassId],
+    from: usize,
+    name: &Text,
+    ty: &Ty,
+) -> Option<Member>
     ensures { (image : Image) → Knows members.now image
-        → result ≡ option_map of_field (first_in (field_declared image name.now ty.now) (numbers classes.now)) }
+        → result ≡ option_map of_field (first_in (field_declared image name.now ty.now) (numbers (drop from classes.now))) }
 {
-    for class in classes {
-        if let Some(member) = field_of(members, *class, name, ty) {
+    for i in from..classes.len() {
+        if let Some(member) = field_of(members, classes[i], name, ty) {
             return Some(member);
         }
     }
     None
 }
 
-/// The field that a class or the first of its superinterfaces declares.
-fn field_beside(members: &Members<'_>, class: ClassId, name: &Text, ty: &Ty) -> Option<Member>
-    ensures { (image : Image) → Knows members.now image → result ≡ option_map of_field (first_beside image name.now ty.now class.0) }
+/// The classes that declare a field of this name and type.
+fn declarers_of_field<'a>(members: &'a Members<'_>, name: &'a Text, ty: &'a Ty) -> &'a [ClassId]
+    ensures { (image : Image) → Knows members.now image
+        → AreAllOf (field_declared image name.now ty.now) result.now }
 {
-    match field_of(members, class, name, ty) {
-        Some(member) => Some(member),
-        None => field_among(members, interfaces_of(members, class), name, ty),
+    match members.field_declarers.get(&FieldName { name, ty }) {
+        Some(classes) => classes.as_slice(),
+        None => &[],
     }
 }
 
-/// The field that a class or the nearest of its superclasses has, each with its superinterfaces.
+/// The first field in the order of a look-up.
 fn field_along(members: &Members<'_>, class: ClassId, name: &Text, ty: &Ty) -> Option<Member>
-    ensures { (image : Image) → Knows members.now image
-        → result ≡ option_map of_field (first_in (first_beside image name.now ty.now) (supers image class.0)) }
+    ensures { (image : Image) → Knows members.now image → class.0 < length image.classes
+        → result ≡ option_map of_field (field_found image class.0 name.now ty.now) }
 {
-    let mut at = Some(class);
-    for _ in 0..members.infos.len() {
-        let id = at?;
-        if let Some(member) = field_beside(members, id, name, ty) {
-            return Some(member);
-        }
-        at = parent_of(members, id);
-    }
-    None
+    let order = &members.orders.get(class.0 as usize)?.fields;
+    let declarers = declarers_of_field(members, name, ty);
+    let from = first_place(order.places.as_slice(), declarers);
+    field_among(members, order.classes.as_slice(), from, name, ty)
 }
 
 impl<'a> Members<'a> {
@@ -204,9 +177,6 @@ impl<'a> Members<'a> {
         ensures { (image : Image) → Knows self.now image → result ≡ option_map of_method (named_method image reference.now) }
     {
         let class = class_of(self, &reference.class)?;
-        match method_above(self, class, &reference.name, &reference.proto) {
-            Some(member) => Some(member),
-            None => method_beside(self, class, &reference.name, &reference.proto),
-        }
+        method_along(self, class, &reference.name, &reference.proto)
     }
 }

@@ -11,6 +11,8 @@ ghost use Rattle.law_linking.proofs.Members.{HasFields, HasMethods};
 ghost use Rattle.dv_resolve.specs.Firsts.{first_field_own, first_fields_from, first_method_own, first_methods_from};
 ghost use Rattle.dv_resolve.specs.Members.{Knows, field_key_eq, method_key_eq};
 
+use crate::declarers::{FieldName, MethodName, field_declarers, method_declarers};
+use crate::orders::{Orders, orders_of_all};
 use dv_defs::{ClassId, ClassInfo, FieldDef, MethodDef, Pool, Proto, Seq, Text, Ty};
 use indexmap::IndexMap;
 use std::alloc::{AllocError, Global};
@@ -44,10 +46,12 @@ pub struct Member {
 pub struct Members<'a> {
     pub infos: &'a [ClassInfo],
     pub names: &'a Pool<Text>,
-    /// By class, the interfaces that it names and those above them, in the order of look-up.
-    pub interfaces: &'a [Seq<ClassId>],
+    /// By class, the orders of look-ups that begin in it.
+    pub orders: Vec<Orders>,
     pub methods: IndexMap<MethodKey<'a>, Member>,
     pub fields: IndexMap<FieldKey<'a>, Member>,
+    pub method_declarers: IndexMap<MethodName<'a>, Vec<ClassId>>,
+    pub field_declarers: IndexMap<FieldName<'a>, Vec<ClassId>>,
 }
 
 /// Adds a class's methods, whose numbers begin with `first`. Of equal ones the first is kept.
@@ -163,14 +167,19 @@ impl<'a> Members<'a> {
             → ((c : ℕ) → numbers (slice_index_or interfaces.now c []) ≡ once (interfaces_above image c))
             → IfOk result (λ members. Knows members image) }
     {
+        let orders = orders_of_all(alloc, infos, interfaces)?;
         let methods = methods_of(alloc, infos)?;
         let fields = fields_of(alloc, infos)?;
+        let method_declarers = method_declarers(alloc, &methods)?;
+        let field_declarers = field_declarers(alloc, &fields)?;
         Ok(Members {
             infos,
             names,
-            interfaces,
+            orders,
             methods,
             fields,
+            method_declarers,
+            field_declarers,
         })
     }
 }

@@ -1,7 +1,9 @@
-use Rattle.dv_resolve.proofs.Walking.{named_along}
+use Rattle.std.proofs.Common.{ap, option_map, ◌∙◌}
+use Rattle.dv_resolve.specs.Members.{of_field}
+use Rattle.dv_resolve.proofs.Walking.{class_within, field_by_class}
 use Rattle.dv_resolve.proofs.members.Members.field_named.Goals as goal
 
 pub returns : goal.returns
 returns c = λ image knows.
-    named_along image c.args.reference.now c.class_of.result c.in_ok-class.class c.field_along.result knows.ordered (c.class_of.ensures image knows) c.in_ok-class.was
-    (c.field_along.ensures image knows)
+    c.field_along.ensures image knows (class_within image c.args.reference.now.class c.class_of.result c.in_ok-class.class (c.class_of.ensures image knows) c.in_ok-class.was)
+    ∙ ap (option_map of_field) (field_by_class image c.args.reference.now c.class_of.result c.in_ok-class.class (c.class_of.ensures image knows) c.in_ok-class.was)

@@ -10,7 +10,9 @@ returns-clause-knows c = λ image classes has_methods has_fields ordered names i
   few = subst (λ (cs : List ClassInfo). length cs < 2 ^ 32) (sym classes) c.requires.few;
   ordered = ordered;
   names = names;
-  interfaces = interfaces;
+  orders = c.in_ok-orders.ensures image classes ordered interfaces;
   methods = λ k. c.in_ok-methods.ensures k ∙ (ap (first_methods_from k 0 0) (sym classes) ∙ keyed_method image has_methods k);
   fields = λ k. c.in_ok-fields.ensures k ∙ (ap (first_fields_from k 0 0) (sym classes) ∙ keyed_field image has_fields k);
+  method_declarers = c.in_ok-method_declarers.ensures;
+  field_declarers = c.in_ok-field_declarers.ensures;
 }

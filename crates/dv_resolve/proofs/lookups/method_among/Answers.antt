@@ -1,7 +1,0 @@
--- Answers that search takes long to find.
-use Rattle.std.proofs.lemmas.Grind.{common_steps}
-use Rattle.std.proofs.Common.{arith}
-use Rattle.dv_resolve.proofs.lookups.method_among.Goals as goal
-
-pub loop-class-preserved : goal.loop-class-preserved
-loop-class-preserved c = grind (arith, common_steps)
