@@ -1,5 +1,5 @@
 -- What has gone on is what goes on in the flow that gathers.
-use Rattle.std.proofs.Common.{◌≡◌, ℕ, List, [], ◌∷◌, ◌++◌, map, Option, Some, None, refl, sym, ap, ◌∙◌}
+use Rattle.std.proofs.Common.{◌≡◌, ℕ, List, [], ◌∷◌, ◌++◌, map, Some, refl, sym, ap, ◌∙◌}
 use Rattle.std.proofs.lemmas.List.{map-append}
 use Rattle.std.specs.Prelude.{filter}
 use Rattle.dv_worklist.specs.declared.flows.Onward.{Onward}
@@ -12,7 +12,6 @@ use Rattle.dv_typing.specs.Transfer.{out}
 use Rattle.dv_typing.specs.Flow.{Catcher, targets}
 use Rattle.law_infer.specs.Flowing.{goes_to}
 use Rattle.law_gather.specs.Gathered.{covering_entry, hands_on, onward_by, onward_caught}
-use Rattle.dv_rules.specs.declared.flow.Edge.{Edge}
 use Rattle.dv_rules.specs.Edges.{handler_edge}
 use Rattle.dv_bases.specs.Bases.{Names}
 use Rattle.dv_plan.specs.declared.hops.Hop.{Hop}
@@ -33,9 +32,9 @@ kept_by names code at s after x w fetched a is =
     let goes : List (Onward RegState) = goes_to code after (targets x) in
     let hands : List (Onward RegState) = hands_on code s (covering_entry code at x) in
     let first : map (to_target names after) w.targets ≡ map (onward_kept names) goes =
-        ap (map (to_target names after)) is.targets ∙ sym (kept_targets names after (filter (begins_insn code.tiles) (targets x))) in
+    ap (map (to_target names after)) is.targets ∙ sym (kept_targets names after (filter (begins_insn code.tiles) (targets x))) in
     let both : map (to_target names after) w.targets ++ map (onward_kept names) (hands_on code s w.covering) ≡ map (onward_kept names) goes ++ map (onward_kept names) hands =
-        λ i. first i ++ map (onward_kept names) (hands_on code s (is.covering i)) in
+    λ i. first i ++ map (onward_kept names) (hands_on code s (is.covering i)) in
     both ∙ (sym (map-append (onward_kept names) goes hands) ∙
     (ap (λ (t : RegState). map (onward_kept names) (goes_to code t (targets x) ++ hands)) a ∙ ap (λ o. map (onward_kept names) (onward_by names.image code at s o)) (sym fetched)))
 

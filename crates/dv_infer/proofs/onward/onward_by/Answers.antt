@@ -1,4 +1,4 @@
-use Rattle.std.proofs.Common.{◌≡◌, ◌++◌, map, sym, ap, ◌∙◌}
+use Rattle.std.proofs.Common.{◌≡◌, ◌++◌, map, ap, ◌∙◌}
 use Rattle.dv_worklist.specs.Beside.{onward_kept}
 use Rattle.dv_ops.specs.Meaning.{code_of}
 use Rattle.dv_bases.specs.States.{state_of}
@@ -32,5 +32,5 @@ returns c =
     let is = ways_are names code c.requires.ready c.args.plan.now c.requires.plan place x w c.requires.place insn.1.fetched c.ways_at-ways.ensures in
     let targets = c.in_ok-onwards.ensures ∙ ap (map (to_target names after)) c.items.ensures in
     let all : c.push_entry.new.onwards.items ≡ map (to_target names after) w.targets ++ map (onward_kept names) (hands_on code s w.covering) =
-        c.in_ok-push_entry.ensures ∙ ap (λ os. os ++ map (onward_kept names) (hands_on code s w.covering)) targets in
+    c.in_ok-push_entry.ensures ∙ ap (λ os. os ++ map (onward_kept names) (hands_on code s w.covering)) targets in
     all ∙ kept_by names code place s after x w insn.1.fetched (c.in_ok-after.ensures.state x insn.1.fetched) is
