@@ -24,7 +24,7 @@ before_from : (at : ℕ) (o : Option ℕ) → is_before at o ≡ true → o ≡ 
 before_from at None e = absurd (cc)
 before_from at (Some p) e = ap Some (eqb-true p at e)
 
-before_to : (at : ℕ) (o : Option ℕ) → o ≡ Some at → is_before at o ≡ true
+pub before_to : (at : ℕ) (o : Option ℕ) → o ≡ Some at → is_before at o ≡ true
 before_to at o e = subst (λ (z : Option ℕ). is_before at z ≡ true) (sym e) (eq-eqb at at refl)
 
 lt_false : (a b : ℕ) → b ≤ a → nat_lt a b ≡ false
