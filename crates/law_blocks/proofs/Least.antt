@@ -1,6 +1,6 @@
 -- The least assignment of the flow from head to head, filled in between, is that of the flow that gathers.
-use Rattle.std.specs.Prelude.{nat_lt, filter}
-use Rattle.std.proofs.Common.{◌≡◌, ℕ, zero, suc, ◌+◌, List, [], ◌∷◌, ◌++◌, Bool, true, false, Option, Some, None, refl, sym, subst}
+use Rattle.std.specs.Prelude.{nat_lt}
+use Rattle.std.proofs.Common.{◌≡◌, ℕ, zero, suc, ◌+◌, List, [], ◌++◌, Bool, true, false, Option, Some, None, refl, sym}
 use Rattle.dv_worklist.specs.declared.flows.Onward.{Onward}
 use Rattle.dv_worklist.specs.Flow.{Assignment, HasAbove, IsClosed, IsUnder, IsLawful}
 use Rattle.dv_typing.specs.declared.typing.RegState.{RegState}
@@ -8,7 +8,6 @@ use Rattle.dv_defs.specs.Images.{Image}
 use Rattle.dv_defs.specs.Op.{Code}
 use Rattle.dv_defs.specs.Tiling.{begins_insn}
 use Rattle.dv_typing.specs.Statics.{At, fetch}
-use Rattle.dv_typing.specs.RegTypes.{IsBelow}
 use Rattle.dv_typing.specs.Flow.{targets}
 use Rattle.dv_types.specs.Under.{state_under}
 use Rattle.dv_types.proofs.Below.{below_from, below_to}

@@ -1,6 +1,6 @@
 -- The laws of the flow from head to head.
 mod Each
-mod Through
+pub mod Through
 pub mod Filled
 mod Closed
 pub mod Least

@@ -1,7 +1,7 @@
 -- What goes on from an instruction through straight code.
-use Rattle.std.specs.Prelude.{slice_get, nat_lt, nat_eq}
-use Rattle.std.proofs.Common.{◌≡◌, ℕ, zero, suc, ◌+◌, ◌-◌, ◌<◌, ◌≤◌, List, [], ◌∷◌, ◌++◌, length, Bool, true, false, Option, Some, None, refl, ap, sym, ◌∙◌, subst, arith}
-use Rattle.std.proofs.lemmas.Bool.{lt-ltb, ltb-true, eqb-true, eq-eqb}
+use Rattle.std.specs.Prelude.{slice_get, nat_lt}
+use Rattle.std.proofs.Common.{◌≡◌, ℕ, suc, ◌+◌, ◌-◌, ◌<◌, ◌≤◌, List, [], ◌∷◌, ◌++◌, Bool, true, false, Option, Some, None, refl, ap, sym, ◌∙◌, subst, arith}
+use Rattle.std.proofs.lemmas.Bool.{lt-ltb, eqb-true, eq-eqb}
 use Rattle.std.proofs.lemmas.Option.{same_Some}
 use Rattle.dv_worklist.specs.declared.flows.Onward.{Onward}
 use Rattle.dv_typing.specs.declared.typing.RegState.{RegState}
@@ -11,11 +11,11 @@ use Rattle.dv_defs.specs.Op.{Code}
 use Rattle.dv_defs.specs.Tiling.{begins_insn}
 use Rattle.dv_typing.specs.Statics.{At, fetch}
 use Rattle.dv_typing.specs.Transfer.{out}
-use Rattle.dv_typing.specs.Flow.{Catcher, targets, caught_state}
+use Rattle.dv_typing.specs.Flow.{targets, caught_state}
 use Rattle.law_infer.specs.Flowing.{goes_to, IsReady}
 use Rattle.law_infer.proofs.Tiles.{within}
 use Rattle.law_gather.specs.Gathered.{addresses, covering_entry, handed, hands_on, onward_by, catchers_of, onward_caught, onward_gathered}
-use Rattle.law_blocks.specs.Blocks.{Before, AreBefore, GoesStraight, is_before, onward_through, onward_blocks}
+use Rattle.law_blocks.specs.Blocks.{Before, AreBefore, is_before, onward_through, onward_blocks}
 use Rattle.law_blocks.proofs.Each.{Each, each_nil, each_cons, each_left, each_of, each_map, each_made, made_each}
 
 -- ---- the test of what stands before
@@ -109,15 +109,17 @@ module _ (image : Image) (code : Code) (before : Before) where
         let first : Each P goes = each_left P goes (hands_on code s (covering_entry code at x)) (each_of P (onward_gathered image code at s) (goes ++ hands_on code s (covering_entry code at x)) (insn_gathered at s x e) each) in
         made_each P (begins_insn code.tiles) (λ to. record { to = to; state = after at s x }) (targets x) first 0 to (subst (λ (z : List ℕ). slice_get z 0 ≡ Some to) (sym only) refl) leads
 
+    -- it holds at a target that is an instruction
+    abbrev Begun : (Onward RegState → Type 0) → ℕ → RegState → At → ℕ → Type 0
+    Begun P at s x to = begins_insn code.tiles to ≡ true → P (record { to = to; state = after at s x })
+
     -- and nowhere else
     pub straight_alone : (P : Onward RegState → Type 0) (at to : ℕ) (x : At) (s : RegState) → fetch image code.method.id at ≡ Some x → before to ≡ Some at →
         P (record { to = to; state = after at s x }) → Each P (goes_to code (after at s x) (targets x))
     straight_alone P at to x s e q p =
         let (next, only, leads) = straight at to x e q in
-        let f : ℕ → Onward RegState = λ to. record { to = to; state = after at s x } in
         each_made P (begins_insn code.tiles) (λ to. record { to = to; state = after at s x }) (targets x)
-        (each_of (λ to. begins_insn code.tiles to ≡ true → P (record { to = to; state = after at s x })) (to ∷ []) (targets x) (sym only)
-        (each_cons (λ to. begins_insn code.tiles to ≡ true → P (record { to = to; state = after at s x })) to [] (λ b. p) (each_nil (λ to. begins_insn code.tiles to ≡ true → P (record { to = to; state = after at s x })))))
+        (each_of (Begun P at s x) (to ∷ []) (targets x) (sym only) (each_cons (Begun P at s x) to [] (λ b. p) (each_nil (Begun P at s x))))
 
     -- where the next instruction doesn't follow, it leads to heads
     leads_by : (at to : ℕ) (x : At) → fetch image code.method.id at ≡ Some x → is_before at (before x.next) ≡ false → (k : ℕ) → slice_get (targets x) k ≡ Some to → (o : Option ℕ) → before to ≡ o → before to ≡ None
