@@ -1,6 +1,6 @@
 -- Marks, one instruction after another.
-use Rattle.std.proofs.Common.{◌≡◌, ◌≢◌, ℕ, zero, suc, ◌+◌, ◌<◌, ◌≤◌, Bool, true, false, List, [], ◌∷◌, length, map, replicate, Option, Some, None, refl, ap, sym, ◌∙◌, subst, arith, ◌⊎◌, inl, inr, set}
-use Rattle.std.specs.Prelude.{slice_get, slice_index_or, slice_set, filter, option_map, IfSome}
+use Rattle.std.proofs.Common.{◌≡◌, ◌≢◌, ℕ, zero, suc, ◌+◌, Bool, true, false, List, [], ◌∷◌, length, map, replicate, Option, Some, None, refl, ap, sym, ◌∙◌, subst, arith, ◌⊎◌, inl, inr}
+use Rattle.std.specs.Prelude.{slice_get, slice_set, filter, option_map, IfSome}
 use Rattle.std.proofs.lemmas.Bool.{cases_eq, cases_lt}
 use Rattle.std.proofs.lemmas.List.{get_or-set_same, get_or-set_other, get_or_past, set_past}
 use Rattle.std.proofs.lemmas.Option.{same_Some, slice_get-map}
@@ -14,7 +14,7 @@ use Rattle.dv_plan.specs.declared.marks.Mark.{Mark}
 use Rattle.dv_plan.specs.declared.marks.Mark.TheVariants as mark
 use Rattle.dv_plan.specs.declared.hops.Hop.{Hop}
 use Rattle.dv_plan.specs.declared.ways.Ways.{Ways}
-use Rattle.dv_plan.specs.Ways.{IsNextAlone, IsWays, HasWays, AreWays}
+use Rattle.dv_plan.specs.Ways.{IsNextAlone, IsWays, HasWays}
 use Rattle.dv_plan.specs.Marks.{mark_at, AreMarks, LeadToHeads, met, headed, headed_lists, marked_by, marked}
 
 -- ---- a mark that is set
@@ -83,11 +83,11 @@ module _ (image : Image) (code : Code) (n : ℕ) where
   pub head_keeps : (marks : List Mark) (to : ℕ) → AreMarks image code n marks → AreMarks image code n (slice_set marks to mark.Head)
   head_keeps marks to a =
       let other : (k : ℕ) (m : Mark) → m ≢ mark.Head → mark_at (slice_set marks to mark.Head) k ≡ m → mark_at marks k ≡ m =
-          λ k m no_head e.
-              elim (cases_eq k to) [
-                | inl same ↦ absurd (no_head (sym e ∙ subst (λ (j : ℕ). mark_at (slice_set marks to mark.Head) j ≡ mark.Head) (sym same) (at_head marks to)))
-                | inr differs ↦ sym (at_other marks to k mark.Head differs) ∙ e
-              ] in
+      λ k m no_head e.
+      elim (cases_eq k to) [
+        | inl same ↦ absurd (no_head (sym e ∙ subst (λ (j : ℕ). mark_at (slice_set marks to mark.Head) j ≡ mark.Head) (sym same) (at_head marks to)))
+        | inr differs ↦ sym (at_other marks to k mark.Head differs) ∙ e
+      ] in
       record {
         unseen = λ k e. a.unseen k (other k mark.Unseen (λ h. no_unseen mark.Head refl (sym h)) e);
         straight = λ p k e. a.straight p k (other k (mark.After p) (λ h. no_after mark.Head p refl (sym h)) e);
@@ -186,7 +186,7 @@ module _ (image : Image) (code : Code) (n : ℕ) where
           let new = slice_set marks next (mark.After n) in
           let other : (k : ℕ) → k ≢ next → mark_at new k ≡ mark_at marks k = λ k differs. at_other marks next k (mark.After n) differs in
           let here : (m : Mark) → m ≢ mark.Head → mark_at new next ≡ m → m ≡ mark.After n =
-              λ m no_head f. elim (at_set marks next (mark.After n)) [ inl g ↦ sym f ∙ g | inr g ↦ absurd (no_head (sym f ∙ g)) ] in
+          λ m no_head f. elim (at_set marks next (mark.After n)) [ inl g ↦ sym f ∙ g | inr g ↦ absurd (no_head (sym f ∙ g)) ] in
           record {
             unseen = λ to f begins at y h g k there.
                 elim (cases_eq to next) [

@@ -1,5 +1,4 @@
-use Rattle.std.proofs.Common.{◌≡◌, ◌+◌, ◌≤◌, ◌<◌, ◌∙◌, ℕ, length, List, Option, None, sym, subst, arith}
-use Rattle.std.specs.Prelude.{slice_index_or}
+use Rattle.std.proofs.Common.{◌≡◌, ◌+◌, ◌∙◌, ℕ, length, List, Option, None, sym, subst, arith}
 use Rattle.std.proofs.lemmas.List.{get_or_default}
 use Rattle.dv_plan.specs.declared.marks.Mark.{Mark}
 use Rattle.dv_plan.specs.declared.ways.Ways.{Ways}
@@ -15,7 +14,7 @@ pub loop-at-preserved : goal.loop-at-preserved
 loop-at-preserved c image code clean are =
     let o = c.index-ways-at.result in
     let has : HasWays image code c.loop-at.at o =
-        subst (λ (p : Option Ways). HasWays image code c.loop-at.at p) (get_or_default c.args.ways.now c.loop-at.at None o c.loop-at-test.true ∙ sym c.index-ways-at.is) (are.each c.loop-at.at c.loop-at-test.true) in
+    subst (λ (p : Option Ways). HasWays image code c.loop-at.at p) (get_or_default c.args.ways.now c.loop-at.at None o c.loop-at-test.true ∙ sym c.index-ways-at.is) (are.each c.loop-at.at c.loop-at-test.true) in
     subst (λ (ms : List Mark). AreMarks image code (c.loop-at.at + 1) ms) (sym c.mark_from.ensures)
     (one_more image code c.loop-at.at c.loop-at.marks.items o has (c.loop-at.invariant image code clean are))
 
