@@ -88,7 +88,7 @@ module _ (names : Names) (code : Code) (ready : IsReady names.image code) (marks
       let before : from < addresses code = omega (arith, g.rises, within) in
       let was = fits_here names.image code from q.0.state c.state before (sym q.2) (fit from q.0 q.1).1 in
       let here : StateFits names.image code (out names.image code.method from c.insn.op c.state) =
-          transfer_fits names.image code ready.code_is ready.clean from c.insn c.fetched c.state was.1 in
+      transfer_fits names.image code ready.code_is ready.clean from c.insn c.fetched c.state was.1 in
       gathered_here at r.state within (g.leads, subst (λ (t : RegState). StateFits names.image code t) (sym c.is) here)
 
   -- ---- one more address
@@ -98,54 +98,57 @@ module _ (names : Names) (code : Code) (ready : IsReady names.image code) (marks
     More zs = AreFilledTo names code (before_by marks) (at + 1) xs zs × FitsAll names code zs
 
     at_head : before_by marks at ≡ None → More ys
-    at_head none =
-        (record {
-          heads = λ to h b. elim (cases_eq to at) [
-            | inl same ↦ part.rest to (omega (arith, same))
-            | inr other ↦ part.heads to (omega (arith, h, other)) b
-          ];
-          steps = λ p to h b. elim (cases_eq to at) [
-            | inl same ↦ absurd (let e = sym none ∙ (ap (before_by marks) (sym same) ∙ b) in cc)
-            | inr other ↦ part.steps p to (omega (arith, h, other)) b
-          ];
-          rest = λ to h. part.rest to (omega (arith, h));
-        }, fit)
+    at_head none = (
+      record {
+        heads = λ to h b. elim (cases_eq to at) [
+          | inl same ↦ part.rest to (omega (arith, same))
+          | inr other ↦ part.heads to (omega (arith, h, other)) b
+        ];
+        steps = λ p to h b. elim (cases_eq to at) [
+          | inl same ↦ absurd (let e = sym none ∙ (ap (before_by marks) (sym same) ∙ b) in cc)
+          | inr other ↦ part.steps p to (omega (arith, h, other)) b
+        ];
+        rest = λ to h. part.rest to (omega (arith, h));
+      },
+      fit,
+    )
 
     behind : (from : ℕ) → before_by marks at ≡ Some from → (row : Option Row) → IsRowAfter names code from (assigned ys from) row → More (slice_set ys at row)
     behind from b row after =
         let zs = slice_set ys at row in
         let inside : at < length ys = omega (arith, within, long) in
         let here : assigned zs at ≡ row = get_or-set_same ys at row None inside in
-        let other : (k : ℕ) → k ≢ at → assigned zs k ≡ assigned ys k = λ k differs. get_or-set_other ys at k row None differs in
-        (record {
-          heads = λ to h none. elim (cases_eq to at) [
-            | inl same ↦ absurd (let e = sym b ∙ (ap (before_by marks) (sym same) ∙ none) in cc)
-            | inr differs ↦ other to differs ∙ part.heads to (omega (arith, h, differs)) none
-          ];
-          steps = λ p to h e. elim (cases_eq to at) [
+        let other : (k : ℕ) → k ≢ at → assigned zs k ≡ assigned ys k = λ k differs. get_or-set_other ys at k row None differs in (
+          record {
+            heads = λ to h none. elim (cases_eq to at) [
+              | inl same ↦ absurd (let e = sym b ∙ (ap (before_by marks) (sym same) ∙ none) in cc)
+              | inr differs ↦ other to differs ∙ part.heads to (omega (arith, h, differs)) none
+            ];
+            steps = λ p to h e. elim (cases_eq to at) [
+              | inl same ↦
+                  let from_is : from ≡ p = same_Some from p (sym b ∙ (ap (before_by marks) (sym same) ∙ e)) in
+                  let rises = (are.straight from at b).rises in
+                  let apart : from ≢ at = λ q. absurd (omega (arith, rises, q)) in
+                  let made : state_in (assigned zs at) ≡ state_after names.image code from (fetch names.image code.method.id from) (state_in (assigned zs from)) =
+                  ap state_in here ∙ (after.state ∙ ap (λ o. state_after names.image code from (fetch names.image code.method.id from) (state_in o)) (sym (other from apart))) in
+                  subst (λ (k : ℕ). state_in (assigned zs k) ≡ state_after names.image code p (fetch names.image code.method.id p) (state_in (assigned zs p))) (sym same)
+                  (subst (λ (k : ℕ). state_in (assigned zs at) ≡ state_after names.image code k (fetch names.image code.method.id k) (state_in (assigned zs k))) from_is made)
+              | inr differs ↦
+                  let rises = (are.straight p to e).rises in
+                  let apart : p ≢ at = λ q. absurd (omega (arith, rises, q, h, differs)) in
+                  ap state_in (other to differs) ∙ (part.steps p to (omega (arith, h, differs)) e ∙
+                  ap (λ o. state_after names.image code p (fetch names.image code.method.id p) (state_in o)) (sym (other p apart)))
+            ];
+            rest = λ to h. other to (λ q. absurd (omega (arith, h, q))) ∙ part.rest to (omega (arith, h));
+          },
+          λ place r e. elim (cases_eq place at) [
             | inl same ↦
-                let from_is : from ≡ p = same_Some from p (sym b ∙ (ap (before_by marks) (sym same) ∙ e)) in
-                let rises = (are.straight from at b).rises in
-                let apart : from ≢ at = λ q. absurd (omega (arith, rises, q)) in
-                let made : state_in (assigned zs at) ≡ state_after names.image code from (fetch names.image code.method.id from) (state_in (assigned zs from)) =
-                    ap state_in here ∙ (after.state ∙ ap (λ o. state_after names.image code from (fetch names.image code.method.id from) (state_in o)) (sym (other from apart))) in
-                subst (λ (k : ℕ). state_in (assigned zs k) ≡ state_after names.image code p (fetch names.image code.method.id p) (state_in (assigned zs p))) (sym same)
-                (subst (λ (k : ℕ). state_in (assigned zs at) ≡ state_after names.image code k (fetch names.image code.method.id k) (state_in (assigned zs k))) from_is made)
-            | inr differs ↦
-                let rises = (are.straight p to e).rises in
-                let apart : p ≢ at = λ q. absurd (omega (arith, rises, q, h, differs)) in
-                ap state_in (other to differs) ∙ (part.steps p to (omega (arith, h, differs)) e ∙
-                ap (λ o. state_after names.image code p (fetch names.image code.method.id p) (state_in o)) (sym (other p apart)))
-          ];
-          rest = λ to h. other to (λ q. absurd (omega (arith, h, q))) ∙ part.rest to (omega (arith, h));
-        },
-        λ place r e. elim (cases_eq place at) [
-          | inl same ↦
-              let is : row ≡ Some r = sym here ∙ subst (λ (k : ℕ). assigned zs k ≡ Some r) same e in
-              let fits = after_fits ys fit from at within b r (ap state_in (sym is) ∙ after.state) in
-              (after.kept r is, subst (λ (k : ℕ). fits_gathered names.image code k r.state) (sym same) fits)
-          | inr differs ↦ fit place r (sym (other place differs) ∙ e)
-        ])
+                let is : row ≡ Some r = sym here ∙ subst (λ (k : ℕ). assigned zs k ≡ Some r) same e in
+                let fits = after_fits ys fit from at within b r (ap state_in (sym is) ∙ after.state) in
+                (after.kept r is, subst (λ (k : ℕ). fits_gathered names.image code k r.state) (sym same) fits)
+            | inr differs ↦ fit place r (sym (other place differs) ∙ e)
+          ],
+        )
 
     more_by : (o : Option ℕ) → before_by marks at ≡ o → (zs : Rows) → IsFilledAt names code at o ys zs → More zs
     more_by None b zs is = subst More (sym is) (at_head b)

@@ -112,7 +112,7 @@ module _ (names : Names) (code : Code) (marks : List Mark) (are : AreBefore name
     pub ends_here : (all : List (Onward (Kept RegState Names))) → follows_in marks w.targets at ≡ None → all ≡ handed ++ map (to_target names after) w.targets → whole ≡ all
     ends_here all none e =
         let last : map (onward_kept names) (goes_to code (out names.image code.method at x.op s) (targets x)) ≡ map (to_target names after) w.targets =
-            ap (λ (t : RegState). map (onward_kept names) (goes_to code t (targets x))) (sym a) ∙
-            (kept_targets names after (filter (begins_insn code.tiles) (targets x)) ∙ ap (map (to_target names after)) (sym is.targets)) in
+        ap (λ (t : RegState). map (onward_kept names) (goes_to code t (targets x))) (sym a) ∙
+        (kept_targets names after (filter (begins_insn code.tiles) (targets x)) ∙ ap (map (to_target names after)) (sym is.targets)) in
         split (goes_to code (out names.image code.method at x.op s) (targets x)) (insn_through names.image code before n at s x fetched false (test_false none)) ∙
         (ap (λ os. handed ++ os) last ∙ sym e)

@@ -107,8 +107,8 @@ module _ (image : Image) (code : Code) (before : Before) (ready : IsReady image 
         by_blocks image code before are a c f (HasAbove (gathered_flow image code) b)
         (λ at s q e. (let has = under at s e in record { state = has.state; there = has.there; above = has.above }))
         (λ p at x t e q is has.
-            lower at (after image code before p t x) (after image code before p has.state x) (after_under p x t has.state has.above)
-            (on_straight image code before ready are Above p at x has.state e q (closed.arrives p has.state has.there)))
+        lower at (after image code before p t x) (after image code before p has.state x) (after_under p x t has.state has.above)
+        (on_straight image code before ready are Above p at x has.state e q (closed.arrives p has.state has.there)))
 
 pub block_assignments_are_least : BlockAssignmentsAreLeast
 block_assignments_are_least image code before ready are a fits least c is =

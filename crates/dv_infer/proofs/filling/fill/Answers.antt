@@ -17,8 +17,8 @@ loop-at-preserved c =
     let count : length c.loop-at.rows.items ≡ length c.args.rows.now.items = c.loop-at.invariant.count in
     let long : addresses code ≤ length c.loop-at.rows.items = omega (arith, count, c.requires.long) in
     let more =
-        one_more names code c.requires.ready marks c.requires.plan.before c.args.rows.now.items c.loop-at.rows.items c.loop-at.at within long
-        c.loop-at.invariant.fit c.loop-at.invariant.part c.fill_at.new.rows.items c.in_ok-fill_at.ensures in
+    one_more names code c.requires.ready marks c.requires.plan.before c.args.rows.now.items c.loop-at.rows.items c.loop-at.at within long
+    c.loop-at.invariant.fit c.loop-at.invariant.part c.fill_at.new.rows.items c.in_ok-fill_at.ensures in
     record {
       count = filled_length names code c.loop-at.at (before_by marks c.loop-at.at) c.loop-at.rows.items c.fill_at.new.rows.items c.in_ok-fill_at.ensures ∙ count;
       fit = more.1;

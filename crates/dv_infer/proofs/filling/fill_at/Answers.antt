@@ -47,5 +47,5 @@ returns-in_ok-row c =
     let there : from < length old = omega (arith, rises, inside, long) in
     let read : c.index.result.now ≡ assigned old from = sym (get_or_default old from None c.index.result.now there ∙ sym c.index.ensures) in
     let after : IsRowAfter names code from (assigned old from) c.in_ok-row.row =
-        subst (λ (o : Option (Kept RegState Names)). IsRowAfter names code from o c.in_ok-row.row) read c.in_ok-row.ensures in
+    subst (λ (o : Option (Kept RegState Names)). IsRowAfter names code from o c.in_ok-row.row) read c.in_ok-row.ensures in
     subst (λ (o : Option ℕ). IsFilledAt names code c.args.at o old new) c.in-Some.ensures (c.in_ok-row.row, refl, after)

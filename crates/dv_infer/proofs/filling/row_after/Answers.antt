@@ -36,9 +36,9 @@ returns-in_ok-words-in-Some c =
     let insn = c.requires.ready.clean.each at here.0 in
     let x = insn.0 in
     let made : c.new.result.state ≡ out image code.method at x.op r.state =
-        ap (λ (k : Kept RegState Names). k.state) c.new.ensures ∙ (c.in_ok-words-in-Some.ensures.state x insn.1.fetched ∙ ap (out image code.method at x.op) same) in
+    ap (λ (k : Kept RegState Names). k.state) c.new.ensures ∙ (c.in_ok-words-in-Some.ensures.state x insn.1.fetched ∙ ap (out image code.method at x.op) same) in
     let after : state_after image code at (fetch image code.method.id at) (option_map (λ (k : Kept RegState Names). k.state) c.args.row.now) ≡ Some (out image code.method at x.op r.state) =
-        (λ i. state_after image code at (insn.1.fetched i) (option_map (λ (k : Kept RegState Names). k.state) (c.in-Some.is i))) in
+    (λ i. state_after image code at (insn.1.fetched i) (option_map (λ (k : Kept RegState Names). k.state) (c.in-Some.is i))) in
     record {
       state = ap Some made ∙ sym after;
       kept = λ k e. ap (λ (j : Kept RegState Names). j.beside) (sym (same_Some c.new.result k e) ∙ c.new.ensures);

@@ -92,7 +92,7 @@ loop-words-preserved c =
     let done : Gone = c.loop-words.onwards.items in
     let handed : Gone = c.push_entry.new.onwards.items in
     let so_far : whole ≡ done ++ map (onward_kept names) (onward_through names.image code (before_by marks) (suc left) at s) =
-        subst (λ (n : ℕ). whole ≡ done ++ map (onward_kept names) (onward_through names.image code (before_by marks) n at s)) count inv.done in
+    subst (λ (n : ℕ). whole ≡ done ++ map (onward_kept names) (onward_through names.image code (before_by marks) n at s)) count inv.done in
     let some : follows_in marks w.targets at ≡ Some c.in-Some.next = sym (c.in-Some.ensures ∙ ap (λ ts. follows_in marks ts at) c.items-targets.ensures) in
     let g = (goes_next names code marks c.requires.plan.before at x w insn.1.fetched is c.in-Some.next some).1 in
     record {
@@ -125,7 +125,7 @@ returns-in-None c =
     let done : Gone = c.loop-words.onwards.items in
     let handed : Gone = c.push_entry.new.onwards.items in
     let so_far : whole ≡ done ++ map (onward_kept names) (onward_through names.image code (before_by marks) (suc left) at s) =
-        subst (λ (n : ℕ). whole ≡ done ++ map (onward_kept names) (onward_through names.image code (before_by marks) n at s)) count inv.done in
+    subst (λ (n : ℕ). whole ≡ done ++ map (onward_kept names) (onward_through names.image code (before_by marks) n at s)) count inv.done in
     let none : follows_in marks w.targets at ≡ None = sym (c.in-None.ensures ∙ ap (λ ts. follows_in marks ts at) c.items-targets.ensures) in
     let all : Gone = c.push_targets.new.onwards.items in
     let pushed : all ≡ handed ++ map (to_target names after) w.targets = c.in_ok-push_targets-in-None.ensures ∙ ap (λ ts. handed ++ map (to_target names after) ts) c.items-targets.ensures in
