@@ -13,15 +13,21 @@ use Rattle.law_flow.proofs.CleanLaw.{clean_bodies}
 use Rattle.law_flow.proofs.HierarchyLaw.{linked_classes_are_hierarchies}
 use Rattle.law_flow.proofs.Statics.{own_code}
 use Rattle.dv_worklist.specs.Flow as worklist
-use Rattle.dv_worklist.specs.Flow.{AllFit, IsLawful, assigned}
+use Rattle.dv_worklist.specs.Flow.{Flow, AllFit, IsLawful, assigned}
 use Rattle.law_infer.specs.Flowing.{IsReady, flow_of, fits_at, rank_of, top_of}
 use Rattle.law_infer.specs.Laws.{faults_from}
 use Rattle.law_infer.proofs.ByAddress.{faults_are_by_address}
 use Rattle.law_infer.proofs.Closed.{least_assignments_are_least}
 use Rattle.law_infer.proofs.Judged.{no_faults_give_typings, faults_refuse_typings}
 use Rattle.law_gather.specs.Gathered.{addresses, gathered_flow, fits_gathered}
+use Rattle.law_blocks.specs.Blocks.{Before, AreBefore, blocks_flow, fits_blocks}
+use Rattle.law_blocks.proofs.Filled.{IsFilled, filled_to}
+use Rattle.law_blocks.proofs.Lawful.{block_flows_are_lawful}
+use Rattle.law_blocks.proofs.Least.{block_assignments_are_least}
+use Rattle.dv_plan.specs.declared.marks.Mark.{Mark}
+use Rattle.dv_plan.specs.Marks.{before_by}
+use Rattle.dv_infer.specs.Filling.{Rows, FitsAll}
 use Rattle.law_gather.specs.Laws.{at_instructions}
-use Rattle.law_gather.proofs.Lawful.{gathered_flows_are_lawful}
 use Rattle.law_gather.proofs.Least.{gathered_assignments_are_least}
 use Rattle.dv_infer.specs.Judged.{IsJudged, AreJudged}
 use Rattle.dv_infer.specs.Owned.{NamedCode}
@@ -42,35 +48,53 @@ is_ready image n code is has none =
 
 -- ---- its flow
 
-abbrev named : Names → Code → NamedCode
-named names code = record { names = names; code = code }
+abbrev named : Names → Code → List Mark → NamedCode
+named names code marks = record { names = names; code = code; marks = marks }
 
-module _ (names : Names) (code : Code) (ready : IsReady names.image code) (m : NamedCode) (e : m ≡ named names code) where
-  pub is_lawful : IsLawful (flow_beside m.names (gathered_flow m.names.image m.code)) (fits_beside m.names (fits_gathered m.names.image m.code)) (rank_beside (rank_of m.names.image m.code)) (top_of m.names.image m.code)
+abbrev block_flow : NamedCode → Flow (Kept RegState Names)
+block_flow m = flow_beside m.names (blocks_flow m.names.image m.code (before_by m.marks))
+
+abbrev block_fits : NamedCode → ℕ → Kept RegState Names → Type 0
+block_fits m = fits_beside m.names (fits_blocks m.names.image m.code (before_by m.marks))
+
+module _ (names : Names) (code : Code) (marks : List Mark) (ready : IsReady names.image code) (are : AreBefore names.image code (before_by marks)) (m : NamedCode) (e : m ≡ named names code marks) where
+  abbrev before : Before
+  before = before_by marks
+
+  pub is_lawful : IsLawful (block_flow m) (block_fits m) (rank_beside (rank_of m.names.image m.code)) (top_of m.names.image m.code)
   is_lawful =
-      subst (λ (o : NamedCode). IsLawful (flow_beside o.names (gathered_flow o.names.image o.code)) (fits_beside o.names (fits_gathered o.names.image o.code)) (rank_beside (rank_of o.names.image o.code)) (top_of o.names.image o.code)) (sym e)
-      (lawful_beside names (gathered_flow names.image code) (fits_gathered names.image code) (rank_of names.image code) (top_of names.image code) (gathered_flows_are_lawful names.image code ready))
+      subst (λ (o : NamedCode). IsLawful (block_flow o) (block_fits o) (rank_beside (rank_of o.names.image o.code)) (top_of o.names.image o.code)) (sym e)
+      (lawful_beside names (blocks_flow names.image code before) (fits_blocks names.image code before) (rank_of names.image code) (top_of names.image code) (block_flows_are_lawful names.image code before ready are))
 
-  -- its states, cut to the instructions
-  module _ (xs : List (Option (Kept RegState Names))) (fit : AllFit (fits_beside m.names (fits_gathered m.names.image m.code)) (assigned xs)) (l : worklist.IsLeast (flow_beside m.names (gathered_flow m.names.image m.code)) (assigned xs)) where
-    all_fit : AllFit (fits_gathered names.image code) (assigned (alone xs))
-    all_fit =
-        alone_fit names (gathered_flow names.image code) (fits_gathered names.image code) xs
-        (subst (λ (o : NamedCode). AllFit (fits_beside o.names (fits_gathered o.names.image o.code)) (assigned xs)) e fit)
+  -- its rows fit the flow that gathers
+  module _ (xs : Rows) (fit : AllFit (block_fits m) (assigned xs)) where
+    own_fit : AllFit (block_fits (named names code marks)) (assigned xs)
+    own_fit = subst (λ (o : NamedCode). AllFit (block_fits o) (assigned xs)) e fit
 
-    all_least : worklist.IsLeast (gathered_flow names.image code) (assigned (alone xs))
-    all_least =
-        least_alone names (gathered_flow names.image code) xs
-        (subst (λ (o : NamedCode). worklist.IsLeast (flow_beside o.names (gathered_flow o.names.image o.code)) (assigned xs)) e l)
+    pub rows_fit : FitsAll names code xs
+    rows_fit place r there = let f = own_fit place r there in (f.0, f.1.0)
 
-    cut : alone (take (addresses code) xs) ≡ at_instructions code (alone xs)
-    cut = sym (take-map (option_map (λ (a : Kept RegState Names). a.state)) (addresses code) xs)
+    -- its states, filled in between and cut to the instructions
+    module _ (l : worklist.IsLeast (block_flow m) (assigned xs)) (ys : Rows) (f : IsFilled names.image code before (assigned (alone xs)) (assigned (alone ys))) where
+      all_fit : AllFit (fits_blocks names.image code before) (assigned (alone xs))
+      all_fit = alone_fit names (blocks_flow names.image code before) (fits_blocks names.image code before) xs own_fit
 
-    pub fits : AllFit (fits_at names.image code) (assigned (alone (take (addresses code) xs)))
-    fits = subst (λ ys. AllFit (fits_at names.image code) (assigned ys)) (sym cut) (gathered_assignments_are_least names.image code ready (alone xs) all_fit all_least).1
+      all_least : worklist.IsLeast (blocks_flow names.image code before) (assigned (alone xs))
+      all_least = least_alone names (blocks_flow names.image code before) xs (subst (λ (o : NamedCode). worklist.IsLeast (block_flow o) (assigned xs)) e l)
 
-    pub least : worklist.IsLeast (flow_of names.image code) (assigned (alone (take (addresses code) xs)))
-    least = subst (λ ys. worklist.IsLeast (flow_of names.image code) (assigned ys)) (sym cut) (gathered_assignments_are_least names.image code ready (alone xs) all_fit all_least).0
+      abbrev gathers : worklist.IsLeast (gathered_flow names.image code) (assigned (alone ys)) × AllFit (fits_gathered names.image code) (assigned (alone ys))
+      gathers =
+          block_assignments_are_least names.image code before ready are (assigned (alone xs)) all_fit all_least (assigned (alone ys))
+          (filled_to names.image code before are (assigned (alone xs)) (assigned (alone ys)) f)
+
+      cut : alone (take (addresses code) ys) ≡ at_instructions code (alone ys)
+      cut = sym (take-map (option_map (λ (a : Kept RegState Names). a.state)) (addresses code) ys)
+
+      pub fits : AllFit (fits_at names.image code) (assigned (alone (take (addresses code) ys)))
+      fits = subst (λ zs. AllFit (fits_at names.image code) (assigned zs)) (sym cut) (gathered_assignments_are_least names.image code ready (alone ys) gathers.1 gathers.0).1
+
+      pub least : worklist.IsLeast (flow_of names.image code) (assigned (alone (take (addresses code) ys)))
+      least = subst (λ zs. worklist.IsLeast (flow_of names.image code) (assigned zs)) (sym cut) (gathered_assignments_are_least names.image code ready (alone ys) gathers.1 gathers.0).0
 
 -- ---- what is found
 

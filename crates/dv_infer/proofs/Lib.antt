@@ -5,3 +5,5 @@ pub mod Gathering
 pub mod Planned
 pub mod Receiving
 pub mod Telling
+pub mod RowsFilled
+pub mod Through

@@ -25,6 +25,7 @@ use Rattle.dv_plan.specs.declared.ways.Ways.{Ways}
 use Rattle.dv_plan.specs.declared.hops.Hop.{Hop}
 use Rattle.dv_plan.specs.Hops.{LeadTo, AreHops}
 use Rattle.dv_plan.specs.Ways.{IsWays}
+use Rattle.dv_plan.specs.Marks.{before_by}
 use Rattle.dv_plan.specs.Plans.{IsPlan}
 
 abbrev first_of : Bool → ℕ → ℕ → Option ℕ
@@ -55,8 +56,12 @@ pub entry_inside : (code : Code) (at : ℕ) (x : At) (o : Option ℕ) → o ≡ 
 entry_inside code at x o is = subst (λ (p : Option ℕ). IfSome p (λ entry. entry < length code.body.tries)) (sym is) (inside_by (can_throw x.op) (position_or_len (covers (thrown_at at x)) code.body.tries) (length code.body.tries))
 
 module _ (names : Names) (code : Code) (ready : IsReady names.image code) (p : Plan) (is : IsPlan names.image names code p) where
-  inside : (at : ℕ) → begins_insn code.tiles at ≡ true → at < length code.body.units
+  pub inside : (at : ℕ) → begins_insn code.tiles at ≡ true → at < length code.body.units
   inside at begins = let w = (within code.body.units 0 0 code.tiles ready.clean.tiled at begins).1 in omega (arith, w)
+
+  -- and what has one before it is an instruction
+  pub leads_inside : (to at : ℕ) → before_by p.marks.items to ≡ Some at → to < length code.body.units
+  leads_inside to at before = inside to (is.before.straight at to before).leads
 
   -- a step and the ways on stand where an instruction begins
   pub has_step : (at : ℕ) → begins_insn code.tiles at ≡ true → (step : Step) × (slice_index_or p.steps.items at None ≡ Some step)
@@ -68,7 +73,7 @@ module _ (names : Names) (code : Code) (ready : IsReady names.image code) (p : P
   pub has_ways : (at : ℕ) → begins_insn code.tiles at ≡ true → (w : Ways) × (slice_index_or p.ways.items at None ≡ Some w)
   has_ways at begins =
       let insn = ready.clean.each at begins in
-      let has = is.ways.each at (inside at begins) insn.0 insn.1.fetched in
+      let has = (is.ways.each at (inside at begins)).there insn.0 insn.1.fetched in
       (has.0, has.1)
 
   -- and are those of what is fetched there
@@ -79,7 +84,7 @@ module _ (names : Names) (code : Code) (ready : IsReady names.image code) (p : P
 
   pub ways_are : (at : ℕ) (x : At) (w : Ways) → at < length code.body.units → fetch names.image code.method.id at ≡ Some x → slice_index_or p.ways.items at None ≡ Some w → IsWays code at x w
   ways_are at x w inside fetched there =
-      let has = is.ways.each at inside x fetched in
+      let has = (is.ways.each at inside).there x fetched in
       subst (λ (v : Ways). IsWays code at x v) (same_Some has.0 w (sym has.1 ∙ there)) has.2
 
   are_steps : AreSteps names code p.steps.items

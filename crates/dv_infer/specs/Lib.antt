@@ -1,4 +1,6 @@
 pub mod Along
 pub mod Errors
+pub mod Filling
 pub mod Judged
 pub mod Owned
+pub mod Straight

@@ -32,7 +32,7 @@ impl<'a> Model for MethodFlow<'a> {
 
     ghost Value = { NamedCode };
 
-    ghost view = { λ m. record { names = m.bases.now; code = code_of m.code.now } };
+    ghost view = { λ m. record { names = m.bases.now; code = code_of m.code.now; marks = m.plan.now.marks.items } };
 
     ghost invariant = { λ m. IsReady m.bases.now.image (code_of m.code.now)
         × (m.table.now ≡ m.bases.now.image)
@@ -51,7 +51,7 @@ impl<'a> MethodFlow<'a> {
         requires ready { IsReady bases.now.image (code_of code.now) }
         requires table { table.now ≡ bases.now.image }
         requires plan { IsPlan bases.now.image bases.now (code_of code.now) plan.now }
-        ensures { result ≡ record { names = bases.now; code = code_of code.now } }
+        ensures { result ≡ record { names = bases.now; code = code_of code.now; marks = plan.now.marks.items } }
     {
         MethodFlow {
             alloc,
@@ -68,11 +68,12 @@ impl<'a> Flow for MethodFlow<'a> {
 
     ghost use Rattle.dv_worklist.specs.Beside.{fits_beside, flow_beside, rank_beside};
     ghost use Rattle.law_infer.specs.Flowing.{rank_of, top_of};
-    ghost use Rattle.law_gather.specs.Gathered.{gathered_flow, fits_gathered};
+    ghost use Rattle.law_blocks.specs.Blocks.{blocks_flow, fits_blocks};
+    ghost use Rattle.dv_plan.specs.Marks.{before_by};
 
-    ghost graph = { λ m. flow_beside m.names (gathered_flow m.names.image m.code) };
+    ghost graph = { λ m. flow_beside m.names (blocks_flow m.names.image m.code (before_by m.marks)) };
 
-    ghost fits = { λ m. fits_beside m.names (fits_gathered m.names.image m.code) };
+    ghost fits = { λ m. fits_beside m.names (fits_blocks m.names.image m.code (before_by m.marks)) };
 
     ghost rank = { λ m. rank_beside (rank_of m.names.image m.code) };
 

@@ -3,6 +3,7 @@
 
 mod errors;
 mod faults;
+mod filling;
 mod flow;
 mod method;
 mod onward;

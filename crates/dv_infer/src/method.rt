@@ -15,6 +15,7 @@ ghost use Rattle.dv_infer.specs.Judged.{AreJudged, IsJudged};
 
 use crate::errors::InferError;
 use crate::faults::typing_faults;
+use crate::filling::fill;
 use crate::flow::MethodFlow;
 use dv_bases::Bases;
 use dv_defs::{Image, MethodId, Seq};
@@ -152,6 +153,7 @@ fn least_by(
 {
     let flow = MethodFlow::new(alloc, bases, table, code, plan);
     let mut rows = least(&flow, alloc)?;
+    fill(bases, table, code, plan, &mut rows)?;
     rows.truncate(units_of(code).len());
     states_of(alloc, rows)
 }

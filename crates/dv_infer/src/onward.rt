@@ -10,13 +10,16 @@ ghost use Rattle.dv_bases.specs.States.{AreWords, state_of};
 ghost use Rattle.dv_effects.specs.declared.effects.Step.{Step as StepValue};
 ghost use Rattle.dv_plan.specs.declared.ways.Ways.{Ways as WaysValue};
 ghost use Rattle.dv_plan.specs.Plans.{IsPlan};
-ghost use Rattle.law_gather.specs.Gathered.{addresses, fits_gathered, handed, hands_on, onward_by, onward_gathered};
+ghost use Rattle.law_gather.specs.Gathered.{addresses, fits_gathered, handed, hands_on};
+ghost use Rattle.law_blocks.specs.Blocks.{onward_blocks, onward_through};
+ghost use Rattle.dv_plan.specs.Marks.{before_by};
+ghost use Rattle.dv_infer.specs.Straight.{follows_if, follows_in};
 ghost use Rattle.dv_infer.specs.Along.{to_handler, to_target};
 
 use dv_bases::{Bases, PendingWord, Words};
 use dv_effects::{Step, after, caught};
 use dv_ops::{Coded, units_of};
-use dv_plan::{Hop, Plan, Ways};
+use dv_plan::{Hop, Mark, Plan, Ways};
 use dv_types::{ClassTable, Row};
 use dv_worklist::Onward;
 use std::alloc::{AllocError, Global};
@@ -35,21 +38,21 @@ pub fn onward<'a>(
     requires table { table.now ≡ bases.now.image }
     requires plan { IsPlan bases.now.image bases.now (code_of code.now) plan.now }
     requires fits { fits_beside bases.now (fits_gathered bases.now.image (code_of code.now)) place row.now }
-    ensures { IfOk result (λ v. v.items ≡ map (onward_kept row.now.beside) (onward_gathered bases.now.image (code_of code.now) place row.now.state)) }
+    ensures { IfOk result (λ v. v.items ≡ map (onward_kept row.now.beside) (onward_blocks bases.now.image (code_of code.now) (before_by plan.now.marks.items) place row.now.state)) }
 {
     let words = row.words();
     let count = units_of(code).len();
     if place < count {
-        onward_by(alloc, bases, table, code, plan, place, words)
+        onward_through(alloc, bases, table, code, plan, place, words)
     } else {
         let hops = hops_from(plan, place - count);
         to_handlers(alloc, bases, table, words, hops)
     }
 }
 
-/// What goes on from an instruction: the state after it to the next instruction and to targets, and what handlers take over of the state before
-/// it to the try entry that covers it.
-fn onward_by<'a>(
+/// What goes on from a head of straight code: from each instruction of it what handlers take over of the state before it to the try entry that
+/// covers it, and from the last one the state after it to the next instruction and to targets.
+fn onward_through<'a>(
     alloc: Global,
     bases: &'a Bases<'a>,
     table: &'a ClassTable<'a>,
@@ -64,13 +67,55 @@ fn onward_by<'a>(
     requires place { place < length code.now.body.now.units }
     requires words { AreWords bases.now words.now }
     requires fits { fits_at bases.now.image (code_of code.now) place (state_of bases.now words.now) }
-    ensures { IfOk result (λ v. v.items ≡ map (onward_kept bases.now) (onward_by bases.now.image (code_of code.now) place (state_of bases.now words.now) (fetch bases.now.image code.now.method.id.0 place))) }
+    ensures { IfOk result (λ v. v.items ≡ map (onward_kept bases.now) (onward_through bases.now.image (code_of code.now) (before_by plan.now.marks.items) (addresses (code_of code.now)) place (state_of bases.now words.now))) }
 {
-    let ways = ways_at(plan, place);
-    let after = after_step(bases, code, plan, place, words)?;
-    let mut onwards = to_targets(alloc, bases, table, after, ways.targets.items())?;
-    push_entry(bases, table, code, words, ways.covering, &mut onwards)?;
-    Ok(onwards)
+    let mut onwards = Vec::new(alloc);
+    let mut at = place;
+    let mut words = copy_of(bases, words)?;
+    loop {
+        let ways = ways_at(plan, at);
+        let targets = ways.targets.items();
+        push_entry(bases, table, code, &words, ways.covering, &mut onwards)?;
+        words = after_step(bases, code, plan, at, &words)?;
+        match follows(plan, at, targets) {
+            Some(next) => at = next,
+            None => {
+                push_targets(bases, table, words, targets, &mut onwards)?;
+                return Ok(onwards);
+            }
+        }
+    }
+}
+
+/// The instruction that follows one in straight code.
+fn follows(plan: &Plan, at: usize, targets: &[u32]) -> Option<usize>
+    ensures { result ≡ follows_in plan.now.marks.items targets.now at }
+{
+    if targets.len() == 1 {
+        follows_at(plan, at, targets[0] as usize)
+    } else {
+        None
+    }
+}
+
+/// An address, where it follows another in straight code.
+fn follows_at(plan: &Plan, at: usize, to: usize) -> Option<usize>
+    ensures { result ≡ follows_if plan.now.marks.items at to }
+{
+    match before(plan, to) {
+        Some(before) if before == at => Some(to),
+        _ => None,
+    }
+}
+
+/// The address before one in straight code.
+pub fn before(plan: &Plan, to: usize) -> Option<usize>
+    ensures { result ≡ before_by plan.now.marks.items to }
+{
+    match plan.marks.get(to) {
+        Some(Mark::After(before)) => Some(*before),
+        _ => None,
+    }
 }
 
 /// The ways on from the instruction at an address.
@@ -108,7 +153,7 @@ fn hops_from(plan: &Plan, entry: usize) -> &[Hop]
 }
 
 /// The words after the instruction at an address.
-fn after_step(
+pub fn after_step(
     bases: &Bases<'_>,
     code: &Coded<'_>,
     plan: &Plan,
@@ -141,21 +186,20 @@ pub fn copy_of(bases: &Bases<'_>, words: &Words) -> Result<Words, AllocError>
     })
 }
 
-/// What goes on to targets: the first of them take copies, and the last the words themselves.
-fn to_targets<'a>(
-    alloc: Global,
+/// Adds what goes on to targets: the first of them take copies, and the last the words themselves.
+fn push_targets<'a>(
     bases: &'a Bases<'a>,
     table: &'a ClassTable<'a>,
     words: Words,
     targets: &[u32],
-) -> Result<Vec<Onward<Row<'a>>>, AllocError>
+    onwards: &mut Vec<Onward<Row<'a>>>,
+) -> Result<(), AllocError>
     requires table { table.now ≡ bases.now.image }
     requires words { AreWords bases.now words }
-    ensures { IfOk result (λ v. v.items ≡ map (to_target bases.now (state_of bases.now words)) targets.now) }
+    ensures { OnOk result (onwards.new.items ≡ onwards.old.items ++ map (to_target bases.now (state_of bases.now words)) targets.now) }
 {
-    let mut onwards = Vec::new(alloc);
     if targets.is_empty() {
-        return Ok(onwards);
+        return Ok(());
     }
     let last = targets.len() - 1;
     for i in 0..last {
@@ -168,7 +212,7 @@ fn to_targets<'a>(
         to: targets[last] as usize,
         state: Row::new(bases, table, words),
     })?;
-    Ok(onwards)
+    Ok(())
 }
 
 /// Adds what goes on to the try entry that covers an instruction, where one does.

@@ -1,5 +1,6 @@
 mod Going
 mod Hopping
+mod Marking
 mod Planning
 pub mod Stepping
 mod Walking

@@ -7,6 +7,8 @@ use Rattle.dv_bases.specs.Bases.{Names}
 use Rattle.dv_bases.specs.States.{AreWords, state_of}
 use Rattle.dv_effects.specs.Made.{IsOwn}
 use Rattle.dv_plan.specs.declared.plan.Plan.{Plan}
+use Rattle.law_blocks.specs.Blocks.{AreBefore}
+use Rattle.dv_plan.specs.Marks.{before_by}
 use Rattle.dv_plan.specs.Hops.{AreHops}
 use Rattle.dv_plan.specs.Ways.{AreWays}
 use Rattle.dv_plan.specs.Steps.{AreStepsTo}
@@ -19,3 +21,4 @@ pub record IsPlan (image : Image) (names : Names) (code : Code) (p : Plan) : Typ
   pub steps : AreStepsTo image names code (length code.body.units) p.steps.items
   pub ways : AreWays image code (length code.body.units) p.ways.items
   pub hops : AreHops names code.body (length code.body.tries) p.hops.items
+  pub before : AreBefore image code (before_by p.marks.items)

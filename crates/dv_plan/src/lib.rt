@@ -3,10 +3,12 @@
 
 mod beginnings;
 mod hops;
+mod marks;
 mod plan;
 mod steps;
 mod ways;
 
 pub use hops::Hop;
+pub use marks::Mark;
 pub use plan::{Plan, plan_of};
 pub use ways::Ways;

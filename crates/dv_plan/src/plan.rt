@@ -7,6 +7,7 @@ ghost use Rattle.dv_plan.specs.Plans.{IsPlan};
 
 use crate::beginnings::beginnings;
 use crate::hops::{Hop, hops_of};
+use crate::marks::{Mark, marks_of};
 use crate::steps::steps_of;
 use crate::ways::{Ways, ways_of};
 use dv_bases::{Bases, Words};
@@ -16,7 +17,7 @@ use dv_ops::Coded;
 use std::alloc::{AllocError, Global};
 
 /// What the inference of a method's types goes by: the state on entry, the word of the method's class, by address each instruction's step and the
-/// ways on from it, and by try entry the ways to its handlers.
+/// ways on from it, by try entry the ways to its handlers, and which instructions follow one in straight code.
 #[derive(Drop)]
 pub struct Plan {
     pub entry: Words,
@@ -24,6 +25,7 @@ pub struct Plan {
     pub steps: Vec<Option<Step>>,
     pub ways: Vec<Option<Ways>>,
     pub hops: Vec<Seq<Hop>>,
+    pub marks: Vec<Mark>,
 }
 
 /// The plan of a method. Classes that it names get numbers.
@@ -43,6 +45,7 @@ pub fn plan_of(
     let entry = entry_words(alloc, bases, image, code)?;
     let own = object_word(bases, alloc, image, code.method.info.class)?;
     let hops = hops_of(alloc, bases, code.body)?;
+    let marks = marks_of(alloc, ways.as_slice(), hops.as_slice())?;
     let steps = steps_of(alloc, bases, image, code, begins.as_slice())?;
     Ok(Plan {
         entry,
@@ -50,5 +53,6 @@ pub fn plan_of(
         steps,
         ways,
         hops,
+        marks,
     })
 }

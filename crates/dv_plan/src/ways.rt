@@ -1,24 +1,28 @@
 // The ways on from instructions.
-ghost use Rattle.std.specs.Prelude.{◌≡◌, ◌<◌, IfOk, Some, length, map, position, true};
+ghost use Rattle.std.specs.Prelude.{IfOk, IfSome, Some, [], length, map, position, true, ℕ, ◌<◌, ◌∷◌, ◌≡◌};
 ghost use Rattle.dv_defs.specs.Body.{most_units};
 ghost use Rattle.dv_defs.specs.Tiling.{begins_insn};
 ghost use Rattle.dv_typing.specs.Statics.{At, fetch};
 ghost use Rattle.law_flow.specs.Clean.{IsClean};
+ghost use Rattle.dv_defs.specs.Op.{Code};
+ghost use Rattle.dv_typing.specs.Flow.{targets};
 ghost use Rattle.dv_ops.specs.Meaning.{code_of, meant};
+ghost use Rattle.dv_ops.specs.Places.{IsBoundary};
 ghost use Rattle.dv_plan.specs.Beginnings.{Begin};
 ghost use Rattle.law_gather.specs.Gathered.{covering_entry, covers};
-ghost use Rattle.dv_plan.specs.Ways.{AreWays, HasWays, IsWays};
+ghost use Rattle.dv_plan.specs.Ways.{AreWays, HasWays, IsNextAlone, IsWays};
 
 use dv_defs::{Image, Seq, Try};
-use dv_ops::{Coded, Op, op_at, units_of};
+use dv_ops::{Coded, Op, begins_insn_next, op_at, units_of};
 use dv_rules::{Edge, can_throw, targets_from, thrown_at};
 use std::alloc::{AllocError, Global};
 
-/// The ways on from an instruction: the addresses of the next one and of its targets, and the place of the try entry whose handlers it may
-/// throw to.
+/// The ways on from an instruction: the addresses of the next one and of its targets, the next one where control goes on to it alone, and the
+/// place of the try entry whose handlers it may throw to.
 #[derive(Drop)]
 pub struct Ways {
     pub targets: Seq<u32>,
+    pub next: Option<u32>,
     pub covering: Option<usize>,
 }
 
@@ -72,8 +76,37 @@ fn ways_from(alloc: Global, image: &Image, code: &Coded<'_>, at: u32) -> Result<
     let edges = targets_from(alloc, image, code, at, &op, next)?;
     Ok(Ways {
         targets: Seq::of(addresses(alloc, edges.as_slice())?),
+        next: next_alone(code, at, &op, next),
         covering: covering_of(code, at, &op, next),
     })
+}
+
+/// The next instruction, where an operation goes on to it alone.
+fn next_alone(code: &Coded<'_>, at: u32, op: &Op<'_>, next: u32) -> Option<u32>
+    requires { IsBoundary (code_of code.now) next }
+    ensures { IfSome result (IsNextAlone (code_of code.now) at (record { op = meant (code_of code.now) at op.now; next = next })) }
+{
+    if goes_straight(op) && at < next && begins_insn_next(code, next) {
+        Some(next)
+    } else {
+        None
+    }
+}
+
+/// Whether control goes on from an operation to the next instruction alone.
+fn goes_straight(op: &Op<'_>) -> bool
+    ensures { (code : Code) (at next : ℕ) → result ≡ true → targets (record { op = meant code at op.now; next = next }) ≡ next ∷ [] }
+{
+    !matches!(
+        op,
+        Op::Goto(_)
+            | Op::IfBoth(_, _, _, _)
+            | Op::IfZero(_, _, _)
+            | Op::Switch(_, _)
+            | Op::Throw(_)
+            | Op::ReturnVoid
+            | Op::Return(_, _)
+    )
 }
 
 /// Where edges lead.

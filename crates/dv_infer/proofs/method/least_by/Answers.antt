@@ -1,4 +1,4 @@
-use Rattle.std.proofs.Common.{◌≡◌, List, Option, length, take, sym, ap, ◌∙◌, subst}
+use Rattle.std.proofs.Common.{◌≡◌, List, Option, length, take, sym, ap, ◌∙◌, subst, arith}
 use Rattle.std.proofs.lemmas.Result.{IfOk-weaker}
 use Rattle.dv_worklist.specs.Flow as worklist
 use Rattle.dv_worklist.specs.Flow.{AllFit, assigned}
@@ -8,30 +8,46 @@ use Rattle.law_infer.specs.Flowing.{fits_at, flow_of}
 use Rattle.law_gather.specs.Gathered.{addresses}
 use Rattle.dv_ops.specs.Meaning.{code_of}
 use Rattle.dv_bases.specs.Bases.{Names}
-use Rattle.dv_infer.proofs.Finding.{is_lawful, fits, least}
+use Rattle.dv_infer.specs.Owned.{NamedCode}
+use Rattle.dv_infer.proofs.Finding.{is_lawful, rows_fit, fits, least}
 use Rattle.dv_infer.proofs.method.least_by.Goals as goal
 
 pub least-requires-clause-lawful : goal.least-requires-clause-lawful
-least-requires-clause-lawful c = is_lawful c.args.bases.now (code_of c.args.code.now) c.requires.ready c.new-flow.result c.new-flow.ensures
+least-requires-clause-lawful c = is_lawful c.args.bases.now (code_of c.args.code.now) c.args.plan.now.marks.items c.requires.ready c.requires.plan.before c.new-flow.result c.new-flow.ensures
+
+pub fill-requires-clause-long : goal.fill-requires-clause-long
+fill-requires-clause-long c =
+    let code_is = ap (λ (m : NamedCode). addresses m.code) c.new-flow.ensures in
+    let long = c.in_ok-rows.ensures.length in
+    omega (arith, code_is, long)
+
+pub fill-requires-clause-fit : goal.fill-requires-clause-fit
+fill-requires-clause-fit c =
+    rows_fit c.args.bases.now (code_of c.args.code.now) c.args.plan.now.marks.items c.requires.ready c.requires.plan.before c.new-flow.result c.new-flow.ensures
+    c.in_ok-rows.rows.items c.in_ok-rows.ensures.fits
 
 pub returns-clause-fit : goal.returns-clause-fit
 returns-clause-fit c =
     let names = c.args.bases.now in
     let code = code_of c.args.code.now in
+    let marks = c.args.plan.now.marks.items in
     let rows = c.in_ok-rows.rows.items in
-    let cut : c.truncate.new.self.items ≡ take (addresses code) rows = c.truncate.ensures.items ∙ ap (λ n. take n rows) (ap length c.units_of.ensures.units) in
+    let full = c.fill.new.rows.items in
+    let cut : c.truncate.new.self.items ≡ take (addresses code) full = c.truncate.ensures.items ∙ ap (λ n. take n full) (ap length c.units_of.ensures.units) in
     IfOk-weaker c.states_of.result (λ v. v.items ≡ alone c.truncate.new.self.items) (λ v. AllFit (fits_at names.image code) (assigned v.items))
     (λ v is. subst (λ xs. AllFit (fits_at names.image code) (assigned xs)) (sym (is ∙ ap (λ (ys : List (Option (Kept RegState Names))). alone ys) cut))
-    (fits names code c.requires.ready c.new-flow.result c.new-flow.ensures rows c.in_ok-rows.ensures.fits c.in_ok-rows.ensures.least))
+    (fits names code marks c.requires.ready c.requires.plan.before c.new-flow.result c.new-flow.ensures rows c.in_ok-rows.ensures.fits c.in_ok-rows.ensures.least full c.in_ok-fill.ensures.filled))
     c.states_of.ensures
 
 pub returns-clause-least : goal.returns-clause-least
 returns-clause-least c =
     let names = c.args.bases.now in
     let code = code_of c.args.code.now in
+    let marks = c.args.plan.now.marks.items in
     let rows = c.in_ok-rows.rows.items in
-    let cut : c.truncate.new.self.items ≡ take (addresses code) rows = c.truncate.ensures.items ∙ ap (λ n. take n rows) (ap length c.units_of.ensures.units) in
+    let full = c.fill.new.rows.items in
+    let cut : c.truncate.new.self.items ≡ take (addresses code) full = c.truncate.ensures.items ∙ ap (λ n. take n full) (ap length c.units_of.ensures.units) in
     IfOk-weaker c.states_of.result (λ v. v.items ≡ alone c.truncate.new.self.items) (λ v. worklist.IsLeast (flow_of names.image code) (assigned v.items))
     (λ v is. subst (λ xs. worklist.IsLeast (flow_of names.image code) (assigned xs)) (sym (is ∙ ap (λ (ys : List (Option (Kept RegState Names))). alone ys) cut))
-    (least names code c.requires.ready c.new-flow.result c.new-flow.ensures rows c.in_ok-rows.ensures.fits c.in_ok-rows.ensures.least))
+    (least names code marks c.requires.ready c.requires.plan.before c.new-flow.result c.new-flow.ensures rows c.in_ok-rows.ensures.fits c.in_ok-rows.ensures.least full c.in_ok-fill.ensures.filled))
     c.states_of.ensures

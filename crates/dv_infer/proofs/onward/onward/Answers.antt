@@ -2,12 +2,13 @@ use Rattle.std.proofs.Common.{◌≡◌, ◌<◌, ◌≤◌, ◌-◌, List, [], 
 use Rattle.std.specs.Prelude.{slice_get, slice_index_or}
 use Rattle.std.proofs.lemmas.Result.{IfOk-weaker}
 use Rattle.dv_worklist.specs.Beside.{onward_kept}
-use Rattle.dv_typing.specs.Statics.{fetch}
 use Rattle.dv_ops.specs.Meaning.{code_of}
 use Rattle.dv_rules.specs.Edges.{handler_edge}
 use Rattle.dv_bases.specs.Bases.{Names, IsNumbered}
 use Rattle.dv_bases.specs.States.{state_of}
-use Rattle.law_gather.specs.Gathered.{addresses, catchers_of, onward_by, onward_gathered}
+use Rattle.law_blocks.specs.Blocks.{onward_blocks, onward_through}
+use Rattle.dv_plan.specs.Marks.{before_by}
+use Rattle.law_gather.specs.Gathered.{addresses, catchers_of}
 use Rattle.dv_plan.specs.declared.hops.Hop.{Hop}
 use Rattle.dv_plan.specs.Hops.{LeadTo}
 use Rattle.dv_infer.specs.Along.{to_handler}
@@ -16,8 +17,8 @@ use Rattle.dv_infer.proofs.Gathering.{fits_here, from_insn, from_entry}
 use Rattle.dv_infer.proofs.Planned.{leads_by}
 use Rattle.dv_infer.proofs.onward.onward.Goals as goal
 
-pub onward_by-requires-clause-fits : goal.onward_by-requires-clause-fits
-onward_by-requires-clause-fits c =
+pub onward_through-requires-clause-fits : goal.onward_through-requires-clause-fits
+onward_through-requires-clause-fits c =
     let code = code_of c.args.code.now in
     let within : c.args.place < addresses code = omega (arith, c.if-place-count.true, ap length c.units_of-count.ensures.units) in
     let same : state_of c.args.bases.now c.words-words.result.now ≡ c.args.row.now.state = ap (λ (n : Names). state_of n c.words-words.result.now) (sym c.requires.fits.0) ∙ c.words-words.ensures.state in
@@ -32,19 +33,21 @@ pub returns-then-place-count : goal.returns-then-place-count
 returns-then-place-count c =
     let names = c.args.bases.now in
     let code = code_of c.args.code.now in
+    let before = before_by c.args.plan.now.marks.items in
     let place = c.args.place in
     let t = state_of names c.words-words.result.now in
     let within : place < addresses code = omega (arith, c.if-place-count.true, ap length c.units_of-count.ensures.units) in
     let same : t ≡ c.args.row.now.state = ap (λ (n : Names). state_of n c.words-words.result.now) (sym c.requires.fits.0) ∙ c.words-words.ensures.state in
-    IfOk-weaker c.onward_by.result (λ v. v.items ≡ map (onward_kept names) (onward_by names.image code place t (fetch names.image code.method.id place)))
-    (λ v. v.items ≡ map (onward_kept c.args.row.now.beside) (onward_gathered names.image code place c.args.row.now.state))
-    (λ v is. is ∙ from_insn names c.args.row.now.beside code place c.args.row.now.state t (sym c.requires.fits.0) same within)
-    c.onward_by.ensures
+    IfOk-weaker c.onward_through.result (λ v. v.items ≡ map (onward_kept names) (onward_through names.image code before (addresses code) place t))
+    (λ v. v.items ≡ map (onward_kept c.args.row.now.beside) (onward_blocks names.image code before place c.args.row.now.state))
+    (λ v is. is ∙ from_insn names c.args.row.now.beside code before place c.args.row.now.state t (sym c.requires.fits.0) same within)
+    c.onward_through.ensures
 
 pub returns-else-place-count : goal.returns-else-place-count
 returns-else-place-count c =
     let names = c.args.bases.now in
     let code = code_of c.args.code.now in
+    let before = before_by c.args.plan.now.marks.items in
     let place = c.args.place in
     let t = state_of names c.words-words.result.now in
     let count : length c.units_of-count.result.now ≡ addresses code = ap length c.units_of-count.ensures.units in
@@ -57,7 +60,7 @@ returns-else-place-count c =
     subst (λ (hs : List Hop). LeadTo names hs (map handler_edge (catchers_of code.body (slice_get code.body.tries entry)))) (sym here)
     (leads_by names code.body c.args.plan.now.hops.items c.requires.plan.hops entry) in
     IfOk-weaker c.to_handlers.result (λ v. v.items ≡ map (to_handler names t) hops)
-    (λ v. v.items ≡ map (onward_kept c.args.row.now.beside) (onward_gathered names.image code place c.args.row.now.state))
+    (λ v. v.items ≡ map (onward_kept c.args.row.now.beside) (onward_blocks names.image code before place c.args.row.now.state))
     (λ v is. is ∙ (kept_caught names t hops (catchers_of code.body (slice_get code.body.tries entry)) lead ∙
-    from_entry names c.args.row.now.beside code place c.args.row.now.state t (sym c.requires.fits.0) same past))
+    from_entry names c.args.row.now.beside code before place c.args.row.now.state t (sym c.requires.fits.0) same past))
     c.to_handlers.ensures

@@ -10,7 +10,7 @@ pub returns : goal.returns
 returns c x fetched =
     let code = code_of c.args.code.now in
     let y : At = record { op = meant code c.args.at c.op_at-next.result.0; next = c.op_at-next.result.1 } in
-    let w : Ways = record { targets = c.of.result; covering = c.covering_of.result } in
+    let w : Ways = record { targets = c.of.result; next = c.next_alone.result; covering = c.covering_of.result } in
     let tos = c.of.ensures ∙ (c.in_ok-addresses.ensures ∙ ap (map (λ (e : Edge). e.to)) c.as_slice.ensures.value) in
     of_fetched c.args.image.now code c.args.at y x w c.op_at-next.ensures.fetched fetched
-    (are_ways code c.args.at y w c.in_ok-edges.edges.items c.in_ok-edges.ensures tos c.covering_of.ensures)
+    (are_ways code c.args.at y w c.in_ok-edges.edges.items c.in_ok-edges.ensures tos c.next_alone.ensures c.covering_of.ensures)
