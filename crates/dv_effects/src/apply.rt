@@ -21,23 +21,24 @@ use crate::values::{
 use dv_bases::{Part, PendingWord, Reference, Words, part_of};
 use std::alloc::AllocError;
 
-/// The words after a step. `own` is the word of the method's class, and `steps` has the steps of its instructions by address.
+/// The words after a step, which are changed in place. `own` is the word of the method's class, and `steps` has the steps of its instructions by address.
 pub fn after(
     own: u32,
     steps: &[Option<Step>],
     step: &Step,
-    words: &Words,
+    words: Words,
 ) -> Result<Words, AllocError>
     requires { HasRoomFor step.now.effect }
-    ensures words { (names : Names) (code : Code) (at : ℕ) (op : Op) → IsStep names code at op step.now → HasClasses names code own steps.now → AreFit names code words.now → IfOk result (AreWords names) }
-    ensures state { (names : Names) (code : Code) (at : ℕ) (op : Op) → IsStep names code at op step.now → HasClasses names code own steps.now → AreFit names code words.now → IfOk result (λ w. state_of names w ≡ out names.image code.method at op (state_of names words.now)) }
+    ensures words { (names : Names) (code : Code) (at : ℕ) (op : Op) → IsStep names code at op step.now → HasClasses names code own steps.now → AreFit names code words → IfOk result (AreWords names) }
+    ensures state { (names : Names) (code : Code) (at : ℕ) (op : Op) → IsStep names code at op step.now → HasClasses names code own steps.now → AreFit names code words → IfOk result (λ w. state_of names w ≡ out names.image code.method at op (state_of names words)) }
 {
+    let this_pending = this_after(step.effect, &words);
     let regs = registers_after(own, steps, step.effect, words)?;
     Ok(Words {
         regs,
         result: step.pending,
         caught: None,
-        this_pending: this_after(step.effect, words),
+        this_pending,
     })
 }
 
@@ -67,13 +68,13 @@ fn registers_after(
     own: u32,
     steps: &[Option<Step>],
     effect: Effect,
-    words: &Words,
+    words: Words,
 ) -> Result<Vec<u32>, AllocError>
     requires { HasRoomFor effect }
-    ensures { (names : Names) (code : Code) → HasWords names effect → HasClasses names code own steps.now → AreFit names code words.now → IfOk result (λ v. SayAll names v.items (registers_left names code.method effect (state_of names words.now))) }
+    ensures { (names : Names) (code : Code) → HasWords names effect → HasClasses names code own steps.now → AreFit names code words → IfOk result (λ v. SayAll names v.items (registers_left names code.method effect (state_of names words))) }
 {
     let caught = caught_word(words.caught)?;
-    let mut regs = copied(words)?;
+    let mut regs = words.regs;
     apply(own, steps, effect, words.result, caught, &mut regs);
     Ok(regs)
 }

@@ -76,7 +76,7 @@ fn onward_through<'a>(
         let ways = ways_at(plan, at);
         let targets = ways.targets.items();
         push_entry(bases, table, code, &words, ways.covering, &mut onwards)?;
-        words = after_step(bases, code, plan, at, &words)?;
+        words = after_step(bases, code, plan, at, words)?;
         match follows(plan, at, targets) {
             Some(next) => at = next,
             None => {
@@ -158,15 +158,15 @@ pub fn after_step(
     code: &Coded<'_>,
     plan: &Plan,
     place: usize,
-    words: &Words,
+    words: Words,
 ) -> Result<Words, AllocError>
     requires ready { IsReady bases.now.image (code_of code.now) }
     requires plan { IsPlan bases.now.image bases.now (code_of code.now) plan.now }
     requires place { place < length code.now.body.now.units }
-    requires words { AreWords bases.now words.now }
-    requires fits { fits_at bases.now.image (code_of code.now) place (state_of bases.now words.now) }
+    requires words { AreWords bases.now words }
+    requires fits { fits_at bases.now.image (code_of code.now) place (state_of bases.now words) }
     ensures words { IfOk result (AreWords bases.now) }
-    ensures state { (x : At) → fetch bases.now.image code.now.method.id.0 place ≡ Some x → IfOk result (λ w. state_of bases.now w ≡ out bases.now.image (method_of code.now.method) place x.op (state_of bases.now words.now)) }
+    ensures state { (x : At) → fetch bases.now.image code.now.method.id.0 place ≡ Some x → IfOk result (λ w. state_of bases.now w ≡ out bases.now.image (method_of code.now.method) place x.op (state_of bases.now words)) }
 {
     let step = step_at(plan, place);
     after(plan.own, plan.steps.as_slice(), &step, words)

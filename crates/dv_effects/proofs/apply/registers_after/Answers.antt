@@ -1,14 +1,13 @@
-use Rattle.std.proofs.Common.{refl, subst, sym}
+use Rattle.std.proofs.Common.{refl}
 use Rattle.dv_bases.specs.States.{state_of}
-use Rattle.dv_effects.specs.Said.{SayAll}
 use Rattle.dv_effects.proofs.apply.registers_after.Goals as goal
 
 pub returns : goal.returns
 returns c = λ names code words classes h.
-    let s = state_of names c.args.words.now in
+    let s = state_of names c.args.words in
     c.apply.ensures names code s words
     (record {
-      registers = subst (λ ws. SayAll names ws s.regs) (sym c.in_ok-regs.ensures) (record { words = h.are_words.regs; said = refl });
+      registers = record { words = h.are_words.regs; said = refl };
       result = record { word = h.are_words.result; said = refl };
       handled = c.in_ok-caught.ensures names h.are_words.caught;
     })

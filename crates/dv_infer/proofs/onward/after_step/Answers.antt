@@ -24,7 +24,7 @@ returns-clause-words c =
     let insn = c.requires.ready.clean.each c.args.place c.requires.fits.0 in
     let is = step_is names code c.requires.ready c.args.plan.now c.requires.plan c.args.place insn.0 c.step_at-step.result c.requires.place insn.1.fetched c.step_at-step.ensures in
     let classes = has_classes names code c.requires.ready c.args.plan.now c.requires.plan in
-    let fit : AreFit names code c.args.words.now = record { are_words = c.requires.words; fits = c.requires.fits.1 } in
+    let fit : AreFit names code c.args.words = record { are_words = c.requires.words; fits = c.requires.fits.1 } in
     c.after.ensures.words names code c.args.place insn.0.op is
     (subst (λ (steps : List (Option Step)). HasClasses names code c.args.plan.now.own steps) (sym c.as_slice.ensures.value) classes) fit
 
@@ -34,6 +34,6 @@ returns-clause-state c x fetched =
     let code = code_of c.args.code.now in
     let is = step_is names code c.requires.ready c.args.plan.now c.requires.plan c.args.place x c.step_at-step.result c.requires.place fetched c.step_at-step.ensures in
     let classes = has_classes names code c.requires.ready c.args.plan.now c.requires.plan in
-    let fit : AreFit names code c.args.words.now = record { are_words = c.requires.words; fits = c.requires.fits.1 } in
+    let fit : AreFit names code c.args.words = record { are_words = c.requires.words; fits = c.requires.fits.1 } in
     c.after.ensures.state names code c.args.place x.op is
     (subst (λ (steps : List (Option Step)). HasClasses names code c.args.plan.now.own steps) (sym c.as_slice.ensures.value) classes) fit
