@@ -38,11 +38,31 @@ def chain(letter, count, flags=""):
     return "".join(class_of(f"{letter}{k}", OBJECT if k == 0 else f"L{letter}{k - 1};", flags) for k in range(count))
 
 
+def arrays(count):
+    """So many registers that hold an array of 255 dimensions."""
+    return f"const/4 v0, 0x0\nnew-array v1, v0, {'[' * 255}{OBJECT}\n" + "".join(f"move-object/from16 v{k}, v1\n" for k in range(2, count + 1))
+
+
 def dims(count, units=16_000, registers=256):
     """Arrays of 255 dimensions, each of which loses one in each round of one loop."""
-    body = "const/4 v0, 0x0\n" + "".join(f"new-array v{k}, v0, {'[' * 255}{OBJECT}\n" for k in range(1, count + 1)) + ":loop\n"
-    body += "".join(f"aget-object v{k}, v{k}, v0\n" for k in range(1, count + 1)) + "nop\n" * (units - 5 * count)
+    body = arrays(count) + ":loop\n" + "".join(f"aget-object v{k}, v{k}, v0\n" for k in range(1, count + 1)) + "nop\n" * (units - 5 * count)
     return main_class(body + "goto/32 :loop\n", registers)
+
+
+def rotated(count, lines):
+    """Arrays of 255 dimensions that move on by one register in each round of one loop, in which only the first loses one."""
+    moves = "".join(f"move-object/from16 v{k}, v{k + 1}\n" for k in range(1, count + 1))
+    return main_class(arrays(count) + f":loop\naget-object v{count + 1}, v1, v0\n{moves}{lines}goto/32 :loop\n", 256)
+
+
+def rotate(count, units=16_000):
+    """The same behind one another in straight code."""
+    return rotated(count, "nop\n" * (units - 4 * count))
+
+
+def heads(count, units=16_000):
+    """The same where each instruction has two ways on, to the next."""
+    return rotated(count, "".join(f"if-eqz v0, :h{k}\n:h{k}\n" for k in range((units - 4 * count) // 2)))
 
 
 def climb(count):
@@ -117,7 +137,9 @@ def cycle(count):
 
 
 CASES = {
-    "dims": (dims, (1, 2, 4)),
+    "dims": (dims, (1, 16, 254)),
+    "rotate": (rotate, (16, 64, 254)),
+    "heads": (heads, (4, 8, 16)),
     "climb": (climb, (128, 256, 512)),
     "catchers": (catchers, (500, 1_000, 2_000)),
     "joins": (joins, (60, 120, 240)),
