@@ -1,13 +1,15 @@
 // Texts, ids, types and references to members.
-ghost use Rattle.std.specs.Prelude.{◌≡◌, nat_eq, IfOk};
+ghost use Rattle.std.specs.Prelude.{◌≡◌, nat_eq, Some, IfOk};
 ghost use Rattle.std.specs.Cmp.{partial_equiv_from_equiv};
-ghost use Rattle.std.specs.Cmp.Lexicographic.{pointwise, nat_list_eq_equiv};
+ghost use Rattle.std.specs.Cmp.Lexicographic.{pointwise, slice_cmp, nat_list_cmp_total, nat_list_eq_equiv, texts_po, texts_ties};
+ghost use Rattle.std.specs.Ordering.{nat_cmp};
 ghost use Rattle.std.specs.Hash as fed;
 ghost use Rattle.std.specs.Cmp.Rules.{hashing};
-ghost use Rattle.std.proofs.Common.{rules};
+ghost use Rattle.std.proofs.Common.{refl, rules};
 
 use crate::Seq;
 use std::alloc::AllocError;
+use std::cmp::Ordering;
 use std::fmt;
 use std::hash::{Hash, Hasher};
 use std::marker::Model;
@@ -73,6 +75,30 @@ impl Eq for Text {
     ghost laws = { nat_list_eq_equiv };
 }
 
+impl PartialOrd for Text {
+    ghost partial_cmp = { λ x y. Some (slice_cmp nat_cmp x y) };
+
+    ghost laws = { texts_po };
+
+    fn partial_cmp(&self, other: &Text) -> Option<Ordering> {
+        Some(self.cmp(other))
+    }
+}
+
+impl Ord for Text {
+    ghost cmp = { slice_cmp nat_cmp };
+
+    ghost total = { nat_list_cmp_total };
+
+    ghost matches_partial_cmp = { λ x y. refl };
+
+    ghost matches_eq = { texts_ties };
+
+    fn cmp(&self, other: &Text) -> Ordering {
+        self.bytes().cmp(other.bytes())
+    }
+}
+
 impl Hash for Text {
     ghost hash_input = { fed.slice fed.u8 };
 
@@ -90,7 +116,7 @@ impl fmt::Debug for Text {
 }
 
 /// Units of 16 bits of a guest string.
-#[derive(Clone, PartialEq, Eq, Hash, Debug, Drop)]
+#[derive(Clone, PartialEq, Eq, PartialOrd, Ord, Hash, Debug, Drop)]
 pub struct Chars {
     units: Seq<u16>,
 }
@@ -124,7 +150,7 @@ impl Chars {
 }
 
 /// The place of a class in the image.
-#[derive(Clone, Copy, PartialEq, Eq, Hash, Debug)]
+#[derive(Clone, Copy, PartialEq, Eq, PartialOrd, Ord, Hash, Debug)]
 pub struct ClassId(pub u32);
 
 /// The place of a method in the image.
@@ -136,7 +162,7 @@ pub struct MethodId(pub u32);
 pub struct FieldId(pub u32);
 
 /// A type without dimensions: the primitive types without floats, and a class by its descriptor.
-#[derive(PartialEq, Eq, Hash, Debug, Drop)]
+#[derive(PartialEq, Eq, PartialOrd, Ord, Hash, Debug, Drop)]
 pub enum Base {
     Z,
     B,
@@ -183,7 +209,7 @@ impl Base {
 }
 
 /// A type: an array where `dims`, its number of dimensions, isn't 0.
-#[derive(PartialEq, Eq, Hash, Debug, Drop)]
+#[derive(PartialEq, Eq, PartialOrd, Ord, Hash, Debug, Drop)]
 pub struct Ty {
     pub dims: u8,
     pub base: Base,
@@ -222,7 +248,7 @@ impl Ty {
 }
 
 /// The types of a method's parameters, and of its result where it has one.
-#[derive(PartialEq, Eq, Hash, Debug, Drop)]
+#[derive(PartialEq, Eq, PartialOrd, Ord, Hash, Debug, Drop)]
 pub struct Proto {
     pub params: Seq<Ty>,
     pub ret: Option<Ty>,
@@ -240,7 +266,7 @@ impl Clone for Proto {
 }
 
 /// A field as an instruction names it.
-#[derive(PartialEq, Eq, Hash, Debug, Drop)]
+#[derive(PartialEq, Eq, PartialOrd, Ord, Hash, Debug, Drop)]
 pub struct FieldRef {
     pub class: Ty,
     pub name: Text,
@@ -260,7 +286,7 @@ impl Clone for FieldRef {
 }
 
 /// A method as an instruction names it.
-#[derive(PartialEq, Eq, Hash, Debug, Drop)]
+#[derive(PartialEq, Eq, PartialOrd, Ord, Hash, Debug, Drop)]
 pub struct MethodRef {
     pub class: Ty,
     pub name: Text,

@@ -1,24 +1,23 @@
-// Entries that are looked up by their hash.
+// Entries that are looked up by their order.
 ghost use Rattle.std.specs.Prelude.{◌≡◌, [], position, OnOk, IfOk};
 ghost use Rattle.dv_defs.specs.Entries.{with_entry};
 
 use crate::Seq;
 use std::alloc::{AllocError, Global};
-use std::collections::HashMap;
-use std::hash::Hash;
+use std::collections::BTreeMap;
 use std::marker::Model;
 
-/// Entries in first-seen order, each once. An entry is looked up by its hash. To a contract it is the list of its entries.
+/// Entries in first-seen order, each once. An entry is looked up by its order, so no choice of entries makes look-ups slow. To a contract it is the list of its entries.
 #[derive(Drop)]
-pub struct Pool<E: Eq + Hash> {
+pub struct Pool<E: Ord> {
     entries: Vec<E>,
-    places: HashMap<E, usize>,
+    places: BTreeMap<E, usize>,
 }
 
-impl<E: Eq + Hash> Model for Pool<E> {
+impl<E: Ord> Model for Pool<E> {
     ghost use Rattle.std.specs.Prelude.{List};
     ghost use Rattle.std.specs.Coded.{coded_list};
-    ghost use Rattle.std.specs.HashMap.{get};
+    ghost use Rattle.std.specs.BTreeMap.{get};
     ghost use Rattle.dv_defs.specs.Entries.{ArePlaces};
 
     ghost Value = { List E };
@@ -27,16 +26,16 @@ impl<E: Eq + Hash> Model for Pool<E> {
 
     ghost view = { λ pool. pool.entries.items };
 
-    ghost invariant = { λ pool. ArePlaces E.eq pool.entries.items (get E.eq pool.places) };
+    ghost invariant = { λ pool. ArePlaces E.eq pool.entries.items (get E.cmp pool.places) };
 }
 
-impl<E: Eq + Hash + Clone + Drop> Pool<E> {
+impl<E: Ord + Clone + Drop> Pool<E> {
     pub fn new(alloc: Global) -> Pool<E>
         ensures { result ≡ [] }
     {
         Pool {
             entries: Vec::new(alloc),
-            places: HashMap::new(alloc),
+            places: BTreeMap::new(alloc),
         }
     }
 
