@@ -5,7 +5,6 @@ ghost use Rattle.dv_draft.specs.Pools.{no_pools, pool_ref, with_ref, index_of, p
 use crate::draft::{Item, PoolRef, What};
 use dv_defs::{Chars, FieldRef, MethodRef, Pool, Seq, Ty};
 use std::alloc::{AllocError, Global};
-use std::hash::Hash;
 
 /// The strings, types, fields and methods that the instructions of a body name.
 #[derive(Drop)]
@@ -118,8 +117,8 @@ impl Pools {
 /// The entries of two pools in their order.
 fn into_seqs<E, F>(first: Pool<E>, second: Pool<F>) -> Result<(Seq<E>, Seq<F>), AllocError>
 where
-    E: Eq + Hash + Clone + Drop,
-    F: Eq + Hash + Clone + Drop,
+    E: Ord + Clone + Drop,
+    F: Ord + Clone + Drop,
     ensures first { IfOk result (λ entries. entries.0 ≡ first) }
     ensures second { IfOk result (λ entries. entries.1 ≡ second) }
 {
