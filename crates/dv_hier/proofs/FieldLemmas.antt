@@ -1,6 +1,8 @@
 -- Fields of one name and type.
 use Rattle.std.proofs.Common.{◌≡◌, ◌+◌, ◌<◌, ◌≤◌, ℕ, Bool, true, false, cond, not, ◌&&◌, ◌||◌, bytes_eq, List, [], ◌∷◌, ◌++◌, length, take, get_or, position, All, IsTrue, option_map, Option, Some, None, refl, subst, sym, ap, ◌∙◌, arith}
 use Rattle.std.specs.Prelude.{nat_eq, nat_lt}
+use Rattle.std.specs.declared.cmp.Ordering.{Ordering}
+use Rattle.std.specs.Ordering.{is_eq}
 use Rattle.std.specs.List.{list_any}
 use Rattle.std.proofs.lemmas.List.{take_more, take_all, length-map, get_or-map}
 use Rattle.std.proofs.lemmas.List.Elements.{All-more, All-same}
@@ -22,11 +24,12 @@ use Rattle.dv_defs.specs.declared.image.ClassInfo.{ClassInfo}
 use Rattle.dv_defs.proofs.Keys.{type_keys}
 use Rattle.law_linking.proofs.First.{first_below_found, first_below_more}
 use Rattle.dv_hier.specs.declared.fields.FieldKey.{FieldKey}
-use Rattle.dv_hier.specs.contracts.fields.FieldKeyPartialEq.TheImpl as of_key
+use Rattle.dv_hier.specs.contracts.fields.FieldKeyOrd.TheImpl as of_key
+use Rattle.dv_hier.specs.contracts.fields.FieldKeyOrd.TheImpl.Laws as of_order
 use Rattle.dv_hier.proofs.Twice.{first_here, first_before, some_place, some_of, none_of}
 
-abbrev pub key_eq : FieldKey → FieldKey → Bool
-key_eq = (of_key.ghosts).eq
+abbrev pub key_cmp : FieldKey → FieldKey → Ordering
+key_cmp = (of_key.ghosts).cmp
 
 -- a field has the name and the type of a key
 abbrev pub is_like : FieldKey → FieldDef → Bool
@@ -61,8 +64,8 @@ field_same f = (λ j. bytes_same f.name j && type_same f.ty j)
 like_key : (k : FieldKey) (f : FieldDef) → k.name.now ≡ f.name → k.ty.now ≡ f.ty → is_like k ≡ same_field f
 like_key k f name ty = λ j g. bytes_eq g.name (name j) && ty_eq g.ty (ty j)
 
-key_like : (k q : FieldKey) (f : FieldDef) → k.name.now ≡ f.name → k.ty.now ≡ f.ty → key_eq k q ≡ is_like q f
-key_like k q f name ty = λ j. bytes_eq (name j) q.name.now && type_keys j (ty j) q.ty.now
+key_like : (k q : FieldKey) (f : FieldDef) → k.name.now ≡ f.name → k.ty.now ≡ f.ty → is_eq (key_cmp k q) ≡ is_like q f
+key_like k q f name ty = sym (of_order.matches_eq-law k q) ∙ λ j. bytes_eq (name j) q.name.now && type_keys j (ty j) q.ty.now
 
 or_last : (a b : Bool) → cond b true a ≡ (a || (b || false))
 or_last true true = refl
@@ -71,7 +74,7 @@ or_last false true = refl
 or_last false false = refl
 
 -- a set that has one more key
-pub told_more : (fs : List FieldDef) (i : ℕ) (f : FieldDef) (k q : FieldKey) (before after : Bool) → i < length fs → f ≡ get_or fs i f → k.name.now ≡ f.name → k.ty.now ≡ f.ty → before ≡ list_any (is_like q) (take i fs) → after ≡ cond (key_eq k q) true before → after ≡ list_any (is_like q) (take (i + 1) fs)
+pub told_more : (fs : List FieldDef) (i : ℕ) (f : FieldDef) (k q : FieldKey) (before after : Bool) → i < length fs → f ≡ get_or fs i f → k.name.now ≡ f.name → k.ty.now ≡ f.ty → before ≡ list_any (is_like q) (take i fs) → after ≡ cond (is_eq (key_cmp k q)) true before → after ≡ list_any (is_like q) (take (i + 1) fs)
 told_more fs i f k q before after within is name ty told added =
     let more : take (i + 1) fs ≡ take i fs ++ f ∷ [] = take_more fs i f within ∙ (λ j. take i fs ++ sym is j ∷ []) in
     added ∙ ((λ j. cond (key_like k q f name ty j) true (told j)) ∙

@@ -1,6 +1,6 @@
 // Fields that a class declares twice.
 ghost use Rattle.std.specs.Prelude.{◌≡◌, false, length, option_map, None, All, IfOk, IsTrue};
-ghost use Rattle.indexmap.specs.IndexSet.{contains};
+ghost use Rattle.std.specs.BTreeSet.{contains};
 ghost use Rattle.dv_defs.specs.declared.faults.LinkKind.TheVariants as kind;
 ghost use Rattle.dv_defs.specs.Field.{may_stand};
 ghost use Rattle.dv_defs.specs.First.{first_below};
@@ -10,11 +10,11 @@ ghost use Rattle.dv_hier.specs.declared.fields.FieldKey.{FieldKey as Key};
 
 use crate::faults::error_of;
 use dv_defs::{ClassInfo, FieldDef, LinkError, LinkKind, Text, Ty};
-use indexmap::IndexSet;
 use std::alloc::{AllocError, Global};
+use std::collections::BTreeSet;
 
 /// What the fields of a class are told apart by.
-#[derive(Clone, Copy, PartialEq, Eq, Hash)]
+#[derive(Clone, Copy, PartialEq, Eq, PartialOrd, Ord)]
 struct FieldKey<'a> {
     name: &'a Text,
     ty: &'a Ty,
@@ -35,10 +35,10 @@ fn key_of(field: &FieldDef) -> FieldKey<'_>
 /// The name of the first field that an earlier one is like, as that field has it. What is met is added to the set, which is empty;
 /// a lone field needs none.
 fn repeated_in<'a>(
-    seen: &mut IndexSet<FieldKey<'a>>,
+    seen: &mut BTreeSet<FieldKey<'a>>,
     fields: &'a [FieldDef],
 ) -> Result<Option<&'a Text>, AllocError>
-    requires none { (k : Key) → contains ⟦<FieldKey<'a> as PartialEq>⟧.eq seen.old k ≡ false }
+    requires none { (k : Key) → contains ⟦<FieldKey<'a> as Ord>⟧.cmp seen.old k ≡ false }
     ensures twice { IfOk result (λ name. first_below (first_twice fields.now) (length fields.now) ≡ option_map (λ n. kind.FieldTwice n.now) name) }
     ensures values { IfOk result (λ name. name ≡ None → All (λ f. IsTrue (may_stand f.init f.ty f.flags)) fields.now) }
 {
@@ -57,7 +57,7 @@ fn repeated_name<'a>(alloc: Global, fields: &'a [FieldDef]) -> Result<Option<&'a
     ensures twice { IfOk result (λ name. first_below (first_twice fields.now) (length fields.now) ≡ option_map (λ n. kind.FieldTwice n.now) name) }
     ensures values { IfOk result (λ name. name ≡ None → All (λ f. IsTrue (may_stand f.init f.ty f.flags)) fields.now) }
 {
-    let mut seen = IndexSet::new(alloc);
+    let mut seen = BTreeSet::new(alloc);
     repeated_in(&mut seen, fields)
 }
 

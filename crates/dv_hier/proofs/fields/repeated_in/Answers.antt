@@ -1,6 +1,6 @@
 use Rattle.std.proofs.Common.{refl, ap, ◌∙◌}
-use Rattle.indexmap.specs.IndexSet.{contains}
-use Rattle.dv_hier.proofs.FieldLemmas.{key_eq, several_are, told_more, twice_found, twice_more, alone_more, alone_told, value_more, all_values}
+use Rattle.std.specs.BTreeSet.{contains}
+use Rattle.dv_hier.proofs.FieldLemmas.{key_cmp, several_are, told_more, twice_found, twice_more, alone_more, alone_told, value_more, all_values}
 use Rattle.dv_hier.proofs.fields.repeated_in.Goals as goal
 use Rattle.dv_hier.proofs.fields.repeated_in.Goals.{else-several-via-then-several+in_ok-insert+else-not-branch, else-several-via-else-several}
 
@@ -19,7 +19,7 @@ loop-i-preserved c =
             c.loop-i.invariant.faultless c.loop-i-test.true c.index-fields-i.is c.key_of-key.ensures.name c.key_of-key.ensures.ty
             (c.loop-i.invariant.told (several_are _ w.if-several.true) c.key_of-key.result) w.in_ok-insert.ensures.added w.if-not-branch.false;
         told = λ several k. told_more c.args.fields.now c.loop-i.i c.index-fields-i.result c.key_of-key.result k _ _ c.loop-i-test.true c.index-fields-i.is
-            c.key_of-key.ensures.name c.key_of-key.ensures.ty (c.loop-i.invariant.told several k) (ap (λ s. contains key_eq s k) w.seen-is ∙ w.in_ok-insert.ensures.updates.0 k);
+            c.key_of-key.ensures.name c.key_of-key.ensures.ty (c.loop-i.invariant.told several k) (ap (λ s. contains key_cmp s k) w.seen-is ∙ w.in_ok-insert.ensures.updates.0 k);
         values = values;
       }
       | else-several-via-else-several w ↦ record {
