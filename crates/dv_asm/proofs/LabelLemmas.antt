@@ -1,6 +1,6 @@
 -- The first place at which a test passes, one more item after another: of labels by their names, and of switches by the addresses that
 -- they name.
-use Rattle.std.proofs.Common.{◌≡◌, ◌+◌, ◌<◌, ◌≤◌, ℕ, Bool, not, cond, List, [], ◌∷◌, ◌++◌, length, map, take, get_or, position, nat_lt, nat_eq, Option, Some, None, sym, ap, ◌∙◌, arith, length-append}
+use Rattle.std.proofs.Common.{◌≡◌, ◌+◌, ◌<◌, ◌≤◌, ℕ, Bool, true, false, not, cond, List, [], ◌∷◌, ◌++◌, length, map, take, get_or, position, nat_lt, nat_eq, Option, Some, None, is_some, refl, sym, ap, ◌∙◌, arith, length-append}
 use Rattle.std.specs.Option.{option_or}
 use Rattle.std.specs.List.{position_or_len}
 use Rattle.std.proofs.lemmas.List.{map_more, length-map, take_more, length-take-le}
@@ -40,3 +40,10 @@ position_more {Y} f test items k within =
     ap (position test) (map_more f items k no_item within) ∙
     (position_push test done (f (item_at items k)) ∙
     ap (λ (n : ℕ). option_or (position test done) (when (test (f (item_at items k))) n)) taken)
+
+-- what stands under a key once another key, under which nothing stood, has a value
+pub first_kept : {V : Type 0} (same : Bool) (here old new : Option V) (v : V) → (same ≡ true → old ≡ here) → is_some here ≡ false → new ≡ cond same (Some v) old → new ≡ option_or old (when same v)
+first_kept true here None new v alike absent put = put
+first_kept true here (Some w) new v alike absent put = let some : Some w ≡ here = alike refl in let there : is_some here ≡ true = ap is_some (sym some) in absurd (cc)
+first_kept false here None new v alike absent put = put
+first_kept false here (Some w) new v alike absent put = put

@@ -1,9 +1,9 @@
 -- Ranges by their starts: what stands there once one more is put in its place, and whether a range overlaps one of them.
-use Rattle.std.proofs.Common.{◌≡◌, ℕ, ◌+◌, ◌<◌, ◌≤◌, suc, Bool, true, false, not, ◌||◌, ◌&&◌, List, [], ◌∷◌, ◌++◌, length, map, filter, nat_lt, nat_eq, Option, Some, None, cond, if◌then◌else◌, refl, ap, sym, subst, ◌∙◌, arith}
+use Rattle.std.proofs.Common.{◌≡◌, ℕ, ◌+◌, ◌<◌, ◌≤◌, suc, Bool, true, false, not, ◌||◌, ◌&&◌, List, [], ◌∷◌, ◌++◌, length, filter, nat_lt, nat_eq, Option, Some, None, cond, if◌then◌else◌, refl, ap, sym, subst, ◌∙◌, arith}
 use Rattle.std.specs.BTreeMap.{insert_entry}
 use Rattle.std.specs.BTreeMap.Range.{range_contains}
 use Rattle.std.specs.declared.ops.Bound.TheVariants.{Unbounded, Excluded}
-use Rattle.std.specs.Ordering.{nat_cmp, match_ordering, MatchOrdering, is_le}
+use Rattle.std.specs.Ordering.{nat_cmp, match_ordering, MatchOrdering, is_eq, is_le}
 use Rattle.std.specs.declared.cmp.Ordering.{Ordering}
 use Rattle.std.specs.declared.cmp.Ordering.TheVariants.{Less, Equal, Greater}
 use Rattle.std.specs.Prelude.{fold, insert, nat_le}
@@ -15,7 +15,8 @@ use Rattle.std.proofs.lemmas.Bool.Decides.{nat_tests}
 use Rattle.dv_asm.specs.declared.tries.TryRange.{TryRange}
 use Rattle.dv_asm.specs.Refusals.{is_same, is_empty, overlaps}
 use Rattle.dv_asm.specs.Layout.{begins_from, place_among, is_range, with_range}
-use Rattle.dv_asm.specs.Ranges.{range_in, ranges_in, StartFrom, AreApart}
+use Rattle.dv_asm.specs.contracts.tries.TryRangeOrd.TheImpl.Laws as of_order
+use Rattle.dv_asm.specs.Ranges.{range_in, ranges_in, range_cmp, StartFrom, AreApart}
 
 both : (a b : Bool) → (a && b) ≡ true → (a ≡ true) × (b ≡ true)
 both true b e = (refl, e)
@@ -30,6 +31,10 @@ pub same_range : (r s : TryRange) → is_same r s ≡ true → r ≡ s
 same_range r s e =
     let p = both (nat_eq r.start s.start) (nat_eq r.end s.end) e in
     range_by r.start s.start r.end s.end (eqb-true r.start s.start p.0) (eqb-true r.end s.end p.1)
+
+-- ranges are the same where neither comes before the other
+pub same_by_order : (r s : TryRange) → is_same r s ≡ is_eq (range_cmp r s)
+same_by_order = of_order.matches_eq-law
 
 pub same_itself : (r : TryRange) → is_same r r ≡ true
 same_itself r = grind (arith, nat_tests)

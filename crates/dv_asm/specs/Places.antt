@@ -1,7 +1,9 @@
 -- The addresses of items and labels, in units.
-use Rattle.std.specs.Prelude.{ℕ, zero, suc, ◌≡◌, ◌+◌, ◌%◌, ◌^◌, ◌≤◌, ℤ, pos, ◌-ℤ◌, Bool, false, ◌&&◌, nat_eq, List, [], ◌∷◌, bytes_eq, length, drop, position, slice_index, Option, option_map, if◌then◌else◌}
+use Rattle.std.specs.Prelude.{ℕ, zero, suc, ◌≡◌, ◌+◌, ◌%◌, ◌^◌, ◌≤◌, ℤ, pos, ◌-ℤ◌, Bool, false, ◌&&◌, nat_eq, List, [], ◌∷◌, length, drop, position, slice_index, Option, option_map, if◌then◌else◌}
 use Rattle.std.specs.Option.{option_map_or}
-use Rattle.indexmap.specs.IndexMap.{IndexMap, get}
+use Rattle.std.specs.BTreeMap.{BTreeMap, get}
+use Rattle.std.specs.Cmp.Lexicographic.{slice_cmp}
+use Rattle.std.specs.Ordering.{nat_cmp}
 use Rattle.dv_draft.specs.declared.draft.Item.{Item}
 use Rattle.dv_asm.specs.Items.{item_at, is_label, is_named, is_payload, label_of_switch, size_of}
 
@@ -51,10 +53,10 @@ pub record AreAddresses (items : List Item) (addresses : List ℕ) : Type 0 wher
   pub small : (k : ℕ) → k ≤ length items → address_of items k ≤ 2 ^ 62
 
 -- the names of the labels, each with the place of its first label
-abbrev pub AreFirstLabels : {S : Type 0} → List Item → IndexMap (List ℕ) ℕ S → Type 0
-AreFirstLabels items labels = (name : List ℕ) → get bytes_eq labels name ≡ place_of items name
+abbrev pub AreFirstLabels : List Item → BTreeMap (List ℕ) ℕ → Type 0
+AreFirstLabels items labels = (name : List ℕ) → get (slice_cmp nat_cmp) labels name ≡ place_of items name
 
 -- the addresses of the items, and the places of their labels
-pub record ArePlaces {S : Type 0} (items : List Item) (addresses : List ℕ) (labels : IndexMap (List ℕ) ℕ S) : Type 0 where
+pub record ArePlaces (items : List Item) (addresses : List ℕ) (labels : BTreeMap (List ℕ) ℕ) : Type 0 where
   pub are_addresses : AreAddresses items addresses
   pub are_labels : AreFirstLabels items labels

@@ -2,11 +2,12 @@
 use Rattle.std.specs.Prelude.{ℕ, ◌≡◌, ◌<◌, ◌≤◌, List, [], ◌∷◌, map, Option, Some, None}
 use Rattle.std.specs.Borrow.{Bor}
 use Rattle.std.specs.Global.{Vec}
-use Rattle.indexmap.specs.IndexMap.{IndexMap, get}
+use Rattle.std.specs.BTreeMap.{BTreeMap, get}
+use Rattle.std.specs.declared.cmp.Ordering.{Ordering}
 use Rattle.dv_draft.specs.declared.draft.Item.{Item}
 use Rattle.dv_draft.specs.declared.draft.Catch.{Catch}
 use Rattle.dv_asm.specs.declared.tries.TryRange.{TryRange}
-use Rattle.dv_asm.specs.Refusals.{is_same}
+use Rattle.dv_asm.specs.contracts.tries.TryRangeOrd.TheImpl as of_range
 use Rattle.dv_asm.specs.Layout.{catches_of}
 
 -- the range from a start to an end
@@ -31,6 +32,10 @@ abbrev pub found : Option (Vec (Bor Catch)) → List Catch
 found None = []
 found (Some group) = map (λ (c : Bor Catch). c.now) group.items
 
+-- the order of ranges: by their starts, then by their ends
+abbrev pub range_cmp : TryRange → TryRange → Ordering
+range_cmp = (of_range.ghosts).cmp
+
 -- the ranges of the handlers, each with its handlers in the order of the text
-abbrev pub AreGroups : {S : Type 0} → List Item → List Catch → IndexMap TryRange (Vec (Bor Catch)) S → Type 0
-AreGroups items catches groups = (r : TryRange) → found (get is_same groups r) ≡ catches_of items catches r
+abbrev pub AreGroups : List Item → List Catch → BTreeMap TryRange (Vec (Bor Catch)) → Type 0
+AreGroups items catches groups = (r : TryRange) → found (get range_cmp groups r) ≡ catches_of items catches r

@@ -12,7 +12,6 @@ use crate::short::Short;
 use crate::tries::TryRange;
 use dv_defs::{LineError, LineKind};
 use dv_draft::Catch;
-use indexmap::IndexMap;
 use std::alloc::{AllocError, Global};
 use std::collections::BTreeMap;
 
@@ -22,7 +21,7 @@ pub struct Catches<'a> {
     pub short: &'a Short<'a>,
     pub catches: &'a [Catch],
     ranges: Vec<TryRange>,
-    pub groups: IndexMap<TryRange, Vec<&'a Catch>>,
+    pub groups: BTreeMap<TryRange, Vec<&'a Catch>>,
     ghost are_ranges: { ranges.items ≡ ranges_of short.now catches.now },
     pub ghost are_groups: { AreGroups short.now catches.now groups },
 }

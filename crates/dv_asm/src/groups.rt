@@ -1,26 +1,26 @@
 // The handlers of each range.
 ghost use Rattle.std.specs.Prelude.{◌≡◌, ◌++◌, ◌∷◌, [], if◌then◌else◌, IfOk, OnOk};
-ghost use Rattle.indexmap.specs.IndexMap.{get};
+ghost use Rattle.std.specs.BTreeMap.{get};
 ghost use Rattle.dv_asm.specs.declared.tries.TryRange.{TryRange};
 ghost use Rattle.dv_asm.specs.Refusals.{ranges_of, is_same};
-ghost use Rattle.dv_asm.specs.Ranges.{found, AreGroups};
+ghost use Rattle.dv_asm.specs.Ranges.{found, range_cmp, AreGroups};
 
 use crate::short::Short;
 use crate::tries::TryRange;
 use dv_draft::Catch;
-use indexmap::IndexMap;
 use std::alloc::{AllocError, Global};
+use std::collections::BTreeMap;
 
 /// Adds a handler to those of its range.
 fn add_catch<'a>(
-    groups: &mut IndexMap<TryRange, Vec<&'a Catch>>,
+    alloc: Global,
+    groups: &mut BTreeMap<TryRange, Vec<&'a Catch>>,
     range: TryRange,
     catch: &'a Catch,
 ) -> Result<(), AllocError>
-    ensures { OnOk result ((r : TryRange) → found (get is_same groups.new r)
-        ≡ found (get is_same groups.old r) ++ (if is_same range r then catch.now ∷ [] else [])) }
+    ensures { OnOk result ((r : TryRange) → found (get range_cmp groups.new r)
+        ≡ found (get range_cmp groups.old r) ++ (if is_same range r then catch.now ∷ [] else [])) }
 {
-    let alloc = *groups.allocator();
     match groups.get_mut(&range) {
         Some(group) => group.push(catch)?,
         None => {
@@ -39,13 +39,13 @@ impl Short<'_> {
         alloc: Global,
         catches: &'a [Catch],
         ranges: &[TryRange],
-    ) -> Result<IndexMap<TryRange, Vec<&'a Catch>>, AllocError>
+    ) -> Result<BTreeMap<TryRange, Vec<&'a Catch>>, AllocError>
         requires { ranges.now ≡ ranges_of self.now catches.now }
         ensures { IfOk result (λ groups. AreGroups self.now catches.now groups) }
     {
-        let mut groups = IndexMap::new(alloc);
+        let mut groups = BTreeMap::new(alloc);
         for k in 0..catches.len() {
-            match add_catch(&mut groups, ranges[k], &catches[k]) {
+            match add_catch(alloc, &mut groups, ranges[k], &catches[k]) {
                 Ok(()) => {}
                 Err(error) => {
                     drop(groups);

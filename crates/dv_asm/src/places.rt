@@ -1,7 +1,9 @@
 // The addresses of items and labels.
-ghost use Rattle.std.specs.Prelude.{◌≡◌, ◌+◌, ◌%◌, ◌-ℤ◌, ◌^◌, ◌<◌, ◌≤◌, ◌&&◌, ℕ, false, List, bytes_eq, drop, nat_eq, pos, length, vec_len, slice_index_or, IfOk, OnOk, if◌then◌else◌};
+ghost use Rattle.std.specs.Prelude.{◌≡◌, ◌+◌, ◌%◌, ◌-ℤ◌, ◌^◌, ◌<◌, ◌≤◌, ◌&&◌, ℕ, false, List, drop, nat_eq, pos, length, vec_len, slice_index_or, IfOk, OnOk, if◌then◌else◌};
+ghost use Rattle.std.specs.Cmp.Lexicographic.{slice_cmp};
+ghost use Rattle.std.specs.Ordering.{nat_cmp};
 ghost use Rattle.std.specs.Option.{option_or};
-ghost use Rattle.indexmap.specs.IndexMap.{get};
+ghost use Rattle.std.specs.BTreeMap.{get};
 ghost use Rattle.dv_asm.specs.First.{when};
 ghost use Rattle.dv_asm.specs.Items.{item_at, is_named};
 ghost use Rattle.dv_asm.specs.Places.{leads_to_payload, place_of, label_address, distance, address_of, AreAddresses, AreFirstLabels};
@@ -9,8 +11,8 @@ ghost use Rattle.dv_asm.specs.Places.{leads_to_payload, place_of, label_address,
 use crate::items::{is_label, is_payload, size};
 use dv_defs::Text;
 use dv_draft::{Item, What};
-use indexmap::IndexMap;
 use std::alloc::{AllocError, Global};
+use std::collections::BTreeMap;
 use std::marker::Model;
 
 /// More units than any memory holds.
@@ -22,7 +24,7 @@ const TOO_MANY: u64 = 1 << 62;
 pub struct Places<'a> {
     items: &'a [Item],
     addresses: Vec<u64>,
-    labels: IndexMap<Text, usize>,
+    labels: BTreeMap<Text, usize>,
 }
 
 impl<'a> Model for Places<'a> {
@@ -83,12 +85,12 @@ fn addresses(alloc: Global, items: &[Item]) -> Result<Vec<u64>, AllocError>
 
 /// Adds an item's name with the item's place, where it is a label of a name that isn't there.
 fn add_label(
-    labels: &mut IndexMap<Text, usize>,
+    labels: &mut BTreeMap<Text, usize>,
     item: &Item,
     place: usize,
 ) -> Result<(), AllocError>
-    ensures { OnOk result ((name : List ℕ) → get bytes_eq labels.new name
-        ≡ option_or (get bytes_eq labels.old name) (when (is_named name item.now) place)) }
+    ensures { OnOk result ((name : List ℕ) → get (slice_cmp nat_cmp) labels.new name
+        ≡ option_or (get (slice_cmp nat_cmp) labels.old name) (when (is_named name item.now) place)) }
 {
     if let What::Label(name) = &item.what
         && !labels.contains_key(name)
@@ -99,10 +101,10 @@ fn add_label(
 }
 
 /// The names of the labels, each with the place of its first label.
-fn first_labels(alloc: Global, items: &[Item]) -> Result<IndexMap<Text, usize>, AllocError>
+fn first_labels(alloc: Global, items: &[Item]) -> Result<BTreeMap<Text, usize>, AllocError>
     ensures { IfOk result (λ labels. AreFirstLabels items.now labels) }
 {
-    let mut labels = IndexMap::new(alloc);
+    let mut labels = BTreeMap::new(alloc);
     for k in 0..items.len() {
         match add_label(&mut labels, &items[k], k) {
             Ok(()) => {}

@@ -1,8 +1,9 @@
 // The payloads that switches name.
-ghost use Rattle.std.specs.Prelude.{◌≡◌, ◌<◌, ◌||◌, ℕ, length, nat_eq, IfOk, OnOk};
+ghost use Rattle.std.specs.Prelude.{◌≡◌, ◌<◌, ◌||◌, ℕ, length, IfOk, OnOk};
+ghost use Rattle.std.specs.Ordering.{nat_cmp};
 ghost use Rattle.std.specs.Option.{option_or};
-ghost use Rattle.indexmap.specs.IndexMap.{get};
-ghost use Rattle.indexmap.specs.IndexSet.{contains};
+ghost use Rattle.std.specs.BTreeMap.{get};
+ghost use Rattle.std.specs.BTreeSet.{contains};
 ghost use Rattle.dv_asm.specs.First.{when};
 ghost use Rattle.dv_asm.specs.Items.{item_at};
 ghost use Rattle.dv_asm.specs.Places.{address_named_by};
@@ -14,8 +15,8 @@ use crate::labels::is_place;
 use crate::lines::{first_line, when};
 use crate::places::Places;
 use dv_draft::Item;
-use indexmap::{IndexMap, IndexSet};
 use std::alloc::{AllocError, Global};
+use std::collections::{BTreeMap, BTreeSet};
 use std::marker::Model;
 
 impl Places<'_> {
@@ -30,10 +31,10 @@ impl Places<'_> {
     }
 
     /// Adds the address that an item names with the item's place, where it is a switch and the address isn't there.
-    fn add_switch(&self, switches: &mut IndexMap<u64, usize>, k: usize) -> Result<(), AllocError>
+    fn add_switch(&self, switches: &mut BTreeMap<u64, usize>, k: usize) -> Result<(), AllocError>
         requires { k < length self.now }
-        ensures { OnOk result ((address : ℕ) → get nat_eq switches.new address
-            ≡ option_or (get nat_eq switches.old address)
+        ensures { OnOk result ((address : ℕ) → get nat_cmp switches.new address
+            ≡ option_or (get nat_cmp switches.old address)
             (when (is_address address (address_named_by self.now (item_at self.now k))) k)) }
     {
         if let Some(address) = self.address_named_by(self.item(k))
@@ -45,10 +46,10 @@ impl Places<'_> {
     }
 
     /// The addresses that switches name, each with the place of the first switch that names it.
-    fn first_switches(&self, alloc: Global) -> Result<IndexMap<u64, usize>, AllocError>
+    fn first_switches(&self, alloc: Global) -> Result<BTreeMap<u64, usize>, AllocError>
         ensures { IfOk result (λ switches. AreFirstSwitches self.now switches) }
     {
-        let mut switches = IndexMap::new(alloc);
+        let mut switches = BTreeMap::new(alloc);
         for k in 0..self.count() {
             match self.add_switch(&mut switches, k) {
                 Ok(()) => {}
@@ -62,10 +63,10 @@ impl Places<'_> {
     }
 
     /// Adds the address of an item where it is a payload.
-    fn add_payload(&self, payloads: &mut IndexSet<u64>, k: usize) -> Result<(), AllocError>
+    fn add_payload(&self, payloads: &mut BTreeSet<u64>, k: usize) -> Result<(), AllocError>
         requires { k < length self.now }
-        ensures { OnOk result ((address : ℕ) → contains nat_eq payloads.new address
-            ≡ contains nat_eq payloads.old address || is_payload_at self.now address k) }
+        ensures { OnOk result ((address : ℕ) → contains nat_cmp payloads.new address
+            ≡ contains nat_cmp payloads.old address || is_payload_at self.now address k) }
     {
         if is_payload(self.item(k)) {
             payloads.insert(self.address_of(k))?;
@@ -74,10 +75,10 @@ impl Places<'_> {
     }
 
     /// The addresses at which payloads stand.
-    fn payload_addresses(&self, alloc: Global) -> Result<IndexSet<u64>, AllocError>
+    fn payload_addresses(&self, alloc: Global) -> Result<BTreeSet<u64>, AllocError>
         ensures { IfOk result (λ payloads. ArePayloadAddresses self.now payloads) }
     {
-        let mut payloads = IndexSet::new(alloc);
+        let mut payloads = BTreeSet::new(alloc);
         for k in 0..self.count() {
             match self.add_payload(&mut payloads, k) {
                 Ok(()) => {}
@@ -96,8 +97,8 @@ impl Places<'_> {
 #[derive(Drop)]
 pub struct Switches<'a> {
     places: &'a Places<'a>,
-    first: IndexMap<u64, usize>,
-    payloads: IndexSet<u64>,
+    first: BTreeMap<u64, usize>,
+    payloads: BTreeSet<u64>,
 }
 
 impl<'a> Model for Switches<'a> {

@@ -8,7 +8,7 @@ use dv_draft::Catch;
 use std::alloc::{AllocError, Global};
 
 /// The addresses from `start` up to and without `end`.
-#[derive(Clone, Copy, PartialEq, Eq, Hash)]
+#[derive(Clone, Copy, PartialEq, Eq, PartialOrd, Ord)]
 pub struct TryRange {
     pub start: u32,
     pub end: u32,
