@@ -4,7 +4,6 @@ use Rattle.std.specs.List.{list_any, find}
 use Rattle.std.proofs.Common.{refl, ap, sym, subst, ◌∙◌, arith}
 use Rattle.std.proofs.lemmas.List.Elements.{recursion_from_All, All-append, All-filter, filter_passes}
 use Rattle.std.proofs.lemmas.Slice.Eq.{bytes_eq-Decides}
-use Rattle.indexmap.specs.IndexMap.{insert_entry}
 use Rattle.dv_defs.specs.declared.names.MethodId.{MethodId}
 use Rattle.dv_defs.specs.declared.class.MethodDef.{MethodDef}
 use Rattle.dv_defs.specs.declared.image.ClassInfo.{ClassInfo}
@@ -14,7 +13,7 @@ use Rattle.dv_defs.specs.Types.{same_proto}
 use Rattle.dv_defs.specs.Pools.{Method, methods_of, is_static, is_private, is_virtual_of, first_of_classes}
 use Rattle.dv_defs.specs.Linked.{is_callable, callable_of_class, callable_along}
 use Rattle.law_linking.proofs.Members.{HasMethods, own_from, own_methods, method_of, methods_of_class, declared_by_own}
-use Rattle.dv_vtable.specs.Chains.{Key, same_key, key_in, is_in_tables, method_number, entered, first_method, entered_chain}
+use Rattle.dv_vtable.specs.Chains.{insert_entry, Key, same_key, key_in, is_in_tables, method_number, entered, first_method, entered_chain}
 use Rattle.dv_vtable.proofs.Inserting.{neither, like, is_new, IsApart, apart_more, put, after, entries, put_is, apart_filtered, found_filtered}
 use Rattle.dv_vtable.proofs.SameKeys.{key_laws}
 

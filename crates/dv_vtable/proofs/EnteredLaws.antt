@@ -2,7 +2,6 @@
 use Rattle.std.specs.Prelude.{ℕ, suc, ◌≡◌, ◌<◌, ◌+◌, Bool, true, false, List, [], ◌∷◌, ◌++◌, length, map, drop, Some, slice_get}
 use Rattle.std.proofs.Common.{refl, sym, ap, ◌∙◌, arith, cond, get_or, add-one}
 use Rattle.std.proofs.Math.Seq.{drop-cons}
-use Rattle.indexmap.specs.IndexMap.{insert_entry}
 use Rattle.dv_defs.specs.declared.names.ClassId.{ClassId}
 use Rattle.dv_defs.specs.declared.names.MethodId.{MethodId}
 use Rattle.dv_defs.specs.declared.class.MethodDef.{MethodDef}
@@ -10,8 +9,9 @@ use Rattle.dv_defs.specs.declared.image.ClassInfo.{ClassInfo}
 use Rattle.dv_defs.specs.Order.{numbers}
 use Rattle.dv_defs.specs.Pools.{methods_of}
 use Rattle.dv_vtable.specs.declared.keys.MethodKey.{MethodKey}
-use Rattle.dv_vtable.specs.Chains.{Key, same_key, key_in, key_told, told, is_in_tables, method_number, entered, first_method, entered_class, entered_chain, chain_table}
-use Rattle.dv_vtable.proofs.KeyLemmas.{key_eq, key_like}
+use Rattle.dv_vtable.specs.Chains.{insert_entry, Key, same_key, key_in, key_told, told, is_in_tables, method_number, entered, first_method, entered_class, entered_chain, chain_table}
+use Rattle.dv_vtable.specs.Keys.{key_eq}
+use Rattle.dv_vtable.proofs.KeyLemmas.{key_like}
 use Rattle.dv_vtable.proofs.SameKeys.{key_laws}
 
 -- ---- one method

@@ -2,6 +2,7 @@
 use Rattle.std.proofs.Common.{◌≡◌, ◌+◌, ◌-◌, ◌<◌, ◌≤◌, ℕ, zero, suc, Bool, true, false, cond, not, ◌&&◌, ◌||◌, bytes_eq, List, ◌∷◌, length, take, drop, get_or, Option, Some, None, refl, sym, ap, ◌∙◌, arith}
 use Rattle.std.specs.Prelude.{slice_get, option_map}
 use Rattle.std.specs.List.{list_any}
+use Rattle.std.specs.Ordering.{is_eq}
 use Rattle.std.proofs.lemmas.List.{take_all}
 use Rattle.std.proofs.lemmas.List.Folds.{list_any_more}
 use Rattle.dv_defs.specs.declared.class.MethodDef.{MethodDef}
@@ -19,7 +20,8 @@ use Rattle.dv_hier.specs.Slots.{walked, superclasses}
 use Rattle.dv_hier.proofs.Cells.{walked_none}
 use Rattle.dv_vtable.specs.declared.keys.MethodKey.{MethodKey}
 use Rattle.dv_vtable.specs.Finals.{has_final, class_has_final, final_above}
-use Rattle.dv_vtable.proofs.KeyLemmas.{key_eq, is_like, key_like}
+use Rattle.dv_vtable.specs.Keys.{key_cmp}
+use Rattle.dv_vtable.proofs.KeyLemmas.{is_like, key_like, equal_by_order}
 
 -- ---- of one class
 
@@ -44,9 +46,9 @@ with_none start true final like e = grind arith
 with_none start false final like e = grind arith
 
 -- a final method's key is added
-pub finals_more : (ms : List MethodDef) (i : ℕ) (m : MethodDef) (k q : MethodKey) (start before after : Bool) → i < length ms → m ≡ get_or ms i m → k.name.now ≡ m.name → k.proto.now ≡ m.proto → before ≡ (start || has_final q (take i ms)) → is_final m ≡ true → after ≡ cond (key_eq k q) true before → after ≡ (start || has_final q (take (i + 1) ms))
+pub finals_more : (ms : List MethodDef) (i : ℕ) (m : MethodDef) (k q : MethodKey) (start before after : Bool) → i < length ms → m ≡ get_or ms i m → k.name.now ≡ m.name → k.proto.now ≡ m.proto → before ≡ (start || has_final q (take i ms)) → is_final m ≡ true → after ≡ cond (is_eq (key_cmp k q)) true before → after ≡ (start || has_final q (take (i + 1) ms))
 finals_more ms i m k q start before after within is name proto told final added =
-    added ∙ ((λ j. cond (key_like k q m name proto j) true (told j)) ∙
+    added ∙ ((λ j. cond ((sym (equal_by_order k q) ∙ key_like k q m name proto) j) true (told j)) ∙
     (with_one start (has_final q (take i ms)) (is_final m) (is_like q m) final ∙ ap (λ (b : Bool). start || b) (sym (final_more ms i m q within is))))
 
 -- another method's isn't

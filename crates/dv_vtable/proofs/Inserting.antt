@@ -4,7 +4,7 @@ use Rattle.std.specs.List.{list_any, find}
 use Rattle.std.specs.Cmp.{IsEquivalence}
 use Rattle.std.proofs.lemmas.List.Folds.{list_any-append}
 use Rattle.std.proofs.lemmas.List.{map-append}
-use Rattle.indexmap.specs.IndexMap.{insert_entry}
+use Rattle.dv_vtable.specs.Chains.{insert_entry}
 
 -- two alternatives, none of which holds
 pub neither : (b h : Bool) → (b || h) ≡ false → (b ≡ false) × (h ≡ false)

@@ -1,6 +1,8 @@
 -- Keys of methods.
 use Rattle.std.proofs.Common.{◌≡◌, ◌+◌, ◌<◌, ℕ, Bool, true, false, cond, ◌&&◌, ◌||◌, bytes_eq, List, [], ◌∷◌, ◌++◌, length, take, get_or, Option, Some, None, refl, sym, ap, ◌∙◌, arith}
 use Rattle.std.specs.Prelude.{nat_eq}
+use Rattle.std.specs.Cmp.{IsEquivalence}
+use Rattle.std.specs.Ordering.{is_eq}
 use Rattle.std.specs.List.{list_any}
 use Rattle.std.proofs.lemmas.List.{take_more}
 use Rattle.std.proofs.lemmas.List.Folds.{list_any-append}
@@ -14,10 +16,16 @@ use Rattle.dv_defs.specs.Types.{ty_eq, base_eq, same_types, same_result, same_pr
 use Rattle.dv_defs.specs.LinkFaults.{same_method}
 use Rattle.dv_defs.proofs.Keys.{protos}
 use Rattle.dv_vtable.specs.declared.keys.MethodKey.{MethodKey}
-use Rattle.dv_vtable.specs.contracts.keys.MethodKeyPartialEq.TheImpl as of_key
+use Rattle.dv_vtable.specs.contracts.keys.MethodKeyEq.TheImpl.Laws as of_equal
+use Rattle.dv_vtable.specs.contracts.keys.MethodKeyOrd.TheImpl.Laws as of_order
+use Rattle.dv_vtable.specs.Keys.{key_eq, key_cmp}
 
-abbrev pub key_eq : MethodKey → MethodKey → Bool
-key_eq = (of_key.ghosts).eq
+pub equal_laws : IsEquivalence key_eq
+equal_laws = of_equal.laws-law
+
+-- keys are equal where neither comes before the other
+pub equal_by_order : (k q : MethodKey) → key_eq k q ≡ is_eq (key_cmp k q)
+equal_by_order = of_order.matches_eq-law
 
 -- a method has the name and the prototype of a key
 abbrev pub is_like : MethodKey → MethodDef → Bool
@@ -76,9 +84,9 @@ or_last false true = refl
 or_last false false = refl
 
 -- a set of the keys of methods that has one more
-pub told_more : (ms : List MethodDef) (i : ℕ) (m : MethodDef) (k q : MethodKey) (before after : Bool) → i < length ms → m ≡ get_or ms i m → k.name.now ≡ m.name → k.proto.now ≡ m.proto → before ≡ list_any (is_like q) (take i ms) → after ≡ cond (key_eq k q) true before → after ≡ list_any (is_like q) (take (i + 1) ms)
+pub told_more : (ms : List MethodDef) (i : ℕ) (m : MethodDef) (k q : MethodKey) (before after : Bool) → i < length ms → m ≡ get_or ms i m → k.name.now ≡ m.name → k.proto.now ≡ m.proto → before ≡ list_any (is_like q) (take i ms) → after ≡ cond (is_eq (key_cmp k q)) true before → after ≡ list_any (is_like q) (take (i + 1) ms)
 told_more ms i m k q before after within is name proto told added =
     let more : take (i + 1) ms ≡ take i ms ++ m ∷ [] = take_more ms i m within ∙ (λ j. take i ms ++ sym is j ∷ []) in
-    added ∙ ((λ j. cond (key_like k q m name proto j) true (told j)) ∙
+    added ∙ ((λ j. cond ((sym (equal_by_order k q) ∙ key_like k q m name proto) j) true (told j)) ∙
     (or_last (list_any (is_like q) (take i ms)) (is_like q m) ∙
     (sym (list_any-append (is_like q) (take i ms) (m ∷ [])) ∙ ap (list_any (is_like q)) (sym more))))

@@ -1,5 +1,6 @@
 pub mod TabledLaws
 pub mod KeyLemmas
+pub mod KeyPlaces
 pub mod MethodLemmas
 pub mod FinalLemmas
 pub mod Inserting

@@ -1,7 +1,6 @@
 -- Tables of methods, told of the classes alone.
-use Rattle.std.specs.Prelude.{ℕ, suc, Bool, true, false, ◌&&◌, not, List, [], ◌∷◌, length, map, take, sum_by, Some, slice_get, bytes_eq}
+use Rattle.std.specs.Prelude.{ℕ, suc, Bool, true, false, ◌&&◌, not, List, [], ◌∷◌, length, map, take, sum_by, Some, slice_get, bytes_eq, if◌then◌else◌}
 use Rattle.std.specs.List.{range_with_len}
-use Rattle.indexmap.specs.IndexMap.{insert_entry}
 use Rattle.dv_defs.specs.declared.names.Proto.{Proto}
 use Rattle.dv_defs.specs.declared.names.MethodId.{MethodId}
 use Rattle.dv_defs.specs.declared.class.MethodDef.{MethodDef}
@@ -34,6 +33,13 @@ key_told k = record { name = k.name.now; proto = k.proto.now }
 -- what a map from keys to methods tells
 abbrev pub told : List (MethodKey × MethodId) → List (Key × MethodId)
 told es = map (λ e. (key_told e.0, e.1)) es
+
+-- ---- entries
+
+-- the entries with a key's value: a key that is there keeps its place, and a new one goes last
+abbrev pub insert_entry : {K V : Type 0} → (K → K → Bool) → List (K × V) → K → V → List (K × V)
+insert_entry eq [] k v = (k, v) ∷ []
+insert_entry eq (e ∷ es) k v = if eq k e.0 then (e.0, v) ∷ es else e ∷ insert_entry eq es k v
 
 -- ---- one class
 

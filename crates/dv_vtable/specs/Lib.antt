@@ -1,3 +1,4 @@
 pub mod Tables
 pub mod Finals
+pub mod Keys
 pub mod Chains

@@ -5,9 +5,9 @@ ghost use Rattle.dv_defs.specs.Order.{numbers};
 ghost use Rattle.law_linking.specs.Stripped.{AreInRange};
 ghost use Rattle.dv_vtable.specs.Chains as spec;
 
-use crate::keys::{MethodKey, key_of};
+use crate::keys::key_of;
+use crate::table::Table;
 use dv_defs::{ClassDef, ClassId, ClassInfo, Flag, MethodDef, MethodId};
-use indexmap::IndexMap;
 use std::alloc::{AllocError, Global};
 
 const INIT: &[u8] = b"<init>";
@@ -23,17 +23,13 @@ fn is_in_tables(method: &MethodDef) -> bool
 
 /// Enters a class's own methods. A key that is there keeps its place, and has the class's method now. `first` is the number of the
 /// class's first method.
-fn enter<'a>(
-    methods: &mut IndexMap<MethodKey<'a>, MethodId>,
-    class: &'a ClassDef,
-    first: u32,
-) -> Result<(), AllocError>
+fn enter<'a>(table: &mut Table<'a>, class: &'a ClassDef, first: u32) -> Result<(), AllocError>
     requires few_methods { first + length class.now.methods < 2 ^ 32 }
-    ensures { OnOk result (spec.told methods.new.entries ≡ spec.entered (spec.told methods.old.entries) first class.now.methods) }
+    ensures { OnOk result (spec.told table.new ≡ spec.entered (spec.told table.old) first class.now.methods) }
 {
     for (place, method) in class.methods.items().iter().enumerate() {
         if is_in_tables(method) {
-            methods.insert(key_of(method), MethodId(first + place as u32))?;
+            table.enter(key_of(method), MethodId(first + place as u32))?;
         }
     }
     Ok(())
@@ -75,10 +71,10 @@ pub fn table_of(
     requires firsts { firsts.now ≡ map (spec.first_method infos.now) (range_with_len 0 (length infos.now)) }
     ensures { IfOk result (λ table. table.items ≡ spec.chain_table infos.now (numbers chain.items)) }
 {
-    let mut methods = IndexMap::new(alloc);
+    let mut table = Table::new(alloc);
     while let Some(id) = chain.pop() {
         let class = id.0 as usize;
-        enter(&mut methods, &infos[class].def, firsts[class])?;
+        enter(&mut table, &infos[class].def, firsts[class])?;
     }
-    methods.into_values().collect(alloc)
+    table.methods(alloc)
 }

@@ -1,6 +1,6 @@
 // Final methods that a class overrides.
 ghost use Rattle.std.specs.Prelude.{◌≡◌, ◌<◌, ◌||◌, ◌&&◌, not, length, bytes_eq, option_map, IfOk, OnOk};
-ghost use Rattle.indexmap.specs.IndexSet.{contains};
+ghost use Rattle.std.specs.BTreeSet.{contains};
 ghost use Rattle.dv_defs.specs.First.{first_in};
 ghost use Rattle.dv_defs.specs.Images.{Image};
 ghost use Rattle.dv_defs.specs.LinkFaults as spec;
@@ -13,8 +13,8 @@ ghost use Rattle.dv_vtable.specs.Finals.{final_above, has_final};
 use crate::keys::{MethodKey, key_of};
 use dv_defs::{ClassDef, ClassInfo, Flag, LinkError, LinkKind, MethodDef};
 use dv_hier::error_of;
-use indexmap::IndexSet;
 use std::alloc::{AllocError, Global};
+use std::collections::BTreeSet;
 
 const CONSTRUCTOR: &[u8] = b"<init>";
 
@@ -27,11 +27,11 @@ fn is_open(method: &MethodDef) -> bool
 
 /// Adds the keys of a class's final methods, but not those of its static and private ones.
 fn add_finals<'a>(
-    finals: &mut IndexSet<MethodKey<'a>>,
+    finals: &mut BTreeSet<MethodKey<'a>>,
     methods: &'a [MethodDef],
 ) -> Result<(), AllocError>
-    ensures { OnOk result ((k : Key) → contains ⟦<MethodKey<'a> as PartialEq>⟧.eq finals.new k
-        ≡ (contains ⟦<MethodKey<'a> as PartialEq>⟧.eq finals.old k || has_final k methods.now)) }
+    ensures { OnOk result ((k : Key) → contains ⟦<MethodKey<'a> as Ord>⟧.cmp finals.new k
+        ≡ (contains ⟦<MethodKey<'a> as Ord>⟧.cmp finals.old k || has_final k methods.now)) }
 {
     for method in methods {
         if is_open(method) && Flag::Final.is_in(method.flags) {
@@ -46,12 +46,12 @@ fn finals_above<'a>(
     alloc: Global,
     infos: &'a [ClassInfo],
     class: usize,
-) -> Result<IndexSet<MethodKey<'a>>, AllocError>
+) -> Result<BTreeSet<MethodKey<'a>>, AllocError>
     requires range { AreInRange infos.now }
     requires class { class < length infos.now }
-    ensures { IfOk result (λ finals. (k : Key) → contains ⟦<MethodKey<'a> as PartialEq>⟧.eq finals k ≡ final_above infos.now class k) }
+    ensures { IfOk result (λ finals. (k : Key) → contains ⟦<MethodKey<'a> as Ord>⟧.cmp finals k ≡ final_above infos.now class k) }
 {
-    let mut finals = IndexSet::new(alloc);
+    let mut finals = BTreeSet::new(alloc);
     let mut above = infos[class].parent;
     for _ in 1..infos.len() {
         let Some(id) = above else {

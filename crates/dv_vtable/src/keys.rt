@@ -4,7 +4,7 @@ ghost use Rattle.std.specs.Prelude.{◌≡◌};
 use dv_defs::{MethodDef, Proto, Text};
 
 /// A method's name and prototype.
-#[derive(Clone, Copy, PartialEq, Eq, Hash)]
+#[derive(Clone, Copy, PartialEq, Eq, PartialOrd, Ord)]
 pub struct MethodKey<'a> {
     pub name: &'a Text,
     pub proto: &'a Proto,

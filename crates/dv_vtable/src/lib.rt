@@ -7,6 +7,7 @@ mod finals;
 mod keys;
 mod methods;
 mod numbering;
+mod table;
 mod tabled;
 mod tabling;
 

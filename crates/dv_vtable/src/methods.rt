@@ -1,6 +1,6 @@
 // Methods that a class may not declare as it does.
 ghost use Rattle.std.specs.Prelude.{◌≡◌, ◌<◌, false, length, option_map, IfOk};
-ghost use Rattle.indexmap.specs.IndexSet.{contains};
+ghost use Rattle.std.specs.BTreeSet.{contains};
 ghost use Rattle.dv_defs.specs.declared.faults.LinkKind.TheVariants as kind;
 ghost use Rattle.dv_defs.specs.First.{first_below};
 ghost use Rattle.dv_defs.specs.Images.{Image};
@@ -14,16 +14,16 @@ use crate::finals::check_finals;
 use crate::keys::{MethodKey, key_of};
 use dv_defs::{ClassDef, ClassInfo, LinkError, LinkKind, MethodDef, Text};
 use dv_hier::error_of;
-use indexmap::IndexSet;
 use std::alloc::{AllocError, Global};
+use std::collections::BTreeSet;
 
 /// The name of the first method that an earlier one is like, as that method has it. What is met is added to the set, which is empty;
 /// a lone method needs none.
 fn repeated_in<'a>(
-    seen: &mut IndexSet<MethodKey<'a>>,
+    seen: &mut BTreeSet<MethodKey<'a>>,
     methods: &'a [MethodDef],
 ) -> Result<Option<&'a Text>, AllocError>
-    requires none { (k : Key) → contains ⟦<MethodKey<'a> as PartialEq>⟧.eq seen.old k ≡ false }
+    requires none { (k : Key) → contains ⟦<MethodKey<'a> as Ord>⟧.cmp seen.old k ≡ false }
     ensures { IfOk result (λ name. first_below (first_twice methods.now) (length methods.now) ≡ option_map (λ n. kind.MethodTwice n.now) name) }
 {
     let several = methods.len() > 1;
@@ -43,7 +43,7 @@ fn repeated_name<'a>(
 ) -> Result<Option<&'a Text>, AllocError>
     ensures { IfOk result (λ name. first_below (first_twice methods.now) (length methods.now) ≡ option_map (λ n. kind.MethodTwice n.now) name) }
 {
-    let mut seen = IndexSet::new(alloc);
+    let mut seen = BTreeSet::new(alloc);
     repeated_in(&mut seen, methods)
 }
 

@@ -4,4 +4,4 @@ use Rattle.dv_vtable.proofs.chains.enter.Given as goal
 
 abbrev pub invariant-loop-place : goal.invariant-loop-place
 invariant-loop-place l =
-    entered (told l.methods.entries) (l.first + l.place) (drop l.place l.class.methods) ≡ entered (told l.initial.methods.entries) l.first l.class.methods
+    entered (told l.table) (l.first + l.place) (drop l.place l.class.methods) ≡ entered (told l.initial.table) l.first l.class.methods

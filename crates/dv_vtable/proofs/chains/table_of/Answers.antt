@@ -1,5 +1,4 @@
-use Rattle.indexmap.specs.IndexMap.{values}
-use Rattle.std.proofs.Common.{IfOk, rules, subst, ◌≡◌, ◌+◌, ◌++◌, ◌<◌, ◌≤◌, [], ◌∷◌, length, get_or, sum_by, arith}
+use Rattle.std.proofs.Common.{IfOk, rules, subst, ◌≡◌, ◌+◌, ◌++◌, ◌<◌, ◌≤◌, [], ◌∷◌, length, map, get_or, sum_by, arith}
 use Rattle.std.proofs.lemmas.Option.{slice_get-get_or}
 use Rattle.dv_defs.specs.Order.{numbers}
 use Rattle.dv_hier.proofs.Cells.{popped_before, popped_end}
@@ -37,12 +36,12 @@ loop-id-preserved c =
     let first : get_or c.args.firsts.now c.in-Some.id.0 0 ≡ first_method cs c.in-Some.id.0 = first_at cs c.args.firsts.now c.in-Some.id.0 0 c.requires.firsts within in (
       popped_before (λ x. x.0 < length cs) c.loop-id.chain.items c.pop.new.self.items c.in-Some.id split c.loop-id.invariant.0,
       chain_popped cs c.loop-id.chain.items c.pop.new.self.items c.in-Some.id info (get_or c.args.firsts.now c.in-Some.id.0 0)
-          (told c.loop-id.methods.entries) (told c.enter.new.methods.entries) (entered_chain cs [] (numbers c.args.chain.items)) split there first c.in_ok-enter.ensures c.loop-id.invariant.1,
+          (told c.loop-id.table) (told c.enter.new.table) (entered_chain cs [] (numbers c.args.chain.items)) split there first c.in_ok-enter.ensures c.loop-id.invariant.1,
     )
 
 pub returns : goal.returns
 returns c =
-    let got : IfOk c.collect.result (λ table. table.items ≡ values c.loop-id.methods) = search rules in
+    let got : IfOk c.methods.result (λ methods. methods.items ≡ map (λ e. e.1) c.loop-id.table) = c.methods.ensures in
     let left : c.loop-id.chain.items ≡ [] = search rules in
-    subst (λ ids. IfOk c.collect.result (λ table. table.items ≡ ids))
-    (table_told c.args.infos.now c.loop-id.methods.entries c.loop-id.chain.items (numbers c.args.chain.items) left c.loop-id.invariant.1) got
+    subst (λ ids. IfOk c.methods.result (λ methods. methods.items ≡ ids))
+    (table_told c.args.infos.now c.loop-id.table c.loop-id.chain.items (numbers c.args.chain.items) left c.loop-id.invariant.1) got

@@ -1,7 +1,7 @@
 use Rattle.std.proofs.Common.{refl, ap, ◌∙◌}
-use Rattle.indexmap.specs.IndexSet.{contains}
+use Rattle.std.specs.BTreeSet.{contains}
 use Rattle.dv_vtable.proofs.KeyLemmas.{told_more}
-use Rattle.dv_vtable.proofs.KeyLemmas.{key_eq}
+use Rattle.dv_vtable.specs.Keys.{key_cmp}
 use Rattle.dv_vtable.proofs.MethodLemmas.{several_are, twice_found, twice_more, alone_more, alone_told}
 use Rattle.dv_vtable.proofs.methods.repeated_in.Goals as goal
 use Rattle.dv_vtable.proofs.methods.repeated_in.Goals.{else-several-via-then-several+in_ok-insert+else-not-branch, else-several-via-else-several}
@@ -20,7 +20,7 @@ loop-i-preserved c =
             c.loop-i.invariant.faultless c.loop-i-test.true c.index-methods-i.is c.key_of-key.ensures.name c.key_of-key.ensures.proto
             (c.loop-i.invariant.told (several_are _ w.if-several.true) c.key_of-key.result) w.in_ok-insert.ensures.added w.if-not-branch.false;
         told = λ several k. told_more c.args.methods.now c.loop-i.i c.index-methods-i.result c.key_of-key.result k _ _ c.loop-i-test.true c.index-methods-i.is
-            c.key_of-key.ensures.name c.key_of-key.ensures.proto (c.loop-i.invariant.told several k) (ap (λ s. contains key_eq s k) w.seen-is ∙ w.in_ok-insert.ensures.updates.0 k);
+            c.key_of-key.ensures.name c.key_of-key.ensures.proto (c.loop-i.invariant.told several k) (ap (λ s. contains key_cmp s k) w.seen-is ∙ w.in_ok-insert.ensures.updates.0 k);
       }
       | else-several-via-else-several w ↦ record {
         faultless = alone_more c.args.methods.now c.loop-i.i c.index-methods-i.result c.loop-i.invariant.faultless c.loop-i-test.true c.index-methods-i.is w.if-several.false;
