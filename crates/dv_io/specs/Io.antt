@@ -23,3 +23,7 @@ Copies n (Some bytes) room = (n ≤ length bytes) × (take n room ≡ take n byt
 abbrev pub after_write : List ℕ → Option (List ℕ) → Option (List ℕ)
 after_write bytes None = None
 after_write bytes (Some old) = Some (old ++ bytes)
+
+-- a sink has taken a front of these bytes besides
+abbrev pub TookPart : Option (List ℕ) → Option (List ℕ) → List ℕ → Type 0
+TookPart old new bytes = (n : ℕ) × (new ≡ after_write (take n bytes) old)

@@ -8,10 +8,12 @@
 
 mod memory;
 mod plain;
+mod pouring;
 mod standard;
 mod traits;
 
 pub use memory::{MemSink, MemSource};
 pub use plain::{NoGate, PlainSink, PlainSource};
+pub use pouring::{Poured, pour};
 pub use standard::{StdSink, StdSource};
 pub use traits::{Failed, Gate, Sink, Source};
