@@ -3,7 +3,7 @@ use Rattle.std.proofs.Common.{◌≡◌, ◌<◌, ℕ, zero, suc, true, List, []
 use Rattle.std.specs.Prelude.{slice_get, option_map}
 use Rattle.std.proofs.lemmas.Option.{slice_get-map, same_Some}
 use Rattle.dv_worklist.specs.declared.flows.Onward.{Onward}
-use Rattle.dv_worklist.specs.Flow.{Flow, Assignment, assigned, HasAbove, IsClosed, IsUnder, IsLeast, AllFit, IsLawful}
+use Rattle.dv_worklist.specs.Flow.{Flow, Assignment, assigned, HasAbove, IsClosed, IsUnder, IsLeast, AllFit, IsLawful, IsImplied}
 use Rattle.dv_worklist.specs.Beside.{Kept, kept, onward_kept, flow_beside, fits_beside, rank_beside, alone}
 
 -- what a mapped option has comes from what the option has
@@ -83,6 +83,40 @@ module _ {S T : Type 0} (t : T) (f : Flow S) where
   alone_fit fits xs fit place s e =
       let was = from (λ (a : Kept S T). a.state) (assigned xs place) s (sym (alone_at xs place) ∙ e) in
       subst (fits place) was.is (fit place was.from was.there).1
+
+  -- the states of an assignment alone
+  module _ (b : Assignment (Kept S T)) where
+    abbrev states_of : Assignment S
+    states_of place = option_map (λ a. a.state) (b place)
+
+    above_states : (place : ℕ) (a : Kept S T) → HasAbove (flow_beside t f) b place a → HasAbove f states_of place a.state
+    above_states place a has = record { state = has.state.state; there = ap (option_map (λ a. a.state)) has.there; above = has.above }
+
+    above_kept : (place : ℕ) (a : Kept S T) → HasAbove f states_of place a.state → HasAbove (flow_beside t f) b place a
+    above_kept place a has =
+        let was = from (λ (a : Kept S T). a.state) (b place) has.state has.there in
+        record { state = was.from; there = was.there; above = subst (λ (s : S). f.under a.state s ≡ true) (sym was.is) has.above }
+
+    closed_states : IsClosed (flow_beside t f) b → IsClosed f states_of
+    closed_states closed =
+        record {
+          entry = above_states 0 (kept t f.entry) closed.entry;
+          arrives = λ place s e k o q.
+              let was = from (λ (a : Kept S T). a.state) (b place) s e in
+              let a = was.from in
+              let goes = subst (λ (v : S). slice_get (f.onward place v) k ≡ Some o) (sym was.is) q in
+              let there = slice_get-map (onward_kept a.beside) (f.onward place a.state) k ∙ ap (option_map (onward_kept a.beside)) goes in
+              above_states o.to (kept a.beside o.state) (closed.arrives place a was.there k (onward_kept a.beside o) there);
+        }
+
+  -- what states imply, those that are kept imply too
+  pub implied_beside : (fits : ℕ → S → Type 0) (place : ℕ) (a b more : Kept S T) → more.beside ≡ t → IsImplied f fits place a.state b.state more.state →
+      IsImplied (flow_beside t f) (fits_beside t fits) place a b more
+  implied_beside fits place a b more beside is =
+      record {
+        fit = (beside, is.fit);
+        bound = λ c closed first second. above_kept c place more (is.bound (states_of c) (closed_states c closed) (above_states c place a first) (above_states c place b second));
+      }
 
   module _ (xs : List (Option (Kept S T))) where
     -- above in the one and in the other

@@ -1,3 +1,4 @@
+pub mod Arriving
 pub mod Beside
 pub mod Rising
 pub mod Spreading

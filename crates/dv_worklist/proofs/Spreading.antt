@@ -5,8 +5,8 @@ use Rattle.std.proofs.lemmas.Bool.{cases_eq}
 use Rattle.std.proofs.lemmas.Option.{same_Some, slice_get_within, slice_get_read}
 use Rattle.dv_worklist.specs.declared.flows.Onward.{Onward}
 use Rattle.dv_worklist.specs.Flow.{Flow, Assignment, assigned, HasAbove, Arrives, IsClosed, IsLawful}
-use Rattle.dv_worklist.specs.Work.{rises, states_after, waiting_after, goes_on, IsPartly, none_busy, busy_at, IsTurn, IsSpread}
-use Rattle.dv_worklist.proofs.Rising.{turned, has_after}
+use Rattle.dv_worklist.specs.Work.{goes_on, IsPartly, none_busy, busy_at, IsTurn, IsSpread, IsArrival}
+use Rattle.dv_worklist.proofs.Arriving.{arrived}
 
 -- what goes on fits where it arrives, and each closed assignment has a state above it there
 pub record IsOwed {S : Type 0} (f : Flow S) (fits : ℕ → S → Type 0) (o : Onward S) : Type 0 where
@@ -55,28 +55,24 @@ spread_none {S} f fits rank top at xs flags p = record {
 
 -- one more arrives
 pub spread_more : {S : Type 0} (f : Flow S) (fits : ℕ → S → Type 0) (rank : S → ℕ) (top : ℕ) → IsLawful f fits rank top →
-    (at : ℕ) (xs : List (Option S)) (flags : List Bool) (k : ℕ) (ys : List (Option S)) (later : List Bool) (o : Onward S) →
+    (at : ℕ) (xs : List (Option S)) (flags : List Bool) (k : ℕ) (ys : List (Option S)) (later : List Bool) (o : Onward S) (zs : List (Option S)) (last : List Bool) →
     IsPartly f fits (busy_at at xs) xs flags → slice_get (goes_on f at (assigned xs at)) k ≡ Some o →
-    IsSpread f fits rank top at xs flags k ys later →
-    IsSpread f fits rank top at xs flags (k + 1) (states_after f ys o.to o.state) (waiting_after f ys later o.to o.state)
-spread_more {S} f fits rank top law at xs flags k ys later o p g sp =
+    IsArrival f fits ys later o.to o.state zs last →
+    IsSpread f fits rank top at xs flags k ys later → IsSpread f fits rank top at xs flags (k + 1) zs last
+spread_more {S} f fits rank top law at xs flags k ys later o zs last p g arrival sp =
     let due : IsOwed f fits o = owed f fits rank top (busy_at at xs) law at xs flags p k o g in
-    let inside : o.to < length ys = omega (arith, due.inside, sp.turn.partly.long) in
-    let flag : o.to < length later = omega (arith, due.inside, sp.turn.partly.flagged) in
-    let r : rises f (assigned ys o.to) o.state ≡ rises f (assigned ys o.to) o.state = refl in
-    let t : IsTurn f fits rank top (busy_at at xs) ys later (states_after f ys o.to o.state) (waiting_after f ys later o.to o.state) =
-    turned f fits rank top (busy_at at xs) law ys later o.to o.state inside flag due.fit due.bound sp.turn.partly (rises f (assigned ys o.to) o.state) r in
+    let now = arrived f fits rank top (busy_at at xs) law ys later o.to due.inside o.state due.bound sp.turn.partly due.fit zs last arrival in
     record {
       turn = record {
-        partly = t.partly;
-        grown = λ i v a. t.grown i v (sp.turn.grown i v a);
-        less = omega (arith, t.less, sp.turn.less);
+        partly = now.turn.partly;
+        grown = λ i v a. now.turn.grown i v (sp.turn.grown i v a);
+        less = omega (arith, now.turn.less, sp.turn.less);
       };
       arrived = λ j x b y. elim (cases_eq j k) [
         | inl q ↦
             let same : x ≡ o = same_Some x o (sym y ∙ subst (λ (i : ℕ). slice_get (goes_on f at (assigned xs at)) i ≡ Some o) (sym q) g) in
-            subst (λ (z : Onward S). HasAbove f (assigned (states_after f ys o.to o.state)) z.to z.state) (sym same) (has_after f fits rank top law ys o.to o.state inside due.fit sp.turn.partly.fit (rises f (assigned ys o.to) o.state) r)
-        | inr n ↦ t.grown x.to x.state (sp.arrived j x (omega arith) y)
+            subst (λ (z : Onward S). HasAbove f (assigned zs) z.to z.state) (sym same) now.has
+        | inr n ↦ now.turn.grown x.to x.state (sp.arrived j x (omega arith) y)
       ];
     }
 
@@ -106,15 +102,6 @@ spread_all {S} f fits rank top at xs flags k ys later all sp = record {
   grown = sp.turn.grown;
   less = sp.turn.less;
 }
-
--- the same, by the equations that a turn knows
-pub spread_step : {S : Type 0} (f : Flow S) (fits : ℕ → S → Type 0) (rank : S → ℕ) (top : ℕ) → IsLawful f fits rank top →
-    (at : ℕ) (xs : List (Option S)) (flags : List Bool) (k : ℕ) (ys : List (Option S)) (later : List Bool) (o : Onward S) (zs : List (Option S)) (last : List Bool) →
-    IsPartly f fits (busy_at at xs) xs flags → slice_get (goes_on f at (assigned xs at)) k ≡ Some o →
-    zs ≡ states_after f ys o.to o.state → last ≡ waiting_after f ys later o.to o.state →
-    IsSpread f fits rank top at xs flags k ys later → IsSpread f fits rank top at xs flags (k + 1) zs last
-spread_step {S} f fits rank top law at xs flags k ys later o zs last p g y z sp =
-    rw (y, z) (spread_more f fits rank top law at xs flags k ys later o p g sp)
 
 -- what a turn reads is what goes on
 pub read_next : {A : Type 0} (all items : List A) (k : ℕ) (x : A) → all ≡ items → (k < length all) × (x ≡ get_or all k x) → slice_get items k ≡ Some x

@@ -75,3 +75,8 @@ pub record IsLawful {S : Type 0} (f : Flow S) (fits : ℕ → S → Type 0) (ran
       (place : ℕ) (s : S) → fits place s → (k : ℕ) (o : Onward S) → slice_get (f.onward place s) k ≡ Some o →
       fits o.to o.state × (o.to < f.size)
   pub below : (place : ℕ) (s : S) → fits place s → rank s < top
+
+-- each closed assignment that is above two states at a place is above this one there
+pub record IsImplied {S : Type 0} (f : Flow S) (fits : ℕ → S → Type 0) (place : ℕ) (s t more : S) : Type 0 where
+  pub fit : fits place more
+  pub bound : (b : Assignment S) → IsClosed f b → HasAbove f b place s → HasAbove f b place t → HasAbove f b place more

@@ -1,7 +1,7 @@
 -- What one turn of the worklist does to the states and to the places that wait.
-use Rattle.std.specs.Prelude.{◌≡◌, ◌<◌, ◌≤◌, ◌+◌, ◌*◌, ℕ, Bool, true, not, cond, List, [], length, Option, Some, None, slice_get, slice_set, sum_by, ◌⊎◌}
+use Rattle.std.specs.Prelude.{◌≡◌, ◌<◌, ◌≤◌, ◌+◌, ◌*◌, ℕ, Bool, true, not, cond, List, [], length, Option, Some, None, IfSome, slice_get, slice_set, sum_by, ◌⊎◌}
 use Rattle.dv_worklist.specs.declared.flows.Onward.{Onward}
-use Rattle.dv_worklist.specs.Flow.{Flow, Assignment, assigned, HasAbove, Arrives, AllFit, IsClosed, IsUnder}
+use Rattle.dv_worklist.specs.Flow.{Flow, Assignment, assigned, HasAbove, Arrives, AllFit, IsClosed, IsUnder, IsImplied}
 use Rattle.dv_worklist.specs.Waiting.{Waits}
 
 -- s is not yet under what the place has
@@ -80,3 +80,25 @@ pub record IsSpread {S : Type 0} (f : Flow S) (fits : ℕ → S → Type 0) (ran
 pub record IsBegun {S : Type 0} (f : Flow S) (fits : ℕ → S → Type 0) (xs : List (Option S)) (flags : List Bool) : Type 0 where
   pub partly : IsPartly f fits none_busy xs flags
   pub entry : HasAbove f (assigned xs) 0 f.entry
+
+-- ---- what arrives with more behind it
+
+-- what a place has and what arrives there imply more, where there is more
+abbrev pub IsMore : {S : Type 0} → Flow S → (ℕ → S → Type 0) → List (Option S) → ℕ → S → Option S → Type 0
+IsMore {S} f fits xs place s more = IfSome more (λ m. (old : S) × (assigned xs place ≡ Some old) × IsImplied f fits place old s m)
+
+-- the states, and the places that wait, once more has arrived, where there is more
+abbrev pub states_with : {S : Type 0} → Flow S → List (Option S) → ℕ → Option S → List (Option S)
+states_with f xs place None = xs
+states_with f xs place (Some m) = states_after f xs place m
+
+abbrev pub waiting_with : {S : Type 0} → Flow S → List (Option S) → List Bool → ℕ → Option S → List Bool
+waiting_with f xs flags place None = flags
+waiting_with f xs flags place (Some m) = waiting_after f xs flags place m
+
+-- s has arrived at a place, and behind it more
+pub record IsArrival {S : Type 0} (f : Flow S) (fits : ℕ → S → Type 0) (xs : List (Option S)) (flags : List Bool) (place : ℕ) (s : S) (ys : List (Option S)) (later : List Bool) : Type 0 where
+  pub more : Option S
+  pub implied : IsMore f fits xs place s more
+  pub states : ys ≡ states_with f (states_after f xs place s) place more
+  pub waiting : later ≡ waiting_with f (states_after f xs place s) (waiting_after f xs flags place s) place more

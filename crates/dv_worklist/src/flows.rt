@@ -1,7 +1,7 @@
 // What the worklist asks of states and places.
-ghost use Rattle.std.specs.Prelude.{◌≡◌, ◌<◌, ℕ, IfOk, OnOk, Some, cond};
+ghost use Rattle.std.specs.Prelude.{◌≡◌, ◌<◌, ℕ, IfOk, IfSome, OnOk, Some, cond};
 ghost use Rattle.dv_worklist.specs.Work.{raised, rises};
-ghost use Rattle.dv_worklist.specs.Flow.{Flow as Graph};
+ghost use Rattle.dv_worklist.specs.Flow.{Flow as Graph, IsImplied};
 
 use std::alloc::AllocError;
 
@@ -52,4 +52,23 @@ pub trait Flow {
         requires by { fits self.now place by.now }
         ensures rose { IfOk result (λ rose. rose ≡ rises (graph self.now) (Some state.old) by.now) }
         ensures state { OnOk result (state.new ≡ cond (rises (graph self.now) (Some state.old) by.now) (raised (graph self.now) (Some state.old) by.now) state.old) };
+
+    /// How much work a turn at a place is, in the measure of `patience`.
+    fn work(&self, place: usize) -> usize;
+
+    /// How much work is done before `accelerate` is asked: about as much as its answer may take.
+    fn patience(&self) -> usize;
+
+    /// A state that each closed assignment is above at a place where it is above a state and another, if one is known: what would rise step by step
+    /// is there at once.
+    fn accelerate(
+        &self,
+        place: usize,
+        state: &Self::State,
+        by: &Self::State,
+    ) -> Result<Option<Self::State>, AllocError>
+        requires place { place < (graph self.now).size }
+        requires state { fits self.now place state.now }
+        requires by { fits self.now place by.now }
+        ensures { IfOk result (λ more. IfSome more (IsImplied (graph self.now) (fits self.now) place state.now by.now)) };
 }

@@ -1,7 +1,7 @@
 // The worklist.
 ghost use Rattle.std.specs.Prelude.{◌≡◌, ◌<◌, IfOk, OnOk, length, None, replicate};
 ghost use Rattle.dv_worklist.specs.Flow.{AllFit, IsLawful, IsLeast, assigned};
-ghost use Rattle.dv_worklist.specs.Work.{IsPartly, IsTurn, busy_at, goes_on, none_busy, states_after, waiting_after};
+ghost use Rattle.dv_worklist.specs.Work.{IsArrival, IsMore, IsPartly, IsTurn, busy_at, goes_on, none_busy, states_after, waiting_after};
 
 use crate::flows::{Flow, Onward};
 use crate::waiting::Waiting;
@@ -19,8 +19,10 @@ pub fn least<F: Flow>(flow: &F, alloc: Global) -> Result<Vec<Option<F::State>>, 
     let mut waiting = Waiting::none(alloc, flow.size())?;
     let entry = flow.entry()?;
     raise(flow, &mut states, &mut waiting, 0, entry)?;
+    let mut left = flow.patience();
     while let Some(place) = waiting.take() {
-        turn(flow, alloc, &mut states, &mut waiting, place)?;
+        left = left.saturating_sub(flow.work(place));
+        turn(flow, alloc, &mut states, &mut waiting, &mut left, place)?;
     }
     Ok(states)
 }
@@ -36,12 +38,13 @@ fn no_states<F: Flow>(flow: &F, alloc: Global) -> Result<Vec<Option<F::State>>, 
     Ok(nothing)
 }
 
-// Raises by all that goes on from a place.
+// Raises by all that goes on from a place. `left` is the work that is left before more is asked for.
 fn turn<F: Flow>(
     flow: &F,
     alloc: Global,
     states: &mut Vec<Option<F::State>>,
     waiting: &mut Waiting,
+    left: &mut usize,
     place: usize,
 ) -> Result<(), AllocError>
     requires place { place < (F.graph flow.now).size }
@@ -51,9 +54,59 @@ fn turn<F: Flow>(
 {
     let all = going_on(flow, alloc, states, place)?;
     for onward in all {
-        raise(flow, states, waiting, onward.to, onward.state)?;
+        arrive(flow, states, waiting, left, onward.to, onward.state)?;
     }
     Ok(())
+}
+
+// Raises the state of a place by what arrives there, and, once much work was done, by what that implies.
+fn arrive<F: Flow>(
+    flow: &F,
+    states: &mut Vec<Option<F::State>>,
+    waiting: &mut Waiting,
+    left: &mut usize,
+    place: usize,
+    state: F::State,
+) -> Result<(), AllocError>
+    requires place { place < (F.graph flow.now).size }
+    requires lawful { IsLawful (F.graph flow.now) (F.fits flow.now) (F.rank flow.now) (F.top flow.now) }
+    requires long { length states.old.items ≡ (F.graph flow.now).size }
+    requires flagged { length waiting.old ≡ (F.graph flow.now).size }
+    requires all { AllFit (F.fits flow.now) (assigned states.old.items) }
+    requires fits { F.fits flow.now place state }
+    ensures { OnOk result (IsArrival (F.graph flow.now) (F.fits flow.now) states.old.items waiting.old place state states.new.items waiting.new) }
+{
+    if *left > 0 {
+        raise(flow, states, waiting, place, state)?;
+        return Ok(());
+    }
+    let more = implied(flow, states, place, &state)?;
+    if raise(flow, states, waiting, place, state)? {
+        *left = flow.patience();
+    }
+    if let Some(more) = more {
+        raise(flow, states, waiting, place, more)?;
+    }
+    Ok(())
+}
+
+// What the state of a place and another imply there, if that is known.
+fn implied<F: Flow>(
+    flow: &F,
+    states: &[Option<F::State>],
+    place: usize,
+    state: &F::State,
+) -> Result<Option<F::State>, AllocError>
+    requires place { place < (F.graph flow.now).size }
+    requires long { length states.now ≡ (F.graph flow.now).size }
+    requires all { AllFit (F.fits flow.now) (assigned states.now) }
+    requires fits { F.fits flow.now place state.now }
+    ensures { IfOk result (IsMore (F.graph flow.now) (F.fits flow.now) states.now place state.now) }
+{
+    match &states[place] {
+        Some(old) => flow.accelerate(place, old, state),
+        None => Ok(None),
+    }
 }
 
 // What goes on from a place.
@@ -74,14 +127,14 @@ fn going_on<F: Flow>(
     }
 }
 
-// Raises the state of a place, which then waits, unless that state is above `state` already.
+// Raises the state of a place, which then waits, unless that state is above `state` already. Tells whether it rose.
 fn raise<F: Flow>(
     flow: &F,
     states: &mut Vec<Option<F::State>>,
     waiting: &mut Waiting,
     place: usize,
     state: F::State,
-) -> Result<(), AllocError>
+) -> Result<bool, AllocError>
     requires place { place < length states.old.items }
     requires flag { place < length waiting.old }
     requires all { AllFit (F.fits flow.now) (assigned states.old.items) }
@@ -100,5 +153,5 @@ fn raise<F: Flow>(
     if rose {
         waiting.add(place);
     }
-    Ok(())
+    Ok(rose)
 }

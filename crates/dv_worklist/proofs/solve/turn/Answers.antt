@@ -4,11 +4,11 @@ use Rattle.std.proofs.lemmas.Iterator.Adapters.{YieldsList-from_vec}
 use Rattle.std.proofs.lemmas.Iterator.Consumers.{YieldsList-turn, YieldsList-end}
 use Rattle.dv_worklist.specs.Flow.{assigned}
 use Rattle.dv_worklist.specs.Work.{goes_on}
-use Rattle.dv_worklist.proofs.Spreading.{owed, spread_step, spread_all, read_next}
+use Rattle.dv_worklist.proofs.Spreading.{owed, spread_more, spread_all, read_next}
 use Rattle.dv_worklist.proofs.solve.turn.Goals as goal
 
-pub raise-requires : goal.raise-requires
-raise-requires g c =
+pub arrive-requires : goal.arrive-requires
+arrive-requires g c =
     let all = c.in_ok-all.all in
     let graph = g.F.Flow.graph c.args.flow.now in
     let same : all.items ≡ goes_on graph c.args.place (assigned c.args.states.now.items c.args.place) = cc (c.in_ok-all.ensures, c.deref.ensures.value) in
@@ -18,8 +18,10 @@ raise-requires g c =
     let due = owed _ _ _ _ _ c.requires.lawful _ _ _ c.requires.partly _ _ (read_next all.items _ _ _ same t) in
     let partly = c.loop-onward.invariant.spread.turn.partly in
     record {
-      place = omega (arith, due.inside, partly.long);
-      flag = omega (arith, due.inside, partly.flagged);
+      place = due.inside;
+      lawful = c.requires.lawful;
+      long = partly.long;
+      flagged = partly.flagged;
       all = partly.fit;
       fits = due.fit;
     }
@@ -32,9 +34,9 @@ loop-onward-preserved g c =
     let given = c.into_iter-onward-iterator.ensures.into_iter_gives in
     let source = YieldsList-from_vec {s = c.into_iter-onward-iterator.result} all.items given.0 (given.1 ∙ all.ok.0) in
     let t = YieldsList-turn source c.loop-onward.yielded c.loop-onward.onward-iterator c.loop-onward.yielded_by c.next.result c.next.new.self c.in-Some.onward c.in-Some.is c.next.ensures.steps in
-    let spread = spread_step _ _ _ _ c.requires.lawful c.args.place c.args.states.now.items c.args.waiting.now (length c.loop-onward.yielded)
-    c.loop-onward.states.items c.loop-onward.waiting c.in-Some.onward c.raise.new.states.items c.raise.new.waiting c.requires.partly
-    (read_next all.items _ _ _ same t) c.in_ok-raise.ensures.states c.in_ok-raise.ensures.waiting c.loop-onward.invariant.spread in
+    let spread = spread_more _ _ _ _ c.requires.lawful c.args.place c.args.states.now.items c.args.waiting.now (length c.loop-onward.yielded)
+    c.loop-onward.states.items c.loop-onward.waiting c.in-Some.onward c.arrive.new.states.items c.arrive.new.waiting c.requires.partly
+    (read_next all.items _ _ _ same t) c.in_ok-arrive.ensures c.loop-onward.invariant.spread in
     record {
       next = tt;
       finite = tt;

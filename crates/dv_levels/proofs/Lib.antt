@@ -1,0 +1,3 @@
+-- Bounds along a method's plan.
+pub mod Taking
+pub mod Leading

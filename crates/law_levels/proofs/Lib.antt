@@ -1,0 +1,3 @@
+-- The laws of shallow registers.
+pub mod Shallow
+pub mod Bounds

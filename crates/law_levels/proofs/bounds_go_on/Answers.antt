@@ -1,0 +1,5 @@
+use Rattle.law_levels.proofs.Bounds as laws
+use Rattle.law_levels.proofs.bounds_go_on.Goals as goal
+
+pub returns : goal.returns
+returns c = record { law = laws.bounds_go_on }
