@@ -3,8 +3,11 @@ use Rattle.std.proofs.Common.{◌≡◌, ◌+◌, ◌<◌, ◌≤◌, ℕ, suc, 
 use Rattle.std.proofs.Math.Seq.{drop-cons}
 use Rattle.std.proofs.lemmas.List.{drop_all}
 use Rattle.std.specs.Prelude.{nat_eq, bytes_eq}
+use Rattle.std.specs.declared.cmp.Ordering.{Ordering}
+use Rattle.std.specs.Ordering.{is_eq, eq_by_cmp}
 use Rattle.std.specs.Cmp.{IsEquivalence}
-use Rattle.std.specs.HashMap.{HashMap, get}
+use Rattle.std.specs.BTreeMap.{BTreeMap, get}
+use Rattle.std.proofs.lemmas.Cmp.{eq_by_cmp_equiv}
 use Rattle.std.specs.Map.{lookup}
 use Rattle.std.specs.Option.{option_or, is_some}
 use Rattle.dv_defs.proofs.Keys.{protos, type_keys}
@@ -15,16 +18,16 @@ use Rattle.dv_defs.specs.Numbering.{class_id}
 use Rattle.dv_resolve.specs.declared.members.Member.{Member}
 use Rattle.dv_resolve.specs.declared.members.MethodKey.{MethodKey}
 use Rattle.dv_resolve.specs.declared.members.FieldKey.{FieldKey}
-use Rattle.dv_resolve.specs.contracts.members.MethodKeyEq.TheImpl.Laws as of_methods
-use Rattle.dv_resolve.specs.contracts.members.FieldKeyEq.TheImpl.Laws as of_fields
+use Rattle.dv_resolve.specs.contracts.members.MethodKeyOrd.TheImpl.Laws as of_methods
+use Rattle.dv_resolve.specs.contracts.members.FieldKeyOrd.TheImpl.Laws as of_fields
 use Rattle.dv_resolve.specs.Firsts.{first_own, is_method_under, is_field_under}
-use Rattle.dv_resolve.specs.Members.{method_key_eq, field_key_eq}
+use Rattle.dv_resolve.specs.Members.{method_key_cmp, field_key_cmp}
 
-pub method_laws : IsEquivalence method_key_eq
-method_laws = of_methods.laws-law
+pub method_laws : IsEquivalence (eq_by_cmp method_key_cmp)
+method_laws = eq_by_cmp_equiv of_methods.total-law
 
-pub field_laws : IsEquivalence field_key_eq
-field_laws = of_fields.laws-law
+pub field_laws : IsEquivalence (eq_by_cmp field_key_cmp)
+field_laws = eq_by_cmp_equiv of_fields.total-law
 
 -- what a member is kept under
 abbrev pub method_key : ClassId → MethodDef → MethodKey
@@ -34,11 +37,11 @@ abbrev pub field_key : ClassId → FieldDef → FieldKey
 field_key c f = record { class = c; name = record { ref_ptr = (0, 0); now = f.name }; ty = record { ref_ptr = (0, 0); now = f.ty } }
 
 -- the key of a method is like the keys that the method is under
-pub method_under : (q k : MethodKey) (c : ℕ) (m : MethodDef) → q.class.0 ≡ c → q.name.now ≡ m.name → q.proto.now ≡ m.proto → method_key_eq q k ≡ is_method_under k c m
-method_under q k c m class name proto = λ j. nat_eq (class j) k.class.0 && (bytes_eq (name j) k.name.now && protos (proto j) k.proto.now j)
+pub method_under : (q k : MethodKey) (c : ℕ) (m : MethodDef) → q.class.0 ≡ c → q.name.now ≡ m.name → q.proto.now ≡ m.proto → is_eq (method_key_cmp q k) ≡ is_method_under k c m
+method_under q k c m class name proto = sym (of_methods.matches_eq-law q k) ∙ λ j. nat_eq (class j) k.class.0 && (bytes_eq (name j) k.name.now && protos (proto j) k.proto.now j)
 
-pub field_under : (q k : FieldKey) (c : ℕ) (f : FieldDef) → q.class.0 ≡ c → q.name.now ≡ f.name → q.ty.now ≡ f.ty → field_key_eq q k ≡ is_field_under k c f
-field_under q k c f class name ty = λ j. nat_eq (class j) k.class.0 && (bytes_eq (name j) k.name.now && type_keys j (ty j) k.ty.now)
+pub field_under : (q k : FieldKey) (c : ℕ) (f : FieldDef) → q.class.0 ≡ c → q.name.now ≡ f.name → q.ty.now ≡ f.ty → is_eq (field_key_cmp q k) ≡ is_field_under k c f
+field_under q k c f class name ty = sym (of_fields.matches_eq-law q k) ∙ λ j. nat_eq (class j) k.class.0 && (bytes_eq (name j) k.name.now && type_keys j (ty j) k.ty.now)
 
 or_nothing : {X : Type 0} (o : Option X) → option_or o None ≡ o
 or_nothing None = refl
@@ -62,40 +65,40 @@ cut like flags xs c first place m within is =
     let e : first + (place + 1) ≡ suc (first + place) = omega arith in
     rw (e, drop-cons xs place m within, ← is, add-one) refl
 
-module _ {K M S : Type 0} (eq : K → K → Bool) (laws : IsEquivalence eq) (like : K → ℕ → M → Bool) (flags : M → ℕ) where
-  same_found : (found : HashMap K Member S) (q k : K) → eq q k ≡ true → get eq found k ≡ get eq found q
+module _ {K M : Type 0} (cmp : K → K → Ordering) (laws : IsEquivalence (eq_by_cmp cmp)) (like : K → ℕ → M → Bool) (flags : M → ℕ) where
+  same_found : (found : BTreeMap K Member) (q k : K) → is_eq (cmp q k) ≡ true → get cmp found k ≡ get cmp found q
   same_found found q k e = sym (λ i. lookup (λ z. laws.congr q k z e i) found.entries)
 
   -- a member whose key is there
-  pub there_more : (found : HashMap K Member S) (xs : List M) (c first place : ℕ) (m : M) (q : K) (aim : K → Option Member)
-      → place < length xs → m ≡ get_or xs place m → ((k : K) → eq q k ≡ like k c m)
-      → is_some (get eq found q) ≡ true
-      → ((k : K) → option_or (get eq found k) (first_own (like k) flags c (first + place) (drop place xs)) ≡ aim k)
-      → (k : K) → option_or (get eq found k) (first_own (like k) flags c (first + (place + 1)) (drop (place + 1) xs)) ≡ aim k
+  pub there_more : (found : BTreeMap K Member) (xs : List M) (c first place : ℕ) (m : M) (q : K) (aim : K → Option Member)
+      → place < length xs → m ≡ get_or xs place m → ((k : K) → is_eq (cmp q k) ≡ like k c m)
+      → is_some (get cmp found q) ≡ true
+      → ((k : K) → option_or (get cmp found k) (first_own (like k) flags c (first + place) (drop place xs)) ≡ aim k)
+      → (k : K) → option_or (get cmp found k) (first_own (like k) flags c (first + (place + 1)) (drop (place + 1) xs)) ≡ aim k
   there_more found xs c first place m q aim within is under there before k =
-      there_step (like k c m) (get eq found k) (get eq found q) (first_own (like k) flags c (first + (place + 1)) (drop (place + 1) xs))
+      there_step (like k c m) (get cmp found k) (get cmp found q) (first_own (like k) flags c (first + (place + 1)) (drop (place + 1) xs))
       (record { id = first + place; class = class_id c; flags = flags m })
       (λ e. same_found found q k (under k ∙ e)) there
-      ∙ (ap (option_or (get eq found k)) (sym (cut (like k) flags xs c first place m within is)) ∙ before k)
+      ∙ (ap (option_or (get cmp found k)) (sym (cut (like k) flags xs c first place m within is)) ∙ before k)
 
   -- a member that is added
-  pub new_more : (found new : HashMap K Member S) (xs : List M) (c first place : ℕ) (m : M) (q : K) (aim : K → Option Member)
-      → place < length xs → m ≡ get_or xs place m → ((k : K) → eq q k ≡ like k c m)
-      → is_some (get eq found q) ≡ false
-      → ((k : K) → get eq new k ≡ cond (eq q k) (Some (record { id = first + place; class = class_id c; flags = flags m })) (get eq found k))
-      → ((k : K) → option_or (get eq found k) (first_own (like k) flags c (first + place) (drop place xs)) ≡ aim k)
-      → (k : K) → option_or (get eq new k) (first_own (like k) flags c (first + (place + 1)) (drop (place + 1) xs)) ≡ aim k
+  pub new_more : (found new : BTreeMap K Member) (xs : List M) (c first place : ℕ) (m : M) (q : K) (aim : K → Option Member)
+      → place < length xs → m ≡ get_or xs place m → ((k : K) → is_eq (cmp q k) ≡ like k c m)
+      → is_some (get cmp found q) ≡ false
+      → ((k : K) → get cmp new k ≡ cond (is_eq (cmp q k)) (Some (record { id = first + place; class = class_id c; flags = flags m })) (get cmp found k))
+      → ((k : K) → option_or (get cmp found k) (first_own (like k) flags c (first + place) (drop place xs)) ≡ aim k)
+      → (k : K) → option_or (get cmp new k) (first_own (like k) flags c (first + (place + 1)) (drop (place + 1) xs)) ≡ aim k
   new_more found new xs c first place m q aim within is under absent added before k =
-      new_step (like k c m) (get eq found k) (get eq found q) (get eq new k) (first_own (like k) flags c (first + (place + 1)) (drop (place + 1) xs))
+      new_step (like k c m) (get cmp found k) (get cmp found q) (get cmp new k) (first_own (like k) flags c (first + (place + 1)) (drop (place + 1) xs))
       (record { id = first + place; class = class_id c; flags = flags m })
       (λ e. same_found found q k (under k ∙ e)) absent
-      (added k ∙ ap (λ b. cond b (Some (record { id = first + place; class = class_id c; flags = flags m })) (get eq found k)) (under k))
-      ∙ (ap (option_or (get eq found k)) (sym (cut (like k) flags xs c first place m within is)) ∙ before k)
+      (added k ∙ ap (λ b. cond b (Some (record { id = first + place; class = class_id c; flags = flags m })) (get cmp found k)) (under k))
+      ∙ (ap (option_or (get cmp found k)) (sym (cut (like k) flags xs c first place m within is)) ∙ before k)
 
   -- nothing is left
-  pub all_found : (found : HashMap K Member S) (xs : List M) (c first place : ℕ) (aim : K → Option Member) → length xs ≤ place
-      → ((k : K) → option_or (get eq found k) (first_own (like k) flags c (first + place) (drop place xs)) ≡ aim k)
-      → (k : K) → get eq found k ≡ aim k
+  pub all_found : (found : BTreeMap K Member) (xs : List M) (c first place : ℕ) (aim : K → Option Member) → length xs ≤ place
+      → ((k : K) → option_or (get cmp found k) (first_own (like k) flags c (first + place) (drop place xs)) ≡ aim k)
+      → (k : K) → get cmp found k ≡ aim k
   all_found found xs c first place aim all before k =
       let none : first_own (like k) flags c (first + place) (drop place xs) ≡ None = ap (first_own (like k) flags c (first + place)) (drop_all place xs all) in
-      sym (or_nothing (get eq found k)) ∙ (ap (option_or (get eq found k)) (sym none) ∙ before k)
+      sym (or_nothing (get cmp found k)) ∙ (ap (option_or (get cmp found k)) (sym none) ∙ before k)

@@ -1,6 +1,6 @@
 -- What the members of a program are looked up by.
 use Rattle.std.specs.Prelude.{◌≡◌, ◌<◌, ◌^◌, ℕ, Bool, true, List, Option, is_some, length, option_map}
-use Rattle.indexmap.specs.IndexMap.{get}
+use Rattle.std.specs.BTreeMap.{get}
 use Rattle.dv_defs.specs.Images.{Image}
 use Rattle.dv_defs.specs.Pools.{Method, Field, declared_by}
 use Rattle.dv_defs.specs.declared.names.ClassId.{ClassId}
@@ -12,7 +12,7 @@ use Rattle.dv_resolve.specs.declared.members.Member.{Member}
 use Rattle.dv_resolve.specs.declared.members.Members.{Members}
 use Rattle.dv_resolve.specs.declared.members.MethodKey.{MethodKey}
 use Rattle.dv_resolve.specs.declared.members.FieldKey.{FieldKey}
-pub use Rattle.dv_resolve.specs.Declarers.{method_key_eq, field_key_eq}
+pub use Rattle.dv_resolve.specs.Declarers.{method_key_cmp, field_key_cmp}
 use Rattle.dv_resolve.specs.Declarers.{HasFieldDeclarers, HasMethodDeclarers}
 use Rattle.dv_resolve.specs.Orders.{AreOrders}
 
@@ -29,8 +29,8 @@ pub record Knows (members : Members) (image : Image) : Type 0 where
   pub ordered : IsOrdered image
   pub names : members.names.now ≡ names_of image.classes
   pub orders : AreOrders image members.orders.items
-  pub methods : (k : MethodKey) → get method_key_eq members.methods k ≡ option_map of_method (declared_by image k.class.0 (is_method_of k.name.now k.proto.now))
-  pub fields : (k : FieldKey) → get field_key_eq members.fields k ≡ option_map of_field (field_declared image k.name.now k.ty.now k.class.0)
+  pub methods : (k : MethodKey) → get method_key_cmp members.methods k ≡ option_map of_method (declared_by image k.class.0 (is_method_of k.name.now k.proto.now))
+  pub fields : (k : FieldKey) → get field_key_cmp members.fields k ≡ option_map of_field (field_declared image k.name.now k.ty.now k.class.0)
   pub method_declarers : HasMethodDeclarers members.methods members.method_declarers
   pub field_declarers : HasFieldDeclarers members.fields members.field_declarers
 

@@ -61,7 +61,12 @@ fn class_of(members: &Members<'_>, ty: &Ty) -> Option<ClassId>
 }
 
 /// The method that a class declares.
-fn method_of(members: &Members<'_>, class: ClassId, name: &Text, proto: &Proto) -> Option<Member>
+fn method_of<'a>(
+    members: &Members<'a>,
+    class: ClassId,
+    name: &'a Text,
+    proto: &'a Proto,
+) -> Option<Member>
     ensures { (image : Image) → Knows members.now image
         → result ≡ option_map of_method (declared_by image class.0 (is_method_of name.now proto.now)) }
 {
@@ -70,12 +75,12 @@ fn method_of(members: &Members<'_>, class: ClassId, name: &Text, proto: &Proto) 
 }
 
 /// The first method that one of these classes declares, from a place on.
-fn method_among(
-    members: &Members<'_>,
+fn method_among<'a>(
+    members: &Members<'a>,
     classes: &[ClassId],
     from: usize,
-    name: &Text,
-    proto: &Proto,
+    name: &'a Text,
+    proto: &'a Proto,
 ) -> Option<Member>
     ensures { (image : Image) → Knows members.now image
         → result ≡ option_map of_method (first_in (declares image (is_method_of name.now proto.now)) (numbers (drop from classes.now))) }
@@ -89,11 +94,11 @@ fn method_among(
 }
 
 /// The classes that declare a method of this name and prototype.
-fn declarers_of_method<'a>(
-    members: &'a Members<'_>,
+fn declarers_of_method<'a, 'b>(
+    members: &'b Members<'a>,
     name: &'a Text,
     proto: &'a Proto,
-) -> &'a [ClassId]
+) -> &'b [ClassId]
     ensures { (image : Image) → Knows members.now image
         → AreAllOf (declares image (is_method_of name.now proto.now)) result.now }
 {
@@ -104,7 +109,12 @@ fn declarers_of_method<'a>(
 }
 
 /// The first method in the order of a look-up.
-fn method_along(members: &Members<'_>, class: ClassId, name: &Text, proto: &Proto) -> Option<Member>
+fn method_along<'a>(
+    members: &Members<'a>,
+    class: ClassId,
+    name: &'a Text,
+    proto: &'a Proto,
+) -> Option<Member>
     ensures { (image : Image) → Knows members.now image → class.0 < length image.classes
         → result ≡ option_map of_method (method_found image class.0 name.now proto.now) }
 {
@@ -115,7 +125,7 @@ fn method_along(members: &Members<'_>, class: ClassId, name: &Text, proto: &Prot
 }
 
 /// The field that a class declares.
-fn field_of(members: &Members<'_>, class: ClassId, name: &Text, ty: &Ty) -> Option<Member>
+fn field_of<'a>(members: &Members<'a>, class: ClassId, name: &'a Text, ty: &'a Ty) -> Option<Member>
     ensures { (image : Image) → Knows members.now image → result ≡ option_map of_field (field_declared image name.now ty.now class.0) }
 {
     let key = FieldKey { class, name, ty };
@@ -123,12 +133,12 @@ fn field_of(members: &Members<'_>, class: ClassId, name: &Text, ty: &Ty) -> Opti
 }
 
 /// The first field that one of these classes declares, from a place on.
-fn field_among(
-    members: &Members<'_>,
+fn field_among<'a>(
+    members: &Members<'a>,
     classes: &[ClassId],
     from: usize,
-    name: &Text,
-    ty: &Ty,
+    name: &'a Text,
+    ty: &'a Ty,
 ) -> Option<Member>
     ensures { (image : Image) → Knows members.now image
         → result ≡ option_map of_field (first_in (field_declared image name.now ty.now) (numbers (drop from classes.now))) }
@@ -142,7 +152,7 @@ fn field_among(
 }
 
 /// The classes that declare a field of this name and type.
-fn declarers_of_field<'a>(members: &'a Members<'_>, name: &'a Text, ty: &'a Ty) -> &'a [ClassId]
+fn declarers_of_field<'a, 'b>(members: &'b Members<'a>, name: &'a Text, ty: &'a Ty) -> &'b [ClassId]
     ensures { (image : Image) → Knows members.now image
         → AreAllOf (field_declared image name.now ty.now) result.now }
 {
@@ -153,7 +163,12 @@ fn declarers_of_field<'a>(members: &'a Members<'_>, name: &'a Text, ty: &'a Ty) 
 }
 
 /// The first field in the order of a look-up.
-fn field_along(members: &Members<'_>, class: ClassId, name: &Text, ty: &Ty) -> Option<Member>
+fn field_along<'a>(
+    members: &Members<'a>,
+    class: ClassId,
+    name: &'a Text,
+    ty: &'a Ty,
+) -> Option<Member>
     ensures { (image : Image) → Knows members.now image → class.0 < length image.classes
         → result ≡ option_map of_field (field_found image class.0 name.now ty.now) }
 {
@@ -165,7 +180,7 @@ fn field_along(members: &Members<'_>, class: ClassId, name: &Text, ty: &Ty) -> O
 
 impl<'a> Members<'a> {
     /// The field that a reference leads to (JVMS 5.4.3.2): of the class, then of its superinterfaces, then of its superclass, and so on.
-    pub fn field_named(&self, reference: &FieldRef) -> Option<Member>
+    pub fn field_named(&self, reference: &'a FieldRef) -> Option<Member>
         ensures { (image : Image) → Knows self.now image → result ≡ option_map of_field (named_field image reference.now) }
     {
         let class = class_of(self, &reference.class)?;
@@ -173,7 +188,7 @@ impl<'a> Members<'a> {
     }
 
     /// The method that a reference leads to (JVMS 5.4.3.3): of the class and its superclasses, then of their superinterfaces.
-    pub fn method_named(&self, reference: &MethodRef) -> Option<Member>
+    pub fn method_named(&self, reference: &'a MethodRef) -> Option<Member>
         ensures { (image : Image) → Knows self.now image → result ≡ option_map of_method (named_method image reference.now) }
     {
         let class = class_of(self, &reference.class)?;

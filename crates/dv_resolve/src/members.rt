@@ -1,7 +1,7 @@
 // Members looked up by what a reference names.
 ghost use Rattle.std.specs.Prelude.{◌≡◌, ◌<◌, ◌+◌, ◌^◌, ℕ, [], length, sum_by, slice_index_or, IfOk, OnOk};
 ghost use Rattle.std.specs.Option.{option_or};
-ghost use Rattle.indexmap.specs.IndexMap.{get};
+ghost use Rattle.std.specs.BTreeMap.{get};
 ghost use Rattle.dv_defs.specs.Images.{Image};
 ghost use Rattle.dv_defs.specs.LookUp.{interfaces_above, once};
 ghost use Rattle.dv_defs.specs.Numbering.{names_of};
@@ -9,16 +9,16 @@ ghost use Rattle.dv_defs.specs.Order.{numbers};
 ghost use Rattle.law_linking.specs.Ordered.{IsOrdered};
 ghost use Rattle.law_linking.proofs.Members.{HasFields, HasMethods};
 ghost use Rattle.dv_resolve.specs.Firsts.{first_field_own, first_fields_from, first_method_own, first_methods_from};
-ghost use Rattle.dv_resolve.specs.Members.{Knows, field_key_eq, method_key_eq};
+ghost use Rattle.dv_resolve.specs.Members.{Knows, field_key_cmp, method_key_cmp};
 
 use crate::declarers::{FieldName, MethodName, field_declarers, method_declarers};
 use crate::orders::{Orders, orders_of_all};
 use dv_defs::{ClassId, ClassInfo, FieldDef, MethodDef, Pool, Proto, Seq, Text, Ty};
-use indexmap::IndexMap;
 use std::alloc::{AllocError, Global};
+use std::collections::BTreeMap;
 
 /// What the methods of all classes are told apart by.
-#[derive(Clone, Copy, PartialEq, Eq, Hash)]
+#[derive(Clone, Copy, PartialEq, Eq, PartialOrd, Ord)]
 pub struct MethodKey<'a> {
     pub class: ClassId,
     pub name: &'a Text,
@@ -26,7 +26,7 @@ pub struct MethodKey<'a> {
 }
 
 /// What the fields of all classes are told apart by.
-#[derive(Clone, Copy, PartialEq, Eq, Hash)]
+#[derive(Clone, Copy, PartialEq, Eq, PartialOrd, Ord)]
 pub struct FieldKey<'a> {
     pub class: ClassId,
     pub name: &'a Text,
@@ -48,22 +48,22 @@ pub struct Members<'a> {
     pub names: &'a Pool<Text>,
     /// By class, the orders of look-ups that begin in it.
     pub orders: Vec<Orders>,
-    pub methods: IndexMap<MethodKey<'a>, Member>,
-    pub fields: IndexMap<FieldKey<'a>, Member>,
-    pub method_declarers: IndexMap<MethodName<'a>, Vec<ClassId>>,
-    pub field_declarers: IndexMap<FieldName<'a>, Vec<ClassId>>,
+    pub methods: BTreeMap<MethodKey<'a>, Member>,
+    pub fields: BTreeMap<FieldKey<'a>, Member>,
+    pub method_declarers: BTreeMap<MethodName<'a>, Vec<ClassId>>,
+    pub field_declarers: BTreeMap<FieldName<'a>, Vec<ClassId>>,
 }
 
 /// Adds a class's methods, whose numbers begin with `first`. Of equal ones the first is kept.
 fn add_methods<'a>(
-    found: &mut IndexMap<MethodKey<'a>, Member>,
+    found: &mut BTreeMap<MethodKey<'a>, Member>,
     class: ClassId,
     methods: &'a [MethodDef],
     first: u32,
 ) -> Result<(), AllocError>
     requires few { first + length methods.now < 2 ^ 32 }
-    ensures { OnOk result ((k : MethodKey) → get method_key_eq found.new k
-        ≡ option_or (get method_key_eq found.old k) (first_method_own k class.0 first methods.now)) }
+    ensures { OnOk result ((k : MethodKey) → get method_key_cmp found.new k
+        ≡ option_or (get method_key_cmp found.old k) (first_method_own k class.0 first methods.now)) }
 {
     for (place, method) in methods.iter().enumerate() {
         let key = MethodKey {
@@ -85,14 +85,14 @@ fn add_methods<'a>(
 
 /// Adds a class's fields, whose numbers begin with `first`. Of equal ones the first is kept.
 fn add_fields<'a>(
-    found: &mut IndexMap<FieldKey<'a>, Member>,
+    found: &mut BTreeMap<FieldKey<'a>, Member>,
     class: ClassId,
     fields: &'a [FieldDef],
     first: u32,
 ) -> Result<(), AllocError>
     requires few { first + length fields.now < 2 ^ 32 }
-    ensures { OnOk result ((k : FieldKey) → get field_key_eq found.new k
-        ≡ option_or (get field_key_eq found.old k) (first_field_own k class.0 first fields.now)) }
+    ensures { OnOk result ((k : FieldKey) → get field_key_cmp found.new k
+        ≡ option_or (get field_key_cmp found.old k) (first_field_own k class.0 first fields.now)) }
 {
     for (place, field) in fields.iter().enumerate() {
         let key = FieldKey {
@@ -116,12 +116,12 @@ fn add_fields<'a>(
 fn methods_of<'a>(
     alloc: Global,
     infos: &'a [ClassInfo],
-) -> Result<IndexMap<MethodKey<'a>, Member>, AllocError>
+) -> Result<BTreeMap<MethodKey<'a>, Member>, AllocError>
     requires few { length infos.now < 2 ^ 32 }
     requires few_methods { sum_by (λ c. length c.def.methods) infos.now < 2 ^ 31 }
-    ensures { IfOk result (λ found. (k : MethodKey) → get method_key_eq found k ≡ first_methods_from k 0 0 infos.now) }
+    ensures { IfOk result (λ found. (k : MethodKey) → get method_key_cmp found k ≡ first_methods_from k 0 0 infos.now) }
 {
-    let mut found = IndexMap::new(alloc);
+    let mut found = BTreeMap::new(alloc);
     let mut first = 0;
     for (class, info) in infos.iter().enumerate() {
         let methods = info.def.methods.items();
@@ -135,12 +135,12 @@ fn methods_of<'a>(
 fn fields_of<'a>(
     alloc: Global,
     infos: &'a [ClassInfo],
-) -> Result<IndexMap<FieldKey<'a>, Member>, AllocError>
+) -> Result<BTreeMap<FieldKey<'a>, Member>, AllocError>
     requires few { length infos.now < 2 ^ 32 }
     requires few_fields { sum_by (λ c. length c.def.fields) infos.now < 2 ^ 31 }
-    ensures { IfOk result (λ found. (k : FieldKey) → get field_key_eq found k ≡ first_fields_from k 0 0 infos.now) }
+    ensures { IfOk result (λ found. (k : FieldKey) → get field_key_cmp found k ≡ first_fields_from k 0 0 infos.now) }
 {
-    let mut found = IndexMap::new(alloc);
+    let mut found = BTreeMap::new(alloc);
     let mut first = 0;
     for (class, info) in infos.iter().enumerate() {
         let fields = info.def.fields.items();

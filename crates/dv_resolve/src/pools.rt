@@ -37,11 +37,11 @@ pub fn check_pools(alloc: Global, members: &Members<'_>) -> Result<(), LinkError
     Ok(())
 }
 
-fn check_class(
+fn check_class<'a>(
     alloc: Global,
-    members: &Members<'_>,
+    members: &Members<'a>,
     place: usize,
-    class: &ClassDef,
+    class: &'a ClassDef,
 ) -> Result<(), LinkError>
     ensures { (image : Image) → Knows members.now image → Checks result (option_map (found class.now.name) (wrong_pools image place class.now)) }
 {
@@ -54,12 +54,12 @@ fn check_class(
 }
 
 /// The first fault that a pass finds in the bodies of these methods.
-fn check_bodies(
+fn check_bodies<'a>(
     alloc: Global,
-    members: &Members<'_>,
+    members: &Members<'a>,
     place: usize,
     class: &Text,
-    methods: &[MethodDef],
+    methods: &'a [MethodDef],
     pass: Pass,
 ) -> Result<(), LinkError>
     ensures { (image : Image) → Knows members.now image
@@ -71,12 +71,12 @@ fn check_bodies(
     Ok(())
 }
 
-fn check_method(
+fn check_method<'a>(
     alloc: Global,
-    members: &Members<'_>,
+    members: &Members<'a>,
     place: usize,
     class: &Text,
-    method: &MethodDef,
+    method: &'a MethodDef,
     pass: Pass,
 ) -> Result<(), LinkError>
     ensures { (image : Image) → Knows members.now image
@@ -88,12 +88,12 @@ fn check_method(
     }
 }
 
-fn check_body(
+fn check_body<'a>(
     alloc: Global,
-    members: &Members<'_>,
+    members: &Members<'a>,
     place: usize,
     class: &Text,
-    body: &Body,
+    body: &'a Body,
     pass: Pass,
 ) -> Result<(), LinkError>
     ensures { (image : Image) → Knows members.now image
@@ -108,11 +108,11 @@ fn check_body(
 }
 
 /// The first reference that leads to no field.
-fn check_fields(
+fn check_fields<'a>(
     alloc: Global,
-    members: &Members<'_>,
+    members: &Members<'a>,
     class: &Text,
-    fields: &[FieldRef],
+    fields: &'a [FieldRef],
 ) -> Result<(), LinkError>
     ensures { (image : Image) → Knows members.now image
         → Checks result (option_map (found class.now) (first_in (no_field image) fields.now)) }
@@ -123,11 +123,11 @@ fn check_fields(
     Ok(())
 }
 
-fn check_field(
+fn check_field<'a>(
     alloc: Global,
-    members: &Members<'_>,
+    members: &Members<'a>,
     class: &Text,
-    field: &FieldRef,
+    field: &'a FieldRef,
 ) -> Result<(), LinkError>
     ensures { (image : Image) → Knows members.now image
         → Checks result (option_map (found class.now) (no_field image field.now)) }
@@ -139,11 +139,11 @@ fn check_field(
 }
 
 /// The first reference that leads to no method.
-fn check_methods(
+fn check_methods<'a>(
     alloc: Global,
-    members: &Members<'_>,
+    members: &Members<'a>,
     class: &Text,
-    methods: &[MethodRef],
+    methods: &'a [MethodRef],
 ) -> Result<(), LinkError>
     ensures { (image : Image) → Knows members.now image
         → Checks result (option_map (found class.now) (first_in (no_method image) methods.now)) }
@@ -154,11 +154,11 @@ fn check_methods(
     Ok(())
 }
 
-fn check_method_named(
+fn check_method_named<'a>(
     alloc: Global,
-    members: &Members<'_>,
+    members: &Members<'a>,
     class: &Text,
-    method: &MethodRef,
+    method: &'a MethodRef,
 ) -> Result<(), LinkError>
     ensures { (image : Image) → Knows members.now image
         → Checks result (option_map (found class.now) (no_method image method.now)) }
@@ -170,12 +170,12 @@ fn check_method_named(
 }
 
 /// The first reference of a body to a private member of another class: fields before methods.
-fn check_access(
+fn check_access<'a>(
     alloc: Global,
-    members: &Members<'_>,
+    members: &Members<'a>,
     place: usize,
     class: &Text,
-    body: &Body,
+    body: &'a Body,
 ) -> Result<(), LinkError>
     ensures { (image : Image) → Knows members.now image
         → Checks result (option_map (found class.now) (private_in_pools image place body.now)) }
@@ -184,12 +184,12 @@ fn check_access(
     check_method_access(alloc, members, place, class, body.methods.items())
 }
 
-fn check_field_access(
+fn check_field_access<'a>(
     alloc: Global,
-    members: &Members<'_>,
+    members: &Members<'a>,
     place: usize,
     class: &Text,
-    fields: &[FieldRef],
+    fields: &'a [FieldRef],
 ) -> Result<(), LinkError>
     ensures { (image : Image) → Knows members.now image
         → Checks result (option_map (found class.now) (first_in (private_field image place) fields.now)) }
@@ -200,12 +200,12 @@ fn check_field_access(
     Ok(())
 }
 
-fn check_private_field(
+fn check_private_field<'a>(
     alloc: Global,
-    members: &Members<'_>,
+    members: &Members<'a>,
     place: usize,
     class: &Text,
-    field: &FieldRef,
+    field: &'a FieldRef,
 ) -> Result<(), LinkError>
     ensures { (image : Image) → Knows members.now image
         → Checks result (option_map (found class.now) (private_field image place field.now)) }
@@ -217,12 +217,12 @@ fn check_private_field(
     Ok(())
 }
 
-fn check_method_access(
+fn check_method_access<'a>(
     alloc: Global,
-    members: &Members<'_>,
+    members: &Members<'a>,
     place: usize,
     class: &Text,
-    methods: &[MethodRef],
+    methods: &'a [MethodRef],
 ) -> Result<(), LinkError>
     ensures { (image : Image) → Knows members.now image
         → Checks result (option_map (found class.now) (first_in (private_method image place) methods.now)) }
@@ -233,12 +233,12 @@ fn check_method_access(
     Ok(())
 }
 
-fn check_private_method(
+fn check_private_method<'a>(
     alloc: Global,
-    members: &Members<'_>,
+    members: &Members<'a>,
     place: usize,
     class: &Text,
-    method: &MethodRef,
+    method: &'a MethodRef,
 ) -> Result<(), LinkError>
     ensures { (image : Image) → Knows members.now image
         → Checks result (option_map (found class.now) (private_method image place method.now)) }

@@ -44,12 +44,12 @@ fn resolve_method(
 }
 
 /// A method of this class at this place, with the pools of its body resolved.
-fn with_pools(
+fn with_pools<'a>(
     alloc: Global,
-    members: &Members<'_>,
+    members: &Members<'a>,
     class: ClassId,
     place: u32,
-    body: &Body,
+    body: &'a Body,
 ) -> Result<MethodInfo, AllocError>
     ensures { (image : Image) → Knows members.now image → IfOk result (λ done. done ≡ record {
       class = class;
@@ -81,10 +81,10 @@ fn body_of<'a>(members: &Members<'a>, method: &MethodInfo) -> Option<&'a Body>
 }
 
 /// The fields to which references lead, in order.
-fn field_ids(
+fn field_ids<'a>(
     alloc: Global,
-    members: &Members<'_>,
-    fields: &[FieldRef],
+    members: &Members<'a>,
+    fields: &'a [FieldRef],
 ) -> Result<Vec<FieldId>, AllocError>
     ensures { (image : Image) → Knows members.now image
         → IfOk result (λ ids. ids.items ≡ map field_id (filter_map (field_named image) fields.now)) }
@@ -99,10 +99,10 @@ fn field_ids(
 }
 
 /// The methods to which references lead, in order.
-fn method_ids(
+fn method_ids<'a>(
     alloc: Global,
-    members: &Members<'_>,
-    methods: &[MethodRef],
+    members: &Members<'a>,
+    methods: &'a [MethodRef],
 ) -> Result<Vec<MethodId>, AllocError>
     ensures { (image : Image) → Knows members.now image
         → IfOk result (λ ids. ids.items ≡ map method_id (filter_map (method_named image) methods.now)) }

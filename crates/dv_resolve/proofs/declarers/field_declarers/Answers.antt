@@ -1,24 +1,22 @@
-use Rattle.std.proofs.Common.{option_map, arith, ap, sym, ◌∙◌}
+use Rattle.std.proofs.Common.{ap, ◌∙◌, inr}
 use Rattle.std.specs.Map.Iter.{deref_pair}
-use Rattle.std.proofs.lemmas.Option.{slice_get_within}
+use Rattle.std.proofs.lemmas.Map.Iter.{rest_more, rest_all}
 use Rattle.dv_resolve.specs.declared.members.FieldKey.{FieldKey}
-use Rattle.dv_resolve.specs.Declarers.{field_key_eq, field_name, field_name_eq}
-use Rattle.dv_resolve.proofs.DeclarerLaws.{all_told, told_more, told_none, field_names, fields_alike}
-use Rattle.dv_resolve.proofs.declarers.field_declarers.Goals.{in-Some+in_ok-add_declarer, in_default}
+use Rattle.dv_resolve.specs.Declarers.{field_key_cmp, field_name, field_name_cmp}
+use Rattle.dv_resolve.proofs.DeclarerLaws.{has_key, all_told, told_more, field_names, fields_alike}
 use Rattle.dv_resolve.proofs.declarers.field_declarers.Goals as goal
 
-pub loop-i-preserved : goal.loop-i-preserved
-loop-i-preserved c =
-    elim c.match-get_index.branch [
-      | in-Some+in_ok-add_declarer w ↦ rw w.declarers-is
-          (told_more field_name_eq field_names field_name (λ (k : FieldKey). k.class) c.args.fields.now.entries c.loop-i.i w.in-Some.key.now w.in-Some.field-0-1.now c.loop-i.declarers w.add_declarer.new.declarers
-          (sym w.in-Some.ensures.entry) w.in_ok-add_declarer.ensures c.loop-i.invariant)
-      | in_default w ↦ rw w.declarers-is
-          (told_none field_name_eq field_names field_name (λ (k : FieldKey). k.class) c.args.fields.now.entries c.loop-i.i c.loop-i.declarers
-          (sym c.get_index.ensures.entry ∙ ap (option_map deref_pair) w.in_default.is) c.loop-i.invariant)
-    ]
+pub loop-key-init : goal.loop-key-init
+loop-key-init c = λ k there. inr (ap (λ es. has_key field_key_cmp es k) c.into_iter-key-iterator.ensures.into_iter_gives.0 ∙ there)
+
+pub loop-key-preserved : goal.loop-key-preserved
+loop-key-preserved c =
+    told_more field_key_cmp field_name_cmp field_names field_name (λ (k : FieldKey). k.class) fields_alike c.args.fields.now.entries c.loop-key.key-iterator c.next.new.self
+    c.in-Some.key.now c.in-Some.field-0-1.now c.loop-key.declarers c.add_declarer.new.declarers
+    (rest_more deref_pair c.loop-key.key-iterator c.next.new.self c.next.result (c.in-Some.key, c.in-Some.field-0-1) c.in-Some.is c.next.ensures.steps)
+    c.in_ok-add_declarer.ensures c.loop-key.invariant
 
 pub returns : goal.returns
 returns c =
-    all_told field_name_eq field_names field_name (λ (k : FieldKey). k.class) field_key_eq c.args.fields.now c.loop-i.i c.loop-i.declarers
-    (λ j e is. omega (arith, slice_get_within c.args.fields.now.entries j e is, c.loop-i-test.false, c.len-i-end.ensures.len)) fields_alike c.loop-i.invariant
+    all_told field_key_cmp field_name_cmp field_names field_name (λ (k : FieldKey). k.class) fields_alike c.args.fields.now.entries c.loop-key.key-iterator c.loop-key.declarers
+    (rest_all deref_pair c.loop-key.key-iterator c.next.new.self c.next.result c.in-None.is c.next.ensures.steps) c.loop-key.invariant

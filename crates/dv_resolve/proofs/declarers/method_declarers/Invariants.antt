@@ -1,12 +1,8 @@
-use Rattle.std.proofs.Common.{◌≡◌, ℕ, ◌<◌, true, Some, slice_get}
-use Rattle.indexmap.specs.IndexMap.{get}
-use Rattle.dv_defs.specs.Order.{has_number, numbers}
-use Rattle.dv_resolve.specs.declared.members.Member.{Member}
 use Rattle.dv_resolve.specs.declared.members.MethodKey.{MethodKey}
-use Rattle.dv_resolve.specs.Declarers.{classes_in, method_name, method_name_eq}
+use Rattle.dv_resolve.specs.Declarers.{method_key_cmp, method_name, method_name_cmp}
+use Rattle.dv_resolve.proofs.DeclarerLaws.{AreTold}
 use Rattle.dv_resolve.proofs.declarers.method_declarers.Given as goal
 
-abbrev pub invariant-loop-i : goal.invariant-loop-i
-invariant-loop-i l =
-    (j : ℕ) (e : MethodKey × Member) → j < l.i → slice_get l.methods.entries j ≡ Some e
-    → has_number e.0.class.0 (numbers (classes_in (get method_name_eq l.declarers (method_name e.0)))) ≡ true
+abbrev pub invariant-loop-key : goal.invariant-loop-key
+invariant-loop-key l =
+    AreTold method_key_cmp method_name_cmp method_name (λ (k : MethodKey). k.class) l.methods.entries l.declarers l.key-iterator
