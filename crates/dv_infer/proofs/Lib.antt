@@ -2,6 +2,7 @@ pub mod Carrying
 pub mod Faulting
 pub mod Finding
 pub mod Gathering
+pub mod Leaping
 pub mod Planned
 pub mod Receiving
 pub mod Telling

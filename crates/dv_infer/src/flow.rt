@@ -4,7 +4,9 @@ ghost use Rattle.law_infer.specs.Flowing.{IsReady};
 ghost use Rattle.dv_ops.specs.Meaning.{code_of};
 ghost use Rattle.dv_plan.specs.Plans.{IsPlan};
 
+use crate::leap::leap;
 use crate::onward::{copy_of, onward, place_count};
+use crate::work::{patience, work_at};
 use dv_bases::Bases;
 use dv_ops::Coded;
 use dv_plan::Plan;
@@ -21,6 +23,7 @@ pub struct MethodFlow<'a> {
     table: &'a ClassTable<'a>,
     code: &'a Coded<'a>,
     plan: &'a Plan,
+    lengths: &'a [usize],
 }
 
 impl<'a> Model for MethodFlow<'a> {
@@ -40,13 +43,14 @@ impl<'a> Model for MethodFlow<'a> {
 }
 
 impl<'a> MethodFlow<'a> {
-    /// The states of a method's body.
+    /// The states of a method's body. The lengths are those of its straight code.
     pub fn new(
         alloc: Global,
         bases: &'a Bases<'a>,
         table: &'a ClassTable<'a>,
         code: &'a Coded<'a>,
         plan: &'a Plan,
+        lengths: &'a [usize],
     ) -> MethodFlow<'a>
         requires ready { IsReady bases.now.image (code_of code.now) }
         requires table { table.now ≡ bases.now.image }
@@ -59,6 +63,7 @@ impl<'a> MethodFlow<'a> {
             table,
             code,
             plan,
+            lengths,
         }
     }
 }
@@ -97,5 +102,24 @@ impl<'a> Flow for MethodFlow<'a> {
 
     fn raise(&self, _place: usize, row: &mut Row<'a>, by: &Row<'a>) -> Result<bool, AllocError> {
         Ok(row.raise(by))
+    }
+
+    fn work(&self, place: usize) -> usize {
+        work_at(self.code, self.lengths, place)
+    }
+
+    fn patience(&self) -> usize {
+        patience(self.code)
+    }
+
+    fn accelerate(
+        &self,
+        place: usize,
+        row: &Row<'a>,
+        by: &Row<'a>,
+    ) -> Result<Option<Row<'a>>, AllocError> {
+        leap(
+            self.alloc, self.bases, self.table, self.code, self.plan, place, row, by,
+        )
     }
 }

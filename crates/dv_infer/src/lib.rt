@@ -5,9 +5,11 @@ mod errors;
 mod faults;
 mod filling;
 mod flow;
+mod leap;
 mod method;
 mod onward;
 mod receivers;
+mod work;
 
 pub use errors::InferError;
 pub use method::{infer, infer_by};

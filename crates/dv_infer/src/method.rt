@@ -17,6 +17,7 @@ use crate::errors::InferError;
 use crate::faults::typing_faults;
 use crate::filling::fill;
 use crate::flow::MethodFlow;
+use crate::work::lengths_of;
 use dv_bases::Bases;
 use dv_defs::{Image, MethodId, Seq};
 use dv_ops::{Coded, coded_at, units_of};
@@ -151,7 +152,8 @@ fn least_by(
     ensures fit { IfOk result (λ v. AllFit (fits_at bases.now.image (code_of code.now)) (assigned v.items)) }
     ensures least { IfOk result (λ v. worklist.IsLeast (flow_of bases.now.image (code_of code.now)) (assigned v.items)) }
 {
-    let flow = MethodFlow::new(alloc, bases, table, code, plan);
+    let lengths = lengths_of(alloc, plan)?;
+    let flow = MethodFlow::new(alloc, bases, table, code, plan, &lengths);
     let mut rows = least(&flow, alloc)?;
     fill(bases, table, code, plan, &mut rows)?;
     rows.truncate(units_of(code).len());
