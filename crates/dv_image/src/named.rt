@@ -9,7 +9,7 @@ use crate::instances::implements;
 use dv_defs::Image;
 
 /// The place of the class of this descriptor, by a search from the front. The boot classes stand there, so their places are found at
-/// once; `class_of` finds any class by its hash.
+/// once; `class_of` finds any class by the order of its name.
 #[tactic(auto, unfolding(dv_defs::specs::Pools::class_named))]
 pub fn boot_class(image: &Image, name: &[u8]) -> Option<usize>
     ensures { result ≡ class_named image.now name.now }

@@ -2,7 +2,8 @@
 use Rattle.std.specs.Prelude.{ℕ, ◌≡◌, ◌&&◌, Bool, false, nat_eq, List, [], ◌∷◌, ◌++◌, map, find, Option, Some, None, option_map, if◌then◌else◌}
 use Rattle.std.specs.Option.{option_map_or, option_to_list}
 use Rattle.std.specs.List.{flat_map, list_any}
-use Rattle.indexmap.specs.IndexMap.{IndexMap, get}
+use Rattle.std.specs.Ordering.{nat_cmp}
+use Rattle.std.specs.BTreeMap.{BTreeMap, get}
 use Rattle.dv_defs.specs.declared.code.Insn.{Insn}
 use Rattle.dv_defs.specs.declared.code.Payload.{Payload}
 use Rattle.dv_defs.specs.declared.code.Payload.TheVariants as payload
@@ -35,8 +36,8 @@ abbrev pub switch_address : List Piece → ℕ → ℕ
 switch_address pieces address = option_map_or piece_address (find (switches_to address) pieces) 0
 
 -- of each address to which switches lead the address of the first one
-abbrev pub HasSwitches : {S : Type 0} → List Piece → IndexMap ℕ ℕ S → Type 0
-HasSwitches pieces switches = (address : ℕ) → get nat_eq switches address ≡ option_map piece_address (find (switches_to address) pieces)
+abbrev pub HasSwitches : List Piece → BTreeMap ℕ ℕ → Type 0
+HasSwitches pieces switches = (address : ℕ) → get nat_cmp switches address ≡ option_map piece_address (find (switches_to address) pieces)
 
 -- the addresses that a payload names, if its targets count from this one
 abbrev pub named_by_payload : ℕ → Payload → List ℕ

@@ -8,8 +8,8 @@ use crate::pieces::{Part, Piece};
 use crate::switches::Pieces;
 use dv_defs::{Insn, Payload, Try};
 use dv_units::has_offset;
-use indexmap::IndexSet;
 use std::alloc::{AllocError, Global};
+use std::collections::BTreeSet;
 use std::marker::Model;
 
 /// The address at a distance from another; none of a body's where it is below 0.
@@ -99,10 +99,10 @@ fn add_tries(named: &mut Vec<u32>, tries: &[Try]) -> Result<(), AllocError>
     Ok(())
 }
 
-/// The addresses that are named, each once. A look-up takes constant time. To a contract it is the list of them.
+/// The addresses that are named, each once. A look-up goes by their order. To a contract it is the list of them.
 #[derive(Drop)]
 pub struct Named {
-    addresses: IndexSet<u32>,
+    addresses: BTreeSet<u32>,
 }
 
 impl Model for Named {
@@ -118,7 +118,7 @@ impl Named {
     fn of(alloc: Global, list: &[u32]) -> Result<Named, AllocError>
         ensures { IfOk result (λ named. (address : ℕ) → is_label_address named address ≡ is_label_address list.now address) }
     {
-        let mut addresses = IndexSet::new(alloc);
+        let mut addresses = BTreeSet::new(alloc);
         for address in list {
             addresses.insert(*address)?;
         }

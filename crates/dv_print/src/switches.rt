@@ -1,7 +1,8 @@
 // The pieces of a body, and its switches by the addresses to which they lead.
 ghost use Rattle.std.specs.Prelude.{◌≡◌, ◌≤◌, ℕ, false, nat_eq, length, IfOk, OnOk};
+ghost use Rattle.std.specs.Ordering.{nat_cmp};
 ghost use Rattle.std.specs.Option.{option_map_or, option_or};
-ghost use Rattle.indexmap.specs.IndexMap.{get};
+ghost use Rattle.std.specs.BTreeMap.{get};
 ghost use Rattle.dv_asm.specs.First.{when};
 ghost use Rattle.dv_print.specs.Pieces.{pieces_of};
 ghost use Rattle.dv_print.specs.Named.{switches_to, switch_address, HasSwitches};
@@ -9,8 +10,8 @@ ghost use Rattle.dv_defs.specs.Body.{most_units};
 
 use crate::named::jump;
 use crate::pieces::{Part, Piece, pieces_of};
-use indexmap::IndexMap;
 use std::alloc::{AllocError, Global};
+use std::collections::BTreeMap;
 use std::marker::Model;
 
 /// The pieces of a body in their order, and of each address to which switches lead the address of the first one. To a
@@ -18,7 +19,7 @@ use std::marker::Model;
 #[derive(Drop)]
 pub struct Pieces {
     pieces: Vec<Piece>,
-    switches: IndexMap<u32, u16>,
+    switches: BTreeMap<u32, u16>,
 }
 
 impl Model for Pieces {
@@ -44,10 +45,10 @@ fn target_of_switch(piece: &Piece) -> Option<u32>
 }
 
 /// Adds the address of a switch, where no switch before it leads where it leads.
-fn add_switch(switches: &mut IndexMap<u32, u16>, piece: &Piece) -> Result<(), AllocError>
+fn add_switch(switches: &mut BTreeMap<u32, u16>, piece: &Piece) -> Result<(), AllocError>
     ensures { OnOk result ((address : ℕ) →
-        get nat_eq switches.new address ≡
-        option_or (get nat_eq switches.old address) (when (switches_to address piece.now) piece.now.at)) }
+        get nat_cmp switches.new address ≡
+        option_or (get nat_cmp switches.old address) (when (switches_to address piece.now) piece.now.at)) }
 {
     if let Some(to) = target_of_switch(piece)
         && !switches.contains_key(&to)
@@ -58,10 +59,10 @@ fn add_switch(switches: &mut IndexMap<u32, u16>, piece: &Piece) -> Result<(), Al
 }
 
 /// Of each address to which switches lead the address of the first one.
-fn switches_of(alloc: Global, pieces: &[Piece]) -> Result<IndexMap<u32, u16>, AllocError>
+fn switches_of(alloc: Global, pieces: &[Piece]) -> Result<BTreeMap<u32, u16>, AllocError>
     ensures { IfOk result (λ switches. HasSwitches pieces.now switches) }
 {
-    let mut switches = IndexMap::new(alloc);
+    let mut switches = BTreeMap::new(alloc);
     for piece in pieces {
         add_switch(&mut switches, piece)?;
     }

@@ -1,13 +1,14 @@
 -- Look-ups by address: of switches, and of addresses that are named.
-use Rattle.std.proofs.Common.{arith, ◌≡◌, ℕ, ◌+◌, ◌<◌, Bool, true, false, ◌||◌, List, [], ◌∷◌, ◌++◌, length, take, get_or, find, nat_eq, Option, Some, None, if◌then◌else◌, refl, ap, sym, ◌∙◌}
+use Rattle.std.proofs.Common.{arith, ◌≡◌, ℕ, ◌+◌, ◌<◌, Bool, true, false, ◌||◌, List, [], ◌∷◌, ◌++◌, length, take, get_or, find, nat_eq, cond, Option, Some, None, if◌then◌else◌, refl, ap, sym, ◌∙◌}
 use Rattle.std.specs.Prelude.{option_map}
 use Rattle.std.specs.Option.{option_or}
 use Rattle.std.specs.List.{flat_map, list_any}
-use Rattle.std.proofs.lemmas.Bool.{eqb-true}
 use Rattle.std.proofs.lemmas.Bool.Decides.{nat_tests}
 use Rattle.std.proofs.lemmas.List.{take_more}
 use Rattle.std.proofs.lemmas.List.Folds.{find-append, list_any-append}
-use Rattle.indexmap.specs.IndexSet.{insert_key}
+use Rattle.std.specs.BTreeMap.{is_at}
+use Rattle.std.specs.Cmp.{unsigned_ties}
+use Rattle.std.specs.Ordering.{nat_cmp}
 use Rattle.dv_defs.specs.Body.{BodyValue}
 use Rattle.dv_asm.specs.First.{when}
 use Rattle.dv_draft.specs.declared.draft.What.TheVariants as what
@@ -40,8 +41,8 @@ turned : (a b : ℕ) → nat_eq a b ≡ nat_eq b a
 turned a b = grind (arith, nat_tests)
 
 -- a set's look-up is that of the definition
-pub found_in_set : (addresses : List ℕ) (address : ℕ) → list_any (nat_eq address) addresses ≡ is_label_address addresses address
-found_in_set addresses address = λ i. list_any (λ a. turned address a i) addresses
+pub found_in_set : (addresses : List ℕ) (address : ℕ) → list_any (is_at (nat_cmp address)) addresses ≡ is_label_address addresses address
+found_in_set addresses address = λ i. list_any (λ a. (sym (unsigned_ties address a) ∙ turned address a) i) addresses
 
 or_false : (c : Bool) → (c || false) ≡ c
 or_false true = refl
@@ -50,24 +51,21 @@ or_false false = refl
 pushed : (addresses : List ℕ) (new address : ℕ) → is_label_address (addresses ++ new ∷ []) address ≡ (is_label_address addresses address || nat_eq new address)
 pushed addresses new address = list_any-append (λ a. nat_eq a address) addresses (new ∷ []) ∙ ap (λ c. is_label_address addresses address || c) (or_false (nat_eq new address))
 
-inserted : (c : Bool) (addresses : List ℕ) (new address : ℕ) → is_label_address addresses new ≡ c → is_label_address (if c then addresses else addresses ++ new ∷ []) address ≡ (is_label_address addresses address || nat_eq new address)
-inserted false addresses new address e = pushed addresses new address
-inserted true addresses new address e = at (nat_eq new address) refl
-  where
-    at : (c : Bool) → nat_eq new address ≡ c → is_label_address addresses address ≡ (is_label_address addresses address || c)
-    at true same =
-        let there : is_label_address addresses address ≡ true = ap (is_label_address addresses) (sym (eqb-true new address same)) ∙ e in
-        there ∙ sym (ap (λ c. c || true) there)
-    at false same = sym (or_false (is_label_address addresses address))
+or_last : (b c : Bool) → cond b true c ≡ (c || b)
+or_last true true = refl
+or_last true false = refl
+or_last false true = refl
+or_last false false = refl
 
 -- one more address is named
-pub named_more : (list addresses : List ℕ) (k address : ℕ) → k < length list → ((a : ℕ) → is_label_address addresses a ≡ is_label_address (take k list) a) → is_label_address (insert_key nat_eq addresses (get_or list k 0)) address ≡ is_label_address (take (k + 1) list) address
-named_more list addresses k address within before =
-    let new = get_or list k 0 in
-    ap (λ (c : Bool). is_label_address (if c then addresses else addresses ++ new ∷ []) address) (found_in_set addresses new) ∙
-    (inserted (is_label_address addresses new) addresses new address refl ∙
-    (ap (λ c. c || nat_eq new address) (before address) ∙
-    (sym (pushed (take k list) new address) ∙ ap (λ ns. is_label_address ns address) (sym (take_more list k 0 within)))))
+pub named_more : (list old new : List ℕ) (k address : ℕ) → k < length list → ((a : ℕ) → list_any (is_at (nat_cmp a)) new ≡ cond (is_at (nat_cmp (get_or list k 0)) a) true (list_any (is_at (nat_cmp a)) old)) → ((a : ℕ) → is_label_address old a ≡ is_label_address (take k list) a) → is_label_address new address ≡ is_label_address (take (k + 1) list) address
+named_more list old new k address within added before =
+    let next = get_or list k 0 in
+    sym (found_in_set new address) ∙
+    (added address ∙
+    ((λ i. cond (sym (unsigned_ties next address) i) true ((found_in_set old address ∙ before address) i)) ∙
+    (or_last (nat_eq next address) (is_label_address (take k list) address) ∙
+    (sym (pushed (take k list) next address) ∙ ap (λ ns. is_label_address ns address) (sym (take_more list k 0 within))))))
 
 label_same : (xs ys : List ℕ) → ((address : ℕ) → is_label_address xs address ≡ is_label_address ys address) → (address : ℕ) → labels_at xs address ≡ labels_at ys address
 label_same xs ys same address = ap (λ (c : Bool). if c then with_no_line (what.Label (label_name address)) ∷ [] else []) (same address)
