@@ -8,6 +8,7 @@ Without a case all are tried at their sizes. PROGRAM is a built `dvm` (crates/dv
 status, processor seconds, megabytes and printed bytes, and behind the second line of a case by what power of the text's growth the time grew. A run
 past the limit (120 seconds) is stopped.
 """
+import itertools
 import math
 import os
 import resource
@@ -147,7 +148,40 @@ def cycle(count):
     return "".join(class_of(f"C{k}", f"LC{(k + 1) % count};") for k in range(count))
 
 
+# Pairs of pieces of names that have one hash in std's HashMap and in indexmap, which hash with a seed that is fixed (FoldHasher). A name's bytes are folded in one by one, and the
+# number of them before: state' = fold(state ^ 0x010101 * byte, 0x9e3779b97f4a7c15 ^ 2), where fold(a, b) is the xor of the halves of a * b. So two pieces that lead from one state to
+# one state can stand for each other, and these 16 pairs behind one another make 65,536 names with one hash. Each pair was searched for from the state behind the pairs before it, in names
+# of 112 bytes: of all six letters those whose states have seven or eight high bits 0 were kept in a table until two states differed only as a seventh letter can make up for (some
+# 40 million of them, half a minute of one processor).
+PAIRS = """
+AHLkZTd EzckJr$
+DcqfH7A EtAthbf
+CfIQ78A EU5KlTM
+B0EW5yA FVscjWT
+FBFSwdA FjWNiNU
+CRQMC5d F41eRw8
+ByPcExa B_QJsX6
+CU2jGnA G0FPjp2
+APSbXxb AlaJR39
+CgoSFyA F$noaJo
+C6DrtJA EK0i1jc
+B11Au6A Iz$GKi3
+EzvcAxd Hdt1Wu9
+FeQXYlA IJQ7aq6
+A16YpjA DQrCf7Q
+BWLAUkE Bo9n_$z
+""".split()
+
+
+def flood(count):
+    """Labels with one hash in maps that hash with that seed: each look-up went through all of them, where they were kept in such maps."""
+    pairs = list(zip(PAIRS[0::2], PAIRS[1::2]))
+    names = ("".join(pieces) for pieces in itertools.product(*pairs))
+    return main_class("".join(f":{name}\n" for name in itertools.islice(names, count)) + "return-void\n", 1)
+
+
 CASES = {
+    "flood": (flood, (2_048, 8_192, 32_768)),
     "dims": (dims, (1, 16, 254)),
     "rotate": (rotate, (16, 64, 254)),
     "heads": (heads, (4, 8, 16)),
