@@ -51,7 +51,8 @@ alone_not_by_workers (cmd.Demo number classes threads workers) alone by = by
 
 -- where a command is asked for, it isn't so that none is
 some_not_none : {A : Type 0} (o : Option A) → IsSome o → o ≡ None → ⊥
-some_not_none o some none = subst IsSome none some
+some_not_none None some none = absurd (cc)
+some_not_none (Some x) some none = absurd (cc)
 
 -- ---- answers
 

@@ -1,6 +1,7 @@
 -- What an answer owes of a run by workers, from what the run came to.
-use Rattle.std.proofs.Common.{◌≡◌, ◌≢◌, ℕ, zero, suc, ◌+◌, ◌++◌, Bool, List, [], take, All, Option, Some, None, inl, inr, arith, ap, refl, subst, sym, append_assoc, ◌∙◌}
+use Rattle.std.proofs.Common.{◌≡◌, ◌≢◌, ℕ, zero, suc, ◌+◌, ◌++◌, Bool, List, [], ◌∷◌, take, All, Option, Some, None, inl, inr, arith, ap, refl, subst, sym, append_assoc, ◌∙◌}
 use Rattle.std.specs.Prelude.{◌⊎◌}
+use Rattle.std.proofs.lemmas.List.Elements.{All-nil}
 use Rattle.dv_defs.specs.declared.names.MethodId.{MethodId}
 use Rattle.dv_defs.specs.declared.run.Entry.{Entry}
 use Rattle.dv_defs.specs.declared.run.Limits.{Limits}
@@ -40,7 +41,7 @@ use Rattle.dv_top.proofs.AnswerLemmas.{IsReplyTo, busy_not_idle, wanting_not_idl
 use Rattle.dv_top.proofs.AnsweringLemmas.{part_taken, partly_printed, printed}
 use Rattle.dv_top.proofs.EndedLemmas.{final_is}
 use Rattle.dv_top.proofs.RunLemmas.{not_idle, run_status}
-use Rattle.dv_top.proofs.RunningLemmas.{main_there, moved}
+use Rattle.dv_top.proofs.RunningLemmas.{main_found, main_there, moved}
 use Rattle.dv_top.proofs.Written.{after_none, after_two, took_more}
 
 -- ---- output
@@ -193,8 +194,7 @@ module _ {S K : Type 0} (left : S → Option (List ℕ)) (read_faults : S → �
     -- of the program that was found
     own_worked : (bytes : List ℕ) → (f : IsFound bytes (program_to_run class bytes) image number) → Each → IsWorked f.program.image f.main limits log shown (taken sink) (taken sink_after) status
     own_worked bytes f works =
-        let there : method_at image number.0 ≡ Some f.main = ap (λ (i : Image). method_at i number.0) f.image_is ∙ (ap (λ (n : MethodId). method_at f.program.image n.0) f.number_is ∙ f.accepted.has_main) in
-        moved (λ (i : Image) (l : Limits) es. IsWorked i f.main l es shown (taken sink) (taken sink_after) status) image f.program.image limits limits log log f.image_is refl refl (works f.main there)
+        moved (λ (i : Image) (l : Limits) es. IsWorked i f.main l es shown (taken sink) (taken sink_after) status) image f.program.image limits limits log log f.image_is refl refl (works f.main (main_found bytes (program_to_run class bytes) image number f))
 
     pub worked : HasMain image number.0 → Each → All IsOfWorker log → (status ≡ code_of exit.WriteFault → HasRisen (write_faults sink) (write_faults sink_after)) → left source_after ≡ after_taking (text_limit + 1) (left source) → ((bytes : List ℕ) → left source ≡ Some bytes → IsFound bytes (program_to_run class bytes) image number) → IsAnswer left read_faults taken write_faults asks source source_after sink sink_after log status
     worked h works entries risen read found =

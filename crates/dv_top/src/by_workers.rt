@@ -117,6 +117,7 @@ fn run_opened<R: Threads + Wait + Sync, K: Sink + Send + Drop, G: Gate + Sync>(
         memory,
     } = run_workers(rt, alloc, run, how.workers, gate, sink);
     drop(turns);
+    output_stands(&vm);
     let status = if fault {
         Status::WriteFault
     } else if memory {
@@ -129,6 +130,13 @@ fn run_opened<R: Threads + Wait + Sync, K: Sink + Send + Drop, G: Gate + Sync>(
         log: vm.into_log(),
         sink,
     }
+}
+
+/// What the engine has printed is what the state has printed to which the log leads: does nothing.
+fn output_stands(run: &SafeVm)
+    ensures { AtItsState run.now (λ main m. run.now.machine.shared.output ≡ m.shared.output) }
+{
+    let _ = run.vm();
 }
 
 /// Writes what stands behind the output of a run that has ended, and gives the status.

@@ -9,7 +9,7 @@ use Rattle.dv_top.proofs.by_workers.run_verified.Goals as goal
 pub returns-in-Ok-clause-worked : goal.returns-in-Ok-clause-worked
 returns-in-Ok-clause-worked g c m is =
     let v = c.args.verified.now in
-    let run = c.in-Ok.run in
+    let run = c.in-Ok.run' in
     let report = c.run_opened.result in
     let (program, main, limits) = c.in-Ok.ensures.program in
     moved (λ (i : Image) (l : Limits) es. IsWorked i m l es c.args.how.now.shown (g.K.Sink.taken c.args.sink) (g.K.Sink.taken report.sink) report.status) run.verified.image v.image run.machine.limits c.args.how.now.limits report.log.items report.log.items (image_of run.verified v program) limits refl (c.run_opened.ensures.worked m (main_of run.verified v run.main c.args.main m program main is))
