@@ -1,6 +1,6 @@
 -- What the parts of the reply to a class that is to be run give together.
-use Rattle.std.proofs.Common.{◌≡◌, ◌≢◌, ℕ, ◌++◌, ◌<◌, ◌≤◌, Bool, false, List, [], length, Option, Some, None, Ok, Err, Result, arith, ap, refl, sym, subst, ◌∙◌}
-use Rattle.std.specs.Prelude.{All, IfOk, OnErr, OnOk}
+use Rattle.std.proofs.Common.{◌≡◌, ◌≢◌, ℕ, ◌<◌, ◌≤◌, Bool, false, List, [], length, Option, Some, Ok, Err, Result, arith, ap, refl, sym, subst, ◌∙◌}
+use Rattle.std.specs.Prelude.{All, IfOk, OnErr}
 use Rattle.std.proofs.lemmas.List.Elements.{All-nil}
 use Rattle.dv_defs.specs.declared.faults.Fault.{Fault}
 use Rattle.dv_defs.specs.declared.names.MethodId.{MethodId}
@@ -19,7 +19,7 @@ use Rattle.dv_pverify.specs.declared.errors.VerifyError.TheVariants as verify
 use Rattle.dv_pverify.specs.Errors.{IfFaults}
 use Rattle.dv_rules.specs.Verified.{VerifiedValue}
 use Rattle.dv_machine.specs.Opening.{opening}
-use Rattle.dv_machine.specs.Replaying.{IsFinished, IsLegal, Stands, replay}
+use Rattle.dv_machine.specs.Replaying.{IsFinished, IsLegal, replay}
 use Rattle.dv_machine.specs.State.{Machine}
 use Rattle.dv_machine.specs.Mains.{HasMain}
 use Rattle.dv_sound.specs.Runs.{IsAt, IsAtSome, Run}

@@ -21,7 +21,7 @@ use Rattle.dv_words.specs.State.{WordMachine}
 use Rattle.dv_core.specs.declared.vm.Vm.{Vm}
 use Rattle.dv_core.specs.Machines.{machine_of}
 use Rattle.dv_sound.specs.Moves.{IsGood, StandsFor}
-use Rattle.dv_sound.specs.Runs.{IsAt, Run}
+use Rattle.dv_sound.specs.Runs.{Run}
 use Rattle.dv_final.specs.Final.{final_lines_of}
 use Rattle.dv_final.specs.Laws.{FinalLinesFollow}
 use Rattle.dv_workers.specs.Entries.{IsOfWorker}
@@ -106,6 +106,7 @@ module _ (image : Image) (main : Method) (limits : Limits) (log : List Entry) (s
       all : (xs : List ℕ) → (n : ℕ) × (take n xs ≡ xs)
       all [] = (0, refl)
       all (x ∷ xs) = let more = all xs in (suc more.0, ap (λ ys. x ∷ ys) more.1)
+
       whole_taken : after ≡ after_write m.shared.output before → TookPart before after m.shared.output
       whole_taken is = let n = all m.shared.output in (n.0, is ∙ ap (λ t. after_write t before) (sym n.1))
 

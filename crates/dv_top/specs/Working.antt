@@ -30,10 +30,10 @@ pub data IsFollowed
 -- a run: it has ended, and all that there is to print was written, or a front of it; or it stopped, and a front of its output was written
 pub data IsWorked
     (image : Image) (main : Method) (limits : Limits) (log : List Entry) (shown : Bool) (before after : Option (List ℕ)) (status : ℕ) : Type 0
-    where
-  Ended : (text : List ℕ) → IsRun image main limits log shown status text → after ≡ after_write text before
-      → IsWorked image main limits log shown before after status
-  PartlyEnded : (own : ℕ) (text : List ℕ) → IsRun image main limits log shown own text → TookPart before after text
-      → status ≡ code_of exit.WriteFault → IsWorked image main limits log shown before after status
-  Stopped : (machine : Machine) → replay image main limits log ≡ Stands machine → TookPart before after machine.shared.output
-      → (status ≡ code_of exit.WriteFault) ⊎ (status ≡ code_of exit.NoMemory) → IsWorked image main limits log shown before after status
+  where
+    Ended : (text : List ℕ) → IsRun image main limits log shown status text → after ≡ after_write text before
+        → IsWorked image main limits log shown before after status
+    PartlyEnded : (own : ℕ) (text : List ℕ) → IsRun image main limits log shown own text → TookPart before after text
+        → status ≡ code_of exit.WriteFault → IsWorked image main limits log shown before after status
+    Stopped : (machine : Machine) → replay image main limits log ≡ Stands machine → TookPart before after machine.shared.output
+        → (status ≡ code_of exit.WriteFault) ⊎ (status ≡ code_of exit.NoMemory) → IsWorked image main limits log shown before after status

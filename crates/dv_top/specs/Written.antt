@@ -8,10 +8,10 @@ use Rattle.dv_top.specs.Status.{code_of}
 -- the sink took all of it, or failed and took a front of it
 pub data IsWritten
     {K : Type 0} (taken : K → Option (List ℕ)) (faults : K → ℕ) (own : Status) (text : List ℕ) (sink sink_after : K) (status : Status) : Type 0
-    where
-  Whole : status ≡ own → taken sink_after ≡ after_write text (taken sink) → IsWritten taken faults own text sink sink_after status
-  Front : status ≡ exit.WriteFault → HasRisen (faults sink) (faults sink_after) → TookPart (taken sink) (taken sink_after) text
-      → IsWritten taken faults own text sink sink_after status
+  where
+    Whole : status ≡ own → taken sink_after ≡ after_write text (taken sink) → IsWritten taken faults own text sink sink_after status
+    Front : status ≡ exit.WriteFault → HasRisen (faults sink) (faults sink_after) → TookPart (taken sink) (taken sink_after) text
+        → IsWritten taken faults own text sink sink_after status
 
 -- the same of the number of a status
 pub record IsReported

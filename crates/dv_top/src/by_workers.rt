@@ -1,5 +1,5 @@
 // A class that is to be run by workers, of whose output they write.
-ghost use Rattle.std.specs.Prelude.{◌≡◌, ◌≢◌, ◌≤◌, ℕ, [], All, None as Nothing, Some};
+ghost use Rattle.std.specs.Prelude.{◌≡◌, ◌≢◌, ◌≤◌, [], All, None as Nothing, Some};
 ghost use Rattle.dv_defs.specs.Pools.{Method, method_at};
 ghost use Rattle.dv_console.specs.declared.command.Cmd.TheVariants as cmd;
 ghost use Rattle.dv_io.specs.Io.{HasRisen};
@@ -35,12 +35,7 @@ pub struct Working {
 }
 
 /// Reads the source, and runs a class of it.
-pub fn run_by_workers<
-    R: Threads + Wait + Sync,
-    S: Source,
-    K: Sink + Send + Drop,
-    G: Gate + Sync,
->(
+pub fn run_by_workers<R: Threads + Wait + Sync, S: Source, K: Sink + Send + Drop, G: Gate + Sync>(
     rt: &R,
     alloc: Global,
     class: &Text,

@@ -1,12 +1,10 @@
 // The reply to a text of which a class is to be run by the turns of a seed.
-ghost use Rattle.std.specs.Prelude.{◌≡◌, ◌≢◌, ℕ, List, [], All, IfOk, OnErr, OnOk, None as Nothing, Some};
+ghost use Rattle.std.specs.Prelude.{◌≡◌, ◌≢◌, ℕ, List, [], All, IfOk, Some};
 ghost use Rattle.dv_defs.specs.Pools.{Method, method_at};
 ghost use Rattle.dv_machine.specs.Replaying.{IsLegal};
-ghost use Rattle.dv_machine.specs.Running.{ending_of};
-ghost use Rattle.dv_machine.specs.State.{Machine};
 ghost use Rattle.dv_sound.specs.Moves.{AreUsable};
 ghost use Rattle.dv_machine.specs.Mains.{HasMain};
-ghost use Rattle.dv_sound.specs.Runs.{IsAt, IsAtSome, IsSameRun};
+ghost use Rattle.dv_sound.specs.Runs.{IsAtSome, IsSameRun};
 ghost use Rattle.dv_workers.specs.Entries.{IsOfWorker};
 ghost use Rattle.dv_top.specs.Answering.{IsIdle, IsLogOfRun, IsReadOf, IsTold};
 ghost use Rattle.dv_top.specs.Programs.{program_to_run};

@@ -1,4 +1,4 @@
-use Rattle.std.proofs.Common.{◌≡◌, ◌++◌, ap, ◌∙◌}
+use Rattle.std.proofs.Common.{◌++◌, ap, ◌∙◌}
 use Rattle.dv_words.specs.State.{WordMachine}
 use Rattle.dv_top.specs.Working.{tail_of}
 use Rattle.dv_top.proofs.EndedLemmas.{run_is}
