@@ -2,9 +2,9 @@
 use Rattle.std.proofs.Common.{◌≡◌, ℕ, ◌+◌, ◌<◌, ◌≤◌, List, length, take, Option, Some, None, Result, Ok, Err, arith, ap, sym, refl, ◌∙◌}
 use Rattle.std.proofs.lemmas.List.{take_all, length-take}
 use Rattle.dv_defs.specs.declared.run.Entry.{Entry}
-use Rattle.dv_io.specs.Io.{after_write}
+use Rattle.dv_console.specs.declared.command.Cmd.{Cmd}
+use Rattle.dv_io.specs.Io.{TookPart, after_write}
 use Rattle.dv_top.specs.Answering.{HasTaken, IsPartlyPrinted, IsPrinted, IsReadOf}
-use Rattle.dv_top.specs.Pieces.{TookPart}
 use Rattle.dv_top.specs.Said.{IsSaid, text_limit}
 
 -- ---- texts
@@ -52,11 +52,11 @@ large_or_small n many few = absurd (omega arith)
 
 -- ---- what the sink took
 
-pub printed : (words : List (List ℕ)) (bytes : List ℕ) (log : List Entry) (status : ℕ) (text written : List ℕ) (before after : Option (List ℕ)) → IsSaid words bytes log status text → written ≡ text → after ≡ after_write written before → IsPrinted words bytes log status before after
-printed words bytes log status text written before after said same took = record { text = text; said = said; took = took ∙ ap (λ t. after_write t before) same }
+pub printed : (asked : Option Cmd) (bytes : List ℕ) (log : List Entry) (status : ℕ) (text : List ℕ) (before after : Option (List ℕ)) → IsSaid asked bytes log status text → after ≡ after_write text before → IsPrinted asked bytes log status before after
+printed asked bytes log status text before after said took = record { text = text; said = said; took = took }
 
-pub partly_printed : (words : List (List ℕ)) (bytes : List ℕ) (log : List Entry) (status : ℕ) (text written : List ℕ) (before after : Option (List ℕ)) → IsSaid words bytes log status text → written ≡ text → TookPart before after written → IsPartlyPrinted words bytes log before after
-partly_printed words bytes log status text written before after said same (n, took) = record { status = status; text = text; said = said; count = n; took = took ∙ ap (λ t. after_write (take n t) before) same }
+pub partly_printed : (asked : Option Cmd) (bytes : List ℕ) (log : List Entry) (status : ℕ) (text : List ℕ) (before after : Option (List ℕ)) → IsSaid asked bytes log status text → TookPart before after text → IsPartlyPrinted asked bytes log before after
+partly_printed asked bytes log status text before after said (n, took) = record { status = status; text = text; said = said; count = n; took = took }
 
 pub part_taken : (before after : Option (List ℕ)) (text : List ℕ) → TookPart before after text → HasTaken before after
 part_taken before after text (n, took) = (take n text, took)

@@ -1,5 +1,5 @@
 -- What a run that has ended tells, by the state at which its engine stands.
-use Rattle.std.proofs.Common.{◌≡◌, ℕ, ◌++◌, Bool, List, [], ◌∷◌, length, Some, arith, ap, refl, sym, ◌∙◌}
+use Rattle.std.proofs.Common.{◌≡◌, ◌≢◌, ℕ, ◌++◌, Bool, false, List, [], ◌∷◌, length, Option, None, Some, arith, ap, refl, ◌∙◌}
 use Rattle.std.specs.Prelude.{slice_get}
 use Rattle.std.specs.List.{AllZip}
 use Rattle.dv_defs.specs.declared.machine.End.{End}
@@ -21,8 +21,10 @@ use Rattle.dv_sound.specs.Runs.{IsAt, Run}
 use Rattle.dv_final.specs.Final.{final_lines_of}
 use Rattle.dv_final.specs.Laws.{FinalLinesFollow}
 use Rattle.dv_top.specs.declared.status.Status.{Status}
-use Rattle.dv_top.specs.Runs.{IsRun, end_of, shown_schedule, status_by}
+use Rattle.dv_top.specs.declared.status.Status.TheVariants as exit
+use Rattle.dv_top.specs.Runs.{IsRun, end_of, shown_schedule, status_of}
 use Rattle.dv_top.specs.Status.{code_of}
+use Rattle.dv_top.proofs.RunLemmas.{run_status}
 
 first_by : (ss : List WordStack) (es : List End) (os : List ℕ) (ts : List Thread) → length es ≡ length ss → length os ≡ length ss → AllZip ThreadStands (zipped ss es os) ts → slice_get es 0 ≡ end_of (slice_get ts 0)
 first_by [] [] os [] ends objects stand = refl
@@ -44,7 +46,19 @@ pub final_is : (image : Image) (T : Typings) (v : Vm) (m : Machine) (output line
 final_is image T v m output lines law is good at prints tells =
     ap (λ o. o ++ lines) (prints ∙ at.simulated.stands.shared.output) ∙ (ap (λ l. m.shared.output ++ l) tells ∙ law image T (machine_of v) m is good.accepted at.simulated)
 
+-- an ending that isn't none
+some_of : {A : Type 0} (o : Option A) → o ≢ None → (x : A) × (o ≡ Some x)
+some_of None not = absurd (not refl)
+some_of (Some x) not = (x, refl)
+
 -- a run that stands at an ending
-pub run_is : (r : Run) (main : Method) (m : Machine) (e : Ending) (status : Status) (shown : Bool) (text : List ℕ) → IsAt r main m → Some e ≡ ending_of r.verified.image m → status ≡ status_by e (end_of (slice_get m.threads 0)) → text ≡ final_text r.verified.image m ++ shown_schedule shown r.log → IsRun r.verified.image main r.machine.limits r.log shown (code_of status) text
-run_is r main m e status shown text at ends tells prints =
-    record { machine = m; replayed = at.replayed; ending = e; ends = sym ends; tells = ap code_of tells; prints = prints }
+pub run_is : (r : Run) (main : Method) (m : Machine) (status : Status) (shown : Bool) (text : List ℕ) → IsAt r main m → ending_of r.verified.image m ≢ None → ((e : Ending) → ending_of r.verified.image m ≡ Some e → status ≡ status_of m e) → text ≡ final_text r.verified.image m ++ shown_schedule shown r.log → IsRun r.verified.image main r.machine.limits r.log shown (code_of status) text
+run_is r main m status shown text at ended tells prints =
+    let (e, is) = some_of (ending_of r.verified.image m) ended in
+    record { machine = m; replayed = at.replayed; ending = e; ends = is; tells = ap code_of (tells e is); prints = prints }
+
+-- no write failed
+pub run_is_good : (r : Run) (main : Method) (m : Machine) (status : Status) → IsAt r main m → ending_of r.verified.image m ≢ None → ((e : Ending) → ending_of r.verified.image m ≡ Some e → status ≡ status_of m e) → status ≢ exit.WriteFault
+run_is_good r main m status at ended tells fault =
+    let run = run_is r main m status false (final_text r.verified.image m ++ shown_schedule false r.log) at ended tells refl in
+    (run_status r.verified.image main r.machine.limits r.log false (code_of status) _ run).good_sink (ap code_of fault)

@@ -4,10 +4,10 @@ use Rattle.dv_defs.specs.declared.run.Entry.{Entry}
 use Rattle.dv_defs.specs.declared.run.Limits.{Limits}
 use Rattle.dv_typing.specs.Accepting.{Accepts}
 use Rattle.dv_defs.specs.Pools.{Method}
+use Rattle.dv_console.specs.declared.command.Cmd.TheVariants as cmd
 use Rattle.dv_console.specs.declared.refusals.Refusal.{Refusal}
 use Rattle.dv_top.specs.declared.program.Program.{Program}
 use Rattle.dv_top.specs.declared.status.Status.TheVariants as exit
-use Rattle.dv_top.specs.declared.words.Command.TheVariants as command
 use Rattle.dv_top.specs.Laws.{HasRefusedSchedule, IsJudged, ReplaysAreJudged, RunsAreJudged, VerdictsAreExact}
 use Rattle.dv_top.specs.Programs.{program_to_replay, program_to_run}
 use Rattle.dv_top.specs.Runs.{IsRun}
@@ -19,7 +19,7 @@ use Rattle.dv_top.proofs.SaidOnce.{run_moved, run_or_not, said_of_asked, same_ma
 use Rattle.dv_top.proofs.VerifyingLemmas.{is_verdict}
 
 pub verdicts_are_exact : VerdictsAreExact
-verdicts_are_exact words bytes log status text asked few is = is_verdict bytes status text few (said_of_asked words command.Verify bytes log status text asked is)
+verdicts_are_exact asked bytes log status text is few said = is_verdict bytes status text few (said_of_asked asked cmd.Verify bytes log status text is said)
 
 module _ (bytes : List ℕ) (found : Result Program Refusal) where
   not_run_judged : (status : ℕ) (text : List ℕ) → length bytes ≤ text_limit → IsSaidOfNoRun bytes found status text → IsJudged found status
@@ -46,13 +46,13 @@ module _ (bytes : List ℕ) (found : Result Program Refusal) where
       }
 
 pub runs_are_judged : RunsAreJudged
-runs_are_judged words bytes log status text class seed limits shown asked few said = by (said_of_asked words (command.Run class seed limits shown) bytes log status text asked said)
+runs_are_judged asked bytes log status text class workers seed limits shown is few said = by (said_of_asked asked (cmd.Run class workers seed limits shown) bytes log status text is said)
   where
     by : IsSaidOfRun bytes (program_to_run class bytes) seed limits shown log status text → IsJudged (program_to_run class bytes) status
     by (NotRun r) = not_run_judged bytes (program_to_run class bytes) status text few r
-    by (Ran p main is turns r) =
+    by (Ran p main accepted turns r) =
         let ran = run_status p.image main limits log shown status text r in
-        accepted_judged bytes (program_to_run class bytes) status p main is ran.good_text ran.accepted
+        accepted_judged bytes (program_to_run class bytes) status p main accepted ran.good_text ran.accepted
 
 module _ (bytes : List ℕ) (found : Result Program Refusal) (limits : Limits) (few : length bytes ≤ text_limit) where
   not_scheduled : (status : ℕ) (text : List ℕ) → IsSaidOfNoRun bytes found status text → status ≡ code_of exit.Schedule → ⊥
@@ -83,5 +83,5 @@ module _ (bytes : List ℕ) (found : Result Program Refusal) (limits : Limits) (
       )
 
 pub replays_are_judged : ReplaysAreJudged
-replays_are_judged words bytes log status text class limits asked few said =
-    replay_judged bytes (program_to_replay class bytes) limits few log status text (said_of_asked words (command.Replay class limits) bytes log status text asked said)
+replays_are_judged asked bytes log status text class limits is few said =
+    replay_judged bytes (program_to_replay class bytes) limits few log status text (said_of_asked asked (cmd.Replay class limits) bytes log status text is said)

@@ -12,4 +12,5 @@ pub mod Schedules
 pub mod Usable
 pub mod VerifyingLemmas
 pub mod FaultParts
+pub mod WorkingLemmas
 pub mod Written

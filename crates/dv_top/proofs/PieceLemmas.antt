@@ -1,20 +1,10 @@
--- Pieces that are read or written one after another.
-use Rattle.std.proofs.Common.{◌≡◌, ℕ, ◌+◌, ◌≤◌, List, [], ◌++◌, length, take, drop, refl, ap, sym, ◌∙◌, append_assoc, arith, Option, Some, None, IfSome, length-append, length-drop, subst}
+-- Pieces that are read one after another.
+use Rattle.std.proofs.Common.{◌≡◌, ℕ, ◌+◌, ◌≤◌, List, [], ◌++◌, length, take, drop, refl, ap, sym, ◌∙◌, arith, Option, Some, None, IfSome, length-append, length-drop, subst}
 use Rattle.std.proofs.Math.Seq.{take-add}
 use Rattle.std.proofs.lemmas.List.{drop-drop, drop_all, take_all, length-take-le}
-use Rattle.std.proofs.lemmas.Grind.{common_steps}
-use Rattle.dv_io.specs.Io.{after_write, after_taking, Copies}
+use Rattle.dv_io.specs.Io.{after_taking, Copies}
 use Rattle.dv_top.specs.Pieces.{ReadSoFar}
 use Rattle.dv_top.specs.Said.{text_limit}
-
--- a piece written after the front is a longer front
-pub after_write-more : (text : List ℕ) (at n : ℕ) (old : Option (List ℕ)) → after_write (take n (drop at text)) (after_write (take at text) old) ≡ after_write (take (at + n) text) old
-after_write-more text at n None = refl
-after_write-more text at n (Some bytes) = ap Some (append_assoc bytes (take at text) (take n (drop at text)) ∙ ap (λ t. bytes ++ t) (sym (take-add at n text)))
-
-pub after_write-none : (text : List ℕ) (old : Option (List ℕ)) → after_write (take 0 text) old ≡ old
-after_write-none text None = refl
-after_write-none text (Some bytes) = grind (arith, common_steps)
 
 pub read_none : (old : Option (List ℕ)) → ReadSoFar old old []
 read_none None = record { left = refl; front = tt }

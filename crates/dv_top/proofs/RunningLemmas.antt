@@ -1,6 +1,6 @@
 -- What the parts of the reply to a class that is to be run give together.
-use Rattle.std.proofs.Common.{◌≡◌, ◌≢◌, ℕ, ◌++◌, ◌<◌, ◌≤◌, Bool, false, List, [], length, Option, Some, None, Ok, Err, Result, arith, ap, refl, sym, subst, ◌∙◌}
-use Rattle.std.specs.Prelude.{All, IfOk, OnErr, OnOk}
+use Rattle.std.proofs.Common.{◌≡◌, ◌≢◌, ℕ, ◌<◌, ◌≤◌, Bool, false, List, [], length, Option, Some, Ok, Err, Result, arith, ap, refl, sym, subst, ◌∙◌}
+use Rattle.std.specs.Prelude.{All, IfOk, OnErr}
 use Rattle.std.proofs.lemmas.List.Elements.{All-nil}
 use Rattle.dv_defs.specs.declared.faults.Fault.{Fault}
 use Rattle.dv_defs.specs.declared.names.MethodId.{MethodId}
@@ -19,45 +19,23 @@ use Rattle.dv_pverify.specs.declared.errors.VerifyError.TheVariants as verify
 use Rattle.dv_pverify.specs.Errors.{IfFaults}
 use Rattle.dv_rules.specs.Verified.{VerifiedValue}
 use Rattle.dv_machine.specs.Opening.{opening}
-use Rattle.dv_machine.specs.Replaying.{IsFinished, IsLegal, Stands, replay}
+use Rattle.dv_machine.specs.Replaying.{IsFinished, IsLegal, replay}
 use Rattle.dv_machine.specs.State.{Machine}
 use Rattle.dv_machine.specs.Mains.{HasMain}
-use Rattle.dv_sound.specs.Runs.{IsAt, IsAtSome, LeadsLowest, RanLowest, Run}
+use Rattle.dv_sound.specs.Runs.{IsAt, IsAtSome, Run}
 use Rattle.dv_top.specs.declared.program.Program.{Program}
 use Rattle.dv_top.specs.declared.reply.Reply.{Reply}
 use Rattle.dv_top.specs.declared.status.Status.{Status}
 use Rattle.dv_top.specs.declared.status.Status.TheVariants as exit
-use Rattle.dv_top.specs.Answering.{IsEntry, IsIdle, IsLogOfReplay, IsLogOfRun, IsReadOf, IsTold}
+use Rattle.dv_workers.specs.Entries.{IsOfWorker}
+use Rattle.dv_top.specs.Answering.{IsIdle, IsLogOfReplay, IsLogOfRun, IsReadOf, IsTold}
+use Rattle.dv_top.specs.Preparing.{IsFound}
 use Rattle.dv_top.specs.Runs.{AreFirstTurns, AreTurns, IsRun}
 use Rattle.dv_top.specs.Said.{IsAccepted, IsSaidOfNoRun, IsSaidOfReplay, IsSaidOfRun, NoProgram, Ran, Refused, Replayed as IsReplayed, ScheduleRefused, TooLarge, fault_lines, text_limit, too_large}
 use Rattle.dv_top.specs.Scheduling.{IsReplyOfReplay, Refuses, Runs}
 use Rattle.dv_top.specs.Status.{code_of}
 use Rattle.dv_top.proofs.AnsweringLemmas.{found_in, read_past, same_some}
 use Rattle.dv_top.proofs.RunLemmas.{not_idle, run_status, told_of_run}
-
--- ---- turns
-
--- as a run begins it stands at the opening
-opens_at : (r : Run) (main : Method) (m : Machine) → r.log ≡ [] → IsAt r main m → m ≡ opening r.verified.image main r.machine.limits
-opens_at r main m none at =
-    let stands : Stands (opening r.verified.image main r.machine.limits) ≡ Stands m = ap (λ log. replay r.verified.image main r.machine.limits log) (sym none) ∙ at.replayed in
-    cc
-
--- turns of the lowest thread, from there on
-pub lowest_turns : (old new : Run) (main : Method) (m : Machine) → old.log ≡ [] → IsAt old main m → RanLowest old new main m → AreTurns None old.verified.image main old.machine.limits new.log
-lowest_turns old new main m none at ran =
-    let all : new.log ≡ ran.turns = ran.logs ∙ ap (λ log. log ++ ran.turns) none in
-    let P : List Entry → Machine → Type 0 = λ log k. LeadsLowest old.verified.image log k ran.after in
-    (ran.after, subst (λ (log : List Entry). P log (opening old.verified.image main old.machine.limits)) (sym all) (subst (P ran.turns) (opens_at old main m none at) ran.leads))
-
--- what holds in any case holds of each answer
-pub always_ok : {X E : Type 0} (r : Result X E) (P : Type 0) → P → OnOk r P
-always_ok (Ok x) P is = is
-always_ok (Err e) P is = tt
-
-pub always_err : {X E : Type 0} (r : Result X E) (P : Type 0) → P → OnErr r P
-always_err (Ok x) P is = tt
-always_err (Err e) P is = is
 
 -- ---- where a run stands
 
@@ -120,22 +98,28 @@ said_large bytes text found status reply read many (told, prints) = TooLarge (re
 
 -- ---- programs that are run
 
-module _ (bytes : List ℕ) (found : Result Program Refusal) (p : Program) (image : Image) (same : image ≡ p.image) (seed : Option ℕ) (limits : Limits) (log : List Entry) where
-  pub said_ran : (h : HasMain p.image p.main.0) (shown : Bool) (status : ℕ) (text : List ℕ) → length bytes ≤ text_limit → found ≡ Ok p → Accepts p.image → AreTurns seed image h.method limits log × IsRun image h.method limits log shown status text → IsSaidOfRun bytes found seed limits shown log status text
-  said_ran h shown status text small is holds (turns, run) =
-      Ran p h.method (accepted_is bytes found p h small is holds)
-      (moved (λ (i : Image) (l : Limits) es. AreTurns seed i h.method l es) image p.image limits limits log log same refl refl turns)
-      (moved (λ (i : Image) (l : Limits) es. IsRun i h.method l es shown status text) image p.image limits limits log log same refl refl run)
+module _ (bytes : List ℕ) (found : Result Program Refusal) (image : Image) (number : MethodId) (f : IsFound bytes found image number) where
+  -- the main method of one that is found
+  pub main_found : method_at image number.0 ≡ Some f.main
+  main_found =
+      ap (λ (i : Image). method_at i number.0) f.image_is ∙ (ap (λ (n : MethodId). method_at f.program.image n.0) f.number_is ∙ f.accepted.has_main)
 
-  pub log_of_run : (h : HasMain p.image p.main.0) → length bytes ≤ text_limit → found ≡ Ok p → Accepts p.image → IsLegal image h.method limits log × AreFirstTurns seed image h.method limits log → IsLogOfRun bytes found seed limits log
-  log_of_run h small is holds (legal, turns) =
-      record {
-        program = p;
-        main = h.method;
-        accepted = accepted_is bytes found p h small is holds;
-        legal = moved (λ (i : Image) (l : Limits) es. IsLegal i h.method l es) image p.image limits limits log log same refl refl legal;
-        turns = moved (λ (i : Image) (l : Limits) es. AreFirstTurns seed i h.method l es) image p.image limits limits log log same refl refl turns;
-      }
+  module _ (seed : Option ℕ) (limits : Limits) (log : List Entry) where
+    pub said_ran : (shown : Bool) (status : ℕ) (text : List ℕ) → AreTurns seed image f.main limits log × IsRun image f.main limits log shown status text → IsSaidOfRun bytes found seed limits shown log status text
+    said_ran shown status text (turns, run) =
+        Ran f.program f.main f.accepted
+        (moved (λ (i : Image) (l : Limits) es. AreTurns seed i f.main l es) image f.program.image limits limits log log f.image_is refl refl turns)
+        (moved (λ (i : Image) (l : Limits) es. IsRun i f.main l es shown status text) image f.program.image limits limits log log f.image_is refl refl run)
+
+    pub log_of_run : IsLegal image f.main limits log × AreFirstTurns seed image f.main limits log → IsLogOfRun bytes found seed limits log
+    log_of_run (legal, turns) =
+        record {
+          program = f.program;
+          main = f.main;
+          accepted = f.accepted;
+          legal = moved (λ (i : Image) (l : Limits) es. IsLegal i f.main l es) image f.program.image limits limits log log f.image_is refl refl legal;
+          turns = moved (λ (i : Image) (l : Limits) es. AreFirstTurns seed i f.main l es) image f.program.image limits limits log log f.image_is refl refl turns;
+        }
 
 -- ---- programs that are replayed
 
@@ -179,11 +163,11 @@ module _ (image : Image) (m : Method) (limits : Limits) (schedule log : List Ent
   idle_of_replay (Refuses refused told none) idle = none
   idle_of_replay (Runs given run) idle = absurd (not_idle status (run_status image m limits schedule false status text run) idle)
 
-  entries_of : All IsEntry schedule → IsReplyOfReplay image m limits schedule log status text → All IsEntry log
-  entries_of each (Refuses refused told none) = subst (All IsEntry) (sym none) (All-nil IsEntry)
-  entries_of each (Runs given run) = subst (All IsEntry) (sym given) each
+  entries_of : All IsOfWorker schedule → IsReplyOfReplay image m limits schedule log status text → All IsOfWorker log
+  entries_of each (Refuses refused told none) = subst (All IsOfWorker) (sym none) (All-nil IsOfWorker)
+  entries_of each (Runs given run) = subst (All IsOfWorker) (sym given) each
 
 -- of an empty log too
-pub entries_of_replay : {E : Type 0} (result : Result Reply E) (image : Image) (m : Method) (limits : Limits) (schedule log : List Entry) → All IsEntry schedule → IfOk result (λ reply. IsReplyOfReplay image m limits schedule log (code_of reply.status) reply.text.items) → OnErr result (log ≡ []) → All IsEntry log
+pub entries_of_replay : {E : Type 0} (result : Result Reply E) (image : Image) (m : Method) (limits : Limits) (schedule log : List Entry) → All IsOfWorker schedule → IfOk result (λ reply. IsReplyOfReplay image m limits schedule log (code_of reply.status) reply.text.items) → OnErr result (log ≡ []) → All IsOfWorker log
 entries_of_replay (Ok reply) image m limits schedule log each r none = entries_of image m limits schedule log (code_of reply.status) reply.text.items each r
-entries_of_replay (Err e) image m limits schedule log each r none = subst (All IsEntry) (sym none) (All-nil IsEntry)
+entries_of_replay (Err e) image m limits schedule log each r none = subst (All IsOfWorker) (sym none) (All-nil IsOfWorker)

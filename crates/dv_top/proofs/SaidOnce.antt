@@ -14,6 +14,8 @@ use Rattle.dv_lex.specs.Lines.{reading_of}
 use Rattle.dv_print.specs.Listing.{class_text}
 use Rattle.dv_classread.specs.declared.text.Read.{Read}
 use Rattle.dv_classread.specs.Programs.{program_of}
+use Rattle.dv_console.specs.declared.command.Cmd.{Cmd}
+use Rattle.dv_console.specs.declared.command.Cmd.TheVariants as cmd
 use Rattle.dv_console.specs.declared.refusals.Refusal.{Refusal}
 use Rattle.dv_console.specs.declared.refusals.Refusal.TheVariants as refusal
 use Rattle.dv_console.specs.Refusals.{refusal_text}
@@ -26,14 +28,11 @@ use Rattle.dv_machine.specs.Running.{ending_of}
 use Rattle.dv_machine.specs.State.{Machine}
 use Rattle.dv_top.specs.declared.program.Program.{Program}
 use Rattle.dv_top.specs.declared.status.Status.TheVariants as exit
-use Rattle.dv_top.specs.declared.words.Command.{Command}
-use Rattle.dv_top.specs.declared.words.Command.TheVariants as command
 use Rattle.dv_top.specs.Programs.{of_image, of_scheduled, program_to_replay, program_to_run, with_main}
 use Rattle.dv_top.specs.Runs.{IsRun, refused_line, shown_schedule, status_of}
 use Rattle.dv_top.specs.Laws.{IsSaidOnce}
 use Rattle.dv_top.specs.Said.{BadText, IsAccepted, IsReply, IsSaid, IsSaidOfListing, IsSaidOfNoRun, IsSaidOfReplay, IsSaidOfRun, IsSaidOfVerifying, Listed, NoProgram, NotReplayed, NotRun, Ran, Refused, Replayed as IsReplayed, ScheduleRefused, ToBeListed, ToBeReplayed, ToBeRun, ToBeVerified, TooLarge, TooLargeToList, Unread, fault_lines, usage}
 use Rattle.dv_top.specs.Status.{code_of}
-use Rattle.dv_top.specs.Words.{asked_in}
 use Rattle.dv_top.proofs.AnsweringLemmas.{large_or_small, ok_or_err, same_err, same_ok, same_some}
 use Rattle.dv_top.proofs.RunLemmas.{not_refused}
 use Rattle.dv_top.proofs.VerifyingLemmas.{verified_once}
@@ -185,38 +184,40 @@ listed_once bytes s t a b (Listed few read gives r) (Listed _ other again q) =
     let same : read ≡ other = same_ok (program_of false (reading_of bytes)) read other gives again in
     (r.0 ∙ sym q.0, r.1 ∙ (ap (λ (p : Read). flat_map class_text p.classes) same ∙ sym q.1))
 
--- ---- words
+-- ---- commands
 
 -- what is said of a command
-abbrev pub IsSaidOf : Option Command → List ℕ → List Entry → ℕ → List ℕ → Type 0
+abbrev pub IsSaidOf : Option Cmd → List ℕ → List Entry → ℕ → List ℕ → Type 0
 IsSaidOf None bytes log status text = IsReply exit.Usage usage status text
-IsSaidOf (Some (command.Run class seed limits shown)) bytes log status text = IsSaidOfRun bytes (program_to_run class bytes) seed limits shown log status text
-IsSaidOf (Some (command.Replay class limits)) bytes log status text = IsSaidOfReplay bytes (program_to_replay class bytes) limits log status text
-IsSaidOf (Some command.List) bytes log status text = IsSaidOfListing bytes status text
-IsSaidOf (Some command.Verify) bytes log status text = IsSaidOfVerifying bytes status text
+IsSaidOf (Some (cmd.Run class workers seed limits shown)) bytes log status text = IsSaidOfRun bytes (program_to_run class bytes) seed limits shown log status text
+IsSaidOf (Some (cmd.Replay class limits)) bytes log status text = IsSaidOfReplay bytes (program_to_replay class bytes) limits log status text
+IsSaidOf (Some cmd.List) bytes log status text = IsSaidOfListing bytes status text
+IsSaidOf (Some cmd.Verify) bytes log status text = IsSaidOfVerifying bytes status text
+IsSaidOf (Some (cmd.Demo number classes threads workers)) bytes log status text = ⊥
 
 -- a command that is named twice
-named_twice : (o c : Option Command) (bytes : List ℕ) (log : List Entry) (status : ℕ) (text : List ℕ) → o ≡ c → IsSaidOf c bytes log status text → IsSaidOf o bytes log status text
-named_twice o c bytes log status text same is = subst (λ (x : Option Command). IsSaidOf x bytes log status text) (sym same) is
+named_twice : (o c : Option Cmd) (bytes : List ℕ) (log : List Entry) (status : ℕ) (text : List ℕ) → o ≡ c → IsSaidOf c bytes log status text → IsSaidOf o bytes log status text
+named_twice o c bytes log status text same is = subst (λ (x : Option Cmd). IsSaidOf x bytes log status text) (sym same) is
 
--- what is said is said of the command that the words ask for
-pub said_of : (words : List (List ℕ)) (bytes : List ℕ) (log : List Entry) (status : ℕ) (text : List ℕ) → IsSaid words bytes log status text → IsSaidOf (asked_in words) bytes log status text
-said_of words bytes log status text (Unread none r) = named_twice (asked_in words) None bytes log status text none r
-said_of words bytes log status text (ToBeRun class seed limits shown asked r) = named_twice (asked_in words) (Some (command.Run class seed limits shown)) bytes log status text asked r
-said_of words bytes log status text (ToBeReplayed class limits asked r) = named_twice (asked_in words) (Some (command.Replay class limits)) bytes log status text asked r
-said_of words bytes log status text (ToBeListed asked r) = named_twice (asked_in words) (Some command.List) bytes log status text asked r
-said_of words bytes log status text (ToBeVerified asked r) = named_twice (asked_in words) (Some command.Verify) bytes log status text asked r
+-- what is said is said of the command that is asked for
+pub said_of : (asked : Option Cmd) (bytes : List ℕ) (log : List Entry) (status : ℕ) (text : List ℕ) → IsSaid asked bytes log status text → IsSaidOf asked bytes log status text
+said_of asked bytes log status text (Unread none r) = named_twice asked None bytes log status text none r
+said_of asked bytes log status text (ToBeRun class workers seed limits shown is r) = named_twice asked (Some (cmd.Run class workers seed limits shown)) bytes log status text is r
+said_of asked bytes log status text (ToBeReplayed class limits is r) = named_twice asked (Some (cmd.Replay class limits)) bytes log status text is r
+said_of asked bytes log status text (ToBeListed is r) = named_twice asked (Some cmd.List) bytes log status text is r
+said_of asked bytes log status text (ToBeVerified is r) = named_twice asked (Some cmd.Verify) bytes log status text is r
 
-of_one : (o : Option Command) (bytes : List ℕ) (log : List Entry) (s t : ℕ) (a b : List ℕ) → IsSaidOf o bytes log s a → IsSaidOf o bytes log t b → Same s a t b
+of_one : (o : Option Cmd) (bytes : List ℕ) (log : List Entry) (s t : ℕ) (a b : List ℕ) → IsSaidOf o bytes log s a → IsSaidOf o bytes log t b → Same s a t b
 of_one None bytes log s t a b r q = (r.0 ∙ sym q.0, r.1 ∙ sym q.1)
-of_one (Some (command.Run class seed limits shown)) bytes log s t a b r q = ran_once bytes (program_to_run class bytes) seed limits shown log (images_of_run class bytes) s t a b r q
-of_one (Some (command.Replay class limits)) bytes log s t a b r q = replayed_once bytes (program_to_replay class bytes) limits log (images_of_replay class bytes) s t a b r q
-of_one (Some command.List) bytes log s t a b r q = listed_once bytes s t a b r q
-of_one (Some command.Verify) bytes log s t a b r q = verified_once bytes s t a b r q
+of_one (Some (cmd.Run class workers seed limits shown)) bytes log s t a b r q = ran_once bytes (program_to_run class bytes) seed limits shown log (images_of_run class bytes) s t a b r q
+of_one (Some (cmd.Replay class limits)) bytes log s t a b r q = replayed_once bytes (program_to_replay class bytes) limits log (images_of_replay class bytes) s t a b r q
+of_one (Some cmd.List) bytes log s t a b r q = listed_once bytes s t a b r q
+of_one (Some cmd.Verify) bytes log s t a b r q = verified_once bytes s t a b r q
+of_one (Some (cmd.Demo number classes threads workers)) bytes log s t a b r q = absurd r
 
 pub said_once : IsSaidOnce
-said_once words bytes log s t a b one other = of_one (asked_in words) bytes log s t a b (said_of words bytes log s a one) (said_of words bytes log t b other)
+said_once asked bytes log s t a b one other = of_one asked bytes log s t a b (said_of asked bytes log s a one) (said_of asked bytes log t b other)
 
--- what is said of words that ask for a command
-pub said_of_asked : (words : List (List ℕ)) (c : Command) (bytes : List ℕ) (log : List Entry) (status : ℕ) (text : List ℕ) → asked_in words ≡ Some c → IsSaid words bytes log status text → IsSaidOf (Some c) bytes log status text
-said_of_asked words c bytes log status text asked is = subst (λ (x : Option Command). IsSaidOf x bytes log status text) asked (said_of words bytes log status text is)
+-- what is said where a command is asked for
+pub said_of_asked : (asked : Option Cmd) (c : Cmd) (bytes : List ℕ) (log : List Entry) (status : ℕ) (text : List ℕ) → asked ≡ Some c → IsSaid asked bytes log status text → IsSaidOf (Some c) bytes log status text
+said_of_asked asked c bytes log status text same is = subst (λ (x : Option Cmd). IsSaidOf x bytes log status text) same (said_of asked bytes log status text is)

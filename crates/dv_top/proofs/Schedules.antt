@@ -27,7 +27,7 @@ use Rattle.dv_classread.specs.Schedules.{Cut, and_entry, cut_at_schedule, end_wi
 use Rattle.dv_console.specs.declared.refusals.Refusal.{Refusal}
 use Rattle.dv_load.specs.declared.program.Scheduled.{Scheduled}
 use Rattle.dv_load.specs.Images.{by_scheduled, image_of, scheduled_in, with_log}
-use Rattle.dv_top.specs.Answering.{IsEntry}
+use Rattle.dv_workers.specs.Entries.{IsOfWorker}
 
 -- ---- what is read behind what
 
@@ -58,11 +58,11 @@ field_within : (low high : ℕ) (p : Piece) → IsWithin low high (field_in low 
 field_within low high (AWord w) = number_within low high (literal_in 64 w)
 field_within low high p = tt
 
-fields_are : (w t s : Option ℕ) → IsWithin 0 7 w → IsWithin 0 63 t → IsWithin 1 256 s → IfOk (entry_by w t s) IsEntry
+fields_are : (w t s : Option ℕ) → IsWithin 0 7 w → IsWithin 0 63 t → IsWithin 1 256 s → IfOk (entry_by w t s) IsOfWorker
 fields_are (Some w) (Some t) (Some s) worker thread steps = record { worker = omega (arith, worker.1); some = steps.0; few = steps.1 }
 fields_are w t s worker thread steps = tt
 
-entry_is : (ps : List Piece) → IfOk (entry_in ps) IsEntry
+entry_is : (ps : List Piece) → IfOk (entry_in ps) IsOfWorker
 unfolding entry_in
 entry_is (a ∷ b ∷ c ∷ []) = fields_are (field_in 0 7 a) (field_in 0 63 b) (field_in 1 256 c) (field_within 0 7 a) (field_within 0 63 b) (field_within 1 256 c)
 entry_is ps = tt
@@ -70,7 +70,7 @@ entry_is ps = tt
 -- ---- lines of a schedule
 
 abbrev IsLogLine : LogLine → Type 0
-IsLogLine (log.One e) = IsEntry e
+IsLogLine (log.One e) = IsOfWorker e
 IsLogLine l = Unit {0}
 
 said_is : {A : Type 0} (f : A → LogLine) (read : Result A LineKind) → IfOk read (λ x. IsLogLine (f x)) → IfOk (log_said f read) IsLogLine
@@ -93,10 +93,10 @@ line_is ps = line_by_is (head_of ps) ps
 -- ---- schedules
 
 abbrev IsLog : List Entry → Type 0
-IsLog es = All IsEntry es
+IsLog es = All IsOfWorker es
 
-entry_more : (e : Entry) (more : Result (List Entry) Stop) → IsEntry e → IfOk more IsLog → IfOk (and_entry e more) IsLog
-entry_more e (Ok es) is are = All-cons IsEntry e es is are
+entry_more : (e : Entry) (more : Result (List Entry) Stop) → IsOfWorker e → IfOk more IsLog → IfOk (and_entry e more) IsLog
+entry_more e (Ok es) is are = All-cons IsOfWorker e es is are
 entry_more e (Err f) is are = tt
 
 with_is : (l : LogLine) (more last : Result (List Entry) Stop) → IsLogLine l → IfOk more IsLog → IfOk last IsLog → IfOk (log_with l more last) IsLog
@@ -105,7 +105,7 @@ with_is (log.One e) more last is others end = entry_more e more is others
 with_is log.End more last is others end = end
 
 first_is : (end : Option Stop) (ls : List TextLine) → IfOk (first_behind end ls) IsLog
-first_is None [] = All-nil IsEntry
+first_is None [] = All-nil IsOfWorker
 first_is (Some e) [] = tt
 first_is end (l ∷ ls) = tt
 
@@ -127,7 +127,7 @@ HasLog d = IsLog d.1
 without_is : (stop : Option Stop) (ls : List TextLine) → IfOk (without_schedule stop ls) HasLog
 without_is stop ls =
     let read = drafts_of (text_end stop ls) (number_behind ls) ls in
-    then_holds (λ _. Unit {0}) HasLog read _ (always read) (λ cs _. All-nil IsEntry)
+    then_holds (λ _. Unit {0}) HasLog read _ (always read) (λ cs _. All-nil IsOfWorker)
 
 scheduled_is : (stop : Option Stop) (past : ℕ) (c : Cut) → IfOk (with_schedule stop past c) HasLog
 scheduled_is stop past c =
@@ -164,5 +164,5 @@ unfolding scheduled_in
 scheduled_log bytes = by_is (program_of true (reading_of bytes)) (read_is true (reading_of bytes))
 
 -- each entry of a text's schedule may be a log's
-pub schedule_of_text : (bytes : List ℕ) (s : Scheduled) → scheduled_in bytes ≡ Ok s → All IsEntry s.log
+pub schedule_of_text : (bytes : List ℕ) (s : Scheduled) → scheduled_in bytes ≡ Ok s → All IsOfWorker s.log
 schedule_of_text bytes s is = subst (λ (r : Result Scheduled Refusal). IfOk r (λ t. IsLog t.log)) is (scheduled_log bytes)

@@ -1,45 +1,56 @@
--- A run may be opened within the limits that words set.
-use Rattle.std.proofs.Common.{◌≡◌, ℕ, ◌≤◌, Bool, true, false, List, [], ◌∷◌, Option, Some, None, refl, ap, subst, ◌∙◌, arith}
-use Rattle.std.specs.Prelude.{◌&&◌, nat_le, nat_eq, is_some, unwrap_or, option_and_then, option_map, bytes_eq, codes, if◌then◌else◌}
-use Rattle.std.proofs.lemmas.Bool.{and_parts}
-use Rattle.std.proofs.lemmas.Bool.Decides.{nat_tests}
+-- What words ask for can be done: its limits are usable, and its workers are few.
+use Rattle.std.proofs.Common.{◌≡◌, ℕ, ◌≤◌, Bool, true, false, List, [], ◌∷◌, Option, Some, None, refl, ap, sym, subst, ◌∙◌, arith}
+use Rattle.std.specs.Prelude.{◌&&◌, nat_le, is_some, unwrap_or, option_and_then, option_map, bytes_eq, codes, if◌then◌else◌, IfSome}
+use Rattle.std.proofs.lemmas.Bool.{and_parts, leb-true}
 use Rattle.dv_defs.specs.declared.run.Limits.{Limits}
 use Rattle.dv_console.specs.declared.command.Cmd.{Cmd}
 use Rattle.dv_console.specs.declared.command.Cmd.TheVariants as cmd
+use Rattle.dv_console.specs.declared.keys.Key.{Key}
 use Rattle.dv_console.specs.declared.keys.Key.TheVariants as key
-use Rattle.dv_console.specs.Words.{alone, command_in, demo_in, in_range, is_java_name, limits_in, limits_of, named, number_in, replay_in, run_in, run_of, set_by, setting, texts_of, value_in, descriptor_of}
+use Rattle.dv_console.specs.Words.{alone, command_in, demo_in, greatest, in_range, is_java_name, least, limits_in, limits_of, named, number_in, replay_in, run_in, run_of, set_by, setting, texts_of, value_in, descriptor_of}
 use Rattle.dv_sound.specs.Moves.{AreUsable}
 use Rattle.dv_top.specs.Words.{IsUsable, asked_in, built}
 
--- ---- limits
+-- ---- numbers
 
-small_number : (n m : ℕ) → (b : Bool) → (nat_le 64 n && nat_le n 8388608) ≡ b → (if b then Some n else None) ≡ Some m → m ≤ 8388608
-small_number n m true is e =
+abbrev IsWithin : ℕ → ℕ → ℕ → Type 0
+IsWithin low high m = (low ≤ m) × (m ≤ high)
+
+within : (low high n m : ℕ) (b : Bool) → (nat_le low n && nat_le n high) ≡ b → (if b then Some n else None) ≡ Some m → IsWithin low high m
+within low high n m true is e =
     let same : n ≡ m = cc in
-    let parts = and_parts (nat_le 64 n) (nat_le n 8388608) is in
-    subst (λ (k : ℕ). k ≤ 8388608) same (grind (arith, nat_tests, parts.1))
-small_number n m false is e = absurd (cc)
+    let parts = and_parts (nat_le low n) (nat_le n high) is in
+    subst (IsWithin low high) same (leb-true low n parts.0, leb-true n high parts.1)
+within low high n m false is e = absurd (cc)
 
-small_value : (o : Option ℕ) (m : ℕ) → option_and_then (in_range key.Heap) o ≡ Some m → m ≤ 8388608
-small_value None m e = absurd (cc)
-small_value (Some n) m e = small_number n m (nat_le 64 n && nat_le n 8388608) refl e
+value_within : (k : Key) (o : Option ℕ) (m : ℕ) → option_and_then (in_range k) o ≡ Some m → IsWithin (least k) (greatest k) m
+value_within k None m e = absurd (cc)
+value_within k (Some n) m e = within (least k) (greatest k) n m (nat_le (least k) n && nat_le n (greatest k)) refl e
 
--- what words set the heap to
-small_heap : (texts : List (List ℕ)) (n : ℕ) → set_by key.Heap texts ≡ Some (Some n) → n ≤ 8388608
-small_heap [] n e = absurd (cc)
-small_heap (text ∷ []) n e = by (value_in key.Heap text) refl e
-  where
-    by : (o : Option ℕ) → value_in key.Heap text ≡ o → option_map Some o ≡ Some (Some n) → n ≤ 8388608
-    by None is e = absurd (cc)
-    by (Some m) is e = let same : m ≡ n = cc in small_value (number_in text) n (is ∙ ap Some same)
-small_heap (text ∷ other ∷ texts) n e = absurd (cc)
+-- what words set a key to that is a number
+module _ (k : Key) (number : (text : List ℕ) → value_in k text ≡ option_and_then (in_range k) (number_in text)) where
+  set_within : (texts : List (List ℕ)) (n : ℕ) → set_by k texts ≡ Some (Some n) → IsWithin (least k) (greatest k) n
+  set_within [] n e = absurd (cc)
+  set_within (text ∷ []) n e = by (value_in k text) refl e
+    where
+      by : (o : Option ℕ) → value_in k text ≡ o → option_map Some o ≡ Some (Some n) → IsWithin (least k) (greatest k) n
+      by None is e = absurd (cc)
+      by (Some m) is e = let same : m ≡ n = cc in value_within k (number_in text) n (sym (number text) ∙ (is ∙ ap Some same))
+  set_within (text ∷ other ∷ texts) n e = absurd (cc)
+
+-- one to eight
+few_workers : (workers : Option ℕ) (texts : List (List ℕ)) → set_by key.Workers texts ≡ Some workers → IsWithin 1 8 (unwrap_or workers 1)
+few_workers None texts is = (omega arith, omega arith)
+few_workers (Some n) texts is = set_within key.Workers (λ _. refl) texts n is
+
+-- ---- limits
 
 usable_of : (budget heap : Option ℕ) → unwrap_or heap 1048576 ≤ 8388608 → AreUsable (limits_of budget heap)
 usable_of budget heap small = record { threads = omega arith; levels = omega arith; words = omega arith; heap = omega (arith, small) }
 
 usable_heap : (budget heap : Option ℕ) (texts : List (List ℕ)) → set_by key.Heap texts ≡ Some heap → AreUsable (limits_of budget heap)
 usable_heap budget None texts is = usable_of budget None (omega arith)
-usable_heap budget (Some n) texts is = usable_of budget (Some n) (small_heap texts n is)
+usable_heap budget (Some n) texts is = usable_of budget (Some n) (set_within key.Heap (λ _. refl) texts n is).1
 
 limits_usable : (words : List (List ℕ)) (l : Limits) → limits_in words ≡ Some l → AreUsable l
 limits_usable words l e = by (setting key.Budget words) (setting key.Heap words) refl e
@@ -53,9 +64,9 @@ limits_usable words l e = by (setting key.Budget words) (setting key.Heap words)
 
 -- ---- commands
 
--- whatever command it is, it is usable if it is built
+-- whatever command it is, it is usable
 abbrev Good : Option Cmd → Type 0
-Good o = (c : Cmd) → o ≡ Some c → IsUsable (built c)
+Good o = (c : Cmd) → o ≡ Some c → IsUsable c
 
 good_none : Good None
 good_none c e = absurd (cc)
@@ -68,44 +79,39 @@ good_then : {A : Type 0} (o : Option A) (f : A → Option Cmd) → ((x : A) → 
 good_then None f each c e = absurd (cc)
 good_then (Some x) f each c e = each x refl c e
 
-good_map : {A : Type 0} (o : Option A) (f : A → Cmd) → ((x : A) → o ≡ Some x → IsUsable (built (f x))) → Good (option_map f o)
+good_map : {A : Type 0} (o : Option A) (f : A → Cmd) → ((x : A) → o ≡ Some x → IsUsable (f x)) → Good (option_map f o)
 good_map None f each c e = absurd (cc)
-good_map (Some x) f each c e = let same : f x ≡ c = cc in subst (λ (d : Cmd). IsUsable (built d)) same (each x refl)
+good_map (Some x) f each c e = let same : f x ≡ c = cc in subst IsUsable same (each x refl)
 
-run_usable : (class : List ℕ) (workers : ℕ) (seed : Option ℕ) (limits : Limits) (shown : Bool) → AreUsable limits → IsUsable (built (cmd.Run class workers seed limits shown))
-run_usable class workers seed limits shown usable = by (nat_eq workers 1)
-  where
-    by : (b : Bool) → IsUsable (if b then built (cmd.Run class 1 seed limits shown) else None)
-    by true = usable
-    by false = tt
-
-good_run : (class : List ℕ) (workers seed : Option ℕ) (limits : Limits) (log : Option ℕ) → AreUsable limits → Good (run_of class workers seed limits log)
-good_run class workers seed limits log usable =
+good_run : (class : List ℕ) (workers seed : Option ℕ) (limits : Limits) (log : Option ℕ) → AreUsable limits → IsWithin 1 8 (unwrap_or workers 1) → Good (run_of class workers seed limits log)
+good_run class workers seed limits log usable few =
     good_if (is_some workers && is_some seed) None (Some (cmd.Run class (unwrap_or workers 1) seed limits (is_some log))) good_none
     (λ c e.
     let same : cmd.Run class (unwrap_or workers 1) seed limits (is_some log) ≡ c = cc in
-    subst (λ (d : Cmd). IsUsable (built d)) same (run_usable class (unwrap_or workers 1) seed limits (is_some log) usable))
+    subst IsUsable same (record { limits = usable; workers = few }))
 
 good_runs : (class : List ℕ) (words : List (List ℕ)) → Good (run_in class words)
 good_runs class words =
     good_if _ _ None
     (good_then (setting key.Workers words) _
-    (λ workers _.
+    (λ workers set.
     good_then (setting key.Seed words) _
     (λ seed _.
     good_then (limits_in words) _
-    (λ limits is. good_then (setting key.Log words) _ (λ log _. good_run class workers seed limits log (limits_usable words limits is))))))
+    (λ limits is.
+    good_then (setting key.Log words) _
+    (λ log _. good_run class workers seed limits log (limits_usable words limits is) (few_workers workers (texts_of key.Workers words) set))))))
     good_none
 
 good_replays : (class : List ℕ) (words : List (List ℕ)) → Good (replay_in class words)
-good_replays class words = good_if _ _ None (good_map (limits_in words) (cmd.Replay class) (λ limits is. limits_usable words limits is)) good_none
+good_replays class words = good_if _ _ None (good_map (limits_in words) (cmd.Replay class) (λ limits is. record { limits = limits_usable words limits is; workers = tt })) good_none
 
 good_named : (of : List ℕ → List (List ℕ) → Option Cmd) (words : List (List ℕ)) → ((class : List ℕ) (rest : List (List ℕ)) → Good (of class rest)) → Good (named of words)
 good_named of [] each = good_none
 good_named of (name ∷ words) each = good_if (is_java_name name) (of (descriptor_of name) words) None (each (descriptor_of name) words) good_none
 
-good_alone : (c : Cmd) (words : List (List ℕ)) → IsUsable (built c) → Good (alone c words)
-good_alone c [] usable d e = let same : c ≡ d = cc in subst (λ (x : Cmd). IsUsable (built x)) same usable
+good_alone : (c : Cmd) (words : List (List ℕ)) → IsUsable c → Good (alone c words)
+good_alone c [] usable d e = let same : c ≡ d = cc in subst IsUsable same usable
 good_alone c (word ∷ words) usable d e = good_none d e
 
 good_demo : (words : List (List ℕ)) → Good (demo_in words)
@@ -124,20 +130,36 @@ good_demo words =
     good_none
   where
     demo : (number classes threads workers : ℕ) → Good (Some (cmd.Demo number classes threads workers))
-    demo number classes threads workers d e = let same : cmd.Demo number classes threads workers ≡ d = cc in subst (λ (x : Cmd). IsUsable (built x)) same tt
+    demo number classes threads workers d e = let same : cmd.Demo number classes threads workers ≡ d = cc in subst IsUsable same (record { limits = tt; workers = tt })
 
 good_commands : (words : List (List ℕ)) → Good (command_in words)
 good_commands [] = good_none
 good_commands (verb ∷ words) =
     good_if (bytes_eq verb (codes "run")) _ _ (good_named run_in words good_runs)
     (good_if (bytes_eq verb (codes "replay")) _ _ (good_named replay_in words good_replays)
-    (good_if (bytes_eq verb (codes "verify")) _ _ (good_alone cmd.Verify words tt)
-    (good_if (bytes_eq verb (codes "list")) _ _ (good_alone cmd.List words tt) (good_if (bytes_eq verb (codes "demo")) _ None (good_demo words) good_none))))
+    (good_if (bytes_eq verb (codes "verify")) _ _ (good_alone cmd.Verify words (record { limits = tt; workers = tt }))
+    (good_if (bytes_eq verb (codes "list")) _ _ (good_alone cmd.List words (record { limits = tt; workers = tt })) (good_if (bytes_eq verb (codes "demo")) _ None (good_demo words) good_none))))
+
+-- a command that is built is usable
+usable_if_built : (c : Cmd) → IsUsable c → IfSome (built c) IsUsable
+usable_if_built (cmd.Run class workers seed limits shown) is = is
+usable_if_built (cmd.Replay class limits) is = is
+usable_if_built cmd.Verify is = is
+usable_if_built cmd.List is = is
+usable_if_built (cmd.Demo number classes threads workers) is = tt
+
+-- it is built as it is
+pub built_as_it_is : (c : Cmd) → IfSome (built c) (λ d. built d ≡ Some d)
+built_as_it_is (cmd.Run class workers seed limits shown) = refl
+built_as_it_is (cmd.Replay class limits) = refl
+built_as_it_is cmd.Verify = refl
+built_as_it_is cmd.List = refl
+built_as_it_is (cmd.Demo number classes threads workers) = tt
 
 -- what words ask for is usable
-pub asked_usable : (words : List (List ℕ)) → IsUsable (asked_in words)
+pub asked_usable : (words : List (List ℕ)) → IfSome (asked_in words) IsUsable
 asked_usable words = by (command_in words) refl
   where
-    by : (o : Option Cmd) → command_in words ≡ o → IsUsable (option_and_then built o)
+    by : (o : Option Cmd) → command_in words ≡ o → IfSome (option_and_then built o) IsUsable
     by None is = tt
-    by (Some c) is = good_commands words c is
+    by (Some c) is = usable_if_built c (good_commands words c is)

@@ -3,8 +3,7 @@ use Rattle.std.proofs.Common.{◌≡◌, ◌++◌, ◌∙◌, ◌+◌, ◌<◌, 
 use Rattle.std.specs.List.{flat_map}
 use Rattle.std.specs.Prelude.{slice_index_or}
 use Rattle.std.proofs.lemmas.List.{take_all}
-use Rattle.dv_io.specs.Io.{after_write}
-use Rattle.dv_top.specs.Pieces.{TookPart}
+use Rattle.dv_io.specs.Io.{TookPart, after_write}
 
 pub after_two : (a b : List ℕ) (old : Option (List ℕ)) → after_write b (after_write a old) ≡ after_write (a ++ b) old
 after_two a b None = refl

@@ -5,23 +5,24 @@ use Rattle.dv_defs.specs.declared.run.Limits.{Limits}
 use Rattle.dv_typing.specs.Accepting.{Accepts}
 use Rattle.dv_defs.specs.Images.{Image}
 use Rattle.dv_defs.specs.Pools.{Method}
+use Rattle.dv_console.specs.declared.command.Cmd.{Cmd}
+use Rattle.dv_console.specs.declared.command.Cmd.TheVariants as cmd
 use Rattle.dv_console.specs.declared.refusals.Refusal.{Refusal}
 use Rattle.dv_load.specs.Images.{image_in}
 use Rattle.dv_machine.specs.Replaying.{replay}
 use Rattle.dv_top.specs.declared.program.Program.{Program}
 use Rattle.dv_top.specs.declared.status.Status.TheVariants as exit
-use Rattle.dv_top.specs.declared.words.Command.TheVariants as command
 use Rattle.dv_top.specs.Programs.{program_to_replay, program_to_run}
 use Rattle.dv_top.specs.Runs.{refused_line}
 use Rattle.dv_top.specs.Said.{IsAccepted, IsSaid, text_limit}
 use Rattle.dv_top.specs.Status.{code_of}
-use Rattle.dv_top.specs.Words.{AsksForVerifying, asked_in}
+use Rattle.dv_top.specs.Words.{AsksForVerifying}
 
--- one thing is said of the words, the bytes and the log
+-- one thing is said of what is asked for, the bytes and the log
 abbrev pub IsSaidOnce : Type 0
 IsSaidOnce =
-    (words : List (List ℕ)) (bytes : List ℕ) (log : List Entry) (s t : ℕ) (a b : List ℕ) → IsSaid words bytes log s a
-    → IsSaid words bytes log t b → (s ≡ t) × (a ≡ b)
+    (asked : Option Cmd) (bytes : List ℕ) (log : List Entry) (s t : ℕ) (a b : List ℕ) → IsSaid asked bytes log s a
+    → IsSaid asked bytes log t b → (s ≡ t) × (a ≡ b)
 
 -- ---- where a text is refused: each law is of what is said of a text that isn't too large
 
@@ -35,8 +36,8 @@ pub record IsVerdict (bytes : List ℕ) (status : ℕ) : Type 0 where
 -- of a program that is to be verified
 abbrev pub VerdictsAreExact : Type 0
 VerdictsAreExact =
-    (words : List (List ℕ)) (bytes : List ℕ) (log : List Entry) (status : ℕ) (text : List ℕ) → AsksForVerifying words
-    → length bytes ≤ text_limit → IsSaid words bytes log status text → IsVerdict bytes status
+    (asked : Option Cmd) (bytes : List ℕ) (log : List Entry) (status : ℕ) (text : List ℕ) → AsksForVerifying asked
+    → length bytes ≤ text_limit → IsSaid asked bytes log status text → IsVerdict bytes status
 
 -- a text is refused before verifying exactly where it has no program, and by the verifier exactly where the program's image isn't accepted
 pub record IsJudged (found : Result Program Refusal) (status : ℕ) : Type 0 where
@@ -46,9 +47,9 @@ pub record IsJudged (found : Result Program Refusal) (status : ℕ) : Type 0 whe
 -- of a class that is to be run
 abbrev pub RunsAreJudged : Type 0
 RunsAreJudged =
-    (words : List (List ℕ)) (bytes : List ℕ) (log : List Entry) (status : ℕ) (text : List ℕ) (class : List ℕ) (seed : Option ℕ) (limits : Limits)
-    (shown : Bool) → asked_in words ≡ Some (command.Run class seed limits shown) → length bytes ≤ text_limit
-    → IsSaid words bytes log status text → IsJudged (program_to_run class bytes) status
+    (asked : Option Cmd) (bytes : List ℕ) (log : List Entry) (status : ℕ) (text : List ℕ) (class : List ℕ) (workers : ℕ) (seed : Option ℕ)
+    (limits : Limits) (shown : Bool) → asked ≡ Some (cmd.Run class workers seed limits shown) → length bytes ≤ text_limit
+    → IsSaid asked bytes log status text → IsJudged (program_to_run class bytes) status
 
 -- the verifier accepts the program, and its schedule is refused
 pub record HasRefusedSchedule (bytes : List ℕ) (found : Result Program Refusal) (limits : Limits) : Type 0 where
@@ -61,7 +62,7 @@ pub record HasRefusedSchedule (bytes : List ℕ) (found : Result Program Refusal
 -- of a class that is to be run on a schedule, which is refused in no other case
 abbrev pub ReplaysAreJudged : Type 0
 ReplaysAreJudged =
-    (words : List (List ℕ)) (bytes : List ℕ) (log : List Entry) (status : ℕ) (text : List ℕ) (class : List ℕ) (limits : Limits)
-    → asked_in words ≡ Some (command.Replay class limits) → length bytes ≤ text_limit → IsSaid words bytes log status text
+    (asked : Option Cmd) (bytes : List ℕ) (log : List Entry) (status : ℕ) (text : List ℕ) (class : List ℕ) (limits : Limits)
+    → asked ≡ Some (cmd.Replay class limits) → length bytes ≤ text_limit → IsSaid asked bytes log status text
     → IsJudged (program_to_replay class bytes) status
     × ((status ≡ code_of exit.Schedule) ↔ HasRefusedSchedule bytes (program_to_replay class bytes) limits)

@@ -1,6 +1,7 @@
 pub mod Answering
 pub mod Laws
 pub mod Pieces
+pub mod Preparing
 pub mod Printed
 pub mod Programs
 pub mod Runs
@@ -8,3 +9,5 @@ pub mod Said
 pub mod Scheduling
 pub mod Status
 pub mod Words
+pub mod Working
+pub mod Written

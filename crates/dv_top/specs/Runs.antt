@@ -1,5 +1,5 @@
 -- Runs of main methods: their schedules, how they end, and what they print.
-use Rattle.std.specs.Prelude.{◌≡◌, ℕ, ◌++◌, Bool, true, false, List, [], length, Option, Some, None, Ok, slice_get, decimal, codes}
+use Rattle.std.specs.Prelude.{◌≡◌, ℕ, ◌++◌, Bool, true, false, List, [], length, All, Option, Some, None, Ok, slice_get, decimal, codes}
 use Rattle.dv_defs.specs.declared.machine.End.{End}
 use Rattle.dv_defs.specs.declared.machine.End.TheVariants as end
 use Rattle.dv_defs.specs.declared.run.Ending.{Ending}
@@ -10,12 +10,11 @@ use Rattle.dv_defs.specs.Images.{Image}
 use Rattle.dv_defs.specs.Pools.{Method}
 use Rattle.dv_log.specs.Writing.{log_text}
 use Rattle.dv_machine.specs.Final.{final_text, newline}
-use Rattle.dv_machine.specs.Opening.{opening}
 use Rattle.dv_machine.specs.Replaying.{NotRunnable, PastEnd, Replayed, Stands, Wrong, replay}
 use Rattle.dv_machine.specs.Running.{ending_of}
 use Rattle.dv_machine.specs.Seeds.{log_of_seed}
 use Rattle.dv_machine.specs.State.{Machine, Thread}
-use Rattle.dv_sound.specs.Runs.{LeadsLowest}
+use Rattle.dv_workers.specs.Entries.{IsOfWorker}
 use Rattle.dv_top.specs.declared.status.Status.{Status}
 use Rattle.dv_top.specs.declared.status.Status.TheVariants as exit
 use Rattle.dv_top.specs.Status.{code_of}
@@ -65,15 +64,15 @@ pub record IsRun (image : Image) (main : Method) (limits : Limits) (log : List E
 
 -- ---- schedules
 
--- the turns of a run: those that the words of a seed pick, or else of the lowest runnable thread
+-- the turns of a run: those that the words of a seed pick, or else any of workers
 abbrev pub AreTurns : Option ℕ → Image → Method → Limits → List Entry → Type 0
 AreTurns (Some seed) image main limits log = log_of_seed image main limits seed ≡ Ok log
-AreTurns None image main limits log = (m : Machine) × LeadsLowest image log (opening image main limits) m
+AreTurns None image main limits log = All IsOfWorker log
 
 -- the first of these
 abbrev pub AreFirstTurns : Option ℕ → Image → Method → Limits → List Entry → Type 0
 AreFirstTurns (Some seed) image main limits log = (rest : List Entry) × (log_of_seed image main limits seed ≡ Ok (log ++ rest))
-AreFirstTurns None image main limits log = (m : Machine) × LeadsLowest image log (opening image main limits) m
+AreFirstTurns None image main limits log = All IsOfWorker log
 
 abbrev pub schedule_line : ℕ → List ℕ → List ℕ
 schedule_line k why = codes "#schedule entry " ++ decimal k ++ codes ": " ++ why ++ newline

@@ -1,4 +1,4 @@
--- What is said of the words, the bytes of the text and the log: the status of the call, and what is printed.
+-- What is said of what is asked for, the bytes of the text and the log: the status of the call, and what is printed.
 use Rattle.std.specs.Prelude.{◌≡◌, ℕ, ◌<◌, ◌≤◌, Bool, false, List, [], ◌∷◌, ◌++◌, length, Option, Some, None, codes, Result, Ok, Err}
 use Rattle.std.specs.List.{flat_map}
 use Rattle.dv_defs.specs.declared.faults.Fault.{Fault}
@@ -12,6 +12,8 @@ use Rattle.dv_lex.specs.Lines.{reading_of}
 use Rattle.dv_print.specs.Listing.{class_text}
 use Rattle.dv_classread.specs.declared.text.Read.{Read}
 use Rattle.dv_classread.specs.Programs.{program_of}
+use Rattle.dv_console.specs.declared.command.Cmd.{Cmd}
+use Rattle.dv_console.specs.declared.command.Cmd.TheVariants as cmd
 use Rattle.dv_console.specs.declared.refusals.Refusal.{Refusal}
 use Rattle.dv_console.specs.declared.refusals.Refusal.TheVariants as refusal
 use Rattle.dv_console.specs.Faults.{accepted_text, fault_text}
@@ -21,11 +23,10 @@ use Rattle.dv_machine.specs.Replaying.{replay}
 use Rattle.dv_top.specs.declared.program.Program.{Program}
 use Rattle.dv_top.specs.declared.status.Status.{Status}
 use Rattle.dv_top.specs.declared.status.Status.TheVariants as exit
-use Rattle.dv_top.specs.declared.words.Command.TheVariants as command
 use Rattle.dv_top.specs.Programs.{program_to_replay, program_to_run}
 use Rattle.dv_top.specs.Runs.{AreTurns, IsRun, refused_line}
 use Rattle.dv_top.specs.Status.{code_of}
-use Rattle.dv_top.specs.Words.{AsksForListing, AsksForVerifying, asked_in}
+use Rattle.dv_top.specs.Words.{AsksForListing, AsksForVerifying}
 
 -- ---- printed texts
 
@@ -74,7 +75,7 @@ pub record IsAccepted (bytes : List ℕ) (found : Result Program Refusal) (p : P
   pub accepted : Accepts p.image
   pub has_main : method_at p.image p.main.0 ≡ Some main
 
--- of one that is to be run: by turns that the words of a seed pick, or without a seed; within limits; with its schedule shown or not
+-- of one that is to be run: by turns that the words of a seed pick, or else by those of workers; within limits; with its schedule shown or not
 pub data IsSaidOfRun
     (bytes : List ℕ) (found : Result Program Refusal) (seed : Option ℕ) (limits : Limits) (shown : Bool) (log : List Entry) (status : ℕ)
     (text : List ℕ) : Type 0 where
@@ -120,13 +121,13 @@ pub data IsSaidOfVerifying (bytes : List ℕ) (status : ℕ) (text : List ℕ) :
 
 -- ---- all of it
 
--- of the words, the bytes of the text, and the log
-pub data IsSaid (words : List (List ℕ)) (bytes : List ℕ) (log : List Entry) (status : ℕ) (text : List ℕ) : Type 0 where
+-- of what is asked for, the bytes of the text, and the log
+pub data IsSaid (asked : Option Cmd) (bytes : List ℕ) (log : List Entry) (status : ℕ) (text : List ℕ) : Type 0 where
   -- the words aren't read
-  Unread : asked_in words ≡ None → IsReply exit.Usage usage status text → IsSaid words bytes log status text
-  ToBeRun : (class : List ℕ) (seed : Option ℕ) (limits : Limits) (shown : Bool) → asked_in words ≡ Some (command.Run class seed limits shown)
-      → IsSaidOfRun bytes (program_to_run class bytes) seed limits shown log status text → IsSaid words bytes log status text
-  ToBeReplayed : (class : List ℕ) (limits : Limits) → asked_in words ≡ Some (command.Replay class limits)
-      → IsSaidOfReplay bytes (program_to_replay class bytes) limits log status text → IsSaid words bytes log status text
-  ToBeListed : AsksForListing words → IsSaidOfListing bytes status text → IsSaid words bytes log status text
-  ToBeVerified : AsksForVerifying words → IsSaidOfVerifying bytes status text → IsSaid words bytes log status text
+  Unread : asked ≡ None → IsReply exit.Usage usage status text → IsSaid asked bytes log status text
+  ToBeRun : (class : List ℕ) (workers : ℕ) (seed : Option ℕ) (limits : Limits) (shown : Bool) → asked ≡ Some (cmd.Run class workers seed limits shown)
+      → IsSaidOfRun bytes (program_to_run class bytes) seed limits shown log status text → IsSaid asked bytes log status text
+  ToBeReplayed : (class : List ℕ) (limits : Limits) → asked ≡ Some (cmd.Replay class limits)
+      → IsSaidOfReplay bytes (program_to_replay class bytes) limits log status text → IsSaid asked bytes log status text
+  ToBeListed : AsksForListing asked → IsSaidOfListing bytes status text → IsSaid asked bytes log status text
+  ToBeVerified : AsksForVerifying asked → IsSaidOfVerifying bytes status text → IsSaid asked bytes log status text

@@ -1,8 +1,11 @@
--- The numbers of the exit statuses.
+-- The exit statuses.
 use Rattle.std.specs.Prelude.{ℕ}
+use Rattle.dv_top.specs.declared.reading.ReadError.{ReadError}
+use Rattle.dv_top.specs.declared.reading.ReadError.TheVariants as error
 use Rattle.dv_top.specs.declared.status.Status.{Status}
 use Rattle.dv_top.specs.declared.status.Status.TheVariants as status
 
+-- their numbers
 abbrev pub code_of : Status → ℕ
 code_of status.Done = 0
 code_of status.Uncaught = 1
@@ -18,3 +21,8 @@ code_of status.Spent = 10
 code_of status.NoMemory = 11
 code_of status.Schedule = 12
 code_of status.TooLarge = 13
+
+-- why a source wasn't read
+abbrev pub status_of_error : ReadError → Status
+status_of_error error.Failed = status.ReadFault
+status_of_error error.Memory = status.NoMemory

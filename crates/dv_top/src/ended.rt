@@ -1,13 +1,15 @@
 // The reply to a run that has ended.
-ghost use Rattle.std.specs.Prelude.{◌≡◌, ◌≢◌, IfOk, None as Nothing, Some, slice_get};
+ghost use Rattle.std.specs.Prelude.{◌≡◌, ◌≢◌, ◌++◌, Bool, IfOk, None as Nothing, OnOk, Some, slice_get};
+ghost use Rattle.dv_defs.specs.declared.run.Ending.{Ending};
 ghost use Rattle.dv_defs.specs.Linked.{IsImage};
 ghost use Rattle.dv_defs.specs.Pools.{Method, method_at};
 ghost use Rattle.dv_machine.specs.Final as final;
 ghost use Rattle.dv_machine.specs.Running.{ending_of};
 ghost use Rattle.dv_machine.specs.State.{Machine};
-ghost use Rattle.dv_sound.specs.Runs.{IsAt};
-ghost use Rattle.dv_top.specs.Runs.{IsRun, end_of};
+ghost use Rattle.dv_sound.specs.Runs.{AtItsState, IsAt, IsAtSome};
+ghost use Rattle.dv_top.specs.Runs.{IsRun, end_of, shown_schedule, status_of};
 ghost use Rattle.dv_top.specs.Status.{code_of};
+ghost use Rattle.dv_top.specs.Working.{tail_of};
 
 use crate::printed::Printed;
 use crate::reply::Reply;
@@ -26,19 +28,43 @@ pub fn reply_of_ended(alloc: Global, run: &SafeVm, shown: bool) -> Result<Reply,
     ensures { (main : Method) → method_at run.now.verified.image run.now.main.0 ≡ Some main
         → IfOk result (λ reply. IsRun run.now.verified.image main run.now.machine.limits run.now.log shown (code_of reply.status) reply.text.items) }
 {
-    let log = run.log();
+    tail_follows(run);
+    let vm = run.vm();
+    let mut text = Vec::from_slice(alloc, vm.output())?;
+    add_tail(&mut text, run, shown)?;
+    Ok(Reply {
+        status: status_of_ended(run),
+        text: Printed::of(text),
+    })
+}
+
+/// What there is to write of a run that has ended, behind its output, which is written already.
+pub fn tail_of_ended(alloc: Global, run: &SafeVm, shown: bool) -> Result<Reply, AllocError>
+    requires { (main : Method) (m : Machine) → IsAt run.now main m → ending_of run.now.verified.image m ≢ Nothing }
+    ensures ran { AtItsState run.now (λ main m. IfOk result (λ reply.
+        IsRun run.now.verified.image main run.now.machine.limits run.now.log shown (code_of reply.status)
+        (run.now.machine.shared.output ++ reply.text.items))) }
+    ensures good { IfOk result (λ reply. reply.status ≢ Status.WriteFault) }
+{
+    tail_follows(run);
+    let mut text = Vec::new(alloc);
+    add_tail(&mut text, run, shown)?;
+    Ok(Reply {
+        status: status_of_ended(run),
+        text: Printed::of(text),
+    })
+}
+
+/// The status of a run that has ended.
+fn status_of_ended(run: &SafeVm) -> Status
+    requires { (main : Method) (m : Machine) → IsAt run.now main m → ending_of run.now.verified.image m ≢ Nothing }
+    ensures told { AtItsState run.now (λ main m. (e : Ending) → ending_of run.now.verified.image m ≡ Some e → result ≡ status_of m e) }
+    ensures leads { IsAtSome run.now }
+{
     let Some(ending) = run.ending() else {
         unreachable!();
     };
-    let status = Status::of(ending, first_end(run));
-    let mut text = final_text(alloc, run)?;
-    if shown {
-        add_schedule(&mut text, log)?;
-    }
-    Ok(Reply {
-        status,
-        text: Printed::of(text),
-    })
+    Status::of(ending, first_end(run))
 }
 
 /// How the first thread of a run ended.
@@ -54,19 +80,29 @@ fn first_of(ends: &[End]) -> Option<End>
     ends.get(0).copied()
 }
 
-/// The printed bytes, and what follows them.
-fn final_text(alloc: Global, run: &SafeVm) -> Result<Vec<u8>, AllocError>
-    ensures { (main : Method) (m : Machine) → IsAt run.now main m
-        → IfOk result (λ text. text.items ≡ final.final_text run.now.verified.image m) }
+/// Appends what stands behind the output.
+fn add_tail(text: &mut Vec<u8>, run: &SafeVm, shown: bool) -> Result<(), AllocError>
+    ensures { OnOk result (text.new.items ≡ text.old.items ++ tail_of run.now shown) }
+{
+    let verified = run.verified();
+    let lines = final_lines(*text.allocator(), &verified.image, run.vm())?;
+    text.extend_from_slice(lines.bytes())?;
+    if shown {
+        add_schedule(text, run.log())
+    } else {
+        Ok(())
+    }
+}
+
+/// The output and what stands behind it are the final text and the schedule: does nothing.
+fn tail_follows(run: &SafeVm)
+    ensures { AtItsState run.now (λ main m. (shown : Bool) →
+        run.now.machine.shared.output ++ tail_of run.now shown
+        ≡ final.final_text run.now.verified.image m ++ shown_schedule shown run.now.log) }
 {
     final_lines_follow();
-    let verified = run.verified();
-    is_linked(verified);
-    let vm = run.vm();
-    let mut text = Vec::from_slice(alloc, vm.output())?;
-    let lines = final_lines(alloc, &verified.image, vm)?;
-    text.extend_from_slice(lines.bytes())?;
-    Ok(text)
+    is_linked(run.verified());
+    let _ = run.vm();
 }
 
 /// A verified image is one that linking gives: does nothing.

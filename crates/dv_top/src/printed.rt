@@ -1,8 +1,7 @@
 // What is printed, before it is written.
 ghost use Rattle.std.specs.Prelude.{◌≡◌, ◌≤◌, ◌++◌, IfOk, OnErr, OnOk};
 ghost use Rattle.dv_console.specs.Faults.{fault_text};
-ghost use Rattle.dv_io.specs.Io.{HasRisen, after_write};
-ghost use Rattle.dv_top.specs.Pieces.{TookPart};
+ghost use Rattle.dv_io.specs.Io.{HasRisen, TookPart, after_write};
 ghost use Rattle.dv_top.specs.Printed.{fault_head, fault_tail, method_lines, printed_lines};
 ghost use Rattle.dv_top.specs.Said.{fault_lines};
 

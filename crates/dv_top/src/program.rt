@@ -2,7 +2,7 @@
 ghost use Rattle.std.specs.Prelude.{◌≡◌, ◌<◌, ◌-◌, ◌^◌, All, IfOk, length};
 ghost use Rattle.dv_load.specs.Images.{Answers, main_in};
 ghost use Rattle.dv_machine.specs.Mains.{HasMain};
-ghost use Rattle.dv_top.specs.Answering.{IsEntry};
+ghost use Rattle.dv_workers.specs.Entries.{IsOfWorker};
 ghost use Rattle.dv_top.specs.Programs.{program_to_replay, program_to_run, with_main};
 
 use dv_defs::{Entry, Image, MethodId, Seq, Text};
@@ -36,7 +36,7 @@ pub fn program_to_replay(alloc: Global, class: &Text, text: &[u8]) -> Result<Pro
     requires { length text.now < 2 ^ 32 - 1 }
     ensures program { Answers (program_to_replay class.now text.now) result }
     ensures main { IfOk result (λ p. HasMain p.image p.main.0) }
-    ensures schedule { IfOk result (λ p. All IsEntry p.schedule) }
+    ensures schedule { IfOk result (λ p. All IsOfWorker p.schedule) }
 {
     let scheduled = read_scheduled(alloc, text)?;
     with_main(alloc, class, scheduled)

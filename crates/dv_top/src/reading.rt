@@ -3,7 +3,9 @@ ghost use Rattle.std.specs.Prelude.{◌≡◌, ◌<◌, ◌≤◌, ◌+◌, ℕ,
 ghost use Rattle.dv_io.specs.Io.{HasRisen, after_taking};
 ghost use Rattle.dv_top.specs.declared.reading.ReadError.TheVariants.{Memory, Failed as ReadFailed};
 ghost use Rattle.dv_top.specs.Said.{text_limit};
+ghost use Rattle.dv_top.specs.Status.{status_of_error};
 
+use crate::status::Status;
 use dv_io::{Failed, Source};
 use std::alloc::{AllocError, Global};
 
@@ -29,6 +31,18 @@ impl From<Failed> for ReadError {
 
     fn from(_: Failed) -> ReadError {
         ReadError::Failed
+    }
+}
+
+impl ReadError {
+    /// The status that tells of it.
+    pub fn status(self) -> Status
+        ensures { result ≡ status_of_error self }
+    {
+        match self {
+            ReadError::Failed => Status::ReadFault,
+            ReadError::Memory => Status::NoMemory,
+        }
     }
 }
 

@@ -8,7 +8,8 @@ ghost use Rattle.dv_sound.specs.Moves.{AreUsable};
 ghost use Rattle.dv_machine.specs.Mains.{HasMain};
 ghost use Rattle.dv_sound.specs.Runs.{IsAt};
 ghost use Rattle.dv_top.specs.declared.program.Program.{Program as ProgramOf};
-ghost use Rattle.dv_top.specs.Answering.{IsEntry, IsIdle, IsLogOfReplay, IsReadOf, IsTold};
+ghost use Rattle.dv_workers.specs.Entries.{IsOfWorker};
+ghost use Rattle.dv_top.specs.Answering.{IsIdle, IsLogOfReplay, IsReadOf, IsTold};
 ghost use Rattle.dv_top.specs.Programs.{program_to_replay};
 ghost use Rattle.dv_top.specs.Runs.{IsRun};
 ghost use Rattle.dv_top.specs.Scheduling.{IsReplyOfReplay};
@@ -42,7 +43,7 @@ pub fn reply_to_replaying(
     ensures said { (bytes : List ℕ) → IsReadOf bytes text.now
         → IfOk result (λ reply. IsSaidOfReplay bytes (program_to_replay class.now bytes) limits.now log.new.items (code_of reply.status)
         reply.text.items) }
-    ensures entries { All IsEntry log.new.items }
+    ensures entries { All IsOfWorker log.new.items }
     ensures idle { IfOk result (λ reply. IsIdle (code_of reply.status) → log.new.items ≡ []) }
     ensures legal { (bytes : List ℕ) → IsReadOf bytes text.now → log.new.items ≢ []
         → IsLogOfReplay bytes (program_to_replay class.now bytes) limits.now log.new.items }
@@ -67,11 +68,11 @@ fn reply_of_program_replayed(
     requires empty { log.old.items ≡ [] }
     requires main { HasMain program.image program.main.0 }
     requires usable { AreUsable limits.now }
-    requires schedule { All IsEntry program.schedule }
+    requires schedule { All IsOfWorker program.schedule }
     ensures told { IfOk result (λ reply. IsTold (code_of reply.status) × (code_of reply.status ≢ code_of Status.Usage)) }
     ensures said { (bytes : List ℕ) (found : Result ProgramOf Refusal) → length bytes ≤ text_limit → found ≡ Ok program
         → IfOk result (λ reply. IsSaidOfReplay bytes found limits.now log.new.items (code_of reply.status) reply.text.items) }
-    ensures entries { All IsEntry log.new.items }
+    ensures entries { All IsOfWorker log.new.items }
     ensures idle { IfOk result (λ reply. IsIdle (code_of reply.status) → log.new.items ≡ []) }
     ensures legal { (bytes : List ℕ) (found : Result ProgramOf Refusal) → length bytes ≤ text_limit → found ≡ Ok program
         → log.new.items ≢ [] → IsLogOfReplay bytes found limits.now log.new.items }

@@ -5,11 +5,13 @@ ghost use Rattle.dv_defs.specs.declared.faults.Fault.{Fault};
 ghost use Rattle.dv_console.specs.declared.refusals.Refusal.{Refusal as Why};
 ghost use Rattle.dv_console.specs.Refusals.{refusal_text};
 ghost use Rattle.dv_top.specs.Said.{fault_lines, text_limit};
+ghost use Rattle.dv_top.specs.Written.{IsWritten};
 
 use crate::printed::Printed;
 use crate::reading::TEXT_LIMIT;
 use crate::status::Status;
 use dv_console::{Refusal, refusal_line};
+use dv_io::{Failed, Sink};
 use dv_load::ProgramError;
 use dv_pverify::VerifyError;
 use std::alloc::{AllocError, Global};
@@ -19,6 +21,17 @@ use std::alloc::{AllocError, Global};
 pub struct Reply {
     pub status: Status,
     pub text: Printed,
+}
+
+/// Writes a reply, and gives its status, or the one that tells of a write that failed.
+pub fn write_reply<K: Sink>(reply: &Reply, sink: &mut K) -> Status
+    ensures written { IsWritten K.taken K.faults reply.now.status reply.now.text.items sink.old sink.new result }
+    ensures count { K.faults sink.old ≤ K.faults sink.new }
+{
+    match reply.text.write(sink) {
+        Ok(()) => reply.status,
+        Err(Failed) => Status::WriteFault,
+    }
 }
 
 /// A reply whose text is always the same.

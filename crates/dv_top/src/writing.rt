@@ -1,9 +1,8 @@
 // Writing to a sink.
 ghost use Rattle.std.specs.Prelude.{◌≡◌, ◌≤◌, OnOk, OnErr};
-ghost use Rattle.dv_io.specs.Io.{HasRisen, after_write};
-ghost use Rattle.dv_top.specs.Pieces.{TookPart};
+ghost use Rattle.dv_io.specs.Io.{HasRisen, TookPart, after_write};
 
-use dv_io::{Failed, Sink};
+use dv_io::{Failed, Sink, pour};
 
 /// Writes all of a text to a sink.
 pub fn write_all<K: Sink>(sink: &mut K, text: &[u8]) -> Result<(), Failed>
@@ -12,10 +11,9 @@ pub fn write_all<K: Sink>(sink: &mut K, text: &[u8]) -> Result<(), Failed>
     ensures count { K.faults sink.old ≤ K.faults sink.new }
     ensures failed { OnErr result (HasRisen (K.faults sink.old) (K.faults sink.new)) }
 {
-    let mut at = 0;
-    'write: while at < text.len() {
-        let n = sink.write(&text[at..])?;
-        at += n;
+    if pour(sink, text).fault {
+        Err(Failed)
+    } else {
+        Ok(())
     }
-    Ok(())
 }

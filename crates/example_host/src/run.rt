@@ -2,10 +2,11 @@
 use dv_io::{MemSink, NoGate, PlainSource};
 use dv_top::dvm;
 use std::alloc::{AllocError, Global};
+use std::sync::Wait;
 use std::thread::Threads;
 
 /// What the class `Main` of a text prints, in the sink's `taken`.
-pub fn run_main<R: Threads + Sync>(
+pub fn run_main<R: Threads + Wait + Sync>(
     rt: &R,
     alloc: Global,
     text: Vec<u8>,

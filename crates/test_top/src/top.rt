@@ -4,6 +4,7 @@ use dv_io::{MemSink, MemSource, NoGate};
 use dv_top::{Report, dvm};
 use std::alloc::{AllocError, Global};
 use std::process::Abort;
+use std::sync::Wait;
 use std::test::Fail;
 use std::thread::Threads;
 
@@ -23,9 +24,9 @@ struct Row<'a> {
     log: &'a [Entry],
 }
 
-/// A main method that adds the greatest int and one, run.
+/// A main method that adds the greatest int and one, run with a seed whose first two turns may have 231 and 239 steps.
 const WRAP: Row<'static> = Row {
-    words: &["run", "Main"],
+    words: &["run", "Main", "seed=1"],
     text: ".class LMain;
 .super Ljava/lang/Object;
 .method static main()V
@@ -78,7 +79,7 @@ fn assert_report<R: Abort>(rt: &R, row: &Row, report: &Report<MemSink>) {
 }
 
 /// The words over the source come to what the row says.
-fn assert_call<R: Abort + Threads + Sync>(
+fn assert_call<R: Abort + Threads + Wait + Sync>(
     rt: &R,
     alloc: Global,
     row: &Row,
@@ -93,7 +94,7 @@ fn assert_call<R: Abort + Threads + Sync>(
 }
 
 /// The same over the row's text, which is read in pieces.
-fn assert_words<R: Abort + Threads + Sync>(
+fn assert_words<R: Abort + Threads + Wait + Sync>(
     rt: &R,
     alloc: Global,
     row: &Row,
@@ -107,7 +108,7 @@ fn assert_words<R: Abort + Threads + Sync>(
 }
 
 /// The row's words over its text, which is read in pieces, come to what the row says.
-fn assert_row<R: Abort + Threads + Sync>(
+fn assert_row<R: Abort + Threads + Wait + Sync>(
     rt: &R,
     alloc: Global,
     row: &Row,
@@ -288,5 +289,67 @@ fn other_calls_fail(rt: HostRuntime) -> Result<(), Fail> {
     for row in OTHERS {
         assert_row(&rt, rt.alloc(), row, PIECE)?;
     }
+    Ok(())
+}
+
+/// A loop that prints without an end.
+const PRINTS: Row<'static> = Row {
+    words: &["run", "Main", "workers=2"],
+    text: ".class LMain;
+.super Ljava/lang/Object;
+.method static main()V
+.registers 1
+const/4 v0, 0x1
+:a
+invoke-static {v0}, Ldvm/Console;->println(I)V
+goto :a
+.end method
+",
+    failing_writes: &[0],
+    ..UNWRITTEN
+};
+
+/// How many steps a schedule has.
+fn steps_of(log: &[Entry]) -> u64 {
+    let mut steps = 0u64;
+    for entry in log {
+        steps = steps.saturating_add(u64::from(entry.steps));
+    }
+    steps
+}
+
+/// A write fails while workers run: nothing was taken, and the run stopped soon.
+fn assert_stops<R: Abort>(rt: &R, report: &Report<MemSink>) {
+    assert_eq!(rt; report.status, 4);
+    assert!(rt; report.sink.taken.is_empty());
+    assert!(rt; steps_of(&report.log) < 5_000);
+}
+
+fn stop<R: Abort + Threads + Wait + Sync>(
+    rt: &R,
+    alloc: Global,
+    words: &[String],
+) -> Result<(), AllocError> {
+    let mut source = source_of(rt, alloc, PRINTS.text.as_bytes(), &[], PIECE)?;
+    let report = match sink_of(alloc, PRINTS.failing_writes) {
+        Ok(sink) => dvm(rt, alloc, words, &mut source, sink, &NoGate),
+        Err(error) => {
+            drop(source);
+            return Err(error);
+        }
+    };
+    drop(source);
+    assert_stops(rt, &report);
+    drop(report);
+    Ok(())
+}
+
+/// What a run prints is written while it runs: it stops at the first write, which fails.
+#[test]
+fn a_write_stops_workers(rt: HostRuntime) -> Result<(), Fail> {
+    let words = words_of(rt.alloc(), PRINTS.words)?;
+    let done = stop(&rt, rt.alloc(), &words);
+    drop(words);
+    done?;
     Ok(())
 }

@@ -2,7 +2,7 @@ use Rattle.std.proofs.Common.{All, List, sym, subst}
 use Rattle.std.proofs.lemmas.Result.{IfOk-weaker}
 use Rattle.dv_defs.specs.declared.run.Entry.{Entry}
 use Rattle.dv_rules.specs.Verified.{VerifiedValue}
-use Rattle.dv_top.specs.Answering.{IsEntry}
+use Rattle.dv_workers.specs.Entries.{IsOfWorker}
 use Rattle.dv_top.specs.Said.{NotReplayed}
 use Rattle.dv_top.proofs.RunningLemmas.{entries_of_replay, idle_of_replay, log_of_replay, main_at, said_refused, said_replayed, told_of_replay}
 use Rattle.dv_top.proofs.replaying.reply_of_program_replayed.Goals as goal
@@ -23,7 +23,7 @@ pub returns-in-Ok-clause-entries : goal.returns-in-Ok-clause-entries
 returns-in-Ok-clause-entries c =
     let h = c.requires.main in
     let main = main_at c.in-Ok.verified.image c.args.program.image c.args.program.main.0 c.in-Ok.ensures.same h in
-    entries_of_replay c.reply_of_replay-reply.result c.in-Ok.verified.image h.method c.args.limits.now c.items.result.now c.reply_of_replay-reply.new.log.items (subst (λ (es : List Entry). All IsEntry es) (sym c.items.ensures) c.requires.schedule) (c.reply_of_replay-reply.ensures.replayed h.method main) c.reply_of_replay-reply.ensures.wanting
+    entries_of_replay c.reply_of_replay-reply.result c.in-Ok.verified.image h.method c.args.limits.now c.items.result.now c.reply_of_replay-reply.new.log.items (subst (λ (es : List Entry). All IsOfWorker es) (sym c.items.ensures) c.requires.schedule) (c.reply_of_replay-reply.ensures.replayed h.method main) c.reply_of_replay-reply.ensures.wanting
 
 pub returns-in-Ok-clause-said : goal.returns-in-Ok-clause-said
 returns-in-Ok-clause-said c bytes found small is =

@@ -1,5 +1,5 @@
 use Rattle.std.proofs.Common.{subst}
-use Rattle.dv_top.specs.Pieces.{TookPart}
+use Rattle.dv_io.specs.Io.{TookPart}
 use Rattle.dv_top.specs.Printed.{PrintedValue, printed_lines}
 use Rattle.dv_top.proofs.Written.{took_more}
 use Rattle.dv_top.proofs.printed.Printed.write.Goals as goal

@@ -1,0 +1,101 @@
+// The calls: one by words, and one by a command that the caller does alone.
+ghost use Rattle.std.specs.Prelude.{◌≡◌, Some, map, string_bytes};
+ghost use Rattle.dv_top.specs.Answering.{IsAnswer};
+ghost use Rattle.dv_top.specs.Words.{HasUsableLimits, IsAlone, IsUsable, asked_in, built};
+
+use crate::answering::answer;
+use crate::by_workers::{Working, run_by_workers};
+use crate::report::{Report, report_of_status, report_of_usage};
+use crate::status::Status;
+use crate::words::command_of;
+use dv_console::Cmd;
+use dv_io::{Gate, Sink, Source};
+use std::alloc::Global;
+use std::sync::Wait;
+use std::thread::Threads;
+
+/// Does what the words ask for: reads the text from the source, and lists it, verifies it or runs it,
+/// and writes what was printed, or why it was refused, to the sink.
+/// `words` are the command line without the program's name. The README lists words and statuses.
+///
+/// A run without a seed goes by worker threads, and what it prints goes out while they run. Then the call waits for them, and isn't known to
+/// return. For the other commands it does what `dvm_alone` does.
+pub fn dvm<R: Threads + Wait + Sync, S: Source, K: Sink + Send + Drop, G: Gate + Sync>(
+    rt: &R,
+    alloc: Global,
+    words: &[String],
+    source: &mut S,
+    sink: K,
+    gate: &G,
+) -> Report<K>
+    ensures { IsAnswer S.left S.faults K.taken K.faults (asked_in (map string_bytes words.now)) source.old source.new sink result.sink
+        result.log.items result.status }
+{
+    match command_of(alloc, words) {
+        Ok(Some(command)) => {
+            let report = do_command(rt, alloc, &command, source, sink, gate);
+            drop(command);
+            report
+        }
+        Ok(None) => report_of_usage(alloc, sink),
+        Err(_) => report_of_status(alloc, Status::NoMemory, sink),
+    }
+}
+
+/// Does a command as `dvm` does.
+fn do_command<R: Threads + Wait + Sync, S: Source, K: Sink + Send + Drop, G: Gate + Sync>(
+    rt: &R,
+    alloc: Global,
+    command: &Cmd,
+    source: &mut S,
+    sink: K,
+    gate: &G,
+) -> Report<K>
+    requires usable { IsUsable command.now }
+    requires built { built command.now ≡ Some command.now }
+    ensures { IsAnswer S.left S.faults K.taken K.faults (Some command.now) source.old source.new sink result.sink
+        result.log.items result.status }
+{
+    match command {
+        Cmd::Run {
+            name,
+            workers,
+            seed: None,
+            limits,
+            log,
+        } => {
+            let how = Working {
+                workers: *workers,
+                limits: *limits,
+                shown: *log,
+            };
+            run_by_workers(rt, alloc, name, &how, source, sink, gate)
+        }
+        _ => dvm_alone(rt, alloc, command, source, sink, gate),
+    }
+}
+
+/// Does a command as `dvm` does, but for a run without a seed: it waits for no other thread, and returns.
+/// What is printed is written at the end.
+pub fn dvm_alone<R: Threads + Sync, S: Source, K: Sink, G: Gate + Sync>(
+    _rt: &R,
+    alloc: Global,
+    command: &Cmd,
+    source: &mut S,
+    sink: K,
+    _gate: &G,
+) -> Report<K>
+    requires alone { IsAlone command.now }
+    requires limits { HasUsableLimits command.now }
+    ensures { IsAnswer S.left S.faults K.taken K.faults (Some command.now) source.old source.new sink result.sink
+        result.log.items result.status }
+{
+    let mut sink = sink;
+    let mut log = Vec::new(alloc);
+    let status = answer(alloc, command, source, &mut sink, &mut log);
+    Report {
+        status: status.code(),
+        log,
+        sink,
+    }
+}
