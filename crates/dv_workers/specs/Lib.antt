@@ -1,1 +1,5 @@
+pub mod Chores
+pub mod Desks
 pub mod Entries
+pub mod Rule
+pub mod Seats

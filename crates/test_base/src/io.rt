@@ -1,5 +1,6 @@
 // Each version through its bound, as the machine uses it.
 mod memory;
+mod pouring;
 mod standard;
 
 use dv_io::{

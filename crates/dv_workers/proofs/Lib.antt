@@ -1,0 +1,6 @@
+pub mod Kept
+pub mod Lent
+pub mod Moves
+pub mod Runs
+pub mod Turns
+pub mod Written

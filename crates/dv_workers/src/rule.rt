@@ -1,0 +1,52 @@
+// The rule of the place in which the machine lies, and what each step on it tells.
+ghost use Rattle.dv_workers.specs.Rule.{Kept, Puts, Takes, aside, spent};
+ghost use Rattle.dv_workers.specs.Seats.{names_of};
+
+use crate::began::Began;
+use crate::desk::Desk;
+use crate::view::View;
+use atomic_table::{Join, Play, Split, TableRule};
+use dv_io::Sink;
+use dv_sound::SafeVm;
+use std::snapshot::Snapshot;
+
+/// What a table is told when it is made: the machine, as it is then.
+pub type Key<'v> = Snapshot<SafeVm<'v>>;
+
+pub struct Law;
+
+impl<'v, K: Sink, L: Began> TableRule<Option<Desk<'v, K, L>>, View, Key<'v>> for Law {
+    ghost holds = { λ k s. Kept (λ d. names_of d.vm) (names_of k.value) s };
+
+    ghost first = { λ k. aside (names_of k.value) };
+}
+
+pub struct Take;
+
+impl<'v, K: Sink, L: Began> Play<Option<Desk<'v, K, L>>, View> for Take {
+    ghost then = { Takes (λ d. names_of d.vm) };
+}
+
+pub struct Put;
+
+impl<'v, K: Sink, L: Began> Play<Option<Desk<'v, K, L>>, View> for Put {
+    ghost then = { Puts (λ d. names_of d.vm) };
+}
+
+/// A second seat beside one that doesn't hold.
+pub struct Cut;
+
+impl Split<View> for Cut {
+    ghost left = { λ v. v };
+
+    ghost right = { λ v. v };
+}
+
+/// A seat that doesn't hold goes back into another.
+pub struct Glue;
+
+impl Join<View> for Glue {
+    ghost both = { λ v w. v };
+
+    ghost spent = { spent };
+}
