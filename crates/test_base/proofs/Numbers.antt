@@ -4,7 +4,7 @@ use Rattle.std.specs.Prelude.{slice_get}
 use Rattle.std.proofs.lemmas.Bool.{cases_eq, leb-true, le-leb, ltb-true, and_parts}
 use Rattle.std.proofs.lemmas.Option.{same_Some}
 use Rattle.dv_worklist.specs.declared.flows.Onward.{Onward}
-use Rattle.dv_worklist.specs.Flow.{IsLawful}
+use Rattle.dv_worklist.specs.Flow.{IsLawful, IsImplied}
 use Rattle.test_base.specs.Numbers.{all_ways, ways, brought, numbers, number_fits, number_rank}
 
 -- what a higher number brings by the same way is above
@@ -59,4 +59,16 @@ numbers_are_lawful = record {
   entry_fits = omega arith;
   onward_fits = λ place s a k o e. fits_at (ways place) s a (row_leads all_ways place refl) k o e;
   below = λ place s a. omega arith;
+}
+
+-- what is at the first place of the loop comes back there as 1 or more
+pub one_is_implied : (s t : ℕ) → IsImplied numbers number_fits 1 s t 1
+one_is_implied s t = record {
+  fit = omega arith;
+  bound = λ b closed first second.
+      let next = closed.arrives 1 first.state first.there 0 (brought first.state (2, 1)) refl in
+      let back = closed.arrives 2 next.state next.there 0 (brought next.state (1, 0)) refl in
+      let low = leb-true (max first.state 1) next.state next.above in
+      let high = leb-true (max next.state 0) back.state back.above in
+      record { state = back.state; there = back.there; above = le-leb 1 back.state (omega (arith, low, high)) };
 }

@@ -61,10 +61,23 @@ impl Flow for Numbers {
         }
         Ok(rose)
     }
+
+    fn work(&self, _place: usize) -> usize {
+        1
+    }
+
+    fn patience(&self) -> usize {
+        0
+    }
+
+    // What goes on from place 1 comes back there by place 2 as 1 or more.
+    fn accelerate(&self, place: usize, _number: &u8, _by: &u8) -> Result<Option<u8>, AllocError> {
+        if place == 1 { Ok(Some(1)) } else { Ok(None) }
+    }
 }
 
 // Places 1 and 2 are a loop in which 1 is brought, so 1 is raised twice, from nothing to 0 and to 1. Place 4 gets 1 from
-// the loop and 2 from the branch. No way leads to place 5.
+// the loop and 2 from the branch. No way leads to place 5. What arrives at a place that has a state asks for more.
 #[test]
 fn the_least_numbers_are_found(rt: HostRuntime) -> Result<(), Fail> {
     let numbers = Numbers { alloc: rt.alloc() };
