@@ -65,6 +65,17 @@ def heads(count, units=16_000):
     return rotated(count, "".join(f"if-eqz v0, :h{k}\n:h{k}\n" for k in range((units - 4 * count) // 2)))
 
 
+def spiral(count, heads=5_000):
+    """254 registers that move on by one in each round of a loop of many heads, and behind it blocks, each of which brings an object of the next higher class to it."""
+    moves = "move-object/from16 v255, v1\n" + "".join(f"move-object/from16 v{k}, v{k + 1}\n" for k in range(1, 255))
+    fill = f"const/4 v0, 0x0\nsget-object v1, LMain;->f{count}:LC{count};\n" + "".join(f"move-object/from16 v{k}, v1\n" for k in range(2, 256))
+    lines = "".join(f"if-eqz v0, :h{k}\n:h{k}\n" for k in range(heads))
+    blocks = "".join(f":b{k}\nsget-object v1, LMain;->f{k}:LC{k};\nif-eqz v0, :near\n" for k in reversed(range(count)))
+    body = f"{fill}goto :loop\n:near\nif-eqz v0, :loop\n:loop\n{moves}{lines}if-nez v0, :loop\n{blocks}return-void\n"
+    fields = "".join(f".field static f{k}:LC{k};\n" for k in range(count + 1))
+    return chain("C", count + 1) + class_of("Main", more=fields + method("static main()V", 256, body))
+
+
 def climb(count):
     """Blocks behind one head, each of which brings an object of the next higher class to it."""
     blocks = "".join(f":b{k}\nsget-object v0, LMain;->f{k}:LC{k};\ngoto/16 :head\n" for k in reversed(range(count)))
@@ -140,6 +151,7 @@ CASES = {
     "dims": (dims, (1, 16, 254)),
     "rotate": (rotate, (16, 64, 254)),
     "heads": (heads, (4, 8, 16)),
+    "spiral": (spiral, (10, 30, 100)),
     "climb": (climb, (128, 256, 512)),
     "catchers": (catchers, (500, 1_000, 2_000)),
     "joins": (joins, (60, 120, 240)),

@@ -27,7 +27,7 @@ loop-place-init g c =
 
 pub turn-requires-clause-place : goal.turn-requires-clause-place
 turn-requires-clause-place g c =
-    omega (arith, c.loop-place.invariant.partly.flagged, waits_within c.loop-place.waiting c.in-Some.place c.in-Some.ensures.lowest.0)
+    omega (arith, c.loop-place.invariant.partly.flagged, waits_within c.loop-place.waiting c.in-Some.place c.in-Some.ensures.one)
 
 pub turn-requires-clause-partly : goal.turn-requires-clause-partly
 turn-requires-clause-partly g c =
@@ -38,7 +38,7 @@ loop-place-preserved g c = next_step _ _ _ _ c.loop-place.states.items c.take.ne
 
 pub loop-place-smaller : goal.loop-place-smaller
 loop-place-smaller g c =
-    omega (arith, c.in_ok-turn.ensures.less, taken_less c.loop-place.waiting c.in-Some.place c.take.new.self c.in-Some.ensures.lowest.0 c.in-Some.ensures.taken)
+    omega (arith, c.in_ok-turn.ensures.less, taken_less c.loop-place.waiting c.in-Some.place c.take.new.self c.in-Some.ensures.one c.in-Some.ensures.taken)
 
 pub returns-clause-least : goal.returns-clause-least
-returns-clause-least g c = ended _ _ c.loop-place.states.items c.loop-place.waiting c.in_default.ensures.lowest c.loop-place.invariant
+returns-clause-least g c = ended _ _ c.loop-place.states.items c.loop-place.waiting c.in_default.ensures.one c.loop-place.invariant
