@@ -18,8 +18,8 @@ static long allocations, reads, writes;
 static int is_due(const char *name, long *count)
 {
     const char *wanted = getenv(name);
-    *count += 1;
-    return wanted && atol(wanted) == *count;
+    long number = __atomic_add_fetch(count, 1, __ATOMIC_SEQ_CST);
+    return wanted && atol(wanted) == number;
 }
 
 void *malloc(size_t n) { return is_due("FAIL_ALLOC", &allocations) ? (errno = ENOMEM, NULL) : __libc_malloc(n); }
@@ -65,4 +65,12 @@ __attribute__((destructor)) static void tell(void)
         fprintf(file, "%ld %ld %ld\n", seen[0], seen[1], seen[2]);
         fclose(file);
     }
+}
+
+// A program that may start threads ends by this call, which runs no destructors.
+void _exit(int status)
+{
+    tell();
+    syscall(SYS_exit_group, status);
+    __builtin_unreachable();
 }

@@ -181,10 +181,10 @@ def flood(count):
 
 
 CASES = {
-    "flood": (flood, (2_048, 8_192, 32_768)),
+    "flood": (flood, (2_048, 32_768, 65_536)),
     "dims": (dims, (1, 16, 254)),
     "rotate": (rotate, (16, 64, 254)),
-    "heads": (heads, (4, 8, 16)),
+    "heads": (heads, (16, 64, 254)),
     "spiral": (spiral, (10, 30, 100)),
     "climb": (climb, (128, 256, 512)),
     "catchers": (catchers, (500, 1_000, 2_000)),
