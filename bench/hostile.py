@@ -4,7 +4,8 @@
 Usage: bench/hostile.py [--program PROGRAM] [--limit SECONDS] [CASE [SIZE..]]
        bench/hostile.py --text CASE SIZE          writes the text instead
 
-Without a case all are tried at their sizes. PROGRAM is a built `dvm` (crates/dvm/out/dvm). A line has the case, its size, the text's bytes, the
+Without a case all are tried at their sizes, of which the last is what the limits of the program leave room for. A size is a number, or NxM: M methods of size N, where a case
+is of one method (8x16,384 units of 256 registers is the limit of cells). PROGRAM is a built `dvm` (crates/dvm/out/dvm). A line has the case, its size, the text's bytes, the
 status, processor seconds, megabytes and printed bytes, and behind the second line of a case by what power of the text's growth the time grew. A run
 past the limit (120 seconds) is stopped.
 """
@@ -129,11 +130,16 @@ def shared(count):
     return class_of("Main", more=f".method static main()V\n.registers 1\n.units\n{lines}.end units\n.end method\n")
 
 
-def tables(count, own=16):
+def tables(count, own=16, flags=""):
     """Classes under one another, each with methods of its own."""
-    body = "".join(method(f"m{k}()V", 1, "return-void\n") for k in range(own))
-    named = lambda at: "".join(method(f"m{at}x{k}()V", 1, "return-void\n") for k in range(own - 1))
+    body = "".join(method(f"{flags}m{k}()V", 1, "return-void\n") for k in range(own))
+    named = lambda at: "".join(method(f"{flags}m{at}x{k}()V", 1, "return-void\n") for k in range(own - 1))
     return "".join(class_of(f"C{k}", OBJECT if k == 0 else f"LC{k - 1};", more=(body if k == 0 else named(k))) for k in range(count))
+
+
+def finals(count):
+    """The same with methods that are final, none of which is overridden."""
+    return tables(count, flags="final ")
 
 
 def implements(count):
@@ -180,22 +186,38 @@ def flood(count):
     return main_class("".join(f":{name}\n" for name in itertools.islice(names, count)) + "return-void\n", 1)
 
 
+def times(make, size, count):
+    """A text of one method `main` with more of it, under other names."""
+    text = make(size)
+    begins = text.index(".method static main()V\n")
+    whole = text[begins:text.index(".end method\n", begins)] + ".end method\n"
+    return text + "".join(whole.replace(" main()V", f" main{k}()V", 1) for k in range(1, count))
+
+
+# The sizes of each case; the last is the largest that the limits leave room for: 8,388,608 bytes, 1,023 classes beside main's, 16,384 methods, 33,554,432 cells.
 CASES = {
-    "flood": (flood, (2_048, 32_768, 65_536)),
-    "dims": (dims, (1, 16, 254)),
-    "rotate": (rotate, (16, 64, 254)),
-    "heads": (heads, (16, 64, 254)),
-    "spiral": (spiral, (10, 30, 100)),
-    "climb": (climb, (128, 256, 512)),
-    "catchers": (catchers, (500, 1_000, 2_000)),
-    "joins": (joins, (60, 120, 240)),
-    "refs": (refs, (600, 1_200, 2_400)),
-    "faults": (faults, (1_000, 4_000)),
-    "shared": (shared, (100, 400, 1_600)),
-    "tables": (tables, (100, 400, 900)),
-    "implements": (implements, (100, 400, 900)),
-    "cycle": (cycle, (100, 400, 900)),
+    "flood": (flood, ("2048", "32768", "65536")),
+    "dims": (dims, ("1", "16", "254", "254x8")),
+    "rotate": (rotate, ("16", "64", "254", "254x8")),
+    "heads": (heads, ("16", "64", "254", "254x8")),
+    "spiral": (spiral, ("10", "30", "100", "100x8")),
+    "climb": (climb, ("128", "256", "512", "980")),
+    "catchers": (catchers, ("500", "1000", "5000", "5000x6")),
+    "joins": (joins, ("60", "120", "240", "1000", "1000x8")),
+    "refs": (refs, ("600", "1200", "2400", "10000")),
+    "faults": (faults, ("1000", "4000", "4000x8")),
+    "shared": (shared, ("100", "400", "1600", "1600x60")),
+    "tables": (tables, ("100", "400", "900", "985")),
+    "finals": (finals, ("100", "400", "900", "985")),
+    "implements": (implements, ("100", "400", "900", "985")),
+    "cycle": (cycle, ("100", "400", "900", "990")),
 }
+
+
+def text_of(name, size):
+    """The text of a case of a size N or NxM."""
+    of, _, count = size.partition("x")
+    return times(CASES[name][0], int(of), int(count)) if count else CASES[name][0](int(of))
 
 
 def run(program, text, limit):
@@ -212,20 +234,20 @@ def run(program, text, limit):
 def tell(program, name, sizes, limit):
     before = None
     for size in sizes:
-        text = CASES[name][0](size)
+        text = text_of(name, size)
         status, seconds, megabytes, printed = run(program, text, limit)
         grew = ""
         if before and len(text) > before[0] and seconds > 0.05:
             grew = f"  grows as the text to the power of {math.log(seconds / max(before[1], 0.001)) / math.log(len(text) / before[0]):.1f}"
         told = "past the limit" if status is None else f"status {status}"
-        print(f"{name:<12}{size:>6}{len(text):>10} bytes  {told:<10}{seconds:>9.2f} s{megabytes:>7} MB{printed:>12} bytes printed{grew}", flush=True)
+        print(f"{name:<12}{size:>8}{len(text):>10} bytes  {told:<10}{seconds:>9.2f} s{megabytes:>7} MB{printed:>12} bytes printed{grew}", flush=True)
         before = len(text), seconds
 
 
 def main(words):
     program, limit = os.path.join(TOP, "crates", "dvm", "out", "dvm"), 120
     if words[:1] == ["--text"]:
-        sys.stdout.write(CASES[words[1]][0](int(words[2])))
+        sys.stdout.write(text_of(words[1], words[2]))
         return
     while words[:1] in (["--program"], ["--limit"]):
         if words[0] == "--program":
@@ -236,7 +258,7 @@ def main(words):
     if not os.access(program, os.X_OK):
         sys.exit(f"{program} isn't built: run ./dvm verify < /dev/null")
     for name in words[:1] or CASES:
-        tell(program, name, [int(it) for it in words[1:]] or CASES[name][1], limit)
+        tell(program, name, words[1:] or CASES[name][1], limit)
 
 
 if __name__ == "__main__":
