@@ -1,4 +1,4 @@
-use Rattle.std.proofs.Common.{◌≡◌, ◌<◌, rules, length, get_or, sym, ap, ◌∙◌, Some, None}
+use Rattle.std.proofs.Common.{◌≡◌, ◌<◌, rules, length, get_or, arith, sym, ap, ◌∙◌, Some, None}
 use Rattle.std.specs.Prelude.{option_map}
 use Rattle.dv_defs.specs.LinkFaults.{found, overrides_final}
 use Rattle.dv_hier.proofs.AboveLaws.{first_in_more, first_in_told}
@@ -6,9 +6,23 @@ use Rattle.dv_vtable.specs.Chains.{key_in}
 use Rattle.dv_vtable.specs.Finals.{final_above}
 use Rattle.dv_vtable.specs.Numbered.{all_methods, number_in, numbers_in}
 use Rattle.dv_vtable.proofs.EnteredLaws.{key_count}
-use Rattle.dv_vtable.proofs.FinalLemmas.{among_at, has_told, number_within, override_told, override_lacks, override_free, own_class, own_number}
+use Rattle.dv_vtable.proofs.FinalLemmas.{among_at, as_many_own, has_told, number_within, override_told, override_lacks, override_free, own_class, own_number}
 use Rattle.dv_vtable.proofs.finals.check_finals.Goals as goal
 use Rattle.dv_vtable.proofs.finals.check_finals.Goals.{in-Some+else-has, in_default}
+
+pub enter_finals_above-requires-clause-class : goal.enter_finals_above-requires-clause-class
+enter_finals_above-requires-clause-class c = (own_class c.args.infos.now c.args.place c.args.class.now c.requires.class).1
+
+pub own-own-requires-clause-class : goal.own-own-requires-clause-class
+own-own-requires-clause-class c = (own_class c.args.infos.now c.args.place c.args.class.now c.requires.class).1
+
+pub bounds-own-i : goal.bounds-own-i
+bounds-own-i c =
+    let cs = c.args.infos.now in
+    let ms = c.args.class.now.methods in
+    let here = own_class cs c.args.place c.args.class.now c.requires.class in
+    let within : c.loop-i.i < length ms = rw c.items-method-items.ensures at c.loop-i-test.true in
+    omega (arith, as_many_own (all_methods cs) ms c.own-own.result.now (c.own-own.ensures ∙ ap (numbers_in (all_methods cs)) here.0), within)
 
 pub has-requires : goal.has-requires
 has-requires c =

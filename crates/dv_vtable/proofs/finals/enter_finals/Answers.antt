@@ -11,6 +11,16 @@ use Rattle.dv_vtable.proofs.FinalLemmas.{among_at, as_many_own, finals_all, fina
 use Rattle.dv_vtable.proofs.finals.enter_finals.Goals as goal
 use Rattle.dv_vtable.proofs.finals.enter_finals.Goals.{in-Some+then-is_in+in_ok-enter, in-Some+else-is_in, in_default}
 
+pub bounds-methods-place : goal.bounds-methods-place
+bounds-methods-place c =
+    let cs = c.args.infos.now in
+    let ms = c.items-methods.result.now in
+    let own = c.own-key-items.result.now in
+    let same : methods_of (slice_get cs c.args.class) ≡ ms =
+    ap methods_of (slice_get-get_or cs c.args.class c.index-infos-class.result c.requires.class) ∙ sym c.items-methods.ensures in
+    let are : own ≡ numbers_in (all_methods cs) ms = c.own-key-items.ensures ∙ ap (numbers_in (all_methods cs)) same in
+    omega (arith, as_many_own (all_methods cs) ms own are, c.loop-place-test.true)
+
 pub enter-requires : goal.enter-requires
 enter-requires c =
     let cs = c.args.infos.now in
