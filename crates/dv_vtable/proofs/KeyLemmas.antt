@@ -1,7 +1,6 @@
 -- Keys of methods.
 use Rattle.std.proofs.Common.{◌≡◌, ◌+◌, ◌<◌, ℕ, Bool, true, false, cond, ◌&&◌, ◌||◌, bytes_eq, List, [], ◌∷◌, ◌++◌, length, take, get_or, Option, Some, None, refl, sym, ap, ◌∙◌, arith}
 use Rattle.std.specs.Prelude.{nat_eq}
-use Rattle.std.specs.Cmp.{IsEquivalence}
 use Rattle.std.specs.Ordering.{is_eq}
 use Rattle.std.specs.List.{list_any}
 use Rattle.std.proofs.lemmas.List.{take_more}
@@ -16,12 +15,8 @@ use Rattle.dv_defs.specs.Types.{ty_eq, base_eq, same_types, same_result, same_pr
 use Rattle.dv_defs.specs.LinkFaults.{same_method}
 use Rattle.dv_defs.proofs.Keys.{protos}
 use Rattle.dv_vtable.specs.declared.keys.MethodKey.{MethodKey}
-use Rattle.dv_vtable.specs.contracts.keys.MethodKeyEq.TheImpl.Laws as of_equal
 use Rattle.dv_vtable.specs.contracts.keys.MethodKeyOrd.TheImpl.Laws as of_order
 use Rattle.dv_vtable.specs.Keys.{key_eq, key_cmp}
-
-pub equal_laws : IsEquivalence key_eq
-equal_laws = of_equal.laws-law
 
 -- keys are equal where neither comes before the other
 pub equal_by_order : (k q : MethodKey) → key_eq k q ≡ is_eq (key_cmp k q)

@@ -1,6 +1,8 @@
 pub mod TabledLaws
 pub mod KeyLemmas
-pub mod KeyPlaces
+pub mod TablePlaces
+pub mod NumberLaws
+pub mod FirstLaws
 pub mod MethodLemmas
 pub mod FinalLemmas
 pub mod Inserting

@@ -1,6 +1,6 @@
 -- Methods of one name and prototype, and what a class's methods are checked for.
 use Rattle.std.proofs.Common.{◌≡◌, ◌+◌, ◌<◌, ◌≤◌, ℕ, Bool, true, false, not, List, length, take, get_or, position, Option, Some, None, refl, sym, ap, ◌∙◌, arith}
-use Rattle.std.specs.Prelude.{nat_eq, nat_lt, option_map}
+use Rattle.std.specs.Prelude.{nat_eq, nat_lt, option_map, slice_get}
 use Rattle.std.specs.List.{list_any}
 use Rattle.std.proofs.lemmas.List.{take_all, length-map, get_or-map}
 use Rattle.std.proofs.lemmas.Option.{slice_get_read}
@@ -89,6 +89,9 @@ defs_count infos = length-map infos (λ (c : ClassInfo). c.def)
 
 def_at : (infos : List ClassInfo) (i : ℕ) (c : ClassInfo) → i < length infos → c ≡ get_or infos i c → c.def ≡ get_or (defs infos) i c.def
 def_at infos i c within is = sym (get_or-map (λ (c : ClassInfo). c.def) infos i c c.def within ∙ ap (λ (c : ClassInfo). c.def) (sym is))
+
+pub def_there : (infos : List ClassInfo) (i : ℕ) (c : ClassInfo) → i < length infos → c ≡ get_or infos i c → slice_get (defs infos) i ≡ Some c.def
+def_there infos i c within is = slice_get_read (defs infos) (length infos) i c.def (sym (defs_count infos)) within (def_at infos i c within is)
 
 -- one turn of a loop over classes that found nothing
 pub class_more : (test : LinkTest) (infos : List ClassInfo) (i : ℕ) (c : ClassInfo) → first_below (fault_at test (defs infos)) i ≡ None → i < length infos → c ≡ get_or infos i c → option_map (found c.def.name) (test i c.def) ≡ None → first_below (fault_at test (defs infos)) (i + 1) ≡ None

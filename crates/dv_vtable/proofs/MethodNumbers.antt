@@ -13,7 +13,7 @@ use Rattle.dv_defs.specs.declared.image.MethodInfo.{MethodInfo}
 use Rattle.law_linking.proofs.Members.{method_info}
 use Rattle.dv_vtable.specs.Chains.{first_method}
 
-first_more : (cs : List ClassInfo) (i : ℕ) (c : ClassInfo) → slice_get cs i ≡ Some c
+pub first_more : (cs : List ClassInfo) (i : ℕ) (c : ClassInfo) → slice_get cs i ≡ Some c
     → first_method cs (i + 1) ≡ first_method cs i + length c.def.methods
 first_more [] i c there = absurd (cc)
 first_more (d ∷ cs) zero c there =

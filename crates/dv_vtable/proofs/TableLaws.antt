@@ -110,11 +110,11 @@ table_is image is apart c =
 -- ---- all classes
 
 -- the turn of a loop over classes
-pub tables_more : (cs : List ClassInfo) (i : ℕ) (chain : List ℕ) (table pushed : List MethodId) (tables new : List (List MethodId))
-    → chain ≡ chain_of cs i → table ≡ chain_table cs chain → pushed ≡ table
+pub tables_more : (cs : List ClassInfo) (i : ℕ) (table pushed : List MethodId) (tables new : List (List MethodId))
+    → table ≡ table_of cs i → pushed ≡ table
     → tables ≡ tables_below cs i → new ≡ tables ++ pushed ∷ [] → new ≡ tables_below cs (i + 1)
-tables_more cs i chain table pushed tables new nearest made same so_far added =
-    let here : pushed ≡ table_of cs i = same ∙ (made ∙ ap (chain_table cs) nearest) in
+tables_more cs i table pushed tables new made same so_far added =
+    let here : pushed ≡ table_of cs i = same ∙ made in
     rw (map-range_with_len_more (table_of cs) 0 i i (omega arith), added, so_far, here) refl
 
 joined_are : (image : Image) (tables : ℕ → List MethodId) (a : ℕ) (cs : List ClassInfo)

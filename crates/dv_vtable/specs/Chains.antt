@@ -30,10 +30,6 @@ key_in m = record { name = m.name; proto = m.proto }
 abbrev pub key_told : MethodKey → Key
 key_told k = record { name = k.name.now; proto = k.proto.now }
 
--- what a map from keys to methods tells
-abbrev pub told : List (MethodKey × MethodId) → List (Key × MethodId)
-told es = map (λ e. (key_told e.0, e.1)) es
-
 -- ---- entries
 
 -- the entries with a key's value: a key that is there keeps its place, and a new one goes last

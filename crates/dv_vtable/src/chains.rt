@@ -1,46 +1,32 @@
 // The table of a class, from its own methods and those of its superclasses.
-ghost use Rattle.std.specs.Prelude.{◌≡◌, ◌<◌, ◌+◌, ◌^◌, length, map, sum_by, All, IfOk, OnOk};
-ghost use Rattle.std.specs.List.{range_with_len};
+ghost use Rattle.std.specs.Prelude.{◌≡◌, ◌<◌, ◌+◌, ◌^◌, [], length, sum_by, All, IfOk, IfSome, OnOk};
 ghost use Rattle.dv_defs.specs.Order.{numbers};
 ghost use Rattle.law_linking.specs.Stripped.{AreInRange};
 ghost use Rattle.dv_vtable.specs.Chains as spec;
+ghost use Rattle.dv_vtable.specs.Numbered.{AreNumbers, all_methods, entered_numbers, numbered};
 
-use crate::keys::key_of;
+use crate::key_numbers::KeyNumbers;
 use crate::table::Table;
-use dv_defs::{ClassDef, ClassId, ClassInfo, Flag, MethodDef, MethodId};
+use dv_defs::{ClassId, ClassInfo, MethodId};
 use std::alloc::{AllocError, Global};
 
-const INIT: &[u8] = b"<init>";
-
-/// Whether a call on an object may land on the method: it is an instance method, and neither private nor a constructor.
-fn is_in_tables(method: &MethodDef) -> bool
-    ensures { result ≡ spec.is_in_tables method.now }
+/// Enters a class's own methods by the numbers of their keys. A key that is there keeps its place, and has the class's method now. `first`
+/// is the number of the class's first method.
+fn enter(table: &mut Table, own: &[Option<u32>], first: u32) -> Result<(), AllocError>
+    requires few_methods { first + length own.now < 2 ^ 32 }
+    requires range { All (λ key. IfSome key (λ n. n < table.old.count)) own.now }
+    ensures { OnOk result (table.new ≡ record { entries = entered_numbers table.old.entries first own.now; count = table.old.count }) }
 {
-    !Flag::Static.is_in(method.flags)
-        && !Flag::Private.is_in(method.flags)
-        && method.name.bytes() != INIT
-}
-
-/// Enters a class's own methods. A key that is there keeps its place, and has the class's method now. `first` is the number of the
-/// class's first method.
-fn enter<'a>(table: &mut Table<'a>, class: &'a ClassDef, first: u32) -> Result<(), AllocError>
-    requires few_methods { first + length class.now.methods < 2 ^ 32 }
-    ensures { OnOk result (spec.told table.new ≡ spec.entered (spec.told table.old) first class.now.methods) }
-{
-    for (place, method) in class.methods.items().iter().enumerate() {
-        if is_in_tables(method) {
-            table.enter(key_of(method), MethodId(first + place as u32))?;
+    for (place, key) in own.iter().enumerate() {
+        if let Some(number) = key {
+            table.enter(*number, MethodId(first + place as u32))?;
         }
     }
     Ok(())
 }
 
 /// A class and its superclasses, nearest first.
-pub fn chain_of(
-    alloc: Global,
-    infos: &[ClassInfo],
-    class: ClassId,
-) -> Result<Vec<ClassId>, AllocError>
+fn chain_of(alloc: Global, infos: &[ClassInfo], class: ClassId) -> Result<Vec<ClassId>, AllocError>
     requires range { AreInRange infos.now }
     requires class { class.0 < length infos.now }
     ensures chain { IfOk result (λ chain. numbers chain.items ≡ spec.chain_of infos.now class.0) }
@@ -58,23 +44,47 @@ pub fn chain_of(
     Ok(chain)
 }
 
-/// The table of a class whose chain this is, nearest first: the farthest class's methods come first. `firsts` are the numbers of the
-/// classes' first methods.
+/// Enters the methods of a chain, which is nearest first: the farthest class's methods come first. The table is empty.
+fn enter_chain(
+    table: &mut Table,
+    infos: &[ClassInfo],
+    keys: &KeyNumbers,
+    chain: &[ClassId],
+) -> Result<(), AllocError>
+    requires few_methods { sum_by (λ c. length c.def.methods) infos.now < 2 ^ 31 }
+    requires numbers { AreNumbers infos.now keys.now.firsts.items keys.now.keys.items }
+    requires range { All (λ c. c.0 < length infos.now) chain.now }
+    requires table { table.old ≡ record { entries = []; count = length keys.now.keys.items } }
+    ensures { OnOk result (table.new ≡ record {
+      entries = numbered (all_methods infos.now) (spec.entered_chain infos.now [] (numbers chain.now));
+      count = table.old.count;
+    }) }
+{
+    for k in (0..chain.len()).rev() {
+        let class = chain[k].0 as usize;
+        enter(table, keys.own(infos, class), keys.firsts[class])?;
+    }
+    Ok(())
+}
+
+/// The table of a class.
 pub fn table_of(
     alloc: Global,
+    table: &mut Table,
     infos: &[ClassInfo],
-    firsts: &[u32],
-    mut chain: Vec<ClassId>,
+    keys: &KeyNumbers,
+    class: ClassId,
 ) -> Result<Vec<MethodId>, AllocError>
-    requires range { All (λ c. c.0 < length infos.now) chain.items }
+    requires range { AreInRange infos.now }
+    requires class { class.0 < length infos.now }
     requires few_methods { sum_by (λ c. length c.def.methods) infos.now < 2 ^ 31 }
-    requires firsts { firsts.now ≡ map (spec.first_method infos.now) (range_with_len 0 (length infos.now)) }
-    ensures { IfOk result (λ table. table.items ≡ spec.chain_table infos.now (numbers chain.items)) }
+    requires numbers { AreNumbers infos.now keys.now.firsts.items keys.now.keys.items }
+    requires count { table.old.count ≡ length keys.now.keys.items }
+    ensures count { OnOk result (table.new.count ≡ table.old.count) }
+    ensures table { IfOk result (λ methods. methods.items ≡ spec.table_of infos.now class.0) }
 {
-    let mut table = Table::new(alloc);
-    while let Some(id) = chain.pop() {
-        let class = id.0 as usize;
-        enter(&mut table, &infos[class].def, firsts[class])?;
-    }
+    let chain = chain_of(alloc, infos, class)?;
+    table.clear();
+    enter_chain(table, infos, keys, &chain)?;
     table.methods(alloc)
 }

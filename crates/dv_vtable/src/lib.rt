@@ -4,6 +4,7 @@
 mod bodies;
 mod chains;
 mod finals;
+mod key_numbers;
 mod keys;
 mod methods;
 mod numbering;

@@ -1,5 +1,5 @@
 // Methods that a class may not declare as it does.
-ghost use Rattle.std.specs.Prelude.{◌≡◌, ◌<◌, false, length, option_map, IfOk};
+ghost use Rattle.std.specs.Prelude.{◌≡◌, false, Some, length, option_map, slice_get, IfOk, OnOk};
 ghost use Rattle.std.specs.BTreeSet.{contains};
 ghost use Rattle.dv_defs.specs.declared.faults.LinkKind.TheVariants as kind;
 ghost use Rattle.dv_defs.specs.First.{first_below};
@@ -8,10 +8,13 @@ ghost use Rattle.dv_defs.specs.LinkFaults.{Checks, first_fault_by, found, method
 ghost use Rattle.dv_defs.specs.Linked.{defs};
 ghost use Rattle.law_linking.specs.Stripped.{AreInRange};
 ghost use Rattle.dv_vtable.specs.declared.keys.MethodKey.{MethodKey as Key};
+ghost use Rattle.dv_vtable.specs.Numbered.{AreNumbers};
 
 use crate::bodies::check_bodies;
 use crate::finals::check_finals;
+use crate::key_numbers::KeyNumbers;
 use crate::keys::{MethodKey, key_of};
+use crate::table::Table;
 use dv_defs::{ClassDef, ClassInfo, LinkError, LinkKind, MethodDef, Text};
 use dv_hier::error_of;
 use std::alloc::{AllocError, Global};
@@ -57,34 +60,47 @@ fn method_twice(alloc: Global, methods: &[MethodDef]) -> Result<Option<Text>, Al
     }
 }
 
-/// The first method of a class that may not stand as it is declared. `place` is the number of the class.
+/// The first method of a class that may not stand as it is declared. `place` is the number of the class, and `finals` has room for the
+/// keys of final methods.
 fn check_class(
     alloc: Global,
+    finals: &mut Table,
     infos: &[ClassInfo],
+    keys: &KeyNumbers,
     boot: u32,
     place: usize,
     class: &ClassDef,
 ) -> Result<(), LinkError>
     requires range { AreInRange infos.now }
-    requires place { place < length infos.now }
-    ensures { (image : Image) → image.classes ≡ infos.now → image.boot ≡ boot
+    requires numbers { AreNumbers infos.now keys.now.firsts.items keys.now.keys.items }
+    requires class { slice_get (defs infos.now) place ≡ Some class.now }
+    requires count { finals.old.count ≡ length keys.now.keys.items }
+    ensures count { OnOk result (finals.new.count ≡ finals.old.count) }
+    ensures fault { (image : Image) → image.classes ≡ infos.now → image.boot ≡ boot
         → Checks result (option_map (found class.now.name) (wrong_methods image place class.now)) }
 {
     if let Some(name) = method_twice(alloc, class.methods.items())? {
         return Err(error_of(&class.name, LinkKind::MethodTwice(name)));
     }
     check_bodies(boot, place, class)?;
-    check_finals(alloc, infos, place, class)
+    check_finals(finals, infos, keys, place, class)
 }
 
 /// The first class with a method that it declares twice, that has a body where it may not or none where it must, or that overrides
 /// a final one (JLS 8.4.2, 8.4.3.3).
-pub fn check_methods(alloc: Global, infos: &[ClassInfo], boot: u32) -> Result<(), LinkError>
+pub fn check_methods(
+    alloc: Global,
+    infos: &[ClassInfo],
+    keys: &KeyNumbers,
+    boot: u32,
+) -> Result<(), LinkError>
     requires range { AreInRange infos.now }
+    requires numbers { AreNumbers infos.now keys.now.firsts.items keys.now.keys.items }
     ensures { (image : Image) → image.classes ≡ infos.now → image.boot ≡ boot → Checks result (first_fault_by (wrong_methods image) (defs infos.now)) }
 {
+    let mut finals = Table::new(alloc, keys.keys.len())?;
     for (place, info) in infos.iter().enumerate() {
-        check_class(alloc, infos, boot, place, &info.def)?;
+        check_class(alloc, &mut finals, infos, keys, boot, place, &info.def)?;
     }
     Ok(())
 }

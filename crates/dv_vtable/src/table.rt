@@ -1,61 +1,89 @@
-// Methods by their keys, in the order in which the keys were met.
-ghost use Rattle.std.specs.Prelude.{◌≡◌, [], map, IfOk, OnOk};
+// Methods by the numbers of their keys, in the order in which the keys were met.
+ghost use Rattle.std.specs.Prelude.{◌≡◌, ◌<◌, [], map, nat_eq, position, IfOk, OnOk};
+ghost use Rattle.std.specs.List.{list_any};
 ghost use Rattle.dv_vtable.specs.Chains.{insert_entry};
+ghost use Rattle.dv_vtable.specs.Numbered.{numbers_of};
 
-use crate::keys::MethodKey;
 use dv_defs::MethodId;
 use std::alloc::{AllocError, Global};
-use std::collections::BTreeMap;
 use std::marker::Model;
 
-/// Methods with what they are told apart by, and the place of each key. To a contract it is the list of the keys with their methods.
+/// Methods with the numbers of their keys. Each number has the place of its entry, which holds where the entry there has the number. To a
+/// contract it is the list of the entries, beside the count of numbers.
 #[derive(Drop)]
-pub struct Table<'a> {
-    entries: Vec<(MethodKey<'a>, MethodId)>,
-    places: BTreeMap<MethodKey<'a>, usize>,
+pub struct Table {
+    entries: Vec<(u32, MethodId)>,
+    places: Vec<usize>,
 }
 
-impl<'a> Model for Table<'a> {
-    ghost use Rattle.std.specs.Prelude.{List};
-    ghost use Rattle.dv_defs.specs.declared.names.MethodId.{MethodId};
-    ghost use Rattle.dv_vtable.specs.declared.keys.MethodKey.{MethodKey};
-    ghost use Rattle.dv_vtable.specs.Keys.{HavePlaces};
+impl Model for Table {
+    ghost use Rattle.std.specs.Prelude.{length};
+    ghost use Rattle.dv_vtable.specs.Numbered.{TableValue, HavePlaces, numbers_of};
 
-    ghost Value = { List (MethodKey × MethodId) };
+    ghost Value = { TableValue };
 
-    ghost view = { λ table. table.entries.items };
+    ghost view = { λ table. record { entries = table.entries.items; count = length table.places.items } };
 
-    ghost invariant = { λ table. HavePlaces table.entries.items table.places };
+    ghost invariant = { λ table. HavePlaces (numbers_of table.entries.items) table.places.items };
 }
 
-impl<'a> Table<'a> {
-    pub fn new(alloc: Global) -> Table<'a>
-        ensures { result ≡ [] }
+impl Table {
+    /// Without entries, for numbers below a count.
+    pub fn new(alloc: Global, count: usize) -> Result<Table, AllocError>
+        ensures { IfOk result (λ table. table ≡ record { entries = []; count = count }) }
     {
-        Table {
+        Ok(Table {
             entries: Vec::new(alloc),
-            places: BTreeMap::new(alloc),
+            places: vec![in alloc; 0; count]?,
+        })
+    }
+
+    /// Leaves no entry.
+    pub fn clear(&mut self)
+        ensures { self.new ≡ record { entries = []; count = self.old.count } }
+    {
+        self.entries.clear();
+    }
+
+    /// The place of a number's entry.
+    fn place_of(&self, number: u32) -> Option<usize>
+        requires { number < self.now.count }
+        ensures { result ≡ position (nat_eq number) (numbers_of self.now.entries) }
+    {
+        let place = self.places[number as usize];
+        if place < self.entries.len() && self.entries[place].0 == number {
+            Some(place)
+        } else {
+            None
         }
     }
 
-    /// Enters a method. A key that is there keeps its place, and has this method now; a new one goes last.
-    pub fn enter(&mut self, key: MethodKey<'a>, method: MethodId) -> Result<(), AllocError>
-        ensures { OnOk result (self.new ≡ insert_entry ⟦<MethodKey<'a> as PartialEq>⟧.eq self.old key.entry method) }
+    /// Whether a number has an entry.
+    pub fn has(&self, number: u32) -> bool
+        requires { number < self.now.count }
+        ensures { result ≡ list_any (nat_eq number) (numbers_of self.now.entries) }
     {
-        match self.places.get(&key).copied() {
+        self.place_of(number).is_some()
+    }
+
+    /// Enters a method. A number that is there keeps its place, and has this method now; a new one goes last.
+    pub fn enter(&mut self, number: u32, method: MethodId) -> Result<(), AllocError>
+        requires { number < self.old.count }
+        ensures { OnOk result (self.new ≡ record { entries = insert_entry nat_eq self.old.entries number method; count = self.old.count }) }
+    {
+        match self.place_of(number) {
             Some(place) => self.entries[place].1 = method,
             None => {
-                self.entries.reserve(1)?;
-                self.places.insert(key, self.entries.len())?;
-                self.entries.push_reserved((key, method));
+                self.entries.push((number, method))?;
+                self.places[number as usize] = self.entries.len() - 1;
             }
         }
         Ok(())
     }
 
-    /// The methods in the order of their keys.
+    /// The methods in the order of their entries.
     pub fn methods(&self, alloc: Global) -> Result<Vec<MethodId>, AllocError>
-        ensures { IfOk result (λ methods. methods.items ≡ map (λ e. e.1) self.now) }
+        ensures { IfOk result (λ methods. methods.items ≡ map (λ e. e.1) self.now.entries) }
     {
         self.entries.iter().map(|entry| entry.1).collect(alloc)
     }

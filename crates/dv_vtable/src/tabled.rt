@@ -4,6 +4,7 @@ ghost use Rattle.dv_defs.specs.LinkFaults.{Checks};
 ghost use Rattle.dv_defs.specs.Linked.{defs, method_phase};
 ghost use Rattle.dv_vtable.specs.Tables.{tabled_of};
 
+use crate::key_numbers::KeyNumbers;
 use crate::methods::check_methods;
 use crate::tabling::add_tables;
 use dv_defs::{LinkError, MethodInfo, Seq};
@@ -40,8 +41,10 @@ pub fn tables(alloc: Global, h: Hierarchy) -> Result<Tabled, LinkError>
         boot,
         names,
     } = h;
-    check_methods(alloc, classes.items(), boot)?;
-    let (classes, methods) = add_tables(alloc, classes.into_vec())?;
+    let infos = classes.items();
+    let keys = KeyNumbers::new(alloc, infos)?;
+    check_methods(alloc, infos, &keys, boot)?;
+    let (classes, methods) = add_tables(alloc, classes.into_vec(), &keys)?;
     Ok(Tabled {
         h: Hierarchy {
             classes: Seq::of(classes),

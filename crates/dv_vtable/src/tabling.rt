@@ -1,6 +1,5 @@
 // Tables of methods, and the methods by number.
 ghost use Rattle.std.specs.Prelude.{◌≡◌, ◌<◌, ◌^◌, length, map, zip, sum_by, All, IfOk, None};
-ghost use Rattle.std.specs.List.{range_with_len};
 ghost use Rattle.dv_defs.specs.First.{first_below};
 ghost use Rattle.dv_defs.specs.Images.{Image};
 ghost use Rattle.dv_defs.specs.LinkFaults.{method_twice};
@@ -8,28 +7,31 @@ ghost use Rattle.dv_defs.specs.Linked.{defs, tabled};
 ghost use Rattle.dv_defs.specs.Numbering.{all_methods_declared};
 ghost use Rattle.law_linking.specs.Stripped.{AreInRange};
 ghost use Rattle.dv_vtable.specs.Chains as spec;
+ghost use Rattle.dv_vtable.specs.Numbered.{AreNumbers};
 
-use crate::chains::{chain_of, table_of};
-use crate::numbering::{first_methods, number_methods};
+use crate::chains::table_of;
+use crate::key_numbers::KeyNumbers;
+use crate::numbering::number_methods;
+use crate::table::Table;
 use dv_defs::{ClassId, ClassInfo, MethodId, MethodInfo, Seq};
 use std::alloc::{AllocError, Global};
 
-/// The table of each class. `firsts` are the numbers of their first methods.
+/// The table of each class.
 fn all_tables(
     alloc: Global,
     infos: &[ClassInfo],
-    firsts: &[u32],
+    keys: &KeyNumbers,
 ) -> Result<Vec<Seq<MethodId>>, AllocError>
     requires range { AreInRange infos.now }
     requires few { length infos.now < 2 ^ 32 }
     requires few_methods { sum_by (λ c. length c.def.methods) infos.now < 2 ^ 31 }
-    requires firsts { firsts.now ≡ map (spec.first_method infos.now) (range_with_len 0 (length infos.now)) }
+    requires numbers { AreNumbers infos.now keys.now.firsts.items keys.now.keys.items }
     ensures { IfOk result (λ tables. tables.items ≡ spec.tables_below infos.now (length infos.now)) }
 {
+    let mut room = Table::new(alloc, keys.keys.len())?;
     let mut tables = Vec::new(alloc);
     for class in 0..infos.len() {
-        let chain = chain_of(alloc, infos, ClassId(class as u32))?;
-        let table = table_of(alloc, infos, firsts, chain)?;
+        let table = table_of(alloc, &mut room, infos, keys, ClassId(class as u32))?;
         tables.push(Seq::of(table))?;
     }
     Ok(tables)
@@ -74,10 +76,12 @@ fn joined(
 pub fn add_tables(
     alloc: Global,
     infos: Vec<ClassInfo>,
+    keys: &KeyNumbers,
 ) -> Result<(Vec<ClassInfo>, Vec<MethodInfo>), AllocError>
     requires range { AreInRange infos.items }
     requires few { length infos.items < 2 ^ 32 }
     requires few_methods { sum_by (λ c. length c.def.methods) infos.items < 2 ^ 31 }
+    requires numbers { AreNumbers infos.items keys.now.firsts.items keys.now.keys.items }
     // no class declares a method twice
     requires once { All (λ c. first_below (method_twice c.methods) (length c.methods) ≡ None) (defs infos.items) }
     ensures classes { (image : Image) → image.classes ≡ infos.items → image.methods ≡ all_methods_declared 0 (defs infos.items)
@@ -85,8 +89,7 @@ pub fn add_tables(
     ensures methods { IfOk result (λ done. done.1.items ≡ all_methods_declared 0 (defs infos.items)) }
 {
     let methods = number_methods(alloc, &infos)?;
-    let firsts = first_methods(alloc, &infos)?;
-    let tables = all_tables(alloc, &infos, &firsts)?;
+    let tables = all_tables(alloc, &infos, keys)?;
     let classes = joined(alloc, infos, tables)?;
     Ok((classes, methods))
 }

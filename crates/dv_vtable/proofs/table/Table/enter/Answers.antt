@@ -1,53 +1,71 @@
-use Rattle.std.proofs.Common.{◌≡◌, ◌++◌, ◌∷◌, [], cond, List, length, position, Some, None, is_some, ap, sym, ◌∙◌}
-use Rattle.std.specs.Prelude.{slice_set}
-use Rattle.std.specs.BTreeMap.{get}
-use Rattle.std.proofs.lemmas.List.{length-map}
+use Rattle.std.proofs.Common.{◌≡◌, ◌+◌, ◌-◌, ◌<◌, ◌++◌, ◌∷◌, [], ℕ, List, false, length, set, position, Some, None, is_some, ap, sym, subst, ◌∙◌, arith}
+use Rattle.std.specs.Prelude.{nat_eq, slice_get}
+use Rattle.std.specs.List.{list_any}
+use Rattle.std.proofs.lemmas.List.{length-map, length-set, length_push}
 use Rattle.std.proofs.lemmas.List.Quantifiers.{position-Some}
 use Rattle.dv_defs.specs.declared.names.MethodId.{MethodId}
 use Rattle.dv_hier.proofs.Twice.{some_place}
-use Rattle.dv_vtable.specs.declared.keys.MethodKey.{MethodKey}
 use Rattle.dv_vtable.specs.Chains.{insert_entry}
-use Rattle.dv_vtable.specs.Keys.{key_eq, key_cmp, keys_in}
-use Rattle.dv_vtable.proofs.KeyLemmas.{equal_by_order, equal_laws}
-use Rattle.dv_vtable.proofs.KeyPlaces.{inserted_at, inserted_last, keys_replaced, keys_pushed, places_grown}
+use Rattle.dv_vtable.specs.Numbered.{TableValue, HavePlaces, numbers_of}
+use Rattle.dv_vtable.proofs.TablePlaces.{inserted_at, inserted_last, keys_replaced, keys_pushed, places_pushed}
 use Rattle.dv_vtable.proofs.table.Table.enter.Goals as goal
 
 pub invariant_of-self : goal.invariant_of-self
 invariant_of-self c =
     let es = c.self.inside.entries.items in
-    let key = c.args.key in
-    let at = position-Some (key_eq key) (keys_in es) c.in-Some.place key (sym (c.self.invariant key) ∙ (sym c.get.ensures.value ∙ (sym c.copied.ensures ∙ c.in-Some.is))) in
-    λ q. c.self.invariant q ∙ ap (position (key_eq q)) (sym (keys_replaced es c.in-Some.place c.index_mut.result.now c.args.method c.index_mut.ensures.value at.0))
+    let n = c.args.number in
+    let found : position (nat_eq n) (numbers_of es) ≡ Some c.in-Some.place =
+    ap (λ (t : TableValue). position (nat_eq n) (numbers_of t.entries)) c.self.view_is ∙ (sym c.place_of.ensures ∙ c.in-Some.is) in
+    let at = position-Some (nat_eq n) (numbers_of es) c.in-Some.place n found in
+    let same : numbers_of (set es c.in-Some.place (c.index_mut.result.now.0, c.args.method)) ≡ numbers_of es =
+    keys_replaced es c.in-Some.place c.index_mut.result.now c.args.method c.index_mut.ensures.value at.0 in
+    λ i m there. c.self.invariant i m (ap (λ ns. slice_get ns i) (sym same) ∙ there)
 
 pub invariant_of-self-in-None : goal.invariant_of-self-in-None
 invariant_of-self-in-None c =
     let es = c.self.inside.entries.items in
-    let room = c.reserve.new.self.items in
-    let key = c.args.key in
-    let before = get key_cmp c.self.inside.places in
-    let first : MethodKey × MethodId → MethodKey = λ e. e.0 in
-    places_grown equal_laws (keys_in es) (keys_in c.push_reserved.new.self.items) key c.len.result before (get key_cmp c.insert.new.self) c.self.invariant
-    (sym (c.self.invariant key) ∙ (sym c.get.ensures.value ∙ (sym c.copied.ensures ∙ c.in-None.is)))
-    (c.len.ensures ∙ (c.reserve.new.self.ok.0 ∙ (ap (λ (fs : List (MethodKey × MethodId)). length fs) c.reserve.ensures.items ∙ sym (length-map es first))))
-    (ap (λ fs. keys_in fs) c.push_reserved.ensures.items ∙ (keys_pushed room key c.args.method ∙ ap (λ fs. keys_in fs ++ key ∷ []) c.reserve.ensures.items))
-    (λ q. c.in_ok-insert-in-None.ensures.updates.0 q ∙ ap (λ same. cond same (Some c.len.result) (before q)) (sym (equal_by_order key q)))
+    let places = c.self.inside.places.items in
+    let n = c.args.number in
+    let none : position (nat_eq n) (numbers_of es) ≡ None =
+    ap (λ (t : TableValue). position (nat_eq n) (numbers_of t.entries)) c.self.view_is ∙ (sym c.place_of.ensures ∙ c.in-None.is) in
+    let new : list_any (nat_eq n) (numbers_of es) ≡ false = sym (some_place (nat_eq n) (numbers_of es)) ∙ ap is_some none in
+    let within : n < length places = rw (ap (λ (t : TableValue). t.count) c.self.view_is) c.requires in
+    let items : c.push.new.self.items ≡ es ++ (n, c.args.method) ∷ [] = c.in_ok-push-in-None.ensures.items in
+    let pushed : numbers_of c.push.new.self.items ≡ numbers_of es ++ n ∷ [] = ap (λ fs. numbers_of fs) items ∙ keys_pushed es n c.args.method in
+    let many : length c.push.new.self.items ≡ length es + 1 = ap (λ (fs : List (ℕ × MethodId)). length fs) items ∙ length_push es (n, c.args.method) in
+    let first : ℕ × MethodId → ℕ = λ e. e.0 in
+    let last : c.len.result - 1 ≡ length (numbers_of es) = omega (arith, c.len.ensures, c.push.new.self.ok.0, many, length-map es first) in
+    let whole = places_pushed (numbers_of es) places n c.self.invariant within new in
+    subst (λ ns. HavePlaces ns (set places n (c.len.result - 1))) (sym pushed) (subst (λ k. HavePlaces (numbers_of es ++ n ∷ []) (set places n k)) (sym last) whole)
 
 pub returns-in-Some : goal.returns-in-Some
 returns-in-Some c =
     let es = c.self.inside.entries.items in
-    let key = c.args.key in
+    let n = c.args.number in
     let place = c.in-Some.place in
     let item = c.index_mut.result.now in
-    let at = position-Some (key_eq key) (keys_in es) place key (sym (c.self.invariant key) ∙ (sym c.get.ensures.value ∙ (sym c.copied.ensures ∙ c.in-Some.is))) in
-    ap (λ (e : MethodKey × MethodId). slice_set es place (e.0, c.args.method)) c.index_mut.ensures.value
-    ∙ (sym (inserted_at key_eq es key c.args.method place key item at.0 at.1 at.2) ∙ ap (λ fs. insert_entry key_eq fs key c.args.method) c.self.view_is)
+    let found : position (nat_eq n) (numbers_of es) ≡ Some place =
+    ap (λ (t : TableValue). position (nat_eq n) (numbers_of t.entries)) c.self.view_is ∙ (sym c.place_of.ensures ∙ c.in-Some.is) in
+    let at = position-Some (nat_eq n) (numbers_of es) place n found in
+    let entries : set es place (item.0, c.args.method) ≡ insert_entry nat_eq c.args.self.now.entries n c.args.method =
+    ap (λ (e : ℕ × MethodId). set es place (e.0, c.args.method)) c.index_mut.ensures.value
+    ∙ (sym (inserted_at nat_eq es n c.args.method place n item at.0 at.1 at.2)
+    ∙ ap (λ (t : TableValue). insert_entry nat_eq t.entries n c.args.method) c.self.view_is) in
+    let count : length c.self.inside.places.items ≡ c.args.self.now.count = ap (λ (t : TableValue). t.count) c.self.view_is in
+    λ j. record { entries = entries j; count = count j }
 
-pub returns-in_ok-insert-in-None : goal.returns-in_ok-insert-in-None
-returns-in_ok-insert-in-None c =
+pub returns-in_ok-push-in-None : goal.returns-in_ok-push-in-None
+returns-in_ok-push-in-None c =
     let es = c.self.inside.entries.items in
-    let key = c.args.key in
-    let none : position (key_eq key) (keys_in es) ≡ None = sym (c.self.invariant key) ∙ (sym c.get.ensures.value ∙ (sym c.copied.ensures ∙ c.in-None.is)) in
-    c.push_reserved.ensures.items
-    ∙ (ap (λ fs. fs ++ (key, c.args.method) ∷ []) c.reserve.ensures.items
-    ∙ (sym (inserted_last key_eq es key c.args.method (sym (some_place (key_eq key) (keys_in es)) ∙ ap is_some none))
-    ∙ ap (λ fs. insert_entry key_eq fs key c.args.method) c.self.view_is))
+    let places = c.self.inside.places.items in
+    let n = c.args.number in
+    let none : position (nat_eq n) (numbers_of es) ≡ None =
+    ap (λ (t : TableValue). position (nat_eq n) (numbers_of t.entries)) c.self.view_is ∙ (sym c.place_of.ensures ∙ c.in-None.is) in
+    let new : list_any (nat_eq n) (numbers_of es) ≡ false = sym (some_place (nat_eq n) (numbers_of es)) ∙ ap is_some none in
+    let entries : c.push.new.self.items ≡ insert_entry nat_eq c.args.self.now.entries n c.args.method =
+    c.in_ok-push-in-None.ensures.items
+    ∙ (sym (inserted_last nat_eq es n c.args.method new)
+    ∙ ap (λ (t : TableValue). insert_entry nat_eq t.entries n c.args.method) c.self.view_is) in
+    let count : length (set places n (c.len.result - 1)) ≡ c.args.self.now.count =
+    length-set places n (c.len.result - 1) ∙ ap (λ (t : TableValue). t.count) c.self.view_is in
+    λ j. record { entries = entries j; count = count j }
