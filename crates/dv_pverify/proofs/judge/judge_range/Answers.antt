@@ -6,7 +6,7 @@ use Rattle.dv_pverify.proofs.Judged.{judged_one}
 use Rattle.dv_pverify.proofs.judge.judge_range.Goals as goal
 
 pub loop-method-preserved : goal.loop-method-preserved
-loop-method-preserved c =
+loop-method-preserved g c =
     let image = c.args.image.now in
     let from = c.args.from in
     let ms = c.loop-method.judged.maps.items in
