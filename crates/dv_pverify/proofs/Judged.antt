@@ -1,5 +1,5 @@
 -- What the maps and faults of judged methods say of the image.
-use Rattle.std.proofs.Common.{◌≡◌, ◌≢◌, ◌<◌, ◌+◌, ℕ, zero, suc, List, [], ◌∷◌, ◌++◌, length, Option, Some, None, refl, sym, ap, ◌∙◌, subst, arith, append-nil}
+use Rattle.std.proofs.Common.{◌≡◌, ◌<◌, ◌+◌, ℕ, zero, suc, List, [], ◌∷◌, ◌++◌, length, Option, Some, None, refl, sym, ap, ◌∙◌, subst, arith, append-nil}
 use Rattle.std.specs.Prelude.{slice_get, IsSome, Err}
 use Rattle.dv_defs.specs.declared.faults.Fault.{Fault}
 use Rattle.dv_defs.specs.declared.image.MethodInfo.{MethodInfo}
@@ -14,7 +14,7 @@ use Rattle.dv_rules.specs.Verified.{typing_of, typing_at, IsVerified}
 use Rattle.dv_infer.specs.Errors.{IfFaults}
 use Rattle.dv_infer.specs.declared.errors.InferError.{InferError}
 use Rattle.dv_infer.specs.declared.errors.InferError.TheVariants.{Faults}
-use Rattle.dv_pverify.specs.Judging.{IsJudged, Judges, AreJudged}
+use Rattle.dv_pverify.specs.Judging.{Judges, AreJudged}
 
 -- ---- more methods, and one more
 
