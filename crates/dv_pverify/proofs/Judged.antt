@@ -1,5 +1,5 @@
 -- What the maps and faults of judged methods say of the image.
-use Rattle.std.proofs.Common.{◌≡◌, ◌≢◌, ◌<◌, ◌+◌, ℕ, zero, suc, List, [], ◌∷◌, ◌++◌, length, Option, Some, None, refl, sym, ap, ◌∙◌, subst, arith, append-nil}
+use Rattle.std.proofs.Common.{◌≡◌, ◌<◌, ◌+◌, ℕ, zero, suc, List, [], ◌∷◌, ◌++◌, length, Option, Some, None, refl, sym, ap, ◌∙◌, subst, arith, append-nil}
 use Rattle.std.specs.Prelude.{slice_get, IsSome, Err}
 use Rattle.dv_defs.specs.declared.faults.Fault.{Fault}
 use Rattle.dv_defs.specs.declared.image.MethodInfo.{MethodInfo}
@@ -14,22 +14,26 @@ use Rattle.dv_rules.specs.Verified.{typing_of, typing_at, IsVerified}
 use Rattle.dv_infer.specs.Errors.{IfFaults}
 use Rattle.dv_infer.specs.declared.errors.InferError.{InferError}
 use Rattle.dv_infer.specs.declared.errors.InferError.TheVariants.{Faults}
-use Rattle.dv_pverify.specs.Judging.{IsJudged, Judges, AreJudged}
+use Rattle.dv_pverify.specs.Judging.{Judges, AreJudged}
 
--- ---- one more method
+-- ---- more methods, and one more
 
 appended : {A : Type 0} (xs ys zs : List A) → (xs ++ ys) ++ zs ≡ xs ++ (ys ++ zs)
 appended [] ys zs = refl
 appended (x ∷ xs) ys zs = ap (λ (us : List _). x ∷ us) (appended xs ys zs)
 
+pub judged_append : (image : Image) (n k : ℕ) (ms ns : List Map) (fs gs : List Fault) → k ≡ n + length ms → AreJudged image n ms fs →
+    AreJudged image k ns gs → AreJudged image n (ms ++ ns) (fs ++ gs)
+judged_append image n k [] ns fs gs at h j =
+    let same : k ≡ n = omega (arith, at) in
+    subst (λ (i : ℕ). AreJudged image i ns (fs ++ gs)) same (subst (λ (hs : List Fault). AreJudged image k ns (hs ++ gs)) (sym h) j)
+judged_append image n k (m ∷ ms) ns fs gs at (own, rest, jm, js, e) j =
+    let more = judged_append image (suc n) k ms ns rest gs (omega (arith, at)) js j in
+    (own, rest ++ gs, jm, more, ap (λ (hs : List Fault). hs ++ gs) e ∙ appended own rest gs)
+
 pub judged_one : (image : Image) (n k : ℕ) (ms : List Map) (fs own : List Fault) (m : Map) → k ≡ n + length ms → AreJudged image n ms fs →
     Judges image (code_at image k) m own → AreJudged image n (ms ++ m ∷ []) (fs ++ own)
-judged_one image n k [] fs own m at h j =
-    let same : k ≡ n = omega (arith, at) in
-    (own, [], subst (λ (i : ℕ). Judges image (code_at image i) m own) same j, refl, ap (λ (gs : List Fault). gs ++ own) h ∙ sym (append-nil own))
-judged_one image n k (x ∷ ms) fs own m at (first, rest, jx, js, e) j =
-    let more = judged_one image (suc n) k ms rest own m (omega (arith, at)) js j in
-    (first, rest ++ own, jx, more, ap (λ (gs : List Fault). gs ++ own) e ∙ appended first rest own)
+judged_one image n k ms fs own m at h j = judged_append image n k ms (m ∷ []) fs own at h (own, [], j, refl, sym (append-nil own))
 
 -- ---- the faults
 

@@ -1,5 +1,5 @@
 -- What is said of an answer that tells an image's faults.
-use Rattle.std.specs.Prelude.{List, Result, Ok, Err}
+use Rattle.std.specs.Prelude.{List, Result, Err}
 use Rattle.dv_defs.specs.Images.{Image}
 use Rattle.dv_defs.specs.declared.faults.Fault.{Fault}
 use Rattle.dv_pverify.specs.declared.errors.VerifyError.{VerifyError}

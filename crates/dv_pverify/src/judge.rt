@@ -5,6 +5,7 @@ ghost use Rattle.dv_pverify.specs.Judging.{AreJudged, Judges};
 
 use dv_defs::{Fault, Image, MethodId, Seq};
 use dv_infer::{InferError, infer_by};
+use dv_io::{Gate, NoGate};
 use dv_ops::coded_at;
 use dv_rules::Map;
 use dv_types::ClassTable;
@@ -17,29 +18,30 @@ pub struct Judged {
     pub faults: Vec<Fault>,
 }
 
-/// Judges all methods of an image.
-pub fn judge_all(alloc: Global, image: &Image) -> Result<Judged, AllocError>
+/// Judges all methods of an image, one after another.
+pub fn judge_one_by_one(alloc: Global, image: &Image) -> Result<Judged, AllocError>
     ensures judged { IfOk result (λ j. AreJudged image.now 0 j.maps.items j.faults.items) }
     ensures count { IfOk result (λ j. length j.maps.items ≡ length image.now.methods) }
 {
     let table = ClassTable::new(alloc, image)?;
-    judge_range(alloc, image, &table, 0, count_of(image))
+    judge_range(alloc, image, &table, &NoGate, 0, count_of(image))
 }
 
 /// The number of an image's methods.
-fn count_of(image: &Image) -> u32
+pub fn count_of(image: &Image) -> u32
     ensures { result ≡ length image.now.methods }
 {
     let methods = image.methods.items();
     methods.len() as u32
 }
 
-/// Judges so many methods from one on.
+/// Judges so many methods from one on, one after another. The gate is told of each before it is judged.
 #[tactic(auto, using(crate::proofs::Judged::judged_one))]
-fn judge_range(
+pub fn judge_range<G: Gate>(
     alloc: Global,
     image: &Image,
     table: &ClassTable<'_>,
+    gate: &G,
     from: u32,
     count: u32,
 ) -> Result<Judged, AllocError>
@@ -54,6 +56,7 @@ fn judge_range(
         faults: Vec::new(alloc),
     };
     for method in from..from + count {
+        gate.verifying(method);
         let (map, faults) = judge(alloc, image, table, MethodId(method))?;
         add(&mut judged, map, faults)?;
     }

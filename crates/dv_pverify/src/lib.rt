@@ -2,8 +2,9 @@
 #![tactic(auto)]
 
 mod errors;
+mod halves;
 mod judge;
 mod verify;
 
 pub use errors::VerifyError;
-pub use verify::verify_one_by_one;
+pub use verify::{verify_all, verify_one_by_one};

@@ -5,10 +5,38 @@ ghost use Rattle.dv_pverify.specs.Errors.{IfFaults};
 ghost use Rattle.dv_pverify.specs.Judging.{AreJudged};
 
 use crate::errors::VerifyError;
-use crate::judge::{Judged, judge_all};
+use crate::halves::judge_all;
+use crate::judge::{Judged, judge_one_by_one};
 use dv_defs::{Image, Seq};
+use dv_io::Gate;
 use dv_rules::Verified;
 use std::alloc::Global;
+use std::thread::Threads;
+
+/// Verifies each method with a body, several at a time. The gate is told of each method before it is verified, also of one without a body.
+/// What can't be started on a thread of its own is verified by the caller.
+///
+/// # Errors
+///
+/// `Faults` exactly where the image isn't accepted: the faults of its methods in their order, and the image unchanged. `Memory`.
+pub fn verify_all<R: Threads + Sync, G: Gate + Sync>(
+    rt: &R,
+    alloc: Global,
+    image: Image,
+    gate: &G,
+) -> Result<Verified, VerifyError>
+    ensures same { IfOk result (λ v. v.image ≡ image) }
+    ensures accepted { IfOk result (λ _. Accepts image) }
+    ensures image { IfFaults result (λ i _. i ≡ image) }
+    ensures faults { IfFaults result (λ _ fs. AreImageFaults image fs) }
+    ensures some { IfFaults result (λ _ fs. fs ≢ []) }
+    ensures refused { IfFaults result (λ _ _. Accepts image → ⊥) }
+{
+    match judge_all(rt, alloc, &image, gate) {
+        Ok(judged) => verdict(image, judged),
+        Err(_) => Err(VerifyError::Memory),
+    }
+}
 
 /// Verifies each method with a body, one after another.
 ///
@@ -23,7 +51,7 @@ pub fn verify_one_by_one(alloc: Global, image: Image) -> Result<Verified, Verify
     ensures some { IfFaults result (λ _ fs. fs ≢ []) }
     ensures refused { IfFaults result (λ _ _. Accepts image → ⊥) }
 {
-    match judge_all(alloc, &image) {
+    match judge_one_by_one(alloc, &image) {
         Ok(judged) => verdict(image, judged),
         Err(_) => Err(VerifyError::Memory),
     }

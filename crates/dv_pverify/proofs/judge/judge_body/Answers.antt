@@ -1,8 +1,7 @@
-use Rattle.std.proofs.Common.{◌≡◌, ◌≢◌, List, [], sym, subst}
+use Rattle.std.proofs.Common.{◌≢◌, List, [], sym, subst}
 use Rattle.dv_defs.specs.declared.faults.Fault.{Fault}
 use Rattle.dv_typing.specs.Accepting.{AreFaults, IsAcceptedMethod}
 use Rattle.dv_defs.specs.Op.{code_at}
-use Rattle.dv_infer.specs.Errors.{IfFaults}
 use Rattle.dv_pverify.specs.Judging.{Judges}
 use Rattle.dv_pverify.proofs.Judged.{judges_faults, faults_told}
 use Rattle.dv_pverify.proofs.judge.judge_body.Goals as goal

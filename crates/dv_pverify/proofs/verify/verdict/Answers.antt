@@ -1,7 +1,6 @@
-use Rattle.std.proofs.Common.{◌≡◌, List, length, ap, sym, ◌∙◌, subst}
+use Rattle.std.proofs.Common.{List, length, ap, sym, ◌∙◌, subst}
 use Rattle.dv_defs.specs.declared.faults.Fault.{Fault}
 use Rattle.dv_rules.specs.declared.verified.Map.{Map}
-use Rattle.dv_rules.specs.Verified.{IsVerified}
 use Rattle.dv_pverify.specs.Judging.{AreJudged}
 use Rattle.dv_pverify.proofs.Judged.{is_verified, is_accepted, no_items}
 use Rattle.dv_pverify.proofs.verify.verdict.Goals as goal
