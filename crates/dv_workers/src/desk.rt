@@ -245,13 +245,24 @@ impl<'v, K: Sink, L: Began> Desk<'v, K, L> {
         ensures fits { share.new.amount < 2 ^ 64 }
     {
         let in_place = turns_in_place(&slice);
-        let brought = match slice {
-            Some(slice) => self.settle(share, worker, slice),
-            None => 0,
-        };
+        let brought = self.bring(share, worker, slice);
         let (chore, turns) = self.advance(share, worker, in_place, wanted);
         self.audit(share);
         (chore, brought + turns)
+    }
+
+    /// Takes a slice back, if there is one; gives how many entries were logged.
+    fn bring(&mut self, share: &mut Share<L>, worker: u32, slice: Option<Slice>) -> u64
+        requires worker { (worker < 8) × (0 < share.old.parts) }
+        requires slice { IfSome slice (λ s. IsSlice self.old.vm.verified.image 256 s) }
+        ensures names { names_of self.new.vm ≡ names_of self.old.vm }
+        ensures parts { share.new.parts ≡ share.old.parts }
+        ensures amount { share.new.amount ≡ share.old.amount + result }
+    {
+        match slice {
+            Some(slice) => self.settle(share, worker, slice),
+            None => 0,
+        }
     }
 
     /// Whether a thread can go on that no worker has: besides those that are lent, and one that this worker goes on with.
@@ -283,11 +294,11 @@ impl<'v, K: Sink, L: Began> Desk<'v, K, L> {
         let mut turns = 0;
         for _ in rt.forever() {
             if self.is_over() {
-                break;
+                return turns;
             }
             turns += self.turn_alone(gate, share);
         }
-        turns
+        unreachable!()
     }
 
     /// The next turn of an only worker, if a thread can go on. Gives how many entries were logged.
@@ -300,12 +311,13 @@ impl<'v, K: Sink, L: Began> Desk<'v, K, L> {
         ensures amount { share.new.amount ≡ share.old.amount + result }
         ensures fits { share.new.amount < 2 ^ 64 }
     {
-        let turns = match self.vm.ready() {
+        match self.vm.ready() {
             Some(thread) => self.turn_in_place(gate, share, thread),
-            None => 0,
-        };
-        self.audit(share);
-        turns
+            None => {
+                self.audit(share);
+                0
+            }
+        }
     }
 
     /// A turn of an only worker. Where it begins with local steps it is a slice as well, which the gate is told of.
@@ -316,9 +328,11 @@ impl<'v, K: Sink, L: Began> Desk<'v, K, L> {
         ensures home { self.new.vm.lent ≡ self.old.vm.lent }
         ensures parts { share.new.parts ≡ share.old.parts }
         ensures amount { share.new.amount ≡ share.old.amount + result }
+        ensures fits { share.new.amount < 2 ^ 64 }
     {
         let is_slice = self.vm.next_is_local(thread);
         let chore = self.turn(share, 0, thread);
+        self.audit(share);
         if is_slice {
             gate.arrive(0, thread);
         }
