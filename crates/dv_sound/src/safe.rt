@@ -211,6 +211,14 @@ impl<'v> SafeVm<'v> {
         vm
     }
 
+    /// What was printed so far. It takes no look at the stacks, as `vm` does.
+    pub fn output(&self) -> &[u8]
+        ensures words { result.now ≡ self.now.machine.shared.output }
+        ensures tagged { AtItsState self.now (λ main m. result.now ≡ m.shared.output) }
+    {
+        self.engine().output()
+    }
+
     /// How the run stands: none where it goes on.
     pub fn ending(&self) -> Option<Ending>
         ensures ending { AtItsState self.now (λ main m. result ≡ running.ending_of self.now.verified.image m) }

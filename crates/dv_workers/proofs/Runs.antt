@@ -38,18 +38,18 @@ prints : (old new : Run) (main : Method) (m n : Machine) → Tells old → Tells
 prints old new main m n before after here there on =
     (on.0, after main n there ∙ on.1 ∙ ap (λ o. o ++ on.0) (sym (before main m here)))
 
-pub turn_prints : (old new : Run) (worker t n : ℕ) → IsAtSome old → Tells old → Tells new → MayGo old t → ((main : Method) (m : Machine) → IsAt old main m → MayTurn old m t → 1 ≤ 1 → IsTurned old new main m worker t 1 n) → PrintsOn (printed old) (printed new)
+pub turn_prints : (old new : Run) (worker t n : ℕ) → IsAtSome old → Tells old → Tells new → MayGo old t → ((main : Method) (m : Machine) → IsAt old main m → MayTurn old m t → 1 ≤ 256 → IsTurned old new main m worker t 256 n) → PrintsOn (printed old) (printed new)
 turn_prints old new worker t n s before after may turned =
     let is = turned s.main s.machine s.at (may s.main s.machine s.at) (omega arith) in
-    prints old new s.main s.machine is.after before after s.at is.at (turns_print old.verified.image s.machine t 1 (record { count = n; machine = is.after }) is.turned)
+    prints old new s.main s.machine is.after before after s.at is.at (turns_print old.verified.image s.machine t 256 (record { count = n; machine = is.after }) is.turned)
 
-pub turn_logs : (old new : Run) (worker t n : ℕ) → worker < 8 → n ≤ 1 → IsAtSome old → MayGo old t → ((main : Method) (m : Machine) → IsAt old main m → MayTurn old m t → 1 ≤ 1 → IsTurned old new main m worker t 1 n) → IsLonger old.log new.log
+pub turn_logs : (old new : Run) (worker t n : ℕ) → worker < 8 → n ≤ 256 → IsAtSome old → MayGo old t → ((main : Method) (m : Machine) → IsAt old main m → MayTurn old m t → 1 ≤ 256 → IsTurned old new main m worker t 256 n) → IsLonger old.log new.log
 turn_logs old new worker t n low few s may turned =
     let go = may s.main s.machine s.at in
     let is = turned s.main s.machine s.at go (omega arith) in
     record {
       entry = record { worker = worker; thread = t; steps = n };
-      of = record { worker = low; some = turn_counts old.verified.image t s.machine (record { count = n; machine = is.after }) go.goes_on go.runs is.turned; few = omega (arith, few) };
+      of = record { worker = low; some = turn_counts old.verified.image t 255 s.machine (record { count = n; machine = is.after }) go.goes_on go.runs is.turned; few = few };
       longer = is.logs;
     }
 

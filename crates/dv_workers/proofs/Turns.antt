@@ -1,5 +1,5 @@
 -- A turn that may be done has a step.
-use Rattle.std.proofs.Common.{◌≡◌, ◌≤◌, ℕ, zero, suc, Bool, true, false, Option, Some, None, subst, arith}
+use Rattle.std.proofs.Common.{◌≡◌, ◌≤◌, ℕ, suc, Bool, true, false, Option, Some, None, subst, arith}
 use Rattle.std.specs.Prelude.{◌&&◌, not, nat_eq, Ok, Err}
 use Rattle.dv_defs.specs.Images.{Image}
 use Rattle.dv_defs.specs.declared.run.Ending.{Ending}
@@ -35,5 +35,5 @@ turn_has image t most m going runs = by_local (next_is_local image m t && not (n
     by_local true last = next_has (step image m t) (λ n. one_more (turn image t most n)) (λ n. more_has (turn image t most n))
     by_local false last = last
 
-pub turn_counts : (image : Image) (t : ℕ) (m : Machine) (x : Turned) → ending_of image m ≡ None → runnable image m t ≡ true → turn image t 1 m ≡ Ok x → 1 ≤ x.count
-turn_counts image t m x going runs e = subst HasStep e (turn_has image t zero m going runs)
+pub turn_counts : (image : Image) (t most : ℕ) (m : Machine) (x : Turned) → ending_of image m ≡ None → runnable image m t ≡ true → turn image t (suc most) m ≡ Ok x → 1 ≤ x.count
+turn_counts image t most m x going runs e = subst HasStep e (turn_has image t most m going runs)

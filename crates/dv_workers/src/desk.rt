@@ -7,16 +7,38 @@ ghost use Rattle.dv_workers.specs.Entries.{IsOfWorker};
 ghost use Rattle.dv_workers.specs.Seats.{names_of};
 
 use crate::began::Began;
-use crate::chore::Chore;
+use crate::chore::{Chore, entries};
 use crate::pouring::{pour_all, pour_some, printed};
 use crate::turning::{bring, lend, take_turn};
-use dv_io::Sink;
+use dv_io::{Gate, Sink};
 use dv_local::Slice;
 use dv_sound::SafeVm;
+use std::sync::Wait;
+use std::sync::atomic::{AtomicU64, Ordering};
 use std::sync::ledger::{Book, Share};
 
 /// How many slices may be out: as many as there are workers at most.
 const SLICES: u32 = 8;
+
+/// How many turns a worker does at most before it puts the machine back.
+const TURNS: u32 = 256;
+
+/// How many it does though another worker wants the machine.
+const FEW_TURNS: u32 = 8;
+
+/// A slice of fewer steps costs more to lend than to do in place.
+const SHORT: u32 = 16;
+
+/// How many turns a worker does in place after a short slice.
+const IN_PLACE: u32 = 16;
+
+/// How many turns a worker does after a slice before it lends the next one: their local steps are done in place where lending doesn't pay.
+fn turns_in_place(slice: &Option<Slice>) -> u32 {
+    match slice {
+        Some(slice) if slice.steps < SHORT => IN_PLACE,
+        _ => 0,
+    }
+}
 
 #[derive(Drop)]
 pub struct Desk<'v, K: Sink, L: Began> {
@@ -86,17 +108,48 @@ impl<'v, K: Sink, L: Began> Desk<'v, K, L> {
         self.book.audit(share);
     }
 
-    /// What a worker does with the machine.
-    pub fn advance(&mut self, share: &mut Share<L>, worker: u32) -> Chore
+    /// Turns one after another, up to a thread that is lent, and after the first ones `in_place` each thread is whose next step is local; or up to where
+    /// none can be done, the workers are to stop, or another worker wants the machine. Gives how many turns there were.
+    fn advance(
+        &mut self,
+        share: &mut Share<L>,
+        worker: u32,
+        in_place: u32,
+        wanted: &AtomicU64,
+    ) -> (Chore, u64)
         requires worker { (worker < 8) × (0 < share.old.parts) }
-        requires going { GoesOn self.old.vm }
+        ensures names { names_of self.new.vm ≡ names_of self.old.vm }
+        ensures chore { IsChore self.old.vm.verified.image result.0 }
+        ensures parts { share.new.parts ≡ share.old.parts }
+        ensures amount { share.new.amount ≡ share.old.amount + result.1 }
+    {
+        let mut turns = 0;
+        for done in 0..TURNS {
+            match self.act(share, worker, in_place <= done) {
+                Chore::Ran => turns += 1,
+                chore => return (chore, turns),
+            }
+            if done >= FEW_TURNS && wanted.load(Ordering::SeqCst) > 0 {
+                break;
+            }
+        }
+        (Chore::Ran, turns)
+    }
+
+    /// What a worker does next with the machine.
+    fn act(&mut self, share: &mut Share<L>, worker: u32, lends: bool) -> Chore
+        requires worker { (worker < 8) × (0 < share.old.parts) }
         ensures names { names_of self.new.vm ≡ names_of self.old.vm }
         ensures chore { IsChore self.old.vm.verified.image result }
         ensures parts { share.new.parts ≡ share.old.parts }
         ensures amount { share.new.amount ≡ share.old.amount + ran result }
     {
+        if self.is_over() {
+            return Chore::Stop;
+        }
         match self.vm.ready() {
-            Some(thread) => self.go(share, worker, thread),
+            Some(thread) if lends => self.go(share, worker, thread),
+            Some(thread) => self.turn(share, worker, thread),
             None => Chore::Rest,
         }
     }
@@ -143,11 +196,12 @@ impl<'v, K: Sink, L: Began> Desk<'v, K, L> {
         }
     }
 
-    /// A turn of one step.
+    /// A turn: local steps, and then one other.
     fn turn(&mut self, share: &mut Share<L>, worker: u32, thread: u32) -> Chore
         requires worker { (worker < 8) × (0 < share.old.parts) }
         requires may { MayGo self.old.vm thread }
         ensures names { names_of self.new.vm ≡ names_of self.old.vm }
+        ensures home { self.new.vm.lent ≡ self.old.vm.lent }
         ensures chore { IsChore self.old.vm.verified.image result }
         ensures parts { share.new.parts ≡ share.old.parts }
         ensures amount { share.new.amount ≡ share.old.amount + ran result }
@@ -174,8 +228,119 @@ impl<'v, K: Sink, L: Began> Desk<'v, K, L> {
         }
     }
 
+    /// What a worker does with the machine when it has it: it brings its slice, if it has one, and goes on. Gives how many entries were logged.
+    pub fn work(
+        &mut self,
+        share: &mut Share<L>,
+        worker: u32,
+        slice: Option<Slice>,
+        wanted: &AtomicU64,
+    ) -> (Chore, u64)
+        requires worker { (worker < 8) × (0 < share.old.parts) }
+        requires slice { IfSome slice (λ s. IsSlice self.old.vm.verified.image 256 s) }
+        ensures names { names_of self.new.vm ≡ names_of self.old.vm }
+        ensures chore { IsChore self.old.vm.verified.image result.0 }
+        ensures parts { share.new.parts ≡ share.old.parts }
+        ensures amount { share.new.amount ≡ share.old.amount + result.1 }
+        ensures fits { share.new.amount < 2 ^ 64 }
+    {
+        let in_place = turns_in_place(&slice);
+        let brought = self.bring(share, worker, slice);
+        let (chore, turns) = self.advance(share, worker, in_place, wanted);
+        self.audit(share);
+        (chore, brought + turns)
+    }
+
+    /// Takes a slice back, if there is one; gives how many entries were logged.
+    fn bring(&mut self, share: &mut Share<L>, worker: u32, slice: Option<Slice>) -> u64
+        requires worker { (worker < 8) × (0 < share.old.parts) }
+        requires slice { IfSome slice (λ s. IsSlice self.old.vm.verified.image 256 s) }
+        ensures names { names_of self.new.vm ≡ names_of self.old.vm }
+        ensures parts { share.new.parts ≡ share.old.parts }
+        ensures amount { share.new.amount ≡ share.old.amount + result }
+    {
+        match slice {
+            Some(slice) => self.settle(share, worker, slice),
+            None => 0,
+        }
+    }
+
+    /// Whether a thread can go on that no worker has: besides those that are lent, and one that this worker goes on with.
+    pub fn has_more(&self, chore: &Chore) -> bool {
+        let mut busy = match chore {
+            Chore::Ran => u64::from(self.out) + 1,
+            _ => u64::from(self.out),
+        };
+        for thread in 0..self.vm.threads() {
+            if self.vm.runnable(thread) {
+                if busy == 0 {
+                    return true;
+                }
+                busy -= 1;
+            }
+        }
+        false
+    }
+
+    /// An only worker has the machine in hand all the time, and does each turn in place. Gives how many turns there were.
+    pub fn run_alone<R: Wait, G: Gate>(&mut self, rt: &R, gate: &G, share: &mut Share<L>) -> u64
+        requires share { (0 < share.old.parts) × (share.old.amount ≡ 0) }
+        requires home { self.old.vm.lent ≡ [] }
+        ensures names { names_of self.new.vm ≡ names_of self.old.vm }
+        ensures parts { share.new.parts ≡ share.old.parts }
+        ensures turns { share.new.amount ≡ result }
+        ensures over { IsDone self.new.memory self.new.fault self.new.vm }
+    {
+        let mut turns = 0;
+        for _ in rt.forever() {
+            if self.is_over() {
+                return turns;
+            }
+            turns += self.turn_alone(gate, share);
+        }
+        unreachable!()
+    }
+
+    /// The next turn of an only worker, if a thread can go on. Gives how many entries were logged.
+    fn turn_alone<G: Gate>(&mut self, gate: &G, share: &mut Share<L>) -> u64
+        requires share { 0 < share.old.parts }
+        requires going { GoesOn self.old.vm }
+        ensures names { names_of self.new.vm ≡ names_of self.old.vm }
+        ensures home { self.new.vm.lent ≡ self.old.vm.lent }
+        ensures parts { share.new.parts ≡ share.old.parts }
+        ensures amount { share.new.amount ≡ share.old.amount + result }
+        ensures fits { share.new.amount < 2 ^ 64 }
+    {
+        match self.vm.ready() {
+            Some(thread) => self.turn_in_place(gate, share, thread),
+            None => {
+                self.audit(share);
+                0
+            }
+        }
+    }
+
+    /// A turn of an only worker. Where it begins with local steps it is a slice as well, which the gate is told of.
+    fn turn_in_place<G: Gate>(&mut self, gate: &G, share: &mut Share<L>, thread: u32) -> u64
+        requires share { 0 < share.old.parts }
+        requires may { MayGo self.old.vm thread }
+        ensures names { names_of self.new.vm ≡ names_of self.old.vm }
+        ensures home { self.new.vm.lent ≡ self.old.vm.lent }
+        ensures parts { share.new.parts ≡ share.old.parts }
+        ensures amount { share.new.amount ≡ share.old.amount + result }
+        ensures fits { share.new.amount < 2 ^ 64 }
+    {
+        let is_slice = self.vm.next_is_local(thread);
+        let chore = self.turn(share, 0, thread);
+        self.audit(share);
+        if is_slice {
+            gate.arrive(0, thread);
+        }
+        entries(&chore)
+    }
+
     /// Takes a slice back; gives how many entries were logged.
-    pub fn settle(&mut self, share: &mut Share<L>, worker: u32, slice: Slice) -> u64
+    fn settle(&mut self, share: &mut Share<L>, worker: u32, slice: Slice) -> u64
         requires worker { (worker < 8) × (0 < share.old.parts) }
         requires made { IsSlice self.old.vm.verified.image 256 slice }
         ensures names { names_of self.new.vm ≡ names_of self.old.vm }

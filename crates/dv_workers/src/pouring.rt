@@ -15,7 +15,7 @@ pub fn printed<'a>(vm: &'a SafeVm) -> &'a [u8]
     ensures output { result.now ≡ printed vm.now }
     ensures tagged { AtItsState vm.now (λ main m. result.now ≡ m.shared.output) }
 {
-    vm.vm().output()
+    vm.output()
 }
 
 /// Writes what isn't written of what a machine has printed, until a write fails.

@@ -113,10 +113,32 @@ fn run_hall<
         mut turns,
         ..
     } = run_crew(rt, gate, post, workers, room);
-    let (mut desk, more) = hall.finish(rt, gate, image, &mut mine, &mut share, 0);
+    let (held, more) = hall.finish(rt, gate, image, &mut mine, &mut share, 0);
+    let mut desk = Box::into_inner(held);
     desk.audit(&mut share);
     add_first(&mut turns, more);
     (desk, turns)
+}
+
+/// The run of an only worker, which is the caller.
+fn run_by_one<'v, K: Sink + Drop, L: Began, R: Wait, G: Gate>(
+    rt: &R,
+    gate: &G,
+    mut desk: Desk<'v, K, L>,
+    mut share: Share<L>,
+    mut room: Vec<u64>,
+) -> Ran<'v, K>
+    requires empty { (desk.vm.log ≡ []) × (desk.vm.lent ≡ []) }
+    requires share { (share.parts ≡ 1) × (share.parts ≡ L.parts) × (share.amount ≡ 0) }
+    requires room { (room.items ≡ []) × (8 ≤ vec_capacity room) }
+    ensures run { IsRunBy 1 desk.entry.vm result.vm result.turns.items result.fault result.memory }
+    ensures left { IsLeft L.taken (K.taken result.sink) L.faults (K.faults result.sink) result.fault result.memory (printed result.vm) }
+{
+    let turns = desk.run_alone(rt, gate, &mut share);
+    desk.audit(&mut share);
+    drop(share);
+    room.push_reserved(turns);
+    left(desk, room)
 }
 
 /// The run of a desk.
@@ -134,7 +156,7 @@ fn run_desk<
     share: Share<L>,
     workers: u32,
 ) -> Ran<'v, K>
-    requires empty { desk.vm.log ≡ [] }
+    requires empty { (desk.vm.log ≡ []) × (desk.vm.lent ≡ []) }
     requires share { (share.parts ≡ workers) × (share.parts ≡ L.parts) × (share.amount ≡ 0) }
     requires workers { (1 ≤ workers) × (workers ≤ 8) }
     ensures run { IsRunBy workers desk.entry.vm result.vm result.turns.items result.fault result.memory }
@@ -145,6 +167,9 @@ fn run_desk<
         drop(share);
         return cleared(desk, Vec::new(alloc), true);
     };
+    if workers == 1 {
+        return run_by_one(rt, gate, desk, share, room);
+    }
     match Hall::new(alloc, desk) {
         Ok((hall, mine)) => {
             let (desk, turns) = run_hall(rt, gate, &hall, image, mine, share, workers, room);

@@ -12,7 +12,10 @@ use dv_local::Slice;
 use dv_sound::{Refused, SafeVm};
 use std::alloc::AllocError;
 
-/// A turn of one step.
+/// The most steps of a turn.
+const MOST: u32 = 256;
+
+/// A turn of a thread: local steps, and then one other.
 ///
 /// # Errors
 ///
@@ -27,7 +30,7 @@ pub fn take_turn(vm: &mut SafeVm, worker: u32, thread: u32) -> Result<(), AllocE
 {
     let _log = vm.log();
     let _before = printed(vm);
-    let _done = vm.turn(worker, thread, 1)?;
+    let _done = vm.turn(worker, thread, MOST)?;
     let _after = printed(vm);
     Ok(())
 }

@@ -54,3 +54,43 @@ fn two_workers_are_in_slices_at_once(rt: HostRuntime) -> Result<(), Fail> {
     assert!(rt; gate.met.load(Ordering::SeqCst) == 1);
     Ok(())
 }
+
+/// It counts the slices that it is told of, and those of workers with another number than 0.
+#[derive(Drop)]
+struct Counting {
+    arrived: AtomicU64,
+    others: AtomicU64,
+}
+
+impl Gate for Counting {
+    fn arrive(&self, worker: u32, _thread: u32) {
+        self.arrived.fetch_add(1, Ordering::SeqCst);
+        if worker != 0 {
+            self.others.fetch_add(1, Ordering::SeqCst);
+        }
+    }
+
+    fn verifying(&self, _method: u32) {}
+}
+
+fn assert_told<R: Abort + Threads + Wait + Sync>(rt: &R, alloc: Global, gate: &Counting) {
+    let verified = verified(rt, alloc, BOTH);
+    let ran = run(rt, alloc, &verified, 1, gate, &[]);
+    assert!(rt; !ran.fault && !ran.memory && ran.turns.len() == 1);
+    let printed = ran.sink.taken.as_slice();
+    assert!(rt; printed == b"42\n-5\n".as_slice() || printed == b"-5\n42\n".as_slice());
+    drop(ran);
+    drop(verified);
+}
+
+#[test]
+fn an_only_worker_tells_the_gate_of_its_slices(rt: HostRuntime) -> Result<(), Fail> {
+    let gate = Counting {
+        arrived: AtomicU64::new(0),
+        others: AtomicU64::new(0),
+    };
+    assert_told(&rt, rt.alloc(), &gate);
+    assert!(rt; gate.arrived.load(Ordering::SeqCst) > 1);
+    assert!(rt; gate.others.load(Ordering::SeqCst) == 0);
+    Ok(())
+}

@@ -1,5 +1,5 @@
 use Rattle.std.proofs.Common.{◌≡◌}
-use Rattle.dv_workers.proofs.hall.Hall.commit.Given as goal
+use Rattle.dv_workers.proofs.hall.Hall.visit.Given as goal
 
 abbrev pub invariant-loop : goal.invariant-loop
 invariant-loop g l = (l.seat.table_id ≡ l.initial.seat.table_id) × (l.seat.me ≡ l.initial.seat.me) × (l.share ≡ l.initial.share)
