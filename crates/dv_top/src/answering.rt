@@ -17,16 +17,19 @@ use crate::status::Status;
 use crate::verdict::reply_to_verifying;
 use dv_console::Cmd;
 use dv_defs::Entry;
-use dv_io::{Sink, Source};
+use dv_io::{Gate, Sink, Source};
 use std::alloc::{AllocError, Global};
+use std::thread::Threads;
 
 /// Does a command, and answers the status. The log, which is empty before, gets the turns of a run.
-pub fn answer<S: Source, K: Sink>(
+pub fn answer<R: Threads + Sync, S: Source, K: Sink, G: Gate + Sync>(
+    rt: &R,
     alloc: Global,
     command: &Cmd,
     source: &mut S,
     sink: &mut K,
     log: &mut Vec<Entry>,
+    gate: &G,
 ) -> Status
     requires empty { log.old.items ≡ [] }
     requires alone { IsAlone command.now }
@@ -34,7 +37,7 @@ pub fn answer<S: Source, K: Sink>(
     ensures { IsAnswer S.left S.faults K.taken K.faults (Some command.now) source.old source.new sink.old sink.new
         log.new.items (code_of result) }
 {
-    match reply_to_source(alloc, command, source, log) {
+    match reply_to_source(rt, alloc, command, source, log, gate) {
         Ok(reply) => {
             let status = write_reply(&reply, sink);
             drop(reply);
@@ -45,11 +48,13 @@ pub fn answer<S: Source, K: Sink>(
 }
 
 /// Reads the source, and does a command.
-fn reply_to_source<S: Source>(
+fn reply_to_source<R: Threads + Sync, S: Source, G: Gate + Sync>(
+    rt: &R,
     alloc: Global,
     command: &Cmd,
     source: &mut S,
     log: &mut Vec<Entry>,
+    gate: &G,
 ) -> Result<Reply, ReadError>
     requires empty { log.old.items ≡ [] }
     requires alone { IsAlone command.now }
@@ -70,15 +75,17 @@ fn reply_to_source<S: Source>(
     ensures not_replayed { (class : List ℕ) (limits : LimitsOf) → command.now ≡ Cmd.Replay class limits → OnErr result (log.new.items ≡ []) }
 {
     let text = read_all(alloc, source)?;
-    Ok(reply_to_command(alloc, command, &text, log)?)
+    Ok(reply_to_command(rt, alloc, command, &text, log, gate)?)
 }
 
 /// The reply to a command, over a text of which at most one byte past the limit was read.
-fn reply_to_command(
+fn reply_to_command<R: Threads + Sync, G: Gate + Sync>(
+    rt: &R,
     alloc: Global,
     command: &Cmd,
     text: &[u8],
     log: &mut Vec<Entry>,
+    gate: &G,
 ) -> Result<Reply, AllocError>
     requires empty { log.old.items ≡ [] }
     requires alone { IsAlone command.now }
@@ -108,10 +115,12 @@ fn reply_to_command(
                 limits: *limits,
                 shown: *shown,
             };
-            reply_to_running(alloc, name, &how, text, log)
+            reply_to_running(rt, alloc, name, &how, text, log, gate)
         }
-        Cmd::Replay { name, limits } => reply_to_replaying(alloc, name, limits, text, log),
-        Cmd::Verify => reply_to_verifying(alloc, text),
+        Cmd::Replay { name, limits } => reply_to_replaying(
+            rt, alloc, name, limits, text, log, gate,
+        ),
+        Cmd::Verify => reply_to_verifying(rt, alloc, text, gate),
         Cmd::List => reply_to_listing(alloc, text),
         Cmd::Demo { .. } => unreachable!(),
     }

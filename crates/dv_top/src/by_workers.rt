@@ -49,7 +49,7 @@ pub fn run_by_workers<R: Threads + Wait + Sync, S: Source, K: Sink + Send + Drop
     ensures { IsAnswer S.left S.faults K.taken K.faults (Some (cmd.Run class.now how.now.workers Nothing how.now.limits how.now.shown))
         source.old source.new sink result.sink result.log.items result.status }
 {
-    match prepare(alloc, class, source) {
+    match prepare(rt, alloc, class, source, gate) {
         Ok(Prepared::Accepted(verified, main)) => {
             let report = run_verified(rt, alloc, &verified, main, how, sink, gate);
             drop(verified);

@@ -75,15 +75,15 @@ fn do_command<R: Threads + Wait + Sync, S: Source, K: Sink + Send + Drop, G: Gat
     }
 }
 
-/// Does a command as `dvm` does, but for a run without a seed: it waits for no other thread, and returns.
+/// Does a command as `dvm` does, but for a run without a seed: it waits for no threads but those that verify for it, and returns.
 /// What is printed is written at the end.
 pub fn dvm_alone<R: Threads + Sync, S: Source, K: Sink, G: Gate + Sync>(
-    _rt: &R,
+    rt: &R,
     alloc: Global,
     command: &Cmd,
     source: &mut S,
     sink: K,
-    _gate: &G,
+    gate: &G,
 ) -> Report<K>
     requires alone { IsAlone command.now }
     requires limits { HasUsableLimits command.now }
@@ -92,7 +92,7 @@ pub fn dvm_alone<R: Threads + Sync, S: Source, K: Sink, G: Gate + Sync>(
 {
     let mut sink = sink;
     let mut log = Vec::new(alloc);
-    let status = answer(alloc, command, source, &mut sink, &mut log);
+    let status = answer(rt, alloc, command, source, &mut sink, &mut log, gate);
     Report {
         status: status.code(),
         log,

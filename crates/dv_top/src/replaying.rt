@@ -23,19 +23,23 @@ use crate::reply::{Reply, faulty, fixed, is_too_large, no_program};
 use crate::scheduling::refused_schedule;
 use crate::status::Status;
 use dv_defs::{Entry, Limits, MethodId, Text};
-use dv_pverify::verify_one_by_one;
+use dv_io::Gate;
+use dv_pverify::verify_all;
 use dv_rules::Verified;
 use dv_sound::SafeVm;
 use std::alloc::{AllocError, Global};
+use std::thread::Threads;
 
 /// The reply to a text of which at most one byte past the limit was read, where a class of it is to be run on the schedule at its end. The log,
 /// which is empty before, gets that schedule, where it isn't refused and memory isn't wanting.
-pub fn reply_to_replaying(
+pub fn reply_to_replaying<R: Threads + Sync, G: Gate + Sync>(
+    rt: &R,
     alloc: Global,
     class: &Text,
     limits: &Limits,
     text: &[u8],
     log: &mut Vec<Entry>,
+    gate: &G,
 ) -> Result<Reply, AllocError>
     requires empty { log.old.items ≡ [] }
     requires usable { AreUsable limits.now }
@@ -53,17 +57,19 @@ pub fn reply_to_replaying(
         return fixed(alloc, Status::TooLarge, TOO_LARGE);
     }
     match program_to_replay(alloc, class, text) {
-        Ok(program) => reply_of_program_replayed(alloc, program, limits, log),
+        Ok(program) => reply_of_program_replayed(rt, alloc, program, limits, log, gate),
         Err(error) => no_program(alloc, error),
     }
 }
 
 /// Verifies a program, and runs it on its schedule.
-fn reply_of_program_replayed(
+fn reply_of_program_replayed<R: Threads + Sync, G: Gate + Sync>(
+    rt: &R,
     alloc: Global,
     program: Program,
     limits: &Limits,
     log: &mut Vec<Entry>,
+    gate: &G,
 ) -> Result<Reply, AllocError>
     requires empty { log.old.items ≡ [] }
     requires main { HasMain program.image program.main.0 }
@@ -78,7 +84,7 @@ fn reply_of_program_replayed(
         → log.new.items ≢ [] → IsLogOfReplay bytes found limits.now log.new.items }
     ensures wanting { OnErr result (log.new.items ≡ []) }
 {
-    match verify_one_by_one(alloc, program.image) {
+    match verify_all(rt, alloc, program.image, gate) {
         Ok(verified) => {
             let reply = reply_of_replay(
                 alloc,

@@ -17,9 +17,11 @@ use crate::preparing::{Prepared, prepare_text};
 use crate::reply::Reply;
 use crate::status::Status;
 use dv_defs::{Entry, Limits, MethodId, Text};
+use dv_io::Gate;
 use dv_rules::Verified;
 use dv_sound::SafeVm;
 use std::alloc::{AllocError, Global};
+use std::thread::Threads;
 
 /// How a class is run: by turns that the words of a seed pick, within which limits, and whether the schedule is shown.
 #[derive(Clone, Copy)]
@@ -31,12 +33,14 @@ pub struct Running {
 
 /// The reply to a text of which at most one byte past the limit was read, where a class of it is to be run. The log, which is empty before, gets
 /// the turns of the run, also where memory is wanting.
-pub fn reply_to_running(
+pub fn reply_to_running<R: Threads + Sync, G: Gate + Sync>(
+    rt: &R,
     alloc: Global,
     class: &Text,
     how: &Running,
     text: &[u8],
     log: &mut Vec<Entry>,
+    gate: &G,
 ) -> Result<Reply, AllocError>
     requires empty { log.old.items ≡ [] }
     requires usable { AreUsable how.now.limits }
@@ -49,7 +53,7 @@ pub fn reply_to_running(
     ensures legal { (bytes : List ℕ) → IsReadOf bytes text.now → log.new.items ≢ []
         → IsLogOfRun bytes (program_to_run class.now bytes) (Some how.now.seed) how.now.limits log.new.items }
 {
-    match prepare_text(alloc, class, text) {
+    match prepare_text(rt, alloc, class, text, gate) {
         Ok(Prepared::Accepted(verified, main)) => {
             let reply = reply_of_run(alloc, &verified, main, how, log);
             drop(verified);

@@ -11,13 +11,20 @@ use crate::reply::{Reply, faulty, fixed, is_too_large, no_program};
 use crate::status::Status;
 use dv_console::accepted_line;
 use dv_defs::Image;
+use dv_io::Gate;
 use dv_load::read_program;
-use dv_pverify::verify_one_by_one;
+use dv_pverify::verify_all;
 use std::alloc::{AllocError, Global};
+use std::thread::Threads;
 
 /// The reply to a text of which at most one byte past the limit was read: how many methods are accepted, the line of its refusal,
 /// or the lines of its faults.
-pub fn reply_to_verifying(alloc: Global, text: &[u8]) -> Result<Reply, AllocError>
+pub fn reply_to_verifying<R: Threads + Sync, G: Gate + Sync>(
+    rt: &R,
+    alloc: Global,
+    text: &[u8],
+    gate: &G,
+) -> Result<Reply, AllocError>
     ensures told { IfOk result (λ reply. IsTold (code_of reply.status) × (code_of reply.status ≢ code_of Status.Usage)) }
     ensures said { (bytes : List ℕ) → IsReadOf bytes text.now
         → IfOk result (λ reply. IsSaidOfVerifying bytes (code_of reply.status) reply.text.items) }
@@ -26,18 +33,23 @@ pub fn reply_to_verifying(alloc: Global, text: &[u8]) -> Result<Reply, AllocErro
         return fixed(alloc, Status::TooLarge, TOO_LARGE);
     }
     match read_program(alloc, text) {
-        Ok(image) => verdict(alloc, image),
+        Ok(image) => verdict(rt, alloc, image, gate),
         Err(error) => no_program(alloc, error),
     }
 }
 
 /// The reply to a text with this image.
-fn verdict(alloc: Global, image: Image) -> Result<Reply, AllocError>
+fn verdict<R: Threads + Sync, G: Gate + Sync>(
+    rt: &R,
+    alloc: Global,
+    image: Image,
+    gate: &G,
+) -> Result<Reply, AllocError>
     ensures told { IfOk result (λ reply. IsTold (code_of reply.status) × (code_of reply.status ≢ code_of Status.Usage)) }
     ensures said { (bytes : List ℕ) → length bytes ≤ text_limit → image_in bytes ≡ Ok image
         → IfOk result (λ reply. IsSaidOfVerifying bytes (code_of reply.status) reply.text.items) }
 {
-    match verify_one_by_one(alloc, image) {
+    match verify_all(rt, alloc, image, gate) {
         Ok(verified) => {
             let reply = accepted(alloc, &verified.image);
             drop(verified);

@@ -1,5 +1,7 @@
-//! The top call over sources and sinks that fail: tests alone.
+//! The top calls over sources and sinks that fail, and under a gate: tests alone.
 #![tactic(auto)]
 
+#[cfg(test)]
+mod gates;
 #[cfg(test)]
 mod top;

@@ -9,13 +9,13 @@ use std::test::Fail;
 use std::thread::Threads;
 
 /// So many bytes come with a read, where the text isn't read byte by byte.
-const PIECE: usize = 64;
+pub const PIECE: usize = 64;
 
 /// A call, and what it comes to.
 #[derive(Clone, Copy)]
-struct Row<'a> {
+pub struct Row<'a> {
     words: &'a [&'a str],
-    text: &'a str,
+    pub text: &'a str,
     failing_reads: &'a [u64],
     failing_writes: &'a [u64],
     status: u8,
@@ -25,7 +25,7 @@ struct Row<'a> {
 }
 
 /// A main method that adds the greatest int and one, run with a seed whose first two turns may have 231 and 239 steps.
-const WRAP: Row<'static> = Row {
+pub const WRAP: Row<'static> = Row {
     words: &["run", "Main", "seed=1"],
     text: ".class LMain;
 .super Ljava/lang/Object;
