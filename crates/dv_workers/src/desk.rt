@@ -24,13 +24,13 @@ const SLICES: u32 = 8;
 const TURNS: u32 = 256;
 
 /// How many it does though another worker wants the machine.
-const FEW_TURNS: u32 = 8;
+const FEW_TURNS: u32 = 32;
 
 /// A slice of fewer steps costs more to lend than to do in place.
 const SHORT: u32 = 16;
 
 /// How many turns a worker does in place after a short slice.
-const IN_PLACE: u32 = 16;
+const IN_PLACE: u32 = 64;
 
 /// How many turns a worker does after a slice before it lends the next one: their local steps are done in place where lending doesn't pay.
 fn turns_in_place(slice: &Option<Slice>) -> u32 {

@@ -14,6 +14,7 @@ use dv_defs::Image;
 use dv_io::{Gate, Sink};
 use dv_local::{Slice, run_slice};
 use std::alloc::Global;
+use std::hint::spin_loop;
 use std::snapshot::Snapshot;
 use std::sync::atomic::{AtomicU64, Ordering};
 use std::sync::ledger::Share;
@@ -21,6 +22,12 @@ use std::sync::{Condvar, Mutex, MutexGuard, Wait};
 
 /// The most steps of a slice.
 const MOST: u32 = 256;
+
+/// How often a worker looks for the lock before it sleeps.
+const LOOKS: u32 = 200;
+
+/// How long it looks away in between.
+const PAUSE: u32 = 20;
 
 /// A seat by which the machine is taken and put back.
 pub type Place<'v, K, L> = Seat<Option<Held<'v, K, L>>, View>;
@@ -151,6 +158,28 @@ impl<'v, K: Sink + Drop, L: Began> Hall<'v, K, L> {
         (chore, entries)
     }
 
+    /// A worker takes the lock. It says that it wants the machine where another one has it.
+    fn enter<R: Wait>(&self, rt: &R) -> MutexGuard<'_, ()> {
+        if let Some(guard) = self.door.try_lock() {
+            return guard;
+        }
+        self.wanted.fetch_add(1, Ordering::SeqCst);
+        let guard = self.wait_to_enter(rt);
+        self.wanted.fetch_sub(1, Ordering::SeqCst);
+        guard
+    }
+
+    /// A worker looks for the lock some times before it sleeps: a visit takes less time than to be woken.
+    fn wait_to_enter<R: Wait>(&self, rt: &R) -> MutexGuard<'_, ()> {
+        for _ in 0..LOOKS {
+            pause();
+            if let Some(guard) = self.door.try_lock() {
+                return guard;
+            }
+        }
+        self.door.lock(rt)
+    }
+
     /// A worker rests until it is woken.
     fn rest<R: Wait>(&self, rt: &R, guard: MutexGuard<'_, ()>) {
         self.resting.fetch_add(1, Ordering::SeqCst);
@@ -177,9 +206,7 @@ impl<'v, K: Sink + Drop, L: Began> Hall<'v, K, L> {
         ensures amount { share.new.amount ≡ share.old.amount + result.1 }
         ensures fits { share.new.amount < 2 ^ 64 }
     {
-        self.wanted.fetch_add(1, Ordering::SeqCst);
-        let guard = self.door.lock(rt);
-        self.wanted.fetch_sub(1, Ordering::SeqCst);
+        let guard = self.enter(rt);
         for _ in rt.forever() {
             if let Some(desk) = self.take(seat) {
                 let (chore, entries) = self.work(seat, desk, share, worker, slice);
@@ -277,4 +304,11 @@ fn carried_out<G: Gate>(gate: &G, image: &Image, worker: u32, mut slice: Slice) 
     let _done = run_slice(image, &mut slice, MOST);
     gate.arrive(worker, slice.thread);
     slice
+}
+
+/// Some hundred cycles of the processor.
+fn pause() {
+    for _ in 0..PAUSE {
+        spin_loop();
+    }
 }
