@@ -12,4 +12,4 @@ mod words;
 pub use command::{Cmd, WordError};
 pub use faults::{accepted_line, fault_line, method_fault_line};
 pub use refusals::{Refusal, refusal_line};
-pub use words::read_words;
+pub use words::{default_limits, read_words};

@@ -1,6 +1,6 @@
 // The words of a command line, read.
 ghost use Rattle.std.specs.Prelude.{◌≡◌, map, string_bytes, if◌then◌else◌};
-ghost use Rattle.dv_console.specs.Words.{Reads, alone, command_in, demo_in, descriptor_of, is_java_name, limits_in, replay_in, run_in};
+ghost use Rattle.dv_console.specs.Words.{Reads, alone, command_in, demo_in, descriptor_of, is_java_name, limits_in, limits_of, replay_in, run_in};
 
 use crate::command::{Cmd, WordError};
 use crate::keys::{Key, are_of, setting};
@@ -19,19 +19,31 @@ fn class_of(alloc: Global, name: &str) -> Result<Text, WordError>
     Ok(class)
 }
 
+/// The limits of a run for which no words set any.
+pub fn default_limits() -> Limits
+    ensures { result ≡ limits_of None None }
+{
+    Limits {
+        budget: 10_000_000,
+        heap: 1_048_576,
+        output: 16_777_216,
+        threads: 64,
+        levels: 1_024,
+        words: 16_384,
+    }
+}
+
 /// The limits of a run, of which the words set the steps and the words of the heap.
 fn limits_in(words: &[String]) -> Result<Limits, WordError>
     ensures { Reads (λ l. l) result (limits_in (map string_bytes words.now)) }
 {
     let budget = setting(Key::Budget, words)?;
     let heap = setting(Key::Heap, words)?;
+    let limits = default_limits();
     Ok(Limits {
-        budget: budget.unwrap_or(10_000_000),
-        heap: heap.unwrap_or(1_048_576) as u32,
-        output: 16_777_216,
-        threads: 64,
-        levels: 1_024,
-        words: 16_384,
+        budget: budget.unwrap_or(limits.budget),
+        heap: heap.unwrap_or(u64::from(limits.heap)) as u32,
+        ..limits
     })
 }
 
