@@ -2,7 +2,9 @@
 """Times `dvm verify` on texts of one and of many methods, and prints processor seconds, microseconds a unit and megabytes.
 Megabytes below what this script takes itself, about 13, can't be told.
 
-Usage: bench/verify.py [PROGRAM], where PROGRAM is a built `dvm` (crates/dvm/out/dvm).
+Usage: bench/verify.py [--processors] [PROGRAM], where PROGRAM is a built `dvm` (crates/dvm/out/dvm).
+
+With --processors it times two texts on one to all processors: seconds by the clock, the least of five, what they are of one processor's, and megabytes.
 """
 import os
 import subprocess
@@ -41,6 +43,13 @@ def methods(count, instructions=100):
     return text
 
 
+def classes(count, methods, instructions=100):
+    """Many classes of some methods each."""
+    body = "const/4 v0, 0x1\n" + "add-int/lit8 v1, v0, 0x1\n" * (instructions - 2) + "return-void\n"
+    of_class = "".join(method("m%02d" % k, 4, body) for k in range(methods))
+    return "".join(".class LC%04d;\n.super Ljava/lang/Object;\n%s" % (k, of_class) for k in range(count))
+
+
 def nested(loops=200, units=16_384, registers=256):
     """Loops in one another, over all registers."""
     head = "const/4 v0, 0x1\nconst-string v1, \"a\"\n"
@@ -72,21 +81,45 @@ CASES = [
 ]
 
 
-def run(program, text):
-    """The status, the processor seconds, the seconds by the clock and the megabytes of one run."""
+BY_PROCESSORS = [
+    ("1,000 classes of 16 methods, 20 instructions each", lambda: classes(1_000, 16, 20)),
+    ("1,000 classes of 16 methods, 100 instructions each", lambda: classes(1_000, 16, 40)),
+    ("eight times 256 strings, the limit of cells", lambda: strings(8)),
+]
+
+
+def run(program, text, processors=None):
+    """The status, the processor seconds, the seconds by the clock and the megabytes of one run, on these processors or on all."""
     with tempfile.TemporaryFile() as source:
         source.write(text.encode())
         source.seek(0)
         begun = time.time()
-        child = subprocess.Popen([program, "verify"], stdin=source, stdout=subprocess.DEVNULL)
+        pin = (lambda: os.sched_setaffinity(0, processors)) if processors else None
+        child = subprocess.Popen([program, "verify"], stdin=source, stdout=subprocess.DEVNULL, preexec_fn=pin)
         _, status, used = os.wait4(child.pid, 0)
     return os.waitstatus_to_exitcode(status), used.ru_utime + used.ru_stime, time.time() - begun, used.ru_maxrss // 1024
 
 
+def by_processors(program):
+    every = sorted(os.sched_getaffinity(0))
+    for name, text in BY_PROCESSORS:
+        text, alone = text(), None
+        for count in range(1, len(every) + 1):
+            seen = [run(program, text, every[:count]) for _ in range(5)]
+            clock, megabytes = min(it[2] for it in seen), max(it[3] for it in seen)
+            alone = alone or clock
+            print(f"{name:<52} status {seen[0][0]}  on {count}: {clock:.3f} s, {clock / alone:.2f} of one's,  {megabytes} MB", flush=True)
+
+
 def main():
-    program = sys.argv[1] if len(sys.argv) > 1 else os.path.join(TOP, "crates", "dvm", "out", "dvm")
+    words = sys.argv[1:]
+    split = "--processors" in words
+    words = [it for it in words if it != "--processors"]
+    program = words[0] if words else os.path.join(TOP, "crates", "dvm", "out", "dvm")
     if not os.access(program, os.X_OK):
         sys.exit(f"{program} isn't built: run ./dvm verify < /dev/null")
+    if split:
+        return by_processors(program)
     for name, units, text in CASES:
         status, used, clock, megabytes = run(program, text())
         per = f" {used * 1e6 / units:.2f} us a unit" if units else ""

@@ -1,10 +1,11 @@
-// Methods judged by halves: one by a thread of its own, if one can be started, and the other by the caller.
+// Methods judged by halves of their work: one half by a thread of its own, if one can be started, and the other by the caller.
 ghost use Rattle.std.specs.Prelude.{◌≡◌, ◌≤◌, ◌<◌, ◌+◌, ◌^◌, ◌++◌, length, IfOk, OnOk};
 ghost use Rattle.std.specs.Thread.{IsSync};
 ghost use Rattle.dv_defs.specs.Images as images;
 ghost use Rattle.dv_pverify.specs.Judging.{AreJudged};
 
 use crate::judge::{Judged, count_of, judge_range};
+use crate::work::Work;
 use dv_defs::Image;
 use dv_io::Gate;
 use dv_types::ClassTable;
@@ -21,6 +22,9 @@ trait Judging {
         requires fits { from + count < 2 ^ 32 }
         ensures judged { IfOk result (λ j. AreJudged (image self.now) from j.maps.items j.faults.items) }
         ensures count { IfOk result (λ j. length j.maps.items ≡ count) };
+
+    /// How much work so many methods from one on are.
+    fn work(&self, from: u32, count: u32) -> u64;
 }
 
 /// Judges by a table of the image's classes. The gate is told of each method before it is judged.
@@ -29,6 +33,7 @@ struct Judge<'a, 'b, G> {
     alloc: Global,
     image: &'a Image,
     table: &'a ClassTable<'b>,
+    work: &'a Work,
     gate: &'a G,
     ghost same: { table.now ≡ image.now },
 }
@@ -38,6 +43,10 @@ impl<'a, 'b, G: Gate> Judging for Judge<'a, 'b, G> {
 
     fn judge_range(&self, from: u32, count: u32) -> Result<Judged, AllocError> {
         judge_range(self.alloc, self.image, self.table, self.gate, from, count)
+    }
+
+    fn work(&self, from: u32, count: u32) -> u64 {
+        self.work.of(from, count)
     }
 }
 
@@ -51,49 +60,57 @@ pub fn judge_all<R: Threads + Sync, G: Gate + Sync>(
     ensures judged { IfOk result (λ j. AreJudged image.now 0 j.maps.items j.faults.items) }
     ensures count { IfOk result (λ j. length j.maps.items ≡ length image.now.methods) }
 {
+    let count = count_of(image);
     let table = ClassTable::new(alloc, image)?;
+    let work = Work::new(alloc, image, count)?;
     let judge = Judge {
         alloc,
         image,
         table: &table,
+        work: &work,
         gate,
     };
-    let count = count_of(image);
-    judge_part(rt, &judge, few_of(count), 0, count)
+    let few = work.of(0, count) / 8;
+    judge_part(rt, &judge, few, 0, count)
 }
 
-/// Of so many methods so many at most are judged one after another: an eighth of them, and one at least.
-fn few_of(count: u32) -> u32
-    ensures { 1 ≤ result }
+/// How many of so many methods from one on are about half of their work: some, but not all.
+fn half_of<J: Judging>(judge: &J, from: u32, count: u32) -> u32
+    requires { 2 ≤ count }
+    ensures { (1 ≤ result) × (result < count) }
 {
-    (count / 8).max(1)
+    let half = judge.work(from, count) / 2;
+    for less in 1..count - 1 {
+        if judge.work(from, less) >= half {
+            return less;
+        }
+    }
+    count - 1
 }
 
-/// Judges so many methods from one on, by halves where they are more than a few.
+/// Judges so many methods from one on, by halves where they are more than one and more work than a little.
 fn judge_part<R: Threads + Sync, J: Judging + Sync>(
     rt: &R,
     judge: &J,
-    few: u32,
+    few: u64,
     from: u32,
     count: u32,
 ) -> Result<Judged, AllocError>
-    requires few { 1 ≤ few }
     requires range { from + count ≤ length (J.image judge.now).methods }
     requires fits { from + count < 2 ^ 32 }
     ensures judged { IfOk result (λ j. AreJudged (J.image judge.now) from j.maps.items j.faults.items) }
     ensures count { IfOk result (λ j. length j.maps.items ≡ count) }
 {
-    if count <= few {
+    if count < 2 || judge.work(from, count) <= few {
         return judge.judge_range(from, count);
     }
-    let less = count / 2;
+    let less = half_of(judge, from, count);
     let rest = count - less;
     let middle = from + less;
     let (first, then) = join(
         rt,
         || -> Result<Judged, AllocError>
             requires sync { IsSync R.row × IsSync J.row }
-            requires few { 1 ≤ few }
             requires range { from + less ≤ length (J.image judge.now).methods }
             requires fits { from + less < 2 ^ 32 }
             ensures judged { IfOk result (λ j. AreJudged (J.image judge.entry.now) from j.maps.items j.faults.items) }
@@ -101,7 +118,6 @@ fn judge_part<R: Threads + Sync, J: Judging + Sync>(
         { judge_part(rt, judge, few, from, less) },
         || -> Result<Judged, AllocError>
             requires sync { IsSync R.row × IsSync J.row }
-            requires few { 1 ≤ few }
             requires range { middle + rest ≤ length (J.image judge.now).methods }
             requires fits { middle + rest < 2 ^ 32 }
             ensures judged { IfOk result (λ j. AreJudged (J.image judge.entry.now) middle j.maps.items j.faults.items) }

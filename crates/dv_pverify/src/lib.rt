@@ -5,6 +5,7 @@ mod errors;
 mod halves;
 mod judge;
 mod verify;
+mod work;
 
 pub use errors::VerifyError;
 pub use verify::{verify_all, verify_one_by_one};
