@@ -24,6 +24,13 @@ read_whole bytes text is few = whole_by (text_limit + 1) text_limit bytes text r
 pub read_past : (bytes text : List ℕ) → IsReadOf bytes text → text_limit < length text → text_limit < length bytes
 read_past bytes text is many = past_by (text_limit + 1) text_limit bytes text is many
 
+-- a text that isn't too large is what is read of it
+itself_by : (n limit : ℕ) (text : List ℕ) → n ≡ limit + 1 → length text ≤ limit → text ≡ take n text
+itself_by n limit text more few = sym (take_all n text (omega arith))
+
+pub read_of_itself : (text : List ℕ) → length text ≤ text_limit → IsReadOf text text
+read_of_itself text few = itself_by (text_limit + 1) text_limit text refl few
+
 -- a text that was read isn't too large, and what is found of it is found of the bytes
 pub found_in : {A : Type 0} (f : List ℕ → A) (bytes text : List ℕ) (x : A) → IsReadOf bytes text → length text ≤ text_limit → f text ≡ x → (length bytes ≤ text_limit) × (f bytes ≡ x)
 found_in f bytes text x is few gives =

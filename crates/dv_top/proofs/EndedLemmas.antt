@@ -1,5 +1,5 @@
 -- What a run that has ended tells, by the state at which its engine stands.
-use Rattle.std.proofs.Common.{◌≡◌, ◌≢◌, ℕ, ◌++◌, Bool, false, List, [], ◌∷◌, length, Option, None, Some, arith, ap, refl, ◌∙◌}
+use Rattle.std.proofs.Common.{◌≡◌, ◌≢◌, ℕ, ◌++◌, List, [], ◌∷◌, length, Option, None, Some, arith, ap, refl, ◌∙◌}
 use Rattle.std.specs.Prelude.{slice_get}
 use Rattle.std.specs.List.{AllZip}
 use Rattle.dv_defs.specs.declared.machine.End.{End}
@@ -20,9 +20,11 @@ use Rattle.dv_sound.specs.Moves.{IsGood, StandsFor}
 use Rattle.dv_sound.specs.Runs.{IsAt, Run}
 use Rattle.dv_final.specs.Final.{final_lines_of}
 use Rattle.dv_final.specs.Laws.{FinalLinesFollow}
+use Rattle.dv_top.specs.declared.closing.Closing.{Closing}
+use Rattle.dv_top.specs.declared.closing.Closing.TheVariants as closing
 use Rattle.dv_top.specs.declared.status.Status.{Status}
 use Rattle.dv_top.specs.declared.status.Status.TheVariants as exit
-use Rattle.dv_top.specs.Runs.{IsRun, end_of, shown_schedule, status_of}
+use Rattle.dv_top.specs.Runs.{IsRun, closing_text, end_of, status_of}
 use Rattle.dv_top.specs.Status.{code_of}
 use Rattle.dv_top.proofs.RunLemmas.{run_status}
 
@@ -52,13 +54,13 @@ some_of None not = absurd (not refl)
 some_of (Some x) not = (x, refl)
 
 -- a run that stands at an ending
-pub run_is : (r : Run) (main : Method) (m : Machine) (status : Status) (shown : Bool) (text : List ℕ) → IsAt r main m → ending_of r.verified.image m ≢ None → ((e : Ending) → ending_of r.verified.image m ≡ Some e → status ≡ status_of m e) → text ≡ final_text r.verified.image m ++ shown_schedule shown r.log → IsRun r.verified.image main r.machine.limits r.log shown (code_of status) text
-run_is r main m status shown text at ended tells prints =
+pub run_is : (r : Run) (main : Method) (m : Machine) (status : Status) (behind : Closing) (text : List ℕ) → IsAt r main m → ending_of r.verified.image m ≢ None → ((e : Ending) → ending_of r.verified.image m ≡ Some e → status ≡ status_of m e) → text ≡ final_text r.verified.image m ++ closing_text behind r.log → IsRun r.verified.image main r.machine.limits r.log behind (code_of status) text
+run_is r main m status behind text at ended tells prints =
     let (e, is) = some_of (ending_of r.verified.image m) ended in
     record { machine = m; replayed = at.replayed; ending = e; ends = is; tells = ap code_of (tells e is); prints = prints }
 
 -- no write failed
 pub run_is_good : (r : Run) (main : Method) (m : Machine) (status : Status) → IsAt r main m → ending_of r.verified.image m ≢ None → ((e : Ending) → ending_of r.verified.image m ≡ Some e → status ≡ status_of m e) → status ≢ exit.WriteFault
 run_is_good r main m status at ended tells fault =
-    let run = run_is r main m status false (final_text r.verified.image m ++ shown_schedule false r.log) at ended tells refl in
-    (run_status r.verified.image main r.machine.limits r.log false (code_of status) _ run).good_sink (ap code_of fault)
+    let run = run_is r main m status closing.Nothing (final_text r.verified.image m ++ closing_text closing.Nothing r.log) at ended tells refl in
+    (run_status r.verified.image main r.machine.limits r.log closing.Nothing (code_of status) _ run).good_sink (ap code_of fault)

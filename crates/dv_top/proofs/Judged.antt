@@ -1,11 +1,13 @@
 -- Where a text is refused.
-use Rattle.std.proofs.Common.{◌≡◌, ℕ, ◌≤◌, ◌↔◌, false, List, length, Result, ap, arith, subst}
+use Rattle.std.proofs.Common.{◌≡◌, ℕ, ◌≤◌, ◌↔◌, List, length, Result, ap, arith, subst}
 use Rattle.dv_defs.specs.declared.run.Entry.{Entry}
 use Rattle.dv_defs.specs.declared.run.Limits.{Limits}
 use Rattle.dv_typing.specs.Accepting.{Accepts}
 use Rattle.dv_defs.specs.Pools.{Method}
 use Rattle.dv_console.specs.declared.command.Cmd.TheVariants as cmd
 use Rattle.dv_console.specs.declared.refusals.Refusal.{Refusal}
+use Rattle.dv_top.specs.declared.closing.Closing.{Closing}
+use Rattle.dv_top.specs.declared.closing.Closing.TheVariants as closing
 use Rattle.dv_top.specs.declared.program.Program.{Program}
 use Rattle.dv_top.specs.declared.status.Status.TheVariants as exit
 use Rattle.dv_top.specs.Laws.{HasRefusedSchedule, IsJudged, ReplaysAreJudged, RunsAreJudged, VerdictsAreExact}
@@ -15,7 +17,7 @@ use Rattle.dv_top.specs.Said.{IsAccepted, IsSaidOfNoRun, IsSaidOfReplay, IsSaidO
 use Rattle.dv_top.specs.Status.{code_of}
 use Rattle.dv_top.proofs.AnsweringLemmas.{large_or_small, ok_or_err}
 use Rattle.dv_top.proofs.RunLemmas.{not_refused, run_status}
-use Rattle.dv_top.proofs.SaidOnce.{run_moved, run_or_not, said_of_asked, same_main, same_program}
+use Rattle.dv_top.proofs.SaidOnce.{run_moved, run_or_not, said_of_asked, said_of_run, same_main, same_program}
 use Rattle.dv_top.proofs.VerifyingLemmas.{is_verdict}
 
 pub verdicts_are_exact : VerdictsAreExact
@@ -46,13 +48,13 @@ module _ (bytes : List ℕ) (found : Result Program Refusal) where
       }
 
 pub runs_are_judged : RunsAreJudged
-runs_are_judged asked bytes log status text class workers seed limits shown is few said = by (said_of_asked asked (cmd.Run class workers seed limits shown) bytes log status text is said)
+runs_are_judged asked bytes log status text r is few said = by (said_of_run asked r bytes log status text is said)
   where
-    by : IsSaidOfRun bytes (program_to_run class bytes) seed limits shown log status text → IsJudged (program_to_run class bytes) status
-    by (NotRun r) = not_run_judged bytes (program_to_run class bytes) status text few r
-    by (Ran p main accepted turns r) =
-        let ran = run_status p.image main limits log shown status text r in
-        accepted_judged bytes (program_to_run class bytes) status p main accepted ran.good_text ran.accepted
+    by : IsSaidOfRun bytes (program_to_run r.class bytes) r.seed r.limits r.behind log status text → IsJudged (program_to_run r.class bytes) status
+    by (NotRun reply) = not_run_judged bytes (program_to_run r.class bytes) status text few reply
+    by (Ran p main accepted turns run) =
+        let ran = run_status p.image main r.limits log r.behind status text run in
+        accepted_judged bytes (program_to_run r.class bytes) status p main accepted ran.good_text ran.accepted
 
 module _ (bytes : List ℕ) (found : Result Program Refusal) (limits : Limits) (few : length bytes ≤ text_limit) where
   not_scheduled : (status : ℕ) (text : List ℕ) → IsSaidOfNoRun bytes found status text → status ≡ code_of exit.Schedule → ⊥
@@ -61,12 +63,12 @@ module _ (bytes : List ℕ) (found : Result Program Refusal) (limits : Limits) (
   not_scheduled status text (Refused _ p gives broken fs are r) e = absurd (omega (arith, r.0, e))
 
   -- a schedule that is run isn't refused
-  ran_on : (p : Program) (main : Method) (status : ℕ) (text : List ℕ) → IsAccepted bytes found p main → IsRun p.image main limits p.schedule false status text → HasRefusedSchedule bytes found limits → ⊥
+  ran_on : (p : Program) (main : Method) (status : ℕ) (text : List ℕ) → IsAccepted bytes found p main → IsRun p.image main limits p.schedule closing.Nothing status text → HasRefusedSchedule bytes found limits → ⊥
   ran_on p main status text is r h =
       let same = same_program bytes found p h.program is.program h.accepted.program in
       let mains = same_main bytes found p h.program main h.main same is h.accepted in
-      let moved = run_moved p h.program main h.main limits p.schedule h.program.schedule false status text same mains (ap (λ (x : Program). x.schedule) same) r in
-      not_refused h.program.image h.main limits h.program.schedule false status text h.line moved h.refused
+      let moved = run_moved p h.program main h.main limits p.schedule h.program.schedule closing.Nothing status text same mains (ap (λ (x : Program). x.schedule) same) r in
+      not_refused h.program.image h.main limits h.program.schedule closing.Nothing status text h.line moved h.refused
 
   replay_judged : (log : List Entry) (status : ℕ) (text : List ℕ) → IsSaidOfReplay bytes found limits log status text → IsJudged found status × ((status ≡ code_of exit.Schedule) ↔ HasRefusedSchedule bytes found limits)
   replay_judged log status text (NotReplayed r) =
@@ -77,7 +79,7 @@ module _ (bytes : List ℕ) (found : Result Program Refusal) (limits : Limits) (
         (λ _. record { program = p; main = main; accepted = is; line = line; refused = refused }, λ _. told),
       )
   replay_judged log status text (Replayed p main is given r) =
-      let ran = run_status p.image main limits p.schedule false status text r in (
+      let ran = run_status p.image main limits p.schedule closing.Nothing status text r in (
         accepted_judged bytes found status p main is ran.good_text ran.accepted,
         (λ e. absurd (ran.scheduled e), λ h. absurd (ran_on p main status text is r h)),
       )

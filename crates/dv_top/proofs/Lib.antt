@@ -1,5 +1,6 @@
 pub mod AnswerLemmas
 pub mod AnsweringLemmas
+pub mod Demos
 pub mod EndedLemmas
 pub mod Entries
 pub mod Judged

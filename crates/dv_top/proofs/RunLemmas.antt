@@ -1,5 +1,5 @@
 -- Runs: their statuses, their turns, and schedules that are refused.
-use Rattle.std.proofs.Common.{◌≡◌, ◌≢◌, ℕ, ◌≤◌, Bool, false, List, [], length, append-nil, Option, Some, None, Ok, inl, inr, arith, ap, sym, subst, ◌∙◌}
+use Rattle.std.proofs.Common.{◌≡◌, ◌≢◌, ℕ, ◌≤◌, List, [], length, append-nil, Option, Some, None, Ok, inl, inr, arith, ap, sym, subst, ◌∙◌}
 use Rattle.dv_defs.specs.declared.machine.End.{End}
 use Rattle.dv_defs.specs.declared.machine.End.TheVariants as end
 use Rattle.dv_defs.specs.declared.names.MethodId.{MethodId}
@@ -14,6 +14,8 @@ use Rattle.dv_rules.specs.Verified.{VerifiedValue}
 use Rattle.dv_sound.specs.declared.error.ReplayError.{ReplayError}
 use Rattle.dv_sound.specs.declared.error.ReplayError.TheVariants as error
 use Rattle.dv_sound.specs.Replays.{IsRefused, Refuses}
+use Rattle.dv_top.specs.declared.closing.Closing.{Closing}
+use Rattle.dv_top.specs.declared.closing.Closing.TheVariants as closing
 use Rattle.dv_top.specs.declared.status.Status.TheVariants as exit
 use Rattle.dv_top.specs.Answering.{IsIdle, IsTold}
 use Rattle.dv_top.specs.Runs.{AreFirstTurns, AreTurns, IsRun, refused_line, schedule_line, short_line, status_by, status_by_end}
@@ -74,8 +76,8 @@ of_ending ending.NoRunnable first = stopped 9 (omega arith) (omega arith)
 of_ending ending.Steps first = stopped 10 (omega arith) (omega arith)
 of_ending ending.Output first = stopped 10 (omega arith) (omega arith)
 
-pub run_status : (image : Image) (main : Method) (limits : Limits) (log : List Entry) (shown : Bool) (status : ℕ) (text : List ℕ) → IsRun image main limits log shown status text → IsRunStatus status
-run_status image main limits log shown status text r = subst IsRunStatus (sym r.tells) (of_ending r.ending _)
+pub run_status : (image : Image) (main : Method) (limits : Limits) (log : List Entry) (behind : Closing) (status : ℕ) (text : List ℕ) → IsRun image main limits log behind status text → IsRunStatus status
+run_status image main limits log behind status text r = subst IsRunStatus (sym r.tells) (of_ending r.ending _)
 
 -- it tells what was found, and that isn't that nothing ran
 pub told_of_run : (s : ℕ) → IsRunStatus s → IsTold s × (s ≢ code_of exit.Usage)
@@ -135,8 +137,8 @@ refused_by (error.Short k) image main limits log line is told = by_short image m
 refused_by (error.Memory e) image main limits log line is told = cc
 
 -- a run leads to an ending, so its schedule isn't refused
-pub not_refused : (image : Image) (main : Method) (limits : Limits) (log : List Entry) (shown : Bool) (status : ℕ) (text line : List ℕ) → IsRun image main limits log shown status text → refused_line image log (replay image main limits log) ≡ Some line → ⊥
-not_refused image main limits log shown status text line r is =
+pub not_refused : (image : Image) (main : Method) (limits : Limits) (log : List Entry) (behind : Closing) (status : ℕ) (text line : List ℕ) → IsRun image main limits log behind status text → refused_line image log (replay image main limits log) ≡ Some line → ⊥
+not_refused image main limits log behind status text line r is =
     let none : refused_line image log (replay image main limits log) ≡ None = ap (refused_line image log) r.replayed ∙ ap (short_line log) r.ends in
     cc
 
@@ -145,5 +147,5 @@ pub main_of_run : (v run : VerifiedValue) (main own : MethodId) (m : Method) →
 main_of_run v run main own m same mains is = rw (same, mains) is
 
 -- a run that a schedule led to its end
-pub runs_by : (v run : VerifiedValue) (m : Method) (limits own : Limits) (schedule log after : List Entry) (status : ℕ) (text : List ℕ) → run ≡ v → own ≡ limits → log ≡ schedule → after ≡ log → IsRun run.image m own log false status text → IsReplyOfReplay v.image m limits schedule after status text
+pub runs_by : (v run : VerifiedValue) (m : Method) (limits own : Limits) (schedule log after : List Entry) (status : ℕ) (text : List ℕ) → run ≡ v → own ≡ limits → log ≡ schedule → after ≡ log → IsRun run.image m own log closing.Nothing status text → IsReplyOfReplay v.image m limits schedule after status text
 runs_by v run m limits own schedule log after status text same few given kept ran = Runs (kept ∙ given) (rw (same, few, given) at ran)

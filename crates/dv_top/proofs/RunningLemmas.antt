@@ -1,5 +1,5 @@
 -- What the parts of the reply to a class that is to be run give together.
-use Rattle.std.proofs.Common.{◌≡◌, ◌≢◌, ℕ, ◌<◌, ◌≤◌, Bool, false, List, [], length, Option, Some, Ok, Err, Result, arith, ap, refl, sym, subst, ◌∙◌}
+use Rattle.std.proofs.Common.{◌≡◌, ◌≢◌, ℕ, ◌<◌, ◌≤◌, List, [], length, Option, Some, Ok, Err, Result, arith, ap, refl, sym, subst, ◌∙◌}
 use Rattle.std.specs.Prelude.{All, IfOk, OnErr}
 use Rattle.std.proofs.lemmas.List.Elements.{All-nil}
 use Rattle.dv_defs.specs.declared.faults.Fault.{Fault}
@@ -23,6 +23,8 @@ use Rattle.dv_machine.specs.Replaying.{IsFinished, IsLegal, replay}
 use Rattle.dv_machine.specs.State.{Machine}
 use Rattle.dv_machine.specs.Mains.{HasMain}
 use Rattle.dv_sound.specs.Runs.{IsAt, IsAtSome, Run}
+use Rattle.dv_top.specs.declared.closing.Closing.{Closing}
+use Rattle.dv_top.specs.declared.closing.Closing.TheVariants as closing
 use Rattle.dv_top.specs.declared.program.Program.{Program}
 use Rattle.dv_top.specs.declared.reply.Reply.{Reply}
 use Rattle.dv_top.specs.declared.status.Status.{Status}
@@ -105,11 +107,11 @@ module _ (bytes : List ℕ) (found : Result Program Refusal) (image : Image) (nu
       ap (λ (i : Image). method_at i number.0) f.image_is ∙ (ap (λ (n : MethodId). method_at f.program.image n.0) f.number_is ∙ f.accepted.has_main)
 
   module _ (seed : Option ℕ) (limits : Limits) (log : List Entry) where
-    pub said_ran : (shown : Bool) (status : ℕ) (text : List ℕ) → AreTurns seed image f.main limits log × IsRun image f.main limits log shown status text → IsSaidOfRun bytes found seed limits shown log status text
-    said_ran shown status text (turns, run) =
+    pub said_ran : (behind : Closing) (status : ℕ) (text : List ℕ) → AreTurns seed image f.main limits log × IsRun image f.main limits log behind status text → IsSaidOfRun bytes found seed limits behind log status text
+    said_ran behind status text (turns, run) =
         Ran f.program f.main f.accepted
         (moved (λ (i : Image) (l : Limits) es. AreTurns seed i f.main l es) image f.program.image limits limits log log f.image_is refl refl turns)
-        (moved (λ (i : Image) (l : Limits) es. IsRun i f.main l es shown status text) image f.program.image limits limits log log f.image_is refl refl run)
+        (moved (λ (i : Image) (l : Limits) es. IsRun i f.main l es behind status text) image f.program.image limits limits log log f.image_is refl refl run)
 
     pub log_of_run : IsLegal image f.main limits log × AreFirstTurns seed image f.main limits log → IsLogOfRun bytes found seed limits log
     log_of_run (legal, turns) =
@@ -157,11 +159,11 @@ module _ (image : Image) (m : Method) (limits : Limits) (schedule log : List Ent
 
   pub told_of_replay : IsReplyOfReplay image m limits schedule log status text → IsTold status × (status ≢ code_of exit.Usage)
   told_of_replay (Refuses refused told none) = refused_status told
-  told_of_replay (Runs given run) = told_of_run status (run_status image m limits schedule false status text run)
+  told_of_replay (Runs given run) = told_of_run status (run_status image m limits schedule closing.Nothing status text run)
 
   pub idle_of_replay : IsReplyOfReplay image m limits schedule log status text → IsIdle status → log ≡ []
   idle_of_replay (Refuses refused told none) idle = none
-  idle_of_replay (Runs given run) idle = absurd (not_idle status (run_status image m limits schedule false status text run) idle)
+  idle_of_replay (Runs given run) idle = absurd (not_idle status (run_status image m limits schedule closing.Nothing status text run) idle)
 
   entries_of : All IsOfWorker schedule → IsReplyOfReplay image m limits schedule log status text → All IsOfWorker log
   entries_of each (Refuses refused told none) = subst (All IsOfWorker) (sym none) (All-nil IsOfWorker)

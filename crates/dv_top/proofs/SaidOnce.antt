@@ -1,5 +1,5 @@
 -- One thing is said of the words, the bytes and the log.
-use Rattle.std.proofs.Common.{◌≡◌, ℕ, ◌++◌, Bool, false, List, [], flat_map, Option, Some, None, Result, Ok, Err, ap, refl, sym, subst, ◌∙◌}
+use Rattle.std.proofs.Common.{◌≡◌, ℕ, ◌++◌, false, List, [], flat_map, Option, Some, None, Result, Ok, Err, ap, refl, sym, subst, ◌∙◌}
 use Rattle.dv_defs.specs.declared.names.MethodId.{MethodId}
 use Rattle.dv_defs.specs.declared.run.Entry.{Entry}
 use Rattle.dv_defs.specs.declared.run.Limits.{Limits}
@@ -19,6 +19,7 @@ use Rattle.dv_console.specs.declared.command.Cmd.TheVariants as cmd
 use Rattle.dv_console.specs.declared.refusals.Refusal.{Refusal}
 use Rattle.dv_console.specs.declared.refusals.Refusal.TheVariants as refusal
 use Rattle.dv_console.specs.Refusals.{refusal_text}
+use Rattle.dv_console.specs.Words.{limits_of}
 use Rattle.dv_load.specs.declared.program.Scheduled.{Scheduled}
 use Rattle.dv_load.specs.Images.{image_in, main_in, scheduled_in}
 use Rattle.dv_load.proofs.LinkedTexts.{scheduled_texts_give_images, texts_give_images}
@@ -26,13 +27,16 @@ use Rattle.dv_machine.specs.Final.{final_text}
 use Rattle.dv_machine.specs.Replaying.{Replayed, Stands, replay}
 use Rattle.dv_machine.specs.Running.{ending_of}
 use Rattle.dv_machine.specs.State.{Machine}
+use Rattle.dv_top.specs.declared.closing.Closing.{Closing}
+use Rattle.dv_top.specs.declared.closing.Closing.TheVariants as closing
 use Rattle.dv_top.specs.declared.program.Program.{Program}
 use Rattle.dv_top.specs.declared.status.Status.TheVariants as exit
 use Rattle.dv_top.specs.Programs.{of_image, of_scheduled, program_to_replay, program_to_run, with_main}
-use Rattle.dv_top.specs.Runs.{IsRun, refused_line, shown_schedule, status_of}
+use Rattle.dv_top.specs.Runs.{IsRun, closing_text, refused_line, status_of}
 use Rattle.dv_top.specs.Laws.{IsSaidOnce}
 use Rattle.dv_top.specs.Said.{BadText, IsAccepted, IsReply, IsSaid, IsSaidOfListing, IsSaidOfNoRun, IsSaidOfReplay, IsSaidOfRun, IsSaidOfVerifying, Listed, NoProgram, NotReplayed, NotRun, Ran, Refused, Replayed as IsReplayed, ScheduleRefused, ToBeListed, ToBeReplayed, ToBeRun, ToBeVerified, TooLarge, TooLargeToList, Unread, fault_lines, usage}
 use Rattle.dv_top.specs.Status.{code_of}
+use Rattle.dv_top.specs.Words.{RunAsked, closing_of, demo_class, run_asked}
 use Rattle.dv_top.proofs.AnsweringLemmas.{large_or_small, ok_or_err, same_err, same_ok, same_some}
 use Rattle.dv_top.proofs.RunLemmas.{not_refused}
 use Rattle.dv_top.proofs.VerifyingLemmas.{verified_once}
@@ -107,30 +111,30 @@ same_stands : (r : Replayed) (m n : Machine) → r ≡ Stands m → r ≡ Stands
 same_stands r m n e h = cc
 
 -- a schedule's replay stands at one ending
-run_once : (image : Image) (main : Method) (limits : Limits) (log : List Entry) (shown : Bool) (s t : ℕ) (a b : List ℕ) → IsRun image main limits log shown s a → IsRun image main limits log shown t b → Same s a t b
-run_once image main limits log shown s t a b r q =
+run_once : (image : Image) (main : Method) (limits : Limits) (log : List Entry) (behind : Closing) (s t : ℕ) (a b : List ℕ) → IsRun image main limits log behind s a → IsRun image main limits log behind t b → Same s a t b
+run_once image main limits log behind s t a b r q =
     let machine : r.machine ≡ q.machine = same_stands (replay image main limits log) r.machine q.machine r.replayed q.replayed in
     let ending : r.ending ≡ q.ending = same_some (ending_of image q.machine) r.ending q.ending (ap (λ m. ending_of image m) (sym machine) ∙ r.ends) q.ends in (
       r.tells ∙ (ap (λ m. code_of (status_of m r.ending)) machine ∙ (ap (λ e. code_of (status_of q.machine e)) ending ∙ sym q.tells)),
-      r.prints ∙ (ap (λ m. final_text image m ++ shown_schedule shown log) machine ∙ sym q.prints),
+      r.prints ∙ (ap (λ m. final_text image m ++ closing_text behind log) machine ∙ sym q.prints),
     )
 
 -- also where a program and its main method are named twice
-pub run_moved : (p q : Program) (m n : Method) (limits : Limits) (log other : List Entry) (shown : Bool) (s : ℕ) (a : List ℕ) → p ≡ q → m ≡ n → log ≡ other → IsRun p.image m limits log shown s a → IsRun q.image n limits other shown s a
-run_moved p q m n limits log other shown s a same main logs r =
-    let P : Program → Type 0 = λ x. IsRun x.image m limits log shown s a in
-    let Q : Method → Type 0 = λ x. IsRun q.image x limits log shown s a in
-    let R : List Entry → Type 0 = λ x. IsRun q.image n limits x shown s a in
+pub run_moved : (p q : Program) (m n : Method) (limits : Limits) (log other : List Entry) (behind : Closing) (s : ℕ) (a : List ℕ) → p ≡ q → m ≡ n → log ≡ other → IsRun p.image m limits log behind s a → IsRun q.image n limits other behind s a
+run_moved p q m n limits log other behind s a same main logs r =
+    let P : Program → Type 0 = λ x. IsRun x.image m limits log behind s a in
+    let Q : Method → Type 0 = λ x. IsRun q.image x limits log behind s a in
+    let R : List Entry → Type 0 = λ x. IsRun q.image n limits x behind s a in
     subst R logs (subst Q main (subst P same r))
 
-ran_once : (bytes : List ℕ) (found : Result Program Refusal) (seed : Option ℕ) (limits : Limits) (shown : Bool) (log : List Entry) → HaveImages found → (s t : ℕ) (a b : List ℕ) → IsSaidOfRun bytes found seed limits shown log s a → IsSaidOfRun bytes found seed limits shown log t b → Same s a t b
-ran_once bytes found seed limits shown log images s t a b (NotRun r) (NotRun q) = not_run_once bytes found images s t a b r q
-ran_once bytes found seed limits shown log images s t a b (NotRun r) (Ran p main is turns q) = absurd (run_or_not bytes found s a p main r is)
-ran_once bytes found seed limits shown log images s t a b (Ran p main is turns r) (NotRun q) = absurd (run_or_not bytes found t b p main q is)
-ran_once bytes found seed limits shown log images s t a b (Ran p main is turns r) (Ran other again too more q) =
+ran_once : (bytes : List ℕ) (found : Result Program Refusal) (seed : Option ℕ) (limits : Limits) (behind : Closing) (log : List Entry) → HaveImages found → (s t : ℕ) (a b : List ℕ) → IsSaidOfRun bytes found seed limits behind log s a → IsSaidOfRun bytes found seed limits behind log t b → Same s a t b
+ran_once bytes found seed limits behind log images s t a b (NotRun r) (NotRun q) = not_run_once bytes found images s t a b r q
+ran_once bytes found seed limits behind log images s t a b (NotRun r) (Ran p main is turns q) = absurd (run_or_not bytes found s a p main r is)
+ran_once bytes found seed limits behind log images s t a b (Ran p main is turns r) (NotRun q) = absurd (run_or_not bytes found t b p main q is)
+ran_once bytes found seed limits behind log images s t a b (Ran p main is turns r) (Ran other again too more q) =
     let same = same_program bytes found p other is.program too.program in
     let mains = same_main bytes found p other main again same is too in
-    run_once other.image again limits log shown s t a b (run_moved p other main again limits log log shown s a same mains refl r) q
+    run_once other.image again limits log behind s t a b (run_moved p other main again limits log log behind s a same mains refl r) q
 
 -- ---- replays
 
@@ -153,19 +157,19 @@ replayed_once bytes found limits log images s t a b (ScheduleRefused p main is l
 replayed_once bytes found limits log images s t a b (ScheduleRefused p main is line refused r) (IsReplayed other again too given q) =
     let same = same_program bytes found p other is.program too.program in
     let mains = same_main bytes found p other main again same is too in
-    let moved = run_moved other p again main limits other.schedule p.schedule false t b (sym same) (sym mains) (ap (λ (x : Program). x.schedule) (sym same)) q in
-    absurd (not_refused p.image main limits p.schedule false t b line moved refused)
+    let moved = run_moved other p again main limits other.schedule p.schedule closing.Nothing t b (sym same) (sym mains) (ap (λ (x : Program). x.schedule) (sym same)) q in
+    absurd (not_refused p.image main limits p.schedule closing.Nothing t b line moved refused)
 replayed_once bytes found limits log images s t a b (IsReplayed p main is given r) (NotReplayed q) = absurd (run_or_not bytes found t b p main q is)
 replayed_once bytes found limits log images s t a b (IsReplayed p main is given r) (ScheduleRefused other again too line refused q) =
     let same = same_program bytes found p other is.program too.program in
     let mains = same_main bytes found p other main again same is too in
-    let moved = run_moved p other main again limits p.schedule other.schedule false s a same mains (ap (λ (x : Program). x.schedule) same) r in
-    absurd (not_refused other.image again limits other.schedule false s a line moved refused)
+    let moved = run_moved p other main again limits p.schedule other.schedule closing.Nothing s a same mains (ap (λ (x : Program). x.schedule) same) r in
+    absurd (not_refused other.image again limits other.schedule closing.Nothing s a line moved refused)
 replayed_once bytes found limits log images s t a b (IsReplayed p main is given r) (IsReplayed other again too more q) =
     let same = same_program bytes found p other is.program too.program in
     let mains = same_main bytes found p other main again same is too in
-    let moved = run_moved p other main again limits p.schedule other.schedule false s a same mains (ap (λ (x : Program). x.schedule) same) r in
-    run_once other.image again limits other.schedule false s t a b moved q
+    let moved = run_moved p other main again limits p.schedule other.schedule closing.Nothing s a same mains (ap (λ (x : Program). x.schedule) same) r in
+    run_once other.image again limits other.schedule closing.Nothing s t a b moved q
 
 -- ---- listings
 
@@ -189,31 +193,59 @@ listed_once bytes s t a b (Listed few read gives r) (Listed _ other again q) =
 -- what is said of a command
 abbrev pub IsSaidOf : Option Cmd → List ℕ → List Entry → ℕ → List ℕ → Type 0
 IsSaidOf None bytes log status text = IsReply exit.Usage usage status text
-IsSaidOf (Some (cmd.Run class workers seed limits shown)) bytes log status text = IsSaidOfRun bytes (program_to_run class bytes) seed limits shown log status text
+IsSaidOf (Some (cmd.Run class workers seed limits shown)) bytes log status text = IsSaidOfRun bytes (program_to_run class bytes) seed limits (closing_of shown) log status text
 IsSaidOf (Some (cmd.Replay class limits)) bytes log status text = IsSaidOfReplay bytes (program_to_replay class bytes) limits log status text
 IsSaidOf (Some cmd.List) bytes log status text = IsSaidOfListing bytes status text
 IsSaidOf (Some cmd.Verify) bytes log status text = IsSaidOfVerifying bytes status text
-IsSaidOf (Some (cmd.Demo number classes threads workers)) bytes log status text = ⊥
+IsSaidOf (Some (cmd.Demo number classes threads workers)) bytes log status text =
+    IsSaidOfRun bytes (program_to_run demo_class bytes) None (limits_of None None) (closing.Demo classes threads) log status text
 
 -- a command that is named twice
 named_twice : (o c : Option Cmd) (bytes : List ℕ) (log : List Entry) (status : ℕ) (text : List ℕ) → o ≡ c → IsSaidOf c bytes log status text → IsSaidOf o bytes log status text
 named_twice o c bytes log status text same is = subst (λ (x : Option Cmd). IsSaidOf x bytes log status text) (sym same) is
 
+-- what is said of a run is said of the command that asks for it
+of_run : (asked : Option Cmd) (r : RunAsked) (bytes : List ℕ) (log : List Entry) (status : ℕ) (text : List ℕ) → run_asked asked ≡ Some r → IsSaidOfRun bytes (program_to_run r.class bytes) r.seed r.limits r.behind log status text → IsSaidOf asked bytes log status text
+of_run None r bytes log status text is said = absurd (cc)
+of_run (Some (cmd.Run class workers seed limits shown)) r bytes log status text is said =
+    let same : record { class = class; seed = seed; limits = limits; behind = closing_of shown } ≡ r = cc in
+    subst (λ (x : RunAsked). IsSaidOfRun bytes (program_to_run x.class bytes) x.seed x.limits x.behind log status text) (sym same) said
+of_run (Some (cmd.Replay class limits)) r bytes log status text is said = absurd (cc)
+of_run (Some cmd.Verify) r bytes log status text is said = absurd (cc)
+of_run (Some cmd.List) r bytes log status text is said = absurd (cc)
+of_run (Some (cmd.Demo number classes threads workers)) r bytes log status text is said =
+    let same : record { class = demo_class; seed = None; limits = limits_of None None; behind = closing.Demo classes threads } ≡ r = cc in
+    subst (λ (x : RunAsked). IsSaidOfRun bytes (program_to_run x.class bytes) x.seed x.limits x.behind log status text) (sym same) said
+
+-- ... and the other way round
+run_of_said : (asked : Option Cmd) (r : RunAsked) (bytes : List ℕ) (log : List Entry) (status : ℕ) (text : List ℕ) → run_asked asked ≡ Some r → IsSaidOf asked bytes log status text → IsSaidOfRun bytes (program_to_run r.class bytes) r.seed r.limits r.behind log status text
+run_of_said None r bytes log status text is said = absurd (cc)
+run_of_said (Some (cmd.Run class workers seed limits shown)) r bytes log status text is said =
+    let same : record { class = class; seed = seed; limits = limits; behind = closing_of shown } ≡ r = cc in
+    subst (λ (x : RunAsked). IsSaidOfRun bytes (program_to_run x.class bytes) x.seed x.limits x.behind log status text) same said
+run_of_said (Some (cmd.Replay class limits)) r bytes log status text is said = absurd (cc)
+run_of_said (Some cmd.Verify) r bytes log status text is said = absurd (cc)
+run_of_said (Some cmd.List) r bytes log status text is said = absurd (cc)
+run_of_said (Some (cmd.Demo number classes threads workers)) r bytes log status text is said =
+    let same : record { class = demo_class; seed = None; limits = limits_of None None; behind = closing.Demo classes threads } ≡ r = cc in
+    subst (λ (x : RunAsked). IsSaidOfRun bytes (program_to_run x.class bytes) x.seed x.limits x.behind log status text) same said
+
 -- what is said is said of the command that is asked for
 pub said_of : (asked : Option Cmd) (bytes : List ℕ) (log : List Entry) (status : ℕ) (text : List ℕ) → IsSaid asked bytes log status text → IsSaidOf asked bytes log status text
 said_of asked bytes log status text (Unread none r) = named_twice asked None bytes log status text none r
-said_of asked bytes log status text (ToBeRun class workers seed limits shown is r) = named_twice asked (Some (cmd.Run class workers seed limits shown)) bytes log status text is r
+said_of asked bytes log status text (ToBeRun r is said) = of_run asked r bytes log status text is said
 said_of asked bytes log status text (ToBeReplayed class limits is r) = named_twice asked (Some (cmd.Replay class limits)) bytes log status text is r
 said_of asked bytes log status text (ToBeListed is r) = named_twice asked (Some cmd.List) bytes log status text is r
 said_of asked bytes log status text (ToBeVerified is r) = named_twice asked (Some cmd.Verify) bytes log status text is r
 
 of_one : (o : Option Cmd) (bytes : List ℕ) (log : List Entry) (s t : ℕ) (a b : List ℕ) → IsSaidOf o bytes log s a → IsSaidOf o bytes log t b → Same s a t b
 of_one None bytes log s t a b r q = (r.0 ∙ sym q.0, r.1 ∙ sym q.1)
-of_one (Some (cmd.Run class workers seed limits shown)) bytes log s t a b r q = ran_once bytes (program_to_run class bytes) seed limits shown log (images_of_run class bytes) s t a b r q
+of_one (Some (cmd.Run class workers seed limits shown)) bytes log s t a b r q = ran_once bytes (program_to_run class bytes) seed limits (closing_of shown) log (images_of_run class bytes) s t a b r q
 of_one (Some (cmd.Replay class limits)) bytes log s t a b r q = replayed_once bytes (program_to_replay class bytes) limits log (images_of_replay class bytes) s t a b r q
 of_one (Some cmd.List) bytes log s t a b r q = listed_once bytes s t a b r q
 of_one (Some cmd.Verify) bytes log s t a b r q = verified_once bytes s t a b r q
-of_one (Some (cmd.Demo number classes threads workers)) bytes log s t a b r q = absurd r
+of_one (Some (cmd.Demo number classes threads workers)) bytes log s t a b r q =
+    ran_once bytes (program_to_run demo_class bytes) None (limits_of None None) (closing.Demo classes threads) log (images_of_run demo_class bytes) s t a b r q
 
 pub said_once : IsSaidOnce
 said_once asked bytes log s t a b one other = of_one asked bytes log s t a b (said_of asked bytes log s a one) (said_of asked bytes log t b other)
@@ -221,3 +253,7 @@ said_once asked bytes log s t a b one other = of_one asked bytes log s t a b (sa
 -- what is said where a command is asked for
 pub said_of_asked : (asked : Option Cmd) (c : Cmd) (bytes : List ℕ) (log : List Entry) (status : ℕ) (text : List ℕ) → asked ≡ Some c → IsSaid asked bytes log status text → IsSaidOf (Some c) bytes log status text
 said_of_asked asked c bytes log status text same is = subst (λ (x : Option Cmd). IsSaidOf x bytes log status text) same (said_of asked bytes log status text is)
+
+-- ... and where a run is
+pub said_of_run : (asked : Option Cmd) (r : RunAsked) (bytes : List ℕ) (log : List Entry) (status : ℕ) (text : List ℕ) → run_asked asked ≡ Some r → IsSaid asked bytes log status text → IsSaidOfRun bytes (program_to_run r.class bytes) r.seed r.limits r.behind log status text
+said_of_run asked r bytes log status text is said = run_of_said asked r bytes log status text is (said_of asked bytes log status text said)

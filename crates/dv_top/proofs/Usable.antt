@@ -1,4 +1,4 @@
--- What words ask for can be done: its limits are usable, and its workers are few.
+-- What words ask for can be done: its limits are usable, its workers are few, and a demo is small.
 use Rattle.std.proofs.Common.{◌≡◌, ℕ, ◌≤◌, Bool, true, false, List, [], ◌∷◌, Option, Some, None, refl, ap, sym, subst, ◌∙◌, arith}
 use Rattle.std.specs.Prelude.{◌&&◌, nat_le, is_some, unwrap_or, option_and_then, option_map, bytes_eq, codes, if◌then◌else◌, IfSome}
 use Rattle.std.proofs.lemmas.Bool.{and_parts, leb-true}
@@ -9,7 +9,7 @@ use Rattle.dv_console.specs.declared.keys.Key.{Key}
 use Rattle.dv_console.specs.declared.keys.Key.TheVariants as key
 use Rattle.dv_console.specs.Words.{alone, command_in, demo_in, greatest, in_range, is_java_name, least, limits_in, limits_of, named, number_in, replay_in, run_in, run_of, set_by, setting, texts_of, value_in, descriptor_of}
 use Rattle.dv_sound.specs.Moves.{AreUsable}
-use Rattle.dv_top.specs.Words.{IsUsable, asked_in, built}
+use Rattle.dv_top.specs.Words.{IsUsable}
 
 -- ---- numbers
 
@@ -88,7 +88,7 @@ good_run class workers seed limits log usable few =
     good_if (is_some workers && is_some seed) None (Some (cmd.Run class (unwrap_or workers 1) seed limits (is_some log))) good_none
     (λ c e.
     let same : cmd.Run class (unwrap_or workers 1) seed limits (is_some log) ≡ c = cc in
-    subst IsUsable same (record { limits = usable; workers = few }))
+    subst IsUsable same (record { limits = usable; workers = few; demo = tt }))
 
 good_runs : (class : List ℕ) (words : List (List ℕ)) → Good (run_in class words)
 good_runs class words =
@@ -104,7 +104,7 @@ good_runs class words =
     good_none
 
 good_replays : (class : List ℕ) (words : List (List ℕ)) → Good (replay_in class words)
-good_replays class words = good_if _ _ None (good_map (limits_in words) (cmd.Replay class) (λ limits is. record { limits = limits_usable words limits is; workers = tt })) good_none
+good_replays class words = good_if _ _ None (good_map (limits_in words) (cmd.Replay class) (λ limits is. record { limits = limits_usable words limits is; workers = tt; demo = tt })) good_none
 
 good_named : (of : List ℕ → List (List ℕ) → Option Cmd) (words : List (List ℕ)) → ((class : List ℕ) (rest : List (List ℕ)) → Good (of class rest)) → Good (named of words)
 good_named of [] each = good_none
@@ -114,6 +114,10 @@ good_alone : (c : Cmd) (words : List (List ℕ)) → IsUsable c → Good (alone 
 good_alone c [] usable d e = let same : c ≡ d = cc in subst IsUsable same usable
 good_alone c (word ∷ words) usable d e = good_none d e
 
+-- a number that words must set
+set_number : (k : Key) (number : (text : List ℕ) → value_in k text ≡ option_and_then (in_range k) (number_in text)) (words : List (List ℕ)) (o : Option ℕ) (n : ℕ) → setting k words ≡ Some o → o ≡ Some n → IsWithin (least k) (greatest k) n
+set_number k number words o n set is = set_within k number (texts_of k words) n (set ∙ ap Some is)
+
 good_demo : (words : List (List ℕ)) → Good (demo_in words)
 good_demo words =
     good_if _ _ None
@@ -122,44 +126,36 @@ good_demo words =
     good_then n _
     (λ number _.
     good_then (setting key.Classes words) _
-    (λ c _.
+    (λ c some.
     good_then c _
-    (λ classes _.
+    (λ classes many.
     good_then (setting key.Threads words) _
-    (λ t _. good_then t _ (λ threads _. good_then (setting key.Workers words) _ (λ workers _ d e. demo number classes threads (unwrap_or workers 1) d e))))))))
+    (λ t others.
+    good_then t _
+    (λ threads more.
+    good_then (setting key.Workers words) _
+    (λ workers set d e.
+    demo number classes threads (unwrap_or workers 1) (few_workers workers (texts_of key.Workers words) set)
+    (set_number key.Classes (λ _. refl) words c classes some many).1 (set_number key.Threads (λ _. refl) words t threads others more).1 d e))))))))
     good_none
   where
-    demo : (number classes threads workers : ℕ) → Good (Some (cmd.Demo number classes threads workers))
-    demo number classes threads workers d e = let same : cmd.Demo number classes threads workers ≡ d = cc in subst IsUsable same (record { limits = tt; workers = tt })
+    demo : (number classes threads workers : ℕ) → IsWithin 1 8 workers → classes ≤ 1000 → threads ≤ 60 → Good (Some (cmd.Demo number classes threads workers))
+    demo number classes threads workers few some others d e =
+        let same : cmd.Demo number classes threads workers ≡ d = cc in
+        subst IsUsable same (record { limits = tt; workers = few; demo = (some, others) })
 
 good_commands : (words : List (List ℕ)) → Good (command_in words)
 good_commands [] = good_none
 good_commands (verb ∷ words) =
     good_if (bytes_eq verb (codes "run")) _ _ (good_named run_in words good_runs)
     (good_if (bytes_eq verb (codes "replay")) _ _ (good_named replay_in words good_replays)
-    (good_if (bytes_eq verb (codes "verify")) _ _ (good_alone cmd.Verify words (record { limits = tt; workers = tt }))
-    (good_if (bytes_eq verb (codes "list")) _ _ (good_alone cmd.List words (record { limits = tt; workers = tt })) (good_if (bytes_eq verb (codes "demo")) _ None (good_demo words) good_none))))
-
--- a command that is built is usable
-usable_if_built : (c : Cmd) → IsUsable c → IfSome (built c) IsUsable
-usable_if_built (cmd.Run class workers seed limits shown) is = is
-usable_if_built (cmd.Replay class limits) is = is
-usable_if_built cmd.Verify is = is
-usable_if_built cmd.List is = is
-usable_if_built (cmd.Demo number classes threads workers) is = tt
-
--- it is built as it is
-pub built_as_it_is : (c : Cmd) → IfSome (built c) (λ d. built d ≡ Some d)
-built_as_it_is (cmd.Run class workers seed limits shown) = refl
-built_as_it_is (cmd.Replay class limits) = refl
-built_as_it_is cmd.Verify = refl
-built_as_it_is cmd.List = refl
-built_as_it_is (cmd.Demo number classes threads workers) = tt
+    (good_if (bytes_eq verb (codes "verify")) _ _ (good_alone cmd.Verify words (record { limits = tt; workers = tt; demo = tt }))
+    (good_if (bytes_eq verb (codes "list")) _ _ (good_alone cmd.List words (record { limits = tt; workers = tt; demo = tt })) (good_if (bytes_eq verb (codes "demo")) _ None (good_demo words) good_none))))
 
 -- what words ask for is usable
-pub asked_usable : (words : List (List ℕ)) → IfSome (asked_in words) IsUsable
+pub asked_usable : (words : List (List ℕ)) → IfSome (command_in words) IsUsable
 asked_usable words = by (command_in words) refl
   where
-    by : (o : Option Cmd) → command_in words ≡ o → IfSome (option_and_then built o) IsUsable
+    by : (o : Option Cmd) → command_in words ≡ o → IfSome o IsUsable
     by None is = tt
-    by (Some c) is = usable_if_built c (good_commands words c is)
+    by (Some c) is = good_commands words c is

@@ -1,5 +1,5 @@
 -- What the parts of an answer tell.
-use Rattle.std.specs.Prelude.{◌≡◌, ◌≢◌, ◌⊎◌, ℕ, ◌+◌, Bool, List, [], take, All, Option, Some, None, IsSome, Result}
+use Rattle.std.specs.Prelude.{◌≡◌, ◌≢◌, ◌⊎◌, ℕ, ◌+◌, List, [], take, All, Option, Some, None, Result}
 use Rattle.dv_defs.specs.declared.run.Entry.{Entry}
 use Rattle.dv_defs.specs.declared.run.Limits.{Limits}
 use Rattle.dv_defs.specs.Pools.{Method}
@@ -16,7 +16,7 @@ use Rattle.dv_top.specs.Programs.{program_to_replay, program_to_run}
 use Rattle.dv_top.specs.Runs.{AreFirstTurns}
 use Rattle.dv_top.specs.Said.{IsAccepted, IsSaid, text_limit, usage}
 use Rattle.dv_top.specs.Status.{code_of}
-use Rattle.dv_top.specs.Words.{IsByWorkers, class_to_run}
+use Rattle.dv_top.specs.Words.{IsByWorkers, ReadsSource, RunAsked, class_to_run, run_asked, text_asked}
 
 -- a status with which nothing ran
 abbrev pub IsIdle : ℕ → Type 0
@@ -62,8 +62,7 @@ pub record IsLogOfReplay (bytes : List ℕ) (found : Result Program Refusal) (li
 
 -- where one of the two is asked for
 pub data MayRun (asked : Option Cmd) (bytes : List ℕ) (log : List Entry) : Type 0 where
-  ByTurns : (class : List ℕ) (workers : ℕ) (seed : Option ℕ) (limits : Limits) (shown : Bool) → asked ≡ Some (cmd.Run class workers seed limits shown)
-      → IsLogOfRun bytes (program_to_run class bytes) seed limits log → MayRun asked bytes log
+  ByTurns : (r : RunAsked) → run_asked asked ≡ Some r → IsLogOfRun bytes (program_to_run r.class bytes) r.seed r.limits log → MayRun asked bytes log
   AsGiven : (class : List ℕ) (limits : Limits) → asked ≡ Some (cmd.Replay class limits)
       → IsLogOfReplay bytes (program_to_replay class bytes) limits log → MayRun asked bytes log
 
@@ -87,20 +86,19 @@ pub record IsPartlyPrinted
 -- printed until then
 pub record IsPartOfRun
     (asked : Option Cmd) (bytes : List ℕ) (log : List Entry) (before after : Option (List ℕ)) : Type 0 where
-  pub class : List ℕ
-  pub workers : ℕ
-  pub limits : Limits
-  pub shown : Bool
-  pub is_asked : asked ≡ Some (cmd.Run class workers None limits shown)
+  pub run : RunAsked
+  pub is_asked : run_asked asked ≡ Some run
+  pub unseeded : run.seed ≡ None
   pub program : Program
   pub main : Method
-  pub accepted : IsAccepted bytes (program_to_run class bytes) program main
+  pub accepted : IsAccepted bytes (program_to_run run.class bytes) program main
   pub machine : Machine
-  pub replayed : replay program.image main limits log ≡ Stands machine
+  pub replayed : replay program.image main run.limits log ≡ Stands machine
   pub took : TookPart before after machine.shared.output
 
 -- What an answer owes, by its status and its log, of what is asked for, and of the source and the sink before and after it. A source tells the
--- bytes that are left and a sink those that it took, where they tell them; both count their faults.
+-- bytes that are left and a sink those that it took, where they tell them; both count their faults. The text is what the source holds, or that
+-- of a demo.
 pub record IsAnswer
     {S K : Type 0} (left : S → Option (List ℕ)) (read_faults : S → ℕ) (taken : K → Option (List ℕ)) (write_faults : K → ℕ)
     (asked : Option Cmd) (source source_after : S) (sink sink_after : K) (log : List Entry) (status : ℕ) : Type 0 where
@@ -109,6 +107,8 @@ pub record IsAnswer
   -- of words that aren't read a sink that failed took a front of the usage
   pub usage_part : asked ≡ None → status ≡ code_of exit.WriteFault → TookPart (taken sink) (taken sink_after) usage
   pub usage : status ≡ code_of exit.Usage → (asked ≡ None) × (taken sink_after ≡ after_write usage (taken sink))
+  -- where the source isn't to be read, nothing is taken from it, and no read failed
+  pub source_left : (ReadsSource asked → ⊥) → (source_after ≡ source) × (status ≢ code_of exit.ReadFault)
   -- a read failed, and nothing was written
   pub read_fault : status ≡ code_of exit.ReadFault
       → HasRisen (read_faults source) (read_faults source_after) × (taken sink_after ≡ taken sink)
@@ -117,17 +117,17 @@ pub record IsAnswer
   -- memory was wanting, and nothing was written where nothing ran, or no workers ran it
   pub no_memory : status ≡ code_of exit.NoMemory → (log ≡ []) ⊎ (IsByWorkers asked → ⊥) → taken sink_after ≡ taken sink
   -- memory was wanting while workers ran: the sink took a front of what the guest printed
-  pub wanting : (bytes : List ℕ) → left source ≡ Some bytes → status ≡ code_of exit.NoMemory → IsByWorkers asked → log ≢ []
+  pub wanting : (bytes : List ℕ) → text_asked asked (left source) ≡ Some bytes → status ≡ code_of exit.NoMemory → IsByWorkers asked → log ≢ []
       → IsPartOfRun asked bytes log (taken sink) (taken sink_after)
   -- what the sink holds beyond what it held was taken in this call
   pub took : HasTaken (taken sink) (taken sink_after)
-  -- the source is read to its end, or to one byte past the limit
-  pub source_read : IsSome asked → status ≢ code_of exit.ReadFault → status ≢ code_of exit.NoMemory
+  -- else it is read to its end, or to one byte past the limit
+  pub source_read : ReadsSource asked → status ≢ code_of exit.ReadFault → status ≢ code_of exit.NoMemory
       → left source_after ≡ after_taking (text_limit + 1) (left source)
   -- each other status, and all that the sink took, are what is said of what is asked for, the bytes and the log
-  pub said : (bytes : List ℕ) → left source ≡ Some bytes → IsTold status → IsPrinted asked bytes log status (taken sink) (taken sink_after)
+  pub said : (bytes : List ℕ) → text_asked asked (left source) ≡ Some bytes → IsTold status → IsPrinted asked bytes log status (taken sink) (taken sink_after)
   -- a sink that failed took a front of what is said; one that failed while workers ran, a front of what the guest printed until then
-  pub part : (bytes : List ℕ) → left source ≡ Some bytes → status ≡ code_of exit.WriteFault
+  pub part : (bytes : List ℕ) → text_asked asked (left source) ≡ Some bytes → status ≡ code_of exit.WriteFault
       → IsPartlyPrinted asked bytes log (taken sink) (taken sink_after) ⊎ IsPartOfRun asked bytes log (taken sink) (taken sink_after)
   -- the log has entries of eight workers, of 1 to 256 steps, and none where nothing ran
   pub entries : All IsOfWorker log
@@ -135,7 +135,7 @@ pub record IsAnswer
   pub not_run : class_to_run asked ≡ None → log ≡ []
   -- a log with entries is a legal schedule of an accepted image, also where a write failed or memory is wanting: of a run it has the first of
   -- its turns, of a replay it is the given one
-  pub legal : (bytes : List ℕ) → left source ≡ Some bytes → log ≢ [] → MayRun asked bytes log
+  pub legal : (bytes : List ℕ) → text_asked asked (left source) ≡ Some bytes → log ≢ [] → MayRun asked bytes log
   -- a replay for which memory is wanting has no log
   pub not_replayed : (class : List ℕ) (limits : Limits) → asked ≡ Some (cmd.Replay class limits) → status ≡ code_of exit.NoMemory
       → log ≡ []

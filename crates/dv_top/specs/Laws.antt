@@ -1,5 +1,5 @@
 -- The laws of what is said.
-use Rattle.std.specs.Prelude.{ℕ, ◌≡◌, ◌≤◌, ◌↔◌, Bool, List, length, Option, Some, Result, Ok, Err}
+use Rattle.std.specs.Prelude.{ℕ, ◌≡◌, ◌≤◌, ◌↔◌, List, length, Option, Some, Result, Ok, Err}
 use Rattle.dv_defs.specs.declared.run.Entry.{Entry}
 use Rattle.dv_defs.specs.declared.run.Limits.{Limits}
 use Rattle.dv_typing.specs.Accepting.{Accepts}
@@ -8,6 +8,7 @@ use Rattle.dv_defs.specs.Pools.{Method}
 use Rattle.dv_console.specs.declared.command.Cmd.{Cmd}
 use Rattle.dv_console.specs.declared.command.Cmd.TheVariants as cmd
 use Rattle.dv_console.specs.declared.refusals.Refusal.{Refusal}
+use Rattle.dv_gen.specs.Demo.{program_text}
 use Rattle.dv_load.specs.Images.{image_in}
 use Rattle.dv_machine.specs.Replaying.{replay}
 use Rattle.dv_top.specs.declared.program.Program.{Program}
@@ -16,7 +17,7 @@ use Rattle.dv_top.specs.Programs.{program_to_replay, program_to_run}
 use Rattle.dv_top.specs.Runs.{refused_line}
 use Rattle.dv_top.specs.Said.{IsAccepted, IsSaid, text_limit}
 use Rattle.dv_top.specs.Status.{code_of}
-use Rattle.dv_top.specs.Words.{AsksForVerifying}
+use Rattle.dv_top.specs.Words.{AsksForVerifying, RunAsked, run_asked}
 
 -- one thing is said of what is asked for, the bytes and the log
 abbrev pub IsSaidOnce : Type 0
@@ -47,9 +48,12 @@ pub record IsJudged (found : Result Program Refusal) (status : ℕ) : Type 0 whe
 -- of a class that is to be run
 abbrev pub RunsAreJudged : Type 0
 RunsAreJudged =
-    (asked : Option Cmd) (bytes : List ℕ) (log : List Entry) (status : ℕ) (text : List ℕ) (class : List ℕ) (workers : ℕ) (seed : Option ℕ)
-    (limits : Limits) (shown : Bool) → asked ≡ Some (cmd.Run class workers seed limits shown) → length bytes ≤ text_limit
-    → IsSaid asked bytes log status text → IsJudged (program_to_run class bytes) status
+    (asked : Option Cmd) (bytes : List ℕ) (log : List Entry) (status : ℕ) (text : List ℕ) (r : RunAsked) → run_asked asked ≡ Some r
+    → length bytes ≤ text_limit → IsSaid asked bytes log status text → IsJudged (program_to_run r.class bytes) status
+
+-- the text of each demo that the words can ask for isn't too large
+abbrev pub DemosAreSmall : Type 0
+DemosAreSmall = (number classes threads : ℕ) → classes ≤ 1000 → threads ≤ 60 → length (program_text number classes threads) ≤ text_limit
 
 -- the verifier accepts the program, and its schedule is refused
 pub record HasRefusedSchedule (bytes : List ℕ) (found : Result Program Refusal) (limits : Limits) : Type 0 where

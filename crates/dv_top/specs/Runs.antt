@@ -1,5 +1,5 @@
 -- Runs of main methods: their schedules, how they end, and what they print.
-use Rattle.std.specs.Prelude.{◌≡◌, ℕ, ◌++◌, Bool, true, false, List, [], length, All, Option, Some, None, Ok, slice_get, decimal, codes}
+use Rattle.std.specs.Prelude.{◌≡◌, ℕ, ◌++◌, ◌+◌, List, [], length, All, Option, Some, None, Ok, slice_get, decimal, codes}
 use Rattle.dv_defs.specs.declared.machine.End.{End}
 use Rattle.dv_defs.specs.declared.machine.End.TheVariants as end
 use Rattle.dv_defs.specs.declared.run.Ending.{Ending}
@@ -15,6 +15,8 @@ use Rattle.dv_machine.specs.Running.{ending_of}
 use Rattle.dv_machine.specs.Seeds.{log_of_seed}
 use Rattle.dv_machine.specs.State.{Machine, Thread}
 use Rattle.dv_workers.specs.Entries.{IsOfWorker}
+use Rattle.dv_top.specs.declared.closing.Closing.{Closing}
+use Rattle.dv_top.specs.declared.closing.Closing.TheVariants as closing
 use Rattle.dv_top.specs.declared.status.Status.{Status}
 use Rattle.dv_top.specs.declared.status.Status.TheVariants as exit
 use Rattle.dv_top.specs.Status.{code_of}
@@ -48,19 +50,27 @@ status_of m e = status_by e (end_of (slice_get m.threads 0))
 abbrev pub schedule_text : List Entry → List ℕ
 schedule_text log = codes ".schedule" ++ newline ++ log_text log ++ codes ".end schedule" ++ newline
 
-abbrev pub shown_schedule : Bool → List Entry → List ℕ
-shown_schedule true log = schedule_text log
-shown_schedule false log = []
+-- how large a demo was: a method of each class, and those of the worker and of the main class
+abbrev pub demo_line : ℕ → ℕ → List ℕ
+demo_line classes threads =
+    codes "#demo classes " ++ decimal classes ++ codes " threads " ++ decimal threads ++ codes " methods " ++ decimal (classes + 3) ++ newline
+
+-- what stands behind the final text
+abbrev pub closing_text : Closing → List Entry → List ℕ
+closing_text closing.Nothing log = []
+closing_text closing.Schedule log = schedule_text log
+closing_text (closing.Demo classes threads) log = demo_line classes threads
 
 -- a main method, run on a schedule, is never stuck and stands at an ending, which the status names; the text is the final text of that state,
--- behind which the schedule stands if it is to be shown
-pub record IsRun (image : Image) (main : Method) (limits : Limits) (log : List Entry) (shown : Bool) (status : ℕ) (text : List ℕ) : Type 0 where
+-- and what stands behind it
+pub record IsRun
+    (image : Image) (main : Method) (limits : Limits) (log : List Entry) (behind : Closing) (status : ℕ) (text : List ℕ) : Type 0 where
   pub machine : Machine
   pub replayed : replay image main limits log ≡ Stands machine
   pub ending : Ending
   pub ends : ending_of image machine ≡ Some ending
   pub tells : status ≡ code_of (status_of machine ending)
-  pub prints : text ≡ final_text image machine ++ shown_schedule shown log
+  pub prints : text ≡ final_text image machine ++ closing_text behind log
 
 -- ---- schedules
 

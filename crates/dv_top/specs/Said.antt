@@ -1,5 +1,5 @@
 -- What is said of what is asked for, the bytes of the text and the log: the status of the call, and what is printed.
-use Rattle.std.specs.Prelude.{◌≡◌, ℕ, ◌<◌, ◌≤◌, Bool, false, List, [], ◌∷◌, ◌++◌, length, Option, Some, None, codes, Result, Ok, Err}
+use Rattle.std.specs.Prelude.{◌≡◌, ℕ, ◌<◌, ◌≤◌, false, List, [], ◌∷◌, ◌++◌, length, Option, Some, None, codes, Result, Ok, Err}
 use Rattle.std.specs.List.{flat_map}
 use Rattle.dv_defs.specs.declared.faults.Fault.{Fault}
 use Rattle.dv_defs.specs.declared.run.Entry.{Entry}
@@ -20,13 +20,15 @@ use Rattle.dv_console.specs.Faults.{accepted_text, fault_text}
 use Rattle.dv_console.specs.Refusals.{refusal_text}
 use Rattle.dv_load.specs.Images.{image_in}
 use Rattle.dv_machine.specs.Replaying.{replay}
+use Rattle.dv_top.specs.declared.closing.Closing.{Closing}
+use Rattle.dv_top.specs.declared.closing.Closing.TheVariants as closing
 use Rattle.dv_top.specs.declared.program.Program.{Program}
 use Rattle.dv_top.specs.declared.status.Status.{Status}
 use Rattle.dv_top.specs.declared.status.Status.TheVariants as exit
 use Rattle.dv_top.specs.Programs.{program_to_replay, program_to_run}
 use Rattle.dv_top.specs.Runs.{AreTurns, IsRun, refused_line}
 use Rattle.dv_top.specs.Status.{code_of}
-use Rattle.dv_top.specs.Words.{AsksForListing, AsksForVerifying}
+use Rattle.dv_top.specs.Words.{AsksForListing, AsksForVerifying, RunAsked, run_asked}
 
 -- ---- printed texts
 
@@ -75,13 +77,13 @@ pub record IsAccepted (bytes : List ℕ) (found : Result Program Refusal) (p : P
   pub accepted : Accepts p.image
   pub has_main : method_at p.image p.main.0 ≡ Some main
 
--- of one that is to be run: by turns that the words of a seed pick, or else by those of workers; within limits; with its schedule shown or not
+-- of one that is to be run: by turns that the words of a seed pick, or else by those of workers; within limits; with this behind its final text
 pub data IsSaidOfRun
-    (bytes : List ℕ) (found : Result Program Refusal) (seed : Option ℕ) (limits : Limits) (shown : Bool) (log : List Entry) (status : ℕ)
+    (bytes : List ℕ) (found : Result Program Refusal) (seed : Option ℕ) (limits : Limits) (behind : Closing) (log : List Entry) (status : ℕ)
     (text : List ℕ) : Type 0 where
-  NotRun : IsSaidOfNoRun bytes found status text → IsSaidOfRun bytes found seed limits shown log status text
+  NotRun : IsSaidOfNoRun bytes found status text → IsSaidOfRun bytes found seed limits behind log status text
   Ran : (p : Program) (main : Method) → IsAccepted bytes found p main → AreTurns seed p.image main limits log
-      → IsRun p.image main limits log shown status text → IsSaidOfRun bytes found seed limits shown log status text
+      → IsRun p.image main limits log behind status text → IsSaidOfRun bytes found seed limits behind log status text
 
 -- ... and of one that is to be run on the schedule at the end of its text
 pub data IsSaidOfReplay
@@ -93,7 +95,7 @@ pub data IsSaidOfReplay
       → IsSaidOfReplay bytes found limits log status text
   -- it is run; the log is that schedule
   Replayed : (p : Program) (main : Method) → IsAccepted bytes found p main → log ≡ p.schedule
-      → IsRun p.image main limits p.schedule false status text → IsSaidOfReplay bytes found limits log status text
+      → IsRun p.image main limits p.schedule closing.Nothing status text → IsSaidOfReplay bytes found limits log status text
 
 -- ---- programs that are to be listed or verified
 
@@ -125,8 +127,9 @@ pub data IsSaidOfVerifying (bytes : List ℕ) (status : ℕ) (text : List ℕ) :
 pub data IsSaid (asked : Option Cmd) (bytes : List ℕ) (log : List Entry) (status : ℕ) (text : List ℕ) : Type 0 where
   -- the words aren't read
   Unread : asked ≡ None → IsReply exit.Usage usage status text → IsSaid asked bytes log status text
-  ToBeRun : (class : List ℕ) (workers : ℕ) (seed : Option ℕ) (limits : Limits) (shown : Bool) → asked ≡ Some (cmd.Run class workers seed limits shown)
-      → IsSaidOfRun bytes (program_to_run class bytes) seed limits shown log status text → IsSaid asked bytes log status text
+  -- a class of the text, which for a demo is the demo's
+  ToBeRun : (r : RunAsked) → run_asked asked ≡ Some r
+      → IsSaidOfRun bytes (program_to_run r.class bytes) r.seed r.limits r.behind log status text → IsSaid asked bytes log status text
   ToBeReplayed : (class : List ℕ) (limits : Limits) → asked ≡ Some (cmd.Replay class limits)
       → IsSaidOfReplay bytes (program_to_replay class bytes) limits log status text → IsSaid asked bytes log status text
   ToBeListed : AsksForListing asked → IsSaidOfListing bytes status text → IsSaid asked bytes log status text

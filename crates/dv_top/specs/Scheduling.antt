@@ -1,5 +1,5 @@
 -- What is said of a schedule that is given.
-use Rattle.std.specs.Prelude.{◌≡◌, ℕ, false, List, [], Option, Some, None, codes}
+use Rattle.std.specs.Prelude.{◌≡◌, ℕ, List, [], Option, Some, None, codes}
 use Rattle.dv_defs.specs.declared.run.Entry.{Entry}
 use Rattle.dv_defs.specs.declared.run.Limits.{Limits}
 use Rattle.dv_defs.specs.Images.{Image}
@@ -7,6 +7,7 @@ use Rattle.dv_defs.specs.Pools.{Method}
 use Rattle.dv_machine.specs.Replaying.{replay}
 use Rattle.dv_sound.specs.declared.error.ReplayError.{ReplayError}
 use Rattle.dv_sound.specs.declared.error.ReplayError.TheVariants as error
+use Rattle.dv_top.specs.declared.closing.Closing.TheVariants as closing
 use Rattle.dv_top.specs.declared.status.Status.TheVariants as exit
 use Rattle.dv_top.specs.Runs.{IsRun, refused_line, schedule_line}
 use Rattle.dv_top.specs.Status.{code_of}
@@ -23,4 +24,4 @@ pub data IsReplyOfReplay
     (image : Image) (main : Method) (limits : Limits) (schedule log : List Entry) (status : ℕ) (text : List ℕ) : Type 0 where
   Refuses : refused_line image schedule (replay image main limits schedule) ≡ Some text → status ≡ code_of exit.Schedule → log ≡ []
       → IsReplyOfReplay image main limits schedule log status text
-  Runs : log ≡ schedule → IsRun image main limits schedule false status text → IsReplyOfReplay image main limits schedule log status text
+  Runs : log ≡ schedule → IsRun image main limits schedule closing.Nothing status text → IsReplyOfReplay image main limits schedule log status text

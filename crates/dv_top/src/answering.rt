@@ -8,6 +8,7 @@ ghost use Rattle.dv_top.specs.Said.{IsSaid, text_limit};
 ghost use Rattle.dv_top.specs.Status.{code_of};
 ghost use Rattle.dv_top.specs.Words.{HasUsableLimits, IsAlone, class_to_run};
 
+use crate::closing::Closing;
 use crate::listing::reply_to_listing;
 use crate::reading::{ReadError, read_all};
 use crate::replaying::reply_to_replaying;
@@ -113,7 +114,7 @@ fn reply_to_command<R: Threads + Sync, G: Gate + Sync>(
             let how = Running {
                 seed: *seed,
                 limits: *limits,
-                shown: *shown,
+                behind: Closing::of(*shown),
             };
             reply_to_running(rt, alloc, name, &how, text, log, gate)
         }

@@ -4,6 +4,8 @@
 mod answering;
 mod by_workers;
 mod calls;
+mod closing;
+mod demo;
 mod ended;
 pub mod laws;
 mod listing;

@@ -1,5 +1,5 @@
 // The reply to a text of which a class is to be run on a given schedule.
-ghost use Rattle.std.specs.Prelude.{◌≡◌, ◌≢◌, ◌≤◌, ℕ, false, List, [], All, IfOk, None as Nothing, OnErr, Ok, Result, Some, length};
+ghost use Rattle.std.specs.Prelude.{◌≡◌, ◌≢◌, ◌≤◌, ℕ, List, [], All, IfOk, None as Nothing, OnErr, Ok, Result, Some, length};
 ghost use Rattle.dv_defs.specs.Pools.{Method, method_at};
 ghost use Rattle.dv_console.specs.declared.refusals.Refusal.{Refusal};
 ghost use Rattle.dv_machine.specs.Running.{ending_of};
@@ -7,6 +7,7 @@ ghost use Rattle.dv_machine.specs.State.{Machine};
 ghost use Rattle.dv_sound.specs.Moves.{AreUsable};
 ghost use Rattle.dv_machine.specs.Mains.{HasMain};
 ghost use Rattle.dv_sound.specs.Runs.{IsAt};
+ghost use Rattle.dv_top.specs.declared.closing.Closing.TheVariants.{Nothing as NothingBehind};
 ghost use Rattle.dv_top.specs.declared.program.Program.{Program as ProgramOf};
 ghost use Rattle.dv_workers.specs.Entries.{IsOfWorker};
 ghost use Rattle.dv_top.specs.Answering.{IsIdle, IsLogOfReplay, IsReadOf, IsTold};
@@ -16,6 +17,7 @@ ghost use Rattle.dv_top.specs.Scheduling.{IsReplyOfReplay};
 ghost use Rattle.dv_top.specs.Said.{IsSaidOfReplay, text_limit};
 ghost use Rattle.dv_top.specs.Status.{code_of};
 
+use crate::closing::Closing;
 use crate::ended::reply_of_ended;
 use crate::printing::TOO_LARGE;
 use crate::program::{Program, program_to_replay};
@@ -129,10 +131,10 @@ fn reply_of_replayed(alloc: Global, run: SafeVm, log: &mut Vec<Entry>) -> Result
     requires { (main : Method) (m : Machine) → IsAt run main m → ending_of run.verified.image m ≢ Nothing }
     ensures ran { (main : Method) → method_at run.entry.verified.image run.entry.main.0 ≡ Some main
         → IfOk result (λ reply. (log.new.items ≡ run.entry.log)
-        × IsRun run.entry.verified.image main run.entry.machine.limits run.entry.log false (code_of reply.status) reply.text.items) }
+        × IsRun run.entry.verified.image main run.entry.machine.limits run.entry.log NothingBehind (code_of reply.status) reply.text.items) }
     ensures wanting { OnErr result (log.new ≡ log.old) }
 {
-    let reply = reply_of_ended(alloc, &run, false);
+    let reply = reply_of_ended(alloc, &run, Closing::Nothing);
     let done = run.into_log();
     let reply = reply?;
     *log = done;

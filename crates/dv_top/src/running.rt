@@ -12,6 +12,7 @@ ghost use Rattle.dv_top.specs.Runs.{AreFirstTurns, AreTurns, IsRun};
 ghost use Rattle.dv_top.specs.Said.{IsSaidOfRun};
 ghost use Rattle.dv_top.specs.Status.{code_of};
 
+use crate::closing::Closing;
 use crate::ended::reply_of_ended;
 use crate::preparing::{Prepared, prepare_text};
 use crate::reply::Reply;
@@ -23,12 +24,12 @@ use dv_sound::SafeVm;
 use std::alloc::{AllocError, Global};
 use std::thread::Threads;
 
-/// How a class is run: by turns that the words of a seed pick, within which limits, and whether the schedule is shown.
+/// How a class is run: by turns that the words of a seed pick, within which limits, and what stands behind the final text.
 #[derive(Clone, Copy)]
 pub struct Running {
     pub seed: u64,
     pub limits: Limits,
-    pub shown: bool,
+    pub behind: Closing,
 }
 
 /// The reply to a text of which at most one byte past the limit was read, where a class of it is to be run. The log, which is empty before, gets
@@ -46,7 +47,7 @@ pub fn reply_to_running<R: Threads + Sync, G: Gate + Sync>(
     requires usable { AreUsable how.now.limits }
     ensures told { IfOk result (λ reply. IsTold (code_of reply.status) × (code_of reply.status ≢ code_of Status.Usage)) }
     ensures said { (bytes : List ℕ) → IsReadOf bytes text.now
-        → IfOk result (λ reply. IsSaidOfRun bytes (program_to_run class.now bytes) (Some how.now.seed) how.now.limits how.now.shown log.new.items
+        → IfOk result (λ reply. IsSaidOfRun bytes (program_to_run class.now bytes) (Some how.now.seed) how.now.limits how.now.behind log.new.items
         (code_of reply.status) reply.text.items) }
     ensures entries { All IsOfWorker log.new.items }
     ensures idle { IfOk result (λ reply. IsIdle (code_of reply.status) → log.new.items ≡ []) }
@@ -77,7 +78,7 @@ fn reply_of_run(
     requires usable { AreUsable how.now.limits }
     ensures ran { (m : Method) → method_at verified.now.image main.0 ≡ Some m
         → IfOk result (λ reply. AreTurns (Some how.now.seed) verified.now.image m how.now.limits log.new.items
-        × IsRun verified.now.image m how.now.limits log.new.items how.now.shown (code_of reply.status) reply.text.items) }
+        × IsRun verified.now.image m how.now.limits log.new.items how.now.behind (code_of reply.status) reply.text.items) }
     ensures legal { (m : Method) → method_at verified.now.image main.0 ≡ Some m → log.new.items ≢ []
         → IsLegal verified.now.image m how.now.limits log.new.items
         × AreFirstTurns (Some how.now.seed) verified.now.image m how.now.limits log.new.items }
@@ -101,11 +102,11 @@ fn reply_of_turns(alloc: Global, run: &mut SafeVm, how: &Running) -> Result<Repl
     requires { (run.old.log ≡ []) × (run.old.lent ≡ []) }
     ensures ran { (m : Method) → method_at run.old.verified.image run.old.main.0 ≡ Some m
         → IfOk result (λ reply. AreTurns (Some how.now.seed) run.old.verified.image m run.old.machine.limits run.new.log
-        × IsRun run.old.verified.image m run.old.machine.limits run.new.log how.now.shown (code_of reply.status) reply.text.items) }
+        × IsRun run.old.verified.image m run.old.machine.limits run.new.log how.now.behind (code_of reply.status) reply.text.items) }
     ensures first { (m : Method) → method_at run.old.verified.image run.old.main.0 ≡ Some m
         → AreFirstTurns (Some how.now.seed) run.old.verified.image m run.old.machine.limits run.new.log }
     ensures same { IsSameRun run.old run.new }
 {
     run.seeded(how.seed)?;
-    reply_of_ended(alloc, run, how.shown)
+    reply_of_ended(alloc, run, how.behind)
 }

@@ -127,7 +127,7 @@ fn add_words(alloc: Global, list: &mut Vec<String>, words: &[&str]) -> Result<()
     Ok(())
 }
 
-fn words_of(alloc: Global, words: &[&str]) -> Result<Vec<String>, AllocError> {
+pub fn words_of(alloc: Global, words: &[&str]) -> Result<Vec<String>, AllocError> {
     let mut list = Vec::new(alloc);
     match add_words(alloc, &mut list, words) {
         Ok(()) => Ok(list),
@@ -318,20 +318,23 @@ fn steps_of(log: &[Entry]) -> u64 {
     steps
 }
 
-/// A write fails while workers run: nothing was taken, and the run stopped soon.
-fn assert_stops<R: Abort>(rt: &R, report: &Report<MemSink>) {
-    assert_eq!(rt; report.status, 4);
-    assert!(rt; report.sink.taken.is_empty());
-    assert!(rt; steps_of(&report.log) < 5_000);
+/// The report is what the row says, and its schedule, whatever it is, has fewer steps than these.
+fn assert_short<R: Abort>(rt: &R, row: &Row, report: &Report<MemSink>, steps: u64) {
+    assert_eq!(rt; report.sink.taken.as_slice(), row.taken.as_bytes());
+    assert_eq!(rt; report.status, row.status);
+    assert!(rt; steps_of(&report.log) < steps);
 }
 
-fn stop<R: Abort + Threads + Wait + Sync>(
+/// The words over the row's text come to what the row says, in fewer steps than these.
+fn assert_run<R: Abort + Threads + Wait + Sync>(
     rt: &R,
     alloc: Global,
+    row: &Row,
     words: &[String],
+    steps: u64,
 ) -> Result<(), AllocError> {
-    let mut source = source_of(rt, alloc, PRINTS.text.as_bytes(), &[], PIECE)?;
-    let report = match sink_of(alloc, PRINTS.failing_writes) {
+    let mut source = source_of(rt, alloc, row.text.as_bytes(), row.failing_reads, PIECE)?;
+    let report = match sink_of(alloc, row.failing_writes) {
         Ok(sink) => dvm(rt, alloc, words, &mut source, sink, &NoGate),
         Err(error) => {
             drop(source);
@@ -339,17 +342,58 @@ fn stop<R: Abort + Threads + Wait + Sync>(
         }
     };
     drop(source);
-    assert_stops(rt, &report);
+    assert_short(rt, row, &report, steps);
     drop(report);
     Ok(())
 }
 
-/// What a run prints is written while it runs: it stops at the first write, which fails.
+/// The row's words do.
+fn assert_run_of<R: Abort + Threads + Wait + Sync>(
+    rt: &R,
+    alloc: Global,
+    row: &Row,
+    steps: u64,
+) -> Result<(), AllocError> {
+    let words = words_of(alloc, row.words)?;
+    let done = assert_run(rt, alloc, row, &words, steps);
+    drop(words);
+    done
+}
+
+/// What a run prints is written while it runs: it stops at the first write, which fails, and nothing was taken.
 #[test]
 fn a_write_stops_workers(rt: HostRuntime) -> Result<(), Fail> {
-    let words = words_of(rt.alloc(), PRINTS.words)?;
-    let done = stop(&rt, rt.alloc(), &words);
-    drop(words);
-    done?;
+    assert_run_of(&rt, rt.alloc(), &PRINTS, 5_000)?;
+    Ok(())
+}
+
+/// Demos. None reads its source, whose first read would fail; of the second the write of its first line feed fails.
+const DEMOS: &[Row<'static>] = &[
+    Row {
+        words: &["demo", "number=5", "classes=1000", "threads=60"],
+        status: 0,
+        taken: "-1506821782\n#end done\n#demo classes 1000 threads 60 methods 1003\n",
+        ..UNREAD_DEMO
+    },
+    Row {
+        failing_writes: &[8],
+        status: 4,
+        taken: "62004187",
+        ..UNREAD_DEMO
+    },
+];
+
+const UNREAD_DEMO: Row<'static> = Row {
+    words: &["demo", "number=5", "classes=2", "threads=2", "workers=2"],
+    failing_reads: &[0],
+    ..UNREAD
+};
+
+/// A demo of a thousand classes and sixty threads has fewer than half a million steps.
+#[test]
+fn demos_read_no_source(rt: HostRuntime) -> Result<(), Fail> {
+    for row in DEMOS {
+        assert_run_of(&rt, rt.alloc(), row, 500_000)?;
+    }
     Ok(())
 }

@@ -3,17 +3,18 @@ use Rattle.std.proofs.lemmas.Grind.{common_steps}
 use Rattle.std.proofs.lemmas.Result.{IfOk-weaker}
 use Rattle.dv_top.specs.Answering.{AsGiven, ByTurns}
 use Rattle.dv_top.specs.Said.{ToBeListed, ToBeReplayed, ToBeRun, ToBeVerified}
+use Rattle.dv_top.proofs.AnswerLemmas.{asks_run}
 use Rattle.dv_top.proofs.answering.reply_to_command.Goals as goal
 
 pub returns-in-Some-clause-said : goal.returns-in-Some-clause-said
 returns-in-Some-clause-said g c bytes read =
     let is = rw c.in-Some.is at c.in-Run.is in
-    IfOk-weaker c.reply_to_running.result _ _ (λ reply said. ToBeRun c.in-Run.name _ _ _ _ (ap Some is) said) (c.reply_to_running.ensures.said bytes read)
+    IfOk-weaker c.reply_to_running.result _ _ (λ reply said. ToBeRun _ (asks_run _ _ _ _ _ _ _ (ap Some is) c.of.ensures) said) (c.reply_to_running.ensures.said bytes read)
 
 pub returns-in-Some-clause-legal : goal.returns-in-Some-clause-legal
 returns-in-Some-clause-legal g c bytes read some =
     let is = rw c.in-Some.is at c.in-Run.is in
-    ByTurns c.in-Run.name _ _ _ _ (ap Some is) (c.reply_to_running.ensures.legal bytes read some)
+    ByTurns _ (asks_run _ _ _ _ _ _ _ (ap Some is) c.of.ensures) (c.reply_to_running.ensures.legal bytes read some)
 
 pub returns-in-Replay-clause-said : goal.returns-in-Replay-clause-said
 returns-in-Replay-clause-said g c bytes read =

@@ -15,13 +15,13 @@ returns-clause-worked g c m is =
     let ran = c.run_workers-vm.ensures in
     let vm = c.run_workers-vm.result.vm in
     let same = ran.same in
-    let shown = c.args.how.now.shown in
+    let behind = c.args.how.now.behind in
     let before = g.K.Sink.taken c.args.sink in
     let mid = g.K.Sink.taken c.run_workers-vm.result.sink in
     let (k, at) = state_of vm m ran.leads (main_of vm.verified run.verified vm.main run.main m same.verified same.main is) in
     let output = c.output_stands.ensures m k at in
     let part : TookPart before mid k.shared.output = subst (λ t. TookPart before mid t) output ran.part in
-    let own : IsWorked vm.verified.image m vm.machine.limits vm.log shown before (g.K.Sink.taken c.if-fault.sink) c.code.result =
+    let own : IsWorked vm.verified.image m vm.machine.limits vm.log behind before (g.K.Sink.taken c.if-fault.sink) c.code.result =
     elim c.if-fault.branch [
       | then-fault w ↦
           Stopped k at.replayed (subst (λ s. TookPart before (g.K.Sink.taken s) k.shared.output) (sym w.sink-is) part) (inl (c.code.ensures ∙ ap code_of w.status-is))
@@ -29,7 +29,7 @@ returns-clause-worked g c m is =
           Stopped k at.replayed (subst (λ s. TookPart before (g.K.Sink.taken s) k.shared.output) (sym w.sink-is) part) (inr (c.code.ensures ∙ ap code_of w.status-is))
       | else-fault+else-memory w ↦
           let whole = ran.all w.if-fault.false w.if-memory.false in
-          let worked = worked_by vm.verified.image m vm.machine.limits vm.log shown before (g.K.Sink.taken w.write_tail.new.sink) mid k vm.machine.shared.output (code_of w.write_tail.result) at.replayed output whole (w.write_tail.ensures.followed m k at) in
-          subst (λ s. IsWorked vm.verified.image m vm.machine.limits vm.log shown before (g.K.Sink.taken s) c.code.result) (sym w.sink-is) (subst (λ n. IsWorked vm.verified.image m vm.machine.limits vm.log shown before (g.K.Sink.taken w.write_tail.new.sink) n) (sym (c.code.ensures ∙ ap code_of w.status-is)) worked)
+          let worked = worked_by vm.verified.image m vm.machine.limits vm.log behind before (g.K.Sink.taken w.write_tail.new.sink) mid k vm.machine.shared.output (code_of w.write_tail.result) at.replayed output whole (w.write_tail.ensures.followed m k at) in
+          subst (λ s. IsWorked vm.verified.image m vm.machine.limits vm.log behind before (g.K.Sink.taken s) c.code.result) (sym w.sink-is) (subst (λ n. IsWorked vm.verified.image m vm.machine.limits vm.log behind before (g.K.Sink.taken w.write_tail.new.sink) n) (sym (c.code.ensures ∙ ap code_of w.status-is)) worked)
     ] in
-    moved (λ (i : Image) (l : Limits) es. IsWorked i m l es shown before (g.K.Sink.taken c.if-fault.sink) c.code.result) vm.verified.image run.verified.image vm.machine.limits run.machine.limits vm.log c.into_log.result.items (image_of vm.verified run.verified same.verified) same.limits (sym c.into_log.ensures) own
+    moved (λ (i : Image) (l : Limits) es. IsWorked i m l es behind before (g.K.Sink.taken c.if-fault.sink) c.code.result) vm.verified.image run.verified.image vm.machine.limits run.machine.limits vm.log c.into_log.result.items (image_of vm.verified run.verified same.verified) same.limits (sym c.into_log.ensures) own

@@ -12,8 +12,8 @@ returns-in-Ok-clause-worked g c m is =
     let run = c.in-Ok.run' in
     let report = c.run_opened.result in
     let (program, main, limits) = c.in-Ok.ensures.program in
-    moved (λ (i : Image) (l : Limits) es. IsWorked i m l es c.args.how.now.shown (g.K.Sink.taken c.args.sink) (g.K.Sink.taken report.sink) report.status) run.verified.image v.image run.machine.limits c.args.how.now.limits report.log.items report.log.items (image_of run.verified v program) limits refl (c.run_opened.ensures.worked m (main_of run.verified v run.main c.args.main m program main is))
+    moved (λ (i : Image) (l : Limits) es. IsWorked i m l es c.args.how.now.behind (g.K.Sink.taken c.args.sink) (g.K.Sink.taken report.sink) report.status) run.verified.image v.image run.machine.limits c.args.how.now.limits report.log.items report.log.items (image_of run.verified v program) limits refl (c.run_opened.ensures.worked m (main_of run.verified v run.main c.args.main m program main is))
 
 pub returns-in-Err-clause-worked : goal.returns-in-Err-clause-worked
 returns-in-Err-clause-worked g c m is =
-    not_opened c.args.verified.now.image m c.args.how.now.limits _ c.args.how.now.shown _ _ _ c.report_of_status.ensures.log (rw c.report_of_status.ensures.sink) c.report_of_status.ensures.status
+    not_opened c.args.verified.now.image m c.args.how.now.limits _ c.args.how.now.behind _ _ _ c.report_of_status.ensures.log (rw c.report_of_status.ensures.sink) c.report_of_status.ensures.status

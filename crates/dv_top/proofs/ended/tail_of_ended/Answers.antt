@@ -5,9 +5,9 @@ use Rattle.dv_top.proofs.ended.tail_of_ended.Goals as goal
 
 pub returns-clause-ran : goal.returns-clause-ran
 returns-clause-ran c main m at =
-    let tail = c.of.ensures ∙ (c.in_ok-add_tail.ensures ∙ ap (λ t. t ++ tail_of c.args.run.now c.args.shown) c.new-text.ensures.items) in
-    let text = ap (λ t. c.args.run.now.machine.shared.output ++ t) tail ∙ c.tail_follows.ensures main m at c.args.shown in
-    run_is c.args.run.now main m _ c.args.shown _ at (c.requires main m at) (c.status_of_ended.ensures.told main m at) text
+    let tail = c.of.ensures ∙ (c.in_ok-add_tail.ensures ∙ ap (λ t. t ++ tail_of c.args.run.now c.args.behind) c.new-text.ensures.items) in
+    let text = ap (λ t. c.args.run.now.machine.shared.output ++ t) tail ∙ c.tail_follows.ensures main m at c.args.behind in
+    run_is c.args.run.now main m _ c.args.behind _ at (c.requires main m at) (c.status_of_ended.ensures.told main m at) text
 
 pub returns-clause-good : goal.returns-clause-good
 returns-clause-good c =

@@ -17,7 +17,7 @@ returns-clause-ran c m is =
     let log = sym c.into_log.ensures in
     IfOk-weaker c.reply_of_turns-reply.result _ _ (λ reply h. (
       moved (λ (i : Image) (l : Limits) es. AreTurns (Some c.args.how.now.seed) i m l es) run.verified.image v.image run.machine.limits c.args.how.now.limits _ _ images limits log h.0,
-      moved (λ (i : Image) (l : Limits) es. IsRun i m l es c.args.how.now.shown (code_of reply.status) reply.text.items) run.verified.image v.image run.machine.limits c.args.how.now.limits _ _ images limits log h.1,
+      moved (λ (i : Image) (l : Limits) es. IsRun i m l es c.args.how.now.behind (code_of reply.status) reply.text.items) run.verified.image v.image run.machine.limits c.args.how.now.limits _ _ images limits log h.1,
     )) (c.reply_of_turns-reply.ensures.ran m (main_of run.verified v run.main c.args.main m program main is))
 
 pub returns-clause-legal : goal.returns-clause-legal

@@ -15,7 +15,7 @@ returns-clause-ran c m is =
     let same = c.seeded.ensures.same in
     IfOk-weaker c.reply_of_ended.result _ _ (λ reply run. (
       c.in_ok-seeded.ensures.done m _ (at_opening old m c.requires.0 is) c.requires.0,
-      moved (λ (i : Image) (l : Limits) log. IsRun i m l log c.args.how.now.shown (code_of reply.status) reply.text.items) new.verified.image old.verified.image new.machine.limits old.machine.limits new.log new.log (image_of new.verified old.verified same.verified) same.limits refl run,
+      moved (λ (i : Image) (l : Limits) log. IsRun i m l log c.args.how.now.behind (code_of reply.status) reply.text.items) new.verified.image old.verified.image new.machine.limits old.machine.limits new.log new.log (image_of new.verified old.verified same.verified) same.limits refl run,
     )) (c.reply_of_ended.ensures m (main_of new.verified old.verified new.main old.main m same.verified same.main is))
 
 pub returns-clause-first : goal.returns-clause-first

@@ -28,7 +28,7 @@ pub returns-in-Ok-Accepted-clause-said : goal.returns-in-Ok-Accepted-clause-said
 returns-in-Ok-Accepted-clause-said g c bytes read =
     let found = program_to_run c.args.class.now bytes in
     let f : IsFound bytes found c.in-Ok-Accepted.verified.image c.in-Ok-Accepted.main = (rw c.in-Ok-Accepted.field-0-is at c.in-Ok-Accepted.ensures.prepared) bytes read in
-    IfOk-weaker c.reply_of_run-reply.result _ _ (λ reply ran. said_ran bytes found c.in-Ok-Accepted.verified.image c.in-Ok-Accepted.main f (Some c.args.how.now.seed) c.args.how.now.limits c.reply_of_run-reply.new.log.items c.args.how.now.shown (code_of reply.status) reply.text.items ran) (c.reply_of_run-reply.ensures.ran f.main (main_found bytes found c.in-Ok-Accepted.verified.image c.in-Ok-Accepted.main f))
+    IfOk-weaker c.reply_of_run-reply.result _ _ (λ reply ran. said_ran bytes found c.in-Ok-Accepted.verified.image c.in-Ok-Accepted.main f (Some c.args.how.now.seed) c.args.how.now.limits c.reply_of_run-reply.new.log.items c.args.how.now.behind (code_of reply.status) reply.text.items ran) (c.reply_of_run-reply.ensures.ran f.main (main_found bytes found c.in-Ok-Accepted.verified.image c.in-Ok-Accepted.main f))
 
 pub returns-in-Ok-Accepted-clause-legal : goal.returns-in-Ok-Accepted-clause-legal
 returns-in-Ok-Accepted-clause-legal g c bytes read some =
