@@ -306,6 +306,7 @@ goto :a
 .end method
 ",
     failing_writes: &[0],
+    taken: "",
     ..UNWRITTEN
 };
 
