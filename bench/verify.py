@@ -43,21 +43,21 @@ def methods(count, instructions=100):
     return text
 
 
-def classes(count, methods, instructions=100):
+def classes(count, methods, instructions, registers):
     """Many classes of some methods each."""
     body = "const/4 v0, 0x1\n" + "add-int/lit8 v1, v0, 0x1\n" * (instructions - 2) + "return-void\n"
-    of_class = "".join(method("m%02d" % k, 4, body) for k in range(methods))
+    of_class = "".join(method("m%02d" % k, registers, body) for k in range(methods))
     return "".join(".class LC%04d;\n.super Ljava/lang/Object;\n%s" % (k, of_class) for k in range(count))
 
 
-def nested(loops=200, units=16_384, registers=256):
-    """Loops in one another, over all registers."""
+def nested(loops=200, units=16_384, registers=256, count=1):
+    """Methods of loops in one another, over all registers."""
     head = "const/4 v0, 0x1\nconst-string v1, \"a\"\n"
     fill = (units - 8 - 4 * loops) // 2
     body = head + "".join(":l%d\n" % k for k in range(loops)) + "add-int/lit8 v2, v0, 0x1\n" * fill
     for k in reversed(range(loops)):
         body += "if-lt v0, v2, :x%d\ngoto/16 :l%d\n:x%d\n" % (k, k, k)
-    return HEAD + method("main", registers, body + "return-void\n")
+    return HEAD + "".join(method("m%d" % k, registers, body + "return-void\n") for k in range(count))
 
 
 def strings(count, units=16_384):
@@ -81,9 +81,10 @@ CASES = [
 ]
 
 
+# A text of 1,000 classes of 20 methods would have more methods than the limit, 16,384.
 BY_PROCESSORS = [
-    ("1,000 classes of 16 methods, 20 instructions each", lambda: classes(1_000, 16, 20)),
-    ("1,000 classes of 16 methods, 100 instructions each", lambda: classes(1_000, 16, 40)),
+    ("1,000 classes of 16 methods, 14 instructions each", lambda: classes(1_000, 16, 14, 64)),
+    ("eight times 200 nested loops, the limit of cells", lambda: nested(count=8)),
     ("eight times 256 strings, the limit of cells", lambda: strings(8)),
 ]
 
