@@ -1,7 +1,7 @@
 -- What goes on from a place, and what fits there, by whether it is an instruction's.
 use Rattle.std.proofs.Common.{◌≡◌, ◌<◌, ◌≤◌, ◌-◌, ℕ, Bool, true, false, List, map, sym, ap, ◌∙◌, subst, arith}
 use Rattle.std.specs.Prelude.{nat_lt, slice_get}
-use Rattle.dv_worklist.specs.declared.flows.Onward.{Onward}
+use Rattle.dv_worklist.specs.Flow.{Onward}
 use Rattle.dv_worklist.specs.Beside.{onward_kept}
 use Rattle.dv_typing.specs.declared.typing.RegState.{RegState}
 use Rattle.dv_defs.specs.Images.{Image}

@@ -4,7 +4,7 @@ use Rattle.std.specs.Prelude.{filter, nat_eq}
 use Rattle.std.proofs.lemmas.List.{map-append}
 use Rattle.std.proofs.lemmas.Bool.{eqb-true}
 use Rattle.std.proofs.lemmas.Option.{same_Some}
-use Rattle.dv_worklist.specs.declared.flows.Onward.{Onward}
+use Rattle.dv_worklist.specs.Flow.{Onward}
 use Rattle.dv_worklist.specs.Beside.{Kept, onward_kept}
 use Rattle.dv_typing.specs.declared.typing.RegState.{RegState}
 use Rattle.dv_defs.specs.Op.{Code}

@@ -1,6 +1,6 @@
 -- What goes on along edges.
 use Rattle.std.specs.Prelude.{ℕ, Some, None}
-use Rattle.dv_worklist.specs.declared.flows.Onward.{Onward}
+use Rattle.dv_worklist.specs.Flow.{Onward}
 use Rattle.dv_typing.specs.declared.typing.RegState.{RegState}
 use Rattle.dv_typing.specs.Flow.{caught_state}
 use Rattle.dv_rules.specs.declared.flow.Edge.{Edge}

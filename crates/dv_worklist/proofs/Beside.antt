@@ -2,8 +2,7 @@
 use Rattle.std.proofs.Common.{◌≡◌, ◌<◌, ℕ, zero, suc, true, List, [], ◌∷◌, map, Option, Some, None, refl, sym, ap, ◌∙◌, subst, inl, inr, ◌⊎◌}
 use Rattle.std.specs.Prelude.{slice_get, option_map}
 use Rattle.std.proofs.lemmas.Option.{slice_get-map, same_Some}
-use Rattle.dv_worklist.specs.declared.flows.Onward.{Onward}
-use Rattle.dv_worklist.specs.Flow.{Flow, Assignment, assigned, HasAbove, IsClosed, IsUnder, IsLeast, AllFit, IsLawful, IsImplied}
+use Rattle.dv_worklist.specs.Flow.{Onward, Flow, Assignment, assigned, HasAbove, IsClosed, IsUnder, IsLeast, AllFit, IsLawful, IsImplied}
 use Rattle.dv_worklist.specs.Beside.{Kept, kept, onward_kept, flow_beside, fits_beside, rank_beside, alone}
 
 -- what a mapped option has comes from what the option has

@@ -1,10 +1,9 @@
 -- What goes on from one place arrives, piece by piece.
-use Rattle.std.proofs.Common.{◌≡◌, ◌<◌, ◌≤◌, ◌+◌, ℕ, List, length, Option, Some, None, Bool, refl, sym, ◌∙◌, subst, arith, inl, inr, get_or}
+use Rattle.std.proofs.Common.{◌≡◌, ◌<◌, ◌≤◌, ◌+◌, ℕ, List, length, Option, Some, None, Bool, refl, sym, ◌∙◌, subst, arith, inl, inr}
 use Rattle.std.specs.Prelude.{slice_get}
 use Rattle.std.proofs.lemmas.Bool.{cases_eq}
-use Rattle.std.proofs.lemmas.Option.{same_Some, slice_get_within, slice_get_read}
-use Rattle.dv_worklist.specs.declared.flows.Onward.{Onward}
-use Rattle.dv_worklist.specs.Flow.{Flow, Assignment, assigned, HasAbove, Arrives, IsClosed, IsLawful}
+use Rattle.std.proofs.lemmas.Option.{same_Some, slice_get_within}
+use Rattle.dv_worklist.specs.Flow.{Onward, Flow, Assignment, assigned, HasAbove, Arrives, IsClosed, IsLawful}
 use Rattle.dv_worklist.specs.Work.{goes_on, IsPartly, none_busy, busy_at, IsTurn, IsSpread, IsArrival}
 use Rattle.dv_worklist.proofs.Arriving.{arrived}
 
@@ -102,7 +101,3 @@ spread_all {S} f fits rank top at xs flags k ys later all sp = record {
   grown = sp.turn.grown;
   less = sp.turn.less;
 }
-
--- what a turn reads is what goes on
-pub read_next : {A : Type 0} (all items : List A) (k : ℕ) (x : A) → all ≡ items → (k < length all) × (x ≡ get_or all k x) → slice_get items k ≡ Some x
-read_next {A} all items k x same t = rw (← same) (slice_get_read all (length all) k x refl t.0 t.1)

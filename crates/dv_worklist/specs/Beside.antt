@@ -1,7 +1,6 @@
 -- A flow of states that are kept with something that stays.
 use Rattle.std.specs.Prelude.{◌≡◌, ℕ, List, map, Option, option_map}
-use Rattle.dv_worklist.specs.declared.flows.Onward.{Onward}
-use Rattle.dv_worklist.specs.Flow.{Flow}
+use Rattle.dv_worklist.specs.Flow.{Onward, Flow}
 
 -- a state with what it is kept with
 pub record Kept (S T : Type 0) : Type 0 where

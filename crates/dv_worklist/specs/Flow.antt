@@ -1,6 +1,10 @@
 -- Flow of states from place to place, and the least assignment of states that is closed under it.
 use Rattle.std.specs.Prelude.{◌≡◌, ◌<◌, ◌⊎◌, ℕ, Bool, true, List, Option, Some, None, slice_get, slice_index_or}
-use Rattle.dv_worklist.specs.declared.flows.Onward.{Onward}
+
+-- a state that goes on to a place
+pub record Onward (S : Type 0) : Type 0 where
+  pub to : ℕ
+  pub state : S
 
 -- states that go on from places: where from, the order of states with its join, and what goes on to where
 pub record Flow (S : Type 0) : Type 0 where

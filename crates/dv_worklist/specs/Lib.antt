@@ -1,4 +1,5 @@
 pub mod Beside
 pub mod Flow
+pub mod Numbered
 pub mod Waiting
 pub mod Work

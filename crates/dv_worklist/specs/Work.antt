@@ -1,7 +1,6 @@
 -- What one turn of the worklist does to the states and to the places that wait.
 use Rattle.std.specs.Prelude.{◌≡◌, ◌<◌, ◌≤◌, ◌+◌, ◌*◌, ℕ, Bool, true, not, cond, List, [], length, Option, Some, None, IfSome, slice_get, slice_set, sum_by, ◌⊎◌}
-use Rattle.dv_worklist.specs.declared.flows.Onward.{Onward}
-use Rattle.dv_worklist.specs.Flow.{Flow, Assignment, assigned, HasAbove, Arrives, AllFit, IsClosed, IsUnder, IsImplied}
+use Rattle.dv_worklist.specs.Flow.{Onward, Flow, Assignment, assigned, HasAbove, Arrives, AllFit, IsClosed, IsUnder, IsImplied}
 use Rattle.dv_worklist.specs.Waiting.{Waits}
 
 -- s is not yet under what the place has

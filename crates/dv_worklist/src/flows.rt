@@ -3,14 +3,8 @@ ghost use Rattle.std.specs.Prelude.{◌≡◌, ◌<◌, ℕ, IfOk, IfSome, OnOk,
 ghost use Rattle.dv_worklist.specs.Work.{raised, rises};
 ghost use Rattle.dv_worklist.specs.Flow.{Flow as Graph, IsImplied};
 
+use crate::onwards::Onwards;
 use std::alloc::AllocError;
-
-/// A state that goes on to a place.
-#[derive(Drop)]
-pub struct Onward<S> {
-    pub to: usize,
-    pub state: S,
-}
 
 /// States that go on from place to place. No place is numbered `size` or more.
 pub trait Flow {
@@ -36,10 +30,14 @@ pub trait Flow {
         &self,
         place: usize,
         state: &Self::State,
-    ) -> Result<Vec<Onward<Self::State>>, AllocError>
+    ) -> Result<Onwards<Self::State>, AllocError>
         requires place { place < (graph self.now).size }
         requires fits { fits self.now place state.now }
-        ensures { IfOk result (λ v. v.items ≡ (graph self.now).onward place state.now) };
+        ensures { IfOk result (λ onwards. onwards ≡ (graph self.now).onward place state.now) };
+
+    /// A copy of a state.
+    fn copy(&self, state: &Self::State) -> Result<Self::State, AllocError>
+        ensures { IfOk result (λ s. s ≡ state.now) };
 
     /// Raises a state to the least one above it and another that fits the same place, and tells whether it rose.
     fn raise(

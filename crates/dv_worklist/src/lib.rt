@@ -3,8 +3,10 @@
 #![tactic(auto)]
 
 mod flows;
+mod onwards;
 mod solve;
 mod waiting;
 
-pub use flows::{Flow, Onward};
+pub use flows::Flow;
+pub use onwards::Onwards;
 pub use solve::least;

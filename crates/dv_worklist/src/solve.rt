@@ -3,7 +3,8 @@ ghost use Rattle.std.specs.Prelude.{◌≡◌, ◌<◌, IfOk, OnOk, length, None
 ghost use Rattle.dv_worklist.specs.Flow.{AllFit, IsLawful, IsLeast, assigned};
 ghost use Rattle.dv_worklist.specs.Work.{IsArrival, IsMore, IsPartly, IsTurn, busy_at, goes_on, none_busy, states_after, waiting_after};
 
-use crate::flows::{Flow, Onward};
+use crate::flows::Flow;
+use crate::onwards::Onwards;
 use crate::waiting::Waiting;
 use std::alloc::{AllocError, Global};
 
@@ -18,7 +19,7 @@ pub fn least<F: Flow>(flow: &F, alloc: Global) -> Result<Vec<Option<F::State>>, 
     let mut states = no_states(flow, alloc)?;
     let mut waiting = Waiting::none(alloc, flow.size())?;
     let entry = flow.entry()?;
-    raise(flow, &mut states, &mut waiting, 0, entry)?;
+    raise(flow, &mut states, &mut waiting, 0, &entry)?;
     let mut left = flow.patience();
     while let Some(place) = waiting.take() {
         left = left.saturating_sub(flow.work(place));
@@ -53,8 +54,9 @@ fn turn<F: Flow>(
     ensures { OnOk result (IsTurn (F.graph flow.now) (F.fits flow.now) (F.rank flow.now) (F.top flow.now) none_busy states.old.items waiting.old states.new.items waiting.new) }
 {
     let all = going_on(flow, alloc, states, place)?;
-    for onward in all {
-        arrive(flow, states, waiting, left, onward.to, onward.state)?;
+    for index in 0..all.len() {
+        let (to, state) = all.get(index);
+        arrive(flow, states, waiting, left, to, state)?;
     }
     Ok(())
 }
@@ -66,26 +68,26 @@ fn arrive<F: Flow>(
     waiting: &mut Waiting,
     left: &mut usize,
     place: usize,
-    state: F::State,
+    state: &F::State,
 ) -> Result<(), AllocError>
     requires place { place < (F.graph flow.now).size }
     requires lawful { IsLawful (F.graph flow.now) (F.fits flow.now) (F.rank flow.now) (F.top flow.now) }
     requires long { length states.old.items ≡ (F.graph flow.now).size }
     requires flagged { length waiting.old ≡ (F.graph flow.now).size }
     requires all { AllFit (F.fits flow.now) (assigned states.old.items) }
-    requires fits { F.fits flow.now place state }
-    ensures { OnOk result (IsArrival (F.graph flow.now) (F.fits flow.now) states.old.items waiting.old place state states.new.items waiting.new) }
+    requires fits { F.fits flow.now place state.now }
+    ensures { OnOk result (IsArrival (F.graph flow.now) (F.fits flow.now) states.old.items waiting.old place state.now states.new.items waiting.new) }
 {
     if *left > 0 {
         raise(flow, states, waiting, place, state)?;
         return Ok(());
     }
-    let more = implied(flow, states, place, &state)?;
+    let more = implied(flow, states, place, state)?;
     if raise(flow, states, waiting, place, state)? {
         *left = flow.patience();
     }
     if let Some(more) = more {
-        raise(flow, states, waiting, place, more)?;
+        raise(flow, states, waiting, place, &more)?;
     }
     Ok(())
 }
@@ -115,15 +117,15 @@ fn going_on<F: Flow>(
     alloc: Global,
     states: &[Option<F::State>],
     place: usize,
-) -> Result<Vec<Onward<F::State>>, AllocError>
+) -> Result<Onwards<F::State>, AllocError>
     requires place { place < (F.graph flow.now).size }
     requires long { length states.now ≡ (F.graph flow.now).size }
     requires fits { AllFit (F.fits flow.now) (assigned states.now) }
-    ensures { IfOk result (λ v. v.items ≡ goes_on (F.graph flow.now) place (assigned states.now place)) }
+    ensures { IfOk result (λ onwards. onwards ≡ goes_on (F.graph flow.now) place (assigned states.now place)) }
 {
     match &states[place] {
         Some(state) => flow.onward(place, state),
-        None => Ok(Vec::new(alloc)),
+        None => Ok(Onwards::none(alloc)),
     }
 }
 
@@ -133,20 +135,20 @@ fn raise<F: Flow>(
     states: &mut Vec<Option<F::State>>,
     waiting: &mut Waiting,
     place: usize,
-    state: F::State,
+    state: &F::State,
 ) -> Result<bool, AllocError>
     requires place { place < length states.old.items }
     requires flag { place < length waiting.old }
     requires all { AllFit (F.fits flow.now) (assigned states.old.items) }
-    requires fits { F.fits flow.now place state }
-    ensures states { OnOk result (states.new.items ≡ states_after (F.graph flow.now) states.old.items place state) }
-    ensures waiting { OnOk result (waiting.new ≡ waiting_after (F.graph flow.now) states.old.items waiting.old place state) }
+    requires fits { F.fits flow.now place state.now }
+    ensures states { OnOk result (states.new.items ≡ states_after (F.graph flow.now) states.old.items place state.now) }
+    ensures waiting { OnOk result (waiting.new ≡ waiting_after (F.graph flow.now) states.old.items waiting.old place state.now) }
 {
     let slot = &mut states[place];
     let rose = match slot {
-        Some(old) => flow.raise(place, old, &state)?,
+        Some(old) => flow.raise(place, old, state)?,
         None => {
-            *slot = Some(state);
+            *slot = Some(flow.copy(state)?);
             true
         }
     };

@@ -1,8 +1,7 @@
 -- A closed assignment of the flow from head to head, filled in between, is closed where it gathers, and fits there.
 use Rattle.std.specs.Prelude.{nat_lt}
 use Rattle.std.proofs.Common.{◌≡◌, ℕ, zero, suc, ◌+◌, ◌<◌, ◌≤◌, List, ◌++◌, length, Bool, true, false, Option, Some, None, refl, ap, sym, ◌∙◌, subst, arith}
-use Rattle.dv_worklist.specs.declared.flows.Onward.{Onward}
-use Rattle.dv_worklist.specs.Flow.{Assignment, AllFit, HasAbove, IsClosed, IsLawful}
+use Rattle.dv_worklist.specs.Flow.{Onward, Assignment, AllFit, HasAbove, IsClosed, IsLawful}
 use Rattle.dv_typing.specs.declared.typing.RegState.{RegState}
 use Rattle.dv_defs.specs.Images.{Image}
 use Rattle.dv_defs.specs.Op.{Code}

@@ -2,7 +2,7 @@
 use Rattle.std.specs.Prelude.{slice_get, filter, cond}
 use Rattle.std.proofs.Common.{◌≡◌, ℕ, zero, suc, List, [], ◌∷◌, ◌++◌, map, Bool, true, false, Some, refl, subst}
 use Rattle.std.proofs.lemmas.Option.{same_Some}
-use Rattle.dv_worklist.specs.declared.flows.Onward.{Onward}
+use Rattle.dv_worklist.specs.Flow.{Onward}
 
 abbrev pub Each : {X : Type 0} → (X → Type 0) → List X → Type 0
 Each {X} P xs = (k : ℕ) (x : X) → slice_get xs k ≡ Some x → P x

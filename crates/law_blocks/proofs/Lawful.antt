@@ -1,8 +1,7 @@
 -- The flow from head to head is lawful.
 use Rattle.std.specs.Prelude.{nat_lt, filter}
 use Rattle.std.proofs.Common.{◌≡◌, ℕ, zero, suc, ◌+◌, ◌<◌, List, [], ◌++◌, length, Bool, true, false, Option, Some, None, refl, sym, ◌∙◌, subst}
-use Rattle.dv_worklist.specs.declared.flows.Onward.{Onward}
-use Rattle.dv_worklist.specs.Flow.{IsJoinOrder, IsLawful, IsMonotone}
+use Rattle.dv_worklist.specs.Flow.{Onward, IsJoinOrder, IsLawful, IsMonotone}
 use Rattle.dv_typing.specs.declared.typing.RegState.{RegState}
 use Rattle.dv_defs.specs.Images.{Image}
 use Rattle.dv_defs.specs.Op.{Code}

@@ -1,8 +1,7 @@
 -- The least assignment of the flow from head to head, filled in between, is that of the flow that gathers.
 use Rattle.std.specs.Prelude.{nat_lt}
 use Rattle.std.proofs.Common.{◌≡◌, ℕ, zero, suc, ◌+◌, List, [], ◌++◌, Bool, true, false, Option, Some, None, refl, sym}
-use Rattle.dv_worklist.specs.declared.flows.Onward.{Onward}
-use Rattle.dv_worklist.specs.Flow.{Assignment, HasAbove, IsClosed, IsUnder, IsLawful}
+use Rattle.dv_worklist.specs.Flow.{Onward, Assignment, HasAbove, IsClosed, IsUnder, IsLawful}
 use Rattle.dv_typing.specs.declared.typing.RegState.{RegState}
 use Rattle.dv_defs.specs.Images.{Image}
 use Rattle.dv_defs.specs.Op.{Code}

@@ -1,7 +1,6 @@
 -- The states of a method as they flow where each try entry has a place of its own: its instructions hand on to it, and it to handlers.
 use Rattle.std.specs.Prelude.{◌≡◌, ℕ, ◌+◌, ◌-◌, Bool, true, false, ◌&&◌, List, [], ◌∷◌, ◌++◌, length, map, position, Option, Some, None, nat_le, nat_lt, slice_get}
-use Rattle.dv_worklist.specs.Flow.{Flow}
-use Rattle.dv_worklist.specs.declared.flows.Onward.{Onward}
+use Rattle.dv_worklist.specs.Flow.{Onward, Flow}
 use Rattle.dv_typing.specs.declared.typing.PendingType.TheVariants as pend
 use Rattle.dv_typing.specs.declared.typing.RegState.{RegState}
 use Rattle.dv_defs.specs.declared.code.Body.{Body}

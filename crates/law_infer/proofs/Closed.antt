@@ -9,8 +9,7 @@ use Rattle.dv_typing.specs.Statics.{At, fetch}
 use Rattle.dv_typing.specs.Transfer.{entry_state, out}
 use Rattle.dv_typing.specs.Flow.{Typing, Leads, Flows, IsFlowClosed, IsUnderAt, targets, handlers_at, thrown_at, caught_state}
 use Rattle.dv_types.proofs.Below.{below_from, below_to}
-use Rattle.dv_worklist.specs.declared.flows.Onward.{Onward}
-use Rattle.dv_worklist.specs.Flow.{HasAbove, IsClosed, AllFit, assigned}
+use Rattle.dv_worklist.specs.Flow.{Onward, HasAbove, IsClosed, AllFit, assigned}
 use Rattle.law_infer.specs.Flowing.{flow_of, fits_at, IsReady}
 use Rattle.law_infer.specs.Laws.{LeastAssignmentsAreLeast}
 use Rattle.law_infer.proofs.Onwards.{each_from, from_each}

@@ -18,8 +18,7 @@ use Rattle.law_flow.specs.Fitting.{StateFits}
 use Rattle.law_flow.proofs.EntriesFit.{entries_fit, caught_states_fit}
 use Rattle.law_flow.proofs.StateRanks.{ranks_are_bounded}
 use Rattle.law_flow.proofs.TransferFits.{transfer_fits}
-use Rattle.dv_worklist.specs.declared.flows.Onward.{Onward}
-use Rattle.dv_worklist.specs.Flow.{IsMonotone}
+use Rattle.dv_worklist.specs.Flow.{Onward, IsMonotone}
 use Rattle.law_infer.specs.Flowing.{goes_to_handlers, onward_of, onward_from, flow_of, fits_at, IsReady}
 use Rattle.law_infer.specs.Laws.{FlowsAreLawful}
 use Rattle.law_infer.proofs.Each.{Each}

@@ -8,7 +8,7 @@ use Rattle.dv_defs.specs.Op.{Code, can_throw}
 use Rattle.dv_typing.specs.Statics.{At, fetch}
 use Rattle.dv_typing.specs.Transfer.{out}
 use Rattle.dv_typing.specs.Flow.{Catcher, targets, handlers_at, thrown_at, caught_state}
-use Rattle.dv_worklist.specs.declared.flows.Onward.{Onward}
+use Rattle.dv_worklist.specs.Flow.{Onward}
 use Rattle.law_infer.specs.Flowing.{goes_to, goes_to_handlers, onward_of, onward_from}
 use Rattle.law_infer.proofs.Each.{Each, each_nil, each_left, each_right, each_both, each_made, made_each}
 

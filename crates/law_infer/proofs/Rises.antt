@@ -2,7 +2,7 @@
 use Rattle.std.specs.Prelude.{slice_get}
 use Rattle.std.proofs.Common.{◌≡◌, ℕ, zero, suc, List, [], ◌∷◌, ◌++◌, map, Bool, true, Some, refl, subst}
 use Rattle.std.proofs.lemmas.Option.{same_Some}
-use Rattle.dv_worklist.specs.declared.flows.Onward.{Onward}
+use Rattle.dv_worklist.specs.Flow.{Onward}
 
 module _ {S : Type 0} (under : S → S → Bool) where
   -- at the same place in the other list, to the same place, with a state above

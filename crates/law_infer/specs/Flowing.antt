@@ -1,7 +1,6 @@
 -- The states of a method as they flow from instruction to instruction.
 use Rattle.std.specs.Prelude.{◌≡◌, ℕ, true, false, List, [], ◌++◌, length, map, filter, Option, Some, None}
-use Rattle.dv_worklist.specs.Flow.{Flow}
-use Rattle.dv_worklist.specs.declared.flows.Onward.{Onward}
+use Rattle.dv_worklist.specs.Flow.{Onward, Flow}
 use Rattle.dv_typing.specs.declared.typing.RegState.{RegState}
 use Rattle.dv_defs.specs.Images.{Image}
 use Rattle.dv_defs.specs.Tiling.{begins_insn}

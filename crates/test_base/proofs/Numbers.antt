@@ -3,8 +3,7 @@ use Rattle.std.proofs.Common.{◌≡◌, ◌<◌, ◌≤◌, ℕ, zero, suc, max
 use Rattle.std.specs.Prelude.{slice_get}
 use Rattle.std.proofs.lemmas.Bool.{cases_eq, leb-true, le-leb, ltb-true, and_parts}
 use Rattle.std.proofs.lemmas.Option.{same_Some}
-use Rattle.dv_worklist.specs.declared.flows.Onward.{Onward}
-use Rattle.dv_worklist.specs.Flow.{IsLawful, IsImplied}
+use Rattle.dv_worklist.specs.Flow.{Onward, IsLawful, IsImplied}
 use Rattle.test_base.specs.Numbers.{all_ways, ways, brought, numbers, number_fits, number_rank}
 
 -- what a higher number brings by the same way is above

@@ -1,7 +1,6 @@
 -- A small flow of the numbers up to 3, on which the worklist is tested.
 use Rattle.std.specs.Prelude.{◌<◌, ◌-◌, ℕ, max, nat_le, List, [], ◌∷◌, map, slice_index_or}
-use Rattle.dv_worklist.specs.declared.flows.Onward.{Onward}
-use Rattle.dv_worklist.specs.Flow.{Flow}
+use Rattle.dv_worklist.specs.Flow.{Onward, Flow}
 
 -- by place, where to the ways from there lead, and the least number that each brings: a loop from place 1 over 2, a
 -- branch at 0 that joins at 4, and place 5, to which no way leads

@@ -1,5 +1,5 @@
 use Rattle.std.proofs.Common.{◌≡◌, ◌-◌, ◌++◌, ℕ, suc, List, [], map, Some, None, sym, ap, ◌∙◌, subst, arith}
-use Rattle.dv_worklist.specs.declared.flows.Onward.{Onward}
+use Rattle.dv_worklist.specs.Flow.{Onward}
 use Rattle.dv_worklist.specs.Beside.{Kept, onward_kept}
 use Rattle.dv_typing.specs.declared.typing.RegState.{RegState}
 use Rattle.dv_typing.specs.Transfer.{out}
