@@ -1,3 +1,4 @@
+mod Copying
 mod Naming
 mod PartLaws
 pub mod Wider

@@ -1,3 +1,4 @@
 pub mod Bases
+pub mod Copies
 pub mod Words
 pub mod States

@@ -3,6 +3,7 @@ ghost use Rattle.std.specs.Prelude.{◌≡◌, ◌<◌, ◌^◌, ◌+◌, IfOk, 
 ghost use Rattle.dv_defs.specs.Pools.{class_named, name_at};
 ghost use Rattle.dv_bases.specs.Bases.{AreNames, IsNumbered, IsWider, IsWord, base_count, base_of, class_count, name_of, type_of, word_type};
 
+use crate::copies::Copies;
 use crate::words::{Part, Reference, part_of, word_of};
 use dv_defs::{Base, Image, Text, Ty};
 use dv_image::class_of;
@@ -17,17 +18,19 @@ const MOST: usize = 0x20_0000;
 #[derive(Drop)]
 pub struct Bases<'a> {
     image: &'a Image,
+    copies: Copies<'a>,
     more: Vec<Text>,
 }
 
 impl<'a> Model for Bases<'a> {
+    ghost use Rattle.std.specs.Prelude.{◌≡◌};
     ghost use Rattle.dv_bases.specs.Bases.{Names, AreNames};
 
     ghost Value = { Names };
 
     ghost view = { λ b. record { image = b.image.now; more = b.more.items } };
 
-    ghost invariant = { λ b. AreNames (record { image = b.image.now; more = b.more.items }) };
+    ghost invariant = { λ b. AreNames (record { image = b.image.now; more = b.more.items }) × (b.copies ≡ b.image.now) };
 }
 
 impl<'a> Bases<'a> {
@@ -40,6 +43,7 @@ impl<'a> Bases<'a> {
         }
         Ok(Bases {
             image,
+            copies: Copies::none(alloc, image),
             more: Vec::new(alloc),
         })
     }
@@ -68,7 +72,10 @@ impl<'a> Bases<'a> {
         ensures within { IfOk result (λ k. k < base_count self.new) }
     {
         match class_named(self.image, name) {
-            Some(class) => Ok((6 + class) as u32),
+            Some(class) => {
+                self.copies.add(class, name)?;
+                Ok((6 + class) as u32)
+            }
             None => self.number_more(name),
         }
     }
@@ -187,7 +194,7 @@ impl<'a> Bases<'a> {
     {
         let classes = count_of(self.image);
         if number < classes {
-            class_name(self.image, number)
+            self.copies.name(number)
         } else {
             self.more[number - classes].clone()
         }
@@ -237,15 +244,6 @@ fn class_named(image: &Image, name: &Text) -> Option<usize>
     ensures named { IfSome result (λ c. name_at image.now c ≡ name.now) }
 {
     class_of(image, name)
-}
-
-/// The name of a class.
-fn class_name(image: &Image, class: usize) -> Result<Text, AllocError>
-    requires { class < length image.now.classes }
-    ensures { IfOk result (λ name. name ≡ name_at image.now class) }
-{
-    let classes = image.classes.items();
-    classes[class].def.name.clone()
 }
 
 /// The place of a name among others.

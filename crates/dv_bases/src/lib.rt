@@ -2,6 +2,7 @@
 #![tactic(auto)]
 
 mod bases;
+mod copies;
 mod states;
 mod words;
 

@@ -1,6 +1,6 @@
 // States as words.
 ghost use Rattle.std.specs.Prelude.{◌≡◌, All, IfOk, IfSome, map};
-ghost use Rattle.dv_bases.specs.Bases.{IsNumbered, IsWord, word_type};
+ghost use Rattle.dv_bases.specs.Bases.{IsNumbered, IsWord, Names, word_type};
 ghost use Rattle.dv_bases.specs.States.{AreWords, IsPending, caught_of, pending_of, state_of};
 
 use crate::bases::Bases;
@@ -27,6 +27,19 @@ pub struct Words {
 }
 
 impl Words {
+    /// A copy of the words.
+    pub fn copy(&self) -> Result<Words, AllocError>
+        ensures words { (names : Names) → AreWords names self.now → IfOk result (AreWords names) }
+        ensures state { (names : Names) → IfOk result (λ words. state_of names words ≡ state_of names self.now) }
+    {
+        Ok(Words {
+            regs: self.regs.clone()?,
+            result: self.result,
+            caught: self.caught,
+            this_pending: self.this_pending,
+        })
+    }
+
     /// The state that the words say.
     pub fn state(&self, alloc: Global, bases: &Bases<'_>) -> Result<RegState, AllocError>
         requires { AreWords bases.now self.now }

@@ -49,6 +49,17 @@ impl<'a> Row<'a> {
         }
     }
 
+    /// A copy of the state.
+    pub fn copy(&self) -> Result<Row<'a>, AllocError>
+        ensures { IfOk result (λ row. row ≡ self.now) }
+    {
+        Ok(Row {
+            bases: self.bases,
+            table: self.table,
+            words: self.words.copy()?,
+        })
+    }
+
     /// The words of the state.
     pub fn words(&self) -> &Words
         ensures state { state_of self.now.beside result.now ≡ self.now.state }
