@@ -130,6 +130,16 @@ def shared(count):
     return class_of("Main", more=f".method static main()V\n.registers 1\n.units\n{lines}.end units\n.end method\n")
 
 
+def spread(count):
+    """The same, but the targets of a switch are all different: returns behind the switches."""
+    targets = (16_384 - 6 * count - 6) // 3
+    begins = (6 * count + targets + 1) // 2 * 2
+    units = [0x0012] + [part for k in range(count) for part in (0x002B, (begins - 1 - 3 * k) & 0xFFFF, 0)] + [0x000E] * (begins - 1 - 3 * count)
+    units += [0x0100, targets, 0, 0] + [part for k in range(targets) for part in (3 * count + k, 0)]
+    lines = "".join(" ".join(f"{unit:04x}" for unit in units[k:k + 8]) + "\n" for k in range(0, len(units), 8))
+    return class_of("Main", more=f".method static main()V\n.registers 1\n.units\n{lines}.end units\n.end method\n")
+
+
 def tables(count, own=16, flags=""):
     """Classes under one another, each with methods of its own."""
     body = "".join(method(f"{flags}m{k}()V", 1, "return-void\n") for k in range(own))
@@ -206,7 +216,8 @@ CASES = {
     "joins": (joins, ("60", "120", "240", "1000", "1000x8")),
     "refs": (refs, ("600", "1200", "2400", "5400")),
     "faults": (faults, ("1000", "4000", "5400")),
-    "shared": (shared, ("100", "400", "1600", "1600x60")),
+    "shared": (shared, ("100", "400", "1600", "1600x60", "1600x100")),
+    "spread": (spread, ("100", "400", "1365", "1365x100")),
     "tables": (tables, ("100", "400", "900", "985")),
     "finals": (finals, ("100", "400", "900", "985")),
     "implements": (implements, ("100", "400", "900", "985")),

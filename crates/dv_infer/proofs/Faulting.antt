@@ -1,6 +1,6 @@
 -- The faults at the addresses from one on.
-use Rattle.std.proofs.Common.{◌≡◌, ℕ, suc, ◌+◌, ◌-◌, ◌<◌, ◌≤◌, List, ◌++◌, length, Option, Some, None, refl, sym, ap, ◌∙◌, arith, append_assoc, append-nil}
-use Rattle.std.specs.Prelude.{IfSome, slice_index_or}
+use Rattle.std.proofs.Common.{◌≡◌, ℕ, zero, suc, ◌+◌, ◌-◌, ◌<◌, ◌≤◌, List, [], ◌∷◌, ◌++◌, length, Option, Some, None, refl, sym, ap, ◌∙◌, arith, append_assoc, append-nil}
+use Rattle.std.specs.Prelude.{IfSome, option_map, slice_index_or}
 use Rattle.std.proofs.lemmas.List.{get_or_default}
 use Rattle.dv_defs.specs.declared.faults.Fault.{Fault}
 use Rattle.dv_defs.specs.declared.faults.Rule.{Rule}
@@ -10,6 +10,7 @@ use Rattle.dv_defs.specs.Op.{Code}
 use Rattle.dv_typing.specs.Statics.{At, fetch}
 use Rattle.dv_typing.specs.Flow.{Typing}
 use Rattle.dv_typing.specs.Accepting.{demand_at, fault_at}
+use Rattle.dv_worklist.specs.Beside.{Kept, alone}
 use Rattle.dv_worklist.specs.Flow.{AllFit, assigned}
 use Rattle.law_infer.specs.Laws.{faults_here, faults_from}
 
@@ -21,16 +22,25 @@ no_demand image code None = refl
 pub no_demand_at : (image : Image) (code : Code) (x : Option At) (s : Option RegState) → s ≡ None → None ≡ demand_at image code x s
 no_demand_at image code x s e = no_demand image code x ∙ sym (ap (demand_at image code x) e)
 
--- the state read at a place is the one assigned
-pub read_is : (xs : List (Option RegState)) (k : ℕ) (o : Option RegState) → k < length xs → o ≡ slice_index_or xs k o → assigned xs k ≡ o
-read_is xs k o within read = get_or_default xs k None o within ∙ sym read
+abbrev state_in : {T : Type 0} → Option (Kept RegState T) → Option RegState
+state_in o = option_map (λ r. r.state) o
+
+alone_at : {T : Type 0} (xs : List (Option (Kept RegState T))) (k : ℕ) → assigned (alone xs) k ≡ state_in (assigned xs k)
+alone_at [] k = refl
+alone_at (x ∷ xs) zero = refl
+alone_at (x ∷ xs) (suc k) = alone_at xs k
+
+-- the state of the row read at a place is the one assigned
+pub read_is : {T : Type 0} (xs : List (Option (Kept RegState T))) (k : ℕ) (o : Option (Kept RegState T)) (s : Option RegState) → k < length xs → o ≡ slice_index_or xs k o → s ≡ state_in o → assigned (alone xs) k ≡ s
+read_is xs k o s within read is = alone_at xs k ∙ ap state_in (get_or_default xs k None o within ∙ sym read) ∙ sym is
 
 fit_of : (fits : ℕ → RegState → Type 0) (k : ℕ) (typing : Typing) (o : Option RegState) → typing k ≡ o → AllFit fits typing → IfSome o (fits k)
 fit_of fits k typing None e all = tt
 fit_of fits k typing (Some s) e all = all k s e
 
-pub fit_read : (fits : ℕ → RegState → Type 0) (xs : List (Option RegState)) (k : ℕ) (o : Option RegState) → k < length xs → o ≡ slice_index_or xs k o → AllFit fits (assigned xs) → IfSome o (fits k)
-fit_read fits xs k o within read all = fit_of fits k (assigned xs) o (read_is xs k o within read) all
+pub fit_read : {T : Type 0} (fits : ℕ → RegState → Type 0) (xs : List (Option (Kept RegState T))) (k : ℕ) (o : Option (Kept RegState T)) (s : Option RegState) → k < length xs → o ≡ slice_index_or xs k o → s ≡ state_in o →
+    AllFit fits (assigned (alone xs)) → IfSome s (fits k)
+fit_read fits xs k o s within read is all = fit_of fits k (assigned (alone xs)) s (read_is xs k o s within read is) all
 
 module _ (image : Image) (code : Code) (typing : Typing) (n : ℕ) where
   -- one more address

@@ -2,33 +2,38 @@
 ghost use Rattle.std.specs.Prelude.{◌≡◌, ◌++◌, length, Some, IfOk, OnOk, IfSome};
 ghost use Rattle.dv_typing.specs.Accepting.{demand_at, fault_at};
 ghost use Rattle.dv_typing.specs.Statics.{fetch};
+ghost use Rattle.dv_worklist.specs.Beside.{alone};
 ghost use Rattle.dv_worklist.specs.Flow.{AllFit, assigned};
 ghost use Rattle.law_infer.specs.Flowing.{IsReady, fits_at};
 ghost use Rattle.law_infer.specs.Laws.{faults_from};
 ghost use Rattle.dv_ops.specs.Meaning.{code_of};
 
 use crate::receivers::made_of;
+use crate::states::state_of;
 use dv_defs::{Fault, Image, MethodId, Rule};
 use dv_demands::ok_of;
 use dv_ops::{Coded, op_at, units_of};
+use dv_types::Row;
 use dv_typing::RegState;
 use std::alloc::{AllocError, Global};
 
-/// The demands that the states of a least assignment fail, by address.
+/// The demands that the rows of a least assignment fail, by address. Each state is dropped when it is judged: of a method that is refused there are
+/// never more.
 pub fn typing_faults(
     alloc: Global,
     image: &Image,
     code: &Coded<'_>,
-    states: &[Option<RegState>],
+    rows: &[Option<Row<'_>>],
 ) -> Result<Vec<Fault>, AllocError>
     requires ready { IsReady image.now (code_of code.now) }
-    requires count { length states.now ≡ length code.now.body.now.units }
-    requires fit { AllFit (fits_at image.now (code_of code.now)) (assigned states.now) }
-    ensures { IfOk result (λ v. v.items ≡ faults_from image.now (code_of code.now) (assigned states.now) 0 (length code.now.body.now.units)) }
+    requires count { length rows.now ≡ length code.now.body.now.units }
+    requires fit { AllFit (fits_at image.now (code_of code.now)) (assigned (alone rows.now)) }
+    ensures { IfOk result (λ v. v.items ≡ faults_from image.now (code_of code.now) (assigned (alone rows.now)) 0 (length code.now.body.now.units)) }
 {
     let mut faults = Vec::new(alloc);
     for at in 0..units_of(code).len() {
-        let rule = rule_at(image, code, at as u32, &states[at]);
+        let state = state_of(alloc, &rows[at])?;
+        let rule = rule_at(image, code, at as u32, &state);
         push_fault(code.method.id, at as u32, rule, &mut faults)?;
     }
     Ok(faults)

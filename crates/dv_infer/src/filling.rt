@@ -10,7 +10,7 @@ ghost use Rattle.dv_plan.specs.Marks.{before_by};
 ghost use Rattle.dv_plan.specs.Plans.{IsPlan};
 ghost use Rattle.dv_infer.specs.Filling.{FitsAll, IsFilledAt, IsRowAfter};
 
-use crate::onward::{after_step, before, copy_of};
+use crate::onward::{after_step, before};
 use dv_bases::Bases;
 use dv_ops::{Coded, units_of};
 use dv_plan::Plan;
@@ -81,7 +81,7 @@ fn row_after<'a>(
 {
     match row {
         Some(row) => {
-            let before = copy_of(bases, row.words())?;
+            let before = row.words().copy()?;
             let words = after_step(bases, code, plan, at, before)?;
             Ok(Some(Row::new(bases, table, words)))
         }

@@ -5,13 +5,13 @@ ghost use Rattle.dv_ops.specs.Meaning.{code_of};
 ghost use Rattle.dv_plan.specs.Plans.{IsPlan};
 
 use crate::leap::leap;
-use crate::onward::{copy_of, onward, place_count};
+use crate::onward::{onward, place_count};
 use crate::work::{patience, work_at};
 use dv_bases::Bases;
 use dv_ops::Coded;
 use dv_plan::Plan;
 use dv_types::{ClassTable, Row};
-use dv_worklist::{Flow, Onward};
+use dv_worklist::{Flow, Onwards};
 use std::alloc::{AllocError, Global};
 use std::marker::Model;
 
@@ -90,14 +90,18 @@ impl<'a> Flow for MethodFlow<'a> {
 
     fn entry(&self) -> Result<Row<'a>, AllocError> {
         let plan = self.plan;
-        let entry = copy_of(self.bases, &plan.entry)?;
+        let entry = plan.entry.copy()?;
         Ok(Row::new(self.bases, self.table, entry))
     }
 
-    fn onward(&self, place: usize, row: &Row<'a>) -> Result<Vec<Onward<Row<'a>>>, AllocError> {
+    fn onward(&self, place: usize, row: &Row<'a>) -> Result<Onwards<Row<'a>>, AllocError> {
         onward(
             self.alloc, self.bases, self.table, self.code, self.plan, place, row,
         )
+    }
+
+    fn copy(&self, row: &Row<'a>) -> Result<Row<'a>, AllocError> {
+        row.copy()
     }
 
     fn raise(&self, _place: usize, row: &mut Row<'a>, by: &Row<'a>) -> Result<bool, AllocError> {

@@ -8,7 +8,6 @@ ghost use Rattle.dv_bases.specs.Words.{part_in};
 ghost use Rattle.dv_plan.specs.Plans.{IsPlan};
 ghost use Rattle.dv_infer.specs.Leaps.{HasClass, IsLeap, IsWithoutClass, is_class as says_class, with_conflict as conflict_in};
 
-use crate::onward::copy_of;
 use crate::work::patience;
 use dv_bases::{Bases, Part, Words, part_of, word_of};
 use dv_levels::holds_no_class;
@@ -37,7 +36,7 @@ pub fn leap<'a>(
     ensures { IfOk result (λ more. IfSome more (IsLeap bases.now (code_of code.now) place row.now)) }
 {
     let words = row.words();
-    let mut risen = Row::new(bases, table, copy_of(bases, words)?);
+    let mut risen = row.copy()?;
     risen.raise(by);
     match register_without_class(alloc, bases, code, plan, place, words, risen.words())? {
         Some(register) => {

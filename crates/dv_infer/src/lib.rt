@@ -9,6 +9,7 @@ mod leap;
 mod method;
 mod onward;
 mod receivers;
+mod states;
 mod work;
 
 pub use errors::InferError;

@@ -17,6 +17,7 @@ use crate::errors::InferError;
 use crate::faults::typing_faults;
 use crate::filling::fill;
 use crate::flow::MethodFlow;
+use crate::states::states_of;
 use crate::work::lengths_of;
 use dv_bases::Bases;
 use dv_defs::{Image, MethodId, Seq};
@@ -25,7 +26,6 @@ use dv_plan::{Plan, plan_of};
 use dv_rules::Map;
 use dv_static::static_faults;
 use dv_types::{ClassTable, Row};
-use dv_typing::RegState;
 use dv_worklist::least;
 use std::alloc::{AllocError, Global};
 
@@ -96,7 +96,7 @@ fn judge_unbroken(
     judge(alloc, image, table, &code)
 }
 
-/// The same by the least assignment.
+/// The same by the method's plan, which is made for it.
 fn judge(
     alloc: Global,
     image: &Image,
@@ -108,75 +108,55 @@ fn judge(
     ensures typing { IfOk result (IsJudged image.now (code_of code.now)) }
     ensures faults { IfFaults result (AreJudged image.now (code_of code.now)) }
 {
-    let states = least_states(alloc, image, table, code)?;
-    let faults = typing_faults(alloc, image, code, &states)?;
-    if faults.is_empty() {
-        Ok(Map {
-            states: Seq::of(states),
-        })
-    } else {
-        Err(InferError::Faults(Seq::of(faults)))
-    }
-}
-
-/// The states of the least assignment, by address.
-fn least_states(
-    alloc: Global,
-    image: &Image,
-    table: &ClassTable<'_>,
-    code: &Coded<'_>,
-) -> Result<Vec<Option<RegState>>, AllocError>
-    requires table { table.now ≡ image.now }
-    requires ready { IsReady image.now (code_of code.now) }
-    ensures count { IfOk result (λ v. length v.items ≡ length code.now.body.now.units) }
-    ensures fit { IfOk result (λ v. AllFit (fits_at image.now (code_of code.now)) (assigned v.items)) }
-    ensures least { IfOk result (λ v. worklist.IsLeast (flow_of image.now (code_of code.now)) (assigned v.items)) }
-{
     let mut bases = Bases::new(alloc, image)?;
     let plan = plan_of(alloc, &mut bases, image, code)?;
-    least_by(alloc, table, &bases, code, &plan)
+    judge_by(alloc, image, table, &bases, code, &plan)
 }
 
-/// The same by the method's plan.
-fn least_by(
+/// The same by the least assignment.
+fn judge_by(
     alloc: Global,
+    image: &Image,
     table: &ClassTable<'_>,
     bases: &Bases<'_>,
     code: &Coded<'_>,
     plan: &Plan,
-) -> Result<Vec<Option<RegState>>, AllocError>
+) -> Result<Map, InferError>
+    requires image { image.now ≡ bases.now.image }
     requires table { table.now ≡ bases.now.image }
     requires ready { IsReady bases.now.image (code_of code.now) }
     requires plan { IsPlan bases.now.image bases.now (code_of code.now) plan.now }
-    ensures count { IfOk result (λ v. length v.items ≡ length code.now.body.now.units) }
-    ensures fit { IfOk result (λ v. AllFit (fits_at bases.now.image (code_of code.now)) (assigned v.items)) }
-    ensures least { IfOk result (λ v. worklist.IsLeast (flow_of bases.now.image (code_of code.now)) (assigned v.items)) }
+    ensures typing { IfOk result (IsJudged image.now (code_of code.now)) }
+    ensures faults { IfFaults result (AreJudged image.now (code_of code.now)) }
 {
     let lengths = lengths_of(alloc, plan)?;
     let flow = MethodFlow::new(alloc, bases, table, code, plan, &lengths);
     let mut rows = least(&flow, alloc)?;
     fill(bases, table, code, plan, &mut rows)?;
     rows.truncate(units_of(code).len());
-    states_of(alloc, rows)
+    judge_rows(alloc, image, code, rows)
 }
 
-/// The states that rows say. Each row is dropped when its state is made.
-fn states_of(alloc: Global, rows: Vec<Option<Row<'_>>>) -> Result<Vec<Option<RegState>>, AllocError>
-    ensures { IfOk result (λ v. v.items ≡ alone rows.entry.items) }
+/// The same by the rows of the least assignment: their states are made where none has a fault.
+fn judge_rows(
+    alloc: Global,
+    image: &Image,
+    code: &Coded<'_>,
+    rows: Vec<Option<Row<'_>>>,
+) -> Result<Map, InferError>
+    requires ready { IsReady image.now (code_of code.now) }
+    requires count { length rows.items ≡ length code.now.body.now.units }
+    requires fit { AllFit (fits_at image.now (code_of code.now)) (assigned (alone rows.items)) }
+    requires least { worklist.IsLeast (flow_of image.now (code_of code.now)) (assigned (alone rows.items)) }
+    ensures typing { IfOk result (IsJudged image.now (code_of code.now)) }
+    ensures faults { IfFaults result (AreJudged image.now (code_of code.now)) }
 {
-    let mut states = Vec::with_capacity(alloc, rows.len())?;
-    for row in rows {
-        states.push(state_of(alloc, row)?)?;
-    }
-    Ok(states)
-}
-
-/// The state that a row says, where there is one.
-fn state_of(alloc: Global, row: Option<Row<'_>>) -> Result<Option<RegState>, AllocError>
-    ensures { IfOk result (λ s. s ≡ option_map (λ r. r.state) row.entry) }
-{
-    match row {
-        Some(row) => Ok(Some(row.state(alloc)?)),
-        None => Ok(None),
+    let faults = typing_faults(alloc, image, code, &rows)?;
+    if faults.is_empty() {
+        Ok(Map {
+            states: Seq::of(states_of(alloc, rows)?),
+        })
+    } else {
+        Err(InferError::Faults(Seq::of(faults)))
     }
 }

@@ -21,7 +21,7 @@ use dv_effects::{Step, after, caught};
 use dv_ops::{Coded, units_of};
 use dv_plan::{Hop, Mark, Plan, Ways};
 use dv_types::{ClassTable, Row};
-use dv_worklist::Onward;
+use dv_worklist::Onwards;
 use std::alloc::{AllocError, Global};
 
 /// What goes on from a place with a state: from an instruction, or from a try entry, whose places are behind those of the units.
@@ -33,12 +33,12 @@ pub fn onward<'a>(
     plan: &Plan,
     place: usize,
     row: &Row<'a>,
-) -> Result<Vec<Onward<Row<'a>>>, AllocError>
+) -> Result<Onwards<Row<'a>>, AllocError>
     requires ready { IsReady bases.now.image (code_of code.now) }
     requires table { table.now ≡ bases.now.image }
     requires plan { IsPlan bases.now.image bases.now (code_of code.now) plan.now }
     requires fits { fits_beside bases.now (fits_gathered bases.now.image (code_of code.now)) place row.now }
-    ensures { IfOk result (λ v. v.items ≡ map (onward_kept row.now.beside) (onward_blocks bases.now.image (code_of code.now) (before_by plan.now.marks.items) place row.now.state)) }
+    ensures { IfOk result (λ onwards. onwards ≡ map (onward_kept row.now.beside) (onward_blocks bases.now.image (code_of code.now) (before_by plan.now.marks.items) place row.now.state)) }
 {
     let words = row.words();
     let count = units_of(code).len();
@@ -60,18 +60,18 @@ fn onward_through<'a>(
     plan: &Plan,
     place: usize,
     words: &Words,
-) -> Result<Vec<Onward<Row<'a>>>, AllocError>
+) -> Result<Onwards<Row<'a>>, AllocError>
     requires ready { IsReady bases.now.image (code_of code.now) }
     requires table { table.now ≡ bases.now.image }
     requires plan { IsPlan bases.now.image bases.now (code_of code.now) plan.now }
     requires place { place < length code.now.body.now.units }
     requires words { AreWords bases.now words.now }
     requires fits { fits_at bases.now.image (code_of code.now) place (state_of bases.now words.now) }
-    ensures { IfOk result (λ v. v.items ≡ map (onward_kept bases.now) (onward_through bases.now.image (code_of code.now) (before_by plan.now.marks.items) (addresses (code_of code.now)) place (state_of bases.now words.now))) }
+    ensures { IfOk result (λ onwards. onwards ≡ map (onward_kept bases.now) (onward_through bases.now.image (code_of code.now) (before_by plan.now.marks.items) (addresses (code_of code.now)) place (state_of bases.now words.now))) }
 {
-    let mut onwards = Vec::new(alloc);
+    let mut onwards = Onwards::none(alloc);
     let mut at = place;
-    let mut words = copy_of(bases, words)?;
+    let mut words = words.copy()?;
     loop {
         let ways = ways_at(plan, at);
         let targets = ways.targets.items();
@@ -172,47 +172,19 @@ pub fn after_step(
     after(plan.own, plan.steps.as_slice(), &step, words)
 }
 
-/// A copy of words.
-pub fn copy_of(bases: &Bases<'_>, words: &Words) -> Result<Words, AllocError>
-    requires { AreWords bases.now words.now }
-    ensures words { IfOk result (AreWords bases.now) }
-    ensures state { IfOk result (λ w. state_of bases.now w ≡ state_of bases.now words.now) }
-{
-    Ok(Words {
-        regs: words.regs.clone()?,
-        result: words.result,
-        caught: words.caught,
-        this_pending: words.this_pending,
-    })
-}
-
-/// Adds what goes on to targets: the first of them take copies, and the last the words themselves.
+/// Adds what goes on to targets.
 fn push_targets<'a>(
     bases: &'a Bases<'a>,
     table: &'a ClassTable<'a>,
     words: Words,
     targets: &[u32],
-    onwards: &mut Vec<Onward<Row<'a>>>,
+    onwards: &mut Onwards<Row<'a>>,
 ) -> Result<(), AllocError>
     requires table { table.now ≡ bases.now.image }
     requires words { AreWords bases.now words }
-    ensures { OnOk result (onwards.new.items ≡ onwards.old.items ++ map (to_target bases.now (state_of bases.now words)) targets.now) }
+    ensures { OnOk result (onwards.new ≡ onwards.old ++ map (to_target bases.now (state_of bases.now words)) targets.now) }
 {
-    if targets.is_empty() {
-        return Ok(());
-    }
-    let last = targets.len() - 1;
-    for i in 0..last {
-        onwards.push(Onward {
-            to: targets[i] as usize,
-            state: Row::new(bases, table, copy_of(bases, &words)?),
-        })?;
-    }
-    onwards.push(Onward {
-        to: targets[last] as usize,
-        state: Row::new(bases, table, words),
-    })?;
-    Ok(())
+    onwards.push_all(targets, Row::new(bases, table, words))
 }
 
 /// Adds what goes on to the try entry that covers an instruction, where one does.
@@ -222,18 +194,16 @@ fn push_entry<'a>(
     code: &Coded<'_>,
     words: &Words,
     covering: Option<usize>,
-    onwards: &mut Vec<Onward<Row<'a>>>,
+    onwards: &mut Onwards<Row<'a>>,
 ) -> Result<(), AllocError>
     requires table { table.now ≡ bases.now.image }
     requires words { AreWords bases.now words.now }
     requires inside { IfSome covering (λ entry. entry < length code.now.body.now.tries) }
-    ensures { OnOk result (onwards.new.items ≡ onwards.old.items ++ map (onward_kept bases.now) (hands_on (code_of code.now) (state_of bases.now words.now) covering)) }
+    ensures { OnOk result (onwards.new ≡ onwards.old ++ map (onward_kept bases.now) (hands_on (code_of code.now) (state_of bases.now words.now) covering)) }
 {
     if let Some(entry) = covering {
-        onwards.push(Onward {
-            to: place_of(code, entry),
-            state: Row::new(bases, table, handed(bases, words)?),
-        })?;
+        let row = Row::new(bases, table, handed(bases, words)?);
+        onwards.push(place_of(code, entry), row)?;
     }
     Ok(())
 }
@@ -278,19 +248,16 @@ fn to_handlers<'a>(
     table: &'a ClassTable<'a>,
     words: &Words,
     hops: &[Hop],
-) -> Result<Vec<Onward<Row<'a>>>, AllocError>
+) -> Result<Onwards<Row<'a>>, AllocError>
     requires table { table.now ≡ bases.now.image }
     requires words { AreWords bases.now words.now }
     requires hops { All (λ h. IsNumbered bases.now h.caught) hops.now }
-    ensures { IfOk result (λ v. v.items ≡ map (to_handler bases.now (state_of bases.now words.now)) hops.now) }
+    ensures { IfOk result (λ onwards. onwards ≡ map (to_handler bases.now (state_of bases.now words.now)) hops.now) }
 {
-    let mut onwards = Vec::with_capacity(alloc, hops.len())?;
+    let mut onwards = Onwards::none(alloc);
     for hop in hops {
-        let state = Row::new(bases, table, caught(words, hop.caught)?);
-        onwards.push(Onward {
-            to: hop.to as usize,
-            state,
-        })?;
+        let row = Row::new(bases, table, caught(words, hop.caught)?);
+        onwards.push(hop.to as usize, row)?;
     }
     Ok(onwards)
 }

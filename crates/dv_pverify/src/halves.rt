@@ -12,6 +12,10 @@ use dv_types::ClassTable;
 use std::alloc::{AllocError, Global};
 use std::thread::{Threads, join};
 
+/// How much work is gone about at the same time, in the measure of `Work`: that of four methods as large as methods may be. What is kept of a method
+/// while it is judged grows with its work.
+const ROOM: u64 = 4 * (256 * 16_384 + 1);
+
 /// Judges ranges of an image's methods. The halves know it by this trait alone: of a closure that holds what borrows a borrower no contract speaks.
 trait Judging {
     ghost image: { Self → images.Image };
@@ -71,7 +75,7 @@ pub fn judge_all<R: Threads + Sync, G: Gate + Sync>(
         gate,
     };
     let few = work.of(0, count) / 8;
-    judge_part(rt, &judge, few, 0, count)
+    judge_part(rt, &judge, few, ROOM, 0, count)
 }
 
 /// How many of so many methods from one on are about half of their work: some, but not all.
@@ -88,11 +92,22 @@ fn half_of<J: Judging>(judge: &J, from: u32, count: u32) -> u32
     count - 1
 }
 
-/// Judges so many methods from one on, by halves where they are more than one and more work than a little.
+/// The work of the largest of so many methods from one on.
+fn largest_of<J: Judging>(judge: &J, from: u32, count: u32) -> u64 {
+    let mut largest = 0;
+    for before in 0..count {
+        largest = judge.work(from.saturating_add(before), 1).max(largest);
+    }
+    largest
+}
+
+/// Judges so many methods from one on: by halves where they are more than one and more work than a little, and where there is room for the largest of
+/// both halves at the same time.
 fn judge_part<R: Threads + Sync, J: Judging + Sync>(
     rt: &R,
     judge: &J,
     few: u64,
+    room: u64,
     from: u32,
     count: u32,
 ) -> Result<Judged, AllocError>
@@ -107,6 +122,13 @@ fn judge_part<R: Threads + Sync, J: Judging + Sync>(
     let less = half_of(judge, from, count);
     let rest = count - less;
     let middle = from + less;
+    let largest = largest_of(judge, from, less);
+    let largest_then = largest_of(judge, middle, rest);
+    let both = largest.saturating_add(largest_then);
+    if both > room {
+        return judge.judge_range(from, count);
+    }
+    let share = (room - both) / 2;
     let (first, then) = join(
         rt,
         || -> Result<Judged, AllocError>
@@ -115,14 +137,14 @@ fn judge_part<R: Threads + Sync, J: Judging + Sync>(
             requires fits { from + less < 2 ^ 32 }
             ensures judged { IfOk result (λ j. AreJudged (J.image judge.entry.now) from j.maps.items j.faults.items) }
             ensures count { IfOk result (λ j. length j.maps.items ≡ less) }
-        { judge_part(rt, judge, few, from, less) },
+        { judge_part(rt, judge, few, largest.saturating_add(share), from, less) },
         || -> Result<Judged, AllocError>
             requires sync { IsSync R.row × IsSync J.row }
             requires range { middle + rest ≤ length (J.image judge.now).methods }
             requires fits { middle + rest < 2 ^ 32 }
             ensures judged { IfOk result (λ j. AreJudged (J.image judge.entry.now) middle j.maps.items j.faults.items) }
             ensures count { IfOk result (λ j. length j.maps.items ≡ rest) }
-        { judge_part(rt, judge, few, middle, rest) },
+        { judge_part(rt, judge, few, largest_then.saturating_add(share), middle, rest) },
     );
     let mut all = first?;
     let then = then?;

@@ -76,16 +76,16 @@ text_read (Some (cmd.Demo number classes threads workers)) reads held = absurd r
 
 -- ---- runs that are asked for
 
-abbrev of_class : List ℕ → Option ℕ → Limits → Closing → Option RunAsked
-of_class class seed limits behind = Some (record { class = class; seed = seed; limits = limits; behind = behind })
+abbrev of_class : List ℕ → ℕ → Option ℕ → Limits → Closing → Option RunAsked
+of_class class workers seed limits behind = Some (record { class = class; workers = workers; seed = seed; limits = limits; behind = behind })
 
 -- what the words of a run ask for
-pub asks_run : (asked : Option Cmd) (class : List ℕ) (workers : ℕ) (seed : Option ℕ) (limits : Limits) (shown : Bool) (behind : Closing) → asked ≡ Some (cmd.Run class workers seed limits shown) → behind ≡ closing_of shown → run_asked asked ≡ of_class class seed limits behind
-asks_run asked class workers seed limits shown behind is by = ap run_asked is ∙ ap (of_class class seed limits) (sym by)
+pub asks_run : (asked : Option Cmd) (class : List ℕ) (workers : ℕ) (seed : Option ℕ) (limits : Limits) (shown : Bool) (behind : Closing) → asked ≡ Some (cmd.Run class workers seed limits shown) → behind ≡ closing_of shown → run_asked asked ≡ of_class class workers seed limits behind
+asks_run asked class workers seed limits shown behind is by = ap run_asked is ∙ ap (of_class class workers seed limits) (sym by)
 
 -- ... and those of a demo
-pub asks_demo : (asked : Option Cmd) (number classes threads workers : ℕ) (limits : Limits) → asked ≡ Some (cmd.Demo number classes threads workers) → limits ≡ limits_of None None → run_asked asked ≡ of_class demo_class None limits (closing.Demo classes threads)
-asks_demo asked number classes threads workers limits is by = ap run_asked is ∙ ap (λ l. of_class demo_class None l (closing.Demo classes threads)) (sym by)
+pub asks_demo : (asked : Option Cmd) (number classes threads workers : ℕ) (limits : Limits) → asked ≡ Some (cmd.Demo number classes threads workers) → limits ≡ limits_of None None → run_asked asked ≡ of_class demo_class workers None limits (closing.Demo classes threads)
+asks_demo asked number classes threads workers limits is by = ap run_asked is ∙ ap (λ l. of_class demo_class workers None l (closing.Demo classes threads)) (sym by)
 
 pub run_some : (asked : Option Cmd) (r : RunAsked) → run_asked asked ≡ Some r → asked ≡ None → ⊥
 run_some None r is none = absurd (cc)
@@ -94,7 +94,7 @@ run_some (Some c) r is none = absurd (cc)
 pub run_by_workers : (asked : Option Cmd) (r : RunAsked) → run_asked asked ≡ Some r → r.seed ≡ None → IsByWorkers asked
 run_by_workers None r is none = absurd (cc)
 run_by_workers (Some (cmd.Run class workers (Some seed) limits shown)) r is none =
-    let same : record { class = class; seed = Some seed; limits = limits; behind = closing_of shown } ≡ r = cc in
+    let same : record { class = class; workers = workers; seed = Some seed; limits = limits; behind = closing_of shown } ≡ r = cc in
     let some : Some seed ≡ r.seed = ap (λ (x : RunAsked). x.seed) same in
     absurd (cc)
 run_by_workers (Some (cmd.Run class workers None limits shown)) r is none = tt

@@ -109,6 +109,9 @@ pub record IsAnswer
   pub usage : status ≡ code_of exit.Usage → (asked ≡ None) × (taken sink_after ≡ after_write usage (taken sink))
   -- where the source isn't to be read, nothing is taken from it, and no read failed
   pub source_left : (ReadsSource asked → ⊥) → (source_after ≡ source) × (status ≢ code_of exit.ReadFault)
+  -- else it is read to its end, or to one byte past the limit
+  pub source_read : ReadsSource asked → status ≢ code_of exit.ReadFault → status ≢ code_of exit.NoMemory
+      → left source_after ≡ after_taking (text_limit + 1) (left source)
   -- a read failed, and nothing was written
   pub read_fault : status ≡ code_of exit.ReadFault
       → HasRisen (read_faults source) (read_faults source_after) × (taken sink_after ≡ taken sink)
@@ -121,9 +124,6 @@ pub record IsAnswer
       → IsPartOfRun asked bytes log (taken sink) (taken sink_after)
   -- what the sink holds beyond what it held was taken in this call
   pub took : HasTaken (taken sink) (taken sink_after)
-  -- else it is read to its end, or to one byte past the limit
-  pub source_read : ReadsSource asked → status ≢ code_of exit.ReadFault → status ≢ code_of exit.NoMemory
-      → left source_after ≡ after_taking (text_limit + 1) (left source)
   -- each other status, and all that the sink took, are what is said of what is asked for, the bytes and the log
   pub said : (bytes : List ℕ) → text_asked asked (left source) ≡ Some bytes → IsTold status → IsPrinted asked bytes log status (taken sink) (taken sink_after)
   -- a sink that failed took a front of what is said; one that failed while workers ran, a front of what the guest printed until then

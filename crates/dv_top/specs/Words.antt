@@ -32,9 +32,10 @@ text_asked asked held = held
 
 -- ---- runs that are asked for
 
--- a class is to be run: by the turns of a seed or else by those of workers, within limits, with this behind its final text
+-- a class is to be run: by the turns of a seed or else by those of so many workers, within limits, with this behind its final text
 pub record RunAsked : Type 0 where
   pub class : List ℕ
+  pub workers : ℕ
   pub seed : Option ℕ
   pub limits : Limits
   pub behind : Closing
@@ -51,9 +52,9 @@ demo_class = codes "LMain;"
 -- a demo is run as any text is, by workers and within the limits that stand where no words set any
 abbrev pub run_asked : Option Cmd → Option RunAsked
 run_asked (Some (cmd.Run class workers seed limits shown)) =
-    Some (record { class = class; seed = seed; limits = limits; behind = closing_of shown })
+    Some (record { class = class; workers = workers; seed = seed; limits = limits; behind = closing_of shown })
 run_asked (Some (cmd.Demo number classes threads workers)) =
-    Some (record { class = demo_class; seed = None; limits = limits_of None None; behind = closing.Demo classes threads })
+    Some (record { class = demo_class; workers = workers; seed = None; limits = limits_of None None; behind = closing.Demo classes threads })
 run_asked other = None
 
 -- the class that is run

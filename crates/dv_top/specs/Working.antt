@@ -50,9 +50,9 @@ pub data IsWorked
 
 -- ---- runs by workers
 
--- of a class, within limits and with this behind the final text
+-- of a class, by so many workers, within limits and with this behind the final text
 abbrev pub by_workers : List ℕ → Working → RunAsked
-by_workers class how = record { class = class; seed = None; limits = how.limits; behind = how.behind }
+by_workers class how = record { class = class; workers = how.workers; seed = None; limits = how.limits; behind = how.behind }
 
 -- the main method of an accepted image is run
 pub record IsRunOfMain

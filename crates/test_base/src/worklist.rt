@@ -1,8 +1,8 @@
 //! A flow of numbers whose least closed assignment was worked out by hand.
-ghost use Rattle.std.specs.Prelude.{◌≡◌};
+ghost use Rattle.std.specs.Prelude.{◌≡◌, ◌++◌, OnOk, map};
 ghost use Rattle.test_base.specs.Numbers.{brought};
 
-use dv_worklist::{Flow, Onward, least};
+use dv_worklist::{Flow, Onwards, least};
 use std::alloc::{AllocError, Global};
 use std::test::Fail;
 
@@ -12,14 +12,16 @@ struct Numbers {
     alloc: Global,
 }
 
-// What a number brings by a way.
-fn brought(number: u8, to: usize, at_least: u8) -> Onward<u8>
-    ensures { result ≡ brought number (to, at_least) }
+// What a number brings to each of some places.
+fn brings(
+    onwards: &mut Onwards<u8>,
+    number: u8,
+    places: &[u32],
+    at_least: u8,
+) -> Result<(), AllocError>
+    ensures { OnOk result (onwards.new ≡ onwards.old ++ map (λ to. brought number (to, at_least)) places.now) }
 {
-    Onward {
-        to,
-        state: number.max(at_least),
-    }
+    onwards.push_all(places, number.max(at_least))
 }
 
 impl Flow for Numbers {
@@ -43,15 +45,21 @@ impl Flow for Numbers {
         Ok(0)
     }
 
-    fn onward(&self, place: usize, number: &u8) -> Result<Vec<Onward<u8>>, AllocError> {
+    fn onward(&self, place: usize, number: &u8) -> Result<Onwards<u8>, AllocError> {
+        let mut onwards = Onwards::none(self.alloc);
         match place {
-            0 => Ok(vec![in self.alloc; brought(*number, 1, 0), brought(*number, 3, 0)]?),
-            1 => Ok(vec![in self.alloc; brought(*number, 2, 1)]?),
-            2 => Ok(vec![in self.alloc; brought(*number, 1, 0), brought(*number, 4, 0)]?),
-            3 => Ok(vec![in self.alloc; brought(*number, 4, 2)]?),
-            5 => Ok(vec![in self.alloc; brought(*number, 4, 3)]?),
-            _ => Ok(Vec::new(self.alloc)),
+            0 => brings(&mut onwards, *number, &[1, 3], 0)?,
+            1 => onwards.push(2, (*number).max(1))?,
+            2 => brings(&mut onwards, *number, &[1, 4], 0)?,
+            3 => onwards.push(4, (*number).max(2))?,
+            5 => onwards.push(4, (*number).max(3))?,
+            _ => {}
         }
+        Ok(onwards)
+    }
+
+    fn copy(&self, number: &u8) -> Result<u8, AllocError> {
+        Ok(*number)
     }
 
     fn raise(&self, _place: usize, number: &mut u8, by: &u8) -> Result<bool, AllocError> {

@@ -21,7 +21,7 @@ after_step-requires-clause-fits c =
     let r = c.in-Some.row in
     let fits : fits_beside names (fits_gathered names.image code) c.args.at r = subst (λ (o : Option (Kept RegState Names)). IfSome o (fits_beside names (fits_gathered names.image code) c.args.at)) c.in-Some.is c.requires.fits in
     let before = c.in_ok-before-in-Some.before in
-    let same : state_of names before ≡ r.state = c.in_ok-before-in-Some.ensures.state ∙ (ap (λ (n : Names). state_of n c.words.result.now) (sym fits.0) ∙ c.words.ensures.state) in
+    let same : state_of names before ≡ r.state = c.in_ok-before-in-Some.ensures.state names ∙ (ap (λ (n : Names). state_of n c.words.result.now) (sym fits.0) ∙ c.words.ensures.state) in
     fits_here names.image code c.args.at r.state (state_of names before) c.requires.at same fits.1
 
 pub returns-in_ok-words-in-Some : goal.returns-in_ok-words-in-Some
@@ -33,7 +33,7 @@ returns-in_ok-words-in-Some c =
     let r = c.in-Some.row in
     let fits : fits_beside names (fits_gathered image code) at r = subst (λ (o : Option (Kept RegState Names)). IfSome o (fits_beside names (fits_gathered image code) at)) c.in-Some.is c.requires.fits in
     let before = c.in_ok-before-in-Some.before in
-    let same : state_of names before ≡ r.state = c.in_ok-before-in-Some.ensures.state ∙ (ap (λ (n : Names). state_of n c.words.result.now) (sym fits.0) ∙ c.words.ensures.state) in
+    let same : state_of names before ≡ r.state = c.in_ok-before-in-Some.ensures.state names ∙ (ap (λ (n : Names). state_of n c.words.result.now) (sym fits.0) ∙ c.words.ensures.state) in
     let here = fits_here image code at r.state (state_of names before) c.requires.at same fits.1 in
     let insn = c.requires.ready.clean.each at here.0 in
     let x = insn.0 in

@@ -38,8 +38,8 @@ returns-then-place-count c =
     let t = state_of names c.words-words.result.now in
     let within : place < addresses code = omega (arith, c.if-place-count.true, ap length c.units_of-count.ensures.units) in
     let same : t ≡ c.args.row.now.state = ap (λ (n : Names). state_of n c.words-words.result.now) (sym c.requires.fits.0) ∙ c.words-words.ensures.state in
-    IfOk-weaker c.onward_through.result (λ v. v.items ≡ map (onward_kept names) (onward_through names.image code before (addresses code) place t))
-    (λ v. v.items ≡ map (onward_kept c.args.row.now.beside) (onward_blocks names.image code before place c.args.row.now.state))
+    IfOk-weaker c.onward_through.result (λ v. v ≡ map (onward_kept names) (onward_through names.image code before (addresses code) place t))
+    (λ v. v ≡ map (onward_kept c.args.row.now.beside) (onward_blocks names.image code before place c.args.row.now.state))
     (λ v is. is ∙ from_insn names c.args.row.now.beside code before place c.args.row.now.state t (sym c.requires.fits.0) same within)
     c.onward_through.ensures
 
@@ -59,8 +59,8 @@ returns-else-place-count c =
     let lead : LeadTo names hops (map handler_edge (catchers_of code.body (slice_get code.body.tries entry))) =
     subst (λ (hs : List Hop). LeadTo names hs (map handler_edge (catchers_of code.body (slice_get code.body.tries entry)))) (sym here)
     (leads_by names code.body c.args.plan.now.hops.items c.requires.plan.hops entry) in
-    IfOk-weaker c.to_handlers.result (λ v. v.items ≡ map (to_handler names t) hops)
-    (λ v. v.items ≡ map (onward_kept c.args.row.now.beside) (onward_blocks names.image code before place c.args.row.now.state))
+    IfOk-weaker c.to_handlers.result (λ v. v ≡ map (to_handler names t) hops)
+    (λ v. v ≡ map (onward_kept c.args.row.now.beside) (onward_blocks names.image code before place c.args.row.now.state))
     (λ v is. is ∙ (kept_caught names t hops (catchers_of code.body (slice_get code.body.tries entry)) lead ∙
     from_entry names c.args.row.now.beside code before place c.args.row.now.state t (sym c.requires.fits.0) same past))
     c.to_handlers.ensures

@@ -26,14 +26,14 @@ loop-words-init c =
     let names = c.args.bases.now in
     let code = code_of c.args.code.now in
     let marks = c.args.plan.now.marks.items in
-    let same : state_of names c.in_ok-words.words ≡ state_of names c.args.words.now = c.in_ok-words.ensures.state in
-    let none : c.new-onwards.result.items ≡ [] = c.new-onwards.ensures.items in
+    let same : state_of names c.in_ok-words.words ≡ state_of names c.args.words.now = c.in_ok-words.ensures.state names in
+    let none : c.none-onwards.result ≡ [] = c.none-onwards.ensures in
     let gone : RegState → Gone = λ s. map (onward_kept names) (onward_through names.image code (before_by marks) (addresses code) c.args.place s) in
     record {
       left = addresses code;
       room = omega arith;
       inside = c.requires.place;
-      are = c.in_ok-words.ensures.words;
+      are = c.in_ok-words.ensures.words names c.requires.words;
       fits = subst (λ (s : RegState). fits_at names.image code c.args.place s) (sym same) c.requires.fits;
       done = ap gone (sym same) ∙ sym (ap (λ (os : Gone). os ++ gone (state_of names c.in_ok-words.words)) none);
     }
@@ -89,8 +89,8 @@ loop-words-preserved c =
     let left : ℕ = inv.left - 1 in
     let count : inv.left ≡ suc left = omega (arith, inv.room, inv.inside) in
     let whole : Gone = map (onward_kept names) (onward_through names.image code (before_by marks) (addresses code) c.args.place (state_of names c.args.words.now)) in
-    let done : Gone = c.loop-words.onwards.items in
-    let handed : Gone = c.push_entry.new.onwards.items in
+    let done : Gone = c.loop-words.onwards in
+    let handed : Gone = c.push_entry.new.onwards in
     let so_far : whole ≡ done ++ map (onward_kept names) (onward_through names.image code (before_by marks) (suc left) at s) =
     subst (λ (n : ℕ). whole ≡ done ++ map (onward_kept names) (onward_through names.image code (before_by marks) n at s)) count inv.done in
     let some : follows_in marks w.targets at ≡ Some c.in-Some.next = sym (c.in-Some.ensures ∙ ap (λ ts. follows_in marks ts at) c.items-targets.ensures) in
@@ -122,11 +122,11 @@ returns-in-None c =
     let left : ℕ = inv.left - 1 in
     let count : inv.left ≡ suc left = omega (arith, inv.room, inv.inside) in
     let whole : Gone = map (onward_kept names) (onward_through names.image code (before_by marks) (addresses code) c.args.place (state_of names c.args.words.now)) in
-    let done : Gone = c.loop-words.onwards.items in
-    let handed : Gone = c.push_entry.new.onwards.items in
+    let done : Gone = c.loop-words.onwards in
+    let handed : Gone = c.push_entry.new.onwards in
     let so_far : whole ≡ done ++ map (onward_kept names) (onward_through names.image code (before_by marks) (suc left) at s) =
     subst (λ (n : ℕ). whole ≡ done ++ map (onward_kept names) (onward_through names.image code (before_by marks) n at s)) count inv.done in
     let none : follows_in marks w.targets at ≡ None = sym (c.in-None.ensures ∙ ap (λ ts. follows_in marks ts at) c.items-targets.ensures) in
-    let all : Gone = c.push_targets.new.onwards.items in
+    let all : Gone = c.push_targets.new.onwards in
     let pushed : all ≡ handed ++ map (to_target names after) w.targets = c.in_ok-push_targets-in-None.ensures ∙ ap (λ ts. handed ++ map (to_target names after) ts) c.items-targets.ensures in
     sym (ends_here names code marks c.requires.plan.before at x w insn.1.fetched is left s after a whole done handed so_far c.in_ok-push_entry.ensures all none pushed)

@@ -17,7 +17,7 @@ invariant-loop-words l =
       are : AreWords l.bases l.words;
       fits : fits_at l.bases.image (code_of l.code) l.at (state_of l.bases l.words);
       done : map (onward_kept l.bases) (onward_through l.bases.image (code_of l.code) (before_by l.plan.marks.items) (addresses (code_of l.code)) l.fn.place (state_of l.bases l.fn.words)) ≡
-          l.onwards.items ++ map (onward_kept l.bases) (onward_through l.bases.image (code_of l.code) (before_by l.plan.marks.items) left l.at (state_of l.bases l.words));
+          l.onwards ++ map (onward_kept l.bases) (onward_through l.bases.image (code_of l.code) (before_by l.plan.marks.items) left l.at (state_of l.bases l.words));
     }
 
 abbrev pub decreases-loop-words : goal.decreases-loop-words
