@@ -128,7 +128,8 @@ fn judge_part<R: Threads + Sync, J: Judging + Sync>(
     if both > room {
         return judge.judge_range(from, count);
     }
-    let share = (room - both) / 2;
+    let room_first = largest.saturating_add((room - both) / 2);
+    let room_then = largest_then.saturating_add((room - both) / 2);
     let (first, then) = join(
         rt,
         || -> Result<Judged, AllocError>
@@ -137,14 +138,14 @@ fn judge_part<R: Threads + Sync, J: Judging + Sync>(
             requires fits { from + less < 2 ^ 32 }
             ensures judged { IfOk result (λ j. AreJudged (J.image judge.entry.now) from j.maps.items j.faults.items) }
             ensures count { IfOk result (λ j. length j.maps.items ≡ less) }
-        { judge_part(rt, judge, few, largest.saturating_add(share), from, less) },
+        { judge_part(rt, judge, few, room_first, from, less) },
         || -> Result<Judged, AllocError>
             requires sync { IsSync R.row × IsSync J.row }
             requires range { middle + rest ≤ length (J.image judge.now).methods }
             requires fits { middle + rest < 2 ^ 32 }
             ensures judged { IfOk result (λ j. AreJudged (J.image judge.entry.now) middle j.maps.items j.faults.items) }
             ensures count { IfOk result (λ j. length j.maps.items ≡ rest) }
-        { judge_part(rt, judge, few, largest_then.saturating_add(share), middle, rest) },
+        { judge_part(rt, judge, few, room_then, middle, rest) },
     );
     let mut all = first?;
     let then = then?;

@@ -26,11 +26,7 @@ pub trait Flow {
         ensures { IfOk result (λ s. s ≡ (graph self.now).entry) };
 
     /// What goes on from a place with a state.
-    fn onward(
-        &self,
-        place: usize,
-        state: &Self::State,
-    ) -> Result<Onwards<Self::State>, AllocError>
+    fn onward(&self, place: usize, state: &Self::State) -> Result<Onwards<Self::State>, AllocError>
         requires place { place < (graph self.now).size }
         requires fits { fits self.now place state.now }
         ensures { IfOk result (λ onwards. onwards ≡ (graph self.now).onward place state.now) };

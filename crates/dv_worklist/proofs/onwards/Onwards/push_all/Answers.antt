@@ -23,6 +23,6 @@ returns g c =
     let here : c.len-number.result ≡ length inside.states.items = omega (arith, c.len-number.ensures, inside.states.ok.0) in
     let states = c.in_ok-push.ensures.items in
     on_ok_weaker c.push_ways.result (λ ways.
-      let all = ways ∙ ap (λ (n : ℕ). inside.ways.items ++ map (way_to n) tos) here in
-      (λ i. onwards_of (states i) (all i)) ∙ added inside.states.items c.args.state inside.ways.items tos c.self.invariant ∙
-      ap (λ os. os ++ map (λ to. record { to = to; state = c.args.state }) tos) c.self.view_is) c.push_ways.ensures.ways
+    let all = ways ∙ ap (λ (n : ℕ). inside.ways.items ++ map (way_to n) tos) here in
+    (λ i. onwards_of (states i) (all i)) ∙ added inside.states.items c.args.state inside.ways.items tos c.self.invariant ∙
+    ap (λ os. os ++ map (λ to. record { to = to; state = c.args.state }) tos) c.self.view_is) c.push_ways.ensures.ways
