@@ -1,4 +1,4 @@
-use Rattle.std.proofs.Common.{◌≡◌, ℕ, Option, None, Some, ap, refl, subst, sym}
+use Rattle.std.proofs.Common.{Option, Some, ap, refl, subst, sym}
 use Rattle.dv_console.specs.declared.command.Cmd.{Cmd}
 use Rattle.dv_console.specs.declared.command.Cmd.TheVariants as cmd
 use Rattle.dv_top.specs.Answering.{IsAnswer}
