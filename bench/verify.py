@@ -50,14 +50,14 @@ def classes(count, methods, instructions, registers):
     return "".join(".class LC%04d;\n.super Ljava/lang/Object;\n%s" % (k, of_class) for k in range(count))
 
 
-def nested(loops=200, units=16_384, registers=256, count=1):
-    """Methods of loops in one another, over all registers."""
+def nested(loops=200, units=16_384, registers=256, count=1, last=""):
+    """Methods of loops in one another, over all registers, with so much behind them."""
     head = "const/4 v0, 0x1\nconst-string v1, \"a\"\n"
     fill = (units - 8 - 4 * loops) // 2
     body = head + "".join(":l%d\n" % k for k in range(loops)) + "add-int/lit8 v2, v0, 0x1\n" * fill
     for k in reversed(range(loops)):
         body += "if-lt v0, v2, :x%d\ngoto/16 :l%d\n:x%d\n" % (k, k, k)
-    return HEAD + "".join(method("m%d" % k, registers, body + "return-void\n") for k in range(count))
+    return HEAD + "".join(method("m%d" % k, registers, body + last + "return-void\n") for k in range(count))
 
 
 def strings(count, units=16_384):
@@ -85,6 +85,7 @@ CASES = [
 BY_PROCESSORS = [
     ("1,000 classes of 16 methods, 14 instructions each", lambda: classes(1_000, 16, 14, 64)),
     ("eight times 200 nested loops, the limit of cells", lambda: nested(count=8)),
+    ("the same, each with a fault at its end", lambda: nested(count=8, last="add-int v2, v0, v1\n")),
     ("eight times 256 strings, the limit of cells", lambda: strings(8)),
 ]
 

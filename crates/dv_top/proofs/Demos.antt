@@ -1,11 +1,11 @@
 -- The text of a demo isn't too large.
-use Rattle.std.proofs.Common.{◌≡◌, ℕ, zero, suc, ◌+◌, ◌*◌, ◌++◌, ◌<◌, ◌≤◌, true, List, length, length-append, arith, ap, refl}
+use Rattle.std.proofs.Common.{◌≡◌, ℕ, zero, suc, ◌+◌, ◌*◌, ◌++◌, ◌<◌, ◌≤◌, true, List, length, length-append, arith, refl}
 use Rattle.std.specs.Prelude.{nat_le, codes, decimal}
 use Rattle.std.specs.Fmt.{signed_decimal}
 use Rattle.std.proofs.lemmas.Bool.{leb-true}
 use Rattle.std.proofs.lemmas.Fmt.{length-decimal-le, length_signed_le}
 use Rattle.law_engine.proofs.Bits.{from_is}
-use Rattle.dv_gen.specs.Demo.{call_text, calls_text, class_text, classes_text, main_head, main_tail, mixed, program_text, worker_head, worker_tail}
+use Rattle.dv_gen.specs.Demo.{call_text, calls_text, class_text, classes_text, main_head, main_tail, mixed, worker_head, worker_tail}
 use Rattle.dv_top.specs.Laws.{DemosAreSmall}
 
 -- ---- pieces

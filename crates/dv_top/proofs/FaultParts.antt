@@ -1,5 +1,5 @@
 -- The lines of faults, told in two parts.
-use Rattle.std.proofs.Common.{◌≡◌, ◌++◌, ◌∙◌, ◌+◌, ◌-◌, ◌≤◌, ℕ, List, [], ◌∷◌, zero, suc, ap, append-nil, append_assoc, arith, drop, length, length-append, refl, sym, take}
+use Rattle.std.proofs.Common.{◌≡◌, ◌++◌, ◌∙◌, ◌-◌, ◌≤◌, ℕ, List, [], ◌∷◌, ap, append_assoc, arith, length, length-append, refl, sym, take}
 use Rattle.std.specs.Prelude.{codes}
 use Rattle.std.specs.List.{flat_map}
 use Rattle.dv_defs.specs.declared.faults.Fault.{Fault}

@@ -6,7 +6,6 @@ use Rattle.dv_typing.specs.Accepting.{Accepts}
 use Rattle.dv_defs.specs.Pools.{Method}
 use Rattle.dv_console.specs.declared.command.Cmd.TheVariants as cmd
 use Rattle.dv_console.specs.declared.refusals.Refusal.{Refusal}
-use Rattle.dv_top.specs.declared.closing.Closing.{Closing}
 use Rattle.dv_top.specs.declared.closing.Closing.TheVariants as closing
 use Rattle.dv_top.specs.declared.program.Program.{Program}
 use Rattle.dv_top.specs.declared.status.Status.TheVariants as exit

@@ -208,26 +208,26 @@ named_twice o c bytes log status text same is = subst (λ (x : Option Cmd). IsSa
 of_run : (asked : Option Cmd) (r : RunAsked) (bytes : List ℕ) (log : List Entry) (status : ℕ) (text : List ℕ) → run_asked asked ≡ Some r → IsSaidOfRun bytes (program_to_run r.class bytes) r.seed r.limits r.behind log status text → IsSaidOf asked bytes log status text
 of_run None r bytes log status text is said = absurd (cc)
 of_run (Some (cmd.Run class workers seed limits shown)) r bytes log status text is said =
-    let same : record { class = class; seed = seed; limits = limits; behind = closing_of shown } ≡ r = cc in
+    let same : record { class = class; workers = workers; seed = seed; limits = limits; behind = closing_of shown } ≡ r = cc in
     subst (λ (x : RunAsked). IsSaidOfRun bytes (program_to_run x.class bytes) x.seed x.limits x.behind log status text) (sym same) said
 of_run (Some (cmd.Replay class limits)) r bytes log status text is said = absurd (cc)
 of_run (Some cmd.Verify) r bytes log status text is said = absurd (cc)
 of_run (Some cmd.List) r bytes log status text is said = absurd (cc)
 of_run (Some (cmd.Demo number classes threads workers)) r bytes log status text is said =
-    let same : record { class = demo_class; seed = None; limits = limits_of None None; behind = closing.Demo classes threads } ≡ r = cc in
+    let same : record { class = demo_class; workers = workers; seed = None; limits = limits_of None None; behind = closing.Demo classes threads } ≡ r = cc in
     subst (λ (x : RunAsked). IsSaidOfRun bytes (program_to_run x.class bytes) x.seed x.limits x.behind log status text) (sym same) said
 
 -- ... and the other way round
 run_of_said : (asked : Option Cmd) (r : RunAsked) (bytes : List ℕ) (log : List Entry) (status : ℕ) (text : List ℕ) → run_asked asked ≡ Some r → IsSaidOf asked bytes log status text → IsSaidOfRun bytes (program_to_run r.class bytes) r.seed r.limits r.behind log status text
 run_of_said None r bytes log status text is said = absurd (cc)
 run_of_said (Some (cmd.Run class workers seed limits shown)) r bytes log status text is said =
-    let same : record { class = class; seed = seed; limits = limits; behind = closing_of shown } ≡ r = cc in
+    let same : record { class = class; workers = workers; seed = seed; limits = limits; behind = closing_of shown } ≡ r = cc in
     subst (λ (x : RunAsked). IsSaidOfRun bytes (program_to_run x.class bytes) x.seed x.limits x.behind log status text) same said
 run_of_said (Some (cmd.Replay class limits)) r bytes log status text is said = absurd (cc)
 run_of_said (Some cmd.Verify) r bytes log status text is said = absurd (cc)
 run_of_said (Some cmd.List) r bytes log status text is said = absurd (cc)
 run_of_said (Some (cmd.Demo number classes threads workers)) r bytes log status text is said =
-    let same : record { class = demo_class; seed = None; limits = limits_of None None; behind = closing.Demo classes threads } ≡ r = cc in
+    let same : record { class = demo_class; workers = workers; seed = None; limits = limits_of None None; behind = closing.Demo classes threads } ≡ r = cc in
     subst (λ (x : RunAsked). IsSaidOfRun bytes (program_to_run x.class bytes) x.seed x.limits x.behind log status text) same said
 
 -- what is said is said of the command that is asked for

@@ -1,5 +1,5 @@
 -- What an answer owes of a run by workers, from what the run came to.
-use Rattle.std.proofs.Common.{◌≡◌, ◌≢◌, ℕ, zero, suc, ◌+◌, ◌++◌, List, [], ◌∷◌, take, All, Option, Some, None, inl, inr, arith, ap, refl, subst, sym, append_assoc, ◌∙◌}
+use Rattle.std.proofs.Common.{◌≡◌, ◌≢◌, ℕ, zero, suc, ◌+◌, ◌++◌, List, [], ◌∷◌, take, All, Option, Some, inl, inr, arith, ap, refl, subst, sym, append_assoc, ◌∙◌}
 use Rattle.std.specs.Prelude.{◌⊎◌}
 use Rattle.std.proofs.lemmas.List.Elements.{All-nil}
 use Rattle.dv_defs.specs.declared.names.MethodId.{MethodId}
