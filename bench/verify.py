@@ -60,10 +60,10 @@ def nested(loops=200, units=16_384, registers=256, count=1, last=""):
     return HEAD + "".join(method("m%d" % k, registers, body + last + "return-void\n") for k in range(count))
 
 
-def strings(count, units=16_384):
-    """Methods whose 256 registers all hold strings, to their ends."""
+def strings(count, units=16_384, last=""):
+    """Methods whose 256 registers all hold strings, to their ends, with so much there, of up to two units."""
     head = "".join('const-string v%d, "a"\n' % k for k in range(256))
-    body = head + "nop\n" * (units - 513) + "return-void\n"
+    body = head + "nop\n" * (units - 515) + last + "return-void\n"
     return HEAD + "".join(method("m%d" % k, 256, body) for k in range(count))
 
 
@@ -86,6 +86,7 @@ BY_PROCESSORS = [
     ("1,000 classes of 16 methods, 14 instructions each", lambda: classes(1_000, 16, 14, 64)),
     ("eight times 200 nested loops, the limit of cells", lambda: nested(count=8)),
     ("the same, each with a fault at its end", lambda: nested(count=8, last="add-int v2, v0, v1\n")),
+    ("eight times 256 strings, each with such a fault", lambda: strings(8, last="add-int v2, v0, v1\n")),
     ("eight times 256 strings, the limit of cells", lambda: strings(8)),
 ]
 
