@@ -3,11 +3,11 @@ use Rattle.std.proofs.Common.{◌≡◌, ℕ, zero, suc, List, [], ◌∷◌, �
 use Rattle.std.proofs.lemmas.Bool.{false_from_ne_true, true≢false}
 use mathlib.Core.Option.{some, none, some-injective, some-ne-none}
 use lib.ListN.{get_elem?}
-use Rattle.atomic_table.specs.Table.{Me, takes, gives, keeps, Allows, Splits, Joins, opening, rest, put_back}
-use Rattle.atomic_table.proofs.Lists.{at_set, at_snoc, at_longer, set_again, set_else}
+use Rattle.atomic_table.specs.Table.{Me, takes, gives, keeps, Allows, Splits, opening, rest, put_back}
+use Rattle.atomic_table.proofs.Lists.{at_set, at_snoc, at_longer, set_again}
 use Rattle.dv_workers.specs.declared.view.Names.{Names}
 use Rattle.dv_workers.specs.declared.view.View.{View}
-use Rattle.dv_workers.specs.Rule.{aside, spent, held, let_go, Fits, Kept, Took}
+use Rattle.dv_workers.specs.Rule.{aside, held, let_go, Fits, Kept, Took}
 
 differ : (b : Bool) → b ≡ true → b ≡ false → ⊥
 differ b t f = true≢false (sym t ∙ f)
@@ -34,19 +34,19 @@ module _ {D : Type 0} (named : D → Names) (n : Names) where
 
   pub starts : (d : D) → named d ≡ n → Kept named n (opening (1 ∷ []) (Some d ∷ []) (aside n))
   starts d is = record {
-    fit = λ seat v at. inl (ap (λ (u : View). u.of) (sym (one_at (aside n) v seat at)));
+    fit = λ seat v at. ap (λ (u : View). u.of) (sym (one_at (aside n) v seat at));
     place = inl (d, refl, refl, is, λ seat v at. ap (λ (u : View). u.holds) (sym (one_at (aside n) v seat at)));
   }
 
-  pub takes_or_not : (slots id : ℕ) (m : Me (Option D) View) → m.0.of ≡ Some n → Allows (Kept named n) slots id m 0 (λ _. 0) (Took named m)
+  pub takes_or_not : (slots id : ℕ) (m : Me (Option D) View) → m.0.of ≡ n → Allows (Kept named n) slots id m 0 (λ _. 0) (Took named m)
   takes_or_not slots id m of s kept one at small = ⊎_elim
       (λ h.
-      let got : Took named m 1 (held m.0, (0, Some h.0) ∷ m.1) = (h.0, refl, of ∙ ap Some (sym h.3)) in (
+      let got : Took named m 1 (held m.0, (0, Some h.0) ∷ m.1) = (h.0, refl, of ∙ sym h.3) in (
         held m.0,
         takes 0 (Some h.0),
         subst (λ hs. get_elem? hs 0 ≡ some (some (Some h.0))) (sym h.2) refl,
         record {
-          fit = fit_set s.views id (held m.0) kept.fit (inl of);
+          fit = fit_set s.views id (held m.0) kept.fit of;
           place = inr (
             id,
             held m.0,
@@ -81,7 +81,7 @@ module _ {D : Type 0} (named : D → Names) (n : Names) where
       ))
       kept.place
 
-  pub puts_back : (slots id : ℕ) (m : Me (Option D) View) (d : D) → named d ≡ n → m.1 ≡ (0, Some d) ∷ rest m.1 → m.0.of ≡ Some n → m.0.holds ≡ true
+  pub puts_back : (slots id : ℕ) (m : Me (Option D) View) (d : D) → named d ≡ n → m.1 ≡ (0, Some d) ∷ rest m.1 → m.0.of ≡ n → m.0.holds ≡ true
       → Allows (Kept named n) slots id m 0 (λ _. 1) (λ _ w. w ≡ (let_go m.0, rest m.1))
   puts_back slots id m d is has of holds s kept one at small = ⊎_elim
       (λ h. absurd (differ m.0.holds holds (h.4 id m.0 at)))
@@ -90,7 +90,7 @@ module _ {D : Type 0} (named : D → Names) (n : Names) where
         gives,
         tt,
         record {
-          fit = fit_set s.views id (let_go m.0) kept.fit (inl of);
+          fit = fit_set s.views id (let_go m.0) kept.fit of;
           place = inl (
             d,
             ap (λ ws. set ws 0 1) o.2,
@@ -104,12 +104,12 @@ module _ {D : Type 0} (named : D → Names) (n : Names) where
       ))
       kept.place
 
-  pub splits : (id : ℕ) (x : View) → x.of ≡ Some n → x.holds ≡ false → Splits (Kept named n) id x x x
+  pub splits : (id : ℕ) (x : View) → x.of ≡ n → x.holds ≡ false → Splits (Kept named n) id x x x
   splits id x of not s kept at =
       let e = set_again s.views id x at in
       subst (λ vs. Kept named n (record { words = s.words; homes = s.homes; views = vs ++ x ∷ [] })) (sym e)
       (record {
-        fit = fit_more s.views x kept.fit (inl of);
+        fit = fit_more s.views x kept.fit of;
         place = ⊎_elim
             (λ h. inl (h.0, h.1, h.2, h.3, λ seat v at'. ⊎_elim (λ t. h.4 seat v t) (λ t. ap (λ (u : View). u.holds) (sym t) ∙ not) (at_snoc s.views x v seat at')))
             (λ o. inr (
@@ -120,27 +120,6 @@ module _ {D : Type 0} (named : D → Names) (n : Names) where
               at_longer s.views (x ∷ []) o.0 o.1 o.4,
               o.5,
               λ seat v at' yes. ⊎_elim (λ t. o.6 seat v t yes) (λ t. absurd (differ v.holds yes (ap (λ (u : View). u.holds) (sym t) ∙ not))) (at_snoc s.views x v seat at'),
-            ))
-            kept.place;
-      })
-
-  pub joins : (id : ℕ) (x : View) (other : ℕ) (y : View) → y.holds ≡ false → Joins (Kept named n) id x other y x spent
-  joins id x other y not s kept at apart there =
-      let e = set_again s.views id x at in
-      let there' : get_elem? s.views other ≡ some y = subst (λ vs. get_elem? vs other ≡ some y) e there in
-      subst (λ vs. Kept named n (record { words = s.words; homes = s.homes; views = set vs other spent })) (sym e)
-      (record {
-        fit = fit_set s.views other spent kept.fit (inr refl);
-        place = ⊎_elim
-            (λ h. inl (h.0, h.1, h.2, h.3, λ seat v at'. ⊎_elim (λ t. ap (λ (u : View). u.holds) (sym t.1)) (λ t. h.4 seat v t.1) (at_set s.views other seat spent v at')))
-            (λ o. inr (
-              o.0,
-              o.1,
-              o.2,
-              o.3,
-              set_else s.views other o.0 spent (λ same. differ y.holds (ap (λ (u : View). u.holds) (some-injective y o.1 (sym there' ∙ ap (get_elem? s.views) (sym same) ∙ o.4)) ∙ o.5) not) ∙ o.4,
-              o.5,
-              λ seat v at' yes. ⊎_elim (λ t. absurd (differ v.holds yes (ap (λ (u : View). u.holds) (sym t.1)))) (λ t. o.6 seat v t.1 yes) (at_set s.views other seat spent v at'),
             ))
             kept.place;
       })

@@ -1,5 +1,5 @@
 -- The rule of the place in which a machine lies, over any value that has names.
-use Rattle.std.specs.Prelude.{◌≡◌, ℕ, [], ◌∷◌, ◌⊎◌, true, false, ◌==◌, MatchBool, Option, Some, None}
+use Rattle.std.specs.Prelude.{◌≡◌, ℕ, [], ◌∷◌, ◌⊎◌, true, false, ◌==◌, MatchBool, Option, Some}
 use mathlib.Core.Option.{some, none}
 use lib.ListN.{get_elem?}
 use Rattle.atomic_table.specs.Table.{State, Me, Step, rest}
@@ -8,11 +8,7 @@ use Rattle.dv_workers.specs.declared.view.View.{View}
 
 -- a seat that doesn't hold
 abbrev pub aside : Names → View
-aside n = record { of = Some n; holds = false }
-
--- a seat whose view went into another's
-abbrev pub spent : View
-spent = record { of = None; holds = false }
+aside n = record { of = n; holds = false }
 
 abbrev pub held : View → View
 held v = record { of = v.of; holds = true }
@@ -20,9 +16,9 @@ held v = record { of = v.of; holds = true }
 abbrev pub let_go : View → View
 let_go v = record { of = v.of; holds = false }
 
--- a view names this, or is spent
+-- a view names this
 abbrev pub Fits : Names → View → Type 0
-Fits n v = (v.of ≡ Some n) ⊎ (v ≡ spent)
+Fits n v = v.of ≡ n
 
 module _ {D : Type 0} (named : D → Names) where
   -- no seat has the value, and it has these names
@@ -41,7 +37,7 @@ module _ {D : Type 0} (named : D → Names) where
 
   -- the machine is taken, or the slot was empty and nothing changed
   abbrev pub Took : Me (Option D) View → ℕ → Me (Option D) View → Type 0
-  Took m found w = MatchBool (found == 1) ((d : D) × (w ≡ (held m.0, (0, Some d) ∷ m.1)) × (m.0.of ≡ Some (named d))) (w ≡ m)
+  Took m found w = MatchBool (found == 1) ((d : D) × (w ≡ (held m.0, (0, Some d) ∷ m.1)) × (m.0.of ≡ named d)) (w ≡ m)
 
   abbrev pub Takes : Step (Option D) → Me (Option D) View → ℕ → Me (Option D) View → Type 0
   Takes st = Took

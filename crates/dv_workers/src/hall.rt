@@ -7,7 +7,7 @@ ghost use Rattle.dv_workers.specs.Seats.{IsAside, IsHolding, names_of};
 use crate::began::Began;
 use crate::chore::Chore;
 use crate::desk::Desk;
-use crate::rule::{Cut, Glue, Held, Key, Law, Put, Take};
+use crate::rule::{Cut, Held, Key, Law, Put, Take};
 use crate::view::View;
 use atomic_table::{Refused, Seat, Table};
 use dv_defs::Image;
@@ -85,15 +85,6 @@ impl<'v, K: Sink + Drop, L: Began> Hall<'v, K, L> {
         ensures same { (seat.new.table_id ≡ seat.old.table_id) × (seat.new.me ≡ seat.old.me) }
     {
         self.table.shared.split_seat::<Cut>(seat)
-    }
-
-    /// A seat goes back into another.
-    pub fn unseat(&self, seat: &mut Place<'v, K, L>, other: Place<'v, K, L>)
-        requires seat { (seat.old.table_id ≡ self.now.table.shared.table_id) × IsAside (names_of self.now.table.shared.key.value) seat.old.me }
-        requires other { (other.table_id ≡ self.now.table.shared.table_id) × IsAside (names_of self.now.table.shared.key.value) other.me }
-        ensures same { (seat.new.table_id ≡ seat.old.table_id) × (seat.new.me ≡ seat.old.me) }
-    {
-        self.table.shared.join_seat::<Glue>(seat, other)
     }
 
     /// Takes the desk out. None where it is out.

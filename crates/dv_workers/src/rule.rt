@@ -1,11 +1,11 @@
 // The rule of the place in which the machine lies, and what each step on it tells.
-ghost use Rattle.dv_workers.specs.Rule.{Kept, Puts, Takes, aside, spent};
+ghost use Rattle.dv_workers.specs.Rule.{Kept, Puts, Takes, aside};
 ghost use Rattle.dv_workers.specs.Seats.{names_of};
 
 use crate::began::Began;
 use crate::desk::Desk;
 use crate::view::View;
-use atomic_table::{Join, Play, Split, TableRule};
+use atomic_table::{Play, Split, TableRule};
 use dv_io::Sink;
 use dv_sound::SafeVm;
 use std::snapshot::Snapshot;
@@ -43,13 +43,4 @@ impl Split<View> for Cut {
     ghost left = { λ v. v };
 
     ghost right = { λ v. v };
-}
-
-/// A seat that doesn't hold goes back into another.
-pub struct Glue;
-
-impl Join<View> for Glue {
-    ghost both = { λ v w. v };
-
-    ghost spent = { spent };
 }

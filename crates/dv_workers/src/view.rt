@@ -9,8 +9,8 @@ pub struct Names {
     pub limits: Limits,
 }
 
-/// What a seat's machine is a run of, none where the seat is of no more use, and whether it holds the machine.
+/// What a seat's machine is a run of, and whether it holds the machine.
 pub struct View {
-    pub of: Option<Names>,
+    pub of: Names,
     pub holds: bool,
 }

@@ -1,4 +1,4 @@
-use Rattle.std.proofs.Common.{◌≡◌, ◌++◌, ◌∷◌, [], ◌∙◌, ap, inl, sym, arith, length, rules}
+use Rattle.std.proofs.Common.{◌≡◌, ◌++◌, ◌∷◌, [], ◌∙◌, ap, inl, sym, arith, length}
 use Rattle.std.specs.Prelude.{sum}
 use Rattle.dv_workers.specs.Seats.{names_of}
 use Rattle.dv_workers.proofs.Kept.{done_alike}

@@ -1,4 +1,4 @@
-use Rattle.std.proofs.Common.{◌≡◌, ◌+◌}
+use Rattle.std.proofs.Common.{◌≡◌}
 use Rattle.dv_workers.specs.Seats.{names_of}
 use Rattle.dv_workers.proofs.desk.Desk.run_alone.Given as goal
 
