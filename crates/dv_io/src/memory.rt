@@ -1,8 +1,9 @@
 // A source and a sink over memory that fail at chosen calls, for tests.
-ghost use Rattle.std.specs.Prelude.{◌≡◌, ◌<◌, ◌≤◌, ◌+◌, ◌-◌, ◌++◌, ◌↔◌, ◌⊎◌, [], Some, length, take, drop, min, vec_len, vec_capacity, Contains, IsTrue, IsErr, IfOk, OnErr, OnOk};
+ghost use Rattle.std.specs.Prelude.{◌≡◌, ◌<◌, ◌≤◌, ◌+◌, ◌-◌, ◌++◌, ◌^◌, ◌↔◌, ◌⊎◌, [], Some, length, take, drop, min, vec_len, vec_capacity, Contains, IsTrue, IsErr, IfOk, OnErr, OnOk};
 ghost use Rattle.dv_io.specs.Io.{HasRisen, Copies, next_count};
 
 use crate::{Failed, Sink, Source};
+use std::alloc::{AllocError, Global};
 
 /// Gives its bytes, at most `piece` of them a call, and fails at the calls whose numbers are in
 /// `fails`. The first call has the number 0. Both counts stay at the last value of their type.
@@ -84,6 +85,30 @@ pub struct MemSink {
     pub faults: u64,
     pub ghost has_piece: { 0 < piece },
     pub ghost has_room: { room ≤ vec_capacity taken },
+}
+
+impl MemSink {
+    /// A sink that has taken nothing, takes so many bytes in all, and fails at no call before. The room is made here.
+    ///
+    /// # Errors
+    ///
+    /// Want of memory.
+    pub fn of(alloc: Global, room: usize) -> Result<MemSink, AllocError>
+        ensures empty { IfOk result (λ s. s.taken.items ≡ []) }
+        ensures room { IfOk result (λ s. s.room ≡ room) }
+        ensures piece { IfOk result (λ s. s.piece ≡ 2 ^ 64 - 1) }
+        ensures fails { IfOk result (λ s. s.fails.items ≡ []) }
+        ensures counts { IfOk result (λ s. (s.calls ≡ 0) × (s.faults ≡ 0)) }
+    {
+        Ok(MemSink {
+            taken: Vec::with_capacity(alloc, room)?,
+            room,
+            piece: usize::MAX,
+            fails: Vec::new(alloc),
+            calls: 0,
+            faults: 0,
+        })
+    }
 }
 
 impl Sink for MemSink {

@@ -1,5 +1,5 @@
 // Versions that never fail.
-ghost use Rattle.std.specs.Prelude.{◌≡◌, ◌<◌, ◌≤◌, ◌+◌, ◌-◌, ◌++◌, [], Some, None, length, take, drop, min, vec_len, IsOk, IfOk};
+ghost use Rattle.std.specs.Prelude.{◌≡◌, ◌<◌, ◌≤◌, ◌+◌, ◌-◌, ◌++◌, ◌^◌, [], Some, None, length, take, drop, min, vec_len, IsOk, IfOk};
 ghost use Rattle.dv_io.specs.Io.{Copies};
 
 use crate::memory::copy_piece;
@@ -14,6 +14,21 @@ pub struct PlainSource {
     pub piece: usize,
     pub ghost has_piece: { 0 < piece },
     pub ghost within: { at ≤ vec_len bytes },
+}
+
+impl PlainSource {
+    /// A source of a text, from its start, as much of it a call as there is room for.
+    pub fn of(text: Vec<u8>) -> PlainSource
+        ensures bytes { result.bytes ≡ text }
+        ensures start { result.at ≡ 0 }
+        ensures piece { result.piece ≡ 2 ^ 64 - 1 }
+    {
+        PlainSource {
+            bytes: text,
+            at: 0,
+            piece: usize::MAX,
+        }
+    }
 }
 
 impl Source for PlainSource {

@@ -15,20 +15,8 @@ pub fn run_main<R: Threads + Wait + Sync>(
         String::from_str(alloc, "run")?,
         String::from_str(alloc, "Main")?,
     ]?;
-    let room = 65_536;
-    let sink = MemSink {
-        taken: Vec::with_capacity(alloc, room)?,
-        room,
-        piece: 4096,
-        fails: Vec::new(alloc),
-        calls: 0,
-        faults: 0,
-    };
-    let mut source = PlainSource {
-        bytes: text,
-        at: 0,
-        piece: 4096,
-    };
+    let sink = MemSink::of(alloc, 65_536)?;
+    let mut source = PlainSource::of(text);
     let report = dvm(rt, alloc, &words, &mut source, sink, &NoGate);
     Ok(report.sink)
 }

@@ -51,6 +51,19 @@ fn memory_to_memory(rt: HostRuntime) -> Result<(), Fail> {
 }
 
 #[test]
+fn a_text_to_a_room(rt: HostRuntime) -> Result<(), Fail> {
+    let mut source = PlainSource::of(Vec::from_slice(rt.alloc(), b"hello")?);
+    let mut sink = MemSink::of(rt.alloc(), 5)?;
+    assert_eq!(rt; pass_on(&mut source, &mut sink, &NoGate), Ok(4));
+    assert_eq!(rt; pass_on(&mut source, &mut sink, &NoGate), Ok(1));
+    assert_eq!(rt; pass_on(&mut source, &mut sink, &NoGate), Ok(0));
+    assert_eq!(rt; sink.taken.as_slice(), b"hello".as_slice());
+    assert_eq!(rt; sink.write(b"!"), Err(Failed));
+    assert_eq!(rt; sink.faults, 1);
+    Ok(())
+}
+
+#[test]
 fn plain_to_plain(rt: HostRuntime) -> Result<(), Fail> {
     let mut source = PlainSource {
         bytes: Vec::from_slice(rt.alloc(), b"hello")?,
