@@ -144,6 +144,7 @@ fn run_opened<R: Threads + Wait + Sync, K: Sink + Send + Drop, G: Gate + Sync>(
     };
     Report {
         status: status.code(),
+        outcome: status,
         log: vm.into_log(),
         sink,
     }

@@ -121,6 +121,7 @@ pub fn dvm_alone<R: Threads + Sync, S: Source, K: Sink, G: Gate + Sync>(
     let status = answer(rt, alloc, command, source, &mut sink, &mut log, gate);
     Report {
         status: status.code(),
+        outcome: status,
         log,
         sink,
     }

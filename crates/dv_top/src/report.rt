@@ -16,12 +16,15 @@ use std::alloc::Global;
 /// What a call came to.
 #[derive(Drop)]
 pub struct Report<K> {
-    /// The number of a `Status`.
+    /// The number of the outcome, which the program exits with.
     pub status: u8,
+    /// How the call ended.
+    pub outcome: Status,
     /// The schedule that was run: its turns, in order.
     pub log: Vec<Entry>,
     /// The sink that was handed in.
     pub sink: K,
+    pub ghost numbered: { status ≡ code_of outcome },
 }
 
 /// Nothing ran, and nothing is written.
@@ -32,6 +35,7 @@ pub fn report_of_status<K>(alloc: Global, status: Status, sink: K) -> Report<K>
 {
     Report {
         status: status.code(),
+        outcome: status,
         log: Vec::new(alloc),
         sink,
     }

@@ -75,6 +75,7 @@ const UNWRITTEN: Row<'static> = Row {
 fn assert_report<R: Abort>(rt: &R, row: &Row, report: &Report<MemSink>) {
     assert_eq!(rt; report.sink.taken.as_slice(), row.taken.as_bytes());
     assert_eq!(rt; report.status, row.status);
+    assert_eq!(rt; report.outcome.code(), row.status);
     assert_eq!(rt; report.log.as_slice(), row.log);
 }
 
