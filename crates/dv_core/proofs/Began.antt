@@ -1,5 +1,5 @@
 -- The heap and the stack with which a run begins.
-use Rattle.std.proofs.Common.{◌≡◌, ◌<◌, ◌≤◌, ℕ, suc, ◌+◌, ◌-◌, Bool, true, false, List, [], ◌∷◌, length, drop, drop-cons, refl, ap, sym, ◌∙◌, arith}
+use Rattle.std.proofs.Common.{◌≡◌, ◌<◌, ℕ, suc, ◌+◌, List, length, drop, drop-cons, ap, sym, ◌∙◌, arith}
 use Rattle.dv_defs.specs.declared.image.FieldInfo.{FieldInfo}
 use Rattle.dv_defs.specs.Images.{Image}
 use Rattle.dv_defs.specs.Pools.{field_at}

@@ -5,6 +5,7 @@ use Rattle.std.specs.Option.{option_to_list}
 use Rattle.dv_defs.specs.declared.machine.End.{End}
 use Rattle.dv_defs.specs.declared.run.Ending.{Ending}
 use Rattle.dv_defs.specs.declared.run.Limits.{Limits}
+use Rattle.dv_defs.specs.declared.run.Preallocated.{Preallocated}
 use Rattle.dv_defs.specs.Images.{Image}
 use Rattle.dv_words.specs.declared.state.Level.{Level}
 use Rattle.dv_words.specs.State.{WordHeap, WordShared, WordStack, WordThread}
@@ -30,17 +31,17 @@ there_left g k t own h l number there leaves =
     left_there (threads_of g.threads) t own (kept own l.levels) (option_to_list l.started) there
 
 -- and stands as its levels tell
-pub counts : (g k : Guest) (steps : ℕ) (stop : Option Ending) (limits : Limits) (t : ℕ) (own : WordThread) (h : At) (l : Left) (f : List Level → End) → h.thread ≡ t → slice_get (threads_of g.threads) t ≡ Some own → Leaves g k own h l
-    → counted (machine_with k steps stop limits) t f ≡ with_thread (machine_with g steps stop limits) t (record { levels = l.levels; end = f l.levels; object = own.object }) l
-counts g k steps stop limits t own h l f number there leaves =
+pub counts : (g k : Guest) (steps : ℕ) (stop : Option Ending) (limits : Limits) (p : Preallocated) (t : ℕ) (own : WordThread) (h : At) (l : Left) (f : List Level → End) → h.thread ≡ t → slice_get (threads_of g.threads) t ≡ Some own → Leaves g k own h l
+    → counted (machine_with k steps stop limits p) t f ≡ with_thread (machine_with g steps stop limits p) t (record { levels = l.levels; end = f l.levels; object = own.object }) l
+counts g k steps stop limits p t own h l f number there leaves =
     let threads : ended_at (threads_of k.threads) t f ≡ slice_set (threads_of g.threads) t (record { levels = l.levels; end = f l.levels; object = own.object }) ++ option_to_list l.started =
     ap (λ ts. ended_at ts t f) (leaves.threads ∙ ap (λ n. slice_set (threads_of g.threads) n (kept own l.levels) ++ option_to_list l.started) number) ∙
     ended_left (threads_of g.threads) t own l.levels f (option_to_list l.started) there in
-    λ j. record { threads = threads j; shared = sym leaves.shared j; steps = suc steps; stop = stop; limits = limits }
+    λ j. record { threads = threads j; shared = sym leaves.shared j; steps = suc steps; stop = stop; limits = limits; preallocated = p }
 
 -- a machine in which nothing has changed
-pub same_machine : (g k : Guest) (lim : Limits) (steps : ℕ) (stop : Option Ending) (limits : Limits) → Stays lim g k → machine_with k steps stop limits ≡ machine_with g steps stop limits
-same_machine g k lim steps stop limits stays = λ j. record { threads = stays.threads j; shared = stays.shared j; steps = steps; stop = stop; limits = limits }
+pub same_machine : (g k : Guest) (lim : Limits) (steps : ℕ) (stop : Option Ending) (limits : Limits) (p : Preallocated) → Stays lim g k → machine_with k steps stop limits p ≡ machine_with g steps stop limits p
+same_machine g k lim steps stop limits p stays = λ j. record { threads = stays.threads j; shared = stays.shared j; steps = steps; stop = stop; limits = limits; preallocated = p }
 
 -- a step sees it as before
 pub same_seen : (i : Image) (lim : Limits) (g k : Guest) (t : ℕ) (own : WordThread) (h : At) → IsSeen i lim g t own h → Stays lim g k → IsSeen i lim k t own h

@@ -19,6 +19,7 @@ pub mod CharArrays
 pub mod Steppable
 pub mod Stepped
 pub mod Began
+pub mod Uncounted
 pub mod Opened
 pub mod Advanced
 pub mod Opcodes

@@ -7,25 +7,25 @@ use Rattle.std.proofs.lemmas.List.{length-replicate}
 use Rattle.dv_defs.specs.declared.image.ClassInfo.{ClassInfo}
 use Rattle.dv_defs.specs.declared.machine.End.TheVariants as end
 use Rattle.dv_defs.specs.declared.run.Limits.{Limits}
+use Rattle.dv_defs.specs.declared.run.Preallocated.{Preallocated}
 use Rattle.dv_defs.specs.declared.names.Base.TheVariants as base
 use Rattle.dv_defs.specs.declared.names.Ty.{Ty}
 use Rattle.dv_defs.specs.Names.{string_name}
 use Rattle.dv_machine.specs.Classes.{Classes, Fresh, Ready, state_at}
 use Rattle.dv_defs.specs.Images.{Image}
-use Rattle.dv_machine.specs.Monitors.{Monitors}
 use Rattle.dv_defs.specs.Pools.{Method, method_at}
 use Rattle.law_machine.proofs.lemmas.Common.Members.{class_of_method}
 use Rattle.dv_machine.specs.Calls.{registers_of}
 use Rattle.dv_machine.specs.Mains.{IsMain}
 use Rattle.dv_machine.specs.Opening.{first_states, is_born, opening_states}
 use Rattle.dv_clinit.specs.Births.{first_state}
-use Rattle.dv_monitor.specs.State.{no_monitors}
 use Rattle.dv_words.specs.declared.state.Level.{Level}
 use Rattle.dv_words.specs.declared.state.Level.TheVariants as level
 use Rattle.dv_words.specs.Stacks.{empty, has_room, size_of, with_levels}
 use Rattle.dv_words.specs.State.{WordHeap, WordMachine, WordStack, WordThread}
 use Rattle.dv_words.specs.Calls.{entered_frame}
-use Rattle.dv_words.specs.Opening.{main_args, main_thread, opening, opening_heap, opening_levels}
+use Rattle.dv_words.specs.Heaps.{counting}
+use Rattle.dv_words.specs.Opening.{main_args, main_heap, main_thread, opening, opening_heap, opening_levels, preallocated_on, with_out_of_memory, with_stack_overflow}
 use Rattle.dv_threads.specs.declared.threads.Threads.{Threads}
 use Rattle.dv_threads.specs.Kept.{bounds, threads_of}
 use Rattle.dv_core.specs.Openings.{HasMainRoom, IsAlone, TakesStrings, is_fresh, opening_stack, stack_with_main, with_level}
@@ -113,27 +113,29 @@ born_is image m has =
 abbrev alone_at : List Level → List WordThread
 alone_at ls = record { levels = ls; end = end.Living; object = 2 } ∷ []
 
-abbrev built : Limits → List WordThread → WordHeap → Classes → Monitors → List ℕ → WordMachine
-built l threads heap classes monitors output =
-    record { threads = threads; shared = record { heap = heap; classes = classes; monitors = monitors; output = output }; steps = 0; stop = None; limits = l }
-
-module _ (image : Image) (m : Method) (l : Limits) (heap : WordHeap) (array : Option ℕ) (first classes : Classes) (born : Bool) (ts : Threads) (output : List ℕ) where
-  pub is_opening : (s : WordStack) → heap ≡ opening_heap image m l → option_to_list array ≡ main_args m heap → first ≡ first_states image image.classes 0 → born ≡ not (is_fresh (state_at first m.info.class.0)) →
+module _ (image : Image) (m : Method) (l : Limits) (main heap : WordHeap) (p : Preallocated) (array : Option ℕ) (first classes : Classes) (born : Bool) (ts : Threads) (output : List ℕ) where
+  pub is_opening : (s : WordStack) → main ≡ main_heap image m → heap ≡ counting (with_stack_overflow image (with_out_of_memory image main)) l.heap → p ≡ preallocated_on image main →
+      option_to_list array ≡ main_args m main → first ≡ first_states image image.classes 0 → born ≡ not (is_fresh (state_at first m.info.class.0)) →
       classes ≡ opening_states m first born → s ≡ opening_stack l m (option_to_list array) born → IsAlone ts s 2 → output ≡ [] → method_at image m.id ≡ Some m → HasMainRoom l → registers_of m ≤ 256 →
-      record { threads = threads_of ts; shared = record { heap = heap; classes = classes; monitors = ts.monitors.monitors; output = output }; steps = 0; stop = None; limits = l } ≡ opening image m l
-  is_opening s heap_is args_are first_is told_born classes_are stack_is alone none has room few =
+      record { threads = threads_of ts; shared = record { heap = heap; classes = classes; monitors = ts.monitors.monitors; output = output }; steps = 0; stop = None; limits = l; preallocated = p } ≡ opening image m l
+  is_opening s main_is heap_is made args_are first_is told_born classes_are stack_is alone none has room few =
       let birth : born ≡ is_born image m.info.class.0 = told_born ∙ (ap (λ (cs : Classes). not (is_fresh (state_at cs m.info.class.0))) first_is ∙ born_is image m has) in
       let levels : s.levels ≡ opening_levels m (entered_frame m (option_to_list array)) born = ap (λ (t : WordStack). t.levels) stack_is ∙ stack_levels l m (option_to_list array) room few (one_at_most array) born in
-      let args : option_to_list array ≡ main_args m (opening_heap image m l) = args_are ∙ ap (main_args m) heap_is in
-      let threads : threads_of ts ≡ main_thread m (opening_heap image m l) (is_born image m.info.class.0) ∷ [] =
-      alone.threads ∙ (ap alone_at levels ∙ (ap (λ (ws : List ℕ). alone_at (opening_levels m (entered_frame m ws) born)) args ∙ ap (λ (b : Bool). alone_at (opening_levels m (entered_frame m (main_args m (opening_heap image m l))) b)) birth)) in
+      let args : option_to_list array ≡ main_args m (main_heap image m) = args_are ∙ ap (main_args m) main_is in
+      let threads : threads_of ts ≡ main_thread m (main_heap image m) (is_born image m.info.class.0) ∷ [] =
+      alone.threads ∙ (ap alone_at levels ∙ (λ j. alone_at (opening_levels m (entered_frame m (args j)) (birth j)))) in
       let states : classes ≡ opening_states m (first_states image image.classes 0) (is_born image m.info.class.0) =
-      classes_are ∙ (ap (λ (cs : Classes). opening_states m cs born) first_is ∙ ap (opening_states m (first_states image image.classes 0)) birth) in
-      ap (λ (x : List WordThread). built l x heap classes ts.monitors.monitors output) threads ∙
-      (ap (λ (x : WordHeap). built l (main_thread m (opening_heap image m l) (is_born image m.info.class.0) ∷ []) x classes ts.monitors.monitors output) heap_is ∙
-      (ap (λ (x : Classes). built l (main_thread m (opening_heap image m l) (is_born image m.info.class.0) ∷ []) (opening_heap image m l) x ts.monitors.monitors output) states ∙
-      (ap (λ (x : Monitors). built l (main_thread m (opening_heap image m l) (is_born image m.info.class.0) ∷ []) (opening_heap image m l) (opening_states m (first_states image image.classes 0) (is_born image m.info.class.0)) x output) alone.monitors ∙
-      ap (λ (x : List ℕ). built l (main_thread m (opening_heap image m l) (is_born image m.info.class.0) ∷ []) (opening_heap image m l) (opening_states m (first_states image image.classes 0) (is_born image m.info.class.0)) no_monitors x) none)))
+      classes_are ∙ (λ j. opening_states m (first_is j) (birth j)) in
+      let full : heap ≡ opening_heap image m l = heap_is ∙ ap (λ (h : WordHeap). counting (with_stack_overflow image (with_out_of_memory image h)) l.heap) main_is in
+      let both : p ≡ preallocated_on image (main_heap image m) = made ∙ ap (preallocated_on image) main_is in
+      λ j. record {
+        threads = threads j;
+        shared = record { heap = full j; classes = states j; monitors = alone.monitors j; output = none j };
+        steps = 0;
+        stop = None;
+        limits = l;
+        preallocated = both j;
+      }
 
 one_all : {X : Type 0} (P : X → Type 0) (x : X) → P x → All P (x ∷ [])
 one_all P x p zero d less = p

@@ -51,7 +51,7 @@ stays_by lim lim' g k same stays = subst (λ l. Stays l g k) same stays
 pub unwound_by : (r : Result Next AllocError) (u : Unwound) (P : Left → Type 0) (S T : Type 0) → (S → T) → Unwinds r u P S → Unwinds r u P T
 unwound_by (Ok next.On) (Caught l) P S T f x = x
 unwound_by (Ok (next.ThrowRef o)) (Flies p l) P S T f x = x
-unwound_by (Ok next.NoWords) Lacking P S T f x = f x
+unwound_by (Ok next.NoWords) (Lacking l) P S T f x = x
 unwound_by (Err memory) u P S T f x = f x
 unwound_by r u P S T f x = absurd x
 

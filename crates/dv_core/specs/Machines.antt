@@ -5,6 +5,7 @@ use Rattle.dv_defs.specs.declared.machine.End.TheVariants as end
 use Rattle.dv_defs.specs.declared.names.ClassId.{ClassId}
 use Rattle.dv_defs.specs.declared.run.Ending.{Ending}
 use Rattle.dv_defs.specs.declared.run.Limits.{Limits}
+use Rattle.dv_defs.specs.declared.run.Preallocated.{Preallocated}
 use Rattle.dv_defs.specs.Images.{Image}
 use Rattle.dv_defs.specs.Pools.{method_at}
 use Rattle.dv_typing.specs.Statics as statics
@@ -20,12 +21,20 @@ use Rattle.dv_core.specs.declared.vm.Vm.{Vm}
 use Rattle.dv_core.specs.Fitting.{RecordFits, StepFits}
 use Rattle.dv_core.specs.Guests.{IsAtOp, IsOrdered, IsSeen, shared_of}
 
--- a guest's state, so many steps, what stopped the run, and its limits
-abbrev pub machine_with : Guest → ℕ → Option Ending → Limits → WordMachine
-machine_with g steps stop limits = record { threads = threads_of g.threads; shared = shared_of g; steps = steps; stop = stop; limits = limits }
+-- a guest's state, so many steps, what stopped the run, its limits, and the exceptions that its opening made
+abbrev pub machine_with : Guest → ℕ → Option Ending → Limits → Preallocated → WordMachine
+machine_with g steps stop limits preallocated =
+    record {
+      threads = threads_of g.threads;
+      shared = shared_of g;
+      steps = steps;
+      stop = stop;
+      limits = limits;
+      preallocated = preallocated;
+    }
 
 abbrev pub machine_of : Vm → WordMachine
-machine_of v = machine_with v.guest v.steps v.stop v.limits
+machine_of v = machine_with v.guest v.steps v.stop v.limits v.preallocated
 
 -- the thread of this number
 abbrev pub thread_at : Vm → ℕ → Option WordThread
@@ -65,7 +74,14 @@ ended_at (th ∷ ths) (suc t) by_levels = th ∷ ended_at ths t by_levels
 -- and a step is counted
 abbrev pub counted : WordMachine → ℕ → (List Level → End) → WordMachine
 counted m t by_levels =
-    record { threads = ended_at m.threads t by_levels; shared = m.shared; steps = suc m.steps; stop = m.stop; limits = m.limits }
+    record {
+      threads = ended_at m.threads t by_levels;
+      shared = m.shared;
+      steps = suc m.steps;
+      stop = m.stop;
+      limits = m.limits;
+      preallocated = m.preallocated;
+    }
 
 -- a step came to this machine, or memory was wanting and all is as before
 abbrev pub IsStepped : {E : Type 0} → Result (Unit {0}) E → Vm → Vm → WordMachine → Type 0

@@ -13,7 +13,7 @@ use Rattle.dv_words.specs.Calls.{entered_frame}
 use Rattle.dv_words.specs.declared.state.Level.{Level}
 use Rattle.dv_words.specs.declared.state.Level.TheVariants as level
 use Rattle.dv_words.specs.Heaps.{uncounted}
-use Rattle.dv_words.specs.State.{WordStack, WordThread}
+use Rattle.dv_words.specs.State.{WordStack}
 use Rattle.dv_words.specs.Stacks.{empty, pushed}
 use Rattle.dv_threads.specs.declared.threads.Threads.{Threads}
 use Rattle.dv_threads.specs.Kept.{AreAligned, HasRoom, threads_of}

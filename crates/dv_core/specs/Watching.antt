@@ -5,6 +5,7 @@ use Rattle.dv_defs.specs.declared.machine.End.{End}
 use Rattle.dv_defs.specs.declared.machine.End.TheVariants as end
 use Rattle.dv_defs.specs.declared.run.Ending.{Ending}
 use Rattle.dv_defs.specs.declared.run.Limits.{Limits}
+use Rattle.dv_defs.specs.declared.run.Preallocated.{Preallocated}
 use Rattle.dv_defs.specs.Images.{Image}
 use Rattle.dv_typing.specs.Statics as statics
 use Rattle.dv_typing.specs.Statics.{fetch}
@@ -51,12 +52,14 @@ pub record AreNumbered (g : Guest) : Type 0 where
 
 -- in each machine with this guest, whose threads are numbered, and an image that finds its methods
 abbrev pub InEachMachine : Image → Guest → (WordMachine → Type 0) → Type 0
-InEachMachine i g Says = (s : ℕ) (e : Option Ending) (l : Limits) → AreNumbered g → FindsRightly i → Says (machine_with g s e l)
+InEachMachine i g Says =
+    (s : ℕ) (e : Option Ending) (l : Limits) (p : Preallocated) → AreNumbered g → FindsRightly i → Says (machine_with g s e l p)
 
 -- the same in each view of the thread of this stack
 abbrev pub AtEachCall : Image → Guest → WordStack → (WordMachine → At → Type 0) → Type 0
 AtEachCall i g stack Says =
-    (s : ℕ) (e : Option Ending) (l : Limits) (h : At) → AreNumbered g → FindsRightly i → IsSeenByCalls i g.heap stack h → IsOwn h → Says (machine_with g s e l) h
+    (s : ℕ) (e : Option Ending) (l : Limits) (p : Preallocated) (h : At) → AreNumbered g → FindsRightly i → IsSeenByCalls i g.heap stack h → IsOwn h →
+    Says (machine_with g s e l p) h
 
 -- by what a call on this object comes to: only wait and join hold a thread up
 abbrev pub blocked_landed : WordMachine → ℕ → ℕ → Landed → Option Blocked

@@ -1,5 +1,5 @@
 // The state in which a run begins.
-ghost use Rattle.std.specs.Prelude.{◌≡◌, ◌<◌, ◌≤◌, ℕ, Some, None, bytes_eq, false, not, length, IfOk, OnOk};
+ghost use Rattle.std.specs.Prelude.{◌≡◌, ◌<◌, ◌≤◌, Some, None, bytes_eq, false, not, length, IfOk, OnOk};
 ghost use Rattle.std.specs.Option.{option_to_list};
 ghost use Rattle.dv_defs.specs.declared.run.Limits as runs;
 ghost use Rattle.dv_machine.specs.Classes.{state_at};
@@ -13,11 +13,10 @@ ghost use Rattle.dv_machine.specs.Unwinding as unwinding;
 ghost use Rattle.dv_ops.specs.Meaning.{field_of, method_of};
 ghost use Rattle.dv_words.specs.declared.state.Level.TheVariants as level;
 ghost use Rattle.dv_words.specs.Heaps as heaps;
-ghost use Rattle.dv_words.specs.Heaps.{counting, with_static};
+ghost use Rattle.dv_words.specs.Heaps.{counting, newest, with_static};
 ghost use Rattle.dv_words.specs.Stacks.{empty};
 ghost use Rattle.dv_words.specs.Calls.{entered_frame};
-ghost use Rattle.dv_words.specs.Opening as words;
-ghost use Rattle.dv_words.specs.Opening.{main_args, opening, object_made, with_out, with_out_of, with_string, with_string_of, with_strings};
+ghost use Rattle.dv_words.specs.Opening.{array_made, main_args, main_heap, object_made, opening, preallocated_on, with_out, with_out_of, with_out_of_memory, with_stack_overflow, with_string, with_string_of, with_strings};
 ghost use Rattle.dv_core.specs.Guests.{IsOrdered};
 ghost use Rattle.dv_core.specs.Machines.{machine_of, machine_with};
 ghost use Rattle.dv_core.specs.Openings.{HasMainRoom, HasNone, IsAlone, IsIdle, TakesStrings, is_fresh, opening_stack, with_level};
@@ -25,7 +24,9 @@ ghost use Rattle.dv_core.specs.Openings.{HasMainRoom, HasNone, IsAlone, IsIdle, 
 use crate::guest::Guest;
 use crate::vm::Vm;
 use dv_clinit::{ClassStates, State};
-use dv_defs::{Chars, ClassId, End, FieldId, Image, Init, Limits, MethodDef, MethodId};
+use dv_defs::{
+    Chars, ClassId, End, FieldId, Image, Init, Limits, MethodDef, MethodId, Preallocated,
+};
 use dv_frames::Stack;
 use dv_heap::Heap;
 use dv_image::boot_class;
@@ -38,6 +39,10 @@ const STREAM: &[u8] = b"Ljava/io/PrintStream;";
 
 const THREAD: &[u8] = b"Ljava/lang/Thread;";
 
+const OUT_OF_MEMORY: &[u8] = b"Ljava/lang/OutOfMemoryError;";
+
+const STACK_OVERFLOW: &[u8] = b"Ljava/lang/StackOverflowError;";
+
 const SYSTEM: &[u8] = b"Ljava/lang/System;";
 
 const OUT: &[u8] = b"out";
@@ -47,6 +52,12 @@ const STREAM_OBJECT: u32 = 1;
 
 /// The Thread object of thread 0.
 const THREAD_OBJECT: u32 = 2;
+
+/// What a run without a main method has, which makes nothing.
+const NOTHING_MADE: Preallocated = Preallocated {
+    out_of_memory: 0,
+    stack_overflow: 0,
+};
 
 /// The number of a boot class by its descriptor, 0 where there is none.
 fn number_named(image: &Image, name: &[u8]) -> ClassId
@@ -76,12 +87,13 @@ fn field_id(image: &Image, place: usize) -> FieldId
     FieldId(place as u32)
 }
 
-/// Makes an object of the class of a name. A heap that isn't counted is never full.
-fn make_object(image: &Image, heap: &mut Heap, name: &[u8]) -> Result<(), AllocError>
-    ensures { OnOk result (heap.old.limit ≡ None → heap.new ≡ object_made image.now heap.old name.now) }
+/// Makes an object of the class of a name; gives its number. A heap that isn't counted is never full.
+fn make_object(image: &Image, heap: &mut Heap, name: &[u8]) -> Result<u32, AllocError>
+    ensures heap { OnOk result (heap.old.limit ≡ None → heap.new ≡ object_made image.now heap.old name.now) }
+    ensures number { IfOk result (λ object. object ≡ newest heap.new) }
 {
     match heap.alloc_object(image, number_named(image, name)) {
-        Ok(_) => Ok(()),
+        Ok(object) => Ok(object),
         Err(_) => Err(AllocError),
     }
 }
@@ -91,7 +103,8 @@ fn make_first_objects(image: &Image, heap: &mut Heap) -> Result<(), AllocError>
     ensures { OnOk result (heap.old.limit ≡ None → heap.new ≡ object_made image.now (object_made image.now heap.old stream_name) thread_name) }
 {
     make_object(image, heap, STREAM)?;
-    make_object(image, heap, THREAD)
+    make_object(image, heap, THREAD)?;
+    Ok(())
 }
 
 /// Whether a class has this name.
@@ -184,19 +197,9 @@ fn set_strings(image: &Image, heap: &mut Heap) -> Result<(), AllocError>
     Ok(())
 }
 
-/// Main's array, where it takes one, without elements; and from here on words are counted.
-fn make_array(heap: &mut Heap, main: &Method<'_>, limit: u32) -> Result<Option<u32>, AllocError>
-    ensures heap { OnOk result (TakesStrings (method_of main.now) → heap.new ≡ counting (words.array_made (method_of main.now) heap.old) limit) }
-    ensures args { IfOk result (λ array. option_to_list array ≡ main_args (method_of main.now) heap.new) }
-{
-    let array = array_of(heap, main)?;
-    heap.count(limit);
-    Ok(array)
-}
-
 /// Main's array, where it takes one, without elements. A heap that isn't counted is never full.
-fn array_of(heap: &mut Heap, main: &Method<'_>) -> Result<Option<u32>, AllocError>
-    ensures heap { OnOk result ((limit : ℕ) → TakesStrings (method_of main.now) → counting heap.new limit ≡ counting (words.array_made (method_of main.now) heap.old) limit) }
+fn make_array(heap: &mut Heap, main: &Method<'_>) -> Result<Option<u32>, AllocError>
+    ensures heap { OnOk result (heap.old.limit ≡ None → TakesStrings (method_of main.now) → heap.new ≡ array_made (method_of main.now) heap.old) }
     ensures args { IfOk result (λ array. option_to_list array ≡ main_args (method_of main.now) heap.new) }
 {
     let def = main.def;
@@ -209,21 +212,29 @@ fn array_of(heap: &mut Heap, main: &Method<'_>) -> Result<Option<u32>, AllocErro
     }
 }
 
-/// Fills a heap without objects as a run begins: main's array, where it takes one.
-fn fill_heap(
-    image: &Image,
-    heap: &mut Heap,
-    main: &Method<'_>,
-    limit: u32,
-) -> Result<Option<u32>, AllocError>
-    ensures heap { OnOk result ((l : runs.Limits) → l.heap ≡ limit → heap.old ≡ heaps.uncounted image.now → TakesStrings (method_of main.now) →
-        heap.new ≡ words.opening_heap image.now (method_of main.now) l) }
+/// Fills a heap without objects as a run begins; gives main's array, where it takes one.
+fn fill_heap(image: &Image, heap: &mut Heap, main: &Method<'_>) -> Result<Option<u32>, AllocError>
+    ensures heap { OnOk result (heap.old ≡ heaps.uncounted image.now → TakesStrings (method_of main.now) → heap.new ≡ main_heap image.now (method_of main.now)) }
     ensures args { IfOk result (λ array. option_to_list array ≡ main_args (method_of main.now) heap.new) }
 {
     make_first_objects(image, heap)?;
     set_out(image, heap);
     set_strings(image, heap)?;
-    make_array(heap, main, limit)
+    make_array(heap, main)
+}
+
+/// Makes the exceptions that fly where words or a level's room are lacking; and from here on words are counted.
+fn preallocate(image: &Image, heap: &mut Heap, limit: u32) -> Result<Preallocated, AllocError>
+    ensures heap { OnOk result (heap.old.limit ≡ None → heap.new ≡ counting (with_stack_overflow image.now (with_out_of_memory image.now heap.old)) limit) }
+    ensures numbers { IfOk result (λ made. heap.old.limit ≡ None → made ≡ preallocated_on image.now heap.old) }
+{
+    let out_of_memory = make_object(image, heap, OUT_OF_MEMORY)?;
+    let stack_overflow = make_object(image, heap, STACK_OVERFLOW)?;
+    heap.count(limit);
+    Ok(Preallocated {
+        out_of_memory,
+        stack_overflow,
+    })
 }
 
 /// Thread 0 begins to initialise main's class, where that isn't born initialised; whether it is.
@@ -339,25 +350,27 @@ fn idle_guest(alloc: Global, image: &Image) -> Result<Guest, AllocError>
     })
 }
 
-/// Begins a run of a main method.
+/// Begins a run of a main method; gives the exceptions that are made for it.
 fn begin_main(
     alloc: Global,
     image: &Image,
     guest: &mut Guest,
     main: &Method<'_>,
     limits: &Limits,
-) -> Result<(), AllocError>
-    ensures opened { OnOk result (IsIdle image.now guest.old → pools.method_at image.now main.now.id.0 ≡ Some (method_of main.now) → TakesStrings (method_of main.now) → HasMainRoom limits.now →
-        machine_with guest.new 0 None limits.now ≡ opening image.now (method_of main.now) limits.now) }
+) -> Result<Preallocated, AllocError>
+    ensures opened { IfOk result (λ made. IsIdle image.now guest.old → pools.method_at image.now main.now.id.0 ≡ Some (method_of main.now) → TakesStrings (method_of main.now) → HasMainRoom limits.now →
+        machine_with guest.new 0 None limits.now made ≡ opening image.now (method_of main.now) limits.now) }
     ensures ordered { OnOk result (IsIdle image.now guest.old → IsOrdered limits.now guest.new) }
 {
-    let array = fill_heap(image, &mut guest.heap, main, limits.heap)?;
+    let array = fill_heap(image, &mut guest.heap, main)?;
+    let made = preallocate(image, &mut guest.heap, limits.heap)?;
     let born = begin_class(&mut guest.classes, main);
     let stack = main_stack(alloc, limits, main, array, born)?;
-    add_thread(&mut guest.threads, stack, THREAD_OBJECT)
+    add_thread(&mut guest.threads, stack, THREAD_OBJECT)?;
+    Ok(made)
 }
 
-/// Begins a run of the method of a number. No thread is there where there is no such method.
+/// Begins a run of the method of a number; gives the exceptions that are made for it. No thread is there where there is no such method.
 #[tactic(auto, using(crate::proofs::Opened::opens, crate::proofs::Opened::none_opens))]
 fn begin(
     alloc: Global,
@@ -365,36 +378,16 @@ fn begin(
     guest: &mut Guest,
     main: MethodId,
     limits: &Limits,
-) -> Result<(), AllocError>
-    ensures opened { OnOk result ((m : pools.Method) → IsIdle image.now guest.old → m.id ≡ main.0 → IsMain image.now m → HasMainRoom limits.now →
-        machine_with guest.new 0 None limits.now ≡ opening image.now m limits.now) }
+) -> Result<Preallocated, AllocError>
+    ensures opened { IfOk result (λ made. (m : pools.Method) → IsIdle image.now guest.old → m.id ≡ main.0 → IsMain image.now m → HasMainRoom limits.now →
+        machine_with guest.new 0 None limits.now made ≡ opening image.now m limits.now) }
     ensures ordered { OnOk result (IsIdle image.now guest.old → IsOrdered limits.now guest.new) }
 {
     let Some(main) = method_at(image, main) else {
         guest.heap.count(limits.heap);
-        return Ok(());
+        return Ok(NOTHING_MADE);
     };
     begin_main(alloc, image, guest, &main, limits)
-}
-
-/// What steps change, as a run of the method of a number begins.
-fn first_guest(
-    alloc: Global,
-    image: &Image,
-    main: MethodId,
-    limits: &Limits,
-) -> Result<Guest, AllocError>
-    ensures opened { IfOk result (λ g. (m : pools.Method) → m.id ≡ main.0 → IsMain image.now m → HasMainRoom limits.now → machine_with g 0 None limits.now ≡ opening image.now m limits.now) }
-    ensures ordered { IfOk result (λ g. IsOrdered limits.now g) }
-{
-    let mut guest = idle_guest(alloc, image)?;
-    match begin(alloc, image, &mut guest, main, limits) {
-        Ok(()) => Ok(guest),
-        Err(error) => {
-            drop(guest);
-            Err(error)
-        }
-    }
 }
 
 impl Vm {
@@ -413,12 +406,19 @@ impl Vm {
         ensures opened { IfOk result (λ v. (m : pools.Method) → m.id ≡ main.0 → IsMain image.now m → HasMainRoom limits → machine_of v ≡ opening image.now m limits) }
         ensures ordered { IfOk result (λ v. IsOrdered limits v.guest) }
     {
-        let guest = first_guest(alloc, image, main, &limits)?;
-        Ok(Vm {
-            guest,
-            steps: 0,
-            stop: None,
-            limits,
-        })
+        let mut guest = idle_guest(alloc, image)?;
+        match begin(alloc, image, &mut guest, main, &limits) {
+            Ok(preallocated) => Ok(Vm {
+                guest,
+                steps: 0,
+                stop: None,
+                limits,
+                preallocated,
+            }),
+            Err(error) => {
+                drop(guest);
+                Err(error)
+            }
+        }
     }
 }

@@ -3,6 +3,7 @@ ghost use Rattle.std.specs.Prelude.{◌≡◌, ℕ, None, Ok, Option, ◌<◌, �
 ghost use Rattle.dv_words.specs.State.{WordThread};
 ghost use Rattle.dv_core.specs.Guests.{IsAtOp, IsOrdered, IsSeen, Leaves, Stays, AtEachLevel, Does};
 ghost use Rattle.dv_core.specs.Settling.{behind_exit};
+ghost use Rattle.dv_defs.specs.declared.run.Ending.TheVariants as ending;
 ghost use Rattle.dv_defs.specs.declared.run.Limits.{Limits as Bounds};
 ghost use Rattle.dv_typing.specs.Flow.{is_exit};
 ghost use Rattle.dv_defs.specs.Op.{Code};
@@ -130,16 +131,17 @@ impl Vm {
         self.count(thread, end);
     }
 
-    /// The run stops.
-    fn stop(&mut self, ending: Ending)
-        ensures machine { self.old.steps < 2 ^ 64 - 1 → machine_of self.new ≡ stopped (machine_of self.old) ending }
+    /// The run stops, since its budget of printed bytes is spent.
+    fn stop(&mut self)
+        ensures machine { self.old.steps < 2 ^ 64 - 1 → machine_of self.new ≡ stopped (machine_of self.old) ending.Output }
         ensures ordered { IsInOrder self.old → IsOrdered self.old.limits self.new.guest }
     {
         self.steps = self.steps.wrapping_add(1);
-        self.stop = Some(ending);
+        self.stop = Some(Ending::Output);
     }
 
-    /// A new exception flies, or the heap is full.
+    /// A new exception flies, or the opening's OutOfMemoryError where the words for it are lacking. The frame on top is behind its monitor-exit
+    /// then, where it stood at one.
     fn throw(&mut self, image: &Image, thread: u32, named: Named) -> Result<(), AllocError>
         ensures ok { AtEachLevel image.now self.old.limits self.old.guest thread (λ own h x. self.old.steps < 2 ^ 64 - 1 →
             OnOk result (machine_of self.new ≡ thrown (machine_of self.old) thread own x (made_object image.now self.old.guest.heap named))) }
@@ -147,11 +149,11 @@ impl Vm {
         ensures ordered { AtEachLevel image.now self.old.limits self.old.guest thread (λ own h x. IsOrdered self.old.limits self.new.guest) }
     {
         let made = make(image, &mut self.guest.heap, named)?;
-        let Next::ThrowRef(object) = made else {
-            self.stop(Ending::HeapFull(thread));
-            return Ok(());
-        };
         leave_exit_of(image, &mut self.guest, thread);
+        let object = match made {
+            Next::ThrowRef(object) => object,
+            _ => self.preallocated.out_of_memory,
+        };
         self.fly(thread, object);
         Ok(())
     }
@@ -160,10 +162,10 @@ impl Vm {
     pub fn settle(&mut self, image: &Image, thread: u32, answer: Next) -> Result<(), AllocError>
         ensures ok { (g : Before) (step : Did Left) → AtEachLevel image.now self.old.limits g thread (λ own h x. self.old.steps < 2 ^ 64 - 1 →
             Does (Ok answer) step self.old.limits g self.old.guest own h →
-            OnOk result (machine_of self.new ≡ settled image.now (machine_with g self.old.steps self.old.stop self.old.limits) thread own x step)) }
+            OnOk result (machine_of self.new ≡ settled image.now (machine_with g self.old.steps self.old.stop self.old.limits self.old.preallocated) thread own x step)) }
         ensures memory { (g : Before) (step : Did Left) → AtEachLevel image.now self.old.limits g thread (λ own h x. self.old.steps < 2 ^ 64 - 1 →
             Does (Ok answer) step self.old.limits g self.old.guest own h →
-            OnErr result (machine_of self.new ≡ machine_with g self.old.steps self.old.stop self.old.limits)) }
+            OnErr result (machine_of self.new ≡ machine_with g self.old.steps self.old.stop self.old.limits self.old.preallocated)) }
         ensures ordered { (g : Before) (step : Did Left) → AtEachLevel image.now self.old.limits g thread (λ own h x.
             Does (Ok answer) step self.old.limits g self.old.guest own h → IsOrdered self.old.limits self.new.guest) }
     {
@@ -171,9 +173,9 @@ impl Vm {
             Next::On => self.go_on(thread),
             Next::Throw(named) => return self.throw(image, thread, named),
             Next::ThrowRef(object) => self.fly(thread, object),
-            Next::NoWords => self.stop(Ending::HeapFull(thread)),
-            Next::NoRoom => self.stop(Ending::StackFull(thread)),
-            Next::NoOutput => self.stop(Ending::Output),
+            Next::NoWords => self.fly(thread, self.preallocated.out_of_memory),
+            Next::NoRoom => self.fly(thread, self.preallocated.stack_overflow),
+            Next::NoOutput => self.stop(),
         }
         Ok(())
     }
@@ -182,14 +184,14 @@ impl Vm {
     pub fn settle_flight(&mut self, thread: u32, answer: Next)
         ensures machine { (i : Linked) (g : Before) (own : WordThread) (h : At) (u : Unwound) → IsSeen i self.old.limits g thread own h → self.old.steps < 2 ^ 64 - 1 →
             Unwinds (Ok answer) u (Leaves g self.old.guest own h) (Stays self.old.limits g self.old.guest) →
-            machine_of self.new ≡ settled_flight (machine_with g self.old.steps self.old.stop self.old.limits) thread own u }
+            machine_of self.new ≡ settled_flight (machine_with g self.old.steps self.old.stop self.old.limits self.old.preallocated) thread own u }
         ensures ordered { (i : Linked) (g : Before) (own : WordThread) (h : At) (u : Unwound) → IsSeen i self.old.limits g thread own h →
             Unwinds (Ok answer) u (Leaves g self.old.guest own h) (Stays self.old.limits g self.old.guest) → IsOrdered self.old.limits self.new.guest }
     {
         match answer {
             Next::On => self.go_on(thread),
             Next::ThrowRef(object) => self.fly(thread, object),
-            _ => self.stop(Ending::HeapFull(thread)),
+            _ => self.fly(thread, self.preallocated.out_of_memory),
         }
     }
 }

@@ -21,19 +21,21 @@ use crate::code::step_code;
 use crate::flight::step_flight;
 use crate::guest::Guest;
 use crate::records::step_record;
-use dv_defs::{ClassId, End, Ending, Image, Limits};
+use dv_defs::{ClassId, End, Ending, Image, Limits, Preallocated};
 use dv_frames::Top;
 use dv_heap::Heap;
 use dv_threads::Threads;
 use std::alloc::AllocError;
 
-/// A run as it stands: the guest's state, the steps done, what stopped the run where something did, and its limits.
+/// A run as it stands: the guest's state, the steps done, what stopped the run where something did, its limits, and the exceptions that its
+/// opening made.
 #[derive(Drop)]
 pub struct Vm {
     pub guest: Guest,
     pub steps: u64,
     pub stop: Option<Ending>,
     pub limits: Limits,
+    pub preallocated: Preallocated,
 }
 
 impl Vm {

@@ -2,6 +2,7 @@
 ghost use Rattle.std.specs.Prelude.{◌≡◌, ◌==◌, ◌<◌, ◌^◌, ℕ, Option as Maybe, None as Nothing, Some as Just, List, ◌∷◌, option_map, position, slice_get};
 ghost use Rattle.dv_defs.specs.declared.run.Ending.{Ending};
 ghost use Rattle.dv_defs.specs.declared.run.Limits.{Limits};
+ghost use Rattle.dv_defs.specs.declared.run.Preallocated.{Preallocated};
 ghost use Rattle.dv_defs.specs.declared.machine.End.TheVariants as end;
 ghost use Rattle.dv_machine.specs.Classes.{ask_of};
 ghost use Rattle.dv_defs.specs.Families.{family_at};
@@ -146,7 +147,7 @@ fn blocked_join(guest: &Guest, object: u32) -> Option<Blocked>
 
 /// What holds up a thread whose call on an object runs a native method.
 fn blocked_native(guest: &Guest, thread: u32, object: u32, native: Native) -> Option<Blocked>
-    ensures { (s : ℕ) (e : Maybe Ending) (l : Limits) → AreNumbered guest.now → result ≡ steps.blocked_native (machine_with guest.now s e l) thread object (Just native) }
+    ensures { (s : ℕ) (e : Maybe Ending) (l : Limits) (p : Preallocated) → AreNumbered guest.now → result ≡ steps.blocked_native (machine_with guest.now s e l p) thread object (Just native) }
 {
     match native {
         Native::Wait => blocked_wait(&guest.threads.monitors, thread),
@@ -157,7 +158,7 @@ fn blocked_native(guest: &Guest, thread: u32, object: u32, native: Native) -> Op
 
 /// What holds up a thread whose call on an object comes to this.
 fn blocked_landed(guest: &Guest, thread: u32, object: u32, landed: Landed<'_>) -> Option<Blocked>
-    ensures { (s : ℕ) (e : Maybe Ending) (l : Limits) → AreNumbered guest.now → result ≡ landed_blocked (machine_with guest.now s e l) thread object (landed_of landed.entry) }
+    ensures { (s : ℕ) (e : Maybe Ending) (l : Limits) (p : Preallocated) → AreNumbered guest.now → result ≡ landed_blocked (machine_with guest.now s e l p) thread object (landed_of landed.entry) }
 {
     match landed {
         Landed::Native(native) => blocked_native(guest, thread, object, native),

@@ -19,6 +19,12 @@ throwable_name = codes "Ljava/lang/Throwable;"
 abbrev pub error_name : List ℕ
 error_name = codes "Ljava/lang/Error;"
 
+abbrev pub out_of_memory_name : List ℕ
+out_of_memory_name = codes "Ljava/lang/OutOfMemoryError;"
+
+abbrev pub stack_overflow_name : List ℕ
+stack_overflow_name = codes "Ljava/lang/StackOverflowError;"
+
 abbrev pub system_name : List ℕ
 system_name = codes "Ljava/lang/System;"
 

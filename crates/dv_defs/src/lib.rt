@@ -22,5 +22,5 @@ pub use image::{ClassInfo, FieldInfo, Image, Index, MethodInfo};
 pub use machine::{Ask, Blocked, End};
 pub use names::{Base, Chars, ClassId, FieldId, FieldRef, MethodId, MethodRef, Proto, Text, Ty};
 pub use pool::Pool;
-pub use run::{Ending, Entry, Limits, Named, Native, Next};
+pub use run::{Ending, Entry, Limits, Named, Native, Next, Preallocated};
 pub use seq::Seq;

@@ -84,8 +84,6 @@ module _ (image : Image) (w : WordMachine) (m : Machine) (alike : RunsAlike imag
   ending_by : AllZip ThreadStands w.threads m.threads → (e : Option Ending) → ending_lines_by image w e ≡ machine.ending_lines image m e
   ending_by all None = refl
   ending_by all (Some ending.Done) = refl
-  ending_by all (Some (ending.HeapFull t)) = refl
-  ending_by all (Some (ending.StackFull t)) = refl
   ending_by all (Some ending.NoRunnable) =
       ap (λ bs. bs ++ ending_line ending.NoRunnable) (blocked_is w.threads m.threads 0 all held) ∙
       sym (append_assoc (machine.blocked_lines image m m.threads 0) (codes "#end blocked") newline)

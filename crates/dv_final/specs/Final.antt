@@ -65,8 +65,6 @@ blocked_lines image m (t ∷ ts) k = blocked_line image k (blocked_of image m k)
 
 abbrev pub ending_text : Ending → List ℕ
 ending_text ending.Done = codes "done"
-ending_text (ending.HeapFull t) = codes "heap full " ++ decimal t
-ending_text (ending.StackFull t) = codes "stack full " ++ decimal t
 ending_text ending.NoRunnable = codes "blocked"
 ending_text ending.Steps = codes "steps"
 ending_text ending.Output = codes "output"

@@ -94,14 +94,6 @@ fn add_ending(text: &mut Vec<u8>, ending: Ending) -> Result<(), AllocError>
 {
     match ending {
         Ending::Done => text.extend_from_slice(b"done"),
-        Ending::HeapFull(thread) => {
-            text.extend_from_slice(b"heap full ")?;
-            add_number(text, thread)
-        }
-        Ending::StackFull(thread) => {
-            text.extend_from_slice(b"stack full ")?;
-            add_number(text, thread)
-        }
         Ending::NoRunnable => text.extend_from_slice(b"blocked"),
         Ending::Steps => text.extend_from_slice(b"steps"),
         Ending::Output => text.extend_from_slice(b"output"),

@@ -8,7 +8,7 @@ use Rattle.dv_defs.specs.declared.run.Named.TheVariants as named
 use Rattle.dv_defs.specs.declared.run.Native.{Native}
 use Rattle.dv_typing.specs.declared.typing.RegType.TheVariants as ty
 use Rattle.dv_typing.specs.declared.typing.RegState.{RegState}
-use Rattle.dv_defs.specs.Names.{object_name, class_name, string_name, thread_name, throwable_name, stream_name, system_name}
+use Rattle.dv_defs.specs.Names.{object_name, class_name, string_name, thread_name, throwable_name, stack_overflow_name, stream_name, system_name}
 use Rattle.dv_defs.specs.Field.{may_stand}
 use Rattle.dv_machine.specs.Conforming.{is_string_or_class}
 use Rattle.dv_defs.specs.Types.{of_class, words_of}
@@ -90,9 +90,10 @@ IsNamed image name = (c : ℕ) × (class_named image name ≡ Some c)
 
 -- the boot classes that a step names, each with what the step counts on
 pub record HasBoot (image : Image) : Type 0 where
-  pub there : All (IsNamed image) (object_name ∷ class_name ∷ string_name ∷ thread_name ∷ throwable_name ∷ stream_name ∷ [])
+  pub there : All (IsNamed image) (object_name ∷ class_name ∷ string_name ∷ thread_name ∷ throwable_name ∷ stream_name ∷ stack_overflow_name ∷ [])
   pub exceptions : (n : Named) → IsNamed image (exception_name n)
   pub thrown : (n : Named) → fits image (of_class (exception_name n)) (of_class throwable_name) ≡ true
+  pub overflows : fits image (of_class stack_overflow_name) (of_class throwable_name) ≡ true
   -- String and Class have no constructor, and no class but Object above them: so no reference is to a bare object of theirs
   pub no_bare :
       (n : ℕ) (m : Method) → method_at image n ≡ Some m → is_constructor m ≡ true →

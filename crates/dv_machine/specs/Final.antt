@@ -79,8 +79,6 @@ blocked_lines image m (t ∷ ts) k = blocked_line image k (blocked_thread image 
 abbrev pub ending_lines : Image → Machine → Option Ending → List ℕ
 ending_lines image m None = []
 ending_lines image m (Some ending.Done) = codes "#end done" ++ newline
-ending_lines image m (Some (ending.HeapFull t)) = codes "#end heap full " ++ decimal t ++ newline
-ending_lines image m (Some (ending.StackFull t)) = codes "#end stack full " ++ decimal t ++ newline
 ending_lines image m (Some ending.NoRunnable) = blocked_lines image m m.threads 0 ++ codes "#end blocked" ++ newline
 ending_lines image m (Some ending.Steps) = codes "#end steps" ++ newline
 ending_lines image m (Some ending.Output) = codes "#end output" ++ newline

@@ -2,7 +2,7 @@
 use Rattle.std.specs.Prelude.{ℕ, suc, Bool, true, false, ◌&&◌, List, [], ◌∷◌, ℤ, Option, Some, None, is_none, bytes_eq, codes, if◌then◌else◌}
 use Rattle.dv_defs.specs.declared.flags.Flag.TheVariants as flag
 use Rattle.dv_defs.specs.Flags.{has_flag}
-use Rattle.dv_defs.specs.Names.{string_name, thread_name, system_name, stream_name}
+use Rattle.dv_defs.specs.Names.{string_name, thread_name, out_of_memory_name, stack_overflow_name, system_name, stream_name}
 use Rattle.dv_defs.specs.Types.{is_long}
 use Rattle.dv_typing.specs.RegTypes.{reg_types}
 use Rattle.dv_defs.specs.Pools.{Method, Field, field_at, name_at, supers, initialiser}
@@ -21,6 +21,7 @@ use Rattle.dv_defs.specs.declared.image.FieldInfo.{FieldInfo}
 use Rattle.dv_machine.specs.Value.{Value}
 use Rattle.dv_machine.specs.Value as v
 use Rattle.dv_defs.specs.declared.run.Limits.{Limits}
+use Rattle.dv_defs.specs.declared.run.Preallocated.{Preallocated}
 use Rattle.dv_machine.specs.Frame.{Frame}
 use Rattle.dv_machine.specs.Level.{Level}
 use Rattle.dv_machine.specs.Level as level
@@ -134,13 +135,31 @@ abbrev pub counted_from : Limits → Heap → Heap
 counted_from l heap = record heap { used = 0; limit = Some l.heap }
 
 -- in this order: the object of System.out, thread 0's, the strings of static fields, main's array
-abbrev pub opening_heap : Image → Method → Limits → Heap
-opening_heap image m l =
-    counted_from l
-    (array_made m
+abbrev pub main_heap : Image → Method → Heap
+main_heap image m =
+    array_made m
     (with_strings image image.fields 0
     (with_out image image.fields 0
-    (object_made image (object_made image (empty_heap image) stream_name) thread_name))))
+    (object_made image (object_made image (empty_heap image) stream_name) thread_name)))
+
+-- the exception for want of words, then the one for want of a level's room: message and cause are null
+abbrev pub with_out_of_memory : Image → Heap → Heap
+with_out_of_memory image heap = object_made image heap out_of_memory_name
+
+abbrev pub with_stack_overflow : Image → Heap → Heap
+with_stack_overflow image heap = object_made image heap stack_overflow_name
+
+-- these two are made last
+abbrev pub opening_heap : Image → Method → Limits → Heap
+opening_heap image m l = counted_from l (with_stack_overflow image (with_out_of_memory image (main_heap image m)))
+
+-- their numbers, by what the heap has before them
+abbrev pub preallocated_on : Image → Heap → Preallocated
+preallocated_on image heap =
+    record {
+      out_of_memory = newest (with_out_of_memory image heap);
+      stack_overflow = newest (with_stack_overflow image (with_out_of_memory image heap));
+    }
 
 -- none of these classes declares an initialiser
 abbrev pub none_initialised : Image → List ℕ → Bool
@@ -156,7 +175,7 @@ abbrev pub first_states : Image → List ClassInfo → ℕ → Classes
 first_states image [] k = []
 first_states image (c ∷ cs) k = (if is_born image k then Ready else Fresh) ∷ first_states image cs (suc k)
 
--- main's argument word, where it takes one
+-- main's argument word, where it takes one: the array that was made last
 abbrev pub main_args : Method → Heap → List Value
 main_args m heap = if takes_array m then v.Ref (newest heap) ∷ [] else []
 
@@ -175,12 +194,12 @@ abbrev pub main_thread : Method → Heap → Bool → Thread
 main_thread m heap born =
     record { levels = opening_levels m (entered_frame m (main_args m heap) false) born; end = end.Living; object = 2 }
 
-abbrev pub opened : Image → Limits → Method → Heap → Bool → Machine
-opened image l m heap born =
+abbrev pub opened : Image → Limits → Method → Bool → Machine
+opened image l m born =
     record {
-      threads = main_thread m heap born ∷ [];
+      threads = main_thread m (main_heap image m) born ∷ [];
       shared = record {
-        heap = heap;
+        heap = opening_heap image m l;
         classes = opening_states m (first_states image image.classes 0) born;
         monitors = record { held = []; waits = [] };
         output = [];
@@ -188,8 +207,9 @@ opened image l m heap born =
       steps = 0;
       stop = None;
       limits = l;
+      preallocated = preallocated_on image (main_heap image m);
     }
 
 -- the state in which a run of a main method begins
 abbrev pub opening : Image → Method → Limits → Machine
-opening image m l = opened image l m (opening_heap image m l) (is_born image m.info.class.0)
+opening image m l = opened image l m (is_born image m.info.class.0)

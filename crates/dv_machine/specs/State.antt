@@ -6,6 +6,7 @@ use Rattle.dv_machine.specs.Value.{Value}
 use Rattle.dv_machine.specs.Value as v
 use Rattle.dv_defs.specs.declared.run.Limits.{Limits}
 use Rattle.dv_defs.specs.declared.run.Ending.{Ending}
+use Rattle.dv_defs.specs.declared.run.Preallocated.{Preallocated}
 use Rattle.dv_defs.specs.declared.run.Named.{Named}
 use Rattle.dv_machine.specs.Why.{Why}
 use Rattle.dv_machine.specs.Why as why
@@ -40,13 +41,14 @@ pub record Shared : Type 0 where
   pub monitors : Monitors
   pub output : List ℕ
 
--- threads by number, the steps done, and what stopped the run where something did
+-- threads by number, the steps done, what stopped the run where something did, and the exceptions that the opening made
 pub record Machine : Type 0 where
   pub threads : List Thread
   pub shared : Shared
   pub steps : ℕ
   pub stop : Option Ending
   pub limits : Limits
+  pub preallocated : Preallocated
 
 -- what a step of a thread leaves, with a thread that it started
 pub record Left : Type 0 where

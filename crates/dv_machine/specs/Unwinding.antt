@@ -34,11 +34,11 @@ handler_for image heap o (h ∷ hs) = elim (catches image heap o h.ty) [ true �
 abbrev pub caught_frame : Frame → ℕ → ℕ → Frame
 caught_frame f to o = record f { at = to; result = pending.None; caught = Some o }
 
--- a frame caught it; it flies on; or the words for a new one are lacking
+-- a frame caught it; it flies on; or the words for a new one are lacking, and an OutOfMemoryError flies on in its place
 pub data Unwound : Type 0 where
   Caught : (left : Left) → Unwound
   Flies : (object : ℕ) (left : Left) → Unwound
-  Lacking : Unwound
+  Lacking : (left : Left) → Unwound
 
 -- what is left, with no thread started
 abbrev pub leaves : Shared → List Level → Left
@@ -106,9 +106,9 @@ slot_among image c name (i ∷ is) x =
 abbrev pub throwable_slot : Image → List ℕ → ℕ
 throwable_slot image name = slot_among image (number_named image throwable_name) name image.fields 0
 
--- in a new ExceptionInInitializerError, with it as the cause
+-- in a new ExceptionInInitializerError, with it as the cause; the class is erroneous without one too
 abbrev pub wrapped : Here → ℕ → ℕ → Option Heap → Unwound
-wrapped h c o None = Lacking
+wrapped h c o None = Lacking (leaves (erroneous h c h.shared) (below_record h c))
 wrapped h c o (Some heap) =
     Flies (newest heap)
     (leaves

@@ -2,7 +2,7 @@
 use Rattle.std.specs.Prelude.{◌≡◌, ◌≢◌, ◌⊎◌, ℕ, zero, suc, ◌+◌, ◌≤◌, ◌++◌, true, false, List, [], ◌∷◌, length, Option, Some, None, slice_get, slice_index_or, nat_eq, nat_lt, All, if◌then◌else◌}
 use Rattle.dv_defs.specs.Pools.{is_static_field, Method, Field, method_at, field_at, is_constructor, own_type, initialiser}
 use Rattle.dv_defs.specs.Parts.{Call}
-use Rattle.dv_defs.specs.Names.{object_name, thread_name, throwable_name}
+use Rattle.dv_defs.specs.Names.{object_name, thread_name, throwable_name, out_of_memory_name, stack_overflow_name}
 use Rattle.dv_defs.specs.Types.{of_class, component}
 use Rattle.dv_typing.specs.RegTypes.{reg_types, Types}
 use Rattle.dv_defs.specs.Order.{has_number}
@@ -16,12 +16,13 @@ use Rattle.dv_machine.specs.Classes.{ClassState, InProgress, state_at}
 use Rattle.dv_machine.specs.State.{Thread, Shared, Machine, reg_at}
 use Rattle.dv_machine.specs.Calls.{Lands, dispatch, native_of, receiver_of, object_of}
 use Rattle.dv_machine.specs.Step.{prior}
-use Rattle.dv_machine.specs.Unwinding.{is_opening, caught_frame, catches}
+use Rattle.dv_machine.specs.Unwinding.{is_opening, caught_frame, catches, number_named}
 use Rattle.dv_machine.specs.Conforming.{Own, IsOf, Conform, RegsConform, RefsFine}
 use Rattle.dv_defs.specs.declared.names.Ty.{Ty}
 use Rattle.dv_defs.specs.Images.{Image}
 use Rattle.dv_machine.specs.Value as v
 use Rattle.dv_defs.specs.declared.run.Native.TheVariants as native
+use Rattle.dv_defs.specs.declared.run.Preallocated.{Preallocated}
 use Rattle.dv_machine.specs.Frame.{Frame}
 use Rattle.dv_machine.specs.Level.{Level}
 use Rattle.dv_machine.specs.Level as level
@@ -261,6 +262,15 @@ abbrev pub levels_in : Option Thread → List Level
 levels_in None = []
 levels_in (Some th) = th.levels
 
+-- an object of exactly the class of this name
+abbrev pub IsObjectOf : Image → Heap → List ℕ → ℕ → Type 0
+IsObjectOf image heap name o = kind_of heap o ≡ Some (kind.Object (record { 0 = number_named image name }))
+
+-- the two exceptions that the opening made are there, each of its class
+pub record PreallocatedFine (image : Image) (heap : Heap) (p : Preallocated) : Type 0 where
+  pub out_of_memory : IsObjectOf image heap out_of_memory_name p.out_of_memory
+  pub stack_overflow : IsObjectOf image heap stack_overflow_name p.stack_overflow
+
 -- a state is well typed for a typing of each method
 pub record WellTyped (image : Image) (T : Typings) (m : Machine) : Type 0 where
   pub each : (t : ℕ) (th : Thread) → slice_get m.threads t ≡ Some th → ThreadFine image T m.shared.heap t th.levels th.end
@@ -272,3 +282,4 @@ pub record WellTyped (image : Image) (T : Typings) (m : Machine) : Type 0 where
   pub class_states : length m.shared.classes ≡ length image.classes
   -- a class is in progress by a thread exactly where that has a record of it, and then just one
   pub in_progress : (t c : ℕ) → records c (levels_in (slice_get m.threads t)) ≡ owed t (state_at m.shared.classes c)
+  pub preallocated : PreallocatedFine image m.shared.heap m.preallocated

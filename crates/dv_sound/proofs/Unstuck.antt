@@ -69,7 +69,16 @@ module _ (image : Image) (T : Typings) (m : Machine) (t : ℕ) (h : IsAtLocal im
 
   -- the same state in a run that nothing stopped and that has a step left
   abbrev going : Machine
-  going = let l = m.limits in record { threads = m.threads; shared = m.shared; steps = m.steps; stop = None; limits = record l { budget = suc m.steps } }
+  going =
+      let l = m.limits in
+      record {
+        threads = m.threads;
+        shared = m.shared;
+        steps = m.steps;
+        stop = None;
+        limits = record l { budget = suc m.steps };
+        preallocated = m.preallocated;
+      }
 
   going_typed : WellTyped image T m → WellTyped image T going
   going_typed typed = record {
@@ -80,6 +89,7 @@ module _ (image : Image) (T : Typings) (m : Machine) (t : ℕ) (h : IsAtLocal im
     monitors = typed.monitors;
     class_states = typed.class_states;
     in_progress = typed.in_progress;
+    preallocated = typed.preallocated;
   }
 
   after_typed : (r : Reads Frame) → HoldsOf (WellTyped image T) (after going r) → HoldsOf (WellTyped image T) (after m r)
@@ -92,6 +102,7 @@ module _ (image : Image) (T : Typings) (m : Machine) (t : ℕ) (h : IsAtLocal im
     monitors = typed.monitors;
     class_states = typed.class_states;
     in_progress = typed.in_progress;
+    preallocated = typed.preallocated;
   }
 
   local_typed : Accepted image T → WellTyped image T m → HoldsOf (WellTyped image T) (step image m t)

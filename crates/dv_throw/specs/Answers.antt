@@ -34,10 +34,10 @@ pub record Stays (stack stack' : WordStack) (heap heap' : WordHeap) (classes cla
   pub heap_stays : heap' ≡ heap
   pub classes_stay : classes' ≡ classes
 
--- an answer is what became of the exception: what it leaves is left, and where words or memory are lacking all stays
+-- an answer is what became of the exception: what it leaves is left, and where memory is wanting all stays
 abbrev pub Unwinds : Result Next AllocError → Unwound → (Left → Type 0) → Type 0 → Type 0
 Unwinds (Ok next.On) (Caught l) leaves stays = leaves l
 Unwinds (Ok (next.ThrowRef o)) (Flies p l) leaves stays = (o ≡ p) × leaves l
-Unwinds (Ok next.NoWords) Lacking leaves stays = stays
+Unwinds (Ok next.NoWords) (Lacking l) leaves stays = leaves l
 Unwinds (Err memory) u leaves stays = stays
 Unwinds answer u leaves stays = ⊥

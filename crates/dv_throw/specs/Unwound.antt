@@ -48,15 +48,14 @@ IsThrough next.On (Some to) o stack stack' = stack' ≡ changed (λ f. handling 
 IsThrough (next.ThrowRef p) None o stack stack' = (p ≡ o) × (stack' ≡ popped stack)
 IsThrough answer to o stack stack' = ⊥
 
--- the record on top is dropped, its class is erroneous, and this flies on
-pub record IsEnded (image : Image) (t c : ℕ) (g : Got) (o : ℕ) (stack stack' : WordStack) (heap' : WordHeap) (classes classes' : Classes) : Type 0 where
-  pub object_is : o ≡ g.object
-  pub heap_is : heap' ≡ g.heap
+-- the record on top is dropped, and its class is erroneous
+pub record IsEnded (image : Image) (t c : ℕ) (stack stack' : WordStack) (classes classes' : Classes) : Type 0 where
   pub classes_are : classes' ≡ with_state classes c Erroneous
   pub stack_is : stack' ≡ with_levels stack (below_opening image t c (below stack.levels))
 
-abbrev pub Ends : Result Next AllocError → Option Got → (Got → ℕ → Type 0) → Type 0 → Type 0
-Ends (Ok (next.ThrowRef o)) (Some g) ended stays = ended g o
-Ends (Ok next.NoWords) None ended stays = stays
-Ends (Err memory) g ended stays = stays
-Ends answer g ended stays = ⊥
+-- it has ended, and what was raised flies on; where the words for that are lacking, the heap is as before. Where memory is wanting all stays
+abbrev pub Ends : Result Next AllocError → Option Got → WordHeap → WordHeap → Type 0 → Type 0 → Type 0
+Ends (Ok (next.ThrowRef o)) (Some g) heap heap' ended stays = (g ≡ record { object = o; heap = heap' }) × ended
+Ends (Ok next.NoWords) None heap heap' ended stays = (heap' ≡ heap) × ended
+Ends (Err memory) g heap heap' ended stays = stays
+Ends answer g heap heap' ended stays = ⊥

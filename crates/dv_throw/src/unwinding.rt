@@ -20,7 +20,7 @@ use dv_heap::Heap;
 use std::alloc::AllocError;
 
 /// One level of unwinding. A frame catches the exception by its first fitting handler: `On` then. A frame without one is dropped, and so is
-/// the record of a class, which becomes erroneous: `ThrowRef` of the exception that flies on. `NoWords` where the heap is full for a new
+/// the record of a class, which becomes erroneous: `ThrowRef` of the exception that flies on, or `NoWords` where the heap is full for a new
 /// ExceptionInInitializerError.
 ///
 /// # Errors
@@ -88,15 +88,16 @@ fn unwind_record(
     flying: u32,
 ) -> Result<Next, AllocError>
     ensures { state_at states.old class.0 ≡ InProgress thread →
-        Ends result (raised image.now heap.old flying) (λ g o. IsEnded image.now thread class.0 g o stack.old stack.new heap.new states.old states.new) (Stays stack.old stack.new heap.old heap.new states.old states.new) }
+        Ends result (raised image.now heap.old flying) heap.old heap.new (IsEnded image.now thread class.0 stack.old stack.new states.old states.new) (Stays stack.old stack.new heap.old heap.new states.old states.new) }
 {
     if states.state(class) != State::InProgress(thread) {
         return Ok(Next::ThrowRef(flying));
     }
-    let Some(raised) = raise(image, heap, flying)? else {
-        return Ok(Next::NoWords);
-    };
+    let raised = raise(image, heap, flying)?;
     states.fail(class, thread);
     drop_record(image, stack, thread, class);
-    Ok(Next::ThrowRef(raised))
+    match raised {
+        Some(object) => Ok(Next::ThrowRef(object)),
+        None => Ok(Next::NoWords),
+    }
 }

@@ -6,6 +6,7 @@ pub mod Entries
 pub mod Judged
 pub mod ListingLemmas
 pub mod PieceLemmas
+pub mod Replayed
 pub mod RunLemmas
 pub mod RunningLemmas
 pub mod SaidOnce

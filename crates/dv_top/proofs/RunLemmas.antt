@@ -48,7 +48,7 @@ ended s low =
       small = omega arith;
     }
 
-stopped : (s : ℕ) → 7 ≤ s → s ≤ 10 → IsRunStatus s
+stopped : (s : ℕ) → 9 ≤ s → s ≤ 10 → IsRunStatus s
 stopped s low high =
     record {
       read = omega arith;
@@ -70,8 +70,6 @@ of_first (Some (end.Died o)) = ended 1 (omega arith)
 
 of_ending : (e : Ending) (first : Option End) → IsRunStatus (code_of (status_by e first))
 of_ending ending.Done first = of_first first
-of_ending (ending.HeapFull t) first = stopped 7 (omega arith) (omega arith)
-of_ending (ending.StackFull t) first = stopped 8 (omega arith) (omega arith)
 of_ending ending.NoRunnable first = stopped 9 (omega arith) (omega arith)
 of_ending ending.Steps first = stopped 10 (omega arith) (omega arith)
 of_ending ending.Output first = stopped 10 (omega arith) (omega arith)

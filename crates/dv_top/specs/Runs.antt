@@ -35,8 +35,6 @@ end_of (Some thread) = Some thread.end
 -- the status that tells of an ending
 abbrev pub status_by : Ending → Option End → Status
 status_by ending.Done first = status_by_end first
-status_by (ending.HeapFull t) first = exit.HeapFull
-status_by (ending.StackFull t) first = exit.StackFull
 status_by ending.NoRunnable first = exit.Blocked
 status_by ending.Steps first = exit.Spent
 status_by ending.Output first = exit.Spent

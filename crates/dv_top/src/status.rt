@@ -3,7 +3,7 @@ ghost use Rattle.std.specs.Prelude.{◌≡◌};
 
 use dv_defs::{End, Ending};
 
-/// The exit status of a call, with the number that the system sees.
+/// The exit status of a call, with the number that the system sees. 7 and 8 were other endings once, and aren't used again.
 #[derive(Clone, Copy, PartialEq, Eq, Debug)]
 pub enum Status {
     /// The run ended, and its first thread returned; or the program was listed, or accepted.
@@ -20,10 +20,6 @@ pub enum Status {
     BadText = 5,
     /// The verifier refused the program.
     Refused = 6,
-    /// The heap is full.
-    HeapFull = 7,
-    /// A thread's stack is full.
-    StackFull = 8,
     /// No thread is runnable.
     Blocked = 9,
     /// The budget of steps or of printed bytes is spent.
@@ -53,8 +49,6 @@ impl Status {
     {
         match ending {
             Ending::Done => Status::by_end(first),
-            Ending::HeapFull(_) => Status::HeapFull,
-            Ending::StackFull(_) => Status::StackFull,
             Ending::NoRunnable => Status::Blocked,
             Ending::Steps | Ending::Output => Status::Spent,
         }

@@ -85,4 +85,11 @@ erased_shared s = record { heap = erased_heap s.heap; classes = s.classes; monit
 
 abbrev pub erased_machine : Machine → WordMachine
 erased_machine m =
-    record { threads = map erased_thread m.threads; shared = erased_shared m.shared; steps = m.steps; stop = m.stop; limits = m.limits }
+    record {
+      threads = map erased_thread m.threads;
+      shared = erased_shared m.shared;
+      steps = m.steps;
+      stop = m.stop;
+      limits = m.limits;
+      preallocated = m.preallocated;
+    }

@@ -4,9 +4,10 @@ use Rattle.dv_defs.specs.declared.image.FieldInfo.{FieldInfo}
 use Rattle.dv_defs.specs.declared.machine.End.TheVariants as end
 use Rattle.dv_defs.specs.declared.names.Base.TheVariants as base
 use Rattle.dv_defs.specs.declared.run.Limits.{Limits}
+use Rattle.dv_defs.specs.declared.run.Preallocated.{Preallocated}
 use Rattle.dv_machine.specs.Heap.{class_cells}
 use Rattle.dv_defs.specs.Images.{Image}
-use Rattle.dv_defs.specs.Names.{stream_name, string_name, thread_name}
+use Rattle.dv_defs.specs.Names.{out_of_memory_name, stack_overflow_name, stream_name, string_name, thread_name}
 use Rattle.dv_defs.specs.Pools.{Field, Method, field_at}
 use Rattle.dv_machine.specs.Opening.{first_states, is_born, is_out, opening_states, string_of, takes_array}
 use Rattle.dv_machine.specs.Unwinding.{number_named}
@@ -60,17 +61,34 @@ with_out image (i ∷ is) k heap = with_out image is (suc k) (with_out_of image 
 abbrev pub array_made : Method → WordHeap → WordHeap
 array_made m heap = if takes_array m then made heap (kind.Array (record { dims = 1; base = base.Class string_name })) [] else heap
 
--- in this order: the object of System.out, thread 0's, the strings of static fields, main's array; from here on room is counted
-abbrev pub opening_heap : Image → Method → Limits → WordHeap
-opening_heap image m l =
-    counting
-    (array_made m
+-- in this order: the object of System.out, thread 0's, the strings of static fields, main's array
+abbrev pub main_heap : Image → Method → WordHeap
+main_heap image m =
+    array_made m
     (with_strings image image.fields 0
     (with_out image image.fields 0
-    (object_made image (object_made image (uncounted image) stream_name) thread_name))))
-    l.heap
+    (object_made image (object_made image (uncounted image) stream_name) thread_name)))
 
--- main's argument word, where it takes one
+-- the exception for want of words, then the one for want of a level's room: message and cause are null
+abbrev pub with_out_of_memory : Image → WordHeap → WordHeap
+with_out_of_memory image heap = object_made image heap out_of_memory_name
+
+abbrev pub with_stack_overflow : Image → WordHeap → WordHeap
+with_stack_overflow image heap = object_made image heap stack_overflow_name
+
+-- these two are made last; from here on room is counted
+abbrev pub opening_heap : Image → Method → Limits → WordHeap
+opening_heap image m l = counting (with_stack_overflow image (with_out_of_memory image (main_heap image m))) l.heap
+
+-- their numbers, by what the heap has before them
+abbrev pub preallocated_on : Image → WordHeap → Preallocated
+preallocated_on image heap =
+    record {
+      out_of_memory = newest (with_out_of_memory image heap);
+      stack_overflow = newest (with_stack_overflow image (with_out_of_memory image heap));
+    }
+
+-- main's argument word, where it takes one: the array that was made last
 abbrev pub main_args : Method → WordHeap → List ℕ
 main_args m heap = if takes_array m then newest heap ∷ [] else []
 
@@ -84,12 +102,12 @@ abbrev pub main_thread : Method → WordHeap → Bool → WordThread
 main_thread m heap born =
     record { levels = opening_levels m (entered_frame m (main_args m heap)) born; end = end.Living; object = 2 }
 
-abbrev pub opened : Image → Limits → Method → WordHeap → Bool → WordMachine
-opened image l m heap born =
+abbrev pub opened : Image → Limits → Method → Bool → WordMachine
+opened image l m born =
     record {
-      threads = main_thread m heap born ∷ [];
+      threads = main_thread m (main_heap image m) born ∷ [];
       shared = record {
-        heap = heap;
+        heap = opening_heap image m l;
         classes = opening_states m (first_states image image.classes 0) born;
         monitors = record { held = []; waits = [] };
         output = [];
@@ -97,8 +115,9 @@ opened image l m heap born =
       steps = 0;
       stop = None;
       limits = l;
+      preallocated = preallocated_on image (main_heap image m);
     }
 
 -- the state in which a run of a main method begins
 abbrev pub opening : Image → Method → Limits → WordMachine
-opening image m l = opened image l m (opening_heap image m l) (is_born image m.info.class.0)
+opening image m l = opened image l m (is_born image m.info.class.0)

@@ -92,6 +92,7 @@ pub record MachineStands (w : WordMachine) (m : Machine) : Type 0 where
   pub steps : w.steps ≡ m.steps
   pub stop : w.stop ≡ m.stop
   pub limits : w.limits ≡ m.limits
+  pub preallocated : w.preallocated ≡ m.preallocated
 
 -- ---- 32 bits
 

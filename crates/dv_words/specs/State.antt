@@ -3,6 +3,7 @@ use Rattle.std.specs.Prelude.{ℕ, List, Option}
 use Rattle.dv_defs.specs.declared.machine.End.{End}
 use Rattle.dv_defs.specs.declared.run.Ending.{Ending}
 use Rattle.dv_defs.specs.declared.run.Limits.{Limits}
+use Rattle.dv_defs.specs.declared.run.Preallocated.{Preallocated}
 use Rattle.dv_machine.specs.Classes.{Classes}
 use Rattle.dv_machine.specs.Monitors.{Monitors}
 use Rattle.dv_words.specs.declared.state.Kind.{Kind}
@@ -40,10 +41,11 @@ pub record WordShared : Type 0 where
   pub monitors : Monitors
   pub output : List ℕ
 
--- threads by number, the steps done, and what stopped the run where something did
+-- threads by number, the steps done, what stopped the run where something did, and the exceptions that the opening made
 pub record WordMachine : Type 0 where
   pub threads : List WordThread
   pub shared : WordShared
   pub steps : ℕ
   pub stop : Option Ending
   pub limits : Limits
+  pub preallocated : Preallocated

@@ -121,9 +121,17 @@ abbrev pub moved_on : Option statics.At → List Level → List Level
 moved_on (Some x) (level.Code f ∷ ls) = if is_exit x.op then level.Code (record f { at = x.next }) ∷ ls else level.Code f ∷ ls
 moved_on x ls = ls
 
--- a new exception flies, where there is room for its object
+-- a step that lacks words lets the opening's OutOfMemoryError fly over these levels, and makes nothing
+abbrev pub out_of_memory : WordMachine → ℕ → WordThread → List Level → WordMachine
+out_of_memory m t th ls = flown m t th m.preallocated.out_of_memory (leaves m.shared ls)
+
+-- a level without room lets the opening's StackOverflowError fly (JLS 15.12.4.5)
+abbrev pub stack_overflow : WordMachine → ℕ → WordThread → WordMachine
+stack_overflow m t th = flown m t th m.preallocated.stack_overflow (leaves m.shared th.levels)
+
+-- a new exception flies; where its words are lacking, the OutOfMemoryError does
 abbrev pub thrown : WordMachine → ℕ → WordThread → Option statics.At → Option WordHeap → WordMachine
-thrown m t th x None = stopped m (ending.HeapFull t)
+thrown m t th x None = out_of_memory m t th (moved_on x th.levels)
 thrown m t th x (Some heap) = flown m t th (newest heap) (leaves (with_heap m.shared heap) (moved_on x th.levels))
 
 -- an outcome as the state after it
@@ -131,8 +139,8 @@ abbrev pub settled : Image → WordMachine → ℕ → WordThread → Option sta
 settled image m t th x (Go l) = gone_on m t th l
 settled image m t th x (Throws n) = thrown m t th x (made_object image m.shared.heap n)
 settled image m t th x (ThrowsRef o) = flown m t th o (leaves m.shared th.levels)
-settled image m t th x NoWords = stopped m (ending.HeapFull t)
-settled image m t th x NoRoom = stopped m (ending.StackFull t)
+settled image m t th x NoWords = out_of_memory m t th th.levels
+settled image m t th x NoRoom = stack_overflow m t th
 settled image m t th x NoOutput = stopped m ending.Output
 settled image m t th x (IsStuck y) = m
 
@@ -140,7 +148,7 @@ settled image m t th x (IsStuck y) = m
 abbrev pub settled_flight : WordMachine → ℕ → WordThread → Unwound → WordMachine
 settled_flight m t th (Caught l) = gone_on m t th l
 settled_flight m t th (Flies o l) = flown m t th o l
-settled_flight m t th Lacking = stopped m (ending.HeapFull t)
+settled_flight m t th (Lacking l) = flown m t th m.preallocated.out_of_memory l
 
 -- ---- a step
 

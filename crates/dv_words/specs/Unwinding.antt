@@ -30,11 +30,11 @@ abbrev pub handler_for : Image → WordHeap → ℕ → List Catcher → Option 
 handler_for image heap o [] = None
 handler_for image heap o (h ∷ hs) = elim (catches image heap o h.ty) [ true ↦ Some h.to | false ↦ handler_for image heap o hs ]
 
--- a frame caught it; it flies on; or the words for a new one are lacking
+-- a frame caught it; it flies on; or the words for a new one are lacking, and an OutOfMemoryError flies on in its place
 pub data Unwound : Type 0 where
   Caught : (left : Left) → Unwound
   Flies : (object : ℕ) (left : Left) → Unwound
-  Lacking : Unwound
+  Lacking : (left : Left) → Unwound
 
 -- a frame without a fitting handler is dropped (JLS 11.3)
 abbrev pub unwind_frame : At → Frame → ℕ → Option ℕ → Unwound
@@ -57,9 +57,9 @@ erroneous c sh = with_classes sh (with_state sh.classes c Erroneous)
 abbrev pub made_object : Image → WordHeap → Named → Option WordHeap
 made_object image heap n = alloc_object image heap (number_named image (exception_name n))
 
--- in a new ExceptionInInitializerError, with it as the cause
+-- in a new ExceptionInInitializerError, with it as the cause; the class is erroneous without one too
 abbrev pub wrapped : At → ℕ → ℕ → Option WordHeap → Unwound
-wrapped h c o None = Lacking
+wrapped h c o None = Lacking (leaves (erroneous c h.shared) (below_record h c))
 wrapped h c o (Some heap) =
     Flies (newest heap)
     (leaves

@@ -53,7 +53,7 @@ module _ (image : Image) (m n : Machine) (t : ℕ) (th : Thread) where
   flight_counts : (u : Unwound) → settled_flight m t th u ≡ Ok n → IsCounted m n
   flight_counts (Caught l) e = same_machine m _ n (record { steps = refl; limits = refl }) e
   flight_counts (Flies o l) e = same_machine m _ n (record { steps = refl; limits = refl }) e
-  flight_counts Lacking e = same_machine m _ n (record { steps = refl; limits = refl }) e
+  flight_counts (Lacking l) e = same_machine m _ n (record { steps = refl; limits = refl }) e
 
   code_counts : (f : Frame) (ls : List Level) (own : Option Method) (a : Option At) → elim own as (λ z. Reads Machine) [ None ↦ Err why.Instruction | Some g ↦ step_at image m t th g f ls a ] ≡ Ok n → IsCounted m n
   code_counts f ls None a e = absurd (cc)

@@ -74,7 +74,7 @@ module _ (image : Image) (w : WordMachine) (t : ℕ) (th : WordThread) where
   flown o l room = with_thread w t (record { levels = l.levels; end = over.end_flying o l.levels; object = th.object }) l room
 
   thrown : (a : Option At) (heap : Option WordHeap) → LeavesOthers w (over.thrown w t th a heap) t
-  thrown a None = stopped w t (ending.HeapFull t)
+  thrown a None = flown w.preallocated.out_of_memory (leaves w.shared (over.moved_on a th.levels)) (inl refl)
   thrown a (Some heap) = flown (newest heap) (leaves (with_heap w.shared heap) (over.moved_on a th.levels)) (inl refl)
 
   module _ (own : Method) (f : Frame) (ls : List Level) (next : ℕ) where
@@ -82,15 +82,15 @@ module _ (image : Image) (w : WordMachine) (t : ℕ) (th : WordThread) where
     settled a (Go l) room = gone l room
     settled a (Throws n) room = thrown a (made_object image w.shared.heap n)
     settled a (ThrowsRef o) room = flown o (leaves w.shared th.levels) (inl refl)
-    settled a NoWords room = stopped w t (ending.HeapFull t)
-    settled a NoRoom room = stopped w t (ending.StackFull t)
+    settled a NoWords room = flown w.preallocated.out_of_memory (leaves w.shared th.levels) (inl refl)
+    settled a NoRoom room = flown w.preallocated.stack_overflow (leaves w.shared th.levels) (inl refl)
     settled a NoOutput room = stopped w t ending.Output
     settled a (IsStuck y) room = unchanged w t
 
     settled_flight : (d : Unwound) → FliesInRoom (over.here image w t own f ls next) d → LeavesOthers w (over.settled_flight w t th d) t
     settled_flight (Caught l) room = gone l room
     settled_flight (Flies o l) room = flown o l room
-    settled_flight Lacking room = stopped w t (ending.HeapFull t)
+    settled_flight (Lacking l) room = flown w.preallocated.out_of_memory l room
 
   -- ---- a step
 

@@ -54,7 +54,7 @@ StartsInRoom h d = Unit {0}
 abbrev pub FliesInRoom : At → Unwound → Type 0
 FliesInRoom h (Caught l) = HasRoom h l
 FliesInRoom h (Flies o l) = HasRoom h l
-FliesInRoom h Lacking = Unit {0}
+FliesInRoom h (Lacking l) = HasRoom h l
 
 module _ (h : At) where
   -- ---- the parts that operations share
@@ -243,7 +243,7 @@ module _ (h : At) where
   frame_starts f o (Some to) = inl refl
 
   wrapped_starts : (c o : ℕ) (heap : Option WordHeap) → FliesInRoom h (falling.wrapped h c o heap)
-  wrapped_starts c o None = tt
+  wrapped_starts c o None = inl refl
   wrapped_starts c o (Some heap) = inl refl
 
   pub unwound_starts : (c o : ℕ) → FliesInRoom h (falling.unwind_record h c o)

@@ -14,7 +14,7 @@ use Rattle.dv_defs.specs.declared.run.Named.TheVariants as named
 use Rattle.dv_defs.specs.declared.flags.Flag.TheVariants as flag
 use Rattle.dv_defs.specs.Flags.{has_flag}
 use Rattle.dv_defs.specs.Images.{Image}
-use Rattle.dv_defs.specs.Names.{object_name, class_name, string_name, thread_name, throwable_name, stream_name, system_name, init_name}
+use Rattle.dv_defs.specs.Names.{object_name, class_name, string_name, thread_name, throwable_name, stream_name, system_name, init_name, stack_overflow_name}
 use Rattle.dv_defs.specs.Types.{of_class, ty_eq}
 use Rattle.dv_defs.specs.Pools.{Method, Field, method_at, field_at, is_static, is_static_field, is_constructor, class_named, name_at, declared_name, parent_at}
 use Rattle.dv_defs.specs.Order.{implements, both_found, instance, fits, is_interface_type}
@@ -82,15 +82,16 @@ module _ (image : Image) (is : IsImage image) where
   named_row : (k : ℕ) (row : Row) → slice_get class_rows k ≡ Some row → IsNamed image (word row 0)
   named_row k row at = let has = row_there image is k row at in (has.number, has.named)
 
-  pub boot_there : All (IsNamed image) (object_name ∷ class_name ∷ string_name ∷ thread_name ∷ throwable_name ∷ stream_name ∷ [])
+  pub boot_there : All (IsNamed image) (object_name ∷ class_name ∷ string_name ∷ thread_name ∷ throwable_name ∷ stream_name ∷ stack_overflow_name ∷ [])
   boot_there =
-      All-cons (IsNamed image) object_name (class_name ∷ string_name ∷ thread_name ∷ throwable_name ∷ stream_name ∷ []) (named_row 0 _ refl)
-      (All-cons (IsNamed image) class_name (string_name ∷ thread_name ∷ throwable_name ∷ stream_name ∷ []) (named_row 2 _ refl)
-      (All-cons (IsNamed image) string_name (thread_name ∷ throwable_name ∷ stream_name ∷ []) (named_row 4 _ refl)
-      (All-cons (IsNamed image) thread_name (throwable_name ∷ stream_name ∷ []) (named_row 3 _ refl)
-      (All-cons (IsNamed image) throwable_name (stream_name ∷ []) (named_row 10 _ refl)
-      (All-cons (IsNamed image) stream_name [] (named_row 7 _ refl)
-      (All-nil (IsNamed image)))))))
+      All-cons (IsNamed image) object_name (class_name ∷ string_name ∷ thread_name ∷ throwable_name ∷ stream_name ∷ stack_overflow_name ∷ []) (named_row 0 _ refl)
+      (All-cons (IsNamed image) class_name (string_name ∷ thread_name ∷ throwable_name ∷ stream_name ∷ stack_overflow_name ∷ []) (named_row 2 _ refl)
+      (All-cons (IsNamed image) string_name (thread_name ∷ throwable_name ∷ stream_name ∷ stack_overflow_name ∷ []) (named_row 4 _ refl)
+      (All-cons (IsNamed image) thread_name (throwable_name ∷ stream_name ∷ stack_overflow_name ∷ []) (named_row 3 _ refl)
+      (All-cons (IsNamed image) throwable_name (stream_name ∷ stack_overflow_name ∷ []) (named_row 10 _ refl)
+      (All-cons (IsNamed image) stream_name (stack_overflow_name ∷ []) (named_row 7 _ refl)
+      (All-cons (IsNamed image) stack_overflow_name [] (named_row 32 _ refl)
+      (All-nil (IsNamed image))))))))
 
   -- ---- the exceptions
 
@@ -175,13 +176,19 @@ module _ (image : Image) (is : IsImage image) where
       by true = refl
       by false = numbered
 
-  pub boot_thrown : (n : Named) → fits image (of_class (exception_name n)) (of_class throwable_name) ≡ true
+  throws_of : (name : List ℕ) → IsThrown name → fits image (of_class name) (of_class throwable_name) ≡ true
   unfolding fits
-  boot_thrown n = by (is_interface_type image (of_class throwable_name))
+  throws_of name thrown = by (is_interface_type image (of_class throwable_name))
     where
-      by : (b : Bool) → elim b [ true ↦ true | false ↦ instance image (of_class (exception_name n)) (of_class throwable_name) ] ≡ true
+      by : (b : Bool) → elim b [ true ↦ true | false ↦ instance image (of_class name) (of_class throwable_name) ] ≡ true
       by true = refl
-      by false = both_are (exception_name n) (thrown_by n)
+      by false = both_are name thrown
+
+  pub boot_thrown : (n : Named) → fits image (of_class (exception_name n)) (of_class throwable_name) ≡ true
+  boot_thrown n = throws_of (exception_name n) (thrown_by n)
+
+  pub boot_overflows : fits image (of_class stack_overflow_name) (of_class throwable_name) ≡ true
+  boot_overflows = throws_of stack_overflow_name (below 32 stack_overflow_name (codes "Ljava/lang/VirtualMachineError;") refl refl machine)
 
   -- ---- the classes String, Class and Object
 

@@ -15,7 +15,7 @@ use Rattle.dv_typing.specs.Flow.{is_exit}
 use Rattle.dv_machine.specs.Heap.{Heap, kind_of}
 use Rattle.dv_machine.specs.Monitors.{wait_of}
 use Rattle.dv_machine.specs.Classes.{state_at}
-use Rattle.dv_machine.specs.State.{Thread, Machine, Left, Did, Go, Throws, ThrowsRef, IsStuck, Reads, Here}
+use Rattle.dv_machine.specs.State.{Thread, Machine, Left, Did, Go, Throws, ThrowsRef, NoWords, NoRoom, NoOutput, IsStuck, Reads, Here}
 use Rattle.dv_machine.specs.Step.{gone_on, end_after, here, no_method, no_frame}
 use Rattle.dv_machine.specs.Running.{runnable, ending_of}
 use Rattle.dv_machine.specs.Conforming.{IsOf, Conform, RefsFine}
@@ -82,21 +82,29 @@ pub record ThrowFine (m : Machine) (t : ℕ) (x : At) : Type 0 where
   pub can : can_throw x.op ≡ true
   pub apart : wait_of m.shared.monitors t ≡ None
 
+-- the same where its address stays: it is no monitor-exit
+abbrev pub ThrowStays : Machine → ℕ → At → Type 0
+ThrowStays m t x = ThrowFine m t x × (is_exit x.op ≡ false)
+
 -- what an instruction does; it is never stuck
 abbrev pub DidFine : Image → Typings → Machine → ℕ → Thread → At → Did Left → Type 0
 DidFine image T m t thread x (Go l) = LeftFine image T m t thread l
 DidFine image T m t thread x (Throws n) = ThrowFine m t x
 DidFine image T m t thread x (ThrowsRef o) = ThrowFine m t x × (is_exit x.op ≡ false) × IsThrowable image m.shared.heap o
+DidFine image T m t thread x NoWords = ThrowStays m t x
+DidFine image T m t thread x NoRoom = ThrowStays m t x
+DidFine image T m t thread x NoOutput = Unit {0}
 DidFine image T m t thread x (IsStuck y) = ⊥
-DidFine image T m t thread x stops = Unit {0}
 
 -- what a record does: it throws no object that is there already
 abbrev pub RecordDidFine : Image → Typings → Machine → ℕ → Thread → Did Left → Type 0
 RecordDidFine image T m t thread (Go l) = LeftFine image T m t thread l
 RecordDidFine image T m t thread (Throws n) = wait_of m.shared.monitors t ≡ None
 RecordDidFine image T m t thread (ThrowsRef o) = ⊥
+RecordDidFine image T m t thread NoWords = wait_of m.shared.monitors t ≡ None
+RecordDidFine image T m t thread NoRoom = wait_of m.shared.monitors t ≡ None
+RecordDidFine image T m t thread NoOutput = Unit {0}
 RecordDidFine image T m t thread (IsStuck y) = ⊥
-RecordDidFine image T m t thread stops = Unit {0}
 
 -- a read that gives something of which this holds
 abbrev pub HoldsOf : {A : Type 0} → (A → Type 0) → Reads A → Type 0

@@ -14,10 +14,10 @@ use Rattle.dv_defs.specs.declared.machine.Blocked.{Blocked}
 use Rattle.dv_typing.specs.declared.typing.RegType.{RegType}
 use Rattle.dv_typing.specs.declared.typing.RegType.TheVariants as ty
 use Rattle.dv_typing.specs.declared.typing.RegState.{RegState}
-use Rattle.dv_defs.specs.Names.{thread_name, string_name, main_name}
+use Rattle.dv_defs.specs.Names.{thread_name}
 use Rattle.dv_defs.specs.Types.{of_class}
 use Rattle.dv_defs.specs.Parts.{Call}
-use Rattle.dv_defs.specs.Pools.{Method, Field, method_at, field_at, is_static, is_abstract, class_type}
+use Rattle.dv_defs.specs.Pools.{Method, Field, field_at, is_abstract, class_type}
 use Rattle.dv_defs.specs.Op.{Op, Invoke, Enter, Exit, Code, code_at, can_throw, is_local, is_return, needs}
 use Rattle.dv_typing.specs.Statics.{At}
 use Rattle.dv_typing.specs.RegTypes.{Types, type_at, reg_types}
@@ -120,7 +120,7 @@ ClassObjectIsGot =
 
 -- a machine on another heap
 abbrev pub on_heap : Machine → Heap → Machine
-on_heap m heap = record { threads = m.threads; shared = with_heap m.shared heap; steps = m.steps; stop = m.stop; limits = m.limits }
+on_heap m heap = record m { shared = with_heap m.shared heap }
 
 -- a well-typed state stays so as objects are added
 abbrev pub GrowthKeeps : Type 0

@@ -1,21 +1,17 @@
 -- What each kind of instruction leaves of the output begins with what was there.
-use Rattle.std.proofs.Common.{◌≡◌, ◌∙◌, ℕ, zero, suc, ◌++◌, ◌+◌, Bool, true, false, not, List, [], ◌∷◌, length, Option, Some, None, refl, sym, append-nil}
-use Rattle.std.specs.Prelude.{ℤ, pos, negsuc, Ok, Err, if◌then◌else◌, nat_le, nat_lt, nat_eq, slice_get, take, drop, ◌&&◌, ◌||◌}
-use Rattle.dv_defs.specs.Images.{Image}
+use Rattle.std.proofs.Common.{◌≡◌, ◌∙◌, ℕ, suc, ◌+◌, Bool, true, false, List, [], ◌∷◌, length, Option, Some, None, refl, sym, append-nil}
+use Rattle.std.specs.Prelude.{ℤ, pos, negsuc, if◌then◌else◌, nat_le, nat_lt, slice_get, ◌&&◌}
 use Rattle.dv_defs.specs.declared.machine.Ask.{Ask}
 use Rattle.dv_defs.specs.declared.machine.Ask.TheVariants as ask
 use Rattle.dv_defs.specs.declared.names.Ty.{Ty}
-use Rattle.dv_defs.specs.declared.run.Named.TheVariants as named
 use Rattle.dv_defs.specs.declared.run.Native.{Native}
 use Rattle.dv_defs.specs.declared.run.Native.TheVariants as native
-use Rattle.dv_defs.specs.Parts.{Call, Width, Suffix}
-use Rattle.dv_defs.specs.Parts as parts
-use Rattle.dv_defs.specs.Pools.{Method, Field, is_abstract, is_constructor, is_static, is_of_object, nearest}
+use Rattle.dv_defs.specs.Parts.{Call, Width}
+use Rattle.dv_defs.specs.Pools.{Method, is_abstract, is_constructor, is_static}
 use Rattle.dv_defs.specs.Op.{Op, is_local, IntDivide, LongDivide, ConstString, ConstClass, Cast, InstanceOf, ArrayLength, New, NewArray, Filled, Fill, Throw, ArrayGet, ArrayPut, FieldGet, FieldPut, StaticGet, StaticPut, Invoke, ReturnVoid, Return, Enter, Exit}
-use Rattle.dv_typing.specs.Statics.{At, fetch}
-use Rattle.dv_typing.specs.Demands.{is_void, result_width, same_width}
+use Rattle.dv_typing.specs.Statics.{At}
 use Rattle.dv_machine.specs.Classes.{ask_of}
-use Rattle.dv_machine.specs.Heap.{Heap, length_of}
+use Rattle.dv_machine.specs.Heap.{length_of}
 use Rattle.dv_machine.specs.Frame.{Frame}
 use Rattle.dv_machine.specs.Level.{Level}
 use Rattle.dv_machine.specs.Level as level
@@ -23,15 +19,13 @@ use Rattle.dv_machine.specs.Monitors.{Held, Wait, owner_of}
 use Rattle.dv_machine.specs.Pending.{Pending}
 use Rattle.dv_machine.specs.Value.{Value}
 use Rattle.dv_machine.specs.Why as why
-use Rattle.dv_machine.specs.State.{Shared, Left, Did, Go, Here, reading, reg_at, read_args, regs_in, words_in, pushed, where_true, where_room, IsStuck}
-use Rattle.dv_machine.specs.Mem.{mem, on_object, on_index, array_put, get_element, fill, filled_array, new_array, get_field, put_field}
-use Rattle.dv_machine.specs.Local.{local}
-use Rattle.dv_machine.specs.Natives.{native_step, printed, gives_char, char_at, some_chars, new_text}
-use Rattle.dv_machine.specs.Threads.{wait_on, wait_step, taken_back, notify_on, notify_all_on, start_on, start_unless, started_on, join_on, join_with, holding, holding_it, monitor_enter, monitor_exit, free_or_mine, thread_with, is_living}
-use Rattle.dv_machine.specs.Calls.{Landing, Lands, Lacks, invoke, landed, landed_on, native_of, call_instance, call_constructor, construct, enter_constructor, with_receiver, call_object, back, back_on, back_to, unless_pending, return_void, return_form, return_value, dispatch, enter, unless_abstract}
-use Rattle.dv_machine.specs.Step.{local_left, act, begun, for_class, with_ready, look_at, run_initialiser, initialised_by, record_step}
-use Rattle.law_output.specs.Laws.{PrintsOn}
-use Rattle.law_output.proofs.Parts.{Leaves, leaves_go, is_quiet, quiet, prints_none, by_reading, by_room, by_truth, by_test, by_object}
+use Rattle.dv_machine.specs.State.{Shared, Left, Did, Go, Here, reading, reg_at, read_args, regs_in, words_in, pushed, IsStuck}
+use Rattle.dv_machine.specs.Mem.{mem, on_index, new_array}
+use Rattle.dv_machine.specs.Natives.{native_step, printed, gives_char, char_at, some_chars}
+use Rattle.dv_machine.specs.Threads.{wait_step, taken_back, start_unless, started_on, join_with, holding_it, monitor_enter, monitor_exit, free_or_mine, is_living}
+use Rattle.dv_machine.specs.Calls.{Landing, Lands, Lacks, invoke, landed, landed_on, call_instance, call_constructor, with_receiver, back_on, back_to, unless_pending, return_void, return_form, return_value, enter, unless_abstract}
+use Rattle.dv_machine.specs.Step.{local_left, act, for_class, with_ready, look_at, initialised_by, record_step}
+use Rattle.law_output.proofs.Parts.{Leaves, leaves_go, is_quiet, quiet, by_reading, by_room, by_truth, by_test, by_object}
 
 -- an outcome at hand leaves the output, or adds to it
 abbrev pub Fine : Here → Did Left → Type 0

@@ -1,15 +1,9 @@
 -- What an outcome leaves of the output begins with what was there: each kind of instruction.
-use Rattle.std.proofs.Common.{◌≡◌, ℕ, zero, suc, ◌++◌, Bool, true, false, not, List, [], ◌∷◌, length, Option, Some, None, refl, sym, ap, ◌∙◌, append-nil, append_assoc, subst}
+use Rattle.std.proofs.Common.{◌≡◌, ℕ, zero, suc, ◌++◌, Bool, true, false, List, [], Option, Some, None, refl, sym, ap, ◌∙◌, append-nil, append_assoc, subst}
 use Rattle.std.proofs.lemmas.Bool.{true≢false}
-use Rattle.std.specs.Prelude.{ℤ, pos, negsuc, Ok, Err, if◌then◌else◌, nat_le, slice_get}
+use Rattle.std.specs.Prelude.{Ok, Err, if◌then◌else◌}
 use Rattle.dv_defs.specs.declared.run.Named.{Named}
-use Rattle.dv_defs.specs.declared.run.Native.{Native}
-use Rattle.dv_defs.specs.declared.run.Native.TheVariants as native
-use Rattle.dv_defs.specs.Pools.{Method}
-use Rattle.dv_defs.specs.Parts.{Call, Width, Suffix}
-use Rattle.dv_defs.specs.Op.{Op}
-use Rattle.dv_machine.specs.Value.{Value}
-use Rattle.dv_machine.specs.State.{Shared, Left, Did, Go, Throws, ThrowsRef, NoWords, NoRoom, NoOutput, IsStuck, Here, Reads, reading, where_room, where_true}
+use Rattle.dv_machine.specs.State.{Left, Did, Go, Reads, reading, where_room, where_true}
 use Rattle.dv_machine.specs.Mem.{on_object}
 use Rattle.law_output.specs.Laws.{PrintsOn}
 

@@ -1,6 +1,6 @@
 -- What a step, the steps of an entry and a turn leave of the output begins with what was there.
-use Rattle.std.proofs.Common.{◌≡◌, ℕ, zero, suc, ◌++◌, Bool, true, false, List, [], ◌∷◌, Option, Some, None, refl, sym, ap, ◌∙◌, subst}
-use Rattle.std.specs.Prelude.{◌&&◌, not, nat_eq, Result, Ok, Err, slice_get, if◌then◌else◌}
+use Rattle.std.proofs.Common.{◌≡◌, ℕ, zero, suc, Bool, true, false, List, [], ◌∷◌, Option, Some, None, refl, subst}
+use Rattle.std.specs.Prelude.{◌&&◌, not, nat_eq, Ok, Err, slice_get, if◌then◌else◌}
 use Rattle.dv_defs.specs.Images.{Image}
 use Rattle.dv_defs.specs.declared.machine.End.{End}
 use Rattle.dv_defs.specs.declared.machine.End.TheVariants as end
@@ -21,7 +21,7 @@ use Rattle.dv_machine.specs.Step.{here, no_frame, no_method, settled, settled_fl
 use Rattle.dv_machine.specs.Unwinding.{Unwound, Caught, Flies, Lacking, below_record, erroneous, handler_for, is_error, leaves, made_object, unwind_frame, unwind_record, wrapped}
 use Rattle.law_output.specs.Laws.{EntriesPrintOn, MachinePrintsOn, PrintsOn, StepsPrintOn, TurnsPrintOn}
 use Rattle.law_output.proofs.Parts.{Leaves, prints_none, prints_more}
-use Rattle.law_output.proofs.Instructions.{Fine, ready_fine, record_fine}
+use Rattle.law_output.proofs.Instructions.{ready_fine, record_fine}
 
 -- a machine that is read, if it is, prints on
 abbrev After : Machine → Reads Machine → Type 0
@@ -53,19 +53,19 @@ settled_on image m t th x (IsStuck y) is = tt
 abbrev Quiet : List ℕ → Unwound → Type 0
 Quiet out (Caught l) = PrintsOn out l.shared.output
 Quiet out (Flies o l) = PrintsOn out l.shared.output
-Quiet out Lacking = Unit {0}
+Quiet out (Lacking l) = PrintsOn out l.shared.output
 
 flight_on : (m : Machine) (t : ℕ) (th : Thread) (u : Unwound) → Quiet m.shared.output u → After m (settled_flight m t th u)
 flight_on m t th (Caught l) is = is
 flight_on m t th (Flies o l) is = is
-flight_on m t th Lacking is = same m
+flight_on m t th (Lacking l) is = is
 
 frame_quiet : (h : Here) (f : Frame) (o : ℕ) (to : Option ℕ) → Quiet h.shared.output (unwind_frame h f o to)
 frame_quiet h f o None = prints_none h.shared.output
 frame_quiet h f o (Some to) = prints_none h.shared.output
 
 wrapped_quiet : (h : Here) (c o : ℕ) (x : Option Heap) → Quiet h.shared.output (wrapped h c o x)
-wrapped_quiet h c o None = tt
+wrapped_quiet h c o None = prints_none h.shared.output
 wrapped_quiet h c o (Some heap) = prints_none h.shared.output
 
 either_quiet : (out : List ℕ) (b : Bool) (x y : Unwound) → Quiet out x → Quiet out y → Quiet out (if b then x else y)

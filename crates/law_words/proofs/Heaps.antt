@@ -1,5 +1,5 @@
 -- Heaps on words are the erasures of those that they stand for.
-use Rattle.std.proofs.Common.{◌≡◌, ℕ, suc, List, [], ◌∷◌, All, Option, length, map, refl, sym, ap, subst, ◌∙◌, arith}
+use Rattle.std.proofs.Common.{◌≡◌, ℕ, List, [], ◌∷◌, All, Option, length, map, refl, sym, ap, subst, ◌∙◌, arith}
 use Rattle.std.proofs.lemmas.List.Elements.{All-head, All-tail}
 use Rattle.dv_machine.specs.Value.{Value}
 use Rattle.dv_machine.specs.Kind as tagged_kind
@@ -7,7 +7,7 @@ use Rattle.dv_machine.specs.Heap.{Heap}
 use Rattle.dv_words.specs.declared.state.Kind.{Kind}
 use Rattle.dv_words.specs.Erasure.{all_words, erased_heap, erased_kind, erased_values, object_words}
 use Rattle.law_words.specs.ErasureLaws.{HeapsAreErased}
-use Rattle.dv_words.specs.Standing.{AllFit, AreWhole, AreWords, HeapFits, HeapStands, IsWholeHeap, ObjectStands, ObjectsStand}
+use Rattle.dv_words.specs.Standing.{AllFit, AreWhole, HeapFits, HeapStands, IsWholeHeap, ObjectStands, ObjectsStand}
 use Rattle.dv_words.specs.State.{WordHeap}
 use Rattle.law_words.proofs.Erasing.{same_lists, same_words, stand_lists, stand_words}
 

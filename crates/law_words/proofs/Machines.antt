@@ -5,6 +5,7 @@ use Rattle.std.proofs.lemmas.List.Elements.{All-head, All-tail}
 use Rattle.dv_defs.specs.declared.machine.End.{End}
 use Rattle.dv_defs.specs.declared.run.Ending.{Ending}
 use Rattle.dv_defs.specs.declared.run.Limits.{Limits}
+use Rattle.dv_defs.specs.declared.run.Preallocated.{Preallocated}
 use Rattle.dv_machine.specs.Classes.{Classes}
 use Rattle.dv_machine.specs.Monitors.{Monitors}
 use Rattle.dv_machine.specs.State.{Machine, Shared, Thread}
@@ -50,17 +51,18 @@ same_shared w s same fits whole stands =
     ∙ (ap (λ m. shared_of (erased_heap s.heap) s.classes m w.output) stands.monitors
     ∙ ap (shared_of (erased_heap s.heap) s.classes s.monitors) stands.output))
 
-abbrev machine_of : List WordThread → WordShared → ℕ → Option Ending → Limits → WordMachine
-machine_of ts s n e l = record { threads = ts; shared = s; steps = n; stop = e; limits = l }
+abbrev machine_of : List WordThread → WordShared → ℕ → Option Ending → Limits → Preallocated → WordMachine
+machine_of ts s n e l p = record { threads = ts; shared = s; steps = n; stop = e; limits = l; preallocated = p }
 
 same_machine : (w : WordMachine) (m : Machine) → length m.shared.heap.cells ≡ length m.shared.heap.kinds → MachineFits w → IsWholeMachine m → MachineStands w m → w ≡ erased_machine m
 same_machine w m same fits whole stands =
     let ts = map erased_thread m.threads in
     let s = erased_shared m.shared in
-    ap (λ x. machine_of x w.shared w.steps w.stop w.limits) (same_threads w.threads m.threads fits.0 whole.0 stands.threads)
-    ∙ (ap (λ x. machine_of ts x w.steps w.stop w.limits) (same_shared w.shared m.shared same fits.1 whole.1 stands.shared)
-    ∙ (ap (λ x. machine_of ts s x w.stop w.limits) stands.steps
-    ∙ (ap (λ x. machine_of ts s m.steps x w.limits) stands.stop ∙ ap (machine_of ts s m.steps m.stop) stands.limits)))
+    ap (λ x. machine_of x w.shared w.steps w.stop w.limits w.preallocated) (same_threads w.threads m.threads fits.0 whole.0 stands.threads)
+    ∙ (ap (λ x. machine_of ts x w.steps w.stop w.limits w.preallocated) (same_shared w.shared m.shared same fits.1 whole.1 stands.shared)
+    ∙ (ap (λ x. machine_of ts s x w.stop w.limits w.preallocated) stands.steps
+    ∙ (ap (λ x. machine_of ts s m.steps x w.limits w.preallocated) stands.stop
+    ∙ (ap (λ x. machine_of ts s m.steps m.stop x w.preallocated) stands.limits ∙ ap (machine_of ts s m.steps m.stop m.limits) stands.preallocated))))
 
 machine_stands : (m : Machine) → length m.shared.heap.cells ≡ length m.shared.heap.kinds → MachineFits (erased_machine m) → IsWholeMachine m → MachineStands (erased_machine m) m
 machine_stands m same fits whole =
@@ -70,6 +72,7 @@ machine_stands m same fits whole =
       steps = refl;
       stop = refl;
       limits = refl;
+      preallocated = refl;
     }
 
 pub machines_are_erased : MachinesAreErased

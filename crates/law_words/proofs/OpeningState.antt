@@ -12,7 +12,7 @@ use Rattle.dv_machine.specs.Value as v
 use Rattle.dv_machine.specs.Heap as tagged
 use Rattle.dv_machine.specs.Heap.{Cells, Heap, class_cells, found_among}
 use Rattle.dv_defs.specs.Images.{Image}
-use Rattle.dv_defs.specs.Names.{stream_name, string_name, thread_name}
+use Rattle.dv_defs.specs.Names.{out_of_memory_name, stack_overflow_name, stream_name, string_name, thread_name}
 use Rattle.dv_defs.specs.Pools.{Field, Method, field_at}
 use Rattle.dv_machine.specs.Calls as tagged_calls
 use Rattle.dv_machine.specs.Opening as machine
@@ -119,10 +119,14 @@ array_good m w h good = by (takes_array m)
     by false = good
 
 module _ (image : Image) (m : Method) (l : Limits) (whole : StaticsAreWhole image) (texts : InitsAreTexts image) (few : l.heap < 2 ^ 31) where
-  heap_good : Good
-      (over.array_made m (over.with_strings image image.fields 0 (over.with_out image image.fields 0 (over.object_made image (over.object_made image (words.uncounted image) stream_name) thread_name))))
-      (machine.array_made m (machine.with_strings image image.fields 0 (machine.with_out image image.fields 0 (machine.object_made image (machine.object_made image (machine.empty_heap image) stream_name) thread_name))))
-  heap_good = array_good m _ _ (strings_good image image.fields 0 _ _ texts (outs_good image image.fields 0 _ _ (object_good image _ _ thread_name (object_good image _ _ stream_name (empty_good image whole)))))
+  main_good : Good (over.main_heap image m) (machine.main_heap image m)
+  main_good = array_good m _ _ (strings_good image image.fields 0 _ _ texts (outs_good image image.fields 0 _ _ (object_good image _ _ thread_name (object_good image _ _ stream_name (empty_good image whole)))))
+
+  memory_good : Good (over.with_out_of_memory image (over.main_heap image m)) (machine.with_out_of_memory image (machine.main_heap image m))
+  memory_good = object_good image (over.main_heap image m) (machine.main_heap image m) out_of_memory_name main_good
+
+  heap_good : Good (over.with_stack_overflow image (over.with_out_of_memory image (over.main_heap image m))) (machine.with_stack_overflow image (machine.with_out_of_memory image (machine.main_heap image m)))
+  heap_good = object_good image _ _ stack_overflow_name memory_good
 
   heap_stands : HeapStands (over.opening_heap image m l) (machine.opening_heap image m l)
   heap_stands = let s = heap_good.stands in record { kinds = s.kinds; cells = s.cells; statics = s.statics; interned = s.interned; class_objects = s.class_objects; used = refl; limit = refl }
@@ -130,14 +134,20 @@ module _ (image : Image) (m : Method) (l : Limits) (whole : StaticsAreWhole imag
   bounded : IsBounded (machine.opening_heap image m l)
   bounded = record { short = heap_good.short; limit = l.heap; counted = refl; few = few }
 
-  args_stand : AreWords (over.main_args m (over.opening_heap image m l)) (machine.main_args m (machine.opening_heap image m l))
+  numbers_are : over.preallocated_on image (over.main_heap image m) ≡ machine.preallocated_on image (machine.main_heap image m)
+  numbers_are = λ j. record {
+    out_of_memory = newest_is (over.with_out_of_memory image (over.main_heap image m)) (machine.with_out_of_memory image (machine.main_heap image m)) memory_good.stands j;
+    stack_overflow = newest_is (over.with_stack_overflow image (over.with_out_of_memory image (over.main_heap image m))) (machine.with_stack_overflow image (machine.with_out_of_memory image (machine.main_heap image m))) heap_good.stands j;
+  }
+
+  args_stand : AreWords (over.main_args m (over.main_heap image m)) (machine.main_args m (machine.main_heap image m))
   args_stand = by (takes_array m)
     where
-      by : (b : Bool) → AreWords (if b then words.newest (over.opening_heap image m l) ∷ [] else []) (if b then v.Ref (tagged.newest (machine.opening_heap image m l)) ∷ [] else [])
-      by true = (newest_is (over.opening_heap image m l) (machine.opening_heap image m l) heap_stands, tt)
+      by : (b : Bool) → AreWords (if b then words.newest (over.main_heap image m) ∷ [] else []) (if b then v.Ref (tagged.newest (machine.main_heap image m)) ∷ [] else [])
+      by true = (newest_is (over.main_heap image m) (machine.main_heap image m) main_good.stands, tt)
       by false = tt
 
-  levels_stand : (b : Bool) → LevelsStand (over.opening_levels m (calls.entered_frame m (over.main_args m (over.opening_heap image m l))) b) (machine.opening_levels m (tagged_calls.entered_frame m (machine.main_args m (machine.opening_heap image m l)) false) b)
+  levels_stand : (b : Bool) → LevelsStand (over.opening_levels m (calls.entered_frame m (over.main_args m (over.main_heap image m))) b) (machine.opening_levels m (tagged_calls.entered_frame m (machine.main_args m (machine.main_heap image m)) false) b)
   levels_stand true = (entered_stands m _ _ false args_stand, tt)
   levels_stand false = ((refl, refl), (entered_stands m _ _ false args_stand, tt))
 
@@ -149,6 +159,7 @@ module _ (image : Image) (m : Method) (l : Limits) (whole : StaticsAreWhole imag
       steps = refl;
       stop = refl;
       limits = refl;
+      preallocated = numbers_are;
     },
     bounded,
   )

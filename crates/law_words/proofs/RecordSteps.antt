@@ -121,7 +121,7 @@ module _ (w : steps.At) (h : Here) (stands : AtStands w h) where
   abbrev pub UnwoundStands : falling.Unwound → flight.Unwound → Type 0
   UnwoundStands (falling.Caught s) (flight.Caught l) = LeavesStand s l
   UnwoundStands (falling.Flies o s) (flight.Flies p l) = (o ≡ p) × LeavesStand s l
-  UnwoundStands falling.Lacking flight.Lacking = Unit {0}
+  UnwoundStands (falling.Lacking s) (flight.Lacking l) = LeavesStand s l
   UnwoundStands s l = ⊥
 
   leaves_stand : (x : WordShared) (y : Shared) (ss : List Level) (ls : List tagged_level.Level) → SharedStands x y → LevelsStand ss ls → IsBounded y.heap → LeavesStand (steps.leaves x ss) (flight.leaves y ls)
@@ -173,7 +173,7 @@ module _ (w : steps.At) (h : Here) (stands : AtStands w h) where
 
   wrapped_room : (c o n : ℕ) (a b : Bool) (x : WordHeap) (y : Heap) → a ≡ b → HeapStands x y → IsBounded y → tagged.newest y ≡ suc n → IsPlain (tagged.kind_of y (suc n)) →
       UnwoundStands (falling.wrapped w c o (elim a [ true ↦ Some x | false ↦ None ])) (flight.wrapped h c o (elim b [ true ↦ Some y | false ↦ None ]))
-  wrapped_room c o n false false x y e s bounded new plain = tt
+  wrapped_room c o n false false x y e s bounded new plain = leaves_stand _ _ (falling.below_record w c) (flight.below_record h c) (erroneous_stands c w.shared h.shared stands.shared) (below_stands c) stands.bounded
   wrapped_room c o n true false x y e s bounded new plain = absurd (cc)
   wrapped_room c o n false true x y e s bounded new plain = absurd (cc)
   wrapped_room c o n true true x y e s bounded new plain =

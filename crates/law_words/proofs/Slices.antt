@@ -68,7 +68,7 @@ module _ (image : Image) (w : WordMachine) (t : ℕ) (s : Frame) (ls : List Leve
   Top f = record { levels = level.Code f ∷ ls; end = end.Living; object = object }
 
   abbrev after : Frame → WordMachine
-  after f = record { threads = slice_set w.threads t (Top f) ++ []; shared = w.shared; steps = suc w.steps; stop = w.stop; limits = w.limits }
+  after f = record { threads = slice_set w.threads t (Top f) ++ []; shared = w.shared; steps = suc w.steps; stop = w.stop; limits = w.limits; preallocated = w.preallocated }
 
   act_local : (h : steps.At) (op : Op) → is_local op ≡ true → act h op ≡ steps.local_left h op
   act_local h (IntDivide o a b c) e = absurd (cc)
@@ -124,7 +124,7 @@ local_was (Some x) s u e = by (is_local x.op) refl e
     by false is d = absurd (cc)
 
 abbrev machine_of : WordMachine → List WordThread → ℕ → WordMachine
-machine_of w ts n = record { threads = ts; shared = w.shared; steps = n; stop = w.stop; limits = w.limits }
+machine_of w ts n = record { threads = ts; shared = w.shared; steps = n; stop = w.stop; limits = w.limits; preallocated = w.preallocated }
 
 module _ (image : Image) (w : WordMachine) (t : ℕ) (th : WordThread) (s : Frame) (ls : List Level) (has : slice_get w.threads t ≡ Some th) (living : th.end ≡ end.Living) (levels : th.levels ≡ level.Code s ∷ ls) where
   abbrev Put : Frame → WordThread

@@ -13,6 +13,7 @@ use Rattle.dv_defs.specs.declared.names.MethodId.{MethodId}
 use Rattle.dv_defs.specs.declared.run.Ending.{Ending}
 use Rattle.dv_defs.specs.declared.run.Ending.TheVariants as ending
 use Rattle.dv_defs.specs.declared.run.Named.{Named}
+use Rattle.dv_defs.specs.declared.run.Preallocated.{Preallocated}
 use Rattle.dv_typing.specs.Flow.{handlers_at, is_exit}
 use Rattle.dv_machine.specs.Heap as tagged
 use Rattle.dv_machine.specs.Heap.{Heap}
@@ -79,7 +80,7 @@ After w n = MachineStands w n × IsBounded n.shared.heap
 
 module _ (w : WordMachine) (m : Machine) (t : ℕ) (stands : MachineStands w m) (bounded : IsBounded m.shared.heap) (x : WordThread) (th : Thread) (one : ThreadStands x th) where
   stopped_stands : (e : Ending) → After (over.stopped w e) (step.stopped m e)
-  stopped_stands e = (record { threads = stands.threads; shared = stands.shared; steps = ap suc stands.steps; stop = refl; limits = stands.limits }, bounded)
+  stopped_stands e = (record { threads = stands.threads; shared = stands.shared; steps = ap suc stands.steps; stop = refl; limits = stands.limits; preallocated = stands.preallocated }, bounded)
 
   with_stands : (y : WordThread) (u : Thread) (s : steps.Left) (l : Left) → ThreadStands y u → LeavesStand s l → After (over.with_thread w t y s) (step.with_thread m t u l)
   with_stands y u s l new left = (
@@ -89,6 +90,7 @@ module _ (w : WordMachine) (m : Machine) (t : ℕ) (stands : MachineStands w m) 
       steps = ap suc stands.steps;
       stop = stands.stop;
       limits = stands.limits;
+      preallocated = stands.preallocated;
     },
     left.bounded,
   )
@@ -115,8 +117,15 @@ module _ (w : WordMachine) (m : Machine) (t : ℕ) (stands : MachineStands w m) 
       by true = let frame : FrameStands s f = all.0 in (record { method = frame.method; at = refl; regs = frame.regs; result = frame.result; caught = frame.caught }, all.1)
       by false = all
 
+  -- the exception of the opening flies where words or levels are lacking
+  lacking_words : (ss : List Level) (ls : List tagged_level.Level) → LevelsStand ss ls → After (over.out_of_memory w t x ss) (step.out_of_memory m t th ls)
+  lacking_words ss ls all = flown_stands _ _ (steps.leaves w.shared ss) (flight.leaves m.shared ls) (ap (λ (p : Preallocated). p.out_of_memory) stands.preallocated) (record { levels = all; shared = stands.shared; started = tt; bounded = bounded })
+
+  lacking_levels : After (over.stack_overflow w t x) (step.stack_overflow m t th)
+  lacking_levels = flown_stands _ _ (steps.leaves w.shared x.levels) (flight.leaves m.shared th.levels) (ap (λ (p : Preallocated). p.stack_overflow) stands.preallocated) (record { levels = one.levels; shared = stands.shared; started = tt; bounded = bounded })
+
   thrown_by : (a : Option statics.At) (y : Option WordHeap) (z : Option Heap) → OptionStands y z → IsBoundedOption z → After (over.thrown w t x a y) (step.thrown m t th a z)
-  thrown_by a None None s few = stopped_stands (ending.HeapFull t)
+  thrown_by a None None s few = lacking_words (over.moved_on a x.levels) (step.moved_on a th.levels) (moved_stands a x.levels th.levels one.levels)
   thrown_by a None (Some z) s few = absurd s
   thrown_by a (Some y) None s few = absurd s
   thrown_by a (Some y) (Some z) s few =
@@ -138,15 +147,15 @@ module _ (w : WordMachine) (m : Machine) (t : ℕ) (stands : MachineStands w m) 
   settled_stands image a (ThrowsRef o) (ThrowsRef p) n same is =
       subst (After (over.flown w t x o (steps.leaves w.shared x.levels))) (same_machine _ n is)
       (flown_stands o p (steps.leaves w.shared x.levels) (flight.leaves m.shared th.levels) same (record { levels = one.levels; shared = stands.shared; started = tt; bounded = bounded }))
-  settled_stands image a NoWords NoWords n s is = subst (After (over.stopped w (ending.HeapFull t))) (same_machine _ n is) (stopped_stands (ending.HeapFull t))
-  settled_stands image a NoRoom NoRoom n s is = subst (After (over.stopped w (ending.StackFull t))) (same_machine _ n is) (stopped_stands (ending.StackFull t))
+  settled_stands image a NoWords NoWords n s is = subst (After (over.out_of_memory w t x x.levels)) (same_machine _ n is) (lacking_words x.levels th.levels one.levels)
+  settled_stands image a NoRoom NoRoom n s is = subst (After (over.stack_overflow w t x)) (same_machine _ n is) lacking_levels
   settled_stands image a NoOutput NoOutput n s is = subst (After (over.stopped w ending.Output)) (same_machine _ n is) (stopped_stands ending.Output)
   settled_stands image a d e n s is = absurd s
 
   settled_flight_stands : (a : steps.At) (h : machine.Here) (there : AtStands a h) (d : falling.Unwound) (e : flight.Unwound) (n : Machine) → UnwoundStands a h there d e → step.settled_flight m t th e ≡ Ok n → After (over.settled_flight w t x d) n
   settled_flight_stands a h there (falling.Caught s) (flight.Caught l) n left is = subst (After (over.gone_on w t x s)) (same_machine _ n is) (gone_stands s l left)
   settled_flight_stands a h there (falling.Flies o s) (flight.Flies p l) n left is = subst (After (over.flown w t x o s)) (same_machine _ n is) (flown_stands o p s l left.0 left.1)
-  settled_flight_stands a h there falling.Lacking flight.Lacking n left is = subst (After (over.stopped w (ending.HeapFull t))) (same_machine _ n is) (stopped_stands (ending.HeapFull t))
+  settled_flight_stands a h there (falling.Lacking s) (flight.Lacking l) n left is = subst (After (over.flown w t x w.preallocated.out_of_memory s)) (same_machine _ n is) (flown_stands _ _ s l (ap (λ (p : Preallocated). p.out_of_memory) stands.preallocated) left)
   settled_flight_stands a h there d e n left is = absurd left
 
 -- ---- a step

@@ -1,4 +1,4 @@
--- Examples: stops at limits.
+-- Examples: runs at limits.
 use Rattle.std.specs.Prelude.{◌≡◌, [], ◌∷◌, Some, None, codes}
 use Rattle.dv_defs.specs.Images.{Image}
 use Rattle.dv_defs.specs.Types.{of_class}
@@ -207,20 +207,24 @@ starting = with_boot
     info 34 0 [] [] (6 ∷ []) ∷ [])
     []
 
--- stops at limits
+-- runs at limits
 pub record Stops : Type 0 where
   -- an array that just fits
   pub heap_suffices : outcome_within (record usual { heap = 64 }) fitting 98 ≡ lines (codes "62" ∷ codes "#end done" ∷ [])
   -- one word more
-  pub heap_is_full : outcome_within (record usual { heap = 64 }) filling 98 ≡ lines (codes "#end heap full 0" ∷ [])
+  pub heap_is_full :
+      outcome_within (record usual { heap = 64 }) filling 98 ≡ lines
+      (codes "#uncaught 0 java.lang.OutOfMemoryError" ∷ codes "#end done" ∷ [])
   -- 1,024 levels
   pub stack_suffices : outcome deep 99 ≡ lines (codes "#end done" ∷ [])
   -- one level more
-  pub stack_is_full : outcome deeper 99 ≡ lines (codes "#end stack full 0" ∷ [])
+  pub stack_is_full : outcome deeper 99 ≡ lines (codes "#uncaught 0 java.lang.StackOverflowError" ∷ codes "#end done" ∷ [])
   -- as many register words as there may be
   pub words_suffice : outcome_within (record usual { words = 64 }) wide 99 ≡ lines (codes "#end done" ∷ [])
   -- one word more
-  pub words_are_full : outcome_within (record usual { words = 64 }) wider 99 ≡ lines (codes "#end stack full 0" ∷ [])
+  pub words_are_full :
+      outcome_within (record usual { words = 64 }) wider 99 ≡ lines
+      (codes "#uncaught 0 java.lang.StackOverflowError" ∷ codes "#end done" ∷ [])
   -- one step
   pub budget_is_spent : outcome_within (record usual { budget = 1 }) looping 98 ≡ lines (codes "#end steps" ∷ [])
   -- the second line of four bytes doesn't fit into seven

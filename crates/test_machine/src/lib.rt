@@ -69,7 +69,7 @@ pub fn threads()
     ensures examples { Threads }
 {}
 
-/// That runs stop at their limits and not before; it does nothing.
+/// That runs come up to their limits, and not past them; it does nothing.
 #[tactic(auto, using(crate::proofs::Computed::Limits::stops))]
 pub fn stops()
     ensures examples { Stops }

@@ -97,7 +97,7 @@ const OTHER: &[Level] = &[Frame("LY;"), RECORD];
 /// A thread, its levels, how many of them are left, the object in flight, how many words the heap has left, and the answer.
 type Ending = (u32, &'static [Level], usize, u32, u32, Next);
 
-/// The first frame goes with its record in thread 0 alone, where it is the only one and of the record's class.
+/// The first frame goes with its record in thread 0 alone, where it is the only one and of the record's class; also where words are lacking.
 const ENDINGS: &[Ending] = &[
     (0, OPENING, 0, FAULT, 0, ThrowRef(FAULT)),
     (1, OPENING, 1, FAULT, 0, ThrowRef(FAULT)),
@@ -105,7 +105,8 @@ const ENDINGS: &[Ending] = &[
     (0, OTHER, 1, FAULT, 0, ThrowRef(FAULT)),
     (1, OPENING, 1, EXCEPTION, 4, ThrowRef(NEW)),
     (0, CALLED, 2, MID, 5, ThrowRef(NEW)),
-    (1, CALLED, 3, MID, 3, NoWords),
+    (1, CALLED, 2, MID, 3, NoWords),
+    (0, OPENING, 0, MID, 0, NoWords),
 ];
 
 fn class_of<R: Abort>(rt: &R, image: &Image, name: &str) -> ClassId {
@@ -187,13 +188,10 @@ fn is_heap_left(image: &Image, stage: &Stage, before: &Stage, cause: u32, answer
         && stage.heap.used() == 4
 }
 
-/// Whether X is in the state that the answer goes with, and the other classes are in theirs.
-fn are_states_left(image: &Image, stage: &Stage, before: &Stage, x: ClassId, answer: Next) -> bool {
-    let state = match answer {
-        Next::NoWords => before.states.state(x),
-        _ => State::Erroneous,
-    };
-    stage.states.state(x) == state && same_states(image, &stage.states, &before.states, x.0)
+/// Whether X is erroneous, and the other classes are in their states.
+fn are_states_left(image: &Image, stage: &Stage, before: &Stage, x: ClassId) -> bool {
+    stage.states.state(x) == State::Erroneous
+        && same_states(image, &stage.states, &before.states, x.0)
 }
 
 fn assert_step<R: Abort>(
@@ -209,7 +207,7 @@ fn assert_step<R: Abort>(
     assert_eq!(rt; seen, Some(*answer), "{n}");
     assert!(rt; is_heap_left(image, stage, before, *flying, *answer), "{n}");
     let x = class_of(rt, image, "LX;");
-    assert!(rt; are_states_left(image, stage, before, x, *answer), "{n}");
+    assert!(rt; are_states_left(image, stage, before, x), "{n}");
 }
 
 /// The levels that are left are the first ones.

@@ -1,9 +1,9 @@
-// Limits that no word sets, and how the threads of a stopped run stand: at the step that wasn't done.
+// Limits that no word sets, and how threads stand as a run ends: at the step that wasn't done, with an exception in flight, or dead of one.
 use crate::run::{AMPLE, RUN, Run, Stands};
 use crate::running::assert_runs;
 use dv_defs::{Ending, Limits};
 
-static STOPPED: [Run; 4] = [
+static ENDED: [Run; 5] = [
     // without steps the run has ended as it begins
     Run {
         limits: Limits { budget: 0, ..AMPLE },
@@ -25,21 +25,47 @@ static STOPPED: [Run; 4] = [
         steps: Some(2),
         ..RUN
     },
-    // an exception that can't be wrapped flies still
+    // an OutOfMemoryError flies where an exception can't be wrapped
     Run {
         registers: "0",
         body: "
             invoke-static {}, LX;->t()V
             return-void",
         classes: FAILING,
-        limits: Limits { heap: 7, ..AMPLE },
-        ending: Ending::HeapFull(0),
-        threads: &[Stands::Flying("Ljava/lang/NullPointerException;")],
-        // the record, the initialiser begins, const, the throw, its frame is dropped, and the step that isn't done
+        limits: Limits {
+            heap: 7,
+            budget: 6,
+            ..AMPLE
+        },
+        ending: Ending::Steps,
+        threads: &[Stands::Flying("Ljava/lang/OutOfMemoryError;")],
+        // the record, the initialiser begins, const, the throw, and its frame and the record are dropped
         steps: Some(6),
         ..RUN
     },
-    // a monitor-exit that can't throw is not gone past
+    // a StackOverflowError flies where a call has no level
+    Run {
+        registers: "0",
+        body: "
+            invoke-static {}, LMain;->f()V
+            return-void",
+        members: "
+            .method static f()V
+            .registers 0
+            invoke-static {}, LMain;->f()V
+            return-void
+            .end method",
+        limits: Limits {
+            levels: 2,
+            budget: 2,
+            ..AMPLE
+        },
+        ending: Ending::Steps,
+        threads: &[Stands::Flying("Ljava/lang/StackOverflowError;")],
+        steps: Some(2),
+        ..RUN
+    },
+    // a monitor-exit that lacks words for its exception is gone past
     Run {
         registers: "1",
         body: "
@@ -50,9 +76,9 @@ static STOPPED: [Run; 4] = [
             return-void
             .catchall {:from .. :to} :to",
         limits: Limits { heap: 5, ..AMPLE },
-        ending: Ending::HeapFull(0),
-        threads: &[Stands::Runnable],
-        steps: Some(2),
+        threads: &[Stands::Died("Ljava/lang/OutOfMemoryError;")],
+        // const-class, the throw, and main's frame is dropped
+        steps: Some(3),
         ..RUN
     },
 ];
@@ -73,6 +99,6 @@ const FAILING: &str = "
     .end method";
 
 #[test]
-fn stopped_runs_stand(rt: HostRuntime) {
-    assert_runs(&rt, rt.alloc(), STOPPED.as_slice());
+fn runs_stand_as_they_end(rt: HostRuntime) {
+    assert_runs(&rt, rt.alloc(), ENDED.as_slice());
 }

@@ -247,16 +247,43 @@ static WITHOUT_END: [Commit; 6] = [
     },
 ];
 
-/// Main stops the run meanwhile; where it has room the slice goes on.
+/// Main stops the run meanwhile; where its output has room the slice goes on.
 static STOPPED: [Commit; 2] = [
+    Commit {
+        limits: Limits { output: 2, ..AMPLE },
+        most: (1, 0),
+        ran: (1, 0),
+        thread: 1,
+        meanwhile: Some((0, 3)),
+        ending: Some(Ending::Output),
+        end: (Ending::Output, "#end output\n"),
+        ..COMMIT
+    },
+    Commit {
+        limits: Limits { output: 3, ..AMPLE },
+        most: (1, 0),
+        ran: (1, 0),
+        thread: 1,
+        meanwhile: Some((0, 3)),
+        done: 1,
+        end: (Ending::Output, "42\n#end output\n"),
+        ..COMMIT
+    },
+];
+
+/// Main lacks words meanwhile, or has them; the slice goes on.
+static LACKING: [Commit; 2] = [
     Commit {
         limits: Limits { heap: 67, ..AMPLE },
         most: (1, 0),
         ran: (1, 0),
         thread: 1,
         meanwhile: Some((0, 2)),
-        ending: Some(Ending::HeapFull(0)),
-        end: (Ending::HeapFull(0), "#end heap full 0\n"),
+        done: 1,
+        end: (
+            Ending::Done,
+            "#uncaught 0 java.lang.OutOfMemoryError\n#end done\n",
+        ),
         ..COMMIT
     },
     Commit {
@@ -276,5 +303,6 @@ fn slices_come_back(rt: HostRuntime) {
     let alloc = rt.alloc();
     assert_commits(&rt, alloc, BOTH, COMMITS.as_slice());
     assert_commits(&rt, alloc, FOREVER, WITHOUT_END.as_slice());
-    assert_commits(&rt, alloc, FILLS, STOPPED.as_slice());
+    assert_commits(&rt, alloc, BOTH, STOPPED.as_slice());
+    assert_commits(&rt, alloc, FILLS, LACKING.as_slice());
 }

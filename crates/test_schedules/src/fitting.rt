@@ -197,13 +197,13 @@ fn changed<R: Abort>(rt: &R, alloc: Global, thread: u32, frame: &Frame, by: Chan
     slice
 }
 
-/// A slice of thread 1 at its second instruction, whose registers are 5, 0 and its object, the third that was made, with a change, and whether it
+/// A slice of thread 1 at its second instruction, whose registers are 5, 0 and its object, the fifth that was made, with a change, and whether it
 /// fits. A slice fits by its thread and by the frame from which it began.
 static FITTING: [(Change, bool); 16] = [
     (Change::Nothing, true),
     (Change::Steps(7), true),
     (Change::End(9), true),
-    (Change::Registers(&[5, 0, 3]), true),
+    (Change::Registers(&[5, 0, 5]), true),
     (Change::At(1), true),
     (Change::Thread(0), false),
     (Change::Thread(2), false),
@@ -211,11 +211,11 @@ static FITTING: [(Change, bool); 16] = [
     (Change::At(0), false),
     (Change::At(2), false),
     (Change::Method(0), false),
-    (Change::Caught(3), false),
-    (Change::Registers(&[6, 0, 3]), false),
+    (Change::Caught(5), false),
+    (Change::Registers(&[6, 0, 5]), false),
     (Change::Registers(&[5, 0, 4]), false),
     (Change::Registers(&[5, 0]), false),
-    (Change::Registers(&[5, 0, 3, 0]), false),
+    (Change::Registers(&[5, 0, 5, 0]), false),
 ];
 
 /// Whether a slice of thread 1 at this frame fits, with a change.

@@ -94,13 +94,13 @@ fn assert_lends<R: Abort>(rt: &R, alloc: Global, text: &str, rows: &[Lend]) {
     drop(verified);
 }
 
-/// Main, when it has started a thread, whose object is the third that is made.
+/// Main, when it has started a thread, whose object is the fifth that is made.
 const LEND: Lend = Lend {
     limits: AMPLE,
     turns: &[(0, 8)],
     thread: 0,
     local: true,
-    place: Some((8, &[3, 0, 0])),
+    place: Some((8, &[5, 0, 0])),
     ready: Some(1),
 };
 
@@ -119,21 +119,21 @@ static OF_TWO: [Lend; 10] = [
     LEND,
     Lend {
         thread: 1,
-        place: Some((0, &[0, 0, 3])),
+        place: Some((0, &[0, 0, 5])),
         ready: Some(0),
         ..LEND
     },
     Lend {
         turns: &[(0, 8), (1, 1), (0, 1)],
         thread: 1,
-        place: Some((1, &[5, 0, 3])),
+        place: Some((1, &[5, 0, 5])),
         ready: Some(0),
         ..LEND
     },
     // the other one has returned
     Lend {
         turns: &[(0, 8), (1, 4), (0, 1)],
-        place: Some((9, &[3, 6, 0])),
+        place: Some((9, &[5, 6, 0])),
         ready: None,
         ..LEND
     },
@@ -171,21 +171,46 @@ static JOINED: [Lend; 1] = [Lend {
     ..KEPT
 }];
 
-/// Another thread stopped the run.
+/// Another thread has printed what fits, or stopped the run.
 static STOPPED: [Lend; 2] = [
+    Lend {
+        limits: Limits { output: 3, ..AMPLE },
+        turns: &[(0, 11)],
+        thread: 1,
+        place: Some((0, &[0, 0, 5])),
+        ready: Some(0),
+        ..LEND
+    },
+    Lend {
+        limits: Limits { output: 2, ..AMPLE },
+        turns: &[(0, 11)],
+        thread: 1,
+        local: true,
+        ..KEPT
+    },
+];
+
+/// Another thread has words, or lacks them: its exception is in flight, and it isn't lent.
+static LACKING: [Lend; 3] = [
     Lend {
         limits: Limits { heap: 68, ..AMPLE },
         turns: &[(0, 10)],
         thread: 1,
-        local: true,
-        place: Some((0, &[3])),
+        place: Some((0, &[5])),
         ready: Some(0),
+        ..LEND
     },
     Lend {
         limits: Limits { heap: 67, ..AMPLE },
         turns: &[(0, 10)],
         thread: 1,
-        local: true,
+        place: Some((0, &[5])),
+        ready: Some(0),
+        ..LEND
+    },
+    Lend {
+        limits: Limits { heap: 67, ..AMPLE },
+        turns: &[(0, 10)],
         ..KEPT
     },
 ];
@@ -216,7 +241,7 @@ static FLYING: [Lend; 2] = [
     },
     Lend {
         turns: &[(0, 3)],
-        place: Some((5, &[3])),
+        place: Some((5, &[5])),
         ready: None,
         ..LEND
     },
@@ -273,7 +298,8 @@ fn threads_are_lent_where_they_stand(rt: HostRuntime) {
     let alloc = rt.alloc();
     assert_lends(&rt, alloc, BOTH, OF_TWO.as_slice());
     assert_lends(&rt, alloc, JOINS, JOINED.as_slice());
-    assert_lends(&rt, alloc, FILLS, STOPPED.as_slice());
+    assert_lends(&rt, alloc, BOTH, STOPPED.as_slice());
+    assert_lends(&rt, alloc, FILLS, LACKING.as_slice());
     assert_lends(&rt, alloc, FLIES, FLYING.as_slice());
     assert_lends(&rt, alloc, CALLS, CALLED.as_slice());
 }

@@ -40,14 +40,14 @@ static LIMITS: [Row; 10] = [
     (Limits { levels: 4, ..AMPLE }, Ending::Done, MAIN_FIRST),
     (
         Limits { levels: 3, ..AMPLE },
-        Ending::StackFull(0),
-        "#end stack full 0\n",
+        Ending::Done,
+        "#uncaught 0 java.lang.StackOverflowError\n#end done\n",
     ),
     (Limits { heap: 3, ..AMPLE }, Ending::Done, MAIN_FIRST),
     (
         Limits { heap: 2, ..AMPLE },
-        Ending::HeapFull(0),
-        "#end heap full 0\n",
+        Ending::Done,
+        "#uncaught 0 java.lang.OutOfMemoryError\n#end done\n",
     ),
     // as the run begins, its budget of no steps is spent
     (Limits { budget: 0, ..AMPLE }, Ending::Steps, SPENT),
@@ -82,8 +82,8 @@ static WIDE_LIMITS: [Row; 2] = [
             words: 256,
             ..AMPLE
         },
-        Ending::StackFull(0),
-        "#end stack full 0\n",
+        Ending::Done,
+        "#uncaught 0 java.lang.StackOverflowError\n#end done\n",
     ),
 ];
 

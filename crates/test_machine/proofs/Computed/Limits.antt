@@ -1,4 +1,4 @@
--- Examples: stops at limits.
+-- Examples: runs at limits.
 use Rattle.std.specs.Prelude.{refl}
 use Rattle.std.specs.Fmt.{digits}
 use Rattle.dv_defs.specs.Formats.{format_at, is_float}

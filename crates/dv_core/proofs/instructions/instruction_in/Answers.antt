@@ -1,5 +1,5 @@
 use Rattle.std.proofs.lemmas.Grind.{common_steps}
-use Rattle.std.proofs.Common.{◌≡◌, ◌∙◌, ◌+◌, ℕ, List, drop, length, refl, sym, ap, arith}
+use Rattle.std.proofs.Common.{◌≡◌, ◌∙◌, ℕ, List, drop, length, refl, sym, ap, arith}
 use Rattle.dv_defs.specs.Decoding.{insn_here}
 use Rattle.dv_defs.specs.Tiling.{tiles_in, tiling}
 use Rattle.dv_ops.specs.Meaning.{code_of}

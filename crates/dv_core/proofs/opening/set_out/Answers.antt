@@ -1,4 +1,4 @@
-use Rattle.std.proofs.Common.{◌≡◌, ◌<◌, length, arith, ap, ◌∙◌}
+use Rattle.std.proofs.Common.{◌<◌, length, arith, ap, ◌∙◌}
 use Rattle.dv_defs.specs.Images.{Image}
 use Rattle.dv_core.proofs.Began.{out_on}
 use Rattle.dv_core.proofs.opening.set_out.Goals as goal

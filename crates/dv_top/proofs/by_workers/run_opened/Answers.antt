@@ -1,7 +1,8 @@
-use Rattle.std.proofs.Common.{ap, inl, inr, subst, sym, ◌∙◌}
+use Rattle.std.proofs.Common.{All, ap, inl, inr, subst, sym, ◌∙◌}
 use Rattle.dv_defs.specs.declared.run.Limits.{Limits}
 use Rattle.dv_defs.specs.Images.{Image}
 use Rattle.dv_io.specs.Io.{TookPart}
+use Rattle.dv_workers.specs.Entries.{IsOfWorker}
 use Rattle.dv_top.specs.Status.{code_of}
 use Rattle.dv_top.specs.Working.{IsWorked, Stopped}
 use Rattle.dv_top.proofs.RunningLemmas.{image_of, main_of, moved, state_of}
@@ -33,3 +34,9 @@ returns-clause-worked g c m is =
           subst (λ s. IsWorked vm.verified.image m vm.machine.limits vm.log behind before (g.K.Sink.taken s) c.code.result) (sym w.sink-is) (subst (λ n. IsWorked vm.verified.image m vm.machine.limits vm.log behind before (g.K.Sink.taken w.write_tail.new.sink) n) (sym (c.code.ensures ∙ ap code_of w.status-is)) worked)
     ] in
     moved (λ (i : Image) (l : Limits) es. IsWorked i m l es behind before (g.K.Sink.taken c.if-fault.sink) c.code.result) vm.verified.image run.verified.image vm.machine.limits run.machine.limits vm.log c.into_log.result.items (image_of vm.verified run.verified same.verified) same.limits (sym c.into_log.ensures) own
+
+pub write_tail-requires : goal.write_tail-requires
+write_tail-requires g c = c.run_workers-vm.ensures.ended c.if-fault.false c.if-memory.false
+
+pub returns-clause-entries : goal.returns-clause-entries
+returns-clause-entries g c = subst (All IsOfWorker) (sym c.into_log.ensures) c.run_workers-vm.ensures.entries

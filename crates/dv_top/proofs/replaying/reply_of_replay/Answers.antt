@@ -2,6 +2,7 @@ use Rattle.std.proofs.Common.{ap}
 use Rattle.std.proofs.lemmas.Result.{IfOk-weaker}
 use Rattle.dv_top.specs.Scheduling.{Refuses}
 use Rattle.dv_top.specs.Status.{code_of}
+use Rattle.dv_top.proofs.Replayed.{finished_ends}
 use Rattle.dv_top.proofs.RunLemmas.{main_of_run, refused_by, runs_by}
 use Rattle.dv_top.proofs.replaying.reply_of_replay.Goals as goal
 
@@ -14,3 +15,9 @@ returns-in-Ok-clause-replayed c m is =
 pub returns-in-Err-clause-replayed : goal.returns-in-Err-clause-replayed
 returns-in-Err-clause-replayed c m is =
     IfOk-weaker c.refused_schedule.result _ _ (λ reply told. Refuses (refused_by c.in-Err.error c.args.verified.now.image m c.args.limits.now c.args.schedule.now reply.text.items (c.in-Err.ensures.refused m is) told.1) (ap code_of told.0) c.requires.empty) c.refused_schedule.ensures
+
+-- a schedule that is replayed leads to an ending
+pub reply_of_replayed-requires : goal.reply_of_replayed-requires
+reply_of_replayed-requires c =
+    let same = c.in-Ok.ensures.program in
+    finished_ends c.in-Ok.run' c.args.verified.now c.args.main c.args.limits.now c.args.schedule.now same.0 same.1 same.2 c.in-Ok.ensures.log.0 c.in-Ok.ensures.finished

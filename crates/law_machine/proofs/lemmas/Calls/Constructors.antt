@@ -23,6 +23,7 @@ use Rattle.dv_typing.specs.RegTypes.{all_types, type_at}
 use Rattle.dv_defs.specs.Order.{sub}
 use Rattle.dv_typing.specs.Demands.{Demand, first, args_for, instance_call, receiver_for, ref_to, super_for, is_exactly, is_own_or_super, made_at}
 use Rattle.dv_typing.specs.Transfer.{arg_types, begins_uninitialised}
+use Rattle.dv_typing.specs.Flow.{is_exit}
 use Rattle.dv_machine.specs.Heap.{Heap, kind_of}
 use Rattle.dv_machine.specs.State.{Thread, Machine, Throws, reg_at, read_args, Here}
 use Rattle.dv_machine.specs.Calls.{object_of, where_fresh, is_made_of, read_new, enter, enter_constructor, construct, call_constructor}
@@ -158,7 +159,7 @@ module _ (image : Image) (T : Typings) (m : Machine) (t : ℕ) (thread : Thread)
           enter_fine image T m t thread own f rest x s h g (y ∷ ys) p
           (record { there = callee; code = body.0; has_body = body.1; flag = flag; good = good; refs = All-cons (RefFine image heap) y ys r w.refs })
           (called_fine image T m t thread own f rest x s h c (k ∷ js) g e g refl refl (λ q. (o, on_it)))
-          (of_instance image T h.may.accepted heap g static) new_quiet
+          (of_instance image T h.may.accepted heap g static) new_quiet (throws image T m t thread own f rest x s h c (k ∷ js) g e new_quiet, ap is_exit e)
 
       enter_new : DidFine image T m t thread x (enter_constructor here_it g o ys)
       enter_new = by_class (is_of_object image g) refl

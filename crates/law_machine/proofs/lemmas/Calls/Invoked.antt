@@ -15,6 +15,7 @@ use Rattle.dv_defs.specs.Pools.{Method, method_at, is_static, is_abstract, is_co
 use Rattle.dv_defs.specs.Op.{Op, Invoke, can_throw}
 use Rattle.dv_typing.specs.Statics.{At}
 use Rattle.dv_typing.specs.Transfer.{arg_types, begins_uninitialised}
+use Rattle.dv_typing.specs.Flow.{is_exit}
 use Rattle.dv_machine.specs.Monitors.{wait_of}
 use Rattle.dv_machine.specs.State.{Thread, Machine, Here, reg_at}
 use Rattle.dv_machine.specs.Calls.{Lands, dispatch, native_of, receiver_of, landed, landed_on}
@@ -134,4 +135,4 @@ module _ (image : Image) (T : Typings) (m : Machine) (t : ℕ) (thread : Thread)
             let body = h.may.accepted.bodies.body k.id k there concrete i in
             enter_fine image T m t thread own f rest x s h k xs false
             (record { there = there; code = body.0; has_body = body.1; flag = flag; good = words.good (own_of image (this_above image (level.Code f ∷ rest)) k); refs = words.refs })
-            called none (q i)
+            called none (q i) (throws (q i), ap is_exit e)

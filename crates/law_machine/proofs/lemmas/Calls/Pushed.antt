@@ -25,7 +25,7 @@ use Rattle.dv_machine.specs.Calls.{entered_frame, registers_of, enter}
 use Rattle.dv_machine.specs.Step.{here}
 use Rattle.dv_machine.specs.Conforming.{IsGood, RefFine, RefsFine, Conform}
 use Rattle.dv_machine.specs.WellTyped.{Typings, own_of, this_above, records, IsPlaced, IsCalled, IsNoInitialiser, CodeFine}
-use Rattle.law_machine.specs.Premises.{LeftFine, DidFine}
+use Rattle.law_machine.specs.Premises.{LeftFine, ThrowStays, DidFine}
 use Rattle.law_machine.proofs.lemmas.Calls.Entered.{entered_conforms}
 use Rattle.law_machine.proofs.lemmas.Common.Conformity.{frame_up}
 use Rattle.law_machine.proofs.lemmas.Local.Still.{still, same_shared, IsQuiet}
@@ -119,10 +119,10 @@ module _ (image : Image) (T : Typings) (m : Machine) (t : ℕ) (thread : Thread)
         (All-cons (RefsFine image heap) (level.Code f) rest (frame_refs image T m t thread own f rest x s h) (rest_refs image T m t thread own f rest x s h)))
         (λ c. ap (records c) (sym h.levels))
 
-    -- where the stack has no room, the run stops
-    pub enter_fine : IsQuiet image m t → DidFine image T m t thread x (enter (here image m t own f rest x.next) k xs p)
-    enter_fine q = by_room (nat_le (suc (length below_it)) m.limits.levels && nat_le (regs_in (level.Code (entered_frame k xs p)) + words_in below_it) m.limits.words)
+    -- where the stack has no room, the address stays
+    pub enter_fine : IsQuiet image m t → ThrowStays m t x → DidFine image T m t thread x (enter (here image m t own f rest x.next) k xs p)
+    enter_fine q stays = by_room (nat_le (suc (length below_it)) m.limits.levels && nat_le (regs_in (level.Code (entered_frame k xs p)) + words_in below_it) m.limits.words)
       where
         by_room : (b : Bool) → DidFine image T m t thread x (if b then left (here image m t own f rest x.next) m.shared (level.Code (entered_frame k xs p) ∷ below_it) else NoRoom)
         by_room true = pushed_left q
-        by_room false = tt
+        by_room false = stays

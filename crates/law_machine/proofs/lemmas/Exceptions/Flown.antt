@@ -21,7 +21,7 @@ use Rattle.dv_machine.specs.Unwinding.{made_object, leaves}
 use Rattle.dv_machine.specs.Step.{end_flying, flown, moved_on, thrown}
 use Rattle.dv_machine.specs.Conforming.{RefsFine}
 use Rattle.dv_machine.specs.WellTyped.{Typings, this_above, IsHandled, IsThrowable, CodeFine, StackFine, lowest, IsCode, ThreadFine, HeapFine, records, owed, levels_in, WellTyped}
-use Rattle.law_machine.specs.Premises.{IsAt, IsAtRecord, KeepsKinds}
+use Rattle.law_machine.specs.Premises.{MayStep, IsAt, IsAtRecord, KeepsKinds}
 use Rattle.law_machine.specs.StepLaws.{SettledIsWellTyped, SettledRecordIsWellTyped}
 use Rattle.law_types.proofs.Facts.{nothing}
 use Rattle.law_machine.proofs.lemmas.Common.Lists.{all_at}
@@ -29,7 +29,7 @@ use Rattle.law_machine.proofs.lemmas.Growth.Kinds.{all_refs_grown, stack_grown}
 use Rattle.law_machine.proofs.lemmas.Growth.Keeps.{stopped_typed}
 use Rattle.law_machine.proofs.lemmas.Growth.Threads.{records_after, after_typed, object_after, left_is_well_typed}
 use Rattle.law_machine.proofs.lemmas.Monitors.Moved.{quiet_moved}
-use Rattle.law_machine.proofs.lemmas.Exceptions.Made.{made_exception}
+use Rattle.law_machine.proofs.lemmas.Exceptions.Made.{BothThrown, both_thrown, made_exception}
 use Rattle.law_machine.proofs.lemmas.Exceptions.Callers.{below_throws, thrown_below, thrower_at, thrower_moved, sees_shared}
 
 -- what flies leaves in order: the object, the levels that are left, and their records
@@ -74,6 +74,10 @@ refs_of image T m t thread ls w has levels = subst (λ (k : List Level). All (Re
 
 pub records_of : (image : Image) (T : Typings) (m : Machine) (t : ℕ) (thread : Thread) (ls : List Level) → WellTyped image T m → slice_get m.threads t ≡ Some thread → thread.levels ≡ ls → (c : ℕ) → records c ls ≡ owed t (state_at m.shared.classes c)
 records_of image T m t thread ls w has levels c = ap (records c) (sym levels) ∙ ap (λ (x : Option Thread). records c (levels_in x)) (sym has) ∙ w.in_progress t c
+
+-- the two exceptions that the opening made can be thrown
+preallocated_thrown : (image : Image) (T : Typings) (m : Machine) {t : ℕ} → MayStep image T m t → BothThrown image m.shared.heap m.preallocated
+preallocated_thrown image T m may = both_thrown image T may.accepted m.shared.heap m.preallocated may.typed.preallocated
 
 -- an instruction throws an object of a heap that has grown
 module _ (image : Image) (T : Typings) (m : Machine) (t : ℕ) (thread : Thread) (h : Here) (x : At) (s : RegState) (i : IsAt image T m t thread h x s) (can : can_throw x.op ≡ true) (quiet : wait_of m.shared.monitors t ≡ None) (after : Heap) (g : KeepsKinds m.shared.heap after) (fine : HeapFine image after) (o : ℕ) (flies : IsThrowable image after o) where
@@ -123,11 +127,11 @@ settled_is_well_typed image T m t thread h x s (Go l) i d = left_is_well_typed i
 settled_is_well_typed image T m t thread h x s (Throws n) i d = go (made_object image m.shared.heap n) refl
   where
     go : (made : Option Heap) → made_object image m.shared.heap n ≡ made → WellTyped image T (thrown m t thread (Some x) made)
-    go None e = stopped_typed image T m (ending.HeapFull t) i.may.typed
+    go None e = raised_typed image T m t thread h x s i d.can d.apart m.shared.heap (λ p k e. e) i.may.typed.heap m.preallocated.out_of_memory (preallocated_thrown image T m i.may).out_of_memory
     go (Some after) e = let a = made_exception image T i.may.accepted m.shared.heap after n i.may.typed.heap e in raised_typed image T m t thread h x s i d.can d.apart after a.added.keeps a.added.fine (newest after) a.thrown
 settled_is_well_typed image T m t thread h x s (ThrowsRef o) i d = raised_here image T m t thread h x s i d.0.can d.0.apart m.shared.heap (λ p k e. e) i.may.typed.heap o d.2 d.1
-settled_is_well_typed image T m t thread h x s NoWords i d = stopped_typed image T m (ending.HeapFull t) i.may.typed
-settled_is_well_typed image T m t thread h x s NoRoom i d = stopped_typed image T m (ending.StackFull t) i.may.typed
+settled_is_well_typed image T m t thread h x s NoWords i d = raised_here image T m t thread h x s i d.0.can d.0.apart m.shared.heap (λ p k e. e) i.may.typed.heap m.preallocated.out_of_memory (preallocated_thrown image T m i.may).out_of_memory d.1
+settled_is_well_typed image T m t thread h x s NoRoom i d = raised_here image T m t thread h x s i d.0.can d.0.apart m.shared.heap (λ p k e. e) i.may.typed.heap m.preallocated.stack_overflow (preallocated_thrown image T m i.may).stack_overflow d.1
 settled_is_well_typed image T m t thread h x s NoOutput i d = stopped_typed image T m ending.Output i.may.typed
 settled_is_well_typed image T m t thread h x s (IsStuck y) i d = d
 
@@ -152,10 +156,10 @@ settled_record_is_well_typed image T m t c r thread h (Go l) i d = left_is_well_
 settled_record_is_well_typed image T m t c r thread h (Throws n) i d = go (made_object image m.shared.heap n) refl
   where
     go : (made : Option Heap) → made_object image m.shared.heap n ≡ made → WellTyped image T (thrown m t thread None made)
-    go None e = stopped_typed image T m (ending.HeapFull t) i.may.typed
+    go None e = raised_record image T m t c r thread h i d m.shared.heap (λ p k e. e) i.may.typed.heap m.preallocated.out_of_memory (preallocated_thrown image T m i.may).out_of_memory
     go (Some after) e = let a = made_exception image T i.may.accepted m.shared.heap after n i.may.typed.heap e in raised_record image T m t c r thread h i d after a.added.keeps a.added.fine (newest after) a.thrown
 settled_record_is_well_typed image T m t c r thread h (ThrowsRef o) i d = absurd d
-settled_record_is_well_typed image T m t c r thread h NoWords i d = stopped_typed image T m (ending.HeapFull t) i.may.typed
-settled_record_is_well_typed image T m t c r thread h NoRoom i d = stopped_typed image T m (ending.StackFull t) i.may.typed
+settled_record_is_well_typed image T m t c r thread h NoWords i d = raised_record image T m t c r thread h i d m.shared.heap (λ p k e. e) i.may.typed.heap m.preallocated.out_of_memory (preallocated_thrown image T m i.may).out_of_memory
+settled_record_is_well_typed image T m t c r thread h NoRoom i d = raised_record image T m t c r thread h i d m.shared.heap (λ p k e. e) i.may.typed.heap m.preallocated.stack_overflow (preallocated_thrown image T m i.may).stack_overflow
 settled_record_is_well_typed image T m t c r thread h NoOutput i d = stopped_typed image T m ending.Output i.may.typed
 settled_record_is_well_typed image T m t c r thread h (IsStuck y) i d = d

@@ -1,19 +1,20 @@
 -- The exceptions that a step makes itself.
-use Rattle.std.proofs.Common.{◌≡◌, ℕ, List, true, not, Option, Some, refl, sym, ap, ◌∙◌, subst}
+use Rattle.std.proofs.Common.{◌≡◌, ℕ, List, [], true, not, Option, Some, refl, sym, ap, ◌∙◌, subst, arith}
 use Rattle.std.specs.Option.{unwrap_or}
 use Rattle.dv_defs.specs.Images.{Image}
 use Rattle.dv_defs.specs.declared.run.Named.{Named}
 use Rattle.dv_defs.specs.declared.run.Named.TheVariants as named
+use Rattle.dv_defs.specs.declared.run.Preallocated.{Preallocated}
 use Rattle.dv_machine.specs.Kind as kind
-use Rattle.dv_defs.specs.Names.{throwable_name}
+use Rattle.dv_defs.specs.Names.{throwable_name, stack_overflow_name}
 use Rattle.dv_defs.specs.Types.{of_class}
 use Rattle.dv_defs.specs.Pools.{class_named, name_at}
 use Rattle.dv_defs.specs.Order.{fits}
-use Rattle.dv_machine.specs.Heap.{Heap, kind_of, newest}
+use Rattle.dv_machine.specs.Heap.{Heap, newest}
 use Rattle.dv_machine.specs.Unwinding.{number_named, exception_name, made_object}
 use Rattle.dv_machine.specs.Conforming.{is_string_or_class}
-use Rattle.dv_machine.specs.WellTyped.{Typings, IsThrowable, HeapFine}
-use Rattle.dv_machine.specs.Accepted.{Accepted}
+use Rattle.dv_machine.specs.WellTyped.{Typings, IsThrowable, IsObjectOf, PreallocatedFine, HeapFine}
+use Rattle.dv_machine.specs.Accepted.{Accepted, IsNamed}
 use Rattle.law_machine.specs.StepLaws.{IsAdded}
 use Rattle.law_types.proofs.Walks.{named_is}
 use Rattle.law_machine.proofs.lemmas.Heap.Added.{object_is_added}
@@ -41,16 +42,37 @@ exception_proper named.InInitializer = refl
 exception_proper named.ClassChange = refl
 exception_proper named.AbstractMethod = refl
 
--- an object of a named exception can be thrown
-pub exception_thrown : (image : Image) (T : Typings) → Accepted image T → (heap : Heap) (o : ℕ) (n : Named) → kind_of heap o ≡ Some (kind.Object (record { 0 = number_named image (exception_name n) })) → IsThrowable image heap o
-exception_thrown image T acc heap o n e = record {
+-- an object of a class under Throwable, which the image has by its name, can be thrown
+of_thrown_class : (image : Image) (heap : Heap) (o : ℕ) (name : List ℕ) → name_at image (number_named image name) ≡ name → not (is_string_or_class name) ≡ true → fits image (of_class name) (of_class throwable_name) ≡ true → IsObjectOf image heap name o → IsThrowable image heap o
+of_thrown_class image heap o name own proper under e = record {
   object = record {
-    kind = kind.Object (record { 0 = number_named image (exception_name n) });
+    kind = kind.Object (record { 0 = number_named image name });
     has_kind = e;
-    proper = subst (λ (x : List ℕ). not (is_string_or_class x) ≡ true) (sym (exception_class image T acc n)) (exception_proper n);
+    proper = subst (λ (x : List ℕ). not (is_string_or_class x) ≡ true) (sym own) proper;
   };
-  fits = subst (λ (x : List ℕ). fits image (of_class x) (of_class throwable_name) ≡ true) (sym (exception_class image T acc n)) (acc.boot.thrown n);
+  fits = subst (λ (x : List ℕ). fits image (of_class x) (of_class throwable_name) ≡ true) (sym own) under;
 }
+
+-- an object of a named exception can be thrown
+pub exception_thrown : (image : Image) (T : Typings) → Accepted image T → (heap : Heap) (o : ℕ) (n : Named) → IsObjectOf image heap (exception_name n) o → IsThrowable image heap o
+exception_thrown image T acc heap o n e = of_thrown_class image heap o (exception_name n) (exception_class image T acc n) (exception_proper n) (acc.boot.thrown n) e
+
+-- so can the two of the opening
+pub record BothThrown (image : Image) (heap : Heap) (p : Preallocated) : Type 0 where
+  pub out_of_memory : IsThrowable image heap p.out_of_memory
+  pub stack_overflow : IsThrowable image heap p.stack_overflow
+
+pub both_thrown : (image : Image) (T : Typings) → Accepted image T → (heap : Heap) (p : Preallocated) → PreallocatedFine image heap p → BothThrown image heap p
+both_thrown image T acc heap p fine = record {
+  out_of_memory = exception_thrown image T acc heap p.out_of_memory named.OutOfMemory fine.out_of_memory;
+  stack_overflow = of_thrown_class image heap p.stack_overflow stack_overflow_name own refl acc.boot.overflows fine.stack_overflow;
+}
+  where
+    there : IsNamed image stack_overflow_name
+    there = acc.boot.there 6 [] (omega arith)
+
+    own : name_at image (number_named image stack_overflow_name) ≡ stack_overflow_name
+    own = ap (name_at image) (number_is image stack_overflow_name there.0 there.1) ∙ named_is image stack_overflow_name there.0 there.1
 
 -- a new exception is an added object that can be thrown
 pub record IsMadeException (image : Image) (before after : Heap) (n : Named) : Type 0 where

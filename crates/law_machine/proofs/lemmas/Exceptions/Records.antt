@@ -6,7 +6,6 @@ use Rattle.std.proofs.lemmas.List.Elements.{All-tail, All-nil}
 use Rattle.dv_defs.specs.Images.{Image}
 use Rattle.dv_machine.specs.Value as v
 use Rattle.dv_defs.specs.declared.run.Named.TheVariants as named
-use Rattle.dv_defs.specs.declared.run.Ending.TheVariants as ending
 use Rattle.dv_machine.specs.Kind as kind
 use Rattle.dv_machine.specs.Level.{Level}
 use Rattle.dv_machine.specs.Level as level
@@ -27,10 +26,9 @@ use Rattle.dv_machine.specs.Accepted.{Accepted}
 use Rattle.law_machine.specs.Premises.{KeepsKinds, HoldsOf}
 use Rattle.law_machine.specs.StepLaws.{FlightsAreFine}
 use Rattle.law_machine.proofs.lemmas.Growth.Kinds.{Either, is_of_grown, all_refs_grown, stack_grown}
-use Rattle.law_machine.proofs.lemmas.Growth.Keeps.{stopped_typed}
 use Rattle.law_machine.proofs.lemmas.Heap.Stored.{store_keeps}
 use Rattle.law_machine.proofs.lemmas.Records.States.{dropped_mine, dropped_others, opening_records}
-use Rattle.law_machine.proofs.lemmas.Exceptions.Made.{made_exception}
+use Rattle.law_machine.proofs.lemmas.Exceptions.Made.{both_thrown, made_exception}
 use Rattle.law_machine.proofs.lemmas.Exceptions.Callers.{thrown_below}
 use Rattle.law_machine.proofs.lemmas.Exceptions.Flown.{flown_typed, refs_of, records_of}
 use Rattle.law_machine.proofs.lemmas.Exceptions.Rises.{forgotten, flying_on, flying_quiet, fine_at, frame_flight}
@@ -84,7 +82,7 @@ module _ (image : Image) (T : Typings) (m : Machine) (t o : ℕ) (thread : Threa
   cause = throwable_slot image (codes "cause")
 
   wrapped_typed : (made : Option Heap) → made_object image m.shared.heap named.InInitializer ≡ made → HoldsOf (WellTyped image T) (settled_flight m t thread (wrapped (here image m t no_method no_frame ls 0) c o made))
-  wrapped_typed None e = stopped_typed image T m (ending.HeapFull t) w
+  wrapped_typed None e = record_dropped m.shared.heap (λ p k e. e) w.heap m.preallocated.out_of_memory (both_thrown image T acc m.shared.heap m.preallocated w.preallocated).out_of_memory
   wrapped_typed (Some after) e =
       let a = made_exception image T acc m.shared.heap after named.InInitializer w.heap e in
       let flies : IsThrowable image after o = is_of_grown image m.shared.heap after a.added.keeps o (of_class throwable_name) (fine_at image T m t o thread acc w has flying (level.Init (record { 0 = c }) r ∷ ls) levels).1 in

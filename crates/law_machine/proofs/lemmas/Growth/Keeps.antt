@@ -15,7 +15,7 @@ use Rattle.dv_machine.specs.WellTyped.{Typings, HeldFine, WaitFine, MonitorsFine
 use Rattle.law_machine.specs.Premises.{KeepsKinds}
 use Rattle.law_machine.specs.StepLaws.{GrowthKeeps}
 use Rattle.law_machine.proofs.lemmas.Common.Lists.{all_at}
-use Rattle.law_machine.proofs.lemmas.Growth.Kinds.{is_of_grown, all_refs_grown, thread_grown}
+use Rattle.law_machine.proofs.lemmas.Growth.Kinds.{is_of_grown, all_refs_grown, thread_grown, preallocated_grown}
 use Rattle.law_machine.proofs.lemmas.Monitors.Moved.{AllRefs, waiting_grown}
 
 monitors_grown : (image : Image) (threads : List Thread) (sh : Shared) (after : Heap) (n : ℕ) → KeepsKinds sh.heap after → AllRefs image sh.heap threads → MonitorsFine image threads sh n → MonitorsFine image threads (with_heap sh after) n
@@ -33,6 +33,7 @@ growth_keeps image T m after acc w g fine = record {
   monitors = monitors_grown image m.threads m.shared after m.steps g w.refs w.monitors;
   class_states = w.class_states;
   in_progress = w.in_progress;
+  preallocated = preallocated_grown image m.shared.heap after g m.preallocated w.preallocated;
 }
 
 pub monitors_later : (image : Image) (threads : List Thread) (sh : Shared) (n : ℕ) → MonitorsFine image threads sh n → MonitorsFine image threads sh (suc n)
@@ -40,4 +41,4 @@ monitors_later image threads sh n m = record { waits = m.waits; held = All-weake
 
 -- a step that only stops the run
 pub stopped_typed : (image : Image) (T : Typings) (m : Machine) (e : Ending) → WellTyped image T m → WellTyped image T (stopped m e)
-stopped_typed image T m e w = record { each = w.each; objects = w.objects; refs = w.refs; heap = w.heap; monitors = monitors_later image m.threads m.shared m.steps w.monitors; class_states = w.class_states; in_progress = w.in_progress }
+stopped_typed image T m e w = record { each = w.each; objects = w.objects; refs = w.refs; heap = w.heap; monitors = monitors_later image m.threads m.shared m.steps w.monitors; class_states = w.class_states; in_progress = w.in_progress; preallocated = w.preallocated }

@@ -14,6 +14,7 @@ use Rattle.dv_machine.specs.Level.{Level}
 use Rattle.dv_machine.specs.Level as level
 use Rattle.dv_defs.specs.declared.machine.End.{End}
 use Rattle.dv_defs.specs.declared.machine.End.TheVariants as end
+use Rattle.dv_defs.specs.declared.run.Preallocated.{Preallocated}
 use Rattle.dv_typing.specs.declared.typing.RegType.{RegType}
 use Rattle.dv_typing.specs.declared.typing.RegType.TheVariants as ty
 use Rattle.dv_typing.specs.declared.typing.PendingType.{PendingType}
@@ -26,7 +27,7 @@ use Rattle.dv_machine.specs.Heap.{Heap, kind_of}
 use Rattle.dv_machine.specs.State.{type_of, type_of_kind}
 use Rattle.dv_machine.specs.Unwinding.{catches, caught_frame, is_opening}
 use Rattle.dv_machine.specs.Conforming.{Own, IsObject, IsThere, IsOf, Fits, IsMade, IsThis, Conforms, IsGood, ResultConforms, CaughtConforms, Conform, RefFine, ResultFine, RefsFine}
-use Rattle.dv_machine.specs.WellTyped.{Typings, IsPlaced, IsHandled, StackFine, FlightFine, ThreadFine, CodeFine}
+use Rattle.dv_machine.specs.WellTyped.{Typings, IsPlaced, IsHandled, StackFine, FlightFine, ThreadFine, CodeFine, PreallocatedFine}
 use Rattle.law_machine.specs.Premises.{KeepsKinds}
 
 -- two heaps in which an object is of one kind
@@ -83,6 +84,10 @@ module _ (image : Image) (before after : Heap) (g : KeepsKinds before after) whe
 
   pub conform_grown : (own : Own) (f : Frame) (s : RegState) → Conform image before own f s → Conform image after own f s
   conform_grown own f s h = record { good = good_grown own _ _ h.good; result = result_grown own _ _ h.result; caught = caught_grown _ _ h.caught; this_pending = h.this_pending }
+
+  -- the two exceptions of the opening
+  pub preallocated_grown : (p : Preallocated) → PreallocatedFine image before p → PreallocatedFine image after p
+  preallocated_grown p h = record { out_of_memory = g p.out_of_memory _ h.out_of_memory; stack_overflow = g p.stack_overflow _ h.stack_overflow }
 
   ref_grown : (x : Value) → RefFine image before x → RefFine image after x
   ref_grown (v.Ref o) h = there_grown o h

@@ -17,7 +17,7 @@ use Rattle.dv_machine.specs.WellTyped.{Typings, ThreadFine, HeapFine, MonitorsFi
 use Rattle.law_machine.specs.Premises.{KeepsKinds, StartedFine}
 use Rattle.law_machine.specs.StepLaws.{LeftIsWellTyped}
 use Rattle.law_machine.proofs.lemmas.Common.Lists.{get_front, set_there, set_other, all_at, all_from}
-use Rattle.law_machine.proofs.lemmas.Growth.Kinds.{is_of_grown, all_refs_grown, thread_grown}
+use Rattle.law_machine.proofs.lemmas.Growth.Kinds.{is_of_grown, all_refs_grown, thread_grown, preallocated_grown}
 
 -- a place of a list with perhaps one element more
 listed_cases : {A : Type 0} (xs : List A) (s : Option A) (more : Option A → List A) → more None ≡ [] → ((y : A) → more (Some y) ≡ y ∷ []) → (k : ℕ) (x : A) → slice_get (xs ++ more s) k ≡ Some x → (slice_get xs k ≡ Some x) ⊎ ((k ≡ length xs) × (s ≡ Some x))
@@ -106,6 +106,7 @@ after_typed image T m t thread after l w has a = record {
   monitors = a.monitors;
   class_states = a.class_states;
   in_progress = a.in_progress;
+  preallocated = preallocated_grown image m.shared.heap l.shared.heap a.keeps m.preallocated w.preallocated;
 }
 
 -- the Thread object of a thread is one still

@@ -38,7 +38,7 @@ use Rattle.law_types.proofs.Facts.{zero_plus}
 use Rattle.law_machine.proofs.lemmas.Growth.Kinds.{conforms_grown}
 use Rattle.law_machine.proofs.lemmas.Heap.Added.{array_is_added}
 use Rattle.law_machine.proofs.lemmas.HeapSteps.Left.{room_then, true_then, result_left}
-use Rattle.law_machine.proofs.lemmas.HeapSteps.Plain.{demand_of, out_of, throws, array_of}
+use Rattle.law_machine.proofs.lemmas.HeapSteps.Plain.{demand_of, out_of, throws, array_of, stops}
 use Rattle.law_machine.proofs.lemmas.HeapSteps.Cells.{stored_fine}
 use Rattle.law_machine.proofs.lemmas.HeapSteps.Elements.{primitive_plain, primitive_short, reference_short, short_types, int_type, class_type, fill_plain, filled_conforms}
 use Rattle.law_machine.proofs.lemmas.HeapSteps.Arrays.{IsKnown, known_array, index_then, component_is}
@@ -125,4 +125,4 @@ module _ (image : Image) (T : Typings) (m : Machine) (t : ℕ) (thread : Thread)
         array = array_of image T m t thread own f rest x s h code rules apart (stored after (newest after) 0 ys) (newest after) u (and_parts (is_array u) _ takes).0 (st.1 (newest after) (kind.Array u) r.0.made)
 
     pub filled_fine : DidFine image T m t thread x (mem (here image m t own f rest x.next) (Filled rs u))
-    filled_fine = read_then image T m t thread x (λ ys. AreWordsOf image m.shared.heap ys (element_types (length rs) (component u))) _ _ (each_holds rs (demand_of image T m t thread own f rest x s h code rules apart (Filled rs u) e)) (λ ys w. room_then image T m t thread x (alloc_array m.shared.heap u (length rs)) (filled_array (here image m t own f rest x.next) ys) (λ after q. made_left ys after w (array_is_added image m.shared.heap after u (length rs) h.may.typed.heap q)))
+    filled_fine = read_then image T m t thread x (λ ys. AreWordsOf image m.shared.heap ys (element_types (length rs) (component u))) _ _ (each_holds rs (demand_of image T m t thread own f rest x s h code rules apart (Filled rs u) e)) (λ ys w. room_then image T m t thread x (alloc_array m.shared.heap u (length rs)) (filled_array (here image m t own f rest x.next) ys) (stops image T m t thread own f rest x s h code rules apart (Filled rs u) e refl refl) (λ after q. made_left ys after w (array_is_added image m.shared.heap after u (length rs) h.may.typed.heap q)))

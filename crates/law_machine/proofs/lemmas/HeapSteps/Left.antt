@@ -29,7 +29,7 @@ use Rattle.dv_machine.specs.Monitors.{wait_of}
 use Rattle.dv_machine.specs.State.{Thread, Machine, Left, Did, where_room, where_true, with_heap}
 use Rattle.dv_machine.specs.Conforming.{IsGood, RefFine, ResultFine, RefsFine, ResultConforms}
 use Rattle.dv_machine.specs.WellTyped.{Typings, own_of, this_above, HeapFine, records}
-use Rattle.law_machine.specs.Premises.{KeepsKinds, LeftFine, ThrowFine, DidFine}
+use Rattle.law_machine.specs.Premises.{KeepsKinds, LeftFine, ThrowFine, ThrowStays, DidFine}
 use Rattle.law_machine.specs.StepLaws.{IsFrom}
 use Rattle.law_types.proofs.Facts.{nothing}
 use Rattle.law_machine.proofs.lemmas.Growth.Kinds.{good_grown, refs_grown, all_refs_grown, stack_grown}
@@ -45,10 +45,10 @@ use Rattle.law_machine.proofs.lemmas.Local.Fine.{quiet}
 -- ---- outcomes of the parts of a step
 
 module _ (image : Image) (T : Typings) (m : Machine) (t : ℕ) (thread : Thread) (x : At) where
-  -- no room is no step at all
-  pub room_then : {A : Type 0} (o : Option A) (go : A → Did Left) → ((y : A) → o ≡ Some y → DidFine image T m t thread x (go y)) → DidFine image T m t thread x (where_room o go)
-  room_then None go n = tt
-  room_then (Some y) go n = n y refl
+  -- where words are lacking the address stays
+  pub room_then : {A : Type 0} (o : Option A) (go : A → Did Left) → ThrowStays m t x → ((y : A) → o ≡ Some y → DidFine image T m t thread x (go y)) → DidFine image T m t thread x (where_room o go)
+  room_then None go h n = h
+  room_then (Some y) go h n = n y refl
 
   pub true_then : (b : Bool) (named : Named) (go : Did Left) → ThrowFine m t x → (b ≡ true → DidFine image T m t thread x go) → DidFine image T m t thread x (where_true b named go)
   true_then true named go h n = n refl

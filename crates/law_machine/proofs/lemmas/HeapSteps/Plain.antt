@@ -39,7 +39,7 @@ use Rattle.dv_machine.specs.Step.{here}
 use Rattle.dv_machine.specs.Calls.{object_of}
 use Rattle.dv_machine.specs.Conforming.{Own, IsThere, IsOf, Fits, Conforms, IsUninit, IsGood, RefFine}
 use Rattle.dv_machine.specs.WellTyped.{Typings, own_of, this_above, HeapFine}
-use Rattle.law_machine.specs.Premises.{KeepsKinds, ThrowFine, DidFine, HoldsOf}
+use Rattle.law_machine.specs.Premises.{KeepsKinds, ThrowFine, ThrowStays, DidFine, HoldsOf}
 use Rattle.law_machine.specs.StepLaws.{IsAdded}
 use Rattle.law_machine.specs.Reading.{Anything, IsArrayOrNull}
 use Rattle.law_types.proofs.Facts.{nothing}
@@ -76,6 +76,10 @@ module _ (image : Image) (T : Typings) (m : Machine) (t : ℕ) (thread : Thread)
 
   pub throws : (op : Op) → x.op ≡ op → can_throw op ≡ true → ThrowFine m t x
   throws op e c = record { can = ap can_throw e ∙ c; apart = no_wait image T m t thread own f rest x s h apart }
+
+  -- the same where it is no monitor-exit
+  pub stops : (op : Op) → x.op ≡ op → can_throw op ≡ true → is_exit op ≡ false → ThrowStays m t x
+  stops op e c n = (throws op e c, ap is_exit e ∙ n)
 
   -- the heap stays as it is
   pub same_heap : KeepsKinds m.shared.heap m.shared.heap
@@ -119,13 +123,13 @@ module _ (image : Image) (T : Typings) (m : Machine) (t : ℕ) (thread : Thread)
   kept_or_added after o k (inr a) = (a.fine, a.keeps)
 
   pub const_string : (a : ℕ) (cs : List ℕ) → x.op ≡ ConstString a cs → DidFine image T m t thread x (mem (here image m t own f rest x.next) (ConstString a cs))
-  const_string a cs e = room_then image T m t thread x (intern m.shared.heap cs) _ (λ g q. go g (string_is_interned image m.shared.heap cs g h.may.typed.heap q))
+  const_string a cs e = room_then image T m t thread x (intern m.shared.heap cs) _ (stops (ConstString a cs) e refl refl) (λ g q. go g (string_is_interned image m.shared.heap cs g h.may.typed.heap q))
     where
       go : (g : Got) → (kind_of g.heap g.object ≡ Some (kind.Str cs)) × ((g.heap ≡ m.shared.heap) ⊎ IsAdded image m.shared.heap g.heap g.object (kind.Str cs)) → DidFine image T m t thread x (put_object (here image m t own f rest x.next) a v.Ref g)
       go g r = let k = kept_or_added g.heap g.object (kind.Str cs) r.1 in reference_left (ConstString a cs) a g.heap g.object (of_class string_name) e refl refl k.1 k.0 (string_of g.heap g.object cs r.0)
 
   pub const_class : (a : ℕ) (u : Ty) → x.op ≡ ConstClass a u → DidFine image T m t thread x (mem (here image m t own f rest x.next) (ConstClass a u))
-  const_class a u e = room_then image T m t thread x (class_object m.shared.heap u) _ (λ g q. go g (class_object_is_got image m.shared.heap u g h.may.typed.heap q))
+  const_class a u e = room_then image T m t thread x (class_object m.shared.heap u) _ (stops (ConstClass a u) e refl refl) (λ g q. go g (class_object_is_got image m.shared.heap u g h.may.typed.heap q))
     where
       go : (g : Got) → (kind_of g.heap g.object ≡ Some (kind.ClassOf u)) × ((g.heap ≡ m.shared.heap) ⊎ IsAdded image m.shared.heap g.heap g.object (kind.ClassOf u)) → DidFine image T m t thread x (put_object (here image m t own f rest x.next) a v.Ref g)
       go g r = let k = kept_or_added g.heap g.object (kind.ClassOf u) r.1 in reference_left (ConstClass a u) a g.heap g.object (of_class class_name) e refl refl k.1 k.0 (class_of g.heap g.object u r.0)
@@ -146,10 +150,10 @@ module _ (image : Image) (T : Typings) (m : Machine) (t : ℕ) (thread : Thread)
 
       sized : (n : ℤ) → DidFine image T m t thread x (new_array (here image m t own f rest x.next) a u n)
       sized (negsuc n) = throws (NewArray a b u) e refl
-      sized (pos n) = room_then image T m t thread x (alloc_array m.shared.heap u n) _ (λ after q. let r = array_is_added image m.shared.heap after u n h.may.typed.heap q in reference_left (NewArray a b u) a after (newest after) u e refl refl r.0.keeps r.0.fine (array_of after (newest after) u array r.0.made))
+      sized (pos n) = room_then image T m t thread x (alloc_array m.shared.heap u n) _ (stops (NewArray a b u) e refl refl) (λ after q. let r = array_is_added image m.shared.heap after u n h.may.typed.heap q in reference_left (NewArray a b u) a after (newest after) u e refl refl r.0.keeps r.0.fine (array_of after (newest after) u array r.0.made))
 
   pub new_fine : (a c : ℕ) → x.op ≡ New a c → DidFine image T m t thread x (mem (here image m t own f rest x.next) (New a c))
-  new_fine a c e = room_then image T m t thread x (alloc_object image m.shared.heap c) _ (λ after q. go after (object_is_added image m.shared.heap after c h.may.typed.heap q))
+  new_fine a c e = room_then image T m t thread x (alloc_object image m.shared.heap c) _ (stops (New a c) e refl refl) (λ after q. go after (object_is_added image m.shared.heap after c h.may.typed.heap q))
     where
       made : made_at image own f.at ≡ Some c
       made =

@@ -46,7 +46,7 @@ use Rattle.law_machine.proofs.lemmas.Heap.Added.{string_is_added}
 use Rattle.law_machine.proofs.lemmas.Monitors.Steps.{staying, monitor_left}
 use Rattle.law_machine.proofs.lemmas.Local.Stands.{Stands, stack_fine, frame_refs, refs_fine}
 use Rattle.law_machine.proofs.lemmas.Calls.Invoked.{CallsNative, IsReceiver}
-use Rattle.law_machine.proofs.lemmas.Natives.Shared.{native_apart, native_throws, native_left, same_static, levels_after, started_left}
+use Rattle.law_machine.proofs.lemmas.Natives.Shared.{native_apart, native_throws, native_stops, native_left, same_static, levels_after, started_left}
 use Rattle.law_machine.proofs.lemmas.Common.Lists.{all_at}
 use Rattle.law_machine.proofs.lemmas.Growth.Keeps.{monitors_later}
 use Rattle.law_machine.proofs.lemmas.Growth.Threads.{records_after}
@@ -123,7 +123,7 @@ module _ (image : Image) (T : Typings) (m : Machine) (t : ℕ) (thread : Thread)
     text_fine u i = by_room (alloc_string heap u) refl
       where
         by_room : (r : Option Heap) → alloc_string heap u ≡ r → Does (where_room r (gives_object here_it))
-        by_room None n = tt
+        by_room None n = native_stops image T m t thread own f rest x s h c ks g e k j xs q other
         by_room (Some after) n =
             let a = string_is_added image heap after u h.may.typed.heap n in
             let fits = fits_of image after (newest after) string_type (string_is_of after u a) in

@@ -24,14 +24,14 @@ use Rattle.dv_typing.specs.Statics.{At}
 use Rattle.dv_typing.specs.RegTypes.{type_at}
 use Rattle.dv_typing.specs.Transfer as after
 use Rattle.dv_typing.specs.Transfer.{out, after_constructor, first_of, pending_of}
-use Rattle.dv_typing.specs.Flow.{Leads, targets}
+use Rattle.dv_typing.specs.Flow.{Leads, targets, is_exit}
 use Rattle.dv_machine.specs.Heap.{Heap}
 use Rattle.dv_machine.specs.Monitors.{wait_of}
 use Rattle.dv_machine.specs.State.{Thread, Machine, Shared, reg_at, with_result}
 use Rattle.dv_machine.specs.Calls.{dispatch, native_of, receiver_of, signature}
 use Rattle.dv_machine.specs.Conforming.{Own, ResultConforms, ResultFine, RefsFine, Conform}
 use Rattle.dv_machine.specs.WellTyped.{Typings, own_of, this_above, IsPlaced, CodeFine, ThreadFine, HeapFine, records}
-use Rattle.law_machine.specs.Premises.{KeepsKinds, StartedFine, LeftFine, ThrowFine}
+use Rattle.law_machine.specs.Premises.{KeepsKinds, StartedFine, LeftFine, ThrowFine, ThrowStays}
 use Rattle.law_types.proofs.Facts.{nothing}
 use Rattle.law_machine.proofs.lemmas.Growth.Kinds.{good_grown, stack_grown, refs_grown, all_refs_grown}
 use Rattle.law_machine.proofs.lemmas.Growth.Threads.{records_after}
@@ -86,6 +86,9 @@ module _ (image : Image) (T : Typings) (m : Machine) (t : ℕ) (thread : Thread)
 
     pub native_throws : ThrowFine m t x
     native_throws = throws image T m t thread own f rest x s h c ks g e native_quiet
+
+    pub native_stops : ThrowStays m t x
+    native_stops = (native_throws, ap is_exit e)
 
     pub native_apart : wait_of m.shared.monitors t ≡ None
     native_apart = no_entry image T m t thread own f rest x s h native_quiet

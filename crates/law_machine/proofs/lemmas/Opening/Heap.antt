@@ -17,16 +17,16 @@ use Rattle.dv_defs.specs.declared.run.Limits.{Limits}
 use Rattle.dv_machine.specs.Kind as kind
 use Rattle.dv_defs.specs.Flags.{has_flag}
 use Rattle.dv_defs.specs.Field.{may_stand}
-use Rattle.dv_defs.specs.Names.{object_name, string_name, thread_name, stream_name, system_name}
+use Rattle.dv_defs.specs.Names.{object_name, string_name, thread_name, out_of_memory_name, stack_overflow_name, stream_name, system_name}
 use Rattle.dv_defs.specs.Types.{of_class, is_reference, is_class, base_is_named, component}
 use Rattle.dv_defs.specs.Pools.{Method, Field, field_at, is_static_field, name_at}
 use Rattle.dv_defs.specs.Order.{fits}
 use Rattle.dv_typing.specs.RegTypes.{type_at, reg_types}
 use Rattle.dv_machine.specs.Heap.{Heap, Got, kind_of, class_cells, fresh_cells, newest, intern, with_static}
 use Rattle.dv_machine.specs.Unwinding.{number_named}
-use Rattle.dv_machine.specs.Opening.{made, object_made, first_cells, field_cells, string_of, interned_here, with_string, with_strings, is_out, with_out, empty_heap, takes_array, array_made, counted_from, opening_heap, with_out_of, with_string_of, cells_of}
+use Rattle.dv_machine.specs.Opening.{made, object_made, first_cells, field_cells, string_of, interned_here, with_string, with_strings, is_out, with_out, empty_heap, takes_array, array_made, counted_from, main_heap, with_out_of_memory, with_stack_overflow, preallocated_on, opening_heap, with_out_of, with_string_of, cells_of}
 use Rattle.dv_machine.specs.Conforming.{IsOf, Fits, Conforms, is_string_or_class}
-use Rattle.dv_machine.specs.WellTyped.{Typings, nobody, element_types, CellsFit, HeapFine}
+use Rattle.dv_machine.specs.WellTyped.{Typings, nobody, element_types, CellsFit, HeapFine, PreallocatedFine}
 use Rattle.dv_machine.specs.Accepted.{Accepted, IsNamed}
 use Rattle.law_machine.specs.Premises.{KeepsKinds}
 use Rattle.law_machine.specs.StepLaws.{IsAdded}
@@ -195,7 +195,21 @@ module _ (image : Image) (T : Typings) (acc : Accepted image T) where
     second = o.second;
   }
 
-  pub heap_opened : (m : Method) (l : Limits) → IsOpened image (opening_heap image m l) × (takes_array m ≡ true → kind_of (opening_heap image m l) (newest (opening_heap image m l)) ≡ Some (kind.Array strings_type))
+  -- ---- the exceptions that are made last
+
+  -- main's array is there still, where main takes one, and so are the two
+  pub record IsFilled (m : Method) (h : Heap) : Type 0 where
+    pub opened : IsOpened image h
+    pub array : takes_array m ≡ true → kind_of h (newest (main_heap image m)) ≡ Some (kind.Array strings_type)
+    pub preallocated : PreallocatedFine image h (preallocated_on image (main_heap image m))
+
+  pub heap_opened : (m : Method) (l : Limits) → IsFilled m (opening_heap image m l)
   heap_opened m l =
       let a = array_opened m _ (strings_opened image.fields 0 _ (out_opened image.fields 0 _ objects_opened)) in
-      (counted_opened l _ a.0, a.1)
+      let o = object_added (main_heap image m) out_of_memory_name a.0.fine in
+      let s = object_added (with_out_of_memory image (main_heap image m)) stack_overflow_name o.fine in
+      record {
+        opened = counted_opened l _ (opened_more image (main_heap image m) (with_stack_overflow image (with_out_of_memory image (main_heap image m))) a.0 (λ p k e. s.keeps p k (o.keeps p k e)) s.fine);
+        array = λ e. s.keeps _ _ (o.keeps _ _ (a.1 e));
+        preallocated = record { out_of_memory = s.keeps _ _ o.made; stack_overflow = s.made };
+      }

@@ -109,7 +109,7 @@ module _ (image : Image) (T : Typings) (m : Machine) (t : ℕ) (thread : Thread)
   -- levels on the record's, where the stack has room
   pushing : (ls : List Level) (cs : Classes) (b : Bool) → LeftFine image T m t thread (record { levels = ls; shared = with_classes m.shared cs; started = None }) → RecordDidFine image T m t thread (if b then left (here image m t no_method no_frame rest 0) (with_classes m.shared cs) ls else NoRoom)
   pushing ls cs true l = l
-  pushing ls cs false l = tt
+  pushing ls cs false l = record_quiet
 
   -- its own levels, with this flag
   again : (b : Bool) → ThreadFine image T m.shared.heap t (level.Init (record { 0 = c }) b ∷ rest) end.Living

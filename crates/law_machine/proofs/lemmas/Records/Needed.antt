@@ -130,7 +130,7 @@ module _ (image : Image) (T : Typings) (m : Machine) (t : ℕ) (thread : Thread)
 
       pushing : (b : Bool) → LeftFine image T m t thread (record { levels = level.Init (record { 0 = c }) false ∷ level.Code f ∷ rest; shared = with_classes m.shared (with_state m.shared.classes c (InProgress t)); started = None }) → DidFine image T m t thread x (if b then left (here image m t own f rest x.next) (with_classes m.shared (with_state m.shared.classes c (InProgress t))) (level.Init (record { 0 = c }) false ∷ level.Code f ∷ rest) else NoRoom)
       pushing true l = l
-      pushing false l = tt
+      pushing false l = (throws, (need_throws x.op c needed).1)
 
       by_state : (s : ClassState) → state_at m.shared.classes c ≡ s → DidFine image T m t thread x (for_class (here image m t own f rest x.next) (level.Code f ∷ rest) c (asked t s) go)
       by_state Fresh e = pushing _ (begins e)

@@ -65,7 +65,7 @@ module _ (image : Image) (m : Machine) (t : ℕ) (thread : Thread) (has : slice_
     unfolding Stays Waits
     as_it_was l ls levels after e =
         sym (same_Ok (gone_on m t thread (record { levels = l ∷ ls; shared = m.shared; started = None })) after _ refl e) ∙
-        ap (λ z. let n : Machine = record { threads = z; shared = m.shared; steps = suc m.steps; stop = m.stop; limits = m.limits } in n) (same_threads (l ∷ ls) levels)
+        ap (λ z. let n : Machine = record { threads = z; shared = m.shared; steps = suc m.steps; stop = m.stop; limits = m.limits; preallocated = m.preallocated } in n) (same_threads (l ∷ ls) levels)
 
     -- a class that another thread initialises
     class_waits : (h : Here) (l : Level) (ls : List Level) (c : ℕ) (a : Ask) (b : Blocked) (more : Option Blocked) (go : Did Left) → h.shared ≡ m.shared → thread.levels ≡ l ∷ ls → (more ≡ Some b → Stays go) → by_ask a more c ≡ Some b → Stays (for_class h (l ∷ ls) c a go)

@@ -13,4 +13,4 @@ returns-clause-machine c few =
     let threads : zipped ts.stacks.items c.set_end.new.ends.items ts.objects.items ≡ ended_at (threads_of ts) c.args.thread (λ ls. c.args.end) =
     ap (λ (es : List End). zipped ts.stacks.items es ts.objects.items) c.set_end.ensures ∙ zip_ended ts.stacks.items ts.ends.items ts.objects.items c.args.thread c.args.end in
     let steps : (old.steps + 1) % 18446744073709551616 ≡ suc old.steps = omega (arith, few) in
-    λ j. record { threads = threads j; shared = shared_of old.guest; steps = steps j; stop = old.stop; limits = old.limits }
+    λ j. record { threads = threads j; shared = shared_of old.guest; steps = steps j; stop = old.stop; limits = old.limits; preallocated = old.preallocated }

@@ -16,5 +16,5 @@ returns-clause-machine c own has few =
       | else-is_done w ↦ w.end-is ∙ living own.levels (sym w.if-is_done.false ∙ done)
     ] in
     c.count.ensures.machine few ∙
-    ap (λ (ts : List WordThread). record { threads = ts; shared = shared_of old.guest; steps = suc old.steps; stop = old.stop; limits = old.limits })
+    ap (λ (ts : List WordThread). record { threads = ts; shared = shared_of old.guest; steps = suc old.steps; stop = old.stop; limits = old.limits; preallocated = old.preallocated })
     (ended_same (threads_of old.guest.threads) c.args.thread own c.if-is_done.end end_after has is)

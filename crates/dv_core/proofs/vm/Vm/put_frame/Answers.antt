@@ -30,7 +30,7 @@ returns-then-is_running-clause-put c own f ls runs is =
     let put = c.put_top.ensures.put has.stack has.there is in
     let threads = wrote_frame ts.stacks.items ts.ends.items ts.objects.items t own runs.there f ls runs.living runs.levels c.args.frame.now c.put_top.new.stacks.items
     (changed (λ g. c.args.frame.now) has.stack) put refl in
-    λ j. record { threads = threads j; shared = shared_of old.guest; steps = old.steps; stop = old.stop; limits = old.limits }
+    λ j. record { threads = threads j; shared = shared_of old.guest; steps = old.steps; stop = old.stop; limits = old.limits; preallocated = old.preallocated }
 
 pub returns-then-is_running-clause-ordered : goal.returns-then-is_running-clause-ordered
 returns-then-is_running-clause-ordered c ordered = still_ordered c.args.self.now.limits c.args.self.now.guest _ refl refl c.put_top.ensures.bounds ordered

@@ -23,7 +23,7 @@ returns-clause-ran c own f ls ordered runs few =
     record {
       frame = x.frame;
       ran = subst (λ (n : ℕ). RanLocally image n done f x.frame) (c.countable-most.ensures.all few) x.ran;
-      machine = λ j. record { threads = x.threads j; shared = shared_of old.guest; steps = old.steps + c.from.ensures j; stop = old.stop; limits = old.limits };
+      machine = λ j. record { threads = x.threads j; shared = shared_of old.guest; steps = old.steps + c.from.ensures j; stop = old.stop; limits = old.limits; preallocated = old.preallocated };
     }
 
 pub returns-clause-none : goal.returns-clause-none
@@ -38,7 +38,7 @@ returns-clause-none c ordered none =
     let steps : old.steps + c.from.result ≡ old.steps = omega (arith, x.0, c.from.ensures) in
     record {
       none = x.0;
-      same = λ j. record { threads = zipped (x.1 j) ts.ends.items ts.objects.items; shared = shared_of old.guest; steps = steps j; stop = old.stop; limits = old.limits };
+      same = λ j. record { threads = zipped (x.1 j) ts.ends.items ts.objects.items; shared = shared_of old.guest; steps = steps j; stop = old.stop; limits = old.limits; preallocated = old.preallocated };
     }
 
 pub returns-clause-ordered : goal.returns-clause-ordered

@@ -26,6 +26,7 @@ returns-then-put_frame-clause-undone c m own u ls ordered runs long was =
       steps = steps j;
       stop = (ap (λ (k : WordMachine). k.stop) put ∙ ap (λ (k : WordMachine). k.stop) was) j;
       limits = (ap (λ (k : WordMachine). k.limits) put ∙ ap (λ (k : WordMachine). k.limits) was) j;
+      preallocated = (ap (λ (k : WordMachine). k.preallocated) put ∙ ap (λ (k : WordMachine). k.preallocated) was) j;
     }
 
 pub returns-else-put_frame-clause-undone : goal.returns-else-put_frame-clause-undone
