@@ -1,5 +1,5 @@
 #!/usr/bin/env python3
-"""Times `dvm run`: endless loops that are ended by the budget of 50,000,000 steps, or by a full heap, and the smallest text.
+"""Times `dvm run`: endless loops that are ended by the budget of 50,000,000 steps, or by an OutOfMemoryError, and the smallest text.
 
 Each program has a count of instructions a round, so that the rounds are known. Where a JDK is on the path the same rounds are run by `java -Xint`, and the
 ratio is told. Times are of the processor, the least of three runs, with the start of each program taken off.
@@ -170,7 +170,7 @@ def main():
             print(line, flush=True)
         texts(program, start, room if has_java else None)
     seconds, printed = timed([program, "run", "Main", f"budget={BUDGET}", "heap=8388608"], MAIN % OBJECTS)
-    assert printed.endswith("#end heap full 0\n"), printed
+    assert printed == "#uncaught 0 java.lang.OutOfMemoryError\n#end done\n", printed
     # an object of one field has three words
     print(f"objects: {8_388_608 / 3 / (seconds - start) / 1e6:.1f} million a second")
     print(f"memory: at most {resource.getrusage(resource.RUSAGE_CHILDREN).ru_maxrss / 1024:.0f} MB of all these programs")
