@@ -28,8 +28,8 @@ use Rattle.dv_core.proofs.Waits.{many}
 use Rattle.dv_sound.specs.Moves.{IsKeptAt, IsTurn, KeepsOthers, StandsFor, may_step}
 use Rattle.dv_sound.specs.declared.error.ReplayError.{ReplayError}
 use Rattle.dv_sound.specs.Replays.{IsLedToEnd, IsRefused, StopsBefore}
-use Rattle.dv_sound.specs.Runs.{IsAt, IsAtSome, IsKept, IsOpened, IsSameRun, IsTurned, MayTurn, Run, TurnedFrom, logged}
-use Rattle.dv_sound.proofs.Going.{may_parts}
+use Rattle.dv_sound.specs.Runs.{AtItsState, IsAt, IsAtSome, IsKept, IsOpened, IsSameRun, IsTurned, MayStepThere, MayTurn, Run, TurnedFrom, logged}
+use Rattle.dv_sound.proofs.Going.{may_is, may_parts}
 use Rattle.dv_sound.proofs.Others.{stays_local}
 
 none_stopped : (image : Image) (m : Machine) → ending_of image m ≡ None → m.stop ≡ None
@@ -137,6 +137,17 @@ module _ (r : Run) (v : Vm) (k : IsKept r.verified.image r.main v r.log r.lent) 
     typed = k.stands.simulated.typed;
   }
 
+  -- a thread that may turn may step there
+  pub may_there : (t : ℕ) → AtItsState r (λ main m. MayTurn r m t) → MayStepThere r.verified.image v r.log t
+  may_there t may main lent j =
+      let here = may k.has_main.method k.machine at_kept in
+      sym (may_is r.verified.image j.typings v j.machine j.good j.stands t) ∙ may_is r.verified.image k.typings v k.machine k.good k.stands t ∙
+      and_from (is_none (ending_of r.verified.image k.machine)) (runnable r.verified.image k.machine t) (ap is_none here.goes_on) here.runs
+
+  -- and is at home
+  pub home_there : (t : ℕ) → AtItsState r (λ main m. MayTurn r m t) → All (λ (u : ℕ). u ≢ t) r.lent
+  home_there t may = (may k.has_main.method k.machine at_kept).at_home
+
   module _ (main : Method) (m : Machine) (at : IsAt r main m) where
     pub main_is : k.has_main.method ≡ main
     main_is = same_method k.has_main.method main (sym main_there ∙ at.main_is)
@@ -165,20 +176,6 @@ module _ (r : Run) (v new : Vm) (log : List Entry) (k : IsKept r.verified.image 
         };
       }
 
-  pub run_may : (t : ℕ) (main : Method) (m : Machine) → IsAt r main m → MayTurn r m t → may_step r.verified.image k.machine t ≡ true
-  run_may t main m at may =
-      subst (λ (x : Machine). may_step r.verified.image x t ≡ true) (sym (machine_is r v k same main m at))
-      (and_from (is_none (ending_of r.verified.image m)) (runnable r.verified.image m t) (ap is_none may.goes_on) may.runs)
-
-  pub run_held : (t : ℕ) → All (λ (u : ℕ). u ≢ t) r.lent → (main : Method) (m : Machine) → IsAt r main m → (MayTurn r m t → ⊥) → may_step r.verified.image k.machine t ≡ false
-  run_held t home main m at held = by (may_step r.verified.image k.machine t) refl
-    where
-      by : (b : Bool) → may_step r.verified.image k.machine t ≡ b → may_step r.verified.image k.machine t ≡ false
-      by false is = is
-      by true is =
-          let parts = may_parts r.verified.image k.machine t is in
-          absurd (held (subst (λ (x : Machine). MayTurn r x t) (machine_is r v k same main m at) (record { goes_on = parts.0; runs = parts.1; at_home = home })))
-
   pub run_same : new.limits ≡ v.limits → IsSameRun r (run_with r new log)
   run_same limits = record { verified = refl; main = refl; limits = limits ∙ ap (λ (w : WordMachine). w.limits) same; lent = refl }
 
@@ -193,6 +190,10 @@ if_ok (Err e) f p = tt
 pub on_err : {A E : Type 0} {P Q : Type 0} (r : Result A E) → (P → Q) → OnErr r P → OnErr r Q
 on_err (Ok a) f p = tt
 on_err (Err e) f p = f p
+
+pub on_each_err : {A E : Type 0} (r : Result A E) (P : Type 0) → P → OnErr r P
+on_each_err (Ok a) P p = tt
+on_each_err (Err e) P p = p
 
 zip_length : {A B : Type 0} (P : A → B → Type 0) (xs : List A) (ys : List B) → AllZip P xs ys → length xs ≡ length ys
 zip_length P [] [] all = refl

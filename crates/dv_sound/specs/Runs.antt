@@ -15,7 +15,7 @@ use Rattle.dv_machine.specs.WellTyped.{Typings, WellTyped}
 use Rattle.dv_rules.specs.Verified.{VerifiedValue}
 use Rattle.dv_words.specs.State.{WordMachine}
 use Rattle.dv_core.specs.declared.vm.Vm.{Vm}
-use Rattle.dv_sound.specs.Moves.{IsGood, StandsFor}
+use Rattle.dv_sound.specs.Moves.{IsGood, StandsFor, may_step}
 
 -- the program, the number of its main method, the state on words, what was logged, and which threads are lent
 pub record Run : Type 0 where
@@ -48,6 +48,10 @@ pub record IsKept (image : Image) (main : MethodId) (v : Vm) (log : List Entry) 
 -- for each main method and lent threads with which this engine was kept at this log
 abbrev pub WhereKept : Image → Vm → List Entry → (MethodId → List ℕ → Type 0) → Type 0
 WhereKept image v log Says = (main : MethodId) (lent : List ℕ) → IsKept image main v log lent → Says main lent
+
+-- the thread may step there
+abbrev pub MayStepThere : Image → Vm → List Entry → ℕ → Type 0
+MayStepThere image v log t = (main : MethodId) (lent : List ℕ) (k : IsKept image main v log lent) → may_step image k.machine t ≡ true
 
 -- a turn was done from where the log led, and logged
 pub record TurnedFrom (image : Image) (main : MethodId) (v : Vm) (log : List Entry) (lent : List ℕ) (k : IsKept image main v log lent) (worker t most n : ℕ) (new : Vm) (after_log : List Entry) : Type 0 where

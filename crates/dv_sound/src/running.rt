@@ -30,9 +30,7 @@ impl<'v> SafeVm<'v> {
             let Some(thread) = self.ready() else {
                 return Ok(());
             };
-            if self.turn(0, thread, MOST)? == 0 {
-                return Ok(());
-            }
+            self.take_turn(0, thread, MOST)?;
         }
         Ok(())
     }

@@ -5,11 +5,11 @@ ghost use Rattle.dv_core.specs.Machines.{machine_of};
 ghost use Rattle.dv_core.specs.Watching.{AreWatchable};
 ghost use Rattle.dv_machine.specs.WellTyped.{Typings};
 ghost use Rattle.dv_words.specs.Erasure.{erased_machine};
-ghost use Rattle.dv_sound.specs.Moves.{AreUsable, FramesStay, IsGood, StandsFor, may_step};
+ghost use Rattle.dv_sound.specs.Moves.{AreUsable, FramesStay, IsGood, StandsFor};
 ghost use Rattle.dv_machine.specs.Mains.{HasMain};
-ghost use Rattle.dv_sound.specs.Runs.{IsAtSome, IsKept, IsOpened, IsReady, IsSameRun, IsTurned, MayTurn, NoneIsReady, TurnedFrom, AtItsState, WhereKept};
+ghost use Rattle.dv_sound.specs.Runs.{IsAtSome, IsKept, IsOpened, IsReady, IsSameRun, IsTurned, MayStepThere, MayTurn, NoneIsReady, TurnedFrom, AtItsState, WhereKept};
 
-use crate::moves::{goes_on, may_step, take_turn};
+use crate::moves::{goes_on, take_turn};
 use crate::premises::{are_numbers, inits_fit, is_accepted, keys_rise, strings_fit};
 use crate::words::machine_fits;
 use dv_core::Vm;
@@ -76,12 +76,12 @@ fn no_frame(alloc: Global) -> Frame {
     }
 }
 
-/// A turn of a thread from where a log led, which is logged; nothing is done where the run has ended or the thread isn't runnable.
+/// A turn, from where a log led, of a thread that may step; it is logged.
 ///
 /// # Errors
 ///
 /// Want of memory; the engine stands where it stood, and the log is as before.
-fn logged_turn(
+fn granted_turn(
     program: &Verified,
     vm: &mut Vm,
     kept: &mut Frame,
@@ -90,22 +90,19 @@ fn logged_turn(
     thread: u32,
     most: u32,
 ) -> Result<u32, AllocError>
-    ensures kept { WhereKept program.now.image vm.old log.old.items (λ main lent. 1 ≤ most → All (λ t. t ≢ thread) lent → IsKept program.now.image main vm.new log.new.items lent) }
-    ensures turned { IfOk result (λ n. (main : MethodId) (lent : List ℕ) (k : IsKept program.now.image main vm.old log.old.items lent) → may_step program.now.image k.machine thread ≡ true → 1 ≤ most →
+    requires may { MayStepThere program.now.image vm.old log.old.items thread }
+    requires some { 1 ≤ most }
+    ensures kept { WhereKept program.now.image vm.old log.old.items (λ main lent. All (λ t. t ≢ thread) lent → IsKept program.now.image main vm.new log.new.items lent) }
+    ensures turned { IfOk result (λ n. (main : MethodId) (lent : List ℕ) (k : IsKept program.now.image main vm.old log.old.items lent) →
         TurnedFrom program.now.image main vm.old log.old.items lent k worker thread most n vm.new log.new.items) }
-    ensures held { IfOk result (λ n. (main : MethodId) (lent : List ℕ) (k : IsKept program.now.image main vm.old log.old.items lent) → may_step program.now.image k.machine thread ≡ false →
-        (n ≡ 0) × (machine_of vm.new ≡ machine_of vm.old) × (log.new.items ≡ log.old.items)) }
-    ensures limits { WhereKept program.now.image vm.old log.old.items (λ main lent. 1 ≤ most → vm.new.limits ≡ vm.old.limits) }
+    ensures limits { WhereKept program.now.image vm.old log.old.items (λ main lent. vm.new.limits ≡ vm.old.limits) }
     ensures few { IfOk result (λ n. n ≤ most) }
-    ensures counted { IfOk result (λ n. WhereKept program.now.image vm.old log.old.items (λ main lent. 1 ≤ most → vm.new.steps ≡ vm.old.steps + n)) }
-    ensures within { WhereKept program.now.image vm.old log.old.items (λ main lent. 1 ≤ most → vm.new.steps ≤ vm.new.limits.budget) }
-    ensures stay { WhereKept program.now.image vm.old log.old.items (λ main lent. 1 ≤ most → All (λ t. t ≢ thread) lent → FramesStay (machine_of vm.old) (machine_of vm.new) lent) }
+    ensures counted { IfOk result (λ n. WhereKept program.now.image vm.old log.old.items (λ main lent. vm.new.steps ≡ vm.old.steps + n)) }
+    ensures within { WhereKept program.now.image vm.old log.old.items (λ main lent. vm.new.steps ≤ vm.new.limits.budget) }
+    ensures stay { WhereKept program.now.image vm.old log.old.items (λ main lent. All (λ t. t ≢ thread) lent → FramesStay (machine_of vm.old) (machine_of vm.new) lent) }
     ensures refused { OnErr result (WhereKept program.now.image vm.old log.old.items (λ main lent. (machine_of vm.new ≡ machine_of vm.old) × (log.new.items ≡ log.old.items))) }
 {
     let image = &program.image;
-    if !may_step(image, vm, thread) {
-        return Ok(0);
-    }
     log.reserve(1)?;
     let steps = take_turn(image, vm, kept, thread, most)?;
     log.push(Entry {
@@ -252,9 +249,30 @@ impl<'v> SafeVm<'v> {
         ensures lent_stay { FramesStay self.old.machine self.new.machine self.old.lent }
         ensures refused { OnErr result (self.new ≡ self.old) }
     {
-        if most == 0 || self.is_lent(thread) {
+        if most == 0 || !self.may_turn(thread) {
             return Ok(0);
         }
+        self.take_turn(worker, thread, most)
+    }
+
+    /// A turn of a thread that may do one, as `ready` gives it where the run goes on: it isn't asked again. It is logged, and at least one step is
+    /// done. Gives how many.
+    ///
+    /// # Errors
+    ///
+    /// Want of memory; all is as before then.
+    pub fn take_turn(&mut self, worker: u32, thread: u32, most: u32) -> Result<u32, AllocError>
+        requires may { AtItsState self.old (λ main m. MayTurn self.old m thread) }
+        requires some { 1 ≤ most }
+        ensures turned { IfOk result (λ n. AtItsState self.old (λ main m. IsTurned self.old self.new main m worker thread most n)) }
+        ensures some { IfOk result (λ n. 1 ≤ n) }
+        ensures few { IfOk result (λ n. n ≤ most) }
+        ensures counted { IfOk result (λ n. self.new.machine.steps ≡ self.old.machine.steps + n) }
+        ensures within { IfOk result (λ n. 1 ≤ n → self.new.machine.steps ≤ self.new.machine.limits.budget) }
+        ensures same { IsSameRun self.old self.new }
+        ensures lent_stay { FramesStay self.old.machine self.new.machine self.old.lent }
+        ensures refused { OnErr result (self.new ≡ self.old) }
+    {
         let SafeVm {
             verified,
             vm,
@@ -262,7 +280,7 @@ impl<'v> SafeVm<'v> {
             kept,
             ..
         } = self;
-        logged_turn(verified, vm, kept, log, worker, thread, most)
+        granted_turn(verified, vm, kept, log, worker, thread, most)
     }
 
     /// Whether a thread is runnable.
@@ -274,7 +292,7 @@ impl<'v> SafeVm<'v> {
     }
 
     /// Whether nothing stopped the run, and its steps aren't spent: it goes on where a thread is runnable.
-    pub(crate) fn goes_on(&self) -> bool
+    pub fn goes_on(&self) -> bool
         ensures goes_on { AtItsState self.now (λ main m. (t : ℕ) → running.runnable self.now.verified.image m t ≡ true → result ≡ is_none (running.ending_of self.now.verified.image m)) }
         ensures leads { IsAtSome self.now }
     {
@@ -290,6 +308,18 @@ impl<'v> SafeVm<'v> {
             false
         } else {
             self.runnable(thread)
+        }
+    }
+
+    /// Whether a thread may do a turn: the run goes on, and the thread is runnable and at home.
+    fn may_turn(&self, thread: u32) -> bool
+        ensures may { AtItsState self.now (λ main m. result ≡ true → MayTurn self.now m thread) }
+        ensures held { AtItsState self.now (λ main m. result ≡ false → MayTurn self.now m thread → ⊥) }
+    {
+        if self.goes_on() {
+            self.is_ready(thread)
+        } else {
+            false
         }
     }
 

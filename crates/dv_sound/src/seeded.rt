@@ -69,9 +69,7 @@ impl<'v> SafeVm<'v> {
         while self.ending().is_none() {
             let word = words.next_u32();
             let thread = self.picked(word);
-            if self.turn(0, thread, 1 + word % 256)? == 0 {
-                return Ok(());
-            }
+            self.take_turn(0, thread, 1 + word % 256)?;
         }
         Ok(())
     }

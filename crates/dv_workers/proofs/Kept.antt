@@ -1,12 +1,11 @@
 -- What a desk keeps, after an entry more and after bytes that went out.
-use Rattle.std.proofs.Common.{◌≡◌, ◌≤◌, ◌+◌, ◌⊎◌, ⊎_elim, inl, inr, ℕ, Bool, true, false, List, [], ◌∷◌, All, length, sym, subst, ap, ◌∙◌, arith}
-use Rattle.std.proofs.lemmas.Bool.{true≢false}
+use Rattle.std.proofs.Common.{◌≡◌, ◌≤◌, ◌+◌, ◌⊎◌, ⊎_elim, inl, inr, ℕ, Bool, true, List, [], ◌∷◌, All, length, sym, subst, ap, ◌∙◌, arith}
 use Rattle.std.proofs.lemmas.List.{length_push}
 use Rattle.std.proofs.lemmas.List.Elements.{All-append, All-cons, All-nil}
 use Rattle.dv_defs.specs.declared.run.Entry.{Entry}
 use Rattle.dv_io.specs.Io.{HasRisen}
 use Rattle.dv_sound.specs.Runs.{Run}
-use Rattle.dv_workers.specs.Desks.{HasEnded, IsDone, IsLonger, IsLongerBy}
+use Rattle.dv_workers.specs.Desks.{IsDone, IsLonger, IsLongerBy}
 use Rattle.dv_workers.specs.Entries.{IsOfWorker}
 
 pub entries_on : (old new : List Entry) → All IsOfWorker old → IsLonger old new → All IsOfWorker new
@@ -31,12 +30,3 @@ done_alike memory fault now_memory now_fault r now m f same done =
 
 pub done_on : (memory fault now : Bool) (r : Run) → IsDone memory fault r → (fault ≡ true → now ≡ true) → IsDone memory now r
 done_on memory fault now r done to = ⊎_elim (λ m. inl m) (λ d. inr (⊎_elim (λ f. inl (to f)) (λ e. inr e) d.0, d.1)) done
-
--- where no write failed and memory wasn't wanting, the run has ended
-pub done_ended : (memory fault : Bool) (r : Run) → IsDone memory fault r → fault ≡ false → memory ≡ false → HasEnded r
-done_ended memory fault r (inl m) f n = absurd (true≢false (sym m ∙ n))
-done_ended memory fault r (inr d) f n = by d.0
-  where
-    by : (fault ≡ true) ⊎ HasEnded r → HasEnded r
-    by (inl g) = absurd (true≢false (sym g ∙ f))
-    by (inr e) = e

@@ -2,5 +2,4 @@ pub mod Kept
 pub mod Lent
 pub mod Moves
 pub mod Runs
-pub mod Turns
 pub mod Written

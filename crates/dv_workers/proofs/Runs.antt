@@ -8,12 +8,11 @@ use Rattle.dv_local.specs.declared.slice.Slice.{Slice}
 use Rattle.dv_machine.specs.Replaying.{Replayed, Stands, NotRunnable, PastEnd, Wrong, replay}
 use Rattle.dv_machine.specs.State.{Machine}
 use Rattle.dv_sound.specs.Lending.{IsCommitted, IsFitting, logged_some}
-use Rattle.dv_sound.specs.Runs.{AtItsState, IsAt, IsAtSome, IsTurned, MayTurn, Run}
+use Rattle.dv_sound.specs.Runs.{AtItsState, IsAt, IsAtSome, IsTurned, Run}
 use Rattle.law_output.specs.Laws.{PrintsOn}
 use Rattle.law_output.proofs.Steps.{entries_print, turns_print}
-use Rattle.dv_workers.specs.Desks.{IsLonger, MayGo, printed}
+use Rattle.dv_workers.specs.Desks.{IsLonger, printed}
 use Rattle.dv_workers.proofs.Lent.{without_fewer}
-use Rattle.dv_workers.proofs.Turns.{turn_counts}
 
 -- a state's output is what was printed
 abbrev pub Tells : Run → Type 0
@@ -38,19 +37,17 @@ prints : (old new : Run) (main : Method) (m n : Machine) → Tells old → Tells
 prints old new main m n before after here there on =
     (on.0, after main n there ∙ on.1 ∙ ap (λ o. o ++ on.0) (sym (before main m here)))
 
-pub turn_prints : (old new : Run) (worker t n : ℕ) → IsAtSome old → Tells old → Tells new → MayGo old t → ((main : Method) (m : Machine) → IsAt old main m → MayTurn old m t → 1 ≤ 256 → IsTurned old new main m worker t 256 n) → PrintsOn (printed old) (printed new)
-turn_prints old new worker t n s before after may turned =
-    let is = turned s.main s.machine s.at (may s.main s.machine s.at) (omega arith) in
+pub turn_prints : (old new : Run) (worker t n : ℕ) → IsAtSome old → Tells old → Tells new → AtItsState old (λ main m. IsTurned old new main m worker t 256 n) → PrintsOn (printed old) (printed new)
+turn_prints old new worker t n s before after turned =
+    let is = turned s.main s.machine s.at in
     prints old new s.main s.machine is.after before after s.at is.at (turns_print old.verified.image s.machine t 256 (record { count = n; machine = is.after }) is.turned)
 
-pub turn_logs : (old new : Run) (worker t n : ℕ) → worker < 8 → n ≤ 256 → IsAtSome old → MayGo old t → ((main : Method) (m : Machine) → IsAt old main m → MayTurn old m t → 1 ≤ 256 → IsTurned old new main m worker t 256 n) → IsLonger old.log new.log
-turn_logs old new worker t n low few s may turned =
-    let go = may s.main s.machine s.at in
-    let is = turned s.main s.machine s.at go (omega arith) in
+pub turn_logs : (old new : Run) (worker t n : ℕ) → worker < 8 → 1 ≤ n → n ≤ 256 → IsAtSome old → AtItsState old (λ main m. IsTurned old new main m worker t 256 n) → IsLonger old.log new.log
+turn_logs old new worker t n low some few s turned =
     record {
       entry = record { worker = worker; thread = t; steps = n };
-      of = record { worker = low; some = turn_counts old.verified.image t 255 s.machine (record { count = n; machine = is.after }) go.goes_on go.runs is.turned; few = few };
-      longer = is.logs;
+      of = record { worker = low; some = some; few = few };
+      longer = (turned s.main s.machine s.at).logs;
     }
 
 pub slice_prints : (old new : Run) (worker n : ℕ) (slice : Slice) → IsAtSome old → Tells old → Tells new → IsFitting old slice → ((main : Method) (m : Machine) → IsAt old main m → IsFitting old slice → IsCommitted old new main m worker slice n) → PrintsOn (printed old) (printed new)

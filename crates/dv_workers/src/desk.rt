@@ -144,12 +144,13 @@ impl<'v, K: Sink, L: Began> Desk<'v, K, L> {
         ensures parts { share.new.parts ≡ share.old.parts }
         ensures amount { share.new.amount ≡ share.old.amount + ran result }
     {
-        if self.is_over() {
+        if self.memory || self.fault || !self.vm.goes_on() {
             return Chore::Stop;
         }
         match self.vm.ready() {
             Some(thread) if lends => self.go(share, worker, thread),
             Some(thread) => self.turn(share, worker, thread),
+            None if self.is_over() => Chore::Stop,
             None => Chore::Rest,
         }
     }

@@ -30,7 +30,7 @@ pub fn take_turn(vm: &mut SafeVm, worker: u32, thread: u32) -> Result<(), AllocE
 {
     let _log = vm.log();
     let _before = printed(vm);
-    let _done = vm.turn(worker, thread, MOST)?;
+    let _done = vm.take_turn(worker, thread, MOST)?;
     let _after = printed(vm);
     Ok(())
 }

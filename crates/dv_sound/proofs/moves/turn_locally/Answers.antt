@@ -1,4 +1,4 @@
-use Rattle.std.proofs.Common.{◌≡◌, ◌∙◌, ap, subst, sym, arith}
+use Rattle.std.proofs.Common.{◌≡◌, ◌∙◌, ap, subst, arith}
 use Rattle.dv_defs.specs.declared.run.Limits.{Limits}
 use Rattle.dv_words.specs.State.{WordMachine}
 use Rattle.dv_core.specs.Guests.{IsOrdered}

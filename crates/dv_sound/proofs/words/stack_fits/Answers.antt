@@ -1,4 +1,4 @@
-use Rattle.std.proofs.Common.{List, All, ℕ, reverse, subst}
+use Rattle.std.proofs.Common.{List, All, reverse, subst}
 use Rattle.dv_words.specs.Standing.{AllFit}
 use Rattle.dv_words.specs.State.{WordStack}
 use Rattle.dv_frames.specs.declared.levels.Level.{Level}

@@ -1,4 +1,5 @@
-use Rattle.std.proofs.Common.{[], inl, inr, ap, sym, arith, append-nil, ◌∙◌}
+use Rattle.std.proofs.Common.{inl, inr, sym, arith, [], ap, ◌∙◌}
+use Rattle.std.proofs.lemmas.List.{append-nil}
 use Rattle.dv_workers.specs.Desks.{printed}
 use Rattle.dv_workers.proofs.Runs.{Tells, slice_home, slice_logs, slice_prints}
 use Rattle.dv_workers.proofs.turning.bring.Goals.{then-steps-eq0, else-steps-eq0}
@@ -18,9 +19,8 @@ returns-clause-prints c =
     let after : Tells c.commit.new.self = λ main m at. sym c.printed-after.ensures.output ∙ c.printed-after.ensures.tagged main m at in
     slice_prints c.args.vm.now c.commit.new.self c.args.worker c.in_ok-steps.steps c.args.slice c.log-log.ensures.leads before after c.requires.fits c.in_ok-steps.ensures.committed
 
--- a slice that is refused leaves what was printed
-pub returns-in_err-steps-clause-prints : goal.returns-in_err-steps-clause-prints
-returns-in_err-steps-clause-prints c = ([], ap printed c.in_err-steps.ensures.refused.1 ∙ sym (append-nil (printed c.args.vm.now)))
-
 pub returns-clause-home : goal.returns-clause-home
 returns-clause-home c = slice_home c.args.vm.now c.commit.new.self c.args.worker c.in_ok-steps.steps c.args.slice c.log-log.ensures.leads c.requires.fits c.in_ok-steps.ensures.committed
+
+pub returns-in_err-steps-clause-prints : goal.returns-in_err-steps-clause-prints
+returns-in_err-steps-clause-prints c = ([], ap printed c.in_err-steps.ensures.refused.1 ∙ sym (append-nil (printed c.args.vm.now)))
