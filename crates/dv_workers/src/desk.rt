@@ -136,6 +136,20 @@ impl<'v, K: Sink, L: Began> Desk<'v, K, L> {
         (Chore::Ran, turns)
     }
 
+    /// The thread whose turn is next, none where the workers are to stop or no thread can go on: it is asked once whether it can.
+    fn next(&self) -> Option<u32>
+        ensures { IfSome result (λ thread. MayGo self.now.vm thread) }
+    {
+        if self.memory || self.fault {
+            return None;
+        }
+        if self.vm.goes_on() {
+            self.vm.ready()
+        } else {
+            None
+        }
+    }
+
     /// What a worker does next with the machine.
     fn act(&mut self, share: &mut Share<L>, worker: u32, lends: bool) -> Chore
         requires worker { (worker < 8) × (0 < share.old.parts) }
@@ -144,10 +158,7 @@ impl<'v, K: Sink, L: Began> Desk<'v, K, L> {
         ensures parts { share.new.parts ≡ share.old.parts }
         ensures amount { share.new.amount ≡ share.old.amount + ran result }
     {
-        if self.memory || self.fault || !self.vm.goes_on() {
-            return Chore::Stop;
-        }
-        match self.vm.ready() {
+        match self.next() {
             Some(thread) if lends => self.go(share, worker, thread),
             Some(thread) => self.turn(share, worker, thread),
             None if self.is_over() => Chore::Stop,
@@ -294,31 +305,13 @@ impl<'v, K: Sink, L: Began> Desk<'v, K, L> {
     {
         let mut turns = 0;
         for _ in rt.forever() {
-            if self.is_over() {
-                return turns;
+            match self.next() {
+                Some(thread) => turns += self.turn_in_place(gate, share, thread),
+                None if self.is_over() => return turns,
+                None => {}
             }
-            turns += self.turn_alone(gate, share);
         }
         unreachable!()
-    }
-
-    /// The next turn of an only worker, if a thread can go on. Gives how many entries were logged.
-    fn turn_alone<G: Gate>(&mut self, gate: &G, share: &mut Share<L>) -> u64
-        requires share { 0 < share.old.parts }
-        requires going { GoesOn self.old.vm }
-        ensures names { names_of self.new.vm ≡ names_of self.old.vm }
-        ensures home { self.new.vm.lent ≡ self.old.vm.lent }
-        ensures parts { share.new.parts ≡ share.old.parts }
-        ensures amount { share.new.amount ≡ share.old.amount + result }
-        ensures fits { share.new.amount < 2 ^ 64 }
-    {
-        match self.vm.ready() {
-            Some(thread) => self.turn_in_place(gate, share, thread),
-            None => {
-                self.audit(share);
-                0
-            }
-        }
     }
 
     /// A turn of an only worker. Where it begins with local steps it is a slice as well, which the gate is told of.
