@@ -20,6 +20,8 @@ pub mod Pools
 pub mod Order
 pub mod Common
 pub mod LookUp
+pub mod Selecting
+pub mod Prior
 pub mod Numbering
 pub mod LinkFaults
 pub mod Linked

@@ -193,13 +193,13 @@ wrong_body m =
 abbrev pub wrong_native : ℕ → ℕ → MethodDef → Bool
 wrong_native boot i m = has_flag m.flags flag.Native && not (nat_lt i boot)
 
--- an interface's instance methods are abstract
-abbrev pub wrong_concrete : ClassDef → MethodDef → Bool
-wrong_concrete c m =
-    has_flag c.flags flag.Interface && not (has_flag m.flags flag.Static) && not (has_flag m.flags flag.Abstract)
+-- an interface has no constructor (JLS 9.1)
+abbrev pub wrong_constructor : ClassDef → MethodDef → Bool
+wrong_constructor c m =
+    has_flag c.flags flag.Interface && not (has_flag m.flags flag.Static) && bytes_eq m.name init_name
 
 abbrev pub body_wrong : ℕ → ℕ → ClassDef → MethodDef → Option LinkKind
-body_wrong boot i c m = when (wrong_body m || wrong_native boot i m || wrong_concrete c m) (kind.Body m.name)
+body_wrong boot i c m = when (wrong_body m || wrong_native boot i m || wrong_constructor c m) (kind.Body m.name)
 
 -- an instance method that isn't private
 abbrev pub is_open : MethodDef → Bool

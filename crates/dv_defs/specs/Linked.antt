@@ -1,11 +1,12 @@
 -- What linking gives of classes: an image, or the first fault.
-use Rattle.std.specs.Prelude.{◌≡◌, ◌≢◌, ℕ, ◌+◌, Bool, true, false, ◌&&◌, not, List, [], ◌∷◌, ◌++◌, length, map, filter, filter_map, All, Option, Some, None, is_some, Result, Ok, Err, slice_get, slice_index_or, nat_eq, bytes_eq, option_and_then, IsTrue}
+use Rattle.std.specs.Prelude.{◌≡◌, ◌≢◌, ℕ, ◌+◌, Bool, true, false, ◌&&◌, ◌||◌, not, List, [], ◌∷◌, ◌++◌, length, map, filter, filter_map, All, Option, Some, None, is_some, Result, Ok, Err, slice_get, slice_index_or, nat_eq, bytes_eq, option_and_then, IsTrue}
 use Rattle.std.specs.Option.{option_or}
-use Rattle.std.specs.List.{list_any, range_with_len, enumerate_from}
+use Rattle.std.specs.List.{list_any, range_with_len, enumerate_from, position_or_len}
 use Rattle.dv_defs.specs.declared.names.Proto.{Proto}
 use Rattle.dv_defs.specs.declared.names.ClassId.{ClassId}
 use Rattle.dv_defs.specs.declared.names.FieldId.{FieldId}
 use Rattle.dv_defs.specs.declared.names.MethodId.{MethodId}
+use Rattle.dv_defs.specs.declared.image.Select.{Select}
 use Rattle.dv_defs.specs.declared.code.Body.{Body}
 use Rattle.dv_defs.specs.declared.class.ClassDef.{ClassDef}
 use Rattle.dv_defs.specs.declared.class.MethodDef.{MethodDef}
@@ -17,10 +18,12 @@ use Rattle.dv_defs.specs.Images.{Image}
 use Rattle.dv_defs.specs.Names.{string_name, main_name}
 use Rattle.dv_defs.specs.Types.{of_class, words_of, same_proto}
 use Rattle.dv_defs.specs.Field.{may_stand}
-use Rattle.dv_defs.specs.Pools.{Method, Field, method_at, field_at, methods_of, class_named, supers, nearest, declared_by, is_static, is_private, is_constructor, is_static_field, is_interface, no_arguments}
+use Rattle.dv_defs.specs.Pools.{Method, Field, method_at, field_at, methods_of, class_named, supers, declared_by, is_static, is_static_field, is_interface, no_arguments}
 use Rattle.dv_defs.specs.Common.{array_of}
-use Rattle.dv_defs.specs.Order.{numbers}
-use Rattle.dv_defs.specs.LookUp.{field_named, method_named, interfaces_above, once}
+use Rattle.dv_defs.specs.Order.{numbers, implements}
+use Rattle.dv_defs.specs.LookUp.{field_named, method_named, interfaces_above, once, is_method_of}
+use Rattle.dv_defs.specs.Selecting.{callable_of_class, all_methods, offered, selected}
+use Rattle.dv_defs.specs.Prior.{prior_at}
 use Rattle.dv_defs.specs.Numbering.{declared, numbered, names_of}
 use Rattle.dv_defs.specs.LinkFaults.{Found, found, first_fault_by, boot_fault, limit_fault, is_twice, wrong_above, on_cycle, has_field_twice, wrong_methods, wrong_pools}
 
@@ -64,16 +67,6 @@ field_with_slot image f = record { class = f.1.class; place = f.1.place; slot = 
 
 -- ---- tables of methods
 
--- an instance method that is neither private nor a constructor
-abbrev pub is_callable : Method → Bool
-is_callable m = not (is_static m) && not (is_private m) && not (is_constructor m)
-
-abbrev pub all_methods : Image → List Method
-all_methods image = filter_map (method_at image) (range_with_len 0 (length image.methods))
-
-abbrev pub callable_of_class : Image → ℕ → List Method
-callable_of_class image c = filter (λ m. nat_eq m.info.class.0 c && is_callable m) (all_methods image)
-
 abbrev pub overrides : Method → Method → Bool
 overrides m n = bytes_eq n.def.name m.def.name && same_proto n.def.proto m.def.proto
 
@@ -85,12 +78,27 @@ abbrev pub callable_along : Image → List ℕ → List Method
 callable_along image [] = []
 callable_along image (c ∷ cs) = callable_along image cs ++ filter (is_new (callable_along image cs)) (callable_of_class image c)
 
--- each place of a class's table has what a call on an object of the class lands on
-abbrev pub entry : Image → ℕ → Method → MethodId
-entry image c m = record { 0 = elim (nearest image c m.def.name m.def.proto) [ None ↦ m.id | Some n ↦ n.id ] }
+-- each of some methods whose name and prototype no earlier one has
+abbrev pub first_of_each : List Method → List Method
+first_of_each [] = []
+first_of_each (m ∷ ms) = m ∷ filter (λ n. not (overrides m n)) (first_of_each ms)
 
-abbrev pub table_at : Image → ℕ → List MethodId
-table_at image c = map (entry image c) (callable_along image (supers image c))
+-- a method for each name and prototype that a class's table has: those of the class and its superclasses, then what interfaces offer beside them
+abbrev pub keyed_at : Image → ℕ → List Method
+keyed_at image c =
+    callable_along image (supers image c) ++
+    first_of_each (filter (is_new (callable_along image (supers image c))) (offered image c))
+
+-- each place of a class's table has what a call on an object of the class selects
+abbrev pub entry : Image → ℕ → Method → Select
+entry image c m = selected image c m.def.name m.def.proto
+
+abbrev pub table_at : Image → ℕ → List Select
+table_at image c = map (entry image c) (keyed_at image c)
+
+-- the classes that are initialised before a class
+abbrev pub priors_at : Image → ℕ → List ClassId
+priors_at image c = map (λ p. record { 0 = p }) (prior_at image c)
 
 -- ---- pools
 
@@ -117,11 +125,11 @@ method_with_pools image i =
 
 abbrev pub class_with_slots : Image → ℕ × ClassInfo → ClassInfo
 class_with_slots image c =
-    record { def = c.1.def; parent = c.1.parent; interfaces = c.1.interfaces; slots = slots_at image c.0; table = c.1.table }
+    record { def = c.1.def; parent = c.1.parent; interfaces = c.1.interfaces; slots = slots_at image c.0; table = c.1.table; prior = c.1.prior }
 
 abbrev pub class_with_table : Image → ℕ × ClassInfo → ClassInfo
 class_with_table image c =
-    record { def = c.1.def; parent = c.1.parent; interfaces = c.1.interfaces; slots = c.1.slots; table = table_at image c.0 }
+    record { def = c.1.def; parent = c.1.parent; interfaces = c.1.interfaces; slots = c.1.slots; table = table_at image c.0; prior = priors_at image c.0 }
 
 -- with the cells of objects
 unfoldable pub slotted : Image → Image
@@ -133,7 +141,7 @@ slotted image =
       boot = image.boot;
     }
 
--- with tables of methods
+-- with tables of methods, and the classes that are initialised before each
 unfoldable pub tabled : Image → Image
 tabled image =
     record {
@@ -200,10 +208,21 @@ pub record IsImage (image : Image) : Type 0 where
   pub named : AreNamed (defs image.classes)
   pub values : All HasValues (defs image.classes)
 
--- what an image's classes are looked up by: their names, and of each class the interfaces that it names and those above them
-pub record IsIndex (names : List (List ℕ)) (above : List (List ClassId)) (image : Image) : Type 0 where
+-- the number of a name and prototype: that of the first method which has them
+abbrev pub key_number : Image → List ℕ → Proto → ℕ
+key_number image name proto = position_or_len (is_method_of name proto) (all_methods image)
+
+abbrev pub key_of : Image → Method → ℕ
+key_of image m = key_number image m.def.name m.def.proto
+
+-- what an image's classes are looked up by: their names; of each class the interfaces that it names and those above them, and whether
+-- each class is above it; of each method, and of each place of a table, the number of its name and prototype
+pub record IsIndex (names : List (List ℕ)) (interfaces : List (List ClassId)) (ancestors : List (List Bool)) (keys : List ℕ) (places : List (List ℕ)) (image : Image) : Type 0 where
   pub names_are : names ≡ names_of image.classes
-  pub above_are : (c : ℕ) → numbers (slice_index_or above c []) ≡ once (interfaces_above image c)
+  pub interfaces_are : (c : ℕ) → numbers (slice_index_or interfaces c []) ≡ once (interfaces_above image c)
+  pub ancestors_are : (c d : ℕ) → (nat_eq c d || slice_index_or (slice_index_or ancestors c []) d false) ≡ implements image c d
+  pub keys_are : (n : ℕ) (m : Method) → method_at image n ≡ Some m → slice_get keys n ≡ Some (key_of image m)
+  pub places_are : (c : ℕ) → slice_index_or places c [] ≡ map (key_of image) (keyed_at image c)
 
 -- ---- the main method
 

@@ -31,7 +31,7 @@ all_fields_declared i [] = []
 all_fields_declared i (c ∷ cs) = fields_declared i c ++ all_fields_declared (suc i) cs
 
 abbrev pub class_declared : ClassDef → ClassInfo
-class_declared c = record { def = c; parent = None; interfaces = []; slots = []; table = [] }
+class_declared c = record { def = c; parent = None; interfaces = []; slots = []; table = []; prior = [] }
 
 -- the classes as they are declared, which know no other
 unfoldable pub declared : List ClassDef → ℕ → Image
@@ -52,6 +52,7 @@ class_numbered image c =
       interfaces = map class_id (filter_map (class_named image) c.interfaces);
       slots = [];
       table = [];
+      prior = [];
     }
 
 unfoldable pub numbered : List ClassDef → ℕ → Image

@@ -18,7 +18,7 @@ pub use class::{ClassDef, FieldDef, Init, MethodDef};
 pub use code::{Body, Handler, Insn, Payload, PoolKind, Regs, Try};
 pub use faults::{Fault, LineError, LineKind, LinkError, LinkKind, Rule, Which};
 pub use flags::Flag;
-pub use image::{ClassInfo, FieldInfo, Image, Index, MethodInfo};
+pub use image::{ClassInfo, FieldInfo, Image, Index, MethodInfo, Select};
 pub use machine::{Ask, Blocked, End};
 pub use names::{Base, Chars, ClassId, FieldId, FieldRef, MethodId, MethodRef, Proto, Text, Ty};
 pub use pool::Pool;

@@ -1,6 +1,9 @@
 -- What the laws take of an accepted image, made once of its linking and of a typing of each method.
-use Rattle.std.specs.Prelude.{◌≡◌, ◌||◌, ◌≤◌, ◌<◌, ℕ, ◌+◌, true, false, List, [], ◌∷◌, length, Some, None, All, bytes_eq, codes}
+use Rattle.std.specs.Prelude.{◌≡◌, ◌||◌, ◌≤◌, ◌<◌, ℕ, ◌+◌, true, false, List, [], ◌∷◌, length, Option, Some, None, All, bytes_eq, codes}
 use Rattle.dv_defs.specs.declared.names.Proto.{Proto}
+use Rattle.dv_defs.specs.declared.names.Ty.{Ty}
+use Rattle.dv_defs.specs.declared.names.MethodId.{MethodId}
+use Rattle.dv_defs.specs.declared.image.Select.TheVariants as select
 use Rattle.dv_defs.specs.declared.code.Body.{Body}
 use Rattle.dv_defs.specs.Images.{Image}
 use Rattle.dv_defs.specs.declared.run.Named.{Named}
@@ -12,8 +15,10 @@ use Rattle.dv_defs.specs.Names.{object_name, class_name, string_name, thread_nam
 use Rattle.dv_defs.specs.Field.{may_stand}
 use Rattle.dv_machine.specs.Conforming.{is_string_or_class}
 use Rattle.dv_defs.specs.Types.{of_class, words_of}
-use Rattle.dv_defs.specs.Pools.{Method, Field, method_at, field_at, is_static, is_static_field, is_constructor, is_abstract, is_interface, class_type, class_named, name_at, parent_at, supers, nearest, initialiser, no_arguments}
+use Rattle.dv_defs.specs.Pools.{Method, Field, method_at, field_at, is_static, is_static_field, is_constructor, is_abstract, is_interface, class_type, class_named, name_at, parent_at, initialiser, no_arguments}
 use Rattle.dv_defs.specs.Order.{instance, fits, has_number}
+use Rattle.dv_defs.specs.LookUp.{method_classes}
+use Rattle.dv_defs.specs.Selecting.{selected}
 use Rattle.dv_defs.specs.Op.{Code, code_at, can_throw}
 use Rattle.dv_typing.specs.Statics.{At, fetch, op_rules, arg_words}
 use Rattle.dv_typing.specs.RegTypes.{type_at, reg_types}
@@ -33,7 +38,8 @@ pub record IsFine (image : Image) (T : Typing) (code : Code) (at : ℕ) (x : At)
   pub ok : demands image code.method x.op s ≡ None
   pub flows : All (Leads image T (out image code.method at x.op s)) (targets x)
   pub handled : can_throw x.op ≡ true → All (λ h. Leads image T (caught_state s h) h.to) (handlers_at image code.method.id (thrown_at at x))
-  pub rules : op_rules image code x.op ≡ []
+  pub reference : Option Ty
+  pub rules : op_rules image code reference x.op ≡ []
 
 -- a typing of each method, with what each address owes
 pub record IsTyped (image : Image) (T : Typings) : Type 0 where
@@ -54,6 +60,14 @@ pub record KeepsSlots (image : Image) : Type 0 where
       instance image (class_type image c) (class_type image f.info.class.0) ≡ true → (j : ℕ) → j < words_of f.def.ty →
       type_at (class_cells image c) (f.info.slot + j) ≡ type_at (reg_types f.def.ty) j
 
+-- a method that a call on an object of a class can run: the class, a superclass or a superinterface declares it
+pub record IsSelected (image : Image) (c : ℕ) (name : List ℕ) (p : Proto) (m : Method) : Type 0 where
+  pub named : m.def.name ≡ name
+  pub proto : m.def.proto ≡ p
+  pub instance : is_static m ≡ false
+  pub concrete : is_abstract m ≡ false
+  pub among : has_number m.info.class.0 (method_classes image c) ≡ true
+
 -- what look-ups give, of any image
 pub record FindsRightly (image : Image) : Type 0 where
   pub methods : (n : ℕ) (m : Method) → method_at image n ≡ Some m → m.id ≡ n
@@ -62,10 +76,9 @@ pub record FindsRightly (image : Image) : Type 0 where
       (c : ℕ) (m : Method) → initialiser image c ≡ Some m →
       (method_at image m.id ≡ Some m) × (is_static m ≡ true) × (m.def.proto ≡ no_arguments) × (m.info.class.0 ≡ c) ×
       ((b : Body) × (m.def.body ≡ Some b))
-  pub nearest_is :
-      (c : ℕ) (name : List ℕ) (p : Proto) (m : Method) → nearest image c name p ≡ Some m →
-      (method_at image m.id ≡ Some m) × (m.def.name ≡ name) × (m.def.proto ≡ p) × (is_static m ≡ false) ×
-      (has_number m.info.class.0 (supers image c) ≡ true)
+  pub selected_is :
+      (c : ℕ) (name : List ℕ) (p : Proto) (id : MethodId) → selected image c name p ≡ select.Found id →
+      (m : Method) × (method_at image id.0 ≡ Some m) × IsSelected image c name p m
 
 -- a method that is neither abstract nor one of the natives has a body; a native has its own prototype
 pub record HasBodies (image : Image) : Type 0 where

@@ -3,10 +3,13 @@ use Rattle.std.specs.Prelude.{ℕ, ◌-◌, ◌++◌, Bool, true, false, ◌&&�
 use Rattle.dv_defs.specs.declared.names.Ty.{Ty}
 use Rattle.dv_defs.specs.declared.names.Proto.{Proto}
 use Rattle.dv_defs.specs.declared.names.Base.TheVariants as base
+use Rattle.dv_defs.specs.declared.image.Select.{Select}
+use Rattle.dv_defs.specs.declared.image.Select.TheVariants as select
 use Rattle.dv_defs.specs.Types.{of_class, of_base}
 use Rattle.dv_defs.specs.Parts.{Call, Width}
 use Rattle.dv_defs.specs.Names.{object_name, class_name, string_name, thread_name, text_name, console_name}
-use Rattle.dv_defs.specs.Pools.{Method, is_static, is_native, is_abstract, is_constructor, is_of_object, own_type, class_named, name_at, parent_at, nearest}
+use Rattle.dv_defs.specs.Pools.{Method, method_at, is_static, is_native, is_abstract, is_constructor, is_interface, is_of_object, own_type, class_named, name_at, parent_at}
+use Rattle.dv_defs.specs.Selecting.{selected}
 use Rattle.dv_defs.specs.Order.{instance}
 use Rattle.dv_defs.specs.Op.{Op, Invoke}
 use Rattle.dv_typing.specs.Statics.{At, fetch}
@@ -40,10 +43,16 @@ pub data Landing : Type 0 where
 abbrev pub unless_abstract : Method → Landing
 unless_abstract m = if is_abstract m then Lacks named.AbstractMethod else Lands m
 
--- what a look-up gives
-abbrev pub found : Option Method → Landing
-found None = Lacks named.AbstractMethod
-found (Some m) = unless_abstract m
+-- the method of a number
+abbrev pub on_method : Option Method → Landing
+on_method None = Lacks named.AbstractMethod
+on_method (Some m) = Lands m
+
+-- what a selection lands on (JVMS 6.5, "invokevirtual" and "invokeinterface")
+abbrev pub landing : Image → Select → Landing
+landing image (select.Found m) = on_method (method_at image m.0)
+landing image select.Abstract = Lacks named.AbstractMethod
+landing image select.Clash = Lacks named.ClassChange
 
 -- an array's class is Object here
 abbrev pub class_of_kind : Image → Option Kind → Option ℕ
@@ -52,24 +61,32 @@ class_of_kind image (Some (kind.Str s)) = class_named image string_name
 class_of_kind image (Some (kind.ClassOf t)) = class_named image class_name
 class_of_kind image k = class_named image object_name
 
--- the method of that name and prototype, from a class upwards
-abbrev pub nearest_from : Image → Option ℕ → Method → Landing
-nearest_from image None g = Lacks named.AbstractMethod
-nearest_from image (Some c) g = found (nearest image c g.def.name g.def.proto)
+-- a selection from a class
+abbrev pub selected_from : Image → Option ℕ → List ℕ → Proto → Landing
+selected_from image None name proto = Lacks named.AbstractMethod
+selected_from image (Some c) name proto = landing image (selected image c name proto)
 
 -- the object is of a class that implements the method's interface
 abbrev pub implements_it : Image → Heap → Method → ℕ → Bool
 implements_it image heap g o = instance image (type_of image heap o) (own_type image g)
 
+-- the method's class is an interface that the object's class lacks
+abbrev pub lacks_interface : Image → Heap → Method → ℕ → Bool
+lacks_interface image heap g o = is_interface image g.info.class.0 && not (implements_it image heap g o)
+
+-- a call by the object's class
+abbrev pub by_object : Image → Heap → Method → ℕ → Landing
+by_object image heap g o =
+    if lacks_interface image heap g o then Lacks named.ClassChange
+    else selected_from image (class_of_kind image (kind_of heap o)) g.def.name g.def.proto
+
 -- the method that a call on an object that isn't null lands on (AOSP "invoke-kind"; JLS 15.12.4.4)
 unfoldable pub dispatch : Image → Heap → Method → Call → Method → ℕ → Landing
 dispatch image heap own Call.Static g o = unless_abstract g
 dispatch image heap own Call.Direct g o = unless_abstract g
-dispatch image heap own Call.Super g o = nearest_from image (parent_at image own.info.class.0) g
-dispatch image heap own Call.Virtual g o = nearest_from image (class_of_kind image (kind_of heap o)) g
-dispatch image heap own Call.Interface g o =
-    if implements_it image heap g o then nearest_from image (class_of_kind image (kind_of heap o)) g
-    else Lacks named.ClassChange
+dispatch image heap own Call.Super g o = selected_from image (parent_at image own.info.class.0) g.def.name g.def.proto
+dispatch image heap own Call.Virtual g o = by_object image heap g o
+dispatch image heap own Call.Interface g o = by_object image heap g o
 
 -- ---- the natives
 

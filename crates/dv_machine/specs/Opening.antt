@@ -1,11 +1,13 @@
 -- The state in which a run begins.
-use Rattle.std.specs.Prelude.{ℕ, suc, Bool, true, false, ◌&&◌, List, [], ◌∷◌, ℤ, Option, Some, None, is_none, bytes_eq, codes, if◌then◌else◌}
+use Rattle.std.specs.Prelude.{ℕ, suc, Bool, true, false, ◌&&◌, List, [], ◌∷◌, length, ℤ, Option, Some, None, is_none, bytes_eq, codes, if◌then◌else◌}
 use Rattle.dv_defs.specs.declared.flags.Flag.TheVariants as flag
 use Rattle.dv_defs.specs.Flags.{has_flag}
 use Rattle.dv_defs.specs.Names.{string_name, thread_name, out_of_memory_name, stack_overflow_name, system_name, stream_name}
 use Rattle.dv_defs.specs.Types.{is_long}
 use Rattle.dv_typing.specs.RegTypes.{reg_types}
-use Rattle.dv_defs.specs.Pools.{Method, Field, field_at, name_at, supers, initialiser}
+use Rattle.dv_defs.specs.Pools.{Method, Field, field_at, name_at, initialiser}
+use Rattle.dv_defs.specs.LookUp.{upward}
+use Rattle.dv_defs.specs.Prior.{prior_at}
 use Rattle.dv_defs.specs.Numbers.{lo_of, hi_of}
 use Rattle.dv_machine.specs.Heap.{Heap, Cells, class_cells, fresh_cells, grown, newest, intern, Got, with_static}
 use Rattle.dv_machine.specs.Classes.{Fresh, InProgress, Ready, Classes, with_state}
@@ -166,9 +168,9 @@ abbrev pub none_initialised : Image → List ℕ → Bool
 none_initialised image [] = true
 none_initialised image (c ∷ cs) = is_none (initialiser image c) && none_initialised image cs
 
--- a class is born initialised where neither it nor a superclass declares an initialiser
+-- a class is born initialised where neither it nor what is initialised before it, again and again, declares an initialiser
 abbrev pub is_born : Image → ℕ → Bool
-is_born image c = none_initialised image (supers image c)
+is_born image c = none_initialised image (upward (prior_at image) (length image.classes) c)
 
 -- by class
 abbrev pub first_states : Image → List ClassInfo → ℕ → Classes

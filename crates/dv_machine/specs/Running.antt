@@ -25,7 +25,7 @@ use Rattle.dv_machine.specs.Classes.{Classes, ask_of}
 use Rattle.dv_machine.specs.State.{Thread, Machine, reg_at}
 use Rattle.dv_machine.specs.Calls.{Landing, Lands, Lacks, dispatch, native_of, receiver_of}
 use Rattle.dv_machine.specs.Threads.{thread_with, is_living}
-use Rattle.dv_machine.specs.Step.{prior}
+use Rattle.dv_defs.specs.Prior.{prior_at}
 
 -- ---- what a thread waits for
 
@@ -109,7 +109,7 @@ abbrev pub blocked_levels : Image → Machine → ℕ → List Level → Option 
 blocked_levels image m t [] = None
 blocked_levels image m t (level.Code f ∷ ls) = blocked_at image m t f (method_at image f.method.0) (fetch image f.method.0 f.at)
 blocked_levels image m t (level.Init c true ∷ ls) = None
-blocked_levels image m t (level.Init c false ∷ ls) = blocked_record m.shared.classes t (prior image c.0)
+blocked_levels image m t (level.Init c false ∷ ls) = blocked_record m.shared.classes t (prior_at image c.0)
 
 -- what holds a thread up; none where it may step or has ended (JLS 12.4.2, 17.1, 17.2)
 abbrev pub blocked_thread : Image → Machine → ℕ → Thread → Option Blocked

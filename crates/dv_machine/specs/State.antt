@@ -80,7 +80,7 @@ abbrev pub reading : {A B : Type 0} → Reads A → (A → Did B) → Did B
 reading (Ok x) go = go x
 reading (Err y) go = IsStuck y
 
--- no room left on the heap is no step at all
+-- where the heap lacks words, the step makes nothing
 abbrev pub where_room : {A B : Type 0} → Option A → (A → Did B) → Did B
 where_room (Some x) go = go x
 where_room None go = NoWords

@@ -14,7 +14,8 @@ use Rattle.dv_defs.specs.declared.machine.End.{End}
 use Rattle.dv_defs.specs.declared.machine.End.TheVariants as end
 use Rattle.dv_defs.specs.declared.machine.Ask.{Ask}
 use Rattle.dv_defs.specs.declared.machine.Ask.TheVariants as ask
-use Rattle.dv_defs.specs.Pools.{Method, method_at, parent_at, initialiser}
+use Rattle.dv_defs.specs.Pools.{Method, method_at, initialiser}
+use Rattle.dv_defs.specs.Prior.{prior_at}
 use Rattle.dv_defs.specs.Op.{Op, Enter, Exit, Invoke, ReturnVoid, Return, needs, is_local}
 use Rattle.dv_typing.specs.Statics.{At, fetch}
 use Rattle.dv_typing.specs.Flow.{handlers_at, is_exit}
@@ -63,10 +64,6 @@ with_ready h op (Some c) = for_class h (level.Code h.frame ∷ h.rest) c (ask_of
 
 -- ---- a record
 
--- the classes that a record looks at, in order
-abbrev pub prior : Image → ℕ → List ℕ
-prior image c = option_to_list (parent_at image c)
-
 -- the record is dropped, and its class is in this state
 abbrev pub ended_record : Here → ℕ → ClassState → Did Left
 ended_record h c s = left h (with_classes h.shared (with_state h.shared.classes c s)) h.rest
@@ -88,7 +85,7 @@ look_at h c (p ∷ ps) = for_class h (level.Init (record { 0 = c }) false ∷ h.
 -- a record whose initialiser has returned is done
 abbrev pub record_step : Here → ℕ → Bool → Did Left
 record_step h c true = ended_record h c Ready
-record_step h c false = look_at h c (prior h.image c)
+record_step h c false = look_at h c (prior_at h.image c)
 
 -- ---- what becomes of an outcome
 

@@ -6,11 +6,11 @@ use Rattle.dv_defs.specs.declared.run.Named.TheVariants as named
 use Rattle.dv_machine.specs.Level as level
 use Rattle.dv_defs.specs.declared.machine.End.{End}
 use Rattle.dv_defs.specs.declared.machine.End.TheVariants as end
-use Rattle.dv_defs.specs.Pools.{Method, is_abstract, nearest, no_arguments}
+use Rattle.dv_defs.specs.Pools.{Method, no_arguments}
 use Rattle.dv_machine.specs.Heap.{kind_of}
 use Rattle.dv_machine.specs.Monitors.{Held, Wait, held_of, owner_of, entered, exited, waiting, notified_one, notified_all, wait_of, resumed}
 use Rattle.dv_machine.specs.State.{Thread, Shared, Left, Did, Go, Throws, where_true, gone, Here, onward, with_monitors}
-use Rattle.dv_machine.specs.Calls.{class_of_kind, entered_frame}
+use Rattle.dv_machine.specs.Calls.{Landing, Lacks, Lands, class_of_kind, entered_frame, selected_from}
 
 -- a step of a thread that has to wait leaves the thread as it is
 abbrev pub stays : Here → Did Left
@@ -83,31 +83,29 @@ is_living (Some t) = alive t.end
 abbrev pub new_thread : ℕ → Method → Thread
 new_thread o m = record { levels = level.Code (entered_frame m (v.Ref o ∷ []) false) ∷ []; end = end.Living; object = o }
 
--- the new thread runs this method
-abbrev pub started_on : Here → ℕ → Option Method → Did Left
-started_on h o None = Throws named.AbstractMethod
-started_on h o (Some m) =
-    if is_abstract m then Throws named.AbstractMethod
-    else Go
+-- the new thread runs the method on which a call lands
+abbrev pub started_on : Here → ℕ → Landing → Did Left
+started_on h o (Lacks n) = Throws n
+started_on h o (Lands m) =
+    Go
     (record {
       levels = level.Code (gone h.frame h.next h.frame.regs) ∷ h.rest;
       shared = h.shared;
       started = Some (new_thread o m);
     })
 
--- the run()V of an object's class
-abbrev pub run_method : Image → Option ℕ → Option Method
-run_method image None = None
-run_method image (Some c) = nearest image c (codes "run") no_arguments
+-- the run()V that an object's class selects
+abbrev pub run_landing : Image → Option ℕ → Landing
+run_landing image c = selected_from image c (codes "run") no_arguments
 
 -- where the object has no thread yet
 abbrev pub start_unless : Here → ℕ → Option ℕ → Did Left
 start_unless h o (Some u) = Throws named.IllegalThreadState
 start_unless h o None =
     where_true (nat_lt (length h.threads) h.limits.threads) named.OutOfMemory
-    (started_on h o (run_method h.image (class_of_kind h.image (kind_of h.shared.heap o))))
+    (started_on h o (run_landing h.image (class_of_kind h.image (kind_of h.shared.heap o))))
 
--- tested in this order: a thread of the object, the number of threads, an abstract run()V
+-- tested in this order: a thread of the object, the number of threads, the selection of run()V
 abbrev pub start_on : Here → ℕ → Did Left
 start_on h o = start_unless h o (thread_with h.threads o)
 

@@ -15,7 +15,7 @@ use Rattle.dv_machine.specs.Monitors.{Held, Wait, owner_of}
 use Rattle.dv_machine.specs.Classes.{ClassState, InProgress, state_at}
 use Rattle.dv_machine.specs.State.{Thread, Shared, Machine, reg_at}
 use Rattle.dv_machine.specs.Calls.{Lands, dispatch, native_of, receiver_of, object_of}
-use Rattle.dv_machine.specs.Step.{prior}
+use Rattle.dv_defs.specs.Prior.{prior_at}
 use Rattle.dv_machine.specs.Unwinding.{is_opening, caught_frame, catches, number_named}
 use Rattle.dv_machine.specs.Conforming.{Own, IsOf, Conform, RegsConform, RefsFine}
 use Rattle.dv_defs.specs.declared.names.Ty.{Ty}
@@ -108,7 +108,7 @@ abbrev pub BelowRecord : Image → ℕ → ℕ → List Level → Type 0
 BelowRecord image t c [] = ⊥
 BelowRecord image t c (level.Code g ∷ ls) = IsNeeding image c g ⊎ ((is_opening image t c (level.Code g ∷ ls) ≡ true) × (g.at ≡ 0))
 BelowRecord image t c (level.Init d true ∷ ls) = ⊥
-BelowRecord image t c (level.Init d false ∷ ls) = has_number c (prior image d.0) ≡ true
+BelowRecord image t c (level.Init d false ∷ ls) = has_number c (prior_at image d.0) ≡ true
 
 -- what flies finds each handler in order
 abbrev pub FlightFits : Image → Typings → Heap → Option ℕ → Option ℕ → Frame → Type 0

@@ -1,5 +1,5 @@
 -- The static rules of an instruction, and the operation at an address.
-use Rattle.std.specs.Prelude.{ℕ, suc, ◌+◌, Bool, true, false, ◌&&◌, ◌||◌, not, List, [], ◌∷◌, ◌++◌, length, drop, ℤ, pos, negsuc, Option, Some, None, Ok, Err, nat_eq, nat_lt, bytes_eq}
+use Rattle.std.specs.Prelude.{ℕ, suc, ◌+◌, Bool, true, false, ◌&&◌, ◌||◌, not, List, [], ◌∷◌, ◌++◌, length, drop, ℤ, pos, negsuc, Option, Some, None, Ok, Err, slice_get, nat_eq, nat_lt, bytes_eq, option_map, option_and_then}
 use Rattle.std.specs.List.{list_all}
 use Rattle.dv_defs.specs.declared.names.Base.TheVariants as base
 use Rattle.dv_defs.specs.declared.names.Ty.{Ty}
@@ -10,9 +10,9 @@ use Rattle.dv_defs.specs.Images.{Image}
 use Rattle.dv_defs.specs.Parts.{Width, Suffix, Call, Bin, is_shift}
 use Rattle.dv_defs.specs.Families.{Family, family_at}
 use Rattle.dv_defs.specs.Names.{clinit_name}
-use Rattle.dv_defs.specs.Types.{is_array, is_reference, is_base, component, words_of_all}
-use Rattle.dv_defs.specs.Pools.{Method, Field, is_static, is_static_field, is_private, is_constructor, is_interface, is_abstract_class, supers}
-use Rattle.dv_defs.specs.Order.{has_number}
+use Rattle.dv_defs.specs.Types.{is_array, is_reference, is_base, component, class_in, words_of_all}
+use Rattle.dv_defs.specs.Pools.{Method, Field, class_named, is_static, is_static_field, is_private, is_constructor, is_interface, is_abstract_class, supers}
+use Rattle.dv_defs.specs.Order.{has_number, is_interface_type}
 use Rattle.dv_defs.specs.Tiling.{Tile, tile_at, insn_in, begins_insn}
 use Rattle.dv_defs.specs.Op.{Op, Goto, IfBoth, IfZero, Switch, FieldGet, FieldPut, StaticGet, StaticPut, Invoke, New, NewArray, Filled, Cast, InstanceOf, Case, Code, Resolved, code_at, reg, named_registers, op_of}
 
@@ -101,18 +101,35 @@ fits_static_field s x = is_static_field x && is_of_suffix s x.def.ty
 abbrev pub is_proper_super : Image → ℕ → ℕ → Bool
 is_proper_super image c d = has_number d (drop 1 (supers image c))
 
--- an instance method of a class that is neither private nor a constructor
-abbrev pub is_virtual : Image → Method → Bool
-is_virtual image m =
-    not (is_static m) && not (is_constructor m) && not (is_private m) && not (is_interface image m.info.class.0)
+-- an instance method that is neither private nor a constructor
+abbrev pub is_virtual : Method → Bool
+is_virtual m = not (is_static m) && not (is_constructor m) && not (is_private m)
 
--- S14, by the calling method
-abbrev pub fits_call : Image → Method → Call → Method → Bool
-fits_call image own Call.Static m = is_static m && not (bytes_eq m.def.name clinit_name)
-fits_call image own Call.Direct m = not (is_static m) && (is_constructor m || is_private m)
-fits_call image own Call.Virtual m = is_virtual image m
-fits_call image own Call.Super m = is_virtual image m && is_proper_super image own.info.class.0 m.info.class.0
-fits_call image own Call.Interface m = not (is_static m) && is_interface image m.info.class.0
+-- the type by which an instruction names the method that it calls
+abbrev pub referred : Code → Insn → Option Ty
+referred code i = option_map (λ r. r.class) (slice_get code.body.methods i.index)
+
+-- it isn't an interface
+abbrev pub names_class : Image → Option Ty → Bool
+names_class image None = false
+names_class image (Some t) = not (is_interface_type image t)
+
+abbrev pub is_some_super : Image → ℕ → Option ℕ → Bool
+is_some_super image c None = false
+is_some_super image c (Some d) = is_proper_super image c d
+
+-- it is a proper superclass of a class
+abbrev pub names_super : Image → ℕ → Option Ty → Bool
+names_super image c None = false
+names_super image c (Some t) = not (is_array t) && is_some_super image c (option_and_then (class_named image) (class_in t.base))
+
+-- S14, by the calling method and the type that the invoke names
+abbrev pub fits_call : Image → Method → Option Ty → Call → Method → Bool
+fits_call image own t Call.Static m = is_static m && not (bytes_eq m.def.name clinit_name)
+fits_call image own t Call.Direct m = not (is_static m) && (is_constructor m || is_private m)
+fits_call image own t Call.Virtual m = is_virtual m && names_class image t
+fits_call image own t Call.Super m = is_virtual m && names_super image own.info.class.0 t
+fits_call image own t Call.Interface m = not (is_static m) && not (is_private m) && is_interface image m.info.class.0
 
 abbrev pub receiver_words : Method → ℕ
 receiver_words m = elim (is_static m) [ true ↦ 0 | false ↦ 1 ]
@@ -127,34 +144,34 @@ is_filled_type t = is_array t && (is_base base.I (component t) || is_reference (
 
 -- ---- an instruction's rules
 
--- what an operation breaks, beside its registers
-abbrev pub op_rules : Image → Code → Op → List Rule
-op_rules image code (Goto to) = unless (leads_to_insn code to) (rule.S 4)
-op_rules image code (IfBoth t a b to) = unless (leads_to_insn code to) (rule.S 4)
-op_rules image code (IfZero t a to) = unless (leads_to_insn code to) (rule.S 4)
-op_rules image code (Switch a cases) = unless (all_lead code cases) (rule.S 8)
-op_rules image code (FieldGet s a b x) = unless (fits_instance_field image s x) (rule.S 13)
-op_rules image code (FieldPut s a b x) = unless (fits_instance_field image s x) (rule.S 13)
-op_rules image code (StaticGet s a x) = unless (fits_static_field s x) (rule.S 13)
-op_rules image code (StaticPut s a x) = unless (fits_static_field s x) (rule.S 13)
-op_rules image code (Invoke c args m) =
-    unless (fits_call image code.method c m) (rule.S 14) ++ unless (nat_eq (length args) (arg_words m)) (rule.S 15)
-op_rules image code (New a c) = unless (not (is_interface image c) && not (is_abstract_class image c)) (rule.S 16)
-op_rules image code (NewArray a b t) = unless (is_array t) (rule.S 16)
-op_rules image code (Filled regs t) = unless (is_filled_type t) (rule.S 16)
-op_rules image code (Cast a t) = unless (is_reference t) (rule.S 16)
-op_rules image code (InstanceOf a b t) = unless (is_reference t) (rule.S 16)
-op_rules image code op = []
+-- what an operation breaks, beside its registers; of an invoke the type that it names is given
+abbrev pub op_rules : Image → Code → Option Ty → Op → List Rule
+op_rules image code r (Goto to) = unless (leads_to_insn code to) (rule.S 4)
+op_rules image code r (IfBoth t a b to) = unless (leads_to_insn code to) (rule.S 4)
+op_rules image code r (IfZero t a to) = unless (leads_to_insn code to) (rule.S 4)
+op_rules image code r (Switch a cases) = unless (all_lead code cases) (rule.S 8)
+op_rules image code r (FieldGet s a b x) = unless (fits_instance_field image s x) (rule.S 13)
+op_rules image code r (FieldPut s a b x) = unless (fits_instance_field image s x) (rule.S 13)
+op_rules image code r (StaticGet s a x) = unless (fits_static_field s x) (rule.S 13)
+op_rules image code r (StaticPut s a x) = unless (fits_static_field s x) (rule.S 13)
+op_rules image code r (Invoke c args m) =
+    unless (fits_call image code.method r c m) (rule.S 14) ++ unless (nat_eq (length args) (arg_words m)) (rule.S 15)
+op_rules image code r (New a c) = unless (not (is_interface image c) && not (is_abstract_class image c)) (rule.S 16)
+op_rules image code r (NewArray a b t) = unless (is_array t) (rule.S 16)
+op_rules image code r (Filled regs t) = unless (is_filled_type t) (rule.S 16)
+op_rules image code r (Cast a t) = unless (is_reference t) (rule.S 16)
+op_rules image code r (InstanceOf a b t) = unless (is_reference t) (rule.S 16)
+op_rules image code r op = []
 
-abbrev pub resolved_rules : Image → Code → Resolved → List Rule
-resolved_rules image code (Err broken) = broken ∷ []
-resolved_rules image code (Ok op) = op_rules image code op
+abbrev pub resolved_rules : Image → Code → Option Ty → Resolved → List Rule
+resolved_rules image code r (Err broken) = broken ∷ []
+resolved_rules image code r (Ok op) = op_rules image code r op
 
 -- the static rules that an instruction at an address breaks
 abbrev pub insn_rules : Image → Code → ℕ → Insn → List Rule
 insn_rules image code at i =
     unless (moves_on i) (rule.S 5) ++ unless (registers_below code.body.registers i) (rule.S 11) ++
-    resolved_rules image code (op_of image code at i)
+    resolved_rules image code (referred code i) (op_of image code at i)
 
 -- ---- what stands at an address
 

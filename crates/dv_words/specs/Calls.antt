@@ -1,16 +1,16 @@
 -- Invokes and returns on words: as the tagged machine's, with no read that can fail.
-use Rattle.std.specs.Prelude.{ℕ, Bool, true, false, List, [], ◌∷◌, map, Option, Some, None, if◌then◌else◌}
+use Rattle.std.specs.Prelude.{ℕ, Bool, true, false, ◌&&◌, not, List, [], ◌∷◌, map, Option, Some, None, if◌then◌else◌}
 use Rattle.dv_defs.specs.declared.names.Ty.{Ty}
 use Rattle.dv_defs.specs.declared.run.Named.TheVariants as named
 use Rattle.dv_defs.specs.declared.run.Native.{Native}
 use Rattle.dv_defs.specs.Images.{Image}
 use Rattle.dv_defs.specs.Order.{instance}
 use Rattle.dv_defs.specs.Parts.{Call}
-use Rattle.dv_defs.specs.Pools.{Method, is_abstract, is_constructor, is_static, own_type, parent_at}
+use Rattle.dv_defs.specs.Pools.{Method, is_abstract, is_constructor, is_interface, is_static, own_type, parent_at}
 use Rattle.dv_typing.specs.Statics as statics
 use Rattle.dv_typing.specs.Statics.{fetch}
 use Rattle.dv_defs.specs.Types.{is_long}
-use Rattle.dv_machine.specs.Calls.{Landing, Lacks, Lands, native_of, nearest_from, registers_of, unless_abstract}
+use Rattle.dv_machine.specs.Calls.{Landing, Lacks, Lands, native_of, registers_of, selected_from, unless_abstract}
 use Rattle.dv_machine.specs.Mem.{on_object}
 use Rattle.dv_machine.specs.State.{Did, Throws}
 use Rattle.dv_words.specs.declared.state.Frame.{Frame}
@@ -33,15 +33,23 @@ use Rattle.dv_words.specs.Threads.{class_of_kind}
 abbrev pub implements_it : Image → WordHeap → Method → ℕ → Bool
 implements_it image heap g o = instance image (type_of image heap o) (own_type image g)
 
+-- the method's class is an interface that the object's class lacks
+abbrev pub lacks_interface : Image → WordHeap → Method → ℕ → Bool
+lacks_interface image heap g o = is_interface image g.info.class.0 && not (implements_it image heap g o)
+
+-- a call by the object's class
+abbrev pub by_object : Image → WordHeap → Method → ℕ → Landing
+by_object image heap g o =
+    if lacks_interface image heap g o then Lacks named.ClassChange
+    else selected_from image (class_of_kind image (kind_of heap o)) g.def.name g.def.proto
+
 -- the method that a call on an object that isn't null lands on (AOSP "invoke-kind"; JLS 15.12.4.4)
 abbrev pub dispatch : Image → WordHeap → Method → Call → Method → ℕ → Landing
 dispatch image heap own Call.Static g o = unless_abstract g
 dispatch image heap own Call.Direct g o = unless_abstract g
-dispatch image heap own Call.Super g o = nearest_from image (parent_at image own.info.class.0) g
-dispatch image heap own Call.Virtual g o = nearest_from image (class_of_kind image (kind_of heap o)) g
-dispatch image heap own Call.Interface g o =
-    if implements_it image heap g o then nearest_from image (class_of_kind image (kind_of heap o)) g
-    else Lacks named.ClassChange
+dispatch image heap own Call.Super g o = selected_from image (parent_at image own.info.class.0) g.def.name g.def.proto
+dispatch image heap own Call.Virtual g o = by_object image heap g o
+dispatch image heap own Call.Interface g o = by_object image heap g o
 
 -- ---- invokes
 

@@ -17,7 +17,7 @@ use Rattle.dv_defs.specs.Pools.{Method, method_at}
 use Rattle.dv_typing.specs.Statics.{At, fetch}
 use Rattle.dv_machine.specs.Calls.{Landing, Lacks, Lands, native_of, receiver_of}
 use Rattle.dv_machine.specs.Running.{blocked_record, blocked_wait, by_ask, by_owner}
-use Rattle.dv_machine.specs.Step.{prior}
+use Rattle.dv_defs.specs.Prior.{prior_at}
 use Rattle.dv_words.specs.declared.state.Frame.{Frame}
 use Rattle.dv_words.specs.declared.state.Level.{Level}
 use Rattle.dv_words.specs.declared.state.Level.TheVariants as level
@@ -80,7 +80,7 @@ abbrev pub blocked_levels : Image → WordMachine → ℕ → List Level → Opt
 blocked_levels image m t [] = None
 blocked_levels image m t (level.Code f ∷ ls) = blocked_at image m t f (method_at image f.method.0) (fetch image f.method.0 f.at)
 blocked_levels image m t (level.Init c true ∷ ls) = None
-blocked_levels image m t (level.Init c false ∷ ls) = blocked_record m.shared.classes t (prior image c.0)
+blocked_levels image m t (level.Init c false ∷ ls) = blocked_record m.shared.classes t (prior_at image c.0)
 
 -- what holds a thread up; none where it may step or has ended (JLS 12.4.2, 17.1, 17.2)
 abbrev pub blocked_thread : Image → WordMachine → ℕ → WordThread → Option Blocked

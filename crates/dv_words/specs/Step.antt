@@ -17,7 +17,8 @@ use Rattle.dv_typing.specs.Statics as statics
 use Rattle.dv_typing.specs.Statics.{fetch}
 use Rattle.dv_machine.specs.Mem.{on_object}
 use Rattle.dv_machine.specs.State.{Did, Go, IsStuck, NoOutput, NoRoom, NoWords, Throws, ThrowsRef}
-use Rattle.dv_machine.specs.Step.{no_method, prior}
+use Rattle.dv_machine.specs.Step.{no_method}
+use Rattle.dv_defs.specs.Prior.{prior_at}
 use Rattle.dv_words.specs.declared.state.Frame.{Frame}
 use Rattle.dv_words.specs.declared.state.Kept.TheVariants as kept
 use Rattle.dv_words.specs.declared.state.Level.{Level}
@@ -81,7 +82,7 @@ look_at h c (p ∷ ps) = for_class h (level.Init (record { 0 = c }) false ∷ h.
 -- a record whose initialiser has returned is done
 abbrev pub record_step : At → ℕ → Bool → Did Left
 record_step h c true = ended_record h c Ready
-record_step h c false = look_at h c (prior h.image c)
+record_step h c false = look_at h c (prior_at h.image c)
 
 -- ---- what becomes of an outcome
 

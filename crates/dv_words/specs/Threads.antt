@@ -1,14 +1,15 @@
 -- Monitors, waiting, starting and joining on words (JLS 17.1, 17.2): as the tagged machine's.
-use Rattle.std.specs.Prelude.{ℕ, suc, Bool, true, false, List, [], ◌∷◌, length, Option, Some, None, nat_eq, nat_lt, codes, slice_get, if◌then◌else◌}
+use Rattle.std.specs.Prelude.{ℕ, suc, Bool, true, false, List, [], ◌∷◌, length, Option, Some, None, nat_eq, nat_lt, slice_get, if◌then◌else◌}
 use Rattle.dv_defs.specs.declared.machine.End.{End}
 use Rattle.dv_defs.specs.declared.machine.End.TheVariants as end
 use Rattle.dv_defs.specs.declared.run.Named.TheVariants as named
 use Rattle.dv_defs.specs.Images.{Image}
 use Rattle.dv_machine.specs.Monitors.{Held, Wait, entered, exited, held_of, notified_all, notified_one, owner_of, resumed, wait_of, waiting}
 use Rattle.dv_defs.specs.Names.{class_name, object_name, string_name}
-use Rattle.dv_defs.specs.Pools.{Method, class_named, is_abstract, nearest, no_arguments}
-use Rattle.dv_machine.specs.Calls.{registers_of}
+use Rattle.dv_defs.specs.Pools.{Method, class_named}
+use Rattle.dv_machine.specs.Calls.{Landing, Lacks, Lands, registers_of}
 use Rattle.dv_machine.specs.State.{Did, Go, Throws, where_true}
+use Rattle.dv_machine.specs.Threads.{run_landing}
 use Rattle.dv_words.specs.declared.state.Kind.{Kind}
 use Rattle.dv_words.specs.declared.state.Kind.TheVariants as kind
 use Rattle.dv_words.specs.declared.state.Level.TheVariants as level
@@ -86,12 +87,11 @@ abbrev pub new_thread : ℕ → Method → WordThread
 new_thread o m =
     record { levels = level.Code (stacks.entered (record { 0 = m.id }) (registers_of m) (o ∷ [])) ∷ []; end = end.Living; object = o }
 
--- the new thread runs this method
-abbrev pub started_on : At → ℕ → Option Method → Did Left
-started_on h o None = Throws named.AbstractMethod
-started_on h o (Some m) =
-    if is_abstract m then Throws named.AbstractMethod
-    else Go
+-- the new thread runs the method on which a call lands
+abbrev pub started_on : At → ℕ → Landing → Did Left
+started_on h o (Lacks n) = Throws n
+started_on h o (Lands m) =
+    Go
     (record { levels = level.Code (stacks.gone h.frame h.next) ∷ h.rest; shared = h.shared; started = Some (new_thread o m) })
 
 -- an array's class is Object here
@@ -101,19 +101,14 @@ class_of_kind image (Some kind.Str) = class_named image string_name
 class_of_kind image (Some (kind.ClassOf t)) = class_named image class_name
 class_of_kind image k = class_named image object_name
 
--- the run()V of an object's class
-abbrev pub run_method : Image → Option ℕ → Option Method
-run_method image None = None
-run_method image (Some c) = nearest image c (codes "run") no_arguments
-
 -- where the object has no thread yet
 abbrev pub start_unless : At → ℕ → Option ℕ → Did Left
 start_unless h o (Some u) = Throws named.IllegalThreadState
 start_unless h o None =
     where_true (nat_lt (length h.threads) h.limits.threads) named.OutOfMemory
-    (started_on h o (run_method h.image (class_of_kind h.image (kind_of h.shared.heap o))))
+    (started_on h o (run_landing h.image (class_of_kind h.image (kind_of h.shared.heap o))))
 
--- tested in this order: a thread of the object, the number of threads, an abstract run()V
+-- tested in this order: a thread of the object, the number of threads, the selection of run()V
 abbrev pub start_on : At → ℕ → Did Left
 start_on h o = start_unless h o (thread_with h.threads o)
 
