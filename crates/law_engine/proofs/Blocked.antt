@@ -18,7 +18,7 @@ use Rattle.dv_machine.specs.Accepted.{Accepted}
 use Rattle.dv_machine.specs.Running as machine
 use Rattle.dv_machine.specs.Running.{blocked_record, by_ask}
 use Rattle.dv_machine.specs.State.{Machine, Thread}
-use Rattle.dv_machine.specs.Step.{prior}
+use Rattle.dv_defs.specs.Prior.{prior_at}
 use Rattle.dv_machine.specs.WellTyped.{IsPlaced, ThreadFine, Typings, WellTyped, this_above}
 use Rattle.dv_words.specs.declared.state.Frame.{Frame}
 use Rattle.dv_words.specs.declared.state.Level.{Level}
@@ -80,7 +80,7 @@ module _ (image : Image) (T : Typings) (accepted : Accepted image T) (w : WordMa
           let same : ◌≡◌ {A = Option At} (Some e.1) (Some x) = sym e.3 ∙ found in
           let op : e.1 ≡ x = cc in
           subst (λ (y : At). words.blocked_op image w t caller s y.op ≡ machine.blocked_op image m t caller f y.op) op
-          (op_is image accepted.finds w m stands t _ e.0.method caller s f there.state there.conform.good.regs frame.regs e.1.op e.4.ok)
+          (op_is image w m stands t _ e.0.method caller s f there.state there.conform.good.regs frame.regs e.1.op e.4.ok)
 
   record_is : (ss : List Level) (ls : List tagged_level.Level) (c d : ClassId) (r q : Bool) → c ≡ d → r ≡ q → words.blocked_levels image w t (level.Init c r ∷ ss) ≡ machine.blocked_levels image m t (tagged_level.Init d q ∷ ls)
   record_is ss ls c d r q class ready =
@@ -89,7 +89,7 @@ module _ (image : Image) (T : Typings) (accepted : Accepted image T) (w : WordMa
     where
       by : (q : Bool) → words.blocked_levels image w t (level.Init d q ∷ ss) ≡ machine.blocked_levels image m t (tagged_level.Init d q ∷ ls)
       by true = refl
-      by false = ap (λ (cs : Classes). blocked_record cs t (prior image d.0)) classes
+      by false = ap (λ (cs : Classes). blocked_record cs t (prior_at image d.0)) classes
 
   levels_is : (ss : List Level) (ls : List tagged_level.Level) → LevelsStand ss ls → IsPlacedOnTop image T m.shared.heap ls → words.blocked_levels image w t ss ≡ machine.blocked_levels image m t ls
   levels_is [] [] all top = refl

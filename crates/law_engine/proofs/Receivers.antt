@@ -15,7 +15,6 @@ use Rattle.dv_defs.specs.Op.{Op, Enter, Invoke}
 use Rattle.dv_defs.specs.Parts.{Call}
 use Rattle.dv_defs.specs.Pools.{Method, is_constructor, is_static, own_type}
 use Rattle.dv_typing.specs.RegTypes.{type_at}
-use Rattle.dv_machine.specs.Accepted.{FindsRightly}
 use Rattle.dv_machine.specs.Conforming.{Conforms, Own, RegsConform}
 use Rattle.dv_machine.specs.Running as machine
 use Rattle.dv_machine.specs.State.{Machine, reg_at}
@@ -49,7 +48,7 @@ reference_demanded image m s c k ks g static sort d =
 
 -- ---- an instruction
 
-module _ (image : Image) (finds : FindsRightly image) (w : WordMachine) (m : Machine) (stands : MachineStands w m) (t : ℕ) where
+module _ (image : Image) (w : WordMachine) (m : Machine) (stands : MachineStands w m) (t : ℕ) where
   module _ (own : Own) (method caller : Method) (s : Frame) (f : tagged.Frame) (state : RegState) (conform : RegsConform image m.shared.heap own f.regs state.regs) (are : AreWords s.regs f.regs) where
     word : (k : ℕ) → IsWord (reg_word s k) (reg_at f.regs k)
     word k = is_word_at s.regs f.regs k are
@@ -67,7 +66,7 @@ module _ (image : Image) (finds : FindsRightly image) (w : WordMachine) (m : Mac
 
       by_sort : (b : Bool) → is_static g ≡ false → is_constructor g ≡ b → words.blocked_call image w t caller c g (reg_word s k) ≡ machine.blocked_call image m t caller c g (reg_at f.regs k)
       by_sort true instance sort =
-          construct_is image w m stands t caller c g finds sort (reg_word s k) ∙
+          construct_is image w m stands t caller c g sort (reg_word s k) ∙
           sym (fresh (reg_at f.regs k) (type_at state.regs k) (conform k) (receiver_demanded image method state c k ks g sort holds))
       by_sort false instance sort =
           call_is image w m stands t caller c g (reg_word s k) (reg_at f.regs k) (reference k (reference_demanded image method state c k ks g instance sort holds)) (word k)

@@ -19,14 +19,14 @@ use Rattle.dv_defs.specs.Texts.{utf8}
 use Rattle.dv_machine.specs.Calls.{Landing, Lacks, Lands, native_of, unless_abstract}
 use Rattle.dv_machine.specs.Mem.{on_object}
 use Rattle.dv_machine.specs.State.{Did, Go, NoRoom, Throws, where_room, where_true}
-use Rattle.dv_machine.specs.Step.{prior}
+use Rattle.dv_defs.specs.Prior.{prior_at}
+use Rattle.dv_machine.specs.Threads.{run_landing}
 use Rattle.dv_words.specs.declared.state.Kept.{Kept}
 use Rattle.dv_words.specs.declared.state.Kept.TheVariants as kept
 use Rattle.dv_words.specs.declared.state.Frame.{Frame}
 use Rattle.dv_words.specs.declared.state.Level.{Level}
 use Rattle.dv_words.specs.declared.state.Level.TheVariants as level
 use Rattle.dv_words.specs.Heaps.{alloc_string, kind_of}
-use Rattle.dv_words.specs.Stacks as stacks
 use Rattle.dv_words.specs.Stacks.{size_of, words_in}
 use Rattle.dv_words.specs.State.{WordHeap, WordShared}
 use Rattle.dv_words.specs.Words.{int_of}
@@ -114,20 +114,16 @@ module _ (h : At) where
 
   -- ---- starting
 
-  started_starts : (o : ℕ) (m : Option Method) → length h.threads < h.limits.threads → StartsInRoom h (threads.started_on h o m)
-  started_starts o None few = tt
-  started_starts o (Some m) few = by (is_abstract m)
-    where
-      by : (b : Bool) → StartsInRoom h (if b then Throws named.AbstractMethod else Go (record { levels = level.Code (stacks.gone h.frame h.next) ∷ h.rest; shared = h.shared; started = Some (threads.new_thread o m) }))
-      by true = tt
-      by false = inr few
+  started_starts : (o : ℕ) (l : Landing) → length h.threads < h.limits.threads → StartsInRoom h (threads.started_on h o l)
+  started_starts o (Lacks n) few = tt
+  started_starts o (Lands m) few = inr few
 
   start_starts : (o : ℕ) (u : Option ℕ) → StartsInRoom h (threads.start_unless h o u)
   start_starts o (Some u) = tt
   start_starts o None = by (nat_lt (length h.threads) h.limits.threads) refl
     where
-      run : Option Method
-      run = threads.run_method h.image (threads.class_of_kind h.image (kind_of h.shared.heap o))
+      run : Landing
+      run = run_landing h.image (threads.class_of_kind h.image (kind_of h.shared.heap o))
 
       by : (b : Bool) → nat_lt (length h.threads) h.limits.threads ≡ b → StartsInRoom h (where_true b named.OutOfMemory (threads.started_on h o run))
       by true few = started_starts o run (ltb-true _ _ few)
@@ -234,7 +230,7 @@ module _ (h : At) where
 
   pub record_starts : (c : ℕ) (ready : Bool) → StartsInRoom h (over.record_step h c ready)
   record_starts c true = inl refl
-  record_starts c false = looked_starts c (prior h.image c)
+  record_starts c false = looked_starts c (prior_at h.image c)
 
   -- ---- exceptions in flight
 

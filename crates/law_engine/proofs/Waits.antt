@@ -10,7 +10,6 @@ use Rattle.dv_defs.specs.Images.{Image}
 use Rattle.dv_machine.specs.Monitors.{Monitors, owner_of, wait_of}
 use Rattle.dv_defs.specs.Parts.{Call}
 use Rattle.dv_defs.specs.Pools.{Method, is_constructor}
-use Rattle.dv_machine.specs.Accepted.{FindsRightly}
 use Rattle.dv_machine.specs.Calls.{Landing, Lacks, Lands, dispatch, native_of}
 use Rattle.dv_machine.specs.Running as machine
 use Rattle.dv_machine.specs.Running.{blocked_wait, by_owner}
@@ -64,9 +63,9 @@ module _ (image : Image) (w : WordMachine) (m : Machine) (stands : MachineStands
     call_is n x ref is = absurd ref
 
     -- a constructor is no native, so nothing holds its call up
-    pub construct_is : FindsRightly image → is_constructor g ≡ true → (n : ℕ) → words.blocked_call image w t own c g n ≡ None
-    construct_is finds is zero = refl
-    construct_is finds is (suc o) = by (over.dispatch image w.shared.heap own c g (suc o)) (lands_on_no_native image finds g is w.shared.heap own c (suc o))
+    pub construct_is : is_constructor g ≡ true → (n : ℕ) → words.blocked_call image w t own c g n ≡ None
+    construct_is is zero = refl
+    construct_is is (suc o) = by (over.dispatch image w.shared.heap own c g (suc o)) (lands_on_no_native image g is w.shared.heap own c (suc o))
       where
         by : (l : Landing) → NoNative image l → words.blocked_landing image w t (suc o) l ≡ None
         by (Lacks n) none = refl

@@ -3,10 +3,11 @@ use Rattle.std.specs.Prelude.{nat_eq, nat_le, is_some}
 use Rattle.std.proofs.Common.{◌≡◌, ◌≤◌, ◌⊎◌, inl, inr, ℕ, ◌+◌, List, [], ◌∷◌, ◌++◌, Bool, true, false, Option, Some, None, Result, Ok, Err, refl, sym, ap, ◌∙◌, subst}
 use Rattle.std.proofs.lemmas.Bool.{leb-true, eqb-true}
 use Rattle.dv_defs.specs.declared.code.Insn.{Insn}
+use Rattle.dv_defs.specs.declared.names.Ty.{Ty}
 use Rattle.dv_defs.specs.Images.{Image}
 use Rattle.dv_defs.specs.Tiling.{Tile, Item, IsInsn, IsPayload, tiling, tiles_in, tile_at, insn_in, begins_insn}
 use Rattle.dv_defs.specs.Op.{Op, Code, Resolved, code_at, op_of}
-use Rattle.dv_typing.specs.Statics.{At, unless, moves_on, registers_below, op_rules, resolved_rules, insn_rules, at_of, sound_at, at_tile, fetch_in, fetch, arg_words}
+use Rattle.dv_typing.specs.Statics.{At, unless, moves_on, registers_below, op_rules, resolved_rules, insn_rules, referred, at_of, sound_at, at_tile, fetch_in, fetch, arg_words}
 use Rattle.dv_typing.specs.Accepting.{Place, sorted, place_unless, item_places, tile_places, try_places, first_places, no_units, places_by, static_places}
 use Rattle.dv_defs.specs.declared.faults.Rule.{Rule}
 use Rattle.dv_defs.specs.declared.faults.Rule.TheVariants as rule
@@ -81,9 +82,9 @@ tile_insn : (o : Option Tile) → is_some (elim o [ None ↦ None | Some t ↦ i
 tile_insn None e = no e
 tile_insn (Some t) e = let (i, is) = item_insn t.item e in (t, i, refl, is)
 
-resolved_is : (image : Image) (code : Code) (r : Resolved) → resolved_rules image code r ≡ [] → (op : Op) × (r ≡ Ok op)
-resolved_is image code (Err rule) u = absurd (cc)
-resolved_is image code (Ok op) u = (op, refl)
+resolved_is : (image : Image) (code : Code) (t : Option Ty) (r : Resolved) → resolved_rules image code t r ≡ [] → (op : Op) × (r ≡ Ok op)
+resolved_is image code t (Err rule) u = absurd (cc)
+resolved_is image code t (Ok op) u = (op, refl)
 
 -- what an instruction without a broken rule is
 record IsSound (image : Image) (code : Code) (at next : ℕ) (i : Insn) : Type 0 where
@@ -93,7 +94,7 @@ record IsSound (image : Image) (code : Code) (at next : ℕ) (i : Insn) : Type 0
 
 sound_is : (image : Image) (code : Code) (at next : ℕ) (i : Insn) → insn_rules image code at i ≡ [] → IsSound image code at next i
 sound_is image code at next i e =
-    let (op, is) = resolved_is image code (op_of image code at i) (none_right (unless (moves_on i) (rule.S 5) ++ unless (registers_below code.body.registers i) (rule.S 11)) (resolved_rules image code (op_of image code at i)) e) in
+    let (op, is) = resolved_is image code (referred code i) (op_of image code at i) (none_right (unless (moves_on i) (rule.S 5) ++ unless (registers_below code.body.registers i) (rule.S 11)) (resolved_rules image code (referred code i) (op_of image code at i)) e) in
     record {
       op = op;
       is_op = is;
@@ -155,26 +156,30 @@ pub fetched_begins : (image : Image) (n at : ℕ) (code : Code) (x : At) → cod
 unfolding fetch
 fetched_begins image n at code x has e = tile_begins image code (tile_at code.tiles at) x (sym (ap (λ (o : Option Code). fetch_in image at o) has) ∙ e)
 
-op_fine : (image : Image) (code : Code) (next : ℕ) (r : Resolved) (x : At) → resolved_rules image code r ≡ [] → at_of next r ≡ Some x → op_rules image code x.op ≡ []
-op_fine image code next (Err rule) x e h = absurd (cc)
-op_fine image code next (Ok op) x e h =
+-- an operation breaks no rule, by some type that it names
+abbrev pub KeepsRules : Image → Code → Op → Type 0
+KeepsRules image code op = (r : Option Ty) × (op_rules image code r op ≡ [])
+
+op_fine : (image : Image) (code : Code) (next : ℕ) (t : Option Ty) (r : Resolved) (x : At) → resolved_rules image code t r ≡ [] → at_of next r ≡ Some x → KeepsRules image code x.op
+op_fine image code next t (Err rule) x e h = absurd (cc)
+op_fine image code next t (Ok op) x e h =
     let made : At = record { op = op; next = next } in
     let same : made ≡ x = cc in
-    subst (λ (y : At). op_rules image code y.op ≡ []) same e
+    (t, subst (λ (y : At). op_rules image code t y.op ≡ []) same e)
 
-insn_fine : (image : Image) (code : Code) (at next : ℕ) (i : Insn) (x : At) (rules : List Rule) → insn_rules image code at i ≡ rules → elim rules [ [] ↦ at_of next (op_of image code at i) | r ∷ rs ↦ None ] ≡ Some x → op_rules image code x.op ≡ []
-insn_fine image code at next i x [] e h = op_fine image code next (op_of image code at i) x (none_right (unless (moves_on i) (rule.S 5) ++ unless (registers_below code.body.registers i) (rule.S 11)) (resolved_rules image code (op_of image code at i)) e) h
+insn_fine : (image : Image) (code : Code) (at next : ℕ) (i : Insn) (x : At) (rules : List Rule) → insn_rules image code at i ≡ rules → elim rules [ [] ↦ at_of next (op_of image code at i) | r ∷ rs ↦ None ] ≡ Some x → KeepsRules image code x.op
+insn_fine image code at next i x [] e h = op_fine image code next (referred code i) (op_of image code at i) x (none_right (unless (moves_on i) (rule.S 5) ++ unless (registers_below code.body.registers i) (rule.S 11)) (resolved_rules image code (referred code i) (op_of image code at i)) e) h
 insn_fine image code at next i x (r ∷ rs) e h = absurd (cc)
 
-item_fine : (image : Image) (code : Code) (at next : ℕ) (item : Item) (x : At) → elim (insn_in item) [ None ↦ None | Some i ↦ sound_at image code at next i ] ≡ Some x → op_rules image code x.op ≡ []
+item_fine : (image : Image) (code : Code) (at next : ℕ) (item : Item) (x : At) → elim (insn_in item) [ None ↦ None | Some i ↦ sound_at image code at next i ] ≡ Some x → KeepsRules image code x.op
 item_fine image code at next (IsInsn i) x e = insn_fine image code at next i x (insn_rules image code at i) refl e
 item_fine image code at next (IsPayload p) x e = absurd (cc)
 
-tiled_fine : (image : Image) (code : Code) (o : Option Tile) (x : At) → at_tile image code o ≡ Some x → op_rules image code x.op ≡ []
+tiled_fine : (image : Image) (code : Code) (o : Option Tile) (x : At) → at_tile image code o ≡ Some x → KeepsRules image code x.op
 tiled_fine image code None x e = absurd (cc)
 tiled_fine image code (Some t) x e = item_fine image code t.at (t.at + t.size) t.item x e
 
 -- and breaks no static rule
-pub fetched_rules : (image : Image) (n at : ℕ) (code : Code) (x : At) → code_at image n ≡ Some code → fetch image n at ≡ Some x → op_rules image code x.op ≡ []
+pub fetched_rules : (image : Image) (n at : ℕ) (code : Code) (x : At) → code_at image n ≡ Some code → fetch image n at ≡ Some x → KeepsRules image code x.op
 unfolding fetch
 fetched_rules image n at code x has e = tiled_fine image code (tile_at code.tiles at) x (sym (ap (λ (o : Option Code). fetch_in image at o) has) ∙ e)

@@ -38,16 +38,16 @@ cases_lead code (c ∷ cs) e =
 one_leads : (code : Code) (to : ℕ) → unless (leads_to_insn code to) (rule.S 4) ≡ [] → All (Begins code) (to ∷ [])
 one_leads code to e = All-cons (Begins code) to [] (only_rule (leads_to_insn code to) (rule.S 4) e) (All-nil (Begins code))
 
-jumps_by : (image : Image) (code : Code) (op : Op) → op_rules image code op ≡ [] → All (Begins code) (jumps op)
-jumps_by image code (Goto to) e = one_leads code to e
-jumps_by image code (IfBoth t a b to) e = one_leads code to e
-jumps_by image code (IfZero t a to) e = one_leads code to e
-jumps_by image code (Switch a cases) e = cases_lead code cases (only_rule (all_lead code cases) (rule.S 8) e)
-jumps_by image code op e = All-nil (Begins code)
+jumps_by : (image : Image) (code : Code) (r : Option Ty) (op : Op) → op_rules image code r op ≡ [] → All (Begins code) (jumps op)
+jumps_by image code r (Goto to) e = one_leads code to e
+jumps_by image code r (IfBoth t a b to) e = one_leads code to e
+jumps_by image code r (IfZero t a to) e = one_leads code to e
+jumps_by image code r (Switch a cases) e = cases_lead code cases (only_rule (all_lead code cases) (rule.S 8) e)
+jumps_by image code r op e = All-nil (Begins code)
 
 -- branches and switches lead to instructions
 pub jumps_begin : (image : Image) (n at : ℕ) (code : Code) (x : At) → code_at image n ≡ Some code → fetch image n at ≡ Some x → All (Begins code) (jumps x.op)
-jumps_begin image n at code x has e = jumps_by image code x.op (fetched_rules image n at code x has e)
+jumps_begin image n at code x has e = let (r, rules) = fetched_rules image n at code x has e in jumps_by image code r x.op rules
 
 -- and so to operations
 pub jumps_there : (image : Image) (n at : ℕ) (code : Code) (x : At) → code_at image n ≡ Some code → IsStatic image code → fetch image n at ≡ Some x → All (IsThere image n) (jumps x.op)

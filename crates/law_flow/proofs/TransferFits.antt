@@ -17,7 +17,7 @@ use Rattle.dv_defs.specs.Types.{is_array, is_reference, of_class}
 use Rattle.dv_defs.specs.Pools.{Method, is_constructor, own_type, name_at}
 use Rattle.dv_defs.specs.Tiling.{begins_insn}
 use Rattle.dv_defs.specs.Op.{Op, MoveInt, MoveLong, MoveObject, ResultInt, ResultLong, ResultObject, TakeCaught, Const, ConstLong, IntUnary, LongUnary, IntToLong, LongToInt, IntOp, LongOp, LongShift, CompareLong, IntDivide, LongDivide, ConstString, ConstClass, Cast, InstanceOf, ArrayLength, New, NewArray, Filled, ArrayGet, FieldGet, StaticGet, Invoke, Code, op_of}
-use Rattle.dv_typing.specs.Statics.{At, op_rules, resolved_rules, unless, is_filled_type, moves_on, registers_below}
+use Rattle.dv_typing.specs.Statics.{At, op_rules, resolved_rules, unless, is_filled_type, moves_on, registers_below, referred}
 use Rattle.dv_typing.specs.RegTypes.{Types, type_at}
 use Rattle.dv_typing.specs.Demands.{made_at}
 use Rattle.dv_typing.specs.Transfer.{write_type, write_long, write_for, going, with_pending, copied_int, copied_object, const_type, result_int, result_ref, after_result_long, caught_type, replaced, replaced_this, lost, class_or_conflict, pending_of, after_constructor, first_of, after_invoke, object_element, after_get, out}
@@ -106,48 +106,48 @@ module _ (image : Image) (code : Code) where
     filled : (t : Ty) → is_filled_type t ≡ true → t.dims ≤ most → StateFits image code (with_pending s (pend.One (ty.Class t)))
     filled t e l = with_pending_fits s (pend.One (ty.Class t)) h (record { reference = array_refers t (and_parts (is_array t) _ e).0; dims = l })
 
-    out_fits : (m : Method) (at : ℕ) (op : Op) → begins_insn code.tiles at ≡ true → op_rules image code op ≡ [] → OperandsMet image code op → StateFits image code (out image m at op s)
-    out_fits m at (MoveInt a c) b r l = writes a (copied_int (type_at s.regs c)) (copied_int_fits most code (type_at s.regs c))
-    out_fits m at (MoveLong a c) b r l = writes_long a
-    out_fits m at (MoveObject a c) b r l = writes a (copied_object (type_at s.regs c)) (copied_object_fits most code (type_at s.regs c) (at_fits c))
-    out_fits m at (ResultInt a) b r l = writes a (result_int s.result) (result_int_fits most code s.result)
-    out_fits m at (ResultLong a) b r l = going_fits s (after_result_long s.regs a s.result) (result_long_fits most code s.regs a s.result regs)
-    out_fits m at (ResultObject a) b r l = writes a (result_ref s.result) (result_ref_fits most code s.result h.result)
-    out_fits m at (TakeCaught a) b r l = writes a (caught_type s.caught) (caught_fits most code s.caught h.caught)
-    out_fits m at (Const a n) b r l = writes a (const_type n) (const_fits most code n)
-    out_fits m at (ConstLong a n) b r l = writes_long a
-    out_fits m at (IntUnary o a c) b r l = writes a ty.Int tt
-    out_fits m at (LongUnary o a c) b r l = writes_long a
-    out_fits m at (IntToLong a c) b r l = writes_long a
-    out_fits m at (LongToInt a c) b r l = writes a ty.Int tt
-    out_fits m at (IntOp o a c d) b r l = writes a ty.Int tt
-    out_fits m at (LongOp o a c d) b r l = writes_long a
-    out_fits m at (LongShift o a c d) b r l = writes_long a
-    out_fits m at (CompareLong a c d) b r l = writes a ty.Int tt
-    out_fits m at (IntDivide o a c d) b r l = writes a ty.Int tt
-    out_fits m at (LongDivide o a c d) b r l = writes_long a
-    out_fits m at (ConstString a cs) b r l = writes_class a string_name
-    out_fits m at (ConstClass a f) b r l = writes_class a class_name
-    out_fits m at (Cast a f) b r l = writes_type a f (only_rule (is_reference f) (rule.S 16) r) l
-    out_fits m at (InstanceOf a c f) b r l = writes a ty.Int tt
-    out_fits m at (ArrayLength a c) b r l = writes a ty.Int tt
-    out_fits m at (New a c) b r l = makes a at b
-    out_fits m at (NewArray a c f) b r l = writes_type a f (array_refers f (only_rule (is_array f) (rule.S 16) r)) l
-    out_fits m at (Filled rs f) b r l = filled f (only_rule (is_filled_type f) (rule.S 16) r) l
-    out_fits m at (ArrayGet x a c d) b r l = going_fits s (after_get s.regs a x (type_at s.regs c)) (get_fits s.regs a x (type_at s.regs c) regs (at_fits c))
-    out_fits m at (FieldGet x a c f) b r l = writes_for a f.def.ty l
-    out_fits m at (StaticGet x a f) b r l = writes_for a f.def.ty l
-    out_fits m at (Invoke c ks g) b r l = invoke_fits m s ks g h l
-    out_fits m at op b r l = going_fits s s.regs regs
+    out_fits : (m : Method) (at : ℕ) (t : Option Ty) (op : Op) → begins_insn code.tiles at ≡ true → op_rules image code t op ≡ [] → OperandsMet image code op → StateFits image code (out image m at op s)
+    out_fits m at t (MoveInt a c) b r l = writes a (copied_int (type_at s.regs c)) (copied_int_fits most code (type_at s.regs c))
+    out_fits m at t (MoveLong a c) b r l = writes_long a
+    out_fits m at t (MoveObject a c) b r l = writes a (copied_object (type_at s.regs c)) (copied_object_fits most code (type_at s.regs c) (at_fits c))
+    out_fits m at t (ResultInt a) b r l = writes a (result_int s.result) (result_int_fits most code s.result)
+    out_fits m at t (ResultLong a) b r l = going_fits s (after_result_long s.regs a s.result) (result_long_fits most code s.regs a s.result regs)
+    out_fits m at t (ResultObject a) b r l = writes a (result_ref s.result) (result_ref_fits most code s.result h.result)
+    out_fits m at t (TakeCaught a) b r l = writes a (caught_type s.caught) (caught_fits most code s.caught h.caught)
+    out_fits m at t (Const a n) b r l = writes a (const_type n) (const_fits most code n)
+    out_fits m at t (ConstLong a n) b r l = writes_long a
+    out_fits m at t (IntUnary o a c) b r l = writes a ty.Int tt
+    out_fits m at t (LongUnary o a c) b r l = writes_long a
+    out_fits m at t (IntToLong a c) b r l = writes_long a
+    out_fits m at t (LongToInt a c) b r l = writes a ty.Int tt
+    out_fits m at t (IntOp o a c d) b r l = writes a ty.Int tt
+    out_fits m at t (LongOp o a c d) b r l = writes_long a
+    out_fits m at t (LongShift o a c d) b r l = writes_long a
+    out_fits m at t (CompareLong a c d) b r l = writes a ty.Int tt
+    out_fits m at t (IntDivide o a c d) b r l = writes a ty.Int tt
+    out_fits m at t (LongDivide o a c d) b r l = writes_long a
+    out_fits m at t (ConstString a cs) b r l = writes_class a string_name
+    out_fits m at t (ConstClass a f) b r l = writes_class a class_name
+    out_fits m at t (Cast a f) b r l = writes_type a f (only_rule (is_reference f) (rule.S 16) r) l
+    out_fits m at t (InstanceOf a c f) b r l = writes a ty.Int tt
+    out_fits m at t (ArrayLength a c) b r l = writes a ty.Int tt
+    out_fits m at t (New a c) b r l = makes a at b
+    out_fits m at t (NewArray a c f) b r l = writes_type a f (array_refers f (only_rule (is_array f) (rule.S 16) r)) l
+    out_fits m at t (Filled rs f) b r l = filled f (only_rule (is_filled_type f) (rule.S 16) r) l
+    out_fits m at t (ArrayGet x a c d) b r l = going_fits s (after_get s.regs a x (type_at s.regs c)) (get_fits s.regs a x (type_at s.regs c) regs (at_fits c))
+    out_fits m at t (FieldGet x a c f) b r l = writes_for a f.def.ty l
+    out_fits m at t (StaticGet x a f) b r l = writes_for a f.def.ty l
+    out_fits m at t (Invoke c ks g) b r l = invoke_fits m s ks g h l
+    out_fits m at t op b r l = going_fits s s.regs regs
 
   -- ---- what is fetched breaks no rule
 
-  rules_kept : (at : ℕ) (x : At) → IsFetched image code at x → op_rules image code x.op ≡ []
-  rules_kept at x f = subst (λ r. resolved_rules image code r ≡ []) f.op
-      (last_empty (unless (moves_on f.insn) (rule.S 5) ++ unless (registers_below code.body.registers f.insn) (rule.S 11)) (resolved_rules image code (op_of image code at f.insn)) f.keeps_rules)
+  rules_kept : (at : ℕ) (x : At) (f : IsFetched image code at x) → op_rules image code (referred code f.insn) x.op ≡ []
+  rules_kept at x f = subst (λ r. resolved_rules image code (referred code f.insn) r ≡ []) f.op
+      (last_empty (unless (moves_on f.insn) (rule.S 5) ++ unless (registers_below code.body.registers f.insn) (rule.S 11)) (resolved_rules image code (referred code f.insn) (op_of image code at f.insn)) f.keeps_rules)
 
   fetched_fits : (at : ℕ) (x : At) (s : RegState) → begins_insn code.tiles at ≡ true → IsFetched image code at x → StateFits image code s → StateFits image code (out image code.method at x.op s)
-  fetched_fits at x s b f h = out_fits s h code.method at x.op b (rules_kept at x f) (operands_met image code at f.insn x.op f.op)
+  fetched_fits at x s b f h = out_fits s h code.method at (referred code f.insn) x.op b (rules_kept at x f) (operands_met image code at f.insn x.op f.op)
 
 pub transfer_fits : TransferFits
 transfer_fits image code has clean at x e s h =

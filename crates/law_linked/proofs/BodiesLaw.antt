@@ -21,7 +21,7 @@ use Rattle.dv_defs.specs.Types.{ty_eq}
 use Rattle.dv_defs.specs.Pools.{Method, name_at, is_static, is_native, is_abstract}
 use Rattle.dv_defs.specs.Numbering.{numbered}
 use Rattle.dv_defs.specs.Boot.{Row, word, rows, class_rows, is_row_of, method_rows, tells_flag, both_or_none, flags_are, type_in, result_is, types_are, method_is, methods_are, is_in_table}
-use Rattle.dv_defs.specs.LinkFaults.{found, fault_at, tested, boot_fault, row_lacks, is_foreign, not_there, method_twice, wrong_body, wrong_native, wrong_concrete, body_wrong, overrides_final, wrong_methods}
+use Rattle.dv_defs.specs.LinkFaults.{found, fault_at, tested, boot_fault, row_lacks, is_foreign, not_there, method_twice, wrong_body, wrong_native, wrong_constructor, body_wrong, overrides_final, wrong_methods}
 use Rattle.dv_defs.specs.Linked.{IsImage, defs, method_phase}
 use Rattle.law_linking.proofs.First.{or_none, when_none, map_none, first_below_none}
 use Rattle.law_linking.proofs.FromFaults.{no_first_fault}
@@ -221,8 +221,8 @@ module _ (image : Image) (is : IsImage image) where
 
   right : (m : Method) (stands : MethodIn image m) → (wrong_body m.def ≡ false) × (wrong_native image.boot m.info.class.0 m.def ≡ false)
   right m stands =
-      let off = when_none (wrong_body m.def || wrong_native image.boot m.info.class.0 m.def || wrong_concrete stands.class.def m.def) (kind.Body m.def.name) (sound m stands) in
-      let p = or_parts (wrong_body m.def || wrong_native image.boot m.info.class.0 m.def) (wrong_concrete stands.class.def m.def) off in
+      let off = when_none (wrong_body m.def || wrong_native image.boot m.info.class.0 m.def || wrong_constructor stands.class.def m.def) (kind.Body m.def.name) (sound m stands) in
+      let p = or_parts (wrong_body m.def || wrong_native image.boot m.info.class.0 m.def) (wrong_constructor stands.class.def m.def) off in
       or_parts (wrong_body m.def) (wrong_native image.boot m.info.class.0 m.def) p.0
 
   is_known : (c : ClassDef) (i : ℕ) → slice_get (take image.boot (defs image.classes)) i ≡ Some c → is_in_table c.name ≡ true

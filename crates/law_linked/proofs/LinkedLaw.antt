@@ -6,10 +6,14 @@ use Rattle.law_machine.proofs.lemmas.Opening.State.{opening_is_well_typed}
 use Rattle.law_machine.proofs.lemmas.Steps.Sound.{steps_are_sound}
 use Rattle.law_machine.proofs.lemmas.Steps.Runs.{runs_never_go_wrong}
 use Rattle.std.proofs.Common.{ap, ◌∙◌}
-use Rattle.std.specs.Prelude.{find}
+use Rattle.std.specs.Prelude.{slice_index_or}
+use Rattle.std.specs.List.{position_or_len}
+use Rattle.dv_defs.specs.declared.image.Select.TheVariants as select
+use Rattle.dv_defs.specs.LookUp.{is_method_of}
+use Rattle.dv_defs.specs.Linked.{keyed_at}
 use Rattle.law_types.proofs.Arrays.{super_common}
-use Rattle.law_linking.specs.Landing.{has_key_at}
-use Rattle.law_linking.proofs.TableLaws.{image_table, table_agrees}
+use Rattle.law_linking.proofs.TableLaws.{image_table}
+use Rattle.law_linking.proofs.SelectLaws.{table_selects}
 use Rattle.law_flow.proofs.HierarchyLaw.{image_hierarchy}
 use Rattle.law_linked.proofs.SlotsLaw.{image_slots}
 use Rattle.law_linked.proofs.BodiesLaw.{image_bodies}
@@ -40,5 +44,6 @@ linked_types_have_common image is a b first second =
     record { first = common.first; second = common.second; least = common.least }
 
 pub linked_tables_agree : LinkedTablesAgree
-linked_tables_agree image is c info there name p other =
-    ap (find (has_key_at image name p)) (image_table image is c info there) ∙ table_agrees image c name p other
+linked_tables_agree image is c info there name p =
+    ap (λ table. slice_index_or table (position_or_len (is_method_of name p) (keyed_at image c)) select.Abstract) (image_table image is c info there) ∙
+    table_selects image c name p

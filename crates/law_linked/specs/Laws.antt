@@ -1,17 +1,20 @@
 -- What holds of each linked image, as statements.
-use Rattle.std.specs.Prelude.{◌≡◌, ℕ, true, false, List, Some, slice_get, bytes_eq, codes, find}
+use Rattle.std.specs.Prelude.{◌≡◌, ℕ, true, false, List, Some, slice_get, slice_index_or, codes}
+use Rattle.std.specs.List.{position_or_len}
 use Rattle.dv_defs.specs.declared.image.ClassInfo.{ClassInfo}
+use Rattle.dv_defs.specs.declared.image.Select.TheVariants as select
 use Rattle.dv_defs.specs.declared.names.Proto.{Proto}
 use Rattle.dv_defs.specs.declared.names.Ty.{Ty}
 use Rattle.dv_typing.specs.Accepting.{Accepts}
 use Rattle.dv_defs.specs.Images.{Image}
-use Rattle.dv_defs.specs.Linked.{IsImage}
+use Rattle.dv_defs.specs.Linked.{IsImage, keyed_at}
 use Rattle.dv_defs.specs.Common.{common_super}
-use Rattle.dv_defs.specs.Names.{init_name, string_name, throwable_name}
+use Rattle.dv_defs.specs.LookUp.{is_method_of}
+use Rattle.dv_defs.specs.Names.{string_name, throwable_name}
 use Rattle.dv_defs.specs.Order.{sub}
 use Rattle.dv_defs.specs.Pools.{Field, Method, class_type, field_at, is_interface, is_static_field}
+use Rattle.dv_defs.specs.Selecting.{selected}
 use Rattle.dv_defs.specs.Types.{is_reference, of_class}
-use Rattle.law_linking.specs.Landing.{has_key_at, landing_of}
 use Rattle.dv_defs.specs.declared.run.Limits.{Limits}
 use Rattle.law_types.specs.Hierarchy.{IsOrder}
 use Rattle.dv_machine.specs.Mains.{IsMain}
@@ -39,12 +42,12 @@ LinkedTypesHaveCommon =
     (image : Image) → IsImage image → (a b : Ty) → is_reference a ≡ true → is_reference b ≡ true →
     IsNearestCommon image a b (common_super image a b)
 
--- the table of a class has, at the first place with a name and a prototype, what look-up finds: none where it finds none
+-- the table of a class has, at the place of a name and a prototype, what a call selects; where it has no such place nothing could be run
 abbrev pub LinkedTablesAgree : Type 0
 LinkedTablesAgree =
     (image : Image) → IsImage image → (c : ℕ) (info : ClassInfo) → slice_get image.classes c ≡ Some info →
-    (name : List ℕ) (p : Proto) → bytes_eq name init_name ≡ false →
-    find (has_key_at image name p) info.table ≡ landing_of image c name p
+    (name : List ℕ) (p : Proto) →
+    slice_index_or info.table (position_or_len (is_method_of name p) (keyed_at image c)) select.Abstract ≡ selected image c name p
 
 -- the message of a Throwable: an instance field, whose cell is found by its name
 pub record HasMessage (image : Image) : Type 0 where

@@ -18,7 +18,7 @@ pub fn linked_types_have_common()
     ensures law { LinkedTypesHaveCommon }
 {}
 
-/// There the table of a class agrees with look-up at every place.
+/// There the table of a class has what a call selects, at the place of its name and prototype.
 pub fn linked_tables_agree()
     ensures law { LinkedTablesAgree }
 {}

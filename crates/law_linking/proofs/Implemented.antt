@@ -1,15 +1,14 @@
 -- What a class is under: the classes of the walk up, and the interfaces above them.
-use Rattle.std.specs.Prelude.{List, ◌++◌, ℕ, zero, suc, ◌≡◌, ◌<◌, Bool, true, false, ◌||◌, [], ◌∷◌, length, flat_map, Option, Some, None, nat_eq, ◌≤◌, ◌⊎◌}
+use Rattle.std.specs.Prelude.{ℕ, zero, suc, ◌≡◌, ◌<◌, Bool, true, false, ◌||◌, [], ◌∷◌, length, flat_map, Option, Some, None, ◌⊎◌}
 use Rattle.std.proofs.Common.{refl, sym, ap, subst, ◌∙◌, inl, inr, ⊎_elim, arith}
 use Rattle.dv_defs.specs.Images.{Image}
 use Rattle.dv_defs.specs.Pools.{parent_at, walk, supers, is_interface}
-use Rattle.dv_defs.specs.Order.{has_number, above, any_of, reaches, implements, extends}
+use Rattle.dv_defs.specs.Order.{has_number, above, reaches, implements, extends}
 use Rattle.dv_defs.specs.LookUp.{upward, interfaces_at, interfaces_above, superinterfaces}
 use Rattle.law_linking.specs.Ordered.{IsOrdered}
-use Rattle.law_linking.proofs.Reach.{above_in, number_first, number_later, number_cases, reaches_here, reaches_up, reaches_gives, reaches_bounded, less_or_not}
+use Rattle.law_linking.proofs.Reach.{above_in, number_first, number_later, number_cases, reaches_here, reaches_up, reaches_gives, reaches_bounded}
 use Rattle.law_linking.proofs.ReachPlaces.{place, place_bounded, place_rises}
-use Rattle.law_linking.proofs.OnceNumbers.{or_else}
-use Rattle.law_linking.proofs.Upward.{has_right, has_cases, has_in_flat, flat_gives, interfaces_stand, walk_same, above_beyond, parent_beyond, interfaces_beyond, walk_alone, parent_is_above, interface_is_above, above_is}
+use Rattle.law_linking.proofs.Upward.{has_right, has_cases, has_in_flat, flat_gives, interfaces_stand, walk_same, parent_is_above, interface_is_above, above_is}
 
 same_truth : (a b : Bool) → (a ≡ true → b ≡ true) → (b ≡ true → a ≡ true) → a ≡ b
 same_truth true b to back = sym (to refl)
@@ -185,20 +184,3 @@ implements_is image ordered c d within =
     (or_gives (extends image c d) (has_number d (superinterfaces image c))
     (extended_is_under image ordered c d within)
     (interfaces_under image ordered (length image.classes) c d within))
-
-or_itself : (b : Bool) → or_else b false ≡ (or_else b false || false)
-or_itself true = refl
-or_itself false = refl
-
--- and so is a number that is no class's, which is under itself alone
-pub implements_anywhere : (image : Image) → IsOrdered image → (c d : ℕ) → implements image c d ≡ (extends image c d || has_number d (superinterfaces image c))
-implements_anywhere image ordered c d = ⊎_elim (implements_is image ordered c d) beyond (less_or_not c (length image.classes))
-  where
-    beyond : length image.classes ≤ c → implements image c d ≡ (extends image c d || has_number d (superinterfaces image c))
-    beyond out =
-        let some : 0 < length image.classes = omega (arith, ordered.object_in) in
-        let alone : supers image c ≡ c ∷ [] = walk_alone image (length image.classes) c some (parent_beyond image c out) in
-        ap (or_else (nat_eq c d)) (ap (any_of (reaches image (length image.classes) d)) (above_beyond image c out)) ∙
-        (or_itself (nat_eq c d) ∙
-        sym (ap (λ cs. has_number d cs || has_number d (flat_map (interfaces_above image) cs)) alone ∙
-        ap (λ (cs : List ℕ). has_number d (c ∷ []) || has_number d (flat_map (upward (interfaces_at image) (length image.classes)) cs ++ [])) (interfaces_beyond image c out)))

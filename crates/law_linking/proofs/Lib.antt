@@ -10,11 +10,13 @@ pub mod AlikeMembers
 pub mod AlikeImages
 pub mod AlikeFaults
 pub mod AlikeTables
+pub mod AlikePriors
 pub mod FromBoot
 pub mod FromFaults
 pub mod FromPhases
 pub mod OrderedImages
 pub mod TableLaws
+pub mod SelectLaws
 pub mod OnceNumbers
 pub mod Upward
 pub mod FieldOrder

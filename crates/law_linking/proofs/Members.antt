@@ -16,7 +16,8 @@ use Rattle.dv_defs.specs.declared.image.MethodInfo.{MethodInfo}
 use Rattle.dv_defs.specs.Images.{Image}
 use Rattle.dv_defs.specs.Pools.{Method, Field, method_at, field_at, methods_of, fields_of, pick, declared_by, with_info}
 use Rattle.dv_defs.specs.Numbering.{class_id, class_numbered, declared, numbered, all_methods_declared, all_fields_declared}
-use Rattle.dv_defs.specs.Linked.{all_fields, all_methods, defs, class_with_slots, class_with_table, slotted, tabled}
+use Rattle.dv_defs.specs.Selecting.{all_methods}
+use Rattle.dv_defs.specs.Linked.{all_fields, defs, class_with_slots, class_with_table, slotted, tabled}
 
 -- ---- lists
 
@@ -428,6 +429,12 @@ methods_all image is =
     let e : 0 + (before (method_lists image.classes) i + k) ≡ before (method_lists image.classes) i + k = omega arith in
     let z : 0 + i ≡ i = omega arith in
     rw (e, z) (method_in_lists image is i k ms m class there)))
+
+-- each number is that of a method
+pub methods_each : (image : Image) → HasMethods image → length (all_methods image) ≡ length image.methods
+methods_each image is =
+    rw (methods_all image is, is, methods_from 0 0 image.classes, all_length method_of 0 0 (method_lists image.classes))
+    (sym (all_length (λ j k x m. method_info j k) 0 0 (method_lists image.classes)))
 
 -- of all methods just a class's own are left, in their order
 pub methods_of_class : (image : Image) → HasMethods image → (test : Method → Bool) (i : ℕ)

@@ -1,10 +1,10 @@
 -- The table of a class has what a look-up by name and prototype lands on.
-use Rattle.std.specs.Prelude.{ℕ, zero, suc, ◌≡◌, ◌≤◌, ◌+◌, Bool, true, false, ◌&&◌, ◌||◌, not, List, [], ◌∷◌, length, map, filter, filter_map, find, sum_by, All, Option, Some, None, is_some, slice_get, nat_eq, bytes_eq, option_map}
+use Rattle.std.specs.Prelude.{ℕ, zero, suc, ◌≡◌, ◌≤◌, ◌+◌, Bool, true, false, ◌&&◌, ◌||◌, not, List, [], ◌∷◌, length, map, filter, filter_map, find, sum_by, All, Option, Some, None, is_some, slice_get, nat_eq, bytes_eq}
 use Rattle.std.specs.List.{list_any, cons_option, range_with_len, enumerate_from}
 use Rattle.std.proofs.Common.{refl, ap, sym, subst, ◌∙◌, arith, cond}
 use Rattle.std.proofs.lemmas.Bool.{and_parts, eqb-true}
 use Rattle.std.proofs.lemmas.List.{length-map}
-use Rattle.std.proofs.lemmas.List.Elements.{All-nil, All-cons, All-head, All-tail, All-append, All-filter}
+use Rattle.std.proofs.lemmas.List.Elements.{All-nil, All-cons, All-head, All-tail}
 use Rattle.std.proofs.lemmas.List.Folds.{list_any-append}
 use Rattle.std.proofs.lemmas.List.Sums.{sum_by-cons}
 use Rattle.std.proofs.lemmas.Map.Views.{any-filter_same}
@@ -13,7 +13,6 @@ use Rattle.dv_defs.specs.declared.names.Base.{Base}
 use Rattle.dv_defs.specs.declared.names.Base.TheVariants as base
 use Rattle.dv_defs.specs.declared.names.Ty.{Ty}
 use Rattle.dv_defs.specs.declared.names.Proto.{Proto}
-use Rattle.dv_defs.specs.declared.names.MethodId.{MethodId}
 use Rattle.dv_defs.specs.declared.class.ClassDef.{ClassDef}
 use Rattle.dv_defs.specs.declared.class.MethodDef.{MethodDef}
 use Rattle.dv_defs.specs.declared.image.ClassInfo.{ClassInfo}
@@ -23,13 +22,17 @@ use Rattle.dv_defs.specs.Names.{init_name}
 use Rattle.dv_defs.specs.Types.{base_eq, ty_eq, same_types, same_result, same_proto}
 use Rattle.dv_defs.specs.Pools.{Method, method_at, methods_of, with_def, with_info, is_static, is_private, declared_by, is_virtual_of, first_of_classes, nearest, parent_of, walk, supers}
 use Rattle.dv_defs.specs.Numbering.{class_numbered, declared, numbered}
-use Rattle.dv_defs.specs.Linked.{is_callable, all_methods, callable_of_class, is_new, callable_along, entry, table_at, class_with_table, slotted, tabled, resolved, defs, IsImage}
-use Rattle.law_linking.specs.Landing.{has_key, has_key_at, landing_of}
+use Rattle.dv_defs.specs.LookUp.{is_method_of}
+use Rattle.dv_defs.specs.Order.{numbers}
+use Rattle.dv_defs.specs.Prior.{prior_at}
+use Rattle.dv_defs.specs.Selecting.{is_callable, all_methods, callable_of_class}
+use Rattle.dv_defs.specs.Linked.{is_new, callable_along, table_at, priors_at, class_with_table, slotted, tabled, resolved, defs, IsImage}
 use Rattle.law_linking.specs.Stripped.{method_info_stripped}
 use Rattle.law_linking.proofs.Bounds.{few_methods}
 use Rattle.law_linking.proofs.Members.{declared_by_is, numbered_methods, method_count}
 use Rattle.law_linking.proofs.AlikeImages.{AreAlike, alike_by, alike_slotted}
 use Rattle.law_linking.proofs.AlikeTables.{alike_table_at}
+use Rattle.law_linking.proofs.AlikePriors.{alike_prior}
 use Rattle.law_linking.proofs.ImageMembers.{image_passes}
 use Rattle.law_linking.proofs.OrderedImages.{own_numbered, image_is, image_alike}
 
@@ -76,7 +79,7 @@ name_is xs ys e = (bytes_eq-Decides xs ys).0 e
 
 -- ---- lists
 
-find_any : {X : Type 0} (test : X → Bool) (xs : List X) → is_some (find test xs) ≡ list_any test xs
+pub find_any : {X : Type 0} (test : X → Bool) (xs : List X) → is_some (find test xs) ≡ list_any test xs
 find_any test [] = refl
 find_any {X} test (x ∷ xs) = here (test x) (find_any test xs)
   where
@@ -93,7 +96,7 @@ any_filtered {X} p q (x ∷ xs) = here (q x) (any_filtered p q xs)
     here false rest = rest
 
 -- what is found passes the test, and has what each item has
-find_has : {X : Type 0} (P : X → Type 0) (test : X → Bool) (xs : List X) → All P xs → (x : X) → find test xs ≡ Some x → P x × (test x ≡ true)
+pub find_has : {X : Type 0} (P : X → Type 0) (test : X → Bool) (xs : List X) → All P xs → (x : X) → find test xs ≡ Some x → P x × (test x ≡ true)
 find_has P test [] all x is = absurd (cc)
 find_has {X} P test (y ∷ xs) all x is = here (test y) refl (find_has P test xs (All-tail P y xs all) x)
   where
@@ -103,18 +106,6 @@ find_has {X} P test (y ∷ xs) all x is = here (test y) refl (find_has P test xs
         (subst P same (All-head P y xs all), ap test (sym same) ∙ e)
     here false e rest = rest (let found : cond (test y) (Some y) (find test xs) ≡ Some x = is in rw e at found)
 
--- a test of what is made of items
-find_made : {X Y : Type 0} (P : X → Type 0) (f : X → Y) (test : Y → Bool) (own : X → Bool) → ((x : X) → P x → test (f x) ≡ own x)
-    → (xs : List X) → All P xs → find test (map f xs) ≡ option_map f (find own xs)
-find_made P f test own same [] all = refl
-find_made {X} {Y} P f test own same (x ∷ xs) all =
-    ap (λ b. cond b (Some (f x)) (find test (map f xs))) (same x (All-head P x xs all)) ∙
-    here (own x) (find_made P f test own same xs (All-tail P x xs all))
-  where
-    here : (b : Bool) → find test (map f xs) ≡ option_map f (find own xs) → cond b (Some (f x)) (find test (map f xs)) ≡ option_map f (cond b (Some x) (find own xs))
-    here true rest = refl
-    here false rest = rest
-
 all_given : {X Y : Type 0} (P : Y → Type 0) (f : X → Option Y) → ((x : X) (y : Y) → f x ≡ Some y → P y) → (xs : List X) → All P (filter_map f xs)
 all_given P f gives [] = All-nil P
 all_given {X} {Y} P f gives (x ∷ xs) = here (f x) refl (all_given P f gives xs)
@@ -123,11 +114,11 @@ all_given {X} {Y} P f gives (x ∷ xs) = here (f x) refl (all_given P f gives xs
     here None e rest = rest
     here (Some y) e rest = All-cons P y (filter_map f xs) (gives x y e) rest
 
-none_of : {X : Type 0} (o : Option X) → is_some o ≡ false → o ≡ None
+pub none_of : {X : Type 0} (o : Option X) → is_some o ≡ false → o ≡ None
 none_of None e = refl
 none_of (Some x) e = absurd (cc)
 
-some_of : {X : Type 0} (o : Option X) → is_some o ≡ true → (x : X) × (o ≡ Some x)
+pub some_of : {X : Type 0} (o : Option X) → is_some o ≡ true → (x : X) × (o ≡ Some x)
 some_of None e = absurd (cc)
 some_of (Some x) e = (x, refl)
 
@@ -149,25 +140,25 @@ picks_by true false false false n q other = refl
 
 -- among a class's own methods, where the name is no constructor's
 own_agree : (image : Image) (name : List ℕ) (proto : Proto) → bytes_eq name init_name ≡ false → (c : ℕ)
-    → list_any (has_key name proto) (callable_of_class image c) ≡ is_some (declared_by image c (is_virtual_of name proto))
+    → list_any (is_method_of name proto) (callable_of_class image c) ≡ is_some (declared_by image c (is_virtual_of name proto))
 own_agree image name proto plain c =
-    any_filtered (has_key name proto) (λ m. nat_eq m.info.class.0 c && is_callable m) (all_methods image) ∙
+    any_filtered (is_method_of name proto) (λ m. nat_eq m.info.class.0 c && is_callable m) (all_methods image) ∙
     ((λ j. list_any (λ m. picked m j) (all_methods image)) ∙
     (sym (find_any (λ m. nat_eq m.info.class.0 c && is_virtual_of name proto m) (all_methods image)) ∙
     ap (λ (o : Option Method). is_some o) (sym (declared_by_is image c (is_virtual_of name proto)))))
   where
-    picked : (m : Method) → ((nat_eq m.info.class.0 c && is_callable m) && has_key name proto m) ≡ (nat_eq m.info.class.0 c && is_virtual_of name proto m)
+    picked : (m : Method) → ((nat_eq m.info.class.0 c && is_callable m) && is_method_of name proto m) ≡ (nat_eq m.info.class.0 c && is_virtual_of name proto m)
     picked m =
         picks_by (nat_eq m.info.class.0 c) (is_static m) (is_private m) (bytes_eq m.def.name init_name) (bytes_eq m.def.name name) (same_proto m.def.proto proto)
         (λ same. ap (λ n. bytes_eq n init_name) (name_is m.def.name name same) ∙ plain)
 
 -- a method of this name and prototype is new just where none of those has them
-new_by : (name : List ℕ) (proto : Proto) (ms : List Method) (m : Method) → has_key name proto m ≡ true → is_new ms m ≡ not (list_any (has_key name proto) ms)
+pub new_by : (name : List ℕ) (proto : Proto) (ms : List Method) (m : Method) → is_method_of name proto m ≡ true → is_new ms m ≡ not (list_any (is_method_of name proto) ms)
 new_by name proto ms m has =
     let parts = and_parts (bytes_eq m.def.name name) (same_proto m.def.proto proto) has in
     let named = name_is m.def.name name parts.0 in
     let typed = proto_is m.def.proto proto parts.1 in
-    λ j. not (list_any (has_key (named j) (typed j)) ms)
+    λ j. not (list_any (is_method_of (named j) (typed j)) ms)
 
 some_or : (o p : Option Method) → is_some (elim o as (λ _. Option Method) [ Some m ↦ Some m | None ↦ p ]) ≡ (is_some o || is_some p)
 some_or None p = refl
@@ -175,12 +166,12 @@ some_or (Some m) p = refl
 
 -- of a class and its superclasses some callable method has a name and prototype just where a look-up finds one
 pub along_agrees : (image : Image) (name : List ℕ) (proto : Proto) → bytes_eq name init_name ≡ false → (cs : List ℕ)
-    → list_any (has_key name proto) (callable_along image cs) ≡ is_some (first_of_classes image cs (is_virtual_of name proto))
+    → list_any (is_method_of name proto) (callable_along image cs) ≡ is_some (first_of_classes image cs (is_virtual_of name proto))
 along_agrees image name proto plain [] = refl
 along_agrees image name proto plain (c ∷ cs) =
     let above = callable_along image cs in
     let own = callable_of_class image c in
-    let key = has_key name proto in
+    let key = is_method_of name proto in
     list_any-append key above (filter (is_new above) own) ∙
     (ap (λ b. list_any key above || b) (any-filter_same key (is_new above) (not (list_any key above)) (new_by name proto above) own) ∙
     (or_not (list_any key above) (list_any key own) ∙
@@ -208,14 +199,6 @@ method_own image id m is =
 
 pub all_own : (image : Image) → All (IsOwn image) (all_methods image)
 all_own image = all_given (IsOwn image) (method_at image) (method_own image) (range_with_len 0 (length image.methods))
-
-along_own : (image : Image) (cs : List ℕ) → All (IsOwn image) (callable_along image cs)
-along_own image [] = All-nil (IsOwn image)
-along_own image (c ∷ cs) =
-    All-append (IsOwn image) (callable_along image cs) (filter (is_new (callable_along image cs)) (callable_of_class image c))
-    (along_own image cs)
-    (All-filter (is_new (callable_along image cs)) (IsOwn image) (callable_of_class image c)
-    (All-filter (λ m. nat_eq m.info.class.0 c && is_callable m) (IsOwn image) (all_methods image) (all_own image)))
 
 declared_has : (image : Image) (c : ℕ) (good : Method → Bool) (m : Method) → declared_by image c good ≡ Some m
     → IsOwn image m × ((nat_eq m.info.class.0 c && good m) ≡ true)
@@ -247,108 +230,6 @@ nearest_has image c name proto m is =
     let parts = first_has image (supers image c) (is_virtual_of name proto) m is in
     let keys = virtual_key (is_static m) (is_private m) (bytes_eq m.def.name name) (same_proto m.def.proto proto) parts.1 in
     (parts.0, (name_is m.def.name name keys.0, proto_is m.def.proto proto keys.1))
-
--- and is neither static nor private
-pub nearest_virtual : (image : Image) (c : ℕ) (name : List ℕ) (proto : Proto) (m : Method) → nearest image c name proto ≡ Some m → is_virtual_of name proto m ≡ true
-unfolding nearest
-nearest_virtual image c name proto m is = (first_has image (supers image c) (is_virtual_of name proto) m is).1
-
--- ---- a class's table by name and prototype
-
-abbrev entry_by : Option Method → ℕ → MethodId
-entry_by o id = record { 0 = elim o as (λ _. ℕ) [ None ↦ id | Some n ↦ n.id ] }
-
-entry_key : (image : Image) (c : ℕ) (name : List ℕ) (proto : Proto) (m : Method) → IsOwn image m → has_key_at image name proto (entry image c m) ≡ has_key name proto m
-entry_key image c name proto m own = here (nearest image c m.def.name m.def.proto) refl
-  where
-    key_of : Option Method → Bool
-    key_of o = elim o as (λ _. Bool) [ None ↦ false | Some n ↦ has_key name proto n ]
-
-    here : (o : Option Method) → nearest image c m.def.name m.def.proto ≡ o → has_key_at image name proto (entry_by o m.id) ≡ has_key name proto m
-    here None e = ap (λ (o : Option Method). elim o as (λ _. Bool) [ None ↦ false | Some n ↦ has_key name proto n ]) own
-    here (Some n) e =
-        let parts = nearest_has image c m.def.name m.def.proto n e in
-        ap (λ (o : Option Method). elim o as (λ _. Bool) [ None ↦ false | Some n ↦ has_key name proto n ]) parts.0 ∙
-        (λ j. bytes_eq (parts.1.0 j) name && same_proto (parts.1.1 j) proto)
-
-agree : (enter : Method → MethodId) (o n : Option Method) → is_some o ≡ is_some n → ((m : Method) → o ≡ Some m → enter m ≡ entry_by n m.id)
-    → option_map enter o ≡ option_map (λ m. record { 0 = m.id }) n
-agree enter None None same is = refl
-agree enter None (Some n) same is = absurd (cc)
-agree enter (Some m) None same is = absurd (cc)
-agree enter (Some m) (Some n) same is = ap Some (is m refl)
-
-found_agrees : (image : Image) (c : ℕ) (name : List ℕ) (proto : Proto) → bytes_eq name init_name ≡ false
-    → is_some (find (has_key name proto) (callable_along image (supers image c))) ≡ is_some (nearest image c name proto)
-unfolding nearest
-found_agrees image c name proto plain =
-    find_any (has_key name proto) (callable_along image (supers image c)) ∙ along_agrees image name proto plain (supers image c)
-
--- the first entry of a name and prototype is what a look-up lands on
-pub table_agrees : (image : Image) (c : ℕ) (name : List ℕ) (proto : Proto) → bytes_eq name init_name ≡ false
-    → find (has_key_at image name proto) (table_at image c) ≡ landing_of image c name proto
-table_agrees image c name proto plain =
-    find_made (IsOwn image) (entry image c) (has_key_at image name proto) (has_key name proto) (entry_key image c name proto) methods own ∙
-    agree (entry image c) (find (has_key name proto) methods) (nearest image c name proto) (found_agrees image c name proto plain) (λ m is.
-    let parts = find_has (IsOwn image) (has_key name proto) methods own m is in
-    let keys = and_parts (bytes_eq m.def.name name) (same_proto m.def.proto proto) parts.1 in
-    let named = name_is m.def.name name keys.0 in
-    let typed = proto_is m.def.proto proto keys.1 in
-    λ j. entry_by (nearest image c (named j) (typed j)) m.id)
-  where
-    methods : List Method
-    methods = callable_along image (supers image c)
-
-    own : All (IsOwn image) methods
-    own = along_own image (supers image c)
-
--- what an item at a place has by which it is found, so that one is found
-found_some : {X : Type 0} (test : X → Bool) (xs : List X) (p : ℕ) (x : X) → slice_get xs p ≡ Some x → test x ≡ true → is_some (find test xs) ≡ true
-found_some test [] p x there has = absurd (cc)
-found_some test (y ∷ ys) zero x there has =
-    let same : y ≡ x = cc in
-    ap (λ b. is_some (cond b (Some y) (find test ys))) (ap test same ∙ has)
-found_some {X} test (y ∷ ys) (suc p) x there has = here (test y) (found_some test ys p x there has)
-  where
-    here : (b : Bool) → is_some (find test ys) ≡ true → is_some (cond b (Some y) (find test ys)) ≡ true
-    here true rest = refl
-    here false rest = rest
-
--- an entry of a name and prototype has the nearest method of these
-entry_nearest : (image : Image) (c : ℕ) (name : List ℕ) (proto : Proto) (n : Method) → nearest image c name proto ≡ Some n
-    → (ms : List Method) → All (IsOwn image) ms → (p : ℕ) (id : MethodId) → slice_get (map (entry image c) ms) p ≡ Some id → has_key_at image name proto id ≡ true
-    → record { 0 = n.id } ≡ id
-entry_nearest image c name proto n is [] own p id there has = absurd (cc)
-entry_nearest image c name proto n is (m ∷ ms) own zero id there has =
-    let same : entry image c m ≡ id = cc in
-    let key = sym (entry_key image c name proto m (All-head (IsOwn image) m ms own)) ∙ (ap (has_key_at image name proto) same ∙ has) in
-    let keys = and_parts (bytes_eq m.def.name name) (same_proto m.def.proto proto) key in
-    let named = name_is m.def.name name keys.0 in
-    let typed = proto_is m.def.proto proto keys.1 in
-    let by : entry image c m ≡ entry_by (nearest image c name proto) m.id = λ j. entry_by (nearest image c (named j) (typed j)) m.id in
-    sym (by ∙ ap (λ o. entry_by o m.id) is) ∙ same
-entry_nearest image c name proto n is (m ∷ ms) own (suc p) id there has =
-    entry_nearest image c name proto n is ms (All-tail (IsOwn image) m ms own) p id there has
-
-abbrev number_in : Option Method → Option MethodId
-number_in o = option_map (λ m. record { 0 = m.id }) o
-
--- so each entry of a name and prototype is what a look-up lands on
-pub entry_lands : (image : Image) (c : ℕ) (name : List ℕ) (proto : Proto) → bytes_eq name init_name ≡ false
-    → (p : ℕ) (id : MethodId) → slice_get (table_at image c) p ≡ Some id → has_key_at image name proto id ≡ true → landing_of image c name proto ≡ Some id
-entry_lands image c name proto plain p id there has = here (nearest image c name proto) refl
-  where
-    some : is_some (landing_of image c name proto) ≡ true
-    some = ap is_some (sym (table_agrees image c name proto plain)) ∙ found_some (has_key_at image name proto) (table_at image c) p id there has
-
-    here : (o : Option Method) → nearest image c name proto ≡ o → landing_of image c name proto ≡ Some id
-    here None e =
-        let none : is_some (landing_of image c name proto) ≡ false = ap (λ (o : Option Method). is_some (number_in o)) e in
-        let both : true ≡ false = sym some ∙ none in
-        absurd (cc)
-    here (Some n) e =
-        ap number_in e ∙
-        ap Some (entry_nearest image c name proto n e (callable_along image (supers image c)) (along_own image (supers image c)) p id there has)
 
 -- ---- where there is no such class
 
@@ -394,10 +275,9 @@ walk_alone image (suc n) c good none =
     on_top (suc k) = refl
 
 -- a look-up from a class that isn't there finds nothing
-pub nearest_outside : (image : Image) (c : ℕ) (name : List ℕ) (proto : Proto) → slice_get image.classes c ≡ None → landing_of image c name proto ≡ None
+pub nearest_outside : (image : Image) (c : ℕ) (name : List ℕ) (proto : Proto) → slice_get image.classes c ≡ None → nearest image c name proto ≡ None
 unfolding nearest
-nearest_outside image c name proto none =
-    ap (option_map (λ (m : Method). record { 0 = m.id })) (walk_alone image (length image.classes) c (is_virtual_of name proto) none)
+nearest_outside image c name proto none = walk_alone image (length image.classes) c (is_virtual_of name proto) none
 
 -- ---- the tables of an image
 
@@ -426,6 +306,29 @@ image_table image is c info there =
     let placed = table_placed (slotted (own_numbered image)) (slotted (own_numbered image)).classes 0 c info (sym (ap (λ cs. slice_get cs c) made) ∙ there) in
     let z : 0 + c ≡ c = omega arith in
     rw z at placed ∙ alike_table_at (slotted (own_numbered image)) image (as_slotted image is) c
+
+-- and the classes that are initialised before it
+priors_placed : (before : Image) (cs : List ClassInfo) (a c : ℕ) (info : ClassInfo) → slice_get (map (class_with_table before) (enumerate_from a cs)) c ≡ Some info → info.prior ≡ priors_at before (a + c)
+priors_placed before [] a c info there = absurd (cc)
+priors_placed before (d ∷ cs) a zero info there =
+    let z : a + 0 ≡ a = omega arith in
+    let same : class_with_table before (a, d) ≡ info = cc in
+    rw z (ap (λ (i : ClassInfo). i.prior) (sym same))
+priors_placed before (d ∷ cs) a (suc c) info there =
+    let e : a + suc c ≡ (a + 1) + c = omega arith in
+    rw e (priors_placed before cs (a + 1) c info there)
+
+numbers_made : (ds : List ℕ) → numbers (map (λ d. record { 0 = d }) ds) ≡ ds
+numbers_made [] = refl
+numbers_made (d ∷ ds) = ap (λ es. d ∷ es) (numbers_made ds)
+
+pub image_prior : (image : Image) → IsImage image → (c : ℕ) (info : ClassInfo) → slice_get image.classes c ≡ Some info → numbers info.prior ≡ prior_at image c
+image_prior image is c info there =
+    let made : image.classes ≡ map (class_with_table (slotted (own_numbered image))) (enumerate_from 0 (slotted (own_numbered image)).classes) =
+    sym (ap (λ (i : Image). i.classes) (image_is image is)) ∙ classes_made (slotted (own_numbered image)) in
+    let placed = priors_placed (slotted (own_numbered image)) (slotted (own_numbered image)).classes 0 c info (sym (ap (λ cs. slice_get cs c) made) ∙ there) in
+    let z : 0 + c ≡ c = omega arith in
+    ap numbers (rw z at placed) ∙ (numbers_made (prior_at (slotted (own_numbered image)) c) ∙ alike_prior (slotted (own_numbered image)) image (as_slotted image is) c)
 
 -- ---- how many methods an image has
 

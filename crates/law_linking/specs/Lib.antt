@@ -1,4 +1,3 @@
 pub mod Stripped
 pub mod Ordered
-pub mod Landing
 pub mod FieldPlaces

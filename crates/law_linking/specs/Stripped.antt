@@ -8,7 +8,7 @@ use Rattle.dv_defs.specs.Images.{Image}
 use Rattle.dv_defs.specs.Pools.{Method, Field}
 
 abbrev pub class_stripped : ClassInfo → ClassInfo
-class_stripped c = record { def = c.def; parent = c.parent; interfaces = c.interfaces; slots = []; table = [] }
+class_stripped c = record { def = c.def; parent = c.parent; interfaces = c.interfaces; slots = []; table = []; prior = [] }
 
 abbrev pub method_info_stripped : MethodInfo → MethodInfo
 method_info_stripped m = record { class = m.class; place = m.place; types = []; fields = []; methods = [] }

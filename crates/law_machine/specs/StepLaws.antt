@@ -17,15 +17,15 @@ use Rattle.dv_typing.specs.declared.typing.RegState.{RegState}
 use Rattle.dv_defs.specs.Names.{thread_name}
 use Rattle.dv_defs.specs.Types.{of_class}
 use Rattle.dv_defs.specs.Parts.{Call}
-use Rattle.dv_defs.specs.Pools.{Method, Field, field_at, is_abstract, class_type}
+use Rattle.dv_defs.specs.Pools.{Method, Field, field_at, class_type}
 use Rattle.dv_defs.specs.Op.{Op, Invoke, Enter, Exit, Code, code_at, can_throw, is_local, is_return, needs}
 use Rattle.dv_typing.specs.Statics.{At}
 use Rattle.dv_typing.specs.RegTypes.{Types, type_at, reg_types}
 use Rattle.dv_typing.specs.Transfer.{entry_state, arg_types, begins_uninitialised, write_type, write_two, replaced, replaced_this}
 use Rattle.dv_machine.specs.Heap.{Heap, Got, kind_of, newest, alloc_object, alloc_array, alloc_string, intern, class_object, with_cell, with_static, length_of}
 use Rattle.dv_machine.specs.State.{Thread, Machine, Left, Did, Here, reg_at, with_heap}
-use Rattle.dv_machine.specs.Calls.{entered_frame, object_of, initialised, class_of_kind}
-use Rattle.dv_machine.specs.Threads.{is_living, new_thread, run_method}
+use Rattle.dv_machine.specs.Calls.{Lands, entered_frame, object_of, initialised, class_of_kind}
+use Rattle.dv_machine.specs.Threads.{is_living, new_thread, run_landing}
 use Rattle.dv_machine.specs.Step.{step, act, with_ready, record_step, settled, gone_on, moved_on}
 use Rattle.dv_machine.specs.Running.{blocked_thread, runnable, ending_of}
 use Rattle.dv_machine.specs.Mains.{IsMain}
@@ -246,8 +246,8 @@ MonitorStepsAreFine = StepsOf (λ op. ((a : ℕ) × (op ≡ Enter a)) ⊎ ((a : 
 abbrev pub NewThreadIsFine : Type 0
 NewThreadIsFine =
     (image : Image) (T : Typings) (heap : Heap) (n o : ℕ) (run : Method) → Accepted image T →
-    IsOf image heap o (of_class thread_name) → run_method image (class_of_kind image (kind_of heap o)) ≡ Some run →
-    is_abstract run ≡ false → StartedFine image T heap n (new_thread o run)
+    IsOf image heap o (of_class thread_name) → run_landing image (class_of_kind image (kind_of heap o)) ≡ Lands run →
+    StartedFine image T heap n (new_thread o run)
 
 -- ---- threads that don't go on
 

@@ -7,8 +7,8 @@ pub fn decoding_inverts_spelling()
     ensures law { DecodingInvertsSpelling }
 {}
 
-/// What look-ups find has the number, name, prototype and class that were asked for, in any image.
-#[tactic(auto, using(crate::proofs::lemmas::Bridge::LookUps::look_ups_find))]
+/// What look-ups find has the number, name, prototype and class that were asked for, and what is selected can be run, in any image.
+#[tactic(auto, using(crate::proofs::lemmas::Bridge::Selected::look_ups_find))]
 pub fn look_ups_find()
     ensures law { LookUpsFind }
 {}

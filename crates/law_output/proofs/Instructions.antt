@@ -7,7 +7,7 @@ use Rattle.dv_defs.specs.declared.names.Ty.{Ty}
 use Rattle.dv_defs.specs.declared.run.Native.{Native}
 use Rattle.dv_defs.specs.declared.run.Native.TheVariants as native
 use Rattle.dv_defs.specs.Parts.{Call, Width}
-use Rattle.dv_defs.specs.Pools.{Method, is_abstract, is_constructor, is_static}
+use Rattle.dv_defs.specs.Pools.{Method, is_constructor, is_static}
 use Rattle.dv_defs.specs.Op.{Op, is_local, IntDivide, LongDivide, ConstString, ConstClass, Cast, InstanceOf, ArrayLength, New, NewArray, Filled, Fill, Throw, ArrayGet, ArrayPut, FieldGet, FieldPut, StaticGet, StaticPut, Invoke, ReturnVoid, Return, Enter, Exit}
 use Rattle.dv_typing.specs.Statics.{At}
 use Rattle.dv_machine.specs.Classes.{ask_of}
@@ -83,9 +83,9 @@ wait_fine : (h : Here) (o : ℕ) (w : Option Wait) → Fine h (wait_step h o w)
 wait_fine h o None = holding_it_fine h _ _ (λ n. kept h _ refl)
 wait_fine h o (Some w) = taken_back_fine h w _ _
 
-started_fine : (h : Here) (o : ℕ) (m : Option Method) → Fine h (started_on h o m)
-started_fine h o None = silent h _ refl
-started_fine h o (Some m) = by_test h.shared.output (is_abstract m) _ _ (silent h _ refl) (kept h _ refl)
+started_fine : (h : Here) (o : ℕ) (l : Landing) → Fine h (started_on h o l)
+started_fine h o (Lacks n) = silent h _ refl
+started_fine h o (Lands m) = kept h _ refl
 
 start_fine : (h : Here) (o : ℕ) (u : Option ℕ) → Fine h (start_unless h o u)
 start_fine h o (Some u) = silent h _ refl

@@ -7,6 +7,8 @@ use Rattle.dv_machine.specs.Level as tagged_level
 use Rattle.dv_machine.specs.Pending.{Pending}
 use Rattle.dv_machine.specs.Pending as pending
 use Rattle.dv_defs.specs.declared.names.MethodId.{MethodId}
+use Rattle.dv_defs.specs.declared.image.Select.{Select}
+use Rattle.dv_defs.specs.declared.image.Select.TheVariants as select
 use Rattle.dv_defs.specs.declared.names.Ty.{Ty}
 use Rattle.dv_defs.specs.declared.run.Named.TheVariants as named
 use Rattle.dv_defs.specs.declared.run.Native.{Native}
@@ -19,14 +21,15 @@ use Rattle.dv_machine.specs.Heap as tagged
 use Rattle.dv_machine.specs.Heap.{Heap}
 use Rattle.dv_defs.specs.Images.{Image}
 use Rattle.dv_defs.specs.Order.{instance}
+use Rattle.dv_defs.specs.Selecting.{selected}
 use Rattle.dv_defs.specs.Parts.{Call, Width}
-use Rattle.dv_defs.specs.Pools.{Method, is_abstract, is_constructor, is_of_object, is_static, method_at, nearest, own_type, parent_at}
+use Rattle.dv_defs.specs.Pools.{Method, is_abstract, is_constructor, is_interface, is_of_object, is_static, method_at, own_type, parent_at}
 use Rattle.dv_typing.specs.Statics as statics
 use Rattle.dv_typing.specs.Statics.{arg_words, fetch}
 use Rattle.dv_defs.specs.Types.{is_long, words_of_all}
 use Rattle.dv_machine.specs.Accepted.{FindsRightly}
 use Rattle.dv_machine.specs.Calls as machine
-use Rattle.dv_machine.specs.Calls.{Landing, Lacks, Lands, native_of, nearest_from, signature, unless_abstract}
+use Rattle.dv_machine.specs.Calls.{Landing, Lacks, Lands, native_of, selected_from, signature, unless_abstract}
 use Rattle.dv_machine.specs.Natives as natives
 use Rattle.dv_machine.specs.Natives.{object_number}
 use Rattle.dv_machine.specs.State.{Did, Here, Left, Throws, reading, reg_at}
@@ -72,19 +75,18 @@ lands_itself image g b there is = by (is_abstract g)
     by true = tt
     by false = record { there = there; proto = refl; same_static = is }
 
-lands_nearest : (image : Image) (g : Method) (c : Option ℕ) → FindsRightly image → LandsOn image g false (nearest_from image c g)
-lands_nearest image g None finds = tt
-lands_nearest image g (Some c) finds = by (nearest image c g.def.name g.def.proto) refl
+lands_selected : (image : Image) (g : Method) (c : Option ℕ) → FindsRightly image → LandsOn image g false (selected_from image c g.def.name g.def.proto)
+lands_selected image g None finds = tt
+lands_selected image g (Some c) finds = by (selected image c g.def.name g.def.proto) refl
   where
-    abstract_or : (m : Method) → nearest image c g.def.name g.def.proto ≡ Some m → (a : Bool) → LandsOn image g false (if a then Lacks named.AbstractMethod else Lands m)
-    abstract_or m is true = tt
-    abstract_or m is false =
-        let found = finds.nearest_is c g.def.name g.def.proto m is in
-        record { there = found.0; proto = found.2; same_static = found.3 }
-
-    by : (o : Option Method) → nearest image c g.def.name g.def.proto ≡ o → LandsOn image g false (machine.found o)
-    by None is = tt
-    by (Some m) is = abstract_or m is (is_abstract m)
+    by : (s : Select) → selected image c g.def.name g.def.proto ≡ s → LandsOn image g false (machine.landing image s)
+    by (select.Found id) is =
+        let (m, there, good) = finds.selected_is c g.def.name g.def.proto id is in
+        let own : method_at image m.id ≡ Some m = ap (method_at image) (finds.methods id.0 m there) ∙ there in
+        let landed : Landed image g m false = record { there = own; proto = good.proto; same_static = good.instance } in
+        subst (λ (o : Option Method). LandsOn image g false (machine.on_method o)) (sym there) landed
+    by select.Abstract is = tt
+    by select.Clash is = tt
 
 -- ---- natives
 
@@ -195,34 +197,45 @@ module _ (w : steps.At) (h : Here) (stands : AtStands w h) where
   implements_is : (g : Method) (o : ℕ) → over.implements_it w.image w.shared.heap g o ≡ machine.implements_it h.image h.shared.heap g o
   implements_is g o = ap (λ i. instance i (type_of i w.shared.heap o) (own_type i g)) stands.image ∙ ap (λ t. instance h.image t (own_type h.image g)) (type_is h.image w.shared.heap h.shared.heap o stands.shared.heap)
 
-  nearest_alike : (g : Method) (o : ℕ) → nearest_from w.image (class_of_kind w.image (words.kind_of w.shared.heap o)) g ≡ nearest_from h.image (machine.class_of_kind h.image (tagged.kind_of h.shared.heap o)) g
-  nearest_alike g o = ap (λ i. nearest_from i (class_of_kind w.image (words.kind_of w.shared.heap o)) g) stands.image ∙ ap (λ c. nearest_from h.image c g) (class_is w h stands o)
+  lacks_is : (g : Method) (o : ℕ) → over.lacks_interface w.image w.shared.heap g o ≡ machine.lacks_interface h.image h.shared.heap g o
+  lacks_is g o =
+      ap (λ i. is_interface i g.info.class.0 && not (over.implements_it w.image w.shared.heap g o)) stands.image ∙
+      ap (λ b. is_interface h.image g.info.class.0 && not b) (implements_is g o)
 
-  interface_by : (g : Method) (a b : Bool) (l m : Landing) → a ≡ b → l ≡ m → (if a then l else Lacks named.ClassChange) ≡ (if b then m else Lacks named.ClassChange)
-  interface_by g true true l m e f = f
-  interface_by g false false l m e f = refl
-  interface_by g true false l m e f = absurd (cc)
-  interface_by g false true l m e f = absurd (cc)
+  selected_alike : (g : Method) (o : ℕ) → selected_from w.image (class_of_kind w.image (words.kind_of w.shared.heap o)) g.def.name g.def.proto ≡ selected_from h.image (machine.class_of_kind h.image (tagged.kind_of h.shared.heap o)) g.def.name g.def.proto
+  selected_alike g o =
+      ap (λ i. selected_from i (class_of_kind w.image (words.kind_of w.shared.heap o)) g.def.name g.def.proto) stands.image ∙
+      ap (λ c. selected_from h.image c g.def.name g.def.proto) (class_is w h stands o)
+
+  object_alike : (g : Method) (o : ℕ) → over.by_object w.image w.shared.heap g o ≡ machine.by_object h.image h.shared.heap g o
+  object_alike g o =
+      ap (λ b. if b then Lacks named.ClassChange else selected_from w.image (class_of_kind w.image (words.kind_of w.shared.heap o)) g.def.name g.def.proto) (lacks_is g o) ∙
+      ap (λ l. if machine.lacks_interface h.image h.shared.heap g o then Lacks named.ClassChange else l) (selected_alike g o)
 
   dispatch_is : (c : Call) (g : Method) (o : ℕ) → over.dispatch w.image w.shared.heap w.own c g o ≡ machine.dispatch h.image h.shared.heap h.own c g o
   unfolding machine.dispatch
   dispatch_is Call.Static g o = refl
   dispatch_is Call.Direct g o = refl
-  dispatch_is Call.Super g o = ap (λ i. nearest_from i (parent_at i w.own.info.class.0) g) stands.image ∙ ap (λ (m : Method). nearest_from h.image (parent_at h.image m.info.class.0) g) stands.own
-  dispatch_is Call.Virtual g o = nearest_alike g o
-  dispatch_is Call.Interface g o = interface_by g _ _ _ _ (implements_is g o) (nearest_alike g o)
+  dispatch_is Call.Super g o =
+      ap (λ i. selected_from i (parent_at i w.own.info.class.0) g.def.name g.def.proto) stands.image ∙
+      ap (λ (m : Method). selected_from h.image (parent_at h.image m.info.class.0) g.def.name g.def.proto) stands.own
+  dispatch_is Call.Virtual g o = object_alike g o
+  dispatch_is Call.Interface g o = object_alike g o
+
+  lands_by_object : (g : Method) (o : ℕ) → FindsRightly h.image → LandsOn h.image g false (machine.by_object h.image h.shared.heap g o)
+  lands_by_object g o finds = by (machine.lacks_interface h.image h.shared.heap g o)
+    where
+      by : (b : Bool) → LandsOn h.image g false (if b then Lacks named.ClassChange else selected_from h.image (machine.class_of_kind h.image (tagged.kind_of h.shared.heap o)) g.def.name g.def.proto)
+      by true = tt
+      by false = lands_selected h.image g (machine.class_of_kind h.image (tagged.kind_of h.shared.heap o)) finds
 
   lands_dispatched : (c : Call) (g : Method) (o : ℕ) → FindsRightly h.image → method_at h.image g.id ≡ Some g → is_static g ≡ false → LandsOn h.image g false (machine.dispatch h.image h.shared.heap h.own c g o)
   unfolding machine.dispatch
   lands_dispatched Call.Static g o finds there is = lands_itself h.image g false there is
   lands_dispatched Call.Direct g o finds there is = lands_itself h.image g false there is
-  lands_dispatched Call.Super g o finds there is = lands_nearest h.image g (parent_at h.image h.own.info.class.0) finds
-  lands_dispatched Call.Virtual g o finds there is = lands_nearest h.image g (machine.class_of_kind h.image (tagged.kind_of h.shared.heap o)) finds
-  lands_dispatched Call.Interface g o finds there is = by (machine.implements_it h.image h.shared.heap g o)
-    where
-      by : (b : Bool) → LandsOn h.image g false (if b then nearest_from h.image (machine.class_of_kind h.image (tagged.kind_of h.shared.heap o)) g else Lacks named.ClassChange)
-      by true = lands_nearest h.image g (machine.class_of_kind h.image (tagged.kind_of h.shared.heap o)) finds
-      by false = tt
+  lands_dispatched Call.Super g o finds there is = lands_selected h.image g (parent_at h.image h.own.info.class.0) finds
+  lands_dispatched Call.Virtual g o finds there is = lands_by_object g o finds
+  lands_dispatched Call.Interface g o finds there is = lands_by_object g o finds
 
   count_instance : (g : Method) (k : ℕ) (ks : List ℕ) → is_static g ≡ false → length (k ∷ ks) ≡ arg_words g → length ks ≡ words_of_all g.def.proto.params
   count_instance g k ks is count =

@@ -21,7 +21,7 @@ use Rattle.dv_defs.specs.Numbers.{elements, jump, low_first, signed_at}
 use Rattle.dv_defs.specs.Op.{Arg, class_of_base, Code, Op, Resolved, IntDivide, IntOp, LongDivide, LongOp, LongShift, New, StaticGet, StaticPut, ConstString, FieldGet, FieldPut, Fill, Invoke, code_at, fill_op, int_op, long_op, move_op, new_op, on_pool, op_of, packed_op, resolve, resolve_by, resolved_field, resolved_method, result_op, sparse_op}
 use Rattle.dv_defs.specs.Parts.{Bin, Call, Suffix, Width, is_division, is_shift}
 use Rattle.dv_defs.specs.Pools.{Field, Method, field_at, is_interface, is_static_field, method_at}
-use Rattle.dv_typing.specs.Statics.{arg_words, fetch, fetch_in, fits_call, fits_instance_field, insn_rules, is_of_suffix, moves_on, op_rules, registers_below, resolved_rules, unless}
+use Rattle.dv_typing.specs.Statics.{arg_words, fetch, fetch_in, fits_call, fits_instance_field, insn_rules, is_of_suffix, moves_on, op_rules, referred, registers_below, resolved_rules, unless}
 use Rattle.dv_defs.specs.Tiling.{IsInsn, IsPayload, Piece, SizedPayload, begins_payload, bytes_in, data_in, data_of, data_from, doubles, insn_piece, is_width, packed_with, payload_at, payload_of, payload_piece, piece_here, sparse_with}
 use Rattle.dv_defs.specs.Types.{is_array}
 use Rattle.dv_words.specs.Standing.{FitsInt}
@@ -47,9 +47,9 @@ kept_to : (b : Bool) (r : Rule) → unless b r ≡ [] → b ≡ true
 kept_to true r e = refl
 kept_to false r e = absurd (cc)
 
-no_fault : (image : Image) (code : Code) (at : ℕ) (i : Insn) (op : Op) → op_of image code at i ≡ Ok op → insn_rules image code at i ≡ [] → op_rules image code op ≡ []
+no_fault : (image : Image) (code : Code) (at : ℕ) (i : Insn) (op : Op) → op_of image code at i ≡ Ok op → insn_rules image code at i ≡ [] → op_rules image code (referred code i) op ≡ []
 no_fault image code at i op is rules =
-    sym (ap (resolved_rules image code) is) ∙ none_left (unless (moves_on i) (rule.S 5) ++ unless (registers_below code.body.registers i) (rule.S 11)) (resolved_rules image code (op_of image code at i)) rules
+    sym (ap (resolved_rules image code (referred code i)) is) ∙ none_left (unless (moves_on i) (rule.S 5) ++ unless (registers_below code.body.registers i) (rule.S 11)) (resolved_rules image code (referred code i) (op_of image code at i)) rules
 
 -- ---- payloads
 
@@ -154,7 +154,7 @@ payload_fits image n code at p has e =
 
 -- ---- each family
 
-module _ (image : Image) (n : ℕ) (code : Code) (at : ℕ) (i : Insn) (op : Op) (image_fits : ImageFits image) (strings : StringsFit image) (has : code_at image n ≡ Some code) (rules : op_rules image code op ≡ []) (literal : has_literal (family_at i.op) ≡ true → FitsInt i.lit) where
+module _ (image : Image) (n : ℕ) (code : Code) (at : ℕ) (i : Insn) (op : Op) (image_fits : ImageFits image) (strings : StringsFit image) (has : code_at image n ≡ Some code) (rules : op_rules image code (referred code i) op ≡ []) (literal : has_literal (family_at i.op) ≡ true → FitsInt i.lit) where
   abbrev Is : Resolved → Type 0
   Is r = r ≡ Ok op
 
@@ -231,13 +231,13 @@ module _ (image : Image) (n : ℕ) (code : Code) (at : ℕ) (i : Insn) (op : Op)
 
   got_field : (s : Suffix) (a b k : ℕ) (x : Field) → field_at image k ≡ Some x → FieldGet s a b x ≡ op → Fit image op
   got_field s a b k x there same =
-      let none : op_rules image code (FieldGet s a b x) ≡ [] = ap (op_rules image code) same ∙ rules in
+      let none : op_rules image code (referred code i) (FieldGet s a b x) ≡ [] = ap (op_rules image code (referred code i)) same ∙ rules in
       let (instance, concrete) = instance_field s x none in
       subst (Fit image) same (image_fits.no_strings k x there instance concrete, tt)
 
   put_field : (s : Suffix) (a b k : ℕ) (x : Field) → field_at image k ≡ Some x → FieldPut s a b x ≡ op → Fit image op
   put_field s a b k x there same =
-      let none : op_rules image code (FieldPut s a b x) ≡ [] = ap (op_rules image code) same ∙ rules in
+      let none : op_rules image code (referred code i) (FieldPut s a b x) ≡ [] = ap (op_rules image code (referred code i)) same ∙ rules in
       let (instance, concrete) = instance_field s x none in
       subst (Fit image) same (image_fits.no_strings k x there instance concrete, tt)
 
@@ -249,8 +249,8 @@ module _ (image : Image) (n : ℕ) (code : Code) (at : ℕ) (i : Insn) (op : Op)
       by None is d = absurd (cc)
       by (Some g) is d =
           let same = same_op (Invoke c ks g) op d in
-          let none : op_rules image code (Invoke c ks g) ≡ [] = ap (op_rules image code) same ∙ rules in
-          let count = kept_to (nat_eq (length ks) (arg_words g)) (rule.S 15) (none_left (unless (fits_call image code.method c g) (rule.S 14)) (unless (nat_eq (length ks) (arg_words g)) (rule.S 15)) none) in
+          let none : op_rules image code (referred code i) (Invoke c ks g) ≡ [] = ap (op_rules image code (referred code i)) same ∙ rules in
+          let count = kept_to (nat_eq (length ks) (arg_words g)) (rule.S 15) (none_left (unless (fits_call image code.method (referred code i) c g) (rule.S 14)) (unless (nat_eq (length ks) (arg_words g)) (rule.S 15)) none) in
           let words : length ks ≡ arg_words g = grind (arith, nat_tests, count) in
           let own : method_at image g.id ≡ Some g = ap (method_at image) (image_fits.finds.methods m.0 g is) ∙ is in
           subst (Fit image) same (tt, (words, own))

@@ -16,6 +16,7 @@ use Rattle.dv_typing.specs.Flow.{Catcher}
 use Rattle.dv_machine.specs.Heap as tagged
 use Rattle.dv_machine.specs.Heap.{Heap, class_cells}
 use Rattle.dv_defs.specs.Images.{Image}
+use Rattle.dv_defs.specs.Prior.{prior_at}
 use Rattle.dv_defs.specs.Names.{error_name}
 use Rattle.dv_defs.specs.Op.{Op}
 use Rattle.dv_defs.specs.Order.{instance}
@@ -96,7 +97,7 @@ module _ (w : steps.At) (h : Here) (stands : AtStands w h) where
 
   pub record_stands : (c : ℕ) (r : Bool) → OutcomeStands (over.record_step w c r) (step.record_step h c r)
   record_stands c true = ended_stands c Ready
-  record_stands c false = subst (λ i. OutcomeStands (over.look_at w c (step.prior i c)) (step.record_step h c false)) (sym stands.image) (looks_at c (step.prior h.image c))
+  record_stands c false = subst (λ i. OutcomeStands (over.look_at w c (prior_at i c)) (step.record_step h c false)) (sym stands.image) (looks_at c (prior_at h.image c))
 
   -- ---- flight
 

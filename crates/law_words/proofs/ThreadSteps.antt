@@ -1,12 +1,11 @@
 -- Monitors, waiting, starting and joining on words go where the tagged machine's go.
 use Rattle.std.proofs.Common.{◌≡◌, ℕ, zero, suc, ◌-◌, ◌++◌, Bool, true, false, Option, Some, None, List, [], ◌∷◌, length, replicate, refl, sym, ap, ◌∙◌, subst}
-use Rattle.std.specs.Prelude.{if◌then◌else◌, nat_eq, nat_lt, slice_get}
+use Rattle.std.specs.Prelude.{nat_eq, nat_lt, slice_get}
 use Rattle.std.specs.List.{AllZip}
 use Rattle.std.specs.Option.{option_map}
 use Rattle.dv_defs.specs.declared.machine.End.{End}
 use Rattle.dv_defs.specs.declared.machine.End.TheVariants as end
 use Rattle.dv_machine.specs.Kind as tagged_kind
-use Rattle.dv_machine.specs.Level as level_of_tagged
 use Rattle.dv_defs.specs.declared.run.Limits.{Limits}
 use Rattle.dv_defs.specs.declared.run.Named.TheVariants as named
 use Rattle.dv_machine.specs.Value.{Value}
@@ -14,12 +13,12 @@ use Rattle.dv_machine.specs.Value as v
 use Rattle.dv_machine.specs.Heap as tagged
 use Rattle.dv_defs.specs.Images.{Image}
 use Rattle.dv_machine.specs.Monitors.{Held, Monitors, Wait, entered, exited, held_of, notified_all, notified_one, owner_of, resumed, wait_of, waiting}
-use Rattle.dv_defs.specs.Pools.{Method, is_abstract}
+use Rattle.dv_defs.specs.Pools.{Method}
 use Rattle.dv_machine.specs.Calls as calls
-use Rattle.dv_machine.specs.State.{gone as tagged_gone}
-use Rattle.dv_machine.specs.State.{Did, Go, Here, Left, Thread, Throws, with_monitors}
+use Rattle.dv_machine.specs.Calls.{Landing, Lacks, Lands}
+use Rattle.dv_machine.specs.State.{Did, Here, Left, Thread, with_monitors}
 use Rattle.dv_machine.specs.Threads as machine
-use Rattle.dv_words.specs.declared.state.Level.TheVariants as level
+use Rattle.dv_machine.specs.Threads.{run_landing}
 use Rattle.dv_words.specs.Erasure.{erased_kind}
 use Rattle.dv_words.specs.Heaps as words
 use Rattle.dv_words.specs.Stacks as stacks
@@ -181,29 +180,22 @@ module _ (w : steps.At) (h : Here) (stands : AtStands w h) where
   with_is : (o : ℕ) → over.thread_with w.threads o ≡ machine.thread_with h.threads o
   with_is o = thread_from_is w.threads h.threads 0 o stands.threads
 
-  started_by : (o : ℕ) (m : Option Method) → OutcomeStands (over.started_on w o m) (machine.started_on h o m)
-  started_by o None = refl
-  started_by o (Some m) = by (is_abstract m)
-    where
-      by : (b : Bool) → OutcomeStands
-          (if b then Throws named.AbstractMethod else Go (record { levels = level.Code (stacks.gone w.frame w.next) ∷ w.rest; shared = w.shared; started = Some (over.new_thread o m) }))
-          (if b then Throws named.AbstractMethod else Go (record { levels = level_of_tagged.Code (tagged_gone h.frame h.next h.frame.regs) ∷ h.rest; shared = h.shared; started = Some (machine.new_thread o m) }))
-      by true = refl
-      by false = record { levels = (gone_stands w h stands, stands.rest); shared = stands.shared; started = record { levels = (entered_stands m (o ∷ []) (v.Ref o ∷ []) false (refl, tt), tt); end = refl; object = refl }; bounded = stands.bounded }
+  started_by : (o : ℕ) (l : Landing) → OutcomeStands (over.started_on w o l) (machine.started_on h o l)
+  started_by o (Lacks n) = refl
+  started_by o (Lands m) = record { levels = (gone_stands w h stands, stands.rest); shared = stands.shared; started = record { levels = (entered_stands m (o ∷ []) (v.Ref o ∷ []) false (refl, tt), tt); end = refl; object = refl }; bounded = stands.bounded }
+
+  run_is : (o : ℕ) → run_landing w.image (over.class_of_kind w.image (words.kind_of w.shared.heap o)) ≡ run_landing h.image (calls.class_of_kind h.image (tagged.kind_of h.shared.heap o))
+  run_is o =
+      ap (λ i. run_landing i (over.class_of_kind w.image (words.kind_of w.shared.heap o))) stands.image ∙ ap (run_landing h.image) (class_is o)
 
   start_by : (o : ℕ) (u : Option ℕ) → OutcomeStands (over.start_unless w o u) (machine.start_unless h o u)
   start_by o (Some u) = refl
   start_by o None =
       let few : nat_lt (length w.threads) w.limits.threads ≡ nat_lt (length h.threads) h.limits.threads =
       ap (λ (n : ℕ). nat_lt n w.limits.threads) (count_threads w.threads h.threads stands.threads) ∙ ap (λ (l : Limits). nat_lt (length h.threads) l.threads) stands.limits in
-      let found : over.run_method w.image (over.class_of_kind w.image (words.kind_of w.shared.heap o)) ≡ machine.run_method h.image (calls.class_of_kind h.image (tagged.kind_of h.shared.heap o)) =
-      ap (λ i. over.run_method i (over.class_of_kind w.image (words.kind_of w.shared.heap o))) stands.image ∙ ap (over.run_method h.image) (class_is o) ∙ run_by (calls.class_of_kind h.image (tagged.kind_of h.shared.heap o)) in
-      where_alike _ _ named.OutOfMemory (over.started_on w o (over.run_method w.image (over.class_of_kind w.image (words.kind_of w.shared.heap o)))) (machine.started_on h o (machine.run_method h.image (calls.class_of_kind h.image (tagged.kind_of h.shared.heap o)))) few
-      (subst (λ (m : Option Method). OutcomeStands (over.started_on w o m) (machine.started_on h o (machine.run_method h.image (calls.class_of_kind h.image (tagged.kind_of h.shared.heap o))))) (sym found) (started_by o (machine.run_method h.image (calls.class_of_kind h.image (tagged.kind_of h.shared.heap o)))))
-    where
-      run_by : (c : Option ℕ) → over.run_method h.image c ≡ machine.run_method h.image c
-      run_by None = refl
-      run_by (Some c) = refl
+      let l = run_landing h.image (calls.class_of_kind h.image (tagged.kind_of h.shared.heap o)) in
+      where_alike _ _ named.OutOfMemory (over.started_on w o (run_landing w.image (over.class_of_kind w.image (words.kind_of w.shared.heap o)))) (machine.started_on h o l) few
+      (subst (λ (k : Landing). OutcomeStands (over.started_on w o k) (machine.started_on h o l)) (sym (run_is o)) (started_by o l))
 
   pub start_stands : (o : ℕ) → OutcomeStands (over.start_on w o) (machine.start_on h o)
   start_stands o = subst (λ (u : Option ℕ). OutcomeStands (over.start_unless w o u) (machine.start_on h o)) (sym (with_is o)) (start_by o (machine.thread_with h.threads o))

@@ -5,6 +5,7 @@ pub mod Verifying
 pub mod Typing
 pub mod Statics
 pub mod Objects
+pub mod Selecting
 pub mod Exceptions
 pub mod Classes
 pub mod Threads

@@ -2,9 +2,10 @@
 use Rattle.std.specs.Prelude.{ℕ, ◌++◌, List, [], ◌∷◌, Some, None, codes}
 use Rattle.dv_defs.specs.declared.class.MethodDef.{MethodDef}
 use Rattle.dv_defs.specs.declared.image.ClassInfo.{ClassInfo}
+use Rattle.dv_defs.specs.declared.image.Select.TheVariants as select
 use Rattle.dv_defs.specs.Types.{of_class}
 use Rattle.dv_defs.specs.Common.{array_of}
-use Rattle.test_machine.specs.Images.{of_int, of_long, of_char, of_boolean, body, body_with, method, field, class, naming, method_ref, field_ref, object_init_ref, linked}
+use Rattle.test_machine.specs.Images.{of_int, of_long, of_char, of_boolean, body, body_with, method, field, class, naming, method_ref, field_ref, object_init_ref, found, linked_selecting, linked}
 
 --   .class Ljava/lang/Object;
 --   .method constructor <init>()V
@@ -43,7 +44,7 @@ object_class =
 --   .end method
 abbrev pub runnable_class : ClassInfo
 runnable_class =
-    linked (Some 0) [] [] (1 ∷ 2 ∷ 3 ∷ 4 ∷ 5 ∷ [])
+    linked_selecting (Some 0) [] [] (found (1 ∷ 2 ∷ 3 ∷ 4 ∷ []) ++ select.Abstract ∷ [])
     (class (codes "Ljava/lang/Runnable;") (Some (codes "Ljava/lang/Object;")) [] 0x1800 []
     (method (codes "run") [] None 0x1000 None ∷ []))
 

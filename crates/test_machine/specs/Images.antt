@@ -1,6 +1,6 @@
 -- How the examples write images: whole, as linking makes them of the definitions in them; the crate law_linked shows it of each.
 -- Lines are left out, and flags that say nothing to the machine, as `public` and `constructor`.
-use Rattle.std.specs.Prelude.{ℕ, false, List, [], ◌∷◌, map, Option, Some, None, codes}
+use Rattle.std.specs.Prelude.{ℕ, true, false, List, [], ◌∷◌, map, Option, Some, None, codes, option_to_list}
 use Rattle.dv_defs.specs.declared.names.Base.TheVariants as base
 use Rattle.dv_defs.specs.declared.names.Ty.{Ty}
 use Rattle.dv_defs.specs.declared.names.FieldRef.{FieldRef}
@@ -11,6 +11,8 @@ use Rattle.dv_defs.specs.declared.names.FieldId.{FieldId}
 use Rattle.dv_defs.specs.declared.code.Body.{Body}
 use Rattle.dv_defs.specs.declared.code.Try.{Try}
 use Rattle.dv_defs.specs.declared.code.Handler.{Handler}
+use Rattle.dv_defs.specs.declared.flags.Flag.TheVariants as flag
+use Rattle.dv_defs.specs.Flags.{has_flag}
 use Rattle.dv_defs.specs.declared.class.Init.{Init}
 use Rattle.dv_defs.specs.declared.class.Init.TheVariants as init
 use Rattle.dv_defs.specs.declared.class.ClassDef.{ClassDef}
@@ -19,6 +21,8 @@ use Rattle.dv_defs.specs.declared.class.MethodDef.{MethodDef}
 use Rattle.dv_defs.specs.declared.image.ClassInfo.{ClassInfo}
 use Rattle.dv_defs.specs.declared.image.FieldInfo.{FieldInfo}
 use Rattle.dv_defs.specs.declared.image.MethodInfo.{MethodInfo}
+use Rattle.dv_defs.specs.declared.image.Select.{Select}
+use Rattle.dv_defs.specs.declared.image.Select.TheVariants as select
 use Rattle.dv_defs.specs.Types.{of_base, of_class}
 
 abbrev pub of_int : Ty
@@ -123,16 +127,33 @@ class name parent interfaces flags fields methods =
       line = 0;
     }
 
--- a class with what linking finds: its superclass, its interfaces, the fields of an object, the table of methods
-abbrev pub linked : Option ℕ → List ℕ → List ℕ → List ℕ → ClassDef → ClassInfo
-linked parent interfaces slots table def =
+-- before a class its superclass is initialised, before an interface nothing
+abbrev pub before : ClassDef → Option ℕ → List ClassId
+before def parent = elim (has_flag def.flags flag.Interface) [ true ↦ [] | false ↦ option_to_list (numbered parent) ]
+
+-- a class with what linking finds: its superclass, its interfaces, the fields of an object, what calls on an object select
+abbrev pub linked_selecting : Option ℕ → List ℕ → List ℕ → List Select → ClassDef → ClassInfo
+linked_selecting parent interfaces slots table def =
     record {
       def = def;
       parent = numbered parent;
       interfaces = class_ids interfaces;
       slots = field_ids slots;
-      table = method_ids table;
+      table = table;
+      prior = before def parent;
     }
+
+-- where interfaces with default methods are initialised before it too
+abbrev pub initialised_after : List ℕ → ClassInfo → ClassInfo
+initialised_after cs c = record c { prior = class_ids cs }
+
+-- methods that are selected
+abbrev pub found : List ℕ → List Select
+found ms = map (λ m. select.Found (record { 0 = m })) ms
+
+-- where each call selects a method
+abbrev pub linked : Option ℕ → List ℕ → List ℕ → List ℕ → ClassDef → ClassInfo
+linked parent interfaces slots table def = linked_selecting parent interfaces slots (found table) def
 
 -- class and place, with the types, fields and methods that the body names
 abbrev pub info : ℕ → ℕ → List Ty → List ℕ → List ℕ → MethodInfo

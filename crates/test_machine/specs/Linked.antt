@@ -9,6 +9,7 @@ use Rattle.test_machine.specs.Verifying.{boot_alone, unwritten, written, half_wr
 use Rattle.test_machine.specs.Typing.{falling, wrong_class, moved_int, no_result_left, nothing_caught, mixed, no_array, constructed_twice, early, wrong_form, puts_upper}
 use Rattle.test_machine.specs.Statics.{raw_bodies}
 use Rattle.test_machine.specs.Objects.{calling, arrays, texts}
+use Rattle.test_machine.specs.Selecting.{defaults}
 use Rattle.test_machine.specs.Exceptions.{exiting, throwing}
 use Rattle.test_machine.specs.Classes.{crossing, failing, ordering, failing_main}
 use Rattle.test_machine.specs.Threads.{waiting_program, boxing, summing}
@@ -20,7 +21,7 @@ use Rattle.test_machine.specs.Seeded.{four_steps, two_threads}
 unfoldable pub accepted_examples : List Image
 accepted_examples =
     adding ∷ switching ∷ boot_alone ∷ written ∷ null_and_zero ∷ one_a_turn ∷ inner ∷ calling ∷ arrays ∷
-    texts ∷ exiting ∷ throwing ∷ crossing ∷ failing ∷ waiting_program ∷ boxing ∷ summing ∷ []
+    texts ∷ defaults ∷ exiting ∷ throwing ∷ crossing ∷ failing ∷ waiting_program ∷ boxing ∷ summing ∷ []
 
 -- all others, those that it refuses among them
 unfoldable pub further_examples : List Image

@@ -1,11 +1,12 @@
 -- Examples: objects, calls and strings.
-use Rattle.std.specs.Prelude.{◌≡◌, [], ◌∷◌, Some, None, negsuc, codes}
+use Rattle.std.specs.Prelude.{◌≡◌, ◌++◌, [], ◌∷◌, Some, None, negsuc, codes}
 use Rattle.dv_defs.specs.Images.{Image}
 use Rattle.dv_defs.specs.declared.class.Init.TheVariants as init
+use Rattle.dv_defs.specs.declared.image.Select.TheVariants as select
 use Rattle.dv_defs.specs.Types.{of_class}
 use Rattle.dv_defs.specs.Common.{array_of}
 use Rattle.dv_typing.specs.Accepting.{Accepts}
-use Rattle.test_machine.specs.Images.{of_int, of_long, of_boolean, of_byte, body, body_with, method, field, with_init, class, info, field_info, of_char, naming, method_ref, field_ref, println_ref, object_init_ref, linked}
+use Rattle.test_machine.specs.Images.{of_int, of_long, of_boolean, of_byte, body, body_with, method, field, with_init, class, info, field_info, of_char, naming, method_ref, field_ref, println_ref, object_init_ref, found, linked_selecting, linked}
 use Rattle.test_machine.specs.BootImage.{with_boot}
 use Rattle.test_machine.specs.Outcomes.{lines, outcome}
 
@@ -199,11 +200,11 @@ calling = with_boot
     ∷ method (codes "run") [] None 0
     (Some (naming [] (method_ref (codes "LUpper;") (codes "run") [] None ∷ println_ref ∷ [])
     (body 2 (0x106f ∷ 0x0000 ∷ 0x0001 ∷ 0x2012 ∷ 0x1071 ∷ 0x0001 ∷ 0x0000 ∷ 0x000e ∷ [])))) ∷ [])) ∷
-    linked (Some 0) (1 ∷ []) [] (1 ∷ 2 ∷ 3 ∷ 4 ∷ [])
+    linked_selecting (Some 0) (1 ∷ []) [] (found (1 ∷ 2 ∷ 3 ∷ 4 ∷ []) ++ select.Abstract ∷ [])
     (class (codes "LBare;") (Some (codes "Ljava/lang/Object;")) (codes "Ljava/lang/Runnable;" ∷ []) 0x1000 []
     (method (codes "<init>") [] None 0 (Some (naming [] (object_init_ref ∷ [])
     (body 1 (0x1070 ∷ 0x0000 ∷ 0x0000 ∷ 0x000e ∷ [])))) ∷ [])) ∷
-    linked (Some 36) [] [] (1 ∷ 2 ∷ 3 ∷ 4 ∷ [])
+    linked_selecting (Some 36) [] [] (found (1 ∷ 2 ∷ 3 ∷ 4 ∷ []) ++ select.Abstract ∷ [])
     (class (codes "LEmpty;") (Some (codes "LBare;")) [] 0 []
     (method (codes "<init>") [] None 0 (Some (naming [] (method_ref (codes "LBare;") (codes "<init>") [] None ∷ [])
     (body 1 (0x1070 ∷ 0x0000 ∷ 0x0000 ∷ 0x000e ∷ [])))) ∷ [])) ∷ [])

@@ -2,6 +2,7 @@
 use Rattle.std.specs.Prelude.{◌≡◌, [], ◌∷◌, Some, None, codes}
 use Rattle.dv_defs.specs.Images.{Image}
 use Rattle.dv_defs.specs.Types.{of_class}
+use Rattle.dv_defs.specs.Pools.{no_arguments}
 use Rattle.dv_defs.specs.Common.{array_of}
 use Rattle.test_machine.specs.Images.{of_int, of_char, catch_type, catch_all, entry_over, body, body_with, method, field, class, info, field_info, naming, method_ref, field_ref, linked}
 use Rattle.test_machine.specs.BootImage.{with_boot}
@@ -194,6 +195,21 @@ use Rattle.test_machine.specs.Passes.{faults_of, S, V}
 --   .registers 1
 --   .units 0228 0112 001a 0000 000e
 --   .end method
+--   .method static virtual_interface()V
+--   .registers 1
+--   .rawref Ljava/lang/Runnable;->run()V
+--   .units 106e 0000 0000 000e
+--   .end method
+--   .method static super_interface()V
+--   .registers 1
+--   .rawref Ljava/lang/Runnable;->run()V
+--   .units 106f 0000 0000 000e
+--   .end method
+--   .method static super_array()V
+--   .registers 1
+--   .rawref [I->notify()V
+--   .units 106f 0000 0000 000e
+--   .end method
 abbrev pub raw_bodies : Image
 raw_bodies = with_boot
     (linked (Some 0) [] (5 ∷ []) (1 ∷ 2 ∷ 3 ∷ 4 ∷ [])
@@ -265,7 +281,16 @@ raw_bodies = with_boot
     ∷ method (codes "all_not_last") [] None 8
     (Some (body_with 0 (0x0000 ∷ 0x000e ∷ []) (entry_over 0 1 (catch_all 1 ∷ catch_type 0 1 ∷ []) ∷ [])
     [] (of_class (codes "Ljava/lang/Error;") ∷ [])))
-    ∷ method (codes "several") [] None 8 (Some (body 1 (0x0228 ∷ 0x0112 ∷ 0x001a ∷ 0x0000 ∷ 0x000e ∷ []))) ∷ [])) ∷ [])
+    ∷ method (codes "several") [] None 8 (Some (body 1 (0x0228 ∷ 0x0112 ∷ 0x001a ∷ 0x0000 ∷ 0x000e ∷ [])))
+    ∷ method (codes "virtual_interface") [] None 8
+    (Some (naming [] (method_ref (codes "Ljava/lang/Runnable;") (codes "run") [] None ∷ [])
+    (body 1 (0x106e ∷ 0x0000 ∷ 0x0000 ∷ 0x000e ∷ []))))
+    ∷ method (codes "super_interface") [] None 8
+    (Some (naming [] (method_ref (codes "Ljava/lang/Runnable;") (codes "run") [] None ∷ [])
+    (body 1 (0x106f ∷ 0x0000 ∷ 0x0000 ∷ 0x000e ∷ []))))
+    ∷ method (codes "super_array") [] None 8
+    (Some (naming [] (record { class = array_of of_int; name = codes "notify"; proto = no_arguments } ∷ [])
+    (body 1 (0x106f ∷ 0x0000 ∷ 0x0000 ∷ 0x000e ∷ [])))) ∷ [])) ∷ [])
     (info 33 0 [] [] [] ∷
     info 33 1 [] [] [] ∷
     info 33 2 [] [] [] ∷
@@ -306,7 +331,10 @@ raw_bodies = with_boot
     info 33 37 [] [] [] ∷
     info 33 38 (of_class (codes "Ljava/lang/Object;") ∷ []) [] [] ∷
     info 33 39 (of_class (codes "Ljava/lang/Error;") ∷ []) [] [] ∷
-    info 33 40 [] [] [] ∷ [])
+    info 33 40 [] [] [] ∷
+    info 33 41 [] [] (5 ∷ []) ∷
+    info 33 42 [] [] (5 ∷ []) ∷
+    info 33 43 [] [] (3 ∷ []) ∷ [])
     (field_info 33 0 0 ∷ field_info 33 1 0 ∷ [])
 
 -- each static rule, where it is broken
@@ -363,6 +391,12 @@ pub record StaticRules : Type 0 where
   pub static_not_virtual : faults_of raw_bodies 123 ≡ S 14 0x0 ∷ []
   -- S14: invoke-static of an initialiser
   pub static_initialiser : faults_of raw_bodies 124 ≡ S 14 0x0 ∷ []
+  -- S14: invoke-virtual by the name of an interface
+  pub static_virtual_interface : faults_of raw_bodies 139 ≡ S 14 0x0 ∷ []
+  -- S14: invoke-super by the name of an interface
+  pub static_super_interface : faults_of raw_bodies 140 ≡ S 14 0x0 ∷ []
+  -- S14: invoke-super by an array type
+  pub static_super_array : faults_of raw_bodies 141 ≡ S 14 0x0 ∷ []
   -- S15: one word for a method that takes none
   pub static_words : faults_of raw_bodies 125 ≡ S 15 0x0 ∷ []
   -- S16: new-instance of an interface

@@ -7,6 +7,7 @@ ghost use Rattle.test_machine.specs.Verifying.{Verifying};
 ghost use Rattle.test_machine.specs.Typing.{TypingRules};
 ghost use Rattle.test_machine.specs.Statics.{StaticRules};
 ghost use Rattle.test_machine.specs.Objects.{Objects};
+ghost use Rattle.test_machine.specs.Selecting.{Selecting};
 ghost use Rattle.test_machine.specs.Exceptions.{Exceptions};
 ghost use Rattle.test_machine.specs.Classes.{Initialising};
 ghost use Rattle.test_machine.specs.Threads.{Threads};
@@ -49,6 +50,12 @@ pub fn static_rules()
 #[tactic(auto, using(crate::proofs::Computed::Objects::objects))]
 pub fn objects()
     ensures examples { Objects }
+{}
+
+/// That calls select the methods that they should, default methods of interfaces among them; it does nothing.
+#[tactic(auto, using(crate::proofs::Computed::Selecting::selecting))]
+pub fn selecting()
+    ensures examples { Selecting }
 {}
 
 /// That exceptions and handlers behave as they should; it does nothing.

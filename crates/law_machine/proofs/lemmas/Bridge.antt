@@ -3,3 +3,4 @@ pub mod Decoding
 pub mod Laws
 pub mod LookUps
 pub mod Records
+pub mod Selected

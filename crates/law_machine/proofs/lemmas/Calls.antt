@@ -5,6 +5,7 @@ pub mod Dispatched
 pub mod Entered
 pub mod Fine
 pub mod Instance
+pub mod Interfaces
 pub mod Invoked
 pub mod Push
 pub mod Pushed

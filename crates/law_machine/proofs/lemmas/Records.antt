@@ -1,4 +1,5 @@
 -- Class initialisation: the instructions that need it, records, and new threads.
+pub mod Prior
 pub mod Entered
 pub mod Fine
 pub mod Needed

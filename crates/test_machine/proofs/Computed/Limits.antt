@@ -3,6 +3,7 @@ use Rattle.std.specs.Prelude.{refl}
 use Rattle.std.specs.Fmt.{digits}
 use Rattle.dv_defs.specs.Formats.{format_at, is_float}
 use Rattle.dv_defs.specs.Pools.{class_named, method_at, field_at, nearest, initialiser}
+use Rattle.dv_defs.specs.Selecting.{selected}
 use Rattle.dv_defs.specs.Order.{sub, instance, assignable, fits}
 use Rattle.dv_defs.specs.Op.{code_at}
 use Rattle.dv_typing.specs.Statics.{fetch}
@@ -14,5 +15,5 @@ use Rattle.dv_machine.specs.Calls.{dispatch}
 use Rattle.test_machine.specs.Limits.{Stops}
 
 pub stops : Stops
-unfolding digits class_named method_at field_at nearest initialiser sub instance assignable fits code_at fetch handlers_at dispatch format_at write_type write_two common_super static_places is_float
+unfolding digits class_named method_at field_at nearest selected initialiser sub instance assignable fits code_at fetch handlers_at dispatch format_at write_type write_two common_super static_places is_float
 stops = record { heap_suffices = refl; heap_is_full = refl; stack_suffices = refl; stack_is_full = refl; words_suffice = refl; words_are_full = refl; budget_is_spent = refl; output_is_full = refl; output_suffices = refl; threads_are_few = refl }

@@ -3,6 +3,7 @@ use Rattle.std.specs.Prelude.{refl}
 use Rattle.std.specs.Fmt.{digits}
 use Rattle.dv_defs.specs.Formats.{format_at, is_float}
 use Rattle.dv_defs.specs.Pools.{class_named, method_at, field_at, nearest, initialiser}
+use Rattle.dv_defs.specs.Selecting.{selected}
 use Rattle.dv_defs.specs.Order.{sub, instance, assignable, fits}
 use Rattle.dv_defs.specs.Op.{code_at}
 use Rattle.dv_typing.specs.Statics.{fetch}
@@ -15,5 +16,5 @@ use Rattle.test_machine.specs.Numbers.{Numbers, adding, switching}
 use Rattle.test_machine.proofs.Computed.Checking.{accepted_by}
 
 pub numbers : Numbers
-unfolding digits class_named method_at field_at nearest initialiser sub instance assignable fits code_at fetch handlers_at dispatch format_at write_type write_two common_super static_places is_float
+unfolding digits class_named method_at field_at nearest selected initialiser sub instance assignable fits code_at fetch handlers_at dispatch format_at write_type write_two common_super static_places is_float
 numbers = record { sum_wraps = refl; sum_is_accepted = accepted_by adding refl; division_throws = refl; long_is_whole = refl; longs_are_computed = refl; shifts_keep_low_bits = refl; narrow_conversions = refl; switch_takes_its_case = refl; switch_is_accepted = accepted_by switching refl; sparse_switch_takes_its_case = refl }

@@ -12,6 +12,7 @@ use Rattle.test_machine.proofs.Linked.Verifying.{boot_alone_is_linked, unwritten
 use Rattle.test_machine.proofs.Linked.Typing.{falling_is_linked, wrong_class_is_linked, moved_int_is_linked, no_result_left_is_linked, nothing_caught_is_linked, mixed_is_linked, no_array_is_linked, constructed_twice_is_linked, early_is_linked, wrong_form_is_linked, puts_upper_is_linked}
 use Rattle.test_machine.proofs.Linked.Statics.{raw_bodies_is_linked}
 use Rattle.test_machine.proofs.Linked.Objects.{calling_is_linked, arrays_is_linked, texts_is_linked}
+use Rattle.test_machine.proofs.Linked.Selecting.{defaults_is_linked}
 use Rattle.test_machine.proofs.Linked.Exceptions.{exiting_is_linked, throwing_is_linked}
 use Rattle.test_machine.proofs.Linked.Classes.{crossing_is_linked, failing_is_linked, ordering_is_linked, failing_main_is_linked}
 use Rattle.test_machine.proofs.Linked.Threads.{waiting_program_is_linked, boxing_is_linked, summing_is_linked}
@@ -21,6 +22,7 @@ use Rattle.test_machine.proofs.Linked.Seeded.{four_steps_is_linked, two_threads_
 use Rattle.test_machine.proofs.Computed.Numbers.{numbers}
 use Rattle.test_machine.proofs.Computed.Verifying.{verifying}
 use Rattle.test_machine.proofs.Computed.Objects.{objects}
+use Rattle.test_machine.proofs.Computed.Selecting.{selecting}
 use Rattle.test_machine.proofs.Computed.Exceptions.{exceptions}
 use Rattle.test_machine.proofs.Computed.Classes.{initialising}
 use Rattle.test_machine.proofs.Computed.Threads.{threads}
@@ -44,8 +46,8 @@ accepted_are_linked =
     all_of IsImage accepted_examples
     (adding_is_linked & switching_is_linked & boot_alone_is_linked & written_is_linked &
     null_and_zero_is_linked & one_a_turn_is_linked & inner_is_linked & calling_is_linked & arrays_is_linked &
-    texts_is_linked & exiting_is_linked & throwing_is_linked & crossing_is_linked & failing_is_linked &
-    waiting_program_is_linked & boxing_is_linked & summing_is_linked & tt)
+    texts_is_linked & defaults_is_linked & exiting_is_linked & throwing_is_linked & crossing_is_linked &
+    failing_is_linked & waiting_program_is_linked & boxing_is_linked & summing_is_linked & tt)
 
 further_are_linked : All IsImage further_examples
 unfolding further_examples
@@ -73,9 +75,9 @@ accepted_are_accepted =
     (numbers.sum_is_accepted & numbers.switch_is_accepted & verifying.boot_bodies &
     verifying.merge_of_written & verifying.zero_is_both & verifying.one_object_a_turn &
     verifying.own_field_before_super & objects.calling_is_accepted & objects.arrays_are_accepted &
-    objects.texts_are_accepted & exceptions.exiting_is_accepted & exceptions.throwing_is_accepted &
-    initialising.crossing_is_accepted & initialising.failing_is_accepted & threads.waiting_is_accepted &
-    threads.boxing_is_accepted & threads.summing_is_accepted & tt)
+    objects.texts_are_accepted & selecting.defaults_are_accepted & exceptions.exiting_is_accepted &
+    exceptions.throwing_is_accepted & initialising.crossing_is_accepted & initialising.failing_is_accepted &
+    threads.waiting_is_accepted & threads.boxing_is_accepted & threads.summing_is_accepted & tt)
 
 pub examples_are_accepted : ExamplesAreAccepted
 examples_are_accepted k image within =

@@ -8,13 +8,14 @@ use Rattle.dv_defs.specs.Images.{Image}
 use Rattle.dv_defs.specs.Field.{may_stand}
 use Rattle.dv_defs.specs.Pools.{class_named, method_at, field_at, nearest}
 use Rattle.dv_defs.specs.LookUp.{field_found, method_found}
+use Rattle.dv_defs.specs.Selecting.{selected}
 use Rattle.dv_defs.specs.Numbering.{declared, numbered}
 use Rattle.dv_defs.specs.LinkFaults.{Found, boot_fault, limit_fault}
 use Rattle.dv_defs.specs.Linked.{IsImage, HasValues, defs, linked, first_phases, method_phase, pool_phase, slotted, tabled, resolved}
 
 -- opened, it opens all that linking stands on
 unfoldable pub computed : List ClassDef → ℕ → Result Image Found
-unfolding linked first_phases method_phase pool_phase boot_fault limit_fault declared numbered slotted tabled resolved class_named method_at field_at nearest field_found method_found
+unfolding linked first_phases method_phase pool_phase boot_fault limit_fault declared numbered slotted tabled resolved class_named method_at field_at nearest selected field_found method_found
 computed cs boot = linked cs boot
 
 computes : (cs : List ClassDef) (boot : ℕ) (image : Image) → computed cs boot ≡ Ok image → linked cs boot ≡ Ok image

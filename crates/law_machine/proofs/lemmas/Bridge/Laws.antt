@@ -1,7 +1,7 @@
 -- A linked image that the verifier accepts is what the laws take.
 use Rattle.law_machine.specs.Bridge.{BridgeHolds}
 use Rattle.law_types.proofs.Laws.{types_are_ordered}
-use Rattle.law_machine.proofs.lemmas.Bridge.LookUps.{look_ups_find}
+use Rattle.law_machine.proofs.lemmas.Bridge.Selected.{look_ups_find}
 use Rattle.law_machine.proofs.lemmas.Bridge.Records.{acceptance_gives_records}
 
 pub bridge_holds : BridgeHolds

@@ -13,7 +13,6 @@ use Rattle.dv_defs.specs.Names.{clinit_name}
 use Rattle.dv_defs.specs.Types.{ty_eq, same_types, same_result, same_proto}
 use Rattle.dv_defs.specs.Pools.{Method, Field, with_info, method_at, with_field, with_field_info, fields_of, field_at, is_static, is_private, pick, declared_by, is_virtual_of, first_of_classes, nearest, no_arguments, is_initialiser, initialiser, supers}
 use Rattle.dv_defs.specs.Order.{has_number}
-use Rattle.law_machine.specs.Laws.{LookUpsFind}
 use Rattle.law_types.proofs.Facts.{no, by_second, is_there}
 use Rattle.law_types.proofs.Walks.{has_head}
 use Rattle.law_types.proofs.Equal.{ty_is, names_are}
@@ -32,7 +31,7 @@ field_info_id : (image : Image) (id : ℕ) (o : Option FieldInfo) (f : Field) �
 field_info_id image id None f e = absurd (cc)
 field_info_id image id (Some info) f e = field_id_from id info (slice_get (fields_of (slice_get image.classes info.class.0)) info.place) f e
 
-field_id : (image : Image) (x : ℕ) (f : Field) → field_at image x ≡ Some f → f.id ≡ x
+pub field_id : (image : Image) (x : ℕ) (f : Field) → field_at image x ≡ Some f → f.id ≡ x
 unfolding field_at
 field_id image x f e = field_info_id image x (slice_get image.fields x) f e
 
@@ -96,7 +95,7 @@ proto_is p q e =
 
 -- ---- initialisers and the nearest method
 
-initialiser_is : (image : Image) (c : ℕ) (m : Method) → initialiser image c ≡ Some m → (method_at image m.id ≡ Some m) × (is_static m ≡ true) × (m.def.proto ≡ no_arguments) × (m.info.class.0 ≡ c) × ((b : Body) × (m.def.body ≡ Some b))
+pub initialiser_is : (image : Image) (c : ℕ) (m : Method) → initialiser image c ≡ Some m → (method_at image m.id ≡ Some m) × (is_static m ≡ true) × (m.def.proto ≡ no_arguments) × (m.info.class.0 ≡ c) × ((b : Body) × (m.def.body ≡ Some b))
 unfolding initialiser
 initialiser_is image c m e =
     let p = declared image c is_initialiser m e in
@@ -126,7 +125,7 @@ of_classes : (image : Image) (cs : List ℕ) (good : Method → Bool) (m : Metho
 of_classes image [] good m e = absurd (cc)
 of_classes image (c ∷ cs) good m e = of_first image c cs good m (λ u. of_classes image cs good m u) (declared_by image c good) refl e
 
-nearest_is : (image : Image) (c : ℕ) (name : List ℕ) (p : Proto) (m : Method) → nearest image c name p ≡ Some m → (method_at image m.id ≡ Some m) × (m.def.name ≡ name) × (m.def.proto ≡ p) × (is_static m ≡ false) × (has_number m.info.class.0 (supers image c) ≡ true)
+pub nearest_is : (image : Image) (c : ℕ) (name : List ℕ) (p : Proto) (m : Method) → nearest image c name p ≡ Some m → (method_at image m.id ≡ Some m) × (m.def.name ≡ name) × (m.def.proto ≡ p) × (is_static m ≡ false) × (has_number m.info.class.0 (supers image c) ≡ true)
 unfolding nearest
 nearest_is image c name p m e =
     let r = of_classes image (supers image c) (is_virtual_of name p) m e in
@@ -134,6 +133,3 @@ nearest_is image c name p m e =
     let named = and_parts (not (is_static m) && not (is_private m)) (bytes_eq m.def.name name) proto.0 in
     let static = and_parts (not (is_static m)) (not (is_private m)) named.0 in
     (r.there, names_are m.def.name name named.1, proto_is m.def.proto p proto.1, not-true (is_static m) static.0, r.among)
-
-pub look_ups_find : LookUpsFind
-look_ups_find image = record { methods = method_id image; fields = field_id image; initialisers = initialiser_is image; nearest_is = nearest_is image }

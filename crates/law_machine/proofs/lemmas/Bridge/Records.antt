@@ -51,11 +51,13 @@ address_fine image n at code T x s has id static e flows good =
     let parts = first_none (demands image code.method x.op s) (onward_ok image code.method x) good in
     let next : All (IsThere image code.method.id) (targets x) = targets_by image code.method.id x (goes_on x.op) parts.1 (subst (λ (z : ℕ). All (IsThere image z) (jumps x.op)) (sym id) (jumps_there image n at code x has static e)) in
     let caught : All (IsCaught image code.method.id) (handlers_at image code.method.id (thrown_at at x)) = subst (λ (z : ℕ). All (IsCaught image z) (handlers_at image z (thrown_at at x))) (sym id) (handlers_there image n (thrown_at at x) code has static) in
+    let (r, rules) = fetched_rules image n at code x has e in
     record {
       ok = parts.0;
       flows = all_lead image code.method.id T (out image code.method at x.op s) (targets x) next flows.onward;
       handled = λ can. all_caught image code.method.id T s (handlers_at image code.method.id (thrown_at at x)) caught (flows.handled can);
-      rules = fetched_rules image n at code x has e;
+      reference = r;
+      rules = rules;
     }
 
 typed_body : (image : Image) (n : ℕ) (code : Code) → code_at image n ≡ Some code → (a : IsAcceptedMethod image code) → IsTypedBody image n code a.typing

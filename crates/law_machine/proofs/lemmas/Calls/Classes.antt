@@ -10,16 +10,19 @@ use Rattle.dv_machine.specs.Kind.{Kind}
 use Rattle.dv_machine.specs.Kind as kind
 use Rattle.dv_defs.specs.Names.{object_name, string_name, class_name}
 use Rattle.dv_defs.specs.Types.{of_class, ty_eq, is_reference}
-use Rattle.dv_defs.specs.Pools.{class_type, class_named, name_at, parent_at, parent_of, supers}
+use Rattle.dv_defs.specs.Pools.{class_type, class_named, is_interface, name_at, parent_at, parent_of, supers}
 use Rattle.dv_defs.specs.Order.{has_number, extends, both_found, class_under, sub, fits}
+use Rattle.dv_defs.specs.LookUp.{method_classes, superinterfaces}
 use Rattle.dv_machine.specs.Heap.{Heap, kind_of, kind_type}
 use Rattle.dv_machine.specs.Calls.{class_of_kind}
 use Rattle.dv_machine.specs.Conforming.{IsOf}
 use Rattle.dv_machine.specs.WellTyped.{Typings}
+use Rattle.law_machine.proofs.lemmas.Calls.Interfaces.{superinterfaces_are}
 use Rattle.dv_machine.specs.Accepted.{Accepted}
 use Rattle.law_types.proofs.Facts.{no}
 use Rattle.law_types.proofs.Walks.{up, up_is, up_later, refuel_up, extends_same, is_above, named_is}
-use Rattle.law_types.proofs.Interfaces.{fits_reference}
+use Rattle.law_types.proofs.Interfaces.{fits_open, fits_reference}
+use Rattle.law_linking.proofs.Upward.{has_cases}
 
 module _ (image : Image) where
   sub_named : (c d : ℕ) → class_named image (name_at image c) ≡ Some c → class_named image (name_at image d) ≡ Some d → extends image c d ≡ true → sub image (class_type image c) (class_type image d) ≡ true
@@ -44,7 +47,7 @@ module _ (image : Image) where
 
 module _ (image : Image) (T : Typings) (a : Accepted image T) where
   -- a superclass's type is above
-  pub supers_sub : (c d : ℕ) → d < length image.classes → has_number d (supers image c) ≡ true → sub image (class_type image c) (class_type image d) ≡ true
+  supers_sub : (c d : ℕ) → d < length image.classes → has_number d (supers image c) ≡ true → sub image (class_type image c) (class_type image d) ≡ true
   supers_sub c d l e = by_place (cases_lt c (length image.classes))
     where
       by_place : (c < length image.classes) ⊎ (length image.classes ≤ c) → sub image (class_type image c) (class_type image d) ≡ true
@@ -58,8 +61,17 @@ module _ (image : Image) (T : Typings) (a : Accepted image T) where
 
   -- ---- what fits the type of a class
 
-  fits_sub : (x : Ty) (c d : ℕ) → fits image x (class_type image c) ≡ true → d < length image.classes → has_number d (supers image c) ≡ true → fits image x (class_type image d) ≡ true
-  fits_sub x c d f l e = a.order.fits_up x _ _ f (supers_sub c d l e)
+  -- an interface takes each reference
+  interface_takes : (x : Ty) (d : ℕ) → is_reference x ≡ true → d < length image.classes → is_interface image d ≡ true → fits image x (class_type image d) ≡ true
+  interface_takes x d r l m =
+      fits_open image x (class_type image d) (ap (λ o. elim o as (λ w. Bool) [ None ↦ false | Some c ↦ is_interface image c ]) (a.hierarchy.once d l) ∙ m) r
+
+  -- what fits a class fits its superclasses, and each interface
+  pub above_fits : (x : Ty) (c d : ℕ) → fits image x (class_type image c) ≡ true → d < length image.classes → has_number d (method_classes image c) ≡ true → fits image x (class_type image d) ≡ true
+  above_fits x c d f l e = elim (has_cases d (supers image c) (superinterfaces image c) e) [
+    | inl up ↦ a.order.fits_up x _ _ f (supers_sub c d l up)
+    | inr up ↦ interface_takes x d (fits_reference image x (class_type image c) f refl) l (superinterfaces_are image a.hierarchy c d up)
+  ]
 
   same_fits : (name : List ℕ) (c : ℕ) → class_named image name ≡ Some c → fits image (of_class name) (class_type image c) ≡ true
   same_fits name c e = subst (λ z. fits image (of_class name) (of_class z) ≡ true) (sym (named_is image name c e)) (a.order.instance_fits _ _ refl (a.order.sub_instance _ _ (a.order.same (of_class name))))
@@ -74,9 +86,9 @@ module _ (image : Image) (T : Typings) (a : Accepted image T) where
   kind_fits (kind.ClassOf t) c r e = same_fits class_name c e
   kind_fits (kind.Array t) c r e = object_takes t c r e
 
-  -- and so each class above that
-  pub looked_up_fits : (heap : Heap) (o : ℕ) (t : Ty) (c d : ℕ) → is_reference t ≡ true → IsOf image heap o t → class_of_kind image (kind_of heap o) ≡ Some c → d < length image.classes → has_number d (supers image c) ≡ true → IsOf image heap o (class_type image d)
+  -- and so each class and interface above that
+  pub looked_up_fits : (heap : Heap) (o : ℕ) (t : Ty) (c d : ℕ) → is_reference t ≡ true → IsOf image heap o t → class_of_kind image (kind_of heap o) ≡ Some c → d < length image.classes → has_number d (method_classes image c) ≡ true → IsOf image heap o (class_type image d)
   looked_up_fits heap o t c d r h e l n = record {
     object = h.object;
-    fits = fits_sub (kind_type image h.object.kind) c d (kind_fits h.object.kind c (fits_reference image _ t h.fits r) (ap (class_of_kind image) (sym h.object.has_kind) ∙ e)) l n;
+    fits = above_fits (kind_type image h.object.kind) c d (kind_fits h.object.kind c (fits_reference image _ t h.fits r) (ap (class_of_kind image) (sym h.object.has_kind) ∙ e)) l n;
   }

@@ -2,21 +2,26 @@
 use Rattle.std.proofs.Common.{◌≡◌, ℕ, suc, ◌<◌, List, [], ◌∷◌, length, Bool, true, false, Option, Some, None, refl, sym, ap, ◌∙◌, subst}
 use Rattle.std.proofs.lemmas.Bool.{and_parts, and_right}
 use Rattle.std.specs.Prelude.{◌&&◌, not, bytes_eq, is_some, nat_eq, if◌then◌else◌}
+use Rattle.dv_defs.specs.declared.names.Proto.{Proto}
+use Rattle.dv_defs.specs.declared.image.Select.{Select}
+use Rattle.dv_defs.specs.declared.image.Select.TheVariants as select
 use Rattle.dv_defs.specs.Images.{Image}
 use Rattle.dv_defs.specs.declared.run.Named.TheVariants as named
 use Rattle.dv_defs.specs.declared.run.Native.{Native}
 use Rattle.dv_defs.specs.Parts.{Call}
 use Rattle.dv_defs.specs.Names.{init_name, clinit_name}
 use Rattle.dv_defs.specs.Types.{same_proto}
-use Rattle.dv_defs.specs.Pools.{Method, method_at, is_static, is_native, is_abstract, is_constructor, own_type, class_type, name_at, parent_at, supers, nearest, is_initialiser, initialiser, no_arguments}
+use Rattle.dv_defs.specs.Pools.{Method, method_at, is_static, is_native, is_abstract, is_constructor, own_type, class_type, name_at, parent_at, is_initialiser, initialiser, no_arguments}
 use Rattle.dv_defs.specs.Order.{has_number}
+use Rattle.dv_defs.specs.LookUp.{method_classes}
+use Rattle.dv_defs.specs.Selecting.{selected}
 use Rattle.dv_machine.specs.Heap.{Heap, kind_of}
-use Rattle.dv_machine.specs.Calls.{Lands, Lacks, unless_abstract, found, nearest_from, class_of_kind, implements_it, dispatch, signature, native_among, all_natives, native_of}
+use Rattle.dv_machine.specs.Calls.{Lands, Lacks, unless_abstract, on_method, landing, class_of_kind, selected_from, lacks_interface, by_object, dispatch, signature, native_among, all_natives, native_of}
 use Rattle.dv_machine.specs.Conforming.{IsOf}
 use Rattle.dv_machine.specs.WellTyped.{Typings, IsNoInitialiser}
-use Rattle.dv_machine.specs.Accepted.{Accepted}
+use Rattle.dv_machine.specs.Accepted.{Accepted, IsSelected}
 use Rattle.law_types.proofs.Facts.{no}
-use Rattle.law_machine.proofs.lemmas.Calls.Classes.{parent_sub, looked_up_fits, supers_sub}
+use Rattle.law_machine.proofs.lemmas.Calls.Classes.{parent_sub, above_fits, looked_up_fits}
 use Rattle.law_types.proofs.Equal.{names_are}
 use Rattle.law_machine.proofs.lemmas.Bridge.LookUps.{declared}
 use Rattle.law_machine.proofs.lemmas.Common.Members.{class_of_method}
@@ -82,6 +87,17 @@ module _ (image : Image) (T : Typings) (a : Accepted image T) (heap : Heap) wher
   lands_same g k true e q = absurd (cc)
   lands_same g k false e q = (e, same_lands g k q)
 
+  -- the method that is selected from a class
+  pub selection : (c : ℕ) (name : List ℕ) (p : Proto) (k : Method) → landing image (selected image c name p) ≡ Lands k → (method_at image k.id ≡ Some k) × IsSelected image c name p k
+  selection c name p k e = by_select (selected image c name p) refl e
+    where
+      by_select : (s : Select) → selected image c name p ≡ s → landing image s ≡ Lands k → (method_at image k.id ≡ Some k) × IsSelected image c name p k
+      by_select (select.Found id) is q =
+          let (m, there, selects) = a.finds.selected_is c name p id is in
+          subst (λ z. (method_at image z.id ≡ Some z) × IsSelected image c name p z) (same_lands m k (ap on_method (sym there) ∙ q)) (own_number id.0 m there, selects)
+      by_select select.Abstract is q = absurd (cc)
+      by_select select.Clash is q = absurd (cc)
+
   module _ (g : Method) (n : ℕ) (there : method_at image n ≡ Some g) (static : is_static g ≡ false) where
     -- the method itself
     same_landing : (k : Method) (o : ℕ) → IsOf image heap (suc o) (own_type image g) → unless_abstract g ≡ Lands k → IsLanding g k o
@@ -89,44 +105,36 @@ module _ (image : Image) (T : Typings) (a : Accepted image T) (heap : Heap) wher
         let q = lands_same g k (is_abstract g) refl e in
         subst (λ z. IsLanding g z o) q.1 (record { there = own_number n g there; same_proto = refl; instance = static; same_sort = refl; concrete = q.0; fits = f })
 
-    -- the nearest from a class up
-    found_landing : (c : ℕ) (k : Method) (o : ℕ) → ((d : ℕ) → d < length image.classes → has_number d (supers image c) ≡ true → IsOf image heap (suc o) (class_type image d)) → (r : Option Method) → nearest image c g.def.name g.def.proto ≡ r → found r ≡ Lands k → IsLanding g k o
-    found_landing c k o f None e q = absurd (cc)
-    found_landing c k o f (Some y) e q =
-        let w = lands_same y k (is_abstract y) refl q in
-        let z = a.finds.nearest_is c g.def.name g.def.proto y e in
-        subst (λ j. IsLanding g j o) w.1 (record {
-          there = z.0;
-          same_proto = z.2;
-          instance = z.3;
-          same_sort = ap (λ b. not b && bytes_eq y.def.name init_name) (z.3 ∙ sym static) ∙ ap (λ b. not (is_static g) && bytes_eq b init_name) z.1;
-          concrete = w.0;
-          fits = f y.info.class.0 (class_of_method image y.id y z.0) z.4;
-        })
+    -- one that is selected
+    selected_landing : (c : Option ℕ) (k : Method) (o : ℕ) → ((b d : ℕ) → c ≡ Some b → d < length image.classes → has_number d (method_classes image b) ≡ true → IsOf image heap (suc o) (class_type image d)) → selected_from image c g.def.name g.def.proto ≡ Lands k → IsLanding g k o
+    selected_landing None k o f e = absurd (cc)
+    selected_landing (Some c) k o f e =
+        let (own, is) = selection c g.def.name g.def.proto k e in
+        record {
+          there = own;
+          same_proto = is.proto;
+          instance = is.instance;
+          same_sort = ap (λ b. not b && bytes_eq k.def.name init_name) (is.instance ∙ sym static) ∙ ap (λ b. not (is_static g) && bytes_eq b init_name) is.named;
+          concrete = is.concrete;
+          fits = f c k.info.class.0 refl (class_of_method image k.id k own) is.among;
+        }
 
-    near_landing : (c : Option ℕ) (k : Method) (o : ℕ) → ((b d : ℕ) → c ≡ Some b → d < length image.classes → has_number d (supers image b) ≡ true → IsOf image heap (suc o) (class_type image d)) → nearest_from image c g ≡ Lands k → IsLanding g k o
-    near_landing None k o f e = absurd (cc)
-    near_landing (Some c) k o f e = found_landing c k o (λ d l q. f c d refl l q) (nearest image c g.def.name g.def.proto) refl e
+    object_landing : (k : Method) (o : ℕ) → IsOf image heap (suc o) (own_type image g) → by_object image heap g (suc o) ≡ Lands k → IsLanding g k o
+    object_landing k o f e = by_test (lacks_interface image heap g (suc o)) e
+      where
+        by_test : (b : Bool) → (if b then Lacks named.ClassChange else selected_from image (class_of_kind image (kind_of heap (suc o))) g.def.name g.def.proto) ≡ Lands k → IsLanding g k o
+        by_test true e = absurd (cc)
+        by_test false e = selected_landing (class_of_kind image (kind_of heap (suc o))) k o (λ b d q l r. looked_up_fits image T a heap (suc o) (own_type image g) b d refl f q l r) e
 
-    virtual_landing : (k : Method) (o : ℕ) → IsOf image heap (suc o) (own_type image g) → nearest_from image (class_of_kind image (kind_of heap (suc o))) g ≡ Lands k → IsLanding g k o
-    virtual_landing k o f e = near_landing (class_of_kind image (kind_of heap (suc o))) k o (λ b d q l r. looked_up_fits image T a heap (suc o) (own_type image g) b d refl f q l r) e
-
-    super_landing : (own : Method) (k : Method) (o : ℕ) → own.info.class.0 < length image.classes → IsOf image heap (suc o) (own_type image own) → nearest_from image (parent_at image own.info.class.0) g ≡ Lands k → IsLanding g k o
-    super_landing own k o i f e = near_landing (parent_at image own.info.class.0) k o
-        (λ p d q l r. record {
-          object = f.object;
-          fits = a.order.fits_up _ _ _ (a.order.fits_up _ _ _ f.fits (parent_sub image T a own.info.class.0 p i q)) (supers_sub image T a p d l r);
-        }) e
+    super_landing : (own : Method) (k : Method) (o : ℕ) → own.info.class.0 < length image.classes → IsOf image heap (suc o) (own_type image own) → selected_from image (parent_at image own.info.class.0) g.def.name g.def.proto ≡ Lands k → IsLanding g k o
+    super_landing own k o i f e = selected_landing (parent_at image own.info.class.0) k o
+        (λ p d q l r. record { object = f.object; fits = above_fits image T a _ p d (a.order.fits_up _ _ _ f.fits (parent_sub image T a own.info.class.0 p i q)) l r }) e
 
     -- each sort of call on an object
-    pub landing : (own : Method) (c : Call) (k : Method) (o : ℕ) → own.info.class.0 < length image.classes → IsOf image heap (suc o) (own_type image g) → (c ≡ Call.Super → IsOf image heap (suc o) (own_type image own)) → dispatch image heap own c g (suc o) ≡ Lands k → IsLanding g k o
+    pub landing_is : (own : Method) (c : Call) (k : Method) (o : ℕ) → own.info.class.0 < length image.classes → IsOf image heap (suc o) (own_type image g) → (c ≡ Call.Super → IsOf image heap (suc o) (own_type image own)) → dispatch image heap own c g (suc o) ≡ Lands k → IsLanding g k o
     unfolding dispatch
-    landing own Call.Static k o i f u e = same_landing k o f e
-    landing own Call.Direct k o i f u e = same_landing k o f e
-    landing own Call.Super k o i f u e = super_landing own k o i (u refl) e
-    landing own Call.Virtual k o i f u e = virtual_landing k o f e
-    landing own Call.Interface k o i f u e = by_test (implements_it image heap g (suc o)) e
-      where
-        by_test : (b : Bool) → (if b then nearest_from image (class_of_kind image (kind_of heap (suc o))) g else Lacks named.ClassChange) ≡ Lands k → IsLanding g k o
-        by_test true e = virtual_landing k o f e
-        by_test false e = absurd (cc)
+    landing_is own Call.Static k o i f u e = same_landing k o f e
+    landing_is own Call.Direct k o i f u e = same_landing k o f e
+    landing_is own Call.Super k o i f u e = super_landing own k o i (u refl) e
+    landing_is own Call.Virtual k o i f u e = object_landing k o f e
+    landing_is own Call.Interface k o i f u e = object_landing k o f e

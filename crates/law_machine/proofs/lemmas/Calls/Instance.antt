@@ -1,9 +1,10 @@
 -- Static calls, and calls on an object.
-use Rattle.std.proofs.Common.{◌≡◌, ℕ, zero, suc, List, [], ◌∷◌, Bool, true, false, Some, None, refl, sym, ap, ◌∙◌, subst}
+use Rattle.std.proofs.Common.{◌≡◌, ℕ, zero, suc, List, [], ◌∷◌, Bool, true, false, Option, Some, None, refl, sym, ap, ◌∙◌, subst}
 use Rattle.std.proofs.lemmas.Option.{none-some, same_Some}
 use Rattle.std.proofs.lemmas.Bool.{and_parts, not-true}
 use Rattle.std.specs.Prelude.{◌&&◌, ◌||◌, not, bytes_eq, if◌then◌else◌}
 use Rattle.dv_defs.specs.declared.names.Proto.{Proto}
+use Rattle.dv_defs.specs.declared.names.Ty.{Ty}
 use Rattle.dv_defs.specs.Images.{Image}
 use Rattle.dv_machine.specs.Value.{Value}
 use Rattle.dv_machine.specs.Value as v
@@ -18,7 +19,7 @@ use Rattle.dv_defs.specs.Parts.{Call}
 use Rattle.dv_defs.specs.Names.{clinit_name, init_name}
 use Rattle.dv_defs.specs.Pools.{Method, method_at, is_static, is_private, is_abstract, is_constructor, is_interface, own_type}
 use Rattle.dv_defs.specs.Op.{Invoke}
-use Rattle.dv_typing.specs.Statics.{At, fits_call, is_proper_super, op_rules}
+use Rattle.dv_typing.specs.Statics.{At, fits_call, names_class, names_super, op_rules}
 use Rattle.dv_typing.specs.RegTypes.{all_types, type_at}
 use Rattle.dv_typing.specs.Demands.{Demand, demands, first, args_for, invoke_for, instance_call, receiver_for, ref_to, super_for}
 use Rattle.dv_typing.specs.Transfer.{arg_types}
@@ -41,7 +42,7 @@ use Rattle.law_machine.proofs.lemmas.Readers.Words.{IsWord, reads_arguments}
 use Rattle.law_machine.proofs.lemmas.Local.Still.{IsQuiet}
 use Rattle.law_machine.proofs.lemmas.Local.Stands.{Stands, read_then}
 use Rattle.law_machine.proofs.lemmas.Calls.Words.{static_types, instance_types, begins_plain, words_cons, both_hold, read_number, number_is}
-use Rattle.law_machine.proofs.lemmas.Calls.Dispatched.{IsLanding, landing, named_otherwise, of_instance, same_lands}
+use Rattle.law_machine.proofs.lemmas.Calls.Dispatched.{IsLanding, landing_is, named_otherwise, of_instance, same_lands}
 use Rattle.law_machine.proofs.lemmas.Calls.Invoked.{receiver_is, no_receiver_of, WaitsAt, quiet_at, throws, NativesDo, landed_fine, called_fine}
 use Rattle.dv_defs.specs.declared.faults.Rule.TheVariants as rule
 use Rattle.law_machine.proofs.lemmas.Common.Members.{class_of_method}
@@ -54,12 +55,12 @@ first_of_four true b c d f = refl
 first_of_four false b c d f = no f
 
 -- a static method is called by invoke-static alone, and is no initialiser
-static_call : (image : Image) (own : Method) (c : Call) (g : Method) → is_static g ≡ true → fits_call image own c g ≡ true → bytes_eq g.def.name clinit_name ≡ false
-static_call image own Call.Static g e f = not-true _ (and_parts (is_static g) (not (bytes_eq g.def.name clinit_name)) f).1
-static_call image own Call.Direct g e f = no (sym (not-true _ (and_parts (not (is_static g)) (is_constructor g || is_private g) f).0) ∙ e)
-static_call image own Call.Virtual g e f = no (sym (not-true _ (first_of_four (not (is_static g)) (not (is_constructor g)) (not (is_private g)) (not (is_interface image g.info.class.0)) f)) ∙ e)
-static_call image own Call.Super g e f = no (sym (not-true _ (first_of_four (not (is_static g)) (not (is_constructor g)) (not (is_private g)) (not (is_interface image g.info.class.0)) (and_parts _ (is_proper_super image own.info.class.0 g.info.class.0) f).0)) ∙ e)
-static_call image own Call.Interface g e f = no (sym (not-true _ (and_parts (not (is_static g)) (is_interface image g.info.class.0) f).0) ∙ e)
+static_call : (image : Image) (own : Method) (r : Option Ty) (c : Call) (g : Method) → is_static g ≡ true → fits_call image own r c g ≡ true → bytes_eq g.def.name clinit_name ≡ false
+static_call image own r Call.Static g e f = not-true _ (and_parts (is_static g) (not (bytes_eq g.def.name clinit_name)) f).1
+static_call image own r Call.Direct g e f = no (sym (not-true _ (and_parts (not (is_static g)) (is_constructor g || is_private g) f).0) ∙ e)
+static_call image own r Call.Virtual g e f = no (sym (not-true _ (first_of_four (not (is_static g)) (not (is_constructor g)) (not (is_private g)) (names_class image r) f)) ∙ e)
+static_call image own r Call.Super g e f = no (sym (not-true _ (first_of_four (not (is_static g)) (not (is_constructor g)) (not (is_private g)) (names_super image own.info.class.0 r) f)) ∙ e)
+static_call image own r Call.Interface g e f = no (sym (not-true _ (and_parts (not (is_static g)) (not (is_private g)) (and_parts (not (is_static g) && not (is_private g)) (is_interface image g.info.class.0) f).0).0) ∙ e)
 
 module _ (image : Image) (T : Typings) (m : Machine) (t : ℕ) (thread : Thread) (own : Method) (f : Frame) (rest : List Level) (x : At) (s : RegState) (h : Stands image T m t thread own f rest x s) (c : Call) (ks : List ℕ) (g : Method) (e : x.op ≡ Invoke c ks g) where
   abbrev heap : Heap
@@ -73,8 +74,8 @@ module _ (image : Image) (T : Typings) (m : Machine) (t : ℕ) (thread : Thread)
   invoke_demand = subst (λ z. demands image own z s ≡ None) e h.demand
 
   -- the invoke is one that its method allows
-  allowed : fits_call image own c g ≡ true
-  allowed = subst (λ z. fits_call image z c g ≡ true) h.of_own (first_rule (fits_call image h.code.method c g) (rule.S 14) _ (subst (λ z. op_rules image h.code z ≡ []) e h.rules))
+  allowed : fits_call image own h.rules.0 c g ≡ true
+  allowed = subst (λ z. fits_call image z h.rules.0 c g ≡ true) h.of_own (first_rule (fits_call image h.code.method h.rules.0 c g) (rule.S 14) _ (subst (λ z. op_rules image h.code h.rules.0 z ≡ []) e h.rules.1))
 
   pub callee_number : (n : ℕ) × (method_at image n ≡ Some g)
   callee_number = invoke_named image T h.may.accepted heap x.op c ks g (is_named image f.method.0 f.at x h.has_at) e
@@ -106,7 +107,7 @@ module _ (image : Image) (T : Typings) (m : Machine) (t : ℕ) (thread : Thread)
             (λ j i. record { there = callee_there; is_native = i; words = words; same_proto = refl; plain = no_constructor; instance = λ n. no (sym n ∙ static); static = λ q. static })
             (λ q. static_quiet) (sym (begins_plain image g no_constructor)) words
             (called_fine image T m t thread own f rest x s h c ks g e g refl refl (λ q. no (sym no_constructor ∙ q)))
-            (named_otherwise image g (static_call image own c g static allowed))
+            (named_otherwise image g (static_call image own h.rules.0 c g static allowed))
 
     pub static_fine : NativesDo image T m t thread own f rest x s h c ks g e → DidFine image T m t thread x (invoke here_it (native_step here_it) c ks g)
     static_fine natives = subst (λ b. DidFine image T m t thread x (elim b as (λ w. Did Left) [ true ↦ reading (read_args image heap f.regs g.def.proto.params ks) (landed here_it (native_step here_it) (unless_abstract g)) | false ↦ with_receiver here_it (native_step here_it) c g ks ])) (sym static)
@@ -160,7 +161,7 @@ module _ (image : Image) (T : Typings) (m : Machine) (t : ℕ) (thread : Thread)
     landing_fine natives o q fits up ys w (Lacks n) i = throws image T m t thread own f rest x s h c ks g e (quiet_unless o q (λ l r u. lands_lacks l n (sym r ∙ i)))
     landing_fine natives o q fits up ys w (Lands l) i =
         let inside = class_of_method image f.method.0 own h.has_own in
-        let z = landing image T h.may.accepted heap g callee_number.0 callee_number.1 static own c l o inside fits up i in
+        let z = landing_is image T h.may.accepted heap g callee_number.0 callee_number.1 static own c l o inside fits up i in
         let words = landed_words l o ys z w in
         landed_fine image T m t thread own f rest x s h c ks g e natives l (v.Ref (suc o) ∷ ys) z.concrete z.there
         (λ j u. record {

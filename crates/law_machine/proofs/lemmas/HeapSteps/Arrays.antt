@@ -21,7 +21,7 @@ use Rattle.dv_defs.specs.Types.{base_eq, component, is_array, is_base, is_class_
 use Rattle.dv_defs.specs.Pools.{Method}
 use Rattle.dv_defs.specs.Order.{instance}
 use Rattle.dv_defs.specs.Op.{Code, ArrayGet, Invoke}
-use Rattle.dv_typing.specs.Statics.{At, op_rules, is_of_suffix}
+use Rattle.dv_typing.specs.Statics.{At, is_of_suffix}
 use Rattle.dv_typing.specs.RegTypes.{Types, type_at, reg_types, single_type}
 use Rattle.dv_typing.specs.Demands.{goes_on, array, int, is_array_of}
 use Rattle.dv_typing.specs.Transfer.{out, going, write_type, write_long, write_for, after_get, object_element}
@@ -43,6 +43,7 @@ use Rattle.law_machine.proofs.lemmas.Local.Stands.{Stands, read_then}
 use Rattle.law_machine.proofs.lemmas.Readers.Plain.{reads_int, holds_more}
 use Rattle.law_machine.proofs.lemmas.Readers.Arrays.{reads_array, tests_go_down}
 use Rattle.law_types.proofs.Demanded.{first_none, demanded}
+use Rattle.law_flow.proofs.Statics.{KeepsRules}
 use Rattle.dv_defs.specs.declared.faults.Rule.TheVariants as rule
 
 -- a type of one word is written as it is
@@ -52,7 +53,7 @@ short_write ts a c e = ap (λ (b : Bool). elim b as (λ z. Types) [ true ↦ wri
 pub long_write : (ts : Types) (a : ℕ) (c : Ty) → is_long c ≡ true → write_for ts a c ≡ write_long ts a
 long_write ts a c e = ap (λ (b : Bool). elim b as (λ z. Types) [ true ↦ write_long ts a | false ↦ write_type ts a (single_type c) ]) e
 
-module _ (image : Image) (T : Typings) (m : Machine) (t : ℕ) (thread : Thread) (own : Method) (f : Frame) (rest : List Level) (x : At) (s : RegState) (h : Stands image T m t thread own f rest x s) (code : Code) (rules : op_rules image code x.op ≡ []) (apart : (c : Call) (ks : List ℕ) (g : Method) → x.op ≡ Invoke c ks g → ⊥) where
+module _ (image : Image) (T : Typings) (m : Machine) (t : ℕ) (thread : Thread) (own : Method) (f : Frame) (rest : List Level) (x : At) (s : RegState) (h : Stands image T m t thread own f rest x s) (code : Code) (rules : KeepsRules image code x.op) (apart : (c : Call) (ks : List ℕ) (g : Method) → x.op ≡ Invoke c ks g → ⊥) where
   -- null, or an array of the type that the verifier knows
   abbrev pub IsKnown : (Ty → Bool) → ℕ → ℕ → Type 0
   IsKnown good b zero = Unit {0}

@@ -17,7 +17,7 @@ use Rattle.dv_defs.specs.Parts.{Call, Suffix}
 use Rattle.dv_defs.specs.Types.{is_long, words_of}
 use Rattle.dv_defs.specs.Pools.{Method, Field, field_at, is_static_field, is_interface, class_type}
 use Rattle.dv_defs.specs.Op.{Code, Invoke}
-use Rattle.dv_typing.specs.Statics.{At, op_rules, fits_instance_field}
+use Rattle.dv_typing.specs.Statics.{At, fits_instance_field}
 use Rattle.dv_typing.specs.RegTypes.{Types, type_at, reg_types, single_type}
 use Rattle.dv_typing.specs.Demands.{goes_on}
 use Rattle.dv_typing.specs.Transfer.{out, going, write_type, write_long, write_for}
@@ -29,6 +29,7 @@ use Rattle.dv_machine.specs.Conforming.{Fits, Conforms}
 use Rattle.dv_machine.specs.WellTyped.{Typings, own_of, this_above, nobody, cell_types}
 use Rattle.law_machine.specs.Premises.{DidFine}
 use Rattle.law_machine.specs.Reading.{AreWords}
+use Rattle.law_flow.proofs.Statics.{KeepsRules}
 use Rattle.law_machine.proofs.lemmas.Heap.Cells.{reg_cells, reg_count}
 use Rattle.law_machine.proofs.lemmas.HeapSteps.Left.{put_left, put_long_left, gone_left}
 use Rattle.law_machine.proofs.lemmas.HeapSteps.Places.{HasField, object_field, field_place}
@@ -43,7 +44,7 @@ conform_within image heap y t c j = go (cases_lt j (words_of t))
     go (inl l) = c j l
     go (inr g) = subst (λ (u : RegType). Conforms image heap nobody (y j) u) (sym (get_or_past (reg_types t) j ty.Conflict (omega (arith, g, reg_count t)))) tt
 
-module _ (image : Image) (T : Typings) (m : Machine) (t : ℕ) (thread : Thread) (own : Method) (f : Frame) (rest : List Level) (x : At) (s : RegState) (h : Stands image T m t thread own f rest x s) (code : Code) (rules : op_rules image code x.op ≡ []) (apart : (c : Call) (ks : List ℕ) (g : Method) → x.op ≡ Invoke c ks g → ⊥) where
+module _ (image : Image) (T : Typings) (m : Machine) (t : ℕ) (thread : Thread) (own : Method) (f : Frame) (rest : List Level) (x : At) (s : RegState) (h : Stands image T m t thread own f rest x s) (code : Code) (rules : KeepsRules image code x.op) (apart : (c : Call) (ks : List ℕ) (g : Method) → x.op ≡ Invoke c ks g → ⊥) where
   -- registers take the words of a cell or two
   long_words : (a : ℕ) (y z : Value) → goes_on x.op ≡ true → out image own f.at x.op s ≡ going s (write_long s.regs a) → Conforms image m.shared.heap nobody y ty.LongLo → Conforms image m.shared.heap nobody z ty.LongHi → DidFine image T m t thread x (onward (here image m t own f rest x.next) m.shared (put_words f x.next a (y ∷ z ∷ [])))
   long_words a (v.Lo lo) (v.Hi hi) on o c d = put_long_left image T m t thread own f rest x s h apart on m.shared.heap (λ p k e. e) h.may.typed.heap a lo hi o

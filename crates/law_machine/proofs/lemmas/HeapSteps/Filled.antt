@@ -49,9 +49,10 @@ use Rattle.law_machine.proofs.lemmas.Readers.Plain.{next_holds, reads_int}
 use Rattle.law_machine.proofs.lemmas.Readers.Words.{IsWord, AreWordsOf, words, single_holds}
 use Rattle.law_machine.proofs.lemmas.Readers.Arrays.{tests_go_down}
 use Rattle.law_types.proofs.Demanded.{first_none, only_rule}
+use Rattle.law_flow.proofs.Statics.{KeepsRules}
 use Rattle.dv_defs.specs.declared.faults.Rule.TheVariants as rule
 
-module _ (image : Image) (T : Typings) (m : Machine) (t : ℕ) (thread : Thread) (own : Method) (f : Frame) (rest : List Level) (x : At) (s : RegState) (h : Stands image T m t thread own f rest x s) (code : Code) (rules : op_rules image code x.op ≡ []) (apart : (c : Call) (ks : List ℕ) (g : Method) → x.op ≡ Invoke c ks g → ⊥) where
+module _ (image : Image) (T : Typings) (m : Machine) (t : ℕ) (thread : Thread) (own : Method) (f : Frame) (rest : List Level) (x : At) (s : RegState) (h : Stands image T m t thread own f rest x s) (code : Code) (rules : KeepsRules image code x.op) (apart : (c : Call) (ks : List ℕ) (g : Method) → x.op ≡ Invoke c ks g → ⊥) where
   -- ---- one element
 
   module _ (a b c : ℕ) where
@@ -99,7 +100,7 @@ module _ (image : Image) (T : Typings) (m : Machine) (t : ℕ) (thread : Thread)
 
   module _ (rs : List ℕ) (u : Ty) (e : x.op ≡ Filled rs u) where
     takes : is_filled_type u ≡ true
-    takes = only_rule (is_filled_type u) (rule.S 16) (sym (ap (op_rules image code) e) ∙ rules)
+    takes = only_rule (is_filled_type u) (rule.S 16) (sym (ap (op_rules image code rules.0) e) ∙ rules.1)
 
     short : is_long (component u) ≡ false
     short = go (or_cases (is_base base.I (component u)) (is_reference (component u)) (and_parts (is_array u) _ takes).1)

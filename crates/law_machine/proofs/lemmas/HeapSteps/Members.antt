@@ -38,9 +38,10 @@ use Rattle.law_machine.proofs.lemmas.Readers.Plain.{reads_reference_to, holds_mo
 use Rattle.law_machine.proofs.lemmas.Readers.Words.{reads_value}
 use Rattle.law_machine.proofs.lemmas.Calls.Resolved.{IsNamed, is_named}
 use Rattle.law_types.proofs.Demanded.{first_none, demanded, only_rule}
+use Rattle.law_flow.proofs.Statics.{KeepsRules}
 use Rattle.dv_defs.specs.declared.faults.Rule.TheVariants as rule
 
-module _ (image : Image) (T : Typings) (m : Machine) (t : ℕ) (thread : Thread) (own : Method) (f : Frame) (rest : List Level) (x : At) (s : RegState) (h : Stands image T m t thread own f rest x s) (code : Code) (rules : op_rules image code x.op ≡ []) (apart : (c : Call) (ks : List ℕ) (g : Method) → x.op ≡ Invoke c ks g → ⊥) where
+module _ (image : Image) (T : Typings) (m : Machine) (t : ℕ) (thread : Thread) (own : Method) (f : Frame) (rest : List Level) (x : At) (s : RegState) (h : Stands image T m t thread own f rest x s) (code : Code) (rules : KeepsRules image code x.op) (apart : (c : Call) (ks : List ℕ) (g : Method) → x.op ≡ Invoke c ks g → ⊥) where
   named : (op : Op) → x.op ≡ op → IsNamed image op
   named op e = subst (IsNamed image) e (is_named image f.method.0 f.at x h.has_at)
 
@@ -54,7 +55,7 @@ module _ (image : Image) (T : Typings) (m : Machine) (t : ℕ) (thread : Thread)
       n = named (FieldGet w a b y) e
 
       fits : fits_instance_field image w y ≡ true
-      fits = only_rule (fits_instance_field image w y) (rule.S 13) (sym (ap (op_rules image code) e) ∙ rules)
+      fits = only_rule (fits_instance_field image w y) (rule.S 13) (sym (ap (op_rules image code rules.0) e) ∙ rules.1)
 
       go : (o : ℕ) → Fits image m.shared.heap o (class_type image y.info.class.0) → DidFine image T m t thread x (on_object (get_field (here image m t own f rest x.next) a y) o)
       go zero i = throwing (FieldGet w a b y) e refl
@@ -65,7 +66,7 @@ module _ (image : Image) (T : Typings) (m : Machine) (t : ℕ) (thread : Thread)
     its_field = named (FieldPut w a b y) e
 
     its_fits : fits_instance_field image w y ≡ true
-    its_fits = only_rule (fits_instance_field image w y) (rule.S 13) (sym (ap (op_rules image code) e) ∙ rules)
+    its_fits = only_rule (fits_instance_field image w y) (rule.S 13) (sym (ap (op_rules image code rules.0) e) ∙ rules.1)
 
     Receiver : ℕ → Type 0
     Receiver o = IsReceiver image T m t thread own f rest x s h code rules apart w y its_field.0 its_field.1 its_fits o
@@ -117,7 +118,7 @@ module _ (image : Image) (T : Typings) (m : Machine) (t : ℕ) (thread : Thread)
   pub static_get : (w : Suffix) (a : ℕ) (y : Field) → x.op ≡ StaticGet w a y → DidFine image T m t thread x (mem (here image m t own f rest x.next) (StaticGet w a y))
   static_get w a y e =
       let n = named (StaticGet w a y) e in
-      let fits = only_rule (fits_static_field w y) (rule.S 13) (sym (ap (op_rules image code) e) ∙ rules) in
+      let fits = only_rule (fits_static_field w y) (rule.S 13) (sym (ap (op_rules image code rules.0) e) ∙ rules.1) in
       let static = (and_parts (is_static_field y) (is_of_suffix w y.def.ty) fits).0 in
       words_left image T m t thread own f rest x s h code rules apart a y.def.ty (λ j. reg_at (slice_index_or m.shared.heap.statics y.id []) j) (ap goes_on e) (out_of image T m t thread own f rest x s h code rules apart (StaticGet w a y) e) (h.may.typed.heap.statics y.id y (own_id n.0 y n.1) static).each
 

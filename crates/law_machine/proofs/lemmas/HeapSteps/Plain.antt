@@ -1,5 +1,5 @@
 -- Divisions, constants, casts, new objects and throws are fine.
-use Rattle.std.proofs.Common.{◌≡◌, ◌≢◌, ◌⊎◌, inl, inr, ℕ, zero, suc, List, [], Bool, true, false, ◌||◌, not, Option, Some, None, refl, sym, ap, ◌∙◌, subst, arith}
+use Rattle.std.proofs.Common.{◌≡◌, ◌≢◌, ◌⊎◌, inl, inr, ℕ, zero, suc, List, Bool, true, false, ◌||◌, not, Option, Some, None, refl, sym, ap, ◌∙◌, subst, arith}
 use Rattle.std.specs.Prelude.{ℤ, pos, negsuc, slice_set, map, nat_eq, All}
 use Rattle.std.proofs.lemmas.Bool.{or_left, or_cases, eqb-true}
 use Rattle.std.proofs.lemmas.List.{length-set, set-get_or}
@@ -57,6 +57,7 @@ use Rattle.law_machine.proofs.lemmas.Readers.Plain.{reads_int, reads_argument, r
 use Rattle.law_machine.proofs.lemmas.Readers.Arrays.{reads_array, tests_go_down}
 use Rattle.law_types.proofs.Demanded.{first_none, only_rule}
 use Rattle.law_types.proofs.Interfaces.{instance_reference}
+use Rattle.law_flow.proofs.Statics.{KeepsRules}
 use Rattle.dv_defs.specs.declared.faults.Rule.TheVariants as rule
 
 -- the object of an uninitialised value is there
@@ -67,7 +68,7 @@ held_there image heap own y (ty.Uninit b) o i c e = absurd c
 held_there image heap own y ty.UninitThis o i c e = absurd c
 held_there image heap own y u o i c e = absurd i
 
-module _ (image : Image) (T : Typings) (m : Machine) (t : ℕ) (thread : Thread) (own : Method) (f : Frame) (rest : List Level) (x : At) (s : RegState) (h : Stands image T m t thread own f rest x s) (code : Code) (rules : op_rules image code x.op ≡ []) (apart : (c : Call) (ks : List ℕ) (g : Method) → x.op ≡ Invoke c ks g → ⊥) where
+module _ (image : Image) (T : Typings) (m : Machine) (t : ℕ) (thread : Thread) (own : Method) (f : Frame) (rest : List Level) (x : At) (s : RegState) (h : Stands image T m t thread own f rest x s) (code : Code) (rules : KeepsRules image code x.op) (apart : (c : Call) (ks : List ℕ) (g : Method) → x.op ≡ Invoke c ks g → ⊥) where
   pub demand_of : (op : Op) → x.op ≡ op → demands image own op s ≡ None
   demand_of op e = sym (ap (λ z. demands image own z s) e) ∙ h.demand
 
@@ -146,7 +147,7 @@ module _ (image : Image) (T : Typings) (m : Machine) (t : ℕ) (thread : Thread)
   new_array_fine a b u e = read_then image T m t thread x Anything _ _ (reads_int image m.shared.heap (own_of image (this_above image rest) own) f.regs s.regs b h.conform.good.regs (demand_of (NewArray a b u) e)) (λ n p. sized n)
     where
       array : is_array u ≡ true
-      array = only_rule (is_array u) (rule.S 16) (sym (ap (op_rules image code) e) ∙ rules)
+      array = only_rule (is_array u) (rule.S 16) (sym (ap (op_rules image code rules.0) e) ∙ rules.1)
 
       sized : (n : ℤ) → DidFine image T m t thread x (new_array (here image m t own f rest x.next) a u n)
       sized (negsuc n) = throws (NewArray a b u) e refl
@@ -197,7 +198,7 @@ module _ (image : Image) (T : Typings) (m : Machine) (t : ℕ) (thread : Thread)
   cast_fine a u e = go (reg_at f.regs a) refl (reads_reference image m.shared.heap (own_of image (this_above image rest) own) f.regs s.regs a h.conform.good.regs (demand_of (Cast a u) e))
     where
       reference : is_reference u ≡ true
-      reference = only_rule (is_reference u) (rule.S 16) (sym (ap (op_rules image code) e) ∙ rules)
+      reference = only_rule (is_reference u) (rule.S 16) (sym (ap (op_rules image code rules.0) e) ∙ rules.1)
 
       instance_fits : (o : ℕ) → IsThere image m.shared.heap (suc o) → instance image (type_of image m.shared.heap (suc o)) u ≡ true → Fits image m.shared.heap (suc o) u
       instance_fits o i q =

@@ -16,7 +16,7 @@ use Rattle.dv_defs.specs.Types.{component, is_long, is_reference, words_of}
 use Rattle.dv_defs.specs.Pools.{Method}
 use Rattle.dv_defs.specs.Order.{instance}
 use Rattle.dv_defs.specs.Op.{Code, Invoke}
-use Rattle.dv_typing.specs.Statics.{At, op_rules}
+use Rattle.dv_typing.specs.Statics.{At}
 use Rattle.dv_typing.specs.RegTypes.{Types, type_at, reg_types, single_type}
 use Rattle.dv_typing.specs.Demands.{goes_on, int, put_for, is_int, is_ref}
 use Rattle.dv_typing.specs.Transfer.{out, going}
@@ -38,6 +38,7 @@ use Rattle.law_machine.proofs.lemmas.Local.Stands.{Stands}
 use Rattle.law_machine.proofs.lemmas.Readers.Plain.{next_holds, reads_int, reads_two, reads_reference}
 use Rattle.law_types.proofs.Demanded.{demanded}
 use Rattle.law_types.proofs.Interfaces.{instance_reference}
+use Rattle.law_flow.proofs.Statics.{KeepsRules}
 use Rattle.dv_defs.specs.declared.faults.Rule.TheVariants as rule
 
 -- ---- what a store takes
@@ -71,7 +72,7 @@ IsPut image heap Suffix.Long ys = (lo : ℕ) × (hi : ℕ) × (ys ≡ v.Lo lo �
 IsPut image heap Suffix.Object ys = (y : Value) × (ys ≡ y ∷ []) × IsReference image heap y
 IsPut image heap w ys = (y : Value) × (ys ≡ y ∷ []) × Conforms image heap nobody y ty.Int
 
-module _ (image : Image) (T : Typings) (m : Machine) (t : ℕ) (thread : Thread) (own : Method) (f : Frame) (rest : List Level) (x : At) (s : RegState) (h : Stands image T m t thread own f rest x s) (code : Code) (rules : op_rules image code x.op ≡ []) (apart : (c : Call) (ks : List ℕ) (g : Method) → x.op ≡ Invoke c ks g → ⊥) where
+module _ (image : Image) (T : Typings) (m : Machine) (t : ℕ) (thread : Thread) (own : Method) (f : Frame) (rest : List Level) (x : At) (s : RegState) (h : Stands image T m t thread own f rest x s) (code : Code) (rules : KeepsRules image code x.op) (apart : (c : Call) (ks : List ℕ) (g : Method) → x.op ≡ Invoke c ks g → ⊥) where
   narrow_put : (a : ℕ) → int s.regs a ≡ None → HoldsOf (λ ys. (y : Value) × (ys ≡ y ∷ []) × Conforms image m.shared.heap nobody y ty.Int) (on_next (read_int (reg_at f.regs a)) (λ n. Ok (reg_at f.regs a ∷ [])))
   narrow_put a d = next_holds Anything (λ ys. (y : Value) × (ys ≡ y ∷ []) × Conforms image m.shared.heap nobody y ty.Int) _ _ (reads_int image m.shared.heap (own_of image (this_above image rest) own) f.regs s.regs a h.conform.good.regs d) (λ n q. (reg_at f.regs a, refl, int_value image m.shared.heap (own_of image (this_above image rest) own) (reg_at f.regs a) (type_at s.regs a) (demanded (is_int (type_at s.regs a)) (rule.V 2) d) (h.conform.good.regs a)))
 

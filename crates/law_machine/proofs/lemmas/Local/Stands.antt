@@ -12,7 +12,7 @@ use Rattle.dv_defs.specs.declared.machine.End.TheVariants as end
 use Rattle.dv_typing.specs.declared.typing.RegState.{RegState}
 use Rattle.dv_defs.specs.Pools.{Method, method_at}
 use Rattle.dv_defs.specs.Op.{Code, code_at}
-use Rattle.dv_typing.specs.Statics.{At, fetch, op_rules}
+use Rattle.dv_typing.specs.Statics.{At, fetch}
 use Rattle.dv_typing.specs.Demands.{demands}
 use Rattle.dv_typing.specs.Transfer.{out}
 use Rattle.dv_typing.specs.Flow.{Leads, targets}
@@ -23,6 +23,7 @@ use Rattle.law_machine.specs.Premises.{MayStep, IsAt, HoldsOf, DidFine}
 use Rattle.law_machine.proofs.lemmas.Common.Conformity.{frame_up}
 use Rattle.law_machine.proofs.lemmas.Common.Lists.{all_at}
 use Rattle.law_flow.proofs.MethodCode.{code_is}
+use Rattle.law_flow.proofs.Statics.{KeepsRules}
 
 -- what a step does after a read
 pub read_then : (image : Image) (T : Typings) (m : Machine) (t : ℕ) (thread : Thread) (x : At) {A : Type 0} (P : A → Type 0) (r : Reads A) (go : A → Did Left) → HoldsOf P r → ((y : A) → P y → DidFine image T m t thread x (go y)) → DidFine image T m t thread x (reading r go)
@@ -44,7 +45,7 @@ pub record Stands (image : Image) (T : Typings) (m : Machine) (t : ℕ) (thread 
   pub code : Code
   pub has_code : code_at image f.method.0 ≡ Some code
   pub of_own : code.method ≡ own
-  pub rules : op_rules image code x.op ≡ []
+  pub rules : KeepsRules image code x.op
   pub below : BelowCode image own rest
   pub rest_fine : StackFine image T m.shared.heap t None rest
 
@@ -66,7 +67,7 @@ stands image T m t thread h x s i =
       code = i.code;
       has_code = i.has_code;
       of_own = same;
-      rules = i.fine.rules;
+      rules = (i.fine.reference, i.fine.rules);
       below = i.below;
       rest_fine = subst (λ (z : Shared). StackFine image T z.heap t None h.rest) shared i.rest_fine;
     }

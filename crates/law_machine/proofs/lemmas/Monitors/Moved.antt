@@ -1,6 +1,6 @@
 -- Monitors stay in order while a thread moves on and objects are added.
-use Rattle.std.proofs.Common.{◌≡◌, ◌≢◌, ◌⊎◌, inl, inr, ℕ, zero, suc, ◌≤◌, List, ◌∷◌, ◌++◌, Bool, true, Option, Some, None, refl, sym, ap, ◌∙◌, subst, arith}
-use Rattle.std.specs.Prelude.{slice_get, slice_set, nat_lt, All, if◌then◌else◌}
+use Rattle.std.proofs.Common.{◌≡◌, ◌≢◌, ◌⊎◌, inl, inr, ℕ, zero, suc, ◌≤◌, List, ◌∷◌, ◌++◌, true, not, Option, Some, None, refl, sym, ap, ◌∙◌, subst, arith}
+use Rattle.std.specs.Prelude.{◌&&◌, slice_get, slice_set, nat_lt, All, if◌then◌else◌}
 use Rattle.std.proofs.lemmas.Bool.{cases_eq}
 use Rattle.std.proofs.lemmas.List.Elements.{All-weaker, All-head}
 use Rattle.dv_defs.specs.Images.{Image}
@@ -14,12 +14,12 @@ use Rattle.dv_machine.specs.Level.{Level}
 use Rattle.dv_machine.specs.Level as level
 use Rattle.dv_defs.specs.declared.machine.End.{End}
 use Rattle.dv_defs.specs.Parts.{Call}
-use Rattle.dv_defs.specs.Pools.{Method, own_type}
+use Rattle.dv_defs.specs.Pools.{Method, is_interface, own_type}
 use Rattle.dv_defs.specs.Order.{instance}
 use Rattle.dv_machine.specs.Heap.{Heap, kind_of}
 use Rattle.dv_machine.specs.Monitors.{Held, Wait, Monitors, owner_of, wait_of}
 use Rattle.dv_machine.specs.State.{Thread, Shared, type_of}
-use Rattle.dv_machine.specs.Calls.{dispatch, Landing, Lacks, class_of_kind, nearest_from}
+use Rattle.dv_machine.specs.Calls.{dispatch, Landing, Lacks, class_of_kind, selected_from, by_object}
 use Rattle.dv_machine.specs.Conforming.{IsThere, RefFine, RefsFine}
 use Rattle.dv_machine.specs.WellTyped.{IsWaiting, WaitFine, HeldFine, MonitorsFine}
 use Rattle.law_machine.specs.Premises.{KeepsKinds}
@@ -28,8 +28,16 @@ use Rattle.law_machine.proofs.lemmas.Common.Lists.{get_front, set_there, set_oth
 use Rattle.law_machine.proofs.lemmas.Growth.Kinds.{same_type}
 use Rattle.law_machine.proofs.lemmas.Monitors.Owners.{quiet_from}
 
-abbrev interface_lands : Image → Method → Bool → Option Kind → Landing
-interface_lands image g b x = if b then nearest_from image (class_of_kind image x) g else Lacks named.ClassChange
+-- a call by the class of an object of a type and kind
+abbrev object_lands : Image → Method → Ty → Option Kind → Landing
+object_lands image g t x =
+    if is_interface image g.info.class.0 && not (instance image t (own_type image g)) then Lacks named.ClassChange
+    else selected_from image (class_of_kind image x) g.def.name g.def.proto
+
+object_grown : (image : Image) (before after : Heap) (g : Method) (o : ℕ) (k : Kind) → kind_of before o ≡ Some k → kind_of after o ≡ Some k → by_object image before g o ≡ by_object image after g o
+object_grown image before after g o k e f =
+    ap (λ (t : Ty). object_lands image g t (kind_of before o)) (same_type image before after o k e f) ∙
+    ap (object_lands image g (type_of image after o)) (e ∙ sym f)
 
 -- the method that a call lands on is determined by the kind of its object
 dispatch_grown : (image : Image) (before after : Heap) (own : Method) (c : Call) (g : Method) (o : ℕ) (k : Kind) → kind_of before o ≡ Some k → kind_of after o ≡ Some k → dispatch image before own c g o ≡ dispatch image after own c g o
@@ -37,8 +45,8 @@ unfolding dispatch
 dispatch_grown image before after own Call.Static g o k e f = refl
 dispatch_grown image before after own Call.Direct g o k e f = refl
 dispatch_grown image before after own Call.Super g o k e f = refl
-dispatch_grown image before after own Call.Virtual g o k e f = ap (λ (x : Option Kind). nearest_from image (class_of_kind image x) g) (e ∙ sym f)
-dispatch_grown image before after own Call.Interface g o k e f = ap (λ (t : Ty). interface_lands image g (instance image t (own_type image g)) (kind_of before o)) (same_type image before after o k e f) ∙ ap (λ (x : Option Kind). interface_lands image g (instance image (type_of image after o) (own_type image g)) x) (e ∙ sym f)
+dispatch_grown image before after own Call.Virtual g o k e f = object_grown image before after g o k e f
+dispatch_grown image before after own Call.Interface g o k e f = object_grown image before after g o k e f
 
 -- a register that holds an object holds one that is there
 ref_there : (image : Image) (heap : Heap) (x : Value) (o : ℕ) → RefFine image heap x → x ≡ v.Ref o → IsThere image heap o

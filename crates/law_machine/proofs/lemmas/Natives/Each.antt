@@ -18,7 +18,7 @@ use Rattle.dv_typing.specs.declared.typing.RegState.{RegState}
 use Rattle.dv_defs.specs.Parts.{Call}
 use Rattle.dv_defs.specs.Names.{thread_name}
 use Rattle.dv_defs.specs.Types.{of_class}
-use Rattle.dv_defs.specs.Pools.{Method, is_native, is_abstract, is_constructor, own_type, name_at}
+use Rattle.dv_defs.specs.Pools.{Method, is_native, is_constructor, own_type, name_at}
 use Rattle.dv_defs.specs.Op.{Invoke, can_throw}
 use Rattle.dv_typing.specs.Statics.{At}
 use Rattle.dv_typing.specs.Transfer.{pending_of}
@@ -28,11 +28,11 @@ use Rattle.dv_machine.specs.Level as level
 use Rattle.dv_defs.specs.declared.machine.End.TheVariants as end
 use Rattle.dv_machine.specs.Monitors.{Monitors, Held, Wait, held_of, owner_of, wait_of, waiting, resumed, notified_one, notified_all}
 use Rattle.dv_typing.specs.declared.typing.RegType.TheVariants as ty
-use Rattle.dv_machine.specs.State.{Thread, Machine, Left, Did, Throws, NoOutput, where_room, where_true, truth, with_output, Here, gone, onward, with_monitors, Go}
+use Rattle.dv_machine.specs.State.{Thread, Machine, Left, Did, NoOutput, where_room, where_true, truth, with_output, Here, gone, onward, with_monitors, Go}
 use Rattle.dv_machine.specs.Mem.{on_object}
 use Rattle.dv_machine.specs.Texts.{text_of}
-use Rattle.dv_machine.specs.Calls.{signature, string_type, native_of, native_among, all_natives, is_signed, class_of_kind}
-use Rattle.dv_machine.specs.Threads.{own_object, goes, stays, thread_with, is_living, join_on, holding, taken_back, notify_on, notify_all_on, run_method, new_thread, started_on, holding_it, join_with, object_of_thread, wait_step, start_unless}
+use Rattle.dv_machine.specs.Calls.{Landing, Lands, Lacks, signature, string_type, native_of, native_among, all_natives, is_signed, class_of_kind}
+use Rattle.dv_machine.specs.Threads.{own_object, goes, stays, thread_with, is_living, join_on, holding, taken_back, notify_on, notify_all_on, run_landing, new_thread, started_on, holding_it, join_with, object_of_thread, wait_step, start_unless}
 use Rattle.dv_machine.specs.Natives.{arg, number_of, object_number, gives, gives_object, new_text, char_at, units_in, some_chars, printed, native_step, gives_char}
 use Rattle.dv_machine.specs.Step.{here}
 use Rattle.dv_machine.specs.Conforming.{Own, IsOf, ResultConforms, ResultFine, IsGood, Conforms}
@@ -339,26 +339,22 @@ module _ (image : Image) (T : Typings) (m : Machine) (t : ℕ) (thread : Thread)
     start_throws : ThrowFine m t x
     start_throws = native_throws image T m t thread own f rest x s h c ks g e k native.Start xs q (λ i. absurd (cc))
 
-    starts : (r : Method) → run_method image (class_of_kind image (kind_of heap started_object)) ≡ Some r → is_abstract r ≡ false → Does (Go (record { levels = level.Code (gone f x.next f.regs) ∷ rest; shared = m.shared; started = Some (new_thread started_object r) }))
-    starts r i concrete = started_left image T m t thread own f rest x s h c ks g e k native.Start xs q heap m.shared.output (λ o d u. u) h.may.typed.heap pending.None (λ o. tt) tt
+    starts : (r : Method) → run_landing image (class_of_kind image (kind_of heap started_object)) ≡ Lands r → Does (Go (record { levels = level.Code (gone f x.next f.regs) ∷ rest; shared = m.shared; started = Some (new_thread started_object r) }))
+    starts r i = started_left image T m t thread own f rest x s h c ks g e k native.Start xs q heap m.shared.output (λ o d u. u) h.may.typed.heap pending.None (λ o. tt) tt
         (Some (new_thread started_object r))
         (λ y u d. ap (λ (z : Thread). records d z.levels) (sym (same_Some (new_thread started_object r) y u)))
-        (λ y u. subst (StartedFine image T heap (length m.threads)) (same_Some (new_thread started_object r) y u) (new_thread_is_fine image T heap (length m.threads) started_object r h.may.accepted (is_thread xs q) i concrete))
+        (λ y u. subst (StartedFine image T heap (length m.threads)) (same_Some (new_thread started_object r) y u) (new_thread_is_fine image T heap (length m.threads) started_object r h.may.accepted (is_thread xs q) i))
         (native_apart image T m t thread own f rest x s h c ks g e k native.Start xs q (λ i. absurd (cc)))
 
-    by_run : (r : Option Method) → run_method image (class_of_kind image (kind_of heap started_object)) ≡ r → Does (started_on here_it started_object r)
-    by_run None i = start_throws
-    by_run (Some r) i = by_abstract (is_abstract r) refl
-      where
-        by_abstract : (b : Bool) → is_abstract r ≡ b → Does (if b then Throws named.AbstractMethod else Go (record { levels = level.Code (gone f x.next f.regs) ∷ rest; shared = m.shared; started = Some (new_thread started_object r) }))
-        by_abstract true u = start_throws
-        by_abstract false u = starts r i u
+    by_run : (l : Landing) → run_landing image (class_of_kind image (kind_of heap started_object)) ≡ l → Does (started_on here_it started_object l)
+    by_run (Lacks n) i = start_throws
+    by_run (Lands r) i = starts r i
 
     pub start_fine : Does (native_step here_it native.Start xs)
     start_fine = by_thread (thread_with m.threads started_object)
       where
-        by_room : (b : Bool) → Does (where_true b named.OutOfMemory (started_on here_it started_object (run_method image (class_of_kind image (kind_of heap started_object)))))
-        by_room true = by_run (run_method image (class_of_kind image (kind_of heap started_object))) refl
+        by_room : (b : Bool) → Does (where_true b named.OutOfMemory (started_on here_it started_object (run_landing image (class_of_kind image (kind_of heap started_object)))))
+        by_room true = by_run (run_landing image (class_of_kind image (kind_of heap started_object))) refl
         by_room false = start_throws
 
         by_thread : (u : Option ℕ) → Does (start_unless here_it started_object u)

@@ -20,10 +20,13 @@ use Rattle.dv_typing.specs.RegTypes.{all_types}
 use Rattle.dv_typing.specs.Transfer.{arg_types, begins_uninitialised}
 use Rattle.dv_machine.specs.Monitors.{Wait, wait_of}
 use Rattle.dv_machine.specs.Classes.{ClassState, Fresh, InProgress, Ready, Erroneous, Classes, state_at, asked, ask_of, with_state}
-use Rattle.dv_machine.specs.State.{Thread, Machine, NoRoom, Here, left, with_classes}
+use Rattle.dv_machine.specs.State.{Thread, Machine, Left, Did, NoRoom, Here, left, with_classes}
 use Rattle.dv_machine.specs.Calls.{entered_frame}
 use Rattle.dv_machine.specs.Unwinding.{is_opening}
-use Rattle.dv_machine.specs.Step.{for_class, prior, run_initialiser, look_at, record_step, here, no_method, no_frame, end_after, initialised_by}
+use Rattle.dv_defs.specs.Prior.{prior_at}
+use Rattle.law_linking.proofs.Reach.{number_first, number_later}
+use Rattle.law_machine.proofs.lemmas.Records.Prior.{prior_inside}
+use Rattle.dv_machine.specs.Step.{for_class, run_initialiser, look_at, record_step, here, no_method, no_frame, end_after, initialised_by}
 use Rattle.dv_machine.specs.Conforming.{IsGood, RefsFine}
 use Rattle.dv_machine.specs.WellTyped.{Typings, own_of, BelowRecord, StackFine, lowest, IsCode, ThreadFine, WaitFine, records, owed, WellTyped}
 use Rattle.dv_machine.specs.Accepted.{Accepted}
@@ -137,38 +140,38 @@ module _ (image : Image) (T : Typings) (m : Machine) (t : ℕ) (thread : Thread)
       go None e = ended Ready (λ u. refl)
       go (Some k) e = pushing _ m.shared.classes _ (initialiser_left k e)
 
-  -- the record of the superclass is pushed
-  begun_left : (p : ℕ) → has_number p (prior image c) ≡ true → p < length image.classes → state_at m.shared.classes p ≡ Fresh → LeftFine image T m t thread (record { levels = level.Init (record { 0 = p }) false ∷ level.Init (record { 0 = c }) false ∷ rest; shared = with_classes m.shared (with_state m.shared.classes p (InProgress t)); started = None })
+  -- the record of a class that is initialised before it is pushed
+  begun_left : (p : ℕ) → has_number p (prior_at image c) ≡ true → p < length image.classes → state_at m.shared.classes p ≡ Fresh → LeftFine image T m t thread (record { levels = level.Init (record { 0 = p }) false ∷ level.Init (record { 0 = c }) false ∷ rest; shared = with_classes m.shared (with_state m.shared.classes p (InProgress t)); started = None })
   begun_left p e l f =
       let within : p < length m.shared.classes = omega (arith, l, w.class_states) in
       record_left _ (with_state m.shared.classes p (InProgress t)) ((again false).0, (e, (again false).1)) (All-cons (RefsFine image m.shared.heap) (level.Init (record { 0 = p }) false) (level.Init (record { 0 = c }) false ∷ rest) tt (again_refs false)) (length-set m.shared.classes p (InProgress t) ∙ w.class_states) (λ d. begun_mine t p (level.Init (record { 0 = c }) false ∷ rest) m.shared.classes within f d (mine d)) (λ u d n. begun_others t p m.shared.classes within f u d n)
 
-  super_fine : (p : ℕ) → has_number p (prior image c) ≡ true → p < length image.classes → RecordDidFine image T m t thread (for_class (here image m t no_method no_frame rest 0) (level.Init (record { 0 = c }) false ∷ rest) p (ask_of m.shared.classes p t) (run_initialiser (here image m t no_method no_frame rest 0) c))
-  super_fine p e l = go (state_at m.shared.classes p) refl
+  -- one of them is asked for, and then what is done behind it
+  asked_fine : (p : ℕ) → has_number p (prior_at image c) ≡ true → (next : Did Left) → RecordDidFine image T m t thread next → RecordDidFine image T m t thread (for_class (here image m t no_method no_frame rest 0) (level.Init (record { 0 = c }) false ∷ rest) p (ask_of m.shared.classes p t) next)
+  asked_fine p e next fine = go (state_at m.shared.classes p) refl
     where
-      other : (u : ℕ) (b : Bool) → RecordDidFine image T m t thread (for_class (here image m t no_method no_frame rest 0) (level.Init (record { 0 = c }) false ∷ rest) p (elim b as (λ x. Ask) [ true ↦ ask.Go | false ↦ ask.Wait u ]) (run_initialiser (here image m t no_method no_frame rest 0) c))
-      other u true = run_fine
+      other : (u : ℕ) (b : Bool) → RecordDidFine image T m t thread (for_class (here image m t no_method no_frame rest 0) (level.Init (record { 0 = c }) false ∷ rest) p (elim b as (λ x. Ask) [ true ↦ ask.Go | false ↦ ask.Wait u ]) next)
+      other u true = fine
       other u false = record_left _ m.shared.classes (again false) (again_refs false) w.class_states mine (λ u d n. refl)
 
-      go : (s : ClassState) → state_at m.shared.classes p ≡ s → RecordDidFine image T m t thread (for_class (here image m t no_method no_frame rest 0) (level.Init (record { 0 = c }) false ∷ rest) p (asked t s) (run_initialiser (here image m t no_method no_frame rest 0) c))
-      go Fresh f = pushing _ (with_state m.shared.classes p (InProgress t)) _ (begun_left p e l f)
+      go : (s : ClassState) → state_at m.shared.classes p ≡ s → RecordDidFine image T m t thread (for_class (here image m t no_method no_frame rest 0) (level.Init (record { 0 = c }) false ∷ rest) p (asked t s) next)
+      go Fresh f = pushing _ (with_state m.shared.classes p (InProgress t)) _ (begun_left p e (prior_inside image acc.hierarchy c p e) f)
       go (InProgress u) f = other u (nat_eq u t)
-      go Ready f = run_fine
+      go Ready f = fine
       go Erroneous f = record_quiet
 
-  look_fine : RecordDidFine image T m t thread (look_at (here image m t no_method no_frame rest 0) c (prior image c))
-  look_fine = go (parent_at image c) refl
-    where
-      go : (o : Option ℕ) → parent_at image c ≡ o → RecordDidFine image T m t thread (look_at (here image m t no_method no_frame rest 0) c (option_to_list o))
-      go None e = run_fine
-      go (Some p) e = super_fine p (subst (λ (o : Option ℕ). has_number p (option_to_list o) ≡ true) (sym e) (has_head p [])) (acc.hierarchy.inside c p (subst (λ (o : Option ℕ). has_number p (with_parent o (interfaces_of (slice_get image.classes c))) ≡ true) (sym e) (has_head p _)))
+  look_fine : (ps : List ℕ) → ((p : ℕ) → has_number p ps ≡ true → has_number p (prior_at image c) ≡ true) → RecordDidFine image T m t thread (look_at (here image m t no_method no_frame rest 0) c ps)
+  look_fine [] among = run_fine
+  look_fine (p ∷ ps) among =
+      asked_fine p (among p (number_first p ps)) (look_at (here image m t no_method no_frame rest 0) c ps)
+      (look_fine ps (λ q has. among q (number_later q p ps has)))
 
   pub record_fine : RecordDidFine image T m t thread (record_step (here image m t no_method no_frame rest 0) c r)
   record_fine = go r
     where
       go : (b : Bool) → RecordDidFine image T m t thread (record_step (here image m t no_method no_frame rest 0) c b)
       go true = ended Ready (λ u. refl)
-      go false = look_fine
+      go false = look_fine (prior_at image c) (λ p has. has)
 
 pub records_are_fine : RecordsAreFine
 records_are_fine image T m t c r thread h i = subst (λ (y : Here). RecordDidFine image T m t thread (record_step y c r)) (sym i.sees) (record_fine image T m t thread i.may.accepted i.may.typed i.has_thread i.living c r h.rest i.levels)

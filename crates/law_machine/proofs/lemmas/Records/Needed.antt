@@ -17,7 +17,7 @@ use Rattle.dv_defs.specs.Names.{clinit_name}
 use Rattle.dv_defs.specs.Parts.{Call}
 use Rattle.dv_defs.specs.Pools.{Method, is_static}
 use Rattle.dv_defs.specs.Op.{Op, New, StaticGet, StaticPut, Invoke, Code, needs}
-use Rattle.dv_typing.specs.Statics.{At, op_rules, fits_call}
+use Rattle.dv_typing.specs.Statics.{At, fits_call}
 use Rattle.dv_machine.specs.Monitors.{wait_of}
 use Rattle.dv_machine.specs.Classes.{ClassState, Fresh, InProgress, Ready, Erroneous, state_at, asked, ask_of, with_state}
 use Rattle.dv_machine.specs.State.{Thread, Machine, Left, Did, NoRoom, Here, left, with_classes}
@@ -30,6 +30,7 @@ use Rattle.dv_machine.specs.Accepted.{Accepted}
 use Rattle.law_machine.specs.Premises.{LeftFine, ThrowFine, DidFine}
 use Rattle.law_machine.specs.StepLaws.{NeedsAreFine}
 use Rattle.law_types.proofs.Facts.{nothing}
+use Rattle.law_flow.proofs.Statics.{KeepsRules}
 use Rattle.law_machine.proofs.lemmas.Growth.Threads.{records_after}
 use Rattle.law_machine.proofs.lemmas.Monitors.Moved.{quiet_moved}
 use Rattle.law_machine.proofs.lemmas.Monitors.Owners.{entry_none}
@@ -54,12 +55,12 @@ needed_there image T acc (Invoke Call.Static ks g) c i e = subst (λ (k : ℕ). 
 needed_there image T acc op c i e = absurd (cc)
 
 -- a static call has no receiver
-static_receiver : (image : Image) (code : Code) (ks : List ℕ) (g : Method) → op_rules image code (Invoke Call.Static ks g) ≡ [] → receiver_of (Invoke Call.Static ks g) ≡ None
+static_receiver : (image : Image) (code : Code) (ks : List ℕ) (g : Method) → KeepsRules image code (Invoke Call.Static ks g) → receiver_of (Invoke Call.Static ks g) ≡ None
 static_receiver image code [] g e = refl
-static_receiver image code (k ∷ ks) g e = ap (λ (b : Bool). (if b then None else Some k)) (and_parts (is_static g) (not (bytes_eq g.def.name clinit_name)) (first_rule (fits_call image code.method Call.Static g) (rule.S 14) _ e)).0
+static_receiver image code (k ∷ ks) g e = ap (λ (b : Bool). (if b then None else Some k)) (and_parts (is_static g) (not (bytes_eq g.def.name clinit_name)) (first_rule (fits_call image code.method e.0 Call.Static g) (rule.S 14) _ e.1)).0
 
 -- a thread can't wait at an instruction that needs a class
-no_receiver : (image : Image) (code : Code) (op : Op) (c : ℕ) → op_rules image code op ≡ [] → needs op ≡ Some c → receiver_of op ≡ None
+no_receiver : (image : Image) (code : Code) (op : Op) (c : ℕ) → KeepsRules image code op → needs op ≡ Some c → receiver_of op ≡ None
 no_receiver image code (Invoke Call.Static ks g) c r e = static_receiver image code ks g r
 no_receiver image code (Invoke Call.Direct ks g) c r e = absurd (cc)
 no_receiver image code (Invoke Call.Super ks g) c r e = absurd (cc)
@@ -69,7 +70,7 @@ no_receiver image code op c r e = refl
 
 -- ---- such an instruction
 
-module _ (image : Image) (T : Typings) (m : Machine) (t : ℕ) (thread : Thread) (own : Method) (f : Frame) (rest : List Level) (x : At) (s : RegState) (h : Stands image T m t thread own f rest x s) (code : Code) (rules : op_rules image code x.op ≡ []) (c : ℕ) (needed : needs x.op ≡ Some c) where
+module _ (image : Image) (T : Typings) (m : Machine) (t : ℕ) (thread : Thread) (own : Method) (f : Frame) (rest : List Level) (x : At) (s : RegState) (h : Stands image T m t thread own f rest x s) (code : Code) (rules : KeepsRules image code x.op) (c : ℕ) (needed : needs x.op ≡ Some c) where
   no_entry : wait_of m.shared.monitors t ≡ None
   no_entry = entry_none t m.shared.monitors.waits (λ k d l. quiet image T m t thread own f rest x s h (λ o w. none-some _ (sym (no_receiver image code x.op c rules needed) ∙ w.has_receiver)) _ (h.may.typed.monitors.waits k d l))
 
@@ -146,4 +147,4 @@ needs_are_fine image T m t thread h x s i d = subst (λ (y : Here). DidFine imag
 
     go : (o : Option ℕ) → needs x.op ≡ o → DidFine image T m t thread x (with_ready (here image m t h.own h.frame h.rest x.next) x.op o)
     go None e = done
-    go (Some c) e = asked_fine image T m t thread h.own h.frame h.rest x s (stands image T m t thread h x s i) i.code i.fine.rules c e _ done
+    go (Some c) e = asked_fine image T m t thread h.own h.frame h.rest x s (stands image T m t thread h x s i) i.code (i.fine.reference, i.fine.rules) c e _ done

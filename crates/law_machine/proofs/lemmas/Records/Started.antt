@@ -14,27 +14,27 @@ use Rattle.dv_typing.specs.declared.typing.RegType.TheVariants as ty
 use Rattle.dv_defs.specs.Names.{thread_name, init_name}
 use Rattle.dv_defs.specs.Types.{of_class, words_of_all}
 use Rattle.dv_typing.specs.Statics.{receiver_words, arg_words}
-use Rattle.dv_defs.specs.Pools.{Method, method_at, supers, nearest, is_static, is_abstract, is_constructor, is_of_object, own_type, no_arguments, initialiser}
-use Rattle.dv_defs.specs.Order.{has_number}
+use Rattle.dv_defs.specs.Pools.{Method, method_at, is_static, is_constructor, is_of_object, own_type, no_arguments, initialiser}
+use Rattle.dv_defs.specs.Selecting.{selected}
 use Rattle.dv_typing.specs.RegTypes.{Types, type_at, all_types}
 use Rattle.dv_typing.specs.Transfer.{arg_types, begins_uninitialised}
 use Rattle.dv_machine.specs.Heap.{Heap}
 use Rattle.dv_machine.specs.State.{reg_at}
-use Rattle.dv_machine.specs.Calls.{entered_frame, all_natives, class_of_kind}
-use Rattle.dv_machine.specs.Threads.{new_thread, run_method}
+use Rattle.dv_machine.specs.Calls.{Lands, landing, entered_frame, all_natives, class_of_kind}
+use Rattle.dv_machine.specs.Threads.{new_thread, run_landing}
 use Rattle.dv_machine.specs.Conforming.{Own, IsOf, Fits, IsGood, Conforms, IsUninit, RefFine, RefsFine}
 use Rattle.dv_machine.specs.WellTyped.{Typings, own_of}
-use Rattle.dv_machine.specs.Accepted.{Accepted}
+use Rattle.dv_machine.specs.Accepted.{Accepted, IsSelected}
 use Rattle.law_machine.specs.Premises.{StartedFine}
 use Rattle.law_machine.specs.StepLaws.{NewThreadIsFine}
-use Rattle.law_types.proofs.Facts.{no, nothing}
+use Rattle.law_types.proofs.Facts.{no}
 use Rattle.law_machine.proofs.lemmas.Common.Facts.{fits_of}
 use Rattle.law_machine.proofs.lemmas.Calls.Classes.{looked_up_fits}
 use Rattle.law_machine.proofs.lemmas.Exceptions.Rises.{object_there}
 use Rattle.law_machine.proofs.lemmas.Records.Entered.{refs_entered, entered_code, entered_placed}
 use Rattle.law_flow.proofs.MethodCode.{the_code, code_there}
 use Rattle.law_machine.proofs.lemmas.Calls.Words.{instance_types}
-use Rattle.law_machine.proofs.lemmas.Calls.Dispatched.{NoneNamed, no_native}
+use Rattle.law_machine.proofs.lemmas.Calls.Dispatched.{NoneNamed, no_native, selection}
 use Rattle.law_machine.proofs.lemmas.Common.Members.{class_of_method}
 
 -- ---- the method run
@@ -66,30 +66,30 @@ has_register image T acc m b there body s p =
     let words : arg_words m ≡ 1 = ap (λ (q : Proto). receiver_words m + words_of_all q.params) p ∙ ap (λ (x : Bool). elim x as (λ y. ℕ) [ true ↦ 0 | false ↦ 1 ] + 0) s in
     omega (arith, room, words)
 
-module _ (image : Image) (T : Typings) (acc : Accepted image T) (heap : Heap) (n o : ℕ) (run : Method) (i : IsOf image heap o (of_class thread_name)) (c : ℕ) (own : class_of_kind image (Some i.object.kind) ≡ Some c) (found : nearest image c (codes "run") no_arguments ≡ Some run) (concrete : is_abstract run ≡ false) where
-  near : (method_at image run.id ≡ Some run) × (run.def.name ≡ codes "run") × (run.def.proto ≡ no_arguments) × (is_static run ≡ false) × (has_number run.info.class.0 (supers image c) ≡ true)
-  near = acc.finds.nearest_is c (codes "run") no_arguments run found
+module _ (image : Image) (T : Typings) (acc : Accepted image T) (heap : Heap) (n o : ℕ) (run : Method) (i : IsOf image heap o (of_class thread_name)) (c : ℕ) (own : class_of_kind image (Some i.object.kind) ≡ Some c) (lands : landing image (selected image c (codes "run") no_arguments) ≡ Lands run) where
+  runs : (method_at image run.id ≡ Some run) × IsSelected image c (codes "run") no_arguments run
+  runs = selection image T acc heap c (codes "run") no_arguments run lands
 
   body : (b : Body) × (run.def.body ≡ Some b)
-  body = acc.bodies.body run.id run near.0 concrete (no_native image run (codes "run") run_named near.1)
+  body = acc.bodies.body run.id run runs.0 runs.1.concrete (no_native image run (codes "run") run_named runs.1.named)
 
   -- the object fits the class of the method
   receiver_fits : IsOf image heap o (own_type image run)
-  receiver_fits = looked_up_fits image T acc heap o (of_class thread_name) c run.info.class.0 refl i (ap (class_of_kind image) i.object.has_kind ∙ own) (class_of_method image run.id run near.0) near.4
+  receiver_fits = looked_up_fits image T acc heap o (of_class thread_name) c run.info.class.0 refl i (ap (class_of_kind image) i.object.has_kind ∙ own) (class_of_method image run.id run runs.0) runs.1.among
 
   no_initialiser : initialiser image run.info.class.0 ≢ Some run
-  no_initialiser e = no (sym near.3 ∙ (acc.finds.initialisers run.info.class.0 run e).1)
+  no_initialiser e = no (sym runs.1.instance ∙ (acc.finds.initialisers run.info.class.0 run e).1)
 
   begins : begins_uninitialised image run ≡ false
-  begins = begins_plain image run near.1
+  begins = begins_plain image run runs.1.named
 
   started : StartedFine image T heap n (new_thread o run)
   started = record {
     thread = (
       tt,
       (
-        entered_code image T acc heap run body.0 near.0 body.1 (v.Ref o ∷ []) false [] (has_register image T acc run body.0 near.0 body.1 near.3 near.2) no_initialiser,
-        entered_placed image T acc heap run body.0 near.0 body.1 None (v.Ref o ∷ []) begins (subst (λ (ts : Types). IsGood image heap (own_of image None run) (v.Ref o ∷ []) ts) (sym (receiver_alone image run near.3 begins near.2)) (one_good image heap (own_of image None run) o (own_type image run) (fits_of image heap o (own_type image run) receiver_fits))),
+        entered_code image T acc heap run body.0 runs.0 body.1 (v.Ref o ∷ []) false [] (has_register image T acc run body.0 runs.0 body.1 runs.1.instance runs.1.proto) no_initialiser,
+        entered_placed image T acc heap run body.0 runs.0 body.1 None (v.Ref o ∷ []) begins (subst (λ (ts : Types). IsGood image heap (own_of image None run) (v.Ref o ∷ []) ts) (sym (receiver_alone image run runs.1.instance begins runs.1.proto)) (one_good image heap (own_of image None run) o (own_type image run) (fits_of image heap o (own_type image run) receiver_fits))),
         tt,
         tt,
       ),
@@ -99,8 +99,8 @@ module _ (image : Image) (T : Typings) (acc : Accepted image T) (heap : Heap) (n
   }
 
 pub new_thread_is_fine : NewThreadIsFine
-new_thread_is_fine image T heap n o run acc i found concrete = go (class_of_kind image (Some i.object.kind)) refl (sym (ap (λ (k : Option Kind). run_method image (class_of_kind image k)) i.object.has_kind) ∙ found)
+new_thread_is_fine image T heap n o run acc i lands = go (class_of_kind image (Some i.object.kind)) refl (sym (ap (λ (k : Option Kind). run_landing image (class_of_kind image k)) i.object.has_kind) ∙ lands)
   where
-    go : (x : Option ℕ) → class_of_kind image (Some i.object.kind) ≡ x → run_method image x ≡ Some run → StartedFine image T heap n (new_thread o run)
-    go None e f = nothing _ run f
-    go (Some c) e f = started image T acc heap n o run i c e f concrete
+    go : (x : Option ℕ) → class_of_kind image (Some i.object.kind) ≡ x → run_landing image x ≡ Lands run → StartedFine image T heap n (new_thread o run)
+    go None e f = absurd (cc)
+    go (Some c) e f = started image T acc heap n o run i c e f

@@ -30,7 +30,8 @@ use Rattle.dv_machine.specs.Mem.{on_object}
 use Rattle.dv_machine.specs.Calls.{unless_abstract, Landing, Lands, Lacks, dispatch, native_of, receiver_of, landed, invoke, with_receiver, call_instance, call_constructor, call_object, read_super, landed_on}
 use Rattle.dv_machine.specs.Threads.{thread_with, is_living, free_or_mine, monitor_enter, stays, goes, taken_back, wait_step, join_with}
 use Rattle.dv_machine.specs.Natives.{native_step}
-use Rattle.dv_machine.specs.Step.{step_of, step_thread, step_living, step_code, step_at, settled, gone_on, here, no_method, no_frame, act, with_ready, for_class, look_at, prior}
+use Rattle.dv_defs.specs.Prior.{prior_at}
+use Rattle.dv_machine.specs.Step.{step_of, step_thread, step_living, step_code, step_at, settled, gone_on, here, no_method, no_frame, act, with_ready, for_class, look_at}
 use Rattle.dv_machine.specs.Running.{by_ask, blocked_record, blocked_enter, blocked_waiting, blocked_native, blocked_landing, blocked_call, blocked_op, blocked_needing, blocked_at, blocked_levels, blocked_thread, by_owner, blocked_receiver, blocked_wait, blocked_join}
 use Rattle.law_machine.specs.StepLaws.{BlockedStepsWait, EndedStepsStay}
 use Rattle.law_machine.proofs.lemmas.Common.Lists.{set_same}
@@ -198,7 +199,7 @@ module _ (image : Image) (m : Machine) (t : ℕ) (thread : Thread) (has : slice_
   levels_wait b [] levels e = absurd (cc)
   levels_wait b (level.Code f ∷ ls) levels e = code_waits f ls b (method_at image f.method.0) levels e
   levels_wait b (level.Init c true ∷ ls) levels e = absurd (cc)
-  levels_wait b (level.Init c false ∷ ls) levels e = record_waits c.0 ls b (prior image c.0) levels e
+  levels_wait b (level.Init c false ∷ ls) levels e = record_waits c.0 ls b (prior_at image c.0) levels e
 
 pub blocked_steps_wait : BlockedStepsWait
 unfolding Waits

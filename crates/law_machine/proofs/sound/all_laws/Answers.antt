@@ -6,7 +6,7 @@ use Rattle.law_types.proofs.Joins.{join_is_least}
 use Rattle.law_types.proofs.Transfer.{transfer_is_monotone}
 use Rattle.law_types.proofs.Satisfied.{demand_is_antitone}
 use Rattle.law_machine.proofs.lemmas.Bridge.Records.{acceptance_gives_records}
-use Rattle.law_machine.proofs.lemmas.Bridge.LookUps.{look_ups_find}
+use Rattle.law_machine.proofs.lemmas.Bridge.Selected.{look_ups_find}
 use Rattle.law_machine.proofs.lemmas.Registers.Written.{write_keeps, long_write_keeps}
 use Rattle.law_machine.proofs.lemmas.Registers.Made.{new_instance_keeps, constructor_keeps, own_constructor_keeps}
 use Rattle.law_machine.proofs.lemmas.Heap.Added.{object_is_added, array_is_added, string_is_added}
