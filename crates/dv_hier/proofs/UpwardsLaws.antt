@@ -33,11 +33,11 @@ or_two : (b c h : Bool) → or_else b (c || h) ≡ or_else b c || h
 or_two true c h = refl
 or_two false c h = refl
 
-has_both : (d : ℕ) (xs ys : List ℕ) → has_number d (xs ++ ys) ≡ has_number d xs || has_number d ys
+pub has_both : (d : ℕ) (xs ys : List ℕ) → has_number d (xs ++ ys) ≡ has_number d xs || has_number d ys
 has_both d [] ys = refl
 has_both d (x ∷ xs) ys = ap (or_else (nat_eq x d)) (has_both d xs ys) ∙ (or_two (nat_eq x d) (has_number d xs) (has_number d ys))
 
-numbers_both : (xs ys : List ClassId) → numbers (xs ++ ys) ≡ numbers xs ++ numbers ys
+pub numbers_both : (xs ys : List ClassId) → numbers (xs ++ ys) ≡ numbers xs ++ numbers ys
 numbers_both [] ys = refl
 numbers_both (x ∷ xs) ys = ap (λ zs. x.0 ∷ zs) (numbers_both xs ys)
 
@@ -77,7 +77,7 @@ unmarked_set marks i within free =
     let e : unmarked (set marks i true) + 1 ≡ unmarked marks + 0 = subst (λ b. unmarked (set marks i true) + cond (not b) 1 0 ≡ unmarked marks + 0) free (sum_by-set (λ b. cond (not b) 1 0) marks i true false within) in
     omega arith
 
-marked_set : (marks : List Bool) (i d : ℕ) → i < length marks → is_marked (set marks i true) d ≡ is_marked marks d || has_number d (i ∷ [])
+pub marked_set : (marks : List Bool) (i d : ℕ) → i < length marks → is_marked (set marks i true) d ≡ is_marked marks d || has_number d (i ∷ [])
 marked_set marks i d within =
     ⊎_elim
     (λ same. subst (λ x. is_marked (set marks i true) x ≡ is_marked marks x || has_number x (i ∷ [])) (same.1) (get_or-set_same marks i true false within ∙ sym (or_second (is_marked marks i) (has_number i (i ∷ [])) (number_first i []))))
@@ -127,7 +127,7 @@ ready_marks marks info ready d has =
 
 -- ---- classes that don't depend on themselves
 
-unmarked_all : (n d : ℕ) → is_marked (replicate n false) d ≡ false
+pub unmarked_all : (n d : ℕ) → is_marked (replicate n false) d ≡ false
 unmarked_all zero d = refl
 unmarked_all (suc n) zero = refl
 unmarked_all (suc n) (suc d) = unmarked_all n d
@@ -212,7 +212,7 @@ met_first marks waiting id within free = record {
   left = let fewer = unmarked_set marks id.0 within free in let more = length-append waiting (id ∷ []) in omega arith;
 }
 
-both_marked : (a x y b c : Bool) → b ≡ a || x → c ≡ b || y → c ≡ a || (x || y)
+pub both_marked : (a x y b c : Bool) → b ≡ a || x → c ≡ b || y → c ≡ a || (x || y)
 both_marked true x y b c e f = f ∙ rw e refl
 both_marked false x y b c e f = f ∙ rw e refl
 

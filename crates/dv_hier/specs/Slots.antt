@@ -101,4 +101,4 @@ abbrev pub IsAcyclic : List ClassInfo → Type 0
 IsAcyclic cs = (c : ℕ) → has_number c (superclasses cs c) ≡ false
 
 abbrev pub info_with : ClassInfo × List FieldId → ClassInfo
-info_with p = record { def = p.0.def; parent = p.0.parent; interfaces = p.0.interfaces; slots = p.1; table = p.0.table }
+info_with p = record { def = p.0.def; parent = p.0.parent; interfaces = p.0.interfaces; slots = p.1; table = p.0.table; prior = p.0.prior }

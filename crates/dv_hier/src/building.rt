@@ -6,10 +6,12 @@ ghost use Rattle.dv_hier.specs.Hierarchies.{hierarchy_of, naming_phases};
 ghost use Rattle.law_linking.specs.Stripped.{def_names};
 
 use crate::above::check_above;
+use crate::ancestors::ancestors_of_all;
 use crate::boot::check_boot;
 use crate::cycles::check_cycles;
 use crate::fields::check_fields;
 use crate::hierarchy::{Classes, Hierarchy};
+use crate::interfaces::interfaces_of_all;
 use crate::limits::check_limits;
 use crate::names::index_names;
 use crate::numbering::number_classes;
@@ -60,10 +62,15 @@ pub fn build(alloc: Global, classes: Classes) -> Result<Hierarchy, LinkError>
     let list = list.into_vec();
     let names = check_names(alloc, list.as_slice(), boot)?;
     let (classes, fields) = arranged(alloc, list, &names)?;
+    let infos = classes.as_slice();
+    let interfaces = interfaces_of_all(alloc, infos)?;
+    let ancestors = ancestors_of_all(alloc, infos, interfaces.as_slice())?;
     Ok(Hierarchy {
         classes: Seq::of(classes),
         fields: Seq::of(fields),
         boot,
         names,
+        interfaces: Seq::of(interfaces),
+        ancestors: Seq::of(ancestors),
     })
 }

@@ -2,6 +2,7 @@
 #![tactic(auto)]
 
 mod above;
+mod ancestors;
 mod boot;
 mod boot_rows;
 mod building;
@@ -9,6 +10,7 @@ mod cycles;
 mod faults;
 mod fields;
 mod hierarchy;
+mod interfaces;
 mod limits;
 mod names;
 mod numbering;

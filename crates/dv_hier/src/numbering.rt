@@ -41,6 +41,7 @@ fn number_class(alloc: Global, class: ClassDef, names: &Pool<Text>) -> Result<Cl
             interfaces: Seq::of(interfaces),
             slots: Seq::of(Vec::new(alloc)),
             table: Seq::of(Vec::new(alloc)),
+            prior: Seq::of(Vec::new(alloc)),
         }),
         Err(error) => {
             drop(class);

@@ -192,6 +192,7 @@ fn with_slots(info: ClassInfo, slots: Seq<FieldId>) -> ClassInfo
         interfaces,
         slots: _,
         table,
+        prior,
     } = info;
     ClassInfo {
         def,
@@ -199,6 +200,7 @@ fn with_slots(info: ClassInfo, slots: Seq<FieldId>) -> ClassInfo
         interfaces,
         slots,
         table,
+        prior,
     }
 }
 

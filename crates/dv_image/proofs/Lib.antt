@@ -1,7 +1,7 @@
 pub mod Walks
 pub mod Joining
-pub mod Landings
-pub mod Ascending
+pub mod Reading
 pub mod IndexLaws
+pub mod Selections
 pub mod FieldWalks
 pub mod FieldSearch

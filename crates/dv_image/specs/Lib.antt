@@ -1,3 +1,3 @@
 pub mod Common
-pub mod Calls
+pub mod Selecting
 pub mod Ascents

@@ -12,7 +12,8 @@ use Rattle.dv_defs.specs.declared.names.Proto.{Proto}
 use Rattle.dv_defs.specs.declared.names.Ty.{Ty}
 use Rattle.dv_defs.specs.Images.{Image}
 use Rattle.dv_defs.specs.LinkFaults.{Found, found}
-use Rattle.dv_defs.specs.Linked.{all_methods, is_main_with, main_found, main_of, with_arguments}
+use Rattle.dv_defs.specs.Selecting.{all_methods}
+use Rattle.dv_defs.specs.Linked.{is_main_with, main_found, main_of, with_arguments}
 use Rattle.dv_defs.specs.Names.{main_name, string_name}
 use Rattle.dv_defs.specs.Op.{Code, code_at, code_of, with_body}
 use Rattle.dv_defs.specs.Pools.{Method, class_named, declared_by, is_static, method_at, no_arguments}

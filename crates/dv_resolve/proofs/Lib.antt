@@ -1,6 +1,4 @@
 pub mod LinkedLaws
-pub mod AddedLaws
-pub mod InterfaceLaws
 mod Added
 mod Declared
 mod Walking
@@ -9,4 +7,3 @@ pub mod IdLaws
 pub mod OrderLaws
 pub mod DeclarerLaws
 pub mod MainLaws
-pub mod RoundLaws

@@ -1,6 +1,6 @@
 -- Classes with tables and resolved pools are what linking gives of the definitions in them.
-use Rattle.std.proofs.Common.{◌≡◌, ◌+◌, ◌<◌, ℕ, List, [], ◌∷◌, length, map, Option, None, Result, Ok, Err, refl, sym, ap, subst, ◌∙◌, arith}
-use Rattle.std.specs.Prelude.{◌^◌, sum_by, slice_index_or}
+use Rattle.std.proofs.Common.{◌≡◌, ◌+◌, ◌<◌, ℕ, Bool, List, [], ◌∷◌, length, map, option_map, Option, Some, None, Result, Ok, Err, refl, sym, ap, subst, ◌∙◌, arith}
+use Rattle.std.specs.Prelude.{◌^◌, sum_by, slice_get, slice_index_or}
 use Rattle.std.specs.Option.{option_or}
 use Rattle.std.specs.List.{enumerate_from}
 use Rattle.std.proofs.lemmas.List.{length-map}
@@ -12,24 +12,27 @@ use Rattle.dv_defs.specs.declared.image.MethodInfo.{MethodInfo}
 use Rattle.dv_defs.specs.declared.faults.LinkError.{LinkError}
 use Rattle.dv_defs.specs.declared.faults.LinkError.TheVariants as error
 use Rattle.dv_defs.specs.Images.{Image}
+use Rattle.dv_defs.specs.Pools.{Method, method_at}
 use Rattle.dv_defs.specs.LookUp.{interfaces_above, once}
 use Rattle.dv_defs.specs.Order.{numbers}
 use Rattle.dv_defs.specs.Numbering.{declared, numbered, all_fields_declared, names_of}
 use Rattle.dv_defs.specs.LinkFaults.{Found, Fails, first_fault_by, boot_fault, limit_fault, is_twice, wrong_pools}
-use Rattle.dv_defs.specs.Linked.{defs, slotted, tabled, class_with_table, resolved, method_with_pools, first_phases, method_phase, pool_phase, unless_found, linked, IsImage, IsIndex}
-use Rattle.law_linking.specs.Stripped.{class_stripped, method_info_stripped, field_info_stripped}
+use Rattle.dv_defs.specs.Linked.{defs, slotted, tabled, class_with_table, resolved, method_with_pools, first_phases, method_phase, pool_phase, unless_found, linked, IsImage, IsIndex, key_of}
+use Rattle.law_linking.specs.Stripped.{class_stripped, method_info_stripped, method_stripped, field_info_stripped}
 use Rattle.law_linking.specs.Ordered.{IsOrdered}
 use Rattle.law_linking.proofs.First.{or_none}
 use Rattle.law_linking.proofs.Bounds.{few_classes, few_methods, few_fields}
-use Rattle.law_linking.proofs.AlikeImages.{AreAlike, alike_tabled}
+use Rattle.law_linking.proofs.Alike.{stripped_resolved}
+use Rattle.law_linking.proofs.AlikeImages.{AreAlike, alike_tabled, alike_method_at}
+use Rattle.law_linking.proofs.AlikeTables.{alike_key_number, alike_place_keys}
 use Rattle.law_linking.proofs.AlikeFaults.{alike_wrong_pools, alike_with_pools}
 use Rattle.law_linking.proofs.Members.{HasMethods, HasFields}
 use Rattle.law_linking.proofs.FromPhases.{phases_ordered}
 use Rattle.law_linking.proofs.OrderedImages.{ordered_alike}
 use Rattle.dv_resolve.specs.Answers.{Answers}
-use Rattle.dv_hier.specs.Hierarchies.{HierarchyValue, IsHierarchy, hierarchy_of}
+use Rattle.dv_hier.specs.Hierarchies.{HierarchyValue, IsHierarchy, AreAbove, hierarchy_of}
 use Rattle.dv_hier.proofs.Built.{defs_slotted}
-use Rattle.dv_vtable.specs.Tables.{TabledValue, IsTabled, tabled_of}
+use Rattle.dv_vtable.specs.Tables.{TabledValue, IsTabled, AreKeyed, image_of as tabled_image, tabled_of}
 
 -- the image of classes before their pools are resolved
 abbrev pub before_pools : List ClassDef → ℕ → Image
@@ -38,6 +41,17 @@ before_pools cs boot = tabled (slotted (numbered cs boot))
 -- the classes with these methods, and with their fields as they are declared
 abbrev pub image_of : List ClassInfo → List MethodInfo → ℕ → Image
 image_of is ms boot = record { classes = is; methods = ms; fields = all_fields_declared 0 (defs is); boot = boot }
+
+-- the numbers of methods' names and prototypes, in an image that is like another
+keys_kept : (a b : Image) → AreAlike a b → (keys : List ℕ) → ((n : ℕ) (m : Method) → method_at a n ≡ Some m → slice_get keys n ≡ Some (key_of a m))
+    → (n : ℕ) (m : Method) → method_at b n ≡ Some m → slice_get keys n ≡ Some (key_of b m)
+keys_kept a b alike keys are n m is = by (method_at a n) refl (alike_method_at a b alike n ∙ ap (option_map method_stripped) is)
+  where
+    by : (o : Option Method) → method_at a n ≡ o → option_map method_stripped o ≡ Some (method_stripped m) → slice_get keys n ≡ Some (key_of b m)
+    by None at same = absurd (cc)
+    by (Some k) at same =
+        let like : method_stripped k ≡ method_stripped m = cc in
+        are n k at ∙ ap Some (ap (λ (x : Method). key_of a x) like ∙ alike_key_number a b alike m.def.name m.def.proto)
 
 -- the phases in turn
 linked_whole : (cs : List ClassDef) (boot : ℕ) → first_phases cs boot ≡ None → method_phase cs boot ≡ None → linked cs boot ≡ unless_found (pool_phase cs boot) (resolved (before_pools cs boot))
@@ -99,45 +113,53 @@ module _ (t : TabledValue) (kept : IsTabled t) (is : IsHierarchy t.h) where
       linked_whole (defs t.h.classes) t.h.boot is.is_built kept.is_checked ∙
       (ap (λ f. unless_found f (resolved (before_pools (defs t.h.classes) t.h.boot))) none ∙ ap (λ i. Ok i) (sym (resolved_is done made)))
 
+  -- alike, as the pools of bodies alone differ
+  made_alike : (done : List MethodInfo) → done ≡ map (method_with_pools (image_of t.h.classes t.methods t.h.boot)) t.methods
+      → AreAlike (tabled_image t) (record { classes = t.h.classes; methods = done; fields = t.h.fields; boot = t.h.boot })
+  unfolding resolved
+  made_alike done made =
+      let same : map method_info_stripped t.methods ≡ map method_info_stripped done =
+      sym (ap (map method_info_stripped) made ∙ ap (λ (x : Image). x.methods) (stripped_resolved (image_of t.h.classes t.methods t.h.boot))) in
+      λ j. record { classes = map class_stripped t.h.classes; methods = same j; fields = map field_info_stripped t.h.fields; boot = t.h.boot }
+
   -- and it keeps what an image keeps
-  pub linked_kept : (done : List MethodInfo) (names : List (List ℕ)) (above : List (List ClassId))
+  pub linked_kept : (done : List MethodInfo) (names : List (List ℕ)) (interfaces : List (List ClassId)) (ancestors : List (List Bool)) (keys : List ℕ) (places : List (List ℕ))
       → done ≡ map (method_with_pools (image_of t.h.classes t.methods t.h.boot)) t.methods → pool_phase (defs t.h.classes) t.h.boot ≡ None
-      → names ≡ names_of t.h.classes
-      → ((c : ℕ) → numbers (slice_index_or above c []) ≡ once (interfaces_above (image_of t.h.classes t.methods t.h.boot) c))
-      → IsImage (record { classes = t.h.classes; methods = done; fields = t.h.fields; boot = t.h.boot }) × IsIndex names above (record { classes = t.h.classes; methods = done; fields = t.h.fields; boot = t.h.boot })
-  linked_kept done names above made none named listed =
-      (record { is_linked = linked_is done made none; named = is.named; values = is.values }, record { names_are = named; above_are = listed })
+      → names ≡ names_of t.h.classes → AreAbove interfaces ancestors t.h.classes → AreKeyed keys places (tabled_image t)
+      → IsImage (record { classes = t.h.classes; methods = done; fields = t.h.fields; boot = t.h.boot })
+      × IsIndex names interfaces ancestors keys places (record { classes = t.h.classes; methods = done; fields = t.h.fields; boot = t.h.boot })
+  linked_kept done names interfaces ancestors keys places made none named above keyed =
+      let image : Image = record { classes = t.h.classes; methods = done; fields = t.h.fields; boot = t.h.boot } in (
+        record { is_linked = linked_is done made none; named = is.named; values = is.values },
+        record {
+          names_are = named;
+          interfaces_are = above.interfaces_are image refl;
+          ancestors_are = above.ancestors_are image refl;
+          keys_are = keys_kept (tabled_image t) image (made_alike done made) keys keyed.keys_are;
+          places_are = λ c. keyed.places_are c ∙ alike_place_keys (tabled_image t) image (made_alike done made) c;
+        },
+      )
 
 -- ---- what is told of the classes that a call is handed, with their names and the interfaces above them
 
 -- it holds of each image of these classes whose members are numbered
 abbrev pub Holds : List ClassInfo → List (List ℕ) → List (List ClassId) → (Image → Type 0) → Type 0
-Holds is names above told =
+Holds is names interfaces told =
     (image : Image) → image.classes ≡ is → HasMethods image → HasFields image → IsOrdered image → names ≡ names_of image.classes
-    → ((c : ℕ) → numbers (slice_index_or above c []) ≡ once (interfaces_above image c)) → told image
+    → ((c : ℕ) → numbers (slice_index_or interfaces c []) ≡ once (interfaces_above image c)) → told image
 
--- the interfaces above the classes are listed
-abbrev pub AreAbove : List ClassInfo → List (List ClassId) → Type 0
-AreAbove is above = (image : Image) → image.classes ≡ is → IsOrdered image → (c : ℕ) → numbers (slice_index_or above c []) ≡ once (interfaces_above image c)
-
-pub listed_for : (classes infos : List ClassInfo) → infos ≡ classes → (lists above : List (List ClassId)) → above ≡ lists → AreAbove infos lists → AreAbove classes above
-listed_for classes infos same lists above is listed = λ image own ordered c. ap (λ (ls : List (List ClassId)). numbers (slice_index_or ls c [])) is ∙ listed image (own ∙ sym same) ordered c
-
-pub listed_own : (t : TabledValue) → IsTabled t → IsHierarchy t.h → (above : List (List ClassId)) → AreAbove t.h.classes above → (c : ℕ) → numbers (slice_index_or above c []) ≡ once (interfaces_above (image_of t.h.classes t.methods t.h.boot) c)
-listed_own t kept is above listed = listed (image_of t.h.classes t.methods t.h.boot) refl (own_ordered t kept is)
-
-module _ (t : TabledValue) (kept : IsTabled t) (is : IsHierarchy t.h) (names : List (List ℕ)) (above : List (List ClassId)) (named : names ≡ names_of t.h.classes) where
+module _ (t : TabledValue) (kept : IsTabled t) (is : IsHierarchy t.h) (names : List (List ℕ)) (interfaces : List (List ClassId)) (ancestors : List (List Bool)) (named : names ≡ names_of t.h.classes) (above : AreAbove interfaces ancestors t.h.classes) where
   -- of the image of the classes themselves
-  pub own_told : (infos : List ClassInfo) → infos ≡ t.h.classes → (told : Image → Type 0) → AreAbove t.h.classes above → Holds infos names above told → told (image_of t.h.classes t.methods t.h.boot)
-  own_told infos same told listed holds =
+  pub own_told : (infos : List ClassInfo) (lists : List (List ClassId)) → infos ≡ t.h.classes → lists ≡ interfaces → (told : Image → Type 0) → Holds infos names lists told → told (image_of t.h.classes t.methods t.h.boot)
+  own_told infos lists same listed told holds =
       holds (image_of t.h.classes t.methods t.h.boot) (sym same) (own_methods t kept is) refl (own_ordered t kept is) named
-      (listed (image_of t.h.classes t.methods t.h.boot) refl (own_ordered t kept is))
+      (λ c. ap (λ (ls : List (List ClassId)). numbers (slice_index_or ls c [])) listed ∙ above.interfaces_are (image_of t.h.classes t.methods t.h.boot) refl c)
 
-  pub pools_told : (infos : List ClassInfo) → infos ≡ t.h.classes → (P : Option Found → Type 0) → AreAbove t.h.classes above
-      → Holds infos names above (λ image. P (first_fault_by (wrong_pools image) (defs infos))) → P (pool_phase (defs t.h.classes) t.h.boot)
-  pools_told infos same P listed holds =
+  pub pools_told : (infos : List ClassInfo) (lists : List (List ClassId)) → infos ≡ t.h.classes → lists ≡ interfaces → (P : Option Found → Type 0)
+      → Holds infos names lists (λ image. P (first_fault_by (wrong_pools image) (defs infos))) → P (pool_phase (defs t.h.classes) t.h.boot)
+  pools_told infos lists same listed P holds =
       subst P ((λ j. first_fault_by (wrong_pools (image_of t.h.classes t.methods t.h.boot)) (defs (same j))) ∙ own_pools t kept is)
-      (own_told infos same (λ image. P (first_fault_by (wrong_pools image) (defs infos))) listed holds)
+      (own_told infos lists same listed (λ image. P (first_fault_by (wrong_pools image) (defs infos))) holds)
 
 -- ---- faults, phase by phase
 

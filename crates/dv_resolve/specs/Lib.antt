@@ -1,6 +1,5 @@
 pub mod Orders
 pub mod Declarers
-pub mod Interfaces
 pub mod Members
 pub mod Answers
 pub mod Firsts

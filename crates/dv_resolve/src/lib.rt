@@ -2,13 +2,12 @@
 #![tactic(auto)]
 
 mod declarers;
-mod interfaces;
+mod hints;
 mod linking;
 mod lookups;
 mod main_method;
 mod members;
 mod orders;
-mod places;
 mod pool_types;
 mod pools;
 mod resolving;

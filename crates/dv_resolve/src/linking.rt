@@ -11,9 +11,8 @@ ghost use Rattle.law_linking.proofs.Members.{HasFields, HasMethods};
 ghost use Rattle.dv_resolve.specs.Answers.{Answers};
 ghost use Rattle.dv_resolve.specs.Members.{Knows};
 
-use crate::interfaces::interfaces_of_all;
+use crate::hints::hints_of_all;
 use crate::members::Members;
-use crate::places::places_in_tables;
 use crate::pools::check_pools;
 use crate::resolving::resolve_pools;
 use dv_defs::{ClassId, ClassInfo, Image, Index, LinkError, MethodInfo, Pool, Seq, Text};
@@ -62,22 +61,28 @@ fn resolved_methods(
 fn resolve(alloc: Global, tabled: Tabled) -> Result<Image, LinkError>
     ensures { Answers (linked (defs tabled.h.classes) tabled.h.boot) result }
 {
-    let Tabled { h, methods } = tabled;
+    let Tabled {
+        h,
+        methods,
+        keys,
+        places,
+    } = tabled;
     let Hierarchy {
         classes,
         fields,
         boot,
         names,
+        interfaces,
+        ancestors,
     } = h;
-    let interfaces = interfaces_of_all(alloc, classes.items())?;
     let methods = resolved_methods(
         alloc,
         classes.items(),
         &names,
-        interfaces.as_slice(),
+        interfaces.items(),
         methods.into_vec(),
     )?;
-    let places = places_in_tables(alloc, classes.items(), methods.as_slice())?;
+    let hints = hints_of_all(alloc, places.items())?;
     Ok(Image {
         classes,
         methods: Seq::of(methods),
@@ -85,8 +90,11 @@ fn resolve(alloc: Global, tabled: Tabled) -> Result<Image, LinkError>
         boot,
         index: Index {
             names,
-            interfaces: Seq::of(interfaces),
-            places: Seq::of(places),
+            interfaces,
+            ancestors,
+            keys,
+            places,
+            hints: Seq::of(hints),
         },
     })
 }

@@ -1,4 +1,5 @@
--- The tables that an image has, told of its classes alone: a class's methods are put into the entries of the classes above it.
+-- The methods by key that a class and its superclasses have, told of the classes alone: a class's methods are put into the entries of the
+-- classes above it.
 use Rattle.std.specs.Prelude.{All, ℕ, suc, ◌≡◌, Bool, true, false, ◌&&◌, not, List, [], ◌∷◌, filter, Option, Some, None, slice_get, bytes_eq}
 use Rattle.std.specs.List.{list_any, find}
 use Rattle.std.proofs.Common.{refl, ap, sym, subst, ◌∙◌, arith}
@@ -11,7 +12,8 @@ use Rattle.dv_defs.specs.Images.{Image}
 use Rattle.dv_defs.specs.Names.{init_name}
 use Rattle.dv_defs.specs.Types.{same_proto}
 use Rattle.dv_defs.specs.Pools.{Method, methods_of, is_static, is_private, is_virtual_of, first_of_classes}
-use Rattle.dv_defs.specs.Linked.{is_callable, callable_of_class, callable_along}
+use Rattle.dv_defs.specs.Linked.{callable_along}
+use Rattle.dv_defs.specs.Selecting.{is_callable, callable_of_class}
 use Rattle.law_linking.proofs.Members.{HasMethods, own_from, own_methods, method_of, methods_of_class, declared_by_own}
 use Rattle.dv_vtable.specs.Chains.{insert_entry, Key, same_key, key_in, is_in_tables, method_number, entered, first_method, entered_chain}
 use Rattle.dv_vtable.proofs.Inserting.{neither, like, is_new, IsApart, apart_more, put, after, entries, put_is, apart_filtered, found_filtered}
@@ -35,7 +37,7 @@ IsApartBy key xs = IsApart same_key key xs
 abbrev AreCallable : List Method → Type 0
 AreCallable ms = All (λ m. is_callable m ≡ true) ms
 
-name_by : (s p i : Bool) → (not s && not p && not (not s && i)) ≡ true → i ≡ false
+pub name_by : (s p i : Bool) → (not s && not p && not (not s && i)) ≡ true → i ≡ false
 name_by true p i callable = absurd (cc)
 name_by false true i callable = absurd (cc)
 name_by false false true callable = absurd (cc)

@@ -1,5 +1,5 @@
 -- What a table has while the methods of classes are entered.
-use Rattle.std.specs.Prelude.{ℕ, zero, suc, ◌≡◌, ◌<◌, ◌≤◌, ◌+◌, All, IfSome, Bool, true, false, List, [], ◌∷◌, length, map, drop, Option, Some, None, nat_eq, slice_get, sum_by}
+use Rattle.std.specs.Prelude.{ℕ, zero, suc, ◌≡◌, ◌<◌, ◌≤◌, ◌+◌, All, IfSome, Bool, true, false, List, [], ◌∷◌, length, drop, Option, Some, None, slice_get, sum_by}
 use Rattle.std.proofs.Common.{refl, sym, ap, subst, ◌∙◌, arith, cond, get_or}
 use Rattle.std.proofs.lemmas.List.{drop_more, length-map}
 use Rattle.dv_defs.specs.declared.names.ClassId.{ClassId}
@@ -8,24 +8,13 @@ use Rattle.dv_defs.specs.declared.class.MethodDef.{MethodDef}
 use Rattle.dv_defs.specs.declared.image.ClassInfo.{ClassInfo}
 use Rattle.dv_defs.specs.Order.{numbers}
 use Rattle.dv_defs.specs.Pools.{methods_of}
-use Rattle.dv_vtable.specs.Chains.{insert_entry, key_in, is_in_tables, method_number, first_method, entered_chain, chain_table}
+use Rattle.dv_vtable.specs.Chains.{key_in, is_in_tables, first_method, entered_chain}
 use Rattle.dv_vtable.specs.Numbered.{all_methods, key_number, number_in, numbers_in, entered_numbers, numbered}
 use Rattle.dv_vtable.proofs.FirstLaws.{methods_stand}
 use Rattle.dv_vtable.proofs.MethodNumbers.{first_within}
-use Rattle.dv_vtable.proofs.NumberLaws.{AreAmong, method_among, entered_numbered, numbered_values}
+use Rattle.dv_vtable.proofs.NumberLaws.{AreAmong, method_among, entered_numbered}
 
 -- ---- one class
-
--- the turn of a loop over the numbers of a class's methods
-pub entered_next : (ks : List (Option ℕ)) (first i : ℕ) (k : Option ℕ) (es new whole : List (ℕ × MethodId)) → i < length ks → k ≡ get_or ks i k
-    → new ≡ elim k as (λ _. List (ℕ × MethodId)) [ Some n ↦ insert_entry nat_eq es n (method_number (first + i)) | None ↦ es ]
-    → entered_numbers es (first + i) (drop i ks) ≡ whole
-    → entered_numbers new (first + (i + 1)) (drop (i + 1) ks) ≡ whole
-entered_next ks first i k es new whole within is put so_far =
-    let left : drop i ks ≡ k ∷ drop (i + 1) ks = drop_more ks i k within ∙ ap (λ o. o ∷ drop (i + 1) ks) (sym is) in
-    let next : first + (i + 1) ≡ suc (first + i) = omega arith in
-    (λ j. entered_numbers (put j) (next j) (drop (i + 1) ks))
-    ∙ (ap (entered_numbers es (first + i)) (sym left) ∙ so_far)
 
 pub own_among : (cs : List ClassInfo) (c : ℕ) (info : ClassInfo) → slice_get cs c ≡ Some info → AreAmong (all_methods cs) info.def.methods
 own_among cs c info at k m there = method_among (all_methods cs) (first_method cs c + k) m (methods_stand cs c info at k m there)
@@ -89,8 +78,3 @@ chain_next cs chain k first id info own es new within is at are number so_far pu
     ∙ ((λ j. entered_numbers (so_far j) (number j) (are j))
     ∙ (entered_numbered all (methods_of (slice_get cs id.0)) (first_method cs id.0) above among
     ∙ ap (λ ns. numbered all (entered_chain cs [] ns)) (sym left)))
-
--- what a table has once a chain is done
-pub table_told : (cs : List ClassInfo) (es : List (ℕ × MethodId)) (chain : List ℕ) → es ≡ numbered (all_methods cs) (entered_chain cs [] chain)
-    → map (λ e. e.1) es ≡ chain_table cs chain
-table_told cs es chain are = ap (map (λ e. e.1)) are ∙ numbered_values (all_methods cs) (entered_chain cs [] chain)

@@ -18,7 +18,7 @@ use Rattle.dv_vtable.specs.declared.keys.MethodKey.{MethodKey}
 use Rattle.dv_vtable.specs.Chains.{Key, key_in, key_told, first_method}
 use Rattle.dv_vtable.specs.Firsts.{AreFirst, AreNumbered, StandAt}
 use Rattle.dv_vtable.specs.Keys.{key_cmp}
-use Rattle.dv_vtable.specs.Numbered.{all_methods, has_key, key_number, number_in, numbers_in}
+use Rattle.dv_vtable.specs.Numbered.{all_methods, has_key, key_number, key_numbers_in, number_in, numbers_in}
 use Rattle.dv_vtable.proofs.KeyLemmas.{equal_by_order, key_like}
 use Rattle.dv_vtable.proofs.MethodNumbers.{first_more, first_within}
 use Rattle.dv_vtable.proofs.NumberLaws.{number_at}
@@ -116,13 +116,14 @@ new_number all known new k m i name proto at are none put =
         itself (Some k) = refl
         itself None = refl
 
--- ---- the list of numbers
+-- ---- the lists of numbers
 
 -- the turn of a loop over methods
-pub numbered_next : (all : List MethodDef) (known : BTreeMap MethodKey ℕ) (ks new : List (Option ℕ)) (m : MethodDef) → slice_get all (length ks) ≡ Some m
-    → AreFirst (take (length ks + 1) all) known → ks ≡ numbers_in all (take (length ks) all) → new ≡ ks ++ number_in all m ∷ []
-    → AreNumbered all known new
-numbered_next all known ks new m at first so_far pushed =
+pub numbered_next : (all : List MethodDef) (known : BTreeMap MethodKey ℕ) (ns more_ns : List ℕ) (ks new : List (Option ℕ)) (m : MethodDef) → slice_get all (length ks) ≡ Some m
+    → AreFirst (take (length ks + 1) all) known → ns ≡ key_numbers_in all (take (length ks) all) → ks ≡ numbers_in all (take (length ks) all)
+    → more_ns ≡ ns ++ key_number all (key_in m) ∷ [] → new ≡ ks ++ number_in all m ∷ []
+    → AreNumbered all known more_ns new
+numbered_next all known ns more_ns ks new m at first numbers_so_far so_far numbers_pushed pushed =
     let within : length ks < length all = slice_get_within all (length ks) m at in
     let more : take (length ks + 1) all ≡ take (length ks) all ++ m ∷ [] =
     take_more all (length ks) m within ∙ ap (λ n. take (length ks) all ++ n ∷ []) (get_or_from_slice_get all (length ks) m m at) in
@@ -130,8 +131,12 @@ numbered_next all known ks new m at first so_far pushed =
     let keys : new ≡ numbers_in all (take (length ks + 1) all) =
     pushed ∙ (ap (λ xs. xs ++ number_in all m ∷ []) so_far
     ∙ (sym (map-append (number_in all) (take (length ks) all) (m ∷ [])) ∙ ap (numbers_in all) (sym more))) in
+    let numbers : more_ns ≡ key_numbers_in all (take (length ks + 1) all) =
+    numbers_pushed ∙ (ap (λ xs. xs ++ key_number all (key_in m) ∷ []) numbers_so_far
+    ∙ (sym (map-append (λ n. key_number all (key_in n)) (take (length ks) all) (m ∷ [])) ∙ ap (key_numbers_in all) (sym more))) in
     record {
       first = rw len first;
+      numbers = rw len numbers;
       keys = rw len keys;
     }
 
@@ -167,12 +172,11 @@ pub next_count : (cs : List ClassInfo) (c n new : ℕ) (info : ClassInfo) (items
 next_count cs c n new info items within is same first more =
     more ∙ ((λ j. first j + length (same j)) ∙ sym (first_more cs c info (slice_get_read cs (length cs) c info refl within is)))
 
-pub all_numbered : (cs : List ClassInfo) (c : ℕ) (ks : List (Option ℕ)) → length cs ≤ c → length ks ≡ first_method cs c
-    → ks ≡ numbers_in (all_methods cs) (take (length ks) (all_methods cs)) → ks ≡ numbers_in (all_methods cs) (all_methods cs)
-all_numbered cs c ks over many so_far =
+pub all_taken : (cs : List ClassInfo) (c n : ℕ) → length cs ≤ c → n ≡ first_method cs c → take n (all_methods cs) ≡ all_methods cs
+all_taken cs c n over many =
     let whole : first_method cs c ≡ sum_by (λ (d : ClassInfo). length d.def.methods) cs = ap (sum_by (λ (d : ClassInfo). length d.def.methods)) (take_all c cs over) in
-    let all : length (all_methods cs) ≤ length ks = omega (arith, all_count cs, many, whole) in
-    so_far ∙ ap (numbers_in (all_methods cs)) (take_all (length ks) (all_methods cs) all)
+    let all : length (all_methods cs) ≤ n = omega (arith, all_count cs, many, whole) in
+    take_all n (all_methods cs) all
 
 -- ---- the numbers of a class
 

@@ -38,7 +38,7 @@ module _ {X K : Type 0} (eq : K → K → Bool) (key : X → K) where
   IsApart (x ∷ xs) = (list_any (like x) xs ≡ false) × IsApart xs
 
 module _ {X K : Type 0} (eq : K → K → Bool) (laws : IsEquivalence eq) (key : X → K) where
-  same_like : (x m : X) → like eq key x m ≡ true → like eq key x ≡ like eq key m
+  pub same_like : (x m : X) → like eq key x m ≡ true → like eq key x ≡ like eq key m
   same_like x m is = λ j n. laws.congr (key x) (key m) (key n) is j
 
   any_grown : (x : X) (xs : List X) (y : X) → like eq key x y ≡ false → list_any (like eq key y) (xs ++ x ∷ []) ≡ list_any (like eq key y) xs

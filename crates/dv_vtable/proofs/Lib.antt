@@ -11,3 +11,16 @@ pub mod CallableLaws
 pub mod MethodNumbers
 pub mod EnteredLaws
 pub mod TableLaws
+pub mod Grouping
+pub mod KeyNumbers
+pub mod OfferLaws
+pub mod SelectLaws
+pub mod SourceLaws
+pub mod MarkLaws
+pub mod OfferEntries
+pub mod ChoosingLaws
+pub mod OfferingLaws
+pub mod RowLaws
+pub mod KeyedLaws
+pub mod DownwardLaws
+pub mod PriorLaws

@@ -1,5 +1,5 @@
 -- The numbers of keys tell the keys apart.
-use Rattle.std.proofs.Common.{◌≡◌, ◌<◌, ℕ, zero, suc, Bool, true, false, cond, ◌||◌, List, [], ◌∷◌, length, map, get_or, position, Some, None, refl, sym, ap, ◌∙◌, arith}
+use Rattle.std.proofs.Common.{◌≡◌, ◌<◌, ℕ, zero, suc, Bool, true, false, cond, ◌||◌, List, [], ◌∷◌, length, get_or, position, Some, None, refl, sym, ap, ◌∙◌, arith}
 use Rattle.std.specs.Prelude.{nat_eq, slice_get}
 use Rattle.std.specs.List.{list_any}
 use Rattle.std.proofs.lemmas.Bool.{eqb-true}
@@ -103,10 +103,6 @@ entered_numbered all (m ∷ ms) id es among =
         ∙ (ap (λ fs. entered_numbers fs (suc id) (numbers_in all ms)) (inserted_number all es (key_in m) (method_number id) (among 0 m refl))
         ∙ (rest (insert_entry same_key es (key_in m) (method_number id)) ∙ sym (by_key true is)))
     go false is rest = by_number false is ∙ (rest es ∙ sym (by_key false is))
-
-pub numbered_values : (all : List MethodDef) (es : List (Key × MethodId)) → map (λ e. e.1) (numbered all es) ≡ map (λ e. e.1) es
-numbered_values all [] = refl
-numbered_values all (e ∷ es) = ap (λ ids. e.1 ∷ ids) (numbered_values all es)
 
 -- ---- the numbers that have entries
 

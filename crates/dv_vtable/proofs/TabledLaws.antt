@@ -1,5 +1,5 @@
 -- A hierarchy with tables is what linking gives of the definitions in it, as far as methods.
-use Rattle.std.proofs.Common.{◌≡◌, ◌+◌, ◌<◌, ℕ, List, [], ◌∷◌, length, map, Some, None, refl, sym, ap, subst, ◌∙◌, arith}
+use Rattle.std.proofs.Common.{Bool, ◌≡◌, ◌+◌, ◌<◌, ℕ, List, [], ◌∷◌, length, map, Some, None, refl, sym, ap, subst, ◌∙◌, arith}
 use Rattle.std.specs.Prelude.{◌^◌, sum_by, All, slice_get, slice_index_or}
 use Rattle.std.specs.List.{enumerate_from}
 use Rattle.std.proofs.lemmas.List.{length-map}
@@ -9,22 +9,32 @@ use Rattle.dv_defs.specs.declared.class.ClassDef.{ClassDef}
 use Rattle.dv_defs.specs.declared.image.ClassInfo.{ClassInfo}
 use Rattle.dv_defs.specs.Images.{Image}
 use Rattle.dv_defs.specs.First.{first_below}
+use Rattle.dv_defs.specs.declared.names.ClassId.{ClassId}
+use Rattle.dv_defs.specs.Order.{numbers as numbers_of_classes}
 use Rattle.dv_defs.specs.Numbering.{declared, numbered, all_methods_declared, names_of}
 use Rattle.dv_defs.specs.declared.faults.LinkError.{LinkError}
 use Rattle.dv_defs.specs.LinkFaults.{Fails, found, fault_at, tested, first_fault_by, boot_fault, limit_fault, is_twice, method_twice, wrong_methods}
+use Rattle.dv_defs.specs.Prior.{prior_at}
 use Rattle.dv_defs.specs.Linked.{defs, slotted, tabled, class_with_table, table_at, first_phases, method_phase, AreNamed, HasValues}
+use Rattle.law_linking.specs.Ordered.{IsOrdered}
 use Rattle.law_linking.specs.Stripped.{AreInRange, stripped, class_stripped, method_info_stripped, field_info_stripped}
 use Rattle.law_linking.proofs.First.{or_none, map_none, first_below_none}
-use Rattle.law_linking.proofs.Alike.{stripped_slotted}
+use Rattle.law_linking.proofs.Alike.{stripped_slotted, stripped_tabled}
 use Rattle.law_linking.proofs.AlikeFaults.{alike_wrong_methods}
 use Rattle.law_linking.proofs.AlikeImages.{AreAlike, alike_slotted}
 use Rattle.law_linking.proofs.Bounds.{few_classes, few_methods}
 use Rattle.law_linking.proofs.FromPhases.{phases_ordered}
 use Rattle.law_linking.proofs.OrderedImages.{ordered_alike}
+use Rattle.law_linking.proofs.AlikePriors.{alike_prior}
 use Rattle.law_linking.proofs.AlikeTables.{alike_table_at}
-use Rattle.dv_hier.specs.Hierarchies.{HierarchyValue, IsHierarchy, without_table, without_tables, hierarchy_of}
+use Rattle.dv_hier.specs.Hierarchies.{AreAbove, HierarchyValue, IsHierarchy, without_table, without_tables, hierarchy_of}
+use Rattle.dv_hier.specs.Upwards.{bare}
 use Rattle.dv_hier.proofs.Built.{defs_slotted}
-use Rattle.dv_vtable.specs.Tables.{TabledValue, IsTabled, tabled_of}
+use Rattle.dv_hier.proofs.KeptAbove.{above_tabled, ordered_as}
+use Rattle.dv_vtable.specs.declared.sources.Sources.{Sources}
+use Rattle.dv_vtable.specs.Numbered.{AreNumbers}
+use Rattle.dv_vtable.specs.Sources.{AreSources}
+use Rattle.dv_vtable.specs.Tables.{TabledValue, IsTabled, image_of as tabled_image, tabled_of}
 
 -- ---- the image of a hierarchy
 
@@ -59,10 +69,15 @@ module _ (h : HierarchyValue) (is : IsHierarchy h) where
       } in
       bare ∙ (ap (λ x. stripped (image_of x)) is.is ∙ (ap stripped (slotted_image (defs h.classes) h.boot) ∙ stripped_slotted (numbered (defs h.classes) h.boot)))
 
+  pub hierarchy_ordered : IsOrdered (image_of h)
+  hierarchy_ordered =
+      ordered_alike (numbered (defs h.classes) h.boot) (image_of h) (sym hierarchy_alike) (phases_ordered (defs h.classes) h.boot is.is_built)
+
   pub hierarchy_range : AreInRange h.classes
-  hierarchy_range =
-      (ordered_alike (numbered (defs h.classes) h.boot) (image_of h) (sym hierarchy_alike)
-      (phases_ordered (defs h.classes) h.boot is.is_built)).range
+  hierarchy_range = hierarchy_ordered.range
+
+  pub classes_ordered : (is : List ClassInfo) → is ≡ h.classes → IsOrdered (bare is)
+  classes_ordered is same = ordered_as (image_of h) (bare is) (sym same) hierarchy_ordered
 
 -- ---- how many there are
 
@@ -104,11 +119,19 @@ methods_once image cs none = λ k d within. once_in image cs none k (slice_index
 
 -- ---- tables
 
-with_tables_same : (a b : Image) → ((c : ℕ) → table_at a c ≡ table_at b c) → (k : ℕ) (is : List ClassInfo)
+with_tables_same : (a b : Image) → ((c : ℕ) → table_at a c ≡ table_at b c) → ((c : ℕ) → prior_at a c ≡ prior_at b c) → (k : ℕ) (is : List ClassInfo)
     → map (class_with_table a) (enumerate_from k is) ≡ map (class_with_table b) (enumerate_from k (map without_table is))
-with_tables_same a b same k [] = refl
-with_tables_same a b same k (i ∷ is) =
-    λ j. record { def = i.def; parent = i.parent; interfaces = i.interfaces; slots = i.slots; table = same k j } ∷ with_tables_same a b same (k + 1) is j
+with_tables_same a b same before k [] = refl
+with_tables_same a b same before k (i ∷ is) =
+    λ j.
+    record {
+      def = i.def;
+      parent = i.parent;
+      interfaces = i.interfaces;
+      slots = i.slots;
+      table = same k j;
+      prior = map (λ p. record { 0 = p }) (before k j);
+    } ∷ with_tables_same a b same before (k + 1) is j
 
 defs_tabled : (image : Image) (k : ℕ) (is : List ClassInfo) → defs (map (class_with_table image) (enumerate_from k is)) ≡ defs is
 defs_tabled image k [] = refl
@@ -127,8 +150,8 @@ abbrev pub with_tables : HierarchyValue → HierarchyValue
 with_tables h = record { classes = (tabled (image_of h)).classes; fields = h.fields; boot = h.boot }
 
 module _ (h : HierarchyValue) (is : IsHierarchy h) where
-  same_tables : (c : ℕ) → table_at (image_of h) c ≡ table_at (slotted (numbered (defs h.classes) h.boot)) c
-  same_tables = alike_table_at (image_of h) (slotted (numbered (defs h.classes) h.boot)) (hierarchy_alike h is ∙ sym (alike_slotted (defs h.classes) h.boot))
+  slotted_alike : AreAlike (image_of h) (slotted (numbered (defs h.classes) h.boot))
+  slotted_alike = hierarchy_alike h is ∙ sym (alike_slotted (defs h.classes) h.boot)
 
   pub tabled_defs : defs (with_tables h).classes ≡ defs h.classes
   unfolding tabled
@@ -142,7 +165,8 @@ module _ (h : HierarchyValue) (is : IsHierarchy h) where
   pub tabled_classes : (with_tables h).classes ≡ (tabled (slotted (numbered (defs h.classes) h.boot))).classes
   unfolding tabled
   tabled_classes =
-      with_tables_same (image_of h) (slotted (numbered (defs h.classes) h.boot)) same_tables 0 h.classes ∙
+      with_tables_same (image_of h) (slotted (numbered (defs h.classes) h.boot)) (alike_table_at (image_of h) (slotted (numbered (defs h.classes) h.boot)) slotted_alike)
+      (alike_prior (image_of h) (slotted (numbered (defs h.classes) h.boot)) slotted_alike) 0 h.classes ∙
       ap (λ js. map (class_with_table (slotted (numbered (defs h.classes) h.boot))) (enumerate_from 0 js)) (ap (λ x. x.classes) is.is)
 
   tabled_fields : h.fields ≡ (tabled (slotted (numbered (defs h.classes) h.boot))).fields
@@ -169,6 +193,16 @@ module _ (h : HierarchyValue) (is : IsHierarchy h) where
         values = subst (All HasValues) (sym tabled_defs) is.values;
       }
 
+  -- and what stands above its classes is the same
+  pub tabled_above : (interfaces : List (List ClassId)) (ancestors : List (List Bool)) → AreAbove interfaces ancestors h.classes → AreAbove interfaces ancestors (with_tables h).classes
+  unfolding tabled
+  tabled_above interfaces ancestors = above_tabled h.classes (with_tables h).classes interfaces ancestors (sym (without_tabled (image_of h) 0 h.classes))
+
+  -- the image with tables is like the one without
+  pub tabled_like : AreAlike (image_of h) (tabled_image (record { h = with_tables h; methods = all_methods_declared 0 (defs h.classes) }))
+  unfolding tabled
+  tabled_like = sym (stripped_tabled (image_of h))
+
   pub tabled_kept : (t : TabledValue) → t.h ≡ with_tables h → t.methods ≡ all_methods_declared 0 (defs h.classes) → method_phase (defs h.classes) h.boot ≡ None → IsTabled t
   tabled_kept t classes methods none =
       let own : defs t.h.classes ≡ defs h.classes = ap (λ x. defs x.classes) classes ∙ tabled_defs in
@@ -177,6 +211,23 @@ module _ (h : HierarchyValue) (is : IsHierarchy h) where
         is_checked = (λ j. method_phase (own j) (first j)) ∙ none;
         is = tabled_is t classes methods ∙ (λ j. tabled_of (sym own j) (sym first j));
       }
+
+-- ---- what tables are made from
+
+pub sources_told : (h : HierarchyValue) → IsHierarchy h → (p : Sources) (interfaces : List (List ClassId)) (ancestors : List (List Bool)) → p.infos.now ≡ h.classes
+    → p.methods.now ≡ all_methods_declared 0 (defs p.infos.now) → p.interfaces.now ≡ interfaces
+    → AreNumbers p.infos.now p.keys.now.firsts.items p.keys.now.numbers.items p.keys.now.keys.items → AreAbove interfaces ancestors h.classes
+    → All (λ c. first_below (method_twice c.methods) (length c.methods) ≡ None) (defs h.classes) → AreSources p
+sources_told h is p interfaces ancestors classes methods listed numbers above once =
+    record {
+      few_methods = subst (λ cs. sum_by (λ c. length c.def.methods) cs < 2 ^ 31) (sym classes) (few_hierarchy h is).1;
+      range = subst AreInRange (sym classes) (hierarchy_range h is);
+      ordered = λ image same. ordered_as (image_of h) image (sym (same ∙ classes)) (hierarchy_ordered h is);
+      each_once = subst (λ cs. All (λ c. first_below (method_twice c.methods) (length c.methods) ≡ None) (defs cs)) (sym classes) once;
+      methods = methods;
+      numbered = numbers;
+      interfaces = λ image same c. ap (λ ls. numbers_of_classes (slice_index_or ls c [])) listed ∙ above.interfaces_are image (same ∙ classes) c;
+    }
 
 -- ---- what is told of the classes that the calls are handed
 
@@ -194,8 +245,3 @@ failed_classes h kept is same e fails =
 
 pub none_wrong : (h : HierarchyValue) → IsHierarchy h → method_phase (defs h.classes) h.boot ≡ None → All (λ c. first_below (method_twice c.methods) (length c.methods) ≡ None) (defs h.classes)
 none_wrong h is none = methods_once (image_of h) (defs h.classes) (hierarchy_methods h is ∙ none)
-
-pub made_classes : (h : HierarchyValue) (is done : List ClassInfo) → is ≡ h.classes
-    → ((image : Image) → image.classes ≡ is → image.methods ≡ all_methods_declared 0 (defs is) → done ≡ (tabled image).classes)
-    → done ≡ (with_tables h).classes
-made_classes h is done same made = made (image_of h) (sym same) (ap (λ ds. all_methods_declared 0 (defs ds)) (sym same))

@@ -1,10 +1,11 @@
--- Tables of methods, told of the classes alone.
-use Rattle.std.specs.Prelude.{ℕ, suc, Bool, true, false, ◌&&◌, not, List, [], ◌∷◌, length, map, take, sum_by, Some, slice_get, bytes_eq, if◌then◌else◌}
-use Rattle.std.specs.List.{range_with_len}
+-- The methods of classes and their superclasses by key, told of the classes alone.
+use Rattle.std.specs.Prelude.{ℕ, suc, Bool, true, false, ◌&&◌, not, List, [], ◌∷◌, length, take, sum_by, Some, slice_get, bytes_eq, if◌then◌else◌}
 use Rattle.dv_defs.specs.declared.names.Proto.{Proto}
+use Rattle.dv_defs.specs.declared.names.ClassId.{ClassId}
 use Rattle.dv_defs.specs.declared.names.MethodId.{MethodId}
 use Rattle.dv_defs.specs.declared.class.MethodDef.{MethodDef}
 use Rattle.dv_defs.specs.declared.image.ClassInfo.{ClassInfo}
+use Rattle.dv_defs.specs.declared.image.Select.{Select}
 use Rattle.dv_defs.specs.declared.flags.Flag.TheVariants as flag
 use Rattle.dv_defs.specs.Flags.{has_flag}
 use Rattle.dv_defs.specs.Names.{init_name}
@@ -72,15 +73,6 @@ entered_chain cs es (c ∷ chain) = entered_class cs (entered_chain cs es chain)
 abbrev pub chain_of : List ClassInfo → ℕ → List ℕ
 chain_of cs c = walked cs (length cs) (Some c)
 
-abbrev pub chain_table : List ClassInfo → List ℕ → List MethodId
-chain_table cs chain = map (λ e. e.1) (entered_chain cs [] chain)
-
-abbrev pub table_of : List ClassInfo → ℕ → List MethodId
-table_of cs c = chain_table cs (chain_of cs c)
-
--- of the first so many classes
-abbrev pub tables_below : List ClassInfo → ℕ → List (List MethodId)
-tables_below cs n = map (table_of cs) (range_with_len 0 n)
-
-abbrev pub info_with : ClassInfo × List MethodId → ClassInfo
-info_with p = record { def = p.0.def; parent = p.0.parent; interfaces = p.0.interfaces; slots = p.0.slots; table = p.1 }
+-- a class with this table and these classes that are initialised before it
+abbrev pub info_with : (ClassInfo × List Select) × List ClassId → ClassInfo
+info_with p = record { def = p.0.0.def; parent = p.0.0.parent; interfaces = p.0.0.interfaces; slots = p.0.0.slots; table = p.0.1; prior = p.1 }

@@ -4,3 +4,8 @@ pub mod Keys
 pub mod Chains
 pub mod Numbered
 pub mod Firsts
+pub mod Sources
+pub mod Offers
+pub mod Choosing
+pub mod Rows
+pub mod Priors

@@ -26,9 +26,14 @@ number_in all m = if is_in_tables m then Some (key_number all (key_in m)) else N
 abbrev pub numbers_in : List MethodDef → List MethodDef → List (Option ℕ)
 numbers_in all ms = map (number_in all) ms
 
--- the numbers of the classes' first methods, and those of the keys of all methods
-pub record AreNumbers (cs : List ClassInfo) (fs : List ℕ) (ks : List (Option ℕ)) : Type 0 where
+-- and of any
+abbrev pub key_numbers_in : List MethodDef → List MethodDef → List ℕ
+key_numbers_in all ms = map (λ m. key_number all (key_in m)) ms
+
+-- the numbers of the classes' first methods, those of the keys of all methods, and of those on which a call may land
+pub record AreNumbers (cs : List ClassInfo) (fs ns : List ℕ) (ks : List (Option ℕ)) : Type 0 where
   pub firsts : fs ≡ map (first_method cs) (range_with_len 0 (length cs))
+  pub numbers : ns ≡ key_numbers_in (all_methods cs) (all_methods cs)
   pub keys : ks ≡ numbers_in (all_methods cs) (all_methods cs)
 
 -- ---- entries by number
@@ -38,7 +43,7 @@ pub record TableValue : Type 0 where
   pub entries : List (ℕ × MethodId)
   pub count : ℕ
 
-abbrev pub numbers_of : List (ℕ × MethodId) → List ℕ
+abbrev pub numbers_of : {V : Type 0} → List (ℕ × V) → List ℕ
 numbers_of es = map (λ e. e.0) es
 
 -- what stands for each of the numbers is its place among them
@@ -52,5 +57,5 @@ entered_numbers es id (k ∷ ks) =
     entered_numbers (elim k [ Some n ↦ insert_entry nat_eq es n (method_number id) | None ↦ es ]) (suc id) ks
 
 -- entries of keys by the numbers of these
-abbrev pub numbered : List MethodDef → List (Key × MethodId) → List (ℕ × MethodId)
+abbrev pub numbered : {V : Type 0} → List MethodDef → List (Key × V) → List (ℕ × V)
 numbered all es = map (λ e. (key_number all e.0, e.1)) es

@@ -1,8 +1,9 @@
 // Methods that have a body where they may not, or none where they must.
 ghost use Rattle.std.specs.Prelude.{◌≡◌, option_map};
 ghost use Rattle.dv_defs.specs.First.{first_in};
-ghost use Rattle.dv_defs.specs.LinkFaults.{Checks, body_wrong, found, wrong_body, wrong_concrete, wrong_native};
+ghost use Rattle.dv_defs.specs.LinkFaults.{Checks, body_wrong, found, wrong_body, wrong_constructor, wrong_native};
 
+use crate::keys::INIT;
 use dv_defs::{ClassDef, Flag, LinkError, LinkKind, MethodDef};
 use dv_hier::error_of;
 
@@ -27,7 +28,7 @@ fn check_body(
 {
     if has_wrong_body(method)
         || is_wrong_native(boot, place, method)
-        || is_wrong_concrete(class, method)
+        || is_wrong_constructor(class, method)
     {
         return Err(error_of(&class.name, LinkKind::Body(method.name.clone()?)));
     }
@@ -52,11 +53,11 @@ fn is_wrong_native(boot: u32, place: usize, method: &MethodDef) -> bool
     Flag::Native.is_in(method.flags) && place >= boot as usize
 }
 
-/// Whether an interface declares an instance method that isn't abstract.
-fn is_wrong_concrete(class: &ClassDef, method: &MethodDef) -> bool
-    ensures { result ≡ wrong_concrete class.now method.now }
+/// Whether an interface declares a constructor.
+fn is_wrong_constructor(class: &ClassDef, method: &MethodDef) -> bool
+    ensures { result ≡ wrong_constructor class.now method.now }
 {
     Flag::Interface.is_in(class.flags)
         && !Flag::Static.is_in(method.flags)
-        && !Flag::Abstract.is_in(method.flags)
+        && method.name.bytes() == INIT
 }

@@ -1,4 +1,4 @@
-// The table of a class, from its own methods and those of its superclasses.
+// The methods that a class and its superclasses have by their keys: of each key the nearest one.
 ghost use Rattle.std.specs.Prelude.{◌≡◌, ◌<◌, ◌+◌, ◌^◌, [], length, sum_by, All, IfOk, IfSome, OnOk};
 ghost use Rattle.dv_defs.specs.Order.{numbers};
 ghost use Rattle.law_linking.specs.Stripped.{AreInRange};
@@ -26,7 +26,11 @@ fn enter(table: &mut Table, own: &[Option<u32>], first: u32) -> Result<(), Alloc
 }
 
 /// A class and its superclasses, nearest first.
-fn chain_of(alloc: Global, infos: &[ClassInfo], class: ClassId) -> Result<Vec<ClassId>, AllocError>
+pub fn chain_of(
+    alloc: Global,
+    infos: &[ClassInfo],
+    class: ClassId,
+) -> Result<Vec<ClassId>, AllocError>
     requires range { AreInRange infos.now }
     requires class { class.0 < length infos.now }
     ensures chain { IfOk result (λ chain. numbers chain.items ≡ spec.chain_of infos.now class.0) }
@@ -45,14 +49,14 @@ fn chain_of(alloc: Global, infos: &[ClassInfo], class: ClassId) -> Result<Vec<Cl
 }
 
 /// Enters the methods of a chain, which is nearest first: the farthest class's methods come first. The table is empty.
-fn enter_chain(
+pub fn enter_chain(
     table: &mut Table,
     infos: &[ClassInfo],
     keys: &KeyNumbers,
     chain: &[ClassId],
 ) -> Result<(), AllocError>
     requires few_methods { sum_by (λ c. length c.def.methods) infos.now < 2 ^ 31 }
-    requires numbers { AreNumbers infos.now keys.now.firsts.items keys.now.keys.items }
+    requires numbers { AreNumbers infos.now keys.now.firsts.items keys.now.numbers.items keys.now.keys.items }
     requires range { All (λ c. c.0 < length infos.now) chain.now }
     requires table { table.old ≡ record { entries = []; count = length keys.now.keys.items } }
     ensures { OnOk result (table.new ≡ record {
@@ -65,26 +69,4 @@ fn enter_chain(
         enter(table, keys.own(infos, class), keys.firsts[class])?;
     }
     Ok(())
-}
-
-/// The table of a class.
-pub fn table_of(
-    alloc: Global,
-    table: &mut Table,
-    infos: &[ClassInfo],
-    keys: &KeyNumbers,
-    class: ClassId,
-) -> Result<Vec<MethodId>, AllocError>
-    requires range { AreInRange infos.now }
-    requires class { class.0 < length infos.now }
-    requires few_methods { sum_by (λ c. length c.def.methods) infos.now < 2 ^ 31 }
-    requires numbers { AreNumbers infos.now keys.now.firsts.items keys.now.keys.items }
-    requires count { table.old.count ≡ length keys.now.keys.items }
-    ensures count { OnOk result (table.new.count ≡ table.old.count) }
-    ensures table { IfOk result (λ methods. methods.items ≡ spec.table_of infos.now class.0) }
-{
-    let chain = chain_of(alloc, infos, class)?;
-    table.clear();
-    enter_chain(table, infos, keys, &chain)?;
-    table.methods(alloc)
 }

@@ -22,7 +22,7 @@ fn enter_finals(
     keys: &KeyNumbers,
     class: usize,
 ) -> Result<(), AllocError>
-    requires numbers { AreNumbers infos.now keys.now.firsts.items keys.now.keys.items }
+    requires numbers { AreNumbers infos.now keys.now.firsts.items keys.now.numbers.items keys.now.keys.items }
     requires class { class < length infos.now }
     requires count { finals.old.count ≡ length keys.now.keys.items }
     ensures count { OnOk result (finals.new.count ≡ finals.old.count) }
@@ -48,7 +48,7 @@ fn enter_finals_above(
     class: usize,
 ) -> Result<(), AllocError>
     requires range { AreInRange infos.now }
-    requires numbers { AreNumbers infos.now keys.now.firsts.items keys.now.keys.items }
+    requires numbers { AreNumbers infos.now keys.now.firsts.items keys.now.numbers.items keys.now.keys.items }
     requires class { class < length infos.now }
     requires count { finals.old.count ≡ length keys.now.keys.items }
     ensures count { OnOk result (finals.new.count ≡ finals.old.count) }
@@ -77,7 +77,7 @@ pub fn check_finals(
     class: &ClassDef,
 ) -> Result<(), LinkError>
     requires range { AreInRange infos.now }
-    requires numbers { AreNumbers infos.now keys.now.firsts.items keys.now.keys.items }
+    requires numbers { AreNumbers infos.now keys.now.firsts.items keys.now.numbers.items keys.now.keys.items }
     requires class { slice_get (defs infos.now) place ≡ Some class.now }
     requires count { finals.old.count ≡ length keys.now.keys.items }
     ensures count { OnOk result (finals.new.count ≡ finals.old.count) }

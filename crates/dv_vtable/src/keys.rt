@@ -3,6 +3,9 @@ ghost use Rattle.std.specs.Prelude.{◌≡◌};
 
 use dv_defs::{MethodDef, Proto, Text};
 
+/// The name of constructors.
+pub const INIT: &[u8] = b"<init>";
+
 /// A method's name and prototype.
 #[derive(Clone, Copy, PartialEq, Eq, PartialOrd, Ord)]
 pub struct MethodKey<'a> {

@@ -72,7 +72,7 @@ fn check_class(
     class: &ClassDef,
 ) -> Result<(), LinkError>
     requires range { AreInRange infos.now }
-    requires numbers { AreNumbers infos.now keys.now.firsts.items keys.now.keys.items }
+    requires numbers { AreNumbers infos.now keys.now.firsts.items keys.now.numbers.items keys.now.keys.items }
     requires class { slice_get (defs infos.now) place ≡ Some class.now }
     requires count { finals.old.count ≡ length keys.now.keys.items }
     ensures count { OnOk result (finals.new.count ≡ finals.old.count) }
@@ -95,7 +95,7 @@ pub fn check_methods(
     boot: u32,
 ) -> Result<(), LinkError>
     requires range { AreInRange infos.now }
-    requires numbers { AreNumbers infos.now keys.now.firsts.items keys.now.keys.items }
+    requires numbers { AreNumbers infos.now keys.now.firsts.items keys.now.numbers.items keys.now.keys.items }
     ensures { (image : Image) → image.classes ≡ infos.now → image.boot ≡ boot → Checks result (first_fault_by (wrong_methods image) (defs infos.now)) }
 {
     let mut finals = Table::new(alloc, keys.keys.len())?;

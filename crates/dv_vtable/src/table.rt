@@ -1,5 +1,5 @@
 // Methods by the numbers of their keys, in the order in which the keys were met.
-ghost use Rattle.std.specs.Prelude.{◌≡◌, ◌<◌, [], map, nat_eq, position, IfOk, OnOk};
+ghost use Rattle.std.specs.Prelude.{◌≡◌, ◌<◌, [], nat_eq, position, IfOk, OnErr, OnOk};
 ghost use Rattle.std.specs.List.{list_any};
 ghost use Rattle.dv_vtable.specs.Chains.{insert_entry};
 ghost use Rattle.dv_vtable.specs.Numbered.{numbers_of};
@@ -46,7 +46,7 @@ impl Table {
     }
 
     /// The place of a number's entry.
-    fn place_of(&self, number: u32) -> Option<usize>
+    pub fn place_of(&self, number: u32) -> Option<usize>
         requires { number < self.now.count }
         ensures { result ≡ position (nat_eq number) (numbers_of self.now.entries) }
     {
@@ -69,7 +69,8 @@ impl Table {
     /// Enters a method. A number that is there keeps its place, and has this method now; a new one goes last.
     pub fn enter(&mut self, number: u32, method: MethodId) -> Result<(), AllocError>
         requires { number < self.old.count }
-        ensures { OnOk result (self.new ≡ record { entries = insert_entry nat_eq self.old.entries number method; count = self.old.count }) }
+        ensures ok { OnOk result (self.new ≡ record { entries = insert_entry nat_eq self.old.entries number method; count = self.old.count }) }
+        ensures err { OnErr result (self.new ≡ self.old) }
     {
         match self.place_of(number) {
             Some(place) => self.entries[place].1 = method,
@@ -81,10 +82,10 @@ impl Table {
         Ok(())
     }
 
-    /// The methods in the order of their entries.
-    pub fn methods(&self, alloc: Global) -> Result<Vec<MethodId>, AllocError>
-        ensures { IfOk result (λ methods. methods.items ≡ map (λ e. e.1) self.now.entries) }
+    /// The entries in their order: a number, and the method that was entered under it last.
+    pub fn entries(&self) -> &[(u32, MethodId)]
+        ensures { result.now ≡ self.now.entries }
     {
-        self.entries.iter().map(|entry| entry.1).collect(alloc)
+        self.entries.as_slice()
     }
 }

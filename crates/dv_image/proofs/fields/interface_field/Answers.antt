@@ -16,7 +16,7 @@ returns-in-Some c =
     let at = ap (λ xs. slice_get xs class) (sym c.items.ensures) ∙ slice_get_read c.items.result.now _ class c.in-Some.interfaces.now refl told.3.0 told.1 in
     c.first_field.ensures ∙
     (ap (λ ids. id_of (first_in found (numbers ids))) c.items-in-Some.ensures ∙
-    ap (λ cs. id_of (first_in found cs)) (listed _ _ _ _ c.image.invariant.1 c.image.view_is class _ at))
+    ap (λ cs. id_of (first_in found cs)) (listed _ _ _ c.image.invariant.1.interfaces_are c.image.view_is class _ at))
 
 pub returns-in-None : goal.returns-in-None
 returns-in-None c =
@@ -24,4 +24,4 @@ returns-in-None c =
     let found = field_declared c.args.image.now c.args.name.now c.args.ty.now in
     let told = c.in-None.ensures.lookup in
     let at = ap (λ xs. slice_get xs class) (sym c.items.ensures) ∙ slice_get_past c.items.result.now class told.3 in
-    ap (λ cs. id_of (first_in found cs)) (listed _ _ _ _ c.image.invariant.1 c.image.view_is class _ at)
+    ap (λ cs. id_of (first_in found cs)) (listed _ _ _ c.image.invariant.1.interfaces_are c.image.view_is class _ at)

@@ -55,10 +55,10 @@ loop-place-preserved c =
           let put : c.match-key.finals ≡ w.enter.new.self = w.finals-is in
           let id : MethodId = record { 0 = w.in-Some.number } in
           record {
-            count = ap (λ (t : TableValue). t.count) (put ∙ w.in_ok-enter.ensures) ∙ c.loop-place.invariant.count;
+            count = ap (λ (t : TableValue). t.count) (put ∙ w.in_ok-enter.ensures.ok) ∙ c.loop-place.invariant.count;
             told = λ k plain. finals_more (all_methods cs) ms i m k w.in-Some.number id c.loop-place.finals.entries c.match-key.finals.entries
                 (has_entry (all_methods cs) c.args.finals.now.entries k) within is (among_at cs c.args.class ms i m same within is) number
-                (sym w.is_in.ensures ∙ w.if-is_in.true) (ap (λ (t : TableValue). t.entries) (put ∙ w.in_ok-enter.ensures)) (c.loop-place.invariant.told k plain);
+                (sym w.is_in.ensures ∙ w.if-is_in.true) (ap (λ (t : TableValue). t.entries) (put ∙ w.in_ok-enter.ensures.ok)) (c.loop-place.invariant.told k plain);
           }
       | in-Some+else-is_in w ↦
           let m = get_or ms i w.index-methods-place.result in

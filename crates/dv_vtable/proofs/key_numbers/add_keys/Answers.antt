@@ -14,12 +14,12 @@ loop-method-preserved c =
     let i = c.loop-method.method-index in
     let m = c.method-item.result in
     let ks = c.loop-method.keys.items in
-    let more : length c.push.new.self.items ≡ length ks + 1 =
-    ap (λ (xs : List (Option ℕ)). length xs) c.in_ok-push.ensures.items ∙ length_push ks c.in_tables.result in
+    let more : length c.push-in-loop-method.new.self.items ≡ length ks + 1 =
+    ap (λ (xs : List (Option ℕ)). length xs) c.in_ok-push-2.ensures.items ∙ length_push ks c.in_tables.result in
     record {
       count = omega (arith, more, c.loop-method.invariant.count);
       numbered = λ all stand before.
-          let was : AreNumbered all c.loop-method.known ks = c.loop-method.invariant.numbered all stand before in
+          let was : AreNumbered all c.loop-method.known c.loop-method.numbers.items ks = c.loop-method.invariant.numbered all stand before in
           let at : slice_get all (length ks) ≡ Some m =
           ap (slice_get all) c.loop-method.invariant.count ∙ stand i m (slice_get_read ms (length ms) i m refl c.loop-method-test.true c.method-item.is) in
           let len : length ks ≡ c.len.result = sym (c.len.ensures ∙ c.loop-method.keys.ok.0) in
@@ -28,6 +28,7 @@ loop-method-preserved c =
           let number : c.in_ok-number.number ≡ key_number all (key_in m) = c.in_ok-number.ensures.number all here first in
           let known : AreFirst (take (length ks + 1) all) c.number_of.new.known =
           subst (λ n. AreFirst (take (n + 1) all) c.number_of.new.known) (sym len) (c.in_ok-number.ensures.known all here first) in
-          let pushed = c.in_ok-push.ensures.items ∙ ap (λ o. ks ++ o ∷ []) (c.in_tables.ensures ∙ ap (λ n. cond (is_in_tables m) (Some n) None) number) in
-          numbered_next all c.number_of.new.known ks c.push.new.self.items m at known was.keys pushed;
+          let numbers = c.in_ok-push.ensures.items ∙ ap (λ n. c.loop-method.numbers.items ++ n ∷ []) number in
+          let pushed = c.in_ok-push-2.ensures.items ∙ ap (λ o. ks ++ o ∷ []) (c.in_tables.ensures ∙ ap (λ n. cond (is_in_tables m) (Some n) None) number) in
+          numbered_next all c.number_of.new.known c.loop-method.numbers.items c.push.new.self.items ks c.push-in-loop-method.new.self.items m at known was.numbers was.keys numbers pushed;
     }

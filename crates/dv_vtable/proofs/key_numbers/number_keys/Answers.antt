@@ -1,6 +1,6 @@
-use Rattle.std.proofs.Common.{length}
-use Rattle.dv_vtable.specs.Numbered.{all_methods}
-use Rattle.dv_vtable.proofs.FirstLaws.{next_stand, next_count, all_numbered}
+use Rattle.std.proofs.Common.{length, ap, ◌∙◌}
+use Rattle.dv_vtable.specs.Numbered.{all_methods, key_numbers_in, numbers_in}
+use Rattle.dv_vtable.proofs.FirstLaws.{next_stand, next_count, all_taken}
 use Rattle.dv_vtable.proofs.key_numbers.number_keys.Goals as goal
 
 pub loop-info-preserved : goal.loop-info-preserved
@@ -14,6 +14,14 @@ loop-info-preserved c =
       numbered = c.in_ok-add_keys.ensures.numbered (all_methods cs) stand c.loop-info.invariant.numbered;
     }
 
-pub returns : goal.returns
-returns c =
-    all_numbered c.args.infos.now c.loop-info.info-index c.loop-info.keys.items c.loop-info-test.false c.loop-info.invariant.count c.loop-info.invariant.numbered.keys
+pub returns-clause-numbers : goal.returns-clause-numbers
+returns-clause-numbers c =
+    let cs = c.args.infos.now in
+    c.loop-info.invariant.numbered.numbers
+    ∙ ap (key_numbers_in (all_methods cs)) (all_taken cs c.loop-info.info-index (length c.loop-info.keys.items) c.loop-info-test.false c.loop-info.invariant.count)
+
+pub returns-clause-keys : goal.returns-clause-keys
+returns-clause-keys c =
+    let cs = c.args.infos.now in
+    c.loop-info.invariant.numbered.keys
+    ∙ ap (numbers_in (all_methods cs)) (all_taken cs c.loop-info.info-index (length c.loop-info.keys.items) c.loop-info-test.false c.loop-info.invariant.count)

@@ -38,8 +38,8 @@ invariant_of-self-in-None c =
     let whole = places_pushed (numbers_of es) places n c.self.invariant within new in
     subst (λ ns. HavePlaces ns (set places n (c.len.result - 1))) (sym pushed) (subst (λ k. HavePlaces (numbers_of es ++ n ∷ []) (set places n k)) (sym last) whole)
 
-pub returns-in-Some : goal.returns-in-Some
-returns-in-Some c =
+pub returns-in-Some-clause-ok : goal.returns-in-Some-clause-ok
+returns-in-Some-clause-ok c =
     let es = c.self.inside.entries.items in
     let n = c.args.number in
     let place = c.in-Some.place in
@@ -54,8 +54,8 @@ returns-in-Some c =
     let count : length c.self.inside.places.items ≡ c.args.self.now.count = ap (λ (t : TableValue). t.count) c.self.view_is in
     λ j. record { entries = entries j; count = count j }
 
-pub returns-in_ok-push-in-None : goal.returns-in_ok-push-in-None
-returns-in_ok-push-in-None c =
+pub returns-in_ok-push-in-None-clause-ok : goal.returns-in_ok-push-in-None-clause-ok
+returns-in_ok-push-in-None-clause-ok c =
     let es = c.self.inside.entries.items in
     let places = c.self.inside.places.items in
     let n = c.args.number in

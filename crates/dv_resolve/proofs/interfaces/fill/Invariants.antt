@@ -1,5 +1,0 @@
-use Rattle.dv_resolve.proofs.RoundLaws.{IsRound}
-use Rattle.dv_resolve.proofs.interfaces.fill.Given as goal
-
-abbrev pub invariant-loop-class : goal.invariant-loop-class
-invariant-loop-class l = IsRound l.infos l.fn.lists.items l.lists.items l.is_whole l.class

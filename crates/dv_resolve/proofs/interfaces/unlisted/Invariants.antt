@@ -1,6 +1,0 @@
-use Rattle.std.proofs.Common.{◌≡◌, map, take}
-use Rattle.dv_resolve.specs.Interfaces.{unlisted}
-use Rattle.dv_resolve.proofs.interfaces.unlisted.Given as goal
-
-abbrev pub invariant-loop : goal.invariant-loop
-invariant-loop l = l.lists.items ≡ map unlisted (take l.index l.infos)
