@@ -2,6 +2,7 @@
 #![tactic(auto)]
 
 mod branches;
+mod calls;
 mod families;
 mod faults;
 mod insns;

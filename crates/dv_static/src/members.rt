@@ -1,21 +1,16 @@
-// The members that instructions name: S13, S14 and S15.
+// The members that instructions name: S13 and S15.
 ghost use Rattle.std.specs.Prelude.{◌≡◌, length, nat_eq, take};
 ghost use Rattle.dv_defs.specs.Op.{named_registers};
-ghost use Rattle.dv_defs.specs.Pools.{is_constructor as is_constructor_of};
-ghost use Rattle.dv_typing.specs.Statics.{arg_words, fits_call as call_fits, fits_instance_field as instance_fits, fits_static_field as static_fits, is_of_suffix as is_suffixed, is_proper_super as is_above, is_virtual as is_virtual_of, receiver_words};
+ghost use Rattle.dv_typing.specs.Statics.{arg_words, fits_instance_field as instance_fits, fits_static_field as static_fits, is_of_suffix as is_suffixed, receiver_words};
 ghost use Rattle.dv_defs.specs.Types.{words_of as words_of_type, words_of_all};
 ghost use Rattle.dv_ops.specs.Meaning.{field_of, method_of};
-ghost use Rattle.dv_units.specs.Tables.{standard_call, standard_suffix};
+ghost use Rattle.dv_units.specs.Tables.{standard_suffix};
 ghost use Rattle.dv_static.specs.Words.{left_beside};
 
-use dv_defs::{Base, ClassId, Flag, Image, Regs, Ty};
-use dv_image::{has_interface_flag, parent_of};
+use dv_defs::{Base, Flag, Image, Regs, Ty};
+use dv_image::has_interface_flag;
 use dv_ops::{Field, Method};
-use dv_optable::{Call, Suffix};
-
-const INIT: &[u8] = b"<init>";
-
-const CLINIT: &[u8] = b"<clinit>";
+use dv_optable::Suffix;
 
 /// Whether a type is one that a suffix is for.
 fn is_of_suffix(suffix: Suffix, ty: &Ty) -> bool
@@ -48,56 +43,6 @@ pub fn fits_static_field(suffix: Suffix, field: &Field<'_>) -> bool
 {
     let def = field.def;
     Flag::Static.is_in(def.flags) && is_of_suffix(suffix, &def.ty)
-}
-
-/// Whether a method may be called so by another.
-pub fn fits_call(image: &Image, own: &Method<'_>, call: Call, method: &Method<'_>) -> bool
-    ensures { result ≡ call_fits image.now (method_of own.now) (standard_call call) (method_of method.now) }
-{
-    let is_static = Flag::Static.is_in(method.def.flags);
-    match call {
-        Call::Static => is_static && method.def.name.bytes() != CLINIT,
-        Call::Direct => !is_static
-            && (is_constructor(method) || Flag::Private.is_in(method.def.flags)),
-        Call::Virtual => is_virtual(image, method),
-        Call::Super => is_virtual(image, method)
-            && is_proper_super(image, own.info.class, method.info.class),
-        Call::Interface => !is_static && has_interface_flag(image, method.info.class.0 as usize),
-    }
-}
-
-fn is_constructor(method: &Method<'_>) -> bool
-    ensures { result ≡ is_constructor_of (method_of method.now) }
-{
-    !Flag::Static.is_in(method.def.flags) && method.def.name.bytes() == INIT
-}
-
-/// Whether it is an instance method of a class that is neither private nor a constructor.
-fn is_virtual(image: &Image, method: &Method<'_>) -> bool
-    ensures { result ≡ is_virtual_of image.now (method_of method.now) }
-{
-    !Flag::Static.is_in(method.def.flags)
-        && !is_constructor(method)
-        && !Flag::Private.is_in(method.def.flags)
-        && !has_interface_flag(image, method.info.class.0 as usize)
-}
-
-/// Whether a class is above another.
-#[tactic(auto, using(crate::proofs::Above::above_from, crate::proofs::Above::above_on, crate::proofs::Above::above_found, crate::proofs::Above::above_top, crate::proofs::Above::above_done))]
-fn is_proper_super(image: &Image, class: ClassId, above: ClassId) -> bool
-    ensures { result ≡ is_above image.now class.0 above.0 }
-{
-    let mut at = parent_of(image, class.0 as usize);
-    let mut left = image.classes.len();
-    while left > 1 {
-        let Some(place) = at else { return false };
-        if place == above.0 as usize {
-            return true;
-        }
-        at = parent_of(image, place);
-        left -= 1;
-    }
-    false
 }
 
 /// Whether registers are as many as the argument words of a method.

@@ -1,6 +1,7 @@
 // The rules of operations: S4, S8 and S13 to S16.
-ghost use Rattle.std.specs.Prelude.{◌≡◌, ◌<◌, ◌++◌, false, OnOk, map};
+ghost use Rattle.std.specs.Prelude.{◌≡◌, ◌<◌, ◌++◌, false, Option, OnOk, map, option_map};
 ghost use Rattle.dv_defs.specs.declared.faults.Rule.TheVariants as rule;
+ghost use Rattle.dv_defs.specs.declared.names.Ty.{Ty as Named};
 ghost use Rattle.dv_typing.specs.Accepting.{places as places_at};
 ghost use Rattle.dv_defs.specs.Op.{Code, named_registers};
 ghost use Rattle.dv_defs.specs.Pools.{is_abstract_class as is_abstract_at};
@@ -13,7 +14,8 @@ ghost use Rattle.dv_static.specs.Tiles.{tile_of};
 ghost use Rattle.dv_defs.specs.Body.{most_units};
 
 use crate::branches::switch_leads;
-use crate::members::{fits_arguments, fits_call, fits_instance_field, fits_static_field};
+use crate::calls::fits_call;
+use crate::members::{fits_arguments, fits_instance_field, fits_static_field};
 use crate::places::{Place, add_unless};
 use crate::starts::Starts;
 use dv_defs::{Base, ClassId, Flag, Image, Regs, Rule, Ty};
@@ -22,22 +24,23 @@ use dv_ops::{Coded, Method, Op};
 use dv_optable::Call;
 use std::alloc::AllocError;
 
-/// Adds what an operation breaks, beside its registers.
+/// Adds what an operation breaks, beside its registers. `named` is the type by which an invoke names its method.
 pub fn add_op_places(
     image: &Image,
     code: &Coded<'_>,
     starts: &Starts<'_>,
     at: u32,
+    named: Option<&Ty>,
     op: &Op<'_>,
     places: &mut Vec<Place>,
 ) -> Result<(), AllocError>
     requires at { at < most_units }
     requires tiles { (code_of code.now).tiles ≡ map tile_of starts.now }
-    ensures { OnOk result (places_of places.new.items ≡ places_of places.old.items ++ places_at at (op_rules image.now (code_of code.now) (meant (code_of code.now) at op.now))) }
+    ensures { OnOk result (places_of places.new.items ≡ places_of places.old.items ++ places_at at (op_rules image.now (code_of code.now) (option_map (λ t. t.now) named.entry) (meant (code_of code.now) at op.now))) }
 {
     match op {
         Op::Invoke(call, regs, method) => {
-            add_call_places(image, &code.method, at, *call, regs, method, places)
+            add_call_places(image, &code.method, at, named, *call, regs, method, places)
         }
         _ => {
             let (is_good, number) = test_of(image, starts, at, op);
@@ -50,7 +53,7 @@ pub fn add_op_places(
 fn test_of(image: &Image, starts: &Starts<'_>, at: u32, op: &Op<'_>) -> (bool, u8)
     requires at { at < most_units }
     requires no_call { is_call op.now ≡ false }
-    ensures { (code : Code) → code.tiles ≡ map tile_of starts.now → unless result.0 (rule.S result.1) ≡ op_rules image.now code (meant code at op.now) }
+    ensures { (code : Code) (named : Option Named) → code.tiles ≡ map tile_of starts.now → unless result.0 (rule.S result.1) ≡ op_rules image.now code named (meant code at op.now) }
 {
     match op {
         Op::Goto(to) | Op::IfBoth(_, _, _, to) | Op::IfZero(_, _, to) => (
@@ -80,14 +83,20 @@ fn add_call_places(
     image: &Image,
     own: &Method<'_>,
     at: u32,
+    named: Option<&Ty>,
     call: Call,
     regs: &Regs,
     method: &Method<'_>,
     places: &mut Vec<Place>,
 ) -> Result<(), AllocError>
-    ensures { OnOk result (places_of places.new.items ≡ places_of places.old.items ++ places_at at (call_rules image.now (method_of own.now) (standard_call call) (named_registers regs.now) (method_of method.now))) }
+    ensures { OnOk result (places_of places.new.items ≡ places_of places.old.items ++ places_at at (call_rules image.now (method_of own.now) (option_map (λ t. t.now) named.entry) (standard_call call) (named_registers regs.now) (method_of method.now))) }
 {
-    add_unless(fits_call(image, own, call, method), at, Rule::S(14), places)?;
+    add_unless(
+        fits_call(image, own, named, call, method),
+        at,
+        Rule::S(14),
+        places,
+    )?;
     add_unless(fits_arguments(regs, method), at, Rule::S(15), places)
 }
 
