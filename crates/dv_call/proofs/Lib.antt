@@ -1,5 +1,4 @@
 pub mod Called
-pub mod Nearest
+pub mod Selections
 pub mod Resumed
 pub mod AtInsn
-pub mod Places

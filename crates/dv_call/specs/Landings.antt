@@ -1,11 +1,15 @@
 -- What an invoke comes to, before anything is done (AOSP, "invoke-kind"; JLS 15.12.4).
 use Rattle.std.specs.Prelude.{◌≡◌, ℕ, zero, suc, Bool, true, false, List, [], ◌∷◌, map, Option, Some, None, if◌then◌else◌}
+use Rattle.dv_defs.specs.declared.names.Proto.{Proto}
+use Rattle.dv_defs.specs.declared.image.Select.{Select}
+use Rattle.dv_defs.specs.declared.image.Select.TheVariants as select
 use Rattle.dv_defs.specs.declared.run.Named.{Named}
 use Rattle.dv_defs.specs.declared.run.Named.TheVariants as named
 use Rattle.dv_defs.specs.declared.run.Native.{Native}
 use Rattle.dv_defs.specs.Images.{Image}
 use Rattle.dv_defs.specs.Parts.{Call}
-use Rattle.dv_defs.specs.Pools.{Method, is_abstract, is_constructor, is_static, method_at, nearest}
+use Rattle.dv_defs.specs.Pools.{Method, is_abstract, is_constructor, is_static, method_at}
+use Rattle.dv_defs.specs.Selecting.{selected}
 use Rattle.dv_machine.specs.Calls.{Landing, Lacks, Lands, native_of, unless_abstract}
 use Rattle.dv_machine.specs.State.{Did, Throws}
 use Rattle.dv_ops.specs.Meaning.{method_of}
@@ -112,7 +116,7 @@ running_in image l = None
 abbrev pub IsRunning : Image → WordStack → Method → Type 0
 IsRunning image stack own = running_in image (first stack.levels) ≡ Some own
 
--- the nearest method on which a call of this one may land, from a class up
-abbrev pub nearest_in : Image → Option ℕ → Method → Option Method
-nearest_in image None g = None
-nearest_in image (Some c) g = nearest image c g.def.name g.def.proto
+-- what is selected from a class; nothing where there is none
+abbrev pub selection : Image → Option ℕ → List ℕ → Proto → Select
+selection image None name proto = select.Abstract
+selection image (Some c) name proto = selected image c name proto

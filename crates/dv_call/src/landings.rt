@@ -1,23 +1,23 @@
-// The methods on which calls land (AOSP, "invoke-kind"; JLS 15.12.4.4).
-ghost use Rattle.std.specs.Prelude.{◌≡◌, option_map};
-ghost use Rattle.dv_defs.specs.Parts as parts;
+// The methods on which calls land (AOSP, "invoke-kind"; JVMS 5.4.6).
+ghost use Rattle.std.specs.Prelude.{◌≡◌, Some};
 ghost use Rattle.dv_defs.specs.Pools as pools;
 ghost use Rattle.dv_machine.specs.Calls as machine;
+ghost use Rattle.dv_machine.specs.Calls.{Lands};
 ghost use Rattle.dv_ops.specs.Meaning.{method_of};
 ghost use Rattle.dv_units.specs.Tables.{standard_call};
 ghost use Rattle.dv_words.specs.Stacks.{arg_words};
 ghost use Rattle.dv_words.specs.Calls as steps;
 ghost use Rattle.dv_words.specs.Steps.{At};
 ghost use Rattle.dv_call.specs.Landings as calls;
-ghost use Rattle.dv_call.specs.Landings.{IsNumbered, IsOwn, IsRunning, IsSeenByCalls, called, constructs, first_of, landed_of, nearest_in, on_landing};
+ghost use Rattle.dv_call.specs.Landings.{IsNumbered, IsOwn, IsRunning, IsSeenByCalls, called, constructs, first_of, landed_of, on_landing, selection};
 
 use crate::tops::running;
 use dv_boot::native;
-use dv_defs::{ClassId, Flag, Image, Named, Native, Regs};
+use dv_defs::{ClassId, Flag, Image, MethodId, Named, Native, Regs, Select};
 use dv_frames::Stack;
 use dv_heap::Heap;
-use dv_image::{boot_class, lookup_virtual, parent_of};
-use dv_objects::{class_of_object, is_of_class};
+use dv_image::{has_interface_flag, parent_of, select};
+use dv_objects::{class_of_object, has_interface};
 use dv_ops::{Method, method_at};
 use dv_optable::Call;
 
@@ -53,6 +53,16 @@ fn native_of(image: &Image, method: &Method<'_>) -> Option<Native>
     native(name_of(image, method.info.class), method.def.name.bytes())
 }
 
+/// A method runs natively, or gets a frame.
+fn run<'a>(image: &Image, method: Method<'a>) -> Landed<'a>
+    ensures { landed_of result ≡ on_landing image.now (Lands (method_of method.entry)) }
+{
+    match native_of(image, &method) {
+        Some(native) => Landed::Native(native),
+        None => Landed::Method(method),
+    }
+}
+
 /// A method that isn't abstract runs (JLS 12.3).
 fn unless_abstract<'a>(image: &Image, method: Method<'a>) -> Landed<'a>
     ensures { landed_of result ≡ on_landing image.now (machine.unless_abstract (method_of method.entry)) }
@@ -60,31 +70,41 @@ fn unless_abstract<'a>(image: &Image, method: Method<'a>) -> Landed<'a>
     if Flag::Abstract.is_in(method.def.flags) {
         return Landed::Throws(Named::AbstractMethod);
     }
-    match native_of(image, &method) {
-        Some(native) => Landed::Native(native),
-        None => Landed::Method(method),
-    }
+    run(image, method)
 }
 
-/// The nearest method of the called one's name and prototype, from a class up.
-fn nearest<'a>(image: &'a Image, class: Option<usize>, method: Method<'a>) -> Option<Method<'a>>
-    ensures { IsNumbered image.now (method_of method.entry) → option_map method_of result ≡ nearest_in image.now class (method_of method.entry) }
+/// The method of a number runs: a selection finds none that is abstract.
+fn land_on(image: &Image, found: MethodId) -> Landed<'_>
+    ensures { landed_of result ≡ on_landing image.now (machine.on_method (pools.method_at image.now found.0)) }
 {
-    let place = class?;
-    if place >= image.classes.len() {
-        return None;
-    }
-    let found = lookup_virtual(image, ClassId(place as u32), method.id)?;
-    method_at(image, found)
-}
-
-/// A call that is looked up from a class.
-fn land_from<'a>(image: &'a Image, class: Option<usize>, method: Method<'a>) -> Landed<'a>
-    ensures { IsNumbered image.now (method_of method.entry) → landed_of result ≡ on_landing image.now (machine.nearest_from image.now class (method_of method.entry)) }
-{
-    match nearest(image, class, method) {
-        Some(found) => unless_abstract(image, found),
+    match method_at(image, found) {
+        Some(method) => run(image, method),
         None => Landed::Throws(Named::AbstractMethod),
+    }
+}
+
+/// What a call of a method selects from a class (JVMS 5.4.6); nothing from a class that isn't there.
+fn select_from(image: &Image, class: Option<usize>, method: MethodId) -> Select
+    ensures { (g : pools.Method) → pools.method_at image.now method.0 ≡ Some g → result ≡ selection image.now class g.def.name g.def.proto }
+{
+    let Some(place) = class else {
+        return Select::Abstract;
+    };
+    if place >= image.classes.len() {
+        return Select::Abstract;
+    }
+    select(image, ClassId(place as u32), method)
+}
+
+/// A call of a method lands on what it selects from a class (JVMS 6.5, "invokevirtual" and "invokeinterface").
+fn land_from<'a>(image: &'a Image, class: Option<usize>, method: &Method<'_>) -> Landed<'a>
+    ensures { IsNumbered image.now (method_of method.now) →
+        landed_of result ≡ on_landing image.now (machine.selected_from image.now class (method_of method.now).def.name (method_of method.now).def.proto) }
+{
+    match select_from(image, class, method.id) {
+        Select::Found(found) => land_on(image, found),
+        Select::Abstract => Landed::Throws(Named::AbstractMethod),
+        Select::Clash => Landed::Throws(Named::ClassChange),
     }
 }
 
@@ -96,31 +116,27 @@ fn above(image: &Image, stack: &Stack) -> Option<usize>
     parent_of(image, own.info.class.0 as usize)
 }
 
-/// Whether an object is of a class that implements the interface of a method.
-fn implements(image: &Image, heap: &Heap, object: u32, method: &Method<'_>) -> bool
-    ensures { result ≡ steps.implements_it image.now heap.now (method_of method.now) object }
+/// Whether the class of a method is an interface that the class of an object lacks.
+fn lacks_interface(image: &Image, heap: &Heap, object: u32, method: &Method<'_>) -> bool
+    ensures { result ≡ steps.lacks_interface image.now heap.now (method_of method.now) object }
 {
-    let place = method.info.class.0 as usize;
-    match image.classes.items().get(place) {
-        Some(class) => is_of_class(image, heap, object, class.def.name.bytes(), Some(place)),
-        None => is_of_class(image, heap, object, b"", boot_class(image, b"")),
+    let interface = method.info.class.0 as usize;
+    if has_interface_flag(image, interface) {
+        !has_interface(image, heap, object, interface)
+    } else {
+        false
     }
 }
 
-/// A call of an interface's method.
-fn land_by_interface<'a>(
-    image: &'a Image,
-    heap: &Heap,
-    method: Method<'a>,
-    object: u32,
-) -> Landed<'a>
-    ensures { (own : pools.Method) → IsNumbered image.now (method_of method.entry) →
-        landed_of result ≡ on_landing image.now (steps.dispatch image.now heap.now own parts.Call.Interface (method_of method.entry) object) }
+/// A call by the class of an object.
+fn land_by_object<'a>(image: &'a Image, heap: &Heap, object: u32, method: &Method<'_>) -> Landed<'a>
+    ensures { IsNumbered image.now (method_of method.now) →
+        landed_of result ≡ on_landing image.now (steps.by_object image.now heap.now (method_of method.now) object) }
 {
-    if implements(image, heap, object, &method) {
-        land_from(image, class_of_object(image, heap, object), method)
-    } else {
+    if lacks_interface(image, heap, object, method) {
         Landed::Throws(Named::ClassChange)
+    } else {
+        land_from(image, class_of_object(image, heap, object), method)
     }
 }
 
@@ -138,9 +154,8 @@ fn dispatch<'a>(
 {
     match call {
         Call::Static | Call::Direct => unless_abstract(image, method),
-        Call::Super => land_from(image, above(image, stack), method),
-        Call::Virtual => land_from(image, class_of_object(image, heap, object), method),
-        Call::Interface => land_by_interface(image, heap, method, object),
+        Call::Super => land_from(image, above(image, stack), &method),
+        Call::Virtual | Call::Interface => land_by_object(image, heap, object, &method),
     }
 }
 

@@ -12,7 +12,7 @@ use Rattle.dv_clinit.specs.declared.states.State.{State}
 use Rattle.dv_clinit.specs.declared.states.State.TheVariants as state
 use Rattle.dv_clinit.specs.Initialisers.{initialiser_at}
 use Rattle.dv_clinit.specs.States.{class_state}
-use Rattle.dv_clinit.specs.Births.{AreKnown, IsKnown, first_state}
+use Rattle.dv_clinit.specs.Births.{AreKnown, DeclaresNone, IsKnown, first_state}
 use Rattle.dv_clinit.proofs.BirthLaws.{fresh_with_own}
 use Rattle.dv_clinit.proofs.Declared.{class_inside, declares, declares_none}
 
@@ -81,10 +81,10 @@ mark image i known m are some =
         subst (IsMarked image (i + 1) c) (sym (get_or-set_other known m.info.class.0 c (Some state.Fresh) d other)) (later c other (get_or known c d) (are.at c d within))
 
 -- all methods are looked at
-pub all_marked : (image : Image) (i : ℕ) (known : List (Option State)) → AreMarked image i known → length image.methods ≤ i → AreKnown image known
+pub all_marked : (image : Image) (i : ℕ) (known : List (Option State)) → AreMarked image i known → length image.methods ≤ i → AreKnown image (DeclaresNone image) known
 all_marked image i known are all =
     record { linked = are.linked; count = are.count; at = λ c d within. by c (get_or known c d) (are.at c d within) }
   where
-    by : (c : ℕ) (o : Option State) → IsMarked image i c o → IsKnown image c o
+    by : (c : ℕ) (o : Option State) → IsMarked image i c o → IsKnown image (DeclaresNone image) c o
     by c None before = declares_none image c (λ k m within some. before k m (omega arith) some)
     by c (Some s) is = is

@@ -12,16 +12,27 @@ use Rattle.dv_clinit.specs.States.{class_state}
 abbrev pub first_state : Image → ℕ → ClassState
 first_state image c = if is_born image c then Ready else Fresh
 
--- nothing is known only of a class that declares no initialiser
-abbrev pub IsKnown : Image → ℕ → Option State → Type 0
-IsKnown image c None = initialiser image c ≡ None
-IsKnown image c (Some s) = class_state s ≡ first_state image c
+abbrev pub DeclaresNone : Image → ℕ → Type 0
+DeclaresNone image c = initialiser image c ≡ None
+
+abbrev pub parent_state : Image → Option ℕ → ClassState
+parent_state image None = Ready
+parent_state image (Some p) = first_state image p
+
+-- a class begins as its superclass does, as ready where there is none
+abbrev pub BeginsAsParent : Image → ℕ → Type 0
+BeginsAsParent image c = first_state image c ≡ parent_state image (parent_at image c)
+
+-- the state of a class is known, or is open
+abbrev pub IsKnown : Image → (ℕ → Type 0) → ℕ → Option State → Type 0
+IsKnown image IsOpen c None = IsOpen c
+IsKnown image IsOpen c (Some s) = class_state s ≡ first_state image c
 
 -- by class of a linked image
-pub record AreKnown (image : Image) (known : List (Option State)) : Type 0 where
+pub record AreKnown (image : Image) (IsOpen : ℕ → Type 0) (known : List (Option State)) : Type 0 where
   pub linked : IsImage image
   pub count : length known ≡ length image.classes
-  pub at : (c : ℕ) (d : Option State) → c < length known → IsKnown image c (slice_index_or known c d)
+  pub at : (c : ℕ) (d : Option State) → c < length known → IsKnown image IsOpen c (slice_index_or known c d)
 
 abbrev pub is_known_at : List (Option State) → ℕ → Bool
 is_known_at known c = is_some (slice_index_or known c None)

@@ -3,7 +3,9 @@
 
 mod births;
 mod methods;
+mod prior;
 mod states;
 
 pub use methods::initialiser;
+pub use prior::prior_to;
 pub use states::{ClassStates, State};

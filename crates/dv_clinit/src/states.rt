@@ -17,7 +17,7 @@ pub enum State {
     /// The thread of this number is at it.
     InProgress(u32),
     Ready,
-    /// Its initialiser, or that of a superclass, ended by an exception.
+    /// Its initialiser, or one that runs before it, ended by an exception.
     Erroneous,
 }
 
@@ -52,7 +52,8 @@ impl Model for ClassStates {
 }
 
 impl ClassStates {
-    /// The states as a run begins: a class is ready where neither it nor a superclass declares an initialiser.
+    /// The states as a run begins: a class is ready where neither it nor what is initialised before it, again and again, declares an
+    /// initialiser: a superclass, or a superinterface that declares a default method.
     ///
     /// # Errors
     ///

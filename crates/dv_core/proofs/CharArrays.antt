@@ -1,5 +1,5 @@
 -- The first argument of ofChars is null or an array of chars.
-use Rattle.std.proofs.Common.{◌≡◌, ℕ, zero, suc, ◌<◌, Bool, true, false, List, [], ◌∷◌, map, Option, Some, None, refl, sym, ap, ◌∙◌, subst, arith}
+use Rattle.std.proofs.Common.{◌≡◌, ℕ, zero, suc, ◌<◌, Bool, true, false, List, [], ◌∷◌, map, Option, Some, None, refl, sym, ap, subst, arith}
 use Rattle.std.specs.Prelude.{nat_lt, if◌then◌else◌}
 use Rattle.dv_machine.specs.Frame as tagged
 use Rattle.dv_machine.specs.Kind.{Kind}
@@ -18,10 +18,10 @@ use Rattle.dv_defs.specs.Images.{Image}
 use Rattle.dv_defs.specs.Op.{Invoke}
 use Rattle.dv_defs.specs.Order.{fits}
 use Rattle.dv_defs.specs.Parts.{Call, Suffix}
-use Rattle.dv_defs.specs.Pools.{Method, is_abstract, is_constructor, is_static, method_at, nearest, parent_at}
+use Rattle.dv_defs.specs.Pools.{Method, is_abstract, is_constructor, is_static, method_at, parent_at}
 use Rattle.dv_defs.specs.Types.{component, is_array}
 use Rattle.dv_machine.specs.Accepted.{Accepted}
-use Rattle.dv_machine.specs.Calls.{Landing, Lacks, Lands, chars_type, found, native_of, nearest_from, signature, unless_abstract}
+use Rattle.dv_machine.specs.Calls.{Landing, Lacks, Lands, chars_type, native_of, selected_from, signature, unless_abstract}
 use Rattle.dv_machine.specs.Conforming.{Fits, Own, RegsConform}
 use Rattle.law_machine.specs.Premises.{HoldsOf}
 use Rattle.dv_machine.specs.State.{read_ref, reg_at, where_ref}
@@ -31,9 +31,10 @@ use Rattle.dv_words.specs.Heaps as words
 use Rattle.dv_words.specs.Standing.{FrameStands, HeapStands, IsWord}
 use Rattle.dv_words.specs.State.{WordHeap}
 use Rattle.law_types.proofs.Demanded.{first_none}
+use Rattle.law_machine.proofs.lemmas.Calls.Dispatched.{selection}
 use Rattle.law_machine.proofs.lemmas.Readers.Arrays.{tests_go_down}
 use Rattle.law_machine.proofs.lemmas.Readers.Plain.{reads_reference_to}
-use Rattle.dv_words.specs.Calls.{dispatch, implements_it}
+use Rattle.dv_words.specs.Calls.{by_object, dispatch, lacks_interface}
 use Rattle.dv_words.specs.Natives.{arg}
 use Rattle.dv_words.specs.Threads.{class_of_kind}
 use Rattle.dv_words.specs.Local.{reg_word}
@@ -93,43 +94,41 @@ lands_by g m false e = cc
 lands_itself : (g m : Method) → unless_abstract g ≡ Lands m → g ≡ m
 lands_itself g m e = lands_by g m (is_abstract g) e
 
-module _ (image : Image) (T : Typings) (acc : Accepted image T) where
-  -- what is found from a class upwards isn't static
-  near : (c : ℕ) (g m : Method) (o : Option Method) → nearest image c g.def.name g.def.proto ≡ o → found o ≡ Lands m → (method_at image m.id ≡ Some m) × (is_static m ≡ false)
-  near c g m None is e = absurd (cc)
-  near c g m (Some x) is e =
-      let same : x ≡ m = lands_itself x m e in
-      let good = acc.finds.nearest_is c g.def.name g.def.proto m (is ∙ ap Some same) in
-      (good.0, good.3)
-
-  near_from : (c : Option ℕ) (g m : Method) → nearest_from image c g ≡ Lands m → (method_at image m.id ≡ Some m) × (is_static m ≡ false)
-  near_from None g m e = absurd (cc)
-  near_from (Some c) g m e = near c g m (nearest image c g.def.name g.def.proto) refl e
+module _ (image : Image) (T : Typings) (acc : Accepted image T) (heap : Heap) where
+  -- what is selected from a class isn't static
+  near : (c : Option ℕ) (g m : Method) → selected_from image c g.def.name g.def.proto ≡ Lands m → (method_at image m.id ≡ Some m) × (is_static m ≡ false)
+  near None g m e = absurd (cc)
+  near (Some c) g m e =
+      let (there, is) = selection image T acc heap c g.def.name g.def.proto m e in
+      (there, is.instance)
 
   -- nor what a call on an object lands on
-  module _ (heap : WordHeap) (own g : Method) (there : method_at image g.id ≡ Some g) (instance : is_static g ≡ false) where
+  module _ (w : WordHeap) (own g : Method) (there : method_at image g.id ≡ Some g) (instance : is_static g ≡ false) where
     itself : (m : Method) → unless_abstract g ≡ Lands m → (method_at image m.id ≡ Some m) × (is_static m ≡ false)
     itself m e = subst (λ (x : Method). (method_at image x.id ≡ Some x) × (is_static x ≡ false)) (lands_itself g m e) (there, instance)
 
-    landed : (c : Call) (o : ℕ) (m : Method) → dispatch image heap own c g o ≡ Lands m → (method_at image m.id ≡ Some m) × (is_static m ≡ false)
+    near_object : (o : ℕ) (m : Method) → by_object image w g o ≡ Lands m → (method_at image m.id ≡ Some m) × (is_static m ≡ false)
+    near_object o m e = by (lacks_interface image w g o) e
+      where
+        by : (b : Bool) → (if b then Lacks named.ClassChange else selected_from image (class_of_kind image (words.kind_of w o)) g.def.name g.def.proto) ≡ Lands m → (method_at image m.id ≡ Some m) × (is_static m ≡ false)
+        by true e = absurd (cc)
+        by false e = near (class_of_kind image (words.kind_of w o)) g m e
+
+    landed : (c : Call) (o : ℕ) (m : Method) → dispatch image w own c g o ≡ Lands m → (method_at image m.id ≡ Some m) × (is_static m ≡ false)
     landed Call.Static o m e = itself m e
     landed Call.Direct o m e = itself m e
-    landed Call.Super o m e = near_from (parent_at image own.info.class.0) g m e
-    landed Call.Virtual o m e = near_from (class_of_kind image (words.kind_of heap o)) g m e
-    landed Call.Interface o m e = by (implements_it image heap g o) e
-      where
-        by : (b : Bool) → (if b then nearest_from image (class_of_kind image (words.kind_of heap o)) g else Lacks named.ClassChange) ≡ Lands m → (method_at image m.id ≡ Some m) × (is_static m ≡ false)
-        by true e = near_from (class_of_kind image (words.kind_of heap o)) g m e
-        by false e = absurd (cc)
+    landed Call.Super o m e = near (parent_at image own.info.class.0) g m e
+    landed Call.Virtual o m e = near_object o m e
+    landed Call.Interface o m e = near_object o m e
 
     -- so it isn't ofChars
     no_static : (m : Method) → method_at image m.id ≡ Some m → is_static m ≡ false → native_of image m ≡ Some native.OfChars → ⊥
     no_static m has sort is = let signed = (acc.bodies.native m.id m native.OfChars has is).1 in absurd (cc)
 
-    on_object_none : (c : Call) (r : ℕ) → on_object image heap own c g r ≡ Runs native.OfChars → ⊥
+    on_object_none : (c : Call) (r : ℕ) → on_object image w own c g r ≡ Runs native.OfChars → ⊥
     on_object_none c zero e = absurd (cc)
     on_object_none c (suc o) e =
-        let r = runs_on image (dispatch image heap own c g (suc o)) native.OfChars e in
+        let r = runs_on image (dispatch image w own c g (suc o)) native.OfChars e in
         let l = landed c (suc o) r.method r.lands in
         no_static r.method l.0 l.1 r.is_native
 
@@ -137,11 +136,11 @@ module _ (image : Image) (T : Typings) (acc : Accepted image T) where
     constructs_none true e = absurd (cc)
     constructs_none false e = absurd (cc)
 
-    receiver_none : (c : Call) (r : Option ℕ) → on_receiver image heap own c g r ≡ Runs native.OfChars → ⊥
+    receiver_none : (c : Call) (r : Option ℕ) → on_receiver image w own c g r ≡ Runs native.OfChars → ⊥
     receiver_none c None e = absurd (cc)
     receiver_none c (Some r) e = by (is_constructor g) e
       where
-        by : (b : Bool) → (if b then constructs g else on_object image heap own c g r) ≡ Runs native.OfChars → ⊥
+        by : (b : Bool) → (if b then constructs g else on_object image w own c g r) ≡ Runs native.OfChars → ⊥
         by true e = constructs_none (is_abstract g) e
         by false e = on_object_none c r e
 
@@ -169,7 +168,7 @@ module _ (image : Image) (T : Typings) (acc : Accepted image T) (heap : Heap) (w
     where
       by : (b : Bool) → is_static g ≡ b → (if b then on_landing image (unless_abstract g) else on_receiver image w caller c g (first_of (map (reg_word s) ks))) ≡ Runs native.OfChars → 0 < arg (map (reg_word s) ks) 0 → IsChars w (arg (map (reg_word s) ks) 0)
       by true static runs = static_chars c ks g there static d runs
-      by false instance runs = absurd (receiver_none image T acc w caller g there instance c (first_of (map (reg_word s) ks)) runs)
+      by false instance runs = absurd (receiver_none image T acc heap w caller g there instance c (first_of (map (reg_word s) ks)) runs)
 
   pub texts_fit : (c : Call) (ks : List ℕ) (g : Method) → method_at image g.id ≡ Some g → demands image method (Invoke c ks g) state ≡ None → (n : Native) → called_in image w caller c g (map (reg_word s) ks) ≡ Runs n → TextsFit w n (map (reg_word s) ks)
   texts_fit c ks g there d native.OfChars runs = chars_fit c ks g there d runs

@@ -18,7 +18,6 @@ use Rattle.dv_defs.specs.Parts.{Call}
 use Rattle.dv_defs.specs.Pools.{Method, is_abstract, is_constructor, is_static, method_at}
 use Rattle.dv_typing.specs.Statics as statics
 use Rattle.dv_typing.specs.Statics.{fetch}
-use Rattle.dv_machine.specs.Accepted.{FindsRightly}
 use Rattle.dv_machine.specs.Calls.{Landing, Lacks, Lands, native_of, receiver_of, unless_abstract}
 use Rattle.dv_words.specs.declared.state.Frame.{Frame}
 use Rattle.dv_words.specs.declared.state.Level.{Level}
@@ -84,14 +83,14 @@ module _ (g : Guest) (are : AreNumbered g) (o : ℕ) where
 
 -- ---- an invoke
 
-module _ (image : Image) (finds : FindsRightly image) (m : WordMachine) (t : ℕ) (own : Method) (f : Frame) (c : Call) (g : Method) where
+module _ (image : Image) (m : WordMachine) (t : ℕ) (own : Method) (f : Frame) (c : Call) (g : Method) where
   no_landing : (l : Landing) (o : ℕ) → NoNative image l → blocked_landing image m t o l ≡ None
   no_landing (Lacks n) o e = refl
   no_landing (Lands g) o e = ap (blocked_native m t o) e
 
   none_called : is_constructor g ≡ true → (r : ℕ) → blocked_call image m t own c g r ≡ None
   none_called is zero = refl
-  none_called is (suc o) = no_landing (dispatch image m.shared.heap own c g (suc o)) (suc o) (lands_on_no_native image finds g is m.shared.heap own c (suc o))
+  none_called is (suc o) = no_landing (dispatch image m.shared.heap own c g (suc o)) (suc o) (lands_on_no_native image g is m.shared.heap own c (suc o))
 
   by_native : (g : Method) (o : ℕ) (n : Option Native) → blocked_landed m t o (run_by g n) ≡ blocked_native m t o n
   by_native g o None = refl

@@ -39,7 +39,6 @@ module _ (image : Image) (T : Typings) (v : Vm) (m : Machine) (acc : Accepted im
 
 pub watches_fit : WatchesFit
 watches_fit image T v m acc strings sim ordered few = record {
-  finds = acc.finds;
   ordered = ordered;
   few = few;
   tops = λ t own there living. top_watched image T v m acc strings sim t own there living own.levels refl;

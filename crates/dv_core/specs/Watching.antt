@@ -9,7 +9,7 @@ use Rattle.dv_defs.specs.declared.run.Preallocated.{Preallocated}
 use Rattle.dv_defs.specs.Images.{Image}
 use Rattle.dv_typing.specs.Statics as statics
 use Rattle.dv_typing.specs.Statics.{fetch}
-use Rattle.dv_machine.specs.Accepted.{Accepted, FindsRightly}
+use Rattle.dv_machine.specs.Accepted.{Accepted}
 use Rattle.dv_machine.specs.State.{Machine}
 use Rattle.dv_machine.specs.WellTyped.{Typings}
 use Rattle.dv_words.specs.declared.state.Frame.{Frame}
@@ -40,7 +40,6 @@ IsTopWatched image ls = Unit {0}
 
 -- the threads have numbers of 32 bits, and each that lives stands at an instruction or at a record
 pub record AreWatchable (image : Image) (v : Vm) : Type 0 where
-  pub finds : FindsRightly image
   pub ordered : IsOrdered v.limits v.guest
   pub few : length v.guest.threads.stacks.items < 2 ^ 32
   pub tops : (t : ℕ) (own : WordThread) → slice_get (threads_of v.guest.threads) t ≡ Some own → own.end ≡ end.Living → IsTopWatched image own.levels
@@ -50,15 +49,15 @@ pub record AreNumbered (g : Guest) : Type 0 where
   pub aligned : AreAligned g.threads
   pub few : length g.threads.stacks.items < 2 ^ 32
 
--- in each machine with this guest, whose threads are numbered, and an image that finds its methods
-abbrev pub InEachMachine : Image → Guest → (WordMachine → Type 0) → Type 0
-InEachMachine i g Says =
-    (s : ℕ) (e : Option Ending) (l : Limits) (p : Preallocated) → AreNumbered g → FindsRightly i → Says (machine_with g s e l p)
+-- in each machine with this guest, whose threads are numbered
+abbrev pub InEachMachine : Guest → (WordMachine → Type 0) → Type 0
+InEachMachine g Says =
+    (s : ℕ) (e : Option Ending) (l : Limits) (p : Preallocated) → AreNumbered g → Says (machine_with g s e l p)
 
 -- the same in each view of the thread of this stack
 abbrev pub AtEachCall : Image → Guest → WordStack → (WordMachine → At → Type 0) → Type 0
 AtEachCall i g stack Says =
-    (s : ℕ) (e : Option Ending) (l : Limits) (p : Preallocated) (h : At) → AreNumbered g → FindsRightly i → IsSeenByCalls i g.heap stack h → IsOwn h →
+    (s : ℕ) (e : Option Ending) (l : Limits) (p : Preallocated) (h : At) → AreNumbered g → IsSeenByCalls i g.heap stack h → IsOwn h →
     Says (machine_with g s e l p) h
 
 -- by what a call on this object comes to: only wait and join hold a thread up

@@ -1,9 +1,9 @@
 // Records of classes that are being initialised (JLS 12.4.2).
-ghost use Rattle.std.specs.Prelude.{◌≡◌, ◌∷◌, Bool, Ok, List, Some as Just, option_map, true, false};
+ghost use Rattle.std.specs.Prelude.{◌≡◌, ◌∷◌, Bool, Ok, List, Some as Just, true, false};
 ghost use Rattle.std.specs.declared.alloc.AllocError.{AllocError};
 ghost use Rattle.dv_defs.specs.declared.machine.Ask.TheVariants as asks;
 ghost use Rattle.dv_machine.specs.Classes.{InProgress, Ready, ask_of, state_at};
-ghost use Rattle.dv_defs.specs.Pools.{parent_at};
+ghost use Rattle.dv_defs.specs.Prior.{prior_at};
 ghost use Rattle.dv_ops.specs.Meaning.{method_of};
 ghost use Rattle.dv_words.specs.State.{WordThread};
 ghost use Rattle.dv_words.specs.Stacks.{below, with_levels};
@@ -18,7 +18,7 @@ ghost use Rattle.dv_core.specs.Recording.{AreKept, IsBeside, LeavesBoth};
 
 use crate::guest::Guest;
 use dv_call::registers_of;
-use dv_clinit::{ClassStates, State, initialiser};
+use dv_clinit::{ClassStates, State, initialiser, prior_to};
 use dv_defs::{Ask, ClassId, Image, Named, Next};
 use dv_frames::Stack;
 use dv_ops::Method;
@@ -41,8 +41,8 @@ pub fn begin(guest: &mut Guest, thread: u32, class: ClassId) -> Next
     )
 }
 
-/// A step of a thread whose top level is the record of a class: the superclass is asked for first, then the class's initialiser begins; once it
-/// has returned, the class is ready.
+/// A step of a thread whose top level is the record of a class: what is initialised before the class is asked for first, in order, then the
+/// class's initialiser begins; once it has returned, the class is ready.
 pub fn step_record(
     image: &Image,
     guest: &mut Guest,
@@ -97,37 +97,30 @@ fn go_on(
     if running {
         return finish(stack, classes, thread, class);
     }
-    match parent_of(image, class) {
-        None => run_initialiser(image, stack, classes, thread, class),
-        Some(parent) => after_parent(image, stack, classes, thread, class, parent),
-    }
+    look_at(image, stack, classes, thread, class)
 }
 
-/// The superclass of a class.
-fn parent_of(image: &Image, class: ClassId) -> Option<ClassId>
-    ensures { option_map (λ c. c.0) result ≡ parent_at image.now class.0 }
-{
-    image.classes.items().get(class.0 as usize)?.parent
-}
-
-/// A record whose superclass is this: the superclass is begun, waited for, or throws, and where it is ready, the initialiser begins.
-fn after_parent(
+/// The first class that is initialised before this one and isn't ready is begun, waited for, or throws; where all are ready, the initialiser
+/// begins.
+fn look_at(
     image: &Image,
     stack: &mut Stack,
     classes: &mut ClassStates,
     thread: u32,
     class: ClassId,
-    parent: ClassId,
 ) -> Next
     ensures { (h : At) → IsBeside stack.old classes.old thread h → h.image ≡ image.now → stack.old.levels ≡ level.Init class false ∷ h.rest → state_at classes.old class.0 ≡ InProgress thread →
-        Leads {E = AllocError} (Ok result) (steps.for_class h (level.Init class false ∷ h.rest) parent.0 (ask_of h.shared.classes parent.0 h.thread) (steps.run_initialiser h class.0)) (LeavesBoth h classes.new stack.old stack.new) (AreKept stack.old stack.new classes.old classes.new) }
+        Leads {E = AllocError} (Ok result) (steps.look_at h class.0 (prior_at image.now class.0)) (LeavesBoth h classes.new stack.old stack.new) (AreKept stack.old stack.new classes.old classes.new) }
 {
-    match classes.ask(parent, thread) {
-        Ask::Go => run_initialiser(image, stack, classes, thread, class),
-        Ask::Begin => push_record(stack, classes, thread, parent),
-        Ask::Wait(_) => Next::On,
-        Ask::Bad => Next::Throw(Named::NoClassDef),
+    for prior in prior_to(image, class.0 as usize) {
+        match classes.ask(*prior, thread) {
+            Ask::Go => {}
+            Ask::Begin => return push_record(stack, classes, thread, *prior),
+            Ask::Wait(_) => return Next::On,
+            Ask::Bad => return Next::Throw(Named::NoClassDef),
+        }
     }
+    run_initialiser(image, stack, classes, thread, class)
 }
 
 /// The class is ready, and its record is dropped.

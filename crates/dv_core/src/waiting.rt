@@ -1,19 +1,18 @@
 // What holds threads up, and which are runnable (JLS 12.4.2, 17.1, 17.2).
-ghost use Rattle.std.specs.Prelude.{◌≡◌, ◌==◌, ◌<◌, ◌^◌, ℕ, Option as Maybe, None as Nothing, Some as Just, List, ◌∷◌, option_map, position, slice_get};
+ghost use Rattle.std.specs.Prelude.{◌≡◌, ◌==◌, ◌<◌, ◌^◌, ℕ, Option as Maybe, None as Nothing, Some as Just, List, ◌∷◌, position, slice_get};
 ghost use Rattle.dv_defs.specs.declared.run.Ending.{Ending};
 ghost use Rattle.dv_defs.specs.declared.run.Limits.{Limits};
 ghost use Rattle.dv_defs.specs.declared.run.Preallocated.{Preallocated};
 ghost use Rattle.dv_defs.specs.declared.machine.End.TheVariants as end;
-ghost use Rattle.dv_machine.specs.Classes.{ask_of};
 ghost use Rattle.dv_defs.specs.Families.{family_at};
 ghost use Rattle.dv_machine.specs.Monitors as waits;
 ghost use Rattle.dv_typing.specs.Statics.{fetch};
 ghost use Rattle.dv_defs.specs.Op as ops;
 ghost use Rattle.dv_defs.specs.Op.{Code, named_registers};
-ghost use Rattle.dv_defs.specs.Pools.{method_at, parent_at};
+ghost use Rattle.dv_defs.specs.Pools.{method_at};
+ghost use Rattle.dv_defs.specs.Prior.{prior_at};
 ghost use Rattle.dv_machine.specs.Calls.{receiver_of};
 ghost use Rattle.dv_machine.specs.Running as shared;
-ghost use Rattle.dv_machine.specs.Step.{prior};
 ghost use Rattle.dv_ops.specs.Meaning.{meant, method_of};
 ghost use Rattle.dv_units.specs.Tables.{standard_call};
 ghost use Rattle.dv_words.specs.declared.state.Frame.{Frame};
@@ -34,7 +33,7 @@ use crate::guest::Guest;
 use crate::instructions::{instruction_of, needs, opcode_of};
 use crate::vm::Vm;
 use dv_call::{Landed, land};
-use dv_clinit::ClassStates;
+use dv_clinit::{ClassStates, prior_to};
 use dv_defs::{Ask, Blocked, ClassId, End, Flag, Image, Native, Regs};
 use dv_frames::{Stack, Top};
 use dv_monitor::Monitors;
@@ -42,34 +41,24 @@ use dv_ops::{Method, Op};
 use dv_optable::Call;
 use dv_threads::Threads;
 
-/// The superclass of a class.
-fn superclass(image: &Image, class: ClassId) -> Option<ClassId>
-    ensures { option_map (λ c. c.0) result ≡ parent_at image.now class.0 }
-{
-    image.classes.items().get(class.0 as usize)?.parent
-}
-
-/// What holds up a thread that is to begin with the initialiser of a class: its superclass, where another thread initialises that.
+/// What holds up a thread that is to begin with the initialiser of a class: the first of the classes before it that isn't ready, where another
+/// thread initialises that.
 fn blocked_record(
     image: &Image,
     classes: &ClassStates,
     thread: u32,
     class: ClassId,
 ) -> Option<Blocked>
-    ensures { result ≡ shared.blocked_record classes.now thread (prior image.now class.0) }
+    ensures { result ≡ shared.blocked_record classes.now thread (prior_at image.now class.0) }
 {
-    let parent = superclass(image, class)?;
-    blocked_class(classes, thread, parent)
-}
-
-/// A class that another thread initialises.
-fn blocked_class(classes: &ClassStates, thread: u32, class: ClassId) -> Option<Blocked>
-    ensures { result ≡ shared.by_ask (ask_of classes.now class.0 thread) Nothing class.0 }
-{
-    match classes.ask(class, thread) {
-        Ask::Wait(_) => Some(Blocked::Class(class)),
-        _ => None,
+    for prior in prior_to(image, class.0 as usize) {
+        match classes.ask(*prior, thread) {
+            Ask::Go => {}
+            Ask::Wait(_) => return Some(Blocked::Class(*prior)),
+            Ask::Begin | Ask::Bad => return None,
+        }
     }
+    None
 }
 
 /// The monitor that a thread is to enter, where another one owns it.
@@ -252,7 +241,7 @@ fn may_hold_up(opcode: u8) -> bool
 
 /// What holds up a thread whose top level is code.
 fn blocked_code(image: &Image, guest: &Guest, stack: &Stack, thread: u32) -> Option<Blocked>
-    ensures { (f : Frame) (ls : List Level) → InEachMachine image.now guest.now (λ m. stack.now.levels ≡ level.Code f ∷ ls → IsWatched image.now f →
+    ensures { (f : Frame) (ls : List Level) → InEachMachine guest.now (λ m. stack.now.levels ≡ level.Code f ∷ ls → IsWatched image.now f →
         result ≡ steps.blocked_at image.now m thread f (method_at image.now f.method.0) (fetch image.now f.method.0 f.at)) }
 {
     if !may_hold_up(opcode_of(image, stack)?) {
@@ -264,7 +253,7 @@ fn blocked_code(image: &Image, guest: &Guest, stack: &Stack, thread: u32) -> Opt
 
 /// What holds up a living thread with this stack.
 fn blocked_stack(image: &Image, guest: &Guest, stack: &Stack, thread: u32) -> Option<Blocked>
-    ensures { InEachMachine image.now guest.now (λ m. IsTopWatched image.now stack.now.levels → result ≡ steps.blocked_levels image.now m thread stack.now.levels) }
+    ensures { InEachMachine guest.now (λ m. IsTopWatched image.now stack.now.levels → result ≡ steps.blocked_levels image.now m thread stack.now.levels) }
 {
     match stack.top()? {
         Top::Code { .. } => blocked_code(image, guest, stack, thread),

@@ -151,38 +151,38 @@ module _ (image : Image) (T : Typings) (acc : Accepted image T) (heap : Heap) (f
   refers : (b : ℕ) (t : Ty) → ref_to image s.regs b t ≡ None → HoldsOf (λ o. Fits image heap o t) (read_ref image heap t (reg_at f.regs b))
   refers b t d = reads_reference_to image heap (own_of image this code.method) f.regs s.regs b t acc.order conform d
 
-  instance_field : (q : Suffix) (y : Field) → op_rules image code (FieldGet q 0 0 y) ≡ [] → (is_static_field y ≡ false) × (is_interface image y.info.class.0 ≡ false)
-  instance_field q y rules =
+  instance_field : (r : Option Ty) (q : Suffix) (y : Field) → op_rules image code r (FieldGet q 0 0 y) ≡ [] → (is_static_field y ≡ false) × (is_interface image y.info.class.0 ≡ false)
+  instance_field r q y rules =
       let fits = and_parts _ _ (only_rule (fits_instance_field image q y) (rule.S 13) rules) in
       (not-true (is_static_field y) (and_parts _ _ fits.0).0, not-true (is_interface image y.info.class.0) fits.1)
 
-  static_field : (q : Suffix) (y : Field) → op_rules image code (StaticGet q 0 y) ≡ [] → is_static_field y ≡ true
-  static_field q y rules = (and_parts (is_static_field y) (is_of_suffix q y.def.ty) (only_rule (fits_static_field q y) (rule.S 13) rules)).0
+  static_field : (r : Option Ty) (q : Suffix) (y : Field) → op_rules image code r (StaticGet q 0 y) ≡ [] → is_static_field y ≡ true
+  static_field r q y rules = (and_parts (is_static_field y) (is_of_suffix q y.def.ty) (only_rule (fits_static_field q y) (rule.S 13) rules)).0
 
-  met : (op : Op) → x.op ≡ op → demands image code.method op s ≡ None → op_rules image code op ≡ [] → OperandsFit image op → AreOperands w op
-  met (IntDivide o a b c) e d rules l = (subst IsDivided e (is_divided image f.method.0 f.at x found), l)
-  met (LongDivide o a b c) e d rules l = subst IsDivided e (is_divided image f.method.0 f.at x found)
-  met (ArrayLength a b) e d rules l = an_array any_type b (reads_array image heap (own_of image this code.method) f.regs s.regs b any_type acc.order (tests_go_down image).any conform d)
-  met (Filled rs t) e d rules l = count_stands w.heap heap stands
-  met (Fill a width ns) e d rules l = an_array (is_fill_type width) a (reads_array image heap (own_of image this code.method) f.regs s.regs a (is_fill_type width) acc.order ((tests_go_down image).fill width) conform d)
-  met (ArrayGet q a b c) e d rules l = an_array (is_of_suffix q) b (reads_array image heap (own_of image this code.method) f.regs s.regs b (is_of_suffix q) acc.order ((tests_go_down image).suffix q) conform (first_none (array s.regs b (is_of_suffix q)) (int s.regs c) d).0)
-  met (ArrayPut q a b c) e d rules l = an_array (is_of_suffix q) b (reads_array image heap (own_of image this code.method) f.regs s.regs b (is_of_suffix q) acc.order ((tests_go_down image).suffix q) conform (first_none (array s.regs b (is_of_suffix q)) _ d).0)
-  met (FieldGet q a b y) e d rules l =
+  met : (r : Option Ty) (op : Op) → x.op ≡ op → demands image code.method op s ≡ None → op_rules image code r op ≡ [] → OperandsFit image op → AreOperands w op
+  met r (IntDivide o a b c) e d rules l = (subst IsDivided e (is_divided image f.method.0 f.at x found), l)
+  met r (LongDivide o a b c) e d rules l = subst IsDivided e (is_divided image f.method.0 f.at x found)
+  met r (ArrayLength a b) e d rules l = an_array any_type b (reads_array image heap (own_of image this code.method) f.regs s.regs b any_type acc.order (tests_go_down image).any conform d)
+  met r (Filled rs t) e d rules l = count_stands w.heap heap stands
+  met r (Fill a width ns) e d rules l = an_array (is_fill_type width) a (reads_array image heap (own_of image this code.method) f.regs s.regs a (is_fill_type width) acc.order ((tests_go_down image).fill width) conform d)
+  met r (ArrayGet q a b c) e d rules l = an_array (is_of_suffix q) b (reads_array image heap (own_of image this code.method) f.regs s.regs b (is_of_suffix q) acc.order ((tests_go_down image).suffix q) conform (first_none (array s.regs b (is_of_suffix q)) (int s.regs c) d).0)
+  met r (ArrayPut q a b c) e d rules l = an_array (is_of_suffix q) b (reads_array image heap (own_of image this code.method) f.regs s.regs b (is_of_suffix q) acc.order ((tests_go_down image).suffix q) conform (first_none (array s.regs b (is_of_suffix q)) _ d).0)
+  met r (FieldGet q a b y) e d rules l =
       let named = subst (IsNamed image) e (is_named image f.method.0 f.at x found) in
-      let sort = instance_field q y rules in
+      let sort = instance_field r q y rules in
       reference_met image heap w.heap stands T acc fine named.0 y named.1 sort.0 sort.1 (reg_at f.regs b) (reg_word w.frame b) (is_at b) (refers b (class_type image y.info.class.0) d)
-  met (FieldPut q a b y) e d rules l =
+  met r (FieldPut q a b y) e d rules l =
       let named = subst (IsNamed image) e (is_named image f.method.0 f.at x found) in
-      let sort = instance_field q y rules in
+      let sort = instance_field r q y rules in
       receiver_met image heap w.heap stands T acc fine named.0 y named.1 sort.0 sort.1 code.method this s.regs b (reg_at f.regs b) (type_at s.regs b) (reg_word w.frame b) refl (conform b)
       (first_none (put_receiver image code.method s.regs b y (type_at s.regs b)) (value_for image s.regs a y.def.ty) d).0 (is_at b) (refers b (class_type image y.info.class.0))
-  met (StaticGet q a y) e d rules l =
+  met r (StaticGet q a y) e d rules l =
       let named = subst (IsNamed image) e (is_named image f.method.0 f.at x found) in
-      static_met image heap w.heap stands T acc fine named.0 y named.1 (static_field q y rules)
-  met (StaticPut q a y) e d rules l =
+      static_met image heap w.heap stands T acc fine named.0 y named.1 (static_field r q y rules)
+  met r (StaticPut q a y) e d rules l =
       let named = subst (IsNamed image) e (is_named image f.method.0 f.at x found) in
-      static_met image heap w.heap stands T acc fine named.0 y named.1 (static_field q y rules)
-  met op e d rules l = tt
+      static_met image heap w.heap stands T acc fine named.0 y named.1 (static_field r q y rules)
+  met r op e d rules l = tt
 
 pub operands_stand : OperandsStand
 operands_stand image T heap this f x w acc fine placed found fit frame stands =
@@ -191,5 +191,5 @@ operands_stand image T heap this f x w acc fine placed found fit frame stands =
     let own : placed.method ≡ e.0.method = same_Some placed.method e.0.method (sym placed.has_method ∙ (code_is image f.method.0 e.0 e.2).method) in
     let conform = subst (λ (m : Method). RegsConform image heap (own_of image this m) f.regs placed.state.regs) own placed.conform.good.regs in
     let demanded = subst (λ (y : At). demands image e.0.method y.op placed.state ≡ None) at e.4.ok in
-    let rules = subst (λ (y : At). op_rules image e.0 y.op ≡ []) at e.4.rules in
-    met image T acc heap fine this f x found e.0 placed.state conform w frame stands x.op refl demanded rules fit
+    let rules = subst (λ (y : At). op_rules image e.0 e.4.reference y.op ≡ []) at e.4.rules in
+    met image T acc heap fine this f x found e.0 placed.state conform w frame stands e.4.reference x.op refl demanded rules fit

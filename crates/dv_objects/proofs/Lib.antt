@@ -1,1 +1,2 @@
 pub mod KindTypes
+pub mod Interfaces

@@ -1,7 +1,7 @@
 // The types of which objects are instances (JLS 15.20.2).
-ghost use Rattle.std.specs.Prelude.{◌≡◌, false};
+ghost use Rattle.std.specs.Prelude.{◌≡◌, false, true};
 ghost use Rattle.dv_defs.specs.Order.{instance as is_under};
-ghost use Rattle.dv_defs.specs.Pools.{class_named, class_type};
+ghost use Rattle.dv_defs.specs.Pools.{class_named, class_type, is_interface};
 ghost use Rattle.dv_defs.specs.Types.{of_class};
 ghost use Rattle.dv_words.specs.Mem.{type_of};
 ghost use Rattle.dv_objects.specs.Types.{is_class_type};
@@ -9,7 +9,7 @@ ghost use Rattle.dv_objects.specs.Types.{is_class_type};
 use crate::classes::{CLASS, STRING};
 use dv_defs::{Base, ClassId, Image, Ty};
 use dv_heap::Heap;
-use dv_image::{Ascent, OBJECT, boot_class, is_base_under, is_class_instance};
+use dv_image::{Ascent, OBJECT, boot_class, implements, is_base_under, is_class_instance};
 use dv_words::Kind;
 
 /// Whether a boot class is under the class of a descriptor, which stands at this place.
@@ -27,14 +27,8 @@ fn is_class_under(image: &Image, class: ClassId, name: &[u8], place: Option<usiz
 {
     match image.classes.items().get(class.0 as usize) {
         Some(info) => {
-            let own = &info.def.name;
-            is_class_instance(
-                image,
-                own.bytes(),
-                dv_image::class_of(image, own),
-                name,
-                place,
-            )
+            let own = Some(class.0 as usize);
+            is_class_instance(image, info.def.name.bytes(), own, name, place)
         }
         None => is_boot_under(image, b"", name, place),
     }
@@ -82,6 +76,33 @@ pub fn is_of_class(
         Kind::Array(ty) => is_array_under(image, ty, name, place),
         Kind::Str => is_boot_under(image, STRING, name, place),
         Kind::ClassOf(_) => is_boot_under(image, CLASS, name, place),
+    }
+}
+
+/// The same of the class at a place.
+fn is_of_class_at(image: &Image, heap: &Heap, object: u32, class: usize) -> bool
+    ensures { result ≡ is_under image.now (type_of image.now heap.now object) (class_type image.now class) }
+{
+    match image.classes.items().get(class) {
+        Some(info) => is_of_class(image, heap, object, info.def.name.bytes(), Some(class)),
+        None => is_of_class(image, heap, object, b"", boot_class(image, b"")),
+    }
+}
+
+/// Whether an object is of a class that has the interface at a place.
+pub fn has_interface(image: &Image, heap: &Heap, object: u32, interface: usize) -> bool
+    requires { is_interface image.now interface ≡ true }
+    ensures { result ≡ is_under image.now (type_of image.now heap.now object) (class_type image.now interface) }
+{
+    if !heap.exists(object) {
+        return is_of_class_at(image, heap, object, interface);
+    }
+    match heap.kind(object) {
+        Kind::Object(class) => {
+            let _classes = &image.classes;
+            implements(image, class.0 as usize, interface)
+        }
+        _ => is_of_class_at(image, heap, object, interface),
     }
 }
 

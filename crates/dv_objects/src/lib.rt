@@ -5,4 +5,4 @@ mod classes;
 mod instances;
 
 pub use classes::class_of_object;
-pub use instances::{is_instance, is_instance_of, is_of_class};
+pub use instances::{has_interface, is_instance, is_instance_of, is_of_class};

@@ -10,16 +10,11 @@ use Rattle.dv_words.specs.declared.state.Level.TheVariants as level
 use Rattle.dv_words.specs.Stacks.{empty, has_room, pushed, size_of, with_levels}
 use Rattle.dv_words.specs.State.{WordStack, WordThread}
 use Rattle.dv_defs.specs.declared.run.Named.TheVariants as named
-use Rattle.dv_defs.specs.Images.{Image}
-use Rattle.dv_defs.specs.Pools.{Method, is_abstract}
-use Rattle.dv_machine.specs.Calls.{registers_in}
 use Rattle.dv_machine.specs.State.{Did, Throws, where_true}
-use Rattle.dv_words.specs.Heaps.{kind_of}
-use Rattle.dv_words.specs.State.{WordHeap}
 use Rattle.dv_words.specs.Steps.{At, Left, goes, stays}
-use Rattle.dv_words.specs.Threads.{class_of_kind, is_alive, is_living, join_with, new_thread, run_method, start_unless, started_on, thread_from, thread_with}
+use Rattle.dv_words.specs.Threads.{is_alive, is_living, join_with, start_unless, started_on, thread_from, thread_with}
 use Rattle.dv_threads.specs.declared.threads.Threads.{Threads}
-use Rattle.dv_threads.specs.Starting.{begun, other_lives, run_of, started_by}
+use Rattle.dv_threads.specs.Starting.{other_lives, run_of}
 use Rattle.dv_threads.proofs.Leaving.{zip_length}
 use Rattle.dv_threads.specs.Kept.{IsThreadOf, zipped}
 
@@ -110,14 +105,3 @@ module _ (h : At) where
 
   pub few_enough : (n m : ℕ) (go : Did Left) → n < m → where_true (nat_lt n m) named.OutOfMemory go ≡ go
   few_enough n m go few = let e : nat_lt n m ≡ true = grind (arith, nat_tests) in ap (λ b. where_true b named.OutOfMemory go) e
-
-  pub run_sees : (image : Image) (heap : WordHeap) (o : ℕ) → h.image ≡ image → h.shared.heap ≡ heap → run_of h o ≡ run_method image (class_of_kind image (kind_of heap o))
-  run_sees image heap o i w = λ j. run_method (i j) (class_of_kind (i j) (kind_of (w j) o))
-
-  pub abstract_throws : (o : ℕ) (m : Method) → is_abstract m ≡ true → started_on h o (Some m) ≡ Throws named.AbstractMethod
-  abstract_throws o m e = ap (λ b. cond b (Throws named.AbstractMethod) (started_by h (new_thread o m))) e
-
-  pub concrete_starts : (o : ℕ) (m : Method) (registers : ℕ) → is_abstract m ≡ false → registers ≡ registers_in m.def.body → started_on h o (Some m) ≡ started_by h (begun (record { 0 = m.id }) registers o)
-  concrete_starts o m registers e same =
-      ap (λ b. cond b (Throws named.AbstractMethod) (started_by h (new_thread o m))) e ∙
-      ap (λ n. started_by h (begun (record { 0 = m.id }) n o)) (sym same)

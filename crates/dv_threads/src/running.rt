@@ -1,17 +1,17 @@
 // The method with which a thread begins.
-ghost use Rattle.std.specs.Prelude.{◌≡◌, ◌≤◌, ◌&&◌, codes, find, option_map, bytes_eq};
-ghost use Rattle.dv_defs.specs.Pools as pools;
+ghost use Rattle.std.specs.Prelude.{◌≡◌, ◌≤◌, ◌&&◌, ℕ, IfNone, IfSome, bytes_eq, codes, false, true};
 ghost use Rattle.dv_defs.specs.Pools.{no_arguments};
+ghost use Rattle.dv_defs.specs.Selecting.{selected};
 ghost use Rattle.dv_defs.specs.Types.{same_proto};
-ghost use Rattle.law_linking.specs.Landing.{has_key_at, landing_of};
-ghost use Rattle.dv_machine.specs.Calls.{registers_in};
-ghost use Rattle.dv_ops.specs.Meaning.{method_of};
+ghost use Rattle.dv_machine.specs.Calls.{landing as machine_landing, registers_in};
+ghost use Rattle.dv_machine.specs.Threads as machine;
 ghost use Rattle.dv_words.specs.Heaps.{kind_of};
-ghost use Rattle.dv_words.specs.Threads as steps;
 ghost use Rattle.dv_words.specs.Threads.{class_of_kind};
+ghost use Rattle.dv_threads.specs.Starting.{is_run_at, landed};
 
-use dv_defs::{Flag, Image, MethodDef, MethodId, Proto};
+use dv_defs::{ClassId, Image, MethodDef, MethodId, Named, Proto, Select};
 use dv_heap::Heap;
+use dv_image::select;
 use dv_objects::class_of_object;
 use dv_ops::{Method, method_at};
 
@@ -19,7 +19,7 @@ const RUN: &[u8] = b"run";
 
 /// Whether the method of a number is run()V by its name and prototype.
 fn is_run(image: &Image, id: MethodId) -> bool
-    ensures { result ≡ has_key_at image.now (codes "run") no_arguments id }
+    ensures { result ≡ is_run_at image.now id.0 }
 {
     match method_at(image, id) {
         Some(method) => has_run_key(method.def),
@@ -40,12 +40,13 @@ fn is_bare(proto: &Proto) -> bool
     proto.params.is_empty() && proto.ret.is_none()
 }
 
-/// The first of some methods that is run()V.
-fn first_run(image: &Image, table: &[MethodId]) -> Option<MethodId>
-    ensures { result ≡ find (has_key_at image.now (codes "run") no_arguments) table.now }
+/// The number of the image's first run()V. The methods of the boot classes, of which Thread is one, stand first.
+fn run_number(image: &Image) -> Option<MethodId>
+    ensures found { IfSome result (λ id. is_run_at image.now id.0 ≡ true) }
+    ensures missing { IfNone result ((n : ℕ) → is_run_at image.now n ≡ false) }
 {
-    for i in 0..table.len() {
-        let id = table[i];
+    for i in 0..image.methods.len() {
+        let id = MethodId(i as u32);
         if is_run(image, id) {
             return Some(id);
         }
@@ -53,30 +54,41 @@ fn first_run(image: &Image, table: &[MethodId]) -> Option<MethodId>
     None
 }
 
-/// The run()V on which a call on an object of a class lands, by its table.
-fn run_of_class(image: &Image, class: usize) -> Option<MethodId>
-    ensures { result ≡ landing_of image.now class (codes "run") no_arguments }
+/// What a call of run()V selects on an object of a class.
+fn select_run(image: &Image, class: usize) -> Select
+    ensures { result ≡ selected image.now class (codes "run") no_arguments }
 {
-    match image.classes.items().get(class) {
-        Some(info) => first_run(image, info.table.items()),
-        None => None,
+    if class >= image.classes.len() {
+        return Select::Abstract;
+    }
+    match run_number(image) {
+        Some(run) => select(image, ClassId(class as u32), run),
+        None => Select::Abstract,
     }
 }
 
-/// The run()V of an object's class (JLS 15.12.4.4).
-pub fn run_method<'a>(image: &'a Image, heap: &Heap, object: u32) -> Option<Method<'a>>
-    ensures { option_map method_of result ≡ steps.run_method image.now (class_of_kind image.now (kind_of heap.now object)) }
+/// The method that was selected, or what is thrown in its place (JVMS 6.5, "invokevirtual" and "invokeinterface").
+fn landing(image: &Image, selected: Select) -> Result<Method<'_>, Named>
+    ensures { landed result ≡ machine_landing image.now selected }
 {
-    let class = class_of_object(image, heap, object)?;
-    let id = run_of_class(image, class)?;
-    method_at(image, id)
+    match selected {
+        Select::Found(id) => match method_at(image, id) {
+            Some(method) => Ok(method),
+            None => Err(Named::AbstractMethod),
+        },
+        Select::Abstract => Err(Named::AbstractMethod),
+        Select::Clash => Err(Named::ClassChange),
+    }
 }
 
-/// Whether a method has no body to run.
-pub fn is_abstract(method: &Method<'_>) -> bool
-    ensures { result ≡ pools.is_abstract (method_of method.now) }
+/// The run()V that an object's class selects (JLS 15.12.4.4), or what is thrown in its place.
+pub fn run_landing<'a>(image: &'a Image, heap: &Heap, object: u32) -> Result<Method<'a>, Named>
+    ensures { landed result ≡ machine.run_landing image.now (class_of_kind image.now (kind_of heap.now object)) }
 {
-    Flag::Abstract.is_in(method.def.flags)
+    match class_of_object(image, heap, object) {
+        Some(class) => landing(image, select_run(image, class)),
+        None => Err(Named::AbstractMethod),
+    }
 }
 
 /// How many registers a method has, none where it has no body.

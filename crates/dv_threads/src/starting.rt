@@ -11,7 +11,7 @@ ghost use Rattle.dv_threads.specs.Kept.{Answers, AreAsBefore, HasRoom, IsThreadO
 ghost use Rattle.dv_words.specs.Natives.{gives};
 ghost use Rattle.dv_threads.specs.Starting.{IsFirst, begun, other_lives, run_of, started_by};
 
-use crate::running::{is_abstract, registers_of, run_method};
+use crate::running::{registers_of, run_landing};
 use crate::stacks::{give, go_on};
 use crate::threads::Threads;
 use dv_defs::{End, Image, Limits, MethodId, Named, Next};
@@ -117,14 +117,13 @@ fn start_new(
     ensures { (own : WordThread) (h : At) → IsThreadOf threads.old thread next own h → Sees image.now heap.now limits.now h → HasRoom h.limits →
         Leads result (steps.started_on h object (run_of h object)) (LeavesThreads threads.old threads.new own h) (AreAsBefore threads.old threads.new) }
 {
-    let Some(method) = run_method(image, heap, object) else {
-        return Ok(Next::Throw(Named::AbstractMethod));
-    };
-    if is_abstract(&method) {
-        return Ok(Next::Throw(Named::AbstractMethod));
+    match run_landing(image, heap, object) {
+        Ok(method) => {
+            let registers = registers_of(method.def);
+            start_with(limits, threads, thread, next, object, method.id, registers)
+        }
+        Err(named) => Ok(Next::Throw(named)),
     }
-    let registers = registers_of(method.def);
-    start_with(limits, threads, thread, next, object, method.id, registers)
 }
 
 /// Thread.start.

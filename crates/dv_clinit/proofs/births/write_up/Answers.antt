@@ -1,14 +1,10 @@
-use Rattle.std.proofs.Common.{◌≡◌, false, Option, Some, None, refl, sym, ◌∙◌, arith}
-use Rattle.std.specs.Prelude.{is_some}
+use Rattle.std.proofs.Common.{Some, sym, ◌∙◌, arith}
 use Rattle.std.proofs.lemmas.List.{length-set}
-use Rattle.dv_clinit.specs.declared.states.State.{State}
+use Rattle.dv_clinit.specs.Births.{BeginsAsParent}
 use Rattle.dv_clinit.proofs.BirthLaws.{climb_alike, climb_before, climb_inside, known_more}
+use Rattle.dv_clinit.proofs.Noting.{none_by_test}
 use Rattle.dv_clinit.proofs.Writing.{way_on, way_top}
 use Rattle.dv_clinit.proofs.births.write_up.Goals as goal
-
-none_by_test : (o : Option State) → is_some o ≡ false → o ≡ None
-none_by_test None test = refl
-none_by_test (Some s) test = absurd (cc)
 
 pub loop-state-smaller : goal.loop-state-smaller
 loop-state-smaller c =
@@ -22,14 +18,14 @@ loop-state-preserved c =
     let unknown = none_by_test _ c.loop-state-test.ensures in
     record {
       within = omega (arith, inside, length-set c.loop-state.known c.loop-state.at (Some c.args.state));
-      known = known_more c.args.image.now c.loop-state.known known c.loop-state.at c.args.state c.loop-state.invariant.same;
+      known = known_more c.args.image.now (BeginsAsParent c.args.image.now) c.loop-state.known known c.loop-state.at c.args.state c.loop-state.invariant.same;
       way = way_on c.args.image.now c.args.known.now c.loop-state.known c.args.class c.loop-state.at c.in-Some.above c.args.state c.loop-state.invariant.within parent c.loop-state.invariant.way;
       same = c.loop-state.invariant.same ∙ climb_alike c.args.image.now c.loop-state.known known c.loop-state.at c.in-Some.above c.loop-state.invariant.within unknown parent;
     }
 
 pub returns-in-None-clause-known : goal.returns-in-None-clause-known
 returns-in-None-clause-known c =
-    known_more c.args.image.now c.loop-state.known c.loop-state.invariant.known c.loop-state.at c.args.state c.loop-state.invariant.same
+    known_more c.args.image.now (BeginsAsParent c.args.image.now) c.loop-state.known c.loop-state.invariant.known c.loop-state.at c.args.state c.loop-state.invariant.same
 
 pub returns-in-None-clause-written : goal.returns-in-None-clause-written
 returns-in-None-clause-written c =

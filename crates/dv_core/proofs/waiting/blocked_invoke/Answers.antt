@@ -14,7 +14,7 @@ use Rattle.dv_core.proofs.Waits.{invoke_waits}
 use Rattle.dv_core.proofs.waiting.blocked_invoke.Goals as goal
 
 pub returns : goal.returns
-returns c s e l p h are finds seen own numbered =
+returns c s e l p h are seen own numbered =
     let image = c.args.image.now in
     let heap = c.args.guest.now.heap in
     let g = method_of c.args.method in
@@ -26,4 +26,4 @@ returns c s e l p h are finds seen own numbered =
     c.blocked_landed.ensures s e l p are ∙
     (ap (blocked_landed m c.args.thread o)
     (c.land-landed.ensures h seen own numbered ∙ (sym (from_seen image heap c.args.stack.now h call g (arg_words c.args.stack.now c.args.regs.now) seen) ∙ ap (called_in image heap h.own call g) words)) ∙
-    invoke_waits image finds m c.args.thread h.own h.frame call g ks o (sym (c.if-is_in.ensures)) (c.in_ok-object.ensures ∙ ap first_of words))
+    invoke_waits image m c.args.thread h.own h.frame call g ks o (sym (c.if-is_in.ensures)) (c.in_ok-object.ensures ∙ ap first_of words))

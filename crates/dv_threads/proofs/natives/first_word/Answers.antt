@@ -1,7 +1,7 @@
 use Rattle.std.proofs.Common.{◌≡◌, ◌<◌, length, refl, ap, sym, ◌∙◌, arith}
 use Rattle.std.specs.Prelude.{slice_index}
 use Rattle.std.proofs.lemmas.Option.{same_Some}
-use Rattle.dv_image.proofs.Landings.{read_at}
+use Rattle.dv_image.proofs.Reading.{read_at}
 use Rattle.dv_words.specs.Stacks.{arg_words, top_regs}
 use Rattle.dv_words.specs.State.{WordStack}
 use Rattle.dv_words.specs.Words.{word_at}

@@ -3,7 +3,7 @@ use Rattle.std.specs.Prelude.{slice_get}
 use Rattle.std.specs.Vec.{with_items}
 use Rattle.std.proofs.lemmas.Option.{same_Some}
 use Rattle.dv_threads.specs.declared.threads.Threads.{Threads}
-use Rattle.dv_image.proofs.Landings.{read_at}
+use Rattle.dv_image.proofs.Reading.{read_at}
 use Rattle.dv_words.specs.declared.state.Frame.{Frame}
 use Rattle.dv_words.specs.declared.state.Kept.TheVariants as kept
 use Rattle.dv_words.specs.Stacks.{given, gone}

@@ -1,6 +1,6 @@
 use Rattle.std.proofs.Common.{ap, sym, ◌∙◌}
 use Rattle.std.specs.Prelude.{◌==◌, position}
-use Rattle.dv_image.proofs.Landings.{read_at}
+use Rattle.dv_image.proofs.Reading.{read_at}
 use Rattle.dv_threads.proofs.Begins.{alive_in, no_other, other_is}
 use Rattle.dv_threads.proofs.starting.lives.Goals as goal
 

@@ -1,6 +1,6 @@
 use Rattle.std.proofs.Common.{◌≡◌, refl, sym, ◌∙◌, subst, arith}
 use Rattle.std.proofs.lemmas.Option.{same_Some}
-use Rattle.dv_image.proofs.Landings.{read_at}
+use Rattle.dv_image.proofs.Reading.{read_at}
 use Rattle.dv_words.specs.State.{WordStack}
 use Rattle.dv_words.specs.Answering.{IsStackOf}
 use Rattle.dv_threads.proofs.Leaving.{got_within}

@@ -1,5 +1,5 @@
 use Rattle.std.proofs.Common.{◌≡◌, ◌∙◌, List, length, sym, ap, subst, arith}
-use Rattle.dv_image.proofs.Landings.{read_at}
+use Rattle.dv_image.proofs.Reading.{read_at}
 use Rattle.dv_words.specs.Running.{blocked_levels}
 use Rattle.dv_words.specs.State.{WordStack}
 use Rattle.dv_core.specs.Machines.{machine_of}
@@ -25,5 +25,5 @@ returns c own w there lives =
     let read = c.in_ok-stack.ensures.lookup in
     let has = read_at c.deref.result.now ts.stacks.items c.args.thread stack c.deref.ensures.value read.0 read.1 in
     let levels : own.levels ≡ stack.levels = stack_there ts.stacks.items ts.ends.items ts.objects.items c.args.thread stack own has there in
-    c.blocked_stack.ensures v.steps v.stop v.limits v.preallocated (are_numbered image v w) w.finds (subst (IsTopWatched image) levels (w.tops c.args.thread own there lives)) ∙
+    c.blocked_stack.ensures v.steps v.stop v.limits v.preallocated (are_numbered image v w) (subst (IsTopWatched image) levels (w.tops c.args.thread own there lives)) ∙
     ap (blocked_levels image (machine_of v) c.args.thread) (sym levels)

@@ -1,5 +1,5 @@
 use Rattle.std.proofs.Common.{◌≡◌, ◌∙◌, IfOk, List, Option, length, sym, ap, subst, arith}
-use Rattle.dv_image.proofs.Landings.{read_at}
+use Rattle.dv_image.proofs.Reading.{read_at}
 use Rattle.dv_words.specs.declared.state.Frame.{Frame}
 use Rattle.dv_words.specs.State.{WordStack}
 use Rattle.dv_core.specs.Advancing.{top_frame}

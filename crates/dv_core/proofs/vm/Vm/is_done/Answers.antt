@@ -1,5 +1,5 @@
 use Rattle.std.proofs.Common.{ap, sym, ◌∙◌, length, nat_eq, arith}
-use Rattle.dv_image.proofs.Landings.{read_at}
+use Rattle.dv_image.proofs.Reading.{read_at}
 use Rattle.dv_core.proofs.Settled.{stack_there, thread_within}
 use Rattle.dv_core.proofs.vm.Vm.is_done.Goals as goal
 

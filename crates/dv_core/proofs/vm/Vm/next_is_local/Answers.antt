@@ -1,5 +1,5 @@
 use Rattle.std.proofs.Common.{◌∙◌, List, length, sym, ap, subst, arith}
-use Rattle.dv_image.proofs.Landings.{read_at}
+use Rattle.dv_image.proofs.Reading.{read_at}
 use Rattle.dv_words.specs.State.{WordStack}
 use Rattle.law_engine.specs.KeepLaws.{is_local_level_of}
 use Rattle.dv_core.specs.Watching.{IsTopWatched}
