@@ -3,7 +3,7 @@ use Rattle.std.specs.Prelude.{◌≡◌, ◌≢◌, ◌<◌, ◌≤◌, ◌+◌,
 use Rattle.dv_defs.specs.declared.run.Entry.{Entry}
 use Rattle.dv_io.specs.Io.{HasRisen, TookPart, after_write}
 use Rattle.dv_machine.specs.Running.{ending_of}
-use Rattle.dv_sound.specs.Runs.{AtItsState, MayTurn, Run}
+use Rattle.dv_sound.specs.Runs.{AtItsState, HasStopped, MayTurn, Run}
 use Rattle.dv_workers.specs.Entries.{IsOfWorker}
 use Rattle.dv_workers.specs.Seats.{names_of}
 
@@ -31,6 +31,10 @@ GoesOn r = AtItsState r (λ main m. ending_of r.verified.image m ≡ None)
 -- a turn of this thread may be done
 abbrev pub MayGo : Run → ℕ → Type 0
 MayGo r thread = AtItsState r (λ main m. MayTurn r m thread)
+
+-- why no thread has a turn: the workers are to stop, or no thread at home can go on
+abbrev pub NoneIsNext : Bool → Bool → Run → Type 0
+NoneIsNext memory fault r = (memory ≡ true) ⊎ ((fault ≡ true) ⊎ AtItsState r (λ main m. HasStopped r m))
 
 -- one entry more, of a worker
 pub record IsLonger (old new : List Entry) : Type 0 where

@@ -2,7 +2,7 @@
 ghost use Rattle.std.specs.Prelude.{◌≡◌, ◌<◌, ◌≤◌, ◌+◌, ◌^◌, ◌⊎◌, [], All, IfSome, MatchOption, true, false, length};
 ghost use Rattle.dv_io.specs.Io.{HasRisen};
 ghost use Rattle.dv_workers.specs.Chores.{IsChore, IsSlice, ran};
-ghost use Rattle.dv_workers.specs.Desks.{FewWait, GoesOn, IsDone, IsOver, IsWritten, MayGo, printed};
+ghost use Rattle.dv_workers.specs.Desks.{FewWait, GoesOn, IsDone, IsOver, IsWritten, MayGo, NoneIsNext, printed};
 ghost use Rattle.dv_workers.specs.Entries.{IsOfWorker};
 ghost use Rattle.dv_workers.specs.Seats.{names_of};
 
@@ -136,9 +136,9 @@ impl<'v, K: Sink, L: Began> Desk<'v, K, L> {
         (Chore::Ran, turns)
     }
 
-    /// The thread whose turn is next, none where the workers are to stop or no thread can go on: it is asked once whether it can.
-    fn next(&self) -> Option<u32>
-        ensures { IfSome result (λ thread. MayGo self.now.vm thread) }
+    /// The thread whose turn is next; none where the workers are to stop, or no thread at home can go on.
+    fn next_thread(&self) -> Option<u32>
+        ensures { MatchOption result (NoneIsNext self.now.memory self.now.fault self.now.vm) (λ thread. MayGo self.now.vm thread) }
     {
         if self.memory || self.fault {
             return None;
@@ -158,7 +158,7 @@ impl<'v, K: Sink, L: Began> Desk<'v, K, L> {
         ensures parts { share.new.parts ≡ share.old.parts }
         ensures amount { share.new.amount ≡ share.old.amount + ran result }
     {
-        match self.next() {
+        match self.next_thread() {
             Some(thread) if lends => self.go(share, worker, thread),
             Some(thread) => self.turn(share, worker, thread),
             None if self.is_over() => Chore::Stop,
@@ -305,7 +305,7 @@ impl<'v, K: Sink, L: Began> Desk<'v, K, L> {
     {
         let mut turns = 0;
         for _ in rt.forever() {
-            match self.next() {
+            match self.next_thread() {
                 Some(thread) => turns += self.turn_in_place(gate, share, thread),
                 None if self.is_over() => return turns,
                 None => {}
