@@ -1,8 +1,8 @@
 // Programs, and what the rules of Java say of them that no run shows.
-use dv_defs::{ClassId, FieldId, MethodId};
+use dv_defs::{ClassId, FieldId, MethodId, Select};
 
-// The class of an object, the method that is called, and the method that is run.
-pub type Landing = (ClassId, MethodId, Option<MethodId>);
+// The class of an object, the method that is called, and what is selected.
+pub type Landing = (ClassId, MethodId, Select);
 
 // A class, the fields of an object, and the methods that calls on it may land on: each list begins with the superclass's places.
 pub type Shape = (ClassId, &'static [FieldId], &'static [MethodId]);
@@ -119,12 +119,15 @@ const C_F: MethodId = MethodId(106);
 const D_H: MethodId = MethodId(108);
 
 // Constructors are asked for as no call does, and a class and a method that aren't there.
-pub static LANDINGS: [Landing; 5] = [
-    (A, A_INIT, Some(A_INIT)),
-    (B, A_INIT, Some(A_INIT)),
-    (A, B_H, None),
-    (ClassId(9_999), A_F, None),
-    (A, MethodId(9_999), None),
+pub static LANDINGS: [Landing; 8] = [
+    (A, A_F, Select::Found(A_F)),
+    (D, A_F, Select::Found(C_F)),
+    (D, B_H, Select::Found(D_H)),
+    (A, A_INIT, Select::Abstract),
+    (B, A_INIT, Select::Abstract),
+    (A, B_H, Select::Abstract),
+    (ClassId(9_999), A_F, Select::Abstract),
+    (A, MethodId(9_999), Select::Abstract),
 ];
 
 pub static CALLS: &[Shape] = &[

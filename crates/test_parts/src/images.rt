@@ -2,9 +2,9 @@
 use crate::fixtures::linked;
 use crate::image_rows as rows;
 use crate::image_rows::{Landing, Shape};
-use dv_defs::{Base, ClassId, Image, LinkError, LinkKind, MethodId, Text, Ty};
+use dv_defs::{Base, ClassId, Image, LinkError, LinkKind, MethodId, Select, Text, Ty};
 use dv_hier::Classes;
-use dv_image::{assignable, field_of, instance, lookup_interface, lookup_virtual, sub};
+use dv_image::{assignable, field_of, instance, select, sub};
 use dv_resolve::{find_main, link};
 use std::alloc::Global;
 use std::process::Abort;
@@ -31,15 +31,23 @@ fn relations(image: &Image, a: &Ty, b: &Ty) -> (bool, bool, bool) {
 
 fn assert_landings<R: Abort>(rt: &R, image: &Image, rows: &[Landing]) {
     for (object, called, landing) in rows {
-        let by_class = lookup_virtual(image, *object, *called);
-        let by_interface = lookup_interface(image, *object, *called);
         assert!(rt;
-            by_class == *landing && by_interface == *landing,
+            select(image, *object, *called) == *landing,
             "{} {}",
             object.0,
             called.0
         );
     }
+}
+
+// Whether a table has these methods, and nothing else.
+fn are_found(table: &[Select], methods: &[MethodId]) -> bool {
+    for (place, method) in methods.iter().enumerate() {
+        if table.get(place) != Some(&Select::Found(*method)) {
+            return false;
+        }
+    }
+    table.len() == methods.len()
 }
 
 fn assert_shapes<R: Abort>(rt: &R, image: &Image, rows: &[Shape]) {
@@ -50,24 +58,24 @@ fn assert_shapes<R: Abort>(rt: &R, image: &Image, rows: &[Shape]) {
             .get(class.0 as usize)
             .expect(rt, "a class");
         assert!(rt;
-            info.slots.items() == *slots && info.table.items() == *table,
+            info.slots.items() == *slots && are_found(info.table.items(), table),
             "{}",
             class.0
         );
     }
 }
 
-// Whether a method of the class is found at this place of the class's table, or is another class's.
-fn is_placed(image: &Image, class: ClassId, method: MethodId, place: u32) -> bool {
-    let number = method.0 as usize;
-    let Some(info) = image.methods.items().get(number) else {
+// Whether a method has the number of the name and prototype for which this place of the class's table stands.
+fn is_placed(image: &Image, class: ClassId, method: MethodId, place: usize) -> bool {
+    let Some(places) = image.index.places.items().get(class.0 as usize) else {
         return false;
     };
-    info.class != class || image.index.places.items().get(number) == Some(&place)
+    let number = image.index.keys.items().get(method.0 as usize);
+    number.is_some() && places.items().get(place) == number
 }
 
 fn are_placed(image: &Image, class: ClassId, table: &[MethodId]) -> bool {
-    for (place, method) in (0..).zip(table) {
+    for (place, method) in table.iter().enumerate() {
         if !is_placed(image, class, *method, place) {
             return false;
         }
