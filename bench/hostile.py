@@ -159,6 +159,25 @@ def implements(count):
     return faces + class_of("C", more=f".implements LI{count - 1};\n") + main_class("return-void\n", 1)
 
 
+def defaults(count, own=15):
+    """Interfaces with the same default methods, half of these classes, one more under all of them, and classes under one another that each name this one again."""
+    half = count // 2
+    body = "".join(method(f"public m{k}()V", 1, "return-void\n") for k in range(own))
+    faces = "".join(class_of(f"I{k}", flags="interface abstract ", more=body) for k in range(half))
+    every = "".join(f".implements LI{k};\n" for k in range(half))
+    low = class_of("X", flags="interface abstract ", more=every + "".join(f".method public abstract m{k}()V\n.end method\n" for k in range(own)))
+    own_class = lambda k: class_of(f"C{k}", OBJECT if k == 0 else f"LC{k - 1};", more=(every if k == 0 else "") + ".implements LX;\n")
+    return faces + low + "".join(own_class(k) for k in range(half))
+
+
+def ladder(count, own=15):
+    """The same, but each interface is under the one before it, and each class names one of them, the topmost first."""
+    half = count // 2
+    body = "".join(method(f"public m{k}()V", 1, "return-void\n") for k in range(own))
+    faces = "".join(class_of(f"I{k}", flags="interface abstract ", more=("" if k == 0 else f".implements LI{k - 1};\n") + body) for k in range(half))
+    return faces + "".join(class_of(f"C{k}", OBJECT if k == 0 else f"LC{k - 1};", more=f".implements LI{k};\n") for k in range(half))
+
+
 def cycle(count):
     """A class under each of a ring of others."""
     return "".join(class_of(f"C{k}", f"LC{(k + 1) % count};") for k in range(count))
@@ -221,6 +240,8 @@ CASES = {
     "tables": (tables, ("100", "400", "900", "985")),
     "finals": (finals, ("100", "400", "900", "985")),
     "implements": (implements, ("100", "400", "900", "985")),
+    "defaults": (defaults, ("100", "400", "900", "1020")),
+    "ladder": (ladder, ("100", "400", "900", "1020")),
     "cycle": (cycle, ("100", "400", "900", "990")),
 }
 
