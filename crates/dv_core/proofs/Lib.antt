@@ -1,5 +1,6 @@
 pub mod Watches
 pub mod Waits
+pub mod Trying
 pub mod Settled
 pub mod Seen
 pub mod Outcomes

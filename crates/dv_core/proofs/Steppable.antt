@@ -90,10 +90,11 @@ module _ (T : Typings) (v : Vm) (m : Machine) (room : HasRoom v.limits) (few : v
       ap (λ (cs : Classes). state_at cs c.0) classes ∙ now ∙ ap InProgress (sym seen.number)
 
 pub steps_fit : StepsFit
-steps_fit image T v m t acc strings keys sim ordered room few =
+steps_fit image T v m t acc strings keys sim ordered numbered room few =
     let given : IsGiven image T (machine_of v) m = record { accepted = acc; strings = strings; keys = keys; simulated = sim } in
     record {
       ordered = ordered;
+      numbered = numbered;
       few = few;
       stands = λ own h f seen living levels.
           let met = met_top image T (machine_of v) m t own f h.rest sim.typed sim.stands seen.there living levels in

@@ -1,6 +1,6 @@
 -- A step of a thread, by how it stands and what is on top.
-use Rattle.std.proofs.Common.{◌≡◌, ℕ, zero, suc, Bool, List, [], ◌∷◌, length, Option, Some, None, Result, Ok, Err, refl, ap, sym, ◌∙◌, subst, arith}
-use Rattle.std.specs.Prelude.{OnErr, OnOk, slice_get}
+use Rattle.std.proofs.Common.{◌≡◌, ℕ, zero, suc, Bool, true, List, [], ◌∷◌, length, Option, Some, None, Result, Ok, Err, refl, ap, sym, ◌∙◌, subst, arith}
+use Rattle.std.specs.Prelude.{IsErr, OnErr, OnOk, slice_get}
 use Rattle.std.specs.declared.alloc.AllocError.{AllocError}
 use Rattle.dv_defs.specs.declared.machine.End.{End}
 use Rattle.dv_defs.specs.declared.machine.End.TheVariants as end
@@ -29,17 +29,24 @@ use Rattle.dv_words.specs.Unwinding.{Unwound, handler_for, unwind_frame, unwind_
 use Rattle.dv_throw.specs.Answers.{Unwinds}
 use Rattle.dv_threads.specs.Kept.{threads_of, zipped}
 use Rattle.dv_core.specs.declared.guest.Guest.{Guest}
+use Rattle.dv_core.specs.declared.vm.Step.{Step}
 use Rattle.dv_core.specs.declared.vm.Vm.{Vm}
 use Rattle.dv_core.specs.Guests.{IsOrdered, IsSeen, Stays}
-use Rattle.dv_core.specs.Machines.{IsStepped, machine_of}
+use Rattle.dv_core.specs.Machines.{machine_of}
+use Rattle.dv_core.specs.Trying.{IsTried, done_by}
 use Rattle.dv_defs.specs.declared.run.Next.TheVariants as next
 use Rattle.dv_words.specs.Unwinding.{Caught, Flies, Lacking}
 
 -- ---- answers
 
-pub stepped : (r : Result (Unit {0}) AllocError) (old new : Vm) (m : WordMachine) → OnOk r (machine_of new ≡ m) → OnErr r (machine_of new ≡ machine_of old) → IsOrdered old.limits new.guest → IsStepped r old new m
-stepped (Ok u) old new m ok err ordered = (ok, ordered)
-stepped (Err e) old new m ok err ordered = (err, ordered)
+-- a step that was done, or wanted memory
+pub tried : (r : Result (Unit {0}) AllocError) (old new : Vm) (m : WordMachine) (may : Bool) → may ≡ true → OnOk r (machine_of new ≡ m) → OnErr r (machine_of new ≡ machine_of old) → IsOrdered old.limits new.guest → IsTried (done_by r) may old new m
+tried (Ok u) old new m may is ok err ordered = (is, ok, ordered)
+tried (Err e) old new m may is ok err ordered = (err, ordered)
+
+pub err_tried : (r : Result Step AllocError) (may : Bool) (old new : Vm) (m : WordMachine) → IsErr r → machine_of new ≡ machine_of old → IsOrdered old.limits new.guest → IsTried r may old new m
+err_tried (Ok s) may old new m is same ordered = absurd (cc is)
+err_tried (Err e) may old new m is same ordered = (same, ordered)
 
 -- by the limits that the step sees
 pub seen_by : (i : Image) (lim : Limits) (g : Guest) (t : ℕ) (own : WordThread) (h : At) → IsSeen i lim g t own h → IsSeen i h.limits g t own h

@@ -30,14 +30,14 @@ use Rattle.dv_defs.specs.declared.names.MethodId.{MethodId}
 use Rattle.dv_words.specs.Answering.{IsStackOf}
 use Rattle.dv_words.specs.Calls.{dispatch}
 use Rattle.dv_words.specs.Local.{reg_word}
-use Rattle.dv_words.specs.Running.{blocked_call, blocked_join, blocked_landing, blocked_levels, blocked_native, blocked_of, blocked_one, blocked_receiver, blocked_thread, all_ended, any_runnable, runnable, runnable_one, runnable_thread}
+use Rattle.dv_words.specs.Running.{blocked_call, blocked_join, blocked_landing, blocked_levels, blocked_native, blocked_of, blocked_one, blocked_op, blocked_receiver, blocked_thread, all_ended, any_runnable, runnable, runnable_one, runnable_thread}
 use Rattle.dv_words.specs.Steps.{At}
 use Rattle.dv_words.specs.Threads.{is_alive, is_living, thread_with}
 use Rattle.dv_threads.specs.Kept.{threads_of, zipped}
 use Rattle.dv_threads.proofs.Begins.{found_from}
 use Rattle.dv_threads.proofs.Begins as begins
 use Rattle.law_engine.proofs.Landings.{NoNative, lands_on_no_native}
-use Rattle.dv_call.specs.Landings.{Enters, Fails, called_in, constructs, first_of, on_landing, on_object, on_receiver, run_by}
+use Rattle.dv_call.specs.Landings.{Enters, Fails, Landed, Runs, Stays, called_in, constructs, first_of, is_native, on_landing, on_object, on_receiver, run_by}
 use Rattle.dv_core.specs.declared.guest.Guest.{Guest}
 use Rattle.dv_core.specs.declared.vm.Vm.{Vm}
 use Rattle.dv_core.specs.Guests.{IsAtOp, shared_of}
@@ -127,6 +127,34 @@ module _ (image : Image) (m : WordMachine) (t : ℕ) (own : Method) (f : Frame) 
       ap (λ x. blocked_landed m t x (called_in image m.shared.heap own c g (map (reg_word f) (k ∷ ks)))) same ∙
       (ap (λ (b : Bool). blocked_landed m t r (if b then on_landing image (unless_abstract g) else on_receiver image m.shared.heap own c g (Some r))) s ∙
       (on_word r ∙ ap (λ (b : Bool). blocked_receiver image m t own f c g (if b then None else Some k)) (sym s)))
+
+  -- a call that runs no native
+  pub none_runs_of : (l : Landed) → is_native l ≡ false → (o : ℕ) → blocked_landed m t o l ≡ None
+  none_runs_of (Enters k) other o = refl
+  none_runs_of (Runs n) other o = absurd (cc other)
+  none_runs_of (Fails n) other o = refl
+  none_runs_of Stays other o = refl
+
+  -- a static call has no receiver
+  pub static_free : (ks : List ℕ) → is_static g ≡ true → blocked_op image m t own f (Invoke c ks g) ≡ None
+  static_free [] s = refl
+  static_free (k ∷ ks) s = ap (λ (b : Bool). blocked_receiver image m t own f c g (if b then None else Some k)) s
+
+  -- by what a call on the receiver comes to
+  pub waits_by : (ks : List ℕ) (l : Landed) → is_static g ≡ false → called_in image m.shared.heap own c g (map (reg_word f) ks) ≡ l → (o : ℕ) → Some o ≡ first_of (map (reg_word f) ks) → blocked_landed m t o l ≡ blocked_op image m t own f (Invoke c ks g)
+  waits_by ks l s lands o e = ap (blocked_landed m t o) (sym lands) ∙ invoke_waits ks o s e
+
+  pub unreceived : (ks : List ℕ) → None ≡ first_of (map (reg_word f) ks) → blocked_op image m t own f (Invoke c ks g) ≡ None
+  unreceived [] e = refl
+  unreceived (k ∷ ks) e = absurd (cc e)
+
+  pub invoke_free : (ks : List ℕ) (l : Landed) → called_in image m.shared.heap own c g (map (reg_word f) ks) ≡ l → is_native l ≡ false → blocked_op image m t own f (Invoke c ks g) ≡ None
+  invoke_free ks l lands other = by (is_static g) refl ks lands
+    where
+      by : (b : Bool) → is_static g ≡ b → (ks : List ℕ) → called_in image m.shared.heap own c g (map (reg_word f) ks) ≡ l → blocked_op image m t own f (Invoke c ks g) ≡ None
+      by true s ks lands = static_free ks s
+      by false s [] lands = refl
+      by false s (k ∷ ks) lands = sym (waits_by (k ∷ ks) l s lands (reg_word f k) refl) ∙ none_runs_of l other (reg_word f k)
 
 -- ---- a frame at an instruction
 
@@ -247,6 +275,10 @@ none_by None true e = refl
 none_by None false e = absurd (cc e)
 none_by (Some y) true e = absurd (cc e)
 none_by (Some y) false e = refl
+
+pub not_none : (x : Option Blocked) → is_none x ≡ not (is_some x)
+not_none None = refl
+not_none (Some y) = refl
 
 -- ---- the threads of a run
 

@@ -5,6 +5,7 @@ pub mod Standing
 pub mod Settling
 pub mod Recording
 pub mod Watching
+pub mod Trying
 pub mod Laws
 pub mod Openings
 pub mod Advancing

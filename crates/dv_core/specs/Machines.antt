@@ -1,5 +1,5 @@
 -- The engine's state as a machine on words, and what becomes of it as a step is settled.
-use Rattle.std.specs.Prelude.{◌≡◌, ◌≢◌, ◌<◌, ◌-◌, ◌^◌, ◌∷◌, ℕ, zero, suc, Bool, List, [], Option, None, Result, Ok, Err, slice_get}
+use Rattle.std.specs.Prelude.{◌≡◌, ◌≢◌, ◌<◌, ◌-◌, ◌^◌, ◌∷◌, ℕ, zero, suc, Bool, List, [], length, Option, None, slice_get}
 use Rattle.dv_defs.specs.declared.machine.End.{End}
 use Rattle.dv_defs.specs.declared.machine.End.TheVariants as end
 use Rattle.dv_defs.specs.declared.names.ClassId.{ClassId}
@@ -54,6 +54,7 @@ pub record Stands (image : Image) (f : Frame) : Type 0 where
 -- a step of this thread: what holds in every state that stands for a well-typed one
 pub record IsSteppable (image : Image) (v : Vm) (t : ℕ) : Type 0 where
   pub ordered : IsOrdered v.limits v.guest
+  pub numbered : length v.guest.threads.stacks.items < 2 ^ 32
   pub few : v.steps < 2 ^ 64 - 1
   pub stands :
       (own : WordThread) (h : At) (f : Frame) → IsSeen image v.limits v.guest t own h → own.end ≡ end.Living → own.levels ≡ level.Code f ∷ h.rest →
@@ -82,8 +83,3 @@ counted m t by_levels =
       limits = m.limits;
       preallocated = m.preallocated;
     }
-
--- a step came to this machine, or memory was wanting and all is as before
-abbrev pub IsStepped : {E : Type 0} → Result (Unit {0}) E → Vm → Vm → WordMachine → Type 0
-IsStepped (Ok u) old new m = (machine_of new ≡ m) × IsOrdered old.limits new.guest
-IsStepped (Err memory) old new m = (machine_of new ≡ machine_of old) × IsOrdered old.limits new.guest

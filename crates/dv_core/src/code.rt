@@ -1,5 +1,5 @@
 // A step of a thread at an instruction.
-ghost use Rattle.std.specs.Prelude.{◌≡◌, ◌∷◌, ◌<◌, ◌^◌, ◌-◌, Ok, Some, false, map, slice_get, true};
+ghost use Rattle.std.specs.Prelude.{◌≡◌, ◌∷◌, ◌<◌, ◌^◌, ◌-◌, Ok, Some, false, is_none, map, not, slice_get, true};
 ghost use Rattle.std.specs.declared.alloc.AllocError.{AllocError};
 ghost use Rattle.dv_defs.specs.Op as ops;
 ghost use Rattle.dv_defs.specs.Op.{named_registers};
@@ -7,6 +7,7 @@ ghost use Rattle.dv_machine.specs.Classes.{ask_of};
 ghost use Rattle.dv_defs.specs.Images.{Image as Linked};
 ghost use Rattle.dv_defs.specs.declared.run.Limits.{Limits as Bounds};
 ghost use Rattle.dv_machine.specs.Mem.{on_object};
+ghost use Rattle.dv_machine.specs.Running.{by_ask};
 ghost use Rattle.dv_monitor.specs.State.{count_of};
 ghost use Rattle.dv_ops.specs.Meaning.{method_of};
 ghost use Rattle.dv_units.specs.Tables.{standard_call};
@@ -17,6 +18,7 @@ ghost use Rattle.dv_words.specs.declared.state.Level.TheVariants as level;
 ghost use Rattle.dv_words.specs.Calls as calls;
 ghost use Rattle.dv_words.specs.Local.{reg_word, word_local};
 ghost use Rattle.dv_words.specs.Natives as natives;
+ghost use Rattle.dv_words.specs.Running.{blocked_enter, blocked_op};
 ghost use Rattle.dv_words.specs.Step as steps;
 ghost use Rattle.dv_words.specs.Step.{with_ready};
 ghost use Rattle.dv_words.specs.Stepping.{KeysRise};
@@ -31,10 +33,12 @@ ghost use Rattle.dv_builtin.specs.Natives.{TextsFit};
 ghost use Rattle.dv_core.specs.Fitting.{StepFits};
 ghost use Rattle.dv_core.specs.Guests.{Leaves, Stays, AtEachOp, Does};
 ghost use Rattle.dv_core.specs.Standing.{IsFound, IsHere};
+ghost use Rattle.dv_core.specs.Trying.{AtEachTry, Tries, freely, is_free};
 
 use crate::guest::Guest;
-use crate::instructions::{Instruction, instruction_of, needs};
+use crate::instructions::{Instruction, instruction_of, is_local, needs};
 use crate::records::begin;
+use crate::waiting::{is_held_by, is_owned};
 use dv_call::{Landed, enter, land, return_value, return_void};
 use dv_defs::{Ask, ClassId, Image, Limits, Named, Native, Next, Regs};
 use dv_local::step_top;
@@ -44,7 +48,8 @@ use dv_optable::Call;
 use dv_threads::{monitor_enter, monitor_exit};
 use std::alloc::AllocError;
 
-/// A step of a living thread whose top level is code: the class that its instruction needs is asked for first (JLS 12.4.1).
+/// A step of a living thread whose top level is code: the class that its instruction needs is asked for first (JLS 12.4.1). None where the
+/// thread is held up: nothing is done then.
 ///
 /// # Errors
 ///
@@ -54,16 +59,17 @@ pub fn step_code(
     limits: &Limits,
     guest: &mut Guest,
     thread: u32,
-) -> Result<Next, AllocError>
-    ensures { AtEachOp image.now limits.now guest.old thread (λ own h x. StepFits h x.op →
-        Does result (with_ready h x.op (ops.needs x.op)) limits.now guest.old guest.new own h) }
+) -> Result<Option<Next>, AllocError>
+    ensures { AtEachTry image.now limits.now guest.old thread (λ m own h x. StepFits h x.op →
+        Tries result (is_free m h x.op) (with_ready h x.op (ops.needs x.op)) limits.now guest.old guest.new own h) }
 {
-    if step_locally(image, guest, thread) {
-        return Ok(Next::On);
-    }
     let Some(here) = instruction_at(image, guest, thread) else {
-        return Ok(Next::On);
+        return Ok(Some(Next::On));
     };
+    if is_local(&here.op) {
+        let _done = step_locally(image, guest, thread);
+        return Ok(Some(Next::On));
+    }
     match needs(&here.op) {
         None => act(image, limits, guest, thread, &here),
         Some(class) => with_class(image, limits, guest, thread, &here, class),
@@ -96,7 +102,7 @@ fn instruction_at<'a>(image: &'a Image, guest: &Guest, thread: u32) -> Option<In
 }
 
 /// An instruction that needs a class: it is done where the class is ready, or is being initialised by this thread; else the class is
-/// begun, waited for, or throws (JLS 12.4.2).
+/// begun or throws, or another thread is at it, which holds this one up (JLS 12.4.2).
 fn with_class(
     image: &Image,
     limits: &Limits,
@@ -104,48 +110,67 @@ fn with_class(
     thread: u32,
     here: &Instruction<'_>,
     class: ClassId,
-) -> Result<Next, AllocError>
-    ensures { AtEachOp image.now limits.now guest.old thread (λ own h x. StepFits h x.op → ops.is_local x.op ≡ false → IsHere here.now h x.op →
-        Does result (steps.for_class h (level.Code h.frame ∷ h.rest) class.0 (ask_of h.shared.classes class.0 h.thread) (steps.act h x.op)) limits.now guest.old guest.new own h) }
+) -> Result<Option<Next>, AllocError>
+    ensures { AtEachTry image.now limits.now guest.old thread (λ m own h x. StepFits h x.op → ops.is_local x.op ≡ false → IsHere here.now h x.op →
+        Tries result (is_none (by_ask (ask_of h.shared.classes class.0 h.thread) (blocked_op h.image m h.thread h.own h.frame x.op) class.0))
+        (steps.for_class h (level.Code h.frame ∷ h.rest) class.0 (ask_of h.shared.classes class.0 h.thread) (steps.act h x.op)) limits.now guest.old guest.new own h) }
 {
     match guest.classes.ask(class, thread) {
         Ask::Go => act(image, limits, guest, thread, here),
-        Ask::Begin => Ok(begin(guest, thread, class)),
-        Ask::Wait(_) => Ok(Next::On),
-        Ask::Bad => Ok(Next::Throw(Named::NoClassDef)),
+        Ask::Begin => Ok(Some(begin(guest, thread, class))),
+        Ask::Wait(_) => Ok(None),
+        Ask::Bad => Ok(Some(Next::Throw(Named::NoClassDef))),
     }
 }
 
-/// Does an instruction whose class is ready.
+/// The answer of what was done, by a thread that nothing holds up.
+fn free(done: Result<Next, AllocError>) -> Result<Option<Next>, AllocError>
+    ensures { result ≡ freely done }
+{
+    match done {
+        Ok(answer) => Ok(Some(answer)),
+        Err(error) => Err(error),
+    }
+}
+
+/// Does an instruction whose class is ready. None where the thread is held up.
 fn act(
     image: &Image,
     limits: &Limits,
     guest: &mut Guest,
     thread: u32,
     here: &Instruction<'_>,
-) -> Result<Next, AllocError>
-    ensures { AtEachOp image.now limits.now guest.old thread (λ own h x. StepFits h x.op → ops.is_local x.op ≡ false → IsHere here.now h x.op →
-        Does result (steps.act h x.op) limits.now guest.old guest.new own h) }
+) -> Result<Option<Next>, AllocError>
+    ensures { AtEachTry image.now limits.now guest.old thread (λ m own h x. StepFits h x.op → ops.is_local x.op ≡ false → IsHere here.now h x.op →
+        Tries result (is_none (blocked_op h.image m h.thread h.own h.frame x.op)) (steps.act h x.op) limits.now guest.old guest.new own h) }
 {
     match here.op {
         Op::Invoke(call, regs, method) => {
             invoke(image, limits, guest, thread, here.next, call, &regs, method)
         }
-        Op::ReturnVoid => Ok(leave(image, guest, thread)),
-        Op::Return(_, reg) => Ok(leave_with(image, guest, thread, reg)),
+        Op::ReturnVoid => Ok(Some(leave(image, guest, thread))),
+        Op::Return(_, reg) => Ok(Some(leave_with(image, guest, thread, reg))),
         Op::Enter(reg) => enter_monitor(guest, thread, here.next, reg),
-        Op::Exit(reg) => leave_monitor(guest, thread, here.next, reg),
-        _ => touch(image, guest, thread, here),
+        Op::Exit(reg) => free(leave_monitor(guest, thread, here.next, reg)),
+        _ => free(touch(image, guest, thread, here)),
     }
 }
 
-/// monitor-enter of the object in a register.
-fn enter_monitor(guest: &mut Guest, thread: u32, next: u32, reg: u16) -> Result<Next, AllocError>
+/// monitor-enter of the object in a register. None where another thread owns its monitor.
+fn enter_monitor(
+    guest: &mut Guest,
+    thread: u32,
+    next: u32,
+    reg: u16,
+) -> Result<Option<Next>, AllocError>
     ensures { (i : Linked) (l : Bounds) → AtEachOp i l guest.old thread (λ own h x. h.next ≡ next → count_of h.shared.monitors (reg_word h.frame reg) < 2 ^ 64 - 1 →
-        Does result (on_object (threads.monitor_enter h) (reg_word h.frame reg)) l guest.old guest.new own h) }
+        Tries result (is_none (blocked_enter h.shared.monitors h.thread (reg_word h.frame reg))) (on_object (threads.monitor_enter h) (reg_word h.frame reg)) l guest.old guest.new own h) }
 {
     let object = word(guest, thread, reg);
-    monitor_enter(&mut guest.threads, thread, next, object)
+    if is_owned(&guest.threads.monitors, thread, object) {
+        return Ok(None);
+    }
+    free(monitor_enter(&mut guest.threads, thread, next, object))
 }
 
 /// monitor-exit of the object in a register.
@@ -191,7 +216,7 @@ fn touch(
     )
 }
 
-/// An invoke: a method is entered, a native method is done, or an exception is thrown.
+/// An invoke: a method is entered, a native method is done, or an exception is thrown. None where the native holds the thread up.
 fn invoke(
     image: &Image,
     limits: &Limits,
@@ -201,13 +226,14 @@ fn invoke(
     call: Call,
     regs: &Regs,
     method: Method<'_>,
-) -> Result<Next, AllocError>
-    ensures { AtEachOp image.now limits.now guest.old thread (λ own h x. StepFits h (ops.Invoke (standard_call call) (named_registers regs.now) (method_of method.entry)) → h.next ≡ next →
-        Does result (calls.invoke h (standard_call call) (named_registers regs.now) (method_of method.entry)) limits.now guest.old guest.new own h) }
+) -> Result<Option<Next>, AllocError>
+    ensures { AtEachTry image.now limits.now guest.old thread (λ m own h x. StepFits h (ops.Invoke (standard_call call) (named_registers regs.now) (method_of method.entry)) → h.next ≡ next →
+        Tries result (is_none (blocked_op h.image m h.thread h.own h.frame (ops.Invoke (standard_call call) (named_registers regs.now) (method_of method.entry))))
+        (calls.invoke h (standard_call call) (named_registers regs.now) (method_of method.entry)) limits.now guest.old guest.new own h) }
 {
     let place = thread as usize;
     if place >= guest.threads.stacks.len() {
-        return Ok(Next::On);
+        return Ok(Some(Next::On));
     }
     match land(
         image,
@@ -217,10 +243,22 @@ fn invoke(
         regs,
         method,
     ) {
-        Landed::Method(landed) => Ok(enter(&mut guest.threads.stacks[place], &landed, regs)),
-        Landed::Native(native) => run_native(image, limits, guest, thread, next, native, regs),
-        Landed::Throws(named) => Ok(Next::Throw(named)),
-        Landed::Nothing => Ok(Next::On),
+        Landed::Method(landed) => Ok(Some(enter(&mut guest.threads.stacks[place], &landed, regs))),
+        Landed::Native(native) => {
+            if is_held_by(
+                guest,
+                &guest.threads.stacks[place],
+                thread,
+                regs,
+                method,
+                native,
+            ) {
+                return Ok(None);
+            }
+            free(run_native(image, limits, guest, thread, next, native, regs))
+        }
+        Landed::Throws(named) => Ok(Some(Next::Throw(named))),
+        Landed::Nothing => Ok(Some(Next::On)),
     }
 }
 

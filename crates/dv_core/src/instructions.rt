@@ -1,6 +1,6 @@
 // The instruction at which a frame goes on, and the class that it needs.
 ghost use Rattle.std.specs.Prelude.{◌≡◌, ℕ, Some as Just, option_map};
-ghost use Rattle.dv_defs.specs.Op.{Code, code_at, needs};
+ghost use Rattle.dv_defs.specs.Op.{Code, code_at, is_local, needs};
 ghost use Rattle.dv_typing.specs.Statics as statics;
 ghost use Rattle.dv_ops.specs.Meaning.{code_of, meant};
 ghost use Rattle.dv_words.specs.Stacks.{first};
@@ -69,6 +69,37 @@ pub fn opcode_of(image: &Image, stack: &Stack) -> Option<u8>
     let code = coded_at(image, head.method)?;
     let unit = units_of(&code).get(head.at as usize)?;
     Some((unit % 256) as u8)
+}
+
+/// Whether an operation touches its frame alone.
+pub fn is_local(op: &Op<'_>) -> bool
+    ensures { (code : Code) (at : ℕ) → result ≡ is_local (meant code at op.now) }
+{
+    matches!(
+        op,
+        Op::Nop
+            | Op::MoveInt(..)
+            | Op::MoveLong(..)
+            | Op::MoveObject(..)
+            | Op::ResultInt(_)
+            | Op::ResultLong(_)
+            | Op::ResultObject(_)
+            | Op::TakeCaught(_)
+            | Op::Const(..)
+            | Op::ConstLong(..)
+            | Op::IntUnary(..)
+            | Op::LongUnary(..)
+            | Op::IntToLong(..)
+            | Op::LongToInt(..)
+            | Op::IntOp(..)
+            | Op::LongOp(..)
+            | Op::LongShift(..)
+            | Op::CompareLong(..)
+            | Op::Goto(_)
+            | Op::IfBoth(..)
+            | Op::IfZero(..)
+            | Op::Switch(..)
+    )
 }
 
 /// The class that an operation needs initialised (JLS 12.4.1).

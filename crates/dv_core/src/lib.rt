@@ -15,4 +15,4 @@ mod vm;
 mod waiting;
 
 pub use guest::Guest;
-pub use vm::Vm;
+pub use vm::{Step, Vm};

@@ -1,5 +1,5 @@
 // What holds threads up, and which are runnable (JLS 12.4.2, 17.1, 17.2).
-ghost use Rattle.std.specs.Prelude.{◌≡◌, ◌==◌, ◌<◌, ◌^◌, ℕ, Option as Maybe, None as Nothing, Some as Just, List, ◌∷◌, position, slice_get};
+ghost use Rattle.std.specs.Prelude.{◌≡◌, ◌==◌, ◌<◌, ◌^◌, ℕ, Option as Maybe, None as Nothing, Some as Just, List, ◌∷◌, is_none, not, position, slice_get};
 ghost use Rattle.dv_defs.specs.declared.run.Ending.{Ending};
 ghost use Rattle.dv_defs.specs.declared.run.Limits.{Limits};
 ghost use Rattle.dv_defs.specs.declared.run.Preallocated.{Preallocated};
@@ -7,8 +7,10 @@ ghost use Rattle.dv_defs.specs.declared.machine.End.TheVariants as end;
 ghost use Rattle.dv_defs.specs.Families.{family_at};
 ghost use Rattle.dv_machine.specs.Monitors as waits;
 ghost use Rattle.dv_typing.specs.Statics.{fetch};
+ghost use Rattle.dv_defs.specs.Images.{Image as Linked};
 ghost use Rattle.dv_defs.specs.Op as ops;
 ghost use Rattle.dv_defs.specs.Op.{Code, named_registers};
+ghost use Rattle.dv_defs.specs.Parts.{Call as Called};
 ghost use Rattle.dv_defs.specs.Pools.{method_at};
 ghost use Rattle.dv_defs.specs.Prior.{prior_at};
 ghost use Rattle.dv_machine.specs.Calls.{receiver_of};
@@ -24,7 +26,8 @@ ghost use Rattle.dv_words.specs.Running as steps;
 ghost use Rattle.law_words.specs.StepLaws.{CallFits};
 ghost use Rattle.dv_words.specs.Threads as threads;
 ghost use Rattle.dv_threads.specs.Kept.{threads_of};
-ghost use Rattle.dv_call.specs.Landings.{IsNumbered, first_of, landed_of};
+ghost use Rattle.dv_call.specs.Landings.{IsNumbered, Runs, called, first_of, landed_of};
+ghost use Rattle.dv_core.specs.declared.guest.Guest.{Guest as Before};
 ghost use Rattle.dv_core.specs.Machines.{machine_of, machine_with, thread_at};
 ghost use Rattle.dv_core.specs.Opcodes.{may_hold_up};
 ghost use Rattle.dv_core.specs.Watching.{AreNumbered, AreWatchable, IsTopWatched, IsWatched, alive_in, blocked_landed as landed_blocked, AtEachCall, InEachMachine};
@@ -61,6 +64,20 @@ fn blocked_record(
     None
 }
 
+/// Whether a thread is held up whose top level is the record of a class.
+pub fn is_held_at(
+    image: &Image,
+    classes: &ClassStates,
+    thread: u32,
+    class: ClassId,
+    running: bool,
+) -> bool
+    ensures { (g : Before) (s : ℕ) (e : Maybe Ending) (l : Limits) (p : Preallocated) (ls : List Level) → g.classes ≡ classes.now →
+        is_none (steps.blocked_levels image.now (machine_with g s e l p) thread (level.Init class running ∷ ls)) ≡ not result }
+{
+    !running && blocked_record(image, classes, thread, class).is_some()
+}
+
 /// The monitor that a thread is to enter, where another one owns it.
 fn blocked_enter(monitors: &Monitors, thread: u32, object: u32) -> Option<Blocked>
     ensures { result ≡ steps.blocked_enter monitors.now.monitors thread object }
@@ -69,6 +86,13 @@ fn blocked_enter(monitors: &Monitors, thread: u32, object: u32) -> Option<Blocke
         return None;
     }
     blocked_owner(monitors.owner(object), thread)
+}
+
+/// Whether another thread owns the monitor that a thread is to enter.
+pub fn is_owned(monitors: &Monitors, thread: u32, object: u32) -> bool
+    ensures { is_none (steps.blocked_enter monitors.now.monitors thread object) ≡ not result }
+{
+    blocked_enter(monitors, thread, object).is_some()
 }
 
 /// A monitor that another thread owns.
@@ -185,6 +209,27 @@ fn blocked_invoke(
     let object = receiver(stack, regs)?;
     let landed = land(image, &guest.heap, stack, call, regs, method);
     blocked_landed(guest, thread, object, landed)
+}
+
+/// Whether a native method on which an invoke lands holds up the thread. A static call lands on none that waits.
+pub fn is_held_by(
+    guest: &Guest,
+    stack: &Stack,
+    thread: u32,
+    regs: &Regs,
+    method: Method<'_>,
+    native: Native,
+) -> bool
+    ensures { (i : Linked) → AtEachCall i guest.now stack.now (λ m h. (c : Called) → called h c (method_of method.entry) (arg_words stack.now regs.now) ≡ Runs native →
+        is_none (steps.blocked_op h.image m thread h.own h.frame (ops.Invoke c (named_registers regs.now) (method_of method.entry))) ≡ not result) }
+{
+    if Flag::Static.is_in(method.def.flags) {
+        return false;
+    }
+    match receiver(stack, regs) {
+        Some(object) => blocked_native(guest, thread, object, native).is_some(),
+        None => false,
+    }
 }
 
 /// What holds up a thread at an operation whose class is ready.

@@ -1,7 +1,7 @@
 // A run of a method that isn't there, and questions about threads that aren't there.
 use crate::run::{AMPLE, RUN};
 use crate::running::image_of;
-use dv_core::Vm;
+use dv_core::{Step, Vm};
 use dv_defs::{Ending, Image, MethodId};
 use std::alloc::Global;
 use std::process::Abort;
@@ -16,7 +16,7 @@ fn assert_nobody<R: Abort>(rt: &R, image: &Image, vm: &mut Vm) {
     for thread in [0, 1, 63, u32::MAX] {
         assert!(rt; !vm.runnable(image, thread));
         assert!(rt; vm.blocked(image, thread).is_none());
-        assert!(rt; vm.step(image, thread).is_ok());
+        assert!(rt; matches!(vm.step(image, thread), Ok(Step::Held)));
         assert_eq!(rt; vm.steps, 0);
     }
 }

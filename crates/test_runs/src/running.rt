@@ -1,7 +1,7 @@
 // Programs are linked behind the boot classes, verified, and run step by step.
 use crate::run::{Hold, Run, Stands};
 use crate::slices::run_in_slices;
-use dv_core::Vm;
+use dv_core::{Step, Vm};
 use dv_defs::{Blocked, End, Ending, Image};
 use dv_load::read_program;
 use dv_objects::class_of_object;
@@ -111,7 +111,8 @@ pub fn step<R: Abort>(rt: &R, image: &Image, vm: &mut Vm, thread: u32, text: &st
     let before = vm.steps;
     check(rt, vm.ending(image).is_none(), "a run that goes on", text);
     check(rt, vm.runnable(image, thread), "a thread that runs", text);
-    check(rt, vm.step(image, thread).is_ok(), "memory", text);
+    let is_done = matches!(vm.step(image, thread), Ok(Step::Done));
+    check(rt, is_done, "a step that is done", text);
     let after = before.saturating_add(1);
     check(rt, vm.steps == after, "a step that is counted", text);
 }
@@ -164,12 +165,11 @@ fn assert_ended<R: Abort>(rt: &R, image: &Image, vm: &Vm, run: &Run, text: &str)
     }
 }
 
-/// A step of a thread that is held up is counted and changes nothing else; one of a thread that has ended isn't counted.
+/// A step of a thread that is held up or has ended tells so, and isn't counted.
 fn assert_idle<R: Abort>(rt: &R, image: &Image, vm: &mut Vm, run: &Run) {
-    for (thread, wanted) in (0..64).zip(run.threads) {
-        let is_held = matches!(*wanted, Stands::Held(_));
-        let steps = vm.steps.saturating_add(u64::from(is_held));
-        assert!(rt; vm.step(image, thread).is_ok());
+    let steps = vm.steps;
+    for (thread, _) in (0..64).zip(run.threads) {
+        assert!(rt; matches!(vm.step(image, thread), Ok(Step::Held)));
         assert_eq!(rt; vm.steps, steps);
     }
 }

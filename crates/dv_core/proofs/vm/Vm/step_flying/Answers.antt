@@ -1,5 +1,5 @@
 use Rattle.std.proofs.lemmas.Grind.{moves}
-use Rattle.std.proofs.Common.{ap, sym, ◌∙◌, subst, arith}
+use Rattle.std.proofs.Common.{ap, refl, sym, ◌∙◌, subst, arith}
 use Rattle.dv_typing.specs.Flow.{handlers_at}
 use Rattle.dv_words.specs.Stacks.{first}
 use Rattle.dv_frames.specs.Tops.{top_of}
@@ -40,7 +40,7 @@ returns-clause-code c own h f seen levels few =
     let led = unwound_by c.step_flight.result u (Leaves old.guest k own h) (Stays h.limits old.guest k) (Stays old.limits old.guest k) (stays_by h.limits old.limits old.guest k seen.limits)
     (c.step_flight.ensures.code own h f (seen_by i old.limits old.guest t own h seen) levels) in
     let led' = subst (λ r. Unwinds r u (Leaves old.guest k own h) (Stays old.limits old.guest k)) c.in_ok-answer.was led in
-    (c.settle_flight.ensures.machine i old.guest own h u seen few led', c.settle_flight.ensures.ordered i old.guest own h u seen led')
+    (refl, c.settle_flight.ensures.machine i old.guest own h u seen few led', c.settle_flight.ensures.ordered i old.guest own h u seen led')
 
 pub returns-clause-record : goal.returns-clause-record
 returns-clause-record c own h d r seen levels fits few =
@@ -53,7 +53,7 @@ returns-clause-record c own h d r seen levels fits few =
     let led = unwound_by c.step_flight.result u (Leaves old.guest k own h) (Stays h.limits old.guest k) (Stays old.limits old.guest k) (stays_by h.limits old.limits old.guest k seen.limits)
     (c.step_flight.ensures.record own h d r (seen_by i old.limits old.guest t own h seen) levels fits) in
     let led' = subst (λ q. Unwinds q u (Leaves old.guest k own h) (Stays old.limits old.guest k)) c.in_ok-answer.was led in
-    (c.settle_flight.ensures.machine i old.guest own h u seen few led', c.settle_flight.ensures.ordered i old.guest own h u seen led')
+    (refl, c.settle_flight.ensures.machine i old.guest own h u seen few led', c.settle_flight.ensures.ordered i old.guest own h u seen led')
 
 pub returns-in_err-answer-clause-record : goal.returns-in_err-answer-clause-record
 returns-in_err-answer-clause-record c own h f seen levels few = grind (arith, moves)
