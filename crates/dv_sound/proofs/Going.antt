@@ -1,18 +1,19 @@
 -- Whether a run goes on and a thread may step: what the words tell is what the tagged machine's state tells.
 use Rattle.std.proofs.Common.{◌≡◌, ◌<◌, ◌≤◌, ◌^◌, ℕ, Bool, true, false, Option, Some, None, refl, sym, ap, ◌∙◌, arith}
 use Rattle.std.specs.Prelude.{◌&&◌, is_none, length, nat_eq, nat_lt, not, slice_get}
-use Rattle.std.proofs.lemmas.Bool.{and_parts, and_right, eq-eqb, eqb-true, ltb-false, ltb-true}
+use Rattle.std.proofs.lemmas.Bool.{and_from, and_parts, and_right, eq-eqb, eqb-true, ltb-false, ltb-true}
 use Rattle.dv_defs.specs.declared.run.Ending.{Ending}
 use Rattle.dv_defs.specs.declared.run.Ending.TheVariants as ending
 use Rattle.dv_defs.specs.declared.run.Limits.{Limits}
 use Rattle.dv_defs.specs.Images.{Image}
+use Rattle.dv_machine.specs.Replaying.{next_is_local}
 use Rattle.dv_machine.specs.Running.{all_ended, any_runnable, ending_by, ending_of, ending_without_stop, runnable, runnable_one, runnable_thread}
 use Rattle.dv_machine.specs.State.{Machine, Thread}
 use Rattle.dv_machine.specs.WellTyped.{Typings}
 use Rattle.dv_words.specs.Running as words
 use Rattle.law_engine.specs.RunningLaws.{RunsAlike}
 use Rattle.law_engine.proofs.Endings.{running_follows}
-use Rattle.law_engine.proofs.Going.{one_lives, one_runs}
+use Rattle.law_engine.proofs.Going.{at_local, goes_on as goes_on_locally, one_lives, one_runs}
 use Rattle.dv_threads.specs.Kept.{threads_of}
 use Rattle.dv_core.specs.declared.vm.Vm.{Vm}
 use Rattle.dv_core.specs.Machines.{machine_of}
@@ -102,11 +103,15 @@ module _ (image : Image) (T : Typings) (v : Vm) (m : Machine) (good : IsGood ima
       by false e = and_right (goes_on v) false refl ∙ sym (and_right (is_none (ending_of image m)) false refl)
       by true e = ap (λ b. b && true) (going t e)
 
--- a thread that may step: the run goes on, and it is runnable
 pub none_of : (o : Option Ending) → is_none o ≡ true → o ≡ None
 none_of None e = refl
 none_of (Some x) e = absurd (cc e)
 
+not_true : (b : Bool) → not b ≡ true → b ≡ false
+not_true true e = absurd (cc e)
+not_true false e = refl
+
+-- a thread that may step: the run goes on, and it is runnable
 pub may_parts : (image : Image) (m : Machine) (t : ℕ) → may_step image m t ≡ true → (ending_of image m ≡ None) × (runnable image m t ≡ true)
 may_parts image m t e = let both = and_parts (is_none (ending_of image m)) (runnable image m t) e in (none_of (ending_of image m) both.0, both.1)
 
@@ -129,3 +134,29 @@ module _ (image : Image) (T : Typings) (v : Vm) (m : Machine) (good : IsGood ima
 
   pub budget_left : ending_of image m ≡ None → v.steps < v.limits.budget
   budget_left going = let e : nat_lt v.steps v.limits.budget ≡ true = steps_left image T v m good at ∙ ap not (budget_open going) in ltb-true v.steps v.limits.budget e
+
+  -- nothing stopped the run, and its steps aren't spent: it goes on where some thread's next step is local
+  pub going_locally : (t : ℕ) → goes_on v ≡ true → next_is_local image m t ≡ true → ending_of image m ≡ None
+  going_locally t goes local =
+      let here = at_local image m t local in
+      let parts = and_parts (is_none v.stop) (nat_lt v.steps v.limits.budget) goes in
+      let left : not (nat_eq m.steps m.limits.budget) ≡ true = sym (steps_left image T v m good at) ∙ parts.1 in
+      goes_on_locally image m t here (sym at.simulated.stands.stop ∙ none_of v.stop parts.0) (not_true (nat_eq m.steps m.limits.budget) left)
+
+  -- and where the run goes on nothing did
+  pub goes_where : ending_of image m ≡ None → goes_on v ≡ true
+  goes_where going = by m.stop refl
+    where
+      by : (o : Option Ending) → m.stop ≡ o → goes_on v ≡ true
+      by (Some x) stopped = let d : None ≡ Some x = sym going ∙ ap (ending_by image m) stopped in absurd (cc d)
+      by None stopped = and_from (is_none v.stop) (nat_lt v.steps v.limits.budget) (ap is_none (at.simulated.stands.stop ∙ stopped)) (steps_left image T v m good at ∙ ap not (budget_open going))
+
+-- engines that stand for one state go on alike
+pub same_goes : (image : Image) (T : Typings) (v w : Vm) (m : Machine) → StandsFor image T v m → StandsFor image T w m → goes_on v ≡ goes_on w
+same_goes image T v w m one other =
+    let a = one.simulated.stands in
+    let b = other.simulated.stands in
+    let stop : v.stop ≡ w.stop = a.stop ∙ sym b.stop in
+    let steps : v.steps ≡ w.steps = a.steps ∙ sym b.steps in
+    let limits : v.limits ≡ w.limits = a.limits ∙ sym b.limits in
+    λ j. is_none (stop j) && nat_lt (steps j) (limits j).budget

@@ -156,6 +156,13 @@ module _ (r : Run) (v : Vm) (k : IsKept r.verified.image r.main v r.log r.lent) 
     machine_is =
         same_state k.machine m (sym at_kept.replayed ∙ ap (λ (x : Method). replay r.verified.image x r.machine.limits r.log) main_is ∙ at.replayed)
 
+module _ (r : Run) (v : Vm) (k : IsKept r.verified.image r.main v r.log r.lent) (same : machine_of v ≡ r.machine) where
+  -- the same of any state to which the log leads
+  pub may_at : (t : ℕ) (main : Method) (m : Machine) → IsAt r main m → MayTurn r m t → may_step r.verified.image k.machine t ≡ true
+  may_at t main m at may =
+      let here = subst (λ (x : Machine). MayTurn r x t) (sym (machine_is r v k same main m at)) may in
+      and_from (is_none (ending_of r.verified.image k.machine)) (runnable r.verified.image k.machine t) (ap is_none here.goes_on) here.runs
+
 -- ---- after a turn of a machine
 
 abbrev pub run_with : Run → Vm → List Entry → Run

@@ -99,21 +99,28 @@ module _ (image : Image) (main : MethodId) (v : Vm) (log : List Entry) (lent : L
       by zero led = k.replayed ∙ led
       by (suc j) led = replay_appends image k.has_main.method v.limits log (record { worker = worker; thread = t; steps = suc j }) k.machine d.after k.replayed led
 
-  pub kept_home : (after : List Entry) (home : List ℕ) → after ≡ logged_some log worker t n → home ≡ without lent t → IsKept image main new after home
-  kept_home after home logs is = record {
+  -- other threads that are lent
+  pub kept_among : (after : List Entry) (home : List ℕ) → after ≡ logged_some log worker t n → All (λ (u : ℕ). u ≢ t) home → All (λ (u : ℕ). next_is_local image k.machine u ≡ true) home → IsKept image main new after home
+  kept_among after home logs other local = record {
     has_main = k.has_main;
     typings = k.typings;
     good = k.good;
     machine = d.after;
     replayed = subst (λ (l : Limits). replay image k.has_main.method l after ≡ Stands d.after) (sym d.limits) (brought after logs);
     stands = d.stands;
-    local = subst (All (λ (u : ℕ). next_is_local image d.after u ≡ true)) (sym is) (λ i x l. stays _ (not_same _ t (filter_passes (λ u. not (nat_eq u t)) lent i x l)) (All-filter (λ u. not (nat_eq u t)) (λ (u : ℕ). next_is_local image k.machine u ≡ true) lent k.local i x l));
+    local = λ i x l. stays _ (other i x l) (local i x l);
   }
     where
       stays : (u : ℕ) → u ≢ t → next_is_local image k.machine u ≡ true → next_is_local image d.after u ≡ true
       stays u ne e =
           sym (next_is_alike image k.typings (machine_of new) d.after u d.stands.simulated) ∙
           stays_local image t u v new d.others ne (next_is_alike image k.typings (machine_of v) k.machine u k.stands.simulated ∙ e)
+
+  pub kept_home : (after : List Entry) (home : List ℕ) → after ≡ logged_some log worker t n → home ≡ without lent t → IsKept image main new after home
+  kept_home after home logs is =
+      kept_among after home logs
+      (subst (All (λ (u : ℕ). u ≢ t)) (sym is) (λ i x l. not_same _ t (filter_passes (λ u. not (nat_eq u t)) lent i x l)))
+      (subst (All (λ (u : ℕ). next_is_local image k.machine u ≡ true)) (sym is) (All-filter (λ u. not (nat_eq u t)) (λ (u : ℕ). next_is_local image k.machine u ≡ true) lent k.local))
 
   -- the other threads that are lent stand where they stood
   pub others_lent : FramesStay (machine_of v) (machine_of new) (without lent t)

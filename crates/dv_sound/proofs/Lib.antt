@@ -20,3 +20,4 @@ pub mod Slices
 pub mod Lent
 pub mod Made
 pub mod Erased
+pub mod Attempts

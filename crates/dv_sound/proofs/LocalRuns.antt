@@ -1,7 +1,7 @@
 -- Local steps in one go: the engine stands where as many steps of the tagged machine lead.
 use Rattle.std.proofs.Common.{◌≡◌, ◌≢◌, ◌<◌, ◌≤◌, ◌+◌, ℕ, zero, suc, Bool, true, false, Option, Some, None, Ok, Err, List, [], ◌∷◌, refl, sym, ap, ◌∙◌, subst, arith}
-use Rattle.std.specs.Prelude.{◌&&◌, nat_eq, nat_lt, not, slice_get, if◌then◌else◌}
-use Rattle.std.proofs.lemmas.Bool.{and_left, and_right, eq-eqb, ltb-false, ltb-true}
+use Rattle.std.specs.Prelude.{◌&&◌, nat_eq, nat_lt, not, slice_get, slice_set, if◌then◌else◌}
+use Rattle.std.proofs.lemmas.Bool.{and_left, and_right, eq-eqb, ltb-false, ltb-true, true≢false}
 use Rattle.dv_defs.specs.declared.machine.End.{End}
 use Rattle.dv_defs.specs.declared.machine.End.TheVariants as end
 use Rattle.dv_defs.specs.declared.run.Limits.{Limits}
@@ -30,8 +30,12 @@ use Rattle.dv_core.specs.declared.vm.Vm.{Vm}
 use Rattle.dv_core.specs.Advancing.{RanNone, RanSteps, RunsFrame, running_frame, top_frame}
 use Rattle.dv_core.specs.Guests.{IsOrdered}
 use Rattle.dv_core.specs.Machines.{machine_of}
+use Rattle.dv_core.specs.Watching.{IsTopWatched}
 use Rattle.dv_core.proofs.Callers.{met_top, placed_stands}
+use Rattle.dv_core.proofs.Seen.{set_same}
+use Rattle.dv_core.proofs.Waits.{HasCode, has_code}
 use Rattle.dv_sound.specs.Moves.{HasRun, IsAffordable, IsGood, IsRun, StandsFor, goes_locally}
+use Rattle.dv_sound.proofs.Going.{watchable}
 use Rattle.dv_sound.proofs.Sizes.{locals_keep, set_length}
 use Rattle.dv_sound.proofs.Stepping.{IsWithin, stands_by, within}
 
@@ -116,18 +120,54 @@ none_local image (Some th) e = by th.end th.levels e
     by end.Returned ls e = refl
     by (end.Died o) ls e = refl
 
-module _ (image : Image) (T : Typings) (old new : Vm) (m : Machine) (good : IsGood image T) (at : StandsFor image T old m) (going : ending_of image m ≡ None) (t asked most done : ℕ) (may : IsAffordable old.steps old.limits.budget asked most) (ordered : IsOrdered new.limits new.guest) where
-  pub none_ran : running_frame (slice_get (machine_of old).threads t) ≡ None → RanNone done (machine_of old) (machine_of new) → IsRun image T m t asked done new
-  none_ran stays ran = record {
+module _ (image : Image) (T : Typings) (old new : Vm) (m : Machine) (good : IsGood image T) (at : StandsFor image T old m) (t asked most done : ℕ) (may : IsAffordable old.steps old.limits.budget asked most) (ordered : IsOrdered new.limits new.guest) where
+  -- none was done, since the next step isn't local
+  still_ran : done ≡ 0 → machine_of new ≡ machine_of old → next_is_local image m t ≡ false → IsRun image T m t asked done new
+  still_ran none same stays = record {
     after = m;
-    stands = stands_by image T new (machine_of old) m ran.same (within image T old m at) at.simulated ordered;
-    turns = λ k. subst (λ n. turn image t (n + k) m ≡ more n (turn image t k m)) (sym ran.none) (ap (λ j. turn image t j m) (let none_more : 0 + k ≡ k = omega arith in none_more) ∙ no_more (turn image t k m));
-    steps = λ k. subst (λ n. steps_of image k t n m ≡ Stands m) (sym ran.none) refl;
+    stands = stands_by image T new (machine_of old) m same (within image T old m at) at.simulated ordered;
+    turns = λ k. subst (λ n. turn image t (n + k) m ≡ more n (turn image t k m)) (sym none) (ap (λ j. turn image t j m) (let none_more : 0 + k ≡ k = omega arith in none_more) ∙ no_more (turn image t k m));
+    steps = λ k. subst (λ n. steps_of image k t n m ≡ Stands m) (sym none) refl;
     limits = refl;
-    whole = λ l. and_left (next_is_local image m t) (not (nat_eq m.steps m.limits.budget)) (sym (next_is_alike image T (machine_of old) m t at.simulated) ∙ none_local image (slice_get (machine_of old).threads t) stays);
+    whole = λ l. and_left (next_is_local image m t) (not (nat_eq m.steps m.limits.budget)) stays;
   }
 
-  module _ (own : WordThread) (f : Frame) (ls : List Level) (runs : RunsFrame (machine_of old) t own f ls) (small : IsSmall f) (heap : HeapFits (machine_of old).shared.heap) (few : done ≤ most) (r : RanSteps image most done (machine_of old) (machine_of new) t own f ls) where
+  pub none_ran : running_frame (slice_get (machine_of old).threads t) ≡ None → RanNone done (machine_of old) (machine_of new) → IsRun image T m t asked done new
+  none_ran stays ran = still_ran ran.none ran.same (sym (next_is_alike image T (machine_of old) m t at.simulated) ∙ none_local image (slice_get (machine_of old).threads t) stays)
+
+  -- where the next step of a thread at a frame isn't local
+  module _ (own : WordThread) (f : Frame) (ls : List Level) (runs : RunsFrame (machine_of old) t own f ls) (r : RanSteps image most done (machine_of old) (machine_of new) t own f ls) (stays : next_is_local image m t ≡ false) where
+    here : HasCode image f
+    here = has_code image f (subst (IsTopWatched image) runs.levels ((watchable image T old m good at).tops t own runs.there runs.living)).stands
+
+    not_here : is_local here.x.op ≡ false
+    not_here =
+        ap is_local_at (sym here.fetched) ∙
+        ap (λ (th : WordThread). is_running th.end && is_local_level_of image th.levels) (λ j. record { levels = sym runs.levels j; end = sym runs.living j; object = own.object }) ∙
+        ap (thread_is_local_of image) (sym runs.there) ∙ next_is_alike image T (machine_of old) m t at.simulated ∙ stays
+
+    none_done : done ≡ 0
+    none_done = by done refl
+      where
+        by : (n : ℕ) → done ≡ n → done ≡ 0
+        by zero e = e
+        by (suc n) e =
+            let some : 0 < done = omega (arith, e) in
+            absurd (true≢false (sym (r.ran.local 0 f here.x some (λ k v y l. absurd (omega (arith, l))) refl here.fetched) ∙ not_here))
+
+    same_top : machine_of new ≡ machine_of old
+    same_top =
+        let frame : r.frame ≡ f = r.ran.reached (λ k v y l e g. good.keys v.method.0 v.at y g) f (ap (λ n. locals_here image n f) none_done) in
+        let steps : old.steps + done ≡ old.steps = (let z = none_done in omega (arith, z)) in
+        let top : (let th : WordThread = record { levels = level.Code r.frame ∷ ls; end = end.Living; object = own.object } in th) ≡ own =
+        λ j. record { levels = ((λ i. level.Code (frame i) ∷ ls) ∙ sym runs.levels) j; end = sym runs.living j; object = own.object } in
+        r.machine ∙
+        (λ j. record (machine_of old) { threads = (ap (slice_set (machine_of old).threads t) top ∙ set_same (machine_of old).threads t own runs.there) j; steps = steps j })
+
+    pub not_ran : IsRun image T m t asked done new
+    not_ran = still_ran none_done same_top stays
+
+  module _ (going : ending_of image m ≡ None) (own : WordThread) (f : Frame) (ls : List Level) (runs : RunsFrame (machine_of old) t own f ls) (small : IsSmall f) (heap : HeapFits (machine_of old).shared.heap) (few : done ≤ most) (r : RanSteps image most done (machine_of old) (machine_of new) t own f ls) where
     room : old.steps + done ≤ old.limits.budget
     room = let some = may.room in let l = few in omega (arith, some, l)
 

@@ -1,5 +1,5 @@
 -- While a thread steps, the others stand as they stood.
-use Rattle.std.proofs.Common.{◌≡◌, ◌≢◌, ℕ, zero, suc, true, Option, Some, None, Ok, Err, Result, List, [], ◌∷◌, All, get_or, refl, sym, ap, ◌∙◌, subst}
+use Rattle.std.proofs.Common.{◌≡◌, ◌≢◌, ℕ, zero, suc, Bool, true, Option, Some, None, Ok, Err, Result, List, [], ◌∷◌, All, get_or, refl, sym, ap, ◌∙◌, subst}
 use Rattle.std.specs.Prelude.{slice_get, slice_set}
 use Rattle.dv_defs.specs.Images.{Image}
 use Rattle.dv_machine.specs.Replaying.{next_is_local}
@@ -13,9 +13,12 @@ use Rattle.law_words.specs.StepLaws.{with_top}
 use Rattle.law_engine.specs.KeepLaws.{next_is_local_of, thread_is_local_of}
 use Rattle.law_engine.proofs.Others.{steps_leave_others}
 use Rattle.law_engine.proofs.Staying.{next_is_alike}
+use Rattle.dv_core.specs.declared.vm.Step.{Step}
+use Rattle.dv_core.specs.declared.vm.Step.TheVariants.{Done, Held}
 use Rattle.dv_core.specs.declared.vm.Vm.{Vm}
 use Rattle.dv_core.specs.Advancing.{running_frame}
-use Rattle.dv_core.specs.Machines.{IsStepped, machine_of}
+use Rattle.dv_core.specs.Machines.{machine_of}
+use Rattle.dv_core.specs.Trying.{IsTried}
 use Rattle.dv_sound.specs.Moves.{FramesStay, KeepsOthers, StandsFor}
 
 set_other : {A : Type 0} (xs : List A) (t u : ℕ) (v : A) → u ≢ t → slice_get (slice_set xs t v) u ≡ slice_get xs u
@@ -34,9 +37,10 @@ keeps_then t a b c one two u th ne has = two u th ne (one u th ne has)
 pub keeps_run : (t n : ℕ) (old new : Vm) (own : WordThread) (f : Frame) (ls : List Level) → machine_of new ≡ with_top (machine_of old) t own f ls n → KeepsOthers t old new
 keeps_run t n old new own f ls is u th ne has = ap (λ (w : WordMachine). slice_get w.threads u) is ∙ set_other (machine_of old).threads t u _ ne ∙ has
 
-pub keeps_step : {E : Type 0} (image : Image) (t : ℕ) (old new : Vm) (r : Result (Unit {0}) E) → IsStepped r old new (step image (machine_of old) t) → KeepsOthers t old new
-keeps_step image t old new (Ok u) is v th ne has = ap (λ (w : WordMachine). slice_get w.threads v) is.0 ∙ (steps_leave_others image (machine_of old) t).others v th ne has
-keeps_step image t old new (Err memory) is v th ne has = keeps_same t old new is.0 v th ne has
+pub keeps_step : {E : Type 0} (image : Image) (t : ℕ) (old new : Vm) (r : Result Step E) (may : Bool) → IsTried r may old new (step image (machine_of old) t) → KeepsOthers t old new
+keeps_step image t old new (Ok Done) may is v th ne has = ap (λ (w : WordMachine). slice_get w.threads v) is.1 ∙ (steps_leave_others image (machine_of old) t).others v th ne has
+keeps_step image t old new (Ok Held) may is v th ne has = keeps_same t old new is.1 v th ne has
+keeps_step image t old new (Err memory) may is v th ne has = keeps_same t old new is.0 v th ne has
 
 -- ---- those whose next step is local
 

@@ -68,6 +68,12 @@ refused_steps image k t (suc n) m e some is = refused_on e (one_step image k t m
 pub no_steps : (image : Image) (k t : ℕ) (m n : Machine) → steps_of image k t 0 m ≡ Stands n → m ≡ n
 no_steps image k t m n e = cc
 
+-- no local step was done, so the engine stands where it stood
+pub still : (image : Image) (T : Typings) (m : Machine) (k t most done : ℕ) (mid : Vm) → done ≡ 0 → IsRun image T m t most done mid → StandsFor image T mid m
+still image T m k t most done mid none r =
+    let before : m ≡ r.after = no_steps image k t m r.after (subst (λ n. steps_of image k t n m ≡ Stands r.after) none (r.steps k)) in
+    subst (λ (x : Machine). StandsFor image T mid x) (sym before) r.stands
+
 -- one step was done
 pub led_one : (image : Image) (T : Typings) (k t : ℕ) (m : Machine) (new : Vm) → may_step image m t ≡ true → IsStep image T m t new → IsLed image T m (steps_of image k t 1 m) new
 led_one image T k t m new may s = record { after = s.after; leads = ap (λ (r : Replayed). on_stands r (steps_of image k t 0)) (one_done image k t m s.after may s.steps); stands = s.stands; limits = s.limits }

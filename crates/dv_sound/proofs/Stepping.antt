@@ -1,6 +1,7 @@
 -- A step of a thread that may step: the tagged one isn't stuck, and the engine stands where it leads.
-use Rattle.std.proofs.Common.{◌≡◌, ◌<◌, ◌≤◌, ◌⊎◌, ◌^◌, ℕ, suc, true, Ok, Err, Result, sym, ap, ◌∙◌, subst, arith, inl, inr}
-use Rattle.std.specs.Prelude.{length}
+use Rattle.std.proofs.Common.{◌≡◌, ◌<◌, ◌≤◌, ◌⊎◌, ◌^◌, ℕ, suc, Bool, true, Ok, Err, Result, sym, ap, ◌∙◌, subst, arith, inl, inr}
+use Rattle.std.specs.Prelude.{◌&&◌, is_none, length, nat_lt}
+use Rattle.std.proofs.lemmas.Bool.{and_parts, ltb-true}
 use Rattle.dv_defs.specs.declared.run.Limits.{Limits}
 use Rattle.dv_defs.specs.Images.{Image}
 use Rattle.dv_machine.specs.State.{Machine}
@@ -12,12 +13,16 @@ use Rattle.law_engine.specs.Laws.{IsSimulated, IsSimulatedStep}
 use Rattle.law_engine.proofs.Others.{steps_leave_others}
 use Rattle.law_engine.proofs.Steps.{accepted_steps_follow}
 use Rattle.dv_threads.specs.Kept.{HasRoom}
+use Rattle.dv_words.specs.Running as words
+use Rattle.dv_core.specs.declared.vm.Step.{Step}
+use Rattle.dv_core.specs.declared.vm.Step.TheVariants.{Done, Held}
 use Rattle.dv_core.specs.declared.vm.Vm.{Vm}
 use Rattle.dv_core.specs.Guests.{IsOrdered}
-use Rattle.dv_core.specs.Machines.{IsStepped, IsSteppable, machine_of}
+use Rattle.dv_core.specs.Machines.{IsSteppable, machine_of}
+use Rattle.dv_core.specs.Trying.{IsTried}
 use Rattle.dv_core.proofs.Steppable.{steps_fit}
-use Rattle.dv_sound.specs.Moves.{AreUsable, IsGood, IsKeptAt, StandsFor, Steps, may_step}
-use Rattle.dv_sound.proofs.Going.{budget_left, may_parts}
+use Rattle.dv_sound.specs.Moves.{AreUsable, IsGood, IsKeptAt, StandsFor, Steps, goes_on, may_step}
+use Rattle.dv_sound.proofs.Going.{few_stacks, may_is, may_parts}
 
 -- counts within limits, of words
 pub record IsWithin (w : WordMachine) : Type 0 where
@@ -70,32 +75,41 @@ within_after image w t is left =
     counted (inl e) = omega (arith, e, left)
     counted (inr e) = omega (arith, e, left)
 
-module _ (image : Image) (T : Typings) (old : Vm) (m : Machine) (t : ℕ) (good : IsGood image T) (at : StandsFor image T old m) (may : may_step image m t ≡ true) where
+module _ (image : Image) (T : Typings) (old : Vm) (m : Machine) (t : ℕ) (good : IsGood image T) (at : StandsFor image T old m) (goes : goes_on old ≡ true) where
   room : HasRoom old.limits
   room = record { levels = let l = at.usable.levels in omega (arith, l); words = at.usable.words }
 
   left : old.steps < old.limits.budget
-  left = budget_left image T old m good at (may_parts image m t may).0
+  left = ltb-true old.steps old.limits.budget (and_parts (is_none old.stop) (nat_lt old.steps old.limits.budget) goes).1
 
   pub steppable : IsSteppable image old t
   steppable =
       let less = left in
       let most = at.counted in
-      steps_fit image T old m t good.accepted good.strings good.keys at.simulated at.ordered room (omega (arith, less, most))
+      steps_fit image T old m t good.accepted good.strings good.keys at.simulated at.ordered (few_stacks image T old m good at) room (omega (arith, less, most))
+
+  -- whether the thread may step
+  may_be : words.runnable image (machine_of old) t ≡ may_step image m t
+  may_be = sym (ap (λ (b : Bool). b && words.runnable image (machine_of old) t) goes) ∙ may_is image T old m good at t
 
   module _ (new : Vm) (reads : ReadsFit (machine_of old) t) where
-    followed : IsSimulatedStep image T (machine_of old) m t
-    followed = let parts = may_parts image m t may in accepted_steps_follow image T (machine_of old) m t good.accepted good.strings reads at.simulated parts.0 parts.1
+    followed : may_step image m t ≡ true → IsSimulatedStep image T (machine_of old) m t
+    followed may = let parts = may_parts image m t may in accepted_steps_follow image T (machine_of old) m t good.accepted good.strings reads at.simulated parts.0 parts.1
 
-    pub stepped : {E : Type 0} (r : Result (Unit {0}) E) → IsStepped r old new (step image (machine_of old) t) → Steps r image T m t old new
-    stepped (Ok u) is =
-        let limits : new.limits ≡ old.limits = ap (λ (w : WordMachine). w.limits) is.0 ∙ (steps_leave_others image (machine_of old) t).limits in
-        record {
-          after = followed.after;
-          steps = followed.stepped;
-          limits = sym followed.simulated.stands.limits ∙ (steps_leave_others image (machine_of old) t).limits ∙ at.simulated.stands.limits;
-          stands =
-              stands_by image T new (step image (machine_of old) t) followed.after is.0 (within_after image (machine_of old) t (within image T old m at) left) followed.simulated
-              (subst (λ (l : Limits). IsOrdered l new.guest) (sym limits) is.1);
-        }
+    pub stepped : {E : Type 0} (r : Result Step E) → IsTried r (words.runnable image (machine_of old) t) old new (step image (machine_of old) t) → Steps r image T m t old new
+    stepped (Ok Done) is =
+        let may = sym may_be ∙ is.0 in
+        let after = followed may in
+        let limits : new.limits ≡ old.limits = ap (λ (w : WordMachine). w.limits) is.1 ∙ (steps_leave_others image (machine_of old) t).limits in (
+          may,
+          record {
+            after = after.after;
+            steps = after.stepped;
+            limits = sym after.simulated.stands.limits ∙ (steps_leave_others image (machine_of old) t).limits ∙ at.simulated.stands.limits;
+            stands =
+                stands_by image T new (step image (machine_of old) t) after.after is.1 (within_after image (machine_of old) t (within image T old m at) left) after.simulated
+                (subst (λ (l : Limits). IsOrdered l new.guest) (sym limits) is.2);
+          },
+        )
+    stepped (Ok Held) is = (sym may_be ∙ is.0, kept_by image T m old new at is.1 is.2)
     stepped (Err memory) is = kept_by image T m old new at is.0 is.1

@@ -1,6 +1,6 @@
 -- Turns: local steps, and then at most one other.
-use Rattle.std.proofs.Common.{◌≡◌, ◌≢◌, ◌<◌, ◌+◌, ◌-◌, ℕ, zero, suc, Bool, true, false, Option, Some, None, Ok, List, [], ◌∷◌, refl, sym, ap, ◌∙◌, subst, arith}
-use Rattle.std.specs.Prelude.{◌&&◌, is_none, nat_eq, not, slice_get, if◌then◌else◌}
+use Rattle.std.proofs.Common.{◌≡◌, ◌≢◌, ◌<◌, ◌+◌, ◌-◌, ℕ, zero, suc, Bool, true, false, Option, Some, None, Result, Ok, Err, List, [], ◌∷◌, refl, sym, ap, ◌∙◌, subst, arith}
+use Rattle.std.specs.Prelude.{◌&&◌, IsErr, is_none, nat_eq, not, slice_get, if◌then◌else◌}
 use Rattle.std.proofs.lemmas.Bool.{and_from, and_left, and_parts, true≢false}
 use Rattle.dv_defs.specs.declared.machine.End.{End}
 use Rattle.dv_defs.specs.declared.machine.End.TheVariants as end
@@ -21,16 +21,16 @@ use Rattle.law_engine.proofs.Staying.{next_is_alike}
 use Rattle.dv_core.specs.declared.vm.Vm.{Vm}
 use Rattle.dv_core.specs.Advancing.{RunsFrame, running_frame, top_frame}
 use Rattle.dv_core.specs.Machines.{machine_of}
-use Rattle.dv_sound.specs.Moves.{IsGood, IsLast, IsRun, IsTurn, StandsFor, goes_locally, may_step}
+use Rattle.dv_sound.specs.Moves.{IsGood, IsKeptAt, IsLast, IsRun, IsTurn, Lasts, StandsFor, Turns, goes_locally, may_step}
 use Rattle.dv_sound.proofs.Going.{budget_open, may_parts}
 use Rattle.dv_sound.proofs.LocalRuns.{none_local}
 
 -- ---- the last step
 
-abbrev by_may : Image → ℕ → Machine → Bool → Reads Turned
+abbrev pub by_may : Image → ℕ → Machine → Bool → Reads Turned
 by_may image t m b = elim b [ false ↦ Ok (record { count = 0; machine = m }) | true ↦ on_next (step image m t) (λ n. Ok (record { count = 1; machine = n })) ]
 
-abbrev by_ending : Image → ℕ → Machine → Option Ending → Reads Turned
+abbrev pub by_ending : Image → ℕ → Machine → Option Ending → Reads Turned
 by_ending image t m o = elim o [ Some e ↦ Ok (record { count = 0; machine = m }) | None ↦ by_may image t m (runnable image m t) ]
 
 pub last_none : (image : Image) (m : Machine) (t : ℕ) → may_step image m t ≡ false → last_step image t m ≡ Ok (record { count = 0; machine = m })
@@ -46,6 +46,11 @@ last_some image m n t may is =
     let parts = may_parts image m t may in
     ap (by_ending image t m) parts.0 ∙ ap (by_may image t m) parts.1 ∙ ap (λ (r : Reads Machine). on_next r (λ k. let x : Reads Turned = Ok (record { count = 1; machine = k }) in x)) is
 
+-- want of memory
+pub err_last : {E : Type 0} (image : Image) (T : Typings) (m : Machine) (t : ℕ) (old new : Vm) (r : Result ℕ E) → IsErr r → IsKeptAt image T m old new → Lasts r image T m t old new
+err_last image T m t old new (Ok n) is kept = absurd (cc is)
+err_last image T m t old new (Err x) is kept = kept
+
 -- ---- a turn
 
 abbrev by_local : Image → ℕ → ℕ → Machine → Bool → Reads Turned
@@ -59,6 +64,10 @@ turn_last image t (suc most) m some e = ap (by_local image t most m) e
 module _ (image : Image) (T : Typings) (m : Machine) (t most : ℕ) where
   pub last_turn : (n : ℕ) (new : Vm) → 0 < most → goes_locally image t m ≡ false → IsLast image T m t n new → IsTurn image T m t most n new
   last_turn n new some e l = record { after = l.after; turned = turn_last image t most m some e ∙ l.last; stands = l.stands }
+
+  pub last_turned : {E : Type 0} (old new : Vm) (r : Result ℕ E) → 0 < most → goes_locally image t m ≡ false → Lasts r image T m t old new → Turns r image T m t most old new
+  last_turned old new (Ok n) some e l = last_turn n new some e l
+  last_turned old new (Err x) some e l = l
 
   pub no_turn : (new : Vm) → most ≡ 0 → StandsFor image T new m → IsTurn image T m t most 0 new
   no_turn new none at = record { after = m; turned = ap (λ n. turn image t n m) none; stands = at }

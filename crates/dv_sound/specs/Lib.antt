@@ -4,3 +4,4 @@ pub mod Replays
 pub mod Laws
 pub mod Lending
 pub mod Words
+pub mod Trying

@@ -15,6 +15,8 @@ use Rattle.law_words.specs.StepLaws.{AllKeysRise, StringsFit, with_top}
 use Rattle.law_engine.specs.Laws.{IsSimulated}
 use Rattle.law_engine.specs.TurnLaws.{more}
 use Rattle.dv_threads.specs.Kept.{threads_of}
+use Rattle.dv_core.specs.declared.vm.Step.{Step}
+use Rattle.dv_core.specs.declared.vm.Step.TheVariants.{Done, Held}
 use Rattle.dv_core.specs.declared.vm.Vm.{Vm}
 use Rattle.dv_core.specs.Advancing.{running_frame}
 use Rattle.dv_core.specs.Guests.{IsOrdered}
@@ -91,8 +93,10 @@ pub record IsStep (image : Image) (T : Typings) (m : Machine) (t : ℕ) (new : V
   pub stands : StandsFor image T new after
   pub limits : after.limits ≡ m.limits
 
-abbrev pub Steps : {E : Type 0} → Result (Unit {0}) E → Image → Typings → Machine → ℕ → Vm → Vm → Type 0
-Steps (Ok u) image T m t old new = IsStep image T m t new
+-- the same where the thread may step; else the engine stands where it stood
+abbrev pub Steps : {E : Type 0} → Result Step E → Image → Typings → Machine → ℕ → Vm → Vm → Type 0
+Steps (Ok Done) image T m t old new = (may_step image m t ≡ true) × IsStep image T m t new
+Steps (Ok Held) image T m t old new = (may_step image m t ≡ false) × IsKeptAt image T m old new
 Steps (Err memory) image T m t old new = IsKeptAt image T m old new
 
 -- the frame on top of a thread did so many steps, which touched it alone
@@ -115,6 +119,7 @@ pub record IsLast (image : Image) (T : Typings) (m : Machine) (t n : ℕ) (new :
   pub after : Machine
   pub last : last_step image t m ≡ Ok (record { count = n; machine = after })
   pub stands : StandsFor image T new after
+  pub limits : after.limits ≡ m.limits
 
 abbrev pub Lasts : {E : Type 0} → Result ℕ E → Image → Typings → Machine → ℕ → Vm → Vm → Type 0
 Lasts (Ok n) image T m t old new = IsLast image T m t n new

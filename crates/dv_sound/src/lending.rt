@@ -175,7 +175,7 @@ fn take_steps(image: &Image, vm: &mut Vm, slice: &Slice) -> u32
 }
 
 /// An entry of so many steps, none of no steps, in the room that a log has.
-fn log_steps(log: &mut Vec<Entry>, worker: u32, thread: u32, steps: u32)
+pub fn log_steps(log: &mut Vec<Entry>, worker: u32, thread: u32, steps: u32)
     requires { vec_len log.old < vec_capacity log.old }
     ensures { log.new.items ≡ logged_some log.old.items worker thread steps }
 {

@@ -12,8 +12,10 @@ mod replay;
 mod running;
 mod safe;
 mod seeded;
+mod trying;
 mod words;
 
 pub use error::ReplayError;
 pub use lending::Refused;
 pub use safe::SafeVm;
+pub use trying::Tried;

@@ -9,7 +9,7 @@ ghost use Rattle.dv_core.specs.Machines.{machine_of};
 ghost use Rattle.dv_sound.specs.Moves as moves;
 ghost use Rattle.dv_sound.specs.Moves.{HasRun, IsAffordable, IsRun, KeepsOthers, Lasts, Steps, Turns, goes_locally, InEachState};
 
-use dv_core::Vm;
+use dv_core::{Step, Vm};
 use dv_defs::Image;
 use dv_words::Frame;
 use std::alloc::AllocError;
@@ -32,14 +32,14 @@ pub fn may_step(image: &Image, vm: &Vm, thread: u32) -> bool
     }
 }
 
-/// A step of a thread that may step.
+/// A step of a thread, where the run goes on and the thread may do one.
 ///
 /// # Errors
 ///
 /// Want of memory; the engine stands where it stood then.
-pub fn step_on(image: &Image, vm: &mut Vm, thread: u32) -> Result<(), AllocError>
-    ensures steps { InEachState image.now vm.old (λ T m. moves.may_step image.now m thread ≡ true → Steps result image.now T m thread vm.old vm.new) }
-    ensures others { InEachState image.now vm.old (λ T m. moves.may_step image.now m thread ≡ true → KeepsOthers thread vm.old vm.new) }
+pub fn step_on(image: &Image, vm: &mut Vm, thread: u32) -> Result<Step, AllocError>
+    ensures steps { InEachState image.now vm.old (λ T m. moves.goes_on vm.old ≡ true → Steps result image.now T m thread vm.old vm.new) }
+    ensures others { InEachState image.now vm.old (λ T m. moves.goes_on vm.old ≡ true → KeepsOthers thread vm.old vm.new) }
 {
     vm.reads_fit(thread);
     vm.step(image, thread)
@@ -61,7 +61,7 @@ fn affordable(vm: &Vm, most: u32) -> u32
 /// Local steps of a thread, so many at most, while the next one is local and the budget has room; gives how many were done.
 pub fn run_on(image: &Image, vm: &mut Vm, thread: u32, most: u32) -> u32
     ensures few { result ≤ most }
-    ensures ran { InEachState image.now vm.old (λ T m. running.ending_of image.now m ≡ Nothing → IsRun image.now T m thread most result vm.new) }
+    ensures ran { InEachState image.now vm.old (λ T m. moves.goes_on vm.old ≡ true → IsRun image.now T m thread most result vm.new) }
     ensures took { InEachState image.now vm.old (λ T m. running.ending_of image.now m ≡ Nothing → (own : WordThread) (f : Activation) (ls : List Level) → RunsFrame (machine_of vm.old) thread own f ls →
         HasRun (machine_of vm.old) (machine_of vm.new) thread result own f ls) }
     ensures others { InEachState image.now vm.old (λ T m. KeepsOthers thread vm.old vm.new) }
@@ -81,11 +81,14 @@ pub fn last_on(image: &Image, vm: &mut Vm, thread: u32) -> Result<u32, AllocErro
     ensures last { InEachState image.now vm.old (λ T m. Lasts result image.now T m thread vm.old vm.new) }
     ensures others { InEachState image.now vm.old (λ T m. KeepsOthers thread vm.old vm.new) }
 {
-    if !may_step(image, vm, thread) {
+    if !goes_on(vm) {
         return Ok(0);
     }
-    step_on(image, vm, thread)?;
-    Ok(1)
+    let stepped = step_on(image, vm, thread)?;
+    match stepped {
+        Step::Done => Ok(1),
+        Step::Held => Ok(0),
+    }
 }
 
 /// The rest of a turn that begins with local steps: these, and then at most one other. Where that one finds no memory, they are taken back.
@@ -140,7 +143,6 @@ pub fn take_turn(
     } else if vm.next_is_local(image, thread) {
         turn_locally(image, vm, kept, thread, most)
     } else {
-        step_on(image, vm, thread)?;
-        Ok(1)
+        last_on(image, vm, thread)
     }
 }

@@ -6,8 +6,8 @@ ghost use Rattle.dv_sound.specs.Moves.{InEachState};
 ghost use Rattle.dv_sound.specs.Replays.{Plays, PlaysSome, PlaysToEnd, Refuses};
 
 use crate::error::ReplayError;
-use crate::moves::{may_step, run_on, step_on};
-use dv_core::Vm;
+use crate::moves::{goes_on, run_on, step_on};
+use dv_core::{Step, Vm};
 use dv_defs::{Entry, Image};
 use std::alloc::AllocError;
 
@@ -33,15 +33,18 @@ fn play_some(
     ensures few { 0 < left → IfOk result (λ n. n ≤ left) }
     ensures plays { InEachState image.now vm.old (λ T m. PlaysSome result image.now T entry thread m vm.new) }
 {
-    if !may_step(image, vm, thread) {
+    if !goes_on(vm) {
         return Err(refusal(image, vm, entry));
     }
     let done = run_on(image, vm, thread, left);
     if done > 0 {
         return Ok(done);
     }
-    step_on(image, vm, thread)?;
-    Ok(1)
+    let stepped = step_on(image, vm, thread)?;
+    match stepped {
+        Step::Done => Ok(1),
+        Step::Held => Err(refusal(image, vm, entry)),
+    }
 }
 
 /// The steps of an entry.

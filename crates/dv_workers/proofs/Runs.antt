@@ -1,5 +1,6 @@
 -- What turns and slices leave of a run.
-use Rattle.std.proofs.Common.{◌≡◌, ◌≢◌, ◌<◌, ◌≤◌, ◌++◌, ℕ, zero, suc, List, [], refl, sym, ap, ◌∙◌, subst, arith, length}
+use Rattle.std.proofs.Common.{◌≡◌, ◌≢◌, ◌<◌, ◌≤◌, ◌++◌, ℕ, zero, suc, List, [], refl, sym, ap, ◌∙◌, subst, arith, length, inl, inr}
+use Rattle.std.specs.Prelude.{min}
 use Rattle.dv_defs.specs.declared.run.Entry.{Entry}
 use Rattle.dv_defs.specs.declared.run.Limits.{Limits}
 use Rattle.dv_defs.specs.Images.{Image}
@@ -9,9 +10,10 @@ use Rattle.dv_machine.specs.Replaying.{Replayed, Stands, NotRunnable, PastEnd, W
 use Rattle.dv_machine.specs.State.{Machine}
 use Rattle.dv_sound.specs.Lending.{IsCommitted, IsFitting, logged_some}
 use Rattle.dv_sound.specs.Runs.{AtItsState, IsAt, IsAtSome, IsTurned, Run}
+use Rattle.dv_sound.specs.Trying.{IsLedBy}
 use Rattle.law_output.specs.Laws.{PrintsOn}
 use Rattle.law_output.proofs.Steps.{entries_print, turns_print}
-use Rattle.dv_workers.specs.Desks.{IsLonger, printed}
+use Rattle.dv_workers.specs.Desks.{IsLonger, IsLongerBy, printed}
 use Rattle.dv_workers.proofs.Lent.{without_fewer}
 
 -- a state's output is what was printed
@@ -78,3 +80,14 @@ slice_logs old new worker n slice low few s fits committed =
       λ some. logged_one old.log new.log worker slice.thread n low few some is.logs,
       λ none. is.logs ∙ ap (logged_some old.log worker slice.thread) none,
     )
+
+-- ---- a turn that was tried
+
+pub tried_prints : (old new : Run) (t n : ℕ) → IsAtSome old → Tells old → Tells new → AtItsState old (λ main m. IsLedBy old new main m t n) → PrintsOn (printed old) (printed new)
+tried_prints old new t n s before after led =
+    let is = led s.main s.machine s.at in
+    prints old new s.main s.machine is.after before after s.at is.at (entries_print old.verified.image s.machine is.after 0 t n (is.steps 0))
+
+pub tried_logs : (old new : List Entry) (worker t n : ℕ) → worker < 8 → n ≤ 256 → new ≡ logged_some old worker t n → IsLongerBy (min 1 n) old new
+tried_logs old new worker t zero low few is = inr (omega arith, is)
+tried_logs old new worker t (suc n) low few is = inl (omega arith, logged_one old new worker t (suc n) low few (λ e. let none : suc n ≡ 0 = e in cc none) is)

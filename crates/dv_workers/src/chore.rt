@@ -1,6 +1,4 @@
 // What a worker has to do.
-ghost use Rattle.std.specs.Prelude.{◌≡◌};
-ghost use Rattle.dv_workers.specs.Chores.{ran};
 
 use dv_local::Slice;
 
@@ -14,14 +12,4 @@ pub enum Chore {
     Stop,
     /// Steps of the thread of this slice, which is lent.
     Lent(Slice),
-}
-
-/// How many entries of the log it was.
-pub fn entries(chore: &Chore) -> u64
-    ensures { result ≡ ran chore.now }
-{
-    match chore {
-        Chore::Ran => 1,
-        _ => 0,
-    }
 }

@@ -1,5 +1,5 @@
 // What lies in the place that the workers share: the machine, the sink with what it took, and the book of the turns.
-ghost use Rattle.std.specs.Prelude.{◌≡◌, ◌<◌, ◌≤◌, ◌+◌, ◌^◌, ◌⊎◌, [], All, IfSome, MatchOption, true, false, length};
+ghost use Rattle.std.specs.Prelude.{◌≡◌, ◌<◌, ◌≤◌, ◌+◌, ◌^◌, ◌⊎◌, [], All, IfSome, MatchOption, true, false, length, min};
 ghost use Rattle.dv_io.specs.Io.{HasRisen};
 ghost use Rattle.dv_workers.specs.Chores.{IsChore, IsSlice, ran};
 ghost use Rattle.dv_workers.specs.Desks.{FewWait, GoesOn, IsDone, IsOver, IsWritten, MayGo, NoneIsNext, printed};
@@ -7,9 +7,9 @@ ghost use Rattle.dv_workers.specs.Entries.{IsOfWorker};
 ghost use Rattle.dv_workers.specs.Seats.{names_of};
 
 use crate::began::Began;
-use crate::chore::{Chore, entries};
+use crate::chore::Chore;
 use crate::pouring::{pour_all, pour_some, printed};
-use crate::turning::{bring, lend, take_turn};
+use crate::turning::{bring, lend, take_turn, try_turn};
 use dv_io::{Gate, Sink};
 use dv_local::Slice;
 use dv_sound::SafeVm;
@@ -38,6 +38,14 @@ fn turns_in_place(slice: &Option<Slice>) -> u32 {
         Some(slice) if slice.steps < SHORT => IN_PLACE,
         _ => 0,
     }
+}
+
+/// How many turns of a thread an only worker does at most before it asks which thread is next. The lowest thread is that one as long as it can go on; behind
+/// a turn of another one a lower one may be.
+fn turns_at_once(thread: u32) -> u32
+    ensures { result ≤ 256 }
+{
+    if thread == 0 { TURNS } else { 1 }
 }
 
 #[derive(Drop)]
@@ -306,7 +314,7 @@ impl<'v, K: Sink, L: Began> Desk<'v, K, L> {
         let mut turns = 0;
         for _ in rt.forever() {
             match self.next_thread() {
-                Some(thread) => turns += self.turn_in_place(gate, share, thread),
+                Some(thread) => turns += self.turns_in_place(gate, share, thread),
                 None if self.is_over() => return turns,
                 None => {}
             }
@@ -314,23 +322,55 @@ impl<'v, K: Sink, L: Began> Desk<'v, K, L> {
         unreachable!()
     }
 
-    /// A turn of an only worker. Where it begins with local steps it is a slice as well, which the gate is told of.
-    fn turn_in_place<G: Gate>(&mut self, gate: &G, share: &mut Share<L>, thread: u32) -> u64
+    /// Turns of an only worker, of one thread, as long as it can go on, up to the end or to where another thread may be next. One of more than one
+    /// step begins with local ones, so it is a slice as well, which the gate is told of. Gives how many there were.
+    fn turns_in_place<G: Gate>(&mut self, gate: &G, share: &mut Share<L>, thread: u32) -> u64
         requires share { 0 < share.old.parts }
-        requires may { MayGo self.old.vm thread }
+        requires home { self.old.vm.lent ≡ [] }
         ensures names { names_of self.new.vm ≡ names_of self.old.vm }
         ensures home { self.new.vm.lent ≡ self.old.vm.lent }
         ensures parts { share.new.parts ≡ share.old.parts }
         ensures amount { share.new.amount ≡ share.old.amount + result }
         ensures fits { share.new.amount < 2 ^ 64 }
     {
-        let is_slice = self.vm.next_is_local(thread);
-        let chore = self.turn(share, 0, thread);
-        self.audit(share);
-        if is_slice {
-            gate.arrive(0, thread);
+        let most = turns_at_once(thread);
+        for turns in 0..most {
+            let steps = self.try_turn(share, thread);
+            if steps > 1 {
+                gate.arrive(0, thread);
+            }
+            if steps == 0 || self.fault {
+                self.audit(share);
+                return u64::from(turns + steps.min(1));
+            }
         }
-        entries(&chore)
+        self.audit(share);
+        u64::from(most)
+    }
+
+    /// A turn of a thread by an only worker, where it can go on. Gives how many steps it has.
+    fn try_turn(&mut self, share: &mut Share<L>, thread: u32) -> u32
+        requires share { 0 < share.old.parts }
+        requires home { self.old.vm.lent ≡ [] }
+        ensures names { names_of self.new.vm ≡ names_of self.old.vm }
+        ensures home { self.new.vm.lent ≡ self.old.vm.lent }
+        ensures parts { share.new.parts ≡ share.old.parts }
+        ensures amount { share.new.amount ≡ share.old.amount + min 1 result }
+    {
+        let Desk {
+            vm,
+            sink,
+            written,
+            fault,
+            memory,
+            book,
+            ..
+        } = self;
+        let tried = try_turn(vm, 0, thread);
+        book.add(share, u64::from(tried.steps.min(1)));
+        pour_some(sink, vm, written, fault);
+        *memory |= tried.wants;
+        tried.steps
     }
 
     /// Takes a slice back; gives how many entries were logged.

@@ -1,5 +1,5 @@
 // Turns and slices of a machine: what they log, and that what was printed stays printed.
-ghost use Rattle.std.specs.Prelude.{◌≡◌, ◌<◌, ◌≤◌, ◌+◌, IfOk, MatchOption, OnOk, OnErr, length};
+ghost use Rattle.std.specs.Prelude.{◌≡◌, ◌≢◌, ◌<◌, ◌≤◌, ◌+◌, All, IfOk, MatchOption, OnOk, OnErr, length, min};
 ghost use Rattle.dv_sound.specs.Lending.{IsFitting, IsSameProgram};
 ghost use Rattle.dv_sound.specs.Runs.{IsSameRun};
 ghost use Rattle.law_output.specs.Laws.{PrintsOn};
@@ -9,7 +9,7 @@ ghost use Rattle.dv_workers.specs.Seats.{names_of};
 
 use crate::pouring::printed;
 use dv_local::Slice;
-use dv_sound::{Refused, SafeVm};
+use dv_sound::{Refused, SafeVm, Tried};
 use std::alloc::AllocError;
 
 /// The most steps of a turn.
@@ -33,6 +33,21 @@ pub fn take_turn(vm: &mut SafeVm, worker: u32, thread: u32) -> Result<(), AllocE
     let _done = vm.take_turn(worker, thread, MOST)?;
     let _after = printed(vm);
     Ok(())
+}
+
+/// A turn of a thread at home that is tried: local steps, and then one other, where it may do them. One entry is logged where it has steps.
+pub fn try_turn(vm: &mut SafeVm, worker: u32, thread: u32) -> Tried
+    requires worker { worker < 8 }
+    requires home { All (λ t. t ≢ thread) vm.old.lent }
+    ensures same { IsSameRun vm.old vm.new }
+    ensures logs { IsLongerBy (min 1 result.steps) vm.old.log vm.new.log }
+    ensures prints { PrintsOn (printed vm.old) (printed vm.new) }
+{
+    let _log = vm.log();
+    let _before = printed(vm);
+    let tried = vm.try_turn(worker, thread);
+    let _after = printed(vm);
+    tried
 }
 
 /// Brings a slice that fits; gives how many entries were logged.
