@@ -1,5 +1,6 @@
 -- The instruction that is read where the frame on top goes on is the one that is fetched there.
-use Rattle.std.proofs.Common.{◌≡◌, ◌∙◌, ◌+◌, ◌<◌, ℕ, List, [], ◌∷◌, drop, length, true, Some, None, Result, Ok, Err, sym, ap, arith, length-drop}
+use Rattle.std.proofs.Common.{◌≡◌, ◌∙◌, ◌+◌, ◌<◌, ℕ, zero, suc, List, [], ◌∷◌, drop, length, true, Some, None, Result, Ok, Err, sym, ap, subst, arith, length-drop}
+use Rattle.std.specs.Prelude.{slice_get}
 use Rattle.std.proofs.lemmas.Option.{same_Some}
 use Rattle.dv_defs.specs.declared.code.Insn.{Insn}
 use Rattle.dv_defs.specs.declared.faults.Rule.{Rule}
@@ -25,6 +26,7 @@ use Rattle.dv_words.specs.Steps.{At}
 use Rattle.dv_call.proofs.Resumed.{no_code}
 use Rattle.dv_core.specs.declared.instructions.Instruction.{Instruction}
 use Rattle.dv_core.specs.Guests.{IsAtOp}
+use Rattle.dv_core.specs.Quick.{IsAccess, IsQuick, Means}
 use Rattle.dv_core.specs.Standing.{IsFound}
 
 some_here : (us : List ℕ) (i : Insn) (n : ℕ) → insn_here us ≡ Some (record { insn = i; size = n }) → 0 < length us
@@ -79,3 +81,36 @@ module _ (image : Image) (stack : WordStack) (own : WordThread) (h : At) (x : st
             means = let whole : (let q : Resolved = Ok (meant code head.at i.op) in q) ≡ Ok x.op = ap (meant_or_rule code head.at) (sym e) ∙ answered in cc whole;
             next = after ∙ (sym fetched.next ∙ sym at.next);
           }
+
+      -- one that is read off its two units
+      pub quick : (i : Instruction) (us : List ℕ) → drop head.at code.body.units ≡ us → Means image code head.at us i.op → i.next ≡ head.at + 2 → code.tiles ≡ tiles_in (tiling i.units.now) → IsQuick i h x.op
+      quick i us units means after tiled =
+          let t = there in
+          let is = means.spelled t.insn t.size (ap insn_here (sym units) ∙ t.read) in
+          let f = fetched t.insn t.size t.read in
+          let op : meant code head.at i.op ≡ x.op = let whole : (let q : Resolved = Ok (meant code head.at i.op) in q) ≡ Ok x.op = sym is.0 ∙ f.op in cc whole in
+          record {
+            here = record {
+              code = code;
+              at = head.at;
+              tiled = tiled;
+              means = op;
+              next = after ∙ (ap (λ (n : ℕ). head.at + n) (sym is.1) ∙ (sym f.next ∙ sym at.next));
+            };
+            access = subst IsAccess op means.access;
+          }
+
+-- ---- two units
+
+pub two_units : (us : List ℕ) (k j u v : ℕ) → slice_get us k ≡ Some u → j ≡ k + 1 → slice_get us j ≡ Some v → (rest : List ℕ) × (drop k us ≡ u ∷ v ∷ rest)
+two_units [] k j u v first next second = absurd (cc first)
+two_units (w ∷ us) (suc k) zero u v first next second = absurd (omega (arith, next))
+two_units (w ∷ us) (suc k) (suc j) u v first next second = two_units us k j u v first (omega (arith, next)) second
+two_units (w ∷ us) zero zero u v first next second = absurd (omega (arith, next))
+two_units (w ∷ us) zero (suc j) u v first next second =
+    let none : j ≡ 0 = omega (arith, next) in
+    one us (same_Some w u first) (ap (slice_get us) (sym none) ∙ second)
+  where
+    one : (ws : List ℕ) → w ≡ u → slice_get ws 0 ≡ Some v → (rest : List ℕ) × (w ∷ ws ≡ u ∷ v ∷ rest)
+    one [] same e = absurd (cc e)
+    one (z ∷ ws) same e = (ws, λ i. same i ∷ same_Some z v e i ∷ ws)

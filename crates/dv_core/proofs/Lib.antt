@@ -24,3 +24,4 @@ pub mod Uncounted
 pub mod Opened
 pub mod Advanced
 pub mod Opcodes
+pub mod Pairs

@@ -6,6 +6,7 @@ pub mod Settling
 pub mod Recording
 pub mod Watching
 pub mod Trying
+pub mod Quick
 pub mod Laws
 pub mod Openings
 pub mod Advancing

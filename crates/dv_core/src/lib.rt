@@ -9,6 +9,7 @@ mod guest;
 mod instructions;
 pub mod laws;
 mod opening;
+mod quick;
 mod records;
 mod settling;
 mod vm;
