@@ -1,12 +1,14 @@
 // The monitors that are owned.
-ghost use Rattle.std.specs.Prelude.{◌≡◌, ◌+◌, ◌-◌, ◌^◌, ◌<◌, ◌≤◌, ◌↔◌, IfErr, IsOk, IsSome, IsTrue, None, OnErr, OnOk, Some, [], false};
+ghost use Rattle.std.specs.Prelude.{◌≡◌, ◌≢◌, ◌+◌, ◌-◌, ◌^◌, ◌<◌, ◌≤◌, ◌↔◌, IfErr, IsOk, IsSome, IsTrue, None, OnErr, OnOk, Some, [], false};
 ghost use Rattle.std.specs.Option.{ForSome, option_map};
 ghost use Rattle.dv_machine.specs.Monitors.{entered_in, exited_in, given_up, held_in};
+ghost use Rattle.dv_monitor.specs.Entering.{entry_again};
 ghost use Rattle.dv_monitor.specs.Slots.{held_value, owner_in};
 
+use crate::entry::Entry;
 use crate::errors::NotOwner;
 use crate::holding::Holding;
-use crate::slots::{Places, find, take_out};
+use crate::slots::{Places, find, note, take_out};
 use std::alloc::{AllocError, Global};
 use std::collections::HashMap;
 use std::marker::Model;
@@ -79,6 +81,25 @@ impl Holdings {
         true
     }
 
+    /// Counts a monitor up for a thread that owns it, but for one that is counted 2^64 - 1 times. None where no thread owns it.
+    pub fn try_again(&mut self, object: u32, thread: u32) -> Option<Entry>
+        ensures entry { result ≡ option_map (entry_again thread) (held_in self.old.held object) }
+        ensures entered { result ≡ Some Entry.Entered → self.new.held ≡ entered_in self.old.held object thread 1 }
+        ensures unchanged { result ≢ Some Entry.Entered → self.new ≡ self.old }
+        ensures room { self.new.room ≡ self.old.room }
+    {
+        let (place, holding) = find(&self.slots, &self.places, object)?;
+        if thread != holding.thread {
+            return Some(Entry::Taken);
+        }
+        if holding.count == u64::MAX {
+            return Some(Entry::Full);
+        }
+        let count = holding.count + 1;
+        self.slots[place] = Some(Holding { count, ..holding });
+        Some(Entry::Entered)
+    }
+
     /// Adds a monitor that no thread owns.
     pub fn add(&mut self, object: u32, thread: u32, count: u64)
         requires free { held_in self.old.held object ≡ None }
@@ -86,9 +107,7 @@ impl Holdings {
         ensures added { self.new.held ≡ entered_in self.old.held object thread count }
         ensures room { self.old.room ≤ self.new.room + 1 }
     {
-        let place = self.slots.len();
-        let added: Result<_, _> = self.places.insert(object, place);
-        let _ = added.unwrap();
+        note(&mut self.places, object, self.slots.len());
         self.slots.push_reserved(Some(Holding {
             object,
             thread,

@@ -2,6 +2,7 @@
 //! Nothing here blocks: a thread that has to wait stands in a list, and whoever runs the threads asks for it.
 #![tactic(auto)]
 
+mod entry;
 mod errors;
 mod holding;
 mod holdings;
@@ -10,6 +11,7 @@ mod table;
 mod wait;
 mod waits;
 
+pub use entry::Entry;
 pub use errors::{MonitorError, NotOwner};
 pub use table::Monitors;
 pub use wait::Wait;

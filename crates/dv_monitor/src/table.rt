@@ -1,11 +1,13 @@
 // Monitors, their owners, and the threads that wait.
-ghost use Rattle.std.specs.Prelude.{◌≡◌, ◌-◌, ◌^◌, ◌<◌, ◌↔◌, IfErr, IfOk, IfSome, IsOk, IsSome, IsSomeAnd, IsTrue, None, OnErr, OnOk, Some};
+ghost use Rattle.std.specs.Prelude.{◌≡◌, ◌≢◌, ◌-◌, ◌^◌, ◌<◌, ◌↔◌, IfErr, IfOk, IfSome, IsOk, IsSome, IsSomeAnd, IsTrue, None, OnErr, OnOk, Some};
 ghost use Rattle.std.specs.Option.{ForSome, option_map};
 ghost use Rattle.dv_machine.specs.Monitors.{entered, exited, notified_all, notified_one, owner_of, resumed, wait_of, waiting};
+ghost use Rattle.dv_monitor.specs.Entering.{entry_for};
 ghost use Rattle.dv_monitor.specs.Errors.{RefusesWait};
 ghost use Rattle.dv_monitor.specs.State.{count_of, no_monitors};
 ghost use Rattle.dv_monitor.specs.Waits.{wait_value};
 
+use crate::entry::Entry;
 use crate::errors::{MonitorError, NotOwner};
 use crate::holdings::Holdings;
 use crate::wait::Wait;
@@ -47,7 +49,7 @@ impl Monitors {
         }
     }
 
-    /// Makes room for one `enter` or `wait`.
+    /// Makes room for one `enter`, `try_enter` or `wait`.
     pub fn reserve(&mut self) -> Result<(), AllocError>
         ensures ok { OnOk result (IsTrue self.new.ready) }
         ensures unchanged { self.new.monitors ≡ self.old.monitors }
@@ -72,6 +74,24 @@ impl Monitors {
         self.reserve()?;
         self.held.add(object, thread, 1);
         Ok(())
+    }
+
+    /// Enters a monitor that is free, or that the thread owns already and hasn't entered 2^64 - 1 times; else it tells why not, and nothing changes. Only a
+    /// free one may want memory (JLS 17.1).
+    pub fn try_enter(&mut self, object: u32, thread: u32) -> Result<Entry, AllocError>
+        ensures entry { IfOk result (λ entry. entry ≡ entry_for self.old.monitors object thread) }
+        ensures entered { IfOk result (λ entry. entry ≡ Entry.Entered → self.new.monitors ≡ entered self.old.monitors object thread 1) }
+        ensures unchanged { IfOk result (λ entry. entry ≢ Entry.Entered → self.new ≡ self.old) }
+        ensures err { OnErr result (self.new.monitors ≡ self.old.monitors) }
+        ensures ready { IsTrue self.old.ready → IsOk result }
+        ensures owned { IsSome (owner_of self.old.monitors object) → IsOk result }
+    {
+        if let Some(entry) = self.held.try_again(object, thread) {
+            return Ok(entry);
+        }
+        self.reserve()?;
+        self.held.add(object, thread, 1);
+        Ok(Entry::Entered)
     }
 
     /// Undoes one entering. Takes no memory (JLS 17.1).

@@ -11,7 +11,7 @@ mod step;
 mod threads;
 mod waiting;
 
-pub use monitors::{monitor_enter, monitor_exit};
+pub use monitors::{monitor_enter, monitor_exit, try_monitor_enter};
 pub use natives::native_step;
 pub use step::thread_step;
 pub use threads::Threads;

@@ -1,31 +1,51 @@
 // Entering and leaving monitors, and notifying (JLS 17.1, 17.2.2).
-ghost use Rattle.std.specs.Prelude.{◌≡◌, ◌-◌, ◌<◌, ◌≤◌, ◌^◌, IsTrue, false, length};
-ghost use Rattle.std.specs.Option.{ForSome};
-ghost use Rattle.dv_machine.specs.Monitors.{owner_of};
+ghost use Rattle.std.specs.Prelude.{◌-◌, ◌<◌, ◌≤◌, ◌^◌, is_none, length};
 ghost use Rattle.dv_machine.specs.Mem.{on_object};
 ghost use Rattle.dv_monitor.specs.State.{count_of};
 ghost use Rattle.dv_words.specs.State.{WordThread};
 ghost use Rattle.dv_words.specs.Answering.{Leads};
+ghost use Rattle.dv_words.specs.Running.{blocked_enter};
 ghost use Rattle.dv_words.specs.Steps.{At};
 ghost use Rattle.dv_words.specs.Threads as steps;
 ghost use Rattle.dv_threads.specs.Kept.{Answers, AreAsBefore, IsThreadOf, LeavesThreads};
-ghost use Rattle.dv_threads.specs.Owning.{may_enter};
+ghost use Rattle.dv_threads.specs.Owning.{TriesTo};
 
 use crate::stacks::go_on;
 use crate::threads::{Threads, is_there};
 use dv_defs::{Named, Next};
-use dv_monitor::Monitors;
+use dv_monitor::Entry;
 use std::alloc::AllocError;
 
-/// Whether a thread may enter a monitor: it is free or its own, and can be counted once more.
-fn is_enterable(monitors: &Monitors, thread: u32, object: u32) -> bool
-    ensures free { IsTrue result → ForSome (owner_of monitors.now.monitors object) (λ owner. owner ≡ thread) }
-    ensures countable { IsTrue result → count_of monitors.now.monitors object < 2 ^ 64 - 1 }
-    ensures other { result ≡ false → count_of monitors.now.monitors object < 2 ^ 64 - 1 → may_enter thread (owner_of monitors.now.monitors object) ≡ false }
+/// monitor-enter of the object, tried: none where another thread owns the monitor, and all is as before then. Null throws. What is entered 2^64 - 1
+/// times isn't entered again.
+///
+/// # Errors
+///
+/// Want of memory; all is as before then.
+pub fn try_monitor_enter(
+    threads: &mut Threads,
+    thread: u32,
+    next: u32,
+    object: u32,
+) -> Result<Option<Next>, AllocError>
+    ensures does { (own : WordThread) (h : At) → IsThreadOf threads.old thread next own h → count_of threads.old.monitors.monitors object < 2 ^ 64 - 1 →
+        TriesTo result (is_none (blocked_enter h.shared.monitors h.thread object)) (on_object (steps.monitor_enter h) object) (LeavesThreads threads.old threads.new own h)
+        (AreAsBefore threads.old threads.new) }
+    ensures absent { length threads.old.stacks.items ≤ thread → AreAsBefore threads.old threads.new }
 {
-    match monitors.owner(object) {
-        Some(owner) => owner == thread && monitors.count(object) < u64::MAX,
-        None => monitors.count(object) < u64::MAX,
+    if !is_there(threads, thread) {
+        return Ok(Some(Next::On));
+    }
+    if object == 0 {
+        return Ok(Some(Next::Throw(Named::NullPointer)));
+    }
+    match threads.monitors.try_enter(object, thread)? {
+        Entry::Entered => {
+            go_on(&mut threads.stacks, thread, next);
+            Ok(Some(Next::On))
+        }
+        Entry::Taken => Ok(None),
+        Entry::Full => Ok(Some(Next::On)),
     }
 }
 
@@ -45,18 +65,10 @@ pub fn monitor_enter(
         Leads result (on_object (steps.monitor_enter h) object) (LeavesThreads threads.old threads.new own h) (AreAsBefore threads.old threads.new) }
     ensures absent { length threads.old.stacks.items ≤ thread → AreAsBefore threads.old threads.new }
 {
-    if !is_there(threads, thread) {
-        return Ok(Next::On);
+    match try_monitor_enter(threads, thread, next, object)? {
+        Some(answer) => Ok(answer),
+        None => Ok(Next::On),
     }
-    if object == 0 {
-        return Ok(Next::Throw(Named::NullPointer));
-    }
-    if !is_enterable(&threads.monitors, thread, object) {
-        return Ok(Next::On);
-    }
-    threads.monitors.enter(object, thread)?;
-    go_on(&mut threads.stacks, thread, next);
-    Ok(Next::On)
 }
 
 /// monitor-exit of the object, for its owner.

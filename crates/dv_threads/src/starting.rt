@@ -1,8 +1,8 @@
 // Starting threads and joining them.
-ghost use Rattle.std.specs.Prelude.{◌≡◌, ◌+◌, ◌≤◌, ◌<◌, ◌++◌, ◌∷◌, ℕ, [], IfOk, OnOk, length, position, vec_capacity, vec_len, ◌==◌};
+ghost use Rattle.std.specs.Prelude.{◌≡◌, ◌+◌, ◌≤◌, ◌<◌, ◌++◌, ◌∷◌, ℕ, [], IfOk, OnOk, position, vec_capacity, vec_len, ◌==◌};
 ghost use Rattle.dv_defs.specs.declared.machine.End.TheVariants as end;
 ghost use Rattle.dv_words.specs.declared.state.Level.TheVariants as level;
-ghost use Rattle.dv_words.specs.Stacks.{empty, entered, with_levels};
+ghost use Rattle.dv_words.specs.Stacks.{empty, entered};
 ghost use Rattle.dv_words.specs.State.{WordThread};
 ghost use Rattle.dv_words.specs.Answering.{Leads};
 ghost use Rattle.dv_words.specs.Steps.{At};

@@ -1,5 +1,5 @@
 // Guest threads by number.
-ghost use Rattle.std.specs.Prelude.{◌≡◌, ◌<◌, ◌↔◌, IsTrue, length};
+ghost use Rattle.std.specs.Prelude.{◌<◌, ◌↔◌, IsTrue, length};
 
 use dv_defs::End;
 use dv_frames::Stack;

@@ -7,6 +7,7 @@ use Rattle.dv_monitor.proofs.holdings.Holdings.give_up.Goals as goal
 
 pub returns-in_default-clause-held : goal.returns-in_default-clause-held
 returns-in_default-clause-held c =
+    let free = rw c.deref.ensures.value at c.in_default.ensures.held in
     ap (λ (s : HeldList). s.held) (sym c.self.view_is)
-    ∙ given_up-free c.self.inside.slots.items (get nat_eq c.self.inside.places) c.args.object c.self.invariant c.in_default.ensures.free
+    ∙ given_up-free c.self.inside.slots.items (get nat_eq c.self.inside.places) c.args.object c.self.invariant (sym free)
     ∙ ap (λ (s : HeldList). given_up s.held c.args.object) c.self.view_is
