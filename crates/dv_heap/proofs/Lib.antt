@@ -3,3 +3,4 @@ pub mod Tagging
 pub mod FieldWords
 pub mod Kept
 pub mod Bits
+pub mod Noting

@@ -3,3 +3,4 @@ pub mod Objects
 pub mod Fields
 pub mod Answers
 pub mod Keeping
+pub mod Placing

@@ -1,5 +1,5 @@
 // The heap of the guest.
-ghost use Rattle.std.specs.Prelude.{◌≡◌, ◌≢◌, ℕ, ◌<◌, ◌+◌, ◌^◌, [], map, None, length, slice_index, slice_index_or, is_some, Some, IsSome, IfOk};
+ghost use Rattle.std.specs.Prelude.{◌≡◌, ◌≢◌, ℕ, ◌<◌, ◌^◌, [], map, None, length, slice_index, slice_index_or, is_some, Some, IsSome, IfOk};
 ghost use Rattle.dv_words.specs.Standing.{HeapFits};
 ghost use Rattle.dv_words.specs.declared.state.Kind.TheVariants as kind;
 ghost use Rattle.dv_words.specs.Heaps.{kind_of, length_of, words_of_object, word_in, with_word, static_in, with_static, uncounted, counting};

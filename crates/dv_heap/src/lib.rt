@@ -2,6 +2,7 @@
 #![tactic(auto)]
 
 mod blocks;
+mod borrowed;
 mod contents;
 mod error;
 mod fields;

@@ -5,10 +5,10 @@ ghost use Rattle.dv_defs.specs.Types.{ty_eq};
 ghost use Rattle.dv_words.specs.declared.state.Kind.TheVariants as kind;
 ghost use Rattle.dv_heap.specs.Objects.{with_object};
 
+use crate::borrowed::BorrowedKind;
 use crate::contents::Contents;
 use crate::objects::Objects;
 use dv_defs::{Chars, Ty};
-use dv_words::Kind;
 use indexmap::IndexMap;
 use std::alloc::AllocError;
 
@@ -30,7 +30,7 @@ pub fn add_text(
 {
     let key = units.clone()?;
     texts.reserve(1)?;
-    let number = objects.add(Kind::Str, &Contents::Units(units.units()))?;
+    let number = objects.add(BorrowedKind::Str, &Contents::Units(units.units()))?;
     texts.insert(key, number)?;
     Ok(number)
 }
@@ -53,7 +53,7 @@ pub fn add_class(
 {
     let key = ty.clone()?;
     classes.reserve(1)?;
-    let number = objects.add(Kind::ClassOf(ty.clone()?), &Contents::Zeros(0))?;
+    let number = objects.add(BorrowedKind::ClassOf(ty), &Contents::Zeros(0))?;
     classes.insert(key, number)?;
     Ok(number)
 }

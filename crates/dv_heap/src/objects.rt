@@ -3,8 +3,10 @@ ghost use Rattle.std.specs.Prelude.{◌≡◌, ◌<◌, ◌+◌, [], All, length
 ghost use Rattle.dv_words.specs.Standing.{AllFit};
 ghost use Rattle.dv_heap.specs.Blocks.{filling};
 ghost use Rattle.dv_heap.specs.Objects.{kind_in, words_in, with_object, with_object_word};
+ghost use Rattle.dv_heap.specs.Placing.{as_kind};
 
 use crate::blocks::Blocks;
+use crate::borrowed::BorrowedKind;
 use crate::contents::Contents;
 use crate::kinds::Kinds;
 use dv_words::Kind;
@@ -117,8 +119,8 @@ impl Objects {
     /// # Errors
     ///
     /// Want of memory; the objects are as before then.
-    pub fn add(&mut self, kind: Kind, contents: &Contents) -> Result<u32, AllocError>
-        ensures added { IfOk result (λ n. (self.new ≡ with_object self.old kind (filling contents.now)) × (n ≡ length self.new.kinds)) }
+    pub fn add(&mut self, kind: BorrowedKind<'_>, contents: &Contents) -> Result<u32, AllocError>
+        ensures added { IfOk result (λ n. (self.new ≡ with_object self.old (as_kind kind.entry) (filling contents.now)) × (n ≡ length self.new.kinds)) }
         ensures kept { OnErr result (self.new ≡ self.old) }
     {
         let number = self.next_number()?;

@@ -1,20 +1,22 @@
 // New objects, and strings and Class objects that stand once.
-ghost use Rattle.std.specs.Prelude.{◌≡◌, ◌<◌, ◌≤◌, ℕ, ◌+◌, ◌^◌, [], length, slice_index, replicate, true, false, IfOk, IfErr, OnErr, Some, None, Ok};
+ghost use Rattle.std.specs.Prelude.{◌≡◌, ◌<◌, ◌≤◌, ℕ, ◌+◌, ◌^◌, length, slice_index, replicate, true, false, IfOk, IfErr, OnErr, Some, None, Ok};
 ghost use Rattle.dv_machine.specs.Heap.{found_among};
+ghost use Rattle.dv_words.specs.declared.state.Kind.TheVariants as kind;
 ghost use Rattle.dv_words.specs.Heaps as heaps;
 ghost use Rattle.dv_words.specs.Heaps.{has_room, counted_by, newest, cost_of_object, cost_of_array, is_text, is_class_of};
 ghost use Rattle.dv_heap.specs.Answers.{IsGot, newest_of, grown_to};
 ghost use Rattle.dv_heap.specs.Blocks.{filling};
 ghost use Rattle.dv_heap.specs.Keeping.{AreUnits};
+ghost use Rattle.dv_heap.specs.Placing.{as_kind};
 
 use super::Heap;
+use crate::borrowed::BorrowedKind;
 use crate::contents::Contents;
 use crate::error::HeapError;
 use crate::fields::words_of_class;
 use crate::making::{add_class, add_text};
 use crate::types::element_words;
 use dv_defs::{Chars, ClassId, Image, Ty};
-use dv_words::Kind;
 use std::alloc::AllocError;
 
 /// How many words a string of these units needs. Each unit has 16 bits.
@@ -53,9 +55,14 @@ impl Heap {
     }
 
     /// Adds an object, with so many words used then.
-    fn add(&mut self, kind: Kind, contents: &Contents, used: u32) -> Result<u32, AllocError>
-        requires { AreUnits kind (filling contents.now) }
-        ensures added { IfOk result (λ o. (self.new ≡ grown_to self.old kind (filling contents.now) used) × (o ≡ newest self.new)) }
+    fn add(
+        &mut self,
+        kind: BorrowedKind<'_>,
+        contents: &Contents,
+        used: u32,
+    ) -> Result<u32, AllocError>
+        requires { AreUnits (as_kind kind) (filling contents.now) }
+        ensures added { IfOk result (λ o. (self.new ≡ grown_to self.old (as_kind kind.entry) (filling contents.now) used) × (o ≡ newest self.new)) }
         ensures kept { OnErr result (self.new ≡ self.old) }
     {
         let number = self.objects.add(kind, contents)?;
@@ -65,10 +72,10 @@ impl Heap {
 
     /// Makes an object of a class with so many words, all 0.
     pub(super) fn alloc_words(&mut self, class: ClassId, words: u32) -> Result<u32, HeapError>
-        ensures { IsGot result (newest_of (heaps.grown_within self.old (Kind.Object class) (replicate words 0) (2 + words))) (2 + words) self.old self.new }
+        ensures { IsGot result (newest_of (heaps.grown_within self.old (kind.Object class) (replicate words 0) (2 + words))) (2 + words) self.old self.new }
     {
         let used = self.room_for(2 + u64::from(words))?;
-        let number = self.add(Kind::Object(class), &Contents::Zeros(words), used)?;
+        let number = self.add(BorrowedKind::Object(class), &Contents::Zeros(words), used)?;
         Ok(number)
     }
 
@@ -95,7 +102,7 @@ impl Heap {
         let words = u64::from(length) * u64::from(element_words(ty));
         let used = self.room_for(2 + words)?;
         let words = u32::try_from(words).map_err(|_| AllocError)?;
-        let number = self.add(Kind::Array(ty.clone()?), &Contents::Zeros(words), used)?;
+        let number = self.add(BorrowedKind::Array(ty), &Contents::Zeros(words), used)?;
         Ok(number)
     }
 
@@ -108,7 +115,7 @@ impl Heap {
         ensures { IsGot result (newest_of (heaps.alloc_string self.old units.now)) (2 + length units.now) self.old self.new }
     {
         let used = self.room_for(cost_of_text(units))?;
-        let number = self.add(Kind::Str, &Contents::Units(units), used)?;
+        let number = self.add(BorrowedKind::Str, &Contents::Units(units), used)?;
         Ok(number)
     }
 

@@ -1,5 +1,6 @@
 use Rattle.std.proofs.Common.{refl}
 use Rattle.dv_heap.specs.Blocks.{filling}
+use Rattle.dv_heap.specs.Placing.{as_kind}
 use Rattle.dv_heap.proofs.Tagging.{tagged_kept, tagged_added, objects_kept, objects_added, on_err}
 use Rattle.dv_heap.proofs.objects.Objects.add.Goals as goal
 
@@ -21,8 +22,8 @@ returns-in_err-push-clause-kept c =
 
 pub invariant_of-self-2 : goal.invariant_of-self-2
 invariant_of-self-2 c =
-    tagged_added c.self.inside.kinds c.place.new.self c.self.inside.blocks c.push.new.self c.in_ok-tag.tag c.args.kind (filling c.args.contents.now) c.self.invariant c.place.ensures.kept c.in_ok-tag.ensures.place c.in_ok-push.ensures.ok
+    tagged_added c.self.inside.kinds c.place.new.self c.self.inside.blocks c.push.new.self c.in_ok-tag.tag (as_kind c.args.kind) (filling c.args.contents.now) c.self.invariant c.place.ensures.kept c.in_ok-tag.ensures.place c.in_ok-push.ensures.ok
 
 pub returns-clause-added : goal.returns-clause-added
 returns-clause-added c =
-    objects_added c.self.inside.kinds c.place.new.self c.self.inside.blocks c.push.new.self c.args.self.now c.in_ok-tag.tag c.args.kind (filling c.args.contents.now) c.in_ok-number.number c.self.view_is c.self.invariant c.place.ensures.kept c.in_ok-tag.ensures.place c.in_ok-push.ensures.ok c.in_ok-number.ensures
+    objects_added c.self.inside.kinds c.place.new.self c.self.inside.blocks c.push.new.self c.args.self.now c.in_ok-tag.tag (as_kind c.args.kind) (filling c.args.contents.now) c.in_ok-number.number c.self.view_is c.self.invariant c.place.ensures.kept c.in_ok-tag.ensures.place c.in_ok-push.ensures.ok c.in_ok-number.ensures
