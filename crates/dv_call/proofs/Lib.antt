@@ -1,4 +1,3 @@
 pub mod Called
 pub mod Selections
-pub mod Resumed
 pub mod AtInsn

@@ -22,7 +22,8 @@ use Rattle.dv_call.proofs.Called.{invoke_is}
 use Rattle.dv_builtin.specs.Natives.{TextsFit}
 use Rattle.dv_core.specs.declared.guest.Guest.{Guest}
 use Rattle.dv_core.specs.Fitting.{StepFits}
-use Rattle.dv_core.specs.Guests.{IsAtOp, IsSeen, shared_of}
+use Rattle.dv_fetch.specs.Standing.{IsAtOp}
+use Rattle.dv_core.specs.Guests.{IsSeen, shared_of}
 use Rattle.dv_core.proofs.Outcomes.{args_are}
 use Rattle.dv_core.proofs.Seen.{is_stack}
 use Rattle.dv_core.proofs.Waits.{invoke_free}

@@ -4,7 +4,6 @@ pub mod Trying
 pub mod Settled
 pub mod Seen
 pub mod Outcomes
-pub mod Found
 pub mod Acts
 pub mod RecordStacks
 pub mod Flights
@@ -24,4 +23,3 @@ pub mod Uncounted
 pub mod Opened
 pub mod Advanced
 pub mod Opcodes
-pub mod Pairs

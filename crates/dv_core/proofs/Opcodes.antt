@@ -24,9 +24,10 @@ use Rattle.dv_words.specs.State.{WordMachine}
 use Rattle.law_words.proofs.Fetching.{is_fetched, is_read}
 use Rattle.dv_words.specs.Running.{blocked_at, blocked_needing}
 use Rattle.law_engine.specs.KeepLaws.{is_local_level_of}
-use Rattle.dv_call.proofs.Resumed.{no_code}
+use Rattle.dv_fetch.proofs.Bodiless.{no_code}
 use Rattle.dv_local.proofs.Opcodes.{opcode_read}
-use Rattle.dv_core.specs.Opcodes.{may_hold_up, opcode_at, opcode_in}
+use Rattle.dv_fetch.specs.Opcodes.{opcode_at, opcode_in}
+use Rattle.dv_core.specs.Opcodes.{may_hold_up}
 use Rattle.dv_core.specs.Watching.{IsTopWatched}
 use Rattle.dv_core.proofs.Waits.{HasCode, has_code}
 

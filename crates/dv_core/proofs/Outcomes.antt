@@ -1,6 +1,7 @@
 -- What the answers of the calls leave of the guest.
-use Rattle.std.proofs.Common.{◌≡◌, ℕ, ◌++◌, Bool, true, false, List, [], ◌∷◌, All, map, Option, Some, Result, Ok, Err, refl, sym, ap, ◌∙◌, subst}
+use Rattle.std.proofs.Common.{◌≡◌, ℕ, ◌++◌, Bool, true, false, List, [], ◌∷◌, All, map, Option, Some, None, Result, Ok, Err, refl, sym, ap, ◌∙◌, subst}
 use Rattle.std.specs.Prelude.{slice_get, slice_set}
+use Rattle.std.specs.declared.alloc.AllocError.{AllocError}
 use Rattle.std.specs.Option.{option_to_list}
 use Rattle.dv_defs.specs.declared.run.Limits.{Limits}
 use Rattle.dv_defs.specs.declared.run.Next.{Next}
@@ -30,10 +31,12 @@ use Rattle.dv_ops.specs.Meaning.{meant}
 use Rattle.dv_local.specs.Tops.{StepsTop, TopBecame, SteppedAtLevel}
 use Rattle.dv_builtin.specs.Seeing.{Does}
 use Rattle.dv_threads.specs.Kept.{AreAsBefore, IsThreadOf, LeavesThreads, bounds}
+use Rattle.dv_threads.specs.Owning.{TriesTo}
 use Rattle.dv_core.specs.declared.guest.Guest.{Guest}
-use Rattle.dv_core.specs.declared.instructions.Instruction.{Instruction}
-use Rattle.dv_core.specs.Guests.{IsAtOp, IsSeen, Leaves, Stays, shared_of}
-use Rattle.dv_core.specs.Standing.{IsHere}
+use Rattle.dv_fetch.specs.declared.instruction.Instruction.{Instruction}
+use Rattle.dv_fetch.specs.Standing.{IsAtOp, IsHere}
+use Rattle.dv_core.specs.Guests.{IsSeen, Leaves, Stays, shared_of}
+use Rattle.dv_core.specs.Trying.{Tries}
 use Rattle.dv_core.proofs.Seen.{all_first, all_more, all_rest, has_bounds, has_stack, is_stack, kept_stack, led, stayed, wrote}
 
 -- ---- a step of the frame and the heap
@@ -131,6 +134,9 @@ module _ (i : Image) (lim : Limits) (old : Guest) (thread : ℕ) (own : WordThre
       }
 
 module _ (i : Image) (lim : Limits) (old new : Guest) (thread : ℕ) (own : WordThread) (h : At) (seen : IsSeen i lim old thread own h) where
+  stays_threads : shared_of new ≡ with_monitors (shared_of old) new.threads.monitors.monitors → AreAsBefore old.threads new.threads → Stays lim old new
+  stays_threads shared x = stayed i lim old thread own h seen new x.ends x.objects x.stacks (shared ∙ ap (with_monitors (shared_of old)) x.monitors)
+
   pub led_threads : {E : Type 0} (a : Result Next E) (d : Did Left) → shared_of new ≡ with_monitors (shared_of old) new.threads.monitors.monitors
       → Leads a d (LeavesThreads old.threads new.threads own h) (AreAsBefore old.threads new.threads) → Leads a d (Leaves old new own h) (Stays lim old new)
   led_threads a d shared does =
@@ -146,8 +152,15 @@ module _ (i : Image) (lim : Limits) (old new : Guest) (thread : ℕ) (own : Word
               all_bounded (h.limits.levels, h.limits.words) old.threads.stacks.items new.threads.stacks.items (option_to_list l.started) x.bounded (subst P limits seen.ordered.bounded);
         };
       })
-      (λ x. stayed i lim old thread own h seen new x.ends x.objects x.stacks (shared ∙ ap (with_monitors (shared_of old)) x.monitors))
+      (stays_threads shared)
       does
+
+  -- the same of a call that is tried
+  pub tries_threads : (a : Result (Option Next) AllocError) (free : Bool) (d : Did Left) → shared_of new ≡ with_monitors (shared_of old) new.threads.monitors.monitors
+      → TriesTo a free d (LeavesThreads old.threads new.threads own h) (AreAsBefore old.threads new.threads) → Tries a free d lim old new own h
+  tries_threads (Ok (Some answer)) free d shared does = (does.0, led_threads {E = AllocError} (Ok answer) d shared does.1)
+  tries_threads (Ok None) free d shared does = (does.0, stays_threads shared does.1)
+  tries_threads (Err memory) free d shared does = stays_threads shared does
 
 -- ---- a local step
 

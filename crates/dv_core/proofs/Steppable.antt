@@ -26,7 +26,8 @@ use Rattle.law_engine.proofs.Fields.{accepted_images_fit}
 use Rattle.dv_threads.specs.Kept.{HasRoom, threads_of}
 use Rattle.dv_core.specs.declared.vm.Vm.{Vm}
 use Rattle.dv_core.specs.Fitting.{AreCountable, ArgumentsFit, RecordFits, StepFits}
-use Rattle.dv_core.specs.Guests.{IsAtOp, IsSeen}
+use Rattle.dv_fetch.specs.Standing.{IsAtOp}
+use Rattle.dv_core.specs.Guests.{IsSeen}
 use Rattle.dv_core.specs.Laws.{StepsFit}
 use Rattle.dv_core.specs.Machines.{machine_of}
 use Rattle.dv_core.proofs.Callers.{caller_stands, met_top, placed_stands, same_fetch}

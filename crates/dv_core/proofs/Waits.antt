@@ -40,7 +40,8 @@ use Rattle.law_engine.proofs.Landings.{NoNative, lands_on_no_native}
 use Rattle.dv_call.specs.Landings.{Enters, Fails, Landed, Runs, Stays, called_in, constructs, first_of, is_native, on_landing, on_object, on_receiver, run_by}
 use Rattle.dv_core.specs.declared.guest.Guest.{Guest}
 use Rattle.dv_core.specs.declared.vm.Vm.{Vm}
-use Rattle.dv_core.specs.Guests.{IsAtOp, shared_of}
+use Rattle.dv_fetch.specs.Standing.{IsAtOp}
+use Rattle.dv_core.specs.Guests.{shared_of}
 use Rattle.dv_core.specs.Machines.{Stands}
 use Rattle.dv_core.specs.Watching.{AreNumbered, AreWatchable, alive_in, blocked_landed}
 

@@ -6,14 +6,13 @@ use Rattle.dv_defs.specs.declared.names.ClassId.{ClassId}
 use Rattle.dv_defs.specs.declared.run.Limits.{Limits}
 use Rattle.dv_defs.specs.declared.run.Next.{Next}
 use Rattle.dv_defs.specs.Images.{Image}
-use Rattle.dv_defs.specs.Pools.{method_at}
 use Rattle.dv_typing.specs.Statics as statics
-use Rattle.dv_typing.specs.Statics.{fetch}
 use Rattle.dv_machine.specs.State.{Did}
 use Rattle.dv_words.specs.Answering.{Leads}
 use Rattle.dv_words.specs.declared.state.Level.TheVariants as level
 use Rattle.dv_words.specs.State.{WordShared, WordStack, WordThread}
 use Rattle.dv_words.specs.Steps.{At, Left}
+use Rattle.dv_fetch.specs.Standing.{IsAtOp}
 use Rattle.dv_threads.specs.Kept.{AreAligned, bounds, threads_of}
 use Rattle.dv_core.specs.declared.guest.Guest.{Guest}
 
@@ -35,13 +34,6 @@ pub record IsSeen (i : Image) (l : Limits) (g : Guest) (thread : ℕ) (own : Wor
   pub shared : h.shared ≡ shared_of g
   pub there : slice_get (threads_of g.threads) thread ≡ Some own
   pub ordered : IsOrdered l g
-
--- its frame on top goes on at this operation
-pub record IsAtOp (own : WordThread) (h : At) (x : statics.At) : Type 0 where
-  pub levels : own.levels ≡ level.Code h.frame ∷ h.rest
-  pub method : method_at h.image h.frame.method.0 ≡ Some h.own
-  pub fetched : fetch h.image h.frame.method.0 h.frame.at ≡ Some x
-  pub next : h.next ≡ x.next
 
 -- the thread has the levels that are left, another may have been started, and all share this
 pub record Leaves (old new : Guest) (own : WordThread) (h : At) (l : Left) : Type 0 where

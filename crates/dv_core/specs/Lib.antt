@@ -1,12 +1,10 @@
 pub mod Guests
 pub mod Machines
 pub mod Fitting
-pub mod Standing
 pub mod Settling
 pub mod Recording
 pub mod Watching
 pub mod Trying
-pub mod Quick
 pub mod Laws
 pub mod Openings
 pub mod Advancing

@@ -19,7 +19,8 @@ use Rattle.dv_threads.specs.Kept.{threads_of}
 use Rattle.dv_core.specs.declared.guest.Guest.{Guest}
 use Rattle.dv_core.specs.declared.vm.Vm.{Vm}
 use Rattle.dv_core.specs.Fitting.{RecordFits, StepFits}
-use Rattle.dv_core.specs.Guests.{IsAtOp, IsOrdered, IsSeen, shared_of}
+use Rattle.dv_fetch.specs.Standing.{IsAtOp}
+use Rattle.dv_core.specs.Guests.{IsOrdered, IsSeen, shared_of}
 
 -- a guest's state, so many steps, what stopped the run, its limits, and the exceptions that its opening made
 abbrev pub machine_with : Guest → ℕ → Option Ending → Limits → Preallocated → WordMachine

@@ -1,5 +1,5 @@
 -- A step that is tried: it is done where nothing holds the thread up; where something does, all is as before.
-use Rattle.std.specs.Prelude.{◌≡◌, ℕ, Bool, true, false, is_none, Option, Some, None, Result, Ok, Err}
+use Rattle.std.specs.Prelude.{◌≡◌, ℕ, Bool, true, false, is_none, Option, Some, Result, Ok, Err}
 use Rattle.std.specs.declared.alloc.AllocError.{AllocError}
 use Rattle.dv_defs.specs.declared.run.Ending.{Ending}
 use Rattle.dv_defs.specs.declared.run.Limits.{Limits}
@@ -12,11 +12,12 @@ use Rattle.dv_machine.specs.State.{Did}
 use Rattle.dv_words.specs.Running.{blocked_needing}
 use Rattle.dv_words.specs.State.{WordMachine, WordThread}
 use Rattle.dv_words.specs.Steps.{At, Left}
+use Rattle.dv_threads.specs.Owning.{TriesTo}
 use Rattle.dv_core.specs.declared.guest.Guest.{Guest}
 use Rattle.dv_core.specs.declared.vm.Step.{Step}
 use Rattle.dv_core.specs.declared.vm.Step.TheVariants.{Done, Held}
 use Rattle.dv_core.specs.declared.vm.Vm.{Vm}
-use Rattle.dv_core.specs.Guests.{AtEachOp, Does, IsOrdered, Stays}
+use Rattle.dv_core.specs.Guests.{AtEachOp, IsOrdered, Leaves, Stays}
 use Rattle.dv_core.specs.Machines.{machine_of, machine_with}
 use Rattle.dv_core.specs.Watching.{AreNumbered}
 
@@ -46,9 +47,7 @@ freely (Err memory) = Err memory
 
 -- where the thread is free the answer is that of this step, and the guest is left as the step says; else there is none, and all is as before
 abbrev pub Tries : Result (Option Next) AllocError → Bool → Did Left → Limits → Guest → Guest → WordThread → At → Type 0
-Tries (Ok (Some answer)) free step limits old new own h = (free ≡ true) × Does (Ok answer) step limits old new own h
-Tries (Ok None) free step limits old new own h = (free ≡ false) × Stays limits old new
-Tries (Err memory) free step limits old new own h = Stays limits old new
+Tries answer free step limits old new own h = TriesTo answer free step (Leaves old new own h) (Stays limits old new)
 
 -- in each machine with this guest, whose threads are numbered, and each view of the thread of this number, at the operation at which it goes on
 abbrev pub AtEachTry : Image → Limits → Guest → ℕ → (WordMachine → WordThread → At → statics.At → Type 0) → Type 0

@@ -14,10 +14,10 @@ ghost use Rattle.law_engine.specs.KeepLaws.{is_local_level_of, next_is_local_of}
 ghost use Rattle.dv_core.specs.Machines.{machine_of, IsInOrder, thread_at};
 ghost use Rattle.dv_core.specs.Watching.{AreWatchable, IsTopWatched};
 
-use crate::instructions::opcode_of;
 use crate::vm::Vm;
 use crate::waiting::end_at;
 use dv_defs::{End, Image, Seq};
+use dv_fetch::opcode_of;
 use dv_frames::{Head, Stack, base_of};
 use dv_local::{opcode_is_local, steps_top};
 use dv_words::Frame;

@@ -1,5 +1,5 @@
 // A step of a thread at an instruction.
-ghost use Rattle.std.specs.Prelude.{◌≡◌, ◌∷◌, ◌<◌, ◌^◌, ◌-◌, IfSome, Ok, Some, false, is_none, map, not, slice_get, true};
+ghost use Rattle.std.specs.Prelude.{◌≡◌, ◌∷◌, ◌<◌, ◌^◌, ◌-◌, Ok, Some, false, is_none, map, slice_get, true};
 ghost use Rattle.std.specs.declared.alloc.AllocError.{AllocError};
 ghost use Rattle.dv_defs.specs.Op as ops;
 ghost use Rattle.dv_defs.specs.Op.{named_registers};
@@ -32,22 +32,20 @@ ghost use Rattle.dv_threads.specs.Stepping.{is_of_threads};
 ghost use Rattle.dv_builtin.specs.Natives.{TextsFit};
 ghost use Rattle.dv_core.specs.Fitting.{StepFits};
 ghost use Rattle.dv_core.specs.Guests.{Leaves, Stays, AtEachOp, Does};
-ghost use Rattle.dv_core.specs.Quick.{IsQuick};
-ghost use Rattle.dv_core.specs.Standing.{IsFound, IsHere};
+ghost use Rattle.dv_fetch.specs.Standing.{IsFound, IsHere};
 ghost use Rattle.dv_core.specs.Trying.{AtEachTry, Tries, freely, is_free};
 
 use crate::guest::Guest;
-use crate::instructions::{Instruction, instruction_of, is_local, needs};
-use crate::quick::quick_of;
 use crate::records::begin;
-use crate::waiting::{is_held_by, is_owned};
+use crate::waiting::is_held_by;
 use dv_call::{Landed, enter, land, return_value, return_void};
 use dv_defs::{Ask, ClassId, Image, Limits, Named, Native, Next, Regs};
+use dv_fetch::{Instruction, instruction_of, is_local, needs};
 use dv_local::step_top;
 use dv_mem::operate;
 use dv_ops::{Method, Op};
 use dv_optable::Call;
-use dv_threads::{monitor_enter, monitor_exit};
+use dv_threads::{monitor_exit, try_monitor_enter};
 use std::alloc::AllocError;
 
 /// A step of a living thread whose top level is code: the class that its instruction needs is asked for first (JLS 12.4.1). None where the
@@ -65,9 +63,6 @@ pub fn step_code(
     ensures { AtEachTry image.now limits.now guest.old thread (λ m own h x. StepFits h x.op →
         Tries result (is_free m h x.op) (with_ready h x.op (ops.needs x.op)) limits.now guest.old guest.new own h) }
 {
-    if let Some(here) = quick_at(image, guest, thread) {
-        return free(touch(image, guest, thread, &here));
-    }
     let Some(here) = instruction_at(image, guest, thread) else {
         return Ok(Some(Next::On));
     };
@@ -93,17 +88,6 @@ fn step_locally(image: &Image, guest: &mut Guest, thread: u32) -> bool
         return false;
     }
     step_top(image, &mut guest.threads.stacks[place])
-}
-
-/// The instruction at which a thread's frame on top goes on, where it is one on an element or a field of an object.
-fn quick_at<'a>(image: &'a Image, guest: &Guest, thread: u32) -> Option<Instruction<'a>>
-    ensures { (l : Bounds) → AtEachOp image.now l guest.now thread (λ own h x. IfSome result (λ i. IsQuick i h x.op)) }
-{
-    let place = thread as usize;
-    if place >= guest.threads.stacks.len() {
-        return None;
-    }
-    quick_of(image, &guest.threads.stacks[place])
 }
 
 /// The instruction at which a thread's frame on top goes on.
@@ -183,10 +167,7 @@ fn enter_monitor(
         Tries result (is_none (blocked_enter h.shared.monitors h.thread (reg_word h.frame reg))) (on_object (threads.monitor_enter h) (reg_word h.frame reg)) l guest.old guest.new own h) }
 {
     let object = word(guest, thread, reg);
-    if is_owned(&guest.threads.monitors, thread, object) {
-        return Ok(None);
-    }
-    free(monitor_enter(&mut guest.threads, thread, next, object))
+    try_monitor_enter(&mut guest.threads, thread, next, object)
 }
 
 /// monitor-exit of the object in a register.
@@ -228,7 +209,7 @@ fn touch(
         &mut guest.heap,
         &mut guest.threads.stacks[place],
         here.next,
-        here.op,
+        &here.op,
     )
 }
 

@@ -1,7 +1,8 @@
 // What becomes of a step's answer.
 ghost use Rattle.std.specs.Prelude.{◌≡◌, ℕ, None, Ok, Option, ◌<◌, ◌-◌, ◌^◌, OnErr, OnOk, Some, length, nat_eq, slice_set};
 ghost use Rattle.dv_words.specs.State.{WordThread};
-ghost use Rattle.dv_core.specs.Guests.{IsAtOp, IsOrdered, IsSeen, Leaves, Stays, AtEachLevel, Does};
+ghost use Rattle.dv_fetch.specs.Standing.{IsAtOp};
+ghost use Rattle.dv_core.specs.Guests.{IsOrdered, IsSeen, Leaves, Stays, AtEachLevel, Does};
 ghost use Rattle.dv_core.specs.Settling.{behind_exit};
 ghost use Rattle.dv_defs.specs.declared.run.Ending.TheVariants as ending;
 ghost use Rattle.dv_defs.specs.declared.run.Limits.{Limits as Bounds};
@@ -23,9 +24,9 @@ ghost use Rattle.std.specs.declared.alloc.AllocError.{AllocError};
 ghost use Rattle.dv_core.specs.Machines.{counted, machine_of, machine_with, IsInOrder, thread_at};
 
 use crate::guest::Guest;
-use crate::instructions::instruction_of;
 use crate::vm::Vm;
 use dv_defs::{End, Ending, Image, Named, Next};
+use dv_fetch::instruction_of;
 use dv_frames::Stack;
 use dv_ops::Op;
 use dv_throw::make;

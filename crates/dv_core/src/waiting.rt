@@ -1,5 +1,5 @@
 // What holds threads up, and which are runnable (JLS 12.4.2, 17.1, 17.2).
-ghost use Rattle.std.specs.Prelude.{◌≡◌, ◌==◌, ◌<◌, ◌^◌, ℕ, Option as Maybe, None as Nothing, Some as Just, List, ◌∷◌, is_none, not, position, slice_get};
+ghost use Rattle.std.specs.Prelude.{◌≡◌, ◌==◌, ◌<◌, ℕ, Option as Maybe, Some as Just, List, ◌∷◌, is_none, not, position, slice_get};
 ghost use Rattle.dv_defs.specs.declared.run.Ending.{Ending};
 ghost use Rattle.dv_defs.specs.declared.run.Limits.{Limits};
 ghost use Rattle.dv_defs.specs.declared.run.Preallocated.{Preallocated};
@@ -33,11 +33,11 @@ ghost use Rattle.dv_core.specs.Opcodes.{may_hold_up};
 ghost use Rattle.dv_core.specs.Watching.{AreNumbered, AreWatchable, IsTopWatched, IsWatched, alive_in, blocked_landed as landed_blocked, AtEachCall, InEachMachine};
 
 use crate::guest::Guest;
-use crate::instructions::{instruction_of, needs, opcode_of};
 use crate::vm::Vm;
 use dv_call::{Landed, land};
 use dv_clinit::{ClassStates, prior_to};
 use dv_defs::{Ask, Blocked, ClassId, End, Flag, Image, Native, Regs};
+use dv_fetch::{instruction_of, needs, opcode_of};
 use dv_frames::{Stack, Top};
 use dv_monitor::Monitors;
 use dv_ops::{Method, Op};
@@ -86,13 +86,6 @@ fn blocked_enter(monitors: &Monitors, thread: u32, object: u32) -> Option<Blocke
         return None;
     }
     blocked_owner(monitors.owner(object), thread)
-}
-
-/// Whether another thread owns the monitor that a thread is to enter.
-pub fn is_owned(monitors: &Monitors, thread: u32, object: u32) -> bool
-    ensures { is_none (steps.blocked_enter monitors.now.monitors thread object) ≡ not result }
-{
-    blocked_enter(monitors, thread, object).is_some()
 }
 
 /// A monitor that another thread owns.

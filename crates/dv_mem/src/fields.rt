@@ -17,7 +17,7 @@ ghost use Rattle.dv_mem.specs.Tops.{Answers, seen, top_frame};
 
 use crate::narrowing::narrowed_words;
 use crate::registers::{go_on, word};
-use crate::words::{self, has_words, load, load_static, store, store_static};
+use crate::words::{self, has_words, load, load_static, store, store_static, takes_words};
 use dv_defs::{Base, Named, Next, Ty};
 use dv_frames::Stack;
 use dv_heap::Heap;
@@ -38,18 +38,35 @@ pub fn words_of(ty: &Ty) -> u32
     if is_long(ty) { 2 } else { 1 }
 }
 
-/// The object with the field.
+/// The object with the field, which can be read there.
 ///
 /// # Errors
 ///
 /// The exception that null throws (JLS 15.11.1).
-fn owner(heap: &Heap, object: u32, field: &Field<'_>) -> Result<u32, Named>
+fn read_owner(heap: &Heap, object: u32, field: &Field<'_>) -> Result<u32, Named>
+    ensures there { IfOk result (λ o. AreWithin heap.now o field.now.info.slot (types.words_of field.now.def.now.ty)) }
+    ensures found { (go : ℕ → Did WordLeft) → IsNullOrOwner (field_of field.now) heap.now object → on_object go object ≡ by_found go result }
+{
+    let def = field.def;
+    if has_words(heap, object, field.info.slot, words_of(&def.ty)) {
+        Ok(object)
+    } else {
+        Err(Named::NullPointer)
+    }
+}
+
+/// The object with the field, which can be written there: it is no string.
+///
+/// # Errors
+///
+/// The exception that null throws (JLS 15.11.1).
+fn written_owner(heap: &Heap, object: u32, field: &Field<'_>) -> Result<u32, Named>
     ensures there { IfOk result (λ o. AreWithin heap.now o field.now.info.slot (types.words_of field.now.def.now.ty)) }
     ensures no_string { IfOk result (λ o. kind_of heap.now o ≢ Some kind.Str) }
     ensures found { (go : ℕ → Did WordLeft) → IsNullOrOwner (field_of field.now) heap.now object → on_object go object ≡ by_found go result }
 {
     let def = field.def;
-    if has_words(heap, object, field.info.slot, words_of(&def.ty)) {
+    if takes_words(heap, object, field.info.slot, words_of(&def.ty)) {
         Ok(object)
     } else {
         Err(Named::NullPointer)
@@ -69,7 +86,7 @@ pub fn field_get(
         Answers result (word_mem (seen image stack.old heap.now next) (FieldGet s a b (field_of field.now))) stack.old heap.now stack.new heap.now }
 {
     let def = field.def;
-    match owner(heap, word(stack, b), field) {
+    match read_owner(heap, word(stack, b), field) {
         Err(named) => Next::Throw(named),
         Ok(object) => {
             let value = load(heap, object, field.info.slot, is_long(&def.ty));
@@ -92,7 +109,7 @@ pub fn field_put(
         Answers result (word_mem (seen image stack.old heap.old next) (FieldPut s a b (field_of field.now))) stack.old heap.old stack.new heap.new }
 {
     let def = field.def;
-    match owner(heap, word(stack, b), field) {
+    match written_owner(heap, word(stack, b), field) {
         Err(named) => Next::Throw(named),
         Ok(object) => {
             let value = words::register(stack, a, is_long(&def.ty));

@@ -11,7 +11,7 @@ ghost use Rattle.dv_mem.specs.Operands.{AreWithin};
 ghost use Rattle.dv_mem.specs.Tops.{seen, top_frame};
 
 use crate::registers::{give, word_at};
-use crate::words::has_words;
+use crate::words::takes_words;
 use dv_defs::{Next, Regs, Ty};
 use dv_frames::Stack;
 use dv_heap::{Heap, HeapError};
@@ -67,7 +67,7 @@ pub fn filled_new_array(
     let length = count(regs);
     match heap.alloc_array(ty, length) {
         Ok(array) => {
-            if has_words(heap, array, 0, length) {
+            if takes_words(heap, array, 0, length) {
                 fill(heap, stack, array, regs);
                 give(stack, next, array);
             }

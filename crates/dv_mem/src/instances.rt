@@ -2,6 +2,7 @@
 ghost use Rattle.std.specs.Prelude.{◌≡◌, ℕ, Bool, IsSome};
 ghost use Rattle.dv_defs.specs.declared.names.Ty.{Ty as Kept};
 ghost use Rattle.dv_defs.specs.Op.{Cast, InstanceOf};
+ghost use Rattle.dv_defs.specs.Parts.{Suffix as Ending};
 ghost use Rattle.dv_units.specs.Tables.{standard_suffix};
 ghost use Rattle.dv_words.specs.declared.state.Frame.{Frame};
 ghost use Rattle.dv_words.specs.Heaps.{kind_of};
@@ -32,17 +33,32 @@ fn is_instance(image: &Image, heap: &Heap, object: u32, ty: &Ty) -> bool
     is_of_type(image, heap, object, ty.dims, &ty.base)
 }
 
-/// Whether an array takes a word (JLS 10.5).
+/// Whether an array takes an object, or null (JLS 10.5).
+fn takes(image: &Image, heap: &Heap, array: u32, object: u32) -> bool
+    requires { IsSome (kind_of heap.now array) }
+    ensures { (good : Kept → Bool) (frame : Frame) (next : ℕ) → IsArray good heap.now array →
+        result ≡ steps.is_storable (here image.now frame heap.now next) array Ending.Object object }
+{
+    if object == 0 {
+        return true;
+    }
+    match heap.kind(array) {
+        Kind::Array(ty) => {
+            let dims = ty.dims.saturating_sub(1);
+            is_of_type(image, heap, object, dims, &ty.base)
+        }
+        _ => true,
+    }
+}
+
+/// Whether an array takes a word. Of an array of primitive values nothing is asked.
 pub fn is_storable(image: &Image, heap: &Heap, array: u32, suffix: Suffix, word: u32) -> bool
     requires { IsSome (kind_of heap.now array) }
     ensures { (good : Kept → Bool) (frame : Frame) (next : ℕ) → IsArray good heap.now array →
         result ≡ steps.is_storable (here image.now frame heap.now next) array (standard_suffix suffix) word }
 {
-    match (suffix, heap.kind(array)) {
-        (Suffix::Object, Kind::Array(ty)) => {
-            let dims = ty.dims.saturating_sub(1);
-            word == 0 || is_of_type(image, heap, word, dims, &ty.base)
-        }
+    match suffix {
+        Suffix::Object => takes(image, heap, array, word),
         _ => true,
     }
 }

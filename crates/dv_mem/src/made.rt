@@ -1,7 +1,7 @@
 // New objects, and strings and Class objects that stand once.
-ghost use Rattle.std.specs.Prelude.{◌≡◌, ℕ, Option, Bool};
+ghost use Rattle.std.specs.Prelude.{◌≡◌, ℕ, Option};
 ghost use Rattle.dv_defs.specs.Images.{Image as Linked};
-ghost use Rattle.dv_defs.specs.Op.{ConstClass, ConstString, Filled, New, NewArray, Throw, named_registers};
+ghost use Rattle.dv_defs.specs.Op.{ConstClass, ConstString, New, NewArray, Throw};
 ghost use Rattle.dv_machine.specs.State.{where_room};
 ghost use Rattle.dv_words.specs.Heaps.{Got};
 ghost use Rattle.dv_words.specs.State.{WordHeap};

@@ -117,15 +117,13 @@ pub fn operate(
     heap: &mut Heap,
     stack: &mut Stack,
     next: u32,
-    op: Op<'_>,
+    op: &Op<'_>,
 ) -> Result<Next, AllocError>
-    ensures does { (code : Code) (at : ℕ) → code.tiles ≡ tiles_in (tiling units.now) → is_mem (meant code at op.entry) ≡ true → AreOperands (seen image.now stack.old heap.old next) (meant code at op.entry) →
-        Answered result (word_mem (seen image.now stack.old heap.old next) (meant code at op.entry)) stack.old heap.old stack.new heap.new }
-    ensures stack_stays { (code : Code) (at : ℕ) → is_mem (meant code at op.entry) ≡ false → stack.new ≡ stack.old }
-    ensures heap_stays { (code : Code) (at : ℕ) → is_mem (meant code at op.entry) ≡ false → heap.new ≡ heap.old }
+    ensures does { (code : Code) (at : ℕ) → code.tiles ≡ tiles_in (tiling units.now) → is_mem (meant code at op.now) ≡ true → AreOperands (seen image.now stack.old heap.old next) (meant code at op.now) →
+        Answered result (word_mem (seen image.now stack.old heap.old next) (meant code at op.now)) stack.old heap.old stack.new heap.new }
+    ensures stack_stays { (code : Code) (at : ℕ) → is_mem (meant code at op.now) ≡ false → stack.new ≡ stack.old }
+    ensures heap_stays { (code : Code) (at : ℕ) → is_mem (meant code at op.now) ≡ false → heap.new ≡ heap.old }
 {
-    // Behind a reference: of an operation by value the check takes twice as long.
-    let op = &op;
     match *op {
         Op::IntDivide(o, a, b, c) => Ok(divide_ints(stack, next, o, a, b, c)),
         Op::LongDivide(o, a, b, c) => Ok(divide_longs(stack, next, o, a, b, c)),
@@ -176,5 +174,5 @@ pub fn mem_step(
     if !may_be(insn.op, &op) {
         return Ok(Next::On);
     }
-    operate(image, units, heap, stack, head.at + size_of(insn.op), op)
+    operate(image, units, heap, stack, head.at + size_of(insn.op), &op)
 }

@@ -52,17 +52,26 @@ pub fn is_string(heap: &Heap, object: u32) -> bool
     matches!(heap.kind(object), Kind::Str)
 }
 
-/// Whether an object is no string and has so many words from a place on.
+/// Whether an object has so many words from a place on.
 pub fn has_words(heap: &Heap, object: u32, slot: u32, count: u32) -> bool
+    ensures there { IsTrue result → AreWithin heap.now object slot count }
+    ensures exists { IsTrue result → IsSome (kind_of heap.now object) }
+    ensures lacking { result ≡ false → 0 < object → IsSome (kind_of heap.now object) → length (words_of_object heap.now object) < slot + count }
+{
+    if object == 0 || !heap.exists(object) {
+        return false;
+    }
+    u64::from(slot) + u64::from(count) <= u64::from(heap.size(object))
+}
+
+/// Whether an object is no string and has so many words from a place on, so that they can be written.
+pub fn takes_words(heap: &Heap, object: u32, slot: u32, count: u32) -> bool
     ensures there { IsTrue result → AreWithin heap.now object slot count }
     ensures no_string { IsTrue result → kind_of heap.now object ≢ Some kind.Str }
     ensures lacking { result ≡ false → 0 < object → IsSome (kind_of heap.now object) → kind_of heap.now object ≢ Some kind.Str →
         length (words_of_object heap.now object) < slot + count }
 {
-    if object == 0 || !heap.exists(object) || is_string(heap, object) {
-        return false;
-    }
-    u64::from(slot) + u64::from(count) <= u64::from(heap.size(object))
+    has_words(heap, object, slot, count) && !is_string(heap, object)
 }
 
 /// A value of an object.

@@ -1,7 +1,7 @@
 use Rattle.std.proofs.Common.{sym}
 use Rattle.dv_ops.specs.Meaning.{code_of}
 use Rattle.law_words.proofs.Fetching.{read_here}
-use Rattle.dv_call.proofs.Resumed.{no_code}
+use Rattle.dv_fetch.proofs.Bodiless.{no_code}
 use Rattle.dv_call.proofs.returns.next_of.Goals as goal
 
 pub returns-in_err-code : goal.returns-in_err-code

@@ -1,8 +1,7 @@
-use Rattle.std.proofs.Common.{◌∙◌, ℕ, Bool, Option, Result, Some, None, Ok, option_map, sym, ap, subst}
-use Rattle.std.specs.Prelude.{IfSome, is_none}
+use Rattle.std.proofs.Common.{◌∙◌, ℕ, Bool, Option, Some, None, Ok, option_map, sym, ap, subst}
+use Rattle.std.specs.Prelude.{is_none}
 use Rattle.std.specs.declared.alloc.AllocError.{AllocError}
 use Rattle.dv_defs.specs.declared.names.ClassId.{ClassId}
-use Rattle.dv_defs.specs.declared.run.Next.{Next}
 use Rattle.dv_defs.specs.declared.run.Next.TheVariants as next
 use Rattle.dv_defs.specs.Op.{is_local, needs}
 use Rattle.dv_machine.specs.Classes.{ask_of}
@@ -11,41 +10,24 @@ use Rattle.dv_machine.specs.State.{Did}
 use Rattle.dv_words.specs.Running.{blocked_needing, blocked_op}
 use Rattle.dv_words.specs.State.{WordShared}
 use Rattle.dv_words.specs.Step.{with_ready}
-use Rattle.dv_words.specs.Steps.{Left, local_left, mem_left}
-use Rattle.dv_core.specs.declared.instructions.Instruction.{Instruction}
+use Rattle.dv_words.specs.Steps.{Left, local_left}
+use Rattle.dv_fetch.specs.declared.instruction.Instruction.{Instruction}
 use Rattle.dv_core.specs.Machines.{machine_with}
-use Rattle.dv_core.specs.Quick.{IsQuick}
-use Rattle.dv_core.specs.Standing.{IsFound}
-use Rattle.dv_core.specs.Trying.{Tries}
-use Rattle.dv_core.proofs.Acts.{led_by, local_acts, mem_acts}
-use Rattle.dv_core.proofs.Trying.{local_free, mem_free, tries_by, tries_free}
+use Rattle.dv_fetch.specs.Standing.{IsFound}
+use Rattle.dv_core.proofs.Acts.{led_by, local_acts}
+use Rattle.dv_core.proofs.Trying.{local_free, tries_by}
 use Rattle.dv_core.proofs.code.step_code.Goals as goal
 
-pub returns-in_default-instruction_at : goal.returns-in_default-instruction_at
-returns-in_default-instruction_at c s e p are own h x seen at fits =
+pub returns-in_default : goal.returns-in_default
+returns-in_default c s e p are own h x seen at fits =
     let P : Option Instruction → Type 0 = λ o. IsFound o h x.op in
-    absurd (subst P c.in_default-instruction_at.is (c.instruction_at.ensures c.args.limits.now own h x seen at))
-
-pub returns-in-Some : goal.returns-in-Some
-returns-in-Some c s e p are own h x seen at fits =
-    let l = c.args.limits.now in
-    let old = c.args.guest.now in
-    let P : Option Instruction → Type 0 = λ o. IfSome o (λ i. IsQuick i h x.op) in
-    let quick = subst P c.in-Some.is (c.quick_at.ensures l own h x seen at) in
-    let m = machine_with old s e l p in
-    let before : Option ℕ → Did Left = with_ready h x.op in
-    let held : Option ℕ → Bool = λ k. is_none (blocked_needing h.image m h.thread h.own h.frame x.op k) in
-    let free = ap held quick.access.ready ∙ ap is_none (mem_free h.image m h.thread h.own h.frame x.op quick.access.mem) in
-    let does = led_by c.touch.result (before (needs x.op)) (mem_left h x.op) _ _ (ap before quick.access.ready ∙ mem_acts h x.op quick.access.mem)
-    (c.touch.ensures l own h x seen at quick.here quick.access.mem fits.operands) in
-    subst (λ (r : Result (Option Next) AllocError). Tries r (held (needs x.op)) (before (needs x.op)) l old c.touch.new.guest own h) (sym c.free.ensures)
-    (tries_free c.touch.result (held (needs x.op)) (before (needs x.op)) l old c.touch.new.guest own h free does)
+    absurd (subst P c.in_default.is (c.instruction_at.ensures c.args.limits.now own h x seen at))
 
 pub returns-then-is_local : goal.returns-then-is_local
 returns-then-is_local c s e p are own h x seen at fits =
     let l = c.args.limits.now in
     let P : Option Instruction → Type 0 = λ o. IsFound o h x.op in
-    let here = subst P c.in-Some-instruction_at.is (c.instruction_at.ensures l own h x seen at) in
+    let here = subst P c.in-Some.is (c.instruction_at.ensures l own h x seen at) in
     let local = sym (ap is_local here.means) ∙ (sym (c.is_local.ensures here.code here.at) ∙ c.if-is_local.true) in
     let done = sym (c.step_locally-done.ensures.local l own h x seen at) ∙ local in (
       local_free (machine_with c.args.guest.now s e l p) h x.op local,
@@ -58,7 +40,7 @@ returns-in-None c s e p are own h x seen at fits =
     let l = c.args.limits.now in
     let old = c.args.guest.now in
     let P : Option Instruction → Type 0 = λ o. IsFound o h x.op in
-    let here = subst P c.in-Some-instruction_at.is (c.instruction_at.ensures l own h x seen at) in
+    let here = subst P c.in-Some.is (c.instruction_at.ensures l own h x seen at) in
     let local = sym (ap is_local here.means) ∙ (sym (c.is_local.ensures here.code here.at) ∙ c.if-is_local.false) in
     let number : Option ClassId → Option ℕ = λ o. option_map (λ (k : ClassId). k.0) o in
     let needed = ap needs (sym here.means) ∙ (sym (c.needs.ensures here.code here.at) ∙ ap number c.in-None.is) in
@@ -72,7 +54,7 @@ returns-in-Some-needs c s e p are own h x seen at fits =
     let l = c.args.limits.now in
     let old = c.args.guest.now in
     let P : Option Instruction → Type 0 = λ o. IsFound o h x.op in
-    let here = subst P c.in-Some-instruction_at.is (c.instruction_at.ensures l own h x seen at) in
+    let here = subst P c.in-Some.is (c.instruction_at.ensures l own h x seen at) in
     let local = sym (ap is_local here.means) ∙ (sym (c.is_local.ensures here.code here.at) ∙ c.if-is_local.false) in
     let number : Option ClassId → Option ℕ = λ o. option_map (λ (k : ClassId). k.0) o in
     let needed = ap needs (sym here.means) ∙ (sym (c.needs.ensures here.code here.at) ∙ ap number c.in-Some-needs.is) in

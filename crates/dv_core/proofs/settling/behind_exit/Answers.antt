@@ -1,6 +1,6 @@
 use Rattle.std.proofs.Common.{◌∙◌, ap, subst}
 use Rattle.dv_typing.specs.Flow.{is_exit}
-use Rattle.dv_core.specs.Standing.{IsFound}
+use Rattle.dv_fetch.specs.Standing.{IsFound}
 use Rattle.dv_core.proofs.Behind.{behind_no, behind_yes}
 use Rattle.dv_core.proofs.settling.behind_exit.Goals as goal
 

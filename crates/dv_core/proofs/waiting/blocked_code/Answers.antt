@@ -5,7 +5,7 @@ use Rattle.dv_words.specs.Running.{blocked_at, blocked_needing}
 use Rattle.law_words.specs.StepLaws.{CallFits}
 use Rattle.dv_call.specs.Landings.{IsSeenByCalls}
 use Rattle.dv_core.specs.Machines.{machine_with}
-use Rattle.dv_core.specs.Opcodes.{opcode_at}
+use Rattle.dv_fetch.specs.Opcodes.{opcode_at}
 use Rattle.dv_core.proofs.Opcodes.{holds_up_none, some_opcode}
 use Rattle.dv_core.proofs.Waits.{at_here, has_code, here, stack_here, thread_here}
 use Rattle.dv_core.proofs.waiting.blocked_code.Goals as goal

@@ -6,7 +6,7 @@ use Rattle.dv_machine.specs.Step.{no_method}
 use Rattle.dv_words.specs.declared.state.Level.{Level}
 use Rattle.dv_words.specs.Running.{blocked_at, blocked_levels}
 use Rattle.dv_words.specs.Step.{here, no_frame}
-use Rattle.dv_core.specs.Guests.{IsAtOp}
+use Rattle.dv_fetch.specs.Standing.{IsAtOp}
 use Rattle.dv_core.specs.Machines.{machine_of}
 use Rattle.dv_core.specs.Trying.{is_free}
 use Rattle.dv_core.specs.Watching.{AreNumbered}

@@ -1,0 +1,3 @@
+pub mod Bodiless
+pub mod Formats
+pub mod Found

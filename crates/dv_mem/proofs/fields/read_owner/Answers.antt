@@ -1,0 +1,13 @@
+use Rattle.std.proofs.Common.{◌∙◌, ◌+◌, ◌<◌, ℕ, length, ap, subst}
+use Rattle.dv_defs.specs.Types.{words_of}
+use Rattle.dv_ops.specs.Meaning.{field_of}
+use Rattle.dv_words.specs.Heaps.{words_of_object}
+use Rattle.dv_mem.proofs.Owners.{lacking_is_null}
+use Rattle.dv_mem.proofs.fields.read_owner.Goals as goal
+
+pub returns-else-has_words-clause-found : goal.returns-else-has_words-clause-found
+returns-else-has_words-clause-found c go is =
+    let count = c.words_of.ensures.words ∙ ap (λ d. words_of d.ty) c.def.view_is in
+    let P : ℕ → Type 0 = λ n. length (words_of_object c.args.heap.now c.args.object) < c.args.field.now.info.slot + n in
+    lacking_is_null (field_of c.args.field.now) c.args.heap.now c.args.object go is
+    (λ some exists no_string. subst P count (c.has_words.ensures.lacking c.if-has_words.false some exists))
