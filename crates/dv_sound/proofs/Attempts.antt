@@ -1,8 +1,7 @@
 -- A turn that is tried.
-use Rattle.std.proofs.Common.{◌≡◌, ◌≤◌, ◌<◌, ◌+◌, ℕ, zero, suc, true, None, Ok, Err, List, length, refl, sym, ap, ◌∙◌, subst, arith}
+use Rattle.std.proofs.Common.{◌≡◌, ◌≤◌, ◌<◌, ◌+◌, ℕ, zero, suc, true, None, Ok, Err, List, refl, sym, ap, ◌∙◌, subst, arith}
 use Rattle.std.specs.Prelude.{is_none, nat_lt}
 use Rattle.std.proofs.lemmas.Bool.{and_parts}
-use Rattle.dv_defs.specs.declared.names.MethodId.{MethodId}
 use Rattle.dv_defs.specs.declared.run.Entry.{Entry}
 use Rattle.dv_defs.specs.declared.run.Limits.{Limits}
 use Rattle.dv_defs.specs.Images.{Image}
@@ -12,16 +11,16 @@ use Rattle.dv_machine.specs.State.{Machine, Reads, on_next}
 use Rattle.dv_machine.specs.Step.{step}
 use Rattle.dv_machine.specs.WellTyped.{Typings}
 use Rattle.dv_words.specs.Running as words
-use Rattle.law_engine.proofs.Replays.{replay_appends}
 use Rattle.law_engine.proofs.Turns.{turns_replay}
 use Rattle.dv_core.specs.declared.vm.Vm.{Vm}
 use Rattle.dv_core.specs.Machines.{machine_of}
 use Rattle.dv_sound.specs.Lending.{IsDone, logged_some}
 use Rattle.dv_sound.specs.Moves.{IsGood, IsKeptAt, IsLast, IsRun, KeepsOthers, StandsFor, goes_on, may_step}
-use Rattle.dv_sound.specs.Runs.{IsAt, IsKept, Run}
-use Rattle.dv_sound.specs.Trying.{IsLedBy, IsTried}
+use Rattle.dv_sound.specs.Runs.{IsAt, IsKept, Run, logged}
+use Rattle.dv_sound.specs.Trying.{IsLedBy}
 use Rattle.dv_sound.proofs.Going.{may_is, may_parts, none_of}
 use Rattle.dv_sound.proofs.Keeping.{machine_is, main_is, run_with}
+use Rattle.dv_sound.proofs.Lent.{brought}
 use Rattle.dv_sound.proofs.Others.{keeps_same, keeps_then}
 use Rattle.dv_sound.proofs.Played.{no_steps}
 use Rattle.dv_sound.proofs.Turning.{by_ending, by_may, mixed_turn}
@@ -45,6 +44,10 @@ module _ (image : Image) (T : Typings) (m : Machine) (good : IsGood image T) (ol
 
   unstopped : goes_on old ≡ true → m.stop ≡ None
   unstopped goes = sym at.simulated.stands.stop ∙ none_of old.stop (and_parts (is_none old.stop) (nat_lt old.steps old.limits.budget) goes).0
+
+  -- no step
+  pub done_none : IsDone image T m t 0 old old
+  done_none = record { after = m; steps = λ k. refl; stands = at; limits = refl; others = keeps_same t old old refl }
 
   -- local steps alone
   pub done_locally : (most done : ℕ) (new : Vm) → IsRun image T m t most done new → KeepsOthers t old new → IsDone image T m t done old new
@@ -92,21 +95,12 @@ module _ (image : Image) (T : Typings) (m : Machine) (good : IsGood image T) (ol
 
 -- ---- from where a log led
 
-module _ (image : Image) (main : MethodId) (v : Vm) (log : List Entry) (lent : List ℕ) (k : IsKept image main v log lent) (t : ℕ) where
-  pub tried_none : IsTried image k.typings k.machine t 0 v v
-  tried_none = record { after = k.machine; steps = λ j. refl; stands = k.stands; limits = refl }
+-- some steps are logged
+pub logged_all : (log : List Entry) (worker t n : ℕ) → 1 ≤ n → logged_some log worker t n ≡ logged log worker t n
+logged_all log worker t zero some = absurd (omega (arith, some))
+logged_all log worker t (suc n) some = refl
 
-  pub tried_some : (n : ℕ) (new : Vm) → IsDone image k.typings k.machine t n v new → IsTried image k.typings k.machine t n v new
-  tried_some n new d = record { after = d.after; steps = d.steps; stands = d.stands; limits = d.limits }
-
-module _ (r : Run) (v new : Vm) (k : IsKept r.verified.image r.main v r.log r.lent) (same : machine_of v ≡ r.machine) (worker t n : ℕ) (d : IsTried r.verified.image k.typings k.machine t n v new) (after : List Entry) (logs : after ≡ logged_some r.log worker t n) where
-  brought : replay r.verified.image k.has_main.method v.limits after ≡ Stands d.after
-  brought = ap (replay r.verified.image k.has_main.method v.limits) logs ∙ by n (d.steps (length r.log))
-    where
-      by : (j : ℕ) → steps_of r.verified.image (length r.log) t j k.machine ≡ Stands d.after → replay r.verified.image k.has_main.method v.limits (logged_some r.log worker t j) ≡ Stands d.after
-      by zero led = k.replayed ∙ led
-      by (suc j) led = replay_appends r.verified.image k.has_main.method v.limits r.log (record { worker = worker; thread = t; steps = suc j }) k.machine d.after k.replayed led
-
+module _ (r : Run) (v new : Vm) (k : IsKept r.verified.image r.main v r.log r.lent) (same : machine_of v ≡ r.machine) (worker t n : ℕ) (d : IsDone r.verified.image k.typings k.machine t n v new) (after : List Entry) (logs : after ≡ logged_some r.log worker t n) where
   pub run_led : (main : Method) (m : Machine) → IsAt r main m → IsLedBy r (run_with r new after) main m t n
   run_led main m at =
       let machine : k.machine ≡ m = machine_is r v k same main m at in
@@ -116,6 +110,6 @@ module _ (r : Run) (v new : Vm) (k : IsKept r.verified.image r.main v r.log r.le
         steps = λ j. subst (λ (x : Machine). steps_of r.verified.image j t n x ≡ Stands d.after) machine (d.steps j);
         at = record {
           main_is = at.main_is;
-          replayed = ap (λ (l : Limits). replay r.verified.image main l after) d.limits ∙ subst (λ (x : Method). replay r.verified.image x v.limits after ≡ Stands d.after) method brought;
+          replayed = ap (λ (l : Limits). replay r.verified.image main l after) d.limits ∙ subst (λ (x : Method). replay r.verified.image x v.limits after ≡ Stands d.after) method (brought r.verified.image r.main v r.log r.lent k worker t n new d after logs);
         };
       }

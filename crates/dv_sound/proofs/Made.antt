@@ -1,5 +1,5 @@
 -- Slices as workers make them: what `commit` asks of a slice holds of the first one, and more local steps keep it.
-use Rattle.std.proofs.Common.{◌≡◌, ◌<◌, ◌≤◌, ◌+◌, ◌-◌, ℕ, suc, Option, Some, sym, ap, subst, ◌∙◌, arith}
+use Rattle.std.proofs.Common.{◌≡◌, ◌+◌, ◌-◌, ℕ, suc, Option, Some, sym, ap, subst, ◌∙◌, arith}
 use Rattle.std.proofs.lemmas.Option.{same_Some}
 use Rattle.dv_defs.specs.Images.{Image}
 use Rattle.dv_defs.specs.Op.{is_local}

@@ -9,10 +9,10 @@ use Rattle.dv_local.specs.declared.slice.Slice.{Slice}
 use Rattle.dv_machine.specs.Replaying.{Replayed, Stands, NotRunnable, PastEnd, Wrong, replay}
 use Rattle.dv_machine.specs.State.{Machine}
 use Rattle.dv_sound.specs.Lending.{IsCommitted, IsFitting, logged_some}
-use Rattle.dv_sound.specs.Runs.{AtItsState, IsAt, IsAtSome, IsTurned, Run}
+use Rattle.dv_sound.specs.Runs.{AtItsState, IsAt, IsAtSome, Run}
 use Rattle.dv_sound.specs.Trying.{IsLedBy}
 use Rattle.law_output.specs.Laws.{PrintsOn}
-use Rattle.law_output.proofs.Steps.{entries_print, turns_print}
+use Rattle.law_output.proofs.Steps.{entries_print}
 use Rattle.dv_workers.specs.Desks.{IsLonger, IsLongerBy, printed}
 use Rattle.dv_workers.proofs.Lent.{without_fewer}
 
@@ -38,19 +38,6 @@ silent r s tells none =
 prints : (old new : Run) (main : Method) (m n : Machine) → Tells old → Tells new → IsAt old main m → IsAt new main n → PrintsOn m.shared.output n.shared.output → PrintsOn (printed old) (printed new)
 prints old new main m n before after here there on =
     (on.0, after main n there ∙ on.1 ∙ ap (λ o. o ++ on.0) (sym (before main m here)))
-
-pub turn_prints : (old new : Run) (worker t n : ℕ) → IsAtSome old → Tells old → Tells new → AtItsState old (λ main m. IsTurned old new main m worker t 256 n) → PrintsOn (printed old) (printed new)
-turn_prints old new worker t n s before after turned =
-    let is = turned s.main s.machine s.at in
-    prints old new s.main s.machine is.after before after s.at is.at (turns_print old.verified.image s.machine t 256 (record { count = n; machine = is.after }) is.turned)
-
-pub turn_logs : (old new : Run) (worker t n : ℕ) → worker < 8 → 1 ≤ n → n ≤ 256 → IsAtSome old → AtItsState old (λ main m. IsTurned old new main m worker t 256 n) → IsLonger old.log new.log
-turn_logs old new worker t n low some few s turned =
-    record {
-      entry = record { worker = worker; thread = t; steps = n };
-      of = record { worker = low; some = some; few = few };
-      longer = (turned s.main s.machine s.at).logs;
-    }
 
 pub slice_prints : (old new : Run) (worker n : ℕ) (slice : Slice) → IsAtSome old → Tells old → Tells new → IsFitting old slice → ((main : Method) (m : Machine) → IsAt old main m → IsFitting old slice → IsCommitted old new main m worker slice n) → PrintsOn (printed old) (printed new)
 slice_prints old new worker n slice s before after fits committed =

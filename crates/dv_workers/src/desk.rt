@@ -1,5 +1,5 @@
 // What lies in the place that the workers share: the machine, the sink with what it took, and the book of the turns.
-ghost use Rattle.std.specs.Prelude.{◌≡◌, ◌<◌, ◌≤◌, ◌+◌, ◌^◌, ◌⊎◌, [], All, IfSome, MatchOption, true, false, length, min};
+ghost use Rattle.std.specs.Prelude.{◌≡◌, ◌≢◌, ◌<◌, ◌≤◌, ◌+◌, ◌^◌, ◌⊎◌, ◌||◌, [], All, IfSome, MatchOption, true, false, length, min};
 ghost use Rattle.dv_io.specs.Io.{HasRisen};
 ghost use Rattle.dv_workers.specs.Chores.{IsChore, IsSlice, ran};
 ghost use Rattle.dv_workers.specs.Desks.{FewWait, GoesOn, IsDone, IsOver, IsWritten, MayGo, NoneIsNext, printed};
@@ -9,10 +9,10 @@ ghost use Rattle.dv_workers.specs.Seats.{names_of};
 use crate::began::Began;
 use crate::chore::Chore;
 use crate::pouring::{pour_all, pour_some, printed};
-use crate::turning::{bring, lend, take_turn, try_turn};
+use crate::turning::{bring, lend, try_turn};
 use dv_io::{Gate, Sink};
 use dv_local::Slice;
-use dv_sound::SafeVm;
+use dv_sound::{SafeVm, Tried};
 use std::sync::Wait;
 use std::sync::atomic::{AtomicU64, Ordering};
 use std::sync::ledger::{Book, Share};
@@ -216,15 +216,36 @@ impl<'v, K: Sink, L: Began> Desk<'v, K, L> {
         }
     }
 
-    /// A turn: local steps, and then one other.
+    /// A turn: local steps, and then one other. Where memory is wanting the workers are to stop, and steps that were done before stand.
     fn turn(&mut self, share: &mut Share<L>, worker: u32, thread: u32) -> Chore
         requires worker { (worker < 8) × (0 < share.old.parts) }
         requires may { MayGo self.old.vm thread }
         ensures names { names_of self.new.vm ≡ names_of self.old.vm }
         ensures home { self.new.vm.lent ≡ self.old.vm.lent }
         ensures chore { IsChore self.old.vm.verified.image result }
+        ensures stop { result ≡ Chore.Stop → self.new.memory ≡ true }
         ensures parts { share.new.parts ≡ share.old.parts }
         ensures amount { share.new.amount ≡ share.old.amount + ran result }
+    {
+        let _log = self.vm.log();
+        let tried = self.try_turn(share, worker, thread);
+        if tried.steps > 0 {
+            Chore::Ran
+        } else {
+            Chore::Stop
+        }
+    }
+
+    /// A turn of a thread at home that is tried. Where it has steps it is counted; where memory was wanting the desk tells it.
+    fn try_turn(&mut self, share: &mut Share<L>, worker: u32, thread: u32) -> Tried
+        requires worker { (worker < 8) × (0 < share.old.parts) }
+        requires home { All (λ t. t ≢ thread) self.old.vm.lent }
+        ensures names { names_of self.new.vm ≡ names_of self.old.vm }
+        ensures home { self.new.vm.lent ≡ self.old.vm.lent }
+        ensures some { MayGo self.old.vm thread → result.wants ≡ false → 1 ≤ result.steps }
+        ensures memory { self.new.memory ≡ (self.old.memory || result.wants) }
+        ensures parts { share.new.parts ≡ share.old.parts }
+        ensures amount { share.new.amount ≡ share.old.amount + min 1 result.steps }
     {
         let Desk {
             vm,
@@ -235,17 +256,11 @@ impl<'v, K: Sink, L: Began> Desk<'v, K, L> {
             book,
             ..
         } = self;
-        match take_turn(vm, worker, thread) {
-            Ok(()) => {
-                book.add(share, 1);
-                pour_some(sink, vm, written, fault);
-                Chore::Ran
-            }
-            Err(_) => {
-                *memory = true;
-                Chore::Stop
-            }
-        }
+        let tried = try_turn(vm, worker, thread);
+        book.add(share, u64::from(tried.steps.min(1)));
+        pour_some(sink, vm, written, fault);
+        *memory |= tried.wants;
+        tried
     }
 
     /// What a worker does with the machine when it has it: it brings its slice, if it has one, and goes on. Gives how many entries were logged.
@@ -335,42 +350,17 @@ impl<'v, K: Sink, L: Began> Desk<'v, K, L> {
     {
         let most = turns_at_once(thread);
         for turns in 0..most {
-            let steps = self.try_turn(share, thread);
+            let steps = self.try_turn(share, 0, thread).steps;
             if steps > 1 {
                 gate.arrive(0, thread);
             }
-            if steps == 0 || self.fault {
+            if steps == 0 || self.memory || self.fault {
                 self.audit(share);
                 return u64::from(turns + steps.min(1));
             }
         }
         self.audit(share);
         u64::from(most)
-    }
-
-    /// A turn of a thread by an only worker, where it can go on. Gives how many steps it has.
-    fn try_turn(&mut self, share: &mut Share<L>, thread: u32) -> u32
-        requires share { 0 < share.old.parts }
-        requires home { self.old.vm.lent ≡ [] }
-        ensures names { names_of self.new.vm ≡ names_of self.old.vm }
-        ensures home { self.new.vm.lent ≡ self.old.vm.lent }
-        ensures parts { share.new.parts ≡ share.old.parts }
-        ensures amount { share.new.amount ≡ share.old.amount + min 1 result }
-    {
-        let Desk {
-            vm,
-            sink,
-            written,
-            fault,
-            memory,
-            book,
-            ..
-        } = self;
-        let tried = try_turn(vm, 0, thread);
-        book.add(share, u64::from(tried.steps.min(1)));
-        pour_some(sink, vm, written, fault);
-        *memory |= tried.wants;
-        tried.steps
     }
 
     /// Takes a slice back; gives how many entries were logged.

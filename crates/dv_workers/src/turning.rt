@@ -1,10 +1,10 @@
 // Turns and slices of a machine: what they log, and that what was printed stays printed.
-ghost use Rattle.std.specs.Prelude.{◌≡◌, ◌≢◌, ◌<◌, ◌≤◌, ◌+◌, All, IfOk, MatchOption, OnOk, OnErr, length, min};
+ghost use Rattle.std.specs.Prelude.{◌≡◌, ◌≢◌, ◌<◌, ◌≤◌, ◌+◌, All, IfOk, MatchOption, OnOk, OnErr, false, length, min};
 ghost use Rattle.dv_sound.specs.Lending.{IsFitting, IsSameProgram};
 ghost use Rattle.dv_sound.specs.Runs.{IsSameRun};
 ghost use Rattle.law_output.specs.Laws.{PrintsOn};
 ghost use Rattle.dv_workers.specs.Chores.{IsSlice};
-ghost use Rattle.dv_workers.specs.Desks.{IsLonger, IsLongerBy, MayGo, printed};
+ghost use Rattle.dv_workers.specs.Desks.{IsLongerBy, MayGo, printed};
 ghost use Rattle.dv_workers.specs.Seats.{names_of};
 
 use crate::pouring::printed;
@@ -12,35 +12,14 @@ use dv_local::Slice;
 use dv_sound::{Refused, SafeVm, Tried};
 use std::alloc::AllocError;
 
-/// The most steps of a turn.
-const MOST: u32 = 256;
-
-/// A turn of a thread: local steps, and then one other.
-///
-/// # Errors
-///
-/// Want of memory; all is as before then.
-pub fn take_turn(vm: &mut SafeVm, worker: u32, thread: u32) -> Result<(), AllocError>
-    requires worker { worker < 8 }
-    requires may { MayGo vm.old thread }
-    ensures same { IsSameRun vm.old vm.new }
-    ensures logs { OnOk result (IsLonger vm.old.log vm.new.log) }
-    ensures prints { PrintsOn (printed vm.old) (printed vm.new) }
-    ensures refused { OnErr result (vm.new ≡ vm.old) }
-{
-    let _log = vm.log();
-    let _before = printed(vm);
-    let _done = vm.take_turn(worker, thread, MOST)?;
-    let _after = printed(vm);
-    Ok(())
-}
-
-/// A turn of a thread at home that is tried: local steps, and then one other, where it may do them. One entry is logged where it has steps.
+/// A turn of a thread at home that is tried: local steps, and then one other, where it may do them. One entry is logged where it has steps. It has some where
+/// the thread may go, unless memory is wanting.
 pub fn try_turn(vm: &mut SafeVm, worker: u32, thread: u32) -> Tried
     requires worker { worker < 8 }
     requires home { All (λ t. t ≢ thread) vm.old.lent }
     ensures same { IsSameRun vm.old vm.new }
     ensures logs { IsLongerBy (min 1 result.steps) vm.old.log vm.new.log }
+    ensures some { MayGo vm.old thread → result.wants ≡ false → 1 ≤ result.steps }
     ensures prints { PrintsOn (printed vm.old) (printed vm.new) }
 {
     let _log = vm.log();

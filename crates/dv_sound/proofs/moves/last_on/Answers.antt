@@ -1,4 +1,4 @@
-use Rattle.std.proofs.Common.{◌∙◌, ap, refl, sym, subst, Ok, Result}
+use Rattle.std.proofs.Common.{◌∙◌, ap, refl, sym, subst, Ok}
 use Rattle.std.specs.Prelude.{◌&&◌}
 use Rattle.std.specs.declared.alloc.AllocError.{AllocError}
 use Rattle.dv_words.specs.Running as words
@@ -6,7 +6,6 @@ use Rattle.dv_core.specs.declared.vm.Step.{Step}
 use Rattle.dv_core.specs.Machines.{machine_of}
 use Rattle.dv_sound.specs.Moves.{Steps}
 use Rattle.dv_sound.proofs.Going.{may_is}
-use Rattle.dv_sound.proofs.Others.{keeps_same}
 use Rattle.dv_sound.proofs.Turning.{err_last, last_none, last_some}
 use Rattle.dv_sound.proofs.moves.last_on.Goals as goal
 

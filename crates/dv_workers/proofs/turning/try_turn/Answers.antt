@@ -11,3 +11,8 @@ returns-clause-prints c =
     let before : Tells c.args.vm.now = λ main m at. sym c.printed-before.ensures.output ∙ c.printed-before.ensures.tagged main m at in
     let after : Tells c.try_turn-tried.new.self = λ main m at. sym c.printed-after.ensures.output ∙ c.printed-after.ensures.tagged main m at in
     tried_prints c.args.vm.now c.try_turn-tried.new.self c.args.thread c.try_turn-tried.result.steps c.log-log.ensures.leads before after c.try_turn-tried.ensures.led
+
+pub returns-clause-some : goal.returns-clause-some
+returns-clause-some c may none =
+    let s = c.log-log.ensures.leads in
+    c.try_turn-tried.ensures.some s.main s.machine s.at (may s.main s.machine s.at) none

@@ -1,16 +1,13 @@
 use Rattle.std.proofs.Common.{◌≡◌, ◌≢◌, ◌≤◌, ◌∙◌, ℕ, List, All, false, true, ap, refl, sym, subst}
 use Rattle.dv_defs.specs.declared.names.MethodId.{MethodId}
-use Rattle.dv_defs.specs.declared.run.Entry.{Entry}
 use Rattle.dv_defs.specs.Images.{Image}
-use Rattle.dv_defs.specs.Pools.{Method}
-use Rattle.dv_machine.specs.State.{Machine}
 use Rattle.dv_rules.specs.Verified.{VerifiedValue}
 use Rattle.dv_core.specs.Machines.{machine_of}
-use Rattle.dv_sound.specs.Lending.{logged_some}
+use Rattle.dv_sound.specs.Lending.{IsDone, logged_some}
 use Rattle.dv_sound.specs.Moves.{FramesStay, may_step}
-use Rattle.dv_sound.specs.Runs.{AtItsState, IsAt, IsKept, IsSameRun, MayTurn, Run, WhereKept}
-use Rattle.dv_sound.proofs.Keeping.{may_at, run_same}
-use Rattle.dv_sound.specs.Trying.{IsLedBy, IsTried}
+use Rattle.dv_sound.specs.Runs.{AtItsState, IsKept, IsSameRun, IsTurned, MayTurn, Run, TurnedFrom, WhereKept}
+use Rattle.dv_sound.proofs.Keeping.{may_at, run_same, run_turned}
+use Rattle.dv_sound.specs.Trying.{IsLedBy}
 use Rattle.dv_sound.proofs.Attempts.{run_led}
 use Rattle.dv_sound.proofs.safe.SafeVm.try_turn.Goals as goal
 
@@ -57,7 +54,20 @@ returns-clause-led c =
     let k = c.self.invariant in
     let old : Run = record { verified = c.self.inside.verified.now; main = c.self.inside.main; machine = machine_of c.self.inside.vm; log = c.self.inside.log.items; lent = c.self.inside.lent.items } in
     let now : Run = record { verified = c.self.inside.verified.now; main = c.self.inside.main; machine = machine_of c.tried_turn.new.vm; log = c.tried_turn.new.log.items; lent = c.self.inside.lent.items } in
-    let d = subst (λ (x : Image). (main : MethodId) (lent : List ℕ) (j : IsKept x main c.self.inside.vm c.self.inside.log.items lent) → IsTried x j.typings j.machine c.args.thread c.tried_turn.result.steps c.self.inside.vm c.tried_turn.new.vm)
+    let d = subst (λ (x : Image). (main : MethodId) (lent : List ℕ) (j : IsKept x main c.self.inside.vm c.self.inside.log.items lent) → IsDone x j.typings j.machine c.args.thread c.tried_turn.result.steps c.self.inside.vm c.tried_turn.new.vm)
     (image_here c) c.tried_turn.ensures.done c.self.inside.main c.self.inside.lent.items k in
     subst (λ (r : Run). AtItsState r (λ main m. IsLedBy r now main m c.args.thread c.tried_turn.result.steps)) c.self.view_is
     (run_led old c.self.inside.vm c.tried_turn.new.vm k refl c.args.worker c.args.thread c.tried_turn.result.steps d c.tried_turn.new.log.items c.tried_turn.ensures.logs)
+
+pub returns-clause-turned : goal.returns-clause-turned
+returns-clause-turned c =
+    let k = c.self.invariant in
+    let old : Run = record { verified = c.self.inside.verified.now; main = c.self.inside.main; machine = machine_of c.self.inside.vm; log = c.self.inside.log.items; lent = c.self.inside.lent.items } in
+    let now : Run = record { verified = c.self.inside.verified.now; main = c.self.inside.main; machine = machine_of c.tried_turn.new.vm; log = c.tried_turn.new.log.items; lent = c.self.inside.lent.items } in
+    let told = subst (λ (x : Image). (main : MethodId) (lent : List ℕ) (j : IsKept x main c.self.inside.vm c.self.inside.log.items lent) → may_step x j.machine c.args.thread ≡ true → c.tried_turn.result.wants ≡ false →
+    TurnedFrom x main c.self.inside.vm c.self.inside.log.items lent j c.args.worker c.args.thread 256 c.tried_turn.result.steps c.tried_turn.new.vm c.tried_turn.new.log.items)
+    (image_here c) c.tried_turn.ensures.turned in
+    subst (λ (r : Run). AtItsState r (λ main m. MayTurn r m c.args.thread → c.tried_turn.result.wants ≡ false → IsTurned r now main m c.args.worker c.args.thread 256 c.tried_turn.result.steps)) c.self.view_is
+    (λ main m at may whole.
+    run_turned old c.self.inside.vm c.tried_turn.new.vm c.tried_turn.new.log.items k refl c.args.worker c.args.thread 256 c.tried_turn.result.steps
+    (told c.self.inside.main c.self.inside.lent.items k (may_at old c.self.inside.vm k refl c.args.thread main m at may) whole) main m at)

@@ -1,13 +1,9 @@
-use Rattle.std.proofs.Common.{ap, arith, length, ◌≡◌, ◌≢◌, All, List, ℕ, sym, subst}
-use Rattle.std.proofs.lemmas.List.Elements.{All-nil}
+use Rattle.std.proofs.Common.{ap, arith, length}
 use Rattle.std.specs.Prelude.{min}
 use Rattle.dv_workers.specs.Desks.{printed}
 use Rattle.dv_workers.proofs.Kept.{entries_by, length_by, risen_on}
 use Rattle.dv_workers.proofs.Written.{written_on}
 use Rattle.dv_workers.proofs.desk.Desk.try_turn.Goals as goal
-
-pub try_turn-tried-requires-clause-home : goal.try_turn-tried-requires-clause-home
-try_turn-tried-requires-clause-home g c = subst (All (λ (t : ℕ). t ≢ c.args.thread)) (sym c.requires.home) (All-nil _)
 
 pub invariant_of-self : goal.invariant_of-self
 invariant_of-self g c =
