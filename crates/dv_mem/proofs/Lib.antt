@@ -11,3 +11,4 @@ pub mod Bytes
 pub mod Writing
 pub mod Data
 pub mod OnTop
+pub mod Placing
