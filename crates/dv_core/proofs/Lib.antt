@@ -4,7 +4,6 @@ pub mod Trying
 pub mod Settled
 pub mod Seen
 pub mod Outcomes
-pub mod Accessed
 pub mod Acts
 pub mod RecordStacks
 pub mod Flights

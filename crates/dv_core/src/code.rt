@@ -6,7 +6,6 @@ ghost use Rattle.dv_defs.specs.Op.{named_registers};
 ghost use Rattle.dv_machine.specs.Classes.{ask_of};
 ghost use Rattle.dv_defs.specs.Images.{Image as Linked};
 ghost use Rattle.dv_defs.specs.declared.run.Limits.{Limits as Bounds};
-ghost use Rattle.dv_defs.specs.declared.run.Next.TheVariants as next;
 ghost use Rattle.dv_machine.specs.Mem.{on_object};
 ghost use Rattle.dv_machine.specs.Running.{by_ask};
 ghost use Rattle.dv_monitor.specs.State.{count_of};
@@ -35,12 +34,10 @@ ghost use Rattle.dv_core.specs.Fitting.{StepFits};
 ghost use Rattle.dv_core.specs.Guests.{Leaves, Stays, AtEachOp, Does};
 ghost use Rattle.dv_fetch.specs.Standing.{IsFound, IsHere};
 ghost use Rattle.dv_core.specs.Trying.{AtEachTry, Tries, freely, is_free};
-ghost use Rattle.dv_core.specs.Watching.{AreNumbered};
 
 use crate::guest::Guest;
 use crate::records::begin;
 use crate::waiting::is_held_by;
-use dv_access::access_top;
 use dv_call::{Landed, enter, land, return_value, return_void};
 use dv_defs::{Ask, ClassId, Image, Limits, Named, Native, Next, Regs};
 use dv_fetch::{Instruction, instruction_of, is_local, needs};
@@ -52,7 +49,7 @@ use dv_threads::{monitor_exit, try_monitor_enter};
 use std::alloc::AllocError;
 
 /// A step of a living thread whose top level is code: the class that its instruction needs is asked for first (JLS 12.4.1). None where the
-/// thread is held up: nothing is done then. An access to an element or a field where nothing stands in its way is done at once.
+/// thread is held up: nothing is done then.
 ///
 /// # Errors
 ///
@@ -66,44 +63,7 @@ pub fn step_code(
     ensures { AtEachTry image.now limits.now guest.old thread (λ m own h x. StepFits h x.op →
         Tries result (is_free m h x.op) (with_ready h x.op (ops.needs x.op)) limits.now guest.old guest.new own h) }
 {
-    if access_at(image, guest, thread) {
-        return Ok(Some(Next::On));
-    }
-    step_found(image, limits, guest, thread)
-}
-
-/// Does the access to an element or a field at which a thread's frame on top goes on, where nothing stands in its way; says whether it did. Else
-/// nothing is done.
-fn access_at(image: &Image, guest: &mut Guest, thread: u32) -> bool
-    ensures done { (l : Bounds) → AtEachTry image.now l guest.old thread (λ m own h x. StepFits h x.op → result ≡ true →
-        Tries (Ok (Some next.On)) (is_free m h x.op) (with_ready h x.op (ops.needs x.op)) l guest.old guest.new own h) }
-    ensures stays { (l : Bounds) → AtEachOp image.now l guest.old thread (λ own h x. result ≡ false → Stays l guest.old guest.new) }
-    ensures numbered { AreNumbered guest.old → AreNumbered guest.new }
-{
-    let place = thread as usize;
-    if place >= guest.threads.stacks.len() {
-        return false;
-    }
-    let stack = &mut guest.threads.stacks[place];
-    access_top(image, &guest.classes, thread, &mut guest.heap, stack)
-}
-
-/// A step of a living thread by the instruction that is found where its frame on top goes on. None where the thread is held up.
-///
-/// # Errors
-///
-/// Want of memory; all is as before then.
-fn step_found(
-    image: &Image,
-    limits: &Limits,
-    guest: &mut Guest,
-    thread: u32,
-) -> Result<Option<Next>, AllocError>
-    ensures { AtEachTry image.now limits.now guest.old thread (λ m own h x. StepFits h x.op →
-        Tries result (is_free m h x.op) (with_ready h x.op (ops.needs x.op)) limits.now guest.old guest.new own h) }
-{
-    let found = instruction_at(image, guest, thread);
-    let Some(here) = &found else {
+    let Some(here) = instruction_at(image, guest, thread) else {
         return Ok(Some(Next::On));
     };
     if is_local(&here.op) {
@@ -111,8 +71,8 @@ fn step_found(
         return Ok(Some(Next::On));
     }
     match needs(&here.op) {
-        None => act(image, limits, guest, thread, here),
-        Some(class) => with_class(image, limits, guest, thread, here, class),
+        None => act(image, limits, guest, thread, &here),
+        Some(class) => with_class(image, limits, guest, thread, &here, class),
     }
 }
 

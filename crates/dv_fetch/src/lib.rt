@@ -10,6 +10,5 @@ mod plain;
 mod pooled;
 mod spelled;
 
-pub use accesses::access_op;
 pub use instruction::{Instruction, instruction_of, opcode_of};
 pub use operations::{is_local, needs};

@@ -12,6 +12,7 @@ use Rattle.dv_defs.specs.Types.{base_eq, component, is_base, is_class_base, is_l
 use Rattle.dv_machine.specs.Mem.{on_object}
 use Rattle.dv_machine.specs.State.{Did, Throws, where_true}
 use Rattle.dv_defs.specs.declared.run.Named.TheVariants as named
+use Rattle.dv_words.specs.declared.state.Frame.{Frame}
 use Rattle.dv_words.specs.declared.state.Kind.{Kind}
 use Rattle.dv_words.specs.declared.state.Kind.TheVariants as kind
 use Rattle.dv_words.specs.Heaps.{kind_of, length_of}
@@ -19,6 +20,7 @@ use Rattle.dv_words.specs.Words.{int_of}
 use Rattle.dv_words.specs.Stacks.{gone}
 use Rattle.dv_words.specs.Local.{reg_word}
 use Rattle.dv_words.specs.Mem.{WordHere, WordLeft, array_put, component_of, fill, filled, is_instance, is_storable, is_wide, narrowed_all, on_index, onward, stored, type_of_kind, words_at, words_in}
+use Rattle.dv_mem.specs.Elements.{width_of}
 use Rattle.dv_mem.specs.Operands.{IsArray}
 use Rattle.dv_mem.specs.Values.{words_from}
 
@@ -68,6 +70,10 @@ element_width h s o a = ap is_long (component_is h o a.ty a.kind) ∙ suffix_wid
 
 pub element_words : (h : WordHere) (s : Suffix) (o k : ℕ) → IsArray (is_of_suffix s) h.heap o → words_at h.heap o k (component_of h o) ≡ words_from h.heap o k (is_wide s)
 element_words h s o k a = ap (words_from h.heap o k) (element_width h s o a)
+
+pub count_in : (f : Frame) (a : ℕ) (wide : Bool) → length (words_in f a wide) ≡ width_of wide
+count_in f a true = refl
+count_in f a false = refl
 
 -- the array and the index are those of registers
 pub located : (h : WordHere) (go : ℕ → ℕ → Did WordLeft) (w r i j : ℕ) (d : Did WordLeft) → w ≡ r → i ≡ j → on_object (λ o. on_index h o (int_of i) (go o)) w ≡ d → on_object (λ o. on_index h o (int_of j) (go o)) r ≡ d

@@ -11,4 +11,3 @@ pub mod Bytes
 pub mod Writing
 pub mod Data
 pub mod OnTop
-pub mod Placing

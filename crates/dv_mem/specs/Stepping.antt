@@ -77,16 +77,6 @@ is_access (StaticGet s a x) = true
 is_access (StaticPut s a x) = true
 is_access op = false
 
--- of these, those that read or write an element, a field or a static field by registers of one frame
-abbrev pub is_frame_access : Op → Bool
-is_frame_access (ArrayGet s a b c) = true
-is_frame_access (ArrayPut s a b c) = true
-is_frame_access (FieldGet s a b x) = true
-is_frame_access (FieldPut s a b x) = true
-is_frame_access (StaticGet s a x) = true
-is_frame_access (StaticPut s a x) = true
-is_frame_access op = false
-
 -- ---- instructions with a payload
 
 abbrev pub is_with_payload : Option Family → Bool

@@ -1,10 +1,9 @@
 -- What an operation sees of a stack, and what its answer leaves.
-use Rattle.std.specs.Prelude.{◌≡◌, ℕ, [], ◌∷◌, List, None, Ok}
+use Rattle.std.specs.Prelude.{ℕ, [], ◌∷◌, List, None, Ok}
 use Rattle.std.specs.declared.alloc.AllocError.{AllocError}
 use Rattle.dv_defs.specs.declared.run.Next.{Next}
-use Rattle.dv_defs.specs.declared.run.Next.TheVariants as next
 use Rattle.dv_defs.specs.Images.{Image}
-use Rattle.dv_machine.specs.State.{Did, Go, Throws}
+use Rattle.dv_machine.specs.State.{Did}
 use Rattle.dv_words.specs.declared.state.Frame.{Frame}
 use Rattle.dv_words.specs.declared.state.Kept.TheVariants as kept
 use Rattle.dv_words.specs.declared.state.Level.{Level}
@@ -30,12 +29,6 @@ here image f h next = record { image = image; frame = f; heap = h; next = next }
 
 abbrev pub seen : Image → WordStack → WordHeap → ℕ → WordHere
 seen image s h next = here image (top_frame s) h next
-
--- an answer on a frame: it goes on as the outcome says, or an exception is thrown and all is as before
-abbrev pub AnswersFrame : Next → Did WordLeft → Frame → WordHeap → Frame → WordHeap → Type 0
-AnswersFrame next.On (Go l) s h s' h' = (s' ≡ l.frame) × (h' ≡ l.heap)
-AnswersFrame (next.Throw n) (Throws m) s h s' h' = (n ≡ m) × ((s' ≡ s) × (h' ≡ h))
-AnswersFrame answer d s h s' h' = ⊥
 
 -- an answer that doesn't want memory
 abbrev pub Answers : Next → Did WordLeft → WordStack → WordHeap → WordStack → WordHeap → Type 0

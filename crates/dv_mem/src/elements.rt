@@ -1,5 +1,5 @@
 // Elements of arrays.
-ghost use Rattle.std.specs.Prelude.{◌≡◌, ◌≢◌, ℕ, Some, Ok, IfOk, IsSome};
+ghost use Rattle.std.specs.Prelude.{◌≡◌, ℕ, Some, Ok, IfOk, IsSome};
 ghost use Rattle.dv_typing.specs.Demands.{any_type};
 ghost use Rattle.dv_defs.specs.Images.{Image as Linked};
 ghost use Rattle.dv_defs.specs.Op.{ArrayGet, ArrayLength, ArrayPut};
@@ -15,16 +15,14 @@ ghost use Rattle.dv_words.specs.Mem as steps;
 ghost use Rattle.dv_words.specs.Mem.{WordHere, WordLeft, array_put, on_index, word_mem};
 ghost use Rattle.dv_mem.specs.Elements.{by_found, slot_in, width_of};
 ghost use Rattle.dv_mem.specs.Operands.{AreWithin, IsArray, IsNullOrArray};
-ghost use Rattle.dv_frames.specs.Heads.{frame};
-ghost use Rattle.dv_mem.specs.Tops.{Answers, AnswersFrame, here, seen, top_frame};
+ghost use Rattle.dv_mem.specs.Tops.{Answers, seen, top_frame};
 
-use crate::frames::{put, register};
 use crate::instances::is_storable;
 use crate::narrowing::kept;
-use crate::registers;
-use crate::words::{is_string, load, store};
+use crate::registers::{go_on, put, word};
+use crate::words::{self, is_string, load, store};
 use dv_defs::{Image, Named, Next};
-use dv_frames::{Head, Stack, go, word};
+use dv_frames::Stack;
 use dv_heap::Heap;
 use dv_optable::Suffix;
 
@@ -36,7 +34,6 @@ pub struct Element {
 }
 
 /// Whether the elements that a suffix is for are long.
-#[inline]
 fn is_wide(suffix: Suffix) -> bool
     ensures { result ≡ steps.is_wide (standard_suffix suffix) }
 {
@@ -44,7 +41,6 @@ fn is_wide(suffix: Suffix) -> bool
 }
 
 /// The place of an element's first word among so many words.
-#[inline]
 pub fn slot_of(size: u32, wide: bool, index: i32) -> Option<u32>
     ensures { result ≡ slot_in size wide index }
 {
@@ -61,7 +57,6 @@ pub fn slot_of(size: u32, wide: bool, index: i32) -> Option<u32>
 /// # Errors
 ///
 /// The exception that null, or an index out of range, throws (JLS 15.13).
-#[inline]
 fn find(heap: &Heap, array: u32, wide: bool, index: u32) -> Result<Element, Named>
     ensures there { IfOk result (λ e. AreWithin heap.now e.array e.slot (width_of wide)) }
     ensures same { IfOk result (λ e. e.array ≡ array) }
@@ -83,51 +78,44 @@ pub fn array_length(heap: &Heap, stack: &mut Stack, next: u32, a: u16, b: u16) -
     ensures { (image : Linked) → IsNullOrArray any_type heap.now (reg_word (top_frame stack.old) b) →
         Answers result (word_mem (seen image stack.old heap.now next) (ArrayLength a b)) stack.old heap.now stack.new heap.now }
 {
-    let array = registers::word(stack, b);
+    let array = word(stack, b);
     if array == 0 || !heap.exists(array) {
         return Next::Throw(Named::NullPointer);
     }
-    registers::put(stack, next, a, heap.length(array));
+    put(stack, next, a, heap.length(array));
     Next::On
 }
 
 /// aget and its kin: register a takes the element of array b at index c.
-#[inline]
 pub fn array_get(
     heap: &Heap,
-    words: &mut [u32],
-    head: &mut Head,
+    stack: &mut Stack,
     next: u32,
     suffix: Suffix,
     a: u16,
     b: u16,
     c: u16,
 ) -> Next
-    ensures does { (image : Linked) → IsNullOrArray (is_of_suffix (standard_suffix suffix)) heap.now (reg_word (frame head.old words.old) b) →
-        AnswersFrame result (word_mem (here image (frame head.old words.old) heap.now next) (ArrayGet (standard_suffix suffix) a b c)) (frame head.old words.old) heap.now (frame head.new words.new) heap.now }
-    ensures method { head.new.method ≡ head.old.method }
-    ensures words_stay { result ≢ Next.On → frame head.new words.new ≡ frame head.old words.old }
+    ensures { (image : Linked) → IsNullOrArray (is_of_suffix (standard_suffix suffix)) heap.now (reg_word (top_frame stack.old) b) →
+        Answers result (word_mem (seen image stack.old heap.now next) (ArrayGet (standard_suffix suffix) a b c)) stack.old heap.now stack.new heap.now }
 {
     let wide = is_wide(suffix);
-    let array = word(words, b);
-    let index = word(words, c);
+    let array = word(stack, b);
+    let index = word(stack, c);
     match find(heap, array, wide, index) {
         Err(named) => Next::Throw(named),
         Ok(found) => {
-            let value = load(heap, found.array, found.slot, wide);
-            put(words, head, next, a, value);
+            words::put(stack, next, a, load(heap, found.array, found.slot, wide));
             Next::On
         }
     }
 }
 
 /// Stores a register to an element that is there.
-#[inline]
 fn put_found(
     image: &Image,
     heap: &mut Heap,
-    words: &mut [u32],
-    head: &mut Head,
+    stack: &mut Stack,
     next: u32,
     suffix: Suffix,
     a: u16,
@@ -135,47 +123,39 @@ fn put_found(
 ) -> Next
     requires there { AreWithin heap.old found.array found.slot (width_of (steps.is_wide (standard_suffix suffix))) }
     requires exists { IsSome (kind_of heap.old found.array) }
-    ensures does { IsArray (is_of_suffix (standard_suffix suffix)) heap.old found.array →
-        AnswersFrame result (array_put (here image.now (frame head.old words.old) heap.old next) found.array (standard_suffix suffix) a found.slot) (frame head.old words.old) heap.old (frame head.new words.new) heap.new }
-    ensures method { head.new.method ≡ head.old.method }
-    ensures words_stay { result ≢ Next.On → frame head.new words.new ≡ frame head.old words.old }
-    ensures heap_stays { result ≢ Next.On → heap.new ≡ heap.old }
+    ensures { IsArray (is_of_suffix (standard_suffix suffix)) heap.old found.array →
+        Answers result (array_put (seen image.now stack.old heap.old next) found.array (standard_suffix suffix) a found.slot) stack.old heap.old stack.new heap.new }
 {
-    let value = register(words, a, is_wide(suffix));
-    if !is_storable(image, heap, found.array, suffix, word(words, a)) {
+    let value = words::register(stack, a, is_wide(suffix));
+    if !is_storable(image, heap, found.array, suffix, word(stack, a)) {
         return Next::Throw(Named::ArrayStore);
     }
     if is_string(heap, found.array) {
         return Next::On;
     }
     store(heap, found.array, found.slot, kept(suffix, value));
-    go(head, next);
+    go_on(stack, next);
     Next::On
 }
 
 /// aput and its kin: the element of array b at index c takes register a.
-#[inline]
 pub fn array_put(
     image: &Image,
     heap: &mut Heap,
-    words: &mut [u32],
-    head: &mut Head,
+    stack: &mut Stack,
     next: u32,
     suffix: Suffix,
     a: u16,
     b: u16,
     c: u16,
 ) -> Next
-    ensures does { IsNullOrArray (is_of_suffix (standard_suffix suffix)) heap.old (reg_word (frame head.old words.old) b) →
-        AnswersFrame result (word_mem (here image.now (frame head.old words.old) heap.old next) (ArrayPut (standard_suffix suffix) a b c)) (frame head.old words.old) heap.old (frame head.new words.new) heap.new }
-    ensures method { head.new.method ≡ head.old.method }
-    ensures words_stay { result ≢ Next.On → frame head.new words.new ≡ frame head.old words.old }
-    ensures heap_stays { result ≢ Next.On → heap.new ≡ heap.old }
+    ensures { IsNullOrArray (is_of_suffix (standard_suffix suffix)) heap.old (reg_word (top_frame stack.old) b) →
+        Answers result (word_mem (seen image.now stack.old heap.old next) (ArrayPut (standard_suffix suffix) a b c)) stack.old heap.old stack.new heap.new }
 {
-    let array = word(words, b);
-    let index = word(words, c);
+    let array = word(stack, b);
+    let index = word(stack, c);
     match find(heap, array, is_wide(suffix), index) {
         Err(named) => Next::Throw(named),
-        Ok(found) => put_found(image, heap, words, head, next, suffix, a, found),
+        Ok(found) => put_found(image, heap, stack, next, suffix, a, found),
     }
 }

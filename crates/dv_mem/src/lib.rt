@@ -6,7 +6,6 @@ mod elements;
 mod fields;
 mod filled;
 mod filling;
-mod frames;
 mod instances;
 mod laws;
 mod made;
@@ -17,4 +16,4 @@ mod step;
 mod words;
 
 pub use laws::operands_stand;
-pub use step::{access_frame, mem_step, operate};
+pub use step::{mem_step, operate};

@@ -1,5 +1,5 @@
 // A step of the frame on top: an instruction on objects, arrays and fields, a division or a cast.
-ghost use Rattle.std.specs.Prelude.{◌≡◌, ◌≢◌, ◌↔◌, ◌<◌, ◌≤◌, ◌||◌, not, ℕ, true, false, drop, length, take, option_map, Ok, IsTrue};
+ghost use Rattle.std.specs.Prelude.{◌≡◌, ◌↔◌, ◌<◌, ◌≤◌, ◌||◌, not, ℕ, true, false, length, option_map, Ok, IsTrue};
 ghost use Rattle.std.specs.declared.alloc.AllocError.{AllocError};
 ghost use Rattle.dv_defs.specs.Families.{family_at};
 ghost use Rattle.dv_defs.specs.Formats.{size_at};
@@ -12,10 +12,9 @@ ghost use Rattle.dv_units.specs.Tables.{standard_family};
 ghost use Rattle.dv_words.specs.declared.state.Frame.{Frame as Activation};
 ghost use Rattle.dv_words.specs.Mem.{word_mem};
 ghost use Rattle.dv_words.specs.Stepping.{Answered};
-ghost use Rattle.dv_frames.specs.Heads.{frame};
 ghost use Rattle.dv_mem.specs.Operands.{AreOperands};
-ghost use Rattle.dv_mem.specs.Stepping.{AreAsBefore, GoesOnAt, IsMeant, MeansNone, is_access, is_fill, is_frame_access, is_mem, is_with_payload};
-ghost use Rattle.dv_mem.specs.Tops.{AnswersFrame, here, seen};
+ghost use Rattle.dv_mem.specs.Stepping.{AreAsBefore, GoesOnAt, IsMeant, MeansNone, is_access, is_fill, is_mem, is_with_payload};
+ghost use Rattle.dv_mem.specs.Tops.{here, seen};
 
 use crate::divisions::{divide_ints, divide_longs};
 use crate::elements::{array_get, array_length, array_put};
@@ -24,8 +23,8 @@ use crate::filled::filled_new_array;
 use crate::filling::fill;
 use crate::instances::{cast, instance_of};
 use crate::made::{const_class, const_string, new_array, new_instance, throw};
-use dv_defs::{Image, Insn, MethodId, Next};
-use dv_frames::{Head, Stack, base_of, begin, set_last};
+use dv_defs::{Image, Insn, Next};
+use dv_frames::Stack;
 use dv_heap::Heap;
 use dv_ops::{Op, coded_at, resolve, units_of};
 use dv_optable::{Family, kind_of};
@@ -79,60 +78,7 @@ fn size_of(op: u8) -> u32
     insn_size(op) as u32
 }
 
-/// Reads or writes an element, a field or a static field by the registers of a frame, of which these are the words and the head; another operation is
-/// passed over. `next` is the address after its instruction. Where it doesn't go on, nothing changes.
-#[inline]
-pub fn access_frame(
-    image: &Image,
-    heap: &mut Heap,
-    words: &mut [u32],
-    head: &mut Head,
-    next: u32,
-    op: &Op<'_>,
-) -> Next
-    ensures does { (code : Code) (at : ℕ) → is_frame_access (meant code at op.now) ≡ true → AreOperands (here image.now (frame head.old words.old) heap.old next) (meant code at op.now) →
-        AnswersFrame result (word_mem (here image.now (frame head.old words.old) heap.old next) (meant code at op.now)) (frame head.old words.old) heap.old (frame head.new words.new) heap.new }
-    ensures method { head.new.method ≡ head.old.method }
-    ensures words_stay { result ≢ Next.On → frame head.new words.new ≡ frame head.old words.old }
-    ensures heap_stays { result ≢ Next.On → heap.new ≡ heap.old }
-
-    // Any other operation.
-    ensures other_words { (code : Code) (at : ℕ) → is_frame_access (meant code at op.now) ≡ false → frame head.new words.new ≡ frame head.old words.old }
-    ensures other_heap { (code : Code) (at : ℕ) → is_frame_access (meant code at op.now) ≡ false → heap.new ≡ heap.old }
-{
-    match *op {
-        Op::ArrayGet(suffix, a, b, c) => array_get(heap, words, head, next, suffix, a, b, c),
-        Op::ArrayPut(suffix, a, b, c) => array_put(image, heap, words, head, next, suffix, a, b, c),
-        Op::FieldGet(_, a, b, field) => field_get(heap, words, head, next, a, b, &field),
-        Op::FieldPut(_, a, b, field) => field_put(heap, words, head, next, a, b, &field),
-        Op::StaticGet(_, a, field) => static_get(heap, words, head, next, a, &field),
-        Op::StaticPut(_, a, field) => static_put(heap, words, head, next, a, &field),
-        _ => Next::On,
-    }
-}
-
-/// The same of the frame whose words are those from a place of the arena on.
-fn access_in(
-    image: &Image,
-    heap: &mut Heap,
-    words: &mut [u32],
-    base: usize,
-    head: &mut Head,
-    next: u32,
-    op: &Op<'_>,
-) -> Next
-    requires within { base ≤ length words.old }
-    ensures below { take base words.new ≡ take base words.old }
-    ensures does { (code : Code) (at : ℕ) → is_frame_access (meant code at op.now) ≡ true → AreOperands (here image.now (frame head.old (drop base words.old)) heap.old next) (meant code at op.now) →
-        AnswersFrame result (word_mem (here image.now (frame head.old (drop base words.old)) heap.old next) (meant code at op.now)) (frame head.old (drop base words.old)) heap.old (frame head.new (drop base words.new)) heap.new }
-    ensures other_words { (code : Code) (at : ℕ) → is_frame_access (meant code at op.now) ≡ false → frame head.new (drop base words.new) ≡ frame head.old (drop base words.old) }
-    ensures other_heap { (code : Code) (at : ℕ) → is_frame_access (meant code at op.now) ≡ false → heap.new ≡ heap.old }
-{
-    access_frame(image, heap, &mut words[base..], head, next, op)
-}
-
-/// Does an operation, if it reads or writes an array or a field; another is passed over. Where the level on top isn't code, a frame without registers
-/// stands for it.
+/// Does an operation, if it reads or writes an array or a field; another is passed over.
 fn access(
     image: &Image,
     units: &[u16],
@@ -149,14 +95,13 @@ fn access(
     match *op {
         Op::ArrayLength(a, b) => array_length(heap, stack, next, a, b),
         Op::Fill(a, to) => fill(units, heap, stack, next, a, to),
-        _ => {
-            let mut head = stack.head().unwrap_or(begin(MethodId(0)));
-            let base = base_of(stack.levels.as_slice(), stack.words.len());
-            let words = &mut stack.words;
-            let answer = access_in(image, heap, words, base, &mut head, next, op);
-            set_last(&mut stack.levels, head);
-            answer
-        }
+        Op::ArrayGet(suffix, a, b, c) => array_get(heap, stack, next, suffix, a, b, c),
+        Op::ArrayPut(suffix, a, b, c) => array_put(image, heap, stack, next, suffix, a, b, c),
+        Op::FieldGet(_, a, b, field) => field_get(heap, stack, next, a, b, &field),
+        Op::FieldPut(_, a, b, field) => field_put(heap, stack, next, a, b, &field),
+        Op::StaticGet(_, a, field) => static_get(heap, stack, next, a, &field),
+        Op::StaticPut(_, a, field) => static_put(heap, stack, next, a, &field),
+        _ => Next::On,
     }
 }
 

@@ -2,12 +2,16 @@
 ghost use Rattle.std.specs.Prelude.{◌≡◌, ◌≢◌, ◌↔◌, ◌<◌, ◌≤◌, ◌+◌, false, Some, IsSome, IsTrue, length, slice_index_or, []};
 ghost use Rattle.dv_words.specs.declared.state.Kind.TheVariants as kind;
 ghost use Rattle.dv_words.specs.Heaps.{kind_of, words_of_object};
+ghost use Rattle.dv_words.specs.Stacks.{changed};
 ghost use Rattle.dv_words.specs.Mem as steps;
 ghost use Rattle.dv_mem.specs.Elements.{width_of};
 ghost use Rattle.dv_mem.specs.Operands.{AreWithin};
+ghost use Rattle.dv_mem.specs.Tops.{top_frame};
 ghost use Rattle.dv_mem.specs.Values.{listed, words_from, static_from};
 
+use crate::registers;
 use dv_defs::FieldId;
+use dv_frames::Stack;
 use dv_heap::Heap;
 use dv_words::Kind;
 
@@ -18,8 +22,29 @@ pub enum Words {
     Two(u32, u32),
 }
 
+/// The value in a register, or in a register and the one after it.
+pub fn register(stack: &Stack, reg: u16, wide: bool) -> Words
+    ensures { listed result ≡ steps.words_in (top_frame stack.now) reg wide }
+{
+    let low = registers::word(stack, reg);
+    if wide {
+        Words::Two(low, registers::next_word(stack, reg))
+    } else {
+        Words::One(low)
+    }
+}
+
+/// Writes a value to a register, or to a register and the one after it, and goes on at an address.
+pub fn put(stack: &mut Stack, next: u32, reg: u16, value: Words)
+    ensures { stack.new ≡ changed (λ f. steps.put_words (top_frame stack.old) next reg (listed value)) stack.old }
+{
+    match value {
+        Words::One(word) => registers::put(stack, next, reg, word),
+        Words::Two(low, high) => registers::put_two(stack, next, reg, low, high),
+    }
+}
+
 /// Whether an object is a string.
-#[inline]
 pub fn is_string(heap: &Heap, object: u32) -> bool
     requires { IsSome (kind_of heap.now object) }
     ensures { IsTrue result ↔ (kind_of heap.now object ≡ Some kind.Str) }
@@ -28,7 +53,6 @@ pub fn is_string(heap: &Heap, object: u32) -> bool
 }
 
 /// Whether an object has so many words from a place on.
-#[inline]
 pub fn has_words(heap: &Heap, object: u32, slot: u32, count: u32) -> bool
     ensures there { IsTrue result → AreWithin heap.now object slot count }
     ensures exists { IsTrue result → IsSome (kind_of heap.now object) }
@@ -41,7 +65,6 @@ pub fn has_words(heap: &Heap, object: u32, slot: u32, count: u32) -> bool
 }
 
 /// Whether an object is no string and has so many words from a place on, so that they can be written.
-#[inline]
 pub fn takes_words(heap: &Heap, object: u32, slot: u32, count: u32) -> bool
     ensures there { IsTrue result → AreWithin heap.now object slot count }
     ensures no_string { IsTrue result → kind_of heap.now object ≢ Some kind.Str }
@@ -52,7 +75,6 @@ pub fn takes_words(heap: &Heap, object: u32, slot: u32, count: u32) -> bool
 }
 
 /// A value of an object.
-#[inline]
 pub fn load(heap: &Heap, object: u32, slot: u32, wide: bool) -> Words
     requires { AreWithin heap.now object slot (width_of wide) }
     ensures { listed result ≡ words_from heap.now object slot wide }
@@ -66,7 +88,6 @@ pub fn load(heap: &Heap, object: u32, slot: u32, wide: bool) -> Words
 }
 
 /// Writes a value of an object that is no string.
-#[inline]
 pub fn store(heap: &mut Heap, object: u32, slot: u32, value: Words)
     requires there { AreWithin heap.old object slot (length (listed value)) }
     requires no_string { kind_of heap.old object ≢ Some kind.Str }
@@ -82,7 +103,6 @@ pub fn store(heap: &mut Heap, object: u32, slot: u32, value: Words)
 }
 
 /// The value of a static field.
-#[inline]
 pub fn load_static(heap: &Heap, field: FieldId, wide: bool) -> Words
     requires { width_of wide ≤ length (slice_index_or heap.now.statics field.0 []) }
     ensures { listed result ≡ static_from heap.now field.0 wide }
@@ -96,7 +116,6 @@ pub fn load_static(heap: &Heap, field: FieldId, wide: bool) -> Words
 }
 
 /// Writes the value of a static field.
-#[inline]
 pub fn store_static(heap: &mut Heap, field: FieldId, value: Words)
     requires { length (listed value) ≤ length (slice_index_or heap.old.statics field.0 []) }
     ensures { heap.new ≡ steps.static_stored heap.old field.0 0 (listed value) }
