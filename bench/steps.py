@@ -38,7 +38,7 @@ def throws(depth, handlers):
     other = "".join(class_of(f"X{k}", ERROR) for k in range(handlers))
     passed = "".join(f".catch LX{k}; {{:from .. :to}} :other\n" for k in range(handlers))
     body = f":from\nthrow v0\n:to\n:caught\nmove-exception v1\n{passed}.catchall {{:from .. :to}} :caught\n"
-    # a handler of its own, which is never entered
+    # the handlers that don't take it lead to a place that is never reached
     text = f"{made(f'E{depth - 1}')}:top\n{body}goto :top\n:other\nmove-exception v1\ngoto :top\n"
     return deep + other + main_class(text)
 
